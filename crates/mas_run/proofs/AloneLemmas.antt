@@ -1,95 +1,204 @@
 -- Copies that are left alone aren't both lost.
-use Rattle.std.proofs.Common.{◌≡◌, ◌≢◌, ◌⊎◌, inl, inr, ⊎_elim, ℕ, zero, suc, ◌<◌, ◌==◌, Bool, true, false, All, List, [], ◌∷◌, take, drop, get_or, Option, Some, None, Result, Ok, Err, refl, sym, ◌∙◌, ap, subst, arith, eq-eqb}
+use Rattle.std.proofs.Common.{◌≡◌, ◌≢◌, ◌⊎◌, inl, inr, ⊎_elim, ℕ, zero, suc, ◌+◌, ◌-◌, ◌≤◌, ◌<◌, ◌==◌, nat_le, Bool, true, false, not, ◌&&◌, if◌then◌else◌, All, List, [], ◌∷◌, drop, replicate, Option, Some, None, Result, Ok, Err, refl, sym, ◌∙◌, ap, arith, eq-eqb}
+use Rattle.std.specs.Prelude.{slice_index_or}
+use Rattle.std.specs.Str.{bytes_eq}
 use Rattle.std.proofs.lemmas.Bool.{and_from}
 use Rattle.std.proofs.lemmas.List.Elements.{All-head, All-tail}
 use Rattle.std.proofs.lemmas.Slice.Eq.{bytes_eq-Decides}
-use Rattle.std.specs.Str.{bytes_eq}
 use Rattle.mas_types.specs.declared.answers.Status.{Status}
 use Rattle.mas_types.specs.declared.answers.Status.TheVariants as status
 use Rattle.mas_types.specs.declared.commands.Command.{Command}
 use Rattle.mas_types.specs.declared.ids.Dev.{Dev}
-use Rattle.mas_types.specs.declared.ids.Dev.TheVariants.{Ckpt1, Ckpt2, Spool}
+use Rattle.mas_types.specs.declared.ids.Dev.TheVariants.{Ckpt1, Ckpt2}
 use Rattle.mas_types.specs.declared.ids.MemberId.{MemberId}
 use Rattle.mas_types.specs.declared.ids.Page.{Page}
 use Rattle.mas_types.specs.declared.jobs.JobFields.{JobFields}
 use Rattle.mas_types.specs.declared.journals.Journal.{Journal}
 use Rattle.mas_types.specs.declared.queues.Config.{Config}
 use Rattle.mas_types.specs.declared.queues.Queue.{Queue}
+use Rattle.mas_types.specs.Queue.{is_member}
 use Rattle.card_reader.specs.declared.decks.Refused.{Refused}
 use Rattle.card_reader.specs.Decks.{read_as, text_of}
 use Rattle.lock_cycle.specs.declared.answers.LockNo.{LockNo}
-use Rattle.lock_cycle.specs.Books.{Book, try_refusal}
+use Rattle.lock_cycle.specs.Books.{Book, beginner, is_holder, is_stopped, try_refusal}
 use Rattle.script_lang.specs.declared.types.Ask.{Ask}
 use Rattle.script_lang.specs.declared.types.Ask.TheVariants as ask
 use Rattle.script_lang.specs.declared.types.Script.{Script}
 use Rattle.script_lang.specs.declared.types.Step.{Step}
+use Rattle.script_laws.specs.Limits.{IsBy, IsStep}
 use Rattle.spool_disk.specs.declared.plant.Part.TheVariants.{Disk}
 use Rattle.spool_disk.specs.View.{View, disk_now}
-use Rattle.spool_disk.specs.Acts.{Rose, top}
+use Rattle.spool_disk.specs.Acts.{Rose, next, top}
 use Rattle.ckpt_form.specs.Form.{form_reads, form_room}
 use Rattle.ckpt_copy.specs.Pages.{bytes_of, level}
 use Rattle.mas_complex.specs.Fits.{are_same, fits}
-use Rattle.script_input.specs.Played.{sysa}
-use Rattle.mas_complex.specs.Locking.{book_of}
+use Rattle.run_turns.specs.Admissions.{Admission, admitted, asked, command_admitted, deck_admitted, if_granted, reset_admitted, resets}
+use Rattle.run_turns.specs.Givens.{Given, RightIf, ask_with, given_first, line_with, outcomes_with}
+use Rattle.run_turns.specs.Runs.{outcomes_if}
+use Rattle.run_turns.specs.Scenes.{Scene, scene_of}
+use Rattle.run_turns.specs.Steps.{Outcome, is_up, silent}
 use Rattle.warm_start.specs.Starting.{Mark, IsFound, IsSeen, IsUnfit, NoneOrFailed}
 use Rattle.warm_start.specs.Usable.{HaveSize, IsUsable}
 use Rattle.member_node.specs.Calls.{WasLost}
+use Rattle.mas_run.specs.Lines.{is_takeover, loses_then, same_device}
+use Rattle.mas_run.specs.LinesAt.{admitted_at}
+use Rattle.mas_run.specs.Passed.{TakeNone, loses_after}
 use Rattle.mas_run.specs.Runs.{has_begun, begins_at, IsRun}
-use Rattle.mas_run.specs.Statuses.{AreLeftAlone, IsLeftAlone}
-use Rattle.mas_run.specs.Steps.{loses_after, loses_after_step}
-use Rattle.mas_run.specs.Turns.{Sight, Task, Reads, Gives, Works, Loss, Unplayed, clear, task_turn, deck_turn, command_turn, resets, turn_by, book_after, turns_from}
+use Rattle.mas_run.specs.Statuses.{AreLeftAlone, IsLeftAlone, TakesNone, resets_in}
 use Rattle.mas_run.specs.Unstarted.{IsNotStarted}
-use Rattle.mas_run.proofs.StepLemmas.{granted_counts, denied_counts, closed_counts}
+use Rattle.mas_run.proofs.OthersLemmas.{others_same}
+use Rattle.mas_run.proofs.PlainLemmas.{same_dev}
 
--- STEPS THAT DON'T LOSE A COPY
+-- NO LOCK IS TAKEN OVER where no line resets another member that has a line
+
+if_takes : (t : Bool) (a b : Admission) → is_takeover a ≡ false → (t ≡ false → is_takeover b ≡ false) → is_takeover (if t then a else b) ≡ false
+if_takes true a b one two = one
+if_takes false a b one two = two refl
+
+granted_takes : (why : Option LockNo) (a : Admission) → is_takeover a ≡ false → is_takeover (if_granted why a) ≡ false
+granted_takes None a is = is
+granted_takes (Some reason) a is = refl
+
+true_false : true ≡ false → ⊥
+true_false e = absurd (cc)
+
+not_false : (b : Bool) → not b ≡ false → b ≡ true
+not_false true e = refl
+not_false false e = absurd (true_false e)
+
+module _ (config : Config) (b : Book) (by : MemberId) where
+  reset_takes : (of : MemberId) → (is_member config of ≡ true → is_stopped b of ≡ false) → is_takeover (reset_admitted config b by of) ≡ false
+  reset_takes of up = if_takes (not (is_member config of)) _ _ refl
+      (λ is. if_takes (not (is_stopped b of)) _ _ refl (λ stopped. absurd (true_false (sym (not_false (is_stopped b of) stopped) ∙ up (not_false (is_member config of) is)))))
+
+  command_takes : (c : Command) (of : Option MemberId) → ((k : MemberId) → of ≡ Some k → is_member config k ≡ true → is_stopped b k ≡ false) → is_takeover (command_admitted config b by c of) ≡ false
+  command_takes c None up = granted_takes (try_refusal b by false) _ refl
+  command_takes c (Some of) up = reset_takes of (up of refl)
+
+  deck_takes : (text : List (List ℕ)) (said : Result JobFields Refused) → is_takeover (deck_admitted b by text said) ≡ false
+  deck_takes text (Err bad) = refl
+  deck_takes text (Ok fields) = granted_takes (try_refusal b by false) _ refl
+
+  asked_takes : (what : Ask) → ((k : MemberId) → resets_in what ≡ Some k → is_member config k ≡ true → is_stopped b k ≡ false) → is_takeover (asked config b by what) ≡ false
+  asked_takes (ask.Deck cards) up = deck_takes (text_of cards) (read_as config.node cards)
+  asked_takes (ask.Command c) up = command_takes c (resets c) up
+  asked_takes (ask.Work n) up = granted_takes (try_refusal b by false) _ refl
+  asked_takes ask.Lock up = granted_takes (try_refusal b by false) _ refl
+  asked_takes ask.Free up = if_takes (is_holder b by) _ _ refl (λ e. refl)
+  asked_takes (ask.Lose dev) up = refl
+  asked_takes (ask.Line n) up = refl
+  asked_takes (ask.Replace dev) up = refl
+  asked_takes ask.Stop up = refl
+  asked_takes (ask.StopIn fuse n) up = refl
+
+  admitted_takes : (what : Ask) → ((k : MemberId) → resets_in what ≡ Some k → is_stopped b by ≡ false → is_member config k ≡ true → is_stopped b k ≡ false) → is_takeover (admitted config b by what) ≡ false
+  admitted_takes what up = if_takes (not (is_member config by)) _ _ refl (λ is. if_takes (is_stopped b by) _ _ refl (λ free. asked_takes what (λ k resets. up k resets free)))
+
+-- who is a member has a number
+member_some : (config : Config) (k : MemberId) → is_member config k ≡ true → 1 ≤ k.0
+member_some config k is = some k.0 is where
+  some : (n : ℕ) → (not (n == 0) && nat_le n config.members) ≡ true → 1 ≤ n
+  some zero e = absurd (true_false (sym e))
+  some (suc n) e = omega arith
+
+module _ (all : List Step) where
+  -- whoever has no line isn't stopped
+  abbrev AreUp : Book → Type 0
+  AreUp b = (k : MemberId) → 1 ≤ k.0 → All (λ (r : Step). r.by ≢ k) all → is_stopped b k ≡ false
+
+  -- a line is one of them, and asks for nothing that only members may, unless a member asks
+  pub record IsOneOf (s : Step) : Type 0 where
+    pub other : (k : MemberId) → All (λ (r : Step). r.by ≢ k) all → s.by ≢ k
+    pub fits : IsStep s
+    pub spares : (of : MemberId) → resets_in s.what ≡ Some of → (of ≡ s.by) ⊎ All (λ (r : Step). r.by ≢ of) all
+
+  apart_numbers : (k by : MemberId) → 1 ≤ k.0 → 1 ≤ by.0 → by ≢ k → k.0 - 1 ≢ by.0 - 1
+  apart_numbers k by one two other same =
+      let number : by.0 ≡ k.0 = omega (arith, one, two, same) in
+      other (ap (λ (i : ℕ). let m : MemberId = record { 0 = i } in m) number)
+
+  up_next : (S : Scene) (at : ℕ) (g : Given) (s : Step) → IsOneOf s → AreUp S.book → AreUp (line_with S at g s).next.book
+  up_next S at g s one up k some none = by_ask s.what one.fits.by where
+    asks : (what : Ask) → 1 ≤ s.by.0 → is_stopped (ask_with S s.by at g what).next.book k ≡ false
+    asks what is = others_same s.by k (apart_numbers k s.by some is (one.other k none)) S at g what ∙ up k some none
+
+    by_ask : (what : Ask) → IsBy s.by what → is_stopped (ask_with S s.by at g what).next.book k ≡ false
+    by_ask (ask.Lose dev) is = up k some none
+    by_ask (ask.Deck cards) is = asks (ask.Deck cards) is.0
+    by_ask (ask.Command c) is = asks (ask.Command c) is.0
+    by_ask (ask.Work n) is = asks (ask.Work n) is.0
+    by_ask ask.Lock is = asks ask.Lock is.0
+    by_ask ask.Free is = asks ask.Free is.0
+    by_ask (ask.Line n) is = asks (ask.Line n) is.0
+    by_ask (ask.Replace dev) is = asks (ask.Replace dev) is.0
+    by_ask ask.Stop is = asks ask.Stop is.0
+    by_ask (ask.StopIn fuse n) is = asks (ask.StopIn fuse n) is.0
+
+  line_takes : (S : Scene) (at : ℕ) (g : Given) (s : Step) → IsOneOf s → AreUp S.book → is_takeover (admitted_at (record { scene = S; number = at; step = s; given = g })) ≡ false
+  line_takes S at g s one up =
+      admitted_takes S.queue.config S.book s.by s.what
+      (λ k resets free is. ⊎_elim (λ own. ap (λ (m : MemberId). is_stopped S.book m) own ∙ free) (λ none. up k (member_some S.queue.config k is) none) (one.spares k resets))
+
+  right_if : {R : Type 0} (t : Bool) → R → RightIf t R
+  right_if true r = r
+  right_if false r = tt
+
+  takes_none : (S : Scene) (at : ℕ) (gs : List Given) (steps : List Step) → All IsOneOf steps → AreUp S.book → TakeNone S at gs steps
+  takes_none S at gs [] ones up = tt
+  takes_none S at gs (s ∷ steps) ones up =
+      let g = given_first gs in
+      let one = All-head IsOneOf s steps ones in (
+        line_takes S at g s one up,
+        right_if (line_with S at g s).goes_on (takes_none (line_with S at g s).next (at + 1) (drop 1 gs) steps (All-tail IsOneOf s steps ones) (up_next S at g s one up)),
+      )
+
+fresh_up : (n i hold : ℕ) → (slice_index_or (replicate n (beginner hold)) i (beginner 0)).stopped ≡ false
+fresh_up zero i hold = refl
+fresh_up (suc n) zero hold = refl
+fresh_up (suc n) (suc i) hold = fresh_up n i hold
+
+-- no line of a run takes the lock over
+run_takes : (steps : List Step) (Q : Queue) (gs : List Given) → All IsStep steps → TakesNone steps → TakeNone (scene_of Q) 1 gs steps
+run_takes steps Q gs fits takes =
+    takes_none steps (scene_of Q) 1 gs steps (λ k d lt. record { other = λ m none. none k d lt; fits = fits k d lt; spares = takes k d lt })
+    (λ k some none. fresh_up Q.config.members (k.0 - 1) Q.config.hold)
+
+-- LINES THAT DON'T LOSE A COPY
 
 module _ (d : Dev) (n : ℕ) where
-  task_same : (why : Option LockNo) (task : Task) → loses_after_step d (task_turn why task) n ≡ n
-  task_same None task = granted_counts d task n
-  task_same (Some reason) task = denied_counts d reason n
+  silent_loses : (t : Bool) (S T : Scene) → loses_then (if t then silent S else silent T).outcome.loses d n ≡ n
+  silent_loses true S T = refl
+  silent_loses false S T = refl
 
-  deck_same : (why : Option LockNo) (text : List (List ℕ)) (lost : Option ℕ) (said : Result JobFields Refused) → loses_after_step d (deck_turn why text lost said) n ≡ n
-  deck_same why text lost (Err bad) = closed_counts d _ n
-  deck_same why text lost (Ok fields) = task_same why (Reads fields text lost)
+  other_loses : (dev : Dev) → ask.Lose dev ≢ ask.Lose d → loses_then (Some dev) d n ≡ n
+  other_loses dev other = by_same (same_device d dev) refl where
+    by_same : (t : Bool) → same_device d dev ≡ t → (if t then next n else n) ≡ n
+    by_same true is = absurd (other (ap (λ (x : Dev). ask.Lose x) (sym (same_dev d dev is))))
+    by_same false is = refl
 
-  command_same : (config : Config) (why : Option LockNo) (given : Command) (of : Option MemberId) → loses_after_step d (command_turn config why given of) n ≡ n
-  command_same config why given None = task_same why (Gives given)
-  command_same config why given (Some of) = closed_counts d _ n
+  ask_loses : (S : Scene) (by : MemberId) (at : ℕ) (g : Given) (what : Ask) → what ≢ ask.Lose d → loses_then (ask_with S by at g what).outcome.loses d n ≡ n
+  ask_loses S by at g (ask.Lose dev) other = other_loses dev other
+  ask_loses S by at g ask.Stop other = silent_loses (is_up S by) _ _
+  ask_loses S by at g (ask.StopIn fuse k) other = silent_loses (is_up S by) _ _
+  ask_loses S by at g (ask.Deck cards) other = refl
+  ask_loses S by at g (ask.Command c) other = refl
+  ask_loses S by at g (ask.Work k) other = refl
+  ask_loses S by at g ask.Lock other = refl
+  ask_loses S by at g ask.Free other = refl
+  ask_loses S by at g (ask.Line k) other = refl
+  ask_loses S by at g (ask.Replace dev) other = refl
 
-  loss_same : (dev : Dev) → (d ≡ Ckpt1) ⊎ (d ≡ Ckpt2) → ask.Lose dev ≢ ask.Lose d → loses_after_step d (Loss dev) n ≡ n
-  loss_same Ckpt1 (inl e) other = absurd (other (ap (λ (x : Dev). ask.Lose x) (sym e)))
-  loss_same Ckpt2 (inl e) other = subst (λ (x : Dev). loses_after_step x (Loss Ckpt2) n ≡ n) (sym e) refl
-  loss_same (Spool v) (inl e) other = subst (λ (x : Dev). loses_after_step x (Loss (Spool v)) n ≡ n) (sym e) refl
-  loss_same Ckpt1 (inr e) other = subst (λ (x : Dev). loses_after_step x (Loss Ckpt1) n ≡ n) (sym e) refl
-  loss_same Ckpt2 (inr e) other = absurd (other (ap (λ (x : Dev). ask.Lose x) (sym e)))
-  loss_same (Spool v) (inr e) other = subst (λ (x : Dev). loses_after_step x (Loss (Spool v)) n ≡ n) (sym e) refl
-
-  unplayed_same : (d ≡ Ckpt1) ⊎ (d ≡ Ckpt2) → loses_after_step d Unplayed n ≡ n
-  unplayed_same (inl e) = subst (λ (x : Dev). loses_after_step x Unplayed n ≡ n) (sym e) refl
-  unplayed_same (inr e) = subst (λ (x : Dev). loses_after_step x Unplayed n ≡ n) (sym e) refl
-
-  step_same : (d ≡ Ckpt1) ⊎ (d ≡ Ckpt2) → (config : Config) (why : Option LockNo) (seen : Sight) (what : Ask) → what ≢ ask.Lose d → loses_after_step d (turn_by config why seen what) n ≡ n
-  step_same is config why seen (ask.Deck cards) other = deck_same why (text_of cards) seen.lost (read_as config.node cards)
-  step_same is config why seen (ask.Command given) other = command_same config why given (resets given)
-  step_same is config why seen (ask.Work units) other = task_same why (Works units seen.looks)
-  step_same is config why seen (ask.Lose dev) other = loss_same dev is other
-  step_same is config why seen ask.Lock other = unplayed_same is
-  step_same is config why seen ask.Free other = unplayed_same is
-  step_same is config why seen (ask.Line line) other = unplayed_same is
-  step_same is config why seen (ask.Replace copy) other = unplayed_same is
-  step_same is config why seen ask.Stop other = unplayed_same is
-  step_same is config why seen (ask.StopIn fuse k) other = unplayed_same is
-
--- the first steps of a script never lose this copy by a call, if none of its steps asks for that
-steps_same : (d : Dev) → (d ≡ Ckpt1) ⊎ (d ≡ Ckpt2) → (config : Config) (b : Book) (seen : List Sight) (steps : List Step) (k n : ℕ) → All (λ (s : Step). s.what ≢ ask.Lose d) steps
-    → loses_after d (take k (turns_from config b seen steps)) n ≡ n
-steps_same d is config b seen [] zero n others = refl
-steps_same d is config b seen [] (suc k) n others = refl
-steps_same d is config b seen (s ∷ steps) zero n others = refl
-steps_same d is config b seen (s ∷ steps) (suc k) n others =
-    let one = step_same d n is config (try_refusal b sysa false) (get_or seen 0 clear) s.what (All-head (λ (x : Step). x.what ≢ ask.Lose d) s steps others) in
-    ap (loses_after d (take k (turns_from config (book_after config b s.what) (drop 1 seen) steps))) one
-    ∙ steps_same d is config (book_after config b s.what) (drop 1 seen) steps k n (All-tail (λ (x : Step). x.what ≢ ask.Lose d) s steps others)
+lines_lose : (d : Dev) (S : Scene) (at : ℕ) (gs : List Given) (steps : List Step) (n : ℕ) → All (λ (s : Step). s.what ≢ ask.Lose d) steps
+    → loses_after d (outcomes_with S at gs steps) n ≡ n
+lines_lose d S at gs [] n others = refl
+lines_lose d S at gs (s ∷ steps) n others =
+    let p = line_with S at (given_first gs) s in
+    let os = outcomes_with p.next (at + 1) (drop 1 gs) steps in
+    ap (loses_after d (outcomes_if p.goes_on os)) (ask_loses d n S s.by at (given_first gs) s.what (All-head (λ (x : Step). x.what ≢ ask.Lose d) s steps others))
+    ∙ by_goes os p.goes_on (lines_lose d p.next (at + 1) (drop 1 gs) steps n (All-tail (λ (x : Step). x.what ≢ ask.Lose d) s steps others)) where
+      by_goes : (os : List Outcome) (t : Bool) → loses_after d os n ≡ n → loses_after d (outcomes_if t os) n ≡ n
+      by_goes os true more = more
+      by_goes os false more = refl
 
 -- PAGES FIT THEMSELVES
 
@@ -151,27 +260,31 @@ unstarted_alone steps old new (inl (one, (inl two))) failed = ⊎_elim (λ both.
 unstarted_alone steps old new (inl (one, (inr lost))) failed = ⊎_elim (λ both. clash (old.lost (Disk Ckpt1)) both.0 one.there) (λ some. ⊎_elim (λ f. one.failed f.1) (λ f. clash (old.lost (Disk Ckpt2)) lost f.0) some) failed
 unstarted_alone steps old new (inr (two, lost)) failed = ⊎_elim (λ both. clash (old.lost (Disk Ckpt2)) both.1 two.there) (λ some. ⊎_elim (λ f. clash (old.lost (Disk Ckpt1)) lost f.0) (λ f. two.failed f.1) some) failed
 
--- in a run no call loses a copy that was left alone, except before the first step
-module _ (tells : Type 0) (told : tells) (script : Script) (answer : Status) (base : Queue) (J : Journal) (since : ℕ) (old new : View) where
-  unrisen : (cold : Bool) (r : IsRun cold tells script answer base J since old new) (d : Dev) → (d ≡ Ckpt1) ⊎ (d ≡ Ckpt2) → Alone d script.steps old new → r.first d ≡ old.loses d → WasLost d old new → ⊥
-  unrisen cold r d is alone same lost =
-      let counted : new.loses d ≡ old.loses d = r.steps.played.loses told d ∙ steps_same d is base.config (book_of base.config) r.seen script.steps r.steps.played.kept (r.first d) alone.unasked ∙ same in
-      unlost d script.steps old new alone counted lost
+-- in a run no call loses a copy that was left alone, except before the first line
+module _ (tells : Type 0) (told : tells) (script : Script) (answer : Status) (base : Queue) (J : Journal) (since : ℕ) (old new : View) (fits : All IsStep script.steps) (takes : TakesNone script.steps) where
+  unrisen : (cold : Bool) (r : IsRun cold tells script answer base J since old new) (d : Dev) → Alone d script.steps old new → r.first d ≡ old.loses d → WasLost d old new → ⊥
+  unrisen cold r d alone same lost = unlost d script.steps old new alone (counted ∙ r.steps.played.lost_before d ∙ same) lost where
+    counted : new.loses d ≡ r.steps.entry.loses d
+    counted = ⊎_elim (λ none. ap (λ (v : View). v.loses d) none.still)
+        (λ p. p.loses_copies tt (run_takes script.steps _ p.given fits takes) d
+        ∙ ap (λ (os : List Outcome). loses_after d os (r.steps.entry.loses d)) p.did_is
+        ∙ lines_lose d _ 1 p.given script.steps (r.steps.entry.loses d) alone.unasked)
+        (r.steps.played.told told)
 
   cold_alone : IsRun true tells script answer base J since old new → AreLeftAlone script.steps old new → WasLost Ckpt1 old new → WasLost Ckpt2 old new → ⊥
-  cold_alone r alone lost1 lost2 = ⊎_elim (λ a. unrisen true r Ckpt1 (inl refl) a.0 (r.before Ckpt1) lost1) (λ a. unrisen true r Ckpt2 (inr refl) a.0 (r.before Ckpt2) lost2) alone
+  cold_alone r alone lost1 lost2 = ⊎_elim (λ a. unrisen true r Ckpt1 a.0 (r.before Ckpt1) lost1) (λ a. unrisen true r Ckpt2 a.0 (r.before Ckpt2) lost2) alone
 
   warm_alone : IsRun false tells script answer base J since old new → AreLeftAlone script.steps old new → WasLost Ckpt1 old new → WasLost Ckpt2 old new → ⊥
-  warm_alone r (inl (one, (inl two))) lost1 lost2 = ⊎_elim (λ e. unrisen false r Ckpt1 (inl refl) one e lost1) (λ e. unrisen false r Ckpt2 (inr refl) two e lost2) r.queue.one
+  warm_alone r (inl (one, (inl two))) lost1 lost2 = ⊎_elim (λ e. unrisen false r Ckpt1 one e lost1) (λ e. unrisen false r Ckpt2 two e lost2) r.queue.one
   warm_alone r (inl (one, (inr gone))) lost1 lost2 =
       let q = r.queue in
       let read = found_first old new (begins_at since r.first) (bytes_of q.pages) gone (q.found told) in
-      ⊎_elim (λ e. unrisen false r Ckpt1 (inl refl) one e lost1)
+      ⊎_elim (λ e. unrisen false r Ckpt1 one e lost1)
       (λ u. never_unfit Ckpt1 old new (begins_at since r.first) (form_room (disk_now old Ckpt1).bytes) q.pages q.sized (q.tables, q.are) one.failed read u) (q.kept1 told)
   warm_alone r (inr (two, gone)) lost1 lost2 =
       let q = r.queue in
       let read = found_second old new (begins_at since r.first) (bytes_of q.pages) gone (q.found told) in
-      ⊎_elim (λ e. unrisen false r Ckpt2 (inr refl) two e lost2)
+      ⊎_elim (λ e. unrisen false r Ckpt2 two e lost2)
       (λ u. never_unfit Ckpt2 old new (begins_at since r.first) (form_room (disk_now old Ckpt2).bytes) q.pages q.sized (q.tables, q.are) two.failed read u) (q.kept2 told)
 
   -- what is said of every run, whether it has begun or not

@@ -19,7 +19,7 @@ use Rattle.warm_start.specs.declared.choosing.StartNo.{StartNo}
 use Rattle.warm_start.specs.declared.choosing.StartNo.TheVariants as no_start
 use Rattle.warm_start.specs.Starting.{IsSmallAt, IsSmallVolume}
 use Rattle.mas_run.specs.Refusals.{bytes_needed, refused_where, refused_copy, refused_volume, refused_volumes, refused_devices, refused_sizes, refusal_of, refusal_before_play, Answers, is_refusal, IsSaid, IsPlayedOut, IsDeviceSize}
-use Rattle.mas_run.specs.Statuses.{AreLeftAlone, IsCaused, IsStill, is_of_text}
+use Rattle.mas_run.specs.Statuses.{AreLeftAlone, IsCaused, IsStill, is_of_text, TakesNone}
 use Rattle.mas_run.specs.Unstarted.{status_of_start}
 
 -- DEVICES THAT ARE TOO SMALL
@@ -109,11 +109,11 @@ answers_said cold only bytes v script answer is answered = subst (λ (s : Said).
 
 -- what nothing hinders ends with Done, or for want of memory
 pub ends : (cold : Bool) (answer : Status) (tells : Type 0) (steps : List Step) (before after : ℕ) (old new : View) → is_refusal cold answer ≡ false → (answer ≡ status.SourceFault → Rose before after) → IsCaused answer old new
-    → IsStill tells steps before after old new → (answer ≡ status.BothLost → tells → AreLeftAlone steps old new → ⊥) → IsPlayedOut cold answer
+    → IsStill tells steps before after old new → (answer ≡ status.BothLost → tells → AreLeftAlone steps old new → TakesNone steps → ⊥) → IsPlayedOut cold answer
 ends cold status.Done tells steps before after old new fine source caused still alone = tt
 ends cold status.NoMemory tells steps before after old new fine source caused still alone = tt
 ends cold status.SourceFault tells steps before after old new fine source caused still alone = absurd (still.source (source refl))
-ends cold status.BothLost tells steps before after old new fine source caused still alone = absurd (⊎_elim (λ a. alone refl a.0 a.1) (λ not. not (caused.failed1 refl) (caused.failed2 refl)) still.disks)
+ends cold status.BothLost tells steps before after old new fine source caused still alone = absurd (⊎_elim (λ a. alone refl a.0 a.1 a.2) (λ not. not (caused.failed1 refl) (caused.failed2 refl)) still.disks)
 ends cold status.ConsoleFault tells steps before after old new fine source caused still alone = absurd (still.console (caused.console refl))
 ends cold status.Words tells steps before after old new fine source caused still alone = absurd (cc)
 ends cold (status.BadLine line cause) tells steps before after old new fine source caused still alone = absurd (cc)

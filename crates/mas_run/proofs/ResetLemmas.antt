@@ -1,5 +1,6 @@
 -- Restart as the first batch, by how it ended.
-use Rattle.std.proofs.Common.{◌≡◌, inl, inr, ⊎_elim, ℕ, ◌+◌, ◌++◌, ◌≤◌, ◌<◌, ◌^◌, Bool, true, false, List, [], ◌∷◌, length, drop, Option, Result, Ok, Err, OnOk, All, refl, sym, subst, ◌∙◌, ap, arith}
+use Rattle.std.proofs.Common.{◌≡◌, inl, inr, ⊎_elim, ℕ, ◌+◌, ◌++◌, ◌≤◌, ◌<◌, ◌^◌, ◌&&◌, ◌||◌, Bool, true, false, if◌then◌else◌, List, [], ◌∷◌, length, drop, Option, Result, Ok, Err, OnOk, All, refl, sym, subst, ◌∙◌, ap, arith}
+use Rattle.std.specs.Prelude.{slice_set}
 use Rattle.std.proofs.lemmas.List.{length-append}
 use Rattle.std.proofs.lemmas.List.Elements.{All-nil, All-cons}
 use Rattle.mas_types.specs.declared.ids.MemberId.{MemberId}
@@ -11,11 +12,9 @@ use Rattle.mas_types.specs.declared.journals.Batch.{Batch}
 use Rattle.mas_types.specs.declared.journals.Entry.{Entry}
 use Rattle.mas_types.specs.declared.journals.Fate.TheVariants.{Kept}
 use Rattle.mas_types.specs.declared.journals.Journal.{Journal}
-use Rattle.mas_types.specs.declared.queues.Config.{Config}
 use Rattle.mas_types.specs.declared.queues.Queue.{Queue}
-use Rattle.mas_types.specs.Ids.{nobody}
+use Rattle.mas_types.specs.Ids.{nobody, same_member}
 use Rattle.mas_types.specs.Sound.{IsSound}
-use Rattle.mas_types.specs.declared.ids.Dev.{Dev}
 use Rattle.spool_disk.specs.Acts.{Goes}
 use Rattle.spool_disk.specs.View.{View, Line, World}
 use Rattle.spool_disk.specs.declared.plant.Part.TheVariants.{Disk as DiskPart}
@@ -23,7 +22,7 @@ use Rattle.ckpt_form.specs.Form.{form_reads}
 use Rattle.duplex_pair.specs.Halves.{SomeAlive}
 use Rattle.mas_complex.specs.Crash.{EachTells, IsUntold, setting}
 use Rattle.mas_complex.specs.Headline.{Headline}
-use Rattle.mas_complex.specs.Journals.{begun, fated, has_step, kept_all, with_last}
+use Rattle.mas_complex.specs.Journals.{AreSettled, fated, has_step, kept_all, with_last}
 use Rattle.mas_complex.specs.Meaning.{Closes, run, step}
 use Rattle.ckpt_pages.specs.declared.tables.Tables.{Tables}
 use Rattle.queue_effect.specs.Standing.{AreFit}
@@ -36,23 +35,19 @@ use Rattle.member_node.specs.Reads.{AreLow}
 use Rattle.member_node.proofs.EntryLemmas.{nothing_done}
 use Rattle.member_node.specs.declared.member.NodeNo.{NodeNo}
 use Rattle.member_node.specs.declared.member.NodeNo.TheVariants as no_node
-use Rattle.member_node.specs.Calls.{Apart, Course, IsLeft, console_now}
+use Rattle.member_node.specs.Calls.{IsLeft, console_now}
 use Rattle.member_node.specs.Reads.{IsSettle}
 use Rattle.member_node.specs.Writes.{IsWrite}
 use Rattle.member_node.proofs.CourseLemmas.{apart_then, course_none, course_then, left, only_none, papers_none}
 use Rattle.member_node.proofs.SpareLemmas.{spares_none}
-use Rattle.member_steps.specs.Steps.{AreAllKept}
 use Rattle.member_steps.proofs.StepLemmas.{journal_kept}
-use Rattle.mas_complex.specs.Paper.{MayBegin}
+use Rattle.mas_complex.specs.Paper.{MayBegin, printed_after}
 use Rattle.mas_complex.proofs.Allowed.{one_begins}
 use Rattle.mas_run.specs.Resets.{HasReset, restart_at, restart_entries}
 use Rattle.mas_run.specs.Runs.{HasSteps}
+use Rattle.mas_run.specs.Shows.{IsOfEarlier}
 use Rattle.mas_run.specs.Statuses.{IsCausedFrom, is_of_play, status_of}
-use Rattle.lock_cycle.specs.Books.{Book}
 use Rattle.script_lang.specs.declared.types.Step.{Step}
-use Rattle.mas_run.specs.Steps.{ArePassed, outcomes_of}
-use Rattle.mas_run.specs.Turns.{Sight, Turn, turns_from}
-use Rattle.mas_run.proofs.TurnLemmas.{none_passed}
 use Rattle.mas_run.proofs.VolumeLemmas.{kept_on}
 use Rattle.mas_run.proofs.RunLemmas.{reset_alone}
 
@@ -60,10 +55,6 @@ use Rattle.mas_run.proofs.RunLemmas.{reset_alone}
 none_said : (closes : List ℕ → MemberId → ℕ → Type 0) (lines : List Line) (P : MemberId → ℕ → Type 0) → EachTells closes (drop (length lines) lines) P
 none_said closes [] P = tt
 none_said closes (line ∷ lines) P = none_said closes lines P
-
-pub none_untold : (reads : List ℕ → Option (List ℕ)) (base : Queue) (since : ℕ) (v : View) (entries : List Entry) → since ≡ v.now → IsUntold (setting reads base since) v entries
-none_untold reads base since v entries is =
-    subst (λ (t : ℕ). EachTells Closes (drop (length (v.world t).console) (v.world v.now).console) (λ m s. has_step m s entries ≡ false)) (sym is) (none_said Closes (v.world v.now).console (λ m s. has_step m s entries ≡ false))
 
 -- no entries are told since this moment, if the console is still as it was then
 pub none_untold_later : (reads : List ℕ → Option (List ℕ)) (base : Queue) (since : ℕ) (old v : View) (entries : List Entry) → since ≡ old.now → Goes old v → console_now v ≡ console_now old → IsUntold (setting reads base since) v entries
@@ -154,28 +145,22 @@ restart_entry batch more Q m none same is =
 
 -- A WARM RUN AFTER RESTART
 
-reset_left : (tells : Type 0) (asked : List Turn) (base : Queue) (journal : Journal) (since : ℕ) (old new : View) (a a' c c' : Bool) → IsSound base → since ≡ old.now → SomeAlive a c → (a ≡ true → old.lost (DiskPart Ckpt1) ≡ false) → (c ≡ true → old.lost (DiskPart Ckpt2) ≡ false)
-    → (tells → ∥ Headline form_reads base since journal new ∥₁) → ((opening : List Batch) → ArePassed tells new new base.config.groups (run base (kept_all opening)) 1 0 [] asked (outcomes_of (run base (kept_all opening)) asked)) → {T : Type 0} (why : NodeNo) → HasReset {T = T} tells journal.batches a a' c c' old new (Err why)
-    → HasSteps false tells asked (status_of {T = T} (Err why)) base journal since old.loses old new
-reset_left tells asked base journal since old new a a' c c' base_sound is some there1 there2 head passed no_node.NoMemory r =
-    reset_alone tells asked status.NoMemory base [] journal since old new base_sound r.ends.0 is r.course.goes (inr (inr (refl, inl refl, refl, refl))) (λ e. absurd (cc)) (λ e. absurd (cc)) r.loses (λ t. (r.apart t).console) head
-    (λ ne. left a' c' r.ends.1 (λ x. r.course.there1 x (there1 (r.course.alive1 x))) (λ y. r.course.there2 y (there2 (r.course.alive2 y)))) (passed []) (λ t. kept_on old new (r.apart t).others) (λ t. (r.apart t).papers)
-reset_left tells asked base journal since old new a a' c c' base_sound is some there1 there2 head passed no_node.BothLost r =
-    ⊎_elim
-    (λ none. reset_alone tells asked status.BothLost base [] journal since old new base_sound none is r.course.goes (inr (inr (refl, inr refl, refl, refl))) (λ e. absurd (cc)) (λ e. absurd (cc)) r.loses (λ t. (r.apart t).console) head
-    (λ ne. absurd (ne refl)) (passed []) (λ t. kept_on old new (r.apart t).others) (λ t. (r.apart t).papers))
-    (λ flies. reset_alone tells asked status.BothLost base (restart_at flies.0 ∷ []) journal since old new base_sound flies.2 is r.course.goes
-    (inr (inl (restart_at flies.0, refl, record { by = refl; entries = refl; began = omega (arith, is, flies.1) }, refl, refl, refl, refl, refl))) (λ e. absurd (cc)) (λ e. absurd (cc)) r.loses (λ t. (r.apart t).console) head
-    (λ ne. absurd (ne refl)) (passed (restart_at flies.0 ∷ [])) (λ t. kept_on old new (r.apart t).others) (λ t. (r.apart t).papers))
-    r.ends.0
-reset_left tells asked base journal since old new a a' c c' base_sound is some there1 there2 head passed no_node.ConsoleFault r = absurd r.ends
-reset_left tells asked base journal since old new a a' c c' base_sound is some there1 there2 head passed no_node.Halted r = absurd r.ends
-
-pub reset_ended : {T : Type 0} (tells : Type 0) (config : Config) (book : Book) (steps : List Step) (base : Queue) (journal : Journal) (since : ℕ) (old new : View) (a a' c c' : Bool) (why : NodeNo) → IsSound base → since ≡ old.now → SomeAlive a c → (a ≡ true → old.lost (DiskPart Ckpt1) ≡ false) → (c ≡ true → old.lost (DiskPart Ckpt2) ≡ false)
+pub reset_ended : {T : Type 0} (tells : Type 0) (steps : List Step) (base : Queue) (journal : Journal) (since : ℕ) (old new : View) (a a' c c' : Bool) (why : NodeNo) → IsSound base → since ≡ old.now → SomeAlive a c → (a ≡ true → old.lost (DiskPart Ckpt1) ≡ false) → (c ≡ true → old.lost (DiskPart Ckpt2) ≡ false)
     → (tells → ∥ Headline form_reads base since journal new ∥₁) → HasReset {T = T} tells journal.batches a a' c c' old new (Err why)
-    → (seen : List Sight) × HasSteps false tells (turns_from config book seen steps) (status_of {T = T} (Err why)) base journal since old.loses old new
-reset_ended {T = T} tells config book steps base journal since old new a a' c c' why base_sound is some there1 there2 head r =
-    ([], reset_left tells (turns_from config book [] steps) base journal since old new a a' c c' base_sound is some there1 there2 head (λ opening. none_passed tells new base.config.groups 0 config book steps (run base (kept_all opening)) (run base (kept_all opening)) 1 1 refl (omega arith)) {T = T} why r)
+    → HasSteps false tells steps (status_of {T = T} (Err why)) base journal since old.loses old new
+reset_ended tells steps base journal since old new a a' c c' no_node.NoMemory base_sound is some there1 there2 head r =
+    reset_alone tells steps status.NoMemory base [] journal since old new base_sound r.ends.0 is r.course.goes (inr (inr (refl, inl refl, refl, refl))) (inl refl) r.loses (λ t. (r.apart t).console) head
+    (λ ne. left a' c' r.ends.1 (λ x. r.course.there1 x (there1 (r.course.alive1 x))) (λ y. r.course.there2 y (there2 (r.course.alive2 y)))) (λ t. kept_on old new (r.apart t).others) (λ t. (r.apart t).papers)
+reset_ended tells steps base journal since old new a a' c c' no_node.BothLost base_sound is some there1 there2 head r =
+    ⊎_elim
+    (λ none. reset_alone tells steps status.BothLost base [] journal since old new base_sound none is r.course.goes (inr (inr (refl, inr refl, refl, refl))) (inr refl) r.loses (λ t. (r.apart t).console) head
+    (λ ne. absurd (ne refl)) (λ t. kept_on old new (r.apart t).others) (λ t. (r.apart t).papers))
+    (λ flies. reset_alone tells steps status.BothLost base (restart_at flies.0 ∷ []) journal since old new base_sound flies.2 is r.course.goes
+    (inr (inl (restart_at flies.0, refl, record { by = refl; entries = refl; began = omega (arith, is, flies.1) }, refl, refl, refl, refl, refl))) (inr refl) r.loses (λ t. (r.apart t).console) head
+    (λ ne. absurd (ne refl)) (λ t. kept_on old new (r.apart t).others) (λ t. (r.apart t).papers))
+    r.ends.0
+reset_ended tells steps base journal since old new a a' c c' no_node.ConsoleFault base_sound is some there1 there2 head r = absurd r.ends
+reset_ended tells steps base journal since old new a a' c c' no_node.Halted base_sound is some there1 there2 head r = absurd r.ends
 
 -- a run that ends at Restart ends as one that has begun does
 pub err_plays : (T : Type 0) (why : NodeNo) → is_of_play (status_of {T = T} (Err why)) ≡ true
@@ -196,7 +181,17 @@ reset_caused told batches a a' c c' old new no_node.BothLost r lost1 lost2 = rec
 reset_caused told batches a a' c c' old new no_node.ConsoleFault r lost1 lost2 = absurd r.ends
 reset_caused told batches a a' c c' old new no_node.Halted r lost1 lost2 = absurd r.ends
 
--- the one batch is kept
-pub one_kept_now : (b : Batch) (last now : ℕ) (batches : List Batch) → batches ≡ fated Kept last b ∷ [] → last ≤ now → AreAllKept batches now
-one_kept_now b last now batches are le =
-    subst (λ (bs : List Batch). AreAllKept bs now) (sym are) (All-cons (λ (c : Batch). (c.fate ≡ Kept) × (c.last ≤ now)) (fated Kept last b) [] (refl, le) (All-nil (λ (c : Batch). (c.fate ≡ Kept) × (c.last ≤ now))))
+-- the one batch has its fate
+pub one_settled : (b : Batch) (last now : ℕ) (batches : List Batch) → batches ≡ fated Kept last b ∷ [] → b.first ≤ last → last ≤ now → AreSettled batches now
+one_settled b last now batches are order le = subst (λ (bs : List Batch). AreSettled bs now) (sym are) (refl, order, le, tt)
+
+-- Restart prints nothing, and begins no count anew
+pub restart_printed : (by : MemberId) (es : List Entry) (printed : List ℕ) → es ≡ restart_entries → printed_after by es printed ≡ printed
+restart_printed by es printed are = subst (λ (l : List Entry). printed_after by l printed ≡ printed) (sym are) (none_anew (same_member nobody by)) where
+  none_anew : (own : Bool) → (if (own && false) || false then slice_set printed by.0 0 else printed) ≡ printed
+  none_anew true = refl
+  none_anew false = refl
+
+-- and is of no line
+pub restart_earlier : (b : Batch) → b.entries ≡ restart_entries → IsOfEarlier 1 b
+restart_earlier b are = subst (λ (es : List Entry). All (λ (e : Entry). e.step < 1) es) (sym are) (All-cons (λ (e : Entry). e.step < 1) _ [] (omega arith) (All-nil (λ (e : Entry). e.step < 1)))

@@ -1,27 +1,24 @@
--- A run, from what its step leaves.
-use Rattle.std.proofs.Common.{◌≡◌, ◌≢◌, ◌⊎◌, inl, inr, ⊎_elim, ℕ, zero, suc, ◌+◌, ◌<◌, ◌≤◌, nat_lt, Bool, true, false, List, [], ◌∷◌, ◌++◌, length, map, take, drop, Some, None, Result, Ok, Err, refl, sym, ◌∙◌, ap, subst, arith, le_refl, replicate, All}
+-- A run, from what its lines leave.
+use Rattle.std.proofs.Common.{◌≡◌, ◌≢◌, ◌⊎◌, inl, inr, ⊎_elim, ℕ, zero, suc, ◌<◌, ◌≤◌, nat_lt, Bool, true, false, List, [], ◌∷◌, ◌++◌, length, drop, Some, None, Result, Ok, Err, refl, sym, ◌∙◌, ap, subst, arith, le_refl, replicate, All}
+use Rattle.std.specs.Coded.{×_prop, Coded, Coded-set, coded_ℕ, code_by, le_prop}
 use Rattle.std.proofs.Math.Logic.{∥∥₁_map, ∥∥₁_elim, ∥∥₁_prop}
-use Rattle.std.specs.Coded.{Coded, Coded-set, coded_ℕ, code_by, ×_prop, le_prop}
 use Rattle.std.proofs.lemmas.Bool.Decides.{nat_tests}
 use Rattle.std.proofs.lemmas.List.Elements.{All-nil}
 use Rattle.ckpt_pages.specs.Shape.{HasShape}
 use Rattle.queue_effect.specs.Standing.{AreFit, IsFitJob, IsFitOutput}
-use Rattle.member_node.specs.Calls.{Course, Grows, console_now}
+use Rattle.member_node.specs.Calls.{Course, Grows, console_now, IsLeft}
 use Rattle.member_node.specs.Reads.{AreLow, orders_after}
-use Rattle.member_node.proofs.CourseLemmas.{left, lost_later, lost_more}
-use Rattle.member_steps.specs.Saying.{torn}
-use Rattle.member_steps.specs.Steps.{AreAllKept}
+use Rattle.member_node.proofs.CourseLemmas.{left}
 use Rattle.ckpt_pages.specs.declared.tables.Tables.{Tables}
 use Rattle.ckpt_pages.specs.QueueOf.{used}
 use Rattle.ckpt_pages.specs.Starts.{empty_tables}
-use Rattle.mas_types.specs.declared.ids.Dev.TheVariants.{Ckpt1, Ckpt2}
+use Rattle.mas_types.specs.declared.ids.Dev.TheVariants.{Ckpt1, Ckpt2, Spool}
 use Rattle.mas_types.specs.declared.ids.Dev.{Dev}
 use Rattle.mas_types.specs.declared.journals.Journal.{Journal}
 use Rattle.mas_types.specs.declared.journals.Fate.{Fate}
 use Rattle.mas_types.specs.declared.journals.Fate.TheVariants.{Kept, Dropped, Flying}
 use Rattle.mas_types.specs.declared.queues.Queue.{Queue}
 use Rattle.mas_types.specs.declared.answers.Status.{Status}
-use Rattle.mas_types.specs.declared.answers.Status.TheVariants as status
 use Rattle.mas_types.specs.Starts.{empty_queue}
 use Rattle.mas_types.specs.declared.queues.Config.{Config}
 use Rattle.mas_types.specs.declared.queues.Route.{Route}
@@ -33,40 +30,47 @@ use Rattle.queue_tables.specs.Orders.{HaveOrders}
 use Rattle.queue_tables.specs.Telling.{Tell, TellSound}
 use Rattle.queue_tables.proofs.OrderLemmas.{empty_orders}
 use Rattle.mas_complex.specs.Texts.{HasTexts, Spools}
-use Rattle.spool_disk.specs.View.{View, World, Line, Disk, disk_at, disk_now}
+use Rattle.spool_disk.specs.View.{View, World, Disk, disk_at, disk_now}
 use Rattle.spool_disk.specs.declared.plant.Part.TheVariants.{Disk as DiskPart, Console}
 use Rattle.spool_disk.specs.Acts.{Goes, Rose, top}
 use Rattle.ckpt_form.specs.Form.{form_reads}
+use Rattle.ckpt_copy.specs.Changes.{NoMore}
 use Rattle.ckpt_copy.specs.Moments.{goes_none, goes_on}
 use Rattle.ckpt_copy.specs.Reading.{AllRead}
 use Rattle.duplex_pair.specs.Halves.{SomeAlive, IsBothLost}
 use Rattle.duplex_pair.specs.declared.errors.PairNo.{PairNo}
-use Rattle.duplex_pair.specs.declared.errors.PairNo.TheVariants as pair_no
 use Rattle.duplex_pair.specs.Outcomes.{pair_stopped}
 use Rattle.duplex_pair.specs.Both.{PairActed}
 use Rattle.mas_complex.specs.declared.places.Place.TheVariants.{Before}
 use Rattle.mas_complex.specs.Crash.{setting, CopyAt, copy_of}
-use Rattle.mas_complex.specs.Headline.{Headline, AreToldKept, whole}
+use Rattle.mas_complex.specs.Headline.{Headline, AreToldKept}
 use Rattle.member_node.specs.declared.member.NodeNo.{NodeNo}
-use Rattle.member_node.specs.declared.member.NodeNo.TheVariants as no_node
-use Rattle.script_input.specs.Played.{sysa}
-use Rattle.lock_cycle.specs.Books.{Book}
 use Rattle.script_lang.specs.declared.types.Script.{Script}
 use Rattle.script_lang.specs.declared.types.Step.{Step}
-use Rattle.mas_run.specs.Turns.{Sight, Turn, turns_from, turns_of}
-use Rattle.mas_run.specs.Steps.{ArePassed, LeavesVolumes, lines_in, loses_after, next_in, outcomes_of}
-use Rattle.mas_run.specs.Plays.{Ends, IfNotLost, ArePlayed, HasPlay}
-use Rattle.mas_run.specs.Runs.{has_begun, IsRun, Adds, HasLost, IsSettled, IsStopped, IsUnclosed, IsUncut, IsRestart, IsReset, HavePassed, IsSafe, IsPlay, HasSteps, ReadsThere}
+use Rattle.mas_run.specs.Runs.{has_begun, HasLost, IsRestart, IsReset, IsRun, HavePassed, IsSafe, IsPlay, HasSteps, ReadsThere, LinesBegun, LinesEnded, NonePassed, WerePlayed, starts, stops}
 use Rattle.mas_run.specs.Volumes.{AreVolumesKept, AreVolumesKeptUntil}
-use Rattle.mas_run.proofs.PlayLemmas.{shapes_of}
 use Rattle.mas_run.proofs.PaperLemmas.{papers_at, papers_past, papers_then}
 use Rattle.mas_run.proofs.VolumeLemmas.{kept_none, kept_past, kept_then}
 use Rattle.mas_types.specs.declared.journals.Batch.{Batch}
-use Rattle.mas_complex.specs.Journals.{kept_all, fated}
+use Rattle.mas_complex.specs.Journals.{kept_all, fated, AreSettled}
 use Rattle.mas_complex.specs.Paper.{SamePapers}
 use Rattle.mas_complex.specs.Meaning.{run}
 use Rattle.std.proofs.lemmas.List.{append-nil}
 use Rattle.mas_run.specs.Statuses.{IsCaused, IsCausedFrom, status_of}
+use Rattle.std.proofs.Math.Seq.{drop-append_seam}
+use Rattle.spool_disk.specs.declared.plant.Plant.{Ghosts as PlantGhosts}
+use Rattle.mas_complex.specs.Parts.{Parts}
+use Rattle.run_turns.specs.Scenes.{scene_of}
+use Rattle.mas_run.specs.Copies.{KeepCopies, LeavesSome}
+use Rattle.mas_run.specs.Lines.{Proceeds}
+use Rattle.mas_run.specs.Passed.{Here, LeaveVolumes, Passed, There}
+use Rattle.mas_run.proofs.CopiesLemmas.{alive_on, lost_after, lost_before}
+use Rattle.mas_run.proofs.LinesLemmas.{passed_after}
+use Rattle.mas_run.proofs.MemberRunLemmas.{have_passed}
+use Rattle.mas_run.proofs.PassedLemmas.{passed_goes, proceeds_of}
+use Rattle.mas_types.specs.declared.answers.Status.TheVariants as status
+use Rattle.duplex_pair.specs.declared.errors.PairNo.TheVariants as pair_no
+use Rattle.member_node.specs.declared.member.NodeNo.TheVariants as no_node
 
 abbrev fate_code : Fate → ℕ
 fate_code Kept = 0
@@ -91,114 +95,23 @@ pub told_of : (base : Queue) (since : ℕ) (J : Journal) (v : View) → ∥ Head
 told_of base since J v head t from le by at end telling there k d lt has =
     ∥∥₁_elim head (×_prop (Coded-set coded_fate _ _) le_prop) (λ h. h.told t from le by at end telling there k d lt has)
 
--- THE RUN
-
-not_lost : {T : Type 0} (answer : Result T NodeNo) (A : Type 0) → status_of answer ≢ status.BothLost → IfNotLost answer A → A
-not_lost (Ok done) A ne a = a
-not_lost (Err no_node.NoMemory) A ne a = a
-not_lost (Err no_node.BothLost) A ne a = absurd (ne refl)
-not_lost (Err no_node.ConsoleFault) A ne a = a
-not_lost (Err no_node.Halted) A ne a = a
-
-left_now : (old new : View) (a a' b b' : Bool) → (a ≡ true → old.lost (DiskPart Ckpt1) ≡ false) → (b ≡ true → old.lost (DiskPart Ckpt2) ≡ false) → Course a a' b b' old new → SomeAlive a' b' ⊎ HasLost old new
-    → ((new.lost (DiskPart Ckpt1) ≡ false) ⊎ (new.lost (DiskPart Ckpt2) ≡ false)) ⊎ HasLost old new
-left_now old new a a' b b' there1 there2 course some =
-    ⊎_elim (λ alive. inl (left a' b' alive (λ is. course.there1 is (there1 (course.alive1 is))) (λ is. course.there2 is (there2 (course.alive2 is))))) inr some
-
-module _ {T : Type 0} (one two : Bool) (old new : View) (asked : List Turn) (begun : List Batch) (A U : Type 0) where
-  settled : (begun ≡ [] → A) → (answer : Result T NodeNo) (kept closed : ℕ) → status_of answer ≢ status.BothLost → Ends answer asked kept closed begun A U one two old new → A ⊎ IsStopped old new
-  settled none (Ok done) kept closed ne ends = inl (none ends.2)
-  settled none (Err no_node.NoMemory) kept closed ne ends = inl ends.1
-  settled none (Err no_node.BothLost) kept closed ne ends = absurd (ne refl)
-  settled none (Err no_node.ConsoleFault) kept closed ne ends = inl (none ends.1)
-  settled none (Err no_node.Halted) kept closed ne ends = inr ends.0
-
-  uncut : (begun ≡ [] → U) → (answer : Result T NodeNo) (kept closed : ℕ) → status_of answer ≢ status.NoMemory → Ends answer asked kept closed begun A U one two old new → U
-  uncut none (Ok done) kept closed ne ends = none ends.2
-  uncut none (Err no_node.NoMemory) kept closed ne ends = absurd (ne refl)
-  uncut none (Err no_node.BothLost) kept closed ne ends = ends.2
-  uncut none (Err no_node.ConsoleFault) kept closed ne ends = none ends.1
-  uncut none (Err no_node.Halted) kept closed ne ends = ends.1
-
-  finished : (answer : Result T NodeNo) (kept closed : ℕ) → status_of answer ≡ status.Done → Ends answer asked kept closed begun A U one two old new → (closed ≡ length asked) ⊎ IsStopped old new
-  finished (Ok done) kept closed e ends = inl ends.1
-  finished (Err no_node.NoMemory) kept closed e ends = absurd (cc)
-  finished (Err no_node.BothLost) kept closed e ends = absurd (cc)
-  finished (Err no_node.ConsoleFault) kept closed e ends = absurd (cc)
-  finished (Err no_node.Halted) kept closed e ends = inr ends.0
-
-  one_unsaid : (answer : Result T NodeNo) (kept closed : ℕ) → status_of answer ≡ status.ConsoleFault → Ends answer asked kept closed begun A U one two old new → (kept ≡ closed + 1) × (begun ≡ [])
-  one_unsaid (Ok done) kept closed e ends = absurd (cc)
-  one_unsaid (Err no_node.NoMemory) kept closed e ends = absurd (cc)
-  one_unsaid (Err no_node.BothLost) kept closed e ends = absurd (cc)
-  one_unsaid (Err no_node.ConsoleFault) kept closed e ends = (ends.0, ends.1)
-  one_unsaid (Err no_node.Halted) kept closed e ends = absurd (cc)
-
-  none_unplayed : (answer : Result T NodeNo) (kept closed : ℕ) → status_of answer ≡ status.NoMemory → Ends answer asked kept closed begun A U one two old new → IsUnclosed asked kept closed begun
-  none_unplayed (Ok done) kept closed e ends = absurd (cc)
-  none_unplayed (Err no_node.NoMemory) kept closed e ends = ends.0
-  none_unplayed (Err no_node.BothLost) kept closed e ends = absurd (cc)
-  none_unplayed (Err no_node.ConsoleFault) kept closed e ends = absurd (cc)
-  none_unplayed (Err no_node.Halted) kept closed e ends = absurd (cc)
-
-  none_unkept : (answer : Result T NodeNo) (kept closed : ℕ) → status_of answer ≡ status.BothLost → Ends answer asked kept closed begun A U one two old new → IsUnclosed asked kept closed begun × IsBothLost one two
-  none_unkept (Ok done) kept closed e ends = absurd (cc)
-  none_unkept (Err no_node.NoMemory) kept closed e ends = absurd (cc)
-  none_unkept (Err no_node.BothLost) kept closed e ends = (ends.0, ends.1)
-  none_unkept (Err no_node.ConsoleFault) kept closed e ends = absurd (cc)
-  none_unkept (Err no_node.Halted) kept closed e ends = absurd (cc)
-
-  console_failed : (answer : Result T NodeNo) (kept closed : ℕ) → status_of answer ≡ status.ConsoleFault → Ends answer asked kept closed begun A U one two old new → Rose (old.faults Console) (new.faults Console)
-  console_failed (Ok done) kept closed e ends = absurd (cc)
-  console_failed (Err no_node.NoMemory) kept closed e ends = absurd (cc)
-  console_failed (Err no_node.BothLost) kept closed e ends = absurd (cc)
-  console_failed (Err no_node.ConsoleFault) kept closed e ends = ends.2
-  console_failed (Err no_node.Halted) kept closed e ends = absurd (cc)
-
-module _ {T : Type 0} (told : Type 0) (asked : List Turn) (from : Queue) (per : ℕ) (rest : List Batch) (old new : View) (a a' b b' : Bool) (answer : Result T NodeNo)
-    (p : ArePlayed told from per asked rest a a' b b' old new answer) where
-  abbrev Next : Type 0
-  Next = IsSettled (next_in p.kept p.did) p.history.between new.now p.history.begun
-
-  abbrev Uncut : Type 0
-  Uncut = IsUncut (drop p.kept asked) (next_in p.kept p.did) p.history.between new.now p.history.begun
-
-  pub caused_by_steps : (a' ≡ false → new.lost (DiskPart Ckpt1) ≡ true) → (b' ≡ false → new.lost (DiskPart Ckpt2) ≡ true) → IsCausedFrom a b (status_of answer) old new
-  caused_by_steps lost1 lost2 = record {
-    lost = λ e. let both = (none_unkept a' b' old new asked p.history.begun Next Uncut answer p.kept p.closed e p.ends).1 in (lost1 both.0, lost2 both.1);
-    failed1 = λ e was. p.course.failed1 was (none_unkept a' b' old new asked p.history.begun Next Uncut answer p.kept p.closed e p.ends).1.0;
-    failed2 = λ e was. p.course.failed2 was (none_unkept a' b' old new asked p.history.begun Next Uncut answer p.kept p.closed e p.ends).1.1;
-    console = λ e. console_failed a' b' old new asked p.history.begun Next Uncut answer p.kept p.closed e p.ends;
-  }
-
-  passed : (a ≡ true → old.lost (DiskPart Ckpt1) ≡ false) → (b ≡ true → old.lost (DiskPart Ckpt2) ≡ false) → HavePassed told asked (status_of answer) from per old.now rest old.loses old new
-  passed there1 there2 = record {
-    did = p.did;
-    shaped = p.shaped;
-    are = p.are;
-    kept = p.kept;
-    closed = p.closed;
-    few = p.few;
-    history = p.history;
-    settled = λ ne. settled a' b' old new asked p.history.begun Next Uncut (λ none. inl none) answer p.kept p.closed ne p.ends;
-    uncut = λ ne. uncut a' b' old new asked p.history.begun Next Uncut (λ none. inl (inl none)) answer p.kept p.closed ne p.ends;
-    done = λ e. finished a' b' old new asked p.history.begun Next Uncut answer p.kept p.closed e p.ends;
-    unsaid = λ e. one_unsaid a' b' old new asked p.history.begun Next Uncut answer p.kept p.closed e p.ends;
-    unplayed = λ e. none_unplayed a' b' old new asked p.history.begun Next Uncut answer p.kept p.closed e p.ends;
-    unkept = λ e. (none_unkept a' b' old new asked p.history.begun Next Uncut answer p.kept p.closed e p.ends).0;
-    said = p.said;
-    loses = p.loses;
-    entry = old;
-    entered = (refl, goes_none old);
-    passed = p.passed;
-    there = λ ne. left_now old new a a' b b' there1 there2 p.course (not_lost answer (SomeAlive a' b' ⊎ HasLost old new) ne p.left);
-  }
-
 -- a copy that was there at a moment, with these pages, was so then whatever came later
-pub reads_there : (dev : Dev) (pages : List ℕ) (old new : View) → Goes old new → (disk_now old dev).lost ≡ false → form_reads (disk_now old dev).bytes ≡ Some pages → ReadsThere dev pages old.now new
+pub reads_there : (dev : Dev) (pages : List ℕ) (old new : View) → Proceeds old new → (disk_now old dev).lost ≡ false → form_reads (disk_now old dev).bytes ≡ Some pages → ReadsThere dev pages old.now new
 reads_there dev pages old new goes there reads =
     let same : disk_at new old.now dev ≡ disk_now old dev = ap (λ (w : World). w.disk dev) (goes.past old.now (le_refl old.now)) in
     (ap (λ (d : Disk). d.lost) same ∙ there, ap (λ (d : Disk). form_reads d.bytes) same ∙ reads)
+
+-- but for stops that were armed it went as acts go
+pub unarmed : (old new : View) → Proceeds old new → Goes old (record new { arms = old.arms })
+unarmed old new goes = record {
+  later = goes.later;
+  past = goes.past;
+  size = goes.size;
+  faults = goes.faults;
+  stops = goes.stops;
+  lost = goes.lost;
+  arms = λ m. refl;
+}
 
 -- what holds at each moment
 safe_of : (told : Type 0) (base : Queue) (journal : Journal) (since : ℕ) (new : View) → IsSound base → (told → ∥ Headline form_reads base since journal new ∥₁) → IsSafe told base journal since new
@@ -212,166 +125,226 @@ safe_of told base journal since new sound head = record {
   few = λ t. ∥∥₁_elim (head t) le_prop (λ h. h.few);
 }
 
--- what was played, from what its steps leave
-pub play_of_steps : {T : Type 0} (told : Type 0) (book : Book) (steps : List Step) (base : Queue) (front : List Batch) (journal : Journal) (since : ℕ) (old new : View) (a a' b b' : Bool) → IsSound base → (told → ∥ Headline form_reads base since journal new ∥₁)
-    → (a ≡ true → old.lost (DiskPart Ckpt1) ≡ false) → (b ≡ true → old.lost (DiskPart Ckpt2) ≡ false) → (answer : Result T NodeNo)
-    → HasPlay told (run base (kept_all front)) base.config book steps front journal.batches a a' b b' old new answer
-    → (seen : List Sight) × IsPlay told (turns_from base.config book seen steps) (status_of answer) base front journal since old new
-play_of_steps told book steps base front journal since old new a a' b b' sound head there1 there2 answer has = (
-  has.seen,
-  record {
-    rest = has.rest;
-    batches = has.batches_are;
-    played = passed told (turns_from base.config book has.seen steps) (run base (kept_all front)) base.config.groups has.rest old new a a' b b' answer has.played there1 there2;
-    volumes = has.played.volumes;
-    safe = safe_of told base journal since new sound head;
-  },
-)
+-- THE LINES, once they ended
 
--- THE STEPS OF A RUN
+failed_console : (old new : View) (result : Result (Unit {0}) NodeNo) → (result ≡ Err no_node.ConsoleFault → Rose (old.faults Console) (new.faults Console))
+    → status_of result ≡ status.ConsoleFault → Rose (old.faults Console) (new.faults Console)
+failed_console old new (Ok done) failed is = absurd (cc)
+failed_console old new (Err no_node.NoMemory) failed is = absurd (cc)
+failed_console old new (Err no_node.BothLost) failed is = absurd (cc)
+failed_console old new (Err no_node.ConsoleFault) failed is = failed refl
+failed_console old new (Err no_node.Halted) failed is = absurd (cc)
 
--- nothing stands in the journal
-pub none_kept : (now : ℕ) → AreAllKept [] now
-none_kept now = All-nil (λ (b : Batch). (b.fate ≡ Kept) × (b.last ≤ now))
+module _ {P C : Type 0} (plants : PlantGhosts P) where
+  abbrev v : Parts P C → View
+  v x = plants.view x.plant
+
+  both_lost : (x y : Parts P C) (result : Result (Unit {0}) NodeNo) → status_of result ≡ status.BothLost → LeavesSome plants x y result → IsBothLost y.first_alive y.second_alive
+  both_lost x y (Ok done) is left = absurd (cc)
+  both_lost x y (Err no_node.NoMemory) is left = absurd (cc)
+  both_lost x y (Err no_node.BothLost) is left = left
+  both_lost x y (Err no_node.ConsoleFault) is left = absurd (cc)
+  both_lost x y (Err no_node.Halted) is left = absurd (cc)
+
+  -- why the run ended, where both copies were lost or the console failed
+  pub caused_by_lines : (x y : Parts P C) (result : Result (Unit {0}) NodeNo) → KeepCopies plants x y result
+      → (result ≡ Err no_node.ConsoleFault → Rose ((v x).faults Console) ((v y).faults Console))
+      → (y.first_alive ≡ false → (v y).lost (DiskPart Ckpt1) ≡ true) → (y.second_alive ≡ false → (v y).lost (DiskPart Ckpt2) ≡ true)
+      → IsCausedFrom x.first_alive x.second_alive (status_of result) (v x) (v y)
+  caused_by_lines x y result keep failed lost1 lost2 = record {
+    lost = λ is. let both = both_lost x y result is keep.left in (lost1 both.0, lost2 both.1);
+    failed1 = λ is was. keep.failed1 was (both_lost x y result is keep.left).0;
+    failed2 = λ is was. keep.failed2 was (both_lost x y result is keep.left).1;
+    console = failed_console (v x) (v y) result failed;
+  }
+
+  some_left : (x y : Parts P C) (result : Result (Unit {0}) NodeNo) → status_of result ≢ status.BothLost → LeavesSome plants x y result
+      → IsLeft x.first_alive y.first_alive x.second_alive y.second_alive ⊎ HasLost (v x) (v y)
+  some_left x y (Ok done) other left = left
+  some_left x y (Err no_node.NoMemory) other left = left
+  some_left x y (Err no_node.BothLost) other left = absurd (other refl)
+  some_left x y (Err no_node.ConsoleFault) other left = left
+  some_left x y (Err no_node.Halted) other left = left
+
+  -- a copy is there, unless both are lost
+  pub there_after : (x y : Parts P C) (result : Result (Unit {0}) NodeNo) → KeepCopies plants x y result → SomeAlive x.first_alive x.second_alive
+      → (x.first_alive ≡ true → (v x).lost (DiskPart Ckpt1) ≡ false) → (x.second_alive ≡ true → (v x).lost (DiskPart Ckpt2) ≡ false)
+      → status_of result ≢ status.BothLost → (((v y).lost (DiskPart Ckpt1) ≡ false) ⊎ ((v y).lost (DiskPart Ckpt2) ≡ false)) ⊎ HasLost (v x) (v y)
+  there_after x y result keep some there1 there2 other = ⊎_elim
+      (λ (is : IsLeft x.first_alive y.first_alive x.second_alive y.second_alive).
+      inl (left y.first_alive y.second_alive (alive_on x.first_alive y.first_alive x.second_alive y.second_alive some is)
+      (λ is. keep.there1 is (there1 (keep.alive1 is))) (λ is. keep.there2 is (there2 (keep.alive2 is)))))
+      inr (some_left x y result other keep.left)
+
+-- THE LINES of a run, whose journal had these batches before them
+
+module _ (told : Type 0) (b : LinesBegun) (front : List Batch) (now : ℕ) (settled : AreSettled front now) where
+  abbrev from_there : Here
+  from_there = record { number = 1; scene = scene_of b.from; batches = front; view = b.view }
+
+  abbrev after : ℕ → There → LinesEnded
+  after many end = record { many = many; batches = drop (length front) end.batches; view = end.view; answer = status_of end.answer }
+
+  pub have_lines : (many : ℕ) (end : There) → Passed told from_there b.steps many end → (end.batches ≡ front ++ drop (length front) end.batches) × HavePassed told b (after many end)
+  have_lines many end p =
+      let out = passed_after told front now settled from_there p.given b.steps many end [] (sym (append-nil front)) p.are in
+      let same : out.0 ≡ drop (length front) end.batches = sym (drop-append_seam front out.0) ∙ ap (λ (bs : List Batch). drop (length front) bs) (sym out.1) in (
+        out.1 ∙ ap (λ (bs : List Batch). front ++ bs) same,
+        subst (λ (bs : List Batch). HavePassed told b (record { many = many; batches = bs; view = end.view; answer = status_of end.answer })) same
+            (have_passed told b p.given many out.0 end.view end.answer out.2),
+      )
+
+-- they begin where nothing was said or printed before them
+module _ (tells : Type 0) (b : LinesBegun) (e : LinesEnded) where
+  pub were_played : HavePassed ⊥ b e → (tells → HavePassed (Unit {0}) b e)
+      → (e.answer ≢ status.BothLost → ((e.view.lost (DiskPart Ckpt1) ≡ false) ⊎ (e.view.lost (DiskPart Ckpt2) ≡ false)) ⊎ HasLost b.view e.view)
+      → WerePlayed tells b e b.view.loses b.view
+  were_played bare told there = record {
+    entered = goes_none b.view;
+    lost_before = λ d. refl;
+    unsaid = λ t. refl;
+    dry = λ t m. refl;
+    bare = inr bare;
+    told = λ t. inr (told t);
+    there = there;
+  }
+
+-- what was played, from what its lines leave
+pub play_of_lines : (tells : Type 0) (steps : List Step) (base : Queue) (front : List Batch) (now : ℕ) (journal : Journal) (since : ℕ) (old new : View) (result : Result (Unit {0}) NodeNo) (many : ℕ)
+    → AreSettled front now → IsSound base → (tells → ∥ Headline form_reads base since journal new ∥₁)
+    → (status_of result ≢ status.BothLost → ((new.lost (DiskPart Ckpt1) ≡ false) ⊎ (new.lost (DiskPart Ckpt2) ≡ false)) ⊎ HasLost old new)
+    → Passed ⊥ (record { number = 1; scene = scene_of (run base (kept_all front)); batches = front; view = old }) steps many (record { batches = journal.batches; view = new; answer = result })
+    → (tells → Passed (Unit {0}) (record { number = 1; scene = scene_of (run base (kept_all front)); batches = front; view = old }) steps many (record { batches = journal.batches; view = new; answer = result }))
+    → IsPlay tells steps (status_of result) base front journal since old new
+play_of_lines tells steps base front now journal since old new result many settled sound head there bare told =
+    let b : LinesBegun = record { steps = steps; from = run base (kept_all front); view = old } in
+    let end : There = record { batches = journal.batches; view = new; answer = result } in
+    let one = have_lines ⊥ b front now settled many end bare in
+    record {
+      many = many;
+      rest = drop (length front) journal.batches;
+      batches = one.0;
+      played = were_played tells b (after ⊥ b front now settled many end) one.1 (λ t. (have_lines (Unit {0}) b front now settled many end (told t)).1) there;
+      safe = safe_of tells base journal since new sound head;
+    }
+
+-- THE LINES OF A RUN
 
 -- no byte of a volume changes before a run's first act
-volumes_at : (old new : View) → Goes old new → AreVolumesKeptUntil old.now old new
+pub volumes_at : (old new : View) → Proceeds old new → AreVolumesKeptUntil old.now old new
 volumes_at old new goes = kept_past old.now old old new (let le : old.now ≤ old.now = omega arith in le) goes (kept_none old)
 
--- a cold run begins with its steps
-pub cold_steps : (tells : Type 0) (asked : List Turn) (answer : Status) (base : Queue) (front : List Batch) (journal : Journal) (since : ℕ) (old new : View) → front ≡ [] → since ≡ old.now → Goes old new
-    → IsPlay tells asked answer base front journal since old new → HasSteps true tells asked answer base journal since old.loses old new
-cold_steps tells asked answer base front journal since old new none is goes p = record {
+-- a cold run begins with its lines
+pub cold_lines : (tells : Type 0) (steps : List Step) (answer : Status) (base : Queue) (front : List Batch) (journal : Journal) (since : ℕ) (old new : View) → front ≡ [] → since ≡ old.now → Proceeds old new
+    → IsPlay tells steps answer base front journal since old new → HasSteps true tells steps answer base journal since old.loses old new
+cold_lines tells steps answer base front journal since old new none is goes p = record {
   opening = front;
   rest = p.rest;
   batches = p.batches;
+  entry = old;
   at = old.now;
-  began = (omega (arith, is), goes.later);
+  began = (omega (arith, is), goes.later, refl);
+  many = p.many;
   played = p.played;
   opened = (none, sym is);
   before = λ t. volumes_at old new goes;
   dry = λ t. papers_at old new goes;
-  volumes = p.volumes;
   safe = p.safe;
 }
 
--- THE STEPS AS THE CALL HAS THEM, which began before the formatting or the start
+-- THE LINES AS THE CALL HAS THEM, which began before the formatting or the start
 
-module _ (entry old new : View) (goes : Goes entry old) (on : Goes old new) where
-  stopped_since : IsStopped old new → IsStopped entry new
-  stopped_since s = omega (arith, goes.stops sysa.0, s)
-
-  adds_since : (closed kept : List (List ℕ)) (failed : Type 0) → console_now old ≡ console_now entry → Adds closed kept (console_now old) (console_now new) failed (IsStopped old new) → Adds closed kept (console_now entry) (console_now new) failed (IsStopped entry new)
-  adds_since closed kept failed quiet adds = ⊎_elim (λ none. inl (none ∙ ap (λ (ls : List Line). ls ++ map whole closed) quiet))
-      (λ more. ⊎_elim (λ some. inr (inl (some.0, some.1, some.2, some.3 ∙ ap (λ (ls : List Line). ls ++ map whole (take some.0 kept)) quiet, some.4)))
-      (λ still. ⊎_elim (λ some. inr (inr (inl (some.0, some.1, some.2, some.3 ∙ ap (λ (ls : List Line). ls ++ map whole (take some.0 kept)) quiet, stopped_since some.4))))
-      (λ part. inr (inr (inr (part.0, part.1, part.2, part.3, part.4 ∙ ap (λ (ls : List Line). (ls ++ map whole (take part.0 kept)) ++ torn part.1 ∷ []) quiet, stopped_since part.5)))) still) more)
-      adds
-
-  passed_since : (tells : Type 0) (asked : List Turn) (answer : Status) (from : Queue) (per at : ℕ) (rest : List Batch) (first other : Dev → ℕ) → (tells → console_now old ≡ console_now entry) → ((d : Dev) → first d ≡ other d)
-      → HavePassed tells asked answer from per at rest first old new → HavePassed tells asked answer from per at rest other entry new
-  passed_since tells asked answer from per at rest first other quiet same p = record {
-    did = p.did;
-    shaped = p.shaped;
-    are = p.are;
-    kept = p.kept;
-    closed = p.closed;
-    few = p.few;
-    history = p.history;
-    settled = λ ne. ⊎_elim inl (λ s. inr (stopped_since s)) (p.settled ne);
-    uncut = p.uncut;
-    done = λ d. ⊎_elim inl (λ s. inr (stopped_since s)) (p.done d);
-    unsaid = p.unsaid;
-    unplayed = p.unplayed;
-    unkept = p.unkept;
-    said = λ t. adds_since (lines_in (take p.closed p.did)) (lines_in (take p.kept p.did)) (answer ≡ status.ConsoleFault) (quiet t) (p.said t);
-    loses = λ t d. p.loses t d ∙ ap (loses_after d (take p.kept asked)) (same d);
-    entry = p.entry;
-    entered = (p.entered.0, goes_on entry old p.entry goes p.entered.1);
-    passed = p.passed;
-    there = λ ne. ⊎_elim inl (λ lost. inr (⊎_elim (λ one. inl (subst (λ (n : ℕ). Rose n (new.loses Ckpt1)) (same Ckpt1) one)) (λ two. inr (subst (λ (n : ℕ). Rose n (new.loses Ckpt2)) (same Ckpt2) two)) lost)) (p.there ne);
+module _ (first : View) (b : LinesBegun) (e : LinesEnded) (old : View) (goes : Goes first old) where
+  played_since : (tells : Type 0) (was other : Dev → ℕ) → (tells → console_now old ≡ console_now first) → (tells → SamePapers first old) → ((d : Dev) → was d ≡ other d)
+      → WerePlayed tells b e was old → WerePlayed tells b e other first
+  played_since tells was other quiet papers same p = record {
+    entered = goes_on first old b.view goes p.entered;
+    lost_before = λ d. p.lost_before d ∙ same d;
+    unsaid = λ t. p.unsaid t ∙ quiet t;
+    dry = λ t m. p.dry t m ∙ papers t old.now goes.later (let here : old.now ≤ old.now = omega arith in here) m;
+    bare = p.bare;
+    told = p.told;
+    there = λ ne. ⊎_elim inl (λ lost. inr (⊎_elim
+        (λ one. inl (subst (λ (n : ℕ). Rose n (e.view.loses Ckpt1)) (same Ckpt1) one))
+        (λ two. inr (subst (λ (n : ℕ). Rose n (e.view.loses Ckpt2)) (same Ckpt2) two)) lost)) (p.there ne);
   }
 
-  pub steps_since : (cold : Bool) (tells : Type 0) (asked : List Turn) (answer : Status) (base : Queue) (journal : Journal) (since : ℕ) (first : Dev → ℕ) → (tells → console_now old ≡ console_now entry) → (tells → AreVolumesKept entry old) → (tells → SamePapers entry old)
-      → HasSteps cold tells asked answer base journal since first old new → HasSteps cold tells asked answer base journal since first entry new
-  unfolding passed_since
-  steps_since cold tells asked answer base journal since first quiet kept papers r = record {
+module _ (first old new : View) (goes : Goes first old) (on : Proceeds old new) where
+  pub steps_since : (cold : Bool) (tells : Type 0) (steps : List Step) (answer : Status) (base : Queue) (journal : Journal) (since : ℕ) (was : Dev → ℕ) → (tells → console_now old ≡ console_now first)
+      → (tells → AreVolumesKept first old) → (tells → SamePapers first old) → HasSteps cold tells steps answer base journal since was old new → HasSteps cold tells steps answer base journal since was first new
+  steps_since cold tells steps answer base journal since was quiet kept papers r = record {
     opening = r.opening;
     rest = r.rest;
     batches = r.batches;
+    entry = r.entry;
     at = r.at;
     began = r.began;
-    played = passed_since tells asked answer (run base (kept_all r.opening)) base.config.groups r.at r.rest first first quiet (λ d. refl) r.played;
+    many = r.many;
+    played = played_since first (record { steps = steps; from = run base (kept_all r.opening); view = r.entry }) (record { many = r.many; batches = r.rest; view = new; answer = answer }) old goes
+        tells was was quiet papers (λ d. refl) r.played;
     opened = r.opened;
-    before = λ t. kept_then r.at entry old new goes.later on (kept t) (r.before t);
-    dry = λ t. papers_then r.at entry old new goes.later on (papers t) (r.dry t);
-    volumes = λ t all. kept_then new.now entry old new goes.later on (kept t) (r.volumes t all);
+    before = λ t. kept_then r.at first old new goes.later on (kept t) (r.before t);
+    dry = λ t. papers_then r.at first old new goes.later on (papers t) (r.dry t);
     safe = r.safe;
   }
 
   -- what was played after Restart is what is played of a warm run
-  pub warm_steps : (tells : Type 0) (asked : List Turn) (answer : Status) (base : Queue) (b : Batch) (last : ℕ) (front : List Batch) (journal : Journal) (since : ℕ) → front ≡ fated Kept last b ∷ [] → IsRestart since b → b.first ≤ last → last ≤ old.now → since ≤ old.now
-      → ((d : Dev) → old.loses d ≡ entry.loses d) → (tells → console_now old ≡ console_now entry) → (tells → AreVolumesKept entry old) → (tells → SamePapers entry old)
-      → IsPlay tells asked answer base front journal since old new → HasSteps false tells asked answer base journal since entry.loses entry new
-  warm_steps tells asked answer base b last front journal since are is order past from same quiet kept papers p = record {
+  pub warm_lines : (tells : Type 0) (steps : List Step) (answer : Status) (base : Queue) (b : Batch) (last : ℕ) (front : List Batch) (journal : Journal) (since : ℕ) → front ≡ fated Kept last b ∷ [] → IsRestart since b → b.first ≤ last → last ≤ old.now → since ≤ old.now
+      → ((d : Dev) → old.loses d ≡ first.loses d) → (tells → console_now old ≡ console_now first) → (tells → AreVolumesKept first old) → (tells → SamePapers first old)
+      → IsPlay tells steps answer base front journal since old new → HasSteps false tells steps answer base journal since first.loses first new
+  warm_lines tells steps answer base b last front journal since are is order past from same quiet kept papers p = record {
     opening = front;
     rest = p.rest;
     batches = p.batches;
+    entry = old;
     at = old.now;
-    began = (from, on.later);
-    played = passed_since tells asked answer (run base (kept_all front)) base.config.groups old.now p.rest old.loses entry.loses quiet same p.played;
+    began = (from, on.later, refl);
+    many = p.many;
+    played = played_since first (record { steps = steps; from = run base (kept_all front); view = old }) (record { many = p.many; batches = p.rest; view = new; answer = answer }) old goes
+        tells old.loses first.loses quiet papers same p.played;
     opened = inl (fated Kept last b, are, record { by = is.by; entries = is.entries; began = is.began }, refl, order, past);
-    before = λ t. kept_past old.now entry old new (let le : old.now ≤ old.now = omega arith in le) on (kept t);
-    dry = λ t. papers_past old.now entry old new (let le : old.now ≤ old.now = omega arith in le) on (papers t);
-    volumes = λ t all. kept_then new.now entry old new goes.later on (kept t) (p.volumes t all);
+    before = λ t. kept_past old.now first old new (let le : old.now ≤ old.now = omega arith in le) on (kept t);
+    dry = λ t. papers_past old.now first old new (let le : old.now ≤ old.now = omega arith in le) on (papers t);
     safe = p.safe;
   }
 
--- a warm run in which Restart isn't kept plays no step
-pub reset_alone : (tells : Type 0) (asked : List Turn) (answer : Status) (base : Queue) (opening : List Batch) (journal : Journal) (since : ℕ) (old new : View) → IsSound base → journal.batches ≡ opening → since ≡ old.now → Goes old new → IsReset answer since new.now opening 0 []
-    → (answer ≢ status.Done) → (answer ≢ status.ConsoleFault) → ((d : Dev) → new.loses d ≡ old.loses d) → (tells → console_now new ≡ console_now old) → (tells → ∥ Headline form_reads base since journal new ∥₁)
-    → (answer ≢ status.BothLost → (new.lost (DiskPart Ckpt1) ≡ false) ⊎ (new.lost (DiskPart Ckpt2) ≡ false)) → ArePassed tells new new base.config.groups (run base (kept_all opening)) 1 0 [] asked (outcomes_of (run base (kept_all opening)) asked) → (tells → AreVolumesKept old new) → (tells → SamePapers old new)
-    → HasSteps false tells asked answer base journal since old.loses old new
-reset_alone tells asked answer base opening journal since old new sound are is goes reset not_done not_unsaid same quiet head there passed kept papers = record {
-  opening = opening;
-  rest = [];
-  batches = are ∙ sym (append-nil opening);
-  at = new.now;
-  began = (omega (arith, is, goes.later), omega arith);
-  played = record {
-    did = outcomes_of (run base (kept_all opening)) asked;
-    shaped = shapes_of (run base (kept_all opening)) 1 asked;
-    are = λ t. refl;
-    kept = 0;
-    closed = 0;
-    few = (omega arith, omega arith, omega arith);
-    history = record { front = []; begun = []; are = refl; between = new.now; moments = (omega arith, omega arith); are_kept = tt; next = inl (inl refl) };
-    settled = λ ne. inl (inl refl);
-    uncut = λ ne. inl (inl refl);
-    done = λ e. absurd (not_done e);
-    unsaid = λ e. absurd (not_unsaid e);
-    unplayed = λ e. inl refl;
-    unkept = λ e. inl refl;
-    said = λ t. inl (quiet t ∙ sym (append-nil (console_now old)));
-    loses = λ t. same;
-    entry = new;
-    entered = (refl, goes);
-    passed = passed;
-    there = λ ne. inl (there ne);
-  };
-  opened = reset;
-  before = kept;
-  dry = papers;
-  volumes = λ t all. kept t;
-  safe = safe_of tells base journal since new sound head;
-}
+-- a warm run in which Restart isn't kept plays no line
+pub reset_alone : (tells : Type 0) (steps : List Step) (answer : Status) (base : Queue) (opening : List Batch) (journal : Journal) (since : ℕ) (old new : View) → IsSound base → journal.batches ≡ opening → since ≡ old.now → Goes old new → IsReset answer since new.now opening 0 []
+    → (answer ≡ status.NoMemory) ⊎ (answer ≡ status.BothLost) → ((d : Dev) → new.loses d ≡ old.loses d) → (tells → console_now new ≡ console_now old) → (tells → ∥ Headline form_reads base since journal new ∥₁)
+    → (answer ≢ status.BothLost → (new.lost (DiskPart Ckpt1) ≡ false) ⊎ (new.lost (DiskPart Ckpt2) ≡ false)) → (tells → AreVolumesKept old new) → (tells → SamePapers old new)
+    → HasSteps false tells steps answer base journal since old.loses old new
+reset_alone tells steps answer base opening journal since old new sound are is goes reset why same quiet head there kept papers =
+    let none : NonePassed (record { steps = steps; from = run base (kept_all opening); view = new }) (record { many = 0; batches = []; view = new; answer = answer }) =
+    record { why = why; none = refl; empty = refl; still = refl } in
+    record {
+      opening = opening;
+      rest = [];
+      batches = are ∙ sym (append-nil opening);
+      entry = new;
+      at = new.now;
+      began = (omega (arith, is, goes.later), omega arith, refl);
+      many = 0;
+      played = record {
+        entered = goes;
+        lost_before = same;
+        unsaid = quiet;
+        dry = λ t m. papers t new.now goes.later (let here : new.now ≤ new.now = omega arith in here) m;
+        bare = inl none;
+        told = λ t. inl none;
+        there = λ ne. inl (there ne);
+      };
+      opened = reset;
+      before = kept;
+      dry = papers;
+      safe = safe_of tells base journal since new sound head;
+    }
 
 -- how both copies were lost: in the formatting, or later
-pub caused_since : (by : ℕ) (a b stopped : Bool) (answer : Status) (entry old new : View) → PairActed by true a true b stopped entry old → Goes old new → ((d : Dev) → Grows (old.loses d) (new.loses d)) → IsCausedFrom a b answer old new → IsCaused answer entry new
+pub caused_since : (by : ℕ) (a b stopped : Bool) (answer : Status) (entry old new : View) → PairActed by true a true b stopped entry old → Proceeds old new → ((d : Dev) → Grows (old.loses d) (new.loses d)) → IsCausedFrom a b answer old new → IsCaused answer entry new
 caused_since by a b stopped answer entry old new formed goes grow caused = record {
   lost = caused.lost;
-  failed1 = λ d. by_copy a (λ is. lost_later Ckpt1 entry old new formed.goes (inl (formed.loses Ckpt1)) (caused.failed1 d is)) (λ not. lost_more Ckpt1 entry old new (inl (formed.failed1 refl not)) goes (grow Ckpt1));
-  failed2 = λ d. by_copy b (λ is. lost_later Ckpt2 entry old new formed.goes (inl (formed.loses Ckpt2)) (caused.failed2 d is)) (λ not. lost_more Ckpt2 entry old new (inl (formed.failed2 refl not)) goes (grow Ckpt2));
+  failed1 = λ d. by_copy a (λ is. lost_after Ckpt1 entry old new (proceeds_of entry old formed.goes) (inl (formed.loses Ckpt1)) (caused.failed1 d is)) (λ not. lost_before Ckpt1 entry old new (inl (formed.failed1 refl not)) goes (grow Ckpt1));
+  failed2 = λ d. by_copy b (λ is. lost_after Ckpt2 entry old new (proceeds_of entry old formed.goes) (inl (formed.loses Ckpt2)) (caused.failed2 d is)) (λ not. lost_before Ckpt2 entry old new (inl (formed.failed2 refl not)) goes (grow Ckpt2));
   console = λ d. omega (arith, formed.goes.faults Console, caused.console d);
 } where
   by_copy : {A : Type 0} (x : Bool) → (x ≡ true → A) → (x ≡ false → A) → A
@@ -399,7 +372,7 @@ pub formed_copy : (base : Queue) (now : ℕ) (rests : List ℕ → Disk → Type
 formed_copy base now rests holds alive disk pages rested gone = record { at = rested; gone = gone }
 
 -- what the images of a copy read as later
-pub formed_images : (dev : Dev) (rests : List ℕ → Disk → Type 0) (pages : List ℕ) (alive : Bool) (v w : View) → Goes v w → ((d : Disk) → rests pages d → AllRead form_reads pages d)
+pub formed_images : (dev : Dev) (rests : List ℕ → Disk → Type 0) (pages : List ℕ) (alive : Bool) (v w : View) → Proceeds v w → ((d : Disk) → rests pages d → AllRead form_reads pages d)
     → (alive ≡ true → rests pages (disk_now v dev)) → (alive ≡ false → v.now < top → (disk_now v dev).lost ≡ true) → v.now < top → AllRead form_reads pages (disk_at w v.now dev)
 formed_images dev rests pages alive v w goes read rested gone lt =
     let le : v.now ≤ v.now = omega arith in
@@ -459,20 +432,33 @@ by_alive : {A : Type 0} (x : Bool) → (x ≡ true → A) → (x ≡ false → A
 by_alive true f g = f refl
 by_alive false f g = g refl
 
-pub caused_through : (a a' c c' : Bool) (answer : Status) (v0 v1 v2 : View) → Course a a' c c' v0 v1 → Goes v1 v2 → ((d : Dev) → Grows (v1.loses d) (v2.loses d)) → IsCausedFrom a' c' answer v1 v2 → IsCausedFrom a c answer v0 v2
+pub caused_through : (a a' c c' : Bool) (answer : Status) (v0 v1 v2 : View) → Course a a' c c' v0 v1 → Proceeds v1 v2 → ((d : Dev) → Grows (v1.loses d) (v2.loses d)) → IsCausedFrom a' c' answer v1 v2 → IsCausedFrom a c answer v0 v2
 caused_through a a' c c' answer v0 v1 v2 course goes grow caused = record {
   lost = caused.lost;
-  failed1 = λ e was. by_alive a' (λ is. lost_later Ckpt1 v0 v1 v2 course.goes (course.grow Ckpt1) (caused.failed1 e is)) (λ not. lost_more Ckpt1 v0 v1 v2 (course.failed1 was not) goes (grow Ckpt1));
-  failed2 = λ e was. by_alive c' (λ is. lost_later Ckpt2 v0 v1 v2 course.goes (course.grow Ckpt2) (caused.failed2 e is)) (λ not. lost_more Ckpt2 v0 v1 v2 (course.failed2 was not) goes (grow Ckpt2));
+  failed1 = λ e was. by_alive a' (λ is. lost_after Ckpt1 v0 v1 v2 (proceeds_of v0 v1 course.goes) (course.grow Ckpt1) (caused.failed1 e is)) (λ not. lost_before Ckpt1 v0 v1 v2 (course.failed1 was not) goes (grow Ckpt1));
+  failed2 = λ e was. by_alive c' (λ is. lost_after Ckpt2 v0 v1 v2 (proceeds_of v0 v1 course.goes) (course.grow Ckpt2) (caused.failed2 e is)) (λ not. lost_before Ckpt2 v0 v1 v2 (course.failed2 was not) goes (grow Ckpt2));
   console = λ e. omega (arith, course.goes.faults Console, caused.console e);
 }
 
--- a run without steps leaves the volumes
+-- A SCRIPT WITHOUT LINES leaves the volumes as they are
+
+stepless_run : (cold : Bool) (tells : Type 0) (script : Script) (answer : Status) (base : Queue) (journal : Journal) (since : ℕ) (old new : View) → script.steps ≡ [] → IsRun cold tells script answer base journal since old new → tells → AreVolumesKept old new
+stepless_run cold tells script answer base journal since old new none r t =
+    let s = r.steps in
+    let b : LinesBegun = record { steps = script.steps; from = run base (kept_all s.opening); view = s.entry } in
+    let e : LinesEnded = record { many = s.many; batches = s.rest; view = new; answer = answer } in
+    ⊎_elim
+    (λ (p : NonePassed b e). subst (λ (n : ℕ). AreVolumesKeptUntil n old new) (sym s.began.2 ∙ ap (λ (v : View). v.now) (sym p.still)) (s.before t))
+    (λ (p : HavePassed (Unit {0}) b e).
+    let goes = passed_goes (Unit {0}) (starts b) p.given b.steps e.many (stops e p.result) p.passed in
+    let first : AreVolumesKept old s.entry = λ at from le n. subst (λ (w : World). NoMore (disk_now old (Spool n)) (w.disk (Spool n))) (goes.past at le) (s.before t at from (omega (arith, le, s.began.2)) n) in
+    kept_then new.now old s.entry new s.played.entered.later goes first
+    (p.volumes tt (subst (λ (steps : List Step). LeaveVolumes (scene_of b.from) 1 p.given steps) (sym none) tt)))
+    (s.played.told t)
+
 pub stepless_kept : (cold : Bool) (tells : Type 0) (script : Script) (answer : Status) (base : Queue) (journal : Journal) (since : ℕ) (old new : View) → script.steps ≡ [] → (tells → has_begun base ≡ false → AreVolumesKept old new)
     → (has_begun base ≡ true → IsRun cold tells script answer base journal since old new) → tells → AreVolumesKept old new
-stepless_kept cold tells script answer base journal since old new none unbegun run t = by_begun (has_begun base) refl where
+stepless_kept cold tells script answer base journal since old new none unbegun ran t = by_begun (has_begun base) refl where
   by_begun : (begun : Bool) → has_begun base ≡ begun → AreVolumesKept old new
   by_begun false is = unbegun t is
-  by_begun true is =
-      let r = run is in
-      r.steps.volumes t (subst (λ (steps : List Step). All LeavesVolumes (turns_of base.config r.seen steps)) (sym none) (All-nil LeavesVolumes))
+  by_begun true is = stepless_run cold tells script answer base journal since old new none (ran is) t

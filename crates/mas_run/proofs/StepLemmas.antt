@@ -1,690 +1,282 @@
--- A step, from what the member's call says.
-use Rattle.std.proofs.Common.{◌≡◌, ◌≢◌, ◌≤◌, inl, inr, ⊎_elim, ℕ, ◌==◌, if◌then◌else◌, Bool, true, false, List, [], ◌∷◌, ◌++◌, length, Option, Result, Ok, Err, refl, sym, ◌∙◌, ap, subst, arith, append-nil, eq-eqb, eqb-true}
-use Rattle.std.proofs.lemmas.List.{append_cancel_left, length-append}
-use Rattle.mas_types.specs.declared.answers.Closing.{Closing}
-use Rattle.mas_types.specs.declared.commands.Command.{Command}
-use Rattle.mas_types.specs.declared.commands.Reply.{Reply}
-use Rattle.mas_types.specs.declared.ids.Dev.{Dev}
-use Rattle.mas_types.specs.declared.ids.Dev.TheVariants.{Ckpt1, Ckpt2, Spool}
-use Rattle.mas_types.specs.declared.jobs.JobFields.{JobFields}
+-- A step of a member that has the lock, from what its driver says: the pieces that it gave, and where it was cut.
+use Rattle.std.proofs.Common.{◌≡◌, ◌⊎◌, inl, inr, ℕ, ◌≤◌, true, List, [], ◌∷◌, ◌++◌, take, Option, Some, None, Result, Ok, Err, IfErr, OnOk, refl, sym, ◌∙◌, ap, subst, arith, Bool, false}
+use Rattle.mas_types.specs.declared.ids.MemberId.{MemberId}
 use Rattle.mas_types.specs.declared.journals.Batch.{Batch}
-use Rattle.mas_types.specs.declared.journals.Entry.{Entry}
 use Rattle.mas_types.specs.declared.journals.Fate.{Fate}
-use Rattle.mas_types.specs.declared.journals.Fate.TheVariants.{Kept, Flying}
+use Rattle.mas_types.specs.declared.journals.Fate.TheVariants.{Dropped, Flying, Kept}
 use Rattle.mas_types.specs.declared.queues.Queue.{Queue}
-use Rattle.mas_types.specs.Closings.{closing_line, reply_lines}
-use Rattle.script_input.specs.Played.{sysa}
-use Rattle.lock_cycle.specs.declared.answers.LockNo.{LockNo}
-use Rattle.spool_disk.specs.declared.plant.Part.TheVariants.{Disk}
-use Rattle.spool_disk.specs.View.{View, Line}
-use Rattle.spool_disk.specs.Acts.{Loses, next}
-use Rattle.mas_complex.specs.Journals.{begun, fated}
-use Rattle.member_decks.specs.Batches.{AreAll, HasAll, OneFlies}
-use Rattle.member_decks.specs.Decks.{deck_batches, deck_lines}
-use Rattle.member_decks.specs.Steps.{IsDeckStep}
-use Rattle.member_work.specs.Looks.{Look}
-use Rattle.member_work.specs.Steps.{IsWorkStep, WorkLeaves}
-use Rattle.member_work.specs.Work.{work_batches, work_lines}
+use Rattle.script_lang.specs.declared.types.Step.{Step}
+use Rattle.lock_cycle.specs.Books.{is_stopped}
+use Rattle.spool_disk.specs.declared.plant.Part.TheVariants.{Console}
+use Rattle.spool_disk.specs.declared.plant.Plant.{Ghosts as PlantGhosts}
+use Rattle.spool_disk.specs.View.{Line, View, paper_now}
+use Rattle.spool_disk.specs.Acts.{Goes, Rose}
+use Rattle.ckpt_copy.specs.declared.copying.Copying.{Ghosts as CopyGhosts}
+use Rattle.ckpt_copy.specs.Moments.{goes_on, goes_none}
+use Rattle.mas_complex.specs.Paper.{SamePapers, counts_of}
+use Rattle.mas_complex.specs.Parts.{Parts}
+use Rattle.member_hand.specs.Cuts.{AreBatched, AtCut, IsBatched, IsBroken, IsCutBy as IsCutIn, IsTight, whole_pieces}
+use Rattle.member_hand.specs.Found.{AreFoundIn, waits_in}
+use Rattle.member_hand.specs.Plays.{HasActedIn, HasCut, HasPlayed, HasToldStep, IfCommand, Writes, left_of, play_in}
+use Rattle.member_node.proofs.CourseLemmas.{papers_on, rose_later, papers_none}
+use Rattle.member_node.proofs.SpareLemmas.{spares_then, spares_none}
 use Rattle.member_node.specs.declared.member.NodeNo.{NodeNo}
-use Rattle.member_node.specs.declared.member.NodeNo.TheVariants as no_node
-use Rattle.member_node.specs.Calls.{Course, Grows, console_now}
-use Rattle.member_node.specs.Writes.{HasKept, HasFlying}
-use Rattle.duplex_pair.specs.Halves.{IsCkpt, other, pick}
-use Rattle.mas_complex.specs.Elsewhere.{Elsewhere}
-use Rattle.mas_complex.specs.Paper.{SamePapers}
-use Rattle.member_node.proofs.CourseLemmas.{apart_first, apart_second, course_first, course_none, course_second, papers_none}
-use Rattle.member_steps.specs.Locked.{IsDenial, denied_lines}
-use Rattle.member_steps.specs.Steps.{GivesStep, StepTells, entry_with}
-use Rattle.mas_run.specs.Steps.{FindsLost, IsOutcome, LeavesVolumes, Outcome, loses_after_step, outcome_of}
-use Rattle.mas_run.specs.Stops.{IsLeftOrLost, IsStepOf, TurnLeaves}
-use Rattle.mas_run.specs.Turns.{Task, Reads, Gives, Works, Turn, Granted, Denied, Closed, Loss}
+use Rattle.member_node.specs.Calls.{console_now}
+use Rattle.member_node.specs.Spares.{Spares, stopped_in}
+use Rattle.member_sittings.specs.Sat.{journal_of, begins}
+use Rattle.member_sittings.specs.Tight.{IfNoWork}
+use Rattle.member_sittings.specs.Whole.{queue_of}
+use Rattle.member_steps.specs.Steps.{StepCauses}
+use Rattle.step_turns.specs.declared.states.Holder.{Holder}
+use Rattle.run_turns.specs.Admissions.{Admission, Plays, tried}
+use Rattle.run_turns.specs.Cuts.{Left, left_by}
+use Rattle.run_turns.specs.Givens.{ArePiecesOf, queue_met}
+use Rattle.run_turns.specs.Pieces.{Piece, Play, fate_found, holder_of, once_found, pieces_from, task_pieces}
+use Rattle.run_turns.specs.Scenes.{Batched, Scene}
+use Rattle.run_turns.specs.Sights.{Cut, Halt, Sight, clear}
+use Rattle.mas_run.specs.Histories.{settle}
+use Rattle.mas_run.specs.Lines.{AdmissionLeaves, IfIdle, LosesAs, PrintsNone, is_takeover, is_work, Proceeds}
+use Rattle.mas_run.specs.LinesAt.{LineAt, pieces_as, play_as}
+use Rattle.mas_run.specs.LinesLeft.{HasLeftAs, IfRuns, IsCutBy, ended_as, left_as}
+use Rattle.mas_run.specs.Shapes.{IsShapedAs, IsTaskShaped}
 use Rattle.mas_run.specs.Volumes.{AreVolumesKept}
-use Rattle.mas_run.proofs.PlayLemmas.{shape_of}
+use Rattle.mas_run.proofs.ErasedLemmas.{erased, left_alike, left_same}
+use Rattle.mas_run.proofs.PassedLemmas.{kept_later, proceeds_of}
+use Rattle.mas_run.proofs.StopLemmas.{loses_on}
+use Rattle.step_turns.specs.Courses.{task_most}
+use Rattle.step_turns.specs.declared.states.Grant.{Grant}
+use Rattle.step_turns.specs.declared.states.State.TheVariants.{Fresh}
+use Rattle.step_turns.specs.declared.states.Task.{Task}
+use Rattle.step_turns.specs.declared.states.Task.TheVariants.{Deck, Give, Work}
+use Rattle.step_turns.specs.Sittings.{Sitting}
+use Rattle.mas_run.proofs.LinesLemmas.{settle_none}
 use Rattle.mas_run.proofs.VolumeLemmas.{kept_none, kept_on}
+use Rattle.member_node.specs.declared.member.NodeNo.TheVariants as no_node
 
--- HOW OFTEN A DEVICE WAS LOST
+-- BATCHES that were begun since a moment were so since an earlier one
 
-pub granted_counts : (d : Dev) (task : Task) (n : ℕ) → loses_after_step d (Granted task) n ≡ n
-granted_counts Ckpt1 task n = refl
-granted_counts Ckpt2 task n = refl
-granted_counts (Spool v) task n = refl
+stands_since : (f : Fate) (by : MemberId) (x : Batched) (early from now : ℕ) (b : Batch) → early ≤ from → IsBatched f by x from now b → IsBatched f by x early now b
+stands_since Kept by x early from now b le is =
+    record { by_it = is.by_it; entries = is.entries; kept = is.kept; moments = (omega (arith, is.moments.0, le), is.moments.1, is.moments.2) }
+stands_since Flying by x early from now b le is =
+    record { by_it = is.by_it; entries = is.entries; flies = is.flies; moments = (omega (arith, is.moments.0, le), is.moments.1, is.moments.2) }
+stands_since Dropped by x early from now b le is = absurd is
 
-pub denied_counts : (d : Dev) (why : LockNo) (n : ℕ) → loses_after_step d (Denied why) n ≡ n
-denied_counts Ckpt1 why n = refl
-denied_counts Ckpt2 why n = refl
-denied_counts (Spool v) why n = refl
+pub batched_since : (by : MemberId) (early from now : ℕ) (xs : List Batched) (bs : List Batch) → early ≤ from → AreBatched by from now xs bs → AreBatched by early now xs bs
+batched_since by early from now [] [] le are = tt
+batched_since by early from now [] (b ∷ bs) le are = absurd are
+batched_since by early from now (x ∷ xs) [] le are = absurd are
+batched_since by early from now (x ∷ xs) (b ∷ bs) le are = (stands_since x.fate by x early from now b le are.0, are.1)
 
-pub closed_counts : (d : Dev) (end : Closing) (n : ℕ) → loses_after_step d (Closed end) n ≡ n
-closed_counts Ckpt1 end n = refl
-closed_counts Ckpt2 end n = refl
-closed_counts (Spool v) end n = refl
+-- WHERE IT WAS CUT, and why
 
-other_volume : (n v : ℕ) → (n ≡ v → ⊥) → Disk (Spool n) ≢ Disk (Spool v)
-other_volume n v ne e = ne (cc)
+cut_there : (r : Result (Unit {0}) NodeNo) (ps : List Piece) (cut : Option Cut) → IsCutIn r ps cut → IsCutBy r ps cut
+cut_there (Ok done) ps cut is = is
+cut_there (Err e) ps None is = absurd is
+cut_there (Err e) ps (Some cut) is = record { there = inl is.there; halt = is.halt; cause = is.cause }
 
-volume_counts : (n v : ℕ) (old new : View) → Loses (Disk (Spool v)) old new → (same : Bool) → (n == v) ≡ same → new.loses (Spool n) ≡ (if n == v then next (old.loses (Spool n)) else old.loses (Spool n))
-volume_counts n v old new loses true e =
-    let is : n ≡ v = eqb-true n v e in
-    loses.counted (Spool n) (ap (λ (k : ℕ). Disk (Spool k)) is) ∙ sym (ap (λ (b : Bool). if b then next (old.loses (Spool n)) else old.loses (Spool n)) e)
-volume_counts n v old new loses false e =
-    loses.else_counted (Spool n) (other_volume n v (λ is. clash (sym e ∙ eq-eqb n v is))) ∙ sym (ap (λ (b : Bool). if b then next (old.loses (Spool n)) else old.loses (Spool n)) e)
-  where
-    clash : false ≡ true → ⊥
-    clash c = absurd (cc)
+module _ (by : ℕ) (a a' b b' : Bool) (old new : View) (r : Result (Unit {0}) NodeNo) (cause : StepCauses r by a a' b b' old new) where
+  cause_stops : r ≡ Err no_node.Halted → Rose (old.stops by) (new.stops by)
+  cause_stops is = (subst (λ (q : Result (Unit {0}) NodeNo). StepCauses q by a a' b b' old new) is cause).1
 
-pub loss_counts : (dev d : Dev) (old new : View) → Loses (Disk dev) old new → new.loses d ≡ loses_after_step d (Loss dev) (old.loses d)
-loss_counts Ckpt1 Ckpt1 old new loses = loses.counted Ckpt1 refl
-loss_counts Ckpt1 Ckpt2 old new loses = loses.else_counted Ckpt2 (λ e. absurd (cc))
-loss_counts Ckpt1 (Spool n) old new loses = loses.else_counted (Spool n) (λ e. absurd (cc))
-loss_counts Ckpt2 Ckpt1 old new loses = loses.else_counted Ckpt1 (λ e. absurd (cc))
-loss_counts Ckpt2 Ckpt2 old new loses = loses.counted Ckpt2 refl
-loss_counts Ckpt2 (Spool n) old new loses = loses.else_counted (Spool n) (λ e. absurd (cc))
-loss_counts (Spool v) Ckpt1 old new loses = loses.else_counted Ckpt1 (λ e. absurd (cc))
-loss_counts (Spool v) Ckpt2 old new loses = loses.else_counted Ckpt2 (λ e. absurd (cc))
-loss_counts (Spool v) (Spool n) old new loses = volume_counts n v old new loses (n == v) refl
+  cause_fails : r ≡ Err no_node.ConsoleFault → Rose (old.faults Console) (new.faults Console)
+  cause_fails is = (subst (λ (q : Result (Unit {0}) NodeNo). StepCauses q by a a' b b' old new) is cause).1
 
--- A COMMAND
+if_runs : (r : Result (Unit {0}) NodeNo) (P : Type 0) → P → IfRuns r P
+if_runs (Ok done) P p = p
+if_runs (Err no_node.Halted) P p = p
+if_runs (Err no_node.BothLost) P p = tt
+if_runs (Err no_node.ConsoleFault) P p = tt
+if_runs (Err no_node.NoMemory) P p = tt
 
-tells_as : {T : Type 0} (result : Result T NodeNo) (lines : List (List ℕ)) (A B : Type 0) (was now : List Line) → (A → B) → StepTells result lines A was now → StepTells result lines B was now
-tells_as (Ok done) lines A B was now f t = t
-tells_as (Err no_node.NoMemory) lines A B was now f t = t
-tells_as (Err no_node.BothLost) lines A B was now f t = t
-tells_as (Err no_node.ConsoleFault) lines A B was now f t = t
-tells_as (Err no_node.Halted) lines A B was now f t = ⊎_elim inl (λ more. inr (f more.0, more.1, more.2, more.3)) t
+-- BEFORE THE STEP: nothing, or a takeover, which found this of a batch in flight at a moment
 
--- the fate of the last batch
-abbrev last_fate : List Batch → Fate
-last_fate [] = Kept
-last_fate (b ∷ []) = b.fate
-last_fate (b ∷ next ∷ bs) = last_fate (next ∷ bs)
+pub record ComesTo {P C : Type 0} (plants : PlantGhosts P) (told : Type 0) (by : ℕ) (takes : Bool) (found : Fate) (at : ℕ) (x mid : Parts P C) : Type 0 where
+  pub goes : Goes (plants.view x.plant) (plants.view mid.plant)
+  pub moment : ((plants.view x.plant).now ≤ at) × (at ≤ (plants.view mid.plant).now)
+  pub spares : Spares by false (plants.view x.plant) (plants.view mid.plant)
+  pub journal : mid.batches ≡ settle found at (journal_of x)
+  pub printed : mid.printed ≡ x.printed
+  pub console : told → console_now (plants.view mid.plant) ≡ console_now (plants.view x.plant)
+  pub papers : told → SamePapers (plants.view x.plant) (plants.view mid.plant)
+  pub loses : told → LosesAs takes None (plants.view x.plant) (plants.view mid.plant)
+  pub volumes : told → AreVolumesKept (plants.view x.plant) (plants.view mid.plant)
 
-last_fate_is : (front : List Batch) (b : Batch) → last_fate (front ++ b ∷ []) ≡ b.fate
-last_fate_is [] b = refl
-last_fate_is (a ∷ []) b = refl
-last_fate_is (a ∷ next ∷ bs) b = last_fate_is (next ∷ bs) b
-
-not_both : (front batches : List Batch) (b : Batch) (now : ℕ) → b.fate ≡ Flying → HasFlying front batches b → HasKept front batches b now → ⊥
-not_both front batches b now flies flying k =
-    let same : Flying ≡ Kept = sym flies ∙ sym (last_fate_is front b) ∙ ap last_fate (sym flying ∙ k.3) ∙ last_fate_is front (fated Kept k.0 b) in
-    absurd (cc)
-
--- one batch more isn't none
-one_more : (front batches : List Batch) (b : Batch) (now : ℕ) → batches ≡ front → HasKept front batches b now → ⊥
-one_more front batches b now none k =
-    let same = ap length (sym none ∙ k.3) ∙ length-append front (fated Kept k.0 b ∷ []) in
-    absurd (omega (arith, same))
-
-module _ (told : Type 0) (given : Command) (Q : Queue) (per at : ℕ) (front batches : List Batch) (a a' b b' : Bool) (v v' : View) where
-  abbrev Given : {T : Type 0} → Result T NodeNo → Type 0
-  Given result = GivesStep told sysa at given Q front batches a a' b b' v v' result
-
-  abbrev GivenPlays : {T : Type 0} → Result T NodeNo → Type 0
-  GivenPlays result = IsStepOf told (Granted (Gives given)) Q per at front batches a a' b b' v v' result
-
-  abbrev its_entries : Reply → List Entry
-  its_entries r = entry_with sysa at given r ∷ []
-
-  abbrev its_did : Reply → Outcome
-  its_did r = record { batches = its_entries r ∷ []; lines = reply_lines sysa at r }
-
-  module _ (r : Reply) (first : ℕ) (later : (v.now ≤ first) × (first ≤ v'.now)) where
-    abbrev its_batch : Batch
-    its_batch = begun first sysa (its_entries r)
-
-    kept_now : (last : ℕ) → first ≤ last → last ≤ v'.now → AreAll sysa v.now v'.now (its_entries r ∷ []) (fated Kept last its_batch ∷ [])
-    kept_now last one two = (record { by_it = refl; entries = refl; kept = refl; moments = (later.0, one, two) }, tt)
-
-    flies_now : OneFlies sysa v.now v'.now (its_entries r ∷ []) (its_batch ∷ [])
-    flies_now = inl (refl, (its_entries r, (omega arith, ([], sym (append-nil (its_entries r)))), record { by_it = refl; entries = refl; flies = refl; moments = (later.0, later.1, refl) }))
-
-  given_done : {T : Type 0} (done : T) → Given (Ok done) → GivenPlays (Ok done)
-  given_done done g = record {
-    course = g.step.course;
-    cause = inl g.step.cause;
-    did = its_did g.reply;
-    shaped = (g.reply, refl, refl);
-    is = λ t. ap its_did (g.is t);
-    loses = λ t d. g.step.loses t d ∙ sym (granted_counts d (Gives given) (v.loses d));
-    more = fated Kept g.step.journal.0 (its_batch g.reply g.first g.later) ∷ [];
-    are = g.step.journal.3;
-    leaves = kept_now g.reply g.first g.later g.step.journal.0 g.step.journal.1 g.step.journal.2;
-    found = tt;
-    volumes = λ t none. kept_on v v' (g.step.others t);
-    papers = λ t none. g.step.papers t;
-    console = g.step.console;
-  }
-
-  given_unplayed : {T : Type 0} → Given {T = T} (Err no_node.NoMemory) → GivenPlays {T = T} (Err no_node.NoMemory)
-  given_unplayed g = record {
-    course = g.step.course;
-    cause = inl g.step.cause;
-    did = its_did g.reply;
-    shaped = (g.reply, refl, refl);
-    is = λ t. ap its_did (g.is t);
-    loses = λ t d. (g.step.loses t d, granted_counts d (Gives given) (v.loses d));
-    more = [];
-    are = g.step.journal ∙ sym (append-nil front);
-    leaves = inl (inl refl);
-    found = tt;
-    volumes = λ t none. kept_on v v' (g.step.others t);
-    papers = λ t none. g.step.papers t;
-    console = g.step.console;
-  }
-
-  -- the batch is in flight, or isn't begun
-  given_lost : {T : Type 0} → Given {T = T} (Err no_node.BothLost) → GivenPlays {T = T} (Err no_node.BothLost)
-  given_lost {T = T} g = ⊎_elim none flies g.step.journal where
-    none : batches ≡ front → GivenPlays {T = T} (Err no_node.BothLost)
-    none are = record {
-      course = g.step.course;
-      cause = g.step.cause;
-      did = its_did g.reply;
-      shaped = (g.reply, refl, refl);
-      is = λ t. ap its_did (g.is t);
-      loses = λ t d. (g.step.loses t d, granted_counts d (Gives given) (v.loses d));
-      more = [];
-      are = are ∙ sym (append-nil front);
-      leaves = inl tt;
-      found = tt;
-      volumes = λ t quiet. kept_on v v' (g.step.others t);
-      papers = λ t none. g.step.papers t;
-      console = g.step.console;
-    }
-
-    flies : HasFlying front batches (its_batch g.reply g.first g.later) → GivenPlays {T = T} (Err no_node.BothLost)
-    flies are = record {
-      course = g.step.course;
-      cause = g.step.cause;
-      did = its_did g.reply;
-      shaped = (g.reply, refl, refl);
-      is = λ t. ap its_did (g.is t);
-      loses = λ t d. (g.step.loses t d, granted_counts d (Gives given) (v.loses d));
-      more = its_batch g.reply g.first g.later ∷ [];
-      are = are;
-      leaves = inr (inl (flies_now g.reply g.first g.later));
-      found = tt;
-      volumes = λ t quiet. kept_on v v' (g.step.others t);
-      papers = λ t none. g.step.papers t;
-      console = g.step.console;
-    }
-
-  given_unsaid : {T : Type 0} → Given {T = T} (Err no_node.ConsoleFault) → GivenPlays {T = T} (Err no_node.ConsoleFault)
-  given_unsaid g = record {
-    course = g.step.course;
-    cause = (inl g.step.cause.0, g.step.cause.1);
-    did = its_did g.reply;
-    shaped = (g.reply, refl, refl);
-    is = λ t. ap its_did (g.is t);
-    loses = λ t d. (g.step.loses t d, granted_counts d (Gives given) (v.loses d));
-    more = fated Kept g.step.journal.0 (its_batch g.reply g.first g.later) ∷ [];
-    are = g.step.journal.3;
-    leaves = kept_now g.reply g.first g.later g.step.journal.0 g.step.journal.1 g.step.journal.2;
-    found = tt;
-    volumes = λ t none. kept_on v v' (g.step.others t);
-    papers = λ t none. g.step.papers t;
-    console = g.step.console;
-  }
-
-  -- the batch isn't begun, is in flight, or is kept
-  given_stopped : {T : Type 0} → Given {T = T} (Err no_node.Halted) → GivenPlays {T = T} (Err no_node.Halted)
-  given_stopped {T = T} g = ⊎_elim none (λ others. ⊎_elim flies kept others) g.step.journal where
-    tells_it : (more : List Batch) → (HasKept front batches (its_batch g.reply g.first g.later) v'.now → AreAll sysa v.now v'.now (its_entries g.reply ∷ []) more) → told
-        → StepTells {T = T} (Err no_node.Halted) (reply_lines sysa at g.reply) (AreAll sysa v.now v'.now (its_entries g.reply ∷ []) more) (console_now v) (console_now v')
-    tells_it more f t = tells_as (let r : Result T NodeNo = Err no_node.Halted in r) (reply_lines sysa at g.reply) (HasKept front batches (its_batch g.reply g.first g.later) v'.now) (AreAll sysa v.now v'.now (its_entries g.reply ∷ []) more) (console_now v) (console_now v') f (g.step.console t)
-
-    none : batches ≡ front → GivenPlays {T = T} (Err no_node.Halted)
-    none are = record {
-      course = g.step.course;
-      cause = (inl g.step.cause.0, g.step.cause.1);
-      did = its_did g.reply;
-      shaped = (g.reply, refl, refl);
-      is = λ t. ap its_did (g.is t);
-      loses = λ t d. (g.step.loses t d, granted_counts d (Gives given) (v.loses d));
-      more = [];
-      are = are ∙ sym (append-nil front);
-      leaves = inl tt;
-      found = tt;
-      volumes = λ t quiet. kept_on v v' (g.step.others t);
-      papers = λ t none. g.step.papers t;
-      console = tells_it [] (λ k. absurd (one_more front batches (its_batch g.reply g.first g.later) v'.now are k));
-    }
-
-    flies : HasFlying front batches (its_batch g.reply g.first g.later) → GivenPlays {T = T} (Err no_node.Halted)
-    flies are = record {
-      course = g.step.course;
-      cause = (inl g.step.cause.0, g.step.cause.1);
-      did = its_did g.reply;
-      shaped = (g.reply, refl, refl);
-      is = λ t. ap its_did (g.is t);
-      loses = λ t d. (g.step.loses t d, granted_counts d (Gives given) (v.loses d));
-      more = (its_batch g.reply g.first g.later) ∷ [];
-      are = are;
-      leaves = inr (inl (flies_now g.reply g.first g.later));
-      found = tt;
-      volumes = λ t quiet. kept_on v v' (g.step.others t);
-      papers = λ t none. g.step.papers t;
-      console = tells_it ((its_batch g.reply g.first g.later) ∷ []) (λ k. absurd (not_both front batches (its_batch g.reply g.first g.later) v'.now refl are k));
-    }
-
-    kept : HasKept front batches (its_batch g.reply g.first g.later) v'.now → GivenPlays {T = T} (Err no_node.Halted)
-    kept k = record {
-      course = g.step.course;
-      cause = (inl g.step.cause.0, g.step.cause.1);
-      did = its_did g.reply;
-      shaped = (g.reply, refl, refl);
-      is = λ t. ap its_did (g.is t);
-      loses = λ t d. (g.step.loses t d, granted_counts d (Gives given) (v.loses d));
-      more = fated Kept k.0 (its_batch g.reply g.first g.later) ∷ [];
-      are = k.3;
-      leaves = inr (inr (inl (kept_now g.reply g.first g.later k.0 k.1 k.2)));
-      found = tt;
-      volumes = λ t quiet. kept_on v v' (g.step.others t);
-      papers = λ t none. g.step.papers t;
-      console = tells_it (fated Kept k.0 (its_batch g.reply g.first g.later) ∷ []) (λ l. kept_now g.reply g.first g.later k.0 k.1 k.2);
-    }
-
-  pub command_step_of : {T : Type 0} (result : Result T NodeNo) → Given result → GivenPlays result
-  command_step_of (Ok done) step = given_done done step
-  command_step_of (Err no_node.NoMemory) step = given_unplayed step
-  command_step_of (Err no_node.BothLost) step = given_lost step
-  command_step_of (Err no_node.ConsoleFault) step = given_unsaid step
-  command_step_of (Err no_node.Halted) step = given_stopped step
-
--- A DECK
-
-outcome_is : (xs ys : List (List Entry)) (ls ms : List (List ℕ)) → xs ≡ ys → ls ≡ ms → (let o : Outcome = record { batches = xs; lines = ls } in o) ≡ record { batches = ys; lines = ms }
-outcome_is xs ys ls ms one two = ap (λ (l : List (List Entry)). let o : Outcome = record { batches = l; lines = ls } in o) one ∙ ap (λ (l : List (List ℕ)). let o : Outcome = record { batches = ys; lines = l } in o) two
-
-module _ (told : Type 0) (fields : JobFields) (text : List (List ℕ)) (Q : Queue) (per at : ℕ) (front batches : List Batch) (a a' b b' : Bool) (v v' : View) where
-  abbrev Deck : {T : Type 0} → Result T NodeNo → Type 0
-  Deck result = IsDeckStep told sysa at per Q fields text front batches a a' b b' v v' result
-
-  abbrev DeckPlays : {T : Type 0} → Option ℕ → Result T NodeNo → Type 0
-  DeckPlays lost result = IsStepOf told (Granted (Reads fields text lost)) Q per at front batches a a' b b' v v' result
-
-  module _ {T : Type 0} (result : Result T NodeNo) (step : Deck result) where
-    abbrev deck_did : Outcome
-    deck_did = record { batches = step.gave; lines = step.lines }
-
-    deck_is : told → deck_did ≡ outcome_of Q at (Granted (Reads fields text step.lost))
-    deck_is t = outcome_is step.gave (deck_batches Q sysa at fields text step.lost) step.lines (deck_lines Q sysa at fields text step.lost) (step.is t).batches (step.is t).lines_are
-
-    -- the batches after those before the step are its own
-    own_batches : HasAll sysa v.now v'.now step.gave front batches → AreAll sysa v.now v'.now step.gave step.rest
-    own_batches all = subst (AreAll sysa v.now v'.now step.gave) (append_cancel_left front all.0 step.rest (sym all.1 ∙ step.batches_are)) all.2
-
-    tells_own : told → StepTells result step.lines (AreAll sysa v.now v'.now step.gave step.rest) (console_now v) (console_now v')
-    tells_own t = tells_as result step.lines (HasAll sysa v.now v'.now step.gave front batches) (AreAll sysa v.now v'.now step.gave step.rest) (console_now v) (console_now v') own_batches (step.console t)
-
-  pub deck_step_of : {T : Type 0} (result : Result T NodeNo) → (step : Deck result) → DeckPlays step.lost result
-  deck_step_of {T = T} (Ok done) step = record {
-    course = step.course;
-    cause = inl step.cause;
-    did = deck_did (let r : Result T NodeNo = Ok done in r) step;
-    shaped = (step.of, step.few, step.closes);
-    is = deck_is (let r : Result T NodeNo = Ok done in r) step;
-    loses = λ t d. step.loses t d ∙ sym (granted_counts d (Reads fields text step.lost) (v.loses d));
-    more = step.rest;
-    are = step.batches_are;
-    leaves = step.journal;
-    found = (step.found, λ t. (step.is t).lies);
-    volumes = λ t none. absurd none;
-    papers = λ t none. step.papers t;
-    console = tells_own (let r : Result T NodeNo = Ok done in r) step;
-  }
-  deck_step_of {T = T} (Err no_node.NoMemory) step = record {
-    course = step.course;
-    cause = inl step.cause;
-    did = deck_did (let r : Result T NodeNo = Err no_node.NoMemory in r) step;
-    shaped = (step.of, step.few, step.closes);
-    is = deck_is (let r : Result T NodeNo = Err no_node.NoMemory in r) step;
-    loses = λ t d. (step.loses t d, granted_counts d (Reads fields text step.lost) (v.loses d));
-    more = step.rest;
-    are = step.batches_are;
-    leaves = inl (inr step.journal);
-    found = (step.found, λ t. (step.is t).lies);
-    volumes = λ t none. absurd none;
-    papers = λ t none. step.papers t;
-    console = tells_own (let r : Result T NodeNo = Err no_node.NoMemory in r) step;
-  }
-  deck_step_of {T = T} (Err no_node.BothLost) step = record {
-    course = step.course;
-    cause = step.cause;
-    did = deck_did (let r : Result T NodeNo = Err no_node.BothLost in r) step;
-    shaped = (step.of, step.few, step.closes);
-    is = deck_is (let r : Result T NodeNo = Err no_node.BothLost in r) step;
-    loses = λ t d. (step.loses t d, granted_counts d (Reads fields text step.lost) (v.loses d));
-    more = step.rest;
-    are = step.batches_are;
-    leaves = ⊎_elim inl (λ flies. inr (inl flies)) step.journal;
-    found = (step.found, λ t. (step.is t).lies);
-    volumes = λ t none. absurd none;
-    papers = λ t none. step.papers t;
-    console = tells_own (let r : Result T NodeNo = Err no_node.BothLost in r) step;
-  }
-  deck_step_of {T = T} (Err no_node.ConsoleFault) step = record {
-    course = step.course;
-    cause = (inl step.cause.0, step.cause.1);
-    did = deck_did (let r : Result T NodeNo = Err no_node.ConsoleFault in r) step;
-    shaped = (step.of, step.few, step.closes);
-    is = deck_is (let r : Result T NodeNo = Err no_node.ConsoleFault in r) step;
-    loses = λ t d. (step.loses t d, granted_counts d (Reads fields text step.lost) (v.loses d));
-    more = step.rest;
-    are = step.batches_are;
-    leaves = step.journal;
-    found = (step.found, λ t. (step.is t).lies);
-    volumes = λ t none. absurd none;
-    papers = λ t none. step.papers t;
-    console = tells_own (let r : Result T NodeNo = Err no_node.ConsoleFault in r) step;
-  }
-  deck_step_of {T = T} (Err no_node.Halted) step = record {
-    course = step.course;
-    cause = (inl step.cause.0, step.cause.1);
-    did = deck_did (let r : Result T NodeNo = Err no_node.Halted in r) step;
-    shaped = (step.of, step.few, step.closes);
-    is = deck_is (let r : Result T NodeNo = Err no_node.Halted in r) step;
-    loses = λ t d. (step.loses t d, granted_counts d (Reads fields text step.lost) (v.loses d));
-    more = step.rest;
-    are = step.batches_are;
-    leaves = ⊎_elim inl (λ others. ⊎_elim (λ flies. inr (inl flies)) (λ all. inr (inr (inl all))) others) step.journal;
-    found = (step.found, λ t. (step.is t).lies);
-    volumes = λ t none. absurd none;
-    papers = λ t none. step.papers t;
-    console = tells_own (let r : Result T NodeNo = Err no_node.Halted in r) step;
-  }
-
--- WORK
-
-module _ (told : Type 0) (n : ℕ) (Q : Queue) (per at : ℕ) (front batches : List Batch) (a a' b b' : Bool) (v v' : View) where
-  abbrev Worked : {T : Type 0} → Result T NodeNo → Type 0
-  Worked result = IsWorkStep told sysa at per n Q front batches a a' b b' v v' result
-
-  abbrev WorkPlays : {T : Type 0} → List Look → Result T NodeNo → Type 0
-  WorkPlays looks result = IsStepOf told (Granted (Works n looks)) Q per at front batches a a' b b' v v' result
-
-  module _ {T : Type 0} (result : Result T NodeNo) (step : Worked result) where
-    abbrev work_did : Outcome
-    work_did = record { batches = step.gave; lines = closing_line sysa at step.end ∷ [] }
-
-    work_is : told → work_did ≡ outcome_of Q at (Granted (Works n step.looks))
-    work_is t = outcome_is step.gave (work_batches Q sysa at n step.looks) (closing_line sysa at step.end ∷ []) (work_lines Q sysa at n step.looks)
-        (step.is t).batches (ap (λ (end : Closing). closing_line sysa at end ∷ []) (step.is t).ends)
-
-    its_batches : HasAll sysa v.now v'.now step.gave front batches → AreAll sysa v.now v'.now step.gave step.closes.rest
-    its_batches all = subst (AreAll sysa v.now v'.now step.gave) (append_cancel_left front all.0 step.closes.rest (sym all.1 ∙ step.closes.batches_are)) all.2
-
-    tells_work : told → StepTells result (closing_line sysa at step.end ∷ []) (AreAll sysa v.now v'.now step.gave step.closes.rest) (console_now v) (console_now v')
-    tells_work t = tells_as result (closing_line sysa at step.end ∷ []) (HasAll sysa v.now v'.now step.gave front batches) (AreAll sysa v.now v'.now step.gave step.closes.rest) (console_now v) (console_now v') its_batches (step.closes.console t)
-
-  work_leaves : {T : Type 0} (result : Result T NodeNo) (looks : List Look) (ess : List (List Entry)) (more : List Batch) → WorkLeaves result sysa v.now v'.now ess more → TurnLeaves result (Granted (Works n looks)) ess v.now v'.now more
-  work_leaves (Ok done) looks ess more leaves = leaves
-  work_leaves (Err no_node.NoMemory) looks ess more leaves = ⊎_elim (λ cut. inl (inr cut)) (λ all. inr (tt, all)) leaves
-  work_leaves (Err no_node.BothLost) looks ess more leaves = ⊎_elim (λ cut. inr (inr (tt, inl cut))) (λ others. ⊎_elim (λ flies. inr (inl flies)) (λ all. inr (inr (tt, inr all))) others) leaves
-  work_leaves (Err no_node.ConsoleFault) looks ess more leaves = leaves
-  work_leaves (Err no_node.Halted) looks ess more leaves = ⊎_elim (λ cut. inr (inr (inr (tt, cut)))) (λ others. ⊎_elim (λ flies. inr (inl flies)) (λ all. inr (inr (inl all))) others) leaves
-
-  pub work_step_of : {T : Type 0} (result : Result T NodeNo) → (step : Worked result) → WorkPlays step.looks result
-  work_step_of {T = T} (Ok done) step = record {
-    course = step.closes.course;
-    cause = inl step.closes.cause;
-    did = work_did (let r : Result T NodeNo = Ok done in r) step;
-    shaped = (step.of, step.few, (step.end, refl));
-    is = work_is (let r : Result T NodeNo = Ok done in r) step;
-    loses = λ t d. step.closes.loses t d ∙ sym (granted_counts d (Works n step.looks) (v.loses d));
-    more = step.closes.rest;
-    are = step.closes.batches_are;
-    leaves = work_leaves (let r : Result T NodeNo = Ok done in r) step.looks step.gave step.closes.rest step.closes.journal;
-    found = ((step.end, refl, step.caused), λ t. (step.is t).seen);
-    volumes = λ t none. absurd none;
-    papers = λ t none. absurd none;
-    console = tells_work (let r : Result T NodeNo = Ok done in r) step;
-  }
-  work_step_of {T = T} (Err no_node.NoMemory) step = record {
-    course = step.closes.course;
-    cause = inl step.closes.cause;
-    did = work_did (let r : Result T NodeNo = Err no_node.NoMemory in r) step;
-    shaped = (step.of, step.few, (step.end, refl));
-    is = work_is (let r : Result T NodeNo = Err no_node.NoMemory in r) step;
-    loses = λ t d. (step.closes.loses t d, granted_counts d (Works n step.looks) (v.loses d));
-    more = step.closes.rest;
-    are = step.closes.batches_are;
-    leaves = work_leaves (let r : Result T NodeNo = Err no_node.NoMemory in r) step.looks step.gave step.closes.rest step.closes.journal;
-    found = ((step.end, refl, step.caused), λ t. (step.is t).seen);
-    volumes = λ t none. absurd none;
-    papers = λ t none. absurd none;
-    console = tells_work (let r : Result T NodeNo = Err no_node.NoMemory in r) step;
-  }
-  work_step_of {T = T} (Err no_node.BothLost) step = record {
-    course = step.closes.course;
-    cause = step.closes.cause;
-    did = work_did (let r : Result T NodeNo = Err no_node.BothLost in r) step;
-    shaped = (step.of, step.few, (step.end, refl));
-    is = work_is (let r : Result T NodeNo = Err no_node.BothLost in r) step;
-    loses = λ t d. (step.closes.loses t d, granted_counts d (Works n step.looks) (v.loses d));
-    more = step.closes.rest;
-    are = step.closes.batches_are;
-    leaves = work_leaves (let r : Result T NodeNo = Err no_node.BothLost in r) step.looks step.gave step.closes.rest step.closes.journal;
-    found = ((step.end, refl, step.caused), λ t. (step.is t).seen);
-    volumes = λ t none. absurd none;
-    papers = λ t none. absurd none;
-    console = tells_work (let r : Result T NodeNo = Err no_node.BothLost in r) step;
-  }
-  work_step_of {T = T} (Err no_node.ConsoleFault) step = record {
-    course = step.closes.course;
-    cause = (inl step.closes.cause.0, step.closes.cause.1);
-    did = work_did (let r : Result T NodeNo = Err no_node.ConsoleFault in r) step;
-    shaped = (step.of, step.few, (step.end, refl));
-    is = work_is (let r : Result T NodeNo = Err no_node.ConsoleFault in r) step;
-    loses = λ t d. (step.closes.loses t d, granted_counts d (Works n step.looks) (v.loses d));
-    more = step.closes.rest;
-    are = step.closes.batches_are;
-    leaves = work_leaves (let r : Result T NodeNo = Err no_node.ConsoleFault in r) step.looks step.gave step.closes.rest step.closes.journal;
-    found = ((step.end, refl, step.caused), λ t. (step.is t).seen);
-    volumes = λ t none. absurd none;
-    papers = λ t none. absurd none;
-    console = tells_work (let r : Result T NodeNo = Err no_node.ConsoleFault in r) step;
-  }
-  work_step_of {T = T} (Err no_node.Halted) step = record {
-    course = step.closes.course;
-    cause = (inl step.closes.cause.0, step.closes.cause.1);
-    did = work_did (let r : Result T NodeNo = Err no_node.Halted in r) step;
-    shaped = (step.of, step.few, (step.end, refl));
-    is = work_is (let r : Result T NodeNo = Err no_node.Halted in r) step;
-    loses = λ t d. (step.closes.loses t d, granted_counts d (Works n step.looks) (v.loses d));
-    more = step.closes.rest;
-    are = step.closes.batches_are;
-    leaves = work_leaves (let r : Result T NodeNo = Err no_node.Halted in r) step.looks step.gave step.closes.rest step.closes.journal;
-    found = ((step.end, refl, step.caused), λ t. (step.is t).seen);
-    volumes = λ t none. absurd none;
-    papers = λ t none. absurd none;
-    console = tells_work (let r : Result T NodeNo = Err no_node.Halted in r) step;
-  }
-
--- A STEP WITHOUT A COMMAND
-
-module _ (told : Type 0) (turn : Turn) (Q : Queue) (per at : ℕ) (lines : List (List ℕ)) (front batches : List Batch) (a a' b b' : Bool) (v v' : View)
-    (shaped : IsOutcome at turn (record { batches = []; lines = lines })) (is : (let o : Outcome = record { batches = []; lines = lines } in o) ≡ outcome_of Q at turn)
-    (counts : (d : Dev) (n : ℕ) → loses_after_step d turn n ≡ n) (found : FindsLost told v v' per Q at turn (record { batches = []; lines = lines })) where
-  abbrev Aside : {T : Type 0} → Result T NodeNo → Type 0
-  Aside result = IsDenial told sysa.0 lines front batches a a' b b' v v' result
-
-  abbrev AsidePlays : {T : Type 0} → Result T NodeNo → Type 0
-  AsidePlays result = IsStepOf told turn Q per at front batches a a' b b' v v' result
-
-  tells_so : {T : Type 0} (result : Result T NodeNo) → StepTells result lines (Unit {0}) (console_now v) (console_now v') → StepTells result lines (AreAll sysa v.now v'.now [] []) (console_now v) (console_now v')
-  tells_so result t = tells_as result lines (Unit {0}) (AreAll sysa v.now v'.now [] []) (console_now v) (console_now v') (λ u. tt) t
-
-  aside : {T : Type 0} (result : Result T NodeNo) → Aside result → AsidePlays result
-  aside {T = T} (Ok done) step = record {
-    course = step.course;
-    cause = inl step.cause;
-    did = record { batches = []; lines = lines };
-    shaped = shaped;
-    is = λ t. is;
-    loses = λ t d. step.loses d ∙ sym (counts d (v.loses d));
-    more = [];
-    are = step.same ∙ sym (append-nil front);
-    leaves = tt;
-    found = found;
-    volumes = λ t quiet. kept_on v v' (step.others t);
-    papers = λ t none. step.papers t;
-    console = λ t. tells_so (let r : Result T NodeNo = Ok done in r) (step.console t);
-  }
-  aside {T = T} (Err no_node.NoMemory) step = record {
-    course = step.course;
-    cause = inl step.cause;
-    did = record { batches = []; lines = lines };
-    shaped = shaped;
-    is = λ t. is;
-    loses = λ t d. (step.loses d, counts d (v.loses d));
-    more = [];
-    are = step.same ∙ sym (append-nil front);
-    leaves = inl (inl refl);
-    found = found;
-    volumes = λ t quiet. kept_on v v' (step.others t);
-    papers = λ t none. step.papers t;
-    console = λ t. tells_so (let r : Result T NodeNo = Err no_node.NoMemory in r) (step.console t);
-  }
-  aside (Err no_node.BothLost) step = absurd (step.not_lost refl)
-  aside {T = T} (Err no_node.ConsoleFault) step = record {
-    course = step.course;
-    cause = (inl step.cause.0, step.cause.1);
-    did = record { batches = []; lines = lines };
-    shaped = shaped;
-    is = λ t. is;
-    loses = λ t d. (step.loses d, counts d (v.loses d));
-    more = [];
-    are = step.same ∙ sym (append-nil front);
-    leaves = tt;
-    found = found;
-    volumes = λ t quiet. kept_on v v' (step.others t);
-    papers = λ t none. step.papers t;
-    console = λ t. tells_so (let r : Result T NodeNo = Err no_node.ConsoleFault in r) (step.console t);
-  }
-  aside {T = T} (Err no_node.Halted) step = record {
-    course = step.course;
-    cause = (inl step.cause.0, step.cause.1);
-    did = record { batches = []; lines = lines };
-    shaped = shaped;
-    is = λ t. is;
-    loses = λ t d. (step.loses d, counts d (v.loses d));
-    more = [];
-    are = step.same ∙ sym (append-nil front);
-    leaves = inr (inr (inl tt));
-    found = found;
-    volumes = λ t quiet. kept_on v v' (step.others t);
-    papers = λ t none. step.papers t;
-    console = λ t. tells_so (let r : Result T NodeNo = Err no_node.Halted in r) (step.console t);
-  }
-
-pub denied_step_of : {T : Type 0} (told : Type 0) (why : LockNo) (Q : Queue) (per at : ℕ) (front batches : List Batch) (a a' b b' : Bool) (v v' : View) (result : Result T NodeNo)
-    → IsDenial told sysa.0 (denied_lines sysa at why) front batches a a' b b' v v' result → IsStepOf told (Denied why) Q per at front batches a a' b b' v v' result
-denied_step_of told why Q per at front batches a a' b b' v v' result step = aside told (Denied why) Q per at (denied_lines sysa at why) front batches a a' b b' v v' (refl, refl) refl (λ d n. denied_counts d why n) tt result step
-
-pub closed_step_of : {T : Type 0} (told : Type 0) (end : Closing) (Q : Queue) (per at : ℕ) (front batches : List Batch) (a a' b b' : Bool) (v v' : View) (result : Result T NodeNo)
-    → IsDenial told sysa.0 (closing_line sysa at end ∷ []) front batches a a' b b' v v' result → IsStepOf told (Closed end) Q per at front batches a a' b b' v v' result
-closed_step_of told end Q per at front batches a a' b b' v v' result step = aside told (Closed end) Q per at (closing_line sysa at end ∷ []) front batches a a' b b' v v' (refl, refl) refl (λ d n. closed_counts d end n) tt result step
-
--- A LOSS
-
-pub loss_step_of : {T : Type 0} (done : T) (told : Type 0) (dev : Dev) (Q : Queue) (per at : ℕ) (front batches : List Batch) (a a' b b' : Bool) (v v' : View)
-    → Course a a' b b' v v' → IsLeftOrLost a a' b b' v v' → Loses (Disk dev) v v' → batches ≡ front → (told → LeavesVolumes (Loss dev) → AreVolumesKept v v') → (told → SamePapers v v') → (told → console_now v' ≡ console_now v)
-    → IsStepOf told (Loss dev) Q per at front batches a a' b b' v v' (Ok done)
-loss_step_of done told dev Q per at front batches a a' b b' v v' course left loses same volumes papers console = record {
-  course = course;
-  cause = left;
-  did = record { batches = []; lines = [] };
-  shaped = (refl, refl);
-  is = λ t. refl;
-  loses = λ t d. loss_counts dev d v v' loses;
-  more = [];
-  are = same ∙ sym (append-nil front);
-  leaves = tt;
-  found = tt;
-  volumes = volumes;
-  papers = λ t none. papers t;
-  console = λ t. console t ∙ sym (append-nil (console_now v));
-}
-
--- A STEP THAT IS OUT OF MEMORY BEFORE ANYTHING IS DONE
-
-pub unplayed_step_of : {T : Type 0} (told : Type 0) (turn : Turn) (Q : Queue) (per at : ℕ) (front batches : List Batch) (a b : Bool) (v : View) → batches ≡ front → ((d : Dev) (n : ℕ) → loses_after_step d turn n ≡ n) → FindsLost told v v per Q at turn (outcome_of Q at turn)
-    → IsStepOf {T = T} told turn Q per at front batches a a b b v v (Err no_node.NoMemory)
-unplayed_step_of told turn Q per at front batches a b v same counts found = record {
-  course = course_none a b v;
-  cause = inl (inr (refl, refl));
-  did = outcome_of Q at turn;
-  shaped = shape_of Q at turn;
-  is = λ t. refl;
-  loses = λ t d. (refl, counts d (v.loses d));
-  more = [];
-  are = same ∙ sym (append-nil front);
-  leaves = inl (inl refl);
-  found = found;
-  volumes = λ t none. kept_none v;
-  papers = λ t none. papers_none v;
+-- a step with which the line begins
+pub comes_none : {P C : Type 0} (plants : PlantGhosts P) (told : Type 0) (by : ℕ) (x : Parts P C) → journal_of x ≡ x.batches → ComesTo plants told by false Flying (plants.view x.plant).now x x
+comes_none plants told by x still = record {
+  goes = goes_none (plants.view x.plant);
+  moment = (omega arith, omega arith);
+  spares = spares_none by (plants.view x.plant);
+  journal = sym (settle_none (plants.view x.plant).now (journal_of x) ∙ still);
+  printed = refl;
   console = λ t. refl;
+  papers = λ t. papers_none (plants.view x.plant);
+  loses = λ t d. inl refl;
+  volumes = λ t. kept_none (plants.view x.plant);
 }
 
--- A LOSS, BY ITS DEVICE
+ok_then : (r : Result (Unit {0}) NodeNo) (A B : Type 0) → (A → B) → OnOk r A → OnOk r B
+ok_then (Ok done) A B f a = f a
+ok_then (Err why) A B f a = tt
 
--- a volume is lost: the copies stay
-course_volume : (n : ℕ) (a b : Bool) (old new : View) → Loses (Disk (Spool n)) old new → Course a a b b old new
-course_volume n a b old new loses = record {
-  goes = loses.goes;
-  failed1 = λ was not. absurd (both a was not);
-  failed2 = λ was not. absurd (both b was not);
-  there1 = λ is there. loses.else_lost (Disk Ckpt1) (λ e. absurd (cc)) ∙ there;
-  there2 = λ is there. loses.else_lost (Disk Ckpt2) (λ e. absurd (cc)) ∙ there;
-  alive1 = λ is. is;
-  alive2 = λ is. is;
-  grow = grows;
-} where
-  both : (x : Bool) → x ≡ true → x ≡ false → ⊥
-  both x p q = absurd (cc)
+-- THE STEP
 
-  by_count : (k : ℕ) (same : Bool) → (k == n) ≡ same → Grows (old.loses (Spool k)) (new.loses (Spool k))
-  by_count k true e = inr (let c = loses.counted (Spool k) (ap (λ (m : ℕ). Disk (Spool m)) (eqb-true k n e)) in omega (arith, c))
-  by_count k false e = inl (loses.else_counted (Spool k) (other_volume k n (λ is. clash (sym e ∙ eq-eqb k n is)))) where
-    clash : false ≡ true → ⊥
-    clash c = absurd (cc)
+module _ {P C : Type 0} (plants : PlantGhosts P) (copies : CopyGhosts C) (told : Type 0) (tells : told → plants.tells) (S : Scene) (at : ℕ) (step : Step)
+    (a : Admission) (sight : Sight) (ps : List Piece) (x mid y : Parts P C) (result : Result (Unit {0}) NodeNo) (hold : ℕ) (grant : Grant) where
+  abbrev v : Parts P C → View
+  v z = plants.view z.plant
 
-  grows : (d : Dev) → Grows (old.loses d) (new.loses d)
-  grows Ckpt1 = inl (loses.else_counted Ckpt1 (λ e. absurd (cc)))
-  grows Ckpt2 = inl (loses.else_counted Ckpt2 (λ e. absurd (cc)))
-  grows (Spool k) = by_count k (k == n) refl
+  abbrev h : Holder
+  h = record { by = step.by; step = at; hold = hold; grant = grant }
 
--- where a copy counts as alive so, of each before and after it
-module _ {H : Type 0} (alive : H → Bool) (p1 q1 p2 q2 : H) (told : Type 0) (Q : Queue) (per at : ℕ) (front batches : List Batch) (v v' : View) (same : batches ≡ front) where
-  abbrev Lost : Dev → Type 0
-  Lost dev = IsStepOf told (Loss dev) Q per at front batches (alive p1) (alive q1) (alive p2) (alive q2) v v' (let ok : Result (Unit {0}) NodeNo = Ok (tt {0}) in ok)
+  abbrev l : LineAt
+  l = record { scene = S; number = at; step = step; given = record { sight = sight; pieces = ps } }
 
-  pub device_step_of : (dev : Dev) → (IsCkpt dev → alive (pick dev q1 q2) ≡ false) → ((n : ℕ) → dev ≡ Spool n → (alive q1 ≡ alive p1) × (alive q2 ≡ alive p2)) → other dev q1 q2 ≡ other dev p1 p2 → Loses (Disk dev) v v'
-      → (told → Elsewhere dev v v') → Lost dev
-  device_step_of Ckpt1 dead volume others loses elsewhere = loss_step_of tt told Ckpt1 Q per at front batches (alive p1) (alive q1) (alive p2) (alive q2) v v'
-      (course_first (alive p1) (alive q1) (alive p2) (alive q2) v v' loses (dead tt) (ap alive others))
-      (inr (inl (let c = loses.counted Ckpt1 refl in omega (arith, c)))) loses same (λ t leaves. kept_on v v' (apart_first v v' loses.goes.later (elsewhere t)).others) (λ t. (elsewhere t).papers) (λ t. (apart_first v v' loses.goes.later (elsewhere t)).console)
-  device_step_of Ckpt2 dead volume others loses elsewhere = loss_step_of tt told Ckpt2 Q per at front batches (alive p1) (alive q1) (alive p2) (alive q2) v v'
-      (course_second (alive p1) (alive q1) (alive p2) (alive q2) v v' loses (dead tt) (ap alive others))
-      (inr (inr (let c = loses.counted Ckpt2 refl in omega (arith, c)))) loses same (λ t leaves. kept_on v v' (apart_second v v' loses.goes.later (elsewhere t)).others) (λ t. (elsewhere t).papers) (λ t. (apart_second v v' loses.goes.later (elsewhere t)).console)
-  device_step_of (Spool n) dead volume others loses elsewhere =
-      let both = volume n refl in
-      loss_step_of tt told (Spool n) Q per at front batches (alive p1) (alive q1) (alive p2) (alive q2) v v'
-      (subst (λ (x : Bool). Course (alive p1) x (alive p2) (alive q2) v v') (sym both.0) (subst (λ (x : Bool). Course (alive p1) (alive p1) (alive p2) x v v') (sym both.1) (course_volume n (alive p1) (alive p2) v v' loses)))
-      (inl (inr both)) loses same (λ t leaves. absurd leaves) (λ t. (elsewhere t).papers) (λ t. (elsewhere t).console v'.now loses.goes.later (let le : v'.now ≤ v'.now = omega arith in le))
+  -- what is to be known of the scene, of what was done before, and of the step
+  module _ (pieces : pieces_as l a ≡ ps) (book : (play_as l a).book ≡ mid.book) (locked : (play_as l a).locked ≡ true)
+      (when : ℕ) (comes : ComesTo plants told step.by.0 (is_takeover a) (fate_found a sight) when x mid)
+      (cut : HasCut plants copies h ps sight.cut mid y result) (acts : HasActedIn plants copies step.by mid y result) where
+    abbrev left_mid : Left
+    left_mid = left_of plants copies step.by sight.cut ps mid
 
--- A COPY THAT COUNTS AS ALIVE DID SO BEFORE A LOSS
+    abbrev play_mid : Play
+    play_mid = play_in step.by ps mid.book (queue_of mid)
 
-module _ {H : Type 0} (p1 q1 p2 q2 : H) (alive : H → Bool) where
-  clash_alive : (x : Bool) → x ≡ false → x ≡ true → ⊥
-  clash_alive x off on = absurd (cc)
+    -- what is left, except for the count
+    alike : erased left_mid ≡ erased (left_as l a)
+    alike = sym (left_alike step.by sight.cut (play_as l a) play_mid (S.counts step.by) (counts_of mid.printed step.by) pieces book locked)
 
-  pub first_was : (dev : Dev) → (IsCkpt dev → alive (pick dev q1 q2) ≡ false) → ((n : ℕ) → dev ≡ Spool n → (q1 ≡ p1) × (q2 ≡ p2)) → other dev q1 q2 ≡ other dev p1 p2 → alive q1 ≡ true → alive p1 ≡ true
-  first_was Ckpt1 dead volume others is = absurd (clash_alive (alive q1) (dead tt) is)
-  first_was Ckpt2 dead volume others is = sym (ap alive others) ∙ is
-  first_was (Spool n) dead volume others is = sym (ap alive (volume n refl).0) ∙ is
+    batches_alike : left_mid.batches ≡ (left_as l a).batches
+    batches_alike = ap (λ (k : Left). k.batches) alike
 
-  pub second_was : (dev : Dev) → (IsCkpt dev → alive (pick dev q1 q2) ≡ false) → ((n : ℕ) → dev ≡ Spool n → (q1 ≡ p1) × (q2 ≡ p2)) → other dev q1 q2 ≡ other dev p1 p2 → alive q2 ≡ true → alive p2 ≡ true
-  second_was Ckpt1 dead volume others is = sym (ap alive others) ∙ is
-  second_was Ckpt2 dead volume others is = absurd (clash_alive (alive q2) (dead tt) is)
-  second_was (Spool n) dead volume others is = sym (ap alive (volume n refl).1) ∙ is
+    book_alike : left_mid.book ≡ (left_as l a).book
+    book_alike = ap (λ (k : Left). k.book) alike
+
+    lines_alike : left_mid.lines ≡ (left_as l a).lines
+    lines_alike = ap (λ (k : Left). k.lines) alike
+
+    printed_alike : left_mid.printed ≡ (left_as l a).printed
+    printed_alike = ap (λ (k : Left). k.printed) alike
+
+    -- and the count too, where it begins alike
+    count_alike : counts_of mid.printed step.by ≡ S.counts step.by → left_mid.count ≡ (left_as l a).count
+    count_alike same =
+        ap (λ (k : Left). k.count) (sym (left_same step.by sight.cut (play_as l a) play_mid (counts_of mid.printed step.by) pieces book locked))
+        ∙ ap (λ (n : ℕ). (left_by step.by sight.cut (play_as l a) n).count) same
+
+    paper_mid : told → (m : ℕ) → paper_now (v mid) m ≡ paper_now (v x) m
+    paper_mid t m = comes.papers t (v mid).now comes.goes.later (let same : (v mid).now ≤ (v mid).now = omega arith in same) m
+
+    on : Proceeds (v mid) (v y)
+    on = proceeds_of (v mid) (v y) acts.course.goes
+
+    abbrev Finds : List Piece → Type 0
+    Finds qs = AreFoundIn S.queue.config.groups step.by (v x) (v y) sight.finds (waits_in (take (whole_pieces sight.cut qs) qs) (queue_met S a sight))
+
+    abbrev Tight : List Piece → Type 0
+    Tight qs = IfIdle (is_work a) (AtCut (IsTight (ended_as result)) sight.cut qs)
+
+    abbrev Breaks : List Piece → Type 0
+    Breaks qs = AtCut (IsBroken (ended_as result)) sight.cut qs
+
+    pub stepped_left : told ⊎ IsShapedAs l (v x) (v y) a → (told → ArePiecesOf S step.by at a l.given) → (told → Finds ps) → Tight ps → (told → Breaks ps)
+        → (told → PrintsNone a → SamePapers (v mid) (v y)) → (told → AdmissionLeaves a → AreVolumesKept (v mid) (v y))
+        → (told → is_stopped S.book step.by ≡ false → counts_of mid.printed step.by ≡ S.counts step.by) → (told → Writes plants copies step.by left_mid mid y result) → HasLeftAs plants copies told l a x y result
+    stepped_left shaped right honest tight broke dry volumes counted written = record {
+      goes = goes_on (v x) (v mid) (v y) comes.goes acts.course.goes;
+      shaped = shaped;
+      right = right;
+      honest = λ t. subst (λ (qs : List Piece). Finds qs) (sym pieces) (honest t);
+      cut = subst (λ (qs : List Piece). IsCutBy result qs sight.cut) (sym pieces) (cut_there result ps sight.cut cut.by_answer);
+      tight = subst (λ (qs : List Piece). Tight qs) (sym pieces) tight;
+      broke = λ t. subst (λ (qs : List Piece). Breaks qs) (sym pieces) (broke t);
+      spares = spares_then step.by.0 (stopped_in result) (v x) (v mid) (v y) comes.spares acts.spares;
+      stopped = λ is. rose_later ((v x).stops step.by.0) ((v mid).stops step.by.0) ((v y).stops step.by.0) (comes.goes.stops step.by.0)
+          (cause_stops step.by.0 mid.first_alive y.first_alive mid.second_alive y.second_alive (v mid) (v y) result acts.cause is);
+      failed = λ is. rose_later ((v x).faults Console) ((v mid).faults Console) ((v y).faults Console) (comes.goes.faults Console)
+          (cause_fails step.by.0 mid.first_alive y.first_alive mid.second_alive y.second_alive (v mid) (v y) result acts.cause is);
+      own = cut.leaves.more;
+      at = when;
+      moment = (comes.moment.0, let le = comes.moment.1 in let more = acts.course.goes.later in omega (arith, le, more));
+      journal = cut.leaves.journal ∙ ap (λ (bs : List Batch). bs ++ cut.leaves.more) comes.journal;
+      batches = batched_since step.by (v x).now (v mid).now (v y).now (left_as l a).batches cut.leaves.more comes.goes.later
+          (subst (λ (bs : List Batched). AreBatched step.by (v mid).now (v y).now bs cut.leaves.more) batches_alike cut.leaves.batches);
+      book = if_runs result (y.book ≡ (left_as l a).book) (cut.leaves.book ∙ book_alike);
+      console = λ t. (written t).console ∙ ap (λ (ls : List Line). ls ++ left_mid.lines) (comes.console t) ∙ ap (λ (ls : List Line). console_now (v x) ++ ls) lines_alike;
+      paper = λ t. (written t).paper ∙ ap (λ (ls : List Line). ls ++ left_mid.printed) (paper_mid t step.by.0) ∙ ap (λ (ls : List Line). paper_now (v x) step.by.0 ++ ls) printed_alike;
+      other_papers = λ t m other. (written t).other_papers m other ∙ paper_mid t m;
+      dry = λ t none. papers_on (v x) (v mid) (v y) comes.goes.later acts.course.goes (comes.papers t) (dry t none);
+      count = λ t up. ok_then result (counts_of y.printed step.by ≡ left_mid.count) (counts_of y.printed step.by ≡ (left_as l a).count)
+          (λ is. is ∙ count_alike (counted t up)) (written t).count;
+      other_counts = λ t m other. (written t).other_counts m other ∙ ap (λ (p : List ℕ). counts_of p m) comes.printed;
+      loses = λ t d. loses_on (v x) (v mid) (v y) on (acts.loses (tells t)) (is_takeover a) d (comes.loses t d);
+      volumes = λ t leaves. kept_later (v x) (v mid) (v y) comes.goes.later on (comes.volumes t) (volumes t leaves);
+    }
+
+-- A TASK, played as a whole step
+
+-- what is said of all but work, or of a command alone
+tight_so : (task : Task) (A B : Type 0) → (A → B) → IfNoWork (Fresh task) A → IfIdle (is_work (Plays task)) B
+tight_so (Give c) A B f is = f is
+tight_so (Deck fields text) A B f is = f is
+tight_so (Work n) A B f is = tt
+
+dry_so : (task : Task) (A : Type 0) → IfNoWork (Fresh task) A → PrintsNone (Plays task) → A
+dry_so (Give c) A is none = is
+dry_so (Deck fields text) A is none = is
+dry_so (Work n) A is none = absurd none
+
+still_so : (task : Task) (A : Type 0) → IfCommand (Fresh task) A → AdmissionLeaves (Plays task) → A
+still_so (Give c) A is leaves = is
+still_so (Deck fields text) A is leaves = absurd leaves
+still_so (Work n) A is leaves = absurd leaves
+
+-- what is said of where a step was cut that ended with an error is said of any
+cut_so : (r : Result (Unit {0}) NodeNo) (ps : List Piece) (cut : Option Cut) (P : NodeNo → Halt → Sitting → Type 0) → IsCutIn r ps cut
+    → IfErr r (λ e. AtCut (P e) cut ps) → AtCut (P (ended_as r)) cut ps
+cut_so (Ok done) ps cut P is at = subst (λ (c : Option Cut). AtCut (P no_node.Halted) c ps) (sym is) tt
+cut_so (Err e) ps cut P is at = at
+
+module _ {P C : Type 0} (plants : PlantGhosts P) (copies : CopyGhosts C) (S : Scene) (at : ℕ) (step : Step) (task : Task) (x y : Parts P C) (pages : ℕ)
+    (result : Result (Unit {0}) NodeNo) (hold : ℕ) (grant : Grant) (none : S.flight ≡ None) (book : tried S.book step.by (Plays task) ≡ x.book)
+    (held : holder_of S step.by at (Plays task) ≡ record { by = step.by; step = at; hold = hold; grant = grant }) (still : journal_of x ≡ x.batches) where
+  abbrev u : Parts P C → View
+  u z = plants.view z.plant
+
+  abbrev k : Holder
+  k = record { by = step.by; step = at; hold = hold; grant = grant }
+
+  abbrev line_so : Sight → List Piece → LineAt
+  line_so sight ps = record { scene = S; number = at; step = step; given = record { sight = sight; pieces = ps } }
+
+  -- a step of any plant, by its pieces and its cut
+  pub plays_bare : (played : HasPlayed plants copies (begins k (Fresh task)) x y pages result)
+      → HasLeftAs plants copies ⊥ (line_so (record clear { cut = played.cut }) played.pieces) (Plays task) x y result
+  plays_bare played =
+      stepped_left plants copies ⊥ (λ t. absurd t) S at step (Plays task) (record clear { cut = played.cut }) played.pieces x x y result hold grant
+      (ap (λ f. once_found f played.pieces) none) book refl (u x).now (comes_none plants ⊥ step.by.0 x still) played.played played.acts
+      (inr (subst (λ (m : Holder). IsTaskShaped m (u x) (u y) task played.pieces) (sym held) (record { own = played.played.of; shaped = played.shaped })))
+      (λ t. absurd t) (λ t. absurd t) (tight_so task _ _ (cut_so result played.pieces played.cut IsTight played.played.by_answer) played.tight)
+      (λ t. absurd t) (λ t. absurd t) (λ t. absurd t) (λ t. absurd t) (λ t. absurd t)
+
+  -- and of one that tells
+  module _ (queue : queue_of x ≡ S.queue) (groups : x.base.config.groups ≡ S.queue.config.groups) (counted : counts_of x.printed step.by ≡ S.counts step.by)
+      (played : HasPlayed plants copies (begins k (Fresh task)) x y pages result) (so : HasToldStep plants copies (begins k (Fresh task)) x y result) where
+    right_here : so.pieces ≡ task_pieces so.sight (S.counts step.by) S.queue (holder_of S step.by at (Plays task)) task
+    right_here =
+        so.is
+        ∙ ap (λ (n : ℕ). pieces_from (task_most task) so.sight n (queue_of x) k (Fresh task)) counted
+        ∙ ap (λ (Q : Queue). pieces_from (task_most task) so.sight (S.counts step.by) Q k (Fresh task)) queue
+        ∙ ap (λ (m : Holder). pieces_from (task_most task) so.sight (S.counts step.by) S.queue m (Fresh task)) (sym held)
+
+    abbrev FindsAt : ℕ → Queue → Type 0
+    FindsAt per Q = AreFoundIn per step.by (u x) (u y) so.sight.finds (waits_in (take (whole_pieces so.sight.cut so.pieces) so.pieces) Q)
+
+    pub plays_told : plants.tells → HasLeftAs plants copies (Unit {0}) (line_so so.sight so.pieces) (Plays task) x y result
+    plays_told tells =
+        stepped_left plants copies (Unit {0}) (λ t. tells) S at step (Plays task) so.sight so.pieces x x y result hold grant
+        (ap (λ f. once_found f so.pieces) none) book refl (u x).now (comes_none plants (Unit {0}) step.by.0 x still) so.cut played.acts
+        (inl tt) (λ t. right_here) (λ t. subst (λ (n : ℕ). FindsAt n S.queue) groups (subst (λ (Q : Queue). FindsAt x.base.config.groups Q) queue so.finds))
+        (tight_so task _ _ (cut_so result so.pieces so.sight.cut IsTight so.cut.by_answer) so.tight) (λ t. cut_so result so.pieces so.sight.cut IsBroken so.cut.by_answer so.broke)
+        (λ t none. dry_so task _ (played.dry tells) none) (λ t leaves. kept_on (u x) (u y) (still_so task _ (played.still tells) leaves)) (λ t up. counted) (λ t. so.writes)

@@ -21,23 +21,24 @@ use Rattle.ckpt_pages.specs.Given.{levels_given}
 use Rattle.ckpt_pages.proofs.GivenLevels.{their_levels}
 use Rattle.spool_disk.specs.declared.plant.Part.TheVariants.{Console, Disk as DiskPart}
 use Rattle.spool_disk.specs.View.{View, World, disk_now}
-use Rattle.spool_disk.specs.Acts.{Goes}
 use Rattle.queue_tables.specs.Telling.{Tell}
 use Rattle.mas_complex.specs.Texts.{HasTexts, IsThereUnless, lies_on, lost_now, spools_at}
 use Rattle.spool_volumes.specs.Volumes.{volume_of}
 use Rattle.track_groups.specs.Places.{groups_of}
 use Rattle.warm_start.specs.declared.choosing.StartNo.{StartNo}
 use Rattle.warm_start.specs.declared.choosing.StartNo.TheVariants as no_start
-use Rattle.warm_start.specs.Starting.{HeldBack, IsUnfit, mark_of, IsCauseOf, Starts, LosesBoth, IsOnce, IsHeld, WhileStarting}
+use Rattle.warm_start.specs.Starting.{HasGone, HeldBack, IsCauseOf, Mark, Starts, LosesBoth, IsOnce, IsHeld, WhileStarting}
 use Rattle.warm_start.specs.Usable.{AreOf, HaveSize}
 use Rattle.member_node.specs.Calls.{Grows, console_now}
 use Rattle.member_node.specs.Drawn.{AreDrawn}
-use Rattle.member_node.proofs.CourseLemmas.{lost_later, lost_more}
 use Rattle.member_node.proofs.DrawnLemmas.{drawn_level}
+use Rattle.mas_run.specs.Lines.{Proceeds}
 use Rattle.mas_run.specs.Runs.{has_begun, AreSidesKept, Begins, LosesFirst, IsHeldUntil}
 use Rattle.mas_run.specs.Volumes.{AreVolumesKept}
 use Rattle.mas_run.specs.Statuses.{IsCaused, IsCausedFrom, is_of_play, is_of_text, is_unplayed}
 use Rattle.mas_run.specs.Unstarted.{status_of_start, IsNotStarted}
+use Rattle.mas_run.proofs.CopiesLemmas.{lost_after, lost_before}
+use Rattle.mas_run.proofs.PassedLemmas.{proceeds_of}
 
 -- WHAT IS FOUND
 
@@ -160,19 +161,28 @@ by_alive : {A : Type 0} (x : Bool) → (x ≡ true → A) → (x ≡ false → A
 by_alive true f g = f refl
 by_alive false f g = g refl
 
-pub start_causes : (a b : Bool) (answer : Status) (v0 v1 v2 : View) → Starts a b v0 v1 → Goes v1 v2 → ((d : Dev) → Grows (v1.loses d) (v2.loses d)) → IsCausedFrom a b answer v1 v2 → IsCaused answer v0 v2
+pub start_causes : (a b : Bool) (answer : Status) (v0 v1 v2 : View) → Starts a b v0 v1 → Proceeds v1 v2 → ((d : Dev) → Grows (v1.loses d) (v2.loses d)) → IsCausedFrom a b answer v1 v2 → IsCaused answer v0 v2
 start_causes a b answer v0 v1 v2 s goes grow caused = record {
   lost = caused.lost;
-  failed1 = λ e. by_alive a (λ is. lost_later Ckpt1 v0 v1 v2 s.goes (starts_grow a b v0 v1 s Ckpt1) (caused.failed1 e is)) (λ not. lost_more Ckpt1 v0 v1 v2 (s.taken1 not) goes (grow Ckpt1));
-  failed2 = λ e. by_alive b (λ is. lost_later Ckpt2 v0 v1 v2 s.goes (starts_grow a b v0 v1 s Ckpt2) (caused.failed2 e is)) (λ not. lost_more Ckpt2 v0 v1 v2 (s.taken2 not) goes (grow Ckpt2));
+  failed1 = λ e. by_alive a (λ is. lost_after Ckpt1 v0 v1 v2 (proceeds_of v0 v1 s.goes) (starts_grow a b v0 v1 s Ckpt1) (caused.failed1 e is)) (λ not. lost_before Ckpt1 v0 v1 v2 (s.taken1 not) goes (grow Ckpt1));
+  failed2 = λ e. by_alive b (λ is. lost_after Ckpt2 v0 v1 v2 (proceeds_of v0 v1 s.goes) (starts_grow a b v0 v1 s Ckpt2) (caused.failed2 e is)) (λ not. lost_before Ckpt2 v0 v1 v2 (s.taken2 not) goes (grow Ckpt2));
   console = λ e. omega (arith, s.goes.faults Console, caused.console e);
 }
 
 pub no : (base : Queue) → has_begun base ≡ true → has_begun base ≡ false → ⊥
 no base p q = cc
 
+-- a copy that had gone when a start ended has gone when the run has ended
+pub gone_on : (dev : Dev) (old mid new : View) (mark : Mark) → mark.at ≤ mid.now → Proceeds mid new → HasGone dev old mid mark → HasGone dev old new mark
+gone_on dev old mid new mark before goes x = record {
+  failed = omega (arith, x.failed, goes.faults (DiskPart dev));
+  is_lost = goes.lost (DiskPart dev) x.is_lost;
+  uncalled = x.uncalled;
+  gone = λ lt. ap (λ (w : World). (w.disk dev).lost) (goes.past mark.at before) ∙ x.gone lt;
+}
+
 -- what an image was during the start, it was when the run has ended
-pub held_until : (v0 v1 v2 : View) (found : List ℕ) → Goes v1 v2 → WhileStarting (IsHeld form_reads (disk_now v0 Ckpt1) found) (IsHeld form_reads (disk_now v0 Ckpt2) found) v0 v1 → IsHeldUntil v1.now found v0 v2
+pub held_until : (v0 v1 v2 : View) (found : List ℕ) → Proceeds v1 v2 → WhileStarting (IsHeld form_reads (disk_now v0 Ckpt1) found) (IsHeld form_reads (disk_now v0 Ckpt2) found) v0 v1 → IsHeldUntil v1.now found v0 v2
 held_until v0 v1 v2 found goes held = record {
   first = λ t from le. subst (λ (w : World). IsHeld form_reads (disk_now v0 Ckpt1) found (w.disk Ckpt1)) (sym (goes.past t le)) (held.first t from le);
   second = λ t from le. subst (λ (w : World). IsHeld form_reads (disk_now v0 Ckpt2) found (w.disk Ckpt2)) (sym (goes.past t le)) (held.second t from le);
@@ -190,7 +200,7 @@ lost_more_of gone later more per (g ∷ groups) none =
     not_gone true b to no = absurd (let e = to refl in cc)
     not_gone false b to no = refl
 
-pub texts_later : (v1 v2 : View) (per : ℕ) (Q : Queue) → Goes v1 v2 → HasTexts (lost_now v1) (spools_at v1 v1.now) per Q → HasTexts (lost_now v2) (spools_at v2 v1.now) per Q
+pub texts_later : (v1 v2 : View) (per : ℕ) (Q : Queue) → Proceeds v1 v2 → HasTexts (lost_now v1) (spools_at v1 v1.now) per Q → HasTexts (lost_now v2) (spools_at v2 v1.now) per Q
 texts_later v1 v2 per Q goes has = subst (λ (w : World). HasTexts (lost_now v2) (λ n. w.disk (Spool n)) per Q) (sym (goes.past v1.now (omega arith)))
     (record {
       decks = All-weaker (λ j. IsThereUnless (lost_now v1) (spools_at v1 v1.now) per j.text (groups_of (Deck j.number) Q.owners)) (λ j. IsThereUnless (lost_now v2) (spools_at v1 v1.now) per j.text (groups_of (Deck j.number) Q.owners))

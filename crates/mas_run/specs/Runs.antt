@@ -1,20 +1,18 @@
 -- What a run did.
-use Rattle.std.specs.Prelude.{◌≡◌, ◌≢◌, ◌⊎◌, ℕ, ◌+◌, ◌≤◌, ◌<◌, nat_lt, Bool, true, false, List, [], ◌∷◌, ◌++◌, drop, length, take, map, Some, All}
+use Rattle.std.specs.Prelude.{◌≡◌, ◌≢◌, ◌⊎◌, ℕ, ◌≤◌, ◌<◌, nat_lt, Bool, true, false, List, [], ◌∷◌, ◌++◌, length, map, Some, Option, None, Result}
 use Rattle.mas_types.specs.declared.ids.Dev.{Dev}
 use Rattle.mas_types.specs.declared.ids.Dev.TheVariants.{Ckpt1, Ckpt2, Spool}
 use Rattle.mas_types.specs.declared.journals.Batch.{Batch}
-use Rattle.mas_types.specs.declared.journals.Entry.{Entry}
 use Rattle.mas_types.specs.declared.journals.Journal.{Journal}
 use Rattle.mas_types.specs.declared.journals.Fate.TheVariants.{Kept, Flying}
 use Rattle.mas_types.specs.declared.answers.Status.{Status}
-use Rattle.mas_types.specs.declared.answers.Status.TheVariants as status
 use Rattle.mas_types.specs.declared.queues.Config.{Config}
 use Rattle.mas_types.specs.declared.queues.Queue.{Queue}
 use Rattle.mas_types.specs.declared.queues.Route.{Route}
 use Rattle.mas_types.specs.Starts.{empty_queue, no_queue}
 use Rattle.script_lang.specs.declared.types.Script.{Script}
 use Rattle.spool_disk.specs.declared.plant.Part.TheVariants.{Disk}
-use Rattle.spool_disk.specs.View.{View, Line, disk_at, disk_now, Throughout}
+use Rattle.spool_disk.specs.View.{View, disk_at, disk_now, Throughout, paper_now}
 use Rattle.spool_disk.specs.Acts.{Goes, Rose, top, next}
 use Rattle.ckpt_form.specs.Form.{form_reads, form_room}
 use Rattle.ckpt_copy.specs.Meanwhile.{SameSides}
@@ -36,15 +34,22 @@ use Rattle.warm_start.specs.Usable.{AreOf, HaveSize}
 use Rattle.mas_run.specs.Resets.{restart_entries}
 use Rattle.warm_start.specs.Starting.{Mark, IsFound, IsUnfit, IsHeld}
 use Rattle.member_node.specs.Calls.{console_now}
-use Rattle.member_steps.specs.Saying.{torn}
-use Rattle.member_decks.specs.Batches.{AreAll, AreCut, AreSome, OneFlies}
 use Rattle.mas_complex.specs.Paper.{PaperKept}
-use Rattle.mas_complex.specs.Headline.{whole, IsCrashSafe, AreAlwaysAlike, AreLevelsLow, AreTextsLeft, LeavesQueue, AreToldKept}
-use Rattle.script_input.specs.Played.{sysa}
-use Rattle.mas_run.specs.Turns.{Sight, Turn, turns_of}
-use Rattle.mas_run.specs.Steps.{AreOutcomes, ArePassed, BeginsWork, LeavesVolumes, Outcome, batches_in, lines_in, loses_after, next_in, outcomes_of}
+use Rattle.mas_complex.specs.Headline.{IsCrashSafe, AreAlwaysAlike, AreLevelsLow, AreTextsLeft, LeavesQueue, AreToldKept}
 use Rattle.mas_run.specs.Papers.{ArePapersKeptUntil}
 use Rattle.mas_run.specs.Volumes.{AreVolumesKept, AreVolumesKeptUntil}
+use Rattle.mas_types.specs.declared.ids.MemberId.{MemberId}
+use Rattle.script_lang.specs.declared.types.Step.{Step}
+use Rattle.member_node.specs.declared.member.NodeNo.{NodeNo}
+use Rattle.run_turns.specs.Sights.{Cut}
+use Rattle.run_turns.specs.Scenes.{scene_of}
+use Rattle.run_turns.specs.Steps.{Outcome}
+use Rattle.run_turns.specs.Runs.{console, history, outcomes_of, paper_of}
+use Rattle.run_turns.specs.Givens.{Given, last_cut, outcomes_with, scene_with, sights_of}
+use Rattle.mas_run.specs.Histories.{AreHistory}
+use Rattle.mas_run.specs.Passed.{ArePassed, Here, LeaveVolumes, TakeNone, There, arms_after, loses_after}
+use Rattle.mas_run.specs.Statuses.{status_of}
+use Rattle.mas_types.specs.declared.answers.Status.TheVariants as status
 
 -- a run has begun where its first queue has members
 abbrev pub has_begun : Queue → Bool
@@ -68,54 +73,7 @@ pub record IsUnbegun (base : Queue) (journal : Journal) (since now : ℕ) : Type
 abbrev pub AreSidesKept : View → View → Type 0
 AreSidesKept old new = SameSides (old.world old.now) (new.world new.now)
 
--- THE HISTORY
-
--- some batches of the next step, if any, of which the last may have its first entries alone, and nothing is in flight
-abbrev pub IsSettled : List (List Entry) → ℕ → ℕ → List Batch → Type 0
-IsSettled next from now begun = (begun ≡ []) ⊎ AreCut sysa from now next begun
-
--- some batches of the next step, if any, each with all its entries, and after them perhaps one in flight
-abbrev pub IsBegun : List (List Entry) → ℕ → ℕ → List Batch → Type 0
-IsBegun next from now begun = (begun ≡ []) ⊎ AreSome sysa from now next begun ⊎ OneFlies sysa from now next begun
-
--- So many steps, which did this, are kept, from the first on. After their batches stand none, or the first ones of the
--- next step, of which the last may be in flight, or have its first entries alone.
-pub record IsHistory (did : List Outcome) (kept : ℕ) (since now : ℕ) (batches : List Batch) : Type 0 where
-  pub front : List Batch
-  pub begun : List Batch
-  pub are : batches ≡ front ++ begun
-  pub between : ℕ
-  pub moments : (since ≤ between) × (between ≤ now)
-  pub are_kept : AreAll sysa since between (batches_in (take kept did)) front
-  pub next : IsSettled (next_in kept did) between now begun ⊎ OneFlies sysa between now (next_in kept did) begun
-
--- of the next step's batches only the first entries of one are kept without the rest where the step works
-abbrev pub IsUncut : List Turn → List (List Entry) → ℕ → ℕ → List Batch → Type 0
-IsUncut asked next from now begun = IsBegun next from now begun ⊎ (BeginsWork asked × AreCut sysa from now next begun)
-
--- The step after those that are closed isn't kept as a whole; or it works, and all of it is kept, and nothing after
--- it was begun.
-abbrev pub IsUnclosed : List Turn → ℕ → ℕ → List Batch → Type 0
-IsUnclosed asked kept closed begun = (kept ≡ closed) ⊎ (BeginsWork (drop closed asked) × (begun ≡ []))
-
--- THE CONSOLE
-
--- What a run adds, where these are the lines of the steps that are known to be closed, and these those of all that are
--- kept: the first ones, or where the console failed or the member was stopped perhaps some more of these, and where it
--- was stopped perhaps a torn line after them.
-abbrev pub Adds : List (List ℕ) → List (List ℕ) → List Line → List Line → Type 0 → Type 0 → Type 0
-Adds closed kept was now failed stopped =
-    (now ≡ was ++ map whole closed)
-    ⊎ ((n : ℕ) × (length closed ≤ n) × (n < length kept) × (now ≡ was ++ map whole (take n kept)) × failed)
-    ⊎ ((n : ℕ) × (length closed ≤ n) × (n ≤ length kept) × (now ≡ was ++ map whole (take n kept)) × stopped)
-    ⊎ ((n : ℕ) × (text : List ℕ) × (length closed ≤ n) × (n < length kept)
-    × (now ≡ (was ++ map whole (take n kept)) ++ torn text ∷ []) × stopped)
-
--- THE RUN
-
--- the member was stopped
-abbrev pub IsStopped : View → View → Type 0
-IsStopped old new = Rose (old.stops sysa.0) (new.stops sysa.0)
+-- THE COPIES
 
 -- a line of the script lost a copy, where each device had been lost so often by a call before
 abbrev pub HasLostSince : (Dev → ℕ) → View → Type 0
@@ -212,43 +170,81 @@ LosesFirst false Ckpt1 was is = (is ≡ was) ⊎ (is ≡ next was)
 LosesFirst false Ckpt2 was is = (is ≡ was) ⊎ (is ≡ next was)
 LosesFirst false (Spool n) was is = is ≡ was
 
--- THE STEPS
+-- THE LINES
 
--- The steps of a run, on a plant that showed `old` when they began, from a queue on: what is known of them at its end.
-pub record HavePassed (tells : Type 0) (asked : List Turn) (answer : Status) (from : Queue) (per at : ℕ)
-    (rest : List Batch) (first : Dev → ℕ) (old new : View) : Type 0 where
-  -- what the steps did, or would have done: where content is told it is what the table of commands gives for each, at
-  -- its queue
+-- Why the run ended: with Done each line was played, and none ended the run; else the last one that was played did
+
+abbrev pub EndsAs : Status → Option Cut → ℕ → ℕ → Type 0
+EndsAs status.Done cut many lines = (cut ≡ None) × (many ≡ lines)
+EndsAs _ cut many lines = (1 ≤ many) × (cut ≢ None)
+
+-- THE LINES of a run: with what they began, the first of them at a queue, on a plant that showed this; and how they
+-- ended: so many were played, the run's own journal, after its opening, has these batches, and this is its status
+
+pub record LinesBegun : Type 0 where
+  pub steps : List Step
+  pub from : Queue
+  pub view : View
+
+pub record LinesEnded : Type 0 where
+  pub many : ℕ
+  pub batches : List Batch
+  pub view : View
+  pub answer : Status
+
+abbrev pub starts : LinesBegun → Here
+starts b = record { number = 1; scene = scene_of b.from; batches = []; view = b.view }
+
+abbrev pub stops : LinesEnded → Result (Unit {0}) NodeNo → There
+stops e result = record { batches = e.batches; view = e.view; answer = result }
+
+-- What is known of them at their end. What this says of contents is said where they are told.
+pub record HavePassed (told : Type 0) (b : LinesBegun) (e : LinesEnded) : Type 0 where
+  -- what each line gave and did, and how it ended
+  pub given : List Given
+  pub result : Result (Unit {0}) NodeNo
+  pub ended : e.answer ≡ status_of result
+  pub passed : ArePassed told (starts b) given b.steps e.many (stops e result)
+  -- what the lines came to: where content is told it is what the script says of them, by what they found
   pub did : List Outcome
-  pub shaped : AreOutcomes 1 asked did
-  pub are : tells → did ≡ outcomes_of from asked
-  -- so many of the steps are kept, from the first on, and so many of the kept ones are known to be closed
-  pub kept : ℕ
-  pub closed : ℕ
-  pub few : (closed ≤ kept) × (kept ≤ closed + 1) × (kept ≤ length asked)
-  pub history : IsHistory did kept at new.now rest
-  pub settled : answer ≢ status.BothLost → IsSettled (next_in kept did) history.between new.now history.begun
-      ⊎ IsStopped old new
-  -- except for work, what was done of a batch is kept without the rest only if the run is out of memory
-  pub uncut : answer ≢ status.NoMemory
-      → IsUncut (drop kept asked) (next_in kept did) history.between new.now history.begun
-  pub done : answer ≡ status.Done → (closed ≡ length asked) ⊎ IsStopped old new
-  pub unsaid : answer ≡ status.ConsoleFault → (kept ≡ closed + 1) × (history.begun ≡ [])
-  pub unplayed : answer ≡ status.NoMemory → IsUnclosed asked kept closed history.begun
-  pub unkept : answer ≡ status.BothLost → IsUnclosed asked kept closed history.begun
-  -- the lines that the run said are those of the steps that are closed
-  pub said : tells → Adds (lines_in (take closed did)) (lines_in (take kept did)) (console_now old) (console_now new)
-      (answer ≡ status.ConsoleFault) (IsStopped old new)
-  -- a device is lost by a call as often as a step that was played says so
-  pub loses : tells → (d : Dev) → new.loses d ≡ loses_after d (take kept asked) (first d)
-  -- what the plant showed when the first step began, and what each step did from then on: a deck or work finds lost
-  -- only a volume or printer that failed in that step, and no step except work prints a line
-  pub entry : View
-  pub entered : (entry.now ≡ at) × Goes old entry
-  pub passed : ArePassed tells entry new per from 1 closed rest asked did
+  pub counted : length did ≡ e.many
+  pub did_is : did ≡ outcomes_with (scene_of b.from) 1 given b.steps
+  pub are : told → did ≡ outcomes_of b.from (sights_of given) b.steps
+  pub ends : EndsAs e.answer (last_cut (scene_of b.from) 1 given b.steps) e.many (length b.steps)
+  -- the journal is their history, the console has their lines, and each printer has those of its member's lines, and no
+  -- others
+  pub history : AreHistory (history did) e.batches
+  pub said : told → console_now e.view ≡ console_now b.view ++ map (λ s. s.line) (console did)
+  pub paper : told → (m : MemberId) → paper_now e.view m.0 ≡ paper_now b.view m.0 ++ paper_of m b.steps did
+  -- a device was lost by a call as often as a line that was played says so, and a copy besides perhaps by a takeover
+  pub loses : told → (n : ℕ) → e.view.loses (Spool n) ≡ loses_after (Spool n) did (b.view.loses (Spool n))
+  pub loses_copies : told → TakeNone (scene_of b.from) 1 given b.steps → (d : Dev)
+      → e.view.loses d ≡ loses_after d did (b.view.loses d)
+  -- a stop was armed as often as a line that was played says so
+  pub arms : (m : ℕ)
+      → e.view.arms m ≡ arms_after m (scene_with (scene_of b.from) 1 given b.steps).armed (b.view.arms m)
+  pub volumes : told → LeaveVolumes (scene_of b.from) 1 given b.steps → AreVolumesKept b.view e.view
+
+-- a warm run that couldn't be reset plays no line
+pub record NonePassed (b : LinesBegun) (e : LinesEnded) : Type 0 where
+  pub why : (e.answer ≡ status.NoMemory) ⊎ (e.answer ≡ status.BothLost)
+  pub none : e.many ≡ 0
+  pub empty : e.batches ≡ []
+  pub still : e.view ≡ b.view
+
+-- Both: what is known of any plant, and what is known besides of one that tells. Where a line was cut is known of the
+-- second alone; so what lines gave stands in each by itself. Before the lines began nothing was said or printed, and
+-- each device had been lost so often by a call.
+pub record WerePlayed (tells : Type 0) (b : LinesBegun) (e : LinesEnded) (first : Dev → ℕ) (old : View) : Type 0 where
+  pub entered : Goes old b.view
+  pub lost_before : (d : Dev) → b.view.loses d ≡ first d
+  pub unsaid : tells → console_now b.view ≡ console_now old
+  pub dry : tells → (m : ℕ) → paper_now b.view m ≡ paper_now old m
+  pub bare : NonePassed b e ⊎ HavePassed ⊥ b e
+  pub told : tells → NonePassed b e ⊎ HavePassed (Unit {0}) b e
   -- a copy is left, except where both are lost
-  pub there : answer ≢ status.BothLost → ((new.lost (Disk Ckpt1) ≡ false) ⊎ (new.lost (Disk Ckpt2) ≡ false))
-      ⊎ HasLostSince first new
+  pub there : e.answer ≢ status.BothLost
+      → ((e.view.lost (Disk Ckpt1) ≡ false) ⊎ (e.view.lost (Disk Ckpt2) ≡ false)) ⊎ HasLostSince first e.view
 
 -- What holds at each moment from a run's first on: a crash leaves the queue after what was kept, both copies read the
 -- same pages or those on either side of the batch in flight, each text is left, and what is told is kept; the lines
@@ -266,36 +262,37 @@ pub record IsSafe (tells : Type 0) (base : Queue) (journal : Journal) (since : �
 
 -- What was played, by a run on a base, whose journal had these batches then, on a plant that showed `old` before and
 -- `new` after it.
-pub record IsPlay (tells : Type 0) (asked : List Turn) (answer : Status) (base : Queue) (front : List Batch)
+pub record IsPlay (tells : Type 0) (steps : List Step) (answer : Status) (base : Queue) (front : List Batch)
     (journal : Journal) (since : ℕ) (old new : View) : Type 0 where
+  pub many : ℕ
   pub rest : List Batch
   pub batches : journal.batches ≡ front ++ rest
-  pub played : HavePassed tells asked answer (run base (kept_all front)) base.config.groups old.now rest old.loses old
-      new
-  pub volumes : tells → All LeavesVolumes asked → AreVolumesKept old new
+  pub played : WerePlayed tells (record { steps = steps; from = run base (kept_all front); view = old })
+      (record { many = many; batches = rest; view = new; answer = answer }) old.loses old
   pub safe : IsSafe tells base journal since new
 
--- The steps of a run, cold or warm, from its first moment on. Before them stands its opening, and each device had been
+-- The lines of a run, cold or warm, from its first moment on. Before them stands its opening, and each device had been
 -- lost so often by a call.
-pub record HasSteps (cold : Bool) (tells : Type 0) (asked : List Turn) (answer : Status) (base : Queue)
+pub record HasSteps (cold : Bool) (tells : Type 0) (steps : List Step) (answer : Status) (base : Queue)
     (journal : Journal) (since : ℕ) (first : Dev → ℕ) (old new : View) : Type 0 where
-  -- the journal of the run is that of its opening and of the steps, which began at a moment
+  -- the journal of the run is that of its opening and of the lines, which began at a moment
   pub opening : List Batch
   pub rest : List Batch
   pub batches : journal.batches ≡ opening ++ rest
+  pub entry : View
   pub at : ℕ
-  pub began : (since ≤ at) × (at ≤ new.now)
-  pub played : HavePassed tells asked answer (run base (kept_all opening)) base.config.groups at rest first old new
-  pub opened : IsOpened cold answer since at opening played.kept rest
-  -- no byte of a volume changed before they began, nor in steps that leave the volumes as they are; and no line was
-  -- printed before
+  pub began : (since ≤ at) × (at ≤ new.now) × (entry.now ≡ at)
+  pub many : ℕ
+  pub played : WerePlayed tells (record { steps = steps; from = run base (kept_all opening); view = entry })
+      (record { many = many; batches = rest; view = new; answer = answer }) first old
+  pub opened : IsOpened cold answer since at opening many rest
+  -- no byte of a volume changed before they began, and no line was printed before
   pub before : tells → AreVolumesKeptUntil at old new
   pub dry : tells → ArePapersKeptUntil at old new
-  pub volumes : tells → All LeavesVolumes asked → AreVolumesKept old new
   pub safe : IsSafe tells base journal since new
 
--- A run that has begun, cold or warm, of a script with these steps, on a plant that showed `old` before and `new` after
--- it. What it says of contents is said of a plant that tells.
+-- A run that has begun, cold or warm, of a script, on a plant that showed `old` before and `new` after it. What it says
+-- of contents is said of a plant that tells.
 pub record IsRun (cold : Bool) (tells : Type 0) (script : Script) (answer : Status) (base : Queue) (journal : Journal)
     (since : ℕ) (old new : View) : Type 0 where
   -- before the run's first moment a device had been lost so often by a call: a warm start may have lost a copy once
@@ -310,7 +307,5 @@ pub record IsRun (cold : Bool) (tells : Type 0) (script : Script) (answer : Stat
   pub quiet : tells → (new.world since).console ≡ console_now old
   -- nothing was printed before the run's first moment, nor taken or given on a wire
   pub dry : tells → SameSides (old.world old.now) (new.world since)
-  -- the steps of the run were played after its opening, each where the book of the lock gives it to the member; to the
-  -- first ones the volumes gave this
-  pub seen : List Sight
-  pub steps : HasSteps cold tells (turns_of base.config seen script.steps) answer base journal since first old new
+  -- the lines of the script were played after the run's opening
+  pub steps : HasSteps cold tells script.steps answer base journal since first old new

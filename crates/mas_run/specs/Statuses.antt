@@ -1,14 +1,17 @@
 -- Why a run ends.
-use Rattle.std.specs.Prelude.{◌≡◌, ◌≢◌, ◌⊎◌, ℕ, ◌<◌, Bool, true, false, List, All, Result, Ok, Err}
+use Rattle.std.specs.Prelude.{◌≡◌, ◌≢◌, ◌⊎◌, ℕ, ◌<◌, Bool, true, false, List, All, Option, Some, None, Result, Ok, Err}
 use Rattle.mas_types.specs.declared.ids.Dev.{Dev}
 use Rattle.mas_types.specs.declared.ids.Dev.TheVariants.{Ckpt1, Ckpt2}
+use Rattle.mas_types.specs.declared.ids.MemberId.{MemberId}
 use Rattle.mas_types.specs.declared.answers.Status.{Status}
 use Rattle.mas_types.specs.declared.answers.Status.TheVariants as status
+use Rattle.script_lang.specs.declared.types.Ask.{Ask}
 use Rattle.script_lang.specs.declared.types.Ask.TheVariants as ask
 use Rattle.script_lang.specs.declared.types.Step.{Step}
 use Rattle.spool_disk.specs.declared.plant.Part.TheVariants.{Disk, Console}
 use Rattle.spool_disk.specs.View.{View}
 use Rattle.spool_disk.specs.Acts.{Rose, top}
+use Rattle.run_turns.specs.Admissions.{resets}
 use Rattle.member_node.specs.declared.member.NodeNo.{NodeNo}
 use Rattle.member_node.specs.declared.member.NodeNo.TheVariants as no_node
 use Rattle.member_node.specs.Calls.{WasLost}
@@ -34,11 +37,23 @@ AreLeftAlone steps old new =
     (IsLeftAlone Ckpt1 steps old new × (IsLeftAlone Ckpt2 steps old new ⊎ (old.lost (Disk Ckpt2) ≡ true)))
     ⊎ (IsLeftAlone Ckpt2 steps old new × (old.lost (Disk Ckpt1) ≡ true))
 
+-- the member that a line is to reset
+abbrev pub resets_in : Ask → Option MemberId
+resets_in (ask.Command given) = resets given
+resets_in _ = None
+
+-- No line resets another member that the script has a line of: so nobody is reset who was stopped, and no lock is
+-- taken over. A takeover may lose a copy.
+abbrev pub TakesNone : List Step → Type 0
+TakesNone steps = All (λ (s : Step). (of : MemberId) → resets_in s.what ≡ Some of
+    → (of ≡ s.by) ⊎ All (λ (r : Step). r.by ≢ of) steps) steps
+
 -- No fault of the source or of the console rose; and the copies were left alone by their devices and by the script's
 -- steps, where content is told, or not both were lost, whoever lost them.
 pub record IsStill (tells : Type 0) (steps : List Step) (before after : ℕ) (old new : View) : Type 0 where
   pub source : Rose before after → ⊥
-  pub disks : (tells × AreLeftAlone steps old new) ⊎ (WasLost Ckpt1 old new → WasLost Ckpt2 old new → ⊥)
+  pub disks : (tells × AreLeftAlone steps old new × TakesNone steps)
+      ⊎ (WasLost Ckpt1 old new → WasLost Ckpt2 old new → ⊥)
   pub console : Rose (old.faults Console) (new.faults Console) → ⊥
 
 -- the status of a run that has begun and ended with this answer of its steps

@@ -1,5 +1,5 @@
 //! A script that is played from the queue that is found.
-ghost use Rattle.std.specs.Prelude.{◌≡◌, ◌≢◌, ◌⊎◌, ◌≤◌, ◌<◌, ◌^◌, [], List as ListOf, true, false, length, All, None};
+ghost use Rattle.std.specs.Prelude.{◌≡◌, ◌≢◌, ◌⊎◌, ℕ, ◌≤◌, ◌<◌, ◌^◌, [], true, false, length, All, None};
 ghost use Rattle.mas_types.specs.Fit.{IsConfig};
 ghost use Rattle.mas_types.specs.Limits.{steps_most};
 ghost use Rattle.mas_types.specs.Sound.{IsSound};
@@ -7,28 +7,30 @@ ghost use Rattle.mas_types.specs.declared.ids.Dev.TheVariants.{Ckpt1, Ckpt2};
 ghost use Rattle.mas_types.specs.declared.ids.Dev.{Dev};
 ghost use Rattle.spool_disk.specs.declared.plant.Part.TheVariants.{Disk};
 ghost use Rattle.spool_disk.specs.View.{disk_now};
-ghost use Rattle.spool_disk.specs.Acts.{Goes};
 ghost use Rattle.ckpt_form.specs.Form.{form_reads, form_needs};
 ghost use Rattle.ckpt_pages.specs.Shape.{page_count};
 ghost use Rattle.duplex_pair.specs.Halves.{SomeAlive};
-ghost use Rattle.script_input.specs.Played.{IsPlayed, sysa};
+ghost use Rattle.script_input.specs.Played.{IsPlayed};
 ghost use Rattle.warm_start.specs.Starting.{OnlyLookedAtAll};
 ghost use Rattle.spool_volumes.specs.Volumes.{AreRoomy};
 ghost use Rattle.member_node.specs.Calls.{Grows, console_now};
 ghost use Rattle.member_node.specs.Copies.{RestsAt};
 ghost use Rattle.member_node.specs.Drawn.{AreDrawn};
-ghost use Rattle.member_steps.specs.Locked.{IsOpenTo};
 ghost use Rattle.queue_effect.specs.Standing.{AreFit};
 ghost use Rattle.queue_tables.specs.Orders.{HaveOrders};
 ghost use Rattle.queue_tables.specs.Telling.{Tell, TellSound};
-ghost use Rattle.mas_run.specs.Turns.{Sight, turns_from};
 ghost use Rattle.mas_run.specs.Runs.{has_begun, AreSidesKept, Begins, IsUnbegun, HasSteps, IsRun};
 ghost use Rattle.mas_run.specs.Statuses.{IsCaused, IsCausedFrom, is_of_play, is_of_text};
 ghost use Rattle.mas_run.specs.Volumes.{AreVolumesKept};
 ghost use Rattle.mas_run.specs.Unstarted.{status_of_start as status_of_start_lem, IsNotStarted};
+ghost use Rattle.mas_complex.specs.Locking.{book_of};
+ghost use Rattle.mas_complex.specs.Paper.{no_counts};
+ghost use Rattle.mas_run.specs.Lines.{Proceeds};
 
 use crate::ended::Ended;
-use crate::play::{SYSA, ended, play_asked, status_of, unbegun};
+use crate::members::members_of;
+use crate::play::{ended, play_asked, status_of, unbegun};
+use crate::reset::restart;
 use crate::running::Running;
 use ckpt_copy::Copying;
 use ckpt_form::CopyForm;
@@ -60,17 +62,19 @@ pub fn status_of_start(why: StartNo) -> Status
     }
 }
 
-// Gives Restart, by the operator with the checkpoint that is found, and then plays what the script asks for.
+// Gives Restart, by the operator with the checkpoint that is found, and then plays the lines of the script.
 fn play_reset<P: Plant + Drop>(
     alloc: Global,
-    asked: &[Step],
+    lines: &[Step],
     found: Started<P, CopyForm>,
 ) -> Ended<P>
-    requires lock { IsOpenTo found.complex.book found.complex.reserved sysa }
+    requires book { found.complex.book ≡ book_of found.complex.base.config }
+    requires unreserved { found.complex.reserved ≡ None }
+    requires printed { found.complex.printed ≡ no_counts }
     requires config { IsConfig found.complex.base.config }
     requires base_sound { IsSound found.complex.base }
-    requires few { length asked.now ≤ steps_most }
-    requires may { All IsPlayed asked.now }
+    requires few { length lines.now ≤ steps_most }
+    requires played { All IsPlayed lines.now }
     requires roomy { P.tells → AreRoomy (P.view found.complex.plant) found.complex.base.config }
     requires none { found.complex.current ≡ None }
     requires unplaced { found.complex.placed ≡ false }
@@ -95,14 +99,12 @@ fn play_reset<P: Plant + Drop>(
     ensures base { result.base ≡ found.complex.base }
     ensures since { result.since ≡ found.complex.since }
     ensures kind { is_of_play result.status ≡ true }
-    ensures goes { Goes (P.view found.complex.plant) (P.view result.plant) }
+    ensures goes { Proceeds (P.view found.complex.plant) (P.view result.plant) }
     ensures grow { (d : Dev) → Grows ((P.view found.complex.plant).loses d) ((P.view result.plant).loses d) }
     ensures cause { IsCausedFrom found.complex.pair.first.alive found.complex.pair.second.alive result.status
         (P.view found.complex.plant) (P.view result.plant) }
-    ensures steps { (seen : ListOf Sight)
-        × HasSteps false P.tells (turns_from result.base.config found.complex.book seen asked.now) result.status
-        result.base result.journal result.since (P.view found.complex.plant).loses (P.view found.complex.plant)
-        (P.view result.plant) }
+    ensures steps { HasSteps false P.tells lines.now result.status result.base result.journal result.since
+        (P.view found.complex.plant).loses (P.view found.complex.plant) (P.view result.plant) }
 {
     let Started {
         complex,
@@ -110,22 +112,23 @@ fn play_reset<P: Plant + Drop>(
         pages,
         levels,
     } = found;
+    let mut complex = complex;
     let checkpoint = Checkpoint {
         tables,
         level: complex.level,
         levels,
         pages,
     };
-    let Ok(member) = Member::with(alloc, OPERATOR, checkpoint) else {
+    let Ok(members) = members_of(alloc, &complex.base.config) else {
         return ended(Status::NoMemory, complex);
     };
-    let mut run = Running { complex, member };
-    match run.restart(alloc) {
-        Ok(()) => {
-            run.member.id = SYSA;
-            play_asked(alloc, asked, run)
-        }
-        Err(why) => ended(status_of(&Err(why)), run.complex),
+    let Ok(operator) = Member::with(alloc, OPERATOR, checkpoint) else {
+        return ended(Status::NoMemory, complex);
+    };
+    let mut operator = operator;
+    match restart(&mut operator, alloc, &mut complex) {
+        Ok(()) => play_asked(alloc, lines, Running { complex, members }),
+        Err(why) => ended(status_of(&Err(why)), complex),
     }
 }
 
@@ -146,7 +149,9 @@ pub(crate) fn play_warm<P: Plant + Drop>(alloc: Global, script: &Script, plant: 
     ensures unsaid { P.tells → has_begun result.base ≡ false
         → console_now (P.view result.plant) ≡ console_now (P.view plant) }
     ensures unprinted { P.tells → has_begun result.base ≡ false → AreSidesKept (P.view plant) (P.view result.plant) }
-    ensures goes { Goes (P.view plant) (P.view result.plant) }
+    ensures goes { Proceeds (P.view plant) (P.view result.plant) }
+    ensures arms { has_begun result.base ≡ false → (m : ℕ)
+        → (P.view result.plant).arms m ≡ (P.view plant).arms m }
     ensures loses { has_begun result.base ≡ false → result.status ≢ Status.BothLost → (d : Dev)
         → (P.view result.plant).loses d ≡ (P.view plant).loses d }
     ensures volumes { P.tells → has_begun result.base ≡ false → AreVolumesKept (P.view plant) (P.view result.plant) }

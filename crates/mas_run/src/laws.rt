@@ -1,16 +1,18 @@
 //! What holds of runs.
-ghost use Rattle.mas_run.specs.Found.{FindNone};
-ghost use Rattle.mas_run.specs.Turns.{AreAwake};
+ghost use Rattle.mas_run.specs.Calm.{FindNone};
+ghost use Rattle.mas_run.specs.Unstopped.{PlaysOn};
 
 use spool_disk::Plant;
 
-/// Where the configuration has no dormancy, each try of the lock by a script's step gets it.
-pub fn law_of_awake_runs()
-    ensures { AreAwake }
-{}
-
-/// Where neither a volume nor the printer failed in a run, no step found one lost: what becomes of its steps, and so
-/// its commands and lines, follows from its script and the queue that it began with.
+/// Where no volume failed in a run, nor the printer of a member that its script has a line of, no line found one lost:
+/// what its lines come to, and so its commands and what it says, follows from its script, the queue that it began with,
+/// and where members were stopped.
 pub fn law_of_sound_volumes<P: Plant>()
     ensures { FindNone P.tells }
+{}
+
+/// Where no stop of a member was counted in a run, no line of that member was cut but the one in which the run ended.
+pub fn law_of_plays_on()
+    ensures bare { PlaysOn ⊥ }
+    ensures told { PlaysOn (Unit {0}) }
 {}

@@ -4,13 +4,15 @@
 mod ended;
 mod found;
 mod laws;
+mod members;
 mod play;
 mod reset;
+mod resetting;
 mod running;
 mod top;
 
 pub use ended::{Ended, code};
 pub use found::status_of_start;
-pub use laws::{law_of_awake_runs, law_of_sound_volumes};
+pub use laws::{law_of_plays_on, law_of_sound_volumes};
 pub use play::unbegun;
 pub use top::{play_script, play_steps};

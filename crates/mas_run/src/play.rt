@@ -1,21 +1,18 @@
 //! A script that is played from an empty queue.
-ghost use Rattle.std.specs.Prelude.{◌≡◌, ◌⊎◌, ◌+◌, ◌≤◌, ◌<◌, ◌^◌, [], List as ListOf, ℕ, true, false, length, All, IfOk, IfErr, OnOk, None, Some};
+ghost use Rattle.std.specs.Prelude.{◌≡◌, ◌⊎◌, ℕ, ◌≤◌, [], true, false, length, All, IfOk, IfErr, OnOk, None, Some};
 ghost use Rattle.mas_types.specs.Starts.{empty_queue as queue_without_jobs};
 ghost use Rattle.mas_types.specs.Fit.{IsConfig};
 ghost use Rattle.mas_types.specs.Limits.{routes_most, steps_most};
 ghost use Rattle.mas_types.specs.Lists.{first_some};
-ghost use Rattle.mas_types.specs.Sound.{IsSound};
 ghost use Rattle.mas_types.specs.declared.ids.Dev.TheVariants.{Ckpt1, Ckpt2};
 ghost use Rattle.mas_types.specs.declared.ids.Dev.{Dev};
 ghost use Rattle.mas_types.specs.declared.answers.CopyState.{CopyState};
 ghost use Rattle.spool_disk.specs.declared.plant.Part.TheVariants.{Disk};
-ghost use Rattle.spool_disk.specs.View.{disk_now};
-ghost use Rattle.spool_disk.specs.Acts.{Goes};
 ghost use Rattle.ckpt_form.specs.Form.{form_reads};
 ghost use Rattle.ckpt_pages.specs.Shape.{IsRoute};
 ghost use Rattle.ckpt_pages.specs.Starts.{empty_tables};
 ghost use Rattle.duplex_pair.specs.Halves.{SomeAlive};
-ghost use Rattle.script_input.specs.Played.{IsPlayed, sysa};
+ghost use Rattle.script_input.specs.Played.{IsPlayed};
 ghost use Rattle.script_laws.specs.Limits.{IsScript};
 ghost use Rattle.mas_complex.specs.Headline.{Headline};
 ghost use Rattle.mas_complex.specs.Journals.{end_of, kept_all};
@@ -24,16 +21,18 @@ ghost use Rattle.mas_run.specs.Refusals.{bytes_needed, refused_devices, Answers,
 ghost use Rattle.spool_volumes.specs.Volumes.{AreRoomy};
 ghost use Rattle.member_node.specs.Calls.{Grows, console_now};
 ghost use Rattle.member_node.specs.Drawn.{AreDrawn};
-ghost use Rattle.member_node.specs.Reads.{IsCalm, ReadsLow};
-ghost use Rattle.member_steps.specs.Locked.{IsOpenTo};
-ghost use Rattle.member_steps.specs.Steps.{AreAllKept, IsAtLock, IsToldSound};
-ghost use Rattle.mas_run.specs.Turns.{Sight, turns_from};
 ghost use Rattle.mas_run.specs.Runs.{has_begun, AreSidesKept, Begins, IsUnbegun, IsPlay, IsRun};
 ghost use Rattle.mas_run.specs.Statuses.{IsCaused, IsCausedFrom, status_of as status_of_lem, is_of_play, is_of_text};
 ghost use Rattle.mas_run.specs.Volumes.{AreVolumesKept};
+ghost use Rattle.mas_complex.specs.Journals.{AreSettled};
+ghost use Rattle.run_turns.specs.Scenes.{scene_of};
+ghost use Rattle.mas_run.specs.Fresh.{AreFresh};
+ghost use Rattle.mas_run.specs.Lines.{Proceeds};
+ghost use Rattle.mas_run.specs.Shows.{BetweenLines, Shows};
 
 use crate::ended::Ended;
 use crate::found::status_of_start;
+use crate::members::members_of;
 use crate::running::Running;
 use ckpt_copy::Copying;
 use ckpt_form::CopyForm;
@@ -43,7 +42,7 @@ use mas_complex::Complex;
 use mas_types::{
     Config, Dev, Journal, List, MemberId, NoMemory, Queue, Route, Status, empty_queue, no_queue,
 };
-use member_node::{Member, NodeNo, blank};
+use member_node::{Checkpoint, Member, NodeNo, blank};
 use queue_tables::law_of_told_queues;
 use script_lang::{Script, Step};
 use spool_disk::Plant;
@@ -52,9 +51,6 @@ use warm_start::refuse_small;
 
 /// The operator, who formats the copies.
 const OPERATOR: MemberId = MemberId(0);
-
-/// The first member, whose steps are played.
-pub(crate) const SYSA: MemberId = MemberId(1);
 
 /// The end of a run that has not begun.
 pub fn unbegun<P: Plant + Drop>(alloc: Global, status: Status, plant: P) -> Ended<P>
@@ -112,75 +108,62 @@ pub(crate) fn ended<P: Plant + Drop>(status: Status, complex: Complex<P, CopyFor
     }
 }
 
-// Plays what the script asks for.
+// Plays the lines of a script, and ends the run.
 pub(crate) fn play_asked<P: Plant + Drop>(
     alloc: Global,
-    asked: &[Step],
+    lines: &[Step],
     run: Running<P, CopyForm>,
 ) -> Ended<P>
-    requires id { run.member.id ≡ sysa }
-    requires lock { IsOpenTo run.complex.book run.complex.reserved sysa }
-    requires config { IsConfig run.complex.base.config }
-    requires few { length asked.now ≤ steps_most }
-    requires base_sound { IsSound run.complex.base }
-    requires may { All IsPlayed asked.now }
-    requires roomy { P.tells → AreRoomy (P.view run.complex.plant) run.complex.base.config }
-    requires at_lock { IsAtLock run.complex.current run.complex.placed run.member.batch run.member.checkpoint
-        run.member.room }
-    requires calm1 { IsCalm run.complex.pair.first.alive run.complex.first
-        (⟦<CopyForm as Copying>⟧.count run.complex.pair.first.copy) (length run.member.room) }
-    requires calm2 { IsCalm run.complex.pair.second.alive run.complex.second
-        (⟦<CopyForm as Copying>⟧.count run.complex.pair.second.copy) (length run.member.room) }
-    requires low1 { ReadsLow P.tells run.complex.pair.first.alive run.member.checkpoint.tables.config
-        (length run.complex.journal.batches) (form_reads (disk_now (P.view run.complex.plant) Ckpt1).bytes) }
-    requires low2 { ReadsLow P.tells run.complex.pair.second.alive run.member.checkpoint.tables.config
-        (length run.complex.journal.batches) (form_reads (disk_now (P.view run.complex.plant) Ckpt2).bytes) }
-    requires sound { P.tells → IsToldSound (run_of run.complex.base (kept_all run.complex.journal.batches)) }
-    requires own { run.complex.base.config ≡ run.member.checkpoint.tables.config }
-    requires fresh { length run.complex.journal.batches ≤ 1 }
-    requires level { run.complex.level < 2 ^ 62 + 64 }
-    requires kept { AreAllKept run.complex.journal.batches (P.view run.complex.plant).now }
-    requires since { run.complex.since ≤ (P.view run.complex.plant).now }
-    requires quiet { P.tells → ((P.view run.complex.plant).world run.complex.since).console
-        ≡ console_now (P.view run.complex.plant) }
+    requires few { length lines.now ≤ steps_most }
+    requires played { All IsPlayed lines.now }
+    requires between { BetweenLines run.complex run.members 1 }
+    requires shows { Shows (Unit {0}) (scene_of (run_of run.complex.base (kept_all run.complex.journal.batches)))
+        run.complex }
+    requires settled { AreSettled run.complex.journal.batches (P.view run.complex.plant).now }
     requires some { SomeAlive run.complex.pair.first.alive run.complex.pair.second.alive }
     requires there1 { run.complex.pair.first.alive ≡ true → (P.view run.complex.plant).lost (Disk Ckpt1) ≡ false }
     requires there2 { run.complex.pair.second.alive ≡ true → (P.view run.complex.plant).lost (Disk Ckpt2) ≡ false }
     ensures base { result.base ≡ run.complex.base }
     ensures since { result.since ≡ run.complex.since }
     ensures kind { is_of_play result.status ≡ true }
-    ensures goes { Goes (P.view run.complex.plant) (P.view result.plant) }
+    ensures goes { Proceeds (P.view run.complex.plant) (P.view result.plant) }
     ensures grow { (d : Dev) → Grows ((P.view run.complex.plant).loses d) ((P.view result.plant).loses d) }
     ensures cause { IsCausedFrom run.complex.pair.first.alive run.complex.pair.second.alive result.status
         (P.view run.complex.plant) (P.view result.plant) }
-    ensures play { (seen : ListOf Sight)
-        × IsPlay P.tells (turns_from result.base.config run.complex.book seen asked.now) result.status result.base
-        run.complex.journal.batches result.journal result.since (P.view run.complex.plant) (P.view result.plant) }
+    ensures play { IsPlay P.tells lines.now result.status result.base run.complex.journal.batches result.journal
+        result.since (P.view run.complex.plant) (P.view result.plant) }
 {
     let mut run = run;
-    let answer = run.play_steps(alloc, asked);
+    let answer = run.play_lines(alloc, lines);
     ended(status_of(&answer), run.complex)
 }
 
-// The empty queue of a configuration and routes, and SYSA with its checkpoint.
-fn start(alloc: Global, config: &Config, routes: &List<Route>) -> Result<(Queue, Member), NoMemory>
+// What a cold run begins with.
+#[derive(Drop)]
+struct Beginning {
+    base: Queue,
+    members: List<Member>,
+    // What is formatted.
+    checkpoint: Checkpoint,
+}
+
+// The empty queue of a configuration and routes, the members of the configuration, and the pages of the queue.
+fn start(alloc: Global, config: &Config, routes: &List<Route>) -> Result<Beginning, NoMemory>
     requires config { IsConfig config.now }
     requires few { length routes.now ≤ routes_most }
     requires routes { All IsRoute routes.now }
-    ensures base { IfOk result (λ start. start.0 ≡ queue_without_jobs config.now routes.now) }
-    ensures id { IfOk result (λ start. start.1.id ≡ sysa) }
-    ensures batch { IfOk result (λ start. start.1.batch ≡ []) }
-    ensures room { IfOk result (λ start. length start.1.room ≡ length start.1.checkpoint.pages) }
-    ensures tables { IfOk result (λ start. start.1.checkpoint.tables ≡ empty_tables config.now routes.now) }
-    ensures level { IfOk result (λ start. start.1.checkpoint.level ≡ 1) }
+    ensures base { IfOk result (λ start. start.base ≡ queue_without_jobs config.now routes.now) }
+    ensures members { IfOk result (λ start. AreFresh config.now start.members) }
+    ensures tables { IfOk result (λ start. start.checkpoint.tables ≡ empty_tables config.now routes.now) }
+    ensures level { IfOk result (λ start. start.checkpoint.level ≡ 1) }
     ensures drawn { IfOk result (λ start.
-        AreDrawn start.1.checkpoint.tables start.1.checkpoint.level start.1.checkpoint.levels
-        start.1.checkpoint.pages) }
+        AreDrawn start.checkpoint.tables start.checkpoint.level start.checkpoint.levels start.checkpoint.pages) }
 {
-    let base = empty_queue(alloc, config, routes)?;
-    let checkpoint = blank(alloc, config, routes)?;
-    let member = Member::with(alloc, SYSA, checkpoint)?;
-    Ok((base, member))
+    Ok(Beginning {
+        base: empty_queue(alloc, config, routes)?,
+        members: members_of(alloc, config)?,
+        checkpoint: blank(alloc, config, routes)?,
+    })
 }
 
 // How many bytes a checkpoint device needs.
@@ -229,7 +212,9 @@ pub(crate) fn play_cold<P: Plant + Drop>(alloc: Global, script: &Script, plant: 
     ensures unsaid { P.tells → has_begun result.base ≡ false
         → console_now (P.view result.plant) ≡ console_now (P.view plant) }
     ensures unprinted { P.tells → has_begun result.base ≡ false → AreSidesKept (P.view plant) (P.view result.plant) }
-    ensures goes { Goes (P.view plant) (P.view result.plant) }
+    ensures goes { Proceeds (P.view plant) (P.view result.plant) }
+    ensures arms { has_begun result.base ≡ false → (m : ℕ)
+        → (P.view result.plant).arms m ≡ (P.view plant).arms m }
     ensures loses { has_begun result.base ≡ false → (d : Dev) → (P.view result.plant).loses d ≡ (P.view plant).loses d }
     ensures volumes { P.tells → has_begun result.base ≡ false → AreVolumesKept (P.view plant) (P.view result.plant) }
     ensures room { has_begun result.base ≡ true → (bytes_needed script.now.config ≤ (P.view plant).size Ckpt1)
@@ -244,7 +229,14 @@ pub(crate) fn play_cold<P: Plant + Drop>(alloc: Global, script: &Script, plant: 
     if let Err(status) = refuse_devices(&plant, config) {
         return unbegun(alloc, status, plant);
     }
-    let Ok((base, member)) = start(alloc, config, &script.routes) else {
+    let Ok(
+        Beginning {
+            base,
+            members,
+            checkpoint,
+        },
+    ) = start(alloc, config, &script.routes)
+    else {
         return unbegun(alloc, Status::NoMemory, plant);
     };
     let mut plant = plant;
@@ -254,11 +246,10 @@ pub(crate) fn play_cold<P: Plant + Drop>(alloc: Global, script: &Script, plant: 
         CopyForm::new(Dev::Ckpt2, count),
     );
     // The operator never halts.
-    let Ok(()) = pair.form(&mut plant, OPERATOR, member.checkpoint.pages.as_slice()) else {
+    let Ok(()) = pair.form(&mut plant, OPERATOR, checkpoint.pages.as_slice()) else {
         return unbegun(alloc, Status::BothLost, plant);
     };
     law_of_told_queues();
-    let level = member.checkpoint.level;
-    let complex = Complex::make(alloc, plant, pair, base, level);
-    play_asked(alloc, script.steps.as_slice(), Running { complex, member })
+    let complex = Complex::make(alloc, plant, pair, base, checkpoint.level);
+    play_asked(alloc, script.steps.as_slice(), Running { complex, members })
 }

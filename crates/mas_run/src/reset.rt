@@ -4,11 +4,11 @@ ghost use Rattle.mas_types.specs.declared.ids.Dev.TheVariants.{Ckpt1, Ckpt2};
 ghost use Rattle.mas_types.specs.Ids.{nobody};
 ghost use Rattle.mas_types.specs.declared.queues.Queue.{Queue};
 ghost use Rattle.spool_disk.specs.View.{disk_now};
+ghost use Rattle.spool_volumes.specs.Volumes.{AreRoomy};
 ghost use Rattle.ckpt_pages.specs.Shape.{HasSpelling};
 ghost use Rattle.duplex_pair.specs.Halves.{SomeAlive};
 ghost use Rattle.duplex_pair.specs.Outcomes.{least_room};
-ghost use Rattle.mas_complex.specs.Journals.{begun, end_of, kept_all};
-ghost use Rattle.mas_complex.specs.Meaning.{run};
+ghost use Rattle.mas_complex.specs.Journals.{end_of};
 ghost use Rattle.queue_effect.specs.Standing.{AreFit};
 ghost use Rattle.queue_tables.specs.Orders.{HaveOrders};
 ghost use Rattle.queue_tables.specs.Telling.{Tell, TellSound};
@@ -17,8 +17,10 @@ ghost use Rattle.member_node.specs.Copies.{RestsAt};
 ghost use Rattle.member_node.specs.Reads.{IsSettle};
 ghost use Rattle.member_node.specs.declared.member.NodeNo.TheVariants as no_node;
 ghost use Rattle.mas_run.specs.Resets.{restart_entries};
+ghost use Rattle.member_steps.specs.Steps.{IsAtLock};
+ghost use Rattle.mas_run.specs.Resets.{HasReset};
+ghost use Rattle.mas_run.specs.Shows.{QuietFor};
 
-use crate::running::Running;
 use mas_complex::{Complex, Steady};
 use mas_types::{Command, NoMemory};
 use member_node::{Member, NodeNo};
@@ -103,73 +105,59 @@ fn make_room<P: Plant + Drop, C: Steady + Drop>(
     member.primary(complex)
 }
 
-impl<P: Plant + Drop, C: Steady + Drop> Running<P, C> {
-    ghost use Rattle.member_node.specs.Reads.{IsCalm, ReadsLow};
-    ghost use Rattle.member_steps.specs.Steps.{IsAtLock, IsToldSound};
-    ghost use Rattle.mas_run.specs.Resets.{HasReset};
-
-    /// Gives Restart as the first batch, by the operator, while nobody holds the lock. Where it changes a page and a
-    /// copy has no room for a put, room is made first. It is kept once each copy that is left has it. All memory that
-    /// its write needs is taken before.
-    pub(crate) fn restart(&mut self, alloc: Global) -> Result<(), NodeNo>
-        requires id { self.old.member.id ≡ nobody }
-        requires here { self.old.member.behind ≡ false }
-        requires some { SomeAlive self.old.complex.pair.first.alive self.old.complex.pair.second.alive }
-        requires free { self.old.complex.book.holder ≡ nobody }
-        requires journal { self.old.complex.journal.batches ≡ [] }
-        requires since { self.old.complex.since ≡ (P.view self.old.complex.plant).now }
-        requires at_lock { IsAtLock self.old.complex.current self.old.complex.placed self.old.member.batch
-            self.old.member.checkpoint self.old.member.room }
-        requires same_level { self.old.complex.level ≡ self.old.member.checkpoint.level }
-        requires queue { Tell self.old.member.checkpoint.tables self.old.complex.base }
-        requires fit { AreFit self.old.member.checkpoint.tables }
-        requires orders { HaveOrders self.old.member.checkpoint.tables }
-        requires sound { TellSound self.old.member.checkpoint.tables }
-        requires rests1 { RestsAt P.tells self.old.complex.pair.first.alive self.old.complex.first
-            (C.count self.old.complex.pair.first.copy) self.old.member.checkpoint.pages
-            (C.reads (disk_now (P.view self.old.complex.plant) Ckpt1).bytes) }
-        requires rests2 { RestsAt P.tells self.old.complex.pair.second.alive self.old.complex.second
-            (C.count self.old.complex.pair.second.copy) self.old.member.checkpoint.pages
-            (C.reads (disk_now (P.view self.old.complex.plant) Ckpt2).bytes) }
-        requires order { self.old.member.checkpoint.tables.order < 2 ^ 62 }
-        requires level { self.old.complex.level + 1 < 2 ^ 63 }
-        ensures base { self.new.complex.base ≡ self.old.complex.base }
-        ensures since { self.new.complex.since ≡ self.old.complex.since }
-        ensures book { self.new.complex.book ≡ self.old.complex.book }
-        ensures id { self.new.member.id ≡ self.old.member.id }
-        ensures unreserved { OnOk result (self.new.complex.reserved ≡ None) }
-        ensures reset { HasReset P.tells
-            (end_of self.new.complex.placed self.new.complex.current self.new.complex.journal.batches)
-            self.old.complex.pair.first.alive self.new.complex.pair.first.alive self.old.complex.pair.second.alive
-            self.new.complex.pair.second.alive (P.view self.old.complex.plant) (P.view self.new.complex.plant) result }
-        ensures fresh { OnOk result (length self.new.complex.journal.batches ≡ 1) }
-        ensures at_lock { OnOk result (IsAtLock self.new.complex.current self.new.complex.placed self.new.member.batch
-            self.new.member.checkpoint self.new.member.room) }
-        ensures calm1 { OnOk result (IsCalm self.new.complex.pair.first.alive self.new.complex.first
-            (C.count self.new.complex.pair.first.copy) (length self.new.member.room)) }
-        ensures calm2 { OnOk result (IsCalm self.new.complex.pair.second.alive self.new.complex.second
-            (C.count self.new.complex.pair.second.copy) (length self.new.member.room)) }
-        ensures low1 { OnOk result (ReadsLow P.tells self.new.complex.pair.first.alive
-            self.new.member.checkpoint.tables.config (length self.new.complex.journal.batches)
-            (C.reads (disk_now (P.view self.new.complex.plant) Ckpt1).bytes)) }
-        ensures low2 { OnOk result (ReadsLow P.tells self.new.complex.pair.second.alive
-            self.new.member.checkpoint.tables.config (length self.new.complex.journal.batches)
-            (C.reads (disk_now (P.view self.new.complex.plant) Ckpt2).bytes)) }
-        ensures sound { OnOk result (IsToldSound
-            (run self.new.complex.base (kept_all self.new.complex.journal.batches))) }
-        ensures config { self.new.member.checkpoint.tables.config ≡ self.old.member.checkpoint.tables.config }
-        ensures level { OnOk result (self.new.complex.level ≤ self.old.complex.level + 1) }
-    {
-        let Ok(()) = give_restart(&mut self.member, alloc) else {
-            return Err(NodeNo::NoMemory);
-        };
-        make_room(&self.member, &mut self.complex)?;
-        self.complex.kept_texts();
-        law_of_texts();
-        let Ok(draft) = self.member.ready(alloc, &mut self.complex) else {
-            return Err(NodeNo::NoMemory);
-        };
-        self.member.write(&mut self.complex, &draft)?;
-        Ok(())
-    }
+/// Gives Restart as the first batch, by the operator, while nobody holds the lock. Where it changes a page and a
+/// copy has no room for a put, room is made first. It is kept once each copy that is left has it. All memory that
+/// its write needs is taken before.
+pub(crate) fn restart<P: Plant + Drop, C: Steady + Drop>(
+    operator: &mut Member,
+    alloc: Global,
+    complex: &mut Complex<P, C>,
+) -> Result<(), NodeNo>
+    requires id { operator.old.id ≡ nobody }
+    requires here { operator.old.behind ≡ false }
+    requires some { SomeAlive complex.old.pair.first.alive complex.old.pair.second.alive }
+    requires free { complex.old.book.holder ≡ nobody }
+    requires journal { complex.old.journal.batches ≡ [] }
+    requires since { complex.old.since ≡ (P.view complex.old.plant).now }
+    requires at_lock { IsAtLock complex.old.current complex.old.placed operator.old.batch
+        operator.old.checkpoint operator.old.room }
+    requires same_level { complex.old.level ≡ operator.old.checkpoint.level }
+    requires queue { Tell operator.old.checkpoint.tables complex.old.base }
+    requires fit { AreFit operator.old.checkpoint.tables }
+    requires orders { HaveOrders operator.old.checkpoint.tables }
+    requires sound { TellSound operator.old.checkpoint.tables }
+    requires rests1 { RestsAt P.tells complex.old.pair.first.alive complex.old.first
+        (C.count complex.old.pair.first.copy) operator.old.checkpoint.pages
+        (C.reads (disk_now (P.view complex.old.plant) Ckpt1).bytes) }
+    requires rests2 { RestsAt P.tells complex.old.pair.second.alive complex.old.second
+        (C.count complex.old.pair.second.copy) operator.old.checkpoint.pages
+        (C.reads (disk_now (P.view complex.old.plant) Ckpt2).bytes) }
+    requires order { operator.old.checkpoint.tables.order < 2 ^ 62 }
+    requires level { complex.old.level + 1 < 2 ^ 63 }
+    requires roomy { P.tells → AreRoomy (P.view complex.old.plant) complex.old.base.config }
+    ensures base { complex.new.base ≡ complex.old.base }
+    ensures since { complex.new.since ≡ complex.old.since }
+    ensures book { complex.new.book ≡ complex.old.book }
+    ensures id { operator.new.id ≡ operator.old.id }
+    ensures unreserved { OnOk result (complex.new.reserved ≡ None) }
+    ensures reset { HasReset P.tells
+        (end_of complex.new.placed complex.new.current complex.new.journal.batches)
+        complex.old.pair.first.alive complex.new.pair.first.alive complex.old.pair.second.alive
+        complex.new.pair.second.alive (P.view complex.old.plant) (P.view complex.new.plant) result }
+    ensures fresh { OnOk result (length complex.new.journal.batches ≡ 1) }
+    ensures printed { OnOk result (complex.new.printed ≡ complex.old.printed) }
+    ensures quiet { OnOk result (QuietFor complex.new (length operator.old.checkpoint.pages)) }
+    ensures config { operator.new.checkpoint.tables.config ≡ operator.old.checkpoint.tables.config }
+{
+    let Ok(()) = give_restart(operator, alloc) else {
+        return Err(NodeNo::NoMemory);
+    };
+    make_room(operator, complex)?;
+    complex.kept_texts();
+    law_of_texts();
+    let Ok(draft) = operator.ready(alloc, complex) else {
+        return Err(NodeNo::NoMemory);
+    };
+    operator.write(complex, &draft)?;
+    Ok(())
 }

@@ -1,548 +1,244 @@
-//! A run that has begun: its shared value and its member, and the steps that are played on them.
-ghost use Rattle.std.specs.Prelude.{◌≡◌, ◌+◌, ◌≤◌, ◌<◌, ◌^◌, List, length, true, false, None, OnOk, All};
-ghost use Rattle.mas_types.specs.declared.ids.Dev.TheVariants.{Ckpt1, Ckpt2};
-ghost use Rattle.mas_types.specs.declared.journals.Entry.{Entry};
-ghost use Rattle.mas_types.specs.Fit.{IsConfig, IsFit};
+//! A run that has begun: its shared value and its members, and the lines of a script that are played on them.
+ghost use Rattle.std.specs.Prelude.{◌≡◌, ◌≤◌, ◌+◌, length, true, Err, OnOk, All};
 ghost use Rattle.mas_types.specs.Limits.{steps_most};
-ghost use Rattle.mas_types.specs.Sound.{IsSound};
-ghost use Rattle.spool_disk.specs.View.{disk_now};
-ghost use Rattle.duplex_pair.specs.Halves.{SomeAlive};
-ghost use Rattle.script_input.specs.Commands.{is_typed};
+ghost use Rattle.script_lang.specs.declared.types.Ask.TheVariants.{Lose, Stop, StopIn};
+ghost use Rattle.lock_cycle.specs.Books.{IsMember, left_of};
+ghost use Rattle.run_turns.specs.Admissions.{granted_by};
 ghost use Rattle.script_input.specs.Played.{IsPlayed};
-ghost use Rattle.mas_complex.specs.Crash.{IsUntold, setting};
-ghost use Rattle.mas_complex.specs.Journals.{end_of, kept_all};
-ghost use Rattle.mas_complex.specs.Meaning.{run};
-ghost use Rattle.mas_run.specs.Turns.{no_reset as no_reset_lem, resets as resets_lem};
-ghost use Rattle.mas_types.specs.Closings.{AreMembersNamed};
 
+use crate::resetting::{reset_line, take_line};
 use mas_complex::{Complex, Steady};
-use mas_types::{Closing, Command, Config, Copied, Dev, Lines, MemberId, Refusal, Reply};
-use member_decks::{play_locked_deck, refuse};
+use mas_types::{Dev, List, MemberId};
+use member_hand::play_task;
+use member_lines::{
+    Admission, Closed, admit, arm_line, free_line, lock_line, say_denied, say_refused, say_stopped,
+    stop_line,
+};
 use member_node::{Member, NodeNo};
-use member_steps::play_locked;
-use member_work::play_locked_work;
 use script_lang::{Ask, Step};
-use spool_disk::Plant;
+use spool_disk::{Fuse, Plant};
 use std::alloc::Global;
+use step_turns::{Grant, Holder};
 
-/// The shared value of a run, and the member that acts on it: SYSA, and before its steps the operator.
+/// The shared value of a run, and its members: SYSA first, and as many as its configuration has.
 #[derive(Drop)]
 pub(crate) struct Running<P: Plant + Drop, C: Steady + Drop> {
     pub(crate) complex: Complex<P, C>,
-    pub(crate) member: Member,
+    pub(crate) members: List<Member>,
 }
 
-// Why a member isn't reset: there is none, or it is up, as each is before the run's end.
-fn no_reset(config: &Config, of: MemberId) -> Closing
-    requires { IsConfig config.now }
-    ensures is { result ≡ no_reset_lem config.now of }
-    ensures named { AreMembersNamed result }
+// A line is begun below this level of the kept pages. A run begins far below it.
+const LEVEL_MOST: u64 = (1 << 62) + (1 << 61);
+
+// How a member comes to hold the lock in a line: one that holds it before has it by LOCK.
+fn grant_of<P: Plant + Drop, C: Steady + Drop>(complex: &Complex<P, C>, by: MemberId) -> Grant
+    ensures { result ≡ granted_by complex.now.book by }
 {
-    if of.0 > 0 && of.0 <= config.members {
-        Closing::Up(of)
+    if complex.holder() == by {
+        Grant::ByLock
     } else {
-        Closing::Reply(Reply::No(Refusal::NoMember))
+        Grant::ForStep
     }
 }
 
-// The member that a command is to reset.
-fn reset_of(given: &Command) -> Option<MemberId>
-    ensures { result ≡ resets_lem given.now }
+// Who holds the lock in a line, once it was tried for.
+fn holder_of<P: Plant + Drop, C: Steady + Drop>(
+    complex: &Complex<P, C>,
+    by: MemberId,
+    step: u32,
+    grant: Grant,
+) -> Holder
+    requires { IsMember complex.now.book by }
+    ensures { result ≡ record { by = by; step = step; hold = left_of complex.now.book by; grant = grant } }
 {
-    match given {
-        Command::Reset { of } => Some(*of),
-        _ => None,
+    Holder {
+        by,
+        step,
+        hold: complex.hold_left(by),
+        grant,
     }
 }
 
 impl<P: Plant + Drop, C: Steady + Drop> Running<P, C> {
-    ghost use Rattle.lock_cycle.specs.Books.{try_refusal};
-    ghost use Rattle.spool_volumes.specs.Volumes.{AreRoomy};
-    ghost use Rattle.member_decks.specs.Steps.{AreOf};
-    ghost use Rattle.member_node.specs.Calls.{console_now};
-    ghost use Rattle.member_node.specs.Reads.{IsCalm, ReadsLow, too_high};
-    ghost use Rattle.member_steps.specs.Locked.{IsOpenTo};
-    ghost use Rattle.member_steps.specs.Steps.{AreAllKept, IsAtLock, IsToldSound};
-    ghost use Rattle.mas_run.specs.Plays.{HasPlay};
-    ghost use Rattle.member_work.specs.Steps.{IsCount, levels_in};
-    ghost use Rattle.mas_run.specs.Steps.{batches_most};
-    ghost use Rattle.mas_run.specs.Stops.{IsStepOf};
-    ghost use Rattle.script_input.specs.Played.{sysa};
-    ghost use Rattle.mas_run.specs.Turns.{Gives, Works, Closed, Loss, Sight, task_turn, command_turn, deck_turn, resets, after_tried, after_command, after_deck, turn_at, book_after};
-    ghost use Rattle.card_reader.specs.Decks.{read_as, text_of};
+    ghost use Rattle.mas_run.specs.Copies.{CopiesKept};
+    ghost use Rattle.mas_run.specs.LinesLeft.{LineIsLeft};
+    ghost use Rattle.mas_run.specs.LinesPlayed.{PlayedLine, PlayedLines, is_of_member, line_by};
+    ghost use Rattle.mas_run.specs.MuteLines.{PlaysMute};
+    ghost use Rattle.mas_run.specs.Shows.{BetweenLines, LeftBetween};
 
-    // Plays a deck of these cards.
-    fn play_deck(&mut self, alloc: Global, step: u32, cards: &Lines) -> Result<(), NodeNo>
-        requires id { self.old.member.id ≡ sysa }
-        requires lock { IsOpenTo self.old.complex.book self.old.complex.reserved sysa }
-        requires config { IsConfig self.old.complex.base.config }
-        requires since { self.old.complex.since ≤ (P.view self.old.complex.plant).now }
-        requires roomy { P.tells → AreRoomy (P.view self.old.complex.plant) self.old.complex.base.config }
-        requires untold { P.tells → (es : List Entry) → AreOf sysa step es
-            → IsUntold (setting C.reads self.old.complex.base self.old.complex.since) (P.view self.old.complex.plant)
-            es }
-        requires at_lock { IsAtLock self.old.complex.current self.old.complex.placed self.old.member.batch
-            self.old.member.checkpoint self.old.member.room }
-        requires calm1 { IsCalm self.old.complex.pair.first.alive self.old.complex.first
-            (C.count self.old.complex.pair.first.copy) (length self.old.member.room) }
-        requires calm2 { IsCalm self.old.complex.pair.second.alive self.old.complex.second
-            (C.count self.old.complex.pair.second.copy) (length self.old.member.room) }
-        requires low1 { ReadsLow P.tells self.old.complex.pair.first.alive self.old.member.checkpoint.tables.config
-            (length self.old.complex.journal.batches) (C.reads (disk_now (P.view self.old.complex.plant) Ckpt1).bytes) }
-        requires low2 { ReadsLow P.tells self.old.complex.pair.second.alive self.old.member.checkpoint.tables.config
-            (length self.old.complex.journal.batches) (C.reads (disk_now (P.view self.old.complex.plant) Ckpt2).bytes) }
-        requires sound { P.tells → IsToldSound (run self.old.complex.base (kept_all self.old.complex.journal.batches)) }
-        requires own { self.old.complex.base.config ≡ self.old.member.checkpoint.tables.config }
-        requires most { 1 ≤ C.room_most }
-        requires kept { AreAllKept self.old.complex.journal.batches (P.view self.old.complex.plant).now }
-        requires level { self.old.complex.level + 1 < too_high }
+    // A line of a member: it is tested, and then played as it is admitted, or closed. Where its member was halted it is
+    // stopped in the book, nothing was said of that yet, and what it had reserved is still to be given up.
+    fn play_member(
+        &mut self,
+        alloc: Global,
+        step: u32,
+        by: MemberId,
+        asked: &Ask,
+    ) -> Result<(), NodeNo>
+        requires played { IsPlayed (line_by by asked.now) }
+        requires member { is_of_member asked.now ≡ true }
+        requires few { step ≤ steps_most }
+        requires between { BetweenLines self.old.complex self.old.members step }
         ensures base { self.new.complex.base ≡ self.old.complex.base }
         ensures since { self.new.complex.since ≡ self.old.complex.since }
-        ensures id { self.new.member.id ≡ self.old.member.id }
-        ensures step { (seen : Sight) × IsStepOf P.tells
-            (deck_turn (try_refusal self.old.complex.book sysa false) (text_of cards.now) seen.lost
-            (read_as self.old.complex.base.config.node cards.now))
-            (run self.old.complex.base (kept_all self.old.complex.journal.batches)) self.old.complex.base.config.groups
-            step self.old.complex.journal.batches
-            (end_of self.new.complex.placed self.new.complex.current self.new.complex.journal.batches)
-            self.old.complex.pair.first.alive self.new.complex.pair.first.alive self.old.complex.pair.second.alive
-            self.new.complex.pair.second.alive (P.view self.old.complex.plant) (P.view self.new.complex.plant) result }
-        ensures at_lock { OnOk result (IsAtLock self.new.complex.current self.new.complex.placed self.new.member.batch
-            self.new.member.checkpoint self.new.member.room) }
-        ensures calm1 { OnOk result (IsCalm self.new.complex.pair.first.alive self.new.complex.first
-            (C.count self.new.complex.pair.first.copy) (length self.new.member.room)) }
-        ensures calm2 { OnOk result (IsCalm self.new.complex.pair.second.alive self.new.complex.second
-            (C.count self.new.complex.pair.second.copy) (length self.new.member.room)) }
-        ensures low1 { OnOk result (ReadsLow P.tells self.new.complex.pair.first.alive
-            self.old.member.checkpoint.tables.config (length self.new.complex.journal.batches)
-            (C.reads (disk_now (P.view self.new.complex.plant) Ckpt1).bytes)) }
-        ensures low2 { OnOk result (ReadsLow P.tells self.new.complex.pair.second.alive
-            self.old.member.checkpoint.tables.config (length self.new.complex.journal.batches)
-            (C.reads (disk_now (P.view self.new.complex.plant) Ckpt2).bytes)) }
-        ensures sound { OnOk result (P.tells
-            → IsToldSound (run self.new.complex.base (kept_all self.new.complex.journal.batches))) }
-        ensures own { OnOk result (self.new.member.checkpoint.tables.config
-            ≡ self.old.member.checkpoint.tables.config) }
-        ensures level { OnOk result (self.new.complex.level ≤ self.old.complex.level + 2) }
-        ensures lock { OnOk result (IsOpenTo self.new.complex.book self.new.complex.reserved sysa) }
-        ensures book { OnOk result (self.new.complex.book
-            ≡ after_deck self.old.complex.book (read_as self.old.complex.base.config.node cards.now)) }
+        ensures bare { LineIsLeft ⊥ step (line_by by asked.now) self.old.complex self.new.complex result }
+        ensures told { P.tells
+            → LineIsLeft (Unit {0}) step (line_by by asked.now) self.old.complex self.new.complex result }
+        ensures copies { CopiesKept self.old.complex self.new.complex result }
+        ensures next { OnOk result (BetweenLines self.new.complex self.new.members (step + 1)) }
+        ensures halted { result ≡ Err NodeNo.Halted → LeftBetween self.new.complex self.new.members (step + 1) }
+        ensures seated { result ≡ Err NodeNo.Halted → IsMember self.old.complex.book by }
     {
-        let own = self.complex.base.config.node;
-        play_locked_deck(&mut self.member, alloc, &mut self.complex, step, own, cards)
-    }
-
-    // Plays work of the member, at most so many units.
-    fn play_work(&mut self, alloc: Global, step: u32, units: u32) -> Result<(), NodeNo>
-        requires id { self.old.member.id ≡ sysa }
-        requires lock { IsOpenTo self.old.complex.book self.old.complex.reserved sysa }
-        requires config { IsConfig self.old.complex.base.config }
-        requires units { IsCount units }
-        requires base_sound { IsSound self.old.complex.base }
-        requires since { self.old.complex.since ≤ (P.view self.old.complex.plant).now }
-        requires roomy { P.tells → AreRoomy (P.view self.old.complex.plant) self.old.complex.base.config }
-        requires untold { P.tells → (es : List Entry) → AreOf sysa step es
-            → IsUntold (setting C.reads self.old.complex.base self.old.complex.since) (P.view self.old.complex.plant)
-            es }
-        requires at_lock { IsAtLock self.old.complex.current self.old.complex.placed self.old.member.batch
-            self.old.member.checkpoint self.old.member.room }
-        requires calm1 { IsCalm self.old.complex.pair.first.alive self.old.complex.first
-            (C.count self.old.complex.pair.first.copy) (length self.old.member.room) }
-        requires calm2 { IsCalm self.old.complex.pair.second.alive self.old.complex.second
-            (C.count self.old.complex.pair.second.copy) (length self.old.member.room) }
-        requires low1 { ReadsLow P.tells self.old.complex.pair.first.alive self.old.member.checkpoint.tables.config
-            (length self.old.complex.journal.batches) (C.reads (disk_now (P.view self.old.complex.plant) Ckpt1).bytes) }
-        requires low2 { ReadsLow P.tells self.old.complex.pair.second.alive self.old.member.checkpoint.tables.config
-            (length self.old.complex.journal.batches) (C.reads (disk_now (P.view self.old.complex.plant) Ckpt2).bytes) }
-        requires sound { P.tells → IsToldSound (run self.old.complex.base (kept_all self.old.complex.journal.batches)) }
-        requires own { self.old.complex.base.config ≡ self.old.member.checkpoint.tables.config }
-        requires most { 1 ≤ C.room_most }
-        requires kept { AreAllKept self.old.complex.journal.batches (P.view self.old.complex.plant).now }
-        requires level { self.old.complex.level + levels_in units < too_high }
-        ensures base { self.new.complex.base ≡ self.old.complex.base }
-        ensures since { self.new.complex.since ≡ self.old.complex.since }
-        ensures id { self.new.member.id ≡ self.old.member.id }
-        ensures step { (seen : Sight) × IsStepOf P.tells
-            (task_turn (try_refusal self.old.complex.book sysa false) (Works units seen.looks))
-            (run self.old.complex.base (kept_all self.old.complex.journal.batches)) self.old.complex.base.config.groups
-            step self.old.complex.journal.batches
-            (end_of self.new.complex.placed self.new.complex.current self.new.complex.journal.batches)
-            self.old.complex.pair.first.alive self.new.complex.pair.first.alive self.old.complex.pair.second.alive
-            self.new.complex.pair.second.alive (P.view self.old.complex.plant) (P.view self.new.complex.plant) result }
-        ensures at_lock { OnOk result (IsAtLock self.new.complex.current self.new.complex.placed self.new.member.batch
-            self.new.member.checkpoint self.new.member.room) }
-        ensures calm1 { OnOk result (IsCalm self.new.complex.pair.first.alive self.new.complex.first
-            (C.count self.new.complex.pair.first.copy) (length self.new.member.room)) }
-        ensures calm2 { OnOk result (IsCalm self.new.complex.pair.second.alive self.new.complex.second
-            (C.count self.new.complex.pair.second.copy) (length self.new.member.room)) }
-        ensures low1 { OnOk result (ReadsLow P.tells self.new.complex.pair.first.alive
-            self.old.member.checkpoint.tables.config (length self.new.complex.journal.batches)
-            (C.reads (disk_now (P.view self.new.complex.plant) Ckpt1).bytes)) }
-        ensures low2 { OnOk result (ReadsLow P.tells self.new.complex.pair.second.alive
-            self.old.member.checkpoint.tables.config (length self.new.complex.journal.batches)
-            (C.reads (disk_now (P.view self.new.complex.plant) Ckpt2).bytes)) }
-        ensures sound { OnOk result (P.tells
-            → IsToldSound (run self.new.complex.base (kept_all self.new.complex.journal.batches))) }
-        ensures own { OnOk result (self.new.member.checkpoint.tables.config
-            ≡ self.old.member.checkpoint.tables.config) }
-        ensures level { OnOk result (self.new.complex.level ≤ self.old.complex.level + levels_in units) }
-        ensures lock { OnOk result (IsOpenTo self.new.complex.book self.new.complex.reserved sysa) }
-        ensures book { OnOk result (self.new.complex.book ≡ after_tried self.old.complex.book) }
-    {
-        play_locked_work(&mut self.member, alloc, &mut self.complex, step, units)
-    }
-
-    // Plays a command that an operator types, but the reset of a member.
-    fn play_given(&mut self, alloc: Global, step: u32, given: &Command) -> Result<(), NodeNo>
-        requires id { self.old.member.id ≡ sysa }
-        requires lock { IsOpenTo self.old.complex.book self.old.complex.reserved sysa }
-        requires config { IsConfig self.old.complex.base.config }
-        requires typed { is_typed given.now ≡ true }
-        requires fit { IsFit given.now }
-        requires no_reset { resets given.now ≡ None }
-        requires since { self.old.complex.since ≤ (P.view self.old.complex.plant).now }
-        requires roomy { P.tells → AreRoomy (P.view self.old.complex.plant) self.old.complex.base.config }
-        requires untold { P.tells → (es : List Entry) → AreOf sysa step es
-            → IsUntold (setting C.reads self.old.complex.base self.old.complex.since) (P.view self.old.complex.plant)
-            es }
-        requires at_lock { IsAtLock self.old.complex.current self.old.complex.placed self.old.member.batch
-            self.old.member.checkpoint self.old.member.room }
-        requires calm1 { IsCalm self.old.complex.pair.first.alive self.old.complex.first
-            (C.count self.old.complex.pair.first.copy) (length self.old.member.room) }
-        requires calm2 { IsCalm self.old.complex.pair.second.alive self.old.complex.second
-            (C.count self.old.complex.pair.second.copy) (length self.old.member.room) }
-        requires low1 { ReadsLow P.tells self.old.complex.pair.first.alive self.old.member.checkpoint.tables.config
-            (length self.old.complex.journal.batches) (C.reads (disk_now (P.view self.old.complex.plant) Ckpt1).bytes) }
-        requires low2 { ReadsLow P.tells self.old.complex.pair.second.alive self.old.member.checkpoint.tables.config
-            (length self.old.complex.journal.batches) (C.reads (disk_now (P.view self.old.complex.plant) Ckpt2).bytes) }
-        requires sound { P.tells → IsToldSound (run self.old.complex.base (kept_all self.old.complex.journal.batches)) }
-        requires own { self.old.complex.base.config ≡ self.old.member.checkpoint.tables.config }
-        requires most { 1 ≤ C.room_most }
-        requires kept { AreAllKept self.old.complex.journal.batches (P.view self.old.complex.plant).now }
-        requires level { self.old.complex.level + 1 < too_high }
-        ensures base { self.new.complex.base ≡ self.old.complex.base }
-        ensures since { self.new.complex.since ≡ self.old.complex.since }
-        ensures id { self.new.member.id ≡ self.old.member.id }
-        ensures step { (seen : Sight) × IsStepOf P.tells
-            (task_turn (try_refusal self.old.complex.book sysa false) (Gives given.now))
-            (run self.old.complex.base (kept_all self.old.complex.journal.batches)) self.old.complex.base.config.groups
-            step self.old.complex.journal.batches
-            (end_of self.new.complex.placed self.new.complex.current self.new.complex.journal.batches)
-            self.old.complex.pair.first.alive self.new.complex.pair.first.alive self.old.complex.pair.second.alive
-            self.new.complex.pair.second.alive (P.view self.old.complex.plant) (P.view self.new.complex.plant) result }
-        ensures at_lock { OnOk result (IsAtLock self.new.complex.current self.new.complex.placed self.new.member.batch
-            self.new.member.checkpoint self.new.member.room) }
-        ensures calm1 { OnOk result (IsCalm self.new.complex.pair.first.alive self.new.complex.first
-            (C.count self.new.complex.pair.first.copy) (length self.new.member.room)) }
-        ensures calm2 { OnOk result (IsCalm self.new.complex.pair.second.alive self.new.complex.second
-            (C.count self.new.complex.pair.second.copy) (length self.new.member.room)) }
-        ensures low1 { OnOk result (ReadsLow P.tells self.new.complex.pair.first.alive
-            self.old.member.checkpoint.tables.config (length self.new.complex.journal.batches)
-            (C.reads (disk_now (P.view self.new.complex.plant) Ckpt1).bytes)) }
-        ensures low2 { OnOk result (ReadsLow P.tells self.new.complex.pair.second.alive
-            self.old.member.checkpoint.tables.config (length self.new.complex.journal.batches)
-            (C.reads (disk_now (P.view self.new.complex.plant) Ckpt2).bytes)) }
-        ensures sound { OnOk result (P.tells
-            → IsToldSound (run self.new.complex.base (kept_all self.new.complex.journal.batches))) }
-        ensures own { OnOk result (self.new.member.checkpoint.tables.config
-            ≡ self.old.member.checkpoint.tables.config) }
-        ensures level { OnOk result (self.new.complex.level ≤ self.old.complex.level + 2) }
-        ensures lock { OnOk result (IsOpenTo self.new.complex.book self.new.complex.reserved sysa) }
-        ensures book { OnOk result (self.new.complex.book ≡ after_tried self.old.complex.book) }
-    {
-        let Ok(given) = given.copy(alloc) else {
+        if self.complex.level >= LEVEL_MOST {
+            return Err(NodeNo::NoMemory);
+        }
+        let grant = grant_of(&self.complex, by);
+        let Ok(admission) = admit(alloc, &mut self.complex, by, asked) else {
             return Err(NodeNo::NoMemory);
         };
-        play_locked(&mut self.member, alloc, &mut self.complex, step, given)
-    }
-
-    // Closes a step that asks for the reset of a member.
-    fn close_reset(&mut self, alloc: Global, step: u32, of: MemberId) -> Result<(), NodeNo>
-        requires id { self.old.member.id ≡ sysa }
-        requires lock { IsOpenTo self.old.complex.book self.old.complex.reserved sysa }
-        requires config { IsConfig self.old.complex.base.config }
-        requires since { self.old.complex.since ≤ (P.view self.old.complex.plant).now }
-        requires roomy { P.tells → AreRoomy (P.view self.old.complex.plant) self.old.complex.base.config }
-        requires untold { P.tells → (es : List Entry) → AreOf sysa step es
-            → IsUntold (setting C.reads self.old.complex.base self.old.complex.since) (P.view self.old.complex.plant)
-            es }
-        requires at_lock { IsAtLock self.old.complex.current self.old.complex.placed self.old.member.batch
-            self.old.member.checkpoint self.old.member.room }
-        requires calm1 { IsCalm self.old.complex.pair.first.alive self.old.complex.first
-            (C.count self.old.complex.pair.first.copy) (length self.old.member.room) }
-        requires calm2 { IsCalm self.old.complex.pair.second.alive self.old.complex.second
-            (C.count self.old.complex.pair.second.copy) (length self.old.member.room) }
-        requires low1 { ReadsLow P.tells self.old.complex.pair.first.alive self.old.member.checkpoint.tables.config
-            (length self.old.complex.journal.batches) (C.reads (disk_now (P.view self.old.complex.plant) Ckpt1).bytes) }
-        requires low2 { ReadsLow P.tells self.old.complex.pair.second.alive self.old.member.checkpoint.tables.config
-            (length self.old.complex.journal.batches) (C.reads (disk_now (P.view self.old.complex.plant) Ckpt2).bytes) }
-        requires sound { P.tells → IsToldSound (run self.old.complex.base (kept_all self.old.complex.journal.batches)) }
-        requires own { self.old.complex.base.config ≡ self.old.member.checkpoint.tables.config }
-        requires most { 1 ≤ C.room_most }
-        requires kept { AreAllKept self.old.complex.journal.batches (P.view self.old.complex.plant).now }
-        requires level { self.old.complex.level + 1 < too_high }
-        ensures base { self.new.complex.base ≡ self.old.complex.base }
-        ensures since { self.new.complex.since ≡ self.old.complex.since }
-        ensures id { self.new.member.id ≡ self.old.member.id }
-        ensures step { (seen : Sight) × IsStepOf P.tells (Closed (no_reset_lem self.old.complex.base.config of))
-            (run self.old.complex.base (kept_all self.old.complex.journal.batches)) self.old.complex.base.config.groups
-            step self.old.complex.journal.batches
-            (end_of self.new.complex.placed self.new.complex.current self.new.complex.journal.batches)
-            self.old.complex.pair.first.alive self.new.complex.pair.first.alive self.old.complex.pair.second.alive
-            self.new.complex.pair.second.alive (P.view self.old.complex.plant) (P.view self.new.complex.plant) result }
-        ensures at_lock { OnOk result (IsAtLock self.new.complex.current self.new.complex.placed self.new.member.batch
-            self.new.member.checkpoint self.new.member.room) }
-        ensures calm1 { OnOk result (IsCalm self.new.complex.pair.first.alive self.new.complex.first
-            (C.count self.new.complex.pair.first.copy) (length self.new.member.room)) }
-        ensures calm2 { OnOk result (IsCalm self.new.complex.pair.second.alive self.new.complex.second
-            (C.count self.new.complex.pair.second.copy) (length self.new.member.room)) }
-        ensures low1 { OnOk result (ReadsLow P.tells self.new.complex.pair.first.alive
-            self.old.member.checkpoint.tables.config (length self.new.complex.journal.batches)
-            (C.reads (disk_now (P.view self.new.complex.plant) Ckpt1).bytes)) }
-        ensures low2 { OnOk result (ReadsLow P.tells self.new.complex.pair.second.alive
-            self.old.member.checkpoint.tables.config (length self.new.complex.journal.batches)
-            (C.reads (disk_now (P.view self.new.complex.plant) Ckpt2).bytes)) }
-        ensures sound { OnOk result (P.tells
-            → IsToldSound (run self.new.complex.base (kept_all self.new.complex.journal.batches))) }
-        ensures own { OnOk result (self.new.member.checkpoint.tables.config
-            ≡ self.old.member.checkpoint.tables.config) }
-        ensures level { OnOk result (self.new.complex.level ≤ self.old.complex.level + 2) }
-        ensures lock { OnOk result (IsOpenTo self.new.complex.book self.new.complex.reserved sysa) }
-        ensures book { OnOk result (self.new.complex.book ≡ self.old.complex.book) }
-    {
-        let end = no_reset(&self.complex.base.config, of);
-        refuse(&self.member, alloc, &mut self.complex, step, &end)
-    }
-
-    // Plays a command that an operator types.
-    fn play_command(&mut self, alloc: Global, step: u32, given: &Command) -> Result<(), NodeNo>
-        requires id { self.old.member.id ≡ sysa }
-        requires lock { IsOpenTo self.old.complex.book self.old.complex.reserved sysa }
-        requires config { IsConfig self.old.complex.base.config }
-        requires typed { is_typed given.now ≡ true }
-        requires fit { IsFit given.now }
-        requires since { self.old.complex.since ≤ (P.view self.old.complex.plant).now }
-        requires roomy { P.tells → AreRoomy (P.view self.old.complex.plant) self.old.complex.base.config }
-        requires untold { P.tells → (es : List Entry) → AreOf sysa step es
-            → IsUntold (setting C.reads self.old.complex.base self.old.complex.since) (P.view self.old.complex.plant)
-            es }
-        requires at_lock { IsAtLock self.old.complex.current self.old.complex.placed self.old.member.batch
-            self.old.member.checkpoint self.old.member.room }
-        requires calm1 { IsCalm self.old.complex.pair.first.alive self.old.complex.first
-            (C.count self.old.complex.pair.first.copy) (length self.old.member.room) }
-        requires calm2 { IsCalm self.old.complex.pair.second.alive self.old.complex.second
-            (C.count self.old.complex.pair.second.copy) (length self.old.member.room) }
-        requires low1 { ReadsLow P.tells self.old.complex.pair.first.alive self.old.member.checkpoint.tables.config
-            (length self.old.complex.journal.batches) (C.reads (disk_now (P.view self.old.complex.plant) Ckpt1).bytes) }
-        requires low2 { ReadsLow P.tells self.old.complex.pair.second.alive self.old.member.checkpoint.tables.config
-            (length self.old.complex.journal.batches) (C.reads (disk_now (P.view self.old.complex.plant) Ckpt2).bytes) }
-        requires sound { P.tells → IsToldSound (run self.old.complex.base (kept_all self.old.complex.journal.batches)) }
-        requires own { self.old.complex.base.config ≡ self.old.member.checkpoint.tables.config }
-        requires most { 1 ≤ C.room_most }
-        requires kept { AreAllKept self.old.complex.journal.batches (P.view self.old.complex.plant).now }
-        requires level { self.old.complex.level + 1 < too_high }
-        ensures base { self.new.complex.base ≡ self.old.complex.base }
-        ensures since { self.new.complex.since ≡ self.old.complex.since }
-        ensures id { self.new.member.id ≡ self.old.member.id }
-        ensures step { (seen : Sight) × IsStepOf P.tells
-            (command_turn self.old.complex.base.config (try_refusal self.old.complex.book sysa false) given.now
-            (resets given.now)) (run self.old.complex.base (kept_all self.old.complex.journal.batches))
-            self.old.complex.base.config.groups step self.old.complex.journal.batches
-            (end_of self.new.complex.placed self.new.complex.current self.new.complex.journal.batches)
-            self.old.complex.pair.first.alive self.new.complex.pair.first.alive self.old.complex.pair.second.alive
-            self.new.complex.pair.second.alive (P.view self.old.complex.plant) (P.view self.new.complex.plant) result }
-        ensures at_lock { OnOk result (IsAtLock self.new.complex.current self.new.complex.placed self.new.member.batch
-            self.new.member.checkpoint self.new.member.room) }
-        ensures calm1 { OnOk result (IsCalm self.new.complex.pair.first.alive self.new.complex.first
-            (C.count self.new.complex.pair.first.copy) (length self.new.member.room)) }
-        ensures calm2 { OnOk result (IsCalm self.new.complex.pair.second.alive self.new.complex.second
-            (C.count self.new.complex.pair.second.copy) (length self.new.member.room)) }
-        ensures low1 { OnOk result (ReadsLow P.tells self.new.complex.pair.first.alive
-            self.old.member.checkpoint.tables.config (length self.new.complex.journal.batches)
-            (C.reads (disk_now (P.view self.new.complex.plant) Ckpt1).bytes)) }
-        ensures low2 { OnOk result (ReadsLow P.tells self.new.complex.pair.second.alive
-            self.old.member.checkpoint.tables.config (length self.new.complex.journal.batches)
-            (C.reads (disk_now (P.view self.new.complex.plant) Ckpt2).bytes)) }
-        ensures sound { OnOk result (P.tells
-            → IsToldSound (run self.new.complex.base (kept_all self.new.complex.journal.batches))) }
-        ensures own { OnOk result (self.new.member.checkpoint.tables.config
-            ≡ self.old.member.checkpoint.tables.config) }
-        ensures level { OnOk result (self.new.complex.level ≤ self.old.complex.level + 2) }
-        ensures lock { OnOk result (IsOpenTo self.new.complex.book self.new.complex.reserved sysa) }
-        ensures book { OnOk result (self.new.complex.book ≡ after_command self.old.complex.book (resets given.now)) }
-    {
-        match reset_of(given) {
-            Some(of) => self.close_reset(alloc, step, of),
-            None => self.play_given(alloc, step, given),
+        let complex = &mut self.complex;
+        // Of a member that is none nothing but the refusal is looked at.
+        let at = (by.0 as usize).saturating_sub(1);
+        match admission {
+            Admission::Refused { sayer, end } => {
+                say_refused(alloc, complex, Closed { by, step, sayer }, &end)
+            }
+            Admission::Denied(why) => say_denied(alloc, complex, by, step, why),
+            Admission::Frees => free_line(alloc, complex, by, step),
+            Admission::Plays(task) => {
+                let holder = holder_of(complex, by, step, grant);
+                play_task(self.members.item_mut(at), alloc, complex, holder, task)
+            }
+            Admission::Resets(of) => {
+                let holder = holder_of(complex, by, step, grant);
+                reset_line(self.members.item_mut(at), alloc, complex, holder, of)
+            }
+            Admission::TakesOver(of) => {
+                take_line(self.members.item_mut(at), alloc, complex, step, of)
+            }
+            Admission::Locks => lock_line(self.members.item_mut(at), alloc, complex, step),
+            Admission::Unplayed => unreachable!(),
         }
     }
 
-    // Loses a device.
-    fn lose(&mut self, step: u32, dev: Dev) -> Result<(), NodeNo>
-        requires id { self.old.member.id ≡ sysa }
-        requires lock { IsOpenTo self.old.complex.book self.old.complex.reserved sysa }
-        requires config { IsConfig self.old.complex.base.config }
-        requires since { self.old.complex.since ≤ (P.view self.old.complex.plant).now }
-        requires roomy { P.tells → AreRoomy (P.view self.old.complex.plant) self.old.complex.base.config }
-        requires untold { P.tells → (es : List Entry) → AreOf sysa step es
-            → IsUntold (setting C.reads self.old.complex.base self.old.complex.since) (P.view self.old.complex.plant)
-            es }
-        requires at_lock { IsAtLock self.old.complex.current self.old.complex.placed self.old.member.batch
-            self.old.member.checkpoint self.old.member.room }
-        requires calm1 { IsCalm self.old.complex.pair.first.alive self.old.complex.first
-            (C.count self.old.complex.pair.first.copy) (length self.old.member.room) }
-        requires calm2 { IsCalm self.old.complex.pair.second.alive self.old.complex.second
-            (C.count self.old.complex.pair.second.copy) (length self.old.member.room) }
-        requires low1 { ReadsLow P.tells self.old.complex.pair.first.alive self.old.member.checkpoint.tables.config
-            (length self.old.complex.journal.batches) (C.reads (disk_now (P.view self.old.complex.plant) Ckpt1).bytes) }
-        requires low2 { ReadsLow P.tells self.old.complex.pair.second.alive self.old.member.checkpoint.tables.config
-            (length self.old.complex.journal.batches) (C.reads (disk_now (P.view self.old.complex.plant) Ckpt2).bytes) }
-        requires sound { P.tells → IsToldSound (run self.old.complex.base (kept_all self.old.complex.journal.batches)) }
-        requires own { self.old.complex.base.config ≡ self.old.member.checkpoint.tables.config }
-        requires most { 1 ≤ C.room_most }
-        requires kept { AreAllKept self.old.complex.journal.batches (P.view self.old.complex.plant).now }
-        requires level { self.old.complex.level + 1 < too_high }
+    // A line of a member. Where its member was halted, what it had reserved is given up, the operator says that it was
+    // stopped, and the run goes on.
+    fn play_asked(
+        &mut self,
+        alloc: Global,
+        step: u32,
+        by: MemberId,
+        asked: &Ask,
+    ) -> Result<(), NodeNo>
+        requires played { IsPlayed (line_by by asked.now) }
+        requires member { is_of_member asked.now ≡ true }
+        requires few { step ≤ steps_most }
+        requires between { BetweenLines self.old.complex self.old.members step }
         ensures base { self.new.complex.base ≡ self.old.complex.base }
         ensures since { self.new.complex.since ≡ self.old.complex.since }
-        ensures id { self.new.member.id ≡ self.old.member.id }
-        ensures step { (seen : Sight) × IsStepOf P.tells (Loss dev)
-            (run self.old.complex.base (kept_all self.old.complex.journal.batches)) self.old.complex.base.config.groups
-            step self.old.complex.journal.batches
-            (end_of self.new.complex.placed self.new.complex.current self.new.complex.journal.batches)
-            self.old.complex.pair.first.alive self.new.complex.pair.first.alive self.old.complex.pair.second.alive
-            self.new.complex.pair.second.alive (P.view self.old.complex.plant) (P.view self.new.complex.plant) result }
-        ensures at_lock { OnOk result (IsAtLock self.new.complex.current self.new.complex.placed self.new.member.batch
-            self.new.member.checkpoint self.new.member.room) }
-        ensures calm1 { OnOk result (IsCalm self.new.complex.pair.first.alive self.new.complex.first
-            (C.count self.new.complex.pair.first.copy) (length self.new.member.room)) }
-        ensures calm2 { OnOk result (IsCalm self.new.complex.pair.second.alive self.new.complex.second
-            (C.count self.new.complex.pair.second.copy) (length self.new.member.room)) }
-        ensures low1 { OnOk result (ReadsLow P.tells self.new.complex.pair.first.alive
-            self.old.member.checkpoint.tables.config (length self.new.complex.journal.batches)
-            (C.reads (disk_now (P.view self.new.complex.plant) Ckpt1).bytes)) }
-        ensures low2 { OnOk result (ReadsLow P.tells self.new.complex.pair.second.alive
-            self.old.member.checkpoint.tables.config (length self.new.complex.journal.batches)
-            (C.reads (disk_now (P.view self.new.complex.plant) Ckpt2).bytes)) }
-        ensures sound { OnOk result (P.tells
-            → IsToldSound (run self.new.complex.base (kept_all self.new.complex.journal.batches))) }
-        ensures own { OnOk result (self.new.member.checkpoint.tables.config
-            ≡ self.old.member.checkpoint.tables.config) }
-        ensures level { OnOk result (self.new.complex.level ≤ self.old.complex.level + 2) }
-        ensures lock { OnOk result (IsOpenTo self.new.complex.book self.new.complex.reserved sysa) }
-        ensures book { OnOk result (self.new.complex.book ≡ self.old.complex.book) }
+        ensures bare { PlayedLine ⊥ step (line_by by asked.now) self.old.complex self.new.complex result }
+        ensures told { P.tells
+            → PlayedLine (Unit {0}) step (line_by by asked.now) self.old.complex self.new.complex result }
+        ensures copies { CopiesKept self.old.complex self.new.complex result }
+        ensures next { OnOk result (BetweenLines self.new.complex self.new.members (step + 1)) }
+    {
+        match self.play_member(alloc, step, by, asked) {
+            Ok(()) => Ok(()),
+            Err(NodeNo::Halted) => {
+                self.complex.give_up_reserved();
+                say_stopped(alloc, &mut self.complex, by, step)
+            }
+            Err(NodeNo::BothLost) => Err(NodeNo::BothLost),
+            Err(NodeNo::ConsoleFault) => Err(NodeNo::ConsoleFault),
+            Err(NodeNo::NoMemory) => Err(NodeNo::NoMemory),
+        }
+    }
+
+    // A stop of a member between its acts, as a line with this number.
+    fn play_stop(&mut self, number: u32, by: MemberId)
+        requires few { number ≤ steps_most }
+        requires between { BetweenLines self.old.complex self.old.members number }
+        ensures { PlaysMute number (line_by by Stop) self.old.complex self.new.complex
+            self.new.members }
+    {
+        stop_line(&mut self.complex, by);
+    }
+
+    // A stop of a member that is armed.
+    fn play_arm(&mut self, number: u32, by: MemberId, fuse: Fuse, count: u32)
+        requires few { number ≤ steps_most }
+        requires between { BetweenLines self.old.complex self.old.members number }
+        ensures { PlaysMute number (line_by by (StopIn fuse count)) self.old.complex self.new.complex
+            self.new.members }
+    {
+        arm_line(&mut self.complex, by, fuse, count);
+    }
+
+    // The loss of a device.
+    fn play_loss(&mut self, number: u32, by: MemberId, dev: Dev)
+        requires few { number ≤ steps_most }
+        requires between { BetweenLines self.old.complex self.old.members number }
+        ensures { PlaysMute number (line_by by (Lose dev)) self.old.complex self.new.complex
+            self.new.members }
     {
         self.complex.lose(dev);
-        Ok(())
     }
 
-    /// Plays a step.
-    pub(crate) fn play_step(&mut self, alloc: Global, step: u32, asked: &Step) -> Result<(), NodeNo>
-        requires id { self.old.member.id ≡ sysa }
-        requires lock { IsOpenTo self.old.complex.book self.old.complex.reserved sysa }
-        requires config { IsConfig self.old.complex.base.config }
-        requires base_sound { IsSound self.old.complex.base }
-        requires may { IsPlayed asked.now }
-        requires since { self.old.complex.since ≤ (P.view self.old.complex.plant).now }
-        requires roomy { P.tells → AreRoomy (P.view self.old.complex.plant) self.old.complex.base.config }
-        requires untold { P.tells → (es : List Entry) → AreOf sysa step es
-            → IsUntold (setting C.reads self.old.complex.base self.old.complex.since) (P.view self.old.complex.plant)
-            es }
-        requires at_lock { IsAtLock self.old.complex.current self.old.complex.placed self.old.member.batch
-            self.old.member.checkpoint self.old.member.room }
-        requires calm1 { IsCalm self.old.complex.pair.first.alive self.old.complex.first
-            (C.count self.old.complex.pair.first.copy) (length self.old.member.room) }
-        requires calm2 { IsCalm self.old.complex.pair.second.alive self.old.complex.second
-            (C.count self.old.complex.pair.second.copy) (length self.old.member.room) }
-        requires low1 { ReadsLow P.tells self.old.complex.pair.first.alive self.old.member.checkpoint.tables.config
-            (length self.old.complex.journal.batches) (C.reads (disk_now (P.view self.old.complex.plant) Ckpt1).bytes) }
-        requires low2 { ReadsLow P.tells self.old.complex.pair.second.alive self.old.member.checkpoint.tables.config
-            (length self.old.complex.journal.batches) (C.reads (disk_now (P.view self.old.complex.plant) Ckpt2).bytes) }
-        requires sound { P.tells → IsToldSound (run self.old.complex.base (kept_all self.old.complex.journal.batches)) }
-        requires own { self.old.complex.base.config ≡ self.old.member.checkpoint.tables.config }
-        requires most { 1 ≤ C.room_most }
-        requires kept { AreAllKept self.old.complex.journal.batches (P.view self.old.complex.plant).now }
-        requires level { self.old.complex.level + batches_most < too_high }
+    /// Plays a line with this number. A step of a member is tested first: whether its member is one of the
+    /// configuration, and isn't stopped; what its deck says, or which member it resets; and whether the lock is to be
+    /// had. Then it is played with the lock, which is given up at its end, unless LOCK took it and some of the hold is
+    /// left. A member that halts in it is stopped, and the operator says so; it holds what it held. STOP stops a member
+    /// that is up, or arms a stop of it; LOSE loses a device. Neither says anything.
+    ///
+    /// The run goes on after each line but one with an error: both copies are lost, the console failed, or there was no
+    /// memory, which is also said of a line of a member at a level of 2^62 + 2^61 or more. Halted never comes.
+    pub(crate) fn play_line(
+        &mut self,
+        alloc: Global,
+        number: u32,
+        line: &Step,
+    ) -> Result<(), NodeNo>
+        requires played { IsPlayed line.now }
+        requires few { number ≤ steps_most }
+        requires between { BetweenLines self.old.complex self.old.members number }
         ensures base { self.new.complex.base ≡ self.old.complex.base }
         ensures since { self.new.complex.since ≡ self.old.complex.since }
-        ensures id { self.new.member.id ≡ self.old.member.id }
-        ensures step { (seen : Sight) × IsStepOf P.tells
-            (turn_at self.old.complex.base.config self.old.complex.book seen asked.now.what)
-            (run self.old.complex.base (kept_all self.old.complex.journal.batches)) self.old.complex.base.config.groups
-            step self.old.complex.journal.batches
-            (end_of self.new.complex.placed self.new.complex.current self.new.complex.journal.batches)
-            self.old.complex.pair.first.alive self.new.complex.pair.first.alive self.old.complex.pair.second.alive
-            self.new.complex.pair.second.alive (P.view self.old.complex.plant) (P.view self.new.complex.plant) result }
-        ensures at_lock { OnOk result (IsAtLock self.new.complex.current self.new.complex.placed self.new.member.batch
-            self.new.member.checkpoint self.new.member.room) }
-        ensures calm1 { OnOk result (IsCalm self.new.complex.pair.first.alive self.new.complex.first
-            (C.count self.new.complex.pair.first.copy) (length self.new.member.room)) }
-        ensures calm2 { OnOk result (IsCalm self.new.complex.pair.second.alive self.new.complex.second
-            (C.count self.new.complex.pair.second.copy) (length self.new.member.room)) }
-        ensures low1 { OnOk result (ReadsLow P.tells self.new.complex.pair.first.alive
-            self.old.member.checkpoint.tables.config (length self.new.complex.journal.batches)
-            (C.reads (disk_now (P.view self.new.complex.plant) Ckpt1).bytes)) }
-        ensures low2 { OnOk result (ReadsLow P.tells self.new.complex.pair.second.alive
-            self.old.member.checkpoint.tables.config (length self.new.complex.journal.batches)
-            (C.reads (disk_now (P.view self.new.complex.plant) Ckpt2).bytes)) }
-        ensures sound { OnOk result (P.tells
-            → IsToldSound (run self.new.complex.base (kept_all self.new.complex.journal.batches))) }
-        ensures own { OnOk result (self.new.member.checkpoint.tables.config
-            ≡ self.old.member.checkpoint.tables.config) }
-        ensures level { OnOk result (self.new.complex.level ≤ self.old.complex.level + batches_most) }
-        ensures lock { OnOk result (IsOpenTo self.new.complex.book self.new.complex.reserved sysa) }
-        ensures book { OnOk result (self.new.complex.book
-            ≡ book_after self.old.complex.base.config self.old.complex.book asked.now.what) }
+        ensures bare { PlayedLine ⊥ number line.now self.old.complex self.new.complex result }
+        ensures told { P.tells → PlayedLine (Unit {0}) number line.now self.old.complex self.new.complex result }
+        ensures copies { CopiesKept self.old.complex self.new.complex result }
+        ensures next { OnOk result (BetweenLines self.new.complex self.new.members (number + 1)) }
     {
-        match &asked.what {
-            Ask::Deck(cards) => self.play_deck(alloc, step, cards),
-            Ask::Lose(dev) => self.lose(step, *dev),
-            Ask::Command(given) => self.play_command(alloc, step, given),
-            Ask::Work(units) => self.play_work(alloc, step, *units),
-            _ => unreachable!(),
+        match &line.what {
+            Ask::Stop => {
+                self.play_stop(number, line.by);
+                Ok(())
+            }
+            Ask::StopIn(fuse, count) => {
+                self.play_arm(number, line.by, *fuse, *count);
+                Ok(())
+            }
+            Ask::Lose(dev) => {
+                self.play_loss(number, line.by, *dev);
+                Ok(())
+            }
+            asked => self.play_asked(alloc, number, line.by, asked),
         }
     }
 
-    /// Plays the steps of SYSA one after another, up to one that ends the run.
-    pub(crate) fn play_steps(&mut self, alloc: Global, asked: &[Step]) -> Result<(), NodeNo>
-        requires id { self.old.member.id ≡ sysa }
-        requires lock { IsOpenTo self.old.complex.book self.old.complex.reserved sysa }
-        requires config { IsConfig self.old.complex.base.config }
-        requires few { length asked.now ≤ steps_most }
-        requires base_sound { IsSound self.old.complex.base }
-        requires may { All IsPlayed asked.now }
-        requires since { self.old.complex.since ≤ (P.view self.old.complex.plant).now }
-        requires quiet { P.tells → ((P.view self.old.complex.plant).world self.old.complex.since).console
-            ≡ console_now (P.view self.old.complex.plant) }
-        requires roomy { P.tells → AreRoomy (P.view self.old.complex.plant) self.old.complex.base.config }
-        requires kept { AreAllKept self.old.complex.journal.batches (P.view self.old.complex.plant).now }
-        requires some { SomeAlive self.old.complex.pair.first.alive self.old.complex.pair.second.alive }
-        requires fresh { length self.old.complex.journal.batches ≤ 1 }
-        requires level { self.old.complex.level < 2 ^ 62 + 64 }
-        requires at_lock { IsAtLock self.old.complex.current self.old.complex.placed self.old.member.batch
-            self.old.member.checkpoint self.old.member.room }
-        requires calm1 { IsCalm self.old.complex.pair.first.alive self.old.complex.first
-            (C.count self.old.complex.pair.first.copy) (length self.old.member.room) }
-        requires calm2 { IsCalm self.old.complex.pair.second.alive self.old.complex.second
-            (C.count self.old.complex.pair.second.copy) (length self.old.member.room) }
-        requires low1 { ReadsLow P.tells self.old.complex.pair.first.alive self.old.member.checkpoint.tables.config
-            (length self.old.complex.journal.batches) (C.reads (disk_now (P.view self.old.complex.plant) Ckpt1).bytes) }
-        requires low2 { ReadsLow P.tells self.old.complex.pair.second.alive self.old.member.checkpoint.tables.config
-            (length self.old.complex.journal.batches) (C.reads (disk_now (P.view self.old.complex.plant) Ckpt2).bytes) }
-        requires sound { P.tells → IsToldSound (run self.old.complex.base (kept_all self.old.complex.journal.batches)) }
-        requires own { self.old.complex.base.config ≡ self.old.member.checkpoint.tables.config }
-        requires most { 1 ≤ C.room_most }
+    /// Plays the lines of a script one after another, up to one that ends the run.
+    pub(crate) fn play_lines(&mut self, alloc: Global, lines: &[Step]) -> Result<(), NodeNo>
+        requires few { length lines.now ≤ steps_most }
+        requires played { All IsPlayed lines.now }
+        requires between { BetweenLines self.old.complex self.old.members 1 }
         ensures base { self.new.complex.base ≡ self.old.complex.base }
         ensures since { self.new.complex.since ≡ self.old.complex.since }
-        ensures played { HasPlay P.tells (run self.old.complex.base (kept_all self.old.complex.journal.batches))
-            self.old.complex.base.config self.old.complex.book asked.now self.old.complex.journal.batches
-            (end_of self.new.complex.placed self.new.complex.current self.new.complex.journal.batches)
-            self.old.complex.pair.first.alive self.new.complex.pair.first.alive self.old.complex.pair.second.alive
-            self.new.complex.pair.second.alive (P.view self.old.complex.plant) (P.view self.new.complex.plant) result }
+        ensures played { PlayedLines P.tells 1 lines.now self.old.complex self.new.complex result }
+        ensures copies { CopiesKept self.old.complex self.new.complex result }
     {
         let mut number = 0;
-        for step in asked {
+        for line in lines {
             number += 1;
-            self.play_step(alloc, number, step)?;
+            self.play_line(alloc, number, line)?;
         }
         Ok(())
     }

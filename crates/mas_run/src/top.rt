@@ -8,7 +8,7 @@ ghost use Rattle.script_lang.specs.declared.types.Script.{Script as ScriptLem};
 ghost use Rattle.script_laws.specs.Limits.{IsScript};
 ghost use Rattle.script_input.specs.Played.{IsPlayed};
 ghost use Rattle.spool_disk.specs.View.{View};
-ghost use Rattle.spool_disk.specs.Acts.{Goes, Rose};
+ghost use Rattle.spool_disk.specs.Acts.{Rose};
 ghost use Rattle.ckpt_form.specs.Form.{form_needs};
 ghost use Rattle.ckpt_pages.specs.Shape.{page_count};
 ghost use Rattle.warm_start.specs.Starting.{OnlyLookedAtAll};
@@ -19,6 +19,7 @@ ghost use Rattle.mas_run.specs.Refusals.{refusal_before_play, refused_sizes, sai
 ghost use Rattle.mas_run.specs.Runs.{has_begun, AreSidesKept, Begins, IsUnbegun, IsRun};
 ghost use Rattle.mas_run.specs.Statuses.{IsCaused, IsStill, is_of_text, is_unplayed};
 ghost use Rattle.mas_run.specs.Volumes.{AreVolumesKept};
+ghost use Rattle.mas_run.specs.Lines.{Proceeds};
 
 use crate::ended::Ended;
 use crate::found::play_warm;
@@ -84,7 +85,9 @@ pub fn play_steps<P: Plant + Drop>(alloc: Global, cold: bool, script: Script, pl
     ensures unsaid { P.tells → has_begun result.base ≡ false
         → console_now (P.view result.plant) ≡ console_now (P.view plant) }
     ensures unprinted { P.tells → has_begun result.base ≡ false → AreSidesKept (P.view plant) (P.view result.plant) }
-    ensures goes { Goes (P.view plant) (P.view result.plant) }
+    ensures goes { Proceeds (P.view plant) (P.view result.plant) }
+    ensures arms { has_begun result.base ≡ false → (m : ℕ)
+        → (P.view result.plant).arms m ≡ (P.view plant).arms m }
     ensures loses { has_begun result.base ≡ false → (result.status ≢ Status.BothLost) ⊎ (cold ≡ true) → (d : Dev)
         → (P.view result.plant).loses d ≡ (P.view plant).loses d }
     ensures volumes { P.tells → has_begun result.base ≡ false → AreVolumesKept (P.view plant) (P.view result.plant) }
@@ -107,26 +110,29 @@ pub fn play_steps<P: Plant + Drop>(alloc: Global, cold: bool, script: Script, pl
 /// Plays a script on a plant: cold from an empty queue, for which CKPT1 and CKPT2 are formatted, and else warm, from
 /// the queue that is found on them. A run that `only` formats refuses every step.
 ///
-/// The script is read to its end before anything is played. Its steps are decks, operator's commands and work at SYSA,
-/// and losses of a device. A cold run refuses the first device that is too small for the script's configuration, CKPT1,
-/// CKPT2, and then each spool volume that isn't lost, and formats both copies with the empty queue of the script's
-/// configuration and routes. A warm run looks at both, takes the usable one of greater level, CKPT1 on a tie, refuses a
-/// device that is too small for it in the same order, syncs the volumes and reads the texts, loses the other copy where
-/// it can't be used or doesn't fit and else brings it up, and gives Restart as its first batch; its jobs are at the
-/// node of the configuration that is found. Then the steps are played one after another. A deck whose cards are wrong
-/// closes with BAD CARD. Else its job begins and gets the groups that its text needs, in a batch; the text is written
-/// into them and synced; and the job is entered, in a second batch. After a refused Take, or where a volume of one of
-/// the groups failed, the job is dropped. A command is done in one batch; the reset of a member is refused, as each is
-/// up. Work does at most so many units, one after another, up to one that is refused or to where none applies; what it
-/// did is kept before a text is read or written, where the lock's hold is spent, and at its end. The lines of an output
-/// are printed from its mark on, in their order, and then marked. A batch is kept once each copy that is left has it,
-/// and the lines of its step are said then, those of a display first and the closing line last. A step takes the lock
-/// of the checkpoint and gives it up at its end. Where the configuration has a dormancy, a step that comes too early
-/// closes with DORMANT and changes nothing. A copy that fails or is lost is left out, and the run goes on with the
-/// other.
+/// The script is read to its end before anything is played. Its lines are steps of SYSA to SYSH, stops of a member, and
+/// losses of a device; LINE and REPLACE aren't played. A cold run refuses the first device that is too small for the
+/// script's configuration, CKPT1, CKPT2, and then each spool volume that isn't lost, and formats both copies with the
+/// empty queue of the script's configuration and routes. A warm run looks at both, takes the usable one of greater
+/// level, CKPT1 on a tie, refuses a device that is too small for it in the same order, syncs the volumes and reads the
+/// texts, loses the other copy where it can't be used or doesn't fit and else brings it up, and gives Restart as its
+/// first batch; its jobs are at the node of the configuration that is found. Then the lines are played one after
+/// another.
 ///
-/// A stop of the member inside an act ends the run with Done, and no further line is said. The status Words never
-/// comes.
+/// A step closes before its commands where its member is none or was stopped, a card of its deck is wrong, the member
+/// that it resets is none or is up, or its member doesn't get the lock. Else a deck's job begins and gets the groups
+/// that its text needs, in a batch; the text is written into them and synced; and the job is entered, in a second
+/// batch. After a refused Take, or where a volume of one of the groups failed, the job is dropped. A command is done in
+/// one batch. The lock of a stopped holder is taken over by who resets it, with what became of a batch in flight. Work
+/// does at most so many units, one after another, up to one that is refused or to where none applies; what it did is
+/// kept before a text is read or written, where the lock's hold is spent, and at its end. The lines of an output are
+/// printed from its mark on, in their order, and then marked. A batch is kept once each copy that is left has it, and
+/// the lines of its step are said then, those of a display first and the closing line last. A step takes the lock of
+/// the checkpoint and gives it up at its end, unless its member holds it by LOCK. A copy that fails or is lost is left
+/// out, and the run goes on with the other.
+///
+/// A member that is stopped in its step is down from then on, and holds what it held; the operator says so, and the run
+/// goes on. The status Words never comes.
 pub fn play_script<P: Plant + Drop, S: Source>(
     alloc: Global,
     cold: bool,
@@ -161,8 +167,11 @@ pub fn play_script<P: Plant + Drop, S: Source>(
     ensures unprinted { P.tells → has_begun result.base ≡ false → AreSidesKept (P.view plant) (P.view result.plant) }
     ensures volumes { P.tells → has_begun result.base ≡ false → AreVolumesKept (P.view plant) (P.view result.plant) }
 
-    // No run loses a device by a call except by a step that says so, or a copy that a warm start doesn't take.
-    ensures goes { Goes (P.view plant) (P.view result.plant) }
+    // No run loses a device by a call, or arms a stop, except by a line that says so. A warm start loses a copy that it
+    // doesn't take.
+    ensures goes { Proceeds (P.view plant) (P.view result.plant) }
+    ensures arms { has_begun result.base ≡ false → (m : ℕ)
+        → (P.view result.plant).arms m ≡ (P.view plant).arms m }
     ensures loses { has_begun result.base ≡ false → (result.status ≢ Status.BothLost) ⊎ (cold ≡ true) → (d : Dev)
         → (P.view result.plant).loses d ≡ (P.view plant).loses d }
 
@@ -184,8 +193,8 @@ pub fn play_script<P: Plant + Drop, S: Source>(
         (P.view result.plant)) }
     ensures formats { only ≡ true → P.tells → AreVolumesKept (P.view plant) (P.view result.plant) }
 
-    // What neither a fault nor a line that loses a copy hinders is played to its end, where a warm run finds a queue
-    // and its devices are large enough for it.
+    // What neither a fault, nor a line that loses a copy, nor a takeover of the lock hinders is played to its end,
+    // where a warm run finds a queue and its devices are large enough for it.
     ensures complete { S.tells → refusal_before_play cold only (S.left script.old) (P.view plant) ≡ None
         → IsStill P.tells (steps_of (said_by cold only (S.left script.old))) (S.faults script.old) (S.faults script.new)
         (P.view plant) (P.view result.plant) → IsPlayedOut cold result.status }

@@ -60,6 +60,7 @@ not_played cold only source tells same answer base journal since old new none st
   idle = λ not. stays;
   unprinted = λ told not. subst (λ (v : View). AreSidesKept old v) (sym view) (sides_none (old.world old.now));
   loses = λ not lost d. ap (λ (v : View). v.loses d) view;
+  arms = λ not m. ap (λ (v : View). v.arms m) view;
   volumes = λ told not. subst (AreVolumesKept old) (sym view) (kept_none old);
   formats = λ o told. subst (AreVolumesKept old) (sym view) (kept_none old);
   room = λ begun. absurd (not_begun base none begun);
@@ -69,5 +70,5 @@ not_played cold only source tells same answer base journal since old new none st
   run = λ begun. absurd (not_begun base none begun);
   complete = λ told no still.
       let fine : is_refusal cold answer ≡ false = subst (λ (why : Option Status). Answers cold why answer) no (refused told) in
-      ends cold answer tells _ source.before source.after old new fine faulted (script_caused answer old new is) still (λ lost told alone. no_of answer status.BothLost is refl lost);
+      ends cold answer tells _ source.before source.after old new fine faulted (script_caused answer old new is) still (λ lost told alone takes. no_of answer status.BothLost is refl lost);
 }

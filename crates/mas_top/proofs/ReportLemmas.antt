@@ -61,6 +61,7 @@ lost_on tells lines v0 v1 v2 d adds before = ⊎_elim
 
 pub no_device : (tells : Type 0) (lines : List (List ℕ)) (v0 v1 v2 : View) → Looks tells v0 v1 → Adds tells lines v1 v2 → ChangesNoDevice tells v0 v2
 no_device tells lines v0 v1 v2 looks adds = record {
+  goes = goes_on v0 v1 v2 looks.goes adds.goes;
   first = λ told. on_device (NoMore (disk_now v0 Ckpt1)) tells lines v0 v1 v2 Ckpt1 told looks.goes adds (looks.during told).first;
   second = λ told. on_device (NoMore (disk_now v0 Ckpt2)) tells lines v0 v1 v2 Ckpt2 told looks.goes adds (looks.during told).second;
   papers = λ told. papers_on tells lines v0 v1 v2 told looks adds;

@@ -47,8 +47,8 @@ pub record IsPlayed (cold only : Bool) (source : Sourced) (tells same : Type 0) 
   pub unstarted : cold ≡ false → has_begun base ≡ false → IsNotStarted tells answer old new
   pub faulted : answer ≡ status.SourceFault → Rose source.before source.after
   -- where the script is refused, or can't be read, no act is made; one that has not begun leaves all as it was, but
-  -- where both copies were lost in the formatting or the start; a warm one looked at the copies; and one that only
-  -- formats changes no byte of a volume
+  -- where both copies were lost in the formatting or the start; a warm one looked at the copies; none arms a stop; and
+  -- one that only formats changes no byte of a volume
   pub untouched : has_begun base ≡ false → (answer ≡ status.BothLost)
       ⊎ (same ⊎ ((cold ≡ false) × (tells → OnlyLookedAtAll old new)))
   pub idle : is_unplayed answer ≡ true → same
@@ -57,6 +57,7 @@ pub record IsPlayed (cold only : Bool) (source : Sourced) (tells same : Type 0) 
   pub formats : only ≡ true → tells → AreVolumesKept old new
   pub loses : has_begun base ≡ false → (answer ≢ status.BothLost) ⊎ (cold ≡ true) → (d : Dev)
       → new.loses d ≡ old.loses d
+  pub arms : has_begun base ≡ false → (m : ℕ) → new.arms m ≡ old.arms m
   -- one that has begun plays what its script asks for
   pub room : has_begun base ≡ true → (form_needs (page_count base.config) ≤ old.size Ckpt1)
       × (form_needs (page_count base.config) ≤ old.size Ckpt2)
@@ -66,8 +67,8 @@ pub record IsPlayed (cold only : Bool) (source : Sourced) (tells same : Type 0) 
   pub run : has_begun base ≡ true
       → ((script : Script) × (source.tells → IsSaid cold only source.left script)
       × IsRun cold tells script answer base journal since old new)
-  -- what neither a fault nor a line that loses a copy hinders is played to its end, where a warm run finds a queue and
-  -- its devices are large enough for it
+  -- what neither a fault, nor a line that loses a copy, nor a takeover of the lock hinders is played to its end, where a
+  -- warm run finds a queue and its devices are large enough for it
   pub complete : source.tells → refusal_before_play cold only source.left old ≡ None
       → IsStill tells (steps_of (said_by cold only source.left)) source.before source.after old new
       → IsPlayedOut cold answer

@@ -9,7 +9,7 @@ use Rattle.mas_types.specs.declared.answers.Status.TheVariants as status
 use Rattle.spool_disk.specs.declared.plant.Part.{Part}
 use Rattle.spool_disk.specs.declared.plant.Part.TheVariants.{Disk, Console}
 use Rattle.spool_disk.specs.View.{View, disk_at, disk_now, Throughout}
-use Rattle.spool_disk.specs.Acts.{Rose}
+use Rattle.spool_disk.specs.Acts.{Goes, Rose}
 use Rattle.ckpt_form.specs.Form.{form_reads, form_needs}
 use Rattle.ckpt_copy.specs.Changes.{NoMore}
 use Rattle.mas_complex.specs.Headline.{whole}
@@ -24,6 +24,7 @@ use Rattle.mas_run.specs.Unstarted.{status_of_start}
 -- At each moment no byte of a device has changed, and each printer has the lines that it had; no device is lost but a
 -- copy of the checkpoint on which an act failed.
 pub record ChangesNoDevice (tells : Type 0) (old new : View) : Type 0 where
+  pub goes : Goes old new
   pub first : tells → Throughout old.now new.now (λ t. NoMore (disk_now old Ckpt1) (disk_at new t Ckpt1))
   pub second : tells → Throughout old.now new.now (λ t. NoMore (disk_now old Ckpt2) (disk_at new t Ckpt2))
   pub others : tells → Throughout old.now new.now

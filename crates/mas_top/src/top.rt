@@ -1,6 +1,6 @@
 //! The top call.
 ghost use Rattle.std.specs.Prelude.{◌≡◌, ◌≢◌, ◌⊎◌, Bool, true, false, map, string_bytes, None, Some};
-ghost use Rattle.spool_disk.specs.Acts.{Goes};
+ghost use Rattle.mas_run.specs.Lines.{Proceeds};
 ghost use Rattle.mas_run.specs.Volumes.{AreVolumesKept};
 ghost use Rattle.mas_run.specs.Runs.{has_begun, Begins, IsUnbegun};
 ghost use Rattle.mas_run.specs.Statuses.{IsCaused};
@@ -62,7 +62,7 @@ pub fn calm_top<P: Plant + Drop, S: Source>(
         → IsUnbegun result.base result.journal result.since (P.view result.plant).now }
     ensures unsaid { P.tells → task_asked (map string_bytes words.now) ≢ Some Task.Check → has_begun result.base ≡ false
         → console_now (P.view result.plant) ≡ console_now (P.view plant) }
-    ensures goes { Goes (P.view plant) (P.view result.plant) }
+    ensures goes { Proceeds (P.view plant) (P.view result.plant) }
     ensures volumes { P.tells → has_begun result.base ≡ false → AreVolumesKept (P.view plant) (P.view result.plant) }
 {
     let task = match read_task(alloc, words) {

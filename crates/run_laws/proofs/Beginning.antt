@@ -21,7 +21,7 @@ use Rattle.mas_types.specs.Sound.{IsSound}
 use Rattle.queue_laws.specs.Runs.{IsGiven, RunsKeepConfiguration, RunsKeepSound}
 use Rattle.script_lang.specs.declared.types.Script.{Script}
 use Rattle.spool_disk.specs.declared.plant.Part.TheVariants.{Disk as DiskPart}
-use Rattle.spool_disk.specs.Acts.{Goes, top}
+use Rattle.spool_disk.specs.Acts.{top}
 use Rattle.spool_disk.specs.View.{View, Disk, IsImage, LeavesOnly, disk_now}
 use Rattle.ckpt_form.specs.Form.{form_reads, form_needs}
 use Rattle.ckpt_copy.specs.Moments.{either_way}
@@ -38,6 +38,7 @@ use Rattle.mas_complex.proofs.Orders.{order_spelled}
 use Rattle.warm_start.specs.declared.choosing.StartNo.TheVariants as no_start
 use Rattle.warm_start.specs.Starting.{IsSmall, IsState, AreNotLost, OnlyLookedAtAll, mark_of}
 use Rattle.warm_start.specs.Usable.{AreOf, AreUsable, HaveSize, MayStart}
+use Rattle.mas_run.specs.Lines.{Proceeds}
 use Rattle.mas_run.specs.Runs.{has_begun, Begins, IsRun}
 use Rattle.mas_run.specs.Statuses.{IsCaused}
 use Rattle.mas_run.specs.Unstarted.{IsNotStarted, StartCauses}
@@ -91,7 +92,7 @@ usable_of l order since Q bytes s sound low bound =
 -- A COPY
 
 -- a device that isn't lost wasn't lost before
-was_there : (dev : Dev) (old new : View) → Goes old new → new.lost (DiskPart dev) ≡ false → old.lost (DiskPart dev) ≡ false
+was_there : (dev : Dev) (old new : View) → Proceeds old new → new.lost (DiskPart dev) ≡ false → old.lost (DiskPart dev) ≡ false
 was_there dev old new goes there =
     test_cases (old.lost (DiskPart dev)) (old.lost (DiskPart dev) ≡ false)
     (λ e. let gone : new.lost (DiskPart dev) ≡ true = goes.lost (DiskPart dev) e in absurd (cc))
@@ -111,7 +112,7 @@ not_both_gone state.Unsound two a b not = a
 -- a copy that is left reads as pages that can be used: so where a start found none on it, it is lost
 module _ (was : List ℕ) (coming : Option (List ℕ)) (dev : Dev) (t : ℕ) (last old new : View) (left : IsLeftBy t last old) (each : LeavesOnly (left_at last t dev) (λ image. IsOneOf was coming (form_reads image)))
     (usable : old.lost (DiskPart dev) ≡ false → (bytes : List ℕ) → form_reads (disk_now old dev).bytes ≡ Some bytes → (bytes ≡ was) ⊎ (coming ≡ Some bytes) → AreUsable bytes)
-    (goes : Goes old new) (same : (disk_now new dev).bytes ≡ (disk_now old dev).bytes) where
+    (goes : Proceeds old new) (same : (disk_now new dev).bytes ≡ (disk_now old dev).bytes) where
   read_one : new.lost (DiskPart dev) ≡ false → IsOneOf was coming (form_reads (disk_now new dev).bytes)
   read_one there =
       subst (λ (bs : List ℕ). IsOneOf was coming (form_reads bs)) (sym same) (each (disk_now old dev).bytes (image_of t last old dev left (was_there dev old new goes there)))
@@ -129,7 +130,7 @@ module _ (was : List ℕ) (coming : Option (List ℕ)) (dev : Dev) (t : ℕ) (la
 enough : (needed size is was : ℕ) → size ≡ is → is ≡ was → needed ≤ was → size < needed → ⊥
 enough needed size is was a b c d = omega (arith, a, b, c, d)
 
-never_small : (config : Config) (old new : View) → Goes old new → AreLarge config old → (dev : Dev) (size : ℕ) → IsSmall (form_needs (page_count config)) config dev size new → ⊥
+never_small : (config : Config) (old new : View) → Proceeds old new → AreLarge config old → (dev : Dev) (size : ℕ) → IsSmall (form_needs (page_count config)) config dev size new → ⊥
 never_small config old new goes large Ckpt1 size is = enough (form_needs (page_count config)) size (new.size Ckpt1) (old.size Ckpt1) is.0 (goes.size Ckpt1) large.first is.1
 never_small config old new goes large Ckpt2 size is = enough (form_needs (page_count config)) size (new.size Ckpt2) (old.size Ckpt2) is.0 (goes.size Ckpt2) large.second is.1
 never_small config old new goes large (Spool n) size is =
@@ -142,7 +143,7 @@ never_small config old new goes large (Spool n) size is =
 module _ (spells : SpellsOneAtMost) (configs : RunsKeepConfiguration) (sounds : RunsKeepSound) (l order since : ℕ) (base : Queue) (J : Journal) (t : ℕ) (last old new : View)
     (left : IsLeftBy t last old) (sound : IsSound base) (given : AreGivenIn base J.batches) (low : BothLow l order since old)
     (bound1 : AreBounded l order since (left_at last t Ckpt1)) (bound2 : AreBounded l order since (left_at last t Ckpt2)) (large : AreLarge base.config old)
-    (alike : AreAlike form_reads base J t (left_at last t Ckpt1) (left_at last t Ckpt2)) (goes : Goes old new) (tells : Type 0) (told : tells) where
+    (alike : AreAlike form_reads base J t (left_at last t Ckpt1) (left_at last t Ckpt2)) (goes : Proceeds old new) (tells : Type 0) (told : tells) where
   kept_given : All (IsGiven base) (kept_at J t)
   kept_given = all_given base (is_kept_by t) J.batches given
 

@@ -16,7 +16,6 @@ use Rattle.mas_types.specs.Journal.{kept_at, flying_at}
 use Rattle.queue_laws.specs.Runs.{RunsKeepConfiguration, RunsKeepSound}
 use Rattle.script_lang.specs.declared.types.Script.{Script}
 use Rattle.spool_disk.specs.declared.plant.Part.TheVariants.{Disk as DiskPart}
-use Rattle.spool_disk.specs.Acts.{Goes}
 use Rattle.spool_disk.specs.View.{View, disk_at, disk_now}
 use Rattle.track_groups.specs.Places.{groups_of}
 use Rattle.ckpt_form.specs.Form.{form_reads}
@@ -28,6 +27,7 @@ use Rattle.queue_tables.specs.Telling.{Tell}
 use Rattle.mas_complex.specs.Headline.{AreAlwaysAlike, AreTextsLeft}
 use Rattle.mas_complex.specs.Meaning.{run}
 use Rattle.mas_complex.specs.Texts.{Spools, bytes_on, lost_now, spools_at, IsThereUnless, HasTexts, GivesTexts}
+use Rattle.mas_run.specs.Lines.{Proceeds}
 use Rattle.mas_run.specs.Runs.{has_begun, IsFoundQueue, IsRun, begins_at}
 use Rattle.mas_run.specs.Volumes.{AreVolumesKeptUntil}
 use Rattle.run_laws.specs.Left.{IsLeftBy}
@@ -45,7 +45,7 @@ shown true later bytes now stays there same = let is : later ≡ true = stays re
 shown false later bytes now stays there same = ap Some same
 
 -- what a volume that isn't lost holds at the first moment is what it held at the entry
-same_volumes : (old new : View) (from at : ℕ) → Goes old new → old.now ≤ from → from ≤ at → AreVolumesKeptUntil at old new → (n : ℕ) → lost_now new n ≡ false → bytes_on (spools_at new from) n ≡ volumes_now old n
+same_volumes : (old new : View) (from at : ℕ) → Proceeds old new → old.now ≤ from → from ≤ at → AreVolumesKeptUntil at old new → (n : ℕ) → lost_now new n ≡ false → bytes_on (spools_at new from) n ≡ volumes_now old n
 same_volumes old new from at goes begins le kept n there =
     shown (old.lost (DiskPart (Spool n))) (new.lost (DiskPart (Spool n))) (disk_now old (Spool n)).bytes (disk_at new from (Spool n)).bytes (goes.lost (DiskPart (Spool n))) there
     (kept from begins le n).bytes
@@ -81,7 +81,7 @@ module _ (runs : RunsKeepConfiguration) (base found : Queue) (t : Tables) (one n
 -- a run that found its queue, by what is alike on the copies and what is left of the texts
 found_of : SpellsOneAtMost → RunsKeepConfiguration → (tells : Type 0) → tells → (base found : Queue) (J : Journal) (since from at t : ℕ) (first : Dev → ℕ) (last old new : View)
     → AreAlwaysAlike form_reads base J since last → AreTextsLeft base since J last → since ≤ t → t ≤ last.now → IsLeftBy t last old
-    → Goes old new → old.now ≤ from → from ≤ at → AreVolumesKeptUntil at old new → IsFoundQueue tells old new from first found
+    → Proceeds old new → old.now ≤ from → from ≤ at → AreVolumesKeptUntil at old new → IsFoundQueue tells old new from first found
     → IsQueueOf (lost_in last new) base J t found
 found_of spells runs tells told base found J since from at t first last old new alike texts ge le left goes begins within kept queue =
     let volumes : Volumes = volumes_now old in
@@ -100,7 +100,7 @@ found_of spells runs tells told base found J since from at t first last old new 
 finds : SpellsOneAtMost → RunsKeepConfiguration → (first_tells next_tells : Type 0) → first_tells → next_tells
     → (cold : Bool) (script next : Script) (answer ends : Status) (base found : Queue) (J K : Journal) (since from t : ℕ) (first last old new : View)
     → IsRun cold first_tells script answer base J since first last → since ≤ t → t ≤ last.now → IsLeftBy t last old
-    → Goes old new → IsRun false next_tells next ends found K from old new → ∥ IsQueueOf (lost_in last new) base J t found ∥₁
+    → Proceeds old new → IsRun false next_tells next ends found K from old new → ∥ IsQueueOf (lost_in last new) base J t found ∥₁
 finds spells runs first_tells next_tells told also cold script next answer ends base found J K since from t first last old new was ge le left goes is =
     let safe = was.steps.safe in
     let kept = is.steps.before also in

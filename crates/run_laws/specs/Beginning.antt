@@ -9,7 +9,7 @@ use Rattle.mas_types.specs.declared.queues.Config.{Config}
 use Rattle.mas_types.specs.declared.queues.Queue.{Queue}
 use Rattle.script_lang.specs.declared.types.Script.{Script}
 use Rattle.spool_disk.specs.declared.plant.Part.TheVariants.{Disk as DiskPart}
-use Rattle.spool_disk.specs.Acts.{Goes, top}
+use Rattle.spool_disk.specs.Acts.{top}
 use Rattle.spool_disk.specs.View.{View, disk_now}
 use Rattle.ckpt_form.specs.Form.{form_reads, form_needs}
 use Rattle.ckpt_copy.specs.Pages.{bytes_of, level}
@@ -20,6 +20,7 @@ use Rattle.mas_complex.specs.Crash.{next_order}
 use Rattle.spool_volumes.specs.Volumes.{AreRoomy}
 use Rattle.warm_start.specs.Starting.{NoneOrFailed, OnlyLookedAtAll, WasTaken}
 use Rattle.warm_start.specs.Usable.{HaveSize}
+use Rattle.mas_run.specs.Lines.{Proceeds}
 use Rattle.mas_run.specs.Runs.{has_begun, Begins, HasBase}
 use Rattle.mas_run.specs.Statuses.{IsCaused}
 use Rattle.mas_run.specs.Unstarted.{IsNotStarted}
@@ -74,7 +75,7 @@ pub record HasEnded (tells : Type 0) (ends : Status) (found : Queue) (old new : 
   pub unstarted : has_begun found ≡ false → IsNotStarted tells ends old new
   pub untouched : has_begun found ≡ false → (ends ≡ status.BothLost) ⊎ ((new ≡ old) ⊎ (tells → OnlyLookedAtAll old new))
   pub cause : IsCaused ends old new
-  pub goes : Goes old new
+  pub goes : Proceeds old new
 
 -- What hinders a run from beginning is not what stands on the copies, nor a device's size: its words, its script or
 -- their source, a lack of memory, or that both copies were lost. The copies were lost before it, or in it, one at least

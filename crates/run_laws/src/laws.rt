@@ -2,9 +2,10 @@
 ghost use Rattle.run_laws.specs.Left.{CrashesLeave};
 ghost use Rattle.run_laws.specs.Joins.{FindsWhatIsLeft};
 ghost use Rattle.run_laws.specs.Early.{FindsWhatWasThere};
-ghost use Rattle.run_laws.specs.Unstopped.{PlaysOn, PlaysOnUnarmed};
+ghost use Rattle.run_laws.specs.Unstopped.{PlaysOnUnarmed};
 
 use ckpt_pages::law_of_checkpoints;
+use mas_run::law_of_plays_on;
 use queue_laws::laws::law_of_runs;
 use spool_disk::Plant;
 
@@ -38,19 +39,13 @@ pub fn law_of_early_crashes<N: Plant>(next: &N)
     let _next = next;
 }
 
-/// Where the member's count of stops is 0 at the end of a run, no clause of the run speaks of a stop: a run that ends
-/// with Done closed all its steps, nothing is in flight unless both copies were lost, and each line of the console is
-/// whole. Stops are counted where an act was halted, and no line of a script arms one.
-pub fn law_of_unstopped_runs<P: Plant>(plant: &P)
-    ensures { PlaysOn P.tells }
-{
-    let _plant = plant;
-}
-
-/// So it is for each run on a plant that halts an act only where a stop of its member was armed, as the plant over files
-/// does that `plant_fuse` makes, where none was armed before the run: no run arms one.
+/// On a plant that halts an act only where a stop of its member was armed, as the plant over files does that `plant_fuse`
+/// makes: where no stop of a member was armed before a run, and no line of its script arms one, no line of that member
+/// was cut but the one in which the run ended, if one was.
 pub fn law_of_unarmed_runs<P: Plant>(plant: &P)
-    ensures { P.halts_armed → PlaysOnUnarmed P.tells (P.view plant.now) }
+    ensures bare { P.halts_armed → PlaysOnUnarmed ⊥ (P.view plant.now) }
+    ensures told { P.halts_armed → PlaysOnUnarmed (Unit {0}) (P.view plant.now) }
 {
     let _plant = plant;
+    law_of_plays_on();
 }

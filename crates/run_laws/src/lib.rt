@@ -3,4 +3,4 @@
 
 mod laws;
 
-pub use laws::{law_of_crashes, law_of_early_crashes, law_of_next_runs};
+pub use laws::{law_of_crashes, law_of_early_crashes, law_of_next_runs, law_of_unarmed_runs};

@@ -1,15 +1,12 @@
 -- What is read, and what of it is played.
-use Rattle.std.proofs.Common.{◌≡◌, ◌∙◌, ◌≤◌, ◌<◌, ap, refl, sym, arith, ℕ, ◌==◌, Bool, true, false, not, ◌&&◌, if◌then◌else◌, Option, Some, None, Ok, Err, List, length, get_or}
+use Rattle.std.proofs.Common.{◌≡◌, ◌∙◌, ◌≤◌, ◌<◌, ap, refl, sym, arith, ℕ, Bool, true, false, not, if◌then◌else◌, Option, Some, None, Ok, Err, List, length, get_or}
 use Rattle.std.specs.Prelude.{All, Result, nat_lt, slice_index_or}
 use Rattle.std.specs.List.{position}
-use Rattle.std.proofs.lemmas.Bool.{eqb-true, ltb-false}
+use Rattle.std.proofs.lemmas.Bool.{ltb-false}
 use Rattle.std.proofs.lemmas.Bool.Decides.{nat_tests}
 use Rattle.std.proofs.lemmas.List.Sums.{fails_before_first}
 use Rattle.mas_types.specs.declared.answers.LineCause.TheVariants.{NotBuilt}
-use Rattle.mas_types.specs.declared.ids.MemberId.{MemberId}
 use Rattle.mas_types.specs.Limits.{script_bytes}
-use Rattle.script_lang.specs.declared.types.Ask.{Ask}
-use Rattle.script_lang.specs.declared.types.Ask.TheVariants as ask
 use Rattle.script_lang.specs.declared.types.Run.{Run}
 use Rattle.script_lang.specs.declared.types.Script.{Script}
 use Rattle.script_lang.specs.declared.types.ScriptNo.{ScriptNo}
@@ -17,10 +14,9 @@ use Rattle.script_lang.specs.declared.types.ScriptNo.TheVariants as no
 use Rattle.script_lang.specs.declared.types.Step.{Step}
 use Rattle.script_lang.specs.Lines.{lines_of}
 use Rattle.script_lang.specs.Script.{ComesTo, Said, said, said_from, start}
-use Rattle.script_laws.specs.Limits.{IsAsk, IsStep}
-use Rattle.script_input.specs.Commands.{is_typed}
+use Rattle.script_laws.specs.Limits.{IsStep}
 use Rattle.script_input.specs.Lines.{step_lines}
-use Rattle.script_input.specs.Played.{IsPlayed, MayPlay, is_built, may_ask, sysa}
+use Rattle.script_input.specs.Played.{IsPlayed, is_built}
 use Rattle.script_input.specs.Script.{first_unbuilt, played, read_as, unless_unbuilt}
 
 -- WHAT THE WHOLE LANGUAGE REFUSES
@@ -60,28 +56,12 @@ not_false : (b : Bool) → not b ≡ false → b ≡ true
 not_false true e = refl
 not_false false e = absurd (cc)
 
-both_true : (a b : Bool) → not (a && b) ≡ false → (a ≡ true) × (b ≡ true)
-both_true true b e = (refl, not_false b e)
-both_true false b e = absurd (cc)
-
-is_sysa : (by : MemberId) → (by.0 == 1) ≡ true → by ≡ sysa
-is_sysa by e = ap (λ (n : ℕ). record { 0 = n }) (eqb-true by.0 1 e)
-
-may_play : (by : MemberId) (what : Ask) → IsAsk what → not (may_ask by what) ≡ false → MayPlay by what
-may_play by (ask.Deck cards) fits e = (is_sysa by (not_false (by.0 == 1) e), fits)
-may_play by (ask.Command given) fits e = let both = both_true (by.0 == 1) (is_typed given) e in (is_sysa by both.0, both.1, fits)
-may_play by (ask.Lose device) fits e = fits
-may_play by (ask.Work n) fits e = (is_sysa by (not_false (by.0 == 1) e), fits)
-may_play by ask.Lock fits e = absurd (cc)
-may_play by ask.Free fits e = absurd (cc)
-may_play by (ask.Line line) fits e = absurd (cc)
-may_play by (ask.Replace copy) fits e = absurd (cc)
-may_play by ask.Stop fits e = absurd (cc)
-may_play by (ask.StopIn fuse n) fits e = absurd (cc)
-
 not_found : (p : Step → Bool) (steps : List Step) (k : ℕ) (d : Step) → position p steps ≡ None → k < length steps → p (get_or steps k d) ≡ false
 not_found p steps k d none lt = fails_before_first p steps k d (grind (arith, nat_tests))
 
 -- where each step is built each is played
 pub all_play : (steps : List Step) → All IsStep steps → first_unbuilt steps ≡ None → All IsPlayed steps
-all_play steps fit none = λ k d lt. may_play (get_or steps k d).by (get_or steps k d).what (fit k d lt).what (not_found (λ step. not (is_built step)) steps k d none lt)
+all_play steps fit none = λ k d lt. record {
+  fits = fit k d lt;
+  built = not_false (is_built (get_or steps k d)) (not_found (λ step. not (is_built step)) steps k d none lt);
+}

@@ -8,8 +8,7 @@ pub fn law_of_step_lines()
     ensures { PlacesSteps }
 {}
 
-/// A script gives no other commands than those that an operator types, so none of SYSA's is refused as one that is not
-/// played.
+/// A script gives no other commands than those that an operator types, so none is refused as one that is not played.
 pub fn law_of_typed_commands()
     ensures { TypesCommands }
 {

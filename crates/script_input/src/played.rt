@@ -34,10 +34,9 @@ fn is_built(step: &Step) -> bool
     ensures { result ≡ is_built_lem step.now }
 {
     match &step.what {
-        Ask::Deck(_) | Ask::Work(_) => step.by.0 == 1,
-        Ask::Command(command) => step.by.0 == 1 && is_typed(command),
-        Ask::Lose(_) => true,
-        _ => false,
+        Ask::Command(command) => is_typed(command),
+        Ask::Line(_) | Ask::Replace(_) => false,
+        _ => true,
     }
 }
 

@@ -1,7 +1,6 @@
-use Rattle.std.proofs.Common.{◌≡◌, ◌∙◌, ◌≤◌, min, ℕ, List, length, false, inl, inr, ⊎_elim, refl, sym, ap, subst, arith}
+use Rattle.std.proofs.Common.{◌≡◌, ◌∙◌, ◌≤◌, ℕ, length, false, inl, inr, ⊎_elim, refl, sym, ap, subst, arith}
 use Rattle.std.proofs.Math.Logic.{∥∥₁_map}
 use Rattle.mas_types.specs.Fit.{IsConfig}
-use Rattle.mas_types.specs.Limits.{members_most}
 use Rattle.mas_types.specs.Sound.{IsSound}
 use Rattle.mas_types.specs.declared.ids.Dev.TheVariants.{Ckpt1, Ckpt2}
 use Rattle.mas_types.specs.declared.queues.Config.{Config}
@@ -11,27 +10,23 @@ use Rattle.queue_tables.proofs.OrderLemmas.{sound_orders}
 use Rattle.mas_complex.specs.Texts.{HasTexts, lost_now, spools_at}
 use Rattle.ckpt_form.specs.Form.{form_reads, form_needs, form_room}
 use Rattle.ckpt_copy.specs.Meanwhile.{SameSides}
-use Rattle.ckpt_copy.specs.Moments.{goes_on}
 use Rattle.ckpt_copy.specs.Pages.{bytes_of}
 use Rattle.ckpt_pages.specs.Shape.{page_count}
 use Rattle.spool_disk.specs.View.{World, disk_now}
-use Rattle.spool_disk.specs.Acts.{Goes}
-use Rattle.mas_complex.specs.Locking.{book_of}
 use Rattle.spool_volumes.specs.Volumes.{IsSteady, AreRoomy}
 use Rattle.warm_start.specs.Spooled.{AreGiven}
 use Rattle.warm_start.specs.Starting.{IsHeld, mark_of}
-use Rattle.warm_start.proofs.Begun.{found_later, gone_later, unfit_later}
+use Rattle.warm_start.proofs.Begun.{found_later, unfit_later}
 use Rattle.warm_start.proofs.Prepared.{given_before}
 use Rattle.warm_start.proofs.Spooling.{steady_first}
-use Rattle.script_input.specs.Played.{sysa}
 use Rattle.member_node.specs.Calls.{console_now}
 use Rattle.member_node.proofs.CourseLemmas.{left}
-use Rattle.mas_run.specs.Turns.{Sight, turns_of}
-use Rattle.mas_run.proofs.LockLemmas.{begins_open}
+use Rattle.mas_run.specs.Lines.{Proceeds}
 use Rattle.mas_run.specs.Runs.{HasSteps}
-use Rattle.mas_run.proofs.RunLemmas.{reads_there, steps_since}
-use Rattle.mas_run.proofs.WarmLemmas.{texts_later, found_drawn, found_begun, not_source, not_text, play_not_text, play_not_source, play_begins, not_begun, why_not_lost, not_started, start_caused, starts_first, start_causes, held_until, held_whole, no}
-use Rattle.mas_run.proofs.ScriptLemmas.{roomy_later}
+use Rattle.mas_run.proofs.PassedLemmas.{proceeds_of, proceeds_on}
+use Rattle.mas_run.proofs.RunLemmas.{reads_there, steps_since, unarmed}
+use Rattle.mas_run.proofs.WarmLemmas.{gone_on, texts_later, found_drawn, found_begun, not_source, not_text, play_not_text, play_not_source, play_begins, not_begun, why_not_lost, not_started, start_caused, starts_first, start_causes, held_until, held_whole, no}
+use Rattle.mas_run.proofs.SpokenLemmas.{roomy_on}
 use Rattle.mas_run.proofs.PaperLemmas.{papers_of}
 use Rattle.mas_run.proofs.found.play_warm.Goals as goal
 
@@ -72,15 +67,10 @@ pub returns-in-Err-clause-unprinted : goal.returns-in-Err-clause-unprinted
 returns-in-Err-clause-unprinted g c told none = rw c.unbegun.ensures.plant (held_whole (g.P.Plant.view c.args.plant) (g.P.Plant.view c.in-Err.field-0.plant) (c.in-Err.ensures.held told)).2
 
 pub returns-in-Err-clause-goes : goal.returns-in-Err-clause-goes
-returns-in-Err-clause-goes g c = rw c.unbegun.ensures.plant c.in-Err.ensures.goes
+returns-in-Err-clause-goes g c = rw c.unbegun.ensures.plant (proceeds_of (g.P.Plant.view c.args.plant) (g.P.Plant.view c.in-Err.field-0.plant) c.in-Err.ensures.goes)
 
-pub play_reset-requires-clause-lock : goal.play_reset-requires-clause-lock
-play_reset-requires-clause-lock g c =
-    let f = c.in-Ok.ensures in
-    let x = c.in-Ok.found.complex in
-    let s = f.started in
-    let some : 1 ≤ min x.base.config.members members_most = omega (arith, ap (λ (k : Config). k.members) s.tells_base.config, s.usable.0.fit.shape.config.members.0) in
-    rw (f.book, f.unreserved) (begins_open (min x.base.config.members members_most) x.base.config.hold x.base.config.dormancy sysa (omega arith) some)
+pub returns-in-Err-clause-arms : goal.returns-in-Err-clause-arms
+returns-in-Err-clause-arms g c none m = rw c.unbegun.ensures.plant (c.in-Err.ensures.goes.arms m)
 
 pub play_reset-requires-clause-config : goal.play_reset-requires-clause-config
 play_reset-requires-clause-config g c =
@@ -157,8 +147,9 @@ returns-clause-cause g c =
 pub returns-clause-goes : goal.returns-clause-goes
 returns-clause-goes g c =
     let P = g.P.Plant in
-    let x = c.in-Ok.found.complex in
-    goes_on (P.view c.args.plant) (P.view x.plant) (P.view c.play_reset.result.plant) c.in-Ok.ensures.started.starts.goes c.play_reset.ensures.goes
+    let v = P.view c.args.plant in
+    let mid = P.view c.in-Ok.found.complex.plant in
+    proceeds_on v mid (P.view c.play_reset.result.plant) (proceeds_of v mid c.in-Ok.ensures.started.starts.goes) c.play_reset.ensures.goes
 
 pub returns-clause-begun : goal.returns-clause-begun
 returns-clause-begun g c =
@@ -202,6 +193,12 @@ returns-clause-loses g c none =
     let base : Tell c.in-Ok.found.tables c.play_reset.result.base = subst (Tell c.in-Ok.found.tables) (sym c.play_reset.ensures.base) s.tells_base in
     absurd (no c.play_reset.result.base (found_begun c.in-Ok.found.pages c.in-Ok.found.tables c.play_reset.result.base s.usable base) none)
 
+pub returns-clause-arms : goal.returns-clause-arms
+returns-clause-arms g c none =
+    let s = c.in-Ok.ensures.started in
+    let base : Tell c.in-Ok.found.tables c.play_reset.result.base = subst (Tell c.in-Ok.found.tables) (sym c.play_reset.ensures.base) s.tells_base in
+    absurd (no c.play_reset.result.base (found_begun c.in-Ok.found.pages c.in-Ok.found.tables c.play_reset.result.base s.usable base) none)
+
 pub returns-clause-volumes : goal.returns-clause-volumes
 returns-clause-volumes g c told none =
     let s = c.in-Ok.ensures.started in
@@ -222,7 +219,7 @@ returns-clause-roomy g c begun =
     let P = g.P.Plant in
     let s = c.in-Ok.ensures.started in
     let base : Tell c.in-Ok.found.tables c.play_reset.result.base = subst (Tell c.in-Ok.found.tables) (sym c.play_reset.ensures.base) s.tells_base in
-    subst (AreRoomy (P.view c.play_reset.result.plant)) (sym base.config) (roomy_later (P.view c.in-Ok.found.complex.plant) (P.view c.play_reset.result.plant) c.in-Ok.found.tables.config c.play_reset.ensures.goes s.roomy)
+    subst (AreRoomy (P.view c.play_reset.result.plant)) (sym base.config) (roomy_on (P.view c.in-Ok.found.complex.plant) (P.view c.play_reset.result.plant) c.in-Ok.found.tables.config c.play_reset.ensures.goes s.roomy)
 
 pub returns-clause-run : goal.returns-clause-run
 returns-clause-run g c begun =
@@ -236,14 +233,15 @@ returns-clause-run g c begun =
     let v0 = P.view c.args.plant in
     let v1 = P.view x.plant in
     let v2 = P.view z.plant in
-    let goes : Goes v1 v2 = d.goes in
+    let goes : Proceeds v1 v2 = d.goes in
     let base0 : z.base ≡ x.base = d.base in
     let base : Tell w.tables z.base = subst (Tell w.tables) (sym base0) s.tells_base in
     let since : z.since ≡ v1.now = d.since ∙ f.since in
     let script = c.args.script.now in
     let quiet : P.tells → console_now v1 ≡ console_now v0 = λ t. (s.held t).console v1.now s.starts.goes.later (omega arith) in
-    let book : x.book ≡ book_of z.base.config = f.book ∙ ap (λ (q : Queue). book_of q.config) (sym base0) in
-    let played : (seen : List Sight) × HasSteps false P.tells (turns_of z.base.config seen script.steps) z.status z.base z.journal z.since v1.loses v1 v2 = rw (c.as_slice.ensures, book) at d.steps in
+    let steps : HasSteps false P.tells script.steps z.status z.base z.journal z.since v1.loses v1 v2 = rw c.as_slice.ensures at d.steps in
+    let gone1 = gone_on Ckpt1 v0 v1 v2 (mark_of v1) (omega arith) goes in
+    let gone2 = gone_on Ckpt2 v0 v1 v2 (mark_of v1) (omega arith) goes in
     record {
       first = v1.loses;
       before = starts_first x.pair.first.alive x.pair.second.alive v0 v1 s.starts;
@@ -256,24 +254,23 @@ returns-clause-run g c begun =
         texts = λ t. rw since (subst (λ (Q : Queue). HasTexts (lost_now v2) (spools_at v2 v1.now) Q.config.groups Q) (sym base0)
             (subst (λ (k : Config). HasTexts (lost_now v2) (spools_at v2 v1.now) k.groups x.base) (sym s.tells_base.config) (texts_later v1 v2 w.tables.config.groups x.base goes (s.texts t))));
         given = λ t steady.
-            let here : IsSteady v0 v1 = steady_first v0 v1 v2 s.starts.goes goes steady in
+            let here : IsSteady v0 v1 = steady_first v0 v1 (record v2 { arms = v1.arms }) s.starts.goes (unarmed v1 v2 goes) steady in
             let was : AreGiven v0 w.tables.config.groups x.base = given_before w.tables.config.groups x.base (IsHeld form_reads (disk_now v0 Ckpt1) (bytes_of w.pages)) (IsHeld form_reads (disk_now v0 Ckpt2) (bytes_of w.pages)) v0 v1 (s.held t) here (s.given t here) in
             subst (λ (Q : Queue). AreGiven v0 Q.config.groups Q) (sym base0) (subst (λ (k : Config). AreGiven v0 k.groups x.base) (sym s.tells_base.config) was);
-        found = λ t. rw since (found_later form_reads v0 v1 v2 (mark_of v1) (mark_of v1) (bytes_of w.pages) (gone_later Ckpt1 v0 v1 v2 (mark_of v1) (omega arith) goes) (gone_later Ckpt2 v0 v1 v2 (mark_of v1) (omega arith) goes) (s.found t));
+        found = λ t. rw since (found_later form_reads v0 v1 v2 (mark_of v1) (mark_of v1) (bytes_of w.pages) gone1 gone2 (s.found t));
         one = s.one;
-        kept1 = λ t. rw since (⊎_elim inl (λ y. inr (unfit_later form_reads Ckpt1 v0 v1 v2 (mark_of v1) (mark_of v1) (form_room (disk_now v0 Ckpt1).bytes) w.pages (gone_later Ckpt1 v0 v1 v2 (mark_of v1) (omega arith) goes) y)) (s.kept1 t));
+        kept1 = λ t. rw since (⊎_elim inl (λ y. inr (unfit_later form_reads Ckpt1 v0 v1 v2 (mark_of v1) (mark_of v1) (form_room (disk_now v0 Ckpt1).bytes) w.pages gone1 y)) (s.kept1 t));
         held = λ t. rw since (held_until v0 v1 v2 (bytes_of w.pages) goes (s.held t));
         there = λ t. rw since (left x.pair.first.alive x.pair.second.alive s.some
             (λ is. reads_there Ckpt1 (bytes_of w.pages) v1 v2 goes (g.met.P.Plant.there x.plant t Ckpt1 (s.starts.there1 is)) (s.reads1 t is))
             (λ is. reads_there Ckpt2 (bytes_of w.pages) v1 v2 goes (g.met.P.Plant.there x.plant t Ckpt2 (s.starts.there2 is)) (s.reads2 t is)));
-        kept2 = λ t. rw since (⊎_elim inl (λ y. inr (unfit_later form_reads Ckpt2 v0 v1 v2 (mark_of v1) (mark_of v1) (form_room (disk_now v0 Ckpt2).bytes) w.pages (gone_later Ckpt2 v0 v1 v2 (mark_of v1) (omega arith) goes) y)) (s.kept2 t));
+        kept2 = λ t. rw since (⊎_elim inl (λ y. inr (unfit_later form_reads Ckpt2 v0 v1 v2 (mark_of v1) (mark_of v1) (form_room (disk_now v0 Ckpt2).bytes) w.pages gone2 y)) (s.kept2 t));
       };
       sound = subst IsSound (sym base0) s.base_sound;
       moment = (omega (arith, since, s.starts.goes.later), omega (arith, since, goes.later));
-      fresh = λ t. rw (base0, since) (∥∥₁_map (f.fresh t) (λ k. rw f.since at (k v2 goes)));
+      fresh = λ t. rw (base0, since) (∥∥₁_map (f.fresh t) (λ k. rw f.since at (k (record v2 { arms = v1.arms }) (unarmed v1 v2 goes))));
       formatted = λ cold. absurd (cc);
       quiet = λ t. ap (λ (n : ℕ). (v2.world n).console) since ∙ ap (λ (u : World). u.console) (goes.past v1.now (omega arith)) ∙ quiet t;
       dry = λ t. rw since (subst (λ (u : World). SameSides (v0.world v0.now) u) (sym (goes.past v1.now (omega arith))) ((s.held t).sides v1.now s.starts.goes.later (omega arith)));
-      seen = played.0;
-      steps = steps_since v0 v1 v2 s.starts.goes goes false P.tells (turns_of z.base.config played.0 script.steps) z.status z.base z.journal z.since v1.loses quiet (λ t. (s.held t).volumes) (λ t. papers_of v0 v1 (s.held t).sides) played.1;
+      steps = steps_since v0 v1 v2 s.starts.goes goes false P.tells script.steps z.status z.base z.journal z.since v1.loses quiet (λ t. (s.held t).volumes) (λ t. papers_of v0 v1 (s.held t).sides) steps;
     }

@@ -1,47 +1,51 @@
-use Rattle.std.proofs.Common.{List, subst, sym}
-use Rattle.mas_types.specs.declared.journals.Batch.{Batch}
-use Rattle.mas_types.specs.declared.queues.Queue.{Queue}
+use Rattle.std.proofs.Common.{◌≡◌}
 use Rattle.ckpt_form.specs.Form.{form_reads}
 use Rattle.mas_complex.specs.Headline.{Headline}
 use Rattle.mas_complex.specs.Journals.{kept_all}
 use Rattle.mas_complex.specs.Meaning.{run}
-use Rattle.mas_run.specs.Plays.{HasPlay}
-use Rattle.mas_run.specs.Turns.{turns_from}
-use Rattle.mas_run.proofs.RunLemmas.{play_of_steps, caused_by_steps}
+use Rattle.mas_complex.specs.Parts.{parts_of}
+use Rattle.member_sittings.specs.Sat.{journal_of}
+use Rattle.run_turns.specs.Scenes.{Scene, scene_of}
+use Rattle.mas_run.proofs.MemberRunLemmas.{lines_failed, lines_passed, nothing_out, shown_bare}
+use Rattle.mas_run.proofs.RunLemmas.{caused_by_lines, play_of_lines, there_after}
 use Rattle.mas_run.proofs.play.play_asked.Goals as goal
 
 pub returns-clause-play : goal.returns-clause-play
 returns-clause-play g c =
     let P = g.P.Plant in
     let x = c.args.run.complex in
-    let y = c.play_steps-answer.new.self.complex in
+    let y = c.play_lines-answer.new.self.complex in
     let v = P.view x.plant in
     let w = P.view y.plant in
     let e = c.ended.ensures in
-    let d = c.play_steps-answer.ensures in
+    let d = c.play_lines-answer.ensures in
+    let r = c.play_lines-answer.result in
     let J = c.ended.result.journal in
-    let from : Queue = run x.base (kept_all x.journal.batches) in
+    let steps = c.args.lines.now in
+    let S : Scene = scene_of (run x.base (kept_all x.journal.batches)) in
+    let none : journal_of (parts_of x) ≡ x.journal.batches = nothing_out x.journal.batches x.placed x.book x.current c.requires.between.stands c.requires.shows.flight in
     let head : P.tells → ∥ Headline form_reads x.base x.since J w ∥₁ = λ t. rw (e.base, e.since, e.plant, d.base, d.since) at (e.headline t) in
-    let has : HasPlay P.tells from x.base.config x.book c.args.asked.now x.journal.batches J.batches x.pair.first.alive y.pair.first.alive x.pair.second.alive y.pair.second.alive v w c.play_steps-answer.result =
-    subst (λ (bs : List Batch). HasPlay P.tells from x.base.config x.book c.args.asked.now x.journal.batches bs x.pair.first.alive y.pair.first.alive x.pair.second.alive y.pair.second.alive v w c.play_steps-answer.result) (sym e.journal) d.played in
     rw (e.status, c.status_of.ensures, e.base, e.since, e.plant, d.base, d.since)
-    (play_of_steps P.tells x.book c.args.asked.now x.base x.journal.batches J x.since v w x.pair.first.alive y.pair.first.alive x.pair.second.alive y.pair.second.alive c.requires.base_sound head c.requires.there1 c.requires.there2 c.play_steps-answer.result has)
+    (play_of_lines P.tells steps x.base x.journal.batches v.now J x.since v w r d.played.many c.requires.settled c.requires.between.sound head
+    (there_after P (parts_of x) (parts_of y) r d.copies c.requires.some c.requires.there1 c.requires.there2)
+    (lines_passed x y S ⊥ steps d.played.many r d.played.bare (shown_bare x y S (Unit {0}) c.requires.shows) x.journal.batches J.batches none e.journal)
+    (λ t. lines_passed x y S (Unit {0}) steps d.played.many r (d.played.told t) c.requires.shows x.journal.batches J.batches none e.journal))
 
 pub returns-clause-cause : goal.returns-clause-cause
 returns-clause-cause g c =
     let P = g.P.Plant in
     let x = c.args.run.complex in
-    let y = c.play_steps-answer.new.self.complex in
-    let v = P.view x.plant in
-    let w = P.view y.plant in
+    let y = c.play_lines-answer.new.self.complex in
     let e = c.ended.ensures in
-    let d = c.play_steps-answer.ensures.played in
-    let from : Queue = run x.base (kept_all x.journal.batches) in
-    rw (e.status, c.status_of.ensures, e.plant) (caused_by_steps P.tells (turns_from x.base.config x.book d.seen c.args.asked.now) from x.base.config.groups d.rest v w x.pair.first.alive y.pair.first.alive x.pair.second.alive y.pair.second.alive
-    c.play_steps-answer.result d.played y.first_lost y.second_lost)
+    let d = c.play_lines-answer.ensures in
+    let r = c.play_lines-answer.result in
+    let S : Scene = scene_of (run x.base (kept_all x.journal.batches)) in
+    rw (e.status, c.status_of.ensures, e.plant)
+    (caused_by_lines P (parts_of x) (parts_of y) r d.copies
+    (lines_failed x y S ⊥ c.args.lines.now d.played.many r d.played.bare (shown_bare x y S (Unit {0}) c.requires.shows)) y.first_lost y.second_lost)
 
 pub returns-clause-goes : goal.returns-clause-goes
-returns-clause-goes g c = rw c.ended.ensures.plant c.play_steps-answer.ensures.played.played.course.goes
+returns-clause-goes g c = rw c.ended.ensures.plant c.play_lines-answer.ensures.copies.goes
 
 pub returns-clause-grow : goal.returns-clause-grow
-returns-clause-grow g c d = rw c.ended.ensures.plant (c.play_steps-answer.ensures.played.played.course.grow d)
+returns-clause-grow g c d = rw c.ended.ensures.plant (c.play_lines-answer.ensures.copies.grow d)

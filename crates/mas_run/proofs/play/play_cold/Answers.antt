@@ -1,17 +1,17 @@
-use Rattle.std.proofs.Common.{◌≡◌, ◌∙◌, ℕ, min, true, false, List, Err, length, refl, sym, ap, subst, arith}
+use Rattle.std.proofs.Common.{◌≡◌, ◌∙◌, ℕ, true, false, List, Err, length, refl, sym, ap, subst, arith}
 use Rattle.std.proofs.Math.Logic.{∥∥₁_map}
 use Rattle.mas_types.specs.declared.ids.Dev.TheVariants.{Ckpt1, Ckpt2}
+use Rattle.mas_types.specs.declared.queues.Config.{Config}
 use Rattle.mas_types.specs.declared.queues.Queue.{Queue}
+use Rattle.mas_types.specs.Fit.{IsConfig}
 use Rattle.spool_disk.specs.View.{View, World, disk_now}
-use Rattle.spool_disk.specs.Acts.{Goes}
 use Rattle.ckpt_form.specs.Form.{form_count, form_holds, form_reads, form_rests, form_rests_now, form_rests_reads}
 use Rattle.ckpt_copy.specs.Meanwhile.{SameSides}
-use Rattle.ckpt_copy.specs.Moments.{goes_on}
+use Rattle.ckpt_copy.specs.Moments.{goes_none}
 use Rattle.ckpt_copy.specs.Pages.{bytes_of}
 use Rattle.duplex_pair.specs.Both.{PairActed}
 use Rattle.mas_types.specs.declared.journals.Batch.{Batch}
-use Rattle.lock_cycle.specs.Books.{Book}
-use Rattle.mas_complex.specs.Journals.{kept_all}
+use Rattle.mas_complex.specs.Journals.{AreSettled, kept_all}
 use Rattle.mas_complex.specs.Locking.{book_of}
 use Rattle.mas_complex.specs.Meaning.{StandFor, run}
 use Rattle.member_node.specs.Calls.{IsOnlyOn, console_now}
@@ -19,23 +19,23 @@ use Rattle.queue_tables.specs.Telling.{Tell}
 use Rattle.mas_complex.specs.Texts.{lost_now, spools_at}
 use Rattle.member_node.proofs.CourseLemmas.{left}
 use Rattle.member_node.proofs.DrawnLemmas.{drawn_stand, drawn_level}
-use Rattle.member_steps.specs.Steps.{AreAllKept}
-use Rattle.member_steps.proofs.ReadLemmas.{low_written, told_sound}
+use Rattle.member_steps.proofs.ReadLemmas.{told_sound}
 use Rattle.member_node.specs.Copies.{RestsAt}
 use Rattle.ckpt_pages.specs.declared.tables.Tables.{Tables}
 use Rattle.ckpt_pages.specs.Checkpoints.{IsCheckpoint}
+use Rattle.mas_run.specs.Fresh.{AreFresh}
+use Rattle.mas_run.specs.Lines.{Proceeds}
 use Rattle.mas_run.specs.Runs.{IsPlay}
+use Rattle.mas_run.specs.Shows.{QuietFor}
 use Rattle.mas_run.specs.Statuses.{IsCausedFrom}
-use Rattle.script_input.specs.Played.{sysa}
-use Rattle.mas_run.specs.Turns.{Sight, turns_from, turns_of}
-use Rattle.mas_run.proofs.LockLemmas.{begins_open}
-use Rattle.mas_types.specs.Limits.{members_most}
-use Rattle.mas_run.proofs.RunLemmas.{begun_empty, caused_unformed, cold_steps, steps_since, none_kept, caused_since, formed_copy, formed_images, empty_texts, low_empty, orders_empty, reads_there, sound_base, sound_empty, told_empty}
-use Rattle.mas_run.proofs.ScriptLemmas.{roomy_later}
+use Rattle.mas_run.proofs.BetweenLemmas.{lines_between, lines_shown, none_earlier, opened_first, opened_second, untold_since}
+use Rattle.mas_run.proofs.PassedLemmas.{proceeds_of, proceeds_on}
+use Rattle.mas_run.proofs.RunLemmas.{begun_empty, caused_since, caused_unformed, cold_lines, empty_texts, formed_copy, formed_images, low_empty, orders_empty, reads_there, sound_base, sound_empty, steps_since, told_empty, unarmed}
+use Rattle.mas_run.proofs.SpokenLemmas.{roomy_on}
 use Rattle.mas_run.proofs.VolumeLemmas.{kept_on}
 use Rattle.mas_run.proofs.WarmLemmas.{no, play_begins, play_not_text}
 use Rattle.std.proofs.lemmas.List.Elements.{All-weaker}
-use Rattle.ckpt_pages.specs.Shape.{IsRoute}
+use Rattle.ckpt_pages.specs.Shape.{IsRoute, page_count}
 use Rattle.script_laws.specs.Limits.{IsRoute as IsScriptRoute}
 use Rattle.mas_run.proofs.PaperLemmas.{papers_of}
 use Rattle.mas_run.proofs.play.play_cold.Goals as goal
@@ -43,138 +43,85 @@ use Rattle.mas_run.proofs.play.play_cold.Goals as goal
 pub make-complex-requires-clause-begins : goal.make-complex-requires-clause-begins
 make-complex-requires-clause-begins g c told =
     let v = g.P.Plant.view c.form.new.plant in
-    let k = c.in-Ok.member.checkpoint in
+    let k = c.in-Ok.field-0.checkpoint in
     let n = c.form.new.self in
     let f = c.in-Ok-form.ensures in
     let config = c.args.script.now.config in
     let routes = c.args.script.now.routes in
-    let told_base : Tell k.tables c.in-Ok.base = told_empty config routes k.tables c.in-Ok.ensures.tables c.in-Ok.base c.in-Ok.ensures.base (c.law_of_told_queues.ensures.empty config routes) in
-    let stand : StandFor c.in-Ok.base (bytes_of k.pages) = drawn_stand k.tables k.level k.levels k.pages c.in-Ok.base c.in-Ok.ensures.drawn (orders_empty config routes k.tables c.in-Ok.ensures.tables) told_base in
-    let first = formed_copy c.in-Ok.base v.now (form_rests n.first.copy) (form_holds n.first.copy) n.first.alive (disk_now v Ckpt1) (bytes_of k.pages)
+    let told_base : Tell k.tables c.in-Ok.field-0.base = told_empty config routes k.tables c.in-Ok.ensures.tables c.in-Ok.field-0.base c.in-Ok.ensures.base (c.law_of_told_queues.ensures.empty config routes) in
+    let stand : StandFor c.in-Ok.field-0.base (bytes_of k.pages) = drawn_stand k.tables k.level k.levels k.pages c.in-Ok.field-0.base c.in-Ok.ensures.drawn (orders_empty config routes k.tables c.in-Ok.ensures.tables) told_base in
+    let first = formed_copy c.in-Ok.field-0.base v.now (form_rests n.first.copy) (form_holds n.first.copy) n.first.alive (disk_now v Ckpt1) (bytes_of k.pages)
     (λ is. rw c.as_slice.ensures at (f.formed1 told is)) (λ not lt. f.gone1 told c.new-pair.ensures.alive.0 not lt) in
-    let second = formed_copy c.in-Ok.base v.now (form_rests n.second.copy) (form_holds n.second.copy) n.second.alive (disk_now v Ckpt2) (bytes_of k.pages)
+    let second = formed_copy c.in-Ok.field-0.base v.now (form_rests n.second.copy) (form_holds n.second.copy) n.second.alive (disk_now v Ckpt2) (bytes_of k.pages)
     (λ is. rw c.as_slice.ensures at (f.formed2 told is)) (λ not lt. f.gone2 told c.new-pair.ensures.alive.1 not lt) in
-    ∣ record { pages = bytes_of k.pages; stands = record { at_level = drawn_level k.tables k.level k.levels k.pages c.in-Ok.ensures.drawn; queue = stand }; texts = empty_texts c.args.script.now.config c.args.script.now.routes (lost_now v) (spools_at v v.now) c.in-Ok.base c.in-Ok.ensures.base; first_at = first; second_at = second } ∣₁
+    ∣ record { pages = bytes_of k.pages; stands = record { at_level = drawn_level k.tables k.level k.levels k.pages c.in-Ok.ensures.drawn; queue = stand }; texts = empty_texts c.args.script.now.config c.args.script.now.routes (lost_now v) (spools_at v v.now) c.in-Ok.field-0.base c.in-Ok.ensures.base; first_at = first; second_at = second } ∣₁
 
-pub play_asked-requires-clause-lock : goal.play_asked-requires-clause-lock
-play_asked-requires-clause-lock g c =
-    let m = c.make-complex.ensures in
-    let config = c.args.script.now.config in
-    let some = c.requires.fits.config.members.0 in
-    rw (m.book, m.reserved, c.in-Ok.ensures.base) (begins_open (min config.members members_most) config.hold config.dormancy sysa (omega arith) (omega (arith, some)))
-
-pub play_asked-requires-clause-config : goal.play_asked-requires-clause-config
-play_asked-requires-clause-config g c = rw (c.make-complex.ensures.base, c.in-Ok.ensures.base) c.requires.fits.config
-
-pub play_asked-requires-clause-roomy : goal.play_asked-requires-clause-roomy
-play_asked-requires-clause-roomy g c told =
+pub play_asked-requires-clause-between : goal.play_asked-requires-clause-between
+play_asked-requires-clause-between g c =
     let P = g.P.Plant in
-    let m = c.make-complex.ensures in
-    rw (m.plant, m.base, c.in-Ok.ensures.base) (roomy_later (P.view c.args.plant) (P.view c.form.new.plant) c.args.script.now.config c.in-Ok-form.ensures.acted.goes c.in_default.ensures.roomy)
-
-pub play_asked-requires-clause-kept : goal.play_asked-requires-clause-kept
-play_asked-requires-clause-kept g c =
-    let m = c.make-complex.ensures in
-    subst (λ (bs : List Batch). AreAllKept bs (g.P.Plant.view c.make-complex.result.plant).now) (sym m.journal) (none_kept (g.P.Plant.view c.make-complex.result.plant).now)
-
-pub play_asked-requires-clause-quiet : goal.play_asked-requires-clause-quiet
-play_asked-requires-clause-quiet g c told =
-    let m = c.make-complex.ensures in
-    let P = g.P.Plant in
-    ap (λ (t : ℕ). ((P.view c.make-complex.result.plant).world t).console) (m.since ∙ ap (λ p. (P.view p).now) (sym m.plant))
-
-pub play_asked-requires-clause-calm1 : goal.play_asked-requires-clause-calm1
-play_asked-requires-clause-calm1 g c =
-    let n = c.form.new.self.first in
-    let m = c.make-complex.ensures in
-    record {
-      before = m.places.0;
-      as_many = λ is.
-          let alive : n.alive ≡ true = sym (ap (λ p. p.first.alive) m.pair) ∙ is in
-          c.in-Ok.ensures.room ∙ ap length (sym c.as_slice.ensures) ∙ sym (ap (λ p. form_count p.first.copy) m.pair ∙ c.in-Ok-form.ensures.count1 alive);
-    }
-
-pub play_asked-requires-clause-low1 : goal.play_asked-requires-clause-low1
-play_asked-requires-clause-low1 g c =
-    let P = g.P.Plant in
-    let k = c.in-Ok.member.checkpoint in
-    let v = P.view c.form.new.plant in
-    let n = c.form.new.self.first in
-    let y = c.make-complex.result in
-    let m = c.make-complex.ensures in
-    let rests : RestsAt P.tells y.pair.first.alive y.first (form_count y.pair.first.copy) k.pages (form_reads (disk_now (P.view y.plant) Ckpt1).bytes) = record {
-      before = m.places.0;
-      as_many = λ is.
-          let alive : n.alive ≡ true = sym (ap (λ p. p.first.alive) m.pair) ∙ is in
-          ap length (sym c.as_slice.ensures) ∙ sym (ap (λ p. form_count p.first.copy) m.pair ∙ c.in-Ok-form.ensures.count1 alive);
-      reads = λ told is.
-          let alive : n.alive ≡ true = sym (ap (λ p. p.first.alive) m.pair) ∙ is in
-          ap (λ p. form_reads (disk_now (P.view p) Ckpt1).bytes) m.plant
-          ∙ form_rests_now n.copy (bytes_of k.pages) (disk_now v Ckpt1) (rw c.as_slice.ensures at (c.in-Ok-form.ensures.formed1 told alive));
-    } in
-    low_written P.tells y.pair.first.alive y.first (form_count y.pair.first.copy) k.tables.config (length y.journal.batches) k (form_reads (disk_now (P.view y.plant) Ckpt1).bytes) c.in-Ok.ensures.drawn
-    (λ told. low_empty c.args.script.now.config c.args.script.now.routes k.tables c.in-Ok.ensures.tables (length y.journal.batches) c.in-Ok.ensures.drawn.spelling.shape) rests
-
-pub play_asked-requires-clause-calm2 : goal.play_asked-requires-clause-calm2
-play_asked-requires-clause-calm2 g c =
-    let n = c.form.new.self.second in
-    let m = c.make-complex.ensures in
-    record {
-      before = m.places.1;
-      as_many = λ is.
-          let alive : n.alive ≡ true = sym (ap (λ p. p.second.alive) m.pair) ∙ is in
-          c.in-Ok.ensures.room ∙ ap length (sym c.as_slice.ensures) ∙ sym (ap (λ p. form_count p.second.copy) m.pair ∙ c.in-Ok-form.ensures.count2 alive);
-    }
-
-pub play_asked-requires-clause-low2 : goal.play_asked-requires-clause-low2
-play_asked-requires-clause-low2 g c =
-    let P = g.P.Plant in
-    let k = c.in-Ok.member.checkpoint in
-    let v = P.view c.form.new.plant in
-    let n = c.form.new.self.second in
-    let y = c.make-complex.result in
-    let m = c.make-complex.ensures in
-    let rests : RestsAt P.tells y.pair.second.alive y.second (form_count y.pair.second.copy) k.pages (form_reads (disk_now (P.view y.plant) Ckpt2).bytes) = record {
-      before = m.places.1;
-      as_many = λ is.
-          let alive : n.alive ≡ true = sym (ap (λ p. p.second.alive) m.pair) ∙ is in
-          ap length (sym c.as_slice.ensures) ∙ sym (ap (λ p. form_count p.second.copy) m.pair ∙ c.in-Ok-form.ensures.count2 alive);
-      reads = λ told is.
-          let alive : n.alive ≡ true = sym (ap (λ p. p.second.alive) m.pair) ∙ is in
-          ap (λ p. form_reads (disk_now (P.view p) Ckpt2).bytes) m.plant
-          ∙ form_rests_now n.copy (bytes_of k.pages) (disk_now v Ckpt2) (rw c.as_slice.ensures at (c.in-Ok-form.ensures.formed2 told alive));
-    } in
-    low_written P.tells y.pair.second.alive y.second (form_count y.pair.second.copy) k.tables.config (length y.journal.batches) k (form_reads (disk_now (P.view y.plant) Ckpt2).bytes) c.in-Ok.ensures.drawn
-    (λ told. low_empty c.args.script.now.config c.args.script.now.routes k.tables c.in-Ok.ensures.tables (length y.journal.batches) c.in-Ok.ensures.drawn.spelling.shape) rests
-
-pub play_asked-requires-clause-at_lock : goal.play_asked-requires-clause-at_lock
-play_asked-requires-clause-at_lock g c =
-    let m = c.make-complex.ensures in
+    let k = c.in-Ok.field-0.checkpoint in
     let i = c.in-Ok.ensures in
-    record { none = m.current; unplaced = m.placed; nothing = i.batch; drawn = i.drawn; many = i.room }
-
-pub play_asked-requires-clause-sound : goal.play_asked-requires-clause-sound
-play_asked-requires-clause-sound g c told =
-    let k = c.in-Ok.member.checkpoint in
+    let f = c.in-Ok-form.ensures in
+    let n = c.form.new.self in
+    let v = P.view c.form.new.plant in
     let y = c.make-complex.result in
     let m = c.make-complex.ensures in
     let config = c.args.script.now.config in
     let routes = c.args.script.now.routes in
-    let told_base : Tell k.tables c.in-Ok.base = told_empty config routes k.tables c.in-Ok.ensures.tables c.in-Ok.base c.in-Ok.ensures.base (c.law_of_told_queues.ensures.empty config routes) in
-    told_sound k.tables (run y.base (kept_all y.journal.batches)) (sound_empty config routes k.tables c.in-Ok.ensures.tables c.requires.fits.config c.requires.fits.few (c.law_of_told_queues.ensures.empty config routes))
-    (subst (λ (bs : List Batch). Tell k.tables (run y.base (kept_all bs))) (sym m.journal) (subst (Tell k.tables) (sym m.base) told_base))
+    let whole : y.base ≡ c.in-Ok.field-0.base = m.base in
+    let base : y.base.config ≡ config = ap (λ (q : Queue). q.config) (whole ∙ i.base) in
+    let own : y.base.config ≡ k.tables.config = base ∙ sym (ap (λ (t : Tables). t.config) i.tables) in
+    let many : page_count y.base.config ≡ length k.pages = ap page_count own ∙ sym i.drawn.spelled.count in
+    let low = λ (told : P.tells). low_empty config routes k.tables i.tables (length y.journal.batches) i.drawn.spelling.shape in
+    let rests1 : RestsAt P.tells y.pair.first.alive y.first (form_count y.pair.first.copy) k.pages (form_reads (disk_now (P.view y.plant) Ckpt1).bytes) = record {
+      before = m.places.0;
+      as_many = λ is.
+          let alive : n.first.alive ≡ true = sym (ap (λ p. p.first.alive) m.pair) ∙ is in
+          ap length (sym c.as_slice.ensures) ∙ sym (ap (λ p. form_count p.first.copy) m.pair ∙ f.count1 alive);
+      reads = λ told is.
+          let alive : n.first.alive ≡ true = sym (ap (λ p. p.first.alive) m.pair) ∙ is in
+          ap (λ p. form_reads (disk_now (P.view p) Ckpt1).bytes) m.plant
+          ∙ form_rests_now n.first.copy (bytes_of k.pages) (disk_now v Ckpt1) (rw c.as_slice.ensures at (f.formed1 told alive));
+    } in
+    let rests2 : RestsAt P.tells y.pair.second.alive y.second (form_count y.pair.second.copy) k.pages (form_reads (disk_now (P.view y.plant) Ckpt2).bytes) = record {
+      before = m.places.1;
+      as_many = λ is.
+          let alive : n.second.alive ≡ true = sym (ap (λ p. p.second.alive) m.pair) ∙ is in
+          ap length (sym c.as_slice.ensures) ∙ sym (ap (λ p. form_count p.second.copy) m.pair ∙ f.count2 alive);
+      reads = λ told is.
+          let alive : n.second.alive ≡ true = sym (ap (λ p. p.second.alive) m.pair) ∙ is in
+          ap (λ p. form_reads (disk_now (P.view p) Ckpt2).bytes) m.plant
+          ∙ form_rests_now n.second.copy (bytes_of k.pages) (disk_now v Ckpt2) (rw c.as_slice.ensures at (f.formed2 told alive));
+    } in
+    let told_base : Tell k.tables c.in-Ok.field-0.base = told_empty config routes k.tables i.tables c.in-Ok.field-0.base i.base (c.law_of_told_queues.ensures.empty config routes) in
+    let since : y.since ≡ (P.view y.plant).now = m.since ∙ ap (λ p. (P.view p).now) (sym m.plant) in
+    let settled : AreSettled y.journal.batches (P.view y.plant).now = subst (λ (bs : List Batch). AreSettled bs (P.view y.plant).now) (sym m.journal) tt in
+    let quiet : QuietFor y (page_count y.base.config) = record {
+      none = m.current;
+      unplaced = m.placed;
+      unreserved = m.reserved;
+      first = opened_first y k (page_count y.base.config) i.drawn own many low rests1;
+      second = opened_second y k (page_count y.base.config) i.drawn own many low rests2;
+      sound = λ told. told_sound k.tables (run y.base (kept_all y.journal.batches)) (sound_empty config routes k.tables i.tables c.requires.fits.config c.requires.fits.few (c.law_of_told_queues.ensures.empty config routes))
+          (subst (λ (bs : List Batch). Tell k.tables (run y.base (kept_all bs))) (sym m.journal) (subst (Tell k.tables) (sym whole) told_base));
+      kept = settled;
+      begun = omega (arith, since);
+      roomy = λ told. rw (m.plant, m.base, i.base) (roomy_on (P.view c.args.plant) v config (proceeds_of (P.view c.args.plant) v f.acted.goes) c.in_default.ensures.roomy);
+    } in
+    lines_between y (m.book ∙ ap (λ (q : Queue). book_of q.config) (sym whole)) c.in-Ok.field-0.members (subst IsConfig (sym base) c.requires.fits.config) (sound_base config routes y.base (whole ∙ i.base) c.requires.fits.config c.requires.fits.few)
+    (subst (λ (n : Config). AreFresh n c.in-Ok.field-0.members) (sym base) i.members) quiet (untold_since y (P.view y.plant) since (goes_none (P.view y.plant)) (λ told. refl))
+    (none_earlier y.journal.batches y.current m.journal m.current) settled
 
-pub play_asked-requires-clause-base_sound : goal.play_asked-requires-clause-base_sound
-play_asked-requires-clause-base_sound g c = sound_base c.args.script.now.config c.args.script.now.routes c.make-complex.result.base (c.make-complex.ensures.base ∙ c.in-Ok.ensures.base) c.requires.fits.config c.requires.fits.few
+pub play_asked-requires-clause-shows : goal.play_asked-requires-clause-shows
+play_asked-requires-clause-shows g c =
+    let y = c.make-complex.result in
+    let m = c.make-complex.ensures in
+    let book : y.book ≡ book_of y.base.config = m.book ∙ ap (λ (q : Queue). book_of q.config) (sym m.base) in
+    lines_shown y book (rw (m.base, c.in-Ok.ensures.base) c.requires.fits.config) m.current m.printed
 
-pub play_asked-requires-clause-own : goal.play_asked-requires-clause-own
-play_asked-requires-clause-own g c = ap (λ (q : Queue). q.config) (c.make-complex.ensures.base ∙ c.in-Ok.ensures.base) ∙ sym (ap (λ (t : Tables). t.config) c.in-Ok.ensures.tables)
-
-pub play_asked-requires-clause-fresh : goal.play_asked-requires-clause-fresh
-play_asked-requires-clause-fresh g c = omega (arith, ap (λ (bs : List Batch). length bs) c.make-complex.ensures.journal)
-
-pub play_asked-requires-clause-level : goal.play_asked-requires-clause-level
-play_asked-requires-clause-level g c = omega (arith, c.make-complex.ensures.level, c.in-Ok.ensures.level)
+pub play_asked-requires-clause-settled : goal.play_asked-requires-clause-settled
+play_asked-requires-clause-settled g c =
+    subst (λ (bs : List Batch). AreSettled bs (g.P.Plant.view c.make-complex.result.plant).now) (sym c.make-complex.ensures.journal) tt
 
 pub returns-in_default-form-clause-volumes : goal.returns-in_default-form-clause-volumes
 returns-in_default-form-clause-volumes g c t none =
@@ -189,9 +136,11 @@ returns-in_default-form-clause-unprinted g c t none =
 pub returns-clause-roomy : goal.returns-clause-roomy
 returns-clause-roomy g c begun =
     let P = g.P.Plant in
+    let v = P.view c.args.plant in
+    let w = P.view c.play_asked.result.plant in
     let config = c.args.script.now.config in
-    let goes : Goes (P.view c.args.plant) (P.view c.play_asked.result.plant) = goes_on (P.view c.args.plant) (P.view c.form.new.plant) (P.view c.play_asked.result.plant) c.in-Ok-form.ensures.acted.goes (rw c.make-complex.ensures.plant at c.play_asked.ensures.goes) in
-    rw (c.play_asked.ensures.base, c.make-complex.ensures.base, c.in-Ok.ensures.base) (roomy_later (P.view c.args.plant) (P.view c.play_asked.result.plant) config goes c.in_default.ensures.roomy)
+    let goes : Proceeds v w = proceeds_on v (P.view c.form.new.plant) w (proceeds_of v (P.view c.form.new.plant) c.in-Ok-form.ensures.acted.goes) (rw c.make-complex.ensures.plant at c.play_asked.ensures.goes) in
+    rw (c.play_asked.ensures.base, c.make-complex.ensures.base, c.in-Ok.ensures.base) (roomy_on v w config goes c.in_default.ensures.roomy)
 
 pub returns-clause-cause : goal.returns-clause-cause
 returns-clause-cause g c =
@@ -208,7 +157,9 @@ returns-clause-cause g c =
 pub returns-clause-goes : goal.returns-clause-goes
 returns-clause-goes g c =
     let P = g.P.Plant in
-    goes_on (P.view c.args.plant) (P.view c.form.new.plant) (P.view c.play_asked.result.plant) c.in-Ok-form.ensures.acted.goes (rw c.make-complex.ensures.plant at c.play_asked.ensures.goes)
+    let v = P.view c.args.plant in
+    let mid = P.view c.form.new.plant in
+    proceeds_on v mid (P.view c.play_asked.result.plant) (proceeds_of v mid c.in-Ok-form.ensures.acted.goes) (rw c.make-complex.ensures.plant at c.play_asked.ensures.goes)
 
 pub returns-clause-run : goal.returns-clause-run
 returns-clause-run g c begun =
@@ -218,31 +169,27 @@ returns-clause-run g c begun =
     let x = c.make-complex.result in
     let r = c.play_asked.result in
     let w = P.view r.plant in
-    let k = c.in-Ok.member.checkpoint in
+    let k = c.in-Ok.field-0.checkpoint in
     let n = c.form.new.self in
     let i = c.in-Ok.ensures in
     let f = c.in-Ok-form.ensures in
     let m = c.make-complex.ensures in
     let e = c.play_asked.ensures in
-    let goes : Goes v1 w = rw m.plant at e.goes in
+    let goes : Proceeds v1 w = rw m.plant at e.goes in
     let since : r.since ≡ v1.now = e.since ∙ m.since in
     let quiet : P.tells → console_now v1 ≡ console_now v0 = λ t. (f.during t).console v1.now f.acted.goes.later (omega arith) in
-    let base : r.base ≡ c.in-Ok.base = e.base ∙ m.base in
-    let book : x.book ≡ book_of r.base.config = m.book ∙ ap (λ (q : Queue). book_of q.config) (sym base) in
+    let base : r.base ≡ c.in-Ok.field-0.base = e.base ∙ m.base in
     let steps = c.args.script.now.steps in
-    let played : (seen : List Sight) × IsPlay P.tells (turns_from r.base.config x.book seen steps) r.status r.base x.journal.batches r.journal r.since (P.view x.plant) w = rw c.as_slice-2.ensures at e.play in
-    let seen = played.0 in
-    let turns = turns_of r.base.config seen steps in
-    let play : IsPlay P.tells turns r.status r.base x.journal.batches r.journal r.since v1 w =
-    subst (λ (b : Book). IsPlay P.tells (turns_from r.base.config b seen steps) r.status r.base x.journal.batches r.journal r.since v1 w) book
-    (subst (λ (v : View). IsPlay P.tells (turns_from r.base.config x.book seen steps) r.status r.base x.journal.batches r.journal r.since v w) (ap P.view m.plant) played.1) in
+    let played : IsPlay P.tells steps r.status r.base x.journal.batches r.journal r.since (P.view x.plant) w = rw c.as_slice-2.ensures at e.play in
+    let play : IsPlay P.tells steps r.status r.base x.journal.batches r.journal r.since v1 w =
+    subst (λ (v : View). IsPlay P.tells steps r.status r.base x.journal.batches r.journal r.since v w) (ap P.view m.plant) played in
     record {
       first = v1.loses;
       before = f.acted.loses;
       queue = base ∙ c.in-Ok.ensures.base;
       sound = sound_base c.args.script.now.config c.args.script.now.routes r.base (base ∙ c.in-Ok.ensures.base) c.requires.fits.config c.requires.fits.few;
       moment = (omega (arith, since, f.acted.goes.later), omega (arith, since, goes.later));
-      fresh = λ t. rw (base, since) (∥∥₁_map (m.fresh t) (λ k. k w goes));
+      fresh = λ t. rw (base, since) (∥∥₁_map (m.fresh t) (λ k. k (record w { arms = v1.arms }) (unarmed v1 w goes)));
       formatted = λ cold t. rw since (record {
         pages = k.pages;
         sized = i.drawn.sized;
@@ -259,9 +206,8 @@ returns-clause-run g c begun =
       });
       quiet = λ t. ap (λ (n : ℕ). (w.world n).console) since ∙ ap (λ (u : World). u.console) (goes.past v1.now (omega arith)) ∙ quiet t;
       dry = λ t. rw since (subst (λ (u : World). SameSides (v0.world v0.now) u) (sym (goes.past v1.now (omega arith))) ((f.during t).sides v1.now f.acted.goes.later (omega arith)));
-      seen = seen;
-      steps = steps_since v0 v1 w f.acted.goes goes true P.tells turns r.status r.base r.journal r.since v1.loses quiet (λ t. kept_on v0 v1 (f.during t).others) (λ t. papers_of v0 v1 (f.during t).sides)
-          (cold_steps P.tells turns r.status r.base x.journal.batches r.journal r.since v1 w m.journal since goes play);
+      steps = steps_since v0 v1 w f.acted.goes goes true P.tells steps r.status r.base r.journal r.since v1.loses quiet (λ t. kept_on v0 v1 (f.during t).others) (λ t. papers_of v0 v1 (f.during t).sides)
+          (cold_lines P.tells steps r.status r.base x.journal.batches r.journal r.since v1 w m.journal since goes play);
     }
 
 pub returns-clause-config : goal.returns-clause-config
@@ -297,6 +243,11 @@ returns-clause-loses g c none =
     let base = c.play_asked.ensures.base ∙ c.make-complex.ensures.base ∙ c.in-Ok.ensures.base in
     absurd (no c.play_asked.result.base (begun_empty c.args.script.now.config c.args.script.now.routes c.play_asked.result.base base c.requires.fits.config) none)
 
+pub returns-clause-arms : goal.returns-clause-arms
+returns-clause-arms g c none =
+    let base = c.play_asked.ensures.base ∙ c.make-complex.ensures.base ∙ c.in-Ok.ensures.base in
+    absurd (no c.play_asked.result.base (begun_empty c.args.script.now.config c.args.script.now.routes c.play_asked.result.base base c.requires.fits.config) none)
+
 pub returns-clause-volumes : goal.returns-clause-volumes
 returns-clause-volumes g c told none =
     let base = c.play_asked.ensures.base ∙ c.make-complex.ensures.base ∙ c.in-Ok.ensures.base in
@@ -315,3 +266,11 @@ returns-in_default-form-clause-cause g c =
     let e = c.in_default-form.ensures in
     rw (c.unbegun-in_default-form.ensures.status, c.unbegun-in_default-form.ensures.plant)
     (caused_unformed (Unit {0}) n.first.alive n.second.alive c.in_default-form.field-0 (P.view c.args.plant) (P.view c.form.new.plant) (rw (c.new-pair.ensures.alive.0, c.new-pair.ensures.alive.1) at e.acted) (λ is. e.both (ap Err is)))
+
+pub returns-in_default-form-clause-goes : goal.returns-in_default-form-clause-goes
+returns-in_default-form-clause-goes g c =
+    let P = g.P.Plant in
+    rw c.unbegun-in_default-form.ensures.plant (proceeds_of (P.view c.args.plant) (P.view c.form.new.plant) c.in_default-form.ensures.acted.goes)
+
+pub returns-in_default-form-clause-arms : goal.returns-in_default-form-clause-arms
+returns-in_default-form-clause-arms g c none m = rw c.unbegun-in_default-form.ensures.plant (c.in_default-form.ensures.acted.goes.arms m)

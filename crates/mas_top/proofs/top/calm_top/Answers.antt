@@ -5,6 +5,7 @@ use Rattle.mas_run.specs.Runs.{has_begun}
 use Rattle.mas_top.specs.declared.tasks.Task.TheVariants as task
 use Rattle.mas_top.specs.Plays.{IsPlayed, source_of}
 use Rattle.mas_top.specs.Tasks.{task_asked}
+use Rattle.mas_run.proofs.PassedLemmas.{proceeds_none, proceeds_of}
 use Rattle.mas_run.proofs.RefusalLemmas.{free_answer}
 use Rattle.mas_run.proofs.VolumeLemmas.{kept_none, kept_on}
 use Rattle.mas_top.proofs.PlayLemmas.{not_played}
@@ -34,7 +35,7 @@ returns-in-Play-clause-play g c cold is =
     let e = c.play_script.ensures in
     let same : c.in-Play.cold ≡ cold = play_same (task_asked (map string_bytes c.args.words.now)) c.in-Play.cold cold (c.in-Ok.ensures ∙ ap Some c.in-Play.is) is in
     subst (λ (x : Bool). IsPlayed x false (source_of S.tells (S.faults c.args.script.now) (S.faults c.play_script.new.script) left (S.left c.play_script.new.script)) P.tells (r.plant ≡ c.args.plant) r.status r.base r.journal r.since old (P.view r.plant)) same
-    (record { refused = e.refused; words = e.words; device = e.device; formatted = e.formatted; unstarted = e.unstarted; faulted = e.source; untouched = e.untouched; idle = e.idle; unprinted = e.unprinted; volumes = e.volumes; formats = e.formats; loses = e.loses; room = e.room; roomy = e.roomy; read = e.read; taken = e.taken; run = e.run; complete = e.complete })
+    (record { refused = e.refused; words = e.words; device = e.device; formatted = e.formatted; unstarted = e.unstarted; faulted = e.source; untouched = e.untouched; idle = e.idle; unprinted = e.unprinted; volumes = e.volumes; formats = e.formats; loses = e.loses; arms = e.arms; room = e.room; roomy = e.roomy; read = e.read; taken = e.taken; run = e.run; complete = e.complete })
 
 pub returns-in-Play-clause-report : goal.returns-in-Play-clause-report
 returns-in-Play-clause-report g c is = absurd (play_not_report (task_asked (map string_bytes c.args.words.now)) c.in-Play.cold (c.in-Ok.ensures ∙ ap Some c.in-Play.is) is)
@@ -88,7 +89,7 @@ returns-in-Format-clause-report g c is = absurd (report_not_format (task_asked (
 pub returns-in-Format-clause-format : goal.returns-in-Format-clause-format
 returns-in-Format-clause-format g c is =
     let e = c.play_script-in-Format.ensures in
-    record { refused = e.refused; words = e.words; device = e.device; formatted = e.formatted; unstarted = e.unstarted; faulted = e.source; untouched = e.untouched; idle = e.idle; unprinted = e.unprinted; volumes = e.volumes; formats = e.formats; loses = e.loses; room = e.room; roomy = e.roomy; read = e.read; taken = e.taken; run = e.run; complete = e.complete }
+    record { refused = e.refused; words = e.words; device = e.device; formatted = e.formatted; unstarted = e.unstarted; faulted = e.source; untouched = e.untouched; idle = e.idle; unprinted = e.unprinted; volumes = e.volumes; formats = e.formats; loses = e.loses; arms = e.arms; room = e.room; roomy = e.roomy; read = e.read; taken = e.taken; run = e.run; complete = e.complete }
 
 pub returns-in-Format-clause-check : goal.returns-in-Format-clause-check
 returns-in-Format-clause-check g c is = absurd (format_not_check (task_asked (map string_bytes c.args.words.now)) (c.in-Ok.ensures ∙ ap Some c.in-Format.is) is)
@@ -132,7 +133,17 @@ pub returns-in-Check-clause-unsaid : goal.returns-in-Check-clause-unsaid
 returns-in-Check-clause-unsaid g c told other = absurd (other (c.in-Ok.ensures ∙ ap Some c.in-Check.is))
 
 pub returns-in-Check-clause-goes : goal.returns-in-Check-clause-goes
-returns-in-Check-clause-goes g c = c.check_found.ensures.check.devices.goes
+returns-in-Check-clause-goes g c =
+    let P = g.P.Plant in
+    proceeds_of (P.view c.args.plant) (P.view c.check_found.result.plant) c.check_found.ensures.check.devices.goes
+
+pub returns-in-Report-clause-goes : goal.returns-in-Report-clause-goes
+returns-in-Report-clause-goes g c =
+    let P = g.P.Plant in
+    proceeds_of (P.view c.args.plant) (P.view c.report_queue.result.plant) c.report_queue.ensures.goes
+
+pub returns-in-Err-clause-goes : goal.returns-in-Err-clause-goes
+returns-in-Err-clause-goes g c = rw c.unbegun.ensures.plant (proceeds_none (g.P.Plant.view c.args.plant))
 
 pub returns-in-Check-clause-volumes : goal.returns-in-Check-clause-volumes
 returns-in-Check-clause-volumes g c told none =

@@ -1,0 +1,171 @@
+-- The copies in lines one after another.
+use Rattle.std.proofs.Common.{◌≡◌, ◌⊎◌, inl, inr, ℕ, Bool, true, false, Result, Ok, Err, refl, sym, ◌∙◌, subst, ⊎_elim}
+use Rattle.mas_types.specs.declared.ids.Dev.{Dev}
+use Rattle.mas_types.specs.declared.ids.Dev.TheVariants.{Ckpt1, Ckpt2}
+use Rattle.spool_disk.specs.declared.plant.Part.TheVariants.{Disk}
+use Rattle.spool_disk.specs.declared.plant.Plant.{Ghosts as PlantGhosts}
+use Rattle.spool_disk.specs.View.{View}
+use Rattle.duplex_pair.specs.Halves.{SomeAlive}
+use Rattle.mas_complex.specs.Parts.{Parts}
+use Rattle.member_node.specs.declared.member.NodeNo.{NodeNo}
+use Rattle.member_node.specs.declared.member.NodeNo.TheVariants as no_node
+use Rattle.member_node.specs.Calls.{Course, Grows, IsLeft, WasLost}
+use Rattle.member_node.proofs.CourseLemmas.{grow_rose, no, rose_grow, rose_later, rose_more}
+use Rattle.mas_run.specs.Copies.{KeepCopies, LeavesSome}
+use Rattle.mas_run.specs.Lines.{Proceeds}
+use Rattle.mas_run.specs.Runs.{HasLost}
+use Rattle.mas_run.proofs.CourseLemmas.{has_lost_later, has_lost_more}
+use Rattle.mas_run.proofs.PassedLemmas.{proceeds_none, proceeds_of, proceeds_on}
+use Rattle.member_steps.specs.Saying.{OnConsole}
+use Rattle.member_steps.specs.Steps.{StepCauses}
+use Rattle.member_hand.specs.Plays.{HasActedIn}
+use Rattle.mas_types.specs.declared.ids.MemberId.{MemberId}
+use Rattle.ckpt_copy.specs.declared.copying.Copying.{Ghosts as CopyGhosts}
+
+grows_on : (x y z : ℕ) → Grows x y → Grows y z → Grows x z
+grows_on x y z one two = ⊎_elim (λ same. ⊎_elim (λ still. inl (still ∙ same)) (λ rose. inr (grow_rose x y z one rose)) two) (λ rose. inr (rose_grow x y z rose two)) one
+
+pub lost_before : (d : Dev) (v0 v1 v2 : View) → WasLost d v0 v1 → Proceeds v1 v2 → Grows (v1.loses d) (v2.loses d) → WasLost d v0 v2
+lost_before d v0 v1 v2 lost goes grow = ⊎_elim
+    (λ failed. inl (rose_more (v0.faults (Disk d)) (v1.faults (Disk d)) (v2.faults (Disk d)) failed (goes.faults (Disk d))))
+    (λ called. inr (rose_grow (v0.loses d) (v1.loses d) (v2.loses d) called grow))
+    lost
+
+pub lost_after : (d : Dev) (v0 v1 v2 : View) → Proceeds v0 v1 → Grows (v0.loses d) (v1.loses d) → WasLost d v1 v2 → WasLost d v0 v2
+lost_after d v0 v1 v2 goes grow lost = ⊎_elim
+    (λ failed. inl (rose_later (v0.faults (Disk d)) (v1.faults (Disk d)) (v2.faults (Disk d)) (goes.faults (Disk d)) failed))
+    (λ called. inr (grow_rose (v0.loses d) (v1.loses d) (v2.loses d) grow called))
+    lost
+
+by_test : {A : Type 0} (b : Bool) → (b ≡ true → A) → (b ≡ false → A) → A
+by_test true f g = f refl
+by_test false f g = g refl
+
+-- one is left, or both are as they were, at both of two calls
+left_on : (a a' a'' b b' b'' : Bool) → IsLeft a a' b b' → IsLeft a' a'' b' b'' → IsLeft a a'' b b''
+left_on a a' a'' b b' b'' one two = ⊎_elim inl
+    (λ same. ⊎_elim (λ some. inl (subst (λ (x : Bool). SomeAlive x b'') (sym same.0) (subst (λ (x : Bool). SomeAlive a' x) (sym same.1) some)))
+    (λ still. inr (same.0 ∙ still.0, same.1 ∙ still.1)) one)
+    two
+
+-- so one is alive, where one was
+pub alive_on : (a a' b b' : Bool) → SomeAlive a b → IsLeft a a' b b' → SomeAlive a' b'
+alive_on a a' b b' some is = ⊎_elim (λ here. here)
+    (λ same. subst (λ (x : Bool). SomeAlive x b') (sym same.0) (subst (λ (x : Bool). SomeAlive a x) (sym same.1) some)) is
+
+module _ {P C : Type 0} (plants : PlantGhosts P) where
+  abbrev v : Parts P C → View
+  v x = plants.view x.plant
+
+  abbrev Left : Parts P C → Parts P C → Type 0
+  Left x y = IsLeft x.first_alive y.first_alive x.second_alive y.second_alive ⊎ HasLost (v x) (v y)
+
+  lefts : (x y z : Parts P C) → ((d : Dev) → Grows ((v x).loses d) ((v y).loses d)) → ((d : Dev) → Grows ((v y).loses d) ((v z).loses d))
+      → Left x y → Left y z → Left x z
+  lefts x y z grow more one two = ⊎_elim
+      (λ some. ⊎_elim
+      (λ others. inl (left_on x.first_alive y.first_alive z.first_alive x.second_alive y.second_alive z.second_alive some others))
+      (λ lost. inr (has_lost_later (v x) (v y) (v z) grow lost)) two)
+      (λ lost. inr (has_lost_more (v x) (v y) (v z) lost more))
+      one
+
+  left_by : {T : Type 0} (x y z : Parts P C) (r : Result T NodeNo) → ((d : Dev) → Grows ((v x).loses d) ((v y).loses d)) → ((d : Dev) → Grows ((v y).loses d) ((v z).loses d))
+      → Left x y → LeavesSome plants y z r → LeavesSome plants x z r
+  left_by x y z (Ok done) grow more one two = lefts x y z grow more one two
+  left_by x y z (Err no_node.NoMemory) grow more one two = lefts x y z grow more one two
+  left_by x y z (Err no_node.ConsoleFault) grow more one two = lefts x y z grow more one two
+  left_by x y z (Err no_node.Halted) grow more one two = lefts x y z grow more one two
+  left_by x y z (Err no_node.BothLost) grow more one two = two
+
+  pub copies_none : (x : Parts P C) → KeepCopies plants {T = Unit {0}} x x (Ok tt)
+  copies_none x = record {
+    goes = proceeds_none (v x);
+    failed1 = λ is not. absurd (no x.first_alive is not);
+    failed2 = λ is not. absurd (no x.second_alive is not);
+    there1 = λ is there. there;
+    there2 = λ is there. there;
+    alive1 = λ is. is;
+    alive2 = λ is. is;
+    grow = λ d. inl refl;
+    left = inl (inr (refl, refl));
+  }
+
+  pub copies_then : {T : Type 0} (x y z : Parts P C) (r : Result T NodeNo) → KeepCopies plants {T = Unit {0}} x y (Ok tt) → KeepCopies plants y z r → KeepCopies plants x z r
+  copies_then x y z r one two = record {
+    goes = proceeds_on (v x) (v y) (v z) one.goes two.goes;
+    failed1 = λ is not. by_test y.first_alive
+        (λ still. lost_after Ckpt1 (v x) (v y) (v z) one.goes (one.grow Ckpt1) (two.failed1 still not))
+        (λ gone. lost_before Ckpt1 (v x) (v y) (v z) (one.failed1 is gone) two.goes (two.grow Ckpt1));
+    failed2 = λ is not. by_test y.second_alive
+        (λ still. lost_after Ckpt2 (v x) (v y) (v z) one.goes (one.grow Ckpt2) (two.failed2 still not))
+        (λ gone. lost_before Ckpt2 (v x) (v y) (v z) (one.failed2 is gone) two.goes (two.grow Ckpt2));
+    there1 = λ is there. two.there1 is (one.there1 (two.alive1 is) there);
+    there2 = λ is there. two.there2 is (one.there2 (two.alive2 is) there);
+    alive1 = λ is. one.alive1 (two.alive1 is);
+    alive2 = λ is. one.alive2 (two.alive2 is);
+    grow = λ d. grows_on ((v x).loses d) ((v y).loses d) ((v z).loses d) (one.grow d) (two.grow d);
+    left = left_by x y z r one.grow two.grow one.left two.left;
+  }
+
+  -- calls without a stop that is armed
+  pub copies_of : {T : Type 0} (x y : Parts P C) (r : Result T NodeNo) → Course x.first_alive y.first_alive x.second_alive y.second_alive (v x) (v y)
+      → LeavesSome plants x y r → KeepCopies plants x y r
+  copies_of x y r course left = record {
+    goes = proceeds_of (v x) (v y) course.goes;
+    failed1 = course.failed1;
+    failed2 = course.failed2;
+    there1 = course.there1;
+    there2 = course.there2;
+    alive1 = course.alive1;
+    alive2 = course.alive2;
+    grow = course.grow;
+    left = left;
+  }
+
+  -- a step, by the cause of its answer
+  step_leaves : (by : ℕ) (x y : Parts P C) (r : Result (Unit {0}) NodeNo) → StepCauses r by x.first_alive y.first_alive x.second_alive y.second_alive (v x) (v y)
+      → LeavesSome plants x y r
+  step_leaves by x y (Ok done) cause = inl cause
+  step_leaves by x y (Err no_node.NoMemory) cause = inl cause
+  step_leaves by x y (Err no_node.BothLost) cause = cause
+  step_leaves by x y (Err no_node.ConsoleFault) cause = inl cause.0
+  step_leaves by x y (Err no_node.Halted) cause = inl cause.0
+
+  pub acted_copies : (copies : CopyGhosts C) (by : MemberId) (x y : Parts P C) (r : Result (Unit {0}) NodeNo) → HasActedIn plants copies by x y r → KeepCopies plants x y r
+  acted_copies copies by x y r acts = copies_of x y r acts.course (step_leaves by.0 x y r acts.cause)
+
+  -- a line that was said, and what was left of it
+  unlost : (r : Result (Unit {0}) NodeNo) (x y : Parts P C) → (r ≡ Err no_node.BothLost → ⊥) → y.first_alive ≡ x.first_alive → y.second_alive ≡ x.second_alive → LeavesSome plants x y r
+  unlost (Ok done) x y other same1 same2 = inl (inr (same1, same2))
+  unlost (Err no_node.NoMemory) x y other same1 same2 = inl (inr (same1, same2))
+  unlost (Err no_node.ConsoleFault) x y other same1 same2 = inl (inr (same1, same2))
+  unlost (Err no_node.Halted) x y other same1 same2 = inl (inr (same1, same2))
+  unlost (Err no_node.BothLost) x y other same1 same2 = absurd (other refl)
+
+  pub said_copies : (x y : Parts P C) (r : Result (Unit {0}) NodeNo) → OnConsole plants.tells (v x) (v y) → y.first_alive ≡ x.first_alive → y.second_alive ≡ x.second_alive
+      → (r ≡ Err no_node.BothLost → ⊥) → KeepCopies plants x y r
+  said_copies x y r acts same1 same2 other = record {
+    goes = proceeds_of (v x) (v y) acts.goes;
+    failed1 = λ was not. absurd (no x.first_alive was (sym same1 ∙ not));
+    failed2 = λ was not. absurd (no x.second_alive was (sym same2 ∙ not));
+    there1 = λ is there. acts.lost Ckpt1 ∙ there;
+    there2 = λ is there. acts.lost Ckpt2 ∙ there;
+    alive1 = λ is. sym same1 ∙ is;
+    alive2 = λ is. sym same2 ∙ is;
+    grow = λ d. inl (acts.loses d);
+    left = unlost r x y other same1 same2;
+  }
+
+  -- a line in which its member was halted, before the operator says so
+  pub copies_halted : (x y : Parts P C) → KeepCopies plants {T = Unit {0}} x y (Err no_node.Halted) → KeepCopies plants {T = Unit {0}} x y (Ok tt)
+  copies_halted x y keep = record {
+    goes = keep.goes;
+    failed1 = keep.failed1;
+    failed2 = keep.failed2;
+    there1 = keep.there1;
+    there2 = keep.there2;
+    alive1 = keep.alive1;
+    alive2 = keep.alive2;
+    grow = keep.grow;
+    left = keep.left;
+  }

@@ -1,0 +1,277 @@
+-- What is known of a line within the limits, by what becomes of it.
+use Rattle.std.proofs.Common.{◌≡◌, ◌⊎◌, ⊎_elim, inl, inr, ℕ, ◌+◌, ◌≤◌, nat_le, ◌&&◌, ◌||◌, is_some, Bool, true, false, not, if◌then◌else◌, List, length, Option, Some, None, Result, Ok, Err, refl, sym, ◌∙◌, ap, subst, arith}
+use Rattle.std.proofs.lemmas.Bool.{eqb-true}
+use Rattle.std.proofs.lemmas.Bool.Decides.{nat_tests}
+use Rattle.mas_types.specs.declared.answers.Closing.{Closing}
+use Rattle.mas_types.specs.declared.answers.Closing.TheVariants as closing
+use Rattle.mas_types.specs.declared.commands.Command.{Command}
+use Rattle.mas_types.specs.declared.commands.Command.TheVariants as command
+use Rattle.mas_types.specs.declared.ids.MemberId.{MemberId}
+use Rattle.mas_types.specs.declared.jobs.JobFields.{JobFields}
+use Rattle.mas_types.specs.declared.queues.Queue.{Queue}
+use Rattle.mas_types.specs.Closings.{AreMembersNamed}
+use Rattle.mas_types.specs.Fit.{IsConfig, IsFit}
+use Rattle.mas_types.specs.Ids.{is_somebody, nobody}
+use Rattle.mas_types.specs.Limits.{members_most}
+use Rattle.mas_types.specs.Queue.{is_member}
+use Rattle.mas_types.specs.Step.{may_give}
+use Rattle.card_reader.specs.declared.decks.Refused.{Refused as BadCard}
+use Rattle.card_reader.specs.Decks.{job_seen_in, nothing_seen, read_as, refused_card, seen_after, text_of}
+use Rattle.card_reader.specs.Statements.{cards_to_end, items_of}
+use Rattle.card_reader.proofs.Fields.{fields_fit, least-ok}
+use Rattle.card_reader.proofs.Refusals.{cards_fit}
+use Rattle.lock_cycle.specs.declared.answers.LockNo.{LockNo}
+use Rattle.lock_cycle.specs.declared.answers.LockNo.TheVariants as lock
+use Rattle.lock_cycle.specs.Books.{Book, IsMember, after_try, granted, is_dormant, is_holder, is_stopped, ticked, try_refusal, wakes}
+use Rattle.paper_laws.specs.Counts.{is_mark}
+use Rattle.queue_commands.specs.Given.{IsGiver, is_plain}
+use Rattle.script_input.specs.Commands.{is_typed}
+use Rattle.script_input.specs.Played.{IsPlayed}
+use Rattle.script_lang.specs.declared.types.Ask.{Ask}
+use Rattle.script_lang.specs.declared.types.Ask.TheVariants as ask
+use Rattle.script_laws.specs.Limits.{IsAsk, IsBy}
+use Rattle.step_turns.specs.declared.states.Task.TheVariants.{Deck, Give, Work}
+use Rattle.run_turns.specs.Admissions.{Admission, Denied, Frees, Locks, Plays, Refused, Resets, TakesOver, Unplayed, admitted, asked, command_admitted, deck_admitted, denied_closing, if_granted, no_member, reset_admitted, resets, tries}
+use Rattle.member_sittings.specs.Whole.{IsGivable}
+use Rattle.member_hand.specs.Sits.{MayBeAsked}
+use Rattle.member_lines.specs.Admissions.{AreFewUnits}
+use Rattle.member_lines.specs.Closes.{IsSayer}
+use Rattle.mas_run.specs.LinesPlayed.{is_of_member, line_by}
+use Rattle.mas_run.proofs.AdmittedLemmas.{IsUpMember}
+
+-- THE LIMITS of a line of a member
+
+pub few_by : (by : MemberId) (what : Ask) → is_of_member what ≡ true → IsBy by what → by.0 ≤ members_most
+few_by by (ask.Deck cards) is some = some.1
+few_by by (ask.Command c) is some = some.1
+few_by by (ask.Work n) is some = some.1
+few_by by ask.Lock is some = some.1
+few_by by ask.Free is some = some.1
+few_by by (ask.Line n) is some = some.1
+few_by by (ask.Replace dev) is some = some.1
+few_by by ask.Stop is some = some.1
+few_by by (ask.StopIn fuse n) is some = some.1
+few_by by (ask.Lose dev) is some = absurd (cc)
+
+pub some_by : (by : MemberId) (what : Ask) → is_of_member what ≡ true → IsBy by what → 1 ≤ by.0
+some_by by (ask.Deck cards) is some = some.0
+some_by by (ask.Command c) is some = some.0
+some_by by (ask.Work n) is some = some.0
+some_by by ask.Lock is some = some.0
+some_by by ask.Free is some = some.0
+some_by by (ask.Line n) is some = some.0
+some_by by (ask.Replace dev) is some = some.0
+some_by by ask.Stop is some = some.0
+some_by by (ask.StopIn fuse n) is some = some.0
+some_by by (ask.Lose dev) is some = absurd (cc)
+
+pub few_asked : (what : Ask) → IsAsk what → AreFewUnits what
+few_asked (ask.Work n) is = is.1
+few_asked (ask.Deck cards) is = tt
+few_asked (ask.Command c) is = tt
+few_asked ask.Lock is = tt
+few_asked ask.Free is = tt
+few_asked (ask.Line n) is = tt
+few_asked (ask.Replace dev) is = tt
+few_asked ask.Stop is = tt
+few_asked (ask.StopIn fuse n) is = tt
+few_asked (ask.Lose dev) is = tt
+
+-- A MEMBER of the configuration
+
+and_left : (a b : Bool) → (a && b) ≡ true → a ≡ true
+and_left true b is = refl
+and_left false b is = absurd (cc)
+
+and_right : (a b : Bool) → (a && b) ≡ true → b ≡ true
+and_right true b is = is
+and_right false b is = absurd (cc)
+
+pub few_of : (Q : Queue) → IsConfig Q.config → (m : MemberId) → is_member Q.config m ≡ true → m.0 ≤ members_most
+few_of Q config m is =
+    let within : nat_le m.0 Q.config.members ≡ true = and_right (is_somebody m) (nat_le m.0 Q.config.members) is in
+    let le : m.0 ≤ Q.config.members = grind (arith, nat_tests) in
+    let most = config.members.1 in
+    omega (arith, le, most)
+
+pub some_of : (Q : Queue) (m : MemberId) → is_member Q.config m ≡ true → 1 ≤ m.0
+some_of Q m is = by_number m.0 (and_left (is_somebody m) (nat_le m.0 Q.config.members) is) where
+  by_number : (n : ℕ) → is_somebody (record { 0 = n }) ≡ true → 1 ≤ n
+  by_number n some = grind (arith, nat_tests, some)
+
+-- in whose book each member of the configuration has its place
+pub inside_of : (Q : Queue) (b : Book) (m : MemberId) → length b.members ≡ Q.config.members → is_member Q.config m ≡ true → IsMember b m
+inside_of Q b m booked is =
+    let within : nat_le m.0 Q.config.members ≡ true = and_right (is_somebody m) (nat_le m.0 Q.config.members) is in
+    let le : m.0 ≤ Q.config.members = grind (arith, nat_tests) in
+    let some = some_of Q m is in (
+      omega (arith, some),
+      omega (arith, le, booked),
+    )
+
+-- A COMMAND that a script may give
+
+typed_plain : (c : Command) → is_typed c ≡ true → is_plain c ≡ true
+typed_plain (command.Enter job text) is = absurd (cc)
+typed_plain (command.Ended job specs) is = absurd (cc)
+typed_plain (command.Load line) is = absurd (cc)
+typed_plain (command.Sent line number) is = absurd (cc)
+typed_plain (command.Got line number job text) is = absurd (cc)
+typed_plain _ is = refl
+
+typed_unmarked : (c : Command) → is_typed c ≡ true → is_mark c ≡ false
+typed_unmarked (command.Mark job index at) is = absurd (cc)
+typed_unmarked _ is = refl
+
+typed_giver : (by : MemberId) (c : Command) → is_typed c ≡ true → (1 ≤ by.0) × (by.0 ≤ members_most) → IsGiver by c
+typed_giver by command.Restart is some = absurd (cc)
+typed_giver by _ is some = some
+
+typed_may : (Q : Queue) (by : MemberId) (c : Command) → is_typed c ≡ true → is_member Q.config by ≡ true → may_give Q by c ≡ true
+typed_may Q by command.Restart is member = absurd (cc)
+typed_may Q by _ is member = member
+
+pub typed_givable : (Q : Queue) (by : MemberId) (c : Command) → IsConfig Q.config → is_member Q.config by ≡ true → IsFit c → is_typed c ≡ true → IsGivable Q by c
+typed_givable Q by c config member fit is = record {
+  plain = typed_plain c is;
+  fit = fit;
+  giver = typed_giver by c is (some_of Q by member, few_of Q config by member);
+  may = typed_may Q by c is member;
+  unmarked = typed_unmarked c is;
+}
+
+-- BY ITS ADMISSION
+
+module _ (Q : Queue) (config : IsConfig Q.config) (b : Book) (by : MemberId) where
+  -- a member that is to be reset is one, and is stopped
+  pub record IsDown (of : MemberId) : Type 0 where
+    pub member : is_member Q.config of ≡ true
+    pub down : is_stopped b of ≡ true
+    pub givable : is_member Q.config by ≡ true → IsGivable Q by (command.Reset of)
+
+  abbrev pub IsSaidBy : MemberId → Type 0
+  IsSaidBy sayer = (sayer ≡ nobody) ⊎ ((sayer ≡ by) × IsUpMember Q.config b by)
+
+  abbrev pub IsKnown : Admission → Type 0
+  IsKnown (Refused sayer end) = IsSaidBy sayer × AreMembersNamed end
+  IsKnown (Denied why) = IsUpMember Q.config b by × (try_refusal b by false ≡ Some why)
+  IsKnown (Plays task) = IsUpMember Q.config b by × MayBeAsked Q by task
+  IsKnown (Resets of) = IsUpMember Q.config b by × IsDown of
+  IsKnown (TakesOver of) = IsUpMember Q.config b by × IsDown of × (is_holder b of ≡ true)
+  IsKnown Locks = IsUpMember Q.config b by
+  IsKnown Frees = IsUpMember Q.config b by × (is_holder b by ≡ true)
+  IsKnown Unplayed = ⊥
+
+  module _ (up : IsUpMember Q.config b by) where
+    own_refused : (end : Closing) → AreMembersNamed end → IsKnown (Refused by end)
+    own_refused end named = (inr (refl, up), named)
+
+    known_tries : (a : Admission) → IsKnown a → IsKnown (tries b by a)
+    known_tries a known = by_refusal (try_refusal b by false) refl where
+      by_refusal : (r : Option LockNo) → try_refusal b by false ≡ r → IsKnown (if_granted r a)
+      by_refusal None is = known
+      by_refusal (Some why) is = (up, is)
+
+    known_deck : (cards : List (List ℕ)) (r : Result JobFields BadCard) → read_as Q.config.node cards ≡ r → IsKnown (deck_admitted b by (text_of cards) r)
+    known_deck cards (Err bad) is = own_refused (closing.BadCard bad.card bad.cause) tt
+    known_deck cards (Ok fields) is =
+        let none = (least-ok (refused_card 1 (cards_to_end 0 cards + 1) cards) (job_seen_in (seen_after Q.config.node nothing_seen (items_of cards))) fields is).0 in
+        known_tries (Plays (Deck fields (text_of cards)))
+        (up, (fields_fit Q.config.node cards fields config.node is, cards_fit (cards_to_end 0 cards) (cards_to_end 0 cards + 1) cards none))
+
+    known_reset : (of : MemberId) → IsFit (command.Reset of) → IsKnown (reset_admitted Q.config b by of)
+    known_reset of fit = by_tests (is_member Q.config of) (is_stopped b of) (is_holder b of) refl refl refl where
+      by_tests : (m s h : Bool) → is_member Q.config of ≡ m → is_stopped b of ≡ s → is_holder b of ≡ h
+          → IsKnown (if not m then Refused by no_member else if not s then Refused by (closing.Up of) else if h then TakesOver of else tries b by (Resets of))
+      by_tests false s h none stops holds = own_refused no_member tt
+      by_tests true false h some up holds = own_refused (closing.Up of) (few_of Q config of some)
+      by_tests true true true some down holds = (up, record { member = some; down = down; givable = λ member. typed_givable Q by (command.Reset of) config member fit refl }, holds)
+      by_tests true true false some down holds =
+          known_tries (Resets of) (up, record { member = some; down = down; givable = λ member. typed_givable Q by (command.Reset of) config member fit refl })
+
+    known_command : (c : Command) → IsFit c → is_typed c ≡ true → (r : Option MemberId) → resets c ≡ r → IsKnown (command_admitted Q.config b by c r)
+    known_command c fit typed None is = known_tries (Plays (Give c)) (up, typed_givable Q by c config up.member fit typed)
+    known_command c fit typed (Some of) is = known_reset of (subst IsFit (reset_of c of is) fit) where
+      reset_of : (c : Command) (of : MemberId) → resets c ≡ Some of → c ≡ command.Reset of
+      reset_of (command.Reset m) of is = let same : m ≡ of = cc in ap (λ (k : MemberId). command.Reset k) same
+      reset_of _ of is = absurd (cc)
+
+    known_free : (h : Bool) → is_holder b by ≡ h → IsKnown (if h then Frees else Refused by closing.NotHolder)
+    known_free true holds = (up, holds)
+    known_free false holds = own_refused closing.NotHolder tt
+
+    true_false : true ≡ false → ⊥
+    true_false e = absurd (cc)
+
+    known_asked : (what : Ask) → is_of_member what ≡ true → IsPlayed (line_by by what) → IsKnown (asked Q.config b by what)
+    known_asked (ask.Deck cards) is played = known_deck cards (read_as Q.config.node cards) refl
+    known_asked (ask.Command c) is played = known_command c played.fits.what played.built (resets c) refl
+    known_asked (ask.Work n) is played = known_tries (Plays (Work n)) (up, played.fits.what.1)
+    known_asked ask.Lock is played = known_tries Locks up
+    known_asked ask.Free is played = known_free (is_holder b by) refl
+    known_asked (ask.Line n) is played = absurd (true_false (sym played.built))
+    known_asked (ask.Replace dev) is played = absurd (true_false (sym played.built))
+    known_asked ask.Stop is played = absurd (true_false (sym is))
+    known_asked (ask.StopIn fuse n) is played = absurd (true_false (sym is))
+    known_asked (ask.Lose dev) is played = absurd (true_false (sym is))
+
+  pub known : (what : Ask) → is_of_member what ≡ true → IsPlayed (line_by by what) → IsKnown (admitted Q.config b by what)
+  known what is played = by_tests (is_member Q.config by) (is_stopped b by) refl refl where
+    by_tests : (m s : Bool) → is_member Q.config by ≡ m → is_stopped b by ≡ s
+        → IsKnown (if not m then Refused nobody no_member else if s then Refused nobody closing.Down else asked Q.config b by what)
+    by_tests false s none stops = (inl refl, tt)
+    by_tests true true some down = (inl refl, tt)
+    by_tests true false some up = known_asked (record { member = some; up = up }) what is played
+
+  -- the lock is held by a member that has its number
+  pub busy_named : (why : LockNo) → try_refusal b by false ≡ Some why → b.holder.0 ≤ members_most → AreMembersNamed (denied_closing why)
+  busy_named why is few = by_tests (is_stopped b by) (is_holder b by) (is_somebody b.holder) (is_dormant b by false) is where
+    by_tests : (s h t d : Bool)
+        → (if s then Some lock.Down else if h then None else if t then Some (lock.Busy b.holder) else if d then Some (lock.Dormant (wakes b by)) else None) ≡ Some why
+        → AreMembersNamed (denied_closing why)
+    by_tests true h t d e = let same : lock.Down ≡ why = cc in subst (λ (w : LockNo). AreMembersNamed (denied_closing w)) same tt
+    by_tests false true t d e = absurd (none e) where
+      none : None ≡ Some why → ⊥
+      none e = absurd (cc)
+    by_tests false false true d e = let same : lock.Busy b.holder ≡ why = cc in subst (λ (w : LockNo). AreMembersNamed (denied_closing w)) same few
+    by_tests false false false true e = let same : lock.Dormant (wakes b by) ≡ why = cc in subst (λ (w : LockNo). AreMembersNamed (denied_closing w)) same tt
+    by_tests false false false false e = absurd (none e) where
+      none : None ≡ Some why → ⊥
+      none e = absurd (cc)
+
+  -- who says the line of a refusal may
+  pub sayer_of : length b.members ≡ Q.config.members → (sayer : MemberId) → IsSaidBy sayer → IsSayer b sayer by
+  sayer_of booked sayer says = ⊎_elim inl (λ own. inr (own.0, inside_of Q b by booked own.1.member, own.1.up)) says
+
+  pub said_by : (sayer : MemberId) → IsSaidBy sayer → (sayer ≡ nobody) ⊎ (sayer ≡ by)
+  said_by sayer says = ⊎_elim inl (λ own. inr own.0) says
+
+  pub own_seat : length b.members ≡ Q.config.members → (sayer : MemberId) → IsSaidBy sayer → sayer ≡ by → 1 ≤ by.0 → IsMember b by
+  own_seat booked sayer says same some = ⊎_elim
+      (λ none. let zero_says = ap (λ (m : MemberId). m.0) (sym same ∙ none) in absurd (omega (arith, zero_says, some)))
+      (λ own. inside_of Q b by booked own.1.member) says
+
+  -- a member that is up isn't the stopped one that holds the lock
+  pub not_holder : (of : MemberId) → is_stopped b by ≡ false → is_stopped b of ≡ true → is_holder b of ≡ true → is_holder b by ≡ false
+  not_holder of up down holds = by_test (is_holder b by) refl where
+    apart : true ≡ false → ⊥
+    apart e = absurd (cc)
+
+    by_test : (h : Bool) → is_holder b by ≡ h → is_holder b by ≡ false
+    by_test false free = free
+    by_test true mine =
+        let its : b.holder.0 ≡ by.0 = eqb-true b.holder.0 by.0 mine in
+        let theirs : b.holder.0 ≡ of.0 = eqb-true b.holder.0 of.0 holds in
+        let same : of ≡ by = ap (λ (k : ℕ). let m : MemberId = record { 0 = k } in m) (sym theirs ∙ its) in
+        absurd (apart (sym (ap (λ (m : MemberId). is_stopped b m) (sym same) ∙ down) ∙ up))
+
+  -- who was refused the lock left it where it was
+  pub denied_holder : (why : LockNo) → try_refusal b by false ≡ Some why → (after_try b by false).holder ≡ b.holder
+  denied_holder why refused = by_tests (is_stopped b by) (is_holder b by) (try_refusal b by false) refused where
+    by_tests : (s h : Bool) (r : Option LockNo) → r ≡ Some why → (if s || h then b else if is_some r then ticked b false else granted (ticked b false) by).holder ≡ b.holder
+    by_tests true h r is = refl
+    by_tests false true r is = refl
+    by_tests false false None is = absurd (none is) where
+      none : None ≡ Some why → ⊥
+      none e = absurd (cc)
+    by_tests false false (Some other) is = refl

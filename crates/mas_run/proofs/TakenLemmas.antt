@@ -1,0 +1,87 @@
+-- The lock of a stopped member taken over: what was found of a batch in flight, or nothing was.
+use Rattle.std.proofs.Common.{◌≡◌, inl, inr, ⊎_elim, ℕ, ◌≤◌, Bool, true, false, Option, None, sym, ◌∙◌, ap, subst, arith}
+use Rattle.mas_types.specs.declared.ids.Dev.TheVariants.{Ckpt1, Ckpt2, Spool}
+use Rattle.mas_types.specs.declared.ids.MemberId.{MemberId}
+use Rattle.mas_types.specs.declared.journals.Batch.{Batch}
+use Rattle.mas_types.specs.declared.journals.Fate.{Fate}
+use Rattle.spool_disk.specs.declared.plant.Part.TheVariants.{Disk}
+use Rattle.spool_disk.specs.declared.plant.Plant.{Ghosts as PlantGhosts}
+use Rattle.spool_disk.specs.View.{View}
+use Rattle.spool_disk.specs.Acts.{Rose}
+use Rattle.ckpt_copy.specs.declared.copying.Copying.{Ghosts as CopyGhosts}
+use Rattle.mas_complex.specs.CallCounts.{KeepsCounts}
+use Rattle.mas_complex.specs.Journals.{end_of}
+use Rattle.mas_complex.specs.Parts.{Parts}
+use Rattle.member_node.specs.declared.member.NodeNo.{NodeNo}
+use Rattle.member_node.specs.declared.member.NodeNo.TheVariants as no_node
+use Rattle.member_node.specs.Spares.{Spares, is_stop}
+use Rattle.member_sittings.specs.Sat.{journal_of}
+use Rattle.mas_run.specs.Lines.{LosesAs}
+use Rattle.mas_run.specs.Resetting.{IsTaken, IsUntaken, TakeCauses}
+use Rattle.mas_run.proofs.BeginLemmas.{HasBarelyBegun, MayBegin}
+use Rattle.mas_run.proofs.StepLemmas.{ComesTo}
+use Rattle.mas_run.proofs.VolumeLemmas.{kept_on}
+
+-- nothing is in flight or placed
+pub journal_still : {P C : Type 0} (x : Parts P C) → x.current ≡ None → x.placed ≡ false → journal_of x ≡ x.batches
+journal_still x none unplaced =
+    ap (λ (c : Option Batch). end_of x.placed c x.batches) none ∙ ap (λ (p : Bool). end_of p None x.batches) unplaced
+
+-- CALLS ON THE COPIES that may lose one, once
+
+module _ (by : ℕ) (a a' b b' stopped : Bool) (old new : View) (counts : KeepsCounts by a a' b b' stopped old new) where
+  counts_spare : (stopped ≡ true → 1 ≤ by) → Spares by stopped old new
+  counts_spare some = record {
+    volumes = λ n. counts.else_loses (Spool n) (λ e. absurd (cc)) (λ e. absurd (cc));
+    stops = counts.no_other_stop;
+    operator = λ is. let le = some is in omega (arith, le);
+  }
+
+  counts_lose : (a' ≡ false → new.lost (Disk Ckpt1) ≡ true) → (b' ≡ false → new.lost (Disk Ckpt2) ≡ true) → LosesAs true None old new
+  counts_lose lost1 lost2 Ckpt1 = ⊎_elim inl (λ once. inr (once.2, lost1 once.1)) counts.once1
+  counts_lose lost1 lost2 Ckpt2 = ⊎_elim inl (λ once. inr (once.2, lost2 once.1)) counts.once2
+  counts_lose lost1 lost2 (Spool n) = inl (counts.else_loses (Spool n) (λ e. absurd (cc)) (λ e. absurd (cc)))
+
+module _ {P C : Type 0} (plants : PlantGhosts P) (copies : CopyGhosts C) (by of : MemberId) (some : 1 ≤ by.0) where
+  abbrev v : Parts P C → View
+  v z = plants.view z.plant
+
+  -- a copy that counts as lost is lost
+  abbrev pub AreLost : Parts P C → Type 0
+  AreLost y = (y.first_alive ≡ false → (v y).lost (Disk Ckpt1) ≡ true) × (y.second_alive ≡ false → (v y).lost (Disk Ckpt2) ≡ true)
+
+  pub comes_taken : (told : Type 0) → (told → plants.tells) → (found : Fate) (x mid : Parts P C) → AreLost mid → IsTaken plants copies by of x mid found
+      → ComesTo plants told by.0 true found (v mid).now x mid
+  comes_taken told tells found x mid lost taken = record {
+    goes = taken.counts.goes;
+    moment = (taken.counts.goes.later, omega arith);
+    spares = counts_spare by.0 x.first_alive mid.first_alive x.second_alive mid.second_alive false (v x) (v mid) taken.counts (λ e. some);
+    journal = sym (journal_still mid taken.quiet.none taken.quiet.unplaced) ∙ taken.journal;
+    printed = taken.printed;
+    console = λ t. (taken.apart (tells t)).console;
+    papers = λ t. (taken.apart (tells t)).papers;
+    loses = λ t. counts_lose by.0 x.first_alive mid.first_alive x.second_alive mid.second_alive false (v x) (v mid) taken.counts lost.0 lost.1;
+    volumes = λ t. kept_on (v x) (v mid) (taken.apart (tells t)).volumes;
+  }
+
+  caused_stop : (x y : Parts P C) (e : NodeNo) → TakeCauses plants copies e by x y → e ≡ no_node.Halted → Rose ((v x).stops by.0) ((v y).stops by.0)
+  caused_stop x y e cause is = subst (λ (k : NodeNo). TakeCauses plants copies k by x y) is cause
+
+  pub may_begin : (x y : Parts P C) (e : NodeNo) → TakeCauses plants copies e by x y → MayBegin e
+  may_begin x y no_node.NoMemory cause = tt
+  may_begin x y no_node.BothLost cause = tt
+  may_begin x y no_node.Halted cause = tt
+  may_begin x y no_node.ConsoleFault cause = cause
+
+  pub barely_untaken : (x y : Parts P C) (e : NodeNo) → AreLost y → IsUntaken plants copies by of x y e → HasBarelyBegun plants by true x y e
+  barely_untaken x y e lost un = record {
+    goes = un.counts.goes;
+    spares = counts_spare by.0 x.first_alive y.first_alive x.second_alive y.second_alive (is_stop e) (v x) (v y) un.counts (λ is. some);
+    stopped = caused_stop x y e un.cause;
+    loses = λ t. counts_lose by.0 x.first_alive y.first_alive x.second_alive y.second_alive (is_stop e) (v x) (v y) un.counts lost.0 lost.1;
+    console = λ t. (un.apart t).console;
+    papers = λ t. (un.apart t).papers;
+    volumes = λ t. kept_on (v x) (v y) (un.apart t).volumes;
+    journal = un.journal;
+    printed = un.printed;
+  }

@@ -1,0 +1,6 @@
+-- A member was not stopped.
+use Rattle.mas_run.proofs.UnstoppedLemmas.{plays_on}
+use Rattle.mas_run.proofs.laws.law_of_plays_on.Goals as goal
+
+pub returns : goal.returns
+returns c = record { bare = plays_on ⊥; told = plays_on (Unit {0}) }

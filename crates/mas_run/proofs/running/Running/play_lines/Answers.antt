@@ -1,0 +1,100 @@
+use Rattle.std.proofs.Common.{◌≡◌, ◌∙◌, ◌+◌, ℕ, [], drop, drop_of_length-le, Ok, Err, refl, sym, subst, arith}
+use Rattle.std.proofs.lemmas.Result.{err_from_is_err_and}
+use Rattle.script_input.specs.Played.{IsPlayed}
+use Rattle.mas_complex.specs.Parts.{parts_of}
+use Rattle.mas_run.proofs.CopiesLemmas.{copies_none, copies_then}
+use Rattle.mas_run.proofs.WayLemmas.{LineFrom, line_next, way_done, way_ends, way_more, way_none}
+use Rattle.mas_run.proofs.running.Running.play_lines.Goals as goal
+
+pub loop-line-init : goal.loop-line-init
+loop-line-init g c =
+    let P = g.P.Plant in
+    let C = g.C.Copying in
+    let x = parts_of c.args.self.now.complex in
+    record {
+      number = refl;
+      base = refl;
+      since = refl;
+      between = c.requires.between;
+      bare = way_none P C ⊥ c.args.lines.now x;
+      told = λ t. way_none P C (Unit {0}) c.args.lines.now x;
+      copies = copies_none P x;
+    }
+
+pub play_line-requires-clause-played : goal.play_line-requires-clause-played
+play_line-requires-clause-played g c = subst IsPlayed (sym c.line-item.is) (c.requires.played c.loop-line.line-index c.line-item.result c.loop-line-test.true)
+
+pub play_line-requires-clause-few : goal.play_line-requires-clause-few
+play_line-requires-clause-few g c = omega (arith, c.loop-line.invariant.number, c.loop-line-test.true, c.requires.few)
+
+-- one more line
+pub loop-line-preserved : goal.loop-line-preserved
+loop-line-preserved g c =
+    let P = g.P.Plant in
+    let C = g.C.Copying in
+    let lines = c.args.lines.now in
+    let x = parts_of c.args.self.now.complex in
+    let y = parts_of c.loop-line.self.complex in
+    let z = parts_of c.play_line.new.self.complex in
+    let i = c.loop-line.invariant in
+    let e = c.in_ok-play_line.ensures in
+    let k = c.loop-line.line-index in
+    let line = c.line-item.result in
+    let number : c.loop-line.number + 1 ≡ k + 1 = omega (arith, i.number) in
+    let first = line_next lines k line c.loop-line-test.true c.line-item.is in
+    record {
+      number = omega (arith, i.number);
+      base = e.base ∙ i.base;
+      since = e.since ∙ i.since;
+      between = e.next;
+      bare = way_more P C ⊥ lines x k line y z first (subst (λ (n : ℕ). LineFrom P C ⊥ lines x n line y z (Ok tt)) number e.bare) i.bare;
+      told = λ t. way_more P C (Unit {0}) lines x k line y z first (subst (λ (n : ℕ). LineFrom P C (Unit {0}) lines x n line y z (Ok tt)) number (e.told t)) (i.told t);
+      copies = copies_then P x y z (Ok tt) i.copies e.copies;
+    }
+
+-- a line ended the run
+pub returns-in_err-play_line-clause-played : goal.returns-in_err-play_line-clause-played
+returns-in_err-play_line-clause-played g c =
+    let P = g.P.Plant in
+    let C = g.C.Copying in
+    let lines = c.args.lines.now in
+    let x = parts_of c.args.self.now.complex in
+    let y = parts_of c.loop-line.self.complex in
+    let z = parts_of c.play_line.new.self.complex in
+    let i = c.loop-line.invariant in
+    let why = c.in_err-play_line.field-0.0 in
+    let e = c.in_err-play_line.ensures in
+    let k = c.loop-line.line-index in
+    let line = c.line-item.result in
+    let number : c.loop-line.number + 1 ≡ k + 1 = omega (arith, i.number) in
+    let first = line_next lines k line c.loop-line-test.true c.line-item.is in
+    let p = err_from_is_err_and c.from_residual.result c.from_residual.ensures.1 in
+    rw (p.1, p.2) (record {
+      many = k + 1;
+      bare = way_ends P C ⊥ lines x k line y z why first (subst (λ (n : ℕ). LineFrom P C ⊥ lines x n line y z (Err why)) number e.bare) i.bare;
+      told = λ t. way_ends P C (Unit {0}) lines x k line y z why first (subst (λ (n : ℕ). LineFrom P C (Unit {0}) lines x n line y z (Err why)) number (e.told t)) (i.told t);
+    })
+
+pub returns-in_err-play_line-clause-copies : goal.returns-in_err-play_line-clause-copies
+returns-in_err-play_line-clause-copies g c =
+    let p = err_from_is_err_and c.from_residual.result c.from_residual.ensures.1 in
+    rw (p.1, p.2)
+    (copies_then g.P.Plant (parts_of c.args.self.now.complex) (parts_of c.loop-line.self.complex) (parts_of c.play_line.new.self.complex) (Err c.in_err-play_line.field-0.0)
+    c.loop-line.invariant.copies c.in_err-play_line.ensures.copies)
+
+-- all of them were played
+pub returns-clause-played : goal.returns-clause-played
+returns-clause-played g c =
+    let P = g.P.Plant in
+    let C = g.C.Copying in
+    let lines = c.args.lines.now in
+    let x = parts_of c.args.self.now.complex in
+    let y = parts_of c.loop-line.self.complex in
+    let i = c.loop-line.invariant in
+    let k = c.loop-line.line-index in
+    let none : drop k lines ≡ [] = drop_of_length-le lines c.loop-line-test.false in
+    record {
+      many = k + 0;
+      bare = way_done P C ⊥ lines x k y none i.bare;
+      told = λ t. way_done P C (Unit {0}) lines x k y none (i.told t);
+    }

@@ -1,0 +1,22 @@
+use Rattle.std.proofs.Common.{◌≡◌, ◌+◌, Ok}
+use Rattle.mas_complex.specs.Parts.{parts_of}
+use Rattle.mas_run.specs.Copies.{KeepCopies}
+use Rattle.mas_run.specs.Shows.{BetweenLines}
+use Rattle.mas_run.proofs.WayLemmas.{AreOnTheWay}
+use Rattle.mas_run.proofs.running.Running.play_lines.Given as goal
+
+abbrev pub invariant-loop-line : goal.invariant-loop-line
+invariant-loop-line g l =
+    let P = g.P.Plant in
+    let C = g.C.Copying in
+    let x = l.fn.self.complex in
+    let y = l.self.complex in
+    record {
+      number : l.number ≡ l.line-index;
+      base : y.base ≡ x.base;
+      since : y.since ≡ x.since;
+      between : BetweenLines y l.self.members (l.number + 1);
+      bare : AreOnTheWay P C ⊥ l.lines (parts_of x) l.line-index (parts_of y);
+      told : P.tells → AreOnTheWay P C (Unit {0}) l.lines (parts_of x) l.line-index (parts_of y);
+      copies : KeepCopies P {T = Unit {0}} (parts_of x) (parts_of y) (Ok tt);
+    }

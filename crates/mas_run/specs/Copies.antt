@@ -1,0 +1,47 @@
+-- The copies in a line of a script, and in lines one after another.
+use Rattle.std.specs.Prelude.{◌≡◌, ◌⊎◌, true, false, Result, Err}
+use Rattle.mas_types.specs.declared.ids.Dev.{Dev}
+use Rattle.mas_types.specs.declared.ids.Dev.TheVariants.{Ckpt1, Ckpt2}
+use Rattle.spool_disk.specs.declared.plant.Part.TheVariants.{Disk}
+use Rattle.spool_disk.specs.declared.plant.Plant.{Ghosts as PlantGhosts}
+use Rattle.spool_disk.specs.View.{View}
+use Rattle.ckpt_copy.specs.declared.copying.Copying.{Ghosts as CopyGhosts}
+use Rattle.ckpt_form.specs.declared.steady.Steady.{Ghosts as SteadyGhosts}
+use Rattle.duplex_pair.specs.Halves.{IsBothLost}
+use Rattle.mas_complex.specs.declared.complex.Complex.{Complex}
+use Rattle.mas_complex.specs.Parts.{Parts, parts_of}
+use Rattle.member_node.specs.declared.member.NodeNo.{NodeNo}
+use Rattle.member_node.specs.declared.member.NodeNo.TheVariants.{BothLost}
+use Rattle.member_node.specs.Calls.{Grows, IsLeft, WasLost}
+use Rattle.mas_run.specs.Lines.{Proceeds}
+use Rattle.mas_run.specs.Runs.{HasLost}
+
+module _ {P C : Type 0} (plants : PlantGhosts P) where
+  abbrev v : Parts P C → View
+  v x = plants.view x.plant
+
+  -- Both copies count as lost where the answer says so. Else one counts as alive, unless none did before, or a line of
+  -- the script lost one.
+  abbrev pub LeavesSome : {T : Type 0} → Parts P C → Parts P C → Result T NodeNo → Type 0
+  LeavesSome x y (Err BothLost) = IsBothLost y.first_alive y.second_alive
+  LeavesSome x y _ = IsLeft x.first_alive y.first_alive x.second_alive y.second_alive ⊎ HasLost (v x) (v y)
+
+  -- A copy is lost exactly where its device failed or was lost by a call, and one that counts as alive isn't lost if it
+  -- wasn't before.
+  pub record KeepCopies {T : Type 0} (x y : Parts P C) (result : Result T NodeNo) : Type 0 where
+    pub goes : Proceeds (v x) (v y)
+    pub failed1 : x.first_alive ≡ true → y.first_alive ≡ false → WasLost Ckpt1 (v x) (v y)
+    pub failed2 : x.second_alive ≡ true → y.second_alive ≡ false → WasLost Ckpt2 (v x) (v y)
+    pub there1 : y.first_alive ≡ true → (v x).lost (Disk Ckpt1) ≡ false → (v y).lost (Disk Ckpt1) ≡ false
+    pub there2 : y.second_alive ≡ true → (v x).lost (Disk Ckpt2) ≡ false → (v y).lost (Disk Ckpt2) ≡ false
+    pub alive1 : y.first_alive ≡ true → x.first_alive ≡ true
+    pub alive2 : y.second_alive ≡ true → x.second_alive ≡ true
+    pub grow : (d : Dev) → Grows ((v x).loses d) ((v y).loses d)
+    pub left : LeavesSome x y result
+
+-- OVER THE SHARED VALUE
+
+module _ {P C : Type 0} {plants : PlantGhosts P} {steadies : SteadyGhosts C} {copies : CopyGhosts C} where
+  abbrev pub CopiesKept : {T : Type 0} → Complex P C plants steadies copies → Complex P C plants steadies copies
+      → Result T NodeNo → Type 0
+  CopiesKept x y result = KeepCopies plants (parts_of x) (parts_of y) result

@@ -1,0 +1,219 @@
+-- A line of a script as it was played: what it gave, why it was cut, and what it did to the plant.
+use Rattle.std.specs.Prelude.{◌≡◌, ◌≢◌, ◌⊎◌, ℕ, ◌+◌, ◌≤◌, ◌<◌, ◌==◌, ◌&&◌, Bool, true, false, if◌then◌else◌, List, [], ◌++◌, length, map, take, Option, Some, None, Result, Ok, Err}
+use Rattle.mas_types.specs.declared.ids.Dev.{Dev}
+use Rattle.mas_types.specs.declared.ids.Dev.TheVariants.{Ckpt1, Ckpt2, Spool}
+use Rattle.mas_types.specs.declared.ids.MemberId.{MemberId}
+use Rattle.mas_types.specs.declared.journals.Batch.{Batch}
+use Rattle.script_lang.specs.declared.types.Ask.{Ask}
+use Rattle.script_lang.specs.declared.types.Ask.TheVariants as ask
+use Rattle.spool_disk.specs.declared.plant.Part.{Part}
+use Rattle.spool_disk.specs.declared.plant.Part.TheVariants.{Console, Disk}
+use Rattle.spool_disk.specs.View.{Line, View, paper_now}
+use Rattle.spool_disk.specs.Acts.{Rose, next}
+use Rattle.mas_complex.specs.Paper.{SamePapers}
+use Rattle.member_node.specs.declared.member.NodeNo.{NodeNo}
+use Rattle.member_node.specs.declared.member.NodeNo.TheVariants as no_node
+use Rattle.member_node.specs.Calls.{console_now}
+use Rattle.step_turns.specs.declared.states.Task.TheVariants.{Deck, Work}
+use Rattle.run_turns.specs.Sights.{Cut, Ends, Stops, Writing}
+use Rattle.run_turns.specs.Scenes.{Scene}
+use Rattle.run_turns.specs.Admissions.{Admission, Plays, TakesOver}
+use Rattle.run_turns.specs.Pieces.{Piece}
+use Rattle.run_turns.specs.Steps.{is_up}
+use Rattle.run_turns.specs.Givens.{IsRight, queue_met}
+use Rattle.mas_run.specs.LinesAt.{LineAt, admitted_at, pieces_as, pieces_at, played_at}
+use Rattle.member_hand.specs.Cuts.{AreBatched, AtCut, IsBroken, IsHaltBy, IsTight, whole_pieces}
+use Rattle.member_hand.specs.Found.{AreFoundIn, waits_in}
+use Rattle.mas_run.specs.Shapes.{IsShaped}
+use Rattle.mas_run.specs.Volumes.{AreVolumesKept}
+
+-- What holds after any number of acts, calls that lose a device, and stops that are armed: past worlds stay, counts of
+-- faults and stops don't fall, and a lost part stays lost.
+pub record Proceeds (old new : View) : Type 0 where
+  pub later : old.now ≤ new.now
+  pub past : (t : ℕ) → t ≤ old.now → new.world t ≡ old.world t
+  pub size : (d : Dev) → new.size d ≡ old.size d
+  pub faults : (p : Part) → old.faults p ≤ new.faults p
+  pub stops : (m : ℕ) → old.stops m ≤ new.stops m
+  pub lost : (p : Part) → old.lost p ≡ true → new.lost p ≡ true
+
+-- LINES OF MEMBERS: all but stops, stops that are armed, and losses of a device
+
+abbrev pub IfOfMember : Ask → Type 0 → Type 0
+IfOfMember ask.Stop P = Unit {0}
+IfOfMember (ask.StopIn what n) P = Unit {0}
+IfOfMember (ask.Lose dev) P = Unit {0}
+IfOfMember what P = P
+
+-- where it was cut, if it was
+abbrev pub cut_in : Ask → Option Cut → Option Cut
+cut_in ask.Stop cut = None
+cut_in (ask.StopIn what n) cut = None
+cut_in (ask.Lose dev) cut = None
+cut_in what cut = cut
+
+abbrev pub cut_of : LineAt → Option Cut
+cut_of l = cut_in l.step.what l.given.sight.cut
+
+-- Where content is told its pieces are those that the queue gives, by what the line found; and else they are shaped as
+-- its task gives them.
+pub record IsGiven (told : Type 0) (l : LineAt) (old new : View) : Type 0 where
+  pub shaped : told ⊎ IfOfMember l.step.what (IsShaped l old new)
+  pub right : told → IsRight l.scene l.number l.given l.step
+
+-- what it found in the acts that it waited for, in the pieces that it played whole, failed in it
+abbrev pub IsHonestAs : LineAt → Admission → Option Cut → View → View → Type 0
+IsHonestAs l a cut old new =
+    let ps = pieces_as l a in
+    AreFoundIn l.scene.queue.config.groups l.step.by old new l.given.sight.finds
+    (waits_in (take (whole_pieces cut ps) ps) (queue_met l.scene a l.given.sight))
+
+abbrev pub IsHonest : LineAt → View → View → Type 0
+IsHonest l old new = IsHonestAs l (admitted_at l) (cut_of l) old new
+
+-- WHY IT WAS CUT
+
+-- nobody's stops rose but this member's
+abbrev pub OnlyStops : MemberId → View → View → Type 0
+OnlyStops by old new = (m : ℕ) → m ≢ by.0 → new.stops m ≡ old.stops m
+
+abbrev pub HasStopped : MemberId → View → View → Type 0
+HasStopped by old new = Rose (old.stops by.0) (new.stops by.0)
+
+-- the operator could not say that the member was stopped
+abbrev pub IsUnsaid : NodeNo → Type 0
+IsUnsaid no_node.ConsoleFault = Unit {0}
+IsUnsaid no_node.NoMemory = Unit {0}
+IsUnsaid _ = ⊥
+
+-- the run ends with this answer, and nobody was stopped
+pub record EndsBy (e : NodeNo) (by : MemberId) (cut : Cut) (old new : View) : Type 0 where
+  pub why : IsHaltBy e cut.halt
+  pub other : e ≢ no_node.Halted
+  pub up : new.stops by.0 ≡ old.stops by.0
+
+-- the member was stopped, and the operator could not say so
+pub record StopsUnsaid (e : NodeNo) (by : MemberId) (cut : Cut) (old new : View) : Type 0 where
+  pub why : IsHaltBy no_node.Halted cut.halt
+  pub stopped : HasStopped by old new
+  pub unsaid : IsUnsaid e
+
+-- A line that was cut while the run went on: its member was stopped. Or the run ended in it.
+abbrev pub IsCutAs : {T : Type 0} → Result T NodeNo → MemberId → Cut → View → View → Type 0
+IsCutAs (Ok done) by cut old new = (cut.cause ≡ Stops) × IsHaltBy no_node.Halted cut.halt × HasStopped by old new
+IsCutAs (Err e) by cut old new = (cut.cause ≡ Ends) × (EndsBy e by cut old new ⊎ StopsUnsaid e by cut old new)
+
+abbrev pub CutsAs : {T : Type 0} → Result T NodeNo → MemberId → Option Cut → View → View → Type 0
+CutsAs (Ok done) by None old new = new.stops by.0 ≡ old.stops by.0
+CutsAs (Err e) by None old new = ⊥
+CutsAs result by (Some cut) old new = IsCutAs result by cut old new
+
+-- a piece was begun, and cut in it; or the batch in flight wasn't found out, and the line has no piece
+abbrev pub IsThere : Cut → List Piece → Type 0
+IsThere cut ps = (cut.sittings < length ps) ⊎ ((ps ≡ []) × (cut.halt ≡ Writing 0 None))
+
+abbrev pub IsWithin : Option Cut → List Piece → Type 0
+IsWithin None ps = Unit {0}
+IsWithin (Some cut) ps = IsThere cut ps
+
+-- WHAT A CUT MAY NOT LEAVE: a batch without its last entries is kept only if memory wanted, or the line works
+
+abbrev pub is_work : Admission → Bool
+is_work (Plays (Work n)) = true
+is_work _ = false
+
+-- why a line was cut that was cut: its member was stopped, or else this was the answer
+abbrev pub IsWhy : {T : Type 0} → Result T NodeNo → MemberId → View → View → NodeNo → Type 0
+IsWhy (Ok done) by old new why = why ≡ no_node.Halted
+IsWhy (Err e) by old new why = ((why ≡ e) × (new.stops by.0 ≡ old.stops by.0))
+    ⊎ ((why ≡ no_node.Halted) × HasStopped by old new)
+
+abbrev pub IfIdle : Bool → Type 0 → Type 0
+IfIdle true P = Unit {0}
+IfIdle false P = P
+
+-- DEVICES LOST BY A CALL
+
+abbrev pub same_device : Dev → Dev → Bool
+same_device Ckpt1 Ckpt1 = true
+same_device Ckpt2 Ckpt2 = true
+same_device (Spool n) (Spool volume) = n == volume
+same_device _ _ = false
+
+-- how often a call lost a device after a line that lost this one, or none
+abbrev pub loses_then : Option Dev → Dev → ℕ → ℕ
+loses_then None d loses = loses
+loses_then (Some lost) d loses = if same_device d lost then next loses else loses
+
+-- a takeover may lose a copy once, which may not stay beside the pages found
+abbrev pub is_takeover : Admission → Bool
+is_takeover (TakesOver of) = true
+is_takeover _ = false
+
+abbrev pub MayLoseCopy : Bool → Dev → View → View → Type 0
+MayLoseCopy true Ckpt1 old new = (new.loses Ckpt1 ≡ old.loses Ckpt1 + 1) × (new.lost (Disk Ckpt1) ≡ true)
+MayLoseCopy true Ckpt2 old new = (new.loses Ckpt2 ≡ old.loses Ckpt2 + 1) × (new.lost (Disk Ckpt2) ≡ true)
+MayLoseCopy _ d old new = ⊥
+
+abbrev pub LosesAs : Bool → Option Dev → View → View → Type 0
+LosesAs takeover lost old new = (d : Dev)
+    → (new.loses d ≡ loses_then lost d (old.loses d)) ⊎ MayLoseCopy takeover d old new
+
+-- STOPS THAT ARE ARMED, by a line that isn't one of a member that is none, or was stopped before
+
+abbrev pub arms_by : Scene → MemberId → Ask → Bool
+arms_by S by (ask.StopIn what n) = is_up S by
+arms_by S by _ = false
+
+abbrev pub arms_then : LineAt → ℕ → ℕ → ℕ
+arms_then l m arms =
+    if arms_by l.scene l.step.by l.step.what && (l.step.by.0 == m) then next arms else arms
+
+-- WHAT STAYS
+
+-- no line is printed: the line doesn't work
+abbrev pub PrintsNone : Admission → Type 0
+PrintsNone (Plays (Work n)) = ⊥
+PrintsNone _ = Unit {0}
+
+-- the volumes stay as they are: the line plays no deck and no work, and loses no volume
+abbrev pub AdmissionLeaves : Admission → Type 0
+AdmissionLeaves (Plays (Work n)) = ⊥
+AdmissionLeaves (Plays (Deck fields text)) = ⊥
+AdmissionLeaves _ = Unit {0}
+
+abbrev pub AskLeaves : Admission → Ask → Type 0
+AskLeaves a (ask.Lose (Spool n)) = ⊥
+AskLeaves a (ask.Lose dev) = Unit {0}
+AskLeaves a what = AdmissionLeaves a
+
+abbrev pub LeavesVolumes : LineAt → Type 0
+LeavesVolumes l = AskLeaves (admitted_at l) l.step.what
+
+-- the lines that the member's printer got, and no others
+abbrev pub printed_at : LineAt → ℕ → List Line
+printed_at l m = if l.step.by.0 == m then (played_at l).outcome.printed else []
+
+-- A LINE THAT WAS PLAYED, on a plant that showed `old` before it and `new` after it, with these batches of its own and
+-- this answer.
+pub record IsPassed (told : Type 0) (l : LineAt) (own : List Batch) (old new : View) (answer : Result (Unit {0}) NodeNo)
+    : Type 0 where
+  pub goes : Proceeds old new
+  pub given : IsGiven told l old new
+  pub honest : told → IfOfMember l.step.what (IsHonest l old new)
+  pub cut : CutsAs answer l.step.by (cut_of l) old new
+  pub within : IsWithin (cut_of l) (pieces_at l)
+  pub why : NodeNo
+  pub is_why : IsWhy answer l.step.by old new why
+  pub tight : IfIdle (is_work (admitted_at l)) (AtCut (IsTight why) (cut_of l) (pieces_at l))
+  pub broke : told → AtCut (IsBroken why) (cut_of l) (pieces_at l)
+  pub spares : OnlyStops l.step.by old new
+  pub failed : answer ≡ Err no_node.ConsoleFault → Rose (old.faults Console) (new.faults Console)
+  -- its batches are in the journal, its lines on the console and on its member's printer, and no others
+  pub batches : AreBatched l.step.by old.now new.now (played_at l).outcome.batches own
+  pub console : told → console_now new ≡ console_now old ++ map (λ s. s.line) (played_at l).outcome.said
+  pub paper : told → (m : ℕ) → paper_now new m ≡ paper_now old m ++ printed_at l m
+  pub dry : told → PrintsNone (admitted_at l) → SamePapers old new
+  pub loses : told → LosesAs (is_takeover (admitted_at l)) (played_at l).outcome.loses old new
+  pub arms : (m : ℕ) → new.arms m ≡ arms_then l m (old.arms m)
+  pub volumes : told → LeavesVolumes l → AreVolumesKept old new

@@ -1,0 +1,146 @@
+-- What a line of a member leaves before the operator says that its member was stopped, if it was.
+use Rattle.std.specs.Prelude.{◌≡◌, ◌≢◌, ◌⊎◌, ℕ, ◌≤◌, false, List, [], ◌∷◌, ◌++◌, Option, Some, None, Result, Ok, Err, OnOk}
+use Rattle.mas_types.specs.declared.answers.Closing.TheVariants as closing
+use Rattle.mas_types.specs.declared.ids.MemberId.{MemberId}
+use Rattle.mas_types.specs.declared.journals.Batch.{Batch}
+use Rattle.mas_types.specs.Closings.{closing_line}
+use Rattle.lock_cycle.specs.Books.{is_stopped}
+use Rattle.spool_disk.specs.declared.plant.Part.TheVariants.{Console}
+use Rattle.spool_disk.specs.declared.plant.Plant.{Ghosts as PlantGhosts}
+use Rattle.spool_disk.specs.View.{View, paper_now}
+use Rattle.spool_disk.specs.Acts.{Goes, Rose}
+use Rattle.ckpt_copy.specs.declared.copying.Copying.{Ghosts as CopyGhosts}
+use Rattle.ckpt_form.specs.declared.steady.Steady.{Ghosts as SteadyGhosts}
+use Rattle.mas_complex.specs.declared.complex.Complex.{Complex}
+use Rattle.mas_complex.specs.Paper.{SamePapers, counts_of}
+use Rattle.mas_complex.specs.Parts.{Parts, parts_of}
+use Rattle.member_node.specs.declared.member.NodeNo.{NodeNo}
+use Rattle.member_node.specs.declared.member.NodeNo.TheVariants as no_node
+use Rattle.member_node.specs.Calls.{console_now}
+use Rattle.member_node.specs.Spares.{Spares, stopped_in}
+use Rattle.member_steps.specs.Saying.{OnConsole}
+use Rattle.member_sittings.specs.Sat.{journal_of}
+use Rattle.script_lang.specs.declared.types.Step.{Step}
+use Rattle.member_hand.specs.Cuts.{AreBatched, AtCut, IsBroken, IsHaltBy, IsTight, cause_by}
+use Rattle.run_turns.specs.Sights.{Cut}
+use Rattle.run_turns.specs.Cuts.{Left, left_by, whole}
+use Rattle.run_turns.specs.Admissions.{Admission}
+use Rattle.run_turns.specs.Givens.{ArePiecesOf, Given}
+use Rattle.mas_run.specs.LinesAt.{LineAt, admitted_at, pieces_as, play_as}
+use Rattle.run_turns.specs.Pieces.{Piece, fate_found}
+use Rattle.run_turns.specs.Scenes.{Scene}
+use Rattle.mas_run.specs.Histories.{settle}
+use Rattle.mas_run.specs.Lines.{AdmissionLeaves, IfIdle, IsHonestAs, IsThere, LosesAs, PrintsNone, is_takeover, is_work}
+use Rattle.mas_run.specs.Shapes.{IsShapedAs}
+use Rattle.mas_run.specs.Shows.{IsShown}
+use Rattle.mas_run.specs.Volumes.{AreVolumesKept}
+
+-- WHERE IT WAS CUT, by its answer
+
+pub record IsCutIn (e : NodeNo) (ps : List Piece) (cut : Cut) : Type 0 where
+  pub there : IsThere cut ps
+  pub halt : IsHaltBy e cut.halt
+  pub cause : cut.cause ≡ cause_by e
+
+abbrev pub IsCutBy : {T : Type 0} → Result T NodeNo → List Piece → Option Cut → Type 0
+IsCutBy (Ok done) ps cut = cut ≡ None
+IsCutBy (Err e) ps None = ⊥
+IsCutBy (Err e) ps (Some cut) = IsCutIn e ps cut
+
+-- WHAT IT LEFT
+
+abbrev pub left_as : LineAt → Admission → Left
+left_as l a = left_by l.step.by l.given.sight.cut (play_as l a) (l.scene.counts l.step.by)
+
+abbrev pub left_at : LineAt → Left
+left_at l = left_as l (admitted_at l)
+
+-- the run goes on after the line, once its member's stop is said, if it was stopped
+abbrev pub IfRuns : {T : Type 0} → Result T NodeNo → Type 0 → Type 0
+IfRuns (Ok done) P = P
+IfRuns (Err no_node.Halted) P = P
+IfRuns _ P = Unit {0}
+
+-- the answer that a line cut so ends with, if the run ends in it
+abbrev pub ended_as : {T : Type 0} → Result T NodeNo → NodeNo
+ended_as (Ok done) = no_node.Halted
+ended_as (Err e) = e
+
+module _ {P C : Type 0} (plants : PlantGhosts P) (copies : CopyGhosts C) where
+  abbrev v : Parts P C → View
+  v x = plants.view x.plant
+
+  -- The line that was admitted so, on the value from before it was tested to after it was played. Where the answer is
+  -- Halted its member is stopped in the book, and nothing was said of that yet.
+  pub record HasLeftAs (told : Type 0) (l : LineAt) (a : Admission) (x y : Parts P C)
+      (result : Result (Unit {0}) NodeNo) : Type 0 where
+    pub goes : Goes (v x) (v y)
+    pub shaped : told ⊎ IsShapedAs l (v x) (v y) a
+    pub right : told → ArePiecesOf l.scene l.step.by l.number a l.given
+    pub honest : told → IsHonestAs l a l.given.sight.cut (v x) (v y)
+    pub cut : IsCutBy result (pieces_as l a) l.given.sight.cut
+    pub tight : IfIdle (is_work a) (AtCut (IsTight (ended_as result)) l.given.sight.cut (pieces_as l a))
+    pub broke : told → AtCut (IsBroken (ended_as result)) l.given.sight.cut (pieces_as l a)
+    pub spares : Spares l.step.by.0 (stopped_in result) (v x) (v y)
+    pub stopped : result ≡ Err no_node.Halted → Rose ((v x).stops l.step.by.0) ((v y).stops l.step.by.0)
+    pub failed : result ≡ Err no_node.ConsoleFault → Rose ((v x).faults Console) ((v y).faults Console)
+    -- the journal, with what was found of a batch in flight, and the book, unless the run ends here
+    pub own : List Batch
+    pub at : ℕ
+    pub moment : ((v x).now ≤ at) × (at ≤ (v y).now)
+    pub journal : journal_of y ≡ settle (fate_found a l.given.sight) at (journal_of x) ++ own
+    pub batches : AreBatched l.step.by (v x).now (v y).now (left_as l a).batches own
+    pub book : IfRuns result (y.book ≡ (left_as l a).book)
+    -- the console, the printers, and the counts of printed lines of members that aren't stopped
+    pub console : told → console_now (v y) ≡ console_now (v x) ++ (left_as l a).lines
+    pub paper : told → paper_now (v y) l.step.by.0 ≡ paper_now (v x) l.step.by.0 ++ (left_as l a).printed
+    pub other_papers : told → (m : ℕ) → m ≢ l.step.by.0 → paper_now (v y) m ≡ paper_now (v x) m
+    pub dry : told → PrintsNone a → SamePapers (v x) (v y)
+    pub count : told → is_stopped l.scene.book l.step.by ≡ false
+        → OnOk result (counts_of y.printed l.step.by ≡ (left_as l a).count)
+    pub other_counts : told → (m : MemberId) → m ≢ l.step.by → counts_of y.printed m ≡ counts_of x.printed m
+    pub loses : told → LosesAs (is_takeover a) None (v x) (v y)
+    pub volumes : told → AdmissionLeaves a → AreVolumesKept (v x) (v y)
+
+  abbrev pub HasLeft : Type 0 → LineAt → Parts P C → Parts P C → Result (Unit {0}) NodeNo → Type 0
+  HasLeft told l x y result = HasLeftAs told l (admitted_at l) x y result
+
+  -- a line of this number, at this scene
+  pub record LeftAt (told : Type 0) (S : Scene) (at : ℕ) (step : Step) (x y : Parts P C)
+      (result : Result (Unit {0}) NodeNo) : Type 0 where
+    pub given : Given
+    pub left : HasLeft told (record { scene = S; number = at; step = step; given = given }) x y result
+
+  -- THE OPERATOR SAYS that a member was stopped in its line, or the console failed at that, or there was no memory for
+  -- it; nobody is stopped, and nothing else is done.
+  abbrev pub SaysStop : MemberId → ℕ → Parts P C → Parts P C → Result (Unit {0}) NodeNo → Type 0
+  SaysStop by at x y (Ok done) = console_now (v y)
+      ≡ console_now (v x) ++ whole (closing_line by at closing.Stopped) ∷ []
+  SaysStop by at x y (Err e) = console_now (v y) ≡ console_now (v x)
+
+  abbrev pub StopCauses : Parts P C → Parts P C → Result (Unit {0}) NodeNo → Type 0
+  StopCauses x y (Ok done) = Unit {0}
+  StopCauses x y (Err no_node.ConsoleFault) = Rose ((v x).faults Console) ((v y).faults Console)
+  StopCauses x y (Err no_node.NoMemory) = Unit {0}
+  StopCauses x y (Err no_node.BothLost) = ⊥
+  StopCauses x y (Err no_node.Halted) = ⊥
+
+  pub record HasSaidStop (by : MemberId) (at : ℕ) (x y : Parts P C) (result : Result (Unit {0}) NodeNo) : Type 0 where
+    pub frame : y ≡ record x { plant = y.plant }
+    pub acts : OnConsole plants.tells (v x) (v y)
+    pub stops : (m : ℕ) → (v y).stops m ≡ (v x).stops m
+    pub cause : StopCauses x y result
+    pub console : plants.tells → SaysStop by at x y result
+
+-- OVER THE SHARED VALUE
+
+module _ {P C : Type 0} {plants : PlantGhosts P} {steadies : SteadyGhosts C} {copies : CopyGhosts C} where
+  -- a line of this number, at each scene that the value shows before it is tested
+  abbrev pub LineIsLeft : Type 0 → ℕ → Step → Complex P C plants steadies copies → Complex P C plants steadies copies
+      → Result (Unit {0}) NodeNo → Type 0
+  LineIsLeft told at step x y result = (S : Scene) → IsShown plants copies told S (parts_of x)
+      → LeftAt plants copies told S at step (parts_of x) (parts_of y) result
+
+  abbrev pub StopIsSaid : MemberId → ℕ → Complex P C plants steadies copies → Complex P C plants steadies copies
+      → Result (Unit {0}) NodeNo → Type 0
+  StopIsSaid by at x y result = HasSaidStop plants copies by at (parts_of x) (parts_of y) result

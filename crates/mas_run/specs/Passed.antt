@@ -1,0 +1,94 @@
+-- The lines of a script, played one after another, up to one that ends the run.
+use Rattle.std.specs.Prelude.{◌≡◌, ℕ, suc, ◌+◌, ◌≤◌, ◌==◌, Bool, true, false, if◌then◌else◌, List, [], ◌∷◌, ◌++◌, drop, Result, Ok}
+use Rattle.mas_types.specs.declared.ids.Dev.{Dev}
+use Rattle.mas_types.specs.declared.journals.Batch.{Batch}
+use Rattle.script_lang.specs.declared.types.Step.{Step}
+use Rattle.spool_disk.specs.Acts.{next}
+use Rattle.spool_disk.specs.View.{View}
+use Rattle.member_node.specs.declared.member.NodeNo.{NodeNo}
+use Rattle.run_turns.specs.Scenes.{Armed, Scene}
+use Rattle.run_turns.specs.Steps.{Outcome}
+use Rattle.run_turns.specs.Givens.{Given, RightIf, given_first, line_with}
+use Rattle.mas_run.specs.LinesAt.{LineAt, admitted_at, played_at}
+use Rattle.mas_run.specs.Histories.{settle}
+use Rattle.mas_run.specs.Lines.{IsPassed, LeavesVolumes, is_takeover, loses_then}
+
+-- what a plant showed, what the journal of the run had, and the scene, at a line of this number
+pub record Here : Type 0 where
+  pub number : ℕ
+  pub scene : Scene
+  pub batches : List Batch
+  pub view : View
+
+-- how it all ended
+pub record There : Type 0 where
+  pub batches : List Batch
+  pub view : View
+  pub answer : Result (Unit {0}) NodeNo
+
+abbrev pub line_of : Here → Given → Step → LineAt
+line_of h g step = record { scene = h.scene; number = h.number; step = step; given = g }
+
+-- A line: with its own batches it was played up to what the plant shows now. What it found of a batch in flight is that
+-- batch's fate since a moment of the line.
+pub record IsNext (told : Type 0) (h : Here) (g : Given) (step : Step) (there : There) : Type 0 where
+  pub own : List Batch
+  pub passed : IsPassed told (line_of h g step) own h.view there.view there.answer
+  pub at : ℕ
+  pub moment : (h.view.now ≤ at) × (at ≤ there.view.now)
+  pub batches : there.batches ≡ settle (played_at (line_of h g step)).outcome.found at h.batches ++ own
+
+abbrev pub here_after : Here → Given → Step → There → Here
+here_after h g step there = record {
+  number = h.number + 1;
+  scene = (played_at (line_of h g step)).next;
+  batches = there.batches;
+  view = there.view;
+}
+
+-- the run goes on with the next line, or ends in this one
+abbrev pub GoesOn : Bool → Type 0 → Type 0 → Type 0
+GoesOn true more ends = more
+GoesOn false more ends = ends
+
+-- so many of them were played
+abbrev pub ArePassed : Type 0 → Here → List Given → List Step → ℕ → There → Type 0
+ArePassed told h gs [] many end = (end.batches ≡ h.batches) × (end.view ≡ h.view) × (end.answer ≡ Ok tt) × (many ≡ 0)
+ArePassed told h gs (step ∷ steps) many end =
+    (there : There) × (more : ℕ) × (many ≡ suc more) × IsNext told h (given_first gs) step there
+    × GoesOn (played_at (line_of h (given_first gs) step)).goes_on
+    ((there.answer ≡ Ok tt) × ArePassed told (here_after h (given_first gs) step there) (drop 1 gs) steps more end)
+    ((end ≡ there) × (more ≡ 0))
+
+-- lines from here on, by what each gave
+pub record Passed (told : Type 0) (h : Here) (steps : List Step) (many : ℕ) (end : There) : Type 0 where
+  pub given : List Given
+  pub are : ArePassed told h given steps many end
+
+-- WHAT FOLLOWS of counts and volumes
+
+-- how often a device was lost by a call, after lines that came to this; a takeover may have lost a copy besides
+abbrev pub loses_after : Dev → List Outcome → ℕ → ℕ
+loses_after d [] loses = loses
+loses_after d (o ∷ os) loses = loses_after d os (loses_then o.loses d loses)
+
+-- how often a stop of a member was armed, after the stops that a scene has, which had none at first
+abbrev pub arms_after : ℕ → List Armed → ℕ → ℕ
+arms_after m [] arms = arms
+arms_after m (a ∷ more) arms = arms_after m more (if a.member.0 == m then next arms else arms)
+
+-- each line that was played leaves the volumes as they are
+abbrev pub LeaveVolumes : Scene → ℕ → List Given → List Step → Type 0
+LeaveVolumes S at gs [] = Unit {0}
+LeaveVolumes S at gs (step ∷ steps) =
+    let g = given_first gs in
+    LeavesVolumes (record { scene = S; number = at; step = step; given = g })
+    × RightIf (line_with S at g step).goes_on (LeaveVolumes (line_with S at g step).next (at + 1) (drop 1 gs) steps)
+
+-- no line that was played takes the lock over
+abbrev pub TakeNone : Scene → ℕ → List Given → List Step → Type 0
+TakeNone S at gs [] = Unit {0}
+TakeNone S at gs (step ∷ steps) =
+    let g = given_first gs in
+    (is_takeover (admitted_at (record { scene = S; number = at; step = step; given = g })) ≡ false)
+    × RightIf (line_with S at g step).goes_on (TakeNone (line_with S at g step).next (at + 1) (drop 1 gs) steps)

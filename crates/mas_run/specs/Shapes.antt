@@ -1,0 +1,49 @@
+-- What is known of a line's pieces whatever the plant tells: where it tells nothing the replies may be others than
+-- those of the table of commands.
+use Rattle.std.specs.Prelude.{◌≡◌, false, List, [], ◌∷◌, All}
+use Rattle.mas_types.specs.declared.commands.Command.TheVariants as command
+use Rattle.mas_types.specs.declared.commands.Reply.{Reply}
+use Rattle.mas_types.specs.declared.ids.MemberId.{MemberId}
+use Rattle.mas_types.specs.Closings.{closing_line}
+use Rattle.spool_disk.specs.View.{View}
+use Rattle.member_steps.specs.Steps.{entry_with}
+use Rattle.member_sittings.specs.Ends.{ends_in}
+use Rattle.step_turns.specs.States.{nothing_found}
+use Rattle.step_turns.specs.declared.states.Holder.{Holder}
+use Rattle.step_turns.specs.declared.states.State.TheVariants.{Fresh, Told}
+use Rattle.step_turns.specs.declared.states.Task.{Task}
+use Rattle.run_turns.specs.Admissions.{Admission, Plays, Resets, TakesOver}
+use Rattle.run_turns.specs.Givens.{ArePiecesOf}
+use Rattle.run_turns.specs.Pieces.{Piece, holder_of, piece_of, reset_closing}
+use Rattle.member_hand.specs.Plays.{IsOwnPiece}
+use Rattle.member_hand.specs.Shapes.{AreShaped}
+use Rattle.mas_run.specs.LinesAt.{LineAt, admitted_at}
+
+-- a reset is one piece, which gives it with some reply, and closes with the name of the member that was reset
+abbrev pub reset_piece : Holder → MemberId → Reply → Piece
+reset_piece h of r =
+    piece_of (ends_in h ((entry_with h.by h.step (command.Reset of) r ∷ []) ∷ []) Told
+    (closing_line h.by h.step (reset_closing of r) ∷ [])) false []
+
+abbrev pub IsResetPiece : Holder → MemberId → List Piece → Type 0
+IsResetPiece h of ps = (r : Reply) × (ps ≡ reset_piece h of r ∷ [])
+
+-- a task's pieces are its step's, and shaped so from its first state on
+pub record IsTaskShaped (h : Holder) (old new : View) (task : Task) (ps : List Piece) : Type 0 where
+  pub own : All (IsOwnPiece h.by h.step) ps
+  pub shaped : AreShaped h (Fresh task) nothing_found old new ps
+
+-- A LINE OF A MEMBER, on a plant that showed `old` before it and `new` after it: any but a task or a reset has just the
+-- pieces that it has where content is told
+
+abbrev pub holder_as : LineAt → Admission → Holder
+holder_as l a = holder_of l.scene l.step.by l.number a
+
+abbrev pub IsShapedAs : LineAt → View → View → Admission → Type 0
+IsShapedAs l old new (Plays task) = IsTaskShaped (holder_as l (Plays task)) old new task l.given.pieces
+IsShapedAs l old new (Resets of) = IsResetPiece (holder_as l (Resets of)) of l.given.pieces
+IsShapedAs l old new (TakesOver of) = IsResetPiece (holder_as l (TakesOver of)) of l.given.pieces
+IsShapedAs l old new a = ArePiecesOf l.scene l.step.by l.number a l.given
+
+abbrev pub IsShaped : LineAt → View → View → Type 0
+IsShaped l old new = IsShapedAs l old new (admitted_at l)
