@@ -86,7 +86,8 @@ def opened(copy, slot):
 
 class Log:
     """What batches write to both copies, each into the next slot of four. Before a batch for which none is left, the
-    pages that the slots list are written home, and the slots are closed."""
+    pages that the slots list are written home, and the slots are closed. The last batch of work makes room for the next
+    one at once."""
 
     def __init__(self, pages):
         self.pages, self.slots = pages, []
@@ -100,10 +101,13 @@ class Log:
                 yield from opened(copy, slot)
         self.slots = []
 
-    def batch(self, *changed):
-        """A batch that changes these pages, and page 0."""
+    def make_room(self):
         if len(self.slots) == 4:
             yield from self.settle()
+
+    def batch(self, *changed):
+        """A batch that changes these pages, and page 0."""
+        yield from self.make_room()
         slot, listed = len(self.slots), {0, *changed}
         for copy in COPIES:
             for block in range(1 + len(listed)):
@@ -141,6 +145,7 @@ def acts(decks, pages):
         yield from log.batch(printed)
         yield from group(2 * number - 1)
         yield from log.batch(job, output, printed)
+        yield from log.make_room()
         yield from said(worked)
 
 

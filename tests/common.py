@@ -8,6 +8,10 @@ import sys
 TOP = os.path.dirname(os.path.dirname(os.path.abspath(__file__)))
 LAUNCHER = os.path.join(TOP, "mas")
 PROGRAM = os.path.join(TOP, "crates", "mas_main", "out", "mas_main")
+# The plain list that `rt ci` leaves.
+PLAIN = os.path.join(TOP, "crates", "model_player", "out", "model_player")
+# The files of the members' printers.
+PRINTERS = tuple(f"PRT{number}" for number in range(1, 9))
 # How long one run of the program may take.
 SECONDS = 120
 # The bytes of a page, and of each other block of a copy.
@@ -53,20 +57,21 @@ class Tally:
         return 1 if self.failed or not self.passed else 0
 
 
-def deck(name):
-    """The lines of a script that enter a job of this name, which does nothing."""
-    return b"SYSA DECK\n//%s JOB\n++END\n" % name
+def deck(name, by=b"SYSA"):
+    """The lines of a script with which a member enters a job of this name, which does nothing."""
+    return b"%s DECK\n//%s JOB\n++END\n" % (by, name)
 
 
-def decks(count):
-    """A script of so many decks."""
-    return b"".join(deck(b"J%d" % number) for number in range(count))
+def decks(count, members=(b"SYSA",)):
+    """A script of so many decks of these members in turn."""
+    return b"".join(deck(b"J%d" % number, members[number % len(members)]) for number in range(count))
 
 
-def told(console):
-    """How many jobs the whole lines of a console tell. They come in order from the first on; one more may be torn."""
+def told(console, members=(b"SYSA",)):
+    """How many jobs the whole lines of a console tell. They come in order from the first on, from these members in
+    turn; one more may be torn."""
     lines = console.split(b"\n")
-    wanted = [b"SYSA %05d OK JOB%05d" % (number, number) for number in range(1, len(lines) + 1)]
+    wanted = [b"%s %05d OK JOB%05d" % (members[at % len(members)], at + 1, at + 1) for at in range(len(lines))]
     if lines[:-1] != wanted[:-1] or not wanted[-1].startswith(lines[-1]):
         raise ValueError(f"the console says {lines!r}")
     return len(lines) - 1
@@ -91,6 +96,28 @@ def bytes_in(path, otherwise=None):
         return otherwise
     with open(path, "rb") as file:
         return file.read()
+
+
+def said(command, script, folder):
+    """What a command says on a script, which it must play to its end."""
+    ended = subprocess.run(command, input=script, capture_output=True, cwd=folder, timeout=SECONDS, check=False)
+    if ended.returncode or ended.stderr:
+        raise ValueError(f"{os.path.basename(command[0])} ended with status {ended.returncode}: {ended.stderr[:200]!r}")
+    return ended.stdout
+
+
+def papers_in(folder):
+    """What stands on the paper of each member's printer."""
+    return [bytes_in(os.path.join(folder, name), b"") for name in PRINTERS]
+
+
+def plain_runs(plain, scripts):
+    """The console and the papers of each of these scripts on the plain list, one script after another."""
+    parts = said([plain], b"\0".join(scripts), None).split(b"\0")
+    size = 1 + len(PRINTERS)
+    if len(parts) != size * len(scripts):
+        raise ValueError(f"{len(scripts)} scripts gave {len(parts)} lists of lines")
+    return [parts[at : at + size] for at in range(0, len(parts), size)]
 
 
 def first_difference(want, have):

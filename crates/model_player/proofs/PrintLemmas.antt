@@ -1,5 +1,5 @@
 -- The output that is busy at a member is sound, and lines that are printed one by one.
-use Rattle.std.proofs.Common.{◌≡◌, ◌∙◌, ℕ, suc, ◌+◌, ◌-◌, ◌≤◌, Bool, true, false, List, [], ◌∷◌, ◌++◌, Some, None, find, refl, ap, append_assoc, arith}
+use Rattle.std.proofs.Common.{◌≡◌, ◌∙◌, ℕ, suc, ◌+◌, ◌-◌, ◌≤◌, Bool, true, false, List, [], ◌∷◌, ◌++◌, Some, None, find, refl, ap, arith}
 use Rattle.mas_types.specs.declared.ids.JobNo.{JobNo}
 use Rattle.mas_types.specs.declared.ids.MemberId.{MemberId}
 use Rattle.mas_types.specs.declared.ids.OutNo.{OutNo}
@@ -27,17 +27,14 @@ printing_sound Q m o sound is = by_test (is_somebody m) refl
         let none : None ≡ Some o = rw h at is in
         absurd (cc)
 
-pub printed_more : (n : JobNo) (i : OutNo) (lines paper : List (List ℕ)) (mark before : ℕ) → mark ≤ before
-    → (paper ++ printed_behind n i lines mark (before - mark)) ++ printed_line n i (before + 1) lines ∷ [] ≡ paper ++ printed_behind n i lines mark (before + 1 - mark)
-printed_more n i lines paper mark before below =
+pub printed_more : (n : JobNo) (i : OutNo) (lines : List (List ℕ)) (mark before : ℕ) → mark ≤ before
+    → printed_behind n i lines mark (before - mark) ++ printed_line n i (before + 1) lines ∷ [] ≡ printed_behind n i lines mark (before + 1 - mark)
+printed_more n i lines mark before below =
     let one : suc (before - mark) ≡ before + 1 - mark = omega arith in
     let place : before + 1 ≡ mark + suc (before - mark) = omega arith in
     let so_far = printed_behind n i lines mark (before - mark) in
-    let line = printed_line n i (before + 1) lines in
-    let first : (paper ++ so_far) ++ (line ∷ []) ≡ paper ++ (so_far ++ (line ∷ [])) = append_assoc paper so_far (line ∷ []) in
-    let second : paper ++ (so_far ++ (line ∷ [])) ≡ paper ++ printed_behind n i lines mark (suc (before - mark)) = ap (λ (k : ℕ). paper ++ (so_far ++ (printed_line n i k lines ∷ []))) place in
-    let third : paper ++ printed_behind n i lines mark (suc (before - mark)) ≡ paper ++ printed_behind n i lines mark (before + 1 - mark) = ap (λ (k : ℕ). paper ++ printed_behind n i lines mark k) one in
-    first ∙ second ∙ third
+    let first : so_far ++ (printed_line n i (before + 1) lines ∷ []) ≡ printed_behind n i lines mark (suc (before - mark)) = ap (λ (k : ℕ). so_far ++ (printed_line n i k lines ∷ [])) place in
+    first ∙ ap (λ (k : ℕ). printed_behind n i lines mark k) one
 
 few_lines : (t : Text) → IsText t → line_count t ≤ text_lines_most
 few_lines (Whole lines) y = y.few

@@ -1,5 +1,5 @@
 -- What decks and units of work give on a plain queue: the queue that they leave, and how they end.
-use Rattle.std.specs.Prelude.{ℕ, zero, suc, ◌+◌, ◌-◌, nat_le, Bool, true, false, ◌&&◌, if◌then◌else◌, List, [], ◌∷◌, ◌++◌, Option, Some, None, find}
+use Rattle.std.specs.Prelude.{ℕ, zero, suc, ◌+◌, ◌-◌, nat_le, Bool, true, false, ◌&&◌, if◌then◌else◌, List, [], ◌∷◌, Option, Some, None, find}
 use Rattle.mas_types.specs.declared.ids.GroupNo.{GroupNo}
 use Rattle.mas_types.specs.declared.ids.MemberId.{MemberId}
 use Rattle.mas_types.specs.declared.ids.JobNo.{JobNo}
@@ -32,7 +32,7 @@ use Rattle.job_outcome.specs.Next.{end_by}
 use Rattle.job_outcome.specs.Outcomes.{outcome_of}
 use Rattle.model_player.specs.declared.kinds.Kind.{Kind}
 use Rattle.model_player.specs.declared.kinds.Kind.TheVariants as kind
-use Rattle.model_player.specs.Printing.{limit_of, next_command, printed_next, wanting}
+use Rattle.model_player.specs.Printing.{limit_of, next_command, wanting}
 
 -- GROUPS: Take of those that are wanted. Where fewer are free it takes these, and Take of the rest is refused.
 
@@ -183,20 +183,17 @@ in_order = kind.Print ∷ kind.Pick ∷ kind.Purge ∷ kind.Gather ∷ kind.Run 
 abbrev pub next_tried : Queue → MemberId → Tried
 next_tried Q by = first_tried in_order Q by
 
--- A STEP OF WORK: at most so many units, where so many are done. What each prints stands on paper behind what stood
--- there
+-- A STEP OF WORK: at most so many units, where so many are done
 
 abbrev pub Worked : Type 0
-Worked = Queue × List (List ℕ) × Closing
+Worked = Queue × Closing
 
-abbrev pub worked_on : (Queue → ℕ → Worked) → ℕ → List (List ℕ) → Tried → Worked
-worked_on more done paper (Q, None) = (Q, paper, closing.DoneUnits done)
-worked_on more done paper (Q, Some ends.Idle) = (Q, paper, closing.DoneUnits done)
-worked_on more done paper (Q, Some ends.Done) = more Q (done + 1)
-worked_on more done paper (Q, Some (ends.Refused end)) = (Q, paper, end)
+abbrev pub worked_on : (Queue → ℕ → Worked) → ℕ → Tried → Worked
+worked_on more done (Q, None) = (Q, closing.DoneUnits done)
+worked_on more done (Q, Some ends.Idle) = (Q, closing.DoneUnits done)
+worked_on more done (Q, Some ends.Done) = more Q (done + 1)
+worked_on more done (Q, Some (ends.Refused end)) = (Q, end)
 
-abbrev pub worked_from : ℕ → MemberId → Queue → List (List ℕ) → ℕ → Worked
-worked_from zero by Q paper done = (Q, paper, closing.DoneUnits done)
-worked_from (suc n) by Q paper done =
-    let on = paper ++ printed_next Q by in
-    worked_on (λ Q. worked_from n by Q on) done on (next_tried Q by)
+abbrev pub worked_from : ℕ → MemberId → Queue → ℕ → Worked
+worked_from zero by Q done = (Q, closing.DoneUnits done)
+worked_from (suc n) by Q done = worked_on (λ Q. worked_from n by Q) done (next_tried Q by)

@@ -1,3 +1,3 @@
 pub mod Commands
 pub mod Printing
-pub mod Steps
+pub mod Spools

@@ -1,17 +1,18 @@
 //! The job that a member runs or converts, on a plain queue.
-ghost use Rattle.std.specs.Prelude.{◌≡◌, ◌*◌, ◌≤◌, All, length, option_copied, true, IfOk, OnOk, IfSome};
+ghost use Rattle.std.specs.Prelude.{◌≡◌, ◌*◌, ◌≤◌, All, length, option_copied, IfOk, IfSome};
 ghost use Rattle.mas_types.specs.Closings.{IsReplyNamed};
 ghost use Rattle.mas_types.specs.Commands.Life.{groups_of_outputs};
 ghost use Rattle.mas_types.specs.Fit.{IsOutSpec, IsText};
 ghost use Rattle.mas_types.specs.Limits.{index_most};
-ghost use Rattle.mas_types.specs.Queue.{is_member};
-ghost use Rattle.mas_types.specs.Sound.{IsSound};
 ghost use Rattle.job_exec.specs.Running.{AreOutputs};
 ghost use Rattle.job_outcome.specs.Next.{IsNamedEnd};
 ghost use Rattle.job_outcome.specs.Outcomes.{AreFitOutputs, IsNamedOutcome};
 ghost use Rattle.model_player.specs.Commands.{ended, freed, is_at_work as is_at_work_lem, job_at_work as job_at_work_lem, outcome_for, taken_for, tried_job, worked_as};
+ghost use Rattle.model_player.specs.Spools.{IsPlayer};
 
+use crate::acts::go_aside;
 use crate::giving::{PlayError, give, take_groups};
+use crate::spools::Spool;
 use job_outcome::{Outcome, Read, UnitEnd, end_by, outcome_of};
 use mas_types::{Command, Copied, Job, JobNo, List, MemberId, OutSpec, Phase, Queue, Reply, Text};
 use model_queue::groups::groups_needed;
@@ -37,66 +38,64 @@ fn groups_of(outputs: &[OutSpec]) -> u32
 // How a unit ends with this reply. Where that is a refusal, the member's groups become free.
 fn free_after(
     alloc: Global,
-    queue: &mut Queue,
+    spool: &mut Spool,
     by: MemberId,
     reply: Reply,
 ) -> Result<UnitEnd, PlayError>
-    requires sound { IsSound queue.old }
-    requires by { is_member queue.old.config by ≡ true }
+    requires player { IsPlayer spool.old by }
     requires named { IsReplyNamed reply }
-    ensures ok { IfOk result (λ end. freed by (queue.old, reply) ≡ (queue.new, end)) }
-    ensures sound { OnOk result (IsSound queue.new) }
-    ensures config { OnOk result (queue.new.config ≡ queue.old.config) }
+    ensures ok { IfOk result (λ end. freed by (spool.old.queue, reply) ≡ (spool.new.queue, end)) }
+    ensures player { IsPlayer spool.new by }
     ensures named { IfOk result IsNamedEnd }
 {
     if let Reply::No(_) = &reply {
-        let _dropped = give(alloc, queue, by, &Command::Drop { job: NO_JOB })?;
+        let _dropped = give(alloc, spool, by, &Command::Drop { job: NO_JOB })?;
     }
     Ok(end_by(&reply))
 }
 
-// The reply by which so many groups weren't all taken, if one is.
+// The reply by which so many groups weren't all taken, if one is. Else outputs are written to them aside.
 fn take_for(
     alloc: Global,
-    queue: &mut Queue,
+    spool: &mut Spool,
     by: MemberId,
     groups: u32,
 ) -> Result<Option<Reply>, PlayError>
-    requires sound { IsSound queue.old }
-    requires by { is_member queue.old.config by ≡ true }
-    ensures ok { IfOk result (λ why. taken_for queue.old by groups ≡ (queue.new, why)) }
-    ensures sound { OnOk result (IsSound queue.new) }
-    ensures config { OnOk result (queue.new.config ≡ queue.old.config) }
+    requires player { IsPlayer spool.old by }
+    ensures ok { IfOk result (λ why. taken_for spool.old.queue by groups ≡ (spool.new.queue, why)) }
+    ensures player { IsPlayer spool.new by }
     ensures named { IfOk result (λ why. IfSome why IsReplyNamed) }
 {
     if groups == 0 {
         return Ok(None);
     }
-    take_groups(alloc, queue, by, groups)
+    let why = take_groups(alloc, spool, by, groups)?;
+    if why.is_none() {
+        go_aside(alloc, spool, by)?;
+    }
+    Ok(why)
 }
 
 // Ends a job with these outputs, which need so many groups.
 fn end_job(
     alloc: Global,
-    queue: &mut Queue,
+    spool: &mut Spool,
     by: MemberId,
     job: JobNo,
     groups: u32,
     outputs: List<OutSpec>,
 ) -> Result<UnitEnd, PlayError>
-    requires sound { IsSound queue.old }
-    requires by { is_member queue.old.config by ≡ true }
+    requires player { IsPlayer spool.old by }
     requires outputs { AreOutputs outputs }
-    ensures ok { IfOk result (λ end. ended queue.old by job groups outputs ≡ (queue.new, end)) }
-    ensures sound { OnOk result (IsSound queue.new) }
-    ensures config { OnOk result (queue.new.config ≡ queue.old.config) }
+    ensures ok { IfOk result (λ end. ended spool.old.queue by job groups outputs ≡ (spool.new.queue, end)) }
+    ensures player { IsPlayer spool.new by }
     ensures named { IfOk result IsNamedEnd }
 {
-    let reply = match take_for(alloc, queue, by, groups)? {
-        None => give(alloc, queue, by, &Command::Ended { job, outputs })?,
+    let reply = match take_for(alloc, spool, by, groups)? {
+        None => give(alloc, spool, by, &Command::Ended { job, outputs })?,
         Some(why) => why,
     };
-    free_after(alloc, queue, by, reply)
+    free_after(alloc, spool, by, reply)
 }
 
 // What becomes of a job that is run, or else converted.
@@ -142,54 +141,51 @@ fn is_at_work(job: &Job, by: MemberId, runs: bool) -> bool
 // The job of this number goes on so.
 fn go_on(
     alloc: Global,
-    queue: &mut Queue,
+    spool: &mut Spool,
     by: MemberId,
     job: JobNo,
     cancelled: bool,
     outcome: Outcome,
 ) -> Result<UnitEnd, PlayError>
-    requires sound { IsSound queue.old }
-    requires by { is_member queue.old.config by ≡ true }
+    requires player { IsPlayer spool.old by }
     requires fits { AreFitOutputs outcome }
     requires named { IsNamedOutcome outcome }
-    ensures ok { IfOk result (λ end. worked_as queue.old by job cancelled outcome ≡ (queue.new, end)) }
-    ensures sound { OnOk result (IsSound queue.new) }
-    ensures config { OnOk result (queue.new.config ≡ queue.old.config) }
+    ensures ok { IfOk result (λ end. worked_as spool.old.queue by job cancelled outcome ≡ (spool.new.queue, end)) }
+    ensures player { IsPlayer spool.new by }
     ensures named { IfOk result IsNamedEnd }
 {
     match outcome {
-        Outcome::Convert => Ok(end_by(&give(alloc, queue, by, &Command::Converted { job })?)),
+        Outcome::Convert => Ok(end_by(&give(alloc, spool, by, &Command::Converted { job })?)),
         Outcome::End(outputs) => {
             let groups = if cancelled {
                 0
             } else {
                 groups_of(outputs.as_slice())
             };
-            end_job(alloc, queue, by, job, groups, outputs)
+            end_job(alloc, spool, by, job, groups, outputs)
         }
         Outcome::Stop(end) => Ok(UnitEnd::Refused(end)),
     }
 }
 
-/// Runs the job at the member, or else converts it; none where there is none. The errors are those of `PlayError`;
-/// after one nothing is said of the queue.
+/// Runs the job at the member, or else converts it; none where there is none. Its text is read
+/// aside. The errors are those of `keep`.
 pub fn try_job(
     alloc: Global,
-    queue: &mut Queue,
+    spool: &mut Spool,
     by: MemberId,
     runs: bool,
 ) -> Result<Option<UnitEnd>, PlayError>
-    requires sound { IsSound queue.old }
-    requires by { is_member queue.old.config by ≡ true }
-    ensures ok { IfOk result (λ end. tried_job runs queue.old by ≡ (queue.new, end)) }
-    ensures sound { OnOk result (IsSound queue.new) }
-    ensures config { OnOk result (queue.new.config ≡ queue.old.config) }
+    requires player { IsPlayer spool.old by }
+    ensures ok { IfOk result (λ end. tried_job runs spool.old.queue by ≡ (spool.new.queue, end)) }
+    ensures player { IsPlayer spool.new by }
     ensures named { IfOk result (λ end. IfSome end IsNamedEnd) }
 {
-    let Some(job) = job_at_work(queue, by, runs) else {
+    let Some(job) = job_at_work(&spool.queue, by, runs) else {
         return Ok(None);
     };
     let (number, cancelled) = (job.number, job.cancelled);
     let outcome = outcome_at(alloc, job, runs)?;
-    Ok(Some(go_on(alloc, queue, by, number, cancelled, outcome)?))
+    go_aside(alloc, spool, by)?;
+    Ok(Some(go_on(alloc, spool, by, number, cancelled, outcome)?))
 }

@@ -1,8 +1,7 @@
 //! The lines of a step.
-ghost use Rattle.std.specs.Prelude.{◌≡◌, ◌≤◌, IfOk};
-ghost use Rattle.mas_types.specs.Closings.{AreMembersNamed, IsReplyNamed, reply_lines as reply_lines_lem};
+ghost use Rattle.std.specs.Prelude.{◌≡◌, ◌≤◌, [], ◌∷◌, IfOk};
+ghost use Rattle.mas_types.specs.Closings.{AreMembersNamed, IsReplyNamed, closing_line, reply_lines as reply_lines_lem};
 ghost use Rattle.mas_types.specs.Limits.{members_most};
-ghost use Rattle.model_player.specs.Steps.{closed_with};
 
 use crate::giving::PlayError;
 use cmd_report::one_line;
@@ -23,7 +22,7 @@ pub fn reply_lines(alloc: Global, by: MemberId, at: u32, reply: &Reply) -> Resul
 pub fn closed(alloc: Global, by: MemberId, at: u32, end: &Closing) -> Result<Lines, PlayError>
     requires by { by.0 ≤ members_most }
     requires named { AreMembersNamed end.now }
-    ensures { IfOk result (λ lines. lines ≡ closed_with by at end.now) }
+    ensures { IfOk result (λ lines. lines ≡ closing_line by at end.now ∷ []) }
 {
     Ok(one_line(alloc, by, at, end)?)
 }

@@ -1,28 +1,36 @@
 //! Plays the script on standard input on a plain queue, from an empty one, without devices, and writes the lines that
-//! its steps say, and behind a byte 0 those that are printed. Behind a byte 0 a second script may stand: it is played
-//! after a restart, on the queue that the first one left. Its lines stand behind a byte 0 too, and behind them, after
-//! another, all that is printed by then. `tests/plain` compares the consoles and the paper of the program with them.
-//! Where a script isn't read, or a step isn't played here, the exit status is 1.
+//! its steps say; and then, each behind a byte 0, the paper of each of the eight printers. Behind a byte 0 a second
+//! script may stand: it is played after a restart, on the queue that the first one left. Its lines stand behind a byte
+//! 0 too, and behind them the eight papers as they are by then. `tests/plain` and `tests/stops` compare the consoles
+//! and the paper of the program with them. Where a script isn't read, or a step isn't played here, the exit status
+//! is 1.
+//!
+//! A line `STOP SYSx IN n` counts the acts that a member has here, which `acts` tells; they are other acts than those
+//! of a device. `STOP SYSx PRINT n` counts printed lines, here as there.
 #![tactic(auto)]
 
+mod acts;
 mod decks;
 mod giving;
 mod jobs;
 mod kinds;
 mod lines;
+mod locks;
 mod playing;
 mod printing;
+mod runs;
+mod spools;
 mod works;
 
-ghost use Rattle.std.specs.Prelude.{IfOk, OnOk};
-ghost use Rattle.mas_types.specs.Sound.{IsSound};
+ghost use Rattle.std.specs.Prelude.{IfOk};
 ghost use Rattle.script_laws.specs.Limits.{IsScript};
 
 use giving::PlayError;
-use mas_types::{Lines, Queue, empty_queue};
-use playing::{play_step, restart};
+use mas_types::Lines;
+use runs::{play, restarted, started};
 use script_lang::{Script, read_script};
 use script_laws::law_of_limits;
+use spools::Spool;
 use std::alloc::Global;
 use std::io::{Read, Write};
 use std::process::ExitCode;
@@ -46,7 +54,7 @@ fn script_of(alloc: Global, bytes: &[u8], cold: bool) -> Result<Script, PlayErro
     Ok(script)
 }
 
-fn say(rt: &HostRuntime, lines: &Lines) -> Result<(), PlayError> {
+fn write(rt: &HostRuntime, lines: &Lines) -> Result<(), PlayError> {
     let mut out = rt.stdout();
     for at in 0..lines.len() {
         if out.write_all(lines.line(at)).is_err() || out.write_all(b"\n").is_err() {
@@ -64,25 +72,14 @@ fn part(rt: &HostRuntime) -> Result<(), PlayError> {
     Ok(())
 }
 
-// Plays the steps one after another, numbered from 1, and says the lines of each; and then what stands on paper.
-fn play(
-    rt: &HostRuntime,
-    queue: &mut Queue,
-    paper: &mut Lines,
-    script: &Script,
-) -> Result<(), PlayError>
-    requires sound { IsSound queue.old }
-    requires script { IsScript script.now }
-    ensures sound { OnOk result (IsSound queue.new) }
-{
-    let mut number = 0;
-    for step in script.steps.as_slice() {
-        number += 1;
-        let lines = play_step(rt.alloc(), queue, paper, number, step)?;
-        say(rt, &lines)?;
+// What was said, and what stands on each paper.
+fn write_all(rt: &HostRuntime, spool: &Spool) -> Result<(), PlayError> {
+    write(rt, &spool.console)?;
+    for paper in spool.papers.as_slice() {
+        part(rt)?;
+        write(rt, paper)?;
     }
-    part(rt)?;
-    say(rt, paper)
+    Ok(())
 }
 
 fn run(rt: &HostRuntime) -> Result<(), PlayError> {
@@ -92,16 +89,17 @@ fn run(rt: &HostRuntime) -> Result<(), PlayError> {
     }
     let (first, second) = cut(bytes.as_slice());
     let script = script_of(rt.alloc(), first, true)?;
-    let mut queue = empty_queue(rt.alloc(), &script.config, &script.routes)?;
-    let mut paper = Lines::new(rt.alloc());
-    play(rt, &mut queue, &mut paper, &script)?;
+    let mut spool = started(rt.alloc(), &script)?;
+    play(rt.alloc(), &mut spool, &script)?;
+    write_all(rt, &spool)?;
     let Some(second) = second else {
         return Ok(());
     };
     part(rt)?;
     let script = script_of(rt.alloc(), second, false)?;
-    restart(rt.alloc(), &mut queue)?;
-    play(rt, &mut queue, &mut paper, &script)
+    let mut spool = restarted(rt.alloc(), spool)?;
+    play(rt.alloc(), &mut spool, &script)?;
+    write_all(rt, &spool)
 }
 
 fn main(rt: HostRuntime) -> ExitCode {

@@ -1,14 +1,16 @@
 //! The output that is busy at a member's printer, on a plain queue.
-ghost use Rattle.std.specs.Prelude.{◌≡◌, ◌≤◌, ◌-◌, ◌++◌, length, true, IfOk, OnOk, IfSome};
+ghost use Rattle.std.specs.Prelude.{◌≡◌, ◌≤◌, ◌-◌, length, IfOk, IfSome};
 ghost use Rattle.mas_types.specs.Fit.{IsFit, IsIndex};
 ghost use Rattle.mas_types.specs.Limits.{text_lines_most};
-ghost use Rattle.mas_types.specs.Queue.{is_member, line_count};
+ghost use Rattle.mas_types.specs.Queue.{line_count};
 ghost use Rattle.mas_types.specs.Sound.{IsSound};
 ghost use Rattle.job_outcome.specs.Next.{IsNamedEnd};
 ghost use Rattle.model_player.specs.Commands.{tried_output};
 ghost use Rattle.model_player.specs.Printing.{gone_of as gone_of_lem, last_line as last_line_lem, limit_of as limit_of_lem, next_command as next_command_lem, printed_behind, printed_next, wanting as wanting_lem};
+ghost use Rattle.model_player.specs.Spools.{IsPlayer};
 
 use crate::giving::{PlayError, give};
+use crate::spools::Spool;
 use job_outcome::{UnitEnd, end_by};
 use mas_types::{Closing, Command, GroupNo, Lines, MemberId, Output, Queue, Text};
 use model_queue::outputs::{printing_at, setting_of, total};
@@ -72,66 +74,53 @@ fn next_command(output: &Output, limit: u32) -> Command
 }
 
 /// The output that is busy at the member is marked up to the last line that is printed next, or is done; none where
-/// there is none. The errors are those of `PlayError`; after one nothing is said of the queue.
+/// there is none. The errors are those of `keep`.
 pub fn try_output(
     alloc: Global,
-    queue: &mut Queue,
+    spool: &mut Spool,
     by: MemberId,
 ) -> Result<Option<UnitEnd>, PlayError>
-    requires sound { IsSound queue.old }
-    requires by { is_member queue.old.config by ≡ true }
-    ensures ok { IfOk result (λ end. tried_output queue.old by ≡ (queue.new, end)) }
-    ensures sound { OnOk result (IsSound queue.new) }
-    ensures config { OnOk result (queue.new.config ≡ queue.old.config) }
+    requires { IsPlayer spool.old by }
+    ensures ok { IfOk result (λ end. tried_output spool.old.queue by ≡ (spool.new.queue, end)) }
+    ensures player { IsPlayer spool.new by }
     ensures named { IfOk result (λ end. IfSome end IsNamedEnd) }
 {
-    let Some(output) = printing_at(queue, by) else {
+    let Some(output) = printing_at(&spool.queue, by) else {
         return Ok(None);
     };
     if let Some(group) = wanting(output) {
         return Ok(Some(UnitEnd::Refused(Closing::NoText(group))));
     }
-    let command = next_command(output, limit_of(queue, by));
-    Ok(Some(end_by(&give(alloc, queue, by, &command)?)))
+    let command = next_command(output, limit_of(&spool.queue, by));
+    Ok(Some(end_by(&give(alloc, spool, by, &command)?)))
 }
 
-// Prints the lines of an output behind its mark up to this one.
-fn print_lines(
-    alloc: Global,
-    output: &Output,
-    last: u32,
-    text: &Lines,
-    paper: &mut Lines,
-) -> Result<(), PlayError>
+// The lines of an output behind its mark up to this one, as they are printed.
+fn lines_up_to(alloc: Global, output: &Output, last: u32, text: &Lines) -> Result<Lines, PlayError>
     requires some { 1 ≤ length text.now }
-    ensures { OnOk result (paper.new
-        ≡ paper.old ++ printed_behind output.now.job output.now.index text.now output.now.mark
-        (last - output.now.mark)) }
+    ensures { IfOk result (λ lines. lines
+        ≡ printed_behind output.now.job output.now.index text.now output.now.mark (last - output.now.mark)) }
 {
+    let mut lines = Lines::new(alloc);
     for before in output.mark..last {
         let line = print_line(alloc, output.job, output.index, before + 1, text)?;
-        paper.push(line.as_slice())?;
+        lines.push(line.as_slice())?;
     }
-    Ok(())
+    Ok(lines)
 }
 
-/// Prints the lines that the member's printer prints next: none where no output is busy at the member, or its text is
-/// gone. The errors are those of `PlayError`; after one nothing is said of the queue.
-pub fn print_next(
-    alloc: Global,
-    queue: &Queue,
-    by: MemberId,
-    paper: &mut Lines,
-) -> Result<(), PlayError>
+/// The lines that the member's printer prints next: none where no output is busy at the member, or its text is gone.
+/// NoMemory comes only when out of memory.
+pub fn next_lines(alloc: Global, queue: &Queue, by: MemberId) -> Result<Lines, PlayError>
     requires { IsSound queue.now }
-    ensures { OnOk result (paper.new ≡ paper.old ++ printed_next queue.now by) }
+    ensures { IfOk result (λ lines. lines ≡ printed_next queue.now by) }
 {
     let Some(output) = printing_at(queue, by) else {
-        return Ok(());
+        return Ok(Lines::new(alloc));
     };
     let Text::Whole(text) = &output.text else {
-        return Ok(());
+        return Ok(Lines::new(alloc));
     };
     let last = last_line(output, limit_of(queue, by));
-    print_lines(alloc, output, last, text, paper)
+    lines_up_to(alloc, output, last, text)
 }

@@ -1,22 +1,20 @@
 //! Units of work on a plain queue. The next one is found by trying: the first in their order that applies.
-ghost use Rattle.std.specs.Prelude.{◌≡◌, ◌+◌, ◌≤◌, ◌<◌, ◌^◌, true, IfOk, OnOk, IfSome};
+ghost use Rattle.std.specs.Prelude.{◌≡◌, ◌+◌, ◌<◌, ◌^◌, true, IfOk, IfSome};
 ghost use Rattle.mas_types.specs.Closings.{AreMembersNamed};
 ghost use Rattle.mas_types.specs.Fit.{IsFit};
-ghost use Rattle.mas_types.specs.Limits.{members_most};
-ghost use Rattle.mas_types.specs.Queue.{is_member};
-ghost use Rattle.mas_types.specs.Sound.{IsSound};
 ghost use Rattle.mas_types.specs.Step.{may_give};
 ghost use Rattle.job_outcome.specs.Next.{IsNamedEnd};
 ghost use Rattle.model_player.specs.Commands.{first_tried, is_nothing as is_nothing_lem, next_tried, tried, unit_tried, worked_from};
-ghost use Rattle.model_player.specs.Steps.{work};
+ghost use Rattle.model_player.specs.Spools.{IsPlayer};
 
-use crate::giving::{PlayError, give};
+use crate::acts::{go_aside, print};
+use crate::giving::{PlayError, answer, count};
 use crate::jobs::try_job;
 use crate::kinds::Kind;
-use crate::lines::closed;
-use crate::printing::{print_next, try_output};
+use crate::printing::{next_lines, try_output};
+use crate::spools::Spool;
 use job_outcome::{UnitEnd, end_by};
-use mas_types::{Closing, Command, Lines, MemberId, Queue, Refusal, Reply};
+use mas_types::{Closing, Command, MemberId, Refusal, Reply};
 use std::alloc::Global;
 
 // Whether a command was refused for want of anything to do.
@@ -26,84 +24,78 @@ fn is_nothing(reply: &Reply) -> bool
     matches!(reply, Reply::No(Refusal::Nothing))
 }
 
-// A unit of one command; none where it doesn't apply.
+// A unit of one command; none where it doesn't apply, and then it is no command of the step.
 fn try_command(
     alloc: Global,
-    queue: &mut Queue,
+    spool: &mut Spool,
     by: MemberId,
     command: &Command,
 ) -> Result<Option<UnitEnd>, PlayError>
-    requires sound { IsSound queue.old }
+    requires player { IsPlayer spool.old by }
     requires fit { IsFit command.now }
-    requires by { may_give queue.old by command.now ≡ true }
-    ensures ok { IfOk result (λ end. tried command.now queue.old by ≡ (queue.new, end)) }
-    ensures sound { OnOk result (IsSound queue.new) }
-    ensures config { OnOk result (queue.new.config ≡ queue.old.config) }
+    requires by { may_give spool.old.queue by command.now ≡ true }
+    ensures ok { IfOk result (λ end. tried command.now spool.old.queue by ≡ (spool.new.queue, end)) }
+    ensures player { IsPlayer spool.new by }
     ensures named { IfOk result (λ end. IfSome end IsNamedEnd) }
 {
-    let reply = give(alloc, queue, by, command)?;
+    let reply = answer(alloc, &mut spool.queue, by, command)?;
     if is_nothing(&reply) {
         return Ok(None);
     }
+    count(alloc, spool, by)?;
     Ok(Some(end_by(&reply)))
 }
 
 // A unit of this kind; none where it doesn't apply.
 fn try_unit(
     alloc: Global,
-    queue: &mut Queue,
+    spool: &mut Spool,
     by: MemberId,
     kind: Kind,
 ) -> Result<Option<UnitEnd>, PlayError>
-    requires sound { IsSound queue.old }
-    requires by { is_member queue.old.config by ≡ true }
-    ensures ok { IfOk result (λ end. unit_tried kind queue.old by ≡ (queue.new, end)) }
-    ensures sound { OnOk result (IsSound queue.new) }
-    ensures config { OnOk result (queue.new.config ≡ queue.old.config) }
+    requires { IsPlayer spool.old by }
+    ensures ok { IfOk result (λ end. unit_tried kind spool.old.queue by ≡ (spool.new.queue, end)) }
+    ensures player { IsPlayer spool.new by }
     ensures named { IfOk result (λ end. IfSome end IsNamedEnd) }
 {
     match kind {
-        Kind::Print => try_output(alloc, queue, by),
-        Kind::Pick => try_command(alloc, queue, by, &Command::Pick),
-        Kind::Purge => try_command(alloc, queue, by, &Command::Purge),
-        Kind::Gather => try_command(alloc, queue, by, &Command::Gather),
-        Kind::Run => try_job(alloc, queue, by, true),
-        Kind::Convert => try_job(alloc, queue, by, false),
-        Kind::TakeExec => try_command(alloc, queue, by, &Command::TakeExec),
-        Kind::TakeConvert => try_command(alloc, queue, by, &Command::TakeConvert),
+        Kind::Print => try_output(alloc, spool, by),
+        Kind::Pick => try_command(alloc, spool, by, &Command::Pick),
+        Kind::Purge => try_command(alloc, spool, by, &Command::Purge),
+        Kind::Gather => try_command(alloc, spool, by, &Command::Gather),
+        Kind::Run => try_job(alloc, spool, by, true),
+        Kind::Convert => try_job(alloc, spool, by, false),
+        Kind::TakeExec => try_command(alloc, spool, by, &Command::TakeExec),
+        Kind::TakeConvert => try_command(alloc, spool, by, &Command::TakeConvert),
     }
 }
 
 // The first of these that applies; none where none does.
 fn try_first(
     alloc: Global,
-    queue: &mut Queue,
+    spool: &mut Spool,
     by: MemberId,
     kinds: &[Kind],
 ) -> Result<Option<UnitEnd>, PlayError>
-    requires sound { IsSound queue.old }
-    requires by { is_member queue.old.config by ≡ true }
-    ensures ok { IfOk result (λ end. first_tried kinds.now queue.old by ≡ (queue.new, end)) }
-    ensures sound { OnOk result (IsSound queue.new) }
-    ensures config { OnOk result (queue.new.config ≡ queue.old.config) }
+    requires { IsPlayer spool.old by }
+    ensures ok { IfOk result (λ end. first_tried kinds.now spool.old.queue by ≡ (spool.new.queue, end)) }
+    ensures player { IsPlayer spool.new by }
     ensures named { IfOk result (λ end. IfSome end IsNamedEnd) }
 {
     match kinds {
         [] => Ok(None),
-        [kind, others @ ..] => match try_unit(alloc, queue, by, *kind)? {
+        [kind, others @ ..] => match try_unit(alloc, spool, by, *kind)? {
             Some(end) => Ok(Some(end)),
-            None => try_first(alloc, queue, by, others),
+            None => try_first(alloc, spool, by, others),
         },
     }
 }
 
 // The next unit; none where none applies.
-fn try_next(alloc: Global, queue: &mut Queue, by: MemberId) -> Result<Option<UnitEnd>, PlayError>
-    requires sound { IsSound queue.old }
-    requires by { is_member queue.old.config by ≡ true }
-    ensures ok { IfOk result (λ end. next_tried queue.old by ≡ (queue.new, end)) }
-    ensures sound { OnOk result (IsSound queue.new) }
-    ensures config { OnOk result (queue.new.config ≡ queue.old.config) }
+fn try_next(alloc: Global, spool: &mut Spool, by: MemberId) -> Result<Option<UnitEnd>, PlayError>
+    requires { IsPlayer spool.old by }
+    ensures ok { IfOk result (λ end. next_tried spool.old.queue by ≡ (spool.new.queue, end)) }
+    ensures player { IsPlayer spool.new by }
     ensures named { IfOk result (λ end. IfSome end IsNamedEnd) }
 {
     let kinds = [
@@ -116,55 +108,58 @@ fn try_next(alloc: Global, queue: &mut Queue, by: MemberId) -> Result<Option<Uni
         Kind::TakeExec,
         Kind::TakeConvert,
     ];
-    try_first(alloc, queue, by, &kinds)
+    try_first(alloc, spool, by, &kinds)
 }
 
-// How a step of work closes that does at most so many units more, where so many are done. What is printed is added to
-// the paper.
-fn work_from(
+// Between two units the member gives the lock up and has it again where nothing is left of its hold.
+fn rest(alloc: Global, spool: &mut Spool, by: MemberId, units: u32) -> Result<(), PlayError>
+    requires { IsPlayer spool.old by }
+    ensures player { IsPlayer spool.new by }
+    ensures queue { spool.new.queue ≡ spool.old.queue }
+{
+    if units > 1 && spool.book.left == 0 && !spool.book.by_lock {
+        go_aside(alloc, spool, by)?;
+    }
+    Ok(())
+}
+
+// A unit: its lines are printed, then its commands are given; none where none applies.
+fn try_printed(alloc: Global, spool: &mut Spool, by: MemberId) -> Result<Option<UnitEnd>, PlayError>
+    requires { IsPlayer spool.old by }
+    ensures ok { IfOk result (λ end. next_tried spool.old.queue by ≡ (spool.new.queue, end)) }
+    ensures player { IsPlayer spool.new by }
+    ensures named { IfOk result (λ end. IfSome end IsNamedEnd) }
+{
+    let lines = next_lines(alloc, &spool.queue, by)?;
+    print(alloc, spool, by, &lines)?;
+    try_next(alloc, spool, by)
+}
+
+/// How a step of work closes that does at most so many units more, where so many are done. The errors are those of
+/// `keep`.
+pub fn work_from(
     alloc: Global,
-    queue: &mut Queue,
-    paper: &mut Lines,
+    spool: &mut Spool,
     by: MemberId,
     units: u32,
     done: u32,
 ) -> Result<Closing, PlayError>
-    requires sound { IsSound queue.old }
-    requires by { is_member queue.old.config by ≡ true }
+    requires player { IsPlayer spool.old by }
     requires most { units + done < 2 ^ 32 }
-    ensures ok { IfOk result (λ end. worked_from units by queue.old paper.old done ≡ (queue.new, paper.new, end)) }
-    ensures sound { OnOk result (IsSound queue.new) }
-    ensures config { OnOk result (queue.new.config ≡ queue.old.config) }
+    ensures ok { IfOk result (λ end. worked_from units by spool.old.queue done ≡ (spool.new.queue, end)) }
+    ensures player { IsPlayer spool.new by }
     ensures named { IfOk result AreMembersNamed }
 {
     if units == 0 {
         return Ok(Closing::DoneUnits(done));
     }
-    print_next(alloc, queue, by, paper)?;
-    match try_next(alloc, queue, by)? {
-        Some(UnitEnd::Done) => work_from(alloc, queue, paper, by, units - 1, done + 1),
+    match try_printed(alloc, spool, by)? {
+        Some(UnitEnd::Done) => {
+            rest(alloc, spool, by, units)?;
+            work_from(alloc, spool, by, units - 1, done + 1)
+        }
         Some(UnitEnd::Refused(end)) => Ok(end),
         Some(UnitEnd::Idle) => Ok(Closing::DoneUnits(done)),
         None => Ok(Closing::DoneUnits(done)),
     }
-}
-
-/// The line of a step that does at most so many units of work. What is printed is added to the paper. The errors are
-/// those of `PlayError`; after one nothing is said of the queue.
-pub fn play_work(
-    alloc: Global,
-    queue: &mut Queue,
-    paper: &mut Lines,
-    by: MemberId,
-    at: u32,
-    units: u32,
-) -> Result<Lines, PlayError>
-    requires sound { IsSound queue.old }
-    requires by { is_member queue.old.config by ≡ true }
-    requires most { by.0 ≤ members_most }
-    ensures said { IfOk result (λ lines. work queue.old paper.old by at units ≡ (queue.new, paper.new, lines)) }
-    ensures sound { OnOk result (IsSound queue.new) }
-{
-    let end = work_from(alloc, queue, paper, by, units, 0)?;
-    closed(alloc, by, at, &end)
 }

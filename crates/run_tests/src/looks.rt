@@ -9,6 +9,8 @@ use tests_lines::{add_flag, add_lines, add_number};
 
 const SYSA: MemberId = MemberId(1);
 
+const SYSB: MemberId = MemberId(2);
+
 /// Who reads and writes from outside of a run.
 const OPERATOR: MemberId = MemberId(0);
 
@@ -79,7 +81,8 @@ pub fn add_lost(line: &mut Vec<u8>, plant: &MemPlant) -> Result<(), NoMemory> {
     add_flag(line, b" PRT1", plant.lost(Part::Printer(SYSA)))
 }
 
-// Which parts are lost, what stands on the console from a line on, and what on paper.
+// Which parts are lost, what stands on the console from a line on, and what on SYSA's paper, and on SYSB's if it
+// printed.
 fn add_outside(
     alloc: Global,
     line: &mut Vec<u8>,
@@ -90,7 +93,13 @@ fn add_outside(
     line.extend_from_slice(b", says")?;
     add_lines(line, &plant.console_lines(alloc)?, said)?;
     line.extend_from_slice(b", paper")?;
-    add_lines(line, &plant.printer_lines(alloc, SYSA)?, 0)
+    add_lines(line, &plant.printer_lines(alloc, SYSA)?, 0)?;
+    let other = plant.printer_lines(alloc, SYSB)?;
+    if other.len() > 0 {
+        line.extend_from_slice(b", paper of SYSB")?;
+        add_lines(line, &other, 0)?;
+    }
+    Ok(())
 }
 
 /// How a run ended: its status, how many batches are kept and how many in flight, what is lost, and what it said and

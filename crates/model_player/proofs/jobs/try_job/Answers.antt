@@ -6,6 +6,6 @@ use Rattle.model_player.proofs.jobs.try_job.Goals as goal
 
 pub outcome_at-requires : goal.outcome_at-requires
 outcome_at-requires c =
-    let Q = c.args.queue.now in
+    let Q = c.args.spool.now.queue in
     let found : find (is_at_work c.args.runs c.args.by) Q.jobs ≡ Some c.in-Some.job.now = sym c.in-Some.ensures in
-    (find_holds (IsSoundJob Q.config) (is_at_work c.args.runs c.args.by) Q.jobs c.in-Some.job.now c.requires.sound.jobs found).text
+    (find_holds (IsSoundJob Q.config) (is_at_work c.args.runs c.args.by) Q.jobs c.in-Some.job.now c.requires.player.spool.sound.jobs found).text
