@@ -34,35 +34,67 @@ fn open(rt: &HostRuntime, opening: Opening) -> Result<FilePlant<HostRuntime>> {
     Ok(FilePlant::open(*rt, rt.alloc(), streams, FOLDER, opening)?)
 }
 
+// Whether the folder is held by a plant.
+fn is_held(rt: &HostRuntime) -> bool {
+    match open(rt, Opening::Look) {
+        Ok(plant) => {
+            drop(plant);
+            false
+        }
+        Err(_) => true,
+    }
+}
+
+fn write_devices(rt: &HostRuntime, plant: &mut FilePlant<HostRuntime>) -> Result<()> {
+    println!(rt; "devices {:?}", use_devices(plant))?;
+    println!(rt; "printers {:?}", use_printers(plant))?;
+    println!(rt; "console {:?}", say_lines(plant))?;
+    println!(rt; "held {}", is_held(rt))?;
+    plant.lose(Dev::Spool(1));
+    Ok(())
+}
+
 fn first_run(rt: &HostRuntime) -> Result<()> {
     let mut plant = open(rt, Opening::Make)?;
-    println!(rt; "devices {:?}", use_devices(&mut plant))?;
-    println!(rt; "printers {:?}", use_printers(&mut plant))?;
-    println!(rt; "console {:?}", say_lines(&mut plant))?;
-    println!(rt; "held {}", open(rt, Opening::Look).is_err())?;
-    plant.lose(Dev::Spool(1));
+    let written = write_devices(rt, &mut plant);
+    drop(plant);
+    written
+}
+
+fn read_devices(rt: &HostRuntime, plant: &mut FilePlant<HostRuntime>) -> Result<()> {
+    println!(rt; "ckpt1 {:?}", read_back(plant, Dev::Ckpt1))?;
+    println!(rt;
+        "lost {} {}",
+        plant.lost(Part::Disk(Dev::Spool(1))),
+        plant.lost(Part::Disk(Dev::Spool(2)))
+    )?;
+    println!(rt; "line {:?}", take_text(plant))?;
+    Ok(())
+}
+
+// Whether a printed line halts where a stop is armed.
+fn halt(rt: &HostRuntime, plant: FilePlant<HostRuntime>) -> Result<()> {
+    let mut fused = Fused::new(plant);
+    fused.arm(MemberId(1), spool_disk::Fuse::Print, 1);
+    let halted = fused.print(MemberId(1), b"THIRD");
+    drop(fused);
+    println!(rt; "halted {}", word_of(halted))?;
     Ok(())
 }
 
 fn second_run(rt: &HostRuntime) -> Result<()> {
     fs::write(rt, "trial/below/LINE1.IN", "INPUT")?;
     let mut plant = open(rt, Opening::GoOn)?;
-    println!(rt; "ckpt1 {:?}", read_back(&mut plant, Dev::Ckpt1))?;
-    println!(rt;
-        "lost {} {}",
-        plant.lost(Part::Disk(Dev::Spool(1))),
-        plant.lost(Part::Disk(Dev::Spool(2)))
-    )?;
-    println!(rt; "line {:?}", take_text(&mut plant))?;
-    let mut fused = Fused::new(plant);
-    fused.arm(MemberId(1), spool_disk::Fuse::Print, 1);
-    println!(rt; "halted {}", word_of(fused.print(MemberId(1), b"THIRD")))?;
-    Ok(())
+    match read_devices(rt, &mut plant) {
+        Ok(()) => halt(rt, plant),
+        Err(error) => {
+            drop(plant);
+            Err(error)
+        }
+    }
 }
 
-fn third_run(rt: &HostRuntime) -> Result<()> {
-    let plant = open(rt, Opening::Make)?;
-    let mut fused = Fused::new(plant);
+fn renew(rt: &HostRuntime, fused: &mut Fused<FilePlant<HostRuntime>>) -> Result<()> {
     println!(rt;
         "renewed {} {} {}",
         word_of(fused.renew(Dev::Spool(1))),
@@ -70,9 +102,16 @@ fn third_run(rt: &HostRuntime) -> Result<()> {
         word_of(fused.renew(Dev::Spool(9)))
     )?;
     println!(rt; "lost {}", fused.lost(Part::Disk(Dev::Spool(1))))?;
-    println!(rt; "spool1 {:?}", read_back(&mut fused, Dev::Spool(1)))?;
-    println!(rt; "ckpt1 {:?}", read_back(&mut fused, Dev::Ckpt1))?;
+    println!(rt; "spool1 {:?}", read_back(fused, Dev::Spool(1)))?;
+    println!(rt; "ckpt1 {:?}", read_back(fused, Dev::Ckpt1))?;
     Ok(())
+}
+
+fn third_run(rt: &HostRuntime) -> Result<()> {
+    let mut fused = Fused::new(open(rt, Opening::Make)?);
+    let renewed = renew(rt, &mut fused);
+    drop(fused);
+    renewed
 }
 
 fn main(rt: HostRuntime) -> Result<()> {

@@ -44,19 +44,29 @@ fn pages_of(alloc: Global, tables: &Tables, levels: &List<Level>) -> Result<List
     encode(alloc, tables, levels)
 }
 
-// How many pages were encoded to others than before.
+// How many pages of these tables were encoded to others than before.
+fn others_of(alloc: Global, tables: &Tables, decodes: u32, encodes: u32) -> Result<u32, PageNo>
+    requires shape { HasShape tables.now }
+    requires pages { page_count_lem tables.now.config ≡ 323 }
+{
+    let Ok(levels) = first_levels(alloc) else {
+        return Err(PageNo::NoMemory);
+    };
+    let Ok(pages) = pages_of(alloc, tables, &levels) else {
+        return Err(PageNo::NoMemory);
+    };
+    decode_often(alloc, pages.as_slice(), decodes)?;
+    Ok(encode_often(tables, &levels, pages.as_slice(), encodes))
+}
+
+// The same of full tables.
 fn others(alloc: Global, decodes: u32, encodes: u32) -> Result<u32, PageNo> {
     let Ok(tables) = full_tables(alloc) else {
         return Err(PageNo::NoMemory);
     };
-    let Ok(levels) = first_levels(alloc) else {
-        return Err(PageNo::NoMemory);
-    };
-    let Ok(pages) = pages_of(alloc, &tables, &levels) else {
-        return Err(PageNo::NoMemory);
-    };
-    decode_often(alloc, pages.as_slice(), decodes)?;
-    Ok(encode_often(&tables, &levels, pages.as_slice(), encodes))
+    let others = others_of(alloc, &tables, decodes, encodes);
+    drop(tables);
+    others
 }
 
 /// Decodes all pages so many times, and encodes so many of them, each as it was before.

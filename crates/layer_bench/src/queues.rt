@@ -66,20 +66,30 @@ fn classes(alloc: Global) -> Result<List<Class>, NoMemory> {
     Ok(classes)
 }
 
-// How many commands found no memory; none where the tables or the command are not as they must be.
-fn without_memory(alloc: Global, jobs: u32, times: u32) -> Result<Option<u32>, NoMemory> {
-    let mut tables = full_tables(alloc, jobs.min(2_048) as u16)?;
+// How many commands on these tables found no memory; none where the tables or the command are not as they must be.
+fn given(alloc: Global, tables: &mut Tables, times: u32) -> Result<Option<u32>, NoMemory>
+    requires shape { HasShape tables.old }
+    requires order { tables.old.order ≡ 10000 }
+{
     let command = Command::SetInit {
         classes: classes(alloc)?,
     };
     law_of_fit_tables();
-    let Ok(()) = sound(&tables) else {
+    let Ok(()) = sound(tables) else {
         return Ok(None);
     };
     if !is_fit(&command) {
         return Ok(None);
     }
-    Ok(Some(give_often(alloc, &mut tables, &command, times)))
+    Ok(Some(give_often(alloc, tables, &command, times)))
+}
+
+// The same of full tables.
+fn without_memory(alloc: Global, jobs: u32, times: u32) -> Result<Option<u32>, NoMemory> {
+    let mut tables = full_tables(alloc, jobs.min(2_048) as u16)?;
+    let without = given(alloc, &mut tables, times);
+    drop(tables);
+    without
 }
 
 /// Gives the command as often as the second number says, on a queue with as many jobs as the first says.

@@ -1,8 +1,6 @@
--- The output that is busy at a member is sound, and lines that are printed one by one.
-use Rattle.std.proofs.Common.{◌≡◌, ◌∙◌, ℕ, suc, ◌+◌, ◌-◌, ◌≤◌, Bool, true, false, List, [], ◌∷◌, ◌++◌, Some, None, find, refl, ap, arith}
-use Rattle.mas_types.specs.declared.ids.JobNo.{JobNo}
+-- The output that is busy at a member is sound.
+use Rattle.std.proofs.Common.{◌≡◌, ◌≤◌, Bool, true, false, Some, None, find, refl}
 use Rattle.mas_types.specs.declared.ids.MemberId.{MemberId}
-use Rattle.mas_types.specs.declared.ids.OutNo.{OutNo}
 use Rattle.mas_types.specs.declared.jobs.Output.{Output}
 use Rattle.mas_types.specs.declared.jobs.Text.{Text}
 use Rattle.mas_types.specs.declared.jobs.Text.TheVariants.{Whole, Gone}
@@ -10,11 +8,9 @@ use Rattle.mas_types.specs.declared.queues.Queue.{Queue}
 use Rattle.mas_types.specs.Fit.{IsText}
 use Rattle.mas_types.specs.Ids.{is_somebody}
 use Rattle.mas_types.specs.Limits.{text_lines_most}
-use Rattle.mas_types.specs.Printed.{printed_line}
 use Rattle.mas_types.specs.Queue.{line_count, printing_at, prints_at}
 use Rattle.mas_types.specs.Sound.{IsSound, IsSoundOutput}
 use Rattle.cmd_report.proofs.Pieces.{find_holds}
-use Rattle.model_player.specs.Printing.{printed_behind}
 
 pub printing_sound : (Q : Queue) (m : MemberId) (o : Output) → IsSound Q → printing_at Q m ≡ Some o → IsSoundOutput Q.config Q.jobs o
 printing_sound Q m o sound is = by_test (is_somebody m) refl
@@ -26,15 +22,6 @@ printing_sound Q m o sound is = by_test (is_somebody m) refl
     by_test false h =
         let none : None ≡ Some o = rw h at is in
         absurd (cc)
-
-pub printed_more : (n : JobNo) (i : OutNo) (lines : List (List ℕ)) (mark before : ℕ) → mark ≤ before
-    → printed_behind n i lines mark (before - mark) ++ printed_line n i (before + 1) lines ∷ [] ≡ printed_behind n i lines mark (before + 1 - mark)
-printed_more n i lines mark before below =
-    let one : suc (before - mark) ≡ before + 1 - mark = omega arith in
-    let place : before + 1 ≡ mark + suc (before - mark) = omega arith in
-    let so_far = printed_behind n i lines mark (before - mark) in
-    let first : so_far ++ (printed_line n i (before + 1) lines ∷ []) ≡ printed_behind n i lines mark (suc (before - mark)) = ap (λ (k : ℕ). so_far ++ (printed_line n i k lines ∷ [])) place in
-    first ∙ ap (λ (k : ℕ). printed_behind n i lines mark k) one
 
 few_lines : (t : Text) → IsText t → line_count t ≤ text_lines_most
 few_lines (Whole lines) y = y.few

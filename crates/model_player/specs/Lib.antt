@@ -1,3 +1,3 @@
-pub mod Commands
-pub mod Printing
-pub mod Spools
+pub mod Ends
+pub mod Jobs
+pub mod Sounds

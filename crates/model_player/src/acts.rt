@@ -3,28 +3,21 @@
 //! at it, the first half of its bytes is. A member that gets the lock for a step reads the queue by one act, and the
 //! text of lines that it prints by another: these leave nothing. Devices have more acts than these; what they may leave
 //! at them is here.
-ghost use Rattle.std.specs.Prelude.{◌≡◌};
-ghost use Rattle.model_player.specs.Spools.{IsPlayer};
+ghost use Rattle.script_laws.specs.Limits.{IsMember};
+ghost use Rattle.model_player.specs.Sounds.{AreSound};
 
-use crate::giving::PlayError;
-use crate::locks::renew;
-use crate::spools::{Arm, Spool};
-use mas_types::{Copied, Lines, List, MemberId};
+use crate::ends::PlayError;
+use crate::queues::keep_all;
+use crate::spools::{Arm, Members, Spool};
+use mas_types::{Lines, List, MemberId};
 use spool_disk::Fuse;
 use std::alloc::Global;
-
-// Whether a stop counts an act of this member.
-fn counts(arm: &Arm, by: MemberId, act: Fuse) -> bool {
-    let any = matches!(arm.fuse, Fuse::Any);
-    let prints = matches!(act, Fuse::Print);
-    arm.member.0 == by.0 && (any || prints)
-}
 
 // Each armed stop counts this act of the member. Whether it halts there.
 fn halts(arms: &mut List<Arm>, by: MemberId, act: Fuse) -> bool {
     let mut halted = false;
     for arm in arms.as_mut_slice().iter_mut() {
-        if counts(arm, by, act) {
+        if arm.member.0 == by.0 && (matches!(arm.fuse, Fuse::Any) || matches!(act, Fuse::Print)) {
             halted = halted || arm.left == 1;
             arm.left = arm.left.saturating_sub(1);
         }
@@ -41,101 +34,88 @@ fn written(line: &[u8], halted: bool) -> &[u8] {
     }
 }
 
-fn done(halted: bool) -> Result<(), PlayError> {
-    if halted {
+/// The member writes these lines, each by one act. `Halted` where the member halts; NoMemory only when out of memory.
+pub fn write(
+    to: &mut Lines,
+    arms: &mut List<Arm>,
+    by: MemberId,
+    act: Fuse,
+    lines: &Lines,
+) -> Result<(), PlayError> {
+    for at in 0..lines.len() {
+        let halted = halts(arms, by, act);
+        to.push(written(lines.line(at), halted))?;
+        if halted {
+            return Err(PlayError::Halted);
+        }
+    }
+    Ok(())
+}
+
+/// An act of the member that leaves nothing. `Halted` where the member halts.
+pub fn act(members: &mut Members, by: MemberId) -> Result<(), PlayError> {
+    if halts(&mut members.arms, by, Fuse::Any) {
         Err(PlayError::Halted)
     } else {
         Ok(())
     }
 }
 
-/// An act of the member that leaves nothing. `Halted` where the member halts.
-pub fn read(spool: &mut Spool, by: MemberId) -> Result<(), PlayError>
-    requires { IsPlayer spool.old by }
-    ensures player { IsPlayer spool.new by }
-    ensures queue { spool.new.queue ≡ spool.old.queue }
-{
-    done(halts(&mut spool.arms, by, Fuse::Any))
-}
-
-/// The batch of the member is kept, if it has a command. `Halted` where the member halts; the other errors are those of
-/// `PlayError`.
+/// The batch of the member is kept, if it has a command. `Halted` where the member halts; NoMemory only when out of
+/// memory.
 pub fn keep(alloc: Global, spool: &mut Spool, by: MemberId) -> Result<(), PlayError>
-    requires { IsPlayer spool.old by }
-    ensures player { IsPlayer spool.new by }
-    ensures queue { spool.new.queue ≡ spool.old.queue }
+    requires { AreSound spool.old.queues }
+    ensures { AreSound spool.new.queues }
 {
     if spool.given == 0 {
         return Ok(());
     }
-    done(halts(&mut spool.arms, by, Fuse::Any))?;
-    spool.kept = spool.queue.copy(alloc)?;
+    act(&mut spool.members, by)?;
+    keep_all(alloc, &mut spool.queues)?;
     spool.given = 0;
-    done(halts(&mut spool.arms, by, Fuse::Any))
+    act(&mut spool.members, by)
 }
 
 /// Before acts aside the batch is kept. Unless LOCK took it, the lock is then given up, and had again after them. The
 /// errors are those of `keep`.
 pub fn go_aside(alloc: Global, spool: &mut Spool, by: MemberId) -> Result<(), PlayError>
-    requires { IsPlayer spool.old by }
-    ensures player { IsPlayer spool.new by }
-    ensures queue { spool.new.queue ≡ spool.old.queue }
+    requires { AreSound spool.old.queues }
+    ensures { AreSound spool.new.queues }
 {
     keep(alloc, spool, by)?;
-    renew(&mut spool.book);
-    Ok(())
-}
-
-/// The member says these lines. The errors are those of `keep`.
-pub fn say(spool: &mut Spool, by: MemberId, lines: &Lines) -> Result<(), PlayError>
-    requires { IsPlayer spool.old by }
-    ensures player { IsPlayer spool.new by }
-{
-    for at in 0..lines.len() {
-        let halted = halts(&mut spool.arms, by, Fuse::Any);
-        spool.console.push(written(lines.line(at), halted))?;
-        done(halted)?;
+    let book = &mut spool.members.book;
+    if !book.by_lock {
+        book.left = book.hold;
     }
     Ok(())
 }
 
-// The member's printer prints these lines.
-fn print_each(spool: &mut Spool, by: MemberId, lines: &Lines) -> Result<(), PlayError>
-    requires { IsPlayer spool.old by }
-    ensures player { IsPlayer spool.new by }
-    ensures queue { spool.new.queue ≡ spool.old.queue }
+// The member's printer prints these lines. Nobody holds the lock meanwhile, unless LOCK took it.
+fn print_aside(members: &mut Members, by: MemberId, lines: &Lines) -> Result<(), PlayError>
+    requires { IsMember by }
 {
+    if !members.book.by_lock {
+        members.book.holder = MemberId(0);
+    }
+    act(members, by)?;
     let place = (by.0 - 1) as usize;
-    for at in 0..lines.len() {
-        let halted = halts(&mut spool.arms, by, Fuse::Print);
-        if place < spool.papers.len() {
-            spool
-                .papers
-                .item_mut(place)
-                .push(written(lines.line(at), halted))?;
-        }
-        done(halted)?;
+    if place < members.papers.len() {
+        let paper = members.papers.item_mut(place);
+        write(paper, &mut members.arms, by, Fuse::Print, lines)?;
     }
+    members.book.holder = by;
     Ok(())
 }
 
-/// The member's printer prints these lines. They are printed aside: unless LOCK took it, nobody holds the lock
-/// meanwhile. The errors are those of `keep`.
+/// The member's printer prints these lines aside. The errors are those of `keep`.
 pub fn print(alloc: Global, spool: &mut Spool, by: MemberId, lines: &Lines) -> Result<(), PlayError>
-    requires { IsPlayer spool.old by }
-    ensures player { IsPlayer spool.new by }
-    ensures queue { spool.new.queue ≡ spool.old.queue }
+    requires sound { AreSound spool.old.queues }
+    requires by { IsMember by }
+    ensures { AreSound spool.new.queues }
 {
     if lines.len() == 0 {
         return Ok(());
     }
     go_aside(alloc, spool, by)?;
-    let holder = spool.book.holder;
-    if !spool.book.by_lock {
-        spool.book.holder = MemberId(0);
-    }
-    read(spool, by)?;
-    print_each(spool, by, lines)?;
-    spool.book.holder = holder;
-    Ok(())
+    print_aside(&mut spool.members, by, lines)
 }

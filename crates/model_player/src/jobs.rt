@@ -1,20 +1,20 @@
 //! The job that a member runs or converts, on a plain queue.
 ghost use Rattle.std.specs.Prelude.{◌≡◌, ◌*◌, ◌≤◌, All, length, option_copied, IfOk, IfSome};
-ghost use Rattle.mas_types.specs.Closings.{IsReplyNamed};
-ghost use Rattle.mas_types.specs.Commands.Life.{groups_of_outputs};
 ghost use Rattle.mas_types.specs.Fit.{IsOutSpec, IsText};
 ghost use Rattle.mas_types.specs.Limits.{index_most};
-ghost use Rattle.job_exec.specs.Running.{AreOutputs};
-ghost use Rattle.job_outcome.specs.Next.{IsNamedEnd};
-ghost use Rattle.job_outcome.specs.Outcomes.{AreFitOutputs, IsNamedOutcome};
-ghost use Rattle.model_player.specs.Commands.{ended, freed, is_at_work as is_at_work_lem, job_at_work as job_at_work_lem, outcome_for, taken_for, tried_job, worked_as};
-ghost use Rattle.model_player.specs.Spools.{IsPlayer};
+ghost use Rattle.job_outcome.specs.Outcomes.{AreFitOutputs};
+ghost use Rattle.model_player.specs.Ends.{IsNamed};
+ghost use Rattle.model_player.specs.Jobs.{is_at_work as is_at_work_lem, job_at_work as job_at_work_lem};
+ghost use Rattle.model_player.specs.Sounds.{AreSound};
 
 use crate::acts::go_aside;
-use crate::giving::{PlayError, give, take_groups};
+use crate::ends::{End, PlayError};
+use crate::giving::{give, take_groups};
 use crate::spools::Spool;
-use job_outcome::{Outcome, Read, UnitEnd, end_by, outcome_of};
-use mas_types::{Command, Copied, Job, JobNo, List, MemberId, OutSpec, Phase, Queue, Reply, Text};
+use job_outcome::{Outcome, Read, outcome_of};
+use mas_types::{
+    Closing, Command, Copied, Job, JobNo, List, MemberId, OutSpec, Phase, Queue, Text,
+};
 use model_queue::groups::groups_needed;
 use queue_laws::fitness::is_fit;
 use std::alloc::Global;
@@ -26,8 +26,7 @@ const NO_JOB: JobNo = JobNo(0);
 fn groups_of(outputs: &[OutSpec]) -> u32
     requires few { length outputs.now ≤ index_most }
     requires each { All IsOutSpec outputs.now }
-    ensures groups { result ≡ groups_of_outputs outputs.now }
-    ensures few { result ≤ 10000 * length outputs.now }
+    ensures { result ≤ 10000 * length outputs.now }
 {
     match outputs {
         [] => 0,
@@ -35,36 +34,29 @@ fn groups_of(outputs: &[OutSpec]) -> u32
     }
 }
 
-// How a unit ends with this reply. Where that is a refusal, the member's groups become free.
-fn free_after(
-    alloc: Global,
-    spool: &mut Spool,
-    by: MemberId,
-    reply: Reply,
-) -> Result<UnitEnd, PlayError>
-    requires player { IsPlayer spool.old by }
-    requires named { IsReplyNamed reply }
-    ensures ok { IfOk result (λ end. freed by (spool.old.queue, reply) ≡ (spool.new.queue, end)) }
-    ensures player { IsPlayer spool.new by }
-    ensures named { IfOk result IsNamedEnd }
+// The unit ends so. Where that is a refusal, the member's groups become free.
+fn free_after(alloc: Global, spool: &mut Spool, by: MemberId, end: End) -> Result<End, PlayError>
+    requires sound { AreSound spool.old.queues }
+    requires named { IsNamed end }
+    ensures sound { AreSound spool.new.queues }
+    ensures named { IfOk result IsNamed }
 {
-    if let Reply::No(_) = &reply {
-        let _dropped = give(alloc, spool, by, &Command::Drop { job: NO_JOB })?;
+    if let End::Refused(_) = end {
+        give(alloc, spool, by, Command::Drop { job: NO_JOB })?;
     }
-    Ok(end_by(&reply))
+    Ok(end)
 }
 
-// The reply by which so many groups weren't all taken, if one is. Else outputs are written to them aside.
+// How so many groups weren't all taken, if so. Else outputs are written to them aside.
 fn take_for(
     alloc: Global,
     spool: &mut Spool,
     by: MemberId,
     groups: u32,
-) -> Result<Option<Reply>, PlayError>
-    requires player { IsPlayer spool.old by }
-    ensures ok { IfOk result (λ why. taken_for spool.old.queue by groups ≡ (spool.new.queue, why)) }
-    ensures player { IsPlayer spool.new by }
-    ensures named { IfOk result (λ why. IfSome why IsReplyNamed) }
+) -> Result<Option<End>, PlayError>
+    requires { AreSound spool.old.queues }
+    ensures sound { AreSound spool.new.queues }
+    ensures named { IfOk result (λ end. IfSome end IsNamed) }
 {
     if groups == 0 {
         return Ok(None);
@@ -84,26 +76,51 @@ fn end_job(
     job: JobNo,
     groups: u32,
     outputs: List<OutSpec>,
-) -> Result<UnitEnd, PlayError>
-    requires player { IsPlayer spool.old by }
-    requires outputs { AreOutputs outputs }
-    ensures ok { IfOk result (λ end. ended spool.old.queue by job groups outputs ≡ (spool.new.queue, end)) }
-    ensures player { IsPlayer spool.new by }
-    ensures named { IfOk result IsNamedEnd }
+) -> Result<End, PlayError>
+    requires { AreSound spool.old.queues }
+    ensures sound { AreSound spool.new.queues }
+    ensures named { IfOk result IsNamed }
 {
-    let reply = match take_for(alloc, spool, by, groups)? {
-        None => give(alloc, spool, by, &Command::Ended { job, outputs })?,
+    let end = match take_for(alloc, spool, by, groups)? {
+        None => give(alloc, spool, by, Command::Ended { job, outputs })?,
         Some(why) => why,
     };
-    free_after(alloc, spool, by, reply)
+    free_after(alloc, spool, by, end)
+}
+
+// The job of this number goes on so.
+fn go_on(
+    alloc: Global,
+    spool: &mut Spool,
+    by: MemberId,
+    job: JobNo,
+    cancelled: bool,
+    outcome: Outcome,
+) -> Result<End, PlayError>
+    requires sound { AreSound spool.old.queues }
+    requires fits { AreFitOutputs outcome }
+    ensures sound { AreSound spool.new.queues }
+    ensures named { IfOk result IsNamed }
+{
+    match outcome {
+        Outcome::Convert => give(alloc, spool, by, Command::Converted { job }),
+        Outcome::End(outputs) => {
+            let groups = if cancelled {
+                0
+            } else {
+                groups_of(outputs.as_slice())
+            };
+            end_job(alloc, spool, by, job, groups, outputs)
+        }
+        Outcome::Stop(Closing::NoText(group)) => Ok(End::NoText(group)),
+        Outcome::Stop(_) => Err(PlayError::Unplayed),
+    }
 }
 
 // What becomes of a job that is run, or else converted.
 fn outcome_at(alloc: Global, job: &Job, runs: bool) -> Result<Outcome, PlayError>
     requires { IsText job.now.text }
-    ensures outcome { IfOk result (λ outcome. outcome ≡ outcome_for runs job.now) }
-    ensures fits { IfOk result AreFitOutputs }
-    ensures named { IfOk result IsNamedOutcome }
+    ensures { IfOk result AreFitOutputs }
 {
     let fields = job.fields;
     if !is_fit(&Command::Begin { fields }) {
@@ -113,7 +130,9 @@ fn outcome_at(alloc: Global, job: &Job, runs: bool) -> Result<Outcome, PlayError
         Text::Whole(lines) => Read::Lines(lines.copy(alloc)?),
         Text::Gone(group, _) => Read::Gone(*group),
     };
-    Ok(outcome_of(alloc, runs, &fields, &read)?)
+    let outcome = outcome_of(alloc, runs, &fields, &read);
+    drop(read);
+    Ok(outcome?)
 }
 
 // The job that the member runs, or else converts.
@@ -138,54 +157,28 @@ fn is_at_work(job: &Job, by: MemberId, runs: bool) -> bool
     in_phase && job.busy.0 == by.0
 }
 
-// The job of this number goes on so.
-fn go_on(
-    alloc: Global,
-    spool: &mut Spool,
-    by: MemberId,
-    job: JobNo,
-    cancelled: bool,
-    outcome: Outcome,
-) -> Result<UnitEnd, PlayError>
-    requires player { IsPlayer spool.old by }
-    requires fits { AreFitOutputs outcome }
-    requires named { IsNamedOutcome outcome }
-    ensures ok { IfOk result (λ end. worked_as spool.old.queue by job cancelled outcome ≡ (spool.new.queue, end)) }
-    ensures player { IsPlayer spool.new by }
-    ensures named { IfOk result IsNamedEnd }
-{
-    match outcome {
-        Outcome::Convert => Ok(end_by(&give(alloc, spool, by, &Command::Converted { job })?)),
-        Outcome::End(outputs) => {
-            let groups = if cancelled {
-                0
-            } else {
-                groups_of(outputs.as_slice())
-            };
-            end_job(alloc, spool, by, job, groups, outputs)
-        }
-        Outcome::Stop(end) => Ok(UnitEnd::Refused(end)),
-    }
-}
-
-/// Runs the job at the member, or else converts it; none where there is none. Its text is read
-/// aside. The errors are those of `keep`.
+/// Runs the job at the member, or else converts it; none where there is none. Its text is read aside. The errors are
+/// those of `give`.
 pub fn try_job(
     alloc: Global,
     spool: &mut Spool,
     by: MemberId,
     runs: bool,
-) -> Result<Option<UnitEnd>, PlayError>
-    requires player { IsPlayer spool.old by }
-    ensures ok { IfOk result (λ end. tried_job runs spool.old.queue by ≡ (spool.new.queue, end)) }
-    ensures player { IsPlayer spool.new by }
-    ensures named { IfOk result (λ end. IfSome end IsNamedEnd) }
+) -> Result<Option<End>, PlayError>
+    requires { AreSound spool.old.queues }
+    ensures sound { AreSound spool.new.queues }
+    ensures named { IfOk result (λ end. IfSome end IsNamed) }
 {
-    let Some(job) = job_at_work(&spool.queue, by, runs) else {
+    let Some(job) = job_at_work(&spool.queues.queue, by, runs) else {
         return Ok(None);
     };
     let (number, cancelled) = (job.number, job.cancelled);
     let outcome = outcome_at(alloc, job, runs)?;
-    go_aside(alloc, spool, by)?;
-    Ok(Some(go_on(alloc, spool, by, number, cancelled, outcome)?))
+    match go_aside(alloc, spool, by) {
+        Ok(()) => Ok(Some(go_on(alloc, spool, by, number, cancelled, outcome)?)),
+        Err(no) => {
+            drop(outcome);
+            Err(no)
+        }
+    }
 }

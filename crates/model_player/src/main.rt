@@ -11,23 +11,25 @@
 
 mod acts;
 mod decks;
+mod ends;
 mod giving;
 mod jobs;
 mod kinds;
-mod lines;
 mod locks;
 mod playing;
 mod printing;
+mod queues;
 mod runs;
 mod spools;
 mod works;
 
 ghost use Rattle.std.specs.Prelude.{IfOk};
 ghost use Rattle.script_laws.specs.Limits.{IsScript};
+ghost use Rattle.model_player.specs.Sounds.{AreSound};
 
-use giving::PlayError;
+use ends::PlayError;
 use mas_types::Lines;
-use runs::{play, restarted, started};
+use runs::{play, restart, started};
 use script_lang::{Script, read_script};
 use script_laws::law_of_limits;
 use spools::Spool;
@@ -74,36 +76,63 @@ fn part(rt: &HostRuntime) -> Result<(), PlayError> {
 
 // What was said, and what stands on each paper.
 fn write_all(rt: &HostRuntime, spool: &Spool) -> Result<(), PlayError> {
-    write(rt, &spool.console)?;
-    for paper in spool.papers.as_slice() {
+    write(rt, &spool.members.console)?;
+    for paper in spool.members.papers.as_slice() {
         part(rt)?;
         write(rt, paper)?;
     }
     Ok(())
 }
 
-fn run(rt: &HostRuntime) -> Result<(), PlayError> {
-    let mut bytes = Vec::new(rt.alloc());
-    if rt.reader().read_to_end(&mut bytes).is_err() {
-        return Err(PlayError::Unplayed);
+// A script is played, and then all is written.
+fn play_on(rt: &HostRuntime, spool: &mut Spool, script: &Script) -> Result<(), PlayError>
+    requires { AreSound spool.old.queues }
+    ensures { AreSound spool.new.queues }
+{
+    play(rt.alloc(), spool, script)?;
+    write_all(rt, spool)
+}
+
+// The second script is played after a restart.
+fn play_second(rt: &HostRuntime, spool: &mut Spool, bytes: &[u8]) -> Result<(), PlayError>
+    requires { AreSound spool.old.queues }
+{
+    part(rt)?;
+    restart(rt.alloc(), spool)?;
+    let script = script_of(rt.alloc(), bytes, false)?;
+    play_on(rt, spool, &script)
+}
+
+fn play_both(
+    rt: &HostRuntime,
+    spool: &mut Spool,
+    script: &Script,
+    second: Option<&[u8]>,
+) -> Result<(), PlayError>
+    requires { AreSound spool.old.queues }
+{
+    play_on(rt, spool, script)?;
+    match second {
+        Some(bytes) => play_second(rt, spool, bytes),
+        None => Ok(()),
     }
-    let (first, second) = cut(bytes.as_slice());
+}
+
+fn run(rt: &HostRuntime, bytes: &[u8]) -> Result<(), PlayError> {
+    let (first, second) = cut(bytes);
     let script = script_of(rt.alloc(), first, true)?;
     let mut spool = started(rt.alloc(), &script)?;
-    play(rt.alloc(), &mut spool, &script)?;
-    write_all(rt, &spool)?;
-    let Some(second) = second else {
-        return Ok(());
-    };
-    part(rt)?;
-    let script = script_of(rt.alloc(), second, false)?;
-    let mut spool = restarted(rt.alloc(), spool)?;
-    play(rt.alloc(), &mut spool, &script)?;
-    write_all(rt, &spool)
+    let played = play_both(rt, &mut spool, &script, second);
+    drop(spool);
+    played
 }
 
 fn main(rt: HostRuntime) -> ExitCode {
-    match run(&rt) {
+    let mut bytes = Vec::new(rt.alloc());
+    if rt.reader().read_to_end(&mut bytes).is_err() {
+        return ExitCode::FAILURE;
+    }
+    match run(&rt, bytes.as_slice()) {
         Ok(()) => ExitCode::SUCCESS,
         Err(_) => ExitCode::FAILURE,
     }

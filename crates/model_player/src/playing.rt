@@ -1,73 +1,182 @@
 //! Steps of a script.
 ghost use Rattle.std.specs.Prelude.{◌≡◌, ◌≤◌, true, IfOk, IfSome};
-ghost use Rattle.mas_types.specs.Closings.{AreMembersNamed};
-ghost use Rattle.mas_types.specs.Fit.{IsFit};
+ghost use Rattle.mas_types.specs.Fit.{AreLines};
 ghost use Rattle.mas_types.specs.Limits.{members_most};
-ghost use Rattle.mas_types.specs.Queue.{is_member as is_member_lem};
-ghost use Rattle.mas_types.specs.Step.{may_give};
-ghost use Rattle.script_laws.specs.Limits.{AreCards, IsAsk, IsBetween, IsMember, IsStep};
-ghost use Rattle.script_lang.specs.Asks.{units_most};
-ghost use Rattle.model_player.specs.Spools.{IsPlayer, IsSpool};
+ghost use Rattle.script_laws.specs.Limits.{IsMember};
+ghost use Rattle.model_player.specs.Ends.{IsNamed};
+ghost use Rattle.model_player.specs.Sounds.{AreSound};
 
-use crate::acts::{keep, read, say};
+use crate::acts::{act, keep, write};
 use crate::decks::enter;
-use crate::giving::{PlayError, give};
-use crate::lines::{closed, reply_lines};
-use crate::locks::{denied, end, is_stopped, seize, stop};
-use crate::spools::{Arm, Spool};
-use crate::works::work_from;
-use card_reader::{DeckNo, read_deck};
-use mas_types::{Closing, Command, Config, Copied, Dev, Lines, MemberId, Refusal, Reply};
+use crate::ends::{End, PlayError, closed};
+use crate::giving::{count, give};
+use crate::locks::{denied, end, grant, is_stopped, stop};
+use crate::queues::{answer, drop_batch};
+use crate::spools::{Arm, Book, Members, Spool};
+use crate::works::work;
+use card_reader::{Deck, DeckNo, read_deck};
+use cmd_report::reply_lines;
+use mas_types::{Command, Config, Dev, Lines, MEMBERS_MOST, MemberId, Refusal};
 use script_lang::{Ask, Step};
 use spool_disk::Fuse;
 use std::alloc::Global;
 
+// Who holds the lock where nobody does.
+const NOBODY: MemberId = MemberId(0);
+
 // Whether the configuration has this member.
-fn is_member(config: &Config, m: MemberId) -> bool
-    ensures { result ≡ is_member_lem config.now m }
+fn is_there(config: &Config, m: MemberId) -> bool
+    ensures { result ≡ true → IsMember m }
 {
-    m.0 > 0 && m.0 <= config.members
+    m.0 > 0 && m.0 <= config.members && m.0 <= MEMBERS_MOST
 }
 
 // A step's try of the lock: how the step closes where its member doesn't get it. A member that gets it reads the queue.
-fn enter_lock(spool: &mut Spool, by: MemberId) -> Result<Option<Closing>, PlayError>
-    requires { IsPlayer spool.old by }
-    ensures player { IsPlayer spool.new by }
-    ensures queue { spool.new.queue ≡ spool.old.queue }
-    ensures named { IfOk result (λ end. IfSome end AreMembersNamed) }
+// Where `over` holds the lock, which is 0 for nobody, the lock is taken over.
+fn enter_lock(members: &mut Members, by: MemberId, over: MemberId) -> Result<Option<End>, PlayError>
+    requires { IsMember by }
+    ensures { IfOk result (λ end. IfSome end IsNamed) }
 {
-    let held = spool.book.holder.0 == by.0;
-    let end = denied(&mut spool.book, by);
-    if end.is_none() && !held {
-        read(spool, by)?;
+    let holder = members.book.holder;
+    if over.0 != 0 && over.0 == holder.0 {
+        grant(&mut members.book, by);
+        act(members, by)?;
+        return Ok(None);
+    }
+    let end = denied(&mut members.book, by);
+    if end.is_none() && holder.0 != by.0 {
+        act(members, by)?;
     }
     Ok(end)
 }
 
-// The lines of a deck's step. Its cards are read first.
+// The step of a deck that was read.
+fn play_read(alloc: Global, spool: &mut Spool, by: MemberId, deck: &Deck) -> Result<End, PlayError>
+    requires sound { AreSound spool.old.queues }
+    requires by { IsMember by }
+    requires lines { AreLines deck.now.text }
+    ensures sound { AreSound spool.new.queues }
+    ensures named { IfOk result IsNamed }
+{
+    match enter_lock(&mut spool.members, by, NOBODY)? {
+        Some(end) => Ok(end),
+        None => enter(alloc, spool, by, deck),
+    }
+}
+
+// The step of a deck. Its cards are read first.
 fn play_deck(
     alloc: Global,
     spool: &mut Spool,
     by: MemberId,
-    at: u32,
     cards: &Lines,
-) -> Result<Lines, PlayError>
-    requires player { IsPlayer spool.old by }
-    requires cards { AreCards cards.now }
-    ensures { IsPlayer spool.new by }
+) -> Result<End, PlayError>
+    requires sound { AreSound spool.old.queues }
+    requires by { IsMember by }
+    ensures sound { AreSound spool.new.queues }
+    ensures named { IfOk result IsNamed }
 {
-    let deck = match read_deck(alloc, spool.queue.config.node, cards) {
-        Ok(deck) => deck,
-        Err(DeckNo::BadCard { card, cause }) => {
-            return closed(alloc, by, at, &Closing::BadCard(card, cause));
-        }
-        Err(DeckNo::NoMemory) => return Err(PlayError::NoMemory),
-    };
-    if let Some(end) = enter_lock(spool, by)? {
-        return closed(alloc, by, at, &end);
+    match read_deck(alloc, spool.queues.queue.config.node, cards) {
+        Ok(deck) => play_read(alloc, spool, by, &deck),
+        Err(DeckNo::BadCard { card, cause }) => Ok(End::BadCard(card, cause)),
+        Err(DeckNo::NoMemory) => Err(PlayError::NoMemory),
     }
-    let reply = enter(alloc, spool, by, deck)?;
-    reply_lines(alloc, by, at, &reply)
+}
+
+// The step of the reset of a member, of which it takes the lock over if that one holds it.
+fn play_reset(
+    alloc: Global,
+    spool: &mut Spool,
+    by: MemberId,
+    of: MemberId,
+) -> Result<End, PlayError>
+    requires sound { AreSound spool.old.queues }
+    requires by { IsMember by }
+    ensures sound { AreSound spool.new.queues }
+    ensures named { IfOk result IsNamed }
+{
+    if !is_there(&spool.queues.queue.config, of) {
+        return Ok(End::Refused(Refusal::NoMember));
+    }
+    if !is_stopped(&spool.members.book, of) {
+        return Ok(End::Up(of));
+    }
+    if let Some(end) = enter_lock(&mut spool.members, by, of)? {
+        return Ok(end);
+    }
+    give(alloc, spool, by, Command::Reset { of })?;
+    Ok(End::Reset(of))
+}
+
+// A step of work, or one from which on the member keeps the lock.
+fn play_entered(
+    alloc: Global,
+    spool: &mut Spool,
+    by: MemberId,
+    units: Option<u32>,
+) -> Result<End, PlayError>
+    requires sound { AreSound spool.old.queues }
+    requires by { IsMember by }
+    ensures sound { AreSound spool.new.queues }
+    ensures named { IfOk result IsNamed }
+{
+    if let Some(end) = enter_lock(&mut spool.members, by, NOBODY)? {
+        return Ok(end);
+    }
+    match units {
+        Some(units) => work(alloc, spool, by, units),
+        None => {
+            spool.members.book.by_lock = true;
+            Ok(End::Plain)
+        }
+    }
+}
+
+// The member gives up the lock at the end of this step.
+fn play_free(book: &mut Book, by: MemberId) -> End
+    ensures { IsNamed result }
+{
+    if book.holder.0 != by.0 {
+        return End::NotHolder;
+    }
+    book.by_lock = false;
+    End::Plain
+}
+
+// How a step of a member that is up ends; none of a command's but the reset.
+fn play_asked(alloc: Global, spool: &mut Spool, by: MemberId, what: &Ask) -> Result<End, PlayError>
+    requires sound { AreSound spool.old.queues }
+    requires by { IsMember by }
+    ensures sound { AreSound spool.new.queues }
+    ensures named { IfOk result IsNamed }
+{
+    match what {
+        Ask::Deck(cards) => play_deck(alloc, spool, by, cards),
+        Ask::Command(Command::Reset { of }) => play_reset(alloc, spool, by, *of),
+        Ask::Work(units) => play_entered(alloc, spool, by, Some(*units)),
+        Ask::Lock => play_entered(alloc, spool, by, None),
+        Ask::Free => Ok(play_free(&mut spool.members.book, by)),
+        _ => Err(PlayError::Unplayed),
+    }
+}
+
+// The lines of an operator's command with the lock.
+fn play_locked(
+    alloc: Global,
+    spool: &mut Spool,
+    by: MemberId,
+    at: u32,
+    given: &Command,
+) -> Result<Lines, PlayError>
+    requires sound { AreSound spool.old.queues }
+    requires by { IsMember by }
+    ensures { AreSound spool.new.queues }
+{
+    let reply = answer(alloc, &mut spool.queues, by, given)?;
+    let lines = reply_lines(alloc, by, at, &reply);
+    drop(reply);
+    count(alloc, spool, by)?;
+    Ok(lines?)
 }
 
 // The lines of an operator's command but the reset of a member.
@@ -78,125 +187,57 @@ fn play_given(
     at: u32,
     given: &Command,
 ) -> Result<Lines, PlayError>
-    requires player { IsPlayer spool.old by }
-    requires fit { IsFit given.now }
-    requires by { may_give spool.old.queue by given.now ≡ true }
-    ensures { IsPlayer spool.new by }
+    requires sound { AreSound spool.old.queues }
+    requires by { IsMember by }
+    ensures { AreSound spool.new.queues }
 {
-    if let Some(end) = enter_lock(spool, by)? {
-        return closed(alloc, by, at, &end);
+    match enter_lock(&mut spool.members, by, NOBODY)? {
+        Some(end) => Ok(closed(alloc, by, at, end)?),
+        None => play_locked(alloc, spool, by, at, given),
     }
-    let reply = give(alloc, spool, by, given)?;
-    reply_lines(alloc, by, at, &reply)
-}
-
-// The same for the reset of a stopped member, from which it takes the lock over if that one holds it.
-fn enter_reset(spool: &mut Spool, by: MemberId, of: MemberId) -> Result<Option<Closing>, PlayError>
-    requires { IsPlayer spool.old by }
-    ensures player { IsPlayer spool.new by }
-    ensures named { IfOk result (λ end. IfSome end AreMembersNamed) }
-{
-    if spool.book.holder.0 != of.0 {
-        return enter_lock(spool, by);
-    }
-    seize(&mut spool.book, by);
-    read(spool, by)?;
-    Ok(None)
-}
-
-// The lines of the reset of a member, which is one of the configuration and stopped.
-fn play_reset(
-    alloc: Global,
-    spool: &mut Spool,
-    by: MemberId,
-    at: u32,
-    of: MemberId,
-) -> Result<Lines, PlayError>
-    requires { IsPlayer spool.old by }
-    ensures { IsPlayer spool.new by }
-{
-    if !is_member(&spool.queue.config, of) {
-        let reply = Reply::No(Refusal::NoMember);
-        return closed(alloc, by, at, &Closing::Reply(reply));
-    }
-    if !is_stopped(&spool.book, of) {
-        return closed(alloc, by, at, &Closing::Up(of));
-    }
-    if let Some(end) = enter_reset(spool, by, of)? {
-        return closed(alloc, by, at, &end);
-    }
-    let _reply = give(alloc, spool, by, &Command::Reset { of })?;
-    closed(alloc, by, at, &Closing::ResetOf(of))
-}
-
-// The lines of a step of work.
-fn play_work(
-    alloc: Global,
-    spool: &mut Spool,
-    by: MemberId,
-    at: u32,
-    units: u32,
-) -> Result<Lines, PlayError>
-    requires player { IsPlayer spool.old by }
-    requires few { IsBetween 1 units_most units }
-    ensures { IsPlayer spool.new by }
-{
-    if let Some(end) = enter_lock(spool, by)? {
-        return closed(alloc, by, at, &end);
-    }
-    let end = work_from(alloc, spool, by, units, 0)?;
-    closed(alloc, by, at, &end)
-}
-
-// The line of a member that keeps the lock from here on.
-fn play_lock(alloc: Global, spool: &mut Spool, by: MemberId, at: u32) -> Result<Lines, PlayError>
-    requires { IsPlayer spool.old by }
-    ensures { IsPlayer spool.new by }
-{
-    if let Some(end) = enter_lock(spool, by)? {
-        return closed(alloc, by, at, &end);
-    }
-    spool.book.by_lock = true;
-    closed(alloc, by, at, &Closing::Reply(Reply::Plain))
-}
-
-// The line of a member that gives up the lock at the end of this step.
-fn play_free(alloc: Global, spool: &mut Spool, by: MemberId, at: u32) -> Result<Lines, PlayError>
-    requires { IsPlayer spool.old by }
-    ensures { IsPlayer spool.new by }
-{
-    if spool.book.holder.0 != by.0 {
-        return closed(alloc, by, at, &Closing::NotHolder);
-    }
-    spool.book.by_lock = false;
-    closed(alloc, by, at, &Closing::Reply(Reply::Plain))
 }
 
 // The lines of a step of a member that is up.
-fn play_asked(
+fn lines_of(
     alloc: Global,
     spool: &mut Spool,
     by: MemberId,
     at: u32,
     what: &Ask,
 ) -> Result<Lines, PlayError>
-    requires player { IsPlayer spool.old by }
-    requires what { IsAsk what.now }
-    ensures { IsPlayer spool.new by }
+    requires sound { AreSound spool.old.queues }
+    requires by { IsMember by }
+    ensures { AreSound spool.new.queues }
 {
-    match what {
-        Ask::Deck(cards) => play_deck(alloc, spool, by, at, cards),
-        Ask::Command(Command::Restart) => Err(PlayError::Unplayed),
-        Ask::Command(Command::Reset { of }) => play_reset(alloc, spool, by, at, *of),
-        Ask::Command(given) => play_given(alloc, spool, by, at, given),
-        Ask::Work(units) => play_work(alloc, spool, by, at, *units),
-        Ask::Lock => play_lock(alloc, spool, by, at),
-        Ask::Free => play_free(alloc, spool, by, at),
-        _ => Err(PlayError::Unplayed),
+    if let Ask::Command(given) = what {
+        if !matches!(given, Command::Reset { .. }) {
+            return play_given(alloc, spool, by, at, given);
+        }
     }
+    let end = play_asked(alloc, spool, by, what)?;
+    Ok(closed(alloc, by, at, end)?)
 }
 
-// A step of a member that is up: its commands are kept, its lines are said, and then the lock is given up.
+// The commands of a step are kept, its lines are said, and then the lock is given up.
+fn close(alloc: Global, spool: &mut Spool, by: MemberId, lines: &Lines) -> Result<(), PlayError>
+    requires sound { AreSound spool.old.queues }
+    requires by { IsMember by }
+    ensures { AreSound spool.new.queues }
+{
+    keep(alloc, spool, by)?;
+    let members = &mut spool.members;
+    write(
+        &mut members.console,
+        &mut members.arms,
+        by,
+        Fuse::Any,
+        lines,
+    )?;
+    end(&mut members.book, by);
+    Ok(())
+}
+
+// A step of a member that is up.
 fn play_up(
     alloc: Global,
     spool: &mut Spool,
@@ -204,50 +245,34 @@ fn play_up(
     at: u32,
     what: &Ask,
 ) -> Result<(), PlayError>
-    requires player { IsPlayer spool.old by }
-    requires what { IsAsk what.now }
-    ensures { IsPlayer spool.new by }
+    requires sound { AreSound spool.old.queues }
+    requires by { IsMember by }
+    ensures { AreSound spool.new.queues }
 {
-    let lines = play_asked(alloc, spool, by, at, what)?;
-    keep(alloc, spool, by)?;
-    say(spool, by, &lines)?;
-    end(&mut spool.book, by);
-    Ok(())
+    let lines = lines_of(alloc, spool, by, at, what)?;
+    close(alloc, spool, by, &lines)
 }
 
 // The operator says how a member's step closes.
 fn say_of(
     alloc: Global,
-    spool: &mut Spool,
+    console: &mut Lines,
     by: MemberId,
     at: u32,
-    end: &Closing,
+    end: End,
 ) -> Result<(), PlayError>
-    requires spool { IsSpool spool.old }
     requires most { by.0 ≤ members_most }
-    requires named { AreMembersNamed end.now }
-    ensures spool { IsSpool spool.new }
-    ensures config { spool.new.queue.config ≡ spool.old.queue.config }
+    requires named { IsNamed end }
 {
     let lines = closed(alloc, by, at, end)?;
     for line in 0..lines.len() {
-        spool.console.push(lines.line(line))?;
+        console.push(lines.line(line))?;
     }
     Ok(())
 }
 
-// The member halted: the batch that it hadn't kept is gone, and it is stopped. It holds what it held.
-fn halt(alloc: Global, spool: &mut Spool, by: MemberId) -> Result<(), PlayError>
-    requires { IsPlayer spool.old by }
-    ensures { IsPlayer spool.new by }
-{
-    spool.queue = spool.kept.copy(alloc)?;
-    spool.given = 0;
-    stop(&mut spool.book, by);
-    Ok(())
-}
-
-// A step of a member of the configuration.
+// A step of a member of the configuration. Where the member halts, the batch that it hadn't kept is gone, and it is
+// stopped. It holds what it held.
 fn play_member(
     alloc: Global,
     spool: &mut Spool,
@@ -255,35 +280,24 @@ fn play_member(
     at: u32,
     what: &Ask,
 ) -> Result<(), PlayError>
-    requires player { IsPlayer spool.old by }
-    requires what { IsAsk what.now }
-    ensures { IsPlayer spool.new by }
+    requires sound { AreSound spool.old.queues }
+    requires by { IsMember by }
+    ensures { AreSound spool.new.queues }
 {
-    if is_stopped(&spool.book, by) {
-        return say_of(alloc, spool, by, at, &Closing::Down);
+    if is_stopped(&spool.members.book, by) {
+        return say_of(alloc, &mut spool.members.console, by, at, End::Down);
     }
-    match play_up(alloc, spool, by, at, what) {
-        Err(PlayError::Halted) => {
-            halt(alloc, spool, by)?;
-            say_of(alloc, spool, by, at, &Closing::Stopped)
-        }
-        played => played,
-    }
+    let played = play_up(alloc, spool, by, at, what);
+    let Err(PlayError::Halted) = played else {
+        return played;
+    };
+    drop_batch(alloc, &mut spool.queues)?;
+    spool.given = 0;
+    stop(&mut spool.members.book, by);
+    say_of(alloc, &mut spool.members.console, by, at, End::Stopped)
 }
 
-// A stop of a member that is up is armed.
-fn arm(spool: &mut Spool, member: MemberId, fuse: Fuse, left: u32) -> Result<(), PlayError>
-    requires { IsPlayer spool.old member }
-    ensures { IsPlayer spool.new member }
-{
-    if is_stopped(&spool.book, member) {
-        return Ok(());
-    }
-    spool.arms.push(Arm { member, fuse, left })?;
-    Ok(())
-}
-
-// A step of a member, or its stop.
+// A step of a member, if the configuration has it.
 fn play_by(
     alloc: Global,
     spool: &mut Spool,
@@ -291,22 +305,33 @@ fn play_by(
     at: u32,
     what: &Ask,
 ) -> Result<(), PlayError>
-    requires spool { IsSpool spool.old }
-    requires by { IsMember by }
-    requires what { IsAsk what.now }
-    ensures { IsSpool spool.new }
+    requires { AreSound spool.old.queues }
+    ensures { AreSound spool.new.queues }
 {
-    let is_there = is_member(&spool.queue.config, by);
-    match what {
-        Ask::Stop if is_there => stop(&mut spool.book, by),
-        Ask::StopIn(fuse, left) if is_there => return arm(spool, by, *fuse, *left),
-        Ask::Stop | Ask::StopIn(..) => {}
-        asked if is_there => return play_member(alloc, spool, by, at, asked),
-        _ => {
-            let reply = Reply::No(Refusal::NoMember);
-            return say_of(alloc, spool, by, at, &Closing::Reply(reply));
-        }
+    if is_there(&spool.queues.queue.config, by) {
+        return play_member(alloc, spool, by, at, what);
     }
+    if by.0 > MEMBERS_MOST {
+        return Err(PlayError::Unplayed);
+    }
+    let end = End::Refused(Refusal::NoMember);
+    say_of(alloc, &mut spool.members.console, by, at, end)
+}
+
+// A stop of a member, or one that is armed for a member that is up, if the configuration has the member.
+fn play_stop(spool: &mut Spool, member: MemberId, what: &Ask) -> Result<(), PlayError>
+    requires { AreSound spool.old.queues }
+    ensures { AreSound spool.new.queues }
+{
+    if !is_there(&spool.queues.queue.config, member) || is_stopped(&spool.members.book, member) {
+        return Ok(());
+    }
+    if let Ask::StopIn(fuse, left) = what {
+        let (fuse, left) = (*fuse, *left);
+        spool.members.arms.push(Arm { member, fuse, left })?;
+        return Ok(());
+    }
+    stop(&mut spool.members.book, member);
     Ok(())
 }
 
@@ -314,13 +339,13 @@ fn play_by(
 /// nothing. `Unplayed` comes for that of a volume, and for lines that serve other nodes or replace a copy; NoMemory
 /// only when out of memory. Halted never comes. After an error the step may have ended anywhere.
 pub fn play_step(alloc: Global, spool: &mut Spool, at: u32, step: &Step) -> Result<(), PlayError>
-    requires spool { IsSpool spool.old }
-    requires step { IsStep step.now }
-    ensures { IsSpool spool.new }
+    requires { AreSound spool.old.queues }
+    ensures { AreSound spool.new.queues }
 {
     match &step.what {
         Ask::Lose(Dev::Ckpt1 | Dev::Ckpt2) => Ok(()),
-        Ask::Lose(Dev::Spool(_)) | Ask::Line(_) | Ask::Replace(_) => Err(PlayError::Unplayed),
+        Ask::Lose(_) | Ask::Line(_) | Ask::Replace(_) => Err(PlayError::Unplayed),
+        Ask::Stop | Ask::StopIn(..) => play_stop(spool, step.by, &step.what),
         what => play_by(alloc, spool, step.by, at, what),
     }
 }

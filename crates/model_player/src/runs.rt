@@ -1,18 +1,19 @@
 //! Runs of scripts.
 ghost use Rattle.std.specs.Prelude.{IfOk};
-ghost use Rattle.mas_types.specs.Sound.{IsSound};
 ghost use Rattle.script_laws.specs.Limits.{IsScript};
-ghost use Rattle.model_player.specs.Spools.{IsSpool};
+ghost use Rattle.model_player.specs.Sounds.{AreSound};
 
-use crate::giving::{PlayError, answer};
+use crate::ends::PlayError;
+use crate::giving::ended;
 use crate::playing::play_step;
-use crate::spools::{Book, Spool};
-use mas_types::{Command, Copied, Lines, List, MEMBERS_MOST, MemberId, Queue, empty_queue};
+use crate::queues::{begun, keep_all};
+use crate::spools::{Book, Members, Spool};
+use mas_types::{Command, Lines, List, MEMBERS_MOST, MemberId, NoMemory};
 use script_lang::Script;
 use std::alloc::Global;
 
 // Eight papers on which nothing stands.
-fn blank_papers(alloc: Global) -> Result<List<Lines>, PlayError> {
+fn blank_papers(alloc: Global) -> Result<List<Lines>, NoMemory> {
     let mut papers = List::new(alloc);
     for _ in 0..MEMBERS_MOST {
         papers.push(Lines::new(alloc))?;
@@ -20,56 +21,47 @@ fn blank_papers(alloc: Global) -> Result<List<Lines>, PlayError> {
     Ok(papers)
 }
 
-// A run that begins with this queue, and with these papers.
-fn begun(alloc: Global, queue: Queue, papers: List<Lines>) -> Result<Spool, PlayError>
-    requires { IsSound queue }
-    ensures { IfOk result IsSpool }
+/// A run that begins with an empty queue. NoMemory comes only when out of memory.
+pub fn started(alloc: Global, script: &Script) -> Result<Spool, NoMemory>
+    requires { IsScript script.now }
+    ensures { IfOk result (λ spool. AreSound spool.queues) }
 {
-    let kept = queue.copy(alloc)?;
-    let book = Book::new(queue.config.hold, queue.config.dormancy);
+    let papers = blank_papers(alloc)?;
+    let queues = begun(alloc, &script.config, &script.routes)?;
     Ok(Spool {
-        queue,
-        kept,
+        queues,
         given: 0,
-        book,
-        arms: List::new(alloc),
-        papers,
-        console: Lines::new(alloc),
+        members: Members {
+            book: Book::new(script.config.hold, script.config.dormancy),
+            arms: List::new(alloc),
+            papers,
+            console: Lines::new(alloc),
+        },
     })
 }
 
-/// A run that begins with an empty queue. The errors are those of `PlayError`.
-pub fn started(alloc: Global, script: &Script) -> Result<Spool, PlayError>
-    requires { IsScript script.now }
-    ensures { IfOk result IsSpool }
+/// The run begins anew with the queue and the paper that it left, all members reset. The errors are those of `answer`.
+pub fn restart(alloc: Global, spool: &mut Spool) -> Result<(), PlayError>
+    requires { AreSound spool.old.queues }
+    ensures { AreSound spool.new.queues }
 {
-    let queue = empty_queue(alloc, &script.config, &script.routes)?;
-    begun(alloc, queue, blank_papers(alloc)?)
-}
-
-/// A run that begins with the queue that another one left, all members reset. The errors are those of `PlayError`.
-pub fn restarted(alloc: Global, spool: Spool) -> Result<Spool, PlayError>
-    requires { IsSpool spool }
-    ensures { IfOk result IsSpool }
-{
-    let Spool {
-        mut queue,
-        papers,
-        ..
-    } = spool;
-    let _reply = answer(alloc, &mut queue, MemberId(0), &Command::Restart)?;
-    begun(alloc, queue, papers)
+    ended(alloc, &mut spool.queues, MemberId(0), Command::Restart)?;
+    keep_all(alloc, &mut spool.queues)?;
+    spool.given = 0;
+    spool.members.book = Book::new(spool.members.book.hold, spool.members.book.dormancy);
+    spool.members.arms = List::new(alloc);
+    spool.members.console = Lines::new(alloc);
+    Ok(())
 }
 
 /// Plays the steps of a script one after another, numbered from 1. The errors are those of `play_step`.
 pub fn play(alloc: Global, spool: &mut Spool, script: &Script) -> Result<(), PlayError>
-    requires spool { IsSpool spool.old }
-    requires script { IsScript script.now }
-    ensures { IsSpool spool.new }
+    requires { AreSound spool.old.queues }
+    ensures { AreSound spool.new.queues }
 {
-    let mut number = 0;
+    let mut number: u32 = 0;
     for step in script.steps.as_slice() {
-        number += 1;
+        number = number.saturating_add(1);
         play_step(alloc, spool, number, step)?;
     }
     Ok(())

@@ -1,12 +1,22 @@
 //! What scripts are played on.
-ghost use Rattle.std.specs.Prelude.{◌≡◌};
+ghost use Rattle.std.specs.Prelude.{◌≤◌};
+ghost use Rattle.mas_types.specs.Limits.{members_most};
 
 use mas_types::{Lines, List, MEMBERS_MOST, MemberId, Queue};
 use spool_disk::Fuse;
 
 const MOST: usize = MEMBERS_MOST as usize;
 
-/// Who holds the lock of the checkpoint, and who is stopped.
+/// The queue, and what is kept of it.
+#[derive(Drop)]
+pub struct Queues {
+    /// The queue that all commands so far give.
+    pub queue: Queue,
+    /// The queue that the kept batches give.
+    pub kept: Queue,
+}
+
+/// Who holds the lock of the checkpoint, and who is stopped. The holder has a name.
 #[derive(Drop)]
 pub struct Book {
     /// The member that holds the lock, 0 for nobody.
@@ -25,6 +35,8 @@ pub struct Book {
     pub stopped: [bool; MOST],
     /// The tick from which on a member may have the lock again, by its number less 1.
     pub wakes: [u64; MOST],
+
+    ghost small: { holder.0 ≤ members_most },
 }
 
 /// A stop that is armed.
@@ -38,15 +50,9 @@ pub struct Arm {
     pub left: u32,
 }
 
-/// One plain queue, its members and their paper.
+/// The members: their lock, their stops, and what they write.
 #[derive(Drop)]
-pub struct Spool {
-    /// The queue that all commands so far give.
-    pub queue: Queue,
-    /// The queue that the kept batches give.
-    pub kept: Queue,
-    /// How many commands the batch has that isn't kept yet.
-    pub given: u32,
+pub struct Members {
     /// The book of the lock.
     pub book: Book,
     /// The stops that are armed.
@@ -57,11 +63,20 @@ pub struct Spool {
     pub console: Lines,
 }
 
+/// What scripts are played on.
+#[derive(Drop)]
+pub struct Spool {
+    /// The queue of all members.
+    pub queues: Queues,
+    /// How many commands the batch has that isn't kept yet.
+    pub given: u32,
+    /// The members, with all but their queue.
+    pub members: Members,
+}
+
 impl Book {
     /// The book of a run that begins: nobody holds the lock, and nobody is stopped.
-    pub fn new(hold: u16, dormancy: u16) -> Book
-        ensures { result.holder.0 ≡ 0 }
-    {
+    pub fn new(hold: u16, dormancy: u16) -> Book {
         Book {
             holder: MemberId(0),
             by_lock: false,

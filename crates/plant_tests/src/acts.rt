@@ -4,6 +4,7 @@ use crate::shows::{add_bytes, add_device, add_parts, add_source};
 use mas_types::{Dev, MemberId, NoMemory};
 use spool_disk::{Act, Choice, Fuse, MemPlant, Plant, Sizes, Took};
 use std::alloc::Global;
+use std::mem::replace;
 use tests_lines::{add_number, number_at};
 
 const SIZES: Sizes = Sizes {
@@ -143,7 +144,7 @@ impl Plants {
     // What is planned, lost, armed or comes in.
     fn set(&mut self, line: &str) -> Result<(), NoMemory> {
         match line.as_bytes() {
-            [b'p', b'l', ..] => self.plant = plant(self.alloc, line)?,
+            [b'p', b'l', ..] => drop(replace(&mut self.plant, plant(self.alloc, line)?)),
             [b'l', ..] => self.plant.lose(device_at(line, 1)),
             [b'a', ..] => {
                 let count = (number_at(line, 3).unwrap_or(0) % 1_000_000) as u32;
@@ -192,10 +193,12 @@ impl Plants {
         let choice = choice_of(word_at(line, 2));
         let mut left = self.plant.crash_at(self.alloc, moment, choice)?;
         if goes_on {
-            self.plant = left;
+            drop(replace(&mut self.plant, left));
             return Ok(());
         }
-        add_crash(self.alloc, &mut self.out, &mut left)
+        let told = add_crash(self.alloc, &mut self.out, &mut left);
+        drop(left);
+        told
     }
 
     /// Does what a line says, and tells of it.

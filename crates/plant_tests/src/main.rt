@@ -12,23 +12,31 @@ use mas_types::NoMemory;
 use std::io::Write;
 use std::process::ExitCode;
 
-fn run(rt: &HostRuntime) -> Result<Vec<u8>, NoMemory> {
-    let mut plants = Plants::new(rt.alloc())?;
+fn run(rt: &HostRuntime, plants: &mut Plants) -> Result<(), NoMemory> {
     for line in rt.lines(rt.alloc()) {
         let Ok(line) = line else {
             return Err(NoMemory);
         };
         plants.read(line.as_str())?;
     }
-    Ok(plants.out)
+    Ok(())
 }
 
-fn main(rt: HostRuntime) -> ExitCode {
-    let Ok(out) = run(&rt) else {
+fn write(rt: &HostRuntime, plants: &mut Plants) -> ExitCode {
+    if run(rt, plants).is_err() {
         return ExitCode::FAILURE;
-    };
-    match rt.stdout().write_all(out.as_slice()) {
+    }
+    match rt.stdout().write_all(plants.out.as_slice()) {
         Ok(()) => ExitCode::SUCCESS,
         Err(_) => ExitCode::FAILURE,
     }
+}
+
+fn main(rt: HostRuntime) -> ExitCode {
+    let Ok(mut plants) = Plants::new(rt.alloc()) else {
+        return ExitCode::FAILURE;
+    };
+    let code = write(&rt, &mut plants);
+    drop(plants);
+    code
 }

@@ -40,17 +40,19 @@ fn add_verb(out: &mut Vec<u8>, verb: Verb) -> Result<(), NoMemory> {
     Ok(())
 }
 
+fn add_read_words(out: &mut Vec<u8>, words: &Words) -> Result<(), NoMemory> {
+    add_verb(out, words.verb)?;
+    add_flag(out, b" COLD", words.cold)?;
+    out.extend_from_slice(b" [")?;
+    out.extend_from_slice(words.dir.as_slice())?;
+    out.extend_from_slice(b"]")?;
+    Ok(())
+}
+
 /// The words of a line, between blanks.
 pub fn add_words(alloc: Global, out: &mut Vec<u8>, text: &[u8]) -> Result<(), NoMemory> {
     match words_of(alloc, text) {
-        Ok(words) => {
-            add_verb(out, words.verb)?;
-            add_flag(out, b" COLD", words.cold)?;
-            out.extend_from_slice(b" [")?;
-            out.extend_from_slice(words.dir.as_slice())?;
-            out.extend_from_slice(b"]")?;
-            Ok(())
-        }
+        Ok(words) => add_read_words(out, &words),
         Err(refusal) => add_refusal(alloc, out, &refusal),
     }
 }
@@ -77,61 +79,79 @@ pub fn add_meaning(out: &mut Vec<u8>, command: &Command) -> Result<(), NoMemory>
     }
 }
 
+// A command as it is written. Whether it is.
+fn add_written(alloc: Global, out: &mut Vec<u8>, command: &Command) -> Result<bool, NoMemory> {
+    match write_command(alloc, command) {
+        Ok(written) => {
+            out.extend_from_slice(written.as_slice())?;
+            Ok(true)
+        }
+        Err(refusal) => {
+            add_refusal(alloc, out, &refusal)?;
+            Ok(false)
+        }
+    }
+}
+
+fn add_again(alloc: Global, out: &mut Vec<u8>, command: &Command) -> Result<(), NoMemory> {
+    if add_written(alloc, out, command)? {
+        add_meaning(out, command)?;
+    }
+    Ok(())
+}
+
 /// A command as it is written again.
 pub fn add_command(alloc: Global, out: &mut Vec<u8>, text: &[u8]) -> Result<(), NoMemory> {
-    let command = match read_command(alloc, text) {
-        Ok(command) => command,
-        Err(refusal) => return add_refusal(alloc, out, &refusal),
-    };
-    match write_command(alloc, &command) {
-        Ok(written) => out.extend_from_slice(written.as_slice())?,
-        Err(refusal) => return add_refusal(alloc, out, &refusal),
+    match read_command(alloc, text) {
+        Ok(command) => add_again(alloc, out, &command),
+        Err(refusal) => add_refusal(alloc, out, &refusal),
     }
-    add_meaning(out, &command)
 }
 
 // Commands that no operator types, by what they do or by a number out of its range.
-fn untyped(alloc: Global) -> [Command; 14] {
-    let (job, index) = (JobNo(1), OutNo(33));
-    [
-        Command::Restart,
-        Command::Gather,
-        Command::Take { want: 1 },
-        Command::Hold { job: JobNo(0) },
-        Command::Hold {
+fn untyped(alloc: Global, at: u32) -> Command {
+    match at {
+        0 => Command::Restart,
+        1 => Command::Gather,
+        2 => Command::Take { want: 1 },
+        3 => Command::Hold { job: JobNo(0) },
+        4 => Command::Hold {
             job: JobNo(100_000),
         },
-        Command::CancelOut { job, index },
-        Command::SetPrio {
-            job,
+        5 => Command::CancelOut {
+            job: JobNo(1),
+            index: OutNo(33),
+        },
+        6 => Command::SetPrio {
+            job: JobNo(1),
             prio: Prio(16),
         },
-        Command::SetClass {
-            job,
+        7 => Command::SetClass {
+            job: JobNo(1),
             class: Class(b'a'),
         },
-        Command::SetInit {
+        8 => Command::SetInit {
             classes: List::new(alloc),
         },
-        Command::SetPrt {
+        9 => Command::SetPrt {
             classes: List::new(alloc),
             forms: Name8(*b"STD     "),
             lines: 20,
         },
-        Command::Back { lines: 0 },
-        Command::Forward { lines: 10_000_000 },
-        Command::Reset { of: MemberId(0) },
-        Command::Reset { of: MemberId(9) },
-    ]
+        10 => Command::Back { lines: 0 },
+        11 => Command::Forward { lines: 10_000_000 },
+        12 => Command::Reset { of: MemberId(0) },
+        _ => Command::Reset { of: MemberId(9) },
+    }
 }
 
 /// What the writer of commands answers to each of those.
 pub fn add_untyped(alloc: Global, out: &mut Vec<u8>) -> Result<(), NoMemory> {
-    for command in &untyped(alloc) {
-        match write_command(alloc, command) {
-            Ok(text) => out.extend_from_slice(text.as_slice())?,
-            Err(refusal) => add_refusal(alloc, out, &refusal)?,
-        }
+    for at in 0..14 {
+        let command = untyped(alloc, at);
+        let written = add_written(alloc, out, &command);
+        drop(command);
+        written?;
         out.extend_from_slice(b" ")?;
     }
     Ok(())

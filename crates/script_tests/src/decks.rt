@@ -1,8 +1,8 @@
 //! Decks, their conversion, and what their steps do.
 use crate::reading::add_refusal;
 use card_reader::read_deck;
-use jcl_convert::{Dd, DdKind, Program, convert};
-use job_exec::{listing, run_steps};
+use jcl_convert::{Dd, DdKind, Program, Step, convert};
+use job_exec::{Ran, listing, run_steps};
 use mas_types::{Class, JobFields, Lines, List, Name8, NoMemory, OutSpec, Prio};
 use std::alloc::Global;
 use tests_lines::{add_fields, add_flag, add_lines, add_name, add_number};
@@ -69,14 +69,9 @@ fn add_dd(out: &mut Vec<u8>, dd: &Dd) -> Result<(), NoMemory> {
     }
 }
 
-/// The steps of a job, each with its DD statements.
-pub fn add_converted(alloc: Global, out: &mut Vec<u8>, text: &[u8]) -> Result<(), NoMemory> {
-    let steps = match convert(alloc, &JOB, &cards_of(alloc, text)?) {
-        Ok(steps) => steps,
-        Err(refusal) => return add_refusal(alloc, out, &refusal),
-    };
+fn add_steps(out: &mut Vec<u8>, steps: &[Step]) -> Result<(), NoMemory> {
     add_number(out, b"steps ", steps.len() as u64)?;
-    for step in steps.as_slice() {
+    for step in steps {
         match step.program {
             Program::Br14 => out.extend_from_slice(b"; IEFBR14")?,
             Program::Gener => out.extend_from_slice(b"; IEBGENER")?,
@@ -86,6 +81,15 @@ pub fn add_converted(alloc: Global, out: &mut Vec<u8>, text: &[u8]) -> Result<()
         }
     }
     Ok(())
+}
+
+/// The steps of a job, each with its DD statements.
+pub fn add_converted(alloc: Global, out: &mut Vec<u8>, text: &[u8]) -> Result<(), NoMemory> {
+    let cards = cards_of(alloc, text)?;
+    match convert(alloc, &JOB, &cards) {
+        Ok(steps) => add_steps(out, steps.as_slice()),
+        Err(refusal) => add_refusal(alloc, out, &refusal),
+    }
 }
 
 fn add_outputs(out: &mut Vec<u8>, outputs: &List<OutSpec>) -> Result<(), NoMemory> {
@@ -100,15 +104,18 @@ fn add_outputs(out: &mut Vec<u8>, outputs: &List<OutSpec>) -> Result<(), NoMemor
     Ok(())
 }
 
-/// The condition code of a job's steps, and their outputs.
-pub fn add_executed(alloc: Global, out: &mut Vec<u8>, text: &[u8]) -> Result<(), NoMemory> {
-    let steps = match convert(alloc, &JOB, &cards_of(alloc, text)?) {
-        Ok(steps) => steps,
-        Err(refusal) => return add_refusal(alloc, out, &refusal),
-    };
-    let ran = run_steps(alloc, &steps)?;
+fn add_ran(out: &mut Vec<u8>, ran: &Ran) -> Result<(), NoMemory> {
     add_number(out, b"code ", ran.code as u64)?;
     add_outputs(out, &ran.outputs)
+}
+
+/// The condition code of a job's steps, and their outputs.
+pub fn add_executed(alloc: Global, out: &mut Vec<u8>, text: &[u8]) -> Result<(), NoMemory> {
+    let cards = cards_of(alloc, text)?;
+    match convert(alloc, &JOB, &cards) {
+        Ok(steps) => add_ran(out, &run_steps(alloc, &steps)?),
+        Err(refusal) => add_refusal(alloc, out, &refusal),
+    }
 }
 
 /// A listing of one line.

@@ -52,20 +52,27 @@ fn printed(alloc: Global, script: &Script) -> Result<u64, NoMemory> {
     Ok(count)
 }
 
-/// The script of so many decks: how many bytes it has, their checksum, how many steps are read of it, and how many
-/// lines its jobs print; of few decks the script itself.
-pub fn add_generated(alloc: Global, out: &mut Vec<u8>, decks: Option<u64>) -> Result<(), NoMemory> {
-    let decks = decks.unwrap_or(1).min(DECKS_MOST as u64).max(1) as u32;
-    let text = generate(alloc, decks)?;
+// What is told of the script of so many decks.
+fn add_text(alloc: Global, out: &mut Vec<u8>, decks: u32, text: &[u8]) -> Result<(), NoMemory> {
     add_number(out, b"bytes ", text.len() as u64)?;
-    add_number(out, b", checksum ", checksum(text.as_slice()))?;
-    if let Ok(script) = read_script(alloc, text.as_slice(), true, false, false) {
+    add_number(out, b", checksum ", checksum(text))?;
+    if let Ok(script) = read_script(alloc, text, true, false, false) {
         add_number(out, b", steps ", script.steps.len() as u64)?;
         add_number(out, b", printed ", printed(alloc, &script)?)?;
     }
     if decks <= TOLD {
         out.extend_from_slice(b"\n")?;
-        out.extend_from_slice(text.as_slice())?;
+        out.extend_from_slice(text)?;
     }
     Ok(())
+}
+
+/// The script of so many decks: how many bytes it has, their checksum, how many steps are read of it, and how many
+/// lines its jobs print; of few decks the script itself.
+pub fn add_generated(alloc: Global, out: &mut Vec<u8>, decks: Option<u64>) -> Result<(), NoMemory> {
+    let decks = decks.unwrap_or(1).min(DECKS_MOST as u64).max(1) as u32;
+    let text = generate(alloc, decks)?;
+    let told = add_text(alloc, out, decks, text.as_slice());
+    drop(text);
+    told
 }

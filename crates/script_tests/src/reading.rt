@@ -153,6 +153,25 @@ fn add_read(alloc: Global, out: &mut Vec<u8>, kind: &[u8], text: &[u8]) -> Resul
     }
 }
 
+// Tells of a text as a word says, or of a number.
+fn tell(
+    reading: &mut Reading,
+    kind: &[u8],
+    number: Option<u64>,
+    text: &[u8],
+) -> Result<(), NoMemory> {
+    let alloc = reading.alloc;
+    let out = &mut reading.out;
+    match kind {
+        [b's', ..] => add_source(alloc, out, text, None),
+        [b'a', ..] => add_source(alloc, out, b"SYSA DECK\n", number),
+        [b'z', ..] => add_zeros(alloc, out, number),
+        [b'g', b'e', ..] => add_generated(alloc, out, number),
+        [b'u', ..] => add_untyped(alloc, out),
+        kind => add_read(alloc, out, kind, text),
+    }
+}
+
 /// Reads a line as its first word says.
 pub fn read(reading: &mut Reading, line: &str) -> Result<(), NoMemory> {
     let (kind, text) = line.split_once(' ').unwrap_or((line, ""));
@@ -165,17 +184,8 @@ pub fn read(reading: &mut Reading, line: &str) -> Result<(), NoMemory> {
     reading.echo(line)?;
     let text = reading.text(text)?;
     let number = number_at(line, 1);
-    let bytes = text.as_slice();
-    let alloc = reading.alloc;
-    let out = &mut reading.out;
-    match kind.as_bytes() {
-        [b's', ..] => add_source(alloc, out, bytes, None)?,
-        [b'a', ..] => add_source(alloc, out, b"SYSA DECK\n", number)?,
-        [b'z', ..] => add_zeros(alloc, out, number)?,
-        [b'g', b'e', ..] => add_generated(alloc, out, number)?,
-        [b'u', ..] => add_untyped(alloc, out)?,
-        kind => add_read(alloc, out, kind, bytes)?,
-    }
-    reading.out.extend_from_slice(b"\n")?;
-    Ok(())
+    let told = tell(reading, kind.as_bytes(), number, text.as_slice());
+    drop(text);
+    told?;
+    Ok(reading.out.extend_from_slice(b"\n")?)
 }
