@@ -15,7 +15,7 @@ use Rattle.gate_example.specs.Crowds.{IsRest, HaveWritten, StandInOrder}
 use Rattle.gate_example.proofs.Entries.{begun_is}
 
 -- a new gate's pass
-pub rest_first : (es : List Entry) → es ≡ [] → IsRest (ending (opened (opener (diary_facts es)))) 1
+pub rest_first : (es : List Entry) → es ≡ [] → IsRest (ending (opened (opener (λ told. diary_facts es)))) 1
 rest_first es e = record {
   free = refl;
   root = refl;
@@ -35,20 +35,20 @@ rest_next v by r = record {
 }
 
 -- the pass of one member is joined to that of the members above it
-pub written_joined : (r a : View) (by last n : ℕ) (steps : List ℕ) → HaveWritten r (by + 1) last steps → a.cares ≡ single by → begun_of a.last by ≡ written by (take n steps)
+pub written_joined : (r a : View) (by last n : ℕ) (steps : List ℕ) → HaveWritten r (by + 1) last steps → a.cares ≡ single by → begun_of a.bare.last by ≡ written by (take n steps)
     → HaveWritten (joined r a) by last steps
 written_joined r a by last n steps above cares mine m low high = dite (ℕ_discrete m by)
     (λ e. let here : marked_at a.cares m ≡ true = ap (λ l. marked_at l m) cares ∙ (ap (λ k. marked_at (single by) k) e ∙ single_here by) in (
       either_right r.cares a.cares m here,
-      (n, chosen_first [] a.cares a.last.begun r.last.begun m here ∙ (ap (begun_of a.last) e ∙ (mine ∙ ap (λ k. written k (take n steps)) (sym e)))),
+      (n, chosen_first [] a.cares a.bare.last.begun r.bare.last.begun m here ∙ (ap (begun_of a.bare.last) e ∙ (mine ∙ ap (λ k. written k (take n steps)) (sym e)))),
     ))
     (λ ne. let w = above m (omega arith) high in (
       either_left r.cares a.cares m w.0,
-      (w.1.0, chosen_second [] a.cares a.last.begun r.last.begun m (ap (λ l. marked_at l m) cares ∙ single_else by m ne) ∙ w.1.1),
+      (w.1.0, chosen_second [] a.cares a.bare.last.begun r.bare.last.begun m (ap (λ l. marked_at l m) cares ∙ single_else by m ne) ∙ w.1.1),
     ))
 
 -- in the end each member's entries stand in order
-pub stand_in_order : (v : View) (es : List Entry) (members : ℕ) (steps : List ℕ) → members < seats → Meets v (diary_facts es) → HaveWritten v 1 members steps → StandInOrder es members steps
+pub stand_in_order : (v : View) (es : List Entry) (members : ℕ) (steps : List ℕ) → members < seats → Meets v false (diary_facts es) → HaveWritten v 1 members steps → StandInOrder es members steps
 stand_in_order v es members steps few meets wrote m pos high =
     let w = wrote m (omega arith) high in
     (w.1.0, sym (begun_is es m (omega arith)) ∙ (meets.begun m w.0 ∙ w.1.1))

@@ -12,12 +12,12 @@ pub record IsRest (v : View) (next : ℕ) : Type 0 where
   pub root : v.root ≡ true
   pub fresh : (m : ℕ) → next ≤ m → marked_at v.given m ≡ false
   pub cares : (m : ℕ) → next ≤ m → m < seats → marked_at v.cares m ≡ true
-  pub new : (m : ℕ) → next ≤ m → m < seats → begun_of v.last m ≡ []
+  pub new : (m : ℕ) → next ≤ m → m < seats → begun_of v.bare.last m ≡ []
 
 -- the pass knows of each of these members that it wrote the entries of its first steps
 abbrev pub HaveWritten : View → ℕ → ℕ → List ℕ → Type 0
 HaveWritten v first last steps = (m : ℕ) → first ≤ m → m ≤ last → (marked_at v.cares m ≡ true)
-    × ((n : ℕ) × (begun_of v.last m ≡ written m (take n steps)))
+    × ((n : ℕ) × (begun_of v.bare.last m ≡ written m (take n steps)))
 
 -- of each member the entries of its first steps stand in the one history, each once and in order
 abbrev pub StandInOrder : List Entry → ℕ → List ℕ → Type 0

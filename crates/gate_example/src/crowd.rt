@@ -42,7 +42,7 @@ fn split_next(gate: &Gate<Diary>, root: &mut Pass<Diary>, members: u8, by: u8) -
     ensures own { IsPassOf gate.now result }
     ensures free { (view result).has ≡ false }
     ensures by { ((view result).member ≡ by) × (marked_at (view result).cares by ≡ true) × (by < seats) }
-    ensures new { begun_of (view result).last by ≡ [] }
+    ensures new { begun_of (view result).bare.last by ≡ [] }
     ensures cares { (view result).cares ≡ single by }
 {
     gate.split(root, MemberId(by))

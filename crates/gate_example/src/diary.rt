@@ -15,7 +15,9 @@ pub struct Diary {
 impl Kept for Diary {
     ghost use Rattle.gate_example.specs.Writing.{diary_facts};
 
-    ghost facts = { λ d. diary_facts d.entries };
+    ghost tells = { Unit {0} };
+
+    ghost facts = { λ d told. diary_facts d.entries };
 
     fn kept_count(&self) -> u64 {
         self.entries.len() as u64

@@ -27,8 +27,8 @@ pub fn write_one<R: Wait>(
     ensures free { (view pass.new).has ≡ false }
     ensures same { IsSame (view pass.old) (view pass.new) }
     ensures written { MatchBool result
-        (begun_of (view pass.new).last by ≡ begun_of (view pass.old).last by ++ entry by step ∷ [])
-        (begun_of (view pass.new).last by ≡ begun_of (view pass.old).last by) }
+        (begun_of (view pass.new).bare.last by ≡ begun_of (view pass.old).bare.last by ++ entry by step ∷ [])
+        (begun_of (view pass.new).bare.last by ≡ begun_of (view pass.old).bare.last by) }
 {
     let mut diary = gate.turn(rt, pass);
     let entry = Entry {
@@ -60,12 +60,12 @@ pub fn write_all<R: Wait>(
     requires own { IsPassOf gate.now pass }
     requires free { (view pass).has ≡ false }
     requires by { ((view pass).member ≡ by) × (marked_at (view pass).cares by ≡ true) × (by < seats) }
-    requires new { begun_of (view pass).last by ≡ [] }
+    requires new { begun_of (view pass).bare.last by ≡ [] }
     ensures own { IsPassOf gate.now result.0 }
     ensures free { (view result.0).has ≡ false }
     ensures same { IsSame (view pass) (view result.0) }
     ensures count { result.1 ≤ length steps.now }
-    ensures written { begun_of (view result.0).last by ≡ written by (take result.1 steps.now) }
+    ensures written { begun_of (view result.0).bare.last by ≡ written by (take result.1 steps.now) }
 {
     let mut pass = pass;
     let mut next = 0;

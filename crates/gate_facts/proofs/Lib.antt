@@ -1,3 +1,4 @@
 pub mod Lists
 pub mod Values
 pub mod Turns
+pub mod Losses

@@ -27,7 +27,7 @@ others_know m other cares y was is differ apart may k =
           (λ st. true_false (stopped_of is other) (ap (λ (z : ℕ). stopped_of is z) (sym same) ∙ st) up)
           (each_at (λ (z : Entry). (z.by.0 ≡ m) ⊎ (stopped_of is z.by.0 ≡ true)) may.kept.0 t.1.0 e may.kept.2 t.1.1))
           (at_append was.kept may.kept.0 j e (ap (λ (l : List Entry). get_elem? l j) (sym may.kept.1) ∙ atj));
-      marks = later_trans y.cares is.marks was.marks y.marks may.marks (λ j c. may.other_stops j (not_mine j c)) k.marks;
+      marks = later_trans y.cares is.marks was.marks y.marks may.marks (λ j c. may.other_stops j (not_mine j c)) (λ op d. may.other_loses (not_mine 0 op) d) k.marks;
     }
 
 pub left_known : WhatIsLeftIsKnown

@@ -1,3 +1,4 @@
 pub mod Values
 pub mod Memory
 pub mod Laws
+pub mod Ways

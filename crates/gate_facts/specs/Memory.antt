@@ -8,7 +8,7 @@ use Rattle.mas_types.specs.Limits.{members_most}
 use Rattle.gate_facts.specs.declared.facts.Facts.{Facts}
 use Rattle.gate_facts.specs.declared.desks.Desk.{Desk}
 use Rattle.gate_facts.specs.declared.marks.Marks.{Marks}
-use Rattle.gate_facts.specs.Values.{StartsWith, marked_at, number_at, begun_of, stopped_of, desk_of, lines_of, Synced, Later}
+use Rattle.gate_facts.specs.Values.{StartsWith, marked_at, number_at, begun_of, stopped_of, desk_of, lines_of, Synced, LostOnce, Later}
 
 -- the members with member 0
 abbrev pub seats : ℕ
@@ -67,6 +67,7 @@ pub record MayGiveBack (m : ℕ) (cares : List Bool) (was is : Facts) : Type 0 w
   pub lines : (k : ℕ) → marked_at cares k ≡ false → lines_of is k ≡ lines_of was k
   pub desks : (k : ℕ) → k ≢ m → stopped_of is k ≡ false → Synced (desk_of is k) (desk_of was k)
   pub other_stops : (k : ℕ) → marked_at cares k ≡ false → number_at is.marks.stops k ≡ number_at was.marks.stops k
+  pub other_loses : marked_at cares 0 ≡ false → (d : ℕ) → LostOnce is.marks was.marks d
   pub marks : Later [] is.marks was.marks
 
 -- WHAT IS LEFT: what the member m remembers once it gave back this value

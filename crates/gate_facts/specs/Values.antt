@@ -59,14 +59,37 @@ pub record Synced (d e : Desk) : Type 0 where
   pub told : d.told ≡ e.told
   pub groups : SyncedGroups d.groups e.groups
 
--- The first marks are as late as the second, or later: no count fell, what was lost is lost, and a device was lost by
--- command at most once more, as its copy was lost since. Of the members that are marked the stops are the same
-pub record Later (stops_of : List Bool) (a b : Marks) : Type 0 where
+-- WHAT ONLY GROWS
+
+-- the lines of the operator, member 0, are this one's, so it plays them
+abbrev pub PlaysOperator : List Bool → Type 0
+PlaysOperator cares = marked_at cares 0 ≡ true
+
+-- the device was lost by call as often as before, or once more, and its copy counts as lost since
+abbrev pub LostOnce : Marks → Marks → ℕ → Type 0
+LostOnce a b d = (number_at a.loses d ≡ number_at b.loses d)
+    ⊎ ((number_at a.loses d ≡ number_at b.loses d + 1) × (marked_at a.lost d ≡ true) × (marked_at b.lost d ≡ false))
+
+-- the device was lost by call as often as before, or once more, and its copy counts as lost
+abbrev pub LostAtMostOnce : Marks → Marks → ℕ → Type 0
+LostAtMostOnce a b d = (number_at a.loses d ≡ number_at b.loses d)
+    ⊎ ((number_at a.loses d ≡ number_at b.loses d + 1) × (marked_at a.lost d ≡ true))
+
+-- the device was lost by call as often as before, or more often, and its copy counts as lost
+abbrev pub LostAgain : Marks → Marks → ℕ → Type 0
+LostAgain a b d = (number_at b.loses d ≤ number_at a.loses d)
+    × (marked_at a.lost d ≡ false → number_at a.loses d ≡ number_at b.loses d)
+
+-- The first marks are as late as the second, or later: no count fell, and what was lost is lost. Of the members that
+-- are marked the stops are the same. No device of a copy that counts as alive was lost by a call. One of a copy that
+-- counts as lost may have been lost again by a line of the operator; whoever plays these lines knows that it was lost
+-- at most once more.
+pub record Later (cares : List Bool) (a b : Marks) : Type 0 where
   pub since : a.since ≡ b.since
   pub arms : a.arms ≡ b.arms
-  pub own_stops : (m : ℕ) → marked_at stops_of m ≡ true → number_at a.stops m ≡ number_at b.stops m
+  pub own_stops : (m : ℕ) → marked_at cares m ≡ true → number_at a.stops m ≡ number_at b.stops m
   pub stops : (m : ℕ) → number_at b.stops m ≤ number_at a.stops m
   pub faults : (k : ℕ) → number_at b.faults k ≤ number_at a.faults k
   pub lost : (d : ℕ) → marked_at b.lost d ≡ true → marked_at a.lost d ≡ true
-  pub loses : (d : ℕ) → (number_at a.loses d ≡ number_at b.loses d)
-      ⊎ ((number_at a.loses d ≡ number_at b.loses d + 1) × (marked_at a.lost d ≡ true) × (marked_at b.lost d ≡ false))
+  pub own_loses : PlaysOperator cares → (d : ℕ) → LostAtMostOnce a b d
+  pub loses : (d : ℕ) → LostAgain a b d

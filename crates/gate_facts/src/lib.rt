@@ -10,5 +10,5 @@ mod marks;
 
 pub use desks::{Desk, Group, Hold};
 pub use facts::Facts;
-pub use laws::law_of_turns;
+pub use laws::{law_of_losses, law_of_turns};
 pub use marks::Marks;

@@ -46,7 +46,8 @@ marked x view by part result acts told = record {
   stops = λ k. at_map (λ a b. b ≤ a) (λ (m : MemberId). view.stops m.0) (λ (m : MemberId). x.view.stops m.0) 0 (omega arith) (λ m. acts.goes.stops m.0) all_seats k;
   faults = λ k. at_map (λ a b. b ≤ a) view.faults x.view.faults 0 (omega arith) acts.goes.faults parts k;
   lost = λ d e. e;
-  loses = λ d. inl (at_map (λ a b. a ≡ b) view.loses x.view.loses 0 refl acts.loses devices d);
+  own_loses = λ op d. true_false (marked_at [] 0) op refl;
+  loses = λ d. let e = at_map (λ a b. a ≡ b) view.loses x.view.loses 0 refl acts.loses devices d in ((omega arith), λ alive. e);
 }
 
 -- what an act leaves of the content
@@ -55,10 +56,11 @@ pub record Spares (told : Bool) (x : Shown) (view : View) (by : ℕ) : Type 0 wh
   pub pages : pages_had told (with_view x view) ≡ pages_had told x
   pub groups : (k : MemberId) → k.0 ≢ by → SyncedGroups (groups_of told (with_view x view) k) (groups_of told x k)
 
-pub counted : (x : Shown) (view : View) (printed : List ℕ) (by : MemberId) (part : Part) (result : Act) → Acts by.0 part x.view view result → (told : Bool) (cares : List Bool)
-    → marked_at cares by.0 ≡ true → Spares told x view by.0 → ((m : MemberId) → m.0 ≢ by.0 → counts_of printed m ≡ counts_of x.printed m)
+-- an act of one member, in the pass of another, or of the operator
+pub counted_for : (x : Shown) (view : View) (printed : List ℕ) (actor : ℕ) (by : MemberId) (part : Part) (result : Act) → Acts actor part x.view view result → (told : Bool) (cares : List Bool)
+    → marked_at cares by.0 ≡ true → ((k : ℕ) → marked_at cares k ≡ false → view.stops k ≡ x.view.stops k) → Spares told x view by.0 → ((m : MemberId) → m.0 ≢ by.0 → counts_of printed m ≡ counts_of x.printed m)
     → MayGiveBack by.0 cares (facts_of told x) (facts_of told (record x { view = view; printed = printed }))
-counted x view printed by part result acts told cares own spares counts = record {
+counted_for x view printed actor by part result acts told cares own stops spares counts = record {
   base = refl;
   kept = ([], sym (append-nil (facts_of told x).kept), tt);
   still_stopped = λ k e. e;
@@ -71,8 +73,9 @@ counted x view printed by part result acts told cares own spares counts = record
     told = ap (told_by s) (spares.lines s (other k s ne at));
     groups = spares.groups s (other k s ne at);
   });
-  other_stops = λ k e. each_seat (λ a b. a ≡ b) (λ (m : MemberId). view.stops m.0) (λ (m : MemberId). x.view.stops m.0) 0 refl 0 9 k (λ s at lt. acts.no_other_stop s.0 (inl (other k s (not_own k e) at)));
-  marks = marked x view by.0 part result acts told;
+  other_stops = λ k e. each_seat (λ a b. a ≡ b) (λ (m : MemberId). view.stops m.0) (λ (m : MemberId). x.view.stops m.0) 0 refl 0 9 k (λ s at lt. stops s.0 (ap (marked_at cares) (here k s at) ∙ e));
+  other_loses = λ none d. inl (at_map (λ a b. a ≡ b) view.loses x.view.loses 0 refl acts.loses devices d);
+  marks = marked x view actor part result acts told;
 } where
   lines_at : Shown → MemberId → List (List ℕ)
   lines_at y m = lines_by y.base.config.members m.0 (said_of told y)
@@ -80,10 +83,17 @@ counted x view printed by part result acts told cares own spares counts = record
   not_own : (k : ℕ) → marked_at cares k ≡ false → k ≢ by.0
   not_own k e same = true_false (marked_at cares k) (ap (marked_at cares) same ∙ own) e
 
+  here : (k : ℕ) (s : MemberId) → s.0 ≡ 0 + k → s.0 ≡ k
+  here k s at = omega (arith, at)
+
   other : (k : ℕ) (s : MemberId) → k ≢ by.0 → s.0 ≡ 0 + k → s.0 ≢ by.0
-  other k s ne at same = ne (zero_on k ∙ (sym at ∙ same)) where
-    zero_on : (n : ℕ) → n ≡ 0 + n
-    zero_on n = omega arith
+  other k s ne at same = ne (sym (here k s at) ∙ same)
+
+pub counted : (x : Shown) (view : View) (printed : List ℕ) (by : MemberId) (part : Part) (result : Act) → Acts by.0 part x.view view result → (told : Bool) (cares : List Bool)
+    → marked_at cares by.0 ≡ true → Spares told x view by.0 → ((m : MemberId) → m.0 ≢ by.0 → counts_of printed m ≡ counts_of x.printed m)
+    → MayGiveBack by.0 cares (facts_of told x) (facts_of told (record x { view = view; printed = printed }))
+counted x view printed by part result acts told cares own spares counts =
+    counted_for x view printed by.0 by part result acts told cares own (λ k e. acts.no_other_stop k (inl (λ (same : k ≡ by.0). true_false (marked_at cares k) (ap (marked_at cares) same ∙ own) e))) spares counts
 
 pub acted : (x : Shown) (view : View) (by : MemberId) (part : Part) (result : Act) → Acts by.0 part x.view view result → (told : Bool) (cares : List Bool)
     → marked_at cares by.0 ≡ true → Spares told x view by.0 → MayGiveBack by.0 cares (facts_of told x) (facts_of told (with_view x view))
@@ -126,7 +136,7 @@ after_said members k n line was is Halted le ne said = ⊎_elim
     said
 
 -- what was said before a moment is past
-said_lines : (x : Shown) (view : View) (by : ℕ) (line : List ℕ) (result : Act) (k : ℕ) → Goes x.view view → Says line x.view view result
+pub said_lines : (x : Shown) (view : View) (by : ℕ) (line : List ℕ) (result : Act) (k : ℕ) → Goes x.view view → Says line x.view view result
     → HasBegun x
     → speaker x.base.config.members line ≢ k
     → lines_by x.base.config.members k (said_since x.since view) ≡ lines_by x.base.config.members k (said_since x.since x.view)
@@ -135,7 +145,7 @@ said_lines x view by line result k goes says before ne =
     ∙ after_said x.base.config.members k (length (x.view.world x.since).console) line (x.view.world x.view.now).console (view.world view.now).console result
     before.1 ne says.console
 
-said_spares : (x : Shown) (view : View) (by : MemberId) (line : List ℕ) (result : Act) (told : Bool) → Goes x.view view
+pub said_spares : (x : Shown) (view : View) (by : MemberId) (line : List ℕ) (result : Act) (told : Bool) → Goes x.view view
     → (told ≡ true → Says line x.view view result)
     → (told ≡ true → HasBegun x)
     → speaker x.base.config.members line ≡ by.0 → Spares told x view by.0

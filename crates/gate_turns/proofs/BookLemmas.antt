@@ -80,7 +80,7 @@ free_lock false true y z a b c e f = absurd (true_false true refl e)
 free_lock false false true z a b c e f = absurd (true_false true refl f)
 free_lock false false false z a b c e f = refl
 
-tries_cases : (b : Book) (m : MemberId) (inner : Bool) (P : Book → Type 0) → P b → P (ticked b inner) → (b.holder.0 ≡ 0 → P (granted (ticked b inner) m)) → P (after_try b m inner)
+pub tries_cases : (b : Book) (m : MemberId) (inner : Bool) (P : Book → Type 0) → P b → P (ticked b inner) → (b.holder.0 ≡ 0 → P (granted (ticked b inner) m)) → P (after_try b m inner)
 tries_cases b m inner P same tick grant =
     elim (is_stopped b m || is_holder b m) as (λ z. (is_stopped b m || is_holder b m) ≡ z → P (if z then b else if is_some (try_refusal b m inner) then ticked b inner else granted (ticked b inner) m)) [
       | true ↦ λ e. same

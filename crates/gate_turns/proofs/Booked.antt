@@ -1,5 +1,5 @@
 -- A value whose book and whose reserved batch alone are changed may be given back.
-use Rattle.std.proofs.Common.{◌≡◌, ◌≢◌, ℕ, ◌+◌, Bool, true, false, List, [], ◌∷◌, refl, sym, ap, ◌∙◌, arith}
+use Rattle.std.proofs.Common.{◌≡◌, ◌≢◌, ℕ, ◌+◌, Bool, true, false, List, [], ◌∷◌, refl, sym, ap, ◌∙◌, inl, arith}
 use Rattle.std.proofs.lemmas.List.{append-nil}
 use Rattle.std.proofs.lemmas.Bool.{ne_eqb}
 use Rattle.std.proofs.lemmas.List.Elements.{All-head}
@@ -62,6 +62,7 @@ booked x b r m leaves told cares = record {
       let shown : shows_stopped b s ≡ false = sym (seat_at (shows_stopped b) false 0 9 k s lt e) ∙ up in
       desk_same told x b r s (same_hold (pages_had told x) x.current x.first x.second (has_lock b s) (has_lock x.book s) r x.reserved (leaves.lock s other shown) (leaves.batch s other shown)));
   other_stops = λ k e. refl;
+  other_loses = λ none d. inl refl;
   marks = later_refl [] (marks_of x);
 } where
   zero_on : (k : ℕ) → 0 + k ≡ k

@@ -35,7 +35,7 @@ prints_leave by Failed printed m ne = refl
 prints_leave by Halted printed m ne = refl
 
 -- the console and the devices stay as they are
-same_lines : (x : Shown) (view : View) (by k : ℕ) (line : List ℕ) (result : Act) → Goes x.view view → Prints by line x.view view result → HasBegun x
+pub same_lines : (x : Shown) (view : View) (by k : ℕ) (line : List ℕ) (result : Act) → Goes x.view view → Prints by line x.view view result → HasBegun x
     → lines_by x.base.config.members k (said_since x.since view) ≡ lines_by x.base.config.members k (said_since x.since x.view)
 same_lines x view by k line result goes prints before =
     ap (λ (w : World). lines_by x.base.config.members k (whole_texts (drop (length w.console) (view.world view.now).console))) (goes.past x.since before.0)

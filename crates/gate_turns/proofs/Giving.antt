@@ -6,7 +6,7 @@ use Rattle.gate_facts.specs.declared.facts.Facts.{Facts}
 use Rattle.gate_facts.specs.Values.{marked_at, stopped_of, desk_of}
 use Rattle.gate_facts.specs.Memory.{EachOf, MayGiveBack}
 use Rattle.gate_facts.proofs.Lists.{true_false, not_true}
-use Rattle.gate_facts.proofs.Values.{synced_refl, synced_trans, later_refl, later_trans}
+use Rattle.gate_facts.proofs.Values.{synced_refl, synced_trans, once_trans, later_refl, later_trans}
 
 pub may_itself : (m : ℕ) (cares : List Bool) (is : Facts) → MayGiveBack m cares is is
 may_itself m cares is = record {
@@ -18,6 +18,7 @@ may_itself m cares is = record {
   lines = λ k e. refl;
   desks = λ k ne up. synced_refl (desk_of is k);
   other_stops = λ k e. refl;
+  other_loses = λ none d. inl refl;
   marks = later_refl [] is.marks;
 }
 
@@ -45,5 +46,6 @@ may_go_on m cares was then_ is a b = record {
   lines = λ k e. b.lines k e ∙ a.lines k e;
   desks = λ k ne up. synced_trans (desk_of is k) (desk_of then_ k) (desk_of was k) (b.desks k ne up) (a.desks k ne (not_true (stopped_of then_ k) (λ t. true_false (stopped_of is k) (b.still_stopped k t) up)));
   other_stops = λ k e. b.other_stops k e ∙ a.other_stops k e;
-  marks = later_trans [] is.marks then_.marks was.marks b.marks (λ k e. true_false (marked_at [] k) e refl) a.marks;
+  other_loses = λ none d. once_trans is.marks then_.marks was.marks d (b.marks.lost d) (a.marks.lost d) (b.other_loses none d) (a.other_loses none d);
+  marks = later_trans [] is.marks then_.marks was.marks b.marks (λ k e. true_false (marked_at [] k) e refl) (λ op d. true_false (marked_at [] 0) op refl) a.marks;
 }

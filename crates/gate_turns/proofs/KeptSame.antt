@@ -90,6 +90,7 @@ keeps_may x by now entries told cares reserved own none ends holds same mine =
         groups = calm told s (λ t. ap (run x.base) more ∙ same t);
       });
       other_stops = λ k e. refl;
+      other_loses = λ none d. inl refl;
       marks = later_refl [] (marks_of x);
     } where
       not_own : (k : ℕ) → marked_at cares k ≡ false → k ≢ by.0

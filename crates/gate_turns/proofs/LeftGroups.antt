@@ -53,7 +53,7 @@ module _ (h m : MemberId) (is_reset : MemberId → Bool) (apart : same_member h 
       ap (λ z. if z then first ∷ groups_from h (at + 1) ys else groups_from h (at + 1) ys) (same_held x y all.0)
       ∙ ap (λ (l : List GroupNo). if is_members h x then first ∷ l else l) (same_from (at + 1) xs ys all.1)
 
-left_run : (h : MemberId) (Q : Queue) (es : List Entry) → All (Passes h) es → groups_from h 0 (run Q es).owners ≡ groups_from h 0 Q.owners
+pub left_run : (h : MemberId) (Q : Queue) (es : List Entry) → All (Passes h) es → groups_from h 0 (run Q es).owners ≡ groups_from h 0 Q.owners
 left_run h Q [] all = refl
 left_run h Q (e ∷ es) all =
     let one = All-head (Passes h) e es all in

@@ -12,3 +12,7 @@ pub mod EntrySet
 pub mod KeptSame
 pub mod Called
 pub mod LeftGroups
+pub mod Lost
+pub mod Quiet
+pub mod Actors
+pub mod Busy

@@ -125,7 +125,7 @@ same_pages reads reached a b d e one two = λ i. one_of (if_good a (if_at_level 
 
 -- an act on a spool volume changes nothing of what was said, nor of the copies
 module _ (x : Shown) (view : View) (volume : ℕ) (goes : Goes x.view view) (begun : HasBegun x) (only : OnDevice (Spool volume) x.view view) where
-  said_same : said_since x.since view ≡ said_since x.since x.view
+  pub said_same : said_since x.since view ≡ said_since x.since x.view
   said_same = λ i. map (λ l. l.text) (filter (λ l. l.whole) (drop (length (goes.past x.since begun.0 i).console) (only.console i)))
 
   on_spool : (by : ℕ) → ((k : MemberId) → k.0 ≢ by → SyncedGroups (groups_on (disk_now view) x.base.config.groups k (run x.base (kept_all x.batches)).owners) (groups_on (disk_now x.view) x.base.config.groups k (run x.base (kept_all x.batches)).owners))

@@ -43,7 +43,7 @@ not_it : (p : Bool) → not p ≡ true → p ≡ false
 not_it true e = absurd (let f : false ≡ true = e in cc)
 not_it false e = refl
 
-part_one : (by : ℕ) (w rest : List ℕ) → lacks by w ≡ true → parted_by by (w ++ by ∷ rest) ≡ w ∷ parted_by by rest
+pub part_one : (by : ℕ) (w rest : List ℕ) → lacks by w ≡ true → parted_by by (w ++ by ∷ rest) ≡ w ∷ parted_by by rest
 part_one by [] rest l = ap (λ z. if z then [] ∷ parted_by by rest else with_first by (parted_by by rest)) (eq-eqb by by refl)
 part_one by (b ∷ w) rest l =
     let h = both (not (b == by)) (lacks by w) l in
@@ -125,11 +125,11 @@ by_number : (P : ℕ → Type 0) (n : ℕ) → P 0 → ((n == 0) ≡ false → P
 by_number P zero none some = none
 by_number P (suc n) none some = some (ne_eqb (suc n) 0 (λ e. absurd (omega arith)))
 
-word_lacks : (n : ℕ) → lacks 32 (member_word (record { 0 = n })) ≡ true
+pub word_lacks : (n : ℕ) → lacks 32 (member_word (record { 0 = n })) ≡ true
 word_lacks n = by_number (λ k. lacks 32 (member_word (record { 0 = k })) ≡ true) n refl
     (λ some. ap (lacks 32) (named_word n some) ∙ ap (λ z. not z && true) (ne_eqb (n + 64) 32 (λ e. absurd (omega arith))))
 
-member_read : (n : ℕ) → member_in (member_word (record { 0 = n })) ≡ record { 0 = n }
+pub member_read : (n : ℕ) → member_in (member_word (record { 0 = n })) ≡ record { 0 = n }
 member_read n = by_number (λ k. member_in (member_word (record { 0 = k })) ≡ record { 0 = k }) n refl
     (λ some. ap member_in (named_word n some) ∙ (let e : (n + 64) - 64 ≡ n = omega arith in λ i. record { 0 = e i }))
 

@@ -24,7 +24,7 @@ use Rattle.gate_facts.specs.Values.{marked_at}
 use Rattle.gate_facts.specs.Memory.{MayGiveBack}
 use Rattle.mas_complex.specs.CallCounts.{KeepsCounts}
 use Rattle.mas_complex.specs.Elsewhere.{OnCopies}
-use Rattle.mas_complex.specs.Journals.{kept_all, entries_reserved, begun, fated, with_last, IsPlace, EndsInPlace}
+use Rattle.mas_complex.specs.Journals.{kept_all, entries_reserved, begun, fated, with_last, IsPlace, EndsInPlace, HasPlace}
 use Rattle.mas_complex.specs.Meaning.{run, is_telling, Closes}
 use Rattle.mas_complex.specs.Paper.{counts_of, printed_after, printed_by}
 use Rattle.mas_complex.specs.Spool.{IsHeldBy, device_of, ReadsGroup, WritesGroup}
@@ -33,7 +33,7 @@ use Rattle.mas_complex.specs.Locking.{IsOwn, reserved_after_stop}
 use Rattle.mas_complex.specs.Seen.{IsFatedBy}
 use Rattle.gate_turns.specs.Desks.{group_on, groups_from}
 use Rattle.gate_turns.specs.Seats.{shows_stopped}
-use Rattle.mas_complex.specs.Parts.{Shown}
+use Rattle.mas_complex.specs.Parts.{Shown, batches_left}
 use Rattle.gate_turns.specs.Words.{speaker}
 use Rattle.gate_turns.specs.Told.{step_told, IsShort}
 use Rattle.gate_turns.specs.Shared.{facts_of}
@@ -262,6 +262,16 @@ ReservesMayGoBack = (x : Shown) (by : MemberId) (batches : List Batch) (reserved
     (cares : List Bool) →
     x.book.holder ≡ by → HasGrown x.batches batches
     → MayGiveBack by.0 cares (facts_of told x) (facts_of told (with_reserved x batches reserved))
+
+-- the value after what was reserved is given up, and an unused place with it
+abbrev pub unreserved : Bool → Shown → Shown
+unreserved placed x = with_reserved x (batches_left placed x.current x.batches) None
+
+-- the value may go back after its member gave up what it had reserved
+abbrev pub GivesUpMayGoBack : Type 0
+GivesUpMayGoBack = (x : Shown) (by : MemberId) (placed told : Bool) (cares : List Bool) →
+    x.book.holder ≡ by → ∥ HasPlace placed x.batches ∥₁
+    → MayGiveBack by.0 cares (facts_of told x) (facts_of told (unreserved placed x))
 
 -- a group counts as unsynced at a desk unless no byte of its page is
 abbrev pub UnsyncedAsTheyAre : Type 0

@@ -6,4 +6,8 @@ pub mod Marked
 pub mod Shared
 pub mod Turning
 pub mod Laws
+pub mod Losses
+pub mod Untouched
+pub mod Actors
+pub mod Busy
 pub mod Examples

@@ -1,4 +1,5 @@
 pub mod Places
 pub mod Joining
+pub mod Ways
 pub mod Shapes
 pub mod Steps

@@ -1,10 +1,10 @@
 //! The calls of the gate. The table under it has two words and one slot: the turn word, which is one more than the
 //! member that has the turn, or 0; the number of entries that are kept; and the value, while nobody has it.
-ghost use Rattle.std.specs.Prelude.{◌≡◌, ℕ, ◌+◌, ◌<◌, ◌≤◌, ◌++◌, true, false, List, IfOk, IfErr};
-ghost use Rattle.mas_types.specs.declared.journals.Entry.{Entry};
+ghost use Rattle.std.specs.Prelude.{◌≡◌, ℕ, ◌+◌, ◌<◌, ◌≤◌, Bool, true, false, IfOk, IfErr};
 ghost use Rattle.gate_facts.specs.Values.{marked_at};
 ghost use Rattle.gate_facts.specs.Memory.{IsLeft};
-ghost use Rattle.member_gate.specs.Views.{Meets, MayEnd, MayBegin, HasAll, mine, memory_in, refused, taking, counting, ending, opener, opened, giving, given_to, joined};
+ghost use Rattle.gate_facts.specs.Ways.{EachWay};
+ghost use Rattle.member_gate.specs.Views.{Finds, MayLeave, MineGrows, MayBegin, memory_in, refused, taking, counting, ending, opener, opened, giving, given_to, joined};
 ghost use Rattle.member_gate.specs.Passes.{view, IsPassOf, members_of};
 
 use crate::kept::Kept;
@@ -21,7 +21,7 @@ impl<V: Kept> Gate<V> {
     /// A gate with this value, for so many members, and the pass of member 0, from which the others are split. The
     /// value is handed back when out of memory.
     pub fn make(alloc: Global, value: V, members: u8) -> Result<(Gate<V>, Pass<V>), V>
-        requires value { MayBegin (V.facts value) }
+        requires value { EachWay V.tells (λ told. MayBegin (V.facts value told)) }
         requires few { members ≤ MEMBERS_MOST }
         ensures ok { IfOk result (λ r. IsPassOf r.0 r.1 × (members_of r.0 ≡ members)
             × (view r.1 ≡ ending (opened (opener (V.facts value))))) }
@@ -75,7 +75,7 @@ impl<V: Kept> Gate<V> {
         requires own { IsPassOf self.now pass.old }
         requires free { (view pass.old).has ≡ false }
         ensures same { IsPassOf self.now pass.new }
-        ensures ok { IfOk result (λ x. Meets (view pass.old) (V.facts x) × HasAll (view pass.old) (V.facts x)
+        ensures ok { IfOk result (λ x. Finds V.tells (view pass.old) (V.facts x)
             × (view pass.new ≡ taking (view pass.old) ((view pass.old).tries + 1) (V.facts x))) }
         ensures err { IfErr result (λ h. view pass.new ≡ refused (view pass.old) (h.0.0 + 1)) }
     {
@@ -99,7 +99,7 @@ impl<V: Kept> Gate<V> {
         requires own { IsPassOf self.now pass.old }
         requires free { (view pass.old).has ≡ false }
         ensures same { IsPassOf self.now pass.new }
-        ensures value { Meets (view pass.old) (V.facts result) × HasAll (view pass.old) (V.facts result) }
+        ensures value { Finds V.tells (view pass.old) (V.facts result) }
         ensures view { (n : ℕ) × (view pass.new ≡ taking (view pass.old) n (V.facts result)) }
     {
         for _ in rt.forever() {
@@ -115,12 +115,12 @@ impl<V: Kept> Gate<V> {
     pub fn end_turn(&self, pass: &mut Pass<V>, value: V)
         requires own { IsPassOf self.now pass.old }
         requires turn { (view pass.old).has ≡ true }
-        requires value { MayEnd (view pass.old) (V.facts value) }
+        requires value { MayLeave V.tells (view pass.old) (V.facts value) }
         ensures same { IsPassOf self.now pass.new }
         ensures view { view pass.new ≡ ending (counting (view pass.old) (V.facts value)) }
-        ensures left { IsLeft (view pass.new).member (memory_in (view pass.new)) (V.facts value) }
-        ensures mine { (more : List Entry) → (V.facts value).kept ≡ (view pass.old).out.kept ++ more
-            → mine (view pass.new) ≡ mine (view pass.old) ++ more }
+        ensures left { (told : Bool)
+            → IsLeft (view pass.new).member (memory_in (view pass.new) told) (V.facts value told) }
+        ensures mine { MineGrows V.tells (view pass.old) (view pass.new) (V.facts value) }
     {
         self.count_up::<Brand>(pass, &value);
         match self.table.shared.exchange(&mut pass.seat, 0, Some(value)) {
@@ -135,11 +135,10 @@ impl<V: Kept> Gate<V> {
         requires own { IsPassOf self.now pass.old }
         requires turn { (view pass.old).has ≡ true }
         requires whose { V.facts value.now ≡ J.whose }
-        requires value { MayEnd (view pass.old) (V.facts value.now) }
+        requires value { MayLeave V.tells (view pass.old) (V.facts value.now) }
         ensures own { IsPassOf self.now pass.new }
         ensures view { view pass.new ≡ counting (view pass.old) (V.facts value.now) }
-        ensures mine { (more : List Entry) → (V.facts value.now).kept ≡ (view pass.old).out.kept ++ more
-            → mine (view pass.new) ≡ mine (view pass.old) ++ more }
+        ensures mine { MineGrows V.tells (view pass.old) (view pass.new) (V.facts value.now) }
     {
         let count = value.kept_count();
         self.table
@@ -164,7 +163,7 @@ impl<V: Kept> Gate<V> {
         V: Drop,
         requires own { IsPassOf self pass }
         requires free { (view pass).has ≡ false }
-        ensures value { Meets (view pass) (V.facts result) × HasAll (view pass) (V.facts result) }
+        ensures value { Finds V.tells (view pass) (V.facts result) }
     {
         self.turn(rt, &mut pass)
     }

@@ -12,7 +12,7 @@ use std::marker::{Brand, PhantomData};
 pub struct Lock;
 
 impl<V: Kept> TableRule<Option<V>, View, V> for Lock {
-    ghost holds = { λ _. Ruled V.facts };
+    ghost holds = { λ _. Ruled V.tells V.facts };
 
     ghost first = { λ x. opener (V.facts x) };
 }
@@ -20,20 +20,21 @@ impl<V: Kept> TableRule<Option<V>, View, V> for Lock {
 pub(crate) struct Tries;
 
 impl<V: Kept> Play<Option<V>, View> for Tries {
-    ghost then = { tried V.facts };
+    ghost then = { tried V.tells V.facts };
 }
 
 /// The value that is counted. Each call picks it.
 pub(crate) trait Whose {
+    ghost use Rattle.std.specs.Prelude.{Bool};
     ghost use Rattle.gate_facts.specs.declared.facts.Facts.{Facts};
 
-    ghost whose: { Facts };
+    ghost whose: { Bool → Facts };
 }
 
 impl Whose for Brand {
     ghost use Rattle.member_gate.specs.Views.{nothing};
 
-    ghost whose = { nothing };
+    ghost whose = { λ told. nothing };
 }
 
 pub(crate) struct Counts<J> {
@@ -41,19 +42,19 @@ pub(crate) struct Counts<J> {
 }
 
 impl<V: Kept, J: Whose> Play<Option<V>, View> for Counts<J> {
-    ghost then = { counted V.facts J.whose };
+    ghost then = { counted V.tells V.facts J.whose };
 }
 
 pub(crate) struct Ends;
 
 impl<V: Kept> Play<Option<V>, View> for Ends {
-    ghost then = { ended V.facts };
+    ghost then = { ended V.tells V.facts };
 }
 
 pub(crate) struct Begins;
 
 impl<V: Kept> Play<Option<V>, View> for Begins {
-    ghost then = { began V.facts };
+    ghost then = { began V.tells V.facts };
 }
 
 /// The member for which a pass is split. Each call picks it.

@@ -11,7 +11,7 @@ returns-clause-written g t c =
     let a = view c.join-mine.result.0.0 in
     let r = view c.join-mine.result.1 in
     let same : IsSame (view c.split_next-pass.result) a = search rules in
-    let wrote : begun_of a.last c.args.by ≡ written c.args.by (take c.join-mine.result.0.1 c.args.steps.now) = search rules in
+    let wrote : begun_of a.bare.last c.args.by ≡ written c.args.by (take c.join-mine.result.0.1 c.args.steps.now) = search rules in
     let above : HaveWritten r (c.args.by + 1) c.args.members c.args.steps.now = search rules in
     subst (λ v. HaveWritten v c.args.by c.args.members c.args.steps.now) (sym c.join.ensures.view)
     (written_joined r a c.args.by c.args.members _ c.args.steps.now above (same.cares ∙ c.split_next-pass.ensures.cares) wrote)

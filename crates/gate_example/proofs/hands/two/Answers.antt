@@ -12,10 +12,10 @@ returns-clause-first g c =
     let b = view c.join-a.result.1.0 in
     let sa : IsSame (view c.split-one.result) a = search rules in
     let sb : IsSame (view c.split-two.result) b = search rules in
-    let ta : begun_of a.last 1 ≡ written 1 (take c.join-a.result.0.1 c.args.first.now) = search rules in
+    let ta : begun_of a.bare.last 1 ≡ written 1 (take c.join-a.result.0.1 c.args.first.now) = search rules in
     let ca : marked_at a.cares 1 ≡ true = ap (λ l. marked_at l 1) (sa.cares ∙ ap (λ v. v.cares) c.split-one.ensures.right.1) in
     let cb : marked_at b.cares 1 ≡ false = ap (λ l. marked_at l 1) (sb.cares ∙ ap (λ v. v.cares) c.split-two.ensures.right.1) in
-    let k = subst (λ v. Meets v (diary_facts c.close-diary.result.entries)) (c.join-2.ensures.view ∙ ap (λ v. joined v b) c.join.ensures.view) c.close-diary.ensures.value.0 in
+    let k = subst (λ v. Meets v false (diary_facts c.close-diary.result.entries)) (c.join-2.ensures.view ∙ ap (λ v. joined v b) c.join.ensures.view) c.close-diary.ensures.value.bare.0 in
     joined_first (view c.split-two.new.pass) a b _ 1 ca cb k ∙ ta
 
 pub returns-clause-second : goal.returns-clause-second
@@ -23,7 +23,7 @@ returns-clause-second g c =
     let a = view c.join-a.result.0.0 in
     let b = view c.join-a.result.1.0 in
     let sb : IsSame (view c.split-two.result) b = search rules in
-    let tb : begun_of b.last 2 ≡ written 2 (take c.join-a.result.1.1 c.args.second.now) = search rules in
+    let tb : begun_of b.bare.last 2 ≡ written 2 (take c.join-a.result.1.1 c.args.second.now) = search rules in
     let cb : marked_at b.cares 2 ≡ true = ap (λ l. marked_at l 2) (sb.cares ∙ ap (λ v. v.cares) c.split-two.ensures.right.1) in
-    let k = subst (λ v. Meets v (diary_facts c.close-diary.result.entries)) (c.join-2.ensures.view ∙ ap (λ v. joined v b) c.join.ensures.view) c.close-diary.ensures.value.0 in
+    let k = subst (λ v. Meets v false (diary_facts c.close-diary.result.entries)) (c.join-2.ensures.view ∙ ap (λ v. joined v b) c.join.ensures.view) c.close-diary.ensures.value.bare.0 in
     joined_second (view c.split-two.new.pass) a b _ 2 cb k ∙ tb

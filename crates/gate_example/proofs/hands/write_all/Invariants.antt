@@ -10,7 +10,7 @@ invariant-loop-next g l = record {
   own : IsPassOf l.gate l.pass;
   free : (view l.pass).has ≡ false;
   same : IsSame (view l.initial.pass) (view l.pass);
-  written : begun_of (view l.pass).last l.by ≡ written l.by (take l.next l.steps);
+  written : begun_of (view l.pass).bare.last l.by ≡ written l.by (take l.next l.steps);
 }
 
 abbrev pub decreases-loop-next : goal.decreases-loop-next

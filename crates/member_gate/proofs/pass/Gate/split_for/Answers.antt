@@ -11,4 +11,4 @@ split_seat-seat-requires g c =
     let most = c.requires.new.1 in
     let small : c.args.by < seats = omega arith in
     let n = subst (λ n. (0 < n) × (n < seats) × (marked_at p.seat.me.0.given n ≡ false)) c.requires.whom (c.requires.new.0, small, c.requires.new.2) in
-    (search rules, search rules, splits g.V.Kept.facts _ p.seat.me.0 g.J.Whom.whom c.requires.free p.live c.requires.root n.0 n.1 n.2)
+    (search rules, search rules, splits g.V.Kept.tells g.V.Kept.facts _ p.seat.me.0 g.J.Whom.whom c.requires.free p.live c.requires.root n.0 n.1 n.2)
