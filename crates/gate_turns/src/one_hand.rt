@@ -1,107 +1,72 @@
 //! One hand has the value, and waits for nobody.
-ghost use Rattle.std.specs.Option.{ForSome};
-ghost use Rattle.std.specs.Prelude.{◌≡◌, Bool, Some, false};
-ghost use Rattle.gate_facts.specs.Memory.{memory_of};
-ghost use Rattle.gate_turns.specs.Shared.{facts_of};
-ghost use Rattle.gate_turns.specs.Turning.{IsAtRest};
+ghost use Rattle.std.specs.Prelude.{◌≡◌, None};
 
 use crate::telling::Telling;
 use crate::turns::Turns;
-use std::snapshot::Snapshot;
 
-/// The only one at a shared value: each turn has the value that was handed back last.
+/// The only one at a shared value, which it borrows: each turn has the value that was handed back last.
 #[derive(Drop)]
-pub struct OneHand<V: Telling> {
-    /// The value, none while a turn has it.
-    value: Option<V>,
-    /// What it was as it was handed back last.
-    last: Snapshot<V>,
-    ghost same: { ForSome value (λ x. x ≡ last.value) },
-    ghost rest: { IsAtRest (V.shown last.value) },
+pub struct OneHand<'a, V> {
+    value: &'a mut V,
+    /// A turn has begun and hasn't ended.
+    out: bool,
 }
 
-impl<V: Telling> OneHand<V> {
-    /// A hand that has this value, in which the operator has no batch.
-    pub fn new(value: V) -> OneHand<V>
-        requires { IsAtRest (V.shown value) }
-        ensures last { ⟦<OneHand<V> as Turns<V>>⟧.last result ≡ Some value }
-        ensures memory { (told : Bool)
-            → ⟦<OneHand<V> as Turns<V>>⟧.memory result told ≡ memory_of (facts_of told (V.shown value)) }
-        ensures out { ⟦<OneHand<V> as Turns<V>>⟧.is_out result ≡ false }
+impl<V: Telling> OneHand<'_, V> {
+    /// A hand that has this value.
+    pub fn new<'a>(value: &'a mut V) -> OneHand<'a, V>
+        ensures place { ⟦<OneHand<'a, V> as Turns<V>>⟧.place result ≡ value.entry.ghost_name }
+        ensures finds { (x : V) → ⟦<OneHand<'a, V> as Turns<V>>⟧.finds result x → x ≡ value.old }
+        ensures free { ⟦<OneHand<'a, V> as Turns<V>>⟧.held result ≡ None }
     {
-        let last = Snapshot::of(&value);
-        OneHand {
-            value: Some(value),
-            last,
-        }
-    }
-
-    /// Takes the value out for good.
-    pub fn done(self) -> V
-        requires { ⟦<OneHand<V> as Turns<V>>⟧.is_out self ≡ false }
-        ensures last { ⟦<OneHand<V> as Turns<V>>⟧.last self ≡ Some result }
-        ensures rest { IsAtRest (V.shown result) }
-    {
-        let OneHand { value, last: _ } = self;
-        match value {
-            Some(value) => value,
-            None => unreachable!(),
-        }
+        OneHand { value, out: false }
     }
 }
 
-impl<V: Telling> Turns<V> for OneHand<V> {
-    ghost use Rattle.std.specs.Prelude.{◌≡◌, ℕ, Some, None, Bool, true, false, is_none};
-    ghost use Rattle.gate_facts.specs.Memory.{memory_of, Knows, IsLeft};
+impl<'a, V: Telling> Turns<V> for OneHand<'a, V> {
+    ghost use Rattle.std.specs.Prelude.{◌≡◌, Some, None, refl, if◌then◌else◌};
+    ghost use Rattle.std.specs.Borrow.{GName};
+    ghost use Rattle.gate_facts.specs.Memory.{memory_of};
     ghost use Rattle.gate_turns.specs.Shared.{facts_of};
-    ghost use Rattle.gate_turns.specs.Turning.{no_table, EachWay, Serves};
+    ghost use Rattle.gate_turns.specs.Turning.{held_then};
 
-    ghost place = { λ t. no_table };
+    ghost Place = { GName };
+
+    ghost place = { λ t. t.value.ghost_name };
 
     ghost bound = { λ t. None };
 
-    ghost is_out = { λ t. is_none t.value };
+    ghost held = { λ t. if t.out then Some t.value.now else None };
 
-    ghost last = { λ t. Some t.last.value };
+    ghost with_held = { λ t x. record t { value = record t.value { now = x } } };
 
-    ghost memory = { λ t told. memory_of (facts_of told (V.shown t.last.value)) };
+    ghost finds = { λ t x. x ≡ t.value.now };
 
-    ghost taken = { λ t told. facts_of told (V.shown t.last.value) };
+    ghost follows = { λ p x y. y ≡ x };
 
-    fn turn(&mut self) -> V
-        requires { is_none self.old.value ≡ false }
-        ensures exact { result ≡ self.old.last.value }
-        ensures out { is_none self.new.value ≡ true }
-        ensures same { self.new.last ≡ self.old.last }
-        ensures rest { IsAtRest (V.shown result) }
-        ensures value { EachWay V.tells
-            (λ told. (m : ℕ) → Serves None m
-            → Knows m (memory_of (facts_of told (V.shown self.old.last.value))) (facts_of told (V.shown result))) }
-        ensures taken { EachWay V.tells
-            (λ told. facts_of told (V.shown self.new.last.value) ≡ facts_of told (V.shown result)) }
-        ensures memory { (told : Bool)
-            → memory_of (facts_of told (V.shown self.new.last.value))
-            ≡ memory_of (facts_of told (V.shown self.old.last.value)) }
-    {
-        match self.value.take() {
-            Some(value) => value,
-            None => unreachable!(),
-        }
+    ghost memory = { λ t told. memory_of (facts_of told (V.shown t.value.now)) };
+
+    ghost taken = { λ t told. facts_of told (V.shown t.value.now) };
+
+    fn turn(&mut self) {
+        self.out = true;
     }
 
-    fn back(&mut self, value: V)
-        requires out { is_none self.old.value ≡ true }
-        requires rest { IsAtRest (V.shown value) }
-        ensures exact { self.new.last.value ≡ value }
-        ensures out { is_none self.new.value ≡ false }
-        ensures left { EachWay V.tells
-            (λ told. (m : ℕ) → Serves None m
-            → IsLeft m (memory_of (facts_of told (V.shown self.new.last.value))) (facts_of told (V.shown value))) }
-    {
-        self.last = Snapshot::of(&value);
-        match self.value.replace(value) {
-            None => {}
-            Some(_) => unreachable!(),
-        }
+    fn value(&mut self) -> &mut V {
+        &mut *self.value
     }
+
+    fn back(&mut self) {
+        self.out = false;
+    }
+
+    ghost holds = { λ t x. held_then t.out t.value.now x };
+
+    ghost keeps_place = { λ t x. refl };
+
+    ghost keeps_bound = { λ t x. refl };
+
+    ghost keeps_cares = { λ t x told. refl };
+
+    ghost keeps_taken = { λ t x told. tt };
 }

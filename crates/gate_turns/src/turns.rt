@@ -6,62 +6,85 @@ use crate::telling::Telling;
 ///
 /// What is said of facts is said of those without the plant's content, and of those with it where the plant tells it.
 pub trait Turns<V: Telling> {
-    ghost use Rattle.std.specs.Prelude.{◌≡◌, ℕ, Bool, true, false, Option, IfSome, is_some};
+    ghost use Rattle.std.specs.Prelude.{◌≡◌, ℕ, Bool, true, Option, Some, None, IfSome, is_some};
+    ghost use Rattle.std.specs.Borrow.{sem, Lends};
     ghost use Rattle.gate_facts.specs.declared.facts.Facts.{Facts};
-    ghost use Rattle.gate_facts.specs.Memory.{Memory, Knows, MayGiveBack, IsLeft};
-    ghost use Rattle.atomic_table.specs.Seated.{TableId};
+    ghost use Rattle.gate_facts.specs.Memory.{Memory, Knows, IsLeft};
     ghost use Rattle.gate_turns.specs.Shared.{facts_of};
-    ghost use Rattle.gate_turns.specs.Turning.{EachWay, Serves, IsAtRest};
+    ghost use Rattle.gate_turns.specs.Turning.{EachWay, Serves, IsAtRest, MayHandBack};
 
-    /// At which gate it takes turns, by the gate's table.
-    ghost place: { Self → TableId };
+    /// What names the value, or the gate, at which turns are taken.
+    ghost Place: { Type 0 };
+
+    /// The one at which it takes turns.
+    ghost place: { Self → Place };
 
     /// The member to whom it is bound. One that is bound to none serves each member.
     ghost bound: { Self → Option ℕ };
 
-    /// The value is out: a turn has begun and hasn't ended.
-    ghost is_out: { Self → Bool };
+    /// The value, in a turn, and none between two.
+    ghost held: { Self → Option V };
 
-    /// The value that was handed back last, for one that is alone at it.
-    ghost last: { Self → Option V };
+    /// The same with another value.
+    ghost with_held: { Self → V → Self };
 
-    /// What one who takes turns remembers, without the content and with it.
+    /// Which value its next turn may find.
+    ghost finds: { Self → V → Type 0 };
+
+    /// Which value the next turn may find where the turn before left a value: the same one, where nobody else takes
+    /// turns.
+    ghost follows: { Place → V → V → Type 0 };
+
+    /// What it remembers, without the content and with it.
     ghost memory: { Self → Bool → Memory };
 
-    /// What the value told as the turn began.
+    /// What the value told as the turn began, for one that is bound.
     ghost taken: { Self → Bool → Facts };
 
-    /// Begins a turn, and takes the value. The operator has no batch in it, and its book is of the members of its
-    /// configuration.
-    fn turn(&mut self) -> V
-        requires { is_out self.old ≡ false }
-        ensures out { is_out self.new ≡ true }
-        ensures value { EachWay V.tells
-            (λ told. (m : ℕ) → Serves (bound self.old) m
-            → Knows m (memory self.old told) (facts_of told (V.shown result))) }
-        ensures rest { IsAtRest (V.shown result) }
-        ensures last { IfSome (last self.old) (λ x. result ≡ x) }
-        ensures taken { EachWay V.tells (λ told. taken self.new told ≡ facts_of told (V.shown result)) }
+    /// Begins a turn. One that is bound finds the value at rest.
+    fn turn(&mut self)
+        requires { held self.old ≡ None }
+        ensures held { is_some (held self.new) ≡ true }
+        ensures found { IfSome (held self.new) (finds self.old) }
+        ensures known { IfSome (held self.new) (λ x. EachWay V.tells
+            (λ told. (m : ℕ) → Serves (bound self.old) m → Knows m (memory self.old told) (facts_of told (V.shown x)))) }
+        ensures rest { IfSome (bound self.old) (λ m. IfSome (held self.new) (λ x. IsAtRest (V.shown x))) }
+        ensures taken { IfSome (bound self.old) (λ m. IfSome (held self.new) (λ x. EachWay V.tells
+            (λ told. taken self.new told ≡ facts_of told (V.shown x)))) }
         ensures memory { (told : Bool) → memory self.new told ≡ memory self.old told }
-        ensures alone { last self.new ≡ last self.old }
         ensures bound { bound self.new ≡ bound self.old }
         ensures place { place self.new ≡ place self.old };
 
-    /// Ends the turn, and hands the value back, of which the same holds. Of the others it has what it had when it was
-    /// taken, where this one is bound to a member.
-    fn back(&mut self, value: V)
-        requires out { is_out self.old ≡ true }
-        requires rest { IsAtRest (V.shown value) }
-        requires value { EachWay V.tells
-            (λ told. IfSome (bound self.old)
-            (λ m. MayGiveBack m (memory self.old told).cares (taken self.old told) (facts_of told (V.shown value)))) }
-        ensures out { is_out self.new ≡ false }
-        ensures left { EachWay V.tells
-            (λ told. (m : ℕ) → Serves (bound self.old) m
-            → IsLeft m (memory self.new told) (facts_of told (V.shown value))) }
-        ensures last { IfSome (last self.new) (λ x. x ≡ value) }
-        ensures alone { is_some (last self.new) ≡ is_some (last self.old) }
+    /// Lends the value in a turn.
+    fn value(&mut self) -> &mut V
+        requires { is_some (held self.old) ≡ true }
+        ensures* lends { sem 𝓛 (Lends Self.row V.row self.entry result (with_held self.old)) }
+        ensures value { held self.old ≡ Some result.now };
+
+    /// Ends the turn, and hands the value back. Of the others it has what it had when the turn began, where this one is
+    /// bound to a member.
+    fn back(&mut self)
+        requires held { is_some (held self.old) ≡ true }
+        requires may { IfSome (bound self.old) (λ m. IfSome (held self.old) (λ x.
+            MayHandBack V.tells m (λ told. (memory self.old told).cares) (taken self.old) (V.shown x))) }
+        ensures held { held self.new ≡ None }
+        ensures next { IfSome (held self.old) (λ x. (y : V) → finds self.new y → follows (place self.old) x y) }
+        ensures left { IfSome (held self.old) (λ x. EachWay V.tells
+            (λ told. (m : ℕ) → Serves (bound self.old) m → IsLeft m (memory self.new told) (facts_of told (V.shown x)))) }
         ensures cares { (told : Bool) → (memory self.new told).cares ≡ (memory self.old told).cares }
         ensures bound { bound self.new ≡ bound self.old }
         ensures place { place self.new ≡ place self.old };
+
+    /// With another value it has that, and all else is as it was.
+    ghost holds: { (t : Self) → (x : V) → is_some (held t) ≡ true → held (with_held t x) ≡ Some x };
+
+    ghost keeps_place: { (t : Self) → (x : V) → place (with_held t x) ≡ place t };
+
+    ghost keeps_bound: { (t : Self) → (x : V) → bound (with_held t x) ≡ bound t };
+
+    ghost keeps_cares: { (t : Self) → (x : V) → (told : Bool)
+        → (memory (with_held t x) told).cares ≡ (memory t told).cares };
+
+    ghost keeps_taken: { (t : Self) → (x : V) → (told : Bool)
+        → IfSome (bound t) (λ m. taken (with_held t x) told ≡ taken t told) };
 }

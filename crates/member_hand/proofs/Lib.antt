@@ -22,3 +22,4 @@ pub mod Finding
 pub mod Piecing
 pub mod Going
 pub mod Trying
+pub mod Chaining

@@ -8,3 +8,4 @@ pub mod Asides
 pub mod Sits
 pub mod Turns
 pub mod Plays
+pub mod Chains

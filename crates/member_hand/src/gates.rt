@@ -1,13 +1,11 @@
 //! How a member comes to the lock and leaves it, at the ends of a sitting.
 ghost use Rattle.std.specs.Prelude.{◌≡◌, Ok, OnOk};
-ghost use Rattle.mas_complex.specs.Locking.{IsOperatorAway};
 ghost use Rattle.mas_complex.specs.Parts.{parts_of, with_copies};
 ghost use Rattle.member_sittings.specs.Gates.{ActedOnCopies, AreBothLost, HaveRoom};
 ghost use Rattle.member_sittings.specs.Whole.{MaySit};
-ghost use Rattle.run_turns.specs.Pieces.{entered};
 ghost use Rattle.step_turns.specs.declared.states.Grant.TheVariants.{ByLock};
 ghost use Rattle.member_hand.specs.Enters.{MayEnter};
-ghost use Rattle.member_hand.specs.Locks.{MayHold, MayLeave, left_book, next_holder as next_holder_lem};
+ghost use Rattle.member_hand.specs.Locks.{MayLeave, left_book, next_holder as next_holder_lem};
 
 use mas_complex::{Complex, Steady};
 use mas_types::MemberId;
@@ -16,15 +14,6 @@ use member_sittings::{SittingEnd, keep_seat, take_seat};
 use spool_disk::Plant;
 use std::alloc::Global;
 use step_turns::{Grant, Holder, Release};
-
-/// The member that may hold the lock holds it: it took it before, or takes it now in the middle of its step.
-pub fn retake<P: Plant + Drop, C: Steady + Drop>(complex: &mut Complex<P, C>, by: MemberId)
-    requires may { MayHold complex.old.book by }
-    requires away { IsOperatorAway complex.old.book complex.old.reserved complex.old.current }
-    ensures frame { parts_of complex.new ≡ record (parts_of complex.old) { book = entered complex.old.book by } }
-{
-    complex.retake_lock(by);
-}
 
 /// The member that has the lock takes its seat, and may sit in this step: it reads what the copies have, and makes room
 /// for a batch. One that has the lock by the operator's LOCK is at its seat still: it makes room alone. Where content

@@ -8,6 +8,6 @@ mod playing;
 mod sits;
 
 pub use asides::act_aside;
-pub use gates::{enter, leave, next_holder, retake};
-pub use playing::{play_piece, play_task};
+pub use gates::{enter, leave, next_holder};
+pub use playing::{play_in_turns, play_piece, play_task};
 pub use sits::{Stand, sit};

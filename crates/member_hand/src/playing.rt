@@ -1,15 +1,17 @@
-//! A member's step, piece by piece.
-ghost use Rattle.std.specs.Prelude.{◌≡◌, length, Err, IfErr, IfOk, OnOk};
+//! A member's step, piece by piece, each in a turn at the shared value.
+ghost use Rattle.std.specs.Prelude.{◌≡◌, length, Err, IfErr, IfOk, None, OnOk};
 ghost use Rattle.lock_cycle.specs.Books.{IsMember};
 ghost use Rattle.mas_complex.specs.Parts.{parts_of};
 ghost use Rattle.run_turns.specs.Pieces.{entered};
+ghost use Rattle.member_hand.specs.Chains.{HasTakenTurns, MayTakeTurns, begun};
 ghost use Rattle.member_hand.specs.Plays.{Halts, IsAfterPiece, IsAfterStep, MayPlay, Pieced, Played, played_in, stopped_by};
 ghost use Rattle.member_hand.specs.Sits.{SitsOnFrom, begins, start_of};
 ghost use Rattle.member_hand.specs.Turns.{TookTurn};
 
 use crate::asides::{act_then, nothing_found};
-use crate::gates::{enter, leave, next_holder, retake};
+use crate::gates::{enter, leave, next_holder};
 use crate::sits::{Stand, sit};
+use gate_turns::{OneHand, Turns};
 use mas_complex::{Complex, Steady};
 use mas_types::MemberId;
 use member_node::{Member, NodeNo};
@@ -34,7 +36,7 @@ fn take_turn<P: Plant + Drop, C: Steady + Drop>(
     ensures cut { IfErr result (Halts complex.old complex.new member.old (start_of stand)) }
 {
     let holder = stand.holder;
-    retake(complex, holder.by);
+    complex.retake_lock(holder.by);
     enter(member, alloc, complex, holder)?;
     sit(member, alloc, complex, stand)
 }
@@ -110,13 +112,46 @@ pub fn play_piece<P: Plant + Drop, C: Steady + Drop>(
     }
 }
 
-/// Plays a task of the member, which has the lock, as a whole step: its sittings one after another, with the acts aside
-/// for which it waits between them. Nobody else acts in between. Without LOCK the lock is given up at each sitting's
-/// end and taken again at the next one's beginning; with it only at the step's end, and there only where the hold is
-/// spent. A step that is halted ends at once, and its member is stopped in the book in the same call.
+/// Plays a task of the member as a whole step, EACH PIECE IN A TURN at the shared value, which others may have between
+/// two turns. Without LOCK the lock is given up at each sitting's end and taken again at the next one's beginning; with
+/// it only at the step's end, and there only where the hold is spent. A step that is halted ends at once, and its member
+/// is stopped in the book in the same turn.
 ///
 /// Halted comes only where the member was stopped, BothLost only where both copies count as lost, ConsoleFault only
 /// where the console failed at a line. After an error the member can't go on; what the step left is told for each.
+pub fn play_in_turns<P: Plant + Drop, C: Steady + Drop, T: Turns<Complex<P, C>>>(
+    member: &mut Member,
+    alloc: Global,
+    turns: &mut T,
+    holder: Holder,
+    task: Task,
+) -> Result<(), NodeNo>
+    requires free { T.held turns.old ≡ None }
+    requires may { MayTakeTurns (T.finds turns.old) (T.follows (T.place turns.old)) (T.bound turns.old)
+        (λ told. (T.memory turns.old told).cares) (begun member.old holder task) }
+    ensures free { T.held turns.new ≡ None }
+    ensures place { T.place turns.new ≡ T.place turns.old }
+    ensures bound { T.bound turns.new ≡ T.bound turns.old }
+    ensures chain { HasTakenTurns (T.follows (T.place turns.old)) (T.finds turns.old) (T.finds turns.new)
+        (begun member.old holder task) member.new result }
+{
+    let mut stand = Stand {
+        holder,
+        state: State::Fresh(task),
+        found: nothing_found(alloc),
+    };
+    loop {
+        turns.turn();
+        let played = play_piece(member, alloc, turns.value(), stand);
+        turns.back();
+        stand = played?;
+        if let State::Told = &stand.state {
+            return Ok(());
+        }
+    }
+}
+
+/// Plays a task as `play_in_turns` on a value at which nobody else takes turns. The member has the lock as it begins.
 pub fn play_task<P: Plant + Drop, C: Steady + Drop>(
     member: &mut Member,
     alloc: Global,
@@ -130,15 +165,6 @@ pub fn play_task<P: Plant + Drop, C: Steady + Drop>(
     ensures played { Played complex.old complex.new member.old (begins holder task) result }
     ensures next { OnOk result (IsAfterStep complex.old complex.new member.old member.new (begins holder task)) }
 {
-    let mut stand = Stand {
-        holder,
-        state: State::Fresh(task),
-        found: nothing_found(alloc),
-    };
-    loop {
-        stand = play_piece(member, alloc, complex, stand)?;
-        if let State::Told = &stand.state {
-            return Ok(());
-        }
-    }
+    let mut hand = OneHand::new(complex);
+    play_in_turns(member, alloc, &mut hand, holder, task)
 }
