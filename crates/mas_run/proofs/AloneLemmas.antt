@@ -1,5 +1,5 @@
 -- Copies that are left alone aren't both lost.
-use Rattle.std.proofs.Common.{◌≡◌, ◌≢◌, ◌⊎◌, inl, inr, ⊎_elim, ℕ, zero, suc, ◌+◌, ◌-◌, ◌≤◌, ◌<◌, ◌==◌, nat_le, Bool, true, false, not, ◌&&◌, if◌then◌else◌, All, List, [], ◌∷◌, drop, replicate, Option, Some, None, Result, Ok, Err, refl, sym, ◌∙◌, ap, arith, eq-eqb}
+use Rattle.std.proofs.Common.{◌≡◌, ◌≢◌, ◌⊎◌, inl, inr, ⊎_elim, ℕ, zero, suc, ◌+◌, ◌-◌, ◌≤◌, ◌<◌, ◌==◌, nat_le, Bool, true, false, not, ◌&&◌, if◌then◌else◌, All, List, [], ◌∷◌, drop, replicate, Option, Some, None, Result, Ok, Err, refl, sym, ◌∙◌, ap, subst, arith, eq-eqb}
 use Rattle.std.specs.Prelude.{slice_index_or}
 use Rattle.std.specs.Str.{bytes_eq}
 use Rattle.std.proofs.lemmas.Bool.{and_from}
@@ -35,21 +35,24 @@ use Rattle.mas_complex.specs.Fits.{are_same, fits}
 use Rattle.run_turns.specs.Admissions.{Admission, admitted, asked, command_admitted, deck_admitted, if_granted, reset_admitted, resets}
 use Rattle.run_turns.specs.Givens.{Given, RightIf, ask_with, given_first, line_with, outcomes_with}
 use Rattle.run_turns.specs.Runs.{outcomes_if}
+use Rattle.run_turns.specs.Sights.{Cause, Cut, Ends, Stops}
 use Rattle.run_turns.specs.Scenes.{Scene, scene_of}
 use Rattle.run_turns.specs.Steps.{Outcome, is_up, silent}
 use Rattle.warm_start.specs.Starting.{Mark, IsFound, IsSeen, IsUnfit, NoneOrFailed}
 use Rattle.warm_start.specs.Usable.{HaveSize, IsUsable}
 use Rattle.member_node.specs.Calls.{WasLost}
-use Rattle.mas_run.specs.Lines.{is_takeover, loses_then, same_device}
-use Rattle.mas_run.specs.LinesAt.{admitted_at}
-use Rattle.mas_run.specs.Passed.{TakeNone, loses_after}
-use Rattle.mas_run.specs.Runs.{has_begun, begins_at, IsRun}
-use Rattle.mas_run.specs.Statuses.{AreLeftAlone, IsLeftAlone, TakesNone, resets_in}
+use Rattle.member_node.specs.declared.member.NodeNo.{NodeNo}
+use Rattle.mas_run.specs.Lines.{CutsAs, cut_in, is_takeover, loses_then, same_device}
+use Rattle.mas_run.specs.LinesAt.{admitted_at, played_at}
+use Rattle.mas_run.specs.Passed.{ArePassed, Here, TakeNone, There, here_after, line_of, loses_after}
+use Rattle.mas_run.specs.Runs.{has_begun, begins_at, HavePassed, IsRun, LinesBegun, LinesEnded, starts, stops}
+use Rattle.mas_run.specs.Statuses.{AreLeftAlone, CannotStop, IsLeftAlone, TakesNone, resets_in}
 use Rattle.mas_run.specs.Unstarted.{IsNotStarted}
-use Rattle.mas_run.proofs.OthersLemmas.{others_same}
+use Rattle.mas_run.proofs.OthersLemmas.{StopsBy, StopsIn, line_stops}
+use Rattle.mas_run.proofs.PassedLemmas.{by_going, passed_goes}
 use Rattle.mas_run.proofs.PlainLemmas.{same_dev}
 
--- NO LOCK IS TAKEN OVER where no line resets another member that has a line
+-- NO LOCK IS TAKEN OVER where no line resets another member that a line before it may have stopped
 
 if_takes : (t : Bool) (a b : Admission) → is_takeover a ≡ false → (t ≡ false → is_takeover b ≡ false) → is_takeover (if t then a else b) ≡ false
 if_takes true a b one two = one
@@ -101,55 +104,75 @@ member_some config k is = some k.0 is where
   some zero e = absurd (true_false (sym e))
   some (suc n) e = omega arith
 
-module _ (all : List Step) where
-  -- whoever has no line isn't stopped
-  abbrev AreUp : Book → Type 0
-  AreUp b = (k : MemberId) → 1 ≤ k.0 → All (λ (r : Step). r.by ≢ k) all → is_stopped b k ≡ false
+-- A CUT AND A STOP
 
-  -- a line is one of them, and asks for nothing that only members may, unless a member asks
-  pub record IsOneOf (s : Step) : Type 0 where
-    pub other : (k : MemberId) → All (λ (r : Step). r.by ≢ k) all → s.by ≢ k
-    pub fits : IsStep s
-    pub spares : (of : MemberId) → resets_in s.what ≡ Some of → (of ≡ s.by) ⊎ All (λ (r : Step). r.by ≢ of) all
+-- where its member was stopped in it a count of stops rose
+stop_rose : (answer : Result (Unit {0}) NodeNo) (by : MemberId) (cut : Option Cut) (x y : View) → CutsAs answer by cut x y → StopsIn cut → Rose (x.stops by.0) (y.stops by.0)
+stop_rose answer by None x y so stop = absurd stop
+stop_rose (Ok done) by (Some cut) x y so stop = so.2
+stop_rose (Err e) by (Some cut) x y so stop = absurd (let ends : cut.cause ≡ Ends = so.0 in not_both_causes cut.cause stop ends) where
+  not_both_causes : (cause : Cause) → cause ≡ Stops → cause ≡ Ends → ⊥
+  not_both_causes cause one two = absurd (cc)
 
-  apart_numbers : (k by : MemberId) → 1 ≤ k.0 → 1 ≤ by.0 → by ≢ k → k.0 - 1 ≢ by.0 - 1
-  apart_numbers k by one two other same =
-      let number : by.0 ≡ k.0 = omega (arith, one, two, same) in
-      other (ap (λ (i : ℕ). let m : MemberId = record { 0 = i } in m) number)
+-- who is stopped by a line is a member
+stops_member : (by : MemberId) (what : Ask) (cut : Option Cut) → IsBy by what → StopsBy what cut → 1 ≤ by.0
+stops_member by (ask.Deck cards) cut is stop = is.0
+stops_member by (ask.Command c) cut is stop = is.0
+stops_member by (ask.Work n) cut is stop = is.0
+stops_member by ask.Lock cut is stop = is.0
+stops_member by ask.Free cut is stop = is.0
+stops_member by (ask.Line n) cut is stop = is.0
+stops_member by (ask.Replace dev) cut is stop = is.0
+stops_member by ask.Stop cut is stop = is.0
+stops_member by (ask.StopIn fuse n) cut is stop = is.0
+stops_member by (ask.Lose dev) cut is (inl same) = absurd (cc)
+stops_member by (ask.Lose dev) cut is (inr stop) = absurd stop
 
-  up_next : (S : Scene) (at : ℕ) (g : Given) (s : Step) → IsOneOf s → AreUp S.book → AreUp (line_with S at g s).next.book
-  up_next S at g s one up k some none = by_ask s.what one.fits.by where
-    asks : (what : Ask) → 1 ≤ s.by.0 → is_stopped (ask_with S s.by at g what).next.book k ≡ false
-    asks what is = others_same s.by k (apart_numbers k s.by some is (one.other k none)) S at g what ∙ up k some none
+-- LINES ONE AFTER ANOTHER, in a run whose plant showed `old` before and `new` after it
+module _ (told : Type 0) (old new : View) where
+  -- a count rose in a run in which it rose
+  rose_in : (was x y is : ℕ) → was ≤ x → y ≤ is → Rose x y → Rose was is
+  rose_in was x y is from to rose = omega (arith, from, to, rose)
 
-    by_ask : (what : Ask) → IsBy s.by what → is_stopped (ask_with S s.by at g what).next.book k ≡ false
-    by_ask (ask.Lose dev) is = up k some none
-    by_ask (ask.Deck cards) is = asks (ask.Deck cards) is.0
-    by_ask (ask.Command c) is = asks (ask.Command c) is.0
-    by_ask (ask.Work n) is = asks (ask.Work n) is.0
-    by_ask ask.Lock is = asks ask.Lock is.0
-    by_ask ask.Free is = asks ask.Free is.0
-    by_ask (ask.Line n) is = asks (ask.Line n) is.0
-    by_ask (ask.Replace dev) is = asks (ask.Replace dev) is.0
-    by_ask ask.Stop is = asks ask.Stop is.0
-    by_ask (ask.StopIn fuse n) is = asks (ask.StopIn fuse n) is.0
+  -- whom no line before can have stopped isn't stopped
+  abbrev AreUp : List Step → Book → Type 0
+  AreUp before b = (k : MemberId) → 1 ≤ k.0 → All (CannotStop old new k) before → is_stopped b k ≡ false
 
-  line_takes : (S : Scene) (at : ℕ) (g : Given) (s : Step) → IsOneOf s → AreUp S.book → is_takeover (admitted_at (record { scene = S; number = at; step = s; given = g })) ≡ false
-  line_takes S at g s one up =
+  -- a line that can't have stopped a member stops another one, or nobody
+  stops_other : (k : MemberId) (s : Step) (answer : Result (Unit {0}) NodeNo) (cut : Option Cut) (x y : View) → 1 ≤ k.0 → IsBy s.by s.what → CannotStop old new k s
+      → CutsAs answer s.by (cut_in s.what cut) x y → ((m : ℕ) → old.stops m ≤ x.stops m) → ((m : ℕ) → y.stops m ≤ new.stops m) → StopsBy s.what cut → k.0 - 1 ≢ s.by.0 - 1
+  stops_other k s answer cut x y some by cannot so since until stop same =
+      let one : 1 ≤ s.by.0 = stops_member s.by s.what cut by stop in
+      let number : s.by.0 ≡ k.0 = omega (arith, some, one, same) in
+      ⊎_elim (λ other. other (ap (λ (i : ℕ). let m : MemberId = record { 0 = i } in m) number))
+      (λ spared. ⊎_elim (λ is. spared.0 is)
+      (λ halted. spared.1 (subst (λ (n : ℕ). Rose (old.stops n) (new.stops n)) number (rose_in (old.stops s.by.0) (x.stops s.by.0) (y.stops s.by.0) (new.stops s.by.0) (since s.by.0) (until s.by.0) (stop_rose answer s.by (cut_in s.what cut) x y so halted)))) stop)
+      cannot
+
+  line_takes : (S : Scene) (at : ℕ) (g : Given) (before : List Step) (s : Step) → ((of : MemberId) → resets_in s.what ≡ Some of → (of ≡ s.by) ⊎ All (CannotStop old new of) before) → AreUp before S.book
+      → is_takeover (admitted_at (record { scene = S; number = at; step = s; given = g })) ≡ false
+  line_takes S at g before s spares up =
       admitted_takes S.queue.config S.book s.by s.what
-      (λ k resets free is. ⊎_elim (λ own. ap (λ (m : MemberId). is_stopped S.book m) own ∙ free) (λ none. up k (member_some S.queue.config k is) none) (one.spares k resets))
+      (λ k resets free is. ⊎_elim (λ own. ap (λ (m : MemberId). is_stopped S.book m) own ∙ free) (λ none. up k (member_some S.queue.config k is) none) (spares k resets))
 
-  right_if : {R : Type 0} (t : Bool) → R → RightIf t R
-  right_if true r = r
-  right_if false r = tt
-
-  takes_none : (S : Scene) (at : ℕ) (gs : List Given) (steps : List Step) → All IsOneOf steps → AreUp S.book → TakeNone S at gs steps
-  takes_none S at gs [] ones up = tt
-  takes_none S at gs (s ∷ steps) ones up =
+  takes_none : (h : Here) (gs : List Given) (before steps : List Step) (many : ℕ) (end : There) → ((m : ℕ) → old.stops m ≤ h.view.stops m) → ((m : ℕ) → end.view.stops m ≤ new.stops m)
+      → All IsStep steps → TakesNone old new before steps → AreUp before h.scene.book → ArePassed told h gs steps many end → TakeNone h.scene h.number gs steps
+  takes_none h gs before [] many end since until fits takes up p = tt
+  takes_none h gs before (s ∷ steps) many end since until fits takes up (there, more, is, next, rest) =
       let g = given_first gs in
-      let one = All-head IsOneOf s steps ones in (
-        line_takes S at g s one up,
-        right_if (line_with S at g s).goes_on (takes_none (line_with S at g s).next (at + 1) (drop 1 gs) steps (All-tail IsOneOf s steps ones) (up_next S at g s one up)),
+      let p = played_at (line_of h g s) in
+      let h2 = here_after h g s there in
+      let from : (m : ℕ) → old.stops m ≤ there.view.stops m = λ m. omega (arith, since m, next.passed.goes.stops m) in (
+        line_takes h.scene h.number g before s takes.0 up,
+        by_going p.goes_on (λ b. RightIf b (TakeNone p.next (h.number + 1) (drop 1 gs) steps)) rest
+            (λ x.
+            let to : (m : ℕ) → there.view.stops m ≤ new.stops m = λ m. omega (arith, (passed_goes told h2 (drop 1 gs) steps more end x.1).stops m, until m) in
+            takes_none h2 (drop 1 gs) (s ∷ before) steps more end from until (All-tail IsStep s steps fits) takes.1
+            (λ k some none.
+            line_stops s.by k h.scene h.number g s.what
+            (stops_other k s there.answer g.sight.cut h.view there.view some (All-head IsStep s steps fits).by (All-head (CannotStop old new k) s before none) next.passed.cut since to)
+            ∙ up k some (All-tail (CannotStop old new k) s before none)) x.1)
+            (λ e. tt),
       )
 
 fresh_up : (n i hold : ℕ) → (slice_index_or (replicate n (beginner hold)) i (beginner 0)).stopped ≡ false
@@ -158,10 +181,10 @@ fresh_up (suc n) zero hold = refl
 fresh_up (suc n) (suc i) hold = fresh_up n i hold
 
 -- no line of a run takes the lock over
-run_takes : (steps : List Step) (Q : Queue) (gs : List Given) → All IsStep steps → TakesNone steps → TakeNone (scene_of Q) 1 gs steps
-run_takes steps Q gs fits takes =
-    takes_none steps (scene_of Q) 1 gs steps (λ k d lt. record { other = λ m none. none k d lt; fits = fits k d lt; spares = takes k d lt })
-    (λ k some none. fresh_up Q.config.members (k.0 - 1) Q.config.hold)
+run_takes : (told : Type 0) (b : LinesBegun) (e : LinesEnded) (p : HavePassed told b e) (old : View) → ((m : ℕ) → old.stops m ≤ b.view.stops m) → All IsStep b.steps → TakesNone old e.view [] b.steps
+    → TakeNone (scene_of b.from) 1 p.given b.steps
+run_takes told b e p old since fits takes =
+    takes_none told old e.view (starts b) p.given [] b.steps e.many (stops e p.result) since (λ m. let same : e.view.stops m ≤ e.view.stops m = omega arith in same) fits takes (λ k some none. fresh_up b.from.config.members (k.0 - 1) b.from.config.hold) p.passed
 
 -- LINES THAT DON'T LOSE A COPY
 
@@ -261,12 +284,12 @@ unstarted_alone steps old new (inl (one, (inr lost))) failed = ⊎_elim (λ both
 unstarted_alone steps old new (inr (two, lost)) failed = ⊎_elim (λ both. clash (old.lost (Disk Ckpt2)) both.1 two.there) (λ some. ⊎_elim (λ f. clash (old.lost (Disk Ckpt1)) lost f.0) (λ f. two.failed f.1) some) failed
 
 -- in a run no call loses a copy that was left alone, except before the first line
-module _ (tells : Type 0) (told : tells) (script : Script) (answer : Status) (base : Queue) (J : Journal) (since : ℕ) (old new : View) (fits : All IsStep script.steps) (takes : TakesNone script.steps) where
+module _ (tells : Type 0) (told : tells) (script : Script) (answer : Status) (base : Queue) (J : Journal) (since : ℕ) (old new : View) (fits : All IsStep script.steps) (takes : TakesNone old new [] script.steps) where
   unrisen : (cold : Bool) (r : IsRun cold tells script answer base J since old new) (d : Dev) → Alone d script.steps old new → r.first d ≡ old.loses d → WasLost d old new → ⊥
   unrisen cold r d alone same lost = unlost d script.steps old new alone (counted ∙ r.steps.played.lost_before d ∙ same) lost where
     counted : new.loses d ≡ r.steps.entry.loses d
     counted = ⊎_elim (λ none. ap (λ (v : View). v.loses d) none.still)
-        (λ p. p.loses_copies tt (run_takes script.steps _ p.given fits takes) d
+        (λ p. p.loses_copies tt (run_takes (Unit {0}) _ _ p old r.steps.played.entered.stops fits takes) d
         ∙ ap (λ (os : List Outcome). loses_after d os (r.steps.entry.loses d)) p.did_is
         ∙ lines_lose d _ 1 p.given script.steps (r.steps.entry.loses d) alone.unasked)
         (r.steps.played.told told)

@@ -114,7 +114,7 @@ module _ {P C : Type 0} (plants : PlantGhosts P) (copies : CopyGhosts C) (told :
     asked_unsaid e at_left said =
         let g = at_left.given in
         let left = at_left.left in
-        let so : PassedSo told (line g) left.own (v x) (v z) e = passed_unsaid plants copies told tells (line g) x y z e member left said in
+        let so : PassedSo told copies.reads (line g) left.own (v x) (v z) e = passed_unsaid plants copies told tells (line g) x y z e member left said in
         record {
           given = so.0;
           next = record {

@@ -1,5 +1,5 @@
 -- A line that ended before its first act: there was no memory for it, or nothing was found out of a batch in flight.
-use Rattle.std.proofs.Common.{◌≡◌, ◌⊎◌, inl, inr, ℕ, ◌≤◌, List, [], ◌∷◌, ◌++◌, append-nil, All, Some, None, Result, Err, refl, sym, ◌∙◌, ap, subst, arith, Bool, false}
+use Rattle.std.proofs.Common.{◌≡◌, ◌⊎◌, inl, inr, ℕ, ◌≤◌, List, [], ◌∷◌, ◌++◌, append-nil, All, Option, Some, None, Result, Err, refl, sym, ◌∙◌, ap, subst, arith, Bool, false}
 use Rattle.std.proofs.lemmas.List.Elements.{All-cons, All-nil}
 use Rattle.mas_types.specs.declared.ids.MemberId.{MemberId}
 use Rattle.mas_types.specs.declared.journals.Entry.{Entry}
@@ -28,7 +28,7 @@ use Rattle.run_turns.specs.Pieces.{Piece, Play, fate_found, holder_of, piece_of,
 use Rattle.run_turns.specs.Scenes.{Batched, Scene}
 use Rattle.run_turns.specs.Sights.{Cause, Cut, Halt, Sight, Writing, clear}
 use Rattle.mas_run.specs.Histories.{settle}
-use Rattle.mas_run.specs.Lines.{IsThere, LosesAs, is_takeover, is_work}
+use Rattle.mas_run.specs.Lines.{IsThere, LosesAs, is_takeover, is_work, taking}
 use Rattle.mas_run.specs.LinesAt.{LineAt, pieces_as, play_as}
 use Rattle.mas_run.specs.LinesLeft.{HasLeftAs, IfRuns, left_as}
 use Rattle.member_hand.specs.Shapes.{AreFewPieces, SaysIn}
@@ -141,18 +141,18 @@ module _ (by : MemberId) (cause : Cause) (play : Play) (count : ℕ) where
     first (p ∷ ps) = refl
 
 -- acts in which nothing was given, said or printed
-pub record HasBarelyBegun {P C : Type 0} (plants : PlantGhosts P) (by : MemberId) (takes : Bool) (x y : Parts P C) (e : NodeNo) : Type 0 where
+pub record HasBarelyBegun {P C : Type 0} (plants : PlantGhosts P) (reads : List ℕ → Option (List ℕ)) (by : MemberId) (takes : Bool) (x y : Parts P C) (e : NodeNo) : Type 0 where
   pub goes : Goes (plants.view x.plant) (plants.view y.plant)
   pub spares : Spares by.0 (is_stop e) (plants.view x.plant) (plants.view y.plant)
   pub stopped : e ≡ no_node.Halted → Rose ((plants.view x.plant).stops by.0) ((plants.view y.plant).stops by.0)
-  pub loses : plants.tells → LosesAs takes None (plants.view x.plant) (plants.view y.plant)
+  pub loses : plants.tells → LosesAs reads (taking takes Flying) None (plants.view x.plant) (plants.view y.plant)
   pub console : plants.tells → console_now (plants.view y.plant) ≡ console_now (plants.view x.plant)
   pub papers : plants.tells → SamePapers (plants.view x.plant) (plants.view y.plant)
   pub volumes : plants.tells → AreVolumesKept (plants.view x.plant) (plants.view y.plant)
   pub journal : journal_of y ≡ journal_of x
   pub printed : y.printed ≡ x.printed
 
-pub barely_none : {P C : Type 0} (plants : PlantGhosts P) (by : MemberId) (takes : Bool) (x : Parts P C) → HasBarelyBegun plants by takes x x no_node.NoMemory
+pub barely_none : {P C : Type 0} (plants : PlantGhosts P) {reads : List ℕ → Option (List ℕ)} (by : MemberId) (takes : Bool) (x : Parts P C) → HasBarelyBegun plants reads by takes x x no_node.NoMemory
 barely_none plants by takes x = record {
   goes = goes_none (plants.view x.plant);
   spares = spares_none by.0 (plants.view x.plant);
@@ -186,7 +186,7 @@ module _ {P C : Type 0} (plants : PlantGhosts P) (copies : CopyGhosts C) (told :
   abbrev l : LineAt
   l = record { scene = S; number = at; step = step; given = record { sight = sight; pieces = ps } }
 
-  module _ (acted : HasBarelyBegun plants step.by (is_takeover a) x y e) where
+  module _ (acted : HasBarelyBegun plants copies.reads step.by (is_takeover a) x y e) where
     found_none : settle (fate_found a sight) (v x).now (journal_of x) ++ [] ≡ journal_of x
     found_none = ap (λ (f : Fate). settle f (v x).now (journal_of x) ++ []) (none_found a (cause_by e))
         ∙ append-nil (settle Flying (v x).now (journal_of x)) ∙ settle_none (v x).now (journal_of x)
@@ -221,7 +221,7 @@ module _ {P C : Type 0} (plants : PlantGhosts P) (copies : CopyGhosts C) (told :
       dry = λ t none. acted.papers (tells t);
       count = λ t up. tt;
       other_counts = λ t m other. ap (λ (p : List ℕ). counts_of p m) acted.printed;
-      loses = λ t. acted.loses (tells t);
+      loses = λ t. subst (λ (f : Fate). LosesAs copies.reads (taking (is_takeover a) f) None (v x) (v y)) (sym (none_found a (cause_by e))) (acted.loses (tells t));
       volumes = λ t leaves. acted.volumes (tells t);
     }
 

@@ -4,6 +4,7 @@ use Rattle.std.proofs.Common.{◌≡◌, ◌≢◌, inl, inr, ℕ, ◌==◌, ◌
 use Rattle.std.proofs.lemmas.Bool.{eqb-true}
 use Rattle.std.proofs.lemmas.Bool.Decides.{nat_tests}
 use Rattle.std.proofs.lemmas.List.{map-append}
+use Rattle.mas_types.specs.declared.journals.Fate.{Fate}
 use Rattle.mas_types.specs.declared.ids.Dev.{Dev}
 use Rattle.mas_types.specs.declared.ids.MemberId.{MemberId}
 use Rattle.script_lang.specs.declared.types.Ask.{Ask}
@@ -25,7 +26,7 @@ use Rattle.run_turns.specs.Givens.{Given, ask_with, play_with, played_with, AreP
 use Rattle.mas_run.specs.LinesAt.{LineAt, admitted_at, pieces_at, played_at}
 use Rattle.run_turns.specs.Pieces.{fate_found, sayer_of}
 use Rattle.run_turns.specs.Admissions.{admitted}
-use Rattle.mas_run.specs.Lines.{AdmissionLeaves, AskLeaves, CutsAs, IfIdle, IfOfMember, IsPassed, IsWithin, LosesAs, arms_by, arms_then, cut_in, cut_of, is_takeover, is_work, printed_at, IsGiven, IsHonest, IsHonestAs}
+use Rattle.mas_run.specs.Lines.{AdmissionLeaves, AskLeaves, CutsAs, IfIdle, IfOfMember, IsPassed, IsWithin, LosesAs, arms_by, arms_then, cut_in, cut_of, is_takeover, is_work, printed_at, taking, IsGiven, IsHonest, IsHonestAs}
 use Rattle.mas_run.specs.LinesLeft.{HasLeft, left_at}
 use Rattle.mas_run.specs.LinesPlayed.{is_of_member}
 use Rattle.mas_run.proofs.PassedLemmas.{proceeds_of}
@@ -177,6 +178,10 @@ module _ {P C : Type 0} (plants : PlantGhosts P) (copies : CopyGhosts C) (told :
   pub honest_of : told → IsHonest l (v x) (v y)
   honest_of t = subst (λ (c : Option Cut). IsHonestAs l (admitted_at l) c (v x) (v y)) (sym (member_cut l.step.what l.given.sight.cut member)) (left.honest t)
 
+-- what a line that takes the lock over found of a batch in flight
+abbrev pub took : LineAt → Option Fate
+took l = taking (is_takeover (admitted_at l)) (fate_found (admitted_at l) l.given.sight)
+
 -- A LINE THAT WASN'T CUT
 
 pub if_idle : (works : Bool) (P : Type 0) → P → IfIdle works P
@@ -198,7 +203,7 @@ module _ {P C : Type 0} (plants : PlantGhosts P) (copies : CopyGhosts C) (told :
   none_stopped : stopped_lines l.step.by l.number (cause_of l.given.sight.cut) ≡ []
   none_stopped = ap (λ (c : Option Cut). stopped_lines l.step.by l.number (cause_of c)) left.cut
 
-  pub passed_uncut : IsPassed told l left.own (w x) (w y) (Ok tt)
+  pub passed_uncut : IsPassed told copies.reads l left.own (w x) (w y) (Ok tt)
   passed_uncut = record {
     goes = proceeds_of (w x) (w y) left.goes;
     given = given_of plants copies told l x y member left;
@@ -216,7 +221,7 @@ module _ {P C : Type 0} (plants : PlantGhosts P) (copies : CopyGhosts C) (told :
         (sym (append-nil (left_at l).lines) ∙ ap (λ (ss : List Said). (left_at l).lines ++ map (λ (s : Said). s.line) ss) (sym none_stopped) ∙ sym (lines_left l member));
     paper = λ t m. printed_here plants copies told l x y member left m t;
     dry = left.dry;
-    loses = λ t. subst (λ (d : Option Dev). LosesAs (is_takeover (admitted_at l)) d (w x) (w y)) (sym (loses_none l member)) (left.loses t);
+    loses = λ t. subst (λ (d : Option Dev). LosesAs copies.reads (took l) d (w x) (w y)) (sym (loses_none l member)) (left.loses t);
     arms = λ m. left.goes.arms m ∙ sym (arms_same plants copies told l x y member left m);
     volumes = λ t leaves. left.volumes t (leaves_as plants copies told l x y member left l.step.what member leaves);
   }

@@ -101,7 +101,7 @@ settle_both f at (a ∷ so) bs = ap (λ (cs : List Batch). settled_at f at a ∷
 
 module _ (told : Type 0) (front : List Batch) (now : ℕ) (settled : AreSettled front now) where
   abbrev own_here : Here → List Batch → Here
-  own_here h own = record { number = h.number; scene = h.scene; batches = own; view = h.view }
+  own_here h own = record { reads = h.reads; number = h.number; scene = h.scene; batches = own; view = h.view }
 
   abbrev own_there : There → List Batch → There
   own_there x own = record { batches = own; view = x.view; answer = x.answer }

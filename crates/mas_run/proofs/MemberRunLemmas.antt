@@ -83,8 +83,8 @@ module _ {P C : Type 0} {plants : PlantGhosts P} {steadies : SteadyGhosts C} {co
         passed_failed told (here_at plants copies 1 S (journal_of (parts_of x)) (parts_of x)) p.given steps many ends p.are failed
 
     pub lines_passed : (front batches : List Batch) → journal_of (parts_of x) ≡ front → batches ≡ journal_of (parts_of y)
-        → Passed told (record { number = 1; scene = S; batches = front; view = plants.view x.plant }) steps many (record { batches = batches; view = plants.view y.plant; answer = result })
+        → Passed told (record { reads = copies.reads; number = 1; scene = S; batches = front; view = plants.view x.plant }) steps many (record { batches = batches; view = plants.view y.plant; answer = result })
     lines_passed front batches was is =
-        let first : Passed told (record { number = 1; scene = S; batches = front; view = plants.view x.plant }) steps many ends =
-        subst (λ (bs : List Batch). Passed told (record { number = 1; scene = S; batches = bs; view = plants.view x.plant }) steps many ends) was (passes S shows) in
-        subst (λ (bs : List Batch). Passed told (record { number = 1; scene = S; batches = front; view = plants.view x.plant }) steps many (record { batches = bs; view = plants.view y.plant; answer = result })) (sym is) first
+        let first : Passed told (record { reads = copies.reads; number = 1; scene = S; batches = front; view = plants.view x.plant }) steps many ends =
+        subst (λ (bs : List Batch). Passed told (record { reads = copies.reads; number = 1; scene = S; batches = bs; view = plants.view x.plant }) steps many ends) was (passes S shows) in
+        subst (λ (bs : List Batch). Passed told (record { reads = copies.reads; number = 1; scene = S; batches = front; view = plants.view x.plant }) steps many (record { batches = bs; view = plants.view y.plant; answer = result })) (sym is) first

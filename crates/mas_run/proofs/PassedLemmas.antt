@@ -23,13 +23,14 @@ use Rattle.member_node.specs.Calls.{console_now}
 use Rattle.member_node.specs.declared.member.NodeNo.{NodeNo}
 use Rattle.member_node.specs.declared.member.NodeNo.TheVariants as no_node
 use Rattle.run_turns.specs.Sights.{Cause, Cut, Ends, Stops}
+use Rattle.run_turns.specs.Pieces.{fate_found}
 use Rattle.run_turns.specs.Scenes.{Armed, Batched, Scene, with_fate}
 use Rattle.run_turns.specs.Steps.{Said, cause_of, counted, counted_at, is_up, run_goes_on, silent}
 use Rattle.run_turns.specs.Runs.{console, fate_then, history_from, outcomes_if, paper_of, scene_if, settled}
 use Rattle.run_turns.specs.Givens.{AreRight, Given, RightIf, ask_with, cut_if, given_first, last_cut, outcomes_with, scene_with}
 use Rattle.mas_run.specs.LinesAt.{admitted_at, played_at}
 use Rattle.mas_run.specs.Histories.{AreHistory, IsBatched, settle, settled_at, with_found}
-use Rattle.mas_run.specs.Lines.{CutsAs, EndsBy, IsCutAs, IsUnsaid, MayLoseCopy, Proceeds, StopsUnsaid, arms_by, cut_in, is_takeover, loses_then}
+use Rattle.mas_run.specs.Lines.{CutsAs, EndsBy, IsCutAs, IsUnsaid, MayLoseCopy, Proceeds, StopsUnsaid, arms_by, cut_in, is_takeover, loses_then, taking}
 use Rattle.mas_run.specs.Passed.{ArePassed, GoesOn, Here, LeaveVolumes, TakeNone, There, arms_after, here_after, line_of, loses_after}
 use Rattle.mas_run.specs.Volumes.{AreVolumesKept}
 use Rattle.mas_run.proofs.VolumeLemmas.{by_order, kept_none, more_then}
@@ -363,13 +364,13 @@ passed_arms told h gs (step ∷ steps) many end m first is (there, more, one, ne
 
 -- DEVICES LOST BY A CALL
 
-no_volume : (b : Bool) (n : ℕ) (old new : View) → MayLoseCopy b (Spool n) old new → ⊥
-no_volume true n old new h = h
-no_volume false n old new h = h
+no_volume : (reads : List ℕ → Option (List ℕ)) (t : Option Fate) (n : ℕ) (old new : View) → MayLoseCopy reads t (Spool n) old new → ⊥
+no_volume reads (Some found) n old new h = h
+no_volume reads None n old new h = h
 
-no_copy : (b : Bool) (d : Dev) (old new : View) → b ≡ false → MayLoseCopy b d old new → ⊥
-no_copy true d old new is h = absurd (true_false is)
-no_copy false d old new is h = h
+no_copy : (reads : List ℕ → Option (List ℕ)) (b : Bool) (found : Fate) (d : Dev) (old new : View) → b ≡ false → MayLoseCopy reads (taking b found) d old new → ⊥
+no_copy reads true found d old new is h = absurd (true_false is)
+no_copy reads false found d old new is h = h
 
 loses_once : {A : Type 0} {B : Type 0} → A ⊎ B → (B → ⊥) → A
 loses_once (inl a) none = a
@@ -384,7 +385,7 @@ passed_loses told n h gs (step ∷ steps) many end t (there, more, is, next, res
     let p = played_at (line_of h g step) in
     let os = outcomes_with p.next (h.number + 1) (drop 1 gs) steps in
     let one : there.view.loses (Spool n) ≡ loses_then p.outcome.loses (Spool n) (h.view.loses (Spool n)) =
-    loses_once (next.passed.loses t (Spool n)) (no_volume (is_takeover (admitted_at (line_of h g step))) n h.view there.view) in
+    loses_once (next.passed.loses t (Spool n)) (no_volume h.reads (taking (is_takeover (admitted_at (line_of h g step))) (fate_found (admitted_at (line_of h g step)) g.sight)) n h.view there.view) in
     by_going p.goes_on (λ b. end.view.loses (Spool n) ≡ loses_after (Spool n) (outcomes_if b os) (loses_then p.outcome.loses (Spool n) (h.view.loses (Spool n)))) rest
     (λ m. passed_loses told n (here_after h g step there) (drop 1 gs) steps more end t m.1 ∙ ap (loses_after (Spool n) os) one)
     (λ e. ap (λ (x : There). x.view.loses (Spool n)) e.0 ∙ one)
@@ -398,7 +399,7 @@ passed_loses_copies told d h gs (step ∷ steps) many end t none (there, more, i
     let p = played_at (line_of h g step) in
     let os = outcomes_with p.next (h.number + 1) (drop 1 gs) steps in
     let one : there.view.loses d ≡ loses_then p.outcome.loses d (h.view.loses d) =
-    loses_once (next.passed.loses t d) (no_copy (is_takeover (admitted_at (line_of h g step))) d h.view there.view none.0) in
+    loses_once (next.passed.loses t d) (no_copy h.reads (is_takeover (admitted_at (line_of h g step))) (fate_found (admitted_at (line_of h g step)) g.sight) d h.view there.view none.0) in
     by_going_right p.goes_on (λ b. end.view.loses d ≡ loses_after d (outcomes_if b os) (loses_then p.outcome.loses d (h.view.loses d))) rest none.1
     (λ m right. passed_loses_copies told d (here_after h g step there) (drop 1 gs) steps more end t right m.1 ∙ ap (loses_after d os) one)
     (λ e. ap (λ (x : There). x.view.loses d) e.0 ∙ one)

@@ -38,7 +38,7 @@ use Rattle.run_turns.specs.Scenes.{Batched, Scene}
 use Rattle.run_turns.specs.Sights.{Cut, Halt}
 use Rattle.run_turns.specs.Steps.{Played, Said, arm, is_up, lose, nothing, silent, stop}
 use Rattle.mas_run.specs.Histories.{settle}
-use Rattle.mas_run.specs.Lines.{AskLeaves, CutsAs, IfOfMember, IsWithin, LeavesVolumes, LosesAs, Proceeds, arms_then, cut_in, cut_of, is_takeover, is_work, loses_then, same_device}
+use Rattle.mas_run.specs.Lines.{AskLeaves, CutsAs, IfOfMember, IsWithin, LeavesVolumes, Proceeds, arms_then, cut_in, cut_of, is_work, loses_then, same_device}
 use Rattle.mas_run.specs.LinesPlayed.{HasPlayedLine, is_of_member}
 use Rattle.mas_run.specs.Shows.{IsFlight, IsShown}
 use Rattle.mas_run.specs.Volumes.{AreVolumesKept}
@@ -107,7 +107,7 @@ pub record IsPlain {P C : Type 0} (plants : PlantGhosts P) (told : Type 0) (l : 
   pub console : told → console_now (plants.view y.plant) ≡ console_now (plants.view x.plant)
   pub paper : told → (m : ℕ) → paper_now (plants.view y.plant) m ≡ paper_now (plants.view x.plant) m
   pub dry : told → SamePapers (plants.view x.plant) (plants.view y.plant)
-  pub loses : told → LosesAs (is_takeover (admitted_at l)) (played_at l).outcome.loses (plants.view x.plant) (plants.view y.plant)
+  pub loses : told → (d : Dev) → (plants.view y.plant).loses d ≡ loses_then (played_at l).outcome.loses d ((plants.view x.plant).loses d)
   pub arms : (m : ℕ) → (plants.view y.plant).arms m ≡ arms_then l m ((plants.view x.plant).arms m)
   pub volumes : told → LeavesVolumes l → AreVolumesKept (plants.view x.plant) (plants.view y.plant)
   pub journal : journal_of y ≡ journal_of x
@@ -148,7 +148,7 @@ module _ {P C : Type 0} (plants : PlantGhosts P) (copies : CopyGhosts C) (told :
         paper = λ t m. plain.paper t m ∙ sym (append-nil (paper_now (v x) m))
             ∙ ap (λ (ls : List Line). paper_now (v x) m ++ ls) (sym (none_either (step.by.0 == m) (played_at l).outcome.printed plain.printed));
         dry = λ t so. plain.dry t;
-        loses = plain.loses;
+        loses = λ t d. inl (plain.loses t d);
         arms = plain.arms;
         volumes = plain.volumes;
       };
@@ -194,7 +194,7 @@ module _ {P C : Type 0} (plants : PlantGhosts P) (told : Type 0) (S : Scene) (at
     console = λ t. ap console_now same;
     paper = λ t m. ap (λ (u : View). paper_now u m) same;
     dry = λ t. subst (λ (u : View). SamePapers (w x) u) (sym same) (papers_none (w x));
-    loses = λ t d. inl (ap (λ (u : View). u.loses d) same ∙ sym (loses_still (is_up S by) d));
+    loses = λ t d. ap (λ (u : View). u.loses d) same ∙ sym (loses_still (is_up S by) d);
     arms = λ m. ap (λ (u : View). u.arms m) same;
     volumes = λ t leaves. subst (λ (u : View). AreVolumesKept (w x) u) (sym same) (kept_none (w x));
     journal = journal;
@@ -309,7 +309,7 @@ module _ {P C : Type 0} (plants : PlantGhosts P) (told : Type 0) (S : Scene) (at
     console = λ t. ap console_now armed;
     paper = λ t m. ap (λ (w : View). paper_now w m) armed;
     dry = λ t. subst (λ (w : View). SamePapers (u x) w) (sym armed) (papers_none (u x));
-    loses = λ t d. inl (ap (λ (w : View). w.loses d) armed ∙ sym (ap (λ o. loses_then o.loses d ((u x).loses d)) (silent_found (is_up S by) S arms_scene)));
+    loses = λ t d. ap (λ (w : View). w.loses d) armed ∙ sym (ap (λ o. loses_then o.loses d ((u x).loses d)) (silent_found (is_up S by) S arms_scene));
     arms = λ m. armed_grow (is_up S by) by.0 (u x) (u y) arms m;
     volumes = λ t leaves. subst (λ (w : View). AreVolumesKept (u x) w) (sym armed) (kept_none (u x));
     journal = journal;
@@ -373,7 +373,7 @@ module _ {P C : Type 0} (plants : PlantGhosts P) (told : Type 0) (tells : told �
     console = λ t. (els (tells t)).console (q y).now lost.goes.later (let same : (q y).now ≤ (q y).now = omega arith in same);
     paper = λ t m. (els (tells t)).papers (q y).now lost.goes.later (let same : (q y).now ≤ (q y).now = omega arith in same) m;
     dry = λ t. (els (tells t)).papers;
-    loses = λ t e. inl (lost_count dev e (q x) (q y) lost);
+    loses = λ t e. lost_count dev e (q x) (q y) lost;
     arms = lost.arms;
     volumes = λ t leaves. kept_elsewhere dev (q x) (q y) (leaves_dev (admitted_at d) dev leaves) (els (tells t));
     journal = journal;

@@ -1,5 +1,5 @@
 -- What is refused before play, and what is answered.
-use Rattle.std.proofs.Common.{◌≡◌, ◌⊎◌, inr, ⊎_elim, ℕ, zero, suc, ◌+◌, ◌*◌, ◌≤◌, ◌<◌, nat_lt, not, ◌&&◌, Bool, true, false, List, Option, Some, None, refl, sym, ap, subst, arith}
+use Rattle.std.proofs.Common.{◌≡◌, ◌⊎◌, inr, ⊎_elim, ℕ, zero, suc, ◌+◌, ◌*◌, ◌≤◌, ◌<◌, nat_lt, not, ◌&&◌, Bool, true, false, List, [], Option, Some, None, refl, sym, ap, subst, arith}
 use Rattle.std.proofs.lemmas.Bool.Decides.{nat_tests}
 use Rattle.mas_types.specs.declared.answers.Status.{Status}
 use Rattle.mas_types.specs.declared.answers.Status.TheVariants as status
@@ -109,7 +109,7 @@ answers_said cold only bytes v script answer is answered = subst (λ (s : Said).
 
 -- what nothing hinders ends with Done, or for want of memory
 pub ends : (cold : Bool) (answer : Status) (tells : Type 0) (steps : List Step) (before after : ℕ) (old new : View) → is_refusal cold answer ≡ false → (answer ≡ status.SourceFault → Rose before after) → IsCaused answer old new
-    → IsStill tells steps before after old new → (answer ≡ status.BothLost → tells → AreLeftAlone steps old new → TakesNone steps → ⊥) → IsPlayedOut cold answer
+    → IsStill tells steps before after old new → (answer ≡ status.BothLost → tells → AreLeftAlone steps old new → TakesNone old new [] steps → ⊥) → IsPlayedOut cold answer
 ends cold status.Done tells steps before after old new fine source caused still alone = tt
 ends cold status.NoMemory tells steps before after old new fine source caused still alone = tt
 ends cold status.SourceFault tells steps before after old new fine source caused still alone = absurd (still.source (source refl))

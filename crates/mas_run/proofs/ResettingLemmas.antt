@@ -104,7 +104,7 @@ module _ {P C : Type 0} (plants : PlantGhosts P) (copies : CopyGhosts C) (S : Sc
 
     module _ (x mid y : Parts P C) (book : tried S.book step.by (TakesOver of) ≡ mid.book) (held : holder_of S step.by at (TakesOver of) ≡ h)
         (reset : HasResetBy plants copies h of mid y pages result) where
-      pub takes_bare : ComesTo plants ⊥ step.by.0 true found when x mid
+      pub takes_bare : ComesTo plants copies.reads ⊥ step.by.0 true found when x mid
           → HasLeftAs plants copies ⊥ (line_so (record clear { cut = reset.cut; flight = found }) reset.pieces) (TakesOver of) x y result
       takes_bare comes =
           stepped_left plants copies ⊥ (λ t. absurd t) S at step (TakesOver of) (record clear { cut = reset.cut; flight = found }) reset.pieces x mid y result hold grant
@@ -112,7 +112,7 @@ module _ {P C : Type 0} (plants : PlantGhosts P) (copies : CopyGhosts C) (S : Sc
           (inr (subst (λ (k : Holder). IsResetPiece k of reset.pieces) (sym held) reset.shaped)) (λ t. absurd t) (λ t. absurd t) reset.tight
           (λ t. absurd t) (λ t. absurd t) (λ t. absurd t) (λ t. absurd t) (λ t. absurd t)
 
-      pub takes_told : plants.tells → ComesTo plants (Unit {0}) step.by.0 true found when x mid → queue_of mid ≡ queue_found found S.flight S.queue → counts_of mid.printed step.by ≡ S.counts step.by
+      pub takes_told : plants.tells → ComesTo plants copies.reads (Unit {0}) step.by.0 true found when x mid → queue_of mid ≡ queue_found found S.flight S.queue → counts_of mid.printed step.by ≡ S.counts step.by
           → (so : HasToldReset plants copies h of mid y result)
           → HasLeftAs plants copies (Unit {0}) (line_so (record clear { cut = so.cut; flight = found }) so.pieces) (TakesOver of) x y result
       takes_told tells comes queue counted so =

@@ -180,7 +180,7 @@ module _ {P C : Type 0} (plants : PlantGhosts P) where
 
 module _ (told : Type 0) (b : LinesBegun) (front : List Batch) (now : ℕ) (settled : AreSettled front now) where
   abbrev from_there : Here
-  from_there = record { number = 1; scene = scene_of b.from; batches = front; view = b.view }
+  from_there = record { reads = form_reads; number = 1; scene = scene_of b.from; batches = front; view = b.view }
 
   abbrev after : ℕ → There → LinesEnded
   after many end = record { many = many; batches = drop (length front) end.batches; view = end.view; answer = status_of end.answer }
@@ -213,8 +213,8 @@ module _ (tells : Type 0) (b : LinesBegun) (e : LinesEnded) where
 pub play_of_lines : (tells : Type 0) (steps : List Step) (base : Queue) (front : List Batch) (now : ℕ) (journal : Journal) (since : ℕ) (old new : View) (result : Result (Unit {0}) NodeNo) (many : ℕ)
     → AreSettled front now → IsSound base → (tells → ∥ Headline form_reads base since journal new ∥₁)
     → (status_of result ≢ status.BothLost → ((new.lost (DiskPart Ckpt1) ≡ false) ⊎ (new.lost (DiskPart Ckpt2) ≡ false)) ⊎ HasLost old new)
-    → Passed ⊥ (record { number = 1; scene = scene_of (run base (kept_all front)); batches = front; view = old }) steps many (record { batches = journal.batches; view = new; answer = result })
-    → (tells → Passed (Unit {0}) (record { number = 1; scene = scene_of (run base (kept_all front)); batches = front; view = old }) steps many (record { batches = journal.batches; view = new; answer = result }))
+    → Passed ⊥ (record { reads = form_reads; number = 1; scene = scene_of (run base (kept_all front)); batches = front; view = old }) steps many (record { batches = journal.batches; view = new; answer = result })
+    → (tells → Passed (Unit {0}) (record { reads = form_reads; number = 1; scene = scene_of (run base (kept_all front)); batches = front; view = old }) steps many (record { batches = journal.batches; view = new; answer = result }))
     → IsPlay tells steps (status_of result) base front journal since old new
 play_of_lines tells steps base front now journal since old new result many settled sound head there bare told =
     let b : LinesBegun = record { steps = steps; from = run base (kept_all front); view = old } in

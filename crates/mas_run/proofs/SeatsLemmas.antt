@@ -1,5 +1,5 @@
 -- A line by which its member keeps the lock: the member takes its seat, and says so.
-use Rattle.std.proofs.Common.{◌≡◌, ◌⊎◌, ⊎_elim, inl, ℕ, ◌+◌, ◌-◌, ◌≤◌, ◌<◌, true, false, List, [], ◌++◌, length, set, All, append-nil, None, Result, Ok, Err, OnOk, sym, ◌∙◌, ap, subst, arith}
+use Rattle.std.proofs.Common.{◌≡◌, ⊎_elim, inl, ℕ, ◌+◌, ◌-◌, ◌≤◌, ◌<◌, true, false, List, [], ◌++◌, length, set, All, append-nil, None, Result, Ok, Err, OnOk, sym, ◌∙◌, ap, subst, arith}
 use Rattle.mas_types.specs.declared.answers.Closing.TheVariants as closing
 use Rattle.mas_types.specs.declared.commands.Reply.TheVariants as reply
 use Rattle.mas_types.specs.declared.ids.MemberId.{MemberId}

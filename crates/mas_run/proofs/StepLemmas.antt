@@ -35,7 +35,7 @@ use Rattle.run_turns.specs.Pieces.{Piece, Play, fate_found, holder_of, once_foun
 use Rattle.run_turns.specs.Scenes.{Batched, Scene}
 use Rattle.run_turns.specs.Sights.{Cut, Halt, Sight, clear}
 use Rattle.mas_run.specs.Histories.{settle}
-use Rattle.mas_run.specs.Lines.{AdmissionLeaves, IfIdle, LosesAs, PrintsNone, is_takeover, is_work, Proceeds}
+use Rattle.mas_run.specs.Lines.{AdmissionLeaves, IfIdle, LosesAs, PrintsNone, is_takeover, is_work, Proceeds, taking}
 use Rattle.mas_run.specs.LinesAt.{LineAt, pieces_as, play_as}
 use Rattle.mas_run.specs.LinesLeft.{HasLeftAs, IfRuns, IsCutBy, ended_as, left_as}
 use Rattle.mas_run.specs.Shapes.{IsShapedAs, IsTaskShaped}
@@ -91,7 +91,7 @@ if_runs (Err no_node.NoMemory) P p = tt
 
 -- BEFORE THE STEP: nothing, or a takeover, which found this of a batch in flight at a moment
 
-pub record ComesTo {P C : Type 0} (plants : PlantGhosts P) (told : Type 0) (by : ℕ) (takes : Bool) (found : Fate) (at : ℕ) (x mid : Parts P C) : Type 0 where
+pub record ComesTo {P C : Type 0} (plants : PlantGhosts P) (reads : List ℕ → Option (List ℕ)) (told : Type 0) (by : ℕ) (takes : Bool) (found : Fate) (at : ℕ) (x mid : Parts P C) : Type 0 where
   pub goes : Goes (plants.view x.plant) (plants.view mid.plant)
   pub moment : ((plants.view x.plant).now ≤ at) × (at ≤ (plants.view mid.plant).now)
   pub spares : Spares by false (plants.view x.plant) (plants.view mid.plant)
@@ -99,11 +99,11 @@ pub record ComesTo {P C : Type 0} (plants : PlantGhosts P) (told : Type 0) (by :
   pub printed : mid.printed ≡ x.printed
   pub console : told → console_now (plants.view mid.plant) ≡ console_now (plants.view x.plant)
   pub papers : told → SamePapers (plants.view x.plant) (plants.view mid.plant)
-  pub loses : told → LosesAs takes None (plants.view x.plant) (plants.view mid.plant)
+  pub loses : told → LosesAs reads (taking takes found) None (plants.view x.plant) (plants.view mid.plant)
   pub volumes : told → AreVolumesKept (plants.view x.plant) (plants.view mid.plant)
 
 -- a step with which the line begins
-pub comes_none : {P C : Type 0} (plants : PlantGhosts P) (told : Type 0) (by : ℕ) (x : Parts P C) → journal_of x ≡ x.batches → ComesTo plants told by false Flying (plants.view x.plant).now x x
+pub comes_none : {P C : Type 0} (plants : PlantGhosts P) {reads : List ℕ → Option (List ℕ)} (told : Type 0) (by : ℕ) (x : Parts P C) → journal_of x ≡ x.batches → ComesTo plants reads told by false Flying (plants.view x.plant).now x x
 comes_none plants told by x still = record {
   goes = goes_none (plants.view x.plant);
   moment = (omega arith, omega arith);
@@ -135,7 +135,7 @@ module _ {P C : Type 0} (plants : PlantGhosts P) (copies : CopyGhosts C) (told :
 
   -- what is to be known of the scene, of what was done before, and of the step
   module _ (pieces : pieces_as l a ≡ ps) (book : (play_as l a).book ≡ mid.book) (locked : (play_as l a).locked ≡ true)
-      (when : ℕ) (comes : ComesTo plants told step.by.0 (is_takeover a) (fate_found a sight) when x mid)
+      (when : ℕ) (comes : ComesTo plants copies.reads told step.by.0 (is_takeover a) (fate_found a sight) when x mid)
       (cut : HasCut plants copies h ps sight.cut mid y result) (acts : HasActedIn plants copies step.by mid y result) where
     abbrev left_mid : Left
     left_mid = left_of plants copies step.by sight.cut ps mid
@@ -210,7 +210,7 @@ module _ {P C : Type 0} (plants : PlantGhosts P) (copies : CopyGhosts C) (told :
       count = λ t up. ok_then result (counts_of y.printed step.by ≡ left_mid.count) (counts_of y.printed step.by ≡ (left_as l a).count)
           (λ is. is ∙ count_alike (counted t up)) (written t).count;
       other_counts = λ t m other. (written t).other_counts m other ∙ ap (λ (p : List ℕ). counts_of p m) comes.printed;
-      loses = λ t d. loses_on (v x) (v mid) (v y) on (acts.loses (tells t)) (is_takeover a) d (comes.loses t d);
+      loses = λ t d. loses_on copies.reads (v x) (v mid) (v y) on (acts.loses (tells t)) (taking (is_takeover a) (fate_found a sight)) d (comes.loses t d);
       volumes = λ t leaves. kept_later (v x) (v mid) (v y) comes.goes.later on (comes.volumes t) (volumes t leaves);
     }
 

@@ -1,5 +1,6 @@
 -- A line in which its member was stopped, once the operator has said so.
-use Rattle.std.proofs.Common.{◌≡◌, ◌≢◌, ◌⊎◌, inl, inr, ℕ, ◌≤◌, Bool, true, false, List, [], ◌∷◌, ◌++◌, map, append-nil, append_assoc, Option, Some, None, Result, Ok, Err, refl, sym, ◌∙◌, ap, subst, arith, ⊎_elim}
+use Rattle.std.proofs.Common.{◌≡◌, ◌≢◌, ◌⊎◌, inl, inr, ℕ, ◌≤◌, true, false, List, [], ◌∷◌, ◌++◌, map, append-nil, append_assoc, Option, Some, None, Result, Ok, Err, refl, sym, ◌∙◌, ap, subst, arith, ⊎_elim}
+use Rattle.mas_types.specs.declared.journals.Fate.{Fate}
 use Rattle.mas_types.specs.declared.answers.Closing.TheVariants as closing
 use Rattle.mas_types.specs.declared.ids.Dev.{Dev}
 use Rattle.mas_types.specs.declared.ids.Dev.TheVariants.{Ckpt1, Ckpt2, Spool}
@@ -27,12 +28,12 @@ use Rattle.run_turns.specs.Cuts.{whole}
 use Rattle.run_turns.specs.Steps.{Said, cause_of, stopped_lines}
 use Rattle.mas_run.specs.LinesAt.{LineAt, admitted_at, pieces_at}
 use Rattle.run_turns.specs.Pieces.{Piece}
-use Rattle.mas_run.specs.Lines.{CutsAs, IfIdle, IsPassed, IsWithin, LosesAs, MayLoseCopy, Proceeds, cut_of, is_takeover, is_work, loses_then, IsHonestAs}
+use Rattle.mas_run.specs.Lines.{CouldNotStay, CutsAs, IfIdle, IsPassed, IsWhyLost, IsWithin, LosesAs, MayLoseCopy, Proceeds, cut_of, is_work, loses_then, IsHonestAs}
 use Rattle.mas_run.specs.LinesLeft.{HasLeft, HasSaidStop, IsCutBy, SaysStop, StopCauses, StopIsSaid, left_at}
 use Rattle.mas_run.specs.LinesPlayed.{is_of_member}
 use Rattle.mas_run.specs.Shapes.{IsShapedAs, holder_as}
 use Rattle.mas_run.proofs.LaterLemmas.{finds_later, task_later}
-use Rattle.mas_run.proofs.LeftLemmas.{arms_same, batches_left, if_member, leaves_as, lines_left, loses_none, member_cut, printed_here, given_of, honest_of, right_of}
+use Rattle.mas_run.proofs.LeftLemmas.{arms_same, batches_left, if_member, leaves_as, lines_left, loses_none, member_cut, printed_here, given_of, honest_of, right_of, took}
 use Rattle.mas_run.proofs.LinesLemmas.{batched_later}
 use Rattle.mas_run.proofs.PassedLemmas.{kept_later, proceeds_of, proceeds_on}
 use Rattle.mas_run.proofs.VolumeLemmas.{by_order, kept_on}
@@ -73,17 +74,36 @@ papers_on v0 v1 v2 later goes one two t from to m = ⊎_elim
     (by_order t v1.now)
 
 -- acts that lose nothing by a call leave what was lost before
-pub loses_on : (v0 v1 v2 : View) → Proceeds v1 v2 → ((d : Dev) → v2.loses d ≡ v1.loses d) → (takeover : Bool) (d : Dev)
-    → (v1.loses d ≡ loses_then None d (v0.loses d)) ⊎ MayLoseCopy takeover d v0 v1 → (v2.loses d ≡ loses_then None d (v0.loses d)) ⊎ MayLoseCopy takeover d v0 v2
-loses_on v0 v1 v2 goes same takeover d (inl is) = inl (same d ∙ is)
-loses_on v0 v1 v2 goes same takeover d (inr may) = inr (may_on takeover d may) where
-  may_on : (b : Bool) (e : Dev) → MayLoseCopy b e v0 v1 → MayLoseCopy b e v0 v2
-  may_on true Ckpt1 h = (same Ckpt1 ∙ h.0, goes.lost (Disk Ckpt1) h.1)
-  may_on true Ckpt2 h = (same Ckpt2 ∙ h.0, goes.lost (Disk Ckpt2) h.1)
-  may_on true (Spool n) h = h
-  may_on false Ckpt1 h = h
-  may_on false Ckpt2 h = h
-  may_on false (Spool n) h = h
+pub loses_on : (reads : List ℕ → Option (List ℕ)) (v0 v1 v2 : View) → Proceeds v1 v2 → ((d : Dev) → v2.loses d ≡ v1.loses d) → (took : Option Fate) (d : Dev)
+    → (v1.loses d ≡ loses_then None d (v0.loses d)) ⊎ MayLoseCopy reads took d v0 v1 → (v2.loses d ≡ loses_then None d (v0.loses d)) ⊎ MayLoseCopy reads took d v0 v2
+loses_on reads v0 v1 v2 goes same took d (inl is) = inl (same d ∙ is)
+loses_on reads v0 v1 v2 goes same took d (inr may) = inr (may_on took d may) where
+  stay_on : (found : Fate) (dev other : Dev) → CouldNotStay reads found dev other v0 v1 → CouldNotStay reads found dev other v0 v2
+  stay_on found dev other s = record {
+    pages = s.pages;
+    reached = s.reached;
+    fated = s.fated;
+    near = s.near;
+    at = s.at;
+    moment = (s.moment.0, let le = s.moment.1 in omega (arith, le, goes.later));
+    beside = ap (λ (w : World). reads (w.disk other).bytes) (goes.past s.at s.moment.1) ∙ s.beside;
+    room = s.room;
+    unfit = s.unfit;
+    least = s.least;
+  }
+
+  why_on : (found : Fate) (dev other : Dev) → IsWhyLost reads found dev other v0 v1 → IsWhyLost reads found dev other v0 v2
+  why_on found dev other (inl none) = inl none
+  why_on found dev other (inr (inl rose)) = inr (inl (let more = goes.faults (Disk dev) in omega (arith, rose, more)))
+  why_on found dev other (inr (inr stay)) = inr (inr (stay_on found dev other stay))
+
+  may_on : (t : Option Fate) (e : Dev) → MayLoseCopy reads t e v0 v1 → MayLoseCopy reads t e v0 v2
+  may_on (Some found) Ckpt1 h = (same Ckpt1 ∙ h.0, goes.lost (Disk Ckpt1) h.1, why_on found Ckpt1 Ckpt2 h.2)
+  may_on (Some found) Ckpt2 h = (same Ckpt2 ∙ h.0, goes.lost (Disk Ckpt2) h.1, why_on found Ckpt2 Ckpt1 h.2)
+  may_on (Some found) (Spool n) h = h
+  may_on None Ckpt1 h = h
+  may_on None Ckpt2 h = h
+  may_on None (Spool n) h = h
 
 module _ {P C : Type 0} (plants : PlantGhosts P) (copies : CopyGhosts C) (told : Type 0) (tells : told → plants.tells) (l : LineAt) (x y z : Parts P C)
     (member : is_of_member l.step.what ≡ true) (left : HasLeft plants copies told l x y (Err no_node.Halted))
@@ -106,7 +126,7 @@ module _ {P C : Type 0} (plants : PlantGhosts P) (copies : CopyGhosts C) (told :
   stop_line : map (λ (s : Said). s.line) (stopped_lines l.step.by l.number (cause_of l.given.sight.cut)) ≡ whole (closing_line l.step.by l.number closing.Stopped) ∷ []
   stop_line = ap (λ (c : Option Cause). map (λ (s : Said). s.line) (stopped_lines l.step.by l.number c)) (cut_stops (pieces_at l) l.given.sight.cut left.cut)
 
-  pub passed_stopped : IsPassed told l left.own (v x) (v z) (Ok tt)
+  pub passed_stopped : IsPassed told copies.reads l left.own (v x) (v z) (Ok tt)
   passed_stopped = record {
     goes = proceeds_on (v x) (v y) (v z) (proceeds_of (v x) (v y) left.goes) after;
     given = record {
@@ -130,7 +150,7 @@ module _ {P C : Type 0} (plants : PlantGhosts P) (copies : CopyGhosts C) (told :
         ∙ ap (λ (ls : List Line). console_now (v x) ++ ls) (ap (λ (ls : List Line). (left_at l).lines ++ ls) (sym stop_line) ∙ sym (lines_left l member));
     paper = λ t m. papers_same t m ∙ printed_here plants copies told l x y member left m t;
     dry = λ t none. papers_on (v x) (v y) (v z) left.goes.later after (left.dry t none) (said.acts.papers (tells t));
-    loses = λ t. subst (λ (d : Option Dev). LosesAs (is_takeover (admitted_at l)) d (v x) (v z)) (sym (loses_none l member)) (λ d. loses_on (v x) (v y) (v z) after said.acts.loses (is_takeover (admitted_at l)) d (left.loses t d));
+    loses = λ t. subst (λ (d : Option Dev). LosesAs copies.reads (took l) d (v x) (v z)) (sym (loses_none l member)) (λ d. loses_on copies.reads (v x) (v y) (v z) after said.acts.loses (took l) d (left.loses t d));
     arms = λ m. said.acts.goes.arms m ∙ left.goes.arms m ∙ sym (arms_same plants copies told l x y member left m);
     volumes = λ t leaves. kept_later (v x) (v y) (v z) left.goes.later after (left.volumes t (leaves_as plants copies told l x y member left l.step.what member leaves))
         (kept_on (v y) (v z) (said.acts.others (tells t)));
@@ -170,7 +190,7 @@ module _ {P C : Type 0} (plants : PlantGhosts P) (copies : CopyGhosts C) (told :
   none_said : stopped_lines l.step.by l.number (cause_of l.given.sight.cut) ≡ []
   none_said = ap (λ (c : Option Cause). stopped_lines l.step.by l.number c) (cut_ends e other (pieces_at l) l.given.sight.cut left.cut)
 
-  pub passed_error : IsPassed told l left.own (w x) (w y) (Err e)
+  pub passed_error : IsPassed told copies.reads l left.own (w x) (w y) (Err e)
   passed_error = record {
     goes = proceeds_of (w x) (w y) left.goes;
     given = given_of plants copies told l x y member left;
@@ -189,7 +209,7 @@ module _ {P C : Type 0} (plants : PlantGhosts P) (copies : CopyGhosts C) (told :
         (sym (append-nil (left_at l).lines) ∙ ap (λ (ss : List Said). (left_at l).lines ++ map (λ (s : Said). s.line) ss) (sym none_said) ∙ sym (lines_left l member));
     paper = λ t m. printed_here plants copies told l x y member left m t;
     dry = left.dry;
-    loses = λ t. subst (λ (d : Option Dev). LosesAs (is_takeover (admitted_at l)) d (w x) (w y)) (sym (loses_none l member)) (left.loses t);
+    loses = λ t. subst (λ (d : Option Dev). LosesAs copies.reads (took l) d (w x) (w y)) (sym (loses_none l member)) (left.loses t);
     arms = λ m. left.goes.arms m ∙ sym (arms_same plants copies told l x y member left m);
     volumes = λ t leaves. left.volumes t (leaves_as plants copies told l x y member left l.step.what member leaves);
   }

@@ -1,5 +1,6 @@
 -- The lock of a stopped member taken over, as the takeover says it: what was found, with both copies before any batch, or nothing.
-use Rattle.std.proofs.Common.{◌≡◌, ◌≢◌, ℕ, ◌+◌, ◌≤◌, ◌==◌, Bool, true, false, not, ◌||◌, if◌then◌else◌, List, [], ◌∷◌, ◌++◌, length, Option, Some, None, Result, Ok, Err, refl, sym, ◌∙◌, ap, subst, arith}
+use Rattle.std.proofs.Common.{◌≡◌, ◌≢◌, ◌⊎◌, inl, inr, ⊎_elim, ℕ, ◌+◌, ◌≤◌, ◌<◌, ◌==◌, nat_lt, Bool, true, false, not, ◌||◌, if◌then◌else◌, List, [], ◌∷◌, ◌++◌, length, Option, Some, None, Result, Ok, Err, refl, sym, ◌∙◌, ap, subst, arith}
+use Rattle.std.proofs.lemmas.Bool.Decides.{nat_tests}
 use Rattle.mas_types.specs.declared.ids.Dev.TheVariants.{Ckpt1, Ckpt2}
 use Rattle.mas_types.specs.declared.ids.MemberId.{MemberId}
 use Rattle.mas_types.specs.declared.ids.Page.{Page}
@@ -26,11 +27,12 @@ use Rattle.mas_complex.specs.Crash.{CopyAt, IsAt, Keeps, Setting, copy_of}
 use Rattle.mas_complex.specs.Journals.{AreSettled, end_of, fated, kept_all, with_last}
 use Rattle.mas_complex.specs.Locking.{IsOfOther}
 use Rattle.mas_complex.specs.Parts.{Parts, ended_at}
+use Rattle.mas_complex.specs.Seen.{IsGreater, ReadsSeen}
 use Rattle.mas_complex.specs.declared.places.Place.{Place}
 use Rattle.mas_complex.specs.declared.places.Place.TheVariants.{Before}
 use Rattle.warm_start.specs.declared.takeovers.TakeNo.{TakeNo}
 use Rattle.warm_start.specs.declared.takeovers.TakeNo.TheVariants as take_no
-use Rattle.warm_start.specs.Takeover.{HasActed, HasFound, IsRefusedBy, TakesBy, fate_of, placed_then, taken_in}
+use Rattle.warm_start.specs.Takeover.{HasActed, HasFailed1, HasFailed2, HasFound, IsRefusedBy, TakesBy, fate_of, placed_then, taken_in}
 use Rattle.warm_start.proofs.Spooling.{roomy_later}
 use Rattle.member_node.specs.declared.member.NodeNo.TheVariants as no_node
 use Rattle.member_hand.specs.Quiet.{IsQuiet}
@@ -38,6 +40,7 @@ use Rattle.member_sittings.specs.Gates.{IsOpen}
 use Rattle.member_sittings.specs.Sat.{journal_of}
 use Rattle.member_sittings.specs.Whole.{first_half, queue_of, second_half}
 use Rattle.mas_run.specs.Histories.{settle, settled_at, with_found}
+use Rattle.mas_run.specs.Lines.{IsWhyLost}
 use Rattle.mas_run.specs.Resetting.{IsTaken, IsUnfound, IsUntaken, node_no, rested_in}
 use Rattle.mas_run.specs.Shows.{StandsIn}
 use Rattle.mas_run.proofs.BookLemmas.{Since, inside_since, seized_since, stopped_since, then_since}
@@ -148,6 +151,41 @@ unfound b of stopped holds e refused = by_error e (subst (λ (o : Option SeizeNo
   by_error take_no.Halted is = tt
   by_error take_no.NoMemory is = tt
 
+-- WHY A COPY WAS LOST: the pages found are of no smaller level than those that it read as
+
+found_one : (a : List Page) (two : Option (List Page)) (found : List Page) → IsGreater (Some a) two found → level (bytes_of a) ≤ level (bytes_of found)
+found_one a None found is = let same : level (bytes_of found) ≡ level (bytes_of a) = ap (λ (p : List Page). level (bytes_of p)) is in omega (arith, same)
+found_one a (Some b) found is = subst (λ (p : List Page). level (bytes_of a) ≤ level (bytes_of p)) (sym is) (by_less (nat_lt (level (bytes_of a)) (level (bytes_of b))) refl) where
+  by_less : (t : Bool) → nat_lt (level (bytes_of a)) (level (bytes_of b)) ≡ t → level (bytes_of a) ≤ level (bytes_of (if t then b else a))
+  by_less true e = let lt : level (bytes_of a) < level (bytes_of b) = grind (arith, nat_tests, e) in omega (arith, lt)
+  by_less false e = omega arith
+
+found_two : (one : Option (List Page)) (b : List Page) (found : List Page) → IsGreater one (Some b) found → level (bytes_of b) ≤ level (bytes_of found)
+found_two None b found is = let same : level (bytes_of found) ≡ level (bytes_of b) = ap (λ (p : List Page). level (bytes_of p)) is in omega (arith, same)
+found_two (Some a) b found is = subst (λ (p : List Page). level (bytes_of b) ≤ level (bytes_of p)) (sym is) (by_less (nat_lt (level (bytes_of a)) (level (bytes_of b))) refl) where
+  by_less : (t : Bool) → nat_lt (level (bytes_of a)) (level (bytes_of b)) ≡ t → level (bytes_of b) ≤ level (bytes_of (if t then b else a))
+  by_less true e = omega arith
+  by_less false e = let le : level (bytes_of b) ≤ level (bytes_of a) = grind (arith, nat_tests, e) in omega (arith, le)
+
+same_read : (reads : List ℕ → Option (List ℕ)) (bytes own seen : List ℕ) → reads bytes ≡ Some own → reads bytes ≡ Some seen → seen ≡ own
+same_read reads bytes own seen one two = let e : Some seen ≡ Some own = sym two ∙ one in cc
+
+-- a copy that gave pages gave those that its bytes read as, and one that gave none failed
+least_of : (reads : List ℕ → Option (List ℕ)) (bytes own found : List ℕ) (failed : Type 0) (pages : Option (List Page)) → reads bytes ≡ Some own → ReadsSeen reads bytes pages → (pages ≡ None → failed)
+    → ((a : List Page) → pages ≡ Some a → level (bytes_of a) ≤ level found) → failed ⊎ (level own ≤ level found)
+least_of reads bytes own found failed None is seen none least = inl (none refl)
+least_of reads bytes own found failed (Some a) is seen none least =
+    inr (subst (λ (bs : List ℕ). level bs ≤ level found) (same_read reads bytes own (bytes_of a) is seen) (least a refl))
+
+second_on : (one two : Bool) → SomeAlive one two → one ≡ false → two ≡ true
+second_on false two some gone = some
+second_on true two some gone = absurd (cc)
+
+first_on : (one two : Bool) → SomeAlive one two → two ≡ false → one ≡ true
+first_on true two some gone = refl
+first_on false true some gone = absurd (cc)
+first_on false false some gone = absurd (cc)
+
 module _ {P C : Type 0} (plants : PlantGhosts P) (copies : CopyGhosts C) (by of : MemberId) (x z : Parts P C) (inside : IsMember x.book by) (stands : StandsIn x.batches x.placed x.book x.current) where
   abbrev v : Parts P C → View
   v w = plants.view w.plant
@@ -193,8 +231,56 @@ module _ {P C : Type 0} (plants : PlantGhosts P) (copies : CopyGhosts C) (by of 
       roomy = λ t. subst (λ (Q : Queue). AreRoomy (v z) Q.config) (sym same_base) (roomy_later (v x) (v z) x.base.config acts.counts.goes (roomy t));
     }
 
+    why1 : plants.tells → x.first_alive ≡ true → z.first_alive ≡ false → IsWhyLost copies.reads fate Ckpt1 Ckpt2 (v x) (v z)
+    why1 t was gone =
+        let p = found.picked t in
+        let later = acts.counts.goes.later in
+        inr
+        (⊎_elim inl
+        (λ u. ⊎_elim inl
+        (λ least. inr (record {
+          pages = pages;
+          reached = x.level;
+          fated = refl;
+          near = found.near;
+          at = (v z).now;
+          moment = (later, omega arith);
+          beside = (found.second (second_on z.first_alive z.second_alive found.some gone)).now t;
+          room = copies.room z.first_copy;
+          unfit = u;
+          least = least;
+        }))
+        (least_of copies.reads (disk_now (v x) Ckpt1).bytes (bytes_of u.other) (bytes_of pages) (HasFailed1 plants x z) p.one u.read p.read1 (λ none. p.none1 none was)
+        (λ a is. found_one a p.two pages (subst (λ (o : Option (List Page)). IsGreater o p.two pages) is p.greater))))
+        (found.left1 t was gone))
+
+    why2 : plants.tells → x.second_alive ≡ true → z.second_alive ≡ false → IsWhyLost copies.reads fate Ckpt2 Ckpt1 (v x) (v z)
+    why2 t was gone =
+        let p = found.picked t in
+        let later = acts.counts.goes.later in
+        inr
+        (⊎_elim inl
+        (λ u. ⊎_elim inl
+        (λ least. inr (record {
+          pages = pages;
+          reached = x.level;
+          fated = refl;
+          near = found.near;
+          at = (v z).now;
+          moment = (later, omega arith);
+          beside = (found.first (first_on z.first_alive z.second_alive found.some gone)).now t;
+          room = copies.room z.second_copy;
+          unfit = u;
+          least = least;
+        }))
+        (least_of copies.reads (disk_now (v x) Ckpt2).bytes (bytes_of u.other) (bytes_of pages) (HasFailed2 plants x z) p.two u.read p.read2 (λ none. p.none2 none was)
+        (λ b is. found_two p.one b pages (subst (λ (o : Option (List Page)). IsGreater p.one o pages) is p.greater))))
+        (found.left2 t was gone))
+
     pub is_taken : IsTaken plants copies by of x rested fate
     is_taken = record {
+      left1 = why1;
+      left2 = why2;
       counts = acts.counts;
       apart = acts.apart;
       fated = not_flying (level (bytes_of pages) == x.level);

@@ -35,12 +35,12 @@ use Rattle.run_turns.specs.Cuts.{Left, left_by}
 use Rattle.run_turns.specs.Givens.{ArePiecesOf, Given, IsAskRight, play_with}
 use Rattle.mas_run.specs.LinesAt.{LineAt, admitted_at, pieces_at, played_at}
 use Rattle.run_turns.specs.Steps.{Said}
-use Rattle.mas_run.specs.Lines.{CutsAs, IfIdle, IsHonest, IsPassed, IsThere, IsUnsaid, IsWithin, LosesAs, Proceeds, cut_of, is_takeover, is_work, printed_at, IsHonestAs}
+use Rattle.mas_run.specs.Lines.{CutsAs, IfIdle, IsHonest, IsPassed, IsThere, IsUnsaid, IsWithin, LosesAs, Proceeds, cut_of, is_takeover, is_work, printed_at, taking, IsHonestAs}
 use Rattle.mas_run.specs.LinesLeft.{HasLeft, HasSaidStop, IsCutBy, IsCutIn, StopCauses, left_at}
 use Rattle.mas_run.specs.LinesPlayed.{is_of_member}
 use Rattle.mas_run.specs.Shapes.{IsShapedAs}
 use Rattle.mas_run.proofs.LaterLemmas.{finds_later}
-use Rattle.mas_run.proofs.LeftLemmas.{arms_same, batches_left, if_member, leaves_as, lines_left, loses_none, member_cut, printed_here, printed_left, right_of}
+use Rattle.mas_run.proofs.LeftLemmas.{arms_same, batches_left, if_member, leaves_as, lines_left, loses_none, member_cut, printed_here, printed_left, right_of, took}
 use Rattle.mas_run.proofs.LinesLemmas.{batched_later}
 use Rattle.mas_run.proofs.PassedLemmas.{kept_later, proceeds_of, proceeds_on}
 use Rattle.mas_run.proofs.StopLemmas.{loses_on, papers_on, shaped_as_later}
@@ -192,9 +192,9 @@ console_failed plants copies x y no_node.BothLost cause is = absurd cause
 console_failed plants copies x y no_node.Halted cause is = absurd cause
 
 -- a line of some given ones, which found the same of a batch in flight
-abbrev pub PassedSo : Type 0 → LineAt → List Batch → View → View → NodeNo → Type 0
-PassedSo told l own old new e = (g : Given) × (fate_found (admitted_at l) g.sight ≡ fate_found (admitted_at l) l.given.sight)
-    × IsPassed told (record l { given = g }) own old new (Err e)
+abbrev pub PassedSo : Type 0 → (List ℕ → Option (List ℕ)) → LineAt → List Batch → View → View → NodeNo → Type 0
+PassedSo told reads l own old new e = (g : Given) × (fate_found (admitted_at l) g.sight ≡ fate_found (admitted_at l) l.given.sight)
+    × IsPassed told reads (record l { given = g }) own old new (Err e)
 
 module _ {P C : Type 0} (plants : PlantGhosts P) (copies : CopyGhosts C) (told : Type 0) (tells : told → plants.tells) (l : LineAt) (x y z : Parts P C) (e : NodeNo)
     (member : is_of_member l.step.what ≡ true) (left : HasLeft plants copies told l x y (Err no_node.Halted))
@@ -227,7 +227,7 @@ module _ {P C : Type 0} (plants : PlantGhosts P) (copies : CopyGhosts C) (told :
     here : IsCutIn no_node.Halted (pieces_at l) cut
     here = subst (λ (c : Option Cut). IsCutBy {T = Unit {0}} (Err no_node.Halted) (pieces_at l) c) is left.cut
 
-    passed_cut : IsPassed told n left.own (v x) (v z) (Err e)
+    passed_cut : IsPassed told copies.reads n left.own (v x) (v z) (Err e)
     passed_cut = record {
       goes = proceeds_on (v x) (v y) (v z) (proceeds_of (v x) (v y) left.goes) after;
       given = record {
@@ -253,15 +253,16 @@ module _ {P C : Type 0} (plants : PlantGhosts P) (copies : CopyGhosts C) (told :
       console = λ t. said.console (tells t) ∙ left.console t ∙ ap (λ (ls : List Line). console_now (v x) ++ ls) lines_here;
       paper = λ t k. papers_same t k ∙ printed_here plants copies told l x y member left k t ∙ ap (λ (ls : List Line). paper_now (v x) k ++ ls) (printed_now k);
       dry = λ t none. papers_on (v x) (v y) (v z) left.goes.later after (left.dry t none) (said.acts.papers (tells t));
-      loses = λ t. subst (λ (d : Option Dev). LosesAs (is_takeover (admitted_at l)) d (v x) (v z)) (sym (loses_none n member))
-          (λ d. loses_on (v x) (v y) (v z) after said.acts.loses (is_takeover (admitted_at l)) d (left.loses t d));
+      loses = λ t. subst (λ (d : Option Dev). LosesAs copies.reads (took n) d (v x) (v z)) (sym (loses_none n member))
+          (subst (λ (f : Fate). LosesAs copies.reads (taking (is_takeover (admitted_at l)) f) None (v x) (v z)) (sym (fates cut l is))
+          (λ d. loses_on copies.reads (v x) (v y) (v z) after said.acts.loses (took l) d (left.loses t d)));
       arms = λ k. said.acts.goes.arms k ∙ left.goes.arms k ∙ sym (arms_same plants copies told l x y member left k);
       volumes = λ t leaves. kept_later (v x) (v y) (v z) left.goes.later after (left.volumes t (leaves_as plants copies told l x y member left l.step.what member leaves))
           (kept_on (v y) (v z) (said.acts.others (tells t)));
     }
 
-  pub passed_unsaid : PassedSo told l left.own (v x) (v z) e
+  pub passed_unsaid : PassedSo told copies.reads l left.own (v x) (v z) e
   passed_unsaid = by_cut l.given.sight.cut refl left.cut where
-    by_cut : (c : Option Cut) → l.given.sight.cut ≡ c → IsCutBy {T = Unit {0}} (Err no_node.Halted) (pieces_at l) c → PassedSo told l left.own (v x) (v z) e
+    by_cut : (c : Option Cut) → l.given.sight.cut ≡ c → IsCutBy {T = Unit {0}} (Err no_node.Halted) (pieces_at l) c → PassedSo told copies.reads l left.own (v x) (v z) e
     by_cut None is so = absurd so
     by_cut (Some cut) is so = (ended_given cut l.given, fates cut l is, passed_cut cut is)

@@ -3,14 +3,20 @@ use Rattle.std.specs.Prelude.{◌≡◌, ◌≢◌, ◌⊎◌, ℕ, ◌+◌, ◌
 use Rattle.mas_types.specs.declared.ids.Dev.{Dev}
 use Rattle.mas_types.specs.declared.ids.Dev.TheVariants.{Ckpt1, Ckpt2, Spool}
 use Rattle.mas_types.specs.declared.ids.MemberId.{MemberId}
+use Rattle.mas_types.specs.declared.ids.Page.{Page}
 use Rattle.mas_types.specs.declared.journals.Batch.{Batch}
+use Rattle.mas_types.specs.declared.journals.Fate.{Fate}
+use Rattle.mas_types.specs.declared.journals.Fate.TheVariants.{Flying}
 use Rattle.script_lang.specs.declared.types.Ask.{Ask}
 use Rattle.script_lang.specs.declared.types.Ask.TheVariants as ask
 use Rattle.spool_disk.specs.declared.plant.Part.{Part}
 use Rattle.spool_disk.specs.declared.plant.Part.TheVariants.{Console, Disk}
-use Rattle.spool_disk.specs.View.{Line, View, paper_now}
+use Rattle.spool_disk.specs.View.{Line, View, disk_at, disk_now, paper_now}
 use Rattle.spool_disk.specs.Acts.{Rose, next}
+use Rattle.ckpt_copy.specs.Pages.{bytes_of, level}
 use Rattle.mas_complex.specs.Paper.{SamePapers}
+use Rattle.mas_complex.specs.Seen.{WasUnfit}
+use Rattle.warm_start.specs.Takeover.{fate_of}
 use Rattle.member_node.specs.declared.member.NodeNo.{NodeNo}
 use Rattle.member_node.specs.declared.member.NodeNo.TheVariants as no_node
 use Rattle.member_node.specs.Calls.{console_now}
@@ -18,7 +24,7 @@ use Rattle.step_turns.specs.declared.states.Task.TheVariants.{Deck, Work}
 use Rattle.run_turns.specs.Sights.{Cut, Ends, Stops, Writing}
 use Rattle.run_turns.specs.Scenes.{Scene}
 use Rattle.run_turns.specs.Admissions.{Admission, Plays, TakesOver}
-use Rattle.run_turns.specs.Pieces.{Piece}
+use Rattle.run_turns.specs.Pieces.{Piece, fate_found}
 use Rattle.run_turns.specs.Steps.{is_up}
 use Rattle.run_turns.specs.Givens.{IsRight, queue_met}
 use Rattle.mas_run.specs.LinesAt.{LineAt, admitted_at, pieces_as, pieces_at, played_at}
@@ -150,14 +156,44 @@ abbrev pub is_takeover : Admission → Bool
 is_takeover (TakesOver of) = true
 is_takeover _ = false
 
-abbrev pub MayLoseCopy : Bool → Dev → View → View → Type 0
-MayLoseCopy true Ckpt1 old new = (new.loses Ckpt1 ≡ old.loses Ckpt1 + 1) × (new.lost (Disk Ckpt1) ≡ true)
-MayLoseCopy true Ckpt2 old new = (new.loses Ckpt2 ≡ old.loses Ckpt2 + 1) × (new.lost (Disk Ckpt2) ≡ true)
-MayLoseCopy _ d old new = ⊥
+-- what a line that takes the lock over found of a batch in flight; Flying is nothing yet
+abbrev pub taking : Bool → Fate → Option Fate
+taking true found = Some found
+taking false found = None
 
-abbrev pub LosesAs : Bool → Option Dev → View → View → Type 0
-LosesAs takeover lost old new = (d : Dev)
-    → (new.loses d ≡ loses_then lost d (old.loses d)) ⊎ MayLoseCopy takeover d old new
+-- A copy couldn't stay beside the pages that a takeover found, and by which a batch in flight has this fate. They had
+-- the level that the kept batches had reached, or at most one more; and at a moment of the line the other copy had
+-- them. As the line began this copy read as pages of no greater level, which don't fit those, for so many puts as it
+-- had room for, or have another level than those and than the one reached.
+pub record CouldNotStay (reads : List ℕ → Option (List ℕ)) (fate : Fate) (dev other : Dev) (old new : View) : Type 0
+  where
+    pub pages : List Page
+    pub reached : ℕ
+    pub fated : fate ≡ fate_of (level (bytes_of pages)) reached
+    pub near : level (bytes_of pages) ≤ reached + 1
+    pub at : ℕ
+    pub moment : (old.now ≤ at) × (at ≤ new.now)
+    pub beside : reads (disk_at new at other).bytes ≡ Some (bytes_of pages)
+    pub room : ℕ
+    pub unfit : WasUnfit reads (disk_now old dev).bytes reached room pages
+    pub least : level (bytes_of unfit.other) ≤ level (bytes_of pages)
+
+-- why a takeover lost a copy: it found nothing out, and the line was cut in it; or an act on the copy failed, or it
+-- couldn't stay
+abbrev pub IsWhyLost : (List ℕ → Option (List ℕ)) → Fate → Dev → Dev → View → View → Type 0
+IsWhyLost reads found dev other old new = (found ≡ Flying)
+    ⊎ (Rose (old.faults (Disk dev)) (new.faults (Disk dev)) ⊎ CouldNotStay reads found dev other old new)
+
+abbrev pub MayLoseCopy : (List ℕ → Option (List ℕ)) → Option Fate → Dev → View → View → Type 0
+MayLoseCopy reads (Some found) Ckpt1 old new = (new.loses Ckpt1 ≡ old.loses Ckpt1 + 1)
+    × (new.lost (Disk Ckpt1) ≡ true) × IsWhyLost reads found Ckpt1 Ckpt2 old new
+MayLoseCopy reads (Some found) Ckpt2 old new = (new.loses Ckpt2 ≡ old.loses Ckpt2 + 1)
+    × (new.lost (Disk Ckpt2) ≡ true) × IsWhyLost reads found Ckpt2 Ckpt1 old new
+MayLoseCopy reads _ d old new = ⊥
+
+abbrev pub LosesAs : (List ℕ → Option (List ℕ)) → Option Fate → Option Dev → View → View → Type 0
+LosesAs reads took lost old new = (d : Dev)
+    → (new.loses d ≡ loses_then lost d (old.loses d)) ⊎ MayLoseCopy reads took d old new
 
 -- STOPS THAT ARE ARMED, by a line that isn't one of a member that is none, or was stopped before
 
@@ -194,10 +230,10 @@ LeavesVolumes l = AskLeaves (admitted_at l) l.step.what
 abbrev pub printed_at : LineAt → ℕ → List Line
 printed_at l m = if l.step.by.0 == m then (played_at l).outcome.printed else []
 
--- A LINE THAT WAS PLAYED, on a plant that showed `old` before it and `new` after it, with these batches of its own and
--- this answer.
-pub record IsPassed (told : Type 0) (l : LineAt) (own : List Batch) (old new : View) (answer : Result (Unit {0}) NodeNo)
-    : Type 0 where
+-- A LINE THAT WAS PLAYED, on a plant that showed `old` before and `new` after it, with these batches of its own and
+-- this answer. A copy's bytes are read so.
+pub record IsPassed (told : Type 0) (reads : List ℕ → Option (List ℕ)) (l : LineAt) (own : List Batch) (old new : View)
+    (answer : Result (Unit {0}) NodeNo) : Type 0 where
   pub goes : Proceeds old new
   pub given : IsGiven told l old new
   pub honest : told → IfOfMember l.step.what (IsHonest l old new)
@@ -214,6 +250,7 @@ pub record IsPassed (told : Type 0) (l : LineAt) (own : List Batch) (old new : V
   pub console : told → console_now new ≡ console_now old ++ map (λ s. s.line) (played_at l).outcome.said
   pub paper : told → (m : ℕ) → paper_now new m ≡ paper_now old m ++ printed_at l m
   pub dry : told → PrintsNone (admitted_at l) → SamePapers old new
-  pub loses : told → LosesAs (is_takeover (admitted_at l)) (played_at l).outcome.loses old new
+  pub loses : told → LosesAs reads (taking (is_takeover (admitted_at l)) (fate_found (admitted_at l) l.given.sight))
+      (played_at l).outcome.loses old new
   pub arms : (m : ℕ) → new.arms m ≡ arms_then l m (old.arms m)
   pub volumes : told → LeavesVolumes l → AreVolumesKept old new

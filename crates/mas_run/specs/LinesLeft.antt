@@ -30,7 +30,7 @@ use Rattle.mas_run.specs.LinesAt.{LineAt, admitted_at, pieces_as, play_as}
 use Rattle.run_turns.specs.Pieces.{Piece, fate_found}
 use Rattle.run_turns.specs.Scenes.{Scene}
 use Rattle.mas_run.specs.Histories.{settle}
-use Rattle.mas_run.specs.Lines.{AdmissionLeaves, IfIdle, IsHonestAs, IsThere, LosesAs, PrintsNone, is_takeover, is_work}
+use Rattle.mas_run.specs.Lines.{AdmissionLeaves, IfIdle, IsHonestAs, IsThere, LosesAs, PrintsNone, is_takeover, is_work, taking}
 use Rattle.mas_run.specs.Shapes.{IsShapedAs}
 use Rattle.mas_run.specs.Shows.{IsShown}
 use Rattle.mas_run.specs.Volumes.{AreVolumesKept}
@@ -99,7 +99,7 @@ module _ {P C : Type 0} (plants : PlantGhosts P) (copies : CopyGhosts C) where
     pub count : told → is_stopped l.scene.book l.step.by ≡ false
         → OnOk result (counts_of y.printed l.step.by ≡ (left_as l a).count)
     pub other_counts : told → (m : MemberId) → m ≢ l.step.by → counts_of y.printed m ≡ counts_of x.printed m
-    pub loses : told → LosesAs (is_takeover a) None (v x) (v y)
+    pub loses : told → LosesAs copies.reads (taking (is_takeover a) (fate_found a l.given.sight)) None (v x) (v y)
     pub volumes : told → AdmissionLeaves a → AreVolumesKept (v x) (v y)
 
   abbrev pub HasLeft : Type 0 → LineAt → Parts P C → Parts P C → Result (Unit {0}) NodeNo → Type 0

@@ -1,5 +1,5 @@
 -- The lines of a script, played one after another, up to one that ends the run.
-use Rattle.std.specs.Prelude.{◌≡◌, ℕ, suc, ◌+◌, ◌≤◌, ◌==◌, Bool, true, false, if◌then◌else◌, List, [], ◌∷◌, ◌++◌, drop, Result, Ok}
+use Rattle.std.specs.Prelude.{◌≡◌, ℕ, suc, ◌+◌, ◌≤◌, ◌==◌, Bool, true, false, if◌then◌else◌, List, [], ◌∷◌, ◌++◌, drop, Option, Result, Ok}
 use Rattle.mas_types.specs.declared.ids.Dev.{Dev}
 use Rattle.mas_types.specs.declared.journals.Batch.{Batch}
 use Rattle.script_lang.specs.declared.types.Step.{Step}
@@ -13,8 +13,10 @@ use Rattle.mas_run.specs.LinesAt.{LineAt, admitted_at, played_at}
 use Rattle.mas_run.specs.Histories.{settle}
 use Rattle.mas_run.specs.Lines.{IsPassed, LeavesVolumes, is_takeover, loses_then}
 
--- what a plant showed, what the journal of the run had, and the scene, at a line of this number
+-- what a plant showed, what the journal of the run had, and the scene, at a line of this number; and how a copy's bytes
+-- are read
 pub record Here : Type 0 where
+  pub reads : List ℕ → Option (List ℕ)
   pub number : ℕ
   pub scene : Scene
   pub batches : List Batch
@@ -33,13 +35,14 @@ line_of h g step = record { scene = h.scene; number = h.number; step = step; giv
 -- batch's fate since a moment of the line.
 pub record IsNext (told : Type 0) (h : Here) (g : Given) (step : Step) (there : There) : Type 0 where
   pub own : List Batch
-  pub passed : IsPassed told (line_of h g step) own h.view there.view there.answer
+  pub passed : IsPassed told h.reads (line_of h g step) own h.view there.view there.answer
   pub at : ℕ
   pub moment : (h.view.now ≤ at) × (at ≤ there.view.now)
   pub batches : there.batches ≡ settle (played_at (line_of h g step)).outcome.found at h.batches ++ own
 
 abbrev pub here_after : Here → Given → Step → There → Here
 here_after h g step there = record {
+  reads = h.reads;
   number = h.number + 1;
   scene = (played_at (line_of h g step)).next;
   batches = there.batches;

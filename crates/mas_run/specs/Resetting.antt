@@ -1,6 +1,7 @@
 -- What a line leaves that resets a stopped member, for every answer: by one that has the lock, or takes it over first.
 use Rattle.std.specs.Prelude.{◌≡◌, ◌≢◌, ◌⊎◌, ℕ, ◌+◌, ◌≤◌, ◌<◌, if◌then◌else◌, Bool, false, true, List, length, Option, Result, Ok, Err, ◌++◌, All}
 use Rattle.mas_types.specs.declared.commands.Command.TheVariants as command
+use Rattle.mas_types.specs.declared.ids.Dev.TheVariants.{Ckpt1, Ckpt2}
 use Rattle.mas_types.specs.declared.ids.MemberId.{MemberId}
 use Rattle.mas_types.specs.declared.journals.Fate.{Fate}
 use Rattle.mas_types.specs.declared.journals.Fate.TheVariants.{Flying}
@@ -46,6 +47,7 @@ use Rattle.member_hand.specs.Quiet.{IsAside, IsIdle, IsQuiet, MayGoOn, levels_fo
 use Rattle.run_turns.specs.Pieces.{Piece, reset_pieces}
 use Rattle.run_turns.specs.Sights.{Cut}
 use Rattle.mas_run.specs.Histories.{settle}
+use Rattle.mas_run.specs.Lines.{IsWhyLost}
 use Rattle.mas_run.specs.LinesLeft.{IfRuns, ended_as}
 use Rattle.mas_run.specs.Shapes.{IsResetPiece}
 use Rattle.mas_run.specs.Shows.{IsOfEarlier, StandsIn}
@@ -165,7 +167,7 @@ module _ {P C : Type 0} (plants : PlantGhosts P) (copies : CopyGhosts C) where
 
   -- The lock was taken over, and this was found of a batch in flight, if one was: it is kept or dropped. The copies
   -- are at rest then, and each that counts as alive has the pages of the configuration. A batch that is kept raises the
-  -- level by one.
+  -- level by one. A copy was lost only where an act on it failed, or it couldn't stay beside the pages found.
   pub record IsTaken (by of : MemberId) (x y : Parts P C) (found : Fate) : Type 0 where
     pub counts : KeepsCounts by.0 x.first_alive y.first_alive x.second_alive y.second_alive false (v x) (v y)
     pub apart : plants.tells → OnCopies (v x) (v y)
@@ -176,6 +178,10 @@ module _ {P C : Type 0} (plants : PlantGhosts P) (copies : CopyGhosts C) where
     pub quiet : IsQuiet plants copies y (page_count x.base.config)
     pub level : y.level ≤ x.level + 1
     pub some : SomeAlive y.first_alive y.second_alive
+    pub left1 : plants.tells → x.first_alive ≡ true → y.first_alive ≡ false
+        → IsWhyLost copies.reads found Ckpt1 Ckpt2 (v x) (v y)
+    pub left2 : plants.tells → x.second_alive ≡ true → y.second_alive ≡ false
+        → IsWhyLost copies.reads found Ckpt2 Ckpt1 (v x) (v y)
 
   -- who holds the lock that was taken over, in this line
   abbrev pub taker_at : MemberId → ℕ → Parts P C → Holder

@@ -193,7 +193,7 @@ pub record LinesEnded : Type 0 where
   pub answer : Status
 
 abbrev pub starts : LinesBegun → Here
-starts b = record { number = 1; scene = scene_of b.from; batches = []; view = b.view }
+starts b = record { reads = form_reads; number = 1; scene = scene_of b.from; batches = []; view = b.view }
 
 abbrev pub stops : LinesEnded → Result (Unit {0}) NodeNo → There
 stops e result = record { batches = e.batches; view = e.view; answer = result }

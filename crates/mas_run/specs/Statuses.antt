@@ -1,5 +1,5 @@
 -- Why a run ends.
-use Rattle.std.specs.Prelude.{◌≡◌, ◌≢◌, ◌⊎◌, ℕ, ◌<◌, Bool, true, false, List, All, Option, Some, None, Result, Ok, Err}
+use Rattle.std.specs.Prelude.{◌≡◌, ◌≢◌, ◌⊎◌, ℕ, ◌<◌, Bool, true, false, List, [], ◌∷◌, All, Option, Some, None, Result, Ok, Err}
 use Rattle.mas_types.specs.declared.ids.Dev.{Dev}
 use Rattle.mas_types.specs.declared.ids.Dev.TheVariants.{Ckpt1, Ckpt2}
 use Rattle.mas_types.specs.declared.ids.MemberId.{MemberId}
@@ -42,17 +42,24 @@ abbrev pub resets_in : Ask → Option MemberId
 resets_in (ask.Command given) = resets given
 resets_in _ = None
 
--- No line resets another member that the script has a line of: so nobody is reset who was stopped, and no lock is
--- taken over. A takeover may lose a copy.
-abbrev pub TakesNone : List Step → Type 0
-TakesNone steps = All (λ (s : Step). (of : MemberId) → resets_in s.what ≡ Some of
-    → (of ≡ s.by) ⊎ All (λ (r : Step). r.by ≢ of) steps) steps
+-- A line that can't have stopped a member in a run: another's, or one that isn't a stop, where the member's count of
+-- stops didn't rise, which each stop in an act raises.
+abbrev pub CannotStop : View → View → MemberId → Step → Type 0
+CannotStop old new m s = (s.by ≢ m) ⊎ ((s.what ≢ ask.Stop) × (Rose (old.stops m.0) (new.stops m.0) → ⊥))
+
+-- No line resets another member that a line before it may have stopped; those before these steps stand the last one
+-- first. So no lock is taken over. A takeover may lose a copy.
+abbrev pub TakesNone : View → View → List Step → List Step → Type 0
+TakesNone old new before [] = Unit {0}
+TakesNone old new before (s ∷ steps) =
+    ((of : MemberId) → resets_in s.what ≡ Some of → (of ≡ s.by) ⊎ All (CannotStop old new of) before)
+    × TakesNone old new (s ∷ before) steps
 
 -- No fault of the source or of the console rose; and the copies were left alone by their devices and by the script's
 -- steps, where content is told, or not both were lost, whoever lost them.
 pub record IsStill (tells : Type 0) (steps : List Step) (before after : ℕ) (old new : View) : Type 0 where
   pub source : Rose before after → ⊥
-  pub disks : (tells × AreLeftAlone steps old new × TakesNone steps)
+  pub disks : (tells × AreLeftAlone steps old new × TakesNone old new [] steps)
       ⊎ (WasLost Ckpt1 old new → WasLost Ckpt2 old new → ⊥)
   pub console : Rose (old.faults Console) (new.faults Console) → ⊥
 

@@ -1,4 +1,4 @@
-use Rattle.std.proofs.Common.{◌≡◌, inr, false, List, Option, ap, subst}
+use Rattle.std.proofs.Common.{◌≡◌, inr, false, List, [], Option, ap, subst}
 use Rattle.mas_types.specs.declared.answers.Status.{Status}
 use Rattle.script_lang.specs.declared.types.Step.{Step}
 use Rattle.mas_run.specs.Refusals.{Answers, is_refusal, said_by, steps_of}
@@ -27,7 +27,7 @@ returns-in-Ok-clause-complete g c tells none still =
     ends c.args.cold answer g.P.Plant.tells steps (g.S.Source.faults c.args.script.now) (g.S.Source.faults c.read_all.new.source) old new fine
     (λ is. absurd (e.no_source is)) e.cause still
     (λ lost told alone takes. not_both g.P.Plant.tells told c.in-Ok.script answer c.play_steps.result.base c.play_steps.result.journal c.play_steps.result.since old new
-    c.in-Ok.ensures.fits.steps (subst TakesNone same takes) c.args.cold
+    c.in-Ok.ensures.fits.steps (subst (λ (l : List Step). TakesNone old new [] l) same takes) c.args.cold
     (subst (λ (l : List Step). AreLeftAlone l old new) same alone)
     (λ warm none. subst (λ (s : Status). IsNotStarted g.P.Plant.tells s old new) lost (e.unstarted warm none)) (λ cold none. e.loses none (inr cold)) e.run (e.cause.failed1 lost) (e.cause.failed2 lost))
 
