@@ -1,10 +1,10 @@
-"""Cases that a queue must bear: many outputs that wait, a class that no printer takes, a queue that stays empty, and a
-start with all groups taken."""
+"""Cases that a queue must bear: many outputs that wait, a class that no printer takes, a queue that stays empty, a
+start with all groups taken, and a generated script."""
 import os
 import subprocess
 import time
 
-from players import PAGE, SIZES, Taken, deck, in_folder
+from players import PAGE, SIZES, Taken, deck, in_folder, taken_again, traced
 
 # Where files are in memory: these cases are of the processor.
 MEMORY = "/dev/shm"
@@ -140,3 +140,13 @@ def starts(command, where, pages):
         return start(command, folder, ("--cold",), SIZES[pages].front), start(command, folder)
 
     return in_folder(where, run)
+
+
+def generated(command, where, decks):
+    """Seconds of a generated script of so many decks, and those of a bare loop that makes the same writes and syncs."""
+    words = [*command, "generate", str(decks)]
+    files = ("CKPT1", "CKPT2", "SPOOL1", "PRT1", "PRT2")
+    done, _ = in_folder(where, lambda folder: traced(words, b"", folder, files))
+    took = in_folder(where, lambda folder: Taken(words, b"", folder, None))
+    assert took.told[-1].startswith(b"SUMMARY ENTERED %d " % decks), took.told[-1]
+    return took.seconds, taken_again(done, where).seconds

@@ -1,4 +1,5 @@
 """What plays decks and work: the program, a bare loop with its writes and syncs, queues in SQLite and in beanstalkd."""
+import json
 import os
 import re
 import shutil
@@ -177,13 +178,13 @@ def play_floor(decks, pages):
             os.pwrite(files[act[0]], bytes_of[act[2]], act[1])
 
 
-def seen(command, folder, decks, pages):
-    """The writes and syncs that the program makes for so many decks at a size, and the pages of the checkpoint that it
-    reads, by what `strace` tells."""
+def traced(words, given, folder, files):
+    """The writes and syncs that a command makes to these files and to standard output, and the pages of the checkpoint
+    that it reads, by what `strace` tells."""
     log = os.path.join(folder, "calls")
     calls = "trace=openat,fcntl,lseek,read,write,pread64,pwrite64,writev,fsync,fdatasync"
-    words = ["strace", "-qq", "-s", "0", "-e", calls, "-o", log, *command, "play", "--cold"]
-    subprocess.run(words, input=script(decks, SIZES[pages].front), stdout=subprocess.DEVNULL, cwd=folder, check=True)
+    words = ["strace", "-qq", "-s", "0", "-e", calls, "-o", log, *words]
+    subprocess.run(words, input=given, stdout=subprocess.DEVNULL, cwd=folder, check=True)
     with open(log, encoding="ascii", errors="replace") as file:
         lines = file.readlines()
     names, places, done, read = {1: None}, {}, [], 0
@@ -194,7 +195,7 @@ def seen(command, folder, decks, pages):
             names[answer] = os.path.basename(re.search(r'"(.*?)"', rest).group(1))
             continue
         file = int(re.match(r"\d+", rest).group())
-        if names.get(file, "") not in (None, "CKPT1", "CKPT2", "SPOOL1"):
+        if names.get(file, "") not in (None, *files):
             continue
         if call == "fcntl":
             names[answer] = names[file]
@@ -202,7 +203,7 @@ def seen(command, folder, decks, pages):
         if call == "lseek":
             places[file] = answer
         elif call in ("read", "pread64"):
-            read += names[file] != "SPOOL1" and answer == PAGE
+            read += names[file].startswith("CKPT") and answer == PAGE
         elif call == "write":
             done.append((names[file], places.get(file, 0), answer))
             places[file] = places.get(file, 0) + answer if names[file] else 0
@@ -211,6 +212,30 @@ def seen(command, folder, decks, pages):
         else:
             done.append((names[file],))
     return done, read
+
+
+def seen(command, folder, decks, pages):
+    """The writes and syncs that the program makes for so many decks at a size, and the pages of the checkpoint that it
+    reads."""
+    words = [*command, "play", "--cold"]
+    return traced(words, script(decks, SIZES[pages].front), folder, ("CKPT1", "CKPT2", "SPOOL1"))
+
+
+def play_again(name):
+    """A bare loop that makes the writes and syncs of a list in a file, and says lines as long as those said."""
+    with open(name, encoding="ascii") as file:
+        done = json.load(file)
+    files = {None: 1}
+    for name in {act[0] for act in done} - {None}:
+        files[name] = os.open(name, os.O_RDWR | os.O_CREAT, 0o666)
+    bytes_of = {act[2]: b"x" * (act[2] - 1) + b"\n" for act in done if len(act) == 3}
+    for name, *written_there in done:
+        if not written_there:
+            os.fsync(files[name])
+        elif name is None:
+            os.write(1, bytes_of[written_there[1]])
+        else:
+            os.pwrite(files[name], bytes_of[written_there[1]], written_there[0])
 
 
 # The queue in SQLite.
@@ -421,6 +446,8 @@ class Taken:
         return (ends[tenth] - ends[0]) / tenth, (ends[-1] - ends[-1 - tenth]) / tenth
 
 
+# The name of a player that makes the acts of a list again, and of the file of that list.
+AGAIN = "acts"
 PLAYERS = ["the raw floor", "the program", "SQLite, two files", "SQLite, one file"]
 PLAYERS += [f"{player}, write-ahead log" for player in PLAYERS[2:]]
 if shutil.which("beanstalkd"):
@@ -446,11 +473,24 @@ def taken(player, command, where, played):
     return in_folder(where, lambda folder: Taken(words, given, folder, decks))
 
 
+def taken_again(done, where):
+    """What the bare loop takes that makes these writes and syncs, in a new folder."""
+
+    def run(folder):
+        with open(os.path.join(folder, AGAIN), "w", encoding="ascii") as file:
+            json.dump(done, file)
+        return Taken([sys.executable, os.path.abspath(__file__), "0", AGAIN, "0"], b"", folder, None)
+
+    return in_folder(where, run)
+
+
 def play_as(decks, player, pages):
     """A player in Python, in the folder where it was started."""
     os.write(1, b"READY %r %r\n" % (time.perf_counter(), held_by(os.getpid())[2]))
     if player == "the raw floor":
         play_floor(decks, pages)
+    elif player == AGAIN:
+        play_again(AGAIN)
     elif player.startswith("SQLite"):
         play_sqlite(decks, 2 if "two" in player else 1, "ahead" in player)
     else:

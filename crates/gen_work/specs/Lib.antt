@@ -1,2 +1,4 @@
 pub mod Generated
+pub mod Summaries
 pub mod Examples
+pub mod SummaryExamples

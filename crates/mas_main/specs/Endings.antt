@@ -39,3 +39,4 @@ opening_for (task.Play false) = opening.GoOn
 opening_for task.Report = opening.Look
 opening_for task.Format = opening.Make
 opening_for task.Check = opening.Look
+opening_for (task.Generate decks) = opening.Make

@@ -50,7 +50,7 @@ fn opening_of(task: Task) -> Opening
     ensures { result ≡ opening_for task }
 {
     match task {
-        Task::Play(true) | Task::Format => Opening::Make,
+        Task::Play(true) | Task::Format | Task::Generate(_) => Opening::Make,
         Task::Play(false) => Opening::GoOn,
         Task::Report | Task::Check => Opening::Look,
     }

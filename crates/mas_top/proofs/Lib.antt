@@ -3,3 +3,6 @@ pub mod SayLemmas
 pub mod ReportLemmas
 pub mod PlayLemmas
 pub mod CheckLemmas
+pub mod ExtendLemmas
+pub mod GenerateLemmas
+pub mod CompleteLemmas

@@ -3,3 +3,5 @@ pub mod Saying
 pub mod Reports
 pub mod Checks
 pub mod Plays
+pub mod ScriptTexts
+pub mod Generates

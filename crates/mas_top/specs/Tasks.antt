@@ -16,8 +16,8 @@ task_by cold verb.Play = Some (task.Play cold)
 task_by cold verb.Report = Some task.Report
 task_by cold verb.Format = Some task.Format
 task_by cold verb.Check = Some task.Check
+task_by cold (verb.Generate decks) = Some (task.Generate decks)
 task_by cold verb.Race = None
-task_by cold (verb.Generate decks) = None
 
 abbrev pub task_of : Words → Option Task
 task_of words = task_by words.cold words.verb

@@ -1,6 +1,7 @@
 //! The top call: what the words of the program ask for is done on a plant.
 #![tactic(auto)]
 
+mod generating;
 mod inspecting;
 mod reporting;
 mod saying;

@@ -18,6 +18,8 @@ pub enum Task {
     Format,
     /// Checks the pages and the texts that are found.
     Check,
+    /// Plays the script of so many decks from an empty queue, and says what it came to.
+    Generate(u32),
 }
 
 /// What the words ask for. None where that isn't built yet.
@@ -29,7 +31,8 @@ pub fn task_of(words: &Words) -> Option<Task>
         Verb::Report => Some(Task::Report),
         Verb::Format => Some(Task::Format),
         Verb::Check => Some(Task::Check),
-        Verb::Race | Verb::Generate(_) => None,
+        Verb::Generate(decks) => Some(Task::Generate(decks)),
+        Verb::Race => None,
     }
 }
 

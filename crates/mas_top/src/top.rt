@@ -1,15 +1,17 @@
 //! The top call.
-ghost use Rattle.std.specs.Prelude.{◌≡◌, ◌≢◌, ◌⊎◌, Bool, true, false, map, string_bytes, None, Some};
+ghost use Rattle.std.specs.Prelude.{◌≡◌, ◌≢◌, ◌⊎◌, ℕ, Bool, true, false, map, string_bytes, None, Some};
 ghost use Rattle.mas_run.specs.Lines.{Proceeds};
 ghost use Rattle.mas_run.specs.Volumes.{AreVolumesKept};
 ghost use Rattle.mas_run.specs.Runs.{has_begun, Begins, IsUnbegun};
 ghost use Rattle.mas_run.specs.Statuses.{IsCaused};
 ghost use Rattle.member_node.specs.Calls.{console_now};
 ghost use Rattle.mas_top.specs.Checks.{IsCheckRun};
+ghost use Rattle.mas_top.specs.Generates.{IsGenerated};
 ghost use Rattle.mas_top.specs.Plays.{IsPlayed, source_of};
 ghost use Rattle.mas_top.specs.Reports.{IsReport};
 ghost use Rattle.mas_top.specs.Tasks.{task_asked};
 
+use crate::generating::play_generated;
 use crate::inspecting::check_found;
 use crate::reporting::report_queue;
 use crate::tasks::{Task, read_task, status_of_no};
@@ -25,8 +27,9 @@ use std::alloc::Global;
 /// `END`; it reads no script, and changes and loses no device. `format` reads a script that has no steps, and formats
 /// CKPT1 and CKPT2 with the empty queue of its configuration and routes, as a cold run does. `check` says one line:
 /// what is wrong with the pages of greatest level that a copy reads as and with the texts of their queue, if anything;
-/// it reads no script, and changes and loses no device. Where the words are none of the program's, or ask for what
-/// isn't built yet, the status is Words, and nothing is touched.
+/// it reads no script, and changes and loses no device. `generate` plays the script of so many decks from an empty queue,
+/// as `play --cold` plays any, and then says in one line what it came to; it reads no script. Where the words are none
+/// of the program's, or ask for `race`, which isn't built yet, the status is Words, and nothing is touched.
 pub fn calm_top<P: Plant + Drop, S: Source>(
     alloc: Global,
     words: &[String],
@@ -53,6 +56,9 @@ pub fn calm_top<P: Plant + Drop, S: Source>(
         (P.view plant) (P.view result.plant) }
     ensures check { task_asked (map string_bytes words.now) ≡ Some Task.Check → (script.new ≡ script.old)
         × (has_begun result.base ≡ false) × IsCheckRun P.tells result.status (P.view plant) (P.view result.plant) }
+    ensures generate { (decks : ℕ) → task_asked (map string_bytes words.now) ≡ Some (Task.Generate decks)
+        → (script.new ≡ script.old) × IsGenerated decks P.tells (result.plant ≡ plant) result.status result.base
+        result.journal result.since (P.view plant) (P.view result.plant) }
 
     // In every run: why it ends, and whether it has begun, which a check never does. Unless it has begun it changes no
     // byte of a volume, and says nothing but the line of a check.
@@ -74,5 +80,6 @@ pub fn calm_top<P: Plant + Drop, S: Source>(
         Task::Report => report_queue(alloc, plant),
         Task::Format => play_script(alloc, true, true, script, plant),
         Task::Check => check_found(alloc, plant),
+        Task::Generate(decks) => play_generated(alloc, decks, plant),
     }
 }

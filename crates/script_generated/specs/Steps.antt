@@ -9,6 +9,7 @@ use Rattle.script_lang.specs.declared.types.Step.{Step}
 use Rattle.script_lang.specs.Script.{said}
 use Rattle.script_laws.specs.Grammar.{step_of_member}
 use Rattle.script_laws.specs.Whole.{default_setup, script_of}
+use Rattle.script_input.specs.Script.{read_as}
 use Rattle.gen_work.specs.Generated.{IsDeckCount, deck_cards, deck_member, script_text}
 
 abbrev pub sysa : MemberId
@@ -39,3 +40,8 @@ script_generated n = script_of default_setup (script_steps n)
 abbrev pub ReadsGenerated : Type 0
 ReadsGenerated = (run : Run) (n : ℕ) → IsDeckCount n → run.only ≡ false
     → said run (script_text n) ≡ Ok (script_generated n)
+
+-- and none of its steps is one that isn't played yet
+abbrev pub PlaysGenerated : Type 0
+PlaysGenerated = (run : Run) (n : ℕ) → IsDeckCount n → run.only ≡ false
+    → read_as run (script_text n) ≡ Ok (script_generated n)

@@ -1,17 +1,19 @@
-use Rattle.std.proofs.Common.{◌≡◌, ◌∙◌, Bool, true, false, Some, map, inr, refl, sym, ap, subst, arith}
+use Rattle.std.proofs.Common.{◌≡◌, ◌∙◌, ℕ, Bool, true, false, Some, map, inr, refl, sym, ap, subst, arith}
 use Rattle.std.specs.Prelude.{string_bytes}
 use Rattle.mas_run.specs.Refusals.{is_of_script, refusal_before_play}
 use Rattle.mas_run.specs.Runs.{has_begun}
 use Rattle.mas_top.specs.declared.tasks.Task.TheVariants as task
+use Rattle.mas_top.specs.Generates.{IsGenerated}
 use Rattle.mas_top.specs.Plays.{IsPlayed, source_of}
 use Rattle.mas_top.specs.Tasks.{task_asked}
 use Rattle.mas_run.proofs.PassedLemmas.{proceeds_none, proceeds_of}
 use Rattle.mas_run.proofs.RefusalLemmas.{free_answer}
 use Rattle.mas_run.proofs.VolumeLemmas.{kept_none, kept_on}
+use Rattle.mas_top.proofs.GenerateLemmas.{not_generated}
 use Rattle.mas_top.proofs.PlayLemmas.{not_played}
 use Rattle.mas_top.proofs.CheckLemmas.{check_caused, check_not_words, not_checked, volumes_kept}
 use Rattle.mas_top.proofs.ReportLemmas.{not_reported}
-use Rattle.mas_top.proofs.TaskLemmas.{none_some, play_same, play_not_report, play_not_format, report_not_format, play_not_check, report_not_check, format_not_check, none_words, words_or_memory, some_memory, memory_not_source, words_caused, words_begins}
+use Rattle.mas_top.proofs.TaskLemmas.{none_some, play_same, play_not_report, play_not_format, report_not_format, play_not_check, report_not_check, format_not_check, generate_same, generate_not_play, generate_not_report, generate_not_format, generate_not_check, deck_count, none_words, words_or_memory, some_memory, memory_not_source, words_caused, words_begins}
 use Rattle.mas_top.proofs.top.calm_top.Goals as goal
 
 -- A SCRIPT IS PLAYED
@@ -46,6 +48,9 @@ returns-in-Play-clause-format g c is = absurd (play_not_format (task_asked (map 
 pub returns-in-Play-clause-check : goal.returns-in-Play-clause-check
 returns-in-Play-clause-check g c is = absurd (play_not_check (task_asked (map string_bytes c.args.words.now)) c.in-Play.cold (c.in-Ok.ensures ∙ ap Some c.in-Play.is) is)
 
+pub returns-in-Play-clause-generate : goal.returns-in-Play-clause-generate
+returns-in-Play-clause-generate g c decks is = absurd (generate_not_play (task_asked (map string_bytes c.args.words.now)) decks c.in-Play.cold is (c.in-Ok.ensures ∙ ap Some c.in-Play.is))
+
 -- A REPORT
 
 pub returns-in-Report-clause-words : goal.returns-in-Report-clause-words
@@ -68,6 +73,9 @@ returns-in-Report-clause-format g c is = absurd (report_not_format (task_asked (
 
 pub returns-in-Report-clause-check : goal.returns-in-Report-clause-check
 returns-in-Report-clause-check g c is = absurd (report_not_check (task_asked (map string_bytes c.args.words.now)) (c.in-Ok.ensures ∙ ap Some c.in-Report.is) is)
+
+pub returns-in-Report-clause-generate : goal.returns-in-Report-clause-generate
+returns-in-Report-clause-generate g c decks is = absurd (generate_not_report (task_asked (map string_bytes c.args.words.now)) decks is (c.in-Ok.ensures ∙ ap Some c.in-Report.is))
 
 -- A FORMAT
 
@@ -94,6 +102,9 @@ returns-in-Format-clause-format g c is =
 pub returns-in-Format-clause-check : goal.returns-in-Format-clause-check
 returns-in-Format-clause-check g c is = absurd (format_not_check (task_asked (map string_bytes c.args.words.now)) (c.in-Ok.ensures ∙ ap Some c.in-Format.is) is)
 
+pub returns-in-Format-clause-generate : goal.returns-in-Format-clause-generate
+returns-in-Format-clause-generate g c decks is = absurd (generate_not_format (task_asked (map string_bytes c.args.words.now)) decks is (c.in-Ok.ensures ∙ ap Some c.in-Format.is))
+
 -- A CHECK
 
 pub returns-in-Check-clause-words : goal.returns-in-Check-clause-words
@@ -119,6 +130,9 @@ returns-in-Check-clause-format g c is = absurd (format_not_check (task_asked (ma
 
 pub returns-in-Check-clause-check : goal.returns-in-Check-clause-check
 returns-in-Check-clause-check g c is = (refl, ap has_begun c.check_found.ensures.unbegun.queue, c.check_found.ensures.check)
+
+pub returns-in-Check-clause-generate : goal.returns-in-Check-clause-generate
+returns-in-Check-clause-generate g c decks is = absurd (generate_not_check (task_asked (map string_bytes c.args.words.now)) decks is (c.in-Ok.ensures ∙ ap Some c.in-Check.is))
 
 pub returns-in-Check-clause-cause : goal.returns-in-Check-clause-cause
 returns-in-Check-clause-cause g c =
@@ -150,6 +164,39 @@ returns-in-Check-clause-volumes g c told none =
     let P = g.P.Plant in
     let r = c.check_found.result in
     volumes_kept P.tells (P.view c.args.plant) (P.view r.plant) c.check_found.ensures.check.devices told
+
+-- A GENERATED SCRIPT
+
+pub play_generated-requires : goal.play_generated-requires
+play_generated-requires g c = deck_count (map string_bytes c.args.words.now) c.in-Generate.decks (c.in-Ok.ensures ∙ ap Some c.in-Generate.is)
+
+pub returns-in-Generate-clause-words : goal.returns-in-Generate-clause-words
+returns-in-Generate-clause-words g c e = absurd (c.play_generated.ensures.words e)
+
+pub returns-in-Generate-clause-refused : goal.returns-in-Generate-clause-refused
+returns-in-Generate-clause-refused g c none = absurd (none_some (task_asked (map string_bytes c.args.words.now)) (task.Generate c.in-Generate.decks) none (c.in-Ok.ensures ∙ ap Some c.in-Generate.is))
+
+pub returns-in-Generate-clause-unread : goal.returns-in-Generate-clause-unread
+returns-in-Generate-clause-unread g c none = absurd (none_some (task_asked (map string_bytes c.args.words.now)) (task.Generate c.in-Generate.decks) none (c.in-Ok.ensures ∙ ap Some c.in-Generate.is))
+
+pub returns-in-Generate-clause-play : goal.returns-in-Generate-clause-play
+returns-in-Generate-clause-play g c cold is = absurd (generate_not_play (task_asked (map string_bytes c.args.words.now)) c.in-Generate.decks cold (c.in-Ok.ensures ∙ ap Some c.in-Generate.is) is)
+
+pub returns-in-Generate-clause-report : goal.returns-in-Generate-clause-report
+returns-in-Generate-clause-report g c is = absurd (generate_not_report (task_asked (map string_bytes c.args.words.now)) c.in-Generate.decks (c.in-Ok.ensures ∙ ap Some c.in-Generate.is) is)
+
+pub returns-in-Generate-clause-format : goal.returns-in-Generate-clause-format
+returns-in-Generate-clause-format g c is = absurd (generate_not_format (task_asked (map string_bytes c.args.words.now)) c.in-Generate.decks (c.in-Ok.ensures ∙ ap Some c.in-Generate.is) is)
+
+pub returns-in-Generate-clause-check : goal.returns-in-Generate-clause-check
+returns-in-Generate-clause-check g c is = absurd (generate_not_check (task_asked (map string_bytes c.args.words.now)) c.in-Generate.decks (c.in-Ok.ensures ∙ ap Some c.in-Generate.is) is)
+
+pub returns-in-Generate-clause-generate : goal.returns-in-Generate-clause-generate
+returns-in-Generate-clause-generate g c decks is =
+    let P = g.P.Plant in
+    let r = c.play_generated.result in
+    let same : c.in-Generate.decks ≡ decks = generate_same (task_asked (map string_bytes c.args.words.now)) c.in-Generate.decks decks (c.in-Ok.ensures ∙ ap Some c.in-Generate.is) is in
+    (refl, subst (λ (n : ℕ). IsGenerated n P.tells (r.plant ≡ c.args.plant) r.status r.base r.journal r.since (P.view c.args.plant) (P.view r.plant)) same c.play_generated.ensures.generated)
 
 -- WORDS THAT AREN'T READ
 
@@ -200,6 +247,14 @@ returns-in-Err-clause-check g c is =
     let e = c.unbegun.ensures in
     let memory = e.status ∙ c.status_of_no.ensures ∙ some_memory (task_asked (map string_bytes c.args.words.now)) task.Check c.in-Err.why c.in-Err.ensures is in
     (refl, ap has_begun e.unbegun.queue, rw (memory, e.plant) (not_checked P.tells (P.view c.args.plant)))
+
+pub returns-in-Err-clause-generate : goal.returns-in-Err-clause-generate
+returns-in-Err-clause-generate g c decks is =
+    let P = g.P.Plant in
+    let u = c.unbegun.result in
+    let e = c.unbegun.ensures in
+    let memory = e.status ∙ c.status_of_no.ensures ∙ some_memory (task_asked (map string_bytes c.args.words.now)) (task.Generate decks) c.in-Err.why c.in-Err.ensures is in
+    (refl, rw (memory, e.plant) (not_generated decks P.tells (c.args.plant ≡ c.args.plant) u.base u.journal u.since (P.view c.args.plant) refl e.unbegun.queue))
 
 pub returns-in-Err-clause-cause : goal.returns-in-Err-clause-cause
 returns-in-Err-clause-cause g c = rw (c.unbegun.ensures.status, c.status_of_no.ensures) (words_caused c.in-Err.why (g.P.Plant.view c.args.plant) (g.P.Plant.view c.unbegun.result.plant))
