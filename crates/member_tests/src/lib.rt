@@ -1,6 +1,9 @@
-//! Members at work: batches that a stopped member left in flight, and threads.
+//! Members at work: a write on the spool beside another's lock, batches that a stopped member left in flight, and
+//! threads.
 #![tactic(auto)]
 
+#[cfg(test)]
+mod beside;
 #[cfg(test)]
 mod quiet;
 #[cfg(test)]

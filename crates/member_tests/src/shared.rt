@@ -1,4 +1,4 @@
-//! A shared value over two copies of six pages, and a batch of one command that is written to them.
+//! A shared value over two copies of six pages and a spool volume, and batches of one command that are written to them.
 ghost use Rattle.std.specs.Prelude.{◌≡◌, length, IfOk, true, All};
 ghost use Rattle.lock_cycle.specs.Books.{IsMember};
 ghost use Rattle.mas_complex.specs.Locking.{MayAct};
@@ -19,12 +19,12 @@ pub(crate) const FIRST: MemberId = MemberId(1);
 // The member that takes over.
 pub(crate) const SECOND: MemberId = MemberId(2);
 
-// Room for a copy of six pages on each device.
+// Room for a copy of six pages, and a volume of one group.
 fn sizes() -> Sizes {
     Sizes {
         ckpt: 4096 * 35,
-        volumes: 0,
-        volume: 0,
+        volumes: 1,
+        volume: 4096,
     }
 }
 
@@ -60,6 +60,21 @@ pub(crate) fn batch(alloc: Global, by: MemberId) -> Result<List<Entry>, NoMemory
         step: 1,
         command: Command::TakeConvert,
         reply: Reply::Plain,
+    })?;
+    Ok(entries)
+}
+
+// A batch in which a member takes a group.
+pub(crate) fn taking(alloc: Global, by: MemberId) -> Result<List<Entry>, NoMemory>
+    ensures one { IfOk result (λ entries. length entries ≡ 1) }
+    ensures own { IfOk result (λ entries. All (λ e. e.by ≡ by) entries) }
+{
+    let mut entries = List::new(alloc);
+    entries.push(Entry {
+        by,
+        step: 1,
+        command: Command::Take { want: 1 },
+        reply: Reply::Count(1),
     })?;
     Ok(entries)
 }

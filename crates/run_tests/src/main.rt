@@ -7,8 +7,10 @@
 mod cases;
 mod looks;
 mod modes;
+mod plain;
 mod queues;
 mod starts;
+mod stops;
 
 use cases::{Case, set};
 use mas_types::NoMemory;

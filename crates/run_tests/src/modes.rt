@@ -279,6 +279,7 @@ pub fn play(case: &mut Case, told: &mut Told, word: u8, line: &str) -> Result<()
         b'f' => told.acts(case, false, first, second),
         b'h' => told.acts(case, true, first, second),
         b'w' => told.starts(case, first),
+        b's' => told.stops(case, first, second),
         _ => told.crashes(case, word, first, second),
     }
 }
