@@ -36,9 +36,10 @@ use Rattle.queue_slots.proofs.Founds.{first_told, none_told, best_told, no_best_
 use Rattle.job_queue.specs.Jobs.{AreJobs, HasJob, unordered, rec_of, order_of}
 use Rattle.output_queue.specs.Outputs.{AreOutputs, HasOutput}
 use Rattle.output_queue.specs.Outputs as outputs
-use Rattle.queue_effect.specs.Resets.{is_one_of, job_reset, output_reset}
-use Rattle.queue_effect.specs.declared.members.Who.{Who}
-use Rattle.queue_effect.specs.Slots.{emptied_where, changed_where, count_changed}
+use Rattle.queue_resets.specs.Resets.{is_one_of, job_reset, output_reset}
+use Rattle.queue_resets.specs.declared.resets.Who.{Who}
+use Rattle.queue_effect.specs.Slots.{emptied_where, count_changed}
+use Rattle.queue_resets.specs.Resets.{changed_where}
 use Rattle.queue_tables.specs.Telling.{Tell}
 use Rattle.queue_effect.proofs.SlotLemmas.{emptied_told, changed_told}
 

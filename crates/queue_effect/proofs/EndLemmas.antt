@@ -22,7 +22,7 @@ use Rattle.mas_types.specs.Row.{none_such, wrong_phase, job_not_at, refused_wher
 use Rattle.mas_types.specs.Commands.Life.{ended, ended_row, with_outputs, new_output, new_outputs, places_of_outputs, runs, are_outputs_full, lacks_groups, groups_of_outputs, is_cancelled, outputs_at_end}
 use Rattle.lay_bytes.specs.declared.records.JobRec.{JobRec}
 use Rattle.ckpt_pages.specs.declared.tables.Tables.{Tables}
-use Rattle.ckpt_pages.specs.QueueOf.{used}
+use Rattle.lay_bytes.specs.Used.{used}
 use Rattle.output_queue.proofs.OutputLemmas.{length-outputs}
 use Rattle.track_groups.specs.Groups.{given}
 use Rattle.track_groups.specs.Laws.{AreNoMembers, TextsAreNoMembers, GivesInTurn, HandsOut}

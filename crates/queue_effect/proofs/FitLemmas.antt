@@ -21,10 +21,11 @@ use Rattle.output_queue.specs.Outputs as outputs
 use Rattle.lay_bytes.specs.declared.records.JobRec.{JobRec}
 use Rattle.lay_bytes.specs.declared.records.OutRec.{OutRec}
 use Rattle.ckpt_pages.specs.declared.tables.Tables.{Tables}
-use Rattle.ckpt_pages.specs.QueueOf.{used}
+use Rattle.lay_bytes.specs.Used.{used}
 use Rattle.queue_slots.proofs.Cases.{test_cases}
-use Rattle.queue_effect.specs.Resets.{job_reset, output_reset}
-use Rattle.queue_effect.specs.Slots.{emptied_where, changed_where}
+use Rattle.queue_resets.specs.Resets.{job_reset, output_reset}
+use Rattle.queue_effect.specs.Slots.{emptied_where}
+use Rattle.queue_resets.specs.Resets.{changed_where}
 use Rattle.queue_effect.specs.Standing.{IsFitJob, IsFitOutput, AreFit}
 
 module _ {X : Type 0} (P : X → Type 0) where

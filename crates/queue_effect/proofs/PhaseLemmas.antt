@@ -11,7 +11,7 @@ use Rattle.mas_types.specs.Ids.{same_member, is_somebody}
 use Rattle.mas_types.specs.Units.{working_at}
 use Rattle.mas_types.specs.Queue.{is_in, is_busy_at}
 use Rattle.lay_bytes.specs.declared.records.JobRec.{JobRec}
-use Rattle.ckpt_pages.specs.QueueOf.{used}
+use Rattle.lay_bytes.specs.Used.{used}
 use Rattle.queue_slots.specs.Listed.{listed}
 use Rattle.queue_slots.proofs.Cases.{test_cases}
 use Rattle.queue_slots.proofs.Rising.{All-in_order}

@@ -24,7 +24,7 @@ use Rattle.mas_types.specs.declared.commands.What.{What}
 use Rattle.mas_types.specs.Shown.{job_line, output_line, one_job, volume_lines, member_lines, shown, shown_of_none, show_row}
 use Rattle.mas_types.specs.Limits.{members_most}
 use Rattle.ckpt_pages.specs.declared.tables.Tables.{Tables}
-use Rattle.ckpt_pages.specs.QueueOf.{used}
+use Rattle.lay_bytes.specs.Used.{used}
 use Rattle.cmd_report.specs.Named.{IsNamed}
 use Rattle.queue_slots.proofs.Rising.{All-in_order}
 use Rattle.output_queue.specs.Outputs.{AreOutputs}

@@ -4,7 +4,7 @@ use Rattle.std.specs.Prelude.{filter, option_map, count_by, if◌then◌else◌}
 use Rattle.std.proofs.Math.Path.{fun_ext}
 use Rattle.std.proofs.lemmas.List.Sums.{length-filter}
 use Rattle.mas_types.specs.Lists.{change, without, change_at}
-use Rattle.ckpt_pages.specs.QueueOf.{used}
+use Rattle.lay_bytes.specs.Used.{used}
 use Rattle.mas_types.specs.Sorted.{insert_by, in_order}
 use Rattle.queue_slots.specs.Listed.{listed}
 use Rattle.queue_slots.specs.Telling.{Tell}
@@ -13,7 +13,8 @@ use Rattle.queue_slots.proofs.Cases.{test_cases}
 use Rattle.queue_slots.proofs.Changes.{emptied_if, listed-emptied, listed-map}
 use Rattle.queue_slots.proofs.Rising.{placed}
 use Rattle.mas_types.proofs.Sorting.{insert_by-before, insert_by-after}
-use Rattle.queue_effect.specs.Slots.{emptied_where, changed_where}
+use Rattle.queue_effect.specs.Slots.{emptied_where}
+use Rattle.queue_resets.specs.Resets.{changed_where}
 
 module _ {A B C : Type 0} (number : A → ℕ) (u : A → C) (v : B → C) (p : C → Bool) where
   same_emptied : (s : Option A) → emptied_where (λ a. p (u a)) s ≡ emptied_if number (λ a. p (u a)) s

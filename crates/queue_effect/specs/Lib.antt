@@ -1,6 +1,5 @@
 pub mod Gone
 pub mod Laws
-pub mod Resets
 pub mod Slots
 pub mod Standing
 pub mod Working

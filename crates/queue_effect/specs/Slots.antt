@@ -11,11 +11,6 @@ abbrev pub emptied_where : {X : Type 0} → (X → Bool) → Option X → Option
 emptied_where test None = None
 emptied_where test (Some x) = if test x then None else Some x
 
--- a slot, where what stands in it is changed if the test picks it
-abbrev pub changed_where : {X : Type 0} → (X → Bool) → (X → X) → Option X → Option X
-changed_where test f None = None
-changed_where test f (Some x) = Some (if test x then f x else x)
-
 -- the settings, where that of a member is changed
 abbrev pub setting_changed : MemberId → (Setting → Setting) → List Setting → List Setting
 setting_changed m f settings = if is_somebody m then change_at (m.0 - 1) f settings else settings

@@ -8,7 +8,7 @@ use Rattle.mas_types.specs.Row.{Row, done}
 use Rattle.lay_bytes.specs.declared.records.JobRec.{JobRec}
 use Rattle.lay_bytes.specs.declared.records.OutRec.{OutRec}
 use Rattle.ckpt_pages.specs.declared.tables.Tables.{Tables}
-use Rattle.ckpt_pages.specs.QueueOf.{used}
+use Rattle.lay_bytes.specs.Used.{used}
 use Rattle.ckpt_pages.specs.Shape.{HasShape}
 use Rattle.queue_tables.specs.Telling.{Tell}
 

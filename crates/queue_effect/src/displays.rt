@@ -3,7 +3,7 @@ ghost use Rattle.std.specs.Prelude.{◌≡◌, ◌++◌, ◌∷◌, [], map, IfO
 ghost use Rattle.mas_types.specs.declared.queues.Queue.{Queue};
 ghost use Rattle.mas_types.specs.Shown.{show_row};
 ghost use Rattle.queue_slots.specs.Listed.{listed};
-ghost use Rattle.ckpt_pages.specs.QueueOf.{used};
+ghost use Rattle.lay_bytes.specs.Used.{used};
 ghost use Rattle.job_queue.specs.Jobs.{order_of as job_order};
 ghost use Rattle.output_queue.specs.Outputs.{order_of as output_order};
 ghost use Rattle.cmd_report.specs.Named.{IsNamed};

@@ -9,7 +9,7 @@ ghost use Rattle.mas_types.specs.Owners.{member_count as member_count_lem, group
 ghost use Rattle.mas_types.specs.Commands.Life.{ended_row, ended, with_outputs, new_outputs, places_of_outputs, groups_of_outputs};
 ghost use Rattle.track_groups.specs.Groups.{given};
 ghost use Rattle.job_queue.specs.Jobs.{HasJob};
-ghost use Rattle.ckpt_pages.specs.QueueOf.{used};
+ghost use Rattle.lay_bytes.specs.Used.{used};
 ghost use Rattle.queue_tables.specs.Orders.{HaveOrders};
 ghost use Rattle.queue_tables.specs.Telling.{Tell};
 ghost use Rattle.queue_effect.specs.Standing.{Plays, IfRefused, AreFit, IsFitJob};

@@ -1,20 +1,20 @@
 //! What is set of a member, and the resets.
-ghost use Rattle.std.specs.Prelude.{◌≡◌, ◌≤◌, ◌&&◌, map, if◌then◌else◌, IfOk, OnErr};
+ghost use Rattle.std.specs.Prelude.{◌≡◌, map, IfOk, OnErr};
 ghost use Rattle.mas_types.specs.declared.queues.Queue.{Queue};
 ghost use Rattle.mas_types.specs.Fit.{AreClasses, IsName, ArePrinterLines};
 ghost use Rattle.mas_types.specs.Lists.{change_at};
 ghost use Rattle.mas_types.specs.Owners.{freed, is_held_by};
-ghost use Rattle.mas_types.specs.Reset.{reset as reset_lem, phase_reset as phase_reset_lem};
+ghost use Rattle.mas_types.specs.Reset.{reset as reset_lem};
 ghost use Rattle.mas_types.specs.Commands.Members.{set_init_row, set_prt_row, reset_row, restart_row};
-ghost use Rattle.queue_effect.specs.Resets.{is_one_of as is_one_of_lem, job_reset, output_reset};
-ghost use Rattle.queue_effect.specs.Slots.{changed_where, setting_changed};
+ghost use Rattle.queue_effect.specs.Slots.{setting_changed};
 ghost use Rattle.queue_tables.specs.Orders.{HaveOrders};
 ghost use Rattle.queue_tables.specs.Telling.{Tell};
 ghost use Rattle.queue_effect.specs.Standing.{Plays, IfRefused, AreFit};
+ghost use Rattle.queue_resets.specs.Resets.{changed_where, is_one_of as is_one_of_lem, job_reset, output_reset};
 
 use ckpt_pages::Tables;
-use lay_bytes::{JobRec, OutRec};
-use mas_types::{Class, Copied, List, MemberId, Name8, NoMemory, Owner, Phase, Refusal, Reply};
+use mas_types::{Class, Copied, List, MemberId, Name8, NoMemory, Refusal, Reply};
+use queue_resets::{Who, is_one_of, reset_job_slots, reset_output_slots, reset_owner_list};
 use std::alloc::Global;
 
 fn put_init_at(tables: &mut Tables, at: usize, init: List<Class>)
@@ -120,101 +120,6 @@ pub fn set_prt(
     let prt = classes.copy(alloc)?;
     put_prt(tables, by, prt, forms, lines);
     Ok(Reply::Plain)
-}
-
-/// Which members are reset.
-#[derive(Clone, Copy)]
-enum Who {
-    One(MemberId),
-    /// The members up to the greatest one of the configuration.
-    Every(u8),
-}
-
-fn is_one_of(who: Who, member: MemberId) -> bool
-    ensures { result ≡ is_one_of_lem who member }
-{
-    match who {
-        Who::One(of) => member.0 == of.0,
-        Who::Every(members) => member.0 != 0 && member.0 <= members,
-    }
-}
-
-fn phase_reset(restart: bool, phase: Phase) -> Phase
-    ensures { result ≡ phase_reset_lem restart phase }
-{
-    match phase {
-        Phase::Input => Phase::Purge,
-        Phase::Execute if !restart => Phase::Purge,
-        _ => phase,
-    }
-}
-
-fn phase_of(job: &JobRec) -> Phase
-    ensures { result ≡ (if job.now.cancelled then Phase.Purge else phase_reset_lem job.now.fields.restart
-        job.now.phase) }
-{
-    if job.cancelled {
-        return Phase::Purge;
-    }
-    phase_reset(job.fields.restart, job.phase)
-}
-
-fn reset_job(slot: Option<JobRec>, who: Who) -> Option<JobRec>
-    ensures { result ≡ changed_where (λ r. is_one_of_lem who r.busy) job_reset slot }
-{
-    match slot {
-        Some(job) if is_one_of(who, job.busy) => Some(JobRec {
-            busy: MemberId(0),
-            phase: phase_of(&job),
-            ..job
-        }),
-        _ => slot,
-    }
-}
-
-fn reset_output(slot: Option<OutRec>, who: Who) -> Option<OutRec>
-    ensures { result ≡ changed_where (λ r. is_one_of_lem who r.busy) output_reset slot }
-{
-    match slot {
-        Some(output) if is_one_of(who, output.busy) => Some(OutRec {
-            busy: MemberId(0),
-            ..output
-        }),
-        _ => slot,
-    }
-}
-
-fn reset_owner(owner: Owner, who: Who) -> Owner
-    ensures { result ≡ (if is_held_by (is_one_of_lem who) owner then Owner.Free else owner) }
-{
-    match owner {
-        Owner::Member(member) if is_one_of(who, member) => Owner::Free,
-        _ => owner,
-    }
-}
-
-fn reset_job_slots(slots: &mut [Option<JobRec>], who: Who)
-    ensures { slots.new ≡ map (changed_where (λ r. is_one_of_lem who r.busy) job_reset) slots.old }
-{
-    for slot in slots.iter_mut() {
-        *slot = reset_job(*slot, who);
-    }
-}
-
-fn reset_output_slots(slots: &mut [Option<OutRec>], who: Who)
-    ensures { slots.new ≡ map (changed_where (λ r. is_one_of_lem who r.busy) output_reset) slots.old }
-{
-    for slot in slots.iter_mut() {
-        *slot = reset_output(*slot, who);
-    }
-}
-
-fn reset_owner_list(owners: &mut [Owner], who: Who)
-    ensures { owners.new ≡ freed (is_held_by (is_one_of_lem who)) owners.old }
-{
-    for owner in owners.iter_mut() {
-        *owner = reset_owner(*owner, who);
-    }
 }
 
 fn reset_jobs(tables: &mut Tables, who: Who)

@@ -1,6 +1,6 @@
 //! What an operator changes in jobs and outputs.
 ghost use Rattle.std.specs.Prelude.{◌≡◌, ◌<◌, ◌≤◌, ◌^◌, ◌&&◌, ◌||◌, ◌∷◌, [], ℕ, map, length, count_by, not, IfSome, IfNone, None, Bool};
-ghost use Rattle.ckpt_pages.specs.QueueOf.{used};
+ghost use Rattle.lay_bytes.specs.Used.{used};
 ghost use Rattle.mas_types.specs.declared.queues.Queue.{Queue};
 ghost use Rattle.mas_types.specs.Ids.{same_number, same_member, is_somebody};
 ghost use Rattle.mas_types.specs.Lists.{change};
@@ -8,7 +8,8 @@ ghost use Rattle.mas_types.specs.Queue.{in_purge, in_xmit, is_of};
 ghost use Rattle.std.specs.List.{list_any};
 ghost use Rattle.mas_types.specs.Commands.Operator.{held_row, set_prio_row, set_class_row, set_out_row, cancel_row, out_row, is_held_of, released as released_lem, printing_elsewhere as printing_elsewhere_lem, without_outputs_of, has_yet_to_run as has_yet_to_run_lem};
 ghost use Rattle.output_queue.specs.Outputs.{HasOutput};
-ghost use Rattle.queue_effect.specs.Slots.{emptied_where, changed_where};
+ghost use Rattle.queue_effect.specs.Slots.{emptied_where};
+ghost use Rattle.queue_resets.specs.Resets.{changed_where};
 ghost use Rattle.queue_tables.specs.Orders.{HaveOrders};
 ghost use Rattle.queue_tables.specs.Telling.{Tell};
 ghost use Rattle.queue_effect.specs.Standing.{Plays, IfRefused, AreFit, IsFitJob, IsFitOutput};

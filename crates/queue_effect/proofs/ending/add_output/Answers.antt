@@ -3,7 +3,7 @@ use Rattle.std.proofs.lemmas.List.{length-set}
 use Rattle.mas_types.specs.declared.jobs.Output.{Output}
 use Rattle.mas_types.specs.Owners.{groups_needed, output_places}
 use Rattle.lay_bytes.specs.declared.records.OutRec.{OutRec}
-use Rattle.ckpt_pages.specs.QueueOf.{used}
+use Rattle.lay_bytes.specs.Used.{used}
 use Rattle.queue_slots.specs.Listed.{listed}
 use Rattle.queue_slots.proofs.Changes.{free_at}
 use Rattle.output_queue.specs.Outputs.{order_of, new_rec}

@@ -1,5 +1,5 @@
 use Rattle.std.proofs.Common.{◌≡◌, ◌≤◌, length, ap, arith}
-use Rattle.ckpt_pages.specs.QueueOf.{used}
+use Rattle.lay_bytes.specs.Used.{used}
 use Rattle.ckpt_pages.proofs.SlotLists.{few_used}
 use Rattle.queue_effect.proofs.ending.are_outputs_full.Goals as goal
 

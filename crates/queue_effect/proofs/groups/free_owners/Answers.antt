@@ -4,7 +4,7 @@ use Rattle.mas_types.specs.declared.queues.Owner.{Owner}
 use Rattle.mas_types.specs.declared.queues.Owner.TheVariants as owner
 use Rattle.mas_types.specs.Owners.{is_of_any}
 use Rattle.mas_types.specs.Queue.{is_of}
-use Rattle.queue_effect.proofs.Loops.{map_here}
+use Rattle.queue_resets.proofs.Loops.{map_here}
 use Rattle.queue_effect.proofs.groups.free_owners.Goals as goal
 
 pub loop-owner-preserved : goal.loop-owner-preserved

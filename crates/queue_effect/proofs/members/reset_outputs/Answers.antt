@@ -1,7 +1,7 @@
 use Rattle.std.proofs.lemmas.List.{length-map}
 use Rattle.lay_bytes.specs.declared.records.OutRec.{OutRec}
-use Rattle.queue_effect.specs.Resets.{is_one_of, output_reset}
-use Rattle.queue_effect.specs.Slots.{changed_where}
+use Rattle.queue_resets.specs.Resets.{is_one_of, output_reset}
+use Rattle.queue_resets.specs.Resets.{changed_where}
 use Rattle.queue_effect.specs.Standing.{IsFitOutput}
 use Rattle.std.proofs.Common.{Bool, map, refl}
 use Rattle.queue_effect.proofs.FitLemmas.{outputs_fit, used_changed, reset_output_fit, refill_map}

@@ -2,7 +2,7 @@ use Rattle.std.proofs.Common.{◌<◌, length, arith}
 use Rattle.mas_types.specs.Ids.{same_number}
 use Rattle.lay_bytes.specs.declared.records.OutRec.{OutRec}
 use Rattle.queue_effect.specs.Slots.{emptied_where}
-use Rattle.queue_effect.proofs.Loops.{map_here}
+use Rattle.queue_resets.proofs.Loops.{map_here}
 use Rattle.queue_effect.proofs.operator.empty_slots.Goals as goal
 
 pub loop-slot-preserved : goal.loop-slot-preserved

@@ -2,7 +2,7 @@ use Rattle.std.proofs.Common.{◌+◌, ◌&&◌, ℕ, take, ap, sym, ◌∙◌, 
 use Rattle.std.specs.Prelude.{count_by, Bool}
 use Rattle.mas_types.specs.Ids.{same_number}
 use Rattle.lay_bytes.specs.declared.records.OutRec.{OutRec}
-use Rattle.ckpt_pages.specs.QueueOf.{used}
+use Rattle.lay_bytes.specs.Used.{used}
 use Rattle.queue_effect.proofs.Loops.{counted_more}
 use Rattle.queue_effect.proofs.operator.held_count.Goals as goal
 

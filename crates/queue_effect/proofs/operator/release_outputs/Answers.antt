@@ -3,7 +3,7 @@ use Rattle.std.proofs.Common.{Bool, map, ◌&&◌, refl}
 use Rattle.std.specs.Prelude.{false}
 use Rattle.mas_types.specs.Ids.{same_number}
 use Rattle.lay_bytes.specs.declared.records.OutRec.{OutRec}
-use Rattle.queue_effect.specs.Slots.{changed_where}
+use Rattle.queue_resets.specs.Resets.{changed_where}
 use Rattle.queue_effect.specs.Standing.{IsFitOutput}
 use Rattle.queue_effect.proofs.Changing.{outputs_released}
 use Rattle.queue_effect.proofs.FitLemmas.{outputs_fit, used_changed, refill_map}

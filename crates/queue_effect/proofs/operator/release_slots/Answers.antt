@@ -2,8 +2,8 @@ use Rattle.std.proofs.Common.{◌<◌, ◌&&◌, length, arith}
 use Rattle.std.specs.Prelude.{false}
 use Rattle.mas_types.specs.Ids.{same_number}
 use Rattle.lay_bytes.specs.declared.records.OutRec.{OutRec}
-use Rattle.queue_effect.specs.Slots.{changed_where}
-use Rattle.queue_effect.proofs.Loops.{map_here}
+use Rattle.queue_resets.specs.Resets.{changed_where}
+use Rattle.queue_resets.proofs.Loops.{map_here}
 use Rattle.queue_effect.proofs.operator.release_slots.Goals as goal
 
 pub loop-slot-preserved : goal.loop-slot-preserved

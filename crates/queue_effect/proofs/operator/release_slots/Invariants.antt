@@ -2,7 +2,7 @@ use Rattle.std.proofs.Common.{◌≡◌, ◌++◌, ◌&&◌, map, take, drop}
 use Rattle.std.specs.Prelude.{false}
 use Rattle.mas_types.specs.Ids.{same_number}
 use Rattle.lay_bytes.specs.declared.records.OutRec.{OutRec}
-use Rattle.queue_effect.specs.Slots.{changed_where}
+use Rattle.queue_resets.specs.Resets.{changed_where}
 use Rattle.queue_effect.proofs.operator.release_slots.Given as goal
 
 -- the held outputs of the job in the slots so far are released

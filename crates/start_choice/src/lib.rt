@@ -1,0 +1,8 @@
+//! Which copy of the checkpoint counts at a start: what a start makes of the pages that a copy reads as, and the choice.
+#![tactic(auto)]
+
+mod choosing;
+mod sound_pages;
+
+pub use choosing::{Good, Judged, Start, StartNo, choose, is_to_go, judge};
+pub use sound_pages::usable;
