@@ -7,7 +7,7 @@ ghost use Rattle.mas_types.specs.Numerals.{is_digit};
 use mas_types::read_name;
 
 /// What a card is outside data.
-#[derive(Clone, Copy, PartialEq, Eq)]
+#[derive(Clone, Copy)]
 pub enum Kind {
     /// `//*`.
     Comment,
@@ -24,7 +24,7 @@ pub enum Kind {
 }
 
 /// The operation of a statement.
-#[derive(Clone, Copy, PartialEq, Eq)]
+#[derive(Clone, Copy)]
 pub enum Operation {
     /// `JOB`.
     Job,

@@ -9,7 +9,6 @@ use crate::statements::{further_at, operands_at};
 use mas_types::limits::{CARD_BYTES, TEXT_LINES_MOST};
 use mas_types::{CardCause, JobFields, Lines, Name8, NoMemory, Prio};
 use std::alloc::Global;
-use thiserror::Error;
 
 /// A job's deck: what it says of the job, and the text that is stored.
 #[derive(Drop)]
@@ -21,7 +20,7 @@ pub struct Deck {
 }
 
 /// A card that is refused, counted from 1, and why.
-#[derive(Clone, Copy, PartialEq, Eq)]
+#[derive(Clone, Copy)]
 pub struct Refused {
     /// Its number, from 1.
     pub card: usize,
@@ -30,13 +29,11 @@ pub struct Refused {
 }
 
 /// Why a deck gave no job.
-#[derive(Clone, Copy, Debug, PartialEq, Eq, Error)]
+#[derive(Clone, Copy, Debug)]
 pub enum DeckNo {
     /// The least card that is refused, counted from 1, and the first cause that applies to it.
-    #[error("card {card} is refused")]
     BadCard { card: u32, cause: CardCause },
     /// Out of memory.
-    #[error("no memory")]
     NoMemory,
 }
 
@@ -49,7 +46,7 @@ impl From<NoMemory> for DeckNo {
 }
 
 /// What was seen of a deck up to one of its cards.
-#[derive(Clone, Copy, PartialEq, Eq)]
+#[derive(Clone, Copy)]
 pub struct Seen {
     /// The priority of a `/*PRIORITY` card.
     pub priority: Option<Prio>,

@@ -7,7 +7,7 @@ use mas_types::limits::PRIO_MOST;
 use mas_types::{Name8, Prio, read_name, read_number};
 
 /// What a JES2 card says.
-#[derive(Clone, Copy, PartialEq, Eq)]
+#[derive(Clone, Copy)]
 pub enum JesCard {
     /// `/*PRIORITY p`.
     Priority(Prio),

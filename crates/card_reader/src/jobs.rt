@@ -7,7 +7,7 @@ use crate::statements::Operands;
 use mas_types::{Class, Prio, read_class};
 
 /// What the operands of a JOB statement say.
-#[derive(Clone, Copy, PartialEq, Eq)]
+#[derive(Clone, Copy)]
 pub struct JobOperands {
     /// `CLASS=`, else A.
     pub class: Class,

@@ -21,7 +21,7 @@ pub struct Operands {
 }
 
 /// What ends the data behind a DD statement.
-#[derive(Clone, Copy, PartialEq, Eq)]
+#[derive(Clone, Copy)]
 pub enum Ending {
     /// The statement has no data.
     NoData,
@@ -34,7 +34,7 @@ pub enum Ending {
 }
 
 /// The cards of data behind a DD statement.
-#[derive(Clone, Copy, PartialEq, Eq)]
+#[derive(Clone, Copy)]
 pub struct DataCards {
     /// The cards of data.
     pub cards: usize,

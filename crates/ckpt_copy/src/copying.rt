@@ -14,33 +14,26 @@ ghost use Rattle.ckpt_copy.specs.Reading.{AllRead, EachReads, EachForms, IsNone}
 use mas_types::{List, MemberId, NoMemory, Page};
 use spool_disk::Plant;
 use std::alloc::Global;
-use thiserror::Error;
 
 /// Why a call of a copy wasn't done.
-#[derive(Clone, Copy, Debug, PartialEq, Eq, Error)]
+#[derive(Clone, Copy)]
 pub enum CopyNo {
     /// The device failed: its count of faults rose in this call, and it is lost.
-    #[error("the device of the copy failed")]
     Failed,
     /// The member was stopped: its count of stops rose in this call.
-    #[error("the member was stopped")]
     Halted,
 }
 
 /// Why a copy wasn't found.
-#[derive(Clone, Copy, Debug, PartialEq, Eq, Error)]
+#[derive(Clone, Copy)]
 pub enum FindNo {
     /// The device failed: its count of faults rose in this call, and it is lost.
-    #[error("the device of the copy failed")]
     Failed,
     /// The member was stopped: its count of stops rose in this call.
-    #[error("the member was stopped")]
     Halted,
     /// The copy reads as none.
-    #[error("the device holds no copy")]
     NotValid,
     /// There was no memory for the pages.
-    #[error("no memory")]
     NoMemory,
 }
 

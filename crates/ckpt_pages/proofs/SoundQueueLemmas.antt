@@ -23,7 +23,8 @@ use Rattle.lay_bytes.specs.declared.records.OutRec.{OutRec}
 use Rattle.lay_bytes.specs.Slots.{IsJobRec, IsOutRec}
 use Rattle.ckpt_pages.specs.declared.tables.Tables.{Tables}
 use Rattle.ckpt_pages.specs.Shape.{HasSpelling}
-use Rattle.ckpt_pages.specs.QueueOf.{used, job_with, output_with, queue_of}
+use Rattle.lay_bytes.specs.Used.{used}
+use Rattle.ckpt_pages.specs.QueueOf.{job_with, output_with, queue_of}
 use Rattle.mas_types.specs.Sorted.{in_order}
 use Rattle.ckpt_pages.specs.Sound.{is_there, is_wrong_job_slot, same_print, is_wrong_output_slot, has_deck, is_wrong_owner, AreSound}
 use Rattle.ckpt_pages.specs.SoundQueues.{AreTexts}

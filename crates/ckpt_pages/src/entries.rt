@@ -8,27 +8,22 @@ ghost use Rattle.ckpt_pages.specs.Reading.{ReadsEntries, AreNoEntries, ArePages,
 use lay_bytes::is_zero;
 use mas_types::{List, Page};
 use std::alloc::Global;
-use thiserror::Error;
 
 /// Why bytes were not read.
-#[derive(Clone, Copy, Debug, PartialEq, Eq, Error)]
+#[derive(Clone, Copy)]
 pub enum EntryError {
     /// The bytes are no spelling.
-    #[error("the bytes are no spelling")]
     Bad,
     /// Out of memory.
-    #[error("no memory")]
     NoMemory,
 }
 
 /// Why pages could not be decoded.
-#[derive(Clone, Copy, Debug, PartialEq, Eq, Error)]
+#[derive(Clone, Copy)]
 pub enum PageNo {
     /// The page of this number is no spelling. It is the least such page.
-    #[error("page {0} is no spelling")]
     BadPage(u16),
     /// Out of memory.
-    #[error("no memory")]
     NoMemory,
 }
 

@@ -14,7 +14,7 @@ use mas_types::{JobNo, Level, List, Page};
 use std::alloc::Global;
 
 /// What page 0 says except the levels of the other pages.
-#[derive(Clone, Copy, PartialEq, Eq)]
+#[derive(Clone, Copy)]
 pub(crate) struct Header {
     pub level: Level,
     pub members: u8,

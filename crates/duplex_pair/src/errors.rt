@@ -3,22 +3,18 @@ ghost use Rattle.std.specs.Prelude.{◌≡◌};
 ghost use Rattle.duplex_pair.specs.Outcomes.{pair_halted, find_no};
 
 use mas_types::{List, Page};
-use thiserror::Error;
 
 /// The member was stopped inside the call: its count of stops rose.
-#[derive(Clone, Copy, Debug, PartialEq, Eq, Error)]
-#[error("the member was stopped")]
+#[derive(Clone, Copy)]
 pub struct Halted;
 
 /// Why a call on the pair wasn't done.
-#[derive(Clone, Copy, Debug, PartialEq, Eq, Error)]
+#[derive(Clone, Copy)]
 pub enum PairNo {
     /// Both copies count as lost at the end of the call.
-    #[error("both copies are lost")]
     BothLost,
     /// The member was stopped inside the call: its count of stops rose. What stands on the copies is known again after
     /// `find`.
-    #[error("the member was stopped")]
     Halted,
 }
 
@@ -42,30 +38,24 @@ pub enum Look {
 }
 
 /// Why nothing is known of a copy.
-#[derive(Clone, Copy, Debug, PartialEq, Eq, Error)]
+#[derive(Clone, Copy)]
 pub enum LookNo {
     /// The member was stopped inside the call: its count of stops rose.
-    #[error("the member was stopped")]
     Halted,
     /// There was no memory for the pages.
-    #[error("no memory")]
     NoMemory,
 }
 
 /// Why no pages were found on a pair.
-#[derive(Clone, Copy, Debug, PartialEq, Eq, Error)]
+#[derive(Clone, Copy)]
 pub enum PairFindNo {
     /// Both copies count as lost at the end of the call.
-    #[error("both copies are lost")]
     BothLost,
     /// The member was stopped inside the call: its count of stops rose.
-    #[error("the member was stopped")]
     Halted,
     /// A copy isn't lost, and none reads.
-    #[error("no copy can be read")]
     NotValid,
     /// There was no memory for the pages.
-    #[error("no memory")]
     NoMemory,
 }
 

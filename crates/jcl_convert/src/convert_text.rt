@@ -10,16 +10,13 @@ use card_reader::statements::further_at;
 use mas_types::limits::{INDEX_MOST, JOB_STEPS_MOST};
 use mas_types::{JclCause, JobFields, Lines, List, NoMemory};
 use std::alloc::Global;
-use thiserror::Error;
 
 /// Why a text gave no steps.
-#[derive(Clone, Copy, Debug, PartialEq, Eq, Error)]
+#[derive(Clone, Copy, Debug)]
 pub enum JclNo {
     /// The least card that is refused, counted from 1, and the first cause that applies to it.
-    #[error("card {card} is refused")]
     JclError { card: u32, cause: JclCause },
     /// Out of memory.
-    #[error("no memory")]
     NoMemory,
 }
 
@@ -32,7 +29,7 @@ impl From<NoMemory> for JclNo {
 }
 
 /// A card that is refused, counted from 1, and why.
-#[derive(Clone, Copy, PartialEq, Eq)]
+#[derive(Clone, Copy)]
 pub struct Refused {
     /// Its number, from 1.
     pub card: usize,

@@ -13,7 +13,7 @@ use card_reader::statements::{Operands, mark_of};
 use mas_types::{Class, JclCause, JobFields, Name8, read_class, read_number};
 
 /// What the operands of a DD statement say.
-#[derive(Clone, Copy, PartialEq, Eq)]
+#[derive(Clone, Copy)]
 pub enum DdForm {
     /// `*` or `DATA`.
     InStream,
@@ -24,7 +24,7 @@ pub enum DdForm {
 }
 
 /// What the operands of a DD statement with SYSOUT say.
-#[derive(Clone, Copy, PartialEq, Eq)]
+#[derive(Clone, Copy)]
 pub struct SysoutForm {
     /// SYSOUT= was read.
     pub is_given: bool,

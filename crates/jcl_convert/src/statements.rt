@@ -11,7 +11,7 @@ use mas_types::{JclCause, JobFields, Lines, Name8, NoMemory};
 use std::alloc::Global;
 
 /// What a statement says to the converter.
-#[derive(Clone, Copy, PartialEq, Eq)]
+#[derive(Clone, Copy)]
 pub enum Line {
     /// The JOB statement, which the card reader read.
     Job,

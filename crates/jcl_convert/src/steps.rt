@@ -2,7 +2,7 @@
 use mas_types::{Class, Lines, List, Name8};
 
 /// A program that a step runs.
-#[derive(Clone, Copy, PartialEq, Eq)]
+#[derive(Clone, Copy)]
 pub enum Program {
     /// IEFBR14, which does nothing.
     Br14,

@@ -18,7 +18,7 @@ pub struct Ran {
 }
 
 /// Why IEBGENER doesn't copy.
-#[derive(Clone, Copy, PartialEq, Eq)]
+#[derive(Clone, Copy)]
 pub enum Message {
     /// SYSIN has cards, or is SYSOUT.
     SysinNotEmpty,

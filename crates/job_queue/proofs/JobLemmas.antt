@@ -13,7 +13,7 @@ use Rattle.mas_types.specs.Queue.{has_number}
 use Rattle.lay_bytes.specs.declared.records.JobRec.{JobRec}
 use Rattle.queue_slots.specs.declared.slots.Found.{Found}
 use Rattle.queue_slots.proofs.Keys.{any-none, any-some}
-use Rattle.ckpt_pages.specs.QueueOf.{used}
+use Rattle.lay_bytes.specs.Used.{used}
 use Rattle.queue_slots.specs.Listed.{listed, StandsFirst}
 use Rattle.queue_slots.proofs.Changes.{length-listed, listed-free}
 use Rattle.queue_slots.proofs.Alike.{length-alike, push-alike}

@@ -8,7 +8,7 @@ use Rattle.std.proofs.lemmas.Option.{slice_get_within}
 use Rattle.mas_types.specs.declared.ids.JobNo.{JobNo}
 use Rattle.mas_types.specs.Ids.{same_number}
 use Rattle.lay_bytes.specs.declared.records.JobRec.{JobRec}
-use Rattle.ckpt_pages.specs.QueueOf.{used}
+use Rattle.lay_bytes.specs.Used.{used}
 use Rattle.queue_slots.specs.Listed.{listed}
 use Rattle.queue_slots.proofs.Cases.{test_cases}
 use Rattle.queue_slots.proofs.Rising.{All-in_order}

@@ -6,7 +6,7 @@ ghost use Rattle.mas_types.specs.Limits.{number_most};
 ghost use Rattle.mas_types.specs.Queue.{has_number};
 ghost use Rattle.mas_types.specs.Number.{after, is_number_used, next_number as next_number_lem};
 ghost use Rattle.mas_types.specs.Commands.Input.{new_job};
-ghost use Rattle.ckpt_pages.specs.QueueOf.{used};
+ghost use Rattle.lay_bytes.specs.Used.{used};
 ghost use Rattle.job_queue.specs.Jobs.{AreJobs, new_rec};
 ghost use Rattle.job_queue.specs.Advance.{advanced, refusal_of};
 
@@ -15,11 +15,9 @@ use crate::kinds::is_in;
 use lay_bytes::JobRec;
 use mas_types::{JobFields, JobNo, MemberId, NUMBER_MOST, Phase, Refusal, purge_if};
 use queue_slots::{free_slot, used_count};
-use thiserror::Error;
 
 /// No slot is free.
-#[derive(Clone, Copy, Debug, PartialEq, Eq, Error)]
-#[error("no job slot is free")]
+#[derive(Clone, Copy)]
 pub struct JobsFull;
 
 fn is_used(jobs: &[Option<JobRec>], n: u32) -> bool

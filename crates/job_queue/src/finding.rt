@@ -13,11 +13,9 @@ use crate::kinds::{ForConvert, ForExec, InPhase, Numbered, WorkingAt};
 use lay_bytes::JobRec;
 use mas_types::{Class, JobNo, List, MemberId, Phase};
 use queue_slots::{Found, best_slot, best_slot_by_class, first_slot};
-use thiserror::Error;
 
 /// No job has the number.
-#[derive(Clone, Copy, Debug, PartialEq, Eq, Error)]
-#[error("no job has that number")]
+#[derive(Clone, Copy)]
 pub struct NoJob;
 
 /// The slot of the job with a number, the first where several have it; none exactly where none has it.

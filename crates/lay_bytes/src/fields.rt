@@ -6,17 +6,15 @@ ghost use Rattle.lay_bytes.specs.Fields.{piece, width_of as width_of_lem, widths
 use crate::names::{is_class, is_classes, is_name};
 use crate::numbers::{read_u16, read_u32, read_u64};
 use crate::runs::is_zero;
-use thiserror::Error;
 
 /// The field at this offset, in bytes from the first, is outside its range. It is the first such
 /// field.
-#[derive(Clone, Copy, Debug, PartialEq, Eq, Error)]
-#[error("a field is outside its range")]
+#[derive(Clone, Copy)]
 pub struct BadField(pub u16);
 
 /// Which bytes may stand in a field. A field with two numbers holds one from the first to the
 /// second.
-#[derive(Clone, Copy, PartialEq, Eq)]
+#[derive(Clone, Copy)]
 pub enum Field {
     /// A number of one byte.
     Byte(u8, u8),

@@ -2,7 +2,7 @@
 use mas_types::{Class, JobFields, JobNo, MemberId, Name8, OutNo, Phase};
 
 /// A job as its slot has it: with the number of its cards and its order in place of its text.
-#[derive(Clone, Copy, PartialEq, Eq)]
+#[derive(Clone, Copy)]
 pub struct JobRec {
     /// Its number, 1 to 99,999.
     pub number: JobNo,
@@ -21,7 +21,7 @@ pub struct JobRec {
 }
 
 /// An output as its slot has it: with the number of its lines and its order in place of its text.
-#[derive(Clone, Copy, PartialEq, Eq)]
+#[derive(Clone, Copy)]
 pub struct OutRec {
     /// The job that made it.
     pub job: JobNo,

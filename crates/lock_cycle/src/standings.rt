@@ -1,7 +1,7 @@
 //! One member's page of the book.
 
 /// How a member stands with the lock.
-#[derive(Clone, Copy, PartialEq, Eq)]
+#[derive(Clone, Copy)]
 pub struct Standing {
     /// It is stopped.
     pub stopped: bool,

@@ -12,16 +12,13 @@ use ckpt_pages::{PageNo, TableFault, Tables, decode, first_fault};
 use mas_types::{FaultKind, NoMemory, Page, Verdict};
 use spool_disk::Plant;
 use std::alloc::Global;
-use thiserror::Error;
 
 /// Why a check gave no verdict.
-#[derive(Clone, Copy, Debug, PartialEq, Eq, Error)]
+#[derive(Clone, Copy)]
 pub enum CheckNo {
     /// The pages have no fault, and this volume is lost, the least such with a group of a text on it.
-    #[error("spool volume {0} is lost")]
     SpoolLost(u8),
     /// Out of memory.
-    #[error("no memory")]
     NoMemory,
 }
 

@@ -15,8 +15,8 @@ use Rattle.spool_disk.specs.declared.plant.Part.TheVariants.{Disk}
 use Rattle.spool_disk.specs.View.{View}
 use Rattle.spool_disk.specs.Acts.{Rose}
 use Rattle.spool_volumes.specs.Volumes.{AreRoomy}
-use Rattle.warm_start.specs.declared.choosing.StartNo.{StartNo}
-use Rattle.warm_start.specs.declared.choosing.StartNo.TheVariants as no_start
+use Rattle.start_choice.specs.declared.choosing.StartNo.{StartNo}
+use Rattle.start_choice.specs.declared.choosing.StartNo.TheVariants as no_start
 use Rattle.warm_start.specs.Starting.{IsSmallAt, IsSmallVolume}
 use Rattle.mas_run.specs.Refusals.{bytes_needed, refused_where, refused_copy, refused_volume, refused_volumes, refused_devices, refused_sizes, refusal_of, refusal_before_play, Answers, is_refusal, IsSaid, IsPlayedOut, IsDeviceSize}
 use Rattle.mas_run.specs.Statuses.{AreLeftAlone, IsCaused, IsStill, is_of_text, TakesNone}

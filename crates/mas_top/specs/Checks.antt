@@ -17,7 +17,7 @@ use Rattle.mas_check.specs.Checks.{IsAnswer, line_of}
 use Rattle.mas_check.specs.Worlds.{IsSameDisk}
 use Rattle.mas_complex.specs.Headline.{whole}
 use Rattle.mas_complex.specs.Paper.{SamePapers}
-use Rattle.warm_start.specs.declared.choosing.StartNo.{StartNo}
+use Rattle.start_choice.specs.declared.choosing.StartNo.{StartNo}
 use Rattle.warm_start.specs.Inspecting.{HasFailed, HasLooked, SeesNone}
 use Rattle.member_node.specs.Calls.{console_now}
 use Rattle.mas_run.specs.Unstarted.{status_of_start}

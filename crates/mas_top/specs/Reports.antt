@@ -14,7 +14,7 @@ use Rattle.ckpt_form.specs.Form.{form_reads, form_needs}
 use Rattle.ckpt_copy.specs.Changes.{NoMore}
 use Rattle.mas_complex.specs.Headline.{whole}
 use Rattle.mas_complex.specs.Paper.{SamePapers}
-use Rattle.warm_start.specs.declared.choosing.StartNo.{StartNo}
+use Rattle.start_choice.specs.declared.choosing.StartNo.{StartNo}
 use Rattle.warm_start.specs.Inspecting.{HasFailed, HasFound, FindsNone}
 use Rattle.queue_report.specs.Reports.{report_lines}
 use Rattle.mas_run.specs.Runs.{has_begun}

@@ -8,7 +8,7 @@ use mas_words::{Verb, Words, WordsNo, read_words};
 use std::alloc::Global;
 
 /// What the program does, of what is built.
-#[derive(Clone, Copy, PartialEq, Eq)]
+#[derive(Clone, Copy)]
 pub enum Task {
     /// Plays a script, cold where true: from an empty queue. Else from the queue that is found.
     Play(bool),

@@ -5,7 +5,7 @@ use crate::lists::List;
 use crate::texts::Lines;
 
 /// What a display shows.
-#[derive(Clone, Copy, PartialEq, Eq)]
+#[derive(Clone, Copy)]
 pub enum What {
     /// The jobs.
     Queue,
@@ -216,7 +216,7 @@ pub enum Command {
 }
 
 /// Why a command is refused.
-#[derive(Clone, Copy, PartialEq, Eq)]
+#[derive(Clone, Copy)]
 pub enum Refusal {
     /// There is no room for another job.
     JobsFull,

@@ -5,7 +5,7 @@ use crate::ids::{Class, GroupNo, JobNo, MemberId, Name8, OutNo, Prio};
 use crate::texts::Lines;
 
 /// Where a job is on its way through the spool.
-#[derive(Clone, Copy, PartialEq, Eq)]
+#[derive(Clone, Copy)]
 pub enum Phase {
     /// Its deck is being read.
     Input,
@@ -41,7 +41,7 @@ pub enum Text {
 }
 
 /// What a deck says of its job.
-#[derive(Clone, Copy, PartialEq, Eq)]
+#[derive(Clone, Copy)]
 pub struct JobFields {
     /// The name on the JOB statement.
     pub name: Name8,

@@ -17,7 +17,7 @@ pub struct Entry {
 }
 
 /// What became of a batch.
-#[derive(Clone, Copy, PartialEq, Eq)]
+#[derive(Clone, Copy)]
 pub enum Fate {
     /// It is committed.
     Kept,

@@ -7,21 +7,17 @@ ghost use Rattle.mas_types.specs.Numerals.{is_numeral, value_of, key_of};
 
 use crate::ids::{Class, JobNo, MemberId, Name8};
 use crate::limits::{MEMBERS_MOST, NAME_BYTES, NUMBER_MOST};
-use thiserror::Error;
 
 /// The text is no name.
-#[derive(Clone, Copy, Debug, PartialEq, Eq, Error)]
-#[error("no name")]
+#[derive(Clone, Copy)]
 pub struct BadName;
 
 /// The byte is no class.
-#[derive(Clone, Copy, Debug, PartialEq, Eq, Error)]
-#[error("no class")]
+#[derive(Clone, Copy)]
 pub struct BadClass;
 
 /// The text is no number, or the number is too great.
-#[derive(Clone, Copy, Debug, PartialEq, Eq, Error)]
-#[error("no number")]
+#[derive(Clone, Copy)]
 pub struct BadNumber;
 
 /// Whether a byte may stand in a name: A to Z, 0 to 9, `@`, `#` and `$`.

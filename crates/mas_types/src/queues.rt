@@ -4,7 +4,7 @@ use crate::jobs::{Job, Output};
 use crate::lists::List;
 
 /// What owns groups for its text.
-#[derive(Clone, Copy, PartialEq, Eq)]
+#[derive(Clone, Copy)]
 pub enum Thing {
     /// The deck of a job.
     Deck(JobNo),
@@ -13,7 +13,7 @@ pub enum Thing {
 }
 
 /// Whose a track group is.
-#[derive(Clone, Copy, PartialEq, Eq)]
+#[derive(Clone, Copy)]
 pub enum Owner {
     /// Nobody's.
     Free,
@@ -72,7 +72,7 @@ pub struct Setting {
 }
 
 /// The line that leads to another node.
-#[derive(Clone, Copy, PartialEq, Eq)]
+#[derive(Clone, Copy)]
 pub struct Route {
     /// The node.
     pub name: Name8,
@@ -81,7 +81,7 @@ pub struct Route {
 }
 
 /// What went over a line to another node.
-#[derive(Clone, Copy, PartialEq, Eq)]
+#[derive(Clone, Copy)]
 pub struct LineCount {
     /// The number of the last job that was sent and acknowledged.
     pub sent: u32,

@@ -2,7 +2,7 @@
 use crate::ids::{JobNo, OutNo};
 
 /// The next thing that a member does by itself, the first of these that applies.
-#[derive(Clone, Copy, PartialEq, Eq)]
+#[derive(Clone, Copy)]
 pub enum Unit {
     /// Prints the next lines of the output that is busy at the member.
     Print(JobNo, OutNo),

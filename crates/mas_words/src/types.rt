@@ -3,10 +3,9 @@ ghost use Rattle.std.specs.Prelude.{◌≡◌};
 ghost use Rattle.mas_words.specs.declared.types.WordsNo.TheVariants.{NoMemory as no_memory};
 
 use mas_types::{List, NoMemory};
-use thiserror::Error;
 
 /// The command.
-#[derive(Clone, Copy, PartialEq, Eq)]
+#[derive(Clone, Copy)]
 pub enum Verb {
     /// Plays a script.
     Play,
@@ -34,13 +33,11 @@ pub struct Words {
 }
 
 /// Why words are not read.
-#[derive(Clone, Copy, Debug, PartialEq, Eq, Error)]
+#[derive(Clone, Copy, Debug)]
 pub enum WordsNo {
     /// They spell no command with its options.
-    #[error("the words are none of the program's")]
     Words,
     /// Out of memory.
-    #[error("no memory")]
     NoMemory,
 }
 

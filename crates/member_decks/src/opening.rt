@@ -18,7 +18,7 @@ use queue_texts::law_of_texts;
 use std::alloc::Global;
 
 /// How the first commands of a deck's step end.
-#[derive(Clone, Copy, PartialEq, Eq)]
+#[derive(Clone, Copy)]
 pub enum Opened {
     /// One was refused, and the step closes with that.
     Closed,

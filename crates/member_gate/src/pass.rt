@@ -9,7 +9,6 @@ use crate::view::View;
 use atomic_table::{Seat, Table};
 use mas_types::MemberId;
 use std::alloc::Global;
-use thiserror::Error;
 
 /// A value that members use in turn.
 #[derive(Drop)]
@@ -38,6 +37,5 @@ pub struct Pass<V> {
 }
 
 /// The member that has the turn.
-#[derive(Clone, Copy, Debug, PartialEq, Eq, Error)]
-#[error("member {} has the turn", .0.0)]
+#[derive(Clone, Copy)]
 pub struct Held(pub MemberId);

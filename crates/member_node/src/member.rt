@@ -17,22 +17,17 @@ use mas_types::limits::PAGE_BYTES;
 use mas_types::{Command, Config, Entry, List, MemberId, NoMemory, Page, Reply};
 use queue_commands::give;
 use std::alloc::Global;
-use thiserror::Error;
 
 /// Why a member's call wasn't done.
-#[derive(Clone, Copy, Debug, PartialEq, Eq, Error)]
+#[derive(Clone, Copy)]
 pub enum NodeNo {
     /// Both copies are lost.
-    #[error("both copies are lost")]
     BothLost,
     /// The member was stopped: its count of stops rose in this call.
-    #[error("the member was stopped")]
     Halted,
     /// The console failed: its count of faults rose in this call.
-    #[error("the console failed")]
     ConsoleFault,
     /// There was no memory.
-    #[error("no memory")]
     NoMemory,
 }
 

@@ -1,6 +1,5 @@
 //! What a frame is, and why bytes gave none.
 use mas_types::{Lines, Name8};
-use thiserror::Error;
 
 /// A frame on a line to another node.
 #[derive(Drop)]
@@ -21,15 +20,12 @@ pub enum Frame {
 }
 
 /// Why bytes gave no frame.
-#[derive(Clone, Copy, Debug, PartialEq, Eq, Error)]
+#[derive(Clone, Copy)]
 pub enum FrameNo {
     /// A frame begins with the bytes, and isn't whole. There are so many of them.
-    #[error("the frame is not whole")]
     Short(usize),
     /// The bytes are no frame. So many of them begin one, and no more do.
-    #[error("no frame")]
     BadFrame(usize),
     /// Out of memory.
-    #[error("no memory")]
     NoMemory,
 }

@@ -12,7 +12,7 @@ use mas_types::{Lines, Name8, NoMemory, is_name_byte, read_number};
 use std::alloc::Global;
 
 /// Why a part could not be read.
-#[derive(Clone, Copy, Debug, PartialEq, Eq)]
+#[derive(Clone, Copy)]
 pub enum Stop {
     /// So many bytes stand from the first on that doesn't fit; 0 where more bytes are needed.
     At(usize),

@@ -18,7 +18,7 @@ const ROUTES_MOST: usize = 63;
 pub const LINES: u8 = 8;
 
 /// Where a line ends.
-#[derive(Clone, Copy, PartialEq, Eq)]
+#[derive(Clone, Copy)]
 pub struct End {
     /// The node, counted from 1; 0 where the line leads nowhere.
     pub node: u8,

@@ -9,27 +9,16 @@ use crate::names::same_name;
 use crate::nets::{Net, end_at, has_route, node};
 use mas_types::{List, Name8, NoMemory, Route};
 use std::alloc::Global;
-use std::fmt;
-use thiserror::Error;
 
 /// Why there is no path.
-#[derive(Drop, Error)]
+#[derive(Drop)]
 pub enum PathNo {
     /// It comes to a node that was passed: the nodes from its first passing on.
-    #[error("the routes go round in a loop")]
     Loop(List<u8>),
     /// It comes to a node that has no route for the name.
-    #[error("node {0} has no route")]
     NoRoute(u8),
     /// Out of memory.
-    #[error("no memory")]
     NoMemory,
-}
-
-impl fmt::Debug for PathNo {
-    fn fmt<W: fmt::Write>(&self, f: &mut fmt::Formatter<W>) -> fmt::Result {
-        write!(f, "{self}")
-    }
 }
 
 impl From<NoMemory> for PathNo {

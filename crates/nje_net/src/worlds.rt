@@ -9,7 +9,7 @@ use mas_types::{List, Name8, NoMemory};
 use std::alloc::Global;
 
 /// What may happen next. Whatever an event names that isn't there, it changes nothing.
-#[derive(Clone, Copy, PartialEq, Eq)]
+#[derive(Clone, Copy)]
 pub enum NetEvent {
     /// A job for the node of the name is entered at a node that has the name or a route for it.
     Enter(u8, Name8),
@@ -24,7 +24,7 @@ pub enum NetEvent {
 }
 
 /// A job that a node holds.
-#[derive(Clone, Copy, PartialEq, Eq)]
+#[derive(Clone, Copy)]
 pub struct Held {
     /// The number that it was given when it was entered; the first has 1.
     pub id: u32,
@@ -35,7 +35,7 @@ pub struct Held {
 }
 
 /// A job as it was given to a line.
-#[derive(Clone, Copy, PartialEq, Eq)]
+#[derive(Clone, Copy)]
 pub struct NetFrame {
     /// The node that gave it.
     pub node: u8,
@@ -50,7 +50,7 @@ pub struct NetFrame {
 }
 
 /// An acknowledgement as it was given to a line.
-#[derive(Clone, Copy, PartialEq, Eq)]
+#[derive(Clone, Copy)]
 pub struct NetAck {
     /// The node that gave it.
     pub node: u8,
@@ -61,7 +61,7 @@ pub struct NetAck {
 }
 
 /// A job that has arrived.
-#[derive(Clone, Copy, PartialEq, Eq)]
+#[derive(Clone, Copy)]
 pub struct Arrived {
     /// The job.
     pub id: u32,
@@ -70,7 +70,7 @@ pub struct Arrived {
 }
 
 /// What a line of a node has come to.
-#[derive(Clone, Copy, PartialEq, Eq)]
+#[derive(Clone, Copy)]
 pub struct NetLine {
     /// The number of the last job that was sent and acknowledged.
     pub sent: u32,

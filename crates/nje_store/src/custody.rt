@@ -5,10 +5,9 @@ ghost use Rattle.nje_store.specs.declared.custody.FrameOfNo.TheVariants.{NoMemor
 use mas_types::{Copied, Job, LineCount, NoMemory, Text};
 use nje_frames::Frame;
 use std::alloc::Global;
-use thiserror::Error;
 
 /// What a job's number is to the receiver.
-#[derive(Clone, Copy, PartialEq, Eq)]
+#[derive(Clone, Copy)]
 pub enum Custody {
     /// It is the next: the job is to be kept.
     Next,
@@ -24,13 +23,11 @@ pub enum Custody {
 }
 
 /// Why a job has no frame.
-#[derive(Clone, Copy, Debug, PartialEq, Eq, Error)]
+#[derive(Clone, Copy)]
 pub enum FrameOfNo {
     /// Its text is gone.
-    #[error("the text is gone")]
     NoText,
     /// Out of memory.
-    #[error("no memory")]
     NoMemory,
 }
 

@@ -10,7 +10,7 @@ use mas_types::limits::{
 use mas_types::{is_name_byte, read_number};
 
 /// Numbers of at most so many digits, from the least to the greatest. Leading zeros are accepted.
-#[derive(Clone, Copy, PartialEq, Eq)]
+#[derive(Clone, Copy)]
 pub struct Numbers {
     /// The most digits that stand there.
     pub width: usize,
@@ -21,7 +21,7 @@ pub struct Numbers {
 }
 
 /// What may stand in a place of a form.
-#[derive(Clone, Copy, PartialEq, Eq)]
+#[derive(Clone, Copy)]
 pub enum Place {
     /// The place takes this byte.
     Byte(u8),

@@ -17,16 +17,13 @@ use mas_types::{
     read_number,
 };
 use std::alloc::Global;
-use thiserror::Error;
 
 /// Why a text gave no command.
-#[derive(Clone, Copy, Debug, PartialEq, Eq, Error)]
+#[derive(Clone, Copy, Debug)]
 pub enum CommandNo {
     /// The text is no command. Its longest front that begins a command has so many bytes.
-    #[error("no command")]
     BadCommand(u32),
     /// Out of memory.
-    #[error("no memory")]
     NoMemory,
 }
 

@@ -15,16 +15,13 @@ use mas_types::limits::MEMBERS_MOST;
 use mas_types::words::{self, push_decimal, push_name, push_text};
 use mas_types::{Class, Command, JobNo, List, MemberId, Name8, NoMemory, OutNo, What, read_name};
 use std::alloc::Global;
-use thiserror::Error;
 
 /// Why a command was not written.
-#[derive(Clone, Copy, Debug, PartialEq, Eq, Error)]
+#[derive(Clone, Copy, Debug)]
 pub enum WriteNo {
     /// No text is read as the command.
-    #[error("the command is not typed")]
     NotTyped,
     /// Out of memory.
-    #[error("no memory")]
     NoMemory,
 }
 

@@ -10,7 +10,7 @@ use Rattle.mas_types.specs.Ids.{nobody, same_number}
 use Rattle.mas_types.specs.Queue.{is_of}
 use Rattle.mas_types.specs.Commands.Life.{new_output}
 use Rattle.lay_bytes.specs.declared.records.OutRec.{OutRec}
-use Rattle.ckpt_pages.specs.QueueOf.{used}
+use Rattle.lay_bytes.specs.Used.{used}
 use Rattle.queue_slots.specs.declared.slots.Found.{Found}
 use Rattle.queue_slots.specs.Listed.{listed, StandsFirst}
 use Rattle.queue_slots.proofs.Keys.{any-none, any-some}

@@ -3,17 +3,15 @@ ghost use Rattle.std.specs.Prelude.{◌≡◌, ◌<◌, ◌++◌, ◌∷◌, [],
 ghost use Rattle.mas_types.specs.declared.jobs.Output.{Output};
 ghost use Rattle.mas_types.specs.Fit.{IsOutSpec};
 ghost use Rattle.mas_types.specs.Commands.Life.{new_output};
-ghost use Rattle.ckpt_pages.specs.QueueOf.{used};
+ghost use Rattle.lay_bytes.specs.Used.{used};
 ghost use Rattle.output_queue.specs.Outputs.{AreOutputs, new_rec};
 
 use lay_bytes::OutRec;
 use mas_types::{JobNo, MemberId, OutNo, OutSpec};
 use queue_slots::free_slot;
-use thiserror::Error;
 
 /// No slot is free.
-#[derive(Clone, Copy, Debug, PartialEq, Eq, Error)]
-#[error("no output slot is free")]
+#[derive(Clone, Copy)]
 pub struct OutputsFull;
 
 /// A new output in the lowest free slot, with an order above those of the others: not busy, and nothing of it printed.

@@ -10,11 +10,9 @@ use crate::kinds::{Elsewhere, Keyed, OfJob, PrintingAt};
 use lay_bytes::OutRec;
 use mas_types::{JobNo, MemberId, OutNo};
 use queue_slots::{Found, first_slot};
-use thiserror::Error;
 
 /// The job has no output with that index.
-#[derive(Clone, Copy, Debug, PartialEq, Eq, Error)]
-#[error("no such output")]
+#[derive(Clone, Copy)]
 pub struct NoOutput;
 
 /// The slot of the output of a job with an index, the first where there are several; none exactly where there is none.

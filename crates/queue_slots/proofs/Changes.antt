@@ -9,7 +9,7 @@ use Rattle.std.proofs.lemmas.List.{take_more}
 use Rattle.std.specs.List.{All}
 use Rattle.std.proofs.lemmas.List.Elements.{All-cons, All-head, All-tail, All-filter, All-weaker}
 use Rattle.mas_types.specs.Lists.{without}
-use Rattle.ckpt_pages.specs.QueueOf.{used}
+use Rattle.lay_bytes.specs.Used.{used}
 use Rattle.mas_types.specs.Sorted.{insert_by, in_order}
 use Rattle.queue_slots.specs.Listed.{listed}
 use Rattle.queue_slots.proofs.Cases.{test_cases}

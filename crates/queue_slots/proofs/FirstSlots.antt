@@ -2,7 +2,7 @@
 use Rattle.std.proofs.Common.{◌≡◌, ℕ, zero, suc, ◌<◌, ◌≤◌, Bool, true, List, [], ◌∷◌, Option, Some, None, slice_get, refl, ap, ◌∙◌, arith}
 use Rattle.std.specs.List.{All}
 use Rattle.std.proofs.lemmas.List.Elements.{All-cons, All-nil}
-use Rattle.ckpt_pages.specs.QueueOf.{used}
+use Rattle.lay_bytes.specs.Used.{used}
 use Rattle.mas_types.specs.Sorted.{insert_by, in_order}
 use Rattle.queue_slots.specs.Listed.{listed, StandsFirst}
 use Rattle.queue_slots.proofs.Rising.{All-in_order, find-insert_least, change-insert_least, without-insert_least, find-insert_other, change-insert_other, without-insert_other}

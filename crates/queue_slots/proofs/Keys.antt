@@ -10,7 +10,7 @@ use Rattle.std.proofs.lemmas.Option.{slice_get_within}
 use Rattle.std.proofs.lemmas.List.Elements.{All-head, All-tail, All-weaker}
 use Rattle.mas_types.specs.declared.ids.Class.{Class}
 use Rattle.mas_types.specs.Lists.{is_greatest_of, has_first_key_of}
-use Rattle.ckpt_pages.specs.QueueOf.{used}
+use Rattle.lay_bytes.specs.Used.{used}
 use Rattle.queue_slots.specs.declared.slots.Found.{Found}
 use Rattle.queue_slots.specs.declared.walking.Best.{Best}
 use Rattle.queue_slots.specs.Listed.{listed, StandsFirst}

@@ -1,7 +1,7 @@
 -- Slots, and the list of what stands in them.
 use Rattle.std.specs.Prelude.{◌≡◌, ℕ, Bool, List, Option, Some, None, find, slice_get, slice_set}
 use Rattle.mas_types.specs.Lists.{change_first, without_first}
-use Rattle.ckpt_pages.specs.QueueOf.{used}
+use Rattle.lay_bytes.specs.Used.{used}
 use Rattle.mas_types.specs.Sorted.{in_order}
 
 -- what stands in the slots, in ascending number

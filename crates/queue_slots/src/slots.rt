@@ -1,7 +1,7 @@
 //! Records in slots.
 ghost use Rattle.std.specs.Prelude.{◌≡◌, ℕ, Bool, length, IfSome, IfNone, None, Some, if◌then◌else◌, position, is_none, find};
 ghost use Rattle.mas_types.specs.Lists.{is_greatest_of};
-ghost use Rattle.ckpt_pages.specs.QueueOf.{used};
+ghost use Rattle.lay_bytes.specs.Used.{used};
 ghost use Rattle.queue_slots.specs.Listed.{listed, StandsFirst};
 
 use crate::walking::{Weigh, Weight, found_at, walk};

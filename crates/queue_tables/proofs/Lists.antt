@@ -7,7 +7,7 @@ use Rattle.std.proofs.lemmas.Bool.{or_parts, or_from}
 use Rattle.std.proofs.lemmas.List.Elements.{All-nil, All-cons, All-head, All-tail, All-map}
 use Rattle.mas_types.specs.Fit.{AreDistinct}
 use Rattle.lay_bytes.specs.Slots.{IfUsed}
-use Rattle.ckpt_pages.specs.QueueOf.{used}
+use Rattle.lay_bytes.specs.Used.{used}
 use Rattle.mas_types.specs.Sorted.{insert_by, in_order}
 use Rattle.ckpt_pages.specs.Sound.{first_wrong}
 use Rattle.ckpt_pages.proofs.SlotLists.{test_cases, any_never, any_map, any_ordered, distinct_map, in_slots}

@@ -18,7 +18,7 @@ use Rattle.lay_bytes.specs.declared.records.JobRec.{JobRec}
 use Rattle.lay_bytes.specs.declared.records.OutRec.{OutRec}
 use Rattle.lay_bytes.specs.Slots.{IfUsed}
 use Rattle.ckpt_pages.specs.declared.tables.Tables.{Tables}
-use Rattle.ckpt_pages.specs.QueueOf.{used}
+use Rattle.lay_bytes.specs.Used.{used}
 use Rattle.ckpt_pages.specs.Sound.{is_there, is_above, is_wrong_job_slot, has_outputs, same_print, is_wrong_output_slot, AreSound}
 use Rattle.ckpt_pages.specs.Starts.{empty_tables}
 use Rattle.ckpt_pages.proofs.SlotLists.{all_right, all_used, any_never, any_used, apart_right, distinct_used, in_slots}

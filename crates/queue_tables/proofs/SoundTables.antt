@@ -21,7 +21,7 @@ use Rattle.lay_bytes.specs.declared.records.OutRec.{OutRec}
 use Rattle.lay_bytes.specs.Slots.{IfUsed}
 use Rattle.ckpt_pages.specs.declared.tables.Tables.{Tables}
 use Rattle.ckpt_pages.specs.declared.faults.TableFault.TheVariants as fault
-use Rattle.ckpt_pages.specs.QueueOf.{used}
+use Rattle.lay_bytes.specs.Used.{used}
 use Rattle.ckpt_pages.specs.Sound.{first_wrong, holds_one, is_there, is_above, is_wrong_job_slot, has_outputs, same_print, is_wrong_output_slot, has_deck, is_wrong_owner, is_wrong_place, or_else, map_some, wrong_slot, wrong_owner, wrong_place, AreSound}
 use Rattle.ckpt_pages.proofs.SlotLists.{test_cases, eq_sym, any_weaker, any_used, distinct_agree, in_slots}
 use Rattle.queue_tables.specs.Telling.{Tell}

@@ -17,7 +17,8 @@ use Rattle.lay_bytes.specs.declared.records.JobRec.{JobRec}
 use Rattle.lay_bytes.specs.declared.records.OutRec.{OutRec}
 use Rattle.ckpt_pages.specs.declared.tables.Tables.{Tables}
 use Rattle.ckpt_pages.specs.Checkpoints.{IsCheckpoint, SpellsOneAtMost}
-use Rattle.ckpt_pages.specs.QueueOf.{used, job_with, output_with, queue_of}
+use Rattle.lay_bytes.specs.Used.{used}
+use Rattle.ckpt_pages.specs.QueueOf.{job_with, output_with, queue_of}
 use Rattle.lay_bytes.specs.Slots.{IsJobRec, IsOutRec}
 use Rattle.ckpt_pages.specs.Laws.{EmptyStandsForEmpty}
 use Rattle.ckpt_pages.specs.Shape.{HasSpelling}

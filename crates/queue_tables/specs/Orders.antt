@@ -5,7 +5,7 @@ use Rattle.mas_types.specs.Fit.{AreDistinct}
 use Rattle.lay_bytes.specs.declared.records.JobRec.{JobRec}
 use Rattle.lay_bytes.specs.declared.records.OutRec.{OutRec}
 use Rattle.ckpt_pages.specs.declared.tables.Tables.{Tables}
-use Rattle.ckpt_pages.specs.QueueOf.{used}
+use Rattle.lay_bytes.specs.Used.{used}
 
 -- in these slots no two jobs or outputs have one order, and each order is below the next one
 pub record AreOrdered (js : List (Option JobRec)) (os : List (Option OutRec)) (next : ℕ) : Type 0 where

@@ -8,22 +8,18 @@ use mas_types::limits::SCRIPT_BYTES;
 use mas_types::{List, NoMemory};
 use spool_disk::{Got, Source};
 use std::alloc::Global;
-use thiserror::Error;
 
 // The most bytes that are asked for at once.
 const PIECE: usize = 65_536;
 
 /// Why a source gave no script.
-#[derive(Clone, Copy, Debug, PartialEq, Eq, Error)]
+#[derive(Clone, Copy, Debug)]
 pub enum SourceError {
     /// The source failed.
-    #[error("the source failed")]
     Fault,
     /// The source has over `SCRIPT_BYTES` bytes.
-    #[error("the script is too long")]
     TooLong,
     /// Out of memory.
-    #[error("no memory")]
     NoMemory,
 }
 

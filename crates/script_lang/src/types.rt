@@ -4,7 +4,6 @@ ghost use Rattle.script_lang.specs.declared.types.ScriptNo.TheVariants.{NoMemory
 
 use mas_types::{Command, Config, Dev, LineCause, Lines, List, MemberId, NoMemory, Route};
 use spool_disk::Fuse;
-use thiserror::Error;
 
 /// What a step asks for.
 #[derive(Drop)]
@@ -52,16 +51,13 @@ pub struct Script {
 }
 
 /// Why a script is not read.
-#[derive(Clone, Copy, Debug, PartialEq, Eq, Error)]
+#[derive(Clone, Copy, Debug)]
 pub enum ScriptNo {
     /// The least line that is refused, counted from 1, and the first of its causes.
-    #[error("line {line} is refused")]
     BadLine { line: u32, cause: LineCause },
     /// The script has over 16,777,216 bytes.
-    #[error("the script is too long")]
     TooLong,
     /// Out of memory.
-    #[error("no memory")]
     NoMemory,
 }
 
@@ -74,7 +70,7 @@ impl From<NoMemory> for ScriptNo {
 }
 
 /// What the run of a script allows.
-#[derive(Clone, Copy, PartialEq, Eq)]
+#[derive(Clone, Copy)]
 pub struct Run {
     /// It begins with an empty queue.
     pub cold: bool,

@@ -1,6 +1,6 @@
 //! What a crash leaves of unsynced bytes.
 /// What a crash makes of bytes that aren't synced.
-#[derive(Clone, Copy, PartialEq, Eq)]
+#[derive(Clone, Copy)]
 pub enum Choice {
     /// The unsynced bytes are as before their writes.
     Old,

@@ -9,7 +9,7 @@ ghost use Rattle.spool_disk.specs.declared.plant.Part.TheVariants.{Disk, Console
 use mas_types::{Dev, MemberId};
 
 /// A part of the outside, which can be lost by itself.
-#[derive(Clone, Copy, PartialEq, Eq)]
+#[derive(Clone, Copy)]
 pub enum Part {
     /// A device: a checkpoint data set or a spool volume.
     Disk(Dev),
@@ -22,7 +22,7 @@ pub enum Part {
 }
 
 /// How an act ended.
-#[derive(Clone, Copy, PartialEq, Eq)]
+#[derive(Clone, Copy)]
 pub enum Act {
     /// The act was done whole.
     Done,
@@ -33,7 +33,7 @@ pub enum Act {
 }
 
 /// How taking bytes from a wire ended.
-#[derive(Clone, Copy, PartialEq, Eq)]
+#[derive(Clone, Copy)]
 pub enum Took {
     /// So many bytes came.
     Bytes(usize),
@@ -44,7 +44,7 @@ pub enum Took {
 }
 
 /// What an armed stop counts.
-#[derive(Clone, Copy, PartialEq, Eq)]
+#[derive(Clone, Copy)]
 pub enum Fuse {
     /// Acts of any kind.
     Any,

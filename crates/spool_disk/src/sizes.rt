@@ -3,7 +3,7 @@ ghost use Rattle.std.specs.Prelude.{◌≡◌, ◌≤◌};
 ghost use Rattle.spool_disk.specs.Sizes.{size_in};
 
 /// The sizes of the devices, in bytes. A device that is not named here has 0 bytes.
-#[derive(Clone, Copy, PartialEq, Eq)]
+#[derive(Clone, Copy)]
 pub struct Sizes {
     /// The bytes of each of the two checkpoint data sets.
     pub ckpt: u64,

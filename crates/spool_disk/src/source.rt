@@ -5,7 +5,7 @@ ghost use Rattle.spool_disk.specs.Source.{Gives, GivesCount, gives_from, given_b
 use mas_types::List;
 
 /// What a call of a source gave.
-#[derive(Clone, Copy, PartialEq, Eq)]
+#[derive(Clone, Copy)]
 pub enum Got {
     /// So many bytes. None of them says the same as `End`.
     Bytes(usize),

@@ -9,16 +9,13 @@ use mas_types::limits::{LINE_BYTES, PAGE_BYTES};
 use mas_types::{Lines, NoMemory, Page};
 use std::alloc::Global;
 use std::simd::prelude::*;
-use thiserror::Error;
 
 /// Why a group gave no text.
-#[derive(Clone, Copy, Debug, PartialEq, Eq, Error)]
+#[derive(Clone, Copy)]
 pub enum TextNo {
     /// The group holds no records.
-    #[error("the group holds no records")]
     Bad,
     /// Out of memory.
-    #[error("no memory")]
     NoMemory,
 }
 

@@ -16,16 +16,13 @@ use mas_types::{Dev, GroupNo, Lines, MemberId, NoMemory, Page, Text};
 use spool_disk::{Act, Part, Plant};
 use spool_text::{TextNo, law_of_reading, unpack};
 use std::alloc::Global;
-use thiserror::Error;
 
 /// Why a text was not read.
-#[derive(Clone, Copy, Debug, PartialEq, Eq, Error)]
+#[derive(Clone, Copy)]
 pub enum ReadError {
     /// The member was stopped inside a read.
-    #[error("the member was stopped")]
     Halted,
     /// There was no memory for the lines.
-    #[error("no memory")]
     NoMemory,
 }
 

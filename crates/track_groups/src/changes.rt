@@ -5,11 +5,9 @@ ghost use Rattle.track_groups.specs.Groups.{is_things as is_things_lem, first_pl
 
 use crate::kinds::{is_free, is_members, is_things, owner_at};
 use mas_types::{MemberId, Owner, Thing};
-use thiserror::Error;
 
 /// No group is free.
-#[derive(Clone, Copy, Debug, PartialEq, Eq, Error)]
-#[error("no track group is free")]
+#[derive(Clone, Copy)]
 pub struct SpoolFull;
 
 fn free_if(test: bool, owner: Owner) -> Owner

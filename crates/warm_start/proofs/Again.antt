@@ -9,7 +9,7 @@ use Rattle.spool_disk.specs.Acts.{Rose}
 use Rattle.ckpt_copy.specs.Changes.{NoMore}
 use Rattle.ckpt_copy.specs.Pages.{bytes_of}
 use Rattle.ckpt_pages.specs.Checkpoints.{IsCheckpoint, SpellsOneAtMost}
-use Rattle.warm_start.specs.Usable.{AreUsable}
+use Rattle.start_choice.specs.Usable.{AreUsable}
 use Rattle.warm_start.specs.Starting.{IsSeen, IsBest, mark_of}
 use Rattle.warm_start.specs.Inspecting.{AreFoundAgain}
 use Rattle.warm_start.proofs.Seeing.{same_pages}

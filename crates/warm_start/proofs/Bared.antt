@@ -6,7 +6,8 @@ use Rattle.mas_types.specs.Queue.{line_count}
 use Rattle.lay_bytes.specs.declared.records.JobRec.{JobRec}
 use Rattle.lay_bytes.specs.declared.records.OutRec.{OutRec}
 use Rattle.ckpt_pages.specs.declared.tables.Tables.{Tables}
-use Rattle.ckpt_pages.specs.QueueOf.{used, queue_of}
+use Rattle.lay_bytes.specs.Used.{used}
+use Rattle.ckpt_pages.specs.QueueOf.{queue_of}
 use Rattle.queue_tables.specs.Telling.{Tell}
 use Rattle.queue_tables.proofs.ToldLemmas.{tell_given}
 use Rattle.warm_start.specs.Bare.{bare_text, bare_deck, bare_print}

@@ -7,8 +7,8 @@ use Rattle.spool_disk.specs.View.{View, Disk, disk_now}
 use Rattle.spool_disk.specs.Acts.{Goes}
 use Rattle.ckpt_copy.specs.Pages.{bytes_of}
 use Rattle.duplex_pair.specs.Halves.{IsGone}
-use Rattle.warm_start.specs.declared.choosing.Start.{Start}
-use Rattle.warm_start.specs.Choosing.{goes}
+use Rattle.start_choice.specs.declared.choosing.Start.{Start}
+use Rattle.start_choice.specs.Choosing.{goes}
 use Rattle.warm_start.specs.Starting.{Chosen, HasGone, IsFound, IsUnfit, Starts, mark_of}
 use Rattle.warm_start.proofs.Begun.{found_later, gone_brought, kept}
 

@@ -16,14 +16,14 @@ use Rattle.ckpt_copy.specs.Pages.{bytes_of, level}
 use Rattle.duplex_pair.specs.Both.{PairActed}
 use Rattle.mas_complex.specs.Fits.{fits, differ_at, first_page}
 use Rattle.mas_complex.proofs.Fitted.{fits_many, fits_same}
-use Rattle.warm_start.specs.declared.choosing.Good.{Good as GoodPages}
-use Rattle.warm_start.specs.declared.choosing.Judged.{Judged}
-use Rattle.warm_start.specs.declared.choosing.Judged.TheVariants.{Good, Bad}
-use Rattle.warm_start.specs.declared.choosing.Start.{Start}
-use Rattle.warm_start.specs.declared.choosing.StartNo.{StartNo}
-use Rattle.warm_start.specs.declared.choosing.StartNo.TheVariants as no_start
-use Rattle.warm_start.specs.Usable.{AreOf, HaveSize, AreUsable}
-use Rattle.warm_start.specs.Choosing.{IsFew, HasFew, is_lower, started, neither, chosen}
+use Rattle.start_choice.specs.declared.choosing.Good.{Good as GoodPages}
+use Rattle.start_choice.specs.declared.choosing.Judged.{Judged}
+use Rattle.start_choice.specs.declared.choosing.Judged.TheVariants.{Good, Bad}
+use Rattle.start_choice.specs.declared.choosing.Start.{Start}
+use Rattle.start_choice.specs.declared.choosing.StartNo.{StartNo}
+use Rattle.start_choice.specs.declared.choosing.StartNo.TheVariants as no_start
+use Rattle.start_choice.specs.Usable.{AreOf, HaveSize, AreUsable}
+use Rattle.start_choice.specs.Choosing.{IsFew, HasFew, is_lower, started, neither, chosen}
 use Rattle.warm_start.specs.Judging.{Has, HasRoomBy}
 use Rattle.warm_start.specs.Inspecting.{HasState, FindsNone}
 use Rattle.warm_start.specs.Starting.{IsFound, mark_of, Fitting, Chosen, IsCauseOf, IsSmall, IsSmallAt, IsSmallVolumeAt, IsState}

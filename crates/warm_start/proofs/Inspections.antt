@@ -15,11 +15,11 @@ use Rattle.duplex_pair.specs.Halves.{IsGone}
 use Rattle.duplex_pair.proofs.Chosen.{part12, part21}
 use Rattle.warm_start.specs.Bare.{bare_deck, bare_print}
 use Rattle.warm_start.proofs.Bared.{bare_told}
-use Rattle.warm_start.specs.declared.choosing.Start.{Start}
-use Rattle.warm_start.specs.declared.choosing.StartNo.{StartNo}
-use Rattle.warm_start.specs.declared.choosing.StartNo.TheVariants as no_start
+use Rattle.start_choice.specs.declared.choosing.Start.{Start}
+use Rattle.start_choice.specs.declared.choosing.StartNo.{StartNo}
+use Rattle.start_choice.specs.declared.choosing.StartNo.TheVariants as no_start
 use Rattle.spool_volumes.specs.Volumes.{AreRoomy}
-use Rattle.warm_start.specs.Usable.{HaveSize}
+use Rattle.start_choice.specs.Usable.{HaveSize}
 use Rattle.warm_start.specs.Starting.{IsSeen, HasGone, mark_of, Chosen, IsSmall, IsSmallAt, OnlyLooked}
 use Rattle.warm_start.specs.Inspecting.{HasFailed, Looks, SomeThere, HasFound, FindsNone, HasLooked, SeesNone, greatest}
 use Rattle.warm_start.proofs.Seeing.{Looked, shown}

@@ -1,7 +1,7 @@
 -- Lists in ascending number, and what stands in slots.
 use Rattle.std.proofs.Common.{◌≡◌, ℕ, ◌+◌, ◌<◌, List, [], ◌∷◌, ◌++◌, length, take, get_or, Option, Some, None, refl, ap}
 use Rattle.std.proofs.lemmas.List.{take_more}
-use Rattle.ckpt_pages.specs.QueueOf.{used}
+use Rattle.lay_bytes.specs.Used.{used}
 
 -- one more slot
 used_last : {X : Type 0} (xs : List (Option X)) (s : Option X) → used (xs ++ s ∷ []) ≡ used xs ++ used (s ∷ [])

@@ -19,9 +19,9 @@ use Rattle.duplex_pair.specs.Both.{PairActed, BothMeanwhile}
 use Rattle.duplex_pair.proofs.Composing.{no_more_start}
 use Rattle.mas_complex.specs.Texts.{HasTexts, lost_now, spools_at}
 use Rattle.mas_complex.proofs.Spooled.{texts_fewer, texts_same}
-use Rattle.warm_start.specs.declared.choosing.Start.{Start}
-use Rattle.warm_start.specs.declared.choosing.StartNo.{StartNo}
-use Rattle.warm_start.specs.declared.choosing.StartNo.TheVariants.{BothLost}
+use Rattle.start_choice.specs.declared.choosing.Start.{Start}
+use Rattle.start_choice.specs.declared.choosing.StartNo.{StartNo}
+use Rattle.start_choice.specs.declared.choosing.StartNo.TheVariants.{BothLost}
 use Rattle.warm_start.specs.Starting.{Chosen, HasGone, IsCauseOf, IsHeld, OnlyLooked, OnlyLookedAtAll, LosesBoth, WhileStarting, mark_of}
 use Rattle.warm_start.specs.Spooled.{IsGiven, AreGiven}
 use Rattle.warm_start.proofs.Begun.{found_later, gone_on_to, unfit_later}

@@ -18,10 +18,10 @@ use Rattle.duplex_pair.specs.Halves.{Acted}
 use Rattle.duplex_pair.specs.Lagging.{IsLevelFound}
 use Rattle.duplex_pair.specs.Looks.{HasRoom, WasSeen}
 use Rattle.duplex_pair.proofs.Composing.{no}
-use Rattle.warm_start.specs.declared.choosing.Judged.{Judged}
-use Rattle.warm_start.specs.declared.choosing.Judged.TheVariants.{Good, Bad}
-use Rattle.warm_start.specs.Usable.{AreOf, IsUsable, HaveSize, AreUsable}
-use Rattle.warm_start.specs.Choosing.{IsJudged}
+use Rattle.start_choice.specs.declared.choosing.Judged.{Judged}
+use Rattle.start_choice.specs.declared.choosing.Judged.TheVariants.{Good, Bad}
+use Rattle.start_choice.specs.Usable.{AreOf, IsUsable, HaveSize, AreUsable}
+use Rattle.start_choice.specs.Choosing.{IsJudged}
 use Rattle.warm_start.specs.Judging.{HasSizes, Has, WasLooked, WasJudged, HasRoomBy}
 use Rattle.warm_start.specs.Starting.{HasGone, IsSeen, IsState, mark_of}
 

@@ -19,10 +19,10 @@ use Rattle.duplex_pair.specs.declared.errors.Look.TheVariants as look
 use Rattle.duplex_pair.specs.Finds.{best}
 use Rattle.duplex_pair.specs.Founds.{better}
 use Rattle.warm_start.specs.Bare.{bare_deck, bare_print}
-use Rattle.warm_start.specs.declared.choosing.StartNo.{StartNo}
-use Rattle.warm_start.specs.declared.choosing.StartNo.TheVariants as no_start
+use Rattle.start_choice.specs.declared.choosing.StartNo.{StartNo}
+use Rattle.start_choice.specs.declared.choosing.StartNo.TheVariants as no_start
 use Rattle.spool_volumes.specs.Volumes.{AreRoomy}
-use Rattle.warm_start.specs.Usable.{AreOf, AreUsable, HaveSize}
+use Rattle.start_choice.specs.Usable.{AreOf, AreUsable, HaveSize}
 use Rattle.warm_start.specs.Starting.{IsSeen, IsFound, mark_of, IsSmall, AreNotLost, OnlyLooked}
 
 -- WHAT A LOOK LEAVES

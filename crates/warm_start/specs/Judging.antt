@@ -10,9 +10,9 @@ use Rattle.ckpt_copy.specs.Reading.{IsNone}
 use Rattle.duplex_pair.specs.declared.errors.Look.{Look}
 use Rattle.duplex_pair.specs.declared.errors.Look.TheVariants as look
 use Rattle.duplex_pair.specs.Looks.{WasFound, WasLost}
-use Rattle.warm_start.specs.declared.choosing.Judged.{Judged}
-use Rattle.warm_start.specs.declared.choosing.Judged.TheVariants.{Good, Bad}
-use Rattle.warm_start.specs.Usable.{AreOf, IsUsable, HaveSize}
+use Rattle.start_choice.specs.declared.choosing.Judged.{Judged}
+use Rattle.start_choice.specs.declared.choosing.Judged.TheVariants.{Good, Bad}
+use Rattle.start_choice.specs.Usable.{AreOf, IsUsable, HaveSize}
 
 -- what was seen has pages of the size of pages, if any
 abbrev pub HasSizes : Look → Type 0

@@ -1,6 +1,4 @@
 pub mod Bare
-pub mod Usable
-pub mod Choosing
 pub mod Judging
 pub mod Starting
 pub mod Inspecting

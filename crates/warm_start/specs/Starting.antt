@@ -22,14 +22,14 @@ use Rattle.queue_tables.specs.Telling.{Tell}
 use Rattle.ckpt_copy.specs.Changes.{NoMore}
 use Rattle.ckpt_copy.specs.Meanwhile.{SameSides}
 use Rattle.duplex_pair.specs.Both.{BothMeanwhile}
-use Rattle.warm_start.specs.declared.choosing.Start.{Start}
-use Rattle.warm_start.specs.declared.choosing.StartNo.{StartNo}
-use Rattle.warm_start.specs.declared.choosing.StartNo.TheVariants as no_start
+use Rattle.start_choice.specs.declared.choosing.Start.{Start}
+use Rattle.start_choice.specs.declared.choosing.StartNo.{StartNo}
+use Rattle.start_choice.specs.declared.choosing.StartNo.TheVariants as no_start
 use Rattle.mas_complex.specs.Fits.{fits}
 use Rattle.mas_complex.specs.Texts.{HasTexts, lost_now, spools_at}
-use Rattle.warm_start.specs.Usable.{AreOf, IsUsable, AreUsable, HaveSize}
+use Rattle.start_choice.specs.Usable.{AreOf, IsUsable, AreUsable, HaveSize}
 use Rattle.warm_start.specs.Spooled.{AreGiven}
-use Rattle.warm_start.specs.Choosing.{goes}
+use Rattle.start_choice.specs.Choosing.{goes}
 use Rattle.warm_start.specs.Judging.{Has, IsUnread}
 
 -- THE RULE: which pages are found

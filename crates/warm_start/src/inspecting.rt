@@ -3,7 +3,6 @@ ghost use Rattle.std.specs.Prelude.{◌≡◌, IfOk, IfErr, true};
 ghost use Rattle.ckpt_form.specs.Form.{form_reads, form_needs};
 ghost use Rattle.warm_start.specs.Inspecting.{Looks, HasFound, FindsNone, HasLooked, SeesNone, AreFoundAgain, greatest as greatest_lem};
 
-use crate::choosing::StartNo;
 use crate::looking::look_at_both;
 use crate::queues::queue_of;
 use crate::starting::{choose_copy, refuse_small};
@@ -14,6 +13,7 @@ use duplex_pair::{Look, Pair, better_of};
 use mas_complex::Steady;
 use mas_types::{CopyState, Dev, List, Page, Queue};
 use spool_disk::Plant;
+use start_choice::StartNo;
 use std::alloc::Global;
 
 /// The pages of a copy, until it is looked at.

@@ -3,19 +3,16 @@
 //! a stopped one, and finds out what became of its batch.
 #![tactic(auto)]
 
-mod choosing;
 mod inspecting;
 mod looking;
 mod queues;
-mod sound_pages;
 mod spooled;
 mod starting;
 mod takeovers;
 
-pub use choosing::{Good, Judged, Start, StartNo, choose, judge};
 pub use inspecting::{found, law_of_looks, looked};
 pub use queues::{law_of_found_queues, queue_of};
-pub use sound_pages::usable;
 pub use spooled::spooled_queue;
+pub use start_choice::{Good, Judged, Start, StartNo, choose, judge, usable};
 pub use starting::{Started, Unstarted, refuse_small, warm};
 pub use takeovers::{TakeNo, takeover};

@@ -7,16 +7,16 @@ ghost use Rattle.ckpt_copy.specs.Changes.{NoMore};
 ghost use Rattle.ckpt_copy.specs.Meanwhile.{Meanwhile};
 ghost use Rattle.duplex_pair.specs.Halves.{IsCkpt, pick, other, Acted, IsGone};
 ghost use Rattle.duplex_pair.specs.Both.{PairActed, BothMeanwhile};
-ghost use Rattle.warm_start.specs.Choosing.{HasFew};
+ghost use Rattle.start_choice.specs.Choosing.{HasFew};
 ghost use Rattle.duplex_pair.specs.Looks.{HasRoom};
 ghost use Rattle.warm_start.specs.Judging.{WasLooked, WasJudged, HasSizes, HasRoomBy};
 
-use crate::choosing::{Judged, judge};
 use ckpt_pages::law_of_page_sizes;
 use duplex_pair::{Look, Pair};
 use mas_complex::Steady;
 use mas_types::{Dev, MemberId, NoMemory};
 use spool_disk::Plant;
+use start_choice::{Judged, judge};
 use std::alloc::Global;
 
 /// The operator, who starts the program and never halts.

@@ -2,10 +2,11 @@
 ghost use Rattle.std.specs.Prelude.{◌≡◌, List, Option, IfOk, map};
 ghost use Rattle.lay_bytes.specs.declared.records.JobRec.{JobRec as JobRecLem};
 ghost use Rattle.lay_bytes.specs.declared.records.OutRec.{OutRec as OutRecLem};
-ghost use Rattle.ckpt_pages.specs.QueueOf.{used, job_with, output_with, queue_of as queue_of_lem};
+ghost use Rattle.lay_bytes.specs.Used.{used};
+ghost use Rattle.ckpt_pages.specs.QueueOf.{job_with, output_with, queue_of as queue_of_lem};
 ghost use Rattle.mas_types.specs.Sorted.{in_order};
 ghost use Rattle.warm_start.specs.Bare.{bare_text, bare_deck, bare_print};
-ghost use Rattle.warm_start.specs.Usable.{StandForWhatIsTold};
+ghost use Rattle.start_choice.specs.Usable.{StandForWhatIsTold};
 
 use ckpt_pages::Tables;
 use lay_bytes::{JobRec, OutRec};

@@ -10,27 +10,21 @@ use mas_complex::{Complex, RecoverNo, Steady};
 use mas_types::{List, MemberId, Page};
 use spool_disk::Plant;
 use std::alloc::Global;
-use thiserror::Error;
 
 /// Why nothing was taken over, or nothing was found out of a batch in flight: then it still is.
-#[derive(Clone, Copy, Debug, PartialEq, Eq, Error)]
+#[derive(Clone, Copy)]
 pub enum TakeNo {
     /// The member that is to lose the lock isn't stopped. Nothing is changed.
-    #[error("the member is up")]
     StillUp,
     /// The member that is to lose the lock is stopped and doesn't hold it. Nothing is changed.
-    #[error("the member doesn't hold the lock")]
     NotHolder,
     /// Both copies count as lost at the end of the call. The member that takes over holds the lock.
-    #[error("both copies are lost")]
     BothLost,
     /// The member that takes over was stopped inside the call: its count of stops rose. It is stopped in the book too,
     /// and holds the lock. A copy counts as alive.
-    #[error("the member was stopped")]
     Halted,
     /// There was no memory for the pages, or those found count beyond what the run's batches may come to. The member
     /// that takes over is stopped in the book, and holds the lock.
-    #[error("no memory")]
     NoMemory,
 }
 

@@ -6,7 +6,8 @@ use Rattle.mas_types.specs.Limits.{members_most}
 use Rattle.lay_bytes.specs.declared.records.JobRec.{JobRec}
 use Rattle.lay_bytes.specs.declared.records.OutRec.{OutRec}
 use Rattle.lay_bytes.specs.Slots.{IsJobRec, IsOutRec, IfUsed}
-use Rattle.ckpt_pages.specs.QueueOf.{used, job_with, output_with}
+use Rattle.lay_bytes.specs.Used.{used}
+use Rattle.ckpt_pages.specs.QueueOf.{job_with, output_with}
 use Rattle.mas_types.specs.Sorted.{in_order}
 use Rattle.ckpt_pages.proofs.SlotLists.{all_used, all_ordered}
 use Rattle.queue_report.proofs.laws.law_of_named_queues.Goals as goal

@@ -1,5 +1,5 @@
 use Rattle.std.proofs.Common.{◌≡◌, ◌≤◌, length, take}
-use Rattle.ckpt_pages.specs.QueueOf.{used}
+use Rattle.lay_bytes.specs.Used.{used}
 use Rattle.queue_slots.proofs.slots.used_count.Given as goal
 
 -- how many of the slots so far

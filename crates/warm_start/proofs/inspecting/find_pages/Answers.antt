@@ -3,7 +3,7 @@ use Rattle.mas_types.specs.declared.ids.Dev.TheVariants.{Ckpt1, Ckpt2}
 use Rattle.mas_types.specs.declared.ids.Page.{Page}
 use Rattle.spool_disk.specs.View.{disk_now}
 use Rattle.ckpt_copy.specs.Changes.{NoMore}
-use Rattle.warm_start.specs.declared.choosing.StartNo.{StartNo}
+use Rattle.start_choice.specs.declared.choosing.StartNo.{StartNo}
 use Rattle.warm_start.specs.Inspecting.{HasLooked, SeesNone}
 use Rattle.warm_start.proofs.Seeing.{is_seen}
 use Rattle.warm_start.proofs.Starts.{first_now, second_now}

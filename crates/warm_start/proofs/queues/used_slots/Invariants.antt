@@ -1,5 +1,5 @@
 use Rattle.std.proofs.Common.{◌≡◌, take}
-use Rattle.ckpt_pages.specs.QueueOf.{used}
+use Rattle.lay_bytes.specs.Used.{used}
 use Rattle.warm_start.proofs.queues.used_slots.Given as goal
 
 abbrev pub invariant-loop-slot : goal.invariant-loop-slot

@@ -2,9 +2,9 @@ use Rattle.std.proofs.Common.{ℕ, List, Result, IfOk, IfErr, sym, subst}
 use Rattle.mas_types.specs.declared.ids.Dev.TheVariants.{Ckpt1, Ckpt2}
 use Rattle.spool_disk.specs.View.{disk_now}
 use Rattle.ckpt_copy.specs.Changes.{NoMore}
-use Rattle.warm_start.specs.declared.choosing.Start.{Start}
-use Rattle.warm_start.specs.declared.choosing.StartNo.{StartNo}
-use Rattle.warm_start.specs.Choosing.{IsFew}
+use Rattle.start_choice.specs.declared.choosing.Start.{Start}
+use Rattle.start_choice.specs.declared.choosing.StartNo.{StartNo}
+use Rattle.start_choice.specs.Choosing.{IsFew}
 use Rattle.warm_start.specs.Inspecting.{FindsNone}
 use Rattle.warm_start.specs.Judging.{HasRoomBy}
 use Rattle.warm_start.specs.Starting.{Starts, IsCauseOf}
