@@ -1,9 +1,10 @@
-//! Does one thing as often as it is told: reads and writes pages, reads decks or scripts, gives commands, or plays
-//! events on a net. The first word says which, by its first letter, and numbers behind it how often and of what size.
-//! Without such a word it does each a few times. `bench/layers` takes the time and the memory.
+//! Does one thing as often as it is told: reads and writes pages, reads decks, scripts or frames, gives commands, or
+//! plays events on a net. The first word says which, by its first letter, and numbers behind it how often and of what
+//! size. Without such a word it does each a few times. `bench/layers` takes the time and the memory.
 #![tactic(auto)]
 
 mod decks;
+mod frames;
 mod nets;
 mod pages;
 mod queues;
@@ -41,12 +42,14 @@ fn run(rt: &HostRuntime, letter: u8, numbers: Numbers) -> bool {
         b'p' => pages::run(alloc, numbers),
         b'd' => decks::run(alloc, numbers),
         b's' => scripts::run(alloc, numbers),
+        b'f' => frames::run(alloc, numbers),
         b'q' => queues::run(alloc, numbers),
         b'n' => nets::run(rt, numbers),
         _ => {
             pages::run(alloc, [1, 323, 0])
                 && decks::run(alloc, [1, 0, 0])
                 && scripts::run(alloc, [1, 80, 0])
+                && frames::run(alloc, [1, 100, 80])
                 && queues::run(alloc, [16, 8, 0])
                 && nets::run(rt, [2_000, 0, 0])
         }

@@ -9,6 +9,7 @@ mod PartSteps
 mod StreamLemmas
 mod StreamSteps
 mod OnlyLemmas
+mod FewFrames
 mod CardLines
 mod PushSteps
 mod TakeSteps

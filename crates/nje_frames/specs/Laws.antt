@@ -1,9 +1,9 @@
 -- What holds of every stream.
-use Rattle.std.specs.Prelude.{◌≡◌, ℕ, List, [], ◌∷◌, ◌++◌, All}
+use Rattle.std.specs.Prelude.{◌≡◌, ℕ, ◌≤◌, true, List, [], ◌∷◌, ◌++◌, length, All}
 use Rattle.std.specs.List.{concat, AllByRecursion}
 use Rattle.nje_frames.specs.declared.frames.Frame.{Frame}
 use Rattle.nje_frames.specs.Grammar.{frame_text, IsFrame}
-use Rattle.nje_frames.specs.Streams.{frames_in, frame_of, fed}
+use Rattle.nje_frames.specs.Streams.{frames_in, frame_of, fed, is_open}
 
 -- the frames are those of the stream, however it is cut into pieces
 abbrev pub ReadsAnyPieces : Type 0
@@ -33,3 +33,7 @@ ReadsWhatIsSpelled = (bytes : List ℕ) (frame : Frame) → frame_of bytes ≡ f
 -- no two frames have one spelling
 abbrev pub HasOneSpelling : Type 0
 HasOneSpelling = (one other : Frame) → IsFrame one → IsFrame other → frame_text one ≡ frame_text other → one ≡ other
+
+-- a piece completes no more frames than it has bytes, whatever waits for it
+abbrev pub CompletesFew : Type 0
+CompletesFew = (rest piece : List ℕ) → is_open rest ≡ true → length (frames_in (rest ++ piece)) ≤ length piece

@@ -1,1 +1,2 @@
 mod WireLemmas
+mod NumberLemmas

@@ -1,4 +1,5 @@
 pub mod Custody
 pub mod Wire
+pub mod Numbers
 pub mod Laws
 pub mod Examples

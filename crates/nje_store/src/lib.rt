@@ -9,5 +9,5 @@ mod laws;
 mod wire;
 
 pub use custody::{Custody, FrameOfNo, frame_of, judge};
-pub use laws::{law_of_custody, law_of_examples};
+pub use laws::{law_of_custody, law_of_examples, law_of_numbers};
 pub use wire::{WireEvent, WireFrame, WireWorld, no_wire_doubles};

@@ -16,7 +16,7 @@ use Rattle.step_turns.specs.declared.states.Release.TheVariants.{Inner, Keep, Ou
 use Rattle.step_turns.specs.Entries.{all_entries}
 use Rattle.run_turns.specs.Sights.{Cause, Cut, Ends, Halt, Saying, Sight, Stops, Waiting, Writing, clear}
 use Rattle.run_turns.specs.Scenes.{Armed, Scene, scene_of}
-use Rattle.run_turns.specs.Admissions.{Admission, Denied, Frees, Locks, Plays, Refused, Resets, TakesOver, Unplayed, admitted, asked, tried}
+use Rattle.run_turns.specs.Admissions.{Admission, Denied, Frees, Locks, Plays, Refused, Replaces, Resets, TakesOver, Unplayed, admitted, asked, tried}
 use Rattle.run_turns.specs.Awake.{AwakeRunsAreNotDormant, IsNotDormant, NoneIsDormant}
 use Rattle.run_turns.specs.Cuts.{Left, adds, adds_all, adds_first, book_cut, left_by, none_left, stopped_by}
 use Rattle.run_turns.specs.Givens.{RightIf}
@@ -153,6 +153,7 @@ module _ (m : MemberId) where
   awake_tried b (Denied why) awake = awake_try b false awake
   awake_tried b (Plays task) awake = awake_try b false awake
   awake_tried b (Resets of) awake = awake_try b false awake
+  awake_tried b (Replaces dev) awake = awake_try b false awake
   awake_tried b (TakesOver of) awake = awake_seize b of awake
   awake_tried b Locks awake = awake_try b false awake
   awake_tried b Frees awake = awake

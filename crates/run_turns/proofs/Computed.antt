@@ -3,6 +3,7 @@ use Rattle.std.proofs.Common.{refl}
 use Rattle.std.specs.Fmt.{digits}
 use Rattle.run_turns.specs.Examples.{DormantOnce, FreeByAnother, HoldOfOne, LockAndBusy, MemberNotUp, NoSuchMember, ResetsRefused, RestartOrPurge, SpentHoldFrees, StopOfNone, TakeoverFrees, TwoMembers}
 use Rattle.run_turns.specs.PrintExamples.{PaperGoesOnAtTheMark, PrintingIsTakenOver}
+use Rattle.run_turns.specs.ReplaceExamples.{CopyIsNotReplaced, CopyIsReplaced, ReplacedUnderLock}
 use Rattle.run_turns.specs.StopExamples.{DeckStopsAnywhere, FlightIsSettled, LockIsFreeInTheMiddle, StartFindsAlike, StoppedHolderHolds}
 
 pub lock_and_busy : LockAndBusy
@@ -80,3 +81,15 @@ printing_is_taken_over = refl
 pub paper_goes_on_at_the_mark : PaperGoesOnAtTheMark
 unfolding digits
 paper_goes_on_at_the_mark = (refl, refl)
+
+pub copy_is_replaced : CopyIsReplaced
+unfolding digits
+copy_is_replaced = refl
+
+pub copy_is_not_replaced : CopyIsNotReplaced
+unfolding digits
+copy_is_not_replaced = refl
+
+pub replaced_under_lock : ReplacedUnderLock
+unfolding digits
+replaced_under_lock = refl

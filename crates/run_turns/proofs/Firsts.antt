@@ -7,8 +7,8 @@ use Rattle.step_turns.specs.Entries.{all_entries}
 use Rattle.step_turns.proofs.Given.{entries_append}
 use Rattle.run_turns.specs.Sights.{Begun, Cut, Halt, Saying, Waiting, Writing}
 use Rattle.run_turns.specs.Scenes.{Batched}
-use Rattle.run_turns.specs.Cuts.{Left, adds, adds_all, adds_first, batches_cut, begun, entries_of, kept_all, left_by, none_left}
-use Rattle.run_turns.specs.Laws.{CutsGiveFirst, IsFirst}
+use Rattle.run_turns.specs.Cuts.{Left, adds, adds_all, adds_first, batches_cut, begun, entries_of, given_cut, kept_all, left_by, none_left}
+use Rattle.run_turns.specs.Laws.{AreFirstBytes, CutsGiveFirst, CutsGiveFirstBytes, IsFirst}
 use Rattle.run_turns.specs.Pieces.{Piece, Play, play_of}
 use Rattle.run_turns.proofs.Alone.{batches_in, left_batches}
 use Rattle.run_turns.proofs.Locks.{entries_kept}
@@ -85,3 +85,44 @@ module _ (by : MemberId) where
 
 pub cuts_give_first : CutsGiveFirst
 cuts_give_first S by at sight a = first_left by (play_of S by at sight a) (S.counts by) sight.cut
+
+-- BYTES
+
+bytes_in : List Piece → List ℕ
+bytes_in [] = []
+bytes_in (p ∷ ps) = p.given ++ bytes_in ps
+
+module _ (by : MemberId) where
+  bytes_cut : (halt : Halt) (bytes : List ℕ) → AreFirstBytes (given_cut by halt bytes) bytes
+  bytes_cut (Writing n g) bytes = record { rest = bytes; are = refl }
+  bytes_cut (Saying n tail) bytes = record { rest = bytes; are = refl }
+  bytes_cut (Waiting n tail) bytes = record { rest = drop n bytes; are = take-append-drop n bytes }
+
+  module _ (locked : Bool) (halt : Halt) where
+    whole_bytes_of : (l : Left) (ps : List Piece) → (adds_all by locked l ps).given ≡ l.given ++ bytes_in ps
+    unfolding bytes_in
+    whole_bytes_of l [] = sym (append-nil l.given)
+    whole_bytes_of l (p ∷ ps) = whole_bytes_of (adds by locked l p) ps ∙ append_assoc l.given p.given (bytes_in ps)
+
+    first_bytes : (n : ℕ) (l : Left) (ps : List Piece)
+        → AreFirstBytes (adds_first by locked halt (adds_all by locked l (take n ps)) (drop n ps)).given (adds_all by locked l ps).given
+    unfolding bytes_in
+    first_bytes zero l [] = record { rest = []; are = append-nil l.given }
+    first_bytes (suc n) l [] = record { rest = []; are = append-nil l.given }
+    first_bytes (suc n) l (p ∷ ps) = first_bytes n (adds by locked l p) ps
+    first_bytes zero l (p ∷ ps) =
+        let part = bytes_cut halt p.given in
+        record {
+          rest = part.rest ++ bytes_in ps;
+          are =
+              append_assoc l.given (given_cut by halt p.given) (part.rest ++ bytes_in ps)
+              ∙ ap (λ (bs : List ℕ). l.given ++ bs) (sym (append_assoc (given_cut by halt p.given) part.rest (bytes_in ps)) ∙ ap (λ (bs : List ℕ). bs ++ bytes_in ps) part.are)
+              ∙ sym (whole_bytes_of l (p ∷ ps));
+        }
+
+  bytes_left : (play : Play) (count : ℕ) (cut : Option Cut) → AreFirstBytes (left_by by cut play count).given (left_by by None play count).given
+  bytes_left play count None = record { rest = []; are = append-nil (left_by by None play count).given }
+  bytes_left play count (Some cut) = first_bytes play.locked cut.halt cut.sittings (none_left by play.book count) play.pieces
+
+pub cuts_give_first_bytes : CutsGiveFirstBytes
+cuts_give_first_bytes S by at sight a = bytes_left by (play_of S by at sight a) (S.counts by) sight.cut

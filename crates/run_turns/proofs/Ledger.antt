@@ -13,10 +13,10 @@ use Rattle.script_lang.specs.declared.types.Step.{Step}
 use Rattle.step_turns.proofs.Given.{run_append}
 use Rattle.run_turns.specs.Sights.{Begun, Cut, Halt, Saying, Sight, Waiting, Writing, clear}
 use Rattle.run_turns.specs.Scenes.{Batched, Scene, flies_as, flight_found, flying_in, kept_in, kept_of, queue_found, scene_of, with_fate}
-use Rattle.run_turns.specs.Admissions.{Admission, Denied, Frees, Locks, Plays, Refused, Resets, TakesOver, Unplayed, admitted}
+use Rattle.run_turns.specs.Admissions.{Admission, Denied, Frees, Locks, Plays, Refused, Replaces, Resets, TakesOver, Unplayed, admitted}
 use Rattle.run_turns.specs.Pieces.{Piece, Play, fate_found, once_found, pieces_of, play_of}
 use Rattle.spool_disk.specs.View.{Line}
-use Rattle.run_turns.specs.Cuts.{Left, adds, adds_all, adds_first, batches_cut, begun, kept_all, left_by, none_left, printed_cut, torn, whole}
+use Rattle.run_turns.specs.Cuts.{Left, adds, adds_all, adds_first, batches_cut, begun, given_cut, kept_all, left_by, none_left, printed_cut, torn, whole}
 use Rattle.run_turns.specs.Steps.{Outcome, Played, flight_then, is_up, played, played_as, played_ask, silent}
 use Rattle.run_turns.specs.Runs.{fate_then, history_from, outcomes_from, outcomes_if, scene_after, scene_if, settled}
 use Rattle.run_turns.specs.Laws.{QueuesAreOfHistory}
@@ -133,33 +133,34 @@ module _ (by : MemberId) where
 
   left_splits : (cut : Option Cut) (play : Play) (count : ℕ) → Splits (left_by by cut play count).batches
   left_splits None play count =
-      let none : Left = record { batches = []; lines = []; printed = []; prints = 0; count = count; book = play.book } in
+      let none : Left = record { batches = []; lines = []; printed = []; prints = 0; given = []; count = count; book = play.book } in
       quiet_splits (adds_all by play.locked none play.pieces).batches (whole_quiet play.locked none play.pieces refl)
   left_splits (Some cut) play count =
-      let none : Left = record { batches = []; lines = []; printed = []; prints = 0; count = count; book = play.book } in
+      let none : Left = record { batches = []; lines = []; printed = []; prints = 0; given = []; count = count; book = play.book } in
       first_splits play.locked cut.halt (adds_all by play.locked none (take cut.sittings play.pieces)) (drop cut.sittings play.pieces)
       (whole_quiet play.locked none (take cut.sittings play.pieces) refl)
 
--- PIECES WITHOUT BATCHES AND PRINTED LINES leave none
+-- PIECES WITHOUT BATCHES, PRINTED LINES AND GIVEN BYTES leave none
 
 abbrev pub AreBare : List Piece → Type 0
 AreBare [] = Unit {0}
-AreBare (p ∷ ps) = (p.sitting.batches ≡ []) × (p.printed ≡ []) × AreBare ps
+AreBare (p ∷ ps) = (p.sitting.batches ≡ []) × (p.printed ≡ []) × (p.given ≡ []) × AreBare ps
 
 take_bare : (n : ℕ) (ps : List Piece) → AreBare ps → AreBare (take n ps)
 take_bare zero ps bare = tt
 take_bare (suc n) [] bare = tt
-take_bare (suc n) (p ∷ ps) bare = (bare.0, bare.1, take_bare n ps bare.2)
+take_bare (suc n) (p ∷ ps) bare = (bare.0, bare.1, bare.2, take_bare n ps bare.3)
 
 drop_bare : (n : ℕ) (ps : List Piece) → AreBare ps → AreBare (drop n ps)
 drop_bare zero ps bare = bare
 drop_bare (suc n) [] bare = tt
-drop_bare (suc n) (p ∷ ps) bare = drop_bare n ps bare.2
+drop_bare (suc n) (p ∷ ps) bare = drop_bare n ps bare.3
 
--- nothing is kept, in flight or printed
+-- nothing is kept, in flight, printed or given
 pub record IsBareLeft (l : Left) : Type 0 where
   pub batches : l.batches ≡ []
   pub printed : l.printed ≡ []
+  pub given : l.given ≡ []
 
 module _ (by : MemberId) where
   none_begun : (g : Option Begun) → begun by g [] ≡ []
@@ -182,28 +183,36 @@ module _ (by : MemberId) where
   none_printed_cut (Waiting zero tail) = none_torn tail
   none_printed_cut (Waiting (suc n) tail) = none_torn tail
 
+  none_given_cut : (halt : Halt) → given_cut by halt [] ≡ []
+  none_given_cut (Writing n g) = refl
+  none_given_cut (Saying n tail) = refl
+  none_given_cut (Waiting zero tail) = refl
+  none_given_cut (Waiting (suc n) tail) = refl
+
   whole_bare : (locked : Bool) (l : Left) (ps : List Piece) → IsBareLeft l → AreBare ps → IsBareLeft (adds_all by locked l ps)
   whole_bare locked l [] none bare = none
   whole_bare locked l (p ∷ ps) none bare =
       let eb : l.batches ++ kept_all p.sitting.batches ≡ [] = ap (λ (bs : List Batched). bs ++ kept_all p.sitting.batches) none.batches ∙ ap kept_all bare.0 in
       let ep : l.printed ++ map whole p.printed ≡ [] = ap (λ (ls : List Line). ls ++ map whole p.printed) none.printed ∙ ap (map whole) bare.1 in
-      whole_bare locked (adds by locked l p) ps (record { batches = eb; printed = ep }) bare.2
+      let eg : l.given ++ p.given ≡ [] = ap (λ (bs : List ℕ). bs ++ p.given) none.given ∙ bare.2 in
+      whole_bare locked (adds by locked l p) ps (record { batches = eb; printed = ep; given = eg }) bare.3
 
   first_bare : (locked : Bool) (halt : Halt) (l : Left) (ps : List Piece) → IsBareLeft l → AreBare ps → IsBareLeft (adds_first by locked halt l ps)
   first_bare locked halt l [] none bare = none
   first_bare locked halt l (p ∷ ps) none bare = record {
     batches = ap (λ (bs : List Batched). bs ++ batches_cut by halt p.sitting.batches) none.batches ∙ ap (batches_cut by halt) bare.0 ∙ none_cut halt;
     printed = ap (λ (ls : List Line). ls ++ printed_cut by halt p.printed) none.printed ∙ ap (printed_cut by halt) bare.1 ∙ none_printed_cut halt;
+    given = ap (λ (bs : List ℕ). bs ++ given_cut by halt p.given) none.given ∙ ap (given_cut by halt) bare.2 ∙ none_given_cut halt;
   }
 
   pub left_bare : (cut : Option Cut) (play : Play) (count : ℕ) → AreBare play.pieces → IsBareLeft (left_by by cut play count)
   left_bare None play count bare =
-      whole_bare play.locked (none_left by play.book count) play.pieces (record { batches = refl; printed = refl }) bare
+      whole_bare play.locked (none_left by play.book count) play.pieces (record { batches = refl; printed = refl; given = refl }) bare
   left_bare (Some cut) play count bare =
       let l = first_bare play.locked cut.halt (adds_all by play.locked (none_left by play.book count) (take cut.sittings play.pieces)) (drop cut.sittings play.pieces)
-      (whole_bare play.locked (none_left by play.book count) (take cut.sittings play.pieces) (record { batches = refl; printed = refl }) (take_bare cut.sittings play.pieces bare))
+      (whole_bare play.locked (none_left by play.book count) (take cut.sittings play.pieces) (record { batches = refl; printed = refl; given = refl }) (take_bare cut.sittings play.pieces bare))
       (drop_bare cut.sittings play.pieces bare) in
-      record { batches = l.batches; printed = l.printed }
+      record { batches = l.batches; printed = l.printed; given = l.given }
 
 -- THE LEDGER: after what is kept and dropped comes a batch in flight, if one is
 
@@ -293,10 +302,11 @@ once_bare (Some fs) es ps is = tt
 
 -- while a batch is in flight a line gives nothing
 pub bare_in_flight : (S : Scene) (by : MemberId) (at : ℕ) (sight : Sight) (a : Admission) (es : List Entry) → (play_of S by at sight a).flight ≡ Some es → AreBare (play_of S by at sight a).pieces
-bare_in_flight S by at sight (Refused sayer end) es is = (refl, refl, tt)
-bare_in_flight S by at sight (Denied why) es is = (refl, refl, tt)
+bare_in_flight S by at sight (Refused sayer end) es is = (refl, refl, refl, tt)
+bare_in_flight S by at sight (Denied why) es is = (refl, refl, refl, tt)
 bare_in_flight S by at sight (Plays task) es is = once_bare S.flight es (pieces_of S by at sight S.queue (Plays task)) is
 bare_in_flight S by at sight (Resets of) es is = once_bare S.flight es (pieces_of S by at sight S.queue (Resets of)) is
+bare_in_flight S by at sight (Replaces dev) es is = once_bare S.flight es (pieces_of S by at sight S.queue (Replaces dev)) is
 bare_in_flight S by at sight (TakesOver of) es is =
     once_bare (flight_found sight.flight S.flight) es (pieces_of S by at sight (queue_found sight.flight S.flight S.queue) (TakesOver of)) is
 bare_in_flight S by at sight Locks es is = once_bare S.flight es (pieces_of S by at sight S.queue Locks) is

@@ -1,4 +1,5 @@
 mod Computed
+mod LineComputed
 pub mod Tests
 pub mod Ledger
 pub mod Stopped

@@ -38,7 +38,7 @@ use Rattle.run_turns.specs.Sights.{Cause, Cut, Ends, Halt, Sight, Stops}
 use Rattle.mas_types.specs.declared.journals.Fate.{Fate}
 use Rattle.mas_types.specs.declared.journals.Fate.TheVariants.{Flying}
 use Rattle.run_turns.specs.Scenes.{Batched, Scene, flight_found, queue_found}
-use Rattle.run_turns.specs.Admissions.{Admission, Denied, Frees, Locks, Plays, Refused, Resets, TakesOver, Unplayed, asked, command_admitted, deck_admitted, if_granted, resets, tried}
+use Rattle.run_turns.specs.Admissions.{Admission, Denied, Frees, Locks, Plays, Refused, Replaces, Resets, TakesOver, Unplayed, asked, command_admitted, deck_admitted, if_granted, resets, tried}
 use Rattle.run_turns.specs.Cuts.{Left, adds, adds_all, adds_first, entries_of, kept_all, left_by, none_left, stopped_by}
 use Rattle.run_turns.specs.Laws.{FreeGivesUp, HasLock, HoldsAreSpent, LockKeeps, OthersLeaveTheLock}
 use Rattle.run_turns.specs.Pieces.{Piece, Play, after_pieces, entered, fate_found, holder_of, is_locked, pieces_found, pieces_from, pieces_of, play_of, released_by, spent, unless_told}
@@ -125,8 +125,8 @@ module _ (b : Book) (by : MemberId) (up : is_stopped b by ≡ false) (somebody :
   idle_ask config (ask.Work n) ne = idle _
   idle_ask config ask.Lock ne = idle _
   idle_ask config ask.Free ne = idle_free (is_holder b by) other
-  idle_ask config (ask.Line n) ne = tt
-  idle_ask config (ask.Replace copy) ne = tt
+  idle_ask config (ask.Line n) ne = idle _
+  idle_ask config (ask.Replace copy) ne = idle _
   idle_ask config ask.Stop ne = tt
   idle_ask config (ask.StopIn what n) ne = tt
   idle_ask config (ask.Lose dev) ne = tt
@@ -138,6 +138,7 @@ idle_leaves S by at sight (Denied why) is same = unlocked_left by sight.cut (pla
 idle_leaves S by at sight Unplayed is same = unlocked_left by sight.cut (play_of S by at sight Unplayed) (S.counts by) refl
 idle_leaves S by at sight (Plays task) is same = absurd is
 idle_leaves S by at sight (Resets of) is same = absurd is
+idle_leaves S by at sight (Replaces dev) is same = absurd is
 idle_leaves S by at sight (TakesOver of) is same = absurd is
 idle_leaves S by at sight Locks is same = absurd is
 idle_leaves S by at sight Frees is same = absurd is

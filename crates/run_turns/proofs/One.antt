@@ -29,7 +29,7 @@ use Rattle.step_turns.specs.Courses.{Course, course, holder_then, sittings_most,
 use Rattle.step_turns.specs.Entries.{all_entries}
 use Rattle.step_turns.specs.Sittings.{sit}
 use Rattle.step_turns.specs.declared.states.Task.{Task}
-use Rattle.step_turns.specs.declared.states.Task.TheVariants.{Deck, Give, Work}
+use Rattle.step_turns.specs.declared.states.Task.TheVariants.{Deck, Give, Line, Work}
 use Rattle.step_turns.specs.declared.states.State.{State}
 use Rattle.step_turns.specs.declared.states.State.TheVariants.{Fresh, Told}
 use Rattle.step_turns.specs.declared.states.Grant.TheVariants.{ForStep}
@@ -102,6 +102,7 @@ abbrev pub plain_as : Config → MemberId → Option LockNo → Ask → Admissio
 plain_as config by r (ask.Deck cards) = deck_as by r (text_of cards) (read_as config.node cards)
 plain_as config by r (ask.Command c) = command_as config by r c (resets c)
 plain_as config by r (ask.Work n) = if_granted r (Plays (Work n))
+plain_as config by r (ask.Line n) = if_granted r (Plays (Line n))
 plain_as config by r _ = Unplayed
 
 -- a line that is a step
@@ -109,6 +110,7 @@ abbrev pub IsStep : Ask → Type 0
 IsStep (ask.Deck cards) = Unit {0}
 IsStep (ask.Command c) = Unit {0}
 IsStep (ask.Work n) = Unit {0}
+IsStep (ask.Line n) = Unit {0}
 IsStep _ = ⊥
 
 module _ (config : Config) (b : Book) (by : MemberId) (up : AreUp b) (member : is_member config by ≡ true) where
@@ -130,7 +132,7 @@ module _ (config : Config) (b : Book) (by : MemberId) (up : AreUp b) (member : i
   asked_is (ask.Work n) step = refl
   asked_is ask.Lock step = absurd step
   asked_is ask.Free step = absurd step
-  asked_is (ask.Line n) step = absurd step
+  asked_is (ask.Line n) step = refl
   asked_is (ask.Replace copy) step = absurd step
   asked_is ask.Stop step = absurd step
   asked_is (ask.StopIn what n) step = absurd step
@@ -336,7 +338,7 @@ module _ (S : Scene) (by : MemberId) (at : ℕ) (sight : Sight) (c : Book) (st :
   comes_step r is (ask.Work n) step = comes_if r (Work n) is
   comes_step r is ask.Lock step = absurd step
   comes_step r is ask.Free step = absurd step
-  comes_step r is (ask.Line n) step = absurd step
+  comes_step r is (ask.Line n) step = comes_if r (Line n) is
   comes_step r is (ask.Replace copy) step = absurd step
   comes_step r is ask.Stop step = absurd step
   comes_step r is (ask.StopIn what n) step = absurd step
@@ -377,7 +379,7 @@ module _ (S : Scene) (by : MemberId) (at : ℕ) (sight : Sight) (c : Book) (st :
   ask_meets m (ask.Lose dev) is = lose_meets dev
   ask_meets m ask.Lock is = absurd is
   ask_meets m ask.Free is = absurd is
-  ask_meets m (ask.Line n) is = absurd is
+  ask_meets m (ask.Line n) is = subst (λ (k : MemberId). AskMeets k (ask.Line n)) (sym is) (step_meets (ask.Line n) tt)
   ask_meets m (ask.Replace copy) is = absurd is
   ask_meets m ask.Stop is = absurd is
   ask_meets m (ask.StopIn what n) is = absurd is

@@ -21,10 +21,11 @@ use Rattle.run_turns.proofs.Tests.{admitted_as}
 -- a line that is refused before any try
 refused_nothing : (S : Scene) (by : MemberId) (at : ℕ) (sight : Sight) (sayer : MemberId) (end : Closing) → PlaysNothing S (played_as S by at sight (Refused sayer end))
 refused_nothing S by at sight sayer end =
-    let none = left_bare by sight.cut (play_of S by at sight (Refused sayer end)) (S.counts by) (refl, refl, tt) in
+    let none = left_bare by sight.cut (play_of S by at sight (Refused sayer end)) (S.counts by) (refl, refl, refl, tt) in
     record {
       batches = none.batches;
       printed = none.printed;
+      given = none.given;
       queue = ap (λ bs. run S.queue (kept_in bs)) none.batches;
       flight = ap (λ bs. flight_then (flying_in bs) S.flight) none.batches;
     }
@@ -41,13 +42,13 @@ line_nothing S by at sight what stopped =
 
 -- a line that plays nothing leaves the queue and the flight, in either of two scenes
 either_nothing : (S : Scene) (u : Bool) (one : Scene) → one.queue ≡ S.queue → one.flight ≡ S.flight → PlaysNothing S (if u then silent one else silent S)
-either_nothing S true one q f = record { batches = refl; printed = refl; queue = q; flight = f }
-either_nothing S false one q f = record { batches = refl; printed = refl; queue = refl; flight = refl }
+either_nothing S true one q f = record { batches = refl; printed = refl; given = refl; queue = q; flight = f }
+either_nothing S false one q f = record { batches = refl; printed = refl; given = refl; queue = refl; flight = refl }
 
 ask_nothing : (S : Scene) (by : MemberId) (at : ℕ) (sight : Sight) (what : Ask) → is_stopped S.book by ≡ true → PlaysNothing S (played_ask S by at sight what)
 ask_nothing S by at sight ask.Stop stopped = either_nothing S (is_up S by) _ refl refl
 ask_nothing S by at sight (ask.StopIn what n) stopped = either_nothing S (is_up S by) _ refl refl
-ask_nothing S by at sight (ask.Lose dev) stopped = record { batches = refl; printed = refl; queue = refl; flight = refl }
+ask_nothing S by at sight (ask.Lose dev) stopped = record { batches = refl; printed = refl; given = refl; queue = refl; flight = refl }
 ask_nothing S by at sight (ask.Deck cards) stopped = line_nothing S by at sight (ask.Deck cards) stopped
 ask_nothing S by at sight (ask.Command c) stopped = line_nothing S by at sight (ask.Command c) stopped
 ask_nothing S by at sight (ask.Work n) stopped = line_nothing S by at sight (ask.Work n) stopped

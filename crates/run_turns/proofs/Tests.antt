@@ -4,6 +4,7 @@ use Rattle.mas_types.specs.declared.answers.Closing.{Closing}
 use Rattle.mas_types.specs.declared.answers.Closing.TheVariants as closing
 use Rattle.mas_types.specs.declared.commands.Command.{Command}
 use Rattle.mas_types.specs.declared.commands.Command.TheVariants as command
+use Rattle.mas_types.specs.declared.ids.Dev.{Dev}
 use Rattle.mas_types.specs.declared.ids.MemberId.{MemberId}
 use Rattle.mas_types.specs.declared.jobs.JobFields.{JobFields}
 use Rattle.mas_types.specs.declared.queues.Config.{Config}
@@ -16,8 +17,8 @@ use Rattle.lock_cycle.specs.Books.{Book, is_holder, is_stopped, try_refusal}
 use Rattle.script_lang.specs.declared.types.Ask.{Ask}
 use Rattle.script_lang.specs.declared.types.Ask.TheVariants as ask
 use Rattle.step_turns.specs.declared.states.Task.{Task}
-use Rattle.step_turns.specs.declared.states.Task.TheVariants.{Deck, Give, Work}
-use Rattle.run_turns.specs.Admissions.{Admission, Denied, Frees, Locks, Plays, Refused, Resets, TakesOver, Unplayed, admitted, asked, command_admitted, deck_admitted, if_granted, no_member, resets}
+use Rattle.step_turns.specs.declared.states.Task.TheVariants.{Deck, Give, Line, Work}
+use Rattle.run_turns.specs.Admissions.{Admission, Denied, Frees, Locks, Plays, Refused, Replaces, Resets, TakesOver, Unplayed, admitted, asked, command_admitted, deck_admitted, if_granted, no_member, resets}
 use Rattle.run_turns.specs.Laws.{DeniedByTheBook, DownIfStopped, HolderIsTakenOver, IsUp, NoSuchMember, NoSuchReset, OnlyHoldersFree, OnlyStoppedAreReset, SayersAreRight, UpIsNotReset, command_tries, deck_tries, tries_lock}
 use Rattle.run_turns.specs.Pieces.{sayer_of}
 
@@ -103,6 +104,24 @@ module _ (b : Book) (by : MemberId) where
     denies = λ why t e. cc;
   }
 
+  replaces_if : (dev : Dev) (r : Option LockNo) → r ≡ try_refusal b by false → Asked b by true (if_granted r (Replaces dev))
+  replaces_if dev None is = record {
+    sayer = λ m end e. absurd (cc);
+    says = refl;
+    only = λ of. ⊎_elim (λ e. absurd (cc)) (λ e. absurd (cc));
+    gives = λ c e. absurd (cc);
+    denied = λ why e. absurd (cc);
+    denies = λ why t e. absurd (cc);
+  }
+  replaces_if dev (Some found) is = record {
+    sayer = λ m end e. absurd (cc);
+    says = refl;
+    only = λ of. ⊎_elim (λ e. absurd (cc)) (λ e. absurd (cc));
+    gives = λ c e. absurd (cc);
+    denied = λ why e. (refl, cc);
+    denies = λ why t e. cc;
+  }
+
   resets_if : (of : MemberId) → is_stopped b of ≡ true → (r : Option LockNo) → r ≡ try_refusal b by false → Asked b by true (if_granted r (Resets of))
   resets_if of stopped None is = record {
     sayer = λ m end e. absurd (cc);
@@ -175,8 +194,8 @@ module _ (b : Book) (by : MemberId) where
   is_asked config (ask.Work n) = played_if (Work n) (λ c e. absurd (cc)) (try_refusal b by false) refl
   is_asked config ask.Lock = locks_if (try_refusal b by false) refl
   is_asked config ask.Free = free_asked (is_holder b by)
-  is_asked config (ask.Line n) = unplayed
-  is_asked config (ask.Replace copy) = unplayed
+  is_asked config (ask.Line n) = played_if (Line n) (λ c e. absurd (cc)) (try_refusal b by false) refl
+  is_asked config (ask.Replace copy) = replaces_if copy (try_refusal b by false) refl
   is_asked config ask.Stop = unplayed
   is_asked config (ask.StopIn what n) = unplayed
   is_asked config (ask.Lose dev) = unplayed

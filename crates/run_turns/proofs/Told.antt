@@ -14,7 +14,7 @@ use Rattle.step_turns.specs.declared.states.Holder.{Holder}
 use Rattle.step_turns.proofs.Sittings.{by_state, lines_are_said_at_the_end}
 use Rattle.run_turns.specs.Sights.{Cut, Halt, Saying, Sight, Waiting, Writing}
 use Rattle.run_turns.specs.Scenes.{Scene}
-use Rattle.run_turns.specs.Admissions.{Admission, Denied, Frees, Locks, Plays, Refused, Resets, TakesOver, Unplayed}
+use Rattle.run_turns.specs.Admissions.{Admission, Denied, Frees, Locks, Plays, Refused, Replaces, Resets, TakesOver, Unplayed}
 use Rattle.run_turns.specs.Cuts.{Left, adds, adds_all, adds_first, broken, left_by, lines_cut, none_left, torn, whole}
 use Rattle.run_turns.specs.Laws.{SaidIsKept}
 use Rattle.run_turns.specs.Pieces.{Piece, Play, holder_of, once_found, pieces_found, pieces_from, pieces_of, play_of, unless_told}
@@ -60,6 +60,7 @@ speaks_of S by at sight Q (Refused sayer end) = (inr refl, tt)
 speaks_of S by at sight Q (Denied why) = (inr refl, tt)
 speaks_of S by at sight Q (Plays task) = speaks_from sight (task_most task) (S.counts by) Q (holder_of S by at (Plays task)) (Fresh task)
 speaks_of S by at sight Q (Resets of) = (inr refl, tt)
+speaks_of S by at sight Q (Replaces dev) = (inr refl, tt)
 speaks_of S by at sight Q (TakesOver of) = (inr refl, tt)
 speaks_of S by at sight Q Locks = (inr refl, tt)
 speaks_of S by at sight Q Frees = (inr refl, tt)

@@ -7,6 +7,7 @@ use Rattle.mas_types.specs.declared.commands.Command.{Command}
 use Rattle.mas_types.specs.declared.commands.Command.TheVariants as command
 use Rattle.mas_types.specs.declared.commands.Refusal.TheVariants as refusal
 use Rattle.mas_types.specs.declared.commands.Reply.TheVariants as reply
+use Rattle.mas_types.specs.declared.ids.Dev.{Dev}
 use Rattle.mas_types.specs.declared.ids.MemberId.{MemberId}
 use Rattle.mas_types.specs.declared.jobs.JobFields.{JobFields}
 use Rattle.mas_types.specs.declared.queues.Config.{Config}
@@ -20,18 +21,19 @@ use Rattle.lock_cycle.specs.Books.{Book, after_seize, after_try, is_holder, is_s
 use Rattle.script_lang.specs.declared.types.Ask.{Ask}
 use Rattle.script_lang.specs.declared.types.Ask.TheVariants as ask
 use Rattle.step_turns.specs.declared.states.Task.{Task}
-use Rattle.step_turns.specs.declared.states.Task.TheVariants.{Deck, Give, Work}
+use Rattle.step_turns.specs.declared.states.Task.TheVariants.{Deck, Give, Line, Work}
 use Rattle.step_turns.specs.declared.states.Grant.{Grant}
 use Rattle.step_turns.specs.declared.states.Grant.TheVariants.{ByLock, ForStep}
 
 -- What becomes of a line: it closes so before any try, and this member says it; or its member doesn't get the lock.
--- Else it has the lock, and plays a task, or resets a member; it takes the lock of a stopped holder, and resets that;
--- or it keeps the lock, or gives it up. A line of another kind isn't played.
+-- Else it has the lock, and plays a task, or resets a member, or replaces a copy; it takes the lock of a stopped holder,
+-- and resets that; or it keeps the lock, or gives it up. A line of another kind isn't played.
 pub data Admission : Type 0 where
   Refused : MemberId → Closing → Admission
   Denied : LockNo → Admission
   Plays : Task → Admission
   Resets : MemberId → Admission
+  Replaces : Dev → Admission
   TakesOver : MemberId → Admission
   Locks : Admission
   Frees : Admission
@@ -79,8 +81,10 @@ abbrev pub asked : Config → Book → MemberId → Ask → Admission
 asked config b by (ask.Deck cards) = deck_admitted b by (text_of cards) (read_as config.node cards)
 asked config b by (ask.Command c) = command_admitted config b by c (resets c)
 asked config b by (ask.Work n) = tries b by (Plays (Work n))
+asked config b by (ask.Line l) = tries b by (Plays (Line l))
 asked config b by ask.Lock = tries b by Locks
 asked config b by ask.Free = free_admitted b by
+asked config b by (ask.Replace dev) = tries b by (Replaces dev)
 asked config b by _ = Unplayed
 
 abbrev pub admitted : Config → Book → MemberId → Ask → Admission

@@ -1,4 +1,5 @@
--- A script of one member that takes no lock from one line to another: decks, commands, work, and losses of devices.
+-- A script of one member that takes no lock from one line to another: decks, commands, work, lines to other nodes, and
+-- losses of devices.
 -- Each of its lines gives what it gives as a whole, at the queue and at a book of the lock that knows of no sittings.
 use Rattle.std.specs.Prelude.{◌≡◌, ℕ, ◌+◌, true, false, List, [], ◌∷◌, drop, get_or, map, All, None}
 use Rattle.mas_types.specs.declared.ids.MemberId.{MemberId}
@@ -20,11 +21,13 @@ use Rattle.run_turns.specs.Cuts.{kept_all, whole}
 use Rattle.run_turns.specs.Runs.{outcomes_of}
 use Rattle.run_turns.specs.Steps.{Outcome, Said, said_by}
 
--- a line of a script of one member: a deck, a command or work of this member, or the loss of a device
+-- a line of a script of one member: a deck, a command, work or a line to another node, of this member, or the loss of a
+-- device
 abbrev pub IsPlain : MemberId → MemberId → Ask → Type 0
 IsPlain by m (ask.Deck cards) = m ≡ by
 IsPlain by m (ask.Command c) = m ≡ by
 IsPlain by m (ask.Work n) = m ≡ by
+IsPlain by m (ask.Line l) = m ≡ by
 IsPlain by m (ask.Lose dev) = Unit {0}
 IsPlain by m _ = ⊥
 

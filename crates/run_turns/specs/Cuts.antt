@@ -26,13 +26,14 @@ broken n tail lines = map whole (take n lines) ++ torn tail (drop n lines)
 
 -- WHAT IS LEFT
 
--- what a step left: its batches, the lines on the console, those on the member's printer, how many prints were made,
--- the member's count of printed lines, and the book
+-- what a step left: its batches, the lines on the console, those on the member's printer, how many prints were made, the
+-- bytes given on a line to another node, the member's count of printed lines, and the book
 pub record Left : Type 0 where
   pub batches : List Batched
   pub lines : List Line
   pub printed : List Line
   pub prints : ℕ
+  pub given : List ℕ
   pub count : ℕ
   pub book : Book
 
@@ -53,6 +54,7 @@ module _ (by : MemberId) where
     lines = l.lines ++ map whole p.sitting.lines;
     printed = l.printed ++ map whole p.printed;
     prints = l.prints + p.prints;
+    given = l.given ++ p.given;
     count = count_then by (entries_of (kept_all p.sitting.batches)) l.count + length p.printed;
     book = if locked then after_pieces l.book by (p ∷ []) else l.book;
   }
@@ -82,6 +84,11 @@ module _ (by : MemberId) where
   printed_cut (Waiting n tail) lines = broken n tail lines
   printed_cut _ lines = []
 
+  -- the bytes that were given in the acts that were cut
+  abbrev pub given_cut : Halt → List ℕ → List ℕ
+  given_cut (Waiting n tail) bytes = take n bytes
+  given_cut _ bytes = []
+
   -- lines that stand whole on paper
   abbrev pub inked_cut : Halt → List (List ℕ) → ℕ
   inked_cut (Waiting n tail) lines = length (take n lines)
@@ -99,6 +106,7 @@ module _ (by : MemberId) where
     lines = l.lines ++ lines_cut halt p.sitting.lines;
     printed = l.printed ++ printed_cut halt p.printed;
     prints = l.prints + length (printed_cut halt p.printed);
+    given = l.given ++ given_cut halt p.given;
     count = count_then by (entries_of (batches_cut halt p.sitting.batches)) l.count + inked_cut halt p.printed;
     book = if locked then book_cut halt l.book p else l.book;
   }
@@ -111,7 +119,15 @@ module _ (by : MemberId) where
   -- A LINE
 
   abbrev pub none_left : Book → ℕ → Left
-  none_left book count = record { batches = []; lines = []; printed = []; prints = 0; count = count; book = book }
+  none_left book count = record {
+    batches = [];
+    lines = [];
+    printed = [];
+    prints = 0;
+    given = [];
+    count = count;
+    book = book;
+  }
 
   -- a member that stopped is stopped in the book
   abbrev pub stopped_by : Cause → Book → Book

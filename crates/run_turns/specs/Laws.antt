@@ -82,7 +82,7 @@ OnlyHoldersFree = (config : Config) (b : Book) (by : MemberId) → IsUp config b
     × ((admitted config b by ask.Free ≡ Frees) ↔ (is_holder b by ≡ true))
 
 -- A line of a member that is up comes to its try of the lock: a deck whose cards are right, a command, also the reset
--- of a stopped member that doesn't hold, work, and LOCK.
+-- of a stopped member that doesn't hold, work, a line that is served, LOCK, and the replacement of a copy.
 abbrev pub deck_tries : Result JobFields BadCard → Bool
 deck_tries (Err bad) = false
 deck_tries (Ok fields) = true
@@ -95,7 +95,9 @@ abbrev pub tries_lock : Config → Book → Ask → Bool
 tries_lock config b (ask.Deck cards) = deck_tries (read_as config.node cards)
 tries_lock config b (ask.Command c) = command_tries config b (resets c)
 tries_lock config b (ask.Work n) = true
+tries_lock config b (ask.Line l) = true
 tries_lock config b ask.Lock = true
+tries_lock config b (ask.Replace dev) = true
 tries_lock config b _ = false
 
 -- BUSY and DORMANT come exactly as the book says, to a line that comes to its try of the lock
@@ -122,10 +124,12 @@ abbrev pub StopsAreNoted : Type 0
 StopsAreNoted = (S : Scene) (m : MemberId) → is_up S m ≡ true
     → stop S m ≡ silent (record S { book = after_stop S.book m })
 
--- whatever a line of a stopped member asks for, it gives no batch, prints nothing, and leaves the queue
+-- whatever a line of a stopped member asks for, it gives no batch, prints nothing, gives no bytes to another node, and
+-- leaves the queue
 pub record PlaysNothing (S : Scene) (p : Played) : Type 0 where
   pub batches : p.outcome.batches ≡ []
   pub printed : p.outcome.printed ≡ []
+  pub given : p.outcome.given ≡ []
   pub queue : p.next.queue ≡ S.queue
   pub flight : p.next.flight ≡ S.flight
 
@@ -257,3 +261,13 @@ abbrev pub CutsGiveFirst : Type 0
 CutsGiveFirst = (S : Scene) (by : MemberId) (at : ℕ) (sight : Sight) (a : Admission)
     → IsFirst (entries_of (left_at S by at sight sight.cut a).batches)
     (entries_of (left_at S by at sight None a).batches)
+
+-- and the first of the bytes that it would have given over a line
+
+pub record AreFirstBytes (bytes whole_bytes : List ℕ) : Type 0 where
+  pub rest : List ℕ
+  pub are : bytes ++ rest ≡ whole_bytes
+
+abbrev pub CutsGiveFirstBytes : Type 0
+CutsGiveFirstBytes = (S : Scene) (by : MemberId) (at : ℕ) (sight : Sight) (a : Admission)
+    → AreFirstBytes (left_at S by at sight sight.cut a).given (left_at S by at sight None a).given

@@ -13,4 +13,6 @@ pub mod Laws
 pub mod Examples
 pub mod StopExamples
 pub mod PrintExamples
+pub mod ReplaceExamples
 pub mod GivenExamples
+pub mod LineExamples

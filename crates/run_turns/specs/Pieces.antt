@@ -7,6 +7,7 @@ use Rattle.mas_types.specs.declared.answers.Closing.TheVariants as closing
 use Rattle.mas_types.specs.declared.commands.Command.TheVariants as command
 use Rattle.mas_types.specs.declared.commands.Reply.{Reply}
 use Rattle.mas_types.specs.declared.commands.Reply.TheVariants as reply
+use Rattle.mas_types.specs.declared.ids.Dev.{Dev}
 use Rattle.mas_types.specs.declared.ids.MemberId.{MemberId}
 use Rattle.mas_types.specs.declared.ids.JobNo.{JobNo}
 use Rattle.mas_types.specs.declared.ids.OutNo.{OutNo}
@@ -24,26 +25,29 @@ use Rattle.job_outcome.specs.declared.outcomes.Read.{Read}
 use Rattle.job_outcome.specs.declared.outcomes.Read.TheVariants as read
 use Rattle.step_turns.specs.Courses.{holder_then, task_most}
 use Rattle.step_turns.specs.Entries.{all_entries, reply_to}
-use Rattle.step_turns.specs.Sittings.{Sitting, sit}
+use Rattle.step_turns.specs.Serving.{bytes_given}
+use Rattle.step_turns.specs.Sittings.{Sitting, released, sit}
 use Rattle.step_turns.specs.declared.states.Task.{Task}
 use Rattle.step_turns.specs.declared.states.Task.TheVariants.{Give}
-use Rattle.step_turns.specs.declared.states.Aside.TheVariants.{PrintLines}
+use Rattle.step_turns.specs.declared.states.Aside.TheVariants.{Acknowledge, Exchange, PrintLines}
+use Rattle.step_turns.specs.declared.states.Found.{Found}
 use Rattle.step_turns.specs.declared.states.State.{State}
 use Rattle.step_turns.specs.declared.states.State.TheVariants.{Away, Fresh, Told}
 use Rattle.step_turns.specs.declared.states.Holder.{Holder}
 use Rattle.step_turns.specs.declared.states.Release.{Release}
 use Rattle.step_turns.specs.declared.states.Release.TheVariants.{Inner, Keep, Outer}
 use Rattle.step_turns.specs.States.{nothing_found}
-use Rattle.run_turns.specs.Sights.{Sight}
+use Rattle.run_turns.specs.Sights.{LostAgain, NotLost, Renewed, Replaced, Sight}
 use Rattle.run_turns.specs.Scenes.{Scene, count_then, flight_found, queue_found}
-use Rattle.run_turns.specs.Admissions.{Admission, Denied, Frees, Locks, Plays, Refused, Resets, TakesOver, Unplayed, denied_closing, granted_by, tried}
+use Rattle.run_turns.specs.Admissions.{Admission, Denied, Frees, Locks, Plays, Refused, Replaces, Resets, TakesOver, Unplayed, denied_closing, granted_by, tried}
 
--- a sitting, the lines that are printed in the acts that follow it, and how many prints these are: one more where the
--- printer is found lost
+-- a sitting, the lines that are printed in the acts that follow it, how many prints these are, one more where the
+-- printer is found lost, and the bytes that are given on a line to another node
 pub record Piece : Type 0 where
   pub sitting : Sitting
   pub printed : List (List ℕ)
   pub prints : ℕ
+  pub given : List ℕ
 
 -- PRINTING
 
@@ -70,8 +74,24 @@ abbrev pub prints_of : Bool → List (List ℕ) → ℕ
 prints_of true lines = length lines + 1
 prints_of false lines = length lines
 
+-- a sitting with the lines that are printed after it, and no bytes
 abbrev pub piece_of : Sitting → Bool → List (List ℕ) → Piece
-piece_of t lost lines = record { sitting = t; printed = lines; prints = prints_of lost lines }
+piece_of t lost lines = record { sitting = t; printed = lines; prints = prints_of lost lines; given = [] }
+
+-- GIVING: where the line is found lost, so many of the bytes were given
+abbrev pub poured_of : Bool → ℕ → List ℕ → List ℕ
+poured_of true n bytes = take n bytes
+poured_of false n bytes = bytes
+
+-- in the acts that a step waits for in this state
+abbrev pub poured : ℕ → State → Found → List ℕ
+poured n (Away (Exchange l offer)) found = poured_of found.wire n (bytes_given (Away (Exchange l offer)) found.read)
+poured n (Away (Acknowledge number s)) found =
+    poured_of found.wire n (bytes_given (Away (Acknowledge number s)) found.read)
+poured n _ found = []
+
+abbrev pub with_given : List ℕ → Piece → Piece
+with_given bytes p = record p { given = bytes }
 
 -- A TASK
 
@@ -88,8 +108,9 @@ piece_at sight count Q h s =
     let es = all_entries t.batches in
     let now = run Q es in
     let found = sight.finds now t.next in
-    piece_of t found.printer (inked_of found.printer sight.inked
-    (chunk now (count_then h.by es count) t.next found.read))
+    with_given (poured sight.inked t.next found)
+    (piece_of t found.printer (inked_of found.printer sight.inked
+    (chunk now (count_then h.by es count) t.next found.read)))
 
 -- the pieces of a step from a state on, so many at most
 abbrev pub pieces_from : ℕ → Sight → ℕ → Queue → Holder → State → List Piece
@@ -122,6 +143,16 @@ reset_pieces Q h of =
     let c = command.Reset of in
     let t = sit Q h (Fresh (Give c)) nothing_found in
     piece_of (record t { lines = closing_line h.by h.step (reset_closing of (reply_to Q h.by c)) ∷ [] }) false [] ∷ []
+
+-- A replacement closes by what became of the copy. It gives no command, so it spends nothing of the hold.
+abbrev pub replaced_closing : Dev → Renewed → Closing
+replaced_closing dev Replaced = closing.Reply reply.Plain
+replaced_closing dev NotLost = closing.NotLost dev
+replaced_closing dev LostAgain = closing.CkptLost dev
+
+abbrev pub replaced_pieces : Holder → Dev → Renewed → List Piece
+replaced_pieces h dev found =
+    closes_with h.by h.step (replaced_closing dev found) (released h.grant h.hold 0 Told)
 
 -- Nobody who has the lock gives anything while nothing is found out of a batch in flight. Its member holds the lock,
 -- and is stopped; so only one that took the lock over, and stopped before it found that out, may come so far.
@@ -166,6 +197,7 @@ pieces_of S by at sight Q (Refused sayer end) = closes_with by at end Keep
 pieces_of S by at sight Q (Denied why) = closes_with by at (denied_closing why) Keep
 pieces_of S by at sight Q (Plays task) = task_pieces sight (S.counts by) Q (holder_of S by at (Plays task)) task
 pieces_of S by at sight Q (Resets of) = reset_pieces Q (holder_of S by at (Resets of)) of
+pieces_of S by at sight Q (Replaces dev) = replaced_pieces (holder_of S by at (Replaces dev)) dev sight.renewed
 pieces_of S by at sight Q (TakesOver of) = reset_pieces Q (holder_of S by at (TakesOver of)) of
 pieces_of S by at sight Q Locks = closes_with by at (closing.Reply reply.Plain) Keep
 pieces_of S by at sight Q Frees = closes_with by at (closing.Reply reply.Plain) Outer

@@ -1,10 +1,12 @@
 -- A script that several members play, line after line.
-use Rattle.std.specs.Prelude.{ℕ, ◌+◌, Bool, true, false, if◌then◌else◌, List, [], ◌∷◌, ◌++◌, drop, get_or, map}
+use Rattle.std.specs.Prelude.{ℕ, ◌+◌, ◌==◌, Bool, true, false, ◌&&◌, if◌then◌else◌, List, [], ◌∷◌, ◌++◌, drop, get_or, map}
 use Rattle.mas_types.specs.declared.ids.MemberId.{MemberId}
 use Rattle.mas_types.specs.declared.journals.Fate.{Fate}
 use Rattle.mas_types.specs.declared.journals.Fate.TheVariants.{Kept, Dropped, Flying}
 use Rattle.mas_types.specs.declared.queues.Queue.{Queue}
 use Rattle.mas_types.specs.Ids.{same_member}
+use Rattle.script_lang.specs.declared.types.Ask.{Ask}
+use Rattle.script_lang.specs.declared.types.Ask.TheVariants as ask
 use Rattle.script_lang.specs.declared.types.Step.{Step}
 use Rattle.spool_disk.specs.View.{Line}
 use Rattle.run_turns.specs.Sights.{Sight, clear}
@@ -67,3 +69,16 @@ console (o ∷ os) = o.said ++ console os
 abbrev pub paper_of : MemberId → List Step → List Outcome → List Line
 paper_of m (step ∷ steps) (o ∷ os) = (if same_member step.by m then o.printed else []) ++ paper_of m steps os
 paper_of m _ _ = []
+
+-- THE LINES TO OTHER NODES: what the steps of a member give on a line
+
+abbrev pub serves_ask : ℕ → Ask → Bool
+serves_ask l (ask.Line n) = n == l
+serves_ask l _ = false
+
+abbrev pub serves_line : MemberId → ℕ → Step → Bool
+serves_line m l step = same_member step.by m && serves_ask l step.what
+
+abbrev pub given_on : MemberId → ℕ → List Step → List Outcome → List ℕ
+given_on m l (step ∷ steps) (o ∷ os) = (if serves_line m l step then o.given else []) ++ given_on m l steps os
+given_on m l _ _ = []

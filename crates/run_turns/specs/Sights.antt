@@ -15,7 +15,7 @@ pub record Begun : Type 0 where
 
 -- Under the lock, before the lines: so many batches of the sitting were kept, and one more was begun, perhaps. Or at
 -- the lines with which the step closes, of which so many stand, and perhaps a torn one after them. Or in the acts that
--- follow the sitting, in which so many lines were printed, and perhaps a torn one.
+-- follow the sitting, in which so many lines were printed, and perhaps a torn one, or so many bytes given on a line.
 pub data Halt : Type 0 where
   Writing : ℕ → Option Begun → Halt
   Saying : ℕ → Option (List ℕ) → Halt
@@ -34,14 +34,22 @@ pub record Cut : Type 0 where
 
 -- WHAT A STEP FOUND
 
--- what its acts found, how many lines of a chunk the printer took that was then found lost, what a takeover found of
--- the batch in flight, nothing yet being Flying, and where the step was cut, if it was
+-- what became of a copy that was to be replaced: it was; or it wasn't lost; or the new device was lost in it
+pub data Renewed : Type 0 where
+  Replaced : Renewed
+  NotLost : Renewed
+  LostAgain : Renewed
+
+-- what its acts found, how many lines of a chunk the printer took, or bytes of a frame the line, that was then found
+-- lost, what a takeover found of the batch in flight, nothing yet being Flying, what became of a copy that was to be
+-- replaced, and where the step was cut, if it was
 pub record Sight : Type 0 where
   pub finds : Finds
   pub inked : ℕ
   pub flight : Fate
+  pub renewed : Renewed
   pub cut : Option Cut
 
--- each text as the queue has it, nothing lost, and no cut
+-- each text as the queue has it, nothing lost, a copy replaced that was to be, and no cut
 abbrev pub clear : Sight
-clear = record { finds = calm; inked = 0; flight = Flying; cut = None }
+clear = record { finds = calm; inked = 0; flight = Flying; renewed = Replaced; cut = None }

@@ -32,12 +32,13 @@ abbrev pub said_by : MemberId → Line → Said
 said_by by line = record { by = by; line = line }
 
 -- What a line comes to: what it found of a batch in flight, its batches, its lines on the console and on its member's
--- printer, and a device that it lost.
+-- printer, the bytes that it gave on a line to another node, and a device that it lost.
 pub record Outcome : Type 0 where
   pub found : Fate
   pub batches : List Batched
   pub said : List Said
   pub printed : List Line
+  pub given : List ℕ
   pub loses : Option Dev
 
 -- a line's outcome, with what it leaves for the next line, if the run goes on
@@ -47,7 +48,7 @@ pub record Played : Type 0 where
   pub goes_on : Bool
 
 abbrev pub nothing : Outcome
-nothing = record { found = Flying; batches = []; said = []; printed = []; loses = None }
+nothing = record { found = Flying; batches = []; said = []; printed = []; given = []; loses = None }
 
 -- LINES THAT SAY NOTHING
 
@@ -109,6 +110,7 @@ outcome_of by at fate play cause l = record {
   batches = l.batches;
   said = map (said_by play.sayer) l.lines ++ stopped_lines by at cause;
   printed = l.printed;
+  given = l.given;
   loses = None;
 }
 

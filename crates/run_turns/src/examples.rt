@@ -1,7 +1,9 @@
 //! Worked examples, computed by the check.
 ghost use Rattle.run_turns.specs.Examples.{DormantOnce, FreeByAnother, HoldOfOne, LockAndBusy, MemberNotUp, NoSuchMember, ResetsRefused, RestartOrPurge, SpentHoldFrees, StopOfNone, TakeoverFrees, TwoMembers};
 ghost use Rattle.run_turns.specs.GivenExamples.{PiecesAreWhatIsSaid, QueueRefuses, RunEndsInALine, RunGoesOnAfterAStop};
+ghost use Rattle.run_turns.specs.LineExamples.{JobIsGotOnce, JobIsSentOn, StopAtTheAck, StopBeforeTheAck};
 ghost use Rattle.run_turns.specs.PrintExamples.{PaperGoesOnAtTheMark, PrintingIsTakenOver};
+ghost use Rattle.run_turns.specs.ReplaceExamples.{CopyIsNotReplaced, CopyIsReplaced, ReplacedUnderLock};
 ghost use Rattle.run_turns.specs.StopExamples.{DeckStopsAnywhere, FlightIsSettled, LockIsFreeInTheMiddle, StartFindsAlike, StoppedHolderHolds};
 
 /// What scripts of several members say: the lock from one line to another, stops, resets and a takeover, a hold that is
@@ -44,4 +46,20 @@ pub fn examples_of_given_pieces()
     ensures refused { QueueRefuses }
     ensures goes_on { RunGoesOnAfterAStop }
     ensures ends { RunEndsInALine }
+{}
+
+/// Members that serve a line to another node: a job that goes, one that comes twice, and a member that stops before it
+/// has acknowledged one.
+pub fn examples_of_lines()
+    ensures goes { JobIsSentOn }
+    ensures comes { JobIsGotOnce }
+    ensures stops { StopAtTheAck }
+    ensures before { StopBeforeTheAck }
+{}
+
+/// A copy that is replaced, one that isn't, and a holder of the lock that holds on.
+pub fn examples_of_replacing()
+    ensures replaced { CopyIsReplaced }
+    ensures refused { CopyIsNotReplaced }
+    ensures lock { ReplacedUnderLock }
 {}

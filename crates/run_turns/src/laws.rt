@@ -2,7 +2,7 @@
 ghost use Rattle.run_turns.specs.Alone.{RunsOfOneAreWhole};
 ghost use Rattle.run_turns.specs.Awake.{AwakeRunsAreNotDormant};
 ghost use Rattle.run_turns.specs.Givens.{RightLinesAreTheScript};
-ghost use Rattle.run_turns.specs.Laws.{CutsGiveFirst, DeniedByTheBook, DownIfStopped, FreeGivesUp, HolderIsTakenOver, HoldsAreSpent, LockKeeps, NoStopOfTheStopped, NoSuchMember, NoSuchReset, OnlyHoldersFree, OnlyStoppedAreReset, OthersLeaveTheLock, QueuesAreOfHistory, SaidIsKept, SayersAreRight, StepsAreCourses, StoppedHolders, StoppedPlayNothing, StopsAreNoted, UpIsNotReset};
+ghost use Rattle.run_turns.specs.Laws.{CutsGiveFirst, CutsGiveFirstBytes, DeniedByTheBook, DownIfStopped, FreeGivesUp, HolderIsTakenOver, HoldsAreSpent, LockKeeps, NoStopOfTheStopped, NoSuchMember, NoSuchReset, OnlyHoldersFree, OnlyStoppedAreReset, OthersLeaveTheLock, QueuesAreOfHistory, SaidIsKept, SayersAreRight, StepsAreCourses, StoppedHolders, StoppedPlayNothing, StopsAreNoted, UpIsNotReset};
 
 /// Why a line closes before its commands, each closing exactly where its cause holds: its member is above the
 /// configured ones, or was stopped before; the member that is to be reset is above them, or is up; its member doesn't
@@ -22,7 +22,7 @@ pub fn law_of_tests()
 {}
 
 /// A stop is noted in the book and changes nothing else; one of a member that is none, or was stopped before, does
-/// nothing. Whatever a line of a stopped member asks for, it gives no batch and prints nothing. Who stops in a step
+/// nothing. Whatever a line of a stopped member asks for, it gives no batch and no bytes, and prints nothing. Who stops in a step
 /// that took the lock holds it, unless it stops in acts that follow a sitting.
 pub fn law_of_stops()
     ensures none { NoStopOfTheStopped }
@@ -37,10 +37,12 @@ pub fn law_of_histories()
     ensures { QueuesAreOfHistory }
 {}
 
-/// Wherever a step was cut, and whatever it found: it gave the first ones of the entries that it would have given. And
-/// where one of its lines stands, even a torn one, all of its batches are kept.
+/// Wherever a step was cut, and whatever it found: it gave the first ones of the entries that it would have given, and of
+/// the bytes that it would have given on a line to another node. And where one of its lines stands, even a torn one, all
+/// of its batches are kept.
 pub fn law_of_cuts()
     ensures first { CutsGiveFirst }
+    ensures bytes { CutsGiveFirstBytes }
     ensures said { SaidIsKept }
 {}
 

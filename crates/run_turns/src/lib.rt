@@ -5,7 +5,8 @@ mod examples;
 mod laws;
 
 pub use examples::{
-    examples_of_given_pieces, examples_of_members, examples_of_printing, examples_of_stops,
+    examples_of_given_pieces, examples_of_lines, examples_of_members, examples_of_printing,
+    examples_of_replacing, examples_of_stops,
 };
 pub use laws::{
     law_of_awake_runs, law_of_given_pieces, law_of_histories, law_of_locks, law_of_runs_of_one,

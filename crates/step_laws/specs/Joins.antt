@@ -25,7 +25,7 @@ use Rattle.step_turns.specs.declared.states.Holder.{Holder}
 use Rattle.step_turns.specs.declared.states.State.TheVariants.{Away}
 use Rattle.step_turns.specs.declared.states.Task.TheVariants.{Deck, Give, Work}
 use Rattle.step_turns.specs.declared.states.Grant.TheVariants.{ForStep}
-use Rattle.step_turns.specs.declared.states.Aside.TheVariants.{PrintLines, ReadText, SpoolDeck, SpoolOutputs}
+use Rattle.step_turns.specs.declared.states.Aside.TheVariants.{Acknowledge, Exchange, PrintLines, ReadText, SpoolArrival, SpoolDeck, SpoolOutputs}
 use Rattle.step_turns.specs.States.{nothing_found}
 
 -- a member that took the lock for this step, with a whole hold
@@ -65,7 +65,7 @@ CommandIsCut = (Q : Queue) (by : MemberId) (at : ℕ) (c : Command) (finds : Fin
 
 -- what the acts of a unit find that looks so: a text as the queue has it, unless it was read otherwise
 abbrev pub found_with : Look → Text → Found
-found_with look text = record { read = read_of look.read text; lost = look.lost; printer = look.printer }
+found_with look text = record nothing_found { read = read_of look.read text; lost = look.lost; printer = look.printer }
 
 abbrev pub found_in : Look → Queue → Aside → Found
 found_in look Q (SpoolDeck n text) = nothing_found
@@ -74,6 +74,9 @@ found_in look Q (ReadText runs n fields p) = option_map_or (λ (j : Job). found_
 found_in look Q (SpoolOutputs n specs p) = record nothing_found { lost = look.lost }
 found_in look Q (PrintLines n i last p) = option_map_or (λ (o : Output). found_with look o.text) (output_at Q n i)
     nothing_found
+found_in look Q (Exchange l offer) = nothing_found
+found_in look Q (SpoolArrival number n text s) = nothing_found
+found_in look Q (Acknowledge number s) = nothing_found
 
 -- the looks of units one after another, one for each
 abbrev pub finds_by : List Look → Finds

@@ -1,5 +1,5 @@
 -- What holds of however a sitting goes.
-use Rattle.std.proofs.Common.{◌≡◌, ◌≢◌, ℕ, ◌+◌, ◌≤◌, List, [], ◌∷◌, ◌++◌, length, refl, ap, ◌∙◌, arith}
+use Rattle.std.proofs.Common.{◌≡◌, ◌≢◌, ℕ, ◌+◌, ◌≤◌, Bool, true, false, List, [], ◌∷◌, ◌++◌, length, refl, ap, ◌∙◌, arith}
 use Rattle.std.proofs.lemmas.List.{length-append}
 use Rattle.mas_types.specs.declared.commands.Command.{Command}
 use Rattle.mas_types.specs.declared.journals.Entry.{Entry}
@@ -7,11 +7,12 @@ use Rattle.mas_types.specs.declared.queues.Queue.{Queue}
 use Rattle.mas_types.specs.Run.{run}
 use Rattle.step_turns.specs.Courses.{sittings_most}
 use Rattle.step_turns.specs.Entries.{all_entries, given_in}
-use Rattle.step_turns.specs.Laws.{units_done, units_left}
+use Rattle.step_turns.specs.Laws.{AsMany, units_done, units_left}
 use Rattle.step_turns.specs.States.{ForStep, Holder, Progress, Rested, Told}
 use Rattle.step_turns.specs.Turns.{Turn}
 use Rattle.step_turns.proofs.Cutting.{AreOnes, AreSmall, AreSome}
 use Rattle.step_turns.proofs.Given.{given_append, given_length}
+use Rattle.step_turns.proofs.Served.{Served}
 use Rattle.step_turns.proofs.Shapes.{Begins, Goes, bare, closes_here, first, plays, rests, taken, waits}
 
 -- what holds of a turn of units one after another
@@ -81,14 +82,14 @@ went h most _ _ _ _ _ (plays Q given left done c u goes) =
       ones = (refl, r.ones);
     }
 
--- OF A SITTING
+-- OF A SITTING, on a line or not
 
-pub record Sat (h : Holder) (most : ℕ) (Q : Queue) (left done : ℕ) (t : Turn) : Type 0 where
+pub record Sat (h : Holder) (most : ℕ) (Q : Queue) (line : Bool) (left done : ℕ) (t : Turn) : Type 0 where
   pub said : t.next ≡ Told → 1 ≤ length t.lines
   pub silent : t.next ≢ Told → t.lines ≡ []
   pub within : sittings_most t.next ≤ most
   pub few : length t.parts ≤ left
-  pub same : t.next ≢ Told → units_done t.next + units_left t.next ≡ done + left
+  pub same : t.next ≢ Told → AsMany line (units_done t.next + units_left t.next) (done + left)
   pub grows : t.next ≢ Told → done ≤ units_done t.next
   pub rest : (p : Progress) → t.next ≡ Rested p → (h.grant ≡ ForStep) × (h.hold ≤ length (all_entries t.parts))
   pub commands : List Command
@@ -107,7 +108,7 @@ pub small_some : (parts : List (List Entry)) → AreSmall parts → AreSome part
 small_some [] small = tt
 small_some (es ∷ parts) small = (small.0, ones_some parts small.2)
 
-pub sat : (h : Holder) (most : ℕ) (Q : Queue) (left done : ℕ) (t : Turn) → Begins h most Q left done t → Sat h most Q left done t
+pub sat : (h : Holder) (most : ℕ) (Q : Queue) (left done : ℕ) (t : Turn) → Begins h most Q left done t → Sat h most Q false left done t
 sat h most Q _ _ _ (bare left done u goes) =
     let r = went h most Q 0 left done u goes in
     record {
@@ -154,3 +155,18 @@ sat h most Q _ _ _ (taken left done cs a some few one units is_done le) =
       gave = given_append h.by h.step Q cs [];
       small = (omega (arith, many, some), omega (arith, many, few), tt);
     }
+
+-- on a line
+pub sat_served : (h : Holder) (most may : ℕ) (Q : Queue) (units : ℕ) (t : Turn) → most ≤ may → Served h Q most units 0 t → Sat h may Q true units 0 t
+sat_served h most may Q units t le r = record {
+  said = r.said;
+  silent = r.silent;
+  within = let within = r.within in omega (arith, within, le);
+  few = let few = r.few in omega (arith, few);
+  same = λ ne. let few = r.few in let none = r.none_done in omega (arith, few, none);
+  grows = λ ne. omega arith;
+  rest = λ p e. absurd (r.unrested p e);
+  commands = r.commands;
+  gave = r.gave;
+  small = r.sized;
+}

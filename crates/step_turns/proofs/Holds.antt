@@ -32,11 +32,13 @@ use Rattle.step_turns.specs.Decks.{are_refused, job_opened, opening, takes}
 use Rattle.step_turns.specs.Entries.{all_entries, closing_reply, given_in}
 use Rattle.step_turns.specs.JobEnds.{drop_groups, ending, groups_for_end, printed_end, taking}
 use Rattle.step_turns.specs.Laws.{HoldsChangeNoEntry, all_given}
-use Rattle.step_turns.specs.States.{Aside, Away, ByLock, Deck, Found, Fresh, Give, Grant, Holder, PrintLines, Progress, ReadText, Rested, SpoolDeck, SpoolOutputs, State, Task, Told, Work}
+use Rattle.step_turns.specs.Serving.{exchange_end}
+use Rattle.step_turns.specs.States.{Acknowledge, Aside, Away, ByLock, Deck, Exchange, Found, Fresh, Give, Grant, Holder, Line, PrintLines, Progress, ReadText, Rested, SpoolArrival, SpoolDeck, SpoolOutputs, State, Task, Told, Work}
 use Rattle.step_turns.specs.Turns.{Turn, after_part, closes_as, deck_opens, ends_with, goes_on, goes_on_by, groups_taken, is_spent, job_ends, last_part, leaves, lines_printed, next_unit, outputs_stand, prints_output, reads_job, text_read, turn, units_from}
 use Rattle.step_turns.proofs.Cutting.{cut_entries}
 use Rattle.step_turns.proofs.Endings.{told_gives_none}
 use Rattle.step_turns.proofs.Given.{entries_append, run_append}
+use Rattle.step_turns.proofs.Served.{served_acknowledged, served_exchange, served_stored}
 use Rattle.step_turns.proofs.Sittings.{by_state, some_may_follow}
 
 module _ (finds : Finds) (by : MemberId) (at : ℕ) where
@@ -230,6 +232,7 @@ module _ (finds : Finds) (by : MemberId) (at : ℕ) where
       task_same : (task : Task) → task_most task ≤ suc most → SameFrom (Fresh task)
       task_same (Give c) below = same_turn most same m n enough enough' hold' grant' Q (turn locked Q (Fresh (Give c)) found) (omega arith)
       task_same (Deck fields text) below = deck_same (job_opened Q by fields (groups_needed text)) (given_in Q by at (opening Q by fields (groups_needed text))) text (omega (arith, below))
+      task_same (Line l) below = same_turn most same m n enough enough' hold' grant' Q (turn locked Q (Fresh (Line l)) found) (omega (arith, below))
       task_same (Work k) below = units_same k (omega (arith, below)) m n hold hold' grant grant' Q 0 0 0 (omega (arith, below, enough)) (omega (arith, below, enough'))
 
       aside_same : (a : Aside) → aside_most a ≤ suc most → SameFrom (Away a)
@@ -237,6 +240,15 @@ module _ (finds : Finds) (by : MemberId) (at : ℕ) where
       aside_same (ReadText runs k fields p) below = text_same m n hold hold' grant grant' Q p (outcome_of runs fields found.read) k (omega (arith, below)) (omega (arith, below, enough)) (omega (arith, below, enough'))
       aside_same (SpoolOutputs k specs p) below = outputs_same m n hold hold' grant grant' Q p found.lost k specs (omega (arith, below)) (omega (arith, below, enough)) (omega (arith, below, enough'))
       aside_same (PrintLines k i last p) below = printed_same m n hold hold' grant grant' Q p (printed_end found.printer found.read) k i last (omega (arith, below)) (omega (arith, below, enough)) (omega (arith, below, enough'))
+      aside_same (Exchange l offer) below =
+          let within = (served_exchange locked Q (exchange_end offer l found) l found).within in
+          same_turn most same m n enough enough' hold' grant' Q (turn locked Q (Away (Exchange l offer)) found) (omega (arith, within, below))
+      aside_same (SpoolArrival number k text v) below =
+          let within = (served_stored locked Q number k v found.lost text).within in
+          same_turn most same m n enough enough' hold' grant' Q (turn locked Q (Away (SpoolArrival number k text v)) found) (omega (arith, within, below))
+      aside_same (Acknowledge number v) below =
+          let within = (served_acknowledged locked Q number found.wire v).within in
+          same_turn most same m n enough enough' hold' grant' Q (turn locked Q (Away (Acknowledge number v)) found) (omega (arith, within, below))
 
       turn_same : (s : State) → s ≢ Told → sittings_most s ≤ suc most → SameFrom s
       turn_same (Fresh task) ne below = task_same task below

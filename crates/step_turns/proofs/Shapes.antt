@@ -33,8 +33,8 @@ use Rattle.step_turns.specs.Courses.{aside_most, sittings_most}
 use Rattle.step_turns.specs.Decks.{are_refused, finishing, job_opened, lines_by, opening, takes}
 use Rattle.step_turns.specs.Entries.{closing_reply, given_in, reply_to}
 use Rattle.step_turns.specs.JobEnds.{drop_groups, ending, groups_for_end, printed_end, taking}
-use Rattle.step_turns.specs.Laws.{aside_done, aside_units, units_done, units_left}
-use Rattle.step_turns.specs.States.{Aside, Away, ByLock, Deck, ForStep, Found, Fresh, Give, Grant, Holder, PrintLines, Progress, ReadText, Rested, SpoolDeck, SpoolOutputs, State, Task, Told, Work}
+use Rattle.step_turns.specs.Laws.{aside_done, aside_on_line, aside_units, on_line, task_on_line, units_done, units_left}
+use Rattle.step_turns.specs.States.{Acknowledge, Aside, Away, ByLock, Deck, Exchange, ForStep, Found, Fresh, Give, Grant, Holder, Line, PrintLines, Progress, ReadText, Rested, SpoolArrival, SpoolDeck, SpoolOutputs, State, Task, Told, Work}
 use Rattle.step_turns.specs.Turns.{Turn, Units, after_part, aside_turn, closes_as, deck_opens, ends_with, goes_on, goes_on_by, groups_taken, is_spent, job_ends, leaves, lines_printed, next_unit, one_command, outputs_stand, prints_output, reads_job, says, task_turn, text_read, turn, units_from}
 use Rattle.step_turns.proofs.Takes.{few_ending, few_opening, few_taking, some_ending, some_opening, some_taking, takes_few, takes_some}
 
@@ -162,22 +162,26 @@ module _ (h : Holder) (most : ℕ) where
   begins_deck (Some n) cs text Q may some few = taken 1 0 cs (SpoolDeck n text) some few (omega arith) refl refl may
   begins_deck None cs text Q may some few = begins_closing cs 0 0 (reply_lines h.by h.step (closing_reply (given_in Q h.by h.step cs))) Q some few (some_lines (closing_reply (given_in Q h.by h.step cs)))
 
--- FROM EACH STATE
+-- FROM EACH STATE of a step that serves no line
 
 module _ (h : Holder) (Q : Queue) where
-  begins_task : (task : Task) → Begins h (sittings_most (Fresh task) - 1) Q (units_left (Fresh task)) 0 (task_turn h Q task)
-  begins_task (Give c) = begins_closing h 0 (c ∷ []) 0 0 (reply_lines h.by h.step (reply_to Q h.by c)) Q (omega arith) (omega arith) (some_lines h 0 (reply_to Q h.by c))
-  begins_task (Deck fields text) = begins_deck h 1 (job_opened Q h.by fields (groups_needed text)) (opening Q h.by fields (groups_needed text)) text Q (omega arith) (some_opening Q h.by fields (groups_needed text)) (few_opening Q h.by fields (groups_needed text))
-  begins_task (Work n) = bare n 0 (units_from h n Q 0 0) (goes_units h (3 * n + 1 - 1) n (omega arith) Q 0 0)
+  begins_task : (task : Task) → task_on_line task ≡ false → Begins h (sittings_most (Fresh task) - 1) Q (units_left (Fresh task)) 0 (task_turn h Q task)
+  begins_task (Give c) off = begins_closing h 0 (c ∷ []) 0 0 (reply_lines h.by h.step (reply_to Q h.by c)) Q (omega arith) (omega arith) (some_lines h 0 (reply_to Q h.by c))
+  begins_task (Deck fields text) off = begins_deck h 1 (job_opened Q h.by fields (groups_needed text)) (opening Q h.by fields (groups_needed text)) text Q (omega arith) (some_opening Q h.by fields (groups_needed text)) (few_opening Q h.by fields (groups_needed text))
+  begins_task (Work n) off = bare n 0 (units_from h n Q 0 0) (goes_units h (3 * n + 1 - 1) n (omega arith) Q 0 0)
+  begins_task (Line l) off = absurd (cc)
 
-  begins_aside : (a : Aside) (found : Found) → Begins h (aside_most a - 1) Q (aside_units a) (aside_done a) (aside_turn h Q a found)
-  begins_aside (SpoolDeck n text) found = begins_closing h 0 (finishing found.lost n text ∷ []) 0 0 (lines_by h.by h.step found.lost (closing_reply (given_in Q h.by h.step (finishing found.lost n text ∷ [])))) Q (omega arith) (omega arith) (some_lines_by h 0 found.lost (closing_reply (given_in Q h.by h.step (finishing found.lost n text ∷ []))))
-  begins_aside (ReadText runs n fields p) found = begins_text h (3 * p.left + 3 - 1) (outcome_of runs fields found.read) Q n p (omega arith)
-  begins_aside (SpoolOutputs n specs p) found = begins_outputs h (3 * p.left + 2 - 1) found.lost Q n specs p (omega arith)
-  begins_aside (PrintLines n i last p) found = begins_printed h (3 * p.left + 2 - 1) (printed_end found.printer found.read) Q n i last p (omega arith)
+  begins_aside : (a : Aside) (found : Found) → aside_on_line a ≡ false → Begins h (aside_most a - 1) Q (aside_units a) (aside_done a) (aside_turn h Q a found)
+  begins_aside (SpoolDeck n text) found off = begins_closing h 0 (finishing found.lost n text ∷ []) 0 0 (lines_by h.by h.step found.lost (closing_reply (given_in Q h.by h.step (finishing found.lost n text ∷ [])))) Q (omega arith) (omega arith) (some_lines_by h 0 found.lost (closing_reply (given_in Q h.by h.step (finishing found.lost n text ∷ []))))
+  begins_aside (ReadText runs n fields p) found off = begins_text h (3 * p.left + 3 - 1) (outcome_of runs fields found.read) Q n p (omega arith)
+  begins_aside (SpoolOutputs n specs p) found off = begins_outputs h (3 * p.left + 2 - 1) found.lost Q n specs p (omega arith)
+  begins_aside (PrintLines n i last p) found off = begins_printed h (3 * p.left + 2 - 1) (printed_end found.printer found.read) Q n i last p (omega arith)
+  begins_aside (Exchange l offer) found off = absurd (cc)
+  begins_aside (SpoolArrival number n text s) found off = absurd (cc)
+  begins_aside (Acknowledge number s) found off = absurd (cc)
 
-  pub begins : (s : State) (found : Found) → s ≢ Told → Begins h (sittings_most s - 1) Q (units_left s) (units_done s) (turn h Q s found)
-  begins (Fresh task) found open_now = begins_task task
-  begins (Away aside) found open_now = begins_aside aside found
-  begins (Rested p) found open_now = bare p.left p.done (units_from h p.left Q 0 p.done) (goes_units h (3 * p.left + 1 - 1) p.left (omega arith) Q 0 p.done)
-  begins Told found open_now = absurd (open_now refl)
+  pub begins : (s : State) (found : Found) → on_line s ≡ false → s ≢ Told → Begins h (sittings_most s - 1) Q (units_left s) (units_done s) (turn h Q s found)
+  begins (Fresh task) found off open_now = begins_task task off
+  begins (Away aside) found off open_now = begins_aside aside found off
+  begins (Rested p) found off open_now = bare p.left p.done (units_from h p.left Q 0 p.done) (goes_units h (3 * p.left + 1 - 1) p.left (omega arith) Q 0 p.done)
+  begins Told found off open_now = absurd (open_now refl)

@@ -1,17 +1,19 @@
 -- The laws of a sitting.
-use Rattle.std.proofs.Common.{◌≡◌, ◌≢◌, ◌⊎◌, inl, inr, ℕ, ◌-◌, ◌≤◌, nat_le, Bool, true, false, if◌then◌else◌, [], length, refl, ap, ◌∙◌, All, arith}
+use Rattle.std.proofs.Common.{◌≡◌, ◌≢◌, ◌⊎◌, inl, inr, ℕ, ◌+◌, ◌-◌, ◌*◌, ◌≤◌, nat_le, Bool, true, false, if◌then◌else◌, [], length, refl, ap, ◌∙◌, All, arith}
 use Rattle.std.proofs.lemmas.Bool.Decides.{nat_tests}
 use Rattle.mas_types.specs.declared.queues.Queue.{Queue}
 use Rattle.step_turns.specs.Batches.{AreWholeParts, cut}
 use Rattle.step_turns.specs.Courses.{sittings_most}
 use Rattle.step_turns.specs.Entries.{all_entries, commands_in, given_in}
-use Rattle.step_turns.specs.Laws.{BatchesAreWithinLimits, EntriesAreGiven, HoldsRightly, IsBatch, LinesAreSaidAtTheEnd, LockIsHeldRightly, NoUnitAfterTheLast, NoUnitIsSplit, PlaysUnits, StepsEnd, units_done, units_left}
+use Rattle.step_turns.specs.Laws.{BatchesAreWithinLimits, EntriesAreGiven, HoldsRightly, IsBatch, LinesAreSaidAtTheEnd, LockIsHeldRightly, NoUnitAfterTheLast, NoUnitIsSplit, PlaysUnits, StepsEnd, on_line, units_done, units_left}
 use Rattle.step_turns.specs.Sittings.{released, sit, sitting_of}
-use Rattle.step_turns.specs.States.{Aside, Away, ByLock, Deck, ForStep, Found, Fresh, Give, Grant, Holder, Inner, Keep, Outer, PrintLines, Progress, ReadText, Rested, SpoolDeck, SpoolOutputs, State, Task, Told, Work}
+use Rattle.step_turns.specs.Serving.{exchange_end, taken_most}
+use Rattle.step_turns.specs.States.{Acknowledge, Aside, Away, ByLock, Deck, Exchange, ForStep, Found, Fresh, Give, Grant, Holder, Inner, Keep, Line, Outer, PrintLines, Progress, ReadText, Rested, SpoolArrival, SpoolDeck, SpoolOutputs, State, Task, Told, Work}
 use Rattle.step_turns.specs.Turns.{Turn, leaves, turn}
 use Rattle.step_turns.proofs.Cutting.{cut_entries, cut_limits, cut_whole}
-use Rattle.step_turns.proofs.Facts.{Sat, sat, small_some}
+use Rattle.step_turns.proofs.Facts.{Sat, sat, sat_served, small_some}
 use Rattle.step_turns.proofs.Given.{given_again}
+use Rattle.step_turns.proofs.Served.{served_acknowledged, served_exchange, served_stored, served_task}
 use Rattle.step_turns.proofs.Shapes.{begins}
 
 -- STATES
@@ -23,8 +25,39 @@ by_state P at_told else_so (Away aside) = else_so (Away aside) (λ e. absurd (cc
 by_state P at_told else_so (Rested p) = else_so (Rested p) (λ e. absurd (cc))
 by_state P at_told else_so Told = at_told
 
-pub sat_at : (Q : Queue) (h : Holder) (s : State) (found : Found) → s ≢ Told → Sat h (sittings_most s - 1) Q (units_left s) (units_done s) (turn h Q s found)
-sat_at Q h s found open_now = sat h (sittings_most s - 1) Q (units_left s) (units_done s) (turn h Q s found) (begins h Q s found open_now)
+module _ (Q : Queue) (h : Holder) (found : Found) where
+  abbrev SatAt : State → Type 0
+  SatAt s = Sat h (sittings_most s - 1) Q (on_line s) (units_left s) (units_done s) (turn h Q s found)
+
+  sat_off : (s : State) → on_line s ≡ false → s ≢ Told → Sat h (sittings_most s - 1) Q false (units_left s) (units_done s) (turn h Q s found)
+  sat_off s off open_now = sat h (sittings_most s - 1) Q (units_left s) (units_done s) (turn h Q s found) (begins h Q s found off open_now)
+
+  sat_task : (task : Task) → SatAt (Fresh task)
+  sat_task (Give c) = sat_off (Fresh (Give c)) refl (λ e. absurd (cc))
+  sat_task (Deck fields text) = sat_off (Fresh (Deck fields text)) refl (λ e. absurd (cc))
+  sat_task (Work n) = sat_off (Fresh (Work n)) refl (λ e. absurd (cc))
+  sat_task (Line l) = sat_served h (2 * taken_most + 1) (sittings_most (Fresh (Line l)) - 1) Q (units_left (Fresh (Line l))) (turn h Q (Fresh (Line l)) found) (omega arith) (served_task h Q l)
+
+  sat_aside : (a : Aside) → SatAt (Away a)
+  sat_aside (SpoolDeck n text) = sat_off (Away (SpoolDeck n text)) refl (λ e. absurd (cc))
+  sat_aside (ReadText runs n fields p) = sat_off (Away (ReadText runs n fields p)) refl (λ e. absurd (cc))
+  sat_aside (SpoolOutputs n specs p) = sat_off (Away (SpoolOutputs n specs p)) refl (λ e. absurd (cc))
+  sat_aside (PrintLines n i last p) = sat_off (Away (PrintLines n i last p)) refl (λ e. absurd (cc))
+  sat_aside (Exchange l offer) =
+      sat_served h (2 * taken_most) (sittings_most (Away (Exchange l offer)) - 1) Q (units_left (Away (Exchange l offer))) (turn h Q (Away (Exchange l offer)) found) (omega arith)
+      (served_exchange h Q (exchange_end offer l found) l found)
+  sat_aside (SpoolArrival number n text s) =
+      sat_served h (2 * length s.frames + 1) (sittings_most (Away (SpoolArrival number n text s)) - 1) Q (units_left (Away (SpoolArrival number n text s))) (turn h Q (Away (SpoolArrival number n text s)) found) (omega arith)
+      (served_stored h Q number n s found.lost text)
+  sat_aside (Acknowledge number s) =
+      sat_served h (2 * length s.frames) (sittings_most (Away (Acknowledge number s)) - 1) Q (units_left (Away (Acknowledge number s))) (turn h Q (Away (Acknowledge number s)) found) (omega arith)
+      (served_acknowledged h Q number found.wire s)
+
+pub sat_at : (Q : Queue) (h : Holder) (s : State) (found : Found) → s ≢ Told → SatAt Q h found s
+sat_at Q h (Fresh task) found open_now = sat_task Q h found task
+sat_at Q h (Away aside) found open_now = sat_aside Q h found aside
+sat_at Q h (Rested p) found open_now = sat_off Q h found (Rested p) refl open_now
+sat_at Q h Told found open_now = absurd (open_now refl)
 
 -- THE LOCK
 
@@ -139,12 +172,16 @@ some_of_task : (task : Task) → 1 ≤ sittings_most (Fresh task)
 some_of_task (Give c) = omega arith
 some_of_task (Deck fields text) = omega arith
 some_of_task (Work n) = omega arith
+some_of_task (Line l) = omega arith
 
 some_of_aside : (a : Aside) → 1 ≤ sittings_most (Away a)
 some_of_aside (SpoolDeck n text) = omega arith
 some_of_aside (ReadText runs n fields p) = omega arith
 some_of_aside (SpoolOutputs n specs p) = omega arith
 some_of_aside (PrintLines n i last p) = omega arith
+some_of_aside (Exchange l offer) = omega arith
+some_of_aside (SpoolArrival number n text s) = omega arith
+some_of_aside (Acknowledge number s) = omega arith
 
 pub some_may_follow : (s : State) → s ≢ Told → 1 ≤ sittings_most s
 some_may_follow (Fresh task) ne = some_of_task task

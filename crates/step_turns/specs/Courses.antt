@@ -5,20 +5,29 @@ use Rattle.mas_types.specs.declared.queues.Queue.{Queue}
 use Rattle.mas_types.specs.Run.{run}
 use Rattle.step_turns.specs.Entries.{all_entries}
 use Rattle.step_turns.specs.Sittings.{Sitting, sit}
-use Rattle.step_turns.specs.States.{Aside, Away, ByLock, Deck, ForStep, Found, Fresh, Give, Grant, Holder, PrintLines, ReadText, Rested, SpoolDeck, SpoolOutputs, State, Task, Told, Work}
+use Rattle.step_turns.specs.Serving.{taken_most}
+use Rattle.step_turns.specs.States.{Acknowledge, Aside, Away, ByLock, Deck, Exchange, ForStep, Found, Fresh, Give, Grant, Holder, Line, PrintLines, ReadText, Rested, Service, SpoolArrival, SpoolDeck, SpoolOutputs, State, Task, Told, Work}
 
 -- THE MEASURE: how many sittings a step may still have
+
+-- a frame has two sittings at most: its job begins in one, and is got in another
+abbrev pub frames_left : Service → ℕ
+frames_left s = 2 * length s.frames
 
 abbrev pub task_most : Task → ℕ
 task_most (Give c) = 1
 task_most (Deck fields text) = 2
 task_most (Work n) = 3 * n + 1
+task_most (Line l) = 2 * taken_most + 2
 
 abbrev pub aside_most : Aside → ℕ
 aside_most (SpoolDeck n text) = 1
 aside_most (ReadText runs n fields p) = 3 * p.left + 3
 aside_most (SpoolOutputs n specs p) = 3 * p.left + 2
 aside_most (PrintLines n i last p) = 3 * p.left + 2
+aside_most (Exchange l offer) = 2 * taken_most + 1
+aside_most (SpoolArrival number n text s) = frames_left s + 2
+aside_most (Acknowledge number s) = frames_left s + 1
 
 abbrev pub sittings_most : State → ℕ
 sittings_most (Fresh task) = task_most task

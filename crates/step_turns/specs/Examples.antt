@@ -25,7 +25,7 @@ use Rattle.step_turns.specs.Batches.{cut}
 use Rattle.step_turns.specs.Courses.{Finds, course, sittings}
 use Rattle.step_turns.specs.Entries.{all_entries, commands_in, entry_of}
 use Rattle.step_turns.specs.Sittings.{Sitting, sit}
-use Rattle.step_turns.specs.States.{Aside, Away, ByLock, Deck, ForStep, Found, Fresh, Give, Holder, Inner, Keep, Outer, PrintLines, Progress, ReadText, Release, Rested, SpoolDeck, SpoolOutputs, State, Task, Told, Work, nothing_found}
+use Rattle.step_turns.specs.States.{Aside, Away, ByLock, Deck, Exchange, ForStep, Found, Fresh, Give, Holder, Inner, Keep, Outer, PrintLines, Progress, ReadText, Release, Rested, SpoolDeck, SpoolOutputs, State, Task, Told, Work, nothing_found}
 
 -- a sitting as it is shown here: the commands of each batch, the state that it leaves, and what becomes of the lock
 pub record Shown : Type 0 where
@@ -51,6 +51,7 @@ with_text text = record nothing_found { read = text_of text }
 abbrev pub calm_aside : Queue → Aside → Found
 calm_aside Q (ReadText runs n fields p) = option_map_or (λ (j : Job). with_text j.text) (job_at Q n) nothing_found
 calm_aside Q (PrintLines n i last p) = option_map_or (λ (o : Output). with_text o.text) (output_at Q n i) nothing_found
+calm_aside Q (Exchange l (Some o)) = option_map_or (λ (j : Job). with_text j.text) (job_at Q o.job) nothing_found
 calm_aside Q _ = nothing_found
 
 abbrev pub calm : Finds

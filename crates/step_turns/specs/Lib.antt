@@ -3,8 +3,14 @@ pub mod States
 pub mod Decks
 pub mod JobEnds
 pub mod Batches
+pub mod TurnParts
+pub mod Serving
 pub mod Turns
 pub mod Sittings
 pub mod Courses
+pub mod LineCounts
 pub mod Laws
+pub mod LineLaws
+pub mod LineWhole
 pub mod Examples
+pub mod LineExamples

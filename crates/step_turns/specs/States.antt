@@ -3,10 +3,12 @@
 use Rattle.std.specs.Prelude.{false, [], None}
 use Rattle.job_outcome.specs.declared.outcomes.Read.TheVariants as read
 pub use Rattle.step_turns.specs.declared.states.Task.{Task}
-pub use Rattle.step_turns.specs.declared.states.Task.TheVariants.{Give, Deck, Work}
+pub use Rattle.step_turns.specs.declared.states.Task.TheVariants.{Give, Deck, Work, Line}
 pub use Rattle.step_turns.specs.declared.states.Progress.{Progress}
 pub use Rattle.step_turns.specs.declared.states.Aside.{Aside}
-pub use Rattle.step_turns.specs.declared.states.Aside.TheVariants.{SpoolDeck, ReadText, SpoolOutputs, PrintLines}
+pub use Rattle.step_turns.specs.declared.states.Offer.{Offer}
+pub use Rattle.step_turns.specs.declared.states.Service.{Service}
+pub use Rattle.step_turns.specs.declared.states.Aside.TheVariants.{SpoolDeck, ReadText, SpoolOutputs, PrintLines, Exchange, SpoolArrival, Acknowledge}
 pub use Rattle.step_turns.specs.declared.states.State.{State}
 pub use Rattle.step_turns.specs.declared.states.State.TheVariants.{Fresh, Away, Rested, Told}
 pub use Rattle.step_turns.specs.declared.states.Found.{Found}
@@ -18,4 +20,4 @@ pub use Rattle.step_turns.specs.declared.states.Release.TheVariants.{Keep, Inner
 
 -- what a member found that looked at nothing
 abbrev pub nothing_found : Found
-nothing_found = record { read = read.Lines []; lost = None; printer = false }
+nothing_found = record { read = read.Lines []; lost = None; printer = false; wire = false; frames = [] }

@@ -27,26 +27,11 @@ use Rattle.job_outcome.specs.declared.units.UnitEnd.TheVariants as ends
 use Rattle.job_outcome.specs.Next.{end_by}
 use Rattle.job_outcome.specs.Outcomes.{outcome_of}
 use Rattle.step_turns.specs.Entries.{closing_reply, given_in, reply_to}
-use Rattle.step_turns.specs.States.{Aside, Deck, Found, Fresh, Away, ByLock, Give, ForStep, Grant, Holder, PrintLines, Progress, ReadText, Rested, SpoolDeck, SpoolOutputs, State, Task, Told, Work}
+use Rattle.step_turns.specs.States.{Acknowledge, Aside, Deck, Exchange, Found, Fresh, Away, ByLock, Give, ForStep, Grant, Holder, Line, PrintLines, Progress, ReadText, Rested, SpoolArrival, SpoolDeck, SpoolOutputs, State, Task, Told, Work}
 use Rattle.step_turns.specs.Decks.{are_refused, finishing, job_opened, lines_by, opening, takes}
 use Rattle.step_turns.specs.JobEnds.{chunk_end, drop_groups, ending, groups_for_end, printed_end, taking}
-
-pub record Turn : Type 0 where
-  pub parts : List (List Entry)
-  pub next : State
-  pub lines : List (List ℕ)
-
--- nothing more is given, and the step goes on from this state
-abbrev pub leaves : State → Turn
-leaves next = record { parts = []; next = next; lines = [] }
-
--- the step closes with these lines
-abbrev pub says : List (List ℕ) → Turn
-says lines = record { parts = []; next = Told; lines = lines }
-
--- entries that a turn gives before all others
-abbrev pub after_part : List Entry → Turn → Turn
-after_part es t = record { parts = es ∷ t.parts; next = t.next; lines = t.lines }
+use Rattle.step_turns.specs.Serving.{acknowledged, exchange_end, exchanged, heard, line_begins, stored}
+pub use Rattle.step_turns.specs.TurnParts.{Turn, leaves, says, after_part}
 
 -- where the units that may follow go on: at a queue, with so many commands given in the sitting, and so many units done
 -- in the step
@@ -181,12 +166,16 @@ module _ (h : Holder) where
       let groups = groups_needed text in
       deck_opens (job_opened Q h.by fields groups) (gives Q (opening Q h.by fields groups)) text
   task_turn Q (Work n) = units_from n Q 0 0
+  task_turn Q (Line l) = line_begins h.by h.step Q l
 
   abbrev pub aside_turn : Queue → Aside → Found → Turn
   aside_turn Q (SpoolDeck n text) found = deck_ends found.lost (gives Q (finishing found.lost n text ∷ []))
   aside_turn Q (ReadText runs n fields p) found = text_read (outcome_of runs fields found.read) Q n p
   aside_turn Q (SpoolOutputs n specs p) found = outputs_stand found.lost Q n specs p
   aside_turn Q (PrintLines n i last p) found = lines_printed (printed_end found.printer found.read) Q n i last p
+  aside_turn Q (Exchange l offer) found = exchanged h.by h.step (exchange_end offer l found) l (heard found) Q
+  aside_turn Q (SpoolArrival number n text s) found = stored h.by h.step found.lost number n text s Q
+  aside_turn Q (Acknowledge number s) found = acknowledged h.by h.step number found.wire s Q
 
   abbrev pub turn : Queue → State → Found → Turn
   turn Q (Fresh task) found = task_turn Q task

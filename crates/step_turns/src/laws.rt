@@ -1,5 +1,7 @@
 //! What holds of every sitting, whatever queue it finds, and of every step.
 ghost use Rattle.step_turns.specs.Laws.{BatchesAreWithinLimits, CoursesEnd, EntriesAreGiven, HoldsChangeNoEntry, LinesAreCaused, LinesAreSaidAtTheEnd, LockIsHeldRightly, NoUnitAfterTheLast, NoUnitIsSplit, StepsEnd};
+ghost use Rattle.step_turns.specs.LineLaws.{AcknowledgedAreGot, CountsGoOn, OffersAreLoaded};
+ghost use Rattle.step_turns.specs.LineWhole.{LineIsReadStraight};
 
 /// A lock that was taken for a step is given up at each sitting's end; one that the operator took only at the end of a
 /// step, and there only where its hold is spent. So the lock is held in acts that a step waits for only under LOCK.
@@ -15,7 +17,7 @@ pub fn law_of_batches()
     ensures given { EntriesAreGiven }
 {}
 
-/// No unit is played after the last that a step may play.
+/// No unit is played after the last that a step may play, and on a line no frame is handled after the last.
 pub fn law_of_units()
     ensures { NoUnitAfterTheLast }
 {}
@@ -33,8 +35,21 @@ pub fn law_of_holds()
     ensures { HoldsChangeNoEntry }
 {}
 
-/// Why a step closes as it does: as its last command was answered, with the units that are done, or by a text, a volume
-/// or a printer that its member found gone or lost.
+/// Why a step closes as it does: as its last command was answered, with the units that are done, by a text, a volume, a
+/// printer or a line that its member found gone or lost, by the cards of a job that came over its line, or with the jobs
+/// that left and came.
 pub fn law_of_causes()
     ensures { LinesAreCaused }
+{}
+
+/// What a step gives on its line. Over a queue that nobody else changes, and where no line and no volume is found lost,
+/// its sittings give what the step gives read straight: a Load and the job's frame, and then for each frame that came what
+/// this asks for. It offers the job that its Load answered, under the next number, with the job's own
+/// nodes. It acknowledges a number only where the queue that is kept has got it. And it counts the jobs that left and
+/// came as its entries do.
+pub fn law_of_lines()
+    ensures offers { OffersAreLoaded }
+    ensures acknowledges { AcknowledgedAreGot }
+    ensures counts { CountsGoOn }
+    ensures straight { LineIsReadStraight }
 {}

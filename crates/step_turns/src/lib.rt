@@ -6,8 +6,9 @@ mod examples;
 mod laws;
 mod states;
 
-pub use examples::examples_of_sittings;
+pub use examples::{examples_of_lines, examples_of_sittings};
 pub use laws::{
-    law_of_batches, law_of_causes, law_of_ends, law_of_holds, law_of_the_lock, law_of_units,
+    law_of_batches, law_of_causes, law_of_ends, law_of_holds, law_of_lines, law_of_the_lock,
+    law_of_units,
 };
-pub use states::{Aside, Found, Grant, Holder, Progress, Release, State, Task};
+pub use states::{Aside, Found, Grant, Holder, Offer, Progress, Release, Service, State, Task};

@@ -4,7 +4,8 @@
 //! spent hold, or to the line with which the step closes. Between two sittings other members may act.
 
 use job_outcome::Read;
-use mas_types::{Command, JobFields, JobNo, Lines, List, MemberId, OutNo, OutSpec};
+use mas_types::{Command, JobFields, JobNo, Lines, List, MemberId, Name8, OutNo, OutSpec};
+use nje_frames::Frame;
 
 /// What a step is asked to do.
 #[derive(Drop)]
@@ -15,11 +16,13 @@ pub enum Task {
     Deck { fields: JobFields, text: Lines },
     /// To work, so many units at most.
     Work(u16),
+    /// To serve the line of this number, once.
+    Line(u8),
 }
 
 /// Where a step of work stands: the units that are done, and how many may still follow, after the one under way if
 /// there is one.
-#[derive(Clone, Copy, PartialEq, Eq)]
+#[derive(Clone, Copy)]
 pub struct Progress {
     /// The units that are done.
     pub done: u16,
@@ -27,8 +30,33 @@ pub struct Progress {
     pub left: u16,
 }
 
-/// Acts that want no lock, and that the step waits for. A frame that goes over a line to another node will be one more
-/// of these.
+/// A job that is current on a line, as its frame names it.
+#[derive(Clone, Copy)]
+pub struct Offer {
+    /// The job.
+    pub job: JobNo,
+    /// Its number on the line.
+    pub number: u32,
+    /// The node at which its deck was read.
+    pub origin: Name8,
+    /// The node at which it is to run.
+    pub node: Name8,
+}
+
+/// Where a step stands that serves a line, once it has taken the bytes that waited.
+#[derive(Drop)]
+pub struct Service {
+    /// The line.
+    pub line: u8,
+    /// The jobs that left over the line in this step.
+    pub sent: u32,
+    /// The jobs that came over the line in this step.
+    pub got: u32,
+    /// The frames that came and are still to be handled, in their order.
+    pub frames: List<Frame>,
+}
+
+/// Acts that want no lock, and that the step waits for.
 #[derive(Drop)]
 pub enum Aside {
     /// A deck's text goes into the groups that were taken for its job.
@@ -56,6 +84,25 @@ pub enum Aside {
         last: u32,
         progress: Progress,
     },
+    /// The text of the job that is current on a line, if one is, is read, and its frame is given. Then bytes are taken
+    /// from the line, as many as wait, but no more than 65,536.
+    Exchange {
+        line: u8,
+        offer: Option<Offer>,
+    },
+    /// The text of a job that came over a line under this number goes into the groups that were taken for it.
+    SpoolArrival {
+        number: u32,
+        job: JobNo,
+        text: Lines,
+        service: Service,
+    },
+    /// The acknowledgement of this number is given on a line. Without a number nothing is done: the step has only given
+    /// the lock up.
+    Acknowledge {
+        number: Option<u32>,
+        service: Service,
+    },
 }
 
 /// Where a step stands.
@@ -80,10 +127,14 @@ pub struct Found {
     pub lost: Option<u8>,
     /// Whether the member's printer is lost.
     pub printer: bool,
+    /// Whether the line is lost.
+    pub wire: bool,
+    /// The frames that the bytes completed which were taken from the line, in their order.
+    pub frames: List<Frame>,
 }
 
 /// How a member came to hold the lock.
-#[derive(Clone, Copy, PartialEq, Eq)]
+#[derive(Clone, Copy)]
 pub enum Grant {
     /// For this step.
     ForStep,
@@ -92,7 +143,7 @@ pub enum Grant {
 }
 
 /// A member that holds the lock in a step, and may give so many commands more before its hold is spent.
-#[derive(Clone, Copy, PartialEq, Eq)]
+#[derive(Clone, Copy)]
 pub struct Holder {
     /// The member.
     pub by: MemberId,
@@ -105,7 +156,7 @@ pub struct Holder {
 }
 
 /// What a sitting leaves of the lock.
-#[derive(Clone, Copy, PartialEq, Eq)]
+#[derive(Clone, Copy)]
 pub enum Release {
     /// The lock is kept.
     Keep,
