@@ -19,6 +19,7 @@ renewed dev old new act renews = record {
   past = renews.past;
   size = renews.size;
   faults = renews.faults;
+  stops = λ m. omega (arith, renews.stops m);
   else_lost = renews.else_lost;
   halted = λ is. absurd (cc);
   not_operator = λ is. absurd (cc);
@@ -35,6 +36,7 @@ renewed_then by dev stopped old mid new answer is is_not one two = record {
   past = λ t le. two.goes.past t (omega (arith, one.later, le)) ∙ one.past t le;
   size = λ d. two.goes.size d ∙ one.size d;
   faults = λ p. omega (arith, one.faults p, two.goes.faults p);
+  stops = λ m. omega (arith, one.stops m, two.goes.stops m);
   else_lost = λ p ne. two.else_lost p (inl ne) ∙ one.else_lost p ne;
   halted = λ so. let e : mid.stops by ≡ old.stops by = one.no_other_stop by (inr refl) in subst (λ (n : ℕ). Rose n (new.stops by)) e (two.halted (is so));
   not_operator = λ so. two.not_operator (is so);

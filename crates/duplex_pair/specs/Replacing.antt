@@ -10,12 +10,15 @@ use Rattle.ckpt_copy.specs.declared.copying.CopyNo.TheVariants.{Failed as CopyFa
 use Rattle.ckpt_copy.specs.Meanwhile.{SameSides}
 use Rattle.duplex_pair.specs.Halves.{SameOrLost}
 use Rattle.duplex_pair.specs.declared.replacing.ReplaceNo.{ReplaceNo}
-use Rattle.duplex_pair.specs.declared.replacing.ReplaceNo.TheVariants.{NotLost, BothLost, Failed, Halted}
+use Rattle.duplex_pair.specs.declared.replacing.ReplaceNo.TheVariants.{NotLost, BothLost, Failed, Halted, NoMemory}
 
 -- what a call of a copy that is formed anew answers, as the answer of a replacement
 abbrev pub formed_no : CopyNo → ReplaceNo
 formed_no CopyFailed = Failed
 formed_no CopyHalted = Halted
+
+abbrev pub no_memory : ReplaceNo
+no_memory = NoMemory
 
 -- the member was stopped in it
 abbrev pub replace_stopped : {T : Type 0} → Result T ReplaceNo → Bool
@@ -24,6 +27,7 @@ replace_stopped (Err NotLost) = false
 replace_stopped (Err BothLost) = false
 replace_stopped (Err Failed) = false
 replace_stopped (Err Halted) = true
+replace_stopped (Err NoMemory) = false
 
 -- A member replaces a device, and whether it was stopped in it: past worlds stay, counts don't fall, and only this
 -- device may be lost or there again.
@@ -32,6 +36,7 @@ pub record Replaces (by : ℕ) (dev : Dev) (stopped : Bool) (old new : View) : T
   pub past : (t : ℕ) → t ≤ old.now → new.world t ≡ old.world t
   pub size : (d : Dev) → new.size d ≡ old.size d
   pub faults : (p : Part) → old.faults p ≤ new.faults p
+  pub stops : (m : ℕ) → old.stops m ≤ new.stops m
   pub else_lost : (p : Part) → p ≢ DiskPart dev → new.lost p ≡ old.lost p
   pub halted : stopped ≡ true → Rose (old.stops by) (new.stops by)
   pub not_operator : stopped ≡ true → 0 < by

@@ -1,37 +1,34 @@
 //! A lost copy is replaced.
-ghost use Rattle.std.specs.Prelude.{◌≡◌, ◌⊎◌, ℕ, ◌+◌, ◌≤◌, List, length, OnOk, OnErr, Err, IsErrOf, true, false};
+ghost use Rattle.std.specs.Prelude.{◌≡◌, ◌≢◌, ◌⊎◌, ℕ, ◌+◌, ◌≤◌, List, length, OnOk, OnErr, Err, IsErrOf, true, false};
 ghost use Rattle.mas_types.specs.declared.ids.Dev.TheVariants.{Ckpt1, Ckpt2};
 ghost use Rattle.mas_types.specs.Limits.{pages_least, pages_most};
 ghost use Rattle.spool_disk.specs.View.{disk_now};
-ghost use Rattle.spool_disk.specs.Acts.{Rose};
+ghost use Rattle.spool_disk.specs.Acts.{Rose, top};
 ghost use Rattle.spool_disk.specs.declared.plant.Part.TheVariants.{Disk};
 ghost use Rattle.ckpt_copy.specs.Pages.{bytes_of};
-ghost use Rattle.duplex_pair.specs.declared.replacing.ReplaceNo.TheVariants.{NotLost, BothLost, Failed, Halted as ReplaceHalted};
+ghost use Rattle.duplex_pair.specs.declared.replacing.ReplaceNo.TheVariants.{NotLost, BothLost, Failed, Halted as ReplaceHalted, NoMemory as ReplaceNoMemory};
 ghost use Rattle.duplex_pair.specs.Halves.{IsCkpt, pick, other, IsBothLost};
-ghost use Rattle.duplex_pair.specs.Replacing.{Replaces, WhileReplaced, IsOrBlank, IsBlank, IsOrForms, IsFormed, formed_no, replace_stopped};
+ghost use Rattle.duplex_pair.specs.Replacing.{Replaces, WhileReplaced, IsOrBlank, IsBlank, IsOrForms, IsFormed, formed_no, no_memory, replace_stopped};
 
 use crate::half::Half;
 use crate::pair::Pair;
 use ckpt_copy::{CopyNo, Copying};
-use mas_types::{Dev, MemberId, Page};
+use mas_types::{Dev, MemberId, NoMemory, Page};
 use spool_disk::{Act, Plant};
-use thiserror::Error;
 
 /// Why a copy wasn't replaced.
-#[derive(Clone, Copy, Debug, PartialEq, Eq, Error)]
+#[derive(Clone, Copy)]
 pub enum ReplaceNo {
     /// The copy isn't lost. No act was made.
-    #[error("the copy is not lost")]
     NotLost,
     /// Both copies are lost, so that there is nothing to copy. No act was made.
-    #[error("both copies are lost")]
     BothLost,
     /// The new device failed: its count of faults rose in this call, and it is lost.
-    #[error("the new device failed")]
     Failed,
     /// The member was stopped inside the call: its count of stops rose. The copy counts as lost.
-    #[error("the member was stopped")]
     Halted,
+    /// There was no memory. No act was made. A pair takes none, and never answers so.
+    NoMemory,
 }
 
 impl From<CopyNo> for ReplaceNo {
@@ -45,6 +42,14 @@ impl From<CopyNo> for ReplaceNo {
     }
 }
 
+impl From<NoMemory> for ReplaceNo {
+    ghost from_gives = { λ no e. e ≡ no_memory };
+
+    fn from(_no: NoMemory) -> ReplaceNo {
+        ReplaceNo::NoMemory
+    }
+}
+
 // Puts a device of zeros in a device's place.
 fn renew_device<P: Plant>(plant: &mut P, dev: Dev) -> Result<(), ReplaceNo>
     ensures replaces { Replaces 0 dev false (P.view plant.old) (P.view plant.new) }
@@ -53,6 +58,7 @@ fn renew_device<P: Plant>(plant: &mut P, dev: Dev) -> Result<(), ReplaceNo>
     ensures failed { OnErr result (Rose ((P.view plant.old).faults (Disk dev)) ((P.view plant.new).faults (Disk dev))) }
     ensures lost { OnErr result ((P.view plant.new).lost (Disk dev) ≡ true) }
     ensures there { OnOk result ((P.view plant.new).lost (Disk dev) ≡ false) }
+    ensures last { OnOk result ((P.view plant.old).now ≢ top) }
     ensures during { P.tells → WhileReplaced dev
         (IsOrBlank ((P.view plant.old).size dev) (disk_now (P.view plant.old) dev)) (P.view plant.old)
         (P.view plant.new) }
@@ -84,6 +90,7 @@ impl<C: Copying + Drop> Half<C> {
         ensures failed { IsErrOf result Failed
             → Rose ((P.view plant.old).faults (Disk dev)) ((P.view plant.new).faults (Disk dev)) }
         ensures lost { IsErrOf result Failed → (P.view plant.new).lost (Disk dev) ≡ true }
+        ensures last { IsErrOf result ReplaceHalted → (P.view plant.old).now ≢ top }
         ensures ok { OnOk result ((self.new.alive ≡ true)
             × IsFormed C.count C.room C.room_most C.ready (length pages.now) dev (P.view plant.new) self.new.copy) }
         ensures during { P.tells → WhileReplaced dev
@@ -118,6 +125,7 @@ impl<C: Copying + Drop> Pair<C> {
         ensures failed { IsErrOf result Failed
             → Rose ((P.view plant.old).faults (Disk dev)) ((P.view plant.new).faults (Disk dev)) }
         ensures lost { IsErrOf result Failed → (P.view plant.new).lost (Disk dev) ≡ true }
+        ensures last { IsErrOf result ReplaceHalted → (P.view plant.old).now ≢ top }
         ensures ok { OnOk result (((pick dev self.new.first self.new.second).alive ≡ true)
             × IsFormed C.count C.room C.room_most C.ready (length pages.now) dev (P.view plant.new)
             (pick dev self.new.first self.new.second).copy) }
@@ -161,10 +169,15 @@ impl<C: Copying + Drop> Pair<C> {
         ensures dead { IsBothLost self.old.first.alive self.old.second.alive → IsErrOf result BothLost }
         ensures both { IsErrOf result BothLost → IsBothLost self.old.first.alive self.old.second.alive
             × (plant.new ≡ plant.old) }
+        ensures acted { (pick dev self.old.first self.old.second).alive ≡ false
+            → (other dev self.old.first self.old.second).alive ≡ true
+            → OnErr result (IsErrOf result Failed ⊎ IsErrOf result ReplaceHalted) }
+        ensures memory { IsErrOf result ReplaceNoMemory → ⊥ }
         ensures replaces { Replaces by.0 dev (replace_stopped result) (P.view plant.old) (P.view plant.new) }
         ensures failed { IsErrOf result Failed
             → Rose ((P.view plant.old).faults (Disk dev)) ((P.view plant.new).faults (Disk dev)) }
         ensures lost { IsErrOf result Failed → (P.view plant.new).lost (Disk dev) ≡ true }
+        ensures last { IsErrOf result ReplaceHalted → (P.view plant.old).now ≢ top }
         ensures ok { OnOk result (((pick dev self.new.first self.new.second).alive ≡ true)
             × IsFormed C.count C.room C.room_most C.ready (length pages.now) dev (P.view plant.new)
             (pick dev self.new.first self.new.second).copy) }

@@ -1,11 +1,9 @@
 -- What the rules say of lost copies.
-use Rattle.std.proofs.Common.{◌≡◌, ℕ, ◌+◌, ◌≤◌, true, false, List, [], refl, sym, ap, ◌∙◌, ⊎_elim, arith}
+use Rattle.std.proofs.Common.{◌≡◌, ℕ, ◌+◌, ◌≤◌, true, [], refl, sym, ⊎_elim, arith}
 use Rattle.std.proofs.lemmas.List.{append-nil}
-use Rattle.gate_facts.specs.declared.facts.Facts.{Facts}
 use Rattle.gate_facts.specs.declared.marks.Marks.{Marks}
-use Rattle.gate_facts.specs.Values.{marked_at, number_at, desk_of, LostOnce, LostAtMostOnce, LostAgain}
-use Rattle.gate_facts.specs.Memory.{MayGiveBack}
-use Rattle.gate_facts.specs.Laws.{with_loses, HoldersAreSpared, LostMayBeLostAgain, NobodyElseLosesAgain, LossesAreKnown}
+use Rattle.gate_facts.specs.Values.{marked_at, number_at, desk_of, LostOnce}
+use Rattle.gate_facts.specs.Laws.{HoldersAreSpared, LostMayBeLostAgain, NobodyElseLosesAgain, LossesAreKnown}
 use Rattle.gate_facts.proofs.Lists.{true_false}
 use Rattle.gate_facts.proofs.Values.{synced_refl}
 

@@ -1,5 +1,5 @@
 -- Desks that may have become synced, and marks that grow.
-use Rattle.std.proofs.Common.{◌≡◌, ℕ, Bool, true, false, List, [], ◌∷◌, refl, ◌∙◌, inl, inr, ⊎_elim, arith}
+use Rattle.std.proofs.Common.{◌≡◌, ℕ, Bool, true, List, [], ◌∷◌, refl, ◌∙◌, inl, inr, ⊎_elim, arith}
 use Rattle.gate_facts.specs.declared.desks.Group.{Group}
 use Rattle.gate_facts.specs.declared.desks.Desk.{Desk}
 use Rattle.gate_facts.specs.declared.marks.Marks.{Marks}

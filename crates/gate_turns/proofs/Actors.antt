@@ -1,24 +1,21 @@
 -- Who acts, and in whose pass.
-use Rattle.std.proofs.Common.{◌≡◌, ◌≢◌, inl, inr, ⊎_elim, ℕ, zero, suc, ◌<◌, ◌≤◌, nat_le, Bool, true, false, ◌&&◌, if◌then◌else◌, List, [], ◌∷◌, ◌++◌, Option, Some, None, length, refl, sym, ap, subst, ◌∙◌, arith}
+use Rattle.std.proofs.Common.{◌≡◌, ◌≢◌, inl, inr, ⊎_elim, ℕ, zero, suc, ◌≤◌, nat_le, Bool, true, false, ◌&&◌, if◌then◌else◌, List, [], ◌∷◌, ◌++◌, Option, None, length, refl, sym, ap, subst, ◌∙◌, arith}
 use Rattle.std.proofs.lemmas.Bool.{ne_eqb, leb-true, le-leb}
 use Rattle.std.proofs.lemmas.List.{length-set}
 use Rattle.std.proofs.lemmas.List.Elements.{All-nil, All-cons, All-head, All-tail}
 use Rattle.std.proofs.lemmas.Slice.Eq.{bytes_eq-Decides}
-use Rattle.std.specs.Prelude.{not, All, is_some}
+use Rattle.std.specs.Prelude.{All, is_some}
 use Rattle.std.specs.Str.{bytes_eq}
 use mathlib.Core.Logic.{dite}
 use native.Mathlib.Decide.{ℕ_discrete}
 use Rattle.mas_types.specs.declared.ids.MemberId.{MemberId}
 use Rattle.mas_types.specs.declared.journals.Entry.{Entry}
-use Rattle.mas_types.specs.Ids.{same_member}
 use Rattle.mas_types.specs.Closings.{closing_text}
 use Rattle.mas_types.specs.Numerals.{in_digits}
 use Rattle.mas_types.specs.Shown.{member_word}
-use Rattle.spool_disk.specs.declared.plant.Act.TheVariants.{Halted}
 use Rattle.spool_disk.specs.declared.plant.Part.TheVariants.{Console}
 use Rattle.queue_laws.specs.Laws.{resets}
 use Rattle.lock_cycle.specs.Books.{Book, IsMember, seize_refusal, granted, after_seize, after_stop}
-use Rattle.gate_facts.specs.declared.facts.Facts.{Facts}
 use Rattle.gate_facts.specs.Values.{marked_at}
 use Rattle.gate_facts.specs.Memory.{MayGiveBack}
 use Rattle.gate_facts.proofs.Lists.{true_false, not_true}
@@ -26,14 +23,13 @@ use Rattle.mas_complex.specs.Journals.{entries_reserved}
 use Rattle.mas_complex.specs.Locking.{reserved_after_stop}
 use Rattle.mas_complex.specs.Parts.{Shown}
 use Rattle.gate_turns.specs.Seats.{shows_stopped}
-use Rattle.gate_turns.specs.Words.{named, speaker, words_of, word_at}
+use Rattle.gate_turns.specs.Words.{named, speaker, word_at}
 use Rattle.gate_turns.specs.Told.{member_in}
 use Rattle.gate_turns.specs.Shared.{facts_of}
-use Rattle.gate_turns.specs.Laws.{with_book, with_call, IsOfStopped, LeavesGroups, Passes}
+use Rattle.gate_turns.specs.Laws.{with_book, Passes}
 use Rattle.gate_turns.specs.Actors.{named_among, LinesAreNamed, SaysForMayGoBack, ResetsStopped, OwnLeaveGroups, OthersLeaveGroups, taken, TakeoversMayGoBack, FailedTakeoversMayGoBack}
 use Rattle.gate_turns.proofs.Acted.{counted_for, said_spares}
 use Rattle.gate_turns.proofs.Booked.{seizes_may, stops_may}
-use Rattle.gate_turns.proofs.BookLemmas.{seizes_stop}
 use Rattle.gate_turns.proofs.Called.{calls_may, recovers_may}
 use Rattle.gate_turns.proofs.Giving.{may_go_on}
 use Rattle.gate_turns.proofs.LeftGroups.{passing_leaves}

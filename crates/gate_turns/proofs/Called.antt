@@ -4,7 +4,7 @@ use Rattle.std.proofs.Math.Logic.{∥∥₁_elim}
 use Rattle.std.proofs.lemmas.Bool.{ne_eqb}
 use Rattle.std.proofs.lemmas.List.{append-nil}
 use Rattle.std.proofs.lemmas.List.Elements.{All-head, All-tail}
-use Rattle.std.specs.Prelude.{if◌then◌else◌, not, map, filter, drop, All}
+use Rattle.std.specs.Prelude.{if◌then◌else◌, not, map, drop, All}
 use Rattle.mas_types.specs.declared.ids.MemberId.{MemberId}
 use Rattle.mas_types.specs.declared.ids.GroupNo.{GroupNo}
 use Rattle.mas_types.specs.declared.ids.Dev.TheVariants.{Ckpt1, Ckpt2, Spool}
@@ -38,7 +38,7 @@ use Rattle.mas_complex.specs.Parts.{Shown, batches_left}
 use Rattle.gate_turns.specs.Seats.{all_seats, has_lock, shows_stopped}
 use Rattle.gate_turns.specs.Words.{lines_by}
 use Rattle.gate_turns.specs.Told.{told_by}
-use Rattle.gate_turns.specs.Marked.{down_from, parts, devices, lost_copies}
+use Rattle.gate_turns.specs.Marked.{down_from, parts, lost_copies}
 use Rattle.gate_turns.specs.Desks.{Disks, no_hold, whole_hold, groups_from, is_unsynced, page_stretch, groups_on}
 use Rattle.gate_turns.specs.Shared.{begun_by, said_of, pages_had, groups_of, desk_in, marks_of, facts_of}
 use Rattle.gate_turns.specs.Laws.{HasBegun, with_call, IsCall, LeavesGroups, CopyActsCount, PairActsCount, LossesCount, CallsMayGoBack, PutsMayGoBack, OpensMayGoBack, IsOfStopped, BatchLeavesGroups, RecoversMayGoBack, with_reserved, HasGrown, ReservesMayGoBack, GivesUpMayGoBack}

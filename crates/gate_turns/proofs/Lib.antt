@@ -13,6 +13,7 @@ pub mod KeptSame
 pub mod Called
 pub mod LeftGroups
 pub mod Lost
+pub mod Renewals
 pub mod Quiet
 pub mod Actors
 pub mod Busy

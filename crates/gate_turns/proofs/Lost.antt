@@ -9,10 +9,10 @@ use Rattle.mas_types.specs.declared.ids.Dev.{Dev}
 use Rattle.mas_types.specs.declared.ids.Dev.TheVariants.{Ckpt1, Ckpt2, Spool}
 use Rattle.mas_types.specs.declared.ids.MemberId.{MemberId}
 use Rattle.mas_types.specs.declared.queues.Owner.{Owner}
-use Rattle.mas_types.specs.Limits.{members_most, volumes_most, page_bytes}
+use Rattle.mas_types.specs.Limits.{volumes_most, page_bytes}
 use Rattle.spool_disk.specs.declared.plant.Part.TheVariants.{Disk as DiskPart}
 use Rattle.spool_disk.specs.View.{View, World, Line, Disk, Stretch, disk_now, slice}
-use Rattle.spool_disk.specs.Acts.{Arms, Goes, Loses, next, top}
+use Rattle.spool_disk.specs.Acts.{Goes, Loses, next, top}
 use Rattle.spool_volumes.specs.Volumes.{volume_of, start_of}
 use Rattle.ckpt_copy.specs.Moments.{either_way}
 use Rattle.gate_facts.specs.declared.desks.Desk.{Desk}
@@ -28,7 +28,7 @@ use Rattle.mas_complex.specs.Parts.{Shown}
 use Rattle.gate_turns.specs.Seats.{all_seats, has_lock, shows_stopped}
 use Rattle.gate_turns.specs.Words.{lines_by}
 use Rattle.gate_turns.specs.Told.{told_by}
-use Rattle.gate_turns.specs.Marked.{down_from, parts, devices, lost_copies}
+use Rattle.gate_turns.specs.Marked.{down_from, parts, devices}
 use Rattle.gate_turns.specs.Desks.{Disks, if_at_level, if_good, one_of, kept_pages, no_hold, whole_hold, groups_from, meets, page_stretch, groups_on}
 use Rattle.gate_turns.specs.Shared.{said_of, pages_had, hold_of, groups_of, desk_in, marks_of, facts_of}
 use Rattle.gate_turns.specs.Laws.{with_view, HasBegun}
@@ -49,10 +49,10 @@ said_lost dev x view true goes apart before =
 
 -- GROUPS
 
-abbrev Calm : Disk → Disk → Type 0
+abbrev pub Calm : Disk → Disk → Type 0
 Calm old new = (new.bytes ≡ old.bytes) × (new.unsynced ≡ old.unsynced)
 
-calm_same : (old new : Disk) → new ≡ old → Calm old new
+pub calm_same : (old new : Disk) → new ≡ old → Calm old new
 calm_same old new e = (ap (λ (d : Disk). d.bytes) e, ap (λ (d : Disk). d.unsynced) e)
 
 volumes_calm : (dev : Dev) (old new : View) → Goes old new → Elsewhere dev old new → KeepsVolume dev old new → (n : ℕ) → Calm (disk_now old (Spool n)) (disk_now new (Spool n))
@@ -62,7 +62,7 @@ volumes_calm (Spool k) old new goes apart keeps n = dite (ℕ_discrete n k)
     (λ e. subst (λ (j : ℕ). Calm (disk_now old (Spool j)) (disk_now new (Spool j))) (sym e) (keeps.bytes, keeps.unsynced))
     (λ ne. calm_same (disk_now old (Spool n)) (disk_now new (Spool n)) (apart.others new.now goes.later (omega arith) (Spool n) (λ e. ne (cc e))))
 
-groups_calm : (old new : Disks) (per : ℕ) (m : MemberId) (owners : List Owner) → ((n : ℕ) → Calm (old (Spool n)) (new (Spool n))) → groups_on new per m owners ≡ groups_on old per m owners
+pub groups_calm : (old new : Disks) (per : ℕ) (m : MemberId) (owners : List Owner) → ((n : ℕ) → Calm (old (Spool n)) (new (Spool n))) → groups_on new per m owners ≡ groups_on old per m owners
 unfolding groups_on
 groups_calm old new per m owners calm = λ i. map (λ g. record {
   number = g;

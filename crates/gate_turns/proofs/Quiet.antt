@@ -1,5 +1,5 @@
 -- Which calls change lines, and which change begun entries.
-use Rattle.std.proofs.Common.{◌≡◌, ◌≢◌, ◌⊎◌, inl, inr, ⊎_elim, ℕ, ◌+◌, ◌==◌, Bool, true, false, List, [], ◌∷◌, ◌++◌, Option, Some, None, refl, sym, ap, subst, ◌∙◌, arith}
+use Rattle.std.proofs.Common.{◌≡◌, ◌≢◌, ◌⊎◌, ⊎_elim, ℕ, ◌+◌, ◌==◌, Bool, true, false, List, [], ◌∷◌, ◌++◌, Option, Some, None, refl, sym, ap, ◌∙◌, arith}
 use Rattle.std.proofs.lemmas.List.{append-nil}
 use Rattle.std.specs.Prelude.{if◌then◌else◌, map}
 use Rattle.mas_types.specs.declared.ids.Dev.TheVariants.{Spool}
@@ -8,17 +8,15 @@ use Rattle.mas_types.specs.declared.journals.Batch.{Batch}
 use Rattle.mas_types.specs.declared.journals.Entry.{Entry}
 use Rattle.mas_types.specs.declared.journals.Fate.TheVariants.{Dropped, Kept}
 use Rattle.mas_types.specs.Ids.{same_member}
-use Rattle.spool_disk.specs.declared.plant.Act.{Act}
-use Rattle.spool_disk.specs.View.{View}
-use Rattle.spool_disk.specs.Acts.{Goes, OnDevice, Prints, Says}
-use Rattle.mas_complex.specs.Journals.{begun, fated, in_flight, with_last, EndsInPlace}
+use Rattle.spool_disk.specs.Acts.{OnDevice, Prints, Says}
+use Rattle.mas_complex.specs.Journals.{begun, fated, in_flight, with_last}
 use Rattle.mas_complex.specs.Parts.{Shown}
 use Rattle.mas_complex.specs.Seen.{IsFatedBy}
 use Rattle.gate_turns.specs.Seats.{all_seats}
 use Rattle.gate_turns.specs.Words.{speaker, lines_by}
-use Rattle.gate_turns.specs.Shared.{begun_by, said_since, said_of, facts_of}
-use Rattle.gate_turns.specs.Laws.{with_view, with_kept, with_call, HasBegun, IsCall}
-use Rattle.gate_turns.specs.Untouched.{SaysNothing, BeginsNothing, IsQuiet, BooksAreQuiet, ReservesAreQuiet, GivesUpAreQuiet, SpoolActsAreQuiet, PrintsAreQuiet, CallsAreQuiet, FatesAreQuiet, BeginsOwn, LogsBeginOwn, KeepsBeginOwn, SaysChangeNamed}
+use Rattle.gate_turns.specs.Shared.{begun_by, said_of}
+use Rattle.gate_turns.specs.Laws.{with_view, with_call, HasBegun, IsCall}
+use Rattle.gate_turns.specs.Untouched.{SaysNothing, BooksAreQuiet, ReservesAreQuiet, GivesUpAreQuiet, SpoolActsAreQuiet, PrintsAreQuiet, CallsAreQuiet, FatesAreQuiet, LogsBeginOwn, KeepsBeginOwn, SaysChangeNamed}
 use Rattle.gate_turns.proofs.Acted.{said_lines}
 use Rattle.gate_turns.proofs.Called.{said_called, begun_placed, begun_ended, reserved_begun, given_up_begun}
 use Rattle.gate_turns.proofs.Counts.{same_lines}

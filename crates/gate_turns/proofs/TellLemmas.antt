@@ -267,6 +267,17 @@ found_device (dev.Spool n) small = record {
   text = ap (λ k. closing_text (closing.NotLost (dev.Spool k))) (decimal_value n small);
 }
 
+found_copy_lost : (d : Dev) → IsShortDevice d → Found (closing.CkptLost d)
+found_copy_lost dev.Ckpt1 small = record { known = words_of (closing_text (closing.CkptLost dev.Ckpt1)); words = refl; at = 44; there = omega arith; text = refl }
+found_copy_lost dev.Ckpt2 small = record { known = words_of (closing_text (closing.CkptLost dev.Ckpt2)); words = refl; at = 45; there = omega arith; text = refl }
+found_copy_lost (dev.Spool n) small = record {
+  known = codes "NO" ∷ codes "CKPT" ∷ codes "LOST" ∷ (codes "SPOOL" ++ decimal n) ∷ [];
+  words = ap (λ r. codes "NO" ∷ codes "CKPT" ∷ codes "LOST" ∷ r) (last_word (codes "SPOOL" ++ decimal n) (decimal_lacks n small));
+  at = 46;
+  there = omega arith;
+  text = ap (λ k. closing_text (closing.CkptLost (dev.Spool k))) (decimal_value n small);
+}
+
 found_line : (a b : ℕ) → a < 2 ^ 64 → b < 2 ^ 64 → Found (closing.Line a b)
 found_line a b small few = record {
   known = codes "OK" ∷ codes "SENT" ∷ decimal a ∷ codes "GOT" ∷ decimal b ∷ [];
@@ -393,6 +404,7 @@ found_all closing.PrinterLost tells small = record { known = words_of (closing_t
 found_all (closing.LineLost n) tells small = found_line_lost n small
 found_all (closing.NoText g) tells small = found_text g.0 small
 found_all (closing.NotLost d) tells small = found_device d small
+found_all (closing.CkptLost d) tells small = found_copy_lost d small
 found_all (closing.Line a b) tells small = found_line a b small.0 small.1
 
 -- LINES

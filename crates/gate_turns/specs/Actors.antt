@@ -1,11 +1,10 @@
 -- Who acts, and in whose pass.
-use Rattle.std.specs.Prelude.{◌≡◌, ◌⊎◌, ℕ, ◌<◌, ◌≤◌, ◌&&◌, nat_le, Bool, true, if◌then◌else◌, List, ◌∷◌, ◌++◌, All, Option, None}
+use Rattle.std.specs.Prelude.{◌≡◌, ◌⊎◌, ℕ, ◌&&◌, nat_le, Bool, true, if◌then◌else◌, List, All, None}
 use Rattle.mas_types.specs.declared.answers.Closing.{Closing}
 use Rattle.mas_types.specs.declared.commands.Command.{Command}
 use Rattle.mas_types.specs.declared.ids.MemberId.{MemberId}
 use Rattle.mas_types.specs.declared.journals.Entry.{Entry}
 use Rattle.mas_types.specs.Closings.{closing_line, detail_line}
-use Rattle.mas_types.specs.Shown.{member_word}
 use Rattle.spool_disk.specs.declared.plant.Act.{Act}
 use Rattle.spool_disk.specs.declared.plant.Part.TheVariants.{Console}
 use Rattle.spool_disk.specs.View.{View}
@@ -14,7 +13,6 @@ use Rattle.queue_laws.specs.Laws.{resets}
 use Rattle.lock_cycle.specs.Books.{Book, IsMember, after_seize, after_stop}
 use Rattle.gate_facts.specs.Values.{marked_at}
 use Rattle.gate_facts.specs.Memory.{MayGiveBack}
-use Rattle.mas_complex.specs.Journals.{in_flight}
 use Rattle.mas_complex.specs.Parts.{Shown}
 use Rattle.mas_complex.specs.Seen.{IsFatedBy}
 use Rattle.gate_turns.specs.Seats.{shows_stopped}

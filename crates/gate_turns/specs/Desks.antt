@@ -15,8 +15,8 @@ use Rattle.ckpt_copy.specs.Pages.{level, page_in}
 use Rattle.spool_volumes.specs.Volumes.{start_of}
 use Rattle.gate_facts.specs.declared.desks.Hold.{Hold}
 use Rattle.gate_facts.specs.declared.desks.Group.{Group}
-use Rattle.mas_complex.specs.declared.places.Place.{Place}
-use Rattle.mas_complex.specs.declared.places.Place.TheVariants.{Put, Opened}
+use Rattle.ckpt_places.specs.declared.places.Place.{Place}
+use Rattle.ckpt_places.specs.declared.places.Place.TheVariants.{Put, Opened}
 use Rattle.mas_complex.specs.Places.{is_opened}
 use Rattle.mas_complex.specs.Spool.{device_of}
 

@@ -7,6 +7,7 @@ pub mod Shared
 pub mod Turning
 pub mod Laws
 pub mod Losses
+pub mod Renewals
 pub mod Untouched
 pub mod Actors
 pub mod Busy

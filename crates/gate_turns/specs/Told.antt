@@ -70,6 +70,8 @@ closings_of ws =
     ∷ closing.NotLost (dev.Spool (value_of (drop 5 (word_at ws 3))))
     ∷ closing.Line (number_at_word ws 2) (number_at_word ws 4)
     ∷ map (closing.BadCard (number_at_word ws 3)) card_causes ++ map closing.Reply (replies_of ws)
+    ++ closing.CkptLost dev.Ckpt1 ∷ closing.CkptLost dev.Ckpt2
+    ∷ closing.CkptLost (dev.Spool (value_of (drop 5 (word_at ws 3)))) ∷ []
 
 -- the step, if the line is one with which that step of the member closes, told, and 0 else
 abbrev pub step_if : MemberId → ℕ → List (List ℕ) → List ℕ → ℕ
@@ -112,5 +114,6 @@ IsShort (closing.SpoolLost n) = n < 2 ^ 64
 IsShort (closing.LineLost n) = n < 2 ^ 64
 IsShort (closing.NoText g) = g.0 < 2 ^ 64
 IsShort (closing.NotLost d) = IsShortDevice d
+IsShort (closing.CkptLost d) = IsShortDevice d
 IsShort (closing.Line a b) = (a < 2 ^ 64) × (b < 2 ^ 64)
 IsShort _ = Unit {0}

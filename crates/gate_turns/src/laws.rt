@@ -12,6 +12,7 @@ ghost use Rattle.gate_turns.specs.Laws.{SeizesMayGoBack, SpendsMayGoBack, StopsM
 ghost use Rattle.gate_turns.specs.Laws.{TriesMayGoBack, UnsyncedAsTheyAre, WritesMayGoBack};
 ghost use Rattle.gate_turns.specs.Losses.{ArmsLeaveAllElse, FirstLossesMayGoBack, LossesAgainMayGoBack};
 ghost use Rattle.gate_turns.specs.Losses.{LossesLeaveDesks, LossesLeaveHistory, LossesSpareHolders};
+ghost use Rattle.gate_turns.specs.Renewals.{RenewalsLeaveCounts, RenewalsLeaveDesks, RenewalsLeaveHistory};
 ghost use Rattle.gate_turns.specs.Untouched.{BooksAreQuiet, CallsAreQuiet, FatesAreQuiet, GivesUpAreQuiet};
 ghost use Rattle.gate_turns.specs.Untouched.{KeepsBeginOwn, LogsBeginOwn, PrintsAreQuiet, ReservesAreQuiet};
 ghost use Rattle.gate_turns.specs.Untouched.{SaysChangeNamed, SpoolActsAreQuiet};
@@ -102,6 +103,15 @@ pub fn law_of_losses()
     ensures first { FirstLossesMayGoBack }
     ensures spared { LossesSpareHolders }
     ensures arms { ArmsLeaveAllElse }
+{}
+
+/// The replacement of a copy leaves the desk of each member but the one that replaces it, and what was kept, begun and
+/// said, whatever it answers. Of the marks it leaves the first moment, and the counts of lost devices and of armed stops.
+/// A copy that it formed counts as alive again: so only one who lends the value to nobody else may replace a copy.
+pub fn law_of_renewals()
+    ensures desks { RenewalsLeaveDesks }
+    ensures history { RenewalsLeaveHistory }
+    ensures counts { RenewalsLeaveCounts }
 {}
 
 /// No call but one that says a line changes the lines of a member. None but those that begin a batch changes the

@@ -12,7 +12,7 @@ mod turns;
 pub use laws::{
     examples_of_lines, law_of_beginnings, law_of_busy_things, law_of_copy_calls, law_of_fates,
     law_of_giving_back, law_of_groups, law_of_kept_batches, law_of_lines, law_of_lock_calls,
-    law_of_losses, law_of_prints, law_of_quiet_calls, law_of_told_steps,
+    law_of_losses, law_of_prints, law_of_quiet_calls, law_of_renewals, law_of_told_steps,
 };
 pub use one_hand::OneHand;
 pub use telling::Telling;

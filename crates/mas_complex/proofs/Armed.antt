@@ -25,6 +25,8 @@ module _ (S : Setting) (js : List Batch) (current : Option Batch) (reached : ℕ
     started = k.started;
     settled = k.settled;
     begun = k.begun;
+    renewed1 = k.renewed1;
+    renewed2 = k.renewed2;
     crash = k.crash;
     told = k.told;
     grows = k.grows;

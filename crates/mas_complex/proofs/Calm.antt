@@ -1,5 +1,5 @@
 -- Calls that act on both copies and leave the journal: a settle, and the read of a page.
-use Rattle.std.proofs.Common.{◌≡◌, ℕ, ◌≤◌, ◌<◌, Bool, true, false, List, ◌++◌, Option, Some, None, Result, Ok, Err, OnOk, IsErrOf, refl, subst, sym, ◌∙◌, ap, arith}
+use Rattle.std.proofs.Common.{◌≡◌, ℕ, ◌≤◌, ◌<◌, Bool, true, false, List, ◌++◌, Option, Some, None, Result, Ok, Err, OnOk, IsErrOf, refl, subst, sym, ◌∙◌, arith}
 use Rattle.mas_types.specs.declared.ids.Dev.{Dev}
 use Rattle.mas_types.specs.declared.ids.Dev.TheVariants.{Ckpt1, Ckpt2, Spool}
 use Rattle.mas_types.specs.declared.journals.Batch.{Batch}
@@ -12,13 +12,15 @@ use Rattle.duplex_pair.specs.declared.errors.PairNo.{PairNo}
 use Rattle.duplex_pair.specs.declared.errors.PairNo.TheVariants.{BothLost, Halted}
 use Rattle.duplex_pair.specs.Halves.{IsGone}
 use Rattle.duplex_pair.specs.Both.{BothMeanwhile, Touched}
-use Rattle.mas_complex.specs.declared.places.Place.{Place}
-use Rattle.mas_complex.specs.declared.places.Place.TheVariants.{Before, Put, Opened, Unsure}
+use Rattle.ckpt_places.specs.declared.places.Place.{Place}
+use Rattle.ckpt_places.specs.declared.places.Place.TheVariants.{Before, Put, Opened, Unsure}
 use Rattle.mas_complex.specs.Places.{IsPlaceAfter}
 use Rattle.mas_complex.specs.Journals.{in_flight, kept_all, entries_in}
 use Rattle.mas_complex.proofs.Texting.{stays_same}
-use Rattle.mas_complex.specs.Crash.{Setting, ReadsOne, OnComing, IsAt, OneCopy, Copy, CopyAt, Keeps}
-use Rattle.mas_complex.proofs.Present.{all_read, lost_reads, copy_reads}
+use Rattle.mas_complex.specs.Renewals.{is_open, of_device}
+use Rattle.mas_complex.specs.Crash.{Setting, ReadsOne, ReadsBy, OnComing, IsAt, IsAway, OneCopy, Copy, CopyAt, Keeps}
+use Rattle.mas_complex.proofs.Present.{all_read, not_renewed, away_lost, away_moved, away_same, away_reads, copy_reads}
+use Rattle.mas_complex.proofs.Passing.{passes_of}
 use Rattle.mas_complex.proofs.Moves.{acts_keep}
 use Rattle.mas_complex.proofs.Sides.{calm, no}
 
@@ -27,18 +29,18 @@ some_is x y e = cc
 
 module _ (S : Setting) (js : List Batch) (c : Option Batch) (reached : ℕ) (first second first' second' : Copy) (old new : View) (P Q : Disk → Type 0) where
   pub both_keep : (keeps : Keeps S js c reached first second old) → BothMeanwhile P Q old new
-      → (old.now < top → (d : Disk) → P d → ReadsOne S keeps.was keeps.coming d) → (old.now < top → (d : Disk) → Q d → ReadsOne S keeps.was keeps.coming d)
-      → CopyAt S keeps.was keeps.coming first' new.now (disk_now new Ckpt1) → CopyAt S keeps.was keeps.coming second' new.now (disk_now new Ckpt2)
+      → (old.now < top → (d : Disk) → P d → ReadsBy S (is_open S.renewals.first) keeps.was keeps.coming d) → (old.now < top → (d : Disk) → Q d → ReadsBy S (is_open S.renewals.second) keeps.was keeps.coming d)
+      → CopyAt S keeps.was keeps.coming Ckpt1 first' new.now (disk_now new Ckpt1) → CopyAt S keeps.was keeps.coming Ckpt2 second' new.now (disk_now new Ckpt2)
       → Keeps S js c reached first' second' new
   both_keep keeps m one two x y =
-      acts_keep S js c reached first second first' second' old new keeps m.goes keeps.coming keeps.comes keeps.none keeps.comes_near
+      acts_keep S js c reached first second first' second' old new keeps (passes_of old new m.goes) keeps.coming keeps.comes keeps.none keeps.comes_near
       (λ t lt le below. (one (omega arith) (disk_at new t Ckpt1) (m.first t (omega arith) le), two (omega arith) (disk_at new t Ckpt2) (m.second t (omega arith) le)))
       (calm S (js ++ in_flight c) old new m.console m.goes.later)
       (stays_same S (kept_all js) (entries_in c) old new (λ t lt le n. m.others t (omega arith) le (Spool n) (λ e. absurd (cc)) (λ e. absurd (cc)))) x y
 
 -- a copy before any batch reads the kept pages, at a settle
 module _ (S : Setting) (kept : List ℕ) (coming : Option (List ℕ)) (dev : Dev) (old new : View) (rests rests' : List ℕ → Disk → Type 0) (holds holds' : List ℕ → List ℕ → Disk → Type 0) (place place' : Place) (alive alive' : Bool) (pages : List ℕ)
-    (copy : OneCopy S rests holds kept coming place alive old.now (disk_now old dev)) (before : alive ≡ true → place ≡ Before)
+    (copy : OneCopy S rests holds kept coming place alive (is_open (of_device dev S.renewals)) old.now (disk_now old dev)) (before : alive ≡ true → place ≡ Before)
     (rests_now : (was : List ℕ) (d : Disk) → rests was d → S.reads d.bytes ≡ Some was) (reads : alive ≡ true → S.reads (disk_now old dev).bytes ≡ Some pages) where
   at_rest : alive ≡ true → rests kept (disk_now old dev)
   at_rest is = subst (λ (x : Place). IsAt S rests holds kept coming x (disk_now old dev)) (before is) (copy.at is)
@@ -52,11 +54,11 @@ module _ (S : Setting) (kept : List ℕ) (coming : Option (List ℕ)) (dev : Dev
   all_reads : alive ≡ true → (d : Disk) → AllRead S.reads pages d → ReadsOne S kept coming d
   all_reads is d all = all_read S kept coming d (subst (λ (l : List ℕ). AllRead S.reads l d) (sym (settle_same is)) all)
 
-  touched_reads : old.now < top → (b : Bool) → alive ≡ b → (d : Disk) → Touched b (AllRead S.reads pages) (disk_now old dev) d → ReadsOne S kept coming d
-  touched_reads lt true is d all = all_reads is d all
-  touched_reads lt false is d e = subst (λ (x : Disk). ReadsOne S kept coming x) (sym e) (lost_reads S kept coming (disk_now old dev) (copy.gone is lt))
+  touched_reads : old.now < top → (b : Bool) → alive ≡ b → (d : Disk) → Touched b (AllRead S.reads pages) (disk_now old dev) d → ReadsBy S (is_open (of_device dev S.renewals)) kept coming d
+  touched_reads lt true is d all = not_renewed S kept (is_open (of_device dev S.renewals)) coming d (copy.formed is) (all_reads is d all)
+  touched_reads lt false is d e = subst (λ (x : Disk). ReadsBy S (is_open (of_device dev S.renewals)) kept coming x) (sym e) (away_reads S kept (is_open (of_device dev S.renewals)) coming old.now (disk_now old dev) lt (copy.gone is))
 
-  pub settle_reads : old.now < top → (d : Disk) → Touched alive (AllRead S.reads pages) (disk_now old dev) d → ReadsOne S kept coming d
+  pub settle_reads : old.now < top → (d : Disk) → Touched alive (AllRead S.reads pages) (disk_now old dev) d → ReadsBy S (is_open (of_device dev S.renewals)) kept coming d
   settle_reads lt d t = touched_reads lt alive refl d t
 
   module _ {T : Type 0} (done : Result T PairNo) (stays : alive' ≡ true → alive ≡ true) (le : old.now ≤ new.now) (touched : Touched alive (AllRead S.reads pages) (disk_now old dev) (disk_now new dev))
@@ -71,18 +73,19 @@ module _ (S : Setting) (kept : List ℕ) (coming : Option (List ℕ)) (dev : Dev
       all : alive ≡ true → AllRead S.reads pages (disk_now new dev)
       all e = subst (λ (b : Bool). Touched b (AllRead S.reads pages) (disk_now old dev) (disk_now new dev)) e touched
 
-    by_alive : (b : Bool) → alive ≡ b → alive' ≡ false → new.now < top → (disk_now new dev).lost ≡ true
-    by_alive true is dead lt = gone is dead lt
-    by_alive false is dead lt = ap (λ (d : Disk). d.lost) (subst (λ (b : Bool). Touched b (AllRead S.reads pages) (disk_now old dev) (disk_now new dev)) is touched) ∙ copy.gone is (omega (arith, le, lt))
+    by_alive : (b : Bool) → alive ≡ b → alive' ≡ false → IsAway S kept (is_open (of_device dev S.renewals)) new.now (disk_now new dev)
+    by_alive true is dead = away_lost S kept (is_open (of_device dev S.renewals)) new.now (disk_now new dev) (copy.formed is) (gone is dead)
+    by_alive false is dead = away_same S kept (is_open (of_device dev S.renewals)) old.now new.now (disk_now old dev) (disk_now new dev) le
+        (subst (λ (b : Bool). Touched b (AllRead S.reads pages) (disk_now old dev) (disk_now new dev)) is touched) (copy.gone is)
 
-    pub settle_copy : OneCopy S rests' holds' kept coming place' alive' new.now (disk_now new dev)
-    settle_copy = record { at = λ now. by_done (stays now) now done settled both after; gone = λ dead. by_alive alive refl dead }
+    pub settle_copy : OneCopy S rests' holds' kept coming place' alive' (is_open (of_device dev S.renewals)) new.now (disk_now new dev)
+    settle_copy = record { at = λ now. by_done (stays now) now done settled both after; formed = λ now. copy.formed (stays now); gone = λ dead. by_alive alive refl dead }
 
 -- a copy of which nothing but a page was read
 module _ (S : Setting) (was : List ℕ) (coming : Option (List ℕ)) (dev : Dev) (old new : View) (rests : List ℕ → Disk → Type 0) (holds : List ℕ → List ℕ → Disk → Type 0) (place : Place) (alive alive' : Bool)
-    (copy : OneCopy S rests holds was coming place alive old.now (disk_now old dev)) where
+    (copy : OneCopy S rests holds was coming place alive (is_open (of_device dev S.renewals)) old.now (disk_now old dev)) where
   pub more_reads : ((pages : List ℕ) (d : Disk) → rests pages d → AllRead S.reads pages d) → ((was next : List ℕ) (d : Disk) → holds was next d → AllRead S.reads was d)
-      → old.now < top → (d : Disk) → NoMore (disk_now old dev) d → ReadsOne S was coming d
+      → old.now < top → (d : Disk) → NoMore (disk_now old dev) d → ReadsBy S (is_open (of_device dev S.renewals)) was coming d
   more_reads rests_reads holds_reads lt d more image is =
       copy_reads S was rests holds rests_reads holds_reads coming place alive old.now (disk_now old dev) lt copy image (no_more_image (disk_now old dev) d image more is)
 
@@ -102,9 +105,10 @@ module _ (S : Setting) (was : List ℕ) (coming : Option (List ℕ)) (dev : Dev)
     lost_stays true e was = refl
     lost_stays false e was = absurd (no (disk_now old dev).lost was (more.there e))
 
-    by_was : (b : Bool) → alive ≡ b → IsGone dev alive alive' new → old.now ≤ new.now → alive' ≡ false → new.now < top → (disk_now new dev).lost ≡ true
-    by_was true is gone le dead lt = gone is dead lt
-    by_was false is gone le dead lt = lost_stays (disk_now new dev).lost refl (copy.gone is (omega (arith, le, lt)))
+    by_was : (b : Bool) → alive ≡ b → IsGone dev alive alive' new → old.now ≤ new.now → alive' ≡ false → IsAway S was (is_open (of_device dev S.renewals)) new.now (disk_now new dev)
+    by_was true is gone le dead = away_lost S was (is_open (of_device dev S.renewals)) new.now (disk_now new dev) (copy.formed is) (gone is dead)
+    by_was false is gone le dead = away_moved S was (is_open (of_device dev S.renewals)) old.now new.now (disk_now old dev) (disk_now new dev) le
+        (λ lost. lost_stays (disk_now new dev).lost refl lost) (λ image im. no_more_image (disk_now old dev) (disk_now new dev) image more im) (copy.gone is)
 
-    pub read_copy : (alive' ≡ true → alive ≡ true) → old.now ≤ new.now → IsGone dev alive alive' new → OneCopy S rests holds was coming place alive' new.now (disk_now new dev)
-    read_copy stays le gone = record { at = λ now. stays_side place (copy.at (stays now)); gone = λ dead. by_was alive refl gone le dead }
+    pub read_copy : (alive' ≡ true → alive ≡ true) → old.now ≤ new.now → IsGone dev alive alive' new → OneCopy S rests holds was coming place alive' (is_open (of_device dev S.renewals)) new.now (disk_now new dev)
+    read_copy stays le gone = record { at = λ now. stays_side place (copy.at (stays now)); formed = λ now. copy.formed (stays now); gone = λ dead. by_was alive refl gone le dead }

@@ -7,8 +7,8 @@ use Rattle.mas_types.specs.declared.queues.Queue.{Queue}
 use Rattle.mas_types.specs.declared.journals.Entry.{Entry}
 use Rattle.ckpt_copy.specs.Pages.{bytes_of, level}
 use Rattle.duplex_pair.specs.Halves.{IsCkpt, other}
-use Rattle.mas_complex.specs.declared.places.Place.{Place}
-use Rattle.mas_complex.specs.declared.places.Place.TheVariants.{Before, Opened}
+use Rattle.ckpt_places.specs.declared.places.Place.{Place}
+use Rattle.ckpt_places.specs.declared.places.Place.TheVariants.{Before, Opened}
 use Rattle.mas_complex.specs.Places.{IsAtLevel}
 use Rattle.mas_complex.specs.Seen.{OneSeen, Stays, Agrees, IsNextOr, DiffersAtFound}
 

@@ -32,6 +32,10 @@ dev21 e = absurd (cc)
 disk_dev : (d e : Dev) → DiskPart d ≡ DiskPart e → d ≡ e
 disk_dev d e same = cc
 
+-- a volume is no copy
+volume_apart : (n : ℕ) (dev : Dev) → Spool n ≢ dev → DiskPart (Spool n) ≢ DiskPart dev
+volume_apart n dev ne same = ne (disk_dev (Spool n) dev same)
+
 -- a copy was lost once more, or its count is the greatest
 more : (was is : Bool) (before after : ℕ) → was ≡ true → is ≡ false → after ≡ next before → before ≤ top → IsLostOnce was is before after
 more was is before after alive dead counted small = ⊎_elim (λ late. inl (omega (arith, counted, small, late))) (λ below. inr (alive, dead, omega (arith, counted, below))) (either_way top before)
@@ -95,6 +99,8 @@ counts_none by a b v = record {
   device1 = untouched Ckpt1 a a v v refl refl;
   device2 = untouched Ckpt2 b b v v refl refl;
   else_loses = λ d one two. refl;
+  volumes_lost = λ n. refl;
+  volumes_faults = λ n. refl;
 }
 
 pub counts_then : (by : ℕ) (a a1 a2 b b1 b2 stopped : Bool) (old mid new : View) → KeepsCounts by a a1 b b1 false old mid → KeepsCounts by a1 a2 b1 b2 stopped mid new → KeepsCounts by a a2 b b2 stopped old new
@@ -111,6 +117,8 @@ counts_then by a a1 a2 b b1 b2 stopped old mid new x y = record {
   device1 = untouched_then Ckpt1 a a1 a2 old mid new y.goes y.alive1 x.device1 y.device1;
   device2 = untouched_then Ckpt2 b b1 b2 old mid new y.goes y.alive2 x.device2 y.device2;
   else_loses = λ d one two. y.else_loses d one two ∙ x.else_loses d one two;
+  volumes_lost = λ n. y.volumes_lost n ∙ x.volumes_lost n;
+  volumes_faults = λ n. y.volumes_faults n ∙ x.volumes_faults n;
 }
 
 -- acts on one copy, or on both
@@ -128,6 +136,8 @@ counts_first by a a' b b' stopped old new same acted = record {
   device1 = ((λ is there. acted.else_lost (DiskPart Ckpt1) (inr (is ∙ sym (acted.alive is))) ∙ there), acted.is_lost);
   device2 = untouched Ckpt2 b b' old new same (acted.else_lost (DiskPart Ckpt2) (inl ne21));
   else_loses = λ d one two. acted.loses d;
+  volumes_lost = λ n. acted.else_lost (DiskPart (Spool n)) (inl (volume_apart n Ckpt1 (λ e. absurd (cc))));
+  volumes_faults = λ n. acted.else_faults (DiskPart (Spool n)) (inl (volume_apart n Ckpt1 (λ e. absurd (cc))));
 }
 
 pub counts_second : (by : ℕ) (a a' b b' stopped : Bool) (old new : View) → a' ≡ a → Acted by Ckpt2 b b' stopped old new → KeepsCounts by a a' b b' stopped old new
@@ -144,6 +154,8 @@ counts_second by a a' b b' stopped old new same acted = record {
   device1 = untouched Ckpt1 a a' old new same (acted.else_lost (DiskPart Ckpt1) (inl ne12));
   device2 = ((λ is there. acted.else_lost (DiskPart Ckpt2) (inr (is ∙ sym (acted.alive is))) ∙ there), acted.is_lost);
   else_loses = λ d one two. acted.loses d;
+  volumes_lost = λ n. acted.else_lost (DiskPart (Spool n)) (inl (volume_apart n Ckpt2 (λ e. absurd (cc))));
+  volumes_faults = λ n. acted.else_faults (DiskPart (Spool n)) (inl (volume_apart n Ckpt2 (λ e. absurd (cc))));
 }
 
 -- on the copy of one device
@@ -167,6 +179,8 @@ counts_both by a a' b b' stopped old new acted = record {
   device1 = ((λ is there. acted.else_lost (DiskPart Ckpt1) (inr (is ∙ sym (acted.alive1 is))) (inl ne12) ∙ there), acted.is_lost1);
   device2 = ((λ is there. acted.else_lost (DiskPart Ckpt2) (inl ne21) (inr (is ∙ sym (acted.alive2 is))) ∙ there), acted.is_lost2);
   else_loses = λ d one two. acted.loses d;
+  volumes_lost = λ n. acted.else_lost (DiskPart (Spool n)) (inl (volume_apart n Ckpt1 (λ e. absurd (cc)))) (inl (volume_apart n Ckpt2 (λ e. absurd (cc))));
+  volumes_faults = λ n. acted.else_faults (DiskPart (Spool n)) (inl (volume_apart n Ckpt1 (λ e. absurd (cc)))) (inl (volume_apart n Ckpt2 (λ e. absurd (cc))));
 }
 
 -- a copy that counted as alive is lost by a call
@@ -186,6 +200,8 @@ module _ {H : Type 0} (alive : H → Bool) (one two one' two' : H) (by : ℕ) (o
     device1 = ((λ is there. absurd (not_both (alive one') is dead)), λ was is. loses.is_lost);
     device2 = untouched Ckpt2 (alive two) (alive two') old new (ap alive same) (loses.else_lost (DiskPart Ckpt2) ne21);
     else_loses = λ d first second. loses.else_counted d (λ e. first (disk_dev d Ckpt1 e));
+    volumes_lost = λ n. loses.else_lost (DiskPart (Spool n)) (volume_apart n Ckpt1 (λ e. absurd (cc)));
+    volumes_faults = λ n. loses.faults (DiskPart (Spool n));
   }
   counts_lost Ckpt2 ckpt was dead same loses = record {
     goes = loses.goes;
@@ -200,6 +216,8 @@ module _ {H : Type 0} (alive : H → Bool) (one two one' two' : H) (by : ℕ) (o
     device1 = untouched Ckpt1 (alive one) (alive one') old new (ap alive same) (loses.else_lost (DiskPart Ckpt1) ne12);
     device2 = ((λ is there. absurd (not_both (alive two') is dead)), λ was is. loses.is_lost);
     else_loses = λ d first second. loses.else_counted d (λ e. second (disk_dev d Ckpt2 e));
+    volumes_lost = λ n. loses.else_lost (DiskPart (Spool n)) (volume_apart n Ckpt2 (λ e. absurd (cc)));
+    volumes_faults = λ n. loses.faults (DiskPart (Spool n));
   }
   counts_lost (Spool n) ckpt was dead same loses = absurd ckpt
 

@@ -31,7 +31,10 @@ use Rattle.mas_complex.proofs.Present.{alike_as, alike_found, top_reads}
 use Rattle.mas_complex.proofs.Moves.{unplace_keeps}
 use Rattle.mas_complex.proofs.Rising.{kept_append, less_up, one_up}
 use Rattle.mas_complex.specs.Meaning.{Closes, run, StandFor}
-use Rattle.mas_complex.specs.Crash.{Setting, setting, Stands, IsNext, Alike, Copy, Keeps, IsFound, IsAfter, EachTells, said, found, lost_if, left_at, IsLeft, ReadsUpTo}
+use Rattle.mas_complex.specs.declared.renewals.Renewals.{Renewals}
+use Rattle.mas_complex.specs.Renewals.{is_renewed_at, is_open}
+use Rattle.mas_complex.proofs.Renewed.{renewed_open}
+use Rattle.mas_complex.specs.Crash.{Setting, setting_with, Stands, IsNext, Alike, Copy, Keeps, IsFound, IsAfter, EachTells, said, found, lost_if, left_at, IsLeft, ReadsBy, ReadsUpTo}
 use Rattle.mas_complex.specs.Paper.{PaperKept}
 use Rattle.mas_complex.specs.Headline.{AreAlike, AreAlwaysAlike, AreLevelsLow, AreTextsLeft, AreToldKept, FoundFor, Headline, IsAfterKept, IsCrashSafe, whole}
 
@@ -77,16 +80,16 @@ image_left false false disk None there sunk left = absurd (true≢false (sym (su
 image_left false false disk (Some image) there sunk left = left
 
 -- what is handed out, except what stands on paper
-pub record Parts (reads : List ℕ → Option (List ℕ)) (base : Queue) (since : ℕ) (J : Journal) (v : View) : Type 0 where
-  pub crash : IsCrashSafe reads base J since v
-  pub alike : AreAlwaysAlike reads base J since v
+pub record Parts (reads : List ℕ → Option (List ℕ)) (base : Queue) (since : ℕ) (J : Journal) (rs : Renewals) (v : View) : Type 0 where
+  pub crash : IsCrashSafe reads base J rs since v
+  pub alike : AreAlwaysAlike reads base J rs since v
   pub texts : AreTextsLeft base since J v
   pub told : AreToldKept J since v
-  pub levels : AreLevelsLow reads since J v
+  pub levels : AreLevelsLow reads since J rs v
 
-module _ (reads : List ℕ → Option (List ℕ)) (base : Queue) (since : ℕ) (js : List Batch) (c : Option Batch) (reached : ℕ) (first second : Copy) (v : View) where
+module _ (reads : List ℕ → Option (List ℕ)) (base : Queue) (since : ℕ) (rs : Renewals) (js : List Batch) (c : Option Batch) (reached : ℕ) (first second : Copy) (v : View) where
   abbrev S : Setting
-  S = setting reads base since
+  S = setting_with reads base since rs
 
   found_for : (E G : List Entry) → E ≡ G → (q : Option (List ℕ)) → IsFound S E q → FoundFor (run base G) q
   found_for E G e None is = is
@@ -99,14 +102,14 @@ module _ (reads : List ℕ → Option (List ℕ)) (base : Queue) (since : ℕ) (
       (ap (λ (l : List Entry). l ++ flying (js ++ in_flight c) t) (kept_is (js ++ in_flight c) t) ∙ ap (λ (l : List Entry). kept_at (record { batches = js ++ in_flight c }) t ++ l) (flying_is (js ++ in_flight c) t)) q x))
       after
 
-  are_alike : (t : ℕ) → Alike S (kept (js ++ in_flight c) t) (flying (js ++ in_flight c) t) (left_at v t Ckpt1) (left_at v t Ckpt2) → AreAlike reads base (record { batches = js ++ in_flight c }) t (left_at v t Ckpt1) (left_at v t Ckpt2)
-  are_alike t alike = of_same (subst (λ (l : List Entry). Alike S (kept_at (record { batches = js ++ in_flight c }) t) l (left_at v t Ckpt1) (left_at v t Ckpt2)) (flying_is (js ++ in_flight c) t)
-      (subst (λ (l : List Entry). Alike S l (flying (js ++ in_flight c) t) (left_at v t Ckpt1) (left_at v t Ckpt2)) (kept_is (js ++ in_flight c) t) alike)) where
+  are_alike : (t : ℕ) → Alike S (kept (js ++ in_flight c) t) (flying (js ++ in_flight c) t) t (left_at v t Ckpt1) (left_at v t Ckpt2) → AreAlike reads base (record { batches = js ++ in_flight c }) rs t (left_at v t Ckpt1) (left_at v t Ckpt2)
+  are_alike t alike = of_same (subst (λ (l : List Entry). Alike S (kept_at (record { batches = js ++ in_flight c }) t) l t (left_at v t Ckpt1) (left_at v t Ckpt2)) (flying_is (js ++ in_flight c) t)
+      (subst (λ (l : List Entry). Alike S l (flying (js ++ in_flight c) t) t (left_at v t Ckpt1) (left_at v t Ckpt2)) (kept_is (js ++ in_flight c) t) alike)) where
         next_of : (l : ℕ) (was : List ℕ) (K F : List Entry) (n : Option (List ℕ)) → Stands S l K was → IsNext S l K F n → IfSome n (λ pages. (level pages ≡ level was + 1) × StandFor (run base (K ++ F)) pages)
         next_of l was K F None stands comes = tt
         next_of l was K F (Some pages) stands comes = (omega (arith, stands.at_level, comes.at_level), comes.queue)
 
-        of_same : Alike S (kept_at (record { batches = js ++ in_flight c }) t) (flying_at (record { batches = js ++ in_flight c }) t) (left_at v t Ckpt1) (left_at v t Ckpt2) → AreAlike reads base (record { batches = js ++ in_flight c }) t (left_at v t Ckpt1) (left_at v t Ckpt2)
+        of_same : Alike S (kept_at (record { batches = js ++ in_flight c }) t) (flying_at (record { batches = js ++ in_flight c }) t) t (left_at v t Ckpt1) (left_at v t Ckpt2) → AreAlike reads base (record { batches = js ++ in_flight c }) rs t (left_at v t Ckpt1) (left_at v t Ckpt2)
         of_same a = record {
           was = a.was;
           coming = a.coming;
@@ -117,10 +120,18 @@ module _ (reads : List ℕ → Option (List ℕ)) (base : Queue) (since : ℕ) (
           second = a.second;
         }
 
-  module _ (keeps : Keeps S js c reached first second v) (most : v.now ≤ top) (lost1 : first.alive ≡ false → v.lost (DiskPart Ckpt1) ≡ true) (lost2 : second.alive ≡ false → v.lost (DiskPart Ckpt2) ≡ true)
+  module _ (keeps : Keeps S js c reached first second v) (most : v.now ≤ top) (lost1 : first.alive ≡ false → is_open rs.first ≡ false → v.lost (DiskPart Ckpt1) ≡ true) (lost2 : second.alive ≡ false → is_open rs.second ≡ false → v.lost (DiskPart Ckpt2) ≡ true)
       (rests_reads1 : (pages : List ℕ) (d : Disk) → first.rests pages d → AllRead reads pages d) (holds_reads1 : (was next : List ℕ) (d : Disk) → first.holds was next d → AllRead reads was d)
       (rests_reads2 : (pages : List ℕ) (d : Disk) → second.rests pages d → AllRead reads pages d) (holds_reads2 : (was next : List ℕ) (d : Disk) → second.holds was next d → AllRead reads was d) where
-    at_top : v.now ≡ top → Alike S (kept (js ++ in_flight c) v.now) (flying (js ++ in_flight c) v.now) (left_at v v.now Ckpt1) (left_at v v.now Ckpt2)
+    first_at_top : v.now ≡ top → ReadsBy S (is_renewed_at rs.first v.now) keeps.was keeps.coming (left_at v v.now Ckpt1)
+    first_at_top last = subst (λ (b : Bool). ReadsBy S b keeps.was keeps.coming (left_at v v.now Ckpt1)) (sym (renewed_open rs.first v.now v.now keeps.renewed1 (omega arith)))
+        (top_reads S keeps.was first.rests first.holds rests_reads1 holds_reads1 keeps.coming first.place first.alive Ckpt1 v last keeps.first_at lost1)
+
+    second_at_top : v.now ≡ top → ReadsBy S (is_renewed_at rs.second v.now) keeps.was keeps.coming (left_at v v.now Ckpt2)
+    second_at_top last = subst (λ (b : Bool). ReadsBy S b keeps.was keeps.coming (left_at v v.now Ckpt2)) (sym (renewed_open rs.second v.now v.now keeps.renewed2 (omega arith)))
+        (top_reads S keeps.was second.rests second.holds rests_reads2 holds_reads2 keeps.coming second.place second.alive Ckpt2 v last keeps.second_at lost2)
+
+    at_top : v.now ≡ top → Alike S (kept (js ++ in_flight c) v.now) (flying (js ++ in_flight c) v.now) v.now (left_at v v.now Ckpt1) (left_at v v.now Ckpt2)
     at_top last = alike_as S (kept_all js) (entries_in c) (kept (js ++ in_flight c) v.now) (flying (js ++ in_flight c) v.now) (left_at v v.now Ckpt1) (left_at v v.now Ckpt2)
         (now_kept js c v.now v.now keeps.settled keeps.begun (omega arith)) (now_flying js c v.now v.now keeps.settled keeps.begun (omega arith))
         (record {
@@ -130,41 +141,47 @@ module _ (reads : List ℕ → Option (List ℕ)) (base : Queue) (since : ℕ) (
           stands = keeps.stands;
           comes = keeps.comes;
           none = keeps.none;
-          first = top_reads S keeps.was first.rests first.holds rests_reads1 holds_reads1 keeps.coming first.place first.alive Ckpt1 v last keeps.first_at lost1;
-          second = top_reads S keeps.was second.rests second.holds rests_reads2 holds_reads2 keeps.coming second.place second.alive Ckpt2 v last keeps.second_at lost2;
+          first = first_at_top last;
+          second = second_at_top last;
         })
 
-    at_any : (t : ℕ) → since ≤ t → t ≤ v.now → Alike S (kept (js ++ in_flight c) t) (flying (js ++ in_flight c) t) (left_at v t Ckpt1) (left_at v t Ckpt2)
+    at_any : (t : ℕ) → since ≤ t → t ≤ v.now → Alike S (kept (js ++ in_flight c) t) (flying (js ++ in_flight c) t) t (left_at v t Ckpt1) (left_at v t Ckpt2)
     at_any t from le = ⊎_elim
         (λ h. let last : v.now ≡ top = omega (arith, most, le, h) in let e : v.now ≡ t = omega (arith, most, le, h) in
-        subst (λ (m : ℕ). Alike S (kept (js ++ in_flight c) m) (flying (js ++ in_flight c) m) (left_at v m Ckpt1) (left_at v m Ckpt2)) e (at_top last))
-        (λ lt. subst (λ (d : Disk). Alike S (kept (js ++ in_flight c) t) (flying (js ++ in_flight c) t) d (left_at v t Ckpt2)) (sym (left_below v t Ckpt1 lt))
-        (subst (λ (d : Disk). Alike S (kept (js ++ in_flight c) t) (flying (js ++ in_flight c) t) (disk_at v t Ckpt1) d) (sym (left_below v t Ckpt2 lt)) (keeps.crash t from le lt)))
+        subst (λ (m : ℕ). Alike S (kept (js ++ in_flight c) m) (flying (js ++ in_flight c) m) m (left_at v m Ckpt1) (left_at v m Ckpt2)) e (at_top last))
+        (λ lt. subst (λ (d : Disk). Alike S (kept (js ++ in_flight c) t) (flying (js ++ in_flight c) t) t d (left_at v t Ckpt2)) (sym (left_below v t Ckpt1 lt))
+        (subst (λ (d : Disk). Alike S (kept (js ++ in_flight c) t) (flying (js ++ in_flight c) t) t (disk_at v t Ckpt1) d) (sym (left_below v t Ckpt2 lt)) (keeps.crash t from le lt)))
         (either_way top t)
 
-    up_to : (t : ℕ) → since ≤ t → t ≤ v.now → ReadsUpTo reads keeps.first_level keeps.first_order (reached + 1) (left_at v t Ckpt1) × ReadsUpTo reads keeps.first_level keeps.first_order (reached + 1) (left_at v t Ckpt2)
+    -- the levels that images of a copy that isn't being replaced have at a moment
+    abbrev UpTo : ℕ → Type 0
+    UpTo t = (is_renewed_at rs.first t ≡ false → ReadsUpTo reads keeps.first_level keeps.first_order (reached + 1) (left_at v t Ckpt1)) × (is_renewed_at rs.second t ≡ false → ReadsUpTo reads keeps.first_level keeps.first_order (reached + 1) (left_at v t Ckpt2))
+
+    up_to_top : v.now ≡ top → UpTo v.now
+    up_to_top last = (
+      λ is. one_up S reached (kept_all js) (entries_in c) keeps.was keeps.coming keeps.stands keeps.comes keeps.first_level keeps.first_order keeps.near keeps.comes_near (left_at v v.now Ckpt1)
+          (subst (λ (b : Bool). ReadsBy S b keeps.was keeps.coming (left_at v v.now Ckpt1)) is (first_at_top last)),
+      λ is. one_up S reached (kept_all js) (entries_in c) keeps.was keeps.coming keeps.stands keeps.comes keeps.first_level keeps.first_order keeps.near keeps.comes_near (left_at v v.now Ckpt2)
+          (subst (λ (b : Bool). ReadsBy S b keeps.was keeps.coming (left_at v v.now Ckpt2)) is (second_at_top last)),
+    )
+
+    up_to : (t : ℕ) → since ≤ t → t ≤ v.now → UpTo t
     up_to t from le = ⊎_elim
-        (λ h. let last : v.now ≡ top = omega (arith, most, le, h) in let e : v.now ≡ t = omega (arith, most, le, h) in
-        subst (λ (m : ℕ). ReadsUpTo reads keeps.first_level keeps.first_order (reached + 1) (left_at v m Ckpt1) × ReadsUpTo reads keeps.first_level keeps.first_order (reached + 1) (left_at v m Ckpt2)) e (
-          one_up S reached (kept_all js) (entries_in c) keeps.was keeps.coming keeps.stands keeps.comes keeps.first_level keeps.first_order keeps.near keeps.comes_near (left_at v v.now Ckpt1)
-              (top_reads S keeps.was first.rests first.holds rests_reads1 holds_reads1 keeps.coming first.place first.alive Ckpt1 v last keeps.first_at lost1),
-          one_up S reached (kept_all js) (entries_in c) keeps.was keeps.coming keeps.stands keeps.comes keeps.first_level keeps.first_order keeps.near keeps.comes_near (left_at v v.now Ckpt2)
-              (top_reads S keeps.was second.rests second.holds rests_reads2 holds_reads2 keeps.coming second.place second.alive Ckpt2 v last keeps.second_at lost2),
-        ))
+        (λ h. let last : v.now ≡ top = omega (arith, most, le, h) in let e : v.now ≡ t = omega (arith, most, le, h) in subst UpTo e (up_to_top last))
         (λ lt. (
-          subst (λ (d : Disk). ReadsUpTo reads keeps.first_level keeps.first_order (reached + 1) d) (sym (left_below v t Ckpt1 lt)) (keeps.rises.most1 t from le lt),
-          subst (λ (d : Disk). ReadsUpTo reads keeps.first_level keeps.first_order (reached + 1) d) (sym (left_below v t Ckpt2 lt)) (keeps.rises.most2 t from le lt),
+          λ is. subst (λ (d : Disk). ReadsUpTo reads keeps.first_level keeps.first_order (reached + 1) d) (sym (left_below v t Ckpt1 lt)) (keeps.rises.most1 t from le lt is),
+          λ is. subst (λ (d : Disk). ReadsUpTo reads keeps.first_level keeps.first_order (reached + 1) d) (sym (left_below v t Ckpt2 lt)) (keeps.rises.most2 t from le lt is),
         ))
         (either_way top t)
 
-    levels_of : AreLevelsLow reads since (record { batches = js ++ in_flight c }) v
+    levels_of : AreLevelsLow reads since (record { batches = js ++ in_flight c }) rs v
     levels_of = record {
       first_level = keeps.first_level;
       first_order = keeps.first_order;
       first1 = keeps.rises.first1;
       first2 = keeps.rises.first2;
-      most1 = λ t from le. less_up reads keeps.first_level keeps.first_order (reached + 1) most_level low (left_at v t Ckpt1) (up_to t from le).0;
-      most2 = λ t from le. less_up reads keeps.first_level keeps.first_order (reached + 1) most_level low (left_at v t Ckpt2) (up_to t from le).1;
+      most1 = λ t from le is. less_up reads keeps.first_level keeps.first_order (reached + 1) most_level low (left_at v t Ckpt1) ((up_to t from le).0 is);
+      most2 = λ t from le is. less_up reads keeps.first_level keeps.first_order (reached + 1) most_level low (left_at v t Ckpt2) ((up_to t from le).1 is);
     } where
       most_level : ℕ
       most_level = keeps.first_level + batches_kept (js ++ in_flight c) + 1
@@ -175,10 +192,10 @@ module _ (reads : List ℕ → Option (List ℕ)) (base : Queue) (since : ℕ) (
       low : reached + 1 ≤ most_level
       low = through keeps.first_level (batches_kept js) (batches_kept (in_flight c)) (batches_kept (js ++ in_flight c)) reached keeps.rises.risen (kept_append js (in_flight c))
 
-    pub headline_of : Parts reads base since (record { batches = js ++ in_flight c }) v
+    pub headline_of : Parts reads base since (record { batches = js ++ in_flight c }) rs v
     headline_of = record {
-      crash = λ t from le one two left right some. after_kept t (found S one two)
-          (alike_found S (kept (js ++ in_flight c) t) (flying (js ++ in_flight c) t) (left_at v t Ckpt1) (left_at v t Ckpt2) (at_any t from le) one two left right some);
+      crash = λ t from le good one two left right. after_kept t (found S one two)
+          (alike_found S (kept (js ++ in_flight c) t) (flying (js ++ in_flight c) t) t (left_at v t Ckpt1) (left_at v t Ckpt2) (at_any t from le) one two left right good);
       alike = λ t from le. are_alike t (at_any t from le);
       levels = levels_of;
       texts = λ t from le volumes left.
@@ -196,22 +213,22 @@ module _ (reads : List ℕ → Option (List ℕ)) (base : Queue) (since : ℕ) (
     }
 
 -- the headline of the journal as it is handed out
-module _ (reads : List ℕ → Option (List ℕ)) (base : Queue) (since : ℕ) (reached : ℕ) (first second : Copy) (v : View)
-    (most : v.now ≤ top) (lost1 : first.alive ≡ false → v.lost (DiskPart Ckpt1) ≡ true) (lost2 : second.alive ≡ false → v.lost (DiskPart Ckpt2) ≡ true)
+module _ (reads : List ℕ → Option (List ℕ)) (base : Queue) (since : ℕ) (rs : Renewals) (reached : ℕ) (first second : Copy) (v : View)
+    (most : v.now ≤ top) (lost1 : first.alive ≡ false → is_open rs.first ≡ false → v.lost (DiskPart Ckpt1) ≡ true) (lost2 : second.alive ≡ false → is_open rs.second ≡ false → v.lost (DiskPart Ckpt2) ≡ true)
     (rests_reads1 : (pages : List ℕ) (d : Disk) → first.rests pages d → AllRead reads pages d) (holds_reads1 : (was next : List ℕ) (d : Disk) → first.holds was next d → AllRead reads was d)
     (rests_reads2 : (pages : List ℕ) (d : Disk) → second.rests pages d → AllRead reads pages d) (holds_reads2 : (was next : List ℕ) (d : Disk) → second.holds was next d → AllRead reads was d) where
-  of_batches : (J : List Batch) (c : Option Batch) → Keeps (setting reads base since) J c reached first second v → Parts reads base since (record { batches = J ++ in_flight c }) v
-  of_batches J c keeps = headline_of reads base since J c reached first second v keeps most lost1 lost2 rests_reads1 holds_reads1 rests_reads2 holds_reads2
+  of_batches : (J : List Batch) (c : Option Batch) → Keeps (setting_with reads base since rs) J c reached first second v → Parts reads base since (record { batches = J ++ in_flight c }) rs v
+  of_batches J c keeps = headline_of reads base since rs J c reached first second v keeps most lost1 lost2 rests_reads1 holds_reads1 rests_reads2 holds_reads2
 
-  by_place : (J : List Batch) (c : Option Batch) (p : EndsInPlace J) → Keeps (setting reads base since) J c reached first second v → Parts reads base since (record { batches = p.before ++ in_flight c }) v
+  by_place : (J : List Batch) (c : Option Batch) (p : EndsInPlace J) → Keeps (setting_with reads base since rs) J c reached first second v → Parts reads base since (record { batches = p.before ++ in_flight c }) rs v
   by_place J c p keeps = of_batches p.before c
-      (unplace_keeps (setting reads base since) p.before p.place c reached first second v p.free (subst (λ (l : List Batch). Keeps (setting reads base since) l c reached first second v) p.is keeps))
+      (unplace_keeps (setting_with reads base since rs) p.before p.place c reached first second v p.free (subst (λ (l : List Batch). Keeps (setting_with reads base since rs) l c reached first second v) p.is keeps))
 
-  as_batches : (J K : List Batch) → J ≡ K → Parts reads base since (record { batches = J }) v → Parts reads base since (record { batches = K }) v
-  as_batches J K e h = subst (λ (l : List Batch). Parts reads base since (record { batches = l }) v) e h
+  as_batches : (J K : List Batch) → J ≡ K → Parts reads base since (record { batches = J }) rs v → Parts reads base since (record { batches = K }) rs v
+  as_batches J K e h = subst (λ (l : List Batch). Parts reads base since (record { batches = l }) rs v) e h
 
-  ended_parts : (placed : Bool) (c : Option Batch) (J : List Batch) → (IsSome c → placed ≡ true) → HasPlace placed J → Keeps (setting reads base since) J c reached first second v
-      → Parts reads base since (record { batches = end_of placed c J }) v
+  ended_parts : (placed : Bool) (c : Option Batch) (J : List Batch) → (IsSome c → placed ≡ true) → HasPlace placed J → Keeps (setting_with reads base since rs) J c reached first second v
+      → Parts reads base since (record { batches = end_of placed c J }) rs v
   ended_parts true (Some b) J some p keeps = as_batches (p.before ++ b ∷ []) (with_last b J) (sym (ap (with_last b) p.is ∙ with_last-append b p.before p.place)) (by_place J (Some b) p keeps)
   ended_parts true None J some p keeps = as_batches (p.before ++ []) (without_last J) (append-nil p.before ∙ sym (ap without_last p.is ∙ without_last-append p.before p.place)) (by_place J None p keeps)
   ended_parts false None J some p keeps = as_batches (J ++ []) J (append-nil J) (of_batches J None keeps)
@@ -219,8 +236,8 @@ module _ (reads : List ℕ → Option (List ℕ)) (base : Queue) (since : ℕ) (
     clash : false ≡ true → ⊥
     clash e = cc
 
-  pub ended_headline : (placed : Bool) (c : Option Batch) (J : List Batch) → (IsSome c → placed ≡ true) → HasPlace placed J → Keeps (setting reads base since) J c reached first second v
-      → length (end_of placed c J) ≤ journal_most → (IsSound base → ∥ PaperKept base since (end_of placed c J) v ∥₁) → Headline reads base since (record { batches = end_of placed c J }) v
+  pub ended_headline : (placed : Bool) (c : Option Batch) (J : List Batch) → (IsSome c → placed ≡ true) → HasPlace placed J → Keeps (setting_with reads base since rs) J c reached first second v
+      → length (end_of placed c J) ≤ journal_most → (IsSound base → ∥ PaperKept base since (end_of placed c J) v ∥₁) → Headline reads base since (record { batches = end_of placed c J }) rs v
   ended_headline placed c J some p keeps few paper =
-      let h : Parts reads base since (record { batches = end_of placed c J }) v = ended_parts placed c J some p keeps in
+      let h : Parts reads base since (record { batches = end_of placed c J }) rs v = ended_parts placed c J some p keeps in
       record { crash = h.crash; alike = h.alike; texts = h.texts; told = h.told; levels = h.levels; few = few; paper = paper }

@@ -6,7 +6,7 @@ use Rattle.mas_types.specs.declared.journals.Entry.{Entry}
 use Rattle.mas_types.specs.declared.journals.Fate.TheVariants.{Kept, Dropped, Flying}
 use Rattle.spool_disk.specs.View.{View, Disk}
 use Rattle.ckpt_copy.specs.Reading.{AllRead}
-use Rattle.mas_complex.specs.declared.places.Place.TheVariants.{Before, Opened}
+use Rattle.ckpt_places.specs.declared.places.Place.TheVariants.{Before, Opened}
 use Rattle.mas_complex.specs.Journals.{kept_all, IsPlace, EndsInPlace, HasPlace, with_last}
 use Rattle.mas_complex.specs.Crash.{Setting, Copy, copy_of, Keeps, IsUntold}
 use Rattle.mas_complex.specs.Texts.{spools_at, lost_now, HasTexts}

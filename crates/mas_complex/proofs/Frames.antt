@@ -7,11 +7,12 @@ use Rattle.mas_types.specs.declared.journals.Entry.{Entry}
 use Rattle.mas_types.specs.declared.queues.Queue.{Queue}
 use Rattle.lock_cycle.specs.Books.{Book}
 use Rattle.duplex_pair.specs.Halves.{IsCkpt, other}
-use Rattle.mas_complex.specs.declared.places.Place.{Place}
+use Rattle.ckpt_places.specs.declared.places.Place.{Place}
+use Rattle.mas_complex.specs.declared.renewals.Renewals.{Renewals}
 use Rattle.mas_complex.specs.Parts.{Parts, with_half, with_copy}
 
 -- the parts of a value with these halves
-module _ {P C H : Type 0} (copy : H → C) (alive : H → Bool) (found : H → ℕ) (book : Book) (base : Queue) (since : ℕ) (batches : List Batch) (current : Option Batch) (reserved : Option (List Entry)) (printed : List ℕ) (placed : Bool) (level : ℕ) where
+module _ {P C H : Type 0} (copy : H → C) (alive : H → Bool) (found : H → ℕ) (book : Book) (base : Queue) (since : ℕ) (batches : List Batch) (current : Option Batch) (reserved : Option (List Entry)) (printed : List ℕ) (placed : Bool) (level : ℕ) (renewals : Renewals) where
   abbrev parts : P → H → H → Place → Place → Parts P C
   parts plant h1 h2 p1 p2 = record {
     plant = plant;
@@ -32,6 +33,7 @@ module _ {P C H : Type 0} (copy : H → C) (alive : H → Bool) (found : H → �
     first = p1;
     second = p2;
     level = level;
+    renewals = renewals;
   }
 
   pub frame_copy : (plant plant' : P) (h1 h2 k1 k2 : H) (p1 p2 q1 q2 : Place) (dev : Dev) → IsCkpt dev → other dev k1 k2 ≡ other dev h1 h2 → other dev q1 q2 ≡ other dev p1 p2

@@ -2,6 +2,8 @@ pub mod Armed
 pub mod Allowed
 pub mod Batches
 pub mod Lines
+pub mod Renewed
+pub mod Passing
 pub mod Present
 pub mod Orders
 pub mod Rising
@@ -38,5 +40,7 @@ pub mod Quotients
 pub mod Counted
 pub mod Keeping
 pub mod OnDevice
+pub mod Renewing
 pub mod Frames
 pub mod Standing
+pub mod Short

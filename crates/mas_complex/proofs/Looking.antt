@@ -19,12 +19,13 @@ use Rattle.duplex_pair.specs.declared.errors.Look.{Look}
 use Rattle.duplex_pair.specs.declared.errors.Look.TheVariants.{Lost, Unread, Pages}
 use Rattle.duplex_pair.specs.declared.errors.LookNo.{LookNo}
 use Rattle.duplex_pair.specs.Looks.{WasSeen}
-use Rattle.mas_complex.specs.declared.places.Place.{Place}
-use Rattle.mas_complex.specs.declared.places.Place.TheVariants.{Before, Opened, Unsure}
+use Rattle.ckpt_places.specs.declared.places.Place.{Place}
+use Rattle.ckpt_places.specs.declared.places.Place.TheVariants.{Before, Opened, Unsure}
 use Rattle.mas_complex.specs.Places.{IsAtLevel}
 use Rattle.mas_complex.specs.Seen.{IsPlaceSeen}
-use Rattle.mas_complex.specs.Crash.{Setting, Stands, IsNext, IsOneOf, ReadsOne, OnComing, IsAt, OneCopy, Copy, Keeps}
-use Rattle.mas_complex.proofs.Present.{side_reads}
+use Rattle.mas_complex.specs.Renewals.{is_open, of_device}
+use Rattle.mas_complex.specs.Crash.{Setting, Stands, IsNext, IsOneOf, ReadsOne, ReadsBy, OnComing, IsAt, OneCopy, Copy, Keeps}
+use Rattle.mas_complex.proofs.Present.{side_reads, not_renewed, away_lost}
 use Rattle.mas_complex.proofs.Sides.{Went, by_alive}
 
 -- the bytes themselves are an image
@@ -41,7 +42,7 @@ module _ (S : Setting) (was : List ℕ) (coming : Option (List ℕ)) where
 
   module _ (dev : Dev) (old new : View) (rests : List ℕ → Disk → Type 0) (holds : List ℕ → List ℕ → Disk → Type 0) (place place' : Place) (alive alive' : Bool)
       {C : Type 0} (count room : C → ℕ) (room_most : ℕ) (ready : C → View → Type 0) (restsC : C → List ℕ → Disk → Type 0) (holdsC : C → List ℕ → List ℕ → Disk → Type 0) (was_copy copy' : C)
-      (copy : OneCopy S rests holds was coming place alive old.now (disk_now old dev)) (goes : Goes old new)
+      (copy : OneCopy S rests holds was coming place alive (is_open (of_device dev S.renewals)) old.now (disk_now old dev)) (goes : Goes old new)
       (stays : alive' ≡ true → alive ≡ true) (idle : alive ≡ false → new ≡ old) (gone : alive ≡ true → alive' ≡ false → new.now < top → (disk_now new dev).lost ≡ true)
       (tells : Type 0) (told : tells) (there : new.lost (DiskPart dev) ≡ false → (disk_now new dev).lost ≡ false) (done : Result Look LookNo) (call : Meanwhile dev (NoMore (disk_now old dev)) old new)
       (seen : IfOk done (λ look. WasSeen count room room_most ready S.reads restsC tells dev new was_copy copy' alive' look))
@@ -79,8 +80,8 @@ module _ (S : Setting) (was : List ℕ) (coming : Option (List ℕ)) where
 
     look_alive : alive ≡ true → Went S was coming dev old new (restsC copy') (holdsC copy') place' alive'
     look_alive is = record {
-      during = meanwhile_weaker dev (NoMore (disk_now old dev)) (λ d. old.now < top → ReadsOne S was coming d) old new call (λ d more lt image im. old_reads is image (no_more_image (disk_now old dev) d image more im));
-      after = record { at = λ now. by_done is done seen found; gone = gone is };
+      during = meanwhile_weaker dev (NoMore (disk_now old dev)) (λ d. old.now < top → ReadsBy S (is_open (of_device dev S.renewals)) was coming d) old new call (λ d more lt. not_renewed S was (is_open (of_device dev S.renewals)) coming d (copy.formed is) (λ image im. old_reads is image (no_more_image (disk_now old dev) d image more im)));
+      after = record { at = λ now. by_done is done seen found; formed = λ now. copy.formed is; gone = λ dead. away_lost S was (is_open (of_device dev S.renewals)) new.now (disk_now new dev) (copy.formed is) (gone is dead) };
     }
 
     pub look_side : Went S was coming dev old new (restsC copy') (holdsC copy') place' alive'
@@ -114,7 +115,7 @@ some_entries [] some = absurd (∥∥₁_elim some (λ a b. absurd a) (λ (h : 1
 some_entries (e ∷ es) some = omega arith
 
 -- what a copy reads that counts as alive are the kept pages or those in flight
-pub reads_in : (S : Setting) (rests : List ℕ → Disk → Type 0) (holds : List ℕ → List ℕ → Disk → Type 0) (was : List ℕ) (coming : Option (List ℕ)) (place : Place) (alive : Bool) (now : ℕ) (d : Disk) → OneCopy S rests holds was coming place alive now d → alive ≡ true
+pub reads_in : {renewed : Bool} (S : Setting) (rests : List ℕ → Disk → Type 0) (holds : List ℕ → List ℕ → Disk → Type 0) (was : List ℕ) (coming : Option (List ℕ)) (place : Place) (alive : Bool) (now : ℕ) (d : Disk) → OneCopy S rests holds was coming place alive renewed now d → alive ≡ true
     → ((pages : List ℕ) (d : Disk) → rests pages d → AllRead S.reads pages d) → ((was next : List ℕ) (d : Disk) → holds was next d → AllRead S.reads was d) → d.lost ≡ false → IsOneOf was coming (S.reads d.bytes)
 reads_in S rests holds was coming place alive now d copy is rests_reads holds_reads there =
     side_reads S was rests holds rests_reads holds_reads coming place d (copy.at is) d.bytes (own_image d there)

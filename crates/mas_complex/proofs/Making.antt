@@ -1,6 +1,6 @@
 -- How the shared value begins and ends, and a batch that changes no page.
 use Rattle.std.proofs.lemmas.Bool.{true≢false}
-use Rattle.std.proofs.Common.{◌≡◌, ℕ, Bool, true, false, List, [], ◌∷◌, ◌++◌, length, drop, Option, None, refl, subst, sym, ◌∙◌, ap, arith, le_refl}
+use Rattle.std.proofs.Common.{◌≡◌, ℕ, ◌<◌, Bool, true, false, List, [], ◌∷◌, ◌++◌, length, drop, Option, None, refl, subst, sym, ◌∙◌, ap, arith, le_refl}
 use Rattle.std.proofs.lemmas.List.{append-nil}
 use Rattle.mas_types.specs.declared.ids.Dev.TheVariants.{Ckpt1, Ckpt2, Spool}
 use Rattle.spool_disk.specs.View.{View, Disk, Line, disk_at, disk_now}
@@ -11,9 +11,12 @@ use Rattle.mas_types.specs.declared.journals.Entry.{Entry}
 use Rattle.mas_types.specs.declared.journals.Fate.TheVariants.{Kept, Flying}
 use Rattle.mas_complex.specs.Journals.{kept_all, batches_kept, StepIsKept}
 use Rattle.mas_types.specs.Journal.{is_flying}
-use Rattle.mas_complex.specs.Crash.{Setting, EachTells, IsUntold, ReadsOne, Copy, CopyAt, Keeps, BeginsWith, next_order}
+use Rattle.spool_disk.specs.Acts.{top}
+use Rattle.mas_complex.specs.declared.renewals.Renewal.{Renewal}
+use Rattle.mas_complex.specs.Renewals.{is_renewed_at, is_open, AreRenewedBy}
+use Rattle.mas_complex.specs.Crash.{Setting, EachTells, IsUntold, ReadsOne, ReadsBy, Copy, CopyAt, Keeps, BeginsWith, next_order}
 use Rattle.mas_complex.proofs.Batches.{kept_all_append}
-use Rattle.mas_complex.proofs.Present.{copy_reads}
+use Rattle.mas_complex.proofs.Present.{copy_reads, not_renewed}
 use Rattle.mas_complex.proofs.Moves.{begins_keep, fate_keeps}
 use Rattle.mas_complex.proofs.Rising.{make_rise, own_near}
 use Rattle.mas_complex.proofs.Fates.{one_kept, no_fewer}
@@ -32,11 +35,13 @@ none_said closes (line ∷ lines) P = none_said closes lines P
 module _ (S : Setting) (reached : ℕ) (first second : Copy) (v : View)
     (rests_reads1 : (pages : List ℕ) (d : Disk) → first.rests pages d → AllRead S.reads pages d) (holds_reads1 : (was next : List ℕ) (d : Disk) → first.holds was next d → AllRead S.reads was d)
     (rests_reads2 : (pages : List ℕ) (d : Disk) → second.rests pages d → AllRead S.reads pages d) (holds_reads2 : (was next : List ℕ) (d : Disk) → second.holds was next d → AllRead S.reads was d) where
-  pub make_keeps : S.since ≡ v.now → ((n : ℕ) → (disk_now v (Spool n)).lost ≡ true → lost_now v n ≡ true) → BeginsWith S reached first second v → Keeps S [] None reached first second v
-  make_keeps since sunk begins = record {
+  pub make_keeps : S.renewals.first ≡ [] → S.renewals.second ≡ [] → S.since ≡ v.now → ((n : ℕ) → (disk_now v (Spool n)).lost ≡ true → lost_now v n ≡ true) → BeginsWith S reached first second v → Keeps S [] None reached first second v
+  make_keeps none1 none2 since sunk begins = record {
     started = omega (arith, since);
     settled = tt;
     begun = tt;
+    renewed1 = subst (λ (l : List Renewal). AreRenewedBy l v.now) (sym none1) tt;
+    renewed2 = subst (λ (l : List Renewal). AreRenewedBy l v.now) (sym none2) tt;
     crash = λ t from le lt. let e : v.now ≡ t = omega (arith, since) in
         record {
           reached = reached;
@@ -45,8 +50,10 @@ module _ (S : Setting) (reached : ℕ) (first second : Copy) (v : View)
           stands = begins.stands;
           comes = tt;
           none = λ _. refl;
-          first = subst (λ (m : ℕ). ReadsOne S begins.pages None (disk_at v m Ckpt1)) e (copy_reads S begins.pages first.rests first.holds rests_reads1 holds_reads1 None first.place first.alive v.now (disk_now v Ckpt1) (omega (arith, e)) begins.first_at);
-          second = subst (λ (m : ℕ). ReadsOne S begins.pages None (disk_at v m Ckpt2)) e (copy_reads S begins.pages second.rests second.holds rests_reads2 holds_reads2 None second.place second.alive v.now (disk_now v Ckpt2) (omega (arith, e)) begins.second_at);
+          first = not_renewed S begins.pages (is_renewed_at S.renewals.first t) None (disk_at v t Ckpt1) (ap (λ (l : List Renewal). is_renewed_at l t) none1)
+              (subst (λ (m : ℕ). ReadsOne S begins.pages None (disk_at v m Ckpt1)) e (one (omega (arith, e, lt))));
+          second = not_renewed S begins.pages (is_renewed_at S.renewals.second t) None (disk_at v t Ckpt2) (ap (λ (l : List Renewal). is_renewed_at l t) none2)
+              (subst (λ (m : ℕ). ReadsOne S begins.pages None (disk_at v m Ckpt2)) e (two (omega (arith, e, lt))));
         };
     told = λ t from le. let e : S.since ≡ t = omega (arith, since) in
         subst (λ (m : ℕ). EachTells S.closes (drop (length (v.world S.since).console) (v.world m).console) (StepIsKept [] t)) e (none_said S.closes (v.world S.since).console (StepIsKept [] t));
@@ -56,10 +63,7 @@ module _ (S : Setting) (reached : ℕ) (first second : Copy) (v : View)
     first_level = reached;
     first_order = next_order begins.pages;
     rises = make_rise S reached begins.pages v since begins.stands
-        (λ lt. (
-          copy_reads S begins.pages first.rests first.holds rests_reads1 holds_reads1 None first.place first.alive v.now (disk_now v Ckpt1) lt begins.first_at,
-          copy_reads S begins.pages second.rests second.holds rests_reads2 holds_reads2 None second.place second.alive v.now (disk_now v Ckpt2) lt begins.second_at,
-        ));
+        (λ lt. (one lt, two lt));
     sunk = λ t from le n lost. let e : t ≡ v.now = omega (arith, since) in sunk n (subst (λ (m : ℕ). (disk_at v m (Spool n)).lost ≡ true) e lost);
     was = begins.pages;
     coming = None;
@@ -70,7 +74,14 @@ module _ (S : Setting) (reached : ℕ) (first second : Copy) (v : View)
     comes_near = tt;
     first_at = begins.first_at;
     second_at = begins.second_at;
-  }
+  } where
+    one : v.now < top → ReadsOne S begins.pages None (disk_now v Ckpt1)
+    one lt = subst (λ (b : Bool). ReadsBy S b begins.pages None (disk_now v Ckpt1)) (ap is_open none1)
+        (copy_reads S begins.pages first.rests first.holds rests_reads1 holds_reads1 None first.place first.alive v.now (disk_now v Ckpt1) lt begins.first_at)
+
+    two : v.now < top → ReadsOne S begins.pages None (disk_now v Ckpt2)
+    two lt = subst (λ (b : Bool). ReadsBy S b begins.pages None (disk_now v Ckpt2)) (ap is_open none2)
+        (copy_reads S begins.pages second.rests second.holds rests_reads2 holds_reads2 None second.place second.alive v.now (disk_now v Ckpt2) lt begins.second_at)
 
   module _ (js : List Batch) (b c : Batch) (keeps : Keeps S js None reached first second v) (flies : b.fate ≡ Flying) (b_first : b.first ≡ v.now)
       (untold : IsUntold S v b.entries)
@@ -84,8 +95,8 @@ module _ (S : Setting) (reached : ℕ) (first second : Copy) (v : View)
     unfolding begins_keep
     same_keeps =
         let flying = begins_keep S js b reached first second v keeps flies b_first untold has in
-        let x : CopyAt S keeps.was None first v.now (disk_now v Ckpt1) = subst (λ (n : Option (List ℕ)). CopyAt S keeps.was n first v.now (disk_now v Ckpt1)) (keeps.none refl) keeps.first_at in
-        let y : CopyAt S keeps.was None second v.now (disk_now v Ckpt2) = subst (λ (n : Option (List ℕ)). CopyAt S keeps.was n second v.now (disk_now v Ckpt2)) (keeps.none refl) keeps.second_at in
+        let x : CopyAt S keeps.was None Ckpt1 first v.now (disk_now v Ckpt1) = subst (λ (n : Option (List ℕ)). CopyAt S keeps.was n Ckpt1 first v.now (disk_now v Ckpt1)) (keeps.none refl) keeps.first_at in
+        let y : CopyAt S keeps.was None Ckpt2 second v.now (disk_now v Ckpt2) = subst (λ (n : Option (List ℕ)). CopyAt S keeps.was n Ckpt2 second v.now (disk_now v Ckpt2)) (keeps.none refl) keeps.second_at in
         fate_keeps S js b c reached reached first second first second v (le_refl reached) (no_fewer reached (batches_kept (c ∷ []))) flying (ap is_flying fate) same_first same_entries last keeps.was
         (record { at_level = keeps.stands.at_level; queue = subst (λ (l : List Entry). S.stand (S.run S.base l) keeps.was) (sym all) (alike keeps.was keeps.stands.queue) })
         keeps.near

@@ -1,9 +1,10 @@
 -- How the shared value goes on: over acts, and over a batch that begins or gets its fate.
-use Rattle.std.proofs.Common.{◌≡◌, ⊎_elim, ℕ, ◌+◌, ◌≤◌, ◌<◌, false, refl, List, [], ◌∷◌, ◌++◌, length, drop, Option, Some, None, IfSome, subst, sym, ◌∙◌, ap, arith, append_assoc}
+use Rattle.std.proofs.Common.{◌≡◌, ⊎_elim, ℕ, ◌+◌, ◌≤◌, ◌<◌, Bool, false, refl, List, [], ◌∷◌, ◌++◌, length, drop, Option, Some, None, IfSome, subst, sym, ◌∙◌, ap, arith, append_assoc}
 use Rattle.std.proofs.lemmas.List.{append-nil}
 use Rattle.mas_types.specs.declared.ids.Dev.TheVariants.{Ckpt1, Ckpt2}
 use Rattle.spool_disk.specs.View.{View, World, Line, disk_at, disk_now}
-use Rattle.spool_disk.specs.Acts.{Goes, top}
+use Rattle.spool_disk.specs.Acts.{top}
+use Rattle.mas_complex.proofs.Passing.{Passes}
 use Rattle.ckpt_copy.specs.Moments.{either_way}
 use Rattle.mas_types.specs.declared.ids.MemberId.{MemberId}
 use Rattle.mas_types.specs.declared.journals.Batch.{Batch}
@@ -11,8 +12,10 @@ use Rattle.mas_types.specs.declared.journals.Entry.{Entry}
 use Rattle.mas_types.specs.declared.journals.Fate.TheVariants.{Flying}
 use Rattle.mas_complex.specs.Journals.{kept, flying, kept_all, in_flight, entries_in, batches_kept, AreSettled, StepIsKept, has_step, IsPlace}
 use Rattle.mas_types.specs.Journal.{is_flying}
-use Rattle.mas_complex.specs.Crash.{Setting, Stands, IsNext, IsNear, Alike, CrashAt, EachTells, said, ToldAt, ReadsOne, Copy, CopyAt, Keeps}
+use Rattle.mas_complex.specs.Renewals.{is_renewed_at, is_open}
+use Rattle.mas_complex.specs.Crash.{Setting, Stands, IsNext, IsNear, Alike, CrashAt, EachTells, said, ToldAt, ReadsBy, Copy, CopyAt, Keeps}
 use Rattle.mas_complex.proofs.Batches.{now_kept, now_flying, settled_later, settled_push, begun_later, begins_kept, begins_flying, fated_kept, fated_flying, step_later, step_push, step_fate, placed_kept, placed_flying, placed_all, placed_step, unplaced_step, placed_settled, unplaced_settled}
+use Rattle.mas_complex.proofs.Renewed.{renewed_open, renewed_later}
 use Rattle.mas_complex.proofs.Present.{alike_as, alike_none}
 use Rattle.mas_complex.proofs.Rising.{one_up, kept_place, acts_rise, fated_rise, same_rise}
 use Rattle.mas_complex.specs.Texts.{spools_at, lost_now, HasTexts}
@@ -23,10 +26,10 @@ abbrev console_at : View → ℕ → List Line
 console_at v t = (v.world t).console
 
 -- acts: what held at a past moment holds
-module _ (S : Setting) (J : List Batch) (old new : View) (goes : Goes old new) where
+module _ (S : Setting) (J : List Batch) (old new : View) (goes : Passes old new) where
   crash_past : (t : ℕ) → t ≤ old.now → CrashAt S J old t → CrashAt S J new t
   crash_past t le crash =
-      subst (λ (w : World). Alike S (kept J t) (flying J t) (w.disk Ckpt1) (w.disk Ckpt2)) (sym (goes.past t le)) crash
+      subst (λ (w : World). Alike S (kept J t) (flying J t) t (w.disk Ckpt1) (w.disk Ckpt2)) (sym (goes.past t le)) crash
 
   said_past : (t : ℕ) → S.since ≤ old.now → t ≤ old.now → said S new t ≡ said S old t
   said_past t from le =
@@ -44,22 +47,24 @@ pub record Adds (S : Setting) (J : List Batch) (old new : View) : Type 0 where
   pub tells : EachTells S.closes more (StepIsKept J old.now)
 
 module _ (S : Setting) (js : List Batch) (c : Option Batch) (reached : ℕ) (first second first' second' : Copy) (old new : View) where
-  pub acts_keep : (keeps : Keeps S js c reached first second old) → Goes old new
+  pub acts_keep : (keeps : Keeps S js c reached first second old) → Passes old new
       → (coming : Option (List ℕ)) → IsNext S reached (kept_all js) (entries_in c) coming → (entries_in c ≡ [] → coming ≡ None) → IfSome coming (IsNear keeps.first_level keeps.first_order)
-      → ((t : ℕ) → old.now < t → t ≤ new.now → t < top → ReadsOne S keeps.was coming (disk_at new t Ckpt1) × ReadsOne S keeps.was coming (disk_at new t Ckpt2))
+      → ((t : ℕ) → old.now < t → t ≤ new.now → t < top → ReadsBy S (is_open S.renewals.first) keeps.was coming (disk_at new t Ckpt1) × ReadsBy S (is_open S.renewals.second) keeps.was coming (disk_at new t Ckpt2))
       → Adds S (js ++ in_flight c) old new
       → Stays S (kept_all js) (entries_in c) old new
-      → CopyAt S keeps.was coming first' new.now (disk_now new Ckpt1) → CopyAt S keeps.was coming second' new.now (disk_now new Ckpt2)
+      → CopyAt S keeps.was coming Ckpt1 first' new.now (disk_now new Ckpt1) → CopyAt S keeps.was coming Ckpt2 second' new.now (disk_now new Ckpt2)
       → Keeps S js c reached first' second' new
   acts_keep keeps goes coming comes none nears reads adds stays one two = record {
     started = omega (arith, keeps.started, goes.later);
     settled = settled_later js old.now new.now keeps.settled goes.later;
     begun = begun_later c old.now new.now keeps.begun goes.later;
+    renewed1 = renewed_later S.renewals.first old.now new.now goes.later keeps.renewed1;
+    renewed2 = renewed_later S.renewals.second old.now new.now goes.later keeps.renewed2;
     crash = λ t from le lt. ⊎_elim
         (λ h. crash_past S (js ++ in_flight c) old new goes t h (keeps.crash t from h lt))
         (λ h. alike_as S (kept_all js) (entries_in c) (kept (js ++ in_flight c) t) (flying (js ++ in_flight c) t) (disk_at new t Ckpt1) (disk_at new t Ckpt2)
         (now_kept js c old.now t keeps.settled keeps.begun (omega arith)) (now_flying js c old.now t keeps.settled keeps.begun (omega arith))
-        (record { reached = reached; was = keeps.was; coming = coming; stands = keeps.stands; comes = comes; none = none; first = (reads t h le lt).0; second = (reads t h le lt).1 }))
+        (record { reached = reached; was = keeps.was; coming = coming; stands = keeps.stands; comes = comes; none = none; first = (reads_at t h le lt).0; second = (reads_at t h le lt).1 }))
         (either_way t old.now);
     told = λ t from le. ⊎_elim
         (λ h. told_past S (js ++ in_flight c) old new goes t keeps.started h (keeps.told t from h))
@@ -77,9 +82,9 @@ module _ (S : Setting) (js : List Batch) (c : Option Batch) (reached : ℕ) (fir
     first_level = keeps.first_level;
     first_order = keeps.first_order;
     rises = acts_rise S keeps.first_level keeps.first_order js reached old new goes keeps.started
-        (λ t h le lt. let both = reads t h le lt in (
-          one_up S reached (kept_all js) (entries_in c) keeps.was coming keeps.stands comes keeps.first_level keeps.first_order keeps.near nears (disk_at new t Ckpt1) both.0,
-          one_up S reached (kept_all js) (entries_in c) keeps.was coming keeps.stands comes keeps.first_level keeps.first_order keeps.near nears (disk_at new t Ckpt2) both.1,
+        (λ t h le lt. let both = reads_at t h le lt in (
+          λ is. one_up S reached (kept_all js) (entries_in c) keeps.was coming keeps.stands comes keeps.first_level keeps.first_order keeps.near nears (disk_at new t Ckpt1) (subst (λ (b : Bool). ReadsBy S b keeps.was coming (disk_at new t Ckpt1)) is both.0),
+          λ is. one_up S reached (kept_all js) (entries_in c) keeps.was coming keeps.stands comes keeps.first_level keeps.first_order keeps.near nears (disk_at new t Ckpt2) (subst (λ (b : Bool). ReadsBy S b keeps.was coming (disk_at new t Ckpt2)) is both.1),
         ))
         keeps.rises;
     was = keeps.was;
@@ -92,6 +97,12 @@ module _ (S : Setting) (js : List Batch) (c : Option Batch) (reached : ℕ) (fir
     first_at = one;
     second_at = two;
   } where
+    reads_at : (t : ℕ) → old.now < t → t ≤ new.now → t < top → ReadsBy S (is_renewed_at S.renewals.first t) keeps.was coming (disk_at new t Ckpt1) × ReadsBy S (is_renewed_at S.renewals.second t) keeps.was coming (disk_at new t Ckpt2)
+    reads_at t h le lt = let both = reads t h le lt in (
+      subst (λ (b : Bool). ReadsBy S b keeps.was coming (disk_at new t Ckpt1)) (sym (renewed_open S.renewals.first old.now t keeps.renewed1 (omega (arith, h)))) both.0,
+      subst (λ (b : Bool). ReadsBy S b keeps.was coming (disk_at new t Ckpt2)) (sym (renewed_open S.renewals.second old.now t keeps.renewed2 (omega (arith, h)))) both.1,
+    )
+
     old_tells : EachTells S.closes (drop (length (old.world S.since).console) ((old.world old.now).console ++ adds.more)) (StepIsKept (js ++ in_flight c) old.now)
     old_tells = each_more S.closes (length (old.world S.since).console) (old.world old.now).console adds.more (StepIsKept (js ++ in_flight c) old.now) (keeps.told old.now keeps.started (omega arith)) adds.tells
 
@@ -126,6 +137,8 @@ module _ (S : Setting) (js : List Batch) (b : Batch) (reached : ℕ) (first seco
     started = keeps.started;
     settled = keeps.settled;
     begun = (fate, omega (arith, begun));
+    renewed1 = keeps.renewed1;
+    renewed2 = keeps.renewed2;
     crash = λ t from le lt. begins_after t keeps.settled fate begun le (keeps.crash t from le lt);
     told = λ t from le. begins_told t keeps untold from le;
     grows = keeps.grows;
@@ -141,8 +154,8 @@ module _ (S : Setting) (js : List Batch) (b : Batch) (reached : ℕ) (first seco
     none = λ _. refl;
     near = keeps.near;
     comes_near = tt;
-    first_at = subst (λ (n : Option (List ℕ)). CopyAt S keeps.was n first v.now (disk_now v Ckpt1)) (keeps.none refl) keeps.first_at;
-    second_at = subst (λ (n : Option (List ℕ)). CopyAt S keeps.was n second v.now (disk_now v Ckpt2)) (keeps.none refl) keeps.second_at;
+    first_at = subst (λ (n : Option (List ℕ)). CopyAt S keeps.was n Ckpt1 first v.now (disk_now v Ckpt1)) (keeps.none refl) keeps.first_at;
+    second_at = subst (λ (n : Option (List ℕ)). CopyAt S keeps.was n Ckpt2 second v.now (disk_now v Ckpt2)) (keeps.none refl) keeps.second_at;
   }
 
 -- the journal: the batch in flight gets its fate
@@ -155,13 +168,15 @@ module _ (S : Setting) (js : List Batch) (b c : Batch) (reached reached' : ℕ) 
   -- the kept pages once the batch in flight has its fate
   pub fate_keeps : reached ≤ reached' → reached' ≤ reached + batches_kept (c ∷ []) → (keeps : Keeps S js (Some b) reached first second v) → is_flying c.fate ≡ false → c.first ≡ b.first → c.entries ≡ b.entries → c.last ≡ v.now
       → (was : List ℕ) → Stands S reached' (kept_all (js ++ c ∷ [])) was → IsNear keeps.first_level keeps.first_order was
-      → (v.now < top → ReadsOne S was None (disk_now v Ckpt1) × ReadsOne S was None (disk_now v Ckpt2))
-      → CopyAt S was None first' v.now (disk_now v Ckpt1) → CopyAt S was None second' v.now (disk_now v Ckpt2)
+      → (v.now < top → ReadsBy S (is_open S.renewals.first) was None (disk_now v Ckpt1) × ReadsBy S (is_open S.renewals.second) was None (disk_now v Ckpt2))
+      → CopyAt S was None Ckpt1 first' v.now (disk_now v Ckpt1) → CopyAt S was None Ckpt2 second' v.now (disk_now v Ckpt2)
       → Keeps S (js ++ c ∷ []) None reached' first' second' v
   fate_keeps least most keeps fated same_first same_entries last was stands near reads one two = record {
     started = keeps.started;
     settled = settled;
     begun = tt;
+    renewed1 = keeps.renewed1;
+    renewed2 = keeps.renewed2;
     crash = λ t from le lt. ⊎_elim
         (λ here. let e : t ≡ v.now = omega (arith, last) in
         alike_as S (kept_all (js ++ c ∷ [])) [] (kept ((js ++ c ∷ []) ++ []) t) (flying ((js ++ c ∷ []) ++ []) t) (disk_at v t Ckpt1) (disk_at v t Ckpt2)
@@ -173,8 +188,10 @@ module _ (S : Setting) (js : List Batch) (b c : Batch) (reached reached' : ℕ) 
           stands = stands;
           comes = tt;
           none = λ _. refl;
-          first = subst (λ (m : ℕ). ReadsOne S was None (disk_at v m Ckpt1)) (sym e) (reads (omega (arith, e, lt))).0;
-          second = subst (λ (m : ℕ). ReadsOne S was None (disk_at v m Ckpt2)) (sym e) (reads (omega (arith, e, lt))).1;
+          first = subst (λ (b : Bool). ReadsBy S b was None (disk_at v t Ckpt1)) (sym (renewed_open S.renewals.first v.now t keeps.renewed1 (omega (arith, e))))
+              (subst (λ (m : ℕ). ReadsBy S (is_open S.renewals.first) was None (disk_at v m Ckpt1)) (sym e) (reads (omega (arith, e, lt))).0);
+          second = subst (λ (b : Bool). ReadsBy S b was None (disk_at v t Ckpt2)) (sym (renewed_open S.renewals.second v.now t keeps.renewed2 (omega (arith, e))))
+              (subst (λ (m : ℕ). ReadsBy S (is_open S.renewals.second) was None (disk_at v m Ckpt2)) (sym e) (reads (omega (arith, e, lt))).1);
         }))
         (λ before. fated_after t keeps.begun.0 same_first same_entries before (keeps.crash t from le lt))
         (either_way c.last t);
@@ -208,6 +225,8 @@ module _ (S : Setting) (js ks : List Batch) (c : Option Batch) (reached : ℕ) (
     started = keeps.started;
     settled = settled;
     begun = keeps.begun;
+    renewed1 = keeps.renewed1;
+    renewed2 = keeps.renewed2;
     crash = λ t from le lt.
         alike_as S (kept (js ++ in_flight c) t) (flying (js ++ in_flight c) t) (kept (ks ++ in_flight c) t) (flying (ks ++ in_flight c) t) (disk_at v t Ckpt1) (disk_at v t Ckpt2)
         (same_kept t) (same_flying t) (keeps.crash t from le lt);

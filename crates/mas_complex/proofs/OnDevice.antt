@@ -12,7 +12,7 @@ use Rattle.duplex_pair.specs.declared.errors.Look.{Look}
 use Rattle.duplex_pair.specs.declared.errors.Look.TheVariants.{Lost, Unread, Pages}
 use Rattle.duplex_pair.specs.declared.errors.LookNo.{LookNo}
 use Rattle.duplex_pair.specs.Looks.{WasSeen}
-use Rattle.mas_complex.specs.declared.places.Place.{Place}
+use Rattle.ckpt_places.specs.declared.places.Place.{Place}
 use Rattle.mas_complex.specs.Journals.{kept_all, entries_in}
 use Rattle.mas_complex.specs.Crash.{Setting, IsNext, IsNear, CopyAt, Keeps, Copy, copy_of}
 use Rattle.mas_complex.proofs.Sides.{Went, on_first, on_second, no}
@@ -25,15 +25,15 @@ module _ {H : Type 0} (rests : H → List ℕ → Disk → Type 0) (holds : H �
 
   -- what holds of both copies holds of the one of the device, and of the other
   pub at_copy : (S : Setting) (was : List ℕ) (coming : Option (List ℕ)) (dev : Dev) → IsCkpt dev → (h1 h2 : H) (p1 p2 : Place) (v : View)
-      → CopyAt S was coming (side h1 p1) v.now (disk_now v Ckpt1) → CopyAt S was coming (side h2 p2) v.now (disk_now v Ckpt2)
-      → CopyAt S was coming (side (pick dev h1 h2) (pick dev p1 p2)) v.now (disk_now v dev)
+      → CopyAt S was coming Ckpt1 (side h1 p1) v.now (disk_now v Ckpt1) → CopyAt S was coming Ckpt2 (side h2 p2) v.now (disk_now v Ckpt2)
+      → CopyAt S was coming dev (side (pick dev h1 h2) (pick dev p1 p2)) v.now (disk_now v dev)
   at_copy S was coming Ckpt1 ckpt h1 h2 p1 p2 v first second = first
   at_copy S was coming Ckpt2 ckpt h1 h2 p1 p2 v first second = second
   at_copy S was coming (Spool n) ckpt h1 h2 p1 p2 v first second = absurd ckpt
 
   pub at_other : (S : Setting) (was : List ℕ) (coming : Option (List ℕ)) (dev : Dev) → IsCkpt dev → (h1 h2 : H) (p1 p2 : Place) (v : View)
-      → CopyAt S was coming (side h1 p1) v.now (disk_now v Ckpt1) → CopyAt S was coming (side h2 p2) v.now (disk_now v Ckpt2)
-      → CopyAt S was coming (side (other dev h1 h2) (other dev p1 p2)) v.now (disk_now v (other dev Ckpt1 Ckpt2))
+      → CopyAt S was coming Ckpt1 (side h1 p1) v.now (disk_now v Ckpt1) → CopyAt S was coming Ckpt2 (side h2 p2) v.now (disk_now v Ckpt2)
+      → CopyAt S was coming (other dev Ckpt1 Ckpt2) (side (other dev h1 h2) (other dev p1 p2)) v.now (disk_now v (other dev Ckpt1 Ckpt2))
   at_other S was coming Ckpt1 ckpt h1 h2 p1 p2 v first second = second
   at_other S was coming Ckpt2 ckpt h1 h2 p1 p2 v first second = first
   at_other S was coming (Spool n) ckpt h1 h2 p1 p2 v first second = absurd ckpt
@@ -43,25 +43,25 @@ module _ {H : Type 0} (rests : H → List ℕ → Disk → Type 0) (holds : H �
       → other dev k1 k2 ≡ other dev h1 h2 → other dev q1 q2 ≡ other dev p1 p2
       → ((h : H) (pages : List ℕ) (d : Disk) → rests h pages d → AllRead S.reads pages d) → ((h : H) (was next : List ℕ) (d : Disk) → holds h was next d → AllRead S.reads was d)
       → (keeps : Keeps S js c reached (side h1 p1) (side h2 p2) old) (coming : Option (List ℕ)) → IsNext S reached (kept_all js) (entries_in c) coming → (entries_in c ≡ [] → coming ≡ None) → IfSome coming (IsNear keeps.first_level keeps.first_order)
-      → CopyAt S keeps.was coming (side (other dev h1 h2) (other dev p1 p2)) old.now (disk_now old (other dev Ckpt1 Ckpt2))
+      → CopyAt S keeps.was coming (other dev Ckpt1 Ckpt2) (side (other dev h1 h2) (other dev p1 p2)) old.now (disk_now old (other dev Ckpt1 Ckpt2))
       → Went S keeps.was coming dev old new (rests (pick dev k1 k2)) (holds (pick dev k1 k2)) (pick dev q1 q2) (alive (pick dev k1 k2))
       → Keeps S js c reached (side k1 q1) (side k2 q2) new
   on_copy S js c reached Ckpt1 ckpt h1 h2 k1 k2 p1 p2 q1 q2 old new same at rests_reads holds_reads keeps coming comes none nears there went =
       on_first S js c reached (side h1 p1) (side h2 p2) (side k1 q1) (side k2 q2) old new keeps coming comes none nears (λ pages d r. rests_reads h2 pages d r) (λ was next d r. holds_reads h2 was next d r) there went
-      (λ x. subst (λ (h : H). CopyAt S keeps.was coming (side h q2) new.now (disk_now new Ckpt2)) (sym same) (subst (λ (p : Place). CopyAt S keeps.was coming (side h2 p) new.now (disk_now new Ckpt2)) (sym at) x))
+      (λ x. subst (λ (h : H). CopyAt S keeps.was coming Ckpt2 (side h q2) new.now (disk_now new Ckpt2)) (sym same) (subst (λ (p : Place). CopyAt S keeps.was coming Ckpt2 (side h2 p) new.now (disk_now new Ckpt2)) (sym at) x))
   on_copy S js c reached Ckpt2 ckpt h1 h2 k1 k2 p1 p2 q1 q2 old new same at rests_reads holds_reads keeps coming comes none nears there went =
       on_second S js c reached (side h1 p1) (side h2 p2) (side k1 q1) (side k2 q2) old new keeps coming comes none nears (λ pages d r. rests_reads h1 pages d r) (λ was next d r. holds_reads h1 was next d r) there went
-      (λ x. subst (λ (h : H). CopyAt S keeps.was coming (side h q1) new.now (disk_now new Ckpt1)) (sym same) (subst (λ (p : Place). CopyAt S keeps.was coming (side h1 p) new.now (disk_now new Ckpt1)) (sym at) x))
+      (λ x. subst (λ (h : H). CopyAt S keeps.was coming Ckpt1 (side h q1) new.now (disk_now new Ckpt1)) (sym same) (subst (λ (p : Place). CopyAt S keeps.was coming Ckpt1 (side h1 p) new.now (disk_now new Ckpt1)) (sym at) x))
   on_copy S js c reached (Spool n) ckpt h1 h2 k1 k2 p1 p2 q1 q2 old new same at rests_reads holds_reads keeps coming comes none nears there went = absurd ckpt
 
 module _ {H : Type 0} (alive : H → Bool) where
-  -- each copy that counts as lost is lost
-  pub record BothSunk (k1 k2 : H) (new : View) : Type 0 where
-    pub first : alive k1 ≡ false → new.lost (DiskPart Ckpt1) ≡ true
-    pub second : alive k2 ≡ false → new.lost (DiskPart Ckpt2) ≡ true
+  -- each copy that counts as lost, and of which no replacement is open, is lost
+  pub record BothSunk (o1 o2 : Bool) (k1 k2 : H) (new : View) : Type 0 where
+    pub first : alive k1 ≡ false → o1 ≡ false → new.lost (DiskPart Ckpt1) ≡ true
+    pub second : alive k2 ≡ false → o2 ≡ false → new.lost (DiskPart Ckpt2) ≡ true
 
-  pub sunk_after : (dev : Dev) → IsCkpt dev → (h1 h2 k1 k2 : H) (old new : View) → Goes old new → (alive (pick dev k1 k2) ≡ false → new.lost (DiskPart dev) ≡ true) → other dev k1 k2 ≡ other dev h1 h2
-      → (alive h1 ≡ false → old.lost (DiskPart Ckpt1) ≡ true) → (alive h2 ≡ false → old.lost (DiskPart Ckpt2) ≡ true) → BothSunk k1 k2 new
+  pub sunk_after : {o1 o2 : Bool} (dev : Dev) → IsCkpt dev → (h1 h2 k1 k2 : H) (old new : View) → Goes old new → (alive (pick dev k1 k2) ≡ false → pick dev o1 o2 ≡ false → new.lost (DiskPart dev) ≡ true) → other dev k1 k2 ≡ other dev h1 h2
+      → (alive h1 ≡ false → o1 ≡ false → old.lost (DiskPart Ckpt1) ≡ true) → (alive h2 ≡ false → o2 ≡ false → old.lost (DiskPart Ckpt2) ≡ true) → BothSunk o1 o2 k1 k2 new
   sunk_after Ckpt1 ckpt h1 h2 k1 k2 old new goes sunk same first second = record {
     first = sunk;
     second = λ dead. lost_later Ckpt2 (alive h2) old new goes second (subst (λ (h : H). alive h ≡ false) same dead);
@@ -72,14 +72,14 @@ module _ {H : Type 0} (alive : H → Bool) where
   }
   sunk_after (Spool n) ckpt h1 h2 k1 k2 old new goes sunk same first second = absurd ckpt
 
-  sunk_was : (dev : Dev) → IsCkpt dev → (h1 h2 : H) (old : View) → (alive h1 ≡ false → old.lost (DiskPart Ckpt1) ≡ true) → (alive h2 ≡ false → old.lost (DiskPart Ckpt2) ≡ true)
-      → alive (pick dev h1 h2) ≡ false → old.lost (DiskPart dev) ≡ true
+  sunk_was : {o1 o2 : Bool} (dev : Dev) → IsCkpt dev → (h1 h2 : H) (old : View) → (alive h1 ≡ false → o1 ≡ false → old.lost (DiskPart Ckpt1) ≡ true) → (alive h2 ≡ false → o2 ≡ false → old.lost (DiskPart Ckpt2) ≡ true)
+      → alive (pick dev h1 h2) ≡ false → pick dev o1 o2 ≡ false → old.lost (DiskPart dev) ≡ true
   sunk_was Ckpt1 ckpt h1 h2 old first second = first
   sunk_was Ckpt2 ckpt h1 h2 old first second = second
   sunk_was (Spool n) ckpt h1 h2 old first second = absurd ckpt
 
-  pub sunk_acted : (by : ℕ) (dev : Dev) → IsCkpt dev → (h1 h2 k1 k2 : H) (stopped : Bool) (old new : View) → Acted by dev (alive (pick dev h1 h2)) (alive (pick dev k1 k2)) stopped old new → other dev k1 k2 ≡ other dev h1 h2
-      → (alive h1 ≡ false → old.lost (DiskPart Ckpt1) ≡ true) → (alive h2 ≡ false → old.lost (DiskPart Ckpt2) ≡ true) → BothSunk k1 k2 new
+  pub sunk_acted : {o1 o2 : Bool} (by : ℕ) (dev : Dev) → IsCkpt dev → (h1 h2 k1 k2 : H) (stopped : Bool) (old new : View) → Acted by dev (alive (pick dev h1 h2)) (alive (pick dev k1 k2)) stopped old new → other dev k1 k2 ≡ other dev h1 h2
+      → (alive h1 ≡ false → o1 ≡ false → old.lost (DiskPart Ckpt1) ≡ true) → (alive h2 ≡ false → o2 ≡ false → old.lost (DiskPart Ckpt2) ≡ true) → BothSunk o1 o2 k1 k2 new
   sunk_acted by dev ckpt h1 h2 k1 k2 stopped old new acted same first second =
       sunk_after dev ckpt h1 h2 k1 k2 old new acted.goes (still_lost by dev (alive (pick dev h1 h2)) (alive (pick dev k1 k2)) stopped old new acted (sunk_was dev ckpt h1 h2 old first second)) same first second
 

@@ -1,7 +1,7 @@
 -- A copy that has no other pages in flight.
 use Rattle.std.proofs.Common.{◌≡◌, List, Option, Some, ℕ, sym, subst}
-use Rattle.mas_complex.specs.declared.places.Place.{Place}
-use Rattle.mas_complex.specs.declared.places.Place.TheVariants.{Before, Put, Opened}
+use Rattle.ckpt_places.specs.declared.places.Place.{Place}
+use Rattle.ckpt_places.specs.declared.places.Place.TheVariants.{Before, Put, Opened}
 use Rattle.mas_complex.specs.Places.{HasNoOther}
 
 pub before_no_other : (place : Place) (waiting : List ℕ) (reads : Option (List ℕ)) (pages : List ℕ) → place ≡ Before → HasNoOther place waiting reads pages

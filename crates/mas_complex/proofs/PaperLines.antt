@@ -30,6 +30,7 @@ use Rattle.mas_complex.specs.Journals.{kept, flying, kept_all, in_flight, entrie
 use Rattle.mas_complex.specs.Locking.{IsOfOther}
 use Rattle.mas_complex.specs.Paper.{Papers, IsOnPaper, MarksAt, turned, count_at, LineAt, counts_of, printed_by, book_by, IsOfItsMember, KeepsPaper}
 use Rattle.mas_complex.proofs.Batches.{now_kept}
+use Rattle.mas_complex.proofs.Passing.{passes_of}
 use Rattle.mas_complex.proofs.Papers.{test_cases, have_begun, turned_later, turned_by, turned_from, given_front, given_rest, given_kept_all, given_coming, history_now, count_eq, same_papers, stays_on_paper, count_past, line_past}
 
 abbrev member_of : ℕ → MemberId
@@ -131,7 +132,7 @@ module _ (base : Queue) (since : ℕ) (js : List Batch) (c : Option Batch) (prin
         (marks_stay_on Old New base (kept J old.now ++ flying J old.now) (more_on (old.world old.now).paper (new.world new.now).paper m.0 l more others) (k.marks old.now started (le_refl old.now)))));
     lines = λ t from lt j. test_cases (nat_le old.now t) (LineAt base J since new t j)
         (λ e. let at : t ≡ old.now = is_old t old.now new.now lt time e in subst (λ (n : ℕ). LineAt base J since new n j) (sym at) (new_line j))
-        (λ e. line_past base since J old new goes j t from (is_lt t old.now e) (k.lines t from (is_lt t old.now e) j));
+        (λ e. line_past base since J old new (passes_of old new goes) j t from (is_lt t old.now e) (k.lines t from (is_lt t old.now e) j));
     kept_lines = kept_lines;
     coming_lines = coming_lines;
     counted = counted;
@@ -167,7 +168,7 @@ module _ (base : Queue) (since : ℕ) (js : List Batch) (c : Option Batch) (prin
       where
         next_is : l.text ≡ bytes → IsNextLine (run base (kept J old.now)) m (count_at J since new old.now m) l.text
         next_is is =
-            let count : counts_of printed m ≡ count_at J since new old.now m = k.counted m few up ∙ sym (count_past base since J old new goes m old.now started (le_refl old.now)) in
+            let count : counts_of printed m ≡ count_at J since new old.now m = k.counted m few up ∙ sym (count_past base since J old new (passes_of old new goes) m old.now started (le_refl old.now)) in
             subst (λ (es : List Entry). IsNextLine (run base es) m (count_at J since new old.now m) l.text) (sym (now_kept js c old.now old.now settled begun (le_refl old.now)))
             (subst (λ (n : ℕ). IsNextLine (run base K) m n l.text) count (subst (λ (bs : List ℕ). IsNextLine (run base K) m (counts_of printed m) bs) (sym is) may.next))
 

@@ -21,6 +21,7 @@ use Rattle.lock_cycle.specs.Books.{Book, is_stopped}
 use Rattle.queue_laws.specs.Runs.{IsGiven}
 use Rattle.spool_disk.specs.View.{View, World, Line}
 use Rattle.spool_disk.specs.Acts.{Goes, SamePaper, next}
+use Rattle.mas_complex.proofs.Passing.{Passes, passes_of}
 use Rattle.paper_laws.specs.Counts.{Counts, begins_anew, counts_anew, counts_after, AreAllowed}
 use Rattle.paper_laws.specs.Paper.{AreLinesOn, AreMarksOn}
 use Rattle.paper_laws.specs.Next.{IsNextLine}
@@ -162,7 +163,7 @@ same_papers old new goes time same t from to m =
     is_next : (t now new : ℕ) → t ≤ new → new ≡ next now → nat_le t now ≡ false → t ≡ new
     is_next t now new a b c = let w : now < t = grind (arith, nat_tests) in omega arith
 
-module _ (base : Queue) (since : ℕ) (J : List Batch) (old new : View) (goes : Goes old new) where
+module _ (base : Queue) (since : ℕ) (J : List Batch) (old new : View) (goes : Passes old new) where
   paper_past : (m t : ℕ) → t ≤ old.now → (new.world t).paper m ≡ (old.world t).paper m
   paper_past m t le = ap (λ (w : World). w.paper m) (goes.past t le)
 
@@ -184,8 +185,8 @@ module _ (base : Queue) (since : ℕ) (J : List Batch) (old new : View) (goes : 
 -- ACTS THAT PRINT NOTHING
 
 module _ (base : Queue) (since : ℕ) (js : List Batch) (c : Option Batch) (printed : List ℕ) (book book' : Book) (old new : View) (started : since ≤ old.now) (settled : AreSettled js old.now) (begun : IsBegun c old.now) where
-  pub stays_on_paper : Goes old new → SamePapers old new → ((m : MemberId) → is_stopped book' m ≡ false → is_stopped book m ≡ false) → KeepsPaper base since js c printed book old → KeepsPaper base since js c printed book' new
-  stays_on_paper goes same up k = record {
+  pub passes_on_paper : Passes old new → SamePapers old new → ((m : MemberId) → is_stopped book' m ≡ false → is_stopped book m ≡ false) → KeepsPaper base since js c printed book old → KeepsPaper base since js c printed book' new
+  passes_on_paper goes same up k = record {
     given = k.given;
     own = k.own;
     marks = λ t from le. test_cases (nat_le t old.now) (MarksAt base (js ++ in_flight c) new t)
@@ -219,6 +220,9 @@ module _ (base : Queue) (since : ℕ) (js : List Batch) (c : Option Batch) (prin
         let turn : turned m J new.now since ≡ turned m J old.now since = turned_later m J old.now new.now since (have_begun js c old.now settled begun) goes.later in
         ap (λ (n : ℕ). length ((new.world new.now).paper m.0) - length ((new.world n).paper m.0)) turn
         ∙ count_eq (same new.now goes.later (le_refl new.now) m.0) (ap (λ (w : World). w.paper m.0) (goes.past (turned m J old.now since) (turned_by m J old.now since started)))
+
+  pub stays_on_paper : Goes old new → SamePapers old new → ((m : MemberId) → is_stopped book' m ≡ false → is_stopped book m ≡ false) → KeepsPaper base since js c printed book old → KeepsPaper base since js c printed book' new
+  stays_on_paper goes same up k = passes_on_paper (passes_of old new goes) same up k
 
 -- the book moves, and nobody who was stopped is up again
 pub book_on_paper : (base : Queue) (since : ℕ) (js : List Batch) (c : Option Batch) (printed : List ℕ) (book book' : Book) (v : View) → ((m : MemberId) → is_stopped book' m ≡ false → is_stopped book m ≡ false) → KeepsPaper base since js c printed book v

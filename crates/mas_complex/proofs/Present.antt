@@ -1,17 +1,37 @@
 -- The present: what both copies read gives what a start finds.
-use Rattle.std.proofs.Common.{◌≡◌, ◌⊎◌, inl, inr, ⊎_elim, ℕ, ◌+◌, ◌<◌, ◌==◌, ◌&&◌, nat_lt, Bool, true, false, if◌then◌else◌, List, [], ◌++◌, Option, Some, None, refl, subst, sym, ap}
-use Rattle.std.proofs.lemmas.Bool.{and_from, eq-eqb}
+use Rattle.std.proofs.Common.{◌≡◌, ◌⊎◌, inl, inr, ⊎_elim, ℕ, ◌+◌, ◌≤◌, ◌<◌, ◌==◌, ◌&&◌, ◌||◌, nat_lt, Bool, true, false, if◌then◌else◌, List, [], ◌++◌, Option, Some, None, refl, subst, sym, ◌∙◌, ap, arith, le_refl}
+use Rattle.std.specs.Prelude.{not}
+use Rattle.std.proofs.lemmas.Bool.{and_from, eq-eqb, true≢false}
+use Rattle.std.proofs.lemmas.Bool.Decides.{nat_tests}
 use Rattle.mas_types.specs.declared.ids.Dev.{Dev}
 use Rattle.spool_disk.specs.declared.plant.Part.TheVariants.{Disk as DiskPart}
-use Rattle.spool_disk.specs.View.{View, Disk, disk_now}
+use Rattle.spool_disk.specs.View.{View, Disk, IsImage, disk_now}
 use Rattle.spool_disk.specs.Acts.{top}
 use Rattle.ckpt_copy.specs.Reading.{AllRead, EachReads}
 use Rattle.ckpt_copy.specs.Pages.{level}
 use Rattle.mas_types.specs.declared.journals.Entry.{Entry}
-use Rattle.mas_complex.specs.declared.places.Place.{Place}
-use Rattle.mas_complex.specs.declared.places.Place.TheVariants.{Before, Put, Opened, Unsure}
+use Rattle.ckpt_places.specs.declared.places.Place.{Place}
+use Rattle.ckpt_places.specs.declared.places.Place.TheVariants.{Before, Put, Opened, Unsure}
 use Rattle.duplex_pair.specs.Finds.{best}
-use Rattle.mas_complex.specs.Crash.{Setting, IsLeft, SomeLeft, found, IsFound, Stands, IsNext, IsOneOf, ReadsOne, Alike, OnComing, IsAt, OneCopy, lost_if, left_at}
+use Rattle.mas_complex.specs.Renewals.{is_renewed_at}
+use Rattle.mas_complex.specs.Crash.{Setting, IsLeft, SomeGood, found, IsFound, Stands, IsNext, IsOneOf, IsStale, ReadsOne, ReadsBy, Alike, OnComing, IsAt, IsAway, OneCopy, lost_if, left_at}
+
+-- of two copies one is good: it isn't lost, and isn't being replaced
+second_good : (m p : Bool) → (not m && not p) ≡ true → (m ≡ false) × (p ≡ false)
+second_good false false g = (refl, refl)
+second_good false true g = absurd (cc)
+second_good true p g = absurd (cc)
+
+good_of : (l o m p : Bool) → ((not l && not o) || (not m && not p)) ≡ true → ((l ≡ false) × (o ≡ false)) ⊎ ((m ≡ false) × (p ≡ false))
+good_of false false m p g = inl (refl, refl)
+good_of false true m p g = inr (second_good m p g)
+good_of true o m p g = inr (second_good m p g)
+
+lower_not : (a b l : ℕ) → l ≤ a → b < l → nat_lt a b ≡ true → ⊥
+lower_not a b l le lt e = let h : a < b = grind (arith, nat_tests) in omega arith
+
+not_above : (a b l : ℕ) → l ≤ b → a < l → nat_lt a b ≡ false → ⊥
+not_above a b l le lt e = let h : b ≤ a = grind (arith, nat_tests) in omega arith
 
 -- the pages that a start finds of two images are the kept ones, or those in flight
 module _ (was : List ℕ) (coming : Option (List ℕ)) where
@@ -27,11 +47,51 @@ module _ (was : List ℕ) (coming : Option (List ℕ)) where
     by_test true = also
     by_test false = is
 
-  one_found : (S : Setting) (d e : Disk) → ReadsOne S was coming d → ReadsOne S was coming e → (one two : Option (List ℕ)) → IsLeft d one → IsLeft e two → SomeLeft one two → IsOneOf was coming (found S one two)
-  one_found S d e r q None None left right some = absurd some
-  one_found S d e r q None (Some two) left right some = q two right
-  one_found S d e r q (Some one) None left right some = of_first (S.reads one) (r one left)
-  one_found S d e r q (Some one) (Some two) left right some = of_both (S.reads one) (S.reads two) (r one left) (q two right)
+  -- what a good copy reads has no lower level than the kept pages
+  module _ (low : (pages : List ℕ) → IsOneOf was coming (Some pages) → level was ≤ level pages) where
+    beside_stale : (one two : Option (List ℕ)) → IsOneOf was coming one → IsStale was two → IsOneOf was coming (best one two)
+    beside_stale None two is stale = absurd is
+    beside_stale (Some one) None is stale = is
+    beside_stale (Some one) (Some two) is stale = by_test (nat_lt (level one) (level two)) refl where
+      by_test : (c : Bool) → nat_lt (level one) (level two) ≡ c → IsOneOf was coming (if c then Some two else Some one)
+      by_test true e = ⊎_elim (λ same. inl same) (λ lower. absurd (lower_not (level one) (level two) (level was) (low one is) lower e)) stale
+      by_test false e = is
+
+    after_stale : (one two : Option (List ℕ)) → IsStale was one → IsOneOf was coming two → IsOneOf was coming (best one two)
+    after_stale one None stale is = absurd is
+    after_stale None (Some two) stale is = is
+    after_stale (Some one) (Some two) stale is = by_test (nat_lt (level one) (level two)) refl where
+      by_test : (c : Bool) → nat_lt (level one) (level two) ≡ c → IsOneOf was coming (if c then Some two else Some one)
+      by_test true e = is
+      by_test false e = ⊎_elim (λ same. inl same) (λ lower. absurd (not_above (level one) (level two) (level was) (low two is) lower e)) stale
+
+    first_found : (S : Setting) (p : Bool) (d e : Disk) → ReadsOne S was coming d → ReadsBy S p was coming e → (one two : Option (List ℕ)) → d.lost ≡ false → IsLeft d one → IsLeft e two → IsOneOf was coming (found S one two)
+    first_found S p d e r q None two there left right = absurd (true≢false (sym left ∙ there))
+    first_found S p d e r q (Some one) None there left right = of_first (S.reads one) (r one left)
+    first_found S false d e r q (Some one) (Some two) there left right = of_both (S.reads one) (S.reads two) (r one left) (q two right)
+    first_found S true d e r q (Some one) (Some two) there left right = beside_stale (S.reads one) (S.reads two) (r one left) (q two right)
+
+    second_found : (S : Setting) (o : Bool) (d e : Disk) → ReadsBy S o was coming d → ReadsOne S was coming e → (one two : Option (List ℕ)) → e.lost ≡ false → IsLeft d one → IsLeft e two → IsOneOf was coming (found S one two)
+    second_found S o d e r q one None there left right = absurd (true≢false (sym right ∙ there))
+    second_found S o d e r q None (Some two) there left right = q two right
+    second_found S false d e r q (Some one) (Some two) there left right = of_both (S.reads one) (S.reads two) (r one left) (q two right)
+    second_found S true d e r q (Some one) (Some two) there left right = after_stale (S.reads one) (S.reads two) (r one left) (q two right)
+
+    one_found : (S : Setting) (o p : Bool) (d e : Disk) → ReadsBy S o was coming d → ReadsBy S p was coming e → (one two : Option (List ℕ)) → IsLeft d one → IsLeft e two → SomeGood o p d e → IsOneOf was coming (found S one two)
+    one_found S o p d e r q one two left right good = ⊎_elim
+        (λ (g : (d.lost ≡ false) × (o ≡ false)). first_found S p d e (subst (λ (b : Bool). ReadsBy S b was coming d) g.1 r) q one two g.0 left right)
+        (λ (g : (e.lost ≡ false) × (p ≡ false)). second_found S o d e r (subst (λ (b : Bool). ReadsBy S b was coming e) g.1 q) one two g.0 left right)
+        (good_of d.lost o e.lost p good)
+
+-- the kept pages and those in flight have no lower level than the kept ones
+not_lower : (S : Setting) (reached : ℕ) (K F : List Entry) (was : List ℕ) (coming : Option (List ℕ)) → Stands S reached K was → IsNext S reached K F coming → (pages : List ℕ) → IsOneOf was coming (Some pages) → level was ≤ level pages
+not_lower S reached K F was coming stands comes pages (inl e) = subst (λ (p : List ℕ). level was ≤ level p) (sym e) (le_refl (level was))
+not_lower S reached K F was coming stands comes pages (inr e) = above (level was) (level pages) stands.at_level (at_next (subst (λ (n : Option (List ℕ)). IsNext S reached K F n) e comes)) where
+  above : (a b : ℕ) → a ≡ reached → b ≡ reached + 1 → a ≤ b
+  above a b x y = omega (arith, x, y)
+
+  at_next : Stands S (reached + 1) (K ++ F) pages → level pages ≡ reached + 1
+  at_next s = s.at_level
 
 -- the kept pages or those in flight stand for the queue after the kept entries, or with those in flight
 stands_of : (S : Setting) (reached : ℕ) (K F : List Entry) (was : List ℕ) (coming q : Option (List ℕ)) → Stands S reached K was → IsNext S reached K F coming → IsOneOf was coming q → IsFound S K q ⊎ IsFound S (K ++ F) q
@@ -42,25 +102,27 @@ stands_of S reached K F was coming (Some pages) stands comes (inr e) = inr (next
   next_stands s = s.queue
 
 -- what a start finds of two devices that agree
-pub alike_found : (S : Setting) (K F : List Entry) (d e : Disk) → Alike S K F d e → (one two : Option (List ℕ)) → IsLeft d one → IsLeft e two → SomeLeft one two → IsFound S K (found S one two) ⊎ IsFound S (K ++ F) (found S one two)
-alike_found S K F d e a one two left right some =
-    stands_of S a.reached K F a.was a.coming (found S one two) a.stands a.comes (one_found a.was a.coming S d e a.first a.second one two left right some)
+pub alike_found : (S : Setting) (K F : List Entry) (t : ℕ) (d e : Disk) → Alike S K F t d e → (one two : Option (List ℕ)) → IsLeft d one → IsLeft e two → SomeGood (is_renewed_at S.renewals.first t) (is_renewed_at S.renewals.second t) d e
+    → IsFound S K (found S one two) ⊎ IsFound S (K ++ F) (found S one two)
+alike_found S K F t d e a one two left right good =
+    stands_of S a.reached K F a.was a.coming (found S one two) a.stands a.comes
+    (one_found a.was a.coming (not_lower S a.reached K F a.was a.coming a.stands a.comes) S (is_renewed_at S.renewals.first t) (is_renewed_at S.renewals.second t) d e a.first a.second one two left right good)
 
 -- devices that agree on entries agree on equal ones
-pub alike_as : (S : Setting) (K F G H : List Entry) (d e : Disk) → G ≡ K → H ≡ F → Alike S K F d e → Alike S G H d e
-alike_as S K F G H d e k f a = subst (λ (l : List Entry). Alike S l H d e) (sym k) (subst (λ (l : List Entry). Alike S K l d e) (sym f) a)
+pub alike_as : {t : ℕ} (S : Setting) (K F G H : List Entry) (d e : Disk) → G ≡ K → H ≡ F → Alike S K F t d e → Alike S G H t d e
+alike_as {t} S K F G H d e k f a = subst (λ (l : List Entry). Alike S l H t d e) (sym k) (subst (λ (l : List Entry). Alike S K l t d e) (sym f) a)
 
 -- with no entry in flight each image reads as the kept pages, so any entries may come into flight
-pub alike_none : (S : Setting) (K F G : List Entry) (d e : Disk) → F ≡ [] → Alike S K F d e → Alike S K G d e
-alike_none S K F G d e none a = record {
+pub alike_none : {t : ℕ} (S : Setting) (K F G : List Entry) (d e : Disk) → F ≡ [] → Alike S K F t d e → Alike S K G t d e
+alike_none {t} S K F G d e none a = record {
   reached = a.reached;
   was = a.was;
   coming = None;
   stands = a.stands;
   comes = tt;
   none = λ _. refl;
-  first = subst (λ (n : Option (List ℕ)). ReadsOne S a.was n d) (a.none none) a.first;
-  second = subst (λ (n : Option (List ℕ)). ReadsOne S a.was n e) (a.none none) a.second;
+  first = subst (λ (n : Option (List ℕ)). ReadsBy S (is_renewed_at S.renewals.first t) a.was n d) (a.none none) a.first;
+  second = subst (λ (n : Option (List ℕ)). ReadsBy S (is_renewed_at S.renewals.second t) a.was n e) (a.none none) a.second;
 }
 
 -- what a copy at its place reads
@@ -79,10 +141,39 @@ module _ (S : Setting) (was : List ℕ) where
     clash : (b : Bool) → b ≡ true → b ≡ false → ⊥
     clash b p q = cc
 
+  -- of a lost device anything is said
+  pub lost_by : (renewed : Bool) (coming : Option (List ℕ)) (d : Disk) → d.lost ≡ true → ReadsBy S renewed was coming d
+  lost_by renewed coming d lost image is = absurd (true≢false (sym lost ∙ is.there))
+
   -- losing a device takes its images away
-  less_reads : (coming : Option (List ℕ)) (b : Bool) (d : Disk) → ReadsOne S was coming d → ReadsOne S was coming (lost_if b d)
-  less_reads coming true d reads = lost_reads coming (lost_if true d) refl
-  less_reads coming false d reads = reads
+  less_reads : (renewed : Bool) (coming : Option (List ℕ)) (b : Bool) (d : Disk) → ReadsBy S renewed was coming d → ReadsBy S renewed was coming (lost_if b d)
+  less_reads renewed coming true d reads = lost_by renewed coming (lost_if true d) refl
+  less_reads renewed coming false d reads = reads
+
+  -- a copy that isn't being replaced reads so
+  pub not_renewed : (renewed : Bool) (coming : Option (List ℕ)) (d : Disk) → renewed ≡ false → ReadsOne S was coming d → ReadsBy S renewed was coming d
+  not_renewed renewed coming d e reads = subst (λ (b : Bool). ReadsBy S b was coming d) (sym e) reads
+
+  -- a copy that wasn't being replaced and was lost
+  pub away_lost : (renewed : Bool) (now : ℕ) (d : Disk) → renewed ≡ false → (now < top → d.lost ≡ true) → IsAway S was renewed now d
+  away_lost renewed now d e lost = subst (λ (b : Bool). IsAway S was b now d) (sym e) lost
+
+  -- a copy that counts as lost, whose device stays as it is, or leaves no more images
+  pub away_moved : (renewed : Bool) (now later : ℕ) (d e : Disk) → now ≤ later → (d.lost ≡ true → e.lost ≡ true) → ((image : List ℕ) → IsImage e image → IsImage d image) → IsAway S was renewed now d → IsAway S was renewed later e
+  away_moved false now later d e le lost less away = λ lt. lost (away (omega (arith, le, lt)))
+  away_moved true now later d e le lost less away = λ image is. away image (less image is)
+
+  pub away_same : (renewed : Bool) (now later : ℕ) (d e : Disk) → now ≤ later → e ≡ d → IsAway S was renewed now d → IsAway S was renewed later e
+  away_same renewed now later d e le same = away_moved renewed now later d e le (λ lost. ap (λ (x : Disk). x.lost) same ∙ lost) (λ image is. subst (λ (x : Disk). IsImage x image) same is)
+
+  -- a copy that counts as lost
+  pub away_reads : (renewed : Bool) (coming : Option (List ℕ)) (now : ℕ) (d : Disk) → now < top → IsAway S was renewed now d → ReadsBy S renewed was coming d
+  away_reads false coming now d lt away = lost_reads coming d (away lt)
+  away_reads true coming now d lt away = away
+
+  away_top : (renewed : Bool) (coming : Option (List ℕ)) (now : ℕ) (b lost : Bool) (d : Disk) → b ≡ true → (renewed ≡ false → lost ≡ true) → IsAway S was renewed now d → ReadsBy S renewed was coming (lost_if (b && lost) d)
+  away_top false coming now b lost d e gone away = lost_reads coming (lost_if (b && lost) d) (ap (λ (c : Bool). (lost_if c d).lost) (and_from b lost e (gone refl)))
+  away_top true coming now b lost d e gone away = less_reads true coming (b && lost) d away
 
   module _ (rests : List ℕ → Disk → Type 0) (holds : List ℕ → List ℕ → Disk → Type 0)
       (rests_reads : (pages : List ℕ) (d : Disk) → rests pages d → AllRead S.reads pages d) (holds_reads : (was next : List ℕ) (d : Disk) → holds was next d → AllRead S.reads was d) where
@@ -100,11 +191,14 @@ module _ (S : Setting) (was : List ℕ) where
     side_reads coming Opened d side = opened_reads coming d side
     side_reads coming Unsure d side = side
 
-    pub copy_reads : (coming : Option (List ℕ)) (place : Place) (alive : Bool) (now : ℕ) (d : Disk) → now < top → OneCopy S rests holds was coming place alive now d → ReadsOne S was coming d
-    copy_reads coming place true now d lt copy = side_reads coming place d (copy.at refl)
-    copy_reads coming place false now d lt copy = lost_reads coming d (copy.gone refl lt)
+    pub copy_reads : {renewed : Bool} (coming : Option (List ℕ)) (place : Place) (alive : Bool) (now : ℕ) (d : Disk) → now < top → OneCopy S rests holds was coming place alive renewed now d → ReadsBy S renewed was coming d
+    copy_reads {renewed} coming place true now d lt copy = not_renewed renewed coming d (copy.formed refl) (side_reads coming place d (copy.at refl))
+    copy_reads {renewed} coming place false now d lt copy = away_reads renewed coming now d lt (copy.gone refl)
 
     -- what a copy reads at the greatest moment
-    pub top_reads : (coming : Option (List ℕ)) (place : Place) (alive : Bool) (dev : Dev) (v : View) → v.now ≡ top → OneCopy S rests holds was coming place alive v.now (disk_now v dev) → (alive ≡ false → v.lost (DiskPart dev) ≡ true) → ReadsOne S was coming (left_at v v.now dev)
-    top_reads coming place true dev v last copy lost = less_reads coming ((v.now == top) && v.lost (DiskPart dev)) (disk_now v dev) (side_reads coming place (disk_now v dev) (copy.at refl))
-    top_reads coming place false dev v last copy lost = lost_reads coming (left_at v v.now dev) (ap (λ (b : Bool). (lost_if b (disk_now v dev)).lost) (and_from (v.now == top) (v.lost (DiskPart dev)) (eq-eqb v.now top last) (lost refl)))
+    pub top_reads : {renewed : Bool} (coming : Option (List ℕ)) (place : Place) (alive : Bool) (dev : Dev) (v : View) → v.now ≡ top → OneCopy S rests holds was coming place alive renewed v.now (disk_now v dev) → (alive ≡ false → renewed ≡ false → v.lost (DiskPart dev) ≡ true)
+        → ReadsBy S renewed was coming (left_at v v.now dev)
+    top_reads {renewed} coming place true dev v last copy lost =
+        less_reads renewed coming ((v.now == top) && v.lost (DiskPart dev)) (disk_now v dev) (not_renewed renewed coming (disk_now v dev) (copy.formed refl) (side_reads coming place (disk_now v dev) (copy.at refl)))
+    top_reads {renewed} coming place false dev v last copy lost =
+        away_top renewed coming v.now (v.now == top) (v.lost (DiskPart dev)) (disk_now v dev) (eq-eqb v.now top last) (lost refl) (copy.gone refl)

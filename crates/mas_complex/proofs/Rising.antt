@@ -6,10 +6,12 @@ use Rattle.mas_types.specs.declared.journals.Entry.{Entry}
 use Rattle.mas_types.specs.declared.journals.Fate.TheVariants.{Kept}
 use Rattle.mas_types.specs.Journal.{is_kept}
 use Rattle.spool_disk.specs.View.{View, World, Disk, disk_at}
-use Rattle.spool_disk.specs.Acts.{Goes, top}
+use Rattle.spool_disk.specs.Acts.{top}
+use Rattle.mas_complex.proofs.Passing.{Passes}
 use Rattle.ckpt_copy.specs.Moments.{either_way}
 use Rattle.ckpt_copy.specs.Pages.{level}
 use Rattle.mas_complex.specs.Journals.{batches_kept, IsPlace}
+use Rattle.mas_complex.specs.Renewals.{is_renewed_at}
 use Rattle.mas_complex.specs.Crash.{Setting, Stands, IsNext, IsOneOf, ReadsOne, IsNear, RaisesOrders, ReadsAtLevel, ReadsUpTo, Rises, next_order, orders_most}
 
 -- HOW MANY BATCHES ARE KEPT
@@ -110,20 +112,21 @@ less_up reads l order a b le disk up image is pages e = (through (level pages) (
 
 module _ (S : Setting) (l order : ℕ) where
   -- acts
-  pub acts_rise : (js : List Batch) (reached : ℕ) (old new : View) → Goes old new → S.since ≤ old.now
-      → ((t : ℕ) → old.now < t → t ≤ new.now → t < top → ReadsUpTo S.reads l order (reached + 1) (disk_at new t Ckpt1) × ReadsUpTo S.reads l order (reached + 1) (disk_at new t Ckpt2))
+  pub acts_rise : (js : List Batch) (reached : ℕ) (old new : View) → Passes old new → S.since ≤ old.now
+      → ((t : ℕ) → old.now < t → t ≤ new.now → t < top
+      → (is_renewed_at S.renewals.first t ≡ false → ReadsUpTo S.reads l order (reached + 1) (disk_at new t Ckpt1)) × (is_renewed_at S.renewals.second t ≡ false → ReadsUpTo S.reads l order (reached + 1) (disk_at new t Ckpt2)))
       → Rises S js reached l order old → Rises S js reached l order new
   acts_rise js reached old new goes started later r = record {
     first1 = λ lt. subst (λ (w : World). ReadsAtLevel S.reads l order (w.disk Ckpt1)) (sym (goes.past S.since started)) (r.first1 lt);
     first2 = λ lt. subst (λ (w : World). ReadsAtLevel S.reads l order (w.disk Ckpt2)) (sym (goes.past S.since started)) (r.first2 lt);
     risen = r.risen;
-    most1 = λ t from le lt. ⊎_elim
-        (λ h. subst (λ (w : World). ReadsUpTo S.reads l order (reached + 1) (w.disk Ckpt1)) (sym (goes.past t h)) (r.most1 t from h lt))
-        (λ h. (later t h le lt).0)
+    most1 = λ t from le lt is. ⊎_elim
+        (λ h. subst (λ (w : World). ReadsUpTo S.reads l order (reached + 1) (w.disk Ckpt1)) (sym (goes.past t h)) (r.most1 t from h lt is))
+        (λ h. (later t h le lt).0 is)
         (either_way t old.now);
-    most2 = λ t from le lt. ⊎_elim
-        (λ h. subst (λ (w : World). ReadsUpTo S.reads l order (reached + 1) (w.disk Ckpt2)) (sym (goes.past t h)) (r.most2 t from h lt))
-        (λ h. (later t h le lt).1)
+    most2 = λ t from le lt is. ⊎_elim
+        (λ h. subst (λ (w : World). ReadsUpTo S.reads l order (reached + 1) (w.disk Ckpt2)) (sym (goes.past t h)) (r.most2 t from h lt is))
+        (λ h. (later t h le lt).1 is)
         (either_way t old.now);
   }
 
@@ -134,8 +137,8 @@ module _ (S : Setting) (l order : ℕ) where
     first1 = r.first1;
     first2 = r.first2;
     risen = through l (batches_kept js) (batches_kept (c ∷ [])) (batches_kept (js ++ c ∷ [])) r.risen most (kept_append js (c ∷ []));
-    most1 = λ t from le lt. less_up S.reads l order (reached + 1) (reached' + 1) (one_more least) (disk_at v t Ckpt1) (r.most1 t from le lt);
-    most2 = λ t from le lt. less_up S.reads l order (reached + 1) (reached' + 1) (one_more least) (disk_at v t Ckpt2) (r.most2 t from le lt);
+    most1 = λ t from le lt is. less_up S.reads l order (reached + 1) (reached' + 1) (one_more least) (disk_at v t Ckpt1) (r.most1 t from le lt is);
+    most2 = λ t from le lt is. less_up S.reads l order (reached + 1) (reached' + 1) (one_more least) (disk_at v t Ckpt2) (r.most2 t from le lt is);
   } where
     one_more : reached ≤ reached' → reached + 1 ≤ reached' + 1
     one_more h = omega (arith, h)
@@ -167,10 +170,10 @@ make_rise S reached was v since stands reads = record {
   first1 = λ lt. subst (λ (m : ℕ). ReadsAtLevel S.reads reached (next_order was) (disk_at v m Ckpt1)) (sym since) (at_kept S reached [] was stands (disk_at v v.now Ckpt1) (reads (now_low lt)).0);
   first2 = λ lt. subst (λ (m : ℕ). ReadsAtLevel S.reads reached (next_order was) (disk_at v m Ckpt2)) (sym since) (at_kept S reached [] was stands (disk_at v v.now Ckpt2) (reads (now_low lt)).1);
   risen = no_more reached;
-  most1 = λ t from le lt. let e : v.now ≡ t = omega (arith, since, from, le) in
+  most1 = λ t from le lt is. let e : v.now ≡ t = omega (arith, since, from, le) in
       subst (λ (m : ℕ). ReadsUpTo S.reads reached (next_order was) (reached + 1) (disk_at v m Ckpt1)) e
       (one_up S reached [] [] was None stands tt reached (next_order was) (own_near reached was stands.at_level) tt (disk_at v v.now Ckpt1) (reads (omega (arith, e, lt))).0);
-  most2 = λ t from le lt. let e : v.now ≡ t = omega (arith, since, from, le) in
+  most2 = λ t from le lt is. let e : v.now ≡ t = omega (arith, since, from, le) in
       subst (λ (m : ℕ). ReadsUpTo S.reads reached (next_order was) (reached + 1) (disk_at v m Ckpt2)) e
       (one_up S reached [] [] was None stands tt reached (next_order was) (own_near reached was stands.at_level) tt (disk_at v v.now Ckpt2) (reads (omega (arith, e, lt))).1);
 } where

@@ -9,16 +9,16 @@ use Rattle.ckpt_copy.specs.Meanwhile.{Meanwhile}
 use Rattle.ckpt_copy.specs.Moments.{meanwhile_end}
 use Rattle.duplex_pair.specs.Halves.{IsCkpt, SameOrLost}
 use Rattle.duplex_pair.specs.Both.{BothMeanwhile}
-use Rattle.mas_complex.specs.declared.places.Place.{Place}
-use Rattle.mas_complex.specs.declared.places.Place.TheVariants.{Before, Put}
+use Rattle.ckpt_places.specs.declared.places.Place.{Place}
+use Rattle.ckpt_places.specs.declared.places.Place.TheVariants.{Before, Put}
 use Rattle.mas_complex.specs.Crash.{Setting, OnComing, IsAt, OneCopy}
 
 pub on_ok : {T E A B : Type 0} (r : Result T E) → OnOk r A → (A → B) → OnOk r B
 on_ok (Ok x) a f = f a
 on_ok (Err x) a f = tt
 
-module _ (S : Setting) (rests : List ℕ → Disk → Type 0) (holds : List ℕ → List ℕ → Disk → Type 0) (was : List ℕ) (coming : Option (List ℕ)) (place : Place) (alive : Bool) (now : ℕ) (d d' : Disk)
-    (copy : OneCopy S rests holds was coming place alive now d) (is : alive ≡ true) where
+module _ {renewed : Bool} (S : Setting) (rests : List ℕ → Disk → Type 0) (holds : List ℕ → List ℕ → Disk → Type 0) (was : List ℕ) (coming : Option (List ℕ)) (place : Place) (alive : Bool) (now : ℕ) (d d' : Disk)
+    (copy : OneCopy S rests holds was coming place alive renewed now d) (is : alive ≡ true) where
   side_at : (p : Place) → place ≡ p → IsAt S rests holds was coming p d
   side_at p e = subst (λ (x : Place). IsAt S rests holds was coming x d) e (copy.at is)
 

@@ -1,6 +1,7 @@
 -- What one call does to one copy.
 use Rattle.std.proofs.Common.{◌≡◌, ℕ, ◌+◌, ◌≤◌, ◌<◌, Bool, true, false, List, [], ◌++◌, length, Option, Some, None, IfSome, Result, Ok, Err, OnOk, IsErrOf, refl, subst, sym, ◌∙◌, ap, arith}
 use Rattle.std.proofs.lemmas.List.{append-nil}
+use Rattle.std.proofs.lemmas.Bool.{true≢false}
 use Rattle.mas_types.specs.declared.ids.Dev.{Dev}
 use Rattle.mas_types.specs.declared.ids.Dev.TheVariants.{Ckpt1, Ckpt2, Spool}
 use Rattle.spool_disk.specs.View.{View, Disk, Avoids, IsImage, disk_now, slice}
@@ -15,13 +16,15 @@ use Rattle.duplex_pair.specs.declared.errors.PairNo.TheVariants.{BothLost, Halte
 use Rattle.duplex_pair.specs.Halves.{SameOrLost}
 use Rattle.mas_types.specs.declared.journals.Batch.{Batch}
 use Rattle.mas_types.specs.declared.journals.Entry.{Entry}
-use Rattle.mas_complex.specs.declared.places.Place.{Place}
-use Rattle.mas_complex.specs.declared.places.Place.TheVariants.{Before, Put, Opened, Unsure}
+use Rattle.ckpt_places.specs.declared.places.Place.{Place}
+use Rattle.ckpt_places.specs.declared.places.Place.TheVariants.{Before, Put, Opened, Unsure}
 use Rattle.mas_complex.specs.Journals.{kept_all, in_flight, entries_in}
-use Rattle.mas_complex.specs.Crash.{Setting, IsNext, IsNear, ReadsOne, OnComing, IsAt, OneCopy, Copy, CopyAt, Keeps}
+use Rattle.mas_complex.specs.Renewals.{is_open, of_device}
+use Rattle.mas_complex.specs.Crash.{Setting, IsNext, IsNear, ReadsOne, ReadsBy, OnComing, IsAt, IsAway, OneCopy, Copy, CopyAt, Keeps}
 use Rattle.mas_complex.specs.Places.{IsPlaceAfter, HasNoOther}
-use Rattle.mas_complex.proofs.Present.{all_read, each_reads, lost_reads, copy_reads}
+use Rattle.mas_complex.proofs.Present.{all_read, each_reads, not_renewed, away_lost, away_same, away_reads, copy_reads}
 use Rattle.mas_complex.proofs.Texting.{stays_same}
+use Rattle.mas_complex.proofs.Passing.{passes_of}
 use Rattle.mas_complex.proofs.Moves.{Adds, acts_keep}
 
 same_view : (dev : Dev) (P : Disk → Type 0) (old new : View) → new ≡ old → P (disk_now old dev) → Meanwhile dev P old new
@@ -31,8 +34,8 @@ at_place : (S : Setting) (rests : List ℕ → Disk → Type 0) (holds : List �
 at_place S rests holds was coming p q d e side = subst (λ (x : Place). IsAt S rests holds was coming x d) e side
 
 -- a copy at which the batch hasn't come rests with the kept pages
-pub rests_before : (S : Setting) (rests : List ℕ → Disk → Type 0) (holds : List ℕ → List ℕ → Disk → Type 0) (was : List ℕ) (coming : Option (List ℕ)) (place : Place) (alive : Bool) (now : ℕ) (d : Disk)
-    → OneCopy S rests holds was coming place alive now d → (alive ≡ true → place ≡ Before) → alive ≡ true → rests was d
+pub rests_before : {renewed : Bool} (S : Setting) (rests : List ℕ → Disk → Type 0) (holds : List ℕ → List ℕ → Disk → Type 0) (was : List ℕ) (coming : Option (List ℕ)) (place : Place) (alive : Bool) (now : ℕ) (d : Disk)
+    → OneCopy S rests holds was coming place alive renewed now d → (alive ≡ true → place ≡ Before) → alive ≡ true → rests was d
 rests_before S rests holds was coming place alive now d copy before is = at_place S rests holds was coming place Before d (before is) (copy.at is)
 
 pub no : (b : Bool) → b ≡ true → b ≡ false → ⊥
@@ -51,10 +54,10 @@ pub is_higher : (l m reached : ℕ) → l ≡ reached → m ≡ reached + 1 → 
 is_higher l m reached e f = omega (arith, e, f)
 
 -- A copy that has no other pages of the batch in flight than these has these.
-pub other_coming : (S : Setting) (rests : List ℕ → Disk → Type 0) (holds : List ℕ → List ℕ → Disk → Type 0) (was : List ℕ) (coming : Option (List ℕ)) (pages : List ℕ) (place : Place) (alive : Bool) (now : ℕ) (d : Disk) (behind : List ℕ → List ℕ)
+pub other_coming : {renewed : Bool} (S : Setting) (rests : List ℕ → Disk → Type 0) (holds : List ℕ → List ℕ → Disk → Type 0) (was : List ℕ) (coming : Option (List ℕ)) (pages : List ℕ) (place : Place) (alive : Bool) (now : ℕ) (d : Disk) (behind : List ℕ → List ℕ)
     → ((was next : List ℕ) (d : Disk) → holds was next d → behind d.bytes ≡ next) → ((was : List ℕ) (d : Disk) → rests was d → S.reads d.bytes ≡ Some was)
-    → (alive ≡ true → HasNoOther place (behind d.bytes) (S.reads d.bytes) pages) → OneCopy S rests holds was coming place alive now d → OneCopy S rests holds was (Some pages) place alive now d
-other_coming S rests holds was coming pages place alive now d behind shown rests_now same copy = record { at = λ is. by_place place coming (same is) (copy.at is); gone = copy.gone } where
+    → (alive ≡ true → HasNoOther place (behind d.bytes) (S.reads d.bytes) pages) → OneCopy S rests holds was coming place alive renewed now d → OneCopy S rests holds was (Some pages) place alive renewed now d
+other_coming S rests holds was coming pages place alive now d behind shown rests_now same copy = record { at = λ is. by_place place coming (same is) (copy.at is); formed = copy.formed; gone = copy.gone } where
   some_is : (x y : List ℕ) → Some x ≡ Some y → x ≡ y
   some_is x y e = cc
 
@@ -73,9 +76,9 @@ other_coming S rests holds was coming pages place alive now d behind shown rests
   by_place Unsure n e here = absurd e
 
 -- What holds of pages in flight holds of these, where the copy has no others, or it is before the batch and they have it.
-pub other_holds : (S : Setting) (rests : List ℕ → Disk → Type 0) (holds : List ℕ → List ℕ → Disk → Type 0) (was : List ℕ) (coming : Option (List ℕ)) (pages : List ℕ) (place : Place) (alive : Bool) (now : ℕ) (d : Disk) (behind : List ℕ → List ℕ)
+pub other_holds : {renewed : Bool} (S : Setting) (rests : List ℕ → Disk → Type 0) (holds : List ℕ → List ℕ → Disk → Type 0) (was : List ℕ) (coming : Option (List ℕ)) (pages : List ℕ) (place : Place) (alive : Bool) (now : ℕ) (d : Disk) (behind : List ℕ → List ℕ)
     → ((was next : List ℕ) (d : Disk) → holds was next d → behind d.bytes ≡ next) → ((was : List ℕ) (d : Disk) → rests was d → S.reads d.bytes ≡ Some was)
-    → alive ≡ true → HasNoOther place (behind d.bytes) (S.reads d.bytes) pages → OneCopy S rests holds was coming place alive now d
+    → alive ≡ true → HasNoOther place (behind d.bytes) (S.reads d.bytes) pages → OneCopy S rests holds was coming place alive renewed now d
     → (P : List ℕ → Type 0) → IfSome coming P → (place ≡ Before → P pages) → P pages
 other_holds S rests holds was coming pages place alive now d behind shown rests_now is same copy P holds_of at_before = by_place place coming refl same (copy.at is) holds_of where
   some_same : (x y : List ℕ) → Some x ≡ Some y → x ≡ y
@@ -98,11 +101,11 @@ other_holds S rests holds was coming pages place alive now d behind shown rests_
 module _ (S : Setting) (was : List ℕ) (coming : Option (List ℕ)) (dev : Dev) (old new : View) (rests' : List ℕ → Disk → Type 0) (holds' : List ℕ → List ℕ → Disk → Type 0) (place' : Place) (alive' : Bool) where
   -- the copy during a call, and after it
   pub record Went : Type 0 where
-    pub during : Meanwhile dev (λ d. old.now < top → ReadsOne S was coming d) old new
-    pub after : OneCopy S rests' holds' was coming place' alive' new.now (disk_now new dev)
+    pub during : Meanwhile dev (λ d. old.now < top → ReadsBy S (is_open (of_device dev S.renewals)) was coming d) old new
+    pub after : OneCopy S rests' holds' was coming place' alive' (is_open (of_device dev S.renewals)) new.now (disk_now new dev)
 
 module _ (S : Setting) (was : List ℕ) (before coming : Option (List ℕ)) (dev : Dev) (old new : View) (rests rests' : List ℕ → Disk → Type 0) (holds holds' : List ℕ → List ℕ → Disk → Type 0) (place place' : Place) (alive alive' : Bool)
-    (copy : OneCopy S rests holds was before place alive old.now (disk_now old dev)) (goes : Goes old new)
+    (copy : OneCopy S rests holds was before place alive (is_open (of_device dev S.renewals)) old.now (disk_now old dev)) (goes : Goes old new)
     (stays : alive' ≡ true → alive ≡ true) (idle : alive ≡ false → new ≡ old) (gone : alive ≡ true → alive' ≡ false → new.now < top → (disk_now new dev).lost ≡ true) where
   when_touched : alive ≡ true → (P : Disk → Type 0) → Meanwhile dev (Touched alive P (disk_now old dev)) old new → Meanwhile dev P old new
   when_touched is P m = subst (λ (b : Bool). Meanwhile dev (Touched b P (disk_now old dev)) old new) is m
@@ -110,10 +113,11 @@ module _ (S : Setting) (was : List ℕ) (before coming : Option (List ℕ)) (dev
   -- a copy that was lost stays so
   pub idles : alive ≡ false → Went S was coming dev old new rests' holds' place' alive'
   idles dead = record {
-    during = same_view dev (λ d. old.now < top → ReadsOne S was coming d) old new (idle dead) (λ lt. lost_reads S was coming (disk_now old dev) (copy.gone dead lt));
+    during = same_view dev (λ d. old.now < top → ReadsBy S (is_open (of_device dev S.renewals)) was coming d) old new (idle dead) (λ lt. away_reads S was (is_open (of_device dev S.renewals)) coming old.now (disk_now old dev) lt (copy.gone dead));
     after = record {
       at = λ is. absurd (no alive (stays is) dead);
-      gone = λ is lt. subst (λ (v : View). v.now < top → (disk_now v dev).lost ≡ true) (sym (idle dead)) (copy.gone dead) lt;
+      formed = λ is. absurd (no alive (stays is) dead);
+      gone = λ is. subst (λ (v : View). IsAway S was (is_open (of_device dev S.renewals)) v.now (disk_now v dev)) (sym (idle dead)) (copy.gone dead);
     };
   }
 
@@ -123,7 +127,7 @@ module _ (S : Setting) (was : List ℕ) (before coming : Option (List ℕ)) (dev
 
 -- the next pages are put behind the closed gate
 module _ (S : Setting) (was : List ℕ) (before : Option (List ℕ)) (dev : Dev) (old new : View) (rests rests' : List ℕ → Disk → Type 0) (holds holds' : List ℕ → List ℕ → Disk → Type 0) (place place' : Place) (alive alive' : Bool)
-    (copy : OneCopy S rests holds was before place alive old.now (disk_now old dev)) (goes : Goes old new)
+    (copy : OneCopy S rests holds was before place alive (is_open (of_device dev S.renewals)) old.now (disk_now old dev)) (goes : Goes old new)
     (stays : alive' ≡ true → alive ≡ true) (idle : alive ≡ false → new ≡ old) (gone : alive ≡ true → alive' ≡ false → new.now < top → (disk_now new dev).lost ≡ true)
     (tells : Type 0) (told : tells) (at_before : alive ≡ true → place ≡ Before) {T : Type 0} (done : Result T PairNo) (pages : List ℕ) (higher : level was < level pages)
     (call : (was : List ℕ) → (alive ≡ true → rests was (disk_now old dev)) → Meanwhile dev (Touched alive (AllRead S.reads was) (disk_now old dev)) old new)
@@ -135,8 +139,8 @@ module _ (S : Setting) (was : List ℕ) (before : Option (List ℕ)) (dev : Dev)
       let here : rests was (disk_now old dev) = at_place S rests holds was before place Before (disk_now old dev) (at_before is) (copy.at is) in
       let m = when_touched S was before (Some pages) dev old new rests rests' holds holds' place place' alive alive' copy goes stays idle gone is (AllRead S.reads was) (call was (λ _. here)) in
       record {
-        during = meanwhile_weaker dev (AllRead S.reads was) (λ d. old.now < top → ReadsOne S was (Some pages) d) old new m (λ d all lt. all_read S was (Some pages) d all);
-        after = record { at = λ alive_now. by_done here done held both after (all_read S was (Some pages) (disk_now new dev) (meanwhile_end dev (AllRead S.reads was) old new m)) alive_now; gone = gone is };
+        during = meanwhile_weaker dev (AllRead S.reads was) (λ d. old.now < top → ReadsBy S (is_open (of_device dev S.renewals)) was (Some pages) d) old new m (λ d all lt. not_renewed S was (is_open (of_device dev S.renewals)) (Some pages) d (copy.formed is) (all_read S was (Some pages) d all));
+        after = record { at = λ alive_now. by_done here done held both after (all_read S was (Some pages) (disk_now new dev) (meanwhile_end dev (AllRead S.reads was) old new m)) alive_now; formed = λ alive_now. copy.formed is; gone = λ dead. away_lost S was (is_open (of_device dev S.renewals)) new.now (disk_now new dev) (copy.formed is) (gone is dead) };
       } where
         by_done : rests was (disk_now old dev) → (done : Result T PairNo) → OnOk done (tells → alive' ≡ true → (was : List ℕ) → rests was (disk_now old dev) → level was < level pages → Covers n changed was pages → holds' was pages (disk_now new dev))
             → (IsErrOf done BothLost → alive' ≡ false) → IsPlaceAfter done Put place' → ReadsOne S was (Some pages) (disk_now new dev) → alive' ≡ true → IsAt S rests' holds' was (Some pages) place' (disk_now new dev)
@@ -149,7 +153,7 @@ module _ (S : Setting) (was : List ℕ) (before : Option (List ℕ)) (dev : Dev)
 
 -- the gate is opened
 module _ (S : Setting) (was : List ℕ) (coming : Option (List ℕ)) (dev : Dev) (old new : View) (rests rests' : List ℕ → Disk → Type 0) (holds holds' : List ℕ → List ℕ → Disk → Type 0) (place place' : Place) (alive alive' : Bool)
-    (copy : OneCopy S rests holds was coming place alive old.now (disk_now old dev)) (goes : Goes old new)
+    (copy : OneCopy S rests holds was coming place alive (is_open (of_device dev S.renewals)) old.now (disk_now old dev)) (goes : Goes old new)
     (stays : alive' ≡ true → alive ≡ true) (idle : alive ≡ false → new ≡ old) (gone : alive ≡ true → alive' ≡ false → new.now < top → (disk_now new dev).lost ≡ true)
     (tells : Type 0) (told : tells) (at_put : alive ≡ true → place ≡ Put) {T : Type 0} (done : Result T PairNo)
     (call : (was next : List ℕ) → (alive ≡ true → holds was next (disk_now old dev)) → Meanwhile dev (Touched alive (EachReads S.reads was next) (disk_now old dev)) old new)
@@ -160,8 +164,8 @@ module _ (S : Setting) (was : List ℕ) (coming : Option (List ℕ)) (dev : Dev)
       let m = when_touched S was coming coming dev old new rests rests' holds holds' place place' alive alive' copy goes stays idle gone is (EachReads S.reads was pages) (call was pages (λ _. here)) in
       let reads : (d : Disk) → EachReads S.reads was pages d → ReadsOne S was coming d = λ d each. each_reads S was coming d pages same each in
       record {
-        during = meanwhile_weaker dev (EachReads S.reads was pages) (λ d. old.now < top → ReadsOne S was coming d) old new m (λ d each lt. reads d each);
-        after = record { at = λ alive_now. by_done done opened both after (reads (disk_now new dev) (meanwhile_end dev (EachReads S.reads was pages) old new m)) alive_now; gone = gone is };
+        during = meanwhile_weaker dev (EachReads S.reads was pages) (λ d. old.now < top → ReadsBy S (is_open (of_device dev S.renewals)) was coming d) old new m (λ d each lt. not_renewed S was (is_open (of_device dev S.renewals)) coming d (copy.formed is) (reads d each));
+        after = record { at = λ alive_now. by_done done opened both after (reads (disk_now new dev) (meanwhile_end dev (EachReads S.reads was pages) old new m)) alive_now; formed = λ alive_now. copy.formed is; gone = λ dead. away_lost S was (is_open (of_device dev S.renewals)) new.now (disk_now new dev) (copy.formed is) (gone is dead) };
       } where
         by_done : (done : Result T PairNo) → OnOk done (tells → alive' ≡ true → (was next : List ℕ) → holds was next (disk_now old dev) → rests' next (disk_now new dev))
             → (IsErrOf done BothLost → alive' ≡ false) → IsPlaceAfter done Opened place' → ReadsOne S was coming (disk_now new dev) → alive' ≡ true → IsAt S rests' holds' was coming place' (disk_now new dev)
@@ -179,11 +183,11 @@ module _ (S : Setting) (was : List ℕ) (coming : Option (List ℕ)) (dev : Dev)
   open_side = by_alive S was coming coming dev old new rests rests' holds holds' place place' alive alive' copy goes stays idle gone open_alive alive refl
 
 pub lose_side : (S : Setting) (was : List ℕ) (coming : Option (List ℕ)) (dev : Dev) (old new : View) (rests rests' : List ℕ → Disk → Type 0) (holds holds' : List ℕ → List ℕ → Disk → Type 0) (place place' : Place) (alive alive' : Bool)
-    → OneCopy S rests holds was coming place alive old.now (disk_now old dev) → ((pages : List ℕ) (d : Disk) → rests pages d → AllRead S.reads pages d) → ((was next : List ℕ) (d : Disk) → holds was next d → AllRead S.reads was d)
+    → OneCopy S rests holds was coming place alive (is_open (of_device dev S.renewals)) old.now (disk_now old dev) → ((pages : List ℕ) (d : Disk) → rests pages d → AllRead S.reads pages d) → ((was next : List ℕ) (d : Disk) → holds was next d → AllRead S.reads was d)
     → Meanwhile dev (SameOrLost (disk_now old dev)) old new → alive' ≡ false → (new.now < top → (disk_now new dev).lost ≡ true) → Went S was coming dev old new rests' holds' place' alive'
 lose_side S was coming dev old new rests rests' holds holds' place place' alive alive' copy rests_reads holds_reads m dead lost = record {
-  during = meanwhile_weaker dev (SameOrLost (disk_now old dev)) (λ d. old.now < top → ReadsOne S was coming d) old new m (λ d so lt image is. copy_reads S was rests holds rests_reads holds_reads coming place alive old.now (disk_now old dev) lt copy image (same_image d so image is));
-  after = record { at = λ is. absurd (no alive' is dead); gone = λ is. lost };
+  during = meanwhile_weaker dev (SameOrLost (disk_now old dev)) (λ d. old.now < top → ReadsBy S (is_open (of_device dev S.renewals)) was coming d) old new m (λ d so lt image is. copy_reads S was rests holds rests_reads holds_reads coming place alive old.now (disk_now old dev) lt copy image (same_image d so image is));
+  after = record { at = λ is. absurd (no alive' is dead); formed = λ is. absurd (no alive' is dead); gone = λ is. away_now (is_open (of_device dev S.renewals)) alive copy.formed copy.gone };
 } where
   same_image : (d : Disk) → SameOrLost (disk_now old dev) d → (image : List ℕ) → IsImage d image → IsImage (disk_now old dev) image
   same_image d so image is = record {
@@ -192,12 +196,19 @@ lose_side S was coming dev old new rests rests' holds holds' place place' alive 
     synced = λ s avoids. is.synced s (subst (λ u. Avoids u s) (sym so.unsynced) avoids) ∙ ap (slice s.from s.len) so.bytes;
   }
 
+  -- one that was being replaced counted as lost
+  away_now : (r a : Bool) → (a ≡ true → r ≡ false) → (a ≡ false → IsAway S was r old.now (disk_now old dev)) → IsAway S was r new.now (disk_now new dev)
+  away_now false a formed away = lost
+  away_now true true formed away = absurd (true≢false (formed refl))
+  away_now true false formed away = λ image is. away refl image (same_image (disk_now new dev) (meanwhile_end dev (SameOrLost (disk_now old dev)) old new m) image is)
+
 -- a copy whose device stays as it is stays at its place
-pub moved : (S : Setting) (rests : List ℕ → Disk → Type 0) (holds : List ℕ → List ℕ → Disk → Type 0) (was : List ℕ) (coming : Option (List ℕ)) (place : Place) (alive : Bool) (now later : ℕ) (d e : Disk) → now ≤ later → e ≡ d
-    → OneCopy S rests holds was coming place alive now d → OneCopy S rests holds was coming place alive later e
-moved S rests holds was coming place alive now later d e le same copy = record {
+pub moved : {renewed : Bool} (S : Setting) (rests : List ℕ → Disk → Type 0) (holds : List ℕ → List ℕ → Disk → Type 0) (was : List ℕ) (coming : Option (List ℕ)) (place : Place) (alive : Bool) (now later : ℕ) (d e : Disk) → now ≤ later → e ≡ d
+    → OneCopy S rests holds was coming place alive renewed now d → OneCopy S rests holds was coming place alive renewed later e
+moved {renewed} S rests holds was coming place alive now later d e le same copy = record {
   at = λ is. subst (λ (x : Disk). IsAt S rests holds was coming place x) (sym same) (copy.at is);
-  gone = λ is lt. subst (λ (x : Disk). x.lost ≡ true) (sym same) (copy.gone is (omega arith));
+  formed = copy.formed;
+  gone = λ is. away_same S was renewed now later d e le same (copy.gone is);
 }
 
 pub calm : (S : Setting) (J : List Batch) (old new : View) → ((t : ℕ) → old.now ≤ t → t ≤ new.now → (new.world t).console ≡ (old.world old.now).console) → old.now ≤ new.now → Adds S J old new
@@ -211,15 +222,15 @@ calm S J old new same le = record {
 module _ (S : Setting) (js : List Batch) (c : Option Batch) (reached : ℕ) (first second first' second' : Copy) (old new : View) (keeps : Keeps S js c reached first second old)
     (coming : Option (List ℕ)) (comes : IsNext S reached (kept_all js) (entries_in c) coming) (none : entries_in c ≡ [] → coming ≡ None) (nears : IfSome coming (IsNear keeps.first_level keeps.first_order)) where
   pub on_first : ((pages : List ℕ) (d : Disk) → second.rests pages d → AllRead S.reads pages d) → ((was next : List ℕ) (d : Disk) → second.holds was next d → AllRead S.reads was d)
-      → CopyAt S keeps.was coming second old.now (disk_now old Ckpt2)
+      → CopyAt S keeps.was coming Ckpt2 second old.now (disk_now old Ckpt2)
       → Went S keeps.was coming Ckpt1 old new first'.rests first'.holds first'.place first'.alive
-      → (CopyAt S keeps.was coming second new.now (disk_now new Ckpt2) → CopyAt S keeps.was coming second' new.now (disk_now new Ckpt2)) → Keeps S js c reached first' second' new
+      → (CopyAt S keeps.was coming Ckpt2 second new.now (disk_now new Ckpt2) → CopyAt S keeps.was coming Ckpt2 second' new.now (disk_now new Ckpt2)) → Keeps S js c reached first' second' new
   on_first rests_reads holds_reads there went to_second =
       let m = went.during in
-      acts_keep S js c reached first second first' second' old new keeps m.goes coming comes none nears
+      acts_keep S js c reached first second first' second' old new keeps (passes_of old new m.goes) coming comes none nears
       (λ t lt le below. (
         m.here t (omega arith) le (omega arith),
-        subst (λ (d : Disk). ReadsOne S keeps.was coming d) (sym (m.others t (omega arith) le Ckpt2 (λ e. absurd (cc))))
+        subst (λ (d : Disk). ReadsBy S (is_open S.renewals.second) keeps.was coming d) (sym (m.others t (omega arith) le Ckpt2 (λ e. absurd (cc))))
             (copy_reads S keeps.was second.rests second.holds rests_reads holds_reads coming second.place second.alive old.now (disk_now old Ckpt2) (omega arith) there),
       ))
       (calm S (js ++ in_flight c) old new m.console m.goes.later)
@@ -229,14 +240,14 @@ module _ (S : Setting) (js : List Batch) (c : Option Batch) (reached : ℕ) (fir
       (m.others new.now m.goes.later (omega arith) Ckpt2 (λ e. absurd (cc))) there))
 
   pub on_second : ((pages : List ℕ) (d : Disk) → first.rests pages d → AllRead S.reads pages d) → ((was next : List ℕ) (d : Disk) → first.holds was next d → AllRead S.reads was d)
-      → CopyAt S keeps.was coming first old.now (disk_now old Ckpt1)
+      → CopyAt S keeps.was coming Ckpt1 first old.now (disk_now old Ckpt1)
       → Went S keeps.was coming Ckpt2 old new second'.rests second'.holds second'.place second'.alive
-      → (CopyAt S keeps.was coming first new.now (disk_now new Ckpt1) → CopyAt S keeps.was coming first' new.now (disk_now new Ckpt1)) → Keeps S js c reached first' second' new
+      → (CopyAt S keeps.was coming Ckpt1 first new.now (disk_now new Ckpt1) → CopyAt S keeps.was coming Ckpt1 first' new.now (disk_now new Ckpt1)) → Keeps S js c reached first' second' new
   on_second rests_reads holds_reads there went to_first =
       let m = went.during in
-      acts_keep S js c reached first second first' second' old new keeps m.goes coming comes none nears
+      acts_keep S js c reached first second first' second' old new keeps (passes_of old new m.goes) coming comes none nears
       (λ t lt le below. (
-        subst (λ (d : Disk). ReadsOne S keeps.was coming d) (sym (m.others t (omega arith) le Ckpt1 (λ e. absurd (cc))))
+        subst (λ (d : Disk). ReadsBy S (is_open S.renewals.first) keeps.was coming d) (sym (m.others t (omega arith) le Ckpt1 (λ e. absurd (cc))))
             (copy_reads S keeps.was first.rests first.holds rests_reads holds_reads coming first.place first.alive old.now (disk_now old Ckpt1) (omega arith) there),
         m.here t (omega arith) le (omega arith),
       ))

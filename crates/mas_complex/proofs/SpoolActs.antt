@@ -17,8 +17,10 @@ use Rattle.spool_volumes.specs.Volumes.{volume_of, start_of}
 use Rattle.mas_complex.specs.Journals.{kept_all, entries_in}
 use Rattle.mas_complex.specs.Spool.{IsHeldBy, device_of, is_within, page_start, page_part, ReadsGroup, WritesGroup}
 use Rattle.mas_complex.specs.Texts.{spools_at, lost_now, HasTexts}
-use Rattle.mas_complex.specs.Crash.{Setting, ReadsOne, Copy, Keeps}
+use Rattle.mas_complex.specs.Renewals.{is_open}
+use Rattle.mas_complex.specs.Crash.{Setting, ReadsBy, Copy, Keeps}
 use Rattle.mas_complex.proofs.Present.{copy_reads}
+use Rattle.mas_complex.proofs.Passing.{passes_of}
 use Rattle.mas_complex.proofs.Moves.{acts_keep}
 use Rattle.mas_complex.proofs.Sides.{moved}
 use Rattle.mas_complex.proofs.Spooled.{texts_quiet, texts_written, each_quiet, quiet_untouched, read_quiet, sync_quiet}
@@ -83,11 +85,11 @@ module _ (S : Setting) (js : List Batch) (c : Option Batch) (reached : ℕ) (fir
   spool_keep goes time volume only stays =
       let one : disk_now new Ckpt1 ≡ disk_now old Ckpt1 = only.others Ckpt1 (λ e. absurd (cc)) in
       let two : disk_now new Ckpt2 ≡ disk_now old Ckpt2 = only.others Ckpt2 (λ e. absurd (cc)) in
-      acts_keep S js c reached first second first second old new keeps goes keeps.coming keeps.comes keeps.none keeps.comes_near
+      acts_keep S js c reached first second first second old new keeps (passes_of old new goes) keeps.coming keeps.comes keeps.none keeps.comes_near
       (λ t lt le below. let e = at_end old new time t lt le in (
-        subst (λ (m : ℕ). ReadsOne S keeps.was keeps.coming (disk_at new m Ckpt1)) (sym e) (subst (λ (d : Disk). ReadsOne S keeps.was keeps.coming d) (sym one)
+        subst (λ (m : ℕ). ReadsBy S (is_open S.renewals.first) keeps.was keeps.coming (disk_at new m Ckpt1)) (sym e) (subst (λ (d : Disk). ReadsBy S (is_open S.renewals.first) keeps.was keeps.coming d) (sym one)
             (copy_reads S keeps.was first.rests first.holds rests_reads1 holds_reads1 keeps.coming first.place first.alive old.now (disk_now old Ckpt1) (omega arith) keeps.first_at)),
-        subst (λ (m : ℕ). ReadsOne S keeps.was keeps.coming (disk_at new m Ckpt2)) (sym e) (subst (λ (d : Disk). ReadsOne S keeps.was keeps.coming d) (sym two)
+        subst (λ (m : ℕ). ReadsBy S (is_open S.renewals.second) keeps.was keeps.coming (disk_at new m Ckpt2)) (sym e) (subst (λ (d : Disk). ReadsBy S (is_open S.renewals.second) keeps.was keeps.coming d) (sym two)
             (copy_reads S keeps.was second.rests second.holds rests_reads2 holds_reads2 keeps.coming second.place second.alive old.now (disk_now old Ckpt2) (omega arith) keeps.second_at)),
       ))
       (record {

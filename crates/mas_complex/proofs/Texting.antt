@@ -6,10 +6,9 @@ use Rattle.mas_types.specs.declared.journals.Batch.{Batch}
 use Rattle.mas_types.specs.declared.journals.Entry.{Entry}
 use Rattle.mas_types.specs.declared.journals.Fate.TheVariants.{Flying}
 use Rattle.mas_types.specs.Journal.{is_kept, is_flying}
-use Rattle.spool_disk.specs.declared.plant.Part.TheVariants.{Disk as DiskPart}
 use Rattle.spool_disk.specs.View.{View, World, Disk, disk_at, disk_now}
-use Rattle.spool_disk.specs.Acts.{Goes}
 use Rattle.ckpt_copy.specs.Moments.{either_way}
+use Rattle.mas_complex.proofs.Passing.{Passes}
 use Rattle.mas_complex.specs.Texts.{spools_at, lost_now, HasTexts}
 use Rattle.mas_complex.specs.Journals.{kept, flying, kept_all, in_flight, entries_in, AreSettled, IsBegun}
 use Rattle.mas_complex.specs.Crash.{Setting, TextsAt, KeepsTexts, AreSunk}
@@ -69,10 +68,10 @@ stays_same S K F old new same = record {
   sunk = λ t lt le n lost. inl (sym (ap (λ (d : Disk). d.lost) (same t lt le n)) ∙ lost);
 }
 
-module _ (S : Setting) (js : List Batch) (c : Option Batch) (old new : View) (settled : AreSettled js old.now) (begun : IsBegun c old.now) (started : S.since ≤ old.now) (goes : Goes old new) (stays : Stays S (kept_all js) (entries_in c) old new) where
+module _ (S : Setting) (js : List Batch) (c : Option Batch) (old new : View) (settled : AreSettled js old.now) (begun : IsBegun c old.now) (started : S.since ≤ old.now) (goes : Passes old new) (stays : Stays S (kept_all js) (entries_in c) old new) where
   -- volumes that were lost still are
   later : (t : ℕ) (es : List Entry) → Has S (lost_now old) (old.world t) es → Has S (lost_now new) (old.world t) es
-  later t es has = texts_fewer (lost_now old) (lost_now new) (spools_at old t) S.base.config.groups (S.run S.base es) (λ n lost. goes.lost (DiskPart (Spool n)) lost) has
+  later t es has = texts_fewer (lost_now old) (lost_now new) (spools_at old t) S.base.config.groups (S.run S.base es) (λ n lost. goes.volumes n lost) has
 
   acts_past : (t : ℕ) → t ≤ old.now → TextsAt S (js ++ in_flight c) old t → TextsAt S (js ++ in_flight c) new t
   acts_past t le at = record {
@@ -95,8 +94,8 @@ module _ (S : Setting) (js : List Batch) (c : Option Batch) (old new : View) (se
 
   pub acts_sunk : AreSunk S old → AreSunk S new
   acts_sunk sunk t from le n lost = ⊎_elim
-      (λ (h : t ≤ old.now). goes.lost (DiskPart (Spool n)) (sunk t from h n (ap (λ (w : World). (w.disk (Spool n)).lost) (sym (goes.past t h)) ∙ lost)))
-      (λ (h : old.now < t). ⊎_elim (λ was. goes.lost (DiskPart (Spool n)) (sunk old.now started (omega arith) n was)) (λ now. now) (stays.sunk t h le n lost))
+      (λ (h : t ≤ old.now). goes.volumes n (sunk t from h n (ap (λ (w : World). (w.disk (Spool n)).lost) (sym (goes.past t h)) ∙ lost)))
+      (λ (h : old.now < t). ⊎_elim (λ was. goes.volumes n (sunk old.now started (omega arith) n was)) (λ now. now) (stays.sunk t h le n lost))
       (either_way t old.now)
 
 -- THE JOURNAL

@@ -18,8 +18,9 @@ use Rattle.ckpt_pages.specs.Shape.{page_count}
 use Rattle.duplex_pair.specs.declared.errors.Look.{Look}
 use Rattle.duplex_pair.specs.declared.errors.Look.TheVariants.{Lost, Unread, Pages}
 use Rattle.duplex_pair.specs.Looks.{WasSeen}
-use Rattle.mas_complex.specs.declared.places.Place.{Place}
-use Rattle.mas_complex.specs.Crash.{IsNext, IsOneOf, OneCopy, Stands, setting}
+use Rattle.ckpt_places.specs.declared.places.Place.{Place}
+use Rattle.mas_complex.specs.declared.renewals.Renewals.{Renewals}
+use Rattle.mas_complex.specs.Crash.{IsNext, IsOneOf, OneCopy, Stands, setting_with}
 use Rattle.mas_complex.specs.Meaning.{StandFor, run}
 use Rattle.mas_complex.specs.Seen.{IfPages, IsGreater, IsOneSeen, usable}
 use Rattle.mas_complex.proofs.Looking.{reads_in}
@@ -95,11 +96,11 @@ stand_many base es pages sized stand =
     ∙ ap page_count (sym stand.tell.tell.config ∙ (runs_keep_configuration base es).config)
 
 -- a copy that counts as alive reads as many pages as the configuration has
-module _ (reads : List ℕ → Option (List ℕ)) (base : Queue) (since reached : ℕ) (K F : List Entry) (was : List ℕ) (coming : Option (List ℕ)) (stands : Stands (setting reads base since) reached K was) (comes : IsNext (setting reads base since) reached K F coming) where
+module _ (reads : List ℕ → Option (List ℕ)) (base : Queue) (since : ℕ) (rs : Renewals) (reached : ℕ) (K F : List Entry) (was : List ℕ) (coming : Option (List ℕ)) (stands : Stands (setting_with reads base since rs) reached K was) (comes : IsNext (setting_with reads base since rs) reached K F coming) where
   one_many : (pages : List Page) → All IsSized pages → IsOneOf was coming (Some (bytes_of pages)) → length pages ≡ page_count base.config
   one_many pages sized one = ⊎_elim
       (λ e. stand_many base K pages sized (subst (λ (l : List ℕ). StandFor (run base K) l) (sym e) stands.queue))
-      (λ e. let next : IsNext (setting reads base since) reached K F (Some (bytes_of pages)) = subst (λ (n : Option (List ℕ)). IsNext (setting reads base since) reached K F n) e comes in stand_many base (K ++ F) pages sized next.queue)
+      (λ e. let next : IsNext (setting_with reads base since rs) reached K F (Some (bytes_of pages)) = subst (λ (n : Option (List ℕ)). IsNext (setting_with reads base since rs) reached K F n) e comes in stand_many base (K ++ F) pages sized next.queue)
       one
 
   none_unused : (q : Option (List ℕ)) → IsOneOf was coming q → (q ≡ None) ⊎ ((pages : List Page) × (q ≡ Some (bytes_of pages)) × All IsSized pages × (length pages ≢ page_count base.config)) → ⊥
@@ -108,11 +109,11 @@ module _ (reads : List ℕ → Option (List ℕ)) (base : Queue) (since reached 
       (λ u. u.3 (one_many u.0 u.2 (subst (λ (p : Option (List ℕ)). IsOneOf was coming p) u.1 one)))
       unused
 
-  pub always_used : (rests : List ℕ → Disk → Type 0) (holds : List ℕ → List ℕ → Disk → Type 0) (place : Place) (alive : Bool) (now : ℕ) (d : Disk) → OneCopy (setting reads base since) rests holds was coming place alive now d → alive ≡ true
+  pub always_used : {renewed : Bool} (rests : List ℕ → Disk → Type 0) (holds : List ℕ → List ℕ → Disk → Type 0) (place : Place) (alive : Bool) (now : ℕ) (d : Disk) → OneCopy (setting_with reads base since rs) rests holds was coming place alive renewed now d → alive ≡ true
       → ((pages : List ℕ) (d : Disk) → rests pages d → AllRead reads pages d) → ((was next : List ℕ) (d : Disk) → holds was next d → AllRead reads was d) → d.lost ≡ false
       → (reads d.bytes ≡ None) ⊎ ((pages : List Page) × (reads d.bytes ≡ Some (bytes_of pages)) × All IsSized pages × (length pages ≢ page_count base.config)) → ⊥
   always_used rests holds place alive now d copy is rests_reads holds_reads there unused =
-      none_unused (reads d.bytes) (reads_in (setting reads base since) rests holds was coming place alive now d copy is rests_reads holds_reads there) unused
+      none_unused (reads d.bytes) (reads_in (setting_with reads base since rs) rests holds was coming place alive now d copy is rests_reads holds_reads there) unused
 
 -- WHAT TWO LOOKS GAVE
 

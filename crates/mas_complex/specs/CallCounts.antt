@@ -1,7 +1,7 @@
 -- What a call of a member on the copies leaves of what is counted.
 use Rattle.std.specs.Prelude.{◌≡◌, ◌≢◌, ◌⊎◌, ℕ, ◌+◌, Bool, true, false}
 use Rattle.mas_types.specs.declared.ids.Dev.{Dev}
-use Rattle.mas_types.specs.declared.ids.Dev.TheVariants.{Ckpt1, Ckpt2}
+use Rattle.mas_types.specs.declared.ids.Dev.TheVariants.{Ckpt1, Ckpt2, Spool}
 use Rattle.spool_disk.specs.declared.plant.Part.TheVariants.{Disk as DiskPart}
 use Rattle.spool_disk.specs.View.{View}
 use Rattle.spool_disk.specs.Acts.{Goes, Rose}
@@ -23,7 +23,8 @@ StandsOrLost dev was is old new =
     × (was ≡ true → is ≡ false → new.lost (DiskPart dev) ≡ true)
 
 -- Which copies counted as alive before the call and count so after it, and whether the member was stopped in it: nobody
--- else is stopped, nothing is armed, and no device is lost by a call but that of a copy, once.
+-- else is stopped, nothing is armed, and no device is lost by a call but that of a copy, once. Each volume is lost where it
+-- was, and no fault of it is counted.
 pub record KeepsCounts (by : ℕ) (was1 is1 was2 is2 stopped : Bool) (old new : View) : Type 0 where
   pub goes : Goes old new
   pub alive1 : is1 ≡ true → was1 ≡ true
@@ -37,3 +38,5 @@ pub record KeepsCounts (by : ℕ) (was1 is1 was2 is2 stopped : Bool) (old new : 
   pub device1 : StandsOrLost Ckpt1 was1 is1 old new
   pub device2 : StandsOrLost Ckpt2 was2 is2 old new
   pub else_loses : (d : Dev) → d ≢ Ckpt1 → d ≢ Ckpt2 → new.loses d ≡ old.loses d
+  pub volumes_lost : (n : ℕ) → new.lost (DiskPart (Spool n)) ≡ old.lost (DiskPart (Spool n))
+  pub volumes_faults : (n : ℕ) → new.faults (DiskPart (Spool n)) ≡ old.faults (DiskPart (Spool n))

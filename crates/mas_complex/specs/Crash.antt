@@ -1,5 +1,5 @@
 -- What a crash leaves of the two copies, and what the console tells.
-use Rattle.std.specs.Prelude.{◌≡◌, ◌⊎◌, ℕ, ◌+◌, ◌*◌, ◌^◌, ◌≤◌, ◌<◌, ◌==◌, ◌&&◌, Bool, true, false, List, [], ◌∷◌, ◌++◌, length, drop, Option, Some, None, IfSome}
+use Rattle.std.specs.Prelude.{◌≡◌, ◌⊎◌, ℕ, ◌+◌, ◌*◌, ◌^◌, ◌≤◌, ◌<◌, ◌==◌, ◌&&◌, ◌||◌, not, Bool, true, false, List, [], ◌∷◌, ◌++◌, length, drop, Option, Some, None, IfSome}
 use Rattle.std.specs.Int.{from_be_bytes, w64}
 use Rattle.mas_types.specs.declared.ids.Dev.{Dev}
 use Rattle.mas_types.specs.declared.ids.Dev.TheVariants.{Ckpt1, Ckpt2}
@@ -9,8 +9,10 @@ use Rattle.spool_disk.specs.Acts.{top}
 use Rattle.ckpt_copy.specs.Pages.{level}
 use Rattle.mas_types.specs.declared.journals.Batch.{Batch}
 use Rattle.mas_types.specs.declared.journals.Entry.{Entry}
-use Rattle.mas_complex.specs.declared.places.Place.{Place}
-use Rattle.mas_complex.specs.declared.places.Place.TheVariants.{Before, Put, Opened, Unsure}
+use Rattle.ckpt_places.specs.declared.places.Place.{Place}
+use Rattle.mas_complex.specs.declared.renewals.Renewals.{Renewals}
+use Rattle.mas_complex.specs.Renewals.{is_renewed_at, is_open, of_device, no_renewals, AreRenewedBy}
+use Rattle.ckpt_places.specs.declared.places.Place.TheVariants.{Before, Put, Opened, Unsure}
 use Rattle.mas_types.specs.declared.ids.MemberId.{MemberId}
 use Rattle.mas_types.specs.declared.queues.Queue.{Queue}
 use Rattle.duplex_pair.specs.Finds.{best}
@@ -18,7 +20,7 @@ use Rattle.mas_complex.specs.Meaning.{StandFor, run, Closes}
 use Rattle.mas_complex.specs.Texts.{spools_at, lost_now, HasTexts}
 use Rattle.mas_complex.specs.Journals.{kept, flying, kept_all, in_flight, entries_in, batches_kept, StepIsKept, has_step, AreSettled, IsBegun}
 
--- what pages, entries and lines mean, and where the value began
+-- what pages, entries and lines mean, where the value began, and when a copy was replaced
 pub record Setting : Type 1 where
   pub reads : List ℕ → Option (List ℕ)
   pub stand : Queue → List ℕ → Type 0
@@ -26,6 +28,7 @@ pub record Setting : Type 1 where
   pub closes : List ℕ → MemberId → ℕ → Type 0
   pub base : Queue
   pub since : ℕ
+  pub renewals : Renewals
 
 -- a device, lost where this is true
 abbrev pub lost_if : Bool → Disk → Disk
@@ -36,6 +39,17 @@ lost_if true disk = record disk { lost = true }
 -- device is lost too where the plant now says so.
 abbrev pub left_at : View → ℕ → Dev → Disk
 left_at v t dev = lost_if ((t == top) && v.lost (DiskPart dev)) (disk_at v t dev)
+
+-- a copy is good at a moment where its device isn't lost then and it isn't being replaced
+abbrev pub is_good : Bool → Disk → Bool
+is_good renewed disk = not disk.lost && not renewed
+
+abbrev pub good_at : Renewals → View → ℕ → Dev → Bool
+good_at rs v t dev = is_good (is_renewed_at (of_device dev rs) t) (left_at v t dev)
+
+-- one of two copies is good
+abbrev pub SomeGood : Bool → Bool → Disk → Disk → Type 0
+SomeGood renewed1 renewed2 one two = (is_good renewed1 one || is_good renewed2 two) ≡ true
 
 -- what a crash leaves of a device: an image, or nothing of a lost one
 abbrev pub IsLeft : Disk → Option (List ℕ) → Type 0
@@ -73,6 +87,22 @@ IsOneOf was coming (Some pages) = (pages ≡ was) ⊎ (coming ≡ Some pages)
 abbrev pub ReadsOne : Setting → List ℕ → Option (List ℕ) → Disk → Type 0
 ReadsOne S was coming disk = LeavesOnly disk (λ image. IsOneOf was coming (S.reads image))
 
+-- an image of a copy that isn't good reads as none, or as pages that were kept by now
+abbrev pub IsStale : List ℕ → Option (List ℕ) → Type 0
+IsStale was None = Unit {0}
+IsStale was (Some pages) = (pages ≡ was) ⊎ (level pages < level was)
+
+abbrev pub ReadsStale : Setting → List ℕ → Disk → Type 0
+ReadsStale S was disk = LeavesOnly disk (λ image. IsStale was (S.reads image))
+
+-- what an image of a copy reads as, whether or not it is being replaced
+abbrev pub IsReadBy : Bool → List ℕ → Option (List ℕ) → Option (List ℕ) → Type 0
+IsReadBy false was coming pages = IsOneOf was coming pages
+IsReadBy true was coming pages = IsStale was pages
+
+abbrev pub ReadsBy : Setting → Bool → List ℕ → Option (List ℕ) → Disk → Type 0
+ReadsBy S renewed was coming disk = LeavesOnly disk (λ image. IsReadBy renewed was coming (S.reads image))
+
 -- pages of this level that stand for the queue after these entries
 pub record Stands (S : Setting) (l : ℕ) (entries : List Entry) (pages : List ℕ) : Type 0 where
   pub at_level : level pages ≡ l
@@ -83,21 +113,22 @@ abbrev pub IsNext : Setting → ℕ → List Entry → List Entry → Option (Li
 IsNext S reached K F None = Unit {0}
 IsNext S reached K F (Some pages) = Stands S (reached + 1) (K ++ F) pages
 
--- Two devices agree: there are pages of the kept entries, and maybe ones in flight, and each image of each device reads
--- as one of these. With no entry in flight each reads as the kept pages.
-pub record Alike (S : Setting) (K F : List Entry) (one two : Disk) : Type 0 where
+-- Two devices agree at a moment: there are pages of the kept entries, and maybe ones in flight, and each image of each
+-- device reads as one of these. With no entry in flight each reads as the kept pages. A copy that is being replaced
+-- reads as none, or as pages that were kept by then.
+pub record Alike (S : Setting) (K F : List Entry) (t : ℕ) (one two : Disk) : Type 0 where
   pub reached : ℕ
   pub was : List ℕ
   pub coming : Option (List ℕ)
   pub stands : Stands S reached K was
   pub comes : IsNext S reached K F coming
   pub none : F ≡ [] → coming ≡ None
-  pub first : ReadsOne S was coming one
-  pub second : ReadsOne S was coming two
+  pub first : ReadsBy S (is_renewed_at S.renewals.first t) was coming one
+  pub second : ReadsBy S (is_renewed_at S.renewals.second t) was coming two
 
 -- the two copies agree at a moment
 abbrev pub CrashAt : Setting → List Batch → View → ℕ → Type 0
-CrashAt S J v t = Alike S (kept J t) (flying J t) (disk_at v t Ckpt1) (disk_at v t Ckpt2)
+CrashAt S J v t = Alike S (kept J t) (flying J t) t (disk_at v t Ckpt1) (disk_at v t Ckpt2)
 
 -- the whole lines tell only steps of which P holds
 abbrev pub EachTells : (List ℕ → MemberId → ℕ → Type 0) → List Line → (MemberId → ℕ → Type 0) → Type 0
@@ -135,11 +166,18 @@ IsAt S rests holds was coming Put disk = OnComing coming (λ pages. holds was pa
 IsAt S rests holds was coming Opened disk = OnComing coming (λ pages. rests pages disk)
 IsAt S rests holds was coming Unsure disk = ReadsOne S was coming disk
 
--- a copy, alive or lost
+-- the device of a copy that counts as lost is lost, or its replacement was begun and not ended
+abbrev pub IsAway : Setting → List ℕ → Bool → ℕ → Disk → Type 0
+IsAway S was false now disk = now < top → disk.lost ≡ true
+IsAway S was true now disk = ReadsStale S was disk
+
+-- a copy, alive or lost, and whether a replacement of it is open
 pub record OneCopy (S : Setting) (rests : List ℕ → Disk → Type 0) (holds : List ℕ → List ℕ → Disk → Type 0)
-    (was : List ℕ) (coming : Option (List ℕ)) (place : Place) (alive : Bool) (now : ℕ) (disk : Disk) : Type 0 where
-  pub at : alive ≡ true → IsAt S rests holds was coming place disk
-  pub gone : alive ≡ false → now < top → disk.lost ≡ true
+    (was : List ℕ) (coming : Option (List ℕ)) (place : Place) (alive renewed : Bool) (now : ℕ) (disk : Disk) : Type 0
+  where
+    pub at : alive ≡ true → IsAt S rests holds was coming place disk
+    pub formed : alive ≡ true → renewed ≡ false
+    pub gone : alive ≡ false → IsAway S was renewed now disk
 
 -- a call's own names for the two copies
 pub record Copy : Type 1 where
@@ -148,15 +186,27 @@ pub record Copy : Type 1 where
   pub alive : Bool
   pub place : Place
 
-abbrev pub CopyAt : Setting → List ℕ → Option (List ℕ) → Copy → ℕ → Disk → Type 0
-CopyAt S was coming c now disk = OneCopy S c.rests c.holds was coming c.place c.alive now disk
+abbrev pub CopyAt : Setting → List ℕ → Option (List ℕ) → Dev → Copy → ℕ → Disk → Type 0
+CopyAt S was coming dev c now disk =
+    OneCopy S c.rests c.holds was coming c.place c.alive (is_open (of_device dev S.renewals)) now disk
 
 abbrev pub copy_of : (List ℕ → Disk → Type 0) → (List ℕ → List ℕ → Disk → Type 0) → Bool → Place → Copy
 copy_of rests holds alive place = record { rests = rests; holds = holds; alive = alive; place = place }
 
+abbrev pub setting_with : (List ℕ → Option (List ℕ)) → Queue → ℕ → Renewals → Setting
+setting_with reads base since renewals = record {
+  reads = reads;
+  stand = StandFor;
+  run = run;
+  closes = Closes;
+  base = base;
+  since = since;
+  renewals = renewals;
+}
+
+-- before any copy was replaced
 abbrev pub setting : (List ℕ → Option (List ℕ)) → Queue → ℕ → Setting
-setting reads base since = record
-    { reads = reads; stand = StandFor; run = run; closes = Closes; base = base; since = since }
+setting reads base since = setting_with reads base since no_renewals
 
 -- The texts that stand on the spool volumes at a moment: those of the queue after the kept entries, and those of the
 -- queue with the entries in flight, except texts with a group on a volume that is lost now.
@@ -203,14 +253,14 @@ ReadsUpTo reads l order most disk = LeavesOnly disk
 
 -- How levels and orders rise: at first both copies read at this level and next order, the level reached is at most as
 -- many more as batches are kept, and at no moment does a copy read at a level above the one reached and one more, or
--- with a next order that isn't near.
+-- with a next order that isn't near. Of a copy that is being replaced it says nothing.
 pub record Rises (S : Setting) (js : List Batch) (reached l order : ℕ) (v : View) : Type 0 where
   pub first1 : S.since < top → ReadsAtLevel S.reads l order (disk_at v S.since Ckpt1)
   pub first2 : S.since < top → ReadsAtLevel S.reads l order (disk_at v S.since Ckpt2)
   pub risen : reached ≤ l + batches_kept js
-  pub most1 : (t : ℕ) → S.since ≤ t → t ≤ v.now → t < top
+  pub most1 : (t : ℕ) → S.since ≤ t → t ≤ v.now → t < top → is_renewed_at S.renewals.first t ≡ false
       → ReadsUpTo S.reads l order (reached + 1) (disk_at v t Ckpt1)
-  pub most2 : (t : ℕ) → S.since ≤ t → t ≤ v.now → t < top
+  pub most2 : (t : ℕ) → S.since ≤ t → t ≤ v.now → t < top → is_renewed_at S.renewals.second t ≡ false
       → ReadsUpTo S.reads l order (reached + 1) (disk_at v t Ckpt2)
 
 -- What the shared value keeps of its past, and of its present below the greatest moment: the pages of the kept entries,
@@ -220,6 +270,8 @@ pub record Keeps (S : Setting) (js : List Batch) (current : Option Batch) (reach
   pub started : S.since ≤ v.now
   pub settled : AreSettled js v.now
   pub begun : IsBegun current v.now
+  pub renewed1 : AreRenewedBy S.renewals.first v.now
+  pub renewed2 : AreRenewedBy S.renewals.second v.now
   pub crash : (t : ℕ) → S.since ≤ t → t ≤ v.now → t < top → CrashAt S (js ++ in_flight current) v t
   pub told : (t : ℕ) → S.since ≤ t → t ≤ v.now → ToldAt S (js ++ in_flight current) v t
   pub grows : (t : ℕ) → S.since ≤ t → t ≤ v.now → Begins (v.world t).console (v.world v.now).console
@@ -235,8 +287,8 @@ pub record Keeps (S : Setting) (js : List Batch) (current : Option Batch) (reach
   pub none : entries_in current ≡ [] → coming ≡ None
   pub near : IsNear first_level first_order was
   pub comes_near : IfSome coming (IsNear first_level first_order)
-  pub first_at : CopyAt S was coming first v.now (disk_now v Ckpt1)
-  pub second_at : CopyAt S was coming second v.now (disk_now v Ckpt2)
+  pub first_at : CopyAt S was coming Ckpt1 first v.now (disk_now v Ckpt1)
+  pub second_at : CopyAt S was coming Ckpt2 second v.now (disk_now v Ckpt2)
 
 -- Both copies, before any batch, as a shared value begins with them: there are pages of this level that stand for its
 -- base, and each copy that counts as alive is at rest with these. The texts of the base stand on the spool volumes.
@@ -244,5 +296,5 @@ pub record BeginsWith (S : Setting) (l : ℕ) (first second : Copy) (v : View) :
   pub pages : List ℕ
   pub stands : Stands S l [] pages
   pub texts : HasTexts (lost_now v) (spools_at v v.now) S.base.config.groups (S.run S.base [])
-  pub first_at : CopyAt S pages None first v.now (disk_now v Ckpt1)
-  pub second_at : CopyAt S pages None second v.now (disk_now v Ckpt2)
+  pub first_at : CopyAt S pages None Ckpt1 first v.now (disk_now v Ckpt1)
+  pub second_at : CopyAt S pages None Ckpt2 second v.now (disk_now v Ckpt2)

@@ -1,5 +1,5 @@
 -- What the batches of a journal say of a moment, batch by batch.
-use Rattle.std.specs.Prelude.{◌≡◌, ℕ, ◌+◌, ◌^◌, ◌≤◌, ◌==◌, ◌&&◌, if◌then◌else◌, Bool, true, false, List, [], ◌∷◌, ◌++◌, Option, Some, None}
+use Rattle.std.specs.Prelude.{◌≡◌, ℕ, ◌+◌, ◌*◌, ◌^◌, ◌≤◌, ◌==◌, ◌&&◌, if◌then◌else◌, Bool, true, false, List, [], ◌∷◌, ◌++◌, length, Option, Some, None}
 use Rattle.std.specs.List.{list_any}
 use Rattle.mas_types.specs.declared.ids.MemberId.{MemberId}
 use Rattle.mas_types.specs.declared.journals.Batch.{Batch}
@@ -40,6 +40,19 @@ batches_kept (b ∷ bs) = (if is_kept b.fate then 1 else 0) + batches_kept bs
 -- a journal has at most so many batches
 abbrev pub journal_most : ℕ
 journal_most = 2 ^ 40
+
+-- a batch has at most so many entries
+abbrev pub entries_most : ℕ
+entries_most = 2 ^ 14
+
+-- as many entries as the batch may have for which the journal keeps a place
+abbrev pub room_for : Bool → ℕ
+room_for true = entries_most
+room_for false = 0
+
+-- the kept entries are no more than the batches of the journal may have, without the one to come
+abbrev pub AreFew : Bool → List Batch → Type 0
+AreFew placed batches = length (kept_all batches) + room_for placed ≤ entries_most * length batches
 
 -- the batches have their fates, all by this moment
 abbrev pub AreSettled : List Batch → ℕ → Type 0

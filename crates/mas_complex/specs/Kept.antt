@@ -5,8 +5,8 @@ use Rattle.mas_types.specs.declared.ids.Dev.TheVariants.{Ckpt1, Ckpt2}
 use Rattle.mas_types.specs.declared.queues.Queue.{Queue}
 use Rattle.spool_disk.specs.View.{View, Disk, Throughout, disk_at, disk_now}
 use Rattle.ckpt_copy.specs.Pages.{level}
-use Rattle.mas_complex.specs.declared.places.Place.{Place}
-use Rattle.mas_complex.specs.declared.places.Place.TheVariants.{Before}
+use Rattle.ckpt_places.specs.declared.places.Place.{Place}
+use Rattle.ckpt_places.specs.declared.places.Place.TheVariants.{Before}
 use Rattle.mas_complex.specs.Meaning.{StandFor}
 
 -- There are pages of this level, which stand for the queue. A copy that counts as alive and is as before any batch is

@@ -4,6 +4,7 @@ pub mod Places
 pub mod Spool
 pub mod Texts
 pub mod TextExamples
+pub mod Renewals
 pub mod Crash
 pub mod Headline
 pub mod Elsewhere

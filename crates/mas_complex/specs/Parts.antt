@@ -1,5 +1,5 @@
 -- The parts of a shared value, what of them its facts rest on, and which of them a call changes.
-use Rattle.std.specs.Prelude.{ℕ, ◌+◌, Bool, true, false, List, ◌∷◌, ◌++◌, [], Option, Some, None}
+use Rattle.std.specs.Prelude.{ℕ, ◌+◌, Bool, true, false, List, ◌∷◌, ◌++◌, [], Option, Some, None, Result, Ok, Err}
 use Rattle.mas_types.specs.declared.ids.Dev.{Dev}
 use Rattle.mas_types.specs.declared.ids.MemberId.{MemberId}
 use Rattle.mas_types.specs.declared.journals.Batch.{Batch}
@@ -11,13 +11,17 @@ use Rattle.ckpt_copy.specs.declared.copying.Copying.{Ghosts as CopyGhosts}
 use Rattle.mas_types.specs.declared.journals.Fate.{Fate}
 use Rattle.mas_types.specs.declared.journals.Fate.TheVariants.{Kept, Dropped}
 use Rattle.duplex_pair.specs.Halves.{pick, other}
+use Rattle.duplex_pair.specs.declared.replacing.ReplaceNo.{ReplaceNo}
+use Rattle.duplex_pair.specs.declared.replacing.ReplaceNo.TheVariants.{NotLost, BothLost, Failed, Halted, NoMemory}
+use Rattle.mas_complex.specs.Renewals.{begun_on, ended_on}
 use Rattle.lock_cycle.specs.Books.{Book}
 use Rattle.mas_complex.specs.Journals.{begun, fated, with_last, without_last, entries_reserved}
 use Rattle.mas_complex.specs.Paper.{printed_after}
-use Rattle.mas_complex.specs.declared.places.Place.{Place}
-use Rattle.mas_complex.specs.declared.places.Place.TheVariants.{Before}
+use Rattle.ckpt_places.specs.declared.places.Place.{Place}
+use Rattle.ckpt_places.specs.declared.places.Place.TheVariants.{Before}
 use Rattle.ckpt_form.specs.declared.steady.Steady.{Ghosts as SteadyGhosts}
 use Rattle.mas_complex.specs.declared.complex.Complex.{Complex}
+use Rattle.mas_complex.specs.declared.renewals.Renewals.{Renewals}
 
 -- all of them: the plant; each copy, whether it counts as alive, and the level that was found on it last; the rest as
 -- it stands
@@ -40,6 +44,7 @@ pub record Parts (P C : Type 0) : Type 0 where
   pub first : Place
   pub second : Place
   pub level : ℕ
+  pub renewals : Renewals
 
 -- what the plant shows, what the bytes of a copy read as, and those parts of which facts are told
 pub record Shown : Type 0 where
@@ -98,6 +103,7 @@ module _ {P C : Type 0} {plants : PlantGhosts P} {steadies : SteadyGhosts C} {co
     first = x.first;
     second = x.second;
     level = x.level;
+    renewals = x.renewals;
   }
 
   abbrev pub shown_of : Complex P C plants steadies copies → Shown
@@ -217,3 +223,19 @@ dropped_in now was = record was {
   second
       = Before;
 }
+
+-- A member was to replace the copy on a device, from one moment to another. With Ok the device and the copy are as they
+-- are after the call, and the copy is as before any batch. After Failed and Halted the copy counts as lost as before.
+abbrev pub replaced_in : {P C T : Type 0} → Result T ReplaceNo → Dev → ℕ → ℕ → Parts P C → Parts P C → Parts P C
+replaced_in (Ok value) dev from now is was = record (with_half dev is was) {
+  first = pick dev Before was.first;
+  second = other dev Before was.second;
+  renewals = ended_on dev now (begun_on dev from was.renewals);
+}
+replaced_in (Err NotLost) dev from now is was = was
+replaced_in (Err BothLost) dev from now is was = was
+replaced_in (Err NoMemory) dev from now is was = was
+replaced_in (Err Failed) dev from now is was = record was
+    { plant = is.plant; renewals = begun_on dev from was.renewals }
+replaced_in (Err Halted) dev from now is was = record was
+    { plant = is.plant; renewals = begun_on dev from was.renewals }

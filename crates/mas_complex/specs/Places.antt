@@ -1,9 +1,10 @@
 -- How far the batch in flight has come on a copy after a call.
-use Rattle.std.specs.Prelude.{◌≡◌, ◌≢◌, ◌⊎◌, ◌&&◌, ◌||◌, not, Bool, true, false, ℕ, List, Option, Some, Result, Ok, Err}
+use Rattle.std.specs.Prelude.{◌≡◌, ◌≢◌, ◌⊎◌, ℕ, List, Option, Some, Result, Ok, Err}
 use Rattle.duplex_pair.specs.declared.errors.PairNo.{PairNo}
 use Rattle.duplex_pair.specs.declared.errors.PairNo.TheVariants.{BothLost, Halted}
-use Rattle.mas_complex.specs.declared.places.Place.{Place}
-use Rattle.mas_complex.specs.declared.places.Place.TheVariants.{Before, Put, Opened, Unsure}
+use Rattle.ckpt_places.specs.declared.places.Place.{Place}
+use Rattle.ckpt_places.specs.declared.places.Place.TheVariants.{Before, Put, Opened, Unsure}
+pub use Rattle.ckpt_places.specs.Kept.{is_opened, all_open}
 
 abbrev pub IsPlaceAfter : {T : Type 0} → Result T PairNo → Place → Place → Type 0
 IsPlaceAfter (Ok x) ok place = place ≡ ok
@@ -13,15 +14,6 @@ IsPlaceAfter (Err Halted) ok place = place ≡ Unsure
 -- pages of the level reached don't have the batch in flight; others do
 abbrev pub IsAtLevel : ℕ → ℕ → Place → Type 0
 IsAtLevel l reached place = ((place ≡ Before) × (l ≡ reached)) ⊎ ((place ≡ Opened) × (l ≢ reached))
-
-abbrev pub is_opened : Place → Bool
-is_opened Opened = true
-is_opened _ = false
-
--- each copy that counts as alive has opened its gate
-abbrev pub all_open : Bool → Bool → Place → Place → Bool
-all_open first_alive second_alive first second = (not first_alive || is_opened first) &&
-    (not second_alive || is_opened second)
 
 -- The copy has no other pages of the batch in flight than these: what waits behind its gate, or what it reads.
 abbrev pub HasNoOther : Place → List ℕ → Option (List ℕ) → List ℕ → Type 0

@@ -11,8 +11,8 @@ use Rattle.duplex_pair.specs.declared.errors.Look.{Look}
 use Rattle.duplex_pair.specs.declared.errors.Look.TheVariants.{Lost, Unread, Pages}
 use Rattle.duplex_pair.specs.declared.errors.LookNo.{LookNo}
 use Rattle.mas_complex.specs.Meaning.{StandFor}
-use Rattle.mas_complex.specs.declared.places.Place.{Place}
-use Rattle.mas_complex.specs.declared.places.Place.TheVariants.{Before, Opened, Unsure}
+use Rattle.ckpt_places.specs.declared.places.Place.{Place}
+use Rattle.ckpt_places.specs.declared.places.Place.TheVariants.{Before, Opened, Unsure}
 use Rattle.mas_complex.specs.Journals.{with_last, fated}
 use Rattle.mas_complex.specs.Fits.{fits, can_stay, found_numbers}
 use Rattle.mas_complex.specs.Places.{IsAtLevel}

@@ -5,19 +5,21 @@ ghost use Rattle.spool_disk.specs.View.{View};
 ghost use Rattle.spool_disk.specs.Acts.{top, Goes};
 ghost use Rattle.spool_disk.specs.declared.plant.Part.TheVariants.{Disk};
 ghost use Rattle.ckpt_copy.specs.Pages.{level};
-ghost use Rattle.mas_complex.specs.declared.places.Place.TheVariants.{Before as AtBefore};
+ghost use Rattle.ckpt_places.specs.declared.places.Place.TheVariants.{Before as AtBefore};
 ghost use Rattle.mas_complex.specs.Journals.{end_of};
 ghost use Rattle.mas_complex.specs.Crash.{setting, copy_of, BeginsWith};
 ghost use Rattle.mas_complex.specs.Headline.{Headline, LeavesQueue};
 ghost use Rattle.mas_complex.specs.Replies.{AreReplied};
 ghost use Rattle.mas_complex.specs.Locking.{book_of};
 ghost use Rattle.mas_complex.specs.Paper.{no_counts};
+ghost use Rattle.mas_complex.specs.Renewals.{no_renewals as none_renewed};
 
 use crate::complex::{Complex, Ended};
 use crate::counts::COUNTS;
 use crate::journal_end::finished;
-use crate::places::Place;
+use crate::renewals::no_renewals;
 use ckpt_form::Steady;
+use ckpt_places::Place;
 use duplex_pair::Pair;
 use lock_cycle::LockBook;
 use mas_types::{Config, Journal, List, MEMBERS_MOST, Queue};
@@ -49,6 +51,7 @@ impl<P: Plant + Drop, C: Steady + Drop> Complex<P, C> {
         ensures places { (result.first ≡ AtBefore) × (result.second ≡ AtBefore) }
         ensures printed { result.printed ≡ no_counts }
         ensures level { result.level ≡ level }
+        ensures renewals { result.renewals ≡ none_renewed }
         ensures fresh { P.tells → ∥ ((later : View) → Goes (P.view plant) later
             → LeavesQueue C.reads base (P.view plant).now later) ∥₁ }
     {
@@ -70,6 +73,7 @@ impl<P: Plant + Drop, C: Steady + Drop> Complex<P, C> {
             second: Place::Before,
             level,
             printed: [0; COUNTS],
+            renewals: no_renewals(alloc),
         }
     }
 
@@ -80,8 +84,9 @@ impl<P: Plant + Drop, C: Steady + Drop> Complex<P, C> {
         ensures base { result.base ≡ self.base }
         ensures since { result.since ≡ self.since }
         ensures journal { result.journal.batches ≡ end_of self.placed self.current self.journal.batches }
-        ensures headline { P.tells → ∥ Headline C.reads result.base result.since result.journal (P.view result.plant)
-            ∥₁ }
+        ensures renewals { result.renewals ≡ self.renewals }
+        ensures headline { P.tells → ∥ Headline C.reads result.base result.since result.journal result.renewals
+            (P.view result.plant) ∥₁ }
         ensures replied { P.tells → ∥ AreReplied result.base result.journal.batches ∥₁ }
     {
         let Complex {
@@ -91,6 +96,7 @@ impl<P: Plant + Drop, C: Steady + Drop> Complex<P, C> {
             journal,
             current,
             placed,
+            renewals,
             ..
         } = self;
         let _last = moment_of(&plant);
@@ -100,6 +106,7 @@ impl<P: Plant + Drop, C: Steady + Drop> Complex<P, C> {
             base,
             since,
             journal,
+            renewals,
         }
     }
 }

@@ -5,16 +5,19 @@ ghost use Rattle.spool_disk.specs.declared.plant.Part.TheVariants.{Disk};
 ghost use Rattle.ckpt_copy.specs.Pages.{level};
 ghost use Rattle.mas_types.specs.declared.journals.Batch.{Batch};
 ghost use Rattle.lock_cycle.specs.Books.{is_stopped};
-ghost use Rattle.mas_complex.specs.Journals.{in_flight, journal_most, AreSettled, HasPlace, IsBegun};
+ghost use Rattle.mas_complex.specs.Journals.{entries_in, entries_reserved, in_flight};
+ghost use Rattle.mas_complex.specs.Journals.{entries_most, journal_most, AreFew, AreSettled, HasPlace, IsBegun};
 ghost use Rattle.mas_complex.specs.Settled.{settled_prop, begun_prop};
-ghost use Rattle.mas_complex.specs.Crash.{Keeps, setting, copy_of};
+ghost use Rattle.mas_complex.specs.Crash.{Keeps, setting_with, copy_of};
+ghost use Rattle.mas_complex.specs.Renewals.{is_open};
 ghost use Rattle.mas_complex.specs.Replies.{AreReplied};
 ghost use Rattle.mas_complex.specs.Paper.{KeepsPaper};
 ghost use Rattle.mas_types.specs.Sound.{IsSound};
 
 use crate::counts::COUNTS;
-use crate::places::Place;
+use crate::renewals::Renewals;
 use ckpt_form::Steady;
+use ckpt_places::Place;
 use duplex_pair::Pair;
 use lock_cycle::LockBook;
 use mas_types::{Batch, Entry, Journal, List, Queue};
@@ -31,6 +34,8 @@ pub struct Ended<P: Plant + Drop> {
     pub since: u64,
     /// The batches of its time, with their fates.
     pub journal: Journal,
+    /// When a copy was replaced.
+    pub renewals: Renewals,
 }
 
 /// A plant with two copies of the checkpoint, which stand for a queue, and the journal of what was done since `since`,
@@ -64,9 +69,11 @@ pub struct Complex<P: Plant + Drop, C: Steady + Drop> {
     /// The lines that each member has printed since its last Pick, Mark, Back or Forward, from the operator on, which
     /// prints none.
     pub printed: [u32; COUNTS],
+    /// When a copy was replaced.
+    pub renewals: Renewals,
 
     /// What a crash leaves and the console tells at each moment since then, and where each copy stands now.
-    ghost kept: { P.tells → ∥ Keeps (setting C.reads base since) journal.batches current level
+    ghost kept: { P.tells → ∥ Keeps (setting_with C.reads base since renewals) journal.batches current level
         (copy_of (C.rests pair.first.copy) (C.holds pair.first.copy) pair.first.alive first)
         (copy_of (C.rests pair.second.copy) (C.holds pair.second.copy) pair.second.alive second) (P.view plant) ∥₁ },
 
@@ -82,10 +89,12 @@ pub struct Complex<P: Plant + Drop, C: Steady + Drop> {
 
     ghost second_ready: { pair.second.alive ≡ true → C.fits pair.second.copy (P.view plant) ≡ true },
 
-    /// The device of one that counts as lost is lost.
-    ghost first_lost: { pair.first.alive ≡ false → (P.view plant).lost (Disk Ckpt1) ≡ true },
+    /// The device of one that counts as lost is lost, unless its replacement was begun and not ended.
+    ghost first_lost: { pair.first.alive ≡ false → is_open renewals.first ≡ false
+        → (P.view plant).lost (Disk Ckpt1) ≡ true },
 
-    ghost second_lost: { pair.second.alive ≡ false → (P.view plant).lost (Disk Ckpt2) ≡ true },
+    ghost second_lost: { pair.second.alive ≡ false → is_open renewals.second ≡ false
+        → (P.view plant).lost (Disk Ckpt2) ≡ true },
 
     /// Nothing is reserved while a batch is in flight.
     ghost one: { IsSome current → IsSome reserved → ⊥ },
@@ -108,4 +117,11 @@ pub struct Complex<P: Plant + Drop, C: Steady + Drop> {
 
     /// The journal has at most so many batches.
     ghost few: { length journal.batches ≤ journal_most },
+
+    /// Each batch has at most so many entries: the one in flight, the one to come, and each that was kept.
+    ghost short: { length (entries_in current) ≤ entries_most },
+
+    ghost short_reserved: { length (entries_reserved reserved) ≤ entries_most },
+
+    ghost counted: { AreFew placed journal.batches },
 }

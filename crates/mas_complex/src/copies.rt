@@ -3,14 +3,14 @@ ghost use Rattle.std.specs.Prelude.{◌≡◌, ◌<◌, ℕ, List, Some, None, l
 ghost use Rattle.mas_types.specs.declared.ids.Dev.{Dev};
 ghost use Rattle.mas_types.specs.declared.ids.Dev.TheVariants.{Ckpt1, Ckpt2, Spool};
 ghost use Rattle.spool_disk.specs.View.{disk_now};
-ghost use Rattle.spool_disk.specs.Acts.{Loses};
+ghost use Rattle.spool_disk.specs.Acts.{Loses, LosesThere};
 ghost use Rattle.spool_disk.specs.declared.plant.Part.TheVariants.{Disk};
 ghost use Rattle.ckpt_copy.specs.Pages.{bytes_of, level, page_in};
 ghost use Rattle.duplex_pair.specs.declared.errors.PairNo.TheVariants.{BothLost as PairNoBothLost};
 ghost use Rattle.duplex_pair.specs.Halves.{IsCkpt, pick, other, IsBothLost, SomeAlive};
 ghost use Rattle.duplex_pair.specs.Both.{PairActed};
 ghost use Rattle.duplex_pair.specs.Outcomes.{pair_stopped};
-ghost use Rattle.mas_complex.specs.declared.places.Place.TheVariants.{Before as AtBefore};
+ghost use Rattle.ckpt_places.specs.declared.places.Place.TheVariants.{Before as AtBefore};
 ghost use Rattle.mas_complex.specs.Journals.{kept_all};
 ghost use Rattle.mas_complex.specs.Meaning.{run};
 ghost use Rattle.mas_complex.specs.Places.{IsPlaceAfter};
@@ -21,8 +21,9 @@ ghost use Rattle.mas_complex.specs.Paper.{SamePapers};
 ghost use Rattle.mas_complex.specs.Parts.{parts_of, with_copies, with_half, with_pair};
 
 use crate::complex::Complex;
-use crate::places::{Place, place_after};
+use crate::places::place_after;
 use ckpt_form::Steady;
+use ckpt_places::Place;
 use duplex_pair::PairNo;
 use mas_types::{Dev, MemberId, Page};
 use spool_disk::Plant;
@@ -49,6 +50,7 @@ impl<P: Plant + Drop, C: Steady + Drop> Complex<P, C> {
         ensures pair { self.new.pair ≡ self.old.pair }
         ensures frame { parts_of self.new ≡ record (parts_of self.old) { plant = self.new.plant } }
         ensures loses { Loses (Disk (Spool volume)) (P.view self.old.plant) (P.view self.new.plant) }
+        ensures there { P.tells → LosesThere (Spool volume) (P.view self.old.plant) (P.view self.new.plant) }
         ensures elsewhere { P.tells → Elsewhere (Spool volume) (P.view self.old.plant) (P.view self.new.plant) }
         ensures bytes { P.tells → (d : Dev)
             → (disk_now (P.view self.new.plant) d).bytes ≡ (disk_now (P.view self.old.plant) d).bytes }
@@ -61,6 +63,7 @@ impl<P: Plant + Drop, C: Steady + Drop> Complex<P, C> {
     pub fn lose(&mut self, dev: Dev)
         ensures base { self.new.base ≡ self.old.base }
         ensures since { self.new.since ≡ self.old.since }
+        ensures renewals { self.new.renewals ≡ self.old.renewals }
         ensures printed { self.new.printed ≡ self.old.printed }
         ensures book { self.new.book ≡ self.old.book }
         ensures journal { self.new.journal ≡ self.old.journal }
@@ -77,6 +80,8 @@ impl<P: Plant + Drop, C: Steady + Drop> Complex<P, C> {
         ensures other { other dev self.new.pair.first self.new.pair.second
             ≡ other dev self.old.pair.first self.old.pair.second }
         ensures loses { Loses (Disk dev) (P.view self.old.plant) (P.view self.new.plant) }
+        ensures there { P.tells → (n : ℕ) → dev ≡ Spool n
+            → LosesThere (Spool n) (P.view self.old.plant) (P.view self.new.plant) }
         ensures elsewhere { P.tells → Elsewhere dev (P.view self.old.plant) (P.view self.new.plant) }
         ensures bytes { P.tells → (d : Dev)
             → (disk_now (P.view self.new.plant) d).bytes ≡ (disk_now (P.view self.old.plant) d).bytes }
@@ -104,6 +109,7 @@ impl<P: Plant + Drop, C: Steady + Drop> Complex<P, C> {
             → C.reads (disk_now (P.view self.old.plant) Ckpt2).bytes ≡ Some (bytes_of pages.now) }
         ensures base { self.new.base ≡ self.old.base }
         ensures since { self.new.since ≡ self.old.since }
+        ensures renewals { self.new.renewals ≡ self.old.renewals }
         ensures printed { self.new.printed ≡ self.old.printed }
         ensures book { self.new.book ≡ self.old.book }
         ensures journal { self.new.journal ≡ self.old.journal }
@@ -146,6 +152,7 @@ impl<P: Plant + Drop, C: Steady + Drop> Complex<P, C> {
         requires page2 { self.old.pair.second.alive ≡ true → page < C.count self.old.pair.second.copy }
         ensures base { self.new.base ≡ self.old.base }
         ensures since { self.new.since ≡ self.old.since }
+        ensures renewals { self.new.renewals ≡ self.old.renewals }
         ensures printed { self.new.printed ≡ self.old.printed }
         ensures book { self.new.book ≡ self.old.book }
         ensures journal { self.new.journal ≡ self.old.journal }

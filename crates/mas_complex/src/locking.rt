@@ -75,9 +75,9 @@ fn give_up_after_free(
 }
 
 impl<P: Plant + Drop, C: Steady + Drop> Complex<P, C> {
-    /// The number of entries of the kept batches. It stays at the greatest u64.
+    /// The number of entries of the kept batches.
     pub fn kept_count(&self) -> u64
-        ensures { result ≡ min (length (kept_all self.now.journal.batches)) top }
+        ensures { result ≡ length (kept_all self.now.journal.batches) }
     {
         entries_kept(self.journal.batches.as_slice())
     }
@@ -93,6 +93,7 @@ impl<P: Plant + Drop, C: Steady + Drop> Complex<P, C> {
         ensures pair { self.new.pair ≡ self.old.pair }
         ensures base { self.new.base ≡ self.old.base }
         ensures since { self.new.since ≡ self.old.since }
+        ensures renewals { self.new.renewals ≡ self.old.renewals }
         ensures printed { self.new.printed ≡ self.old.printed }
         ensures journal { self.new.journal ≡ self.old.journal }
         ensures current { self.new.current ≡ self.old.current }
@@ -119,6 +120,7 @@ impl<P: Plant + Drop, C: Steady + Drop> Complex<P, C> {
         ensures pair { self.new.pair ≡ self.old.pair }
         ensures base { self.new.base ≡ self.old.base }
         ensures since { self.new.since ≡ self.old.since }
+        ensures renewals { self.new.renewals ≡ self.old.renewals }
         ensures printed { self.new.printed ≡ self.old.printed }
         ensures journal { self.new.journal ≡ self.old.journal }
         ensures current { self.new.current ≡ self.old.current }
@@ -148,6 +150,7 @@ impl<P: Plant + Drop, C: Steady + Drop> Complex<P, C> {
         ensures pair { self.new.pair ≡ self.old.pair }
         ensures base { self.new.base ≡ self.old.base }
         ensures since { self.new.since ≡ self.old.since }
+        ensures renewals { self.new.renewals ≡ self.old.renewals }
         ensures printed { self.new.printed ≡ self.old.printed }
         ensures journal { self.new.journal ≡ self.old.journal }
         ensures current { self.new.current ≡ self.old.current }
@@ -174,6 +177,7 @@ impl<P: Plant + Drop, C: Steady + Drop> Complex<P, C> {
         ensures pair { self.new.pair ≡ self.old.pair }
         ensures base { self.new.base ≡ self.old.base }
         ensures since { self.new.since ≡ self.old.since }
+        ensures renewals { self.new.renewals ≡ self.old.renewals }
         ensures printed { self.new.printed ≡ self.old.printed }
         ensures journal { self.new.journal ≡ self.old.journal }
         ensures current { self.new.current ≡ self.old.current }
@@ -195,6 +199,7 @@ impl<P: Plant + Drop, C: Steady + Drop> Complex<P, C> {
         ensures pair { self.new.pair ≡ self.old.pair }
         ensures base { self.new.base ≡ self.old.base }
         ensures since { self.new.since ≡ self.old.since }
+        ensures renewals { self.new.renewals ≡ self.old.renewals }
         ensures printed { self.new.printed ≡ self.old.printed }
         ensures journal { self.new.journal ≡ self.old.journal }
         ensures current { self.new.current ≡ self.old.current }
@@ -223,6 +228,7 @@ impl<P: Plant + Drop, C: Steady + Drop> Complex<P, C> {
         ensures pair { self.new.pair ≡ self.old.pair }
         ensures base { self.new.base ≡ self.old.base }
         ensures since { self.new.since ≡ self.old.since }
+        ensures renewals { self.new.renewals ≡ self.old.renewals }
         ensures printed { self.new.printed ≡ self.old.printed }
         ensures journal { self.new.journal ≡ self.old.journal }
         ensures current { self.new.current ≡ self.old.current }
@@ -246,6 +252,7 @@ impl<P: Plant + Drop, C: Steady + Drop> Complex<P, C> {
         ensures pair { self.new.pair ≡ self.old.pair }
         ensures base { self.new.base ≡ self.old.base }
         ensures since { self.new.since ≡ self.old.since }
+        ensures renewals { self.new.renewals ≡ self.old.renewals }
         ensures printed { self.new.printed ≡ self.old.printed }
         ensures journal { self.new.journal ≡ self.old.journal }
         ensures current { self.new.current ≡ self.old.current }

@@ -4,21 +4,9 @@ ghost use Rattle.duplex_pair.specs.Halves.{IsCkpt, other, pick};
 ghost use Rattle.mas_complex.specs.Places.{IsPlaceAfter, IsAtLevel};
 ghost use Rattle.mas_complex.specs.Seen.{IsPlaceSeen};
 
+use ckpt_places::Place;
 use duplex_pair::{Look, LookNo, PairNo, pages_level};
 use mas_types::Dev;
-
-/// How far the batch in flight has come on a copy.
-#[derive(Clone, Copy, PartialEq, Eq)]
-pub enum Place {
-    /// The copy is as before the batch.
-    Before,
-    /// The batch's pages stand behind a closed gate.
-    Put,
-    /// The copy reads the batch's pages.
-    Opened,
-    /// A call on the copy was stopped: it is as before the batch, or has it.
-    Unsure,
-}
 
 // How far the batch has come after a call that brings it there.
 pub(crate) fn place_after(done: &Result<(), PairNo>, there: Place) -> Place

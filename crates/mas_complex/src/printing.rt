@@ -67,6 +67,7 @@ impl<P: Plant + Drop, C: Steady + Drop> Complex<P, C> {
         ensures pair { self.new.pair ≡ self.old.pair }
         ensures base { self.new.base ≡ self.old.base }
         ensures since { self.new.since ≡ self.old.since }
+        ensures renewals { self.new.renewals ≡ self.old.renewals }
         ensures printed { self.new.printed ≡ printed_by by result self.old.printed }
         ensures counted { result ≡ ActDone → counts_of self.new.printed by ≡ counts_of self.old.printed by + 1 }
         ensures book { self.new.book ≡ book_by by result self.old.book }

@@ -15,7 +15,7 @@ ghost use Rattle.ckpt_copy.specs.Pages.{bytes_of, level};
 ghost use Rattle.duplex_pair.specs.declared.errors.PairNo.TheVariants.{Halted as PairNoHalted, BothLost as PairNoBothLost};
 ghost use Rattle.duplex_pair.specs.Halves.{IsCkpt, pick, other, Acted, IsBothLost, SomeAlive};
 ghost use Rattle.duplex_pair.specs.Outcomes.{pair_stopped};
-ghost use Rattle.mas_complex.specs.declared.places.Place.TheVariants.{Before as AtBefore, Opened as AtOpened};
+ghost use Rattle.ckpt_places.specs.declared.places.Place.TheVariants.{Before as AtBefore, Opened as AtOpened};
 ghost use Rattle.mas_complex.specs.declared.recover.RecoverNo.TheVariants.{BothLost as RecoverNoBothLost, Halted as RecoverNoHalted};
 ghost use Rattle.mas_complex.specs.CallCounts.{KeepsCounts};
 ghost use Rattle.mas_complex.specs.Elsewhere.{OnCopies};
@@ -31,28 +31,24 @@ ghost use Rattle.mas_complex.specs.Locking.{MayAct, IsOfOther};
 
 use crate::complex::Complex;
 use crate::fitting::{NUMBERS, fits, list_found};
-use crate::places::Place;
 use ckpt_form::Steady;
 use ckpt_pages::law_of_page_sizes;
+use ckpt_places::Place;
 use duplex_pair::{LookNo, PairNo, pages_level};
 use lay_bytes::read_u64;
 use mas_types::{Dev, List, MemberId, Page};
 use spool_disk::Plant;
 use std::alloc::Global;
-use thiserror::Error;
 
 /// Why nothing was recovered. A batch in flight still is.
-#[derive(Clone, Copy, Debug, PartialEq, Eq, Error)]
+#[derive(Clone, Copy)]
 pub enum RecoverNo {
     /// Both copies count as lost at the end of the call.
-    #[error("both copies are lost")]
     BothLost,
     /// The member was stopped inside the call: its count of stops rose.
-    #[error("the member was stopped")]
     Halted,
     /// There was no memory for the pages, or the level or the next order of those found is beyond what the batches of
     /// the journal can have come to.
-    #[error("no memory")]
     NoMemory,
 }
 
@@ -402,6 +398,7 @@ impl<P: Plant + Drop, C: Steady + Drop> Complex<P, C> {
         requires config { IsConfig self.old.base.config }
         ensures base { self.new.base ≡ self.old.base }
         ensures since { self.new.since ≡ self.old.since }
+        ensures renewals { self.new.renewals ≡ self.old.renewals }
         ensures printed { self.new.printed ≡ self.old.printed }
         ensures book { self.new.book ≡ self.old.book }
         ensures reserved { self.new.reserved ≡ None }
@@ -448,16 +445,18 @@ impl<P: Plant + Drop, C: Steady + Drop> Complex<P, C> {
             → self.new.pair.first.alive ≡ false
             → Rose ((P.view self.old.plant).faults (Disk Ckpt1)) ((P.view self.new.plant).faults (Disk Ckpt1))
             ⊎ WasUnfit C.reads (disk_now (P.view self.old.plant) Ckpt1).bytes self.old.level
-            (C.room self.new.pair.first.copy) found) }
+            (C.room_in (disk_now (P.view self.old.plant) Ckpt1).bytes) found) }
         ensures left2 { IfOk result (λ found. P.tells → self.old.pair.second.alive ≡ true
             → self.new.pair.second.alive ≡ false
             → Rose ((P.view self.old.plant).faults (Disk Ckpt2)) ((P.view self.new.plant).faults (Disk Ckpt2))
             ⊎ WasUnfit C.reads (disk_now (P.view self.old.plant) Ckpt2).bytes self.old.level
-            (C.room self.new.pair.second.copy) found) }
-        ensures both_failed1 { IsErrOf result RecoverNoBothLost → P.tells → self.old.pair.first.alive ≡ true
-            → Rose ((P.view self.old.plant).faults (Disk Ckpt1)) ((P.view self.new.plant).faults (Disk Ckpt1)) }
-        ensures both_failed2 { IsErrOf result RecoverNoBothLost → P.tells → self.old.pair.second.alive ≡ true
-            → Rose ((P.view self.old.plant).faults (Disk Ckpt2)) ((P.view self.new.plant).faults (Disk Ckpt2)) }
+            (C.room_in (disk_now (P.view self.old.plant) Ckpt2).bytes) found) }
+        ensures both_failed1 { OnErr result (IsBothLost self.new.pair.first.alive self.new.pair.second.alive
+            → P.tells → self.old.pair.first.alive ≡ true
+            → Rose ((P.view self.old.plant).faults (Disk Ckpt1)) ((P.view self.new.plant).faults (Disk Ckpt1))) }
+        ensures both_failed2 { OnErr result (IsBothLost self.new.pair.first.alive self.new.pair.second.alive
+            → P.tells → self.old.pair.second.alive ≡ true
+            → Rose ((P.view self.old.plant).faults (Disk Ckpt2)) ((P.view self.new.plant).faults (Disk Ckpt2))) }
         ensures frame { OnOk result (parts_of self.new ≡ record (with_copies (parts_of self.new) (parts_of self.old)) {
           batches = self.new.journal.batches;
           current = None;

@@ -1,12 +1,12 @@
 //! How far a batch in flight has come is seen on each copy.
-ghost use Rattle.std.specs.Prelude.{◌≡◌, ◌++◌, All, None, length, true, IfOk, IfSome, IsErrOf};
+ghost use Rattle.std.specs.Prelude.{◌≡◌, ◌++◌, All, None, length, true, IfOk, IfSome, IsErrOf, OnErr};
 ghost use Rattle.mas_types.specs.declared.ids.Dev.{Dev};
 ghost use Rattle.mas_types.specs.Fit.{IsConfig};
 ghost use Rattle.mas_types.specs.Limits.{page_bytes};
 ghost use Rattle.ckpt_pages.specs.Shape.{page_count as page_count_lem};
 ghost use Rattle.spool_disk.specs.View.{View, disk_now};
 ghost use Rattle.duplex_pair.specs.Halves.{Acted, IsCkpt, other, pick};
-ghost use Rattle.duplex_pair.specs.Looks.{WasSeen};
+ghost use Rattle.duplex_pair.specs.Looks.{HasRoom, WasSeen};
 ghost use Rattle.duplex_pair.specs.Outcomes.{look_stopped};
 ghost use Rattle.mas_complex.specs.CallCounts.{KeepsCounts};
 ghost use Rattle.mas_complex.specs.Elsewhere.{OnCopies};
@@ -48,9 +48,10 @@ fn usable(look: Look, count: usize) -> Look
 }
 
 impl<P: Plant + Drop, C: Steady + Drop> Complex<P, C> {
-    // How far the batch in flight has come on the copy of one device.
+    // How far the batch in flight has come on the copy of one device, which counts as alive.
     fn look_on(&mut self, alloc: Global, by: MemberId, dev: Dev) -> Result<Look, LookNo>
         requires ckpt { IsCkpt dev }
+        requires alive { (pick dev self.old.pair.first self.old.pair.second).alive ≡ true }
         ensures frame { parts_of self.new ≡ with_copy dev (parts_of self.new) (parts_of self.old) }
         ensures other { other dev self.new.pair.first self.new.pair.second
             ≡ other dev self.old.pair.first self.old.pair.second }
@@ -67,6 +68,11 @@ impl<P: Plant + Drop, C: Steady + Drop> Complex<P, C> {
         ensures next { IfOk result (λ look. P.tells
             → HasNext (run self.old.base (kept_all self.old.journal.batches ++ entries_in self.old.current))
             (entries_in self.old.current) self.old.level (pick dev self.new.first self.new.second) look) }
+        ensures room { IfOk result (λ look. P.tells
+            → HasRoom C.room C.room_in (pick dev self.new.pair.first self.new.pair.second).copy look
+            (disk_now (P.view self.new.plant) dev).bytes) }
+        ensures same { OnErr result (pick dev self.new.pair.first self.new.pair.second
+            ≡ pick dev self.old.pair.first self.old.pair.second) }
         ensures bytes { P.tells → (d : Dev)
             → (disk_now (P.view self.new.plant) d).bytes ≡ (disk_now (P.view self.old.plant) d).bytes }
         ensures apart { P.tells → OnCopies (P.view self.old.plant) (P.view self.new.plant) }
@@ -77,8 +83,8 @@ impl<P: Plant + Drop, C: Steady + Drop> Complex<P, C> {
         done
     }
 
-    // The pages of the copy on one device. One that can't be read, or has other than as many pages as the configuration,
-    // is lost.
+    // The pages of the copy on one device; none of one that counts as lost. One that can't be read, or has other than as
+    // many pages as the configuration, is lost.
     #[tactic(auto, using(crate::proofs::Counted::counts_one))]
     pub(crate) fn see_on(
         &mut self,
@@ -112,10 +118,18 @@ impl<P: Plant + Drop, C: Steady + Drop> Complex<P, C> {
             → (pick dev self.old.pair.first self.old.pair.second).alive ≡ true }
         ensures counts { KeepsCounts by.0 self.old.pair.first.alive self.new.pair.first.alive self.old.pair.second.alive
             self.new.pair.second.alive (look_stopped result) (P.view self.old.plant) (P.view self.new.plant) }
+        ensures room { IfOk result (λ pages. P.tells → IfSome pages (λ some.
+            C.room (pick dev self.new.pair.first self.new.pair.second).copy
+            ≡ C.room_in (disk_now (P.view self.new.plant) dev).bytes)) }
+        ensures same { OnErr result (pick dev self.new.pair.first self.new.pair.second
+            ≡ pick dev self.old.pair.first self.old.pair.second) }
         ensures bytes { P.tells → (d : Dev)
             → (disk_now (P.view self.new.plant) d).bytes ≡ (disk_now (P.view self.old.plant) d).bytes }
         ensures apart { P.tells → OnCopies (P.view self.old.plant) (P.view self.new.plant) }
     {
+        if !self.pair.alive(dev) {
+            return Ok(None);
+        }
         let count = page_count(&self.base.config);
         let look = self.look_on(alloc, by, dev)?;
         match usable(look, count as usize) {

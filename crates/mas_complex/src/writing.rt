@@ -9,7 +9,7 @@ ghost use Rattle.ckpt_copy.specs.Pages.{bytes_of, level, ArePages, Covers};
 ghost use Rattle.duplex_pair.specs.declared.errors.PairNo.TheVariants.{BothLost as PairNoBothLost};
 ghost use Rattle.duplex_pair.specs.Halves.{IsCkpt, pick, other, IsBothLost, SomeAlive, Acted};
 ghost use Rattle.duplex_pair.specs.Outcomes.{pair_stopped};
-ghost use Rattle.mas_complex.specs.declared.places.Place.TheVariants.{Before as AtBefore, Put as AtPut, Opened as AtOpened};
+ghost use Rattle.ckpt_places.specs.declared.places.Place.TheVariants.{Before as AtBefore, Put as AtPut, Opened as AtOpened};
 ghost use Rattle.mas_complex.specs.Journals.{coming, kept_all, entries_in, entries_reserved, begun, IsKeptAt};
 ghost use Rattle.mas_complex.specs.Meaning.{StandFor, run};
 ghost use Rattle.mas_complex.specs.Places.{IsPlaceAfter, HasNoOther, all_open};
@@ -24,8 +24,9 @@ ghost use Rattle.mas_complex.specs.Parts.{begun_in, dropped_in, kept_in, parts_o
 
 use crate::complex::Complex;
 use crate::journal_end::set_last;
-use crate::places::{Place, place_after, set_place};
+use crate::places::{place_after, set_place};
 use ckpt_form::Steady;
+use ckpt_places::{Place, all_opened};
 use duplex_pair::PairNo;
 use mas_types::{Batch, Dev, Fate, MemberId, Page};
 use spool_disk::Plant;
@@ -197,6 +198,7 @@ impl<P: Plant + Drop, C: Steady + Drop> Complex<P, C> {
             (C.reads (disk_now (P.view self.old.plant) (other dev Ckpt1 Ckpt2)).bytes) (bytes_of pages.now) }
         ensures base { self.new.base ≡ self.old.base }
         ensures since { self.new.since ≡ self.old.since }
+        ensures renewals { self.new.renewals ≡ self.old.renewals }
         ensures printed { self.new.printed ≡ printed_after by (entries_reserved self.old.reserved) self.old.printed }
         ensures book { self.new.book ≡ self.old.book }
         ensures journal { self.new.journal ≡ self.old.journal }
@@ -239,8 +241,12 @@ impl<P: Plant + Drop, C: Steady + Drop> Complex<P, C> {
         ensures opened { result ≡ true → (self.now.pair.first.alive ≡ true → self.now.first ≡ AtOpened)
             × (self.now.pair.second.alive ≡ true → self.now.second ≡ AtOpened) }
     {
-        (!self.pair.first.alive || matches!(self.first, Place::Opened))
-            && (!self.pair.second.alive || matches!(self.second, Place::Opened))
+        all_opened(
+            self.pair.first.alive,
+            self.pair.second.alive,
+            self.first,
+            self.second,
+        )
     }
 
     /// Opens the gate before the pages that one copy was given. The batch is kept by the call after which each copy
@@ -259,6 +265,7 @@ impl<P: Plant + Drop, C: Steady + Drop> Complex<P, C> {
         requires level { self.old.level < top }
         ensures base { self.new.base ≡ self.old.base }
         ensures since { self.new.since ≡ self.old.since }
+        ensures renewals { self.new.renewals ≡ self.old.renewals }
         ensures printed { self.new.printed ≡ self.old.printed }
         ensures book { self.new.book ≡ self.old.book }
         ensures reserved { self.new.reserved ≡ self.old.reserved }

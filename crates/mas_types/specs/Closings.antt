@@ -70,6 +70,7 @@ closing_text closing.PrinterLost = codes "NO PRINTER LOST"
 closing_text (closing.LineLost line) = words (codes "NO LINE LOST" ∷ decimal line ∷ [])
 closing_text (closing.NoText group) = words (codes "NO TEXT" ∷ decimal group.0 ∷ [])
 closing_text (closing.NotLost copy) = words (codes "NO NOT LOST" ∷ device_word copy ∷ [])
+closing_text (closing.CkptLost copy) = words (codes "NO CKPT LOST" ∷ device_word copy ∷ [])
 closing_text (closing.Line sent got) = words (codes "OK SENT" ∷ decimal sent ∷ codes "GOT" ∷ decimal got ∷ [])
 
 -- WHOSE NAMES STAND IN A CLOSING. Members from 1 on have names up to the greatest member

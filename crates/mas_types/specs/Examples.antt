@@ -77,14 +77,14 @@ ClosingsAreWritten =
     ∷ closing.DoneUnits 9 ∷ closing.Busy sysa ∷ closing.Dormant 3 ∷ closing.Down ∷ closing.Stopped
     ∷ closing.Up sysh ∷ closing.ResetOf sysa ∷ closing.NotHolder ∷ closing.BadCard 1 cards.Name ∷ closing.SpoolLost 1
     ∷ closing.PrinterLost ∷ closing.LineLost 8 ∷ closing.NoText (record { 0 = 511 }) ∷ closing.NotLost dev.Ckpt2
-    ∷ closing.Line 2 10 ∷ [])
+    ∷ closing.CkptLost dev.Ckpt1 ∷ closing.Line 2 10 ∷ [])
     ≡ (
     codes "OK" ∷ codes "OK JOB00001" ∷ codes "OK JOB00012.03"
     ∷ codes "OK 25" ∷ codes "OK 2" ∷ codes "NO NO JOB"
     ∷ codes "OK DONE 9" ∷ codes "BUSY SYSA" ∷ codes "DORMANT 3" ∷ codes "DOWN" ∷ codes "STOPPED"
     ∷ codes "NO UP SYSH" ∷ codes "OK SYSA" ∷ codes "NO NOT HOLDER" ∷ codes "NO BAD CARD 1 NAME" ∷ codes "NO SPOOL LOST 1"
     ∷ codes "NO PRINTER LOST" ∷ codes "NO LINE LOST 8" ∷ codes "NO TEXT 511" ∷ codes "NO NOT LOST CKPT2"
-    ∷ codes "OK SENT 2 GOT 10" ∷ [])
+    ∷ codes "NO CKPT LOST CKPT1" ∷ codes "OK SENT 2 GOT 10" ∷ [])
 
 abbrev pub RefusalsAreWritten : Type 0
 RefusalsAreWritten =

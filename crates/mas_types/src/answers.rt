@@ -3,7 +3,7 @@ use crate::commands::Reply;
 use crate::ids::{Dev, GroupNo, MemberId};
 
 /// Why a line of a script is refused. Of several causes the first one counts.
-#[derive(Clone, Copy, Debug, PartialEq, Eq)]
+#[derive(Clone, Copy, Debug)]
 pub enum LineCause {
     /// A byte that is no text byte, or over 255 bytes.
     Text,
@@ -34,7 +34,7 @@ pub enum LineCause {
 }
 
 /// Why a card is refused. Of several causes the first one counts.
-#[derive(Clone, Copy, Debug, PartialEq, Eq)]
+#[derive(Clone, Copy, Debug)]
 pub enum CardCause {
     /// Over 80 bytes.
     Text,
@@ -55,7 +55,7 @@ pub enum CardCause {
 }
 
 /// Why the converter refuses a statement. Of several causes the first one counts.
-#[derive(Clone, Copy, Debug, PartialEq, Eq)]
+#[derive(Clone, Copy, Debug)]
 pub enum JclCause {
     /// A bad name, or a DD statement without one.
     Name,
@@ -78,7 +78,7 @@ pub enum JclCause {
 }
 
 /// Why a copy of the checkpoint can't be used.
-#[derive(Clone, Copy, Debug, PartialEq, Eq)]
+#[derive(Clone, Copy)]
 pub enum CopyState {
     /// Its device is lost.
     Lost,
@@ -89,7 +89,7 @@ pub enum CopyState {
 }
 
 /// How a run ends.
-#[derive(Clone, Copy, PartialEq, Eq)]
+#[derive(Clone, Copy)]
 pub enum Status {
     /// Every step has closed, except those whose member stopped.
     Done,
@@ -161,12 +161,14 @@ pub enum Closing {
     NoText(GroupNo),
     /// The copy to be replaced isn't lost.
     NotLost(Dev),
+    /// The new device of a copy that was to be replaced is lost.
+    CkptLost(Dev),
     /// So many jobs were sent and got.
     Line(u32, u32),
 }
 
 /// What a check of the checkpoint finds wrong.
-#[derive(Clone, Copy, PartialEq, Eq)]
+#[derive(Clone, Copy)]
 pub enum FaultKind {
     /// A page is no spelling.
     Page,
@@ -181,7 +183,7 @@ pub enum FaultKind {
 }
 
 /// What a check of the checkpoint answers.
-#[derive(Clone, Copy, PartialEq, Eq)]
+#[derive(Clone, Copy)]
 pub enum Verdict {
     /// Nothing is wrong.
     Sound,

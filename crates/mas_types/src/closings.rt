@@ -54,6 +54,7 @@ fn push_closing(line: &mut List<u8>, end: &Closing) -> Result<(), NoMemory>
         Closing::LineLost(wire) => push_with_number(line, b"NO LINE LOST ", *wire as u64),
         Closing::NoText(group) => push_with_number(line, b"NO TEXT ", group.0 as u64),
         Closing::NotLost(copy) => push_not_lost(line, *copy),
+        Closing::CkptLost(copy) => push_ckpt_lost(line, *copy),
         Closing::Line(sent, got) => push_line(line, *sent, *got),
     }
 }
@@ -120,6 +121,13 @@ fn push_not_lost(line: &mut List<u8>, copy: Dev) -> Result<(), NoMemory>
     ensures { OnOk result (line.new ≡ line.old ++ closing_text (closing.NotLost copy)) }
 {
     push_text(line, b"NO NOT LOST ")?;
+    push_device(line, copy)
+}
+
+fn push_ckpt_lost(line: &mut List<u8>, copy: Dev) -> Result<(), NoMemory>
+    ensures { OnOk result (line.new ≡ line.old ++ closing_text (closing.CkptLost copy)) }
+{
+    push_text(line, b"NO CKPT LOST ")?;
     push_device(line, copy)
 }
 

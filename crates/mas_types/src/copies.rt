@@ -271,6 +271,7 @@ impl Copied for Closing {
             Closing::LineLost(line) => Closing::LineLost(*line),
             Closing::NoText(group) => Closing::NoText(*group),
             Closing::NotLost(copy) => Closing::NotLost(*copy),
+            Closing::CkptLost(copy) => Closing::CkptLost(*copy),
             Closing::Line(sent, got) => Closing::Line(*sent, *got),
         })
     }

@@ -19,7 +19,7 @@ use Rattle.atomic_table.proofs.Lists.{at_set, set_here, set_else, at_snoc, at_lo
 use Rattle.gate_facts.specs.Memory.{seats}
 use Rattle.gate_facts.proofs.Lists.{true_false, not_true, at_within}
 use Rattle.member_gate.proofs.Places.{mine_grows}
-use Rattle.member_gate.proofs.Ways.{SameSeen, map_set, map_snoc, has_map, counting_one, giving_one, given_one, opener_one, spent_one, joined_one, counting_way, given_way, opener_way, spent_way, joined_way, taking_seen, taking_out, counting_sees, opener_out}
+use Rattle.member_gate.proofs.Ways.{SameSeen, map_set, map_snoc, has_map, counting_one, spent_one, counting_way, given_way, opener_way, spent_way, joined_way, taking_seen, taking_out, counting_sees, opener_out}
 use Rattle.member_gate.proofs.Shapes.{has_all, meets_same, quiet, counts_shape, split_shape, join_shape, open_shape}
 
 -- a slot that was taken is the only one

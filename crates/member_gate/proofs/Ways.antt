@@ -7,7 +7,7 @@ use Rattle.gate_facts.specs.Memory.{seats, IsLeft}
 use Rattle.member_gate.specs.declared.view.View.{View}
 use Rattle.member_gate.specs.declared.view.Sight.{Sight}
 use Rattle.member_gate.specs.Marking.{grown, single, either_of}
-use Rattle.member_gate.specs.Views.{sight, memory_in, taking, sees, counting, ending, giving, handed, given_to, nothing, opener, spent, both_sights, joined}
+use Rattle.member_gate.specs.Views.{sight, memory_in, taking, sees, counting, ending, handed, given_to, nothing, opener, spent, both_sights, joined}
 use Rattle.member_gate.specs.Rules.{OneWay, one_way, Has}
 
 -- LISTS OF VIEWS

@@ -13,16 +13,16 @@ use Rattle.ckpt_pages.specs.Checkpoints.{IsCheckpoint}
 use Rattle.duplex_pair.specs.declared.errors.PairNo.{PairNo}
 use Rattle.duplex_pair.specs.declared.errors.PairNo.TheVariants.{BothLost, Halted}
 use Rattle.duplex_pair.specs.Halves.{IsBothLost, IsGone}
-use Rattle.mas_complex.specs.declared.places.Place.TheVariants.{Before}
-use Rattle.mas_complex.specs.Crash.{setting, CopyAt, copy_of}
+use Rattle.ckpt_places.specs.declared.places.Place.TheVariants.{Before}
+use Rattle.mas_complex.specs.Crash.{setting, OneCopy}
 use Rattle.ckpt_pages.specs.Sound.{AreSound}
 use Rattle.queue_tables.specs.Telling.{Tell}
 use Rattle.queue_tables.proofs.OrderLemmas.{sound_orders}
 use Rattle.mas_complex.specs.Meaning.{StandFor}
-use Rattle.warm_start.specs.declared.choosing.Start.{Start}
-use Rattle.warm_start.specs.Choosing.{are_beside, goes}
+use Rattle.start_choice.specs.declared.choosing.Start.{Start}
+use Rattle.start_choice.specs.Choosing.{are_beside, goes}
 use Rattle.warm_start.specs.Starting.{Mark, mark_of, HasGone, IsSeen, IsFound, IsUnfit, IsOneCalled}
-use Rattle.warm_start.specs.Usable.{HaveSize}
+use Rattle.start_choice.specs.Usable.{HaveSize}
 
 -- the pages stand for a queue that their tables tell, which have no fault
 pub stand_of : (base : Queue) (pages : List Page) (t : Tables) → HaveSize pages → IsCheckpoint pages t → AreSound t → Tell t base → StandFor base (bytes_of pages)
@@ -36,8 +36,8 @@ stand_of base pages t sized is sound told = record {
 
 -- a copy that rests these pages, or is lost
 pub rested_copy : (reads : List ℕ → Option (List ℕ)) (base : Queue) (now : ℕ) (rests : List ℕ → Disk → Type 0) (holds : List ℕ → List ℕ → Disk → Type 0) (alive : Bool) (disk : Disk) (pages : List ℕ)
-    → (alive ≡ true → rests pages disk) → (alive ≡ false → now < top → disk.lost ≡ true) → CopyAt (setting reads base now) pages None (copy_of rests holds alive Before) now disk
-rested_copy reads base now rests holds alive disk pages rested gone = record { at = rested; gone = gone }
+    → (alive ≡ true → rests pages disk) → (alive ≡ false → now < top → disk.lost ≡ true) → OneCopy (setting reads base now) rests holds pages None Before alive false now disk
+rested_copy reads base now rests holds alive disk pages rested gone = record { at = rested; formed = λ _. refl; gone = gone }
 
 -- what was seen still was, where a copy that had gone has gone
 seen_later : (reads : List ℕ → Option (List ℕ)) (dev : Dev) (old mid new : View) (mark mark' : Mark) → (HasGone dev old mid mark → HasGone dev old new mark') → (seen : Option (List ℕ)) → IsSeen reads dev old mid mark seen → IsSeen reads dev old new mark' seen

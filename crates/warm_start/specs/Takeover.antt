@@ -20,8 +20,8 @@ use Rattle.ckpt_pages.specs.Shape.{page_count}
 use Rattle.ckpt_form.specs.declared.steady.Steady.{Ghosts as SteadyGhosts}
 use Rattle.duplex_pair.specs.Halves.{IsBothLost, SomeAlive}
 use Rattle.mas_complex.specs.declared.complex.Complex.{Complex}
-use Rattle.mas_complex.specs.declared.places.Place.{Place}
-use Rattle.mas_complex.specs.declared.places.Place.TheVariants.{Before}
+use Rattle.ckpt_places.specs.declared.places.Place.{Place}
+use Rattle.ckpt_places.specs.declared.places.Place.TheVariants.{Before}
 use Rattle.mas_complex.specs.CallCounts.{KeepsCounts}
 use Rattle.mas_complex.specs.Crash.{next_order, order_first, orders_most}
 use Rattle.mas_complex.specs.Elsewhere.{OnCopies}
@@ -144,11 +144,14 @@ module _ {P C : Type 0} (plants : PlantGhosts P) (copies : CopyGhosts C) where
         (disk_now (v plants old) Ckpt1).bytes (disk_now (v plants old) Ckpt2).bytes (HasFailed1 plants old new)
         (HasFailed2 plants old new) pages
     pub left1 : plants.tells → old.first_alive ≡ true → new.first_alive ≡ false → HasFailed1 plants old new
-        ⊎ WasUnfit copies.reads (disk_now (v plants old) Ckpt1).bytes old.level (copies.room new.first_copy) pages
+        ⊎ WasUnfit copies.reads (disk_now (v plants old) Ckpt1).bytes old.level
+        (copies.room_in (disk_now (v plants old) Ckpt1).bytes) pages
     pub left2 : plants.tells → old.second_alive ≡ true → new.second_alive ≡ false → HasFailed2 plants old new
-        ⊎ WasUnfit copies.reads (disk_now (v plants old) Ckpt2).bytes old.level (copies.room new.second_copy) pages
+        ⊎ WasUnfit copies.reads (disk_now (v plants old) Ckpt2).bytes old.level
+        (copies.room_in (disk_now (v plants old) Ckpt2).bytes) pages
 
-  -- What is known by the answer. Once the member was stopped in it, a copy counts as alive.
+  -- What is known by the answer. Once the member was stopped in it, a copy counts as alive. Out of memory both copies may
+  -- count as lost too: then they are so by the same causes.
   abbrev pub TakesBy : MemberId → Parts P C → Parts P C → Result (List Page) TakeNo → Type 0
   TakesBy by old new (Ok pages) = HasFound old new pages
   TakesBy by old new (Err StillUp) = Unit {0}
@@ -156,7 +159,7 @@ module _ {P C : Type 0} (plants : PlantGhosts P) (copies : CopyGhosts C) where
   TakesBy by old new (Err BothLost) = LostBoth plants old new
   TakesBy by old new (Err Halted) = SomeAlive new.first_alive new.second_alive
       × Rose ((v plants old).stops by.0) ((v plants new).stops by.0)
-  TakesBy by old new (Err NoMemory) = Unit {0}
+  TakesBy by old new (Err NoMemory) = IsBothLost new.first_alive new.second_alive → LostBoth plants old new
 
 -- OVER THE SHARED VALUE
 

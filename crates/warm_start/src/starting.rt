@@ -13,20 +13,20 @@ ghost use Rattle.ckpt_pages.specs.Given.{levels_given};
 ghost use Rattle.duplex_pair.specs.declared.errors.PairNo.TheVariants.{BothLost as PairNoBothLost, Halted as PairNoHalted};
 ghost use Rattle.duplex_pair.specs.Halves.{IsCkpt, pick, other, IsGone, SameOrLost, SomeAlive, IsBothLost};
 ghost use Rattle.duplex_pair.specs.Both.{PairActed, BothMeanwhile};
-ghost use Rattle.mas_complex.specs.declared.places.Place.TheVariants.{Before as AtBefore};
+ghost use Rattle.ckpt_places.specs.declared.places.Place.TheVariants.{Before as AtBefore};
 ghost use Rattle.mas_complex.specs.Locking.{book_of};
 ghost use Rattle.mas_complex.specs.Headline.{LeavesQueue};
 ghost use Rattle.mas_complex.specs.Paper.{no_counts};
+ghost use Rattle.mas_complex.specs.Renewals.{no_renewals};
 ghost use Rattle.spool_volumes.specs.Volumes.{IsSteady, AreRoomy};
 ghost use Rattle.queue_tables.specs.Telling.{Tell};
-ghost use Rattle.warm_start.specs.Choosing.{IsFew, goes as goes_lem};
+ghost use Rattle.start_choice.specs.Choosing.{IsFew, goes as goes_lem};
 ghost use Rattle.warm_start.specs.Judging.{Has};
 ghost use Rattle.warm_start.specs.Inspecting.{FindsNone};
 ghost use Rattle.mas_complex.specs.Texts.{HasTexts, lost_now, spools_at};
 ghost use Rattle.warm_start.specs.Spooled.{AreGiven};
 ghost use Rattle.warm_start.specs.Starting.{Chosen, Fitting, MayLose, Starts, OneFailed, LosesBoth, IsHeld, IsCauseOf, IsSmallAt, IsSmallVolumeAt, OnlyLooked, OnlyLookedAtAll, HasStarted, HeldBack};
 
-use crate::choosing::{Good, Start, StartNo, choose, is_to_go};
 use crate::looking::{OPERATOR, judge_both};
 use crate::spooled::spooled_queue;
 use ckpt_copy::Copying;
@@ -37,6 +37,7 @@ use mas_types::limits::PAGE_BYTES;
 use mas_types::{Config, Dev, Level, List, Page, Queue};
 use queue_tables::law_of_told_queues;
 use spool_disk::{Part, Plant};
+use start_choice::{Good, Start, StartNo, choose, is_to_go};
 use std::alloc::Global;
 
 /// What a run goes on with after a warm start.
@@ -391,6 +392,7 @@ pub fn warm<P: Plant + Drop, C: Steady + Drop>(
     ensures none { IfOk result (λ w. (w.complex.current ≡ None) × (w.complex.placed ≡ false)) }
     ensures unreserved { IfOk result (λ w. w.complex.reserved ≡ None) }
     ensures printed { IfOk result (λ w. w.complex.printed ≡ no_counts) }
+    ensures renewals { IfOk result (λ w. w.complex.renewals ≡ no_renewals) }
     ensures book { IfOk result (λ w. w.complex.book ≡ book_of w.complex.base.config) }
     ensures cause { IfErr result (λ u. (alive1 alive2 : Bool)
         × IsCauseOf C.reads P.tells C.needs (P.view plant) (P.view u.plant) alive1 alive2 u.why) }

@@ -1,6 +1,6 @@
 use Rattle.std.proofs.Common.{subst, ℕ, List, sym}
 use Rattle.std.proofs.Math.Logic.{∥∥₁_map}
-use Rattle.mas_complex.specs.Crash.{Setting, setting, copy_of}
+use Rattle.mas_complex.specs.Crash.{Setting, setting_with, copy_of}
 use Rattle.std.proofs.Common.{◌≤◌}
 use Rattle.mas_complex.proofs.Fating.{is_place}
 use Rattle.mas_complex.proofs.Batches.{placed_all, placed_settled}
@@ -9,13 +9,16 @@ use Rattle.mas_complex.specs.Journals.{in_flight, AreSettled}
 use Rattle.mas_complex.proofs.Replied.{placed_replied}
 use Rattle.mas_complex.proofs.Papers.{place_on_paper}
 use Rattle.mas_types.specs.declared.journals.Batch.{Batch}
+use Rattle.std.proofs.Common.{Bool, true}
+use Rattle.mas_complex.specs.Journals.{AreFew}
+use Rattle.mas_complex.proofs.Short.{few_placed}
 use Rattle.mas_complex.proofs.complex.Complex.add_place.Goals as goal
 
 pub invariant_of-self-2-clause-kept : goal.invariant_of-self-2-clause-kept
 invariant_of-self-2-clause-kept g c told =
     let s = c.args.self.now in
     let C = g.C.Copying in
-    let S : Setting = setting C.reads s.base s.since in
+    let S : Setting = setting_with C.reads s.base s.since s.renewals in
     let first = copy_of (C.rests s.pair.first.copy) (C.holds s.pair.first.copy) s.pair.first.alive s.first in
     let second = copy_of (C.rests s.pair.second.copy) (C.holds s.pair.second.copy) s.pair.second.alive s.second in
     let old = g.P.Plant.view s.plant in
@@ -54,3 +57,9 @@ invariant_of-self-2-clause-settled g c =
     let s = c.args.self.now in
     let place = is_place c.empty_place-place.result c.now.result (record { 0 = 0 }) c.empty_place-place.ensures in
     subst (λ (l : List Batch). AreSettled l (g.P.Plant.view s.plant).now) (sym c.in_ok-push_place.ensures.ok) (placed_settled c.empty_place-place.result place.0 s.journal.batches (g.P.Plant.view s.plant).now s.settled place.1 (subst (λ (n : ℕ). c.empty_place-place.result.last ≤ n) c.now.ensures place.2))
+
+pub invariant_of-self-2-clause-counted : goal.invariant_of-self-2-clause-counted
+invariant_of-self-2-clause-counted g c =
+    let s = c.args.self.now in
+    let place = is_place c.empty_place-place.result c.now.result (record { 0 = 0 }) c.empty_place-place.ensures in
+    subst (λ (l : List Batch). AreFew true l) (sym c.in_ok-push_place.ensures.ok) (few_placed s.journal.batches c.empty_place-place.result place.0 (subst (λ (z : Bool). AreFew z s.journal.batches) c.requires.none s.counted))

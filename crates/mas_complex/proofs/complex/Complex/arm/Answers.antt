@@ -3,7 +3,7 @@ use Rattle.std.proofs.Math.Logic.{∥∥₁_map}
 use Rattle.mas_types.specs.declared.ids.Dev.TheVariants.{Ckpt1, Ckpt2}
 use Rattle.spool_disk.specs.declared.plant.Part.TheVariants.{Disk}
 use Rattle.spool_disk.specs.View.{View}
-use Rattle.mas_complex.specs.Crash.{copy_of, setting}
+use Rattle.mas_complex.specs.Crash.{copy_of, setting_with}
 use Rattle.mas_complex.proofs.Armed.{armed_keep, armed_on_paper, same_sizes}
 use Rattle.mas_complex.specs.Journals.{AreSettled, IsBegun}
 use Rattle.mas_complex.proofs.complex.Complex.arm.Goals as goal
@@ -14,7 +14,7 @@ invariant_of-self-clause-kept g c told =
     let C = g.C.Copying in
     let first = copy_of (C.rests s.pair.first.copy) (C.holds s.pair.first.copy) s.pair.first.alive s.first in
     let second = copy_of (C.rests s.pair.second.copy) (C.holds s.pair.second.copy) s.pair.second.alive s.second in
-    ∥∥₁_map (s.kept told) (λ k. armed_keep (setting C.reads s.base s.since) s.journal.batches s.current s.level first second (g.P.Plant.view s.plant) c.args.member.0 (g.P.Plant.view c.arm.new.self) c.arm.ensures k)
+    ∥∥₁_map (s.kept told) (λ k. armed_keep (setting_with C.reads s.base s.since s.renewals) s.journal.batches s.current s.level first second (g.P.Plant.view s.plant) c.args.member.0 (g.P.Plant.view c.arm.new.self) c.arm.ensures k)
 
 pub invariant_of-self-clause-paper : goal.invariant_of-self-clause-paper
 invariant_of-self-clause-paper g c told sound =
@@ -36,14 +36,14 @@ invariant_of-self-clause-second_ready g c alive =
     g.C.Steady.sizes_fit s.pair.second.copy old new (same_sizes c.args.member.0 old new c.arm.ensures) (s.second_ready alive)
 
 pub invariant_of-self-clause-first_lost : goal.invariant_of-self-clause-first_lost
-invariant_of-self-clause-first_lost g c dead =
+invariant_of-self-clause-first_lost g c dead known =
     let s = c.args.self.now in
-    ap (λ (v : View). v.lost (Disk Ckpt1)) c.arm.ensures.same ∙ s.first_lost dead
+    ap (λ (v : View). v.lost (Disk Ckpt1)) c.arm.ensures.same ∙ s.first_lost dead known
 
 pub invariant_of-self-clause-second_lost : goal.invariant_of-self-clause-second_lost
-invariant_of-self-clause-second_lost g c dead =
+invariant_of-self-clause-second_lost g c dead known =
     let s = c.args.self.now in
-    ap (λ (v : View). v.lost (Disk Ckpt2)) c.arm.ensures.same ∙ s.second_lost dead
+    ap (λ (v : View). v.lost (Disk Ckpt2)) c.arm.ensures.same ∙ s.second_lost dead known
 
 pub invariant_of-self-clause-settled : goal.invariant_of-self-clause-settled
 invariant_of-self-clause-settled g c =

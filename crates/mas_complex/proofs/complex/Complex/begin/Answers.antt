@@ -5,7 +5,7 @@ use Rattle.mas_types.specs.declared.journals.Batch.{Batch}
 use Rattle.mas_types.specs.declared.journals.Entry.{Entry}
 use Rattle.mas_types.specs.declared.journals.Fate.TheVariants.{Flying}
 use Rattle.mas_complex.specs.Journals.{entries_reserved, AreSettled, IsBegun}
-use Rattle.mas_complex.specs.Crash.{Keeps, Setting, setting, copy_of}
+use Rattle.mas_complex.specs.Crash.{Keeps, Setting, setting_with, copy_of}
 use Rattle.mas_complex.specs.Crash.{IsUntold}
 use Rattle.mas_complex.proofs.Moves.{begins_keep}
 use Rattle.std.proofs.Common.{◌++◌}
@@ -17,13 +17,15 @@ use Rattle.paper_laws.specs.Counts.{AreAllowed}
 use Rattle.mas_complex.specs.Paper.{KeepsPaper, counts_of}
 use Rattle.mas_complex.proofs.Papers.{begins_on_paper, counts_fall}
 use Rattle.mas_complex.proofs.Standing.{owned_own}
+use Rattle.std.proofs.Common.{length, ◌≤◌}
+use Rattle.mas_complex.specs.Journals.{entries_most}
 use Rattle.mas_complex.proofs.complex.Complex.begin.Goals as goal
 
 pub invariant_of-self-clause-kept : goal.invariant_of-self-clause-kept
 invariant_of-self-clause-kept g c told =
     let s = c.args.self.now in
     let C = g.C.Copying in
-    let S : Setting = setting C.reads s.base s.since in
+    let S : Setting = setting_with C.reads s.base s.since s.renewals in
     let first = copy_of (C.rests s.pair.first.copy) (C.holds s.pair.first.copy) s.pair.first.alive s.first in
     let second = copy_of (C.rests s.pair.second.copy) (C.holds s.pair.second.copy) s.pair.second.alive s.second in
     let old = g.P.Plant.view s.plant in
@@ -65,3 +67,10 @@ pub invariant_of-self-clause-owned : goal.invariant_of-self-clause-owned
 invariant_of-self-clause-owned g c =
     let b : Batch = record { first = c.now-first.result; last = 2 ^ 64 - 1; by = c.args.by; fate = Flying; entries = c.in-Some.entries } in
     owned_own b c.args.self.now.book c.requires.may.holds
+
+pub invariant_of-self-clause-short : goal.invariant_of-self-clause-short
+invariant_of-self-clause-short g c =
+    let s = c.args.self.now in
+    let es = c.in-Some.entries in
+    let e : entries_reserved s.reserved ≡ es = ap entries_reserved (sym c.take.ensures.value ∙ c.in-Some.is) in
+    subst (λ (l : List Entry). length l ≤ entries_most) e s.short_reserved

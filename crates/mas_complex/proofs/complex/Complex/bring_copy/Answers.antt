@@ -1,6 +1,6 @@
 use Rattle.std.proofs.Common.{◌≡◌, ◌∙◌, ap}
-use Rattle.mas_complex.specs.declared.places.Place.{Place}
-use Rattle.mas_complex.specs.declared.places.Place.TheVariants.{Before, Opened}
+use Rattle.ckpt_places.specs.declared.places.Place.{Place}
+use Rattle.ckpt_places.specs.declared.places.Place.TheVariants.{Before, Opened}
 use Rattle.mas_complex.proofs.Apart.{bytes_else, on_one, on_then}
 use Rattle.mas_complex.specs.Parts.{parts_of}
 use Rattle.mas_complex.proofs.Frames.{frame_then}

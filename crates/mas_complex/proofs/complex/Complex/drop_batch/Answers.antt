@@ -2,7 +2,7 @@ use Rattle.std.proofs.Common.{refl, subst, sym, ◌≡◌, ◌∙◌, Option, So
 use Rattle.std.proofs.Math.Logic.{∥∥₁_map, ∥∥₁_elim, ∥∥₁_prop, ∥∥₁_map₂}
 use Rattle.mas_types.specs.declared.journals.Batch.{Batch}
 use Rattle.mas_types.specs.declared.journals.Fate.TheVariants.{Dropped}
-use Rattle.mas_complex.specs.Crash.{Keeps, Setting, setting, copy_of}
+use Rattle.mas_complex.specs.Crash.{Keeps, Setting, setting_with, copy_of}
 use Rattle.mas_complex.proofs.Fating.{has_ends, dropped_placed}
 use Rattle.std.proofs.Common.{◌++◌}
 use Rattle.mas_complex.specs.Journals.{in_flight, IsBegun, AreSettled}
@@ -12,13 +12,16 @@ use Rattle.mas_complex.specs.Paper.{KeepsPaper}
 use Rattle.mas_complex.proofs.PaperEnds.{fated_on_paper}
 use Rattle.mas_complex.proofs.BatchEnds.{few_with_last}
 use Rattle.mas_complex.proofs.Standing.{IsOwned, owned_none, settled_with_last}
+use Rattle.std.proofs.Common.{false, length, ◌≤◌}
+use Rattle.mas_complex.specs.Journals.{entries_in, entries_most, AreFew}
+use Rattle.mas_complex.proofs.Short.{few_last}
 use Rattle.mas_complex.proofs.complex.Complex.drop_batch.Goals as goal
 
 pub invariant_of-self-clause-kept : goal.invariant_of-self-clause-kept
 invariant_of-self-clause-kept g c told =
     let s = c.args.self.now in
     let C = g.C.Copying in
-    let S : Setting = setting C.reads s.base s.since in
+    let S : Setting = setting_with C.reads s.base s.since s.renewals in
     let first = copy_of (C.rests s.pair.first.copy) (C.holds s.pair.first.copy) s.pair.first.alive s.first in
     let second = copy_of (C.rests s.pair.second.copy) (C.holds s.pair.second.copy) s.pair.second.alive s.second in
     let old = g.P.Plant.view s.plant in
@@ -67,3 +70,12 @@ invariant_of-self-clause-begun g c = subst (λ (x : Option Batch). IsBegun x (g.
 
 pub invariant_of-self-clause-owned : goal.invariant_of-self-clause-owned
 invariant_of-self-clause-owned g c = subst (λ (x : Option Batch). IsOwned x c.args.self.now.book) (sym c.take.ensures.after) (owned_none c.args.self.now.book)
+
+pub invariant_of-self-clause-counted : goal.invariant_of-self-clause-counted
+invariant_of-self-clause-counted g c =
+    let s = c.args.self.now in
+    let b = c.in-Some.batch in
+    let was : s.current ≡ Some b = sym c.take.ensures.value ∙ c.in-Some.is in
+    let short : length b.entries ≤ entries_most = subst (λ (x : Option Batch). length (entries_in x) ≤ entries_most) was s.short in
+    subst (λ (l : List Batch). AreFew false l) (sym c.set_last.ensures)
+    (few_last (record { first = b.first; last = c.now-last.result; by = b.by; fate = Dropped; entries = b.entries }) s.placed s.journal.batches (s.place_current c.requires.current) s.place short s.counted)

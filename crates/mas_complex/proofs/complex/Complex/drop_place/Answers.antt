@@ -1,19 +1,22 @@
 use Rattle.std.proofs.Common.{true, List, Option, None, ◌++◌, subst, sym}
 use Rattle.std.proofs.Math.Logic.{∥∥₁_map₂}
 use Rattle.mas_types.specs.declared.journals.Batch.{Batch}
-use Rattle.mas_complex.specs.Crash.{Setting, setting, copy_of}
+use Rattle.mas_complex.specs.Crash.{Setting, setting_with, copy_of}
 use Rattle.mas_complex.specs.Journals.{in_flight, AreSettled}
 use Rattle.mas_complex.specs.Replies.{AreReplied}
 use Rattle.mas_complex.proofs.BatchEnds.{few_at_end}
 use Rattle.mas_complex.proofs.Fating.{has_ends}
 use Rattle.mas_complex.proofs.Standing.{settled_without_last, unplaced_keeps, unplaced_on_paper, unplaced_replied}
+use Rattle.std.proofs.Common.{false}
+use Rattle.mas_complex.specs.Journals.{AreFew}
+use Rattle.mas_complex.proofs.Short.{few_unplaced}
 use Rattle.mas_complex.proofs.complex.Complex.drop_place.Goals as goal
 
 pub invariant_of-self-clause-kept : goal.invariant_of-self-clause-kept
 invariant_of-self-clause-kept g c told =
     let s = c.args.self.now in
     let C = g.C.Copying in
-    let S : Setting = setting C.reads s.base s.since in
+    let S : Setting = setting_with C.reads s.base s.since s.renewals in
     let first = copy_of (C.rests s.pair.first.copy) (C.holds s.pair.first.copy) s.pair.first.alive s.first in
     let second = copy_of (C.rests s.pair.second.copy) (C.holds s.pair.second.copy) s.pair.second.alive s.second in
     ∥∥₁_map₂ (s.kept told) s.place (λ k has. rw c.drop_last.ensures
@@ -39,3 +42,8 @@ invariant_of-self-clause-settled g c =
 
 pub invariant_of-self-clause-few : goal.invariant_of-self-clause-few
 invariant_of-self-clause-few g c = rw c.drop_last.ensures (few_at_end true None c.args.self.now.journal.batches c.args.self.now.few)
+
+pub invariant_of-self-clause-counted : goal.invariant_of-self-clause-counted
+invariant_of-self-clause-counted g c =
+    let s = c.args.self.now in
+    subst (λ (l : List Batch). AreFew false l) (sym c.drop_last.ensures) (few_unplaced s.placed s.journal.batches c.requires.placed s.place s.counted)

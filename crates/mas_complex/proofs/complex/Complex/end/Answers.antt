@@ -18,8 +18,8 @@ returns-clause-headline g c told =
     let second = copy_of (C.rests s.pair.second.copy) (C.holds s.pair.second.copy) s.pair.second.alive s.second in
     let v = g.P.Plant.view s.plant in
     ∥∥₁_elim (s.kept told) ∥∥₁_prop (λ k. ∥∥₁_map s.place (λ has.
-    subst (λ (l : List Batch). Headline C.reads s.base s.since (record { batches = l }) v) (sym c.finished-journal.ensures)
-    (ended_headline C.reads s.base s.since s.level first second v c.moment_of-last.ensures.most s.first_lost s.second_lost
+    subst (λ (l : List Batch). Headline C.reads s.base s.since (record { batches = l }) s.renewals v) (sym c.finished-journal.ensures)
+    (ended_headline C.reads s.base s.since s.renewals s.level first second v c.moment_of-last.ensures.most s.first_lost s.second_lost
     (λ pages d r. g.met.C.Copying.rests_reads s.pair.first.copy pages d r) (λ was next d r. g.met.C.Copying.holds_reads s.pair.first.copy was next d r) (λ pages d r. g.met.C.Copying.rests_reads s.pair.second.copy pages d r) (λ was next d r. g.met.C.Copying.holds_reads s.pair.second.copy was next d r)
     s.placed s.current s.journal.batches s.place_current has k (few_at_end s.placed s.current s.journal.batches s.few)
     (λ sound. ∥∥₁_map (s.paper told sound) (λ on. ended_paper s.base s.since s.placed s.journal.batches s.current s.printed s.book v s.place_current has sound on)))))

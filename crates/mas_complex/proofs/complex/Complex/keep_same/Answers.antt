@@ -4,7 +4,7 @@ use Rattle.mas_types.specs.declared.journals.Batch.{Batch}
 use Rattle.mas_types.specs.declared.journals.Entry.{Entry}
 use Rattle.mas_types.specs.declared.journals.Fate.TheVariants.{Kept, Flying}
 use Rattle.mas_complex.specs.Journals.{kept_all, entries_reserved, AreSettled}
-use Rattle.mas_complex.specs.Crash.{Keeps, Setting, setting, copy_of}
+use Rattle.mas_complex.specs.Crash.{Keeps, Setting, setting_with, copy_of}
 use Rattle.mas_complex.specs.Crash.{IsUntold}
 use Rattle.mas_complex.proofs.Fating.{has_ends, same_placed}
 use Rattle.mas_complex.specs.Journals.{in_flight, with_last}
@@ -20,13 +20,16 @@ use Rattle.mas_complex.proofs.Papers.{counts_fall}
 use Rattle.mas_complex.proofs.PaperEnds.{same_on_paper}
 use Rattle.mas_complex.proofs.BatchEnds.{few_with_last}
 use Rattle.mas_complex.proofs.Standing.{settled_with_last}
+use Rattle.std.proofs.Common.{false, length, ◌≤◌}
+use Rattle.mas_complex.specs.Journals.{entries_most, AreFew}
+use Rattle.mas_complex.proofs.Short.{few_last}
 use Rattle.mas_complex.proofs.complex.Complex.keep_same.Goals as goal
 
 pub invariant_of-self-clause-kept : goal.invariant_of-self-clause-kept
 invariant_of-self-clause-kept g c told =
     let s = c.args.self.now in
     let C = g.C.Copying in
-    let S : Setting = setting C.reads s.base s.since in
+    let S : Setting = setting_with C.reads s.base s.since s.renewals in
     let first = copy_of (C.rests s.pair.first.copy) (C.holds s.pair.first.copy) s.pair.first.alive s.first in
     let second = copy_of (C.rests s.pair.second.copy) (C.holds s.pair.second.copy) s.pair.second.alive s.second in
     let old = g.P.Plant.view s.plant in
@@ -74,3 +77,12 @@ invariant_of-self-clause-settled g c =
     let s = c.args.self.now in
     subst (λ (l : List Batch). AreSettled l (g.P.Plant.view s.plant).now) (sym c.set_last.ensures) (settled_with_last (record { first = c.now-now.result; last = c.now-now.result; by = c.args.by; fate = Kept; entries = c.in-Some.entries }) s.journal.batches (g.P.Plant.view s.plant).now s.settled refl
     (omega arith) (omega (arith, c.now-now.ensures)))
+
+pub invariant_of-self-clause-counted : goal.invariant_of-self-clause-counted
+invariant_of-self-clause-counted g c =
+    let s = c.args.self.now in
+    let es = c.in-Some.entries in
+    let e : entries_reserved s.reserved ≡ es = ap entries_reserved (sym c.take.ensures.value ∙ c.in-Some.is) in
+    let short : length es ≤ entries_most = subst (λ (l : List Entry). length l ≤ entries_most) e s.short_reserved in
+    subst (λ (l : List Batch). AreFew false l) (sym c.set_last.ensures)
+    (few_last (record { first = c.now-now.result; last = c.now-now.result; by = c.args.by; fate = Kept; entries = es }) s.placed s.journal.batches (s.place_reserved c.requires.reserved) s.place short s.counted)

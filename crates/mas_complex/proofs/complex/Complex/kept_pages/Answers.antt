@@ -1,7 +1,7 @@
 use Rattle.std.proofs.Math.Logic.{∥∥₁_map}
 use Rattle.mas_types.specs.declared.ids.Dev.TheVariants.{Ckpt1, Ckpt2}
 use Rattle.spool_disk.specs.View.{disk_now}
-use Rattle.mas_complex.specs.Crash.{Setting, setting}
+use Rattle.mas_complex.specs.Crash.{Setting, setting_with}
 use Rattle.mas_complex.proofs.Keeping.{at_rest}
 use Rattle.mas_complex.proofs.complex.Complex.kept_pages.Goals as goal
 
@@ -9,7 +9,7 @@ pub returns : goal.returns
 returns g c told =
     let s = c.args.self.now in
     let C = g.C.Copying in
-    let S : Setting = setting C.reads s.base s.since in
+    let S : Setting = setting_with C.reads s.base s.since s.renewals in
     let v = g.P.Plant.view s.plant in
     ∥∥₁_map (s.kept told) (λ k. record {
       was = k.was;

@@ -8,10 +8,10 @@ use Rattle.duplex_pair.specs.Halves.{pick}
 use Rattle.duplex_pair.specs.declared.errors.Look.{Look}
 use Rattle.duplex_pair.specs.declared.errors.Look.TheVariants.{Lost, Unread, Pages}
 use Rattle.duplex_pair.specs.declared.errors.LookNo.{LookNo}
-use Rattle.mas_complex.specs.declared.places.Place.{Place}
+use Rattle.ckpt_places.specs.declared.places.Place.{Place}
 use Rattle.mas_complex.specs.Journals.{kept_all, entries_in}
 use Rattle.mas_complex.specs.Meaning.{run}
-use Rattle.mas_complex.specs.Crash.{Setting, setting}
+use Rattle.mas_complex.specs.Crash.{Setting, setting_with}
 use Rattle.mas_complex.specs.Seen.{HasNext, IsPlaceSeen}
 use Rattle.mas_complex.proofs.OnDevice.{at_copy, at_other, on_copy, sunk_acted, fit_after, fit_was, seen_fits}
 use Rattle.mas_complex.proofs.Frames.{frame_copy}
@@ -26,7 +26,7 @@ pub invariant_of-self-clause-kept : goal.invariant_of-self-clause-kept
 invariant_of-self-clause-kept g c told =
     let s = c.args.self.now in
     let C = g.C.Copying in
-    let S : Setting = setting C.reads s.base s.since in
+    let S : Setting = setting_with C.reads s.base s.since s.renewals in
     let dev = c.args.dev in
     let p = c.look-done.new.self in
     let h = pick dev s.pair.first s.pair.second in
@@ -86,7 +86,7 @@ pub returns-clause-frame : goal.returns-clause-frame
 returns-clause-frame g c =
     let s = c.args.self.now in
     let p = c.look-done.new.self in
-    frame_copy (λ h. h.copy) (λ h. h.alive) (λ h. h.found) s.book s.base s.since s.journal.batches s.current s.reserved s.printed s.placed s.level s.plant c.look-done.new.plant s.pair.first s.pair.second p.first p.second s.first s.second c.set_place.new.first c.set_place.new.second
+    frame_copy (λ h. h.copy) (λ h. h.alive) (λ h. h.found) s.book s.base s.since s.journal.batches s.current s.reserved s.printed s.placed s.level s.renewals s.plant c.look-done.new.plant s.pair.first s.pair.second p.first p.second s.first s.second c.set_place.new.first c.set_place.new.second
     c.args.dev c.requires.ckpt c.look-done.ensures.other c.set_place.ensures.other
 
 pub returns-clause-next : goal.returns-clause-next
@@ -99,7 +99,7 @@ returns-clause-next g c =
       by_result (Ok (Pages pages)) is = λ told opened.
           let s = c.args.self.now in
           let C = g.C.Copying in
-          let S : Setting = setting C.reads s.base s.since in
+          let S : Setting = setting_with C.reads s.base s.since s.renewals in
           let dev = c.args.dev in
           let p = c.look-done.new.self in
           let h = pick dev s.pair.first s.pair.second in
@@ -145,3 +145,6 @@ pub invariant_of-self-clause-begun : goal.invariant_of-self-clause-begun
 invariant_of-self-clause-begun g c =
     let s = c.args.self.now in
     begun_later s.current (g.P.Plant.view s.plant).now (g.P.Plant.view c.look-done.new.plant).now s.begun c.look-done.ensures.acted.goes.later
+
+pub returns-clause-same : goal.returns-clause-same
+returns-clause-same g c = c.look-done.ensures.err

@@ -2,7 +2,7 @@ use Rattle.std.proofs.Common.{refl}
 use Rattle.std.proofs.Math.Logic.{∥∥₁_map, ∥∥₁_map₂}
 use Rattle.spool_disk.specs.View.{disk_now}
 use Rattle.duplex_pair.specs.Halves.{SameOrLost, pick}
-use Rattle.mas_complex.specs.Crash.{Setting, setting}
+use Rattle.mas_complex.specs.Crash.{Setting, setting_with}
 use Rattle.mas_complex.proofs.Sides.{lose_side, no}
 use Rattle.mas_complex.proofs.OnDevice.{at_copy, at_other, on_copy, sunk_after, fit_after}
 use Rattle.mas_complex.proofs.Frames.{frame_half}
@@ -16,7 +16,7 @@ pub invariant_of-self-clause-kept : goal.invariant_of-self-clause-kept
 invariant_of-self-clause-kept g c told =
     let s = c.args.self.now in
     let C = g.C.Copying in
-    let S : Setting = setting C.reads s.base s.since in
+    let S : Setting = setting_with C.reads s.base s.since s.renewals in
     let dev = c.args.dev in
     let p = c.lose.new.self in
     let h = pick dev s.pair.first s.pair.second in
@@ -36,14 +36,14 @@ invariant_of-self-clause-first_lost g c dead =
     let s = c.args.self.now in
     let p = c.lose.new.self in
     let e = c.lose.ensures in
-    (sunk_after (λ h. h.alive) c.args.dev c.requires.ckpt s.pair.first s.pair.second p.first p.second (g.P.Plant.view s.plant) (g.P.Plant.view c.lose.new.plant) e.loses.goes (λ _. e.loses.is_lost) e.other s.first_lost s.second_lost).first dead
+    (sunk_after (λ h. h.alive) c.args.dev c.requires.ckpt s.pair.first s.pair.second p.first p.second (g.P.Plant.view s.plant) (g.P.Plant.view c.lose.new.plant) e.loses.goes (λ _ _. e.loses.is_lost) e.other s.first_lost s.second_lost).first dead
 
 pub invariant_of-self-clause-second_lost : goal.invariant_of-self-clause-second_lost
 invariant_of-self-clause-second_lost g c dead =
     let s = c.args.self.now in
     let p = c.lose.new.self in
     let e = c.lose.ensures in
-    (sunk_after (λ h. h.alive) c.args.dev c.requires.ckpt s.pair.first s.pair.second p.first p.second (g.P.Plant.view s.plant) (g.P.Plant.view c.lose.new.plant) e.loses.goes (λ _. e.loses.is_lost) e.other s.first_lost s.second_lost).second dead
+    (sunk_after (λ h. h.alive) c.args.dev c.requires.ckpt s.pair.first s.pair.second p.first p.second (g.P.Plant.view s.plant) (g.P.Plant.view c.lose.new.plant) e.loses.goes (λ _ _. e.loses.is_lost) e.other s.first_lost s.second_lost).second dead
 
 pub invariant_of-self-clause-first_ready : goal.invariant_of-self-clause-first_ready
 invariant_of-self-clause-first_ready g c is =
@@ -67,7 +67,7 @@ pub returns-clause-frame : goal.returns-clause-frame
 returns-clause-frame g c =
     let s = c.args.self.now in
     let p = c.lose.new.self in
-    frame_half (λ h. h.copy) (λ h. h.alive) (λ h. h.found) s.book s.base s.since s.journal.batches s.current s.reserved s.printed s.placed s.level s.plant c.lose.new.plant s.pair.first s.pair.second p.first p.second s.first s.second
+    frame_half (λ h. h.copy) (λ h. h.alive) (λ h. h.found) s.book s.base s.since s.journal.batches s.current s.reserved s.printed s.placed s.level s.renewals s.plant c.lose.new.plant s.pair.first s.pair.second p.first p.second s.first s.second
     c.args.dev c.requires.ckpt c.lose.ensures.other
 
 pub returns-clause-bytes : goal.returns-clause-bytes

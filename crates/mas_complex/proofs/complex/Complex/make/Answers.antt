@@ -1,6 +1,6 @@
-use Rattle.std.proofs.Common.{None, List, subst, sym}
+use Rattle.std.proofs.Common.{None, List, refl, subst, sym}
 use Rattle.std.proofs.Math.Logic.{∥∥₁_map}
-use Rattle.mas_complex.specs.declared.places.Place.TheVariants.{Before}
+use Rattle.ckpt_places.specs.declared.places.Place.TheVariants.{Before}
 use Rattle.mas_complex.specs.Crash.{Setting, setting, copy_of}
 use Rattle.spool_disk.specs.declared.plant.Part.TheVariants.{Disk as DiskPart}
 use Rattle.spool_disk.specs.View.{disk_now}
@@ -22,7 +22,7 @@ invariant_of-result-clause-kept g c told =
     let second = copy_of (C.rests s.pair.second.copy) (C.holds s.pair.second.copy) s.pair.second.alive Before in
     let v = g.P.Plant.view s.plant in
     ∥∥₁_map (c.requires.begins told) (λ begins.
-    rw (c.new.ensures) (make_keeps S s.level first second v (λ pages d r. g.met.C.Copying.rests_reads s.pair.first.copy pages d r) (λ was next d r. g.met.C.Copying.holds_reads s.pair.first.copy was next d r) (λ pages d r. g.met.C.Copying.rests_reads s.pair.second.copy pages d r) (λ was next d r. g.met.C.Copying.holds_reads s.pair.second.copy was next d r) c.moment_of-since.ensures.now
+    rw (c.new.ensures, c.no_renewals.ensures) (make_keeps S s.level first second v (λ pages d r. g.met.C.Copying.rests_reads s.pair.first.copy pages d r) (λ was next d r. g.met.C.Copying.holds_reads s.pair.first.copy was next d r) (λ pages d r. g.met.C.Copying.rests_reads s.pair.second.copy pages d r) (λ was next d r. g.met.C.Copying.holds_reads s.pair.second.copy was next d r) refl refl c.moment_of-since.ensures.now
     (λ n lost. unlost (v.lost (DiskPart (Spool n))) (disk_now v (Spool n)).lost (g.met.P.Plant.there s.plant told (Spool n)) lost) (rw (c.moment_of-since.ensures.now) begins)))
 
 pub returns-clause-fresh : goal.returns-clause-fresh
@@ -50,3 +50,9 @@ invariant_of-result-clause-settled g c = subst (λ (l : List Batch). AreSettled 
 
 pub invariant_of-result-clause-owned : goal.invariant_of-result-clause-owned
 invariant_of-result-clause-owned g c = owned_none c.new_book_of-book.result
+
+pub invariant_of-result-clause-first_lost : goal.invariant_of-result-clause-first_lost
+invariant_of-result-clause-first_lost g c dead known = c.requires.lost1 dead
+
+pub invariant_of-result-clause-second_lost : goal.invariant_of-result-clause-second_lost
+invariant_of-result-clause-second_lost g c dead known = c.requires.lost2 dead

@@ -4,9 +4,10 @@ use Rattle.std.specs.Coded.{Coded-set, coded_list, coded_ℕ, coded_option}
 use Rattle.spool_disk.specs.View.{disk_now}
 use Rattle.spool_disk.specs.Acts.{top}
 use Rattle.duplex_pair.specs.Halves.{pick}
-use Rattle.mas_complex.specs.declared.places.Place.{Place}
-use Rattle.mas_complex.specs.declared.places.Place.TheVariants.{Opened}
-use Rattle.mas_complex.specs.Crash.{Setting, ReadsOne, setting}
+use Rattle.ckpt_places.specs.declared.places.Place.{Place}
+use Rattle.ckpt_places.specs.declared.places.Place.TheVariants.{Opened}
+use Rattle.mas_complex.specs.Crash.{Setting, ReadsBy, setting_with}
+use Rattle.mas_complex.specs.Renewals.{is_open, of_device}
 use Rattle.mas_complex.specs.Places.{IsPlaceAfter}
 use Rattle.mas_complex.proofs.Sides.{open_side}
 use Rattle.mas_complex.proofs.OnDevice.{at_copy, at_other, on_copy, sunk_acted, fit_after, one_dead}
@@ -21,7 +22,7 @@ pub invariant_of-self-clause-kept : goal.invariant_of-self-clause-kept
 invariant_of-self-clause-kept g c told =
     let s = c.args.self.now in
     let C = g.C.Copying in
-    let S : Setting = setting C.reads s.base s.since in
+    let S : Setting = setting_with C.reads s.base s.since s.renewals in
     let dev = c.args.dev in
     let p = c.open_copy-done.new.self in
     let h = pick dev s.pair.first s.pair.second in
@@ -74,14 +75,14 @@ pub returns-clause-frame : goal.returns-clause-frame
 returns-clause-frame g c =
     let s = c.args.self.now in
     let p = c.open_copy-done.new.self in
-    frame_copy (λ h. h.copy) (λ h. h.alive) (λ h. h.found) s.book s.base s.since s.journal.batches s.current s.reserved s.printed s.placed s.level s.plant c.open_copy-done.new.plant s.pair.first s.pair.second p.first p.second s.first s.second c.set_place.new.first c.set_place.new.second
+    frame_copy (λ h. h.copy) (λ h. h.alive) (λ h. h.found) s.book s.base s.since s.journal.batches s.current s.reserved s.printed s.placed s.level s.renewals s.plant c.open_copy-done.new.plant s.pair.first s.pair.second p.first p.second s.first s.second c.set_place.new.first c.set_place.new.second
     c.args.dev c.requires.ckpt c.open_copy-done.ensures.other c.set_place.ensures.other
 
 pub returns-clause-elsewhere : goal.returns-clause-elsewhere
 returns-clause-elsewhere g c told =
     let s = c.args.self.now in
     let C = g.C.Copying in
-    let S : Setting = setting C.reads s.base s.since in
+    let S : Setting = setting_with C.reads s.base s.since s.renewals in
     let dev = c.args.dev in
     let p = c.open_copy-done.new.self in
     let h = pick dev s.pair.first s.pair.second in
@@ -91,14 +92,14 @@ returns-clause-elsewhere g c told =
     let new = g.P.Plant.view c.open_copy-done.new.plant in
     let e = c.open_copy-done.ensures in
     let after : IsPlaceAfter c.open_copy-done.result Opened place' = subst (λ (x : Place). IsPlaceAfter c.open_copy-done.result Opened x) (sym c.set_place.ensures.place) c.place_after-place.ensures in
-    elsewhere_is dev old new (∥∥₁_map (s.kept told) (λ kk. elsewhere_of dev (λ d. old.now < top → ReadsOne S kk.was kk.coming d) old new (open_side S kk.was kk.coming dev old new (C.rests h.copy) (C.rests k.copy) (C.holds h.copy) (C.holds k.copy) (pick dev s.first s.second) place' h.alive k.alive (at_copy (λ h. C.rests h.copy) (λ h. C.holds h.copy) (λ h. h.alive) S kk.was kk.coming dev c.requires.ckpt s.pair.first s.pair.second s.first s.second old kk.first_at kk.second_at)
+    elsewhere_is dev old new (∥∥₁_map (s.kept told) (λ kk. elsewhere_of dev (λ d. old.now < top → ReadsBy S (is_open (of_device dev S.renewals)) kk.was kk.coming d) old new (open_side S kk.was kk.coming dev old new (C.rests h.copy) (C.rests k.copy) (C.holds h.copy) (C.holds k.copy) (pick dev s.first s.second) place' h.alive k.alive (at_copy (λ h. C.rests h.copy) (λ h. C.holds h.copy) (λ h. h.alive) S kk.was kk.coming dev c.requires.ckpt s.pair.first s.pair.second s.first s.second old kk.first_at kk.second_at)
     e.acted.goes e.acted.alive (λ dead. ap g.P.Plant.view (e.idle dead)) (e.gone told) g.P.Plant.tells told c.requires.place c.open_copy-done.result (e.during told) e.opened (λ both. one_dead (λ h. h.alive) dev c.requires.ckpt p.first p.second (e.both both)) after).during))
 
 pub returns-clause-reads : goal.returns-clause-reads
 returns-clause-reads g c =
     let s = c.args.self.now in
     let C = g.C.Copying in
-    let S : Setting = setting C.reads s.base s.since in
+    let S : Setting = setting_with C.reads s.base s.since s.renewals in
     let dev = c.args.dev in
     let p = c.open_copy-done.new.self in
     let h = pick dev s.pair.first s.pair.second in
@@ -114,7 +115,7 @@ pub invariant_of-self-clause-paper : goal.invariant_of-self-clause-paper
 invariant_of-self-clause-paper g c told sound =
     let s = c.args.self.now in
     let C = g.C.Copying in
-    let S : Setting = setting C.reads s.base s.since in
+    let S : Setting = setting_with C.reads s.base s.since s.renewals in
     let dev = c.args.dev in
     let p = c.open_copy-done.new.self in
     let h = pick dev s.pair.first s.pair.second in

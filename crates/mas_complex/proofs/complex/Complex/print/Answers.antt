@@ -3,7 +3,7 @@ use Rattle.std.proofs.lemmas.List.{get_or-set_same}
 use Rattle.std.proofs.Math.Logic.{∥∥₁_map, ∥∥₁_map₂, ∥∥₁_elim, ∥∥₁_prop}
 use Rattle.mas_types.specs.declared.ids.Dev.TheVariants.{Ckpt1, Ckpt2}
 use Rattle.spool_disk.specs.declared.plant.Act.{Act}
-use Rattle.mas_complex.specs.Crash.{Setting, setting, copy_of}
+use Rattle.mas_complex.specs.Crash.{Setting, setting_with, copy_of}
 use Rattle.mas_complex.specs.Paper.{counts_of, printed_by}
 use Rattle.mas_complex.proofs.Lost.{lost_later}
 use Rattle.mas_complex.proofs.Fates.{prints_keep}
@@ -11,6 +11,10 @@ use Rattle.mas_complex.proofs.PaperLines.{prints_on_paper, somebody_is}
 use Rattle.mas_complex.proofs.PaperBooks.{stopped_up}
 use Rattle.mas_complex.proofs.Batches.{settled_later, begun_later}
 use Rattle.mas_complex.proofs.Standing.{IsOwned, owned_printed}
+use Rattle.std.proofs.Common.{Option, length, ◌≤◌}
+use Rattle.mas_types.specs.declared.journals.Entry.{Entry}
+use Rattle.mas_complex.specs.Journals.{entries_reserved, entries_most}
+use Rattle.mas_complex.proofs.Short.{short_after_print}
 use Rattle.mas_complex.proofs.complex.Complex.print.Goals as goal
 
 pub invariant_of-self-clause-paper : goal.invariant_of-self-clause-paper
@@ -28,7 +32,7 @@ pub invariant_of-self-clause-kept : goal.invariant_of-self-clause-kept
 invariant_of-self-clause-kept g c told =
     let s = c.args.self.now in
     let C = g.C.Copying in
-    let S : Setting = setting C.reads s.base s.since in
+    let S : Setting = setting_with C.reads s.base s.since s.renewals in
     let first = copy_of (C.rests s.pair.first.copy) (C.holds s.pair.first.copy) s.pair.first.alive s.first in
     let second = copy_of (C.rests s.pair.second.copy) (C.holds s.pair.second.copy) s.pair.second.alive s.second in
     let old = g.P.Plant.view s.plant in
@@ -69,3 +73,8 @@ pub invariant_of-self-clause-owned : goal.invariant_of-self-clause-owned
 invariant_of-self-clause-owned g c =
     let s = c.args.self.now in
     subst (IsOwned s.current) (sym c.stop_halted.ensures.book) (owned_printed s.book c.args.by s.current c.requires.member s.owned c.print-done.result)
+
+pub invariant_of-self-clause-short_reserved : goal.invariant_of-self-clause-short_reserved
+invariant_of-self-clause-short_reserved g c =
+    let s = c.args.self.now in
+    subst (λ (r : Option (List Entry)). length (entries_reserved r) ≤ entries_most) (sym c.stop_halted.ensures.reserved) (short_after_print c.args.by c.print-done.result s.reserved s.short_reserved)

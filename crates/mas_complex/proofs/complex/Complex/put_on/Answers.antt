@@ -7,10 +7,10 @@ use Rattle.ckpt_copy.specs.Pages.{bytes_of, level}
 use Rattle.ckpt_copy.specs.Reading.{AllRead}
 use Rattle.duplex_pair.specs.Both.{Touched}
 use Rattle.duplex_pair.specs.Halves.{pick, other}
-use Rattle.mas_complex.specs.declared.places.Place.{Place}
-use Rattle.mas_complex.specs.declared.places.Place.TheVariants.{Before, Put}
+use Rattle.ckpt_places.specs.declared.places.Place.{Place}
+use Rattle.ckpt_places.specs.declared.places.Place.TheVariants.{Before, Put}
 use Rattle.mas_complex.specs.Journals.{kept_all, entries_in}
-use Rattle.mas_complex.specs.Crash.{Setting, Stands, IsNear, setting}
+use Rattle.mas_complex.specs.Crash.{Setting, Stands, IsNear, setting_with}
 use Rattle.mas_complex.specs.Places.{IsPlaceAfter}
 use Rattle.ckpt_pages.proofs.SlotLists.{test_cases}
 use Rattle.mas_complex.proofs.Rising.{comes_near}
@@ -27,7 +27,7 @@ pub invariant_of-self-clause-kept : goal.invariant_of-self-clause-kept
 invariant_of-self-clause-kept g c told =
     let s = c.args.self.now in
     let C = g.C.Copying in
-    let S : Setting = setting C.reads s.base s.since in
+    let S : Setting = setting_with C.reads s.base s.since s.renewals in
     let dev = c.args.dev in
     let p = c.put-done.new.self in
     let h = pick dev s.pair.first s.pair.second in
@@ -104,14 +104,14 @@ pub returns-clause-frame : goal.returns-clause-frame
 returns-clause-frame g c =
     let s = c.args.self.now in
     let p = c.put-done.new.self in
-    frame_copy (λ h. h.copy) (λ h. h.alive) (λ h. h.found) s.book s.base s.since s.journal.batches s.current s.reserved s.printed s.placed s.level s.plant c.put-done.new.plant s.pair.first s.pair.second p.first p.second s.first s.second c.set_place.new.first c.set_place.new.second
+    frame_copy (λ h. h.copy) (λ h. h.alive) (λ h. h.found) s.book s.base s.since s.journal.batches s.current s.reserved s.printed s.placed s.level s.renewals s.plant c.put-done.new.plant s.pair.first s.pair.second p.first p.second s.first s.second c.set_place.new.first c.set_place.new.second
     c.args.dev c.requires.ckpt c.put-done.ensures.other c.set_place.ensures.other
 
 pub returns-clause-elsewhere : goal.returns-clause-elsewhere
 returns-clause-elsewhere g c told =
     let s = c.args.self.now in
     let C = g.C.Copying in
-    let S : Setting = setting C.reads s.base s.since in
+    let S : Setting = setting_with C.reads s.base s.since s.renewals in
     let dev = c.args.dev in
     let h = pick dev s.pair.first s.pair.second in
     let old = g.P.Plant.view s.plant in
@@ -124,7 +124,7 @@ pub returns-clause-behind : goal.returns-clause-behind
 returns-clause-behind g c =
     let s = c.args.self.now in
     let C = g.C.Copying in
-    let S : Setting = setting C.reads s.base s.since in
+    let S : Setting = setting_with C.reads s.base s.since s.renewals in
     let dev = c.args.dev in
     let p = c.put-done.new.self in
     let h = pick dev s.pair.first s.pair.second in
@@ -143,7 +143,7 @@ pub invariant_of-self-clause-paper : goal.invariant_of-self-clause-paper
 invariant_of-self-clause-paper g c told sound =
     let s = c.args.self.now in
     let C = g.C.Copying in
-    let S : Setting = setting C.reads s.base s.since in
+    let S : Setting = setting_with C.reads s.base s.since s.renewals in
     let dev = c.args.dev in
     let h = pick dev s.pair.first s.pair.second in
     let old = g.P.Plant.view s.plant in

@@ -2,7 +2,7 @@ use Rattle.std.proofs.Common.{arith}
 use Rattle.std.proofs.Math.Logic.{∥∥₁_map, ∥∥₁_map₂}
 use Rattle.mas_types.specs.declared.ids.Dev.TheVariants.{Ckpt1, Ckpt2}
 use Rattle.spool_disk.specs.View.{disk_now}
-use Rattle.mas_complex.specs.Crash.{Setting, setting, copy_of}
+use Rattle.mas_complex.specs.Crash.{Setting, setting_with, copy_of}
 use Rattle.ckpt_copy.specs.Changes.{NoMore}
 use Rattle.mas_complex.proofs.Calm.{both_keep, more_reads, read_copy}
 use Rattle.mas_complex.proofs.Shows.{read_bytes}
@@ -16,7 +16,7 @@ pub invariant_of-self-clause-kept : goal.invariant_of-self-clause-kept
 invariant_of-self-clause-kept g c told =
     let s = c.args.self.now in
     let C = g.C.Copying in
-    let S : Setting = setting C.reads s.base s.since in
+    let S : Setting = setting_with C.reads s.base s.since s.renewals in
     let first = copy_of (C.rests s.pair.first.copy) (C.holds s.pair.first.copy) s.pair.first.alive s.first in
     let second = copy_of (C.rests s.pair.second.copy) (C.holds s.pair.second.copy) s.pair.second.alive s.second in
     let old = g.P.Plant.view s.plant in

@@ -1,4 +1,4 @@
-use Rattle.std.proofs.Common.{◌≡◌, ◌≤◌, ◌+◌, ◌*◌, ◌||◌, ◌++◌, ◌∙◌, ℕ, List, length, Option, true, false, Some, None, IfSome, refl, sym, subst, ap, arith, rules}
+use Rattle.std.proofs.Common.{◌≡◌, ◌≤◌, ◌+◌, ◌*◌, ◌||◌, ◌++◌, ◌∙◌, ⊎_elim, ℕ, List, length, Option, true, false, Some, None, IfSome, refl, sym, subst, ap, arith, rules}
 use Rattle.std.proofs.Math.Logic.{∥∥₁_map}
 use Rattle.mas_types.specs.declared.ids.Dev.{Dev}
 use Rattle.mas_types.specs.declared.ids.Dev.TheVariants.{Ckpt1, Ckpt2}
@@ -9,16 +9,16 @@ use Rattle.mas_types.specs.declared.ids.Page.{Page}
 use Rattle.mas_types.specs.declared.queues.Queue.{Queue}
 use Rattle.mas_types.specs.Fit.{IsConfig}
 use Rattle.ckpt_pages.specs.Shape.{page_count}
-use Rattle.mas_complex.specs.declared.places.Place.{Place}
+use Rattle.ckpt_places.specs.declared.places.Place.{Place}
 use Rattle.mas_complex.specs.Journals.{kept_all, entries_in}
 use Rattle.mas_complex.specs.Meaning.{run}
 use Rattle.mas_complex.specs.Places.{IsAtLevel}
 use Rattle.mas_complex.specs.Seen.{OneSeen, IsOneSeen, ReadsSeen}
 use Rattle.mas_complex.specs.Recovers.{recover_stopped}
-use Rattle.mas_complex.proofs.Leaving.{left_why, rose_later, rose_earlier}
+use Rattle.mas_complex.proofs.Leaving.{left_why, room_seen, rose_later, rose_earlier, if_err, not_dead, left_some, none_seen}
 use Rattle.ckpt_copy.specs.Pages.{bytes_of, level}
 use Rattle.ckpt_copy.specs.Moments.{goes_on}
-use Rattle.mas_complex.specs.Crash.{Setting, Copy, setting, copy_of, next_order, order_first, orders_most}
+use Rattle.mas_complex.specs.Crash.{Setting, Copy, setting_with, copy_of, next_order, order_first, orders_most}
 use Rattle.mas_complex.proofs.Standing.{as_many_fated}
 use Rattle.mas_complex.proofs.Choosing.{some_first, some_second}
 use Rattle.mas_complex.proofs.Recovered.{stands_of}
@@ -32,7 +32,7 @@ pub returns-clause-stands : goal.returns-clause-stands
 returns-clause-stands g c told =
     let s = c.give_fate.new.self in
     let C = g.C.Copying in
-    let S : Setting = setting C.reads s.base s.since in
+    let S : Setting = setting_with C.reads s.base s.since s.renewals in
     let first : Copy = copy_of (C.rests s.pair.first.copy) (C.holds s.pair.first.copy) s.pair.first.alive s.first in
     let second : Copy = copy_of (C.rests s.pair.second.copy) (C.holds s.pair.second.copy) s.pair.second.alive s.second in
     let v = g.P.Plant.view s.plant in
@@ -60,7 +60,7 @@ give_fate-requires-clause-second g c alive =
     (subst (λ (n : ℕ). IsAtLevel (level (bytes_of c.as_slice-2.result.now)) n c.bring.new.self.second) (ap (λ p. p.level) (sym c.bring.ensures.frame)) (c.in_ok-bring.ensures.second alive).0)
 
 pub returns-in_default-clause-both_failed1 : goal.returns-in_default-clause-both_failed1
-returns-in_default-clause-both_failed1 g c is told alive =
+returns-in_default-clause-both_failed1 g c both told alive =
     let P = g.P.Plant in
     let v0 = P.view c.args.self.now.plant in
     let v1 = P.view c.see_on.new.self.plant in
@@ -71,7 +71,7 @@ returns-in_default-clause-both_failed1 g c is told alive =
     rose_later (v0.faults (Disk Ckpt1)) (v1.faults (Disk Ckpt1)) (v3.faults (Disk Ckpt1)) (c.in_ok-first.ensures.unseen told (c.in_default.ensures.neither (search rules)).0 alive) (omega (arith, later, last))
 
 pub returns-in_default-clause-both_failed2 : goal.returns-in_default-clause-both_failed2
-returns-in_default-clause-both_failed2 g c is told alive =
+returns-in_default-clause-both_failed2 g c both told alive =
     let P = g.P.Plant in
     let v0 = P.view c.args.self.now.plant in
     let v1 = P.view c.see_on.new.self.plant in
@@ -111,9 +111,11 @@ returns-clause-left1 g c told alive dead =
     let failed : d.pair.first.alive ≡ true → Rose (v0.faults (Disk Ckpt1)) (v5.faults (Disk Ckpt1)) = λ is. rose_earlier (v0.faults (Disk Ckpt1)) (v3.faults (Disk Ckpt1)) (v5.faults (Disk Ckpt1)) (omega (arith, f1, f2, f3)) (rose_later (v3.faults (Disk Ckpt1)) (v4.faults (Disk Ckpt1)) (v5.faults (Disk Ckpt1)) (c.bring.ensures.failed1 is dead4) (omega (arith, f5))) in
     let read : ReadsSeen C.reads (disk_now v0 Ckpt1).bytes c.in_ok-first.first = subst (λ (l : List ℕ). ReadsSeen C.reads l c.in_ok-first.first) (c.see_on.ensures.bytes told Ckpt1) (c.in_ok-first.ensures.reads told) in
     let at : (pages : List Page) → c.in_ok-first.first ≡ Some pages → IsAtLevel (level (bytes_of pages)) s.level b.first = λ pages is. subst (λ (p : Place). IsAtLevel (level (bytes_of pages)) s.level p) (sym (ap (λ p. p.first) c.see_on-2.ensures.frame)) (one pages is).at in
-    left_why C.reads (disk_now v0 Ckpt1).bytes s.level (C.room b.pair.first.copy) (C.room f.pair.first.copy) b.first c.in-Some.found (Rose (v0.faults (Disk Ckpt1)) (v5.faults (Disk Ckpt1))) c.in_ok-first.first d.pair.first.alive unseen failed read at
+    let room : (pages : List Page) → c.in_ok-first.first ≡ Some pages → C.room b.pair.first.copy ≡ C.room_in (disk_now v0 Ckpt1).bytes = λ pages is.
+    ap (λ h. C.room h.copy) c.see_on-2.ensures.other ∙ (room_seen (C.room a.pair.first.copy) (C.room_in (disk_now v1 Ckpt1).bytes) c.in_ok-first.first (c.in_ok-first.ensures.room told) pages is ∙ ap C.room_in (c.see_on.ensures.bytes told Ckpt1)) in
+    left_why C.reads (disk_now v0 Ckpt1).bytes s.level (C.room b.pair.first.copy) (C.room_in (disk_now v0 Ckpt1).bytes) b.first c.in-Some.found (Rose (v0.faults (Disk Ckpt1)) (v5.faults (Disk Ckpt1))) c.in_ok-first.first d.pair.first.alive unseen failed read at
     (λ pages is not. c.in-Some.ensures.unfit1 (ap (λ h. h.alive) c.see_on-2.ensures.other ∙ (one pages is).is_alive) not)
-    (λ not. ap (λ p. C.room p.first_copy) c.give_fate.ensures.frame ∙ ap C.room (c.bring.ensures.room1 dead4 not ∙ c.choose_any.ensures.copy1))
+    room
 
 pub returns-clause-left2 : goal.returns-clause-left2
 returns-clause-left2 g c told alive dead =
@@ -144,9 +146,11 @@ returns-clause-left2 g c told alive dead =
     let failed : d.pair.second.alive ≡ true → Rose (v0.faults (Disk Ckpt2)) (v5.faults (Disk Ckpt2)) = λ is. rose_earlier (v0.faults (Disk Ckpt2)) (v3.faults (Disk Ckpt2)) (v5.faults (Disk Ckpt2)) (omega (arith, f1, f2, f3)) (rose_later (v3.faults (Disk Ckpt2)) (v4.faults (Disk Ckpt2)) (v5.faults (Disk Ckpt2)) (c.bring.ensures.failed2 is dead4) (omega (arith, f5))) in
     let read : ReadsSeen C.reads (disk_now v0 Ckpt2).bytes c.in_ok-second.second = subst (λ (l : List ℕ). ReadsSeen C.reads l c.in_ok-second.second) (c.see_on-2.ensures.bytes told Ckpt2 ∙ c.see_on.ensures.bytes told Ckpt2) (c.in_ok-second.ensures.reads told) in
     let at : (pages : List Page) → c.in_ok-second.second ≡ Some pages → IsAtLevel (level (bytes_of pages)) s.level b.second = λ pages is. subst (λ (n : ℕ). IsAtLevel (level (bytes_of pages)) n b.second) (ap (λ p. p.level) c.see_on.ensures.frame) (one pages is).at in
-    left_why C.reads (disk_now v0 Ckpt2).bytes s.level (C.room b.pair.second.copy) (C.room f.pair.second.copy) b.second c.in-Some.found (Rose (v0.faults (Disk Ckpt2)) (v5.faults (Disk Ckpt2))) c.in_ok-second.second d.pair.second.alive unseen failed read at
+    let room : (pages : List Page) → c.in_ok-second.second ≡ Some pages → C.room b.pair.second.copy ≡ C.room_in (disk_now v0 Ckpt2).bytes = λ pages is.
+    room_seen (C.room b.pair.second.copy) (C.room_in (disk_now v2 Ckpt2).bytes) c.in_ok-second.second (c.in_ok-second.ensures.room told) pages is ∙ ap C.room_in (c.see_on-2.ensures.bytes told Ckpt2 ∙ c.see_on.ensures.bytes told Ckpt2) in
+    left_why C.reads (disk_now v0 Ckpt2).bytes s.level (C.room b.pair.second.copy) (C.room_in (disk_now v0 Ckpt2).bytes) b.second c.in-Some.found (Rose (v0.faults (Disk Ckpt2)) (v5.faults (Disk Ckpt2))) c.in_ok-second.second d.pair.second.alive unseen failed read at
     (λ pages is not. c.in-Some.ensures.unfit2 ((one pages is).is_alive) not)
-    (λ not. ap (λ p. C.room p.second_copy) c.give_fate.ensures.frame ∙ ap C.room (c.bring.ensures.room2 dead4 not ∙ c.choose_any.ensures.copy2))
+    room
 
 pub returns-clause-picked : goal.returns-clause-picked
 returns-clause-picked g c told =
@@ -331,16 +335,14 @@ returns-clause-apart g c told =
     (c.bring.ensures.apart told))
 
 pub returns-in_err-bring-clause-both_failed1 : goal.returns-in_err-bring-clause-both_failed1
-returns-in_err-bring-clause-both_failed1 g c is told alive =
-    let r = c.from_residual-in_err-bring.result in
-    let p = err_from_is_err_and r c.from_residual-in_err-bring.ensures.1 in
-    absurd (not_brought r p.0 c.in_err-bring.field-0.0 p.1 p.2 c.in_err-bring.ensures.not_both is)
+returns-in_err-bring-clause-both_failed1 g c =
+    let e = c.bring.new.self in
+    if_err c.from_residual-in_err-bring.result (λ both told alive. absurd (left_some e.pair.first.alive e.pair.second.alive c.bring.ensures.some both))
 
 pub returns-in_err-bring-clause-both_failed2 : goal.returns-in_err-bring-clause-both_failed2
-returns-in_err-bring-clause-both_failed2 g c is told alive =
-    let r = c.from_residual-in_err-bring.result in
-    let p = err_from_is_err_and r c.from_residual-in_err-bring.ensures.1 in
-    absurd (not_brought r p.0 c.in_err-bring.field-0.0 p.1 p.2 c.in_err-bring.ensures.not_both is)
+returns-in_err-bring-clause-both_failed2 g c =
+    let e = c.bring.new.self in
+    if_err c.from_residual-in_err-bring.result (λ both told alive. absurd (left_some e.pair.first.alive e.pair.second.alive c.bring.ensures.some both))
 
 -- HOW FAR THE PAGES MAY HAVE COME
 
@@ -388,3 +390,45 @@ returns-in_err-second-clause-one_stands g c is =
     let p = err_from_is_err_and r c.from_residual-in_err-second.ensures.1 in
     some_second c.see_on-2.new.self.pair.first.alive c.see_on-2.new.self.pair.second.alive
     (c.in_err-second.ensures.stands (look_halted {U = Option (List Page)} r p.0 c.in_err-second.field-0.0 p.1 p.2 is))
+
+-- BOTH COPIES ARE LOST AFTER AN ERROR: a look that ended in it left its copy
+
+pub returns-in_err-first-clause-both_failed1 : goal.returns-in_err-first-clause-both_failed1
+returns-in_err-first-clause-both_failed1 g c =
+    let a = c.see_on.new.self in
+    if_err c.from_residual.result (λ both told alive. absurd (not_dead a.pair.first.alive (ap (λ h. h.alive) c.in_err-first.ensures.same ∙ alive) both.0))
+
+pub returns-in_err-first-clause-both_failed2 : goal.returns-in_err-first-clause-both_failed2
+returns-in_err-first-clause-both_failed2 g c =
+    let a = c.see_on.new.self in
+    if_err c.from_residual.result (λ both told alive. absurd (not_dead a.pair.second.alive (ap (λ h. h.alive) c.see_on.ensures.other ∙ alive) both.1))
+
+pub returns-in_err-second-clause-both_failed1 : goal.returns-in_err-second-clause-both_failed1
+returns-in_err-second-clause-both_failed1 g c =
+    let P = g.P.Plant in
+    let C = g.C.Copying in
+    let s = c.args.self.now in
+    let a = c.see_on.new.self in
+    let b = c.see_on-2.new.self in
+    let queue : Queue = run s.base (kept_all s.journal.batches ++ entries_in s.current) in
+    let later = c.see_on-2.ensures.goes.faults (Disk Ckpt1) in
+    if_err c.from_residual-in_err-second.result (λ both told alive.
+    let dead : a.pair.first.alive ≡ false = sym (ap (λ h. h.alive) c.see_on-2.ensures.other) ∙ both.0 in
+    let none : c.in_ok-first.first ≡ None = none_seen queue (entries_in s.current) P.tells s.level a.pair.first.alive (C.count a.pair.first.copy) a.first c.in_ok-first.first c.in_ok-first.ensures.seen dead in
+    rose_later ((P.view s.plant).faults (Disk Ckpt1)) ((P.view a.plant).faults (Disk Ckpt1)) ((P.view b.plant).faults (Disk Ckpt1)) (c.in_ok-first.ensures.unseen told none alive) later)
+
+pub returns-in_err-second-clause-both_failed2 : goal.returns-in_err-second-clause-both_failed2
+returns-in_err-second-clause-both_failed2 g c =
+    let b = c.see_on-2.new.self in
+    if_err c.from_residual-in_err-second.result (λ both told alive.
+    absurd (not_dead b.pair.second.alive (ap (λ h. h.alive) c.in_err-second.ensures.same ∙ (ap (λ h. h.alive) c.see_on.ensures.other ∙ alive)) both.1))
+
+pub returns-then-not-may_follow-clause-both_failed1 : goal.returns-then-not-may_follow-clause-both_failed1
+returns-then-not-may_follow-clause-both_failed1 g c both told alive =
+    let d = c.choose_any.new.self in
+    absurd (⊎_elim (λ x. not_dead d.pair.first.alive x.0 both.0) (λ x. not_dead d.pair.second.alive x.0 both.1) c.in-Some.ensures.chosen.one)
+
+pub returns-then-not-may_follow-clause-both_failed2 : goal.returns-then-not-may_follow-clause-both_failed2
+returns-then-not-may_follow-clause-both_failed2 g c both told alive =
+    let d = c.choose_any.new.self in
+    absurd (⊎_elim (λ x. not_dead d.pair.first.alive x.0 both.0) (λ x. not_dead d.pair.second.alive x.0 both.1) c.in-Some.ensures.chosen.one)

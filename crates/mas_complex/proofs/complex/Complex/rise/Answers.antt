@@ -1,7 +1,7 @@
 use Rattle.std.proofs.Common.{Option, None, subst, refl}
 use Rattle.std.proofs.Math.Logic.{∥∥₁_map}
 use Rattle.mas_types.specs.declared.journals.Batch.{Batch}
-use Rattle.mas_complex.specs.Crash.{Keeps, Setting, Copy, setting, copy_of}
+use Rattle.mas_complex.specs.Crash.{Keeps, Setting, Copy, setting_with, copy_of}
 use Rattle.mas_complex.proofs.Fates.{opened_some}
 use Rattle.mas_complex.proofs.complex.Complex.rise.Goals as goal
 
@@ -10,7 +10,7 @@ pub invariant_of-self-clause-kept : goal.invariant_of-self-clause-kept
 invariant_of-self-clause-kept g c told =
     let s = c.args.self.now in
     let C = g.C.Copying in
-    let S : Setting = setting C.reads s.base s.since in
+    let S : Setting = setting_with C.reads s.base s.since s.renewals in
     let first : Copy = copy_of (C.rests s.pair.first.copy) (C.holds s.pair.first.copy) s.pair.first.alive s.first in
     let second : Copy = copy_of (C.rests s.pair.second.copy) (C.holds s.pair.second.copy) s.pair.second.alive s.second in
     let v = g.P.Plant.view s.plant in

@@ -1,16 +1,36 @@
-use Rattle.std.proofs.Common.{◌∙◌, false, ap, sym, arith}
+use Rattle.std.proofs.Common.{◌∙◌, false, refl, ap, sym, arith}
 use Rattle.std.proofs.Math.Logic.{∥∥₁_elim}
 use Rattle.spool_disk.specs.View.{disk_now}
+use Rattle.ckpt_copy.specs.Moments.{goes_none}
 use Rattle.ckpt_pages.specs.Shape.{page_count}
 use Rattle.duplex_pair.specs.Halves.{pick}
-use Rattle.mas_complex.specs.Crash.{setting}
+use Rattle.mas_complex.specs.Crash.{setting_with}
 use Rattle.mas_complex.specs.Parts.{parts_of}
 use Rattle.mas_complex.proofs.OnDevice.{at_copy}
-use Rattle.mas_complex.proofs.Frames.{frame_lost}
-use Rattle.mas_complex.proofs.Apart.{on_one, on_then}
-use Rattle.mas_complex.proofs.Counted.{counts_one, counts_then, counts_lost}
+use Rattle.mas_complex.proofs.Frames.{frame_copy, frame_lost}
+use Rattle.mas_complex.proofs.Apart.{on_none, on_one, on_then}
+use Rattle.mas_complex.proofs.Counted.{counts_none, counts_one, counts_then, counts_lost}
 use Rattle.mas_complex.proofs.Usable.{always_used, unused_reads, unused_there, used_lost, used_pages}
 use Rattle.mas_complex.proofs.complex.Complex.see_on.Goals as goal
+
+-- A COPY THAT COUNTED AS LOST is passed over
+
+pub returns-then-not-alive-clause-frame : goal.returns-then-not-alive-clause-frame
+returns-then-not-alive-clause-frame g c =
+    let s = c.args.self.now in
+    frame_copy (λ h. h.copy) (λ h. h.alive) (λ h. h.found) s.book s.base s.since s.journal.batches s.current s.reserved s.printed s.placed s.level s.renewals s.plant s.plant s.pair.first s.pair.second s.pair.first s.pair.second s.first s.second s.first s.second
+    c.args.dev c.requires.ckpt refl refl
+
+pub returns-then-not-alive-clause-goes : goal.returns-then-not-alive-clause-goes
+returns-then-not-alive-clause-goes g c = goes_none (g.P.Plant.view c.args.self.now.plant)
+
+pub returns-then-not-alive-clause-counts : goal.returns-then-not-alive-clause-counts
+returns-then-not-alive-clause-counts g c =
+    let s = c.args.self.now in
+    counts_none c.args.by.0 s.pair.first.alive s.pair.second.alive (g.P.Plant.view s.plant)
+
+pub returns-then-not-alive-clause-apart : goal.returns-then-not-alive-clause-apart
+returns-then-not-alive-clause-apart g c told = on_none (g.P.Plant.view c.args.self.now.plant)
 
 -- PAGES, as many as the configuration has
 
@@ -42,6 +62,11 @@ returns-in-Pages-clause-reads g c told =
     let seen = rw look.0 at c.in_ok-look.ensures.seen in
     g.met.C.Copying.rests_now (pick dev s.pair.first s.pair.second).copy _ (disk_now (g.P.Plant.view s.plant) dev) (seen.found told)
 
+pub returns-in-Pages-clause-room : goal.returns-in-Pages-clause-room
+returns-in-Pages-clause-room g c told =
+    let look = used_pages c.page_count-count.result c.in_ok-look.look c.in-Pages.pages (sym c.usable.ensures.usable ∙ c.in-Pages.is) in
+    rw look.0 at (c.in_ok-look.ensures.room told)
+
 -- A COPY THAT COUNTS AS LOST
 
 pub returns-in-Lost-clause-seen : goal.returns-in-Lost-clause-seen
@@ -65,8 +90,8 @@ returns-in-Unread-clause-unseen g c told none alive =
     let many = c.page_count-count.ensures ∙ ap (λ q. page_count q.config) (sym base) in
     let there = unused_there C.count C.room C.room_most C.ready C.reads C.rests g.P.Plant.tells dev v was.copy h.copy h.alive c.page_count-count.result c.in_ok-look.look not c.in_ok-look.ensures.seen in
     let unused = rw many at (unused_reads C.count C.room C.room_most C.ready C.reads C.rests g.P.Plant.tells dev v was.copy h.copy h.alive c.page_count-count.result (λ pages d r. g.met.C.Copying.rests_now h.copy pages d r) told c.in_ok-look.look not c.usable.ensures.sized c.in_ok-look.ensures.seen) in
-    absurd (∥∥₁_elim (s.kept told) (λ a b. absurd a) (λ k. always_used C.reads s.base s.since s.level _ _ k.was k.coming k.stands k.comes (C.rests h.copy) (C.holds h.copy) (pick dev s.first s.second) h.alive v.now (disk_now v dev)
-    (at_copy (λ h. C.rests h.copy) (λ h. C.holds h.copy) (λ h. h.alive) (setting C.reads s.base s.since) k.was k.coming dev c.requires.ckpt s.pair.first s.pair.second s.first s.second v k.first_at k.second_at) there.0
+    absurd (∥∥₁_elim (s.kept told) (λ a b. absurd a) (λ k. always_used C.reads s.base s.since s.renewals s.level _ _ k.was k.coming k.stands k.comes (C.rests h.copy) (C.holds h.copy) (pick dev s.first s.second) h.alive v.now (disk_now v dev)
+    (at_copy (λ h. C.rests h.copy) (λ h. C.holds h.copy) (λ h. h.alive) (setting_with C.reads s.base s.since s.renewals) k.was k.coming dev c.requires.ckpt s.pair.first s.pair.second s.first s.second v k.first_at k.second_at) there.0
     (λ pages d r. g.met.C.Copying.rests_reads h.copy pages d r) (λ was next d r. g.met.C.Copying.holds_reads h.copy was next d r) (g.met.P.Plant.there s.plant told dev there.1) unused))
 
 pub returns-in-Unread-clause-counts : goal.returns-in-Unread-clause-counts

@@ -4,7 +4,7 @@ use Rattle.spool_disk.specs.declared.plant.Part.TheVariants.{Disk as DiskPart}
 use Rattle.spool_disk.specs.View.{disk_now}
 use Rattle.spool_volumes.specs.Volumes.{volume_of}
 use Rattle.mas_complex.specs.Journals.{kept_all, entries_in}
-use Rattle.mas_complex.specs.Crash.{Setting, setting, copy_of}
+use Rattle.mas_complex.specs.Crash.{Setting, setting_with, copy_of}
 use Rattle.mas_complex.proofs.Lost.{lost_later}
 use Rattle.mas_complex.proofs.Making.{unlost}
 use Rattle.mas_complex.proofs.SpoolActs.{spool_keep, stays_write}
@@ -16,7 +16,7 @@ pub invariant_of-self-clause-kept : goal.invariant_of-self-clause-kept
 invariant_of-self-clause-kept g c told =
     let s = c.args.self.now in
     let C = g.C.Copying in
-    let S : Setting = setting C.reads s.base s.since in
+    let S : Setting = setting_with C.reads s.base s.since s.renewals in
     let first = copy_of (C.rests s.pair.first.copy) (C.holds s.pair.first.copy) s.pair.first.alive s.first in
     let second = copy_of (C.rests s.pair.second.copy) (C.holds s.pair.second.copy) s.pair.second.alive s.second in
     let old = g.P.Plant.view s.plant in

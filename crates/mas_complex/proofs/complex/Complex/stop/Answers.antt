@@ -4,6 +4,10 @@ use Rattle.lock_cycle.specs.Books.{Book, is_stopped}
 use Rattle.mas_complex.proofs.Papers.{book_on_paper}
 use Rattle.mas_complex.proofs.PaperBooks.{stopped_up}
 use Rattle.mas_complex.proofs.Standing.{IsOwned, owned_stopped}
+use Rattle.std.proofs.Common.{Option, List, length, ◌≤◌}
+use Rattle.mas_types.specs.declared.journals.Entry.{Entry}
+use Rattle.mas_complex.specs.Journals.{entries_reserved, entries_most}
+use Rattle.mas_complex.proofs.Short.{short_after_stop}
 use Rattle.mas_complex.proofs.complex.Complex.stop.Goals as goal
 
 pub invariant_of-self-clause-paper : goal.invariant_of-self-clause-paper
@@ -16,3 +20,8 @@ pub invariant_of-self-clause-owned : goal.invariant_of-self-clause-owned
 invariant_of-self-clause-owned g c =
     let s = c.args.self.now in
     subst (IsOwned s.current) (sym c.give_up_after_stop.ensures.book) (owned_stopped s.book c.args.by s.current c.requires s.owned)
+
+pub invariant_of-self-clause-short_reserved : goal.invariant_of-self-clause-short_reserved
+invariant_of-self-clause-short_reserved g c =
+    let s = c.args.self.now in
+    subst (λ (r : Option (List Entry)). length (entries_reserved r) ≤ entries_most) (sym c.give_up_after_stop.ensures.reserved) (short_after_stop c.args.by s.reserved s.short_reserved)

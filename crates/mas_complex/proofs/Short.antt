@@ -1,0 +1,77 @@
+-- Batches are short, so the kept entries can be counted.
+use Rattle.std.proofs.Common.{◌≡◌, ◌+◌, ◌≤◌, min, Bool, true, false, if◌then◌else◌, List, [], ◌∷◌, ◌++◌, length, Option, Some, None, Result, Ok, Err, OnOk, OnErr, sym, ap, subst, ◌∙◌, arith}
+use Rattle.std.proofs.Math.Logic.{∥∥₁_elim}
+use Rattle.std.proofs.lemmas.List.{length-append, append-nil}
+use native.Mathlib.Bridge.{le_prop}
+use Rattle.mas_types.specs.declared.ids.MemberId.{MemberId}
+use Rattle.mas_types.specs.declared.journals.Batch.{Batch}
+use Rattle.mas_types.specs.declared.journals.Entry.{Entry}
+use Rattle.mas_types.specs.Journal.{is_kept}
+use Rattle.spool_disk.specs.declared.plant.Act.{Act}
+use Rattle.spool_disk.specs.declared.plant.Act.TheVariants.{Done, Failed, Halted}
+use Rattle.spool_disk.specs.Acts.{top}
+use Rattle.mas_complex.specs.Journals.{kept_all, entries_reserved, entries_most, journal_most, AreFew, IsPlace, EndsInPlace, HasPlace, with_last, without_last}
+use Rattle.mas_complex.specs.Locking.{is_of_member, reserved_after_stop}
+use Rattle.mas_complex.specs.Paper.{reserved_by}
+use Rattle.mas_complex.proofs.Batches.{kept_all_append, placed_all}
+use Rattle.mas_complex.proofs.BatchEnds.{with_last-append, without_last-append, as_many}
+use Rattle.mas_complex.proofs.Fating.{has_ends}
+
+-- a journal that ends in a place has the entries kept before it
+before_place : (js : List Batch) (p : EndsInPlace js) → kept_all js ≡ kept_all p.before
+before_place js p = ap kept_all p.is ∙ placed_all p.place p.free p.before
+
+pub few_placed : (js : List Batch) (b : Batch) → IsPlace b → AreFew false js → AreFew true (js ++ b ∷ [])
+few_placed js b place few =
+    let kept = ap length (placed_all b place js) in
+    let many = length-append js (b ∷ []) in
+    omega arith
+
+few_at_last : (b : Batch) (js : List Batch) → EndsInPlace js → length b.entries ≤ entries_most → AreFew true js → AreFew false (with_last b js)
+few_at_last b js p short few =
+    let was = ap length (before_place js p) in
+    let is = ap length (ap (λ (l : List Batch). kept_all (with_last b l)) p.is ∙ (ap kept_all (with_last-append b p.before p.place) ∙ kept_all_append p.before (b ∷ []))) in
+    let long = length-append (kept_all p.before) (kept_all (b ∷ [])) in
+    let one = at_most (is_kept b.fate) b.entries in
+    let many = as_many b js in
+    omega arith
+  where
+    at_most : (z : Bool) (es : List Entry) → length ((if z then es else []) ++ []) ≤ length es
+    at_most true es = let e = ap length (append-nil es) in omega arith
+    at_most false es = omega arith
+
+-- the batch that takes the place at the end
+pub few_last : (b : Batch) (placed : Bool) (js : List Batch) → placed ≡ true → ∥ HasPlace placed js ∥₁ → length b.entries ≤ entries_most → AreFew placed js → AreFew false (with_last b js)
+few_last b placed js is has short few = ∥∥₁_elim has le_prop (λ h. few_at_last b js (has_ends placed js is h) short (subst (λ (z : Bool). AreFew z js) is few))
+
+-- without the place at the end
+pub few_unplaced : (placed : Bool) (js : List Batch) → placed ≡ true → ∥ HasPlace placed js ∥₁ → AreFew placed js → AreFew false (without_last js)
+few_unplaced placed js is has few = ∥∥₁_elim has le_prop (λ h. without (has_ends placed js is h) (subst (λ (z : Bool). AreFew z js) is few)) where
+  without : EndsInPlace js → AreFew true js → AreFew false (without_last js)
+  without p few =
+      let was = ap length (before_place js p) in
+      let left = ap (λ (l : List Batch). without_last l) p.is ∙ without_last-append p.before p.place in
+      let many = ap length p.is ∙ length-append p.before (p.place ∷ []) in
+      subst (λ (l : List Batch). AreFew false l) (sym left) (omega arith)
+
+pub short_after_stop : (by : MemberId) (reserved : Option (List Entry)) → length (entries_reserved reserved) ≤ entries_most → length (entries_reserved (reserved_after_stop by reserved)) ≤ entries_most
+short_after_stop by None short = short
+short_after_stop by (Some es) short = either (is_of_member by es) where
+  either : (z : Bool) → length (entries_reserved (if z then None else Some es)) ≤ entries_most
+  either true = omega arith
+  either false = short
+
+-- after a print
+pub short_after_print : (by : MemberId) (done : Act) (reserved : Option (List Entry)) → length (entries_reserved reserved) ≤ entries_most → length (entries_reserved (reserved_by by done reserved)) ≤ entries_most
+short_after_print by Halted reserved short = short_after_stop by reserved short
+short_after_print by Done reserved short = short
+short_after_print by Failed reserved short = short
+
+-- after the lock was given up, or wasn't
+pub short_after_free : {T E : Type 0} (r : Result T E) (was is : Option (List Entry)) → OnOk r (is ≡ None) → OnErr r (is ≡ was) → length (entries_reserved was) ≤ entries_most → length (entries_reserved is) ≤ entries_most
+short_after_free (Ok x) was is none same short = subst (λ (o : Option (List Entry)). length (entries_reserved o) ≤ entries_most) (sym none) (omega arith)
+short_after_free (Err e) was is none same short = subst (λ (o : Option (List Entry)). length (entries_reserved o) ≤ entries_most) (sym same) short
+
+-- so many can be counted
+pub few_counted : (placed : Bool) (js : List Batch) → AreFew placed js → length js ≤ journal_most → min (length (kept_all js)) top ≡ length (kept_all js)
+few_counted placed js few many = omega (arith, few, many)
