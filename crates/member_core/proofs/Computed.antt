@@ -1,6 +1,6 @@
 -- The worked examples, by computation.
 use Rattle.std.proofs.Common.{refl}
-use Rattle.member_core.specs.Examples.{OneGateTellsNothing, OldGateDrops, NewGateKeeps, SecondLockWaits, WholeTurnIsTold, BegunBatchTellsNothing, StartKeepsWhatACopyReads, UnsureGateFallsBack, AwayMayLock, LockedReadsFirst, FirstReadIsFollowed, SecondReadIsFollowed, ReadyGivesCommands, BatchIsLogged, FirstLogIsFollowed, SecondLogIsFollowed, FirstOpeningIsFollowed, WrittenBatchIsTold, StoppedIsTakenOver, CrashIsFollowedByStart}
+use Rattle.member_core.specs.Examples.{OneGateTellsNothing, OldGateDrops, NewGateKeeps, SecondLockWaits, WholeTurnIsTold, BegunBatchTellsNothing, StartKeepsWhatACopyReads, UnsureGateFallsBack, AwayMayLock, LockedReadsFirst, FirstReadIsFollowed, SecondReadIsFollowed, ReadyGivesCommands, BatchIsLogged, FirstLogIsFollowed, SecondLogIsFollowed, FirstOpeningIsFollowed, WrittenBatchIsTold, StoppedIsTakenOver, CrashIsFollowedByStart, RenewedCopyIsRead, BatchKeepsFromRenewing, NothingRenewsBothCopies}
 
 pub one_gate_tells_nothing : OneGateTellsNothing
 one_gate_tells_nothing = refl
@@ -61,3 +61,12 @@ stopped_is_taken_over = refl
 
 pub crash_is_followed_by_start : CrashIsFollowedByStart
 crash_is_followed_by_start = refl
+
+pub renewed_copy_is_read : RenewedCopyIsRead
+renewed_copy_is_read = (refl, refl)
+
+pub batch_keeps_from_renewing : BatchKeepsFromRenewing
+batch_keeps_from_renewing = refl
+
+pub nothing_renews_both_copies : NothingRenewsBothCopies
+nothing_renews_both_copies = refl

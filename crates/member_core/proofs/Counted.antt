@@ -69,6 +69,9 @@ steps_happen b w (event.Seize by of_member) all = steps_on b _ (λ a. omega arit
 steps_happen b w (event.Lose dev.Ckpt1) all = below_more b (b + 1) w.members (omega arith) all
 steps_happen b w (event.Lose dev.Ckpt2) all = below_more b (b + 1) w.members (omega arith) all
 steps_happen b w (event.Lose (dev.Spool v)) all = below_more b (b + 1) w.members (omega arith) all
+steps_happen b w (event.Renew m dev.Ckpt1) all = below_more b (b + 1) w.members (omega arith) all
+steps_happen b w (event.Renew m dev.Ckpt2) all = below_more b (b + 1) w.members (omega arith) all
+steps_happen b w (event.Renew m (dev.Spool v)) all = below_more b (b + 1) w.members (omega arith) all
 steps_happen b w (event.Crash l) all = steps_map b has_fallen (λ a. omega arith) w.members all
 steps_happen b w event.Start all = steps_risen b _ _ w.members all
 

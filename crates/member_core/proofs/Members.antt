@@ -1,8 +1,9 @@
--- The events of one member that leave the copies, and losses, keep all of it.
+-- The events of one member that leave the copies, losses and renewals keep all of it.
 use Rattle.std.proofs.Common.{◌≡◌, ℕ, ◌+◌, ◌≤◌, ◌<◌, ◌⊎◌, inl, inr, Bool, true, false, not, ◌&&◌, ◌||◌, nat_lt, List, [], ◌∷◌, ◌++◌, length, filter, Some, None, refl, ap, sym, ◌∙◌, subst, arith, append-nil, le_refl}
 use Rattle.std.specs.List.{list_any, list_all, AllByRecursion}
 use Rattle.mas_types.specs.declared.ids.MemberId.{MemberId}
 use Rattle.mas_types.specs.declared.ids.GroupNo.{GroupNo}
+use Rattle.mas_types.specs.declared.ids.Dev.TheVariants as dev
 use Rattle.mas_types.specs.declared.queues.Queue.{Queue}
 use Rattle.mas_types.specs.declared.journals.Entry.{Entry}
 use Rattle.mas_types.specs.declared.journals.Batch.{Batch}
@@ -22,7 +23,7 @@ use Rattle.mas_types.specs.declared.queues.Owner.{Owner}
 use Rattle.mas_types.specs.declared.queues.Owner.TheVariants as owner
 use Rattle.mas_types.specs.Owners.{is_members}
 use Rattle.queue_laws.specs.OwnerChange.{is_thing}
-use Rattle.member_core.specs.Events.{is_thing_at, is_members_at, is_in_volume, can_tell, next_step, said, has_begun, can_write, lost, opens_first, opens_second, is_hit, is_longer, left_of, after_stop, has_stopped}
+use Rattle.member_core.specs.Events.{is_thing_at, is_members_at, is_in_volume, can_tell, next_step, said, has_begun, can_write, lost, renewed, is_at_rest, can_renew, opens_first, opens_second, is_hit, is_longer, left_of, after_stop, has_stopped}
 use Rattle.member_core.specs.Holds.{IsCopy, IsAhead, IsPending, AreCopies, is_calm, IsUnsure, IsAt, IsReady, IsAlone, IsTold, HoldsOf}
 use Rattle.member_core.proofs.Basics.{test_cases, and_left, and_right, and_both, both_ways, neither, not_true, away_is, ready_is, nil_is, not_same, not_longer, change_same, change_length, acting_inside, all_append}
 use Rattle.member_core.proofs.Frames.{told_on, fewer_on, paper_on, alone_on, calm_on, stages_on, unsure_on, at_work_on, writer_on, resets_on, away_any, others_away}
@@ -255,6 +256,103 @@ module _ (base : Queue) (bs : List Batch) (a b : CopyAt) (holder : MemberId) (me
       past : (m : MemberId) (n : ℕ) → m.0 < length members → n ≡ (member_in members m).step → n < (member_in (on_member m next_step members) m).step
       past m n inside e = let w : member_in (on_member m next_step members) m ≡ next_step (member_in members m) = change_same absent next_step m.0 members inside in
           subst (λ (y : MemberAt). n < y.step) (sym w) (let l : n < (member_in members m).step + 1 = omega arith in l)
+
+  -- RENEW
+
+  no_flight : F ≡ [] → is_nil F ≡ false → ⊥
+  no_flight none some = absurd (let w = rw none at some in cc)
+
+  kept_both : F ≡ [] → K ++ F ≡ K
+  kept_both none = rw none (append-nil K)
+
+  -- a member that is at rest leaves nothing in flight
+  rest_is : AllOf → (m : MemberId) → is_at_rest the m ≡ true → F ≡ []
+  rest_is h m p =
+      let x = member_in members m in
+      let up : is_up_in members m ≡ true = and_left (is_up_in members m) _ p in
+      let p1 : (is_ready x.stage && is_nil x.batch) ≡ true = and_right (is_up_in members m) _ p in
+      let ready : is_ready x.stage ≡ true = and_left (is_ready x.stage) _ p1 in
+      (mine_of m x.stage x ready (h.stages m (up_acts members m up))).flying
+
+  renewed_copy : (kept : List Entry) (c : CopyAt) → kept ≡ K → IsCopy K F (renewed kept c)
+  renewed_copy kept c e = record { reads = λ g. inl e; next = λ g. inl refl }
+
+  opened_whole : (x : MemberAt) → F ≡ [] → x.own ≡ K ++ F → K ≡ x.own
+  opened_whole x none own = sym (own ∙ kept_both none)
+
+  read_whole : (x : MemberAt) → F ≡ [] → (x.own ≡ K) ⊎ (x.own ≡ K ++ F) → x.own ≡ K ++ F
+  read_whole x none (inl e) = e ∙ sym (kept_both none)
+  read_whole x none (inr e) = e
+
+  renewed_first : F ≡ [] → (m : MemberId) (s : At) (x : MemberAt) → IsAt s base m K F a b x → IsAt s base m K F (renewed K a) b x
+  renewed_first none m at.Away x h = h
+  renewed_first none m at.Locked x h = h
+  renewed_first none m at.Read1 x h = h
+  renewed_first none m at.Read2 x h = record { somebody = h.somebody; batch = h.batch; own = h.own; first = λ g e. read_whole x none h.own; second = h.second; pending = λ some e. absurd (no_flight none some) }
+  renewed_first none m at.Ready x h = record { flying = h.flying; own = h.own; first = λ g. refl; second = h.second; mine = h.mine; given = h.given; single = h.single }
+  renewed_first none m at.Logged1 x h = absurd (no_flight none h.flying)
+  renewed_first none m at.Logged2 x h = absurd (no_flight none h.flying)
+  renewed_first none m at.Opened1 x h = record { own = h.own; first = λ g. opened_whole x none h.own; first_next = λ g. refl; second = h.second; batch = h.batch }
+
+  renewed_second : F ≡ [] → (m : MemberId) (s : At) (x : MemberAt) → IsAt s base m K F a b x → IsAt s base m K F a (renewed K b) x
+  renewed_second none m at.Away x h = h
+  renewed_second none m at.Locked x h = h
+  renewed_second none m at.Read1 x h = h
+  renewed_second none m at.Read2 x h = record { somebody = h.somebody; batch = h.batch; own = h.own; first = h.first; second = λ g e. read_whole x none h.own; pending = λ some e. absurd (no_flight none some) }
+  renewed_second none m at.Ready x h = record { flying = h.flying; own = h.own; first = h.first; second = λ g. refl; mine = h.mine; given = h.given; single = h.single }
+  renewed_second none m at.Logged1 x h = absurd (no_flight none h.flying)
+  renewed_second none m at.Logged2 x h = absurd (no_flight none h.flying)
+  renewed_second none m at.Opened1 x h = record { own = h.own; first = h.first; first_next = h.first_next; second = λ some g. absurd (no_flight none some); batch = h.batch }
+
+  pub keeps_renew1 : AllOf → (m : MemberId) → can_renew the m dev.Ckpt1 ≡ true → HoldsOf base bs (renewed K a) b holder members inked unsynced told
+  keeps_renew1 h m p =
+      let none : F ≡ [] = rest_is h m (and_left (is_at_rest the m) _ p) in
+      record {
+        sound = h.sound;
+        fit = h.fit;
+        journal = h.journal;
+        by_member = h.by_member;
+        resets = h.resets;
+        given = h.given;
+        copies = record {
+          first = renewed_copy K a refl;
+          second = h.copies.second;
+          ahead = λ some either. absurd (no_flight none some);
+        };
+        gates = (λ u. absurd (cc), h.gates.1);
+        stages = λ j act. renewed_first none j (member_in members j).stage (member_in members j) (h.stages j act);
+        alone = h.alone;
+        at_work = h.at_work;
+        writer = h.writer;
+        tells = h.tells;
+        synced = h.synced;
+        paper = h.paper;
+      }
+
+  pub keeps_renew2 : AllOf → (m : MemberId) → can_renew the m dev.Ckpt2 ≡ true → HoldsOf base bs a (renewed K b) holder members inked unsynced told
+  keeps_renew2 h m p =
+      let none : F ≡ [] = rest_is h m (and_left (is_at_rest the m) _ p) in
+      record {
+        sound = h.sound;
+        fit = h.fit;
+        journal = h.journal;
+        by_member = h.by_member;
+        resets = h.resets;
+        given = h.given;
+        copies = record {
+          first = h.copies.first;
+          second = renewed_copy K b refl;
+          ahead = λ some either. absurd (no_flight none some);
+        };
+        gates = (h.gates.0, λ u. absurd (cc));
+        stages = λ j act. renewed_second none j (member_in members j).stage (member_in members j) (h.stages j act);
+        alone = h.alone;
+        at_work = h.at_work;
+        writer = h.writer;
+        tells = h.tells;
+        synced = h.synced;
+        paper = h.paper;
+      }
 
   -- STOP
 

@@ -320,7 +320,7 @@ print_line w m = record w {
   members = on_member m has_printed w.members;
 }
 
--- STOPS, CRASHES, LOSSES
+-- STOPS AND LOSSES
 
 -- the next list is longer than what the copy reads
 abbrev pub is_longer : List Entry → Option (List Entry) → Bool
@@ -373,6 +373,29 @@ abbrev pub lose : World → Dev → World
 lose w dev.Ckpt1 = record w { copies = on_copies lost same_copy w.copies }
 lose w dev.Ckpt2 = record w { copies = on_copies same_copy lost w.copies }
 lose w (dev.Spool v) = w
+
+-- RENEWED COPIES
+
+-- a copy that is written anew reads as the kept entries
+abbrev pub renewed : List Entry → CopyAt → CopyAt
+renewed kept c = record { good = true; reads = kept; next = None; sure = true }
+
+-- the member may give commands and has given none, so nothing is in flight
+abbrev pub is_at_rest : World → MemberId → Bool
+is_at_rest w m = is_up w m && (is_ready (member_at w m).stage && is_nil (member_at w m).batch)
+
+-- the copy isn't good, and the other one is
+abbrev pub can_renew : World → MemberId → Dev → Bool
+can_renew w m dev.Ckpt1 = is_at_rest w m && (not (first_copy w.copies).good && (second_copy w.copies).good)
+can_renew w m dev.Ckpt2 = is_at_rest w m && ((first_copy w.copies).good && not (second_copy w.copies).good)
+can_renew w m (dev.Spool v) = false
+
+abbrev pub renew : World → Dev → World
+renew w dev.Ckpt1 = record w { copies = on_copies (renewed (kept w)) same_copy w.copies }
+renew w dev.Ckpt2 = record w { copies = on_copies same_copy (renewed (kept w)) w.copies }
+renew w (dev.Spool v) = w
+
+-- CRASHES
 
 -- an unsure gate is old with the kept entries
 abbrev pub after_crash : Left → List Entry → Bool → CopyAt → CopyAt
@@ -457,6 +480,7 @@ possible w (event.PrintLine m) = can_print w m
 possible w (event.Stop m l) = is_up w m
 possible w (event.Seize by of_member) = can_seize w by of_member
 possible w (event.Lose d) = can_lose w d
+possible w (event.Renew m d) = can_renew w m d
 possible w (event.Crash l) = true
 possible w event.Start = can_start w
 
@@ -486,6 +510,7 @@ happens w (event.PrintLine m) = print_line w m
 happens w (event.Stop m l) = stop w m l
 happens w (event.Seize by of_member) = seize w by
 happens w (event.Lose d) = lose w d
+happens w (event.Renew m d) = renew w d
 happens w (event.Crash l) = crash w l
 happens w event.Start = restart w
 

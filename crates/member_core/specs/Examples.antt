@@ -98,6 +98,31 @@ UnsureGateFallsBack =
     fates (half_open ++ event.Lose dev.Ckpt1 ∷ event.Stop (member 1) left.New ∷ event.Crash left.Old ∷ event.Start ∷ [])
     ≡ fate.Dropped ∷ []
 
+-- a good copy isn't written anew. A lost one is; then the other one is lost, and a start finds the job
+abbrev pub renewed_and_read : List Event
+renewed_and_read =
+    half_open ++ event.OpenCopy (member 1) dev.Ckpt2 ∷ event.Renew (member 1) dev.Ckpt1 ∷ event.Lose dev.Ckpt1
+    ∷ event.Renew (member 1) dev.Ckpt1 ∷ event.Lose dev.Ckpt2 ∷ event.Crash left.Old ∷ event.Start ∷ []
+
+abbrev pub RenewedCopyIsRead : Type 0
+RenewedCopyIsRead =
+    (outcomes (start base) renewed_and_read
+    ≡ true ∷ true ∷ true ∷ true ∷ true ∷ true ∷ true ∷ true ∷ true ∷ false ∷ true ∷ true ∷ true ∷ true ∷ true ∷ [])
+    × (length (kept (runs (start base) renewed_and_read)) ≡ 1)
+
+-- no copy is written anew by a member that has given a command, nor where the other copy isn't good
+abbrev pub BatchKeepsFromRenewing : Type 0
+BatchKeepsFromRenewing =
+    outcomes (start base) (turn 1
+    ++ event.Lose dev.Ckpt1 ∷ event.Do (member 1) (command.Take 1) ∷ event.Renew (member 1) dev.Ckpt1 ∷ [])
+    ≡ true ∷ true ∷ true ∷ true ∷ true ∷ true ∷ false ∷ []
+
+abbrev pub NothingRenewsBothCopies : Type 0
+NothingRenewsBothCopies =
+    outcomes (start base) (turn 1
+    ++ event.Lose dev.Ckpt1 ∷ event.Lose dev.Ckpt2 ∷ event.Renew (member 1) dev.Ckpt2 ∷ [])
+    ≡ true ∷ true ∷ true ∷ true ∷ true ∷ true ∷ false ∷ []
+
 -- WHICH EVENTS ARE POSSIBLE IN WHICH STAGE OF MEMBER 1
 
 -- the events of a turn in order, then Free, Tell, a spool write of a group that is not the member's, a spool sync, a

@@ -1,5 +1,5 @@
 //! Worked examples: small runs of events, computed by the check.
-ghost use Rattle.member_core.specs.Examples.{OneGateTellsNothing, OldGateDrops, NewGateKeeps, SecondLockWaits, WholeTurnIsTold, BegunBatchTellsNothing, StartKeepsWhatACopyReads, UnsureGateFallsBack, AwayMayLock, LockedReadsFirst, FirstReadIsFollowed, SecondReadIsFollowed, ReadyGivesCommands, BatchIsLogged, FirstLogIsFollowed, SecondLogIsFollowed, FirstOpeningIsFollowed, WrittenBatchIsTold, StoppedIsTakenOver, CrashIsFollowedByStart};
+ghost use Rattle.member_core.specs.Examples.{OneGateTellsNothing, OldGateDrops, NewGateKeeps, SecondLockWaits, WholeTurnIsTold, BegunBatchTellsNothing, StartKeepsWhatACopyReads, UnsureGateFallsBack, AwayMayLock, LockedReadsFirst, FirstReadIsFollowed, SecondReadIsFollowed, ReadyGivesCommands, BatchIsLogged, FirstLogIsFollowed, SecondLogIsFollowed, FirstOpeningIsFollowed, WrittenBatchIsTold, StoppedIsTakenOver, CrashIsFollowedByStart, RenewedCopyIsRead, BatchKeepsFromRenewing, NothingRenewsBothCopies};
 
 /// A turn of a member: the lock, and when its step is told.
 pub fn examples_of_turns()
@@ -31,4 +31,11 @@ pub fn examples_of_stages()
     ensures written { WrittenBatchIsTold }
     ensures stopped { StoppedIsTakenOver }
     ensures crashed { CrashIsFollowedByStart }
+{}
+
+/// When a copy is written anew, and that it counts then.
+pub fn examples_of_renewals()
+    ensures renewed { RenewedCopyIsRead }
+    ensures batch { BatchKeepsFromRenewing }
+    ensures both { NothingRenewsBothCopies }
 {}

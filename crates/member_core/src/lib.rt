@@ -7,6 +7,7 @@ pub mod crashes;
 pub mod examples;
 pub mod pair;
 pub mod people;
+pub mod renewing;
 pub mod spools;
 pub mod stages;
 pub mod starts;

@@ -2,7 +2,7 @@
 ghost use Rattle.std.specs.Prelude.{◌≡◌, length, List, IfOk};
 ghost use Rattle.mas_types.specs.Lists.{change_at};
 ghost use Rattle.member_core.specs.Worlds.{at_or, good_reads, longest as longest_read, no_copy, on_copies, reads_so_many, same_copy};
-ghost use Rattle.member_core.specs.Events.{after_primary, all_read as each_reads, has_next, is_any_good as some_good, lost, made_sure, opened};
+ghost use Rattle.member_core.specs.Events.{after_primary, all_read as each_reads, has_next, is_any_good as some_good, lost, made_sure, opened, renewed};
 
 use crate::worlds::CopyAt;
 use mas_types::{Copied, Entry, List, NoMemory};
@@ -207,4 +207,35 @@ pub fn lose_second(copies: &mut List<CopyAt>)
     ensures { copies.new ≡ on_copies same_copy lost copies.old }
 {
     lose_copy(copies, 1);
+}
+
+fn renew_copy(copy: &mut CopyAt, kept: List<Entry>)
+    ensures { copy.new ≡ renewed kept copy.old }
+{
+    copy.good = true;
+    copy.reads = kept;
+    copy.next = None;
+    copy.sure = true;
+}
+
+fn renew_at(copies: &mut List<CopyAt>, at: usize, kept: List<Entry>)
+    ensures { copies.new ≡ change_at at (renewed kept) copies.old }
+{
+    if at < copies.len() {
+        renew_copy(copies.item_mut(at), kept);
+    }
+}
+
+/// The first copy is written anew: it reads as these entries.
+pub fn renew_first(copies: &mut List<CopyAt>, kept: List<Entry>)
+    ensures { copies.new ≡ on_copies (renewed kept) same_copy copies.old }
+{
+    renew_at(copies, 0, kept);
+}
+
+/// The second copy is written anew: it reads as these entries.
+pub fn renew_second(copies: &mut List<CopyAt>, kept: List<Entry>)
+    ensures { copies.new ≡ on_copies same_copy (renewed kept) copies.old }
+{
+    renew_at(copies, 1, kept);
 }

@@ -19,6 +19,7 @@ use crate::acts::{lose, spool_write, tell};
 use crate::batches::{both_entries, kept_entries};
 use crate::crashes::{crash, stop};
 use crate::people::{acts, copy_own, has_no_batch, is_up, stage_of};
+use crate::renewing::renew;
 use crate::spools::{print_line, spool_sync};
 use crate::stages::{is_logged1, is_ready};
 use crate::starts::start_again;
@@ -225,6 +226,7 @@ fn happen(alloc: Global, world: &mut World, event: &Event) -> Result<bool, NoMem
         Event::Stop(m, left) => stop(alloc, world, *m, *left),
         Event::Seize(by, of) => Ok(seize(world, *by, *of)),
         Event::Lose(copy) => Ok(lose(world, *copy)),
+        Event::Renew(m, copy) => renew(alloc, world, *m, *copy),
         Event::Crash(left) => crash(alloc, world, *left),
         Event::Start => start_again(alloc, world),
     }
