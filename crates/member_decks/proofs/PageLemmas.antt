@@ -27,12 +27,13 @@ use Rattle.mas_complex.specs.Texts.{Spools, spools_at, bytes_on, IsSynced, IsThe
 use Rattle.queue_laws.proofs.Finds.{test_cases}
 use Rattle.mas_complex.proofs.Quotients.{few_quotient}
 use Rattle.mas_complex.proofs.Spooled.{spared_other}
-use Rattle.member_node.specs.Spares.{Spares}
+use Rattle.member_node.specs.Calls.{none_lost}
+use Rattle.member_node.specs.Spares.{SparesBut}
 use Rattle.member_node.proofs.CourseLemmas.{papers_act, papers_none, papers_on}
-use Rattle.member_node.proofs.SpareLemmas.{spares_done, spares_failed, spares_halted, spares_then}
+use Rattle.member_node.proofs.SpareLemmas.{sparing_done, sparing_failed, sparing_halted, sparing_then}
 use Rattle.member_decks.specs.declared.spooling.SpoolError.{SpoolError}
 use Rattle.member_decks.specs.declared.spooling.SpoolError.TheVariants.{Lost, Halted as Stopped}
-use Rattle.member_decks.specs.Spooling.{AreQuiet, OnVolumes, Rise, SparesOthers, SpoolCauses, StandBelow, answer_of, lies_there, page_in}
+use Rattle.member_decks.specs.Spooling.{AreQuiet, OnVolumes, Rise, SpoolCauses, StandBelow, answer_of, lies_there, page_in}
 
 -- ACTS
 
@@ -121,17 +122,17 @@ on_done A Halted v f = tt
 
 -- the cause of an act on a volume on which one of the groups lies
 pub cause_of : (by per v : ℕ) (groups : List GroupNo) (old new : View) (r : Act) → lies_there per v groups ≡ true → Acts by (DiskPart (Spool v)) old new r → SpoolCauses (answer_of r v) by per groups old new
-cause_of by per v groups old new Done there acts = spares_done by (DiskPart (Spool v)) old new acts
-cause_of by per v groups old new Failed there acts = (there, acts.is_lost refl, acts.failed refl, spares_failed by (DiskPart (Spool v)) old new acts)
-cause_of by per v groups old new Halted there acts = (acts.not_operator refl, acts.halted refl, spares_halted by (DiskPart (Spool v)) old new acts)
+cause_of by per v groups old new Done there acts = sparing_done by (DiskPart (Spool v)) old new acts
+cause_of by per v groups old new Failed there acts = (there, acts.is_lost refl, acts.failed refl, sparing_failed by v old new acts)
+cause_of by per v groups old new Halted there acts = (acts.not_operator refl, acts.halted refl, sparing_halted by (DiskPart (Spool v)) old new acts)
 
-cause_by : {T : Type 0} (by per : ℕ) (groups gs : List GroupNo) (old mid new : View) (r : Result T SpoolError) → ((v : ℕ) → lies_there per v groups ≡ true → lies_there per v gs ≡ true) → Goes old mid → Spares by false old mid → SpoolCauses r by per groups mid new → SpoolCauses r by per gs old new
-cause_by by per groups gs old mid new (Ok done) wider goes spares cause = spares_then by false old mid new spares cause
-cause_by by per groups gs old mid new (Err (Lost v)) wider goes spares cause = (wider v cause.0, cause.1, omega (arith, cause.2, goes.faults (DiskPart (Spool v))), spares_then by false old mid new spares cause.3)
-cause_by by per groups gs old mid new (Err Stopped) wider goes spares cause = (cause.0, omega (arith, cause.1, goes.stops by), spares_then by true old mid new spares cause.2)
+cause_by : {T : Type 0} (by per : ℕ) (groups gs : List GroupNo) (old mid new : View) (r : Result T SpoolError) → ((v : ℕ) → lies_there per v groups ≡ true → lies_there per v gs ≡ true) → Goes old mid → SparesBut by false none_lost old mid → SpoolCauses r by per groups mid new → SpoolCauses r by per gs old new
+cause_by by per groups gs old mid new (Ok done) wider goes spares cause = sparing_then by false none_lost old mid new spares cause
+cause_by by per groups gs old mid new (Err (Lost v)) wider goes spares cause = (wider v cause.0, cause.1, omega (arith, cause.2, goes.faults (DiskPart (Spool v))), sparing_then by false (λ n. n == v) old mid new spares cause.3)
+cause_by by per groups gs old mid new (Err Stopped) wider goes spares cause = (cause.0, omega (arith, cause.1, goes.stops by), sparing_then by true none_lost old mid new spares cause.2)
 
 -- an answer after other acts
-pub cause_after : {T : Type 0} (by per : ℕ) (groups : List GroupNo) (old mid new : View) (r : Result T SpoolError) → Goes old mid → Spares by false old mid → SpoolCauses r by per groups mid new → SpoolCauses r by per groups old new
+pub cause_after : {T : Type 0} (by per : ℕ) (groups : List GroupNo) (old mid new : View) (r : Result T SpoolError) → Goes old mid → SparesBut by false none_lost old mid → SpoolCauses r by per groups mid new → SpoolCauses r by per groups old new
 cause_after by per groups old mid new r goes spares cause = cause_by by per groups groups old mid new r (λ v there. there) goes spares cause
 
 lies_among : (per v : ℕ) (groups : List GroupNo) (k : ℕ) (g : GroupNo) → slice_get groups k ≡ Some g → lies_there per v (g ∷ []) ≡ true → lies_there per v groups ≡ true
@@ -143,38 +144,8 @@ lies_among per v (h ∷ groups) zero g here there = let same : h ≡ g = cc in r
     alone false e = e
 lies_among per v (h ∷ groups) (suc k) g here there = test_cases (volume_of per h == v) (lies_there per v (h ∷ groups) ≡ true) (λ e. rw e refl) (λ e. rw e (lies_among per v groups k g here there))
 
-pub cause_later : {T : Type 0} (by per : ℕ) (groups : List GroupNo) (k : ℕ) (g : GroupNo) (old mid new : View) (r : Result T SpoolError) → slice_get groups k ≡ Some g → Goes old mid → Spares by false old mid → SpoolCauses r by per (g ∷ []) mid new → SpoolCauses r by per groups old new
+pub cause_later : {T : Type 0} (by per : ℕ) (groups : List GroupNo) (k : ℕ) (g : GroupNo) (old mid new : View) (r : Result T SpoolError) → slice_get groups k ≡ Some g → Goes old mid → SparesBut by false none_lost old mid → SpoolCauses r by per (g ∷ []) mid new → SpoolCauses r by per groups old new
 cause_later by per groups k g old mid new r here goes spares cause = cause_by by per (g ∷ []) groups old mid new r (λ v there. lies_among per v groups k g here there) goes spares cause
-
--- VOLUMES WITHOUT A GROUP
-
-pub others_none : (per : ℕ) (groups : List GroupNo) (v : View) → SparesOthers per groups v v
-others_none per groups v = record { lost = λ n none. refl; faults = λ n none. refl }
-
-pub others_on : (per : ℕ) (groups : List GroupNo) (old mid new : View) → SparesOthers per groups old mid → SparesOthers per groups mid new → SparesOthers per groups old new
-others_on per groups old mid new one two = record { lost = λ n none. two.lost n none ∙ one.lost n none; faults = λ n none. two.faults n none ∙ one.faults n none }
-
--- an act on a volume on which one of the groups lies
-pub others_act : (by per v : ℕ) (groups : List GroupNo) (old new : View) (r : Act) → lies_there per v groups ≡ true → Acts by (DiskPart (Spool v)) old new r → SparesOthers per groups old new
-others_act by per v groups old new r there acts = record {
-  lost = λ n none. acts.else_lost (DiskPart (Spool n)) (inl (other n none));
-  faults = λ n none. acts.else_faults (DiskPart (Spool n)) (inl (other n none));
-} where
-  other : (n : ℕ) → lies_there per n groups ≡ false → DiskPart (Spool n) ≢ DiskPart (Spool v)
-  other n none same = let e : n ≡ v = cc in clash (lies_there per v groups) there (subst (λ (k : ℕ). lies_there per k groups ≡ false) e none) where
-    clash : (b : Bool) → b ≡ true → b ≡ false → ⊥
-    clash b is not = cc
-
--- more groups leave fewer other volumes
-pub others_wider : (per : ℕ) (few groups : List GroupNo) (old new : View) → ((v : ℕ) → lies_there per v few ≡ true → lies_there per v groups ≡ true) → SparesOthers per few old new → SparesOthers per groups old new
-others_wider per few groups old new wider spares = record { lost = λ n none. spares.lost n (fewer n none); faults = λ n none. spares.faults n (fewer n none) } where
-  fewer : (n : ℕ) → lies_there per n groups ≡ false → lies_there per n few ≡ false
-  fewer n none = there_by (lies_there per n few) (λ there. clash (lies_there per n groups) (wider n there) none) where
-    clash : (b : Bool) → b ≡ true → b ≡ false → ⊥
-    clash b is not = cc
-
-pub others_among : (per : ℕ) (groups : List GroupNo) (k : ℕ) (g : GroupNo) (old new : View) → slice_get groups k ≡ Some g → SparesOthers per (g ∷ []) old new → SparesOthers per groups old new
-others_among per groups k g old new here spares = others_wider per (g ∷ []) groups old new (λ v there. lies_among per v groups k g here there) spares
 
 pub lies_alone : (per : ℕ) (g : GroupNo) → lies_there per (volume_of per g) (g ∷ []) ≡ true
 lies_alone per g = rw (eq-eqb (volume_of per g) (volume_of per g) refl) refl

@@ -14,7 +14,8 @@ use Rattle.spool_disk.specs.Acts.{Goes, Rose}
 use Rattle.spool_volumes.specs.Volumes.{volume_of, start_of}
 use Rattle.mas_complex.specs.Paper.{SamePapers}
 use Rattle.mas_complex.specs.Texts.{Spools}
-use Rattle.member_node.specs.Spares.{Spares}
+use Rattle.member_node.specs.Calls.{none_lost}
+use Rattle.member_node.specs.Spares.{SparesBut}
 use Rattle.member_decks.specs.declared.spooling.SpoolError.{SpoolError}
 use Rattle.member_decks.specs.declared.spooling.SpoolError.TheVariants.{Lost, Halted}
 
@@ -43,12 +44,6 @@ AreQuiet old new = (n : ℕ) → IsQuiet (old n) (new n)
 abbrev pub lies_there : ℕ → ℕ → List GroupNo → Bool
 lies_there per volume groups = list_any (λ g. volume_of per g == volume) groups
 
--- each volume on which none of the groups lies is lost where it was, and no fault of it is counted
-pub record SparesOthers (per : ℕ) (groups : List GroupNo) (old new : View) : Type 0 where
-  pub lost : (v : ℕ) → lies_there per v groups ≡ false → new.lost (DiskPart (Spool v)) ≡ old.lost (DiskPart (Spool v))
-  pub faults : (v : ℕ) → lies_there per v groups ≡ false
-      → new.faults (DiskPart (Spool v)) ≡ old.faults (DiskPart (Spool v))
-
 -- Acts of a member on spool volumes: no other part is lost, nobody else is stopped, nor the operator, and where content
 -- is told, the copies, the console and at each moment the printers are as they were.
 pub record OnVolumes (told : Type 0) (by : ℕ) (old new : View) : Type 0 where
@@ -62,13 +57,15 @@ pub record OnVolumes (told : Type 0) (by : ℕ) (old new : View) : Type 0 where
   pub console : told → (new.world new.now).console ≡ (old.world old.now).console
   pub papers : told → SamePapers old new
 
--- why it stopped: a volume on which a group lies failed and is lost, or the member was stopped. Else nobody was.
+-- Why it stopped: a volume on which a group lies failed and is lost, or the member was stopped. Else nobody was. No other
+-- volume is lost, and no fault of one is counted.
 abbrev pub SpoolCauses : {T : Type 0} → Result T SpoolError → ℕ → ℕ → List GroupNo → View → View → Type 0
-SpoolCauses (Ok done) by per groups old new = Spares by false old new
+SpoolCauses (Ok done) by per groups old new = SparesBut by false none_lost old new
 SpoolCauses (Err (Lost v)) by per groups old new = (lies_there per v groups ≡ true)
     × (new.lost (DiskPart (Spool v)) ≡ true) × Rose (old.faults (DiskPart (Spool v))) (new.faults (DiskPart (Spool v)))
-    × Spares by false old new
-SpoolCauses (Err Halted) by per groups old new = (0 < by) × Rose (old.stops by) (new.stops by) × Spares by true old new
+    × SparesBut by false (λ n. n == v) old new
+SpoolCauses (Err Halted) by per groups old new = (0 < by) × Rose (old.stops by) (new.stops by)
+    × SparesBut by true none_lost old new
 
 -- the answer of an act on a volume
 abbrev pub answer_of : Act → ℕ → Result (Unit {0}) SpoolError

@@ -1,5 +1,5 @@
 -- A member's deck step, by its answer.
-use Rattle.std.specs.Prelude.{◌≡◌, ℕ, true, false, List, All, Option, Some, None, Result, Ok, Err}
+use Rattle.std.specs.Prelude.{◌≡◌, ℕ, ◌==◌, Bool, true, false, List, All, Option, Some, None, Result, Ok, Err}
 use Rattle.mas_types.specs.declared.ids.Dev.TheVariants.{Spool}
 use Rattle.mas_types.specs.declared.ids.MemberId.{MemberId}
 use Rattle.mas_types.specs.declared.journals.Entry.{Entry}
@@ -8,7 +8,8 @@ use Rattle.spool_disk.specs.View.{View}
 use Rattle.spool_disk.specs.Acts.{Rose}
 use Rattle.member_node.specs.declared.member.NodeNo.{NodeNo}
 use Rattle.member_node.specs.declared.member.NodeNo.TheVariants.{BothLost, Halted, ConsoleFault, NoMemory}
-use Rattle.member_node.specs.Spares.{Spares}
+use Rattle.member_node.specs.Calls.{none_lost}
+use Rattle.member_node.specs.Spares.{SparesBut}
 
 -- a volume that was found lost: it failed in the step, and is lost
 abbrev pub IsFoundLost : Option ℕ → View → View → Type 0
@@ -20,10 +21,16 @@ IsFoundLost (Some volume) old new = (new.lost (DiskPart (Spool volume)) ≡ true
 abbrev pub AreOf : MemberId → ℕ → List Entry → Type 0
 AreOf by at es = All (λ e. (e.by ≡ by) × (e.step ≡ at)) es
 
--- why acts beside the copies ended a step: out of memory, or the member was stopped. Else nobody was.
-abbrev pub SpoolStops : {T : Type 0} → Result T NodeNo → ℕ → View → View → Type 0
-SpoolStops (Ok done) by old new = Spares by false old new
-SpoolStops (Err NoMemory) by old new = Spares by false old new
-SpoolStops (Err Halted) by old new = Spares by true old new × Rose (old.stops by) (new.stops by)
-SpoolStops (Err BothLost) by old new = ⊥
-SpoolStops (Err ConsoleFault) by old new = ⊥
+-- the volume that was found lost, if one was
+abbrev pub names_volume : Option ℕ → ℕ → Bool
+names_volume None n = false
+names_volume (Some volume) n = n == volume
+
+-- Why acts beside the copies ended a step: out of memory, or the member was stopped. Else nobody was. No volume is lost
+-- but those that the answer names, and no fault of another one is counted.
+abbrev pub SpoolStops : {T : Type 0} → (T → ℕ → Bool) → Result T NodeNo → ℕ → View → View → Type 0
+SpoolStops names (Ok done) by old new = SparesBut by false (names done) old new
+SpoolStops names (Err NoMemory) by old new = SparesBut by false none_lost old new
+SpoolStops names (Err Halted) by old new = SparesBut by true none_lost old new × Rose (old.stops by) (new.stops by)
+SpoolStops names (Err BothLost) by old new = ⊥
+SpoolStops names (Err ConsoleFault) by old new = ⊥

@@ -127,6 +127,7 @@ pub fn keep_batch<P: Plant + Drop, C: Steady + Drop>(
     requires room2 { complex.old.pair.second.alive ≡ true → 1 ≤ C.room complex.old.pair.second.copy }
     ensures base { complex.new.base ≡ complex.old.base }
     ensures since { complex.new.since ≡ complex.old.since }
+    ensures renewals { complex.new.renewals ≡ complex.old.renewals }
     ensures book { complex.new.book ≡ complex.old.book }
     ensures id { member.new.id ≡ member.old.id }
     ensures room { member.new.room ≡ member.old.room }
@@ -199,6 +200,7 @@ pub fn give_up<P: Plant + Drop, C: Steady + Drop>(
     requires room2 { complex.old.pair.second.alive ≡ true → 1 ≤ C.room complex.old.pair.second.copy }
     ensures base { complex.new.base ≡ complex.old.base }
     ensures since { complex.new.since ≡ complex.old.since }
+    ensures renewals { complex.new.renewals ≡ complex.old.renewals }
     ensures book { complex.new.book ≡ complex.old.book }
     ensures id { member.new.id ≡ member.old.id }
     ensures acts { IsOnCopies {T = Unit {0}} P.tells member.old.id.0 complex.old.pair.first.alive

@@ -12,23 +12,20 @@ ghost use Rattle.mas_complex.specs.Meaning.{run};
 ghost use Rattle.mas_complex.specs.Parts.{parts_of};
 ghost use Rattle.mas_complex.specs.Spool.{IsGroupOf, IsHeldBy, IsVolumeOf};
 ghost use Rattle.mas_complex.specs.Texts.{IsSynced, IsThere, spools_at};
-ghost use Rattle.member_decks.specs.Spooling.{AreQuiet, OnVolumes, Rise, SparesOthers, SpoolCauses, StandBelow, answer_of, lies_there as lies_there_lem, page_in};
+ghost use Rattle.member_decks.specs.Spooling.{AreQuiet, OnVolumes, Rise, SpoolCauses, StandBelow, answer_of, lies_there as lies_there_lem, page_in};
 
 use mas_complex::{Complex, Steady};
 use mas_types::{GroupNo, Lines, MemberId, Page};
 use spool_disk::{Act, Plant};
 use spool_text::{law_of_groups, pack};
 use spool_volumes::{law_of_read_texts, volume_of};
-use thiserror::Error;
 
 /// Why a text doesn't stand in its groups.
-#[derive(Clone, Copy, Debug, PartialEq, Eq, Error)]
+#[derive(Clone, Copy)]
 pub enum SpoolError {
     /// This volume is lost.
-    #[error("a spool volume is lost")]
     Lost(u8),
     /// The member was stopped.
-    #[error("the member was stopped")]
     Halted,
 }
 
@@ -84,8 +81,6 @@ fn write_page<P: Plant + Drop, C: Steady + Drop>(
     ensures acts { OnVolumes P.tells by.0 (P.view complex.old.plant) (P.view complex.new.plant) }
     ensures cause { SpoolCauses result by.0 complex.old.base.config.groups (group ∷ []) (P.view complex.old.plant)
         (P.view complex.new.plant) }
-    ensures others { SparesOthers complex.old.base.config.groups (group ∷ []) (P.view complex.old.plant)
-        (P.view complex.new.plant) }
     ensures stands { OnOk result (P.tells → AreRoomy (P.view complex.old.plant) complex.old.base.config
         → slice_get (packed text.now) place
         ≡ Some (page_in (spools_at (P.view complex.new.plant) (P.view complex.new.plant).now)
@@ -126,8 +121,6 @@ pub fn write_pages<P: Plant + Drop, C: Steady + Drop>(
     ensures acts { OnVolumes P.tells by.0 (P.view complex.old.plant) (P.view complex.new.plant) }
     ensures cause { SpoolCauses result by.0 complex.old.base.config.groups groups.now (P.view complex.old.plant)
         (P.view complex.new.plant) }
-    ensures others { SparesOthers complex.old.base.config.groups groups.now (P.view complex.old.plant)
-        (P.view complex.new.plant) }
     ensures stand { OnOk result (P.tells → AreRoomy (P.view complex.old.plant) complex.old.base.config
         → StandBelow (length groups.now) (spools_at (P.view complex.new.plant) (P.view complex.new.plant).now)
         complex.old.base.config.groups (packed text.now) groups.now) }
@@ -157,8 +150,6 @@ fn sync_volume<P: Plant + Drop, C: Steady + Drop>(
     ensures acts { OnVolumes P.tells by.0 (P.view complex.old.plant) (P.view complex.new.plant) }
     ensures cause { SpoolCauses result by.0 complex.old.base.config.groups groups.now (P.view complex.old.plant)
         (P.view complex.new.plant) }
-    ensures others { SparesOthers complex.old.base.config.groups groups.now (P.view complex.old.plant)
-        (P.view complex.new.plant) }
     ensures synced { OnOk result (P.tells → (k : ℕ) (g : GroupNo) → slice_get groups.now k ≡ Some g
         → volume_of_lem complex.old.base.config.groups g ≡ volume
         → IsSynced (spools_at (P.view complex.new.plant) (P.view complex.new.plant).now) complex.old.base.config.groups
@@ -186,8 +177,6 @@ pub fn sync_volumes<P: Plant + Drop, C: Steady + Drop>(
     ensures frame { parts_of complex.new ≡ record (parts_of complex.old) { plant = complex.new.plant } }
     ensures acts { OnVolumes P.tells by.0 (P.view complex.old.plant) (P.view complex.new.plant) }
     ensures cause { SpoolCauses result by.0 complex.old.base.config.groups groups.now (P.view complex.old.plant)
-        (P.view complex.new.plant) }
-    ensures others { SparesOthers complex.old.base.config.groups groups.now (P.view complex.old.plant)
         (P.view complex.new.plant) }
     ensures synced { OnOk result (P.tells
         → All (IsSynced (spools_at (P.view complex.new.plant) (P.view complex.new.plant).now)
@@ -227,8 +216,6 @@ pub fn spool_text<P: Plant + Drop, C: Steady + Drop>(
     ensures frame { parts_of complex.new ≡ record (parts_of complex.old) { plant = complex.new.plant } }
     ensures acts { OnVolumes P.tells by.0 (P.view complex.old.plant) (P.view complex.new.plant) }
     ensures cause { SpoolCauses result by.0 complex.old.base.config.groups groups.now (P.view complex.old.plant)
-        (P.view complex.new.plant) }
-    ensures others { SparesOthers complex.old.base.config.groups groups.now (P.view complex.old.plant)
         (P.view complex.new.plant) }
     ensures there { OnOk result (P.tells → AreRoomy (P.view complex.old.plant) complex.old.base.config
         → IsThere (spools_at (P.view complex.new.plant) (P.view complex.new.plant).now) complex.old.base.config.groups

@@ -11,7 +11,7 @@ use Rattle.spool_disk.specs.declared.plant.Plant.{Ghosts as PlantGhosts}
 use Rattle.spool_volumes.specs.Volumes.{AreRoomy}
 use Rattle.track_groups.specs.Groups.{held_by}
 use Rattle.ckpt_copy.specs.declared.copying.Copying.{Ghosts as CopyGhosts}
-use Rattle.mas_complex.specs.declared.places.Place.{Place}
+use Rattle.ckpt_places.specs.declared.places.Place.{Place}
 use Rattle.mas_complex.specs.Journals.{AreSettled}
 use Rattle.mas_complex.specs.Locking.{reserved_after_stop}
 use Rattle.mas_complex.specs.Parts.{Parts}
@@ -21,19 +21,23 @@ use Rattle.member_node.specs.declared.member.Member.{Member}
 use Rattle.member_node.specs.declared.member.NodeNo.{NodeNo}
 use Rattle.member_node.specs.declared.member.NodeNo.TheVariants.{BothLost, Halted, ConsoleFault, NoMemory}
 use Rattle.member_node.specs.Reads.{IsCalm}
+use Rattle.member_node.specs.Calls.{VolumesStay, none_lost}
 use Rattle.member_node.specs.Spares.{Spares, is_stop}
-use Rattle.member_node.proofs.SpareLemmas.{spares_none}
+use Rattle.member_node.proofs.SpareLemmas.{sparing_more, sparing_none}
 use Rattle.member_steps.specs.Steps.{StepCauses}
 use Rattle.member_steps.proofs.ReadLemmas.{calm_rest, low_later, low_written, told_sound}
-use Rattle.member_decks.specs.Steps.{SpoolStops}
+use Rattle.member_decks.specs.Steps.{SpoolStops, names_volume}
+use Rattle.member_work.specs.Rounds.{names_read}
+use Rattle.member_hand.specs.Found.{names_found}
+use Rattle.member_hand.proofs.Passages.{or_none, passage_beside}
 use Rattle.member_decks.proofs.HeldLemmas.{all_held}
 use Rattle.member_decks.proofs.PageLemmas.{still_roomy}
 use Rattle.member_work.specs.Printing.{IsBeside}
-use Rattle.member_work.proofs.PrintedLemmas.{beside_none, beside_volumes, course_beside}
+use Rattle.member_work.proofs.PrintedLemmas.{beside_none, beside_volumes}
 use Rattle.step_turns.specs.declared.states.Found.{Found}
 use Rattle.step_turns.specs.States.{nothing_found}
 use Rattle.step_turns.specs.declared.states.State.{State}
-use Rattle.step_turns.specs.declared.states.Aside.TheVariants.{PrintLines, ReadText, SpoolDeck, SpoolOutputs}
+use Rattle.step_turns.specs.declared.states.Aside.TheVariants.{Acknowledge, Exchange, PrintLines, ReadText, SpoolArrival, SpoolDeck, SpoolOutputs}
 use Rattle.step_turns.specs.declared.states.State.TheVariants.{Away, Fresh, Rested, Told}
 use Rattle.member_sittings.specs.Gates.{IsOpen}
 use Rattle.member_sittings.specs.Whole.{Half, HoldsLock, IsAtRest, IsSeat, first_half, queue_of, second_half}
@@ -77,7 +81,7 @@ module _ {P C : Type 0} (plants : PlantGhosts P) (copies : CopyGhosts C) (y : Pa
   may_act (Away (ReadText runs n fields p)) w = record {
     may = may_aside;
     sound = seat.between.sound;
-    job = w.1;
+    there = w.1.there;
     still = λ t. record { was = queue_of y; told = seat.between.queue t; job = refl; groups = refl };
   }
   may_act (Away (SpoolOutputs n specs p)) w = record { may = may_aside; none = seat.still.none; outputs = w.outputs; enough = w.enough; held = held }
@@ -92,6 +96,9 @@ module _ {P C : Type 0} (plants : PlantGhosts P) (copies : CopyGhosts C) (y : Pa
     still = λ t. record { was = queue_of y; told = seat.between.queue t; output = refl; groups = refl; busy = refl; limit = refl };
     roomy = seat.still.roomy;
   }
+  may_act (Away (Exchange l offer)) w = absurd w
+  may_act (Away (SpoolArrival number job cards service)) w = absurd w
+  may_act (Away (Acknowledge number service)) w = absurd w
   may_act (Fresh task) w = tt
   may_act (Rested p) w = tt
   may_act Told w = tt
@@ -155,29 +162,48 @@ module _ {P C : Type 0} where
   book_then ConsoleFault by x y some few frame = ap (λ (q : Parts P C). q.book) frame
   book_then NoMemory by x y some few frame = ap (λ (q : Parts P C). q.book) frame
 
+-- THE VOLUMES THAT ARE NAMED
+
+-- acts that name fewer volumes
+stops_named : (few but : Found → ℕ → Bool) (by : ℕ) (v w : View) → ((f : Found) (n : ℕ) → but f n ≡ false → few f n ≡ false) → (r : Result Found NodeNo) → SpoolStops few r by v w → SpoolStops but r by v w
+stops_named few but by v w fewer (Ok found) stops = sparing_more by false (few found) (but found) v w (fewer found) stops
+stops_named few but by v w fewer (Err NoMemory) stops = stops
+stops_named few but by v w fewer (Err Halted) stops = stops
+stops_named few but by v w fewer (Err BothLost) stops = stops
+stops_named few but by v w fewer (Err ConsoleFault) stops = stops
+
+volume_named : (by : ℕ) (v w : View) (r : Result Found NodeNo) → SpoolStops (λ found. names_volume found.lost) r by v w → SpoolStops names_found r by v w
+volume_named by v w r stops = stops_named (λ found. names_volume found.lost) names_found by v w (λ f n none. (or_none (names_volume f.lost n) (names_read f.read n) none).0) r stops
+
+read_named : (by : ℕ) (v w : View) (r : Result Found NodeNo) → SpoolStops (λ found. names_read found.read) r by v w → SpoolStops names_found r by v w
+read_named by v w r stops = stops_named (λ found. names_read found.read) names_found by v w (λ f n none. (or_none (names_volume f.lost n) (names_read f.read n) none).1) r stops
+
 -- ACTS BESIDE THE COPIES, with the cause of their answer
 
 pub record ActsBeside (told : Type 0) (by : ℕ) (old new : View) (r : Result Found NodeNo) : Type 0 where
   pub beside : IsBeside told old new
-  pub cause : SpoolStops r by old new
+  pub cause : SpoolStops names_found r by old new
 
 module _ {P C : Type 0} (plants : PlantGhosts P) (copies : CopyGhosts C) where
   abbrev v : Parts P C → View
   v x = plants.view x.plant
 
-  none_done : (x y : Parts P C) (by : ℕ) (r : Result Found NodeNo) (found : Found) → y ≡ x → r ≡ Ok found → ActsBeside plants.tells by (v x) (v y) r
-  none_done x y by r found same is =
+  none_done : (x y : Parts P C) (by : ℕ) (r : Result Found NodeNo) → y ≡ x → r ≡ Ok nothing_found → ActsBeside plants.tells by (v x) (v y) r
+  none_done x y by r same is =
       subst (λ (q : Parts P C). ActsBeside plants.tells by (v x) (v q) r) (sym same)
-      (subst (λ (a : Result Found NodeNo). ActsBeside plants.tells by (v x) (v x) a) (sym is) (record { beside = beside_none plants.tells (v x); cause = spares_none by (v x) }))
+      (subst (λ (a : Result Found NodeNo). ActsBeside plants.tells by (v x) (v x) a) (sym is) (record { beside = beside_none plants.tells (v x); cause = sparing_more by false none_lost (names_found nothing_found) (v x) (v x) (λ n other. refl) (sparing_none by (v x)) }))
 
   pub acts_beside : (x y : Parts P C) (m : Member) (s : State) (r : Result Found NodeNo) → ActsAfter plants x y m s r → ActsBeside plants.tells m.id.0 (v x) (v y) r
-  acts_beside x y m (Away (SpoolDeck n text)) r a = record { beside = beside_volumes plants.tells m.id.0 (v x) (v y) a.1.acts; cause = a.1.cause }
-  acts_beside x y m (Away (ReadText runs n fields p)) r a = record { beside = beside_volumes plants.tells m.id.0 (v x) (v y) a.1.acts; cause = a.1.cause }
-  acts_beside x y m (Away (SpoolOutputs n specs p)) r a = record { beside = beside_volumes plants.tells m.id.0 (v x) (v y) a.1.acts; cause = a.1.cause }
-  acts_beside x y m (Away (PrintLines n i last p)) r a = record { beside = a.1.acts; cause = a.1.cause }
-  acts_beside x y m (Fresh task) r a = none_done x y m.id.0 r nothing_found a.0 a.1
-  acts_beside x y m (Rested p) r a = none_done x y m.id.0 r nothing_found a.0 a.1
-  acts_beside x y m Told r a = none_done x y m.id.0 r nothing_found a.0 a.1
+  acts_beside x y m (Away (SpoolDeck n text)) r a = record { beside = beside_volumes plants.tells m.id.0 (v x) (v y) a.1.acts; cause = volume_named m.id.0 (v x) (v y) r a.1.cause }
+  acts_beside x y m (Away (ReadText runs n fields p)) r a = record { beside = beside_volumes plants.tells m.id.0 (v x) (v y) a.1.acts; cause = read_named m.id.0 (v x) (v y) r a.1.cause }
+  acts_beside x y m (Away (SpoolOutputs n specs p)) r a = record { beside = beside_volumes plants.tells m.id.0 (v x) (v y) a.1.acts; cause = volume_named m.id.0 (v x) (v y) r a.1.cause }
+  acts_beside x y m (Away (PrintLines n i last p)) r a = record { beside = a.1.acts; cause = read_named m.id.0 (v x) (v y) r a.1.cause }
+  acts_beside x y m (Away (Exchange l offer)) r a = absurd a.1
+  acts_beside x y m (Away (SpoolArrival number job cards service)) r a = absurd a.1
+  acts_beside x y m (Away (Acknowledge number service)) r a = absurd a.1
+  acts_beside x y m (Fresh task) r a = none_done x y m.id.0 r a.0 a.1
+  acts_beside x y m (Rested p) r a = none_done x y m.id.0 r a.0 a.1
+  acts_beside x y m Told r a = none_done x y m.id.0 r a.0 a.1
 
   -- what they changed
   none_changed : (x y : Parts P C) (by : MemberId) (r : Result Found NodeNo) → y ≡ x → HasOnlyPrinted r by x y
@@ -188,18 +214,27 @@ module _ {P C : Type 0} (plants : PlantGhosts P) (copies : CopyGhosts C) where
   changed_only x y m (Away (ReadText runs n fields p)) r a = only_plant x y a.0 r m.id
   changed_only x y m (Away (SpoolOutputs n specs p)) r a = only_plant x y a.0 r m.id
   changed_only x y m (Away (PrintLines n i last p)) r a = a.0
+  changed_only x y m (Away (Exchange l offer)) r a = absurd a.1
+  changed_only x y m (Away (SpoolArrival number job cards service)) r a = absurd a.1
+  changed_only x y m (Away (Acknowledge number service)) r a = absurd a.1
   changed_only x y m (Fresh task) r a = none_changed x y m.id r a.0
   changed_only x y m (Rested p) r a = none_changed x y m.id r a.0
   changed_only x y m Told r a = none_changed x y m.id r a.0
 
   -- as acts of a step
-  spares_by : (e : NodeNo) (by : ℕ) (v w : View) → SpoolStops {T = Found} (Err e) by v w → Spares by (is_stop e) v w
-  spares_by NoMemory by v w cause = cause
-  spares_by Halted by v w cause = cause.0
+  spares_by : (e : NodeNo) (by : ℕ) (v w : View) → SpoolStops names_found (Err e) by v w → Spares by (is_stop e) v w
+  spares_by NoMemory by v w cause = cause.spares
+  spares_by Halted by v w cause = cause.0.spares
   spares_by BothLost by v w cause = absurd cause
   spares_by ConsoleFault by v w cause = absurd cause
 
-  caused_by : (e : NodeNo) (by : ℕ) (a b : Bool) (v w : View) → SpoolStops {T = Found} (Err e) by v w → StepCauses {T = Unit {0}} (Err e) by a a b b v w
+  pub stay_by : (e : NodeNo) (by : ℕ) (v w : View) → SpoolStops names_found (Err e) by v w → VolumesStay none_lost v w
+  stay_by NoMemory by v w cause = cause.volumes
+  stay_by Halted by v w cause = cause.0.volumes
+  stay_by BothLost by v w cause = absurd cause
+  stay_by ConsoleFault by v w cause = absurd cause
+
+  caused_by : (e : NodeNo) (by : ℕ) (a b : Bool) (v w : View) → SpoolStops names_found (Err e) by v w → StepCauses {T = Unit {0}} (Err e) by a a b b v w
   caused_by NoMemory by a b v w cause = inr (refl, refl)
   caused_by Halted by a b v w cause = (inr (refl, refl), cause.1)
   caused_by BothLost by a b v w cause = absurd cause
@@ -208,7 +243,7 @@ module _ {P C : Type 0} (plants : PlantGhosts P) (copies : CopyGhosts C) where
   pub acted_err : (x y : Parts P C) (by : MemberId) (e : NodeNo) → y ≡ asided y x → ActsBeside plants.tells by.0 (v x) (v y) (Err e) → HasActedIn plants copies by x y (Err e)
   acted_err x y by e frame a =
       subst (λ (q : Parts P C). HasActedIn plants copies by x q (Err e)) (sym frame) (record {
-        course = course_beside plants.tells x.first_alive x.second_alive (v x) (v y) a.beside;
+        course = passage_beside plants.tells x.first_alive x.second_alive (v x) (v y) a.beside;
         loses = λ t d. a.beside.loses d;
         spares = spares_by e by.0 (v x) (v y) a.cause;
         cause = caused_by e by.0 x.first_alive x.second_alive (v x) (v y) a.cause;
@@ -217,9 +252,9 @@ module _ {P C : Type 0} (plants : PlantGhosts P) (copies : CopyGhosts C) where
   pub acted_ok : (x y : Parts P C) (by : MemberId) (found : Found) → y ≡ asided y x → ActsBeside plants.tells by.0 (v x) (v y) (Ok found) → HasActedIn plants copies by x y (Ok tt)
   acted_ok x y by found frame a =
       subst (λ (q : Parts P C). HasActedIn plants copies by x q (Ok tt)) (sym frame) (record {
-        course = course_beside plants.tells x.first_alive x.second_alive (v x) (v y) a.beside;
+        course = passage_beside plants.tells x.first_alive x.second_alive (v x) (v y) a.beside;
         loses = λ t d. a.beside.loses d;
-        spares = a.cause;
+        spares = a.cause.spares;
         cause = inr (refl, refl);
       })
 

@@ -3,7 +3,7 @@ use Rattle.std.proofs.Common.{◌≡◌, ℕ, suc, ◌+◌, true, List, [], ◌�
 use Rattle.mas_types.specs.declared.ids.MemberId.{MemberId}
 use Rattle.mas_types.specs.declared.queues.Queue.{Queue}
 use Rattle.lock_cycle.specs.Books.{Book}
-use Rattle.run_turns.specs.Cuts.{Left, adds, adds_all, adds_first, adds_part, batches_cut, book_cut, cut_left, entries_of, inked_cut, kept_all, left_by, lines_cut, none_left, printed_cut, stopped_by, whole}
+use Rattle.run_turns.specs.Cuts.{Left, adds, adds_all, adds_first, adds_part, batches_cut, book_cut, cut_left, entries_of, given_cut, inked_cut, kept_all, left_by, lines_cut, none_left, printed_cut, stopped_by, whole}
 use Rattle.run_turns.specs.Pieces.{Piece, Play, after_pieces}
 use Rattle.run_turns.specs.Scenes.{count_then}
 use Rattle.run_turns.specs.Sights.{Cause, Cut, Halt}
@@ -14,6 +14,7 @@ pub record Follows (same : Type 0) (l k m : Left) : Type 0 where
   pub lines : m.lines ≡ l.lines ++ k.lines
   pub printed : m.printed ≡ l.printed ++ k.printed
   pub prints : m.prints ≡ l.prints + k.prints
+  pub given : m.given ≡ l.given ++ k.given
   pub count : same → m.count ≡ k.count
   pub book : m.book ≡ k.book
 
@@ -30,6 +31,7 @@ nothing_follows by l book count e = record {
   lines = sym (append-nil l.lines);
   printed = sym (append-nil l.printed);
   prints = omega arith;
+  given = sym (append-nil l.given);
   count = λ is. sym is;
   book = sym e;
 }
@@ -41,6 +43,7 @@ module _ (by : MemberId) (same : Type 0) (l : Left) where
     lines = more_of m.lines l.lines k.lines (map whole p.sitting.lines) f.lines;
     printed = more_of m.printed l.printed k.printed (map whole p.printed) f.printed;
     prints = more_prints m.prints l.prints k.prints p.prints f.prints;
+    given = more_of m.given l.given k.given p.given f.given;
     count = λ s. ap (λ (n : ℕ). count_then by (entries_of (kept_all p.sitting.batches)) n + length p.printed) (f.count s);
     book = ap (λ (b : Book). after_pieces b by (p ∷ [])) f.book;
   }
@@ -55,6 +58,7 @@ module _ (by : MemberId) (same : Type 0) (l : Left) where
     lines = more_of m.lines l.lines k.lines (lines_cut by halt p.sitting.lines) f.lines;
     printed = more_of m.printed l.printed k.printed (printed_cut by halt p.printed) f.printed;
     prints = more_prints m.prints l.prints k.prints (length (printed_cut by halt p.printed)) f.prints;
+    given = more_of m.given l.given k.given (given_cut by halt p.given) f.given;
     count = λ s. ap (λ (n : ℕ). count_then by (entries_of (batches_cut by halt p.sitting.batches)) n + inked_cut by halt p.printed) (f.count s);
     book = ap (λ (b : Book). book_cut by halt b p) f.book;
   }
@@ -69,6 +73,7 @@ module _ (by : MemberId) (same : Type 0) (l : Left) where
     lines = f.lines;
     printed = f.printed;
     prints = f.prints;
+    given = f.given;
     count = f.count;
     book = ap (λ (b : Book). stopped_by by why b) f.book;
   }

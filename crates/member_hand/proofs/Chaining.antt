@@ -81,6 +81,7 @@ module _ {P C : Type 0} {plants : PlantGhosts P} {steadies : SteadyGhosts C} {co
   pub record PlaysAsOne (x : Complex P C plants steadies copies) (p : Pause) (e : End (Complex P C plants steadies copies)) (r : Result (Unit {0}) NodeNo) : Type 0 where
     pub base : e.left.base ≡ x.base
     pub since : e.left.since ≡ x.since
+    pub renewals : e.left.renewals ≡ x.renewals
     pub id : e.member.id ≡ p.member.id
     pub played : HasPlayed plants copies (start_of p.stand) (parts_of x) (parts_of e.left) (length p.member.room) r
     pub next : OnOk r (IsAfterStep x e.left p.member e.member (start_of p.stand))
@@ -96,6 +97,7 @@ module _ {P C : Type 0} {plants : PlantGhosts P} {steadies : SteadyGhosts C} {co
       record {
         base = rest.base ∙ base;
         since = rest.since ∙ ap (λ (q : Parts P C). q.since) one.frame;
+        renewals = rest.renewals ∙ ap (λ (q : Parts P C). q.renewals) one.frame;
         id = rest.id ∙ one.id;
         played = step_then plants copies (start_of p.stand) (parts_of t.found) (parts_of t.left) (parts_of e.left) (length p.member.room) (more_steps p.stand.state t.after.stand.state falls)
             (sym (journal_is plants copies (parts_of t.left) quiet.none quiet.unplaced)) base (runs_keep_configuration t.found.base (kept_all t.found.journal.batches)).config
@@ -114,6 +116,7 @@ module _ {P C : Type 0} {plants : PlantGhosts P} {steadies : SteadyGhosts C} {co
   told_one p e at one told = record {
     base = refl;
     since = refl;
+    renewals = refl;
     id = refl;
     played = told_played plants copies (start_of at) (parts_of e.left) (length e.member.room) one.next.aside.quiet told
         (λ t. found_told e.found.base.config.groups p.stand.holder.by (plants.view e.found.plant) (plants.view e.left.plant) (queue_of (parts_of e.left)) at.state at.found told (one.piece.told t).finds);
@@ -130,7 +133,7 @@ module _ {P C : Type 0} {plants : PlantGhosts P} {steadies : SteadyGhosts C} {co
       subst (λ z. PlaysAsOne z p e (Ok done)) chain.0 (let at = chain.1.0 in piece_and p (turn_to e at) e (Ok done) chain.1.1 (told_one p e at chain.1.1 chain.1.2))
   as_one x p [] e (Err why) chain =
       let one = chain.1 in
-      subst (λ z. PlaysAsOne z p e (Err why)) chain.0 (record { base = ap (λ (q : Parts P C). q.base) one.frame; since = ap (λ (q : Parts P C). q.since) one.frame; id = one.id; played = one.played; next = tt })
+      subst (λ z. PlaysAsOne z p e (Err why)) chain.0 (record { base = ap (λ (q : Parts P C). q.base) one.frame; since = ap (λ (q : Parts P C). q.since) one.frame; renewals = ap (λ (q : Parts P C). q.renewals) one.frame; id = one.id; played = one.played; next = tt })
   as_one x p (t ∷ ts) e r chain = subst (λ z. PlaysAsOne z p e r) chain.0 (piece_and p t e r chain.1 (as_one t.left t.after ts e r chain.2))
 
   -- a value that ends as the chain left it
@@ -143,4 +146,4 @@ module _ {P C : Type 0} {plants : PlantGhosts P} {steadies : SteadyGhosts C} {co
   pub at_end : (x w y : Complex P C plants steadies copies) (p : Pause) (e : End (Complex P C plants steadies copies)) (r : Result (Unit {0}) NodeNo) → w ≡ y → y ≡ e.left → PlaysAsOne x p e r → EndsAs x w p.member e.member (start_of p.stand) r
   at_end x w y p e r one two plays =
       subst (λ z. EndsAs x z p.member e.member (start_of p.stand) r) (sym (one ∙ two))
-      (record { frame = played_frame (parts_of x) (parts_of e.left) plays.base plays.since; id = plays.id; played = plays.played; next = plays.next })
+      (record { frame = played_frame (parts_of x) (parts_of e.left) plays.base plays.since plays.renewals; id = plays.id; played = plays.played; next = plays.next })

@@ -18,7 +18,7 @@ use Rattle.mas_complex.specs.Paper.{counts_of}
 use Rattle.mas_complex.specs.Parts.{Parts}
 use Rattle.member_node.specs.declared.member.NodeNo.{NodeNo}
 use Rattle.member_node.specs.declared.member.NodeNo.TheVariants.{BothLost, Halted, ConsoleFault, NoMemory}
-use Rattle.member_node.specs.Calls.{console_now}
+use Rattle.member_node.specs.Calls.{VolumesStay, console_now, none_lost}
 use Rattle.member_sittings.specs.Left.{Reach, first_of}
 use Rattle.member_sittings.specs.Sat.{Start, journal_of}
 use Rattle.member_sittings.specs.Tight.{IfNoWork, IsTightBy}
@@ -30,7 +30,7 @@ use Rattle.step_turns.specs.States.{nothing_found}
 use Rattle.step_turns.specs.Sittings.{Sitting, sit}
 use Rattle.step_turns.specs.declared.states.Found.{Found}
 use Rattle.step_turns.specs.declared.states.State.{State}
-use Rattle.step_turns.specs.declared.states.Aside.TheVariants.{PrintLines, ReadText, SpoolDeck, SpoolOutputs}
+use Rattle.step_turns.specs.declared.states.Aside.TheVariants.{Acknowledge, Exchange, PrintLines, ReadText, SpoolArrival, SpoolDeck, SpoolOutputs}
 use Rattle.step_turns.specs.declared.states.Holder.{Holder}
 use Rattle.step_turns.specs.declared.states.State.TheVariants.{Away, Fresh, Rested, Told}
 use Rattle.member_sittings.specs.declared.ends.SittingEnd.{SittingEnd}
@@ -42,7 +42,7 @@ use Rattle.member_hand.specs.Plays.{HasActedIn, HasCut, HasToldStep, IsOwnPiece,
 use Rattle.member_hand.proofs.Fuel.{LosesPrinter, finds_here}
 use Rattle.member_hand.proofs.Halting.{pieces_own}
 use Rattle.member_hand.proofs.Reaching.{begun_by, fate_by, halt_by, part_some}
-use Rattle.member_hand.proofs.Sighting.{first_and_more, piece_now, sight_then}
+use Rattle.member_hand.proofs.Sighting.{first_and_more, piece_now, same_poured, sight_then}
 use Rattle.run_turns.specs.Pieces.{pieces_from}
 use Rattle.run_turns.specs.Scenes.{count_then}
 use Rattle.step_turns.specs.Courses.{holder_then}
@@ -103,9 +103,30 @@ calm_printer Q (Away (SpoolDeck n text)) = refl
 calm_printer Q (Away (SpoolOutputs n specs p)) = refl
 calm_printer Q (Away (ReadText runs n fields p)) = of_option (λ (j : Job). with_text j.text) (job_at Q n) (λ j. refl)
 calm_printer Q (Away (PrintLines n i last p)) = of_option (λ (o : Output). with_text o.text) (output_at Q n i) (λ o. refl)
+calm_printer Q (Away (Exchange l None)) = refl
+calm_printer Q (Away (Exchange l (Some o))) = of_option (λ (j : Job). with_text j.text) (job_at Q o.job) (λ j. refl)
+calm_printer Q (Away (SpoolArrival number job cards service)) = refl
+calm_printer Q (Away (Acknowledge number service)) = refl
 calm_printer Q (Fresh task) = refl
 calm_printer Q (Rested p) = refl
 calm_printer Q Told = refl
+
+of_wire : {A : Type 0} (f : A → Found) (o : Option A) → ((a : A) → (f a).wire ≡ false) → (option_map_or f o nothing_found).wire ≡ false
+of_wire f None none = refl
+of_wire f (Some a) none = none a
+
+calm_wire : (Q : Queue) (s : State) → (calm Q s).wire ≡ false
+calm_wire Q (Away (SpoolDeck n text)) = refl
+calm_wire Q (Away (SpoolOutputs n specs p)) = refl
+calm_wire Q (Away (ReadText runs n fields p)) = of_wire (λ (j : Job). with_text j.text) (job_at Q n) (λ j. refl)
+calm_wire Q (Away (PrintLines n i last p)) = of_wire (λ (o : Output). with_text o.text) (output_at Q n i) (λ o. refl)
+calm_wire Q (Away (Exchange l None)) = refl
+calm_wire Q (Away (Exchange l (Some o))) = of_wire (λ (j : Job). with_text j.text) (job_at Q o.job) (λ j. refl)
+calm_wire Q (Away (SpoolArrival number job cards service)) = refl
+calm_wire Q (Away (Acknowledge number service)) = refl
+calm_wire Q (Fresh task) = refl
+calm_wire Q (Rested p) = refl
+calm_wire Q Told = refl
 
 calm_loses : (Q : Queue) (s : State) → (calm Q s).printer ≡ true → LosesPrinter s (calm Q s)
 calm_loses Q s is = absurd (let no : true ≡ false = sym is ∙ calm_printer Q s in cc)
@@ -205,15 +226,16 @@ module _ {P C : Type 0} (plants : PlantGhosts P) (copies : CopyGhosts C) where
     more = pieces_from (sittings_most t.next) clear (count_then s.holder.by (all_entries t.batches) count + length p.printed) now (holder_then (queue_of x) s.holder (all_entries t.batches)) t.next
 
     pieces_are : pieces_at plants copies sight x s.holder s.state ≡ p ∷ more
-    pieces_are = first_and_more clear s.found (calm now t.next) 0 (Some (cut_at e halt)) count (queue_of x) s.holder s.state ne refl (calm_loses now t.next) p refl
+    pieces_are = first_and_more clear s.found (calm now t.next) 0 (Some (cut_at e halt)) count (queue_of x) s.holder s.state ne refl (calm_loses now t.next) (λ i j. same_poured i j t.next (calm now t.next) (calm_wire now t.next)) p refl
 
-    pub told_cut : IfNoWork s.state (IsTight e halt p.sitting) → IsBroken e halt p.sitting → IsLeftAt (Unit {0}) s.holder.by p e halt x w → w.book ≡ stopped_for s.holder.by (cause_by e) (book_cut s.holder.by halt x.book p) → HasToldStep plants copies s x w (Err e)
-    told_cut tight broke i book = record {
+    pub told_cut : VolumesStay none_lost (v x) (v w) → IfNoWork s.state (IsTight e halt p.sitting) → IsBroken e halt p.sitting → IsLeftAt (Unit {0}) s.holder.by p e halt x w → w.book ≡ stopped_for s.holder.by (cause_by e) (book_cut s.holder.by halt x.book p) → HasToldStep plants copies s x w (Err e)
+    told_cut volumes tight broke i book = record {
       sight = sight;
       pieces = p ∷ more;
       is = sym pieces_are;
       found = finds_here (sittings_most s.state) s.found clear.finds (queue_of x) s.state refl;
       finds = All-nil _;
+      volumes = volumes;
       cut = record {
         of = subst (λ (ps : List Piece). All (IsOwnPiece s.holder.by s.holder.step) ps) pieces_are (pieces_own sight (sittings_most s.state) count (queue_of x) s.holder s.state);
         by_answer = cut_is (Unit {0}) s.holder.by p e halt x w i more;

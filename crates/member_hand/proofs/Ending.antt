@@ -7,8 +7,8 @@ use Rattle.ckpt_copy.specs.declared.copying.Copying.{Ghosts as CopyGhosts}
 use Rattle.mas_complex.specs.Journals.{end_of}
 use Rattle.mas_complex.specs.Parts.{Parts}
 use Rattle.mas_complex.specs.Paper.{SamePapers}
-use Rattle.member_node.specs.Calls.{IsOnlyOn, console_now}
-use Rattle.member_node.proofs.CourseLemmas.{course_none, only_none, papers_none}
+use Rattle.member_node.specs.Calls.{IsOnlyOn, console_now, none_lost}
+use Rattle.member_node.proofs.CourseLemmas.{course_none, only_none, papers_none, stay_none}
 use Rattle.member_node.proofs.SpareLemmas.{spares_none}
 use Rattle.step_turns.specs.States.{nothing_found}
 use Rattle.step_turns.specs.declared.states.State.{State}
@@ -20,6 +20,7 @@ use Rattle.member_sittings.specs.Tight.{IfNoWork}
 use Rattle.member_hand.specs.Shapes.{AreShaped}
 use Rattle.member_hand.specs.Plays.{IfCommand, HasActedIn, HasCut, HasPlayed, pieces_at}
 use Rattle.member_hand.specs.Quiet.{IsQuiet}
+use Rattle.member_hand.proofs.Passages.{passage_of}
 
 module _ {P C : Type 0} (plants : PlantGhosts P) (copies : CopyGhosts C) where
   abbrev v : Parts P C → View
@@ -38,7 +39,7 @@ module _ {P C : Type 0} (plants : PlantGhosts P) (copies : CopyGhosts C) where
     }
 
     nothing_acted : HasActedIn plants copies s.holder.by x x (Ok tt)
-    nothing_acted = record { course = course_none x.first_alive x.second_alive (v x); loses = λ t d. refl; spares = spares_none s.holder.by.0 (v x); cause = inr (refl, refl) }
+    nothing_acted = record { course = passage_of x.first_alive x.first_alive x.second_alive x.second_alive (v x) (v x) (course_none x.first_alive x.second_alive (v x)); loses = λ t d. refl; spares = spares_none s.holder.by.0 (v x); cause = inr (refl, refl) }
 
     pub told_played : HasPlayed plants copies s x x pages (Ok tt)
     told_played = record {
@@ -58,6 +59,7 @@ module _ {P C : Type 0} (plants : PlantGhosts P) (copies : CopyGhosts C) where
         is = ap (λ (u : State). pieces_at plants copies clear x s.holder u) (sym told);
         found = ap (λ (u : State). clear.finds (queue_of x) u) told ∙ sym (found t);
         finds = All-nil _;
+        volumes = stay_none none_lost (v x);
         cut = nothing_left;
         tight = subst (λ (u : State). IfNoWork u (Unit {0})) (sym told) tt;
         broke = tt;

@@ -21,7 +21,7 @@ use Rattle.step_turns.specs.declared.states.Grant.{Grant}
 use Rattle.step_turns.specs.declared.states.Grant.TheVariants.{ByLock, ForStep}
 use Rattle.step_turns.specs.declared.states.Holder.{Holder}
 use Rattle.step_turns.specs.declared.states.State.{State}
-use Rattle.step_turns.specs.declared.states.Aside.TheVariants.{PrintLines, ReadText, SpoolDeck, SpoolOutputs}
+use Rattle.step_turns.specs.declared.states.Aside.TheVariants.{Acknowledge, Exchange, PrintLines, ReadText, SpoolArrival, SpoolDeck, SpoolOutputs}
 use Rattle.step_turns.specs.declared.states.State.TheVariants.{Away, Fresh, Rested, Told}
 use Rattle.run_turns.specs.Pieces.{entered}
 use Rattle.member_sittings.specs.Asides.{lowest_groups}
@@ -129,6 +129,9 @@ module _ {P C : Type 0} (plants : PlantGhosts P) (copies : CopyGhosts C) (x z : 
     },
   )
   right_now me (Away (PrintLines n i last p)) found r = r
+  right_now me (Away (Exchange l offer)) found r = r
+  right_now me (Away (SpoolArrival number job cards service)) found r = r
+  right_now me (Away (Acknowledge number service)) found r = r
   right_now me (Rested p) found r = r
   right_now me Told found r = r
 

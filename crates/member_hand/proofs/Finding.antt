@@ -38,7 +38,7 @@ use Rattle.step_turns.specs.States.{nothing_found}
 use Rattle.step_turns.specs.declared.states.Found.{Found}
 use Rattle.step_turns.specs.declared.states.State.{State}
 use Rattle.step_turns.specs.declared.states.Task.{Task}
-use Rattle.step_turns.specs.declared.states.Aside.TheVariants.{PrintLines, ReadText, SpoolDeck, SpoolOutputs}
+use Rattle.step_turns.specs.declared.states.Aside.TheVariants.{Acknowledge, Exchange, PrintLines, ReadText, SpoolArrival, SpoolDeck, SpoolOutputs}
 use Rattle.step_turns.specs.declared.states.State.TheVariants.{Away, Fresh, Rested, Told}
 use Rattle.member_sittings.specs.Asides.{LiesOnOne, deck_found, lowest_groups}
 use Rattle.member_sittings.specs.Whole.{IsSeat, queue_of}
@@ -98,6 +98,9 @@ module _ {P C : Type 0} (plants : PlantGhosts P) (copies : CopyGhosts C) (y : Pa
         there = its.there;
         as_had = read_told plants.tells y.base.config.groups its.output.text (groups_of (OutputThing n i) (queue_of y).owners) found.read (v y) (v u) t (a.1.finds.read t (seat.still.roomy t) its.output its.there);
       }
+  here (Away (Exchange l offer)) found t w a = absurd w
+  here (Away (SpoolArrival number job cards service)) found t w a = absurd w
+  here (Away (Acknowledge number service)) found t w a = absurd w
   here (Fresh task) found t w a = one_found found nothing_found a.1
   here (Rested p) found t w a = one_found found nothing_found a.1
   here Told found t w a = one_found found nothing_found a.1
@@ -142,6 +145,9 @@ module _ {P C : Type 0} (plants : PlantGhosts P) (copies : CopyGhosts C) (y : Pa
     λ none t. subst (λ (Q : Queue). IsMarkRight Q m.id (counts_of u.printed m.id) (command.Mark n i last)) (sym queue)
         (lines_resume (queue_of y) m.id n i last (counts_of u.printed m.id) somebody (λ o is. a.1.finds.counted none t o is)),
   )
+  right_here (Away (Exchange l offer)) found fresh ne queue base w a = absurd w
+  right_here (Away (SpoolArrival number job cards service)) found fresh ne queue base w a = absurd w
+  right_here (Away (Acknowledge number service)) found fresh ne queue base w a = absurd w
   right_here (Fresh task) found fresh ne queue base w a = absurd (fresh task refl)
   right_here (Rested p) found fresh ne queue base w a = one_found found nothing_found a.1
   right_here Told found fresh ne queue base w a = absurd (ne refl)
@@ -195,10 +201,13 @@ module _ {P C : Type 0} (plants : PlantGhosts P) (copies : CopyGhosts C) (y : Pa
     printer = λ is. absurd (no_printer found (ap (λ (f : Found). f.printer) a.1.finds.only) is);
   }
   failed_here (Away (PrintLines n i last p)) found a = record {
-    lost = subst (λ (l : Option ℕ). IsFoundLost l (v y) (v u)) (sym a.1.finds.only) tt;
+    lost = subst (λ (l : Option ℕ). IsFoundLost l (v y) (v u)) (sym (ap (λ (f : Found). f.lost) a.1.finds.only)) tt;
     read = read_of y.base.config.groups (groups_of (OutputThing n i) m.checkpoint.tables.owners) found.read (v y) (v u) a.1.finds.failed;
     printer = a.1.finds.printer;
   }
+  failed_here (Away (Exchange l offer)) found a = absurd a.1
+  failed_here (Away (SpoolArrival number job cards service)) found a = absurd a.1
+  failed_here (Away (Acknowledge number service)) found a = absurd a.1
   failed_here (Fresh task) found a = failed_none found (v u) (one_found found nothing_found a.1)
   failed_here (Rested p) found a = failed_none found (v u) (one_found found nothing_found a.1)
   failed_here Told found a = failed_none found (v u) (one_found found nothing_found a.1)

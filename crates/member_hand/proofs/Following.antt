@@ -1,5 +1,5 @@
 -- A piece of a step that is whole, and the step from there on, are the step.
-use Rattle.std.proofs.Common.{◌≡◌, ◌≢◌, ℕ, zero, suc, ◌+◌, ◌≤◌, ◌<◌, true, false, List, [], ◌∷◌, ◌++◌, length, take, All, Option, Some, None, Result, Ok, Err, IfErr, append_assoc, refl, sym, ap, ◌∙◌, subst, arith}
+use Rattle.std.proofs.Common.{◌≡◌, ◌≢◌, ◌||◌, Bool, ℕ, zero, suc, ◌+◌, ◌≤◌, ◌<◌, true, false, List, [], ◌∷◌, ◌++◌, length, take, All, Option, Some, None, Result, Ok, Err, IfErr, append_assoc, refl, sym, ap, ◌∙◌, subst, arith}
 use Rattle.std.proofs.lemmas.List.Elements.{All-cons, All-head, All-nil, All-tail}
 use Rattle.mas_types.specs.declared.ids.MemberId.{MemberId}
 use Rattle.mas_types.specs.declared.journals.Batch.{Batch}
@@ -22,8 +22,8 @@ use Rattle.ckpt_copy.specs.Moments.{goes_none}
 use Rattle.mas_complex.specs.Paper.{SamePapers, counts_of}
 use Rattle.mas_complex.specs.Parts.{Parts}
 use Rattle.member_node.specs.declared.member.NodeNo.{NodeNo}
-use Rattle.member_node.specs.Calls.{IsOnlyOn, console_now}
-use Rattle.member_node.proofs.CourseLemmas.{course_then, only_on, papers_on, rose_later, rose_more}
+use Rattle.member_node.specs.Calls.{IsOnlyOn, VolumesStay, console_now}
+use Rattle.member_node.proofs.CourseLemmas.{only_on, papers_on, rose_later, rose_more, stay_both, stay_more}
 use Rattle.member_node.proofs.SpareLemmas.{spares_then}
 use Rattle.member_decks.proofs.OpenLemmas.{on_ok}
 use Rattle.member_decks.proofs.OutcomeLemmas.{causes_then}
@@ -34,14 +34,14 @@ use Rattle.step_turns.specs.Courses.{hold_then, holder_then, sittings_most}
 use Rattle.step_turns.specs.Entries.{all_entries}
 use Rattle.step_turns.specs.Sittings.{Sitting, sit}
 use Rattle.step_turns.specs.declared.states.Aside.{Aside}
-use Rattle.step_turns.specs.declared.states.Aside.TheVariants.{PrintLines, ReadText, SpoolDeck, SpoolOutputs}
+use Rattle.step_turns.specs.declared.states.Aside.TheVariants.{Acknowledge, Exchange, PrintLines, ReadText, SpoolArrival, SpoolDeck, SpoolOutputs}
 use Rattle.step_turns.specs.declared.states.Found.{Found}
 use Rattle.step_turns.specs.declared.states.Holder.{Holder}
 use Rattle.step_turns.specs.declared.states.State.{State}
 use Rattle.step_turns.specs.declared.states.State.TheVariants.{Away, Fresh, Rested, Told}
-use Rattle.step_turns.specs.declared.states.Task.TheVariants.{Deck as DeckTask, Give, Work}
+use Rattle.step_turns.specs.declared.states.Task.TheVariants.{Deck as DeckTask, Give, Line as LineTask, Work}
 use Rattle.step_turns.specs.Laws.{units_done, units_left}
-use Rattle.run_turns.specs.Pieces.{Piece, piece_at, pieces_from, unless_told}
+use Rattle.run_turns.specs.Pieces.{Piece, piece_at, pieces_from, poured, unless_told}
 use Rattle.run_turns.specs.Scenes.{Batched, count_then}
 use Rattle.run_turns.specs.Sights.{Cut, Halt, Sight}
 use Rattle.run_turns.proofs.Locks.{entries_kept}
@@ -52,7 +52,8 @@ use Rattle.member_sittings.specs.Tight.{IfNoWork}
 use Rattle.member_units.specs.Asides.{lowest_for}
 use Rattle.member_sittings.specs.Whole.{queue_of}
 use Rattle.member_hand.specs.Cuts.{AreBatched, AtCut, IsBetweenSittings, IsBroken, IsCutBy, IsTight, whole_pieces}
-use Rattle.member_hand.specs.Found.{AreFoundIn, FindsWritten, IsFoundAt, Wait, waits_in}
+use Rattle.member_hand.specs.Found.{AreFoundIn, FindsWritten, IsFoundAt, Wait, named_in, names_found, waits_in}
+use Rattle.member_hand.proofs.Passages.{or_none, passage_then}
 use Rattle.member_hand.specs.Plays.{HasActedIn, HasCut, HasPieced, HasPlayed, HasToldPiece, HasToldStep, IfCommand, IsOwnPiece, IsPiece, Leaves, Writes, left_of, one_left, piece_with, pieces_at}
 use Rattle.member_hand.specs.Shapes.{AreShaped}
 use Rattle.member_hand.specs.Sits.{ComesTo}
@@ -92,6 +93,10 @@ if_err (Err e) A B f a = f e a
 
 both_dry : (s n : State) (A B D : Type 0) → ComesTo s n → (A → B → D) → IfNoWork s A → IfNoWork n B → IfNoWork s D
 both_dry (Fresh (Work k)) n A B D comes f a b = tt
+both_dry (Fresh (LineTask l)) n A B D comes f a b = tt
+both_dry (Away (Exchange l offer)) n A B D comes f a b = tt
+both_dry (Away (SpoolArrival number job cards service)) n A B D comes f a b = tt
+both_dry (Away (Acknowledge number service)) n A B D comes f a b = tt
 both_dry (Away (ReadText runs k fields p)) n A B D comes f a b = tt
 both_dry (Away (SpoolOutputs k specs p)) n A B D comes f a b = tt
 both_dry (Away (PrintLines k i last p)) n A B D comes f a b = tt
@@ -103,6 +108,9 @@ both_dry (Fresh (Give c)) (Away (SpoolDeck j cards)) A B D comes f a b = absurd 
 both_dry (Fresh (Give c)) (Away (ReadText other j those q)) A B D comes f a b = absurd comes
 both_dry (Fresh (Give c)) (Away (SpoolOutputs j those q)) A B D comes f a b = absurd comes
 both_dry (Fresh (Give c)) (Away (PrintLines j i last q)) A B D comes f a b = absurd comes
+both_dry (Fresh (Give c)) (Away (Exchange l offer)) A B D comes f a b = absurd comes
+both_dry (Fresh (Give c)) (Away (SpoolArrival number job cards service)) A B D comes f a b = absurd comes
+both_dry (Fresh (Give c)) (Away (Acknowledge number service)) A B D comes f a b = absurd comes
 both_dry (Fresh (DeckTask fields text)) Told A B D comes f a b = f a b
 both_dry (Fresh (DeckTask fields text)) (Fresh task) A B D comes f a b = absurd comes
 both_dry (Fresh (DeckTask fields text)) (Rested q) A B D comes f a b = absurd comes
@@ -110,6 +118,9 @@ both_dry (Fresh (DeckTask fields text)) (Away (SpoolDeck j cards)) A B D comes f
 both_dry (Fresh (DeckTask fields text)) (Away (ReadText other j those q)) A B D comes f a b = absurd comes
 both_dry (Fresh (DeckTask fields text)) (Away (SpoolOutputs j those q)) A B D comes f a b = absurd comes
 both_dry (Fresh (DeckTask fields text)) (Away (PrintLines j i last q)) A B D comes f a b = absurd comes
+both_dry (Fresh (DeckTask fields text)) (Away (Exchange l offer)) A B D comes f a b = absurd comes
+both_dry (Fresh (DeckTask fields text)) (Away (SpoolArrival number job cards service)) A B D comes f a b = absurd comes
+both_dry (Fresh (DeckTask fields text)) (Away (Acknowledge number service)) A B D comes f a b = absurd comes
 both_dry (Away (SpoolDeck k text)) Told A B D comes f a b = f a b
 both_dry (Away (SpoolDeck k text)) (Fresh task) A B D comes f a b = absurd comes
 both_dry (Away (SpoolDeck k text)) (Rested q) A B D comes f a b = absurd comes
@@ -117,6 +128,9 @@ both_dry (Away (SpoolDeck k text)) (Away (SpoolDeck j cards)) A B D comes f a b 
 both_dry (Away (SpoolDeck k text)) (Away (ReadText other j those q)) A B D comes f a b = absurd comes
 both_dry (Away (SpoolDeck k text)) (Away (SpoolOutputs j those q)) A B D comes f a b = absurd comes
 both_dry (Away (SpoolDeck k text)) (Away (PrintLines j i last q)) A B D comes f a b = absurd comes
+both_dry (Away (SpoolDeck k text)) (Away (Exchange l offer)) A B D comes f a b = absurd comes
+both_dry (Away (SpoolDeck k text)) (Away (SpoolArrival number job cards service)) A B D comes f a b = absurd comes
+both_dry (Away (SpoolDeck k text)) (Away (Acknowledge number service)) A B D comes f a b = absurd comes
 both_dry Told Told A B D comes f a b = f a b
 both_dry Told (Fresh task) A B D comes f a b = absurd comes
 both_dry Told (Rested q) A B D comes f a b = absurd comes
@@ -124,10 +138,14 @@ both_dry Told (Away (SpoolDeck j cards)) A B D comes f a b = absurd comes
 both_dry Told (Away (ReadText other j those q)) A B D comes f a b = absurd comes
 both_dry Told (Away (SpoolOutputs j those q)) A B D comes f a b = absurd comes
 both_dry Told (Away (PrintLines j i last q)) A B D comes f a b = absurd comes
+both_dry Told (Away (Exchange l offer)) A B D comes f a b = absurd comes
+both_dry Told (Away (SpoolArrival number job cards service)) A B D comes f a b = absurd comes
+both_dry Told (Away (Acknowledge number service)) A B D comes f a b = absurd comes
 
 both_still : (s n : State) (A B D : Type 0) → ComesTo s n → (A → B → D) → IfCommand s A → IfCommand n B → IfCommand s D
 both_still (Fresh (DeckTask fields text)) n A B D comes f a b = tt
 both_still (Fresh (Work k)) n A B D comes f a b = tt
+both_still (Fresh (LineTask l)) n A B D comes f a b = tt
 both_still (Away aside) n A B D comes f a b = tt
 both_still (Rested p) n A B D comes f a b = tt
 both_still (Fresh (Give c)) Told A B D comes f a b = f a b
@@ -137,6 +155,9 @@ both_still (Fresh (Give c)) (Away (SpoolDeck j cards)) A B D comes f a b = absur
 both_still (Fresh (Give c)) (Away (ReadText other j those q)) A B D comes f a b = absurd comes
 both_still (Fresh (Give c)) (Away (SpoolOutputs j those q)) A B D comes f a b = absurd comes
 both_still (Fresh (Give c)) (Away (PrintLines j i last q)) A B D comes f a b = absurd comes
+both_still (Fresh (Give c)) (Away (Exchange l offer)) A B D comes f a b = absurd comes
+both_still (Fresh (Give c)) (Away (SpoolArrival number job cards service)) A B D comes f a b = absurd comes
+both_still (Fresh (Give c)) (Away (Acknowledge number service)) A B D comes f a b = absurd comes
 both_still Told Told A B D comes f a b = f a b
 both_still Told (Fresh task) A B D comes f a b = absurd comes
 both_still Told (Rested q) A B D comes f a b = absurd comes
@@ -144,6 +165,9 @@ both_still Told (Away (SpoolDeck j cards)) A B D comes f a b = absurd comes
 both_still Told (Away (ReadText other j those q)) A B D comes f a b = absurd comes
 both_still Told (Away (SpoolOutputs j those q)) A B D comes f a b = absurd comes
 both_still Told (Away (PrintLines j i last q)) A B D comes f a b = absurd comes
+both_still Told (Away (Exchange l offer)) A B D comes f a b = absurd comes
+both_still Told (Away (SpoolArrival number job cards service)) A B D comes f a b = absurd comes
+both_still Told (Away (Acknowledge number service)) A B D comes f a b = absurd comes
 
 tight_later : (r : Result (Unit {0}) NodeNo) (s n : State) → ComesTo s n → (cut : Option Cut) (p : Piece) (ps : List Piece) → IfNoWork n (IfErr r (λ e. AtCut (IsTight e) cut ps)) → IfNoWork s (IfErr r (λ e. AtCut (IsTight e) (after_one cut) (p ∷ ps)))
 tight_later r s n comes cut p ps is =
@@ -158,7 +182,7 @@ module _ {P C : Type 0} (plants : PlantGhosts P) (copies : CopyGhosts C) where
 
   pub acts_then : (by : MemberId) (x y z : Parts P C) (r : Result (Unit {0}) NodeNo) → HasActedIn plants copies by x y (Ok tt) → HasActedIn plants copies by y z r → HasActedIn plants copies by x z r
   acts_then by x y z r one two = record {
-    course = course_then x.first_alive y.first_alive z.first_alive x.second_alive y.second_alive z.second_alive (v x) (v y) (v z) one.course two.course;
+    course = passage_then x.first_alive y.first_alive z.first_alive x.second_alive y.second_alive z.second_alive (v x) (v y) (v z) one.course two.course;
     loses = λ t d. two.loses t d ∙ one.loses t d;
     spares = spares_then by.0 _ (v x) (v y) (v z) one.spares two.spares;
     cause = causes_then r by.0 x.first_alive y.first_alive z.first_alive x.second_alive y.second_alive z.second_alive (v x) (v y) (v z) one.cause one.course.goes two.cause;
@@ -229,6 +253,9 @@ module _ (per : ℕ) (old v0 v1 new : View) (before : Goes old v0) (after : Goes
     there = f.there;
     as_had = read_in (Unit {0}) f.output.text (groups_of (OutputThing n i) Q.owners) found.read f.as_had;
   }
+  aside_in by Q (Exchange l offer) found f = f
+  aside_in by Q (SpoolArrival number job cards service) found f = f
+  aside_in by Q (Acknowledge number service) found f = f
 
   pub found_in : (by : MemberId) (Q : Queue) (s : State) (found : Found) → IsFoundAt per by v0 v1 Q s found → IsFoundAt per by old new Q s found
   found_in by Q (Away a) found f = aside_in by Q a found f
@@ -245,9 +272,25 @@ printer_lost per by old new Q (Away (PrintLines n i last p)) found f e = e
 printer_lost per by old new Q (Away (SpoolDeck n text)) found f e = absurd (false_true (sym (ap (λ (x : Found). x.printer) f.only) ∙ e))
 printer_lost per by old new Q (Away (SpoolOutputs n specs p)) found f e = absurd (false_true (sym (ap (λ (x : Found). x.printer) f.only) ∙ e))
 printer_lost per by old new Q (Away (ReadText runs n fields p)) found f e = absurd (false_true (sym (ap (λ (x : Found). x.printer) f.only) ∙ e))
+printer_lost per by old new Q (Away (Exchange l offer)) found f e = absurd f
+printer_lost per by old new Q (Away (SpoolArrival number job cards service)) found f e = absurd f
+printer_lost per by old new Q (Away (Acknowledge number service)) found f e = absurd f
 printer_lost per by old new Q (Fresh task) found f e = absurd (false_true (sym (ap (λ (x : Found). x.printer) f) ∙ e))
 printer_lost per by old new Q (Rested p) found f e = absurd (false_true (sym (ap (λ (x : Found). x.printer) f) ∙ e))
 printer_lost per by old new Q Told found f e = absurd (false_true (sym (ap (λ (x : Found). x.printer) f) ∙ e))
+
+-- and no step gives bytes on a line yet
+pub same_given : (per : ℕ) (by : MemberId) (old new : View) (Q : Queue) (s : State) (found : Found) → IsFoundAt per by old new Q s found → (i j : ℕ) → poured i s found ≡ poured j s found
+same_given per by old new Q (Away (Exchange l offer)) found f i j = absurd f
+same_given per by old new Q (Away (Acknowledge number service)) found f i j = absurd f
+same_given per by old new Q (Away (SpoolArrival number job cards service)) found f i j = refl
+same_given per by old new Q (Away (SpoolDeck n text)) found f i j = refl
+same_given per by old new Q (Away (ReadText runs n fields p)) found f i j = refl
+same_given per by old new Q (Away (SpoolOutputs n specs p)) found f i j = refl
+same_given per by old new Q (Away (PrintLines n output last p)) found f i j = refl
+same_given per by old new Q (Fresh task) found f i j = refl
+same_given per by old new Q (Rested p) found f i j = refl
+same_given per by old new Q Told found f i j = refl
 
 -- WHERE A STEP WAITS LATER it has fewer sittings before it
 
@@ -346,6 +389,11 @@ module _ {P C : Type 0} (plants : PlantGhosts P) (copies : CopyGhosts C) (s : St
           subst (λ (u : State). LosesPrinter u n.found) state_is
           (printer_lost x.base.config.groups me (w x) (w y) (queue_of y) n.state n.found one.finds e)
 
+      gives_next : (i j : ℕ) → poured i t.next n.found ≡ poured j t.next n.found
+      gives_next i j =
+          subst (λ (u : State). poured i u n.found ≡ poured j u n.found) state_is
+          (same_given x.base.config.groups me (w x) (w y) (queue_of y) n.state n.found one.finds i j)
+
       -- the piece, as the pure words have it
       is_now : p ≡ piece_now count (queue_of x) s.holder t n.found one.inked
       is_now =
@@ -372,11 +420,17 @@ module _ {P C : Type 0} (plants : PlantGhosts P) (copies : CopyGhosts C) (s : St
       its_pieces : p ∷ two.pieces ≡ pieces_at plants copies sight x s.holder s.state
       its_pieces =
           ap (λ (ps : List Piece). p ∷ ps) (two.is ∙ pieces_are)
-          ∙ sym (first_and_more two.sight s.found n.found one.inked (after_one two.sight.cut) count (queue_of x) s.holder s.state ne found_next loses_next p is_now)
+          ∙ sym (first_and_more two.sight s.found n.found one.inked (after_one two.sight.cut) count (queue_of x) s.holder s.state ne found_next loses_next gives_next p is_now)
 
       -- what was found
       fewer : sittings_most p.sitting.next < most
       fewer = subst (λ (u : Sitting). sittings_most u.next < most) (sym sits) (steps_end (queue_of x) s.holder s.state s.found ne)
+
+      found_now : n.found ≡ sight.finds (run (queue_of x) (all_entries p.sitting.batches)) p.sitting.next
+      found_now =
+          let now = run (queue_of x) (all_entries p.sitting.batches) in
+          sym (finds_later most s.found two.sight.finds now p.sitting.next fewer
+          ∙ ap (λ (Q : Queue). two.sight.finds Q p.sitting.next) (sym one.queue) ∙ ap (λ (u : State). two.sight.finds (queue_of y) u) (sym one.one.state) ∙ two.found)
 
       first_found : IsFoundAt x.base.config.groups me (w x) (w z) (run (queue_of x) (all_entries p.sitting.batches)) p.sitting.next
           (sight.finds (run (queue_of x) (all_entries p.sitting.batches)) p.sitting.next)
@@ -384,10 +438,7 @@ module _ {P C : Type 0} (plants : PlantGhosts P) (copies : CopyGhosts C) (s : St
           let now = run (queue_of x) (all_entries p.sitting.batches) in
           let here : IsFoundAt x.base.config.groups me (w x) (w z) (queue_of y) n.state n.found =
           found_in x.base.config.groups (w x) (w x) (w y) (w z) (goes_none (w x)) later me (queue_of y) n.state n.found one.finds in
-          let as_now : n.found ≡ sight.finds now p.sitting.next =
-          sym (finds_later most s.found two.sight.finds now p.sitting.next fewer
-          ∙ ap (λ (Q : Queue). two.sight.finds Q p.sitting.next) (sym one.queue) ∙ ap (λ (u : State). two.sight.finds (queue_of y) u) (sym one.one.state) ∙ two.found) in
-          subst (λ (f : Found). IsFoundAt x.base.config.groups me (w x) (w z) now p.sitting.next f) as_now
+          subst (λ (f : Found). IsFoundAt x.base.config.groups me (w x) (w z) now p.sitting.next f) found_now
           (subst (λ (u : State). IsFoundAt x.base.config.groups me (w x) (w z) now u n.found) one.one.state
           (subst (λ (Q : Queue). IsFoundAt x.base.config.groups me (w x) (w z) Q n.state n.found) one.queue here))
 
@@ -400,13 +451,19 @@ module _ {P C : Type 0} (plants : PlantGhosts P) (copies : CopyGhosts C) (s : St
           (found_in x.base.config.groups (w x) (w y) (w z) (w z) goes (goes_none (w z)) me k.queue k.state (two.sight.finds k.queue k.state) (All-head (λ w. IsFoundAt x.base.config.groups me (plants.view y.plant) (plants.view z.plant) w.queue w.state (two.sight.finds w.queue w.state)) k ws all)))
           (all_found ws (All-tail (λ w. sittings_most w.state < most) k ws few) (All-tail (λ w. IsFoundAt x.base.config.groups me (plants.view y.plant) (plants.view z.plant) w.queue w.state (two.sight.finds w.queue w.state)) k ws all))
 
+      rest_few : All (λ k. sittings_most k.state < most) (waits_in (take (whole_pieces two.sight.cut two.pieces) two.pieces) (run (queue_of x) (all_entries p.sitting.batches)))
+      rest_few =
+          let now = run (queue_of x) (all_entries p.sitting.batches) in
+          let j = whole_pieces two.sight.cut two.pieces in
+          subst (λ (ps : List Piece). All (λ k. sittings_most k.state < most) (waits_in (take j ps) now)) (sym two.is)
+          (waits_fewer most j (sittings_most n.state) (counts_of y.printed n.holder.by) two.sight (queue_of y) now n.holder n.state (subst (λ (u : State). sittings_most u < most) (sym one.one.state) fewer))
+
       rest_found : AreFoundIn x.base.config.groups me (w x) (w z) sight.finds (waits_in (take (whole_pieces two.sight.cut two.pieces) two.pieces) (run (queue_of x) (all_entries p.sitting.batches)))
       rest_found =
           let now = run (queue_of x) (all_entries p.sitting.batches) in
           let j = whole_pieces two.sight.cut two.pieces in
           all_found (waits_in (take j two.pieces) now)
-          (subst (λ (ps : List Piece). All (λ k. sittings_most k.state < most) (waits_in (take j ps) now)) (sym two.is)
-          (waits_fewer most j (sittings_most n.state) (counts_of y.printed n.holder.by) two.sight (queue_of y) now n.holder n.state (subst (λ (u : State). sittings_most u < most) (sym one.one.state) fewer)))
+          rest_few
           (subst (λ (Q : Queue). AreFoundIn x.base.config.groups me (w y) (w z) two.sight.finds (waits_in (take j two.pieces) Q)) one.queue
           (subst (λ (k : ℕ). AreFoundIn k me (w y) (w z) two.sight.finds (waits_in (take j two.pieces) (queue_of y))) (ap (λ (b : Queue). b.config.groups) base)
           (subst (λ (h : Holder). AreFoundIn y.base.config.groups h.by (w y) (w z) two.sight.finds (waits_in (take j two.pieces) (queue_of y))) one.one.holder two.finds)))
@@ -429,8 +486,28 @@ module _ {P C : Type 0} (plants : PlantGhosts P) (copies : CopyGhosts C) (s : St
             other_counts = λ m other. two_w.other_counts m other ∙ a.other_counts m other;
           }
 
-      pub told_then : ComesTo s.state n.state → HasToldStep plants copies s x z r
-      told_then comes = record {
+      -- the volumes that were found lost
+      all_named : (ws : List Wait) → All (λ k. sittings_most k.state < most) ws → (m : ℕ) → named_in sight.finds ws m ≡ named_in two.sight.finds ws m
+      all_named [] few m = refl
+      all_named (k ∷ ws) few m =
+          ap (λ (f : Found). names_found f m || named_in sight.finds ws m) (finds_later most s.found two.sight.finds k.queue k.state (All-head (λ w. sittings_most w.state < most) k ws few))
+          ∙ ap (λ (b : Bool). names_found (two.sight.finds k.queue k.state) m || b) (all_named ws (All-tail (λ w. sittings_most w.state < most) k ws few) m)
+
+      stay_all : VolumesStay (names_found n.found) (w x) (w y) → VolumesStay (named_in sight.finds (waits_in (take (whole_pieces (after_one two.sight.cut) (p ∷ two.pieces)) (p ∷ two.pieces)) (queue_of x))) (w x) (w z)
+      stay_all first =
+          let now = run (queue_of x) (all_entries p.sitting.batches) in
+          let j = whole_pieces two.sight.cut two.pieces in
+          let rest = waits_in (take j two.pieces) now in
+          let both : ℕ → Bool = λ m. names_found (sight.finds now p.sitting.next) m || named_in sight.finds rest m in
+          let here : VolumesStay (names_found (sight.finds now p.sitting.next)) (w x) (w y) = subst (λ (f : Found). VolumesStay (names_found f) (w x) (w y)) found_now first in
+          let later_on : VolumesStay (named_in two.sight.finds rest) (w y) (w z) = subst (λ (Q : Queue). VolumesStay (named_in two.sight.finds (waits_in (take j two.pieces) Q)) (w y) (w z)) one.queue two.volumes in
+          subst (λ (k : ℕ). VolumesStay (named_in sight.finds (waits_in (take k (p ∷ two.pieces)) (queue_of x))) (w x) (w z)) (sym (whole_later two.sight.cut p two.pieces))
+          (stay_both both (w x) (w y) (w z)
+          (stay_more (names_found (sight.finds now p.sitting.next)) both (w x) (w y) (λ m none. (or_none (names_found (sight.finds now p.sitting.next) m) (named_in sight.finds rest m) none).0) here)
+          (stay_more (named_in two.sight.finds rest) both (w y) (w z) (λ m none. sym (all_named rest rest_few m) ∙ (or_none (names_found (sight.finds now p.sitting.next) m) (named_in sight.finds rest m) none).1) later_on))
+
+      pub told_then : ComesTo s.state n.state → VolumesStay (names_found n.found) (w x) (w y) → HasToldStep plants copies s x z r
+      told_then comes volumes = record {
         sight = sight;
         pieces = p ∷ two.pieces;
         is = its_pieces;
@@ -438,6 +515,7 @@ module _ {P C : Type 0} (plants : PlantGhosts P) (copies : CopyGhosts C) (s : St
         finds =
             subst (λ (k : ℕ). AreFoundIn x.base.config.groups me (w x) (w z) sight.finds (waits_in (take k (p ∷ two.pieces)) (queue_of x))) (sym (whole_later two.sight.cut p two.pieces))
             (All-cons (λ w. IsFoundAt x.base.config.groups me (plants.view x.plant) (plants.view z.plant) w.queue w.state (sight.finds w.queue w.state)) _ _ first_found rest_found);
+        volumes = stay_all volumes;
         cut = cut_restated p one.one two.pieces two.sight.cut two.cut;
         tight = tight_later r s.state n.state comes two.sight.cut p two.pieces two.tight;
         broke = if_err r _ _ (λ e b. at_later (IsBroken e) two.sight.cut p two.pieces b) two.broke;
@@ -457,5 +535,5 @@ module _ {P C : Type 0} (plants : PlantGhosts P) (copies : CopyGhosts C) (s : St
       still = λ t. both_still s.state n.state (IsOnlyOn (w x) (w y)) (IsOnlyOn (w y) (w z)) (IsOnlyOn (w x) (w z)) comes (λ a b. only_on (w x) (w y) (w z) goes.later later a b) (one.still t) (two.still t);
       quiet = λ b. two.quiet (between_later two.cut b);
       away = two.away;
-      told = λ t. told_then (one.told t) (two.told t) comes;
+      told = λ t. told_then (one.told t) (two.told t) comes one.volumes;
     }

@@ -15,7 +15,7 @@ use Rattle.job_outcome.specs.declared.outcomes.Read.TheVariants.{Gone, Lines, Lo
 use Rattle.step_turns.specs.JobEnds.{printed_end}
 use Rattle.step_turns.specs.Sittings.{sitting_of}
 use Rattle.step_turns.specs.Turns.{lines_printed}
-use Rattle.step_turns.specs.declared.states.Aside.TheVariants.{PrintLines, ReadText, SpoolDeck, SpoolOutputs}
+use Rattle.step_turns.specs.declared.states.Aside.TheVariants.{Acknowledge, Exchange, PrintLines, ReadText, SpoolArrival, SpoolDeck, SpoolOutputs}
 use Rattle.step_turns.specs.declared.states.Progress.{Progress}
 use Rattle.step_turns.specs.declared.states.Found.{Found}
 use Rattle.step_turns.specs.declared.states.Holder.{Holder}
@@ -24,7 +24,7 @@ use Rattle.step_turns.specs.declared.states.State.TheVariants.{Away, Fresh, Rest
 use Rattle.step_turns.proofs.Sittings.{by_state, some_may_follow, steps_end}
 use Rattle.run_turns.specs.Scenes.{count_then}
 use Rattle.run_turns.specs.Sights.{Sight}
-use Rattle.run_turns.specs.Pieces.{Piece, chunk, inked_of, piece_at, piece_of, pieces_from, unless_told}
+use Rattle.run_turns.specs.Pieces.{Piece, chunk, inked_of, piece_at, piece_of, pieces_from, poured, unless_told, with_given}
 
 -- MORE PIECES THAN A STEP MAY HAVE ADD NONE
 
@@ -90,7 +90,7 @@ piece_by inked finds n Q h t =
     let es = all_entries t.batches in
     let now = run Q es in
     let found = finds now t.next in
-    piece_of t found.printer (inked_of found.printer inked (chunk now (count_then h.by es n) t.next found.read))
+    with_given (poured inked t.next found) (piece_of t found.printer (inked_of found.printer inked (chunk now (count_then h.by es n) t.next found.read)))
 
 -- so many pieces at most, of which this is the first
 abbrev piece_first : ℕ → Sight → ℕ → Queue → Holder → Piece → List Piece
@@ -112,7 +112,7 @@ module _ (A B : Sight) (most : ℕ) (alike : (Q : Queue) (s : State) → sitting
       let now = run Q es in
       let le = no_more Q h s found in
       ap (λ (f : Found). piece_by A.inked A.finds n Q h (sit Q h s f)) (alike Q s less)
-      ∙ ap (λ (f : Found). piece_of t f.printer (inked_of f.printer A.inked (chunk now (count_then h.by es n) t.next f.read))) (alike now t.next (omega (arith, less, le)))
+      ∙ ap (λ (f : Found). with_given (poured A.inked t.next f) (piece_of t f.printer (inked_of f.printer A.inked (chunk now (count_then h.by es n) t.next f.read)))) (alike now t.next (omega (arith, less, le)))
       ∙ ap (λ (i : ℕ). piece_by i B.finds n Q h t) ink
 
   pub same_pieces : (k n : ℕ) (Q : Queue) (h : Holder) (s : State) → sittings_most s < most → pieces_from k A n Q h s ≡ pieces_from k B n Q h s
@@ -176,6 +176,9 @@ module _ (A : Sight) (i : ℕ) where
   lost_from (suc k) n Q h (Away (SpoolDeck job text)) found e loses = absurd loses
   lost_from (suc k) n Q h (Away (ReadText runs job fields p)) found e loses = absurd loses
   lost_from (suc k) n Q h (Away (SpoolOutputs job specs p)) found e loses = absurd loses
+  lost_from (suc k) n Q h (Away (Exchange l offer)) found e loses = absurd loses
+  lost_from (suc k) n Q h (Away (SpoolArrival number job cards service)) found e loses = absurd loses
+  lost_from (suc k) n Q h (Away (Acknowledge number service)) found e loses = absurd loses
   lost_from (suc k) n Q h (Fresh task) found e loses = absurd loses
   lost_from (suc k) n Q h (Rested p) found e loses = absurd loses
   lost_from (suc k) n Q h Told found e loses = absurd loses

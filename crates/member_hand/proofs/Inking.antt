@@ -30,7 +30,7 @@ use Rattle.step_turns.specs.States.{nothing_found}
 use Rattle.step_turns.specs.declared.states.Found.{Found}
 use Rattle.step_turns.specs.declared.states.Progress.{Progress}
 use Rattle.step_turns.specs.declared.states.State.{State}
-use Rattle.step_turns.specs.declared.states.Aside.TheVariants.{PrintLines, ReadText, SpoolDeck, SpoolOutputs}
+use Rattle.step_turns.specs.declared.states.Aside.TheVariants.{Acknowledge, Exchange, PrintLines, ReadText, SpoolArrival, SpoolDeck, SpoolOutputs}
 use Rattle.step_turns.specs.declared.states.State.TheVariants.{Away, Fresh, Rested, Told}
 use Rattle.run_turns.specs.Cuts.{broken, whole}
 use Rattle.run_turns.specs.Pieces.{chunk, chunk_of, inked_of, lines_from}
@@ -39,6 +39,7 @@ use Rattle.member_sittings.specs.Left.{torn_line}
 use Rattle.member_sittings.specs.Whole.{queue_of}
 use Rattle.member_units.specs.Asides.{lines_next}
 use Rattle.member_units.proofs.Printed.{papers_now}
+use Rattle.member_hand.specs.Found.{names_found}
 use Rattle.member_hand.specs.Asides.{ActsAfter}
 use Rattle.member_hand.specs.Cuts.{IsHaltBy}
 use Rattle.member_hand.specs.Sits.{WaitsWell}
@@ -85,7 +86,7 @@ other_member : (m by : MemberId) → m ≢ by → m.0 ≢ by.0
 other_member m by other same = other (ap (λ (n : ℕ). record { 0 = n }) same)
 
 -- what an error of such acts allows
-pub halts_idle : (e : NodeNo) (by : ℕ) (w w' : View) → SpoolStops {T = Found} (Err e) by w w' → IsHaltBy e (Waiting 0 None)
+pub halts_idle : (e : NodeNo) (by : ℕ) (w w' : View) → SpoolStops names_found (Err e) by w w' → IsHaltBy e (Waiting 0 None)
 halts_idle NoMemory by w w' cause = refl
 halts_idle Halted by w w' cause = tt
 halts_idle BothLost by w w' cause = absurd cause
@@ -166,6 +167,9 @@ module _ {P C : Type 0} (plants : PlantGhosts P) where
       let its = (waits t).printing (queue_of x) (tell t) (sound t) in
       inked_to (calm_lines (queue_of x) (counts_of x.printed m.id) (Away (PrintLines n i last p))) m.id e x y
       (subst (λ (ls : List (List ℕ)). HasInked plants (λ (f : Found). f.printer) m.id ls x y (Err e)) (calm_there (queue_of x) (counts_of x.printed m.id) n i last p its.output its.there) (a.1.inks t its.output its.there))
+  err_inked x y m (Away (Exchange l offer)) e t waits tell sound a = absurd a.1
+  err_inked x y m (Away (SpoolArrival number job cards service)) e t waits tell sound a = absurd a.1
+  err_inked x y m (Away (Acknowledge number service)) e t waits tell sound a = absurd a.1
   err_inked x y m (Fresh task) e t waits tell sound a = absurd (let is = a.1 in cc)
   err_inked x y m (Rested p) e t waits tell sound a = absurd (let is = a.1 in cc)
   err_inked x y m Told e t waits tell sound a = absurd (let is = a.1 in cc)
@@ -242,6 +246,9 @@ module _ {P C : Type 0} (plants : PlantGhosts P) where
       let count = counts_of x.printed m.id in
       inked_well (found_lines (queue_of x) count (Away (PrintLines n i last p)) found) found m.id x y found.printer refl
       (subst (λ (ls : List (List ℕ)). HasInked plants (λ (f : Found). f.printer) m.id ls x y (Ok found)) (chunk_is (queue_of x) count n i last p its.output found.read its.there) (a.1.inks t its.output its.there))
+  ok_inked x y m (Away (Exchange l offer)) found t waits tell sound a = absurd a.1
+  ok_inked x y m (Away (SpoolArrival number job cards service)) found t waits tell sound a = absurd a.1
+  ok_inked x y m (Away (Acknowledge number service)) found t waits tell sound a = absurd a.1
   ok_inked x y m (Fresh task) found t waits tell sound a = nothing_done x y m.id (Ok found) found a.0 a.1
   ok_inked x y m (Rested p) found t waits tell sound a = nothing_done x y m.id (Ok found) found a.0 a.1
   ok_inked x y m Told found t waits tell sound a = nothing_done x y m.id (Ok found) found a.0 a.1

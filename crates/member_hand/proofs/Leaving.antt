@@ -19,7 +19,7 @@ use Rattle.step_turns.specs.declared.states.Found.{Found}
 use Rattle.step_turns.specs.declared.states.Holder.{Holder}
 use Rattle.step_turns.specs.declared.states.Progress.{Progress}
 use Rattle.step_turns.specs.declared.states.Task.{Task}
-use Rattle.step_turns.specs.declared.states.Aside.TheVariants.{PrintLines, ReadText, SpoolDeck, SpoolOutputs}
+use Rattle.step_turns.specs.declared.states.Aside.TheVariants.{Acknowledge, Exchange, PrintLines, ReadText, SpoolArrival, SpoolDeck, SpoolOutputs}
 use Rattle.step_turns.specs.declared.states.State.{State}
 use Rattle.step_turns.specs.declared.states.State.TheVariants.{Away, Fresh, Rested, Told}
 use Rattle.member_sittings.specs.declared.ends.SittingEnd.{SittingEnd}
@@ -71,6 +71,9 @@ module _ {P C : Type 0} (plants : PlantGhosts P) (copies : CopyGhosts C) (x y : 
   deck_goes (Away (ReadText runs job fields p)) deck two few one reached w = absurd w
   deck_goes (Away (SpoolOutputs job specs p)) deck two few one reached w = absurd w
   deck_goes (Away (PrintLines job output last p)) deck two few one reached w = absurd w
+  deck_goes (Away (Exchange l offer)) deck two few one reached w = absurd w
+  deck_goes (Away (SpoolArrival number job cards service)) deck two few one reached w = absurd w
+  deck_goes (Away (Acknowledge number service)) deck two few one reached w = absurd w
   deck_goes (Fresh task) deck two few one reached w = absurd w
   deck_goes (Rested p) deck two few one reached w = absurd w
 
@@ -86,6 +89,9 @@ module _ {P C : Type 0} (plants : PlantGhosts P) (copies : CopyGhosts C) (x y : 
   ready_waits (Away (ReadText runs job fields p)) r = r
   ready_waits (Away (SpoolOutputs job specs p)) r = r
   ready_waits (Away (PrintLines job output last p)) r = r
+  ready_waits (Away (Exchange l offer)) r = absurd r
+  ready_waits (Away (SpoolArrival number job cards service)) r = absurd r
+  ready_waits (Away (Acknowledge number service)) r = absurd r
   ready_waits (Fresh task) r = r
   ready_waits (Rested p) r = r
   ready_waits Told r = r
@@ -95,6 +101,9 @@ module _ {P C : Type 0} (plants : PlantGhosts P) (copies : CopyGhosts C) (x y : 
   work_comes (Away (ReadText runs job fields p)) work r = work
   work_comes (Away (SpoolOutputs job specs p)) work r = work
   work_comes (Away (PrintLines job output last p)) work r = work
+  work_comes (Away (Exchange l offer)) work r = absurd r
+  work_comes (Away (SpoolArrival number job cards service)) work r = absurd r
+  work_comes (Away (Acknowledge number service)) work r = absurd r
   work_comes (Fresh task) work r = absurd r
   work_comes (Rested p) work r = work
   work_comes Told work r = tt
@@ -111,13 +120,6 @@ module _ {P C : Type 0} (plants : PlantGhosts P) (copies : CopyGhosts C) (x y : 
   work_all (Ok e) work sits ready fewer level = work_leaves e work sits ready fewer level
   work_all (Err why) work sits ready fewer level = tt
 
--- acts for which work waits
-pub aside_works : (a : Aside) → ((job : JobNo) (text : List (List ℕ)) → a ≡ SpoolDeck job text → ⊥) → IsWork (Away a)
-aside_works (SpoolDeck job text) not = absurd (not job text refl)
-aside_works (ReadText runs job fields p) not = tt
-aside_works (SpoolOutputs job specs p) not = tt
-aside_works (PrintLines job output last p) not = tt
-
 -- WHAT WORK GOES ON WITH is right by what was found
 module _ {P C : Type 0} (plants : PlantGhosts P) (copies : CopyGhosts C) (x : Parts P C) (by : MemberId) where
   abbrev v : Parts P C → View
@@ -129,3 +131,16 @@ module _ {P C : Type 0} (plants : PlantGhosts P) (copies : CopyGhosts C) (x : Pa
   resume_right (ReadText runs job fields p) found not right = right
   resume_right (SpoolOutputs job specs p) found not right = right
   resume_right (PrintLines job output last p) found not right = right
+  resume_right (Exchange l offer) found not right = right
+  resume_right (SpoolArrival number job cards service) found not right = right
+  resume_right (Acknowledge number service) found not right = right
+
+  -- so they are acts for which work waits
+  pub resume_works : (a : Aside) (found : Found) → MayResume plants.tells (queue_of x) by (spools_at (v x) (v x).now) (counts_of x.printed) a found → IsWork (Away a)
+  resume_works (SpoolDeck job text) found may = absurd may
+  resume_works (ReadText runs job fields p) found may = tt
+  resume_works (SpoolOutputs job specs p) found may = tt
+  resume_works (PrintLines job output last p) found may = tt
+  resume_works (Exchange l offer) found may = absurd may
+  resume_works (SpoolArrival number job cards service) found may = absurd may
+  resume_works (Acknowledge number service) found may = absurd may

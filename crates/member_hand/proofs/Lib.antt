@@ -8,6 +8,7 @@ pub mod Locking
 pub mod Seating
 pub mod Leaving
 pub mod Printing
+pub mod Passages
 pub mod Following
 pub mod Ending
 pub mod PieceLemmas

@@ -5,6 +5,7 @@ use Rattle.mas_types.specs.declared.queues.Queue.{Queue}
 use Rattle.spool_disk.specs.View.{View}
 use Rattle.spool_disk.specs.declared.plant.Plant.{Ghosts as PlantGhosts}
 use Rattle.ckpt_copy.specs.declared.copying.Copying.{Ghosts as CopyGhosts}
+use Rattle.mas_complex.specs.declared.renewals.Renewals.{Renewals}
 use Rattle.mas_complex.specs.Parts.{Parts}
 use Rattle.member_node.specs.declared.member.NodeNo.{NodeNo}
 use Rattle.member_node.specs.declared.member.NodeNo.TheVariants.{BothLost, Halted, ConsoleFault, NoMemory}
@@ -16,10 +17,11 @@ use Rattle.member_hand.specs.Found.{IsFoundAt}
 use Rattle.member_hand.specs.Plays.{played_in, stopped_by}
 use Rattle.member_hand.specs.Sits.{IsFoundRight}
 
--- what a call leaves where it keeps the base and the first moment
-pub played_frame : {P C : Type 0} (x y : Parts P C) → y.base ≡ x.base → y.since ≡ x.since → y ≡ played_in y x
-played_frame x y base since =
+-- what a call leaves where it keeps the base, the first moment, and when copies were replaced
+pub played_frame : {P C : Type 0} (x y : Parts P C) → y.base ≡ x.base → y.since ≡ x.since → y.renewals ≡ x.renewals → y ≡ played_in y x
+played_frame x y base since renewals =
     ap (λ (b : Queue). record y { base = b; since = y.since }) base ∙ ap (λ (k : ℕ). record y { base = x.base; since = k }) since
+    ∙ ap (λ (rs : Renewals). record y { base = x.base; since = x.since; renewals = rs }) renewals
 
 -- a told step found nothing
 pub found_told : (per : ℕ) (by : MemberId) (old new : View) (Q : Queue) (s : State) (found : Found) → s ≡ Told → IsFoundAt per by old new Q s found → found ≡ nothing_found
@@ -33,7 +35,7 @@ module _ {P C : Type 0} (plants : PlantGhosts P) (copies : CopyGhosts C) where
   not_told x by (Away a) found right = λ e. absurd (cc)
   not_told x by (Rested p) found right = λ e. absurd (cc)
 
--- A STOP LEAVES the base and the first moment
+-- A STOP LEAVES the base, the first moment, and when copies were replaced
 
 pub stopped_base : {P C : Type 0} (why : NodeNo) (by : MemberId) (x : Parts P C) → (stopped_by why by x).base ≡ x.base
 stopped_base Halted by x = refl
@@ -46,3 +48,9 @@ stopped_since Halted by x = refl
 stopped_since BothLost by x = refl
 stopped_since ConsoleFault by x = refl
 stopped_since NoMemory by x = refl
+
+pub stopped_renewals : {P C : Type 0} (why : NodeNo) (by : MemberId) (x : Parts P C) → (stopped_by why by x).renewals ≡ x.renewals
+stopped_renewals Halted by x = refl
+stopped_renewals BothLost by x = refl
+stopped_renewals ConsoleFault by x = refl
+stopped_renewals NoMemory by x = refl

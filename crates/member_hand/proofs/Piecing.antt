@@ -19,8 +19,8 @@ use Rattle.mas_complex.proofs.Replied.{run_append}
 use Rattle.member_node.specs.declared.member.Member.{Member}
 use Rattle.member_node.specs.declared.member.NodeNo.{NodeNo}
 use Rattle.member_node.specs.declared.member.NodeNo.TheVariants.{BothLost, Halted, ConsoleFault, NoMemory}
-use Rattle.member_node.specs.Calls.{IsOnlyOn, console_now}
-use Rattle.member_node.proofs.CourseLemmas.{only_none, only_on, papers_none, papers_on}
+use Rattle.member_node.specs.Calls.{IsOnlyOn, VolumesStay, console_now, none_lost}
+use Rattle.member_node.proofs.CourseLemmas.{only_none, only_on, papers_none, papers_on, stay_then}
 use Rattle.member_work.specs.Printing.{IsBeside}
 use Rattle.step_turns.specs.Courses.{holder_then}
 use Rattle.step_turns.specs.Entries.{all_entries}
@@ -28,9 +28,9 @@ use Rattle.step_turns.specs.Sittings.{Sitting, sit}
 use Rattle.step_turns.specs.declared.states.Found.{Found}
 use Rattle.step_turns.specs.declared.states.Release.{Release}
 use Rattle.step_turns.specs.declared.states.State.{State}
-use Rattle.step_turns.specs.declared.states.Aside.TheVariants.{PrintLines, ReadText, SpoolDeck, SpoolOutputs}
+use Rattle.step_turns.specs.declared.states.Aside.TheVariants.{Acknowledge, Exchange, PrintLines, ReadText, SpoolArrival, SpoolDeck, SpoolOutputs}
 use Rattle.step_turns.specs.declared.states.State.TheVariants.{Away, Fresh, Rested, Told}
-use Rattle.step_turns.specs.declared.states.Task.TheVariants.{Deck, Give, Work}
+use Rattle.step_turns.specs.declared.states.Task.TheVariants.{Deck, Give, Line as LineTask, Work}
 use Rattle.step_turns.proofs.Sittings.{lines_are_said_at_the_end, some_may_follow}
 use Rattle.run_turns.specs.Cuts.{book_cut, broken, kept_all, stopped_by as stopped_for, whole}
 use Rattle.run_turns.specs.Pieces.{Piece, entered, piece_of, released_by}
@@ -44,6 +44,7 @@ use Rattle.member_sittings.specs.Tight.{IfNoWork}
 use Rattle.member_sittings.specs.Whole.{IsSeat, queue_of}
 use Rattle.member_hand.specs.Asides.{ActsAfter}
 use Rattle.member_hand.specs.Cuts.{AreBatched, IsTight, cause_by}
+use Rattle.member_hand.specs.Found.{names_found}
 use Rattle.member_hand.specs.Locks.{MayHold, left_book, next_holder}
 use Rattle.member_hand.specs.Plays.{HasActedIn, HasPieced, HasPlayed, IfCommand, HasToldPiece, IsOwnPiece, IsPiece, Leaves, Writes, one_left, piece_with, stopped_by}
 use Rattle.member_hand.specs.Quiet.{IsQuiet}
@@ -51,7 +52,7 @@ use Rattle.member_hand.specs.Sits.{ComesTo, WaitsWell}
 use Rattle.member_hand.specs.Turns.{HasTurned}
 use Rattle.member_decks.specs.Steps.{AreOf}
 use Rattle.member_units.specs.Asides.{HasOnlyPrinted}
-use Rattle.member_hand.proofs.Acting.{ActsBeside, acted_err, acted_ok, acts_beside, asided, book_then, changed_only, only_these, quiet_then, then_stopped, unreserved_by, unreserved_then}
+use Rattle.member_hand.proofs.Acting.{ActsBeside, acted_err, acted_ok, acts_beside, asided, book_then, changed_only, only_these, quiet_then, stay_by, then_stopped, unreserved_by, unreserved_then}
 use Rattle.member_hand.proofs.Batching.{batched_later, batched_sooner}
 use Rattle.member_hand.proofs.Cutting.{IsLeftAt, acted_stopped, aside_tight, aside_unbroken, bare_cut, book_stopped, cut_at, its_piece, its_queue, its_sitting, left_stopped, told_cut}
 use Rattle.member_hand.proofs.StepKinds.{if_all}
@@ -62,8 +63,9 @@ use Rattle.member_hand.proofs.Following.{acts_then}
 use Rattle.member_hand.proofs.Inking.{InkedTo, InkedWhole, calm_lines, err_inked, found_lines, halts_idle, ok_inked}
 use Rattle.member_hand.proofs.Locking.{left_members}
 use Rattle.member_hand.proofs.Reaching.{reached_all}
+use Rattle.member_hand.proofs.Passages.{passage_of}
 use Rattle.member_hand.proofs.Shaping.{shaped_one}
-use Rattle.member_hand.proofs.Turning.{papers_are, sat_book, sat_dry, sat_still, seat_acted, seat_batches, seat_book, seat_printed, seat_queue, view_stopped}
+use Rattle.member_hand.proofs.Turning.{papers_are, sat_book, sat_dry, sat_stays, sat_still, seat_acted, seat_batches, seat_book, seat_printed, seat_queue, view_stopped}
 
 -- the entries of batches that are all kept
 kept_are : (by : MemberId) (from now : ℕ) (ess : List (List Entry)) (bs : List Batch) → AreBatched by from now (kept_all ess) bs → kept_entries bs ≡ all_entries ess
@@ -141,7 +143,7 @@ module _ {P C : Type 0} (plants : PlantGhosts P) (copies : CopyGhosts C) (s : St
     sat_papers told k = papers_are (v z) (v y) sat.acts.course.goes.later (sat.acts.papers told) k ∙ papers_are (v x) (v z) sooner (turn.took.apart told).papers k
 
     sat_did : HasActedIn plants copies me x y (Ok tt)
-    sat_did = acts_then plants copies me x z y (Ok tt) (seat_acted plants copies s x z may none unplaced turn.locked ne turn.took) (record { course = sat.acts.course; loses = sat.acts.loses; spares = sat.acts.spares; cause = sat.acts.cause })
+    sat_did = acts_then plants copies me x z y (Ok tt) (seat_acted plants copies s x z may none unplaced turn.locked ne turn.took) (record { course = passage_of z.first_alive y.first_alive z.second_alive y.second_alive (v z) (v y) sat.acts.course; loses = sat.acts.loses; spares = sat.acts.spares; cause = sat.acts.cause })
 
     -- the book once the lock is left
     left_is : left.book ≡ released_by t.release (after_spend (entered x.book me) (me) (length (all_entries t.batches))) me
@@ -149,6 +151,10 @@ module _ {P C : Type 0} (plants : PlantGhosts P) (copies : CopyGhosts C) (s : St
         ap (λ (b : Book). left_book b me end.given end.release) (ap (λ (q : Parts P C). q.book) turn.frame ∙ seat_book plants copies s x z may none unplaced turn.locked ne)
         ∙ ap (λ (n : ℕ). left_book (entered x.book me) me n end.release) sat.ends.given
         ∙ ap (λ (r : Release). left_book (entered x.book me) me (length (all_entries t.batches)) r) sat.ends.release
+
+  -- no volume is lost in it, nor fails
+  sat_volumes : VolumesStay none_lost (v x) (v y)
+  sat_volumes = sat_stays plants copies s x z may none unplaced turn.locked ne turn.took y turn.frame turn.sat.sat.acts
 
   -- THE ACTS AFTER IT
 
@@ -199,6 +205,10 @@ module _ {P C : Type 0} (plants : PlantGhosts P) (copies : CopyGhosts C) (s : St
 
       dry_by : (a n : State) → ComesTo a n → ActsAfter plants left u m n r → IfNoWork a (SamePapers (v x) (v u))
       dry_by (Fresh (Work k)) n comes a = tt
+      dry_by (Fresh (LineTask l)) n comes a = tt
+      dry_by (Away (Exchange l offer)) n comes a = tt
+      dry_by (Away (SpoolArrival number job cards service)) n comes a = tt
+      dry_by (Away (Acknowledge number service)) n comes a = tt
       dry_by (Away (ReadText runs k fields p)) n comes a = tt
       dry_by (Away (SpoolOutputs k specs p)) n comes a = tt
       dry_by (Away (PrintLines k i last p)) n comes a = tt
@@ -210,6 +220,9 @@ module _ {P C : Type 0} (plants : PlantGhosts P) (copies : CopyGhosts C) (s : St
       dry_by (Fresh (Give c)) (Away (ReadText other j those q)) comes a = absurd comes
       dry_by (Fresh (Give c)) (Away (SpoolOutputs j those q)) comes a = absurd comes
       dry_by (Fresh (Give c)) (Away (PrintLines j i last q)) comes a = absurd comes
+      dry_by (Fresh (Give c)) (Away (Exchange l offer)) comes a = absurd comes
+      dry_by (Fresh (Give c)) (Away (SpoolArrival number job cards service)) comes a = absurd comes
+      dry_by (Fresh (Give c)) (Away (Acknowledge number service)) comes a = absurd comes
       dry_by (Fresh (Deck fields text)) Told comes a = dry_none a.0
       dry_by (Fresh (Deck fields text)) (Fresh task) comes a = absurd comes
       dry_by (Fresh (Deck fields text)) (Rested q) comes a = absurd comes
@@ -217,6 +230,9 @@ module _ {P C : Type 0} (plants : PlantGhosts P) (copies : CopyGhosts C) (s : St
       dry_by (Fresh (Deck fields text)) (Away (ReadText other j those q)) comes a = absurd comes
       dry_by (Fresh (Deck fields text)) (Away (SpoolOutputs j those q)) comes a = absurd comes
       dry_by (Fresh (Deck fields text)) (Away (PrintLines j i last q)) comes a = absurd comes
+      dry_by (Fresh (Deck fields text)) (Away (Exchange l offer)) comes a = absurd comes
+      dry_by (Fresh (Deck fields text)) (Away (SpoolArrival number job cards service)) comes a = absurd comes
+      dry_by (Fresh (Deck fields text)) (Away (Acknowledge number service)) comes a = absurd comes
       dry_by (Away (SpoolDeck k text)) Told comes a = dry_none a.0
       dry_by (Away (SpoolDeck k text)) (Fresh task) comes a = absurd comes
       dry_by (Away (SpoolDeck k text)) (Rested q) comes a = absurd comes
@@ -224,6 +240,9 @@ module _ {P C : Type 0} (plants : PlantGhosts P) (copies : CopyGhosts C) (s : St
       dry_by (Away (SpoolDeck k text)) (Away (ReadText other j those q)) comes a = absurd comes
       dry_by (Away (SpoolDeck k text)) (Away (SpoolOutputs j those q)) comes a = absurd comes
       dry_by (Away (SpoolDeck k text)) (Away (PrintLines j i last q)) comes a = absurd comes
+      dry_by (Away (SpoolDeck k text)) (Away (Exchange l offer)) comes a = absurd comes
+      dry_by (Away (SpoolDeck k text)) (Away (SpoolArrival number job cards service)) comes a = absurd comes
+      dry_by (Away (SpoolDeck k text)) (Away (Acknowledge number service)) comes a = absurd comes
       dry_by Told Told comes a = dry_none a.0
       dry_by Told (Fresh task) comes a = absurd comes
       dry_by Told (Rested q) comes a = absurd comes
@@ -231,10 +250,14 @@ module _ {P C : Type 0} (plants : PlantGhosts P) (copies : CopyGhosts C) (s : St
       dry_by Told (Away (ReadText other j those q)) comes a = absurd comes
       dry_by Told (Away (SpoolOutputs j those q)) comes a = absurd comes
       dry_by Told (Away (PrintLines j i last q)) comes a = absurd comes
+      dry_by Told (Away (Exchange l offer)) comes a = absurd comes
+      dry_by Told (Away (SpoolArrival number job cards service)) comes a = absurd comes
+      dry_by Told (Away (Acknowledge number service)) comes a = absurd comes
 
       still_by : (a n : State) → ComesTo a n → ActsAfter plants left u m n r → IfCommand a (IsOnlyOn (v x) (v u))
       still_by (Fresh (Deck fields text)) n comes a = tt
       still_by (Fresh (Work k)) n comes a = tt
+      still_by (Fresh (LineTask l)) n comes a = tt
       still_by (Away aside) n comes a = tt
       still_by (Rested p) n comes a = tt
       still_by (Fresh (Give c)) Told comes a = still_none a.0
@@ -244,6 +267,9 @@ module _ {P C : Type 0} (plants : PlantGhosts P) (copies : CopyGhosts C) (s : St
       still_by (Fresh (Give c)) (Away (ReadText other j those q)) comes a = absurd comes
       still_by (Fresh (Give c)) (Away (SpoolOutputs j those q)) comes a = absurd comes
       still_by (Fresh (Give c)) (Away (PrintLines j i last q)) comes a = absurd comes
+      still_by (Fresh (Give c)) (Away (Exchange l offer)) comes a = absurd comes
+      still_by (Fresh (Give c)) (Away (SpoolArrival number job cards service)) comes a = absurd comes
+      still_by (Fresh (Give c)) (Away (Acknowledge number service)) comes a = absurd comes
       still_by Told Told comes a = still_none a.0
       still_by Told (Fresh task) comes a = absurd comes
       still_by Told (Rested q) comes a = absurd comes
@@ -251,6 +277,9 @@ module _ {P C : Type 0} (plants : PlantGhosts P) (copies : CopyGhosts C) (s : St
       still_by Told (Away (ReadText other j those q)) comes a = absurd comes
       still_by Told (Away (SpoolOutputs j those q)) comes a = absurd comes
       still_by Told (Away (PrintLines j i last q)) comes a = absurd comes
+      still_by Told (Away (Exchange l offer)) comes a = absurd comes
+      still_by Told (Away (SpoolArrival number job cards service)) comes a = absurd comes
+      still_by Told (Away (Acknowledge number service)) comes a = absurd comes
 
     dry_then : plants.tells → IfNoWork s.state (SamePapers (v x) (v u))
     dry_then told = dry_by told s.state end.next comes acts
@@ -342,6 +371,7 @@ module _ {P C : Type 0} (plants : PlantGhosts P) (copies : CopyGhosts C) (s : St
         record {
           piece = p;
           one = is_piece turn.sat.sitting turn.sat.sat p refl turn.sat.of;
+          volumes = stay_then (names_found found) (v x) (v y) (v u) sat_volumes (did_me u (Ok found) acts).cause.volumes;
           acts = acts_then plants copies me x y u (Ok tt) (sat_did turn.sat.sitting turn.sat.sat) (acted_ok plants copies y u me found (changed u (Ok found) acts) (did_me u (Ok found) acts));
           shaped = turn.sat.shaped;
           plain = refl;
@@ -440,6 +470,6 @@ module _ {P C : Type 0} (plants : PlantGhosts P) (copies : CopyGhosts C) (s : St
           away = λ free. (quiet.unreserved, quiet.none);
           told = λ told.
               let i = stands told in
-              told_cut plants copies s e (Waiting i.many i.tail) x w ne (if_all s.state (IsTight e (Waiting i.many i.tail) (its_sitting s x)) (aside_tight e i.many i.tail (its_sitting s x))) (aside_unbroken e i.many i.tail (its_sitting s x))
+              told_cut plants copies s e (Waiting i.many i.tail) x w ne (view_stopped plants copies s x z may none unplaced turn.locked ne e me u (λ k. VolumesStay none_lost (v x) k) (stay_then none_lost (v x) (v y) (v u) sat_volumes (stay_by plants copies e me.0 (v y) (v u) (did_me u (Err e) acts).cause))) (if_all s.state (IsTight e (Waiting i.many i.tail) (its_sitting s x)) (aside_tight e i.many i.tail (its_sitting s x))) (aside_unbroken e i.many i.tail (its_sitting s x))
               (left_stopped plants copies (Unit {0}) me (its_piece s x) e (Waiting i.many i.tail) x u (told_left told)) (book_is i.many i.tail (its_piece s x) (its_sat told));
         }

@@ -22,12 +22,12 @@ use Rattle.step_turns.specs.Sittings.{Sitting}
 use Rattle.step_turns.specs.declared.states.Found.{Found}
 use Rattle.step_turns.specs.declared.states.Holder.{Holder}
 use Rattle.step_turns.specs.declared.states.State.{State}
-use Rattle.step_turns.specs.declared.states.Aside.TheVariants.{PrintLines, ReadText, SpoolDeck, SpoolOutputs}
+use Rattle.step_turns.specs.declared.states.Aside.TheVariants.{Acknowledge, Exchange, PrintLines, ReadText, SpoolArrival, SpoolDeck, SpoolOutputs}
 use Rattle.step_turns.specs.declared.states.State.TheVariants.{Away, Fresh, Rested, Told}
-use Rattle.step_turns.specs.declared.states.Task.TheVariants.{Deck, Give, Work}
+use Rattle.step_turns.specs.declared.states.Task.TheVariants.{Deck, Give, Line, Work}
 use Rattle.run_turns.specs.Pieces.{Piece, piece_of}
 use Rattle.member_sittings.specs.Ends.{ends_in}
-use Rattle.member_sittings.specs.Shapes.{DeckLines, IsShaped, MayRefuseBy, Says, SaysAtEnd, WorkLines}
+use Rattle.member_sittings.specs.Shapes.{LineLines, DeckLines, IsShaped, MayRefuseBy, Says, SaysAtEnd, WorkLines}
 use Rattle.member_hand.specs.Shapes.{AreFewPieces, AreShaped, DeckLinesIn, IsFailedFound, SaysIn, WorkLinesIn, batches_in}
 use Rattle.member_hand.specs.Sits.{ComesTo, IsDeckTask, IsWork}
 
@@ -63,6 +63,10 @@ says_first h (Away (ReadText runs n fields p)) found old new t says =
     work_first h (units_done (Away (ReadText runs n fields p)) + units_left (Away (ReadText runs n fields p))) found old new t says
 says_first h (Away (SpoolOutputs n specs p)) found old new t says = work_first h (units_done (Away (SpoolOutputs n specs p)) + units_left (Away (SpoolOutputs n specs p))) found old new t says
 says_first h (Away (PrintLines n i last p)) found old new t says = work_first h (units_done (Away (PrintLines n i last p)) + units_left (Away (PrintLines n i last p))) found old new t says
+says_first h (Fresh (Line l)) found old new t says = at_end t.next (λ (ls : List (List ℕ)). ⊥) (LineLines h) (λ ls none. absurd none) t.lines says.1
+says_first h (Away (Exchange l offer)) found old new t says = says
+says_first h (Away (SpoolArrival number job cards service)) found old new t says = says.1
+says_first h (Away (Acknowledge number service)) found old new t says = says
 says_first h (Rested p) found old new t says = work_first h (units_done (Rested p) + units_left (Rested p)) found old new t says
 says_first h Told found old new t says = tt
 
@@ -81,6 +85,7 @@ module _ (h : Holder) (found : Found) (old new : View) (t : Sitting) where
   shaped_one (Fresh (Give c)) ne some is = (is.says.0, ap (λ (u : Sitting). piece_of u false [] ∷ []) is.says.1)
   shaped_one (Fresh (Deck fields text)) ne some is = let few = is.few in few_one (Fresh (Deck fields text)) some (omega (arith, few)) (says_first h (Fresh (Deck fields text)) found old new t is.says)
   shaped_one (Fresh (Work n)) ne some is = let few = is.few in few_one (Fresh (Work n)) some (omega (arith, few)) (says_first h (Fresh (Work n)) found old new t is.says)
+  shaped_one (Fresh (Line l)) ne some is = let few = is.few in few_one (Fresh (Line l)) some (omega (arith, few)) (says_first h (Fresh (Line l)) found old new t is.says)
   shaped_one (Away aside) ne some is = let few = is.few in few_one (Away aside) some (omega (arith, few)) (says_first h (Away aside) found old new t is.says)
   shaped_one (Rested q) ne some is = let few = is.few in few_one (Rested q) some (omega (arith, few)) (says_first h (Rested q) found old new t is.says)
   shaped_one Told ne some is = absurd (ne refl)
@@ -99,10 +104,14 @@ pub shaped_blank : (h : Holder) (found : Found) (old new : View) (s : State) →
 shaped_blank h found old new (Fresh (Give c)) ne some = (reply.Plain, refl)
 shaped_blank h found old new (Fresh (Deck fields text)) ne some = few_blank h found old new (Fresh (Deck fields text)) some refl
 shaped_blank h found old new (Fresh (Work n)) ne some = few_blank h found old new (Fresh (Work n)) some refl
+shaped_blank h found old new (Fresh (Line l)) ne some = few_blank h found old new (Fresh (Line l)) some refl
 shaped_blank h found old new (Away (SpoolDeck n text)) ne some = few_blank h found old new (Away (SpoolDeck n text)) some refl
 shaped_blank h found old new (Away (ReadText runs n fields p)) ne some = few_blank h found old new (Away (ReadText runs n fields p)) some refl
 shaped_blank h found old new (Away (SpoolOutputs n specs p)) ne some = few_blank h found old new (Away (SpoolOutputs n specs p)) some refl
 shaped_blank h found old new (Away (PrintLines n i last p)) ne some = few_blank h found old new (Away (PrintLines n i last p)) some refl
+shaped_blank h found old new (Away (Exchange l offer)) ne some = few_blank h found old new (Away (Exchange l offer)) some refl
+shaped_blank h found old new (Away (SpoolArrival number job cards service)) ne some = few_blank h found old new (Away (SpoolArrival number job cards service)) some refl
+shaped_blank h found old new (Away (Acknowledge number service)) ne some = few_blank h found old new (Away (Acknowledge number service)) some refl
 shaped_blank h found old new (Rested p) ne some = few_blank h found old new (Rested p) some refl
 shaped_blank h found old new Told ne some = absurd (ne refl)
 
@@ -110,6 +119,7 @@ pub blank_own : (h : Holder) (s : State) → All (AreOf h.by h.step) (blank_sitt
 blank_own h (Fresh (Give c)) = All-cons (AreOf h.by h.step) _ [] (All-cons (λ e. (e.by ≡ h.by) × (e.step ≡ h.step)) _ [] (refl, refl) (All-nil _)) (All-nil _)
 blank_own h (Fresh (Deck fields text)) = All-nil _
 blank_own h (Fresh (Work n)) = All-nil _
+blank_own h (Fresh (Line l)) = All-nil _
 blank_own h (Away aside) = All-nil _
 blank_own h (Rested p) = All-nil _
 blank_own h Told = All-nil _
@@ -149,6 +159,7 @@ module _ (h : Holder) (hold : ℕ) (found later : Found) (v0 v1 v2 : View) (one 
   refused (closing.BadCard card cause) r = absurd r
   refused (closing.LineLost line) r = absurd r
   refused (closing.NotLost copy) r = absurd r
+  refused (closing.CkptLost copy) r = absurd r
   refused (closing.Line sent got) r = absurd r
 
   work_lines : (was is : ℕ) → is ≤ was → (ls : List (List ℕ)) → WorkLinesIn k is later v1 v2 ls → WorkLinesIn h was found v0 v2 ls
@@ -174,6 +185,10 @@ module _ (h : Holder) (hold : ℕ) (found later : Found) (v0 v1 v2 : View) (one 
   to_work (Fresh (Give c)) q w says = absurd w
   to_work (Fresh (Deck fields text)) q w says = absurd w
   to_work (Away (SpoolDeck n text)) q w says = absurd w
+  to_work (Fresh (Line l)) q w says = absurd w
+  to_work (Away (Exchange l offer)) q w says = absurd w
+  to_work (Away (SpoolArrival number job cards service)) q w says = absurd w
+  to_work (Away (Acknowledge number service)) q w says = absurd w
   to_work Told q w says = absurd w
 
   of_work : (s : State) (q : Sitting) → IsWork s → SaysIn k s later v1 v2 q → SaysAtEnd q.next (WorkLinesIn k (units_done s + units_left s) later v1 v2) q.lines
@@ -185,6 +200,10 @@ module _ (h : Holder) (hold : ℕ) (found later : Found) (v0 v1 v2 : View) (one 
   of_work (Fresh (Give c)) q w says = absurd w
   of_work (Fresh (Deck fields text)) q w says = absurd w
   of_work (Away (SpoolDeck n text)) q w says = absurd w
+  of_work (Fresh (Line l)) q w says = absurd w
+  of_work (Away (Exchange l offer)) q w says = absurd w
+  of_work (Away (SpoolArrival number job cards service)) q w says = absurd w
+  of_work (Away (Acknowledge number service)) q w says = absurd w
   of_work Told q w says = absurd w
 
   to_few : (s : State) → IsWork s → AreFewPieces h s found v0 v2 (first ∷ ps) → AreShaped h s found v0 v2 (first ∷ ps)
@@ -193,6 +212,7 @@ module _ (h : Holder) (hold : ℕ) (found later : Found) (v0 v1 v2 : View) (one 
   to_few (Rested p) w few = few
   to_few (Fresh (Give c)) w few = absurd w
   to_few (Fresh (Deck fields text)) w few = absurd w
+  to_few (Fresh (Line l)) w few = absurd w
   to_few Told w few = absurd w
 
   of_few : (s : State) → IsWork s → AreShaped k s later v1 v2 ps → AreFewPieces k s later v1 v2 ps
@@ -201,6 +221,7 @@ module _ (h : Holder) (hold : ℕ) (found later : Found) (v0 v1 v2 : View) (one 
   of_few (Rested p) w few = few
   of_few (Fresh (Give c)) w few = absurd w
   of_few (Fresh (Deck fields text)) w few = absurd w
+  of_few (Fresh (Line l)) w few = absurd w
   of_few Told w few = absurd w
 
   few_then : (s n : State) → t.next ≡ n → sittings_most n < sittings_most s → length t.batches + sittings_most t.next ≤ sittings_most s → SaysIn h s found v0 v2 t
@@ -243,6 +264,7 @@ module _ (h : Holder) (hold : ℕ) (found later : Found) (v0 v1 v2 : View) (one 
       (λ q says. at_end q.next (DeckLinesIn k later v1 v2) (DeckLinesIn h found v0 v2) deck_lines q.lines says) rest
   deck_then (Fresh (Give c)) n text d next falls is rest = absurd d
   deck_then (Fresh (Work m)) n text d next falls is rest = absurd d
+  deck_then (Fresh (Line l)) n text d next falls is rest = absurd d
   deck_then (Away aside) n text d next falls is rest = absurd d
   deck_then (Rested p) n text d next falls is rest = absurd d
   deck_then Told n text d next falls is rest = absurd d
@@ -256,3 +278,6 @@ module _ (h : Holder) (hold : ℕ) (found later : Found) (v0 v1 v2 : View) (one 
   shaped_then s (Away (ReadText runs n fields p)) ne some next comes falls units is rest = work_then s (Away (ReadText runs n fields p)) comes tt ne next falls units is rest
   shaped_then s (Away (SpoolOutputs n specs p)) ne some next comes falls units is rest = work_then s (Away (SpoolOutputs n specs p)) comes tt ne next falls units is rest
   shaped_then s (Away (PrintLines n i last p)) ne some next comes falls units is rest = work_then s (Away (PrintLines n i last p)) comes tt ne next falls units is rest
+  shaped_then s (Away (Exchange l offer)) ne some next comes falls units is rest = absurd comes
+  shaped_then s (Away (SpoolArrival number job cards service)) ne some next comes falls units is rest = absurd comes
+  shaped_then s (Away (Acknowledge number service)) ne some next comes falls units is rest = absurd comes

@@ -9,11 +9,13 @@ use Rattle.step_turns.specs.Sittings.{Sitting, sit}
 use Rattle.step_turns.specs.declared.states.Found.{Found}
 use Rattle.step_turns.specs.declared.states.Holder.{Holder}
 use Rattle.step_turns.specs.declared.states.State.{State}
-use Rattle.step_turns.specs.declared.states.State.TheVariants.{Told}
+use Rattle.step_turns.specs.declared.states.State.TheVariants.{Away, Fresh, Rested, Told}
+use Rattle.step_turns.specs.declared.states.Aside.TheVariants.{Acknowledge, Exchange, PrintLines, ReadText, SpoolArrival, SpoolDeck, SpoolOutputs}
+use Rattle.step_turns.specs.Serving.{bytes_given}
 use Rattle.step_turns.proofs.Sittings.{some_may_follow, steps_end}
 use Rattle.run_turns.specs.Scenes.{count_then}
 use Rattle.run_turns.specs.Sights.{Cut, Sight}
-use Rattle.run_turns.specs.Pieces.{Piece, chunk, inked_of, piece_of, pieces_from, unless_told}
+use Rattle.run_turns.specs.Pieces.{Piece, chunk, inked_of, piece_of, pieces_from, poured, poured_of, unless_told, with_given}
 use Rattle.member_hand.proofs.Fuel.{LosesPrinter, enough_of, finding, finds_here, finds_later, ink_is_free, piece_by, same_pieces}
 
 -- the same lines stand on paper, whichever number is looked at
@@ -21,16 +23,33 @@ same_ink : (b : Bool) (i j : ℕ) (lines : List (List ℕ)) → inked_of b (if b
 same_ink true i j lines = refl
 same_ink false i j lines = refl
 
+-- where no line was found lost, all of the bytes were given
+all_poured : (b : Bool) (i j : ℕ) (bytes : List ℕ) → b ≡ false → poured_of b i bytes ≡ poured_of b j bytes
+all_poured true i j bytes e = absurd (cc)
+all_poured false i j bytes e = refl
+
+pub same_poured : (i j : ℕ) (s : State) (found : Found) → found.wire ≡ false → poured i s found ≡ poured j s found
+same_poured i j (Away (Exchange l offer)) found e = all_poured found.wire i j (bytes_given (Away (Exchange l offer)) found.read) e
+same_poured i j (Away (Acknowledge number service)) found e = all_poured found.wire i j (bytes_given (Away (Acknowledge number service)) found.read) e
+same_poured i j (Away (SpoolArrival number job cards service)) found e = refl
+same_poured i j (Away (SpoolDeck n text)) found e = refl
+same_poured i j (Away (ReadText runs n fields p)) found e = refl
+same_poured i j (Away (SpoolOutputs n specs p)) found e = refl
+same_poured i j (Away (PrintLines n output last p)) found e = refl
+same_poured i j (Fresh task) found e = refl
+same_poured i j (Rested p) found e = refl
+same_poured i j Told found e = refl
+
 -- a sight from here on, with what is found here and how many lines are printed after it
 abbrev pub sight_then : Sight → ℕ → Found → Bool → ℕ → Option Cut → Sight
 sight_then R most found lost inked cut =
-    record { finds = finding most found R.finds; inked = if lost then inked else R.inked; flight = R.flight; cut = cut }
+    record { finds = finding most found R.finds; inked = if lost then inked else R.inked; flight = R.flight; renewed = R.renewed; cut = cut }
 
 -- a piece of this sitting, by what was found in the acts after it
 abbrev pub piece_now : ℕ → Queue → Holder → Sitting → Found → ℕ → Piece
 piece_now n Q h t found inked =
     let es = all_entries t.batches in
-    piece_of t found.printer (inked_of found.printer inked (chunk (run Q es) (count_then h.by es n) t.next found.read))
+    with_given (poured inked t.next found) (piece_of t found.printer (inked_of found.printer inked (chunk (run Q es) (count_then h.by es n) t.next found.read)))
 
 -- a piece, and those that follow it by a sight
 abbrev pub piece_and : Sight → ℕ → Queue → Holder → Piece → List Piece
@@ -40,7 +59,7 @@ piece_and R n Q h p =
 
 module _ (R : Sight) (found later : Found) (inked : ℕ) (cut : Option Cut) (n : ℕ) (Q : Queue) (h : Holder) (s : State) (ne : s ≢ Told)
     (found_then : R.finds (run Q (all_entries (sit Q h s found).batches)) (sit Q h s found).next ≡ later)
-    (loses : later.printer ≡ true → LosesPrinter (sit Q h s found).next later) where
+    (loses : later.printer ≡ true → LosesPrinter (sit Q h s found).next later) (gives : (i j : ℕ) → poured i (sit Q h s found).next later ≡ poured j (sit Q h s found).next later) where
   abbrev t : Sitting
   t = sit Q h s found
 
@@ -62,8 +81,9 @@ module _ (R : Sight) (found later : Found) (inked : ℕ) (cut : Option Cut) (n :
   its_first : piece_by A.inked A.finds n Q h (sit Q h s (A.finds Q s)) ≡ p
   its_first =
       ap (λ (f : Found). piece_by A.inked A.finds n Q h (sit Q h s f)) (finds_here (sittings_most s) found R.finds Q s refl)
-      ∙ ap (λ (f : Found). piece_of t f.printer (inked_of f.printer A.inked (chunk now (count_then h.by es n) t.next f.read))) (finds_later (sittings_most s) found R.finds now t.next fewer ∙ found_then)
-      ∙ ap (λ (ls : List (List ℕ)). piece_of t later.printer ls) (same_ink later.printer inked R.inked (chunk now (count_then h.by es n) t.next later.read))
+      ∙ ap (λ (f : Found). with_given (poured A.inked t.next f) (piece_of t f.printer (inked_of f.printer A.inked (chunk now (count_then h.by es n) t.next f.read)))) (finds_later (sittings_most s) found R.finds now t.next fewer ∙ found_then)
+      ∙ ap (λ (ls : List (List ℕ)). with_given (poured A.inked t.next later) (piece_of t later.printer ls)) (same_ink later.printer inked R.inked (chunk now (count_then h.by es n) t.next later.read))
+      ∙ ap (λ (bytes : List ℕ). with_given bytes (piece_of t later.printer (inked_of later.printer inked (chunk now (count_then h.by es n) t.next later.read)))) (gives A.inked inked)
 
   abbrev count : ℕ
   count = count_then h.by es n + length p.printed

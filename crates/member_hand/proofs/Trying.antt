@@ -67,9 +67,10 @@ module _ {P C : Type 0} (plants : PlantGhosts P) (copies : CopyGhosts C) (s : St
   members_then r u acts =
       members_by r u (changed_only plants copies left u n end.next r acts) ∙ left_members y.book me end.given end.release ∙ ap (λ (b : Book). length b.members) book ∙ entered_members x.book me
 
-  -- and the base and the first moment are as they were
+  -- and the base, the first moment, and when copies were replaced, are as they were
   pub frame_then : (r : Result Found NodeNo) (u : Parts P C) → ActsAfter plants left u n end.next r → u ≡ played_in u x
   frame_then r u acts =
       let changed = only_these r n.id left u (changed_only plants copies left u n end.next r acts) in
       played_frame x u (ap (λ (q : Parts P C). q.base) changed ∙ ap (λ (q : Parts P C). q.base) turn.frame ∙ ap (λ (q : Parts P C). q.base) turn.locked)
       (ap (λ (q : Parts P C). q.since) changed ∙ ap (λ (q : Parts P C). q.since) turn.frame ∙ ap (λ (q : Parts P C). q.since) turn.locked)
+      (ap (λ (q : Parts P C). q.renewals) changed ∙ ap (λ (q : Parts P C). q.renewals) turn.frame ∙ ap (λ (q : Parts P C). q.renewals) turn.locked)

@@ -14,8 +14,8 @@ use Rattle.mas_complex.specs.Parts.{Parts, with_copies}
 use Rattle.member_node.specs.declared.member.Member.{Member}
 use Rattle.member_node.specs.declared.member.NodeNo.{NodeNo}
 use Rattle.member_node.specs.declared.member.NodeNo.TheVariants.{BothLost, Halted, ConsoleFault, NoMemory}
-use Rattle.member_node.specs.Calls.{IsOnlyOn, console_now}
-use Rattle.member_node.proofs.CourseLemmas.{only_on, papers_on}
+use Rattle.member_node.specs.Calls.{IsOnlyOn, VolumesStay, console_now, none_lost}
+use Rattle.member_node.proofs.CourseLemmas.{only_on, papers_on, stay_then}
 use Rattle.member_steps.specs.Steps.{StepCauses}
 use Rattle.member_decks.specs.Keeping.{CopyCauses}
 use Rattle.member_decks.proofs.OutcomeLemmas.{copy_causes}
@@ -36,6 +36,7 @@ use Rattle.member_hand.specs.Plays.{HasActedIn, HasPlayed, stopped_by}
 use Rattle.member_hand.specs.Sits.{GoesOn, LeavesStep}
 use Rattle.member_hand.specs.Turns.{HasTurned, taken}
 use Rattle.member_hand.proofs.Batching.{batched_sooner}
+use Rattle.member_hand.proofs.Passages.{passage_of}
 use Rattle.member_hand.proofs.Cutting.{IsLeftAt, acted_stopped, bare_cut, book_stopped, cut_at, holder_stopped, its_piece, left_stopped, none_tight, reach_tight, told_cut, unbroken}
 use Rattle.member_hand.proofs.StepKinds.{if_all, if_map, if_still}
 use Rattle.member_hand.proofs.Ending.{journal_is}
@@ -107,7 +108,7 @@ module _ {P C : Type 0} (plants : PlantGhosts P) (copies : CopyGhosts C) (s : St
   seat_journal = ap (λ (q : Parts P C). journal_of q) frame ∙ journal_is plants copies x none unplaced
 
   pub seat_acted : CopiesActed plants {T = Unit {0}} me (taken me x) z (Ok tt) → HasActedIn plants copies me x z (Ok tt)
-  seat_acted took = record { course = took.course; loses = took.loses; spares = took.spares; cause = took.cause }
+  seat_acted took = record { course = passage_of x.first_alive z.first_alive x.second_alive z.second_alive (v x) (v z) took.course; loses = took.loses; spares = took.spares; cause = took.cause }
 
   -- nobody but the member has the lock then
   pub away_never : (w : Parts P C) → w.book.holder ≡ (entered x.book me).holder → w.book.holder ≡ nobody → ⊥
@@ -145,7 +146,7 @@ module _ {P C : Type 0} (plants : PlantGhosts P) (copies : CopyGhosts C) (s : St
     }
 
     pub unsat_acted : HasActedIn plants copies me x z (Err e)
-    unsat_acted = record { course = acts.course; loses = acts.loses; spares = acts.spares; cause = copy_causes (Err e) me.0 x.first_alive z.first_alive x.second_alive z.second_alive (v x) (v z) acts.cause }
+    unsat_acted = record { course = passage_of x.first_alive z.first_alive x.second_alive z.second_alive (v x) (v z) acts.course; loses = acts.loses; spares = acts.spares; cause = copy_causes (Err e) me.0 x.first_alive z.first_alive x.second_alive z.second_alive (v x) (v z) acts.cause }
 
     pub unseated : HasPlayed plants copies s x (stopped_by e me z) pages (Err e)
     unseated =
@@ -164,7 +165,7 @@ module _ {P C : Type 0} (plants : PlantGhosts P) (copies : CopyGhosts C) (s : St
           still = λ t. if_still s.state (IsOnlyOn (v x) (v (stopped_by e me z))) (view_stopped e me z (λ w. IsOnlyOn (v x) w) (acts.apart t).others);
           quiet = λ b. absurd b;
           away = λ free. absurd (away_never (stopped_by e me z) (holder_stopped plants copies me e z ∙ ap (λ (b : Book). b.holder) seat_book) free);
-          told = λ t. told_cut plants copies s e (Writing 0 None) x (stopped_by e me z) ne (if_all s.state (IsTight e (Writing 0 None) now.sitting) (none_tight e now.sitting)) (unbroken e 0 None now.sitting)
+          told = λ t. told_cut plants copies s e (Writing 0 None) x (stopped_by e me z) ne (view_stopped e me z (λ w. VolumesStay none_lost (v x) w) acts.course.volumes) (if_all s.state (IsTight e (Writing 0 None) now.sitting) (none_tight e now.sitting)) (unbroken e 0 None now.sitting)
               (left_stopped plants copies (Unit {0}) me now e (Writing 0 None) x z (unsat (Unit {0}) (λ u. t) now)) book;
         }
 
@@ -172,7 +173,7 @@ module _ {P C : Type 0} (plants : PlantGhosts P) (copies : CopyGhosts C) (s : St
 
   module _ (took : CopiesActed plants {T = Unit {0}} me (taken me x) z (Ok tt)) (y : Parts P C) (same : y ≡ sat_in y z) where
     pub sat_acted : (e : NodeNo) → HasActed plants {T = SittingEnd} me z y (Err e) → HasActedIn plants copies me z y (Err e)
-    sat_acted e a = record { course = a.course; loses = a.loses; spares = a.spares; cause = causes_in SittingEnd e me.0 z.first_alive y.first_alive z.second_alive y.second_alive (v z) (v y) a.cause }
+    sat_acted e a = record { course = passage_of z.first_alive y.first_alive z.second_alive y.second_alive (v z) (v y) a.course; loses = a.loses; spares = a.spares; cause = causes_in SittingEnd e me.0 z.first_alive y.first_alive z.second_alive y.second_alive (v z) (v y) a.cause }
 
     pub sat_book : y.book ≡ entered x.book me
     sat_book = ap (λ (q : Parts P C). q.book) same ∙ seat_book
@@ -183,6 +184,10 @@ module _ {P C : Type 0} (plants : PlantGhosts P) (copies : CopyGhosts C) (s : St
 
     pub sat_still : {T : Type 0} {r : Result T NodeNo} → HasActed plants me z y r → plants.tells → IsOnlyOn (v x) (v y)
     sat_still a t = only_on (v x) (v z) (v y) took.course.goes.later a.course.goes (took.apart t).others (a.others t)
+
+    -- and no volume is lost, nor fails
+    pub sat_stays : {T : Type 0} {r : Result T NodeNo} → HasActed plants me z y r → VolumesStay none_lost (v x) (v y)
+    sat_stays a = stay_then none_lost (v x) (v z) (v y) took.course.volumes a.course.volumes
 
     -- a sitting, and what it may not leave
     record IsSatTight (e : NodeNo) (u : Sitting) : Type 0 where
@@ -302,7 +307,7 @@ module _ {P C : Type 0} (plants : PlantGhosts P) (copies : CopyGhosts C) (s : St
               let is : sat.sitting ≡ now.sitting = sat.is t ∙ ap (λ (Q : Queue). sit Q s.holder s.state s.found) seat_queue in
               let all = subst (IsSatTight e) is (record { sat = sat.sat; tight = sat.tight }) in
               let d = told_in t now e all.sat all.tight in
-              told_cut plants copies s e d.halt x (stopped_by e me y) ne d.tight (d.broke tt) (left_stopped plants copies (Unit {0}) me now e d.halt x y d.left)
+              told_cut plants copies s e d.halt x (stopped_by e me y) ne (view_stopped e me y (λ w. VolumesStay none_lost (v x) w) (sat_stays sat.sat.acts)) d.tight (d.broke tt) (left_stopped plants copies (Unit {0}) me now e d.halt x y d.left)
               (book_stopped plants copies me e y (book_cut me d.halt x.book now) (sat_book ∙ sym (book_locked me d.halt x.book now d.locked)));
         }
 

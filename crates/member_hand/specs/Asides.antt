@@ -1,4 +1,5 @@
--- The acts aside for which a step waits: which may be done, and what they do.
+-- The acts aside for which a step waits: which may be done, and what they do. None is done on a line to another node
+-- yet.
 use Rattle.std.specs.Prelude.{◌≡◌, Result, Ok}
 use Rattle.mas_types.specs.declared.ids.MemberId.{MemberId}
 use Rattle.spool_disk.specs.declared.plant.Plant.{Ghosts as PlantGhosts}
@@ -9,7 +10,7 @@ use Rattle.mas_complex.specs.Parts.{Parts, parts_of}
 use Rattle.member_node.specs.declared.member.Member.{Member}
 use Rattle.member_node.specs.declared.member.NodeNo.{NodeNo}
 use Rattle.step_turns.specs.declared.states.Aside.{Aside}
-use Rattle.step_turns.specs.declared.states.Aside.TheVariants.{PrintLines, ReadText, SpoolDeck, SpoolOutputs}
+use Rattle.step_turns.specs.declared.states.Aside.TheVariants.{Acknowledge, Exchange, PrintLines, ReadText, SpoolArrival, SpoolDeck, SpoolOutputs}
 use Rattle.step_turns.specs.declared.states.Found.{Found}
 use Rattle.step_turns.specs.declared.states.State.{State}
 use Rattle.step_turns.specs.declared.states.State.TheVariants.{Away}
@@ -23,12 +24,18 @@ module _ {P C : Type 0} (plants : PlantGhosts P) where
   MayActIn x m (ReadText runs n fields p) = MayRead plants x m n
   MayActIn x m (SpoolOutputs n specs p) = MayWrite plants x m specs
   MayActIn x m (PrintLines n i last p) = MayPrintNext plants x m n i last
+  MayActIn x m (Exchange l offer) = ⊥
+  MayActIn x m (SpoolArrival number job cards service) = ⊥
+  MayActIn x m (Acknowledge number service) = ⊥
 
   abbrev pub ActsIn : Parts P C → Parts P C → Member → Aside → Result Found NodeNo → Type 0
   ActsIn x y m (SpoolDeck n text) r = HasSpooled plants x y m text r
   ActsIn x y m (ReadText runs n fields p) r = HasRead plants x y m n r
   ActsIn x y m (SpoolOutputs n specs p) r = HasWritten plants x y m specs r
   ActsIn x y m (PrintLines n i last p) r = HasPrintedNext plants x y m n i last r
+  ActsIn x y m (Exchange l offer) r = ⊥
+  ActsIn x y m (SpoolArrival number job cards service) r = ⊥
+  ActsIn x y m (Acknowledge number service) r = ⊥
 
   -- Only the plant differs after them, and where lines were printed how many the members have printed. A member that
   -- was stopped at its printer is stopped so already.
@@ -37,6 +44,9 @@ module _ {P C : Type 0} (plants : PlantGhosts P) where
   IsActedIn x y by (SpoolDeck n text) r = y ≡ record x { plant = y.plant }
   IsActedIn x y by (ReadText runs n fields p) r = y ≡ record x { plant = y.plant }
   IsActedIn x y by (SpoolOutputs n specs p) r = y ≡ record x { plant = y.plant }
+  IsActedIn x y by (Exchange l offer) r = y ≡ record x { plant = y.plant }
+  IsActedIn x y by (SpoolArrival number job cards service) r = y ≡ record x { plant = y.plant }
+  IsActedIn x y by (Acknowledge number service) r = y ≡ record x { plant = y.plant }
 
   -- A step that doesn't wait for acts does none, and finds nothing.
   abbrev pub MayActAfter : Parts P C → Member → State → Type 0

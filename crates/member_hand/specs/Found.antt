@@ -1,6 +1,7 @@
 -- What a step may find in the acts that it waits for: a text is as the queue has it, and nothing is lost but what
 -- failed.
-use Rattle.std.specs.Prelude.{◌≡◌, ℕ, true, List, [], ◌∷◌, All, Some, None}
+use Rattle.std.specs.Prelude.{◌≡◌, ◌||◌, ℕ, Bool, true, List, [], ◌∷◌, All, Some}
+use Rattle.std.specs.List.{list_any}
 use Rattle.mas_types.specs.declared.ids.GroupNo.{GroupNo}
 use Rattle.mas_types.specs.declared.ids.JobNo.{JobNo}
 use Rattle.mas_types.specs.declared.ids.MemberId.{MemberId}
@@ -13,17 +14,18 @@ use Rattle.mas_types.specs.Queue.{job_at, output_at}
 use Rattle.mas_types.specs.Run.{run}
 use Rattle.spool_disk.specs.View.{View}
 use Rattle.track_groups.specs.Places.{groups_of}
-use Rattle.member_work.specs.Rounds.{HasPrinterFailed, IsReadAs, IsSpoolLost}
+use Rattle.member_decks.specs.Steps.{names_volume}
+use Rattle.member_work.specs.Rounds.{HasPrinterFailed, IsReadAs, IsSpoolLost, names_read}
 use Rattle.step_turns.specs.Courses.{Finds}
 use Rattle.step_turns.specs.Entries.{all_entries}
 use Rattle.step_turns.specs.States.{nothing_found}
 use Rattle.step_turns.specs.declared.states.Found.{Found}
 use Rattle.step_turns.specs.declared.states.State.{State}
 use Rattle.step_turns.specs.declared.states.State.TheVariants.{Away}
-use Rattle.step_turns.specs.declared.states.Aside.TheVariants.{PrintLines, ReadText, SpoolDeck, SpoolOutputs}
+use Rattle.step_turns.specs.declared.states.Aside.TheVariants.{Acknowledge, Exchange, PrintLines, ReadText, SpoolArrival, SpoolDeck, SpoolOutputs}
 use Rattle.run_turns.specs.Pieces.{Piece}
 use Rattle.member_sittings.specs.Asides.{deck_found, lowest_groups}
-use Rattle.member_units.specs.Asides.{lowest_for, read_found}
+use Rattle.member_units.specs.Asides.{lowest_for, printed_found, read_found}
 
 -- A text of these groups was written, or not: a volume that was found lost failed, and one of the groups lies on it.
 pub record FindsWritten (per : ℕ) (groups : List GroupNo) (found : Found) (old new : View) : Type 0 where
@@ -40,14 +42,14 @@ pub record FindsJob (per : ℕ) (Q : Queue) (n : JobNo) (found : Found) (old new
 -- So was the text of an output that is there. The member's printer was found lost only if it failed.
 pub record FindsOutput (per : ℕ) (by : MemberId) (Q : Queue) (n : JobNo) (i : OutNo) (found : Found) (old new : View)
     : Type 0 where
-  pub only : found.lost ≡ None
+  pub only : found ≡ printed_found found.read found.printer
   pub lost : found.printer ≡ true → HasPrinterFailed by old new
   pub output : Output
   pub there : output_at Q n i ≡ Some output
   pub as_had : IsReadAs (Unit {0}) per output.text (groups_of (OutputThing n i) Q.owners) (Some found.read) old new
 
 -- What a member may find at a queue in the acts that a state waits for, in acts between two views of the plant, whose
--- volumes have so many groups each.
+-- volumes have so many groups each. No line to another node is served yet.
 abbrev pub IsFoundAt : ℕ → MemberId → View → View → Queue → State → Found → Type 0
 IsFoundAt per by old new Q (Away (SpoolDeck n text)) found = FindsWritten per (lowest_groups by Q.owners text) found old
     new
@@ -55,6 +57,9 @@ IsFoundAt per by old new Q (Away (ReadText runs n fields p)) found = FindsJob pe
 IsFoundAt per by old new Q (Away (SpoolOutputs n specs p)) found = FindsWritten per (lowest_for by Q.owners specs) found
     old new
 IsFoundAt per by old new Q (Away (PrintLines n i last p)) found = FindsOutput per by Q n i found old new
+IsFoundAt per by old new Q (Away (Exchange l offer)) found = ⊥
+IsFoundAt per by old new Q (Away (SpoolArrival number job cards service)) found = ⊥
+IsFoundAt per by old new Q (Away (Acknowledge number service)) found = ⊥
 IsFoundAt per by old new Q _ found = found ≡ nothing_found
 
 -- a queue, and a state of a step there
@@ -72,3 +77,11 @@ waits_in (p ∷ ps) Q =
 -- at each of them this may be found
 abbrev pub AreFoundIn : ℕ → MemberId → View → View → Finds → List Wait → Type 0
 AreFoundIn per by old new finds ws = All (λ w. IsFoundAt per by old new w.queue w.state (finds w.queue w.state)) ws
+
+-- the volume that acts found lost, if they did
+abbrev pub names_found : Found → ℕ → Bool
+names_found found n = names_volume found.lost n || names_read found.read n
+
+-- the volumes that were found lost where a step waited so
+abbrev pub named_in : Finds → List Wait → ℕ → Bool
+named_in finds ws n = list_any (λ w. names_found (finds w.queue w.state) n) ws

@@ -1,12 +1,15 @@
 -- What a member's step does from a state on, with its lock, for every answer.
-use Rattle.std.specs.Prelude.{◌≡◌, ◌≢◌, ℕ, ◌+◌, ◌≤◌, true, false, List, [], ◌++◌, length, take, All, Option, None, Result, Ok, Err, IfErr, OnOk}
+use Rattle.std.specs.Prelude.{◌≡◌, ◌≢◌, ℕ, ◌+◌, ◌≤◌, Bool, true, false, List, [], ◌++◌, length, take, All, Option, None, Result, Ok, Err, IfErr, OnOk}
 use Rattle.mas_types.specs.declared.ids.Dev.{Dev}
+use Rattle.mas_types.specs.declared.ids.Dev.TheVariants.{Ckpt1, Ckpt2}
 use Rattle.mas_types.specs.declared.ids.MemberId.{MemberId}
 use Rattle.mas_types.specs.declared.journals.Batch.{Batch}
 use Rattle.mas_types.specs.declared.queues.Queue.{Queue}
 use Rattle.mas_types.specs.Run.{run}
 use Rattle.lock_cycle.specs.Books.{Book}
+use Rattle.spool_disk.specs.declared.plant.Part.TheVariants.{Disk}
 use Rattle.spool_disk.specs.View.{View, paper_now}
+use Rattle.spool_disk.specs.Acts.{Goes}
 use Rattle.spool_disk.specs.declared.plant.Plant.{Ghosts as PlantGhosts}
 use Rattle.ckpt_copy.specs.declared.copying.Copying.{Ghosts as CopyGhosts}
 use Rattle.ckpt_form.specs.declared.steady.Steady.{Ghosts as SteadyGhosts}
@@ -16,7 +19,7 @@ use Rattle.mas_complex.specs.Paper.{SamePapers, counts_of}
 use Rattle.mas_complex.specs.Parts.{Parts, parts_of}
 use Rattle.member_node.specs.declared.member.Member.{Member}
 use Rattle.member_node.specs.declared.member.NodeNo.{NodeNo}
-use Rattle.member_node.specs.Calls.{Course, IsOnlyOn, console_now}
+use Rattle.member_node.specs.Calls.{Grows, IsOnlyOn, VolumesStay, WasLost, console_now}
 use Rattle.member_node.specs.Spares.{Spares, stopped_in}
 use Rattle.member_steps.specs.Steps.{StepCauses}
 use Rattle.member_decks.specs.Steps.{AreOf}
@@ -29,7 +32,7 @@ use Rattle.step_turns.specs.declared.states.State.TheVariants.{Fresh, Told}
 use Rattle.step_turns.specs.declared.states.Task.TheVariants.{Give}
 use Rattle.step_turns.specs.declared.states.Found.{Found}
 use Rattle.run_turns.specs.Cuts.{Left, adds, left_by, none_left}
-use Rattle.run_turns.specs.Pieces.{Piece, Play, chunk, inked_of, piece_of, pieces_from}
+use Rattle.run_turns.specs.Pieces.{Piece, Play, chunk, inked_of, piece_of, pieces_from, poured, with_given}
 use Rattle.run_turns.specs.Scenes.{count_then}
 use Rattle.run_turns.specs.Sights.{Cut, Sight}
 use Rattle.member_node.specs.declared.member.NodeNo.TheVariants.{Halted}
@@ -39,7 +42,7 @@ use Rattle.member_sittings.specs.Tight.{IfNoWork}
 use Rattle.member_sittings.specs.Whole.{IsSeat, queue_of}
 use Rattle.member_units.specs.Asides.{stopped_at}
 use Rattle.member_hand.specs.Cuts.{AreBatched, AtCut, IsBetweenSittings, IsBroken, IsCutBy, IsTight, whole_pieces}
-use Rattle.member_hand.specs.Found.{AreFoundIn, IsFoundAt, waits_in}
+use Rattle.member_hand.specs.Found.{AreFoundIn, IsFoundAt, named_in, names_found, waits_in}
 use Rattle.member_hand.specs.Quiet.{IsAside, IsQuiet, MayGoOn, levels_for}
 use Rattle.member_hand.specs.Shapes.{AreShaped, IsFailedFound}
 use Rattle.member_hand.specs.Sits.{AreFewUnits, GoesOn, IsFoundRight, start_of}
@@ -60,6 +63,18 @@ abbrev pub play_in : MemberId → List Piece → Book → Queue → Play
 play_in by pieces book Q =
     record { sayer = by; pieces = pieces; book = book; locked = true; queue = Q; flight = None }
 
+-- Acts of a step, of which these copies counted as alive before and count so after. What becomes of the copies is as in a
+-- sitting; of the volumes nothing is said.
+pub record Passage (was1 is1 was2 is2 : Bool) (old new : View) : Type 0 where
+  pub goes : Goes old new
+  pub failed1 : was1 ≡ true → is1 ≡ false → WasLost Ckpt1 old new
+  pub failed2 : was2 ≡ true → is2 ≡ false → WasLost Ckpt2 old new
+  pub there1 : is1 ≡ true → old.lost (Disk Ckpt1) ≡ false → new.lost (Disk Ckpt1) ≡ false
+  pub there2 : is2 ≡ true → old.lost (Disk Ckpt2) ≡ false → new.lost (Disk Ckpt2) ≡ false
+  pub alive1 : is1 ≡ true → was1 ≡ true
+  pub alive2 : is2 ≡ true → was2 ≡ true
+  pub grow : (d : Dev) → Grows (old.loses d) (new.loses d)
+
 module _ {P C : Type 0} (plants : PlantGhosts P) (copies : CopyGhosts C) where
   abbrev v : Parts P C → View
   v x = plants.view x.plant
@@ -72,12 +87,13 @@ module _ {P C : Type 0} (plants : PlantGhosts P) (copies : CopyGhosts C) where
   -- before these
   abbrev pub piece_with : Sitting → Found → ℕ → ℕ → Queue → Piece
   piece_with t found inked count now =
-      piece_of t found.printer (inked_of found.printer inked (chunk now count t.next found.read))
+      with_given (poured inked t.next found)
+      (piece_of t found.printer (inked_of found.printer inked (chunk now count t.next found.read)))
 
   -- The acts of a step: nobody was stopped but its member, and it only where the answer says so; no device was lost by
   -- a call; and the answer has its cause.
   pub record HasActedIn (by : MemberId) (x y : Parts P C) (result : Result (Unit {0}) NodeNo) : Type 0 where
-    pub course : Course x.first_alive y.first_alive x.second_alive y.second_alive (v x) (v y)
+    pub course : Passage x.first_alive y.first_alive x.second_alive y.second_alive (v x) (v y)
     pub loses : plants.tells → (d : Dev) → (v y).loses d ≡ (v x).loses d
     pub spares : Spares by.0 (stopped_in result) (v x) (v y)
     pub cause : StepCauses result by.0 x.first_alive y.first_alive x.second_alive y.second_alive (v x) (v y)
@@ -135,10 +151,12 @@ module _ {P C : Type 0} (plants : PlantGhosts P) (copies : CopyGhosts C) where
     pub finds : IsFoundAt x.base.config.groups s.holder.by (v x) (v y) (queue_of y) next.state next.found
     pub writes : Writes s.holder.by (one_left s.holder.by piece x) x y (Ok tt)
 
+  -- No volume is lost in a piece but one that was found lost, and no fault of another one is counted.
   pub record HasPieced (s : Start) (x y : Parts P C) (next : Start) : Type 0 where
     pub piece : Piece
     pub one : IsPiece s piece x y next
     pub acts : HasActedIn s.holder.by x y (Ok tt)
+    pub volumes : VolumesStay (names_found next.found) (v x) (v y)
     pub shaped : IsShaped s.holder s.state s.found piece.sitting
     pub plain : piece ≡ piece_of piece.sitting false []
     pub failed : IsFailedFound s.holder.by next.found (v x) (v y)
@@ -150,7 +168,8 @@ module _ {P C : Type 0} (plants : PlantGhosts P) (copies : CopyGhosts C) where
 
   -- Where content is told there are what the step found and where it was cut, so that its pieces are those that the
   -- queue gives which the member found, and it left of these what the cut leaves, lines too. At each place where it
-  -- waited it found what it may find there.
+  -- waited it found what it may find there. No volume is lost but those that it found lost so, and no fault of another
+  -- one is counted.
   pub record HasToldStep (s : Start) (x y : Parts P C) (result : Result (Unit {0}) NodeNo) : Type 0 where
     pub sight : Sight
     pub pieces : List Piece
@@ -158,6 +177,8 @@ module _ {P C : Type 0} (plants : PlantGhosts P) (copies : CopyGhosts C) where
     pub found : sight.finds (queue_of x) s.state ≡ s.found
     pub finds : AreFoundIn x.base.config.groups s.holder.by (v x) (v y) sight.finds
         (waits_in (take (whole_pieces sight.cut pieces) pieces) (queue_of x))
+    pub volumes : VolumesStay
+        (named_in sight.finds (waits_in (take (whole_pieces sight.cut pieces) pieces) (queue_of x))) (v x) (v y)
     pub cut : HasCut s.holder pieces sight.cut x y result
     pub tight : IfNoWork s.state (IfErr result (λ e. AtCut (IsTight e) sight.cut pieces))
     pub broke : IfErr result (λ e. AtCut (IsBroken e) sight.cut pieces)
@@ -181,7 +202,7 @@ module _ {P C : Type 0} (plants : PlantGhosts P) (copies : CopyGhosts C) where
 
 -- The parts as they are, with the base and the first moment as they were.
 abbrev pub played_in : {P C : Type 0} → Parts P C → Parts P C → Parts P C
-played_in is was = record is { base = was.base; since = was.since }
+played_in is was = record is { base = was.base; since = was.since; renewals = was.renewals }
 
 -- a member that was halted is stopped in the book, and what it had reserved is given up
 abbrev pub stopped_by : {P C : Type 0} → NodeNo → MemberId → Parts P C → Parts P C

@@ -19,12 +19,12 @@ use Rattle.step_turns.specs.Sittings.{Sitting}
 use Rattle.step_turns.specs.declared.states.Found.{Found}
 use Rattle.step_turns.specs.declared.states.Holder.{Holder}
 use Rattle.step_turns.specs.declared.states.State.{State}
-use Rattle.step_turns.specs.declared.states.Aside.TheVariants.{SpoolDeck}
+use Rattle.step_turns.specs.declared.states.Aside.TheVariants.{Acknowledge, Exchange, SpoolArrival, SpoolDeck}
 use Rattle.step_turns.specs.declared.states.State.TheVariants.{Away, Fresh, Told}
-use Rattle.step_turns.specs.declared.states.Task.TheVariants.{Deck, Give}
+use Rattle.step_turns.specs.declared.states.Task.TheVariants.{Deck, Give, Line}
 use Rattle.run_turns.specs.Pieces.{Piece, piece_of}
 use Rattle.member_sittings.specs.Ends.{ends_in}
-use Rattle.member_sittings.specs.Shapes.{MayCloseBy, SaysAtEnd}
+use Rattle.member_sittings.specs.Shapes.{MayCloseBy, SaysAtEnd, SaysLine}
 
 -- WHAT WAS FOUND LOST failed in acts between two views
 
@@ -50,6 +50,10 @@ abbrev pub SaysIn : Holder → State → Found → View → View → Sitting →
 SaysIn h (Fresh (Give c)) found old new t = Unit {0}
 SaysIn h (Fresh (Deck fields text)) found old new t = SaysAtEnd t.next (DeckLinesIn h found old new) t.lines
 SaysIn h (Away (SpoolDeck n text)) found old new t = SaysAtEnd t.next (DeckLinesIn h found old new) t.lines
+SaysIn h (Fresh (Line l)) found old new t = SaysLine h t
+SaysIn h (Away (Exchange l offer)) found old new t = SaysLine h t
+SaysIn h (Away (SpoolArrival number job cards service)) found old new t = SaysLine h t
+SaysIn h (Away (Acknowledge number service)) found old new t = SaysLine h t
 SaysIn h Told found old new t = Unit {0}
 SaysIn h s found old new t =
     SaysAtEnd t.next (WorkLinesIn h (units_done s + units_left s) found old new) t.lines

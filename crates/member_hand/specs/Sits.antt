@@ -22,9 +22,9 @@ use Rattle.step_turns.specs.declared.states.Found.{Found}
 use Rattle.step_turns.specs.declared.states.Holder.{Holder}
 use Rattle.step_turns.specs.declared.states.State.{State}
 use Rattle.step_turns.specs.declared.states.State.TheVariants.{Away, Fresh, Rested, Told}
-use Rattle.step_turns.specs.declared.states.Aside.TheVariants.{PrintLines, ReadText, SpoolDeck, SpoolOutputs}
+use Rattle.step_turns.specs.declared.states.Aside.TheVariants.{Acknowledge, Exchange, PrintLines, ReadText, SpoolArrival, SpoolDeck, SpoolOutputs}
 use Rattle.step_turns.specs.declared.states.Task.{Task}
-use Rattle.step_turns.specs.declared.states.Task.TheVariants.{Deck, Give, Work}
+use Rattle.step_turns.specs.declared.states.Task.TheVariants.{Deck, Give, Line, Work}
 use Rattle.member_sittings.specs.declared.ends.SittingEnd.{SittingEnd}
 use Rattle.member_sittings.specs.Asides.{HasGroups, IsSpooled, deck_found}
 use Rattle.member_sittings.specs.Sat.{Start}
@@ -32,11 +32,12 @@ use Rattle.member_sittings.specs.Whole.{IsGivable, IsLeftIn, IsToSit, queue_of}
 use Rattle.member_units.specs.Ready.{IsReady, MayResume}
 use Rattle.member_hand.specs.declared.sits.Stand.{Stand}
 
--- what a step may be asked to do, by the member
+-- What a step may be asked to do, by the member. None serves a line to another node yet.
 abbrev pub MayBeAsked : Queue → MemberId → Task → Type 0
 MayBeAsked base by (Give c) = IsGivable base by c
 MayBeAsked base by (Deck fields text) = IsJobFields fields × AreLines text
 MayBeAsked base by (Work n) = n ≤ units_most
+MayBeAsked base by (Line l) = ⊥
 
 -- no step may play more units than a script may ask for
 abbrev pub AreFewUnits : State → Type 0
@@ -85,10 +86,14 @@ abbrev pub IsWork : State → Type 0
 IsWork (Fresh (Work n)) = Unit {0}
 IsWork (Fresh (Give c)) = ⊥
 IsWork (Fresh (Deck fields text)) = ⊥
+IsWork (Fresh (Line l)) = ⊥
 IsWork (Away (SpoolDeck n text)) = ⊥
 IsWork (Away (ReadText runs n fields p)) = Unit {0}
 IsWork (Away (SpoolOutputs n specs p)) = Unit {0}
 IsWork (Away (PrintLines n i last p)) = Unit {0}
+IsWork (Away (Exchange l offer)) = ⊥
+IsWork (Away (SpoolArrival number job cards service)) = ⊥
+IsWork (Away (Acknowledge number service)) = ⊥
 IsWork (Rested p) = Unit {0}
 IsWork Told = ⊥
 
@@ -104,6 +109,9 @@ ComesTo s (Away (SpoolDeck n text)) = IsDeckTask s
 ComesTo s (Away (ReadText runs n fields p)) = IsWork s
 ComesTo s (Away (SpoolOutputs n specs p)) = IsWork s
 ComesTo s (Away (PrintLines n i last p)) = IsWork s
+ComesTo s (Away (Exchange l offer)) = ⊥
+ComesTo s (Away (SpoolArrival number job cards service)) = ⊥
+ComesTo s (Away (Acknowledge number service)) = ⊥
 
 -- How a sitting leaves a step that stood so: the next state has fewer sittings before it, and no more units; and the
 -- level is one higher at most than before the units that were played.

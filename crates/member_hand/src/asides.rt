@@ -6,7 +6,7 @@ ghost use Rattle.member_hand.specs.Locks.{IsUnlocked};
 
 use job_outcome::Read;
 use mas_complex::{Complex, Steady};
-use mas_types::Lines;
+use mas_types::{Lines, List};
 use member_node::{Member, NodeNo};
 use member_sittings::spool_deck;
 use member_units::{print_next_lines, read_job_text, write_outputs};
@@ -22,6 +22,8 @@ pub(crate) fn nothing_found(alloc: Global) -> Found
         read: Read::Lines(Lines::new(alloc)),
         lost: None,
         printer: false,
+        wire: false,
+        frames: List::new(alloc),
     }
 }
 
@@ -55,6 +57,9 @@ pub fn act_aside<P: Plant + Drop, C: Steady + Drop>(
             last,
             ..
         } => print_next_lines(member, alloc, complex, *job, *output, *last),
+        Aside::Exchange { .. } => unreachable!(),
+        Aside::SpoolArrival { .. } => unreachable!(),
+        Aside::Acknowledge { .. } => unreachable!(),
     }
 }
 

@@ -51,6 +51,7 @@ fn begin<P: Plant + Drop, C: Steady + Drop>(
             };
             sit_work(member, alloc, complex, holder, progress)
         }
+        Task::Line(_) => unreachable!(),
     }
 }
 

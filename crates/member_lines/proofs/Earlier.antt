@@ -48,6 +48,7 @@ not_stopped closing.PrinterLost is e = absurd (omega (arith, e))
 not_stopped (closing.LineLost line) is e = absurd (omega (arith, e))
 not_stopped (closing.NoText group) is e = absurd (omega (arith, e))
 not_stopped (closing.NotLost copy) is e = absurd (omega (arith, e))
+not_stopped (closing.CkptLost copy) is e = absurd (omega (arith, e))
 not_stopped (closing.Line sent got) is e = absurd (omega (arith, e))
 
 -- and nothing of its own step where its member stopped

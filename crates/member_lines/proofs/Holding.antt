@@ -1,4 +1,4 @@
--- A member that holds the lock says that its line is done, and leaves the lock or keeps it.
+-- A member that holds the lock says how its line closes, and leaves the lock or keeps it.
 use Rattle.std.proofs.Common.{◌≡◌, ◌∙◌, ◌-◌, ◌++◌, ℕ, true, false, List, [], Option, None, Ok, Err, ap, refl, subst, sym, arith}
 use Rattle.std.proofs.lemmas.List.{set-get_or}
 use Rattle.mas_types.specs.declared.answers.Closing.{Closing}
@@ -16,13 +16,13 @@ use Rattle.member_node.specs.declared.member.NodeNo.TheVariants.{BothLost, Conso
 use Rattle.member_node.specs.Calls.{console_now}
 use Rattle.step_turns.specs.declared.states.Release.{Release}
 use Rattle.step_turns.specs.declared.states.Release.TheVariants.{Keep, Outer}
-use Rattle.run_turns.specs.Admissions.{Admission, Frees, Locks, Refused}
-use Rattle.run_turns.specs.Cuts.{Left, left_by, stopped_by}
-use Rattle.run_turns.specs.Pieces.{closes_with, entered, released_by, spent}
+use Rattle.run_turns.specs.Admissions.{Frees, Locks, Refused}
+use Rattle.run_turns.specs.Cuts.{Left, stopped_by}
+use Rattle.run_turns.specs.Pieces.{entered, released_by, spent}
 use Rattle.run_turns.specs.Scenes.{Scene}
 use Rattle.run_turns.specs.Sights.{Cause, Cut, Ends, Stops}
 use Rattle.run_turns.proofs.Alone.{at_holder}
-use Rattle.member_lines.specs.Closes.{HasClosed, IsCutAs, at_line, before_line, left_at}
+use Rattle.member_lines.specs.Closes.{HasClosed, HasClosedBy, IsCutAs, at_line, before_line, holds_at, left_at}
 
 -- a hold of which nothing is spent
 spent_none : (b : Book) (m : MemberId) → after_spend b m 0 ≡ b
@@ -31,25 +31,14 @@ spent_none b m =
     ap (λ (n : ℕ). with_standing b m (record (standing b m) { left = n })) whole
     ∙ ap (λ (members : List Standing). record b { members = members }) (set-get_or b.members (m.0 - 1) (beginner 0))
 
--- it says that it is done
+-- it closes with the word that it is done
 abbrev pub says_ok : Closing
 says_ok = closing.Reply reply.Plain
 
-module _ (by : MemberId) (at : ℕ) where
-  -- what is left by a cut of a line of the lock's holder while nothing flies
-  abbrev pub holds_at : Scene → Book → Release → Option Cut → Left
-  holds_at S b release cut = left_by by cut (record {
-    sayer = by;
-    pieces = closes_with by at says_ok release;
-    book = b;
-    locked = true;
-    queue = S.queue;
-    flight = None;
-  }) (S.counts by)
-
+module _ (by : MemberId) (at : ℕ) (end : Closing) where
   -- what is left by a cut of a line that is refused with the same words
   abbrev pub refused_at : Scene → Book → Option Cut → Left
-  refused_at S b cut = left_at (record S { book = b }) by at (Refused by says_ok) cut
+  refused_at S b cut = left_at (record S { book = b }) by at (Refused by end) cut
 
   module _ (S : Scene) (b : Book) (holds : is_holder b by ≡ true) (release : Release) where
     has : entered b by ≡ b
@@ -59,10 +48,10 @@ module _ (by : MemberId) (at : ℕ) where
     still_spent = ap (λ (c : Book). after_spend c by 0) has ∙ spent_none b by
 
     abbrev SameBook : Option Cut → Type 0
-    SameBook cut = (holds_at S b release cut).book ≡ (refused_at S b cut).book
+    SameBook cut = (holds_at by at end S b release cut).book ≡ (refused_at S b cut).book
 
     abbrev SameLines : Option Cut → Type 0
-    SameLines cut = (holds_at S b release cut).lines ≡ (refused_at S b cut).lines
+    SameLines cut = (holds_at by at end S b release cut).lines ≡ (refused_at S b cut).lines
 
     book_at : (n : ℕ) (tail : Option (List ℕ)) (cause : Cause) → SameBook (at_line n tail cause)
     book_at n tail Stops = ap (λ (c : Book). after_stop c by) has
@@ -81,29 +70,18 @@ module _ (by : MemberId) (at : ℕ) where
     cut_lines Halted cut is = subst (λ (c : Option Cut). SameLines c) (sym is.is) refl
 
     -- the book once the line stands, and before it does
-    pub whole_book : (holds_at S b release None).book ≡ released_by release b by
+    pub whole_book : (holds_at by at end S b release None).book ≡ released_by release b by
     whole_book = ap (λ (c : Book). released_by release c by) still_spent
 
-    pub seat_book : (cause : Cause) → (holds_at S b release (before_line cause)).book ≡ stopped_by by cause b
+    pub seat_book : (cause : Cause) → (holds_at by at end S b release (before_line cause)).book ≡ stopped_by by cause b
     seat_book Stops = ap (λ (c : Book). after_stop c by) has
     seat_book Ends = has
 
-  -- LINES OF A SCENE at which nothing flies
-  module _ (S : Scene) (b : Book) (none : S.flight ≡ None) where
-    is_empty : S ≡ record S { flight = None }
-    is_empty = ap (λ (f : Option (List Entry)). record S { flight = f }) none
-
-    pub frees_as : S.book ≡ b → (cut : Option Cut) → left_at S by at Frees cut ≡ holds_at S b Outer cut
-    frees_as book cut = ap (λ (Z : Scene). left_at Z by at Frees cut) is_empty ∙ ap (λ (c : Book). holds_at S c Outer cut) book
-
-    pub locks_as : after_try S.book by false ≡ b → (cut : Option Cut) → left_at S by at Locks cut ≡ holds_at S b Keep cut
-    locks_as book cut = ap (λ (Z : Scene). left_at Z by at Locks cut) is_empty ∙ ap (λ (c : Book). holds_at S c Keep cut) book
-
   -- WHAT IS LEFT, by what is left of the refusal with the same words
-  module _ {P C : Type 0} (plants : PlantGhosts P) (S : Scene) (a : Admission) (release : Release) (x y : Parts P C) (holds : is_holder x.book by ≡ true)
-      (same : (cut : Option Cut) → left_at S by at a cut ≡ holds_at S x.book release cut) where
+  module _ {P C : Type 0} (plants : PlantGhosts P) (S : Scene) (left : Option Cut → Left) (release : Release) (x y : Parts P C) (holds : is_holder x.book by ≡ true)
+      (same : (cut : Option Cut) → left cut ≡ holds_at by at end S x.book release cut) where
     -- the line couldn't be said
-    pub unsaid_so : (e : NodeNo) → HasClosed plants (record S { book = x.book }) by at (Refused by says_ok) by x y (Err e) → HasClosed plants S by at a by x y (Err e)
+    pub unsaid_so : (e : NodeNo) → HasClosed plants (record S { book = x.book }) by at (Refused by end) by x y (Err e) → HasClosedBy plants left by x y (Err e)
     unsaid_so e h = record {
       acts = h.acts;
       spares = h.spares;
@@ -119,16 +97,16 @@ module _ (by : MemberId) (at : ℕ) where
 
     -- the line stands, and then the lock is left or kept
     module _ (z : Parts P C) (plant : z.plant ≡ y.plant) (book : z.book ≡ released_by release x.book by) where
-      pub said_so : HasClosed plants (record S { book = x.book }) by at (Refused by says_ok) by x y (Ok tt) → HasClosed plants S by at a by x z (Ok tt)
+      pub said_so : HasClosed plants (record S { book = x.book }) by at (Refused by end) by x y (Ok tt) → HasClosedBy plants left by x z (Ok tt)
       said_so h =
-          let w : HasClosed plants (record S { book = x.book }) by at (Refused by says_ok) by x (record y { plant = z.plant }) (Ok tt) =
-          subst (λ (p : P). HasClosed plants (record S { book = x.book }) by at (Refused by says_ok) by x (record y { plant = p }) (Ok tt)) (sym plant) h in
-          let its_book : z.book ≡ (left_at S by at a None).book = book ∙ sym (whole_book S x.book holds release) ∙ sym (ap (λ (l : Left). l.book) (same None)) in
+          let w : HasClosed plants (record S { book = x.book }) by at (Refused by end) by x (record y { plant = z.plant }) (Ok tt) =
+          subst (λ (p : P). HasClosed plants (record S { book = x.book }) by at (Refused by end) by x (record y { plant = p }) (Ok tt)) (sym plant) h in
+          let its_book : z.book ≡ (left None).book = book ∙ sym (whole_book S x.book holds release) ∙ sym (ap (λ (l : Left). l.book) (same None)) in
           record {
             acts = w.acts;
             spares = w.spares;
             cause = w.cause;
-            book = λ cut is. subst (λ (c : Option Cut). z.book ≡ (left_at S by at a c).book) (sym is) its_book;
+            book = λ cut is. subst (λ (c : Option Cut). z.book ≡ (left c).book) (sym is) its_book;
             console = λ t. record {
               cut = None;
               is_cut = refl;
@@ -137,3 +115,15 @@ module _ (by : MemberId) (at : ℕ) where
                   ∙ ap (λ (ls : List Line). console_now (plants.view x.plant) ++ ls) (sym (ap (λ (l : Left). l.lines) (same None)));
             };
           }
+
+-- LINES OF A SCENE at which nothing flies
+pub is_empty : (S : Scene) → S.flight ≡ None → S ≡ record S { flight = None }
+is_empty S none = ap (λ (f : Option (List Entry)). record S { flight = f }) none
+
+-- which say that all is done
+module _ (by : MemberId) (at : ℕ) (S : Scene) (b : Book) (none : S.flight ≡ None) where
+  pub frees_as : S.book ≡ b → (cut : Option Cut) → left_at S by at Frees cut ≡ holds_at by at says_ok S b Outer cut
+  frees_as book cut = ap (λ (Z : Scene). left_at Z by at Frees cut) (is_empty S none) ∙ ap (λ (c : Book). holds_at by at says_ok S c Outer cut) book
+
+  pub locks_as : after_try S.book by false ≡ b → (cut : Option Cut) → left_at S by at Locks cut ≡ holds_at by at says_ok S b Keep cut
+  locks_as book cut = ap (λ (Z : Scene). left_at Z by at Locks cut) (is_empty S none) ∙ ap (λ (c : Book). holds_at by at says_ok S c Keep cut) book

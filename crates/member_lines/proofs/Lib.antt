@@ -1,6 +1,7 @@
 pub mod Closing
 pub mod Earlier
 pub mod Holding
+pub mod Renewing
 pub mod Resetting
 pub mod Seating
 pub mod Tested

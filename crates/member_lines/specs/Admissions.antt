@@ -5,7 +5,7 @@ use Rattle.lock_cycle.specs.Books.{Book}
 use Rattle.script_lang.specs.Asks.{units_most}
 use Rattle.script_lang.specs.declared.types.Ask.{Ask}
 use Rattle.script_lang.specs.declared.types.Ask.TheVariants as ask
-use Rattle.run_turns.specs.Admissions.{Admission, Denied, Frees, Locks, Plays, Refused, Resets, TakesOver, Unplayed, tried}
+use Rattle.run_turns.specs.Admissions.{Admission, Denied, Frees, Locks, Plays, Refused, Replaces, Resets, TakesOver, Unplayed, tried}
 use Rattle.member_lines.specs.declared.admissions.Admission.{Admission as Admitted}
 use Rattle.member_lines.specs.declared.admissions.Admission.TheVariants as line
 
@@ -14,6 +14,7 @@ admission_of (line.Refused sayer end) = Refused sayer end
 admission_of (line.Denied why) = Denied why
 admission_of (line.Plays task) = Plays task
 admission_of (line.Resets of) = Resets of
+admission_of (line.Replaces dev) = Replaces dev
 admission_of (line.TakesOver of) = TakesOver of
 admission_of line.Locks = Locks
 admission_of line.Frees = Frees

@@ -1,5 +1,6 @@
 -- What a line leaves that only closes, for every answer, in the words of scripts that several members play.
 use Rattle.std.specs.Prelude.{◌≡◌, ◌⊎◌, ℕ, ◌≤◌, false, true, List, [], ◌++◌, map, Option, Some, None, Result, Ok, Err}
+use Rattle.mas_types.specs.declared.answers.Closing.{Closing}
 use Rattle.mas_types.specs.declared.ids.MemberId.{MemberId}
 use Rattle.mas_types.specs.Ids.{nobody}
 use Rattle.lock_cycle.specs.Books.{Book, IsMember, after_free, after_stop, is_stopped}
@@ -17,9 +18,13 @@ use Rattle.member_node.specs.declared.member.NodeNo.TheVariants.{BothLost, Conso
 use Rattle.member_node.specs.Calls.{console_now}
 use Rattle.member_node.specs.Spares.{Spares, stopped_in}
 use Rattle.member_steps.specs.Saying.{OnConsole}
+use Rattle.step_turns.specs.Sittings.{released}
+use Rattle.step_turns.specs.declared.states.Holder.{Holder}
+use Rattle.step_turns.specs.declared.states.Release.{Release}
+use Rattle.step_turns.specs.declared.states.State.TheVariants.{Told}
 use Rattle.run_turns.specs.Admissions.{Admission}
 use Rattle.run_turns.specs.Cuts.{Left, left_by}
-use Rattle.run_turns.specs.Pieces.{is_locked, play_of}
+use Rattle.run_turns.specs.Pieces.{closes_with, is_locked, play_of}
 use Rattle.run_turns.specs.Scenes.{Scene}
 use Rattle.run_turns.specs.Steps.{stopped_lines}
 use Rattle.run_turns.specs.Sights.{Cause, Cut, Ends, Saying, Stops, Writing, clear}
@@ -98,27 +103,46 @@ pub record IsTested (S : Scene) (by : MemberId) (a : Admission) (b : Book) : Typ
 abbrev pub left_at : Scene → MemberId → ℕ → Admission → Option Cut → Left
 left_at S by at a cut = left_by by cut (play_of S by at clear a) (S.counts by)
 
+-- what a line of the lock's holder leaves that was cut so and closes with this, from a book on, while nothing flies
+abbrev pub holds_at : MemberId → ℕ → Closing → Scene → Book → Release → Option Cut → Left
+holds_at by at end S b release cut = left_by by cut (record {
+  sayer = by;
+  pieces = closes_with by at end release;
+  book = b;
+  locked = true;
+  queue = S.queue;
+  flight = None;
+}) (S.counts by)
+
 module _ {P C : Type 0} (plants : PlantGhosts P) where
   abbrev v : Parts P C → View
   v x = plants.view x.plant
 
-  -- where content is told the console has the lines that a cut leaves which the answer allows
-  pub record HasStood (S : Scene) (by : MemberId) (at : ℕ) (a : Admission) (x y : Parts P C)
-      (result : Result (Unit {0}) NodeNo) : Type 0 where
-    pub cut : Option Cut
-    pub is_cut : IsCutAs result cut
-    pub lines : console_now (v y) ≡ console_now (v x) ++ (left_at S by at a cut).lines
+  -- where content is told the console has the lines that a cut leaves which the answer allows, by what each cut leaves
+  pub record HasStoodBy (left : Option Cut → Left) (x y : Parts P C) (result : Result (Unit {0}) NodeNo) : Type 0
+    where
+      pub cut : Option Cut
+      pub is_cut : IsCutAs result cut
+      pub lines : console_now (v y) ≡ console_now (v x) ++ (left cut).lines
 
   -- Acts on the console alone, for a line at a scene, by the member that says it: no copy is read or lost, nothing is
   -- printed, and nobody is stopped but that member, and it only where the answer says so. The book is the one that the
   -- line leaves, and where content is told the console has its lines.
-  pub record HasClosed (S : Scene) (by : MemberId) (at : ℕ) (a : Admission) (sayer : MemberId)
-      (x y : Parts P C) (result : Result (Unit {0}) NodeNo) : Type 0 where
+  pub record HasClosedBy (left : Option Cut → Left) (sayer : MemberId) (x y : Parts P C)
+      (result : Result (Unit {0}) NodeNo) : Type 0 where
     pub acts : OnConsole plants.tells (v x) (v y)
     pub spares : Spares sayer.0 (stopped_in result) (v x) (v y)
     pub cause : HasCause result sayer.0 (v x) (v y)
-    pub book : (cut : Option Cut) → IsCutAs result cut → y.book ≡ (left_at S by at a cut).book
-    pub console : plants.tells → HasStood S by at a x y result
+    pub book : (cut : Option Cut) → IsCutAs result cut → y.book ≡ (left cut).book
+    pub console : plants.tells → HasStoodBy left x y result
+
+  -- the same of a line that finds nothing
+  abbrev pub HasStood : Scene → MemberId → ℕ → Admission → Parts P C → Parts P C → Result (Unit {0}) NodeNo → Type 0
+  HasStood S by at a x y result = HasStoodBy (left_at S by at a) x y result
+
+  abbrev pub HasClosed : Scene → MemberId → ℕ → Admission → MemberId → Parts P C → Parts P C
+      → Result (Unit {0}) NodeNo → Type 0
+  HasClosed S by at a sayer x y result = HasClosedBy (left_at S by at a) sayer x y result
 
 -- OVER THE SHARED VALUE
 
@@ -128,6 +152,12 @@ module _ {P C : Type 0} {plants : PlantGhosts P} {steadies : SteadyGhosts C} {co
       → Complex P C plants steadies copies → Result (Unit {0}) NodeNo → Type 0
   Closes by at a sayer x y result = (S : Scene) → IsTested S by a x.book
       → HasClosed plants S by at a sayer (parts_of x) (parts_of y) result
+
+  -- a line of the lock's holder that closes with this while nothing flies, at any scene; its step gave no command
+  abbrev pub ClosesHeld : MemberId → Holder → Closing → Complex P C plants steadies copies
+      → Complex P C plants steadies copies → Result (Unit {0}) NodeNo → Type 0
+  ClosesHeld by h end x y result = (S : Scene) → HasClosedBy plants
+      (holds_at by h.step end S x.book (released h.grant h.hold 0 Told)) by (parts_of x) (parts_of y) result
 
   -- A line that says that its member stopped in its step, by the operator: acts on the console alone, in which nobody
   -- is stopped. The line stands where the answer is Ok, and else nothing was said.

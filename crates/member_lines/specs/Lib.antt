@@ -4,3 +4,4 @@ pub mod Closes
 pub mod Stops
 pub mod Locks
 pub mod Resets
+pub mod Replaces

@@ -11,7 +11,7 @@ ghost use Rattle.member_lines.specs.Admissions.{AreFewUnits, admission_of, teste
 use card_reader::{Deck, DeckNo, read_deck};
 use lock_cycle::LockNo;
 use mas_complex::{Complex, Steady};
-use mas_types::{Closing, Command, Config, Copied, Lines, MemberId, NoMemory, Refusal, Reply};
+use mas_types::{Closing, Command, Config, Copied, Dev, Lines, MemberId, NoMemory, Refusal, Reply};
 use script_lang::Ask;
 use spool_disk::Plant;
 use std::alloc::Global;
@@ -31,6 +31,8 @@ pub enum Admission {
     Plays(Task),
     /// Its member has the lock, and resets this stopped member, which doesn't hold it.
     Resets(MemberId),
+    /// Its member has the lock, and replaces this copy.
+    Replaces(Dev),
     /// Its member is to take the lock over from this stopped member, and then to reset it.
     TakesOver(MemberId),
     /// Its member has the lock, and keeps it.
@@ -198,9 +200,12 @@ fn admit_up<P: Plant + Drop, C: Steady + Drop>(
         }
         Ask::Lock => Ok(try_for(complex, by, Admission::Locks)),
         Ask::Free => Ok(admit_free(complex, by)),
-        Ask::Line(_) | Ask::Replace(_) | Ask::Stop | Ask::StopIn(..) | Ask::Lose(_) => {
-            Ok(Admission::Unplayed)
+        Ask::Line(line) => {
+            let task = Task::Line(*line);
+            Ok(try_for(complex, by, Admission::Plays(task)))
         }
+        Ask::Replace(copy) => Ok(try_for(complex, by, Admission::Replaces(*copy))),
+        Ask::Stop | Ask::StopIn(..) | Ask::Lose(_) => { Ok(Admission::Unplayed) }
     }
 }
 

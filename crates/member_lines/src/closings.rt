@@ -5,7 +5,7 @@ ghost use Rattle.mas_types.specs.Limits.{members_most};
 ghost use Rattle.lock_cycle.specs.Books.{IsMember, is_stopped};
 ghost use Rattle.mas_complex.specs.Parts.{parts_of};
 ghost use Rattle.run_turns.specs.Admissions.{Denied, Refused, denied_closing};
-ghost use Rattle.member_lines.specs.Closes.{Closes, IsSayer, SaysStopped, stopped_so};
+ghost use Rattle.member_lines.specs.Closes.{Closes, IsSayer, SaysStopped, failed, stopped_so};
 ghost use Rattle.member_lines.specs.Earlier.{IsNewStep};
 
 use crate::admissions::NOBODY;
@@ -35,6 +35,20 @@ fn closing_of(why: LockNo) -> Closing
         LockNo::Down => Closing::Down,
         LockNo::Busy(holder) => Closing::Busy(holder),
         LockNo::Dormant(tick) => Closing::Dormant(tick),
+    }
+}
+
+// A member that was halted is stopped in the book; after any other error all is as it was.
+pub(crate) fn stop_halted<P: Plant + Drop, C: Steady + Drop>(
+    complex: &mut Complex<P, C>,
+    by: MemberId,
+    why: NodeNo,
+)
+    requires { IsMember complex.old.book by }
+    ensures { parts_of complex.new ≡ stopped_so (failed why) by (parts_of complex.old) }
+{
+    if why == NodeNo::Halted {
+        complex.stop(by);
     }
 }
 

@@ -9,7 +9,7 @@ ghost use Rattle.member_lines.specs.Closes.{Closes, freed_by, stopped_so};
 ghost use Rattle.member_lines.specs.Earlier.{IsNewStep};
 ghost use Rattle.member_lines.specs.Locks.{SeatsAndCloses};
 
-use crate::closings::{Closed, say_refused};
+use crate::closings::{Closed, say_refused, stop_halted};
 use mas_complex::{Complex, Steady};
 use mas_types::{Closing, MemberId, Reply};
 use member_node::{Member, NodeNo};
@@ -79,12 +79,9 @@ pub fn lock_line<P: Plant + Drop, C: Steady + Drop>(
             };
             say_refused(alloc, complex, of, &Closing::Reply(Reply::Plain))
         }
-        Err(NodeNo::Halted) => {
-            complex.stop(by);
-            Err(NodeNo::Halted)
+        Err(why) => {
+            stop_halted(complex, by, why);
+            Err(why)
         }
-        Err(NodeNo::BothLost) => Err(NodeNo::BothLost),
-        Err(NodeNo::ConsoleFault) => Err(NodeNo::ConsoleFault),
-        Err(NodeNo::NoMemory) => Err(NodeNo::NoMemory),
     }
 }

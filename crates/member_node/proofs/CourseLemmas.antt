@@ -1,16 +1,18 @@
 -- Calls on the copies, one after another.
 use Rattle.std.proofs.Common.{◌≡◌, ◌≢◌, ◌⊎◌, inl, inr, ⊎_elim, ℕ, ◌≤◌, ◌||◌, Bool, true, false, List, refl, sym, ◌∙◌, ap, arith}
 use Rattle.mas_types.specs.declared.ids.Dev.{Dev}
-use Rattle.mas_types.specs.declared.ids.Dev.TheVariants.{Ckpt1, Ckpt2}
+use Rattle.mas_types.specs.declared.ids.Dev.TheVariants.{Ckpt1, Ckpt2, Spool}
+use Rattle.spool_disk.specs.declared.plant.Part.{Part}
 use Rattle.spool_disk.specs.declared.plant.Part.TheVariants.{Disk as DiskPart, Console}
 use Rattle.spool_disk.specs.declared.plant.Act.{Act}
+use Rattle.spool_disk.specs.declared.plant.Act.TheVariants.{Failed}
 use Rattle.spool_disk.specs.View.{View, World, disk_at}
 use Rattle.spool_disk.specs.Acts.{Goes, Acts, Says, SamePaper, Rose, next}
 use Rattle.ckpt_copy.specs.Moments.{either_way, goes_on, goes_none}
 use Rattle.duplex_pair.specs.Both.{PairActed}
 use Rattle.mas_complex.specs.Elsewhere.{Elsewhere}
 use Rattle.mas_complex.specs.Paper.{SamePapers}
-use Rattle.member_node.specs.Calls.{Apart, Course, Grows, IsOnlyOn, WasLost}
+use Rattle.member_node.specs.Calls.{Apart, Course, Grows, IsOnlyOn, VolumesStay, WasLost, none_lost}
 
 -- WHICH COPIES COUNT AS ALIVE
 
@@ -26,6 +28,31 @@ disks_apart e = absurd (cc)
 disks_apart_too : DiskPart Ckpt2 ≢ DiskPart Ckpt1
 disks_apart_too e = absurd (cc)
 
+-- VOLUMES THAT STAY
+
+volume_apart1 : (n : ℕ) → DiskPart (Spool n) ≢ DiskPart Ckpt1
+volume_apart1 n e = absurd (cc)
+
+volume_apart2 : (n : ℕ) → DiskPart (Spool n) ≢ DiskPart Ckpt2
+volume_apart2 n e = absurd (cc)
+
+pub stay_none : (but : ℕ → Bool) (v : View) → VolumesStay but v v
+stay_none but v = record { lost = λ n other. refl; faults = λ n other. refl }
+
+pub stay_then : (but : ℕ → Bool) (v0 v1 v2 : View) → VolumesStay none_lost v0 v1 → VolumesStay but v1 v2 → VolumesStay but v0 v2
+stay_then but v0 v1 v2 x y = record { lost = λ n other. y.lost n other ∙ x.lost n refl; faults = λ n other. y.faults n other ∙ x.faults n refl }
+
+pub stay_both : (but : ℕ → Bool) (v0 v1 v2 : View) → VolumesStay but v0 v1 → VolumesStay but v1 v2 → VolumesStay but v0 v2
+stay_both but v0 v1 v2 x y = record { lost = λ n other. y.lost n other ∙ x.lost n other; faults = λ n other. y.faults n other ∙ x.faults n other }
+
+-- where more volumes may be lost
+pub stay_more : (few but : ℕ → Bool) (v w : View) → ((n : ℕ) → but n ≡ false → few n ≡ false) → VolumesStay few v w → VolumesStay but v w
+stay_more few but v w fewer x = record { lost = λ n other. x.lost n (fewer n other); faults = λ n other. x.faults n (fewer n other) }
+
+-- an act on a part that is no volume, or that wasn't answered Failed
+pub stay_act : (by : ℕ) (part : Part) (but : ℕ → Bool) (v w : View) (result : Act) → ((n : ℕ) → but n ≡ false → (DiskPart (Spool n) ≢ part) ⊎ (result ≢ Failed)) → Acts by part v w result → VolumesStay but v w
+stay_act by part but v w result other act = record { lost = λ n is. act.else_lost (DiskPart (Spool n)) (other n is); faults = λ n is. act.else_faults (DiskPart (Spool n)) (other n is) }
+
 pub course_of : (by : ℕ) (a a' b b' stopped : Bool) (old new : View) → PairActed by a a' b b' stopped old new → Course a a' b b' old new
 course_of by a a' b b' stopped old new acted = record {
   goes = acted.goes;
@@ -36,6 +63,10 @@ course_of by a a' b b' stopped old new acted = record {
   alive1 = acted.alive1;
   alive2 = acted.alive2;
   grow = λ d. inl (acted.loses d);
+  volumes = record {
+    lost = λ n other. acted.else_lost (DiskPart (Spool n)) (inl (volume_apart1 n)) (inl (volume_apart2 n));
+    faults = λ n other. acted.else_faults (DiskPart (Spool n)) (inl (volume_apart1 n)) (inl (volume_apart2 n));
+  };
 }
 
 pub course_none : (a b : Bool) (v : View) → Course a a b b v v
@@ -48,6 +79,7 @@ course_none a b v = record {
   alive1 = λ is. is;
   alive2 = λ is. is;
   grow = λ d. inl refl;
+  volumes = stay_none none_lost v;
 }
 
 -- COUNTS THAT ROSE
@@ -64,7 +96,7 @@ rose_grow x y z rose grow = ⊎_elim (λ same. omega (arith, rose, same)) (λ mo
 pub grow_rose : (x y z : ℕ) → Grows x y → Rose y z → Rose x z
 grow_rose x y z grow rose = ⊎_elim (λ same. omega (arith, rose, same)) (λ more. omega (arith, rose, more)) grow
 
-grow_grow : (x y z : ℕ) → Grows x y → Grows y z → Grows x z
+pub grow_grow : (x y z : ℕ) → Grows x y → Grows y z → Grows x z
 grow_grow x y z one two = ⊎_elim (λ same. ⊎_elim (λ still. inl (still ∙ same)) (λ rose. inr (grow_rose x y z one rose)) two) (λ rose. inr (rose_grow x y z rose two)) one
 
 pub lost_more : (d : Dev) (v0 v1 v2 : View) → WasLost d v0 v1 → Goes v1 v2 → Grows (v1.loses d) (v2.loses d) → WasLost d v0 v2
@@ -81,7 +113,7 @@ lost_later d v0 v1 v2 goes grow lost = ⊎_elim
 
 -- ONE CALL AFTER ANOTHER
 
-either_alive : {A : Type 0} (x : Bool) → (x ≡ true → A) → (x ≡ false → A) → A
+pub either_alive : {A : Type 0} (x : Bool) → (x ≡ true → A) → (x ≡ false → A) → A
 either_alive true f g = f refl
 either_alive false f g = g refl
 
@@ -99,6 +131,7 @@ course_then a a' a'' b b' b'' v0 v1 v2 x y = record {
   alive1 = λ is. x.alive1 (y.alive1 is);
   alive2 = λ is. x.alive2 (y.alive2 is);
   grow = λ d. grow_grow (v0.loses d) (v1.loses d) (v2.loses d) (x.grow d) (y.grow d);
+  volumes = stay_then none_lost v0 v1 v2 x.volumes y.volumes;
 }
 
 -- A COPY THAT IS LOST BY A CALL

@@ -13,3 +13,4 @@ pub mod FitLemmas
 pub mod AlikeLemmas
 pub mod SpareLemmas
 pub mod SpellLemmas
+pub mod ReplaceLemmas

@@ -29,7 +29,7 @@ use Rattle.duplex_pair.specs.Halves.{SomeAlive}
 use Rattle.member_node.specs.Reads.{AreLow, ArePagesOf, HasRead, IsRead, IsReadIn, IsReadWhole, IsUpTo, MayGoOn, ReadCauses, ReadInCauses, ReadsAs, ReadsLow, StandAt, copies_alive, orders_after, too_high}
 use Rattle.member_node.specs.Copies.{RestsAt}
 use Rattle.member_node.specs.Spares.{Spares, is_stop}
-use Rattle.mas_complex.specs.declared.places.Place.{Place}
+use Rattle.ckpt_places.specs.declared.places.Place.{Place}
 use Rattle.mas_complex.specs.Journals.{journal_most}
 use Rattle.member_node.proofs.CourseLemmas.{no as not_both, rose_later, apart_then, course_none, course_then, only_none, papers_none}
 use Rattle.member_node.proofs.DrawnLemmas.{drawn_level, page_joined}
@@ -354,7 +354,11 @@ lost_later_read U told by a a' a'' b b' b'' v0 v1 v2 node.Halted x spares is y =
 lost_later_read U told by a a' a'' b b' b'' v0 v1 v2 node.ConsoleFault x spares is y = absurd (cc)
 lost_later_read U told by a a' a'' b b' b'' v0 v1 v2 node.NoMemory x spares is y = absurd (cc)
 
--- an error after other reads, where the tables are brought up too
+-- an error of the first reads, where the tables are brought up too
+pub in_first : (told : Type 0) (by : ℕ) (a a' b b' : Bool) (v0 v1 : View) (e : NodeNo) → IsRead {T = Unit {0}} told by a a' b b' v0 v1 (Err e) → IsReadIn {T = Unit {0}} told by a a' b b' v0 v1 (Err e)
+in_first told by a a' b b' v0 v1 e y = record { acts = y.acts; cause = cause_in (Unit {0}) (Unit {0}) e by a' b' v0 v1 y.cause; spares = y.spares }
+
+-- an error after other reads
 pub in_error : (T U : Type 0) (told : Type 0) (by : ℕ) (a a' a'' b b' b'' : Bool) (v0 v1 v2 : View) (e : NodeNo) → HasRead told a a' b b' v0 v1 → Spares by false v0 v1 → IsRead {T = T} told by a' a'' b' b'' v1 v2 (Err e) → IsReadIn {T = U} told by a a'' b b'' v0 v2 (Err e)
 in_error T U told by a a' a'' b b' b'' v0 v1 v2 e x spares y =
     let z : IsRead {T = U} told by a a'' b b'' v0 v2 (Err e) = error_later T U told by a a' a'' b b' b'' v0 v1 v2 e x spares y in

@@ -13,7 +13,7 @@ use Rattle.queue_tables.specs.Orders.{HaveOrders}
 use Rattle.queue_tables.specs.Telling.{Tell, PagesTell}
 use Rattle.mas_complex.specs.Crash.{RaisesOrders, next_order, orders_most}
 use Rattle.mas_complex.specs.Meaning.{run}
-use Rattle.mas_complex.specs.declared.places.Place.{Place}
+use Rattle.ckpt_places.specs.declared.places.Place.{Place}
 use Rattle.member_node.specs.declared.checkpoint.Checkpoint.{Checkpoint}
 use Rattle.member_node.specs.declared.checkpoint.Draft.{Draft}
 use Rattle.member_node.specs.declared.checkpoint.Draft.TheVariants as draft

@@ -1,12 +1,16 @@
 -- What a member's calls don't do, one after another.
-use Rattle.std.proofs.Common.{inl, inr, ⊎_elim, ℕ, Bool, true, false, refl, ◌∙◌}
+use Rattle.std.proofs.Common.{◌≡◌, ◌≢◌, inl, inr, ⊎_elim, ℕ, ◌==◌, Bool, true, false, refl, ◌∙◌, arith}
+use Rattle.std.proofs.lemmas.Bool.Decides.{nat_tests}
 use Rattle.mas_types.specs.declared.ids.Dev.TheVariants.{Spool}
 use Rattle.spool_disk.specs.declared.plant.Part.{Part}
+use Rattle.spool_disk.specs.declared.plant.Part.TheVariants.{Disk as DiskPart}
 use Rattle.spool_disk.specs.declared.plant.Act.TheVariants.{Done, Failed, Halted as ActHalted}
 use Rattle.spool_disk.specs.View.{View}
 use Rattle.spool_disk.specs.Acts.{Acts}
 use Rattle.duplex_pair.specs.Both.{PairActed}
-use Rattle.member_node.specs.Spares.{Spares}
+use Rattle.member_node.specs.Calls.{none_lost}
+use Rattle.member_node.specs.Spares.{Spares, SparesBut}
+use Rattle.member_node.proofs.CourseLemmas.{stay_act, stay_both, stay_more, stay_none, stay_then}
 
 pub spares_none : (by : ℕ) (v : View) → Spares by false v v
 spares_none by v = record { volumes = λ n. refl; stops = λ m free. refl; operator = λ e. absurd (cc) }
@@ -35,3 +39,33 @@ spares_halted by part old new act = record {
   stops = λ m free. act.no_other_stop m (inl (⊎_elim (λ other. other) (λ e. absurd (cc)) free));
   operator = λ e. act.not_operator refl;
 }
+
+-- THE SAME WITH THE VOLUMES
+
+pub sparing_none : (by : ℕ) (v : View) → SparesBut by false none_lost v v
+sparing_none by v = record { spares = spares_none by v; volumes = stay_none none_lost v }
+
+pub sparing_then : (by : ℕ) (stopped : Bool) (but : ℕ → Bool) (v0 v1 v2 : View) → SparesBut by false none_lost v0 v1 → SparesBut by stopped but v1 v2 → SparesBut by stopped but v0 v2
+sparing_then by stopped but v0 v1 v2 one two = record { spares = spares_then by stopped v0 v1 v2 one.spares two.spares; volumes = stay_then but v0 v1 v2 one.volumes two.volumes }
+
+pub sparing_done : (by : ℕ) (part : Part) (old new : View) → Acts by part old new Done → SparesBut by false none_lost old new
+sparing_done by part old new act = record { spares = spares_done by part old new act; volumes = stay_act by part none_lost old new Done (λ n other. inr (λ e. absurd (cc))) act }
+
+pub sparing_halted : (by : ℕ) (part : Part) (old new : View) → Acts by part old new ActHalted → SparesBut by true none_lost old new
+sparing_halted by part old new act = record { spares = spares_halted by part old new act; volumes = stay_act by part none_lost old new ActHalted (λ n other. inr (λ e. absurd (cc))) act }
+
+-- an act that failed on a volume, or on a part that is none
+pub sparing_failed : (by v : ℕ) (old new : View) → Acts by (DiskPart (Spool v)) old new Failed → SparesBut by false (λ n. n == v) old new
+sparing_failed by v old new act = record { spares = spares_failed by (DiskPart (Spool v)) old new act; volumes = stay_act by (DiskPart (Spool v)) (λ n. n == v) old new Failed (λ n other. inl (λ same. apart n other same)) act } where
+  apart : (n : ℕ) → (n == v) ≡ false → DiskPart (Spool n) ≢ DiskPart (Spool v)
+  apart n other same = let e : n ≡ v = cc in grind (arith, nat_tests)
+
+pub sparing_beside : (by : ℕ) (part : Part) (old new : View) → ((n : ℕ) → DiskPart (Spool n) ≢ part) → Acts by part old new Failed → SparesBut by false none_lost old new
+sparing_beside by part old new other act = record { spares = spares_failed by part old new act; volumes = stay_act by part none_lost old new Failed (λ n none. inl (other n)) act }
+
+-- where more volumes may be lost, and where the first acts name them
+pub sparing_more : (by : ℕ) (stopped : Bool) (few but : ℕ → Bool) (v w : View) → ((n : ℕ) → but n ≡ false → few n ≡ false) → SparesBut by stopped few v w → SparesBut by stopped but v w
+sparing_more by stopped few but v w fewer x = record { spares = x.spares; volumes = stay_more few but v w fewer x.volumes }
+
+pub sparing_before : (by : ℕ) (stopped : Bool) (but : ℕ → Bool) (v0 v1 v2 : View) → SparesBut by false but v0 v1 → SparesBut by stopped none_lost v1 v2 → SparesBut by stopped but v0 v2
+sparing_before by stopped but v0 v1 v2 one two = record { spares = spares_then by stopped v0 v1 v2 one.spares two.spares; volumes = stay_both but v0 v1 v2 one.volumes (stay_more none_lost but v1 v2 (λ n other. refl) two.volumes) }

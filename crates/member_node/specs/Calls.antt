@@ -1,7 +1,7 @@
 -- What calls on the copies leave as it was, and which copies are lost in them.
 use Rattle.std.specs.Prelude.{◌≡◌, ◌≢◌, ◌⊎◌, ℕ, Bool, true, false, List}
 use Rattle.mas_types.specs.declared.ids.Dev.{Dev}
-use Rattle.mas_types.specs.declared.ids.Dev.TheVariants.{Ckpt1, Ckpt2}
+use Rattle.mas_types.specs.declared.ids.Dev.TheVariants.{Ckpt1, Ckpt2, Spool}
 use Rattle.spool_disk.specs.declared.plant.Part.TheVariants.{Disk}
 use Rattle.spool_disk.specs.View.{View, Line, disk_at, disk_now, Throughout}
 use Rattle.spool_disk.specs.Acts.{Goes, Rose}
@@ -35,8 +35,18 @@ Grows old new = (new ≡ old) ⊎ Rose old new
 abbrev pub IsLeft : Bool → Bool → Bool → Bool → Type 0
 IsLeft was1 is1 was2 is2 = SomeAlive is1 is2 ⊎ ((is1 ≡ was1) × (is2 ≡ was2))
 
+-- each volume but these is lost where it was, and no fault of it is counted
+pub record VolumesStay (but : ℕ → Bool) (old new : View) : Type 0 where
+  pub lost : (n : ℕ) → but n ≡ false → new.lost (Disk (Spool n)) ≡ old.lost (Disk (Spool n))
+  pub faults : (n : ℕ) → but n ≡ false → new.faults (Disk (Spool n)) ≡ old.faults (Disk (Spool n))
+
+-- no volume
+abbrev pub none_lost : ℕ → Bool
+none_lost n = false
+
 -- Acts of a run on its copies, of which these counted as alive before and count so after. A copy is lost exactly where
--- its device failed or was lost by a call, and one that counts as alive isn't lost if it wasn't before.
+-- its device failed or was lost by a call, and one that counts as alive isn't lost if it wasn't before. The volumes stay
+-- as they are.
 pub record Course (was1 is1 was2 is2 : Bool) (old new : View) : Type 0 where
   pub goes : Goes old new
   pub failed1 : was1 ≡ true → is1 ≡ false → WasLost Ckpt1 old new
@@ -46,3 +56,4 @@ pub record Course (was1 is1 was2 is2 : Bool) (old new : View) : Type 0 where
   pub alive1 : is1 ≡ true → was1 ≡ true
   pub alive2 : is2 ≡ true → was2 ≡ true
   pub grow : (d : Dev) → Grows (old.loses d) (new.loses d)
+  pub volumes : VolumesStay none_lost old new

@@ -2,8 +2,8 @@
 use Rattle.std.specs.Prelude.{◌≡◌, ℕ, ◌≤◌, Bool, true, List, length, Option, Some}
 use Rattle.mas_types.specs.declared.ids.Page.{Page}
 use Rattle.ckpt_copy.specs.Pages.{bytes_of, ArePages, Covers}
-use Rattle.mas_complex.specs.declared.places.Place.{Place}
-use Rattle.mas_complex.specs.declared.places.Place.TheVariants.{Before}
+use Rattle.ckpt_places.specs.declared.places.Place.{Place}
+use Rattle.ckpt_places.specs.declared.places.Place.TheVariants.{Before}
 use Rattle.mas_complex.specs.Changed.{NamesOnly}
 use Rattle.mas_complex.specs.Crash.{RaisesOrders}
 use Rattle.member_node.specs.declared.checkpoint.Draft.{Draft}

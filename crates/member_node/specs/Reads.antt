@@ -14,8 +14,8 @@ use Rattle.ckpt_pages.specs.declared.tables.Tables.{Tables}
 use Rattle.ckpt_pages.specs.Checkpoints.{IsCheckpoint}
 use Rattle.ckpt_pages.specs.Pages.{page_in as page_of_list}
 use Rattle.duplex_pair.specs.Halves.{IsBothLost, SomeAlive}
-use Rattle.mas_complex.specs.declared.places.Place.{Place}
-use Rattle.mas_complex.specs.declared.places.Place.TheVariants.{Before}
+use Rattle.ckpt_places.specs.declared.places.Place.{Place}
+use Rattle.ckpt_places.specs.declared.places.Place.TheVariants.{Before}
 use Rattle.mas_complex.specs.Meaning.{StandFor}
 use Rattle.queue_effect.specs.Standing.{AreFit}
 use Rattle.member_node.specs.declared.checkpoint.Checkpoint.{Checkpoint}

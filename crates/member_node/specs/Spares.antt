@@ -2,6 +2,7 @@
 use Rattle.std.specs.Prelude.{◌≡◌, ◌≢◌, ◌⊎◌, ℕ, ◌<◌, Bool, true, false, Result, Ok, Err}
 use Rattle.mas_types.specs.declared.ids.Dev.TheVariants.{Spool}
 use Rattle.spool_disk.specs.View.{View}
+use Rattle.member_node.specs.Calls.{VolumesStay}
 use Rattle.member_node.specs.declared.member.NodeNo.{NodeNo}
 use Rattle.member_node.specs.declared.member.NodeNo.TheVariants.{BothLost, Halted, ConsoleFault, NoMemory}
 
@@ -22,3 +23,9 @@ pub record Spares (by : ℕ) (stopped : Bool) (old new : View) : Type 0 where
   pub volumes : (n : ℕ) → new.loses (Spool n) ≡ old.loses (Spool n)
   pub stops : (m : ℕ) → (m ≢ by) ⊎ (stopped ≡ false) → new.stops m ≡ old.stops m
   pub operator : stopped ≡ true → 0 < by
+
+-- So it is, and each volume but these is lost where it was, and no fault of it is counted: a volume that failed in the
+-- call is one that the call names.
+pub record SparesBut (by : ℕ) (stopped : Bool) (but : ℕ → Bool) (old new : View) : Type 0 where
+  pub spares : Spares by stopped old new
+  pub volumes : VolumesStay but old new

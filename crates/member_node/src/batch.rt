@@ -10,7 +10,7 @@ ghost use Rattle.duplex_pair.specs.declared.errors.PairNo.TheVariants.{BothLost 
 ghost use Rattle.duplex_pair.specs.Halves.{IsBothLost, SomeAlive};
 ghost use Rattle.duplex_pair.specs.Both.{PairActed};
 ghost use Rattle.duplex_pair.specs.Outcomes.{pair_stopped};
-ghost use Rattle.mas_complex.specs.declared.places.Place.TheVariants.{Before as AtBefore, Put as AtPut};
+ghost use Rattle.ckpt_places.specs.declared.places.Place.TheVariants.{Before as AtBefore, Put as AtPut};
 ghost use Rattle.mas_complex.specs.Crash.{IsUntold, RaisesOrders, setting};
 ghost use Rattle.mas_complex.specs.Changed.{NamesOnly};
 ghost use Rattle.mas_complex.specs.Replies.{HaveReplies};
@@ -85,6 +85,7 @@ fn log_both<P: Plant + Drop, C: Steady + Drop>(
     ensures book { complex.new.book ≡ complex.old.book }
     ensures unreserved { complex.new.reserved ≡ None }
     ensures since { complex.new.since ≡ complex.old.since }
+    ensures renewals { complex.new.renewals ≡ complex.old.renewals }
     ensures journal { complex.new.journal ≡ complex.old.journal }
     ensures placed { complex.new.placed ≡ complex.old.placed }
     ensures level { complex.new.level ≡ complex.old.level }
@@ -131,6 +132,7 @@ fn open_both<P: Plant + Drop, C: Steady + Drop>(
     ensures book { complex.new.book ≡ complex.old.book }
     ensures reserved { complex.new.reserved ≡ complex.old.reserved }
     ensures since { complex.new.since ≡ complex.old.since }
+    ensures renewals { complex.new.renewals ≡ complex.old.renewals }
     ensures kept { OnOk result ((b : Batch) → complex.old.current ≡ Some b
         → complex.new.journal.batches ≡ with_last (fated Kept (P.view complex.new.plant).now b)
         complex.old.journal.batches) }
@@ -228,6 +230,7 @@ pub(crate) fn commit<P: Plant + Drop, C: Steady + Drop>(
     ensures book { complex.new.book ≡ complex.old.book }
     ensures unreserved { complex.new.reserved ≡ None }
     ensures since { complex.new.since ≡ complex.old.since }
+    ensures renewals { complex.new.renewals ≡ complex.old.renewals }
     ensures kept { OnOk result (complex.new.journal.batches
         ≡ with_last (fated Kept (P.view complex.new.plant).now
         (begun (P.view complex.old.plant).now by (entries_reserved complex.old.reserved)))

@@ -6,6 +6,7 @@ mod batch;
 mod checkpoint;
 mod member;
 mod reading;
+mod replacing;
 mod writing;
 
 pub use checkpoint::{Checkpoint, Draft, blank, redraw};

@@ -18,7 +18,7 @@ ghost use Rattle.mas_complex.specs.Meaning.{run};
 ghost use Rattle.member_node.specs.declared.member.NodeNo.TheVariants as no_node;
 ghost use Rattle.queue_tables.specs.Orders.{HaveOrders};
 ghost use Rattle.queue_tables.specs.Telling.{Tell};
-ghost use Rattle.mas_complex.specs.declared.places.Place.TheVariants.{Before};
+ghost use Rattle.ckpt_places.specs.declared.places.Place.TheVariants.{Before};
 ghost use Rattle.member_node.specs.Calls.{Course};
 ghost use Rattle.member_node.specs.Spares.{Spares};
 ghost use Rattle.member_node.specs.Reads.{ArePagesOf, IsCalm, IsRead, IsReadWhole, MayGoOn, ReadsAs, StandAt, copies_alive, is_job_below, is_output_below};
@@ -53,6 +53,7 @@ fn read_one<P: Plant + Drop, C: Steady + Drop>(
     ensures base { complex.new.base ≡ complex.old.base }
     ensures printed { complex.new.printed ≡ complex.old.printed }
     ensures since { complex.new.since ≡ complex.old.since }
+    ensures renewals { complex.new.renewals ≡ complex.old.renewals }
     ensures book { complex.new.book ≡ complex.old.book }
     ensures journal { complex.new.journal ≡ complex.old.journal }
     ensures current { complex.new.current ≡ complex.old.current }
@@ -97,6 +98,7 @@ fn read_from<P: Plant + Drop, C: Steady + Drop>(
     ensures base { complex.new.base ≡ complex.old.base }
     ensures printed { complex.new.printed ≡ complex.old.printed }
     ensures since { complex.new.since ≡ complex.old.since }
+    ensures renewals { complex.new.renewals ≡ complex.old.renewals }
     ensures book { complex.new.book ≡ complex.old.book }
     ensures journal { complex.new.journal ≡ complex.old.journal }
     ensures current { complex.new.current ≡ complex.old.current }
@@ -130,6 +132,7 @@ fn lose_source<P: Plant + Drop, C: Steady + Drop>(complex: &mut Complex<P, C>)
     ensures base { complex.new.base ≡ complex.old.base }
     ensures printed { complex.new.printed ≡ complex.old.printed }
     ensures since { complex.new.since ≡ complex.old.since }
+    ensures renewals { complex.new.renewals ≡ complex.old.renewals }
     ensures book { complex.new.book ≡ complex.old.book }
     ensures journal { complex.new.journal ≡ complex.old.journal }
     ensures current { complex.new.current ≡ complex.old.current }
@@ -160,6 +163,7 @@ fn lose_read<P: Plant + Drop, C: Steady + Drop>(complex: &mut Complex<P, C>) -> 
     ensures base { complex.new.base ≡ complex.old.base }
     ensures printed { complex.new.printed ≡ complex.old.printed }
     ensures since { complex.new.since ≡ complex.old.since }
+    ensures renewals { complex.new.renewals ≡ complex.old.renewals }
     ensures book { complex.new.book ≡ complex.old.book }
     ensures journal { complex.new.journal ≡ complex.old.journal }
     ensures current { complex.new.current ≡ complex.old.current }
@@ -293,6 +297,7 @@ impl Member {
         ensures base { complex.new.base ≡ complex.old.base }
         ensures printed { complex.new.printed ≡ complex.old.printed }
         ensures since { complex.new.since ≡ complex.old.since }
+        ensures renewals { complex.new.renewals ≡ complex.old.renewals }
         ensures book { complex.new.book ≡ complex.old.book }
         ensures journal { complex.new.journal ≡ complex.old.journal }
         ensures current { complex.new.current ≡ complex.old.current }
@@ -354,6 +359,7 @@ impl Member {
         ensures base { complex.new.base ≡ complex.old.base }
         ensures printed { complex.new.printed ≡ complex.old.printed }
         ensures since { complex.new.since ≡ complex.old.since }
+        ensures renewals { complex.new.renewals ≡ complex.old.renewals }
         ensures book { complex.new.book ≡ complex.old.book }
         ensures journal { complex.new.journal ≡ complex.old.journal }
         ensures current { complex.new.current ≡ complex.old.current }
@@ -403,6 +409,17 @@ impl Member {
         Ok(self.room.len() as u32 - 1)
     }
 
+    // The pages that it has: those that it read last, or those of its tables.
+    pub(crate) fn pages(&self) -> &[Page]
+        ensures { result.now ≡ pages_had self.now.behind self.now.room self.now.checkpoint.pages }
+    {
+        if self.behind {
+            self.room.as_slice()
+        } else {
+            self.checkpoint.pages.as_slice()
+        }
+    }
+
     /// Primary: makes room for a put where a copy that counts as alive has none, with the pages that the member read,
     /// and makes no act where each has. Nothing is in flight.
     ///
@@ -423,6 +440,7 @@ impl Member {
         ensures base { complex.new.base ≡ complex.old.base }
         ensures printed { complex.new.printed ≡ complex.old.printed }
         ensures since { complex.new.since ≡ complex.old.since }
+        ensures renewals { complex.new.renewals ≡ complex.old.renewals }
         ensures book { complex.new.book ≡ complex.old.book }
         ensures journal { complex.new.journal ≡ complex.old.journal }
         ensures current { complex.new.current ≡ complex.old.current }
@@ -447,12 +465,7 @@ impl Member {
         if complex.pair.room() > 0 {
             return Ok(());
         }
-        let pages = if self.behind {
-            self.room.as_slice()
-        } else {
-            self.checkpoint.pages.as_slice()
-        };
-        match complex.settle(self.id, pages) {
+        match complex.settle(self.id, self.pages()) {
             Ok(()) => Ok(()),
             Err(PairNo::BothLost) => Err(NodeNo::BothLost),
             Err(PairNo::Halted) => Err(NodeNo::Halted),
@@ -566,6 +579,7 @@ impl Member {
         ensures base { complex.new.base ≡ complex.old.base }
         ensures printed { complex.new.printed ≡ complex.old.printed }
         ensures since { complex.new.since ≡ complex.old.since }
+        ensures renewals { complex.new.renewals ≡ complex.old.renewals }
         ensures book { complex.new.book ≡ complex.old.book }
         ensures journal { complex.new.journal ≡ complex.old.journal }
         ensures current { complex.new.current ≡ complex.old.current }
@@ -626,6 +640,7 @@ impl Member {
         ensures base { complex.new.base ≡ complex.old.base }
         ensures printed { complex.new.printed ≡ complex.old.printed }
         ensures since { complex.new.since ≡ complex.old.since }
+        ensures renewals { complex.new.renewals ≡ complex.old.renewals }
         ensures book { complex.new.book ≡ complex.old.book }
         ensures journal { complex.new.journal ≡ complex.old.journal }
         ensures current { complex.new.current ≡ complex.old.current }

@@ -8,7 +8,7 @@ ghost use Rattle.mas_types.specs.declared.journals.Fate.TheVariants.{Kept};
 ghost use Rattle.spool_disk.specs.declared.plant.Part.TheVariants.{Console};
 ghost use Rattle.spool_disk.specs.View.{disk_now};
 ghost use Rattle.spool_disk.specs.Acts.{Acts, Says};
-ghost use Rattle.mas_complex.specs.declared.places.Place.TheVariants.{Before as AtBefore};
+ghost use Rattle.ckpt_places.specs.declared.places.Place.TheVariants.{Before as AtBefore};
 ghost use Rattle.mas_complex.specs.Crash.{IsUntold, setting};
 ghost use Rattle.mas_complex.specs.Journals.{begun, end_of, entries_reserved, fated, in_flight, kept_all, with_last, StepIsKept};
 ghost use Rattle.mas_complex.specs.Locking.{MayAct, IsUp};
@@ -81,6 +81,7 @@ impl Member {
         ensures base { complex.new.base ≡ complex.old.base }
         ensures printed { complex.new.printed ≡ complex.old.printed }
         ensures since { complex.new.since ≡ complex.old.since }
+        ensures renewals { complex.new.renewals ≡ complex.old.renewals }
         ensures book { complex.new.book ≡ complex.old.book }
         ensures current { complex.new.current ≡ complex.old.current }
         ensures first { complex.new.first ≡ complex.old.first }
@@ -162,6 +163,7 @@ impl Member {
         ensures printed { complex.new.printed
             ≡ printed_after self.now.id (entries_reserved complex.old.reserved) complex.old.printed }
         ensures since { complex.new.since ≡ complex.old.since }
+        ensures renewals { complex.new.renewals ≡ complex.old.renewals }
         ensures book { complex.new.book ≡ complex.old.book }
         ensures unreserved { complex.new.reserved ≡ None }
         ensures kept { OnOk result (complex.new.journal.batches
@@ -226,6 +228,7 @@ impl Member {
         ensures base { complex.new.base ≡ complex.old.base }
         ensures printed { complex.new.printed ≡ complex.old.printed }
         ensures since { complex.new.since ≡ complex.old.since }
+        ensures renewals { complex.new.renewals ≡ complex.old.renewals }
         ensures book { complex.new.book ≡ complex.old.book }
         ensures journal { complex.new.journal ≡ complex.old.journal }
         ensures current { complex.new.current ≡ complex.old.current }

@@ -25,7 +25,7 @@ use Rattle.member_node.specs.declared.member.NodeNo.TheVariants as no_node
 use Rattle.member_decks.specs.declared.spooling.SpoolError.{SpoolError}
 use Rattle.member_decks.specs.declared.spooling.SpoolError.TheVariants as spool
 use Rattle.member_decks.specs.Spooling.{OnVolumes, lies_there}
-use Rattle.member_decks.specs.Steps.{IsFoundLost, SpoolStops}
+use Rattle.member_decks.specs.Steps.{IsFoundLost, SpoolStops, names_volume}
 use Rattle.step_turns.specs.declared.states.Found.{Found}
 use Rattle.step_turns.specs.declared.states.State.{State}
 use Rattle.step_turns.specs.declared.states.State.TheVariants.{Away, Told}
@@ -97,11 +97,12 @@ module _ {P C : Type 0} (plants : PlantGhosts P) where
     pub there : found.lost ≡ None → plants.tells → AreRoomy (v x) x.base.config
         → IsThere (spools_at (v y) (v y).now) x.base.config.groups (Whole text) groups
 
-  -- Acts aside for a deck, by their answer: on the volumes alone. Halted comes only where the member was stopped.
+  -- Acts aside for a deck, by their answer: on the volumes alone, of which each stays as it is that isn't found lost.
+  -- Halted comes only where the member was stopped.
   pub record HasSpooled (x y : Parts P C) (m : Member) (text : List (List ℕ)) (result : Result Found NodeNo) : Type 0
     where
       pub acts : OnVolumes plants.tells m.id.0 (v x) (v y)
-      pub cause : SpoolStops result m.id.0 (v x) (v y)
+      pub cause : SpoolStops (λ found. names_volume found.lost) result m.id.0 (v x) (v y)
       pub finds : IfOk result (λ found. FindsDeck x y (lowest_groups m.id m.checkpoint.tables.owners text) text found)
 
 -- OVER THE SHARED VALUE

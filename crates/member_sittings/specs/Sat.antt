@@ -53,7 +53,8 @@ resumes h aside found = record { holder = h; state = Away aside; found = found }
 -- The parts as they are, with the lock's book, the base and the first moment as they were: a sitting changes none of
 -- these.
 abbrev pub sat_in : {P C : Type 0} → Parts P C → Parts P C → Parts P C
-sat_in is was = record is { book = was.book; base = was.base; since = was.since }
+sat_in is was = record is
+    { book = was.book; base = was.base; since = was.since; renewals = was.renewals }
 
 -- the journal, with a batch in flight at its end
 abbrev pub journal_of : {P C : Type 0} → Parts P C → List Batch

@@ -14,14 +14,14 @@ use Rattle.member_steps.specs.Steps.{entry_with}
 use Rattle.step_turns.specs.Courses.{sittings_most}
 use Rattle.step_turns.specs.Decks.{lines_by}
 use Rattle.step_turns.specs.Entries.{all_entries}
-use Rattle.step_turns.specs.Laws.{units_done, units_left}
+use Rattle.step_turns.specs.Laws.{lines_of, units_done, units_left}
 use Rattle.step_turns.specs.Sittings.{Sitting, released}
-use Rattle.step_turns.specs.declared.states.Aside.TheVariants.{PrintLines, ReadText, SpoolDeck, SpoolOutputs}
+use Rattle.step_turns.specs.declared.states.Aside.TheVariants.{Acknowledge, Exchange, PrintLines, ReadText, SpoolArrival, SpoolDeck, SpoolOutputs}
 use Rattle.step_turns.specs.declared.states.Found.{Found}
 use Rattle.step_turns.specs.declared.states.Holder.{Holder}
 use Rattle.step_turns.specs.declared.states.State.{State}
 use Rattle.step_turns.specs.declared.states.State.TheVariants.{Away, Fresh, Rested, Told}
-use Rattle.step_turns.specs.declared.states.Task.TheVariants.{Deck, Give, Work}
+use Rattle.step_turns.specs.declared.states.Task.TheVariants.{Deck, Give, Line, Work}
 use Rattle.member_sittings.specs.Ends.{ends_in}
 
 -- HOW WORK MAY CLOSE, by what was found in the acts that it waited for
@@ -42,6 +42,17 @@ MayEndBy found _ = Unit {0}
 -- a step that may play so many units closes with those that are done, or as one was refused
 abbrev pub MayCloseBy : ℕ → Found → Closing → Type 0
 MayCloseBy units found end = ((n : ℕ) × (n ≤ units) × (end ≡ closing.DoneUnits n)) ⊎ MayRefuseBy found end
+
+-- HOW A STEP MAY CLOSE that serves a line, on every plant: with the jobs that left and came, with the reply to a command,
+-- by the cards of a job, or by what was lost. What each rests on is said where content is told.
+abbrev pub MayCloseLine : Closing → Type 0
+MayCloseLine (closing.Line sent got) = Unit {0}
+MayCloseLine (closing.LineLost line) = Unit {0}
+MayCloseLine (closing.BadCard card cause) = Unit {0}
+MayCloseLine (closing.NoText group) = Unit {0}
+MayCloseLine (closing.SpoolLost volume) = Unit {0}
+MayCloseLine (closing.Reply r) = Unit {0}
+MayCloseLine _ = ⊥
 
 -- THE LINES
 
@@ -71,16 +82,30 @@ GivesCommand h c t = (r : Reply)
 abbrev pub SaysWork : Holder → State → Found → Sitting → Type 0
 SaysWork h s found t = SaysAtEnd t.next (WorkLines h (units_done s + units_left s) found) t.lines
 
+abbrev pub LineLines : Holder → List (List ℕ) → Type 0
+LineLines h lines = (end : Closing) × (lines ≡ lines_of h.by h.step end) × MayCloseLine end
+
+-- a sitting that loads a job has one batch, and the step goes on after it
+abbrev pub SaysLoad : Sitting → Type 0
+SaysLoad t = (length t.batches ≡ 1) × SaysAtEnd t.next (λ lines. ⊥) t.lines
+
+abbrev pub SaysLine : Holder → Sitting → Type 0
+SaysLine h t = SaysAtEnd t.next (LineLines h) t.lines
+
 -- THE SITTING, from each state
 
 abbrev pub Says : Holder → State → Found → Sitting → Type 0
 Says h (Fresh (Give c)) found t = GivesCommand h c t
 Says h (Fresh (Deck fields text)) found t = SaysDeck h None t
 Says h (Fresh (Work n)) found t = SaysWork h (Fresh (Work n)) found t
+Says h (Fresh (Line l)) found t = SaysLoad t
 Says h (Away (SpoolDeck n text)) found t = SaysDeck h found.lost t
 Says h (Away (ReadText runs n fields p)) found t = SaysWork h (Away (ReadText runs n fields p)) found t
 Says h (Away (SpoolOutputs n specs p)) found t = SaysWork h (Away (SpoolOutputs n specs p)) found t
 Says h (Away (PrintLines n i last p)) found t = SaysWork h (Away (PrintLines n i last p)) found t
+Says h (Away (Exchange l offer)) found t = SaysLine h t
+Says h (Away (SpoolArrival number n text s)) found t = (length t.batches ≡ 1) × SaysLine h t
+Says h (Away (Acknowledge number s)) found t = SaysLine h t
 Says h (Rested p) found t = SaysWork h (Rested p) found t
 Says h Told found t = t.lines ≡ []
 

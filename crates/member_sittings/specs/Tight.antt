@@ -3,10 +3,10 @@ use Rattle.std.specs.Prelude.{◌≡◌, ◌≤◌, ◌<◌, true, List, length,
 use Rattle.mas_types.specs.declared.journals.Entry.{Entry}
 use Rattle.member_node.specs.declared.member.NodeNo.{NodeNo}
 use Rattle.member_node.specs.declared.member.NodeNo.TheVariants.{BothLost, Halted, ConsoleFault, NoMemory}
-use Rattle.step_turns.specs.declared.states.Aside.TheVariants.{PrintLines, ReadText, SpoolDeck, SpoolOutputs}
+use Rattle.step_turns.specs.declared.states.Aside.TheVariants.{Acknowledge, Exchange, PrintLines, ReadText, SpoolArrival, SpoolDeck, SpoolOutputs}
 use Rattle.step_turns.specs.declared.states.State.{State}
 use Rattle.step_turns.specs.declared.states.State.TheVariants.{Away, Fresh, Rested, Told}
-use Rattle.step_turns.specs.declared.states.Task.TheVariants.{Deck, Give, Work}
+use Rattle.step_turns.specs.declared.states.Task.TheVariants.{Deck, Give, Line, Work}
 use Rattle.member_sittings.specs.Left.{Reach}
 
 -- Out of memory, or where both copies were lost, not all batches are kept. What was done of the next one is kept
@@ -18,15 +18,19 @@ IsTightBy (Err NoMemory) ess r = r.whole < length ess
 IsTightBy (Err BothLost) ess r = (r.whole < length ess) × (1 ≤ r.part → r.flies ≡ true)
 IsTightBy (Err Halted) ess r = 1 ≤ r.part → r.flies ≡ true
 
--- asked of a command's sitting and of a deck's, but not of one that plays units: there a batch is kept as soon as it is
--- full, and the copies are read anew
+-- asked of a command's sitting and of a deck's, but not of one that plays units or serves a line: there a batch is kept
+-- as soon as it is full, and the copies are read anew
 abbrev pub IfNoWork : State → Type 0 → Type 0
 IfNoWork (Fresh (Give c)) P = P
 IfNoWork (Fresh (Deck fields text)) P = P
 IfNoWork (Fresh (Work n)) P = Unit {0}
+IfNoWork (Fresh (Line l)) P = Unit {0}
 IfNoWork (Away (SpoolDeck n text)) P = P
 IfNoWork (Away (ReadText runs n fields p)) P = Unit {0}
 IfNoWork (Away (SpoolOutputs n specs p)) P = Unit {0}
 IfNoWork (Away (PrintLines n i last p)) P = Unit {0}
+IfNoWork (Away (Exchange l offer)) P = Unit {0}
+IfNoWork (Away (SpoolArrival number n text s)) P = Unit {0}
+IfNoWork (Away (Acknowledge number s)) P = Unit {0}
 IfNoWork (Rested p) P = Unit {0}
 IfNoWork Told P = P

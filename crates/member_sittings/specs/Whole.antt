@@ -23,7 +23,7 @@ use Rattle.queue_tables.specs.Telling.{TellSound}
 use Rattle.spool_volumes.specs.Volumes.{AreRoomy}
 use Rattle.mas_types.specs.declared.ids.Page.{Page}
 use Rattle.mas_complex.specs.declared.complex.Complex.{Complex}
-use Rattle.mas_complex.specs.declared.places.Place.{Place}
+use Rattle.ckpt_places.specs.declared.places.Place.{Place}
 use Rattle.ckpt_form.specs.declared.steady.Steady.{Ghosts as SteadyGhosts}
 use Rattle.mas_complex.specs.Crash.{IsUntold, setting}
 use Rattle.mas_complex.specs.Journals.{AreSettled, kept_all}

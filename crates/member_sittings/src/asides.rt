@@ -5,7 +5,7 @@ ghost use Rattle.member_sittings.specs.Asides.{MaySpoolDeck, SpoolsDeck, deck_fo
 
 use job_outcome::Read;
 use mas_complex::{Complex, Steady};
-use mas_types::Lines;
+use mas_types::{Lines, List};
 use member_decks::{SpoolError, spool_text};
 use member_node::{Member, NodeNo};
 use spool_disk::Plant;
@@ -22,6 +22,8 @@ fn found_lost(alloc: Global, lost: Option<u8>) -> Found
         read: Read::Lines(Lines::new(alloc)),
         lost,
         printer: false,
+        wire: false,
+        frames: List::new(alloc),
     }
 }
 

@@ -20,7 +20,7 @@ use Rattle.queue_tables.specs.Telling.{Tell, TellSound}
 use Rattle.queue_tables.proofs.OrderLemmas.{orders_are}
 use Rattle.queue_tables.proofs.ToldLemmas.{tell_alike}
 use Rattle.duplex_pair.specs.Halves.{SomeAlive}
-use Rattle.mas_complex.specs.declared.places.Place.{Place}
+use Rattle.ckpt_places.specs.declared.places.Place.{Place}
 use Rattle.mas_complex.specs.Crash.{EachTells, IsUntold, setting}
 use Rattle.mas_complex.specs.Journals.{end_of, fated, has_step, kept_all}
 use Rattle.mas_complex.specs.Meaning.{Closes, run}

@@ -2,7 +2,7 @@
 use Rattle.std.proofs.Common.{◌≡◌, ◌≢◌, inl, inr, ⊎_elim, ℕ, suc, zero, ◌≤◌, ◌<◌, Bool, true, false, List, [], ◌∷◌, ◌++◌, length, map, take, slice_get, Some, Ok, Err, append_assoc, refl, sym, ◌∙◌, ap, arith}
 use Rattle.std.proofs.lemmas.List.{map-append, take_all}
 use Rattle.mas_types.specs.declared.ids.Dev.{Dev}
-use Rattle.mas_types.specs.declared.ids.Dev.TheVariants.{Ckpt1, Ckpt2}
+use Rattle.mas_types.specs.declared.ids.Dev.TheVariants.{Ckpt1, Ckpt2, Spool}
 use Rattle.spool_disk.specs.declared.plant.Part.TheVariants.{Disk as DiskPart, Console}
 use Rattle.spool_disk.specs.declared.plant.Act.{Act}
 use Rattle.spool_disk.specs.declared.plant.Act.TheVariants.{Failed, Halted as ActHalted}
@@ -30,12 +30,13 @@ disk_not_console : (d : Dev) → DiskPart d ≢ Console
 disk_not_console d e = absurd (cc)
 
 pub console_none : (told : Type 0) (v : View) → OnConsole told v v
-console_none told v = record { goes = goes_none v; lost = λ d. refl; loses = λ d. refl; disks = λ t d. refl; others = λ t. only_none v; papers = λ t. papers_none v }
+console_none told v = record { goes = goes_none v; lost = λ d. refl; faults = λ d. refl; loses = λ d. refl; disks = λ t d. refl; others = λ t. only_none v; papers = λ t. papers_none v }
 
 pub console_on : (told : Type 0) (by : ℕ) (line : List ℕ) (v0 v1 v2 : View) (said : Act) → OnConsole told v0 v1 → Acts by Console v1 v2 said → (told → Says line v1 v2 said) → OnConsole told v0 v2
 console_on told by line v0 v1 v2 said x act says = record {
   goes = goes_on v0 v1 v2 x.goes act.goes;
   lost = λ d. act.else_lost (DiskPart d) (inl (disk_not_console d)) ∙ x.lost d;
+  faults = λ d. act.else_faults (DiskPart d) (inl (disk_not_console d)) ∙ x.faults d;
   loses = λ d. act.loses d ∙ x.loses d;
   disks = λ t d. (says t).disks d ∙ x.disks t d;
   others = λ t. only_on v0 v1 v2 x.goes.later act.goes (x.others t) (only_said by line v1 v2 said act (says t));
@@ -53,6 +54,7 @@ console_course told a b v1 v2 x = record {
   alive1 = λ is. is;
   alive2 = λ is. is;
   grow = λ d. inl (x.loses d);
+  volumes = record { lost = λ n other. x.lost (Spool n); faults = λ n other. x.faults (Spool n) };
 }
 
 -- THE LINES

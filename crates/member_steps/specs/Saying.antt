@@ -46,11 +46,12 @@ SayCauses (Err Halted) by old new = Rose (old.stops by) (new.stops by)
 SayCauses (Err BothLost) by old new = ⊥
 SayCauses (Err NoMemory) by old new = ⊥
 
--- Acts on the console: no device is lost, and where content is told, each holds at each moment what it held, and so
--- does each printer.
+-- Acts on the console: no device is lost and none fails, and where content is told, each holds at each moment what it
+-- held, and so does each printer.
 pub record OnConsole (told : Type 0) (old new : View) : Type 0 where
   pub goes : Goes old new
   pub lost : (d : Dev) → new.lost (Disk d) ≡ old.lost (Disk d)
+  pub faults : (d : Dev) → new.faults (Disk d) ≡ old.faults (Disk d)
   pub loses : (d : Dev) → new.loses d ≡ old.loses d
   pub disks : told → (d : Dev) → disk_now new d ≡ disk_now old d
   pub others : told → IsOnlyOn old new

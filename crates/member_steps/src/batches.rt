@@ -68,6 +68,7 @@ pub fn play_batch<P: Plant + Drop, C: Steady + Drop>(
     requires room2 { complex.old.pair.second.alive ≡ true → 1 ≤ C.room complex.old.pair.second.copy }
     ensures base { complex.new.base ≡ complex.old.base }
     ensures since { complex.new.since ≡ complex.old.since }
+    ensures renewals { complex.new.renewals ≡ complex.old.renewals }
     ensures book { complex.new.book ≡ complex.old.book }
     ensures id { member.new.id ≡ member.old.id }
     ensures room { member.new.room ≡ member.old.room }

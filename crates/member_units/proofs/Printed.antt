@@ -60,13 +60,13 @@ same_ink k lines none = ap (λ (ls : List (List ℕ)). map whole ls ++ torn_line
 
 module _ {P C : Type 0} (plants : PlantGhosts P) (by : MemberId) (lines : List (List ℕ)) (x y : Parts P C) where
   -- the text wasn't read
-  pub inked_unread : {T : Type 0} (lost : T → Bool) (e : NodeNo) → SpoolStops {T = T} (Err e) by.0 (plants.view x.plant) (plants.view y.plant) → ((m : ℕ) → paper_now (plants.view y.plant) m ≡ paper_now (plants.view x.plant) m) → y.printed ≡ x.printed
+  pub inked_unread : {T : Type 0} (names : T → ℕ → Bool) (lost : T → Bool) (e : NodeNo) → SpoolStops names (Err e) by.0 (plants.view x.plant) (plants.view y.plant) → ((m : ℕ) → paper_now (plants.view y.plant) m ≡ paper_now (plants.view x.plant) m) → y.printed ≡ x.printed
       → HasInked plants lost by lines x y (Err e)
-  inked_unread {T} lost e stops papers same = by_error e stops where
+  inked_unread {T} names lost e stops papers same = by_error e stops where
     counts : counts_of y.printed by ≡ counts_of x.printed by
     counts = ap (λ (l : List ℕ). counts_of l by) same
 
-    by_error : (e : NodeNo) → SpoolStops {T = T} (Err e) by.0 (plants.view x.plant) (plants.view y.plant) → HasInked plants lost by lines x y (Err e)
+    by_error : (e : NodeNo) → SpoolStops names (Err e) by.0 (plants.view x.plant) (plants.view y.plant) → HasInked plants lost by lines x y (Err e)
     by_error NoMemory stops = inked_wanting plants by lines lost x y (unprinted_yet plants by lines x y papers same) (omega (arith, counts)) (omega (arith, counts))
     by_error Halted stops = inked_stopped plants by lines lost x y (unprinted_yet plants by lines x y papers same) (omega (arith, counts)) (omega (arith, counts))
     by_error BothLost stops = absurd stops

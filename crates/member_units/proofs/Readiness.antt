@@ -13,7 +13,7 @@ use Rattle.member_decks.proofs.OpenLemmas.{tells_some}
 use Rattle.step_turns.specs.JobEnds.{chunk_end}
 use Rattle.step_turns.specs.declared.states.Aside.{Aside}
 use Rattle.step_turns.specs.declared.states.Progress.{Progress}
-use Rattle.step_turns.specs.declared.states.Aside.TheVariants.{PrintLines, ReadText, SpoolDeck, SpoolOutputs}
+use Rattle.step_turns.specs.declared.states.Aside.TheVariants.{Acknowledge, Exchange, PrintLines, ReadText, SpoolArrival, SpoolDeck, SpoolOutputs}
 use Rattle.member_units.specs.declared.nexts.Next.{Next}
 use Rattle.member_units.specs.declared.nexts.Next.TheVariants as next
 use Rattle.member_units.specs.Nexts.{AreLines, IsRightNext, IsText, lines_of, text_of}
@@ -69,6 +69,9 @@ unit_ready told Q t by (SpoolDeck n text) ready = absurd ready
 unit_ready told Q t by (ReadText runs n fields p) ready = ready
 unit_ready told Q t by (SpoolOutputs n specs p) ready = absurd ready
 unit_ready told Q t by (PrintLines n i last p) ready = ready
+unit_ready told Q t by (Exchange l offer) ready = absurd ready
+unit_ready told Q t by (SpoolArrival number job cards service) ready = absurd ready
+unit_ready told Q t by (Acknowledge number service) ready = absurd ready
 
 -- THE UNIT THAT WAITS is one of those that may be played
 

@@ -16,16 +16,16 @@ use Rattle.member_work.proofs.GivenLemmas.{work_tells}
 use Rattle.step_turns.specs.Courses.{sittings_most}
 use Rattle.step_turns.specs.Laws.{aside_units, units_left}
 use Rattle.step_turns.specs.declared.states.Aside.{Aside}
-use Rattle.step_turns.specs.declared.states.Aside.TheVariants.{PrintLines, ReadText, SpoolDeck, SpoolOutputs}
+use Rattle.step_turns.specs.declared.states.Aside.TheVariants.{Acknowledge, Exchange, PrintLines, ReadText, SpoolArrival, SpoolDeck, SpoolOutputs}
 use Rattle.step_turns.specs.declared.states.Holder.{Holder}
 use Rattle.step_turns.specs.declared.states.Progress.{Progress}
 use Rattle.step_turns.specs.declared.states.State.{State}
 use Rattle.step_turns.specs.declared.states.State.TheVariants.{Away, Told}
-use Rattle.member_units.specs.Nexts.{WaitsFor}
+use Rattle.member_units.specs.Nexts.{IsRightNext, WaitsFor}
 use Rattle.member_sittings.specs.declared.ends.SittingEnd.{SittingEnd}
 use Rattle.member_units.specs.declared.nexts.Next.{Next}
 use Rattle.member_units.specs.declared.nexts.Next.TheVariants as next
-use Rattle.member_units.specs.Ready.{HasFewer, IsReady}
+use Rattle.member_units.specs.Ready.{HasFewer, IsReady, IsReadyUnit}
 use Rattle.member_units.specs.Works.{HasSeat, Sits, SitsIn, Works, queue_here}
 use Rattle.member_units.proofs.Seated.{sits_works}
 
@@ -96,14 +96,17 @@ module _ (sittings units : ℕ) (r : Result SittingEnd NodeNo) where
       if_ok r (λ e. HasFewer sittings' units' e.next) (λ e. HasFewer sittings units e.next) (λ e had. record { falls = let falls = had.falls in omega (arith, falls, one); few = let few = had.few in omega (arith, few, two) }) few
 
 -- a unit that waits
-aside_fewer : (a : Aside) → sittings_most (Away a) ≤ 3 * aside_units a
-aside_fewer (SpoolDeck n text) = omega arith
-aside_fewer (ReadText runs n fields p) = omega arith
-aside_fewer (SpoolOutputs n specs p) = omega arith
-aside_fewer (PrintLines n i last p) = omega arith
+aside_fewer : (t : Tables) (by : MemberId) (a : Aside) → IsReadyUnit t by a → sittings_most (Away a) ≤ 3 * aside_units a
+aside_fewer t by (SpoolDeck n text) ready = absurd ready
+aside_fewer t by (ReadText runs n fields p) ready = omega arith
+aside_fewer t by (SpoolOutputs n specs p) ready = absurd ready
+aside_fewer t by (PrintLines n i last p) ready = omega arith
+aside_fewer t by (Exchange l offer) ready = absurd ready
+aside_fewer t by (SpoolArrival number job cards service) ready = absurd ready
+aside_fewer t by (Acknowledge number service) ready = absurd ready
 
-pub waits_fewer : (sittings units : ℕ) (p : Progress) (x : Next) (a : Aside) → WaitsFor p x → x ≡ next.Wait a → 3 * p.left < sittings → p.done + p.left ≤ units → HasFewer sittings units (Away a)
-waits_fewer sittings units p x a waits is some few =
+pub waits_fewer : (t : Tables) (by : MemberId) (sittings units : ℕ) (p : Progress) (x : Next) (a : Aside) → IsRightNext t by x → WaitsFor p x → x ≡ next.Wait a → 3 * p.left < sittings → p.done + p.left ≤ units → HasFewer sittings units (Away a)
+waits_fewer t by sittings units p x a right waits is some few =
     let same = subst (WaitsFor p) is waits in
-    let most = aside_fewer a in
+    let most = aside_fewer t by a (subst (IsRightNext t by) is right) in
     record { falls = omega (arith, most, same.0, some); few = omega (arith, same.0, same.1, few) }

@@ -10,6 +10,7 @@ use Rattle.spool_disk.specs.View.{Line}
 use Rattle.spool_disk.specs.declared.plant.Plant.{Ghosts as PlantGhosts}
 use Rattle.ckpt_copy.specs.declared.copying.Copying.{Ghosts as CopyGhosts}
 use Rattle.mas_complex.specs.declared.complex.Complex.{Complex}
+use Rattle.mas_complex.specs.declared.renewals.Renewals.{Renewals}
 use Rattle.ckpt_form.specs.declared.steady.Steady.{Ghosts as SteadyGhosts}
 use Rattle.mas_complex.specs.Parts.{parts_of}
 use Rattle.mas_complex.specs.Texts.{Spools}
@@ -26,7 +27,7 @@ use Rattle.step_turns.specs.Entries.{all_entries}
 use Rattle.step_turns.specs.Laws.{units_done, units_left}
 use Rattle.step_turns.specs.Sittings.{Sitting, released, sit}
 use Rattle.step_turns.specs.declared.states.Aside.{Aside}
-use Rattle.step_turns.specs.declared.states.Aside.TheVariants.{PrintLines, ReadText, SpoolDeck, SpoolOutputs}
+use Rattle.step_turns.specs.declared.states.Aside.TheVariants.{Acknowledge, Exchange, PrintLines, ReadText, SpoolArrival, SpoolDeck, SpoolOutputs}
 use Rattle.step_turns.specs.declared.states.Found.{Found}
 use Rattle.step_turns.specs.declared.states.Holder.{Holder}
 use Rattle.step_turns.specs.declared.states.State.{State}
@@ -87,6 +88,9 @@ plays_units told Q by disks counts (SpoolDeck n text) found may A = absurd may
 plays_units told Q by disks counts (ReadText runs n fields p) found may A = tt
 plays_units told Q by disks counts (SpoolOutputs n specs p) found may A = tt
 plays_units told Q by disks counts (PrintLines n i last p) found may A = tt
+plays_units told Q by disks counts (Exchange l offer) found may A = absurd may
+plays_units told Q by disks counts (SpoolArrival number job cards service) found may A = absurd may
+plays_units told Q by disks counts (Acknowledge number service) found may A = absurd may
 
 -- and closes as work does
 pub says_units : (told : Type 0) (Q : Queue) (by : MemberId) (disks : Spools) (counts : MemberId → ℕ) (h : Holder) (a : Aside) (found : Found) → MayResume told Q by disks counts a found → (t : Sitting) → SaysWork h (Away a) found t → Says h (Away a) found t
@@ -94,14 +98,19 @@ says_units told Q by disks counts h (SpoolDeck n text) found may t says = absurd
 says_units told Q by disks counts h (ReadText runs n fields p) found may t says = says
 says_units told Q by disks counts h (SpoolOutputs n specs p) found may t says = says
 says_units told Q by disks counts h (PrintLines n i last p) found may t says = says
+says_units told Q by disks counts h (Exchange l offer) found may t says = absurd may
+says_units told Q by disks counts h (SpoolArrival number job cards service) found may t says = absurd may
+says_units told Q by disks counts h (Acknowledge number service) found may t says = absurd may
 
 module _ {P C : Type 0} {plants : PlantGhosts P} {steadies : SteadyGhosts C} {copies : CopyGhosts C} where
   pub frame_of : (x y : Complex P C plants steadies copies) (m n : Member) → run_of y n ≡ run_of x m → parts_of y ≡ sat_in (parts_of y) (parts_of x)
   frame_of x y m n same =
       let base : y.base ≡ x.base = ap (λ (r : Run). r.base) same in
       let since : y.since ≡ x.since = ap (λ (r : Run). r.since) same in
+      let renewals : y.renewals ≡ x.renewals = ap (λ (r : Run). r.renewals) same in
       let book : y.book ≡ x.book = ap (λ (r : Run). r.book) same in
       ap (λ (b : Book). record (parts_of y) { book = b }) book ∙ ap (λ (q : Queue). record (parts_of y) { book = x.book; base = q }) base ∙ ap (λ (n : ℕ). record (parts_of y) { book = x.book; base = x.base; since = n }) since
+      ∙ ap (λ (rs : Renewals). record (parts_of y) { book = x.book; base = x.base; since = x.since; renewals = rs }) renewals
 
   pub sat_of : (x y : Complex P C plants steadies copies) (m : Member) (h : Holder) (s : State) (found : Found) (w : Wrote) (r : Result SittingEnd NodeNo) → ((A : Type 0) → IfNoWork s A) → ((t : Sitting) → SaysWork h s found t → Says h s found t) → m.batch ≡ [] → AtWork x m → (plants.tells → w ≡ wrote_of [] (turn h (queue_kept x) s found))
       → Plays plants.tells h (bounds (sittings_most s) (units_done s + units_left s) found) 0 w (place_of x m) (outside y) r → HasSat (record { holder = h; state = s; found = found }) x y r

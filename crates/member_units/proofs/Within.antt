@@ -116,6 +116,7 @@ answered_by found (ends.Refused end) a = refused end a where
   refused (closing.BadCard card cause) a = absurd a
   refused (closing.LineLost line) a = absurd a
   refused (closing.NotLost copy) a = absurd a
+  refused (closing.CkptLost copy) a = absurd a
   refused (closing.Line sent got) a = absurd a
 
 -- by what was found

@@ -39,8 +39,8 @@ module _ {P C : Type 0} {plants : PlantGhosts P} {steadies : SteadyGhosts C} {co
   Copy2 x m = HasCopy plants.tells x.pair.second.alive x.second (copies.count x.pair.second.copy) (copies.room x.pair.second.copy) m.checkpoint.pages (copies.reads (disk_now (plants.view x.plant) Ckpt2).bytes)
 
   module _ (x y : Complex P C plants steadies copies) (m n : Member) (h : Holder) where
-    pub same_run : y.base ≡ x.base → y.since ≡ x.since → y.book ≡ x.book → n.id ≡ m.id → run_of y n ≡ run_of x m
-    same_run base since book id = rw (base, since, book, id) refl
+    pub same_run : y.base ≡ x.base → y.since ≡ x.since → y.renewals ≡ x.renewals → y.book ≡ x.book → n.id ≡ m.id → run_of y n ≡ run_of x m
+    same_run base since renewals book id = rw (base, since, renewals, book, id) refl
 
     pub works_on : Works x m h → run_of y n ≡ run_of x m → AtWork y n → AreOf n.id h.step n.batch → Untold y n h → AreKeptFrom n.id h.step y.journal.batches (plants.view y.plant).now → Copy1 y n → Copy2 y n
         → Works y n h

@@ -1,5 +1,5 @@
 -- Acts of a step of work that want no lock: which may be done, and what they show.
-use Rattle.std.specs.Prelude.{◌≡◌, ◌⊎◌, ℕ, ◌+◌, ◌≤◌, true, List, take, All, None, Some, Result, Ok, Err, IfOk}
+use Rattle.std.specs.Prelude.{◌≡◌, ◌⊎◌, ℕ, ◌+◌, ◌≤◌, Bool, true, List, is_some, take, All, None, Some, Result, Ok, Err, IfOk}
 use Rattle.mas_types.specs.declared.ids.GroupNo.{GroupNo}
 use Rattle.mas_types.specs.declared.ids.JobNo.{JobNo}
 use Rattle.mas_types.specs.declared.ids.MemberId.{MemberId}
@@ -41,25 +41,29 @@ use Rattle.member_node.specs.declared.member.Member.{Member}
 use Rattle.member_node.specs.declared.member.NodeNo.{NodeNo}
 use Rattle.member_node.specs.declared.member.NodeNo.TheVariants.{BothLost, Halted, ConsoleFault, NoMemory}
 use Rattle.member_decks.specs.Spooling.{OnVolumes}
-use Rattle.member_decks.specs.Steps.{SpoolStops}
+use Rattle.member_decks.specs.Steps.{SpoolStops, names_volume}
 use Rattle.member_work.specs.Inked.{HasInked, lines_read}
 use Rattle.member_work.specs.Looks.{as_it_is}
 use Rattle.member_work.specs.Printing.{IsBeside}
 use Rattle.member_work.specs.Reading.{IsFailedRead, OnlyReads}
-use Rattle.member_work.specs.Rounds.{HasPrinterFailed, IsReadAs, IsSpoolLost}
+use Rattle.member_work.specs.Rounds.{HasPrinterFailed, IsReadAs, IsSpoolLost, names_read}
 use Rattle.member_work.specs.Spooled.{AreSpooled}
 use Rattle.step_turns.specs.JobEnds.{printed_end}
 use Rattle.step_turns.specs.States.{nothing_found}
 use Rattle.step_turns.specs.declared.states.Found.{Found}
 use Rattle.member_sittings.specs.Asides.{deck_found}
 use Rattle.member_sittings.specs.Whole.{queue_of}
-use Rattle.member_units.specs.Ready.{IsJobReady, IsOutputReady}
+use Rattle.member_units.specs.Ready.{IsOutputReady}
 
 -- WHAT A MEMBER FOUND
 
 -- what a member found that read a text
 abbrev pub read_found : Read → Found
 read_found read = record nothing_found { read = read }
+
+-- what one found that read a text and printed its lines, unless its printer was lost
+abbrev pub printed_found : Read → Bool → Found
+printed_found read lost = record nothing_found { read = read; printer = lost }
 
 -- WHAT THE MEMBER'S TABLES SAY OF A QUEUE, though others may have changed it since
 
@@ -129,7 +133,7 @@ module _ {P C : Type 0} (plants : PlantGhosts P) where
   pub record MayRead (x : Parts P C) (m : Member) (n : JobNo) : Type 0 where
     pub may : MayAside x m
     pub sound : plants.tells → TellSound m.checkpoint.tables
-    pub job : IsJobReady m.checkpoint.tables n
+    pub there : (Q : Queue) → Tell m.checkpoint.tables Q → is_some (job_at Q n) ≡ true
     pub still : plants.tells → IsJobStill m.checkpoint.tables n (queue_of x)
 
   -- How it was read: where content is told it is as the queue has it, unless a volume of its groups was found lost.
@@ -142,11 +146,12 @@ module _ {P C : Type 0} (plants : PlantGhosts P) where
         → IsReadAs plants.tells x.base.config.groups j.text (groups_of (Deck n) (queue_of x).owners) (Some found.read)
         (v x) (v y)
 
-  -- Reading, by its answer: no volume is written. Halted comes only where the member was stopped.
+  -- Reading, by its answer: no volume is written, and each stays as it is that isn't found lost. Halted comes only where
+  -- the member was stopped.
   pub record HasRead (x y : Parts P C) (m : Member) (n : JobNo) (result : Result Found NodeNo) : Type 0 where
     pub acts : OnVolumes plants.tells m.id.0 (v x) (v y)
     pub reads : OnlyReads plants.tells (v x) (v y)
-    pub cause : SpoolStops result m.id.0 (v x) (v y)
+    pub cause : SpoolStops (λ found. names_read found.read) result m.id.0 (v x) (v y)
     pub finds : IfOk result (FindsText x y m n)
 
   -- WRITING THE OUTPUTS OF A JOB
@@ -169,7 +174,7 @@ module _ {P C : Type 0} (plants : PlantGhosts P) where
   pub record HasWritten (x y : Parts P C) (m : Member) (specs : List OutSpec) (result : Result Found NodeNo) : Type 0
     where
       pub acts : OnVolumes plants.tells m.id.0 (v x) (v y)
-      pub cause : SpoolStops result m.id.0 (v x) (v y)
+      pub cause : SpoolStops (λ found. names_volume found.lost) result m.id.0 (v x) (v y)
       pub finds : IfOk result (FindsPlace x y (lowest_for m.id m.checkpoint.tables.owners specs) specs)
 
   -- PRINTING THE NEXT LINES OF AN OUTPUT
@@ -188,7 +193,7 @@ module _ {P C : Type 0} (plants : PlantGhosts P) where
   -- How the text was read, and whether the printer was found lost; where the unit isn't refused for it, the lines stand
   -- on paper.
   pub record FindsLines (x y : Parts P C) (m : Member) (n : JobNo) (i : OutNo) (last : ℕ) (found : Found) : Type 0 where
-    pub only : found.lost ≡ None
+    pub only : found ≡ printed_found found.read found.printer
     pub fits : IsReadable found.read
     pub failed : IsFailedRead x.base.config.groups (groups_of (OutputThing n i) m.checkpoint.tables.owners) found.read
         (v x) (v y)
@@ -209,7 +214,7 @@ module _ {P C : Type 0} (plants : PlantGhosts P) where
     pub inks : plants.tells → (o : Output) → output_at (queue_of x) n i ≡ Some o
         → HasInked plants (λ found. found.printer) m.id
         (lines_next (counts_of x.printed m.id) last o (read_by result o.text)) x y result
-    pub cause : SpoolStops result m.id.0 (v x) (v y)
+    pub cause : SpoolStops (λ found. names_read found.read) result m.id.0 (v x) (v y)
     pub finds : IfOk result (FindsLines x y m n i last)
 
 -- OVER THE SHARED VALUE

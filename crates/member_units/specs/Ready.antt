@@ -33,7 +33,7 @@ use Rattle.step_turns.specs.declared.states.Aside.{Aside}
 use Rattle.step_turns.specs.declared.states.Found.{Found}
 use Rattle.step_turns.specs.declared.states.State.{State}
 use Rattle.step_turns.specs.declared.states.State.TheVariants.{Away, Fresh, Rested, Told}
-use Rattle.step_turns.specs.declared.states.Aside.TheVariants.{PrintLines, ReadText, SpoolDeck, SpoolOutputs}
+use Rattle.step_turns.specs.declared.states.Aside.TheVariants.{Acknowledge, Exchange, PrintLines, ReadText, SpoolArrival, SpoolDeck, SpoolOutputs}
 
 -- a command that a member may give in a sitting: it brings no text, and the step may close with its reply
 pub record MayBeGiven (base : Queue) (by : MemberId) (c : Command) : Type 0 where
@@ -72,6 +72,9 @@ IsReadyUnit t by (SpoolDeck n text) = ⊥
 IsReadyUnit t by (ReadText runs n fields p) = IsJobFields fields × IsJobReady t n
 IsReadyUnit t by (SpoolOutputs n specs p) = ⊥
 IsReadyUnit t by (PrintLines n i last p) = IsOutputReady t by n i last
+IsReadyUnit t by (Exchange l offer) = ⊥
+IsReadyUnit t by (SpoolArrival number n text s) = ⊥
+IsReadyUnit t by (Acknowledge number s) = ⊥
 
 -- a step waits, at this queue
 abbrev pub IsReadyFor : Type 0 → Queue → Tables → MemberId → Aside → Type 0
@@ -79,6 +82,9 @@ IsReadyFor told Q t by (SpoolDeck n text) = ⊥
 IsReadyFor told Q t by (ReadText runs n fields p) = IsJobFields fields × IsJobReady t n
 IsReadyFor told Q t by (SpoolOutputs n specs p) = AreOutputsReady told Q t by n specs
 IsReadyFor told Q t by (PrintLines n i last p) = IsOutputReady t by n i last
+IsReadyFor told Q t by (Exchange l offer) = ⊥
+IsReadyFor told Q t by (SpoolArrival number n text s) = ⊥
+IsReadyFor told Q t by (Acknowledge number s) = ⊥
 
 -- in a state that a sitting of work leaves: no step begins anew
 abbrev pub IsReady : Type 0 → Queue → Tables → MemberId → State → Type 0
@@ -112,3 +118,6 @@ MayResume told Q by disks counts (SpoolOutputs n specs p) found = AreOutputs spe
     × OutputsStand told Q by disks Q.config.groups n specs found.lost
 MayResume told Q by disks counts (PrintLines n i last p) found = IsIndex i.0
     × (printed_end found.printer found.read ≡ None → told → IsMarkRight Q by (counts by) (command.Mark n i last))
+MayResume told Q by disks counts (Exchange l offer) found = ⊥
+MayResume told Q by disks counts (SpoolArrival number n text s) found = ⊥
+MayResume told Q by disks counts (Acknowledge number s) found = ⊥

@@ -13,6 +13,7 @@ use Rattle.spool_disk.specs.View.{View, disk_now}
 use Rattle.spool_disk.specs.declared.plant.Plant.{Ghosts as PlantGhosts}
 use Rattle.ckpt_copy.specs.declared.copying.Copying.{Ghosts as CopyGhosts}
 use Rattle.mas_complex.specs.declared.complex.Complex.{Complex}
+use Rattle.mas_complex.specs.declared.renewals.Renewals.{Renewals}
 use Rattle.ckpt_form.specs.declared.steady.Steady.{Ghosts as SteadyGhosts}
 use Rattle.mas_complex.specs.Crash.{setting}
 use Rattle.mas_complex.specs.Journals.{end_of, kept_all}
@@ -48,6 +49,7 @@ pub record Place : Type 0 where
 pub record Run : Type 0 where
   pub base : Queue
   pub since : ℕ
+  pub renewals : Renewals
   pub book : Book
   pub id : MemberId
 
@@ -62,7 +64,8 @@ module _ {P C : Type 0} {plants : PlantGhosts P} {steadies : SteadyGhosts C} {co
   }
 
   abbrev pub run_of : Complex P C plants steadies copies → Member → Run
-  run_of x m = record { base = x.base; since = x.since; book = x.book; id = m.id }
+  run_of x m =
+      record { base = x.base; since = x.since; renewals = x.renewals; book = x.book; id = m.id }
 
   -- the queue after the kept batches, and after what the member gave since
   abbrev pub queue_kept : Complex P C plants steadies copies → Queue

@@ -1,15 +1,15 @@
 //! Acts of a step of work that want no lock: a job's text is read, its outputs are written, an output's next lines are
 //! printed.
-ghost use Rattle.std.specs.Prelude.{◌≡◌, true, false, None, Some};
+ghost use Rattle.std.specs.Prelude.{◌≡◌, true, false, Some};
 ghost use Rattle.mas_types.specs.declared.answers.Closing.TheVariants.{PrinterLost};
 ghost use Rattle.mas_complex.specs.Parts.{parts_of};
 ghost use Rattle.member_sittings.specs.Asides.{deck_found, finds_of};
-ghost use Rattle.member_units.specs.Asides.{MayPrintLines, MayReadText, MayWriteOutputs, OnlyPrints, PrintsLines, ReadsText, WritesOutputs, read_found};
+ghost use Rattle.member_units.specs.Asides.{MayPrintLines, MayReadText, MayWriteOutputs, OnlyPrints, PrintsLines, ReadsText, WritesOutputs, printed_found, read_found};
 
 use job_outcome::Read;
 use job_queue::find_job;
 use mas_complex::{Complex, Steady};
-use mas_types::{Closing, JobNo, Lines, OutNo, OutSpec, Thing};
+use mas_types::{Closing, JobNo, Lines, List, OutNo, OutSpec, Thing};
 use member_decks::SpoolError;
 use member_node::{Member, NodeNo};
 use member_work::{
@@ -22,13 +22,15 @@ use step_turns::Found;
 use track_groups::{groups_of, held_by, law_of_places};
 
 // What a member found that read a text.
-fn found_read(read: Read) -> Found
+fn found_read(alloc: Global, read: Read) -> Found
     ensures { result ≡ read_found read }
 {
     Found {
         read,
         lost: None,
         printer: false,
+        wire: false,
+        frames: List::new(alloc),
     }
 }
 
@@ -40,6 +42,8 @@ fn found_lost(alloc: Global, lost: Option<u8>) -> Found
         read: Read::Lines(Lines::new(alloc)),
         lost,
         printer: false,
+        wire: false,
+        frames: List::new(alloc),
     }
 }
 
@@ -55,9 +59,9 @@ fn found_by(alloc: Global, written: Result<(), SpoolError>) -> Result<Found, Nod
 }
 
 // What a member found that read a text and printed lines of it, unless the unit is refused so.
-fn found_printed(read: Read, end: Option<Closing>) -> Found
+fn found_printed(alloc: Global, read: Read, end: Option<Closing>) -> Found
     ensures read { result.read ≡ read }
-    ensures lost { result.lost ≡ None }
+    ensures only { result ≡ printed_found result.read result.printer }
     ensures printer { result.printer ≡ true → end ≡ Some PrinterLost }
     ensures not { result.printer ≡ false → end ≡ Some PrinterLost → ⊥ }
 {
@@ -66,6 +70,8 @@ fn found_printed(read: Read, end: Option<Closing>) -> Found
         read,
         lost: None,
         printer,
+        wire: false,
+        frames: List::new(alloc),
     }
 }
 
@@ -84,7 +90,7 @@ pub fn read_job_text<P: Plant + Drop, C: Steady + Drop>(
     ensures reads { ReadsText complex.old complex.new member.now job result }
 {
     if let Some(group) = gone_deck(complex, job) {
-        return Ok(found_read(Read::Gone(group)));
+        return Ok(found_read(alloc, Read::Gone(group)));
     }
     law_of_places();
     complex.kept_texts();
@@ -97,7 +103,7 @@ pub fn read_job_text<P: Plant + Drop, C: Steady + Drop>(
     };
     let groups = groups.as_slice();
     let read = read_text(complex, alloc, member.id, groups, found.item.cards)?;
-    Ok(found_read(read))
+    Ok(found_read(alloc, read))
 }
 
 /// Writes the texts of a job's outputs into the lowest groups of the member, as many as they need, and syncs the
@@ -146,7 +152,7 @@ pub fn print_next_lines<P: Plant + Drop, C: Steady + Drop>(
     ensures prints { PrintsLines complex.old complex.new member.now job output last result }
 {
     if let Some(group) = gone_output(complex, job, output) {
-        return Ok(found_read(Read::Gone(group)));
+        return Ok(found_read(alloc, Read::Gone(group)));
     }
     law_of_places();
     complex.kept_texts();
@@ -162,5 +168,5 @@ pub fn print_next_lines<P: Plant + Drop, C: Steady + Drop>(
     let groups = groups.as_slice();
     let read = read_text(complex, alloc, by, groups, found.item.lines)?;
     let end = print_text(complex, alloc, by, &found.item, last, &read)?;
-    Ok(found_printed(read, end))
+    Ok(found_printed(alloc, read, end))
 }

@@ -331,6 +331,9 @@ fn resume<P: Plant + Drop, C: Steady + Drop>(
             let end = printed_end(&found);
             lines_printed(member, alloc, complex, holder, lines, end)
         }
+        Aside::Exchange { .. } => unreachable!(),
+        Aside::SpoolArrival { .. } => unreachable!(),
+        Aside::Acknowledge { .. } => unreachable!(),
     }
 }
 

@@ -6,8 +6,6 @@ use Rattle.mas_types.specs.declared.commands.Reply.{Reply}
 use Rattle.mas_types.specs.declared.commands.Reply.TheVariants as reply
 use Rattle.mas_types.specs.declared.ids.Dev.TheVariants.{Spool}
 use Rattle.mas_types.specs.declared.ids.MemberId.{MemberId}
-use Rattle.mas_types.specs.declared.jobs.Job.{Job}
-use Rattle.mas_types.specs.declared.jobs.Output.{Output}
 use Rattle.mas_types.specs.declared.queues.Queue.{Queue}
 use Rattle.spool_disk.specs.declared.plant.Part.TheVariants.{Disk as DiskPart, Printer}
 use Rattle.spool_disk.specs.View.{View}
@@ -68,6 +66,7 @@ module _ (by : MemberId) (old from till new : View) (before : Goes old from) (af
   wider_refusal (closing.BadCard card cause) c = absurd c
   wider_refusal (closing.LineLost line) c = absurd c
   wider_refusal (closing.NotLost copy) c = absurd c
+  wider_refusal (closing.CkptLost copy) c = absurd c
   wider_refusal (closing.Line sent got) c = absurd c
 
 -- A VOLUME THAT FAILED was found lost

@@ -1,6 +1,6 @@
 -- Printing the lines of an output, act by act.
-use Rattle.std.proofs.Common.{◌≡◌, inl, ℕ, ◌+◌, ◌-◌, ◌*◌, ◌≤◌, ◌<◌, min, Bool, true, false, List, ◌++◌, All, Option, None, Some, slice_get, refl, sym, ◌∙◌, ap, subst, arith}
-use Rattle.std.specs.Prelude.{find}
+use Rattle.std.proofs.Common.{◌≡◌, inl, ℕ, ◌+◌, ◌-◌, ◌*◌, ◌≤◌, ◌<◌, min, true, false, List, ◌++◌, All, Option, None, Some, slice_get, refl, sym, ◌∙◌, ap, subst, arith}
+use Rattle.std.specs.Prelude.{find, Err, Ok, OnErr, Result}
 use Rattle.std.specs.Option.{option_map_or}
 use Rattle.mas_types.specs.declared.answers.Closing.{Closing}
 use Rattle.mas_types.specs.declared.answers.Closing.TheVariants as closing
@@ -41,7 +41,7 @@ use Rattle.paper_laws.specs.Paper.{busy_in}
 use Rattle.paper_laws.proofs.Bools.{find_passes, own_key, same_key_is}
 use Rattle.mas_complex.specs.Journals.{entries_in, kept_all}
 use Rattle.mas_complex.specs.Meaning.{run}
-use Rattle.member_node.specs.Calls.{Course}
+use Rattle.member_node.specs.declared.member.NodeNo.{NodeNo}
 use Rattle.member_decks.specs.Spooling.{OnVolumes}
 use Rattle.member_decks.proofs.OpenLemmas.{tells_some}
 use Rattle.member_decks.proofs.PageLemmas.{all_at}
@@ -90,22 +90,10 @@ beside_print told by line old new r acts content = record {
   console = λ t. (content t).console;
 }
 
--- acts beside the copies lose none of them
-no_bool : (b : Bool) → b ≡ true → b ≡ false → ⊥
-no_bool true is not = cc
-no_bool false is not = cc
-
-pub course_beside : (told : Type 0) (is1 is2 : Bool) (v w : View) → IsBeside told v w → Course is1 is1 is2 is2 v w
-course_beside told is1 is2 v w acts = record {
-  goes = acts.goes;
-  failed1 = λ is not. absurd (no_bool is1 is not);
-  failed2 = λ is not. absurd (no_bool is2 is not);
-  there1 = λ is there. acts.lost1 ∙ there;
-  there2 = λ is there. acts.lost2 ∙ there;
-  alive1 = λ is. is;
-  alive2 = λ is. is;
-  grow = λ d. inl (acts.loses d);
-}
+-- a fact of an error that doesn't speak of it
+pub if_wrong : {T : Type 0} {P : Type 0} (r : Result T NodeNo) → P → OnErr r P
+if_wrong (Ok done) p = tt
+if_wrong (Err e) p = p
 
 -- a printer that failed in a stretch failed in a wider one
 pub failed_wider : (by : MemberId) (old from till new : View) → Goes old from → Goes till new → HasPrinterFailed by from till → HasPrinterFailed by old new

@@ -33,8 +33,9 @@ use Rattle.member_decks.specs.Spooling.{AreQuiet, OnVolumes}
 use Rattle.member_node.specs.declared.member.NodeNo.{NodeNo}
 use Rattle.member_node.specs.declared.member.NodeNo.TheVariants as no
 use Rattle.member_decks.specs.Steps.{SpoolStops}
-use Rattle.member_node.specs.Spares.{Spares}
-use Rattle.member_node.proofs.SpareLemmas.{spares_then}
+use Rattle.member_node.specs.Calls.{none_lost}
+use Rattle.member_node.specs.Spares.{SparesBut}
+use Rattle.member_node.proofs.SpareLemmas.{sparing_then}
 use Rattle.member_decks.proofs.PageLemmas.{acts_on, lies_alone, quiet_on, still_roomy, there_by}
 use Rattle.job_outcome.specs.declared.outcomes.Read.{Read}
 use Rattle.job_outcome.specs.declared.outcomes.Read.TheVariants as read
@@ -165,7 +166,7 @@ there_before v old mid goes e = there_by (old.lost (DiskPart (Spool v))) (λ los
 -- the groups so far were read: none of them lies on a lost volume, and where content is told these are their records
 pub record HaveRead (told : Type 0) (by : ℕ) (config : Config) (old now : View) (groups : List GroupNo) (lines : List (List ℕ)) (gone : Option GroupNo) : Type 0 where
   pub acts : OnVolumes told by old now
-  pub spares : Spares by false old now
+  pub spares : SparesBut by false none_lost old now
   pub reads : OnlyReads told old now
   pub fits : AreRecords lines
   pub there : All (λ g. lost_now old (volume_of config.groups g) ≡ false) groups
@@ -173,7 +174,7 @@ pub record HaveRead (told : Type 0) (by : ℕ) (config : Config) (old now : View
   pub gone_is : told → AreRoomy old config → gone ≡ first_gone (records_on (bytes_on (spools_at old old.now)) config.groups) groups
 
 pub read_more : (told : Type 0) (by : ℕ) (config : Config) (old mid new : View) (groups : List GroupNo) (g : GroupNo) (before lines : List (List ℕ)) (gone_before is_gone : Option GroupNo)
-    → HaveRead told by config old mid groups before gone_before → OnVolumes told by mid new → Spares by false mid new → OnlyReads told mid new → AddsGroup told config g mid before lines gone_before is_gone
+    → HaveRead told by config old mid groups before gone_before → OnVolumes told by mid new → SparesBut by false none_lost mid new → OnlyReads told mid new → AddsGroup told config g mid before lines gone_before is_gone
     → HaveRead told by config old new (groups ++ g ∷ []) lines is_gone
 read_more told by config old mid new groups g before lines gone_before is_gone have acts spares reads adds =
     let P = λ (h : GroupNo). lost_now old (volume_of config.groups h) ≡ false in
@@ -182,7 +183,7 @@ read_more told by config old mid new groups g before lines gone_before is_gone h
     = λ t roomy. sym (same_records config.groups g (spools_at old old.now) (spools_at mid mid.now) (have.reads t)) ∙ adds.are_held t (still_roomy config old mid have.acts.goes roomy) in
     record {
       acts = acts_on told by old mid new have.acts acts;
-      spares = spares_then by false old mid new have.spares spares;
+      spares = sparing_then by false none_lost old mid new have.spares spares;
       reads = λ t. quiet_on (spools_at old old.now) (spools_at mid mid.now) (spools_at new new.now) (have.reads t) (reads t);
       fits = subst AreRecords (sym adds.added) (both_fit before (unwrap_or adds.records []) have.fits adds.fits);
       there = All-append P groups (g ∷ []) have.there (All-cons P g [] (there_before (volume_of config.groups g) old mid have.acts.goes adds.there) (All-nil P));
@@ -213,9 +214,9 @@ read_whole told by config old new groups lines gone count o have is text counted
     ∙ ap (λ (k : ℕ). text_of R k groups) (sym counted) ∙ there.is))
 
 -- a stop after other acts
-pub stops_later : {T : Type 0} (by : ℕ) (old mid new : View) (r : Result T NodeNo) → Goes old mid → Spares by false old mid → SpoolStops r by mid new → SpoolStops r by old new
-stops_later by old mid new (Ok done) goes spares stops = spares_then by false old mid new spares stops
-stops_later by old mid new (Err no.NoMemory) goes spares stops = spares_then by false old mid new spares stops
-stops_later by old mid new (Err no.Halted) goes spares stops = (spares_then by true old mid new spares stops.0, omega (arith, stops.1, goes.stops by))
-stops_later by old mid new (Err no.BothLost) goes spares stops = stops
-stops_later by old mid new (Err no.ConsoleFault) goes spares stops = stops
+pub stops_later : {T : Type 0} (names : T → ℕ → Bool) (by : ℕ) (old mid new : View) (r : Result T NodeNo) → Goes old mid → SparesBut by false none_lost old mid → SpoolStops names r by mid new → SpoolStops names r by old new
+stops_later names by old mid new (Ok done) goes spares stops = sparing_then by false (names done) old mid new spares stops
+stops_later names by old mid new (Err no.NoMemory) goes spares stops = sparing_then by false none_lost old mid new spares stops
+stops_later names by old mid new (Err no.Halted) goes spares stops = (sparing_then by true none_lost old mid new spares stops.0, omega (arith, stops.1, goes.stops by))
+stops_later names by old mid new (Err no.BothLost) goes spares stops = stops
+stops_later names by old mid new (Err no.ConsoleFault) goes spares stops = stops

@@ -1,5 +1,5 @@
 -- The outputs of a job, one after another, in a member's groups.
-use Rattle.std.proofs.Common.{◌≡◌, ◌≢◌, ◌||◌, ℕ, zero, suc, ◌+◌, ◌-◌, ◌≤◌, ◌<◌, ◌==◌, Bool, true, false, List, [], ◌∷◌, ◌++◌, length, take, drop, All, Some, Result, Ok, Err, slice_get, refl, sym, ◌∙◌, ap, subst, arith}
+use Rattle.std.proofs.Common.{◌≡◌, ◌≢◌, ◌||◌, ℕ, zero, suc, ◌+◌, ◌≤◌, ◌<◌, ◌==◌, Bool, true, false, List, [], ◌∷◌, ◌++◌, length, take, drop, All, Some, Result, Ok, Err, slice_get, refl, sym, ◌∙◌, ap, subst, arith}
 use Rattle.std.proofs.lemmas.List.{length-drop, length-take-le, take-append-drop}
 use Rattle.std.proofs.lemmas.List.Elements.{All-drop, All-head, All-tail, All-take}
 use Rattle.std.proofs.lemmas.List.Folds.{list_any-append}
@@ -21,8 +21,9 @@ use Rattle.mas_complex.specs.Texts.{IsSynced, Spools}
 use Rattle.queue_effect.proofs.GroupLemmas.{sum-groups}
 use Rattle.member_decks.specs.declared.spooling.SpoolError.{SpoolError}
 use Rattle.member_decks.specs.declared.spooling.SpoolError.TheVariants.{Lost, Halted as Stopped}
-use Rattle.member_node.specs.Spares.{Spares}
-use Rattle.member_node.proofs.SpareLemmas.{spares_then}
+use Rattle.member_node.specs.Calls.{none_lost}
+use Rattle.member_node.specs.Spares.{SparesBut}
+use Rattle.member_node.proofs.SpareLemmas.{sparing_then}
 use Rattle.member_decks.specs.Spooling.{AreQuiet, Rise, SpoolCauses, StandBelow, lies_there, page_in}
 use Rattle.member_decks.proofs.PageLemmas.{text_there}
 use Rattle.member_work.specs.Spooled.{AreSpooled, AreWritten}
@@ -91,10 +92,10 @@ lies_front per v n groups there = lies_by per v n groups (list_any-append (λ (g
 pub lies_behind : (per v n : ℕ) (groups : List GroupNo) → lies_there per v (drop n groups) ≡ true → lies_there per v groups ≡ true
 lies_behind per v n groups there = lies_by per v n groups (list_any-append (λ (g : GroupNo). volume_of per g == v) (take n groups) (drop n groups) ∙ or_right (lies_there per v (take n groups)) (lies_there per v (drop n groups)) there)
 
-pub cause_wider : {T : Type 0} (by per : ℕ) (few groups : List GroupNo) (old mid new : View) (r : Result T SpoolError) → ((v : ℕ) → lies_there per v few ≡ true → lies_there per v groups ≡ true) → Goes old mid → Spares by false old mid → SpoolCauses r by per few mid new → SpoolCauses r by per groups old new
-cause_wider by per few groups old mid new (Ok done) wider goes spares cause = spares_then by false old mid new spares cause
-cause_wider by per few groups old mid new (Err (Lost v)) wider goes spares cause = (wider v cause.0, cause.1, omega (arith, cause.2, goes.faults (DiskPart (Spool v))), spares_then by false old mid new spares cause.3)
-cause_wider by per few groups old mid new (Err Stopped) wider goes spares cause = (cause.0, omega (arith, cause.1, goes.stops by), spares_then by true old mid new spares cause.2)
+pub cause_wider : {T : Type 0} (by per : ℕ) (few groups : List GroupNo) (old mid new : View) (r : Result T SpoolError) → ((v : ℕ) → lies_there per v few ≡ true → lies_there per v groups ≡ true) → Goes old mid → SparesBut by false none_lost old mid → SpoolCauses r by per few mid new → SpoolCauses r by per groups old new
+cause_wider by per few groups old mid new (Ok done) wider goes spares cause = sparing_then by false none_lost old mid new spares cause
+cause_wider by per few groups old mid new (Err (Lost v)) wider goes spares cause = (wider v cause.0, cause.1, omega (arith, cause.2, goes.faults (DiskPart (Spool v))), sparing_then by false (λ n. n == v) old mid new spares cause.3)
+cause_wider by per few groups old mid new (Err Stopped) wider goes spares cause = (cause.0, omega (arith, cause.1, goes.stops by), sparing_then by true none_lost old mid new spares cause.2)
 
 -- WHAT STANDS
 

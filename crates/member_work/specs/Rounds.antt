@@ -1,5 +1,5 @@
 -- What the spool volumes and the printer may give a unit.
-use Rattle.std.specs.Prelude.{◌≡◌, ℕ, true, List, Option, Some, None}
+use Rattle.std.specs.Prelude.{◌≡◌, ℕ, ◌==◌, Bool, true, false, List, Option, Some, None}
 use Rattle.mas_types.specs.declared.ids.Dev.TheVariants.{Spool}
 use Rattle.mas_types.specs.declared.ids.GroupNo.{GroupNo}
 use Rattle.mas_types.specs.declared.ids.MemberId.{MemberId}
@@ -18,6 +18,16 @@ pub record HasFailed (per : ℕ) (groups : List GroupNo) (volume : ℕ) (old new
   pub there : lies_there per volume groups ≡ true
   pub lost : new.lost (DiskPart (Spool volume)) ≡ true
   pub rose : Rose (old.faults (DiskPart (Spool volume))) (new.faults (DiskPart (Spool volume)))
+
+-- the volume that was found lost as a text was read, if one was
+abbrev pub names_read : Read → ℕ → Bool
+names_read (read.Lines lines) n = false
+names_read (read.Gone group) n = false
+names_read (read.Lost volume) n = n == volume
+
+-- an answer that names no volume
+abbrev pub names_nothing : {T : Type 0} → T → ℕ → Bool
+names_nothing done n = false
 
 abbrev pub IsWhole : Text → Type 0
 IsWhole (Whole lines) = Unit {0}

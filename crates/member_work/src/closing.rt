@@ -41,6 +41,7 @@ pub fn keep_given<P: Plant + Drop, C: Steady + Drop>(
     requires level { complex.old.level + 1 < 2 ^ 63 }
     ensures base { complex.new.base ≡ complex.old.base }
     ensures since { complex.new.since ≡ complex.old.since }
+    ensures renewals { complex.new.renewals ≡ complex.old.renewals }
     ensures book { complex.new.book ≡ complex.old.book }
     ensures id { member.new.id ≡ member.old.id }
     ensures apart { P.tells → Apart (P.view complex.old.plant) (P.view complex.new.plant) }
@@ -93,6 +94,7 @@ pub fn give_up<P: Plant + Drop, C: Steady + Drop>(
     requires level { complex.old.level + 1 < 2 ^ 63 }
     ensures base { complex.new.base ≡ complex.old.base }
     ensures since { complex.new.since ≡ complex.old.since }
+    ensures renewals { complex.new.renewals ≡ complex.old.renewals }
     ensures book { complex.new.book ≡ complex.old.book }
     ensures id { member.new.id ≡ member.old.id }
     ensures apart { P.tells → Apart (P.view complex.old.plant) (P.view complex.new.plant) }

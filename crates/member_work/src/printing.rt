@@ -1,5 +1,5 @@
 //! Printing the lines of an output that come next.
-ghost use Rattle.std.specs.Prelude.{◌≡◌, ◌*◌, ◌+◌, ◌≤◌, ℕ, List, length, min, false, None, Some, IfOk};
+ghost use Rattle.std.specs.Prelude.{◌≡◌, ◌*◌, ◌+◌, ◌≤◌, ℕ, List, length, min, false, None, Some, IfOk, OnErr};
 ghost use Rattle.mas_types.specs.declared.queues.Queue.{Queue};
 ghost use Rattle.mas_types.specs.Limits.{members_most, printer_lines_most};
 ghost use Rattle.ckpt_pages.specs.Shape.{HasSpelling};
@@ -14,6 +14,7 @@ ghost use Rattle.job_outcome.specs.declared.outcomes.Read.TheVariants.{Lines as 
 ghost use Rattle.member_work.specs.Inked.{Inks, lines_read, lines_upto};
 ghost use Rattle.member_work.specs.Printing.{IsBeside, IsBookAfterLines, IsLinesPrinted, IsReservedAfterLines, MayPrintTo, SameDisks};
 ghost use Rattle.member_work.specs.Reading.{IsCounted};
+ghost use Rattle.member_work.specs.Rounds.{names_nothing, names_read};
 
 use ckpt_pages::Tables;
 use job_outcome::Read;
@@ -74,6 +75,7 @@ fn print_lines<P: Plant + Drop, C: Steady + Drop>(
     ensures pair { complex.new.pair ≡ complex.old.pair }
     ensures base { complex.new.base ≡ complex.old.base }
     ensures since { complex.new.since ≡ complex.old.since }
+    ensures renewals { complex.new.renewals ≡ complex.old.renewals }
     ensures journal { complex.new.journal ≡ complex.old.journal }
     ensures current { complex.new.current ≡ complex.old.current }
     ensures placed { complex.new.placed ≡ complex.old.placed }
@@ -89,7 +91,7 @@ fn print_lines<P: Plant + Drop, C: Steady + Drop>(
     ensures printed { IfOk result (IsLinesPrinted by (LinesRead text.now) (P.view complex.old.plant)
         (P.view complex.new.plant)) }
     ensures counted { IfOk result (λ end. end ≡ None → last ≤ output.now.mark + counts_of complex.new.printed by) }
-    ensures cause { SpoolStops result by.0 (P.view complex.old.plant) (P.view complex.new.plant) }
+    ensures cause { SpoolStops names_nothing result by.0 (P.view complex.old.plant) (P.view complex.new.plant) }
 {
     let first = output.mark.saturating_add(complex.printed_lines(by));
     for before in first..last {
@@ -106,7 +108,8 @@ fn print_lines<P: Plant + Drop, C: Steady + Drop>(
 }
 
 /// Prints the lines of an output with this text up to this one, and answers None where they stand on paper, else how
-/// the unit is refused. Halted comes only where the member was stopped, NoMemory only when out of memory.
+/// the unit is refused. Halted comes only where the member was stopped, NoMemory only when out of memory: both only where
+/// lines were read.
 pub fn print_text<P: Plant + Drop, C: Steady + Drop>(
     complex: &mut Complex<P, C>,
     alloc: Global,
@@ -128,6 +131,7 @@ pub fn print_text<P: Plant + Drop, C: Steady + Drop>(
     ensures pair { complex.new.pair ≡ complex.old.pair }
     ensures base { complex.new.base ≡ complex.old.base }
     ensures since { complex.new.since ≡ complex.old.since }
+    ensures renewals { complex.new.renewals ≡ complex.old.renewals }
     ensures journal { complex.new.journal ≡ complex.old.journal }
     ensures current { complex.new.current ≡ complex.old.current }
     ensures placed { complex.new.placed ≡ complex.old.placed }
@@ -142,7 +146,8 @@ pub fn print_text<P: Plant + Drop, C: Steady + Drop>(
         (output.now.mark + counts_of complex.old.printed by) last read.now) complex.old complex.new result }
     ensures printed { IfOk result (IsLinesPrinted by read.now (P.view complex.old.plant) (P.view complex.new.plant)) }
     ensures counted { IfOk result (λ end. end ≡ None → last ≤ output.now.mark + counts_of complex.new.printed by) }
-    ensures cause { SpoolStops result by.0 (P.view complex.old.plant) (P.view complex.new.plant) }
+    ensures cause { SpoolStops names_nothing result by.0 (P.view complex.old.plant) (P.view complex.new.plant) }
+    ensures lines { OnErr result ((n : ℕ) → names_read read.now n ≡ false) }
 {
     match read {
         Read::Gone(group) => Ok(Some(Closing::NoText(*group))),

@@ -11,11 +11,11 @@ ghost use Rattle.mas_complex.specs.Locking.{IsUp};
 ghost use Rattle.mas_complex.specs.Spool.{IsGroupOf};
 ghost use Rattle.mas_complex.specs.Texts.{bytes_on, lost_now, spools_at, IsThereUnless};
 ghost use Rattle.member_decks.specs.Spooling.{OnVolumes};
-ghost use Rattle.member_decks.specs.Steps.{SpoolStops};
+ghost use Rattle.member_decks.specs.Steps.{SpoolStops, names_volume};
 ghost use Rattle.job_outcome.specs.Outcomes.{IsReadable};
 ghost use Rattle.member_work.specs.Looks.{as_it_is};
 ghost use Rattle.member_work.specs.Reading.{AddsUnless, AreRecords, IsCounted, IsFailedRead, IsReadOf, OnlyReads};
-ghost use Rattle.member_work.specs.Rounds.{HasFailed};
+ghost use Rattle.member_work.specs.Rounds.{HasFailed, names_read};
 
 use job_outcome::Read;
 use mas_complex::{Complex, Steady};
@@ -48,6 +48,7 @@ fn read_page<P: Plant + Drop, C: Steady + Drop>(
     ensures pair { complex.new.pair ≡ complex.old.pair }
     ensures base { complex.new.base ≡ complex.old.base }
     ensures since { complex.new.since ≡ complex.old.since }
+    ensures renewals { complex.new.renewals ≡ complex.old.renewals }
     ensures book { complex.new.book ≡ complex.old.book }
     ensures journal { complex.new.journal ≡ complex.old.journal }
     ensures current { complex.new.current ≡ complex.old.current }
@@ -68,7 +69,7 @@ fn read_page<P: Plant + Drop, C: Steady + Drop>(
     ensures failed { (volume : ℕ) → result ≡ OkLem (SomeLem volume)
         → HasFailed complex.old.base.config.groups (group ∷ []) volume (P.view complex.old.plant)
         (P.view complex.new.plant) }
-    ensures cause { SpoolStops result by.0 (P.view complex.old.plant) (P.view complex.new.plant) }
+    ensures cause { SpoolStops names_volume result by.0 (P.view complex.old.plant) (P.view complex.new.plant) }
 {
     let config = complex.base.config;
     match complex.spool_read(by, group, into) {
@@ -97,6 +98,7 @@ fn add_group<P: Plant + Drop, C: Steady + Drop>(
     ensures pair { complex.new.pair ≡ complex.old.pair }
     ensures base { complex.new.base ≡ complex.old.base }
     ensures since { complex.new.since ≡ complex.old.since }
+    ensures renewals { complex.new.renewals ≡ complex.old.renewals }
     ensures book { complex.new.book ≡ complex.old.book }
     ensures journal { complex.new.journal ≡ complex.old.journal }
     ensures current { complex.new.current ≡ complex.old.current }
@@ -110,7 +112,7 @@ fn add_group<P: Plant + Drop, C: Steady + Drop>(
     ensures reads { OnlyReads P.tells (P.view complex.old.plant) (P.view complex.new.plant) }
     ensures added { IfOk result (AddsUnless P.tells complex.old.base.config group (P.view complex.old.plant)
         (P.view complex.new.plant) lines.old lines.new gone.old gone.new) }
-    ensures cause { SpoolStops result by.0 (P.view complex.old.plant) (P.view complex.new.plant) }
+    ensures cause { SpoolStops names_volume result by.0 (P.view complex.old.plant) (P.view complex.new.plant) }
 {
     law_of_reading();
     let mut page = Page([0; 4096]);
@@ -164,6 +166,7 @@ pub fn read_text<P: Plant + Drop, C: Steady + Drop>(
     ensures pair { complex.new.pair ≡ complex.old.pair }
     ensures base { complex.new.base ≡ complex.old.base }
     ensures since { complex.new.since ≡ complex.old.since }
+    ensures renewals { complex.new.renewals ≡ complex.old.renewals }
     ensures book { complex.new.book ≡ complex.old.book }
     ensures journal { complex.new.journal ≡ complex.old.journal }
     ensures current { complex.new.current ≡ complex.old.current }
@@ -186,7 +189,7 @@ pub fn read_text<P: Plant + Drop, C: Steady + Drop>(
         (spools_at (P.view complex.old.plant) (P.view complex.old.plant).now) complex.old.base.config.groups text
         groups.now → IsReadOf complex.old.base.config.groups text groups.now read (P.view complex.old.plant)
         (P.view complex.new.plant)) }
-    ensures cause { SpoolStops result by.0 (P.view complex.old.plant) (P.view complex.new.plant) }
+    ensures cause { SpoolStops names_read result by.0 (P.view complex.old.plant) (P.view complex.new.plant) }
 {
     let mut lines = Lines::new(alloc);
     let mut gone = None;

@@ -10,7 +10,7 @@ ghost use Rattle.mas_complex.specs.Meaning.{run};
 ghost use Rattle.mas_complex.specs.Parts.{parts_of};
 ghost use Rattle.mas_complex.specs.Spool.{IsGroupOf, IsHeldBy};
 ghost use Rattle.mas_complex.specs.Texts.{spools_at};
-ghost use Rattle.member_decks.specs.Spooling.{OnVolumes, Rise, SparesOthers, SpoolCauses, page_in};
+ghost use Rattle.member_decks.specs.Spooling.{OnVolumes, Rise, SpoolCauses, page_in};
 ghost use Rattle.spool_volumes.specs.Volumes.{AreRoomy};
 ghost use Rattle.member_work.specs.Spooled.{AreSpooled, AreWritten};
 
@@ -70,8 +70,6 @@ fn write_outputs<P: Plant + Drop, C: Steady + Drop>(
     ensures acts { OnVolumes P.tells by.0 (P.view complex.old.plant) (P.view complex.new.plant) }
     ensures cause { SpoolCauses result by.0 complex.old.base.config.groups groups.now (P.view complex.old.plant)
         (P.view complex.new.plant) }
-    ensures others { SparesOthers complex.old.base.config.groups groups.now (P.view complex.old.plant)
-        (P.view complex.new.plant) }
     ensures stand { OnOk result (P.tells → AreRoomy (P.view complex.old.plant) complex.old.base.config
         → AreWritten (spools_at (P.view complex.new.plant) (P.view complex.new.plant).now)
         complex.old.base.config.groups specs.now groups.now) }
@@ -109,8 +107,6 @@ pub fn write_and_sync<P: Plant + Drop, C: Steady + Drop>(
     ensures frame { parts_of complex.new ≡ record (parts_of complex.old) { plant = complex.new.plant } }
     ensures acts { OnVolumes P.tells by.0 (P.view complex.old.plant) (P.view complex.new.plant) }
     ensures cause { SpoolCauses result by.0 complex.old.base.config.groups groups.now (P.view complex.old.plant)
-        (P.view complex.new.plant) }
-    ensures others { SparesOthers complex.old.base.config.groups groups.now (P.view complex.old.plant)
         (P.view complex.new.plant) }
     ensures there { OnOk result (P.tells → AreRoomy (P.view complex.old.plant) complex.old.base.config
         → AreSpooled (spools_at (P.view complex.new.plant) (P.view complex.new.plant).now)

@@ -1,7 +1,7 @@
-use Rattle.std.proofs.Common.{◌≡◌, ◌∙◌, ℕ, List, [], ◌∷◌, Some, length, ap, sym}
+use Rattle.std.proofs.Common.{◌≡◌, ◌∙◌, ℕ, List, Some, length, ap, sym}
 use Rattle.mas_types.specs.Limits.{page_bytes}
 use Rattle.spool_text.specs.Texts.{packed}
-use Rattle.member_decks.proofs.PageLemmas.{all_at, cause_of, lies_alone, on_done, others_act, spares, stands}
+use Rattle.member_decks.proofs.PageLemmas.{all_at, cause_of, lies_alone, on_done, spares, stands}
 use Rattle.member_decks.proofs.spooling.write_page.Goals as goal
 
 pub returns-clause-cause : goal.returns-clause-cause
@@ -31,11 +31,3 @@ returns-clause-spares g c told h other =
     let y = c.spool_write.new.self in
     let long : length c.pack.new.into.0 ≡ page_bytes = all_at (λ (group : List ℕ). length group ≡ page_bytes) (packed c.args.text.now) c.args.place c.pack.new.into.0 (c.law_of_groups.ensures.pages c.args.text.now c.requires.text) c.pack.ensures in
     spares (P.view x.plant) (P.view y.plant) x.base.config.groups c.args.group h c.pack.new.into c.spool_write.result long (c.spool_write.ensures.content told) other
-
-pub returns-clause-others : goal.returns-clause-others
-returns-clause-others g c =
-    let P = g.P.Plant in
-    let x = c.args.complex.now in
-    let y = c.spool_write.new.self in
-    let per = x.base.config.groups in
-    others_act c.args.by.0 per _ (c.args.group ∷ []) (P.view x.plant) (P.view y.plant) c.spool_write.result (lies_alone per c.args.group) c.spool_write.ensures.acts

@@ -50,3 +50,14 @@ returns-in-PrintLines-clause-frame g c = rw c.in-PrintLines.is c.print_next_line
 
 pub returns-in-PrintLines-clause-acts : goal.returns-in-PrintLines-clause-acts
 returns-in-PrintLines-clause-acts g c = rw c.in-PrintLines.is c.print_next_lines.ensures.prints
+
+-- NOTHING ON A LINE TO ANOTHER NODE
+
+pub unreachable-requires : goal.unreachable-requires
+unreachable-requires g c = rw c.in-Exchange.is at c.requires.may
+
+pub unreachable-requires-in-SpoolArrival : goal.unreachable-requires-in-SpoolArrival
+unreachable-requires-in-SpoolArrival g c = rw c.in-SpoolArrival.is at c.requires.may
+
+pub unreachable-requires-in-Acknowledge : goal.unreachable-requires-in-Acknowledge
+unreachable-requires-in-Acknowledge g c = rw c.in-Acknowledge.is at c.requires.may

@@ -4,7 +4,7 @@ use Rattle.lock_cycle.specs.Books.{IsMember}
 use Rattle.mas_complex.specs.Parts.{parts_of}
 use Rattle.member_hand.specs.Plays.{HasPlayed}
 use Rattle.member_hand.specs.Sits.{start_of}
-use Rattle.member_hand.proofs.PieceLemmas.{played_frame, stopped_base, stopped_since}
+use Rattle.member_hand.proofs.PieceLemmas.{played_frame, stopped_base, stopped_renewals, stopped_since}
 use Rattle.member_hand.proofs.playing.play_piece.Goals as goal
 
 pub stop_halted-requires : goal.stop_halted-requires
@@ -19,6 +19,7 @@ returns-in-Err-clause-frame g c =
     played_frame (parts_of c.args.complex.now) (parts_of c.stop_halted.new.complex)
     (ap (λ p. p.base) c.stop_halted.ensures ∙ stopped_base c.in-Err.why c.args.stand.holder.by z ∙ ap (λ p. p.base) c.try_piece.ensures.frame)
     (ap (λ p. p.since) c.stop_halted.ensures ∙ stopped_since c.in-Err.why c.args.stand.holder.by z ∙ ap (λ p. p.since) c.try_piece.ensures.frame)
+    (ap (λ p. p.renewals) c.stop_halted.ensures ∙ stopped_renewals c.in-Err.why c.args.stand.holder.by z ∙ ap (λ p. p.renewals) c.try_piece.ensures.frame)
 
 pub returns-in-Err-clause-cut : goal.returns-in-Err-clause-cut
 returns-in-Err-clause-cut g c =

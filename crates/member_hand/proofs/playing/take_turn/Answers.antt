@@ -33,6 +33,7 @@ pub returns-in_err-enter-clause-frame : goal.returns-in_err-enter-clause-frame
 returns-in_err-enter-clause-frame g c =
     let e = c.enter.ensures in
     played_frame (parts_of c.args.complex.now) (parts_of c.enter.new.complex) (ap (λ p. p.base) e.frame ∙ ap (λ p. p.base) c.retake_lock.ensures.frame) (ap (λ p. p.since) e.frame ∙ ap (λ p. p.since) c.retake_lock.ensures.frame)
+    (ap (λ p. p.renewals) e.frame ∙ ap (λ p. p.renewals) c.retake_lock.ensures.frame)
 
 pub returns-in_err-enter-clause-book : goal.returns-in_err-enter-clause-book
 returns-in_err-enter-clause-book g c = ap (λ p. p.book) c.enter.ensures.frame ∙ ap (λ p. p.book) c.retake_lock.ensures.frame
@@ -72,6 +73,7 @@ returns-clause-frame g c =
     let f = c.sit.ensures.frame in
     played_frame (parts_of c.args.complex.now) (parts_of c.sit.new.complex) (ap (λ p. p.base) f ∙ ap (λ p. p.base) e.frame ∙ ap (λ p. p.base) c.retake_lock.ensures.frame)
     (ap (λ p. p.since) f ∙ ap (λ p. p.since) e.frame ∙ ap (λ p. p.since) c.retake_lock.ensures.frame)
+    (ap (λ p. p.renewals) f ∙ ap (λ p. p.renewals) e.frame ∙ ap (λ p. p.renewals) c.retake_lock.ensures.frame)
 
 pub returns-clause-book : goal.returns-clause-book
 returns-clause-book g c = ap (λ p. p.book) c.sit.ensures.frame ∙ ap (λ p. p.book) c.enter.ensures.frame ∙ ap (λ p. p.book) c.retake_lock.ensures.frame

@@ -5,6 +5,11 @@ use Rattle.member_hand.specs.Sits.{begins}
 use Rattle.member_hand.proofs.Leaving.{both, deck_leaves, told_leaves, work_all}
 use Rattle.member_hand.proofs.sits.begin.Goals as goal
 
+-- NO LINE TO ANOTHER NODE
+
+pub unreachable-requires : goal.unreachable-requires
+unreachable-requires g c = let right = rw c.in-Line.is at c.requires.right in right.0
+
 -- A COMMAND
 
 pub sit_command-requires-clause-givable : goal.sit_command-requires-clause-givable

@@ -3,7 +3,7 @@ use Rattle.mas_complex.specs.Parts.{parts_of}
 use Rattle.step_turns.specs.declared.states.Aside.TheVariants.{SpoolDeck}
 use Rattle.step_turns.specs.declared.states.Found.{Found}
 use Rattle.member_sittings.specs.Sat.{HasSat, resumes}
-use Rattle.member_hand.proofs.Leaving.{aside_works, both, resume_right, told_leaves, work_all}
+use Rattle.member_hand.proofs.Leaving.{both, resume_right, resume_works, told_leaves, work_all}
 use Rattle.member_hand.proofs.sits.resume.Goals as goal
 
 pub sit_spooled-requires-clause-text : goal.sit_spooled-requires-clause-text
@@ -36,4 +36,5 @@ returns-in_default-clause-again g c =
     let x = parts_of c.args.complex.now in
     let y = parts_of c.resume_work.new.complex in
     let e = c.resume_work.ensures in
-    work_all g.P.Plant g.C.Copying x y c.args.member.now c.resume_work.new.member (resumes c.args.holder c.args.aside c.args.found) c.resume_work.result (aside_works c.args.aside c.in_default.not-SpoolDeck) e.again e.waits e.fewer e.reached
+    let may = resume_right g.P.Plant g.C.Copying x c.args.member.now.id c.args.aside c.args.found c.in_default.not-SpoolDeck c.requires.right in
+    work_all g.P.Plant g.C.Copying x y c.args.member.now c.resume_work.new.member (resumes c.args.holder c.args.aside c.args.found) c.resume_work.result (resume_works g.P.Plant g.C.Copying x c.args.member.now.id c.args.aside c.args.found may) e.again e.waits e.fewer e.reached

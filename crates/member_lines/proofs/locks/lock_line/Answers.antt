@@ -1,18 +1,16 @@
-use Rattle.std.proofs.Common.{◌≡◌, ◌∙◌, ◌++◌, true, List, Option, ap, inl, inr, refl, subst, sym}
+use Rattle.std.proofs.Common.{◌≡◌, ◌++◌, true, List, Option, ap, inl, inr, refl, subst, sym}
 use Rattle.mas_types.specs.declared.journals.Batch.{Batch}
-use Rattle.lock_cycle.specs.Books.{Book, after_stop, is_holder}
+use Rattle.lock_cycle.specs.Books.{Book, IsMember, is_holder}
 use Rattle.mas_complex.specs.Journals.{in_flight}
 use Rattle.mas_complex.specs.Parts.{parts_of}
-use Rattle.member_node.specs.declared.member.NodeNo.{NodeNo}
-use Rattle.member_node.specs.declared.member.NodeNo.TheVariants.{BothLost, ConsoleFault, Halted, NoMemory}
-use Rattle.member_sittings.specs.Sat.{CopiesActed}
-use Rattle.run_turns.specs.Sights.{Ends, Stops}
+use Rattle.step_turns.specs.declared.states.Release.TheVariants.{Keep}
+use Rattle.run_turns.specs.Admissions.{Locks}
 use Rattle.run_turns.proofs.Alone.{holds_it}
-use Rattle.member_lines.specs.Closes.{IsSayer, failed}
+use Rattle.member_lines.specs.Closes.{IsSayer}
 use Rattle.member_lines.specs.Earlier.{AreBefore}
 use Rattle.member_lines.proofs.Closing.{refused_tested}
 use Rattle.member_lines.proofs.Holding.{says_ok}
-use Rattle.member_lines.proofs.Seating.{seated, unseated}
+use Rattle.member_lines.proofs.Seating.{its_left, seated, unseated, unseated_frame}
 use Rattle.member_lines.proofs.locks.lock_line.Goals as goal
 
 pub say_refused-requires-clause-says : goal.say_refused-requires-clause-says
@@ -41,46 +39,18 @@ returns-in-Ok-clause-locks g c S tested =
     seated g.P.Plant g.C.Copying S m c.args.step (parts_of x) tested holds n (parts_of mid) (parts_of y) c.take_seat.ensures.frame c.in-Ok.ensures.acts c.in-Ok.ensures.seat same c.say_refused.result
     c.say_refused.ensures.frame (c.say_refused.ensures.closed (record S { book = mid.book }) (refused_tested S m.id m.id says_ok mid.book))
 
-pub returns-in-Err-Halted-clause-locks : goal.returns-in-Err-Halted-clause-locks
-returns-in-Err-Halted-clause-locks g c S tested =
-    let x = c.args.complex.now in
-    let m = c.args.member.now in
-    let mid = c.take_seat.new.complex in
-    let y = c.stop.new.self in
-    let lock = c.requires.may.holds in
-    let holds : is_holder x.book m.id ≡ true = holds_it m.id lock.some x.book lock.may.holds in
-    let same : mid.book ≡ x.book = ap (λ p. p.book) c.take_seat.ensures.frame in
-    inl (unseated g.P.Plant g.C.Copying S m c.args.step (parts_of x) tested holds (parts_of y) Halted Stops refl
-    (subst (λ z. CopiesActed g.P.Plant m.id (parts_of x) z (failed Halted)) (sym c.stop.ensures.frame)
-    (subst (λ (e : NodeNo). CopiesActed g.P.Plant m.id (parts_of x) (parts_of mid) (failed e)) c.in-Err-Halted.field-0-is c.in-Err-Halted.ensures.acts))
-    (c.stop.ensures.book ∙ ap (λ (b : Book). after_stop b m.id) same))
+pub stop_halted-requires : goal.stop_halted-requires
+stop_halted-requires g c = subst (λ (b : Book). IsMember b c.args.member.now.id) (sym (ap (λ p. p.book) c.take_seat.ensures.frame)) c.requires.may.holds.seated
 
-pub returns-in-Err-BothLost-clause-locks : goal.returns-in-Err-BothLost-clause-locks
-returns-in-Err-BothLost-clause-locks g c S tested =
-    let x = c.args.complex.now in
-    let m = c.args.member.now in
-    let mid = c.take_seat.new.complex in
-    let lock = c.requires.may.holds in
-    let holds : is_holder x.book m.id ≡ true = holds_it m.id lock.some x.book lock.may.holds in
-    inl (unseated g.P.Plant g.C.Copying S m c.args.step (parts_of x) tested holds (parts_of mid) BothLost Ends refl
-    (subst (λ (e : NodeNo). CopiesActed g.P.Plant m.id (parts_of x) (parts_of mid) (failed e)) c.in-Err-BothLost.field-0-is c.in-Err-BothLost.ensures.acts) (ap (λ p. p.book) c.take_seat.ensures.frame))
+pub returns-in-Err-clause-frame : goal.returns-in-Err-clause-frame
+returns-in-Err-clause-frame g c =
+    unseated_frame c.args.member.now.id (parts_of c.args.complex.now) (parts_of c.take_seat.new.complex) (parts_of c.stop_halted.new.complex) c.in-Err.why c.take_seat.ensures.frame c.stop_halted.ensures
 
-pub returns-in-Err-ConsoleFault-clause-locks : goal.returns-in-Err-ConsoleFault-clause-locks
-returns-in-Err-ConsoleFault-clause-locks g c S tested =
+pub returns-in-Err-clause-locks : goal.returns-in-Err-clause-locks
+returns-in-Err-clause-locks g c S tested =
     let x = c.args.complex.now in
     let m = c.args.member.now in
-    let mid = c.take_seat.new.complex in
     let lock = c.requires.may.holds in
     let holds : is_holder x.book m.id ≡ true = holds_it m.id lock.some x.book lock.may.holds in
-    inl (unseated g.P.Plant g.C.Copying S m c.args.step (parts_of x) tested holds (parts_of mid) ConsoleFault Ends refl
-    (subst (λ (e : NodeNo). CopiesActed g.P.Plant m.id (parts_of x) (parts_of mid) (failed e)) c.in-Err-ConsoleFault.field-0-is c.in-Err-ConsoleFault.ensures.acts) (ap (λ p. p.book) c.take_seat.ensures.frame))
-
-pub returns-in-Err-NoMemory-clause-locks : goal.returns-in-Err-NoMemory-clause-locks
-returns-in-Err-NoMemory-clause-locks g c S tested =
-    let x = c.args.complex.now in
-    let m = c.args.member.now in
-    let mid = c.take_seat.new.complex in
-    let lock = c.requires.may.holds in
-    let holds : is_holder x.book m.id ≡ true = holds_it m.id lock.some x.book lock.may.holds in
-    inl (unseated g.P.Plant g.C.Copying S m c.args.step (parts_of x) tested holds (parts_of mid) NoMemory Ends refl
-    (subst (λ (e : NodeNo). CopiesActed g.P.Plant m.id (parts_of x) (parts_of mid) (failed e)) c.in-Err-NoMemory.field-0-is c.in-Err-NoMemory.ensures.acts) (ap (λ p. p.book) c.take_seat.ensures.frame))
+    inl (unseated g.P.Plant g.C.Copying S m c.args.step Locks says_ok Keep (parts_of x) holds (its_left g.P.Plant g.C.Copying S m c.args.step (parts_of x) tested holds)
+    (parts_of c.take_seat.new.complex) (parts_of c.stop_halted.new.complex) c.in-Err.why c.take_seat.ensures.frame c.stop_halted.ensures c.in-Err.ensures.acts)

@@ -17,7 +17,8 @@ use Rattle.mas_complex.specs.Locking.{IsOfOther}
 use Rattle.mas_complex.specs.Meaning.{run}
 use Rattle.mas_complex.specs.Parts.{parts_of}
 use Rattle.mas_complex.specs.Spool.{IsGroupOf}
-use Rattle.member_node.proofs.SpareLemmas.{spares_none, spares_then}
+use Rattle.member_node.specs.Spares.{SparesBut}
+use Rattle.member_node.proofs.SpareLemmas.{sparing_before, sparing_more, sparing_none}
 use Rattle.mas_complex.specs.Paper.{counts_of}
 use Rattle.mas_complex.specs.Texts.{spools_at}
 use Rattle.member_decks.proofs.OpenLemmas.{tells_some}
@@ -27,7 +28,8 @@ use Rattle.job_outcome.specs.declared.outcomes.Read.TheVariants as read
 use Rattle.member_work.specs.Inked.{HasInked, is_printer_lost, lines_read}
 use Rattle.member_work.specs.Looks.{as_it_is}
 use Rattle.member_work.specs.Printing.{IsBookAfterLines, IsChunkOf, IsPrinting, IsReservedAfterLines, MayPrintTo}
-use Rattle.member_work.specs.Rounds.{IsReadAs}
+use Rattle.member_work.specs.Rounds.{IsReadAs, names_nothing, names_read}
+use Rattle.member_node.specs.Calls.{none_lost}
 use Rattle.member_work.proofs.InkedLemmas.{inked_after, inked_all, inked_wanting, printed_none}
 use Rattle.member_work.proofs.LookingLemmas.{groups_within}
 use Rattle.member_work.proofs.PrintedLemmas.{beside_none, beside_on, beside_volumes, failed_wider, lines_whole, output_key, told_output, whole_output}
@@ -58,7 +60,7 @@ returns-in-Some-clause-prints g c =
       inks = λ told o there.
           subst (λ (f : Found). HasInked P (λ (k : Found). k.printer) m.id (lines_next (counts_of x.printed m.id) c.args.last o f.read) (parts_of x) (parts_of x) (Ok f)) (sym c.found_read.ensures)
           (inked_all P m.id [] (λ (k : Found). k.printer) (parts_of x) (parts_of x) (printed_none P m.id [] (parts_of x)) (omega arith) (read_found (read.Gone c.in-Some.group)) refl (omega arith));
-      cause = spares_none m.id.0 v;
+      cause = subst (λ (k : Found). SparesBut m.id.0 false (names_read k.read) v v) (sym c.found_read.ensures) (sparing_none m.id.0 v);
       finds = subst (λ (f : Found). FindsLines P (parts_of x) (parts_of x) m c.args.job c.args.output c.args.last f) (sym c.found_read.ensures)
           (record {
             only = refl;
@@ -166,7 +168,7 @@ returns-in_default-groups_of-clause-prints g c =
       inks = λ told o there.
           let lines = lines_next (counts_of x.printed m.id) c.args.last o (as_it_is o.text) in
           inked_wanting P m.id lines (λ (k : Found). k.printer) (parts_of x) (parts_of x) (printed_none P m.id lines (parts_of x)) (omega arith) (omega arith);
-      cause = spares_none m.id.0 v;
+      cause = sparing_none m.id.0 v;
       finds = tt;
     }
 
@@ -175,7 +177,7 @@ returns-in_err-read-clause-frame g c =
     let e = c.read_text.ensures in
     let x = parts_of c.args.complex.now in
     let y = parts_of c.read_text.new.complex in
-    let same : y ≡ printed_in y x = rw (e.pair, e.base, e.since, e.book, e.journal, e.current, e.reserved, e.placed, e.first, e.second, e.level) refl in
+    let same : y ≡ printed_in y x = rw (e.pair, e.base, e.since, e.renewals, e.book, e.journal, e.current, e.reserved, e.placed, e.first, e.second, e.level) refl in
     let p = err_from_is_err_and c.from_residual.result c.from_residual.ensures.1 in
     rw (p.1, p.2) (only_error c.args.member.now.id x y Found c.in_err-read.field-0.0 same)
 
@@ -192,7 +194,7 @@ returns-in_err-read-clause-prints g c =
       acts = beside_volumes P.tells m.0 v w c.read_text.ensures.acts;
       reads = c.read_text.ensures.reads;
       inks = λ told o there.
-          inked_unread P m (lines_next (counts_of x.printed m) c.args.last o (as_it_is o.text)) (parts_of x) (parts_of y) (λ (k : Found). k.printer) c.in_err-read.field-0.0 c.in_err-read.ensures.cause
+          inked_unread P m (lines_next (counts_of x.printed m) c.args.last o (as_it_is o.text)) (parts_of x) (parts_of y) (λ (k : Found). names_read k.read) (λ (k : Found). k.printer) c.in_err-read.field-0.0 c.in_err-read.ensures.cause
           (papers_now P.tells m.0 v w c.read_text.ensures.acts told) c.read_text.ensures.printed;
       cause = c.in_err-read.ensures.cause;
       finds = tt;
@@ -206,7 +208,7 @@ returns-in_err-end-clause-frame g c =
     let x = parts_of c.args.complex.now in
     let z = parts_of c.print_text.new.complex in
     let same : z ≡ record (printed_in z x) { book = z.book; reserved = z.reserved } =
-    rw (f.pair, f.base, f.since, f.journal, f.current, f.placed, f.first, f.second, f.level, e.pair, e.base, e.since, e.journal, e.current, e.placed, e.first, e.second, e.level) refl in
+    rw (f.pair, f.base, f.since, f.renewals, f.journal, f.current, f.placed, f.first, f.second, f.level, e.pair, e.base, e.since, e.renewals, e.journal, e.current, e.placed, e.first, e.second, e.level) refl in
     let book : IsBookAfterLines {T = Option Closing} (Err c.in_err-end.field-0.0) m x.book z.book = rw e.book at c.in_err-end.ensures.book in
     let reserved : IsReservedAfterLines {T = Option Closing} (Err c.in_err-end.field-0.0) m x.reserved z.reserved = rw e.reserved at c.in_err-end.ensures.reserved in
     let p = err_from_is_err_and c.from_residual-in_err-end.result c.from_residual-in_err-end.ensures.1 in
@@ -252,7 +254,7 @@ returns-in_err-end-clause-prints g c =
           inked_as_it_is P m P.tells X.base.config.groups (groups_of (OutputThing n i) Q.owners) v w o was c.args.last (parts_of X) (parts_of Z) (λ (k : Found). k.printer) c.in_err-end.field-0.0 a told seen
           (subst (λ (ls : List (List ℕ)). HasInked P (λ (k : Found). k.printer) m ls (parts_of X) (parts_of Z) (Err c.in_err-end.field-0.0)) (same_lines r o was is c.args.last a same.0 same.1 same.2 counts)
           (inked_error P m lines (parts_of X) (parts_of Z) {S = Option Closing} is_printer_lost (λ (k : Found). k.printer) c.in_err-end.field-0.0 from_reading));
-      cause = stops_later {T = Option Closing} m.0 v w z (Err c.in_err-end.field-0.0) c.read_text.ensures.acts.goes c.in_ok-read.ensures.cause c.in_err-end.ensures.cause;
+      cause = stops_later {T = Option Closing} names_nothing m.0 v w z (Err c.in_err-end.field-0.0) c.read_text.ensures.acts.goes (sparing_more m.0 false (names_read c.in_ok-read.read) none_lost v w (λ n other. c.in_err-end.ensures.lines n) c.in_ok-read.ensures.cause) c.in_err-end.ensures.cause;
       finds = tt;
     })
 
@@ -260,7 +262,7 @@ pub returns-clause-frame : goal.returns-clause-frame
 returns-clause-frame g c =
     let e = c.read_text.ensures in
     let f = c.print_text.ensures in
-    rw (f.pair, f.base, f.since, f.journal, f.current, f.placed, f.first, f.second, f.level, c.in_ok-end.ensures.book, c.in_ok-end.ensures.reserved, e.pair, e.base, e.since, e.book, e.journal, e.current, e.reserved, e.placed, e.first, e.second, e.level) refl
+    rw (f.pair, f.base, f.since, f.renewals, f.journal, f.current, f.placed, f.first, f.second, f.level, c.in_ok-end.ensures.book, c.in_ok-end.ensures.reserved, e.pair, e.base, e.since, e.renewals, e.book, e.journal, e.current, e.reserved, e.placed, e.first, e.second, e.level) refl
 
 pub returns-clause-prints : goal.returns-clause-prints
 returns-clause-prints g c =
@@ -303,9 +305,9 @@ returns-clause-prints g c =
           (subst (λ (ls : List (List ℕ)). HasInked P (λ (a : Found). a.printer) m.id ls (parts_of x) (parts_of z) (Ok c.found_printed.result)) (same_lines r out was is c.args.last o same.0 same.1 same.2 counts)
           (inked_found P m.id lines (parts_of x) (parts_of z) {S = Option Closing} is_printer_lost (λ (a : Found). a.printer) c.in_ok-end.end c.found_printed.result
           (same_lost c.found_printed.result.printer k.lost o c.in_ok-end.end k.is found.printer found.not) from_reading));
-      cause = spares_then m.id.0 false v w u c.in_ok-read.ensures.cause c.in_ok-end.ensures.cause;
+      cause = subst (λ (b : Read). SparesBut m.id.0 false (names_read b) v u) (sym found.read) (sparing_before m.id.0 false (names_read o) v w u c.in_ok-read.ensures.cause c.in_ok-end.ensures.cause);
       finds = record {
-        only = found.lost;
+        only = found.only;
         fits = rw found.read c.in_ok-read.ensures.fits;
         failed = rw found.read wider;
         read = rw found.read (λ told roomy out there.

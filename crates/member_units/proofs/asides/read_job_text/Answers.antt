@@ -9,7 +9,9 @@ use Rattle.mas_complex.specs.Journals.{kept_all}
 use Rattle.mas_complex.specs.Meaning.{run}
 use Rattle.mas_complex.specs.Parts.{parts_of}
 use Rattle.mas_complex.specs.Spool.{IsGroupOf}
-use Rattle.member_node.proofs.SpareLemmas.{spares_none}
+use Rattle.member_node.specs.Spares.{SparesBut}
+use Rattle.member_node.proofs.SpareLemmas.{sparing_none}
+use Rattle.member_work.specs.Rounds.{names_read}
 use Rattle.member_decks.proofs.OpenLemmas.{tells_some}
 use Rattle.member_decks.proofs.PageLemmas.{acts_none, quiet_none}
 use Rattle.mas_complex.specs.Texts.{spools_at}
@@ -38,7 +40,7 @@ returns-in-Some-clause-reads g c =
     record {
       acts = acts_none P.tells m.id.0 v;
       reads = λ told. quiet_none (spools_at v v.now);
-      cause = spares_none m.id.0 v;
+      cause = subst (λ (k : Found). SparesBut m.id.0 false (names_read k.read) v v) (sym c.found_read.ensures) (sparing_none m.id.0 v);
       finds = subst (λ (f : Found). FindsText P (parts_of x) (parts_of x) m n f) (sym c.found_read.ensures)
           (record { only = refl; fits = tt; failed = tt; read = λ told roomy j there again. gone_is j.text c.in-Some.group (sym c.in-Some.is ∙ c.gone_deck.ensures.gone told j there) });
     }
@@ -50,7 +52,7 @@ unreachable-requires g c =
     let t = c.args.member.now.checkpoint.tables in
     let s = tells_some t in
     let none = rw c.as_slice.ensures at c.in_default-find_job.ensures.none in
-    let job = c.requires.job.there s.0 s.1 in
+    let job = c.requires.there s.0 s.1 in
     absurd (let not : false ≡ true = ap is_some (sym (none s.0.jobs s.1.jobs)) ∙ job in cc)
 
 pub read_text-requires-clause-within : goal.read_text-requires-clause-within
@@ -77,12 +79,12 @@ returns-in_default-groups_of-clause-reads g c =
     let P = g.P.Plant in
     let m = c.args.member.now in
     let v = P.view c.args.complex.now.plant in
-    record { acts = acts_none P.tells m.id.0 v; reads = λ told. quiet_none (spools_at v v.now); cause = spares_none m.id.0 v; finds = tt }
+    record { acts = acts_none P.tells m.id.0 v; reads = λ told. quiet_none (spools_at v v.now); cause = sparing_none m.id.0 v; finds = tt }
 
 pub returns-in_err-read-clause-frame : goal.returns-in_err-read-clause-frame
 returns-in_err-read-clause-frame g c =
     let e = c.read_text.ensures in
-    rw (e.pair, e.base, e.since, e.book, e.journal, e.current, e.reserved, e.printed, e.placed, e.first, e.second, e.level) refl
+    rw (e.pair, e.base, e.since, e.renewals, e.book, e.journal, e.current, e.reserved, e.printed, e.placed, e.first, e.second, e.level) refl
 
 pub returns-in_err-read-clause-reads : goal.returns-in_err-read-clause-reads
 returns-in_err-read-clause-reads g c =
@@ -92,7 +94,7 @@ returns-in_err-read-clause-reads g c =
 pub returns-clause-frame : goal.returns-clause-frame
 returns-clause-frame g c =
     let e = c.read_text.ensures in
-    rw (e.pair, e.base, e.since, e.book, e.journal, e.current, e.reserved, e.printed, e.placed, e.first, e.second, e.level) refl
+    rw (e.pair, e.base, e.since, e.renewals, e.book, e.journal, e.current, e.reserved, e.printed, e.placed, e.first, e.second, e.level) refl
 
 pub returns-clause-reads : goal.returns-clause-reads
 returns-clause-reads g c =
@@ -117,7 +119,7 @@ returns-clause-reads g c =
     record {
       acts = c.read_text.ensures.acts;
       reads = c.read_text.ensures.reads;
-      cause = c.in_ok-read.ensures.cause;
+      cause = subst (λ (k : Found). SparesBut m.id.0 false (names_read k.read) (P.view x.plant) (P.view y.plant)) (sym c.found_read-2.ensures) c.in_ok-read.ensures.cause;
       finds = subst (λ (k : Found). FindsText P (parts_of x) (parts_of y) m n k) (sym c.found_read-2.ensures)
           (record {
             only = refl;

@@ -11,7 +11,7 @@ use Rattle.mas_complex.specs.Spool.{IsGroupOf, IsHeldBy}
 use Rattle.member_decks.specs.Spooling.{Rise}
 use Rattle.member_decks.proofs.HeldLemmas.{all_within, as_many_held, lowest_rise}
 use Rattle.member_decks.proofs.PageLemmas.{acts_none}
-use Rattle.member_node.proofs.SpareLemmas.{spares_none}
+use Rattle.member_node.proofs.SpareLemmas.{sparing_none}
 use Rattle.step_turns.specs.declared.states.Found.{Found}
 use Rattle.member_sittings.proofs.AsideLemmas.{all_take}
 use Rattle.member_node.specs.declared.member.NodeNo.{NodeNo}
@@ -65,7 +65,7 @@ returns-in_default-clause-writes g c =
     let P = g.P.Plant in
     let v = P.view c.args.complex.now.plant in
     let by = c.args.member.now.id.0 in
-    record { acts = acts_none P.tells by v; cause = spares_none by v; finds = tt }
+    record { acts = acts_none P.tells by v; cause = sparing_none by v; finds = tt }
 
 pub returns-clause-writes : goal.returns-clause-writes
 returns-clause-writes g c =

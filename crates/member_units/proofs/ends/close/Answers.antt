@@ -27,7 +27,7 @@ give_up-requires-clause-untold g c told = c.requires.works.untold told c.args.me
 pub returns-in_default-clause-run : goal.returns-in_default-clause-run
 returns-in_default-clause-run g c =
     let k = c.give_up.ensures in
-    same_run c.args.complex.now c.give_up.new.complex c.args.member.now c.give_up.new.member c.args.holder k.base k.since k.book k.id
+    same_run c.args.complex.now c.give_up.new.complex c.args.member.now c.give_up.new.member c.args.holder k.base k.since k.renewals k.book k.id
 
 pub returns-in_default-clause-plays : goal.returns-in_default-clause-plays
 returns-in_default-clause-plays g c units found may =
@@ -74,7 +74,7 @@ pub returns-in_err-tell_lines-clause-run : goal.returns-in_err-tell_lines-clause
 returns-in_err-tell_lines-clause-run g c =
     let t = c.tell_lines.ensures in
     let n = c.keep.new.member in
-    same_run c.keep.new.complex c.tell_lines.new.complex n n c.args.holder t.base t.since t.book refl ∙ c.keep.ensures.run
+    same_run c.keep.new.complex c.tell_lines.new.complex n n c.args.holder t.base t.since t.renewals t.book refl ∙ c.keep.ensures.run
 
 pub returns-in_err-tell_lines-clause-plays : goal.returns-in_err-tell_lines-clause-plays
 returns-in_err-tell_lines-clause-plays g c units found may =
@@ -97,7 +97,7 @@ pub returns-clause-run : goal.returns-clause-run
 returns-clause-run g c =
     let t = c.tell_lines.ensures in
     let n = c.keep.new.member in
-    same_run c.keep.new.complex c.tell_lines.new.complex n n c.args.holder t.base t.since t.book refl ∙ c.keep.ensures.run
+    same_run c.keep.new.complex c.tell_lines.new.complex n n c.args.holder t.base t.since t.renewals t.book refl ∙ c.keep.ensures.run
 
 pub returns-clause-plays : goal.returns-clause-plays
 returns-clause-plays g c units found may =

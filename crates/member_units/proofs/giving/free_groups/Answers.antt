@@ -12,7 +12,7 @@ use Rattle.member_units.proofs.giving.free_groups.Goals as goal
 pub returns-in_err-end-clause-run : goal.returns-in_err-end-clause-run
 returns-in_err-end-clause-run g c =
     let k = c.drop_given.ensures in
-    same_run c.args.complex.now c.drop_given.new.complex c.args.member.now c.drop_given.new.member c.args.holder k.base k.since k.book k.id
+    same_run c.args.complex.now c.drop_given.new.complex c.args.member.now c.drop_given.new.member c.args.holder k.base k.since k.renewals k.book k.id
 
 pub returns-in_err-end-clause-given : goal.returns-in_err-end-clause-given
 returns-in_err-end-clause-given g c =
@@ -26,7 +26,7 @@ returns-in_err-end-clause-given g c =
 pub returns-clause-run : goal.returns-clause-run
 returns-clause-run g c =
     let k = c.drop_given.ensures in
-    same_run c.args.complex.now c.drop_given.new.complex c.args.member.now c.drop_given.new.member c.args.holder k.base k.since k.book k.id
+    same_run c.args.complex.now c.drop_given.new.complex c.args.member.now c.drop_given.new.member c.args.holder k.base k.since k.renewals k.book k.id
 
 pub returns-clause-given : goal.returns-clause-given
 returns-clause-given g c =
@@ -45,7 +45,7 @@ returns-clause-works g c =
     let h = c.args.holder in
     let k = c.drop_given.ensures in
     let o = c.in_ok-end.ensures in
-    works_on x y m n h c.requires.works (same_run x y m n h k.base k.since k.book k.id) o.work o.of o.untold (step_on x y m n h c.requires.works k.id o.work _ c.in_ok-end.end o.last.played.keeps) o.copy1 o.copy2
+    works_on x y m n h c.requires.works (same_run x y m n h k.base k.since k.renewals k.book k.id) o.work o.of o.untold (step_on x y m n h c.requires.works k.id o.work _ c.in_ok-end.end o.last.played.keeps) o.copy1 o.copy2
 
 pub returns-clause-room : goal.returns-clause-room
 returns-clause-room g c =

@@ -18,7 +18,7 @@ play_command-requires-clause-right g c told sound = c.requires.right told
 pub returns-in_err-end-clause-run : goal.returns-in_err-end-clause-run
 returns-in_err-end-clause-run g c =
     let k = c.play_command.ensures in
-    same_run c.args.complex.now c.play_command.new.complex c.args.member.now c.play_command.new.member c.args.holder k.base k.since k.book k.id
+    same_run c.args.complex.now c.play_command.new.complex c.args.member.now c.play_command.new.member c.args.holder k.base k.since k.renewals k.book k.id
 
 pub returns-in_err-end-clause-given : goal.returns-in_err-end-clause-given
 returns-in_err-end-clause-given g c =
@@ -39,7 +39,7 @@ returns-in_err-end-clause-given g c =
 pub returns-clause-run : goal.returns-clause-run
 returns-clause-run g c =
     let k = c.play_command.ensures in
-    same_run c.args.complex.now c.play_command.new.complex c.args.member.now c.play_command.new.member c.args.holder k.base k.since k.book k.id
+    same_run c.args.complex.now c.play_command.new.complex c.args.member.now c.play_command.new.member c.args.holder k.base k.since k.renewals k.book k.id
 
 pub returns-clause-given : goal.returns-clause-given
 returns-clause-given g c =
@@ -66,7 +66,7 @@ returns-clause-works g c =
     let h = c.args.holder in
     let k = c.play_command.ensures in
     let o = c.in_ok-end.ensures in
-    works_on x y m n h c.requires.works (same_run x y m n h k.base k.since k.book k.id) o.work o.of o.untold (step_on x y m n h c.requires.works k.id o.work _ c.in_ok-end.end o.played.played.keeps) o.copy1 o.copy2
+    works_on x y m n h c.requires.works (same_run x y m n h k.base k.since k.renewals k.book k.id) o.work o.of o.untold (step_on x y m n h c.requires.works k.id o.work _ c.in_ok-end.end o.played.played.keeps) o.copy1 o.copy2
 
 pub returns-clause-answered : goal.returns-clause-answered
 returns-clause-answered g c =

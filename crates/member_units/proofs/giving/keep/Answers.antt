@@ -19,7 +19,7 @@ keep_given-requires-clause-untold g c told = c.requires.works.untold told c.args
 pub returns-in_err-keep_given-clause-run : goal.returns-in_err-keep_given-clause-run
 returns-in_err-keep_given-clause-run g c =
     let k = c.keep_given.ensures in
-    same_run c.args.complex.now c.keep_given.new.complex c.args.member.now c.keep_given.new.member c.args.holder k.base k.since k.book k.id
+    same_run c.args.complex.now c.keep_given.new.complex c.args.member.now c.keep_given.new.member c.args.holder k.base k.since k.renewals k.book k.id
 
 pub returns-in_err-keep_given-clause-keeps : goal.returns-in_err-keep_given-clause-keeps
 returns-in_err-keep_given-clause-keeps g c =
@@ -35,7 +35,7 @@ returns-in_err-keep_given-clause-spares g c told = spares_of c.args.complex.now 
 pub returns-clause-run : goal.returns-clause-run
 returns-clause-run g c =
     let k = c.keep_given.ensures in
-    same_run c.args.complex.now c.keep_given.new.complex c.args.member.now c.keep_given.new.member c.args.holder k.base k.since k.book k.id
+    same_run c.args.complex.now c.keep_given.new.complex c.args.member.now c.keep_given.new.member c.args.holder k.base k.since k.renewals k.book k.id
 
 pub returns-clause-keeps : goal.returns-clause-keeps
 returns-clause-keeps g c =
@@ -57,7 +57,7 @@ returns-clause-works g c =
     let k = c.keep_given.ensures in
     let o = c.in_ok-keep_given.ensures in
     let w = c.requires.works in
-    works_on x y m n h w (same_run x y m n h k.base k.since k.book k.id) o.work (rw o.nothing (All-nil _))
+    works_on x y m n h w (same_run x y m n h k.base k.since k.renewals k.book k.id) o.work (rw o.nothing (All-nil _))
     (λ told. untold_then C.reads x.base y.base x.since y.since m.id n.id h.step (P.view x.plant) (P.view y.plant) k.base k.since k.id w.work.begun o.keeps.course.goes (o.keeps.quiet told) (w.untold told))
     (step_on x y m n h w k.id o.work (batches_in (m.batch ∷ [])) _ o.keeps) o.copy1 o.copy2
 

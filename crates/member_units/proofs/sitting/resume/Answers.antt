@@ -23,6 +23,17 @@ use Rattle.member_units.proofs.sitting.resume.Goals as goal
 pub unreachable-requires : goal.unreachable-requires
 unreachable-requires g c = rw c.in-SpoolDeck.is at c.requires.may
 
+-- NO LINE TO ANOTHER NODE
+
+pub unreachable-requires-in-Exchange : goal.unreachable-requires-in-Exchange
+unreachable-requires-in-Exchange g c = rw c.in-Exchange.is at c.requires.may
+
+pub unreachable-requires-in-SpoolArrival : goal.unreachable-requires-in-SpoolArrival
+unreachable-requires-in-SpoolArrival g c = rw c.in-SpoolArrival.is at c.requires.may
+
+pub unreachable-requires-in-Acknowledge : goal.unreachable-requires-in-Acknowledge
+unreachable-requires-in-Acknowledge g c = rw c.in-Acknowledge.is at c.requires.may
+
 -- A JOB'S TEXT
 
 pub outcome_of-requires-clause-fields : goal.outcome_of-requires-clause-fields
@@ -107,16 +118,16 @@ lines_printed-requires-clause-level g c = let level = rw c.in-PrintLines.is at c
 pub lines_printed-requires-clause-units : goal.lines_printed-requires-clause-units
 lines_printed-requires-clause-units g c = let units = rw c.in-PrintLines.is at c.requires.units in omega (arith, units)
 
-pub returns-clause-plays : goal.returns-clause-plays
-returns-clause-plays g c =
+pub returns-in-PrintLines-clause-plays : goal.returns-in-PrintLines-clause-plays
+returns-in-PrintLines-clause-plays g c =
     let f = c.args.found in
     let p = c.in-PrintLines.progress in
     let prints = subst (λ (end : Option Closing). IfSome end (MayRefuseBy f)) (sym c.printed_end-end.ensures.is) (prints_by f) in
     rw (c.in-PrintLines.is, sym c.printed_end-end.ensures.is) (plays_more g.P.Plant.tells c.args.holder (bounds (3 * p.left + 2) (p.done + suc p.left) f) 0 (3 * p.left + 2) (p.done + p.left + 1) _ (place_of c.args.complex.now c.args.member.now) (outside c.lines_printed.new.complex) c.lines_printed.result (omega arith) (omega arith)
     (c.lines_printed.ensures.plays f prints))
 
-pub returns-clause-reached : goal.returns-clause-reached
-returns-clause-reached g c = rw c.in-PrintLines.is (if_ok c.lines_printed.result _ _ (λ e le. omega (arith, le)) c.lines_printed.ensures.reached)
+pub returns-in-PrintLines-clause-reached : goal.returns-in-PrintLines-clause-reached
+returns-in-PrintLines-clause-reached g c = rw c.in-PrintLines.is (if_ok c.lines_printed.result _ _ (λ e le. omega (arith, le)) c.lines_printed.ensures.reached)
 
 -- HOW MANY MAY FOLLOW
 
@@ -126,5 +137,5 @@ returns-in-ReadText-clause-fewer g c = let p = c.in-ReadText.progress in rw c.in
 pub returns-in-SpoolOutputs-clause-fewer : goal.returns-in-SpoolOutputs-clause-fewer
 returns-in-SpoolOutputs-clause-fewer g c = let p = c.in-SpoolOutputs.progress in rw c.in-SpoolOutputs.is (fewer_than (3 * p.left + 2) (p.done + suc p.left) c.outputs_stand.result (3 * p.left + 2) (p.done + p.left + 1) (omega arith) (omega arith) c.outputs_stand.ensures.fewer)
 
-pub returns-clause-fewer : goal.returns-clause-fewer
-returns-clause-fewer g c = let p = c.in-PrintLines.progress in rw c.in-PrintLines.is (fewer_than (3 * p.left + 2) (p.done + suc p.left) c.lines_printed.result (3 * p.left + 2) (p.done + p.left + 1) (omega arith) (omega arith) c.lines_printed.ensures.fewer)
+pub returns-in-PrintLines-clause-fewer : goal.returns-in-PrintLines-clause-fewer
+returns-in-PrintLines-clause-fewer g c = let p = c.in-PrintLines.progress in rw c.in-PrintLines.is (fewer_than (3 * p.left + 2) (p.done + suc p.left) c.lines_printed.result (3 * p.left + 2) (p.done + p.left + 1) (omega arith) (omega arith) c.lines_printed.ensures.fewer)

@@ -118,7 +118,7 @@ returns-in-Wait-clause-plays g c found =
     let a = Away c.in-Wait.aside in
     let b = bounds (3 * p.left + 1) (p.done + p.left) found in
     let one = unwritten_one m.batch in
-    let falls = (waits_fewer (3 * p.left + 1) (p.done + p.left) p _ c.in-Wait.aside c.next_unit.ensures.waits c.in-Wait.is (omega arith) (omega arith)).falls in
+    let falls = (waits_fewer _ _ (3 * p.left + 1) (p.done + p.left) p _ c.in-Wait.aside c.next_unit.ensures.right c.next_unit.ensures.waits c.in-Wait.is (omega arith) (omega arith)).falls in
     plays_as g.P.Plant.tells h b 0 (wrote_of m.batch (leaves a)) (wrote_of [] (units_from h p.left Q 0 p.done)) (place_of x m) (outside c.leave.new.complex) c.leave.result
     (λ told. ap (λ (es : List Entry). wrote_of es (leaves (Away c.in-Wait.aside))) c.requires.nothing ∙ ap (wrote_of []) (sym (c.in-Wait.ensures.unit Q h 0 w.own (tells_here x m h w told))))
     (plays_more g.P.Plant.tells h b 0 (sittings_most a + unwritten m.batch) (p.done + p.left) _ (place_of x m) (outside c.leave.new.complex) c.leave.result (omega (arith, falls, one)) (omega arith) (c.leave.ensures.plays (p.done + p.left) found))
@@ -172,7 +172,7 @@ returns-in_ok-end-in-Give-clause-fewer g c =
     fewer_than (3 * c.args.progress.left + 1) (c.args.progress.done + c.args.progress.left) c.go_on.result (3 * (c.args.progress.left - 1) + 2) (c.args.progress.done + (c.args.progress.left - 1) + 1) (omega (arith, some)) (omega (arith, some)) c.go_on.ensures.fewer
 
 pub returns-in-Wait-clause-fewer : goal.returns-in-Wait-clause-fewer
-returns-in-Wait-clause-fewer g c = fewer_left (3 * c.args.progress.left + 1) (c.args.progress.done + c.args.progress.left) c.leave.result (Away c.in-Wait.aside) (waits_fewer (3 * c.args.progress.left + 1) (c.args.progress.done + c.args.progress.left) c.args.progress _ c.in-Wait.aside c.next_unit.ensures.waits c.in-Wait.is (omega arith) (omega arith)) c.leave.ensures.next
+returns-in-Wait-clause-fewer g c = fewer_left (3 * c.args.progress.left + 1) (c.args.progress.done + c.args.progress.left) c.leave.result (Away c.in-Wait.aside) (waits_fewer _ _ (3 * c.args.progress.left + 1) (c.args.progress.done + c.args.progress.left) c.args.progress _ c.in-Wait.aside c.next_unit.ensures.right c.next_unit.ensures.waits c.in-Wait.is (omega arith) (omega arith)) c.leave.ensures.next
 
 pub returns-in-Nothing-clause-fewer : goal.returns-in-Nothing-clause-fewer
 returns-in-Nothing-clause-fewer g c = fewer_told (3 * c.args.progress.left + 1) (c.args.progress.done + c.args.progress.left) c.close.result (omega arith) c.close.ensures.told

@@ -269,7 +269,7 @@ returns-in-Wait-clause-plays g c found may =
     let new = outside c.leave-in-Wait.new.complex in
     let units = at.progress.done + left + 1 in
     let a = Away c.in-Wait.aside in
-    let falls = (waits_fewer (3 * left + 1) (at.progress.done + 1 + left) (record { done = at.progress.done + 1; left = left }) _ c.in-Wait.aside c.next_unit.ensures.waits c.in-Wait.is (omega arith) (omega arith)).falls in
+    let falls = (waits_fewer _ _ (3 * left + 1) (at.progress.done + 1 + left) (record { done = at.progress.done + 1; left = left }) _ c.in-Wait.aside c.next_unit.ensures.right c.next_unit.ensures.waits c.in-Wait.is (omega arith) (omega arith)).falls in
     let least = sittings_most a + unwritten k.batch in
     i.then found new c.leave-in-Wait.result
     (on_after P.tells h (bounds (3 * left + 2) units found) at.given left at.progress.done {S = Unit {0}} _ (place_of z n) (place_of y k) new c.leave-in-Wait.result (own_batch z n h i.works) o.left c.keep_full.ensures.spares o.keeps o.counts least (full_le n.batch k.batch (sittings_most a) (3 * left + 2) o.left (omega (arith, falls))) c.loop-end.end c.in-Done.is o.queue (sym c.rests.ensures ∙ c.if-rests.false)
@@ -359,7 +359,7 @@ returns-in-Wait-clause-fewer g c =
     let less = c.loop-end.invariant.less in
     let at = c.loop-end.at.progress in
     fewer_left (3 * c.args.from.progress.left + 2) (c.args.from.progress.done + c.args.from.progress.left + 1) c.leave-in-Wait.result (Away c.in-Wait.aside)
-    (waits_fewer (3 * c.args.from.progress.left + 2) (c.args.from.progress.done + c.args.from.progress.left + 1) (record { done = at.done + 1; left = at.left }) _ c.in-Wait.aside c.next_unit.ensures.waits c.in-Wait.is (omega (arith, units, less)) (omega (arith, units)))
+    (waits_fewer _ _ (3 * c.args.from.progress.left + 2) (c.args.from.progress.done + c.args.from.progress.left + 1) (record { done = at.done + 1; left = at.left }) _ c.in-Wait.aside c.next_unit.ensures.right c.next_unit.ensures.waits c.in-Wait.is (omega (arith, units, less)) (omega (arith, units)))
     c.leave-in-Wait.ensures.next
 
 -- THE STEP ISN'T TOLD

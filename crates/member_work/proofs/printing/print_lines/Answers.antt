@@ -1,4 +1,4 @@
-use Rattle.std.proofs.Common.{◌≡◌, ◌<◌, ◌+◌, ◌-◌, ◌∙◌, ℕ, false, true, Option, Some, None, List, refl, ap, sym, subst, arith}
+use Rattle.std.proofs.Common.{◌≡◌, ◌<◌, ◌+◌, ◌∙◌, ℕ, false, true, Option, Some, None, List, refl, ap, sym, subst, arith}
 use Rattle.mas_types.specs.declared.journals.Batch.{Batch}
 use Rattle.lock_cycle.specs.Books.{Book, IsMember, is_stopped}
 use Rattle.mas_complex.specs.Journals.{entries_in, kept_all}
@@ -8,7 +8,8 @@ use Rattle.mas_complex.specs.Parts.{parts_of}
 use Rattle.paper_laws.specs.Next.{MayPrint}
 use Rattle.ckpt_copy.specs.Moments.{goes_none}
 use Rattle.spool_disk.specs.declared.plant.Part.TheVariants.{Printer}
-use Rattle.member_node.proofs.SpareLemmas.{spares_done, spares_failed, spares_halted, spares_none, spares_then}
+use Rattle.member_node.proofs.SpareLemmas.{sparing_beside, sparing_done, sparing_halted, sparing_none, sparing_then}
+use Rattle.member_node.specs.Calls.{none_lost}
 use Rattle.mas_types.specs.declared.answers.Closing.TheVariants as closing
 use Rattle.member_work.specs.Inked.{is_printer_lost, lines_upto}
 use Rattle.member_work.proofs.InkedLemmas.{all_from, inked_all, inked_halted, inked_lost, inked_wanting, next_less, next_line, printed_failed, printed_none, printed_one}
@@ -25,6 +26,7 @@ loop-before-init g c =
       pair = refl;
       base = refl;
       since = refl;
+      renewals = refl;
       book = refl;
       journal = refl;
       current = refl;
@@ -34,7 +36,7 @@ loop-before-init g c =
       second = refl;
       level = refl;
       acts = beside_none P.tells (P.view x.plant);
-      spares = spares_none c.args.by.0 (P.view x.plant);
+      spares = sparing_none c.args.by.0 (P.view x.plant);
       upto = omega (arith, sum, count);
       more = omega arith;
       most = λ less. omega (arith, less);
@@ -93,6 +95,7 @@ loop-before-preserved g c =
       pair = e.pair ∙ i.pair;
       base = e.base ∙ i.base;
       since = e.since ∙ i.since;
+      renewals = e.renewals ∙ i.renewals;
       book = e.book ∙ (rw done i.book);
       journal = e.journal ∙ i.journal;
       current = e.current ∙ i.current;
@@ -102,7 +105,7 @@ loop-before-preserved g c =
       second = e.second ∙ i.second;
       level = e.level ∙ i.level;
       acts = beside_on P.tells (P.view x.plant) (P.view y.plant) (P.view z.plant) i.acts (beside_print P.tells c.args.by line (P.view y.plant) (P.view z.plant) c.print.result e.acts e.content);
-      spares = spares_then c.args.by.0 false (P.view x.plant) (P.view y.plant) (P.view z.plant) i.spares (spares_done c.args.by.0 (Printer c.args.by) (P.view y.plant) (P.view z.plant) (rw done at e.acts));
+      spares = sparing_then c.args.by.0 false none_lost (P.view x.plant) (P.view y.plant) (P.view z.plant) i.spares (sparing_done c.args.by.0 (Printer c.args.by) (P.view y.plant) (P.view z.plant) (rw done at e.acts));
       upto = omega (arith, same, one);
       more = let few = i.more in omega (arith, few, one);
       most = λ less. omega (arith, same, one, small);
@@ -151,7 +154,7 @@ returns-in-Halted-clause-cause g c =
     let z = c.print.new.self in
     let rose = c.print.ensures.acts.halted c.in-Halted.is in
     let before = c.loop-before.invariant.acts.goes.stops c.args.by.0 in (
-      spares_then c.args.by.0 true (P.view x.plant) (P.view y.plant) (P.view z.plant) c.loop-before.invariant.spares (spares_halted c.args.by.0 (Printer c.args.by) (P.view y.plant) (P.view z.plant) (rw c.in-Halted.is at c.print.ensures.acts)),
+      sparing_then c.args.by.0 true none_lost (P.view x.plant) (P.view y.plant) (P.view z.plant) c.loop-before.invariant.spares (sparing_halted c.args.by.0 (Printer c.args.by) (P.view y.plant) (P.view z.plant) (rw c.in-Halted.is at c.print.ensures.acts)),
       omega (arith, rose, before),
     )
 
@@ -161,7 +164,7 @@ returns-in-Failed-clause-cause g c =
     let x = c.args.complex.now in
     let y = c.loop-before.complex in
     let z = c.print.new.self in
-    spares_then c.args.by.0 false (P.view x.plant) (P.view y.plant) (P.view z.plant) c.loop-before.invariant.spares (spares_failed c.args.by.0 (Printer c.args.by) (P.view y.plant) (P.view z.plant) (rw c.in-Failed.is at c.print.ensures.acts))
+    sparing_then c.args.by.0 false none_lost (P.view x.plant) (P.view y.plant) (P.view z.plant) c.loop-before.invariant.spares (sparing_beside c.args.by.0 (Printer c.args.by) (P.view y.plant) (P.view z.plant) (λ n same. absurd (cc)) (rw c.in-Failed.is at c.print.ensures.acts))
 
 pub returns-clause-printed : goal.returns-clause-printed
 returns-clause-printed g c = lines_printed c.args.by c.args.text.now (g.P.Plant.view c.args.complex.now.plant) (g.P.Plant.view c.loop-before.complex.plant)

@@ -1,7 +1,8 @@
 use Rattle.std.proofs.Common.{◌≡◌, ◌≤◌, ◌<◌, ◌+◌, false}
 use Rattle.mas_complex.specs.Paper.{counts_of}
 use Rattle.mas_complex.specs.Parts.{parts_of}
-use Rattle.member_node.specs.Spares.{Spares}
+use Rattle.member_node.specs.Calls.{none_lost}
+use Rattle.member_node.specs.Spares.{SparesBut}
 use Rattle.member_work.specs.Inked.{lines_upto}
 use Rattle.member_work.specs.Printing.{IsBeside, SameDisks}
 use Rattle.member_work.proofs.InkedLemmas.{HavePrinted}
@@ -17,6 +18,7 @@ invariant-loop-before g l =
       pair : y.pair ≡ x.pair;
       base : y.base ≡ x.base;
       since : y.since ≡ x.since;
+      renewals : y.renewals ≡ x.renewals;
       book : y.book ≡ x.book;
       journal : y.journal ≡ x.journal;
       current : y.current ≡ x.current;
@@ -26,7 +28,7 @@ invariant-loop-before g l =
       second : y.second ≡ x.second;
       level : y.level ≡ x.level;
       acts : IsBeside P.tells (P.view x.plant) (P.view y.plant);
-      spares : Spares l.by.0 false (P.view x.plant) (P.view y.plant);
+      spares : SparesBut l.by.0 false none_lost (P.view x.plant) (P.view y.plant);
       upto : l.before ≤ l.output.mark + counts_of y.printed l.by;
       more : counts_of x.printed l.by ≤ counts_of y.printed l.by;
       most : counts_of x.printed l.by < counts_of y.printed l.by → l.output.mark + counts_of y.printed l.by ≤ l.last;

@@ -1,11 +1,11 @@
-use Rattle.std.proofs.Common.{◌-◌, false, [], Some, ap, refl, sym, arith}
+use Rattle.std.proofs.Common.{false, [], Some, ap, refl, sym, arith}
 use Rattle.mas_types.specs.declared.answers.Closing.TheVariants as closing
 use Rattle.member_work.specs.Units.{printed_end}
-use Rattle.member_node.proofs.SpareLemmas.{spares_none}
+use Rattle.member_node.proofs.SpareLemmas.{sparing_none}
 use Rattle.mas_complex.specs.Parts.{parts_of}
 use Rattle.member_work.specs.Inked.{is_printer_lost}
 use Rattle.member_work.proofs.InkedLemmas.{inked_all, printed_none}
-use Rattle.member_work.proofs.PrintedLemmas.{beside_none, unprinted}
+use Rattle.member_work.proofs.PrintedLemmas.{beside_none, if_wrong, unprinted}
 use Rattle.member_work.proofs.printing.print_text.Goals as goal
 
 pub returns-in-Gone-clause-acts : goal.returns-in-Gone-clause-acts
@@ -36,10 +36,10 @@ pub returns-in-Lines-clause-printed : goal.returns-in-Lines-clause-printed
 returns-in-Lines-clause-printed g c = rw c.in-Lines.is c.print_lines.ensures.printed
 
 pub returns-in-Gone-clause-cause : goal.returns-in-Gone-clause-cause
-returns-in-Gone-clause-cause g c = spares_none c.args.by.0 (g.P.Plant.view c.args.complex.now.plant)
+returns-in-Gone-clause-cause g c = sparing_none c.args.by.0 (g.P.Plant.view c.args.complex.now.plant)
 
 pub returns-in-Lost-clause-cause : goal.returns-in-Lost-clause-cause
-returns-in-Lost-clause-cause g c = spares_none c.args.by.0 (g.P.Plant.view c.args.complex.now.plant)
+returns-in-Lost-clause-cause g c = sparing_none c.args.by.0 (g.P.Plant.view c.args.complex.now.plant)
 
 pub returns-in-Gone-clause-inks : goal.returns-in-Gone-clause-inks
 returns-in-Gone-clause-inks g c =
@@ -53,3 +53,6 @@ returns-in-Lost-clause-inks g c =
 
 pub returns-in-Lines-clause-inks : goal.returns-in-Lines-clause-inks
 returns-in-Lines-clause-inks g c = rw c.in-Lines.is c.print_lines.ensures.inks
+
+pub returns-in-Lines-clause-lines : goal.returns-in-Lines-clause-lines
+returns-in-Lines-clause-lines g c = if_wrong c.print_lines.result (λ n. rw c.in-Lines.is refl)

@@ -3,7 +3,7 @@ use Rattle.spool_disk.specs.declared.plant.Act.TheVariants.{Done, Failed, Halted
 use Rattle.spool_volumes.specs.Volumes.{volume_of}
 use Rattle.spool_disk.specs.declared.plant.Part.TheVariants.{Disk as DiskPart}
 use Rattle.mas_types.specs.declared.ids.Dev.TheVariants.{Spool}
-use Rattle.member_node.proofs.SpareLemmas.{spares_done, spares_failed, spares_halted}
+use Rattle.member_node.proofs.SpareLemmas.{sparing_done, sparing_failed, sparing_halted}
 use Rattle.member_decks.proofs.PageLemmas.{act_on}
 use Rattle.member_work.proofs.ReadLemmas.{failed_read, page_alive, page_read, quiet_group}
 use Rattle.member_work.proofs.reading.read_page.Goals as goal
@@ -73,16 +73,17 @@ pub returns-in-Done-clause-cause : goal.returns-in-Done-clause-cause
 returns-in-Done-clause-cause g c =
     let P = g.P.Plant in
     let x = c.args.complex.now in
-    spares_done c.args.by.0 (DiskPart (Spool (volume_of x.base.config.groups c.args.group))) (P.view x.plant) (P.view c.spool_read.new.self.plant) c.in-Done.ensures.acts
+    sparing_done c.args.by.0 (DiskPart (Spool (volume_of x.base.config.groups c.args.group))) (P.view x.plant) (P.view c.spool_read.new.self.plant) c.in-Done.ensures.acts
 
 pub returns-in-Failed-clause-cause : goal.returns-in-Failed-clause-cause
 returns-in-Failed-clause-cause g c =
     let P = g.P.Plant in
     let x = c.args.complex.now in
-    spares_failed c.args.by.0 (DiskPart (Spool (volume_of x.base.config.groups c.args.group))) (P.view x.plant) (P.view c.spool_read.new.self.plant) c.in-Failed.ensures.acts
+    rw c.volume_of.ensures
+    (sparing_failed c.args.by.0 (volume_of x.base.config.groups c.args.group) (P.view x.plant) (P.view c.spool_read.new.self.plant) c.in-Failed.ensures.acts)
 
 pub returns-in-Halted-clause-cause : goal.returns-in-Halted-clause-cause
 returns-in-Halted-clause-cause g c =
     let P = g.P.Plant in
     let x = c.args.complex.now in
-    (spares_halted c.args.by.0 (DiskPart (Spool (volume_of x.base.config.groups c.args.group))) (P.view x.plant) (P.view c.spool_read.new.self.plant) c.in-Halted.ensures.acts, c.in-Halted.ensures.acts.halted refl)
+    (sparing_halted c.args.by.0 (DiskPart (Spool (volume_of x.base.config.groups c.args.group))) (P.view x.plant) (P.view c.spool_read.new.self.plant) c.in-Halted.ensures.acts, c.in-Halted.ensures.acts.halted refl)

@@ -25,10 +25,12 @@ loop-group-preserved g c =
     let k = c.loop-group.group-index in
     let group = get_or groups k none in
     let adds = rw (c.in_default.is, i.base) at c.in_ok-volume.ensures.added in
+    let cause = rw c.in_default.is at c.in_ok-volume.ensures.cause in
     record {
       pair = e.pair ∙ i.pair;
       base = e.base ∙ i.base;
       since = e.since ∙ i.since;
+      renewals = e.renewals ∙ i.renewals;
       book = e.book ∙ i.book;
       journal = e.journal ∙ i.journal;
       current = e.current ∙ i.current;
@@ -39,7 +41,7 @@ loop-group-preserved g c =
       second = e.second ∙ i.second;
       level = e.level ∙ i.level;
       have = rw (take_more groups k none c.loop-group-test.true)
-          (read_more P.tells c.args.by.0 x.base.config (P.view x.plant) (P.view y.plant) (P.view z.plant) (take k groups) group c.loop-group.lines c.add_group.new.lines c.loop-group.gone c.add_group.new.gone i.have e.acts c.in_ok-volume.ensures.cause e.reads adds);
+          (read_more P.tells c.args.by.0 x.base.config (P.view x.plant) (P.view y.plant) (P.view z.plant) (take k groups) group c.loop-group.lines c.add_group.new.lines c.loop-group.gone c.add_group.new.gone i.have e.acts cause e.reads adds);
     }
 
 pub returns-clause-read : goal.returns-clause-read

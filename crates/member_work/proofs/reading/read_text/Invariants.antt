@@ -12,6 +12,7 @@ invariant-loop-group g l =
       pair : y.pair ≡ x.pair;
       base : y.base ≡ x.base;
       since : y.since ≡ x.since;
+      renewals : y.renewals ≡ x.renewals;
       book : y.book ≡ x.book;
       journal : y.journal ≡ x.journal;
       current : y.current ≡ x.current;

@@ -16,9 +16,9 @@ use Rattle.mas_complex.specs.Texts.{spools_at}
 use Rattle.spool_text.specs.Texts.{packed}
 use Rattle.member_decks.specs.Spooling.{Rise, StandBelow}
 use Rattle.member_decks.proofs.OpenLemmas.{on_ok}
-use Rattle.member_decks.proofs.PageLemmas.{acts_none, acts_on, others_none, others_on, others_wider, still_roomy}
+use Rattle.member_decks.proofs.PageLemmas.{acts_none, acts_on, still_roomy}
 use Rattle.member_work.specs.Spooled.{AreWritten}
-use Rattle.member_node.proofs.SpareLemmas.{spares_none}
+use Rattle.member_node.proofs.SpareLemmas.{sparing_none}
 use Rattle.member_work.proofs.SpoolLemmas.{behind_long, cause_wider, first_fits, front_long, lies_behind, lies_front, rise_behind, rise_front, still_stand, written_none}
 use Rattle.member_work.proofs.spooling.+write_outputs.Goals as goal
 
@@ -26,6 +26,9 @@ use Rattle.member_work.proofs.spooling.+write_outputs.Goals as goal
 
 pub returns-in_default-clause-acts : goal.returns-in_default-clause-acts
 returns-in_default-clause-acts g t c = acts_none g.P.Plant.tells c.args.by.0 (g.P.Plant.view c.args.complex.now.plant)
+
+pub returns-in_default-clause-cause : goal.returns-in_default-clause-cause
+returns-in_default-clause-cause g t c = sparing_none c.args.by.0 (g.P.Plant.view c.args.complex.now.plant)
 
 pub returns-in_default-clause-stand : goal.returns-in_default-clause-stand
 returns-in_default-clause-stand g t c told roomy =
@@ -170,7 +173,7 @@ returns-in_err-write_pages-clause-cause g t c =
     let e = c.write_pages.ensures in
     let p = err_from_is_err_and c.from_residual.result c.from_residual.ensures.1 in
     let cause = rw front at c.in_err-write_pages.ensures.cause in
-    rw (p.1, p.2) (cause_wider {T = Unit {0}} c.args.by.0 x.base.config.groups (take k gs) gs (P.view x.plant) (P.view x.plant) (P.view y.plant) (Err c.in_err-write_pages.field-0.0) (λ v there. lies_front x.base.config.groups v k gs there) (acts_none P.tells c.args.by.0 (P.view x.plant)).goes (spares_none c.args.by.0 (P.view x.plant)) cause)
+    rw (p.1, p.2) (cause_wider {T = Unit {0}} c.args.by.0 x.base.config.groups (take k gs) gs (P.view x.plant) (P.view x.plant) (P.view y.plant) (Err c.in_err-write_pages.field-0.0) (λ v there. lies_front x.base.config.groups v k gs there) (acts_none P.tells c.args.by.0 (P.view x.plant)).goes (sparing_none c.args.by.0 (P.view x.plant)) cause)
 
 pub returns-in_err-write_pages-clause-spares : goal.returns-in_err-write_pages-clause-spares
 returns-in_err-write_pages-clause-spares g t c told h none =
@@ -339,32 +342,3 @@ returns-clause-spares g t c told h none =
     let first = e.spares told h (subst (All (λ (j : GroupNo). h.0 ≢ j.0)) (sym front) (All-take (λ (j : GroupNo). h.0 ≢ j.0) k gs none)) in
     let others = rw base at (w.spares told h (subst (All (λ (j : GroupNo). h.0 ≢ j.0)) (sym behind) (All-drop (λ (j : GroupNo). h.0 ≢ j.0) k gs none))) in
     others ∙ first
-
--- VOLUMES WITHOUT A GROUP
-
-pub returns-in_default-clause-others : goal.returns-in_default-clause-others
-returns-in_default-clause-others g t c = others_none c.args.complex.now.base.config.groups c.args.groups.now (g.P.Plant.view c.args.complex.now.plant)
-
-pub returns-in_err-write_pages-clause-others : goal.returns-in_err-write_pages-clause-others
-returns-in_err-write_pages-clause-others g t c =
-    let P = g.P.Plant in
-    let x = c.args.complex.now in
-    let gs : List GroupNo = c.args.groups.now in
-    let k : ℕ = c.groups_needed-count.result in
-    let front : c.first_groups.result.now ≡ take k gs = c.first_groups.ensures in
-    others_wider x.base.config.groups (take k gs) gs (P.view x.plant) (P.view c.write_pages.new.complex.plant) (λ v there. lies_front x.base.config.groups v k gs there) (rw front at c.write_pages.ensures.others)
-
-pub returns-clause-others : goal.returns-clause-others
-returns-clause-others g t c =
-    let P = g.P.Plant in
-    let x = c.args.complex.now in
-    let y = c.write_pages.new.complex in
-    let z = c.write_outputs.new.complex in
-    let gs : List GroupNo = c.args.groups.now in
-    let k : ℕ = c.groups_needed-count.result in
-    let front : c.first_groups.result.now ≡ take k gs = c.first_groups.ensures in
-    let behind : c.other_groups.result.now ≡ drop k gs = c.other_groups.ensures in
-    let base : y.base ≡ x.base = ap (λ p. p.base) c.write_pages.ensures.frame in
-    others_on x.base.config.groups gs (P.view x.plant) (P.view y.plant) (P.view z.plant)
-    (others_wider x.base.config.groups (take k gs) gs (P.view x.plant) (P.view y.plant) (λ v there. lies_front x.base.config.groups v k gs there) (rw front at c.write_pages.ensures.others))
-    (others_wider x.base.config.groups (drop k gs) gs (P.view y.plant) (P.view z.plant) (λ v there. lies_behind x.base.config.groups v k gs there) (rw (base, behind) at c.write_outputs.ensures.others))

@@ -1,8 +1,9 @@
 use Rattle.std.proofs.Common.{◌≡◌, Err, ap, false}
 use Rattle.std.proofs.lemmas.Result.{err_from_is_err_and}
 use Rattle.mas_complex.specs.Texts.{spools_at}
-use Rattle.member_node.proofs.SpareLemmas.{spares_then}
-use Rattle.member_decks.proofs.PageLemmas.{acts_on, cause_after, others_on}
+use Rattle.member_node.specs.Calls.{none_lost}
+use Rattle.member_node.proofs.SpareLemmas.{sparing_then}
+use Rattle.member_decks.proofs.PageLemmas.{acts_on, cause_after}
 use Rattle.member_work.proofs.SpoolLemmas.{all_spooled}
 use Rattle.member_work.proofs.spooling.write_and_sync.Goals as goal
 
@@ -39,18 +40,4 @@ returns-clause-there g c t roomy =
 pub returns-clause-cause : goal.returns-clause-cause
 returns-clause-cause g c =
     let P = g.P.Plant in
-    spares_then c.args.by.0 false (P.view c.args.complex.now.plant) (P.view c.write_outputs.new.complex.plant) (P.view c.sync_volumes.new.complex.plant) c.in_ok-write_outputs.ensures.cause c.in_ok-sync_volumes.ensures.cause
-
-pub returns-clause-others : goal.returns-clause-others
-returns-clause-others g c =
-    let P = g.P.Plant in
-    let x = c.args.complex.now in
-    let base : c.write_outputs.new.complex.base ≡ x.base = ap (λ p. p.base) c.write_outputs.ensures.frame in
-    others_on x.base.config.groups c.args.groups.now (P.view x.plant) (P.view c.write_outputs.new.complex.plant) (P.view c.sync_volumes.new.complex.plant) c.write_outputs.ensures.others (rw base at c.sync_volumes.ensures.others)
-
-pub returns-in_err-sync_volumes-clause-others : goal.returns-in_err-sync_volumes-clause-others
-returns-in_err-sync_volumes-clause-others g c =
-    let P = g.P.Plant in
-    let x = c.args.complex.now in
-    let base : c.write_outputs.new.complex.base ≡ x.base = ap (λ p. p.base) c.write_outputs.ensures.frame in
-    others_on x.base.config.groups c.args.groups.now (P.view x.plant) (P.view c.write_outputs.new.complex.plant) (P.view c.sync_volumes.new.complex.plant) c.write_outputs.ensures.others (rw base at c.sync_volumes.ensures.others)
+    sparing_then c.args.by.0 false none_lost (P.view c.args.complex.now.plant) (P.view c.write_outputs.new.complex.plant) (P.view c.sync_volumes.new.complex.plant) c.in_ok-write_outputs.ensures.cause c.in_ok-sync_volumes.ensures.cause

@@ -1,4 +1,4 @@
-use Rattle.std.proofs.Common.{◌≤◌, ℕ, true, refl, subst, sym, rules}
+use Rattle.std.proofs.Common.{◌≤◌, ℕ, false, true, refl, subst, sym, rules}
 use Rattle.duplex_pair.specs.Both.{PairActed}
 use Rattle.member_node.specs.Calls.{Apart}
 use Rattle.member_node.proofs.CourseLemmas.{course_of}
@@ -29,3 +29,17 @@ returns-in-Err-Halted-clause-settle g c =
     } where
       apart_here : g.P.Plant.tells → Apart (g.P.Plant.view c.args.complex.now.plant) (g.P.Plant.view c.settle.new.self.plant)
       apart_here told = search rules
+
+pub returns-in-Ok-clause-settle : goal.returns-in-Ok-clause-settle
+returns-in-Ok-clause-settle g c =
+    let P = g.P.Plant in
+    let x = c.args.complex.now in
+    let z = c.settle.new.self in
+    let acted : PairActed c.args.self.now.id.0 x.pair.first.alive z.pair.first.alive x.pair.second.alive z.pair.second.alive false (P.view x.plant) (P.view z.plant) = c.in-Ok.ensures.acted in
+    record {
+      course = course_of c.args.self.now.id.0 x.pair.first.alive z.pair.first.alive x.pair.second.alive z.pair.second.alive false (P.view x.plant) (P.view z.plant) acted;
+      cause = c.in-Ok.ensures.ok;
+      spares = spares_pair c.args.self.now.id.0 x.pair.first.alive z.pair.first.alive x.pair.second.alive z.pair.second.alive false (P.view x.plant) (P.view z.plant) acted;
+      loses = acted.loses;
+      apart = λ told. let a = c.in-Ok.ensures.apart told in record { others = c.in-Ok.ensures.throughout told; console = a.console; papers = c.in-Ok.ensures.papers told };
+    }

@@ -11,7 +11,7 @@ use Rattle.member_node.specs.declared.member.Member.{Member}
 use Rattle.member_node.specs.Drawn.{AreDrawn}
 use Rattle.member_node.specs.Spares.{Spares}
 use Rattle.member_node.specs.Reads.{HasRead, AreLow, MayGoOn, copies_alive}
-use Rattle.member_node.proofs.ReadLemmas.{few_orders, fewer_then, in_error, in_lost, in_memory, low_goes, low_of, read_then, same_pages, tell_up_to}
+use Rattle.member_node.proofs.ReadLemmas.{few_orders, fewer_then, in_error, in_first, in_lost, in_memory, low_goes, low_of, read_then, same_pages, tell_up_to}
 use Rattle.member_node.proofs.SpareLemmas.{spares_for, spares_then}
 use Rattle.member_node.proofs.member.Member.read_in.Goals as goal
 
@@ -59,6 +59,7 @@ loop-complex-preserved g c =
       base = e.base ∙ l.base ∙ i.base;
       printed = e.printed ∙ l.printed ∙ i.printed;
       since = e.since ∙ l.since ∙ i.since;
+      renewals = e.renewals ∙ l.renewals ∙ i.renewals;
       book = e.book ∙ l.book ∙ i.book;
       journal = e.journal ∙ l.journal ∙ i.journal;
       current = e.current ∙ l.current ∙ i.current;
@@ -92,6 +93,14 @@ returns-in_err-is_caught_up-clause-read g c =
     let i = c.loop-complex.invariant in
     let p = err_from_is_err_and c.from_residual-in_err-is_caught_up.result c.from_residual-in_err-is_caught_up.ensures.1 in
     rw (p.1, p.2) (in_memory (Unit {0}) P.tells c.args.self.now.id.0 x.pair.first.alive z.pair.first.alive x.pair.second.alive z.pair.second.alive (P.view x.plant) (P.view z.plant) c.in_err-is_caught_up.field-0.0 c.in_err-is_caught_up.ensures.only i.acts i.spares i.some)
+
+pub returns-in_err-read_all-clause-read : goal.returns-in_err-read_all-clause-read
+returns-in_err-read_all-clause-read g c =
+    let P = g.P.Plant in
+    let x = c.args.complex.now in
+    let y = c.read_all.new.complex in
+    let p = err_from_is_err_and c.from_residual.result c.from_residual.ensures.1 in
+    rw (p.1, p.2) (in_first P.tells c.args.self.now.id.0 x.pair.first.alive y.pair.first.alive x.pair.second.alive y.pair.second.alive (P.view x.plant) (P.view y.plant) c.in_err-read_all.field-0.0 c.in_err-read_all.ensures.read)
 
 pub returns-in_err-lose_read-clause-read : goal.returns-in_err-lose_read-clause-read
 returns-in_err-lose_read-clause-read g c =

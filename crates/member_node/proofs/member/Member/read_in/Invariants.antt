@@ -25,6 +25,7 @@ invariant-loop-complex g l =
       base : z.base ≡ x.base;
       printed : z.printed ≡ x.printed;
       since : z.since ≡ x.since;
+      renewals : z.renewals ≡ x.renewals;
       book : z.book ≡ x.book;
       journal : z.journal ≡ x.journal;
       current : z.current ≡ x.current;

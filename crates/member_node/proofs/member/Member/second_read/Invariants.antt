@@ -22,6 +22,7 @@ invariant-loop-by g l =
       base : z.base ≡ x.base;
       printed : z.printed ≡ x.printed;
       since : z.since ≡ x.since;
+      renewals : z.renewals ≡ x.renewals;
       book : z.book ≡ x.book;
       journal : z.journal ≡ x.journal;
       current : z.current ≡ x.current;
