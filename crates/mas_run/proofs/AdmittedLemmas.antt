@@ -16,13 +16,14 @@ use Rattle.lock_cycle.specs.declared.answers.LockNo.{LockNo}
 use Rattle.lock_cycle.specs.Books.{Book, after_try, granted, is_holder, is_stopped, ticked, try_refusal}
 use Rattle.script_lang.specs.declared.types.Ask.{Ask}
 use Rattle.script_lang.specs.declared.types.Ask.TheVariants as ask
-use Rattle.step_turns.specs.declared.states.Task.TheVariants.{Deck, Give, Work}
-use Rattle.run_turns.specs.Admissions.{Admission, Frees, Locks, Plays, Refused, Resets, TakesOver, admitted, asked, command_admitted, deck_admitted, if_granted, no_member, resets, tries}
+use Rattle.step_turns.specs.declared.states.Task.TheVariants.{Deck, Give, Line, Work}
+use Rattle.run_turns.specs.Admissions.{Admission, Frees, Locks, Plays, Refused, Replaces, Resets, TakesOver, admitted, asked, command_admitted, deck_admitted, if_granted, no_member, resets, tries}
 
 -- by a try
 abbrev pub HasTried : Admission → Type 0
 HasTried (Plays task) = Unit {0}
 HasTried (Resets of) = Unit {0}
+HasTried (Replaces dev) = Unit {0}
 HasTried Locks = Unit {0}
 HasTried _ = ⊥
 
@@ -78,8 +79,8 @@ module _ (config : Config) (b : Book) (by : MemberId) where
   asked_got (ask.Work n) a is has = tried_got (Plays (Work n)) a is has
   asked_got ask.Lock a is has = tried_got Locks a is has
   asked_got ask.Free a is has = free_got (is_holder b by) a is has
-  asked_got (ask.Line n) a is has = absurd (subst HasTried (sym is) has)
-  asked_got (ask.Replace dev) a is has = absurd (subst HasTried (sym is) has)
+  asked_got (ask.Line n) a is has = tried_got (Plays (Line n)) a is has
+  asked_got (ask.Replace dev) a is has = tried_got (Replaces dev) a is has
   asked_got ask.Stop a is has = absurd (subst HasTried (sym is) has)
   asked_got (ask.StopIn fuse n) a is has = absurd (subst HasTried (sym is) has)
   asked_got (ask.Lose dev) a is has = absurd (subst HasTried (sym is) has)

@@ -3,6 +3,7 @@ use Rattle.std.proofs.Common.{◌≡◌, ◌⊎◌, ⊎_elim, ℕ, zero, suc, �
 use Rattle.std.proofs.lemmas.Bool.{eqb-true}
 use Rattle.std.proofs.lemmas.List.{append-nil, length-set}
 use Rattle.std.proofs.lemmas.List.Elements.{All-append, All-weaker}
+use Rattle.mas_types.specs.declared.ids.Dev.{Dev}
 use Rattle.mas_types.specs.declared.ids.MemberId.{MemberId}
 use Rattle.mas_types.specs.declared.journals.Batch.{Batch}
 use Rattle.mas_types.specs.declared.queues.Queue.{Queue}
@@ -23,7 +24,7 @@ use Rattle.member_hand.specs.Quiet.{IsAside, IsQuiet}
 use Rattle.mas_run.specs.Lines.{Proceeds}
 use Rattle.mas_run.specs.Shows.{AreMembers, IsBetween, IsMemberAt, IsOfEarlier, StandsIn, is_left_held}
 use Rattle.mas_run.proofs.BookLemmas.{Since}
-use Rattle.mas_run.proofs.SpokenLemmas.{roomy_on}
+use Rattle.mas_run.proofs.SpokenLemmas.{large_on, roomy_on}
 
 -- batches of earlier lines than one are of earlier lines than the next
 pub earlier_then : (at : ℕ) (bs : List Batch) → All (IsOfEarlier at) bs → All (IsOfEarlier (at + 1)) bs
@@ -115,10 +116,11 @@ module _ {P C : Type 0} (plants : PlantGhosts P) (copies : CopyGhosts C) (x y : 
     earlier_after at own =
         subst (λ (bs : List Batch). All (IsOfEarlier at) bs) (sym (ap (λ (c : Option Batch). y.batches ++ in_flight c) aside.quiet.none ∙ append-nil y.batches)) own
 
-    pub between_after : (ms : List Member) (at : ℕ) → 1 ≤ by.0 → by.0 ≤ x.base.config.members → at ≤ steps_most → IsBetween plants copies x ms at → All (IsOfEarlier (at + 1)) y.batches
+    pub between_after : (ms : List Member) (at : ℕ) → 1 ≤ by.0 → by.0 ≤ x.base.config.members → at ≤ steps_most → IsBetween plants copies x ms at
+        → ((d : Dev) → (plants.view y.plant).size d ≡ (plants.view x.plant).size d) → All (IsOfEarlier (at + 1)) y.batches
         → ((k : MemberId) (later : ℕ) → at < later → later ≤ steps_most → HasUntold plants copies y k later)
         → IsBetween plants copies y (set ms (by.0 - 1) n) (at + 1)
-    between_after ms at some within few is own untold = record {
+    between_after ms at some within few is size own untold = record {
       stands = stands_none y.current aside.quiet.none;
       settled = aside.quiet.kept;
       quiet = λ free. quiet_after;
@@ -131,6 +133,7 @@ module _ {P C : Type 0} (plants : PlantGhosts P) (copies : CopyGhosts C) (x y : 
       sound = subst IsSound (sym base) is.sound;
       begun = aside.quiet.begun;
       roomy = aside.quiet.roomy;
+      large = large_on plants copies x y base size is.large;
       untold = λ k later le small. untold k later (omega (arith, le)) small;
       earlier = earlier_after (at + 1) own;
       few = omega (arith, few);
@@ -163,6 +166,7 @@ module _ {P C : Type 0} (plants : PlantGhosts P) (copies : CopyGhosts C) (x y : 
       sound = subst IsSound (sym base) is.sound;
       begun = let le = is.begun in let on = goes.later in omega (arith, le, on, began);
       roomy = λ t. subst (λ (Q : Queue). AreRoomy (plants.view y.plant) Q.config) (sym base) (roomy_on (plants.view x.plant) (plants.view y.plant) x.base.config goes (is.roomy t));
+      large = large_on plants copies x y base goes.size is.large;
       untold = λ k later le small. untold k later (omega (arith, le)) small;
       earlier = own;
       few = omega (arith, few);

@@ -39,13 +39,13 @@ use Rattle.run_turns.specs.Sights.{Cause, Cut, Ends, Stops}
 use Rattle.run_turns.specs.Scenes.{Scene, scene_of}
 use Rattle.run_turns.specs.Steps.{Outcome, is_up, silent}
 use Rattle.warm_start.specs.Starting.{Mark, IsFound, IsSeen, IsUnfit, NoneOrFailed}
-use Rattle.warm_start.specs.Usable.{HaveSize, IsUsable}
+use Rattle.start_choice.specs.Usable.{HaveSize, IsUsable}
 use Rattle.member_node.specs.Calls.{WasLost}
 use Rattle.member_node.specs.declared.member.NodeNo.{NodeNo}
 use Rattle.mas_run.specs.Lines.{CutsAs, cut_in, is_takeover, loses_then, same_device}
 use Rattle.mas_run.specs.LinesAt.{admitted_at, played_at}
 use Rattle.mas_run.specs.Passed.{ArePassed, Here, TakeNone, There, here_after, line_of, loses_after}
-use Rattle.mas_run.specs.Runs.{has_begun, begins_at, HavePassed, IsRun, LinesBegun, LinesEnded, starts, stops}
+use Rattle.mas_run.specs.Runs.{has_begun, as_found, begins_at, HavePassed, IsRun, LinesBegun, LinesEnded, starts, stops}
 use Rattle.mas_run.specs.Statuses.{AreLeftAlone, CannotStop, IsLeftAlone, TakesNone, resets_in}
 use Rattle.mas_run.specs.Unstarted.{IsNotStarted}
 use Rattle.mas_run.proofs.OthersLemmas.{StopsBy, StopsIn, line_stops}
@@ -89,8 +89,8 @@ module _ (config : Config) (b : Book) (by : MemberId) where
   asked_takes ask.Lock up = granted_takes (try_refusal b by false) _ refl
   asked_takes ask.Free up = if_takes (is_holder b by) _ _ refl (λ e. refl)
   asked_takes (ask.Lose dev) up = refl
-  asked_takes (ask.Line n) up = refl
-  asked_takes (ask.Replace dev) up = refl
+  asked_takes (ask.Line n) up = granted_takes (try_refusal b by false) _ refl
+  asked_takes (ask.Replace dev) up = granted_takes (try_refusal b by false) _ refl
   asked_takes ask.Stop up = refl
   asked_takes (ask.StopIn fuse n) up = refl
 
@@ -301,14 +301,14 @@ module _ (tells : Type 0) (told : tells) (script : Script) (answer : Status) (ba
   warm_alone r (inl (one, (inl two))) lost1 lost2 = ⊎_elim (λ e. unrisen false r Ckpt1 one e lost1) (λ e. unrisen false r Ckpt2 two e lost2) r.queue.one
   warm_alone r (inl (one, (inr gone))) lost1 lost2 =
       let q = r.queue in
-      let read = found_first old new (begins_at since r.first) (bytes_of q.pages) gone (q.found told) in
+      let read = found_first old (as_found r.lost new) (begins_at since r.first) (bytes_of q.pages) gone (q.found told) in
       ⊎_elim (λ e. unrisen false r Ckpt1 one e lost1)
-      (λ u. never_unfit Ckpt1 old new (begins_at since r.first) (form_room (disk_now old Ckpt1).bytes) q.pages q.sized (q.tables, q.are) one.failed read u) (q.kept1 told)
+      (λ u. never_unfit Ckpt1 old (as_found r.lost new) (begins_at since r.first) (form_room (disk_now old Ckpt1).bytes) q.pages q.sized (q.tables, q.are) one.failed read u) (q.kept1 told)
   warm_alone r (inr (two, gone)) lost1 lost2 =
       let q = r.queue in
-      let read = found_second old new (begins_at since r.first) (bytes_of q.pages) gone (q.found told) in
+      let read = found_second old (as_found r.lost new) (begins_at since r.first) (bytes_of q.pages) gone (q.found told) in
       ⊎_elim (λ e. unrisen false r Ckpt2 two e lost2)
-      (λ u. never_unfit Ckpt2 old new (begins_at since r.first) (form_room (disk_now old Ckpt2).bytes) q.pages q.sized (q.tables, q.are) two.failed read u) (q.kept2 told)
+      (λ u. never_unfit Ckpt2 old (as_found r.lost new) (begins_at since r.first) (form_room (disk_now old Ckpt2).bytes) q.pages q.sized (q.tables, q.are) two.failed read u) (q.kept2 told)
 
   -- what is said of every run, whether it has begun or not
   pub not_both : (cold : Bool) → AreLeftAlone script.steps old new → (cold ≡ false → has_begun base ≡ false → IsNotStarted tells status.BothLost old new) → (cold ≡ true → has_begun base ≡ false → (d : Dev) → new.loses d ≡ old.loses d)

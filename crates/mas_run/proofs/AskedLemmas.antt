@@ -1,5 +1,5 @@
 -- A line of a member as a run plays it: from what it leaves, and what the operator says of it, to what the run says.
-use Rattle.std.proofs.Common.{◌≡◌, ◌≢◌, ℕ, true, List, ◌++◌, Option, Ok, Err, sym, ◌∙◌, ap, subst, arith}
+use Rattle.std.proofs.Common.{◌≡◌, ◌≢◌, ℕ, ◌≤◌, true, List, ◌++◌, Option, Ok, Err, sym, ◌∙◌, ap, subst, arith}
 use Rattle.mas_types.specs.declared.journals.Batch.{Batch}
 use Rattle.mas_types.specs.declared.journals.Fate.{Fate}
 use Rattle.lock_cycle.specs.Books.{IsMember}
@@ -8,22 +8,27 @@ use Rattle.spool_disk.specs.declared.plant.Plant.{Ghosts as PlantGhosts}
 use Rattle.spool_disk.specs.View.{View}
 use Rattle.ckpt_copy.specs.declared.copying.Copying.{Ghosts as CopyGhosts}
 use Rattle.mas_complex.specs.Paper.{counts_of}
+use Rattle.mas_complex.specs.declared.renewals.Renewals.{Renewals}
 use Rattle.mas_complex.specs.Parts.{Parts}
 use Rattle.member_node.specs.declared.member.NodeNo.{NodeNo}
 use Rattle.member_node.specs.declared.member.NodeNo.TheVariants as no_node
 use Rattle.member_sittings.specs.Sat.{journal_of}
 use Rattle.member_sittings.specs.Whole.{queue_of}
+use Rattle.run_turns.specs.Admissions.{Admission, admitted}
 use Rattle.run_turns.specs.Givens.{Given}
+use Rattle.run_turns.specs.Sights.{Cut, Renewed}
 use Rattle.mas_run.specs.LinesAt.{LineAt, admitted_at, played_at}
 use Rattle.run_turns.specs.Pieces.{fate_found}
 use Rattle.run_turns.specs.Scenes.{Scene}
 use Rattle.mas_run.specs.Histories.{settle}
 use Rattle.mas_run.specs.LinesLeft.{HasSaidStop, LeftAt, left_at}
 use Rattle.mas_run.specs.LinesPlayed.{HasPlayedLine, is_of_member}
+use Rattle.mas_run.specs.Renewing.{RenewsAs}
 use Rattle.mas_run.specs.Shows.{IsFlight, IsShown}
 use Rattle.mas_run.proofs.BookLemmas.{Since}
 use Rattle.mas_run.proofs.LeftLemmas.{found_left, passed_uncut}
 use Rattle.mas_run.proofs.NextLemmas.{Stands, left_since, shown_next, stopped_count}
+use Rattle.mas_run.proofs.RenewedLemmas.{renews_later}
 use Rattle.mas_run.proofs.StopLemmas.{passed_error, passed_stopped}
 use Rattle.mas_run.proofs.UnsaidLemmas.{PassedSo, passed_unsaid}
 
@@ -55,6 +60,7 @@ module _ {P C : Type 0} (plants : PlantGhosts P) (copies : CopyGhosts C) (told :
           at = left.at;
           moment = left.moment;
           batches = journal_as g left.at left.own (journal_of y) left.journal;
+          renews = at_left.renews;
         };
         shows = shown_next plants copies told (line g) x y member left base was now shown left.book since (λ t up. left.count t (since.up step.by up));
       }
@@ -73,6 +79,7 @@ module _ {P C : Type 0} (plants : PlantGhosts P) (copies : CopyGhosts C) (told :
           at = left.at;
           moment = left.moment;
           batches = journal_as g left.at left.own (journal_of y) left.journal;
+          renews = at_left.renews;
         };
         shows = tt;
       }
@@ -87,6 +94,15 @@ module _ {P C : Type 0} (plants : PlantGhosts P) (copies : CopyGhosts C) (told :
       flight = subst (λ (c : Option Batch). IsFlight T.book T.flight c) (sym (ap (λ (w : Parts P C). w.current) frame)) is.flight;
       counts = λ t m up. ap (λ (w : Parts P C). counts_of w.printed m) frame ∙ is.counts t m up;
     }
+
+    -- the copies that it replaced
+    abbrev a : Admission
+    a = admitted S.queue.config S.book step.by step.what
+
+    renews_said : (cut : Option Cut) (found : Renewed) → (v y).now ≤ (v z).now → RenewsAs a cut found x.renewals y.renewals (v x) (v y) → RenewsAs a cut found x.renewals z.renewals (v x) (v z)
+    renews_said cut found later r =
+        subst (λ (rs : Renewals). RenewsAs a cut found x.renewals rs (v x) (v z)) (sym (ap (λ (w : Parts P C). w.renewals) frame))
+        (renews_later a cut found x.renewals y.renewals (v x) (v y) (v z) later r)
 
     journal_said : journal_of z ≡ journal_of y
     journal_said = ap journal_of frame
@@ -104,6 +120,7 @@ module _ {P C : Type 0} (plants : PlantGhosts P) (copies : CopyGhosts C) (told :
             at = left.at;
             moment = (left.moment.0, let up = said.acts.goes.later in let before = left.moment.1 in omega (arith, up, before));
             batches = journal_said ∙ journal_as g left.at left.own (journal_of y) left.journal;
+            renews = renews_said g.sight.cut g.sight.renewed said.acts.goes.later at_left.renews;
           };
           shows = shown_said (played_at (line g)).next
               (shown_next plants copies told (line g) x y member left base was now shown left.book (left_since (line g) inside) (stopped_count plants copies told (line g) x y left inside));
@@ -124,6 +141,7 @@ module _ {P C : Type 0} (plants : PlantGhosts P) (copies : CopyGhosts C) (told :
             moment = (left.moment.0, let up = said.acts.goes.later in let before = left.moment.1 in omega (arith, up, before));
             batches = journal_said ∙ journal_as so.0 left.at left.own (journal_of y)
                 (left.journal ∙ ap (λ (f : Fate). settle f left.at (journal_of x) ++ left.own) (sym so.1));
+            renews = renews_said so.0.sight.cut so.0.sight.renewed said.acts.goes.later (so.3 x.renewals y.renewals (v y) at_left.renews);
           };
           shows = tt;
         }

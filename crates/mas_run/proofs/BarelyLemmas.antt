@@ -12,14 +12,18 @@ use Rattle.member_node.specs.declared.member.NodeNo.TheVariants as no_node
 use Rattle.script_lang.specs.declared.types.Ask.{Ask}
 use Rattle.run_turns.specs.Admissions.{Admission, admitted}
 use Rattle.run_turns.specs.Scenes.{Scene}
-use Rattle.run_turns.specs.Sights.{Ends}
+use Rattle.run_turns.specs.Sights.{Ends, Replaced}
 use Rattle.mas_run.specs.Copies.{KeepCopies}
 use Rattle.mas_run.specs.Lines.{is_takeover}
 use Rattle.mas_run.specs.LinesLeft.{LeftAt}
 use Rattle.mas_run.specs.LinesPlayed.{line_by}
 use Rattle.mas_run.proofs.BeginLemmas.{bare_pieces, bare_shaped, barely_none, begun_left, queue_pieces, queue_right}
 use Rattle.mas_run.proofs.CopiesLemmas.{copies_none}
+use Rattle.mas_run.proofs.RenewedLemmas.{renews_unbegun}
 use Rattle.mas_run.proofs.SceneLemmas.{LineDone, left_so}
+use Rattle.mas_run.proofs.StayLemmas.{if_stays}
+use Rattle.member_node.specs.Calls.{none_lost}
+use Rattle.member_node.proofs.CourseLemmas.{stay_none}
 
 abbrev short : Result (Unit {0}) NodeNo
 short = Err no_node.NoMemory
@@ -34,15 +38,15 @@ module _ {P C : Type 0} {plants : PlantGhosts P} {steadies : SteadyGhosts C} {co
 
   bare_here : (S : Scene) (a : Admission) → admitted S.queue.config S.book by what ≡ a → LeftAt plants copies ⊥ S at (line_by by what) p p short
   bare_here S a adm =
-      left_so plants copies ⊥ S at by what a _ p p short adm
+      left_so plants copies ⊥ S at by what a _ p p short adm (renews_unbegun a Ends Replaced p.renewals (plants.view x.plant))
       (begun_left plants copies ⊥ (λ t. absurd t) S at (line_by by what) a (bare_pieces S by at a) p p no_node.NoMemory tt (barely_none plants by (is_takeover a) p)
-      (inr (bare_shaped S at (line_by by what) Ends a (plants.view x.plant) (plants.view x.plant))) (λ t. absurd t) tt)
+      (inr (bare_shaped S at (line_by by what) Ends a (plants.view x.plant) (plants.view x.plant))) (λ t. absurd t) tt (λ t. absurd t))
 
   told_here : plants.tells → (S : Scene) (a : Admission) → admitted S.queue.config S.book by what ≡ a → LeftAt plants copies (Unit {0}) S at (line_by by what) p p short
   told_here tells S a adm =
-      left_so plants copies (Unit {0}) S at by what a _ p p short adm
+      left_so plants copies (Unit {0}) S at by what a _ p p short adm (renews_unbegun a Ends Replaced p.renewals (plants.view x.plant))
       (begun_left plants copies (Unit {0}) (λ t. tells) S at (line_by by what) a (queue_pieces S at (line_by by what) Ends a) p p no_node.NoMemory tt (barely_none plants by (is_takeover a) p)
-      (inl tt) (λ t. queue_right S at (line_by by what) Ends a) tt)
+      (inl tt) (λ t. queue_right S at (line_by by what) Ends a) tt (λ t. if_stays a _ (stay_none none_lost (plants.view x.plant))))
 
   kept : KeepCopies plants p p short
   kept =
@@ -53,8 +57,6 @@ module _ {P C : Type 0} {plants : PlantGhosts P} {steadies : SteadyGhosts C} {co
         failed2 = none.failed2;
         there1 = none.there1;
         there2 = none.there2;
-        alive1 = none.alive1;
-        alive2 = none.alive2;
         grow = none.grow;
         left = none.left;
       }

@@ -15,20 +15,20 @@ use Rattle.mas_complex.specs.Paper.{SamePapers, counts_of}
 use Rattle.mas_complex.specs.Parts.{Parts}
 use Rattle.member_hand.specs.Cuts.{AreBatched, ArePart, AtCut, IsBroken, IsHaltBy, IsTight, cause_by}
 use Rattle.member_hand.specs.Found.{IsFoundAt, Wait}
-use Rattle.member_node.specs.Calls.{console_now}
+use Rattle.member_node.specs.Calls.{console_now, none_lost}
 use Rattle.member_node.specs.declared.member.NodeNo.{NodeNo}
 use Rattle.member_node.specs.Spares.{Spares, is_stop}
 use Rattle.member_sittings.specs.Sat.{journal_of}
 use Rattle.step_turns.specs.Examples.{calm}
-use Rattle.step_turns.specs.declared.states.Task.TheVariants.{Deck, Give, Work}
-use Rattle.run_turns.specs.Admissions.{Admission, Denied, Frees, Locks, Plays, Refused, Resets, TakesOver, Unplayed}
+use Rattle.step_turns.specs.declared.states.Task.TheVariants.{Deck, Give, Work, Line as Node}
+use Rattle.run_turns.specs.Admissions.{Admission, Denied, Frees, Locks, Plays, Refused, Replaces, Resets, TakesOver, Unplayed}
 use Rattle.run_turns.specs.Cuts.{Left, adds_first, left_by, none_left}
 use Rattle.run_turns.specs.Givens.{ArePiecesOf, queue_met}
 use Rattle.run_turns.specs.Pieces.{Piece, Play, fate_found, holder_of, piece_of, pieces_of}
 use Rattle.run_turns.specs.Scenes.{Batched, Scene}
 use Rattle.run_turns.specs.Sights.{Cause, Cut, Halt, Sight, Writing, clear}
 use Rattle.mas_run.specs.Histories.{settle}
-use Rattle.mas_run.specs.Lines.{IsThere, LosesAs, is_takeover, is_work, taking}
+use Rattle.mas_run.specs.Lines.{IsThere, LosesAs, is_takeover, is_work, taking, named_as}
 use Rattle.mas_run.specs.LinesAt.{LineAt, pieces_as, play_as}
 use Rattle.mas_run.specs.LinesLeft.{HasLeftAs, IfRuns, left_as}
 use Rattle.member_hand.specs.Shapes.{AreFewPieces, SaysIn}
@@ -43,6 +43,8 @@ use Rattle.mas_run.specs.Shapes.{IsShapedAs, reset_piece}
 use Rattle.mas_run.specs.Volumes.{AreVolumesKept}
 use Rattle.mas_run.proofs.LeftLemmas.{if_idle}
 use Rattle.mas_run.proofs.LinesLemmas.{settle_none}
+use Rattle.mas_run.proofs.PassedLemmas.{proceeds_of}
+use Rattle.spool_disk.specs.declared.plant.Part.TheVariants.{Disk}
 use Rattle.ckpt_copy.specs.Moments.{goes_none}
 use Rattle.member_node.proofs.CourseLemmas.{papers_none}
 use Rattle.member_node.proofs.SpareLemmas.{spares_none}
@@ -51,6 +53,7 @@ use Rattle.step_turns.specs.declared.states.Holder.{Holder}
 use Rattle.mas_run.proofs.VolumeLemmas.{kept_none}
 use Rattle.mas_types.specs.declared.commands.Reply.TheVariants as reply
 use Rattle.member_node.specs.declared.member.NodeNo.TheVariants as no_node
+use Rattle.mas_run.proofs.StayLemmas.{Stays, stays_any}
 
 -- WHERE IT WAS CUT
 
@@ -69,6 +72,7 @@ none_found (Refused sayer end) cause = refl
 none_found (Denied why) cause = refl
 none_found (Plays task) cause = refl
 none_found (Resets of) cause = refl
+none_found (Replaces dev) cause = refl
 none_found (TakesOver of) cause = refl
 none_found Locks cause = refl
 none_found Frees cause = refl
@@ -128,7 +132,7 @@ module _ (by : MemberId) (cause : Cause) (play : Play) (count : ℕ) where
     first [] = refl
     first (p ∷ ps) = refl
 
-  begun_lines : begun.lines ≡ []
+  pub begun_lines : begun.lines ≡ []
   begun_lines = first play.pieces where
     first : (ps : List Piece) → (first_of ps).lines ≡ []
     first [] = refl
@@ -195,12 +199,15 @@ module _ {P C : Type 0} (plants : PlantGhosts P) (copies : CopyGhosts C) (told :
     paper_same t m = acted.papers (tells t) (v y).now acted.goes.later (let same : (v y).now ≤ (v y).now = omega arith in same) m
 
     pub begun_left : told ⊎ IsShapedAs l (v x) (v y) a → (told → ArePiecesOf S step.by at a l.given) → IfRuns {T = Unit {0}} (Err e) (y.book ≡ (left_as l a).book)
-        → HasLeftAs plants copies told l a x y (Err e)
-    begun_left shaped right book = record {
-      goes = acted.goes;
+        → (told → Stays a none_lost (v x) (v y)) → HasLeftAs plants copies told l a x y (Err e)
+    begun_left shaped right book stay = record {
+      goes = proceeds_of (v x) (v y) acted.goes;
+      stays = λ d other. acted.goes.lost (Disk d);
+      arms = acted.goes.arms;
       shaped = shaped;
       right = right;
       honest = λ t. All-nil (λ (w : Wait). IsFoundAt S.queue.config.groups step.by (v x) (v y) w.queue w.state (calm w.queue w.state));
+      stay = λ t. stays_any a (named_as l a sight.cut) (v x) (v y) (stay t);
       cut = record { there = begun_there (pieces_as l a) (cause_by e); halt = begun_halt e may; cause = refl };
       tight = if_idle (is_work a) _ (begun_tight e (cause_by e) (pieces_as l a));
       broke = λ t. begun_broke e (cause_by e) (pieces_as l a);
@@ -238,6 +245,7 @@ abbrev pub bare_pieces : Scene → MemberId → ℕ → Admission → List Piece
 bare_pieces S by at (Plays (Give c)) = bare_command (holder_of S by at (Plays (Give c))) c ∷ []
 bare_pieces S by at (Plays (Deck fields text)) = []
 bare_pieces S by at (Plays (Work n)) = []
+bare_pieces S by at (Plays (Node l)) = []
 bare_pieces S by at (Resets of) = bare_reset (holder_of S by at (Resets of)) of
 bare_pieces S by at (TakesOver of) = bare_reset (holder_of S by at (TakesOver of)) of
 bare_pieces S by at a = pieces_of S by at clear S.queue a
@@ -264,8 +272,12 @@ module _ (S : Scene) (at : ℕ) (step : Step) (cause : Cause) where
   bare_shaped (Plays (Work n)) old new =
       let h = holder_of S step.by at (Plays (Work n)) in
       record { own = All-nil (IsOwnPiece h.by h.step); shaped = none_few h (Work n) old new }
+  bare_shaped (Plays (Node l)) old new =
+      let h = holder_of S step.by at (Plays (Node l)) in
+      record { own = All-nil (IsOwnPiece h.by h.step); shaped = none_few h (Node l) old new }
   bare_shaped (Resets of) old new = (reply.Plain, refl)
   bare_shaped (TakesOver of) old new = (reply.Plain, refl)
+  bare_shaped (Replaces dev) old new = refl
   bare_shaped (Refused sayer end) old new = refl
   bare_shaped (Denied why) old new = refl
   bare_shaped Locks old new = refl

@@ -36,7 +36,7 @@ use Rattle.member_sittings.specs.Whole.{Half, HasUntold, IsAtRest, first_half, q
 use Rattle.member_hand.specs.Quiet.{IsQuiet}
 use Rattle.run_turns.specs.Scenes.{scene_of}
 use Rattle.mas_run.specs.Fresh.{AreFresh, AreFreshFrom, IsFresh}
-use Rattle.mas_run.specs.Shows.{AreMembers, BetweenLines, IsBetween, IsMemberAt, IsOfEarlier, IsShown, QuietFor, Shows, StandsIn}
+use Rattle.mas_run.specs.Shows.{AreLarge, AreMembers, BetweenLines, IsBetween, IsMemberAt, IsOfEarlier, IsShown, QuietFor, Shows, StandsIn}
 use Rattle.mas_run.proofs.ResetLemmas.{none_untold_later}
 
 -- the book of a run has as many members as the configuration
@@ -129,8 +129,8 @@ module _ {P C : Type 0} (plants : PlantGhosts P) (copies : CopyGhosts C) (x : Pa
   -- Nothing is done yet but the run's opening, and no line tells a step of it.
   pub between_first : (ms : List Member) → IsConfig x.base.config → IsSound x.base → AreFresh x.base.config ms → IsQuiet plants copies x (page_count x.base.config)
       → ((by : MemberId) (later : ℕ) → 1 ≤ later → later ≤ steps_most → HasUntold plants copies x by later) → All (IsOfEarlier 1) (x.batches ++ in_flight x.current)
-      → AreSettled x.batches (plants.view x.plant).now → IsBetween plants copies x ms 1
-  between_first ms config sound fresh quiet untold earlier settled = record {
+      → AreSettled x.batches (plants.view x.plant).now → AreLarge plants copies x → IsBetween plants copies x ms 1
+  between_first ms config sound fresh quiet untold earlier settled large = record {
     stands = first_stands x.current quiet.none quiet.unplaced;
     settled = settled;
     quiet = λ free. quiet;
@@ -143,6 +143,7 @@ module _ {P C : Type 0} (plants : PlantGhosts P) (copies : CopyGhosts C) (x : Pa
     sound = sound;
     begun = quiet.begun;
     roomy = quiet.roomy;
+    large = large;
     untold = untold;
     earlier = earlier;
     few = omega arith;
@@ -184,8 +185,8 @@ module _ {P C : Type 0} {plants : PlantGhosts P} {steadies : SteadyGhosts C} {co
   module _ (book : y.book ≡ book_of y.base.config) where
     pub lines_between : (ms : List Member) → IsConfig y.base.config → IsSound y.base → AreFresh y.base.config ms → QuietFor y (page_count y.base.config)
         → ((by : MemberId) (later : ℕ) → 1 ≤ later → later ≤ steps_most → HasUntold plants copies (parts_of y) by later) → All (IsOfEarlier 1) (y.journal.batches ++ in_flight y.current)
-        → AreSettled y.journal.batches w.now → BetweenLines y ms 1
-    lines_between ms config sound fresh quiet untold earlier settled = between_first plants copies (parts_of y) book ms config sound fresh quiet untold earlier settled
+        → AreSettled y.journal.batches w.now → AreLarge plants copies (parts_of y) → BetweenLines y ms 1
+    lines_between ms config sound fresh quiet untold earlier settled large = between_first plants copies (parts_of y) book ms config sound fresh quiet untold earlier settled large
 
     pub lines_shown : IsConfig y.base.config → y.current ≡ None → y.printed ≡ no_counts → Shows (Unit {0}) (scene_of (run y.base (kept_all y.journal.batches))) y
     lines_shown config none printed =

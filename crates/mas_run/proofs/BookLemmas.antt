@@ -11,7 +11,7 @@ use Rattle.step_turns.specs.Entries.{all_entries}
 use Rattle.step_turns.specs.declared.states.Release.{Release}
 use Rattle.step_turns.specs.declared.states.Release.TheVariants.{Inner, Keep, Outer}
 use Rattle.run_turns.specs.Sights.{Cause, Cut, Ends, Halt, Saying, Stops, Waiting, Writing}
-use Rattle.run_turns.specs.Admissions.{Admission, Denied, Frees, Locks, Plays, Refused, Resets, TakesOver, Unplayed, tried}
+use Rattle.run_turns.specs.Admissions.{Admission, Denied, Frees, Locks, Plays, Refused, Replaces, Resets, TakesOver, Unplayed, tried}
 use Rattle.run_turns.specs.Cuts.{Left, adds, adds_all, adds_first, adds_part, book_cut, left_by, none_left, stopped_by}
 use Rattle.run_turns.specs.Pieces.{Piece, Play, after_piece, entered, released_by, spent}
 
@@ -131,6 +131,7 @@ module _ (by : MemberId) where
   admitted_since (Denied why) b inside = tried_since b by inside false
   admitted_since (Plays task) b inside = tried_since b by inside false
   admitted_since (Resets of) b inside = tried_since b by inside false
+  admitted_since (Replaces dev) b inside = tried_since b by inside false
   admitted_since Locks b inside = tried_since b by inside false
 
   -- up to where a line was cut

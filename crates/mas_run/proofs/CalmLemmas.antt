@@ -22,7 +22,7 @@ use Rattle.job_outcome.specs.declared.outcomes.Read.TheVariants as read
 use Rattle.member_work.specs.Looks.{as_it_is}
 use Rattle.member_work.specs.Rounds.{IsReadAs, IsSpoolLost}
 use Rattle.member_sittings.specs.Asides.{deck_found}
-use Rattle.member_units.specs.Asides.{read_found}
+use Rattle.member_units.specs.Asides.{printed_found, read_found}
 use Rattle.member_hand.specs.Cuts.{whole_pieces}
 use Rattle.member_hand.specs.Found.{FindsJob, FindsOutput, FindsWritten, IsFoundAt, Wait, waits_in}
 use Rattle.step_turns.specs.Courses.{holder_then}
@@ -30,7 +30,7 @@ use Rattle.step_turns.specs.Entries.{all_entries}
 use Rattle.step_turns.specs.Examples.{calm, text_of, with_text}
 use Rattle.step_turns.specs.Sittings.{Sitting, sit}
 use Rattle.step_turns.specs.States.{nothing_found}
-use Rattle.step_turns.specs.declared.states.Aside.TheVariants.{PrintLines, ReadText, SpoolDeck, SpoolOutputs}
+use Rattle.step_turns.specs.declared.states.Aside.TheVariants.{Acknowledge, Exchange, PrintLines, ReadText, SpoolArrival, SpoolDeck, SpoolOutputs}
 use Rattle.step_turns.specs.declared.states.Found.{Found}
 use Rattle.step_turns.specs.declared.states.Holder.{Holder}
 use Rattle.step_turns.specs.declared.states.State.{State}
@@ -73,8 +73,8 @@ module _ (per : ℕ) (by : MemberId) (old new : View) (volumes : (n : ℕ) → R
 
   output_calm : (Q : Queue) (n : JobNo) (i : OutNo) (found : Found) → FindsOutput per by Q n i found old new → found ≡ option_map_or (λ (o : Output). with_text o.text) (output_at Q n i) nothing_found
   output_calm Q n i found is =
-      ap (λ (l : Option ℕ). record found { lost = l }) is.only
-      ∙ ap (λ (b : Bool). let f : Found = record { read = found.read; lost = None; printer = b } in f) (not_true found.printer (λ lost. printer (is.lost lost).rose))
+      is.only
+      ∙ ap (λ (b : Bool). printed_found found.read b) (not_true found.printer (λ lost. printer (is.lost lost).rose))
       ∙ ap read_found (read_calm is.output.text _ found.read is.as_had)
       ∙ sym (ap (λ (p : Option Output). option_map_or (λ (o : Output). with_text o.text) p nothing_found) is.there)
 
@@ -83,6 +83,9 @@ module _ (per : ℕ) (by : MemberId) (old new : View) (volumes : (n : ℕ) → R
   found_calm Q (Away (ReadText runs n fields p)) found is = job_calm Q n found is
   found_calm Q (Away (SpoolOutputs n specs p)) found is = written_calm _ found is
   found_calm Q (Away (PrintLines n i last p)) found is = output_calm Q n i found is
+  found_calm Q (Away (Exchange l offer)) found is = absurd is
+  found_calm Q (Away (SpoolArrival number job cards service)) found is = absurd is
+  found_calm Q (Away (Acknowledge number service)) found is = absurd is
   found_calm Q (Fresh task) found is = is
   found_calm Q (Rested p) found is = is
   found_calm Q Told found is = is
@@ -136,7 +139,7 @@ module _ (sight : Sight) where
 
 module _ (by : MemberId) (locked : Bool) where
   abbrev pub bare : Left → Left
-  bare l = record l { printed = []; prints = 0; count = 0 }
+  bare l = record l { printed = []; prints = 0; given = []; count = 0 }
 
   one_bare : (l m : Left) (p q : Piece) → bare l ≡ bare m → p.sitting ≡ q.sitting → bare (adds by locked l p) ≡ bare (adds by locked m q)
   one_bare l m p q e same =

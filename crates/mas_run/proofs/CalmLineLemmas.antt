@@ -12,7 +12,7 @@ use Rattle.step_turns.specs.Courses.{task_most}
 use Rattle.step_turns.specs.declared.states.State.TheVariants.{Fresh}
 use Rattle.member_hand.specs.Cuts.{whole_pieces}
 use Rattle.member_hand.specs.Found.{waits_in}
-use Rattle.run_turns.specs.Admissions.{Admission, Denied, Frees, Locks, Plays, Refused, Resets, TakesOver, Unplayed, admitted}
+use Rattle.run_turns.specs.Admissions.{Admission, Denied, Frees, Locks, Plays, Refused, Replaces, Resets, TakesOver, Unplayed, admitted}
 use Rattle.run_turns.specs.Alone.{Shown, shown}
 use Rattle.run_turns.specs.Cuts.{Left, left_by}
 use Rattle.run_turns.specs.Pieces.{Piece, Play, holder_of, pieces_found, pieces_of, play_of}
@@ -65,6 +65,7 @@ module _ (S : Scene) (c : Counts) (armed : List Armed) (by : MemberId) (at : ℕ
   pieces_alike n Q (Refused sayer end) calms = alike_same n (pieces_of S by at sight Q (Refused sayer end))
   pieces_alike n Q (Denied why) calms = alike_same n (pieces_of S by at sight Q (Denied why))
   pieces_alike n Q (Resets of) calms = alike_same n (pieces_of S by at sight Q (Resets of))
+  pieces_alike n Q (Replaces dev) calms = alike_same n (pieces_of S by at sight Q (Replaces dev))
   pieces_alike n Q (TakesOver of) calms = alike_same n (pieces_of S by at sight Q (TakesOver of))
   pieces_alike n Q Locks calms = alike_same n (pieces_of S by at sight Q Locks)
   pieces_alike n Q Frees calms = alike_same n (pieces_of S by at sight Q Frees)
@@ -89,6 +90,7 @@ module _ (S : Scene) (c : Counts) (armed : List Armed) (by : MemberId) (at : ℕ
   play_same (Denied why) = refl
   play_same (Plays task) = refl
   play_same (Resets of) = refl
+  play_same (Replaces dev) = refl
   play_same (TakesOver of) = refl
   play_same Locks = refl
   play_same Frees = refl
@@ -99,6 +101,7 @@ module _ (S : Scene) (c : Counts) (armed : List Armed) (by : MemberId) (at : ℕ
   play_alike (Refused sayer end) calms = alike_same _ (here (Refused sayer end)).pieces
   play_alike (Denied why) calms = alike_same _ (here (Denied why)).pieces
   play_alike (Resets of) calms = alike_same _ (here (Resets of)).pieces
+  play_alike (Replaces dev) calms = alike_same _ (here (Replaces dev)).pieces
   play_alike (TakesOver of) calms = alike_same _ (here (TakesOver of)).pieces
   play_alike Locks calms = alike_same _ (here Locks).pieces
   play_alike Frees calms = alike_same _ (here Frees).pieces

@@ -151,6 +151,7 @@ module _ {P C : Type 0} (plants : PlantGhosts P) (copies : CopyGhosts C) (x : Pa
         sound = is.sound;
         begun = is.begun;
         roomy = is.roomy;
+        large = is.large;
         untold = is.untold;
         earlier = is.earlier;
         few = is.few;

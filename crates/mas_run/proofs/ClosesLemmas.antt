@@ -1,5 +1,6 @@
 -- A line of a member that only closes: it is refused or denied, or the lock is given up.
 use Rattle.std.proofs.Common.{◌≡◌, ◌⊎◌, ⊎_elim, ℕ, ◌+◌, ◌≤◌, true, false, List, None, Result, Ok, Err, OnOk, refl, sym, ◌∙◌, ap, subst}
+use Rattle.mas_types.specs.declared.ids.Dev.{Dev}
 use Rattle.mas_types.specs.declared.ids.MemberId.{MemberId}
 use Rattle.mas_types.specs.Ids.{nobody}
 use Rattle.mas_types.specs.Limits.{steps_most}
@@ -14,21 +15,24 @@ use Rattle.member_node.specs.declared.member.NodeNo.{NodeNo}
 use Rattle.member_node.specs.declared.member.NodeNo.TheVariants as no_node
 use Rattle.member_node.specs.Spares.{stopped_in}
 use Rattle.member_sittings.specs.Sat.{journal_of}
-use Rattle.member_lines.specs.Closes.{Closes, HasClosed, freed_by, stopped_so}
+use Rattle.member_lines.specs.Closes.{Closes, HasClosed, freed_by, left_at as closes_at, stopped_so}
 use Rattle.script_lang.specs.declared.types.Ask.{Ask}
 use Rattle.step_turns.specs.declared.states.Release.{Release}
-use Rattle.run_turns.specs.Admissions.{Admission, admitted, tried}
+use Rattle.run_turns.specs.Admissions.{Admission, Replaces, admitted, tried}
+use Rattle.run_turns.specs.Sights.{Replaced}
 use Rattle.run_turns.specs.Pieces.{Piece, is_locked}
 use Rattle.run_turns.specs.Scenes.{Scene}
 use Rattle.mas_run.specs.Copies.{CopiesKept}
 use Rattle.mas_run.specs.LinesLeft.{LineIsLeft}
 use Rattle.mas_run.specs.LinesPlayed.{line_by}
+use Rattle.mas_run.specs.Renewing.{RenewsAs}
 use Rattle.mas_run.specs.Shows.{BetweenLines, IsBetween, IsShown, LeftBetween}
 use Rattle.mas_run.proofs.BookLemmas.{Since, inside_since, none_since}
 use Rattle.mas_run.proofs.ClosedLemmas.{closed_freed, closed_halted, closed_ok, scene_at, shown_at}
-use Rattle.mas_run.proofs.ClosingLemmas.{Ending, HasMerelyActed, IsCloser, closing_at}
+use Rattle.mas_run.proofs.ClosingLemmas.{Ending, HasMerelyActed, IsCloser, closing_at, cut_by}
 use Rattle.mas_run.proofs.CopiesLemmas.{said_copies}
 use Rattle.mas_run.proofs.HaltedLemmas.{same_unreserved}
+use Rattle.mas_run.proofs.RenewedLemmas.{renews_none}
 use Rattle.mas_run.proofs.SaidLemmas.{closes_bare, closes_told, merely_closed, none_stopped, not_lost}
 use Rattle.mas_run.proofs.SceneLemmas.{LineDone, admitted_here, none_flies, tested_here}
 use Rattle.mas_run.proofs.TestedLemmas.{copies_tested, line_tested}
@@ -38,23 +42,24 @@ use Rattle.mas_run.proofs.TestedLemmas.{copies_tested, line_tested}
 pub record Stays {P C : Type 0} (z w : Parts P C) : Type 0 where
   pub base : w.base ≡ z.base
   pub since : w.since ≡ z.since
+  pub renewals : w.renewals ≡ z.renewals
   pub alive1 : w.first_alive ≡ z.first_alive
   pub alive2 : w.second_alive ≡ z.second_alive
   pub journal : journal_of w ≡ journal_of z
   pub printed : w.printed ≡ z.printed
 
 stays_none : {P C : Type 0} (z : Parts P C) → Stays z z
-stays_none z = record { base = refl; since = refl; alive1 = refl; alive2 = refl; journal = refl; printed = refl }
+stays_none z = record { base = refl; since = refl; renewals = refl; alive1 = refl; alive2 = refl; journal = refl; printed = refl }
 
 pub stays_stopped : {P C : Type 0} (by : MemberId) (z : Parts P C) (r : Result (Unit {0}) NodeNo) → Stays z (stopped_so r by z)
 stays_stopped by z (Ok done) = stays_none z
 stays_stopped by z (Err no_node.BothLost) = stays_none z
 stays_stopped by z (Err no_node.ConsoleFault) = stays_none z
 stays_stopped by z (Err no_node.NoMemory) = stays_none z
-stays_stopped by z (Err no_node.Halted) = record { base = refl; since = refl; alive1 = refl; alive2 = refl; journal = refl; printed = refl }
+stays_stopped by z (Err no_node.Halted) = record { base = refl; since = refl; renewals = refl; alive1 = refl; alive2 = refl; journal = refl; printed = refl }
 
 pub stays_freed : {P C : Type 0} (by : MemberId) (z : Parts P C) (r : Result (Unit {0}) NodeNo) → Stays z (freed_by r by z)
-stays_freed by z (Ok done) = record { base = refl; since = refl; alive1 = refl; alive2 = refl; journal = refl; printed = refl }
+stays_freed by z (Ok done) = record { base = refl; since = refl; renewals = refl; alive1 = refl; alive2 = refl; journal = refl; printed = refl }
 stays_freed by z (Err e) = stays_stopped by z (Err e)
 
 -- the plant is another then
@@ -62,6 +67,7 @@ pub stays_on : {P C : Type 0} (x z w : Parts P C) (q : P) → z ≡ record x { p
 stays_on x z w q is stays = record {
   base = stays.base ∙ ap (λ (k : Parts _ _). k.base) is;
   since = stays.since ∙ ap (λ (k : Parts _ _). k.since) is;
+  renewals = stays.renewals ∙ ap (λ (k : Parts _ _). k.renewals) is;
   alive1 = stays.alive1 ∙ ap (λ (k : Parts _ _). k.first_alive) is;
   alive2 = stays.alive2 ∙ ap (λ (k : Parts _ _). k.second_alive) is;
   journal = stays.journal ∙ ap (λ (k : Parts _ _). journal_of k) is;
@@ -77,7 +83,7 @@ if_ok (Err e) A f = tt
 module _ {P C : Type 0} {plants : PlantGhosts P} {steadies : SteadyGhosts C} {copies : CopyGhosts C} (x mid y : Complex P C plants steadies copies) (ms : List Member)
     (at : ℕ) (by : MemberId) (what : Ask) (few : at ≤ steps_most) (is : BetweenLines x ms at)
     (a : Admission) (adm : a ≡ admitted x.base.config x.book by what) (b : Book) (frame : parts_of mid ≡ record (parts_of x) { book = b }) (book : tried x.book by a ≡ b)
-    (none : is_locked a ≡ true → x.current ≡ None) (sayer : MemberId) (says : (sayer ≡ nobody) ⊎ (sayer ≡ by)) (r : Result (Unit {0}) NodeNo) (closed : Closes by at a sayer mid y r)
+    (none : is_locked a ≡ true → x.current ≡ None) (apart : (dev : Dev) → a ≡ Replaces dev → ⊥) (sayer : MemberId) (says : (sayer ≡ nobody) ⊎ (sayer ≡ by)) (r : Result (Unit {0}) NodeNo) (closed : Closes by at a sayer mid y r)
     (pieces : List Piece) (line : List ℕ) (rel : Release)
     (closer : (S : Scene) → (is_locked a ≡ true → S.flight ≡ None) → (e : Ending) → IsCloser (closing_at S at (line_by by what) e pieces) a line rel)
     (stays : Stays (parts_of mid) (parts_of y)) (seat : sayer ≡ by → IsMember x.book by) where
@@ -101,8 +107,11 @@ module _ {P C : Type 0} {plants : PlantGhosts P} {steadies : SteadyGhosts C} {co
   here : HasClosed plants (scene_at p) by at a sayer t q r
   here = closed_at (Unit {0}) (scene_at p) (shown_at plants copies (Unit {0}) p is.stands)
 
-  merely : (told : Type 0) (S : Scene) (shown : IsShown plants copies told S p) → HasMerelyActed plants by t q r
-  merely told S shown = merely_closed plants S by at a sayer t q r (closed_at told S shown) says
+  merely : (told : Type 0) (S : Scene) (shown : IsShown plants copies told S p) → HasMerelyActed plants by a t q r
+  merely told S shown = merely_closed plants S by at a sayer t q r (closes_at S by at a) (closed_at told S shown) says
+
+  renews_by : (e : Ending) → RenewsAs a (cut_by e) Replaced t.renewals q.renewals (plants.view x.plant) (plants.view y.plant)
+  renews_by e = renews_none a (cut_by e) Replaced t.renewals q.renewals (plants.view x.plant) (plants.view y.plant) apart at_test.renewals
 
   unflown : (told : Type 0) (S : Scene) → IsShown plants copies told S p → is_locked a ≡ true → S.flight ≡ None
   unflown told S shown locked = none_flies plants copies told S p shown (none locked)
@@ -110,14 +119,14 @@ module _ {P C : Type 0} {plants : PlantGhosts P} {steadies : SteadyGhosts C} {co
   bare : LineIsLeft ⊥ at (line_by by what) x y r
   bare S shown =
       line_tested plants copies p b ⊥ S at (line_by by what) q r
-      (closes_bare plants copies S at (line_by by what) a (admitted_here plants copies ⊥ S p shown by what a adm) pieces line rel (closer S (unflown ⊥ S shown)) t q r at_test.journal at_test.printed
-      sayer (closed_at ⊥ S shown) (merely ⊥ S shown))
+      (closes_bare plants copies S at (line_by by what) a (admitted_here plants copies ⊥ S p shown by what a adm) Replaced pieces line rel (closer S (unflown ⊥ S shown)) t q r at_test.journal at_test.printed
+      sayer (closed_at ⊥ S shown) (merely ⊥ S shown) (λ e may is. renews_by e))
 
   told : plants.tells → LineIsLeft (Unit {0}) at (line_by by what) x y r
   told u S shown =
       line_tested plants copies p b (Unit {0}) S at (line_by by what) q r
-      (closes_told plants copies S at (line_by by what) a (admitted_here plants copies (Unit {0}) S p shown by what a adm) pieces line rel (closer S (unflown (Unit {0}) S shown)) t q r at_test.journal at_test.printed
-      sayer (closed_at (Unit {0}) S shown) (merely (Unit {0}) S shown) u (λ up. if_ok r _ (λ e. shown.counts tt by up)))
+      (closes_told plants copies S at (line_by by what) a (admitted_here plants copies (Unit {0}) S p shown by what a adm) Replaced pieces line rel (closer S (unflown (Unit {0}) S shown)) t q r at_test.journal at_test.printed
+      sayer (closed_at (Unit {0}) S shown) (merely (Unit {0}) S shown) (λ e may is. renews_by e) u (λ up. if_ok r _ (λ e. shown.counts tt by up)))
 
   copies_kept : CopiesKept x y r
   copies_kept =
@@ -129,7 +138,7 @@ module _ {P C : Type 0} {plants : PlantGhosts P} {steadies : SteadyGhosts C} {co
 
   seated : r ≡ Err no_node.Halted → IsMember x.book by
   seated e = ⊎_elim
-      (λ nobody_says. absurd (true_false (sym (ap stopped_in e) ∙ none_stopped plants (scene_at p) by at a sayer t q r here says nobody_says)))
+      (λ nobody_says. absurd (true_false (sym (ap stopped_in e) ∙ none_stopped plants (scene_at p) by at a sayer t q r (closes_at (scene_at p) by at a) here says nobody_says)))
       seat says
 
   pub line_done : OnOk r (BetweenLines y ms (at + 1)) → (r ≡ Err no_node.Halted → LeftBetween y ms (at + 1)) → LineDone x y ms at by what r

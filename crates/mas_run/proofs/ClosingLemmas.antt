@@ -17,14 +17,14 @@ use Rattle.lock_cycle.specs.Books.{is_stopped}
 use Rattle.spool_disk.specs.declared.plant.Part.TheVariants.{Console}
 use Rattle.spool_disk.specs.declared.plant.Plant.{Ghosts as PlantGhosts}
 use Rattle.spool_disk.specs.View.{Line, View, paper_now}
-use Rattle.spool_disk.specs.Acts.{Goes, Rose}
+use Rattle.spool_disk.specs.Acts.{Rose}
 use Rattle.ckpt_copy.specs.declared.copying.Copying.{Ghosts as CopyGhosts}
 use Rattle.mas_complex.specs.Paper.{SamePapers, counts_of}
 use Rattle.mas_complex.specs.Parts.{Parts}
 use Rattle.member_hand.specs.Cuts.{AreBatched, AtCut, IsBroken, IsTight, cause_by, whole_pieces}
 use Rattle.member_hand.specs.Found.{AreFoundIn, IsFoundAt, Wait, waits_in}
 use Rattle.member_lines.specs.Closes.{IsCutAs, at_line, before_line}
-use Rattle.member_node.specs.Calls.{console_now}
+use Rattle.member_node.specs.Calls.{console_now, none_lost}
 use Rattle.member_node.specs.declared.member.NodeNo.{NodeNo}
 use Rattle.member_node.specs.declared.member.NodeNo.TheVariants as no_node
 use Rattle.member_node.specs.Spares.{Spares, stopped_in}
@@ -38,15 +38,16 @@ use Rattle.run_turns.specs.Cuts.{Left, left_by}
 use Rattle.run_turns.specs.Givens.{ArePiecesOf, queue_met}
 use Rattle.run_turns.specs.Pieces.{Piece, Play, closes_with, fate_found, once_found, piece_of, play_of}
 use Rattle.run_turns.specs.Scenes.{Batched, Scene}
-use Rattle.run_turns.specs.Sights.{Cause, Cut, Ends, Stops, clear}
+use Rattle.run_turns.specs.Sights.{Cause, Cut, Ends, Renewed, Replaced, Stops, clear}
 use Rattle.mas_run.specs.Histories.{settle}
-use Rattle.mas_run.specs.Lines.{IfIdle, is_work}
+use Rattle.mas_run.specs.Lines.{IfIdle, Proceeds, StaysLost, is_replaced, is_work, named_as}
 use Rattle.mas_run.specs.LinesAt.{LineAt, pieces_as, play_as}
 use Rattle.mas_run.specs.LinesLeft.{HasLeftAs, IfRuns, IsCutBy, ended_as, left_as}
 use Rattle.mas_run.specs.Shapes.{IsShapedAs}
 use Rattle.mas_run.specs.Volumes.{AreVolumesKept}
 use Rattle.mas_run.proofs.LeftLemmas.{if_idle}
 use Rattle.mas_run.proofs.LinesLemmas.{settle_none}
+use Rattle.mas_run.proofs.StayLemmas.{Stays, stays_any}
 
 -- HOW IT ENDED: whole, before its only line, or at it
 
@@ -183,9 +184,14 @@ module _ (line : List ℕ) (r : Release) where
 
 -- WHAT IT LEAVES
 
--- a line at a scene that found nothing, and was cut so
+-- a line at a scene that found this of a copy, and was cut so
+abbrev pub closing_found : Renewed → Scene → ℕ → Step → Ending → List Piece → LineAt
+closing_found found S at step e ps =
+    record { scene = S; number = at; step = step; given = record { sight = record clear { renewed = found; cut = cut_by e }; pieces = ps } }
+
+-- and one that found nothing
 abbrev pub closing_at : Scene → ℕ → Step → Ending → List Piece → LineAt
-closing_at S at step e ps = record { scene = S; number = at; step = step; given = record { sight = record clear { cut = cut_by e }; pieces = ps } }
+closing_at S at step e ps = closing_found Replaced S at step e ps
 
 -- an admission by which a line only closes
 pub record IsCloser (l : LineAt) (a : Admission) (line : List ℕ) (r : Release) : Type 0 where
@@ -193,27 +199,30 @@ pub record IsCloser (l : LineAt) (a : Admission) (line : List ℕ) (r : Release)
   pub shaped : (old new : View) → IsShapedAs l old new a
   pub right : ArePiecesOf l.scene l.step.by l.number a l.given
   pub found : fate_found a l.given.sight ≡ Flying
-  pub play : play_as l a ≡ play_of l.scene l.step.by l.number clear a
+  pub play : play_as l a ≡ play_of l.scene l.step.by l.number (record clear { renewed = l.given.sight.renewed }) a
 
 -- acts on the copies and the console, in which nothing was given
-pub record HasMerelyActed {P C : Type 0} (plants : PlantGhosts P) (by : MemberId) (x y : Parts P C) (result : Result (Unit {0}) NodeNo) : Type 0 where
-  pub goes : Goes (plants.view x.plant) (plants.view y.plant)
+pub record HasMerelyActed {P C : Type 0} (plants : PlantGhosts P) (by : MemberId) (a : Admission) (x y : Parts P C) (result : Result (Unit {0}) NodeNo) : Type 0 where
+  pub goes : Proceeds (plants.view x.plant) (plants.view y.plant)
+  pub stays : (d : Dev) → is_replaced d a ≡ false → StaysLost d (plants.view x.plant) (plants.view y.plant)
+  pub arms : (m : ℕ) → (plants.view y.plant).arms m ≡ (plants.view x.plant).arms m
   pub spares : Spares by.0 (stopped_in result) (plants.view x.plant) (plants.view y.plant)
   pub stopped : result ≡ Err no_node.Halted → Rose ((plants.view x.plant).stops by.0) ((plants.view y.plant).stops by.0)
   pub failed : result ≡ Err no_node.ConsoleFault → Rose ((plants.view x.plant).faults Console) ((plants.view y.plant).faults Console)
   pub loses : plants.tells → (d : Dev) → (plants.view y.plant).loses d ≡ (plants.view x.plant).loses d
   pub papers : plants.tells → SamePapers (plants.view x.plant) (plants.view y.plant)
   pub volumes : plants.tells → AreVolumesKept (plants.view x.plant) (plants.view y.plant)
+  pub stay : Stays a none_lost (plants.view x.plant) (plants.view y.plant)
 
 module _ {P C : Type 0} (plants : PlantGhosts P) (copies : CopyGhosts C) (told : Type 0) (tells : told → plants.tells) (S : Scene) (at : ℕ) (step : Step)
-    (a : Admission) (e : Ending) (ps : List Piece) (line : List ℕ) (r : Release) (x y : Parts P C) (result : Result (Unit {0}) NodeNo) where
+    (a : Admission) (found : Renewed) (e : Ending) (ps : List Piece) (line : List ℕ) (r : Release) (x y : Parts P C) (result : Result (Unit {0}) NodeNo) where
   abbrev v : Parts P C → View
   v z = plants.view z.plant
 
   abbrev l : LineAt
-  l = closing_at S at step e ps
+  l = closing_found found S at step e ps
 
-  module _ (closer : IsCloser l a line r) (may : MayEnd result e) (acted : HasMerelyActed plants step.by x y result)
+  module _ (closer : IsCloser l a line r) (may : MayEnd result e) (acted : HasMerelyActed plants step.by a x y result)
       (journal : journal_of y ≡ journal_of x) (printed : y.printed ≡ x.printed)
       (book : IfRuns result (y.book ≡ (left_as l a).book)) (console : told → console_now (v y) ≡ console_now (v x) ++ (left_as l a).lines)
       (counted : told → is_stopped S.book step.by ≡ false → OnOk result (counts_of x.printed step.by ≡ S.counts step.by)) where
@@ -244,10 +253,13 @@ module _ {P C : Type 0} (plants : PlantGhosts P) (copies : CopyGhosts C) (told :
     pub closed_left : HasLeftAs plants copies told l a x y result
     closed_left = record {
       goes = acted.goes;
+      stays = acted.stays;
+      arms = acted.arms;
       shaped = inr (closer.shaped (v x) (v y));
       right = λ t. closer.right;
       honest = λ t. subst (λ (qs : List Piece). AreFoundIn S.queue.config.groups step.by (v x) (v y) calm (waits_in (take (whole_pieces (cut_by e) qs) qs) (queue_met S a l.given.sight)))
           (sym closer.pieces) (honest_one line r S.queue.config.groups step.by (v x) (v y) (queue_met S a l.given.sight) e);
+      stay = λ t. stays_any a (named_as l a (cut_by e)) (v x) (v y) acted.stay;
       cut = subst (λ (qs : List Piece). IsCutBy result qs (cut_by e)) (sym closer.pieces) (cut_one line r result e may);
       tight = subst (λ (qs : List Piece). IfIdle (is_work a) (AtCut (IsTight (ended_as result)) (cut_by e) qs)) (sym closer.pieces)
           (if_idle (is_work a) _ (tight_one line r (ended_as result) e));

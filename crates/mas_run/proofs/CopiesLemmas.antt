@@ -9,7 +9,7 @@ use Rattle.duplex_pair.specs.Halves.{SomeAlive}
 use Rattle.mas_complex.specs.Parts.{Parts}
 use Rattle.member_node.specs.declared.member.NodeNo.{NodeNo}
 use Rattle.member_node.specs.declared.member.NodeNo.TheVariants as no_node
-use Rattle.member_node.specs.Calls.{Course, Grows, IsLeft, WasLost}
+use Rattle.member_node.specs.Calls.{Grows, IsLeft, WasLost}
 use Rattle.member_node.proofs.CourseLemmas.{grow_rose, no, rose_grow, rose_later, rose_more}
 use Rattle.mas_run.specs.Copies.{KeepCopies, LeavesSome}
 use Rattle.mas_run.specs.Lines.{Proceeds}
@@ -18,7 +18,7 @@ use Rattle.mas_run.proofs.CourseLemmas.{has_lost_later, has_lost_more}
 use Rattle.mas_run.proofs.PassedLemmas.{proceeds_none, proceeds_of, proceeds_on}
 use Rattle.member_steps.specs.Saying.{OnConsole}
 use Rattle.member_steps.specs.Steps.{StepCauses}
-use Rattle.member_hand.specs.Plays.{HasActedIn}
+use Rattle.member_hand.specs.Plays.{HasActedIn, Passage}
 use Rattle.mas_types.specs.declared.ids.MemberId.{MemberId}
 use Rattle.ckpt_copy.specs.declared.copying.Copying.{Ghosts as CopyGhosts}
 
@@ -82,10 +82,8 @@ module _ {P C : Type 0} (plants : PlantGhosts P) where
     goes = proceeds_none (v x);
     failed1 = λ is not. absurd (no x.first_alive is not);
     failed2 = λ is not. absurd (no x.second_alive is not);
-    there1 = λ is there. there;
-    there2 = λ is there. there;
-    alive1 = λ is. is;
-    alive2 = λ is. is;
+    there1 = λ is there. there is;
+    there2 = λ is there. there is;
     grow = λ d. inl refl;
     left = inl (inr (refl, refl));
   }
@@ -99,25 +97,21 @@ module _ {P C : Type 0} (plants : PlantGhosts P) where
     failed2 = λ is not. by_test y.second_alive
         (λ still. lost_after Ckpt2 (v x) (v y) (v z) one.goes (one.grow Ckpt2) (two.failed2 still not))
         (λ gone. lost_before Ckpt2 (v x) (v y) (v z) (one.failed2 is gone) two.goes (two.grow Ckpt2));
-    there1 = λ is there. two.there1 is (one.there1 (two.alive1 is) there);
-    there2 = λ is there. two.there2 is (one.there2 (two.alive2 is) there);
-    alive1 = λ is. one.alive1 (two.alive1 is);
-    alive2 = λ is. one.alive2 (two.alive2 is);
+    there1 = λ is there. two.there1 is (λ then_is. one.there1 then_is there);
+    there2 = λ is there. two.there2 is (λ then_is. one.there2 then_is there);
     grow = λ d. grows_on ((v x).loses d) ((v y).loses d) ((v z).loses d) (one.grow d) (two.grow d);
     left = left_by x y z r one.grow two.grow one.left two.left;
   }
 
   -- calls without a stop that is armed
-  pub copies_of : {T : Type 0} (x y : Parts P C) (r : Result T NodeNo) → Course x.first_alive y.first_alive x.second_alive y.second_alive (v x) (v y)
+  pub copies_of : {T : Type 0} (x y : Parts P C) (r : Result T NodeNo) → Passage x.first_alive y.first_alive x.second_alive y.second_alive (v x) (v y)
       → LeavesSome plants x y r → KeepCopies plants x y r
   copies_of x y r course left = record {
     goes = proceeds_of (v x) (v y) course.goes;
     failed1 = course.failed1;
     failed2 = course.failed2;
-    there1 = course.there1;
-    there2 = course.there2;
-    alive1 = course.alive1;
-    alive2 = course.alive2;
+    there1 = λ is there. course.there1 is (there (course.alive1 is));
+    there2 = λ is there. course.there2 is (there (course.alive2 is));
     grow = course.grow;
     left = left;
   }
@@ -148,10 +142,8 @@ module _ {P C : Type 0} (plants : PlantGhosts P) where
     goes = proceeds_of (v x) (v y) acts.goes;
     failed1 = λ was not. absurd (no x.first_alive was (sym same1 ∙ not));
     failed2 = λ was not. absurd (no x.second_alive was (sym same2 ∙ not));
-    there1 = λ is there. acts.lost Ckpt1 ∙ there;
-    there2 = λ is there. acts.lost Ckpt2 ∙ there;
-    alive1 = λ is. sym same1 ∙ is;
-    alive2 = λ is. sym same2 ∙ is;
+    there1 = λ is there. acts.lost Ckpt1 ∙ there (sym same1 ∙ is);
+    there2 = λ is there. acts.lost Ckpt2 ∙ there (sym same2 ∙ is);
     grow = λ d. inl (acts.loses d);
     left = unlost r x y other same1 same2;
   }
@@ -164,8 +156,6 @@ module _ {P C : Type 0} (plants : PlantGhosts P) where
     failed2 = keep.failed2;
     there1 = keep.there1;
     there2 = keep.there2;
-    alive1 = keep.alive1;
-    alive2 = keep.alive2;
     grow = keep.grow;
     left = keep.left;
   }

@@ -29,7 +29,7 @@ use Rattle.script_lang.specs.declared.types.Ask.{Ask}
 use Rattle.step_turns.specs.declared.states.Holder.{Holder}
 use Rattle.step_turns.specs.declared.states.State.TheVariants.{Fresh, Told}
 use Rattle.step_turns.specs.declared.states.Task.{Task}
-use Rattle.step_turns.specs.declared.states.Task.TheVariants.{Deck, Give, Work}
+use Rattle.step_turns.specs.declared.states.Task.TheVariants.{Deck, Give, Line, Work}
 use Rattle.step_turns.specs.Courses.{sittings_most}
 use Rattle.run_turns.specs.Admissions.{Admission, Plays, Resets, admitted, granted_by, tried}
 use Rattle.run_turns.specs.Pieces.{Piece, holder_of, reset_closing, reset_pieces}
@@ -58,11 +58,13 @@ few_task : (Q : Queue) (by : MemberId) (task : Task) → MayBeAsked Q by task �
 few_task Q by (Give c) asked = tt
 few_task Q by (Deck fields text) asked = tt
 few_task Q by (Work n) asked = asked
+few_task Q by (Line l) asked = absurd asked
 
 few_units : (Q : Queue) (by : MemberId) (task : Task) → MayBeAsked Q by task → AreFewUnits (Fresh task)
 few_units Q by (Give c) asked = omega arith
 few_units Q by (Deck fields text) asked = omega arith
 few_units Q by (Work n) asked = omega (arith, asked)
+few_units Q by (Line l) asked = absurd asked
 
 not_told : (task : Task) → Fresh task ≡ Told → ⊥
 not_told task e = absurd (cc)
@@ -146,7 +148,7 @@ module _ {P C : Type 0} {plants : PlantGhosts P} {steadies : SteadyGhosts C} {co
       ∙ ap (λ (c : Book). let g : Holder = record { by = by; step = at; hold = hold_left b by; grant = granted_by c by } in g) (sym shown.book)
 
   -- where the value stands after it
-  module _ (y : Complex P C plants steadies copies) (n : Member) (stays : n.id ≡ m.id) (base : y.base ≡ mid.base) (since : y.since ≡ mid.since) where
+  module _ (y : Complex P C plants steadies copies) (n : Member) (stays : n.id ≡ m.id) (base : y.base ≡ mid.base) (since : y.since ≡ mid.since) (renewals : y.renewals ≡ mid.renewals) where
     abbrev q : Parts P C
     q = parts_of y
 
@@ -155,6 +157,9 @@ module _ {P C : Type 0} {plants : PlantGhosts P} {steadies : SteadyGhosts C} {co
 
     since_t : y.since ≡ t.since
     since_t = since ∙ ap (λ (w : Parts P C). w.since) frame
+
+    renewals_t : y.renewals ≡ t.renewals
+    renewals_t = renewals ∙ ap (λ (w : Parts P C). w.renewals) frame
 
     -- A TASK
 
@@ -184,14 +189,14 @@ module _ {P C : Type 0} {plants : PlantGhosts P} {steadies : SteadyGhosts C} {co
       bare : LineIsLeft ⊥ at (line_by by what) x y r
       bare S shown =
           line_tested plants copies p b ⊥ S at (line_by by what) q r
-          (left_so plants copies ⊥ S at by what (Plays task) _ t q r (admitted_here plants copies ⊥ S p shown by what (Plays task) adm)
+          (left_so plants copies ⊥ S at by what (Plays task) _ t q r (admitted_here plants copies ⊥ S p shown by what (Plays task) adm) renewals_t
           (plays_bare plants copies S at (line_by by what) task t q (length m.room) r (hold_left b by) (granted_by x.book by) (none_flies plants copies ⊥ S p shown calm.none)
           (tried_here plants copies ⊥ S p shown by (Plays task) b refl) (holder_here ⊥ S shown (Plays task) refl) still its))
 
       told : plants.tells → LineIsLeft (Unit {0}) at (line_by by what) x y r
       told tells S shown =
           line_tested plants copies p b (Unit {0}) S at (line_by by what) q r
-          (left_so plants copies (Unit {0}) S at by what (Plays task) _ t q r (admitted_here plants copies (Unit {0}) S p shown by what (Plays task) adm)
+          (left_so plants copies (Unit {0}) S at by what (Plays task) _ t q r (admitted_here plants copies (Unit {0}) S p shown by what (Plays task) adm) renewals_t
           (plays_told plants copies S at (line_by by what) task t q (length m.room) r (hold_left b by) (granted_by x.book by) (none_flies plants copies (Unit {0}) S p shown calm.none)
           (tried_here plants copies (Unit {0}) S p shown by (Plays task) b refl) (holder_here (Unit {0}) S shown (Plays task) refl) still
           shown.queue (ap (λ (c : Config). c.groups) (sym (same_config plants copies (Unit {0}) S p shown)))
@@ -235,14 +240,14 @@ module _ {P C : Type 0} {plants : PlantGhosts P} {steadies : SteadyGhosts C} {co
       bare_reset : LineIsLeft ⊥ at (line_by by what) x y r
       bare_reset S shown =
           line_tested plants copies p b ⊥ S at (line_by by what) q r
-          (left_so plants copies ⊥ S at by what (Resets of) _ t q r (admitted_here plants copies ⊥ S p shown by what (Resets of) adm)
+          (left_so plants copies ⊥ S at by what (Resets of) _ t q r (admitted_here plants copies ⊥ S p shown by what (Resets of) adm) renewals_t
           (resets_bare plants copies S at (line_by by what) of (length m.room) r (hold_left b by) (granted_by x.book by) t q (none_flies plants copies ⊥ S p shown calm.none)
           (tried_here plants copies ⊥ S p shown by (Resets of) b refl) (holder_here ⊥ S shown (Resets of) refl) still its_reset))
 
       told_reset : plants.tells → LineIsLeft (Unit {0}) at (line_by by what) x y r
       told_reset tells S shown =
           line_tested plants copies p b (Unit {0}) S at (line_by by what) q r
-          (left_so plants copies (Unit {0}) S at by what (Resets of) _ t q r (admitted_here plants copies (Unit {0}) S p shown by what (Resets of) adm)
+          (left_so plants copies (Unit {0}) S at by what (Resets of) _ t q r (admitted_here plants copies (Unit {0}) S p shown by what (Resets of) adm) renewals_t
           (resets_told plants copies S at (line_by by what) of (length m.room) r (hold_left b by) (granted_by x.book by) t q (none_flies plants copies (Unit {0}) S p shown calm.none)
           (tried_here plants copies (Unit {0}) S p shown by (Resets of) b refl) (holder_here (Unit {0}) S shown (Resets of) refl) still its_reset tells shown.queue
           (shown.counts tt by (ap (λ (c : Book). is_stopped c by) (sym shown.book) ∙ got.is_up.up)) (its_reset.told tells)))

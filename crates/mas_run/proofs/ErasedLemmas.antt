@@ -10,7 +10,7 @@ use Rattle.run_turns.specs.Pieces.{Piece, Play}
 
 -- without the count
 abbrev pub erased : Left → Left
-erased l = record { batches = l.batches; lines = l.lines; printed = l.printed; prints = l.prints; count = 0; book = l.book }
+erased l = record { batches = l.batches; lines = l.lines; printed = l.printed; prints = l.prints; given = l.given; count = 0; book = l.book }
 
 module _ (by : MemberId) (locked : Bool) where
   adds_erased : (l m : Left) (p : Piece) → erased l ≡ erased m → erased (adds by locked l p) ≡ erased (adds by locked m p)

@@ -6,7 +6,10 @@ use Rattle.mas_types.specs.declared.answers.Closing.{Closing}
 use Rattle.mas_types.specs.declared.answers.Closing.TheVariants as closing
 use Rattle.mas_types.specs.declared.commands.Command.{Command}
 use Rattle.mas_types.specs.declared.commands.Command.TheVariants as command
+use Rattle.mas_types.specs.declared.ids.Dev.{Dev}
+use Rattle.mas_types.specs.declared.ids.Dev.TheVariants.{Ckpt1, Ckpt2, Spool}
 use Rattle.mas_types.specs.declared.ids.MemberId.{MemberId}
+use Rattle.duplex_pair.specs.Halves.{IsCkpt}
 use Rattle.mas_types.specs.declared.jobs.JobFields.{JobFields}
 use Rattle.mas_types.specs.declared.queues.Queue.{Queue}
 use Rattle.mas_types.specs.Closings.{AreMembersNamed}
@@ -28,10 +31,11 @@ use Rattle.queue_commands.specs.Given.{IsGiver, is_plain}
 use Rattle.script_input.specs.Commands.{is_typed}
 use Rattle.script_input.specs.Played.{IsPlayed}
 use Rattle.script_lang.specs.declared.types.Ask.{Ask}
+use Rattle.script_laws.specs.Limits.{IsCopy}
 use Rattle.script_lang.specs.declared.types.Ask.TheVariants as ask
 use Rattle.script_laws.specs.Limits.{IsAsk, IsBy}
 use Rattle.step_turns.specs.declared.states.Task.TheVariants.{Deck, Give, Work}
-use Rattle.run_turns.specs.Admissions.{Admission, Denied, Frees, Locks, Plays, Refused, Resets, TakesOver, Unplayed, admitted, asked, command_admitted, deck_admitted, denied_closing, if_granted, no_member, reset_admitted, resets, tries}
+use Rattle.run_turns.specs.Admissions.{Admission, Denied, Frees, Locks, Plays, Refused, Replaces, Resets, TakesOver, Unplayed, admitted, asked, command_admitted, deck_admitted, denied_closing, if_granted, no_member, reset_admitted, resets, tries}
 use Rattle.member_sittings.specs.Whole.{IsGivable}
 use Rattle.member_hand.specs.Sits.{MayBeAsked}
 use Rattle.member_lines.specs.Admissions.{AreFewUnits}
@@ -140,6 +144,13 @@ typed_givable Q by c config member fit is = record {
   unmarked = typed_unmarked c is;
 }
 
+-- A COPY that a script may have replaced
+
+copy_ckpt : (d : Dev) → IsCopy d → IsCkpt d
+copy_ckpt Ckpt1 is = tt
+copy_ckpt Ckpt2 is = tt
+copy_ckpt (Spool n) is = absurd is
+
 -- BY ITS ADMISSION
 
 module _ (Q : Queue) (config : IsConfig Q.config) (b : Book) (by : MemberId) where
@@ -160,6 +171,7 @@ module _ (Q : Queue) (config : IsConfig Q.config) (b : Book) (by : MemberId) whe
   IsKnown (TakesOver of) = IsUpMember Q.config b by × IsDown of × (is_holder b of ≡ true)
   IsKnown Locks = IsUpMember Q.config b by
   IsKnown Frees = IsUpMember Q.config b by × (is_holder b by ≡ true)
+  IsKnown (Replaces dev) = IsUpMember Q.config b by × IsCkpt dev
   IsKnown Unplayed = ⊥
 
   module _ (up : IsUpMember Q.config b by) where
@@ -210,7 +222,7 @@ module _ (Q : Queue) (config : IsConfig Q.config) (b : Book) (by : MemberId) whe
     known_asked ask.Lock is played = known_tries Locks up
     known_asked ask.Free is played = known_free (is_holder b by) refl
     known_asked (ask.Line n) is played = absurd (true_false (sym played.built))
-    known_asked (ask.Replace dev) is played = absurd (true_false (sym played.built))
+    known_asked (ask.Replace dev) is played = known_tries (Replaces dev) (up, copy_ckpt dev played.fits.what)
     known_asked ask.Stop is played = absurd (true_false (sym is))
     known_asked (ask.StopIn fuse n) is played = absurd (true_false (sym is))
     known_asked (ask.Lose dev) is played = absurd (true_false (sym is))

@@ -1,5 +1,5 @@
 -- What a line found is said as well of a later view of the plant: when the operator has said that its member was stopped.
-use Rattle.std.proofs.Common.{inl, inr, ⊎_elim, ℕ, List, Option, Some, None, ◌+◌}
+use Rattle.std.proofs.Common.{inl, inr, ⊎_elim, ℕ, List, Option, Some, None, ◌+◌, refl}
 use Rattle.std.proofs.lemmas.List.Elements.{All-weaker}
 use Rattle.mas_types.specs.declared.answers.Closing.{Closing}
 use Rattle.mas_types.specs.declared.answers.Closing.TheVariants as closing
@@ -25,8 +25,8 @@ use Rattle.step_turns.specs.declared.states.Holder.{Holder}
 use Rattle.step_turns.specs.declared.states.State.{State}
 use Rattle.step_turns.specs.declared.states.State.TheVariants.{Away, Fresh, Rested, Told}
 use Rattle.step_turns.specs.declared.states.Task.{Task}
-use Rattle.step_turns.specs.declared.states.Task.TheVariants.{Deck, Give, Work}
-use Rattle.step_turns.specs.declared.states.Aside.TheVariants.{PrintLines, ReadText, SpoolDeck, SpoolOutputs}
+use Rattle.step_turns.specs.declared.states.Task.TheVariants.{Deck, Give, Line, Work}
+use Rattle.step_turns.specs.declared.states.Aside.TheVariants.{Acknowledge, Exchange, PrintLines, ReadText, SpoolArrival, SpoolDeck, SpoolOutputs}
 use Rattle.member_sittings.specs.Shapes.{SaysAtEnd}
 use Rattle.member_hand.specs.Found.{AreFoundIn, IsFoundAt, Wait}
 use Rattle.member_hand.specs.Shapes.{AreFewPieces, AreShaped, DeckLinesIn, SaysIn, WorkLinesIn}
@@ -38,13 +38,13 @@ module _ (old mid new : View) (goes : Proceeds mid new) where
   failed_later : (per : ℕ) (groups : List GroupNo) (volume : ℕ) → HasFailed per groups volume old mid → HasFailed per groups volume old new
   failed_later per groups volume failed = record {
     there = failed.there;
-    lost = goes.lost (Disk (Spool volume)) failed.lost;
+    lost = goes.lost (Disk (Spool volume)) refl failed.lost;
     rose = rose_more (old.faults (Disk (Spool volume))) (mid.faults (Disk (Spool volume))) (new.faults (Disk (Spool volume))) failed.rose (goes.faults (Disk (Spool volume)));
   }
 
   printer_later : (by : MemberId) → HasPrinterFailed by old mid → HasPrinterFailed by old new
   printer_later by failed = record {
-    lost = goes.lost (Printer by) failed.lost;
+    lost = goes.lost (Printer by) refl failed.lost;
     rose = rose_more (old.faults (Printer by)) (mid.faults (Printer by)) (new.faults (Printer by)) failed.rose (goes.faults (Printer by));
   }
 
@@ -70,6 +70,9 @@ module _ (old mid new : View) (goes : Proceeds mid new) where
         there = is.there;
         as_had = read_later (Unit {0}) per is.output.text _ found.read is.as_had;
       }
+  found_later per by Q (Away (Exchange l offer)) found is = is
+  found_later per by Q (Away (SpoolArrival number job cards service)) found is = is
+  found_later per by Q (Away (Acknowledge number service)) found is = is
   found_later per by Q (Fresh task) found is = is
   found_later per by Q (Rested p) found is = is
   found_later per by Q Told found is = is
@@ -84,7 +87,7 @@ module _ (old mid new : View) (goes : Proceeds mid new) where
   lost_later : (lost : Option ℕ) → IsFoundLost lost old mid → IsFoundLost lost old new
   lost_later None is = tt
   lost_later (Some volume) is = (
-    goes.lost (Disk (Spool volume)) is.0,
+    goes.lost (Disk (Spool volume)) refl is.0,
     rose_more (old.faults (Disk (Spool volume))) (mid.faults (Disk (Spool volume))) (new.faults (Disk (Spool volume))) is.1 (goes.faults (Disk (Spool volume))),
   )
 
@@ -109,6 +112,7 @@ module _ (old mid new : View) (goes : Proceeds mid new) where
   refuse_later by (closing.BadCard card cause) may = absurd may
   refuse_later by (closing.LineLost line) may = absurd may
   refuse_later by (closing.NotLost copy) may = absurd may
+  refuse_later by (closing.CkptLost copy) may = absurd may
   refuse_later by (closing.Line sent got) may = absurd may
 
   -- lines that are said at a step's end alone
@@ -128,6 +132,7 @@ module _ (old mid new : View) (goes : Proceeds mid new) where
   says_later h (Give c) p says = says
   says_later h (Deck fields text) p says =
       at_end p.sitting.next (DeckLinesIn h nothing_found old mid) (DeckLinesIn h nothing_found old new) (deck_later h nothing_found) p.sitting.lines says
+  says_later h (Line l) p says = says
   says_later h (Work n) p says =
       let units = units_done (Fresh (Work n)) + units_left (Fresh (Work n)) in
       at_end p.sitting.next (WorkLinesIn h units nothing_found old mid) (WorkLinesIn h units nothing_found old new) (work_later h units nothing_found) p.sitting.lines says
@@ -143,6 +148,7 @@ module _ (old mid new : View) (goes : Proceeds mid new) where
   shape_later h (Give c) ps is = is
   shape_later h (Deck fields text) ps is = few_later h (Deck fields text) ps is
   shape_later h (Work n) ps is = few_later h (Work n) ps is
+  shape_later h (Line l) ps is = few_later h (Line l) ps is
 
   pub task_later : (h : Holder) (task : Task) (ps : List Piece) → IsTaskShaped h old mid task ps → IsTaskShaped h old new task ps
   task_later h task ps is = record { own = is.own; shaped = shape_later h task ps is.shaped }

@@ -26,10 +26,9 @@ use Rattle.run_turns.specs.Givens.{Given, ask_with, play_with, played_with, AreP
 use Rattle.mas_run.specs.LinesAt.{LineAt, admitted_at, pieces_at, played_at}
 use Rattle.run_turns.specs.Pieces.{fate_found, sayer_of}
 use Rattle.run_turns.specs.Admissions.{admitted}
-use Rattle.mas_run.specs.Lines.{AdmissionLeaves, AskLeaves, CutsAs, IfIdle, IfOfMember, IsPassed, IsWithin, LosesAs, arms_by, arms_then, cut_in, cut_of, is_takeover, is_work, printed_at, taking, IsGiven, IsHonest, IsHonestAs}
+use Rattle.mas_run.specs.Lines.{AdmissionLeaves, AskLeaves, CutsAs, IfIdle, IfOfMember, IsPassed, IsWithin, LosesAs, arms_by, arms_then, cut_in, cut_of, is_takeover, is_work, printed_at, taking, IsGiven, IsHonest, IsHonestAs, StaysAs}
 use Rattle.mas_run.specs.LinesLeft.{HasLeft, left_at}
 use Rattle.mas_run.specs.LinesPlayed.{is_of_member}
-use Rattle.mas_run.proofs.PassedLemmas.{proceeds_of}
 
 false_true : false ≡ true → ⊥
 false_true e = absurd (cc)
@@ -178,6 +177,9 @@ module _ {P C : Type 0} (plants : PlantGhosts P) (copies : CopyGhosts C) (told :
   pub honest_of : told → IsHonest l (v x) (v y)
   honest_of t = subst (λ (c : Option Cut). IsHonestAs l (admitted_at l) c (v x) (v y)) (sym (member_cut l.step.what l.given.sight.cut member)) (left.honest t)
 
+  pub stay_of : told → StaysAs l (admitted_at l) (cut_of l) (v x) (v y)
+  stay_of t = subst (λ (c : Option Cut). StaysAs l (admitted_at l) c (v x) (v y)) (sym (member_cut l.step.what l.given.sight.cut member)) (left.stay t)
+
 -- what a line that takes the lock over found of a batch in flight
 abbrev pub took : LineAt → Option Fate
 took l = taking (is_takeover (admitted_at l)) (fate_found (admitted_at l) l.given.sight)
@@ -205,9 +207,11 @@ module _ {P C : Type 0} (plants : PlantGhosts P) (copies : CopyGhosts C) (told :
 
   pub passed_uncut : IsPassed told copies.reads l left.own (w x) (w y) (Ok tt)
   passed_uncut = record {
-    goes = proceeds_of (w x) (w y) left.goes;
+    goes = left.goes;
+    stays = left.stays;
     given = given_of plants copies told l x y member left;
     honest = λ t. if_member l.step.what _ (honest_of plants copies told l x y member left t);
+    stay = λ t. if_member l.step.what _ (stay_of plants copies told l x y member left t);
     cut = subst (λ (c : Option Cut). CutsAs {T = Unit {0}} (Ok tt) l.step.by c (w x) (w y)) (sym none_cut) (left.spares.stops l.step.by.0 (inr refl));
     within = subst (λ (c : Option Cut). IsWithin c (pieces_at l)) (sym none_cut) tt;
     why = no_node.Halted;
@@ -222,6 +226,6 @@ module _ {P C : Type 0} (plants : PlantGhosts P) (copies : CopyGhosts C) (told :
     paper = λ t m. printed_here plants copies told l x y member left m t;
     dry = left.dry;
     loses = λ t. subst (λ (d : Option Dev). LosesAs copies.reads (took l) d (w x) (w y)) (sym (loses_none l member)) (left.loses t);
-    arms = λ m. left.goes.arms m ∙ sym (arms_same plants copies told l x y member left m);
+    arms = λ m. left.arms m ∙ sym (arms_same plants copies told l x y member left m);
     volumes = λ t leaves. left.volumes t (leaves_as plants copies told l x y member left l.step.what member leaves);
   }

@@ -7,12 +7,14 @@ pub mod RefusalLemmas
 pub mod ResetLemmas
 pub mod WarmLemmas
 pub mod PassedLemmas
+pub mod RenewedLemmas
 pub mod LinesLemmas
 pub mod MemberRunLemmas
 pub mod CopiesLemmas
 pub mod WayLemmas
 pub mod UnstoppedLemmas
 pub mod BetweenLemmas
+pub mod StayLemmas
 pub mod LeftLemmas
 pub mod LaterLemmas
 pub mod StopLemmas
@@ -58,6 +60,8 @@ pub mod HaltedLemmas
 pub mod SceneLemmas
 pub mod ClosesLemmas
 pub mod SeatsLemmas
+pub mod ReplacedLemmas
+pub mod ReplacingLemmas
 pub mod TurnedLemmas
 pub mod DoneLemmas
 pub mod BarelyLemmas

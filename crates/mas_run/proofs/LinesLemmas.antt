@@ -101,15 +101,15 @@ settle_both f at (a ∷ so) bs = ap (λ (cs : List Batch). settled_at f at a ∷
 
 module _ (told : Type 0) (front : List Batch) (now : ℕ) (settled : AreSettled front now) where
   abbrev own_here : Here → List Batch → Here
-  own_here h own = record { reads = h.reads; number = h.number; scene = h.scene; batches = own; view = h.view }
+  own_here h own = record { reads = h.reads; number = h.number; scene = h.scene; batches = own; renewals = h.renewals; view = h.view }
 
   abbrev own_there : There → List Batch → There
-  own_there x own = record { batches = own; view = x.view; answer = x.answer }
+  own_there x own = record { batches = own; renewals = x.renewals; view = x.view; answer = x.answer }
 
   pub passed_after : (h : Here) (gs : List Given) (steps : List Step) (many : ℕ) (end : There) (own : List Batch)
       → h.batches ≡ front ++ own → ArePassed told h gs steps many end
       → (rest : List Batch) × (end.batches ≡ front ++ rest) × ArePassed told (own_here h own) gs steps many (own_there end rest)
-  passed_after h gs [] many end own is p = (own, p.0 ∙ is, (refl, p.1, p.2, p.3))
+  passed_after h gs [] many end own is p = (own, p.0 ∙ is, (refl, p.1, p.2, p.3, p.4))
   passed_after h gs (step ∷ steps) many end own is (there, more, one, next, rest) =
       let g = given_first gs in
       let p = played_at (line_of h g step) in
@@ -124,7 +124,7 @@ module _ (told : Type 0) (front : List Batch) (now : ℕ) (settled : AreSettled 
       ((own_there end r ≡ own_there there mine) × (more ≡ 0))) rest
       (λ m. let i = passed_after (here_after h g step there) (drop 1 gs) steps more end mine now_is m.1 in (i.0, i.1, (m.0, i.2)))
       (λ e. (mine, ap (λ (x : There). x.batches) e.0 ∙ now_is, (ap (λ (x : There). own_there x mine) e.0, e.1))) in
-      (out.0, out.1, (own_there there mine, more, one, record { own = next.own; passed = next.passed; at = next.at; moment = next.moment; batches = refl }, out.2))
+      (out.0, out.1, (own_there there mine, more, one, record { own = next.own; passed = next.passed; at = next.at; moment = next.moment; batches = refl; renews = next.renews }, out.2))
 
 -- A LINE THAT FINDS NOTHING leaves the journal's batches as they were
 

@@ -71,7 +71,7 @@ module _ {P C : Type 0} (plants : PlantGhosts P) (copies : CopyGhosts C) (x : Pa
   pub locks_next : (ms : List Member) → at ≤ steps_most → x.current ≡ None → IsBetween plants copies x ms at → IsBetween plants copies y (set ms (by.0 - 1) n) (at + 1)
   locks_next ms few calm is =
       between_after plants copies x y base (subst (λ (b : Book). Since x.book b) (sym book) (tried_since x.book by inside false)) by
-      (inl (ap (λ (b : Book). b.holder) book ∙ holds)) n aside room id (λ mine. seat) ms at inside.0 (let le = inside.1 in let booked = is.booked in omega (arith, le, booked)) few is
+      (inl (ap (λ (b : Book). b.holder) book ∙ holds)) n aside room id (λ mine. seat) ms at inside.0 (let le = inside.1 in let booked = is.booked in omega (arith, le, booked)) few is goes.size
       (earlier_more at y.batches x.batches [] journal (earlier_now at x.batches x.current calm is.earlier) (All-nil (IsOfEarlier (at + 1))))
       (λ k later less small t.
       let s = closed.console t in

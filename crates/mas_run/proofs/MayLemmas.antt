@@ -27,7 +27,7 @@ use Rattle.member_hand.specs.Quiet.{IsQuiet, IsSeatedBy, MayGoOn, levels_for}
 use Rattle.step_turns.specs.declared.states.Grant.TheVariants.{ByLock, ForStep}
 use Rattle.step_turns.specs.declared.states.State.TheVariants.{Fresh}
 use Rattle.step_turns.specs.declared.states.Task.{Task}
-use Rattle.step_turns.specs.declared.states.Task.TheVariants.{Deck, Give, Work}
+use Rattle.step_turns.specs.declared.states.Task.TheVariants.{Deck, Give, Line, Work}
 use Rattle.run_turns.specs.Admissions.{granted_by}
 use Rattle.mas_run.specs.Bounds.{level_most, levels_most}
 use Rattle.mas_run.specs.Shows.{IsBetween, IsMemberUp, IsOfEarlier, is_left_held}
@@ -38,12 +38,14 @@ use Rattle.mas_run.proofs.BookLemmas.{tried_since}
 
 abbrev pub IsFewTask : Task → Type 0
 IsFewTask (Work n) = n ≤ units_most
+IsFewTask (Line l) = ⊥
 IsFewTask _ = Unit {0}
 
 pub few_levels : (task : Task) → IsFewTask task → levels_for (Fresh task) + 4 ≤ levels_most
 few_levels (Give c) few = omega arith
 few_levels (Deck fields text) few = omega arith
 few_levels (Work n) few = omega (arith, few)
+few_levels (Line l) few = absurd few
 
 -- THE LOCK
 

@@ -11,6 +11,7 @@ use Rattle.ckpt_copy.specs.declared.copying.Copying.{Ghosts as CopyGhosts}
 use Rattle.ckpt_form.specs.declared.steady.Steady.{Ghosts as SteadyGhosts}
 use Rattle.mas_complex.specs.declared.complex.Complex.{Complex}
 use Rattle.mas_complex.specs.Journals.{end_of}
+use Rattle.mas_complex.specs.declared.renewals.Renewals.{Renewals}
 use Rattle.mas_complex.specs.Parts.{parts_of}
 use Rattle.member_node.specs.declared.member.NodeNo.{NodeNo}
 use Rattle.member_node.specs.declared.member.NodeNo.TheVariants as no_node
@@ -26,6 +27,7 @@ use Rattle.mas_run.specs.Passed.{ArePassed, Passed, There}
 use Rattle.mas_run.specs.Shows.{Shows, StandsIn}
 use Rattle.mas_run.specs.Statuses.{status_of}
 use Rattle.mas_run.proofs.PassedLemmas.{Ended as EndedBy, passed_arms, passed_console, passed_ended, passed_failed, passed_history, passed_loses, passed_loses_copies, passed_many, passed_paper, passed_right, passed_volumes}
+use Rattle.mas_run.proofs.RenewedLemmas.{passed_first, passed_second, passed_stays}
 
 ends_as : (result : Result (Unit {0}) NodeNo) (cut : Option Cut) (many lines : ℕ) → EndedBy result cut many lines → EndsAs (status_of result) cut many lines
 ends_as (Ok done) cut many lines ended = ended
@@ -35,13 +37,13 @@ ends_as (Err no_node.ConsoleFault) cut many lines ended = (ended.0, ended.1)
 ends_as (Err no_node.Halted) cut many lines ended = absurd (ended.2 refl)
 
 module _ (told : Type 0) (b : LinesBegun) where
-  abbrev came : ℕ → List Batch → View → Result (Unit {0}) NodeNo → LinesEnded
-  came many batches view result = record { many = many; batches = batches; view = view; answer = status_of result }
+  abbrev came : ℕ → List Batch → Renewals → View → Result (Unit {0}) NodeNo → LinesEnded
+  came many batches rs view result = record { many = many; batches = batches; renewals = rs; view = view; answer = status_of result }
 
-  pub have_passed : (given : List Given) (many : ℕ) (batches : List Batch) (view : View) (result : Result (Unit {0}) NodeNo)
-      → ArePassed told (starts b) given b.steps many (stops (came many batches view result) result) → HavePassed told b (came many batches view result)
-  have_passed given many batches view result p =
-      let end = stops (came many batches view result) result in
+  pub have_passed : (given : List Given) (many : ℕ) (batches : List Batch) (rs : Renewals) (view : View) (result : Result (Unit {0}) NodeNo)
+      → ArePassed told (starts b) given b.steps many (stops (came many batches rs view result) result) → HavePassed told b (came many batches rs view result)
+  have_passed given many batches rs view result p =
+      let end = stops (came many batches rs view result) result in
       record {
         given = given;
         result = result;
@@ -59,6 +61,9 @@ module _ (told : Type 0) (b : LinesBegun) where
         loses_copies = λ t none d. passed_loses_copies told d (starts b) given b.steps many end t none p;
         arms = λ m. passed_arms told (starts b) given b.steps many end m (b.view.arms m) refl p;
         volumes = λ t leave. passed_volumes told (starts b) given b.steps many end t leave p;
+        stays = λ d none. passed_stays told d (starts b) given b.steps many end none p;
+        unrenewed1 = λ none. passed_first told (starts b) given b.steps many end none p;
+        unrenewed2 = λ none. passed_second told (starts b) given b.steps many end none p;
       }
 
 -- AS A RUN HAS THEM, whose journal had these batches before them, and nothing in flight
@@ -82,9 +87,11 @@ module _ {P C : Type 0} {plants : PlantGhosts P} {steadies : SteadyGhosts C} {co
         let p = passes S shows in
         passed_failed told (here_at plants copies 1 S (journal_of (parts_of x)) (parts_of x)) p.given steps many ends p.are failed
 
-    pub lines_passed : (front batches : List Batch) → journal_of (parts_of x) ≡ front → batches ≡ journal_of (parts_of y)
-        → Passed told (record { reads = copies.reads; number = 1; scene = S; batches = front; view = plants.view x.plant }) steps many (record { batches = batches; view = plants.view y.plant; answer = result })
-    lines_passed front batches was is =
-        let first : Passed told (record { reads = copies.reads; number = 1; scene = S; batches = front; view = plants.view x.plant }) steps many ends =
-        subst (λ (bs : List Batch). Passed told (record { reads = copies.reads; number = 1; scene = S; batches = bs; view = plants.view x.plant }) steps many ends) was (passes S shows) in
-        subst (λ (bs : List Batch). Passed told (record { reads = copies.reads; number = 1; scene = S; batches = front; view = plants.view x.plant }) steps many (record { batches = bs; view = plants.view y.plant; answer = result })) (sym is) first
+    pub lines_passed : (front batches : List Batch) (rs : Renewals) → journal_of (parts_of x) ≡ front → x.renewals ≡ rs → batches ≡ journal_of (parts_of y)
+        → Passed told (record { reads = copies.reads; number = 1; scene = S; batches = front; renewals = rs; view = plants.view x.plant }) steps many (record { batches = batches; renewals = y.renewals; view = plants.view y.plant; answer = result })
+    lines_passed front batches rs was none is =
+        let first : Passed told (record { reads = copies.reads; number = 1; scene = S; batches = front; renewals = x.renewals; view = plants.view x.plant }) steps many ends =
+        subst (λ (bs : List Batch). Passed told (record { reads = copies.reads; number = 1; scene = S; batches = bs; renewals = x.renewals; view = plants.view x.plant }) steps many ends) was (passes S shows) in
+        let from : Passed told (record { reads = copies.reads; number = 1; scene = S; batches = front; renewals = rs; view = plants.view x.plant }) steps many ends =
+        subst (λ (ks : Renewals). Passed told (record { reads = copies.reads; number = 1; scene = S; batches = front; renewals = ks; view = plants.view x.plant }) steps many ends) none first in
+        subst (λ (bs : List Batch). Passed told (record { reads = copies.reads; number = 1; scene = S; batches = front; renewals = rs; view = plants.view x.plant }) steps many (record { batches = bs; renewals = y.renewals; view = plants.view y.plant; answer = result })) (sym is) from

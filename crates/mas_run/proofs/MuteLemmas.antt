@@ -45,7 +45,7 @@ armed_goes old arms = record {
   size = λ d. refl;
   faults = λ p. omega arith;
   stops = λ m. omega arith;
-  lost = λ p is. is;
+  lost = λ p other is. is;
 }
 
 module _ {P C : Type 0} (plants : PlantGhosts P) (copies : CopyGhosts C) (x y : Parts P C) (frame : y ≡ record x { plant = y.plant })

@@ -56,17 +56,15 @@ module _ {P C : Type 0} (plants : PlantGhosts P) (x y : Parts P C) (one : y.firs
   v w = plants.view w.plant
 
   goes_so : (old : View) (arms : ℕ → ℕ) → Proceeds old (record old { arms = arms })
-  goes_so old arms = record { later = omega arith; past = λ t le. refl; size = λ d. refl; faults = λ p. omega arith; stops = λ m. omega arith; lost = λ p is. is }
+  goes_so old arms = record { later = omega arith; past = λ t le. refl; size = λ d. refl; faults = λ p. omega arith; stops = λ m. omega arith; lost = λ p other is. is }
 
   still_copies : KeepCopies plants {T = Unit {0}} x y (Ok tt)
   still_copies = record {
     goes = subst (λ (u : View). Proceeds (v x) u) (sym same) (goes_so (v x) (v y).arms);
     failed1 = λ is gone. absurd (no x.first_alive is (sym one ∙ gone));
     failed2 = λ is gone. absurd (no x.second_alive is (sym two ∙ gone));
-    there1 = λ is there. ap (λ (u : View). u.lost (Disk Ckpt1)) same ∙ there;
-    there2 = λ is there. ap (λ (u : View). u.lost (Disk Ckpt2)) same ∙ there;
-    alive1 = λ is. sym one ∙ is;
-    alive2 = λ is. sym two ∙ is;
+    there1 = λ is there. ap (λ (u : View). u.lost (Disk Ckpt1)) same ∙ there (sym one ∙ is);
+    there2 = λ is there. ap (λ (u : View). u.lost (Disk Ckpt2)) same ∙ there (sym two ∙ is);
     grow = λ d. inl (ap (λ (u : View). u.loses d) same);
     left = inl (inr (one, two));
   }
@@ -123,7 +121,7 @@ module _ {P C : Type 0} {plants : PlantGhosts P} {steadies : SteadyGhosts C} {co
     stop_line told S shown =
         let frame = stops S (is_at told S shown) in
         plain_played plants copies told S at (line_by by ask.Stop) refl p q
-        (stop_plain plants told S at by p q (ap (λ (w : Parts P C). w.plant) frame) (ap (λ (w : Parts P C). journal_of w) frame))
+        (stop_plain plants told S at by p q (ap (λ (w : Parts P C). w.plant) frame) (ap (λ (w : Parts P C). journal_of w) frame) (ap (λ (w : Parts P C). w.renewals) frame))
         (stop_shown plants copies told S by p q shown (ap (λ (w : Parts P C). queue_of w) frame) (ap (λ (w : Parts P C). w.current) frame) (ap (λ (w : Parts P C). w.printed) frame)
         (inside_up S (is_at told S shown)) (ap (λ (w : Parts P C). w.book) frame))
 
@@ -180,7 +178,7 @@ module _ {P C : Type 0} {plants : PlantGhosts P} {steadies : SteadyGhosts C} {co
     arm_line : (told : Type 0) → PlayedLine told at (line_by by (ask.StopIn what n)) x y (Ok tt)
     arm_line told S shown =
         plain_played plants copies told S at (line_by by (ask.StopIn what n)) refl p q
-        (arm_plain plants told S at by what n p q (arms_at S (is_at told S shown)) (ap (λ (w : Parts P C). journal_of w) frame))
+        (arm_plain plants told S at by what n p q (arms_at S (is_at told S shown)) (ap (λ (w : Parts P C). journal_of w) frame) (ap (λ (w : Parts P C). w.renewals) frame))
         (arm_shown plants copies told S by p q shown (ap (λ (w : Parts P C). queue_of w) frame) (ap (λ (w : Parts P C). w.current) frame) (ap (λ (w : Parts P C). w.printed) frame)
         what n (ap (λ (w : Parts P C). w.book) frame))
 
@@ -271,10 +269,8 @@ module _ {P C : Type 0} {plants : PlantGhosts P} {steadies : SteadyGhosts C} {co
       goes = proceeds_of (plants.view x.plant) (plants.view y.plant) lost.goes;
       failed1 = failed_then Ckpt1 p.first_alive q.first_alive first_is;
       failed2 = failed_then Ckpt2 p.second_alive q.second_alive second_is;
-      there1 = there_then Ckpt1 p.first_alive q.first_alive first_is (apart_by dev Ckpt1 tt dead);
-      there2 = there_then Ckpt2 p.second_alive q.second_alive second_is (apart_by dev Ckpt2 tt dead);
-      alive1 = alive_then Ckpt1 p.first_alive q.first_alive first_is;
-      alive2 = alive_then Ckpt2 p.second_alive q.second_alive second_is;
+      there1 = λ on there. there_then Ckpt1 p.first_alive q.first_alive first_is (apart_by dev Ckpt1 tt dead) on (there (alive_then Ckpt1 p.first_alive q.first_alive first_is on));
+      there2 = λ on there. there_then Ckpt2 p.second_alive q.second_alive second_is (apart_by dev Ckpt2 tt dead) on (there (alive_then Ckpt2 p.second_alive q.second_alive second_is on));
       grow = grows plants dev p q lost;
       left = ⊎_elim (λ gone. inr (left_then Ckpt1 (inl refl) gone.0))
           (λ one. ⊎_elim (λ gone. inr (left_then Ckpt2 (inr refl) gone.0)) (λ two. inl (inr (one, two))) second_is) first_is;
@@ -286,7 +282,7 @@ module _ {P C : Type 0} {plants : PlantGhosts P} {steadies : SteadyGhosts C} {co
     lose_line : (told : Type 0) → (told → plants.tells) → PlayedLine told at (line_by by (ask.Lose dev)) x y (Ok tt)
     lose_line told tells S shown =
         plain_played plants copies told S at (line_by by (ask.Lose dev)) refl p q
-        (lose_plain plants told tells S at by dev p q lost els (ap (λ (w : Parts P C). journal_of w) lost_whole))
+        (lose_plain plants told tells S at by dev p q lost els (ap (λ (w : Parts P C). journal_of w) lost_whole) (ap (λ (w : Parts P C). w.renewals) lost_whole))
         (lose_shown plants copies told S by p q shown (ap (λ (w : Parts P C). queue_of w) lost_whole) (ap (λ (w : Parts P C). w.current) lost_whole) (ap (λ (w : Parts P C). w.printed) lost_whole)
         dev (ap (λ (w : Parts P C). w.book) lost_whole))
 

@@ -15,7 +15,7 @@ use Rattle.step_turns.specs.Entries.{all_entries}
 use Rattle.step_turns.specs.declared.states.Release.{Release}
 use Rattle.step_turns.specs.declared.states.Release.TheVariants.{Inner, Keep, Outer}
 use Rattle.run_turns.specs.Sights.{Cause, Cut, Ends, Halt, Saying, Stops, Waiting, Writing}
-use Rattle.run_turns.specs.Admissions.{Admission, Denied, Frees, Locks, Plays, Refused, Resets, TakesOver, Unplayed, admitted, tried}
+use Rattle.run_turns.specs.Admissions.{Admission, Denied, Frees, Locks, Plays, Refused, Replaces, Resets, TakesOver, Unplayed, admitted, tried}
 use Rattle.run_turns.specs.Cuts.{Left, adds, adds_all, adds_first, adds_part, book_cut, left_by, none_left, stopped_by}
 use Rattle.run_turns.specs.Givens.{Given, ask_with, play_with}
 use Rattle.run_turns.specs.Pieces.{Piece, Play, entered, released_by, spent}
@@ -130,6 +130,7 @@ module _ (by k : MemberId) where
   admitted_same (Denied why) b = tried_same b false
   admitted_same (Plays task) b = tried_same b false
   admitted_same (Resets of) b = tried_same b false
+  admitted_same (Replaces dev) b = tried_same b false
   admitted_same Locks b = tried_same b false
 
   play_same : (play : Play) (count : ℕ) (cut : Option Cut) → (StopsIn cut → Apart) → Same play.book (left_by by cut play count).book

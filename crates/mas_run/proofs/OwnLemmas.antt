@@ -24,9 +24,9 @@ use Rattle.step_turns.proofs.Sittings.{lines_are_said_at_the_end}
 use Rattle.member_decks.specs.Steps.{AreOf}
 use Rattle.member_hand.specs.Cuts.{AreBatched, IsBatched}
 use Rattle.member_hand.specs.Plays.{IsOwnPiece}
-use Rattle.run_turns.specs.Admissions.{Admission, Denied, Frees, Locks, Plays, Refused, Resets, TakesOver, Unplayed, denied_closing}
+use Rattle.run_turns.specs.Admissions.{Admission, Denied, Frees, Locks, Plays, Refused, Replaces, Resets, TakesOver, Unplayed, denied_closing}
 use Rattle.run_turns.specs.Cuts.{Left, adds, adds_all, adds_first, batches_cut, begun, kept_all, left_by, none_left}
-use Rattle.run_turns.specs.Pieces.{Piece, Play, holder_of, once_found, piece_at, pieces_found, pieces_from, pieces_of, reset_closing, unless_told}
+use Rattle.run_turns.specs.Pieces.{Piece, Play, holder_of, once_found, piece_at, pieces_found, pieces_from, pieces_of, replaced_closing, reset_closing, unless_told}
 use Rattle.run_turns.specs.Scenes.{Batched, Scene, count_then, with_fate}
 use Rattle.run_turns.specs.Sights.{Begun, Cut, Halt, Saying, Sight, Waiting, Writing}
 use Rattle.mas_run.specs.Shows.{IsOfEarlier}
@@ -50,6 +50,7 @@ closed_of by at closing.PrinterLost = closing_of by at closing.PrinterLost
 closed_of by at (closing.LineLost line) = closing_of by at (closing.LineLost line)
 closed_of by at (closing.NoText group) = closing_of by at (closing.NoText group)
 closed_of by at (closing.NotLost copy) = closing_of by at (closing.NotLost copy)
+closed_of by at (closing.CkptLost copy) = closing_of by at (closing.CkptLost copy)
 closed_of by at (closing.Line sent got) = closing_of by at (closing.Line sent got)
 
 told_or : (s : State) → (s ≡ Told) ⊎ (s ≢ Told)
@@ -89,6 +90,7 @@ line_says S by at sight Q (Refused sayer end) = (closing_of by at end, tt)
 line_says S by at sight Q (Denied why) = (closing_of by at (denied_closing why), tt)
 line_says S by at sight Q (Plays task) = from_says (task_most task) sight (S.counts by) Q (holder_of S by at (Plays task)) (Fresh task) (λ e. absurd (cc))
 line_says S by at sight Q (Resets of) = (closing_of by at (reset_closing of _), tt)
+line_says S by at sight Q (Replaces dev) = (closing_of by at (replaced_closing dev sight.renewed), tt)
 line_says S by at sight Q (TakesOver of) = (closing_of by at (reset_closing of _), tt)
 line_says S by at sight Q Locks = (closing_of by at (closing.Reply reply.Plain), tt)
 line_says S by at sight Q Frees = (closing_of by at (closing.Reply reply.Plain), tt)

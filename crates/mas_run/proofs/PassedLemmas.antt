@@ -44,7 +44,7 @@ proceeds_none v = record {
   size = λ d. refl;
   faults = λ p. omega arith;
   stops = λ m. omega arith;
-  lost = λ p is. is;
+  lost = λ p other is. is;
 }
 
 pub proceeds_on : (old mid new : View) → Proceeds old mid → Proceeds mid new → Proceeds old new
@@ -54,7 +54,7 @@ proceeds_on old mid new first more = record {
   size = λ d. more.size d ∙ first.size d;
   faults = λ p. omega (arith, first.faults p, more.faults p);
   stops = λ m. omega (arith, first.stops m, more.stops m);
-  lost = λ p is. more.lost p (first.lost p is);
+  lost = λ p other is. more.lost p other (first.lost p other is);
 }
 
 pub proceeds_of : (old new : View) → Goes old new → Proceeds old new
@@ -64,7 +64,7 @@ proceeds_of old new goes = record {
   size = goes.size;
   faults = goes.faults;
   stops = goes.stops;
-  lost = goes.lost;
+  lost = λ p other is. goes.lost p is;
 }
 
 -- LINES

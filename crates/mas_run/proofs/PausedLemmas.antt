@@ -43,6 +43,7 @@ module _ {P C : Type 0} (plants : PlantGhosts P) (copies : CopyGhosts C) where
     sound = is.sound;
     begun = is.begun;
     roomy = is.roomy;
+    large = is.large;
     untold = λ by later le small. is.untold by later (omega (arith, le)) small;
     earlier = earlier_later at (x.batches ++ in_flight x.current) is.earlier;
     few = omega (arith, few);
@@ -148,6 +149,7 @@ module _ {P C : Type 0} (plants : PlantGhosts P) (copies : CopyGhosts C) where
       sound = is.sound;
       begun = is.begun;
       roomy = is.roomy;
+      large = is.large;
       untold = is.untold;
       earlier = is.earlier;
       few = is.few;

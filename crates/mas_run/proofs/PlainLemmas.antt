@@ -35,10 +35,10 @@ use Rattle.run_turns.specs.Admissions.{Admission}
 use Rattle.run_turns.specs.Givens.{IsAskRight, none_given}
 use Rattle.mas_run.specs.LinesAt.{LineAt, admitted_at, pieces_at, played_at}
 use Rattle.run_turns.specs.Scenes.{Batched, Scene}
-use Rattle.run_turns.specs.Sights.{Cut, Halt}
+use Rattle.run_turns.specs.Sights.{Cut, Halt, Replaced}
 use Rattle.run_turns.specs.Steps.{Played, Said, arm, is_up, lose, nothing, silent, stop}
 use Rattle.mas_run.specs.Histories.{settle}
-use Rattle.mas_run.specs.Lines.{AskLeaves, CutsAs, IfOfMember, IsWithin, LeavesVolumes, Proceeds, arms_then, cut_in, cut_of, is_work, loses_then, same_device}
+use Rattle.mas_run.specs.Lines.{AskLeaves, CutsAs, IfOfMember, IsWithin, LeavesVolumes, Proceeds, StaysLost, arms_then, cut_in, cut_of, is_work, loses_then, same_device}
 use Rattle.mas_run.specs.LinesPlayed.{HasPlayedLine, is_of_member}
 use Rattle.mas_run.specs.Shows.{IsFlight, IsShown}
 use Rattle.mas_run.specs.Volumes.{AreVolumesKept}
@@ -46,6 +46,7 @@ use Rattle.mas_run.proofs.BookLemmas.{Since, none_since, stopped_since}
 use Rattle.mas_run.proofs.LeftLemmas.{if_idle}
 use Rattle.mas_run.proofs.LinesLemmas.{settle_none}
 use Rattle.mas_run.proofs.PassedLemmas.{proceeds_none, proceeds_of}
+use Rattle.mas_run.proofs.RenewedLemmas.{renews_mute}
 use Rattle.mas_run.proofs.VolumeLemmas.{kept_none, no_more}
 
 true_false : true ≡ false → ⊥
@@ -111,6 +112,8 @@ pub record IsPlain {P C : Type 0} (plants : PlantGhosts P) (told : Type 0) (l : 
   pub arms : (m : ℕ) → (plants.view y.plant).arms m ≡ arms_then l m ((plants.view x.plant).arms m)
   pub volumes : told → LeavesVolumes l → AreVolumesKept (plants.view x.plant) (plants.view y.plant)
   pub journal : journal_of y ≡ journal_of x
+  pub renewals : y.renewals ≡ x.renewals
+  pub stays : (d : Dev) → StaysLost d (plants.view x.plant) (plants.view y.plant)
 
 module _ {P C : Type 0} (plants : PlantGhosts P) (copies : CopyGhosts C) (told : Type 0) (S : Scene) (at : ℕ) (step : Step) (none : is_of_member step.what ≡ false)
     (x y : Parts P C) where
@@ -133,8 +136,10 @@ module _ {P C : Type 0} (plants : PlantGhosts P) (copies : CopyGhosts C) (told :
       own = [];
       passed = record {
         goes = plain.goes;
+        stays = λ d other. plain.stays d;
         given = record { shaped = inr (unasked step.what none _); right = λ t. unfound S step.by at step.what none };
         honest = λ t. unasked step.what none _;
+        stay = λ t. unasked step.what none _;
         cut = subst (λ (c : Option Cut). CutsAs {T = Unit {0}} (Ok tt) step.by c (v x) (v y)) (sym none_cut) (plain.stops step.by.0);
         within = subst (λ (c : Option Cut). IsWithin c (pieces_at l)) (sym none_cut) tt;
         why = no_node.Halted;
@@ -156,6 +161,7 @@ module _ {P C : Type 0} (plants : PlantGhosts P) (copies : CopyGhosts C) (told :
       moment = (omega arith, plain.goes.later);
       batches = plain.journal ∙ sym (settle_none (v x).now (journal_of x)) ∙ sym (append-nil (settle Flying (v x).now (journal_of x)))
           ∙ ap (λ (f : Fate). settle f (v x).now (journal_of x) ++ []) (sym plain.found);
+      renews = renews_mute None Replaced x.renewals y.renewals (v x) (v y) plain.renewals S.queue.config S.book step.by step.what none;
     };
     shows = shows;
   }
@@ -170,7 +176,7 @@ silent_found true S T = refl
 silent_found false S T = refl
 
 module _ {P C : Type 0} (plants : PlantGhosts P) (told : Type 0) (S : Scene) (at : ℕ) (by : MemberId) (x y : Parts P C) (plant : y.plant ≡ x.plant)
-    (journal : journal_of y ≡ journal_of x) where
+    (journal : journal_of y ≡ journal_of x) (renewals : y.renewals ≡ x.renewals) where
   abbrev s : LineAt
   s = record { scene = S; number = at; step = record { by = by; what = ask.Stop }; given = none_given }
 
@@ -198,6 +204,8 @@ module _ {P C : Type 0} (plants : PlantGhosts P) (told : Type 0) (S : Scene) (at
     arms = λ m. ap (λ (u : View). u.arms m) same;
     volumes = λ t leaves. subst (λ (u : View). AreVolumesKept (w x) u) (sym same) (kept_none (w x));
     journal = journal;
+    renewals = renewals;
+    stays = λ d is. ap (λ (u : View). u.lost (Disk d)) same ∙ is;
   } where
     loses_still : (up : Bool) (d : Dev) → loses_then (silent_if up S stops_then).outcome.loses d ((w x).loses d) ≡ (w x).loses d
     loses_still true d = refl
@@ -275,7 +283,7 @@ armed_grow true m old new arms k = by_member (m == k) refl where
       arms.else_counted k other ∙ ap (λ (b : Bool). if b then next (old.arms k) else old.arms k) (sym is)
 
 module _ {P C : Type 0} (plants : PlantGhosts P) (told : Type 0) (S : Scene) (at : ℕ) (by : MemberId) (what : Fuse) (n : ℕ) (x y : Parts P C)
-    (arms : ArmsIf (is_up S by) by.0 (plants.view x.plant) (plants.view y.plant)) (journal : journal_of y ≡ journal_of x) where
+    (arms : ArmsIf (is_up S by) by.0 (plants.view x.plant) (plants.view y.plant)) (journal : journal_of y ≡ journal_of x) (renewals : y.renewals ≡ x.renewals) where
   abbrev a : LineAt
   a = record { scene = S; number = at; step = record { by = by; what = ask.StopIn what n }; given = none_given }
 
@@ -295,7 +303,7 @@ module _ {P C : Type 0} (plants : PlantGhosts P) (told : Type 0) (S : Scene) (at
     size = λ d. refl;
     faults = λ p. omega arith;
     stops = λ m. omega arith;
-    lost = λ p is. is;
+    lost = λ p other is. is;
   }
 
   pub arm_plain : IsPlain plants told a x y
@@ -313,6 +321,8 @@ module _ {P C : Type 0} (plants : PlantGhosts P) (told : Type 0) (S : Scene) (at
     arms = λ m. armed_grow (is_up S by) by.0 (u x) (u y) arms m;
     volumes = λ t leaves. subst (λ (w : View). AreVolumesKept (u x) w) (sym armed) (kept_none (u x));
     journal = journal;
+    renewals = renewals;
+    stays = λ d is. ap (λ (w : View). w.lost (Disk d)) armed ∙ is;
   }
 
 -- A DEVICE THAT IS LOST
@@ -344,13 +354,13 @@ lost_count dev d old new lost = by_dev (same_device d dev) refl where
   by_dev false is = lost.else_counted d (λ e. absurd (true_false (sym (own_dev dev) ∙ ap (λ (k : Dev). same_device k dev) (sym (ap disk_of e)) ∙ is)))
       ∙ ap (λ (b : Bool). if b then next (old.loses d) else old.loses d) (sym is)
 
-kept_elsewhere : (dev : Dev) (old new : View) → ((n : ℕ) → Spool n ≢ dev) → Elsewhere dev old new → AreVolumesKept old new
+pub kept_elsewhere : (dev : Dev) (old new : View) → ((n : ℕ) → Spool n ≢ dev) → Elsewhere dev old new → AreVolumesKept old new
 kept_elsewhere dev old new apart els t from to n =
     subst (NoMore (disk_now old (Spool n))) (sym (els.others t from to (Spool n) (apart n))) (no_more (disk_now old (Spool n)))
 
 module _ {P C : Type 0} (plants : PlantGhosts P) (told : Type 0) (tells : told → plants.tells) (S : Scene) (at : ℕ) (by : MemberId) (dev : Dev) (x y : Parts P C)
     (lost : Loses (Disk dev) (plants.view x.plant) (plants.view y.plant)) (els : plants.tells → Elsewhere dev (plants.view x.plant) (plants.view y.plant))
-    (journal : journal_of y ≡ journal_of x) where
+    (journal : journal_of y ≡ journal_of x) (renewals : y.renewals ≡ x.renewals) where
   abbrev d : LineAt
   d = record { scene = S; number = at; step = record { by = by; what = ask.Lose dev }; given = none_given }
 
@@ -377,4 +387,6 @@ module _ {P C : Type 0} (plants : PlantGhosts P) (told : Type 0) (tells : told �
     arms = lost.arms;
     volumes = λ t leaves. kept_elsewhere dev (q x) (q y) (leaves_dev (admitted_at d) dev leaves) (els (tells t));
     journal = journal;
+    renewals = renewals;
+    stays = λ e is. lost.goes.lost (Disk e) is;
   }

@@ -23,6 +23,7 @@ use Rattle.member_sittings.specs.Whole.{IsSeat, queue_of}
 use Rattle.member_steps.proofs.ReadLemmas.{pages_of_run}
 use Rattle.member_work.proofs.PrintedLemmas.{beside_none}
 use Rattle.member_work.specs.Printing.{IsBeside}
+use Rattle.member_hand.proofs.Passages.{passage_of}
 use Rattle.member_hand.specs.Cuts.{AreBatched}
 use Rattle.member_hand.specs.Locks.{IsToLeave, MayHold, left_book}
 use Rattle.member_hand.specs.Plays.{HasActedIn, HasCut, IsOwnPiece, Writes, left_of}
@@ -117,7 +118,7 @@ module _ {P C : Type 0} (plants : PlantGhosts P) (copies : CopyGhosts C) (h : Ho
   its_acts =
       subst (λ (q : Parts P C). HasActedIn plants copies h.by x q (Ok tt)) (sym left)
       (let a = acts_then plants copies h.by x z w (Ok tt) (seat_acted plants copies s x z may none unplaced frame ne seated)
-      (record { course = sat.sat.acts.course; loses = sat.sat.acts.loses; spares = sat.sat.acts.spares; cause = sat.sat.acts.cause }) in
+      (record { course = passage_of z.first_alive w.first_alive z.second_alive w.second_alive (v z) (v w) sat.sat.acts.course; loses = sat.sat.acts.loses; spares = sat.sat.acts.spares; cause = sat.sat.acts.cause }) in
       record { course = a.course; loses = a.loses; spares = a.spares; cause = a.cause })
 
   module _ (u : plants.tells) where

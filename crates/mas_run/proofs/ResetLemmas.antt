@@ -22,6 +22,7 @@ use Rattle.ckpt_form.specs.Form.{form_reads}
 use Rattle.duplex_pair.specs.Halves.{SomeAlive}
 use Rattle.mas_complex.specs.Crash.{EachTells, IsUntold, setting}
 use Rattle.mas_complex.specs.Headline.{Headline}
+use Rattle.mas_complex.specs.Renewals.{no_renewals}
 use Rattle.mas_complex.specs.Journals.{AreSettled, fated, has_step, kept_all, with_last}
 use Rattle.mas_complex.specs.Meaning.{Closes, run, step}
 use Rattle.ckpt_pages.specs.declared.tables.Tables.{Tables}
@@ -146,21 +147,22 @@ restart_entry batch more Q m none same is =
 -- A WARM RUN AFTER RESTART
 
 pub reset_ended : {T : Type 0} (tells : Type 0) (steps : List Step) (base : Queue) (journal : Journal) (since : ℕ) (old new : View) (a a' c c' : Bool) (why : NodeNo) → IsSound base → since ≡ old.now → SomeAlive a c → (a ≡ true → old.lost (DiskPart Ckpt1) ≡ false) → (c ≡ true → old.lost (DiskPart Ckpt2) ≡ false)
-    → (tells → ∥ Headline form_reads base since journal new ∥₁) → HasReset {T = T} tells journal.batches a a' c c' old new (Err why)
+    → (a' ≡ false → new.lost (DiskPart Ckpt1) ≡ true) → (c' ≡ false → new.lost (DiskPart Ckpt2) ≡ true)
+    → (tells → ∥ Headline form_reads base since journal no_renewals new ∥₁) → HasReset {T = T} tells journal.batches a a' c c' old new (Err why)
     → HasSteps false tells steps (status_of {T = T} (Err why)) base journal since old.loses old new
-reset_ended tells steps base journal since old new a a' c c' no_node.NoMemory base_sound is some there1 there2 head r =
-    reset_alone tells steps status.NoMemory base [] journal since old new base_sound r.ends.0 is r.course.goes (inr (inr (refl, inl refl, refl, refl))) (inl refl) r.loses (λ t. (r.apart t).console) head
+reset_ended tells steps base journal since old new a a' c c' no_node.NoMemory base_sound is some there1 there2 lost1 lost2 head r =
+    reset_alone tells steps status.NoMemory base [] journal since old new base_sound r.ends.0 is r.course.goes (inr (inr (refl, inl refl, refl, refl))) (inl refl) r.loses (λ t. (r.apart t).console) head (λ both. absurd (cc))
     (λ ne. left a' c' r.ends.1 (λ x. r.course.there1 x (there1 (r.course.alive1 x))) (λ y. r.course.there2 y (there2 (r.course.alive2 y)))) (λ t. kept_on old new (r.apart t).others) (λ t. (r.apart t).papers)
-reset_ended tells steps base journal since old new a a' c c' no_node.BothLost base_sound is some there1 there2 head r =
+reset_ended tells steps base journal since old new a a' c c' no_node.BothLost base_sound is some there1 there2 lost1 lost2 head r =
     ⊎_elim
     (λ none. reset_alone tells steps status.BothLost base [] journal since old new base_sound none is r.course.goes (inr (inr (refl, inr refl, refl, refl))) (inr refl) r.loses (λ t. (r.apart t).console) head
-    (λ ne. absurd (ne refl)) (λ t. kept_on old new (r.apart t).others) (λ t. (r.apart t).papers))
+    (λ both. (inl (lost1 r.ends.1.0), inl (lost2 r.ends.1.1))) (λ ne. absurd (ne refl)) (λ t. kept_on old new (r.apart t).others) (λ t. (r.apart t).papers))
     (λ flies. reset_alone tells steps status.BothLost base (restart_at flies.0 ∷ []) journal since old new base_sound flies.2 is r.course.goes
     (inr (inl (restart_at flies.0, refl, record { by = refl; entries = refl; began = omega (arith, is, flies.1) }, refl, refl, refl, refl, refl))) (inr refl) r.loses (λ t. (r.apart t).console) head
-    (λ ne. absurd (ne refl)) (λ t. kept_on old new (r.apart t).others) (λ t. (r.apart t).papers))
+    (λ both. (inl (lost1 r.ends.1.0), inl (lost2 r.ends.1.1))) (λ ne. absurd (ne refl)) (λ t. kept_on old new (r.apart t).others) (λ t. (r.apart t).papers))
     r.ends.0
-reset_ended tells steps base journal since old new a a' c c' no_node.ConsoleFault base_sound is some there1 there2 head r = absurd r.ends
-reset_ended tells steps base journal since old new a a' c c' no_node.Halted base_sound is some there1 there2 head r = absurd r.ends
+reset_ended tells steps base journal since old new a a' c c' no_node.ConsoleFault base_sound is some there1 there2 lost1 lost2 head r = absurd r.ends
+reset_ended tells steps base journal since old new a a' c c' no_node.Halted base_sound is some there1 there2 lost1 lost2 head r = absurd r.ends
 
 -- a run that ends at Restart ends as one that has begun does
 pub err_plays : (T : Type 0) (why : NodeNo) → is_of_play (status_of {T = T} (Err why)) ≡ true
@@ -169,17 +171,16 @@ err_plays T no_node.BothLost = refl
 err_plays T no_node.ConsoleFault = refl
 err_plays T no_node.Halted = refl
 
-pub reset_caused : {T : Type 0} (told : Type 0) (batches : List Batch) (a a' c c' : Bool) (old new : View) (why : NodeNo) → HasReset {T = T} told batches a a' c c' old new (Err why) → (a' ≡ false → new.lost (DiskPart Ckpt1) ≡ true) → (c' ≡ false → new.lost (DiskPart Ckpt2) ≡ true)
+pub reset_caused : {T : Type 0} (told : Type 0) (batches : List Batch) (a a' c c' : Bool) (old new : View) (why : NodeNo) → HasReset {T = T} told batches a a' c c' old new (Err why)
     → IsCausedFrom a c (status_of {T = T} (Err why)) old new
-reset_caused told batches a a' c c' old new no_node.NoMemory r lost1 lost2 = record { lost = λ e. absurd (cc); failed1 = λ e was. absurd (cc); failed2 = λ e was. absurd (cc); console = λ e. absurd (cc) }
-reset_caused told batches a a' c c' old new no_node.BothLost r lost1 lost2 = record {
-  lost = λ e. (lost1 r.ends.1.0, lost2 r.ends.1.1);
+reset_caused told batches a a' c c' old new no_node.NoMemory r = record { failed1 = λ e was. absurd (cc); failed2 = λ e was. absurd (cc); console = λ e. absurd (cc) }
+reset_caused told batches a a' c c' old new no_node.BothLost r = record {
   failed1 = λ e was. r.course.failed1 was r.ends.1.0;
   failed2 = λ e was. r.course.failed2 was r.ends.1.1;
   console = λ e. absurd (cc);
 }
-reset_caused told batches a a' c c' old new no_node.ConsoleFault r lost1 lost2 = absurd r.ends
-reset_caused told batches a a' c c' old new no_node.Halted r lost1 lost2 = absurd r.ends
+reset_caused told batches a a' c c' old new no_node.ConsoleFault r = absurd r.ends
+reset_caused told batches a a' c c' old new no_node.Halted r = absurd r.ends
 
 -- the one batch has its fate
 pub one_settled : (b : Batch) (last now : ℕ) (batches : List Batch) → batches ≡ fated Kept last b ∷ [] → b.first ≤ last → last ≤ now → AreSettled batches now

@@ -1,5 +1,5 @@
 -- A run, from what its lines leave.
-use Rattle.std.proofs.Common.{◌≡◌, ◌≢◌, ◌⊎◌, inl, inr, ⊎_elim, ℕ, zero, suc, ◌<◌, ◌≤◌, nat_lt, Bool, true, false, List, [], ◌∷◌, ◌++◌, length, drop, Some, None, Result, Ok, Err, refl, sym, ◌∙◌, ap, subst, arith, le_refl, replicate, All}
+use Rattle.std.proofs.Common.{◌≡◌, ◌≢◌, ◌⊎◌, inl, inr, ⊎_elim, ℕ, zero, suc, ◌<◌, ◌≤◌, nat_lt, Bool, true, false, ◌||◌, List, [], ◌∷◌, ◌++◌, length, drop, Some, None, Result, Ok, Err, refl, sym, ◌∙◌, ap, subst, arith, le_refl, replicate, All}
 use Rattle.std.specs.Coded.{×_prop, Coded, Coded-set, coded_ℕ, code_by, le_prop}
 use Rattle.std.proofs.Math.Logic.{∥∥₁_map, ∥∥₁_elim, ∥∥₁_prop}
 use Rattle.std.proofs.lemmas.Bool.Decides.{nat_tests}
@@ -10,7 +10,7 @@ use Rattle.member_node.specs.Calls.{Course, Grows, console_now, IsLeft}
 use Rattle.member_node.specs.Reads.{AreLow, orders_after}
 use Rattle.member_node.proofs.CourseLemmas.{left}
 use Rattle.ckpt_pages.specs.declared.tables.Tables.{Tables}
-use Rattle.ckpt_pages.specs.QueueOf.{used}
+use Rattle.lay_bytes.specs.Used.{used}
 use Rattle.ckpt_pages.specs.Starts.{empty_tables}
 use Rattle.mas_types.specs.declared.ids.Dev.TheVariants.{Ckpt1, Ckpt2, Spool}
 use Rattle.mas_types.specs.declared.ids.Dev.{Dev}
@@ -31,7 +31,8 @@ use Rattle.queue_tables.specs.Telling.{Tell, TellSound}
 use Rattle.queue_tables.proofs.OrderLemmas.{empty_orders}
 use Rattle.mas_complex.specs.Texts.{HasTexts, Spools}
 use Rattle.spool_disk.specs.View.{View, World, Disk, disk_at, disk_now}
-use Rattle.spool_disk.specs.declared.plant.Part.TheVariants.{Disk as DiskPart, Console}
+use Rattle.spool_disk.specs.declared.plant.Part.{Part}
+use Rattle.spool_disk.specs.declared.plant.Part.TheVariants.{Disk as DiskPart, Console, Printer, Wire}
 use Rattle.spool_disk.specs.Acts.{Goes, Rose, top}
 use Rattle.ckpt_form.specs.Form.{form_reads}
 use Rattle.ckpt_copy.specs.Changes.{NoMore}
@@ -41,13 +42,16 @@ use Rattle.duplex_pair.specs.Halves.{SomeAlive, IsBothLost}
 use Rattle.duplex_pair.specs.declared.errors.PairNo.{PairNo}
 use Rattle.duplex_pair.specs.Outcomes.{pair_stopped}
 use Rattle.duplex_pair.specs.Both.{PairActed}
-use Rattle.mas_complex.specs.declared.places.Place.TheVariants.{Before}
-use Rattle.mas_complex.specs.Crash.{setting, CopyAt, copy_of}
+use Rattle.ckpt_places.specs.declared.places.Place.TheVariants.{Before}
+use Rattle.mas_complex.specs.declared.renewals.Renewals.{Renewals}
+use Rattle.mas_complex.specs.Renewals.{is_open, no_renewals}
+use Rattle.mas_complex.specs.declared.renewals.Renewal.{Renewal}
+use Rattle.mas_complex.specs.Crash.{setting, OneCopy}
 use Rattle.mas_complex.specs.Headline.{Headline, AreToldKept}
 use Rattle.member_node.specs.declared.member.NodeNo.{NodeNo}
 use Rattle.script_lang.specs.declared.types.Script.{Script}
 use Rattle.script_lang.specs.declared.types.Step.{Step}
-use Rattle.mas_run.specs.Runs.{has_begun, HasLost, IsRestart, IsReset, IsRun, HavePassed, IsSafe, IsPlay, HasSteps, ReadsThere, LinesBegun, LinesEnded, NonePassed, WerePlayed, starts, stops}
+use Rattle.mas_run.specs.Runs.{has_begun, AreAway, HasLost, IsAway, IsRestart, IsReset, IsRun, HavePassed, IsSafe, IsPlay, HasSteps, ReadsThere, LinesBegun, LinesEnded, NonePassed, ReplacesNone, WerePlayed, as_found, lost_from, starts, stops}
 use Rattle.mas_run.specs.Volumes.{AreVolumesKept, AreVolumesKeptUntil}
 use Rattle.mas_run.proofs.PaperLemmas.{papers_at, papers_past, papers_then}
 use Rattle.mas_run.proofs.VolumeLemmas.{kept_none, kept_past, kept_then}
@@ -56,13 +60,13 @@ use Rattle.mas_complex.specs.Journals.{kept_all, fated, AreSettled}
 use Rattle.mas_complex.specs.Paper.{SamePapers}
 use Rattle.mas_complex.specs.Meaning.{run}
 use Rattle.std.proofs.lemmas.List.{append-nil}
-use Rattle.mas_run.specs.Statuses.{IsCaused, IsCausedFrom, status_of}
+use Rattle.mas_run.specs.Statuses.{IsCaused, IsCausedFrom, LeavesLost, status_of}
 use Rattle.std.proofs.Math.Seq.{drop-append_seam}
 use Rattle.spool_disk.specs.declared.plant.Plant.{Ghosts as PlantGhosts}
 use Rattle.mas_complex.specs.Parts.{Parts}
 use Rattle.run_turns.specs.Scenes.{scene_of}
 use Rattle.mas_run.specs.Copies.{KeepCopies, LeavesSome}
-use Rattle.mas_run.specs.Lines.{Proceeds}
+use Rattle.mas_run.specs.Lines.{Proceeds, StaysLost}
 use Rattle.mas_run.specs.Passed.{Here, LeaveVolumes, Passed, There}
 use Rattle.mas_run.proofs.CopiesLemmas.{alive_on, lost_after, lost_before}
 use Rattle.mas_run.proofs.LinesLemmas.{passed_after}
@@ -91,8 +95,8 @@ abbrev coded_fate : Coded Fate
 coded_fate = code_by ℕ coded_ℕ fate_code fate_from fate_back
 
 -- what is told is kept, which needs no choice
-pub told_of : (base : Queue) (since : ℕ) (J : Journal) (v : View) → ∥ Headline form_reads base since J v ∥₁ → AreToldKept J since v
-told_of base since J v head t from le by at end telling there k d lt has =
+pub told_of : (base : Queue) (since : ℕ) (J : Journal) (rs : Renewals) (v : View) → ∥ Headline form_reads base since J rs v ∥₁ → AreToldKept J since v
+told_of base since J rs v head t from le by at end telling there k d lt has =
     ∥∥₁_elim head (×_prop (Coded-set coded_fate _ _) le_prop) (λ h. h.told t from le by at end telling there k d lt has)
 
 -- a copy that was there at a moment, with these pages, was so then whatever came later
@@ -101,25 +105,51 @@ reads_there dev pages old new goes there reads =
     let same : disk_at new old.now dev ≡ disk_now old dev = ap (λ (w : World). w.disk dev) (goes.past old.now (le_refl old.now)) in
     (ap (λ (d : Disk). d.lost) same ∙ there, ap (λ (d : Disk). form_reads d.bytes) same ∙ reads)
 
--- but for stops that were armed it went as acts go
-pub unarmed : (old new : View) → Proceeds old new → Goes old (record new { arms = old.arms })
+-- devices of copies that were lost before or are so after
+abbrev pub lost_ever : View → View → Dev → Bool
+lost_ever old new d = old.lost (DiskPart d) || new.lost (DiskPart d)
+
+true_or : (a b : Bool) → a ≡ true → (a || b) ≡ true
+true_or true b is = refl
+true_or false b is = absurd (cc)
+
+pub ever_lost : (old new : View) → Proceeds old new → (p : Part) → old.lost p ≡ true → (as_found (lost_ever old new) new).lost p ≡ true
+ever_lost old new goes (DiskPart Ckpt1) is = true_or (old.lost (DiskPart Ckpt1)) (new.lost (DiskPart Ckpt1)) is
+ever_lost old new goes (DiskPart Ckpt2) is = true_or (old.lost (DiskPart Ckpt2)) (new.lost (DiskPart Ckpt2)) is
+ever_lost old new goes (DiskPart (Spool n)) is = goes.lost (DiskPart (Spool n)) refl is
+ever_lost old new goes Console is = goes.lost Console refl is
+ever_lost old new goes (Printer m) is = goes.lost (Printer m) refl is
+ever_lost old new goes (Wire w) is = goes.lost (Wire w) refl is
+
+or_on : (a b : Bool) → (a ≡ true → b ≡ true) → (a || b) ≡ b
+or_on true b on = sym (on refl)
+or_on false b on = refl
+
+pub ever_on : (old new : View) (d : Dev) → StaysLost d old new → lost_ever old new d ≡ new.lost (DiskPart d)
+ever_on old new d stays = or_on (old.lost (DiskPart d)) (new.lost (DiskPart d)) stays
+
+-- but for stops that were armed, and copies that were replaced, it went as acts go
+abbrev pub unarmed_view : View → View → View
+unarmed_view old new = record new { lost = λ p. lost_from (lost_ever old new) p (new.lost p); arms = old.arms }
+
+pub unarmed : (old new : View) → Proceeds old new → Goes old (unarmed_view old new)
 unarmed old new goes = record {
   later = goes.later;
   past = goes.past;
   size = goes.size;
   faults = goes.faults;
   stops = goes.stops;
-  lost = goes.lost;
+  lost = ever_lost old new goes;
   arms = λ m. refl;
 }
 
 -- what holds at each moment
-safe_of : (told : Type 0) (base : Queue) (journal : Journal) (since : ℕ) (new : View) → IsSound base → (told → ∥ Headline form_reads base since journal new ∥₁) → IsSafe told base journal since new
-safe_of told base journal since new sound head = record {
+safe_of : (told : Type 0) (base : Queue) (journal : Journal) (rs : Renewals) (since : ℕ) (new : View) → IsSound base → (told → ∥ Headline form_reads base since journal rs new ∥₁) → IsSafe told base journal rs since new
+safe_of told base journal rs since new sound head = record {
   crash = λ t. ∥∥₁_map (head t) (λ h. h.crash);
   alike = λ t. ∥∥₁_map (head t) (λ h. h.alike);
   texts = λ t. ∥∥₁_map (head t) (λ h. h.texts);
-  told = λ t. told_of base since journal new (head t);
+  told = λ t. told_of base since journal rs new (head t);
   paper = λ t. ∥∥₁_elim (head t) ∥∥₁_prop (λ h. h.paper sound);
   levels = λ t. ∥∥₁_map (head t) (λ h. h.levels);
   few = λ t. ∥∥₁_elim (head t) le_prop (λ h. h.few);
@@ -135,6 +165,13 @@ failed_console old new (Err no_node.BothLost) failed is = absurd (cc)
 failed_console old new (Err no_node.ConsoleFault) failed is = failed refl
 failed_console old new (Err no_node.Halted) failed is = absurd (cc)
 
+-- a copy that counts as lost
+away_by : (alive : Bool) (d : Dev) (rs : List Renewal) (w : View) → (alive ≡ false → is_open rs ≡ false → w.lost (DiskPart d) ≡ true) → alive ≡ false → IsAway d rs w
+away_by alive d rs w lost dead = by_open (is_open rs) refl where
+  by_open : (open_now : Bool) → is_open rs ≡ open_now → IsAway d rs w
+  by_open true is = inr is
+  by_open false is = inl (lost dead is)
+
 module _ {P C : Type 0} (plants : PlantGhosts P) where
   abbrev v : Parts P C → View
   v x = plants.view x.plant
@@ -149,14 +186,21 @@ module _ {P C : Type 0} (plants : PlantGhosts P) where
   -- why the run ended, where both copies were lost or the console failed
   pub caused_by_lines : (x y : Parts P C) (result : Result (Unit {0}) NodeNo) → KeepCopies plants x y result
       → (result ≡ Err no_node.ConsoleFault → Rose ((v x).faults Console) ((v y).faults Console))
-      → (y.first_alive ≡ false → (v y).lost (DiskPart Ckpt1) ≡ true) → (y.second_alive ≡ false → (v y).lost (DiskPart Ckpt2) ≡ true)
       → IsCausedFrom x.first_alive x.second_alive (status_of result) (v x) (v y)
-  caused_by_lines x y result keep failed lost1 lost2 = record {
-    lost = λ is. let both = both_lost x y result is keep.left in (lost1 both.0, lost2 both.1);
+  caused_by_lines x y result keep failed = record {
     failed1 = λ is was. keep.failed1 was (both_lost x y result is keep.left).0;
     failed2 = λ is was. keep.failed2 was (both_lost x y result is keep.left).1;
     console = failed_console (v x) (v y) result failed;
   }
+
+  -- where both copies count as lost each is lost, or its replacement hasn't ended
+  pub away_after : (x y : Parts P C) (result : Result (Unit {0}) NodeNo) → KeepCopies plants x y result
+      → (y.first_alive ≡ false → is_open y.renewals.first ≡ false → (v y).lost (DiskPart Ckpt1) ≡ true)
+      → (y.second_alive ≡ false → is_open y.renewals.second ≡ false → (v y).lost (DiskPart Ckpt2) ≡ true)
+      → status_of result ≡ status.BothLost → AreAway y.renewals (v y)
+  away_after x y result keep lost1 lost2 is =
+      let both = both_lost x y result is keep.left in
+      (away_by y.first_alive Ckpt1 y.renewals.first (v y) lost1 both.0, away_by y.second_alive Ckpt2 y.renewals.second (v y) lost2 both.1)
 
   some_left : (x y : Parts P C) (result : Result (Unit {0}) NodeNo) → status_of result ≢ status.BothLost → LeavesSome plants x y result
       → IsLeft x.first_alive y.first_alive x.second_alive y.second_alive ⊎ HasLost (v x) (v y)
@@ -173,25 +217,25 @@ module _ {P C : Type 0} (plants : PlantGhosts P) where
   there_after x y result keep some there1 there2 other = ⊎_elim
       (λ (is : IsLeft x.first_alive y.first_alive x.second_alive y.second_alive).
       inl (left y.first_alive y.second_alive (alive_on x.first_alive y.first_alive x.second_alive y.second_alive some is)
-      (λ is. keep.there1 is (there1 (keep.alive1 is))) (λ is. keep.there2 is (there2 (keep.alive2 is)))))
+      (λ is. keep.there1 is there1) (λ is. keep.there2 is there2)))
       inr (some_left x y result other keep.left)
 
 -- THE LINES of a run, whose journal had these batches before them
 
 module _ (told : Type 0) (b : LinesBegun) (front : List Batch) (now : ℕ) (settled : AreSettled front now) where
   abbrev from_there : Here
-  from_there = record { reads = form_reads; number = 1; scene = scene_of b.from; batches = front; view = b.view }
+  from_there = record { reads = form_reads; number = 1; scene = scene_of b.from; batches = front; renewals = no_renewals; view = b.view }
 
   abbrev after : ℕ → There → LinesEnded
-  after many end = record { many = many; batches = drop (length front) end.batches; view = end.view; answer = status_of end.answer }
+  after many end = record { many = many; batches = drop (length front) end.batches; renewals = end.renewals; view = end.view; answer = status_of end.answer }
 
   pub have_lines : (many : ℕ) (end : There) → Passed told from_there b.steps many end → (end.batches ≡ front ++ drop (length front) end.batches) × HavePassed told b (after many end)
   have_lines many end p =
       let out = passed_after told front now settled from_there p.given b.steps many end [] (sym (append-nil front)) p.are in
       let same : out.0 ≡ drop (length front) end.batches = sym (drop-append_seam front out.0) ∙ ap (λ (bs : List Batch). drop (length front) bs) (sym out.1) in (
         out.1 ∙ ap (λ (bs : List Batch). front ++ bs) same,
-        subst (λ (bs : List Batch). HavePassed told b (record { many = many; batches = bs; view = end.view; answer = status_of end.answer })) same
-            (have_passed told b p.given many out.0 end.view end.answer out.2),
+        subst (λ (bs : List Batch). HavePassed told b (record { many = many; batches = bs; renewals = end.renewals; view = end.view; answer = status_of end.answer })) same
+            (have_passed told b p.given many out.0 end.renewals end.view end.answer out.2),
       )
 
 -- they begin where nothing was said or printed before them
@@ -210,25 +254,31 @@ module _ (tells : Type 0) (b : LinesBegun) (e : LinesEnded) where
   }
 
 -- what was played, from what its lines leave
-pub play_of_lines : (tells : Type 0) (steps : List Step) (base : Queue) (front : List Batch) (now : ℕ) (journal : Journal) (since : ℕ) (old new : View) (result : Result (Unit {0}) NodeNo) (many : ℕ)
-    → AreSettled front now → IsSound base → (tells → ∥ Headline form_reads base since journal new ∥₁)
+pub play_of_lines : (tells : Type 0) (steps : List Step) (base : Queue) (front : List Batch) (now : ℕ) (journal : Journal) (rs : Renewals) (since : ℕ) (old new : View) (result : Result (Unit {0}) NodeNo) (many : ℕ)
+    → AreSettled front now → IsSound base → (tells → ∥ Headline form_reads base since journal rs new ∥₁) → (status_of result ≡ status.BothLost → AreAway rs new)
     → (status_of result ≢ status.BothLost → ((new.lost (DiskPart Ckpt1) ≡ false) ⊎ (new.lost (DiskPart Ckpt2) ≡ false)) ⊎ HasLost old new)
-    → Passed ⊥ (record { reads = form_reads; number = 1; scene = scene_of (run base (kept_all front)); batches = front; view = old }) steps many (record { batches = journal.batches; view = new; answer = result })
-    → (tells → Passed (Unit {0}) (record { reads = form_reads; number = 1; scene = scene_of (run base (kept_all front)); batches = front; view = old }) steps many (record { batches = journal.batches; view = new; answer = result }))
+    → Passed ⊥ (record { reads = form_reads; number = 1; scene = scene_of (run base (kept_all front)); batches = front; renewals = no_renewals; view = old }) steps many (record { batches = journal.batches; renewals = rs; view = new; answer = result })
+    → (tells → Passed (Unit {0}) (record { reads = form_reads; number = 1; scene = scene_of (run base (kept_all front)); batches = front; renewals = no_renewals; view = old }) steps many (record { batches = journal.batches; renewals = rs; view = new; answer = result }))
     → IsPlay tells steps (status_of result) base front journal since old new
-play_of_lines tells steps base front now journal since old new result many settled sound head there bare told =
+play_of_lines tells steps base front now journal rs since old new result many settled sound head away there bare told =
     let b : LinesBegun = record { steps = steps; from = run base (kept_all front); view = old } in
-    let end : There = record { batches = journal.batches; view = new; answer = result } in
+    let end : There = record { batches = journal.batches; renewals = rs; view = new; answer = result } in
     let one = have_lines ⊥ b front now settled many end bare in
     record {
       many = many;
       rest = drop (length front) journal.batches;
+      renewals = rs;
       batches = one.0;
       played = were_played tells b (after ⊥ b front now settled many end) one.1 (λ t. (have_lines (Unit {0}) b front now settled many end (told t)).1) there;
-      safe = safe_of tells base journal since new sound head;
+      safe = safe_of tells base journal rs since new sound head;
+      away = away;
     }
 
 -- THE LINES OF A RUN
+
+-- a device that is lost stays lost in lines of which none replaces it
+lines_stay : (tells : Type 0) (b : LinesBegun) (e : LinesEnded) (was : Dev → ℕ) (old : View) (d : Dev) → WerePlayed tells b e was old → ReplacesNone d b.steps → StaysLost d b.view e.view
+lines_stay tells b e was old d p none is = ⊎_elim (λ (n : NonePassed b e). ap (λ (v : View). v.lost (DiskPart d)) n.still ∙ is) (λ (h : HavePassed ⊥ b e). h.stays d none is) p.bare
 
 -- no byte of a volume changes before a run's first act
 pub volumes_at : (old new : View) → Proceeds old new → AreVolumesKeptUntil old.now old new
@@ -246,10 +296,13 @@ cold_lines tells steps answer base front journal since old new none is goes p = 
   began = (omega (arith, is), goes.later, refl);
   many = p.many;
   played = p.played;
+  renewals = p.renewals;
   opened = (none, sym is);
   before = λ t. volumes_at old new goes;
   dry = λ t. papers_at old new goes;
   safe = p.safe;
+  away = p.away;
+  stays = λ d other. lines_stay tells (record { steps = steps; from = run base (kept_all front); view = old }) (record { many = p.many; batches = p.rest; renewals = p.renewals; view = new; answer = answer }) old.loses old d p.played other;
 }
 
 -- THE LINES AS THE CALL HAS THEM, which began before the formatting or the start
@@ -280,12 +333,15 @@ module _ (first old new : View) (goes : Goes first old) (on : Proceeds old new) 
     at = r.at;
     began = r.began;
     many = r.many;
-    played = played_since first (record { steps = steps; from = run base (kept_all r.opening); view = r.entry }) (record { many = r.many; batches = r.rest; view = new; answer = answer }) old goes
+    played = played_since first (record { steps = steps; from = run base (kept_all r.opening); view = r.entry }) (record { many = r.many; batches = r.rest; renewals = r.renewals; view = new; answer = answer }) old goes
         tells was was quiet papers (λ d. refl) r.played;
     opened = r.opened;
     before = λ t. kept_then r.at first old new goes.later on (kept t) (r.before t);
     dry = λ t. papers_then r.at first old new goes.later on (papers t) (r.dry t);
     safe = r.safe;
+    renewals = r.renewals;
+    away = r.away;
+    stays = λ d other is. r.stays d other (goes.lost (DiskPart d) is);
   }
 
   -- what was played after Restart is what is played of a warm run
@@ -300,22 +356,28 @@ module _ (first old new : View) (goes : Goes first old) (on : Proceeds old new) 
     at = old.now;
     began = (from, on.later, refl);
     many = p.many;
-    played = played_since first (record { steps = steps; from = run base (kept_all front); view = old }) (record { many = p.many; batches = p.rest; view = new; answer = answer }) old goes
+    played = played_since first (record { steps = steps; from = run base (kept_all front); view = old }) (record { many = p.many; batches = p.rest; renewals = p.renewals; view = new; answer = answer }) old goes
         tells old.loses first.loses quiet papers same p.played;
     opened = inl (fated Kept last b, are, record { by = is.by; entries = is.entries; began = is.began }, refl, order, past);
     before = λ t. kept_past old.now first old new (let le : old.now ≤ old.now = omega arith in le) on (kept t);
     dry = λ t. papers_past old.now first old new (let le : old.now ≤ old.now = omega arith in le) on (papers t);
     safe = p.safe;
+    renewals = p.renewals;
+    away = p.away;
+    stays = λ d other is.
+        lines_stay tells (record { steps = steps; from = run base (kept_all front); view = old }) (record { many = p.many; batches = p.rest; renewals = p.renewals; view = new; answer = answer }) old.loses old d p.played other
+        (goes.lost (DiskPart d) is);
   }
 
 -- a warm run in which Restart isn't kept plays no line
 pub reset_alone : (tells : Type 0) (steps : List Step) (answer : Status) (base : Queue) (opening : List Batch) (journal : Journal) (since : ℕ) (old new : View) → IsSound base → journal.batches ≡ opening → since ≡ old.now → Goes old new → IsReset answer since new.now opening 0 []
-    → (answer ≡ status.NoMemory) ⊎ (answer ≡ status.BothLost) → ((d : Dev) → new.loses d ≡ old.loses d) → (tells → console_now new ≡ console_now old) → (tells → ∥ Headline form_reads base since journal new ∥₁)
+    → (answer ≡ status.NoMemory) ⊎ (answer ≡ status.BothLost) → ((d : Dev) → new.loses d ≡ old.loses d) → (tells → console_now new ≡ console_now old) → (tells → ∥ Headline form_reads base since journal no_renewals new ∥₁)
+    → (answer ≡ status.BothLost → AreAway no_renewals new)
     → (answer ≢ status.BothLost → (new.lost (DiskPart Ckpt1) ≡ false) ⊎ (new.lost (DiskPart Ckpt2) ≡ false)) → (tells → AreVolumesKept old new) → (tells → SamePapers old new)
     → HasSteps false tells steps answer base journal since old.loses old new
-reset_alone tells steps answer base opening journal since old new sound are is goes reset why same quiet head there kept papers =
-    let none : NonePassed (record { steps = steps; from = run base (kept_all opening); view = new }) (record { many = 0; batches = []; view = new; answer = answer }) =
-    record { why = why; none = refl; empty = refl; still = refl } in
+reset_alone tells steps answer base opening journal since old new sound are is goes reset why same quiet head away there kept papers =
+    let none : NonePassed (record { steps = steps; from = run base (kept_all opening); view = new }) (record { many = 0; batches = []; renewals = no_renewals; view = new; answer = answer }) =
+    record { why = why; none = refl; empty = refl; unrenewed = refl; still = refl } in
     record {
       opening = opening;
       rest = [];
@@ -336,13 +398,15 @@ reset_alone tells steps answer base opening journal since old new sound are is g
       opened = reset;
       before = kept;
       dry = papers;
-      safe = safe_of tells base journal since new sound head;
+      safe = safe_of tells base journal no_renewals since new sound head;
+      renewals = no_renewals;
+      away = away;
+      stays = λ d other. goes.lost (DiskPart d);
     }
 
 -- how both copies were lost: in the formatting, or later
 pub caused_since : (by : ℕ) (a b stopped : Bool) (answer : Status) (entry old new : View) → PairActed by true a true b stopped entry old → Proceeds old new → ((d : Dev) → Grows (old.loses d) (new.loses d)) → IsCausedFrom a b answer old new → IsCaused answer entry new
 caused_since by a b stopped answer entry old new formed goes grow caused = record {
-  lost = caused.lost;
   failed1 = λ d. by_copy a (λ is. lost_after Ckpt1 entry old new (proceeds_of entry old formed.goes) (inl (formed.loses Ckpt1)) (caused.failed1 d is)) (λ not. lost_before Ckpt1 entry old new (inl (formed.failed1 refl not)) goes (grow Ckpt1));
   failed2 = λ d. by_copy b (λ is. lost_after Ckpt2 entry old new (proceeds_of entry old formed.goes) (inl (formed.loses Ckpt2)) (caused.failed2 d is)) (λ not. lost_before Ckpt2 entry old new (inl (formed.failed2 refl not)) goes (grow Ckpt2));
   console = λ d. omega (arith, formed.goes.faults Console, caused.console d);
@@ -354,7 +418,6 @@ caused_since by a b stopped answer entry old new formed goes grow caused = recor
 -- a run that lost both copies in the formatting
 pub caused_formed : (by : ℕ) (a b stopped : Bool) (entry new : View) → PairActed by true a true b stopped entry new → IsBothLost a b → IsCaused status.BothLost entry new
 caused_formed by a b stopped entry new formed both = record {
-  lost = λ d. (formed.is_lost1 refl both.0, formed.is_lost2 refl both.1);
   failed1 = λ d. inl (formed.failed1 refl both.0);
   failed2 = λ d. inl (formed.failed2 refl both.1);
   console = λ d. absurd (cc);
@@ -365,11 +428,16 @@ pub caused_unformed : (T : Type 0) (a b : Bool) (why : PairNo) (entry new : View
 caused_unformed T a b pair_no.BothLost entry new formed both = caused_formed 0 a b false entry new formed (both refl)
 caused_unformed T a b pair_no.Halted entry new formed both = let some = formed.not_operator refl in absurd (omega (arith, some))
 
+-- and what that leaves lost
+pub formed_lost : (T : Type 0) (a b : Bool) (why : PairNo) (entry new : View) → PairActed 0 true a true b (pair_stopped {T = T} (Err why)) entry new → (why ≡ pair_no.BothLost → IsBothLost a b) → LeavesLost status.BothLost entry new
+formed_lost T a b pair_no.BothLost entry new formed both = record { stays = formed.goes.lost; both = λ is. (formed.is_lost1 refl (both refl).0, formed.is_lost2 refl (both refl).1) }
+formed_lost T a b pair_no.Halted entry new formed both = let some = formed.not_operator refl in absurd (omega (arith, some))
+
 -- A COPY AS IT WAS FORMED
 
 pub formed_copy : (base : Queue) (now : ℕ) (rests : List ℕ → Disk → Type 0) (holds : List ℕ → List ℕ → Disk → Type 0) (alive : Bool) (disk : Disk) (pages : List ℕ)
-    → (alive ≡ true → rests pages disk) → (alive ≡ false → now < top → disk.lost ≡ true) → CopyAt (setting form_reads base now) pages None (copy_of rests holds alive Before) now disk
-formed_copy base now rests holds alive disk pages rested gone = record { at = rested; gone = gone }
+    → (alive ≡ true → rests pages disk) → (alive ≡ false → now < top → disk.lost ≡ true) → OneCopy (setting form_reads base now) rests holds pages None Before alive false now disk
+formed_copy base now rests holds alive disk pages rested gone = record { at = rested; formed = λ _. refl; gone = gone }
 
 -- what the images of a copy read as later
 pub formed_images : (dev : Dev) (rests : List ℕ → Disk → Type 0) (pages : List ℕ) (alive : Bool) (v w : View) → Proceeds v w → ((d : Disk) → rests pages d → AllRead form_reads pages d)
@@ -434,7 +502,6 @@ by_alive false f g = g refl
 
 pub caused_through : (a a' c c' : Bool) (answer : Status) (v0 v1 v2 : View) → Course a a' c c' v0 v1 → Proceeds v1 v2 → ((d : Dev) → Grows (v1.loses d) (v2.loses d)) → IsCausedFrom a' c' answer v1 v2 → IsCausedFrom a c answer v0 v2
 caused_through a a' c c' answer v0 v1 v2 course goes grow caused = record {
-  lost = caused.lost;
   failed1 = λ e was. by_alive a' (λ is. lost_after Ckpt1 v0 v1 v2 (proceeds_of v0 v1 course.goes) (course.grow Ckpt1) (caused.failed1 e is)) (λ not. lost_before Ckpt1 v0 v1 v2 (course.failed1 was not) goes (grow Ckpt1));
   failed2 = λ e was. by_alive c' (λ is. lost_after Ckpt2 v0 v1 v2 (proceeds_of v0 v1 course.goes) (course.grow Ckpt2) (caused.failed2 e is)) (λ not. lost_before Ckpt2 v0 v1 v2 (course.failed2 was not) goes (grow Ckpt2));
   console = λ e. omega (arith, course.goes.faults Console, caused.console e);
@@ -446,7 +513,7 @@ stepless_run : (cold : Bool) (tells : Type 0) (script : Script) (answer : Status
 stepless_run cold tells script answer base journal since old new none r t =
     let s = r.steps in
     let b : LinesBegun = record { steps = script.steps; from = run base (kept_all s.opening); view = s.entry } in
-    let e : LinesEnded = record { many = s.many; batches = s.rest; view = new; answer = answer } in
+    let e : LinesEnded = record { many = s.many; batches = s.rest; renewals = s.renewals; view = new; answer = answer } in
     ⊎_elim
     (λ (p : NonePassed b e). subst (λ (n : ℕ). AreVolumesKeptUntil n old new) (sym s.began.2 ∙ ap (λ (v : View). v.now) (sym p.still)) (s.before t))
     (λ (p : HavePassed (Unit {0}) b e).

@@ -25,6 +25,7 @@ use Rattle.run_turns.specs.Scenes.{Scene}
 use Rattle.mas_run.specs.Copies.{CopiesKept}
 use Rattle.mas_run.specs.LinesLeft.{HasLeftAs, LeftAt, LineIsLeft}
 use Rattle.mas_run.specs.LinesPlayed.{line_by}
+use Rattle.mas_run.specs.Renewing.{RenewsAs}
 use Rattle.mas_run.specs.Shows.{AreMembers, BetweenLines, IsFlight, IsMemberAt, IsShown, LeftBetween}
 
 -- WHAT A LINE DID, for every answer
@@ -78,11 +79,12 @@ module _ {P C : Type 0} (plants : PlantGhosts P) (copies : CopyGhosts C) (told :
 
 -- a line of its admission is a line
 pub left_so : {P C : Type 0} (plants : PlantGhosts P) (copies : CopyGhosts C) (told : Type 0) (S : Scene) (at : ℕ) (by : MemberId) (what : Ask) (a : Admission) (g : Given) (x y : Parts P C)
-    (r : Result (Unit {0}) NodeNo) → admitted S.queue.config S.book by what ≡ a
+    (r : Result (Unit {0}) NodeNo) → admitted S.queue.config S.book by what ≡ a → RenewsAs a g.sight.cut g.sight.renewed x.renewals y.renewals (plants.view x.plant) (plants.view y.plant)
     → HasLeftAs plants copies told (record { scene = S; number = at; step = line_by by what; given = g }) a x y r → LeftAt plants copies told S at (line_by by what) x y r
-left_so plants copies told S at by what a g x y r adm left = record {
+left_so plants copies told S at by what a g x y r adm renews left = record {
   given = g;
   left = subst (λ (b : Admission). HasLeftAs plants copies told (record { scene = S; number = at; step = line_by by what; given = g }) b x y r) (sym adm) left;
+  renews = subst (λ (b : Admission). RenewsAs b g.sight.cut g.sight.renewed x.renewals y.renewals (plants.view x.plant) (plants.view y.plant)) (sym adm) renews;
 }
 
 -- the member at a place of the list is now another

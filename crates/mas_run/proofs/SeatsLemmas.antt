@@ -33,6 +33,7 @@ use Rattle.run_turns.specs.Admissions.{Locks, admitted}
 use Rattle.run_turns.specs.Pieces.{Piece, closes_with, fate_found, pieces_of, play_of}
 use Rattle.run_turns.specs.Scenes.{Scene, flight_found, queue_found}
 use Rattle.run_turns.specs.Sights.{clear}
+use Rattle.member_hand.proofs.Passages.{passage_of}
 use Rattle.mas_run.specs.Bounds.{level_most}
 use Rattle.mas_run.specs.Copies.{KeepCopies, LeavesSome}
 use Rattle.mas_run.specs.Lines.{Proceeds}
@@ -71,7 +72,7 @@ module _ {P C : Type 0} (plants : PlantGhosts P) where
   copies_cause by x y (Err no_node.ConsoleFault) cause = absurd cause
 
   pub copies_acted : (by : MemberId) (x y : Parts P C) (r : Result (Unit {0}) NodeNo) → CopiesActed plants by x y r → KeepCopies plants x y r
-  copies_acted by x y r acts = copies_of plants x y r acts.course (copies_cause by.0 x y r acts.cause)
+  copies_acted by x y r acts = copies_of plants x y r (passage_of x.first_alive y.first_alive x.second_alive y.second_alive (v x) (v y) acts.course) (copies_cause by.0 x y r acts.cause)
 
 -- a member that is up, and got the lock, may take its seat
 pub may_seat : {P C : Type 0} {plants : PlantGhosts P} {steadies : SteadyGhosts C} {copies : CopyGhosts C} (x mid : Complex P C plants steadies copies) (ms : List Member)
@@ -159,20 +160,20 @@ module _ {P C : Type 0} {plants : PlantGhosts P} {steadies : SteadyGhosts C} {co
 
   bare_by : (S : Scene) (shown : IsShown plants copies ⊥ S p) (k : Result (Unit {0}) NodeNo) → SeatsBy plants copies S m n at Locks t q k → LeftAt plants copies ⊥ S at (line_by by what) t q k
   bare_by S shown (Ok done) seats =
-      seated_bare plants copies S at (line_by by what) Locks (admitted_here plants copies ⊥ S p shown by what Locks adm) pieces line Keep (closer ⊥ S shown) t q m n own journal printed (Ok done) seats
+      seated_bare plants copies S at (line_by by what) Locks t q m own (admitted_here plants copies ⊥ S p shown by what Locks adm) pieces line Keep (closer ⊥ S shown) journal printed n (Ok done) seats (λ e. same_t.renewals)
   bare_by S shown (Err e) seats = ⊎_elim
-      (λ un. unseated_bare plants copies S at (line_by by what) Locks (admitted_here plants copies ⊥ S p shown by what Locks adm) pieces line Keep (closer ⊥ S shown) t q m n own journal printed e un)
-      (λ seated. seated_bare plants copies S at (line_by by what) Locks (admitted_here plants copies ⊥ S p shown by what Locks adm) pieces line Keep (closer ⊥ S shown) t q m n own journal printed (Err e) seated)
+      (λ un. unseated_bare plants copies S at (line_by by what) Locks t q m own (admitted_here plants copies ⊥ S p shown by what Locks adm) pieces line Keep (closer ⊥ S shown) journal printed (λ cause. same_t.renewals) e un)
+      (λ seated. seated_bare plants copies S at (line_by by what) Locks t q m own (admitted_here plants copies ⊥ S p shown by what Locks adm) pieces line Keep (closer ⊥ S shown) journal printed n (Err e) seated (λ k. same_t.renewals))
       seats
 
   told_by : plants.tells → (S : Scene) (shown : IsShown plants copies (Unit {0}) S p) (k : Result (Unit {0}) NodeNo) → SeatsBy plants copies S m n at Locks t q k
       → LeftAt plants copies (Unit {0}) S at (line_by by what) t q k
   told_by tells S shown (Ok done) seats =
-      seated_told plants copies S at (line_by by what) Locks (admitted_here plants copies (Unit {0}) S p shown by what Locks adm) pieces line Keep (closer (Unit {0}) S shown) t q m n own journal printed (Ok done) seats
+      seated_told plants copies S at (line_by by what) Locks t q m own (admitted_here plants copies (Unit {0}) S p shown by what Locks adm) pieces line Keep (closer (Unit {0}) S shown) journal printed n (Ok done) seats (λ e. same_t.renewals)
       tells (λ up. shown.counts tt by up)
   told_by tells S shown (Err e) seats = ⊎_elim
-      (λ un. unseated_told plants copies S at (line_by by what) Locks (admitted_here plants copies (Unit {0}) S p shown by what Locks adm) pieces line Keep (closer (Unit {0}) S shown) t q m n own journal printed tells e un)
-      (λ seated. seated_told plants copies S at (line_by by what) Locks (admitted_here plants copies (Unit {0}) S p shown by what Locks adm) pieces line Keep (closer (Unit {0}) S shown) t q m n own journal printed (Err e) seated
+      (λ un. unseated_told plants copies S at (line_by by what) Locks t q m own (admitted_here plants copies (Unit {0}) S p shown by what Locks adm) pieces line Keep (closer (Unit {0}) S shown) journal printed (λ cause. same_t.renewals) tells e un)
+      (λ seated. seated_told plants copies S at (line_by by what) Locks t q m own (admitted_here plants copies (Unit {0}) S p shown by what Locks adm) pieces line Keep (closer (Unit {0}) S shown) journal printed n (Err e) seated (λ k. same_t.renewals)
       tells (λ up. tt))
       seats
 

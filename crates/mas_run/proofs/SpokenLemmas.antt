@@ -1,7 +1,9 @@
 -- A line that was said leaves the value between two lines, or at its member's seat, where no later step is told by it.
 use Rattle.std.proofs.Common.{◌≡◌, ℕ, ◌+◌, ◌*◌, ◌≤◌, ◌<◌, ◌++◌, Bool, true, false, List, [], ◌∷◌, All, refl, sym, ◌∙◌, ap, subst, arith}
 use Rattle.std.proofs.lemmas.List.Elements.{All-weaker}
+use Rattle.mas_types.specs.declared.ids.Dev.{Dev}
 use Rattle.mas_types.specs.declared.ids.Dev.TheVariants.{Ckpt1, Ckpt2, Spool}
+use Rattle.mas_types.specs.declared.queues.Queue.{Queue}
 use Rattle.mas_types.specs.declared.ids.Page.{Page}
 use Rattle.mas_types.specs.declared.journals.Batch.{Batch}
 use Rattle.mas_types.specs.declared.journals.Entry.{Entry}
@@ -14,7 +16,7 @@ use Rattle.spool_volumes.specs.Volumes.{AreRoomy}
 use Rattle.ckpt_copy.specs.declared.copying.Copying.{Ghosts as CopyGhosts}
 use Rattle.ckpt_pages.specs.Shape.{page_count}
 use Rattle.mas_complex.proofs.Batches.{settled_later}
-use Rattle.mas_complex.specs.declared.places.Place.{Place}
+use Rattle.ckpt_places.specs.declared.places.Place.{Place}
 use Rattle.mas_complex.specs.Parts.{Parts}
 use Rattle.member_node.specs.Calls.{console_now}
 use Rattle.member_node.specs.Reads.{IsCalm}
@@ -24,7 +26,7 @@ use Rattle.member_sittings.specs.Whole.{IsAtRest, IsSeat, first_half, second_hal
 use Rattle.member_steps.proofs.ReadLemmas.{low_later}
 use Rattle.member_hand.specs.Quiet.{IsQuiet}
 use Rattle.mas_run.specs.Lines.{Proceeds}
-use Rattle.mas_run.specs.Shows.{AreMembers, IsBetween, IsMemberAt, IsOfEarlier}
+use Rattle.mas_run.specs.Shows.{AreLarge, AreMembers, IsBetween, IsMemberAt, IsOfEarlier}
 use Rattle.mas_run.proofs.ToldLemmas.{TellNone, Untells, untold_then}
 
 -- a volume has the size that its groups need
@@ -35,7 +37,15 @@ unlost true is on not = absurd (let both : true ≡ false = sym (on refl) ∙ no
 pub roomy_on : (old new : View) (config : Config) → Proceeds old new → AreRoomy old config → AreRoomy new config
 roomy_on old new config goes roomy n some le there =
     subst (λ (s : ℕ). page_bytes * config.groups ≤ s) (sym (goes.size (Spool n)))
-    (roomy n some le (unlost (old.lost (Disk (Spool n))) (new.lost (Disk (Spool n))) (goes.lost (Disk (Spool n))) there))
+    (roomy n some le (unlost (old.lost (Disk (Spool n))) (new.lost (Disk (Spool n))) (goes.lost (Disk (Spool n)) refl) there))
+
+-- a device of a copy has the size that the pages need
+pub large_on : {P C : Type 0} (plants : PlantGhosts P) (copies : CopyGhosts C) (x y : Parts P C) → y.base ≡ x.base → ((d : Dev) → (plants.view y.plant).size d ≡ (plants.view x.plant).size d)
+    → AreLarge plants copies x → AreLarge plants copies y
+large_on plants copies x y base size is =
+    let one : (d : Dev) → copies.needs (page_count x.base.config) ≤ (plants.view x.plant).size d → copies.needs (page_count y.base.config) ≤ (plants.view y.plant).size d =
+    λ d le. subst (λ (Q : Queue). copies.needs (page_count Q.config) ≤ (plants.view y.plant).size d) (sym base) (subst (λ (n : ℕ). copies.needs (page_count x.base.config) ≤ n) (sym (size d)) le) in
+    (one Ckpt1 is.0, one Ckpt2 is.1)
 
 -- entries of earlier lines than one are of earlier lines than a later one
 earlier_to : (at to : ℕ) → at ≤ to → (bs : List Batch) → All (IsOfEarlier at) bs → All (IsOfEarlier to) bs
@@ -148,6 +158,7 @@ module _ {P C : Type 0} (plants : PlantGhosts P) (copies : CopyGhosts C) (x : Pa
     sound = is.sound;
     begun = let le = is.begun in let later = goes.later in omega (arith, le, later);
     roomy = λ t. roomy_on (v x) (v z) x.base.config goes (is.roomy t);
+    large = large_on plants copies x z refl goes.size is.large;
     untold = λ by later le small t.
         let said = lines t in
         untold_then plants copies x z refl refl is.begun goes said.0 (λ u. said.1) by later

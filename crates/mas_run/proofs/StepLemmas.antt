@@ -7,7 +7,7 @@ use Rattle.mas_types.specs.declared.journals.Fate.TheVariants.{Dropped, Flying, 
 use Rattle.mas_types.specs.declared.queues.Queue.{Queue}
 use Rattle.script_lang.specs.declared.types.Step.{Step}
 use Rattle.lock_cycle.specs.Books.{is_stopped}
-use Rattle.spool_disk.specs.declared.plant.Part.TheVariants.{Console}
+use Rattle.spool_disk.specs.declared.plant.Part.TheVariants.{Console, Disk}
 use Rattle.spool_disk.specs.declared.plant.Plant.{Ghosts as PlantGhosts}
 use Rattle.spool_disk.specs.View.{Line, View, paper_now}
 use Rattle.spool_disk.specs.Acts.{Goes, Rose}
@@ -16,12 +16,12 @@ use Rattle.ckpt_copy.specs.Moments.{goes_on, goes_none}
 use Rattle.mas_complex.specs.Paper.{SamePapers, counts_of}
 use Rattle.mas_complex.specs.Parts.{Parts}
 use Rattle.member_hand.specs.Cuts.{AreBatched, AtCut, IsBatched, IsBroken, IsCutBy as IsCutIn, IsTight, whole_pieces}
-use Rattle.member_hand.specs.Found.{AreFoundIn, waits_in}
+use Rattle.member_hand.specs.Found.{AreFoundIn, waits_in, named_in}
 use Rattle.member_hand.specs.Plays.{HasActedIn, HasCut, HasPlayed, HasToldStep, IfCommand, Writes, left_of, play_in}
 use Rattle.member_node.proofs.CourseLemmas.{papers_on, rose_later, papers_none}
 use Rattle.member_node.proofs.SpareLemmas.{spares_then, spares_none}
 use Rattle.member_node.specs.declared.member.NodeNo.{NodeNo}
-use Rattle.member_node.specs.Calls.{console_now}
+use Rattle.member_node.specs.Calls.{console_now, VolumesStay}
 use Rattle.member_node.specs.Spares.{Spares, stopped_in}
 use Rattle.member_sittings.specs.Sat.{journal_of, begins}
 use Rattle.member_sittings.specs.Tight.{IfNoWork}
@@ -35,7 +35,7 @@ use Rattle.run_turns.specs.Pieces.{Piece, Play, fate_found, holder_of, once_foun
 use Rattle.run_turns.specs.Scenes.{Batched, Scene}
 use Rattle.run_turns.specs.Sights.{Cut, Halt, Sight, clear}
 use Rattle.mas_run.specs.Histories.{settle}
-use Rattle.mas_run.specs.Lines.{AdmissionLeaves, IfIdle, LosesAs, PrintsNone, is_takeover, is_work, Proceeds, taking}
+use Rattle.mas_run.specs.Lines.{AdmissionLeaves, IfIdle, LosesAs, PrintsNone, is_takeover, is_work, Proceeds, taking, IfStays}
 use Rattle.mas_run.specs.LinesAt.{LineAt, pieces_as, play_as}
 use Rattle.mas_run.specs.LinesLeft.{HasLeftAs, IfRuns, IsCutBy, ended_as, left_as}
 use Rattle.mas_run.specs.Shapes.{IsShapedAs, IsTaskShaped}
@@ -47,7 +47,7 @@ use Rattle.step_turns.specs.Courses.{task_most}
 use Rattle.step_turns.specs.declared.states.Grant.{Grant}
 use Rattle.step_turns.specs.declared.states.State.TheVariants.{Fresh}
 use Rattle.step_turns.specs.declared.states.Task.{Task}
-use Rattle.step_turns.specs.declared.states.Task.TheVariants.{Deck, Give, Work}
+use Rattle.step_turns.specs.declared.states.Task.TheVariants.{Deck, Give, Work, Line as Node}
 use Rattle.step_turns.specs.Sittings.{Sitting}
 use Rattle.mas_run.proofs.LinesLemmas.{settle_none}
 use Rattle.mas_run.proofs.VolumeLemmas.{kept_none, kept_on}
@@ -174,6 +174,9 @@ module _ {P C : Type 0} (plants : PlantGhosts P) (copies : CopyGhosts C) (told :
     abbrev Finds : List Piece → Type 0
     Finds qs = AreFoundIn S.queue.config.groups step.by (v x) (v y) sight.finds (waits_in (take (whole_pieces sight.cut qs) qs) (queue_met S a sight))
 
+    abbrev Stay : List Piece → Type 0
+    Stay qs = IfStays a (VolumesStay (named_in sight.finds (waits_in (take (whole_pieces sight.cut qs) qs) (queue_met S a sight))) (v x) (v y))
+
     abbrev Tight : List Piece → Type 0
     Tight qs = IfIdle (is_work a) (AtCut (IsTight (ended_as result)) sight.cut qs)
 
@@ -182,12 +185,16 @@ module _ {P C : Type 0} (plants : PlantGhosts P) (copies : CopyGhosts C) (told :
 
     pub stepped_left : told ⊎ IsShapedAs l (v x) (v y) a → (told → ArePiecesOf S step.by at a l.given) → (told → Finds ps) → Tight ps → (told → Breaks ps)
         → (told → PrintsNone a → SamePapers (v mid) (v y)) → (told → AdmissionLeaves a → AreVolumesKept (v mid) (v y))
-        → (told → is_stopped S.book step.by ≡ false → counts_of mid.printed step.by ≡ S.counts step.by) → (told → Writes plants copies step.by left_mid mid y result) → HasLeftAs plants copies told l a x y result
-    stepped_left shaped right honest tight broke dry volumes counted written = record {
-      goes = goes_on (v x) (v mid) (v y) comes.goes acts.course.goes;
+        → (told → is_stopped S.book step.by ≡ false → counts_of mid.printed step.by ≡ S.counts step.by) → (told → Writes plants copies step.by left_mid mid y result) → (told → Stay ps)
+        → HasLeftAs plants copies told l a x y result
+    stepped_left shaped right honest tight broke dry volumes counted written stay = record {
+      goes = proceeds_of (v x) (v y) (goes_on (v x) (v mid) (v y) comes.goes acts.course.goes);
+      stays = λ d other is. acts.course.goes.lost (Disk d) (comes.goes.lost (Disk d) is);
+      arms = λ m. acts.course.goes.arms m ∙ comes.goes.arms m;
       shaped = shaped;
       right = right;
       honest = λ t. subst (λ (qs : List Piece). Finds qs) (sym pieces) (honest t);
+      stay = λ t. subst (λ (qs : List Piece). Stay qs) (sym pieces) (stay t);
       cut = subst (λ (qs : List Piece). IsCutBy result qs sight.cut) (sym pieces) (cut_there result ps sight.cut cut.by_answer);
       tight = subst (λ (qs : List Piece). Tight qs) (sym pieces) tight;
       broke = λ t. subst (λ (qs : List Piece). Breaks qs) (sym pieces) (broke t);
@@ -210,7 +217,7 @@ module _ {P C : Type 0} (plants : PlantGhosts P) (copies : CopyGhosts C) (told :
       count = λ t up. ok_then result (counts_of y.printed step.by ≡ left_mid.count) (counts_of y.printed step.by ≡ (left_as l a).count)
           (λ is. is ∙ count_alike (counted t up)) (written t).count;
       other_counts = λ t m other. (written t).other_counts m other ∙ ap (λ (p : List ℕ). counts_of p m) comes.printed;
-      loses = λ t d. loses_on copies.reads (v x) (v mid) (v y) on (acts.loses (tells t)) (taking (is_takeover a) (fate_found a sight)) d (comes.loses t d);
+      loses = λ t d. loses_on copies.reads (v x) (v mid) (v y) acts.course.goes (acts.loses (tells t)) (taking (is_takeover a) (fate_found a sight)) d (comes.loses t d);
       volumes = λ t leaves. kept_later (v x) (v mid) (v y) comes.goes.later on (comes.volumes t) (volumes t leaves);
     }
 
@@ -221,16 +228,19 @@ tight_so : (task : Task) (A B : Type 0) → (A → B) → IfNoWork (Fresh task) 
 tight_so (Give c) A B f is = f is
 tight_so (Deck fields text) A B f is = f is
 tight_so (Work n) A B f is = tt
+tight_so (Node l) A B f is = tt
 
 dry_so : (task : Task) (A : Type 0) → IfNoWork (Fresh task) A → PrintsNone (Plays task) → A
 dry_so (Give c) A is none = is
 dry_so (Deck fields text) A is none = is
 dry_so (Work n) A is none = absurd none
+dry_so (Node l) A is none = absurd none
 
 still_so : (task : Task) (A : Type 0) → IfCommand (Fresh task) A → AdmissionLeaves (Plays task) → A
 still_so (Give c) A is leaves = is
 still_so (Deck fields text) A is leaves = absurd leaves
 still_so (Work n) A is leaves = absurd leaves
+still_so (Node l) A is leaves = absurd leaves
 
 -- what is said of where a step was cut that ended with an error is said of any
 cut_so : (r : Result (Unit {0}) NodeNo) (ps : List Piece) (cut : Option Cut) (P : NodeNo → Halt → Sitting → Type 0) → IsCutIn r ps cut
@@ -258,7 +268,7 @@ module _ {P C : Type 0} (plants : PlantGhosts P) (copies : CopyGhosts C) (S : Sc
       (ap (λ f. once_found f played.pieces) none) book refl (u x).now (comes_none plants ⊥ step.by.0 x still) played.played played.acts
       (inr (subst (λ (m : Holder). IsTaskShaped m (u x) (u y) task played.pieces) (sym held) (record { own = played.played.of; shaped = played.shaped })))
       (λ t. absurd t) (λ t. absurd t) (tight_so task _ _ (cut_so result played.pieces played.cut IsTight played.played.by_answer) played.tight)
-      (λ t. absurd t) (λ t. absurd t) (λ t. absurd t) (λ t. absurd t) (λ t. absurd t)
+      (λ t. absurd t) (λ t. absurd t) (λ t. absurd t) (λ t. absurd t) (λ t. absurd t) (λ t. absurd t)
 
   -- and of one that tells
   module _ (queue : queue_of x ≡ S.queue) (groups : x.base.config.groups ≡ S.queue.config.groups) (counted : counts_of x.printed step.by ≡ S.counts step.by)
@@ -273,6 +283,9 @@ module _ {P C : Type 0} (plants : PlantGhosts P) (copies : CopyGhosts C) (S : Sc
     abbrev FindsAt : ℕ → Queue → Type 0
     FindsAt per Q = AreFoundIn per step.by (u x) (u y) so.sight.finds (waits_in (take (whole_pieces so.sight.cut so.pieces) so.pieces) Q)
 
+    abbrev StaysAt : Queue → Type 0
+    StaysAt Q = VolumesStay (named_in so.sight.finds (waits_in (take (whole_pieces so.sight.cut so.pieces) so.pieces) Q)) (u x) (u y)
+
     pub plays_told : plants.tells → HasLeftAs plants copies (Unit {0}) (line_so so.sight so.pieces) (Plays task) x y result
     plays_told tells =
         stepped_left plants copies (Unit {0}) (λ t. tells) S at step (Plays task) so.sight so.pieces x x y result hold grant
@@ -280,3 +293,4 @@ module _ {P C : Type 0} (plants : PlantGhosts P) (copies : CopyGhosts C) (S : Sc
         (inl tt) (λ t. right_here) (λ t. subst (λ (n : ℕ). FindsAt n S.queue) groups (subst (λ (Q : Queue). FindsAt x.base.config.groups Q) queue so.finds))
         (tight_so task _ _ (cut_so result so.pieces so.sight.cut IsTight so.cut.by_answer) so.tight) (λ t. cut_so result so.pieces so.sight.cut IsBroken so.cut.by_answer so.broke)
         (λ t none. dry_so task _ (played.dry tells) none) (λ t leaves. kept_on (u x) (u y) (still_so task _ (played.still tells) leaves)) (λ t up. counted) (λ t. so.writes)
+        (λ t. subst (λ (Q : Queue). StaysAt Q) queue so.volumes)

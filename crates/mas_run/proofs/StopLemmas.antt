@@ -9,7 +9,7 @@ use Rattle.mas_types.specs.Closings.{closing_line}
 use Rattle.spool_disk.specs.declared.plant.Plant.{Ghosts as PlantGhosts}
 use Rattle.spool_disk.specs.declared.plant.Part.TheVariants.{Disk}
 use Rattle.spool_disk.specs.View.{Line, View, World, paper_now}
-use Rattle.spool_disk.specs.Acts.{Rose}
+use Rattle.spool_disk.specs.Acts.{Goes, Rose}
 use Rattle.ckpt_copy.specs.declared.copying.Copying.{Ghosts as CopyGhosts}
 use Rattle.ckpt_form.specs.declared.steady.Steady.{Ghosts as SteadyGhosts}
 use Rattle.mas_complex.specs.declared.complex.Complex.{Complex}
@@ -23,20 +23,21 @@ use Rattle.member_node.specs.Spares.{is_stop, stopped_in}
 use Rattle.member_lines.specs.Closes.{HasCause, SaysStopped, stopped_said}
 use Rattle.run_turns.specs.Sights.{Cause, Cut, Ends, Stops}
 use Rattle.run_turns.specs.Scenes.{Batched}
-use Rattle.run_turns.specs.Admissions.{Admission, Denied, Frees, Locks, Plays, Refused, Resets, TakesOver, Unplayed}
+use Rattle.run_turns.specs.Admissions.{Admission, Denied, Frees, Locks, Plays, Refused, Replaces, Resets, TakesOver, Unplayed}
 use Rattle.run_turns.specs.Cuts.{whole}
 use Rattle.run_turns.specs.Steps.{Said, cause_of, stopped_lines}
 use Rattle.mas_run.specs.LinesAt.{LineAt, admitted_at, pieces_at}
 use Rattle.run_turns.specs.Pieces.{Piece}
-use Rattle.mas_run.specs.Lines.{CouldNotStay, CutsAs, IfIdle, IsPassed, IsWhyLost, IsWithin, LosesAs, MayLoseCopy, Proceeds, cut_of, is_work, loses_then, IsHonestAs}
+use Rattle.mas_run.specs.Lines.{CouldNotStay, CutsAs, IfIdle, IsPassed, IsWhyLost, IsWithin, LosesAs, MayLoseCopy, Proceeds, cut_of, is_work, loses_then, IsHonestAs, StaysAs, named_as}
 use Rattle.mas_run.specs.LinesLeft.{HasLeft, HasSaidStop, IsCutBy, SaysStop, StopCauses, StopIsSaid, left_at}
 use Rattle.mas_run.specs.LinesPlayed.{is_of_member}
 use Rattle.mas_run.specs.Shapes.{IsShapedAs, holder_as}
 use Rattle.mas_run.proofs.LaterLemmas.{finds_later, task_later}
-use Rattle.mas_run.proofs.LeftLemmas.{arms_same, batches_left, if_member, leaves_as, lines_left, loses_none, member_cut, printed_here, given_of, honest_of, right_of, took}
+use Rattle.mas_run.proofs.LeftLemmas.{arms_same, batches_left, if_member, leaves_as, lines_left, loses_none, member_cut, printed_here, given_of, honest_of, right_of, took, stay_of}
 use Rattle.mas_run.proofs.LinesLemmas.{batched_later}
 use Rattle.mas_run.proofs.PassedLemmas.{kept_later, proceeds_of, proceeds_on}
 use Rattle.mas_run.proofs.VolumeLemmas.{by_order, kept_on}
+use Rattle.mas_run.proofs.StayLemmas.{console_stays, stays_on}
 
 -- SHAPES, of a later view
 
@@ -44,6 +45,7 @@ pub shaped_as_later : (old mid new : View) (goes : Proceeds mid new) (l : LineAt
 shaped_as_later old mid new goes l (Plays task) is = task_later old mid new goes (holder_as l (Plays task)) task l.given.pieces is
 shaped_as_later old mid new goes l (Resets of) is = is
 shaped_as_later old mid new goes l (TakesOver of) is = is
+shaped_as_later old mid new goes l (Replaces dev) is = is
 shaped_as_later old mid new goes l (Refused sayer end) is = is
 shaped_as_later old mid new goes l (Denied why) is = is
 shaped_as_later old mid new goes l Locks is = is
@@ -74,7 +76,7 @@ papers_on v0 v1 v2 later goes one two t from to m = ⊎_elim
     (by_order t v1.now)
 
 -- acts that lose nothing by a call leave what was lost before
-pub loses_on : (reads : List ℕ → Option (List ℕ)) (v0 v1 v2 : View) → Proceeds v1 v2 → ((d : Dev) → v2.loses d ≡ v1.loses d) → (took : Option Fate) (d : Dev)
+pub loses_on : (reads : List ℕ → Option (List ℕ)) (v0 v1 v2 : View) → Goes v1 v2 → ((d : Dev) → v2.loses d ≡ v1.loses d) → (took : Option Fate) (d : Dev)
     → (v1.loses d ≡ loses_then None d (v0.loses d)) ⊎ MayLoseCopy reads took d v0 v1 → (v2.loses d ≡ loses_then None d (v0.loses d)) ⊎ MayLoseCopy reads took d v0 v2
 loses_on reads v0 v1 v2 goes same took d (inl is) = inl (same d ∙ is)
 loses_on reads v0 v1 v2 goes same took d (inr may) = inr (may_on took d may) where
@@ -128,13 +130,16 @@ module _ {P C : Type 0} (plants : PlantGhosts P) (copies : CopyGhosts C) (told :
 
   pub passed_stopped : IsPassed told copies.reads l left.own (v x) (v z) (Ok tt)
   passed_stopped = record {
-    goes = proceeds_on (v x) (v y) (v z) (proceeds_of (v x) (v y) left.goes) after;
+    goes = proceeds_on (v x) (v y) (v z) left.goes after;
+    stays = λ d other is. said.acts.goes.lost (Disk d) (left.stays d other is);
     given = record {
       shaped = ⊎_elim inl (λ s. inr (if_member l.step.what _ (shaped_as_later (v x) (v y) (v z) after l (admitted_at l) s))) left.shaped;
       right = λ t. right_of l.scene l.step.by l.number l.given l.step.what member (left.right t);
     };
     honest = λ t. if_member l.step.what _ (subst (λ (c : Option Cut). IsHonestAs l (admitted_at l) c (v x) (v z)) (sym same_cut)
         (finds_later (v x) (v y) (v z) after l.scene.queue.config.groups l.step.by l.given.sight.finds _ (left.honest t)));
+    stay = λ t. if_member l.step.what _ (subst (λ (c : Option Cut). StaysAs l (admitted_at l) c (v x) (v z)) (sym same_cut)
+        (stays_on (admitted_at l) (named_as l (admitted_at l) l.given.sight.cut) (v x) (v y) (v z) (left.stay t) (console_stays (v y) (v z) said.acts)));
     cut = subst (λ (c : Option Cut). CutsAs {T = Unit {0}} (Ok tt) l.step.by c (v x) (v z)) (sym same_cut) (cut_as l.step.by (pieces_at l) l.given.sight.cut (v x) (v z) left.cut rose);
     within = subst (λ (c : Option Cut). IsWithin c (pieces_at l)) (sym same_cut) (within_cut no_node.Halted (pieces_at l) l.given.sight.cut left.cut);
     why = no_node.Halted;
@@ -150,8 +155,8 @@ module _ {P C : Type 0} (plants : PlantGhosts P) (copies : CopyGhosts C) (told :
         ∙ ap (λ (ls : List Line). console_now (v x) ++ ls) (ap (λ (ls : List Line). (left_at l).lines ++ ls) (sym stop_line) ∙ sym (lines_left l member));
     paper = λ t m. papers_same t m ∙ printed_here plants copies told l x y member left m t;
     dry = λ t none. papers_on (v x) (v y) (v z) left.goes.later after (left.dry t none) (said.acts.papers (tells t));
-    loses = λ t. subst (λ (d : Option Dev). LosesAs copies.reads (took l) d (v x) (v z)) (sym (loses_none l member)) (λ d. loses_on copies.reads (v x) (v y) (v z) after said.acts.loses (took l) d (left.loses t d));
-    arms = λ m. said.acts.goes.arms m ∙ left.goes.arms m ∙ sym (arms_same plants copies told l x y member left m);
+    loses = λ t. subst (λ (d : Option Dev). LosesAs copies.reads (took l) d (v x) (v z)) (sym (loses_none l member)) (λ d. loses_on copies.reads (v x) (v y) (v z) said.acts.goes said.acts.loses (took l) d (left.loses t d));
+    arms = λ m. said.acts.goes.arms m ∙ left.arms m ∙ sym (arms_same plants copies told l x y member left m);
     volumes = λ t leaves. kept_later (v x) (v y) (v z) left.goes.later after (left.volumes t (leaves_as plants copies told l x y member left l.step.what member leaves))
         (kept_on (v y) (v z) (said.acts.others (tells t)));
   }
@@ -192,9 +197,11 @@ module _ {P C : Type 0} (plants : PlantGhosts P) (copies : CopyGhosts C) (told :
 
   pub passed_error : IsPassed told copies.reads l left.own (w x) (w y) (Err e)
   passed_error = record {
-    goes = proceeds_of (w x) (w y) left.goes;
+    goes = left.goes;
+    stays = left.stays;
     given = given_of plants copies told l x y member left;
     honest = λ t. if_member l.step.what _ (honest_of plants copies told l x y member left t);
+    stay = λ t. if_member l.step.what _ (stay_of plants copies told l x y member left t);
     cut = subst (λ (c : Option Cut). CutsAs {T = Unit {0}} (Err e) l.step.by c (w x) (w y)) (sym cut_here)
         (cut_error e other l.step.by (pieces_at l) l.given.sight.cut (w x) (w y) left.cut (left.spares.stops l.step.by.0 (inr (not_stopped e other))));
     within = subst (λ (c : Option Cut). IsWithin c (pieces_at l)) (sym cut_here) (within_cut e (pieces_at l) l.given.sight.cut left.cut);
@@ -210,7 +217,7 @@ module _ {P C : Type 0} (plants : PlantGhosts P) (copies : CopyGhosts C) (told :
     paper = λ t m. printed_here plants copies told l x y member left m t;
     dry = left.dry;
     loses = λ t. subst (λ (d : Option Dev). LosesAs copies.reads (took l) d (w x) (w y)) (sym (loses_none l member)) (left.loses t);
-    arms = λ m. left.goes.arms m ∙ sym (arms_same plants copies told l x y member left m);
+    arms = λ m. left.arms m ∙ sym (arms_same plants copies told l x y member left m);
     volumes = λ t leaves. left.volumes t (leaves_as plants copies told l x y member left l.step.what member leaves);
   }
 

@@ -23,13 +23,13 @@ use Rattle.ckpt_pages.specs.Shape.{page_count}
 use Rattle.duplex_pair.specs.Halves.{IsBothLost, SomeAlive}
 use Rattle.mas_complex.proofs.BatchEnds.{with_last-append}
 use Rattle.mas_complex.proofs.Batches.{unplaced_settled}
-use Rattle.mas_complex.specs.Crash.{CopyAt, IsAt, Keeps, Setting, copy_of}
+use Rattle.mas_complex.specs.Crash.{IsAt, Keeps, OneCopy, Setting, copy_of}
 use Rattle.mas_complex.specs.Journals.{AreSettled, end_of, fated, kept_all, with_last}
 use Rattle.mas_complex.specs.Locking.{IsOfOther}
 use Rattle.mas_complex.specs.Parts.{Parts, ended_at}
 use Rattle.mas_complex.specs.Seen.{IsGreater, ReadsSeen}
-use Rattle.mas_complex.specs.declared.places.Place.{Place}
-use Rattle.mas_complex.specs.declared.places.Place.TheVariants.{Before}
+use Rattle.ckpt_places.specs.declared.places.Place.{Place}
+use Rattle.ckpt_places.specs.declared.places.Place.TheVariants.{Before}
 use Rattle.warm_start.specs.declared.takeovers.TakeNo.{TakeNo}
 use Rattle.warm_start.specs.declared.takeovers.TakeNo.TheVariants as take_no
 use Rattle.warm_start.specs.Takeover.{HasActed, HasFailed1, HasFailed2, HasFound, IsRefusedBy, TakesBy, fate_of, placed_then, taken_in}
@@ -50,8 +50,8 @@ use Rattle.mas_run.proofs.TakenQueueLemmas.{low_found, sound_told}
 -- A COPY THAT IS LOST may count as before any batch, as each other one does
 
 module _ (S : Setting) (rests : List ℕ → Disk → Type 0) (holds : List ℕ → List ℕ → Disk → Type 0) (was : List ℕ) (coming : Option (List ℕ)) (place : Place) (alive : Bool) (now : ℕ) (disk : Disk) where
-  rested_copy : (alive ≡ true → place ≡ Before) → CopyAt S was coming (copy_of rests holds alive place) now disk → CopyAt S was coming (copy_of rests holds alive Before) now disk
-  rested_copy before at = record { at = λ on. subst (λ (p : Place). IsAt S rests holds was coming p disk) (before on) (at.at on); gone = at.gone }
+  rested_copy : {renewed : Bool} → (alive ≡ true → place ≡ Before) → OneCopy S rests holds was coming place alive renewed now disk → OneCopy S rests holds was coming Before alive renewed now disk
+  rested_copy before at = record { at = λ on. subst (λ (p : Place). IsAt S rests holds was coming p disk) (before on) (at.at on); formed = at.formed; gone = at.gone }
 
 module _ (S : Setting) (js : List Batch) (c : Option Batch) (reached : ℕ) (rests1 rests2 : List ℕ → Disk → Type 0) (holds1 holds2 : List ℕ → List ℕ → Disk → Type 0) (alive1 alive2 : Bool) (place1 place2 : Place)
     (v : View) where
@@ -61,6 +61,8 @@ module _ (S : Setting) (js : List Batch) (c : Option Batch) (reached : ℕ) (res
     started = k.started;
     settled = k.settled;
     begun = k.begun;
+    renewed1 = k.renewed1;
+    renewed2 = k.renewed2;
     crash = k.crash;
     told = k.told;
     grows = k.grows;
@@ -118,7 +120,7 @@ fate_journal f other now was batches placed b (Some c) stands are =
     ∙ sym (settle_both f now e.before (c ∷ []))
     ∙ ap (λ (bs : List Batch). settle f now bs) (sym (ap (λ (bs : List Batch). with_last c bs) e.is ∙ with_last-append c e.before e.place))
 
--- A TAKEOVER leaves the base and the first moment
+-- A TAKEOVER leaves the base, the first moment and the moments at which a copy was replaced
 
 pub taken_base : {P C : Type 0} (r : Result (List Page) TakeNo) (now : ℕ) (by of : MemberId) (is was : Parts P C) → (taken_in r now by of is was).base ≡ was.base
 taken_base (Ok pages) now by of is was = refl
@@ -135,6 +137,14 @@ taken_since (Err take_no.NotHolder) now by of is was = refl
 taken_since (Err take_no.BothLost) now by of is was = refl
 taken_since (Err take_no.Halted) now by of is was = refl
 taken_since (Err take_no.NoMemory) now by of is was = refl
+
+pub taken_renewals : {P C : Type 0} (r : Result (List Page) TakeNo) (now : ℕ) (by of : MemberId) (is was : Parts P C) → (taken_in r now by of is was).renewals ≡ was.renewals
+taken_renewals (Ok pages) now by of is was = refl
+taken_renewals (Err take_no.StillUp) now by of is was = refl
+taken_renewals (Err take_no.NotHolder) now by of is was = refl
+taken_renewals (Err take_no.BothLost) now by of is was = refl
+taken_renewals (Err take_no.Halted) now by of is was = refl
+taken_renewals (Err take_no.NoMemory) now by of is was = refl
 
 -- of who is stopped and holds the lock it is never refused
 pub none_refused : (b : Book) (of : MemberId) → is_stopped b of ≡ true → is_holder b of ≡ true → seize_refusal b of ≡ None
@@ -246,7 +256,7 @@ module _ {P C : Type 0} (plants : PlantGhosts P) (copies : CopyGhosts C) (by of 
           at = (v z).now;
           moment = (later, omega arith);
           beside = (found.second (second_on z.first_alive z.second_alive found.some gone)).now t;
-          room = copies.room z.first_copy;
+          room = copies.room_in (disk_now (v x) Ckpt1).bytes;
           unfit = u;
           least = least;
         }))
@@ -269,7 +279,7 @@ module _ {P C : Type 0} (plants : PlantGhosts P) (copies : CopyGhosts C) (by of 
           at = (v z).now;
           moment = (later, omega arith);
           beside = (found.first (first_on z.first_alive z.second_alive found.some gone)).now t;
-          room = copies.room z.second_copy;
+          room = copies.room_in (disk_now (v x) Ckpt2).bytes;
           unfit = u;
           least = least;
         }))

@@ -5,7 +5,6 @@ use Rattle.mas_types.specs.declared.ids.MemberId.{MemberId}
 use Rattle.mas_types.specs.declared.journals.Batch.{Batch}
 use Rattle.mas_types.specs.declared.journals.Fate.{Fate}
 use Rattle.mas_types.specs.declared.journals.Fate.TheVariants.{Flying}
-use Rattle.spool_disk.specs.declared.plant.Part.TheVariants.{Disk}
 use Rattle.spool_disk.specs.declared.plant.Plant.{Ghosts as PlantGhosts}
 use Rattle.spool_disk.specs.View.{View}
 use Rattle.spool_disk.specs.Acts.{Rose}
@@ -38,23 +37,19 @@ module _ (by : ℕ) (a a' b b' stopped : Bool) (old new : View) (counts : KeepsC
     operator = λ is. let le = some is in omega (arith, le);
   }
 
-  counts_lose : (reads : List ℕ → Option (List ℕ)) (found : Fate) → (a' ≡ false → new.lost (Disk Ckpt1) ≡ true) → (b' ≡ false → new.lost (Disk Ckpt2) ≡ true)
-      → (a ≡ true → a' ≡ false → IsWhyLost reads found Ckpt1 Ckpt2 old new) → (b ≡ true → b' ≡ false → IsWhyLost reads found Ckpt2 Ckpt1 old new) → LosesAs reads (Some found) None old new
-  counts_lose reads found lost1 lost2 why1 why2 Ckpt1 = ⊎_elim inl (λ once. inr (once.2, lost1 once.1, why1 once.0 once.1)) counts.once1
-  counts_lose reads found lost1 lost2 why1 why2 Ckpt2 = ⊎_elim inl (λ once. inr (once.2, lost2 once.1, why2 once.0 once.1)) counts.once2
-  counts_lose reads found lost1 lost2 why1 why2 (Spool n) = inl (counts.else_loses (Spool n) (λ e. absurd (cc)) (λ e. absurd (cc)))
+  counts_lose : (reads : List ℕ → Option (List ℕ)) (found : Fate) → (a ≡ true → a' ≡ false → IsWhyLost reads found Ckpt1 Ckpt2 old new)
+      → (b ≡ true → b' ≡ false → IsWhyLost reads found Ckpt2 Ckpt1 old new) → LosesAs reads (Some found) None old new
+  counts_lose reads found why1 why2 Ckpt1 = ⊎_elim inl (λ once. inr (once.2, counts.device1.1 once.0 once.1, why1 once.0 once.1)) counts.once1
+  counts_lose reads found why1 why2 Ckpt2 = ⊎_elim inl (λ once. inr (once.2, counts.device2.1 once.0 once.1, why2 once.0 once.1)) counts.once2
+  counts_lose reads found why1 why2 (Spool n) = inl (counts.else_loses (Spool n) (λ e. absurd (cc)) (λ e. absurd (cc)))
 
 module _ {P C : Type 0} (plants : PlantGhosts P) (copies : CopyGhosts C) (by of : MemberId) (some : 1 ≤ by.0) where
   abbrev v : Parts P C → View
   v z = plants.view z.plant
 
-  -- a copy that counts as lost is lost
-  abbrev pub AreLost : Parts P C → Type 0
-  AreLost y = (y.first_alive ≡ false → (v y).lost (Disk Ckpt1) ≡ true) × (y.second_alive ≡ false → (v y).lost (Disk Ckpt2) ≡ true)
-
-  pub comes_taken : (told : Type 0) → (told → plants.tells) → (found : Fate) (x mid : Parts P C) → AreLost mid → IsTaken plants copies by of x mid found
+  pub comes_taken : (told : Type 0) → (told → plants.tells) → (found : Fate) (x mid : Parts P C) → IsTaken plants copies by of x mid found
       → ComesTo plants copies.reads told by.0 true found (v mid).now x mid
-  comes_taken told tells found x mid lost taken = record {
+  comes_taken told tells found x mid taken = record {
     goes = taken.counts.goes;
     moment = (taken.counts.goes.later, omega arith);
     spares = counts_spare by.0 x.first_alive mid.first_alive x.second_alive mid.second_alive false (v x) (v mid) taken.counts (λ e. some);
@@ -62,7 +57,7 @@ module _ {P C : Type 0} (plants : PlantGhosts P) (copies : CopyGhosts C) (by of 
     printed = taken.printed;
     console = λ t. (taken.apart (tells t)).console;
     papers = λ t. (taken.apart (tells t)).papers;
-    loses = λ t. counts_lose by.0 x.first_alive mid.first_alive x.second_alive mid.second_alive false (v x) (v mid) taken.counts copies.reads found lost.0 lost.1 (taken.left1 (tells t)) (taken.left2 (tells t));
+    loses = λ t. counts_lose by.0 x.first_alive mid.first_alive x.second_alive mid.second_alive false (v x) (v mid) taken.counts copies.reads found (taken.left1 (tells t)) (taken.left2 (tells t));
     volumes = λ t. kept_on (v x) (v mid) (taken.apart (tells t)).volumes;
   }
 
@@ -75,12 +70,12 @@ module _ {P C : Type 0} (plants : PlantGhosts P) (copies : CopyGhosts C) (by of 
   may_begin x y no_node.Halted cause = tt
   may_begin x y no_node.ConsoleFault cause = cause
 
-  pub barely_untaken : (x y : Parts P C) (e : NodeNo) → AreLost y → IsUntaken plants copies by of x y e → HasBarelyBegun plants copies.reads by true x y e
-  barely_untaken x y e lost un = record {
+  pub barely_untaken : (x y : Parts P C) (e : NodeNo) → IsUntaken plants copies by of x y e → HasBarelyBegun plants copies.reads by true x y e
+  barely_untaken x y e un = record {
     goes = un.counts.goes;
     spares = counts_spare by.0 x.first_alive y.first_alive x.second_alive y.second_alive (is_stop e) (v x) (v y) un.counts (λ is. some);
     stopped = caused_stop x y e un.cause;
-    loses = λ t. counts_lose by.0 x.first_alive y.first_alive x.second_alive y.second_alive (is_stop e) (v x) (v y) un.counts copies.reads Flying lost.0 lost.1 (λ was gone. inl refl) (λ was gone. inl refl);
+    loses = λ t. counts_lose by.0 x.first_alive y.first_alive x.second_alive y.second_alive (is_stop e) (v x) (v y) un.counts copies.reads Flying (λ was gone. inl refl) (λ was gone. inl refl);
     console = λ t. (un.apart t).console;
     papers = λ t. (un.apart t).papers;
     volumes = λ t. kept_on (v x) (v y) (un.apart t).volumes;

@@ -11,8 +11,6 @@ use Rattle.mas_types.specs.Run.{run}
 use Rattle.mas_types.specs.Limits.{steps_most}
 use Rattle.lock_cycle.specs.Books.{Book, IsMember, after_seize, after_stop, is_holder, is_stopped, left_of as hold_left}
 use Rattle.spool_disk.specs.declared.plant.Plant.{Ghosts as PlantGhosts}
-use Rattle.spool_disk.specs.declared.plant.Part.{Part}
-use Rattle.spool_disk.specs.declared.plant.Part.TheVariants.{Disk}
 use Rattle.spool_disk.specs.View.{View}
 use Rattle.ckpt_copy.specs.declared.copying.Copying.{Ghosts as CopyGhosts}
 use Rattle.ckpt_form.specs.declared.steady.Steady.{Ghosts as SteadyGhosts}
@@ -63,7 +61,7 @@ use Rattle.mas_run.proofs.PassedLemmas.{proceeds_of}
 use Rattle.mas_run.proofs.ResetCutLemmas.{entered_same}
 use Rattle.mas_run.proofs.ResettingLemmas.{takes_bare, takes_told}
 use Rattle.mas_run.proofs.SceneLemmas.{LineDone, admitted_here, left_so}
-use Rattle.mas_run.proofs.TakenLemmas.{AreLost, barely_untaken, comes_taken, journal_still, may_begin}
+use Rattle.mas_run.proofs.TakenLemmas.{barely_untaken, comes_taken, journal_still, may_begin}
 use Rattle.mas_run.proofs.TakenOnLemmas.{earlier_journal, earlier_taken, may_hold, seized_now, up_still}
 use Rattle.mas_run.proofs.ToldLemmas.{EachSays, untold_then}
 use Rattle.mas_run.proofs.TurnedLemmas.{HasWritten, IsNowAside, turned_halted, turned_next}
@@ -83,10 +81,8 @@ module _ {P C : Type 0} (plants : PlantGhosts P) where
     goes = proceeds_of (v x) (v y) counts.goes;
     failed1 = counts.gone1;
     failed2 = counts.gone2;
-    there1 = counts.device1.0;
-    there2 = counts.device2.0;
-    alive1 = counts.alive1;
-    alive2 = counts.alive2;
+    there1 = λ is there. counts.device1.0 is (there (counts.alive1 is));
+    there2 = λ is there. counts.device2.0 is (there (counts.alive2 is));
     grow = grow;
     left = left;
   } where
@@ -103,14 +99,8 @@ module _ (by : MemberId) (cause : Cause) (play : Play) (count : ℕ) (up : is_st
   first_book true (p ∷ ps) = entered_same play.book by up mine
   first_book false (p ∷ ps) = refl
 
-  begun_book : (left_by by (Some (at_first cause)) play count).book ≡ stopped_by by cause play.book
+  pub begun_book : (left_by by (Some (at_first cause)) play count).book ≡ stopped_by by cause play.book
   begun_book = ap (λ (b : Book). stopped_by by cause b) (first_book play.locked play.pieces)
-
--- a copy that counts as lost is
-lost_by : (was now : Bool) (part : Part) (old new : View) → (was ≡ true → now ≡ false → new.lost part ≡ true) → (old.lost part ≡ true → new.lost part ≡ true) → (was ≡ false → old.lost part ≡ true)
-    → now ≡ false → new.lost part ≡ true
-lost_by true now part old new gone on before is = gone refl is
-lost_by false now part old new gone on before is = on (before refl)
 
 if_halted : (e : NodeNo) (b c : Book) → (e ≡ no_node.Halted → b ≡ c) → IfRuns {T = Unit {0}} (Err e) (b ≡ c)
 if_halted no_node.Halted b c f = f refl
@@ -138,7 +128,7 @@ same_answer d e is = cc
 module _ {P C : Type 0} {plants : PlantGhosts P} {steadies : SteadyGhosts C} {copies : CopyGhosts C} (x mid y : Complex P C plants steadies copies) (ms : List Member)
     (at : ℕ) (what : Ask) (few : at ≤ steps_most) (is : BetweenLines x ms at) (frame : parts_of mid ≡ parts_of x) (m : Member) (inside : IsMember x.book m.id)
     (up : IsMemberUp plants copies (parts_of x) m) (of : MemberId) (may : MayTakeAt plants copies (parts_of x) m at of) (free : is_holder x.book m.id ≡ false)
-    (adm : TakesOver of ≡ admitted x.base.config x.book m.id what) (n : Member) (stays : n.id ≡ m.id) (base_mid : y.base ≡ mid.base) (since_mid : y.since ≡ mid.since) where
+    (adm : TakesOver of ≡ admitted x.base.config x.book m.id what) (n : Member) (stays : n.id ≡ m.id) (base_mid : y.base ≡ mid.base) (since_mid : y.since ≡ mid.since) (renewals_mid : y.renewals ≡ mid.renewals) where
   abbrev by : MemberId
   by = m.id
 
@@ -157,6 +147,9 @@ module _ {P C : Type 0} {plants : PlantGhosts P} {steadies : SteadyGhosts C} {co
   since : y.since ≡ x.since
   since = since_mid ∙ ap (λ (w : Parts P C). w.since) frame
 
+  renewals : y.renewals ≡ x.renewals
+  renewals = renewals_mid ∙ ap (λ (w : Parts P C). w.renewals) frame
+
   abbrev b : Book
   b = after_seize x.book by of
 
@@ -171,9 +164,6 @@ module _ {P C : Type 0} {plants : PlantGhosts P} {steadies : SteadyGhosts C} {co
 
   book_here : (told : Type 0) (S : Scene) → IsShown plants copies told S p → tried S.book by (TakesOver of) ≡ b
   book_here told S shown = ap (λ (c : Book). after_seize c by of) (sym shown.book)
-
-  lost_copies : AreLost plants copies by of may.some q
-  lost_copies = (y.first_lost, y.second_lost)
 
   -- NOTHING WAS FOUND OUT of a batch in flight
 
@@ -193,17 +183,17 @@ module _ {P C : Type 0} {plants : PlantGhosts P} {steadies : SteadyGhosts C} {co
 
     bare_none : LineIsLeft ⊥ at (line_by by what) x y r_none
     bare_none S shown =
-        left_so plants copies ⊥ S at by what (TakesOver of) _ p q r_none (admitted_here plants copies ⊥ S p shown by what (TakesOver of) adm)
+        left_so plants copies ⊥ S at by what (TakesOver of) _ p q r_none (admitted_here plants copies ⊥ S p shown by what (TakesOver of) adm) renewals
         (begun_left plants copies ⊥ (λ t. absurd t) S at (line_by by what) (TakesOver of) (bare_pieces S by at (TakesOver of)) p q e (may_begin plants copies by of may.some p q e un.cause)
-        (barely_untaken plants copies by of may.some p q e lost_copies un) (inr (bare_shaped S at (line_by by what) (cause_by e) (TakesOver of) (u p) (u q))) (λ t. absurd t)
-        (book_none ⊥ S shown (bare_pieces S by at (TakesOver of))))
+        (barely_untaken plants copies by of may.some p q e un) (inr (bare_shaped S at (line_by by what) (cause_by e) (TakesOver of) (u p) (u q))) (λ t. absurd t)
+        (book_none ⊥ S shown (bare_pieces S by at (TakesOver of))) (λ t. absurd t))
 
     told_none : plants.tells → LineIsLeft (Unit {0}) at (line_by by what) x y r_none
     told_none tells S shown =
-        left_so plants copies (Unit {0}) S at by what (TakesOver of) _ p q r_none (admitted_here plants copies (Unit {0}) S p shown by what (TakesOver of) adm)
+        left_so plants copies (Unit {0}) S at by what (TakesOver of) _ p q r_none (admitted_here plants copies (Unit {0}) S p shown by what (TakesOver of) adm) renewals
         (begun_left plants copies (Unit {0}) (λ t. tells) S at (line_by by what) (TakesOver of) (queue_pieces S at (line_by by what) (cause_by e) (TakesOver of)) p q e
-        (may_begin plants copies by of may.some p q e un.cause) (barely_untaken plants copies by of may.some p q e lost_copies un) (inl tt) (λ t. queue_right S at (line_by by what) (cause_by e) (TakesOver of))
-        (book_none (Unit {0}) S shown (queue_pieces S at (line_by by what) (cause_by e) (TakesOver of))))
+        (may_begin plants copies by of may.some p q e un.cause) (barely_untaken plants copies by of may.some p q e un) (inl tt) (λ t. queue_right S at (line_by by what) (cause_by e) (TakesOver of))
+        (book_none (Unit {0}) S shown (queue_pieces S at (line_by by what) (cause_by e) (TakesOver of))) (λ t. tt))
 
     goes_none : Proceeds (u p) (u q)
     goes_none = proceeds_of (u p) (u q) un.counts.goes
@@ -279,12 +269,6 @@ module _ {P C : Type 0} {plants : PlantGhosts P} {steadies : SteadyGhosts C} {co
         ∙ ap (λ (c : Book). let g : Holder = record { by = by; step = at; hold = hold_left t.book by; grant = granted_by c by } in g) (sym shown.book)
         ∙ ap (λ (h : Bool). let g : Holder = record { by = by; step = at; hold = hold_left t.book by; grant = if h then ByLock else ForStep } in g) free
 
-    lost_t : AreLost plants copies by of may.some t
-    lost_t = (
-      lost_by p.first_alive t.first_alive (Disk Ckpt1) (u p) (u t) takes.taken.counts.device1.1 (takes.taken.counts.goes.lost (Disk Ckpt1)) x.first_lost,
-      lost_by p.second_alive t.second_alive (Disk Ckpt2) (u p) (u t) takes.taken.counts.device2.1 (takes.taken.counts.goes.lost (Disk Ckpt2)) x.second_lost,
-    )
-
     queue_t : (told : Type 0) (S : Scene) (shown : IsShown plants copies told S p) → queue_of t ≡ queue_found takes.found S.flight S.queue
     queue_t told S shown =
         ap (λ (Q : Queue). run Q (kept_all t.batches)) takes.base
@@ -294,15 +278,15 @@ module _ {P C : Type 0} {plants : PlantGhosts P} {steadies : SteadyGhosts C} {co
 
     bare : LineIsLeft ⊥ at (line_by by what) x y r
     bare S shown =
-        left_so plants copies ⊥ S at by what (TakesOver of) _ p q r (admitted_here plants copies ⊥ S p shown by what (TakesOver of) adm)
+        left_so plants copies ⊥ S at by what (TakesOver of) _ p q r (admitted_here plants copies ⊥ S p shown by what (TakesOver of) adm) renewals
         (takes_bare plants copies S at (line_by by what) of (length m.room) r (hold_left t.book by) ForStep takes.found (u t).now takes.taken.fated p t q (book_here ⊥ S shown ∙ sym takes.taken.book)
-        (holder_here ⊥ S shown) takes.reset (comes_taken plants copies by of may.some ⊥ (λ o. absurd o) takes.found p t lost_t takes.taken))
+        (holder_here ⊥ S shown) takes.reset (comes_taken plants copies by of may.some ⊥ (λ o. absurd o) takes.found p t takes.taken))
 
     told : plants.tells → LineIsLeft (Unit {0}) at (line_by by what) x y r
     told tells S shown =
-        left_so plants copies (Unit {0}) S at by what (TakesOver of) _ p q r (admitted_here plants copies (Unit {0}) S p shown by what (TakesOver of) adm)
+        left_so plants copies (Unit {0}) S at by what (TakesOver of) _ p q r (admitted_here plants copies (Unit {0}) S p shown by what (TakesOver of) adm) renewals
         (takes_told plants copies S at (line_by by what) of (length m.room) r (hold_left t.book by) ForStep takes.found (u t).now takes.taken.fated p t q (book_here (Unit {0}) S shown ∙ sym takes.taken.book)
-        (holder_here (Unit {0}) S shown) takes.reset tells (comes_taken plants copies by of may.some (Unit {0}) (λ o. tells) takes.found p t lost_t takes.taken) (queue_t (Unit {0}) S shown)
+        (holder_here (Unit {0}) S shown) takes.reset tells (comes_taken plants copies by of may.some (Unit {0}) (λ o. tells) takes.found p t takes.taken) (queue_t (Unit {0}) S shown)
         (ap (λ (l : List ℕ). counts_of l by) takes.taken.printed ∙ shown.counts tt by (ap (λ (c : Book). is_stopped c by) (sym shown.book) ∙ may.up)) (takes.reset.told tells))
 
     on_copies : KeepCopies plants p q r

@@ -116,7 +116,7 @@ module _ {P C : Type 0} (plants : PlantGhosts P) (copies : CopyGhosts C) (x mid 
         → IsBetween plants copies x ms h.step → IsBetween plants copies y (set ms (h.by.0 - 1) n) (h.step + 1)
     step_next n ms aside room id seat few is =
         between_after plants copies x y (base ∙ mid_base) book_since h.by (subst (λ (b : Book). IsHeldBy h.by b) (sym book_after) (held_left h.by cut play count held))
-        n aside room id seat ms h.step inside.0 (let le = inside.1 in let many = mid_book.many in let booked = is.booked in omega (arith, le, many, booked)) few is
+        n aside room id seat ms h.step inside.0 (let le = inside.1 in let many = mid_book.many in let booked = is.booked in omega (arith, le, many, booked)) few is goes.size
         (earlier_more h.step y.batches mid.batches left.leaves.more (sym (journal_still y aside.quiet.none aside.quiet.unplaced) ∙ left.leaves.journal) mid_earlier
         (left_earlier h.by h.step cut play count (v mid).now (v y).now left.leaves.more left.of left.leaves.batches))
         (λ k later less small t.

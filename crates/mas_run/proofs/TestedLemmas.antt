@@ -23,9 +23,12 @@ module _ {P C : Type 0} (plants : PlantGhosts P) (copies : CopyGhosts C) (x : Pa
       → HasLeftAs plants copies told l a x y r
   left_tested told l a y r left = record {
     goes = left.goes;
+    stays = left.stays;
+    arms = left.arms;
     shaped = left.shaped;
     right = left.right;
     honest = left.honest;
+    stay = left.stay;
     cut = left.cut;
     tight = left.tight;
     broke = left.broke;
@@ -50,7 +53,7 @@ module _ {P C : Type 0} (plants : PlantGhosts P) (copies : CopyGhosts C) (x : Pa
 
   pub line_tested : (told : Type 0) (S : Scene) (at : ℕ) (step : Step) (y : Parts P C) (r : Result (Unit {0}) NodeNo) → LeftAt plants copies told S at step tested y r
       → LeftAt plants copies told S at step x y r
-  line_tested told S at step y r left = record { given = left.given; left = left_tested told _ _ y r left.left }
+  line_tested told S at step y r left = record { given = left.given; left = left_tested told _ _ y r left.left; renews = left.renews }
 
   some_tested : {T : Type 0} (y : Parts P C) (r : Result T NodeNo) → LeavesSome plants tested y r → LeavesSome plants x y r
   some_tested y (Ok done) left = left
@@ -66,8 +69,6 @@ module _ {P C : Type 0} (plants : PlantGhosts P) (copies : CopyGhosts C) (x : Pa
     failed2 = keep.failed2;
     there1 = keep.there1;
     there2 = keep.there2;
-    alive1 = keep.alive1;
-    alive2 = keep.alive2;
     grow = keep.grow;
     left = some_tested y r keep.left;
   }
@@ -83,9 +84,12 @@ module _ {P C : Type 0} (plants : PlantGhosts P) (copies : CopyGhosts C) (x y : 
         given = is.given;
         left = record {
           goes = left.goes;
+          stays = left.stays;
+          arms = left.arms;
           shaped = left.shaped;
           right = left.right;
           honest = left.honest;
+          stay = left.stay;
           cut = left.cut;
           tight = left.tight;
           broke = left.broke;
@@ -107,6 +111,7 @@ module _ {P C : Type 0} (plants : PlantGhosts P) (copies : CopyGhosts C) (x y : 
           loses = left.loses;
           volumes = left.volumes;
         };
+        renews = is.renews;
       }
 
   -- the run goes on then
@@ -117,8 +122,6 @@ module _ {P C : Type 0} (plants : PlantGhosts P) (copies : CopyGhosts C) (x y : 
     failed2 = keep.failed2;
     there1 = keep.there1;
     there2 = keep.there2;
-    alive1 = keep.alive1;
-    alive2 = keep.alive2;
     grow = keep.grow;
     left = keep.left;
   }

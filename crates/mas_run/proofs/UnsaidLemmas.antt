@@ -9,16 +9,17 @@ use Rattle.mas_types.specs.declared.queues.Queue.{Queue}
 use Rattle.mas_types.specs.Run.{run}
 use Rattle.script_lang.specs.declared.types.Ask.{Ask}
 use Rattle.script_lang.specs.declared.types.Ask.TheVariants as ask
-use Rattle.spool_disk.specs.declared.plant.Part.TheVariants.{Console}
+use Rattle.spool_disk.specs.declared.plant.Part.TheVariants.{Console, Disk}
+use Rattle.mas_complex.specs.declared.renewals.Renewals.{Renewals}
 use Rattle.spool_disk.specs.declared.plant.Plant.{Ghosts as PlantGhosts}
 use Rattle.spool_disk.specs.View.{Line, View, paper_now}
 use Rattle.spool_disk.specs.Acts.{Rose}
 use Rattle.ckpt_copy.specs.declared.copying.Copying.{Ghosts as CopyGhosts}
 use Rattle.mas_complex.specs.Parts.{Parts}
 use Rattle.member_hand.specs.Cuts.{OfFirst, AreBatched, AtCut, IsBroken, IsTight, whole_pieces}
-use Rattle.member_hand.specs.Found.{AreFoundIn, waits_in}
+use Rattle.member_hand.specs.Found.{AreFoundIn, waits_in, named_in}
 use Rattle.member_node.proofs.CourseLemmas.{rose_later}
-use Rattle.member_node.specs.Calls.{console_now}
+use Rattle.member_node.specs.Calls.{console_now, VolumesStay}
 use Rattle.member_node.specs.declared.member.NodeNo.{NodeNo}
 use Rattle.member_node.specs.declared.member.NodeNo.TheVariants as no_node
 use Rattle.step_turns.specs.Courses.{holder_then}
@@ -26,25 +27,28 @@ use Rattle.step_turns.specs.Entries.{all_entries}
 use Rattle.step_turns.specs.Sittings.{Sitting}
 use Rattle.step_turns.specs.declared.states.Holder.{Holder}
 use Rattle.step_turns.specs.declared.states.State.{State}
-use Rattle.step_turns.specs.declared.states.Task.TheVariants.{Deck, Give, Work}
+use Rattle.step_turns.specs.declared.states.Task.TheVariants.{Deck, Give, Work, Line as Node}
 use Rattle.run_turns.specs.Sights.{Cut, Ends, Halt, Sight}
 use Rattle.run_turns.specs.Scenes.{Batched, Scene, count_then, flight_found, queue_found}
-use Rattle.run_turns.specs.Admissions.{Admission, Denied, Frees, Locks, Plays, Refused, Resets, TakesOver, Unplayed, admitted, tried}
+use Rattle.run_turns.specs.Admissions.{Admission, Denied, Frees, Locks, Plays, Refused, Replaces, Resets, TakesOver, Unplayed, admitted, tried}
 use Rattle.run_turns.specs.Pieces.{Piece, Play, fate_found, is_locked, piece_at, pieces_found, pieces_from, sayer_of, unless_told}
 use Rattle.run_turns.specs.Cuts.{Left, left_by}
 use Rattle.run_turns.specs.Givens.{ArePiecesOf, Given, IsAskRight, play_with}
 use Rattle.mas_run.specs.LinesAt.{LineAt, admitted_at, pieces_at, played_at}
 use Rattle.run_turns.specs.Steps.{Said}
-use Rattle.mas_run.specs.Lines.{CutsAs, IfIdle, IsHonest, IsPassed, IsThere, IsUnsaid, IsWithin, LosesAs, Proceeds, cut_of, is_takeover, is_work, printed_at, taking, IsHonestAs}
+use Rattle.mas_run.specs.Lines.{CutsAs, IfIdle, IsHonest, IsPassed, IsThere, IsUnsaid, IsWithin, LosesAs, Proceeds, cut_of, is_takeover, is_work, printed_at, taking, IsHonestAs, IfStays, StaysAs, named_as}
 use Rattle.mas_run.specs.LinesLeft.{HasLeft, HasSaidStop, IsCutBy, IsCutIn, StopCauses, left_at}
 use Rattle.mas_run.specs.LinesPlayed.{is_of_member}
+use Rattle.mas_run.specs.Renewing.{RenewsAs}
 use Rattle.mas_run.specs.Shapes.{IsShapedAs}
 use Rattle.mas_run.proofs.LaterLemmas.{finds_later}
 use Rattle.mas_run.proofs.LeftLemmas.{arms_same, batches_left, if_member, leaves_as, lines_left, loses_none, member_cut, printed_here, printed_left, right_of, took}
 use Rattle.mas_run.proofs.LinesLemmas.{batched_later}
 use Rattle.mas_run.proofs.PassedLemmas.{kept_later, proceeds_of, proceeds_on}
+use Rattle.mas_run.proofs.RenewedLemmas.{renews_ended}
 use Rattle.mas_run.proofs.StopLemmas.{loses_on, papers_on, shaped_as_later}
 use Rattle.mas_run.proofs.VolumeLemmas.{kept_on}
+use Rattle.mas_run.proofs.StayLemmas.{console_stays, stays_on}
 
 -- THE LINE, cut there because the run ended
 
@@ -65,6 +69,7 @@ fate_same (Refused sayer end) s c = refl
 fate_same (Denied why) s c = refl
 fate_same (Plays task) s c = refl
 fate_same (Resets of) s c = refl
+fate_same (Replaces dev) s c = refl
 fate_same Locks s c = refl
 fate_same Frees s c = refl
 fate_same Unplayed s c = refl
@@ -84,6 +89,7 @@ right_same S by at cut g (TakesOver of) is = is
 right_same S by at cut g (Refused sayer end) is = is
 right_same S by at cut g (Denied why) is = is
 right_same S by at cut g (Resets of) is = is
+right_same S by at cut g (Replaces dev) is = is
 right_same S by at cut g Locks is = is
 right_same S by at cut g Frees is = is
 right_same S by at cut g Unplayed is = is
@@ -104,8 +110,10 @@ shaped_same : (cut : Cut) (l : LineAt) (old new : View) (a : Admission) → IsSh
 shaped_same cut l old new (Plays (Give c)) is = is
 shaped_same cut l old new (Plays (Deck fields text)) is = is
 shaped_same cut l old new (Plays (Work n)) is = is
+shaped_same cut l old new (Plays (Node n)) is = is
 shaped_same cut l old new (Resets of) is = is
 shaped_same cut l old new (TakesOver of) is = is
+shaped_same cut l old new (Replaces dev) is = right_same l.scene l.step.by l.number cut l.given (Replaces dev) is
 shaped_same cut l old new (Refused sayer end) is = right_same l.scene l.step.by l.number cut l.given (Refused sayer end) is
 shaped_same cut l old new (Denied why) is = right_same l.scene l.step.by l.number cut l.given (Denied why) is
 shaped_same cut l old new Locks is = right_same l.scene l.step.by l.number cut l.given Locks is
@@ -172,6 +180,17 @@ module _ (cut : Cut) (l : LineAt) (is : l.given.sight.cut ≡ Some cut) where
         (subst (found_so (Some cut)) (sym fates)
         (subst (λ (c : Option Cut). found_so c (fate_found (admitted_at l) l.given.sight)) is honest))
 
+    abbrev stay_so : Option Cut → Fate → Type 0
+    stay_so c f =
+        let ps = pieces_found (is_locked (admitted_at l)) (flight_found f l.scene.flight) l.given.pieces in
+        IfStays (admitted_at l) (VolumesStay (named_in l.given.sight.finds (waits_in (take (whole_pieces c ps) ps) (queue_found f l.scene.flight l.scene.queue))) old new)
+
+    pub stay_same : StaysAs l (admitted_at l) l.given.sight.cut old new → StaysAs m (admitted_at m) (cut_of m) old new
+    stay_same stay =
+        subst (λ (c : Option Cut). stay_so c (fate_found (admitted_at l) m.given.sight)) (sym (member_cut l.step.what (Some (ended_cut cut)) member))
+        (subst (stay_so (Some cut)) (sym fates)
+        (subst (λ (c : Option Cut). stay_so c (fate_found (admitted_at l) l.given.sight)) is stay))
+
 -- THE LINE as the run ended in it
 
 unsaid_why : {P C : Type 0} (plants : PlantGhosts P) (copies : CopyGhosts C) (x y : Parts P C) (e : NodeNo) → StopCauses plants copies x y (Err e) → IsUnsaid e
@@ -195,6 +214,7 @@ console_failed plants copies x y no_node.Halted cause is = absurd cause
 abbrev pub PassedSo : Type 0 → (List ℕ → Option (List ℕ)) → LineAt → List Batch → View → View → NodeNo → Type 0
 PassedSo told reads l own old new e = (g : Given) × (fate_found (admitted_at l) g.sight ≡ fate_found (admitted_at l) l.given.sight)
     × IsPassed told reads (record l { given = g }) own old new (Err e)
+    × ((rs is : Renewals) (then_is : View) → RenewsAs (admitted_at l) l.given.sight.cut l.given.sight.renewed rs is old then_is → RenewsAs (admitted_at l) g.sight.cut g.sight.renewed rs is old then_is)
 
 module _ {P C : Type 0} (plants : PlantGhosts P) (copies : CopyGhosts C) (told : Type 0) (tells : told → plants.tells) (l : LineAt) (x y z : Parts P C) (e : NodeNo)
     (member : is_of_member l.step.what ≡ true) (left : HasLeft plants copies told l x y (Err no_node.Halted))
@@ -229,7 +249,8 @@ module _ {P C : Type 0} (plants : PlantGhosts P) (copies : CopyGhosts C) (told :
 
     passed_cut : IsPassed told copies.reads n left.own (v x) (v z) (Err e)
     passed_cut = record {
-      goes = proceeds_on (v x) (v y) (v z) (proceeds_of (v x) (v y) left.goes) after;
+      goes = proceeds_on (v x) (v y) (v z) left.goes after;
+      stays = λ d other is. said.acts.goes.lost (Disk d) (left.stays d other is);
       given = record {
         shaped = ⊎_elim inl (λ s. inr (if_member l.step.what _ (shaped_same cut l (v x) (v z) (admitted_at l)
             (shaped_as_later (v x) (v y) (v z) after l (admitted_at l) s)))) left.shaped;
@@ -237,6 +258,8 @@ module _ {P C : Type 0} (plants : PlantGhosts P) (copies : CopyGhosts C) (told :
       };
       honest = λ t. if_member l.step.what _ (honest_same cut l is member (v x) (v z)
           (finds_later (v x) (v y) (v z) after l.scene.queue.config.groups l.step.by l.given.sight.finds _ (left.honest t)));
+      stay = λ t. if_member l.step.what _ (stay_same cut l is member (v x) (v z)
+          (stays_on (admitted_at l) (named_as l (admitted_at l) l.given.sight.cut) (v x) (v y) (v z) (left.stay t) (console_stays (v y) (v z) said.acts)));
       cut = subst (λ (c : Option Cut). CutsAs {T = Unit {0}} (Err e) l.step.by c (v x) (v z)) cut_here
           (refl, inr (record { why = here.halt; stopped = rose; unsaid = unsaid_why plants copies y z e said.cause }));
       within = subst (λ (c : Option Cut). IsWithin c (pieces_at n)) cut_here
@@ -255,8 +278,8 @@ module _ {P C : Type 0} (plants : PlantGhosts P) (copies : CopyGhosts C) (told :
       dry = λ t none. papers_on (v x) (v y) (v z) left.goes.later after (left.dry t none) (said.acts.papers (tells t));
       loses = λ t. subst (λ (d : Option Dev). LosesAs copies.reads (took n) d (v x) (v z)) (sym (loses_none n member))
           (subst (λ (f : Fate). LosesAs copies.reads (taking (is_takeover (admitted_at l)) f) None (v x) (v z)) (sym (fates cut l is))
-          (λ d. loses_on copies.reads (v x) (v y) (v z) after said.acts.loses (took l) d (left.loses t d)));
-      arms = λ k. said.acts.goes.arms k ∙ left.goes.arms k ∙ sym (arms_same plants copies told l x y member left k);
+          (λ d. loses_on copies.reads (v x) (v y) (v z) said.acts.goes said.acts.loses (took l) d (left.loses t d)));
+      arms = λ k. said.acts.goes.arms k ∙ left.arms k ∙ sym (arms_same plants copies told l x y member left k);
       volumes = λ t leaves. kept_later (v x) (v y) (v z) left.goes.later after (left.volumes t (leaves_as plants copies told l x y member left l.step.what member leaves))
           (kept_on (v y) (v z) (said.acts.others (tells t)));
     }
@@ -265,4 +288,9 @@ module _ {P C : Type 0} (plants : PlantGhosts P) (copies : CopyGhosts C) (told :
   passed_unsaid = by_cut l.given.sight.cut refl left.cut where
     by_cut : (c : Option Cut) → l.given.sight.cut ≡ c → IsCutBy {T = Unit {0}} (Err no_node.Halted) (pieces_at l) c → PassedSo told copies.reads l left.own (v x) (v z) e
     by_cut None is so = absurd so
-    by_cut (Some cut) is so = (ended_given cut l.given, fates cut l is, passed_cut cut is)
+    by_cut (Some cut) is so = (
+      ended_given cut l.given,
+      fates cut l is,
+      passed_cut cut is,
+      (λ rs now mid r. renews_ended (admitted_at l) cut l.given.sight.renewed rs now (v x) mid (subst (λ (c : Option Cut). RenewsAs (admitted_at l) c l.given.sight.renewed rs now (v x) mid) is r)),
+    )

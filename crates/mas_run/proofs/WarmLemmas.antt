@@ -21,24 +21,26 @@ use Rattle.ckpt_pages.specs.Given.{levels_given}
 use Rattle.ckpt_pages.proofs.GivenLevels.{their_levels}
 use Rattle.spool_disk.specs.declared.plant.Part.TheVariants.{Console, Disk as DiskPart}
 use Rattle.spool_disk.specs.View.{View, World, disk_now}
+use Rattle.spool_disk.specs.Acts.{Goes}
 use Rattle.queue_tables.specs.Telling.{Tell}
 use Rattle.mas_complex.specs.Texts.{HasTexts, IsThereUnless, lies_on, lost_now, spools_at}
 use Rattle.spool_volumes.specs.Volumes.{volume_of}
 use Rattle.track_groups.specs.Places.{groups_of}
-use Rattle.warm_start.specs.declared.choosing.StartNo.{StartNo}
-use Rattle.warm_start.specs.declared.choosing.StartNo.TheVariants as no_start
+use Rattle.start_choice.specs.declared.choosing.StartNo.{StartNo}
+use Rattle.start_choice.specs.declared.choosing.StartNo.TheVariants as no_start
 use Rattle.warm_start.specs.Starting.{HasGone, HeldBack, IsCauseOf, Mark, Starts, LosesBoth, IsOnce, IsHeld, WhileStarting}
-use Rattle.warm_start.specs.Usable.{AreOf, HaveSize}
+use Rattle.start_choice.specs.Usable.{AreOf, HaveSize}
 use Rattle.member_node.specs.Calls.{Grows, console_now}
 use Rattle.member_node.specs.Drawn.{AreDrawn}
 use Rattle.member_node.proofs.DrawnLemmas.{drawn_level}
 use Rattle.mas_run.specs.Lines.{Proceeds}
-use Rattle.mas_run.specs.Runs.{has_begun, AreSidesKept, Begins, LosesFirst, IsHeldUntil}
+use Rattle.mas_run.specs.Runs.{has_begun, AreSidesKept, Begins, LosesFirst, IsHeldUntil, as_found}
 use Rattle.mas_run.specs.Volumes.{AreVolumesKept}
-use Rattle.mas_run.specs.Statuses.{IsCaused, IsCausedFrom, is_of_play, is_of_text, is_unplayed}
+use Rattle.mas_run.specs.Statuses.{IsCaused, IsCausedFrom, LeavesLost, is_of_play, is_of_text, is_unplayed}
 use Rattle.mas_run.specs.Unstarted.{status_of_start, IsNotStarted}
 use Rattle.mas_run.proofs.CopiesLemmas.{lost_after, lost_before}
 use Rattle.mas_run.proofs.PassedLemmas.{proceeds_of}
+use Rattle.mas_run.proofs.RunLemmas.{ever_lost, lost_ever}
 
 -- WHAT IS FOUND
 
@@ -137,10 +139,17 @@ held_whole old new (inl x) = (x.0.console new.now x.0.goes.later (omega arith), 
 held_whole old new (inr x) = (x.1.held.console new.now x.1.held.goes.later (omega arith), x.1.held.volumes, x.1.held.sides new.now x.1.held.goes.later (omega arith))
 
 pub start_caused : (why : StartNo) (old new : View) → (why ≡ no_start.BothLost → LosesBoth old new) → IsCaused (status_of_start why) old new
-start_caused (no_start.NotFormatted first second) old new lost = record { lost = λ e. absurd (cc); failed1 = λ e. absurd (cc); failed2 = λ e. absurd (cc); console = λ e. absurd (cc) }
-start_caused no_start.BothLost old new lost = let s = (lost refl).starts in record { lost = λ e. (s.lost1 refl, s.lost2 refl); failed1 = λ e. s.taken1 refl; failed2 = λ e. s.taken2 refl; console = λ e. absurd (cc) }
-start_caused (no_start.DeviceSize dev size) old new lost = record { lost = λ e. absurd (cc); failed1 = λ e. absurd (cc); failed2 = λ e. absurd (cc); console = λ e. absurd (cc) }
-start_caused no_start.NoMemory old new lost = record { lost = λ e. absurd (cc); failed1 = λ e. absurd (cc); failed2 = λ e. absurd (cc); console = λ e. absurd (cc) }
+start_caused (no_start.NotFormatted first second) old new lost = record { failed1 = λ e. absurd (cc); failed2 = λ e. absurd (cc); console = λ e. absurd (cc) }
+start_caused no_start.BothLost old new lost = let s = (lost refl).starts in record { failed1 = λ e. s.taken1 refl; failed2 = λ e. s.taken2 refl; console = λ e. absurd (cc) }
+start_caused (no_start.DeviceSize dev size) old new lost = record { failed1 = λ e. absurd (cc); failed2 = λ e. absurd (cc); console = λ e. absurd (cc) }
+start_caused no_start.NoMemory old new lost = record { failed1 = λ e. absurd (cc); failed2 = λ e. absurd (cc); console = λ e. absurd (cc) }
+
+-- what such a start leaves lost
+pub start_leaves : (why : StartNo) (old new : View) → Goes old new → (why ≡ no_start.BothLost → LosesBoth old new) → LeavesLost (status_of_start why) old new
+start_leaves (no_start.NotFormatted first second) old new goes lost = record { stays = goes.lost; both = λ e. absurd (cc) }
+start_leaves no_start.BothLost old new goes lost = let s = (lost refl).starts in record { stays = goes.lost; both = λ e. (s.lost1 refl, s.lost2 refl) }
+start_leaves (no_start.DeviceSize dev size) old new goes lost = record { stays = goes.lost; both = λ e. absurd (cc) }
+start_leaves no_start.NoMemory old new goes lost = record { stays = goes.lost; both = λ e. absurd (cc) }
 
 -- A RUN THAT BEGAN
 
@@ -163,7 +172,6 @@ by_alive false f g = g refl
 
 pub start_causes : (a b : Bool) (answer : Status) (v0 v1 v2 : View) → Starts a b v0 v1 → Proceeds v1 v2 → ((d : Dev) → Grows (v1.loses d) (v2.loses d)) → IsCausedFrom a b answer v1 v2 → IsCaused answer v0 v2
 start_causes a b answer v0 v1 v2 s goes grow caused = record {
-  lost = caused.lost;
   failed1 = λ e. by_alive a (λ is. lost_after Ckpt1 v0 v1 v2 (proceeds_of v0 v1 s.goes) (starts_grow a b v0 v1 s Ckpt1) (caused.failed1 e is)) (λ not. lost_before Ckpt1 v0 v1 v2 (s.taken1 not) goes (grow Ckpt1));
   failed2 = λ e. by_alive b (λ is. lost_after Ckpt2 v0 v1 v2 (proceeds_of v0 v1 s.goes) (starts_grow a b v0 v1 s Ckpt2) (caused.failed2 e is)) (λ not. lost_before Ckpt2 v0 v1 v2 (s.taken2 not) goes (grow Ckpt2));
   console = λ e. omega (arith, s.goes.faults Console, caused.console e);
@@ -173,10 +181,10 @@ pub no : (base : Queue) → has_begun base ≡ true → has_begun base ≡ false
 no base p q = cc
 
 -- a copy that had gone when a start ended has gone when the run has ended
-pub gone_on : (dev : Dev) (old mid new : View) (mark : Mark) → mark.at ≤ mid.now → Proceeds mid new → HasGone dev old mid mark → HasGone dev old new mark
+pub gone_on : (dev : Dev) (old mid new : View) (mark : Mark) → mark.at ≤ mid.now → Proceeds mid new → HasGone dev old mid mark → HasGone dev old (as_found (lost_ever mid new) new) mark
 gone_on dev old mid new mark before goes x = record {
   failed = omega (arith, x.failed, goes.faults (DiskPart dev));
-  is_lost = goes.lost (DiskPart dev) x.is_lost;
+  is_lost = ever_lost mid new goes (DiskPart dev) x.is_lost;
   uncalled = x.uncalled;
   gone = λ lt. ap (λ (w : World). (w.disk dev).lost) (goes.past mark.at before) ∙ x.gone lt;
 }
@@ -204,7 +212,7 @@ pub texts_later : (v1 v2 : View) (per : ℕ) (Q : Queue) → Proceeds v1 v2 → 
 texts_later v1 v2 per Q goes has = subst (λ (w : World). HasTexts (lost_now v2) (λ n. w.disk (Spool n)) per Q) (sym (goes.past v1.now (omega arith)))
     (record {
       decks = All-weaker (λ j. IsThereUnless (lost_now v1) (spools_at v1 v1.now) per j.text (groups_of (Deck j.number) Q.owners)) (λ j. IsThereUnless (lost_now v2) (spools_at v1 v1.now) per j.text (groups_of (Deck j.number) Q.owners))
-          (λ j is none. is (lost_more_of (lost_now v1) (lost_now v2) (λ n. goes.lost (DiskPart (Spool n))) per (groups_of (Deck j.number) Q.owners) none)) Q.jobs has.decks;
+          (λ j is none. is (lost_more_of (lost_now v1) (lost_now v2) (λ n. goes.lost (DiskPart (Spool n)) refl) per (groups_of (Deck j.number) Q.owners) none)) Q.jobs has.decks;
       outputs = All-weaker (λ o. IsThereUnless (lost_now v1) (spools_at v1 v1.now) per o.text (groups_of (Output o.job o.index) Q.owners)) (λ o. IsThereUnless (lost_now v2) (spools_at v1 v1.now) per o.text (groups_of (Output o.job o.index) Q.owners))
-          (λ o is none. is (lost_more_of (lost_now v1) (lost_now v2) (λ n. goes.lost (DiskPart (Spool n))) per (groups_of (Output o.job o.index) Q.owners) none)) Q.outputs has.outputs;
+          (λ o is none. is (lost_more_of (lost_now v1) (lost_now v2) (λ n. goes.lost (DiskPart (Spool n)) refl) per (groups_of (Output o.job o.index) Q.owners) none)) Q.outputs has.outputs;
     })

@@ -79,4 +79,4 @@ module _ {P C : Type 0} (plants : PlantGhosts P) (copies : CopyGhosts C) (told :
       let w = way S shown in
       w.then_all 0 (there_at plants copies y (Ok tt))
       (subst (λ (ls : List Step). Passed told (here_at plants copies (k + 1) w.scene (journal_of y) y) ls 0 (there_at plants copies y (Ok tt))) (sym is)
-      (record { given = []; are = (refl, refl, refl, refl) }))
+      (record { given = []; are = (refl, refl, refl, refl, refl) }))

@@ -26,16 +26,16 @@ module _ {P C : Type 0} (plants : PlantGhosts P) where
   LeavesSome x y (Err BothLost) = IsBothLost y.first_alive y.second_alive
   LeavesSome x y _ = IsLeft x.first_alive y.first_alive x.second_alive y.second_alive ⊎ HasLost (v x) (v y)
 
-  -- A copy is lost exactly where its device failed or was lost by a call, and one that counts as alive isn't lost if it
-  -- wasn't before.
+  -- A copy is lost exactly where its device failed or was lost by a call. The device of one that counts as alive isn't
+  -- lost, if it wasn't before where the copy counted as alive then: a copy that is replaced counts as alive again.
   pub record KeepCopies {T : Type 0} (x y : Parts P C) (result : Result T NodeNo) : Type 0 where
     pub goes : Proceeds (v x) (v y)
     pub failed1 : x.first_alive ≡ true → y.first_alive ≡ false → WasLost Ckpt1 (v x) (v y)
     pub failed2 : x.second_alive ≡ true → y.second_alive ≡ false → WasLost Ckpt2 (v x) (v y)
-    pub there1 : y.first_alive ≡ true → (v x).lost (Disk Ckpt1) ≡ false → (v y).lost (Disk Ckpt1) ≡ false
-    pub there2 : y.second_alive ≡ true → (v x).lost (Disk Ckpt2) ≡ false → (v y).lost (Disk Ckpt2) ≡ false
-    pub alive1 : y.first_alive ≡ true → x.first_alive ≡ true
-    pub alive2 : y.second_alive ≡ true → x.second_alive ≡ true
+    pub there1 : y.first_alive ≡ true → (x.first_alive ≡ true → (v x).lost (Disk Ckpt1) ≡ false)
+        → (v y).lost (Disk Ckpt1) ≡ false
+    pub there2 : y.second_alive ≡ true → (x.second_alive ≡ true → (v x).lost (Disk Ckpt2) ≡ false)
+        → (v y).lost (Disk Ckpt2) ≡ false
     pub grow : (d : Dev) → Grows ((v x).loses d) ((v y).loses d)
     pub left : LeavesSome x y result
 

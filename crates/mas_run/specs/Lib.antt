@@ -9,6 +9,7 @@ pub mod LinesAt
 pub mod Shapes
 pub mod Histories
 pub mod Lines
+pub mod Renewing
 pub mod Passed
 pub mod Bounds
 pub mod Fresh

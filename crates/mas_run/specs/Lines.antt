@@ -19,29 +19,39 @@ use Rattle.mas_complex.specs.Seen.{WasUnfit}
 use Rattle.warm_start.specs.Takeover.{fate_of}
 use Rattle.member_node.specs.declared.member.NodeNo.{NodeNo}
 use Rattle.member_node.specs.declared.member.NodeNo.TheVariants as no_node
-use Rattle.member_node.specs.Calls.{console_now}
-use Rattle.step_turns.specs.declared.states.Task.TheVariants.{Deck, Work}
+use Rattle.member_node.specs.Calls.{VolumesStay, console_now}
+use Rattle.step_turns.specs.declared.states.Task.TheVariants.{Deck, Work, Line as Node}
 use Rattle.run_turns.specs.Sights.{Cut, Ends, Stops, Writing}
 use Rattle.run_turns.specs.Scenes.{Scene}
-use Rattle.run_turns.specs.Admissions.{Admission, Plays, TakesOver}
+use Rattle.run_turns.specs.Admissions.{Admission, Plays, Replaces, Resets, TakesOver}
 use Rattle.run_turns.specs.Pieces.{Piece, fate_found}
 use Rattle.run_turns.specs.Steps.{is_up}
 use Rattle.run_turns.specs.Givens.{IsRight, queue_met}
 use Rattle.mas_run.specs.LinesAt.{LineAt, admitted_at, pieces_as, pieces_at, played_at}
 use Rattle.member_hand.specs.Cuts.{AreBatched, AtCut, IsBroken, IsHaltBy, IsTight, whole_pieces}
-use Rattle.member_hand.specs.Found.{AreFoundIn, waits_in}
+use Rattle.member_hand.specs.Found.{AreFoundIn, named_in, waits_in}
 use Rattle.mas_run.specs.Shapes.{IsShaped}
 use Rattle.mas_run.specs.Volumes.{AreVolumesKept}
 
--- What holds after any number of acts, calls that lose a device, and stops that are armed: past worlds stay, counts of
--- faults and stops don't fall, and a lost part stays lost.
+-- the device of a copy: where it is lost a line may put another one in its place
+abbrev pub is_copy : Part → Bool
+is_copy (Disk Ckpt1) = true
+is_copy (Disk Ckpt2) = true
+is_copy _ = false
+
+-- What holds after any number of acts, calls that lose a device, stops that are armed, and replacements: past worlds
+-- stay, counts of faults and stops don't fall, and a lost part that isn't the device of a copy stays lost.
 pub record Proceeds (old new : View) : Type 0 where
   pub later : old.now ≤ new.now
   pub past : (t : ℕ) → t ≤ old.now → new.world t ≡ old.world t
   pub size : (d : Dev) → new.size d ≡ old.size d
   pub faults : (p : Part) → old.faults p ≤ new.faults p
   pub stops : (m : ℕ) → old.stops m ≤ new.stops m
-  pub lost : (p : Part) → old.lost p ≡ true → new.lost p ≡ true
+  pub lost : (p : Part) → is_copy p ≡ false → old.lost p ≡ true → new.lost p ≡ true
+
+-- a device that is lost stays lost
+abbrev pub StaysLost : Dev → View → View → Type 0
+StaysLost d old new = old.lost (Disk d) ≡ true → new.lost (Disk d) ≡ true
 
 -- LINES OF MEMBERS: all but stops, stops that are armed, and losses of a device
 
@@ -76,6 +86,23 @@ IsHonestAs l a cut old new =
 
 abbrev pub IsHonest : LineAt → View → View → Type 0
 IsHonest l old new = IsHonestAs l (admitted_at l) (cut_of l) old new
+
+-- VOLUMES THAT STAY: each but those that its acts found lost, in the pieces that it played whole, is lost where it was,
+-- and no fault of it is counted. It resets no member, replaces no copy, and takes no lock over.
+
+abbrev pub IfStays : Admission → Type 0 → Type 0
+IfStays (Resets of) P = Unit {0}
+IfStays (Replaces dev) P = Unit {0}
+IfStays (TakesOver of) P = Unit {0}
+IfStays a P = P
+
+abbrev pub named_as : LineAt → Admission → Option Cut → ℕ → Bool
+named_as l a cut =
+    let ps = pieces_as l a in
+    named_in l.given.sight.finds (waits_in (take (whole_pieces cut ps) ps) (queue_met l.scene a l.given.sight))
+
+abbrev pub StaysAs : LineAt → Admission → Option Cut → View → View → Type 0
+StaysAs l a cut old new = IfStays a (VolumesStay (named_as l a cut) old new)
 
 -- WHY IT WAS CUT
 
@@ -122,10 +149,12 @@ abbrev pub IsWithin : Option Cut → List Piece → Type 0
 IsWithin None ps = Unit {0}
 IsWithin (Some cut) ps = IsThere cut ps
 
--- WHAT A CUT MAY NOT LEAVE: a batch without its last entries is kept only if memory wanted, or the line works
+-- WHAT A CUT MAY NOT LEAVE: a batch without its last entries is kept only if memory wanted, or the line works or serves
+-- another node
 
 abbrev pub is_work : Admission → Bool
 is_work (Plays (Work n)) = true
+is_work (Plays (Node n)) = true
 is_work _ = false
 
 -- why a line was cut that was cut: its member was stopped, or else this was the answer
@@ -145,6 +174,11 @@ same_device Ckpt1 Ckpt1 = true
 same_device Ckpt2 Ckpt2 = true
 same_device (Spool n) (Spool volume) = n == volume
 same_device _ _ = false
+
+-- a line puts another device in the place of this one
+abbrev pub is_replaced : Dev → Admission → Bool
+is_replaced d (Replaces dev) = same_device d dev
+is_replaced d _ = false
 
 -- how often a call lost a device after a line that lost this one, or none
 abbrev pub loses_then : Option Dev → Dev → ℕ → ℕ
@@ -207,14 +241,16 @@ arms_then l m arms =
 
 -- WHAT STAYS
 
--- no line is printed: the line doesn't work
+-- no line is printed: the line doesn't work, nor serves another node
 abbrev pub PrintsNone : Admission → Type 0
 PrintsNone (Plays (Work n)) = ⊥
+PrintsNone (Plays (Node n)) = ⊥
 PrintsNone _ = Unit {0}
 
--- the volumes stay as they are: the line plays no deck and no work, and loses no volume
+-- the volumes stay as they are: the line plays no deck and no work, serves no other node, and loses no volume
 abbrev pub AdmissionLeaves : Admission → Type 0
 AdmissionLeaves (Plays (Work n)) = ⊥
+AdmissionLeaves (Plays (Node n)) = ⊥
 AdmissionLeaves (Plays (Deck fields text)) = ⊥
 AdmissionLeaves _ = Unit {0}
 
@@ -237,6 +273,7 @@ pub record IsPassed (told : Type 0) (reads : List ℕ → Option (List ℕ)) (l 
   pub goes : Proceeds old new
   pub given : IsGiven told l old new
   pub honest : told → IfOfMember l.step.what (IsHonest l old new)
+  pub stay : told → IfOfMember l.step.what (StaysAs l (admitted_at l) (cut_of l) old new)
   pub cut : CutsAs answer l.step.by (cut_of l) old new
   pub within : IsWithin (cut_of l) (pieces_at l)
   pub why : NodeNo
@@ -252,5 +289,6 @@ pub record IsPassed (told : Type 0) (reads : List ℕ → Option (List ℕ)) (l 
   pub dry : told → PrintsNone (admitted_at l) → SamePapers old new
   pub loses : told → LosesAs reads (taking (is_takeover (admitted_at l)) (fate_found (admitted_at l) l.given.sight))
       (played_at l).outcome.loses old new
+  pub stays : (d : Dev) → is_replaced d (admitted_at l) ≡ false → StaysLost d old new
   pub arms : (m : ℕ) → new.arms m ≡ arms_then l m (old.arms m)
   pub volumes : told → LeavesVolumes l → AreVolumesKept old new

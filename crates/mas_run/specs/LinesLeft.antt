@@ -1,6 +1,7 @@
 -- What a line of a member leaves before the operator says that its member was stopped, if it was.
 use Rattle.std.specs.Prelude.{◌≡◌, ◌≢◌, ◌⊎◌, ℕ, ◌≤◌, false, List, [], ◌∷◌, ◌++◌, Option, Some, None, Result, Ok, Err, OnOk}
 use Rattle.mas_types.specs.declared.answers.Closing.TheVariants as closing
+use Rattle.mas_types.specs.declared.ids.Dev.{Dev}
 use Rattle.mas_types.specs.declared.ids.MemberId.{MemberId}
 use Rattle.mas_types.specs.declared.journals.Batch.{Batch}
 use Rattle.mas_types.specs.Closings.{closing_line}
@@ -8,7 +9,7 @@ use Rattle.lock_cycle.specs.Books.{is_stopped}
 use Rattle.spool_disk.specs.declared.plant.Part.TheVariants.{Console}
 use Rattle.spool_disk.specs.declared.plant.Plant.{Ghosts as PlantGhosts}
 use Rattle.spool_disk.specs.View.{View, paper_now}
-use Rattle.spool_disk.specs.Acts.{Goes, Rose}
+use Rattle.spool_disk.specs.Acts.{Rose}
 use Rattle.ckpt_copy.specs.declared.copying.Copying.{Ghosts as CopyGhosts}
 use Rattle.ckpt_form.specs.declared.steady.Steady.{Ghosts as SteadyGhosts}
 use Rattle.mas_complex.specs.declared.complex.Complex.{Complex}
@@ -24,13 +25,14 @@ use Rattle.script_lang.specs.declared.types.Step.{Step}
 use Rattle.member_hand.specs.Cuts.{AreBatched, AtCut, IsBroken, IsHaltBy, IsTight, cause_by}
 use Rattle.run_turns.specs.Sights.{Cut}
 use Rattle.run_turns.specs.Cuts.{Left, left_by, whole}
-use Rattle.run_turns.specs.Admissions.{Admission}
+use Rattle.run_turns.specs.Admissions.{Admission, admitted}
 use Rattle.run_turns.specs.Givens.{ArePiecesOf, Given}
 use Rattle.mas_run.specs.LinesAt.{LineAt, admitted_at, pieces_as, play_as}
 use Rattle.run_turns.specs.Pieces.{Piece, fate_found}
 use Rattle.run_turns.specs.Scenes.{Scene}
 use Rattle.mas_run.specs.Histories.{settle}
-use Rattle.mas_run.specs.Lines.{AdmissionLeaves, IfIdle, IsHonestAs, IsThere, LosesAs, PrintsNone, is_takeover, is_work, taking}
+use Rattle.mas_run.specs.Lines.{AdmissionLeaves, IfIdle, IsHonestAs, IsThere, LosesAs, PrintsNone, Proceeds, StaysAs, StaysLost, is_replaced, is_takeover, is_work, taking}
+use Rattle.mas_run.specs.Renewing.{RenewsAs}
 use Rattle.mas_run.specs.Shapes.{IsShapedAs}
 use Rattle.mas_run.specs.Shows.{IsShown}
 use Rattle.mas_run.specs.Volumes.{AreVolumesKept}
@@ -74,10 +76,13 @@ module _ {P C : Type 0} (plants : PlantGhosts P) (copies : CopyGhosts C) where
   -- Halted its member is stopped in the book, and nothing was said of that yet.
   pub record HasLeftAs (told : Type 0) (l : LineAt) (a : Admission) (x y : Parts P C)
       (result : Result (Unit {0}) NodeNo) : Type 0 where
-    pub goes : Goes (v x) (v y)
+    pub goes : Proceeds (v x) (v y)
+    pub stays : (d : Dev) → is_replaced d a ≡ false → StaysLost d (v x) (v y)
+    pub arms : (m : ℕ) → (v y).arms m ≡ (v x).arms m
     pub shaped : told ⊎ IsShapedAs l (v x) (v y) a
     pub right : told → ArePiecesOf l.scene l.step.by l.number a l.given
     pub honest : told → IsHonestAs l a l.given.sight.cut (v x) (v y)
+    pub stay : told → StaysAs l a l.given.sight.cut (v x) (v y)
     pub cut : IsCutBy result (pieces_as l a) l.given.sight.cut
     pub tight : IfIdle (is_work a) (AtCut (IsTight (ended_as result)) l.given.sight.cut (pieces_as l a))
     pub broke : told → AtCut (IsBroken (ended_as result)) l.given.sight.cut (pieces_as l a)
@@ -110,6 +115,8 @@ module _ {P C : Type 0} (plants : PlantGhosts P) (copies : CopyGhosts C) where
       (result : Result (Unit {0}) NodeNo) : Type 0 where
     pub given : Given
     pub left : HasLeft told (record { scene = S; number = at; step = step; given = given }) x y result
+    pub renews : RenewsAs (admitted S.queue.config S.book step.by step.what) given.sight.cut given.sight.renewed
+        x.renewals y.renewals (v x) (v y)
 
   -- THE OPERATOR SAYS that a member was stopped in its line, or the console failed at that, or there was no memory for
   -- it; nobody is stopped, and nothing else is done.

@@ -35,10 +35,10 @@ module _ {P C : Type 0} (plants : PlantGhosts P) (copies : CopyGhosts C) where
   -- where a run stands, whose own journal has these batches after those of its opening
   abbrev pub here_at : ℕ → Scene → List Batch → Parts P C → Here
   here_at at S batches x = record
-      { reads = copies.reads; number = at; scene = S; batches = batches; view = v x }
+      { reads = copies.reads; number = at; scene = S; batches = batches; renewals = x.renewals; view = v x }
 
   abbrev pub there_at : Parts P C → Result (Unit {0}) NodeNo → There
-  there_at y result = record { batches = journal_of y; view = v y; answer = result }
+  there_at y result = record { batches = journal_of y; renewals = y.renewals; view = v y; answer = result }
 
   -- A line of this number, at a scene that the value shows: what it gave, and what it did. Unless the run ends in it
   -- the value shows the scene that it leaves.

@@ -11,20 +11,24 @@ use Rattle.run_turns.specs.Steps.{Outcome}
 use Rattle.run_turns.specs.Givens.{Given, RightIf, given_first, line_with}
 use Rattle.mas_run.specs.LinesAt.{LineAt, admitted_at, played_at}
 use Rattle.mas_run.specs.Histories.{settle}
+use Rattle.mas_complex.specs.declared.renewals.Renewals.{Renewals}
+use Rattle.mas_run.specs.Renewing.{RenewsAs}
 use Rattle.mas_run.specs.Lines.{IsPassed, LeavesVolumes, is_takeover, loses_then}
 
--- what a plant showed, what the journal of the run had, and the scene, at a line of this number; and how a copy's bytes
--- are read
+-- what a plant showed, what the journal of the run had, when copies were replaced, and the scene, at a line of this
+-- number; and how a copy's bytes are read
 pub record Here : Type 0 where
   pub reads : List ℕ → Option (List ℕ)
   pub number : ℕ
   pub scene : Scene
   pub batches : List Batch
+  pub renewals : Renewals
   pub view : View
 
 -- how it all ended
 pub record There : Type 0 where
   pub batches : List Batch
+  pub renewals : Renewals
   pub view : View
   pub answer : Result (Unit {0}) NodeNo
 
@@ -39,6 +43,9 @@ pub record IsNext (told : Type 0) (h : Here) (g : Given) (step : Step) (there : 
   pub at : ℕ
   pub moment : (h.view.now ≤ at) × (at ≤ there.view.now)
   pub batches : there.batches ≡ settle (played_at (line_of h g step)).outcome.found at h.batches ++ own
+  -- the copies that it replaced
+  pub renews : RenewsAs (admitted_at (line_of h g step)) g.sight.cut g.sight.renewed h.renewals there.renewals h.view
+      there.view
 
 abbrev pub here_after : Here → Given → Step → There → Here
 here_after h g step there = record {
@@ -46,6 +53,7 @@ here_after h g step there = record {
   number = h.number + 1;
   scene = (played_at (line_of h g step)).next;
   batches = there.batches;
+  renewals = there.renewals;
   view = there.view;
 }
 
@@ -57,6 +65,7 @@ GoesOn false more ends = ends
 -- so many of them were played
 abbrev pub ArePassed : Type 0 → Here → List Given → List Step → ℕ → There → Type 0
 ArePassed told h gs [] many end = (end.batches ≡ h.batches) × (end.view ≡ h.view) × (end.answer ≡ Ok tt) × (many ≡ 0)
+    × (end.renewals ≡ h.renewals)
 ArePassed told h gs (step ∷ steps) many end =
     (there : There) × (more : ℕ) × (many ≡ suc more) × IsNext told h (given_first gs) step there
     × GoesOn (played_at (line_of h (given_first gs) step)).goes_on

@@ -1,5 +1,5 @@
 -- What a run did.
-use Rattle.std.specs.Prelude.{◌≡◌, ◌≢◌, ◌⊎◌, ℕ, ◌≤◌, ◌<◌, nat_lt, Bool, true, false, List, [], ◌∷◌, ◌++◌, length, map, Some, Option, None, Result}
+use Rattle.std.specs.Prelude.{◌≡◌, ◌≢◌, ◌⊎◌, ℕ, ◌≤◌, ◌<◌, nat_lt, Bool, true, false, List, [], ◌∷◌, ◌++◌, length, map, All, Some, Option, None, Result}
 use Rattle.mas_types.specs.declared.ids.Dev.{Dev}
 use Rattle.mas_types.specs.declared.ids.Dev.TheVariants.{Ckpt1, Ckpt2, Spool}
 use Rattle.mas_types.specs.declared.journals.Batch.{Batch}
@@ -11,6 +11,7 @@ use Rattle.mas_types.specs.declared.queues.Queue.{Queue}
 use Rattle.mas_types.specs.declared.queues.Route.{Route}
 use Rattle.mas_types.specs.Starts.{empty_queue, no_queue}
 use Rattle.script_lang.specs.declared.types.Script.{Script}
+use Rattle.spool_disk.specs.declared.plant.Part.{Part}
 use Rattle.spool_disk.specs.declared.plant.Part.TheVariants.{Disk}
 use Rattle.spool_disk.specs.View.{View, disk_at, disk_now, Throughout, paper_now}
 use Rattle.spool_disk.specs.Acts.{Goes, Rose, top, next}
@@ -30,16 +31,21 @@ use Rattle.mas_complex.specs.Texts.{HasTexts, lost_now, spools_at}
 use Rattle.queue_tables.specs.Telling.{Tell}
 use Rattle.spool_volumes.specs.Volumes.{IsSteady}
 use Rattle.warm_start.specs.Spooled.{AreGiven}
-use Rattle.warm_start.specs.Usable.{AreOf, HaveSize}
+use Rattle.start_choice.specs.Usable.{AreOf, HaveSize}
 use Rattle.mas_run.specs.Resets.{restart_entries}
 use Rattle.warm_start.specs.Starting.{Mark, IsFound, IsUnfit, IsHeld}
 use Rattle.member_node.specs.Calls.{console_now}
 use Rattle.mas_complex.specs.Paper.{PaperKept}
+use Rattle.mas_complex.specs.declared.renewals.Renewal.{Renewal}
+use Rattle.mas_complex.specs.declared.renewals.Renewals.{Renewals}
+use Rattle.mas_complex.specs.Renewals.{is_open, no_renewals}
 use Rattle.mas_complex.specs.Headline.{IsCrashSafe, AreAlwaysAlike, AreLevelsLow, AreTextsLeft, LeavesQueue, AreToldKept}
 use Rattle.mas_run.specs.Papers.{ArePapersKeptUntil}
 use Rattle.mas_run.specs.Volumes.{AreVolumesKept, AreVolumesKeptUntil}
 use Rattle.mas_types.specs.declared.ids.MemberId.{MemberId}
+use Rattle.script_lang.specs.declared.types.Ask.TheVariants as ask
 use Rattle.script_lang.specs.declared.types.Step.{Step}
+use Rattle.mas_run.specs.Lines.{StaysLost}
 use Rattle.member_node.specs.declared.member.NodeNo.{NodeNo}
 use Rattle.run_turns.specs.Sights.{Cut}
 use Rattle.run_turns.specs.Scenes.{scene_of}
@@ -81,6 +87,27 @@ HasLostSince first new = Rose (first Ckpt1) (new.loses Ckpt1) ⊎ Rose (first Ck
 
 abbrev pub HasLost : View → View → Type 0
 HasLost old new = HasLostSince old.loses new
+
+-- no step replaces the copy on this device
+abbrev pub ReplacesNone : Dev → List Step → Type 0
+ReplacesNone d steps = All (λ (s : Step). s.what ≢ ask.Replace d) steps
+
+-- A copy counts as lost: its device is lost, or another was to take its place, and that hasn't ended.
+abbrev pub IsAway : Dev → List Renewal → View → Type 0
+IsAway d rs v = (v.lost (Disk d) ≡ true) ⊎ (is_open rs ≡ true)
+
+abbrev pub AreAway : Renewals → View → Type 0
+AreAway rs v = IsAway Ckpt1 rs.first v × IsAway Ckpt2 rs.second v
+
+-- A plant as it shows all at a run's end, but that devices of copies are lost that were lost at its first moment: a line
+-- may have put others in their place.
+abbrev pub lost_from : (Dev → Bool) → Part → Bool → Bool
+lost_from lost (Disk Ckpt1) is = lost Ckpt1
+lost_from lost (Disk Ckpt2) is = lost Ckpt2
+lost_from lost _ is = is
+
+abbrev pub as_found : (Dev → Bool) → View → View
+as_found lost v = record v { lost = λ p. lost_from lost p (v.lost p) }
 
 -- HOW A RUN BEGINS
 
@@ -179,7 +206,8 @@ EndsAs status.Done cut many lines = (cut ≡ None) × (many ≡ lines)
 EndsAs _ cut many lines = (1 ≤ many) × (cut ≢ None)
 
 -- THE LINES of a run: with what they began, the first of them at a queue, on a plant that showed this; and how they
--- ended: so many were played, the run's own journal, after its opening, has these batches, and this is its status
+-- ended: so many were played, the run's own journal, after its opening, has these batches, copies were replaced at these
+-- moments, and this is its status
 
 pub record LinesBegun : Type 0 where
   pub steps : List Step
@@ -189,14 +217,22 @@ pub record LinesBegun : Type 0 where
 pub record LinesEnded : Type 0 where
   pub many : ℕ
   pub batches : List Batch
+  pub renewals : Renewals
   pub view : View
   pub answer : Status
 
 abbrev pub starts : LinesBegun → Here
-starts b = record { reads = form_reads; number = 1; scene = scene_of b.from; batches = []; view = b.view }
+starts b = record {
+  reads = form_reads;
+  number = 1;
+  scene = scene_of b.from;
+  batches = [];
+  renewals = no_renewals;
+  view = b.view;
+}
 
 abbrev pub stops : LinesEnded → Result (Unit {0}) NodeNo → There
-stops e result = record { batches = e.batches; view = e.view; answer = result }
+stops e result = record { batches = e.batches; renewals = e.renewals; view = e.view; answer = result }
 
 -- What is known of them at their end. What this says of contents is said where they are told.
 pub record HavePassed (told : Type 0) (b : LinesBegun) (e : LinesEnded) : Type 0 where
@@ -224,12 +260,17 @@ pub record HavePassed (told : Type 0) (b : LinesBegun) (e : LinesEnded) : Type 0
   pub arms : (m : ℕ)
       → e.view.arms m ≡ arms_after m (scene_with (scene_of b.from) 1 given b.steps).armed (b.view.arms m)
   pub volumes : told → LeaveVolumes (scene_of b.from) 1 given b.steps → AreVolumesKept b.view e.view
+  -- without a line that replaces a copy its device stays lost, and there are no moments at which it is replaced
+  pub stays : (d : Dev) → ReplacesNone d b.steps → StaysLost d b.view e.view
+  pub unrenewed1 : ReplacesNone Ckpt1 b.steps → e.renewals.first ≡ []
+  pub unrenewed2 : ReplacesNone Ckpt2 b.steps → e.renewals.second ≡ []
 
 -- a warm run that couldn't be reset plays no line
 pub record NonePassed (b : LinesBegun) (e : LinesEnded) : Type 0 where
   pub why : (e.answer ≡ status.NoMemory) ⊎ (e.answer ≡ status.BothLost)
   pub none : e.many ≡ 0
   pub empty : e.batches ≡ []
+  pub unrenewed : e.renewals ≡ no_renewals
   pub still : e.view ≡ b.view
 
 -- Both: what is known of any plant, and what is known besides of one that tells. Where a line was cut is known of the
@@ -246,19 +287,21 @@ pub record WerePlayed (tells : Type 0) (b : LinesBegun) (e : LinesEnded) (first 
   pub there : e.answer ≢ status.BothLost
       → ((e.view.lost (Disk Ckpt1) ≡ false) ⊎ (e.view.lost (Disk Ckpt2) ≡ false)) ⊎ HasLostSince first e.view
 
--- What holds at each moment from a run's first on: a crash leaves the queue after what was kept, both copies read the
--- same pages or those on either side of the batch in flight, each text is left, and what is told is kept; the lines
+-- What holds at each moment from a run's first on, where copies were replaced at these moments: a crash leaves the queue
+-- after what was kept where a copy is good; both copies read the same pages or those on either side of the batch in
+-- flight, but for one that is being replaced; each text is left, and what is told is kept; the lines
 -- that each kept Mark answered stand on paper, and each line that a printer has more is the next one of the output that
 -- is busy at its member, and whole unless an act of the member was halted. The levels on the copies rise by one for
 -- each batch that is kept, of which there are at most 2^40.
-pub record IsSafe (tells : Type 0) (base : Queue) (journal : Journal) (since : ℕ) (new : View) : Type 0 where
-  pub crash : tells → ∥ IsCrashSafe form_reads base journal since new ∥₁
-  pub alike : tells → ∥ AreAlwaysAlike form_reads base journal since new ∥₁
-  pub texts : tells → ∥ AreTextsLeft base since journal new ∥₁
-  pub told : tells → AreToldKept journal since new
-  pub paper : tells → ∥ PaperKept base since journal.batches new ∥₁
-  pub levels : tells → ∥ AreLevelsLow form_reads since journal new ∥₁
-  pub few : tells → length journal.batches ≤ journal_most
+pub record IsSafe (tells : Type 0) (base : Queue) (journal : Journal) (rs : Renewals) (since : ℕ) (new : View) : Type 0
+  where
+    pub crash : tells → ∥ IsCrashSafe form_reads base journal rs since new ∥₁
+    pub alike : tells → ∥ AreAlwaysAlike form_reads base journal rs since new ∥₁
+    pub texts : tells → ∥ AreTextsLeft base since journal new ∥₁
+    pub told : tells → AreToldKept journal since new
+    pub paper : tells → ∥ PaperKept base since journal.batches new ∥₁
+    pub levels : tells → ∥ AreLevelsLow form_reads since journal rs new ∥₁
+    pub few : tells → length journal.batches ≤ journal_most
 
 -- What was played, by a run on a base, whose journal had these batches then, on a plant that showed `old` before and
 -- `new` after it.
@@ -266,10 +309,12 @@ pub record IsPlay (tells : Type 0) (steps : List Step) (answer : Status) (base :
     (journal : Journal) (since : ℕ) (old new : View) : Type 0 where
   pub many : ℕ
   pub rest : List Batch
+  pub renewals : Renewals
   pub batches : journal.batches ≡ front ++ rest
   pub played : WerePlayed tells (record { steps = steps; from = run base (kept_all front); view = old })
-      (record { many = many; batches = rest; view = new; answer = answer }) old.loses old
-  pub safe : IsSafe tells base journal since new
+      (record { many = many; batches = rest; renewals = renewals; view = new; answer = answer }) old.loses old
+  pub safe : IsSafe tells base journal renewals since new
+  pub away : answer ≡ status.BothLost → AreAway renewals new
 
 -- The lines of a run, cold or warm, from its first moment on. Before them stands its opening, and each device had been
 -- lost so often by a call.
@@ -283,13 +328,18 @@ pub record HasSteps (cold : Bool) (tells : Type 0) (steps : List Step) (answer :
   pub at : ℕ
   pub began : (since ≤ at) × (at ≤ new.now) × (entry.now ≡ at)
   pub many : ℕ
+  -- the moments at which a copy was replaced, which is told by the lines that did so
+  pub renewals : Renewals
   pub played : WerePlayed tells (record { steps = steps; from = run base (kept_all opening); view = entry })
-      (record { many = many; batches = rest; view = new; answer = answer }) first old
+      (record { many = many; batches = rest; renewals = renewals; view = new; answer = answer }) first old
   pub opened : IsOpened cold answer since at opening many rest
   -- no byte of a volume changed before they began, and no line was printed before
   pub before : tells → AreVolumesKeptUntil at old new
   pub dry : tells → ArePapersKeptUntil at old new
-  pub safe : IsSafe tells base journal since new
+  pub safe : IsSafe tells base journal renewals since new
+  -- both copies count as lost where the answer says so, and one that is lost and isn't replaced stays lost
+  pub away : answer ≡ status.BothLost → AreAway renewals new
+  pub stays : (d : Dev) → ReplacesNone d steps → StaysLost d old new
 
 -- A run that has begun, cold or warm, of a script, on a plant that showed `old` before and `new` after it. What it says
 -- of contents is said of a plant that tells.
@@ -298,11 +348,14 @@ pub record IsRun (cold : Bool) (tells : Type 0) (script : Script) (answer : Stat
   -- before the run's first moment a device had been lost so often by a call: a warm start may have lost a copy once
   pub first : Dev → ℕ
   pub before : (d : Dev) → LosesFirst cold d (old.loses d) (first d)
+  -- devices that were lost at the first moment, or are at the end: the same, but for one that was replaced
+  pub lost : Dev → Bool
+  pub lost_on : (d : Dev) → ReplacesNone d script.steps → lost d ≡ new.lost (Disk d)
   -- the run began with its base, which has the sound parts, and which the copies had then, and nothing was said before
-  pub queue : HasBase cold tells script old new since first base
+  pub queue : HasBase cold tells script old (as_found lost new) since first base
   pub sound : IsSound base
   pub moment : (old.now ≤ since) × (since ≤ new.now)
-  pub fresh : tells → ∥ LeavesQueue form_reads base since new ∥₁
+  pub fresh : tells → ∥ LeavesQueue form_reads base since (as_found lost new) ∥₁
   pub formatted : cold ≡ true → tells → IsFormatted script.config script.routes since new
   pub quiet : tells → (new.world since).console ≡ console_now old
   -- nothing was printed before the run's first moment, nor taken or given on a wire

@@ -1,5 +1,6 @@
 -- The shared value and its members between two lines of a script, and the scene that they show.
 use Rattle.std.specs.Prelude.{◌≡◌, ℕ, ◌+◌, ◌≤◌, ◌<◌, Bool, true, false, ◌&&◌, List, [], ◌∷◌, ◌++◌, length, All, Option, Some, None}
+use Rattle.mas_types.specs.declared.ids.Dev.TheVariants.{Ckpt1, Ckpt2}
 use Rattle.mas_types.specs.declared.ids.MemberId.{MemberId}
 use Rattle.mas_types.specs.declared.journals.Batch.{Batch}
 use Rattle.mas_types.specs.declared.journals.Entry.{Entry}
@@ -65,6 +66,11 @@ module _ {P C : Type 0} (plants : PlantGhosts P) (copies : CopyGhosts C) where
 
   -- BETWEEN TWO LINES
 
+  -- each device of a copy has the bytes that the pages of the configuration need
+  abbrev pub AreLarge : Parts P C → Type 0
+  AreLarge x = (copies.needs (page_count x.base.config) ≤ (v x).size Ckpt1)
+      × (copies.needs (page_count x.base.config) ≤ (v x).size Ckpt2)
+
   -- a member that isn't stopped has room for the pages of the configuration; it is idle, and at its seat where it holds
   -- the lock by LOCK
   pub record IsMemberUp (x : Parts P C) (m : Member) : Type 0 where
@@ -98,6 +104,7 @@ module _ {P C : Type 0} (plants : PlantGhosts P) (copies : CopyGhosts C) where
     pub sound : IsSound x.base
     pub begun : x.since ≤ (v x).now
     pub roomy : plants.tells → AreRoomy (v x) x.base.config
+    pub large : AreLarge x
     -- no line tells a step from here on, and no batch has an entry of one
     pub untold : (by : MemberId) (later : ℕ) → at ≤ later → later ≤ steps_most → HasUntold plants copies x by later
     pub earlier : All (IsOfEarlier at) (x.batches ++ in_flight x.current)

@@ -8,6 +8,7 @@ use Rattle.mas_types.specs.declared.answers.Status.TheVariants as status
 use Rattle.script_lang.specs.declared.types.Ask.{Ask}
 use Rattle.script_lang.specs.declared.types.Ask.TheVariants as ask
 use Rattle.script_lang.specs.declared.types.Step.{Step}
+use Rattle.spool_disk.specs.declared.plant.Part.{Part}
 use Rattle.spool_disk.specs.declared.plant.Part.TheVariants.{Disk, Console}
 use Rattle.spool_disk.specs.View.{View}
 use Rattle.spool_disk.specs.Acts.{Rose, top}
@@ -16,12 +17,16 @@ use Rattle.member_node.specs.declared.member.NodeNo.{NodeNo}
 use Rattle.member_node.specs.declared.member.NodeNo.TheVariants as no_node
 use Rattle.member_node.specs.Calls.{WasLost}
 
--- a part is named only where its faults rose, and both copies only where both are lost, each by a fault or by a call
+-- a part is named only where its faults rose, and both copies only where each was lost, by a fault or by a call
 pub record IsCaused (answer : Status) (old new : View) : Type 0 where
-  pub lost : answer ≡ status.BothLost → (new.lost (Disk Ckpt1) ≡ true) × (new.lost (Disk Ckpt2) ≡ true)
   pub failed1 : answer ≡ status.BothLost → WasLost Ckpt1 old new
   pub failed2 : answer ≡ status.BothLost → WasLost Ckpt2 old new
   pub console : answer ≡ status.ConsoleFault → Rose (old.faults Console) (new.faults Console)
+
+-- Of a run that hasn't begun: what is lost stays lost, and with BothLost both copies' devices are lost.
+pub record LeavesLost (answer : Status) (old new : View) : Type 0 where
+  pub stays : (p : Part) → old.lost p ≡ true → new.lost p ≡ true
+  pub both : answer ≡ status.BothLost → (new.lost (Disk Ckpt1) ≡ true) × (new.lost (Disk Ckpt2) ≡ true)
 
 -- a copy that was there, and that was lost by calls less often than can be counted; no act on it failed, and no step
 -- loses it
@@ -93,7 +98,6 @@ is_unplayed answer = is_of_text answer
 
 -- the causes of an answer over a stretch of a run, where these copies counted as alive before it
 pub record IsCausedFrom (one two : Bool) (answer : Status) (old new : View) : Type 0 where
-  pub lost : answer ≡ status.BothLost → (new.lost (Disk Ckpt1) ≡ true) × (new.lost (Disk Ckpt2) ≡ true)
   pub failed1 : answer ≡ status.BothLost → one ≡ true → WasLost Ckpt1 old new
   pub failed2 : answer ≡ status.BothLost → two ≡ true → WasLost Ckpt2 old new
   pub console : answer ≡ status.ConsoleFault → Rose (old.faults Console) (new.faults Console)

@@ -20,11 +20,12 @@ ghost use Rattle.queue_effect.specs.Standing.{AreFit};
 ghost use Rattle.queue_tables.specs.Orders.{HaveOrders};
 ghost use Rattle.queue_tables.specs.Telling.{Tell, TellSound};
 ghost use Rattle.mas_run.specs.Runs.{has_begun, AreSidesKept, Begins, IsUnbegun, HasSteps, IsRun};
-ghost use Rattle.mas_run.specs.Statuses.{IsCaused, IsCausedFrom, is_of_play, is_of_text};
+ghost use Rattle.mas_run.specs.Statuses.{IsCaused, IsCausedFrom, LeavesLost, is_of_play, is_of_text};
 ghost use Rattle.mas_run.specs.Volumes.{AreVolumesKept};
 ghost use Rattle.mas_run.specs.Unstarted.{status_of_start as status_of_start_lem, IsNotStarted};
 ghost use Rattle.mas_complex.specs.Locking.{book_of};
 ghost use Rattle.mas_complex.specs.Paper.{no_counts};
+ghost use Rattle.mas_complex.specs.Renewals.{no_renewals};
 ghost use Rattle.mas_run.specs.Lines.{Proceeds};
 
 use crate::ended::Ended;
@@ -71,11 +72,14 @@ fn play_reset<P: Plant + Drop>(
     requires book { found.complex.book ≡ book_of found.complex.base.config }
     requires unreserved { found.complex.reserved ≡ None }
     requires printed { found.complex.printed ≡ no_counts }
+    requires unrenewed { found.complex.renewals ≡ no_renewals }
     requires config { IsConfig found.complex.base.config }
     requires base_sound { IsSound found.complex.base }
     requires few { length lines.now ≤ steps_most }
     requires played { All IsPlayed lines.now }
     requires roomy { P.tells → AreRoomy (P.view found.complex.plant) found.complex.base.config }
+    requires large { (form_needs (page_count found.complex.base.config) ≤ (P.view found.complex.plant).size Ckpt1)
+        × (form_needs (page_count found.complex.base.config) ≤ (P.view found.complex.plant).size Ckpt2) }
     requires none { found.complex.current ≡ None }
     requires unplaced { found.complex.placed ≡ false }
     requires drawn { AreDrawn found.tables found.complex.level found.levels found.pages }
@@ -154,6 +158,7 @@ pub(crate) fn play_warm<P: Plant + Drop>(alloc: Global, script: &Script, plant: 
         → (P.view result.plant).arms m ≡ (P.view plant).arms m }
     ensures loses { has_begun result.base ≡ false → result.status ≢ Status.BothLost → (d : Dev)
         → (P.view result.plant).loses d ≡ (P.view plant).loses d }
+    ensures lost { has_begun result.base ≡ false → LeavesLost result.status (P.view plant) (P.view result.plant) }
     ensures volumes { P.tells → has_begun result.base ≡ false → AreVolumesKept (P.view plant) (P.view result.plant) }
     ensures room { has_begun result.base ≡ true
         → (form_needs (page_count result.base.config) ≤ (P.view plant).size Ckpt1)

@@ -15,6 +15,7 @@ ghost use Rattle.duplex_pair.specs.Halves.{SomeAlive};
 ghost use Rattle.script_input.specs.Played.{IsPlayed};
 ghost use Rattle.script_laws.specs.Limits.{IsScript};
 ghost use Rattle.mas_complex.specs.Headline.{Headline};
+ghost use Rattle.mas_complex.specs.Renewals.{no_renewals};
 ghost use Rattle.mas_complex.specs.Journals.{end_of, kept_all};
 ghost use Rattle.mas_complex.specs.Meaning.{run as run_of};
 ghost use Rattle.mas_run.specs.Refusals.{bytes_needed, refused_devices, Answers, IsTooSmall, IsDeviceSize};
@@ -22,7 +23,7 @@ ghost use Rattle.spool_volumes.specs.Volumes.{AreRoomy};
 ghost use Rattle.member_node.specs.Calls.{Grows, console_now};
 ghost use Rattle.member_node.specs.Drawn.{AreDrawn};
 ghost use Rattle.mas_run.specs.Runs.{has_begun, AreSidesKept, Begins, IsUnbegun, IsPlay, IsRun};
-ghost use Rattle.mas_run.specs.Statuses.{IsCaused, IsCausedFrom, status_of as status_of_lem, is_of_play, is_of_text};
+ghost use Rattle.mas_run.specs.Statuses.{IsCaused, IsCausedFrom, LeavesLost, status_of as status_of_lem, is_of_play, is_of_text};
 ghost use Rattle.mas_run.specs.Volumes.{AreVolumesKept};
 ghost use Rattle.mas_complex.specs.Journals.{AreSettled};
 ghost use Rattle.run_turns.specs.Scenes.{scene_of};
@@ -95,8 +96,8 @@ pub(crate) fn ended<P: Plant + Drop>(status: Status, complex: Complex<P, CopyFor
     ensures since { result.since ≡ complex.since }
     ensures plant { result.plant ≡ complex.plant }
     ensures journal { result.journal.batches ≡ end_of complex.placed complex.current complex.journal.batches }
-    ensures headline { P.tells → ∥ Headline form_reads result.base result.since result.journal (P.view result.plant)
-        ∥₁ }
+    ensures headline { P.tells → ∥ Headline form_reads result.base result.since result.journal complex.renewals
+        (P.view result.plant) ∥₁ }
 {
     let end = complex.end();
     Ended {
@@ -120,6 +121,7 @@ pub(crate) fn play_asked<P: Plant + Drop>(
     requires shows { Shows (Unit {0}) (scene_of (run_of run.complex.base (kept_all run.complex.journal.batches)))
         run.complex }
     requires settled { AreSettled run.complex.journal.batches (P.view run.complex.plant).now }
+    requires unrenewed { run.complex.renewals ≡ no_renewals }
     requires some { SomeAlive run.complex.pair.first.alive run.complex.pair.second.alive }
     requires there1 { run.complex.pair.first.alive ≡ true → (P.view run.complex.plant).lost (Disk Ckpt1) ≡ false }
     requires there2 { run.complex.pair.second.alive ≡ true → (P.view run.complex.plant).lost (Disk Ckpt2) ≡ false }
@@ -216,6 +218,7 @@ pub(crate) fn play_cold<P: Plant + Drop>(alloc: Global, script: &Script, plant: 
     ensures arms { has_begun result.base ≡ false → (m : ℕ)
         → (P.view result.plant).arms m ≡ (P.view plant).arms m }
     ensures loses { has_begun result.base ≡ false → (d : Dev) → (P.view result.plant).loses d ≡ (P.view plant).loses d }
+    ensures lost { has_begun result.base ≡ false → LeavesLost result.status (P.view plant) (P.view result.plant) }
     ensures volumes { P.tells → has_begun result.base ≡ false → AreVolumesKept (P.view plant) (P.view result.plant) }
     ensures room { has_begun result.base ≡ true → (bytes_needed script.now.config ≤ (P.view plant).size Ckpt1)
         × (bytes_needed script.now.config ≤ (P.view plant).size Ckpt2) }

@@ -76,6 +76,7 @@ fn make_room<P: Plant + Drop, C: Steady + Drop>(
     ensures base { complex.new.base ≡ complex.old.base }
     ensures printed { complex.new.printed ≡ complex.old.printed }
     ensures since { complex.new.since ≡ complex.old.since }
+    ensures renewals { complex.new.renewals ≡ complex.old.renewals }
     ensures book { complex.new.book ≡ complex.old.book }
     ensures journal { complex.new.journal ≡ complex.old.journal }
     ensures current { complex.new.current ≡ complex.old.current }
@@ -137,6 +138,7 @@ pub(crate) fn restart<P: Plant + Drop, C: Steady + Drop>(
     requires roomy { P.tells → AreRoomy (P.view complex.old.plant) complex.old.base.config }
     ensures base { complex.new.base ≡ complex.old.base }
     ensures since { complex.new.since ≡ complex.old.since }
+    ensures renewals { complex.new.renewals ≡ complex.old.renewals }
     ensures book { complex.new.book ≡ complex.old.book }
     ensures id { operator.new.id ≡ operator.old.id }
     ensures unreserved { OnOk result (complex.new.reserved ≡ None) }

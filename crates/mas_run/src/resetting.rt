@@ -4,7 +4,7 @@ ghost use Rattle.mas_types.specs.Fit.{IsConfig};
 ghost use Rattle.lock_cycle.specs.Books.{IsMember, is_holder, is_stopped};
 ghost use Rattle.mas_run.specs.Resetting.{HasReset, HasTakenOver, IsAfterReset, IsAfterTakeover, IsUnfound, MayReset, MayTakeOver, StandsBetween, StopsReset, TookLock, TookNone, node_no as node_no_lem, rested_in};
 ghost use Rattle.mas_complex.specs.Parts.{parts_of};
-ghost use Rattle.mas_complex.specs.declared.places.Place.TheVariants.{Before as AtBefore};
+ghost use Rattle.ckpt_places.specs.declared.places.Place.TheVariants.{Before as AtBefore};
 ghost use Rattle.member_hand.specs.Plays.{played_in, stopped_by};
 
 use mas_complex::{Complex, Place, Steady};

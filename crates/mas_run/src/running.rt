@@ -11,8 +11,8 @@ use mas_complex::{Complex, Steady};
 use mas_types::{Dev, List, MemberId};
 use member_hand::play_task;
 use member_lines::{
-    Admission, Closed, admit, arm_line, free_line, lock_line, say_denied, say_refused, say_stopped,
-    stop_line,
+    Admission, Closed, admit, arm_line, free_line, lock_line, replace_line, say_denied,
+    say_refused, say_stopped, stop_line,
 };
 use member_node::{Member, NodeNo};
 use script_lang::{Ask, Step};
@@ -112,6 +112,10 @@ impl<P: Plant + Drop, C: Steady + Drop> Running<P, C> {
             Admission::Resets(of) => {
                 let holder = holder_of(complex, by, step, grant);
                 reset_line(self.members.item_mut(at), alloc, complex, holder, of)
+            }
+            Admission::Replaces(dev) => {
+                let holder = holder_of(complex, by, step, grant);
+                replace_line(self.members.item_mut(at), alloc, complex, holder, dev)
             }
             Admission::TakesOver(of) => {
                 take_line(self.members.item_mut(at), alloc, complex, step, of)

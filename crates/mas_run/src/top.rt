@@ -17,7 +17,7 @@ ghost use Rattle.member_node.specs.Calls.{console_now};
 ghost use Rattle.mas_run.specs.Unstarted.{IsNotStarted};
 ghost use Rattle.mas_run.specs.Refusals.{refusal_before_play, refused_sizes, said_by, steps_of, Answers, IsPlayedOut, IsSaid, IsTakenFrom, IsTooSmall, is_of_script};
 ghost use Rattle.mas_run.specs.Runs.{has_begun, AreSidesKept, Begins, IsUnbegun, IsRun};
-ghost use Rattle.mas_run.specs.Statuses.{IsCaused, IsStill, is_of_text, is_unplayed};
+ghost use Rattle.mas_run.specs.Statuses.{IsCaused, IsStill, LeavesLost, is_of_text, is_unplayed};
 ghost use Rattle.mas_run.specs.Volumes.{AreVolumesKept};
 ghost use Rattle.mas_run.specs.Lines.{Proceeds};
 
@@ -90,6 +90,7 @@ pub fn play_steps<P: Plant + Drop>(alloc: Global, cold: bool, script: Script, pl
         → (P.view result.plant).arms m ≡ (P.view plant).arms m }
     ensures loses { has_begun result.base ≡ false → (result.status ≢ Status.BothLost) ⊎ (cold ≡ true) → (d : Dev)
         → (P.view result.plant).loses d ≡ (P.view plant).loses d }
+    ensures lost { has_begun result.base ≡ false → LeavesLost result.status (P.view plant) (P.view result.plant) }
     ensures volumes { P.tells → has_begun result.base ≡ false → AreVolumesKept (P.view plant) (P.view result.plant) }
     ensures room { has_begun result.base ≡ true
         → (form_needs (page_count result.base.config) ≤ (P.view plant).size Ckpt1)
@@ -111,7 +112,7 @@ pub fn play_steps<P: Plant + Drop>(alloc: Global, cold: bool, script: Script, pl
 /// the queue that is found on them. A run that `only` formats refuses every step.
 ///
 /// The script is read to its end before anything is played. Its lines are steps of SYSA to SYSH, stops of a member, and
-/// losses of a device; LINE and REPLACE aren't played. A cold run refuses the first device that is too small for the
+/// losses of a device; LINE isn't played. A cold run refuses the first device that is too small for the
 /// script's configuration, CKPT1, CKPT2, and then each spool volume that isn't lost, and formats both copies with the
 /// empty queue of the script's configuration and routes. A warm run looks at both, takes the usable one of greater
 /// level, CKPT1 on a tie, refuses a device that is too small for it in the same order, syncs the volumes and reads the
@@ -129,7 +130,8 @@ pub fn play_steps<P: Plant + Drop>(alloc: Global, cold: bool, script: Script, pl
 /// printed from its mark on, in their order, and then marked. A batch is kept once each copy that is left has it, and
 /// the lines of its step are said then, those of a display first and the closing line last. A step takes the lock of
 /// the checkpoint and gives it up at its end, unless its member holds it by LOCK. A copy that fails or is lost is left
-/// out, and the run goes on with the other.
+/// out, and the run goes on with the other. REPLACE puts another device in the place of a lost copy's, and forms a copy
+/// of the pages of the other on it: it counts from then on, and is good, once its step said OK.
 ///
 /// A member that is stopped in its step is down from then on, and holds what it held; the operator says so, and the run
 /// goes on. The status Words never comes.
@@ -168,8 +170,9 @@ pub fn play_script<P: Plant + Drop, S: Source>(
     ensures volumes { P.tells → has_begun result.base ≡ false → AreVolumesKept (P.view plant) (P.view result.plant) }
 
     // No run loses a device by a call, or arms a stop, except by a line that says so. A warm start loses a copy that it
-    // doesn't take.
+    // doesn't take. Only a line that replaces a copy puts another device in a lost one's place.
     ensures goes { Proceeds (P.view plant) (P.view result.plant) }
+    ensures lost { has_begun result.base ≡ false → LeavesLost result.status (P.view plant) (P.view result.plant) }
     ensures arms { has_begun result.base ≡ false → (m : ℕ)
         → (P.view result.plant).arms m ≡ (P.view plant).arms m }
     ensures loses { has_begun result.base ≡ false → (result.status ≢ Status.BothLost) ⊎ (cold ≡ true) → (d : Dev)

@@ -25,11 +25,11 @@ use Rattle.mas_check.specs.Worlds.{IsSameDisk, HasFailed as IsFailed, OnlyReads}
 use Rattle.ckpt_pages.specs.Sound.{fault_of}
 use Rattle.mas_complex.specs.Headline.{whole}
 use Rattle.member_node.specs.Calls.{console_now}
-use Rattle.mas_run.specs.Statuses.{IsCaused}
+use Rattle.mas_run.specs.Statuses.{IsCaused, LeavesLost}
 use Rattle.mas_run.specs.Unstarted.{status_of_start}
 use Rattle.mas_run.specs.Volumes.{AreVolumesKept}
-use Rattle.warm_start.specs.declared.choosing.StartNo.{StartNo}
-use Rattle.warm_start.specs.declared.choosing.StartNo.TheVariants as no_start
+use Rattle.start_choice.specs.declared.choosing.StartNo.{StartNo}
+use Rattle.start_choice.specs.declared.choosing.StartNo.TheVariants as no_start
 use Rattle.warm_start.specs.Inspecting.{Looks, HasFailed, HasLooked, SeesNone, SomeThere}
 use Rattle.warm_start.specs.Starting.{HasGone, mark_of, IsSeen}
 use Rattle.warm_start.proofs.Begun.{gone_on_to}
@@ -299,18 +299,27 @@ both_failed tells old new (no_start.DeviceSize dev size) is none = absurd none
 both_failed tells old new no_start.NoMemory is none = absurd (cc)
 
 pub check_caused : (tells : Type 0) (answer : Status) (old new : View) → IsCheckRun tells answer old new → IsCaused answer old new
-check_caused tells status.Done old new run = record { lost = λ e. absurd (cc); failed1 = λ e. absurd (cc); failed2 = λ e. absurd (cc); console = λ e. absurd (cc) }
-check_caused tells status.ConsoleFault old new run = record { lost = λ e. absurd (cc); failed1 = λ e. absurd (cc); failed2 = λ e. absurd (cc); console = λ e. run.checked.said.1 }
+check_caused tells status.Done old new run = record { failed1 = λ e. absurd (cc); failed2 = λ e. absurd (cc); console = λ e. absurd (cc) }
+check_caused tells status.ConsoleFault old new run = record { failed1 = λ e. absurd (cc); failed2 = λ e. absurd (cc); console = λ e. run.checked.said.1 }
 check_caused tells status.BothLost old new run =
     let both = both_failed tells old new run.checked.why run.checked.is run.checked.cause in
-    record { lost = λ e. (both.0.0, both.1.0); failed1 = λ e. inl both.0.1; failed2 = λ e. inl both.1.1; console = λ e. absurd (cc) }
-check_caused tells status.Words old new run = record { lost = λ e. absurd (cc); failed1 = λ e. absurd (cc); failed2 = λ e. absurd (cc); console = λ e. absurd (cc) }
-check_caused tells (status.BadLine line cause) old new run = record { lost = λ e. absurd (cc); failed1 = λ e. absurd (cc); failed2 = λ e. absurd (cc); console = λ e. absurd (cc) }
-check_caused tells status.TooLong old new run = record { lost = λ e. absurd (cc); failed1 = λ e. absurd (cc); failed2 = λ e. absurd (cc); console = λ e. absurd (cc) }
-check_caused tells status.SourceFault old new run = record { lost = λ e. absurd (cc); failed1 = λ e. absurd (cc); failed2 = λ e. absurd (cc); console = λ e. absurd (cc) }
-check_caused tells (status.NotFormatted first second) old new run = record { lost = λ e. absurd (cc); failed1 = λ e. absurd (cc); failed2 = λ e. absurd (cc); console = λ e. absurd (cc) }
-check_caused tells (status.DeviceSize dev size) old new run = record { lost = λ e. absurd (cc); failed1 = λ e. absurd (cc); failed2 = λ e. absurd (cc); console = λ e. absurd (cc) }
-check_caused tells status.NoMemory old new run = record { lost = λ e. absurd (cc); failed1 = λ e. absurd (cc); failed2 = λ e. absurd (cc); console = λ e. absurd (cc) }
+    record { failed1 = λ e. inl both.0.1; failed2 = λ e. inl both.1.1; console = λ e. absurd (cc) }
+check_caused tells status.Words old new run = record { failed1 = λ e. absurd (cc); failed2 = λ e. absurd (cc); console = λ e. absurd (cc) }
+check_caused tells (status.BadLine line cause) old new run = record { failed1 = λ e. absurd (cc); failed2 = λ e. absurd (cc); console = λ e. absurd (cc) }
+check_caused tells status.TooLong old new run = record { failed1 = λ e. absurd (cc); failed2 = λ e. absurd (cc); console = λ e. absurd (cc) }
+check_caused tells status.SourceFault old new run = record { failed1 = λ e. absurd (cc); failed2 = λ e. absurd (cc); console = λ e. absurd (cc) }
+check_caused tells (status.NotFormatted first second) old new run = record { failed1 = λ e. absurd (cc); failed2 = λ e. absurd (cc); console = λ e. absurd (cc) }
+check_caused tells (status.DeviceSize dev size) old new run = record { failed1 = λ e. absurd (cc); failed2 = λ e. absurd (cc); console = λ e. absurd (cc) }
+check_caused tells status.NoMemory old new run = record { failed1 = λ e. absurd (cc); failed2 = λ e. absurd (cc); console = λ e. absurd (cc) }
+
+pub check_lost : (tells : Type 0) (answer : Status) (old new : View) → IsCheckRun tells answer old new → LeavesLost answer old new
+check_lost tells answer old new run = record {
+  stays = run.devices.goes.lost;
+  both = λ e.
+      let none : ChecksNone tells status.BothLost old new = subst (λ (a : Status). IsChecked tells a old new) e run.checked in
+      let gone = both_failed tells old new none.why none.is none.cause in
+      (gone.0.0, gone.1.0);
+}
 
 pub check_not_words : (tells : Type 0) (answer : Status) (old new : View) → IsCheckRun tells answer old new → answer ≡ status.Words → ⊥
 check_not_words tells answer old new run e =

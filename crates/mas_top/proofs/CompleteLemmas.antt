@@ -1,5 +1,5 @@
 -- A generated script is played to its end: none of its lines loses a copy or resets a member.
-use Rattle.std.proofs.Common.{◌≡◌, ◌≢◌, inl, inr, ⊎_elim, ℕ, zero, suc, ◌+◌, ◌%◌, ◌≤◌, ◌==◌, Bool, true, false, if◌then◌else◌, ◌&&◌, List, [], ◌∷◌, ◌++◌, get_or, Some, None, refl, sym, ◌∙◌, ap, subst, append_assoc, arith}
+use Rattle.std.proofs.Common.{◌≡◌, ◌≢◌, inl, inr, ⊎_elim, ℕ, zero, suc, ◌+◌, ◌%◌, ◌≤◌, ◌==◌, Bool, true, false, if◌then◌else◌, ◌&&◌, List, [], ◌∷◌, ◌++◌, get_or, Some, None, Ok, refl, sym, ◌∙◌, ap, subst, append_assoc, arith}
 use Rattle.std.specs.Prelude.{All}
 use Rattle.std.specs.List.{flat_map, list_all, range_with_len}
 use Rattle.std.proofs.lemmas.List.Folds.{list_all-append}
@@ -10,7 +10,9 @@ use Rattle.mas_types.specs.declared.ids.Dev.TheVariants.{Ckpt1, Ckpt2}
 use Rattle.mas_types.specs.declared.ids.MemberId.{MemberId}
 use Rattle.script_lang.specs.declared.types.Ask.{Ask}
 use Rattle.script_lang.specs.declared.types.Ask.TheVariants as ask
+use Rattle.script_lang.specs.declared.types.Script.{Script}
 use Rattle.script_lang.specs.declared.types.Step.{Step}
+use Rattle.script_lang.specs.Script.{Said}
 use Rattle.script_laws.specs.Grammar.{step_of_member}
 use Rattle.spool_disk.specs.declared.plant.Part.TheVariants.{Console, Disk as DiskPart}
 use Rattle.spool_disk.specs.View.{View}
@@ -19,7 +21,8 @@ use Rattle.gen_work.specs.Generated.{IsDeckCount, script_text}
 use Rattle.script_generated.specs.Steps.{PlaysGenerated, part_steps, script_generated, script_steps, sysa, sysb}
 use Rattle.mas_run.specs.Lines.{Proceeds}
 use Rattle.mas_types.specs.Lists.{first_some}
-use Rattle.mas_run.specs.Refusals.{calm, refusal_before_play, refusal_of, refused_devices, said_by, steps_of, IsPlayedOut}
+use Rattle.mas_run.specs.Refusals.{calm, refusal_before_play, refusal_of, refused_devices, said_by, steps_of, IsPlayedOut, IsSaid}
+use Rattle.mas_run.specs.Runs.{ReplacesNone}
 use Rattle.mas_run.specs.Statuses.{AreLeftAlone, IsLeftAlone, IsStill, TakesNone, resets_in}
 use Rattle.member_node.specs.Calls.{WasLost}
 use Rattle.mas_top.specs.Generates.{IsUnhindered}
@@ -57,6 +60,9 @@ plain_steps n = parts_plain n 1
 not_lost : (what : Ask) (dev : Dev) → is_plain_ask what ≡ true → what ≢ ask.Lose dev
 not_lost what dev plain e = let false_is : is_plain_ask what ≡ false = ap is_plain_ask e in absurd (cc)
 
+not_replaced : (what : Ask) (dev : Dev) → is_plain_ask what ≡ true → what ≢ ask.Replace dev
+not_replaced what dev plain e = let false_is : is_plain_ask what ≡ false = ap is_plain_ask e in absurd (cc)
+
 not_reset : (what : Ask) (of : MemberId) → is_plain_ask what ≡ true → resets_in what ≡ Some of → ⊥
 not_reset (ask.Deck cards) of plain e = absurd (cc)
 not_reset (ask.Work n) of plain e = absurd (cc)
@@ -71,6 +77,22 @@ not_reset (ask.StopIn fuse n) of plain e = absurd (cc)
 
 unasked : (dev : Dev) (steps : List Step) → list_all is_plain steps ≡ true → All (λ (s : Step). s.what ≢ ask.Lose dev) steps
 unasked dev steps plain k d lt = not_lost (get_or steps k d).what dev (AllPass-from_list_all is_plain steps plain k d lt)
+
+abbrev said_as : Script → Said
+said_as script = Ok script
+
+replaces_none : (dev : Dev) (steps : List Step) → list_all is_plain steps ≡ true → ReplacesNone dev steps
+replaces_none dev steps plain k d lt = not_replaced (get_or steps k d).what dev (AllPass-from_list_all is_plain steps plain k d lt)
+
+said_generated : (decks : ℕ) (script : Script) → PlaysGenerated → IsDeckCount decks → IsSaid true false (script_text decks) script → script ≡ script_generated decks
+said_generated decks script plays count said =
+    let same : said_as (script_generated decks) ≡ said_as script = sym (plays (calm true false) decks count refl) ∙ said in
+    cc
+
+-- no line of a generated script replaces a copy, however it was read
+pub generated_renews : (decks : ℕ) (script : Script) → PlaysGenerated → IsDeckCount decks → IsSaid true false (script_text decks) script → (d : Dev) → ReplacesNone d script.steps
+generated_renews decks script plays count said d =
+    subst (λ (s : Script). ReplacesNone d s.steps) (sym (said_generated decks script plays count said)) (replaces_none d (script_steps decks) (plain_steps decks))
 
 both : (a b : Bool) → (a && b) ≡ true → (a ≡ true) × (b ≡ true)
 both true b e = (refl, e)

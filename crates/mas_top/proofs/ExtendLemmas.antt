@@ -30,14 +30,16 @@ use Rattle.ckpt_copy.specs.Moments.{either_way}
 use Rattle.ckpt_copy.specs.Pages.{level}
 use Rattle.ckpt_form.specs.Form.{form_reads}
 use Rattle.duplex_pair.specs.Finds.{best}
-use Rattle.mas_complex.specs.Crash.{IsLeft, IsOneOf, ReadsAtLevel, ReadsUpTo, left_at, read_left}
-use Rattle.mas_complex.specs.Headline.{AreAlwaysAlike, AreLevelsLow, AreTextsLeft, AreToldKept, FoundFor, IsCrashSafe, added, whole}
+use Rattle.mas_complex.specs.Crash.{IsLeft, IsReadBy, is_good, ReadsAtLevel, ReadsUpTo, left_at, read_left}
+use Rattle.mas_complex.specs.Headline.{AreAlwaysAlike, AreLevelsLow, AreTextsLeft, AreToldKept, FoundFor, HasGood, IsCrashSafe, added, whole}
 use Rattle.mas_complex.specs.Journals.{batches_kept, has_step, kept}
 use Rattle.mas_complex.specs.Meaning.{StandFor, run}
 use Rattle.mas_complex.specs.Paper.{IsOnPaper, PaperKept, SamePapers}
+use Rattle.mas_complex.specs.Renewals.{no_renewals}
 use Rattle.mas_complex.specs.Texts.{GivesTexts, IsReadUnless, lost_now}
 use Rattle.mas_complex.proofs.Ending.{kept_is, left_below}
 use Rattle.mas_complex.proofs.Papers.{line_past, on_same}
+use Rattle.mas_complex.proofs.Passing.{passes_of}
 use Rattle.member_hand.specs.Cuts.{AreBatched, IsBatched}
 use Rattle.member_node.specs.Calls.{console_now}
 use Rattle.paper_laws.specs.Paper.{AreMarkedLinesOn}
@@ -221,16 +223,18 @@ module _ (base : Queue) (J : Journal) (since : ℕ) (v1 v2 : View) (goes : Goes 
   both : (t : ℕ) (s : Same t) → kept_at J t ++ flying_at J t ≡ kept_at J s.at ++ flying_at J s.at
   both t s = ap (λ (es : List Entry). es ++ flying_at J t) s.kept ∙ ap (λ (es : List Entry). kept_at J s.at ++ es) s.flies
 
-  crash_on : IsCrashSafe form_reads base J since v1 → IsCrashSafe form_reads base J since v2
-  crash_on h t from to one two left1 left2 some =
+  crash_on : IsCrashSafe form_reads base J no_renewals since v1 → IsCrashSafe form_reads base J no_renewals since v2
+  crash_on h t from to good one two left1 left2 =
       let s = same t from to in
+      let first : (is_good false (left_at v1 s.at Ckpt1) || is_good false (left_at v2 t Ckpt2)) ≡ true = ap (λ (d : Disk). is_good false d || is_good false (left_at v2 t Ckpt2)) (sym (s.left Ckpt1)) ∙ good in
+      let still : HasGood no_renewals v1 s.at = ap (λ (d : Disk). is_good false (left_at v1 s.at Ckpt1) || is_good false d) (sym (s.left Ckpt2)) ∙ first in
       let q = best (read_left form_reads one) (read_left form_reads two) in
       ⊎_elim
       (λ x. inl (subst (λ (es : List Entry). FoundFor (run base es) q) (sym s.kept) x))
       (λ x. inr (subst (λ (es : List Entry). FoundFor (run base es) q) (sym (both t s)) x))
-      (h s.at s.from s.le one two (subst (λ (d : Disk). IsLeft d one) (s.left Ckpt1) left1) (subst (λ (d : Disk). IsLeft d two) (s.left Ckpt2) left2) some)
+      (h s.at s.from s.le still one two (subst (λ (d : Disk). IsLeft d one) (s.left Ckpt1) left1) (subst (λ (d : Disk). IsLeft d two) (s.left Ckpt2) left2))
 
-  alike_on : AreAlwaysAlike form_reads base J since v1 → AreAlwaysAlike form_reads base J since v2
+  alike_on : AreAlwaysAlike form_reads base J no_renewals since v1 → AreAlwaysAlike form_reads base J no_renewals since v2
   alike_on h t from to =
       let s = same t from to in
       let a = h s.at s.from s.le in
@@ -240,8 +244,8 @@ module _ (base : Queue) (J : Journal) (since : ℕ) (v1 v2 : View) (goes : Goes 
         stands = subst (λ (es : List Entry). StandFor (run base es) a.was) (sym s.kept) a.stands;
         comes = subst (λ (es : List Entry). IfSome a.coming (λ (pages : List ℕ). (level pages ≡ level a.was + 1) × StandFor (run base es) pages)) (sym (both t s)) a.comes;
         none = λ e. a.none (sym s.flies ∙ e);
-        first = subst (λ (d : Disk). LeavesOnly d (λ image. IsOneOf a.was a.coming (form_reads image))) (sym (s.left Ckpt1)) a.first;
-        second = subst (λ (d : Disk). LeavesOnly d (λ image. IsOneOf a.was a.coming (form_reads image))) (sym (s.left Ckpt2)) a.second;
+        first = subst (λ (d : Disk). LeavesOnly d (λ image. IsReadBy false a.was a.coming (form_reads image))) (sym (s.left Ckpt1)) a.first;
+        second = subst (λ (d : Disk). LeavesOnly d (λ image. IsReadBy false a.was a.coming (form_reads image))) (sym (s.left Ckpt2)) a.second;
       }
 
   texts_on : AreTextsLeft base since J v1 → AreTextsLeft base since J v2
@@ -275,7 +279,7 @@ module _ (base : Queue) (J : Journal) (since : ℕ) (v1 v2 : View) (goes : Goes 
       (contains_drop k (console_now v1) extra (whole (closing_line by at end)) there'))
       (either_way t v1.now)
 
-  levels_on : AreLevelsLow form_reads since J v1 → AreLevelsLow form_reads since J v2
+  levels_on : AreLevelsLow form_reads since J no_renewals v1 → AreLevelsLow form_reads since J no_renewals v2
   levels_on h =
       let past : (d : Dev) → disk_at v2 since d ≡ disk_at v1 since d = λ d. ap (λ (w : World). w.disk d) (goes.past since started) in
       record {
@@ -283,8 +287,8 @@ module _ (base : Queue) (J : Journal) (since : ℕ) (v1 v2 : View) (goes : Goes 
         first_order = h.first_order;
         first1 = λ lt. subst (λ (d : Disk). ReadsAtLevel form_reads h.first_level h.first_order d) (sym (past Ckpt1)) (h.first1 lt);
         first2 = λ lt. subst (λ (d : Disk). ReadsAtLevel form_reads h.first_level h.first_order d) (sym (past Ckpt2)) (h.first2 lt);
-        most1 = λ t from to. let s = same t from to in subst (λ (d : Disk). ReadsUpTo form_reads h.first_level h.first_order (h.first_level + batches_kept J.batches + 1) d) (sym (s.left Ckpt1)) (h.most1 s.at s.from s.le);
-        most2 = λ t from to. let s = same t from to in subst (λ (d : Disk). ReadsUpTo form_reads h.first_level h.first_order (h.first_level + batches_kept J.batches + 1) d) (sym (s.left Ckpt2)) (h.most2 s.at s.from s.le);
+        most1 = λ t from to whole. let s = same t from to in subst (λ (d : Disk). ReadsUpTo form_reads h.first_level h.first_order (h.first_level + batches_kept J.batches + 1) d) (sym (s.left Ckpt1)) (h.most1 s.at s.from s.le refl);
+        most2 = λ t from to whole. let s = same t from to in subst (λ (d : Disk). ReadsUpTo form_reads h.first_level h.first_order (h.first_level + batches_kept J.batches + 1) d) (sym (s.left Ckpt2)) (h.most2 s.at s.from s.le refl);
       }
 
   paper_on : PaperKept base since J.batches v1 → PaperKept base since J.batches v2
@@ -301,11 +305,11 @@ module _ (base : Queue) (J : Journal) (since : ℕ) (v1 v2 : View) (goes : Goes 
         (either_way t v1.now);
     lines = λ t from lt m. ⊎_elim
         (λ after. inl (papers (t + 1) (omega (arith, after)) (omega (arith, lt)) m.0 ∙ sym (papers t after (omega (arith, lt)) m.0)))
-        (λ before. line_past base since J.batches v1 v2 goes m t from before (h.lines t from before m))
+        (λ before. line_past base since J.batches v1 v2 (passes_of v1 v2 goes) m t from before (h.lines t from before m))
         (either_way v1.now t);
   }
 
-  pub safe_on : (tells : Type 0) → tells → (extra : List Line) → console_now v2 ≡ console_now v1 ++ extra → ((by : MemberId) (at : ℕ) (end : Closing) → Contains extra (whole (closing_line by at end)) → ⊥) → IsSafe tells base J since v1 → IsSafe tells base J since v2
+  pub safe_on : (tells : Type 0) → tells → (extra : List Line) → console_now v2 ≡ console_now v1 ++ extra → ((by : MemberId) (at : ℕ) (end : Closing) → Contains extra (whole (closing_line by at end)) → ⊥) → IsSafe tells base J no_renewals since v1 → IsSafe tells base J no_renewals since v2
   safe_on tells told extra console quiet h = record {
     crash = λ t. ∥∥₁_map (h.crash t) crash_on;
     alike = λ t. ∥∥₁_map (h.alike t) alike_on;

@@ -4,6 +4,8 @@ use Rattle.std.specs.Prelude.{Contains}
 use Rattle.mas_types.specs.declared.answers.Closing.{Closing}
 use Rattle.mas_types.specs.declared.answers.Status.{Status}
 use Rattle.mas_types.specs.declared.answers.Status.TheVariants as status
+use Rattle.mas_types.specs.declared.ids.Dev.{Dev}
+use Rattle.mas_types.specs.declared.ids.Dev.TheVariants.{Ckpt1, Ckpt2}
 use Rattle.mas_types.specs.declared.ids.MemberId.{MemberId}
 use Rattle.mas_types.specs.declared.journals.Batch.{Batch}
 use Rattle.mas_types.specs.declared.journals.Journal.{Journal}
@@ -22,10 +24,13 @@ use Rattle.gen_work.specs.Generated.{script_text}
 use Rattle.gen_work.specs.Summaries.{summary_line}
 use Rattle.script_lang.specs.declared.types.Script.{Script}
 use Rattle.mas_complex.specs.Headline.{whole}
+use Rattle.mas_complex.specs.Renewals.{no_renewals}
+use Rattle.mas_complex.specs.declared.renewals.Renewal.{Renewal}
+use Rattle.mas_complex.specs.declared.renewals.Renewals.{Renewals}
 use Rattle.mas_complex.proofs.Papers.{same_papers}
 use Rattle.mas_run.specs.Lines.{Proceeds}
 use Rattle.mas_run.specs.Refusals.{refusal_before_play}
-use Rattle.mas_run.specs.Runs.{has_begun, Begins, IsRun, IsSafe}
+use Rattle.mas_run.specs.Runs.{has_begun, Begins, IsRun, IsSafe, LinesBegun, LinesEnded, ReplacesNone, WerePlayed}
 use Rattle.mas_run.specs.Statuses.{IsCaused, is_unplayed}
 use Rattle.member_node.specs.Calls.{console_now}
 use Rattle.mas_run.proofs.PassedLemmas.{proceeds_none, proceeds_of}
@@ -53,6 +58,7 @@ played_same cold only source tells same other answer base journal since old new 
   formats = p.formats;
   loses = p.loses;
   arms = p.arms;
+  lost = p.lost;
   room = p.room;
   roomy = p.roomy;
   read = p.read;
@@ -123,9 +129,9 @@ module _ (tells : Type 0) (line : List ℕ) (v1 v2 : View) where
   ends_begins base _ (Wanting same) begun = tt
 
   pub ends_caused : (v0 : View) (answer : Status) → Ends tells line v1 v2 answer → Proceeds v0 v1 → IsCaused answer v0 v2
-  ends_caused v0 _ (Saying said) goes = record { lost = λ e. absurd (cc); failed1 = λ e. absurd (cc); failed2 = λ e. absurd (cc); console = λ e. absurd (cc) }
-  ends_caused v0 _ (Failing said) goes = record { lost = λ e. absurd (cc); failed1 = λ e. absurd (cc); failed2 = λ e. absurd (cc); console = λ e. omega (arith, goes.faults Console, said.acts.failed refl) }
-  ends_caused v0 _ (Wanting same) goes = record { lost = λ e. absurd (cc); failed1 = λ e. absurd (cc); failed2 = λ e. absurd (cc); console = λ e. absurd (cc) }
+  ends_caused v0 _ (Saying said) goes = record { failed1 = λ e. absurd (cc); failed2 = λ e. absurd (cc); console = λ e. absurd (cc) }
+  ends_caused v0 _ (Failing said) goes = record { failed1 = λ e. absurd (cc); failed2 = λ e. absurd (cc); console = λ e. omega (arith, goes.faults Console, said.acts.failed refl) }
+  ends_caused v0 _ (Wanting same) goes = record { failed1 = λ e. absurd (cc); failed2 = λ e. absurd (cc); console = λ e. absurd (cc) }
 
 -- WHAT A RUN PROMISES OF EACH MOMENT, once the line was said
 
@@ -148,17 +154,17 @@ module _ (base : Queue) (J : Journal) (since : ℕ) (s : Summary) (v1 v2 : View)
   next_low : v2.now ≡ next v1.now → v2.now ≡ v1.now + 1
   next_low e = omega (arith, e, low)
 
-  pub ends_safe : (tells : Type 0) → tells → (answer : Status) → Ends tells (summary_line s) v1 v2 answer → IsSafe tells base J since v1 → IsSafe tells base J since v2
+  pub ends_safe : (tells : Type 0) → tells → (answer : Status) → Ends tells (summary_line s) v1 v2 answer → IsSafe tells base J no_renewals since v1 → IsSafe tells base J no_renewals since v2
   ends_safe tells told _ (Saying said) safe =
       safe_on base J since v1 v2 said.acts.goes (next_low said.acts.time) low started (said.says told).disks (same_papers v1 v2 said.acts.goes said.acts.time (said.says told).paper) (λ d. said.acts.else_lost (DiskPart d) (inr (λ e. absurd (cc)))) over tells told (whole (summary_line s) ∷ []) (said.says told).console
       (λ by at end there. no_closing by at end s (sym (one_line (summary_line s) (closing_line by at end) there))) safe
   ends_safe tells told _ (Failing said) safe =
       safe_on base J since v1 v2 said.acts.goes (next_low said.acts.time) low started (said.says told).disks (same_papers v1 v2 said.acts.goes said.acts.time (said.says told).paper) (λ d. said.acts.else_lost (DiskPart d) (inl (λ e. absurd (cc)))) over tells told [] ((said.says told).console ∙ sym (append-nil (console_now v1)))
       (λ by at end there. absurd (omega (arith, there.1))) safe
-  ends_safe tells told _ (Wanting same) safe = subst (λ (v : View). IsSafe tells base J since v) (sym same) safe
+  ends_safe tells told _ (Wanting same) safe = subst (λ (v : View). IsSafe tells base J no_renewals since v) (sym same) safe
 
 -- all of it, where a plant tells or doesn't
-by_told : (tells : Type 0) (base : Queue) (J : Journal) (since : ℕ) (v : View) → (tells → IsSafe tells base J since v) → IsSafe tells base J since v
+by_told : (tells : Type 0) (base : Queue) (J : Journal) (since : ℕ) (v : View) → (tells → IsSafe tells base J no_renewals since v) → IsSafe tells base J no_renewals since v
 by_told tells base J since v h = record {
   crash = λ t. (h t).crash t;
   alike = λ t. (h t).alike t;
@@ -169,15 +175,27 @@ by_told tells base J since v h = record {
   few = λ t. (h t).few t;
 }
 
+-- a run none of whose lines replaces a copy
+none_renewed : (tells : Type 0) (b : LinesBegun) (e : LinesEnded) (first : Dev → ℕ) (old : View) → ((d : Dev) → ReplacesNone d b.steps) → WerePlayed tells b e first old → e.renewals ≡ no_renewals
+none_renewed tells b e first old none played = ⊎_elim
+    (λ unplayed. unplayed.unrenewed)
+    (λ have. ap (λ (rs : List Renewal). let both : Renewals = record { first = rs; second = e.renewals.second } in both) (have.unrenewed1 (none Ckpt1))
+    ∙ ap (λ (rs : List Renewal). let both : Renewals = record { first = []; second = rs } in both) (have.unrenewed2 (none Ckpt2)))
+    played.bare
+
+pub whole_safe : (tells : Type 0) (script : Script) (base : Queue) (J : Journal) (since : ℕ) (ended : Status) (v0 v1 : View) → IsRun true tells script ended base J since v0 v1
+    → ((d : Dev) → ReplacesNone d script.steps) → IsSafe tells base J no_renewals since v1
+whole_safe tells script base J since ended v0 v1 run none =
+    subst (λ (rs : Renewals). IsSafe tells base J rs since v1) (none_renewed tells _ _ run.first v0 none run.steps.played) run.steps.safe
+
 -- a run that was played, with what was said then
 pub run_safe : (tells : Type 0) (script : Script) (base : Queue) (J : Journal) (since : ℕ) (s : Summary) (answer ended : Status) (v0 v1 v2 : View) → v2.now < top
-    → IsRun true tells script ended base J since v0 v1 → Ends tells (summary_line s) v1 v2 answer → IsSafe tells base J since v2
-run_safe tells script base J since s answer ended v0 v1 v2 low run ends = by_told tells base J since v2 (λ told.
+    → IsRun true tells script ended base J since v0 v1 → ((d : Dev) → ReplacesNone d script.steps) → Ends tells (summary_line s) v1 v2 answer → IsSafe tells base J no_renewals since v2
+run_safe tells script base J since s answer ended v0 v1 v2 low run none ends = by_told tells base J since v2 (λ told.
     let steps = run.steps in
-    let none : steps.opening ≡ [] = steps.opened.0 in
-    let all : J.batches ≡ steps.rest = steps.batches ∙ ap (λ (bs : List Batch). bs ++ steps.rest) none in
+    let all : J.batches ≡ steps.rest = steps.batches ∙ ap (λ (bs : List Batch). bs ++ steps.rest) steps.opened.0 in
     let over : AreOver J.batches v1.now = subst (λ (bs : List Batch). AreOver bs v1.now) (sym all) (lines_over (Unit {0}) _ _ (steps.played.told told)) in
-    ends_safe base J since s v1 v2 run.moment.1 low over tells told answer ends steps.safe)
+    ends_safe base J since s v1 v2 run.moment.1 low over tells told answer ends (whole_safe tells script base J since ended v0 v1 run none))
 
 -- THERE IS NO MEMORY before anything is done
 

@@ -1,5 +1,5 @@
 -- Runs of a script.
-use Rattle.std.proofs.Common.{◌≡◌, inl, inr, ℕ, true, false, Bool, Option, refl, sym, ap, subst}
+use Rattle.std.proofs.Common.{◌≡◌, inl, inr, ℕ, true, false, Bool, Option, refl, sym, ◌∙◌, ap, subst}
 use Rattle.mas_types.specs.declared.journals.Journal.{Journal}
 use Rattle.mas_types.specs.declared.queues.Queue.{Queue}
 use Rattle.mas_types.specs.declared.answers.Status.{Status}
@@ -10,7 +10,7 @@ use Rattle.spool_disk.specs.Acts.{Rose}
 use Rattle.ckpt_copy.specs.Moments.{sides_none}
 use Rattle.mas_run.specs.Refusals.{Answers, IsTakenFrom, is_of_script, is_refusal, refusal_before_play}
 use Rattle.mas_run.specs.Runs.{has_begun, AreSidesKept}
-use Rattle.mas_run.specs.Statuses.{IsCaused}
+use Rattle.mas_run.specs.Statuses.{IsCaused, LeavesLost}
 use Rattle.mas_run.specs.Unstarted.{IsNotStarted}
 use Rattle.mas_run.specs.Volumes.{AreVolumesKept}
 use Rattle.mas_run.proofs.RefusalLemmas.{ends}
@@ -39,10 +39,16 @@ not_started tells status.BothLost old new is = absurd (cc)
 
 pub script_caused : (answer : Status) (old new : View) → is_of_script answer ≡ true → IsCaused answer old new
 script_caused answer old new is = record {
-  lost = λ e. absurd (no_of answer status.BothLost is refl e);
   failed1 = λ e. absurd (no_of answer status.BothLost is refl e);
   failed2 = λ e. absurd (no_of answer status.BothLost is refl e);
   console = λ e. absurd (no_of answer status.ConsoleFault is refl e);
+}
+
+-- nothing was done
+pub script_lost : (answer : Status) (old new : View) → new ≡ old → is_of_script answer ≡ true → LeavesLost answer old new
+script_lost answer old new view is = record {
+  stays = λ p gone. ap (λ (v : View). v.lost p) view ∙ gone;
+  both = λ e. absurd (no_of answer status.BothLost is refl e);
 }
 
 -- the script is refused for what it or its source lacks, or out of memory
@@ -61,6 +67,7 @@ not_played cold only source tells same answer base journal since old new none st
   unprinted = λ told not. subst (λ (v : View). AreSidesKept old v) (sym view) (sides_none (old.world old.now));
   loses = λ not lost d. ap (λ (v : View). v.loses d) view;
   arms = λ not m. ap (λ (v : View). v.arms m) view;
+  lost = λ not. script_lost answer old new view is;
   volumes = λ told not. subst (AreVolumesKept old) (sym view) (kept_none old);
   formats = λ o told. subst (AreVolumesKept old) (sym view) (kept_none old);
   room = λ begun. absurd (not_begun base none begun);

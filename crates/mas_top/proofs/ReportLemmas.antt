@@ -19,15 +19,15 @@ use Rattle.ckpt_copy.specs.Changes.{NoMore}
 use Rattle.ckpt_copy.specs.Meanwhile.{SameSides}
 use Rattle.ckpt_copy.specs.Moments.{either_way, goes_on, goes_none, sides_none}
 use Rattle.ckpt_copy.specs.Pages.{bytes_of}
-use Rattle.warm_start.specs.declared.choosing.StartNo.{StartNo}
-use Rattle.warm_start.specs.declared.choosing.StartNo.TheVariants as no_start
+use Rattle.start_choice.specs.declared.choosing.StartNo.{StartNo}
+use Rattle.start_choice.specs.declared.choosing.StartNo.TheVariants as no_start
 use Rattle.warm_start.specs.Inspecting.{Looks, HasFailed, HasFound, FindsNone, SomeThere}
 use Rattle.warm_start.specs.Starting.{HasGone, mark_of}
 use Rattle.warm_start.proofs.Begun.{found_later, gone_on_to}
 use Rattle.queue_report.specs.Reports.{report_lines}
 use Rattle.member_node.specs.Calls.{IsOnlyOn}
 use Rattle.mas_run.specs.Runs.{has_begun, Begins}
-use Rattle.mas_run.specs.Statuses.{IsCaused}
+use Rattle.mas_run.specs.Statuses.{IsCaused, LeavesLost}
 use Rattle.member_node.specs.Calls.{console_now}
 use Rattle.mas_run.specs.Unstarted.{status_of_start}
 use Rattle.mas_top.specs.Reports.{ChangesNoDevice, SaysQueue, IsReport}
@@ -151,8 +151,8 @@ module _ (tells : Type 0) (v0 v1 v2 : View) (Q : Queue) (looks : Looks tells v0 
   said_elsewhere answer said told = let s = some_said tells (report_lines Q) v1 v2 answer said in (no_device tells s.0 v0 v1 v2 looks s.1).others told
 
   pub said_caused : (answer : Status) → AreSaid tells (report_lines Q) v1 v2 answer → IsCaused answer v0 v2
-  said_caused status.Done said = record { lost = λ e. absurd (cc); failed1 = λ e. absurd (cc); failed2 = λ e. absurd (cc); console = λ e. absurd (cc) }
-  said_caused status.ConsoleFault said = record { lost = λ e. absurd (cc); failed1 = λ e. absurd (cc); failed2 = λ e. absurd (cc); console = λ e. omega (arith, looks.goes.faults Console, said.failed) }
+  said_caused status.Done said = record { failed1 = λ e. absurd (cc); failed2 = λ e. absurd (cc); console = λ e. absurd (cc) }
+  said_caused status.ConsoleFault said = record { failed1 = λ e. absurd (cc); failed2 = λ e. absurd (cc); console = λ e. omega (arith, looks.goes.faults Console, said.failed) }
   said_caused status.Words said = absurd said
   said_caused (status.BadLine line cause) said = absurd said
   said_caused status.TooLong said = absurd said
@@ -202,10 +202,25 @@ none_report tells answer why base journal since v0 v1 looks not is cause = recor
 }
 
 pub none_caused : (tells : Type 0) (why : StartNo) (v0 v1 : View) → FindsNone form_reads tells form_needs v0 v1 why → IsCaused (status_of_start why) v0 v1
-none_caused tells (no_start.NotFormatted first second) v0 v1 none = record { lost = λ e. absurd (cc); failed1 = λ e. absurd (cc); failed2 = λ e. absurd (cc); console = λ e. absurd (cc) }
-none_caused tells no_start.BothLost v0 v1 none = record { lost = λ e. (none.0.0, none.1.0); failed1 = λ e. inl none.0.1; failed2 = λ e. inl none.1.1; console = λ e. absurd (cc) }
-none_caused tells (no_start.DeviceSize dev size) v0 v1 none = record { lost = λ e. absurd (cc); failed1 = λ e. absurd (cc); failed2 = λ e. absurd (cc); console = λ e. absurd (cc) }
-none_caused tells no_start.NoMemory v0 v1 none = record { lost = λ e. absurd (cc); failed1 = λ e. absurd (cc); failed2 = λ e. absurd (cc); console = λ e. absurd (cc) }
+none_caused tells (no_start.NotFormatted first second) v0 v1 none = record { failed1 = λ e. absurd (cc); failed2 = λ e. absurd (cc); console = λ e. absurd (cc) }
+none_caused tells no_start.BothLost v0 v1 none = record { failed1 = λ e. inl none.0.1; failed2 = λ e. inl none.1.1; console = λ e. absurd (cc) }
+none_caused tells (no_start.DeviceSize dev size) v0 v1 none = record { failed1 = λ e. absurd (cc); failed2 = λ e. absurd (cc); console = λ e. absurd (cc) }
+none_caused tells no_start.NoMemory v0 v1 none = record { failed1 = λ e. absurd (cc); failed2 = λ e. absurd (cc); console = λ e. absurd (cc) }
+
+both_gone : (tells : Type 0) (why : StartNo) (v0 v1 : View) → status.BothLost ≡ status_of_start why → FindsNone form_reads tells form_needs v0 v1 why
+    → (v1.lost (DiskPart Ckpt1) ≡ true) × (v1.lost (DiskPart Ckpt2) ≡ true)
+both_gone tells (no_start.NotFormatted first second) v0 v1 is none = absurd (cc)
+both_gone tells no_start.BothLost v0 v1 is none = (none.0.0, none.1.0)
+both_gone tells (no_start.DeviceSize dev size) v0 v1 is none = absurd (cc)
+both_gone tells no_start.NoMemory v0 v1 is none = absurd (cc)
+
+-- a report that found no queue
+pub report_lost : (tells : Type 0) (answer : Status) (base : Queue) (journal : Journal) (since : ℕ) (old new : View) → IsReport tells answer base journal since old new → Goes old new
+    → has_begun base ≡ false → LeavesLost answer old new
+report_lost tells answer base journal since old new report goes none = record {
+  stays = goes.lost;
+  both = λ e. let un = report.unfound none in both_gone tells un.why old new (sym e ∙ un.is) un.cause;
+}
 
 pub none_begins : (why : StartNo) (base : Queue) → base ≡ no_queue → Begins (status_of_start why) base
 none_begins (no_start.NotFormatted first second) base is = ap has_begun is

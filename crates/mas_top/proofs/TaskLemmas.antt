@@ -17,7 +17,7 @@ use Rattle.mas_types.specs.declared.queues.Queue.{Queue}
 use Rattle.mas_types.specs.Starts.{no_queue}
 use Rattle.spool_disk.specs.View.{View}
 use Rattle.mas_run.specs.Runs.{has_begun, Begins}
-use Rattle.mas_run.specs.Statuses.{IsCaused}
+use Rattle.mas_run.specs.Statuses.{IsCaused, LeavesLost}
 use Rattle.mas_top.specs.declared.tasks.Task.{Task}
 use Rattle.mas_top.specs.declared.tasks.Task.TheVariants as task
 use Rattle.mas_top.specs.Tasks.{status_of_no, task_asked, task_by, task_of}
@@ -137,8 +137,12 @@ pub memory_not_source : (answer : Status) → answer ≡ status.NoMemory → ans
 memory_not_source answer e f = absurd (cc)
 
 pub words_caused : (why : WordsNo) (old new : View) → IsCaused (status_of_no why) old new
-words_caused no_words.Words old new = record { lost = λ e. absurd (cc); failed1 = λ e. absurd (cc); failed2 = λ e. absurd (cc); console = λ e. absurd (cc) }
-words_caused no_words.NoMemory old new = record { lost = λ e. absurd (cc); failed1 = λ e. absurd (cc); failed2 = λ e. absurd (cc); console = λ e. absurd (cc) }
+words_caused no_words.Words old new = record { failed1 = λ e. absurd (cc); failed2 = λ e. absurd (cc); console = λ e. absurd (cc) }
+words_caused no_words.NoMemory old new = record { failed1 = λ e. absurd (cc); failed2 = λ e. absurd (cc); console = λ e. absurd (cc) }
+
+pub words_lost : (why : WordsNo) (v : View) → LeavesLost (status_of_no why) v v
+words_lost no_words.Words v = record { stays = λ p gone. gone; both = λ e. absurd (cc) }
+words_lost no_words.NoMemory v = record { stays = λ p gone. gone; both = λ e. absurd (cc) }
 
 pub words_begins : (why : WordsNo) (base : Queue) → base ≡ no_queue → Begins (status_of_no why) base
 words_begins no_words.Words base is = ap has_begun is

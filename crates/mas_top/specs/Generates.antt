@@ -14,6 +14,7 @@ use Rattle.spool_disk.specs.Acts.{Acts, Rose, Says, top}
 use Rattle.gen_work.specs.Generated.{script_text}
 use Rattle.gen_work.specs.Summaries.{summary_line, summary_of}
 use Rattle.script_generated.specs.Steps.{script_generated}
+use Rattle.mas_complex.specs.Renewals.{no_renewals}
 use Rattle.member_node.specs.Calls.{WasLost}
 use Rattle.mas_run.specs.Refusals.{IsPlayedOut, refused_devices}
 use Rattle.mas_run.specs.Runs.{has_begun, IsSafe}
@@ -64,8 +65,9 @@ pub record IsGenerated (decks : ℕ) (tells same : Type 0) (answer : Status) (ba
   pub played : IsPlayed true false (script_source decks rest) tells same ended base journal since old between
   -- and then what it came to was said
   pub summed : SumsUp tells (summary_line (summary_of base journal)) ended answer between new
-  -- what a run that has begun promises of each moment holds up to its end, below the greatest moment
-  pub safe : has_begun base ≡ true → new.now < top → IsSafe tells base journal since new
+  -- what a run that has begun, and in which no copy was replaced, promises of each moment holds up to its end, below the
+  -- greatest moment
+  pub safe : has_begun base ≡ true → new.now < top → IsSafe tells base journal no_renewals since new
   -- where the devices are large enough and nothing hinders it, it is played to its end, and the line is said
   pub complete : first_some (refused_devices (script_generated decks).config old) ≡ None → IsUnhindered tells old new
       → IsPlayedOut true answer

@@ -16,7 +16,7 @@ use Rattle.spool_volumes.specs.Volumes.{AreRoomy}
 use Rattle.warm_start.specs.Starting.{OnlyLookedAtAll}
 use Rattle.mas_run.specs.Refusals.{refusal_before_play, said_by, steps_of, Answers, IsPlayedOut, IsSaid, IsTakenFrom, IsTooSmall}
 use Rattle.mas_run.specs.Runs.{has_begun, AreSidesKept, IsRun}
-use Rattle.mas_run.specs.Statuses.{IsStill, is_unplayed}
+use Rattle.mas_run.specs.Statuses.{IsStill, LeavesLost, is_unplayed}
 use Rattle.mas_run.specs.Unstarted.{IsNotStarted}
 use Rattle.mas_run.specs.Volumes.{AreVolumesKept}
 
@@ -58,6 +58,7 @@ pub record IsPlayed (cold only : Bool) (source : Sourced) (tells same : Type 0) 
   pub loses : has_begun base ≡ false → (answer ≢ status.BothLost) ⊎ (cold ≡ true) → (d : Dev)
       → new.loses d ≡ old.loses d
   pub arms : has_begun base ≡ false → (m : ℕ) → new.arms m ≡ old.arms m
+  pub lost : has_begun base ≡ false → LeavesLost answer old new
   -- one that has begun plays what its script asks for
   pub room : has_begun base ≡ true → (form_needs (page_count base.config) ≤ old.size Ckpt1)
       × (form_needs (page_count base.config) ≤ old.size Ckpt2)

@@ -5,7 +5,7 @@ ghost use Rattle.gen_work.specs.Summaries.{summary_line as summary_line_lem, sum
 ghost use Rattle.spool_disk.specs.Source.{Gives, GivesCount};
 ghost use Rattle.mas_run.specs.Lines.{Proceeds};
 ghost use Rattle.mas_run.specs.Runs.{has_begun, Begins, IsUnbegun};
-ghost use Rattle.mas_run.specs.Statuses.{IsCaused};
+ghost use Rattle.mas_run.specs.Statuses.{IsCaused, LeavesLost};
 ghost use Rattle.mas_run.specs.Volumes.{AreVolumesKept};
 ghost use Rattle.member_node.specs.Calls.{console_now};
 ghost use Rattle.mas_top.specs.Generates.{IsGenerated, IsSaid, MaySay};
@@ -131,6 +131,7 @@ pub(crate) fn play_generated<P: Plant + Drop>(alloc: Global, decks: u32, plant: 
         → IsUnbegun result.base result.journal result.since (P.view result.plant).now }
     ensures unsaid { P.tells → has_begun result.base ≡ false
         → console_now (P.view result.plant) ≡ console_now (P.view plant) }
+    ensures lost { has_begun result.base ≡ false → LeavesLost result.status (P.view plant) (P.view result.plant) }
     ensures goes { Proceeds (P.view plant) (P.view result.plant) }
     ensures volumes { P.tells → has_begun result.base ≡ false → AreVolumesKept (P.view plant) (P.view result.plant) }
 {

@@ -3,7 +3,7 @@ ghost use Rattle.std.specs.Prelude.{◌≡◌, ◌≢◌, ◌⊎◌, ℕ, Bool, 
 ghost use Rattle.mas_run.specs.Lines.{Proceeds};
 ghost use Rattle.mas_run.specs.Volumes.{AreVolumesKept};
 ghost use Rattle.mas_run.specs.Runs.{has_begun, Begins, IsUnbegun};
-ghost use Rattle.mas_run.specs.Statuses.{IsCaused};
+ghost use Rattle.mas_run.specs.Statuses.{IsCaused, LeavesLost};
 ghost use Rattle.member_node.specs.Calls.{console_now};
 ghost use Rattle.mas_top.specs.Checks.{IsCheckRun};
 ghost use Rattle.mas_top.specs.Generates.{IsGenerated};
@@ -68,6 +68,7 @@ pub fn calm_top<P: Plant + Drop, S: Source>(
         → IsUnbegun result.base result.journal result.since (P.view result.plant).now }
     ensures unsaid { P.tells → task_asked (map string_bytes words.now) ≢ Some Task.Check → has_begun result.base ≡ false
         → console_now (P.view result.plant) ≡ console_now (P.view plant) }
+    ensures lost { has_begun result.base ≡ false → LeavesLost result.status (P.view plant) (P.view result.plant) }
     ensures goes { Proceeds (P.view plant) (P.view result.plant) }
     ensures volumes { P.tells → has_begun result.base ≡ false → AreVolumesKept (P.view plant) (P.view result.plant) }
 {

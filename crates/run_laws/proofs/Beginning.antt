@@ -1,5 +1,5 @@
 -- The next run begins.
-use Rattle.std.proofs.Common.{◌≡◌, ◌⊎◌, inl, inr, ⊎_elim, ℕ, ◌+◌, ◌^◌, ◌*◌, ◌≤◌, ◌<◌, ◌++◌, Bool, true, false, List, [], ◌∷◌, All, Option, Some, refl, sym, ◌∙◌, ap, subst, arith}
+use Rattle.std.proofs.Common.{◌≡◌, ◌⊎◌, inl, inr, ⊎_elim, ℕ, ◌^◌, ◌*◌, ◌≤◌, ◌<◌, ◌++◌, Bool, true, false, List, [], ◌∷◌, length, All, Option, Some, refl, sym, ◌∙◌, ap, subst, arith}
 use Rattle.std.specs.List.{filter}
 use Rattle.std.proofs.Math.Logic.{∥∥₁_elim}
 use Rattle.std.proofs.lemmas.List.Elements.{All-nil, All-append}
@@ -30,23 +30,28 @@ use Rattle.ckpt_pages.specs.declared.tables.Tables.{Tables}
 use Rattle.ckpt_pages.specs.Checkpoints.{IsCheckpoint, SpellsOneAtMost}
 use Rattle.ckpt_pages.specs.Shape.{page_count}
 use Rattle.ckpt_pages.proofs.SlotLists.{test_cases}
-use Rattle.mas_complex.specs.Crash.{left_at, next_order, IsOneOf}
+use Rattle.mas_complex.specs.Crash.{left_at, next_order, IsOneOf, IsReadBy}
+use Rattle.mas_complex.specs.declared.renewals.Renewals.{Renewals}
+use Rattle.mas_complex.specs.Renewals.{is_renewed_at, of_device}
 use Rattle.mas_complex.specs.Headline.{AreAlike, AreAlwaysAlike, AreLevelsLow}
+use Rattle.mas_complex.specs.Journals.{journal_most}
 use Rattle.mas_complex.specs.Meaning.{StandFor, run}
 use Rattle.mas_complex.specs.Paper.{AreGivenIn, PaperKept}
 use Rattle.mas_complex.proofs.Orders.{order_spelled}
-use Rattle.warm_start.specs.declared.choosing.StartNo.TheVariants as no_start
+use Rattle.start_choice.specs.declared.choosing.StartNo.TheVariants as no_start
 use Rattle.warm_start.specs.Starting.{IsSmall, IsState, AreNotLost, OnlyLookedAtAll, mark_of}
-use Rattle.warm_start.specs.Usable.{AreOf, AreUsable, HaveSize, MayStart}
-use Rattle.mas_run.specs.Lines.{Proceeds}
+use Rattle.start_choice.specs.Usable.{AreOf, AreUsable, HaveSize, MayStart}
+use Rattle.mas_run.specs.Lines.{Proceeds, StaysLost}
 use Rattle.mas_run.specs.Runs.{has_begun, Begins, IsRun}
 use Rattle.mas_run.specs.Statuses.{IsCaused}
 use Rattle.mas_run.specs.Unstarted.{IsNotStarted, StartCauses}
 use Rattle.run_laws.specs.Left.{IsLeftBy}
 use Rattle.queue_tables.proofs.SoundTables.{told_are_sound}
-use Rattle.run_laws.specs.Beginning.{AreLarge, AreLow, BothLow, HasEnded, IsHindered, IsLow, IsUnbounded, level_first, order_first}
+use Rattle.run_laws.specs.Beginning.{AreGoodLeft, AreLarge, AreLow, BothLow, HasEnded, IsGoodLeft, IsHindered, IsLow, IsUnbounded}
+use Rattle.run_laws.specs.Joins.{level_of, order_of}
 use Rattle.run_laws.proofs.Levels.{HasLevels, HasOrders, first_there, low_levels, low_orders}
-use Rattle.run_laws.proofs.Copies.{image_of, stand_by, stands, told_by}
+use Rattle.run_laws.proofs.Levels.{Begins as StartsSo}
+use Rattle.run_laws.proofs.Copies.{IsBeside, good_one, image_of, stand_by, stands, told_by}
 
 -- THE QUEUE THAT IS LEFT
 
@@ -67,7 +72,7 @@ record IsBounded (l order since : ℕ) (bytes : List ℕ) : Type 0 where
   orders : order < 2 ^ 61 → since < top → next_order bytes < 2 ^ 62
 
 -- and so are those of what a device reads as, whatever a crash leaves of it
-record AreBounded (l order since : ℕ) (disk : Disk) : Type 0 where
+pub record AreBounded (l order since : ℕ) (disk : Disk) : Type 0 where
   levels : l < 2 ^ 61 → since < top → HasLevels disk
   orders : order < 2 ^ 61 → since < top → HasOrders disk
 
@@ -92,11 +97,14 @@ usable_of l order since Q bytes s sound low bound =
 -- A COPY
 
 -- a device that isn't lost wasn't lost before
-was_there : (dev : Dev) (old new : View) → Proceeds old new → new.lost (DiskPart dev) ≡ false → old.lost (DiskPart dev) ≡ false
-was_there dev old new goes there =
+was_there : (dev : Dev) (old new : View) → StaysLost dev old new → new.lost (DiskPart dev) ≡ false → old.lost (DiskPart dev) ≡ false
+was_there dev old new stays there =
     test_cases (old.lost (DiskPart dev)) (old.lost (DiskPart dev) ≡ false)
-    (λ e. let gone : new.lost (DiskPart dev) ≡ true = goes.lost (DiskPart dev) e in absurd (cc))
+    (λ e. let gone : new.lost (DiskPart dev) ≡ true = stays e in absurd (cc))
     (λ e. e)
+
+clash : {A : Type 0} (b : Bool) → b ≡ true → b ≡ false → A
+clash b one two = absurd (cc)
 
 abbrev IsGone : CopyState → Type 0
 IsGone state.Lost = Unit {0}
@@ -112,10 +120,10 @@ not_both_gone state.Unsound two a b not = a
 -- a copy that is left reads as pages that can be used: so where a start found none on it, it is lost
 module _ (was : List ℕ) (coming : Option (List ℕ)) (dev : Dev) (t : ℕ) (last old new : View) (left : IsLeftBy t last old) (each : LeavesOnly (left_at last t dev) (λ image. IsOneOf was coming (form_reads image)))
     (usable : old.lost (DiskPart dev) ≡ false → (bytes : List ℕ) → form_reads (disk_now old dev).bytes ≡ Some bytes → (bytes ≡ was) ⊎ (coming ≡ Some bytes) → AreUsable bytes)
-    (goes : Proceeds old new) (same : (disk_now new dev).bytes ≡ (disk_now old dev).bytes) where
+    (stays : StaysLost dev old new) (same : (disk_now new dev).bytes ≡ (disk_now old dev).bytes) where
   read_one : new.lost (DiskPart dev) ≡ false → IsOneOf was coming (form_reads (disk_now new dev).bytes)
   read_one there =
-      subst (λ (bs : List ℕ). IsOneOf was coming (form_reads bs)) (sym same) (each (disk_now old dev).bytes (image_of t last old dev left (was_there dev old new goes there)))
+      subst (λ (bs : List ℕ). IsOneOf was coming (form_reads bs)) (sym same) (each (disk_now old dev).bytes (image_of t last old dev left (was_there dev old new stays there)))
 
   gone : (tells : Type 0) → tells → (alive : Bool) (s : CopyState) → IsState form_reads tells dev new alive s → IsGone s
   gone tells told alive state.Lost is = tt
@@ -123,7 +131,19 @@ module _ (was : List ℕ) (coming : Option (List ℕ)) (dev : Dev) (t : ℕ) (la
   gone tells told alive state.Unsound is =
       let found = is.2 told in
       let one : IsOneOf was coming (Some found.0) = subst (IsOneOf was coming) found.1 (read_one is.1) in
-      found.2 (usable (was_there dev old new goes is.1) found.0 (ap form_reads (sym same) ∙ found.1) one)
+      found.2 (usable (was_there dev old new stays is.1) found.0 (ap form_reads (sym same) ∙ found.1) one)
+
+-- where its device was lost
+gone_lost : (tells : Type 0) (dev : Dev) (old new : View) → StaysLost dev old new → old.lost (DiskPart dev) ≡ true → (alive : Bool) (s : CopyState) → IsState form_reads tells dev new alive s → IsGone s
+gone_lost tells dev old new stays lost alive state.Lost is = tt
+gone_lost tells dev old new stays lost alive state.Unread is = clash (new.lost (DiskPart dev)) (stays lost) is.there
+gone_lost tells dev old new stays lost alive state.Unsound is = clash (new.lost (DiskPart dev)) (stays lost) is.1
+
+-- and then it is lost
+lost_then : (tells : Type 0) (dev : Dev) (new : View) (alive : Bool) (s : CopyState) → IsState form_reads tells dev new alive s → IsGone s → new.lost (DiskPart dev) ≡ true
+lost_then tells dev new alive state.Lost is none = is.lost
+lost_then tells dev new alive state.Unread is none = absurd none
+lost_then tells dev new alive state.Unsound is none = absurd none
 
 -- SIZES
 
@@ -136,14 +156,14 @@ never_small config old new goes large Ckpt2 size is = enough (form_needs (page_c
 never_small config old new goes large (Spool n) size is =
     let small = is.1 in
     enough (page_bytes * config.groups) (new.size (Spool n)) (new.size (Spool n)) (old.size (Spool n)) refl (goes.size (Spool n))
-    (large.roomy n small.some small.few (was_there (Spool n) old new goes small.there)) small.small
+    (large.roomy n small.some small.few (was_there (Spool n) old new (goes.lost (DiskPart (Spool n)) refl) small.there)) small.small
 
 -- THE RUN
 
-module _ (spells : SpellsOneAtMost) (configs : RunsKeepConfiguration) (sounds : RunsKeepSound) (l order since : ℕ) (base : Queue) (J : Journal) (t : ℕ) (last old new : View)
-    (left : IsLeftBy t last old) (sound : IsSound base) (given : AreGivenIn base J.batches) (low : BothLow l order since old)
-    (bound1 : AreBounded l order since (left_at last t Ckpt1)) (bound2 : AreBounded l order since (left_at last t Ckpt2)) (large : AreLarge base.config old)
-    (alike : AreAlike form_reads base J t (left_at last t Ckpt1) (left_at last t Ckpt2)) (goes : Proceeds old new) (tells : Type 0) (told : tells) where
+module _ (spells : SpellsOneAtMost) (configs : RunsKeepConfiguration) (sounds : RunsKeepSound) (l order since : ℕ) (base : Queue) (J : Journal) (rs : Renewals) (t : ℕ) (last old : View)
+    (left : IsLeftBy t last old) (sound : IsSound base) (given : AreGivenIn base J.batches)
+    (bound1 : is_renewed_at rs.first t ≡ false → AreBounded l order since (left_at last t Ckpt1)) (bound2 : is_renewed_at rs.second t ≡ false → AreBounded l order since (left_at last t Ckpt2))
+    (alike : AreAlike form_reads base J rs t (left_at last t Ckpt1) (left_at last t Ckpt2)) where
   kept_given : All (IsGiven base) (kept_at J t)
   kept_given = all_given base (is_kept_by t) J.batches given
 
@@ -157,32 +177,77 @@ module _ (spells : SpellsOneAtMost) (configs : RunsKeepConfiguration) (sounds : 
   usable_by bytes lows bound one =
       ⊎_elim (λ s. usable_of l order since (run base (kept_at J t)) bytes s kept_sound lows bound)
       (λ s. usable_of l order since (run base (kept_at J t ++ flying_at J t)) bytes s coming_sound lows bound)
-      (stand_by form_reads base J t last old bytes alike one)
+      (stand_by form_reads base J rs t last old bytes alike one)
 
-  -- a start can't find that no copy can be used
-  some_found : (disk_now new Ckpt1).bytes ≡ (disk_now old Ckpt1).bytes → (disk_now new Ckpt2).bytes ≡ (disk_now old Ckpt2).bytes → (one two : CopyState) → StartCauses tells (no_start.NotFormatted one two) old new → ⊥
-  some_found same1 same2 one two causes =
-      let x = causes.cause in
-      not_both_gone one two
-      (gone alike.was alike.coming Ckpt1 t last old new left alike.first (λ there bytes e. usable_by bytes (low.first there bytes e) (bounded_image l order since (left_at last t Ckpt1) bound1 (disk_now old Ckpt1).bytes bytes (image_of t last old Ckpt1 left there) e)) goes same1 tells told causes.alive1 one x.0)
-      (gone alike.was alike.coming Ckpt2 t last old new left alike.second (λ there bytes e. usable_by bytes (low.second there bytes e) (bounded_image l order since (left_at last t Ckpt2) bound2 (disk_now old Ckpt2).bytes bytes (image_of t last old Ckpt2 left there) e)) goes same2 tells told causes.alive2 two x.1)
-      x.2
+  -- a copy that was good, and one beside it
+  is_beside : (dev : Dev) (begun : Bool) (new : View) (found : List ℕ) → (is_renewed_at (of_device dev rs) t ≡ false → AreBounded l order since (left_at last t dev)) → IsGoodLeft rs t l order since begun dev old new
+      → IsBeside form_reads base J rs t last old found alike dev new
+  is_beside dev begun new found bound is = record {
+    good = is.good;
+    there = is.there;
+    failed = is.failed;
+    usable = λ bytes reads one.
+        usable_by bytes (is.low bytes reads)
+        (bounded_image l order since (left_at last t dev) (bound is.good) (disk_now old dev).bytes bytes (image_of t last old dev left is.there) reads) one;
+  }
 
-  -- the configuration of pages that were found
-  config_of : (pages : List Page) (u : Tables) → AreOf pages u → HaveSize pages → (es : List Entry) → StandFor (run base es) (bytes_of pages) → u.config ≡ base.config
-  config_of pages u are sized es s = sym (told_by spells (run base es) pages u are sized s).config ∙ (configs base es).config
+  pub beside1 : (begun : Bool) (new : View) (found : List ℕ) → AreGoodLeft rs t l order since begun old new → is_renewed_at rs.first t ≡ true → old.lost (DiskPart Ckpt1) ≡ false → IsBeside form_reads base J rs t last old found alike Ckpt2 new
+  beside1 begun new found are stale there = is_beside Ckpt2 begun new found bound2 (are.first stale there)
 
-  -- no device is too small
-  none_small : (dev : Dev) (size : ℕ) → StartCauses tells (no_start.DeviceSize dev size) old new → ⊥
-  none_small dev size causes =
-      let x = causes.cause in
-      let pages : List Page = x.0 in
-      let u : Tables = x.1 in
-      let config : u.config ≡ base.config =
-      ⊎_elim (λ s. config_of pages u x.2 x.3 (kept_at J t) s) (λ s. config_of pages u x.2 x.3 (kept_at J t ++ flying_at J t) s)
-      (stands form_reads base J t last old (bytes_of pages) new (mark_of new) alike left (x.4 told)) in
-      let small : IsSmall (form_needs (page_count u.config)) u.config dev size new = subst (λ (n : ℕ). IsSmall (form_needs n) u.config dev size new) x.2.0.spell.count x.5 in
-      never_small base.config old new goes large dev size (subst (λ (c : Config). IsSmall (form_needs (page_count c)) c dev size new) config small)
+  pub beside2 : (begun : Bool) (new : View) (found : List ℕ) → AreGoodLeft rs t l order since begun old new → is_renewed_at rs.second t ≡ true → old.lost (DiskPart Ckpt2) ≡ false → IsBeside form_reads base J rs t last old found alike Ckpt1 new
+  beside2 begun new found are stale there = is_beside Ckpt1 begun new found bound1 (are.second stale there)
+
+  -- a run that hasn't begun
+  module _ (new : View) (low : BothLow l order since old) (large : AreLarge base.config old) (goes : Proceeds old new) (stays : (d : Dev) → StaysLost d old new) (good : AreGoodLeft rs t l order since false old new)
+      (tells : Type 0) (told : tells) where
+    -- a copy that was good is lost where a start found none on it
+    good_gone : (dev : Dev) → LeavesOnly (left_at last t dev) (λ image. IsReadBy (is_renewed_at (of_device dev rs) t) alike.was alike.coming (form_reads image)) → is_renewed_at (of_device dev rs) t ≡ false
+        → AreBounded l order since (left_at last t dev) → (old.lost (DiskPart dev) ≡ false → (bytes : List ℕ) → form_reads (disk_now old dev).bytes ≡ Some bytes → AreLow l order since bytes)
+        → (disk_now new dev).bytes ≡ (disk_now old dev).bytes → (alive : Bool) (s : CopyState) → IsState form_reads tells dev new alive s → IsGone s
+    good_gone dev each was_good bound lows same alive s is =
+        gone alike.was alike.coming dev t last old new left (good_one alike.was alike.coming form_reads (left_at last t dev) (is_renewed_at (of_device dev rs) t) was_good each)
+        (λ there bytes e. usable_by bytes (lows there bytes e) (bounded_image l order since (left_at last t dev) bound (disk_now old dev).bytes bytes (image_of t last old dev left there) e)) (stays dev) same tells told alive s is
+
+    -- and so is one beside which a good one stands: else that one is lost
+    one_gone : (dev other : Dev) → (is_renewed_at (of_device dev rs) t ≡ false → (alive : Bool) (s : CopyState) → IsState form_reads tells dev new alive s → IsGone s)
+        → (is_renewed_at (of_device other rs) t ≡ false → (alive : Bool) (s : CopyState) → IsState form_reads tells other new alive s → IsGone s)
+        → (is_renewed_at (of_device dev rs) t ≡ true → old.lost (DiskPart dev) ≡ false → IsGoodLeft rs t l order since false other old new)
+        → (alive1 : Bool) (one : CopyState) → IsState form_reads tells dev new alive1 one → (alive2 : Bool) (two : CopyState) → IsState form_reads tells other new alive2 two → IsGone one
+    one_gone dev other mine theirs beside alive1 one is1 alive2 two is2 =
+        test_cases (is_renewed_at (of_device dev rs) t) (IsGone one)
+        (λ stale. test_cases (old.lost (DiskPart dev)) (IsGone one)
+        (λ lost. gone_lost tells dev old new (stays dev) lost alive1 one is1)
+        (λ there.
+        let g = beside stale there in
+        clash (new.lost (DiskPart other)) (lost_then tells other new alive2 two is2 (theirs g.good alive2 two is2)) (g.stays refl)))
+        (λ was_good. mine was_good alive1 one is1)
+
+    -- a start can't find that no copy can be used
+    pub some_found : (disk_now new Ckpt1).bytes ≡ (disk_now old Ckpt1).bytes → (disk_now new Ckpt2).bytes ≡ (disk_now old Ckpt2).bytes → (one two : CopyState) → StartCauses tells (no_start.NotFormatted one two) old new → ⊥
+    some_found same1 same2 one two causes =
+        let x = causes.cause in
+        let first = λ (g : is_renewed_at rs.first t ≡ false). good_gone Ckpt1 alike.first g (bound1 g) low.first same1 in
+        let second = λ (g : is_renewed_at rs.second t ≡ false). good_gone Ckpt2 alike.second g (bound2 g) low.second same2 in
+        not_both_gone one two
+        (one_gone Ckpt1 Ckpt2 first second good.first causes.alive1 one x.0 causes.alive2 two x.1)
+        (one_gone Ckpt2 Ckpt1 second first good.second causes.alive2 two x.1 causes.alive1 one x.0)
+        x.2
+
+    -- the configuration of pages that were found
+    config_of : (pages : List Page) (u : Tables) → AreOf pages u → HaveSize pages → (es : List Entry) → StandFor (run base es) (bytes_of pages) → u.config ≡ base.config
+    config_of pages u are sized es s = sym (told_by spells (run base es) pages u are sized s).config ∙ (configs base es).config
+
+    -- no device is too small
+    pub none_small : (dev : Dev) (size : ℕ) → StartCauses tells (no_start.DeviceSize dev size) old new → ⊥
+    none_small dev size causes =
+        let x = causes.cause in
+        let pages : List Page = x.0 in
+        let u : Tables = x.1 in
+        let config : u.config ≡ base.config =
+        ⊎_elim (λ s. config_of pages u x.2 x.3 (kept_at J t) s) (λ s. config_of pages u x.2 x.3 (kept_at J t ++ flying_at J t) s)
+        (stands form_reads base J rs t last old (bytes_of pages) alike new (mark_of new) left (beside1 false new (bytes_of pages) good) (beside2 false new (bytes_of pages) good) (x.4 told)) in
+        let small : IsSmall (form_needs (page_count u.config)) u.config dev size new = subst (λ (n : ℕ). IsSmall (form_needs n) u.config dev size new) x.2.0.spell.count x.5 in
+        never_small base.config old new goes large dev size (subst (λ (c : Config). IsSmall (form_needs (page_count c)) c dev size new) config small)
 
 -- no byte of a copy changed in a start that gave nothing
 same_bytes : (tells : Type 0) → tells → (old new : View) → (new ≡ old) ⊎ (tells → OnlyLookedAtAll old new) → ((disk_now new Ckpt1).bytes ≡ (disk_now old Ckpt1).bytes) × ((disk_now new Ckpt2).bytes ≡ (disk_now old Ckpt2).bytes)
@@ -194,36 +259,56 @@ not_lost : (A : Type 0) (one two : CopyState) → (status.NotFormatted one two �
 not_lost A one two (inl e) = absurd (cc)
 not_lost A one two (inr a) = a
 
+-- levels and orders are as the run leaves them
+pub bounds1 : (l order since : ℕ) (J : Journal) (last : View) (rs : Renewals) (levels : AreLevelsLow form_reads since J rs last) (few : length J.batches ≤ journal_most) → StartsSo l order since last → (t : ℕ) → since ≤ t → t ≤ last.now
+    → is_renewed_at rs.first t ≡ false → AreBounded l order since (left_at last t Ckpt1)
+bounds1 l order since J last rs levels few b t ge le good = record {
+  levels = λ low before. (low_levels since J last rs levels few l order b before low t ge le).0 good;
+  orders = λ low before. (low_orders since J last rs levels few l order b before low t ge le).0 good;
+}
+
+pub bounds2 : (l order since : ℕ) (J : Journal) (last : View) (rs : Renewals) (levels : AreLevelsLow form_reads since J rs last) (few : length J.batches ≤ journal_most) → StartsSo l order since last → (t : ℕ) → since ≤ t → t ≤ last.now
+    → is_renewed_at rs.second t ≡ false → AreBounded l order since (left_at last t Ckpt2)
+bounds2 l order since J last rs levels few b t ge le good = record {
+  levels = λ low before. (low_levels since J last rs levels few l order b before low t ge le).1 good;
+  orders = λ low before. (low_orders since J last rs levels few l order b before low t ge le).1 good;
+}
+
 -- what a warm run that hasn't begun is hindered by
 pub hinders : SpellsOneAtMost → RunsKeepConfiguration → RunsKeepSound → (first_tells next_tells : Type 0) → first_tells → next_tells
     → (cold : Bool) (script : Script) (answer ends : Status) (base found : Queue) (J : Journal) (since t : ℕ) (first last old new : View)
     → (was : IsRun cold first_tells script answer base J since first last) → since ≤ t → t ≤ last.now → IsLeftBy t last old
-    → BothLow (level_first cold first_tells script first last since was.first base was.queue) (order_first cold first_tells script first last since was.first base was.queue) since old → AreLarge base.config old → HasEnded next_tells ends found old new → has_begun found ≡ false → IsHindered ends old new
-hinders spells configs sounds first_tells next_tells told also cold script answer ends base found J since t first last old new was ge le left low large ended e =
+    → AreGoodLeft was.steps.renewals t (level_of was) (order_of was) since false old new
+    → BothLow (level_of was) (order_of was) since old → AreLarge base.config old → HasEnded next_tells ends found old new → has_begun found ≡ false → IsHindered ends old new
+hinders spells configs sounds first_tells next_tells told also cold script answer ends base found J since t first last old new was ge le left good low large ended e =
     hindered ends ended.begun (ended.unstarted e) (ended.untouched e) ended.cause e
   where
-    -- what clashes with copies that agree isn't so
-    never : (A : Type 0) → (AreGivenIn base J.batches → AreAlike form_reads base J t (left_at last t Ckpt1) (left_at last t Ckpt2) → A → ⊥) → A → ⊥
-    never A clash a =
-        ∥∥₁_elim (was.steps.safe.alike told) (λ x y. absurd x) (λ (alike : AreAlwaysAlike form_reads base J since last).
-        ∥∥₁_elim (was.steps.safe.paper told) (λ x y. absurd x) (λ (paper : PaperKept base since J.batches last). clash paper.given (alike t ge le) a))
+    rs : Renewals
+    rs = was.steps.renewals
 
     l : ℕ
-    l = level_first cold first_tells script first last since was.first base was.queue
+    l = level_of was
 
     order : ℕ
-    order = order_first cold first_tells script first last since was.first base was.queue
+    order = order_of was
+
+    stays : (d : Dev) → StaysLost d old new
+    stays d = (ended.lost e).stays (DiskPart d)
+
+    -- what clashes with copies that agree isn't so
+    never : (A : Type 0) → (AreGivenIn base J.batches → AreAlike form_reads base J was.steps.renewals t (left_at last t Ckpt1) (left_at last t Ckpt2) → A → ⊥) → A → ⊥
+    never A clash a =
+        ∥∥₁_elim (was.steps.safe.alike told) (λ x y. absurd x) (λ (alike : AreAlwaysAlike form_reads base J was.steps.renewals since last).
+        ∥∥₁_elim (was.steps.safe.paper told) (λ x y. absurd x) (λ (paper : PaperKept base since J.batches last). clash paper.given (alike t ge le) a))
 
     -- nor where levels and orders are as the run leaves them
-    bounded : (A : Type 0) → (AreBounded l order since (left_at last t Ckpt1) → AreBounded l order since (left_at last t Ckpt2) → A → ⊥) → A → ⊥
+    bounded : (A : Type 0) → ((is_renewed_at was.steps.renewals.first t ≡ false → AreBounded (level_of was) (order_of was) since (left_at last t Ckpt1))
+        → (is_renewed_at was.steps.renewals.second t ≡ false → AreBounded (level_of was) (order_of was) since (left_at last t Ckpt2)) → A → ⊥) → A → ⊥
     bounded A clash a =
         let b = first_there cold first_tells script answer base J since first last was told in
         let few = was.steps.safe.few told in
-        ∥∥₁_elim (was.steps.safe.levels told) (λ x y. absurd x) (λ (levels : AreLevelsLow form_reads since J last).
-        clash
-        (record { levels = λ low before. (low_levels since J last levels few l order b before low t ge le).0; orders = λ low before. (low_orders since J last levels few l order b before low t ge le).0 })
-        (record { levels = λ low before. (low_levels since J last levels few l order b before low t ge le).1; orders = λ low before. (low_orders since J last levels few l order b before low t ge le).1 })
-        a)
+        ∥∥₁_elim (was.steps.safe.levels told) (λ x y. absurd x) (λ (levels : AreLevelsLow form_reads since J was.steps.renewals last).
+        clash (bounds1 (level_of was) (order_of was) since J last was.steps.renewals levels few b t ge le) (bounds2 (level_of was) (order_of was) since J last was.steps.renewals levels few b t ge le) a)
 
     hindered : (s : Status) → Begins s found → IsNotStarted next_tells s old new → (s ≡ status.BothLost) ⊎ ((new ≡ old) ⊎ (next_tells → OnlyLookedAtAll old new)) → IsCaused s old new → has_begun found ≡ false → IsHindered s old new
     hindered status.Done begun why looked cause none = absurd (cc)
@@ -232,11 +317,11 @@ hinders spells configs sounds first_tells next_tells told also cold script answe
         let same = same_bytes next_tells also old new (not_lost ((new ≡ old) ⊎ (next_tells → OnlyLookedAtAll old new)) one two looked) in
         never (StartCauses next_tells (no_start.NotFormatted one two) old new)
         (λ given alike. bounded (StartCauses next_tells (no_start.NotFormatted one two) old new)
-        (λ bound1 bound2 causes. some_found spells configs sounds l order since base J t last old new left was.sound given low bound1 bound2 large alike ended.goes next_tells also same.0 same.1 one two causes)) why
+        (λ bound1 bound2 causes. some_found spells configs sounds l order since base J rs t last old left was.sound given bound1 bound2 alike new low large ended.goes stays good next_tells also same.0 same.1 one two causes)) why
     hindered (status.DeviceSize dev size) begun why looked cause none =
         never (StartCauses next_tells (no_start.DeviceSize dev size) old new)
         (λ given alike. bounded (StartCauses next_tells (no_start.DeviceSize dev size) old new)
-        (λ bound1 bound2 causes. none_small spells configs sounds l order since base J t last old new left was.sound given low bound1 bound2 large alike ended.goes next_tells also dev size causes)) why
+        (λ bound1 bound2 causes. none_small spells configs sounds l order since base J rs t last old left was.sound given bound1 bound2 alike new low large ended.goes stays good next_tells also dev size causes)) why
     hindered status.BothLost begun why looked cause none = (cause.failed1 refl, cause.failed2 refl, why.0.failed)
     hindered status.Words begun why looked cause none = tt
     hindered (status.BadLine line cause) begun why looked caused none = tt

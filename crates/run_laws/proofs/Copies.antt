@@ -1,5 +1,5 @@
 -- The pages that a start finds on copies that a crash left.
-use Rattle.std.proofs.Common.{◌≡◌, ◌⊎◌, inl, inr, ⊎_elim, ℕ, ◌+◌, ◌<◌, ◌==◌, ◌&&◌, ◌++◌, Bool, true, false, List, Option, Some, None, refl, sym, ◌∙◌, ap, subst, arith}
+use Rattle.std.proofs.Common.{◌≡◌, ◌⊎◌, inl, inr, ⊎_elim, ℕ, ◌+◌, ◌≤◌, ◌<◌, ◌==◌, ◌&&◌, ◌++◌, Bool, true, false, List, Option, Some, None, refl, sym, ◌∙◌, ap, subst, arith}
 use Rattle.std.specs.Prelude.{IfSome}
 use Rattle.std.proofs.lemmas.Bool.{eqb-true}
 use Rattle.mas_types.specs.declared.ids.Dev.{Dev}
@@ -9,17 +9,20 @@ use Rattle.mas_types.specs.declared.journals.Journal.{Journal}
 use Rattle.mas_types.specs.declared.queues.Queue.{Queue}
 use Rattle.mas_types.specs.Journal.{kept_at, flying_at}
 use Rattle.spool_disk.specs.declared.plant.Part.TheVariants.{Disk as DiskPart}
-use Rattle.spool_disk.specs.Acts.{top}
+use Rattle.spool_disk.specs.Acts.{Rose, top}
 use Rattle.spool_disk.specs.View.{View, Disk, IsImage, LeavesOnly, disk_at, disk_now}
 use Rattle.ckpt_copy.specs.Pages.{bytes_of, level}
 use Rattle.ckpt_pages.specs.declared.tables.Tables.{Tables}
 use Rattle.ckpt_pages.specs.Checkpoints.{IsCheckpoint, SpellsOneAtMost}
+use Rattle.ckpt_pages.proofs.SlotLists.{test_cases}
 use Rattle.spool_volumes.specs.Volumes.{bytes_unless}
 use Rattle.queue_tables.specs.Telling.{Tell}
-use Rattle.mas_complex.specs.Crash.{left_at, lost_if, IsLeft, IsOneOf}
+use Rattle.mas_complex.specs.Crash.{left_at, lost_if, IsLeft, IsOneOf, IsReadBy, IsStale}
+use Rattle.mas_complex.specs.declared.renewals.Renewals.{Renewals}
+use Rattle.mas_complex.specs.Renewals.{is_renewed_at, of_device}
 use Rattle.mas_complex.specs.Headline.{AreAlike}
 use Rattle.mas_complex.specs.Meaning.{StandFor, run}
-use Rattle.warm_start.specs.Usable.{AreOf, HaveSize}
+use Rattle.start_choice.specs.Usable.{AreOf, AreUsable, HaveSize}
 use Rattle.warm_start.specs.Starting.{Mark, IsSeen, IsFound}
 use Rattle.warm_start.proofs.Seeing.{same_pages}
 use Rattle.run_laws.specs.Left.{shown_of, IsLeftBy, CrashesLeave}
@@ -67,11 +70,24 @@ module _ (reads : List ℕ → Option (List ℕ)) (was : List ℕ) (coming : Opt
   seen_one dev t last old new mark left each (Some bytes) seen is =
       one_of (reads (disk_now old dev).bytes) (each (disk_now old dev).bytes (image_of t last old dev left seen.0)) (seen.1 ∙ is)
 
--- the pages found are the kept ones or those in flight
-module _ (reads : List ℕ → Option (List ℕ)) (base : Queue) (J : Journal) (t : ℕ) (last old : View) (found : List ℕ) where
-  pub stand_by : (alike : AreAlike reads base J t (left_at last t Ckpt1) (left_at last t Ckpt2))
-      → (found ≡ alike.was) ⊎ (alike.coming ≡ Some found) → StandFor (run base (kept_at J t)) found ⊎ StandFor (run base (kept_at J t ++ flying_at J t)) found
-  stand_by alike which =
+-- what is alike where a copy isn't being replaced, and where it is
+module _ (was : List ℕ) (coming : Option (List ℕ)) where
+  pub good_one : (reads : List ℕ → Option (List ℕ)) (disk : Disk) (renewed : Bool) → renewed ≡ false → LeavesOnly disk (λ image. IsReadBy renewed was coming (reads image)) → LeavesOnly disk (λ image. IsOneOf was coming (reads image))
+  good_one reads disk renewed good each image is = subst (λ (r : Bool). IsReadBy r was coming (reads image)) good (each image is)
+
+  stale_one : (reads : List ℕ → Option (List ℕ)) (disk : Disk) (renewed : Bool) → renewed ≡ true → LeavesOnly disk (λ image. IsReadBy renewed was coming (reads image)) → LeavesOnly disk (λ image. IsStale was (reads image))
+  stale_one reads disk renewed stale each image is = subst (λ (r : Bool). IsReadBy r was coming (reads image)) stale (each image is)
+
+none_of : (reads : List ℕ → Option (List ℕ)) (dev : Dev) (old new : View) (mark : Mark) (found : List ℕ) (seen : Option (List ℕ)) → IsSeen reads dev old new mark seen → seen ≡ Some found
+    → (old.lost (DiskPart dev) ≡ false) × (reads (disk_now old dev).bytes ≡ Some found)
+none_of reads dev old new mark found None seen is = absurd (cc)
+none_of reads dev old new mark found (Some bytes) seen is = (seen.0, seen.1 ∙ is)
+
+-- The pages found are the kept ones or those in flight: a copy that was being replaced has older ones only beside a
+-- good one, whose pages are of a greater level then
+module _ (reads : List ℕ → Option (List ℕ)) (base : Queue) (J : Journal) (rs : Renewals) (t : ℕ) (last old : View) (found : List ℕ) (alike : AreAlike reads base J rs t (left_at last t Ckpt1) (left_at last t Ckpt2)) where
+  pub stand_by : (found ≡ alike.was) ⊎ (alike.coming ≡ Some found) → StandFor (run base (kept_at J t)) found ⊎ StandFor (run base (kept_at J t ++ flying_at J t)) found
+  stand_by which =
       ⊎_elim
       (λ e. inl (subst (StandFor (run base (kept_at J t))) (sym e) alike.stands))
       (λ e.
@@ -80,12 +96,63 @@ module _ (reads : List ℕ → Option (List ℕ)) (base : Queue) (J : Journal) (
       inr next.1)
       which
 
-  pub stands : (new : View) (mark : Mark) → AreAlike reads base J t (left_at last t Ckpt1) (left_at last t Ckpt2) → IsLeftBy t last old → IsFound reads old new mark found
-      → StandFor (run base (kept_at J t)) found ⊎ StandFor (run base (kept_at J t ++ flying_at J t)) found
-  stands new mark alike left is =
-      stand_by alike (⊎_elim
-      (λ b. seen_one reads alike.was alike.coming found Ckpt1 t last old new mark left alike.first is.one is.seen1 b.0)
-      (λ b. seen_one reads alike.was alike.coming found Ckpt2 t last old new mark left alike.second is.two is.seen2 b.0)
+  at_least : (bytes : List ℕ) → (bytes ≡ alike.was) ⊎ (alike.coming ≡ Some bytes) → level alike.was ≤ level bytes
+  at_least bytes which =
+      ⊎_elim
+      (λ e. let same : level bytes ≡ level alike.was = ap level e in omega (arith, same))
+      (λ e.
+      let next : (level bytes ≡ level alike.was + 1) × StandFor (run base (kept_at J t ++ flying_at J t)) bytes
+      = subst (λ (o : Option (List ℕ)). IfSome o (λ pages. (level pages ≡ level alike.was + 1) × StandFor (run base (kept_at J t ++ flying_at J t)) pages)) {y = Some bytes} e alike.comes in
+      let more = next.0 in
+      omega (arith, more))
+      which
+
+  -- the copy on a device was good, no act on it failed, and its pages can be used
+  pub record IsBeside (dev : Dev) (new : View) : Type 0 where
+    pub good : is_renewed_at (of_device dev rs) t ≡ false
+    pub there : old.lost (DiskPart dev) ≡ false
+    pub failed : Rose (old.faults (DiskPart dev)) (new.faults (DiskPart dev)) → ⊥
+    pub usable : (bytes : List ℕ) → reads (disk_now old dev).bytes ≡ Some bytes → (bytes ≡ alike.was) ⊎ (alike.coming ≡ Some bytes) → AreUsable bytes
+
+  -- so a start that saw it found no older pages beside it
+  not_older : (dev : Dev) (new : View) (mark : Mark) → IsLeftBy t last old → LeavesOnly (left_at last t dev) (λ image. IsReadBy (is_renewed_at (of_device dev rs) t) alike.was alike.coming (reads image)) → IsBeside dev new
+      → (seen : Option (List ℕ)) → IsSeen reads dev old new mark seen → ((bytes : List ℕ) → seen ≡ Some bytes → AreUsable bytes → level bytes ≤ level found) → level found < level alike.was → ⊥
+  not_older dev new mark left each beside seen is most older =
+      by_seen seen is most
+    where
+      read : IsOneOf alike.was alike.coming (reads (disk_now old dev).bytes)
+      read = good_one alike.was alike.coming reads (left_at last t dev) (is_renewed_at (of_device dev rs) t) beside.good each (disk_now old dev).bytes (image_of t last old dev left beside.there)
+
+      by_seen : (s : Option (List ℕ)) → IsSeen reads dev old new mark s → ((bytes : List ℕ) → s ≡ Some bytes → AreUsable bytes → level bytes ≤ level found) → ⊥
+      by_seen None was le = ⊎_elim (λ gone. beside.failed gone.failed) (λ none. subst (IsOneOf alike.was alike.coming) none read) was
+      by_seen (Some bytes) was le =
+          let one = one_of reads alike.was alike.coming bytes (reads (disk_now old dev).bytes) read was.1 in
+          let least = at_least bytes one in
+          let few = le bytes refl (beside.usable bytes was.1 one) in
+          absurd (omega (arith, older, least, few))
+
+  -- the pages found on a copy, beside another one
+  seen_by : (dev other : Dev) (new : View) (mark : Mark) → IsLeftBy t last old
+      → LeavesOnly (left_at last t dev) (λ image. IsReadBy (is_renewed_at (of_device dev rs) t) alike.was alike.coming (reads image))
+      → LeavesOnly (left_at last t other) (λ image. IsReadBy (is_renewed_at (of_device other rs) t) alike.was alike.coming (reads image))
+      → (is_renewed_at (of_device dev rs) t ≡ true → old.lost (DiskPart dev) ≡ false → IsBeside other new)
+      → (seen1 seen2 : Option (List ℕ)) → IsSeen reads dev old new mark seen1 → IsSeen reads other old new mark seen2 → seen1 ≡ Some found → ((bytes : List ℕ) → seen2 ≡ Some bytes → AreUsable bytes → level bytes ≤ level found)
+      → (found ≡ alike.was) ⊎ (alike.coming ≡ Some found)
+  seen_by dev other new mark left each also beside seen1 seen2 is1 is2 are most =
+      test_cases (is_renewed_at (of_device dev rs) t) ((found ≡ alike.was) ⊎ (alike.coming ≡ Some found))
+      (λ stale.
+      let so = none_of reads dev old new mark found seen1 is1 are in
+      let read : IsStale alike.was (Some found) = subst (IsStale alike.was) so.1 (stale_one alike.was alike.coming reads (left_at last t dev) (is_renewed_at (of_device dev rs) t) stale each (disk_now old dev).bytes (image_of t last old dev left so.0)) in
+      ⊎_elim (λ same. inl same) (λ older. absurd (not_older other new mark left also (beside stale so.0) seen2 is2 most older)) read)
+      (λ good. seen_one reads alike.was alike.coming found dev t last old new mark left (good_one alike.was alike.coming reads (left_at last t dev) (is_renewed_at (of_device dev rs) t) good each) seen1 is1 are)
+
+  pub stands : (new : View) (mark : Mark) → IsLeftBy t last old
+      → (is_renewed_at rs.first t ≡ true → old.lost (DiskPart Ckpt1) ≡ false → IsBeside Ckpt2 new) → (is_renewed_at rs.second t ≡ true → old.lost (DiskPart Ckpt2) ≡ false → IsBeside Ckpt1 new)
+      → IsFound reads old new mark found → StandFor (run base (kept_at J t)) found ⊎ StandFor (run base (kept_at J t ++ flying_at J t)) found
+  stands new mark left beside1 beside2 is =
+      stand_by (⊎_elim
+      (λ b. seen_by Ckpt1 Ckpt2 new mark left alike.first alike.second beside1 is.one is.two is.seen1 is.seen2 b.0 b.1)
+      (λ b. seen_by Ckpt2 Ckpt1 new mark left alike.second alike.first beside2 is.two is.one is.seen2 is.seen1 b.0 (λ bytes e usable. let lt = b.1 bytes e usable in omega (arith, lt)))
       is.best)
 
 -- the tables that pages spell tell the queue for which they stand

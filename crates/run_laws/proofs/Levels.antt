@@ -1,5 +1,5 @@
 -- The levels and orders that a run leaves.
-use Rattle.std.proofs.Common.{◌≡◌, ◌⊎◌, ⊎_elim, ℕ, ◌+◌, ◌*◌, ◌^◌, ◌≤◌, ◌<◌, Bool, true, false, List, length, Some, refl, sym, ◌∙◌, ap, subst, arith}
+use Rattle.std.proofs.Common.{◌≡◌, ⊎_elim, ℕ, ◌+◌, ◌*◌, ◌^◌, ◌≤◌, ◌<◌, Bool, true, false, List, length, Some, refl, sym, ◌∙◌, arith}
 use Rattle.mas_types.specs.declared.answers.Status.{Status}
 use Rattle.mas_types.specs.declared.ids.Dev.TheVariants.{Ckpt1, Ckpt2}
 use Rattle.mas_types.specs.declared.journals.Journal.{Journal}
@@ -11,11 +11,13 @@ use Rattle.ckpt_form.specs.Form.{form_reads}
 use Rattle.ckpt_copy.specs.Pages.{bytes_of, level}
 use Rattle.ckpt_pages.specs.Starts.{empty_tables}
 use Rattle.mas_complex.specs.Crash.{left_at, next_order, orders_most}
+use Rattle.mas_complex.specs.declared.renewals.Renewals.{Renewals}
+use Rattle.mas_complex.specs.Renewals.{is_renewed_at}
 use Rattle.mas_complex.specs.Headline.{AreLevelsLow}
 use Rattle.mas_complex.specs.Journals.{batches_kept, journal_most}
 use Rattle.mas_complex.proofs.Orders.{order_spelled}
 use Rattle.mas_complex.proofs.Rising.{kept_fewer}
-use Rattle.mas_run.specs.Runs.{IsRun, OneReadsThere}
+use Rattle.mas_run.specs.Runs.{IsRun, OneReadsThere, as_found}
 use Rattle.run_laws.specs.Beginning.{level_first, order_first}
 
 -- an image of a device that reads as pages reads as ones of a low level
@@ -37,7 +39,7 @@ pub record Begins (l order since : ℕ) (last : View) : Type 0 where
   pub there : OneReadsThere found since last
 
 pub first_there : (cold : Bool) (tells : Type 0) (script : Script) (answer : Status) (base : Queue) (J : Journal) (since : ℕ) (first last : View) → (was : IsRun cold tells script answer base J since first last) → tells
-    → Begins (level_first cold tells script first last since was.first base was.queue) (order_first cold tells script first last since was.first base was.queue) since last
+    → Begins (level_first cold tells script first (as_found was.lost last) since was.first base was.queue) (order_first cold tells script first (as_found was.lost last) since was.first base was.queue) since last
 first_there true tells script answer base J since first last was told =
     let f = was.formatted refl told in
     record {
@@ -48,7 +50,7 @@ first_there true tells script answer base J since first last was told =
     }
 first_there false tells script answer base J since first last was told = record { found = bytes_of was.queue.pages; at_level = refl; at_order = refl; there = was.queue.there told }
 
-module _ (since : ℕ) (J : Journal) (last : View) (levels : AreLevelsLow form_reads since J last) (few : length J.batches ≤ journal_most) (l order : ℕ) (b : Begins l order since last) (before : since < top) where
+module _ (since : ℕ) (J : Journal) (last : View) (rs : Renewals) (levels : AreLevelsLow form_reads since J rs last) (few : length J.batches ≤ journal_most) (l order : ℕ) (b : Begins l order since last) (before : since < top) where
   -- a device that isn't lost has its own bytes as an image
   first_is : (levels.first_level ≡ l) × (levels.first_order ≡ order)
   first_is =
@@ -72,14 +74,14 @@ module _ (since : ℕ) (J : Journal) (last : View) (levels : AreLevelsLow form_r
   low_order : order < 2 ^ 61 → (m n f o k : ℕ) → o ≡ order → k ≤ journal_most → n ≤ f + k + 1 → m + orders_most * f ≤ o + orders_most * n → m < 2 ^ 62
   low_order low m n f o k is few most near = omega (arith, low, is, few, most, near)
 
-  pub low_levels : l < 2 ^ 61 → (t : ℕ) → since ≤ t → t ≤ last.now → HasLevels (left_at last t Ckpt1) × HasLevels (left_at last t Ckpt2)
+  pub low_levels : l < 2 ^ 61 → (t : ℕ) → since ≤ t → t ≤ last.now → (is_renewed_at rs.first t ≡ false → HasLevels (left_at last t Ckpt1)) × (is_renewed_at rs.second t ≡ false → HasLevels (left_at last t Ckpt2))
   low_levels low t ge le = (
-    λ image is pages e. low_level low (level pages) levels.first_level (batches_kept J.batches) first_is.0 fewer (levels.most1 t ge le image is pages e).0,
-    λ image is pages e. low_level low (level pages) levels.first_level (batches_kept J.batches) first_is.0 fewer (levels.most2 t ge le image is pages e).0,
+    λ good image is pages e. low_level low (level pages) levels.first_level (batches_kept J.batches) first_is.0 fewer (levels.most1 t ge le good image is pages e).0,
+    λ good image is pages e. low_level low (level pages) levels.first_level (batches_kept J.batches) first_is.0 fewer (levels.most2 t ge le good image is pages e).0,
   )
 
-  pub low_orders : order < 2 ^ 61 → (t : ℕ) → since ≤ t → t ≤ last.now → HasOrders (left_at last t Ckpt1) × HasOrders (left_at last t Ckpt2)
+  pub low_orders : order < 2 ^ 61 → (t : ℕ) → since ≤ t → t ≤ last.now → (is_renewed_at rs.first t ≡ false → HasOrders (left_at last t Ckpt1)) × (is_renewed_at rs.second t ≡ false → HasOrders (left_at last t Ckpt2))
   low_orders low t ge le = (
-    λ image is pages e. let x = levels.most1 t ge le image is pages e in low_order low (next_order pages) (level pages) levels.first_level levels.first_order (batches_kept J.batches) first_is.1 fewer x.0 x.1,
-    λ image is pages e. let x = levels.most2 t ge le image is pages e in low_order low (next_order pages) (level pages) levels.first_level levels.first_order (batches_kept J.batches) first_is.1 fewer x.0 x.1,
+    λ good image is pages e. let x = levels.most1 t ge le good image is pages e in low_order low (next_order pages) (level pages) levels.first_level levels.first_order (batches_kept J.batches) first_is.1 fewer x.0 x.1,
+    λ good image is pages e. let x = levels.most2 t ge le good image is pages e in low_order low (next_order pages) (level pages) levels.first_level levels.first_order (batches_kept J.batches) first_is.1 fewer x.0 x.1,
   )

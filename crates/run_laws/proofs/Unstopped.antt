@@ -1,5 +1,5 @@
 -- A run in which no stop of a member is armed.
-use Rattle.std.proofs.Common.{◌≡◌, ℕ, ◌+◌, ◌==◌, ◌&&◌, Bool, true, false, if◌then◌else◌, List, [], ◌∷◌, drop, All, refl, ◌∙◌, ap}
+use Rattle.std.proofs.Common.{◌≡◌, ℕ, ◌+◌, ◌==◌, ◌&&◌, Bool, true, false, if◌then◌else◌, List, [], ◌∷◌, drop, All, refl, ◌∙◌}
 use Rattle.std.proofs.lemmas.Bool.{ne_eqb}
 use Rattle.std.proofs.lemmas.List.Elements.{All-head, All-tail}
 use Rattle.mas_types.specs.declared.ids.MemberId.{MemberId}
@@ -7,7 +7,6 @@ use Rattle.script_lang.specs.declared.types.Ask.{Ask}
 use Rattle.script_lang.specs.declared.types.Ask.TheVariants as ask
 use Rattle.script_lang.specs.declared.types.Step.{Step}
 use Rattle.spool_disk.specs.Acts.{next}
-use Rattle.spool_disk.specs.View.{View}
 use Rattle.run_turns.specs.Scenes.{Scene, scene_of}
 use Rattle.run_turns.specs.Steps.{is_up}
 use Rattle.run_turns.specs.Runs.{scene_if}

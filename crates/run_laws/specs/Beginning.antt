@@ -9,7 +9,7 @@ use Rattle.mas_types.specs.declared.queues.Config.{Config}
 use Rattle.mas_types.specs.declared.queues.Queue.{Queue}
 use Rattle.script_lang.specs.declared.types.Script.{Script}
 use Rattle.spool_disk.specs.declared.plant.Part.TheVariants.{Disk as DiskPart}
-use Rattle.spool_disk.specs.Acts.{top}
+use Rattle.spool_disk.specs.Acts.{Rose, top}
 use Rattle.spool_disk.specs.View.{View, disk_now}
 use Rattle.ckpt_form.specs.Form.{form_reads, form_needs}
 use Rattle.ckpt_copy.specs.Pages.{bytes_of, level}
@@ -17,12 +17,14 @@ use Rattle.ckpt_pages.specs.declared.tables.Tables.{Tables}
 use Rattle.ckpt_pages.specs.Checkpoints.{IsCheckpoint}
 use Rattle.ckpt_pages.specs.Shape.{page_count}
 use Rattle.mas_complex.specs.Crash.{next_order}
+use Rattle.mas_complex.specs.declared.renewals.Renewals.{Renewals}
+use Rattle.mas_complex.specs.Renewals.{is_renewed_at, of_device}
 use Rattle.spool_volumes.specs.Volumes.{AreRoomy}
 use Rattle.warm_start.specs.Starting.{NoneOrFailed, OnlyLookedAtAll, WasTaken}
-use Rattle.warm_start.specs.Usable.{HaveSize}
+use Rattle.start_choice.specs.Usable.{HaveSize}
 use Rattle.mas_run.specs.Lines.{Proceeds}
 use Rattle.mas_run.specs.Runs.{has_begun, Begins, HasBase}
-use Rattle.mas_run.specs.Statuses.{IsCaused}
+use Rattle.mas_run.specs.Statuses.{IsCaused, LeavesLost}
 use Rattle.mas_run.specs.Unstarted.{IsNotStarted}
 
 -- WHAT IS LEFT
@@ -61,6 +63,23 @@ pub record BothLow (l order since : ℕ) (v : View) : Type 0 where
   pub second : v.lost (DiskPart Ckpt2) ≡ false → (bytes : List ℕ) → form_reads (disk_now v Ckpt2).bytes ≡ Some bytes
       → AreLow l order since bytes
 
+-- A copy was good at a moment of a run, is left with levels and orders to go on, and the next run doesn't lose it: no
+-- act on it fails there, and where that run doesn't begin its device isn't lost at the end.
+pub record IsGoodLeft (rs : Renewals) (t l order since : ℕ) (begun : Bool) (dev : Dev) (old new : View) : Type 0 where
+  pub good : is_renewed_at (of_device dev rs) t ≡ false
+  pub there : old.lost (DiskPart dev) ≡ false
+  pub low : (bytes : List ℕ) → form_reads (disk_now old dev).bytes ≡ Some bytes → AreLow l order since bytes
+  pub failed : Rose (old.faults (DiskPart dev)) (new.faults (DiskPart dev)) → ⊥
+  pub stays : begun ≡ false → new.lost (DiskPart dev) ≡ false
+
+-- Where a copy is left that was being replaced at the moment, the other one was good. Else the next run may find on it
+-- pages that are older. Where no copy is replaced this says nothing.
+pub record AreGoodLeft (rs : Renewals) (t l order since : ℕ) (begun : Bool) (old new : View) : Type 0 where
+  pub first : is_renewed_at rs.first t ≡ true → old.lost (DiskPart Ckpt1) ≡ false
+      → IsGoodLeft rs t l order since begun Ckpt2 old new
+  pub second : is_renewed_at rs.second t ≡ true → old.lost (DiskPart Ckpt2) ≡ false
+      → IsGoodLeft rs t l order since begun Ckpt1 old new
+
 -- the devices are as large as a configuration asks
 pub record AreLarge (config : Config) (v : View) : Type 0 where
   pub first : form_needs (page_count config) ≤ v.size Ckpt1
@@ -75,6 +94,7 @@ pub record HasEnded (tells : Type 0) (ends : Status) (found : Queue) (old new : 
   pub unstarted : has_begun found ≡ false → IsNotStarted tells ends old new
   pub untouched : has_begun found ≡ false → (ends ≡ status.BothLost) ⊎ ((new ≡ old) ⊎ (tells → OnlyLookedAtAll old new))
   pub cause : IsCaused ends old new
+  pub lost : has_begun found ≡ false → LeavesLost ends old new
   pub goes : Proceeds old new
 
 -- What hinders a run from beginning is not what stands on the copies, nor a device's size: its words, its script or

@@ -8,10 +8,10 @@ use Rattle.script_lang.specs.declared.types.Script.{Script}
 use Rattle.spool_disk.specs.View.{View}
 use Rattle.mas_complex.specs.Meaning.{run}
 use Rattle.mas_complex.specs.Texts.{lost_now}
-use Rattle.mas_run.specs.Runs.{has_begun, IsRun}
+use Rattle.mas_run.specs.Runs.{has_begun, as_found, IsRun}
 use Rattle.run_laws.specs.Left.{IsLeftBy}
 use Rattle.run_laws.specs.Again.{IsQueueAgain}
-use Rattle.run_laws.specs.Beginning.{level_first, order_first, AreLarge, BothLow, HasEnded, IsHindered}
+use Rattle.run_laws.specs.Beginning.{level_first, order_first, AreGoodLeft, AreLarge, BothLow, HasEnded, IsHindered}
 
 -- the volumes that are lost at the end of one run or of the next
 abbrev pub lost_in : View → View → ℕ → Bool
@@ -30,8 +30,19 @@ GoesOn l order since base J t last ends found old new =
     ((has_begun found ≡ true) × ∥ IsQueueOf (lost_in last new) base J t found ∥₁)
     ⊎ ((has_begun found ≡ false) × (BothLow l order since old → AreLarge base.config old → IsHindered ends old new))
 
+-- the level and the next order with which a run began
+abbrev pub level_of : {cold : Bool} {tells : Type 0} {script : Script} {answer : Status} {base : Queue} {J : Journal}
+    {since : ℕ} {old new : View} → IsRun cold tells script answer base J since old new → ℕ
+level_of {cold} {tells} {script} {answer} {base} {J} {since} {old} {new} was =
+    level_first cold tells script old (as_found was.lost new) since was.first base was.queue
+
+abbrev pub order_of : {cold : Bool} {tells : Type 0} {script : Script} {answer : Status} {base : Queue} {J : Journal}
+    {since : ℕ} {old new : View} → IsRun cold tells script answer base J since old new → ℕ
+order_of {cold} {tells} {script} {answer} {base} {J} {since} {old} {new} was =
+    order_first cold tells script old (as_found was.lost new) since was.first base was.queue
+
 -- A run was played, cold or warm, and at a moment of it a crash left what a plant shows. A warm run on that plant goes
--- on so, whatever its contract says of it.
+-- on so, whatever its contract says of it, where beside each copy that was being replaced then a good one is left.
 abbrev pub FindsWhatIsLeft : Type 0 → Type 0 → Type 0
 FindsWhatIsLeft first_tells next_tells =
     first_tells → next_tells
@@ -39,8 +50,7 @@ FindsWhatIsLeft first_tells next_tells =
     (since from t : ℕ) (first last old new : View)
     → (was : IsRun cold first_tells script answer base J since first last) → since ≤ t → t ≤ last.now
     → IsLeftBy t last old
+    → AreGoodLeft was.steps.renewals t (level_of was) (order_of was) since (has_begun found) old new
     → HasEnded next_tells ends found old new
     → (has_begun found ≡ true → IsRun false next_tells next ends found K from old new)
-    → GoesOn (level_first cold first_tells script first last since was.first base was.queue)
-    (order_first cold first_tells script first last since was.first base was.queue) since base J t last ends found old
-    new
+    → GoesOn (level_of was) (order_of was) since base J t last ends found old new

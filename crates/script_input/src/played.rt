@@ -35,7 +35,7 @@ fn is_built(step: &Step) -> bool
 {
     match &step.what {
         Ask::Command(command) => is_typed(command),
-        Ask::Line(_) | Ask::Replace(_) => false,
+        Ask::Line(_) => false,
         _ => true,
     }
 }

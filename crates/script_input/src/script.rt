@@ -16,8 +16,8 @@ use std::alloc::Global;
 /// `only` is true.
 ///
 /// `BadLine` of what the whole language of scripts refuses, at the least such line by the first of its causes. Where it
-/// refuses no line, `BadLine` at the least line of a step that is not played so far, by the cause NotBuilt: LINE, REPLACE,
-/// and a command that no operator types. `TooLong` exactly where there are over 16,777,216 bytes. NoMemory comes only
+/// refuses no line, `BadLine` at the least line of a step that is not played so far, by the cause NotBuilt: LINE, and a
+/// command that no operator types. `TooLong` exactly where there are over 16,777,216 bytes. NoMemory comes only
 /// when out of memory.
 pub fn read_script(alloc: Global, bytes: &[u8], cold: bool, only: bool) -> Result<Script, ScriptNo>
     ensures said { ComesTo result (read_as (record { cold = cold; race = false; only = only }) bytes.now) }

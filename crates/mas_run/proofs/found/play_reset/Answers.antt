@@ -3,9 +3,12 @@ use Rattle.mas_types.specs.declared.queues.Config.{Config}
 use Rattle.mas_types.specs.declared.queues.Queue.{Queue}
 use Rattle.mas_types.specs.Limits.{pages_most}
 use Rattle.lock_cycle.specs.Books.{Book}
-use Rattle.ckpt_form.specs.Form.{form_reads}
+use Rattle.ckpt_form.specs.Form.{form_needs, form_reads}
+use Rattle.mas_types.specs.declared.ids.Dev.TheVariants.{Ckpt1, Ckpt2}
 use Rattle.ckpt_pages.specs.Shape.{page_count}
 use Rattle.mas_complex.specs.Headline.{Headline}
+use Rattle.mas_complex.specs.declared.renewals.Renewals.{Renewals}
+use Rattle.mas_complex.specs.Renewals.{is_open, no_renewals}
 use Rattle.mas_complex.specs.Journals.{fated}
 use Rattle.mas_types.specs.declared.journals.Fate.TheVariants.{Kept}
 use Rattle.mas_complex.specs.Locking.{book_of}
@@ -35,16 +38,17 @@ returns-in_default-clause-steps g c =
     let v = P.view x.plant in
     let e = c.ended.ensures in
     let J = c.ended.result.journal in
-    let head : P.tells → ∥ Headline form_reads x.base x.since J v ∥₁ = λ t. rw (e.base, e.since, e.plant) at (e.headline t) in
+    let head : P.tells → ∥ Headline form_reads x.base x.since J no_renewals v ∥₁ = λ t. rw (e.base, e.since, e.plant, c.requires.unrenewed) at (e.headline t) in
     let none : J.batches ≡ [] = e.journal ∙ none_out x.journal.batches x.journal.batches x.placed x.current refl c.requires.unplaced c.requires.none ∙ c.requires.journal in
     rw (e.status, e.base, e.since, e.plant)
-    (reset_ended {T = Unit {0}} P.tells c.args.lines.now x.base J x.since v v x.pair.first.alive x.pair.first.alive x.pair.second.alive x.pair.second.alive no_node.NoMemory c.requires.base_sound c.requires.since c.requires.some c.requires.there1 c.requires.there2 head
+    (reset_ended {T = Unit {0}} P.tells c.args.lines.now x.base J x.since v v x.pair.first.alive x.pair.first.alive x.pair.second.alive x.pair.second.alive no_node.NoMemory c.requires.base_sound c.requires.since c.requires.some c.requires.there1 c.requires.there2
+    (λ dead. x.first_lost dead (ap (λ (rs : Renewals). is_open rs.first) c.requires.unrenewed)) (λ dead. x.second_lost dead (ap (λ (rs : Renewals). is_open rs.second) c.requires.unrenewed)) head
     (reset_none P.tells J.batches x.pair.first.alive x.pair.first.alive x.pair.second.alive x.pair.second.alive v v (settle_none P.tells x.pair.first.alive x.pair.second.alive v c.requires.some) none))
 
 pub returns-in_default-clause-cause : goal.returns-in_default-clause-cause
 returns-in_default-clause-cause g c =
     let e = c.ended.ensures in
-    rw (e.status, e.plant) (record { lost = λ is. absurd (cc); failed1 = λ is was. absurd (cc); failed2 = λ is was. absurd (cc); console = λ is. absurd (cc) })
+    rw (e.status, e.plant) (record { failed1 = λ is was. absurd (cc); failed2 = λ is was. absurd (cc); console = λ is. absurd (cc) })
 
 pub returns-in_default-clause-goes : goal.returns-in_default-clause-goes
 returns-in_default-clause-goes g c = rw c.ended.ensures.plant (proceeds_none (g.P.Plant.view c.args.found.complex.plant))
@@ -61,16 +65,17 @@ returns-in_default-with-clause-steps g c =
     let v = P.view x.plant in
     let e = c.ended-in_default-with.ensures in
     let J = c.ended-in_default-with.result.journal in
-    let head : P.tells → ∥ Headline form_reads x.base x.since J v ∥₁ = λ t. rw (e.base, e.since, e.plant) at (e.headline t) in
+    let head : P.tells → ∥ Headline form_reads x.base x.since J no_renewals v ∥₁ = λ t. rw (e.base, e.since, e.plant, c.requires.unrenewed) at (e.headline t) in
     let none : J.batches ≡ [] = e.journal ∙ none_out x.journal.batches x.journal.batches x.placed x.current refl c.requires.unplaced c.requires.none ∙ c.requires.journal in
     rw (e.status, e.base, e.since, e.plant)
-    (reset_ended {T = Unit {0}} P.tells c.args.lines.now x.base J x.since v v x.pair.first.alive x.pair.first.alive x.pair.second.alive x.pair.second.alive no_node.NoMemory c.requires.base_sound c.requires.since c.requires.some c.requires.there1 c.requires.there2 head
+    (reset_ended {T = Unit {0}} P.tells c.args.lines.now x.base J x.since v v x.pair.first.alive x.pair.first.alive x.pair.second.alive x.pair.second.alive no_node.NoMemory c.requires.base_sound c.requires.since c.requires.some c.requires.there1 c.requires.there2
+    (λ dead. x.first_lost dead (ap (λ (rs : Renewals). is_open rs.first) c.requires.unrenewed)) (λ dead. x.second_lost dead (ap (λ (rs : Renewals). is_open rs.second) c.requires.unrenewed)) head
     (reset_none P.tells J.batches x.pair.first.alive x.pair.first.alive x.pair.second.alive x.pair.second.alive v v (settle_none P.tells x.pair.first.alive x.pair.second.alive v c.requires.some) none))
 
 pub returns-in_default-with-clause-cause : goal.returns-in_default-with-clause-cause
 returns-in_default-with-clause-cause g c =
     let e = c.ended-in_default-with.ensures in
-    rw (e.status, e.plant) (record { lost = λ is. absurd (cc); failed1 = λ is was. absurd (cc); failed2 = λ is was. absurd (cc); console = λ is. absurd (cc) })
+    rw (e.status, e.plant) (record { failed1 = λ is was. absurd (cc); failed2 = λ is was. absurd (cc); console = λ is. absurd (cc) })
 
 pub returns-in_default-with-clause-goes : goal.returns-in_default-with-clause-goes
 returns-in_default-with-clause-goes g c = rw c.ended-in_default-with.ensures.plant (proceeds_none (g.P.Plant.view c.args.found.complex.plant))
@@ -128,9 +133,10 @@ returns-in-Err-clause-steps g c =
     let e = c.ended-in-Err.ensures in
     let k = c.in-Err.ensures in
     let J = c.ended-in-Err.result.journal in
-    let head : P.tells → ∥ Headline form_reads x.base x.since J w ∥₁ = λ t. rw (e.base, e.since, e.plant, k.base, k.since) at (e.headline t) in
+    let head : P.tells → ∥ Headline form_reads x.base x.since J no_renewals w ∥₁ = λ t. rw (e.base, e.since, e.plant, k.base, k.since, k.renewals, c.requires.unrenewed) at (e.headline t) in
     rw (e.status, c.status_of.ensures, e.base, e.since, e.plant, k.base, k.since)
-    (reset_ended {T = Unit {0}} P.tells c.args.lines.now x.base J x.since v w x.pair.first.alive y.pair.first.alive x.pair.second.alive y.pair.second.alive c.in-Err.why c.requires.base_sound c.requires.since c.requires.some c.requires.there1 c.requires.there2 head
+    (reset_ended {T = Unit {0}} P.tells c.args.lines.now x.base J x.since v w x.pair.first.alive y.pair.first.alive x.pair.second.alive y.pair.second.alive c.in-Err.why c.requires.base_sound c.requires.since c.requires.some c.requires.there1 c.requires.there2
+    (λ dead. y.first_lost dead (ap (λ (rs : Renewals). is_open rs.first) (k.renewals ∙ c.requires.unrenewed))) (λ dead. y.second_lost dead (ap (λ (rs : Renewals). is_open rs.second) (k.renewals ∙ c.requires.unrenewed))) head
     (rw e.journal k.reset))
 
 pub returns-in-Err-clause-kind : goal.returns-in-Err-clause-kind
@@ -143,7 +149,7 @@ returns-in-Err-clause-cause g c =
     let y = c.restart.new.complex in
     let e = c.ended-in-Err.ensures in
     rw (e.status, c.status_of.ensures, e.plant)
-    (reset_caused {T = Unit {0}} P.tells _ x.pair.first.alive y.pair.first.alive x.pair.second.alive y.pair.second.alive (P.view x.plant) (P.view y.plant) c.in-Err.why c.in-Err.ensures.reset y.first_lost y.second_lost)
+    (reset_caused {T = Unit {0}} P.tells _ x.pair.first.alive y.pair.first.alive x.pair.second.alive y.pair.second.alive (P.view x.plant) (P.view y.plant) c.in-Err.why c.in-Err.ensures.reset)
 
 pub returns-in-Err-clause-goes : goal.returns-in-Err-clause-goes
 returns-in-Err-clause-goes g c =
@@ -173,7 +179,12 @@ play_asked-requires-clause-between g c =
     lines_between y book c.in-Ok.members (rw k.base c.requires.config) (rw k.base c.requires.base_sound) fresh (subst (λ (n : ℕ). QuietFor y n) many k.quiet)
     (untold_since y v (k.since ∙ c.requires.since) k.reset.course.goes (λ t. (k.reset.apart t).console))
     (one_earlier (fated Kept r.1 (restart_at r.0)) y.journal.batches y.current (sym out ∙ r.5) k.quiet.none (restart_earlier (fated Kept r.1 (restart_at r.0)) refl))
-    k.quiet.kept
+    k.quiet.kept (
+      subst (λ (n : Config). form_needs (page_count n) ≤ (P.view y.plant).size Ckpt1) (sym config)
+          (subst (λ (n : ℕ). form_needs (page_count x.base.config) ≤ n) (sym (k.reset.course.goes.size Ckpt1)) c.requires.large.0),
+      subst (λ (n : Config). form_needs (page_count n) ≤ (P.view y.plant).size Ckpt2) (sym config)
+          (subst (λ (n : ℕ). form_needs (page_count x.base.config) ≤ n) (sym (k.reset.course.goes.size Ckpt2)) c.requires.large.1),
+    )
 
 pub play_asked-requires-clause-shows : goal.play_asked-requires-clause-shows
 play_asked-requires-clause-shows g c =
@@ -184,6 +195,9 @@ play_asked-requires-clause-shows g c =
 
 pub play_asked-requires-clause-settled : goal.play_asked-requires-clause-settled
 play_asked-requires-clause-settled g c = c.in-Ok-restart.ensures.quiet.kept
+
+pub play_asked-requires-clause-unrenewed : goal.play_asked-requires-clause-unrenewed
+play_asked-requires-clause-unrenewed g c = c.in-Ok-restart.ensures.renewals ∙ c.requires.unrenewed
 
 pub play_asked-requires-clause-some : goal.play_asked-requires-clause-some
 play_asked-requires-clause-some g c = c.in-Ok-restart.ensures.reset.ends.1

@@ -22,10 +22,10 @@ use Rattle.warm_start.proofs.Spooling.{steady_first}
 use Rattle.member_node.specs.Calls.{console_now}
 use Rattle.member_node.proofs.CourseLemmas.{left}
 use Rattle.mas_run.specs.Lines.{Proceeds}
-use Rattle.mas_run.specs.Runs.{HasSteps}
+use Rattle.mas_run.specs.Runs.{HasSteps, as_found}
 use Rattle.mas_run.proofs.PassedLemmas.{proceeds_of, proceeds_on}
-use Rattle.mas_run.proofs.RunLemmas.{reads_there, steps_since, unarmed}
-use Rattle.mas_run.proofs.WarmLemmas.{gone_on, texts_later, found_drawn, found_begun, not_source, not_text, play_not_text, play_not_source, play_begins, not_begun, why_not_lost, not_started, start_caused, starts_first, start_causes, held_until, held_whole, no}
+use Rattle.mas_run.proofs.RunLemmas.{ever_on, lost_ever, reads_there, steps_since, unarmed, unarmed_view}
+use Rattle.mas_run.proofs.WarmLemmas.{gone_on, texts_later, found_drawn, found_begun, not_source, not_text, play_not_text, play_not_source, play_begins, not_begun, why_not_lost, not_started, start_caused, start_leaves, starts_first, start_causes, held_until, held_whole, no}
 use Rattle.mas_run.proofs.SpokenLemmas.{roomy_on}
 use Rattle.mas_run.proofs.PaperLemmas.{papers_of}
 use Rattle.mas_run.proofs.found.play_warm.Goals as goal
@@ -69,6 +69,10 @@ returns-in-Err-clause-unprinted g c told none = rw c.unbegun.ensures.plant (held
 pub returns-in-Err-clause-goes : goal.returns-in-Err-clause-goes
 returns-in-Err-clause-goes g c = rw c.unbegun.ensures.plant (proceeds_of (g.P.Plant.view c.args.plant) (g.P.Plant.view c.in-Err.field-0.plant) c.in-Err.ensures.goes)
 
+pub returns-in-Err-clause-lost : goal.returns-in-Err-clause-lost
+returns-in-Err-clause-lost g c none = rw (c.unbegun.ensures.status, c.status_of_start.ensures, c.unbegun.ensures.plant)
+    (start_leaves c.in-Err.field-0.why (g.P.Plant.view c.args.plant) (g.P.Plant.view c.in-Err.field-0.plant) c.in-Err.ensures.goes c.in-Err.ensures.lost)
+
 pub returns-in-Err-clause-arms : goal.returns-in-Err-clause-arms
 returns-in-Err-clause-arms g c none m = rw c.unbegun.ensures.plant (c.in-Err.ensures.goes.arms m)
 
@@ -86,6 +90,16 @@ play_reset-requires-clause-roomy g c told =
     let x = c.in-Ok.found.complex in
     let s = c.in-Ok.ensures.started in
     subst (AreRoomy (P.view x.plant)) (sym s.tells_base.config) s.roomy
+
+pub play_reset-requires-clause-large : goal.play_reset-requires-clause-large
+play_reset-requires-clause-large g c =
+    let P = g.P.Plant in
+    let x = c.in-Ok.found.complex in
+    let s = c.in-Ok.ensures.started in
+    let many : form_needs (length c.in-Ok.found.pages) ≡ form_needs (page_count x.base.config) = ap form_needs s.usable.0.spell.count ∙ ap (λ (k : Config). form_needs (page_count k)) (sym s.tells_base.config) in (
+      subst (λ (n : ℕ). n ≤ (P.view x.plant).size Ckpt1) many (subst (λ (n : ℕ). form_needs (length c.in-Ok.found.pages) ≤ n) (sym (s.starts.goes.size Ckpt1)) s.large1),
+      subst (λ (n : ℕ). n ≤ (P.view x.plant).size Ckpt2) many (subst (λ (n : ℕ). form_needs (length c.in-Ok.found.pages) ≤ n) (sym (s.starts.goes.size Ckpt2)) s.large2),
+    )
 
 pub play_reset-requires-clause-drawn : goal.play_reset-requires-clause-drawn
 play_reset-requires-clause-drawn g c =
@@ -199,6 +213,12 @@ returns-clause-arms g c none =
     let base : Tell c.in-Ok.found.tables c.play_reset.result.base = subst (Tell c.in-Ok.found.tables) (sym c.play_reset.ensures.base) s.tells_base in
     absurd (no c.play_reset.result.base (found_begun c.in-Ok.found.pages c.in-Ok.found.tables c.play_reset.result.base s.usable base) none)
 
+pub returns-clause-lost : goal.returns-clause-lost
+returns-clause-lost g c none =
+    let s = c.in-Ok.ensures.started in
+    let base : Tell c.in-Ok.found.tables c.play_reset.result.base = subst (Tell c.in-Ok.found.tables) (sym c.play_reset.ensures.base) s.tells_base in
+    absurd (no c.play_reset.result.base (found_begun c.in-Ok.found.pages c.in-Ok.found.tables c.play_reset.result.base s.usable base) none)
+
 pub returns-clause-volumes : goal.returns-clause-volumes
 returns-clause-volumes g c told none =
     let s = c.in-Ok.ensures.started in
@@ -245,6 +265,8 @@ returns-clause-run g c begun =
     record {
       first = v1.loses;
       before = starts_first x.pair.first.alive x.pair.second.alive v0 v1 s.starts;
+      lost = lost_ever v1 v2;
+      lost_on = λ dev none. ever_on v1 v2 dev (steps.stays dev none);
       queue = record {
         pages = w.pages;
         tables = w.tables;
@@ -254,21 +276,21 @@ returns-clause-run g c begun =
         texts = λ t. rw since (subst (λ (Q : Queue). HasTexts (lost_now v2) (spools_at v2 v1.now) Q.config.groups Q) (sym base0)
             (subst (λ (k : Config). HasTexts (lost_now v2) (spools_at v2 v1.now) k.groups x.base) (sym s.tells_base.config) (texts_later v1 v2 w.tables.config.groups x.base goes (s.texts t))));
         given = λ t steady.
-            let here : IsSteady v0 v1 = steady_first v0 v1 (record v2 { arms = v1.arms }) s.starts.goes (unarmed v1 v2 goes) steady in
+            let here : IsSteady v0 v1 = steady_first v0 v1 (unarmed_view v1 v2) s.starts.goes (unarmed v1 v2 goes) steady in
             let was : AreGiven v0 w.tables.config.groups x.base = given_before w.tables.config.groups x.base (IsHeld form_reads (disk_now v0 Ckpt1) (bytes_of w.pages)) (IsHeld form_reads (disk_now v0 Ckpt2) (bytes_of w.pages)) v0 v1 (s.held t) here (s.given t here) in
             subst (λ (Q : Queue). AreGiven v0 Q.config.groups Q) (sym base0) (subst (λ (k : Config). AreGiven v0 k.groups x.base) (sym s.tells_base.config) was);
-        found = λ t. rw since (found_later form_reads v0 v1 v2 (mark_of v1) (mark_of v1) (bytes_of w.pages) gone1 gone2 (s.found t));
+        found = λ t. rw since (found_later form_reads v0 v1 (as_found (lost_ever v1 v2) v2) (mark_of v1) (mark_of v1) (bytes_of w.pages) gone1 gone2 (s.found t));
         one = s.one;
-        kept1 = λ t. rw since (⊎_elim inl (λ y. inr (unfit_later form_reads Ckpt1 v0 v1 v2 (mark_of v1) (mark_of v1) (form_room (disk_now v0 Ckpt1).bytes) w.pages gone1 y)) (s.kept1 t));
-        held = λ t. rw since (held_until v0 v1 v2 (bytes_of w.pages) goes (s.held t));
+        kept1 = λ t. rw since (⊎_elim inl (λ y. inr (unfit_later form_reads Ckpt1 v0 v1 (as_found (lost_ever v1 v2) v2) (mark_of v1) (mark_of v1) (form_room (disk_now v0 Ckpt1).bytes) w.pages gone1 y)) (s.kept1 t));
+        held = λ t. rw since (let h = held_until v0 v1 v2 (bytes_of w.pages) goes (s.held t) in record { first = h.first; second = h.second });
         there = λ t. rw since (left x.pair.first.alive x.pair.second.alive s.some
             (λ is. reads_there Ckpt1 (bytes_of w.pages) v1 v2 goes (g.met.P.Plant.there x.plant t Ckpt1 (s.starts.there1 is)) (s.reads1 t is))
             (λ is. reads_there Ckpt2 (bytes_of w.pages) v1 v2 goes (g.met.P.Plant.there x.plant t Ckpt2 (s.starts.there2 is)) (s.reads2 t is)));
-        kept2 = λ t. rw since (⊎_elim inl (λ y. inr (unfit_later form_reads Ckpt2 v0 v1 v2 (mark_of v1) (mark_of v1) (form_room (disk_now v0 Ckpt2).bytes) w.pages gone2 y)) (s.kept2 t));
+        kept2 = λ t. rw since (⊎_elim inl (λ y. inr (unfit_later form_reads Ckpt2 v0 v1 (as_found (lost_ever v1 v2) v2) (mark_of v1) (mark_of v1) (form_room (disk_now v0 Ckpt2).bytes) w.pages gone2 y)) (s.kept2 t));
       };
       sound = subst IsSound (sym base0) s.base_sound;
       moment = (omega (arith, since, s.starts.goes.later), omega (arith, since, goes.later));
-      fresh = λ t. rw (base0, since) (∥∥₁_map (f.fresh t) (λ k. rw f.since at (k (record v2 { arms = v1.arms }) (unarmed v1 v2 goes))));
+      fresh = λ t. rw (base0, since) (∥∥₁_map (f.fresh t) (λ k. rw f.since at (k (unarmed_view v1 v2) (unarmed v1 v2 goes))));
       formatted = λ cold. absurd (cc);
       quiet = λ t. ap (λ (n : ℕ). (v2.world n).console) since ∙ ap (λ (u : World). u.console) (goes.past v1.now (omega arith)) ∙ quiet t;
       dry = λ t. rw since (subst (λ (u : World). SameSides (v0.world v0.now) u) (sym (goes.past v1.now (omega arith))) ((s.held t).sides v1.now s.starts.goes.later (omega arith)));

@@ -1,13 +1,14 @@
 use Rattle.std.proofs.Common.{◌≡◌}
 use Rattle.ckpt_form.specs.Form.{form_reads}
 use Rattle.mas_complex.specs.Headline.{Headline}
+use Rattle.mas_complex.specs.Renewals.{no_renewals}
 use Rattle.mas_complex.specs.Journals.{kept_all}
 use Rattle.mas_complex.specs.Meaning.{run}
 use Rattle.mas_complex.specs.Parts.{parts_of}
 use Rattle.member_sittings.specs.Sat.{journal_of}
 use Rattle.run_turns.specs.Scenes.{Scene, scene_of}
 use Rattle.mas_run.proofs.MemberRunLemmas.{lines_failed, lines_passed, nothing_out, shown_bare}
-use Rattle.mas_run.proofs.RunLemmas.{caused_by_lines, play_of_lines, there_after}
+use Rattle.mas_run.proofs.RunLemmas.{away_after, caused_by_lines, play_of_lines, there_after}
 use Rattle.mas_run.proofs.play.play_asked.Goals as goal
 
 pub returns-clause-play : goal.returns-clause-play
@@ -24,12 +25,13 @@ returns-clause-play g c =
     let steps = c.args.lines.now in
     let S : Scene = scene_of (run x.base (kept_all x.journal.batches)) in
     let none : journal_of (parts_of x) ≡ x.journal.batches = nothing_out x.journal.batches x.placed x.book x.current c.requires.between.stands c.requires.shows.flight in
-    let head : P.tells → ∥ Headline form_reads x.base x.since J w ∥₁ = λ t. rw (e.base, e.since, e.plant, d.base, d.since) at (e.headline t) in
+    let head : P.tells → ∥ Headline form_reads x.base x.since J y.renewals w ∥₁ = λ t. rw (e.base, e.since, e.plant, d.base, d.since) at (e.headline t) in
     rw (e.status, c.status_of.ensures, e.base, e.since, e.plant, d.base, d.since)
-    (play_of_lines P.tells steps x.base x.journal.batches v.now J x.since v w r d.played.many c.requires.settled c.requires.between.sound head
+    (play_of_lines P.tells steps x.base x.journal.batches v.now J y.renewals x.since v w r d.played.many c.requires.settled c.requires.between.sound head
+    (away_after P (parts_of x) (parts_of y) r d.copies y.first_lost y.second_lost)
     (there_after P (parts_of x) (parts_of y) r d.copies c.requires.some c.requires.there1 c.requires.there2)
-    (lines_passed x y S ⊥ steps d.played.many r d.played.bare (shown_bare x y S (Unit {0}) c.requires.shows) x.journal.batches J.batches none e.journal)
-    (λ t. lines_passed x y S (Unit {0}) steps d.played.many r (d.played.told t) c.requires.shows x.journal.batches J.batches none e.journal))
+    (lines_passed x y S ⊥ steps d.played.many r d.played.bare (shown_bare x y S (Unit {0}) c.requires.shows) x.journal.batches J.batches no_renewals none c.requires.unrenewed e.journal)
+    (λ t. lines_passed x y S (Unit {0}) steps d.played.many r (d.played.told t) c.requires.shows x.journal.batches J.batches no_renewals none c.requires.unrenewed e.journal))
 
 pub returns-clause-cause : goal.returns-clause-cause
 returns-clause-cause g c =
@@ -42,7 +44,7 @@ returns-clause-cause g c =
     let S : Scene = scene_of (run x.base (kept_all x.journal.batches)) in
     rw (e.status, c.status_of.ensures, e.plant)
     (caused_by_lines P (parts_of x) (parts_of y) r d.copies
-    (lines_failed x y S ⊥ c.args.lines.now d.played.many r d.played.bare (shown_bare x y S (Unit {0}) c.requires.shows)) y.first_lost y.second_lost)
+    (lines_failed x y S ⊥ c.args.lines.now d.played.many r d.played.bare (shown_bare x y S (Unit {0}) c.requires.shows)))
 
 pub returns-clause-goes : goal.returns-clause-goes
 returns-clause-goes g c = rw c.ended.ensures.plant c.play_lines-answer.ensures.copies.goes

@@ -1,11 +1,11 @@
-use Rattle.std.proofs.Common.{◌≡◌, ◌∙◌, ℕ, true, false, List, Err, length, refl, sym, ap, subst, arith}
+use Rattle.std.proofs.Common.{◌≡◌, ◌∙◌, ℕ, ◌≤◌, true, false, List, Err, length, refl, sym, ap, subst, arith}
 use Rattle.std.proofs.Math.Logic.{∥∥₁_map}
 use Rattle.mas_types.specs.declared.ids.Dev.TheVariants.{Ckpt1, Ckpt2}
 use Rattle.mas_types.specs.declared.queues.Config.{Config}
 use Rattle.mas_types.specs.declared.queues.Queue.{Queue}
 use Rattle.mas_types.specs.Fit.{IsConfig}
 use Rattle.spool_disk.specs.View.{View, World, disk_now}
-use Rattle.ckpt_form.specs.Form.{form_count, form_holds, form_reads, form_rests, form_rests_now, form_rests_reads}
+use Rattle.ckpt_form.specs.Form.{form_count, form_needs, form_holds, form_reads, form_rests, form_rests_now, form_rests_reads}
 use Rattle.ckpt_copy.specs.Meanwhile.{SameSides}
 use Rattle.ckpt_copy.specs.Moments.{goes_none}
 use Rattle.ckpt_copy.specs.Pages.{bytes_of}
@@ -30,7 +30,7 @@ use Rattle.mas_run.specs.Shows.{QuietFor}
 use Rattle.mas_run.specs.Statuses.{IsCausedFrom}
 use Rattle.mas_run.proofs.BetweenLemmas.{lines_between, lines_shown, none_earlier, opened_first, opened_second, untold_since}
 use Rattle.mas_run.proofs.PassedLemmas.{proceeds_of, proceeds_on}
-use Rattle.mas_run.proofs.RunLemmas.{begun_empty, caused_since, caused_unformed, cold_lines, empty_texts, formed_copy, formed_images, low_empty, orders_empty, reads_there, sound_base, sound_empty, steps_since, told_empty, unarmed}
+use Rattle.mas_run.proofs.RunLemmas.{begun_empty, caused_since, caused_unformed, cold_lines, empty_texts, ever_on, formed_copy, formed_images, formed_lost, lost_ever, low_empty, orders_empty, reads_there, sound_base, sound_empty, steps_since, told_empty, unarmed, unarmed_view}
 use Rattle.mas_run.proofs.SpokenLemmas.{roomy_on}
 use Rattle.mas_run.proofs.VolumeLemmas.{kept_on}
 use Rattle.mas_run.proofs.WarmLemmas.{no, play_begins, play_not_text}
@@ -110,7 +110,12 @@ play_asked-requires-clause-between g c =
     } in
     lines_between y (m.book ∙ ap (λ (q : Queue). book_of q.config) (sym whole)) c.in-Ok.field-0.members (subst IsConfig (sym base) c.requires.fits.config) (sound_base config routes y.base (whole ∙ i.base) c.requires.fits.config c.requires.fits.few)
     (subst (λ (n : Config). AreFresh n c.in-Ok.field-0.members) (sym base) i.members) quiet (untold_since y (P.view y.plant) since (goes_none (P.view y.plant)) (λ told. refl))
-    (none_earlier y.journal.batches y.current m.journal m.current) settled
+    (none_earlier y.journal.batches y.current m.journal m.current) settled (
+      subst (λ (n : Config). form_needs (page_count n) ≤ (P.view y.plant).size Ckpt1) (sym base)
+          (subst (λ (n : ℕ). form_needs (page_count config) ≤ n) (sym (ap (λ p. (P.view p).size Ckpt1) m.plant ∙ f.acted.goes.size Ckpt1)) c.in_default.ensures.large.0),
+      subst (λ (n : Config). form_needs (page_count n) ≤ (P.view y.plant).size Ckpt2) (sym base)
+          (subst (λ (n : ℕ). form_needs (page_count config) ≤ n) (sym (ap (λ p. (P.view p).size Ckpt2) m.plant ∙ f.acted.goes.size Ckpt2)) c.in_default.ensures.large.1),
+    )
 
 pub play_asked-requires-clause-shows : goal.play_asked-requires-clause-shows
 play_asked-requires-clause-shows g c =
@@ -183,13 +188,16 @@ returns-clause-run g c begun =
     let played : IsPlay P.tells steps r.status r.base x.journal.batches r.journal r.since (P.view x.plant) w = rw c.as_slice-2.ensures at e.play in
     let play : IsPlay P.tells steps r.status r.base x.journal.batches r.journal r.since v1 w =
     subst (λ (v : View). IsPlay P.tells steps r.status r.base x.journal.batches r.journal r.since v w) (ap P.view m.plant) played in
+    let lines = cold_lines P.tells steps r.status r.base x.journal.batches r.journal r.since v1 w m.journal since goes play in
     record {
       first = v1.loses;
       before = f.acted.loses;
+      lost = lost_ever v1 w;
+      lost_on = λ dev none. ever_on v1 w dev (lines.stays dev none);
       queue = base ∙ c.in-Ok.ensures.base;
       sound = sound_base c.args.script.now.config c.args.script.now.routes r.base (base ∙ c.in-Ok.ensures.base) c.requires.fits.config c.requires.fits.few;
       moment = (omega (arith, since, f.acted.goes.later), omega (arith, since, goes.later));
-      fresh = λ t. rw (base, since) (∥∥₁_map (m.fresh t) (λ k. k (record w { arms = v1.arms }) (unarmed v1 w goes)));
+      fresh = λ t. rw (base, since) (∥∥₁_map (m.fresh t) (λ k. k (unarmed_view v1 w) (unarmed v1 w goes)));
       formatted = λ cold t. rw since (record {
         pages = k.pages;
         sized = i.drawn.sized;
@@ -206,8 +214,7 @@ returns-clause-run g c begun =
       });
       quiet = λ t. ap (λ (n : ℕ). (w.world n).console) since ∙ ap (λ (u : World). u.console) (goes.past v1.now (omega arith)) ∙ quiet t;
       dry = λ t. rw since (subst (λ (u : World). SameSides (v0.world v0.now) u) (sym (goes.past v1.now (omega arith))) ((f.during t).sides v1.now f.acted.goes.later (omega arith)));
-      steps = steps_since v0 v1 w f.acted.goes goes true P.tells steps r.status r.base r.journal r.since v1.loses quiet (λ t. kept_on v0 v1 (f.during t).others) (λ t. papers_of v0 v1 (f.during t).sides)
-          (cold_lines P.tells steps r.status r.base x.journal.batches r.journal r.since v1 w m.journal since goes play);
+      steps = steps_since v0 v1 w f.acted.goes goes true P.tells steps r.status r.base r.journal r.since v1.loses quiet (λ t. kept_on v0 v1 (f.during t).others) (λ t. papers_of v0 v1 (f.during t).sides) lines;
     }
 
 pub returns-clause-config : goal.returns-clause-config
@@ -248,6 +255,11 @@ returns-clause-arms g c none =
     let base = c.play_asked.ensures.base ∙ c.make-complex.ensures.base ∙ c.in-Ok.ensures.base in
     absurd (no c.play_asked.result.base (begun_empty c.args.script.now.config c.args.script.now.routes c.play_asked.result.base base c.requires.fits.config) none)
 
+pub returns-clause-lost : goal.returns-clause-lost
+returns-clause-lost g c none =
+    let base = c.play_asked.ensures.base ∙ c.make-complex.ensures.base ∙ c.in-Ok.ensures.base in
+    absurd (no c.play_asked.result.base (begun_empty c.args.script.now.config c.args.script.now.routes c.play_asked.result.base base c.requires.fits.config) none)
+
 pub returns-clause-volumes : goal.returns-clause-volumes
 returns-clause-volumes g c told none =
     let base = c.play_asked.ensures.base ∙ c.make-complex.ensures.base ∙ c.in-Ok.ensures.base in
@@ -274,3 +286,11 @@ returns-in_default-form-clause-goes g c =
 
 pub returns-in_default-form-clause-arms : goal.returns-in_default-form-clause-arms
 returns-in_default-form-clause-arms g c none m = rw c.unbegun-in_default-form.ensures.plant (c.in_default-form.ensures.acted.goes.arms m)
+
+pub returns-in_default-form-clause-lost : goal.returns-in_default-form-clause-lost
+returns-in_default-form-clause-lost g c none =
+    let P = g.P.Plant in
+    let n = c.form.new.self in
+    let e = c.in_default-form.ensures in
+    rw (c.unbegun-in_default-form.ensures.status, c.unbegun-in_default-form.ensures.plant)
+    (formed_lost (Unit {0}) n.first.alive n.second.alive c.in_default-form.field-0 (P.view c.args.plant) (P.view c.form.new.plant) (rw (c.new-pair.ensures.alive.0, c.new-pair.ensures.alive.1) at e.acted) (λ is. e.both (ap Err is)))

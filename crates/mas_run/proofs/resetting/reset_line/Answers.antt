@@ -2,7 +2,7 @@ use Rattle.std.proofs.Common.{◌∙◌, ◌≤◌, ℕ, Err, length, ap, sym, s
 use Rattle.mas_types.specs.declared.ids.MemberId.{MemberId}
 use Rattle.lock_cycle.specs.Books.{IsMember}
 use Rattle.mas_complex.specs.Parts.{Parts, parts_of}
-use Rattle.member_hand.proofs.PieceLemmas.{played_frame, stopped_base, stopped_since}
+use Rattle.member_hand.proofs.PieceLemmas.{played_frame, stopped_base, stopped_renewals, stopped_since}
 use Rattle.mas_run.specs.Resetting.{HasResetBy}
 use Rattle.mas_run.proofs.resetting.reset_line.Goals as goal
 
@@ -18,6 +18,7 @@ returns-in-Err-clause-frame g c =
     played_frame (parts_of c.args.complex.now) (parts_of c.stop_halted.new.complex)
     (ap (λ p. p.base) c.stop_halted.ensures ∙ stopped_base c.in-Err.why c.args.holder.by z ∙ ap (λ p. p.base) c.try_reset.ensures.frame)
     (ap (λ p. p.since) c.stop_halted.ensures ∙ stopped_since c.in-Err.why c.args.holder.by z ∙ ap (λ p. p.since) c.try_reset.ensures.frame)
+    (ap (λ p. p.renewals) c.stop_halted.ensures ∙ stopped_renewals c.in-Err.why c.args.holder.by z ∙ ap (λ p. p.renewals) c.try_reset.ensures.frame)
 
 pub returns-in-Err-clause-reset : goal.returns-in-Err-clause-reset
 returns-in-Err-clause-reset g c =

@@ -47,7 +47,7 @@ pub returns-clause-frame : goal.returns-clause-frame
 returns-clause-frame g c =
     let f = c.take_lock.ensures.frame in
     let r = c.reset_line.ensures.frame in
-    played_frame (parts_of c.args.complex.now) (parts_of c.reset_line.new.complex) (ap (λ p. p.base) r ∙ ap (λ p. p.base) f) (ap (λ p. p.since) r ∙ ap (λ p. p.since) f)
+    played_frame (parts_of c.args.complex.now) (parts_of c.reset_line.new.complex) (ap (λ p. p.base) r ∙ ap (λ p. p.base) f) (ap (λ p. p.since) r ∙ ap (λ p. p.since) f) (ap (λ p. p.renewals) r ∙ ap (λ p. p.renewals) f)
 
 pub returns-clause-taken : goal.returns-clause-taken
 returns-clause-taken g c =

@@ -10,7 +10,7 @@ use Rattle.member_hand.proofs.PieceLemmas.{played_frame}
 use Rattle.member_sittings.specs.Whole.{queue_of}
 use Rattle.mas_run.specs.Resetting.{IsTaken, IsUntaken, rested_in}
 use Rattle.mas_run.proofs.TakenQueueLemmas.{kept_sound}
-use Rattle.mas_run.proofs.TakenCalmLemmas.{is_taken, others_stand, taken_base, taken_since, unfound, untaken}
+use Rattle.mas_run.proofs.TakenCalmLemmas.{is_taken, others_stand, taken_base, taken_renewals, taken_since, unfound, untaken}
 use Rattle.mas_run.proofs.resetting.take_lock.Goals as goal
 use Rattle.mas_run.proofs.resetting.take_lock.Goals.{then-complex, else-complex}
 
@@ -30,6 +30,7 @@ returns-clause-frame g c =
     played_frame x (parts_of c.rest_copies.new.complex)
     (ap (λ p. p.base) c.rest_copies.ensures ∙ ap (λ p. p.base) leaves ∙ taken_base c.takeover.result now c.args.by c.args.of z x)
     (ap (λ p. p.since) c.rest_copies.ensures ∙ ap (λ p. p.since) leaves ∙ taken_since c.takeover.result now c.args.by c.args.of z x)
+    (ap (λ p. p.renewals) c.rest_copies.ensures ∙ ap (λ p. p.renewals) leaves ∙ taken_renewals c.takeover.result now c.args.by c.args.of z x)
 
 pub returns-clause-taken : goal.returns-clause-taken
 returns-clause-taken g c =
@@ -60,7 +61,7 @@ returns-in-Err-clause-frame g c =
     let z = parts_of c.takeover.new.complex in
     let now = (g.P.Plant.view z.plant).now in
     let leaves = c.takeover.ensures.leaves in
-    played_frame x z (ap (λ p. p.base) leaves ∙ taken_base c.takeover.result now c.args.by c.args.of z x) (ap (λ p. p.since) leaves ∙ taken_since c.takeover.result now c.args.by c.args.of z x)
+    played_frame x z (ap (λ p. p.base) leaves ∙ taken_base c.takeover.result now c.args.by c.args.of z x) (ap (λ p. p.since) leaves ∙ taken_since c.takeover.result now c.args.by c.args.of z x) (ap (λ p. p.renewals) leaves ∙ taken_renewals c.takeover.result now c.args.by c.args.of z x)
 
 pub returns-in-Err-clause-untaken : goal.returns-in-Err-clause-untaken
 returns-in-Err-clause-untaken g c =

@@ -33,7 +33,7 @@ enter-requires g c =
 pub returns-in_err-enter-clause-frame : goal.returns-in_err-enter-clause-frame
 returns-in_err-enter-clause-frame g c =
     let e = c.enter.ensures in
-    played_frame (parts_of c.args.complex.now) (parts_of c.enter.new.complex) (ap (λ p. p.base) e.frame) (ap (λ p. p.since) e.frame)
+    played_frame (parts_of c.args.complex.now) (parts_of c.enter.new.complex) (ap (λ p. p.base) e.frame) (ap (λ p. p.since) e.frame) (ap (λ p. p.renewals) e.frame)
 
 pub returns-in_err-enter-clause-members : goal.returns-in_err-enter-clause-members
 returns-in_err-enter-clause-members g c = ap (λ p. length p.book.members) c.enter.ensures.frame
@@ -65,7 +65,7 @@ pub returns-in_err-end-clause-frame : goal.returns-in_err-end-clause-frame
 returns-in_err-end-clause-frame g c =
     let e = c.enter.ensures in
     let f = c.sit_reset.ensures.frame in
-    played_frame (parts_of c.args.complex.now) (parts_of c.sit_reset.new.complex) (ap (λ p. p.base) f ∙ ap (λ p. p.base) e.frame) (ap (λ p. p.since) f ∙ ap (λ p. p.since) e.frame)
+    played_frame (parts_of c.args.complex.now) (parts_of c.sit_reset.new.complex) (ap (λ p. p.base) f ∙ ap (λ p. p.base) e.frame) (ap (λ p. p.since) f ∙ ap (λ p. p.since) e.frame) (ap (λ p. p.renewals) f ∙ ap (λ p. p.renewals) e.frame)
 
 pub returns-in_err-end-clause-id : goal.returns-in_err-end-clause-id
 returns-in_err-end-clause-id g c = c.sit_reset.ensures.id ∙ c.enter.ensures.id
@@ -115,7 +115,7 @@ returns-clause-frame g c =
     let f = c.sit_reset.ensures.frame in
     let l = c.leave.ensures.frame in
     played_frame (parts_of c.args.complex.now) (parts_of c.leave.new.complex) (ap (λ p. p.base) l ∙ ap (λ p. p.base) f ∙ ap (λ p. p.base) e.frame)
-    (ap (λ p. p.since) l ∙ ap (λ p. p.since) f ∙ ap (λ p. p.since) e.frame)
+    (ap (λ p. p.since) l ∙ ap (λ p. p.since) f ∙ ap (λ p. p.since) e.frame) (ap (λ p. p.renewals) l ∙ ap (λ p. p.renewals) f ∙ ap (λ p. p.renewals) e.frame)
 
 pub returns-clause-id : goal.returns-clause-id
 returns-clause-id g c = c.sit_reset.ensures.id ∙ c.enter.ensures.id

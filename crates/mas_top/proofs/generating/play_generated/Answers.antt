@@ -2,6 +2,7 @@ use Rattle.std.proofs.Common.{◌≡◌, ◌∙◌, ℕ, Bool, true, false, List
 use Rattle.mas_types.specs.declared.answers.Status.{Status}
 use Rattle.mas_types.specs.declared.answers.Status.TheVariants as status
 use Rattle.gen_work.specs.Summaries.{summary_line, summary_of}
+use Rattle.mas_run.specs.Refusals.{IsSaid}
 use Rattle.mas_run.specs.Runs.{Begins, has_begun}
 use Rattle.mas_run.specs.Statuses.{is_unplayed}
 use Rattle.mas_run.proofs.PassedLemmas.{proceeds_none, proceeds_on}
@@ -9,9 +10,9 @@ use Rattle.mas_run.proofs.VolumeLemmas.{kept_none}
 use Rattle.mas_top.specs.Generates.{SumsUp, script_source}
 use Rattle.mas_top.specs.Plays.{IsPlayed, source_of}
 use Rattle.mas_top.specs.ScriptTexts.{left_of}
-use Rattle.mas_top.proofs.CompleteLemmas.{ends_out, refusal_generated, still_generated}
-use Rattle.mas_top.proofs.GenerateLemmas.{ends_begins, ends_caused, ends_of, ends_proceeds, ends_words, not_generated, not_summed, played_same, run_safe}
-use Rattle.mas_top.proofs.PlayLemmas.{script_caused}
+use Rattle.mas_top.proofs.CompleteLemmas.{ends_out, generated_renews, refusal_generated, still_generated}
+use Rattle.mas_top.proofs.GenerateLemmas.{ends_begins, ends_caused, ends_of, ends_proceeds, ends_words, not_generated, not_summed, played_same, run_safe, whole_safe}
+use Rattle.mas_top.proofs.PlayLemmas.{script_caused, script_lost}
 use Rattle.mas_top.proofs.generating.play_generated.Goals as goal
 
 no : (b : Bool) → b ≡ true → b ≡ false → ⊥
@@ -31,6 +32,11 @@ returns-in-Err-clause-cause g c =
     let P = g.P.Plant in
     rw (c.unbegun.ensures.status, c.unbegun.ensures.plant) (script_caused status.NoMemory (P.view c.args.plant) (P.view c.args.plant) refl)
 
+pub returns-in-Err-clause-lost : goal.returns-in-Err-clause-lost
+returns-in-Err-clause-lost g c none =
+    let P = g.P.Plant in
+    rw (c.unbegun.ensures.status, c.unbegun.ensures.plant) (script_lost status.NoMemory (P.view c.args.plant) (P.view c.args.plant) refl refl)
+
 pub returns-in-Err-clause-goes : goal.returns-in-Err-clause-goes
 returns-in-Err-clause-goes g c = rw c.unbegun.ensures.plant (proceeds_none (g.P.Plant.view c.args.plant))
 
@@ -49,7 +55,7 @@ returns-in-Done-clause-generated g c =
     let rest = left_of c.play_script-status.new.script in
     let mid = P.view r.plant in
     let all : IsPlayed true false (source_of (Unit {0}) 0 0 text rest) P.tells (r.plant ≡ c.args.plant) r.status r.base r.journal r.since old mid =
-    record { refused = e.refused; words = e.words; device = e.device; formatted = e.formatted; unstarted = e.unstarted; faulted = e.source; untouched = e.untouched; idle = e.idle; unprinted = e.unprinted; volumes = e.volumes; formats = e.formats; loses = e.loses; arms = e.arms; room = e.room; roomy = e.roomy; read = e.read; taken = e.taken; run = e.run; complete = e.complete } in
+    record { refused = e.refused; words = e.words; device = e.device; formatted = e.formatted; unstarted = e.unstarted; faulted = e.source; untouched = e.untouched; idle = e.idle; unprinted = e.unprinted; volumes = e.volumes; formats = e.formats; loses = e.loses; arms = e.arms; lost = e.lost; room = e.room; roomy = e.roomy; read = e.read; taken = e.taken; run = e.run; complete = e.complete } in
     let played : IsPlayed true false (script_source c.args.decks rest) P.tells (r.plant ≡ c.args.plant) r.status r.base r.journal r.since old mid =
     subst (λ (left : List ℕ). IsPlayed true false (source_of (Unit {0}) 0 0 left rest) P.tells (r.plant ≡ c.args.plant) r.status r.base r.journal r.since old mid) c.in-Ok.ensures all in
     let line = summary_line (summary_of r.base r.journal) in
@@ -67,7 +73,7 @@ returns-in-Done-clause-generated g c =
       played = same;
       summed = summed;
       complete = λ large calm. ends_out P.tells line old mid (P.view s.plant) s.status e.goes calm ends;
-      safe = λ b low. run_safe P.tells (e.run b).0 r.base r.journal r.since (summary_of r.base r.journal) s.status r.status old mid (P.view s.plant) low (e.run b).2 ends;
+      safe = λ b low. run_safe P.tells (e.run b).0 r.base r.journal r.since (summary_of r.base r.journal) s.status r.status old mid (P.view s.plant) low (e.run b).2 (generated_renews c.args.decks (e.run b).0 c.law_of_generated_scripts.ensures.plays c.requires (subst (λ (left : List ℕ). IsSaid true false left (e.run b).0) c.in-Ok.ensures ((e.run b).1 tt))) ends;
     })
 
 pub returns-in-Done-clause-words : goal.returns-in-Done-clause-words
@@ -116,6 +122,11 @@ returns-in-Done-clause-unsaid g c told none =
     let r = c.play_script-status.result in
     absurd (no (has_begun r.base) (subst (λ (a : Status). Begins a r.base) c.in-Done.is c.play_script-status.ensures.begun) (sym (ap has_begun c.sum_up.ensures.base) ∙ none))
 
+pub returns-in-Done-clause-lost : goal.returns-in-Done-clause-lost
+returns-in-Done-clause-lost g c none =
+    let r = c.play_script-status.result in
+    absurd (no (has_begun r.base) (subst (λ (a : Status). Begins a r.base) c.in-Done.is c.play_script-status.ensures.begun) (sym (ap has_begun c.sum_up.ensures.base) ∙ none))
+
 pub returns-in-Done-clause-volumes : goal.returns-in-Done-clause-volumes
 returns-in-Done-clause-volumes g c told none =
     let r = c.play_script-status.result in
@@ -133,7 +144,7 @@ returns-clause-generated g c =
     let rest = left_of c.play_script-status.new.script in
     let mid = P.view r.plant in
     let all : IsPlayed true false (source_of (Unit {0}) 0 0 text rest) P.tells (r.plant ≡ c.args.plant) r.status r.base r.journal r.since old mid =
-    record { refused = e.refused; words = e.words; device = e.device; formatted = e.formatted; unstarted = e.unstarted; faulted = e.source; untouched = e.untouched; idle = e.idle; unprinted = e.unprinted; volumes = e.volumes; formats = e.formats; loses = e.loses; arms = e.arms; room = e.room; roomy = e.roomy; read = e.read; taken = e.taken; run = e.run; complete = e.complete } in
+    record { refused = e.refused; words = e.words; device = e.device; formatted = e.formatted; unstarted = e.unstarted; faulted = e.source; untouched = e.untouched; idle = e.idle; unprinted = e.unprinted; volumes = e.volumes; formats = e.formats; loses = e.loses; arms = e.arms; lost = e.lost; room = e.room; roomy = e.roomy; read = e.read; taken = e.taken; run = e.run; complete = e.complete } in
     let played : IsPlayed true false (script_source c.args.decks rest) P.tells (r.plant ≡ c.args.plant) r.status r.base r.journal r.since old mid =
     subst (λ (left : List ℕ). IsPlayed true false (source_of (Unit {0}) 0 0 left rest) P.tells (r.plant ≡ c.args.plant) r.status r.base r.journal r.since old mid) c.in-Ok.ensures all in
     let line = summary_line (summary_of r.base r.journal) in
@@ -143,7 +154,8 @@ returns-clause-generated g c =
       between = mid;
       played = played;
       summed = not_summed P.tells line r.status mid c.in_default.not-Done;
-      safe = λ b low. (e.run b).2.steps.safe;
+      safe = λ b low. whole_safe P.tells (e.run b).0 r.base r.journal r.since r.status old mid (e.run b).2
+          (generated_renews c.args.decks (e.run b).0 c.law_of_generated_scripts.ensures.plays c.requires (subst (λ (left : List ℕ). IsSaid true false left (e.run b).0) c.in-Ok.ensures ((e.run b).1 tt)));
       complete = λ large calm. played.complete tt (refusal_generated c.args.decks old c.law_of_generated_scripts.ensures.plays c.requires large)
           (still_generated old mid mid (proceeds_none mid) (λ d. refl) P.tells c.args.decks c.law_of_generated_scripts.ensures.plays c.requires calm);
     }

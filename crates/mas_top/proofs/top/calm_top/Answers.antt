@@ -11,9 +11,9 @@ use Rattle.mas_run.proofs.RefusalLemmas.{free_answer}
 use Rattle.mas_run.proofs.VolumeLemmas.{kept_none, kept_on}
 use Rattle.mas_top.proofs.GenerateLemmas.{not_generated}
 use Rattle.mas_top.proofs.PlayLemmas.{not_played}
-use Rattle.mas_top.proofs.CheckLemmas.{check_caused, check_not_words, not_checked, volumes_kept}
-use Rattle.mas_top.proofs.ReportLemmas.{not_reported}
-use Rattle.mas_top.proofs.TaskLemmas.{none_some, play_same, play_not_report, play_not_format, report_not_format, play_not_check, report_not_check, format_not_check, generate_same, generate_not_play, generate_not_report, generate_not_format, generate_not_check, deck_count, none_words, words_or_memory, some_memory, memory_not_source, words_caused, words_begins}
+use Rattle.mas_top.proofs.CheckLemmas.{check_caused, check_lost, check_not_words, not_checked, volumes_kept}
+use Rattle.mas_top.proofs.ReportLemmas.{not_reported, report_lost}
+use Rattle.mas_top.proofs.TaskLemmas.{none_some, play_same, play_not_report, play_not_format, report_not_format, play_not_check, report_not_check, format_not_check, generate_same, generate_not_play, generate_not_report, generate_not_format, generate_not_check, deck_count, none_words, words_or_memory, some_memory, memory_not_source, words_caused, words_lost, words_begins}
 use Rattle.mas_top.proofs.top.calm_top.Goals as goal
 
 -- A SCRIPT IS PLAYED
@@ -37,7 +37,7 @@ returns-in-Play-clause-play g c cold is =
     let e = c.play_script.ensures in
     let same : c.in-Play.cold ≡ cold = play_same (task_asked (map string_bytes c.args.words.now)) c.in-Play.cold cold (c.in-Ok.ensures ∙ ap Some c.in-Play.is) is in
     subst (λ (x : Bool). IsPlayed x false (source_of S.tells (S.faults c.args.script.now) (S.faults c.play_script.new.script) left (S.left c.play_script.new.script)) P.tells (r.plant ≡ c.args.plant) r.status r.base r.journal r.since old (P.view r.plant)) same
-    (record { refused = e.refused; words = e.words; device = e.device; formatted = e.formatted; unstarted = e.unstarted; faulted = e.source; untouched = e.untouched; idle = e.idle; unprinted = e.unprinted; volumes = e.volumes; formats = e.formats; loses = e.loses; arms = e.arms; room = e.room; roomy = e.roomy; read = e.read; taken = e.taken; run = e.run; complete = e.complete })
+    (record { refused = e.refused; words = e.words; device = e.device; formatted = e.formatted; unstarted = e.unstarted; faulted = e.source; untouched = e.untouched; idle = e.idle; unprinted = e.unprinted; volumes = e.volumes; formats = e.formats; loses = e.loses; arms = e.arms; lost = e.lost; room = e.room; roomy = e.roomy; read = e.read; taken = e.taken; run = e.run; complete = e.complete })
 
 pub returns-in-Play-clause-report : goal.returns-in-Play-clause-report
 returns-in-Play-clause-report g c is = absurd (play_not_report (task_asked (map string_bytes c.args.words.now)) c.in-Play.cold (c.in-Ok.ensures ∙ ap Some c.in-Play.is) is)
@@ -97,7 +97,7 @@ returns-in-Format-clause-report g c is = absurd (report_not_format (task_asked (
 pub returns-in-Format-clause-format : goal.returns-in-Format-clause-format
 returns-in-Format-clause-format g c is =
     let e = c.play_script-in-Format.ensures in
-    record { refused = e.refused; words = e.words; device = e.device; formatted = e.formatted; unstarted = e.unstarted; faulted = e.source; untouched = e.untouched; idle = e.idle; unprinted = e.unprinted; volumes = e.volumes; formats = e.formats; loses = e.loses; arms = e.arms; room = e.room; roomy = e.roomy; read = e.read; taken = e.taken; run = e.run; complete = e.complete }
+    record { refused = e.refused; words = e.words; device = e.device; formatted = e.formatted; unstarted = e.unstarted; faulted = e.source; untouched = e.untouched; idle = e.idle; unprinted = e.unprinted; volumes = e.volumes; formats = e.formats; loses = e.loses; arms = e.arms; lost = e.lost; room = e.room; roomy = e.roomy; read = e.read; taken = e.taken; run = e.run; complete = e.complete }
 
 pub returns-in-Format-clause-check : goal.returns-in-Format-clause-check
 returns-in-Format-clause-check g c is = absurd (format_not_check (task_asked (map string_bytes c.args.words.now)) (c.in-Ok.ensures ∙ ap Some c.in-Format.is) is)
@@ -258,6 +258,21 @@ returns-in-Err-clause-generate g c decks is =
 
 pub returns-in-Err-clause-cause : goal.returns-in-Err-clause-cause
 returns-in-Err-clause-cause g c = rw (c.unbegun.ensures.status, c.status_of_no.ensures) (words_caused c.in-Err.why (g.P.Plant.view c.args.plant) (g.P.Plant.view c.unbegun.result.plant))
+
+pub returns-in-Err-clause-lost : goal.returns-in-Err-clause-lost
+returns-in-Err-clause-lost g c none = rw (c.unbegun.ensures.status, c.status_of_no.ensures, c.unbegun.ensures.plant) (words_lost c.in-Err.why (g.P.Plant.view c.args.plant))
+
+pub returns-in-Check-clause-lost : goal.returns-in-Check-clause-lost
+returns-in-Check-clause-lost g c none =
+    let P = g.P.Plant in
+    let r = c.check_found.result in
+    check_lost P.tells r.status (P.view c.args.plant) (P.view r.plant) c.check_found.ensures.check
+
+pub returns-in-Report-clause-lost : goal.returns-in-Report-clause-lost
+returns-in-Report-clause-lost g c none =
+    let P = g.P.Plant in
+    let r = c.report_queue.result in
+    report_lost P.tells r.status r.base r.journal r.since (P.view c.args.plant) (P.view r.plant) c.report_queue.ensures.report c.report_queue.ensures.goes none
 
 pub returns-in-Err-clause-begun : goal.returns-in-Err-clause-begun
 returns-in-Err-clause-begun g c other = rw (c.unbegun.ensures.status, c.status_of_no.ensures) (words_begins c.in-Err.why c.unbegun.result.base c.unbegun.ensures.unbegun.queue)

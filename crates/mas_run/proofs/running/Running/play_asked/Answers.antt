@@ -250,3 +250,6 @@ returns-in-Err-NoMemory-clause-copies g c =
     let ns = c.play_member.new.self.members in
     let e = c.in-Err-NoMemory.ensures in
     subst (λ (k : NodeNo). CopiesKept {T = Unit {0}} x y (Err k)) c.in-Err-NoMemory.field-0-is e.copies
+
+pub returns-in-Ok-clause-copies : goal.returns-in-Ok-clause-copies
+returns-in-Ok-clause-copies g c = c.in-Ok.ensures.copies

@@ -1,4 +1,4 @@
-use Rattle.std.proofs.Common.{◌≡◌, ◌-◌, ◌<◌, ◌++◌, false, true, set, slice_set, Err, ap, inr, refl, sym, ◌∙◌, subst, arith}
+use Rattle.std.proofs.Common.{◌≡◌, ℕ, ◌-◌, ◌<◌, ◌++◌, false, true, set, slice_set, Err, ap, inr, refl, sym, ◌∙◌, subst, arith}
 use Rattle.mas_types.specs.declared.commands.Reply.TheVariants as reply
 use Rattle.mas_types.specs.declared.answers.Closing.TheVariants as closing
 use Rattle.mas_types.specs.declared.ids.MemberId.{MemberId}
@@ -10,7 +10,7 @@ use Rattle.member_node.specs.declared.member.NodeNo.TheVariants.{NoMemory}
 use Rattle.member_lines.specs.Admissions.{admission_of}
 use Rattle.member_lines.specs.Closes.{IsSayer}
 use Rattle.member_lines.specs.Earlier.{AreBefore}
-use Rattle.run_turns.specs.Admissions.{Denied, Frees, Locks, Plays, Refused, Resets, TakesOver, Unplayed, admitted, denied_closing, granted_by}
+use Rattle.run_turns.specs.Admissions.{Denied, Frees, Locks, Plays, Refused, Replaces, Resets, TakesOver, Unplayed, admitted, denied_closing, granted_by}
 use Rattle.run_turns.specs.Pieces.{closes_with}
 use Rattle.step_turns.specs.declared.states.Release.TheVariants.{Keep, Outer}
 use Rattle.step_turns.specs.declared.states.Holder.{Holder}
@@ -28,6 +28,7 @@ use Rattle.mas_run.proofs.KnownLemmas.{IsDown, busy_named, denied_holder, few_as
 use Rattle.mas_run.proofs.BookLemmas.{inside_since, none_since, tried_since}
 use Rattle.mas_run.proofs.ClosedLemmas.{held_up, none_held}
 use Rattle.mas_run.proofs.MayLemmas.{tested_up}
+use Rattle.mas_run.proofs.ReplacingLemmas.{may_replace, replaces_done}
 use Rattle.mas_run.proofs.SceneLemmas.{LineDone, done_at}
 use Rattle.mas_run.proofs.SeatsLemmas.{may_seat, seats_done}
 use Rattle.mas_run.proofs.TakesLemmas.{may_take, took_done}
@@ -164,7 +165,7 @@ returns-in-Refused g c =
     let r = c.say_refused.result in
     let sayer = c.in-Refused.sayer in
     let done : LineDone x y ms at by what r =
-    said_done x mid y ms at by what c.requires.few is (Refused sayer c.in-Refused.end) w.adm x.book w.frame refl (λ locked. absurd (false_true locked)) sayer (said_by x.base is.config x.book by sayer w.known_so.0) r e.closed
+    said_done x mid y ms at by what c.requires.few is (Refused sayer c.in-Refused.end) w.adm x.book w.frame refl (λ locked. absurd (false_true locked)) (λ dev same. absurd (cc)) sayer (said_by x.base is.config x.book by sayer w.known_so.0) r e.closed
     (closes_with by at c.in-Refused.end Keep) (closing_line by at c.in-Refused.end) Keep (λ S none k. refused_closer S at (line_by by what) k sayer c.in-Refused.end)
     (subst (λ (w : Parts _ _). Stays (parts_of mid) w) (sym e.frame) (stays_on (parts_of mid) (record (parts_of mid) { plant = y.plant }) _ y.plant refl (stays_stopped by (record (parts_of mid) { plant = y.plant }) r)))
     (λ same. own_seat x.base is.config x.book by is.booked sayer w.known_so.0 same (some_by by what c.requires.member c.requires.played.fits.by))
@@ -268,7 +269,7 @@ returns-in-Denied g c =
     let r = c.say_denied.result in
     let why = c.in-Denied.why in
     let done : LineDone x y ms at by what r =
-    said_done x mid y ms at by what c.requires.few is (Denied why) w.adm (after_try x.book by false) w.frame refl (λ locked. absurd (false_true locked)) by (inr refl) r e.closed
+    said_done x mid y ms at by what c.requires.few is (Denied why) w.adm (after_try x.book by false) w.frame refl (λ locked. absurd (false_true locked)) (λ dev same. absurd (cc)) by (inr refl) r e.closed
     (closes_with by at (denied_closing why) Keep) (closing_line by at (denied_closing why)) Keep (λ S none k. denied_closer S at (line_by by what) k why)
     (subst (λ (w : Parts _ _). Stays (parts_of mid) w) (sym e.frame) (stays_on (parts_of mid) (record (parts_of mid) { plant = y.plant }) _ y.plant refl (stays_stopped by (record (parts_of mid) { plant = y.plant }) r)))
     (λ same. inside) (tried_since x.book by inside false) (denied_holder x.base is.config x.book by why w.known_so.1) e.frame in
@@ -389,7 +390,7 @@ returns-in-Frees g c =
     let end = closing.Reply reply.Plain in
     let none = (is.quiet (held_up x.book by w.known_so.1 w.known_so.0.up)).none in
     let done : LineDone x y ms at by what r =
-    freed_done x mid y ms at by what c.requires.few is Frees w.adm x.book w.frame refl (λ locked. none) by (inr refl) r e.closed
+    freed_done x mid y ms at by what c.requires.few is Frees w.adm x.book w.frame refl (λ locked. none) (λ dev same. absurd (cc)) by (inr refl) r e.closed
     (closes_with by at end Outer) (closing_line by at end) Outer (λ S unflown k. frees_closer S at (line_by by what) k (unflown refl))
     (subst (λ (w : Parts _ _). Stays (parts_of mid) w) (sym e.frame) (stays_on (parts_of mid) (record (parts_of mid) { plant = y.plant }) _ y.plant refl (stays_freed by (record (parts_of mid) { plant = y.plant }) r)))
     (λ same. inside) refl inside w.known_so.1 w.known_so.0.up e.frame in
@@ -489,7 +490,7 @@ returns-in-Plays g c =
     let r = c.play_task.result in
     let done : LineDone x y (slice_set ms i n) at by what r =
     done_at x y ms n at by what r i s.back
-    (plays_done x mid ms at by what c.requires.few is below w.frame inside got m s.own up h same y n e.id (ap (λ (w : Parts _ _). w.base) e.frame) (ap (λ (w : Parts _ _). w.since) e.frame)
+    (plays_done x mid ms at by what c.requires.few is below w.frame inside got m s.own up h same y n e.id (ap (λ (w : Parts _ _). w.base) e.frame) (ap (λ (w : Parts _ _). w.since) e.frame) (ap (λ (w : Parts _ _). w.renewals) e.frame)
     c.in-Plays.task w.known_so.1 w.adm r e.played e.next) in
     record {
       base = done.base;
@@ -587,8 +588,122 @@ returns-in-Resets g c =
     let r = c.reset_line.result in
     let done : LineDone x y (slice_set ms i n) at by what r =
     done_at x y ms n at by what r i s.back
-    (resets_done x mid ms at by what c.requires.few is below w.frame inside got m s.own up h same y n e.id (ap (λ (w : Parts _ _). w.base) e.frame) (ap (λ (w : Parts _ _). w.since) e.frame)
+    (resets_done x mid ms at by what c.requires.few is below w.frame inside got m s.own up h same y n e.id (ap (λ (w : Parts _ _). w.base) e.frame) (ap (λ (w : Parts _ _). w.since) e.frame) (ap (λ (w : Parts _ _). w.renewals) e.frame)
     c.in-Resets.of w.adm r e.reset e.next) in
+    record {
+      base = done.base;
+      since = done.since;
+      bare = done.bare;
+      told = done.told;
+      copies = done.copies_kept;
+      next = done.next;
+      halted = done.halted;
+      seated = done.seated;
+    }
+
+pub holder_of-holder-requires-in-Replaces : goal.holder_of-holder-requires-in-Replaces
+holder_of-holder-requires-in-Replaces g c =
+    let P = g.P.Plant in
+    let C = g.C.Copying in
+    let x = c.args.self.now.complex in
+    let ms = c.args.self.now.members in
+    let by = c.args.by in
+    let at = c.args.step in
+    let what = c.args.asked.now in
+    let is = c.requires.between in
+    let mid = c.admit.new.complex in
+    let w : InArm x by mid is.config what (Replaces c.in-Replaces.dev) =
+    in_arm x by mid is.config what c.requires.member c.requires.played c.in-Ok.admission (Replaces c.in-Replaces.dev) (ap admission_of c.in-Replaces.is) c.in-Ok.ensures.admitted c.in-Ok.ensures.frame in
+    let inside : IsMember x.book by = inside_of x.base x.book by is.booked w.known_so.0.member in
+    subst (λ (b : Book). IsMember b by) (sym (ap (λ (z : Parts _ _). z.book) w.frame)) (inside_since x.book (after_try x.book by false) by (tried_since x.book by inside false) inside)
+
+pub item_mut-requires-in-Replaces : goal.item_mut-requires-in-Replaces
+item_mut-requires-in-Replaces g c =
+    let P = g.P.Plant in
+    let C = g.C.Copying in
+    let x = c.args.self.now.complex in
+    let ms = c.args.self.now.members in
+    let by = c.args.by in
+    let at = c.args.step in
+    let what = c.args.asked.now in
+    let is = c.requires.between in
+    let mid = c.admit.new.complex in
+    let w : InArm x by mid is.config what (Replaces c.in-Replaces.dev) =
+    in_arm x by mid is.config what c.requires.member c.requires.played c.in-Ok.admission (Replaces c.in-Replaces.dev) (ap admission_of c.in-Replaces.is) c.in-Ok.ensures.admitted c.in-Ok.ensures.frame in
+    within x by ms at is w.known_so.0 c.saturating_sub-at.result c.saturating_sub-at.ensures
+
+pub replace_line-requires-clause-may : goal.replace_line-requires-clause-may
+replace_line-requires-clause-may g c =
+    let P = g.P.Plant in
+    let C = g.C.Copying in
+    let x = c.args.self.now.complex in
+    let ms = c.args.self.now.members in
+    let by = c.args.by in
+    let at = c.args.step in
+    let what = c.args.asked.now in
+    let is = c.requires.between in
+    let mid = c.admit.new.complex in
+    let w : InArm x by mid is.config what (Replaces c.in-Replaces.dev) =
+    in_arm x by mid is.config what c.requires.member c.requires.played c.in-Ok.admission (Replaces c.in-Replaces.dev) (ap admission_of c.in-Replaces.is) c.in-Ok.ensures.admitted c.in-Ok.ensures.frame in
+    let i = c.saturating_sub-at.result in
+    let m = c.item_mut-in-Replaces.result.now in
+    let s : InPlace x by i m = in_place x by ms at is w.known_so.0 i c.saturating_sub-at.ensures m c.item_mut-in-Replaces.ensures.value in
+    let up = s.up in
+    let inside = s.inside in
+    let got : HasGot x.base.config x.book by = admitted_got x.base.config x.book by what (Replaces c.in-Replaces.dev) (sym w.adm) tt in
+    let below : x.level < level_most = omega (arith, c.if-self-ge-LEVEL_MOST.false) in
+    let h = c.holder_of-holder-in-Replaces.result in
+    let same : h ≡ record { by = by; step = at; hold = left_of mid.book by; grant = granted_by x.book by } =
+    c.holder_of-holder-in-Replaces.ensures ∙ ap (λ (k : Grant). let j : Holder = record { by = by; step = at; hold = left_of mid.book by; grant = k } in j) c.grant_of-grant.ensures in
+    may_replace x mid ms at by what c.requires.few is below w.frame inside got m s.own up h same c.in-Replaces.dev w.known_so.1
+
+pub replace_line-requires-clause-new : goal.replace_line-requires-clause-new
+replace_line-requires-clause-new g c told =
+    let P = g.P.Plant in
+    let C = g.C.Copying in
+    let x = c.args.self.now.complex in
+    let ms = c.args.self.now.members in
+    let by = c.args.by in
+    let at = c.args.step in
+    let what = c.args.asked.now in
+    let is = c.requires.between in
+    let mid = c.admit.new.complex in
+    let w : InArm x by mid is.config what (Replaces c.in-Replaces.dev) =
+    in_arm x by mid is.config what c.requires.member c.requires.played c.in-Ok.admission (Replaces c.in-Replaces.dev) (ap admission_of c.in-Replaces.is) c.in-Ok.ensures.admitted c.in-Ok.ensures.frame in
+    let same_step = ap (λ (k : Holder). k.step) c.holder_of-holder-in-Replaces.ensures in
+    subst (λ (n : ℕ). AreBefore n (mid.journal.batches ++ in_flight mid.current)) (sym same_step)
+    (subst (λ (z : Parts _ _). AreBefore at (z.batches ++ in_flight z.current)) (sym w.frame) is.earlier)
+
+pub returns-in-Replaces : goal.returns-in-Replaces
+returns-in-Replaces g c =
+    let P = g.P.Plant in
+    let C = g.C.Copying in
+    let x = c.args.self.now.complex in
+    let ms = c.args.self.now.members in
+    let by = c.args.by in
+    let at = c.args.step in
+    let what = c.args.asked.now in
+    let is = c.requires.between in
+    let mid = c.admit.new.complex in
+    let w : InArm x by mid is.config what (Replaces c.in-Replaces.dev) =
+    in_arm x by mid is.config what c.requires.member c.requires.played c.in-Ok.admission (Replaces c.in-Replaces.dev) (ap admission_of c.in-Replaces.is) c.in-Ok.ensures.admitted c.in-Ok.ensures.frame in
+    let i = c.saturating_sub-at.result in
+    let m = c.item_mut-in-Replaces.result.now in
+    let s : InPlace x by i m = in_place x by ms at is w.known_so.0 i c.saturating_sub-at.ensures m c.item_mut-in-Replaces.ensures.value in
+    let up = s.up in
+    let inside = s.inside in
+    let got : HasGot x.base.config x.book by = admitted_got x.base.config x.book by what (Replaces c.in-Replaces.dev) (sym w.adm) tt in
+    let below : x.level < level_most = omega (arith, c.if-self-ge-LEVEL_MOST.false) in
+    let h = c.holder_of-holder-in-Replaces.result in
+    let same : h ≡ record { by = by; step = at; hold = left_of mid.book by; grant = granted_by x.book by } =
+    c.holder_of-holder-in-Replaces.ensures ∙ ap (λ (k : Grant). let j : Holder = record { by = by; step = at; hold = left_of mid.book by; grant = k } in j) c.grant_of-grant.ensures in
+    let y = c.replace_line.new.complex in
+    let n = c.replace_line.new.member in
+    let e = c.replace_line.ensures in
+    let r = c.replace_line.result in
+    let done : LineDone x y (slice_set ms i n) at by what r =
+    done_at x y ms n at by what r i s.back
+    (replaces_done x mid ms at by what c.requires.few is below w.frame inside got m s.own up h same c.in-Replaces.dev w.known_so.1 y n e.id w.adm r e.frame e.replaces) in
     record {
       base = done.base;
       since = done.since;
@@ -671,7 +786,7 @@ returns-in-TakesOver g c =
     (took_done x mid y ms at what c.requires.few is w.frame m (subst (λ (k : MemberId). IsMember x.book k) (sym s.own) inside) up c.in-TakesOver.of may
     (subst (λ (k : MemberId). is_holder x.book k ≡ false) (sym s.own) (not_holder x.base is.config x.book by c.in-TakesOver.of w.known_so.0.up w.known_so.1.down w.known_so.2))
     (subst (λ (k : MemberId). TakesOver c.in-TakesOver.of ≡ admitted x.base.config x.book k what) (sym s.own) w.adm)
-    n e.id (ap (λ (w : Parts _ _). w.base) e.frame) (ap (λ (w : Parts _ _). w.since) e.frame) r e.taken e.next)) in
+    n e.id (ap (λ (w : Parts _ _). w.base) e.frame) (ap (λ (w : Parts _ _). w.since) e.frame) (ap (λ (w : Parts _ _). w.renewals) e.frame) r e.taken e.next)) in
     record {
       base = done.base;
       since = done.since;
