@@ -4,18 +4,23 @@
 
 mod plants;
 
-use anyhow::Result;
 use mas_types::{Dev, MemberId};
 use plant_files::{FilePlant, Opening, StdSource, Streams};
 use plant_fuse::Fused;
-use plants::{read_back, say_lines, take_text, use_devices, use_printers, word_of};
-use spool_disk::{Got, Part, Plant, Source};
+use plants::{add_act, add_bytes, take_text, use_devices, use_lines};
+use spool_disk::{Fuse, Got, Part, Plant, Source};
 use std::fs;
+use std::io::Write;
+use std::process::ExitCode;
+use tests_lines::Writer;
 
 const FOLDER: &str = "trial/below";
 
+/// A plant over the files of the folder, whose members may stop.
+type Plants = Fused<FilePlant<HostRuntime>>;
+
 // How many bytes standard input gives.
-fn read_source(rt: &HostRuntime) -> Result<()> {
+fn read_source(rt: &HostRuntime, out: &mut Writer) {
     let mut source = StdSource::new(*rt);
     let mut count = 0usize;
     for _ in 0..64 {
@@ -25,105 +30,100 @@ fn read_source(rt: &HostRuntime) -> Result<()> {
             Got::Bytes(n) => count = count.saturating_add(n),
         }
     }
-    println!(rt; "source gave {count} bytes")?;
-    Ok(())
+    out.add_number(b"source gave ", count as u64);
+    out.add(b"\n");
 }
 
-fn open(rt: &HostRuntime, opening: Opening) -> Result<FilePlant<HostRuntime>> {
-    let streams = Streams::open(rt, rt.alloc())?;
-    Ok(FilePlant::open(*rt, rt.alloc(), streams, FOLDER, opening)?)
+fn open(rt: &HostRuntime, opening: Opening) -> Option<Plants> {
+    let streams = Streams::open(rt, rt.alloc()).ok()?;
+    let plant = FilePlant::open(*rt, rt.alloc(), streams, FOLDER, opening).ok()?;
+    Some(Fused::new(plant))
 }
 
 // Whether the folder is held by a plant.
 fn is_held(rt: &HostRuntime) -> bool {
     match open(rt, Opening::Look) {
-        Ok(plant) => {
+        Some(plant) => {
             drop(plant);
             false
         }
-        Err(_) => true,
+        None => true,
     }
 }
 
-fn write_devices(rt: &HostRuntime, plant: &mut FilePlant<HostRuntime>) -> Result<()> {
-    println!(rt; "devices {:?}", use_devices(plant))?;
-    println!(rt; "printers {:?}", use_printers(plant))?;
-    println!(rt; "console {:?}", say_lines(plant))?;
-    println!(rt; "held {}", is_held(rt))?;
+// Whether the folder is held, and whether volumes are lost.
+fn add_flags(rt: &HostRuntime, out: &mut Writer, plant: &Plants) {
+    out.add_flag(b"held\n", is_held(rt));
+    out.add_flag(b"volume 1 is lost\n", plant.lost(Part::Disk(Dev::Spool(1))));
+    out.add_flag(b"volume 2 is lost\n", plant.lost(Part::Disk(Dev::Spool(2))));
+}
+
+// The first run writes, prints and says, and loses a volume.
+fn write(rt: &HostRuntime, out: &mut Writer, plant: &mut Plants) {
+    use_devices(out, plant);
+    use_lines(out, plant);
+    add_flags(rt, out, plant);
     plant.lose(Dev::Spool(1));
-    Ok(())
 }
 
-fn first_run(rt: &HostRuntime) -> Result<()> {
-    let mut plant = open(rt, Opening::Make)?;
-    let written = write_devices(rt, &mut plant);
-    drop(plant);
-    written
+// The second run finds what the first one left, and takes what came in on a line.
+fn read(rt: &HostRuntime, out: &mut Writer, plant: &mut Plants) {
+    add_bytes(out, b"ckpt1", plant, Dev::Ckpt1);
+    add_flags(rt, out, plant);
+    take_text(out, plant);
 }
 
-fn read_devices(rt: &HostRuntime, plant: &mut FilePlant<HostRuntime>) -> Result<()> {
-    println!(rt; "ckpt1 {:?}", read_back(plant, Dev::Ckpt1))?;
-    println!(rt;
-        "lost {} {}",
-        plant.lost(Part::Disk(Dev::Spool(1))),
-        plant.lost(Part::Disk(Dev::Spool(2)))
-    )?;
-    println!(rt; "line {:?}", take_text(plant))?;
-    Ok(())
+// The third run halts at a printed line, and renews a volume, a copy, and a device that has no file.
+fn renew(out: &mut Writer, plant: &mut Plants) {
+    plant.arm(MemberId(1), Fuse::Print, 1);
+    out.add(b"printer");
+    add_act(out, plant.print(MemberId(1), b"THIRD"));
+    out.add(b"\nrenewed");
+    add_act(out, plant.renew(Dev::Spool(1)));
+    add_act(out, plant.renew(Dev::Ckpt1));
+    add_act(out, plant.renew(Dev::Spool(9)));
+    out.add(b"\n");
+    out.add_flag(b"volume 1 is lost\n", plant.lost(Part::Disk(Dev::Spool(1))));
+    add_bytes(out, b"spool1", plant, Dev::Spool(1));
+    add_bytes(out, b"ckpt1", plant, Dev::Ckpt1);
 }
 
-// Whether a printed line halts where a stop is armed.
-fn halt(rt: &HostRuntime, plant: FilePlant<HostRuntime>) -> Result<()> {
-    let mut fused = Fused::new(plant);
-    fused.arm(MemberId(1), spool_disk::Fuse::Print, 1);
-    let halted = fused.print(MemberId(1), b"THIRD");
-    drop(fused);
-    println!(rt; "halted {}", word_of(halted))?;
-    Ok(())
-}
-
-fn second_run(rt: &HostRuntime) -> Result<()> {
-    fs::write(rt, "trial/below/LINE1.IN", "INPUT")?;
-    let mut plant = open(rt, Opening::GoOn)?;
-    match read_devices(rt, &mut plant) {
-        Ok(()) => halt(rt, plant),
-        Err(error) => {
-            drop(plant);
-            Err(error)
-        }
+// A run of that number, if the folder's plant is opened.
+fn run(rt: &HostRuntime, out: &mut Writer, number: u8, opened: Option<Plants>) {
+    let Some(plant) = opened else {
+        return out.add(b"not opened\n");
+    };
+    let mut plant = plant;
+    match number {
+        1 => write(rt, out, &mut plant),
+        2 => read(rt, out, &mut plant),
+        _ => renew(out, &mut plant),
     }
 }
 
-fn renew(rt: &HostRuntime, fused: &mut Fused<FilePlant<HostRuntime>>) -> Result<()> {
-    println!(rt;
-        "renewed {} {} {}",
-        word_of(fused.renew(Dev::Spool(1))),
-        word_of(fused.renew(Dev::Ckpt1)),
-        word_of(fused.renew(Dev::Spool(9)))
-    )?;
-    println!(rt; "lost {}", fused.lost(Part::Disk(Dev::Spool(1))))?;
-    println!(rt; "spool1 {:?}", read_back(fused, Dev::Spool(1)))?;
-    println!(rt; "ckpt1 {:?}", read_back(fused, Dev::Ckpt1))?;
-    Ok(())
+// What a file has.
+fn add_file(rt: &HostRuntime, out: &mut Writer, path: &str) {
+    match fs::read_to_string(rt, path) {
+        Ok(text) => out.add(text.as_bytes()),
+        Err(_) => out.add(b"not read\n"),
+    }
 }
 
-fn third_run(rt: &HostRuntime) -> Result<()> {
-    let mut fused = Fused::new(open(rt, Opening::Make)?);
-    let renewed = renew(rt, &mut fused);
-    drop(fused);
-    renewed
-}
-
-fn main(rt: HostRuntime) -> Result<()> {
+fn main(rt: HostRuntime) -> ExitCode {
+    let mut out = Writer::new(rt.alloc());
     let _ = fs::remove_dir_all(&rt, "trial");
-    read_source(&rt)?;
-    first_run(&rt)?;
-    second_run(&rt)?;
-    third_run(&rt)?;
-    let paper = fs::read_to_string(&rt, "trial/below/PRT1")?;
-    println!(rt; "paper {:?}", paper.as_str())?;
-    let given = fs::read_to_string(&rt, "trial/below/LINE1.OUT")?;
-    println!(rt; "given {:?}", given.as_str())?;
-    fs::remove_dir_all(&rt, "trial")?;
-    Ok(())
+    read_source(&rt, &mut out);
+    run(&rt, &mut out, 1, open(&rt, Opening::Make));
+    let _ = fs::write(&rt, "trial/below/LINE1.IN", "INPUT");
+    run(&rt, &mut out, 2, open(&rt, Opening::GoOn));
+    run(&rt, &mut out, 3, open(&rt, Opening::Make));
+    add_file(&rt, &mut out, "trial/below/PRT1");
+    add_file(&rt, &mut out, "trial/below/LINE1.OUT");
+    out.add(b"\n");
+    let removed = fs::remove_dir_all(&rt, "trial");
+    if removed.is_ok() && out.is_whole() && rt.stdout().write_all(out.bytes()).is_ok() {
+        ExitCode::SUCCESS
+    } else {
+        ExitCode::FAILURE
+    }
 }

@@ -1,70 +1,72 @@
-//! What is done with a plant.
+//! What is done with a plant, and what is told of it.
 use mas_types::{Dev, MemberId};
 use spool_disk::{Act, Plant, Took};
+use tests_lines::Writer;
 
 const SYSA: MemberId = MemberId(1);
 
-// How an act ended, in a word.
-pub(crate) fn word_of(act: Act) -> &'static str {
+/// How an act ended, in a word behind a blank.
+pub fn add_act(out: &mut Writer, act: Act) {
     match act {
-        Act::Done => "Done",
-        Act::Failed => "Failed",
-        Act::Halted => "Halted",
+        Act::Done => out.add(b" done"),
+        Act::Failed => out.add(b" failed"),
+        Act::Halted => out.add(b" halted"),
     }
 }
 
-// How many bytes came, where taking them was done.
-fn count_of(took: Took) -> Option<usize> {
-    match took {
-        Took::Bytes(count) => Some(count),
-        Took::Failed | Took::Halted => None,
+/// Writes two bytes to CKPT1, syncs it, and syncs a device that has no file.
+pub fn use_devices<P: Plant>(out: &mut Writer, plant: &mut P) {
+    out.add(b"devices");
+    if plant.size(Dev::Ckpt1) >= 16_777_216 {
+        add_act(out, plant.write(SYSA, Dev::Ckpt1, 10, b"AB"));
+        add_act(out, plant.sync(SYSA, Dev::Ckpt1));
+        add_act(out, plant.sync(SYSA, Dev::Spool(9)));
     }
+    out.add(b"\n");
 }
 
-// Writes two bytes to CKPT1, syncs it, and syncs a device that has no file.
-pub(crate) fn use_devices<P: Plant>(plant: &mut P) -> [&'static str; 3] {
-    if plant.size(Dev::Ckpt1) < 16_777_216 {
-        return ["Failed"; 3];
-    }
-    let written = plant.write(SYSA, Dev::Ckpt1, 10, b"AB");
-    let synced = plant.sync(SYSA, Dev::Ckpt1);
-    let missing = plant.sync(SYSA, Dev::Spool(9));
-    [word_of(written), word_of(synced), word_of(missing)]
+/// Prints two lines, prints on a printer that has no file, gives bytes on a line, and says two lines.
+pub fn use_lines<P: Plant>(out: &mut Writer, plant: &mut P) {
+    out.add(b"printers");
+    add_act(out, plant.print(SYSA, b"FIRST"));
+    add_act(out, plant.print(SYSA, b"SECOND"));
+    add_act(out, plant.print(MemberId(9), b"NOWHERE"));
+    out.add(b"\nlines");
+    add_act(out, plant.give(SYSA, 1, b"OUT"));
+    out.add(b"\nconsole");
+    add_act(out, plant.say(SYSA, b"SYSA SAYS"));
+    add_act(out, plant.say(MemberId(0), b""));
+    out.add(b"\n");
 }
 
-// Prints two lines, prints on a printer that has no file, and gives bytes on a line.
-pub(crate) fn use_printers<P: Plant>(plant: &mut P) -> [&'static str; 4] {
-    [
-        word_of(plant.print(SYSA, b"FIRST")),
-        word_of(plant.print(SYSA, b"SECOND")),
-        word_of(plant.print(MemberId(9), b"NOWHERE")),
-        word_of(plant.give(SYSA, 1, b"OUT")),
-    ]
-}
-
-pub(crate) fn say_lines<P: Plant>(plant: &mut P) -> [&'static str; 2] {
-    [
-        word_of(plant.say(SYSA, b"SYSA SAYS")),
-        word_of(plant.say(MemberId(0), b"")),
-    ]
-}
-
-// Four bytes of a device around those that were written.
-pub(crate) fn read_back<P: Plant>(plant: &mut P, dev: Dev) -> (&'static str, [u8; 4]) {
+/// Four bytes of a device around those that were written.
+pub fn add_bytes<P: Plant>(out: &mut Writer, word: &[u8], plant: &mut P, dev: Dev) {
     let mut into = [9; 4];
-    if plant.size(dev) < 16_777_216 {
-        return ("Failed", into);
+    out.add(word);
+    if plant.size(dev) >= 16_777_216 {
+        add_act(out, plant.read(SYSA, dev, 9, &mut into));
+        for byte in &into {
+            out.add_number(b" ", *byte as u64);
+        }
     }
-    let read = plant.read(SYSA, dev, 9, &mut into);
-    (word_of(read), into)
+    out.add(b"\n");
 }
 
-// What comes in on a line, three bytes at a time.
-pub(crate) fn take_text<P: Plant>(plant: &mut P) -> [Option<usize>; 3] {
+// Takes up to three bytes of what comes in on a line.
+fn add_taken<P: Plant>(out: &mut Writer, plant: &mut P) {
     let mut into = [0; 3];
-    [
-        count_of(plant.take(SYSA, 1, &mut into)),
-        count_of(plant.take(SYSA, 1, &mut into)),
-        count_of(plant.take(SYSA, 1, &mut into)),
-    ]
+    match plant.take(SYSA, 1, &mut into) {
+        Took::Bytes(count) => out.add_number(b" ", count as u64),
+        Took::Failed => add_act(out, Act::Failed),
+        Took::Halted => add_act(out, Act::Halted),
+    }
+}
+
+/// What comes in on a line, three bytes at a time.
+pub fn take_text<P: Plant>(out: &mut Writer, plant: &mut P) {
+    out.add(b"taken");
+    add_taken(out, plant);
+    add_taken(out, plant);
+    add_taken(out, plant);
+    out.add(b"\n");
 }

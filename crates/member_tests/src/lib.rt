@@ -1,13 +1,10 @@
-//! Members at work: a write on the spool beside another's lock, batches that a stopped member left in flight, and
-//! threads.
+//! Members at work: a write on the spool beside another's lock, and threads.
 #![tactic(auto)]
 
 #[cfg(test)]
 mod beside;
 #[cfg(test)]
 mod quiet;
-#[cfg(test)]
-mod recovered;
 #[cfg(test)]
 mod shared;
 #[cfg(test)]

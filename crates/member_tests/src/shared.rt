@@ -9,7 +9,6 @@ use mas_complex::Complex;
 use mas_types::{Command, Entry, List, MemberId, NoMemory, Page, Reply};
 use spool_disk::{MemPlant, Sizes};
 use std::alloc::Global;
-use std::test::Fail;
 
 pub(crate) const OPERATOR: MemberId = MemberId(0);
 
@@ -49,21 +48,6 @@ pub(crate) fn pages(alloc: Global, level: u8) -> Result<List<Page>, NoMemory>
     Ok(pages)
 }
 
-// A batch of one command of a member.
-pub(crate) fn batch(alloc: Global, by: MemberId) -> Result<List<Entry>, NoMemory>
-    ensures one { IfOk result (λ entries. length entries ≡ 1) }
-    ensures own { IfOk result (λ entries. All (λ e. e.by ≡ by) entries) }
-{
-    let mut entries = List::new(alloc);
-    entries.push(Entry {
-        by,
-        step: 1,
-        command: Command::TakeConvert,
-        reply: Reply::Plain,
-    })?;
-    Ok(entries)
-}
-
 // A batch in which a member takes a group.
 pub(crate) fn taking(alloc: Global, by: MemberId) -> Result<List<Entry>, NoMemory>
     ensures one { IfOk result (λ entries. length entries ≡ 1) }
@@ -88,7 +72,7 @@ pub(crate) fn may_act(complex: &Complex<Quiet, CopyForm>, by: MemberId) -> bool
 }
 
 // A plant in memory on which the act of this number halts.
-pub(crate) fn halting(alloc: Global, act: u64) -> Result<Quiet, Fail> {
+pub(crate) fn halting(alloc: Global, act: u64) -> Result<Quiet, NoMemory> {
     let mut plant = MemPlant::new(alloc, sizes(), 400, 800_000)?;
     plant.halt_at(act, 10);
     Ok(Quiet { plant })

@@ -4,7 +4,7 @@ ghost use Rattle.mas_types.specs.declared.ids.Dev.TheVariants.{Ckpt1, Ckpt2};
 ghost use Rattle.mas_types.specs.Fit.{IsConfig};
 ghost use Rattle.spool_disk.specs.Acts.{top};
 ghost use Rattle.ckpt_form.specs.Form.{form_needs};
-ghost use Rattle.mas_complex.specs.declared.places.Place.TheVariants.{Before as AtBefore, Put as AtPut};
+ghost use Rattle.ckpt_places.specs.declared.places.Place.TheVariants.{Before as AtBefore, Put as AtPut};
 ghost use Rattle.mas_complex.specs.Journals.{entries_reserved};
 ghost use Rattle.mas_complex.specs.Locking.{MayAct, IsOwn};
 

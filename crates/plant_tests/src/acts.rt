@@ -1,11 +1,10 @@
 //! Acts of members on a plant.
-use crate::leaving::add_crash;
 use crate::shows::{add_bytes, add_device, add_parts, add_source};
 use mas_types::{Dev, MemberId, NoMemory};
 use spool_disk::{Act, Choice, Fuse, MemPlant, Plant, Sizes, Took};
 use std::alloc::Global;
 use std::mem::replace;
-use tests_lines::{add_number, number_at};
+use tests_lines::{Writer, number_at};
 
 const SIZES: Sizes = Sizes {
     ckpt: 4,
@@ -75,13 +74,12 @@ fn fuse_of(word: &[u8]) -> Fuse {
 }
 
 /// How an act ended.
-pub fn add_act(out: &mut Vec<u8>, act: Act) -> Result<(), NoMemory> {
+pub fn add_act(out: &mut Writer, act: Act) {
     match act {
-        Act::Done => out.extend_from_slice(b" done")?,
-        Act::Failed => out.extend_from_slice(b" failed")?,
-        Act::Halted => out.extend_from_slice(b" halted")?,
+        Act::Done => out.add(b" done"),
+        Act::Failed => out.add(b" failed"),
+        Act::Halted => out.add(b" halted"),
     }
-    Ok(())
 }
 
 fn write(plant: &mut MemPlant, dev: Dev, at: u64, bytes: &[u8]) -> Act {
@@ -93,7 +91,7 @@ fn write(plant: &mut MemPlant, dev: Dev, at: u64, bytes: &[u8]) -> Act {
 }
 
 // Takes up to four bytes from a wire.
-fn add_taken(out: &mut Vec<u8>, plant: &mut MemPlant, wire: u8) -> Result<(), NoMemory> {
+fn add_taken(out: &mut Writer, plant: &mut MemPlant, wire: u8) {
     let mut into = [0; 4];
     match plant.take(MemberId(1), wire, &mut into) {
         Took::Bytes(count) => add_bytes(out, into.get(..count).unwrap_or(&[])),
@@ -102,12 +100,23 @@ fn add_taken(out: &mut Vec<u8>, plant: &mut MemPlant, wire: u8) -> Result<(), No
     }
 }
 
+// What a crash leaves: the bytes of CKPT1, the whole lines, and the parts that are lost.
+fn add_crash(alloc: Global, out: &mut Writer, left: Result<MemPlant, NoMemory>) {
+    match left {
+        Ok(mut left) => {
+            add_device(out, &mut left, Dev::Ckpt1);
+            add_parts(alloc, out, &left);
+        }
+        Err(_) => out.lack(),
+    }
+}
+
 /// A plant, and what is told of it.
 #[derive(Drop)]
 pub struct Plants {
     alloc: Global,
     plant: MemPlant,
-    pub out: Vec<u8>,
+    pub out: Writer,
 }
 
 impl Plants {
@@ -116,7 +125,7 @@ impl Plants {
         Ok(Plants {
             alloc,
             plant: MemPlant::new(alloc, SIZES, 0, 0)?,
-            out: Vec::new(alloc),
+            out: Writer::new(alloc),
         })
     }
 
@@ -141,10 +150,18 @@ impl Plants {
         }
     }
 
+    // Another plant is at work.
+    fn change(&mut self, plant: Result<MemPlant, NoMemory>) {
+        match plant {
+            Ok(plant) => drop(replace(&mut self.plant, plant)),
+            Err(_) => self.out.lack(),
+        }
+    }
+
     // What is planned, lost, armed or comes in.
-    fn set(&mut self, line: &str) -> Result<(), NoMemory> {
+    fn set(&mut self, line: &str) {
         match line.as_bytes() {
-            [b'p', b'l', ..] => drop(replace(&mut self.plant, plant(self.alloc, line)?)),
+            [b'p', b'l', ..] => self.change(plant(self.alloc, line)),
             [b'l', ..] => self.plant.lose(device_at(line, 1)),
             [b'a', ..] => {
                 let count = (number_at(line, 3).unwrap_or(0) % 1_000_000) as u32;
@@ -153,69 +170,68 @@ impl Plants {
             }
             [b'i', ..] => {
                 let bytes = word_at(line, 2);
-                self.plant.wire_in(self.alloc, wire_at(line, 1), bytes)?;
+                let wire = wire_at(line, 1);
+                if self.plant.wire_in(self.alloc, wire, bytes).is_err() {
+                    self.out.lack();
+                }
             }
             _ => {}
         }
-        Ok(())
     }
 
     // What stands there.
-    fn show(&mut self, line: &str) -> Result<(), NoMemory> {
+    fn show(&mut self, line: &str) {
         let (out, plant) = (&mut self.out, &mut self.plant);
         match line.as_bytes() {
             [b'r', b'e', b'a', b'd', b's', ..] => {
                 let from = number_at(line, 2).unwrap_or(0);
-                add_number(out, b" ", plant.reads_from(device_at(line, 1), from))
+                out.add_number(b" ", plant.reads_from(device_at(line, 1), from))
             }
             [b'r', b'e', b'a', ..] => add_device(out, plant, device_at(line, 1)),
-            [b'b', ..] => add_number(out, b" ", plant.size(device_at(line, 1))),
+            [b'b', ..] => out.add_number(b" ", plant.size(device_at(line, 1))),
             [b't', ..] => add_taken(out, plant, wire_at(line, 1)),
-            [b'o', ..] => add_bytes(
-                out,
-                plant.wire_out(self.alloc, wire_at(line, 1))?.as_slice(),
-            ),
+            [b'o', ..] => match plant.wire_out(self.alloc, wire_at(line, 1)) {
+                Ok(bytes) => add_bytes(out, bytes.as_slice()),
+                Err(_) => out.lack(),
+            },
             [b'n', ..] => {
-                add_number(out, b" moment ", plant.now())?;
+                out.add_number(b" moment ", plant.now());
                 add_parts(self.alloc, out, plant)
             }
             [b'f', ..] => add_source(self.alloc, out, number_at(line, 1)),
-            _ => Ok(()),
+            _ => {}
         }
     }
 
     // What a crash leaves: told, or gone on with.
-    fn crash(&mut self, line: &str, goes_on: bool) -> Result<(), NoMemory> {
+    fn crash(&mut self, line: &str, goes_on: bool) {
         let moment = number_at(line, 1).unwrap_or(0);
         if moment > self.plant.now() {
-            return Ok(());
+            return;
         }
         let choice = choice_of(word_at(line, 2));
-        let mut left = self.plant.crash_at(self.alloc, moment, choice)?;
+        let left = self.plant.crash_at(self.alloc, moment, choice);
         if goes_on {
-            drop(replace(&mut self.plant, left));
-            return Ok(());
+            self.change(left)
+        } else {
+            add_crash(self.alloc, &mut self.out, left)
         }
-        let told = add_crash(self.alloc, &mut self.out, &mut left);
-        drop(left);
-        told
     }
 
     /// Does what a line says, and tells of it.
-    pub fn read(&mut self, line: &str) -> Result<(), NoMemory> {
-        self.out.extend_from_slice(line.as_bytes())?;
+    pub fn read(&mut self, line: &str) {
+        self.out.add(line.as_bytes());
         match line.as_bytes() {
-            [b'c', ..] => self.crash(line, false)?,
-            [b'u', ..] => self.crash(line, true)?,
+            [b'c', ..] => self.crash(line, false),
+            [b'u', ..] => self.crash(line, true),
             _ => {
-                self.set(line)?;
+                self.set(line);
                 match self.act(line) {
-                    Some(act) => add_act(&mut self.out, act)?,
-                    None => self.show(line)?,
+                    Some(act) => add_act(&mut self.out, act),
+                    None => self.show(line),
                 }
             }
         }
-        self.out.extend_from_slice(b"\n")?;
-        Ok(())
+        self.out.add(b"\n");
     }
 }

@@ -4,31 +4,18 @@
 #![tactic(auto)]
 
 mod acts;
-mod leaving;
 mod shows;
 
 use acts::Plants;
-use mas_types::NoMemory;
 use std::io::Write;
 use std::process::ExitCode;
 
-fn run(rt: &HostRuntime, plants: &mut Plants) -> Result<(), NoMemory> {
+fn run(rt: &HostRuntime, plants: &mut Plants) {
     for line in rt.lines(rt.alloc()) {
-        let Ok(line) = line else {
-            return Err(NoMemory);
-        };
-        plants.read(line.as_str())?;
-    }
-    Ok(())
-}
-
-fn write(rt: &HostRuntime, plants: &mut Plants) -> ExitCode {
-    if run(rt, plants).is_err() {
-        return ExitCode::FAILURE;
-    }
-    match rt.stdout().write_all(plants.out.as_slice()) {
-        Ok(()) => ExitCode::SUCCESS,
-        Err(_) => ExitCode::FAILURE,
+        match line {
+            Ok(line) => plants.read(line.as_str()),
+            Err(_) => plants.out.lack(),
+        }
     }
 }
 
@@ -36,7 +23,10 @@ fn main(rt: HostRuntime) -> ExitCode {
     let Ok(mut plants) = Plants::new(rt.alloc()) else {
         return ExitCode::FAILURE;
     };
-    let code = write(&rt, &mut plants);
-    drop(plants);
-    code
+    run(&rt, &mut plants);
+    if rt.stdout().write_all(plants.out.bytes()).is_ok() && plants.out.is_whole() {
+        ExitCode::SUCCESS
+    } else {
+        ExitCode::FAILURE
+    }
 }

@@ -7,7 +7,7 @@ use mas_run::{Ended, play_script};
 use mas_types::{Dev, List, NoMemory};
 use spool_disk::{Choice, MemPlant, MemSource, Plant, Sizes};
 use std::alloc::{AllocError, Global};
-use tests_lines::number_at;
+use tests_lines::{Writer, number_at};
 
 /// An act that no run comes to.
 pub const NEVER: u64 = u64::MAX;
@@ -30,9 +30,9 @@ pub struct Case {
     /// The bytes of the one volume.
     pub volume: u64,
     /// The script of the cold run.
-    pub script: Vec<u8>,
+    pub script: Writer,
     /// The script of the start after it.
-    pub next: Vec<u8>,
+    pub next: Writer,
     /// The lines that come belong to the start.
     pub to_next: bool,
     /// After how many bytes the source of the cold run fails.
@@ -60,8 +60,8 @@ impl Case {
         Case {
             ckpt: 4096 * 35,
             volume: 4096 * 4,
-            script: Vec::new(alloc),
-            next: Vec::new(alloc),
+            script: Writer::new(alloc),
+            next: Writer::new(alloc),
             to_next: false,
             source: None,
             lost: None,
@@ -75,15 +75,19 @@ impl Case {
     }
 
     /// Adds a line to one of its scripts.
-    pub fn add(&mut self, line: &str) -> Result<(), NoMemory> {
+    pub fn add(&mut self, line: &str) {
         let script = if self.to_next {
             &mut self.next
         } else {
             &mut self.script
         };
-        script.extend_from_slice(line.as_bytes())?;
-        script.extend_from_slice(b"\n")?;
-        Ok(())
+        script.add(line.as_bytes());
+        script.add(b"\n");
+    }
+
+    /// There was memory for its scripts.
+    pub fn is_whole(&self) -> bool {
+        self.script.is_whole() && self.next.is_whole()
     }
 
     // Devices that were never written, what is planned for them, and what of them is lost.
@@ -105,7 +109,7 @@ impl Case {
 
     /// The cold run.
     pub fn run(&self, alloc: Global) -> Result<Run, NoMemory> {
-        let source = source_of(alloc, self.script.as_slice(), self.source)?;
+        let source = source_of(alloc, self.script.bytes(), self.source)?;
         let plant = self.plant(alloc)?;
         play_on(alloc, true, source, plant)
     }
@@ -168,7 +172,7 @@ fn byte_of(line: &str) -> Option<(Dev, u64, u8)> {
 }
 
 /// Sets what a line says by its first letter.
-pub fn set(alloc: Global, case: &mut Case, word: u8, line: &str) -> Result<(), NoMemory> {
+pub fn set(alloc: Global, case: &mut Case, word: u8, line: &str) {
     let first = number_at(line, 1);
     let second = number_at(line, 2);
     match word {
@@ -185,11 +189,10 @@ pub fn set(alloc: Global, case: &mut Case, word: u8, line: &str) -> Result<(), N
         b'f' => case.fails = [first.unwrap_or(NEVER), second.unwrap_or(NEVER)],
         b'h' => {
             case.halts = first.unwrap_or(NEVER);
-            case.keep = (second.unwrap_or(0) % 4096) as u32;
+            case.keep = (second.unwrap_or(0) % 65_536) as u32;
         }
         b'w' => case.byte = byte_of(line),
         b'e' => case.equal = true,
         _ => {}
     }
-    Ok(())
 }

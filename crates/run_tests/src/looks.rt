@@ -2,10 +2,10 @@
 use crate::cases::{Case, crashed, start};
 use crate::queues::add_queue;
 use mas_run::Ended;
-use mas_types::{Batch, Dev, Fate, Job, MemberId, NoMemory, Phase, Status, status_line};
+use mas_types::{Batch, Dev, Fate, Job, Lines, MemberId, NoMemory, Phase, Status, status_line};
 use spool_disk::{Act, Choice, MemPlant, Part, Plant};
 use std::alloc::Global;
-use tests_lines::{add_flag, add_lines, add_number};
+use tests_lines::Writer;
 
 const SYSA: MemberId = MemberId(1);
 
@@ -56,63 +56,48 @@ fn fated(batches: &[Batch], fate: Fate) -> u64 {
 }
 
 /// How a run ended.
-pub fn add_status(alloc: Global, line: &mut Vec<u8>, status: &Status) -> Result<(), NoMemory> {
-    match status_line(alloc, status)? {
-        None => Ok(line.extend_from_slice(b"DONE")?),
-        Some(text) => Ok(line.extend_from_slice(text.as_slice())?),
+pub fn add_status(alloc: Global, line: &mut Writer, status: &Status) {
+    match status_line(alloc, status) {
+        Ok(None) => line.add(b"DONE"),
+        Ok(Some(text)) => line.add(text.as_slice()),
+        Err(_) => line.lack(),
     }
 }
 
-fn add_lost_disk(
-    line: &mut Vec<u8>,
-    word: &[u8],
-    plant: &MemPlant,
-    dev: Dev,
-) -> Result<(), NoMemory> {
-    add_flag(line, word, plant.lost(Part::Disk(dev)))
+/// Which parts are lost.
+pub fn add_lost(line: &mut Writer, plant: &MemPlant) {
+    line.add(b", lost");
+    line.add_flag(b" CKPT1", plant.lost(Part::Disk(Dev::Ckpt1)));
+    line.add_flag(b" CKPT2", plant.lost(Part::Disk(Dev::Ckpt2)));
+    line.add_flag(b" SPOOL1", plant.lost(Part::Disk(Dev::Spool(1))));
+    line.add_flag(b" PRT1", plant.lost(Part::Printer(SYSA)))
 }
 
-/// Which parts are lost.
-pub fn add_lost(line: &mut Vec<u8>, plant: &MemPlant) -> Result<(), NoMemory> {
-    line.extend_from_slice(b", lost")?;
-    add_lost_disk(line, b" CKPT1", plant, Dev::Ckpt1)?;
-    add_lost_disk(line, b" CKPT2", plant, Dev::Ckpt2)?;
-    add_lost_disk(line, b" SPOOL1", plant, Dev::Spool(1))?;
-    add_flag(line, b" PRT1", plant.lost(Part::Printer(SYSA)))
+// The lines from one on, behind a word.
+fn add_paper(line: &mut Writer, word: &[u8], lines: Result<Lines, NoMemory>, from: usize) {
+    line.add(word);
+    line.add_read(lines, from);
 }
 
 // Which parts are lost, what stands on the console from a line on, and what on SYSA's paper, and on SYSB's if it
 // printed.
-fn add_outside(
-    alloc: Global,
-    line: &mut Vec<u8>,
-    plant: &MemPlant,
-    said: usize,
-) -> Result<(), NoMemory> {
-    add_lost(line, plant)?;
-    line.extend_from_slice(b", says")?;
-    add_lines(line, &plant.console_lines(alloc)?, said)?;
-    line.extend_from_slice(b", paper")?;
-    add_lines(line, &plant.printer_lines(alloc, SYSA)?, 0)?;
-    let other = plant.printer_lines(alloc, SYSB)?;
-    if other.len() > 0 {
-        line.extend_from_slice(b", paper of SYSB")?;
-        add_lines(line, &other, 0)?;
+fn add_outside(alloc: Global, line: &mut Writer, plant: &MemPlant, said: usize) {
+    add_lost(line, plant);
+    add_paper(line, b", says", plant.console_lines(alloc), said);
+    add_paper(line, b", paper", plant.printer_lines(alloc, SYSA), 0);
+    let other = plant.printer_lines(alloc, SYSB);
+    if !matches!(&other, Ok(lines) if lines.len() == 0) {
+        add_paper(line, b", paper of SYSB", other, 0);
     }
-    Ok(())
 }
 
 /// How a run ended: its status, how many batches are kept and how many in flight, what is lost, and what it said and
 /// printed.
-pub fn add_ended(
-    alloc: Global,
-    line: &mut Vec<u8>,
-    ended: &Ended<MemPlant>,
-) -> Result<(), NoMemory> {
+pub fn add_ended(alloc: Global, line: &mut Writer, ended: &Ended<MemPlant>) {
     let batches = ended.journal.batches.as_slice();
-    add_status(alloc, line, &ended.status)?;
-    add_number(line, b", kept ", fated(batches, Fate::Kept))?;
-    add_number(line, b", flying ", fated(batches, Fate::Flying))?;
+    add_status(alloc, line, &ended.status);
+    line.add_number(b", kept ", fated(batches, Fate::Kept));
+    line.add_number(b", flying ", fated(batches, Fate::Flying));
     add_outside(alloc, line, &ended.plant, 0)
 }
 
@@ -188,22 +173,14 @@ fn are_equal(first: &[u8], second: &[u8]) -> bool {
     true
 }
 
-// How a start ended, and the queue that it found.
-fn add_next(alloc: Global, line: &mut Vec<u8>, ended: &Ended<MemPlant>) -> Result<(), NoMemory> {
-    line.extend_from_slice(b", then ")?;
-    add_status(alloc, line, &ended.status)?;
-    add_queue(line, &ended.base)
-}
-
 /// The queue that a start finds behind an ended run.
-pub fn add_left(
-    alloc: Global,
-    line: &mut Vec<u8>,
-    ended: &Ended<MemPlant>,
-) -> Result<(), NoMemory> {
+pub fn add_left(alloc: Global, line: &mut Writer, ended: &Ended<MemPlant>) -> Result<(), NoMemory> {
     let left = crashed(alloc, &ended.plant, ended.plant.now(), Choice::Old)?;
     let next = start(alloc, b"", left)?;
-    add_next(alloc, line, &next)
+    line.add(b", then ");
+    add_status(alloc, line, &next.status);
+    add_queue(line, &next.base);
+    Ok(())
 }
 
 // Loses what is lost in a crash, and writes the byte of another hand.
@@ -217,37 +194,34 @@ fn change(case: &Case, left: &mut MemPlant) {
 }
 
 // How a start ended: its status, its batches, the queue that it found, what is lost, and what it said and printed.
-fn add_start(
-    alloc: Global,
-    line: &mut Vec<u8>,
-    ended: &Ended<MemPlant>,
-    said: usize,
-) -> Result<(), NoMemory> {
-    add_status(alloc, line, &ended.status)?;
-    add_number(line, b", batches ", ended.journal.batches.len() as u64)?;
-    line.extend_from_slice(b",")?;
-    add_queue(line, &ended.base)?;
+fn add_start(alloc: Global, line: &mut Writer, ended: &Ended<MemPlant>, said: usize) {
+    add_status(alloc, line, &ended.status);
+    line.add_number(b", batches ", ended.journal.batches.len() as u64);
+    line.add(b",");
+    add_queue(line, &ended.base);
     add_outside(alloc, line, &ended.plant, said)
 }
 
-fn add_equal(alloc: Global, line: &mut Vec<u8>, plant: &mut MemPlant) -> Result<(), NoMemory> {
+/// Tells whether both copies read as the same pages.
+pub fn add_equal(alloc: Global, line: &mut Writer, plant: &mut MemPlant) -> Result<(), NoMemory> {
     let first = content(alloc, plant, Dev::Ckpt1)?;
     let second = content(alloc, plant, Dev::Ckpt2)?;
     let equal = are_equal(first.as_slice(), second.as_slice());
-    add_flag(line, b", copies are equal", equal)?;
-    add_flag(line, b", copies differ", !equal)
+    line.add_flag(b", copies are equal", equal);
+    line.add_flag(b", copies differ", !equal);
+    Ok(())
 }
 
 // All that is told of a start.
 fn add_found(
     alloc: Global,
-    line: &mut Vec<u8>,
+    line: &mut Writer,
     case: &Case,
     ended: &mut Ended<MemPlant>,
     said: usize,
 ) -> Result<u64, NoMemory> {
-    add_start(alloc, line, ended, said)?;
-    if case.next.len() > 0 {
+    add_start(alloc, line, ended, said);
+    if case.next.bytes().len() > 0 {
         add_left(alloc, line, ended)?;
     }
     if case.equal {
@@ -264,13 +238,13 @@ pub fn count_said(alloc: Global, plant: &MemPlant) -> Result<usize, NoMemory> {
 /// Tells a start of what a crash leaves. It gives after how many batches of decks its queue is.
 pub fn found(
     alloc: Global,
-    line: &mut Vec<u8>,
+    line: &mut Writer,
     case: &Case,
     left: Box<MemPlant>,
 ) -> Result<u64, NoMemory> {
     let mut left = left;
     change(case, &mut left);
     let said = count_said(alloc, &left)?;
-    let mut ended = start(alloc, case.next.as_slice(), left)?;
+    let mut ended = start(alloc, case.next.bytes(), left)?;
     add_found(alloc, line, case, &mut ended, said)
 }

@@ -22,15 +22,16 @@ use std::process::ExitCode;
 fn take(case: &mut Case, told: &mut Told, line: &str) -> Result<(), NoMemory> {
     match line.as_bytes() {
         [b'.', word, ..] => {
-            told.echo(line)?;
-            set(told.alloc, case, *word, line)
+            told.echo(line);
+            set(told.alloc, case, *word, line);
         }
         [b'!', word, ..] => {
-            told.echo(line)?;
-            play(case, told, *word, line)
+            told.echo(line);
+            play(case, told, *word, line)?;
         }
         _ => case.add(line),
     }
+    Ok(())
 }
 
 fn run(rt: &HostRuntime, case: &mut Case, told: &mut Told) -> Result<(), NoMemory> {
@@ -47,7 +48,8 @@ fn main(rt: HostRuntime) -> ExitCode {
     let mut told = Told::new(rt.alloc());
     let mut case = Case::new(rt.alloc());
     let played = run(&rt, &mut case, &mut told);
-    if played.is_ok() && rt.stdout().write_all(told.out.as_slice()).is_ok() {
+    let is_whole = played.is_ok() && case.is_whole() && told.out.is_whole();
+    if rt.stdout().write_all(told.out.bytes()).is_ok() && is_whole {
         ExitCode::SUCCESS
     } else {
         ExitCode::FAILURE

@@ -6,18 +6,18 @@ use mas_run::Ended;
 use mas_types::{Dev, List, MemberId, NoMemory};
 use spool_disk::{Choice, MemPlant, Plant};
 use std::alloc::Global;
-use tests_lines::{add_number, number_at};
+use tests_lines::{Writer, number_at};
 
 /// What is told: the lines, the states that starts found, by number, and the stretch of moments or acts with one
 /// outcome that isn't told yet.
 #[derive(Drop)]
 pub struct Told {
     pub alloc: Global,
-    pub out: Vec<u8>,
-    states: List<Vec<u8>>,
+    pub out: Writer,
+    states: List<Writer>,
     from: u64,
     to: u64,
-    outcome: Vec<u8>,
+    outcome: Writer,
 }
 
 impl Told {
@@ -25,97 +25,92 @@ impl Told {
     pub fn new(alloc: Global) -> Told {
         Told {
             alloc,
-            out: Vec::new(alloc),
+            out: Writer::new(alloc),
             states: List::new(alloc),
             from: 0,
             to: 0,
-            outcome: Vec::new(alloc),
+            outcome: Writer::new(alloc),
         }
     }
 
     /// Tells a line as it is.
-    pub fn echo(&mut self, line: &str) -> Result<(), NoMemory> {
-        self.out.extend_from_slice(line.as_bytes())?;
-        self.out.extend_from_slice(b"\n")?;
-        Ok(())
+    pub fn echo(&mut self, line: &str) {
+        self.out.add(line.as_bytes());
+        self.out.add(b"\n");
     }
 
     // The number of a state that was told.
     fn known(&self, state: &[u8]) -> Option<u64> {
         for at in 0..self.states.len() {
-            if self.states.item(at).as_slice() == state {
+            if self.states.item(at).bytes() == state {
                 return Some(at as u64);
             }
         }
         None
     }
 
-    fn tell(&mut self, number: u64, state: &[u8]) -> Result<(), NoMemory> {
-        add_number(&mut self.out, b"#", number)?;
-        self.out.extend_from_slice(b" ")?;
-        self.out.extend_from_slice(state)?;
-        self.out.extend_from_slice(b"\n")?;
-        Ok(())
-    }
-
     /// The number of a state, which is told where it is a new one.
-    pub fn state(&mut self, state: Vec<u8>) -> Result<u64, NoMemory> {
-        if let Some(number) = self.known(state.as_slice()) {
-            return Ok(number);
+    pub fn state(&mut self, state: Writer) -> u64 {
+        if let Some(number) = self.known(state.bytes()) {
+            return number;
         }
         let number = self.states.len() as u64;
-        self.tell(number, state.as_slice())?;
-        self.states.push(state)?;
-        Ok(number)
+        self.out.add_number(b"#", number);
+        self.out.add(b" ");
+        self.out.add_text(&state);
+        self.out.add(b"\n");
+        if self.states.push(state).is_err() {
+            self.out.lack();
+        }
+        number
     }
 
     /// Tells the stretch, if there is one.
-    pub fn end(&mut self) -> Result<(), NoMemory> {
-        if self.outcome.len() == 0 {
-            return Ok(());
+    pub fn end(&mut self) {
+        if self.outcome.bytes().len() == 0 {
+            return;
         }
-        add_number(&mut self.out, b"", self.from)?;
-        add_number(&mut self.out, b"..", self.to)?;
-        self.out.extend_from_slice(b" ")?;
-        self.out.extend_from_slice(self.outcome.as_slice())?;
-        self.out.extend_from_slice(b"\n")?;
+        self.out.add_number(b"", self.from);
+        self.out.add_number(b"..", self.to);
+        self.out.add(b" ");
+        self.out.add_text(&self.outcome);
+        self.out.add(b"\n");
         self.outcome.clear();
-        Ok(())
     }
 
     /// The outcome of a moment or an act. It goes on with the stretch, or begins one.
-    pub fn at(&mut self, at: u64, outcome: Vec<u8>) -> Result<(), NoMemory> {
-        if self.outcome.as_slice() != outcome.as_slice() {
-            self.end()?;
+    pub fn at(&mut self, at: u64, outcome: Writer) {
+        if self.outcome.bytes() != outcome.bytes() {
+            self.end();
             self.from = at;
             self.outcome = outcome;
         }
         self.to = at;
-        Ok(())
     }
 
     // What a start finds behind a crash at a moment, with one image.
     fn add_image(
         &mut self,
-        line: &mut Vec<u8>,
+        line: &mut Writer,
         case: &Case,
         run: &Ended<MemPlant>,
         t: u64,
         image: (Choice, &[u8]),
     ) -> Result<(), NoMemory> {
         let (choice, word) = image;
-        let mut state = Vec::new(self.alloc);
+        let mut state = Writer::new(self.alloc);
         let left = crashed(self.alloc, &run.plant, t, choice)?;
         let batches = found(self.alloc, &mut state, case, left)?;
-        let number = self.state(state)?;
-        add_number(line, word, batches)?;
-        add_number(line, b" #", number)
+        let number = self.state(state);
+        line.add_number(word, batches);
+        line.add_number(b" #", number);
+        Ok(())
     }
 
     // What a start finds behind a crash at a moment, with each image.
     fn add_found(
         &mut self,
-        line: &mut Vec<u8>,
+        line: &mut Writer,
         case: &Case,
         run: &Ended<MemPlant>,
         t: u64,
@@ -127,10 +122,11 @@ impl Told {
 
     // The outcome of a moment.
     fn moment(&mut self, case: &Case, run: &Ended<MemPlant>, t: u64) -> Result<(), NoMemory> {
-        let mut line = Vec::new(self.alloc);
+        let mut line = Writer::new(self.alloc);
         add_moment(self.alloc, &mut line, run, t)?;
         self.add_found(&mut line, case, run, t)?;
-        self.at(t, line)
+        self.at(t, line);
+        Ok(())
     }
 
     fn moments(
@@ -143,7 +139,8 @@ impl Told {
         for t in from..=to.min(run.plant.now()) {
             self.moment(case, run, t)?;
         }
-        self.end()
+        self.end();
+        Ok(())
     }
 
     // The outcome of a run, and what a start finds behind a crash at its end, by an act's number or that of the last
@@ -155,10 +152,11 @@ impl Told {
         number: Option<u64>,
     ) -> Result<(), NoMemory> {
         let now = run.plant.now();
-        let mut line = Vec::new(self.alloc);
-        add_ended(self.alloc, &mut line, run)?;
+        let mut line = Writer::new(self.alloc);
+        add_ended(self.alloc, &mut line, run);
         self.add_found(&mut line, case, run, now)?;
-        self.at(number.unwrap_or(now), line)
+        self.at(number.unwrap_or(now), line);
+        Ok(())
     }
 
     fn ended(&mut self, case: &Case, number: Option<u64>) -> Result<(), NoMemory> {
@@ -169,7 +167,8 @@ impl Told {
     // The outcome of a run by itself.
     fn whole(&mut self, case: &Case) -> Result<(), NoMemory> {
         self.ended(case, None)?;
-        self.end()
+        self.end();
+        Ok(())
     }
 
     // A crash at each of the moments that a mode is about.
@@ -189,13 +188,8 @@ impl Told {
             }
             self.ended(case, Some(act))?;
         }
-        self.end()
-    }
-
-    // A block of a device.
-    fn rows(&mut self, plant: &mut MemPlant, dev: Dev, number: u64) -> Result<(), NoMemory> {
-        let bytes = content(self.alloc, plant, dev)?;
-        add_rows(&mut self.out, block(bytes.as_slice(), number as usize))
+        self.end();
+        Ok(())
     }
 
     // A block that a run leaves.
@@ -205,28 +199,28 @@ impl Told {
             return Ok(());
         };
         let mut run = case.run(self.alloc)?;
-        self.rows(&mut run.plant, dev, number)
+        let bytes = content(self.alloc, &mut run.plant, dev)?;
+        add_rows(&mut self.out, block(bytes.as_slice(), number as usize));
+        Ok(())
     }
 }
 
-fn add_row(out: &mut Vec<u8>, at: u64, bytes: &[u8]) -> Result<(), NoMemory> {
-    add_number(out, b"", at)?;
-    out.extend_from_slice(b":")?;
+fn add_row(out: &mut Writer, at: u64, bytes: &[u8]) {
+    out.add_number(b"", at);
+    out.add(b":");
     for byte in bytes {
-        add_number(out, b" ", *byte as u64)?;
+        out.add_number(b" ", *byte as u64);
     }
-    out.extend_from_slice(b"\n")?;
-    Ok(())
+    out.add(b"\n");
 }
 
 // The bytes of a block, sixteen a line, without the lines of zeros.
-fn add_rows(out: &mut Vec<u8>, bytes: &[u8]) -> Result<(), NoMemory> {
+fn add_rows(out: &mut Writer, bytes: &[u8]) {
     for (row, bytes) in bytes.chunks(16).enumerate() {
         if !bytes.starts_with(&[0; 16]) {
-            add_row(out, (row as u64).saturating_mul(16), bytes)?;
+            add_row(out, (row as u64).saturating_mul(16), bytes);
         }
     }
-    Ok(())
 }
 
 /// The moment at which a batch was kept.
@@ -239,23 +233,24 @@ pub fn kept_at(run: &Ended<MemPlant>, number: u64) -> u64 {
 }
 
 // How many lines were said and printed.
-fn add_lines_count(alloc: Global, line: &mut Vec<u8>, plant: &MemPlant) -> Result<(), NoMemory> {
+fn add_lines_count(alloc: Global, line: &mut Writer, plant: &MemPlant) -> Result<(), NoMemory> {
     let said = count_said(alloc, plant)? as u64;
     let printed = plant.printer_lines(alloc, MemberId(1))?.len() as u64;
-    add_number(line, b", said ", said)?;
-    add_number(line, b", printed ", printed)
+    line.add_number(b", said ", said);
+    line.add_number(b", printed ", printed);
+    Ok(())
 }
 
 // How many batches were kept and begun at a moment, and how many lines said and printed.
 fn add_moment(
     alloc: Global,
-    line: &mut Vec<u8>,
+    line: &mut Writer,
     run: &Ended<MemPlant>,
     t: u64,
 ) -> Result<(), NoMemory> {
     let (kept, begun) = kept_and_begun(run.journal.batches.as_slice(), t);
-    add_number(line, b"kept ", kept)?;
-    add_number(line, b", begun ", begun)?;
+    line.add_number(b"kept ", kept);
+    line.add_number(b", begun ", begun);
     let left = crashed(alloc, &run.plant, t, Choice::Old)?;
     add_lines_count(alloc, line, &left)
 }

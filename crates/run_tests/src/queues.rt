@@ -1,22 +1,16 @@
 //! A queue in one line.
-use mas_types::{Job, LineCount, NoMemory, Output, Owner, Phase, Queue, Text};
-use tests_lines::{add_config, add_fields, add_flag, add_lines, add_name, add_number};
+use mas_types::{Job, LineCount, Output, Owner, Phase, Queue, Text};
+use tests_lines::Writer;
 
 // Two numbers, each behind a word.
-fn add_two(
-    line: &mut Vec<u8>,
-    word: &[u8],
-    first: u64,
-    between: &[u8],
-    second: u64,
-) -> Result<(), NoMemory> {
-    add_number(line, word, first)?;
-    add_number(line, between, second)
+fn add_two(line: &mut Writer, word: &[u8], first: u64, between: &[u8], second: u64) {
+    line.add_number(word, first);
+    line.add_number(between, second)
 }
 
-fn add_text(line: &mut Vec<u8>, text: &Text) -> Result<(), NoMemory> {
+fn add_text(line: &mut Writer, text: &Text) {
     match text {
-        Text::Whole(lines) => add_lines(line, lines, 0),
+        Text::Whole(lines) => line.add_lines(lines, 0),
         Text::Gone(group, count) => {
             add_two(line, b" gone ", group.0 as u64, b" of ", *count as u64)
         }
@@ -35,51 +29,51 @@ fn phase_word(phase: Phase) -> &'static [u8] {
     }
 }
 
-fn add_job(line: &mut Vec<u8>, job: &Job) -> Result<(), NoMemory> {
-    add_number(line, b", J", job.number.0 as u64)?;
-    add_fields(line, &job.fields)?;
-    line.extend_from_slice(phase_word(job.phase))?;
-    add_flag(line, b" cancelled", job.cancelled)?;
-    add_number(line, b" busy ", job.busy.0 as u64)?;
+fn add_job(line: &mut Writer, job: &Job) {
+    line.add_number(b", J", job.number.0 as u64);
+    line.add_fields(&job.fields);
+    line.add(phase_word(job.phase));
+    line.add_flag(b" cancelled", job.cancelled);
+    line.add_number(b" busy ", job.busy.0 as u64);
     add_text(line, &job.text)
 }
 
 // Of what kind an output is, and where it goes.
-fn add_kind(line: &mut Vec<u8>, output: &Output) -> Result<(), NoMemory> {
-    line.extend_from_slice(&[b' ', output.class.0])?;
-    add_name(line, &output.dest)?;
-    add_name(line, &output.forms)?;
-    add_number(line, b" ", output.copies as u64)
+fn add_kind(line: &mut Writer, output: &Output) {
+    line.add(&[b' ', output.class.0]);
+    line.add_name(&output.dest);
+    line.add_name(&output.forms);
+    line.add_number(b" ", output.copies as u64)
 }
 
-fn add_output(line: &mut Vec<u8>, output: &Output) -> Result<(), NoMemory> {
+fn add_output(line: &mut Writer, output: &Output) {
     add_two(
         line,
         b", O",
         output.job.0 as u64,
         b".",
         output.index.0 as u64,
-    )?;
-    add_kind(line, output)?;
-    add_flag(line, b" held", output.held)?;
+    );
+    add_kind(line, output);
+    line.add_flag(b" held", output.held);
     add_two(
         line,
         b" busy ",
         output.busy.0 as u64,
         b" mark ",
         output.mark as u64,
-    )?;
+    );
     add_text(line, &output.text)
 }
 
-fn add_owner(line: &mut Vec<u8>, owner: &Owner) -> Result<(), NoMemory> {
+fn add_owner(line: &mut Writer, owner: &Owner) {
     match owner {
-        Owner::Free => Ok(line.extend_from_slice(b" -")?),
-        Owner::Member(member) => add_number(line, b" M", member.0 as u64),
+        Owner::Free => line.add(b" -"),
+        Owner::Member(member) => line.add_number(b" M", member.0 as u64),
         Owner::Deck { job, place } => add_two(line, b" D", job.0 as u64, b".", *place as u64),
         Owner::Output { job, index, place } => {
-            add_two(line, b" O", job.0 as u64, b".", index.0 as u64)?;
-            add_number(line, b".", *place as u64)
+            add_two(line, b" O", job.0 as u64, b".", index.0 as u64);
+            line.add_number(b".", *place as u64)
         }
     }
 }
@@ -89,19 +83,19 @@ fn is_used(line: &LineCount) -> bool {
 }
 
 /// Adds all of a queue but the settings of its members and its routes.
-pub fn add_queue(line: &mut Vec<u8>, queue: &Queue) -> Result<(), NoMemory> {
-    add_config(line, &queue.config)?;
-    add_number(line, b", last ", queue.last.0 as u64)?;
+pub fn add_queue(line: &mut Writer, queue: &Queue) {
+    line.add_config(&queue.config);
+    line.add_number(b", last ", queue.last.0 as u64);
     for job in queue.jobs.as_slice() {
-        add_job(line, job)?;
+        add_job(line, job);
     }
     for output in queue.outputs.as_slice() {
-        add_output(line, output)?;
+        add_output(line, output);
     }
-    line.extend_from_slice(b", groups")?;
+    line.add(b", groups");
     for owner in queue.owners.as_slice() {
-        add_owner(line, owner)?;
+        add_owner(line, owner);
     }
     let used = queue.lines.as_slice().iter().any(|line| is_used(line));
-    add_flag(line, b", lines are used", used)
+    line.add_flag(b", lines are used", used)
 }

@@ -1,14 +1,14 @@
 //! Starts on copies of which either is as a run left it, older, without pages, with pages that can't be used, or lost:
-//! each start by itself, and beside a copy as it was left with each of its acts failing. Told are its status, the parts
-//! that are lost, what became of the bytes of both copies, and what the next start finds.
+//! each start by itself, and with each of its acts failing. Told are its status, the parts that are lost, what became
+//! of the bytes of both copies, whether both read as the same pages then, and what the next start finds.
 use crate::cases::{Case, NEVER, boxed, crashed, start};
-use crate::looks::{BLOCK, add_left, add_lost, add_status, content, put};
+use crate::looks::{BLOCK, add_equal, add_left, add_lost, add_status, content, put};
 use crate::modes::{Told, kept_at};
 use mas_run::Ended;
 use mas_types::{Dev, NoMemory};
 use spool_disk::{Choice, MemPlant, Part, Plant};
 use std::alloc::Global;
-use tests_lines::{add_flag, add_number};
+use tests_lines::Writer;
 
 /// The first bytes of a page 0.
 const HEADER: &[u8] = b"MASCKPT1";
@@ -116,43 +116,49 @@ fn is_same(
 // What became of the bytes of a copy.
 fn add_copy(
     alloc: Global,
-    line: &mut Vec<u8>,
+    line: &mut Writer,
     before: &mut MemPlant,
     after: &mut MemPlant,
     dev: Dev,
 ) -> Result<(), NoMemory> {
     if after.lost(Part::Disk(dev)) {
-        return Ok(line.extend_from_slice(b" is lost")?);
+        line.add(b" is lost");
+        return Ok(());
     }
     let same = is_same(alloc, before, after, dev)?;
-    add_flag(line, b" is the same", same)?;
-    add_flag(line, b" is written", !same)
+    line.add_flag(b" is the same", same);
+    line.add_flag(b" is written", !same);
+    Ok(())
 }
 
 // What became of the bytes of both copies.
 fn add_copies(
     alloc: Global,
-    line: &mut Vec<u8>,
+    line: &mut Writer,
     before: &mut MemPlant,
     after: &mut MemPlant,
 ) -> Result<(), NoMemory> {
-    line.extend_from_slice(b", CKPT1")?;
+    line.add(b", CKPT1");
     add_copy(alloc, line, before, after, Dev::Ckpt1)?;
-    line.extend_from_slice(b", CKPT2")?;
+    line.add(b", CKPT2");
     add_copy(alloc, line, before, after, Dev::Ckpt2)
 }
 
 // How a start ended, which parts are lost, and what became of both copies.
 fn add_start(
     alloc: Global,
-    line: &mut Vec<u8>,
+    line: &mut Writer,
     ready: &MemPlant,
     ended: &mut Ended<MemPlant>,
 ) -> Result<(), NoMemory> {
-    add_status(alloc, line, &ended.status)?;
-    add_lost(line, &ended.plant)?;
+    add_status(alloc, line, &ended.status);
+    add_lost(line, &ended.plant);
     let mut before = crashed(alloc, ready, 0, Choice::Old)?;
-    add_copies(alloc, line, &mut before, &mut ended.plant)
+    add_copies(alloc, line, &mut before, &mut ended.plant)?;
+    if ended.plant.lost(Part::Disk(Dev::Ckpt1)) || ended.plant.lost(Part::Disk(Dev::Ckpt2)) {
+        return Ok(());
+    }
+    add_equal(alloc, line, &mut ended.plant)
 }
 
 // A copy of a plant, of which an act is to fail.
@@ -171,13 +177,13 @@ impl Told {
         act: Option<u64>,
     ) -> Result<u64, NoMemory> {
         let acts = ended.plant.now();
-        let mut found = Vec::new(self.alloc);
+        let mut found = Writer::new(self.alloc);
         add_left(self.alloc, &mut found, ended)?;
-        let number = self.state(found)?;
-        let mut line = Vec::new(self.alloc);
+        let number = self.state(found);
+        let mut line = Writer::new(self.alloc);
         add_start(self.alloc, &mut line, ready, ended)?;
-        add_number(&mut line, b", then #", number)?;
-        self.at(act.unwrap_or(acts), line)?;
+        line.add_number(b", then #", number);
+        self.at(act.unwrap_or(acts), line);
         Ok(acts)
     }
 
@@ -189,33 +195,31 @@ impl Told {
         act: Option<u64>,
     ) -> Result<u64, NoMemory> {
         let plant = failing(self.alloc, ready, act.unwrap_or(NEVER))?;
-        let mut ended = start(self.alloc, case.next.as_slice(), plant)?;
+        let mut ended = start(self.alloc, case.next.bytes(), plant)?;
         self.start(ready, &mut ended, act)
     }
 
     // A start on copies in these forms, and again with each of its acts failing.
-    fn pair(&mut self, case: &Case, ready: &MemPlant, each: bool) -> Result<(), NoMemory> {
+    fn pair(&mut self, case: &Case, ready: &MemPlant) -> Result<(), NoMemory> {
         let acts = self.attempt(case, ready, None)?;
-        self.end()?;
-        if each {
-            for act in 0..acts {
-                self.attempt(case, ready, Some(act))?;
-            }
+        self.end();
+        for act in 0..acts {
+            self.attempt(case, ready, Some(act))?;
         }
-        self.end()
-    }
-
-    // The heading of two forms.
-    fn forms(&mut self, first: Form, second: Form) -> Result<(), NoMemory> {
-        self.out.extend_from_slice(b"CKPT1")?;
-        self.out.extend_from_slice(form_word(first))?;
-        self.out.extend_from_slice(b", CKPT2")?;
-        self.out.extend_from_slice(form_word(second))?;
-        self.out.extend_from_slice(b"\n")?;
+        self.end();
         Ok(())
     }
 
-    // Starts on copies in two forms; where one is as it was left with each act failing too.
+    // The heading of two forms.
+    fn forms(&mut self, first: Form, second: Form) {
+        self.out.add(b"CKPT1");
+        self.out.add(form_word(first));
+        self.out.add(b", CKPT2");
+        self.out.add(form_word(second));
+        self.out.add(b"\n");
+    }
+
+    // Starts on copies in two forms.
     fn starts_on(
         &mut self,
         case: &Case,
@@ -224,10 +228,9 @@ impl Told {
         first: Form,
         second: Form,
     ) -> Result<(), NoMemory> {
-        self.forms(first, second)?;
+        self.forms(first, second);
         let ready = prepared(self.alloc, run, moment, first, second)?;
-        let each = matches!(first, Form::Left) || matches!(second, Form::Left);
-        self.pair(case, &ready, each)
+        self.pair(case, &ready)
     }
 
     fn starts_on_all(

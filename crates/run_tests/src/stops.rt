@@ -6,7 +6,8 @@
 use crate::cases::{Case, crashed, start};
 use crate::looks::kept_and_begun;
 use crate::modes::Told;
-use crate::plain::{Stage, Stages, line_of, stages_of};
+use crate::plain::lines_of;
+use crate::queues::add_queue;
 use mas_run::Ended;
 use mas_types::words::{push_digits, push_output_key};
 use mas_types::{
@@ -14,14 +15,16 @@ use mas_types::{
 };
 use spool_disk::{Choice, MemPlant, Part, Plant};
 use std::alloc::Global;
-use tests_lines::{add_flag, add_number};
+use tests_lines::Writer;
 
 // What a start may find.
-#[derive(Clone, Copy, PartialEq, Eq)]
+#[derive(Clone, Copy)]
 enum Find {
-    // The queue after the kept batches.
+    // The queue after the kept batches, where none is in flight.
+    Settled,
+    // That, where one is.
     Without,
-    // That with the batch in flight.
+    // The queue with the batch in flight.
     With,
     // No copy is left.
     Nothing,
@@ -29,109 +32,69 @@ enum Find {
     Wrong,
 }
 
-// What was found behind a stop, and in how many starts.
+// What was found behind a stop.
 #[derive(Clone, Copy)]
 struct Tally {
     settled: bool,
     without: bool,
     with: bool,
     wrong: u64,
-    starts: u64,
 }
 
 impl Tally {
-    fn new() -> Tally {
-        Tally {
-            settled: false,
-            without: false,
-            with: false,
-            wrong: 0,
-            starts: 0,
-        }
-    }
-
-    // One more find, at a moment at which a batch is in flight or none is.
-    fn note(&mut self, find: Find, flies: bool) {
-        self.starts = self.starts.saturating_add(1);
+    fn note(&mut self, find: Find) {
         match find {
-            Find::Without if flies => self.without = true,
-            Find::Without => self.settled = true,
+            Find::Settled => self.settled = true,
+            Find::Without => self.without = true,
             Find::With => self.with = true,
             Find::Nothing => {}
             Find::Wrong => self.wrong = self.wrong.saturating_add(1),
         }
     }
 
-    fn check(&mut self, holds: bool) {
-        if !holds {
-            self.wrong = self.wrong.saturating_add(1);
+    fn add(&self, line: &mut Writer) {
+        line.add_flag(b"none in flight, ", self.settled);
+        line.add_flag(b"in flight and dropped, ", self.without);
+        line.add_flag(b"in flight and kept, ", self.with);
+        line.add_number(b"wrong ", self.wrong)
+    }
+}
+
+// Whether a start's line is the one at a place.
+fn is_there(lines: &[Writer], at: u64, line: &[u8]) -> bool {
+    match lines.get(at as usize) {
+        Some(there) => there.bytes() == line,
+        None => false,
+    }
+}
+
+// The place of the queue after so many batches: the last of them that was kept made it.
+fn place_of(batches: &[Batch], ended: u64) -> u64 {
+    let mut place = 0u64;
+    let mut number = 0u64;
+    for batch in batches {
+        number = number.saturating_add(1);
+        if number <= ended && batch.fate == Fate::Kept {
+            place = number;
         }
     }
-
-    fn add(&self, line: &mut Vec<u8>) -> Result<(), NoMemory> {
-        add_flag(line, b"none in flight, ", self.settled)?;
-        add_flag(line, b"in flight and dropped, ", self.without)?;
-        add_flag(line, b"in flight and kept, ", self.with)?;
-        add_number(line, b"wrong ", self.wrong)
-    }
+    place
 }
 
-// Whether a stage is that line as it is.
-fn is_left(stages: &[Stage], at: u64, line: &[u8]) -> bool {
-    match stages.get(at as usize) {
-        Some(stage) => stage.left.as_slice() == line,
-        None => false,
+// What a start found behind a crash at a moment, by its line.
+fn find_of(lines: &[Writer], batches: &[Batch], t: u64, line: &[u8]) -> Find {
+    let (ended, begun) = kept_and_begun(batches, t);
+    let is_kept = is_there(lines, place_of(batches, ended), line);
+    if begun <= ended {
+        return if is_kept { Find::Settled } else { Find::Wrong };
     }
-}
-
-// Whether a stage is that line after the reset.
-fn is_reset(stages: &[Stage], at: u64, line: &[u8]) -> bool {
-    match stages.get(at as usize) {
-        Some(stage) => stage.reset.as_slice() == line,
-        None => false,
-    }
-}
-
-// What a queue in a line is, behind so many batches, of which the last is in flight if more had begun.
-fn find_of(stages: &Stages, ended: u64, begun: u64, line: &[u8]) -> Find {
-    if is_left(stages.kept.as_slice(), ended, line) {
+    if is_kept {
         Find::Without
-    } else if begun > ended && is_left(stages.coming.as_slice(), ended, line) {
+    } else if is_there(lines, begun, line) {
         Find::With
     } else {
         Find::Wrong
     }
-}
-
-// Whether a queue in a line is that find, reset.
-fn is_found_again(stages: &Stages, ended: u64, find: Find, line: &[u8]) -> bool {
-    match find {
-        Find::Without => is_reset(stages.kept.as_slice(), ended, line),
-        Find::With => is_reset(stages.coming.as_slice(), ended, line),
-        _ => false,
-    }
-}
-
-// What the printers have, one after another.
-fn papers_of(alloc: Global, plant: &MemPlant) -> Result<Lines, NoMemory> {
-    let mut papers = Lines::new(alloc);
-    for member in 1..=MEMBERS_MOST {
-        let lines = plant.printer_lines(alloc, MemberId(member))?;
-        for at in 0..lines.len() {
-            papers.push(lines.line(at))?;
-        }
-    }
-    Ok(papers)
-}
-
-// Whether a line begins so.
-fn has_line(lines: &Lines, front: &[u8]) -> bool {
-    for at in 0..lines.len() {
-        if lines.line(at).starts_with(front) {
-            return true;
-        }
-    }
-    false
 }
 
 // How the line of that number of an output begins on paper.
@@ -144,11 +107,24 @@ fn front_of(alloc: Global, output: &Output, number: u32) -> Result<List<u8>, NoM
     Ok(front)
 }
 
-// Each line that the output's mark counts is among these.
-fn is_printed(alloc: Global, papers: &Lines, output: &Output) -> Result<bool, NoMemory> {
+// A line of some paper begins so.
+fn is_on_paper(alloc: Global, plant: &MemPlant, front: &[u8]) -> Result<bool, NoMemory> {
+    for member in 1..=MEMBERS_MOST {
+        let lines = plant.printer_lines(alloc, MemberId(member))?;
+        for at in 0..lines.len() {
+            if lines.line(at).starts_with(front) {
+                return Ok(true);
+            }
+        }
+    }
+    Ok(false)
+}
+
+// Each line that the output's mark counts stands on some paper.
+fn is_printed(alloc: Global, plant: &MemPlant, output: &Output) -> Result<bool, NoMemory> {
     for number in 1..=output.mark {
         let front = front_of(alloc, output, number)?;
-        if !has_line(papers, front.as_slice()) {
+        if !is_on_paper(alloc, plant, front.as_slice())? {
             return Ok(false);
         }
     }
@@ -157,9 +133,8 @@ fn is_printed(alloc: Global, papers: &Lines, output: &Output) -> Result<bool, No
 
 // Each line that a mark counts stands on some paper.
 fn are_printed(alloc: Global, plant: &MemPlant, queue: &Queue) -> Result<bool, NoMemory> {
-    let papers = papers_of(alloc, plant)?;
     for output in queue.outputs.as_slice() {
-        if !is_printed(alloc, &papers, output)? {
+        if !is_printed(alloc, plant, output)? {
             return Ok(false);
         }
     }
@@ -207,99 +182,79 @@ fn are_told_kept(console: &Lines, batches: &[Batch], t: u64) -> bool {
     true
 }
 
-// What a crash leaves, with a copy lost besides, if one is.
-fn left_of(
-    alloc: Global,
-    plant: &MemPlant,
-    t: u64,
-    choice: Choice,
-    gone: Option<Dev>,
-) -> Result<Box<MemPlant>, NoMemory> {
-    let mut left = crashed(alloc, plant, t, choice)?;
-    if let Some(dev) = gone {
-        left.lose(dev);
-    }
-    Ok(left)
+// Each line that stood on the console at a moment tells a step that was kept by then.
+fn is_told_kept(alloc: Global, run: &Ended<MemPlant>, t: u64) -> Result<bool, NoMemory> {
+    let left = crashed(alloc, &run.plant, t, Choice::Old)?;
+    let console = left.console_lines(alloc)?;
+    Ok(are_told_kept(&console, run.journal.batches.as_slice(), t))
 }
 
-fn is_nothing_left(left: &MemPlant) -> bool {
-    left.lost(Part::Disk(Dev::Ckpt1)) && left.lost(Part::Disk(Dev::Ckpt2))
-}
-
-// What the start after a start finds, in a line.
-fn line_again(alloc: Global, first: &Ended<MemPlant>) -> Result<Vec<u8>, NoMemory> {
+// The queue that a start found, and behind it the one that the start after it finds.
+fn line_of(alloc: Global, first: &Ended<MemPlant>) -> Result<Writer, NoMemory> {
     let left = crashed(alloc, &first.plant, first.plant.now(), Choice::New)?;
     let second = start(alloc, b"", left)?;
-    line_of(alloc, &second.base)
+    let mut line = Writer::new(alloc);
+    add_queue(&mut line, &first.base);
+    add_queue(&mut line, &second.base);
+    Ok(line)
 }
 
-// What a start found, behind so many batches.
+// What a start finds on what a crash at a moment left.
 fn judge(
     alloc: Global,
-    stages: &Stages,
-    ended: u64,
-    begun: u64,
-    first: &Ended<MemPlant>,
+    lines: &[Writer],
+    batches: &[Batch],
+    t: u64,
+    left: Box<MemPlant>,
 ) -> Result<Find, NoMemory> {
-    let line = line_of(alloc, &first.base)?;
-    let find = find_of(stages, ended, begun, line.as_slice());
-    let again = line_again(alloc, first)?;
-    let stays = is_found_again(stages, ended, find, again.as_slice());
+    let first = start(alloc, b"", left)?;
+    let line = line_of(alloc, &first)?;
     let printed = are_printed(alloc, &first.plant, &first.base)?;
-    if stays && printed && matches!(&first.status, Status::Done) {
-        Ok(find)
+    if printed && matches!(&first.status, Status::Done) {
+        Ok(find_of(lines, batches, t, line.bytes()))
     } else {
         Ok(Find::Wrong)
     }
 }
 
-// A moment of a run: when, and how many of its batches had ended and begun.
-#[derive(Clone, Copy)]
-struct Moment {
-    t: u64,
-    ended: u64,
-    begun: u64,
-}
-
-fn moment_at(batches: &[Batch], t: u64) -> Moment {
-    let (ended, begun) = kept_and_begun(batches, t);
-    Moment { t, ended, begun }
-}
-
-// What a start finds behind a crash at a moment.
+// What a start finds behind a crash at a moment, with a copy lost besides, if one is.
 fn found_at(
     alloc: Global,
     run: &Ended<MemPlant>,
-    stages: &Stages,
-    moment: Moment,
+    lines: &[Writer],
+    t: u64,
     choice: Choice,
     gone: Option<Dev>,
 ) -> Result<Find, NoMemory> {
-    let left = left_of(alloc, &run.plant, moment.t, choice, gone)?;
-    if is_nothing_left(&left) {
+    let mut left = crashed(alloc, &run.plant, t, choice)?;
+    if let Some(dev) = gone {
+        left.lose(dev);
+    }
+    if left.lost(Part::Disk(Dev::Ckpt1)) && left.lost(Part::Disk(Dev::Ckpt2)) {
         return Ok(Find::Nothing);
     }
-    let first = start(alloc, b"", left)?;
-    judge(alloc, stages, moment.ended, moment.begun, &first)
+    judge(alloc, lines, run.journal.batches.as_slice(), t, left)
 }
 
 // The three starts behind a crash at a moment with one image.
 fn image_at(
     alloc: Global,
     run: &Ended<MemPlant>,
-    stages: &Stages,
-    moment: Moment,
+    lines: &[Writer],
+    t: u64,
     choice: Choice,
     tally: &mut Tally,
 ) -> Result<(), NoMemory> {
-    let flies = moment.begun > moment.ended;
-    let both = found_at(alloc, run, stages, moment, choice, None)?;
-    let second = found_at(alloc, run, stages, moment, choice, Some(Dev::Ckpt1))?;
-    let first = found_at(alloc, run, stages, moment, choice, Some(Dev::Ckpt2))?;
-    tally.note(both, flies);
-    tally.note(second, flies);
-    tally.note(first, flies);
-    tally.check((both == Find::With) == (first == Find::With || second == Find::With));
+    let both = found_at(alloc, run, lines, t, choice, None)?;
+    let second = found_at(alloc, run, lines, t, choice, Some(Dev::Ckpt1))?;
+    let first = found_at(alloc, run, lines, t, choice, Some(Dev::Ckpt2))?;
+    tally.note(both);
+    tally.note(second);
+    tally.note(first);
+    let either = matches!(first, Find::With) || matches!(second, Find::With);
+    if matches!(both, Find::With) != either {
+        tally.note(Find::Wrong);
+    }
     Ok(())
 }
 
@@ -307,81 +262,86 @@ fn image_at(
 fn crash_at(
     alloc: Global,
     run: &Ended<MemPlant>,
-    stages: &Stages,
+    lines: &[Writer],
     t: u64,
     tally: &mut Tally,
 ) -> Result<(), NoMemory> {
-    let batches = run.journal.batches.as_slice();
-    let left = crashed(alloc, &run.plant, t, Choice::Old)?;
-    let console = left.console_lines(alloc)?;
-    tally.check(are_told_kept(&console, batches, t));
-    let moment = moment_at(batches, t);
-    image_at(alloc, run, stages, moment, Choice::Old, tally)?;
-    image_at(alloc, run, stages, moment, Choice::New, tally)?;
-    image_at(alloc, run, stages, moment, Choice::Ones, tally)
+    if !is_told_kept(alloc, run, t)? {
+        tally.note(Find::Wrong);
+    }
+    image_at(alloc, run, lines, t, Choice::Old, tally)?;
+    image_at(alloc, run, lines, t, Choice::New, tally)?;
+    image_at(alloc, run, lines, t, Choice::Ones, tally)
 }
 
-// The act before a moment read a device, so that the moment is as the one before it.
-fn is_behind_read(plant: &MemPlant, dev: Dev, t: u64) -> bool {
-    plant.reads_from(dev, t.saturating_sub(1)) > plant.reads_from(dev, t)
+// How many reads were done since a moment.
+fn reads_from(plant: &MemPlant, t: u64) -> u64 {
+    let first = plant.reads_from(Dev::Ckpt1, t);
+    let second = plant.reads_from(Dev::Ckpt2, t);
+    let volume = plant.reads_from(Dev::Spool(1), t);
+    first.saturating_add(second).saturating_add(volume)
 }
 
-fn is_as_before(plant: &MemPlant, t: u64) -> bool {
-    is_behind_read(plant, Dev::Ckpt1, t)
-        || is_behind_read(plant, Dev::Ckpt2, t)
-        || is_behind_read(plant, Dev::Spool(1), t)
-}
-
-// The starts behind a crash at each moment from one on, but for those that are as the one before.
+// The starts behind a crash at each moment from one on. Behind a read a moment is as the one before it.
 fn crashes_from(
     alloc: Global,
     run: &Ended<MemPlant>,
-    stages: &Stages,
+    lines: &[Writer],
     from: u64,
 ) -> Result<Tally, NoMemory> {
-    let mut tally = Tally::new();
+    let mut tally = Tally {
+        settled: false,
+        without: false,
+        with: false,
+        wrong: 0,
+    };
     for t in from..=run.plant.now() {
-        if t == from || !is_as_before(&run.plant, t) {
-            crash_at(alloc, run, stages, t, &mut tally)?;
+        let before = reads_from(&run.plant, t.saturating_sub(1));
+        if t == from || before == reads_from(&run.plant, t) {
+            crash_at(alloc, run, lines, t, &mut tally)?;
         }
     }
     Ok(tally)
 }
 
-impl Told {
-    // A run with a stop at an act, and what starts find behind it.
-    fn stop(&mut self, case: &Case, run: &Ended<MemPlant>, act: u64) -> Result<u64, NoMemory> {
-        let batches = &run.journal.batches;
-        let Some(stages) = stages_of(self.alloc, case.script.as_slice(), batches)? else {
-            return Ok(0);
-        };
-        let tally = crashes_from(self.alloc, run, &stages, act)?;
-        let mut line = Vec::new(self.alloc);
-        tally.add(&mut line)?;
-        self.at(act, line)?;
-        Ok(tally.starts)
-    }
+// What starts find behind a stop at an act of a run.
+fn tally_of(
+    alloc: Global,
+    case: &Case,
+    run: &Ended<MemPlant>,
+    act: u64,
+) -> Result<Tally, NoMemory> {
+    let lines = lines_of(alloc, case.script.bytes(), &run.journal.batches)?;
+    crashes_from(alloc, run, lines.as_slice(), act)
+}
 
-    // The runs, one after another, up to one that ends before the act. It gives how many starts there were.
-    fn starts_of(&mut self, case: &mut Case, from: u64, to: u64) -> Result<u64, NoMemory> {
-        let mut starts = 0u64;
-        for act in from..=to {
-            case.halts = act;
-            let run = case.run(self.alloc)?;
-            if act >= run.plant.now() {
-                break;
-            }
-            starts = starts.saturating_add(self.stop(case, &run, act)?);
-        }
-        self.end()?;
-        Ok(starts)
+// The same, and none where the run doesn't come to the act.
+fn tally_at(alloc: Global, case: &Case, act: u64) -> Result<Option<Tally>, NoMemory> {
+    let run = case.run(alloc)?;
+    if act >= run.plant.now() {
+        return Ok(None);
+    }
+    Ok(Some(tally_of(alloc, case, &run, act)?))
+}
+
+impl Told {
+    // What starts find behind a stop at an act.
+    fn stop(&mut self, tally: &Tally, act: u64) {
+        let mut line = Writer::new(self.alloc);
+        tally.add(&mut line);
+        self.at(act, line)
     }
 
     /// Each act of a stretch halts, up to the first that no run comes to, with a crash at each moment behind it.
     pub fn stops(&mut self, case: &mut Case, from: u64, to: u64) -> Result<(), NoMemory> {
-        let starts = self.starts_of(case, from, to)?;
-        add_number(&mut self.out, b"starts ", starts)?;
-        self.out.extend_from_slice(b"\n")?;
+        for act in from..=to {
+            case.halts = act;
+            let Some(tally) = tally_at(self.alloc, case, act)? else {
+                break;
+            };
+            self.stop(&tally, act);
+        }
+        self.end();
         Ok(())
     }
 }

@@ -1,11 +1,11 @@
 //! The program's words and the operator's commands, as they are read.
 use crate::reading::add_refusal;
-use mas_types::{Class, Command, JobNo, List, MemberId, Name8, NoMemory, OutNo, Prio, What};
+use mas_types::{Class, Command, JobNo, List, MemberId, Name8, OutNo, Prio, What};
 use mas_words::{Verb, Words, WordsNo, read_words};
 use operator_cmds::{read_command, write_command};
 use std::alloc::{AllocError, Global};
 use std::str;
-use tests_lines::{add_flag, add_number};
+use tests_lines::Writer;
 
 fn words_in(alloc: Global, line: &str) -> Result<Vec<String>, AllocError> {
     let mut words = Vec::new(alloc);
@@ -28,29 +28,27 @@ fn words_of(alloc: Global, text: &[u8]) -> Result<Words, WordsNo> {
     }
 }
 
-fn add_verb(out: &mut Vec<u8>, verb: Verb) -> Result<(), NoMemory> {
+fn add_verb(out: &mut Writer, verb: Verb) {
     match verb {
-        Verb::Play => out.extend_from_slice(b"PLAY")?,
-        Verb::Race => out.extend_from_slice(b"RACE")?,
-        Verb::Format => out.extend_from_slice(b"FORMAT")?,
-        Verb::Report => out.extend_from_slice(b"REPORT")?,
-        Verb::Check => out.extend_from_slice(b"CHECK")?,
-        Verb::Generate(decks) => add_number(out, b"GENERATE ", decks as u64)?,
+        Verb::Play => out.add(b"PLAY"),
+        Verb::Race => out.add(b"RACE"),
+        Verb::Format => out.add(b"FORMAT"),
+        Verb::Report => out.add(b"REPORT"),
+        Verb::Check => out.add(b"CHECK"),
+        Verb::Generate(decks) => out.add_number(b"GENERATE ", decks as u64),
     }
-    Ok(())
 }
 
-fn add_read_words(out: &mut Vec<u8>, words: &Words) -> Result<(), NoMemory> {
-    add_verb(out, words.verb)?;
-    add_flag(out, b" COLD", words.cold)?;
-    out.extend_from_slice(b" [")?;
-    out.extend_from_slice(words.dir.as_slice())?;
-    out.extend_from_slice(b"]")?;
-    Ok(())
+fn add_read_words(out: &mut Writer, words: &Words) {
+    add_verb(out, words.verb);
+    out.add_flag(b" COLD", words.cold);
+    out.add(b" [");
+    out.add(words.dir.as_slice());
+    out.add(b"]");
 }
 
 /// The words of a line, between blanks.
-pub fn add_words(alloc: Global, out: &mut Vec<u8>, text: &[u8]) -> Result<(), NoMemory> {
+pub fn add_words(alloc: Global, out: &mut Writer, text: &[u8]) {
     match words_of(alloc, text) {
         Ok(words) => add_read_words(out, &words),
         Err(refusal) => add_refusal(alloc, out, &refusal),
@@ -58,50 +56,49 @@ pub fn add_words(alloc: Global, out: &mut Vec<u8>, text: &[u8]) -> Result<(), No
 }
 
 /// A command, the first word of what it does and its numbers.
-pub fn add_meaning(out: &mut Vec<u8>, command: &Command) -> Result<(), NoMemory> {
+pub fn add_meaning(out: &mut Writer, command: &Command) {
     match command {
-        Command::Hold { job } => add_number(out, b" HOLD ", job.0 as u64),
+        Command::Hold { job } => out.add_number(b" HOLD ", job.0 as u64),
         Command::SetPrio { job, prio } => {
-            add_number(out, b" PRIORITY ", job.0 as u64)?;
-            add_number(out, b" ", prio.0 as u64)
+            out.add_number(b" PRIORITY ", job.0 as u64);
+            out.add_number(b" ", prio.0 as u64)
         }
         Command::SetOut { job, index, class } => {
-            add_number(out, b" OUTPUT ", job.0 as u64)?;
-            add_number(out, b" ", index.0 as u64)?;
-            Ok(out.extend_from_slice(&[b' ', class.0])?)
+            out.add_number(b" OUTPUT ", job.0 as u64);
+            out.add_number(b" ", index.0 as u64);
+            out.add(&[b' ', class.0])
         }
-        Command::Reset { of } => add_number(out, b" RESET ", of.0 as u64),
-        Command::Show { what: What::Queue } => Ok(out.extend_from_slice(b" QUEUE")?),
+        Command::Reset { of } => out.add_number(b" RESET ", of.0 as u64),
+        Command::Show { what: What::Queue } => out.add(b" QUEUE"),
         Command::Show {
             what: What::Outputs,
-        } => Ok(out.extend_from_slice(b" OUTPUTS")?),
-        _ => Ok(()),
+        } => out.add(b" OUTPUTS"),
+        _ => {}
     }
 }
 
 // A command as it is written. Whether it is.
-fn add_written(alloc: Global, out: &mut Vec<u8>, command: &Command) -> Result<bool, NoMemory> {
+fn add_written(alloc: Global, out: &mut Writer, command: &Command) -> bool {
     match write_command(alloc, command) {
         Ok(written) => {
-            out.extend_from_slice(written.as_slice())?;
-            Ok(true)
+            out.add(written.as_slice());
+            true
         }
         Err(refusal) => {
-            add_refusal(alloc, out, &refusal)?;
-            Ok(false)
+            add_refusal(alloc, out, &refusal);
+            false
         }
     }
 }
 
-fn add_again(alloc: Global, out: &mut Vec<u8>, command: &Command) -> Result<(), NoMemory> {
-    if add_written(alloc, out, command)? {
-        add_meaning(out, command)?;
+fn add_again(alloc: Global, out: &mut Writer, command: &Command) {
+    if add_written(alloc, out, command) {
+        add_meaning(out, command);
     }
-    Ok(())
 }
 
 /// A command as it is written again.
-pub fn add_command(alloc: Global, out: &mut Vec<u8>, text: &[u8]) -> Result<(), NoMemory> {
+pub fn add_command(alloc: Global, out: &mut Writer, text: &[u8]) {
     match read_command(alloc, text) {
         Ok(command) => add_again(alloc, out, &command),
         Err(refusal) => add_refusal(alloc, out, &refusal),
@@ -146,13 +143,10 @@ fn untyped(alloc: Global, at: u32) -> Command {
 }
 
 /// What the writer of commands answers to each of those.
-pub fn add_untyped(alloc: Global, out: &mut Vec<u8>) -> Result<(), NoMemory> {
+pub fn add_untyped(alloc: Global, out: &mut Writer) {
     for at in 0..14 {
         let command = untyped(alloc, at);
-        let written = add_written(alloc, out, &command);
-        drop(command);
-        written?;
-        out.extend_from_slice(b" ")?;
+        add_written(alloc, out, &command);
+        out.add(b" ");
     }
-    Ok(())
 }

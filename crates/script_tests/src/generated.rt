@@ -4,10 +4,10 @@ use card_reader::read_deck;
 use gen_work::{DECKS_MOST, generate};
 use jcl_convert::convert;
 use job_exec::run_steps;
-use mas_types::{Lines, List, NoMemory, OutSpec};
+use mas_types::{Lines, List, OutSpec};
 use script_lang::{Ask, Script, read_script};
 use std::alloc::Global;
-use tests_lines::add_number;
+use tests_lines::Writer;
 
 /// The script of at most so many decks is told whole.
 const TOLD: u32 = 4;
@@ -32,47 +32,53 @@ fn line_count(outputs: &List<OutSpec>) -> u64 {
 }
 
 // How many lines the job of a deck prints; none where the deck or its job is refused.
-fn printed_by(alloc: Global, cards: &Lines) -> Result<u64, NoMemory> {
+fn printed_by(alloc: Global, out: &mut Writer, cards: &Lines) -> u64 {
     let Ok(deck) = read_deck(alloc, HERE, cards) else {
-        return Ok(0);
+        return 0;
     };
     let Ok(steps) = convert(alloc, &deck.fields, &deck.text) else {
-        return Ok(0);
+        return 0;
     };
-    Ok(line_count(&run_steps(alloc, &steps)?.outputs))
+    match run_steps(alloc, &steps) {
+        Ok(ran) => line_count(&ran.outputs),
+        Err(_) => {
+            out.lack();
+            0
+        }
+    }
 }
 
-fn printed(alloc: Global, script: &Script) -> Result<u64, NoMemory> {
+fn printed(alloc: Global, out: &mut Writer, script: &Script) -> u64 {
     let mut count = 0u64;
     for step in script.steps.as_slice() {
         if let Ask::Deck(cards) = &step.what {
-            count = count.saturating_add(printed_by(alloc, cards)?);
+            count = count.saturating_add(printed_by(alloc, out, cards));
         }
     }
-    Ok(count)
+    count
 }
 
 // What is told of the script of so many decks.
-fn add_text(alloc: Global, out: &mut Vec<u8>, decks: u32, text: &[u8]) -> Result<(), NoMemory> {
-    add_number(out, b"bytes ", text.len() as u64)?;
-    add_number(out, b", checksum ", checksum(text))?;
+fn add_text(alloc: Global, out: &mut Writer, decks: u32, text: &[u8]) {
+    out.add_number(b"bytes ", text.len() as u64);
+    out.add_number(b", checksum ", checksum(text));
     if let Ok(script) = read_script(alloc, text, true, false, false) {
-        add_number(out, b", steps ", script.steps.len() as u64)?;
-        add_number(out, b", printed ", printed(alloc, &script)?)?;
+        out.add_number(b", steps ", script.steps.len() as u64);
+        let lines = printed(alloc, out, &script);
+        out.add_number(b", printed ", lines);
     }
     if decks <= TOLD {
-        out.extend_from_slice(b"\n")?;
-        out.extend_from_slice(text)?;
+        out.add(b"\n");
+        out.add(text);
     }
-    Ok(())
 }
 
 /// The script of so many decks: how many bytes it has, their checksum, how many steps are read of it, and how many
 /// lines its jobs print; of few decks the script itself.
-pub fn add_generated(alloc: Global, out: &mut Vec<u8>, decks: Option<u64>) -> Result<(), NoMemory> {
+pub fn add_generated(alloc: Global, out: &mut Writer, decks: Option<u64>) {
     let decks = decks.unwrap_or(1).min(DECKS_MOST as u64).max(1) as u32;
-    let text = generate(alloc, decks)?;
-    let told = add_text(alloc, out, decks, text.as_slice());
-    drop(text);
-    told
+    match generate(alloc, decks) {
+        Ok(text) => add_text(alloc, out, decks, text.as_slice()),
+        Err(_) => out.lack(),
+    }
 }

@@ -9,28 +9,25 @@ mod reading;
 mod scripts;
 mod sources;
 
-use mas_types::NoMemory;
 use reading::{Reading, read};
 use std::io::Write;
 use std::process::ExitCode;
 
-fn run(rt: &HostRuntime) -> Result<Vec<u8>, NoMemory> {
-    let mut reading = Reading::new(rt.alloc());
+fn run(rt: &HostRuntime, reading: &mut Reading) {
     for line in rt.lines(rt.alloc()) {
-        let Ok(line) = line else {
-            return Err(NoMemory);
-        };
-        read(&mut reading, line.as_str())?;
+        match line {
+            Ok(line) => read(reading, line.as_str()),
+            Err(_) => reading.out.lack(),
+        }
     }
-    Ok(reading.out)
 }
 
 fn main(rt: HostRuntime) -> ExitCode {
-    let Ok(out) = run(&rt) else {
-        return ExitCode::FAILURE;
-    };
-    match rt.stdout().write_all(out.as_slice()) {
-        Ok(()) => ExitCode::SUCCESS,
-        Err(_) => ExitCode::FAILURE,
+    let mut reading = Reading::new(rt.alloc());
+    run(&rt, &mut reading);
+    if rt.stdout().write_all(reading.out.bytes()).is_ok() && reading.is_whole() {
+        ExitCode::SUCCESS
+    } else {
+        ExitCode::FAILURE
     }
 }

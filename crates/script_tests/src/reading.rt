@@ -1,14 +1,13 @@
 //! A line of standard input: its first word, and the text behind it, in which some bytes are written as a backslash and
 //! a letter.
 use crate::commands::{add_command, add_untyped, add_words};
-use crate::decks::{add_converted, add_deck, add_executed, add_listing};
+use crate::decks::{add_converted, add_deck, add_executed, add_listing, cards_of};
 use crate::generated::add_generated;
 use crate::scripts::{add_input, add_script};
 use crate::sources::{add_source, add_zeros};
-use mas_types::NoMemory;
 use std::alloc::Global;
 use std::fmt::Debug;
-use tests_lines::number_at;
+use tests_lines::{Writer, number_at};
 
 /// How a script is read: cold, by members in threads, and only to format.
 #[derive(Clone, Copy)]
@@ -52,8 +51,8 @@ const BEGIN: Run = Run {
 #[derive(Drop)]
 pub struct Reading {
     pub alloc: Global,
-    pub out: Vec<u8>,
-    before: Vec<u8>,
+    pub out: Writer,
+    before: Writer,
 }
 
 impl Reading {
@@ -61,35 +60,27 @@ impl Reading {
     pub fn new(alloc: Global) -> Reading {
         Reading {
             alloc,
-            out: Vec::new(alloc),
-            before: Vec::new(alloc),
+            out: Writer::new(alloc),
+            before: Writer::new(alloc),
         }
+    }
+
+    /// There was memory for all of it.
+    pub fn is_whole(&self) -> bool {
+        self.out.is_whole() && self.before.is_whole()
     }
 
     // Writes a line again.
-    fn echo(&mut self, line: &str) -> Result<(), NoMemory> {
-        self.out.extend_from_slice(line.as_bytes())?;
-        self.out.extend_from_slice(b"\n ")?;
-        Ok(())
-    }
-
-    // The bytes of a text, with what stands before them.
-    fn text(&mut self, text: &str) -> Result<Vec<u8>, NoMemory> {
-        let mut bytes = Vec::new(self.alloc);
-        bytes.extend_from_slice(self.before.as_slice())?;
-        self.before.clear();
-        add_unescaped(&mut bytes, text)?;
-        Ok(bytes)
+    fn echo(&mut self, line: &str) {
+        self.out.add(line.as_bytes());
+        self.out.add(b"\n ");
     }
 
     // Puts a text before the next one, so many times.
-    fn put_before(&mut self, times: u64, text: &str) -> Result<(), NoMemory> {
-        let mut bytes = Vec::new(self.alloc);
-        add_unescaped(&mut bytes, text)?;
+    fn put_before(&mut self, times: u64, text: &str) {
         for _time in 0..times {
-            self.before.extend_from_slice(bytes.as_slice())?;
+            add_unescaped(&mut self.before, text);
         }
-        Ok(())
     }
 }
 
@@ -106,34 +97,41 @@ fn byte_of(letter: u8) -> u8 {
     }
 }
 
-fn add_unescaped(bytes: &mut Vec<u8>, text: &str) -> Result<(), NoMemory> {
+fn add_unescaped(bytes: &mut Writer, text: &str) {
     let mut is_escaped = false;
     for byte in text.as_bytes() {
         if is_escaped {
-            bytes.extend_from_slice(&[byte_of(*byte)])?;
+            bytes.add(&[byte_of(*byte)]);
             is_escaped = false;
         } else if *byte == b'\\' {
             is_escaped = true;
         } else {
-            bytes.extend_from_slice(&[*byte])?;
+            bytes.add(&[*byte]);
         }
     }
-    Ok(())
 }
 
 /// Writes why something is refused.
-pub fn add_refusal<E: Debug>(
-    alloc: Global,
-    out: &mut Vec<u8>,
-    refusal: &E,
-) -> Result<(), NoMemory> {
-    let text = format!(in alloc; "{refusal:?}")?;
-    out.extend_from_slice(text.as_bytes())?;
-    Ok(())
+pub fn add_refusal<E: Debug>(alloc: Global, out: &mut Writer, refusal: &E) {
+    match format!(in alloc; "{refusal:?}") {
+        Ok(text) => out.add(text.as_bytes()),
+        Err(_) => out.lack(),
+    }
+}
+
+// Reads the cards that a text is as the first letter of a word says.
+fn add_cards(alloc: Global, out: &mut Writer, kind: &[u8], text: &[u8]) {
+    let cards = cards_of(alloc, out, text);
+    match kind {
+        [b'd', ..] => add_deck(alloc, out, &cards),
+        [b'j', ..] => add_converted(alloc, out, &cards),
+        [b'e', ..] => add_executed(alloc, out, &cards),
+        _ => {}
+    }
 }
 
 // Reads a text as the first letter of a word says.
-fn add_read(alloc: Global, out: &mut Vec<u8>, kind: &[u8], text: &[u8]) -> Result<(), NoMemory> {
+fn add_read(alloc: Global, out: &mut Writer, kind: &[u8], text: &[u8]) {
     match kind {
         [b'w', ..] => add_words(alloc, out, text),
         [b'o', ..] => add_command(alloc, out, text),
@@ -145,23 +143,15 @@ fn add_read(alloc: Global, out: &mut Vec<u8>, kind: &[u8], text: &[u8]) -> Resul
         [b'g', ..] => add_input(alloc, out, text, WARM),
         [b'm', ..] => add_input(alloc, out, text, FORMAT),
         [b'b', ..] => add_input(alloc, out, text, BEGIN),
-        [b'd', ..] => add_deck(alloc, out, text),
-        [b'j', ..] => add_converted(alloc, out, text),
-        [b'e', ..] => add_executed(alloc, out, text),
         [b'n', ..] => add_listing(alloc, out, text),
-        _ => Ok(()),
+        kind => add_cards(alloc, out, kind, text),
     }
 }
 
 // Tells of a text as a word says, or of a number.
-fn tell(
-    reading: &mut Reading,
-    kind: &[u8],
-    number: Option<u64>,
-    text: &[u8],
-) -> Result<(), NoMemory> {
-    let alloc = reading.alloc;
-    let out = &mut reading.out;
+fn tell(reading: &mut Reading, kind: &[u8], number: Option<u64>) {
+    let (alloc, out) = (reading.alloc, &mut reading.out);
+    let text = reading.before.bytes();
     match kind {
         [b's', ..] => add_source(alloc, out, text, None),
         [b'a', ..] => add_source(alloc, out, b"SYSA DECK\n", number),
@@ -173,19 +163,15 @@ fn tell(
 }
 
 /// Reads a line as its first word says.
-pub fn read(reading: &mut Reading, line: &str) -> Result<(), NoMemory> {
+pub fn read(reading: &mut Reading, line: &str) {
     let (kind, text) = line.split_once(' ').unwrap_or((line, ""));
     if kind == "times" {
-        let Some((times, text)) = text.split_once(' ') else {
-            return Ok(());
-        };
+        let (times, text) = text.split_once(' ').unwrap_or((text, ""));
         return reading.put_before(number_at(times, 0).unwrap_or(0), text);
     }
-    reading.echo(line)?;
-    let text = reading.text(text)?;
-    let number = number_at(line, 1);
-    let told = tell(reading, kind.as_bytes(), number, text.as_slice());
-    drop(text);
-    told?;
-    Ok(reading.out.extend_from_slice(b"\n")?)
+    reading.echo(line);
+    add_unescaped(&mut reading.before, text);
+    tell(reading, kind.as_bytes(), number_at(line, 1));
+    reading.before.clear();
+    reading.out.add(b"\n")
 }

@@ -1,10 +1,10 @@
 //! Sources of a script: bytes in memory, which may fail, and zeros, of which there may be no end.
 use crate::reading::add_refusal;
-use mas_types::{List, NoMemory};
+use mas_types::List;
 use script_input::{SourceError, read_source};
 use spool_disk::{Got, MemSource, Source};
 use std::alloc::Global;
-use tests_lines::add_number;
+use tests_lines::Writer;
 
 /// So many zeros. The source doesn't tell how many.
 #[derive(Drop)]
@@ -29,44 +29,38 @@ impl Source for Zeros {
     }
 }
 
-fn list_of(alloc: Global, bytes: &[u8]) -> Result<List<u8>, NoMemory> {
+fn list_of(alloc: Global, out: &mut Writer, bytes: &[u8]) -> List<u8> {
     let mut list = List::new(alloc);
     for byte in bytes {
-        list.push(*byte)?;
+        if list.push(*byte).is_err() {
+            out.lack();
+        }
     }
-    Ok(list)
+    list
 }
 
 // How many bytes were read.
-fn add_count(
-    alloc: Global,
-    out: &mut Vec<u8>,
-    read: Result<List<u8>, SourceError>,
-) -> Result<(), NoMemory> {
+fn add_count(alloc: Global, out: &mut Writer, read: Result<List<u8>, SourceError>) {
     match read {
-        Ok(bytes) => add_number(out, b"bytes ", bytes.len() as u64),
+        Ok(bytes) => out.add_number(b"bytes ", bytes.len() as u64),
         Err(refusal) => add_refusal(alloc, out, &refusal),
     }
 }
 
 /// What is read of a source of these bytes, which fails after so many.
-pub fn add_source(
-    alloc: Global,
-    out: &mut Vec<u8>,
-    text: &[u8],
-    fails: Option<u64>,
-) -> Result<(), NoMemory> {
-    match read_source(alloc, &mut MemSource::new(list_of(alloc, text)?, fails)) {
-        Ok(bytes) => Ok(out.extend_from_slice(bytes.as_slice())?),
+pub fn add_source(alloc: Global, out: &mut Writer, text: &[u8], fails: Option<u64>) {
+    let mut source = MemSource::new(list_of(alloc, out, text), fails);
+    match read_source(alloc, &mut source) {
+        Ok(bytes) => out.add(bytes.as_slice()),
         Err(refusal) => add_refusal(alloc, out, &refusal),
     }
 }
 
 /// What is read of so many zeros, and how many are left; without a number there is no end of them.
-pub fn add_zeros(alloc: Global, out: &mut Vec<u8>, count: Option<u64>) -> Result<(), NoMemory> {
+pub fn add_zeros(alloc: Global, out: &mut Writer, count: Option<u64>) {
     let many = count.unwrap_or(u64::MAX) as usize;
     let mut zeros = Zeros { left: many };
     let read = read_source(alloc, &mut zeros);
-    add_count(alloc, out, read)?;
-    add_number(out, b", taken ", many.saturating_sub(zeros.left) as u64)
+    add_count(alloc, out, read);
+    out.add_number(b", taken ", many.saturating_sub(zeros.left) as u64)
 }
