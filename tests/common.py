@@ -4,6 +4,7 @@ import os
 import shutil
 import subprocess
 import sys
+import tempfile
 
 TOP = os.path.dirname(os.path.dirname(os.path.abspath(__file__)))
 LAUNCHER = os.path.join(TOP, "mas")
@@ -14,6 +15,9 @@ PLAIN = os.path.join(TOP, "crates", "model_player", "out", "model_player")
 PRINTERS = tuple(f"PRT{number}" for number in range(1, 9))
 # How long one run of the program may take.
 SECONDS = 120
+# A file system in memory, and how much of it must be free for the folders of trials.
+MEMORY = "/dev/shm"
+MEMORY_LEAST = 1 << 30
 # The bytes of a page, and of each other block of a copy.
 PAGE = 4096
 # The byte of an open gate. The gates of a copy follow its byte 8.
@@ -88,6 +92,14 @@ def can_trace():
     """Whether there is a `strace`, and it may look at programs here."""
     look = ["strace", "-qq", "-o", "/dev/null", "true"]
     return shutil.which("strace") is not None and subprocess.run(look, capture_output=True, check=False).returncode == 0
+
+
+def folders_in_memory():
+    """Lets the folders of trials stand in memory, where that is possible and nothing else is asked for. A run syncs
+    often, which on a disk takes most of its time; a run that is killed leaves what it wrote in either."""
+    can = os.access(MEMORY, os.W_OK) and shutil.disk_usage(MEMORY).free >= MEMORY_LEAST
+    if can and "TMPDIR" not in os.environ:
+        tempfile.tempdir = MEMORY
 
 
 def bytes_in(path, otherwise=None):
