@@ -14,12 +14,12 @@ use Rattle.member_node.specs.declared.member.NodeNo.TheVariants as no_node
 use Rattle.member_lines.specs.Closes.{SaysStopped}
 use Rattle.script_lang.specs.declared.types.Ask.{Ask}
 use Rattle.run_turns.specs.Scenes.{Scene}
-use Rattle.mas_run.specs.Copies.{CopiesKept, KeepCopies}
+use Rattle.mas_run.specs.Copies.{CopiesKept, LeavesCopies}
 use Rattle.mas_run.specs.LinesLeft.{LeftAt, LineIsLeft}
 use Rattle.mas_run.specs.LinesPlayed.{HasPlayedLine, PlayedLine, is_of_member, line_by}
 use Rattle.mas_run.specs.Shows.{BetweenLines, IsBetween, IsShown, LeftBetween}
 use Rattle.mas_run.proofs.AnswerLemmas.{asked_as, asked_halted, seats_shown, stands_between}
-use Rattle.mas_run.proofs.CopiesLemmas.{copies_halted, copies_then, said_copies}
+use Rattle.mas_run.proofs.CopiesLemmas.{copies_halted, said_copies, leaves_same, leaves_then}
 use Rattle.mas_run.proofs.MuteLemmas.{stopped_next}
 use Rattle.mas_run.proofs.SaidLemmas.{not_lost}
 use Rattle.mas_run.proofs.StopLemmas.{stop_said}
@@ -99,10 +99,12 @@ module _ {P C : Type 0} {plants : PlantGhosts P} {steadies : SteadyGhosts C} {co
 
     pub stopped_copies : CopiesKept x y (failed no_node.Halted) → CopiesKept x z r
     stopped_copies keep =
-        copies_then plants p (parts_of mid) (parts_of z) r
-        (subst (λ (w : Parts P C). KeepCopies plants p w went) (sym frame) (copies_unreserved plants copies p q (copies_halted plants p q keep)))
+        leaves_then plants p (parts_of mid) (parts_of z) r
+        (subst (λ (w : Parts P C). LeavesCopies plants p w went) (sym frame) (record { devices = copies_unreserved plants copies p q (copies_halted plants p q keep.devices); whole1 = keep.whole1; whole2 = keep.whole2 }))
+        (leaves_same plants (parts_of mid) (parts_of z) r
         (said_copies plants (parts_of mid) (parts_of z) r says.acts (ap (λ (w : Parts P C). w.first_alive) frame_z) (ap (λ (w : Parts P C). w.second_alive) frame_z)
         (not_lost r 0 (plants.view mid.plant) (plants.view z.plant) says.cause))
+        (ap (λ (w : Parts P C). w.renewals) frame_z) (λ is. sym (ap (λ (w : Parts P C). w.first_alive) frame_z) ∙ is) (λ is. sym (ap (λ (w : Parts P C). w.second_alive) frame_z) ∙ is))
 
     pub stopped_after : at ≤ steps_most → OnOk r (BetweenLines z ns (at + 1))
     stopped_after few = if_ok r (BetweenLines z ns (at + 1)) (stopped_next by at mid z r frame_z says ns few between)

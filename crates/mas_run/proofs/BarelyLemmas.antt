@@ -13,12 +13,12 @@ use Rattle.script_lang.specs.declared.types.Ask.{Ask}
 use Rattle.run_turns.specs.Admissions.{Admission, admitted}
 use Rattle.run_turns.specs.Scenes.{Scene}
 use Rattle.run_turns.specs.Sights.{Ends, Replaced}
-use Rattle.mas_run.specs.Copies.{KeepCopies}
+use Rattle.mas_run.specs.Copies.{KeepCopies, LeavesCopies}
 use Rattle.mas_run.specs.Lines.{is_takeover}
 use Rattle.mas_run.specs.LinesLeft.{LeftAt}
 use Rattle.mas_run.specs.LinesPlayed.{line_by}
 use Rattle.mas_run.proofs.BeginLemmas.{bare_pieces, bare_shaped, barely_none, begun_left, queue_pieces, queue_right}
-use Rattle.mas_run.proofs.CopiesLemmas.{copies_none}
+use Rattle.mas_run.proofs.CopiesLemmas.{copies_none, leaves_same}
 use Rattle.mas_run.proofs.RenewedLemmas.{renews_unbegun}
 use Rattle.mas_run.proofs.SceneLemmas.{LineDone, left_so}
 use Rattle.mas_run.proofs.StayLemmas.{if_stays}
@@ -67,7 +67,7 @@ module _ {P C : Type 0} {plants : PlantGhosts P} {steadies : SteadyGhosts C} {co
     since = ap (λ (w : Parts P C). w.since) frame;
     bare = λ S shown. subst (λ (w : Parts P C). LeftAt plants copies ⊥ S at (line_by by what) p w short) (sym frame) (bare_here S (admitted S.queue.config S.book by what) refl);
     told = λ tells S shown. subst (λ (w : Parts P C). LeftAt plants copies (Unit {0}) S at (line_by by what) p w short) (sym frame) (told_here tells S (admitted S.queue.config S.book by what) refl);
-    copies_kept = subst (λ (w : Parts P C). KeepCopies plants p w short) (sym frame) kept;
+    copies_kept = subst (λ (w : Parts P C). LeavesCopies plants p w short) (sym frame) (leaves_same plants p p short kept refl (λ is. is) (λ is. is));
     next = tt;
     halted = λ e. absurd (not_halted e);
     seated = λ e. absurd (not_halted e);

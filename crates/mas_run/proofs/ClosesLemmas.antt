@@ -30,7 +30,7 @@ use Rattle.mas_run.specs.Shows.{BetweenLines, IsBetween, IsShown, LeftBetween}
 use Rattle.mas_run.proofs.BookLemmas.{Since, inside_since, none_since}
 use Rattle.mas_run.proofs.ClosedLemmas.{closed_freed, closed_halted, closed_ok, scene_at, shown_at}
 use Rattle.mas_run.proofs.ClosingLemmas.{Ending, HasMerelyActed, IsCloser, closing_at, cut_by}
-use Rattle.mas_run.proofs.CopiesLemmas.{said_copies}
+use Rattle.mas_run.proofs.CopiesLemmas.{said_copies, leaves_same}
 use Rattle.mas_run.proofs.HaltedLemmas.{same_unreserved}
 use Rattle.mas_run.proofs.RenewedLemmas.{renews_none}
 use Rattle.mas_run.proofs.SaidLemmas.{closes_bare, closes_told, merely_closed, none_stopped, not_lost}
@@ -130,8 +130,8 @@ module _ {P C : Type 0} {plants : PlantGhosts P} {steadies : SteadyGhosts C} {co
 
   copies_kept : CopiesKept x y r
   copies_kept =
-      copies_tested plants copies p b q r
-      (said_copies plants t q r here.acts at_test.alive1 at_test.alive2 (not_lost r sayer.0 (plants.view x.plant) (plants.view y.plant) here.cause))
+      leaves_same plants p q r (copies_tested plants copies p b q r
+      (said_copies plants t q r here.acts at_test.alive1 at_test.alive2 (not_lost r sayer.0 (plants.view x.plant) (plants.view y.plant) here.cause))) at_test.renewals (λ is. sym at_test.alive1 ∙ is) (λ is. sym at_test.alive2 ∙ is)
 
   true_false : true ≡ false → ⊥
   true_false e = absurd (cc)

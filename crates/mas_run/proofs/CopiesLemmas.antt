@@ -1,5 +1,5 @@
 -- The copies in lines one after another.
-use Rattle.std.proofs.Common.{◌≡◌, ◌⊎◌, inl, inr, ℕ, Bool, true, false, Result, Ok, Err, refl, sym, ◌∙◌, subst, ⊎_elim}
+use Rattle.std.proofs.Common.{◌≡◌, ◌⊎◌, inl, inr, ℕ, Bool, true, false, Result, Ok, Err, refl, sym, ◌∙◌, subst, ⊎_elim, ap}
 use Rattle.mas_types.specs.declared.ids.Dev.{Dev}
 use Rattle.mas_types.specs.declared.ids.Dev.TheVariants.{Ckpt1, Ckpt2}
 use Rattle.spool_disk.specs.declared.plant.Part.TheVariants.{Disk}
@@ -11,7 +11,7 @@ use Rattle.member_node.specs.declared.member.NodeNo.{NodeNo}
 use Rattle.member_node.specs.declared.member.NodeNo.TheVariants as no_node
 use Rattle.member_node.specs.Calls.{Grows, IsLeft, WasLost}
 use Rattle.member_node.proofs.CourseLemmas.{grow_rose, no, rose_grow, rose_later, rose_more}
-use Rattle.mas_run.specs.Copies.{KeepCopies, LeavesSome}
+use Rattle.mas_run.specs.Copies.{KeepCopies, LeavesSome, LeavesCopies}
 use Rattle.mas_run.specs.Lines.{Proceeds}
 use Rattle.mas_run.specs.Runs.{HasLost}
 use Rattle.mas_run.proofs.CourseLemmas.{has_lost_later, has_lost_more}
@@ -21,6 +21,8 @@ use Rattle.member_steps.specs.Steps.{StepCauses}
 use Rattle.member_hand.specs.Plays.{HasActedIn, Passage}
 use Rattle.mas_types.specs.declared.ids.MemberId.{MemberId}
 use Rattle.ckpt_copy.specs.declared.copying.Copying.{Ghosts as CopyGhosts}
+use Rattle.mas_complex.specs.Renewals.{is_open}
+use Rattle.mas_complex.specs.declared.renewals.Renewals.{Renewals}
 
 grows_on : (x y z : ℕ) → Grows x y → Grows y z → Grows x z
 grows_on x y z one two = ⊎_elim (λ same. ⊎_elim (λ still. inl (still ∙ same)) (λ rose. inr (grow_rose x y z one rose)) two) (λ rose. inr (rose_grow x y z rose two)) one
@@ -158,4 +160,24 @@ module _ {P C : Type 0} (plants : PlantGhosts P) where
     there2 = keep.there2;
     grow = keep.grow;
     left = keep.left;
+  }
+
+  -- AND WHETHER THEY ARE BEING REPLACED
+
+  pub leaves_same : {T : Type 0} (x y : Parts P C) (r : Result T NodeNo) → KeepCopies plants x y r → y.renewals ≡ x.renewals → (y.first_alive ≡ true → x.first_alive ≡ true) → (y.second_alive ≡ true → x.second_alive ≡ true)
+      → LeavesCopies plants x y r
+  leaves_same x y r keep same one two = record {
+    devices = keep;
+    whole1 = λ now before. ap (λ (rs : Renewals). is_open rs.first) same ∙ before (one now);
+    whole2 = λ now before. ap (λ (rs : Renewals). is_open rs.second) same ∙ before (two now);
+  }
+
+  pub leaves_none : (x : Parts P C) → LeavesCopies plants {T = Unit {0}} x x (Ok tt)
+  leaves_none x = leaves_same x x (Ok tt) (copies_none x) refl (λ is. is) (λ is. is)
+
+  pub leaves_then : {T : Type 0} (x y z : Parts P C) (r : Result T NodeNo) → LeavesCopies plants {T = Unit {0}} x y (Ok tt) → LeavesCopies plants y z r → LeavesCopies plants x z r
+  leaves_then x y z r one two = record {
+    devices = copies_then x y z r one.devices two.devices;
+    whole1 = λ now before. two.whole1 now (λ mid. one.whole1 mid before);
+    whole2 = λ now before. two.whole2 now (λ mid. one.whole2 mid before);
   }

@@ -42,7 +42,7 @@ use Rattle.mas_run.specs.Shows.{BetweenLines, IsMemberUp, IsOfEarlier, IsShown}
 use Rattle.mas_run.proofs.AdmittedLemmas.{HasGot}
 use Rattle.mas_run.proofs.AfterLemmas.{earlier_now}
 use Rattle.mas_run.proofs.BookLemmas.{tried_since}
-use Rattle.mas_run.proofs.CopiesLemmas.{acted_copies}
+use Rattle.mas_run.proofs.CopiesLemmas.{acted_copies, leaves_same}
 use Rattle.mas_run.proofs.MayLemmas.{IsFewTask, may_go_on, none_left_held}
 use Rattle.mas_run.proofs.OwnLemmas.{from_says}
 use Rattle.mas_run.proofs.ResettingLemmas.{resets_bare, resets_told}
@@ -208,7 +208,7 @@ module _ {P C : Type 0} {plants : PlantGhosts P} {steadies : SteadyGhosts C} {co
         since = since_t;
         bare = bare;
         told = told;
-        copies_kept = copies_tested plants copies p b q r (acted_copies plants copies by t q r its.acts);
+        copies_kept = leaves_same plants p q r (copies_tested plants copies p b q r (acted_copies plants copies by t q r its.acts)) renewals_t its.acts.course.alive1 its.acts.course.alive2;
         next = turned_next x y t ms k few is refl refl (tried_since x.book by inside false) (hold_t task asked) earlier (goes_none (u p)) (λ o. refl) base_t since_t n (stays ∙ own)
             its.pieces its.cut its.away quiet_all its.acts.course.goes r its.played wrote (now_of r after);
         halted = turned_halted x y t ms k few is refl refl (tried_since x.book by inside false) (hold_t task asked) earlier (goes_none (u p)) (λ o. refl) base_t since_t n (stays ∙ own)
@@ -258,7 +258,7 @@ module _ {P C : Type 0} {plants : PlantGhosts P} {steadies : SteadyGhosts C} {co
         since = since_t;
         bare = bare_reset;
         told = told_reset;
-        copies_kept = copies_tested plants copies p b q r (acted_copies plants copies by t q r its_reset.acts);
+        copies_kept = leaves_same plants p q r (copies_tested plants copies p b q r (acted_copies plants copies by t q r its_reset.acts)) renewals_t its_reset.acts.course.alive1 its_reset.acts.course.alive2;
         next = turned_next x y t ms k few is refl refl (tried_since x.book by inside false) hold_reset earlier (goes_none (u p)) (λ o. refl) base_t since_t n (stays ∙ own)
             its_reset.pieces its_reset.cut its_reset.away quiet_reset its_reset.acts.course.goes r its_reset.played wrote_reset (now_reset r after);
         halted = turned_halted x y t ms k few is refl refl (tried_since x.book by inside false) hold_reset earlier (goes_none (u p)) (λ o. refl) base_t since_t n (stays ∙ own)

@@ -44,6 +44,7 @@ use Rattle.mas_run.proofs.MuteLemmas.{armed_next, mute_next}
 use Rattle.mas_run.proofs.PassedLemmas.{proceeds_of}
 use Rattle.mas_run.proofs.PausedLemmas.{between_later, between_next}
 use Rattle.mas_run.proofs.PlainLemmas.{ArmsIf, arm_plain, arm_shown, armed_same, disk_of, lose_plain, lose_shown, own_dev, plain_played, same_dev, stop_plain, stop_shown}
+use Rattle.mas_run.proofs.CopiesLemmas.{leaves_same}
 
 true_false : true ≡ false → ⊥
 true_false e = absurd (cc)
@@ -155,8 +156,9 @@ module _ {P C : Type 0} {plants : PlantGhosts P} {steadies : SteadyGhosts C} {co
       since = ap (λ (w : Parts P C). w.since) frame_here;
       bare = stop_line ⊥;
       told = λ t. stop_line (Unit {0});
-      kept = still_copies plants p q (ap (λ (w : Parts P C). w.first_alive) frame_here) (ap (λ (w : Parts P C). w.second_alive) frame_here)
-          (plant_here ∙ ap (λ (a : ℕ → ℕ). record (plants.view x.plant) { arms = a }) (sym (ap (λ (w : View). w.arms) plant_here)));
+      kept = leaves_same plants p q (Ok tt) (still_copies plants p q (ap (λ (w : Parts P C). w.first_alive) frame_here) (ap (λ (w : Parts P C). w.second_alive) frame_here)
+          (plant_here ∙ ap (λ (a : ℕ → ℕ). record (plants.view x.plant) { arms = a }) (sym (ap (λ (w : View). w.arms) plant_here)))) (ap (λ (w : Parts P C). w.renewals) frame_here)
+          (λ is. sym (ap (λ (w : Parts P C). w.first_alive) frame_here) ∙ is) (λ is. sym (ap (λ (w : Parts P C). w.second_alive) frame_here) ∙ is);
       next = subst (λ (w : Parts P C). IsBetween plants copies w ms (at + 1)) (sym whole)
           (between_next plants copies (record p { book = book_then }) ms at few
           (between_later plants copies p book_then (since_if (is_up here by) refl) (holder_if (is_up here by)) ms at is));
@@ -188,7 +190,8 @@ module _ {P C : Type 0} {plants : PlantGhosts P} {steadies : SteadyGhosts C} {co
       since = ap (λ (w : Parts P C). w.since) frame;
       bare = arm_line ⊥;
       told = λ t. arm_line (Unit {0});
-      kept = still_copies plants p q (ap (λ (w : Parts P C). w.first_alive) frame) (ap (λ (w : Parts P C). w.second_alive) frame) same_else;
+      kept = leaves_same plants p q (Ok tt) (still_copies plants p q (ap (λ (w : Parts P C). w.first_alive) frame) (ap (λ (w : Parts P C). w.second_alive) frame) same_else) (ap (λ (w : Parts P C). w.renewals) frame)
+          (λ is. sym (ap (λ (w : Parts P C). w.first_alive) frame) ∙ is) (λ is. sym (ap (λ (w : Parts P C). w.second_alive) frame) ∙ is);
       next = armed_next plants copies p q frame same_else ms at few is;
     }
 
@@ -292,7 +295,7 @@ module _ {P C : Type 0} {plants : PlantGhosts P} {steadies : SteadyGhosts C} {co
       since = ap (λ (w : Parts P C). w.since) lost_whole;
       bare = lose_line ⊥ (λ t. absurd t);
       told = λ t. lose_line (Unit {0}) (λ u. t);
-      kept = lost_copies;
+      kept = leaves_same plants p q (Ok tt) lost_copies (ap (λ (w : Parts P C). w.renewals) lost_whole) (alive_then Ckpt1 p.first_alive q.first_alive first_is) (alive_then Ckpt2 p.second_alive q.second_alive second_is);
       next = mute_next plants copies p q lost_whole (proceeds_of (plants.view x.plant) (plants.view y.plant) lost.goes) (alive_then Ckpt1 p.first_alive q.first_alive first_is)
           (alive_then Ckpt2 p.second_alive q.second_alive second_is) bytes quiet_there ms at few is;
     }

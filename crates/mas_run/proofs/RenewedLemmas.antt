@@ -6,7 +6,6 @@ use Rattle.card_reader.specs.declared.decks.Refused.{Refused as BadCard}
 use Rattle.card_reader.specs.Decks.{read_as, text_of}
 use Rattle.lock_cycle.specs.Books.{Book, is_holder, is_stopped, try_refusal}
 use Rattle.lock_cycle.specs.declared.answers.LockNo.{LockNo}
-use Rattle.mas_types.specs.declared.answers.Closing.TheVariants as closing
 use Rattle.mas_types.specs.declared.commands.Command.{Command}
 use Rattle.mas_types.specs.declared.ids.Dev.{Dev}
 use Rattle.mas_types.specs.declared.ids.Dev.TheVariants.{Ckpt1, Ckpt2, Spool}

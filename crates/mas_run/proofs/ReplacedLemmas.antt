@@ -1,5 +1,5 @@
 -- What a replacement of a copy leaves of the plant, of the copies, and of the moments at which one isn't good.
-use Rattle.std.proofs.Common.{◌≡◌, ◌≢◌, ◌⊎◌, inl, inr, ⊎_elim, ℕ, ◌≤◌, Bool, true, false, Some, Result, Ok, Err, IsErrOf, refl, sym, ◌∙◌, ap, subst, arith}
+use Rattle.std.proofs.Common.{◌≡◌, ◌≢◌, ◌⊎◌, inl, inr, ⊎_elim, ℕ, ◌≤◌, Bool, true, false, Some, Result, Ok, Err, IsErrOf, refl, sym, ◌∙◌, ap, subst, arith, ◌||◌, ◌++◌, ◌∷◌, [], List, Option, None, map, nat_lt, if◌then◌else◌}
 use Rattle.mas_types.specs.declared.ids.Dev.{Dev}
 use Rattle.mas_types.specs.declared.ids.Dev.TheVariants.{Ckpt1, Ckpt2, Spool}
 use Rattle.mas_types.specs.declared.ids.MemberId.{MemberId}
@@ -12,7 +12,7 @@ use Rattle.duplex_pair.specs.declared.replacing.ReplaceNo.{ReplaceNo}
 use Rattle.duplex_pair.specs.declared.replacing.ReplaceNo.TheVariants as no
 use Rattle.duplex_pair.specs.Halves.{IsBothLost, IsCkpt, SomeAlive, other, pick}
 use Rattle.duplex_pair.specs.Replacing.{Replaces as ReplacesDevice, replace_stopped}
-use Rattle.mas_complex.specs.Renewals.{begun_on}
+use Rattle.mas_complex.specs.Renewals.{begun_on, ended_at, ended_on, is_open, of_device, or_at, with_device}
 use Rattle.mas_complex.specs.Elsewhere.{Elsewhere}
 use Rattle.mas_complex.specs.Parts.{Parts}
 use Rattle.member_node.specs.Calls.{IsLeft}
@@ -24,11 +24,15 @@ use Rattle.member_node.proofs.CourseLemmas.{no as clash}
 use Rattle.member_lines.specs.Replaces.{HasReplaced, found_of}
 use Rattle.run_turns.specs.Admissions.{Replaces}
 use Rattle.run_turns.specs.Sights.{LostAgain, NotLost, Renewed, Replaced}
-use Rattle.mas_run.specs.Copies.{KeepCopies, LeavesSome}
+use Rattle.mas_run.specs.Copies.{KeepCopies, LeavesSome, StaysWhole, LeavesCopies}
 use Rattle.mas_run.specs.Lines.{Proceeds, is_copy, same_device}
 use Rattle.mas_run.specs.Renewing.{Begins, BeginsAndEnds, RenewsBy}
 use Rattle.mas_run.proofs.ClosingLemmas.{HasMerelyActed}
 use Rattle.mas_run.proofs.PlainLemmas.{disk_of, kept_elsewhere, own_dev}
+use Rattle.std.specs.Prelude.{is_none}
+use Rattle.spool_disk.specs.Acts.{top}
+use Rattle.mas_complex.specs.declared.renewals.Renewal.{Renewal}
+use Rattle.mas_complex.specs.declared.renewals.Renewals.{Renewals}
 
 -- OTHER PARTS than the device of a copy
 
@@ -112,6 +116,27 @@ some_second false b is = is
 abbrev ok : Result (Unit {0}) ReplaceNo
 ok = Ok tt
 
+-- the other copy is as it was while one is being replaced, and no renewal of this one is open once they have ended
+begun_first : (from : ℕ) (rs : Renewals) → (begun_on Ckpt2 from rs).first ≡ rs.first
+begun_first from rs = by_bool (nat_lt from top) where
+  by_bool : (b : Bool) → (if b then with_device Ckpt2 (of_device Ckpt2 rs ++ record { from = from; until = None } ∷ []) rs else rs).first ≡ rs.first
+  by_bool true = refl
+  by_bool false = refl
+
+begun_second : (from : ℕ) (rs : Renewals) → (begun_on Ckpt1 from rs).second ≡ rs.second
+begun_second from rs = by_bool (nat_lt from top) where
+  by_bool : (b : Bool) → (if b then with_device Ckpt1 (of_device Ckpt1 rs ++ record { from = from; until = None } ∷ []) rs else rs).second ≡ rs.second
+  by_bool true = refl
+  by_bool false = refl
+
+ended_one : (now : ℕ) (until : Option ℕ) → is_none (or_at now until) ≡ false
+ended_one now None = refl
+ended_one now (Some until) = refl
+
+ended_closed : (now : ℕ) (rs : List Renewal) → is_open (map (ended_at now) rs) ≡ false
+ended_closed now [] = refl
+ended_closed now (r ∷ rs) = ap (λ (b : Bool). b || is_open (map (ended_at now) rs)) (ended_one now r.until) ∙ ended_closed now rs
+
 module _ {P C : Type 0} (plants : PlantGhosts P) (copies : CopyGhosts C) (n : Member) (dev : Dev) (ckpt : IsCkpt dev) (x y : Parts P C) where
   abbrev u : Parts P C → View
   u z = plants.view z.plant
@@ -174,6 +199,8 @@ module _ {P C : Type 0} (plants : PlantGhosts P) (copies : CopyGhosts C) (n : Me
     pub there1 : y.first_alive ≡ true → (x.first_alive ≡ true → (u x).lost (Disk Ckpt1) ≡ false) → (u y).lost (Disk Ckpt1) ≡ false
     pub there2 : y.second_alive ≡ true → (x.second_alive ≡ true → (u x).lost (Disk Ckpt2) ≡ false) → (u y).lost (Disk Ckpt2) ≡ false
     pub left : IsLeft x.first_alive y.first_alive x.second_alive y.second_alive
+    pub whole1 : StaysWhole x.first_alive x.renewals.first y.first_alive y.renewals.first
+    pub whole2 : StaysWhole x.second_alive x.renewals.second y.second_alive y.renewals.second
 
   -- nothing is done
   alive_none : (answer : Result (Unit {0}) ReplaceNo) → y ≡ x → IsAliveSo answer
@@ -183,6 +210,8 @@ module _ {P C : Type 0} (plants : PlantGhosts P) (copies : CopyGhosts C) (n : Me
     there1 = λ is there. ap (λ (w : Parts P C). (u w).lost (Disk Ckpt1)) same ∙ there (sym (ap (λ (w : Parts P C). w.first_alive) same) ∙ is);
     there2 = λ is there. ap (λ (w : Parts P C). (u w).lost (Disk Ckpt2)) same ∙ there (sym (ap (λ (w : Parts P C). w.second_alive) same) ∙ is);
     left = inr (ap (λ (w : Parts P C). w.first_alive) same, ap (λ (w : Parts P C). w.second_alive) same);
+    whole1 = λ now before. ap (λ (w : Parts P C). is_open w.renewals.first) same ∙ before (sym (ap (λ (w : Parts P C). w.first_alive) same) ∙ now);
+    whole2 = λ now before. ap (λ (w : Parts P C). is_open w.renewals.second) same ∙ before (sym (ap (λ (w : Parts P C). w.second_alive) same) ∙ now);
   }
 
   -- a copy that counts as lost was to be replaced, and wasn't
@@ -193,13 +222,27 @@ module _ {P C : Type 0} (plants : PlantGhosts P) (copies : CopyGhosts C) (n : Me
     same_lost : (d : Dev) → pick d x.first_alive x.second_alive ≡ true → (u y).lost (Disk d) ≡ (u x).lost (Disk d)
     same_lost d alive = h.replaces.else_lost (Disk d) (λ same. absurd (first_apart d alive (ap disk_of same)))
 
-    alive_still : y.first_alive ≡ x.first_alive → y.second_alive ≡ x.second_alive → IsAliveSo answer
-    alive_still one two = record {
+    whole_first : (d : Dev) → IsCkpt d → dev ≡ d → y.renewals ≡ begun_on dev (u x).now x.renewals → x.first_alive ≡ true → is_open x.renewals.first ≡ false → is_open y.renewals.first ≡ false
+    whole_first Ckpt1 is_ckpt same begun alive whole = absurd (first_apart Ckpt1 alive (sym same))
+    whole_first Ckpt2 is_ckpt same begun alive whole =
+        ap (λ (rs : Renewals). is_open rs.first) (begun ∙ ap (λ (k : Dev). begun_on k (u x).now x.renewals) same) ∙ ap is_open (begun_first (u x).now x.renewals) ∙ whole
+    whole_first (Spool k) is_ckpt same begun alive whole = absurd is_ckpt
+
+    whole_second : (d : Dev) → IsCkpt d → dev ≡ d → y.renewals ≡ begun_on dev (u x).now x.renewals → x.second_alive ≡ true → is_open x.renewals.second ≡ false → is_open y.renewals.second ≡ false
+    whole_second Ckpt1 is_ckpt same begun alive whole =
+        ap (λ (rs : Renewals). is_open rs.second) (begun ∙ ap (λ (k : Dev). begun_on k (u x).now x.renewals) same) ∙ ap is_open (begun_second (u x).now x.renewals) ∙ whole
+    whole_second Ckpt2 is_ckpt same begun alive whole = absurd (first_apart Ckpt2 alive (sym same))
+    whole_second (Spool k) is_ckpt same begun alive whole = absurd is_ckpt
+
+    alive_still : y.first_alive ≡ x.first_alive → y.second_alive ≡ x.second_alive → y.renewals ≡ begun_on dev (u x).now x.renewals → IsAliveSo answer
+    alive_still one two begun = record {
       up1 = λ is. one ∙ is;
       up2 = λ is. two ∙ is;
       there1 = λ is there. let was = sym one ∙ is in same_lost Ckpt1 was ∙ there was;
       there2 = λ is there. let was = sym two ∙ is in same_lost Ckpt2 was ∙ there was;
       left = inr (one, two);
+      whole1 = λ now before. let was = sym one ∙ now in whole_first dev ckpt refl begun was (before was);
+      whole2 = λ now before. let was = sym two ∙ now in whole_second dev ckpt refl begun was (before was);
     }
 
   -- it was replaced
@@ -207,6 +250,7 @@ module _ {P C : Type 0} (plants : PlantGhosts P) (copies : CopyGhosts C) (n : Me
   alive_first h is =
       let good : y.first_alive ≡ true = subst (λ (d : Dev). pick d y.first_alive y.second_alive ≡ true) is h.good in
       let there : (u y).lost (Disk Ckpt1) ≡ false = subst (λ (d : Dev). (u y).lost (Disk d) ≡ false) is h.formed.there in
+      let ended : y.renewals ≡ ended_on Ckpt1 (u y).now (begun_on Ckpt1 (u x).now x.renewals) = subst (λ (d : Dev). y.renewals ≡ ended_on d (u y).now (begun_on d (u x).now x.renewals)) is (ap (λ (w : Parts P C). w.renewals) h.frame) in
       let two : y.second_alive ≡ x.second_alive = subst (λ (d : Dev). y.second_alive ≡ other d y.second_alive x.second_alive) is (ap (λ (w : Parts P C). w.second_alive) h.frame) in
       record {
         up1 = λ was. good;
@@ -214,12 +258,15 @@ module _ {P C : Type 0} (plants : PlantGhosts P) (copies : CopyGhosts C) (n : Me
         there1 = λ now was. there;
         there2 = λ now was. h.replaces.else_lost (Disk Ckpt2) (λ same. absurd (two_one (ap disk_of same ∙ is))) ∙ was (sym two ∙ now);
         left = inl (some_first y.first_alive y.second_alive good);
+        whole1 = λ now before. ap (λ (rs : Renewals). is_open rs.first) ended ∙ ended_closed (u y).now (begun_on Ckpt1 (u x).now x.renewals).first;
+        whole2 = λ now before. ap (λ (rs : Renewals). is_open rs.second) ended ∙ ap is_open (begun_second (u x).now x.renewals) ∙ before (sym two ∙ now);
       }
 
   alive_second : (h : HasReplaced plants copies n dev x y ok) → dev ≡ Ckpt2 → IsAliveSo ok
   alive_second h is =
       let good : y.second_alive ≡ true = subst (λ (d : Dev). pick d y.first_alive y.second_alive ≡ true) is h.good in
       let there : (u y).lost (Disk Ckpt2) ≡ false = subst (λ (d : Dev). (u y).lost (Disk d) ≡ false) is h.formed.there in
+      let ended : y.renewals ≡ ended_on Ckpt2 (u y).now (begun_on Ckpt2 (u x).now x.renewals) = subst (λ (d : Dev). y.renewals ≡ ended_on d (u y).now (begun_on d (u x).now x.renewals)) is (ap (λ (w : Parts P C). w.renewals) h.frame) in
       let one : y.first_alive ≡ x.first_alive = subst (λ (d : Dev). y.first_alive ≡ pick d y.first_alive x.first_alive) is (ap (λ (w : Parts P C). w.first_alive) h.frame) in
       record {
         up1 = λ was. one ∙ was;
@@ -227,6 +274,8 @@ module _ {P C : Type 0} (plants : PlantGhosts P) (copies : CopyGhosts C) (n : Me
         there1 = λ now was. h.replaces.else_lost (Disk Ckpt1) (λ same. absurd (one_two (ap disk_of same ∙ is))) ∙ was (sym one ∙ now);
         there2 = λ now was. there;
         left = inl (some_second y.first_alive y.second_alive good);
+        whole1 = λ now before. ap (λ (rs : Renewals). is_open rs.first) ended ∙ ap is_open (begun_first (u x).now x.renewals) ∙ before (sym one ∙ now);
+        whole2 = λ now before. ap (λ (rs : Renewals). is_open rs.second) ended ∙ ended_closed (u y).now (begun_on Ckpt2 (u x).now x.renewals).second;
       }
 
   alive_ok : (h : HasReplaced plants copies n dev x y ok) → (d : Dev) → IsCkpt d → dev ≡ d → IsAliveSo ok
@@ -240,9 +289,9 @@ module _ {P C : Type 0} (plants : PlantGhosts P) (copies : CopyGhosts C) (n : Me
   replaced_alive (Err no.BothLost) h = alive_none (Err no.BothLost) h.frame
   replaced_alive (Err no.NoMemory) h = alive_none (Err no.NoMemory) h.frame
   replaced_alive (Err no.Failed) h =
-      alive_still (Err no.Failed) h (λ is. absurd (cc)) (ap (λ (w : Parts P C). w.first_alive) h.frame) (ap (λ (w : Parts P C). w.second_alive) h.frame)
+      alive_still (Err no.Failed) h (λ is. absurd (cc)) (ap (λ (w : Parts P C). w.first_alive) h.frame) (ap (λ (w : Parts P C). w.second_alive) h.frame) (ap (λ (w : Parts P C). w.renewals) h.frame)
   replaced_alive (Err no.Halted) h =
-      alive_still (Err no.Halted) h (λ is. absurd (cc)) (ap (λ (w : Parts P C). w.first_alive) h.frame) (ap (λ (w : Parts P C). w.second_alive) h.frame)
+      alive_still (Err no.Halted) h (λ is. absurd (cc)) (ap (λ (w : Parts P C). w.first_alive) h.frame) (ap (λ (w : Parts P C). w.second_alive) h.frame) (ap (λ (w : Parts P C). w.renewals) h.frame)
 
   -- both count as lost where the answer says so
   left_by : (r : Result (Unit {0}) NodeNo) → IsLeft x.first_alive y.first_alive x.second_alive y.second_alive → (r ≡ failed no_node.BothLost → IsBothLost y.first_alive y.second_alive) → LeavesSome plants x y r
@@ -265,3 +314,7 @@ module _ {P C : Type 0} (plants : PlantGhosts P) (copies : CopyGhosts C) (n : Me
         grow = λ d. inl (h.replaces.loses d);
         left = left_by r a.left both;
       }
+
+  pub replaced_leaves : (answer : Result (Unit {0}) ReplaceNo) (r : Result (Unit {0}) NodeNo) → HasReplaced plants copies n dev x y answer → (r ≡ failed no_node.BothLost → IsBothLost y.first_alive y.second_alive)
+      → LeavesCopies plants x y r
+  replaced_leaves answer r h both = let a = replaced_alive answer h in record { devices = replaced_copies answer r h both; whole1 = a.whole1; whole2 = a.whole2 }

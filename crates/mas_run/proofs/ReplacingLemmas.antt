@@ -58,7 +58,7 @@ use Rattle.run_turns.specs.Pieces.{Piece, Play, closes_with, entered, holder_of,
 use Rattle.run_turns.specs.Scenes.{Scene}
 use Rattle.run_turns.specs.Sights.{Cause, Cut, Ends, LostAgain, NotLost, Renewed, Replaced, Saying, Stops, clear}
 use Rattle.mas_run.specs.Bounds.{level_most}
-use Rattle.mas_run.specs.Copies.{KeepCopies}
+use Rattle.mas_run.specs.Copies.{KeepCopies, LeavesCopies}
 use Rattle.mas_run.specs.Lines.{Proceeds}
 use Rattle.mas_run.specs.LinesLeft.{IfRuns, LeftAt, LineIsLeft}
 use Rattle.mas_run.specs.LinesPlayed.{line_by}
@@ -71,13 +71,13 @@ use Rattle.mas_run.proofs.BookLemmas.{Since, freed_since, inside_since, stopped_
 use Rattle.mas_run.proofs.ClosedLemmas.{scene_at, shown_at}
 use Rattle.mas_run.proofs.ClosesLemmas.{if_ok, stays_stopped}
 use Rattle.mas_run.proofs.ClosingLemmas.{Broken, Ending, HasMerelyActed, IsCloser, MayEnd, Unsaid, Whole, closing_found, cut_by, ended_so, some_end}
-use Rattle.mas_run.proofs.CopiesLemmas.{copies_then, said_copies}
+use Rattle.mas_run.proofs.CopiesLemmas.{said_copies, leaves_same, leaves_then}
 use Rattle.mas_run.proofs.ResetCutLemmas.{entered_same}
 use Rattle.mas_run.proofs.HaltedLemmas.{halted_between}
 use Rattle.mas_run.proofs.MayLemmas.{may_go_on, none_left_held, tested_up}
 use Rattle.mas_run.proofs.OwnLemmas.{found_says, line_says}
 use Rattle.mas_run.proofs.PassedLemmas.{proceeds_of}
-use Rattle.mas_run.proofs.ReplacedLemmas.{renews_found, renews_some, replaced_book, replaced_copies, replaced_merely}
+use Rattle.mas_run.proofs.ReplacedLemmas.{renews_found, renews_some, replaced_book, replaced_leaves, replaced_merely}
 use Rattle.mas_run.proofs.SaidLemmas.{copies_merely, left_bare, left_told, merely_closed, not_lost, then_merely, unseated_bare, unseated_told}
 use Rattle.mas_run.proofs.SceneLemmas.{LineDone, admitted_here, none_flies, tested_here, tried_here}
 use Rattle.mas_run.proofs.SeatsLemmas.{copies_acted, may_seat}
@@ -86,6 +86,7 @@ use Rattle.mas_run.proofs.TakenLemmas.{journal_still}
 use Rattle.mas_run.proofs.TakesLemmas.{begun_book}
 use Rattle.mas_run.proofs.TestedLemmas.{copies_tested, line_tested}
 use Rattle.mas_run.proofs.ToldLemmas.{TellNone, left_tells, untold_then}
+use Rattle.mas_complex.specs.Renewals.{is_open}
 
 -- THE BOOK of a line that only closes
 
@@ -156,6 +157,13 @@ copies_stopped plants x z by no_node.Halted keep = record {
   there2 = keep.there2;
   grow = keep.grow;
   left = keep.left;
+}
+
+leaves_stopped : {P C : Type 0} (plants : PlantGhosts P) (x z : Parts P C) (by : MemberId) (e : NodeNo) → LeavesCopies plants x z (failed e) → LeavesCopies plants x (stopped_so (failed e) by z) (failed e)
+leaves_stopped plants x z by e keep = record {
+  devices = copies_stopped plants x z by e keep.devices;
+  whole1 = λ now before. let stays = stays_stopped by z (failed e) in ap (λ (rs : Renewals). is_open rs.first) stays.renewals ∙ keep.whole1 (sym stays.alive1 ∙ now) before;
+  whole2 = λ now before. let stays = stays_stopped by z (failed e) in ap (λ (rs : Renewals). is_open rs.second) stays.renewals ∙ keep.whole2 (sym stays.alive2 ∙ now) before;
 }
 
 -- where it was stopped before its line
@@ -371,6 +379,9 @@ module _ {P C : Type 0} {plants : PlantGhosts P} {steadies : SteadyGhosts C} {co
       took : HasMerelyActed plants by (Replaces dev) t s went
       took = copies_merely plants copies S at (line_by by what) (Replaces dev) t s m own s went seat.acts
 
+      took_copies : LeavesCopies plants t s went
+      took_copies = leaves_same plants t s went (copies_acted plants m.id t s went seat.acts) s_renewals seat.acts.course.alive1 seat.acts.course.alive2
+
       acts_by : ReplacesDevice by.0 dev (replace_stopped seat.goes_on.answer) (u s) (u z)
       acts_by = subst (λ (j : MemberId). ReplacesDevice j.0 dev (replace_stopped seat.goes_on.answer) (u s) (u z)) own_n seat.goes_on.replaced.replaces
 
@@ -426,11 +437,13 @@ module _ {P C : Type 0} {plants : PlantGhosts P} {steadies : SteadyGhosts C} {co
             so.ending (renews_ending so.ending) so.may acted (if_runs k_r _ (closed_here.book (cut_by so.ending) (subst (λ (c : Option Cut). IsCutAs k_r c) so.is stood.is_cut)))
             (stood.lines ∙ ap (λ (ls : List Line). ls ++ (left_found S by at dev found stood.cut).lines) (before tells) ∙ ap (λ (c : Option Cut). console_now (u t) ++ (left_found S by at dev found c).lines) so.is) counted
 
-        pub closed_copies : KeepCopies plants t q k_r
+        pub closed_copies : LeavesCopies plants t q k_r
         closed_copies =
-            copies_then plants t s q k_r (copies_acted plants m.id t s went seat.acts)
-            (copies_then plants s z q k_r (replaced_copies plants copies n dev ckpt s z seat.goes_on.answer went seat.goes_on.replaced (λ e. absurd (cc)))
-            (said_copies plants z q k_r closed.acts (ap (λ (w : Parts P C). w.first_alive) frame_q) (ap (λ (w : Parts P C). w.second_alive) frame_q) (not_lost k_r n.id.0 (u z) (u q) closed.cause)))
+            leaves_then plants t s q k_r took_copies
+            (leaves_then plants s z q k_r (replaced_leaves plants copies n dev ckpt s z seat.goes_on.answer went seat.goes_on.replaced (λ e. absurd (cc)))
+            (leaves_same plants z q k_r
+            (said_copies plants z q k_r closed.acts (ap (λ (w : Parts P C). w.first_alive) frame_q) (ap (λ (w : Parts P C). w.second_alive) frame_q) (not_lost k_r n.id.0 (u z) (u q) closed.cause))
+            renewals_q (λ is. sym (ap (λ (w : Parts P C). w.first_alive) frame_q) ∙ is) (λ is. sym (ap (λ (w : Parts P C). w.second_alive) frame_q) ∙ is)))
 
         pub closed_wrote : plants.tells → (ls : List Line) × (console_now (u q) ≡ console_now (u t) ++ ls) × TellNone at ls
         closed_wrote tells =
@@ -559,11 +572,11 @@ module _ {P C : Type 0} {plants : PlantGhosts P} {steadies : SteadyGhosts C} {co
             (Unsaid (cut_cause e)) (renews_open (cut_cause e)) (unsaid_end e heard) acted_open (book_left e book_open)
             (still_said tells ∙ sym (append-nil (console_now (u t))) ∙ ap (λ (ls : List Line). console_now (u t) ++ ls) (sym (lines_unsaid told S shown Replaced (cut_cause e)))) (λ up. tt)
 
-        pub open_copies : KeepCopies plants t q (failed e)
+        pub open_copies : LeavesCopies plants t q (failed e)
         open_copies =
-            copies_then plants t s q (failed e) (copies_acted plants m.id t s went seat.acts)
-            (subst (λ (w : Parts P C). KeepCopies plants s w (failed e)) (sym frame_q)
-            (copies_stopped plants s z n.id e (replaced_copies plants copies n dev ckpt s z seat.goes_on.answer (failed e) seat.goes_on.replaced (λ is_so. both (error_same e no_node.BothLost is_so)))))
+            leaves_then plants t s q (failed e) took_copies
+            (subst (λ (w : Parts P C). LeavesCopies plants s w (failed e)) (sym frame_q)
+            (leaves_stopped plants s z n.id e (replaced_leaves plants copies n dev ckpt s z seat.goes_on.answer (failed e) seat.goes_on.replaced (λ is_so. both (error_same e no_node.BothLost is_so)))))
 
         pub open_wrote : plants.tells → (ls : List Line) × (console_now (u q) ≡ console_now (u t) ++ ls) × TellNone at ls
         open_wrote tells = ([], still_said tells ∙ sym (append-nil (console_now (u t))), (λ j less small es of. tt))
@@ -576,7 +589,7 @@ module _ {P C : Type 0} {plants : PlantGhosts P} {steadies : SteadyGhosts C} {co
     record Did (told : Type 0) (S : Scene) (k_r : Result (Unit {0}) NodeNo) : Type 0 where
       pub bare : LeftAt plants copies ⊥ S at (line_by by what) t q k_r
       pub left : plants.tells → (is_stopped S.book by ≡ false → OnOk k_r (counts_of t.printed by ≡ S.counts by)) → LeftAt plants copies (Unit {0}) S at (line_by by what) t q k_r
-      pub kept : KeepCopies plants t q k_r
+      pub kept : LeavesCopies plants t q k_r
       pub goes : Proceeds (u t) (u q)
       pub wrote : plants.tells → (ls : List Line) × (console_now (u q) ≡ console_now (u t) ++ ls) × TellNone at ls
       pub next : OnOk k_r (BetweenLines y (set ms (by.0 - 1) n) (at + 1))
@@ -589,7 +602,7 @@ module _ {P C : Type 0} {plants : PlantGhosts P} {steadies : SteadyGhosts C} {co
           record {
             bare = unseated_bare plants copies S at (line_by by what) (Replaces dev) t q m own here (pieces Replaced) (line Replaced) rel (closer told S shown Replaced) journal printed (renews_unseated e told S shown un) e un.unseated;
             left = λ tells counted. unseated_told plants copies S at (line_by by what) (Replaces dev) t q m own here (pieces Replaced) (line Replaced) rel (closer told S shown Replaced) journal printed (renews_unseated e told S shown un) tells e un.unseated;
-            kept = copies_acted plants m.id t q (failed e) un.unseated.acts;
+            kept = leaves_same plants t q (failed e) (copies_acted plants m.id t q (failed e) un.unseated.acts) (renewals_unseated e told S shown un) un.unseated.acts.course.alive1 un.unseated.acts.course.alive2;
             goes = proceeds_of (u t) (u q) un.unseated.acts.course.goes;
             wrote = λ tells. ([], (un.unseated.acts.apart tells).console ∙ sym (append-nil (console_now (u t))), (λ j less small es of. tt));
             next = tt;
@@ -698,7 +711,7 @@ module _ {P C : Type 0} {plants : PlantGhosts P} {steadies : SteadyGhosts C} {co
       since = since;
       bare = bare;
       told = told;
-      copies_kept = copies_tested plants copies p b q r here.kept;
+      copies_kept = record { devices = copies_tested plants copies p b q r here.kept.devices; whole1 = here.kept.whole1; whole2 = here.kept.whole2 };
       next = here.next;
       halted = halted;
       seated = λ e. inside;

@@ -51,7 +51,7 @@ use Rattle.mas_complex.specs.Headline.{Headline, AreToldKept}
 use Rattle.member_node.specs.declared.member.NodeNo.{NodeNo}
 use Rattle.script_lang.specs.declared.types.Script.{Script}
 use Rattle.script_lang.specs.declared.types.Step.{Step}
-use Rattle.mas_run.specs.Runs.{has_begun, AreAway, HasLost, IsAway, IsRestart, IsReset, IsRun, HavePassed, IsSafe, IsPlay, HasSteps, ReadsThere, LinesBegun, LinesEnded, NonePassed, ReplacesNone, WerePlayed, as_found, lost_from, starts, stops}
+use Rattle.mas_run.specs.Runs.{has_begun, AreAway, HasLost, IsAway, IsRestart, IsReset, IsRun, HavePassed, IsSafe, IsPlay, HasSteps, ReadsThere, LinesBegun, LinesEnded, NonePassed, ReplacesNone, WerePlayed, as_found, lost_from, starts, stops, OneIsGood}
 use Rattle.mas_run.specs.Volumes.{AreVolumesKept, AreVolumesKeptUntil}
 use Rattle.mas_run.proofs.PaperLemmas.{papers_at, papers_past, papers_then}
 use Rattle.mas_run.proofs.VolumeLemmas.{kept_none, kept_past, kept_then}
@@ -65,7 +65,7 @@ use Rattle.std.proofs.Math.Seq.{drop-append_seam}
 use Rattle.spool_disk.specs.declared.plant.Plant.{Ghosts as PlantGhosts}
 use Rattle.mas_complex.specs.Parts.{Parts}
 use Rattle.run_turns.specs.Scenes.{scene_of}
-use Rattle.mas_run.specs.Copies.{KeepCopies, LeavesSome}
+use Rattle.mas_run.specs.Copies.{KeepCopies, LeavesSome, LeavesCopies}
 use Rattle.mas_run.specs.Lines.{Proceeds, StaysLost}
 use Rattle.mas_run.specs.Passed.{Here, LeaveVolumes, Passed, There}
 use Rattle.mas_run.proofs.CopiesLemmas.{alive_on, lost_after, lost_before}
@@ -210,15 +210,16 @@ module _ {P C : Type 0} (plants : PlantGhosts P) where
   some_left x y (Err no_node.ConsoleFault) other left = left
   some_left x y (Err no_node.Halted) other left = left
 
-  -- a copy is there, unless both are lost
-  pub there_after : (x y : Parts P C) (result : Result (Unit {0}) NodeNo) → KeepCopies plants x y result → SomeAlive x.first_alive x.second_alive
+  -- a good copy is left, unless both count as lost
+  pub good_after : (x y : Parts P C) (result : Result (Unit {0}) NodeNo) → LeavesCopies plants x y result → SomeAlive x.first_alive x.second_alive → x.renewals ≡ no_renewals
       → (x.first_alive ≡ true → (v x).lost (DiskPart Ckpt1) ≡ false) → (x.second_alive ≡ true → (v x).lost (DiskPart Ckpt2) ≡ false)
-      → status_of result ≢ status.BothLost → (((v y).lost (DiskPart Ckpt1) ≡ false) ⊎ ((v y).lost (DiskPart Ckpt2) ≡ false)) ⊎ HasLost (v x) (v y)
-  there_after x y result keep some there1 there2 other = ⊎_elim
+      → status_of result ≢ status.BothLost → OneIsGood y.renewals (v y) ⊎ HasLost (v x) (v y)
+  good_after x y result keep some unrenewed there1 there2 other = ⊎_elim
       (λ (is : IsLeft x.first_alive y.first_alive x.second_alive y.second_alive).
       inl (left y.first_alive y.second_alive (alive_on x.first_alive y.first_alive x.second_alive y.second_alive some is)
-      (λ is. keep.there1 is there1) (λ is. keep.there2 is there2)))
-      inr (some_left x y result other keep.left)
+      (λ is. (keep.devices.there1 is there1, keep.whole1 is (λ was. ap (λ (rs : Renewals). is_open rs.first) unrenewed)))
+      (λ is. (keep.devices.there2 is there2, keep.whole2 is (λ was. ap (λ (rs : Renewals). is_open rs.second) unrenewed)))))
+      inr (some_left x y result other keep.devices.left)
 
 -- THE LINES of a run, whose journal had these batches before them
 
@@ -241,7 +242,7 @@ module _ (told : Type 0) (b : LinesBegun) (front : List Batch) (now : ℕ) (sett
 -- they begin where nothing was said or printed before them
 module _ (tells : Type 0) (b : LinesBegun) (e : LinesEnded) where
   pub were_played : HavePassed ⊥ b e → (tells → HavePassed (Unit {0}) b e)
-      → (e.answer ≢ status.BothLost → ((e.view.lost (DiskPart Ckpt1) ≡ false) ⊎ (e.view.lost (DiskPart Ckpt2) ≡ false)) ⊎ HasLost b.view e.view)
+      → (e.answer ≢ status.BothLost → OneIsGood e.renewals e.view ⊎ HasLost b.view e.view)
       → WerePlayed tells b e b.view.loses b.view
   were_played bare told there = record {
     entered = goes_none b.view;
@@ -250,13 +251,13 @@ module _ (tells : Type 0) (b : LinesBegun) (e : LinesEnded) where
     dry = λ t m. refl;
     bare = inr bare;
     told = λ t. inr (told t);
-    there = there;
+    good = there;
   }
 
 -- what was played, from what its lines leave
 pub play_of_lines : (tells : Type 0) (steps : List Step) (base : Queue) (front : List Batch) (now : ℕ) (journal : Journal) (rs : Renewals) (since : ℕ) (old new : View) (result : Result (Unit {0}) NodeNo) (many : ℕ)
     → AreSettled front now → IsSound base → (tells → ∥ Headline form_reads base since journal rs new ∥₁) → (status_of result ≡ status.BothLost → AreAway rs new)
-    → (status_of result ≢ status.BothLost → ((new.lost (DiskPart Ckpt1) ≡ false) ⊎ (new.lost (DiskPart Ckpt2) ≡ false)) ⊎ HasLost old new)
+    → (status_of result ≢ status.BothLost → OneIsGood rs new ⊎ HasLost old new)
     → Passed ⊥ (record { reads = form_reads; number = 1; scene = scene_of (run base (kept_all front)); batches = front; renewals = no_renewals; view = old }) steps many (record { batches = journal.batches; renewals = rs; view = new; answer = result })
     → (tells → Passed (Unit {0}) (record { reads = form_reads; number = 1; scene = scene_of (run base (kept_all front)); batches = front; renewals = no_renewals; view = old }) steps many (record { batches = journal.batches; renewals = rs; view = new; answer = result }))
     → IsPlay tells steps (status_of result) base front journal since old new
@@ -317,9 +318,9 @@ module _ (first : View) (b : LinesBegun) (e : LinesEnded) (old : View) (goes : G
     dry = λ t m. p.dry t m ∙ papers t old.now goes.later (let here : old.now ≤ old.now = omega arith in here) m;
     bare = p.bare;
     told = p.told;
-    there = λ ne. ⊎_elim inl (λ lost. inr (⊎_elim
+    good = λ ne. ⊎_elim inl (λ lost. inr (⊎_elim
         (λ one. inl (subst (λ (n : ℕ). Rose n (e.view.loses Ckpt1)) (same Ckpt1) one))
-        (λ two. inr (subst (λ (n : ℕ). Rose n (e.view.loses Ckpt2)) (same Ckpt2) two)) lost)) (p.there ne);
+        (λ two. inr (subst (λ (n : ℕ). Rose n (e.view.loses Ckpt2)) (same Ckpt2) two)) lost)) (p.good ne);
   }
 
 module _ (first old new : View) (goes : Goes first old) (on : Proceeds old new) where
@@ -393,7 +394,7 @@ reset_alone tells steps answer base opening journal since old new sound are is g
         dry = λ t m. papers t new.now goes.later (let here : new.now ≤ new.now = omega arith in here) m;
         bare = inl none;
         told = λ t. inl none;
-        there = λ ne. inl (there ne);
+        good = λ ne. inl (⊎_elim (λ one. inl (one, refl)) (λ two. inr (two, refl)) (there ne));
       };
       opened = reset;
       before = kept;

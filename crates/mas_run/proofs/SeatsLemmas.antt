@@ -46,7 +46,7 @@ use Rattle.mas_run.proofs.BookLemmas.{Since, inside_since, stopped_now, stopped_
 use Rattle.mas_run.proofs.ClosedLemmas.{scene_at, shown_at}
 use Rattle.mas_run.proofs.ClosesLemmas.{Stays, if_ok, stays_stopped}
 use Rattle.mas_run.proofs.ClosingLemmas.{Ending, IsCloser, closing_at, locks_closer}
-use Rattle.mas_run.proofs.CopiesLemmas.{copies_of, copies_then, said_copies}
+use Rattle.mas_run.proofs.CopiesLemmas.{copies_of, copies_then, said_copies, leaves_same}
 use Rattle.mas_run.proofs.HaltedLemmas.{halted_between}
 use Rattle.mas_run.proofs.LocksLemmas.{locks_next}
 use Rattle.mas_run.proofs.MayLemmas.{may_go_on, none_left_held}
@@ -194,12 +194,16 @@ module _ {P C : Type 0} {plants : PlantGhosts P} {steadies : SteadyGhosts C} {co
   -- of the plant, the copies and the console
   record Did (k : Result (Unit {0}) NodeNo) : Type 0 where
     pub kept : KeepCopies plants t q k
+    pub up1 : q.first_alive ≡ true → t.first_alive ≡ true
+    pub up2 : q.second_alive ≡ true → t.second_alive ≡ true
     pub goes : Proceeds (u p) (u q)
     pub wrote : plants.tells → (ls : List Line) × (console_now (u q) ≡ console_now (u p) ++ ls) × TellNone at ls
 
   did_unseated : (e : NodeNo) → IsUnseated plants copies S0 m at Locks t q e → Did (Err e)
   did_unseated e un = record {
     kept = copies_acted plants m.id t q (Err e) un.acts;
+    up1 = un.acts.course.alive1;
+    up2 = un.acts.course.alive2;
     goes = proceeds_of (u p) (u q) un.acts.course.goes;
     wrote = λ tells. ([], (un.acts.apart tells).console ∙ sym (append-nil (console_now (u p))), (λ k less small es of. tt));
   }
@@ -218,6 +222,8 @@ module _ {P C : Type 0} {plants : PlantGhosts P} {steadies : SteadyGhosts C} {co
         kept = copies_then plants t w q k (copies_acted plants m.id t w (Ok tt) seated.acts)
             (said_copies plants w q k c.acts (ap (λ (z : Parts P C). z.first_alive) seated.frame ∙ alive1_stopped (record w { plant = q.plant }) k)
             (ap (λ (z : Parts P C). z.second_alive) seated.frame ∙ alive2_stopped (record w { plant = q.plant }) k) (not_lost k m.id.0 (u w) (u q) c.cause));
+        up1 = λ is. seated.acts.course.alive1 (sym (ap (λ (z : Parts P C). z.first_alive) seated.frame ∙ alive1_stopped (record w { plant = q.plant }) k) ∙ is);
+        up2 = λ is. seated.acts.course.alive2 (sym (ap (λ (z : Parts P C). z.second_alive) seated.frame ∙ alive2_stopped (record w { plant = q.plant }) k) ∙ is);
         goes = proceeds_of (u p) (u q) (goes_on (u p) (u w) (u q) seated.acts.course.goes c.acts.goes);
         wrote = λ tells.
             let s = c.console tells in
@@ -295,7 +301,7 @@ module _ {P C : Type 0} {plants : PlantGhosts P} {steadies : SteadyGhosts C} {co
     since = since;
     bare = bare;
     told = told;
-    copies_kept = copies_tested plants copies p b q r did.kept;
+    copies_kept = leaves_same plants p q r (copies_tested plants copies p b q r did.kept) same_t.renewals did.up1 did.up2;
     next = next;
     halted = halted;
     seated = λ e. inside;

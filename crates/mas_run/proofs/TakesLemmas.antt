@@ -51,7 +51,7 @@ use Rattle.mas_run.proofs.AdmittedLemmas.{IsUpMember}
 use Rattle.mas_run.proofs.AfterLemmas.{earlier_then}
 use Rattle.mas_run.proofs.BeginLemmas.{at_first, bare_pieces, bare_shaped, begun_left, begun_sight, first_halt, queue_pieces, queue_right}
 use Rattle.mas_run.proofs.BookLemmas.{Since, inside_since, seized_since, stopped_now, stopped_since, then_since}
-use Rattle.mas_run.proofs.CopiesLemmas.{acted_copies, copies_then}
+use Rattle.mas_run.proofs.CopiesLemmas.{acted_copies, copies_then, leaves_same}
 use Rattle.mas_run.proofs.DoneLemmas.{reset_says}
 use Rattle.mas_run.proofs.HaltedLemmas.{halted_between}
 use Rattle.mas_run.proofs.JournalLemmas.{queue_met}
@@ -223,7 +223,7 @@ module _ {P C : Type 0} {plants : PlantGhosts P} {steadies : SteadyGhosts C} {co
       since = since;
       bare = bare_none;
       told = told_none;
-      copies_kept = copies_counted plants by.0 (is_stop e) p q r_none un.counts (taken_leaves plants copies by p q e un.cause un.some);
+      copies_kept = leaves_same plants p q r_none (copies_counted plants by.0 (is_stop e) p q r_none un.counts (taken_leaves plants copies by p q e un.cause un.some)) renewals un.counts.alive1 un.counts.alive2;
       next = tt;
       halted = λ is_halted. halted_none (same_answer e no_node.Halted is_halted);
       seated = λ is_halted. inside;
@@ -303,7 +303,7 @@ module _ {P C : Type 0} {plants : PlantGhosts P} {steadies : SteadyGhosts C} {co
       since = since;
       bare = bare;
       told = told;
-      copies_kept = on_copies;
+      copies_kept = leaves_same plants p q r on_copies renewals (λ is. takes.taken.counts.alive1 (takes.reset.acts.course.alive1 is)) (λ is. takes.taken.counts.alive2 (takes.reset.acts.course.alive2 is));
       next = turned_next x y t ms k few is takes.base takes.since t_since hold_t earlier takes.taken.counts.goes (λ o. (takes.taken.apart o).console) base_t since_t n stays
           takes.reset.pieces takes.reset.cut takes.reset.away quiet_all takes.reset.acts.course.goes r takes.reset.played wrote (now_of r after);
       halted = turned_halted x y t ms k few is takes.base takes.since t_since hold_t earlier takes.taken.counts.goes (λ o. (takes.taken.apart o).console) base_t since_t n stays

@@ -1,5 +1,5 @@
 -- The copies in a line of a script, and in lines one after another.
-use Rattle.std.specs.Prelude.{◌≡◌, ◌⊎◌, true, false, Result, Err}
+use Rattle.std.specs.Prelude.{◌≡◌, ◌⊎◌, Bool, true, false, List, Result, Err}
 use Rattle.mas_types.specs.declared.ids.Dev.{Dev}
 use Rattle.mas_types.specs.declared.ids.Dev.TheVariants.{Ckpt1, Ckpt2}
 use Rattle.spool_disk.specs.declared.plant.Part.TheVariants.{Disk}
@@ -9,12 +9,18 @@ use Rattle.ckpt_copy.specs.declared.copying.Copying.{Ghosts as CopyGhosts}
 use Rattle.ckpt_form.specs.declared.steady.Steady.{Ghosts as SteadyGhosts}
 use Rattle.duplex_pair.specs.Halves.{IsBothLost}
 use Rattle.mas_complex.specs.declared.complex.Complex.{Complex}
+use Rattle.mas_complex.specs.declared.renewals.Renewal.{Renewal}
 use Rattle.mas_complex.specs.Parts.{Parts, parts_of}
+use Rattle.mas_complex.specs.Renewals.{is_open}
 use Rattle.member_node.specs.declared.member.NodeNo.{NodeNo}
 use Rattle.member_node.specs.declared.member.NodeNo.TheVariants.{BothLost}
 use Rattle.member_node.specs.Calls.{Grows, IsLeft, WasLost}
 use Rattle.mas_run.specs.Lines.{Proceeds}
 use Rattle.mas_run.specs.Runs.{HasLost}
+
+-- A copy that counts as alive isn't being replaced, if it wasn't before where it counted as alive then.
+abbrev pub StaysWhole : Bool → List Renewal → Bool → List Renewal → Type 0
+StaysWhole was rs is after = is ≡ true → (was ≡ true → is_open rs ≡ false) → is_open after ≡ false
 
 module _ {P C : Type 0} (plants : PlantGhosts P) where
   abbrev v : Parts P C → View
@@ -39,9 +45,15 @@ module _ {P C : Type 0} (plants : PlantGhosts P) where
     pub grow : (d : Dev) → Grows ((v x).loses d) ((v y).loses d)
     pub left : LeavesSome x y result
 
+  -- so are the devices of both, and one that counts as alive is good
+  pub record LeavesCopies {T : Type 0} (x y : Parts P C) (result : Result T NodeNo) : Type 0 where
+    pub devices : KeepCopies x y result
+    pub whole1 : StaysWhole x.first_alive x.renewals.first y.first_alive y.renewals.first
+    pub whole2 : StaysWhole x.second_alive x.renewals.second y.second_alive y.renewals.second
+
 -- OVER THE SHARED VALUE
 
 module _ {P C : Type 0} {plants : PlantGhosts P} {steadies : SteadyGhosts C} {copies : CopyGhosts C} where
   abbrev pub CopiesKept : {T : Type 0} → Complex P C plants steadies copies → Complex P C plants steadies copies
       → Result T NodeNo → Type 0
-  CopiesKept x y result = KeepCopies plants (parts_of x) (parts_of y) result
+  CopiesKept x y result = LeavesCopies plants (parts_of x) (parts_of y) result

@@ -99,6 +99,13 @@ IsAway d rs v = (v.lost (Disk d) ≡ true) ⊎ (is_open rs ≡ true)
 abbrev pub AreAway : Renewals → View → Type 0
 AreAway rs v = IsAway Ckpt1 rs.first v × IsAway Ckpt2 rs.second v
 
+-- a copy is good: its device isn't lost, and it isn't being replaced
+abbrev pub IsGoodNow : Dev → List Renewal → View → Type 0
+IsGoodNow d rs v = (v.lost (Disk d) ≡ false) × (is_open rs ≡ false)
+
+abbrev pub OneIsGood : Renewals → View → Type 0
+OneIsGood rs v = IsGoodNow Ckpt1 rs.first v ⊎ IsGoodNow Ckpt2 rs.second v
+
 -- A plant as it shows all at a run's end, but that devices of copies are lost that were lost at its first moment: a line
 -- may have put others in their place.
 abbrev pub lost_from : (Dev → Bool) → Part → Bool → Bool
@@ -283,9 +290,8 @@ pub record WerePlayed (tells : Type 0) (b : LinesBegun) (e : LinesEnded) (first 
   pub dry : tells → (m : ℕ) → paper_now b.view m ≡ paper_now old m
   pub bare : NonePassed b e ⊎ HavePassed ⊥ b e
   pub told : tells → NonePassed b e ⊎ HavePassed (Unit {0}) b e
-  -- a copy is left, except where both are lost
-  pub there : e.answer ≢ status.BothLost
-      → ((e.view.lost (Disk Ckpt1) ≡ false) ⊎ (e.view.lost (Disk Ckpt2) ≡ false)) ⊎ HasLostSince first e.view
+  -- a good copy is left, except where both count as lost
+  pub good : e.answer ≢ status.BothLost → OneIsGood e.renewals e.view ⊎ HasLostSince first e.view
 
 -- What holds at each moment from a run's first on, where copies were replaced at these moments: a crash leaves the queue
 -- after what was kept where a copy is good; both copies read the same pages or those on either side of the batch in

@@ -8,7 +8,7 @@ use Rattle.mas_complex.specs.Parts.{parts_of}
 use Rattle.member_sittings.specs.Sat.{journal_of}
 use Rattle.run_turns.specs.Scenes.{Scene, scene_of}
 use Rattle.mas_run.proofs.MemberRunLemmas.{lines_failed, lines_passed, nothing_out, shown_bare}
-use Rattle.mas_run.proofs.RunLemmas.{away_after, caused_by_lines, play_of_lines, there_after}
+use Rattle.mas_run.proofs.RunLemmas.{away_after, caused_by_lines, play_of_lines, good_after}
 use Rattle.mas_run.proofs.play.play_asked.Goals as goal
 
 pub returns-clause-play : goal.returns-clause-play
@@ -28,8 +28,8 @@ returns-clause-play g c =
     let head : P.tells → ∥ Headline form_reads x.base x.since J y.renewals w ∥₁ = λ t. rw (e.base, e.since, e.plant, d.base, d.since) at (e.headline t) in
     rw (e.status, c.status_of.ensures, e.base, e.since, e.plant, d.base, d.since)
     (play_of_lines P.tells steps x.base x.journal.batches v.now J y.renewals x.since v w r d.played.many c.requires.settled c.requires.between.sound head
-    (away_after P (parts_of x) (parts_of y) r d.copies y.first_lost y.second_lost)
-    (there_after P (parts_of x) (parts_of y) r d.copies c.requires.some c.requires.there1 c.requires.there2)
+    (away_after P (parts_of x) (parts_of y) r d.copies.devices y.first_lost y.second_lost)
+    (good_after P (parts_of x) (parts_of y) r d.copies c.requires.some c.requires.unrenewed c.requires.there1 c.requires.there2)
     (lines_passed x y S ⊥ steps d.played.many r d.played.bare (shown_bare x y S (Unit {0}) c.requires.shows) x.journal.batches J.batches no_renewals none c.requires.unrenewed e.journal)
     (λ t. lines_passed x y S (Unit {0}) steps d.played.many r (d.played.told t) c.requires.shows x.journal.batches J.batches no_renewals none c.requires.unrenewed e.journal))
 
@@ -43,11 +43,11 @@ returns-clause-cause g c =
     let r = c.play_lines-answer.result in
     let S : Scene = scene_of (run x.base (kept_all x.journal.batches)) in
     rw (e.status, c.status_of.ensures, e.plant)
-    (caused_by_lines P (parts_of x) (parts_of y) r d.copies
+    (caused_by_lines P (parts_of x) (parts_of y) r d.copies.devices
     (lines_failed x y S ⊥ c.args.lines.now d.played.many r d.played.bare (shown_bare x y S (Unit {0}) c.requires.shows)))
 
 pub returns-clause-goes : goal.returns-clause-goes
-returns-clause-goes g c = rw c.ended.ensures.plant c.play_lines-answer.ensures.copies.goes
+returns-clause-goes g c = rw c.ended.ensures.plant c.play_lines-answer.ensures.copies.devices.goes
 
 pub returns-clause-grow : goal.returns-clause-grow
-returns-clause-grow g c d = rw c.ended.ensures.plant (c.play_lines-answer.ensures.copies.grow d)
+returns-clause-grow g c d = rw c.ended.ensures.plant (c.play_lines-answer.ensures.copies.devices.grow d)

@@ -2,7 +2,7 @@ use Rattle.std.proofs.Common.{◌≡◌, ◌∙◌, ◌+◌, ℕ, [], drop, drop
 use Rattle.std.proofs.lemmas.Result.{err_from_is_err_and}
 use Rattle.script_input.specs.Played.{IsPlayed}
 use Rattle.mas_complex.specs.Parts.{parts_of}
-use Rattle.mas_run.proofs.CopiesLemmas.{copies_none, copies_then}
+use Rattle.mas_run.proofs.CopiesLemmas.{leaves_none, leaves_then}
 use Rattle.mas_run.proofs.WayLemmas.{LineFrom, line_next, way_done, way_ends, way_more, way_none}
 use Rattle.mas_run.proofs.running.Running.play_lines.Goals as goal
 
@@ -18,7 +18,7 @@ loop-line-init g c =
       between = c.requires.between;
       bare = way_none P C ⊥ c.args.lines.now x;
       told = λ t. way_none P C (Unit {0}) c.args.lines.now x;
-      copies = copies_none P x;
+      copies = leaves_none P x;
     }
 
 pub play_line-requires-clause-played : goal.play_line-requires-clause-played
@@ -49,7 +49,7 @@ loop-line-preserved g c =
       between = e.next;
       bare = way_more P C ⊥ lines x k line y z first (subst (λ (n : ℕ). LineFrom P C ⊥ lines x n line y z (Ok tt)) number e.bare) i.bare;
       told = λ t. way_more P C (Unit {0}) lines x k line y z first (subst (λ (n : ℕ). LineFrom P C (Unit {0}) lines x n line y z (Ok tt)) number (e.told t)) (i.told t);
-      copies = copies_then P x y z (Ok tt) i.copies e.copies;
+      copies = leaves_then P x y z (Ok tt) i.copies e.copies;
     }
 
 -- a line ended the run
@@ -79,7 +79,7 @@ pub returns-in_err-play_line-clause-copies : goal.returns-in_err-play_line-claus
 returns-in_err-play_line-clause-copies g c =
     let p = err_from_is_err_and c.from_residual.result c.from_residual.ensures.1 in
     rw (p.1, p.2)
-    (copies_then g.P.Plant (parts_of c.args.self.now.complex) (parts_of c.loop-line.self.complex) (parts_of c.play_line.new.self.complex) (Err c.in_err-play_line.field-0.0)
+    (leaves_then g.P.Plant (parts_of c.args.self.now.complex) (parts_of c.loop-line.self.complex) (parts_of c.play_line.new.self.complex) (Err c.in_err-play_line.field-0.0)
     c.loop-line.invariant.copies c.in_err-play_line.ensures.copies)
 
 -- all of them were played

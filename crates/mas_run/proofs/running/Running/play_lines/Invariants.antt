@@ -1,6 +1,6 @@
 use Rattle.std.proofs.Common.{◌≡◌, ◌+◌, Ok}
 use Rattle.mas_complex.specs.Parts.{parts_of}
-use Rattle.mas_run.specs.Copies.{KeepCopies}
+use Rattle.mas_run.specs.Copies.{LeavesCopies}
 use Rattle.mas_run.specs.Shows.{BetweenLines}
 use Rattle.mas_run.proofs.WayLemmas.{AreOnTheWay}
 use Rattle.mas_run.proofs.running.Running.play_lines.Given as goal
@@ -18,5 +18,5 @@ invariant-loop-line g l =
       between : BetweenLines y l.self.members (l.number + 1);
       bare : AreOnTheWay P C ⊥ l.lines (parts_of x) l.line-index (parts_of y);
       told : P.tells → AreOnTheWay P C (Unit {0}) l.lines (parts_of x) l.line-index (parts_of y);
-      copies : KeepCopies P {T = Unit {0}} (parts_of x) (parts_of y) (Ok tt);
+      copies : LeavesCopies P {T = Unit {0}} (parts_of x) (parts_of y) (Ok tt);
     }
