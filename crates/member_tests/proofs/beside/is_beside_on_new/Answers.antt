@@ -18,4 +18,7 @@ invariant_of-complex c =
       begun = x.begun;
       owned = x.owned;
       few = x.few;
+      short = x.short;
+      short_reserved = x.short_reserved;
+      counted = x.counted;
     }
