@@ -4,7 +4,7 @@ use Rattle.std.proofs.lemmas.Bool.Decides.{nat_tests}
 use Rattle.std.proofs.lemmas.Bool.{and_parts, leb-true}
 use Rattle.mas_types.specs.Limits.{page_bytes}
 use Rattle.mas_types.specs.declared.ids.Dev.{Dev}
-use Rattle.spool_disk.specs.View.{View, Disk, Apart, disk_now}
+use Rattle.spool_plant.specs.View.{View, Disk, Apart, disk_now}
 use Rattle.ckpt_copy.specs.Changes.{Spreads}
 use Rattle.ckpt_copy.specs.Meanwhile.{Meanwhile}
 use Rattle.ckpt_copy.specs.Moments.{either_way, meanwhile_weaker}

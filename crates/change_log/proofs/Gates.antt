@@ -3,7 +3,7 @@ use Rattle.std.proofs.Common.{◌≡◌, ◌≢◌, ℕ, zero, suc, ◌+◌, ◌
 use Rattle.std.proofs.lemmas.Bool.Decides.{nat_tests}
 use Rattle.std.proofs.lemmas.List.{get_or-set_same, get_or-set_other}
 use Rattle.mas_types.specs.Limits.{pages_most}
-use Rattle.spool_disk.specs.View.{Disk}
+use Rattle.spool_plant.specs.View.{Disk}
 use Rattle.change_log.specs.Logs.{slots, home_block, free_after}
 use Rattle.change_log.specs.LogStates.{Stands, lists_any, with_list}
 use Rattle.change_log.specs.LogRests.{OpenAs, Rests, next_slot}

@@ -3,7 +3,7 @@ use Rattle.std.proofs.Common.{◌≡◌, inl, inr, ⊎_elim, ℕ, ◌+◌, ◌*�
 use Rattle.std.proofs.lemmas.Bool.Decides.{nat_tests}
 use Rattle.mas_types.specs.Limits.{page_bytes}
 use Rattle.mas_types.specs.declared.ids.Dev.{Dev}
-use Rattle.spool_disk.specs.View.{View, Disk, Apart, Avoids, disk_now, slice}
+use Rattle.spool_plant.specs.View.{View, Disk, Apart, Avoids, disk_now, slice}
 use Rattle.ckpt_copy.specs.declared.layout.TheConstants.{GATE_OPEN}
 use Rattle.ckpt_copy.specs.Has.{Has}
 use Rattle.ckpt_copy.specs.Changes.{Spreads, IsPut}

@@ -2,7 +2,7 @@
 use Rattle.std.proofs.Common.{◌≡◌, inl, inr, ⊎_elim, ℕ, ◌+◌, ◌*◌, ◌<◌, Bool, List, [], slice_index, sym, ◌∙◌, ap, subst, arith}
 use Rattle.mas_types.specs.Limits.{page_bytes}
 use Rattle.mas_types.specs.declared.ids.Dev.{Dev}
-use Rattle.spool_disk.specs.View.{View, Disk, Apart, Avoids, disk_now}
+use Rattle.spool_plant.specs.View.{View, Disk, Apart, Avoids, disk_now}
 use Rattle.ckpt_copy.specs.Changes.{Spreads, NoMore}
 use Rattle.ckpt_copy.specs.Meanwhile.{Meanwhile}
 use Rattle.ckpt_copy.specs.Moments.{either_way, meanwhile_then, meanwhile_weaker, meanwhile_end}

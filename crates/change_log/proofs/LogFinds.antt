@@ -4,7 +4,7 @@ use Rattle.std.proofs.lemmas.Bool.Decides.{nat_tests}
 use Rattle.std.proofs.lemmas.Bool.{and_parts, and_from, cases_lt, leb-true}
 use Rattle.std.proofs.lemmas.List.{take_all, drop_at, drop-append-le, take-append-le, length-take-le}
 use Rattle.mas_types.specs.Limits.{page_bytes, pages_least, pages_most}
-use Rattle.spool_disk.specs.View.{Disk, IsImage, Avoids, slice}
+use Rattle.spool_plant.specs.View.{Disk, IsImage, Avoids, slice}
 use Rattle.ckpt_copy.specs.declared.layout.TheConstants.{GATE_OPEN}
 use Rattle.ckpt_copy.specs.Has.{Has}
 use Rattle.mas_types.specs.declared.ids.Page.{Page}

@@ -2,7 +2,7 @@
 use Rattle.std.proofs.Common.{◌≡◌, ◌⊎◌, inl, inr, ℕ, ◌+◌, ◌*◌, ◌≤◌, ◌<◌, Bool, true, Some, List, [], ◌∷◌, length, set, slice_index, slice_get, refl, sym, ◌∙◌, ap, subst, arith, Contains}
 use Rattle.mas_types.specs.Limits.{page_bytes, pages_least, pages_most}
 use Rattle.mas_types.specs.declared.ids.Dev.{Dev}
-use Rattle.spool_disk.specs.View.{View, Disk, Avoids, disk_now, slice}
+use Rattle.spool_plant.specs.View.{View, Disk, Avoids, disk_now, slice}
 use Rattle.ckpt_copy.specs.declared.layout.TheConstants.{GATE_OPEN}
 use Rattle.ckpt_copy.specs.Has.{Has}
 use Rattle.ckpt_copy.specs.Changes.{Spreads, IsPut}

@@ -5,7 +5,7 @@ use Rattle.std.proofs.lemmas.List.{take-append-drop, drop-drop, length-take-le}
 use Rattle.std.proofs.lemmas.List.Elements.{All-head, All-tail, All-drop}
 use Rattle.std.specs.Int.{w16, to_be_bytes}
 use Rattle.mas_types.specs.Limits.{page_bytes, pages_most}
-use Rattle.spool_disk.specs.View.{slice}
+use Rattle.spool_plant.specs.View.{slice}
 use Rattle.lay_bytes.specs.Bytes.{are_zeros}
 use Rattle.change_log.specs.Directories.{words, numbers_in, is_directory, word_bytes, directory}
 

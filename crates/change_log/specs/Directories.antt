@@ -1,7 +1,7 @@
 -- The directory of a log slot: the numbers of the pages that its images are of.
 use Rattle.std.specs.Int.{w16, to_be_bytes}
 use Rattle.std.specs.Prelude.{ℕ, ◌+◌, ◌*◌, ◌-◌, ◌&&◌, ◌==◌, nat_le, nat_lt, zero, suc, Bool, true, false, List, [], ◌∷◌, ◌++◌, length, take, drop, replicate, slice_index}
-use Rattle.spool_disk.specs.View.{slice}
+use Rattle.spool_plant.specs.View.{slice}
 use Rattle.mas_types.specs.Limits.{page_bytes}
 use Rattle.lay_bytes.specs.Bytes.{are_zeros}
 

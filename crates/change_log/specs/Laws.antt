@@ -1,7 +1,7 @@
 -- What holds of a log whatever a crash leaves of its device.
 use Rattle.std.specs.Prelude.{◌≡◌, ℕ, ◌*◌, ◌≤◌, ◌<◌, true, Some, List, [], length, All}
 use Rattle.mas_types.specs.Limits.{page_bytes, pages_most}
-use Rattle.spool_disk.specs.View.{Disk, slice}
+use Rattle.spool_plant.specs.View.{Disk, slice}
 use Rattle.ckpt_copy.specs.Has.{Has}
 use Rattle.ckpt_copy.specs.Pages.{page_in, ArePages}
 use Rattle.ckpt_copy.specs.Reading.{AllRead, EachReads}

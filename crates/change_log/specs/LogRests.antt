@@ -1,6 +1,6 @@
 -- A copy in the log form between its calls: what it keeps in memory, and what stands on its device.
 use Rattle.std.specs.Prelude.{◌≡◌, ℕ, ◌+◌, ◌*◌, ◌-◌, ◌≤◌, ◌<◌, Bool, true, false, List, [], length, slice_index, slice_index_or}
-use Rattle.spool_disk.specs.View.{Disk, slice}
+use Rattle.spool_plant.specs.View.{Disk, slice}
 use Rattle.mas_types.specs.Limits.{page_bytes}
 use Rattle.ckpt_copy.specs.Has.{Has}
 use Rattle.ckpt_copy.specs.Pages.{page_in}

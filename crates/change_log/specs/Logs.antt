@@ -1,6 +1,6 @@
 -- The log form of a copy: what its bytes read as.
 use Rattle.std.specs.Prelude.{◌≡◌, ℕ, ◌+◌, ◌*◌, ◌/◌, ◌%◌, ◌&&◌, ◌==◌, nat_le, if◌then◌else◌, zero, suc, Bool, true, false, Option, Some, None, List, [], ◌∷◌, ◌++◌, length, slice_index}
-use Rattle.spool_disk.specs.View.{slice}
+use Rattle.spool_plant.specs.View.{slice}
 use Rattle.mas_types.specs.Limits.{page_bytes, pages_least, pages_most}
 use Rattle.ckpt_copy.specs.Heads.{is_open, pages_in}
 use Rattle.change_log.specs.declared.layout.TheConstants.{FORM_LOG}

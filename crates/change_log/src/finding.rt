@@ -1,8 +1,8 @@
 //! What a copy in the log form reads as.
 ghost use Rattle.std.specs.Prelude.{◌≡◌, ℕ, ◌+◌, ◌*◌, ◌≤◌, ◌<◌, length, slice_index, OnOk, IfOk, IfSome, IsErrOf, false};
 ghost use Rattle.mas_types.specs.Limits.{page_bytes, pages_most};
-ghost use Rattle.spool_disk.specs.declared.plant.Part.TheVariants.{Disk as DiskPart};
-ghost use Rattle.spool_disk.specs.View.{disk_now};
+ghost use Rattle.spool_plant.specs.declared.plant.Part.TheVariants.{Disk as DiskPart};
+ghost use Rattle.spool_plant.specs.View.{disk_now};
 ghost use Rattle.ckpt_copy.specs.Causes.{Caused, IsOut, answer_of, answer_found};
 ghost use Rattle.ckpt_copy.specs.Changes.{NoMore};
 ghost use Rattle.ckpt_copy.specs.Meanwhile.{Meanwhile};
@@ -19,7 +19,7 @@ use ckpt_copy::acts::{read_act, read_block};
 use ckpt_copy::{CopyNo, FindNo, GATE_OPEN};
 use mas_types::limits::{PAGES_LEAST, PAGES_MOST};
 use mas_types::{Dev, List, MemberId, Page};
-use spool_disk::Plant;
+use spool_plant::Plant;
 use std::alloc::Global;
 
 // Block 0 of a valid copy in the log form: the number of pages, and which gates are open.

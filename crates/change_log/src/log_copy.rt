@@ -15,7 +15,7 @@ use ckpt_copy::acts::{read_act, sync_act, write_synced};
 use ckpt_copy::{CopyNo, Copying, FindNo, GATE_CLOSED, GATE_OPEN, VALID_AT};
 use mas_types::limits::PAGE_BYTES;
 use mas_types::{Dev, List, MemberId, Page};
-use spool_disk::Plant;
+use spool_plant::Plant;
 use std::alloc::Global;
 
 /// Home pages, and slots with the pages that changed since.

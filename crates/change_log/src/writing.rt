@@ -1,8 +1,8 @@
 //! What a log writes: a slot behind its closed gate, the home pages, and the gates.
 ghost use Rattle.std.specs.Prelude.{◌≡◌, ◌==◌, ◌&&◌, ℕ, ◌+◌, ◌-◌, ◌*◌, ◌≤◌, ◌<◌, [], List, Bool, nat_lt, length, slice_index, OnOk, false};
 ghost use Rattle.mas_types.specs.Limits.{page_bytes, pages_least, pages_most};
-ghost use Rattle.spool_disk.specs.declared.plant.Part.TheVariants.{Disk as DiskPart};
-ghost use Rattle.spool_disk.specs.View.{disk_now, slice};
+ghost use Rattle.spool_plant.specs.declared.plant.Part.TheVariants.{Disk as DiskPart};
+ghost use Rattle.spool_plant.specs.View.{disk_now, slice};
 ghost use Rattle.ckpt_copy.specs.Causes.{Caused, IsOut, answer_of};
 ghost use Rattle.ckpt_copy.specs.Changes.{Spreads};
 ghost use Rattle.ckpt_copy.specs.Meanwhile.{Meanwhile};
@@ -18,7 +18,7 @@ use crate::places::PLACES;
 use ckpt_copy::acts::{bytes_in, sync_act, write_act, write_pages, write_synced};
 use ckpt_copy::{CopyNo, GATE_CLOSED, HEAD_AT};
 use mas_types::{Dev, MemberId, Page};
-use spool_disk::Plant;
+use spool_plant::Plant;
 
 // The level that stands in a first page.
 fn level_in(page: &Page) -> [u8; 8]

@@ -1,7 +1,7 @@
 -- Reads and syncs, one after another.
 use Rattle.std.proofs.Common.{◌∙◌, arith, inl}
 use Rattle.mas_types.specs.declared.ids.Dev.{Dev}
-use Rattle.spool_disk.specs.View.{View, Disk, disk_now}
+use Rattle.spool_plant.specs.View.{View, Disk, disk_now}
 use Rattle.ckpt_copy.specs.Changes.{Spreads, NoMore}
 use Rattle.ckpt_copy.specs.Meanwhile.{Meanwhile}
 use Rattle.ckpt_copy.specs.Moments.{meanwhile_then, meanwhile_weaker, meanwhile_end}

@@ -1,11 +1,11 @@
 -- Causes of calls, one after another.
 use Rattle.std.proofs.Common.{◌≡◌, inr, ℕ, ◌≤◌, Result, Err, refl, sym, ◌∙◌, ap, subst, arith}
 use Rattle.mas_types.specs.declared.ids.Dev.{Dev}
-use Rattle.spool_disk.specs.declared.plant.Part.TheVariants.{Disk as DiskPart}
-use Rattle.spool_disk.specs.declared.plant.Act.{Act}
-use Rattle.spool_disk.specs.declared.plant.Act.TheVariants.{Done}
-use Rattle.spool_disk.specs.View.{View}
-use Rattle.spool_disk.specs.Acts.{Rose}
+use Rattle.spool_plant.specs.declared.plant.Part.TheVariants.{Disk as DiskPart}
+use Rattle.spool_plant.specs.declared.plant.Act.{Act}
+use Rattle.spool_plant.specs.declared.plant.Act.TheVariants.{Done}
+use Rattle.spool_plant.specs.View.{View}
+use Rattle.spool_plant.specs.Acts.{Rose}
 use Rattle.ckpt_copy.specs.declared.copying.FindNo.{FindNo}
 use Rattle.ckpt_copy.specs.Causes.{Caused, answer_found}
 use Rattle.ckpt_copy.specs.Moments.{goes_on, goes_none}
@@ -24,6 +24,7 @@ caused_then by dev old mid new answer first then = record {
   halted = λ is. rose_later _ _ _ (first.goes.stops by) (then.halted is);
   not_operator = then.not_operator;
   no_other_stop = λ m else. then.no_other_stop m else ∙ first.no_other_stop m (inr (λ is. cc));
+  at_halt = then.at_halt;
   loses = λ d. then.loses d ∙ first.loses d;
   arms = λ m. then.arms m ∙ first.arms m;
 }
@@ -38,6 +39,7 @@ caused_none by dev v = record {
   halted = λ is. absurd (cc);
   not_operator = λ is. absurd (cc);
   no_other_stop = λ m else. refl;
+  at_halt = λ is. absurd (cc);
   loses = λ d. refl;
   arms = λ m. refl;
 }

@@ -1,8 +1,8 @@
 -- While the VALID gate alone is written, each image is, except for that byte, one of before.
 use Rattle.std.proofs.Common.{inl, inr, ℕ, zero, suc, ◌≡◌, ◌+◌, ◌≤◌, List, [], ◌∷◌, ◌++◌, length, take, drop, refl, sym, ◌∙◌, ap, arith}
 use Rattle.std.proofs.Math.Seq.{take-add}
-use Rattle.spool_disk.specs.View.{Disk, Stretch, Apart, Avoids, IsImage, slice}
-use Rattle.spool_disk.specs.Acts.{DiffersIn}
+use Rattle.spool_plant.specs.View.{Disk, Stretch, Apart, Avoids, IsImage, slice}
+use Rattle.spool_plant.specs.Acts.{DiffersIn}
 use Rattle.ckpt_copy.specs.Changes.{Spreads}
 use Rattle.ckpt_copy.specs.Reading.{IsOfOld}
 use Rattle.ckpt_copy.specs.Slices.{stretch, slice_apart}

@@ -4,11 +4,11 @@ use Rattle.std.proofs.lemmas.List.{drop-drop, take-take, take_more, append-nil}
 use Rattle.std.proofs.Math.Seq.{take-add}
 use Rattle.mas_types.specs.declared.ids.Dev.{Dev}
 use Rattle.mas_types.specs.declared.ids.Page.{Page}
-use Rattle.spool_disk.specs.declared.plant.Act.{Act}
-use Rattle.spool_disk.specs.declared.plant.Act.TheVariants.{Done, Failed, Halted}
-use Rattle.spool_disk.specs.declared.plant.Part.TheVariants.{Disk as DiskPart}
-use Rattle.spool_disk.specs.Acts.{Acts, Writes, Written, Dirtied, top}
-use Rattle.spool_disk.specs.View.{View, World, Disk, Stretch, Apart, Avoids, disk_now, slice}
+use Rattle.spool_plant.specs.declared.plant.Act.{Act}
+use Rattle.spool_plant.specs.declared.plant.Act.TheVariants.{Done, Failed, Halted}
+use Rattle.spool_plant.specs.declared.plant.Part.TheVariants.{Disk as DiskPart}
+use Rattle.spool_plant.specs.Acts.{Acts, Writes, Written, Dirtied, top}
+use Rattle.spool_plant.specs.View.{View, World, Disk, Stretch, Apart, Avoids, disk_now, slice}
 use Rattle.mas_types.specs.Limits.{page_bytes}
 use Rattle.ckpt_copy.specs.Changes.{Spreads}
 use Rattle.ckpt_copy.specs.Meanwhile.{Meanwhile}

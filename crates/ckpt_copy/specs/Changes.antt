@@ -1,7 +1,7 @@
 -- What acts do to a device.
 use Rattle.std.specs.Prelude.{◌≡◌, ℕ, false, List, []}
-use Rattle.spool_disk.specs.View.{Disk, Stretch, Apart, Avoids, slice}
-use Rattle.spool_disk.specs.Acts.{DiffersIn}
+use Rattle.spool_plant.specs.View.{Disk, Stretch, Apart, Avoids, slice}
+use Rattle.spool_plant.specs.Acts.{DiffersIn}
 
 -- Only bytes of this stretch differ, what avoided the unsynced stretches still does, apart from it, and a lost device
 -- doesn't come back.

@@ -2,7 +2,7 @@
 use Rattle.std.proofs.Common.{◌≡◌, ℕ, zero, suc, true, List, replicate, get_or, slice_index, refl, sym, ◌∙◌, ap, arith, ◌==◌}
 use Rattle.std.proofs.lemmas.Bool.Decides.{nat_tests}
 use Rattle.std.proofs.lemmas.List.{get_or-drop}
-use Rattle.spool_disk.specs.Acts.{DiffersIn}
+use Rattle.spool_plant.specs.Acts.{DiffersIn}
 use Rattle.ckpt_copy.specs.declared.layout.TheConstants.{GATE_OPEN}
 
 pub open_at : (x : ℕ) → (x == GATE_OPEN) ≡ true → x ≡ GATE_OPEN

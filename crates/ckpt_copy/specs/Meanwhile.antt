@@ -1,8 +1,8 @@
 -- What holds at each moment of a call that acts on one device.
 use Rattle.std.specs.Prelude.{◌≡◌, ◌≢◌, ℕ}
 use Rattle.mas_types.specs.declared.ids.Dev.{Dev}
-use Rattle.spool_disk.specs.View.{View, World, Disk, disk_at, disk_now, Throughout}
-use Rattle.spool_disk.specs.Acts.{Goes}
+use Rattle.spool_plant.specs.View.{View, World, Disk, disk_at, disk_now, Throughout}
+use Rattle.spool_plant.specs.Acts.{Goes}
 
 -- printers hold the same lines in two worlds, and the same bytes were moved on wires
 pub record SameSides (old new : World) : Type 0 where

@@ -2,8 +2,8 @@
 use Rattle.std.proofs.Common.{◌≡◌, ◌⊎◌, inl, inr, ⊎_elim, ℕ, ◌+◌, ◌≤◌, ◌<◌, refl, sym, ◌∙◌, ap, subst, arith, Bool, true, false, nat_le}
 use Rattle.std.proofs.lemmas.Bool.Decides.{nat_tests}
 use Rattle.mas_types.specs.declared.ids.Dev.{Dev}
-use Rattle.spool_disk.specs.View.{View, World, Disk, disk_at, disk_now, Throughout}
-use Rattle.spool_disk.specs.Acts.{Goes, OnDevice}
+use Rattle.spool_plant.specs.View.{View, World, Disk, disk_at, disk_now, Throughout}
+use Rattle.spool_plant.specs.Acts.{Goes, OnDevice}
 use Rattle.ckpt_copy.specs.Meanwhile.{Meanwhile, SameSides}
 
 -- one of two numbers is not above the other

@@ -3,7 +3,7 @@ use Rattle.std.specs.Prelude.{◌≡◌, ◌⊎◌, ℕ, ◌*◌, ◌<◌, Some,
 use Rattle.std.specs.List.Sorted.{IsStrictlyIncreasing}
 use Rattle.std.specs.Int.{from_be_bytes, w64}
 use Rattle.mas_types.specs.declared.ids.Page.{Page}
-use Rattle.spool_disk.specs.View.{slice}
+use Rattle.spool_plant.specs.View.{slice}
 use Rattle.mas_types.specs.Limits.{page_bytes}
 
 abbrev pub bytes_of : List Page → List ℕ

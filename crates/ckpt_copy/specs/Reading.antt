@@ -1,7 +1,7 @@
 -- What the images of a device read as, for any form of a copy.
 use Rattle.std.specs.Prelude.{◌≡◌, ◌⊎◌, ℕ, Option, Some, None, List}
-use Rattle.spool_disk.specs.View.{Disk, IsImage, LeavesOnly}
-use Rattle.spool_disk.specs.Acts.{DiffersIn}
+use Rattle.spool_plant.specs.View.{Disk, IsImage, LeavesOnly}
+use Rattle.spool_plant.specs.Acts.{DiffersIn}
 
 -- each image reads as these pages
 abbrev pub AllRead : (List ℕ → Option (List ℕ)) → List ℕ → Disk → Type 0

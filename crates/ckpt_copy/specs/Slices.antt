@@ -1,8 +1,8 @@
 -- Stretches of bytes before and after an act.
 use Rattle.std.proofs.Common.{◌≡◌, inl, inr, ℕ, ◌+◌, ◌-◌, ◌≤◌, ◌<◌, List, length, get_or, take, drop, sym, ◌∙◌, ap, subst, arith}
 use Rattle.std.proofs.lemmas.List.{drop-drop, drop-take, take-take, get_or-take, get_or-drop}
-use Rattle.spool_disk.specs.View.{Disk, Stretch, Apart, Avoids, IsImage, slice}
-use Rattle.spool_disk.specs.Acts.{DiffersIn}
+use Rattle.spool_plant.specs.View.{Disk, Stretch, Apart, Avoids, IsImage, slice}
+use Rattle.spool_plant.specs.Acts.{DiffersIn}
 use Rattle.ckpt_copy.specs.Has.{Has}
 use Rattle.ckpt_copy.specs.Changes.{Spreads, IsPut}
 

@@ -1,6 +1,6 @@
 -- Reads and syncs leave what stands on the device.
 use Rattle.std.proofs.Common.{List, ℕ, length, ◌∙◌, ap}
-use Rattle.spool_disk.specs.View.{Disk, IsImage, slice}
+use Rattle.spool_plant.specs.View.{Disk, IsImage, slice}
 use Rattle.ckpt_copy.specs.Changes.{NoMore}
 
 -- each image is one of before

@@ -5,9 +5,9 @@
 //! wire.
 ghost use Rattle.std.specs.Prelude.{◌≡◌, ◌⊎◌, ◌+◌, ◌*◌, ◌≤◌, [], length, OnOk, IfOk, false};
 ghost use Rattle.mas_types.specs.Limits.{page_bytes, pages_most};
-ghost use Rattle.spool_disk.specs.declared.plant.Part.TheVariants.{Disk as DiskPart};
-ghost use Rattle.spool_disk.specs.Acts.{next};
-ghost use Rattle.spool_disk.specs.View.{disk_now, slice};
+ghost use Rattle.spool_plant.specs.declared.plant.Part.TheVariants.{Disk as DiskPart};
+ghost use Rattle.spool_plant.specs.Acts.{next};
+ghost use Rattle.spool_plant.specs.View.{disk_now, slice};
 ghost use Rattle.ckpt_copy.specs.Causes.{Caused, IsOut, answer_of};
 ghost use Rattle.ckpt_copy.specs.Changes.{Spreads, NoMore, IsPut, IsRead};
 ghost use Rattle.ckpt_copy.specs.Meanwhile.{Meanwhile};
@@ -17,7 +17,7 @@ use crate::copying::CopyNo;
 use crate::layout::BLOCK;
 use mas_types::limits::PAGE_BYTES;
 use mas_types::{Dev, MemberId, Page};
-use spool_disk::{Act, Plant};
+use spool_plant::{Act, Plant};
 
 fn answered(act: Act) -> Result<(), CopyNo>
     ensures { answer_of result ≡ act }

@@ -1,9 +1,9 @@
 //! A copy of the checkpoint on one device, of any form.
 ghost use Rattle.std.specs.Prelude.{◌≡◌, ◌⊎◌, ℕ, ◌+◌, ◌*◌, ◌≤◌, ◌<◌, [], ◌∷◌, List, length, replicate, OnOk, OnErr, IfOk, IsErrOf, Option, Some, None, false};
 ghost use Rattle.mas_types.specs.declared.ids.Dev.{Dev};
-ghost use Rattle.spool_disk.specs.View.{View, Disk, disk_now};
-ghost use Rattle.spool_disk.specs.Acts.{Goes, DiffersIn, next};
-ghost use Rattle.spool_disk.specs.declared.plant.Part.TheVariants.{Disk as DiskPart};
+ghost use Rattle.spool_plant.specs.View.{View, Disk, disk_now};
+ghost use Rattle.spool_plant.specs.Acts.{Goes, DiffersIn, next};
+ghost use Rattle.spool_plant.specs.declared.plant.Part.TheVariants.{Disk as DiskPart};
 ghost use Rattle.mas_types.specs.Limits.{pages_least, pages_most};
 ghost use Rattle.ckpt_copy.specs.Causes.{Caused, IsOut, answer_of, answer_found, found_no, no_memory};
 ghost use Rattle.ckpt_copy.specs.Changes.{NoMore};
@@ -12,7 +12,7 @@ ghost use Rattle.ckpt_copy.specs.Pages.{bytes_of, level, page_in, ArePages, Cove
 ghost use Rattle.ckpt_copy.specs.Reading.{AllRead, EachReads, EachForms, IsNone};
 
 use mas_types::{List, MemberId, NoMemory, Page};
-use spool_disk::Plant;
+use spool_plant::Plant;
 use std::alloc::Global;
 
 /// Why a call of a copy wasn't done.

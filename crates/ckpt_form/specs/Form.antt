@@ -1,6 +1,6 @@
 -- The form of the copies of the checkpoint: the log. What the crates above say of it they say by these names.
 use Rattle.std.specs.Prelude.{◌≡◌, ℕ, List, Option, Some}
-use Rattle.spool_disk.specs.View.{Disk}
+use Rattle.spool_plant.specs.View.{Disk}
 use Rattle.change_log.specs.declared.log_copy.LogCopy.{LogCopy}
 use Rattle.change_log.specs.Logs.{reads, log_size, room_in}
 use Rattle.change_log.specs.LogRests.{Rests, Holds}

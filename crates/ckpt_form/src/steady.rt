@@ -1,8 +1,8 @@
 //! Copies that a shared value may have.
 ghost use Rattle.std.specs.Prelude.{◌≡◌, ◌≤◌, ℕ, Bool, true};
 ghost use Rattle.mas_types.specs.declared.ids.Dev.{Dev};
-ghost use Rattle.spool_disk.specs.View.{View};
-ghost use Rattle.spool_disk.specs.Acts.{Goes};
+ghost use Rattle.spool_plant.specs.View.{View};
+ghost use Rattle.spool_plant.specs.Acts.{Goes};
 ghost use Rattle.ckpt_form.specs.Fits.{is_fit, fit_kept, kept_fit, fit_stays, some_room};
 
 use crate::form::CopyForm;

@@ -23,12 +23,12 @@ use Rattle.lay_bytes.specs.Slots.{job_slot, output_slot, owner_entry, IsJobRec, 
 use Rattle.lay_bytes.proofs.Pieces.{both_true}
 use Rattle.lay_bytes.proofs.SlotLemmas.{same_from_eq}
 use Rattle.ckpt_pages.specs.declared.header.Header.{Header}
-use Rattle.ckpt_pages.specs.declared.tables.Tables.{Tables}
-use Rattle.ckpt_pages.specs.Shape.{HasSpelling, AreLevels, IsRoute, IsLineCount, first_output_page, first_group_page}
+use Rattle.ckpt_tables.specs.declared.tables.Tables.{Tables}
+use Rattle.ckpt_tables.specs.Shape.{HasSpelling, AreLevels, IsRoute, IsLineCount, first_output_page, first_group_page}
 use Rattle.ckpt_pages.specs.Headers.{HasNumbers, IsHeader, config_of, are_ages, header_bytes}
 use Rattle.ckpt_pages.specs.Nodes.{node_page}
 use Rattle.ckpt_pages.specs.Slots.{made}
-use Rattle.ckpt_pages.specs.Pages.{filled, part, page_in, page_of, setting_entry}
+use Rattle.ckpt_tables.specs.Pages.{filled, part, page_in, page_of, setting_entry}
 use Rattle.ckpt_pages.specs.Checkpoints.{IsCheckpoint, IsSpelling}
 use Rattle.ckpt_pages.proofs.HeaderLemmas.{ages_all}
 use Rattle.ckpt_pages.proofs.StartLemmas.{default_is_setting}

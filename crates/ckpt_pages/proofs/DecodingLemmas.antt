@@ -21,11 +21,11 @@ use Rattle.ckpt_pages.specs.declared.entries.PageNo.TheVariants.{BadPage, NoMemo
 use Rattle.ckpt_pages.specs.declared.header.Header.{Header}
 use Rattle.ckpt_pages.specs.declared.nodes.Nodes.{Nodes}
 use Rattle.ckpt_pages.specs.declared.slots.Slots.{Slots}
-use Rattle.ckpt_pages.specs.declared.tables.Tables.{Tables}
-use Rattle.ckpt_pages.specs.Shape.{HasSpelling}
+use Rattle.ckpt_tables.specs.declared.tables.Tables.{Tables}
+use Rattle.ckpt_tables.specs.Shape.{HasSpelling}
 use Rattle.ckpt_pages.specs.Headers.{IsHeader, NoHeader, header_with}
 use Rattle.ckpt_pages.specs.Nodes.{AreNodes, node_page}
-use Rattle.ckpt_pages.specs.Pages.{filled, filled_to, part, page_in, page_of, setting_entry}
+use Rattle.ckpt_tables.specs.Pages.{filled, filled_to, part, page_in, page_of, setting_entry}
 use Rattle.ckpt_pages.specs.Reading.{ReadsEntries, AreNoEntries, IfBadPage}
 use Rattle.ckpt_pages.specs.Slots.{made, AreSlots, AreFront}
 use Rattle.mas_types.specs.declared.jobs.Text.{Text}

@@ -3,10 +3,10 @@ use Rattle.std.proofs.Common.{◌≡◌, ℕ, zero, suc, ◌<◌, ◌≤◌, ◌
 use Rattle.std.proofs.lemmas.List.{take_more, take_all}
 use Rattle.std.proofs.lemmas.List.Elements.{All-weaker}
 use Rattle.mas_types.specs.declared.ids.Page.{Page}
-use Rattle.ckpt_pages.specs.declared.tables.Tables.{Tables}
+use Rattle.ckpt_tables.specs.declared.tables.Tables.{Tables}
 use Rattle.ckpt_pages.specs.Checkpoints.{IsCheckpoint}
-use Rattle.ckpt_pages.specs.Shape.{level_in}
-use Rattle.ckpt_pages.specs.Pages.{page_in}
+use Rattle.ckpt_tables.specs.Shape.{level_in}
+use Rattle.ckpt_tables.specs.Pages.{page_in}
 use Rattle.ckpt_pages.proofs.LevelLemmas.{level_again}
 use Rattle.ckpt_pages.specs.Given.{levels_in, levels_given}
 

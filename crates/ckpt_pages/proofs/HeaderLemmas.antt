@@ -14,11 +14,11 @@ use Rattle.lay_bytes.specs.Fields.{piece, first_bad, pieces}
 use Rattle.lay_bytes.proofs.Pieces.{AreSpelled, each_stands, join_pieces, cons_same, between, is_least, is_most, both_true, both_from, long_back}
 use Rattle.lay_bytes.proofs.SlotLemmas.{half_again, word_again, long_again, byte_takes, half_takes, word_takes, long_takes, zeros_take, known, same_from_eq, none_some}
 use Rattle.ckpt_pages.specs.declared.header.Header.{Header}
-use Rattle.ckpt_pages.specs.declared.tables.Tables.{Tables}
-use Rattle.ckpt_pages.specs.Shape.{HasSpelling, AreLevels, page_count}
+use Rattle.ckpt_tables.specs.declared.tables.Tables.{Tables}
+use Rattle.ckpt_tables.specs.Shape.{HasSpelling, AreLevels, page_count}
 use Rattle.ckpt_pages.specs.Fields.{mark_of_header, age_most, header_fields, header_in}
 use Rattle.ckpt_pages.specs.Headers.{HasNumbers, IsHeader, NoHeader, header_with, header_spelled_by, header_bytes, pages_of, is_whole, are_ages}
-use Rattle.ckpt_pages.specs.Pages.{filled, filled_to, page_in, page_of}
+use Rattle.ckpt_tables.specs.Pages.{filled, filled_to, page_in, page_of}
 use Rattle.ckpt_pages.specs.Reading.{AreEntries, ReadsEntries, AreNoEntries}
 use Rattle.ckpt_pages.specs.Spelled.{good_of, said_of, apart_of}
 use Rattle.ckpt_pages.specs.Kinds.{level_size, level_apart}

@@ -10,9 +10,9 @@ use Rattle.std.proofs.lemmas.Nat.{from_be_bytes-to_be_bytes_8}
 use Rattle.mas_types.specs.declared.ids.Page.{Page}
 use Rattle.lay_bytes.specs.Fields.{piece}
 use Rattle.lay_bytes.proofs.Pieces.{test_cases}
-use Rattle.ckpt_pages.specs.declared.tables.Tables.{Tables}
-use Rattle.ckpt_pages.specs.Shape.{level_in}
-use Rattle.ckpt_pages.specs.Pages.{Spell, page_in, page_of, header_pieces}
+use Rattle.ckpt_tables.specs.declared.tables.Tables.{Tables}
+use Rattle.ckpt_tables.specs.Shape.{level_in}
+use Rattle.ckpt_tables.specs.Pages.{Spell, page_in, page_of, header_pieces}
 use Rattle.ckpt_pages.proofs.EntryLemmas.{chunk_at}
 
 first_page : (t : Tables) (levels : List ℕ) (pages : List Page) → Spell t levels pages → page_in pages 0 ≡ page_of t levels 0

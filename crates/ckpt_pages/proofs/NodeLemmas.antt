@@ -13,10 +13,10 @@ use Rattle.lay_bytes.proofs.Pieces.{AreSpelled, each_stands, join_pieces, cons_s
 use Rattle.lay_bytes.proofs.SlotLemmas.{byte_takes, zeros_take, none_some}
 use Rattle.lay_bytes.proofs.NameLemmas.{name_from, name_to}
 use Rattle.ckpt_pages.specs.declared.nodes.Nodes.{Nodes}
-use Rattle.ckpt_pages.specs.Shape.{IsRoute, IsLineCount}
+use Rattle.ckpt_tables.specs.Shape.{IsRoute, IsLineCount}
 use Rattle.ckpt_pages.specs.Fields.{node_fields}
 use Rattle.ckpt_pages.specs.Nodes.{names_of, node_page, AreNodes}
-use Rattle.ckpt_pages.specs.Pages.{filled_to, line_entry, route_entry}
+use Rattle.ckpt_tables.specs.Pages.{filled_to, line_entry, route_entry}
 use Rattle.ckpt_pages.specs.Reading.{AreEntries, ReadsEntries, AreNoEntries}
 use Rattle.ckpt_pages.specs.Kinds.{line_size, line_apart, route_size, route_apart}
 use Rattle.ckpt_pages.proofs.Putting.{concat-append}

@@ -14,10 +14,10 @@ use Rattle.lay_bytes.specs.declared.records.OutRec.{OutRec}
 use Rattle.lay_bytes.specs.Slots.{job_slot, output_slot, owner_entry, IsJobRec, IsOutRec, IsOwner, IfUsed}
 use Rattle.lay_bytes.proofs.SlotLemmas.{job_length, output_length, owner_length}
 use Rattle.ckpt_pages.specs.declared.header.Header.{Header}
-use Rattle.ckpt_pages.specs.declared.tables.Tables.{Tables}
-use Rattle.ckpt_pages.specs.Shape.{HasSpelling, AreLevels}
+use Rattle.ckpt_tables.specs.declared.tables.Tables.{Tables}
+use Rattle.ckpt_tables.specs.Shape.{HasSpelling, AreLevels}
 use Rattle.ckpt_pages.specs.Headers.{IsHeader, header_with, header_bytes}
-use Rattle.ckpt_pages.specs.Pages.{filled, filled_to, part, page_in, page_of}
+use Rattle.ckpt_tables.specs.Pages.{filled, filled_to, part, page_in, page_of}
 use Rattle.ckpt_pages.specs.declared.entries.EntryError.{EntryError}
 use Rattle.ckpt_pages.specs.declared.entries.EntryError.TheVariants as notread
 use Rattle.ckpt_pages.specs.declared.entries.PageNo.{PageNo}

@@ -16,7 +16,7 @@ use Rattle.mas_types.specs.Sound.{is_busy_right, is_there as is_job_there, may_b
 use Rattle.lay_bytes.specs.declared.records.JobRec.{JobRec}
 use Rattle.lay_bytes.specs.declared.records.OutRec.{OutRec}
 use Rattle.lay_bytes.specs.Slots.{IfUsed}
-use Rattle.ckpt_pages.specs.declared.tables.Tables.{Tables}
+use Rattle.ckpt_tables.specs.declared.tables.Tables.{Tables}
 use Rattle.ckpt_pages.specs.declared.faults.TableFault.TheVariants as fault
 use Rattle.ckpt_pages.specs.Sound.{first_wrong, holds_one, is_there, is_above, is_wrong_job, is_wrong_job_slot, has_outputs, same_print, is_wrong_output, is_wrong_output_slot, is_wrong_place, or_else, map_some, wrong_slot, wrong_owner, wrong_place, AreSound}
 use Rattle.ckpt_pages.proofs.SlotLists.{test_cases, eq_sym, any_weaker, any_never, all_right, apart_right, in_slots}

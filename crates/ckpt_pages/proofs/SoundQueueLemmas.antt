@@ -21,8 +21,8 @@ use Rattle.mas_types.specs.Sound.{IsSound, IsSoundJob, IsSoundOutput, HasDeckGro
 use Rattle.lay_bytes.specs.declared.records.JobRec.{JobRec}
 use Rattle.lay_bytes.specs.declared.records.OutRec.{OutRec}
 use Rattle.lay_bytes.specs.Slots.{IsJobRec, IsOutRec}
-use Rattle.ckpt_pages.specs.declared.tables.Tables.{Tables}
-use Rattle.ckpt_pages.specs.Shape.{HasSpelling}
+use Rattle.ckpt_tables.specs.declared.tables.Tables.{Tables}
+use Rattle.ckpt_tables.specs.Shape.{HasSpelling}
 use Rattle.lay_bytes.specs.Used.{used}
 use Rattle.ckpt_pages.specs.QueueOf.{job_with, output_with, queue_of}
 use Rattle.mas_types.specs.Sorted.{in_order}

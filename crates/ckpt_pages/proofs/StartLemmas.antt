@@ -14,7 +14,7 @@ use Rattle.lay_bytes.specs.declared.records.JobRec.{JobRec}
 use Rattle.lay_bytes.specs.declared.records.OutRec.{OutRec}
 use Rattle.mas_types.specs.declared.jobs.Text.{Text}
 use Rattle.lay_bytes.specs.Slots.{IsJobRec, IsOutRec, IsOwner, IfUsed}
-use Rattle.ckpt_pages.specs.Shape.{HasShape, HasSpelling, AreLevels, IsRoute, IsLineCount, page_count}
+use Rattle.ckpt_tables.specs.Shape.{HasShape, HasSpelling, AreLevels, IsRoute, IsLineCount, page_count}
 use Rattle.lay_bytes.specs.Used.{used}
 use Rattle.ckpt_pages.specs.QueueOf.{queue_of}
 use Rattle.ckpt_pages.specs.Starts.{empty_tables, first_levels}

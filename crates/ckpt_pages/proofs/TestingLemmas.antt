@@ -17,13 +17,13 @@ use Rattle.lay_bytes.proofs.Pieces.{both_true, both_from, long_back, fits_piece}
 use Rattle.lay_bytes.proofs.SlotLemmas.{same_from_eq}
 use Rattle.ckpt_pages.specs.declared.header.Header.{Header}
 use Rattle.ckpt_pages.specs.declared.nodes.Nodes.{Nodes}
-use Rattle.ckpt_pages.specs.Shape.{IsRoute, IsLineCount}
+use Rattle.ckpt_tables.specs.Shape.{IsRoute, IsLineCount}
 use Rattle.ckpt_pages.specs.Checkpoints.{IsLeastBad, SpellSome}
 use Rattle.ckpt_pages.specs.Fields.{node_fields}
 use Rattle.ckpt_pages.specs.Headers.{HasNumbers, IsHeader, NoHeader, header_bytes, pages_of, are_ages}
 use Rattle.ckpt_pages.specs.Kinds.{level_size}
 use Rattle.ckpt_pages.specs.Nodes.{AreNodes}
-use Rattle.ckpt_pages.specs.Pages.{page_in, setting_entry, line_entry, route_entry}
+use Rattle.ckpt_tables.specs.Pages.{page_in, setting_entry, line_entry, route_entry}
 use Rattle.ckpt_pages.specs.Reading.{AreEntries, ReadsEntries, IsFirstBad}
 use Rattle.ckpt_pages.specs.Slots.{made, AreFront, IsBadBehind}
 use Rattle.ckpt_pages.specs.Testing.{SpellsOne, SomeEntries, SomePages, AreLevelsOf, SomeLevels, NoLevels, SomeNodes, SomeSlots}

@@ -2,8 +2,8 @@
 use Rattle.std.proofs.Common.{◌≡◌, ℕ, List, [], ◌∷◌, ◌++◌, replicate, None, refl}
 use Rattle.std.specs.Prelude.{codes}
 use Rattle.mas_types.specs.declared.queues.Owner.TheVariants as owner
-use Rattle.ckpt_pages.specs.declared.tables.Tables.{Tables}
-use Rattle.ckpt_pages.specs.Pages.{page_of}
+use Rattle.ckpt_tables.specs.declared.tables.Tables.{Tables}
+use Rattle.ckpt_tables.specs.Pages.{page_of}
 
 small : Tables
 small = record {

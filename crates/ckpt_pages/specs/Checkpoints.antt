@@ -1,9 +1,9 @@
 -- Which pages are a checkpoint, and which page is the least that is no spelling.
 use Rattle.std.specs.Prelude.{◌≡◌, ℕ, ◌≤◌, ◌<◌, List, length}
 use Rattle.mas_types.specs.declared.ids.Page.{Page}
-use Rattle.ckpt_pages.specs.declared.tables.Tables.{Tables}
-use Rattle.ckpt_pages.specs.Shape.{HasSpelling, AreLevels, page_count}
-use Rattle.ckpt_pages.specs.Pages.{Spell, page_in, page_of}
+use Rattle.ckpt_tables.specs.declared.tables.Tables.{Tables}
+use Rattle.ckpt_tables.specs.Shape.{HasSpelling, AreLevels, page_count}
+use Rattle.ckpt_tables.specs.Pages.{Spell, page_in, page_of}
 
 -- the pages spell these tables, with levels of their own
 pub record IsCheckpoint (pages : List Page) (t : Tables) : Type 0 where

@@ -11,7 +11,7 @@ use Rattle.mas_types.specs.Ids.{same_class}
 use Rattle.lay_bytes.specs.Bytes.{are_zeros, are_different, are_classes}
 use Rattle.lay_bytes.proofs.Pieces.{both_true, both_from}
 use Rattle.lay_bytes.proofs.SlotLemmas.{zeros_of}
-use Rattle.ckpt_pages.specs.Pages.{classes_entry}
+use Rattle.ckpt_tables.specs.Pages.{classes_entry}
 use Rattle.ckpt_pages.specs.Fields.{classes_in}
 
 abbrev pub class_bytes : List Class → List ℕ

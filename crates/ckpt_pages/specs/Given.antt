@@ -1,10 +1,10 @@
 -- The levels that page 0 gives the pages.
 use Rattle.std.specs.Prelude.{◌≡◌, ℕ, zero, suc, List, [], ◌∷◌, ◌++◌, length}
 use Rattle.mas_types.specs.declared.ids.Page.{Page}
-use Rattle.ckpt_pages.specs.declared.tables.Tables.{Tables}
+use Rattle.ckpt_tables.specs.declared.tables.Tables.{Tables}
 use Rattle.ckpt_pages.specs.Checkpoints.{IsCheckpoint}
-use Rattle.ckpt_pages.specs.Pages.{page_in}
-use Rattle.ckpt_pages.specs.Shape.{level_in}
+use Rattle.ckpt_tables.specs.Pages.{page_in}
+use Rattle.ckpt_tables.specs.Shape.{level_in}
 
 -- the levels that page 0 gives so many pages, from the first on
 abbrev pub levels_in : List ℕ → ℕ → List ℕ

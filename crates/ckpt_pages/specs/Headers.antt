@@ -8,10 +8,10 @@ use Rattle.mas_types.specs.declared.queues.Config.{Config}
 use Rattle.mas_types.specs.Limits.{members_most, jobs_least, jobs_most, jobs_step, outputs_least, outputs_most, outputs_step, volumes_most, groups_most, hold_most, dormancy_most, number_most}
 use Rattle.mas_types.specs.Starts.{blank_name}
 use Rattle.ckpt_pages.specs.declared.header.Header.{Header}
-use Rattle.ckpt_pages.specs.declared.tables.Tables.{Tables}
-use Rattle.ckpt_pages.specs.Shape.{HasSpelling, AreLevels, page_count}
+use Rattle.ckpt_tables.specs.declared.tables.Tables.{Tables}
+use Rattle.ckpt_tables.specs.Shape.{HasSpelling, AreLevels, page_count}
 use Rattle.ckpt_pages.specs.Fields.{age_most}
-use Rattle.ckpt_pages.specs.Pages.{filled, header_pieces, page_in, page_of}
+use Rattle.ckpt_tables.specs.Pages.{filled, header_pieces, page_in, page_of}
 
 -- the configuration, with the name that page 2 has
 abbrev pub config_of : Header → Name8 → Config

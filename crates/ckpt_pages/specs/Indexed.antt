@@ -8,7 +8,7 @@ use Rattle.mas_types.specs.Queue.{in_input, is_member}
 use Rattle.mas_types.specs.Sound.{may_be_busy}
 use Rattle.lay_bytes.specs.declared.records.JobRec.{JobRec}
 use Rattle.lay_bytes.specs.declared.records.OutRec.{OutRec}
-use Rattle.ckpt_pages.specs.declared.tables.Tables.{Tables}
+use Rattle.ckpt_tables.specs.declared.tables.Tables.{Tables}
 use Rattle.ckpt_pages.specs.declared.keys.GroupKeys.{GroupKeys}
 use Rattle.ckpt_pages.specs.declared.keys.JobKeys.{JobKeys}
 use Rattle.ckpt_pages.specs.declared.keys.OutputKeys.{OutputKeys}

@@ -16,8 +16,8 @@ use Rattle.lay_bytes.specs.Fields.{piece, first_bad, pieces}
 use Rattle.lay_bytes.proofs.Pieces.{AreSpelled, long_back, each_stands, join_pieces, cons_same, between, is_least, is_most}
 use Rattle.lay_bytes.proofs.SlotLemmas.{half_again, word_again, byte_takes, half_takes, word_takes, zeros_take, below_from, known}
 use Rattle.lay_bytes.proofs.NameLemmas.{name_from, name_to}
-use Rattle.ckpt_pages.specs.Shape.{IsRoute, IsLineCount}
-use Rattle.ckpt_pages.specs.Pages.{classes_entry, setting_pieces, setting_entry, line_pieces, line_entry, route_pieces, route_entry}
+use Rattle.ckpt_tables.specs.Shape.{IsRoute, IsLineCount}
+use Rattle.ckpt_tables.specs.Pages.{classes_entry, setting_pieces, setting_entry, line_pieces, line_entry, route_pieces, route_entry}
 use Rattle.ckpt_pages.specs.Fields.{setting_fields, setting_in, classes_in, line_fields, line_in, route_fields, route_in}
 use Rattle.ckpt_pages.specs.Classes.{classes_size, classes_stand, classes_again, classes_take, few_classes}
 use Rattle.ckpt_pages.specs.Spelled.{good_of, size_of, apart_of}

@@ -12,9 +12,9 @@ use Rattle.mas_types.specs.Starts.{empty_queue}
 use Rattle.lay_bytes.specs.declared.records.JobRec.{JobRec}
 use Rattle.lay_bytes.specs.declared.records.OutRec.{OutRec}
 use Rattle.lay_bytes.specs.Fields.{piece}
-use Rattle.ckpt_pages.specs.declared.tables.Tables.{Tables}
-use Rattle.ckpt_pages.specs.Shape.{HasSpelling, AreLevels, IsRoute, page_count, level_in}
-use Rattle.ckpt_pages.specs.Pages.{Spell, page_in}
+use Rattle.ckpt_tables.specs.declared.tables.Tables.{Tables}
+use Rattle.ckpt_tables.specs.Shape.{HasSpelling, AreLevels, IsRoute, page_count, level_in}
+use Rattle.ckpt_tables.specs.Pages.{Spell, page_in}
 use Rattle.ckpt_pages.specs.Starts.{empty_tables, first_levels}
 use Rattle.ckpt_pages.specs.QueueOf.{queue_of}
 

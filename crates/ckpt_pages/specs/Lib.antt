@@ -1,5 +1,3 @@
-pub mod Shape
-pub mod Pages
 pub mod Checkpoints
 pub mod Slots
 pub mod Starts

@@ -7,8 +7,8 @@ use Rattle.mas_types.specs.declared.queues.Route.{Route}
 use Rattle.mas_types.specs.Fit.{IsName}
 use Rattle.mas_types.specs.Limits.{routes_most, wires_most}
 use Rattle.ckpt_pages.specs.declared.nodes.Nodes.{Nodes}
-use Rattle.ckpt_pages.specs.Shape.{IsRoute, IsLineCount}
-use Rattle.ckpt_pages.specs.Pages.{filled, line_entry, route_entry}
+use Rattle.ckpt_tables.specs.Shape.{IsRoute, IsLineCount}
+use Rattle.ckpt_tables.specs.Pages.{filled, line_entry, route_entry}
 
 -- the own name and the number of routes, one after another
 abbrev pub names_of : Name8 → ℕ → List (List ℕ)

@@ -5,7 +5,7 @@ use Rattle.ckpt_pages.specs.declared.entries.EntryError.{EntryError}
 use Rattle.ckpt_pages.specs.declared.entries.EntryError.TheVariants as notread
 use Rattle.ckpt_pages.specs.declared.entries.PageNo.{PageNo}
 use Rattle.ckpt_pages.specs.declared.entries.PageNo.TheVariants.{BadPage, NoMemory}
-use Rattle.ckpt_pages.specs.Pages.{filled, filled_to, part, page_in}
+use Rattle.ckpt_tables.specs.Pages.{filled, filled_to, part, page_in}
 
 -- the bytes are the entries of so many items, and zeros
 pub record AreEntries {X : Type 0} (spelling : X → List ℕ) (Fits : X → Type 0) (count : ℕ) (bytes : List ℕ)

@@ -14,11 +14,11 @@ use Rattle.lay_bytes.specs.declared.records.OutRec.{OutRec}
 use Rattle.lay_bytes.specs.Slots.{job_slot, output_slot, owner_entry, IsJobRec, IsOutRec, IsOwner, IfUsed}
 use Rattle.ckpt_pages.specs.declared.header.Header.{Header}
 use Rattle.ckpt_pages.specs.declared.slots.Slots.{Slots}
-use Rattle.ckpt_pages.specs.declared.tables.Tables.{Tables}
-use Rattle.ckpt_pages.specs.Shape.{IsRoute, IsLineCount, jobs_a_page, outputs_a_page, owners_a_page, first_job_page, first_output_page, first_group_page}
+use Rattle.ckpt_tables.specs.declared.tables.Tables.{Tables}
+use Rattle.ckpt_tables.specs.Shape.{IsRoute, IsLineCount, jobs_a_page, outputs_a_page, owners_a_page, first_job_page, first_output_page, first_group_page}
 use Rattle.ckpt_pages.specs.Headers.{config_of}
 use Rattle.ckpt_pages.specs.Nodes.{node_page}
-use Rattle.ckpt_pages.specs.Pages.{filled, page_in, setting_entry}
+use Rattle.ckpt_tables.specs.Pages.{filled, page_in, setting_entry}
 use Rattle.ckpt_pages.specs.Reading.{ArePages}
 use Rattle.ckpt_pages.specs.Checkpoints.{IsLeastBad}
 

@@ -6,8 +6,8 @@ use Rattle.mas_types.specs.Fit.{IsText}
 use Rattle.mas_types.specs.Sound.{IsSound}
 use Rattle.lay_bytes.specs.declared.records.JobRec.{JobRec}
 use Rattle.lay_bytes.specs.declared.records.OutRec.{OutRec}
-use Rattle.ckpt_pages.specs.declared.tables.Tables.{Tables}
-use Rattle.ckpt_pages.specs.Shape.{HasSpelling}
+use Rattle.ckpt_tables.specs.declared.tables.Tables.{Tables}
+use Rattle.ckpt_tables.specs.Shape.{HasSpelling}
 use Rattle.lay_bytes.specs.Used.{used}
 use Rattle.ckpt_pages.specs.QueueOf.{queue_of}
 use Rattle.ckpt_pages.specs.Sound.{AreSound}

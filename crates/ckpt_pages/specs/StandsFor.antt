@@ -5,9 +5,9 @@ use Rattle.mas_types.specs.declared.jobs.Text.{Text}
 use Rattle.mas_types.specs.declared.queues.Queue.{Queue}
 use Rattle.lay_bytes.specs.declared.records.JobRec.{JobRec}
 use Rattle.lay_bytes.specs.declared.records.OutRec.{OutRec}
-use Rattle.ckpt_pages.specs.declared.tables.Tables.{Tables}
-use Rattle.ckpt_pages.specs.Shape.{HasSpelling, AreLevels}
-use Rattle.ckpt_pages.specs.Pages.{Spell}
+use Rattle.ckpt_tables.specs.declared.tables.Tables.{Tables}
+use Rattle.ckpt_tables.specs.Shape.{HasSpelling, AreLevels}
+use Rattle.ckpt_tables.specs.Pages.{Spell}
 use Rattle.ckpt_pages.specs.QueueOf.{queue_of}
 
 -- the pages are a checkpoint of this level, which stands for the queue where the spool gives these texts

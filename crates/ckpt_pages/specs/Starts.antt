@@ -6,7 +6,7 @@ use Rattle.mas_types.specs.declared.queues.Route.{Route}
 use Rattle.mas_types.specs.Ids.{no_number}
 use Rattle.mas_types.specs.Limits.{wires_most}
 use Rattle.mas_types.specs.Starts.{default_setting, no_count}
-use Rattle.ckpt_pages.specs.declared.tables.Tables.{Tables}
+use Rattle.ckpt_tables.specs.declared.tables.Tables.{Tables}
 
 -- every slot and every group is free, each member has the default setting, nothing went over a line, and no number and
 -- no order was given

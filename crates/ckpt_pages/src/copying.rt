@@ -1,8 +1,7 @@
-//! Copies of tables.
+//! Lists of one item.
 ghost use Rattle.std.specs.Prelude.{◌≡◌, IfOk, replicate};
 
-use crate::tables::Tables;
-use mas_types::{Copied, List, NoMemory};
+use mas_types::{List, NoMemory};
 use std::alloc::Global;
 
 /// The item, so many times.
@@ -18,20 +17,4 @@ pub(crate) fn repeated<T: Copy + Drop>(
         items.push(item)?;
     }
     Ok(items)
-}
-
-impl Copied for Tables {
-    fn copy(&self, alloc: Global) -> Result<Self, NoMemory> {
-        Ok(Tables {
-            config: self.config,
-            jobs: self.jobs.copy(alloc)?,
-            outputs: self.outputs.copy(alloc)?,
-            owners: self.owners.copy(alloc)?,
-            members: self.members.copy(alloc)?,
-            routes: self.routes.copy(alloc)?,
-            lines: self.lines.copy(alloc)?,
-            last: self.last,
-            order: self.order,
-        })
-    }
 }

@@ -5,11 +5,11 @@ ghost use Rattle.std.specs.Int.{w64, to_be_bytes};
 ghost use Rattle.mas_types.specs.Fit.{IsSetting};
 ghost use Rattle.mas_types.specs.Limits.{page_bytes, routes_most, wires_most};
 ghost use Rattle.lay_bytes.specs.Slots.{job_slot, output_slot, owner_entry};
-ghost use Rattle.ckpt_pages.specs.Shape.{page_count as page_count_lem, jobs_a_page, outputs_a_page, owners_a_page, HasShape};
-ghost use Rattle.ckpt_pages.specs.Pages.{filled, part, page_of, Spell, classes_entry, setting_entry, line_entry, route_entry, header_pieces, node_pieces};
+ghost use Rattle.ckpt_tables.specs.Shape.{page_count as page_count_lem, jobs_a_page, outputs_a_page, owners_a_page, HasShape};
+ghost use Rattle.ckpt_tables.specs.Pages.{filled, part, page_of, Spell, classes_entry, setting_entry, line_entry, route_entry, header_pieces, node_pieces};
 ghost use Rattle.ckpt_pages.specs.Writing.{Puts};
 
-use crate::tables::{
+use ckpt_tables::{
     FIRST_JOB_PAGE, JOBS_A_PAGE, OUTPUTS_A_PAGE, OWNERS_A_PAGE, Tables, first_group_page,
     first_output_page, page_count,
 };

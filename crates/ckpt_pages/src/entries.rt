@@ -5,6 +5,7 @@ ghost use Rattle.ckpt_pages.specs.declared.entries.EntryError.TheVariants.{Bad};
 ghost use Rattle.ckpt_pages.specs.Testing.{SpellsOne};
 ghost use Rattle.ckpt_pages.specs.Reading.{ReadsEntries, AreNoEntries, ArePages, IsFirstBad, IfBadPage, page_no};
 
+use ckpt_tables::bytes_in;
 use lay_bytes::is_zero;
 use mas_types::{List, Page};
 use std::alloc::Global;
@@ -95,14 +96,6 @@ pub(crate) fn read_entries<E: Entry>(
     }
 }
 
-/// The bytes of a page.
-pub(crate) fn bytes_in(page: &Page) -> &[u8]
-    ensures bytes { result.now ≡ page.now.0 }
-    ensures size { length result.now ≡ page_bytes }
-{
-    &page.0
-}
-
 /// Reads so many items from the first page on, so many to a page. Zeros fill each page.
 pub(crate) fn read_pages<E: Entry>(
     alloc: Global,
@@ -133,13 +126,4 @@ pub(crate) fn read_pages<E: Entry>(
         page += 1;
     }
     Ok(items)
-}
-
-/// Pages have the size of a page each.
-pub fn law_of_page_sizes(pages: &[Page])
-    ensures { All (λ page. length page.0 ≡ page_bytes) pages.now }
-{
-    for page in pages {
-        let _bytes = bytes_in(page);
-    }
 }

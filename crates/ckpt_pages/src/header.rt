@@ -7,8 +7,8 @@ ghost use Rattle.ckpt_pages.specs.declared.entries.EntryError.TheVariants.{Bad};
 ghost use Rattle.ckpt_pages.specs.Fields.{header_fields, header_in};
 ghost use Rattle.ckpt_pages.specs.Headers.{HasNumbers, IsHeader, NoHeader, header_bytes, pages_of, is_whole as is_whole_lem, are_ages as are_ages_lem};
 
-use crate::entries::{EntryError, bytes_in, read_entries};
-use crate::tables::{JOBS_A_PAGE, OUTPUTS_A_PAGE, pages_for};
+use crate::entries::{EntryError, read_entries};
+use ckpt_tables::{JOBS_A_PAGE, OUTPUTS_A_PAGE, bytes_in, pages_for};
 use lay_bytes::{Field, check_fields, read_u16, read_u32, read_u64};
 use mas_types::{JobNo, Level, List, Page};
 use std::alloc::Global;

@@ -3,12 +3,12 @@
 ghost use Rattle.std.specs.Prelude.{◌≡◌, ◌+◌, ◌<◌, ◌^◌, [], length, None, IfOk, IfSome};
 ghost use Rattle.ckpt_pages.specs.Keys.{AreGroupKeys, AreJobKeys, AreOutputKeys, ArePlaceKeys};
 ghost use Rattle.ckpt_pages.specs.Indexed.{is_wrong_job as is_wrong_job_lem, is_wrong_job_slot as is_wrong_job_slot_lem, is_wrong_output as is_wrong_output_lem, is_wrong_output_slot as is_wrong_output_slot_lem, is_wrong_owner as is_wrong_owner_lem, is_wrong_place as is_wrong_place_lem, first_job, first_output, AreSlotKeys};
-ghost use Rattle.ckpt_pages.specs.Shape.{HasShape};
+ghost use Rattle.ckpt_tables.specs.Shape.{HasShape};
 ghost use Rattle.ckpt_pages.specs.Sound.{wrong_slot, wrong_owner, wrong_place, fault_of};
 
 use crate::faults::{TableFault, is_above, may_be_busy};
 use crate::keys::{GroupKeys, JobKeys, OutputKeys, PlaceKeys};
-use crate::tables::Tables;
+use ckpt_tables::Tables;
 use lay_bytes::{JobRec, OutRec};
 use mas_types::{NoMemory, Owner, Phase};
 use std::alloc::Global;

@@ -7,8 +7,8 @@ ghost use Rattle.mas_types.specs.Limits.{classes_most};
 ghost use Rattle.lay_bytes.specs.Fields.{pieces, first_bad};
 ghost use Rattle.lay_bytes.specs.Slots.{job_slot, output_slot, owner_entry, IsJobRec, IsOutRec, IsOwner, IfUsed};
 ghost use Rattle.lay_bytes.proofs.SlotLemmas.{job_length, job_one, output_length, output_one, owner_length, owner_one};
-ghost use Rattle.ckpt_pages.specs.Shape.{IsRoute, IsLineCount};
-ghost use Rattle.ckpt_pages.specs.Pages.{setting_entry, line_entry, route_entry};
+ghost use Rattle.ckpt_tables.specs.Shape.{IsRoute, IsLineCount};
+ghost use Rattle.ckpt_tables.specs.Pages.{setting_entry, line_entry, route_entry};
 ghost use Rattle.ckpt_pages.specs.Fields.{setting_fields, classes_in, line_fields, line_in, route_fields, route_in};
 ghost use Rattle.ckpt_pages.specs.Kinds.{line_size, line_apart, route_size, route_apart, level_size, level_apart, setting_size, setting_apart};
 

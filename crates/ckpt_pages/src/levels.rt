@@ -1,25 +1,14 @@
 //! The levels of pages, and which pages differ.
-ghost use Rattle.std.specs.Prelude.{◌≡◌, ◌+◌, ◌*◌, ◌≤◌, ◌<◌, length, IfOk};
+ghost use Rattle.std.specs.Prelude.{◌≡◌, ◌+◌, ◌*◌, ◌≤◌, length, IfOk};
 ghost use Rattle.lay_bytes.specs.Fields.{piece};
-ghost use Rattle.ckpt_pages.specs.Shape.{level_in, differing};
+ghost use Rattle.ckpt_tables.specs.Shape.{differing};
 ghost use Rattle.ckpt_pages.specs.Given.{levels_given, AreTheirLevels};
 ghost use Rattle.ckpt_pages.specs.Laws.{BeginsWithLevel, GivesLevels};
 
-use lay_bytes::{is_same_page, read_u64};
+use ckpt_tables::level_of;
+use lay_bytes::is_same_page;
 use mas_types::{Level, List, NoMemory, Page};
 use std::alloc::Global;
-
-/// The level of a page, as page 0 gives it. That of page 0 is the level of the checkpoint.
-pub fn level_of(page0: &Page, page: u16) -> Level
-    requires { page < 384 }
-    ensures { result ≡ level_in page0.now.0 page }
-{
-    if page == 0 {
-        read_u64(&page0.0, 8)
-    } else {
-        read_u64(&page0.0, 1024 + 8 * page as usize)
-    }
-}
 
 /// The numbers of page 0 and of the pages that differ, ascending. NoMemory comes only when out of memory.
 pub fn changed(alloc: Global, old: &[Page], new: &[Page]) -> Result<List<u16>, NoMemory>

@@ -17,11 +17,12 @@ mod slots;
 mod tables;
 mod testing;
 
+pub use ckpt_tables::{Tables, law_of_page_sizes, level_of, page_count};
 pub use decoding::{decode, law_of_checkpoints};
 pub use encoding::{encode, encode_page};
-pub use entries::{PageNo, law_of_page_sizes};
+pub use entries::PageNo;
 pub use faults::{TableFault, law_of_sound_tables, sound};
 pub use indexed::first_fault;
-pub use levels::{changed, law_of_levels, level_of, levels_of};
-pub use tables::{Tables, empty, law_of_empty_tables, page_count};
+pub use levels::{changed, law_of_levels, levels_of};
+pub use tables::{empty, law_of_empty_tables};
 pub use testing::first_bad;

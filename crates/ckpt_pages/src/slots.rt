@@ -6,7 +6,7 @@ ghost use Rattle.ckpt_pages.specs.Slots.{AreSlots, IsBadBehind};
 
 use crate::entries::{PageNo, read_pages};
 use crate::header::Header;
-use crate::tables::{FIRST_JOB_PAGE, JOBS_A_PAGE, OUTPUTS_A_PAGE, OWNERS_A_PAGE};
+use ckpt_tables::{FIRST_JOB_PAGE, JOBS_A_PAGE, OUTPUTS_A_PAGE, OWNERS_A_PAGE};
 use lay_bytes::{JobRec, OutRec};
 use mas_types::{List, Owner, Page};
 use std::alloc::Global;

@@ -9,10 +9,10 @@ ghost use Rattle.ckpt_pages.specs.Reading.{AreNoEntries, IsFirstBad};
 ghost use Rattle.ckpt_pages.specs.Slots.{IsBadBehind};
 ghost use Rattle.ckpt_pages.specs.Testing.{SomeEntries, SomePages, SomeLevels, NoLevels, SomeNodes, SomeSlots};
 
-use crate::entries::{Entry, bytes_in};
+use crate::entries::Entry;
 use crate::header::{Header, pages_asked, read_numbers};
 use crate::nodes::NODE_FIELDS;
-use crate::tables::{FIRST_JOB_PAGE, JOBS_A_PAGE, OUTPUTS_A_PAGE, OWNERS_A_PAGE};
+use ckpt_tables::{FIRST_JOB_PAGE, JOBS_A_PAGE, OUTPUTS_A_PAGE, OWNERS_A_PAGE, bytes_in};
 use lay_bytes::{JobRec, OutRec, check_fields, is_zero, read_u64};
 use mas_types::{Level, LineCount, Owner, Page, Route, Setting};
 

@@ -4,8 +4,8 @@ use Rattle.std.proofs.lemmas.Bool.Decides.{nat_tests}
 use Rattle.mas_types.specs.declared.ids.Dev.{Dev}
 use Rattle.mas_types.specs.declared.ids.Dev.TheVariants.{Ckpt1, Ckpt2}
 use Rattle.mas_types.specs.declared.ids.Page.{Page}
-use Rattle.spool_disk.specs.declared.plant.Part.TheVariants.{Disk as DiskPart}
-use Rattle.spool_disk.specs.View.{View, Disk, disk_now}
+use Rattle.spool_plant.specs.declared.plant.Part.TheVariants.{Disk as DiskPart}
+use Rattle.spool_plant.specs.View.{View, Disk, disk_now}
 use Rattle.ckpt_copy.specs.Changes.{NoMore}
 use Rattle.ckpt_copy.specs.Pages.{bytes_of, level}
 use Rattle.ckpt_copy.specs.Reading.{IsNone}

@@ -2,10 +2,10 @@
 use Rattle.std.proofs.Common.{◌≡◌, ◌≢◌, ◌⊎◌, ◌||◌, inl, inr, ⊎_elim, ℕ, ◌≤◌, Bool, true, false, List, Option, refl, sym, ◌∙◌, ap, subst, arith}
 use Rattle.mas_types.specs.declared.ids.Dev.{Dev}
 use Rattle.mas_types.specs.declared.ids.Dev.TheVariants.{Ckpt1, Ckpt2}
-use Rattle.spool_disk.specs.declared.plant.Part.{Part}
-use Rattle.spool_disk.specs.declared.plant.Part.TheVariants.{Disk as DiskPart}
-use Rattle.spool_disk.specs.View.{View, World, Disk, disk_now}
-use Rattle.spool_disk.specs.Acts.{Rose}
+use Rattle.spool_plant.specs.declared.plant.Part.{Part}
+use Rattle.spool_plant.specs.declared.plant.Part.TheVariants.{Disk as DiskPart}
+use Rattle.spool_plant.specs.View.{View, World, Disk, disk_now}
+use Rattle.spool_plant.specs.Acts.{Rose}
 use Rattle.ckpt_copy.specs.Changes.{NoMore}
 use Rattle.ckpt_copy.specs.Meanwhile.{Meanwhile}
 use Rattle.ckpt_copy.specs.Moments.{either_way, goes_on, meanwhile_end, sides_on}
@@ -51,6 +51,7 @@ module _ (by : ℕ) (old new : View) (a a' b : Bool) (stopped : Bool) where
         else_lost = λ p one two. x.else_lost p one;
         else_faults = λ p one two. x.else_faults p one;
         halted = x.halted;
+        at_halt = x.at_halt;
         not_operator = x.not_operator;
         stands = λ is. or_left a' b (x.stands is);
         no_other_stop = x.no_other_stop;
@@ -71,6 +72,7 @@ module _ (by : ℕ) (old new : View) (a a' b : Bool) (stopped : Bool) where
         else_lost = λ p one two. x.else_lost p two;
         else_faults = λ p one two. x.else_faults p two;
         halted = x.halted;
+        at_halt = x.at_halt;
         not_operator = x.not_operator;
         stands = λ is. or_right b a' (x.stands is);
         no_other_stop = x.no_other_stop;
@@ -97,6 +99,7 @@ module _ (by : ℕ) (old mid new : View) (a a' a'' b b' b'' stopped : Bool) wher
     else_lost = λ p one two. y.else_lost p (late p Ckpt1 a a' a'' y.alive1 x.alive1 one) (late p Ckpt2 b b' b'' y.alive2 x.alive2 two) ∙ x.else_lost p (early p Ckpt1 a a' a'' y.alive1 x.alive1 one) (early p Ckpt2 b b' b'' y.alive2 x.alive2 two);
     else_faults = λ p one two. y.else_faults p (late p Ckpt1 a a' a'' y.alive1 x.alive1 one) (late p Ckpt2 b b' b'' y.alive2 x.alive2 two) ∙ x.else_faults p (early p Ckpt1 a a' a'' y.alive1 x.alive1 one) (early p Ckpt2 b b' b'' y.alive2 x.alive2 two);
     halted = λ is. rose_later (old.stops by) (mid.stops by) (new.stops by) (x.goes.stops by) (y.halted is);
+    at_halt = y.at_halt;
     not_operator = y.not_operator;
     stands = y.stands;
     no_other_stop = λ m why. y.no_other_stop m why ∙ x.no_other_stop m (inr refl);

@@ -2,10 +2,10 @@
 use Rattle.std.proofs.Common.{◌≡◌, ◌≢◌, ◌⊎◌, ◌&&◌, not, inl, inr, ℕ, Bool, true, false, List, Option, OnErr, refl, sym, ◌∙◌, ap, subst}
 use Rattle.mas_types.specs.declared.ids.Dev.{Dev}
 use Rattle.mas_types.specs.declared.ids.Dev.TheVariants.{Ckpt1, Ckpt2}
-use Rattle.spool_disk.specs.declared.plant.Part.{Part}
-use Rattle.spool_disk.specs.declared.plant.Part.TheVariants.{Disk as DiskPart}
-use Rattle.spool_disk.specs.View.{View, Disk}
-use Rattle.spool_disk.specs.Acts.{Loses, next}
+use Rattle.spool_plant.specs.declared.plant.Part.{Part}
+use Rattle.spool_plant.specs.declared.plant.Part.TheVariants.{Disk as DiskPart}
+use Rattle.spool_plant.specs.View.{View, Disk}
+use Rattle.spool_plant.specs.Acts.{Loses, next}
 use Rattle.ckpt_copy.specs.Moments.{goes_on}
 use Rattle.duplex_pair.specs.declared.errors.Look.{Look}
 use Rattle.duplex_pair.specs.declared.errors.Look.TheVariants.{Lost, Unread, Pages}
@@ -33,6 +33,7 @@ found_none by a a' b b' stopped old new x = record {
   else_lost = x.else_lost;
   else_faults = x.else_faults;
   halted = x.halted;
+  at_halt = x.at_halt;
   not_operator = x.not_operator;
   no_other_stop = x.no_other_stop;
 }
@@ -52,6 +53,7 @@ module _ (by : ℕ) (a b : Bool) (old mid new : View) (x : PairActed by a true b
     else_lost = λ p one two. y.else_lost p (other p one) ∙ x.else_lost p (inr (sym (x.alive1 refl))) two;
     else_faults = λ p one two. y.faults p ∙ x.else_faults p (inr (sym (x.alive1 refl))) two;
     halted = λ is. absurd (cc);
+    at_halt = λ is. absurd (cc);
     not_operator = λ is. absurd (cc);
     no_other_stop = λ m why. y.stops m ∙ x.no_other_stop m why;
   } where
@@ -76,6 +78,7 @@ module _ (by : ℕ) (a b : Bool) (old mid new : View) (x : PairActed by a true b
     else_lost = λ p one two. y.else_lost p (other p two) ∙ x.else_lost p one (inr (sym (x.alive2 refl)));
     else_faults = λ p one two. y.faults p ∙ x.else_faults p one (inr (sym (x.alive2 refl)));
     halted = λ is. absurd (cc);
+    at_halt = λ is. absurd (cc);
     not_operator = λ is. absurd (cc);
     no_other_stop = λ m why. y.stops m ∙ x.no_other_stop m why;
   } where

@@ -1,7 +1,7 @@
 -- A copy is mended by a put and the opening of its gate.
 use Rattle.std.proofs.Common.{◌≡◌, inl, ℕ, Bool, true, false, List, Option, Result, Ok, Err, OnOk, sym, subst}
 use Rattle.mas_types.specs.declared.ids.Dev.{Dev}
-use Rattle.spool_disk.specs.View.{View, Disk, disk_now}
+use Rattle.spool_plant.specs.View.{View, Disk, disk_now}
 use Rattle.ckpt_copy.specs.Meanwhile.{Meanwhile}
 use Rattle.ckpt_copy.specs.Moments.{meanwhile_weaker, meanwhile_then, meanwhile_end}
 use Rattle.ckpt_copy.specs.Reading.{AllRead, EachReads}

@@ -2,11 +2,11 @@
 use Rattle.std.proofs.Common.{◌≡◌, ◌≢◌, ◌⊎◌, inl, inr, ⊎_elim, ℕ, ◌+◌, ◌≤◌, ◌<◌, Bool, true, false, List, [], length, take, drop, replicate, Option, Some, None, refl, sym, ◌∙◌, ap, subst, arith}
 use Rattle.std.proofs.Math.Seq.{take-length}
 use Rattle.mas_types.specs.declared.ids.Dev.{Dev}
-use Rattle.spool_disk.specs.declared.plant.Part.TheVariants.{Disk as DiskPart}
-use Rattle.spool_disk.specs.declared.plant.Act.{Act}
-use Rattle.spool_disk.specs.declared.plant.Act.TheVariants.{Done, Failed, Halted}
-use Rattle.spool_disk.specs.View.{View, World, Disk, Stretch, Avoids, IsImage, disk_at, disk_now, LeavesOnly, slice}
-use Rattle.spool_disk.specs.Acts.{Rose, DiffersIn, Renews, RenewsThere, OnDevice, top}
+use Rattle.spool_plant.specs.declared.plant.Part.TheVariants.{Disk as DiskPart}
+use Rattle.spool_plant.specs.declared.plant.Act.{Act}
+use Rattle.spool_plant.specs.declared.plant.Act.TheVariants.{Done, Failed, Halted}
+use Rattle.spool_plant.specs.View.{View, World, Disk, Stretch, Avoids, IsImage, disk_at, disk_now, LeavesOnly, slice}
+use Rattle.spool_plant.specs.Acts.{Rose, DiffersIn, Renews, RenewsThere, OnDevice, top}
 use Rattle.ckpt_copy.specs.Causes.{Caused}
 use Rattle.ckpt_copy.specs.Meanwhile.{Meanwhile, SameSides}
 use Rattle.ckpt_copy.specs.Moments.{either_way, meanwhile_weaker, sides_none}
@@ -21,7 +21,9 @@ renewed dev old new act renews = record {
   faults = renews.faults;
   stops = λ m. omega (arith, renews.stops m);
   else_lost = renews.else_lost;
+  else_faults = renews.else_faults;
   halted = λ is. absurd (cc);
+  at_halt = λ is. absurd (cc);
   not_operator = λ is. absurd (cc);
   no_other_stop = λ m why. renews.stops m;
   loses = renews.loses;
@@ -38,7 +40,9 @@ renewed_then by dev stopped old mid new answer is is_not one two = record {
   faults = λ p. omega (arith, one.faults p, two.goes.faults p);
   stops = λ m. omega (arith, one.stops m, two.goes.stops m);
   else_lost = λ p ne. two.else_lost p (inl ne) ∙ one.else_lost p ne;
+  else_faults = λ p ne. two.else_faults p (inl ne) ∙ one.else_faults p ne;
   halted = λ so. let e : mid.stops by ≡ old.stops by = one.no_other_stop by (inr refl) in subst (λ (n : ℕ). Rose n (new.stops by)) e (two.halted (is so));
+  at_halt = λ so. two.at_halt (is so);
   not_operator = λ so. two.not_operator (is so);
   no_other_stop = λ m why. two.no_other_stop m (⊎_elim (λ ne. inl ne) (λ so. inr (is_not so)) why) ∙ one.no_other_stop m (inr refl);
   loses = λ d. two.loses d ∙ one.loses d;

@@ -2,10 +2,10 @@
 use Rattle.std.specs.Prelude.{◌≡◌, ◌≢◌, ◌⊎◌, ◌||◌, ℕ, ◌<◌, Bool, true, false}
 use Rattle.mas_types.specs.declared.ids.Dev.{Dev}
 use Rattle.mas_types.specs.declared.ids.Dev.TheVariants.{Ckpt1, Ckpt2}
-use Rattle.spool_disk.specs.declared.plant.Part.{Part}
-use Rattle.spool_disk.specs.declared.plant.Part.TheVariants.{Disk as DiskPart}
-use Rattle.spool_disk.specs.View.{View, Disk, disk_at, disk_now, Throughout}
-use Rattle.spool_disk.specs.Acts.{Goes, Rose}
+use Rattle.spool_plant.specs.declared.plant.Part.{Part}
+use Rattle.spool_plant.specs.declared.plant.Part.TheVariants.{Disk as DiskPart}
+use Rattle.spool_plant.specs.View.{View, Disk, disk_at, disk_now, Throughout}
+use Rattle.spool_plant.specs.Acts.{Goes, Rose}
 use Rattle.ckpt_copy.specs.Meanwhile.{SameSides}
 
 -- A call of a member on the pair: which copies counted as alive before and count so after, and whether the member was
@@ -24,6 +24,7 @@ pub record PairActed (by : ℕ) (was1 is1 was2 is2 stopped : Bool) (old new : Vi
   pub else_faults : (p : Part) → (p ≢ DiskPart Ckpt1) ⊎ (is1 ≡ was1) → (p ≢ DiskPart Ckpt2) ⊎ (is2 ≡ was2)
       → new.faults p ≡ old.faults p
   pub halted : stopped ≡ true → Rose (old.stops by) (new.stops by)
+  pub at_halt : stopped ≡ true → new.halt ≡ new.now
   pub not_operator : stopped ≡ true → 0 < by
   pub stands : stopped ≡ true → (is1 || is2) ≡ true
   pub no_other_stop : (m : ℕ) → (m ≢ by) ⊎ (stopped ≡ false) → new.stops m ≡ old.stops m

@@ -2,10 +2,10 @@
 use Rattle.std.specs.Prelude.{◌≡◌, ◌≢◌, ◌⊎◌, ◌||◌, ℕ, ◌<◌, Bool, true, false}
 use Rattle.mas_types.specs.declared.ids.Dev.{Dev}
 use Rattle.mas_types.specs.declared.ids.Dev.TheVariants.{Ckpt1, Ckpt2, Spool}
-use Rattle.spool_disk.specs.declared.plant.Part.{Part}
-use Rattle.spool_disk.specs.declared.plant.Part.TheVariants.{Disk as DiskPart}
-use Rattle.spool_disk.specs.View.{View, Disk, disk_now}
-use Rattle.spool_disk.specs.Acts.{Goes, Rose, top}
+use Rattle.spool_plant.specs.declared.plant.Part.{Part}
+use Rattle.spool_plant.specs.declared.plant.Part.TheVariants.{Disk as DiskPart}
+use Rattle.spool_plant.specs.View.{View, Disk, disk_now}
+use Rattle.spool_plant.specs.Acts.{Goes, Rose, top}
 
 -- the devices of a pair
 abbrev pub IsCkpt : Dev → Type 0
@@ -36,6 +36,7 @@ pub record Acted (by : ℕ) (dev : Dev) (was is stopped : Bool) (old new : View)
   pub else_lost : (p : Part) → (p ≢ DiskPart dev) ⊎ (is ≡ was) → new.lost p ≡ old.lost p
   pub else_faults : (p : Part) → (p ≢ DiskPart dev) ⊎ (is ≡ was) → new.faults p ≡ old.faults p
   pub halted : stopped ≡ true → Rose (old.stops by) (new.stops by)
+  pub at_halt : stopped ≡ true → new.halt ≡ new.now
   pub not_operator : stopped ≡ true → 0 < by
   pub stands : stopped ≡ true → is ≡ true
   pub no_other_stop : (m : ℕ) → (m ≢ by) ⊎ (stopped ≡ false) → new.stops m ≡ old.stops m

@@ -1,10 +1,10 @@
 -- What a call does that puts another device in a lost one's place and forms a copy on it.
 use Rattle.std.specs.Prelude.{◌≡◌, ◌≢◌, ◌⊎◌, ℕ, ◌≤◌, ◌<◌, Bool, true, false, Option, Some, None, List, [], replicate, Result, Ok, Err}
 use Rattle.mas_types.specs.declared.ids.Dev.{Dev}
-use Rattle.spool_disk.specs.declared.plant.Part.{Part}
-use Rattle.spool_disk.specs.declared.plant.Part.TheVariants.{Disk as DiskPart}
-use Rattle.spool_disk.specs.View.{View, Disk, disk_at, disk_now, Throughout, LeavesOnly}
-use Rattle.spool_disk.specs.Acts.{Rose}
+use Rattle.spool_plant.specs.declared.plant.Part.{Part}
+use Rattle.spool_plant.specs.declared.plant.Part.TheVariants.{Disk as DiskPart}
+use Rattle.spool_plant.specs.View.{View, Disk, disk_at, disk_now, Throughout, LeavesOnly}
+use Rattle.spool_plant.specs.Acts.{Rose}
 use Rattle.ckpt_copy.specs.declared.copying.CopyNo.{CopyNo}
 use Rattle.ckpt_copy.specs.declared.copying.CopyNo.TheVariants.{Failed as CopyFailed, Halted as CopyHalted}
 use Rattle.ckpt_copy.specs.Meanwhile.{SameSides}
@@ -30,7 +30,7 @@ replace_stopped (Err Halted) = true
 replace_stopped (Err NoMemory) = false
 
 -- A member replaces a device, and whether it was stopped in it: past worlds stay, counts don't fall, and only this
--- device may be lost or there again.
+-- device may fail, be lost or be there again.
 pub record Replaces (by : ℕ) (dev : Dev) (stopped : Bool) (old new : View) : Type 0 where
   pub later : old.now ≤ new.now
   pub past : (t : ℕ) → t ≤ old.now → new.world t ≡ old.world t
@@ -38,7 +38,9 @@ pub record Replaces (by : ℕ) (dev : Dev) (stopped : Bool) (old new : View) : T
   pub faults : (p : Part) → old.faults p ≤ new.faults p
   pub stops : (m : ℕ) → old.stops m ≤ new.stops m
   pub else_lost : (p : Part) → p ≢ DiskPart dev → new.lost p ≡ old.lost p
+  pub else_faults : (p : Part) → p ≢ DiskPart dev → new.faults p ≡ old.faults p
   pub halted : stopped ≡ true → Rose (old.stops by) (new.stops by)
+  pub at_halt : stopped ≡ true → new.halt ≡ new.now
   pub not_operator : stopped ≡ true → 0 < by
   pub no_other_stop : (m : ℕ) → (m ≢ by) ⊎ (stopped ≡ false) → new.stops m ≡ old.stops m
   pub loses : (d : Dev) → new.loses d ≡ old.loses d

@@ -2,10 +2,10 @@
 ghost use Rattle.std.specs.Prelude.{◌≡◌, ◌≢◌, ◌⊎◌, ◌&&◌, not, ℕ, OnOk, OnErr, IfOk, IsErrOf, true, false};
 ghost use Rattle.mas_types.specs.declared.ids.Dev.{Dev as DevLem};
 ghost use Rattle.mas_types.specs.declared.ids.Dev.TheVariants.{Ckpt1, Ckpt2};
-ghost use Rattle.spool_disk.specs.View.{disk_now};
-ghost use Rattle.spool_disk.specs.Acts.{Goes, Loses};
-ghost use Rattle.spool_disk.specs.declared.plant.Part.{Part};
-ghost use Rattle.spool_disk.specs.declared.plant.Part.TheVariants.{Disk};
+ghost use Rattle.spool_plant.specs.View.{disk_now};
+ghost use Rattle.spool_plant.specs.Acts.{Goes, Loses};
+ghost use Rattle.spool_plant.specs.declared.plant.Part.{Part};
+ghost use Rattle.spool_plant.specs.declared.plant.Part.TheVariants.{Disk};
 ghost use Rattle.ckpt_copy.specs.Changes.{NoMore};
 ghost use Rattle.ckpt_copy.specs.Pages.{bytes_of, level};
 ghost use Rattle.duplex_pair.specs.declared.errors.PairFindNo.TheVariants.{BothLost as FindNoBothLost, NotValid as FindNoNotValid};
@@ -22,7 +22,7 @@ use crate::pages::pages_level;
 use crate::pair::Pair;
 use ckpt_copy::Copying;
 use mas_types::{Dev, List, MemberId, Page};
-use spool_disk::Plant;
+use spool_plant::Plant;
 use std::alloc::Global;
 
 /// The pages of greater level, the first where they have one level.

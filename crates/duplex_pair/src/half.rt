@@ -1,9 +1,9 @@
 //! One copy of a pair. After an act on it failed it is passed over.
 ghost use Rattle.std.specs.Prelude.{◌≡◌, ◌⊎◌, ℕ, ◌+◌, ◌≤◌, ◌<◌, List, [], length, OnOk, OnErr, IfOk, IsErrOf, true, false};
 ghost use Rattle.mas_types.specs.Limits.{pages_least, pages_most};
-ghost use Rattle.spool_disk.specs.View.{View, disk_now};
-ghost use Rattle.spool_disk.specs.Acts.{Loses};
-ghost use Rattle.spool_disk.specs.declared.plant.Part.TheVariants.{Disk};
+ghost use Rattle.spool_plant.specs.View.{View, disk_now};
+ghost use Rattle.spool_plant.specs.Acts.{Loses};
+ghost use Rattle.spool_plant.specs.declared.plant.Part.TheVariants.{Disk};
 ghost use Rattle.ckpt_copy.specs.Changes.{NoMore};
 ghost use Rattle.ckpt_copy.specs.Meanwhile.{Meanwhile};
 ghost use Rattle.ckpt_copy.specs.Pages.{bytes_of, level, page_in, ArePages, Covers};
@@ -18,7 +18,7 @@ use crate::errors::{Halted, Look, LookNo};
 use crate::pages::pages_level;
 use ckpt_copy::{CopyNo, Copying, FindNo};
 use mas_types::{Dev, MemberId, Page};
-use spool_disk::Plant;
+use spool_plant::Plant;
 use std::alloc::Global;
 
 /// One copy of a pair, and whether it counts as alive.

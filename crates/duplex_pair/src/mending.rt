@@ -1,7 +1,7 @@
 //! A copy that lags is brought up to the other.
 ghost use Rattle.std.specs.Prelude.{◌≡◌, ◌⊎◌, ℕ, ◌≤◌, ◌<◌, List, length, OnOk, IsErrOf, true, false};
 ghost use Rattle.mas_types.specs.declared.ids.Dev.TheVariants.{Ckpt1, Ckpt2};
-ghost use Rattle.spool_disk.specs.View.{disk_now};
+ghost use Rattle.spool_plant.specs.View.{disk_now};
 ghost use Rattle.ckpt_copy.specs.Meanwhile.{Meanwhile};
 ghost use Rattle.ckpt_copy.specs.Pages.{bytes_of, level};
 ghost use Rattle.ckpt_copy.specs.Reading.{EachReads};
@@ -16,7 +16,7 @@ use crate::pages::{first_numbers, page_numbers, pages_level};
 use crate::pair::Pair;
 use ckpt_copy::Copying;
 use mas_types::{Dev, MemberId, Page};
-use spool_disk::Plant;
+use spool_plant::Plant;
 
 impl<C: Copying + Drop> Pair<C> {
     // One copy, which counts as alive, gets these pages, whichever of them differ.

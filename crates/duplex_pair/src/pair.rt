@@ -3,9 +3,9 @@ ghost use Rattle.std.specs.Prelude.{◌≡◌, ◌⊎◌, ℕ, ◌+◌, ◌≤�
 ghost use Rattle.mas_types.specs.declared.ids.Dev.{Dev};
 ghost use Rattle.mas_types.specs.declared.ids.Dev.TheVariants.{Ckpt1, Ckpt2};
 ghost use Rattle.mas_types.specs.Limits.{pages_least, pages_most};
-ghost use Rattle.spool_disk.specs.View.{View, disk_now};
-ghost use Rattle.spool_disk.specs.Acts.{Loses};
-ghost use Rattle.spool_disk.specs.declared.plant.Part.TheVariants.{Disk};
+ghost use Rattle.spool_plant.specs.View.{View, disk_now};
+ghost use Rattle.spool_plant.specs.Acts.{Loses};
+ghost use Rattle.spool_plant.specs.declared.plant.Part.TheVariants.{Disk};
 ghost use Rattle.ckpt_copy.specs.Changes.{NoMore};
 ghost use Rattle.ckpt_copy.specs.Meanwhile.{Meanwhile};
 ghost use Rattle.ckpt_copy.specs.Pages.{bytes_of, level, page_in, ArePages, Covers};
@@ -21,7 +21,7 @@ use crate::errors::{Halted, Look, LookNo, PairNo};
 use crate::half::Half;
 use ckpt_copy::Copying;
 use mas_types::{Dev, MemberId, Page};
-use spool_disk::Plant;
+use spool_plant::Plant;
 use std::alloc::Global;
 
 /// The copies on CKPT1 and on CKPT2.

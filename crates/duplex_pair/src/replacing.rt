@@ -2,9 +2,9 @@
 ghost use Rattle.std.specs.Prelude.{◌≡◌, ◌≢◌, ◌⊎◌, ℕ, ◌+◌, ◌≤◌, List, length, OnOk, OnErr, Err, IsErrOf, true, false};
 ghost use Rattle.mas_types.specs.declared.ids.Dev.TheVariants.{Ckpt1, Ckpt2};
 ghost use Rattle.mas_types.specs.Limits.{pages_least, pages_most};
-ghost use Rattle.spool_disk.specs.View.{disk_now};
-ghost use Rattle.spool_disk.specs.Acts.{Rose, top};
-ghost use Rattle.spool_disk.specs.declared.plant.Part.TheVariants.{Disk};
+ghost use Rattle.spool_plant.specs.View.{disk_now};
+ghost use Rattle.spool_plant.specs.Acts.{Rose, top};
+ghost use Rattle.spool_plant.specs.declared.plant.Part.TheVariants.{Disk};
 ghost use Rattle.ckpt_copy.specs.Pages.{bytes_of};
 ghost use Rattle.duplex_pair.specs.declared.replacing.ReplaceNo.TheVariants.{NotLost, BothLost, Failed, Halted as ReplaceHalted, NoMemory as ReplaceNoMemory};
 ghost use Rattle.duplex_pair.specs.Halves.{IsCkpt, pick, other, IsBothLost};
@@ -14,7 +14,7 @@ use crate::half::Half;
 use crate::pair::Pair;
 use ckpt_copy::{CopyNo, Copying};
 use mas_types::{Dev, MemberId, NoMemory, Page};
-use spool_disk::{Act, Plant};
+use spool_plant::{Act, Plant};
 
 /// Why a copy wasn't replaced.
 #[derive(Clone, Copy)]

@@ -8,7 +8,7 @@ use mas_types::{Dev, MemberId};
 use plant_files::{FilePlant, Opening, StdSource, Streams};
 use plant_fuse::Fused;
 use plants::{add_act, add_bytes, take_text, use_devices, use_lines};
-use spool_disk::{Fuse, Got, Part, Plant, Source};
+use spool_plant::{Fuse, Got, Part, Plant, Source};
 use std::fs;
 use std::io::Write;
 use std::process::ExitCode;

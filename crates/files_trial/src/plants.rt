@@ -1,6 +1,6 @@
 //! What is done with a plant, and what is told of it.
 use mas_types::{Dev, MemberId};
-use spool_disk::{Act, Plant, Took};
+use spool_plant::{Act, Plant, Took};
 use tests_lines::Writer;
 
 const SYSA: MemberId = MemberId(1);

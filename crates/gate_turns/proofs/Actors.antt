@@ -13,7 +13,7 @@ use Rattle.mas_types.specs.declared.journals.Entry.{Entry}
 use Rattle.mas_types.specs.Closings.{closing_text}
 use Rattle.mas_types.specs.Numerals.{in_digits}
 use Rattle.mas_types.specs.Shown.{member_word}
-use Rattle.spool_disk.specs.declared.plant.Part.TheVariants.{Console}
+use Rattle.spool_plant.specs.declared.plant.Part.TheVariants.{Console}
 use Rattle.queue_laws.specs.Laws.{resets}
 use Rattle.lock_cycle.specs.Books.{Book, IsMember, seize_refusal, granted, after_seize, after_stop}
 use Rattle.gate_facts.specs.Values.{marked_at}

@@ -15,8 +15,8 @@ use Rattle.mas_types.specs.declared.queues.Owner.{Owner}
 use Rattle.mas_types.specs.Ids.{same_member}
 use Rattle.mas_types.specs.Journal.{is_kept}
 use Rattle.mas_types.specs.Limits.{volumes_most, page_bytes}
-use Rattle.spool_disk.specs.View.{World, Disk, Line, disk_now, slice}
-use Rattle.spool_disk.specs.Acts.{Goes}
+use Rattle.spool_plant.specs.View.{World, Disk, Line, disk_now, slice}
+use Rattle.spool_plant.specs.Acts.{Goes}
 use Rattle.spool_volumes.specs.Volumes.{volume_of, start_of}
 use Rattle.gate_facts.specs.declared.desks.Desk.{Desk}
 use Rattle.gate_facts.specs.declared.desks.Group.{Group}

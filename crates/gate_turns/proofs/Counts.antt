@@ -4,11 +4,11 @@ use Rattle.std.proofs.lemmas.List.{get_or-set_other}
 use Rattle.std.specs.Prelude.{slice_index_or, slice_set, drop}
 use Rattle.std.specs.List.{list_any}
 use Rattle.mas_types.specs.declared.ids.MemberId.{MemberId}
-use Rattle.spool_disk.specs.declared.plant.Act.{Act}
-use Rattle.spool_disk.specs.declared.plant.Act.TheVariants.{Done, Failed, Halted}
-use Rattle.spool_disk.specs.declared.plant.Part.TheVariants.{Printer}
-use Rattle.spool_disk.specs.View.{View, World, Line, disk_now}
-use Rattle.spool_disk.specs.Acts.{Goes, Prints}
+use Rattle.spool_plant.specs.declared.plant.Act.{Act}
+use Rattle.spool_plant.specs.declared.plant.Act.TheVariants.{Done, Failed, Halted}
+use Rattle.spool_plant.specs.declared.plant.Part.TheVariants.{Printer}
+use Rattle.spool_plant.specs.View.{View, World, Line, disk_now}
+use Rattle.spool_plant.specs.Acts.{Goes, Prints}
 use Rattle.gate_facts.specs.declared.desks.Group.{Group}
 use Rattle.gate_facts.specs.Values.{SyncedGroups}
 use Rattle.gate_facts.proofs.Values.{synced_refl}

@@ -18,7 +18,7 @@ use Rattle.gate_facts.specs.Values.{marked_at, no_desk, stopped_of, SyncedGroups
 use Rattle.gate_facts.specs.Memory.{EachOf}
 use Rattle.gate_facts.proofs.Lists.{true_false}
 use Rattle.gate_facts.proofs.Values.{synced_refl, later_refl}
-use Rattle.spool_disk.specs.View.{disk_now}
+use Rattle.spool_plant.specs.View.{disk_now}
 use Rattle.mas_complex.specs.Journals.{kept_all, in_flight, begun, fated, with_last, EndsInPlace}
 use Rattle.mas_complex.specs.Meaning.{run}
 use Rattle.mas_complex.proofs.Batches.{kept_all_append}

@@ -10,9 +10,9 @@ use Rattle.mas_types.specs.declared.ids.Dev.TheVariants.{Ckpt1, Ckpt2, Spool}
 use Rattle.mas_types.specs.declared.ids.MemberId.{MemberId}
 use Rattle.mas_types.specs.declared.queues.Owner.{Owner}
 use Rattle.mas_types.specs.Limits.{volumes_most, page_bytes}
-use Rattle.spool_disk.specs.declared.plant.Part.TheVariants.{Disk as DiskPart}
-use Rattle.spool_disk.specs.View.{View, World, Line, Disk, Stretch, disk_now, slice}
-use Rattle.spool_disk.specs.Acts.{Goes, Loses, next, top}
+use Rattle.spool_plant.specs.declared.plant.Part.TheVariants.{Disk as DiskPart}
+use Rattle.spool_plant.specs.View.{View, World, Line, Disk, Stretch, disk_now, slice}
+use Rattle.spool_plant.specs.Acts.{Goes, Loses, next, top}
 use Rattle.spool_volumes.specs.Volumes.{volume_of, start_of}
 use Rattle.ckpt_copy.specs.Moments.{either_way}
 use Rattle.gate_facts.specs.declared.desks.Desk.{Desk}

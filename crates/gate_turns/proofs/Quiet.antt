@@ -8,7 +8,7 @@ use Rattle.mas_types.specs.declared.journals.Batch.{Batch}
 use Rattle.mas_types.specs.declared.journals.Entry.{Entry}
 use Rattle.mas_types.specs.declared.journals.Fate.TheVariants.{Dropped, Kept}
 use Rattle.mas_types.specs.Ids.{same_member}
-use Rattle.spool_disk.specs.Acts.{OnDevice, Prints, Says}
+use Rattle.spool_plant.specs.Acts.{OnDevice, Prints, Says}
 use Rattle.mas_complex.specs.Journals.{begun, fated, in_flight, with_last}
 use Rattle.mas_complex.specs.Parts.{Shown}
 use Rattle.mas_complex.specs.Seen.{IsFatedBy}

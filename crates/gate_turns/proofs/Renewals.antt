@@ -4,7 +4,7 @@ use Rattle.std.specs.Prelude.{length, map, drop}
 use Rattle.mas_types.specs.declared.ids.Dev.{Dev}
 use Rattle.mas_types.specs.declared.ids.Dev.TheVariants.{Ckpt1, Ckpt2, Spool}
 use Rattle.mas_types.specs.declared.ids.MemberId.{MemberId}
-use Rattle.spool_disk.specs.View.{View, World, Line, disk_now}
+use Rattle.spool_plant.specs.View.{View, World, Line, disk_now}
 use Rattle.duplex_pair.specs.Halves.{IsCkpt}
 use Rattle.gate_facts.specs.Values.{SyncedGroups, Synced}
 use Rattle.ckpt_places.specs.declared.places.Place.{Place}

@@ -6,7 +6,7 @@ use native.Mathlib.Bridge.{le_prop}
 use Rattle.std.specs.Prelude.{IfSome, OnOk, if◌then◌else◌}
 use Rattle.mas_types.specs.declared.ids.MemberId.{MemberId}
 use Rattle.mas_types.specs.declared.queues.Config.{Config}
-use Rattle.spool_disk.specs.declared.plant.Plant.{Ghosts as PlantGhosts}
+use Rattle.spool_plant.specs.declared.plant.Plant.{Ghosts as PlantGhosts}
 use Rattle.ckpt_copy.specs.declared.copying.Copying.{Ghosts as CopyGhosts}
 use Rattle.ckpt_form.specs.declared.steady.Steady.{Ghosts as SteadyGhosts}
 use Rattle.mas_complex.specs.declared.complex.Complex.{Complex}

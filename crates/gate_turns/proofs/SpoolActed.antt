@@ -12,11 +12,11 @@ use Rattle.mas_types.specs.declared.queues.Owner.{Owner}
 use Rattle.mas_types.specs.declared.queues.Owner.TheVariants as owner
 use Rattle.mas_types.specs.Limits.{page_bytes}
 use Rattle.mas_types.specs.Owners.{is_members}
-use Rattle.spool_disk.specs.declared.plant.Act.{Act}
-use Rattle.spool_disk.specs.declared.plant.Act.TheVariants.{Done, Failed, Halted}
-use Rattle.spool_disk.specs.declared.plant.Part.TheVariants.{Disk as DiskPart}
-use Rattle.spool_disk.specs.View.{View, Disk, Stretch, Apart, Avoids, disk_now, slice}
-use Rattle.spool_disk.specs.Acts.{Goes, DirtiedIn, Written, OnDevice, Syncs}
+use Rattle.spool_plant.specs.declared.plant.Act.{Act}
+use Rattle.spool_plant.specs.declared.plant.Act.TheVariants.{Done, Failed, Halted}
+use Rattle.spool_plant.specs.declared.plant.Part.TheVariants.{Disk as DiskPart}
+use Rattle.spool_plant.specs.View.{View, Disk, Stretch, Apart, Avoids, disk_now, slice}
+use Rattle.spool_plant.specs.Acts.{Goes, DirtiedIn, Written, OnDevice, Syncs}
 use Rattle.ckpt_copy.specs.Slices.{stretch, slice_apart}
 use Rattle.ckpt_copy.specs.Moments.{either_way}
 use Rattle.spool_volumes.specs.Volumes.{volume_of, start_of}

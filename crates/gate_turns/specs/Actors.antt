@@ -5,10 +5,10 @@ use Rattle.mas_types.specs.declared.commands.Command.{Command}
 use Rattle.mas_types.specs.declared.ids.MemberId.{MemberId}
 use Rattle.mas_types.specs.declared.journals.Entry.{Entry}
 use Rattle.mas_types.specs.Closings.{closing_line, detail_line}
-use Rattle.spool_disk.specs.declared.plant.Act.{Act}
-use Rattle.spool_disk.specs.declared.plant.Part.TheVariants.{Console}
-use Rattle.spool_disk.specs.View.{View}
-use Rattle.spool_disk.specs.Acts.{Acts, Says}
+use Rattle.spool_plant.specs.declared.plant.Act.{Act}
+use Rattle.spool_plant.specs.declared.plant.Part.TheVariants.{Console}
+use Rattle.spool_plant.specs.View.{View}
+use Rattle.spool_plant.specs.Acts.{Acts, Says}
 use Rattle.queue_laws.specs.Laws.{resets}
 use Rattle.lock_cycle.specs.Books.{Book, IsMember, after_seize, after_stop}
 use Rattle.gate_facts.specs.Values.{marked_at}

@@ -10,7 +10,7 @@ use Rattle.mas_types.specs.declared.journals.Entry.{Entry}
 use Rattle.mas_types.specs.declared.queues.Owner.{Owner}
 use Rattle.mas_types.specs.Limits.{page_bytes}
 use Rattle.mas_types.specs.Owners.{is_members}
-use Rattle.spool_disk.specs.View.{Disk, Stretch, slice}
+use Rattle.spool_plant.specs.View.{Disk, Stretch, slice}
 use Rattle.ckpt_copy.specs.Pages.{level, page_in}
 use Rattle.spool_volumes.specs.Volumes.{start_of}
 use Rattle.gate_facts.specs.declared.desks.Hold.{Hold}

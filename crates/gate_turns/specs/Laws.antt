@@ -11,10 +11,10 @@ use Rattle.mas_types.specs.declared.answers.Closing.{Closing}
 use Rattle.mas_types.specs.Closings.{closing_line}
 use Rattle.mas_types.specs.Ids.{same_member}
 use Rattle.mas_types.specs.Limits.{members_most, page_bytes}
-use Rattle.spool_disk.specs.declared.plant.Act.{Act}
-use Rattle.spool_disk.specs.declared.plant.Part.TheVariants.{Disk, Console, Printer}
-use Rattle.spool_disk.specs.View.{View, disk_now}
-use Rattle.spool_disk.specs.Acts.{Acts, Prints, Syncs, Says, Loses}
+use Rattle.spool_plant.specs.declared.plant.Act.{Act}
+use Rattle.spool_plant.specs.declared.plant.Part.TheVariants.{Disk, Console, Printer}
+use Rattle.spool_plant.specs.View.{View, disk_now}
+use Rattle.spool_plant.specs.Acts.{Acts, Prints, Syncs, Says, Loses}
 use Rattle.duplex_pair.specs.Halves.{Acted}
 use Rattle.duplex_pair.specs.Both.{PairActed}
 use Rattle.queue_laws.specs.Laws.{resets}

@@ -5,7 +5,7 @@ use Rattle.mas_types.specs.declared.ids.Page.{Page}
 use Rattle.mas_types.specs.declared.journals.Batch.{Batch}
 use Rattle.mas_types.specs.declared.journals.Entry.{Entry}
 use Rattle.mas_types.specs.Ids.{same_member}
-use Rattle.spool_disk.specs.View.{View, disk_now}
+use Rattle.spool_plant.specs.View.{View, disk_now}
 use Rattle.gate_facts.specs.declared.facts.Facts.{Facts}
 use Rattle.gate_facts.specs.declared.desks.Desk.{Desk}
 use Rattle.gate_facts.specs.declared.desks.Hold.{Hold}

@@ -6,10 +6,10 @@ use Rattle.mas_types.specs.declared.journals.Batch.{Batch}
 use Rattle.mas_types.specs.declared.journals.Entry.{Entry}
 use Rattle.mas_types.specs.declared.journals.Fate.TheVariants.{Kept}
 use Rattle.mas_types.specs.Ids.{same_member}
-use Rattle.spool_disk.specs.declared.plant.Act.{Act}
-use Rattle.spool_disk.specs.declared.plant.Part.TheVariants.{Console, Disk, Printer}
-use Rattle.spool_disk.specs.View.{View}
-use Rattle.spool_disk.specs.Acts.{Acts, OnDevice, Prints, Says}
+use Rattle.spool_plant.specs.declared.plant.Act.{Act}
+use Rattle.spool_plant.specs.declared.plant.Part.TheVariants.{Console, Disk, Printer}
+use Rattle.spool_plant.specs.View.{View}
+use Rattle.spool_plant.specs.Acts.{Acts, OnDevice, Prints, Says}
 use Rattle.lock_cycle.specs.Books.{Book}
 use Rattle.gate_facts.specs.Values.{lines_of}
 use Rattle.mas_complex.specs.Journals.{begun, fated, in_flight, with_last, EndsInPlace, HasPlace}

@@ -19,7 +19,7 @@ ghost use Rattle.gate_turns.specs.Untouched.{SaysChangeNamed, SpoolActsAreQuiet}
 ghost use Rattle.mas_complex.specs.Parts.{shown_of};
 
 use mas_complex::{Complex, Steady};
-use spool_disk::Plant;
+use spool_plant::Plant;
 
 /// A value may be given back as it was taken, and after several calls where it may be after each.
 pub fn law_of_giving_back()

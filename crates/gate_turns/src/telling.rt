@@ -1,6 +1,6 @@
 //! Values that tell of themselves.
 use mas_complex::{Complex, Steady};
-use spool_disk::Plant;
+use spool_plant::Plant;
 
 /// A value at which members take turns. It tells of itself in proofs alone.
 pub trait Telling {

@@ -7,7 +7,7 @@ use crate::turns::Turns;
 use lock_cycle::LockNo;
 use mas_complex::{Complex, Steady};
 use mas_types::MemberId;
-use spool_disk::Plant;
+use spool_plant::Plant;
 
 /// One turn in which the member tries at the lock of the checkpoint, inside a step or between two, and which is given
 /// back whether or not it got it. After Ok the member remembers that it has the lock. The value is just as it was found

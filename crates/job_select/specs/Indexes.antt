@@ -5,7 +5,7 @@ use Rattle.mas_types.specs.declared.jobs.Job.{Job}
 use Rattle.mas_types.specs.declared.queues.Queue.{Queue}
 use Rattle.mas_types.specs.Lists.{is_greatest_of, has_first_key_of}
 use Rattle.mas_types.specs.Selection.{job_prio, may_execute, has_class}
-use Rattle.ckpt_pages.specs.declared.tables.Tables.{Tables}
+use Rattle.ckpt_tables.specs.declared.tables.Tables.{Tables}
 use Rattle.job_queue.specs.Jobs.{AreJobs}
 use Rattle.output_queue.specs.Outputs.{AreOutputs}
 use Rattle.job_select.specs.declared.index.Index.{Index}

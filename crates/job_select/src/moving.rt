@@ -2,7 +2,7 @@
 ghost use Rattle.std.specs.Prelude.{◌≡◌, ◌≤◌, ◌<◌, [], Option, Some, None, IfOk, OnOk, OnErr, length, replicate, slice_get, slice_set};
 ghost use Rattle.lay_bytes.specs.declared.records.JobRec.{JobRec as AnyJob};
 ghost use Rattle.lay_bytes.specs.declared.records.OutRec.{OutRec as AnyOutput};
-ghost use Rattle.ckpt_pages.specs.Shape.{HasShape};
+ghost use Rattle.ckpt_tables.specs.Shape.{HasShape};
 ghost use Rattle.job_select.specs.Chains.{HaveSame, Moves, StandsIn, chain_at};
 ghost use Rattle.job_select.specs.Kinds.{job_chain as job_chain_lem, number_chain as number_chain_lem, output_chain as output_chain_lem};
 ghost use Rattle.job_select.specs.Indexes.{IsOf};
@@ -11,7 +11,7 @@ use crate::chains::{Chains, join, leave};
 use crate::index::Index;
 use crate::jobs::{job_chain, number_chain};
 use crate::outputs::output_chain;
-use ckpt_pages::Tables;
+use ckpt_tables::Tables;
 use indexmap::IndexMap;
 use lay_bytes::{JobRec, OutRec};
 use mas_types::{List, NoMemory};

@@ -1,9 +1,10 @@
 //! Decodes all pages of the largest spool, and encodes pages of it.
 ghost use Rattle.std.specs.Prelude.{◌≡◌, length, IfOk};
-ghost use Rattle.ckpt_pages.specs.Shape.{HasShape, page_count as page_count_lem};
+ghost use Rattle.ckpt_tables.specs.Shape.{HasShape, page_count as page_count_lem};
 
 use crate::samples::{first_levels, full_tables};
-use ckpt_pages::{PageNo, Tables, decode, encode, encode_page};
+use ckpt_pages::{PageNo, decode, encode, encode_page};
+use ckpt_tables::Tables;
 use mas_types::{Level, List, NoMemory, Page};
 use std::alloc::Global;
 

@@ -2,11 +2,12 @@
 ghost use Rattle.std.specs.Prelude.{◌≡◌, ◌≤◌, ◌%◌, length, IfOk};
 ghost use Rattle.mas_types.specs.Limits.{jobs_least, jobs_most, jobs_step};
 ghost use Rattle.mas_types.specs.Fit.{IsConfig, IsFit};
-ghost use Rattle.ckpt_pages.specs.Shape.{HasShape};
+ghost use Rattle.ckpt_tables.specs.Shape.{HasShape};
 ghost use Rattle.queue_effect.specs.Standing.{AreFit};
 
 use crate::samples::fill_jobs;
-use ckpt_pages::{Tables, empty, sound};
+use ckpt_pages::{empty, sound};
+use ckpt_tables::Tables;
 use mas_types::{Class, Command, Config, List, MemberId, Name8, NoMemory, Phase};
 use queue_effect::{apply, law_of_fit_tables};
 use queue_laws::fitness::is_fit;

@@ -1,9 +1,10 @@
 //! Full tables of the largest spool, and their jobs.
 ghost use Rattle.std.specs.Prelude.{◌≡◌, ◌≤◌, length, IfOk};
 ghost use Rattle.mas_types.specs.Fit.{IsConfig};
-ghost use Rattle.ckpt_pages.specs.Shape.{HasShape, page_count as page_count_lem};
+ghost use Rattle.ckpt_tables.specs.Shape.{HasShape, page_count as page_count_lem};
 
-use ckpt_pages::{Tables, empty};
+use ckpt_pages::empty;
+use ckpt_tables::Tables;
 use lay_bytes::{JobRec, OutRec};
 use mas_types::{
     Class, Config, JobFields, JobNo, Level, List, MemberId, Name8, NoMemory, OutNo, Owner, Phase,

@@ -8,7 +8,7 @@ use Rattle.mas_types.specs.Starts.{default_config}
 use Rattle.queue_laws.specs.Examples.Small.{job, index, member}
 use Rattle.lay_bytes.specs.declared.records.JobRec.{JobRec}
 use Rattle.lay_bytes.specs.declared.records.OutRec.{OutRec}
-use Rattle.ckpt_pages.specs.declared.tables.Tables.{Tables}
+use Rattle.ckpt_tables.specs.declared.tables.Tables.{Tables}
 use Rattle.ckpt_pages.specs.declared.faults.TableFault.{TableFault}
 use Rattle.ckpt_pages.specs.declared.faults.TableFault.TheVariants as fault
 use Rattle.ckpt_pages.specs.Sound.{fault_of}

@@ -13,9 +13,9 @@ use Rattle.queue_laws.specs.Examples.Small.{job, class, name, member, index}
 use Rattle.lay_bytes.specs.declared.records.JobRec.{JobRec}
 use Rattle.lay_bytes.specs.declared.records.OutRec.{OutRec}
 use Rattle.lay_bytes.specs.Slots.{job_slot, output_slot, owner_entry, job_fields, output_fields, bad_field, bad_owner_field}
-use Rattle.ckpt_pages.specs.declared.tables.Tables.{Tables}
-use Rattle.ckpt_pages.specs.Pages.{header_pieces, node_pieces, setting_entry}
-use Rattle.ckpt_pages.specs.Shape.{page_count}
+use Rattle.ckpt_tables.specs.declared.tables.Tables.{Tables}
+use Rattle.ckpt_tables.specs.Pages.{header_pieces, node_pieces, setting_entry}
+use Rattle.ckpt_tables.specs.Shape.{page_count}
 use Rattle.ckpt_pages.specs.Starts.{empty_tables}
 
 -- the job of //HELLO JOB (1),'ME',CLASS=A, the first one that is entered

@@ -5,9 +5,9 @@ use Rattle.mas_types.specs.declared.ids.Dev.TheVariants.{Spool}
 use Rattle.mas_types.specs.declared.queues.Owner.{Owner}
 use Rattle.mas_types.specs.Limits.{page_bytes}
 use Rattle.mas_types.specs.Records.{records_in}
-use Rattle.spool_disk.specs.declared.plant.Part.TheVariants.{Disk as DiskPart}
-use Rattle.spool_disk.specs.View.{View, disk_now, slice}
-use Rattle.spool_disk.specs.Acts.{Goes}
+use Rattle.spool_plant.specs.declared.plant.Part.TheVariants.{Disk as DiskPart}
+use Rattle.spool_plant.specs.View.{View, disk_now, slice}
+use Rattle.spool_plant.specs.Acts.{Goes}
 use Rattle.spool_volumes.specs.Volumes.{volume_of, start_of}
 use Rattle.std.proofs.lemmas.Bool.{le-leb}
 use Rattle.mas_check.specs.declared.groups.Group.{Group}

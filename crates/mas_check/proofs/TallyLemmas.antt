@@ -7,7 +7,7 @@ use Rattle.mas_types.specs.declared.ids.JobNo.{JobNo}
 use Rattle.mas_types.specs.declared.ids.OutNo.{OutNo}
 use Rattle.mas_types.specs.declared.queues.Owner.{Owner}
 use Rattle.mas_types.specs.declared.queues.Owner.TheVariants as owner
-use Rattle.ckpt_pages.specs.declared.tables.Tables.{Tables}
+use Rattle.ckpt_tables.specs.declared.tables.Tables.{Tables}
 use Rattle.mas_check.specs.declared.groups.Group.{Group}
 use Rattle.mas_check.specs.declared.tallies.Tally.{Tally}
 use Rattle.mas_check.specs.declared.tallies.Tallies.{Tallies}

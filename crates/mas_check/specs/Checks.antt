@@ -6,8 +6,8 @@ use Rattle.mas_types.specs.declared.answers.Verdict.TheVariants.{Sound, Fault}
 use Rattle.mas_types.specs.declared.ids.Page.{Page}
 use Rattle.mas_types.specs.Shown.{words}
 use Rattle.mas_types.specs.Statuses.{verdict_line}
-use Rattle.spool_disk.specs.View.{View}
-use Rattle.ckpt_pages.specs.declared.tables.Tables.{Tables}
+use Rattle.spool_plant.specs.View.{View}
+use Rattle.ckpt_tables.specs.declared.tables.Tables.{Tables}
 use Rattle.ckpt_pages.specs.declared.faults.TableFault.{TableFault}
 use Rattle.ckpt_pages.specs.declared.faults.TableFault.TheVariants as fault
 use Rattle.ckpt_pages.specs.declared.entries.PageNo.{PageNo}

@@ -8,7 +8,7 @@ use Rattle.mas_types.specs.declared.queues.Owner.TheVariants as owner
 use Rattle.mas_types.specs.Ids.{same_number, same_index}
 use Rattle.lay_bytes.specs.declared.records.JobRec.{JobRec}
 use Rattle.lay_bytes.specs.declared.records.OutRec.{OutRec}
-use Rattle.ckpt_pages.specs.declared.tables.Tables.{Tables}
+use Rattle.ckpt_tables.specs.declared.tables.Tables.{Tables}
 use Rattle.ckpt_pages.specs.Sound.{first_wrong}
 use Rattle.mas_check.specs.declared.groups.Group.{Group}
 

@@ -3,7 +3,7 @@ use Rattle.std.specs.Prelude.{◌≡◌, ℕ, ◌+◌, ◌*◌, ◌≤◌, ◌==
 use Rattle.std.specs.HashMap.{HashMap, get}
 use Rattle.mas_types.specs.declared.queues.Owner.{Owner}
 use Rattle.mas_types.specs.declared.queues.Owner.TheVariants as owner
-use Rattle.ckpt_pages.specs.declared.tables.Tables.{Tables}
+use Rattle.ckpt_tables.specs.declared.tables.Tables.{Tables}
 use Rattle.mas_check.specs.declared.groups.Group.{Group}
 use Rattle.mas_check.specs.declared.tallies.Tally.{Tally}
 use Rattle.mas_check.specs.declared.tallies.Tallies.{Tallies}

@@ -1,6 +1,6 @@
 //! The check of a checkpoint.
 ghost use Rattle.std.specs.Prelude.{◌≡◌, ◌<◌, ◌^◌, IfSome};
-ghost use Rattle.ckpt_pages.specs.Shape.{HasSpelling};
+ghost use Rattle.ckpt_tables.specs.Shape.{HasSpelling};
 ghost use Rattle.ckpt_pages.specs.Sound.{AreSound};
 ghost use Rattle.mas_check.specs.Checks.{page_answer as page_answer_lem, verdict_of as verdict_of_lem, text_verdict as text_verdict_lem, IsAnswer, IsCheckOrNone};
 ghost use Rattle.mas_check.specs.Worlds.{OnlyReads};
@@ -8,9 +8,10 @@ ghost use Rattle.mas_check.specs.declared.checking.CheckNo.TheVariants.{NoMemory
 
 use crate::groups::first_wrong_group;
 use crate::reading::{lost_volume, read_groups};
-use ckpt_pages::{PageNo, TableFault, Tables, decode, first_fault};
+use ckpt_pages::{PageNo, TableFault, decode, first_fault};
+use ckpt_tables::Tables;
 use mas_types::{FaultKind, NoMemory, Page, Verdict};
-use spool_disk::Plant;
+use spool_plant::Plant;
 use std::alloc::Global;
 
 /// Why a check gave no verdict.

@@ -4,7 +4,7 @@ ghost use Rattle.mas_check.specs.Groups.{has_text as has_text_lem, cards_in as c
 ghost use Rattle.mas_check.specs.Tallies.{place_of as place_of_lem, is_wrong_group as is_wrong_group_lem};
 
 use crate::tallies::Tallies;
-use ckpt_pages::Tables;
+use ckpt_tables::Tables;
 use lay_bytes::{JobRec, OutRec};
 use mas_types::{JobNo, NoMemory, OutNo, Owner};
 use std::alloc::Global;

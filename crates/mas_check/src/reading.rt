@@ -9,7 +9,7 @@ use crate::groups::{Group, has_text};
 use crate::records::{count_records, law_of_page};
 use mas_types::limits::PAGE_BYTES;
 use mas_types::{Dev, List, MemberId, NoMemory, Owner};
-use spool_disk::{Act, Part, Plant};
+use spool_plant::{Act, Part, Plant};
 use std::alloc::Global;
 
 /// The operator, who never halts.

@@ -3,8 +3,8 @@ use Rattle.std.proofs.Common.{◌≡◌, ℕ, ◌≤◌, ◌<◌, Bool, true, fa
 use Rattle.mas_types.specs.declared.ids.Dev.{Dev}
 use Rattle.mas_types.specs.declared.ids.Dev.TheVariants.{Ckpt1, Ckpt2, Spool}
 use Rattle.mas_types.specs.declared.journals.Batch.{Batch}
-use Rattle.spool_disk.specs.View.{View, Disk, disk_at, disk_now}
-use Rattle.spool_disk.specs.Acts.{top}
+use Rattle.spool_plant.specs.View.{View, Disk, disk_at, disk_now}
+use Rattle.spool_plant.specs.Acts.{top}
 use Rattle.ckpt_copy.specs.Changes.{NoMore}
 use Rattle.ckpt_copy.specs.Reading.{AllRead}
 use Rattle.ckpt_copy.specs.Staying.{no_more_image}

@@ -2,9 +2,9 @@
 use Rattle.std.proofs.Common.{◌≡◌, ◌≢◌, inl, inr, ⊎_elim, ℕ, ◌+◌, ◌≤◌, Bool, true, false, Result, Err, refl, sym, ◌∙◌, ap, subst, arith}
 use Rattle.mas_types.specs.declared.ids.Dev.{Dev}
 use Rattle.mas_types.specs.declared.ids.Dev.TheVariants.{Ckpt1, Ckpt2, Spool}
-use Rattle.spool_disk.specs.declared.plant.Part.TheVariants.{Disk as DiskPart}
-use Rattle.spool_disk.specs.View.{View}
-use Rattle.spool_disk.specs.Acts.{Goes, Loses, next, top}
+use Rattle.spool_plant.specs.declared.plant.Part.TheVariants.{Disk as DiskPart}
+use Rattle.spool_plant.specs.View.{View}
+use Rattle.spool_plant.specs.Acts.{Goes, Loses, next, top}
 use Rattle.ckpt_copy.specs.Moments.{either_way, goes_on, goes_none}
 use Rattle.duplex_pair.specs.declared.errors.LookNo.{LookNo}
 use Rattle.duplex_pair.specs.declared.errors.LookNo.TheVariants.{Halted as LookHalted, NoMemory as LookNoMemory}
@@ -91,6 +91,7 @@ counts_none by a b v = record {
   alive1 = λ is. is;
   alive2 = λ is. is;
   no_other_stop = λ m why. refl;
+  at_halt = λ is. absurd (cc);
   arms = λ m. refl;
   once1 = inl refl;
   once2 = inl refl;
@@ -109,6 +110,7 @@ counts_then by a a1 a2 b b1 b2 stopped old mid new x y = record {
   alive1 = λ is. x.alive1 (y.alive1 is);
   alive2 = λ is. x.alive2 (y.alive2 is);
   no_other_stop = λ m why. y.no_other_stop m why ∙ x.no_other_stop m (inr refl);
+  at_halt = y.at_halt;
   arms = λ m. y.arms m ∙ x.arms m;
   once1 = once_then a a1 a2 (old.loses Ckpt1) (mid.loses Ckpt1) (new.loses Ckpt1) x.alive1 y.alive1 x.once1 y.once1;
   once2 = once_then b b1 b2 (old.loses Ckpt2) (mid.loses Ckpt2) (new.loses Ckpt2) x.alive2 y.alive2 x.once2 y.once2;
@@ -128,6 +130,7 @@ counts_first by a a' b b' stopped old new same acted = record {
   alive1 = acted.alive;
   alive2 = λ is. sym same ∙ is;
   no_other_stop = acted.no_other_stop;
+  at_halt = acted.at_halt;
   arms = acted.arms;
   once1 = inl (acted.loses Ckpt1);
   once2 = inl (acted.loses Ckpt2);
@@ -146,6 +149,7 @@ counts_second by a a' b b' stopped old new same acted = record {
   alive1 = λ is. sym same ∙ is;
   alive2 = acted.alive;
   no_other_stop = acted.no_other_stop;
+  at_halt = acted.at_halt;
   arms = acted.arms;
   once1 = inl (acted.loses Ckpt1);
   once2 = inl (acted.loses Ckpt2);
@@ -171,6 +175,7 @@ counts_both by a a' b b' stopped old new acted = record {
   alive1 = acted.alive1;
   alive2 = acted.alive2;
   no_other_stop = acted.no_other_stop;
+  at_halt = acted.at_halt;
   arms = acted.arms;
   once1 = inl (acted.loses Ckpt1);
   once2 = inl (acted.loses Ckpt2);
@@ -192,6 +197,7 @@ module _ {H : Type 0} (alive : H → Bool) (one two one' two' : H) (by : ℕ) (o
     alive1 = λ is. was;
     alive2 = λ is. sym (ap alive same) ∙ is;
     no_other_stop = λ m why. loses.stops m;
+    at_halt = λ is. absurd (cc);
     arms = loses.arms;
     once1 = more (alive one) (alive one') (old.loses Ckpt1) (new.loses Ckpt1) was dead (loses.counted Ckpt1 refl) (loses.small Ckpt1 refl);
     once2 = inl (loses.else_counted Ckpt2 (λ e. dev21 (disk_dev Ckpt2 Ckpt1 e)));
@@ -208,6 +214,7 @@ module _ {H : Type 0} (alive : H → Bool) (one two one' two' : H) (by : ℕ) (o
     alive1 = λ is. sym (ap alive same) ∙ is;
     alive2 = λ is. was;
     no_other_stop = λ m why. loses.stops m;
+    at_halt = λ is. absurd (cc);
     arms = loses.arms;
     once1 = inl (loses.else_counted Ckpt1 (λ e. dev12 (disk_dev Ckpt1 Ckpt2 e)));
     once2 = more (alive two) (alive two') (old.loses Ckpt2) (new.loses Ckpt2) was dead (loses.counted Ckpt2 refl) (loses.small Ckpt2 refl);

@@ -12,9 +12,9 @@ use Rattle.mas_types.specs.Closings.{closing_line}
 use Rattle.mas_types.specs.Sound.{IsSound}
 use Rattle.mas_types.specs.declared.ids.Dev.{Dev}
 use Rattle.mas_types.specs.declared.ids.Dev.TheVariants.{Ckpt1, Ckpt2}
-use Rattle.spool_disk.specs.declared.plant.Part.TheVariants.{Disk as DiskPart}
-use Rattle.spool_disk.specs.View.{View, Line, Disk, disk_at}
-use Rattle.spool_disk.specs.Acts.{top}
+use Rattle.spool_plant.specs.declared.plant.Part.TheVariants.{Disk as DiskPart}
+use Rattle.spool_plant.specs.View.{View, Line, Disk, disk_at}
+use Rattle.spool_plant.specs.Acts.{top}
 use Rattle.ckpt_copy.specs.Reading.{AllRead}
 use Rattle.ckpt_copy.specs.Moments.{either_way}
 use Rattle.std.proofs.lemmas.Bool.{ne_eqb, true≢false}

@@ -4,10 +4,10 @@ use Rattle.std.proofs.lemmas.List.{append-nil}
 use Rattle.std.proofs.lemmas.Bool.{or_cases}
 use Rattle.mas_types.specs.declared.ids.Dev.{Dev}
 use Rattle.mas_types.specs.declared.ids.Dev.TheVariants.{Ckpt1, Ckpt2, Spool}
-use Rattle.spool_disk.specs.declared.plant.Act.{Act}
-use Rattle.spool_disk.specs.declared.plant.Act.TheVariants.{Done, Failed, Halted}
-use Rattle.spool_disk.specs.View.{View, Disk, disk_at, disk_now}
-use Rattle.spool_disk.specs.Acts.{Goes, Says, Said, next}
+use Rattle.spool_plant.specs.declared.plant.Act.{Act}
+use Rattle.spool_plant.specs.declared.plant.Act.TheVariants.{Done, Failed, Halted}
+use Rattle.spool_plant.specs.View.{View, Disk, disk_at, disk_now}
+use Rattle.spool_plant.specs.Acts.{Goes, Says, Said, next}
 use Rattle.ckpt_copy.specs.Reading.{AllRead}
 use Rattle.mas_types.specs.declared.ids.MemberId.{MemberId}
 use Rattle.mas_types.specs.declared.journals.Batch.{Batch}

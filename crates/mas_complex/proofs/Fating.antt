@@ -4,7 +4,7 @@ use Rattle.mas_types.specs.declared.ids.MemberId.{MemberId}
 use Rattle.mas_types.specs.declared.journals.Batch.{Batch}
 use Rattle.mas_types.specs.declared.journals.Entry.{Entry}
 use Rattle.mas_types.specs.declared.journals.Fate.TheVariants.{Kept, Dropped, Flying}
-use Rattle.spool_disk.specs.View.{View, Disk}
+use Rattle.spool_plant.specs.View.{View, Disk}
 use Rattle.ckpt_copy.specs.Reading.{AllRead}
 use Rattle.ckpt_places.specs.declared.places.Place.TheVariants.{Before, Opened}
 use Rattle.mas_complex.specs.Journals.{kept_all, IsPlace, EndsInPlace, HasPlace, with_last}

@@ -5,7 +5,7 @@ use Rattle.std.proofs.lemmas.Slice.Eq.{bytes_eq-Decides}
 use Rattle.std.specs.Str.{bytes_eq}
 use Rattle.mas_types.specs.declared.ids.Page.{Page}
 use Rattle.ckpt_copy.specs.Pages.{bytes_of, level}
-use Rattle.ckpt_pages.specs.Shape.{level_in}
+use Rattle.ckpt_tables.specs.Shape.{level_in}
 use Rattle.ckpt_places.specs.declared.places.Place.{Place}
 use Rattle.ckpt_places.specs.declared.places.Place.TheVariants.{Before}
 use Rattle.mas_complex.specs.Fits.{are_same, differ_at, first_page, fits}

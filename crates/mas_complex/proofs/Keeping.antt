@@ -1,6 +1,6 @@
 -- A copy that is as before any batch.
 use Rattle.std.proofs.Common.{◌≡◌, ℕ, Bool, true, List, Option, subst}
-use Rattle.spool_disk.specs.View.{Disk}
+use Rattle.spool_plant.specs.View.{Disk}
 use Rattle.ckpt_places.specs.declared.places.Place.{Place}
 use Rattle.ckpt_places.specs.declared.places.Place.TheVariants.{Before}
 use Rattle.mas_complex.specs.Crash.{Setting, IsAt, OneCopy}

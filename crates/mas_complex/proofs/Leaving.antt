@@ -6,7 +6,7 @@ use Rattle.mas_types.specs.declared.journals.Entry.{Entry}
 use Rattle.mas_types.specs.declared.queues.Queue.{Queue}
 use Rattle.duplex_pair.specs.Halves.{IsBothLost, SomeAlive}
 use Rattle.ckpt_copy.specs.Pages.{bytes_of, level}
-use Rattle.spool_disk.specs.Acts.{Rose}
+use Rattle.spool_plant.specs.Acts.{Rose}
 use Rattle.ckpt_places.specs.declared.places.Place.{Place}
 use Rattle.ckpt_places.specs.declared.places.Place.TheVariants.{Before, Put, Opened, Unsure}
 use Rattle.mas_complex.specs.Fits.{fits, can_stay, is_before}

@@ -1,7 +1,7 @@
 -- The lines of the console, as it grows.
 use Rattle.std.proofs.Common.{ℕ, zero, suc, List, [], ◌∷◌, ◌++◌, drop}
 use Rattle.mas_types.specs.declared.ids.MemberId.{MemberId}
-use Rattle.spool_disk.specs.View.{Line}
+use Rattle.spool_plant.specs.View.{Line}
 use Rattle.mas_complex.specs.Crash.{EachTells}
 
 module _ (closes : List ℕ → MemberId → ℕ → Type 0) where

@@ -6,9 +6,9 @@ use Rattle.mas_types.specs.declared.ids.Page.{Page}
 use Rattle.mas_types.specs.declared.journals.Batch.{Batch}
 use Rattle.mas_types.specs.declared.journals.Entry.{Entry}
 use Rattle.mas_complex.specs.Journals.{kept_all, entries_in}
-use Rattle.spool_disk.specs.View.{View, Disk, IsImage, disk_now}
-use Rattle.spool_disk.specs.Acts.{Goes, top}
-use Rattle.spool_disk.specs.declared.plant.Part.TheVariants.{Disk as DiskPart}
+use Rattle.spool_plant.specs.View.{View, Disk, IsImage, disk_now}
+use Rattle.spool_plant.specs.Acts.{Goes, top}
+use Rattle.spool_plant.specs.declared.plant.Part.TheVariants.{Disk as DiskPart}
 use Rattle.ckpt_copy.specs.Changes.{NoMore}
 use Rattle.ckpt_copy.specs.Reading.{AllRead}
 use Rattle.ckpt_copy.specs.Staying.{no_more_image}

@@ -1,9 +1,9 @@
 -- A device that is lost stays lost. K is what else is known of its copy.
 use Rattle.std.proofs.Common.{◌≡◌, Bool, true, false, ℕ, refl}
 use Rattle.mas_types.specs.declared.ids.Dev.{Dev}
-use Rattle.spool_disk.specs.declared.plant.Part.TheVariants.{Disk}
-use Rattle.spool_disk.specs.View.{View}
-use Rattle.spool_disk.specs.Acts.{Goes}
+use Rattle.spool_plant.specs.declared.plant.Part.TheVariants.{Disk}
+use Rattle.spool_plant.specs.View.{View}
+use Rattle.spool_plant.specs.Acts.{Goes}
 use Rattle.duplex_pair.specs.Halves.{Acted}
 
 pub lost_later : {K : Type 0} (dev : Dev) (alive : Bool) (old new : View) → Goes old new → (alive ≡ false → K → old.lost (Disk dev) ≡ true) → alive ≡ false → K → new.lost (Disk dev) ≡ true

@@ -3,7 +3,7 @@ use Rattle.std.proofs.lemmas.Bool.{true≢false}
 use Rattle.std.proofs.Common.{◌≡◌, ℕ, ◌<◌, Bool, true, false, List, [], ◌∷◌, ◌++◌, length, drop, Option, None, refl, subst, sym, ◌∙◌, ap, arith, le_refl}
 use Rattle.std.proofs.lemmas.List.{append-nil}
 use Rattle.mas_types.specs.declared.ids.Dev.TheVariants.{Ckpt1, Ckpt2, Spool}
-use Rattle.spool_disk.specs.View.{View, Disk, Line, disk_at, disk_now}
+use Rattle.spool_plant.specs.View.{View, Disk, Line, disk_at, disk_now}
 use Rattle.ckpt_copy.specs.Reading.{AllRead}
 use Rattle.mas_types.specs.declared.ids.MemberId.{MemberId}
 use Rattle.mas_types.specs.declared.journals.Batch.{Batch}
@@ -11,7 +11,7 @@ use Rattle.mas_types.specs.declared.journals.Entry.{Entry}
 use Rattle.mas_types.specs.declared.journals.Fate.TheVariants.{Kept, Flying}
 use Rattle.mas_complex.specs.Journals.{kept_all, batches_kept, StepIsKept}
 use Rattle.mas_types.specs.Journal.{is_flying}
-use Rattle.spool_disk.specs.Acts.{top}
+use Rattle.spool_plant.specs.Acts.{top}
 use Rattle.mas_complex.specs.declared.renewals.Renewal.{Renewal}
 use Rattle.mas_complex.specs.Renewals.{is_renewed_at, is_open, AreRenewedBy}
 use Rattle.mas_complex.specs.Crash.{Setting, EachTells, IsUntold, ReadsOne, ReadsBy, Copy, CopyAt, Keeps, BeginsWith, next_order}

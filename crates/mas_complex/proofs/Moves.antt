@@ -2,8 +2,8 @@
 use Rattle.std.proofs.Common.{◌≡◌, ⊎_elim, ℕ, ◌+◌, ◌≤◌, ◌<◌, Bool, false, refl, List, [], ◌∷◌, ◌++◌, length, drop, Option, Some, None, IfSome, subst, sym, ◌∙◌, ap, arith, append_assoc}
 use Rattle.std.proofs.lemmas.List.{append-nil}
 use Rattle.mas_types.specs.declared.ids.Dev.TheVariants.{Ckpt1, Ckpt2}
-use Rattle.spool_disk.specs.View.{View, World, Line, disk_at, disk_now}
-use Rattle.spool_disk.specs.Acts.{top}
+use Rattle.spool_plant.specs.View.{View, World, Line, disk_at, disk_now}
+use Rattle.spool_plant.specs.Acts.{top}
 use Rattle.mas_complex.proofs.Passing.{Passes}
 use Rattle.ckpt_copy.specs.Moments.{either_way}
 use Rattle.mas_types.specs.declared.ids.MemberId.{MemberId}

@@ -9,7 +9,7 @@ use Rattle.std.proofs.lemmas.List.Elements.{All-nil, All-cons, All-tail, All-hea
 use Rattle.mas_types.specs.declared.ids.Page.{Page}
 use Rattle.mas_types.specs.Limits.{page_bytes}
 use Rattle.ckpt_copy.specs.Pages.{bytes_of, level, page_in, ArePages, Covers}
-use Rattle.ckpt_pages.specs.Shape.{level_in}
+use Rattle.ckpt_tables.specs.Shape.{level_in}
 use Rattle.mas_complex.specs.Fits.{differ_at, first_page, found_numbers, is_found_at, numbers_from}
 
 -- the numbers from page p on

@@ -9,9 +9,9 @@ use Rattle.mas_types.specs.declared.ids.Page.{Page}
 use Rattle.mas_types.specs.Limits.{page_bytes}
 use Rattle.lay_bytes.specs.Fields.{piece}
 use Rattle.ckpt_copy.specs.Pages.{bytes_of}
-use Rattle.ckpt_pages.specs.declared.tables.Tables.{Tables}
-use Rattle.ckpt_pages.specs.Shape.{HasSpelling}
-use Rattle.ckpt_pages.specs.Pages.{Spell, page_in}
+use Rattle.ckpt_tables.specs.declared.tables.Tables.{Tables}
+use Rattle.ckpt_tables.specs.Shape.{HasSpelling}
+use Rattle.ckpt_tables.specs.Pages.{Spell, page_in}
 use Rattle.mas_complex.specs.Crash.{next_order}
 
 -- it stands in the first page

@@ -15,7 +15,7 @@ use Rattle.mas_types.specs.Queue.{output_at}
 use Rattle.mas_types.specs.Sound.{IsSound}
 use Rattle.lock_cycle.specs.Books.{Book}
 use Rattle.queue_laws.specs.Runs.{IsGiven}
-use Rattle.spool_disk.specs.View.{View}
+use Rattle.spool_plant.specs.View.{View}
 use Rattle.paper_laws.specs.Counts.{Counts, none_printed, AreAllowed, counts_after}
 use Rattle.paper_laws.specs.Paper.{AreLinesOn, mark_of, printed_at}
 use Rattle.paper_laws.proofs.Marked.{marks_answer}

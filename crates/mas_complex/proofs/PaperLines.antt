@@ -16,10 +16,10 @@ use Rattle.mas_types.specs.Printed.{printed_line}
 use Rattle.mas_types.specs.Sound.{IsSound}
 use Rattle.lock_cycle.specs.Books.{Book, is_stopped, after_stop}
 use Rattle.queue_laws.specs.Runs.{IsGiven}
-use Rattle.spool_disk.specs.View.{View, World, Line, paper_now}
-use Rattle.spool_disk.specs.Acts.{Goes, Prints, Said, SamePaper, Rose, next, top}
-use Rattle.spool_disk.specs.declared.plant.Act.{Act}
-use Rattle.spool_disk.specs.declared.plant.Act.TheVariants.{Done, Failed, Halted}
+use Rattle.spool_plant.specs.View.{View, World, Line, paper_now}
+use Rattle.spool_plant.specs.Acts.{Goes, Prints, Said, SamePaper, Rose, next, top}
+use Rattle.spool_plant.specs.declared.plant.Act.{Act}
+use Rattle.spool_plant.specs.declared.plant.Act.TheVariants.{Done, Failed, Halted}
 use Rattle.paper_laws.specs.Counts.{one_more}
 use Rattle.paper_laws.specs.Paper.{AreLinesOn, AreMarksOn}
 use Rattle.paper_laws.specs.Next.{IsNextLine, MayPrint}

@@ -19,8 +19,8 @@ use Rattle.mas_types.specs.Printed.{printed_line}
 use Rattle.mas_types.specs.Sound.{IsSound}
 use Rattle.lock_cycle.specs.Books.{Book, is_stopped}
 use Rattle.queue_laws.specs.Runs.{IsGiven}
-use Rattle.spool_disk.specs.View.{View, World, Line}
-use Rattle.spool_disk.specs.Acts.{Goes, SamePaper, next}
+use Rattle.spool_plant.specs.View.{View, World, Line}
+use Rattle.spool_plant.specs.Acts.{Goes, SamePaper, next}
 use Rattle.mas_complex.proofs.Passing.{Passes, passes_of}
 use Rattle.paper_laws.specs.Counts.{Counts, begins_anew, counts_anew, counts_after, AreAllowed}
 use Rattle.paper_laws.specs.Paper.{AreLinesOn, AreMarksOn}

@@ -3,7 +3,7 @@ use Rattle.std.proofs.Common.{◌≡◌, ⊎_elim, ◌||◌, ℕ, true, List, Op
 use Rattle.std.proofs.lemmas.Bool.{or_cases}
 use Rattle.mas_types.specs.declared.ids.Dev.TheVariants.{Ckpt1, Ckpt2}
 use Rattle.mas_types.specs.declared.journals.Batch.{Batch}
-use Rattle.spool_disk.specs.View.{View, Disk, disk_now}
+use Rattle.spool_plant.specs.View.{View, Disk, disk_now}
 use Rattle.ckpt_places.specs.declared.places.Place.TheVariants.{Before}
 use Rattle.mas_complex.specs.Journals.{kept_all}
 use Rattle.mas_complex.specs.Crash.{Setting, Copy, Keeps}

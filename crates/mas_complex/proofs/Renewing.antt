@@ -7,12 +7,12 @@ use Rattle.mas_types.specs.declared.ids.Dev.{Dev}
 use Rattle.mas_types.specs.declared.ids.Dev.TheVariants.{Ckpt1, Ckpt2, Spool}
 use Rattle.mas_types.specs.declared.journals.Batch.{Batch}
 use Rattle.mas_types.specs.declared.journals.Entry.{Entry}
-use Rattle.spool_disk.specs.View.{View, Disk, Avoids, IsImage, disk_at, disk_now, slice}
-use Rattle.spool_disk.specs.Acts.{top}
+use Rattle.spool_plant.specs.View.{View, Disk, Avoids, IsImage, disk_at, disk_now, slice}
+use Rattle.spool_plant.specs.Acts.{top}
 use Rattle.ckpt_copy.specs.Moments.{either_way}
 use Rattle.ckpt_copy.specs.Reading.{AllRead}
-use Rattle.spool_disk.specs.declared.plant.Part.{Part}
-use Rattle.spool_disk.specs.declared.plant.Part.TheVariants.{Disk as DiskPart}
+use Rattle.spool_plant.specs.declared.plant.Part.{Part}
+use Rattle.spool_plant.specs.declared.plant.Part.TheVariants.{Disk as DiskPart}
 use Rattle.duplex_pair.specs.Halves.{IsCkpt, IsBothLost, SameOrLost, pick, other}
 use Rattle.duplex_pair.specs.declared.replacing.ReplaceNo.{ReplaceNo}
 use Rattle.duplex_pair.specs.declared.replacing.ReplaceNo.TheVariants.{NotLost, BothLost, Failed, Halted, NoMemory}
@@ -474,6 +474,7 @@ replaces_none by dev v = record {
   stops = λ m. le_refl (v.stops m);
   else_lost = λ p ne. refl;
   halted = λ is. absurd (cc);
+  at_halt = λ is. absurd (cc);
   not_operator = λ is. absurd (cc);
   no_other_stop = λ m why. refl;
   loses = λ d. refl;

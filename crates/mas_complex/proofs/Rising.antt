@@ -5,8 +5,8 @@ use Rattle.mas_types.specs.declared.journals.Batch.{Batch}
 use Rattle.mas_types.specs.declared.journals.Entry.{Entry}
 use Rattle.mas_types.specs.declared.journals.Fate.TheVariants.{Kept}
 use Rattle.mas_types.specs.Journal.{is_kept}
-use Rattle.spool_disk.specs.View.{View, World, Disk, disk_at}
-use Rattle.spool_disk.specs.Acts.{top}
+use Rattle.spool_plant.specs.View.{View, World, Disk, disk_at}
+use Rattle.spool_plant.specs.Acts.{top}
 use Rattle.mas_complex.proofs.Passing.{Passes}
 use Rattle.ckpt_copy.specs.Moments.{either_way}
 use Rattle.ckpt_copy.specs.Pages.{level}

@@ -7,9 +7,9 @@ use Rattle.mas_types.specs.declared.ids.MemberId.{MemberId}
 use Rattle.mas_types.specs.declared.journals.Batch.{Batch}
 use Rattle.mas_types.specs.declared.journals.Entry.{Entry}
 use Rattle.mas_types.specs.Journal.{is_kept}
-use Rattle.spool_disk.specs.declared.plant.Act.{Act}
-use Rattle.spool_disk.specs.declared.plant.Act.TheVariants.{Done, Failed, Halted}
-use Rattle.spool_disk.specs.Acts.{top}
+use Rattle.spool_plant.specs.declared.plant.Act.{Act}
+use Rattle.spool_plant.specs.declared.plant.Act.TheVariants.{Done, Failed, Halted}
+use Rattle.spool_plant.specs.Acts.{top}
 use Rattle.mas_complex.specs.Journals.{kept_all, entries_reserved, entries_most, journal_most, AreFew, IsPlace, EndsInPlace, HasPlace, with_last, without_last}
 use Rattle.mas_complex.specs.Locking.{is_of_member, reserved_after_stop}
 use Rattle.mas_complex.specs.Paper.{reserved_by}

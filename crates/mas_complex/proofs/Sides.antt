@@ -4,8 +4,8 @@ use Rattle.std.proofs.lemmas.List.{append-nil}
 use Rattle.std.proofs.lemmas.Bool.{true≢false}
 use Rattle.mas_types.specs.declared.ids.Dev.{Dev}
 use Rattle.mas_types.specs.declared.ids.Dev.TheVariants.{Ckpt1, Ckpt2, Spool}
-use Rattle.spool_disk.specs.View.{View, Disk, Avoids, IsImage, disk_now, slice}
-use Rattle.spool_disk.specs.Acts.{Goes, top}
+use Rattle.spool_plant.specs.View.{View, Disk, Avoids, IsImage, disk_now, slice}
+use Rattle.spool_plant.specs.Acts.{Goes, top}
 use Rattle.ckpt_copy.specs.Reading.{AllRead, EachReads}
 use Rattle.ckpt_copy.specs.Pages.{level, Covers}
 use Rattle.duplex_pair.specs.Both.{Touched}

@@ -8,9 +8,9 @@ use Rattle.mas_types.specs.declared.ids.Dev.TheVariants.{Ckpt1, Ckpt2, Spool}
 use Rattle.mas_types.specs.declared.journals.Batch.{Batch}
 use Rattle.mas_types.specs.declared.journals.Entry.{Entry}
 use Rattle.mas_types.specs.Limits.{page_bytes}
-use Rattle.spool_disk.specs.declared.plant.Act.{Act}
-use Rattle.spool_disk.specs.View.{View, Disk, disk_at, disk_now}
-use Rattle.spool_disk.specs.Acts.{Goes, OnDevice, Syncs, LosesThere, next}
+use Rattle.spool_plant.specs.declared.plant.Act.{Act}
+use Rattle.spool_plant.specs.View.{View, Disk, disk_at, disk_now}
+use Rattle.spool_plant.specs.Acts.{Goes, OnDevice, Syncs, LosesThere, next}
 use Rattle.ckpt_copy.specs.Reading.{AllRead}
 use Rattle.track_groups.specs.Laws.{AreItsOwn}
 use Rattle.spool_volumes.specs.Volumes.{volume_of, start_of}

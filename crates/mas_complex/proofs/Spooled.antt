@@ -17,10 +17,10 @@ use Rattle.mas_types.specs.declared.ids.Page.{Page}
 use Rattle.mas_types.specs.declared.ids.Dev.TheVariants.{Spool}
 use Rattle.std.proofs.Math.Nat.{div-add-mod}
 use Rattle.std.proofs.lemmas.Bool.{true≢false, eqb-true, eqb-false}
-use Rattle.spool_disk.specs.declared.plant.Act.{Act}
-use Rattle.spool_disk.specs.declared.plant.Act.TheVariants.{Done, Failed, Halted}
-use Rattle.spool_disk.specs.View.{View, Disk, Stretch, Apart, Avoids, disk_now, slice}
-use Rattle.spool_disk.specs.Acts.{Dirtied, DirtiedIn, Untouched, Written, ReadBy, Synced, OnDevice}
+use Rattle.spool_plant.specs.declared.plant.Act.{Act}
+use Rattle.spool_plant.specs.declared.plant.Act.TheVariants.{Done, Failed, Halted}
+use Rattle.spool_plant.specs.View.{View, Disk, Stretch, Apart, Avoids, disk_now, slice}
+use Rattle.spool_plant.specs.Acts.{Dirtied, DirtiedIn, Untouched, Written, ReadBy, Synced, OnDevice}
 use Rattle.ckpt_copy.specs.Moments.{either_way}
 use Rattle.ckpt_copy.specs.Slices.{stretch, slice_apart}
 use Rattle.track_groups.specs.Groups.{is_things, groups_where}

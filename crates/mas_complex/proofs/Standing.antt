@@ -16,9 +16,9 @@ use Rattle.lock_cycle.specs.declared.answers.SeizeNo.{SeizeNo}
 use Rattle.lock_cycle.specs.declared.answers.SeizeNo.TheVariants as seized
 use Rattle.lock_cycle.specs.Books.{Book, IsMember, is_stopped, is_holder, granted, ticked, try_refusal, after_try, after_free, after_stop, seize_refusal, after_seize, after_spend, is_dormant, wakes}
 use Rattle.paper_laws.proofs.Bools.{same_member_is}
-use Rattle.spool_disk.specs.View.{View}
-use Rattle.spool_disk.specs.declared.plant.Act.{Act}
-use Rattle.spool_disk.specs.declared.plant.Act.TheVariants.{Done, Failed, Halted}
+use Rattle.spool_plant.specs.View.{View}
+use Rattle.spool_plant.specs.declared.plant.Act.{Act}
+use Rattle.spool_plant.specs.declared.plant.Act.TheVariants.{Done, Failed, Halted}
 use Rattle.mas_complex.specs.Journals.{AreSettled, EndsInPlace, fated, with_last, without_last}
 use Rattle.mas_complex.specs.Crash.{Copy, Keeps, Setting}
 use Rattle.mas_complex.specs.Locking.{IsOperatorAway}

@@ -6,7 +6,7 @@ use Rattle.mas_types.specs.declared.journals.Batch.{Batch}
 use Rattle.mas_types.specs.declared.journals.Entry.{Entry}
 use Rattle.mas_types.specs.declared.journals.Fate.TheVariants.{Flying}
 use Rattle.mas_types.specs.Journal.{is_kept, is_flying}
-use Rattle.spool_disk.specs.View.{View, World, Disk, disk_at, disk_now}
+use Rattle.spool_plant.specs.View.{View, World, Disk, disk_at, disk_now}
 use Rattle.ckpt_copy.specs.Moments.{either_way}
 use Rattle.mas_complex.proofs.Passing.{Passes}
 use Rattle.mas_complex.specs.Texts.{spools_at, lost_now, HasTexts}

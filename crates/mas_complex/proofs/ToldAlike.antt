@@ -1,7 +1,7 @@
 -- Pages that stand for one queue stand for another that is told alike.
 use Rattle.std.proofs.Common.{ℕ, List}
 use Rattle.mas_types.specs.declared.queues.Queue.{Queue}
-use Rattle.queue_tables.specs.Telling.{AreToldAlike}
+use Rattle.queue_telling.specs.Telling.{AreToldAlike}
 use Rattle.mas_complex.specs.Meaning.{StandFor}
 
 pub stand_alike : (Q R : Queue) (pages : List ℕ) → AreToldAlike Q R → StandFor Q pages → StandFor R pages

@@ -2,9 +2,9 @@
 use Rattle.std.specs.Prelude.{◌≡◌, ◌≢◌, ◌⊎◌, ℕ, ◌+◌, Bool, true, false}
 use Rattle.mas_types.specs.declared.ids.Dev.{Dev}
 use Rattle.mas_types.specs.declared.ids.Dev.TheVariants.{Ckpt1, Ckpt2, Spool}
-use Rattle.spool_disk.specs.declared.plant.Part.TheVariants.{Disk as DiskPart}
-use Rattle.spool_disk.specs.View.{View}
-use Rattle.spool_disk.specs.Acts.{Goes, Rose}
+use Rattle.spool_plant.specs.declared.plant.Part.TheVariants.{Disk as DiskPart}
+use Rattle.spool_plant.specs.View.{View}
+use Rattle.spool_plant.specs.Acts.{Goes, Rose}
 
 -- the calls that lost a copy's device: as many as before, or one more where the copy counted as alive and doesn't any
 -- more
@@ -23,13 +23,14 @@ StandsOrLost dev was is old new =
     × (was ≡ true → is ≡ false → new.lost (DiskPart dev) ≡ true)
 
 -- Which copies counted as alive before the call and count so after it, and whether the member was stopped in it: nobody
--- else is stopped, nothing is armed, and no device is lost by a call but that of a copy, once. Each volume is lost where it
--- was, and no fault of it is counted.
+-- else is stopped, and its stop is the last act; nothing is armed, and no device is lost by a call but that of a copy,
+-- once. Each volume is lost where it was, and no fault of it is counted.
 pub record KeepsCounts (by : ℕ) (was1 is1 was2 is2 stopped : Bool) (old new : View) : Type 0 where
   pub goes : Goes old new
   pub alive1 : is1 ≡ true → was1 ≡ true
   pub alive2 : is2 ≡ true → was2 ≡ true
   pub no_other_stop : (m : ℕ) → (m ≢ by) ⊎ (stopped ≡ false) → new.stops m ≡ old.stops m
+  pub at_halt : stopped ≡ true → new.halt ≡ new.now
   pub arms : (m : ℕ) → new.arms m ≡ old.arms m
   pub once1 : IsLostOnce was1 is1 (old.loses Ckpt1) (new.loses Ckpt1)
   pub once2 : IsLostOnce was2 is2 (old.loses Ckpt2) (new.loses Ckpt2)

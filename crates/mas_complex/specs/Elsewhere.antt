@@ -1,7 +1,7 @@
 -- What calls on the copies leave as it was.
 use Rattle.std.specs.Prelude.{◌≡◌, ◌≢◌}
 use Rattle.mas_types.specs.declared.ids.Dev.{Dev}
-use Rattle.spool_disk.specs.View.{View, disk_at, disk_now, Throughout}
+use Rattle.spool_plant.specs.View.{View, disk_at, disk_now, Throughout}
 use Rattle.mas_complex.specs.Kept.{OnlyOnCopies}
 use Rattle.mas_complex.specs.Paper.{SamePapers}
 

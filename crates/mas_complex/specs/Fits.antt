@@ -5,7 +5,7 @@ use Rattle.mas_types.specs.declared.ids.Page.{Page}
 use Rattle.ckpt_places.specs.declared.places.Place.{Place}
 use Rattle.ckpt_places.specs.declared.places.Place.TheVariants.{Before}
 use Rattle.ckpt_copy.specs.Pages.{bytes_of, level}
-use Rattle.ckpt_pages.specs.Shape.{level_in}
+use Rattle.ckpt_tables.specs.Shape.{level_in}
 
 -- two copies' pages are equal, page by page
 abbrev pub are_same : List Page → List Page → Bool

@@ -9,8 +9,8 @@ use Rattle.mas_types.specs.declared.answers.Closing.{Closing}
 use Rattle.mas_types.specs.Journal.{kept_at, flying_at}
 use Rattle.mas_types.specs.Sound.{IsSound}
 use Rattle.mas_types.specs.Closings.{closing_line}
-use Rattle.spool_disk.specs.View.{View, Disk, Line, Throughout, LeavesOnly, disk_at}
-use Rattle.spool_disk.specs.Acts.{top}
+use Rattle.spool_plant.specs.View.{View, Disk, Line, Throughout, LeavesOnly, disk_at}
+use Rattle.spool_plant.specs.Acts.{top}
 use Rattle.ckpt_copy.specs.Pages.{level}
 use Rattle.duplex_pair.specs.Finds.{best}
 use Rattle.mas_complex.specs.Meaning.{run, StandFor, is_telling}

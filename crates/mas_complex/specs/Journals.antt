@@ -8,7 +8,7 @@ use Rattle.mas_types.specs.declared.journals.Fate.{Fate}
 use Rattle.mas_types.specs.declared.journals.Fate.TheVariants.{Kept, Dropped, Flying}
 use Rattle.mas_types.specs.Ids.{same_member}
 use Rattle.mas_types.specs.Journal.{is_kept, is_flying, is_kept_by, is_flying_at}
-use Rattle.spool_disk.specs.Acts.{top}
+use Rattle.spool_plant.specs.Acts.{top}
 
 -- what a batch adds to the kept entries of a moment, and to those in flight
 abbrev pub kept_of : Batch → ℕ → List Entry

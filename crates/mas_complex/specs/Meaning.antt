@@ -8,7 +8,7 @@ use Rattle.mas_types.specs.declared.answers.Closing.TheVariants as closing
 use Rattle.mas_types.specs.Limits.{page_bytes}
 use Rattle.mas_types.specs.Closings.{closing_line}
 use Rattle.ckpt_copy.specs.Pages.{bytes_of}
-use Rattle.queue_tables.specs.Telling.{PagesTell}
+use Rattle.queue_telling.specs.Telling.{PagesTell}
 pub use Rattle.mas_types.specs.Run.{run, replies}
 pub use Rattle.mas_types.specs.Step.{step}
 

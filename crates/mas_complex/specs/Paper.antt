@@ -14,9 +14,9 @@ use Rattle.mas_types.specs.Sound.{IsSound}
 use Rattle.mas_types.specs.Limits.{members_most}
 use Rattle.lock_cycle.specs.Books.{Book, is_stopped, after_stop}
 use Rattle.queue_laws.specs.Runs.{IsGiven}
-use Rattle.spool_disk.specs.View.{View, Line, Throughout}
-use Rattle.spool_disk.specs.declared.plant.Act.{Act}
-use Rattle.spool_disk.specs.declared.plant.Act.TheVariants.{Done, Halted}
+use Rattle.spool_plant.specs.View.{View, Line, Throughout}
+use Rattle.spool_plant.specs.declared.plant.Act.{Act}
+use Rattle.spool_plant.specs.declared.plant.Act.TheVariants.{Done, Halted}
 use Rattle.paper_laws.specs.Counts.{Counts, begins_anew, AreAllowed}
 use Rattle.paper_laws.specs.Paper.{AreLinesOn, AreMarksOn, AreMarkedLinesOn}
 use Rattle.paper_laws.specs.Next.{IsNextLine}

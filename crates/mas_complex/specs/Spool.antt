@@ -9,9 +9,9 @@ use Rattle.mas_types.specs.declared.queues.Config.{Config}
 use Rattle.mas_types.specs.declared.queues.Owner.TheVariants as owner
 use Rattle.mas_types.specs.declared.queues.Queue.{Queue}
 use Rattle.mas_types.specs.Limits.{page_bytes}
-use Rattle.spool_disk.specs.View.{View}
-use Rattle.spool_disk.specs.declared.plant.Act.{Act}
-use Rattle.spool_disk.specs.Acts.{Reads, Writes}
+use Rattle.spool_plant.specs.View.{View}
+use Rattle.spool_plant.specs.declared.plant.Act.{Act}
+use Rattle.spool_plant.specs.Acts.{Reads, Writes}
 use Rattle.spool_volumes.specs.Volumes.{volume_of, start_of}
 
 -- the volume of the stream of jobs that were offloaded

@@ -1,12 +1,12 @@
 //! Stops that are armed.
 ghost use Rattle.std.specs.Prelude.{◌≡◌};
-ghost use Rattle.spool_disk.specs.Acts.{Arms};
+ghost use Rattle.spool_plant.specs.Acts.{Arms};
 ghost use Rattle.mas_complex.specs.Parts.{parts_of};
 
 use crate::complex::Complex;
 use ckpt_form::Steady;
 use mas_types::MemberId;
-use spool_disk::{Fuse, Plant};
+use spool_plant::{Fuse, Plant};
 
 impl<P: Plant + Drop, C: Steady + Drop> Complex<P, C> {
     /// Arms a stop of a member: its `n`-th act from now, or its `n`-th print, is to halt, where the plant can halt

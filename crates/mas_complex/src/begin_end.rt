@@ -1,9 +1,9 @@
 //! A shared value is made, and hands out what it has at its end.
 ghost use Rattle.std.specs.Prelude.{◌≡◌, ◌≤◌, [], None, true, false};
 ghost use Rattle.mas_types.specs.declared.ids.Dev.TheVariants.{Ckpt1, Ckpt2};
-ghost use Rattle.spool_disk.specs.View.{View};
-ghost use Rattle.spool_disk.specs.Acts.{top, Goes};
-ghost use Rattle.spool_disk.specs.declared.plant.Part.TheVariants.{Disk};
+ghost use Rattle.spool_plant.specs.View.{View};
+ghost use Rattle.spool_plant.specs.Acts.{top, Goes};
+ghost use Rattle.spool_plant.specs.declared.plant.Part.TheVariants.{Disk};
 ghost use Rattle.ckpt_copy.specs.Pages.{level};
 ghost use Rattle.ckpt_places.specs.declared.places.Place.TheVariants.{Before as AtBefore};
 ghost use Rattle.mas_complex.specs.Journals.{end_of};
@@ -23,7 +23,7 @@ use ckpt_places::Place;
 use duplex_pair::Pair;
 use lock_cycle::LockBook;
 use mas_types::{Config, Journal, List, MEMBERS_MOST, Queue};
-use spool_disk::Plant;
+use spool_plant::Plant;
 use std::alloc::Global;
 
 impl<P: Plant + Drop, C: Steady + Drop> Complex<P, C> {

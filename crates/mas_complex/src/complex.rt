@@ -1,7 +1,7 @@
 //! The shared value.
 ghost use Rattle.std.specs.Prelude.{◌≡◌, ◌≢◌, ◌≤◌, ◌++◌, length, true, false, Some, IsSome};
 ghost use Rattle.mas_types.specs.declared.ids.Dev.TheVariants.{Ckpt1, Ckpt2};
-ghost use Rattle.spool_disk.specs.declared.plant.Part.TheVariants.{Disk};
+ghost use Rattle.spool_plant.specs.declared.plant.Part.TheVariants.{Disk};
 ghost use Rattle.ckpt_copy.specs.Pages.{level};
 ghost use Rattle.mas_types.specs.declared.journals.Batch.{Batch};
 ghost use Rattle.lock_cycle.specs.Books.{is_stopped};
@@ -21,7 +21,7 @@ use ckpt_places::Place;
 use duplex_pair::Pair;
 use lock_cycle::LockBook;
 use mas_types::{Batch, Entry, Journal, List, Queue};
-use spool_disk::Plant;
+use spool_plant::Plant;
 
 /// What a shared value hands out at its end.
 #[derive(Drop)]

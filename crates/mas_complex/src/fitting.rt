@@ -3,7 +3,7 @@ ghost use Rattle.std.specs.Prelude.{◌≡◌, ◌+◌, ◌≤◌, ◌<◌, ◌+
 ghost use Rattle.mas_types.specs.Limits.{pages_most};
 ghost use Rattle.mas_complex.specs.Fits.{are_same, differ_at, first_page, found_numbers, fits as fits_spec};
 
-use ckpt_pages::level_of;
+use ckpt_tables::level_of;
 use duplex_pair::pages_level;
 use lay_bytes::is_same_page;
 use mas_types::Page;

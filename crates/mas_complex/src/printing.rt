@@ -3,9 +3,9 @@ ghost use Rattle.std.specs.Prelude.{◌≡◌, ◌+◌, ◌≤◌, ◌<◌, fals
 ghost use Rattle.mas_types.specs.Limits.{members_most, printer_lines_most};
 ghost use Rattle.mas_types.specs.Sound.{IsSound};
 ghost use Rattle.lock_cycle.specs.Books.{IsMember, is_stopped};
-ghost use Rattle.spool_disk.specs.Acts.{Acts, Prints};
-ghost use Rattle.spool_disk.specs.declared.plant.Act.TheVariants.{Done as ActDone};
-ghost use Rattle.spool_disk.specs.declared.plant.Part.TheVariants.{Printer};
+ghost use Rattle.spool_plant.specs.Acts.{Acts, Prints};
+ghost use Rattle.spool_plant.specs.declared.plant.Act.TheVariants.{Done as ActDone};
+ghost use Rattle.spool_plant.specs.declared.plant.Part.TheVariants.{Printer};
 ghost use Rattle.paper_laws.specs.Next.{MayPrint};
 ghost use Rattle.paper_laws.specs.Paper.{AreLinesOn};
 ghost use Rattle.mas_complex.specs.Journals.{entries_in, kept_all};
@@ -19,7 +19,7 @@ use crate::locking::give_up_after_stop;
 use ckpt_form::Steady;
 use lock_cycle::LockBook;
 use mas_types::{Entry, List, MemberId};
-use spool_disk::{Act, Plant};
+use spool_plant::{Act, Plant};
 
 // A line that was printed is counted.
 fn count_line(printed: &mut [u32; COUNTS], by: MemberId, done: Act)

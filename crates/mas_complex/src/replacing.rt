@@ -2,9 +2,9 @@
 ghost use Rattle.std.specs.Prelude.{◌≡◌, ◌⊎◌, ◌≤◌, ◌<◌, ◌&&◌, not, Some, None, length, true, false, OnOk, OnErr, IsErrOf};
 ghost use Rattle.mas_types.specs.declared.ids.Dev.TheVariants.{Ckpt1, Ckpt2};
 ghost use Rattle.mas_types.specs.Limits.{pages_least, pages_most};
-ghost use Rattle.spool_disk.specs.View.{disk_now};
-ghost use Rattle.spool_disk.specs.Acts.{Rose, top};
-ghost use Rattle.spool_disk.specs.declared.plant.Part.TheVariants.{Disk};
+ghost use Rattle.spool_plant.specs.View.{disk_now};
+ghost use Rattle.spool_plant.specs.Acts.{Rose, top};
+ghost use Rattle.spool_plant.specs.declared.plant.Part.TheVariants.{Disk};
 ghost use Rattle.ckpt_copy.specs.Pages.{bytes_of};
 ghost use Rattle.duplex_pair.specs.declared.replacing.ReplaceNo.TheVariants.{NotLost, BothLost, Failed, Halted};
 ghost use Rattle.duplex_pair.specs.Halves.{IsCkpt, pick, other, IsBothLost};
@@ -22,7 +22,7 @@ use ckpt_form::Steady;
 use ckpt_places::Place;
 use duplex_pair::ReplaceNo;
 use mas_types::{Dev, MemberId, NoMemory, Page};
-use spool_disk::Plant;
+use spool_plant::Plant;
 
 impl<P: Plant + Drop, C: Steady + Drop> Complex<P, C> {
     // Neither copy counts as alive.

@@ -3,7 +3,7 @@ ghost use Rattle.std.specs.Prelude.{◌≡◌, ◌≤◌, ◌^◌, ◌++◌, [],
 ghost use Rattle.mas_types.specs.declared.journals.Batch.{Batch};
 ghost use Rattle.mas_types.specs.declared.journals.Entry.{Entry};
 ghost use Rattle.mas_types.specs.declared.journals.Fate.TheVariants.{Kept as FateKept};
-ghost use Rattle.queue_tables.specs.Telling.{AreToldAlike};
+ghost use Rattle.queue_telling.specs.Telling.{AreToldAlike};
 ghost use Rattle.ckpt_places.specs.declared.places.Place.TheVariants.{Before as AtBefore};
 ghost use Rattle.mas_complex.specs.Journals.{kept_all, entries_reserved, begun, fated, IsPlace, with_last, without_last};
 ghost use Rattle.mas_complex.specs.Meaning.{run};
@@ -19,7 +19,7 @@ use crate::counts::count_anew;
 use crate::journal_end::{drop_last, empty_place, push_place, set_last};
 use ckpt_form::Steady;
 use mas_types::{Batch, Entry, Fate, List, MemberId, NoMemory};
-use spool_disk::Plant;
+use spool_plant::Plant;
 use std::alloc::Global;
 
 // A batch has at most so many entries.

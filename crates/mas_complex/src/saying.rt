@@ -2,9 +2,9 @@
 ghost use Rattle.std.specs.Prelude.{◌≡◌, ◌++◌, ℕ};
 ghost use Rattle.mas_types.specs.declared.ids.MemberId.{MemberId};
 ghost use Rattle.mas_types.specs.declared.ids.Dev.{Dev};
-ghost use Rattle.spool_disk.specs.View.{disk_now};
-ghost use Rattle.spool_disk.specs.Acts.{Acts, Says};
-ghost use Rattle.spool_disk.specs.declared.plant.Part.TheVariants.{Console};
+ghost use Rattle.spool_plant.specs.View.{disk_now};
+ghost use Rattle.spool_plant.specs.Acts.{Acts, Says};
+ghost use Rattle.spool_plant.specs.declared.plant.Part.TheVariants.{Console};
 ghost use Rattle.mas_complex.specs.Journals.{in_flight, StepIsKept};
 ghost use Rattle.mas_complex.specs.Meaning.{Closes};
 ghost use Rattle.mas_complex.specs.Locking.{IsUp};
@@ -13,7 +13,7 @@ ghost use Rattle.mas_complex.specs.Parts.{parts_of};
 use crate::complex::Complex;
 use ckpt_form::Steady;
 use mas_types::MemberId;
-use spool_disk::{Act, Plant};
+use spool_plant::{Act, Plant};
 
 impl<P: Plant + Drop, C: Steady + Drop> Complex<P, C> {
     /// Says a line on the console, of a member that isn't stopped. One that tells a step may be said once each entry of

@@ -3,8 +3,8 @@ ghost use Rattle.std.specs.Prelude.{◌≡◌, ◌++◌, All, None, length, true
 ghost use Rattle.mas_types.specs.declared.ids.Dev.{Dev};
 ghost use Rattle.mas_types.specs.Fit.{IsConfig};
 ghost use Rattle.mas_types.specs.Limits.{page_bytes};
-ghost use Rattle.ckpt_pages.specs.Shape.{page_count as page_count_lem};
-ghost use Rattle.spool_disk.specs.View.{View, disk_now};
+ghost use Rattle.ckpt_tables.specs.Shape.{page_count as page_count_lem};
+ghost use Rattle.spool_plant.specs.View.{View, disk_now};
 ghost use Rattle.duplex_pair.specs.Halves.{Acted, IsCkpt, other, pick};
 ghost use Rattle.duplex_pair.specs.Looks.{HasRoom, WasSeen};
 ghost use Rattle.duplex_pair.specs.Outcomes.{look_stopped};
@@ -13,18 +13,18 @@ ghost use Rattle.mas_complex.specs.Elsewhere.{OnCopies};
 ghost use Rattle.mas_complex.specs.Journals.{kept_all, entries_in};
 ghost use Rattle.mas_complex.specs.Meaning.{run};
 ghost use Rattle.mas_complex.specs.Parts.{parts_of, with_copy};
-ghost use Rattle.spool_disk.specs.Acts.{Goes, Rose};
-ghost use Rattle.spool_disk.specs.declared.plant.Part.TheVariants.{Disk};
+ghost use Rattle.spool_plant.specs.Acts.{Goes, Rose};
+ghost use Rattle.spool_plant.specs.declared.plant.Part.TheVariants.{Disk};
 ghost use Rattle.duplex_pair.specs.declared.errors.LookNo.TheVariants.{Halted as LookNoHalted};
 ghost use Rattle.mas_complex.specs.Seen.{IfPages, IsPlaceSeen, HasNext, IsOneSeen, ReadsSeen, usable as usable_lem};
 
 use crate::complex::Complex;
 use crate::places::{place_seen, set_place};
 use ckpt_form::Steady;
-use ckpt_pages::{law_of_page_sizes, page_count};
+use ckpt_tables::{law_of_page_sizes, page_count};
 use duplex_pair::{Look, LookNo};
 use mas_types::{Dev, List, MemberId, Page};
-use spool_disk::Plant;
+use spool_plant::Plant;
 use std::alloc::Global;
 
 // What a look at a copy gave, if its pages are as many as they should be; else the copy counts as one that can't be

@@ -2,9 +2,9 @@
 ghost use Rattle.std.specs.Prelude.{◌≡◌, ◌≤◌, ◌<◌, ◌*◌, ◌++◌, length, false};
 ghost use Rattle.mas_types.specs.Limits.{page_bytes};
 ghost use Rattle.mas_types.specs.declared.ids.Dev.TheVariants.{Spool};
-ghost use Rattle.spool_disk.specs.View.{View};
-ghost use Rattle.spool_disk.specs.Acts.{Acts, Syncs};
-ghost use Rattle.spool_disk.specs.declared.plant.Part.TheVariants.{Disk};
+ghost use Rattle.spool_plant.specs.View.{View};
+ghost use Rattle.spool_plant.specs.Acts.{Acts, Syncs};
+ghost use Rattle.spool_plant.specs.declared.plant.Part.TheVariants.{Disk};
 ghost use Rattle.mas_complex.specs.Journals.{kept_all, entries_in};
 ghost use Rattle.mas_complex.specs.Locking.{IsUp};
 ghost use Rattle.mas_complex.specs.Meaning.{run};
@@ -18,7 +18,7 @@ use crate::complex::Complex;
 use ckpt_form::Steady;
 use mas_types::limits::PAGE_BYTES;
 use mas_types::{Dev, GroupNo, MemberId, Page};
-use spool_disk::{Act, Plant};
+use spool_plant::{Act, Plant};
 use track_groups::law_of_places;
 
 /// Worked examples of texts on the volumes.

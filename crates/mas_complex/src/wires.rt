@@ -1,14 +1,14 @@
 //! Bytes on wires.
 ghost use Rattle.std.specs.Prelude.{◌≡◌, length};
-ghost use Rattle.spool_disk.specs.Acts.{Acts, FitsInto, GivesOn, Takes, act_of};
-ghost use Rattle.spool_disk.specs.declared.plant.Part.TheVariants.{Wire};
+ghost use Rattle.spool_plant.specs.Acts.{Acts, FitsInto, GivesOn, Takes, act_of};
+ghost use Rattle.spool_plant.specs.declared.plant.Part.TheVariants.{Wire};
 ghost use Rattle.mas_complex.specs.Locking.{IsUp};
 ghost use Rattle.mas_complex.specs.Parts.{parts_of};
 
 use crate::complex::Complex;
 use ckpt_form::Steady;
 use mas_types::MemberId;
-use spool_disk::{Act, Plant, Took};
+use spool_plant::{Act, Plant, Took};
 
 impl<P: Plant + Drop, C: Steady + Drop> Complex<P, C> {
     /// Gives bytes on a wire, by a member that isn't stopped. Halted and Failed may have given the first of them.

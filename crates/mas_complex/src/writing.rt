@@ -3,8 +3,8 @@ ghost use Rattle.std.specs.Prelude.{◌≡◌, ◌≢◌, ◌+◌, ◌≤◌, �
 ghost use Rattle.mas_types.specs.declared.ids.Dev.{Dev};
 ghost use Rattle.mas_types.specs.declared.journals.Entry.{Entry};
 ghost use Rattle.mas_types.specs.declared.ids.Dev.TheVariants.{Ckpt1, Ckpt2};
-ghost use Rattle.spool_disk.specs.View.{disk_now};
-ghost use Rattle.spool_disk.specs.Acts.{top};
+ghost use Rattle.spool_plant.specs.View.{disk_now};
+ghost use Rattle.spool_plant.specs.Acts.{top};
 ghost use Rattle.ckpt_copy.specs.Pages.{bytes_of, level, ArePages, Covers};
 ghost use Rattle.duplex_pair.specs.declared.errors.PairNo.TheVariants.{BothLost as PairNoBothLost};
 ghost use Rattle.duplex_pair.specs.Halves.{IsCkpt, pick, other, IsBothLost, SomeAlive, Acted};
@@ -29,7 +29,7 @@ use ckpt_form::Steady;
 use ckpt_places::{Place, all_opened};
 use duplex_pair::PairNo;
 use mas_types::{Batch, Dev, Fate, MemberId, Page};
-use spool_disk::Plant;
+use spool_plant::Plant;
 
 impl<P: Plant + Drop, C: Steady + Drop> Complex<P, C> {
     // The next pages, behind the closed gate of one copy.

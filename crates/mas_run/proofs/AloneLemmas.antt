@@ -26,9 +26,9 @@ use Rattle.script_lang.specs.declared.types.Ask.TheVariants as ask
 use Rattle.script_lang.specs.declared.types.Script.{Script}
 use Rattle.script_lang.specs.declared.types.Step.{Step}
 use Rattle.script_laws.specs.Limits.{IsBy, IsStep}
-use Rattle.spool_disk.specs.declared.plant.Part.TheVariants.{Disk}
-use Rattle.spool_disk.specs.View.{View, disk_now}
-use Rattle.spool_disk.specs.Acts.{Rose, next, top}
+use Rattle.spool_plant.specs.declared.plant.Part.TheVariants.{Disk}
+use Rattle.spool_plant.specs.View.{View, disk_now}
+use Rattle.spool_plant.specs.Acts.{Rose, next, top}
 use Rattle.ckpt_form.specs.Form.{form_reads, form_room}
 use Rattle.ckpt_copy.specs.Pages.{bytes_of, level}
 use Rattle.mas_complex.specs.Fits.{are_same, fits}

@@ -1,7 +1,7 @@
 -- A line for which there was no memory: nothing was done, and the run ends in it.
 use Rattle.std.proofs.Common.{◌≡◌, inl, inr, ℕ, List, Result, Err, refl, sym, ap, subst}
 use Rattle.mas_types.specs.declared.ids.MemberId.{MemberId}
-use Rattle.spool_disk.specs.declared.plant.Plant.{Ghosts as PlantGhosts}
+use Rattle.spool_plant.specs.declared.plant.Plant.{Ghosts as PlantGhosts}
 use Rattle.ckpt_copy.specs.declared.copying.Copying.{Ghosts as CopyGhosts}
 use Rattle.ckpt_form.specs.declared.steady.Steady.{Ghosts as SteadyGhosts}
 use Rattle.mas_complex.specs.declared.complex.Complex.{Complex}

@@ -7,9 +7,9 @@ use Rattle.mas_types.specs.declared.journals.Fate.{Fate}
 use Rattle.mas_types.specs.declared.journals.Fate.TheVariants.{Flying}
 use Rattle.mas_types.specs.Closings.{reply_lines}
 use Rattle.script_lang.specs.declared.types.Step.{Step}
-use Rattle.spool_disk.specs.declared.plant.Plant.{Ghosts as PlantGhosts}
-use Rattle.spool_disk.specs.View.{Line, View, paper_now}
-use Rattle.spool_disk.specs.Acts.{Goes, Rose}
+use Rattle.spool_plant.specs.declared.plant.Plant.{Ghosts as PlantGhosts}
+use Rattle.spool_plant.specs.View.{Line, View, paper_now}
+use Rattle.spool_plant.specs.Acts.{Goes, Rose}
 use Rattle.ckpt_copy.specs.declared.copying.Copying.{Ghosts as CopyGhosts}
 use Rattle.mas_complex.specs.Paper.{SamePapers, counts_of}
 use Rattle.mas_complex.specs.Parts.{Parts}
@@ -44,7 +44,7 @@ use Rattle.mas_run.specs.Volumes.{AreVolumesKept}
 use Rattle.mas_run.proofs.LeftLemmas.{if_idle}
 use Rattle.mas_run.proofs.LinesLemmas.{settle_none}
 use Rattle.mas_run.proofs.PassedLemmas.{proceeds_of}
-use Rattle.spool_disk.specs.declared.plant.Part.TheVariants.{Disk}
+use Rattle.spool_plant.specs.declared.plant.Part.TheVariants.{Disk}
 use Rattle.ckpt_copy.specs.Moments.{goes_none}
 use Rattle.member_node.proofs.CourseLemmas.{papers_none}
 use Rattle.member_node.proofs.SpareLemmas.{spares_none}

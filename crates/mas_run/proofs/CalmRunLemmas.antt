@@ -6,9 +6,9 @@ use Rattle.mas_types.specs.declared.ids.MemberId.{MemberId}
 use Rattle.script_lang.specs.declared.types.Ask.{Ask}
 use Rattle.script_lang.specs.declared.types.Ask.TheVariants as ask
 use Rattle.script_lang.specs.declared.types.Step.{Step}
-use Rattle.spool_disk.specs.declared.plant.Part.TheVariants.{Disk, Printer}
-use Rattle.spool_disk.specs.Acts.{Rose}
-use Rattle.spool_disk.specs.View.{View}
+use Rattle.spool_plant.specs.declared.plant.Part.TheVariants.{Disk, Printer}
+use Rattle.spool_plant.specs.Acts.{Rose}
+use Rattle.spool_plant.specs.View.{View}
 use Rattle.member_hand.specs.Cuts.{whole_pieces}
 use Rattle.member_hand.specs.Found.{IsFoundAt, Wait, waits_in}
 use Rattle.member_node.proofs.CourseLemmas.{rose_later, rose_more}

@@ -2,7 +2,7 @@
 use Rattle.std.proofs.Common.{inl, inr, ⊎_elim}
 use Rattle.mas_types.specs.declared.ids.Dev.{Dev}
 use Rattle.mas_types.specs.declared.ids.Dev.TheVariants.{Ckpt1, Ckpt2}
-use Rattle.spool_disk.specs.View.{View}
+use Rattle.spool_plant.specs.View.{View}
 use Rattle.member_node.specs.Calls.{Grows}
 use Rattle.member_node.proofs.CourseLemmas.{rose_grow, grow_rose}
 use Rattle.mas_run.specs.Runs.{HasLost}

@@ -11,11 +11,11 @@ use Rattle.mas_types.specs.Ids.{is_somebody, nobody}
 use Rattle.mas_types.specs.Limits.{steps_most}
 use Rattle.lock_cycle.specs.declared.standings.Standing.{Standing}
 use Rattle.lock_cycle.specs.Books.{Book, IsMember, after_free, beginner, is_holder, is_stopped, noted, standing, with_holder}
-use Rattle.spool_disk.specs.declared.plant.Plant.{Ghosts as PlantGhosts}
-use Rattle.spool_disk.specs.View.{Line, View}
+use Rattle.spool_plant.specs.declared.plant.Plant.{Ghosts as PlantGhosts}
+use Rattle.spool_plant.specs.View.{Line, View}
 use Rattle.ckpt_copy.specs.declared.copying.Copying.{Ghosts as CopyGhosts}
 use Rattle.ckpt_form.specs.declared.steady.Steady.{Ghosts as SteadyGhosts}
-use Rattle.ckpt_pages.specs.Shape.{page_count}
+use Rattle.ckpt_tables.specs.Shape.{page_count}
 use Rattle.mas_complex.specs.declared.complex.Complex.{Complex}
 use Rattle.mas_complex.specs.Locking.{IsOperatorAway}
 use Rattle.mas_complex.specs.Paper.{counts_of}

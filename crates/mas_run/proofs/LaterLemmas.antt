@@ -9,8 +9,8 @@ use Rattle.mas_types.specs.declared.ids.MemberId.{MemberId}
 use Rattle.mas_types.specs.declared.ids.Dev.TheVariants.{Spool}
 use Rattle.mas_types.specs.declared.jobs.Text.{Text}
 use Rattle.mas_types.specs.declared.queues.Queue.{Queue}
-use Rattle.spool_disk.specs.declared.plant.Part.TheVariants.{Disk, Printer}
-use Rattle.spool_disk.specs.View.{View}
+use Rattle.spool_plant.specs.declared.plant.Part.TheVariants.{Disk, Printer}
+use Rattle.spool_plant.specs.View.{View}
 use Rattle.job_outcome.specs.declared.outcomes.Read.{Read}
 use Rattle.job_outcome.specs.declared.outcomes.Read.TheVariants as read
 use Rattle.member_decks.specs.Steps.{IsFoundLost}

@@ -9,7 +9,7 @@ use Rattle.mas_complex.specs.Journals.{AreSettled}
 use Rattle.script_lang.specs.declared.types.Ask.{Ask}
 use Rattle.script_lang.specs.declared.types.Ask.TheVariants as ask
 use Rattle.script_lang.specs.declared.types.Step.{Step}
-use Rattle.spool_disk.specs.View.{View}
+use Rattle.spool_plant.specs.View.{View}
 use Rattle.member_hand.specs.Cuts.{AreBatched, IsBatched as StandsAs}
 use Rattle.member_node.specs.declared.member.NodeNo.{NodeNo}
 use Rattle.run_turns.specs.Sights.{Cause, Cut}

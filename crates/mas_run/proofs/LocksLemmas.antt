@@ -6,11 +6,11 @@ use Rattle.mas_types.specs.declared.ids.MemberId.{MemberId}
 use Rattle.mas_types.specs.declared.queues.Queue.{Queue}
 use Rattle.mas_types.specs.Limits.{steps_most}
 use Rattle.lock_cycle.specs.Books.{Book, IsMember, after_try}
-use Rattle.spool_disk.specs.declared.plant.Plant.{Ghosts as PlantGhosts}
-use Rattle.spool_disk.specs.View.{Disk, Line, View}
+use Rattle.spool_plant.specs.declared.plant.Plant.{Ghosts as PlantGhosts}
+use Rattle.spool_plant.specs.View.{Disk, Line, View}
 use Rattle.ckpt_copy.specs.declared.copying.Copying.{Ghosts as CopyGhosts}
 use Rattle.ckpt_copy.specs.Moments.{goes_on}
-use Rattle.ckpt_pages.specs.Shape.{page_count}
+use Rattle.ckpt_tables.specs.Shape.{page_count}
 use Rattle.mas_complex.specs.Parts.{Parts, with_copies}
 use Rattle.member_node.specs.declared.member.Member.{Member}
 use Rattle.member_lines.specs.Closes.{HasClosed, left_at}

@@ -11,11 +11,11 @@ use Rattle.mas_types.specs.Queue.{is_member}
 use Rattle.queue_laws.proofs.RunLaws.{runs_keep_configuration}
 use Rattle.script_lang.specs.declared.types.Ask.TheVariants as ask
 use Rattle.lock_cycle.specs.Books.{Book, IsMember, after_stop, is_stopped}
-use Rattle.spool_disk.specs.declared.plant.Fuse.{Fuse}
-use Rattle.spool_disk.specs.declared.plant.Part.TheVariants.{Disk}
-use Rattle.spool_disk.specs.declared.plant.Plant.{Ghosts as PlantGhosts}
-use Rattle.spool_disk.specs.View.{View, disk_now}
-use Rattle.spool_disk.specs.Acts.{Loses, Rose}
+use Rattle.spool_plant.specs.declared.plant.Fuse.{Fuse}
+use Rattle.spool_plant.specs.declared.plant.Part.TheVariants.{Disk}
+use Rattle.spool_plant.specs.declared.plant.Plant.{Ghosts as PlantGhosts}
+use Rattle.spool_plant.specs.View.{View, disk_now}
+use Rattle.spool_plant.specs.Acts.{Loses, Rose}
 use Rattle.ckpt_copy.specs.declared.copying.Copying.{Ghosts as CopyGhosts}
 use Rattle.ckpt_form.specs.declared.steady.Steady.{Ghosts as SteadyGhosts}
 use Rattle.duplex_pair.specs.Halves.{IsCkpt, pick}

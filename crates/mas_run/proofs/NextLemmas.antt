@@ -7,8 +7,8 @@ use Rattle.mas_types.specs.Ids.{same_member}
 use Rattle.mas_types.specs.Run.{run}
 use Rattle.lock_cycle.specs.Books.{Book, IsMember, is_stopped}
 use Rattle.paper_laws.proofs.Bools.{same_member_is}
-use Rattle.spool_disk.specs.declared.plant.Plant.{Ghosts as PlantGhosts}
-use Rattle.spool_disk.specs.View.{View}
+use Rattle.spool_plant.specs.declared.plant.Plant.{Ghosts as PlantGhosts}
+use Rattle.spool_plant.specs.View.{View}
 use Rattle.ckpt_copy.specs.declared.copying.Copying.{Ghosts as CopyGhosts}
 use Rattle.mas_complex.specs.Journals.{AreSettled, kept_all}
 use Rattle.mas_complex.specs.Paper.{counts_of}

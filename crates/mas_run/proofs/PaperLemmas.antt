@@ -1,6 +1,6 @@
 -- Printers that keep their lines.
 use Rattle.std.proofs.Common.{◌≡◌, ◌≤◌, ⊎_elim, ℕ, ◌∙◌, ap, arith}
-use Rattle.spool_disk.specs.View.{View, World, Throughout}
+use Rattle.spool_plant.specs.View.{View, World, Throughout}
 use Rattle.ckpt_copy.specs.Meanwhile.{SameSides}
 use Rattle.mas_complex.specs.Paper.{SamePapers}
 use Rattle.mas_run.specs.Lines.{Proceeds}

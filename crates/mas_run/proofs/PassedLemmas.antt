@@ -12,11 +12,11 @@ use Rattle.mas_types.specs.Journal.{is_flying}
 use Rattle.script_lang.specs.declared.types.Step.{Step}
 use Rattle.script_lang.specs.declared.types.Ask.{Ask}
 use Rattle.script_lang.specs.declared.types.Ask.TheVariants as ask
-use Rattle.spool_disk.specs.Acts.{Goes, Rose, next as next_count}
-use Rattle.spool_disk.specs.declared.plant.Fuse.{Fuse}
-use Rattle.spool_disk.specs.declared.plant.Part.TheVariants.{Console}
-use Rattle.spool_disk.specs.declared.plant.Fuse.TheVariants as fuse
-use Rattle.spool_disk.specs.View.{Line, View, World, disk_now, paper_now}
+use Rattle.spool_plant.specs.Acts.{Goes, Rose, next as next_count}
+use Rattle.spool_plant.specs.declared.plant.Fuse.{Fuse}
+use Rattle.spool_plant.specs.declared.plant.Part.TheVariants.{Console}
+use Rattle.spool_plant.specs.declared.plant.Fuse.TheVariants as fuse
+use Rattle.spool_plant.specs.View.{Line, View, World, disk_now, paper_now}
 use Rattle.member_hand.specs.Cuts.{AreBatched, IsBatched as StandsAs}
 use Rattle.ckpt_copy.specs.Changes.{NoMore}
 use Rattle.member_node.specs.Calls.{console_now}

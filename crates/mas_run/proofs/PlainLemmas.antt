@@ -14,12 +14,12 @@ use Rattle.script_lang.specs.declared.types.Ask.TheVariants as ask
 use Rattle.script_lang.specs.declared.types.Step.{Step}
 use Rattle.lock_cycle.specs.Books.{Book, IsMember, after_stop, is_stopped}
 use Rattle.paper_laws.specs.Counts.{Counts}
-use Rattle.spool_disk.specs.Acts.{Arms, Loses, next}
-use Rattle.spool_disk.specs.declared.plant.Fuse.{Fuse}
-use Rattle.spool_disk.specs.declared.plant.Part.{Part}
-use Rattle.spool_disk.specs.declared.plant.Part.TheVariants.{Disk}
-use Rattle.spool_disk.specs.declared.plant.Plant.{Ghosts as PlantGhosts}
-use Rattle.spool_disk.specs.View.{Line, View, disk_now, paper_now}
+use Rattle.spool_plant.specs.Acts.{Arms, Loses, next}
+use Rattle.spool_plant.specs.declared.plant.Fuse.{Fuse}
+use Rattle.spool_plant.specs.declared.plant.Part.{Part}
+use Rattle.spool_plant.specs.declared.plant.Part.TheVariants.{Disk}
+use Rattle.spool_plant.specs.declared.plant.Plant.{Ghosts as PlantGhosts}
+use Rattle.spool_plant.specs.View.{Line, View, disk_now, paper_now}
 use Rattle.ckpt_copy.specs.declared.copying.Copying.{Ghosts as CopyGhosts}
 use Rattle.ckpt_copy.specs.Changes.{NoMore}
 use Rattle.mas_complex.specs.Elsewhere.{Elsewhere}

@@ -11,9 +11,9 @@ use Rattle.mas_types.specs.Lists.{first_some}
 use Rattle.script_lang.specs.declared.types.Script.{Script}
 use Rattle.script_lang.specs.declared.types.Step.{Step}
 use Rattle.script_lang.specs.Script.{Said}
-use Rattle.spool_disk.specs.declared.plant.Part.TheVariants.{Disk}
-use Rattle.spool_disk.specs.View.{View}
-use Rattle.spool_disk.specs.Acts.{Rose}
+use Rattle.spool_plant.specs.declared.plant.Part.TheVariants.{Disk}
+use Rattle.spool_plant.specs.View.{View}
+use Rattle.spool_plant.specs.Acts.{Rose}
 use Rattle.spool_volumes.specs.Volumes.{AreRoomy}
 use Rattle.start_choice.specs.declared.choosing.StartNo.{StartNo}
 use Rattle.start_choice.specs.declared.choosing.StartNo.TheVariants as no_start

@@ -3,10 +3,10 @@ use Rattle.std.proofs.Common.{◌≡◌, ◌≢◌, ◌⊎◌, inl, inr, ⊎_eli
 use Rattle.mas_types.specs.declared.ids.Dev.{Dev}
 use Rattle.mas_types.specs.declared.ids.Dev.TheVariants.{Ckpt1, Ckpt2, Spool}
 use Rattle.mas_types.specs.declared.ids.MemberId.{MemberId}
-use Rattle.spool_disk.specs.declared.plant.Part.{Part}
-use Rattle.spool_disk.specs.declared.plant.Part.TheVariants.{Disk}
-use Rattle.spool_disk.specs.declared.plant.Plant.{Ghosts as PlantGhosts}
-use Rattle.spool_disk.specs.View.{View}
+use Rattle.spool_plant.specs.declared.plant.Part.{Part}
+use Rattle.spool_plant.specs.declared.plant.Part.TheVariants.{Disk}
+use Rattle.spool_plant.specs.declared.plant.Plant.{Ghosts as PlantGhosts}
+use Rattle.spool_plant.specs.View.{View}
 use Rattle.ckpt_copy.specs.declared.copying.Copying.{Ghosts as CopyGhosts}
 use Rattle.duplex_pair.specs.declared.replacing.ReplaceNo.{ReplaceNo}
 use Rattle.duplex_pair.specs.declared.replacing.ReplaceNo.TheVariants as no
@@ -30,7 +30,7 @@ use Rattle.mas_run.specs.Renewing.{Begins, BeginsAndEnds, RenewsBy}
 use Rattle.mas_run.proofs.ClosingLemmas.{HasMerelyActed}
 use Rattle.mas_run.proofs.PlainLemmas.{disk_of, kept_elsewhere, own_dev}
 use Rattle.std.specs.Prelude.{is_none}
-use Rattle.spool_disk.specs.Acts.{top}
+use Rattle.spool_plant.specs.Acts.{top}
 use Rattle.mas_complex.specs.declared.renewals.Renewal.{Renewal}
 use Rattle.mas_complex.specs.declared.renewals.Renewals.{Renewals}
 
@@ -82,6 +82,7 @@ module _ {P C : Type 0} (plants : PlantGhosts P) (by : MemberId) (dev : Dev) (ck
       volumes = λ n. reps.loses (Spool n);
       stops = λ m so. reps.no_other_stop m (⊎_elim inl (λ up. inr (sym same ∙ up)) so);
       operator = λ is. reps.not_operator (sym same ∙ is);
+      at_halt = λ is. reps.at_halt (sym same ∙ is);
     };
     stopped = λ is. reps.halted (sym same ∙ ap stopped_in is);
     failed = λ is. absurd (other is);

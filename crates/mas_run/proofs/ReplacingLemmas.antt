@@ -14,11 +14,11 @@ use Rattle.mas_types.specs.Ids.{nobody}
 use Rattle.mas_types.specs.Limits.{steps_most}
 use Rattle.lock_cycle.specs.declared.standings.Standing.{Standing}
 use Rattle.lock_cycle.specs.Books.{Book, IsMember, after_free, after_spend, after_stop, after_try, beginner, is_holder, is_stopped, left_of as hold_left, noted, standing, with_holder, with_standing}
-use Rattle.spool_disk.specs.declared.plant.Plant.{Ghosts as PlantGhosts}
-use Rattle.spool_disk.specs.View.{Disk, Line, View}
+use Rattle.spool_plant.specs.declared.plant.Plant.{Ghosts as PlantGhosts}
+use Rattle.spool_plant.specs.View.{Disk, Line, View}
 use Rattle.ckpt_copy.specs.declared.copying.Copying.{Ghosts as CopyGhosts}
 use Rattle.ckpt_form.specs.declared.steady.Steady.{Ghosts as SteadyGhosts}
-use Rattle.ckpt_pages.specs.Shape.{page_count}
+use Rattle.ckpt_tables.specs.Shape.{page_count}
 use Rattle.duplex_pair.specs.declared.replacing.ReplaceNo.{ReplaceNo}
 use Rattle.duplex_pair.specs.declared.replacing.ReplaceNo.TheVariants as no
 use Rattle.duplex_pair.specs.Halves.{IsBothLost, IsCkpt}

@@ -15,9 +15,9 @@ use Rattle.mas_types.specs.declared.journals.Journal.{Journal}
 use Rattle.mas_types.specs.declared.queues.Queue.{Queue}
 use Rattle.mas_types.specs.Ids.{nobody, same_member}
 use Rattle.mas_types.specs.Sound.{IsSound}
-use Rattle.spool_disk.specs.Acts.{Goes}
-use Rattle.spool_disk.specs.View.{View, Line, World}
-use Rattle.spool_disk.specs.declared.plant.Part.TheVariants.{Disk as DiskPart}
+use Rattle.spool_plant.specs.Acts.{Goes}
+use Rattle.spool_plant.specs.View.{View, Line, World}
+use Rattle.spool_plant.specs.declared.plant.Part.TheVariants.{Disk as DiskPart}
 use Rattle.ckpt_form.specs.Form.{form_reads}
 use Rattle.duplex_pair.specs.Halves.{SomeAlive}
 use Rattle.mas_complex.specs.Crash.{EachTells, IsUntold, setting}
@@ -25,10 +25,10 @@ use Rattle.mas_complex.specs.Headline.{Headline}
 use Rattle.mas_complex.specs.Renewals.{no_renewals}
 use Rattle.mas_complex.specs.Journals.{AreSettled, fated, has_step, kept_all, with_last}
 use Rattle.mas_complex.specs.Meaning.{Closes, run, step}
-use Rattle.ckpt_pages.specs.declared.tables.Tables.{Tables}
+use Rattle.ckpt_tables.specs.declared.tables.Tables.{Tables}
 use Rattle.queue_effect.specs.Standing.{AreFit}
-use Rattle.queue_tables.specs.Orders.{HaveOrders}
-use Rattle.queue_tables.specs.Telling.{Tell}
+use Rattle.queue_telling.specs.Orders.{HaveOrders}
+use Rattle.queue_telling.specs.Telling.{Tell}
 use Rattle.member_node.specs.declared.checkpoint.Checkpoint.{Checkpoint}
 use Rattle.member_node.specs.Batches.{HasDone}
 use Rattle.member_node.specs.Drawn.{AreDrawn}

@@ -4,12 +4,12 @@ use Rattle.std.specs.Coded.{×_prop, Coded, Coded-set, coded_ℕ, code_by, le_pr
 use Rattle.std.proofs.Math.Logic.{∥∥₁_map, ∥∥₁_elim, ∥∥₁_prop}
 use Rattle.std.proofs.lemmas.Bool.Decides.{nat_tests}
 use Rattle.std.proofs.lemmas.List.Elements.{All-nil}
-use Rattle.ckpt_pages.specs.Shape.{HasShape}
+use Rattle.ckpt_tables.specs.Shape.{HasShape}
 use Rattle.queue_effect.specs.Standing.{AreFit, IsFitJob, IsFitOutput}
 use Rattle.member_node.specs.Calls.{Course, Grows, console_now, IsLeft}
 use Rattle.member_node.specs.Reads.{AreLow, orders_after}
 use Rattle.member_node.proofs.CourseLemmas.{left}
-use Rattle.ckpt_pages.specs.declared.tables.Tables.{Tables}
+use Rattle.ckpt_tables.specs.declared.tables.Tables.{Tables}
 use Rattle.lay_bytes.specs.Used.{used}
 use Rattle.ckpt_pages.specs.Starts.{empty_tables}
 use Rattle.mas_types.specs.declared.ids.Dev.TheVariants.{Ckpt1, Ckpt2, Spool}
@@ -26,14 +26,14 @@ use Rattle.mas_types.specs.Fit.{IsConfig}
 use Rattle.mas_types.specs.Limits.{routes_most}
 use Rattle.mas_types.specs.Sound.{IsSound}
 use Rattle.mas_types.proofs.EmptyQueue.{empty_queue-sound}
-use Rattle.queue_tables.specs.Orders.{HaveOrders}
-use Rattle.queue_tables.specs.Telling.{Tell, TellSound}
+use Rattle.queue_telling.specs.Orders.{HaveOrders}
+use Rattle.queue_telling.specs.Telling.{Tell, TellSound}
 use Rattle.queue_tables.proofs.OrderLemmas.{empty_orders}
 use Rattle.mas_complex.specs.Texts.{HasTexts, Spools}
-use Rattle.spool_disk.specs.View.{View, World, Disk, disk_at, disk_now}
-use Rattle.spool_disk.specs.declared.plant.Part.{Part}
-use Rattle.spool_disk.specs.declared.plant.Part.TheVariants.{Disk as DiskPart, Console, Printer, Wire}
-use Rattle.spool_disk.specs.Acts.{Goes, Rose, top}
+use Rattle.spool_plant.specs.View.{View, World, Disk, disk_at, disk_now}
+use Rattle.spool_plant.specs.declared.plant.Part.{Part}
+use Rattle.spool_plant.specs.declared.plant.Part.TheVariants.{Disk as DiskPart, Console, Printer, Wire}
+use Rattle.spool_plant.specs.Acts.{Goes, Rose, top}
 use Rattle.ckpt_form.specs.Form.{form_reads}
 use Rattle.ckpt_copy.specs.Changes.{NoMore}
 use Rattle.ckpt_copy.specs.Moments.{goes_none, goes_on}
@@ -62,7 +62,7 @@ use Rattle.mas_complex.specs.Meaning.{run}
 use Rattle.std.proofs.lemmas.List.{append-nil}
 use Rattle.mas_run.specs.Statuses.{IsCaused, IsCausedFrom, LeavesLost, status_of}
 use Rattle.std.proofs.Math.Seq.{drop-append_seam}
-use Rattle.spool_disk.specs.declared.plant.Plant.{Ghosts as PlantGhosts}
+use Rattle.spool_plant.specs.declared.plant.Plant.{Ghosts as PlantGhosts}
 use Rattle.mas_complex.specs.Parts.{Parts}
 use Rattle.run_turns.specs.Scenes.{scene_of}
 use Rattle.mas_run.specs.Copies.{KeepCopies, LeavesSome, LeavesCopies}

@@ -9,8 +9,8 @@ use Rattle.mas_types.specs.Closings.{closing_line}
 use Rattle.mas_types.specs.Ids.{nobody}
 use Rattle.mas_types.specs.Limits.{steps_most}
 use Rattle.lock_cycle.specs.Books.{Book, IsMember, after_stop, after_try, is_stopped}
-use Rattle.spool_disk.specs.declared.plant.Plant.{Ghosts as PlantGhosts}
-use Rattle.spool_disk.specs.View.{Line, View}
+use Rattle.spool_plant.specs.declared.plant.Plant.{Ghosts as PlantGhosts}
+use Rattle.spool_plant.specs.View.{Line, View}
 use Rattle.ckpt_copy.specs.declared.copying.Copying.{Ghosts as CopyGhosts}
 use Rattle.ckpt_copy.specs.Moments.{goes_on}
 use Rattle.ckpt_form.specs.declared.steady.Steady.{Ghosts as SteadyGhosts}

@@ -1,7 +1,7 @@
 -- Lines that leave the volumes lost or not as they were, with their faults.
 use Rattle.std.proofs.Common.{ℕ, Bool, refl}
 use Rattle.mas_types.specs.declared.ids.Dev.TheVariants.{Spool}
-use Rattle.spool_disk.specs.View.{View}
+use Rattle.spool_plant.specs.View.{View}
 use Rattle.member_node.specs.Calls.{VolumesStay, none_lost}
 use Rattle.member_node.proofs.CourseLemmas.{stay_both, stay_more}
 use Rattle.member_steps.specs.Saying.{OnConsole}

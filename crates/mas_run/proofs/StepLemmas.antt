@@ -7,10 +7,10 @@ use Rattle.mas_types.specs.declared.journals.Fate.TheVariants.{Dropped, Flying, 
 use Rattle.mas_types.specs.declared.queues.Queue.{Queue}
 use Rattle.script_lang.specs.declared.types.Step.{Step}
 use Rattle.lock_cycle.specs.Books.{is_stopped}
-use Rattle.spool_disk.specs.declared.plant.Part.TheVariants.{Console, Disk}
-use Rattle.spool_disk.specs.declared.plant.Plant.{Ghosts as PlantGhosts}
-use Rattle.spool_disk.specs.View.{Line, View, paper_now}
-use Rattle.spool_disk.specs.Acts.{Goes, Rose}
+use Rattle.spool_plant.specs.declared.plant.Part.TheVariants.{Console, Disk}
+use Rattle.spool_plant.specs.declared.plant.Plant.{Ghosts as PlantGhosts}
+use Rattle.spool_plant.specs.View.{Line, View, paper_now}
+use Rattle.spool_plant.specs.Acts.{Goes, Rose}
 use Rattle.ckpt_copy.specs.declared.copying.Copying.{Ghosts as CopyGhosts}
 use Rattle.ckpt_copy.specs.Moments.{goes_on, goes_none}
 use Rattle.mas_complex.specs.Paper.{SamePapers, counts_of}

@@ -13,13 +13,13 @@ use Rattle.mas_types.specs.Sound.{IsSound}
 use Rattle.lock_cycle.specs.declared.answers.SeizeNo.{SeizeNo}
 use Rattle.lock_cycle.specs.declared.answers.SeizeNo.TheVariants as seized
 use Rattle.lock_cycle.specs.Books.{Book, IsMember, after_seize, after_stop, is_holder, is_stopped, seize_refusal}
-use Rattle.spool_disk.specs.declared.plant.Plant.{Ghosts as PlantGhosts}
-use Rattle.spool_disk.specs.View.{Disk, View, disk_now}
-use Rattle.spool_disk.specs.Acts.{Rose}
+use Rattle.spool_plant.specs.declared.plant.Plant.{Ghosts as PlantGhosts}
+use Rattle.spool_plant.specs.View.{Disk, View, disk_now}
+use Rattle.spool_plant.specs.Acts.{Rose}
 use Rattle.spool_volumes.specs.Volumes.{AreRoomy}
 use Rattle.ckpt_copy.specs.declared.copying.Copying.{Ghosts as CopyGhosts}
 use Rattle.ckpt_copy.specs.Pages.{bytes_of, level}
-use Rattle.ckpt_pages.specs.Shape.{page_count}
+use Rattle.ckpt_tables.specs.Shape.{page_count}
 use Rattle.duplex_pair.specs.Halves.{IsBothLost, SomeAlive}
 use Rattle.mas_complex.proofs.BatchEnds.{with_last-append}
 use Rattle.mas_complex.proofs.Batches.{unplaced_settled}

@@ -5,9 +5,9 @@ use Rattle.mas_types.specs.declared.ids.MemberId.{MemberId}
 use Rattle.mas_types.specs.declared.journals.Batch.{Batch}
 use Rattle.mas_types.specs.declared.journals.Fate.{Fate}
 use Rattle.mas_types.specs.declared.journals.Fate.TheVariants.{Flying}
-use Rattle.spool_disk.specs.declared.plant.Plant.{Ghosts as PlantGhosts}
-use Rattle.spool_disk.specs.View.{View}
-use Rattle.spool_disk.specs.Acts.{Rose}
+use Rattle.spool_plant.specs.declared.plant.Plant.{Ghosts as PlantGhosts}
+use Rattle.spool_plant.specs.View.{View}
+use Rattle.spool_plant.specs.Acts.{Rose}
 use Rattle.ckpt_copy.specs.declared.copying.Copying.{Ghosts as CopyGhosts}
 use Rattle.mas_complex.specs.CallCounts.{KeepsCounts}
 use Rattle.mas_complex.specs.Journals.{end_of}
@@ -35,6 +35,7 @@ module _ (by : ℕ) (a a' b b' stopped : Bool) (old new : View) (counts : KeepsC
     volumes = λ n. counts.else_loses (Spool n) (λ e. absurd (cc)) (λ e. absurd (cc));
     stops = counts.no_other_stop;
     operator = λ is. let le = some is in omega (arith, le);
+    at_halt = counts.at_halt;
   }
 
   counts_lose : (reads : List ℕ → Option (List ℕ)) (found : Fate) → (a ≡ true → a' ≡ false → IsWhyLost reads found Ckpt1 Ckpt2 old new)

@@ -13,11 +13,11 @@ use Rattle.mas_types.specs.Sound.{IsSound}
 use Rattle.queue_laws.specs.Runs.{IsGiven}
 use Rattle.queue_laws.proofs.RunLaws.{runs_keep_configuration, runs_keep_sound}
 use Rattle.ckpt_copy.specs.Pages.{bytes_of}
-use Rattle.ckpt_pages.specs.declared.tables.Tables.{Tables}
+use Rattle.ckpt_tables.specs.declared.tables.Tables.{Tables}
 use Rattle.ckpt_pages.specs.Checkpoints.{IsCheckpoint}
 use Rattle.ckpt_pages.proofs.DecodingLemmas.{one_value}
-use Rattle.queue_tables.specs.Orders.{HaveOrders}
-use Rattle.queue_tables.specs.Telling.{Tell}
+use Rattle.queue_telling.specs.Orders.{HaveOrders}
+use Rattle.queue_telling.specs.Telling.{Tell}
 use Rattle.queue_tables.proofs.OrderLemmas.{orders_are}
 use Rattle.queue_tables.proofs.SoundTables.{told_are_sound}
 use Rattle.queue_effect.proofs.LawLemmas.{sound_fit}

@@ -5,10 +5,10 @@ use Rattle.mas_types.specs.declared.journals.Entry.{Entry}
 use Rattle.mas_types.specs.Ids.{nobody}
 use Rattle.mas_types.specs.Limits.{steps_most}
 use Rattle.lock_cycle.specs.Books.{Book, IsMember, after_free, after_try, granted, is_holder, is_stopped, noted, ticked, try_refusal, with_holder}
-use Rattle.spool_disk.specs.declared.plant.Plant.{Ghosts as PlantGhosts}
-use Rattle.spool_disk.specs.View.{Line, View}
+use Rattle.spool_plant.specs.declared.plant.Plant.{Ghosts as PlantGhosts}
+use Rattle.spool_plant.specs.View.{Line, View}
 use Rattle.ckpt_copy.specs.declared.copying.Copying.{Ghosts as CopyGhosts}
-use Rattle.ckpt_pages.specs.Shape.{page_count}
+use Rattle.ckpt_tables.specs.Shape.{page_count}
 use Rattle.mas_complex.specs.Paper.{counts_of}
 use Rattle.mas_complex.specs.Parts.{Parts}
 use Rattle.member_node.specs.Calls.{console_now}

@@ -2,7 +2,7 @@
 -- same once what is reserved is given up.
 use Rattle.std.proofs.Common.{ℕ, Result, Ok, Err, ◌∙◌}
 use Rattle.lock_cycle.specs.Books.{Book}
-use Rattle.spool_disk.specs.declared.plant.Plant.{Ghosts as PlantGhosts}
+use Rattle.spool_plant.specs.declared.plant.Plant.{Ghosts as PlantGhosts}
 use Rattle.ckpt_copy.specs.declared.copying.Copying.{Ghosts as CopyGhosts}
 use Rattle.mas_complex.specs.Parts.{Parts, unreserved_in}
 use Rattle.member_node.specs.declared.member.NodeNo.{NodeNo}

@@ -12,8 +12,8 @@ use Rattle.mas_types.specs.Limits.{steps_most}
 use Rattle.mas_types.specs.Closings.{closing_line, closing_text, detail_lines, reply_lines}
 use Rattle.mas_types.specs.Ids.{same_member}
 use Rattle.mas_types.specs.declared.queues.Queue.{Queue}
-use Rattle.spool_disk.specs.View.{Line, View}
-use Rattle.spool_disk.specs.declared.plant.Plant.{Ghosts as PlantGhosts}
+use Rattle.spool_plant.specs.View.{Line, View}
+use Rattle.spool_plant.specs.declared.plant.Plant.{Ghosts as PlantGhosts}
 use Rattle.ckpt_copy.specs.declared.copying.Copying.{Ghosts as CopyGhosts}
 use Rattle.mas_complex.specs.Crash.{EachTells, IsUntold, setting}
 use Rattle.mas_complex.specs.Journals.{has_step}

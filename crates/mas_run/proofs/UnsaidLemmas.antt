@@ -9,11 +9,11 @@ use Rattle.mas_types.specs.declared.queues.Queue.{Queue}
 use Rattle.mas_types.specs.Run.{run}
 use Rattle.script_lang.specs.declared.types.Ask.{Ask}
 use Rattle.script_lang.specs.declared.types.Ask.TheVariants as ask
-use Rattle.spool_disk.specs.declared.plant.Part.TheVariants.{Console, Disk}
+use Rattle.spool_plant.specs.declared.plant.Part.TheVariants.{Console, Disk}
 use Rattle.mas_complex.specs.declared.renewals.Renewals.{Renewals}
-use Rattle.spool_disk.specs.declared.plant.Plant.{Ghosts as PlantGhosts}
-use Rattle.spool_disk.specs.View.{Line, View, paper_now}
-use Rattle.spool_disk.specs.Acts.{Rose}
+use Rattle.spool_plant.specs.declared.plant.Plant.{Ghosts as PlantGhosts}
+use Rattle.spool_plant.specs.View.{Line, View, paper_now}
+use Rattle.spool_plant.specs.Acts.{Rose}
 use Rattle.ckpt_copy.specs.declared.copying.Copying.{Ghosts as CopyGhosts}
 use Rattle.mas_complex.specs.Parts.{Parts}
 use Rattle.member_hand.specs.Cuts.{OfFirst, AreBatched, AtCut, IsBroken, IsTight, whole_pieces}

@@ -2,7 +2,7 @@
 use Rattle.std.proofs.Common.{◌≡◌, ◌≤◌, ◌⊎◌, inl, inr, ⊎_elim, ℕ, nat_le, Bool, true, false, refl, sym, subst, arith}
 use Rattle.std.proofs.lemmas.Bool.Decides.{nat_tests}
 use Rattle.mas_types.specs.declared.ids.Dev.TheVariants.{Spool}
-use Rattle.spool_disk.specs.View.{View, World, Disk, disk_now}
+use Rattle.spool_plant.specs.View.{View, World, Disk, disk_now}
 use Rattle.ckpt_copy.specs.Changes.{NoMore}
 use Rattle.member_node.specs.Calls.{IsOnlyOn}
 use Rattle.mas_run.specs.Lines.{Proceeds}

@@ -15,14 +15,14 @@ use Rattle.mas_types.specs.declared.queues.Queue.{Queue}
 use Rattle.mas_types.specs.Starts.{no_queue}
 use Rattle.ckpt_form.specs.Form.{form_reads, form_needs, form_room}
 use Rattle.ckpt_copy.specs.Pages.{bytes_of, level}
-use Rattle.ckpt_pages.specs.declared.tables.Tables.{Tables}
+use Rattle.ckpt_tables.specs.declared.tables.Tables.{Tables}
 use Rattle.ckpt_pages.specs.Checkpoints.{IsCheckpoint}
 use Rattle.ckpt_pages.specs.Given.{levels_given}
 use Rattle.ckpt_pages.proofs.GivenLevels.{their_levels}
-use Rattle.spool_disk.specs.declared.plant.Part.TheVariants.{Console, Disk as DiskPart}
-use Rattle.spool_disk.specs.View.{View, World, disk_now}
-use Rattle.spool_disk.specs.Acts.{Goes}
-use Rattle.queue_tables.specs.Telling.{Tell}
+use Rattle.spool_plant.specs.declared.plant.Part.TheVariants.{Console, Disk as DiskPart}
+use Rattle.spool_plant.specs.View.{View, World, disk_now}
+use Rattle.spool_plant.specs.Acts.{Goes}
+use Rattle.queue_telling.specs.Telling.{Tell}
 use Rattle.mas_complex.specs.Texts.{HasTexts, IsThereUnless, lies_on, lost_now, spools_at}
 use Rattle.spool_volumes.specs.Volumes.{volume_of}
 use Rattle.track_groups.specs.Places.{groups_of}

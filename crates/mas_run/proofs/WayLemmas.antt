@@ -2,7 +2,7 @@
 -- start.
 use Rattle.std.proofs.Common.{◌≡◌, ℕ, suc, ◌+◌, ◌<◌, List, [], ◌∷◌, drop, drop-cons, get_or, length, Result, Ok, Err, refl, sym, ◌∙◌, ap, subst, arith}
 use Rattle.script_lang.specs.declared.types.Step.{Step}
-use Rattle.spool_disk.specs.declared.plant.Plant.{Ghosts as PlantGhosts}
+use Rattle.spool_plant.specs.declared.plant.Plant.{Ghosts as PlantGhosts}
 use Rattle.ckpt_copy.specs.declared.copying.Copying.{Ghosts as CopyGhosts}
 use Rattle.mas_complex.specs.Parts.{Parts}
 use Rattle.member_node.specs.declared.member.NodeNo.{NodeNo}

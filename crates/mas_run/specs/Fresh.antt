@@ -1,7 +1,7 @@
 -- The members of a run as it begins.
 use Rattle.std.specs.Prelude.{◌≡◌, ℕ, ◌+◌, List, [], ◌∷◌, length}
 use Rattle.mas_types.specs.declared.queues.Config.{Config}
-use Rattle.ckpt_pages.specs.Shape.{page_count}
+use Rattle.ckpt_tables.specs.Shape.{page_count}
 use Rattle.member_node.specs.declared.member.Member.{Member}
 use Rattle.member_hand.specs.Quiet.{IsIdle}
 

@@ -9,10 +9,10 @@ use Rattle.mas_types.specs.declared.journals.Fate.{Fate}
 use Rattle.mas_types.specs.declared.journals.Fate.TheVariants.{Flying}
 use Rattle.script_lang.specs.declared.types.Ask.{Ask}
 use Rattle.script_lang.specs.declared.types.Ask.TheVariants as ask
-use Rattle.spool_disk.specs.declared.plant.Part.{Part}
-use Rattle.spool_disk.specs.declared.plant.Part.TheVariants.{Console, Disk}
-use Rattle.spool_disk.specs.View.{Line, View, disk_at, disk_now, paper_now}
-use Rattle.spool_disk.specs.Acts.{Rose, next}
+use Rattle.spool_plant.specs.declared.plant.Part.{Part}
+use Rattle.spool_plant.specs.declared.plant.Part.TheVariants.{Console, Disk}
+use Rattle.spool_plant.specs.View.{Line, View, disk_at, disk_now, paper_now}
+use Rattle.spool_plant.specs.Acts.{Rose, next}
 use Rattle.ckpt_copy.specs.Pages.{bytes_of, level}
 use Rattle.mas_complex.specs.Paper.{SamePapers}
 use Rattle.mas_complex.specs.Seen.{WasUnfit}

@@ -1,6 +1,6 @@
 -- What a line leaves that is none of a member's steps: a stop of one, a stop that is armed, and the loss of a device.
 use Rattle.std.specs.Prelude.{◌≡◌, ℕ, ◌+◌, List, Ok}
-use Rattle.spool_disk.specs.declared.plant.Plant.{Ghosts as PlantGhosts}
+use Rattle.spool_plant.specs.declared.plant.Plant.{Ghosts as PlantGhosts}
 use Rattle.ckpt_copy.specs.declared.copying.Copying.{Ghosts as CopyGhosts}
 use Rattle.ckpt_form.specs.declared.steady.Steady.{Ghosts as SteadyGhosts}
 use Rattle.script_lang.specs.declared.types.Step.{Step}

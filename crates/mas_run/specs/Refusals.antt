@@ -14,10 +14,10 @@ use Rattle.script_lang.specs.declared.types.Step.{Step}
 use Rattle.script_lang.specs.Script.{Said}
 use Rattle.script_input.specs.Reading.{TakesAtMost}
 use Rattle.script_input.specs.Script.{read_as}
-use Rattle.spool_disk.specs.declared.plant.Part.TheVariants.{Disk}
-use Rattle.spool_disk.specs.View.{View}
+use Rattle.spool_plant.specs.declared.plant.Part.TheVariants.{Disk}
+use Rattle.spool_plant.specs.View.{View}
 use Rattle.ckpt_form.specs.Form.{form_needs}
-use Rattle.ckpt_pages.specs.Shape.{page_count}
+use Rattle.ckpt_tables.specs.Shape.{page_count}
 use Rattle.warm_start.specs.Starting.{IsSmall}
 
 -- a run, cold or warm, that isn't a race; where it only formats it takes no steps

@@ -1,7 +1,7 @@
 -- What a line leaves of the moments at which a copy isn't good because it is being replaced.
 use Rattle.std.specs.Prelude.{◌≡◌, ◌⊎◌, ℕ, ◌≤◌, Option, Some, None}
 use Rattle.mas_types.specs.declared.ids.Dev.{Dev}
-use Rattle.spool_disk.specs.View.{View}
+use Rattle.spool_plant.specs.View.{View}
 use Rattle.mas_complex.specs.declared.renewals.Renewals.{Renewals}
 use Rattle.mas_complex.specs.Renewals.{begun_on, ended_on}
 use Rattle.run_turns.specs.Admissions.{Admission, Replaces}

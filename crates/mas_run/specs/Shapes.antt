@@ -5,7 +5,7 @@ use Rattle.mas_types.specs.declared.commands.Command.TheVariants as command
 use Rattle.mas_types.specs.declared.commands.Reply.{Reply}
 use Rattle.mas_types.specs.declared.ids.MemberId.{MemberId}
 use Rattle.mas_types.specs.Closings.{closing_line}
-use Rattle.spool_disk.specs.View.{View}
+use Rattle.spool_plant.specs.View.{View}
 use Rattle.member_steps.specs.Steps.{entry_with}
 use Rattle.member_sittings.specs.Ends.{ends_in}
 use Rattle.step_turns.specs.States.{nothing_found}

@@ -10,10 +10,10 @@ use Rattle.mas_types.specs.Ids.{is_somebody}
 use Rattle.mas_types.specs.Limits.{steps_most}
 use Rattle.mas_types.specs.Sound.{IsSound}
 use Rattle.lock_cycle.specs.Books.{Book, is_holder, is_stopped}
-use Rattle.spool_disk.specs.View.{View}
-use Rattle.spool_disk.specs.declared.plant.Plant.{Ghosts as PlantGhosts}
+use Rattle.spool_plant.specs.View.{View}
+use Rattle.spool_plant.specs.declared.plant.Plant.{Ghosts as PlantGhosts}
 use Rattle.spool_volumes.specs.Volumes.{AreRoomy}
-use Rattle.ckpt_pages.specs.Shape.{page_count}
+use Rattle.ckpt_tables.specs.Shape.{page_count}
 use Rattle.ckpt_copy.specs.declared.copying.Copying.{Ghosts as CopyGhosts}
 use Rattle.ckpt_form.specs.declared.steady.Steady.{Ghosts as SteadyGhosts}
 use Rattle.mas_complex.specs.declared.complex.Complex.{Complex}

@@ -2,7 +2,7 @@
 use Rattle.std.specs.Prelude.{Bool}
 use Rattle.mas_types.specs.declared.answers.Status.{Status}
 use Rattle.mas_types.specs.declared.answers.Status.TheVariants as status
-use Rattle.spool_disk.specs.View.{View}
+use Rattle.spool_plant.specs.View.{View}
 use Rattle.ckpt_form.specs.Form.{form_reads, form_needs, form_room}
 use Rattle.start_choice.specs.declared.choosing.StartNo.{StartNo}
 use Rattle.start_choice.specs.declared.choosing.StartNo.TheVariants as no_start

@@ -2,7 +2,7 @@
 ghost use Rattle.mas_run.specs.Calm.{FindNone};
 ghost use Rattle.mas_run.specs.Unstopped.{PlaysOn};
 
-use spool_disk::Plant;
+use spool_plant::Plant;
 
 /// Where no volume failed in a run, nor the printer of a member that its script has a line of, no line found one lost:
 /// what its lines come to, and so its commands and what it says, follows from its script, the queue that it began with,

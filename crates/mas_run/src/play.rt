@@ -7,9 +7,9 @@ ghost use Rattle.mas_types.specs.Lists.{first_some};
 ghost use Rattle.mas_types.specs.declared.ids.Dev.TheVariants.{Ckpt1, Ckpt2};
 ghost use Rattle.mas_types.specs.declared.ids.Dev.{Dev};
 ghost use Rattle.mas_types.specs.declared.answers.CopyState.{CopyState};
-ghost use Rattle.spool_disk.specs.declared.plant.Part.TheVariants.{Disk};
+ghost use Rattle.spool_plant.specs.declared.plant.Part.TheVariants.{Disk};
 ghost use Rattle.ckpt_form.specs.Form.{form_reads};
-ghost use Rattle.ckpt_pages.specs.Shape.{IsRoute};
+ghost use Rattle.ckpt_tables.specs.Shape.{IsRoute};
 ghost use Rattle.ckpt_pages.specs.Starts.{empty_tables};
 ghost use Rattle.duplex_pair.specs.Halves.{SomeAlive};
 ghost use Rattle.script_input.specs.Played.{IsPlayed};
@@ -37,7 +37,7 @@ use crate::members::members_of;
 use crate::running::Running;
 use ckpt_copy::Copying;
 use ckpt_form::CopyForm;
-use ckpt_pages::page_count;
+use ckpt_tables::page_count;
 use duplex_pair::Pair;
 use mas_complex::Complex;
 use mas_types::{
@@ -46,7 +46,7 @@ use mas_types::{
 use member_node::{Checkpoint, Member, NodeNo, blank};
 use queue_tables::law_of_told_queues;
 use script_lang::{Script, Step};
-use spool_disk::Plant;
+use spool_plant::Plant;
 use std::alloc::Global;
 use warm_start::refuse_small;
 

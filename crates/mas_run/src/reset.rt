@@ -3,15 +3,15 @@ ghost use Rattle.std.specs.Prelude.{◌≡◌, ◌+◌, ◌≤◌, ◌<◌, ◌^
 ghost use Rattle.mas_types.specs.declared.ids.Dev.TheVariants.{Ckpt1, Ckpt2};
 ghost use Rattle.mas_types.specs.Ids.{nobody};
 ghost use Rattle.mas_types.specs.declared.queues.Queue.{Queue};
-ghost use Rattle.spool_disk.specs.View.{disk_now};
+ghost use Rattle.spool_plant.specs.View.{disk_now};
 ghost use Rattle.spool_volumes.specs.Volumes.{AreRoomy};
-ghost use Rattle.ckpt_pages.specs.Shape.{HasSpelling};
+ghost use Rattle.ckpt_tables.specs.Shape.{HasSpelling};
 ghost use Rattle.duplex_pair.specs.Halves.{SomeAlive};
 ghost use Rattle.duplex_pair.specs.Outcomes.{least_room};
 ghost use Rattle.mas_complex.specs.Journals.{end_of};
 ghost use Rattle.queue_effect.specs.Standing.{AreFit};
-ghost use Rattle.queue_tables.specs.Orders.{HaveOrders};
-ghost use Rattle.queue_tables.specs.Telling.{Tell, TellSound};
+ghost use Rattle.queue_telling.specs.Orders.{HaveOrders};
+ghost use Rattle.queue_telling.specs.Telling.{Tell, TellSound};
 ghost use Rattle.member_node.specs.Batches.{CanDraw, DrawsAnew, HasDone};
 ghost use Rattle.member_node.specs.Copies.{RestsAt};
 ghost use Rattle.member_node.specs.Reads.{IsSettle};
@@ -25,7 +25,7 @@ use mas_complex::{Complex, Steady};
 use mas_types::{Command, NoMemory};
 use member_node::{Member, NodeNo};
 use queue_texts::law_of_texts;
-use spool_disk::Plant;
+use spool_plant::Plant;
 use std::alloc::Global;
 
 // Does Restart on the operator's tables.

@@ -12,7 +12,7 @@ use mas_types::MemberId;
 use member_hand::{enter, leave};
 use member_lines::sit_reset;
 use member_node::{Member, NodeNo};
-use spool_disk::Plant;
+use spool_plant::Plant;
 use std::alloc::Global;
 use step_turns::{Grant, Holder};
 use warm_start::{TakeNo, takeover};

@@ -16,7 +16,7 @@ use member_lines::{
 };
 use member_node::{Member, NodeNo};
 use script_lang::{Ask, Step};
-use spool_disk::{Fuse, Plant};
+use spool_plant::{Fuse, Plant};
 use std::alloc::Global;
 use step_turns::{Grant, Holder};
 

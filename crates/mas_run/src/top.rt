@@ -7,10 +7,10 @@ ghost use Rattle.mas_types.specs.Lists.{first_some};
 ghost use Rattle.script_lang.specs.declared.types.Script.{Script as ScriptLem};
 ghost use Rattle.script_laws.specs.Limits.{IsScript};
 ghost use Rattle.script_input.specs.Played.{IsPlayed};
-ghost use Rattle.spool_disk.specs.View.{View};
-ghost use Rattle.spool_disk.specs.Acts.{Rose};
+ghost use Rattle.spool_plant.specs.View.{View};
+ghost use Rattle.spool_plant.specs.Acts.{Rose};
 ghost use Rattle.ckpt_form.specs.Form.{form_needs};
-ghost use Rattle.ckpt_pages.specs.Shape.{page_count};
+ghost use Rattle.ckpt_tables.specs.Shape.{page_count};
 ghost use Rattle.warm_start.specs.Starting.{OnlyLookedAtAll};
 ghost use Rattle.spool_volumes.specs.Volumes.{AreRoomy};
 ghost use Rattle.member_node.specs.Calls.{console_now};
@@ -27,7 +27,7 @@ use crate::play::{play_cold, unbegun};
 use mas_types::Status;
 use script_input::{SourceError, read_script, read_source};
 use script_lang::{Script, ScriptNo};
-use spool_disk::{Plant, Source};
+use spool_plant::{Plant, Source};
 use std::alloc::Global;
 
 // Reads the script of a run to its end, or why the run ends.

@@ -9,9 +9,9 @@ use Rattle.mas_types.specs.declared.answers.Status.TheVariants as status
 use Rattle.mas_types.specs.declared.answers.Verdict.{Verdict}
 use Rattle.mas_types.specs.declared.answers.Verdict.TheVariants.{Sound, Fault}
 use Rattle.mas_types.specs.declared.queues.Owner.{Owner}
-use Rattle.spool_disk.specs.declared.plant.Part.TheVariants.{Disk as DiskPart, Console}
-use Rattle.spool_disk.specs.View.{View, World, Disk, Line, Stretch, Avoids, disk_at, disk_now}
-use Rattle.spool_disk.specs.Acts.{Goes}
+use Rattle.spool_plant.specs.declared.plant.Part.TheVariants.{Disk as DiskPart, Console}
+use Rattle.spool_plant.specs.View.{View, World, Disk, Line, Stretch, Avoids, disk_at, disk_now}
+use Rattle.spool_plant.specs.Acts.{Goes}
 use Rattle.spool_volumes.specs.Volumes.{volume_of}
 use Rattle.ckpt_form.specs.Form.{form_reads}
 use Rattle.ckpt_copy.specs.Changes.{NoMore}

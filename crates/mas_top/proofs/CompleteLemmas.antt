@@ -14,9 +14,9 @@ use Rattle.script_lang.specs.declared.types.Script.{Script}
 use Rattle.script_lang.specs.declared.types.Step.{Step}
 use Rattle.script_lang.specs.Script.{Said}
 use Rattle.script_laws.specs.Grammar.{step_of_member}
-use Rattle.spool_disk.specs.declared.plant.Part.TheVariants.{Console, Disk as DiskPart}
-use Rattle.spool_disk.specs.View.{View}
-use Rattle.spool_disk.specs.Acts.{Rose}
+use Rattle.spool_plant.specs.declared.plant.Part.TheVariants.{Console, Disk as DiskPart}
+use Rattle.spool_plant.specs.View.{View}
+use Rattle.spool_plant.specs.Acts.{Rose}
 use Rattle.gen_work.specs.Generated.{IsDeckCount, script_text}
 use Rattle.script_generated.specs.Steps.{PlaysGenerated, part_steps, script_generated, script_steps, sysa, sysb}
 use Rattle.mas_run.specs.Lines.{Proceeds}

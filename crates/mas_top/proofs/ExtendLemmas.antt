@@ -21,9 +21,9 @@ use Rattle.mas_types.specs.declared.queues.Queue.{Queue}
 use Rattle.mas_types.specs.declared.queues.Thing.TheVariants.{Deck, Output}
 use Rattle.mas_types.specs.Closings.{closing_line}
 use Rattle.mas_types.specs.Journal.{entries_of, flying_at, is_flying, is_flying_at, is_kept, is_kept_by, kept_at}
-use Rattle.spool_disk.specs.declared.plant.Part.TheVariants.{Disk as DiskPart}
-use Rattle.spool_disk.specs.View.{View, World, Disk, Line, LeavesOnly, disk_at, disk_now}
-use Rattle.spool_disk.specs.Acts.{Goes, top}
+use Rattle.spool_plant.specs.declared.plant.Part.TheVariants.{Disk as DiskPart}
+use Rattle.spool_plant.specs.View.{View, World, Disk, Line, LeavesOnly, disk_at, disk_now}
+use Rattle.spool_plant.specs.Acts.{Goes, top}
 use Rattle.track_groups.specs.Places.{groups_of}
 use Rattle.spool_volumes.specs.Volumes.{Volumes, volume_of}
 use Rattle.ckpt_copy.specs.Moments.{either_way}

@@ -15,10 +15,10 @@ use Rattle.mas_types.specs.Names.{member_text, padded, unpadded}
 use Rattle.mas_types.specs.Numerals.{in_digits}
 use Rattle.mas_types.specs.Shown.{words}
 use Rattle.mas_types.specs.Starts.{no_queue}
-use Rattle.spool_disk.specs.declared.plant.Act.TheVariants.{Done, Failed}
-use Rattle.spool_disk.specs.declared.plant.Part.TheVariants.{Console, Disk as DiskPart}
-use Rattle.spool_disk.specs.View.{View, Line}
-use Rattle.spool_disk.specs.Acts.{next, top}
+use Rattle.spool_plant.specs.declared.plant.Act.TheVariants.{Done, Failed}
+use Rattle.spool_plant.specs.declared.plant.Part.TheVariants.{Console, Disk as DiskPart}
+use Rattle.spool_plant.specs.View.{View, Line}
+use Rattle.spool_plant.specs.Acts.{next, top}
 use Rattle.gen_work.specs.declared.summaries.Summary.{Summary}
 use Rattle.gen_work.specs.Generated.{script_text}
 use Rattle.gen_work.specs.Summaries.{summary_line}

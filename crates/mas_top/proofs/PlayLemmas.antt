@@ -5,8 +5,8 @@ use Rattle.mas_types.specs.declared.queues.Queue.{Queue}
 use Rattle.mas_types.specs.declared.answers.Status.{Status}
 use Rattle.mas_types.specs.declared.answers.Status.TheVariants as status
 use Rattle.mas_types.specs.Starts.{no_queue}
-use Rattle.spool_disk.specs.View.{View}
-use Rattle.spool_disk.specs.Acts.{Rose}
+use Rattle.spool_plant.specs.View.{View}
+use Rattle.spool_plant.specs.Acts.{Rose}
 use Rattle.ckpt_copy.specs.Moments.{sides_none}
 use Rattle.mas_run.specs.Refusals.{Answers, IsTakenFrom, is_of_script, is_refusal, refusal_before_play}
 use Rattle.mas_run.specs.Runs.{has_begun, AreSidesKept}

@@ -1,10 +1,10 @@
 -- Lines that are said one after another.
 use Rattle.std.proofs.Common.{◌≡◌, inl, inr, ⊎_elim, ℕ, ◌<◌, ◌≤◌, List, [], ◌∷◌, ◌++◌, length, map, take, append_assoc, append-nil, refl, sym, ◌∙◌, ap, arith}
 use Rattle.std.proofs.lemmas.List.{map-append}
-use Rattle.spool_disk.specs.declared.plant.Part.TheVariants.{Console}
-use Rattle.spool_disk.specs.declared.plant.Act.TheVariants.{Done, Failed}
-use Rattle.spool_disk.specs.View.{View, Line, World, disk_at}
-use Rattle.spool_disk.specs.Acts.{Goes, Acts, Says, next}
+use Rattle.spool_plant.specs.declared.plant.Part.TheVariants.{Console}
+use Rattle.spool_plant.specs.declared.plant.Act.TheVariants.{Done, Failed}
+use Rattle.spool_plant.specs.View.{View, Line, World, disk_at}
+use Rattle.spool_plant.specs.Acts.{Goes, Acts, Says, next}
 use Rattle.ckpt_copy.specs.Moments.{either_way, goes_on, goes_none}
 use Rattle.mas_complex.specs.Headline.{whole}
 use Rattle.member_node.specs.Calls.{console_now}

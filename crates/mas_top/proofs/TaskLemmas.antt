@@ -15,7 +15,7 @@ use Rattle.mas_types.specs.declared.answers.Status.{Status}
 use Rattle.mas_types.specs.declared.answers.Status.TheVariants as status
 use Rattle.mas_types.specs.declared.queues.Queue.{Queue}
 use Rattle.mas_types.specs.Starts.{no_queue}
-use Rattle.spool_disk.specs.View.{View}
+use Rattle.spool_plant.specs.View.{View}
 use Rattle.mas_run.specs.Runs.{has_begun, Begins}
 use Rattle.mas_run.specs.Statuses.{IsCaused, LeavesLost}
 use Rattle.mas_top.specs.declared.tasks.Task.{Task}

@@ -6,10 +6,10 @@ use Rattle.mas_types.specs.declared.answers.Verdict.{Verdict}
 use Rattle.mas_types.specs.declared.ids.Dev.{Dev}
 use Rattle.mas_types.specs.declared.ids.Dev.TheVariants.{Ckpt1, Ckpt2, Spool}
 use Rattle.mas_types.specs.declared.ids.Page.{Page}
-use Rattle.spool_disk.specs.declared.plant.Part.{Part}
-use Rattle.spool_disk.specs.declared.plant.Part.TheVariants.{Disk, Console}
-use Rattle.spool_disk.specs.View.{View, disk_at, disk_now, Throughout}
-use Rattle.spool_disk.specs.Acts.{Goes, Rose}
+use Rattle.spool_plant.specs.declared.plant.Part.{Part}
+use Rattle.spool_plant.specs.declared.plant.Part.TheVariants.{Disk, Console}
+use Rattle.spool_plant.specs.View.{View, disk_at, disk_now, Throughout}
+use Rattle.spool_plant.specs.Acts.{Goes, Rose}
 use Rattle.ckpt_form.specs.Form.{form_reads}
 use Rattle.ckpt_copy.specs.Changes.{NoMore}
 use Rattle.mas_check.specs.declared.checking.CheckNo.{CheckNo}

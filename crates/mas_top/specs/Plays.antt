@@ -8,10 +8,10 @@ use Rattle.mas_types.specs.declared.answers.CopyState.{CopyState}
 use Rattle.mas_types.specs.declared.answers.Status.{Status}
 use Rattle.mas_types.specs.declared.answers.Status.TheVariants as status
 use Rattle.script_lang.specs.declared.types.Script.{Script}
-use Rattle.spool_disk.specs.View.{View}
-use Rattle.spool_disk.specs.Acts.{Rose}
+use Rattle.spool_plant.specs.View.{View}
+use Rattle.spool_plant.specs.Acts.{Rose}
 use Rattle.ckpt_form.specs.Form.{form_needs}
-use Rattle.ckpt_pages.specs.Shape.{page_count}
+use Rattle.ckpt_tables.specs.Shape.{page_count}
 use Rattle.spool_volumes.specs.Volumes.{AreRoomy}
 use Rattle.warm_start.specs.Starting.{OnlyLookedAtAll}
 use Rattle.mas_run.specs.Refusals.{refusal_before_play, said_by, steps_of, Answers, IsPlayedOut, IsSaid, IsTakenFrom, IsTooSmall}

@@ -2,7 +2,7 @@
 ghost use Rattle.std.specs.Prelude.{◌≡◌, ◌≢◌, ◌≤◌, length, take, false, IfOk};
 ghost use Rattle.gen_work.specs.Generated.{IsDeckCount};
 ghost use Rattle.gen_work.specs.Summaries.{summary_line as summary_line_lem, summary_of as summary_of_lem};
-ghost use Rattle.spool_disk.specs.Source.{Gives, GivesCount};
+ghost use Rattle.spool_plant.specs.Source.{Gives, GivesCount};
 ghost use Rattle.mas_run.specs.Lines.{Proceeds};
 ghost use Rattle.mas_run.specs.Runs.{has_begun, Begins, IsUnbegun};
 ghost use Rattle.mas_run.specs.Statuses.{IsCaused, LeavesLost};
@@ -14,7 +14,7 @@ use gen_work::{generate, summary_line, summary_of};
 use mas_run::{Ended, play_script, unbegun};
 use mas_types::{Journal, List, MemberId, NoMemory, Queue, Status};
 use script_generated::law_of_generated_scripts;
-use spool_disk::{Act, Got, Plant, Source};
+use spool_plant::{Act, Got, Plant, Source};
 use std::alloc::Global;
 
 /// The operator, who never halts.

@@ -8,7 +8,7 @@ use crate::saying::say_lines;
 use mas_check::{CheckNo, check, check_line};
 use mas_run::{Ended, status_of_start, unbegun};
 use mas_types::{Lines, NoMemory, Status, Verdict};
-use spool_disk::Plant;
+use spool_plant::Plant;
 use std::alloc::Global;
 use warm_start::looked;
 

@@ -1,6 +1,6 @@
 //! The report of the queue that is found.
 ghost use Rattle.std.specs.Prelude.{◌≡◌, ◌≢◌, [], false};
-ghost use Rattle.spool_disk.specs.Acts.{Goes};
+ghost use Rattle.spool_plant.specs.Acts.{Goes};
 ghost use Rattle.member_node.specs.Calls.{IsOnlyOn};
 ghost use Rattle.mas_run.specs.Runs.{has_begun, Begins, IsUnbegun};
 ghost use Rattle.mas_run.specs.Statuses.{IsCaused};
@@ -12,7 +12,7 @@ use crate::saying::say_lines;
 use mas_run::{Ended, status_of_start, unbegun};
 use mas_types::{Journal, Lines, List, Queue, Status};
 use queue_report::{law_of_named_queues, report};
-use spool_disk::Plant;
+use spool_plant::Plant;
 use std::alloc::Global;
 use warm_start::found;
 

@@ -2,7 +2,7 @@
 ghost use Rattle.mas_top.specs.Saying.{Says};
 
 use mas_types::{Lines, MemberId, Status};
-use spool_disk::{Act, Plant};
+use spool_plant::{Act, Plant};
 
 /// The operator, who never halts.
 const OPERATOR: MemberId = MemberId(0);

@@ -17,7 +17,7 @@ use crate::reporting::report_queue;
 use crate::tasks::{Task, read_task, status_of_no};
 use mas_run::{Ended, play_script, unbegun};
 use mas_types::Status;
-use spool_disk::{Plant, Source};
+use spool_plant::{Plant, Source};
 use std::alloc::Global;
 
 /// Does on a plant what the words behind the program's name ask for.

@@ -1,11 +1,10 @@
 //! `Copied`: values that can be copied where there is memory.
 ghost use Rattle.std.specs.Prelude.{◌≡◌, IfOk};
 
-use crate::answers::Closing;
 use crate::commands::{Command, Reply};
 use crate::ids::NoMemory;
 use crate::jobs::{Job, OutSpec, Output, Text};
-use crate::journals::{Batch, Entry, Journal};
+use crate::journals::Entry;
 use crate::lists::List;
 use crate::queues::{Queue, Setting};
 use crate::texts::Lines;
@@ -229,50 +228,6 @@ impl Copied for Entry {
             step: self.step,
             command: self.command.copy(alloc)?,
             reply: self.reply.copy(alloc)?,
-        })
-    }
-}
-
-impl Copied for Batch {
-    fn copy(&self, alloc: Global) -> Result<Self, NoMemory> {
-        Ok(Batch {
-            first: self.first,
-            last: self.last,
-            by: self.by,
-            fate: self.fate,
-            entries: self.entries.copy(alloc)?,
-        })
-    }
-}
-
-impl Copied for Journal {
-    fn copy(&self, alloc: Global) -> Result<Self, NoMemory> {
-        Ok(Journal {
-            batches: self.batches.copy(alloc)?,
-        })
-    }
-}
-
-impl Copied for Closing {
-    fn copy(&self, alloc: Global) -> Result<Self, NoMemory> {
-        Ok(match self {
-            Closing::Reply(reply) => Closing::Reply(reply.copy(alloc)?),
-            Closing::DoneUnits(n) => Closing::DoneUnits(*n),
-            Closing::Busy(holder) => Closing::Busy(*holder),
-            Closing::Dormant(tick) => Closing::Dormant(*tick),
-            Closing::Down => Closing::Down,
-            Closing::Stopped => Closing::Stopped,
-            Closing::Up(member) => Closing::Up(*member),
-            Closing::ResetOf(member) => Closing::ResetOf(*member),
-            Closing::NotHolder => Closing::NotHolder,
-            Closing::BadCard(card, cause) => Closing::BadCard(*card, *cause),
-            Closing::SpoolLost(volume) => Closing::SpoolLost(*volume),
-            Closing::PrinterLost => Closing::PrinterLost,
-            Closing::LineLost(line) => Closing::LineLost(*line),
-            Closing::NoText(group) => Closing::NoText(*group),
-            Closing::NotLost(copy) => Closing::NotLost(*copy),
-            Closing::CkptLost(copy) => Closing::CkptLost(*copy),
-            Closing::Line(sent, got) => Closing::Line(*sent, *got),
         })
     }
 }

@@ -52,14 +52,18 @@ pub fn empty_queue(alloc: Global, config: &Config, routes: &List<Route>) -> Resu
     ensures sound { IsConfig config.now → length routes.now ≤ routes_most → IfOk result IsSound }
 {
     let groups = config.volumes as usize * config.groups as usize;
+    let owners = repeated(alloc, Owner::Free, groups)?;
+    let lines = repeated(alloc, no_count(), WIRES_MOST as usize)?;
+    let routes = routes.copy(alloc)?;
+    let members = default_settings(alloc, config.members)?;
     Ok(Queue {
         config: *config,
         jobs: List::new(alloc),
         outputs: List::new(alloc),
-        owners: repeated(alloc, Owner::Free, groups)?,
-        members: default_settings(alloc, config.members)?,
-        routes: routes.copy(alloc)?,
-        lines: repeated(alloc, no_count(), WIRES_MOST as usize)?,
+        owners,
+        members,
+        routes,
+        lines,
         last: JobNo(0),
     })
 }

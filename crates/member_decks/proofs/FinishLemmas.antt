@@ -17,7 +17,7 @@ use Rattle.mas_types.specs.Closings.{IsReplyNamed}
 use Rattle.mas_types.specs.Fit.{AreLines, IsFit}
 use Rattle.mas_types.specs.Limits.{members_most}
 use Rattle.mas_types.specs.Step as table
-use Rattle.spool_disk.specs.View.{View}
+use Rattle.spool_plant.specs.View.{View}
 use Rattle.queue_texts.specs.Leaving.{AreTheirOwn, OthersLeaveTexts}
 use Rattle.queue_texts.specs.Entering.{EnterBringsText, groups_for}
 use Rattle.queue_texts.proofs.BroughtLemmas.{brought_holds}

@@ -1,6 +1,6 @@
 -- A member that got the lock, and took in what the copies have.
 use Rattle.std.proofs.Common.{inl, ℕ, Bool, false, Result, Ok, Err}
-use Rattle.spool_disk.specs.View.{View}
+use Rattle.spool_plant.specs.View.{View}
 use Rattle.member_node.specs.declared.member.NodeNo.{NodeNo}
 use Rattle.member_node.specs.declared.member.NodeNo.TheVariants.{BothLost, Halted, ConsoleFault, NoMemory}
 use Rattle.member_node.specs.Reads.{IsSettle, ReadInCauses}

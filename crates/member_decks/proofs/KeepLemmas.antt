@@ -7,7 +7,7 @@ use Rattle.mas_types.specs.Closings.{IsReplyNamed}
 use Rattle.queue_laws.proofs.Finds.{find-All}
 use Rattle.member_decks.specs.Decks.{closes}
 use Rattle.mas_types.specs.declared.journals.Batch.{Batch}
-use Rattle.spool_disk.specs.View.{View}
+use Rattle.spool_plant.specs.View.{View}
 use Rattle.member_node.specs.declared.member.NodeNo.{NodeNo}
 use Rattle.member_node.specs.declared.member.NodeNo.TheVariants.{BothLost, Halted, ConsoleFault, NoMemory}
 use Rattle.member_node.specs.Writes.{IsWrite}

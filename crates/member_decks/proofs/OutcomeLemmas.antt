@@ -3,9 +3,9 @@ use Rattle.std.proofs.Common.{inl, inr, ⊎_elim, ℕ, ◌≤◌, Bool, List, []
 use Rattle.mas_types.specs.declared.ids.MemberId.{MemberId}
 use Rattle.mas_types.specs.declared.journals.Entry.{Entry}
 use Rattle.mas_types.specs.declared.journals.Fate.TheVariants.{Kept}
-use Rattle.spool_disk.specs.declared.plant.Part.TheVariants.{Console}
-use Rattle.spool_disk.specs.View.{View}
-use Rattle.spool_disk.specs.Acts.{Goes}
+use Rattle.spool_plant.specs.declared.plant.Part.TheVariants.{Console}
+use Rattle.spool_plant.specs.View.{View}
+use Rattle.spool_plant.specs.Acts.{Goes}
 use Rattle.mas_complex.specs.Journals.{begun, fated}
 use Rattle.member_node.specs.declared.member.NodeNo.{NodeNo}
 use Rattle.member_node.specs.declared.member.NodeNo.TheVariants.{BothLost, Halted, ConsoleFault, NoMemory}

@@ -12,11 +12,11 @@ use Rattle.mas_types.specs.declared.jobs.Text.TheVariants.{Whole}
 use Rattle.mas_types.specs.Fit.{AreLines}
 use Rattle.mas_types.specs.Limits.{page_bytes}
 use Rattle.mas_types.specs.Owners.{groups_needed}
-use Rattle.spool_disk.specs.declared.plant.Act.{Act}
-use Rattle.spool_disk.specs.declared.plant.Act.TheVariants.{Done, Failed, Halted}
-use Rattle.spool_disk.specs.declared.plant.Part.TheVariants.{Disk as DiskPart}
-use Rattle.spool_disk.specs.View.{View, disk_now, slice}
-use Rattle.spool_disk.specs.Acts.{Acts, Goes, Written, OnDevice}
+use Rattle.spool_plant.specs.declared.plant.Act.{Act}
+use Rattle.spool_plant.specs.declared.plant.Act.TheVariants.{Done, Failed, Halted}
+use Rattle.spool_plant.specs.declared.plant.Part.TheVariants.{Disk as DiskPart}
+use Rattle.spool_plant.specs.View.{View, disk_now, slice}
+use Rattle.spool_plant.specs.Acts.{Acts, Goes, Written, OnDevice}
 use Rattle.ckpt_copy.specs.Moments.{either_way, goes_on, goes_none}
 use Rattle.spool_text.specs.Laws.{HasNeededGroups}
 use Rattle.spool_text.specs.Texts.{packed}

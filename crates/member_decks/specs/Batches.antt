@@ -4,7 +4,7 @@ use Rattle.mas_types.specs.declared.ids.MemberId.{MemberId}
 use Rattle.mas_types.specs.declared.journals.Batch.{Batch}
 use Rattle.mas_types.specs.declared.journals.Entry.{Entry}
 use Rattle.mas_types.specs.declared.journals.Fate.TheVariants.{Kept, Flying}
-use Rattle.spool_disk.specs.Acts.{top}
+use Rattle.spool_plant.specs.Acts.{top}
 
 -- the member's batch with these entries, begun from a moment on, and kept by now
 pub record IsKeptBatch (by : MemberId) (es : List Entry) (from now : ℕ) (b : Batch) : Type 0 where

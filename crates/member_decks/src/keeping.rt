@@ -6,13 +6,13 @@ ghost use Rattle.mas_types.specs.declared.commands.Reply.TheVariants.{Plain};
 ghost use Rattle.mas_types.specs.declared.ids.Dev.TheVariants.{Ckpt1, Ckpt2};
 ghost use Rattle.mas_types.specs.Closings.{IsReplyNamed};
 ghost use Rattle.mas_types.specs.Limits.{members_most};
-ghost use Rattle.spool_disk.specs.View.{disk_now};
+ghost use Rattle.spool_plant.specs.View.{disk_now};
 ghost use Rattle.mas_complex.specs.Crash.{IsUntold, setting};
 ghost use Rattle.mas_complex.specs.Journals.{begun, end_of, kept_all};
 ghost use Rattle.mas_complex.specs.Locking.{MayAct};
 ghost use Rattle.mas_complex.specs.Meaning.{run};
 ghost use Rattle.mas_complex.specs.Texts.{HasTexts, lost_now, spools_at};
-ghost use Rattle.queue_tables.specs.Telling.{TellSound};
+ghost use Rattle.queue_telling.specs.Telling.{TellSound};
 ghost use Rattle.queue_effect.specs.Standing.{AreFit};
 ghost use Rattle.member_node.specs.Batches.{CanDraw, HasDone};
 ghost use Rattle.member_node.specs.Copies.{RestsAt};
@@ -26,7 +26,7 @@ use cmd_report::{closing, reply_lines};
 use mas_complex::{Complex, Steady};
 use mas_types::{Closing, Command, Entry, JobNo, Lines, MemberId, NoMemory, Reply};
 use member_node::{Member, NodeNo};
-use spool_disk::Plant;
+use spool_plant::Plant;
 use std::alloc::Global;
 
 // Whether a step may close with the reply to this command.

@@ -16,7 +16,7 @@ ghost use Rattle.member_decks.specs.Spooling.{AreQuiet, OnVolumes, Rise, SpoolCa
 
 use mas_complex::{Complex, Steady};
 use mas_types::{GroupNo, Lines, MemberId, Page};
-use spool_disk::{Act, Plant};
+use spool_plant::{Act, Plant};
 use spool_text::{law_of_groups, pack};
 use spool_volumes::{law_of_read_texts, volume_of};
 

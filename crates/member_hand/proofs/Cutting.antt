@@ -11,8 +11,8 @@ use Rattle.mas_types.specs.Queue.{job_at, output_at}
 use Rattle.std.specs.Option.{option_map_or}
 use Rattle.mas_types.specs.Run.{run}
 use Rattle.lock_cycle.specs.Books.{Book, after_stop}
-use Rattle.spool_disk.specs.View.{View, paper_now}
-use Rattle.spool_disk.specs.declared.plant.Plant.{Ghosts as PlantGhosts}
+use Rattle.spool_plant.specs.View.{View, paper_now}
+use Rattle.spool_plant.specs.declared.plant.Plant.{Ghosts as PlantGhosts}
 use Rattle.ckpt_copy.specs.declared.copying.Copying.{Ghosts as CopyGhosts}
 use Rattle.mas_complex.specs.Paper.{counts_of}
 use Rattle.mas_complex.specs.Parts.{Parts}

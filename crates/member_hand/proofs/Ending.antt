@@ -1,8 +1,8 @@
 -- A step that is told leaves nothing more.
 use Rattle.std.proofs.Common.{◌≡◌, inr, ℕ, false, [], None, Ok, append-nil, refl, sym, ap, ◌∙◌, subst, arith}
 use Rattle.std.proofs.lemmas.List.Elements.{All-nil}
-use Rattle.spool_disk.specs.View.{View, paper_now}
-use Rattle.spool_disk.specs.declared.plant.Plant.{Ghosts as PlantGhosts}
+use Rattle.spool_plant.specs.View.{View, paper_now}
+use Rattle.spool_plant.specs.declared.plant.Plant.{Ghosts as PlantGhosts}
 use Rattle.ckpt_copy.specs.declared.copying.Copying.{Ghosts as CopyGhosts}
 use Rattle.mas_complex.specs.Journals.{end_of}
 use Rattle.mas_complex.specs.Parts.{Parts}

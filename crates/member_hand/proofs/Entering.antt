@@ -8,7 +8,7 @@ use Rattle.mas_types.specs.Commands.Life.{outputs_at_end}
 use Rattle.mas_types.specs.Queue.{job_at}
 use Rattle.mas_types.specs.Sound.{IsSound}
 use Rattle.lock_cycle.specs.Books.{Book, IsMember, granted, is_holder, is_stopped, ticked, try_refusal}
-use Rattle.spool_disk.specs.declared.plant.Plant.{Ghosts as PlantGhosts}
+use Rattle.spool_plant.specs.declared.plant.Plant.{Ghosts as PlantGhosts}
 use Rattle.ckpt_copy.specs.declared.copying.Copying.{Ghosts as CopyGhosts}
 use Rattle.track_groups.specs.Groups.{held_by}
 use Rattle.mas_complex.specs.Parts.{Parts, with_copies}

@@ -7,9 +7,9 @@ use Rattle.mas_types.specs.Queue.{is_member}
 use Rattle.mas_types.specs.Run.{run}
 use Rattle.mas_types.specs.Sound.{IsSound}
 use Rattle.lock_cycle.specs.Books.{Book, IsMember, after_spend, is_stopped}
-use Rattle.spool_disk.specs.View.{View}
-use Rattle.spool_disk.specs.declared.plant.Plant.{Ghosts as PlantGhosts}
-use Rattle.ckpt_pages.specs.Shape.{page_count}
+use Rattle.spool_plant.specs.View.{View}
+use Rattle.spool_plant.specs.declared.plant.Plant.{Ghosts as PlantGhosts}
+use Rattle.ckpt_tables.specs.Shape.{page_count}
 use Rattle.ckpt_copy.specs.declared.copying.Copying.{Ghosts as CopyGhosts}
 use Rattle.mas_complex.specs.Locking.{MayAct}
 use Rattle.mas_complex.specs.Parts.{Parts}

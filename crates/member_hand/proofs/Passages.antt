@@ -1,7 +1,7 @@
 -- What becomes of the copies in a step, one act after another.
 use Rattle.std.proofs.Common.{◌≡◌, inl, refl, ◌∙◌, ◌||◌, ℕ, Bool, true, false}
 use Rattle.mas_types.specs.declared.ids.Dev.TheVariants.{Ckpt1, Ckpt2}
-use Rattle.spool_disk.specs.View.{View}
+use Rattle.spool_plant.specs.View.{View}
 use Rattle.ckpt_copy.specs.Moments.{goes_on}
 use Rattle.member_node.specs.Calls.{Course}
 use Rattle.member_node.proofs.CourseLemmas.{either_alive, grow_grow, lost_later, lost_more, no}

@@ -9,8 +9,8 @@ use Rattle.mas_types.specs.declared.commands.Reply.TheVariants as reply
 use Rattle.mas_types.specs.declared.ids.JobNo.{JobNo}
 use Rattle.mas_types.specs.declared.ids.MemberId.{MemberId}
 use Rattle.mas_types.specs.Closings.{reply_lines}
-use Rattle.spool_disk.specs.Acts.{Goes}
-use Rattle.spool_disk.specs.View.{View}
+use Rattle.spool_plant.specs.Acts.{Goes}
+use Rattle.spool_plant.specs.View.{View}
 use Rattle.ckpt_copy.specs.Moments.{goes_none}
 use Rattle.member_steps.specs.Steps.{entry_with}
 use Rattle.member_decks.specs.Steps.{AreOf, IsFoundLost}

@@ -6,8 +6,8 @@ use Rattle.mas_types.specs.declared.journals.Entry.{Entry}
 use Rattle.mas_types.specs.declared.queues.Queue.{Queue}
 use Rattle.mas_types.specs.Ids.{nobody}
 use Rattle.lock_cycle.specs.Books.{Book}
-use Rattle.spool_disk.specs.View.{Line, View, paper_now}
-use Rattle.spool_disk.specs.declared.plant.Plant.{Ghosts as PlantGhosts}
+use Rattle.spool_plant.specs.View.{Line, View, paper_now}
+use Rattle.spool_plant.specs.declared.plant.Plant.{Ghosts as PlantGhosts}
 use Rattle.ckpt_copy.specs.declared.copying.Copying.{Ghosts as CopyGhosts}
 use Rattle.mas_complex.specs.Paper.{SamePapers, counts_of}
 use Rattle.mas_complex.specs.Parts.{Parts, with_copies}

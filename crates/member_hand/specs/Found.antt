@@ -12,7 +12,7 @@ use Rattle.mas_types.specs.declared.queues.Queue.{Queue}
 use Rattle.mas_types.specs.declared.queues.Thing.TheVariants.{Deck, Output as OutputThing}
 use Rattle.mas_types.specs.Queue.{job_at, output_at}
 use Rattle.mas_types.specs.Run.{run}
-use Rattle.spool_disk.specs.View.{View}
+use Rattle.spool_plant.specs.View.{View}
 use Rattle.track_groups.specs.Places.{groups_of}
 use Rattle.member_decks.specs.Steps.{names_volume}
 use Rattle.member_work.specs.Rounds.{HasPrinterFailed, IsReadAs, IsSpoolLost, names_read}

@@ -6,7 +6,7 @@ use Rattle.mas_types.specs.declared.commands.Reply.{Reply}
 use Rattle.mas_types.specs.declared.ids.MemberId.{MemberId}
 use Rattle.mas_types.specs.declared.journals.Entry.{Entry}
 use Rattle.mas_types.specs.Closings.{closing_line, reply_lines}
-use Rattle.spool_disk.specs.View.{View}
+use Rattle.spool_plant.specs.View.{View}
 use Rattle.job_outcome.specs.declared.outcomes.Read.TheVariants.{Lost}
 use Rattle.member_steps.specs.Steps.{entry_with}
 use Rattle.member_decks.specs.Steps.{IsFoundLost}

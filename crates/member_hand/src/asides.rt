@@ -10,7 +10,7 @@ use mas_types::{Lines, List};
 use member_node::{Member, NodeNo};
 use member_sittings::spool_deck;
 use member_units::{print_next_lines, read_job_text, write_outputs};
-use spool_disk::Plant;
+use spool_plant::Plant;
 use std::alloc::Global;
 use step_turns::{Aside, Found, Grant, State};
 

@@ -11,7 +11,7 @@ use mas_complex::{Complex, Steady};
 use mas_types::MemberId;
 use member_node::{Member, NodeNo};
 use member_sittings::{SittingEnd, keep_seat, take_seat};
-use spool_disk::Plant;
+use spool_plant::Plant;
 use std::alloc::Global;
 use step_turns::{Grant, Holder, Release};
 

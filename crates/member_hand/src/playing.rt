@@ -16,7 +16,7 @@ use mas_complex::{Complex, Steady};
 use mas_types::MemberId;
 use member_node::{Member, NodeNo};
 use member_sittings::SittingEnd;
-use spool_disk::Plant;
+use spool_plant::Plant;
 use std::alloc::Global;
 use step_turns::{Holder, State, Task};
 

@@ -9,7 +9,7 @@ use mas_complex::{Complex, Steady};
 use member_node::{Member, NodeNo};
 use member_sittings::{SittingEnd, SpooledDeck, sit_command, sit_deck, sit_spooled};
 use member_units::{resume_work, sit_work};
-use spool_disk::Plant;
+use spool_plant::Plant;
 use std::alloc::Global;
 use step_turns::{Aside, Found, Holder, Progress, State, Task};
 

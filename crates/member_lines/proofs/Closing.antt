@@ -6,11 +6,11 @@ use Rattle.mas_types.specs.Closings.{closing_line}
 use Rattle.mas_types.specs.Ids.{nobody}
 use Rattle.lock_cycle.specs.declared.answers.LockNo.{LockNo}
 use Rattle.lock_cycle.specs.Books.{Book, IsMember, after_stop, is_stopped}
-use Rattle.spool_disk.specs.declared.plant.Act.TheVariants.{Done, Failed, Halted as ActHalted}
-use Rattle.spool_disk.specs.declared.plant.Part.TheVariants.{Console}
-use Rattle.spool_disk.specs.declared.plant.Plant.{Ghosts as PlantGhosts}
-use Rattle.spool_disk.specs.View.{Line, View}
-use Rattle.spool_disk.specs.Acts.{Acts, Said, Says}
+use Rattle.spool_plant.specs.declared.plant.Act.TheVariants.{Done, Failed, Halted as ActHalted}
+use Rattle.spool_plant.specs.declared.plant.Part.TheVariants.{Console}
+use Rattle.spool_plant.specs.declared.plant.Plant.{Ghosts as PlantGhosts}
+use Rattle.spool_plant.specs.View.{Line, View}
+use Rattle.spool_plant.specs.Acts.{Acts, Said, Says}
 use Rattle.mas_complex.specs.Locking.{IsUp}
 use Rattle.mas_complex.specs.Parts.{Parts}
 use Rattle.member_node.specs.declared.member.NodeNo.{NodeNo}

@@ -2,13 +2,13 @@
 use Rattle.std.specs.Prelude.{◌≡◌, ◌⊎◌, ℕ, ◌≤◌, length, true, Option, Some, None, Result, Ok, Err, IsErrOf, OnOk}
 use Rattle.mas_types.specs.declared.ids.Dev.{Dev}
 use Rattle.mas_types.specs.declared.ids.MemberId.{MemberId}
-use Rattle.spool_disk.specs.Acts.{Rose}
-use Rattle.spool_disk.specs.View.{View}
-use Rattle.spool_disk.specs.declared.plant.Part.TheVariants.{Disk as DiskPart}
-use Rattle.spool_disk.specs.declared.plant.Plant.{Ghosts as PlantGhosts}
+use Rattle.spool_plant.specs.Acts.{Rose}
+use Rattle.spool_plant.specs.View.{View}
+use Rattle.spool_plant.specs.declared.plant.Part.TheVariants.{Disk as DiskPart}
+use Rattle.spool_plant.specs.declared.plant.Plant.{Ghosts as PlantGhosts}
 use Rattle.ckpt_copy.specs.declared.copying.Copying.{Ghosts as CopyGhosts}
 use Rattle.ckpt_form.specs.declared.steady.Steady.{Ghosts as SteadyGhosts}
-use Rattle.ckpt_pages.specs.Shape.{page_count}
+use Rattle.ckpt_tables.specs.Shape.{page_count}
 use Rattle.duplex_pair.specs.declared.replacing.ReplaceNo.{ReplaceNo}
 use Rattle.duplex_pair.specs.declared.replacing.ReplaceNo.TheVariants as no
 use Rattle.duplex_pair.specs.Halves.{IsBothLost, IsCkpt, pick}

@@ -13,7 +13,7 @@ use lock_cycle::LockNo;
 use mas_complex::{Complex, Steady};
 use mas_types::{Closing, Command, Config, Copied, Dev, Lines, MemberId, NoMemory, Refusal, Reply};
 use script_lang::Ask;
-use spool_disk::Plant;
+use spool_plant::Plant;
 use std::alloc::Global;
 use step_turns::Task;
 

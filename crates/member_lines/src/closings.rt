@@ -13,7 +13,7 @@ use lock_cycle::LockNo;
 use mas_complex::{Complex, Steady};
 use mas_types::{Closing, MemberId, closing_line};
 use member_node::NodeNo;
-use spool_disk::{Act, Plant};
+use spool_plant::{Act, Plant};
 use std::alloc::Global;
 
 /// The step that a closing line is of.

@@ -14,7 +14,7 @@ use mas_complex::{Complex, Steady};
 use mas_types::{Closing, MemberId, Reply};
 use member_node::{Member, NodeNo};
 use member_sittings::take_seat;
-use spool_disk::Plant;
+use spool_plant::Plant;
 use std::alloc::Global;
 
 /// The member that holds the lock says so, and gives it up. Nothing may be in flight.

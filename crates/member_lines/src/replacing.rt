@@ -20,7 +20,7 @@ use mas_complex::{Complex, Steady};
 use mas_types::{Closing, Dev, MemberId, Reply};
 use member_node::{Member, NodeNo};
 use member_sittings::{keep_seat, release_of, take_seat};
-use spool_disk::Plant;
+use spool_plant::Plant;
 use std::alloc::Global;
 use step_turns::{Grant, Holder, Release, State};
 

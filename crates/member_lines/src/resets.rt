@@ -14,7 +14,7 @@ use mas_types::{Closing, Command, MemberId, Reply};
 use member_node::{Member, NodeNo};
 use member_sittings::{SittingEnd, close_sitting};
 use queue_texts::law_of_texts;
-use spool_disk::Plant;
+use spool_plant::Plant;
 use std::alloc::Global;
 use step_turns::Holder;
 

@@ -6,7 +6,7 @@ ghost use Rattle.member_lines.specs.Stops.{ArmsStop, Stops};
 use crate::admissions::is_member;
 use mas_complex::{Complex, Steady};
 use mas_types::MemberId;
-use spool_disk::{Fuse, Plant};
+use spool_plant::{Fuse, Plant};
 
 /// A member that is up stops between acts, and holds what it held. A stop of a stopped member, or of one above the
 /// configured ones, does nothing.

@@ -1,7 +1,7 @@
 -- Pages that are alike to a member's own.
 use Rattle.std.proofs.Common.{◌≡◌, ℕ, true, List, sym, subst}
 use Rattle.mas_types.specs.declared.ids.Page.{Page}
-use Rattle.ckpt_pages.specs.declared.tables.Tables.{Tables}
+use Rattle.ckpt_tables.specs.declared.tables.Tables.{Tables}
 use Rattle.ckpt_pages.specs.Checkpoints.{IsCheckpoint, SpellSome}
 use Rattle.mas_complex.specs.Fits.{are_same}
 use Rattle.member_node.specs.declared.checkpoint.Checkpoint.{Checkpoint}

@@ -4,9 +4,9 @@ use Rattle.std.specs.Str.{bytes_eq}
 use Rattle.std.proofs.lemmas.Slice.Eq.{bytes_eq-Decides}
 use Rattle.mas_types.specs.declared.ids.Page.{Page}
 use Rattle.mas_types.specs.Limits.{page_bytes}
-use Rattle.ckpt_pages.specs.declared.tables.Tables.{Tables}
-use Rattle.ckpt_pages.specs.Shape.{HasSpelling, AreLevels}
-use Rattle.ckpt_pages.specs.Pages.{page_in, Spell}
+use Rattle.ckpt_tables.specs.declared.tables.Tables.{Tables}
+use Rattle.ckpt_tables.specs.Shape.{HasSpelling, AreLevels}
+use Rattle.ckpt_tables.specs.Pages.{page_in, Spell}
 use Rattle.mas_complex.specs.Fits.{are_same}
 use Rattle.member_node.specs.Drawn.{AreDrawn}
 

@@ -13,19 +13,19 @@ use Rattle.mas_types.specs.declared.ids.Page.{Page}
 use Rattle.mas_types.specs.Limits.{page_bytes, routes_most}
 use Rattle.lay_bytes.specs.Fields.{piece}
 use Rattle.ckpt_copy.specs.Pages.{bytes_of, level, page_in as page_of_bytes, ArePages, Covers}
-use Rattle.ckpt_pages.specs.declared.tables.Tables.{Tables}
-use Rattle.ckpt_pages.specs.Shape.{differing, differing_from, page_count, HasSpelling, AreLevels}
-use Rattle.ckpt_pages.specs.Pages.{page_in, page_of, Spell}
+use Rattle.ckpt_tables.specs.declared.tables.Tables.{Tables}
+use Rattle.ckpt_tables.specs.Shape.{differing, differing_from, page_count, HasSpelling, AreLevels}
+use Rattle.ckpt_tables.specs.Pages.{page_in, page_of, Spell}
 use Rattle.ckpt_pages.proofs.LevelLemmas.{level_spelled}
 use Rattle.mas_types.specs.declared.queues.Config.{Config}
 use Rattle.mas_types.specs.declared.queues.Route.{Route}
 use Rattle.mas_types.specs.Fit.{IsConfig}
-use Rattle.ckpt_pages.specs.Shape.{IsRoute}
+use Rattle.ckpt_tables.specs.Shape.{IsRoute}
 use Rattle.ckpt_pages.specs.Starts.{empty_tables, first_levels}
 use Rattle.ckpt_pages.specs.Laws.{EmptyHasSpelling, AreFirstLevels}
 use Rattle.mas_types.specs.declared.queues.Queue.{Queue}
-use Rattle.queue_tables.specs.Orders.{HaveOrders}
-use Rattle.queue_tables.specs.Telling.{Tell, PagesTell}
+use Rattle.queue_telling.specs.Orders.{HaveOrders}
+use Rattle.queue_telling.specs.Telling.{Tell, PagesTell}
 use Rattle.mas_complex.specs.Crash.{next_order}
 use Rattle.mas_complex.specs.Meaning.{StandFor}
 use Rattle.mas_complex.proofs.Orders.{order_spelled}

@@ -13,18 +13,18 @@ use Rattle.mas_types.specs.declared.queues.Queue.{Queue}
 use Rattle.mas_types.specs.declared.queues.Config.{Config}
 use Rattle.mas_types.specs.Limits.{page_bytes}
 use Rattle.ckpt_copy.specs.Pages.{bytes_of, level, page_in as page_of_bytes}
-use Rattle.ckpt_pages.specs.declared.tables.Tables.{Tables}
+use Rattle.ckpt_tables.specs.declared.tables.Tables.{Tables}
 use Rattle.ckpt_pages.specs.Checkpoints.{IsCheckpoint, IsLeastBad, SpellSome, SpellsOneAtMost}
 use Rattle.ckpt_pages.specs.Given.{levels_given, AreTheirLevels}
-use Rattle.ckpt_pages.specs.Pages.{page_in}
-use Rattle.ckpt_pages.specs.Shape.{page_count}
-use Rattle.queue_tables.specs.Orders.{HaveOrders}
-use Rattle.queue_tables.specs.Telling.{Tell}
+use Rattle.ckpt_tables.specs.Pages.{page_in}
+use Rattle.ckpt_tables.specs.Shape.{page_count}
+use Rattle.queue_telling.specs.Orders.{HaveOrders}
+use Rattle.queue_telling.specs.Telling.{Tell}
 use Rattle.mas_complex.specs.Meaning.{StandFor}
 use Rattle.member_node.specs.declared.checkpoint.Checkpoint.{Checkpoint}
 use Rattle.member_node.specs.Drawn.{AreDrawn}
 use Rattle.mas_types.specs.declared.ids.Dev.{Dev}
-use Rattle.spool_disk.specs.View.{View, disk_now}
+use Rattle.spool_plant.specs.View.{View, disk_now}
 use Rattle.duplex_pair.specs.Halves.{SomeAlive}
 use Rattle.member_node.specs.Reads.{AreLow, ArePagesOf, HasRead, IsRead, IsReadIn, IsReadWhole, IsUpTo, MayGoOn, ReadCauses, ReadInCauses, ReadsAs, ReadsLow, StandAt, copies_alive, orders_after, too_high}
 use Rattle.member_node.specs.Copies.{RestsAt}

@@ -6,11 +6,11 @@ use Rattle.mas_types.specs.declared.journals.Entry.{Entry}
 use Rattle.mas_types.specs.declared.queues.Queue.{Queue}
 use Rattle.ckpt_copy.specs.Moments.{either_way}
 use Rattle.ckpt_copy.specs.Pages.{bytes_of, ArePages}
-use Rattle.ckpt_pages.specs.declared.tables.Tables.{Tables}
-use Rattle.ckpt_pages.specs.Shape.{page_count}
+use Rattle.ckpt_tables.specs.declared.tables.Tables.{Tables}
+use Rattle.ckpt_tables.specs.Shape.{page_count}
 use Rattle.queue_tables.specs.Laws.{PagesTellAlike}
-use Rattle.queue_tables.specs.Orders.{HaveOrders}
-use Rattle.queue_tables.specs.Telling.{Tell, PagesTell}
+use Rattle.queue_telling.specs.Orders.{HaveOrders}
+use Rattle.queue_telling.specs.Telling.{Tell, PagesTell}
 use Rattle.mas_complex.specs.Crash.{RaisesOrders, next_order, orders_most}
 use Rattle.mas_complex.specs.Meaning.{run}
 use Rattle.ckpt_places.specs.declared.places.Place.{Place}

@@ -9,9 +9,9 @@ use Rattle.std.proofs.lemmas.List.{append-nil, drop_all, take_more, length-appen
 use Rattle.std.proofs.lemmas.List.Elements.{All-nil, All-cons, All-head}
 use Rattle.mas_types.specs.declared.ids.Page.{Page}
 use Rattle.mas_types.specs.Limits.{page_bytes}
-use Rattle.ckpt_pages.specs.declared.tables.Tables.{Tables}
-use Rattle.ckpt_pages.specs.Shape.{differing, differing_from, page_count, AreLevels, HasSpelling}
-use Rattle.ckpt_pages.specs.Pages.{page_in, page_of}
+use Rattle.ckpt_tables.specs.declared.tables.Tables.{Tables}
+use Rattle.ckpt_tables.specs.Shape.{differing, differing_from, page_count, AreLevels, HasSpelling}
+use Rattle.ckpt_tables.specs.Pages.{page_in, page_of}
 use Rattle.mas_complex.specs.Fits.{are_same}
 use Rattle.member_node.specs.Drawn.{drawn_again, raised}
 use Rattle.member_node.specs.Redrawn.{AreChanges, IsSpelling}

@@ -4,8 +4,8 @@ use Rattle.std.proofs.lemmas.Bool.Decides.{nat_tests}
 use Rattle.std.proofs.lemmas.Slice.Eq.{bytes_eq-Decides}
 use Rattle.std.specs.Str.{bytes_eq}
 use Rattle.mas_types.specs.declared.ids.Page.{Page}
-use Rattle.ckpt_pages.specs.declared.tables.Tables.{Tables}
-use Rattle.ckpt_pages.specs.Pages.{page_in, page_of, Spell}
+use Rattle.ckpt_tables.specs.declared.tables.Tables.{Tables}
+use Rattle.ckpt_tables.specs.Pages.{page_in, page_of, Spell}
 
 page_got : (pages : List Page) (p : ℕ) (d : Page) → p < length pages → (get_or pages p d).0 ≡ page_in pages p
 page_got [] p d lt = absurd (omega (arith, lt))

@@ -6,12 +6,12 @@ use Rattle.mas_types.specs.declared.commands.Reply.TheVariants.{Plain}
 use Rattle.mas_types.specs.declared.journals.Entry.{Entry}
 use Rattle.mas_types.specs.declared.queues.Queue.{Queue}
 use Rattle.mas_types.specs.Limits.{page_bytes}
-use Rattle.spool_disk.specs.Acts.{top}
+use Rattle.spool_plant.specs.Acts.{top}
 use Rattle.ckpt_copy.specs.Pages.{bytes_of, level}
-use Rattle.ckpt_pages.specs.Pages.{Spell}
-use Rattle.ckpt_pages.specs.Shape.{HasSpelling, AreLevels, page_count}
-use Rattle.queue_tables.specs.Orders.{HaveOrders}
-use Rattle.queue_tables.specs.Telling.{Tell, PagesTell, AreToldAlike}
+use Rattle.ckpt_tables.specs.Pages.{Spell}
+use Rattle.ckpt_tables.specs.Shape.{HasSpelling, AreLevels, page_count}
+use Rattle.queue_telling.specs.Orders.{HaveOrders}
+use Rattle.queue_telling.specs.Telling.{Tell, PagesTell, AreToldAlike}
 use Rattle.mas_complex.specs.Crash.{next_order}
 use Rattle.mas_complex.specs.Meaning.{StandFor, run}
 use Rattle.mas_complex.specs.Replies.{HaveReplies}

@@ -2,9 +2,9 @@
 use Rattle.std.specs.Prelude.{◌≡◌, ℕ, List, [], ◌∷◌, length, All, slice_set}
 use Rattle.mas_types.specs.declared.ids.Page.{Page}
 use Rattle.mas_types.specs.Limits.{page_bytes}
-use Rattle.ckpt_pages.specs.declared.tables.Tables.{Tables}
-use Rattle.ckpt_pages.specs.Shape.{HasSpelling, AreLevels}
-use Rattle.ckpt_pages.specs.Pages.{page_of, Spell}
+use Rattle.ckpt_tables.specs.declared.tables.Tables.{Tables}
+use Rattle.ckpt_tables.specs.Shape.{HasSpelling, AreLevels}
+use Rattle.ckpt_tables.specs.Pages.{page_of, Spell}
 
 -- the pages spell the tables, and were drawn at this level
 pub record AreDrawn (t : Tables) (level : ℕ) (levels : List ℕ) (pages : List Page) : Type 0 where

@@ -3,9 +3,9 @@ use Rattle.std.specs.Prelude.{◌≡◌, ℕ, ◌+◌, true, false, List, length
 use Rattle.mas_types.specs.declared.ids.Page.{Page}
 use Rattle.mas_types.specs.Limits.{page_bytes}
 use Rattle.ckpt_copy.specs.Pages.{bytes_of, ArePages, Covers}
-use Rattle.ckpt_pages.specs.declared.tables.Tables.{Tables}
-use Rattle.ckpt_pages.specs.Pages.{Spell}
-use Rattle.ckpt_pages.specs.Shape.{differing}
+use Rattle.ckpt_tables.specs.declared.tables.Tables.{Tables}
+use Rattle.ckpt_tables.specs.Pages.{Spell}
+use Rattle.ckpt_tables.specs.Shape.{differing}
 use Rattle.mas_complex.specs.Changed.{NamesOnly}
 use Rattle.mas_complex.specs.Fits.{are_same}
 use Rattle.member_node.specs.declared.checkpoint.Draft.{Draft}

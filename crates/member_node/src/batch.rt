@@ -3,8 +3,8 @@ ghost use Rattle.std.specs.Prelude.{◌≡◌, ◌+◌, ◌≤◌, ◌<◌, ◌+
 ghost use Rattle.mas_types.specs.declared.ids.Dev.TheVariants.{Ckpt1, Ckpt2};
 ghost use Rattle.mas_types.specs.declared.journals.Batch.{Batch};
 ghost use Rattle.mas_types.specs.declared.journals.Fate.TheVariants.{Kept};
-ghost use Rattle.spool_disk.specs.View.{disk_now};
-ghost use Rattle.spool_disk.specs.Acts.{top};
+ghost use Rattle.spool_plant.specs.View.{disk_now};
+ghost use Rattle.spool_plant.specs.Acts.{top};
 ghost use Rattle.ckpt_copy.specs.Pages.{bytes_of, level, ArePages, Covers};
 ghost use Rattle.duplex_pair.specs.declared.errors.PairNo.TheVariants.{BothLost as PairNoBothLost};
 ghost use Rattle.duplex_pair.specs.Halves.{IsBothLost, SomeAlive};
@@ -24,7 +24,7 @@ ghost use Rattle.mas_complex.specs.Paper.{MayBegin, printed_after};
 use duplex_pair::PairNo;
 use mas_complex::{Complex, Steady};
 use mas_types::{Dev, MemberId, Page};
-use spool_disk::Plant;
+use spool_plant::Plant;
 
 // The reserved batch begins, and its pages stand behind the closed gates of both copies.
 fn log_both<P: Plant + Drop, C: Steady + Drop>(

@@ -5,13 +5,14 @@ ghost use Rattle.mas_types.specs.Fit.{IsConfig};
 ghost use Rattle.mas_types.specs.Limits.{page_bytes, routes_most};
 ghost use Rattle.ckpt_copy.specs.Pages.{bytes_of, ArePages, Covers};
 ghost use Rattle.mas_complex.specs.Changed.{NamesOnly};
-ghost use Rattle.ckpt_pages.specs.Shape.{page_count as page_count_lem, HasShape, HasSpelling, AreLevels, IsRoute};
-ghost use Rattle.ckpt_pages.specs.Pages.{Spell};
+ghost use Rattle.ckpt_tables.specs.Shape.{page_count as page_count_lem, HasShape, HasSpelling, AreLevels, IsRoute};
+ghost use Rattle.ckpt_tables.specs.Pages.{Spell};
 ghost use Rattle.ckpt_pages.specs.Starts.{empty_tables, first_levels as first_levels_lem};
 ghost use Rattle.member_node.specs.Drawn.{AreDrawn, drawn_again, raised};
 ghost use Rattle.member_node.specs.Redrawn.{AreChanges, IsDraft, IsRedrawn, IsSameWhere};
 
-use ckpt_pages::{Tables, empty, encode, encode_page, law_of_empty_tables, page_count};
+use ckpt_pages::{empty, encode, encode_page, law_of_empty_tables};
+use ckpt_tables::{Tables, page_count};
 use lay_bytes::is_same_page;
 use mas_types::limits::PAGE_BYTES;
 use mas_types::{Config, Level, List, NoMemory, Page, Route};

@@ -4,11 +4,11 @@ ghost use Rattle.std.specs.List.{list_all};
 ghost use Rattle.mas_types.specs.declared.ids.Dev.{Dev};
 ghost use Rattle.mas_types.specs.declared.ids.Dev.TheVariants.{Ckpt1, Ckpt2};
 ghost use Rattle.mas_types.specs.Limits.{page_bytes, pages_most};
-ghost use Rattle.spool_disk.specs.View.{disk_now};
+ghost use Rattle.spool_plant.specs.View.{disk_now};
 ghost use Rattle.ckpt_copy.specs.Pages.{bytes_of, level, page_in};
-ghost use Rattle.ckpt_pages.specs.declared.tables.Tables.{Tables as TablesLem};
+ghost use Rattle.ckpt_tables.specs.declared.tables.Tables.{Tables as TablesLem};
 ghost use Rattle.ckpt_pages.specs.Checkpoints.{IsCheckpoint, SpellSome};
-ghost use Rattle.ckpt_pages.specs.Shape.{page_count};
+ghost use Rattle.ckpt_tables.specs.Shape.{page_count};
 ghost use Rattle.duplex_pair.specs.Halves.{SomeAlive};
 ghost use Rattle.duplex_pair.specs.Outcomes.{least_room};
 ghost use Rattle.mas_complex.specs.Fits.{are_same};
@@ -16,23 +16,21 @@ ghost use Rattle.mas_complex.specs.Journals.{kept_all};
 ghost use Rattle.mas_complex.specs.Locking.{MayAct};
 ghost use Rattle.mas_complex.specs.Meaning.{run};
 ghost use Rattle.member_node.specs.declared.member.NodeNo.TheVariants as no_node;
-ghost use Rattle.queue_tables.specs.Orders.{HaveOrders};
-ghost use Rattle.queue_tables.specs.Telling.{Tell};
+ghost use Rattle.queue_telling.specs.Orders.{HaveOrders};
+ghost use Rattle.queue_telling.specs.Telling.{Tell};
 ghost use Rattle.ckpt_places.specs.declared.places.Place.TheVariants.{Before};
 ghost use Rattle.member_node.specs.Calls.{Course};
 ghost use Rattle.member_node.specs.Spares.{Spares};
 ghost use Rattle.member_node.specs.Reads.{ArePagesOf, IsCalm, IsRead, IsReadWhole, MayGoOn, ReadsAs, StandAt, copies_alive, is_job_below, is_output_below};
 
 use crate::member::{Member, NodeNo};
-use ckpt_pages::{
-    PageNo, Tables, decode, first_bad, law_of_checkpoints, law_of_levels, law_of_page_sizes,
-    levels_of,
-};
+use ckpt_pages::{PageNo, decode, first_bad, law_of_checkpoints, law_of_levels, levels_of};
+use ckpt_tables::{Tables, law_of_page_sizes};
 use duplex_pair::{PairNo, pages_level};
 use lay_bytes::{JobRec, OutRec};
 use mas_complex::{Complex, Steady, same_pages};
 use mas_types::{Config, Dev, Level, List, MemberId, NoMemory, Page};
-use spool_disk::Plant;
+use spool_plant::Plant;
 use std::alloc::Global;
 
 /// From here on a level or an order doesn't leave a step all that it can use: no run of this program comes so far.

@@ -1,9 +1,9 @@
 //! How a member replaces a lost copy.
 ghost use Rattle.std.specs.Prelude.{◌≡◌, ◌≤◌, None, length, true, IsErrOf, OnOk};
 ghost use Rattle.mas_types.specs.declared.ids.Dev.TheVariants.{Ckpt1, Ckpt2};
-ghost use Rattle.spool_disk.specs.Acts.{Rose};
-ghost use Rattle.spool_disk.specs.View.{disk_now};
-ghost use Rattle.spool_disk.specs.declared.plant.Part.TheVariants.{Disk};
+ghost use Rattle.spool_plant.specs.Acts.{Rose};
+ghost use Rattle.spool_plant.specs.View.{disk_now};
+ghost use Rattle.spool_plant.specs.declared.plant.Part.TheVariants.{Disk};
 ghost use Rattle.duplex_pair.specs.declared.replacing.ReplaceNo.TheVariants.{NotLost, BothLost, Failed};
 ghost use Rattle.duplex_pair.specs.Halves.{IsBothLost, IsCkpt, other, pick};
 ghost use Rattle.duplex_pair.specs.Replacing.{IsFormed, Replaces, replace_stopped};
@@ -15,7 +15,7 @@ use crate::member::Member;
 use duplex_pair::ReplaceNo;
 use mas_complex::{Complex, Steady};
 use mas_types::Dev;
-use spool_disk::Plant;
+use spool_plant::Plant;
 
 impl Member {
     ghost use Rattle.member_node.specs.Copies.{RestsAt};

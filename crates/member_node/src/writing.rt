@@ -5,9 +5,9 @@ ghost use Rattle.mas_types.specs.declared.ids.Dev.TheVariants.{Ckpt1, Ckpt2};
 ghost use Rattle.mas_types.specs.declared.ids.MemberId.{MemberId};
 ghost use Rattle.mas_types.specs.declared.journals.Batch.{Batch};
 ghost use Rattle.mas_types.specs.declared.journals.Fate.TheVariants.{Kept};
-ghost use Rattle.spool_disk.specs.declared.plant.Part.TheVariants.{Console};
-ghost use Rattle.spool_disk.specs.View.{disk_now};
-ghost use Rattle.spool_disk.specs.Acts.{Acts, Says};
+ghost use Rattle.spool_plant.specs.declared.plant.Part.TheVariants.{Console};
+ghost use Rattle.spool_plant.specs.View.{disk_now};
+ghost use Rattle.spool_plant.specs.Acts.{Acts, Says};
 ghost use Rattle.ckpt_places.specs.declared.places.Place.TheVariants.{Before as AtBefore};
 ghost use Rattle.mas_complex.specs.Crash.{IsUntold, setting};
 ghost use Rattle.mas_complex.specs.Journals.{begun, end_of, entries_reserved, fated, in_flight, kept_all, with_last, StepIsKept};
@@ -25,7 +25,7 @@ use crate::member::{Member, NodeNo};
 use duplex_pair::PairNo;
 use mas_complex::{Complex, Steady};
 use mas_types::{List, NoMemory};
-use spool_disk::{Act, Plant};
+use spool_plant::{Act, Plant};
 use std::alloc::Global;
 
 impl Member {

@@ -1,7 +1,7 @@
 -- A deck's text that is spooled without the lock.
 use Rattle.std.proofs.Common.{OnOk, ℕ, zero, suc, List, [], ◌∷◌, take, All, Result, Ok, Err, refl}
 use Rattle.std.proofs.lemmas.List.Elements.{All-nil, All-cons, All-head, All-tail}
-use Rattle.spool_disk.specs.declared.plant.Plant.{Ghosts as PlantGhosts}
+use Rattle.spool_plant.specs.declared.plant.Plant.{Ghosts as PlantGhosts}
 use Rattle.mas_complex.specs.Parts.{Parts}
 use Rattle.mas_types.specs.declared.jobs.Text.TheVariants.{Whole}
 use Rattle.spool_volumes.specs.Volumes.{AreRoomy}

@@ -2,8 +2,8 @@
 use Rattle.std.proofs.Common.{◌≡◌, inr, ℕ, ◌≤◌, Bool, List, [], ◌∷◌, ◌++◌, length, None, false, Result, Ok, Err, append-nil, refl, sym, ◌∙◌, ap, subst, arith}
 use Rattle.mas_types.specs.declared.ids.MemberId.{MemberId}
 use Rattle.mas_types.specs.declared.journals.Entry.{Entry}
-use Rattle.spool_disk.specs.View.{View}
-use Rattle.spool_disk.specs.declared.plant.Plant.{Ghosts as PlantGhosts}
+use Rattle.spool_plant.specs.View.{View}
+use Rattle.spool_plant.specs.declared.plant.Plant.{Ghosts as PlantGhosts}
 use Rattle.mas_complex.specs.Journals.{begun}
 use Rattle.mas_complex.specs.Parts.{Parts}
 use Rattle.member_node.specs.declared.member.NodeNo.{NodeNo}

@@ -5,7 +5,7 @@ use Rattle.mas_types.specs.declared.ids.MemberId.{MemberId}
 use Rattle.mas_types.specs.declared.journals.Batch.{Batch}
 use Rattle.mas_types.specs.declared.journals.Entry.{Entry}
 use Rattle.mas_types.specs.declared.journals.Fate.TheVariants.{Kept}
-use Rattle.spool_disk.specs.View.{Line}
+use Rattle.spool_plant.specs.View.{Line}
 use Rattle.mas_complex.specs.Headline.{whole}
 use Rattle.mas_complex.specs.Journals.{begun, fated}
 use Rattle.member_node.specs.declared.member.NodeNo.{NodeNo}

@@ -12,14 +12,14 @@ use Rattle.mas_types.specs.declared.queues.Queue.{Queue}
 use Rattle.mas_types.specs.Fit.{IsFit}
 use Rattle.mas_types.specs.Step.{may_give}
 use Rattle.paper_laws.specs.Counts.{is_mark}
-use Rattle.spool_disk.specs.View.{View}
-use Rattle.spool_disk.specs.Acts.{Goes}
-use Rattle.spool_disk.specs.declared.plant.Plant.{Ghosts as PlantGhosts}
+use Rattle.spool_plant.specs.View.{View}
+use Rattle.spool_plant.specs.Acts.{Goes}
+use Rattle.spool_plant.specs.declared.plant.Plant.{Ghosts as PlantGhosts}
 use Rattle.ckpt_copy.specs.declared.copying.Copying.{Ghosts as CopyGhosts}
-use Rattle.ckpt_pages.specs.declared.tables.Tables.{Tables}
-use Rattle.ckpt_pages.specs.Shape.{page_count}
+use Rattle.ckpt_tables.specs.declared.tables.Tables.{Tables}
+use Rattle.ckpt_tables.specs.Shape.{page_count}
 use Rattle.lock_cycle.specs.Books.{Book}
-use Rattle.queue_tables.specs.Telling.{TellSound}
+use Rattle.queue_telling.specs.Telling.{TellSound}
 use Rattle.spool_volumes.specs.Volumes.{AreRoomy}
 use Rattle.mas_complex.specs.Crash.{IsUntold, setting}
 use Rattle.mas_complex.specs.Journals.{AreSettled, begun}

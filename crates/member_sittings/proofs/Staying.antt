@@ -1,6 +1,6 @@
 -- A member that has its seat still.
 use Rattle.std.proofs.Common.{inl, ℕ, Bool, OnOk, Result, Ok, Err}
-use Rattle.spool_disk.specs.View.{View}
+use Rattle.spool_plant.specs.View.{View}
 use Rattle.member_node.specs.declared.member.NodeNo.{NodeNo}
 use Rattle.member_node.specs.declared.member.NodeNo.TheVariants.{BothLost, ConsoleFault, Halted, NoMemory}
 use Rattle.member_node.specs.Reads.{IsSettle, ReadCauses}

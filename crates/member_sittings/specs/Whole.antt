@@ -11,15 +11,15 @@ use Rattle.mas_types.specs.Fit.{IsFit}
 use Rattle.mas_types.specs.Limits.{members_most}
 use Rattle.mas_types.specs.Queue.{is_member}
 use Rattle.mas_types.specs.Step.{may_give}
-use Rattle.spool_disk.specs.View.{View, disk_now}
-use Rattle.spool_disk.specs.declared.plant.Plant.{Ghosts as PlantGhosts}
+use Rattle.spool_plant.specs.View.{View, disk_now}
+use Rattle.spool_plant.specs.declared.plant.Plant.{Ghosts as PlantGhosts}
 use Rattle.ckpt_copy.specs.declared.copying.Copying.{Ghosts as CopyGhosts}
-use Rattle.ckpt_pages.specs.Shape.{HasSpelling}
+use Rattle.ckpt_tables.specs.Shape.{HasSpelling}
 use Rattle.lock_cycle.specs.Books.{Book, IsMember}
 use Rattle.paper_laws.specs.Counts.{is_mark}
 use Rattle.queue_commands.specs.Given.{IsGiver, is_plain}
 use Rattle.queue_effect.specs.Standing.{AreFit}
-use Rattle.queue_tables.specs.Telling.{TellSound}
+use Rattle.queue_telling.specs.Telling.{TellSound}
 use Rattle.spool_volumes.specs.Volumes.{AreRoomy}
 use Rattle.mas_types.specs.declared.ids.Page.{Page}
 use Rattle.mas_complex.specs.declared.complex.Complex.{Complex}

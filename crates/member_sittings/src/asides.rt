@@ -8,7 +8,7 @@ use mas_complex::{Complex, Steady};
 use mas_types::{Lines, List};
 use member_decks::{SpoolError, spool_text};
 use member_node::{Member, NodeNo};
-use spool_disk::Plant;
+use spool_plant::Plant;
 use spool_text::groups_needed;
 use std::alloc::Global;
 use step_turns::Found;

@@ -13,7 +13,7 @@ use mas_types::Lines;
 use member_decks::{give_up, keep_batch};
 use member_node::{Member, NodeNo};
 use member_steps::play_batch;
-use spool_disk::Plant;
+use spool_plant::Plant;
 use std::alloc::Global;
 use step_turns::{Aside, Holder, State};
 

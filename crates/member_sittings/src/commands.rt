@@ -13,7 +13,7 @@ use mas_types::Command;
 use member_node::{Member, NodeNo};
 use member_steps::give;
 use queue_texts::law_of_texts;
-use spool_disk::Plant;
+use spool_plant::Plant;
 use std::alloc::Global;
 use step_turns::Holder;
 

@@ -19,7 +19,7 @@ use mas_types::{JobNo, Lines};
 use member_decks::{Opened, finishing, last_lines, open_deck};
 use member_node::{Member, NodeNo};
 use queue_texts::{law_of_entered_texts, law_of_texts};
-use spool_disk::Plant;
+use spool_plant::Plant;
 use spool_text::groups_needed;
 use std::alloc::Global;
 use step_turns::{Aside, Holder};

@@ -7,7 +7,7 @@ ghost use Rattle.member_sittings.specs.Gates.{ActedOnCopies, AreBothLost, HaveRo
 use mas_complex::{Complex, Steady};
 use member_decks::take_hold;
 use member_node::{Member, NodeNo, TOO_HIGH};
-use spool_disk::Plant;
+use spool_plant::Plant;
 use std::alloc::Global;
 
 /// What a member does that got the lock, before it sits: it reads the copies, brings its tables up to them, and makes

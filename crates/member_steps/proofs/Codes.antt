@@ -20,8 +20,8 @@ use Rattle.mas_types.specs.declared.queues.Route.{Route}
 use Rattle.mas_types.specs.declared.queues.Setting.{Setting}
 use Rattle.lay_bytes.specs.declared.records.JobRec.{JobRec}
 use Rattle.lay_bytes.specs.declared.records.OutRec.{OutRec}
-use Rattle.ckpt_pages.specs.declared.tables.Tables.{Tables}
-use Rattle.queue_tables.specs.Telling.{Tell}
+use Rattle.ckpt_tables.specs.declared.tables.Tables.{Tables}
+use Rattle.queue_telling.specs.Telling.{Tell}
 
 -- NUMBERS AND NAMES
 

@@ -9,14 +9,14 @@ use Rattle.mas_types.specs.declared.journals.Fate.TheVariants.{Kept}
 use Rattle.mas_types.specs.declared.queues.Config.{Config}
 use Rattle.mas_types.specs.declared.queues.Queue.{Queue}
 use Rattle.queue_laws.proofs.RunLaws.{runs_keep_configuration}
-use Rattle.spool_disk.specs.View.{View, Line}
-use Rattle.spool_disk.specs.Acts.{Goes}
-use Rattle.ckpt_pages.specs.declared.tables.Tables.{Tables}
+use Rattle.spool_plant.specs.View.{View, Line}
+use Rattle.spool_plant.specs.Acts.{Goes}
+use Rattle.ckpt_tables.specs.declared.tables.Tables.{Tables}
 use Rattle.ckpt_pages.specs.Checkpoints.{IsCheckpoint}
-use Rattle.ckpt_pages.specs.Shape.{page_count}
+use Rattle.ckpt_tables.specs.Shape.{page_count}
 use Rattle.ckpt_pages.proofs.DecodingLemmas.{one_value}
-use Rattle.queue_tables.specs.Orders.{HaveOrders}
-use Rattle.queue_tables.specs.Telling.{Tell, TellSound}
+use Rattle.queue_telling.specs.Orders.{HaveOrders}
+use Rattle.queue_telling.specs.Telling.{Tell, TellSound}
 use Rattle.queue_tables.proofs.OrderLemmas.{orders_are}
 use Rattle.queue_tables.proofs.ToldLemmas.{tell_alike}
 use Rattle.duplex_pair.specs.Halves.{SomeAlive}

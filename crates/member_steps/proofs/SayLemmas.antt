@@ -3,11 +3,11 @@ use Rattle.std.proofs.Common.{◌≡◌, ◌≢◌, inl, inr, ⊎_elim, ℕ, suc
 use Rattle.std.proofs.lemmas.List.{map-append, take_all}
 use Rattle.mas_types.specs.declared.ids.Dev.{Dev}
 use Rattle.mas_types.specs.declared.ids.Dev.TheVariants.{Ckpt1, Ckpt2, Spool}
-use Rattle.spool_disk.specs.declared.plant.Part.TheVariants.{Disk as DiskPart, Console}
-use Rattle.spool_disk.specs.declared.plant.Act.{Act}
-use Rattle.spool_disk.specs.declared.plant.Act.TheVariants.{Failed, Halted as ActHalted}
-use Rattle.spool_disk.specs.View.{View, Line}
-use Rattle.spool_disk.specs.Acts.{Acts, Says, Said}
+use Rattle.spool_plant.specs.declared.plant.Part.TheVariants.{Disk as DiskPart, Console}
+use Rattle.spool_plant.specs.declared.plant.Act.{Act}
+use Rattle.spool_plant.specs.declared.plant.Act.TheVariants.{Failed, Halted as ActHalted}
+use Rattle.spool_plant.specs.View.{View, Line}
+use Rattle.spool_plant.specs.Acts.{Acts, Says, Said}
 use Rattle.ckpt_copy.specs.Moments.{goes_on, goes_none}
 use Rattle.mas_complex.specs.Headline.{whole}
 use Rattle.mas_complex.specs.Parts.{Parts}

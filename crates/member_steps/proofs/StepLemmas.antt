@@ -12,15 +12,15 @@ use Rattle.mas_types.specs.Limits.{page_bytes}
 use Rattle.mas_types.specs.Step.{may_give}
 use Rattle.paper_laws.specs.Counts.{is_mark}
 use Rattle.queue_laws.proofs.RunLaws.{give_alike, runs_keep_configuration}
-use Rattle.ckpt_pages.specs.declared.tables.Tables.{Tables}
-use Rattle.ckpt_pages.specs.Shape.{AreLevels, HasSpelling, page_count}
-use Rattle.queue_tables.specs.Telling.{Tell, TellSound}
+use Rattle.ckpt_tables.specs.declared.tables.Tables.{Tables}
+use Rattle.ckpt_tables.specs.Shape.{AreLevels, HasSpelling, page_count}
+use Rattle.queue_telling.specs.Telling.{Tell, TellSound}
 use Rattle.queue_texts.specs.Leaving.{OthersLeaveTexts, ToldAreTheirOwn}
 use Rattle.mas_complex.specs.Texts.{Spools, HasTexts}
 use Rattle.queue_commands.specs.Given.{is_plain}
 use Rattle.mas_types.specs.declared.queues.Queue.{Queue}
-use Rattle.spool_disk.specs.declared.plant.Part.TheVariants.{Console}
-use Rattle.spool_disk.specs.View.{View, Line}
+use Rattle.spool_plant.specs.declared.plant.Part.TheVariants.{Console}
+use Rattle.spool_plant.specs.View.{View, Line}
 use Rattle.mas_complex.specs.Crash.{IsUntold, setting}
 use Rattle.mas_complex.specs.Headline.{whole}
 use Rattle.mas_complex.specs.Journals.{StepIsKept, fated, in_flight, kept_all, with_last}

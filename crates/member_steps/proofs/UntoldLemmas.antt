@@ -10,7 +10,7 @@ use Rattle.mas_types.specs.declared.commands.Reply.{Reply}
 use Rattle.mas_types.specs.declared.commands.Reply.TheVariants as reply
 use Rattle.mas_types.specs.declared.journals.Entry.{Entry}
 use Rattle.mas_types.specs.Closings.{closing_line, closing_text, detail_lines, reply_lines}
-use Rattle.spool_disk.specs.View.{Line}
+use Rattle.spool_plant.specs.View.{Line}
 use Rattle.mas_complex.specs.Crash.{EachTells}
 use Rattle.mas_complex.specs.Headline.{whole}
 use Rattle.mas_complex.specs.Journals.{has_step}

@@ -3,9 +3,9 @@ use Rattle.std.specs.Prelude.{◌≡◌, ◌⊎◌, ℕ, suc, ◌<◌, false, Li
 use Rattle.mas_types.specs.declared.ids.Dev.{Dev}
 use Rattle.mas_types.specs.declared.ids.MemberId.{MemberId}
 use Rattle.mas_types.specs.declared.journals.Batch.{Batch}
-use Rattle.spool_disk.specs.declared.plant.Part.TheVariants.{Disk, Console}
-use Rattle.spool_disk.specs.View.{View, Line, disk_now}
-use Rattle.spool_disk.specs.Acts.{Goes, Rose}
+use Rattle.spool_plant.specs.declared.plant.Part.TheVariants.{Disk, Console}
+use Rattle.spool_plant.specs.View.{View, Line, disk_now}
+use Rattle.spool_plant.specs.Acts.{Goes, Rose}
 use Rattle.mas_complex.specs.Headline.{whole}
 use Rattle.mas_complex.specs.Journals.{StepIsKept}
 use Rattle.mas_complex.specs.Meaning.{Closes}

@@ -1,13 +1,13 @@
 //! A step whose commands are done: they are written, and its lines are said.
 ghost use Rattle.std.specs.Prelude.{◌≡◌, ◌+◌, ◌≤◌, ◌<◌, ◌^◌, ◌++◌, All, None, length, true, false, OnOk};
 ghost use Rattle.mas_types.specs.declared.ids.Dev.TheVariants.{Ckpt1, Ckpt2};
-ghost use Rattle.spool_disk.specs.View.{disk_now};
+ghost use Rattle.spool_plant.specs.View.{disk_now};
 ghost use Rattle.mas_complex.specs.Crash.{IsUntold, setting};
 ghost use Rattle.mas_complex.specs.Journals.{begun, end_of, kept_all};
 ghost use Rattle.mas_complex.specs.Locking.{MayAct};
 ghost use Rattle.mas_complex.specs.Meaning.{run};
 ghost use Rattle.mas_complex.specs.Texts.{HasTexts, lost_now, spools_at};
-ghost use Rattle.queue_tables.specs.Telling.{TellSound};
+ghost use Rattle.queue_telling.specs.Telling.{TellSound};
 ghost use Rattle.queue_effect.specs.Standing.{AreFit};
 ghost use Rattle.member_node.specs.Batches.{CanDraw, HasDone};
 ghost use Rattle.member_node.specs.Copies.{RestsAt};
@@ -20,7 +20,7 @@ use crate::telling::tell_lines;
 use mas_complex::{Complex, Steady};
 use mas_types::Lines;
 use member_node::{Member, NodeNo};
-use spool_disk::Plant;
+use spool_plant::Plant;
 use std::alloc::Global;
 
 /// Writes the commands that a member has done, as one batch, to both copies, and says lines then. The member holds the

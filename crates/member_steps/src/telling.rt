@@ -7,7 +7,7 @@ ghost use Rattle.member_steps.specs.Saying.{HaveSaid, TellKept};
 use mas_complex::{Complex, Steady};
 use mas_types::Lines;
 use member_node::{Member, NodeNo};
-use spool_disk::Plant;
+use spool_plant::Plant;
 
 /// Says lines on the console, one after another. Each step that one of them tells is kept. Answers ConsoleFault where
 /// the console failed, and Halted where the member was stopped: then the lines before that one stand there.

@@ -1,7 +1,7 @@
 //! A member that took a group writes on it while another member holds the lock, which it doesn't get itself.
 ghost use Rattle.std.specs.Prelude.{◌≡◌, ◌≤◌, ◌<◌, length, true, None};
 ghost use Rattle.mas_types.specs.Fit.{IsConfig};
-ghost use Rattle.spool_disk.specs.Acts.{top};
+ghost use Rattle.spool_plant.specs.Acts.{top};
 ghost use Rattle.ckpt_places.specs.declared.places.Place.TheVariants.{Before as AtBefore};
 ghost use Rattle.mas_complex.specs.Locking.{MayAct};
 
@@ -13,7 +13,7 @@ use ckpt_form::CopyForm;
 use lock_cycle::LockNo;
 use mas_complex::Complex;
 use mas_types::{Dev, GroupNo, NoMemory, Page};
-use spool_disk::{Act, Plant};
+use spool_plant::{Act, Plant};
 use std::alloc::Global;
 
 // An act that no run comes to.

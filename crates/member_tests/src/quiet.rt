@@ -2,7 +2,8 @@
 ghost use Rattle.std.specs.Prelude.{◌≡◌, ◌≤◌, ℕ};
 
 use mas_types::{Dev, MemberId};
-use spool_disk::{Act, Fuse, MemPlant, Part, Plant, Took};
+use spool_disk::MemPlant;
+use spool_plant::{Act, Fuse, Part, Plant, Took};
 
 #[derive(Drop)]
 pub(crate) struct Quiet {

@@ -2,7 +2,7 @@
 ghost use Rattle.std.specs.Prelude.{◌≡◌, ◌+◌, ◌≤◌, ◌<◌, length, IfOk, IfSome, OnOk, true, false, None, IsSome, All};
 ghost use Rattle.mas_types.specs.declared.ids.Dev.TheVariants.{Ckpt1, Ckpt2};
 ghost use Rattle.mas_types.specs.Fit.{IsConfig};
-ghost use Rattle.spool_disk.specs.Acts.{top};
+ghost use Rattle.spool_plant.specs.Acts.{top};
 ghost use Rattle.ckpt_form.specs.Form.{form_needs};
 ghost use Rattle.ckpt_places.specs.declared.places.Place.TheVariants.{Before as AtBefore, Put as AtPut};
 ghost use Rattle.mas_complex.specs.Journals.{entries_reserved};
@@ -15,7 +15,7 @@ use ckpt_form::CopyForm;
 use duplex_pair::{Pair, PairNo};
 use mas_complex::Complex;
 use mas_types::{Config, Dev, List, MemberId, NoMemory, Page, default_config, empty_queue};
-use spool_disk::Plant;
+use spool_plant::Plant;
 use std::alloc::Global;
 
 // The smallest configuration: its tables take six pages.

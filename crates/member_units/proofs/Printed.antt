@@ -9,10 +9,10 @@ use Rattle.mas_types.specs.declared.jobs.Output.{Output}
 use Rattle.mas_types.specs.declared.journals.Entry.{Entry}
 use Rattle.lock_cycle.specs.Books.{Book, after_stop}
 use Rattle.lay_bytes.specs.declared.records.OutRec.{OutRec}
-use Rattle.spool_disk.specs.declared.plant.Plant.{Ghosts as PlantGhosts}
+use Rattle.spool_plant.specs.declared.plant.Plant.{Ghosts as PlantGhosts}
 use Rattle.mas_types.specs.declared.ids.Dev.{Dev}
 use Rattle.mas_types.specs.declared.ids.Dev.TheVariants.{Spool}
-use Rattle.spool_disk.specs.View.{Disk, Line, View, disk_now, paper_now}
+use Rattle.spool_plant.specs.View.{Disk, Line, View, disk_now, paper_now}
 use Rattle.mas_complex.specs.Headline.{whole}
 use Rattle.mas_complex.specs.Paper.{counts_of}
 use Rattle.mas_complex.specs.Parts.{Parts}

@@ -5,8 +5,8 @@ use Rattle.mas_types.specs.declared.ids.MemberId.{MemberId}
 use Rattle.mas_types.specs.declared.ids.OutNo.{OutNo}
 use Rattle.mas_types.specs.declared.queues.Queue.{Queue}
 use Rattle.mas_types.specs.Queue.{job_at, output_at}
-use Rattle.ckpt_pages.specs.declared.tables.Tables.{Tables}
-use Rattle.queue_tables.specs.Telling.{Tell, TellSound}
+use Rattle.ckpt_tables.specs.declared.tables.Tables.{Tables}
+use Rattle.queue_telling.specs.Telling.{Tell, TellSound}
 use Rattle.member_work.specs.Printing.{IsPrinting}
 use Rattle.member_work.specs.Steps.{IsUnderWay}
 use Rattle.member_decks.proofs.OpenLemmas.{tells_some}

@@ -13,8 +13,8 @@ use Rattle.mas_types.specs.declared.queues.Queue.{Queue}
 use Rattle.mas_types.specs.Commands.Life.{groups_of_outputs, is_cancelled}
 use Rattle.mas_types.specs.Ids.{is_somebody}
 use Rattle.mas_types.specs.Queue.{job_at, output_at}
-use Rattle.ckpt_pages.specs.declared.tables.Tables.{Tables}
-use Rattle.queue_tables.specs.Telling.{Tell}
+use Rattle.ckpt_tables.specs.declared.tables.Tables.{Tables}
+use Rattle.queue_telling.specs.Telling.{Tell}
 use Rattle.paper_laws.specs.Counts.{IsMarkRight, may_mark}
 use Rattle.track_groups.specs.Groups.{held_by}
 use Rattle.mas_complex.specs.Texts.{Spools}

@@ -20,14 +20,14 @@ use Rattle.mas_types.specs.declared.queues.Thing.TheVariants.{Deck, Output as Ou
 use Rattle.mas_types.specs.Queue.{has_key, has_number, job_at, line_count, output_at, printing_at, total}
 use Rattle.lay_bytes.specs.declared.records.JobRec.{JobRec}
 use Rattle.lay_bytes.specs.declared.records.OutRec.{OutRec}
-use Rattle.ckpt_pages.specs.Shape.{HasSpelling}
+use Rattle.ckpt_tables.specs.Shape.{HasSpelling}
 use Rattle.output_queue.specs.Outputs.{AreOutputs, HasOutput}
-use Rattle.queue_tables.specs.Telling.{Tell}
-use Rattle.ckpt_pages.specs.declared.tables.Tables.{Tables}
+use Rattle.queue_telling.specs.Telling.{Tell}
+use Rattle.ckpt_tables.specs.declared.tables.Tables.{Tables}
 use Rattle.mas_types.specs.declared.ids.Dev.TheVariants.{Spool}
-use Rattle.spool_disk.specs.declared.plant.Part.TheVariants.{Disk as DiskPart}
-use Rattle.spool_disk.specs.Acts.{Goes}
-use Rattle.spool_disk.specs.View.{View}
+use Rattle.spool_plant.specs.declared.plant.Part.TheVariants.{Disk as DiskPart}
+use Rattle.spool_plant.specs.Acts.{Goes}
+use Rattle.spool_plant.specs.View.{View}
 use Rattle.spool_volumes.specs.Volumes.{AreRoomy}
 use Rattle.track_groups.specs.Places.{groups_of}
 use Rattle.paper_laws.specs.Paper.{busy_in}
@@ -48,7 +48,7 @@ use Rattle.member_work.specs.Rounds.{HasFailed, IsReadAs, IsWhole}
 use Rattle.member_work.specs.Steps.{IsTold}
 use Rattle.member_work.proofs.LookingLemmas.{coded_read, number_of}
 use Rattle.mas_types.specs.declared.jobs.OutSpec.{OutSpec}
-use Rattle.spool_disk.specs.declared.plant.Plant.{Ghosts as PlantGhosts}
+use Rattle.spool_plant.specs.declared.plant.Plant.{Ghosts as PlantGhosts}
 use Rattle.mas_complex.specs.Parts.{Parts}
 use Rattle.member_node.specs.declared.member.Member.{Member}
 use Rattle.member_decks.specs.declared.spooling.SpoolError.{SpoolError}

@@ -17,13 +17,13 @@ use Rattle.mas_types.specs.Owners.{member_count}
 use Rattle.mas_types.specs.Queue.{job_at, output_at, printing_at}
 use Rattle.mas_types.specs.Sound.{IsSound}
 use Rattle.ckpt_copy.specs.declared.copying.Copying.{Ghosts as CopyGhosts}
-use Rattle.ckpt_pages.specs.Shape.{HasSpelling}
-use Rattle.ckpt_pages.specs.declared.tables.Tables.{Tables}
-use Rattle.queue_tables.specs.Telling.{Tell, TellSound}
+use Rattle.ckpt_tables.specs.Shape.{HasSpelling}
+use Rattle.ckpt_tables.specs.declared.tables.Tables.{Tables}
+use Rattle.queue_telling.specs.Telling.{Tell, TellSound}
 use Rattle.lock_cycle.specs.Books.{IsMember, after_stop}
 use Rattle.paper_laws.specs.Next.{limit_of}
-use Rattle.spool_disk.specs.View.{View}
-use Rattle.spool_disk.specs.declared.plant.Plant.{Ghosts as PlantGhosts}
+use Rattle.spool_plant.specs.View.{View}
+use Rattle.spool_plant.specs.declared.plant.Plant.{Ghosts as PlantGhosts}
 use Rattle.spool_volumes.specs.Volumes.{AreRoomy}
 use Rattle.track_groups.specs.Groups.{held_by}
 use Rattle.track_groups.specs.Places.{groups_of}

@@ -10,8 +10,8 @@ use Rattle.mas_types.specs.declared.queues.Queue.{Queue}
 use Rattle.mas_types.specs.declared.units.Unit as units
 use Rattle.mas_types.specs.Fit.{IsFit, IsIndex, IsJobFields}
 use Rattle.mas_types.specs.Queue.{job_at, output_at}
-use Rattle.ckpt_pages.specs.declared.tables.Tables.{Tables}
-use Rattle.queue_tables.specs.Telling.{Tell}
+use Rattle.ckpt_tables.specs.declared.tables.Tables.{Tables}
+use Rattle.queue_telling.specs.Telling.{Tell}
 use Rattle.member_work.specs.Units.{command_of}
 use Rattle.step_turns.specs.JobEnds.{chunk_end}
 use Rattle.step_turns.specs.Laws.{aside_done, aside_units}

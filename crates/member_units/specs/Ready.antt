@@ -14,10 +14,10 @@ use Rattle.mas_types.specs.Fit.{IsFit, IsIndex, IsJobFields}
 use Rattle.mas_types.specs.Owners.{member_count}
 use Rattle.mas_types.specs.Queue.{job_at, output_at}
 use Rattle.mas_types.specs.Step.{may_give}
-use Rattle.ckpt_pages.specs.declared.tables.Tables.{Tables}
+use Rattle.ckpt_tables.specs.declared.tables.Tables.{Tables}
 use Rattle.track_groups.specs.Groups.{held_by}
 use Rattle.queue_commands.specs.Given.{IsGiver, is_plain}
-use Rattle.queue_tables.specs.Telling.{Tell, TellSound}
+use Rattle.queue_telling.specs.Telling.{Tell, TellSound}
 use Rattle.paper_laws.specs.Counts.{IsMarkRight}
 use Rattle.mas_complex.specs.Texts.{Spools}
 use Rattle.job_exec.specs.Running.{AreOutputs}

@@ -16,7 +16,7 @@ use member_work::{
     gone_deck, gone_output, groups_of_outputs, print_text, read_text, write_and_sync,
 };
 use output_queue::find_output;
-use spool_disk::Plant;
+use spool_plant::Plant;
 use std::alloc::Global;
 use step_turns::Found;
 use track_groups::{groups_of, held_by, law_of_places};

@@ -17,7 +17,7 @@ use member_node::{Member, NodeNo};
 use member_sittings::{SittingEnd, release_of};
 use member_steps::tell_lines;
 use member_work::give_up;
-use spool_disk::Plant;
+use spool_plant::Plant;
 use std::alloc::Global;
 use step_turns::{Holder, State};
 

@@ -28,7 +28,7 @@ use mas_complex::{Complex, Steady};
 use mas_types::{Command, JobNo, List, OutSpec};
 use member_node::{Member, NodeNo};
 use member_work::{drop_given, end_given, give_command, keep_given, take_given};
-use spool_disk::Plant;
+use spool_plant::Plant;
 use std::alloc::Global;
 use step_turns::Holder;
 

@@ -2,9 +2,9 @@
 ghost use Rattle.std.specs.Prelude.{◌≡◌, ◌-◌, ◌≤◌, ℕ};
 ghost use Rattle.mas_types.specs.declared.queues.Queue.{Queue};
 ghost use Rattle.mas_types.specs.Limits.{members_most};
-ghost use Rattle.ckpt_pages.specs.Shape.{HasSpelling};
+ghost use Rattle.ckpt_tables.specs.Shape.{HasSpelling};
 ghost use Rattle.queue_effect.specs.Standing.{AreFit};
-ghost use Rattle.queue_tables.specs.Telling.{Tell};
+ghost use Rattle.queue_telling.specs.Telling.{Tell};
 ghost use Rattle.step_turns.specs.declared.states.Holder.{Holder as HolderLem};
 ghost use Rattle.step_turns.specs.Turns.{units_from};
 ghost use Rattle.member_units.specs.declared.nexts.Next.TheVariants.{Nothing};

@@ -35,7 +35,7 @@ use mas_types::{Closing, Command, JobNo, List, OutNo, OutSpec};
 use member_node::{Member, NodeNo};
 use member_sittings::SittingEnd;
 use member_work::groups_for_end;
-use spool_disk::Plant;
+use spool_plant::Plant;
 use spool_text::law_of_groups;
 use spool_volumes::law_of_read_texts;
 use std::alloc::Global;

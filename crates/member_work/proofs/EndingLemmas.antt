@@ -14,8 +14,8 @@ use Rattle.mas_types.specs.declared.jobs.OutSpec.{OutSpec}
 use Rattle.mas_types.specs.declared.journals.Batch.{Batch}
 use Rattle.mas_types.specs.declared.journals.Entry.{Entry}
 use Rattle.mas_types.specs.declared.queues.Queue.{Queue}
-use Rattle.spool_disk.specs.View.{View}
-use Rattle.queue_tables.specs.Telling.{Tell}
+use Rattle.spool_plant.specs.View.{View}
+use Rattle.queue_telling.specs.Telling.{Tell}
 use Rattle.ckpt_places.specs.declared.places.Place.{Place}
 use Rattle.mas_complex.specs.Journals.{end_of, kept_all}
 use Rattle.mas_complex.specs.Meaning.{run, step}

@@ -16,9 +16,9 @@ use Rattle.mas_types.specs.Fit.{IsFit}
 use Rattle.mas_types.specs.Limits.{page_bytes}
 use Rattle.mas_types.specs.Sound.{IsSound}
 use Rattle.mas_types.specs.Step.{may_give}
-use Rattle.spool_disk.specs.View.{View}
-use Rattle.ckpt_pages.specs.Shape.{AreLevels, HasSpelling, page_count}
-use Rattle.queue_tables.specs.Telling.{Tell, TellSound}
+use Rattle.spool_plant.specs.View.{View}
+use Rattle.ckpt_tables.specs.Shape.{AreLevels, HasSpelling, page_count}
+use Rattle.queue_telling.specs.Telling.{Tell, TellSound}
 use Rattle.queue_commands.specs.Given.{is_plain}
 use Rattle.queue_effect.specs.Standing.{AreFit}
 use Rattle.queue_texts.specs.Leaving.{OthersLeaveTexts, ToldAreTheirOwn}

@@ -33,10 +33,10 @@ use Rattle.mas_types.specs.Closings.{IsReplyNamed}
 use Rattle.mas_types.specs.Owners.{free_count, groups_needed, is_free, is_members, member_count, taken}
 use Rattle.queue_effect.proofs.GroupLemmas.{sum-groups}
 use Rattle.queue_laws.proofs.Finds.{test_cases}
-use Rattle.ckpt_pages.specs.declared.tables.Tables.{Tables}
-use Rattle.ckpt_pages.specs.Shape.{HasSpelling}
+use Rattle.ckpt_tables.specs.declared.tables.Tables.{Tables}
+use Rattle.ckpt_tables.specs.Shape.{HasSpelling}
 use Rattle.queue_effect.specs.Standing.{AreFit}
-use Rattle.queue_tables.specs.Telling.{Tell, TellSound}
+use Rattle.queue_telling.specs.Telling.{Tell, TellSound}
 use Rattle.queue_texts.specs.Leaving.{HoldsOfTexts, OthersLeaveTexts, ToldAreTheirOwn, WasThere}
 use Rattle.mas_complex.specs.Meaning.{run, step}
 use Rattle.mas_complex.specs.Texts.{HasTexts, IsThere, IsThereUnless, Spools}

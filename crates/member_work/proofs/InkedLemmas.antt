@@ -5,10 +5,10 @@ use Rattle.mas_types.specs.declared.ids.JobNo.{JobNo}
 use Rattle.mas_types.specs.declared.ids.MemberId.{MemberId}
 use Rattle.mas_types.specs.declared.ids.OutNo.{OutNo}
 use Rattle.mas_types.specs.Printed.{printed_line}
-use Rattle.spool_disk.specs.declared.plant.Act.TheVariants.{Done, Failed, Halted}
-use Rattle.spool_disk.specs.declared.plant.Plant.{Ghosts as PlantGhosts}
-use Rattle.spool_disk.specs.Acts.{Prints}
-use Rattle.spool_disk.specs.View.{Line, View, paper_now}
+use Rattle.spool_plant.specs.declared.plant.Act.TheVariants.{Done, Failed, Halted}
+use Rattle.spool_plant.specs.declared.plant.Plant.{Ghosts as PlantGhosts}
+use Rattle.spool_plant.specs.Acts.{Prints}
+use Rattle.spool_plant.specs.View.{Line, View, paper_now}
 use Rattle.mas_complex.specs.Headline.{whole}
 use Rattle.mas_complex.specs.Paper.{counts_of, printed_by}
 use Rattle.mas_complex.specs.Parts.{Parts}

@@ -18,10 +18,10 @@ use Rattle.mas_types.specs.Queue.{has_number, job_at, line_count}
 use Rattle.queue_laws.proofs.Finds.{find-All, test_cases}
 use Rattle.lay_bytes.specs.declared.records.JobRec.{JobRec}
 use Rattle.lay_bytes.specs.Slots.{IfUsed, IsJobRec}
-use Rattle.ckpt_pages.specs.declared.tables.Tables.{Tables}
-use Rattle.ckpt_pages.specs.Shape.{HasSpelling}
+use Rattle.ckpt_tables.specs.declared.tables.Tables.{Tables}
+use Rattle.ckpt_tables.specs.Shape.{HasSpelling}
 use Rattle.job_queue.specs.Jobs.{AreJobs, HasJob}
-use Rattle.spool_disk.specs.View.{View}
+use Rattle.spool_plant.specs.View.{View}
 use Rattle.track_groups.specs.Groups.{groups_where, is_things}
 use Rattle.track_groups.specs.Laws.{AreItsOwn}
 use Rattle.track_groups.specs.Places.{groups_of}

@@ -18,7 +18,7 @@ use Rattle.mas_types.specs.declared.queues.Queue.{Queue}
 use Rattle.mas_types.specs.Commands.Life.{is_cancelled, outputs_at_end}
 use Rattle.mas_types.specs.Owners.{free_count, groups_needed}
 use Rattle.mas_types.specs.Queue.{has_number, is_of, job_at}
-use Rattle.spool_disk.specs.View.{View}
+use Rattle.spool_plant.specs.View.{View}
 use Rattle.queue_laws.proofs.Finds.{test_cases}
 use Rattle.spool_text.specs.Laws.{HasNeededGroups}
 use Rattle.spool_volumes.specs.Laws.{ReadsTexts}

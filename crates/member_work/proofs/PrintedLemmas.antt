@@ -24,16 +24,16 @@ use Rattle.mas_types.specs.Printed.{printed_line}
 use Rattle.mas_types.specs.Queue.{has_key, line_count, output_at, printing_at, prints_at, total}
 use Rattle.lay_bytes.specs.declared.records.OutRec.{OutRec}
 use Rattle.lay_bytes.specs.Slots.{IfUsed, IsOutRec}
-use Rattle.ckpt_pages.specs.declared.tables.Tables.{Tables}
-use Rattle.ckpt_pages.specs.Shape.{HasSpelling}
+use Rattle.ckpt_tables.specs.declared.tables.Tables.{Tables}
+use Rattle.ckpt_tables.specs.Shape.{HasSpelling}
 use Rattle.output_queue.specs.Outputs.{AreOutputs, HasOutput}
-use Rattle.queue_tables.specs.Telling.{Tell}
+use Rattle.queue_telling.specs.Telling.{Tell}
 use Rattle.queue_laws.proofs.Finds.{test_cases}
-use Rattle.spool_disk.specs.declared.plant.Act.{Act}
-use Rattle.spool_disk.specs.declared.plant.Act.TheVariants.{Failed}
-use Rattle.spool_disk.specs.declared.plant.Part.TheVariants.{Disk as DiskPart, Printer}
-use Rattle.spool_disk.specs.View.{View}
-use Rattle.spool_disk.specs.Acts.{Acts, Goes, Prints}
+use Rattle.spool_plant.specs.declared.plant.Act.{Act}
+use Rattle.spool_plant.specs.declared.plant.Act.TheVariants.{Failed}
+use Rattle.spool_plant.specs.declared.plant.Part.TheVariants.{Disk as DiskPart, Printer}
+use Rattle.spool_plant.specs.View.{View}
+use Rattle.spool_plant.specs.Acts.{Acts, Goes, Prints}
 use Rattle.ckpt_copy.specs.Moments.{goes_none, goes_on}
 use Rattle.track_groups.specs.Places.{groups_of}
 use Rattle.paper_laws.specs.Next.{MayPrint, limit_of}

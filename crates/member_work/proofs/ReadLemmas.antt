@@ -15,11 +15,11 @@ use Rattle.mas_types.specs.Fit.{is_text_line}
 use Rattle.mas_types.specs.Limits.{line_bytes, page_bytes}
 use Rattle.mas_types.specs.Queue.{line_count}
 use Rattle.mas_types.specs.Records.{HoldsNoRecords, is_record, records_in}
-use Rattle.spool_disk.specs.declared.plant.Act.{Act}
-use Rattle.spool_disk.specs.declared.plant.Act.TheVariants.{Done, Failed}
-use Rattle.spool_disk.specs.declared.plant.Part.TheVariants.{Disk as DiskPart}
-use Rattle.spool_disk.specs.View.{View, disk_now, slice}
-use Rattle.spool_disk.specs.Acts.{Acts, Goes, ReadBy, Reads}
+use Rattle.spool_plant.specs.declared.plant.Act.{Act}
+use Rattle.spool_plant.specs.declared.plant.Act.TheVariants.{Done, Failed}
+use Rattle.spool_plant.specs.declared.plant.Part.TheVariants.{Disk as DiskPart}
+use Rattle.spool_plant.specs.View.{View, disk_now, slice}
+use Rattle.spool_plant.specs.Acts.{Acts, Goes, ReadBy, Reads}
 use Rattle.spool_text.specs.Laws.{ReadsWhatIsHeld}
 use Rattle.spool_text.specs.Reading.{AddsRecords}
 use Rattle.spool_volumes.specs.Texts.{Held, all_records, first_gone, gone_or, held, records_on, text_of, text_unless}

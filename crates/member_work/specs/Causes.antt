@@ -5,7 +5,7 @@ use Rattle.mas_types.specs.declared.ids.MemberId.{MemberId}
 use Rattle.mas_types.specs.declared.answers.Closing.{Closing}
 use Rattle.mas_types.specs.declared.answers.Closing.TheVariants as closing
 use Rattle.mas_types.specs.declared.commands.Reply.TheVariants as reply
-use Rattle.spool_disk.specs.View.{View}
+use Rattle.spool_plant.specs.View.{View}
 use Rattle.member_decks.specs.Steps.{IsFoundLost}
 use Rattle.job_outcome.specs.declared.units.UnitEnd.{UnitEnd}
 use Rattle.job_outcome.specs.declared.units.UnitEnd.TheVariants as ends

@@ -9,9 +9,9 @@ use Rattle.mas_types.specs.declared.queues.Queue.{Queue}
 use Rattle.mas_types.specs.Commands.Life.{outputs_at_end}
 use Rattle.mas_types.specs.Queue.{job_at}
 use Rattle.track_groups.specs.Groups.{held_by}
-use Rattle.ckpt_pages.specs.declared.tables.Tables.{Tables}
-use Rattle.ckpt_pages.specs.Shape.{HasSpelling}
-use Rattle.queue_tables.specs.Telling.{Tell, TellSound}
+use Rattle.ckpt_tables.specs.declared.tables.Tables.{Tables}
+use Rattle.ckpt_tables.specs.Shape.{HasSpelling}
+use Rattle.queue_telling.specs.Telling.{Tell, TellSound}
 use Rattle.queue_effect.specs.Standing.{AreFit}
 use Rattle.queue_texts.specs.Leaving.{brings_text}
 use Rattle.mas_complex.specs.Meaning.{run}

@@ -6,8 +6,8 @@ use Rattle.mas_types.specs.declared.ids.JobNo.{JobNo}
 use Rattle.mas_types.specs.declared.ids.MemberId.{MemberId}
 use Rattle.mas_types.specs.declared.ids.OutNo.{OutNo}
 use Rattle.mas_types.specs.Printed.{printed_line}
-use Rattle.spool_disk.specs.View.{Line, paper_now}
-use Rattle.spool_disk.specs.declared.plant.Plant.{Ghosts as PlantGhosts}
+use Rattle.spool_plant.specs.View.{Line, paper_now}
+use Rattle.spool_plant.specs.declared.plant.Plant.{Ghosts as PlantGhosts}
 use Rattle.ckpt_copy.specs.declared.copying.Copying.{Ghosts as CopyGhosts}
 use Rattle.ckpt_form.specs.declared.steady.Steady.{Ghosts as SteadyGhosts}
 use Rattle.mas_complex.specs.declared.complex.Complex.{Complex}

@@ -15,11 +15,11 @@ use Rattle.mas_types.specs.Fit.{IsIndex}
 use Rattle.mas_types.specs.Limits.{printer_lines_most, text_lines_most}
 use Rattle.mas_types.specs.Queue.{line_count, output_at, printing_at, total}
 use Rattle.lay_bytes.specs.declared.records.OutRec.{OutRec}
-use Rattle.ckpt_pages.specs.declared.tables.Tables.{Tables}
-use Rattle.queue_tables.specs.Telling.{Tell}
-use Rattle.spool_disk.specs.declared.plant.Part.TheVariants.{Disk as DiskPart}
-use Rattle.spool_disk.specs.View.{View, disk_now}
-use Rattle.spool_disk.specs.Acts.{Goes}
+use Rattle.ckpt_tables.specs.declared.tables.Tables.{Tables}
+use Rattle.queue_telling.specs.Telling.{Tell}
+use Rattle.spool_plant.specs.declared.plant.Part.TheVariants.{Disk as DiskPart}
+use Rattle.spool_plant.specs.View.{View, disk_now}
+use Rattle.spool_plant.specs.Acts.{Goes}
 use Rattle.paper_laws.specs.Next.{limit_of}
 use Rattle.paper_laws.specs.Paper.{busy_in}
 use Rattle.mas_complex.specs.Journals.{entries_in, kept_all}

@@ -7,8 +7,8 @@ use Rattle.mas_types.specs.declared.jobs.Text.{Text}
 use Rattle.mas_types.specs.declared.queues.Config.{Config}
 use Rattle.mas_types.specs.Fit.{is_text_line}
 use Rattle.mas_types.specs.Limits.{line_bytes}
-use Rattle.spool_disk.specs.declared.plant.Part.TheVariants.{Disk as DiskPart}
-use Rattle.spool_disk.specs.View.{View}
+use Rattle.spool_plant.specs.declared.plant.Part.TheVariants.{Disk as DiskPart}
+use Rattle.spool_plant.specs.View.{View}
 use Rattle.spool_volumes.specs.Texts.{gone_or, records_on}
 use Rattle.spool_volumes.specs.Volumes.{volume_of, AreRoomy}
 use Rattle.mas_complex.specs.Texts.{bytes_on, spools_at}

@@ -14,10 +14,10 @@ use Rattle.mas_types.specs.Commands.Life.{runs as in_phases}
 use Rattle.mas_types.specs.Fit.{IsJobFields}
 use Rattle.mas_types.specs.Limits.{text_lines_most}
 use Rattle.mas_types.specs.Queue.{has_output, job_at, line_count}
-use Rattle.spool_disk.specs.View.{View}
+use Rattle.spool_plant.specs.View.{View}
 use Rattle.lay_bytes.specs.declared.records.JobRec.{JobRec}
-use Rattle.ckpt_pages.specs.declared.tables.Tables.{Tables}
-use Rattle.queue_tables.specs.Telling.{Tell, TellSound}
+use Rattle.ckpt_tables.specs.declared.tables.Tables.{Tables}
+use Rattle.queue_telling.specs.Telling.{Tell, TellSound}
 use Rattle.queue_effect.specs.Standing.{AreFit}
 use Rattle.ckpt_places.specs.declared.places.Place.{Place}
 use Rattle.mas_complex.specs.Crash.{IsUntold, Setting}

@@ -6,7 +6,7 @@ ghost use Rattle.mas_types.specs.Commands.Life.{outputs_at_end};
 ghost use Rattle.mas_types.specs.Limits.{members_most};
 ghost use Rattle.mas_types.specs.Owners.{member_count};
 ghost use Rattle.mas_types.specs.Queue.{is_member, job_at};
-ghost use Rattle.spool_disk.specs.View.{disk_now};
+ghost use Rattle.spool_plant.specs.View.{disk_now};
 ghost use Rattle.track_groups.specs.Groups.{held_by};
 ghost use Rattle.mas_complex.specs.Crash.{setting};
 ghost use Rattle.mas_complex.specs.Journals.{end_of, kept_all};
@@ -33,7 +33,7 @@ use job_outcome::UnitEnd;
 use mas_complex::{Complex, Steady};
 use mas_types::{Closing, JobNo, List, OutSpec};
 use member_node::{Member, NodeNo};
-use spool_disk::Plant;
+use spool_plant::Plant;
 use std::alloc::Global;
 
 /// Gives Ended with these outputs, whose texts stand in the member's groups unless the job was cancelled; after a

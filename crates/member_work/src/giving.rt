@@ -7,11 +7,11 @@ ghost use Rattle.mas_types.specs.Limits.{members_most};
 ghost use Rattle.mas_types.specs.Owners.{member_count};
 ghost use Rattle.mas_types.specs.Queue.{is_member, job_at};
 ghost use Rattle.mas_types.specs.Step.{may_give};
-ghost use Rattle.ckpt_pages.specs.Shape.{HasSpelling};
+ghost use Rattle.ckpt_tables.specs.Shape.{HasSpelling};
 ghost use Rattle.job_exec.specs.Running.{AreOutputs};
 ghost use Rattle.queue_effect.specs.Standing.{AreFit};
 ghost use Rattle.queue_commands.specs.Given.{IsGiver};
-ghost use Rattle.queue_tables.specs.Telling.{Tell, TellSound};
+ghost use Rattle.queue_telling.specs.Telling.{Tell, TellSound};
 ghost use Rattle.member_steps.specs.Steps.{reply_to};
 ghost use Rattle.member_decks.specs.Decks.{closing_reply, given_in};
 ghost use Rattle.job_outcome.specs.declared.units.UnitEnd.TheVariants.{Done};
@@ -20,7 +20,7 @@ ghost use Rattle.member_work.specs.Giving.{GivesAt, HasGiven, IsSoundPlain, MayE
 ghost use Rattle.member_work.specs.Units.{drop_groups, ending, groups_for_end as groups_for_end_lem, taken_end, taking};
 
 use crate::spooling::groups_of_outputs;
-use ckpt_pages::Tables;
+use ckpt_tables::Tables;
 use job_outcome::{UnitEnd, end_by, law_of_ended_texts};
 use job_queue::find_job;
 use mas_types::{Command, JobNo, List, NoMemory, OutSpec, Reply};

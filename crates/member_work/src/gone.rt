@@ -18,7 +18,7 @@ use mas_complex::{Complex, Steady};
 use mas_types::{
     Batch, Command, Entry, Fate, GroupNo, Job, JobNo, List, OutNo, Output, Queue, Reply, Text,
 };
-use spool_disk::Plant;
+use spool_plant::Plant;
 
 fn gone_with(text: &Text) -> Option<GroupNo>
     ensures { result ≡ gone_with_lem text.now }

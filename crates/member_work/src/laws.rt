@@ -4,7 +4,7 @@ ghost use Rattle.mas_complex.specs.Journals.{in_flight};
 ghost use Rattle.mas_complex.specs.Replies.{AreReplied};
 
 use mas_complex::{Complex, Steady};
-use spool_disk::Plant;
+use spool_plant::Plant;
 
 /// Where content is told each entry of the shared value has the reply that the table of commands gives at its place.
 pub fn kept_replies<P: Plant + Drop, C: Steady + Drop>(complex: &Complex<P, C>)

@@ -2,8 +2,8 @@
 ghost use Rattle.std.specs.Prelude.{◌≡◌, ◌*◌, ◌+◌, ◌≤◌, ℕ, List, length, min, false, None, Some, IfOk, OnErr};
 ghost use Rattle.mas_types.specs.declared.queues.Queue.{Queue};
 ghost use Rattle.mas_types.specs.Limits.{members_most, printer_lines_most};
-ghost use Rattle.ckpt_pages.specs.Shape.{HasSpelling};
-ghost use Rattle.queue_tables.specs.Telling.{Tell};
+ghost use Rattle.ckpt_tables.specs.Shape.{HasSpelling};
+ghost use Rattle.queue_telling.specs.Telling.{Tell};
 ghost use Rattle.paper_laws.specs.Next.{limit_of};
 ghost use Rattle.lock_cycle.specs.Books.{IsMember, is_stopped};
 ghost use Rattle.mas_complex.specs.Crash.{setting};
@@ -16,7 +16,7 @@ ghost use Rattle.member_work.specs.Printing.{IsBeside, IsBookAfterLines, IsLines
 ghost use Rattle.member_work.specs.Reading.{IsCounted};
 ghost use Rattle.member_work.specs.Rounds.{names_nothing, names_read};
 
-use ckpt_pages::Tables;
+use ckpt_tables::Tables;
 use job_outcome::Read;
 use lay_bytes::OutRec;
 use mas_complex::{Complex, Steady};
@@ -24,7 +24,7 @@ use mas_types::{Closing, Lines, MemberId};
 use member_node::NodeNo;
 use printer_proc::{forward, print_line};
 use queue_effect::setting;
-use spool_disk::{Act, Plant};
+use spool_plant::{Act, Plant};
 use std::alloc::Global;
 
 // The lines that a member's printer prints at a time.

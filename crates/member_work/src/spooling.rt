@@ -17,7 +17,7 @@ ghost use Rattle.member_work.specs.Spooled.{AreSpooled, AreWritten};
 use mas_complex::{Complex, Steady};
 use mas_types::{GroupNo, MemberId, OutSpec};
 use member_decks::{SpoolError, sync_volumes, write_pages};
-use spool_disk::Plant;
+use spool_plant::Plant;
 use spool_text::{groups_needed, law_of_groups};
 use spool_volumes::law_of_read_texts;
 

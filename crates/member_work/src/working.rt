@@ -6,7 +6,7 @@ ghost use Rattle.mas_types.specs.Limits.{members_most};
 ghost use Rattle.mas_types.specs.Queue.{is_member};
 ghost use Rattle.mas_types.specs.Sound.{IsSound};
 ghost use Rattle.mas_types.specs.Step.{may_give};
-ghost use Rattle.spool_disk.specs.View.{disk_now};
+ghost use Rattle.spool_plant.specs.View.{disk_now};
 ghost use Rattle.queue_commands.specs.Given.{IsGiver, is_plain};
 ghost use Rattle.paper_laws.specs.Counts.{IsMarkRight, counts_after};
 ghost use Rattle.mas_complex.specs.Crash.{setting};
@@ -26,7 +26,7 @@ use mas_complex::{Complex, Steady};
 use mas_types::Command;
 use member_node::{Member, NodeNo};
 use queue_texts::law_of_texts;
-use spool_disk::Plant;
+use spool_plant::Plant;
 use std::alloc::Global;
 
 /// Plays a unit of one command, which brings no text; a Mark is one of lines that the member has printed. Out of

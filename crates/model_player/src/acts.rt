@@ -10,7 +10,7 @@ use crate::ends::PlayError;
 use crate::queues::keep_all;
 use crate::spools::{Arm, Members, Spool};
 use mas_types::{Lines, List, MemberId};
-use spool_disk::Fuse;
+use spool_plant::Fuse;
 use std::alloc::Global;
 
 // Each armed stop counts this act of the member. Whether it halts there.

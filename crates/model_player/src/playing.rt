@@ -18,7 +18,7 @@ use card_reader::{Deck, DeckNo, read_deck};
 use cmd_report::reply_lines;
 use mas_types::{Command, Config, Dev, Lines, MEMBERS_MOST, MemberId, Refusal};
 use script_lang::{Ask, Step};
-use spool_disk::Fuse;
+use spool_plant::Fuse;
 use std::alloc::Global;
 
 // Who holds the lock where nobody does.

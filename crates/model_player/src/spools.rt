@@ -3,7 +3,7 @@ ghost use Rattle.std.specs.Prelude.{◌≤◌};
 ghost use Rattle.mas_types.specs.Limits.{members_most};
 
 use mas_types::{Lines, List, MEMBERS_MOST, MemberId, Queue};
-use spool_disk::Fuse;
+use spool_plant::Fuse;
 
 const MOST: usize = MEMBERS_MOST as usize;
 

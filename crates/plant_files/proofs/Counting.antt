@@ -2,10 +2,10 @@
 use Rattle.std.proofs.Common.{◌≡◌, ⊎_elim, ℕ, zero, suc, ◌≤◌, ◌<◌, Bool, true, false, List, [], ◌∷◌, length, set, slice_index, map, refl, sym, subst, ap, arith, get_or-set_same, get_or-set_other}
 use Rattle.mas_types.specs.declared.ids.Dev.{Dev}
 use Rattle.spool_disk.specs.declared.health.Health.{Health}
-use Rattle.spool_disk.specs.declared.plant.Part.{Part}
-use Rattle.spool_disk.specs.declared.plant.Part.TheVariants.{Disk}
-use Rattle.spool_disk.specs.declared.plant.Act.TheVariants.{Done, Failed}
-use Rattle.spool_disk.specs.Acts.{Acts, Arms, Loses, next, top, Renews}
+use Rattle.spool_plant.specs.declared.plant.Part.{Part}
+use Rattle.spool_plant.specs.declared.plant.Part.TheVariants.{Disk}
+use Rattle.spool_plant.specs.declared.plant.Act.TheVariants.{Done, Failed}
+use Rattle.spool_plant.specs.Acts.{Acts, Arms, Loses, next, top, Renews}
 use Rattle.spool_disk.specs.Health.{health_at, failed_after, lost_after, renewed_after}
 use Rattle.spool_disk.specs.Places.{slot_of, place_of}
 use Rattle.spool_disk.proofs.Acting.{slot_apart, place_same, health_same, health_other, health_each}
@@ -27,6 +27,8 @@ done_acts s by part below whole = record {
   halted = λ f. absurd (cc);
   not_operator = λ f. absurd (cc);
   no_other_stop = λ m other. refl;
+  at_halt = λ f. absurd (cc);
+  else_halt = λ f. refl;
   last = λ at. absurd (omega (arith, at, below));
   loses = λ d. refl;
   arms = λ m. refl;
@@ -56,6 +58,8 @@ module _ (s : Shown) (part : Part) (there : place_of part < length s.parts) (sma
         halted = λ f. absurd (cc);
         not_operator = λ f. absurd (cc);
         no_other_stop = λ m other. refl;
+        at_halt = λ f. absurd (cc);
+        else_halt = λ f. refl;
         last = λ at. refl;
         loses = λ d. refl;
         arms = λ m. refl;
@@ -82,6 +86,7 @@ lost_loses s dev there counted_there fits small =
       else_lost = λ p ne. ap (λ (g : Health). g.lost) (health_other s.parts place new there (place_of p) (λ same. ne (place_same p (Disk dev) same)));
       faults = faults;
       stops = λ m. refl;
+      halt = refl;
       counted = λ d is. let at : slot_of d ≡ slot_of dev = ap slot_of (disk_part d dev is) in
           subst (λ (n : ℕ). slice_index (counted s.loses (slot_of dev)) n ≡ next (slice_index s.loses n)) (sym at) (get_or-set_same s.loses (slot_of dev) _ 0 counted_there);
       small = λ d is. subst (λ (n : ℕ). slice_index s.loses n ≤ top) (sym (ap slot_of (disk_part d dev is))) fits;
@@ -103,8 +108,10 @@ renewed_renews s dev there below =
       is_lost = λ f. absurd (cc);
       is_there = λ f. ap (λ (g : Health). g.lost) (health_same s.parts place new there place refl);
       else_lost = λ p ne. ap (λ (g : Health). g.lost) (health_other s.parts place new there (place_of p) (λ same. ne (place_same p (Disk dev) same)));
+      else_faults = λ p ne. ap (λ (g : Health). g.faults) (health_other s.parts place new there (place_of p) (λ same. ne (place_same p (Disk dev) same)));
       no_halt = λ f. absurd (cc);
       stops = λ m. refl;
+      halt = refl;
       last = λ at. absurd (omega (arith, at, below));
       loses = λ d. refl;
       arms = λ m. refl;

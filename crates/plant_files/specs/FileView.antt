@@ -3,12 +3,12 @@ use Rattle.std.specs.Prelude.{◌≡◌, ℕ, ◌+◌, nat_le, ◌&&◌, if◌th
 use Rattle.mas_types.specs.declared.ids.Dev.{Dev}
 use Rattle.mas_types.specs.declared.ids.Dev.TheVariants.{Ckpt1, Ckpt2, Spool}
 use Rattle.spool_disk.specs.declared.health.Health.{Health}
-use Rattle.spool_disk.specs.declared.plant.Part.{Part}
-use Rattle.spool_disk.specs.declared.plant.Part.TheVariants.{Disk}
-use Rattle.spool_disk.specs.Acts.{next}
+use Rattle.spool_plant.specs.declared.plant.Part.{Part}
+use Rattle.spool_plant.specs.declared.plant.Part.TheVariants.{Disk}
+use Rattle.spool_plant.specs.Acts.{next}
 use Rattle.spool_disk.specs.Health.{health_at, failed_after, lost_after, renewed_after}
 use Rattle.spool_disk.specs.Places.{slot_of, place_of}
-use Rattle.spool_disk.specs.View.{View, World}
+use Rattle.spool_plant.specs.View.{View, World}
 use Rattle.plant_files.specs.declared.tally.Tally.{Tally}
 
 -- the bytes of a device: 16 MiB for each that has a file
@@ -47,6 +47,7 @@ view_of s = record {
   loses = λ d. slice_index s.loses (slot_of d);
   waiting = λ w. [];
   arms = λ m. slice_index s.arms m;
+  halt = 0;
 }
 
 abbrev pub shown_of : Tally → Shown
@@ -115,3 +116,4 @@ pub record IsFresh (v : View) : Type 0 where
   pub stops : (m : ℕ) → v.stops m ≡ 0
   pub loses : (d : Dev) → v.loses d ≡ 0
   pub arms : (m : ℕ) → v.arms m ≡ 0
+  pub halt : v.halt ≡ 0

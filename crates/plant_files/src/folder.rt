@@ -5,7 +5,7 @@ use crate::files::{append, empty, not_there, read_next};
 use crate::hold::{FolderError, Opening, sync_folder};
 use crate::marked::{How, Marked, open_marked, open_or_make};
 use mas_types::{Dev, MemberId};
-use spool_disk::Part;
+use spool_plant::Part;
 use std::alloc::{AllocError, Global};
 use std::fs::{self, File, OpenFile};
 use std::io::{self, ErrorKind, Read, Seek, Write};

@@ -1,6 +1,6 @@
 //! A plant over the files of a folder.
 ghost use Rattle.std.specs.Prelude.{◌≡◌, ◌<◌, ◌≤◌, ℕ, length, IfOk, false};
-ghost use Rattle.spool_disk.specs.Acts.{Acts, FitsInto, act_of, top};
+ghost use Rattle.spool_plant.specs.Acts.{Acts, FitsInto, act_of, top};
 ghost use Rattle.plant_files.specs.FileView.{size_of, tally_view};
 
 use crate::folder::{EACH_MOST, Folder, open_folder};
@@ -8,7 +8,8 @@ use crate::hold::{FolderError, Opening, hold_folder};
 use crate::streams::Streams;
 use crate::tally::Tally;
 use mas_types::{Dev, MemberId};
-use spool_disk::{Act, Fuse, PLACES, Part, Plant, Took, place_number};
+use spool_disk::{PLACES, place_number};
+use spool_plant::{Act, Fuse, Part, Plant, Took};
 use std::alloc::{AllocError, Global};
 use std::fs::{File, OpenFile};
 use std::io::{Read, Seek, Write};

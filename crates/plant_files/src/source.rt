@@ -1,7 +1,7 @@
 //! Standard input as a source.
 ghost use Rattle.std.specs.Prelude.{[]};
 
-use spool_disk::{Got, Source};
+use spool_plant::{Got, Source};
 use std::io::Read;
 
 /// Standard input. What a stream of the system has left can't be known, so this source tells nothing of it.

@@ -1,14 +1,15 @@
 //! The moment, and what is counted.
 ghost use Rattle.std.specs.Prelude.{◌≡◌, ◌<◌, ◌≤◌, ℕ, length, IfOk, map, slice_index, true, false};
-ghost use Rattle.spool_disk.specs.Acts.{Acts, Arms, Loses, Renews, top};
-ghost use Rattle.spool_disk.specs.declared.plant.Act.TheVariants.{Done, Failed};
-ghost use Rattle.spool_disk.specs.declared.plant.Part.TheVariants.{Disk};
+ghost use Rattle.spool_plant.specs.Acts.{Acts, Arms, Loses, Renews, top};
+ghost use Rattle.spool_plant.specs.declared.plant.Act.TheVariants.{Done, Failed};
+ghost use Rattle.spool_plant.specs.declared.plant.Part.TheVariants.{Disk};
 ghost use Rattle.spool_disk.specs.Health.{health_at};
 ghost use Rattle.spool_disk.specs.Places.{slot_of, place_of};
 ghost use Rattle.plant_files.specs.Lost.{lost_part};
 
 use mas_types::{Dev, MemberId};
-use spool_disk::{Act, Counts, Health, Part, place_number, slot_number};
+use spool_disk::{Counts, Health, place_number, slot_number};
+use spool_plant::{Act, Part};
 use std::alloc::{AllocError, Global};
 
 #[derive(Drop)]

@@ -4,18 +4,19 @@ use Rattle.std.specs.Prelude.{All, Bool, slice_index_or}
 use Rattle.std.proofs.lemmas.List.{length-take, take-take, take_all, append-nil}
 use Rattle.std.proofs.lemmas.List.Elements.{All-nil, All-cons, All-append}
 use Rattle.mas_types.specs.declared.ids.Dev.{Dev}
-use Rattle.spool_disk.specs.declared.plant.Act.{Act}
-use Rattle.spool_disk.specs.declared.plant.Act.TheVariants.{Done, Failed, Halted}
-use Rattle.spool_disk.specs.declared.plant.Took.{Took}
-use Rattle.spool_disk.specs.declared.plant.Took.TheVariants.{Bytes as TookBytes, Failed as TookFailed, Halted as TookHalted}
-use Rattle.spool_disk.specs.View.{View, Line, disk_now, taken_now, given_now}
-use Rattle.spool_disk.specs.declared.plant.Part.{Part}
-use Rattle.spool_disk.specs.declared.plant.Part.TheVariants.{Console}
-use Rattle.spool_disk.specs.Acts.{Goes, Acts, SamePaper, SameWires, OnDevice, Reads, Writes, Syncs, Said, Says, Prints, Given, GivesOn, FitsInto, TookFrom, Takes, LosesThere, Renews, RenewsThere, act_of, top}
+use Rattle.spool_plant.specs.declared.plant.Act.{Act}
+use Rattle.spool_plant.specs.declared.plant.Act.TheVariants.{Done, Failed, Halted}
+use Rattle.spool_plant.specs.declared.plant.Took.{Took}
+use Rattle.spool_plant.specs.declared.plant.Took.TheVariants.{Bytes as TookBytes, Failed as TookFailed, Halted as TookHalted}
+use Rattle.spool_plant.specs.View.{View, Line, disk_now, taken_now, given_now}
+use Rattle.spool_plant.specs.declared.plant.Part.{Part}
+use Rattle.spool_plant.specs.declared.plant.Part.TheVariants.{Console}
+use Rattle.spool_plant.specs.Acts.{Goes, Acts, SamePaper, SameWires, OnDevice, Reads, Writes, Syncs, Said, Says, Prints, Given, GivesOn, FitsInto, TookFrom, Takes, LosesThere, Renews, RenewsThere, act_of, top}
 use Rattle.spool_disk.proofs.Acting.{same_or_not}
 use Rattle.spool_disk.proofs.Restart.{split}
 use Rattle.plant_fuse.specs.Torn.{Halved, is_torn, lines_at}
 use Rattle.plant_fuse.specs.Closing.{Closes, halved_by}
+use Rattle.plant_fuse.specs.declared.stops.Stops.{Stops}
 use Rattle.plant_fuse.specs.FuseViews.{consoles, papers, fused_view, IsWithin, AreWithin}
 use Rattle.plant_fuse.proofs.Marks.{lines_same, lines_added, lines_torn, lines_elsewhere, torn_here, torn_nothing}
 use Rattle.plant_fuse.proofs.Passing.{each_before, old_console, old_paper, with_lost, renews_goes}
@@ -46,7 +47,7 @@ module _ (line : List ℕ) (old new shown shown' : List Line) (same : new ≡ ol
   said_through Halted (inr (inl (text, is))) = inr (inl (text, added (record { text = text; whole = false } ∷ []) is))
   said_through Halted (inr (inr is)) = inr (inr (added (record { text = line; whole = true } ∷ []) is))
 
-module _ (old new : View) (hs : List Halved) (s a s' a' : List ℕ) (goes : Goes old new) (within : AreWithin old hs) where
+module _ (old new : View) (hs : List Halved) (s : Stops) (a : List ℕ) (s' : Stops) (a' : List ℕ) (goes : Goes old new) (within : AreWithin old hs) where
   console_same : consoles new.world new.now ≡ consoles old.world old.now → lines_at (consoles new.world) 0 hs new.now ≡ lines_at (consoles old.world) 0 hs old.now
   console_same = lines_same (consoles old.world) (consoles new.world) 0 old.now new.now hs (old_console old new goes hs) goes.later (each_before old hs within)
 
@@ -127,12 +128,12 @@ module _ (old new : View) (hs : List Halved) (s a s' a' : List ℕ) (goes : Goes
   }
 
   -- acts that halt
-  pub write_closed : (by : ℕ) (dev : Dev) (at k : ℕ) (bytes some : List ℕ) (passed r : Act) → some ≡ take k bytes → Writes dev at some old new passed → Closes by passed s s' r → Writes dev at bytes before after r
+  pub write_closed : (by : ℕ) (dev : Dev) (at k : ℕ) (bytes some : List ℕ) (passed r : Act) → some ≡ take k bytes → Writes dev at some old new passed → Closes by passed s.counts s'.counts r → Writes dev at bytes before after r
   write_closed by dev at k bytes some passed r is x closes = by_act passed x closes where
     few : length some ≤ length bytes
     few = omega (arith, ap (λ (l : List ℕ). length l) is, length-take k bytes)
 
-    by_act : (p : Act) → Writes dev at some old new p → Closes by p s s' r → Writes dev at bytes before after r
+    by_act : (p : Act) → Writes dev at some old new p → Closes by p s.counts s'.counts r → Writes dev at bytes before after r
     by_act Done x closes = subst (λ (q : Act). Writes dev at bytes before after q) (sym closes.0)
         (record { disk = ((length some, few, x.disk.0), x.disk.2); lost = λ f. absurd (cc); only = device_passed dev x.only })
     by_act Failed x closes = subst (λ (q : Act). Writes dev at bytes before after q) (sym closes.0)
@@ -140,17 +141,17 @@ module _ (old new : View) (hs : List Halved) (s a s' a' : List ℕ) (goes : Goes
     by_act Halted x closes = subst (λ (q : Act). Writes dev at bytes before after q) (sym closes.0)
         (record { disk = ((x.disk.0.0, omega (arith, x.disk.0.1, few), x.disk.0.2), x.disk.1); lost = λ f. absurd (cc); only = device_passed dev x.only })
 
-  pub sync_closed : (by : ℕ) (dev : Dev) (at : ℕ) (into : List ℕ) (passed r : Act) → Reads dev at old new into passed → Closes by passed s s' r → Syncs dev before after r
+  pub sync_closed : (by : ℕ) (dev : Dev) (at : ℕ) (into : List ℕ) (passed r : Act) → Reads dev at old new into passed → Closes by passed s.counts s'.counts r → Syncs dev before after r
   sync_closed by dev at into Done r x closes = subst (λ (q : Act). Syncs dev before after q) (sym closes.0) (record { disk = x.disk.0; lost = λ f. absurd (cc); only = device_passed dev x.only })
   sync_closed by dev at into Failed r x closes = subst (λ (q : Act). Syncs dev before after q) (sym closes.0) (record { disk = x.disk; lost = x.lost; only = device_passed dev x.only })
   sync_closed by dev at into Halted r x closes = subst (λ (q : Act). Syncs dev before after q) (sym closes.0) (record { disk = x.disk; lost = λ f. absurd (cc); only = device_passed dev x.only })
 
-  pub read_closed : (by : ℕ) (dev : Dev) (at at' : ℕ) (into into' : List ℕ) (passed r : Act) → Reads dev at old new into passed → Closes by passed s s' r → Reads dev at' before after into' r
+  pub read_closed : (by : ℕ) (dev : Dev) (at at' : ℕ) (into into' : List ℕ) (passed r : Act) → Reads dev at old new into passed → Closes by passed s.counts s'.counts r → Reads dev at' before after into' r
   read_closed by dev at at' into into' Done r x closes = subst (λ (q : Act). Reads dev at' before after into' q) (sym closes.0) (record { disk = x.disk.0; lost = λ f. absurd (cc); only = device_passed dev x.only })
   read_closed by dev at at' into into' Failed r x closes = subst (λ (q : Act). Reads dev at' before after into' q) (sym closes.0) (record { disk = x.disk; lost = x.lost; only = device_passed dev x.only })
   read_closed by dev at at' into into' Halted r x closes = subst (λ (q : Act). Reads dev at' before after into' q) (sym closes.0) (record { disk = x.disk; lost = λ f. absurd (cc); only = device_passed dev x.only })
 
-  pub give_closed : (by wire member k : ℕ) (bytes some : List ℕ) (passed r : Act) → some ≡ take k bytes → GivesOn wire member some old new passed → Closes by passed s s' r → GivesOn wire member bytes before after r
+  pub give_closed : (by wire member k : ℕ) (bytes some : List ℕ) (passed r : Act) → some ≡ take k bytes → GivesOn wire member some old new passed → Closes by passed s.counts s'.counts r → GivesOn wire member bytes before after r
   give_closed by wire member k bytes some passed r is x closes = by_act passed x closes where
     gives : (q : Act) → ((w m : ℕ) → (w ≢ wire) ⊎ (m ≢ member) → given_now new w m ≡ given_now old w m) → ((w m : ℕ) → taken_now new w m ≡ taken_now old w m) → ((w : ℕ) → new.waiting w ≡ old.waiting w)
         → ((d : Dev) → disk_now new d ≡ disk_now old d) → consoles new.world new.now ≡ consoles old.world old.now → SamePaper old new → Given bytes (given_now old wire member) (given_now new wire member) q → GivesOn wire member bytes before after q
@@ -162,13 +163,13 @@ module _ (old new : View) (hs : List Halved) (s a s' a' : List ℕ) (goes : Goes
         let first = first_of n k bytes in
         (first.0, given ∙ ap (λ (l : List ℕ). given_now old wire member ++ take n l) is ∙ ap (λ (l : List ℕ). given_now old wire member ++ l) first.1)
 
-    by_act : (p : Act) → GivesOn wire member some old new p → Closes by p s s' r → GivesOn wire member bytes before after r
+    by_act : (p : Act) → GivesOn wire member some old new p → Closes by p s.counts s'.counts r → GivesOn wire member bytes before after r
     by_act Done x closes = subst (λ (q : Act). GivesOn wire member bytes before after q) (sym closes.0)
         (gives Halted x.others x.taken x.waiting x.disks x.console x.paper (k, x.given ∙ ap (λ (l : List ℕ). given_now old wire member ++ l) is))
     by_act Failed x closes = subst (λ (q : Act). GivesOn wire member bytes before after q) (sym closes.0) (gives Failed x.others x.taken x.waiting x.disks x.console x.paper (some_given x.given.0 x.given.1))
     by_act Halted x closes = subst (λ (q : Act). GivesOn wire member bytes before after q) (sym closes.0) (gives Halted x.others x.taken x.waiting x.disks x.console x.paper (some_given x.given.0 x.given.1))
 
-  pub take_closed : (by wire member : ℕ) (into into' : List ℕ) (passed r : Took) (closed : Act) → FitsInto 0 passed → Takes wire member old new into passed → Closes by (act_of passed) s s' closed → act_of r ≡ closed → Takes wire member before after into' r
+  pub take_closed : (by wire member : ℕ) (into into' : List ℕ) (passed r : Took) (closed : Act) → FitsInto 0 passed → Takes wire member old new into passed → Closes by (act_of passed) s.counts s'.counts closed → act_of r ≡ closed → Takes wire member before after into' r
   take_closed by wire member into into' passed r closed fits x closes is = by_took passed fits x closes where
     takes : (q : Took) → TookFrom (old.waiting wire) (new.waiting wire) (taken_now old wire member) (taken_now new wire member) into' q → Takes wire member before after into' q
     takes q took = record { took = took; others = x.others; waiting = x.waiting; given = x.given; disks = x.disks; console = console_same x.console; paper = papers_passed x.paper }
@@ -183,7 +184,7 @@ module _ (old new : View) (hs : List Halved) (s a s' a' : List ℕ) (goes : Goes
     halted TookFailed e = absurd (cc)
     halted TookHalted e = refl
 
-    by_took : (p : Took) → FitsInto 0 p → Takes wire member old new into p → Closes by (act_of p) s s' closed → Takes wire member before after into' r
+    by_took : (p : Took) → FitsInto 0 p → Takes wire member old new into p → Closes by (act_of p) s.counts s'.counts closed → Takes wire member before after into' r
     by_took (TookBytes n) fits y closes =
         let none : n ≡ 0 = omega (arith, fits) in
         let waits = y.took.2 ∙ ap (λ (m : ℕ). drop m (old.waiting wire)) none ∙ drop-zero (old.waiting wire) in
@@ -223,7 +224,7 @@ module _ (old new : View) (hs : List Halved) (s a s' a' : List ℕ) (goes : Goes
       said_halved one line some (inr (inl (text, added))) = inr (inl (text, halved_torn one (record { text = text; whole = false }) added))
       said_halved one line some (inr (inr added)) = inr (inl (some, halved_torn one (record { text = some; whole = true }) added))
 
-  pub say_closed : (by : ℕ) (line some : List ℕ) (passed r : Act) → Acts by Console old new passed → old.now ≤ top → Says some old new passed → Closes by passed s s' r → Says line before (fused_view new (halved_by passed (0, old.now) hs) s' a') r
+  pub say_closed : (by : ℕ) (line some : List ℕ) (passed r : Act) → Acts by Console old new passed → old.now ≤ top → Says some old new passed → Closes by passed s.counts s'.counts r → Says line before (fused_view new (halved_by passed (0, old.now) hs) s' a') r
   say_closed by line some Failed r act small x closes = subst (λ (q : Act). Says line before after q) (sym closes.0) (says_passed line Failed (record { console = x.console; disks = x.disks; paper = x.paper; wires = x.wires }))
   say_closed by line some Done r act small x closes =
       let one = one_more by Console Done act small (λ f. absurd (cc)) in
@@ -253,7 +254,7 @@ module _ (old new : View) (hs : List Halved) (s a s' a' : List ℕ) (goes : Goes
       wires = record { waiting = x.wires.waiting; taken = x.wires.taken; given = x.wires.given };
     }
 
-  pub print_closed : (by : ℕ) (part : Part) (member : ℕ) (line some : List ℕ) (passed r : Act) → Acts by part old new passed → old.now ≤ top → Prints member some old new passed → Closes by passed s s' r
+  pub print_closed : (by : ℕ) (part : Part) (member : ℕ) (line some : List ℕ) (passed r : Act) → Acts by part old new passed → old.now ≤ top → Prints member some old new passed → Closes by passed s.counts s'.counts r
       → Prints member line before (fused_view new (halved_by passed (member + 1, old.now) hs) s' a') r
   print_closed by part member line some Failed r act small x closes = subst (λ (q : Act). Prints member line before after q) (sym closes.0) (prints_passed member line Failed (record { paper = x.paper; others = x.others; disks = x.disks; console = x.console; wires = x.wires }))
   print_closed by part member line some Done r act small x closes =
@@ -329,7 +330,7 @@ keeps_lost : (dev : Dev) (old new : View) (lost : Part → Bool) → OnDevice de
 keeps_lost dev old new lost x = record { others = x.others; console = x.console; paper = x.paper; wires = record { waiting = x.wires.waiting; taken = x.wires.taken; given = x.wires.given } }
 
 module _ (dev : Dev) (old new : View) (hs : List Halved) (result : Act) (act : Renews dev old new result) (within : AreWithin old hs) (x : RenewsThere dev old new result) where
-  pub renews_passed : (s a : List ℕ) → RenewsThere dev (fused_view old hs s a) (fused_view new hs s a) result
+  pub renews_passed : (s : Stops) (a : List ℕ) → RenewsThere dev (fused_view old hs s a) (fused_view new hs s a) result
   renews_passed s a = record {
     disk = x.disk;
     lost = x.lost;

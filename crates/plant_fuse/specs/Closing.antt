@@ -1,7 +1,7 @@
 -- How an act that halts ends.
 use Rattle.std.specs.Prelude.{◌≡◌, ℕ, List, [], ◌∷◌, ◌++◌}
-use Rattle.spool_disk.specs.declared.plant.Act.{Act}
-use Rattle.spool_disk.specs.declared.plant.Act.TheVariants.{Done, Failed, Halted}
+use Rattle.spool_plant.specs.declared.plant.Act.{Act}
+use Rattle.spool_plant.specs.declared.plant.Act.TheVariants.{Done, Failed, Halted}
 use Rattle.plant_fuse.specs.Counted.{counted}
 use Rattle.plant_fuse.specs.Torn.{Halved}
 
@@ -17,3 +17,9 @@ abbrev pub halved_by : Act → Halved → List Halved → List Halved
 halved_by Done h hs = hs ++ h ∷ []
 halved_by Failed h hs = hs
 halved_by Halted h hs = hs ++ h ∷ []
+
+-- the moment behind the last act that was halted, after one with this answer that ended now
+abbrev pub halt_then : Act → ℕ → ℕ → ℕ
+halt_then Done halt now = halt
+halt_then Failed halt now = halt
+halt_then Halted halt now = now

@@ -1,6 +1,6 @@
 -- Counts of members.
 use Rattle.std.specs.Prelude.{ℕ, List, slice_index, slice_set}
-use Rattle.spool_disk.specs.Acts.{next}
+use Rattle.spool_plant.specs.Acts.{next}
 
 -- the counts, where one more act of a member is counted
 abbrev pub counted : List ℕ → ℕ → List ℕ

@@ -1,8 +1,9 @@
 -- What a plant with fuses shows.
 use Rattle.std.specs.Prelude.{◌≡◌, ℕ, ◌+◌, ◌<◌, List, length, slice_index, All}
 use Rattle.mas_types.specs.declared.ids.Dev.{Dev}
-use Rattle.spool_disk.specs.declared.plant.Part.{Part}
-use Rattle.spool_disk.specs.View.{View, World, Line}
+use Rattle.spool_plant.specs.declared.plant.Part.{Part}
+use Rattle.spool_plant.specs.View.{View, World, Line}
+use Rattle.plant_fuse.specs.declared.stops.Stops.{Stops}
 use Rattle.plant_fuse.specs.Torn.{Halved, lines_at}
 
 -- the lines of the console, and of a printer, at each moment
@@ -23,17 +24,18 @@ world_of worlds hs t = record {
 
 -- An inner plant's view, with the lines that were halved, the stops that were counted beside those of the inner plant,
 -- and the calls that armed stops.
-abbrev pub fused_view : View → List Halved → List ℕ → List ℕ → View
+abbrev pub fused_view : View → List Halved → Stops → List ℕ → View
 fused_view v hs stops arms = record {
   now = v.now;
   world = world_of v.world hs;
   size = v.size;
   lost = v.lost;
   faults = v.faults;
-  stops = λ m. v.stops m + slice_index stops m;
+  stops = λ m. v.stops m + slice_index stops.counts m;
   loses = v.loses;
   waiting = v.waiting;
   arms = λ m. slice_index arms m;
+  halt = stops.last;
 }
 
 -- an act that was halved was made by now, and a line that it added stands among the lines of its place
@@ -47,7 +49,7 @@ pub record IsWithin (v : View) (h : Halved) : Type 0 where
 abbrev pub AreWithin : View → List Halved → Type 0
 AreWithin v hs = All (IsWithin v) hs
 
--- what a plant over an inner one shows at first: what the inner one shows, but that no stop was armed
+-- what a plant over an inner one shows at first: what the inner one shows, but that no stop was armed or answered
 pub record ShowsInner (inner v : View) : Type 0 where
   pub now : v.now ≡ inner.now
   pub world : (t : ℕ) → v.world t ≡ inner.world t
@@ -58,3 +60,4 @@ pub record ShowsInner (inner v : View) : Type 0 where
   pub loses : (d : Dev) → v.loses d ≡ inner.loses d
   pub waiting : (w : ℕ) → v.waiting w ≡ inner.waiting w
   pub arms : (m : ℕ) → v.arms m ≡ 0
+  pub halt : v.halt ≡ 0

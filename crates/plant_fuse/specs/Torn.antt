@@ -1,6 +1,6 @@
 -- Which lines of an inner plant count as torn.
 use Rattle.std.specs.Prelude.{ℕ, ◌+◌, ◌==◌, nat_lt, ◌&&◌, not, if◌then◌else◌, Bool, true, false, List, [], ◌∷◌, length}
-use Rattle.spool_disk.specs.View.{Line}
+use Rattle.spool_plant.specs.View.{Line}
 
 -- An act that passed on the half of a line: the printer that it went to, by the member's number and one more, or 0 for
 -- the console, and the moment at which it was made.

@@ -1,17 +1,19 @@
 //! A plant over any plant, which halts the acts whose stop was armed.
 ghost use Rattle.std.specs.Prelude.{◌≡◌, ◌≢◌, ◌+◌, ◌≤◌, ◌<◌, ◌/◌, length, take, slice_index, true, false};
-ghost use Rattle.spool_disk.specs.Acts.{act_of, top};
-ghost use Rattle.spool_disk.specs.declared.plant.Act.TheVariants.{Done};
+ghost use Rattle.spool_plant.specs.Acts.{act_of, top};
+ghost use Rattle.spool_plant.specs.declared.plant.Act.TheVariants.{Done};
 ghost use Rattle.spool_disk.specs.FuseView.{armed_of};
 ghost use Rattle.spool_disk.specs.Fuses.{none_armed};
 ghost use Rattle.plant_fuse.specs.FuseViews.{fused_view, AreWithin};
 ghost use Rattle.plant_fuse.specs.Closing.{Closes, halved_by};
 ghost use Rattle.plant_fuse.specs.Unarmed.{AreUnarmed};
 
+use crate::stops::Stops;
 use crate::tally::Tally;
 use http_server::Log;
 use mas_types::{Dev, MemberId};
-use spool_disk::{Act, Fuse, Fuses, Part, Plant, Took};
+use spool_disk::Fuses;
+use spool_plant::{Act, Fuse, Part, Plant, Took};
 
 /// A plant over an inner plant, which keeps armed stops to itself and passes every other call on, except the acts that
 /// it halts: of a halted write, line or gift it passes on the first half of the bytes, of a halted read or sync a read
@@ -23,8 +25,8 @@ pub struct Fused<P: Plant + Drop> {
     pub inner: P,
     /// The stops that are armed.
     pub fuses: Fuses,
-    /// The stops of each member that this plant made.
-    pub stops: Tally,
+    /// The stops of each member that this plant made, and the moment behind the last one that it answered.
+    pub stops: Stops,
     /// The calls that armed a stop of each member.
     pub arms: Tally,
     /// The acts that passed on the half of a line: the place, which is 0 for the console and else the member's number
@@ -42,8 +44,9 @@ fn half(bytes: &[u8]) -> &[u8]
 }
 
 // Ends an act that halts, of which what was passed on was answered so.
-fn close(stops: &mut Tally, by: MemberId, passed: Act) -> Act
+fn close(stops: &mut Stops, by: MemberId, passed: Act) -> Act
     ensures closes { Closes by.0 passed stops.old.counts stops.new.counts result }
+    ensures last { stops.new.last ≡ stops.old.last }
     ensures few { by.0 < 256 }
 {
     match passed {
@@ -92,13 +95,13 @@ impl<P: Plant + Drop> Fused<P> {
     /// Nothing is armed, and no line was halved.
     pub fn new(inner: P) -> Fused<P>
         ensures view { ShowsInner (P.view inner)
-            (fused_view (P.view result.inner) result.halved.items result.stops.counts result.arms.counts) }
+            (fused_view (P.view result.inner) result.halved.items result.stops result.arms.counts) }
         ensures none { armed_of result.fuses ≡ none_armed }
     {
         Fused {
             inner,
             fuses: Fuses::new(),
-            stops: Tally::new(),
+            stops: Stops::new(),
             arms: Tally::new(),
             halved: Log::new(),
         }
@@ -106,15 +109,15 @@ impl<P: Plant + Drop> Fused<P> {
 }
 
 impl<P: Plant + Drop> Plant for Fused<P> {
-    ghost use Rattle.spool_disk.specs.Acts.{Acts, Reads, Writes, Syncs, Says, Prints, GivesOn, Takes, FitsInto, Arms, Renews, RenewsThere};
+    ghost use Rattle.spool_plant.specs.Acts.{Acts, Reads, Writes, Syncs, Says, Prints, GivesOn, Takes, FitsInto, Arms, Renews, RenewsThere};
     ghost use Rattle.spool_disk.specs.Fuses.{burnt, to_halt, with_fuse};
     ghost use Rattle.plant_fuse.specs.Unarmed.{none_stopped};
-    ghost use Rattle.spool_disk.specs.declared.plant.Act.{Act};
-    ghost use Rattle.spool_disk.specs.declared.plant.Part.TheVariants.{Disk, Console, Printer, Wire};
+    ghost use Rattle.spool_plant.specs.declared.plant.Act.{Act};
+    ghost use Rattle.spool_plant.specs.declared.plant.Part.TheVariants.{Disk, Console, Printer, Wire};
 
     ghost tells = { P.tells };
 
-    ghost view = { λ f. fused_view (P.view f.inner) f.halved.items f.stops.counts f.arms.counts };
+    ghost view = { λ f. fused_view (P.view f.inner) f.halved.items f.stops f.arms.counts };
 
     ghost sized = { λ f told t le d. P.sized f.inner told t le d };
 
@@ -145,12 +148,12 @@ impl<P: Plant + Drop> Plant for Fused<P> {
     fn read(&mut self, by: MemberId, dev: Dev, at: u64, into: &mut [u8]) -> Act
         requires { at + length into.old ≤ (P.view self.old.inner).size dev }
         ensures acts { Acts by.0 (Disk dev)
-            (fused_view (P.view self.old.inner) self.old.halved.items self.old.stops.counts self.old.arms.counts)
-            (fused_view (P.view self.new.inner) self.new.halved.items self.new.stops.counts self.new.arms.counts)
+            (fused_view (P.view self.old.inner) self.old.halved.items self.old.stops self.old.arms.counts)
+            (fused_view (P.view self.new.inner) self.new.halved.items self.new.stops self.new.arms.counts)
             result }
         ensures content { P.tells → Reads dev at
-            (fused_view (P.view self.old.inner) self.old.halved.items self.old.stops.counts self.old.arms.counts)
-            (fused_view (P.view self.new.inner) self.new.halved.items self.new.stops.counts self.new.arms.counts)
+            (fused_view (P.view self.old.inner) self.old.halved.items self.old.stops self.old.arms.counts)
+            (fused_view (P.view self.new.inner) self.new.halved.items self.new.stops self.new.arms.counts)
             into.new result }
         ensures armed { armed_of self.new.fuses ≡ burnt (armed_of self.old.fuses) by.0 false }
         ensures halts { to_halt (armed_of self.old.fuses) by.0 false ≡ true → result ≢ Done }
@@ -159,21 +162,25 @@ impl<P: Plant + Drop> Plant for Fused<P> {
     {
         if self.fuses.fire(by, false) {
             let passed = self.inner.read(by, dev, 0, &mut []);
-            close(&mut self.stops, by, passed)
+            let act = close(&mut self.stops, by, passed);
+            self.stops.note(&self.inner, act);
+            act
         } else {
-            self.inner.read(by, dev, at, into)
+            let act = self.inner.read(by, dev, at, into);
+            self.stops.note(&self.inner, act);
+            act
         }
     }
 
     fn write(&mut self, by: MemberId, dev: Dev, at: u64, bytes: &[u8]) -> Act
         requires { at + length bytes.now ≤ (P.view self.old.inner).size dev }
         ensures acts { Acts by.0 (Disk dev)
-            (fused_view (P.view self.old.inner) self.old.halved.items self.old.stops.counts self.old.arms.counts)
-            (fused_view (P.view self.new.inner) self.new.halved.items self.new.stops.counts self.new.arms.counts)
+            (fused_view (P.view self.old.inner) self.old.halved.items self.old.stops self.old.arms.counts)
+            (fused_view (P.view self.new.inner) self.new.halved.items self.new.stops self.new.arms.counts)
             result }
         ensures content { P.tells → Writes dev at bytes.now
-            (fused_view (P.view self.old.inner) self.old.halved.items self.old.stops.counts self.old.arms.counts)
-            (fused_view (P.view self.new.inner) self.new.halved.items self.new.stops.counts self.new.arms.counts)
+            (fused_view (P.view self.old.inner) self.old.halved.items self.old.stops self.old.arms.counts)
+            (fused_view (P.view self.new.inner) self.new.halved.items self.new.stops self.new.arms.counts)
             result }
         ensures armed { armed_of self.new.fuses ≡ burnt (armed_of self.old.fuses) by.0 false }
         ensures halts { to_halt (armed_of self.old.fuses) by.0 false ≡ true → result ≢ Done }
@@ -184,20 +191,24 @@ impl<P: Plant + Drop> Plant for Fused<P> {
     {
         if self.fuses.fire(by, false) {
             let passed = self.inner.write(by, dev, at, half(bytes));
-            close(&mut self.stops, by, passed)
+            let act = close(&mut self.stops, by, passed);
+            self.stops.note(&self.inner, act);
+            act
         } else {
-            self.inner.write(by, dev, at, bytes)
+            let act = self.inner.write(by, dev, at, bytes);
+            self.stops.note(&self.inner, act);
+            act
         }
     }
 
     fn sync(&mut self, by: MemberId, dev: Dev) -> Act
         ensures acts { Acts by.0 (Disk dev)
-            (fused_view (P.view self.old.inner) self.old.halved.items self.old.stops.counts self.old.arms.counts)
-            (fused_view (P.view self.new.inner) self.new.halved.items self.new.stops.counts self.new.arms.counts)
+            (fused_view (P.view self.old.inner) self.old.halved.items self.old.stops self.old.arms.counts)
+            (fused_view (P.view self.new.inner) self.new.halved.items self.new.stops self.new.arms.counts)
             result }
         ensures content { P.tells → Syncs dev
-            (fused_view (P.view self.old.inner) self.old.halved.items self.old.stops.counts self.old.arms.counts)
-            (fused_view (P.view self.new.inner) self.new.halved.items self.new.stops.counts self.new.arms.counts)
+            (fused_view (P.view self.old.inner) self.old.halved.items self.old.stops self.old.arms.counts)
+            (fused_view (P.view self.new.inner) self.new.halved.items self.new.stops self.new.arms.counts)
             result }
         ensures armed { armed_of self.new.fuses ≡ burnt (armed_of self.old.fuses) by.0 false }
         ensures halts { to_halt (armed_of self.old.fuses) by.0 false ≡ true → result ≢ Done }
@@ -206,20 +217,24 @@ impl<P: Plant + Drop> Plant for Fused<P> {
     {
         if self.fuses.fire(by, false) {
             let passed = self.inner.read(by, dev, 0, &mut []);
-            close(&mut self.stops, by, passed)
+            let act = close(&mut self.stops, by, passed);
+            self.stops.note(&self.inner, act);
+            act
         } else {
-            self.inner.sync(by, dev)
+            let act = self.inner.sync(by, dev);
+            self.stops.note(&self.inner, act);
+            act
         }
     }
 
     fn say(&mut self, by: MemberId, line: &[u8]) -> Act
         ensures acts { Acts by.0 Console
-            (fused_view (P.view self.old.inner) self.old.halved.items self.old.stops.counts self.old.arms.counts)
-            (fused_view (P.view self.new.inner) self.new.halved.items self.new.stops.counts self.new.arms.counts)
+            (fused_view (P.view self.old.inner) self.old.halved.items self.old.stops self.old.arms.counts)
+            (fused_view (P.view self.new.inner) self.new.halved.items self.new.stops self.new.arms.counts)
             result }
         ensures content { P.tells → Says line.now
-            (fused_view (P.view self.old.inner) self.old.halved.items self.old.stops.counts self.old.arms.counts)
-            (fused_view (P.view self.new.inner) self.new.halved.items self.new.stops.counts self.new.arms.counts)
+            (fused_view (P.view self.old.inner) self.old.halved.items self.old.stops self.old.arms.counts)
+            (fused_view (P.view self.new.inner) self.new.halved.items self.new.stops self.new.arms.counts)
             result }
         ensures armed { armed_of self.new.fuses ≡ burnt (armed_of self.old.fuses) by.0 false }
         ensures halts { to_halt (armed_of self.old.fuses) by.0 false ≡ true → result ≢ Done }
@@ -232,20 +247,24 @@ impl<P: Plant + Drop> Plant for Fused<P> {
             let moment = self.inner.now();
             let passed = self.inner.say(by, half(line));
             note_half(&mut self.halved, 0, moment, passed);
-            close(&mut self.stops, by, passed)
+            let act = close(&mut self.stops, by, passed);
+            self.stops.note(&self.inner, act);
+            act
         } else {
-            self.inner.say(by, line)
+            let act = self.inner.say(by, line);
+            self.stops.note(&self.inner, act);
+            act
         }
     }
 
     fn print(&mut self, by: MemberId, line: &[u8]) -> Act
         ensures acts { Acts by.0 (Printer by)
-            (fused_view (P.view self.old.inner) self.old.halved.items self.old.stops.counts self.old.arms.counts)
-            (fused_view (P.view self.new.inner) self.new.halved.items self.new.stops.counts self.new.arms.counts)
+            (fused_view (P.view self.old.inner) self.old.halved.items self.old.stops self.old.arms.counts)
+            (fused_view (P.view self.new.inner) self.new.halved.items self.new.stops self.new.arms.counts)
             result }
         ensures content { P.tells → Prints by.0 line.now
-            (fused_view (P.view self.old.inner) self.old.halved.items self.old.stops.counts self.old.arms.counts)
-            (fused_view (P.view self.new.inner) self.new.halved.items self.new.stops.counts self.new.arms.counts)
+            (fused_view (P.view self.old.inner) self.old.halved.items self.old.stops self.old.arms.counts)
+            (fused_view (P.view self.new.inner) self.new.halved.items self.new.stops self.new.arms.counts)
             result }
         ensures armed { armed_of self.new.fuses ≡ burnt (armed_of self.old.fuses) by.0 true }
         ensures halts { to_halt (armed_of self.old.fuses) by.0 true ≡ true → result ≢ Done }
@@ -258,20 +277,24 @@ impl<P: Plant + Drop> Plant for Fused<P> {
             let moment = self.inner.now();
             let passed = self.inner.print(by, half(line));
             note_half(&mut self.halved, by.0 as u64 + 1, moment, passed);
-            close(&mut self.stops, by, passed)
+            let act = close(&mut self.stops, by, passed);
+            self.stops.note(&self.inner, act);
+            act
         } else {
-            self.inner.print(by, line)
+            let act = self.inner.print(by, line);
+            self.stops.note(&self.inner, act);
+            act
         }
     }
 
     fn give(&mut self, by: MemberId, wire: u8, bytes: &[u8]) -> Act
         ensures acts { Acts by.0 (Wire wire)
-            (fused_view (P.view self.old.inner) self.old.halved.items self.old.stops.counts self.old.arms.counts)
-            (fused_view (P.view self.new.inner) self.new.halved.items self.new.stops.counts self.new.arms.counts)
+            (fused_view (P.view self.old.inner) self.old.halved.items self.old.stops self.old.arms.counts)
+            (fused_view (P.view self.new.inner) self.new.halved.items self.new.stops self.new.arms.counts)
             result }
         ensures content { P.tells → GivesOn wire by.0 bytes.now
-            (fused_view (P.view self.old.inner) self.old.halved.items self.old.stops.counts self.old.arms.counts)
-            (fused_view (P.view self.new.inner) self.new.halved.items self.new.stops.counts self.new.arms.counts)
+            (fused_view (P.view self.old.inner) self.old.halved.items self.old.stops self.old.arms.counts)
+            (fused_view (P.view self.new.inner) self.new.halved.items self.new.stops self.new.arms.counts)
             result }
         ensures armed { armed_of self.new.fuses ≡ burnt (armed_of self.old.fuses) by.0 false }
         ensures halts { to_halt (armed_of self.old.fuses) by.0 false ≡ true → result ≢ Done }
@@ -283,21 +306,25 @@ impl<P: Plant + Drop> Plant for Fused<P> {
     {
         if self.fuses.fire(by, false) {
             let passed = self.inner.give(by, wire, half(bytes));
-            close(&mut self.stops, by, passed)
+            let act = close(&mut self.stops, by, passed);
+            self.stops.note(&self.inner, act);
+            act
         } else {
-            self.inner.give(by, wire, bytes)
+            let act = self.inner.give(by, wire, bytes);
+            self.stops.note(&self.inner, act);
+            act
         }
     }
 
     fn take(&mut self, by: MemberId, wire: u8, into: &mut [u8]) -> Took
         ensures acts { Acts by.0 (Wire wire)
-            (fused_view (P.view self.old.inner) self.old.halved.items self.old.stops.counts self.old.arms.counts)
-            (fused_view (P.view self.new.inner) self.new.halved.items self.new.stops.counts self.new.arms.counts)
+            (fused_view (P.view self.old.inner) self.old.halved.items self.old.stops self.old.arms.counts)
+            (fused_view (P.view self.new.inner) self.new.halved.items self.new.stops self.new.arms.counts)
             (act_of result) }
         ensures fits { FitsInto (length into.old) result }
         ensures content { P.tells → Takes wire by.0
-            (fused_view (P.view self.old.inner) self.old.halved.items self.old.stops.counts self.old.arms.counts)
-            (fused_view (P.view self.new.inner) self.new.halved.items self.new.stops.counts self.new.arms.counts)
+            (fused_view (P.view self.old.inner) self.old.halved.items self.old.stops self.old.arms.counts)
+            (fused_view (P.view self.new.inner) self.new.halved.items self.new.stops self.new.arms.counts)
             into.new result }
         ensures armed { armed_of self.new.fuses ≡ burnt (armed_of self.old.fuses) by.0 false }
         ensures halts { to_halt (armed_of self.old.fuses) by.0 false ≡ true → (act_of result) ≢ Done }
@@ -306,15 +333,19 @@ impl<P: Plant + Drop> Plant for Fused<P> {
     {
         if self.fuses.fire(by, false) {
             let passed = act_taken(self.inner.take(by, wire, &mut []));
-            took_nothing(close(&mut self.stops, by, passed))
+            let act = close(&mut self.stops, by, passed);
+            self.stops.note(&self.inner, act);
+            took_nothing(act)
         } else {
-            self.inner.take(by, wire, into)
+            let took = self.inner.take(by, wire, into);
+            self.stops.note(&self.inner, act_taken(took));
+            took
         }
     }
 
     fn arm(&mut self, member: MemberId, fuse: Fuse, n: u32)
-        ensures arms { Arms member.0 (fused_view (P.view self.old.inner) self.old.halved.items self.old.stops.counts
-            self.old.arms.counts) (fused_view (P.view self.new.inner) self.new.halved.items self.new.stops.counts
+        ensures arms { Arms member.0 (fused_view (P.view self.old.inner) self.old.halved.items self.old.stops
+            self.old.arms.counts) (fused_view (P.view self.new.inner) self.new.halved.items self.new.stops
             self.new.arms.counts) }
         ensures armed { armed_of self.new.fuses ≡ with_fuse (armed_of self.old.fuses) member.0 fuse n }
         ensures inner { P.view self.new.inner ≡ P.view self.old.inner }
@@ -324,12 +355,12 @@ impl<P: Plant + Drop> Plant for Fused<P> {
     }
 
     fn renew(&mut self, dev: Dev) -> Act
-        ensures acts { Renews dev (fused_view (P.view self.old.inner) self.old.halved.items self.old.stops.counts
-            self.old.arms.counts) (fused_view (P.view self.new.inner) self.new.halved.items self.new.stops.counts
+        ensures acts { Renews dev (fused_view (P.view self.old.inner) self.old.halved.items self.old.stops
+            self.old.arms.counts) (fused_view (P.view self.new.inner) self.new.halved.items self.new.stops
             self.new.arms.counts) result }
         ensures content { P.tells → RenewsThere dev
-            (fused_view (P.view self.old.inner) self.old.halved.items self.old.stops.counts self.old.arms.counts)
-            (fused_view (P.view self.new.inner) self.new.halved.items self.new.stops.counts self.new.arms.counts)
+            (fused_view (P.view self.old.inner) self.old.halved.items self.old.stops self.old.arms.counts)
+            (fused_view (P.view self.new.inner) self.new.halved.items self.new.stops self.new.arms.counts)
             result }
         ensures armed { armed_of self.new.fuses ≡ armed_of self.old.fuses }
     {

@@ -2,7 +2,9 @@
 #![tactic(auto)]
 
 mod fused;
+mod stops;
 mod tally;
 
 pub use fused::Fused;
+pub use stops::Stops;
 pub use tally::Tally;

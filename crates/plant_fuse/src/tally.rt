@@ -1,6 +1,6 @@
 //! What is counted of members.
 ghost use Rattle.std.specs.Prelude.{◌≡◌, ◌≤◌, ℕ, length, replicate, slice_index};
-ghost use Rattle.spool_disk.specs.Acts.{top};
+ghost use Rattle.spool_plant.specs.Acts.{top};
 ghost use Rattle.plant_fuse.specs.Counted.{counted};
 
 use mas_types::MemberId;

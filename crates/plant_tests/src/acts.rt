@@ -1,7 +1,8 @@
 //! Acts of members on a plant.
 use crate::shows::{add_bytes, add_device, add_parts, add_source};
 use mas_types::{Dev, MemberId, NoMemory};
-use spool_disk::{Act, Choice, Fuse, MemPlant, Plant, Sizes, Took};
+use spool_disk::{MemPlant, Sizes};
+use spool_plant::{Act, Choice, Fuse, Plant, Took};
 use std::alloc::Global;
 use std::mem::replace;
 use tests_lines::{Writer, number_at};

@@ -1,7 +1,8 @@
 //! What a plant shows: bytes of devices, lines, and which parts are lost.
 use crate::acts::add_act;
 use mas_types::{Dev, Lines, List, MemberId, NoMemory};
-use spool_disk::{Act, Got, MemPlant, MemSource, Part, Plant, Source};
+use spool_disk::{MemPlant, MemSource};
+use spool_plant::{Act, Got, Part, Plant, Source};
 use std::alloc::Global;
 use tests_lines::Writer;
 

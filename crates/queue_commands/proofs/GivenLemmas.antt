@@ -16,17 +16,17 @@ use Rattle.mas_types.specs.Step.{may_give, row_of, step}
 use Rattle.lay_bytes.specs.declared.records.JobRec.{JobRec}
 use Rattle.lay_bytes.specs.declared.records.OutRec.{OutRec}
 use Rattle.lay_bytes.specs.Slots.{IsJobRec, IsOutRec, IsOwner, IfUsed}
-use Rattle.ckpt_pages.specs.declared.tables.Tables.{Tables}
+use Rattle.ckpt_tables.specs.declared.tables.Tables.{Tables}
 use Rattle.lay_bytes.specs.Used.{used}
 use Rattle.ckpt_pages.specs.QueueOf.{job_with, output_with, queue_of}
 use Rattle.mas_types.specs.Sorted.{insert_by, in_order}
-use Rattle.ckpt_pages.specs.Shape.{HasSpelling, IsRoute, IsLineCount}
+use Rattle.ckpt_tables.specs.Shape.{HasSpelling, IsRoute, IsLineCount}
 use Rattle.queue_slots.specs.Listed.{listed}
 use Rattle.queue_slots.proofs.Rising.{All-in_order}
 use Rattle.job_queue.specs.Jobs as jobs
 use Rattle.output_queue.specs.Outputs as outputs
 use Rattle.queue_tables.specs.Laws.{HaveLines, TellTheirQueue}
-use Rattle.queue_tables.specs.Telling.{Tell, TellSound}
+use Rattle.queue_telling.specs.Telling.{Tell, TellSound}
 use Rattle.queue_effect.specs.Standing.{Leaves, Plays, AreFit, IsFitJob, IsFitOutput}
 use Rattle.queue_laws.proofs.Configuration.{keeps_configuration}
 use Rattle.queue_laws.proofs.Done.{done_keeps}

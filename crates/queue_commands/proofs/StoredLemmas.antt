@@ -38,7 +38,7 @@ use Rattle.mas_types.specs.Commands.Printing.{picked_by, marked, outputs_over, o
 use Rattle.mas_types.specs.Commands.Wire.{either, again, gap, got_on}
 use Rattle.lay_bytes.specs.Limits.{copies_most}
 use Rattle.lay_bytes.specs.Slots.{IsJobRec, IsOutRec, IsNumber, IsOwner}
-use Rattle.ckpt_pages.specs.Shape.{IsRoute, IsLineCount}
+use Rattle.ckpt_tables.specs.Shape.{IsRoute, IsLineCount}
 use Rattle.job_queue.specs.Jobs as jobs
 use Rattle.output_queue.specs.Outputs as outputs
 use Rattle.queue_laws.proofs.Done.{none_first}

@@ -28,7 +28,7 @@ use Rattle.track_groups.specs.Groups.{first_places, is_things}
 use Rattle.mas_types.specs.declared.queues.Thing.TheVariants as thing
 use Rattle.lay_bytes.specs.declared.records.JobRec.{JobRec}
 use Rattle.lay_bytes.specs.declared.records.OutRec.{OutRec}
-use Rattle.ckpt_pages.specs.declared.tables.Tables.{Tables}
+use Rattle.ckpt_tables.specs.declared.tables.Tables.{Tables}
 use Rattle.queue_slots.specs.declared.slots.Found.{Found}
 use Rattle.queue_slots.specs.Listed.{listed, StandsFirst}
 use Rattle.queue_slots.proofs.Cases.{test_cases}
@@ -40,7 +40,7 @@ use Rattle.queue_resets.specs.Resets.{is_one_of, job_reset, output_reset}
 use Rattle.queue_resets.specs.declared.resets.Who.{Who}
 use Rattle.queue_effect.specs.Slots.{emptied_where, count_changed}
 use Rattle.queue_resets.specs.Resets.{changed_where}
-use Rattle.queue_tables.specs.Telling.{Tell}
+use Rattle.queue_telling.specs.Telling.{Tell}
 use Rattle.queue_effect.proofs.SlotLemmas.{emptied_told, changed_told}
 
 -- the record of a job with its text

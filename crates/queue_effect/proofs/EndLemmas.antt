@@ -21,13 +21,13 @@ use Rattle.mas_types.specs.Queue.{has_number, job_at, change_job}
 use Rattle.mas_types.specs.Row.{none_such, wrong_phase, job_not_at, refused_where}
 use Rattle.mas_types.specs.Commands.Life.{ended, ended_row, with_outputs, new_output, new_outputs, places_of_outputs, runs, are_outputs_full, lacks_groups, groups_of_outputs, is_cancelled, outputs_at_end}
 use Rattle.lay_bytes.specs.declared.records.JobRec.{JobRec}
-use Rattle.ckpt_pages.specs.declared.tables.Tables.{Tables}
+use Rattle.ckpt_tables.specs.declared.tables.Tables.{Tables}
 use Rattle.lay_bytes.specs.Used.{used}
 use Rattle.output_queue.proofs.OutputLemmas.{length-outputs}
 use Rattle.track_groups.specs.Groups.{given}
 use Rattle.track_groups.specs.Laws.{AreNoMembers, TextsAreNoMembers, GivesInTurn, HandsOut}
 use Rattle.job_queue.specs.Jobs.{HasJob}
-use Rattle.queue_tables.specs.Telling.{Tell}
+use Rattle.queue_telling.specs.Telling.{Tell}
 use Rattle.queue_effect.specs.Standing.{Leaves}
 use Rattle.queue_effect.specs.Working.{in_stage, not_at_work}
 use Rattle.queue_effect.specs.declared.working.Stage.TheVariants as stage

@@ -20,7 +20,7 @@ use Rattle.job_queue.specs.Jobs.{new_rec}
 use Rattle.output_queue.specs.Outputs as outputs
 use Rattle.lay_bytes.specs.declared.records.JobRec.{JobRec}
 use Rattle.lay_bytes.specs.declared.records.OutRec.{OutRec}
-use Rattle.ckpt_pages.specs.declared.tables.Tables.{Tables}
+use Rattle.ckpt_tables.specs.declared.tables.Tables.{Tables}
 use Rattle.lay_bytes.specs.Used.{used}
 use Rattle.queue_slots.proofs.Cases.{test_cases}
 use Rattle.queue_resets.specs.Resets.{job_reset, output_reset}

@@ -12,8 +12,8 @@ use Rattle.mas_types.specs.Sound.{may_be_busy}
 use Rattle.lay_bytes.specs.declared.records.JobRec.{JobRec}
 use Rattle.lay_bytes.specs.declared.records.OutRec.{OutRec}
 use Rattle.lay_bytes.specs.Slots.{IfUsed}
-use Rattle.ckpt_pages.specs.declared.tables.Tables.{Tables}
-use Rattle.ckpt_pages.specs.Shape.{HasShape}
+use Rattle.ckpt_tables.specs.declared.tables.Tables.{Tables}
+use Rattle.ckpt_tables.specs.Shape.{HasShape}
 use Rattle.ckpt_pages.specs.Sound.{is_there, is_above, is_wrong_job_slot, has_outputs, same_print, is_wrong_output_slot, AreSound}
 use Rattle.ckpt_pages.proofs.SlotLists.{all_right, all_used}
 use Rattle.ckpt_pages.proofs.SoundLemmas.{none_wrong}

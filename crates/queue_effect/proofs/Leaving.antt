@@ -18,8 +18,8 @@ use Rattle.mas_types.specs.declared.ids.MemberId.{MemberId}
 use Rattle.mas_types.specs.Queue.{printing_at}
 use Rattle.mas_types.specs.Selection.{is_for_printer}
 use Rattle.mas_types.specs.Commands.Printing.{pick_row, picked_by}
-use Rattle.ckpt_pages.specs.declared.tables.Tables.{Tables}
-use Rattle.queue_tables.specs.Telling.{Tell}
+use Rattle.ckpt_tables.specs.declared.tables.Tables.{Tables}
+use Rattle.queue_telling.specs.Telling.{Tell}
 use Rattle.queue_effect.specs.Standing.{Leaves}
 
 -- a refused row leaves all as it was

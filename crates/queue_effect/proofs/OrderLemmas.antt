@@ -9,12 +9,12 @@ use Rattle.std.proofs.lemmas.List.Folds.{list_any_none}
 use Rattle.mas_types.specs.Fit.{AreDistinct}
 use Rattle.lay_bytes.specs.declared.records.JobRec.{JobRec}
 use Rattle.lay_bytes.specs.declared.records.OutRec.{OutRec}
-use Rattle.ckpt_pages.specs.declared.tables.Tables.{Tables}
+use Rattle.ckpt_tables.specs.declared.tables.Tables.{Tables}
 use Rattle.lay_bytes.specs.Used.{used}
 use Rattle.queue_slots.proofs.Cases.{test_cases}
 use Rattle.job_queue.specs.Jobs as jobs
 use Rattle.output_queue.specs.Outputs as outputs
-use Rattle.queue_tables.specs.Orders.{AreOrdered, HaveOrders}
+use Rattle.queue_telling.specs.Orders.{AreOrdered, HaveOrders}
 use Rattle.queue_effect.specs.Slots.{emptied_where}
 use Rattle.queue_resets.specs.Resets.{changed_where}
 use Rattle.queue_effect.proofs.FitLemmas.{used_set}

@@ -23,12 +23,12 @@ use Rattle.mas_types.specs.declared.commands.Reply.{Reply}
 use Rattle.mas_types.specs.declared.commands.What.{What}
 use Rattle.mas_types.specs.Shown.{job_line, output_line, one_job, volume_lines, member_lines, shown, shown_of_none, show_row}
 use Rattle.mas_types.specs.Limits.{members_most}
-use Rattle.ckpt_pages.specs.declared.tables.Tables.{Tables}
+use Rattle.ckpt_tables.specs.declared.tables.Tables.{Tables}
 use Rattle.lay_bytes.specs.Used.{used}
 use Rattle.cmd_report.specs.Named.{IsNamed}
 use Rattle.queue_slots.proofs.Rising.{All-in_order}
 use Rattle.output_queue.specs.Outputs.{AreOutputs}
-use Rattle.queue_tables.specs.Telling.{Tell}
+use Rattle.queue_telling.specs.Telling.{Tell}
 use Rattle.queue_effect.specs.Standing.{Leaves, AreFit, IsFitJob, IsFitOutput}
 use Rattle.lay_bytes.specs.declared.records.JobRec.{JobRec}
 use Rattle.lay_bytes.specs.declared.records.OutRec.{OutRec}

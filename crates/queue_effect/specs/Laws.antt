@@ -1,6 +1,6 @@
 -- Which tables are fit for commands.
-use Rattle.ckpt_pages.specs.declared.tables.Tables.{Tables}
-use Rattle.ckpt_pages.specs.Shape.{HasShape}
+use Rattle.ckpt_tables.specs.declared.tables.Tables.{Tables}
+use Rattle.ckpt_tables.specs.Shape.{HasShape}
 use Rattle.ckpt_pages.specs.Sound.{AreSound}
 use Rattle.queue_effect.specs.Standing.{AreFit}
 

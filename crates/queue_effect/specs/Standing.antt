@@ -7,10 +7,10 @@ use Rattle.mas_types.specs.Limits.{members_most}
 use Rattle.mas_types.specs.Row.{Row, done}
 use Rattle.lay_bytes.specs.declared.records.JobRec.{JobRec}
 use Rattle.lay_bytes.specs.declared.records.OutRec.{OutRec}
-use Rattle.ckpt_pages.specs.declared.tables.Tables.{Tables}
+use Rattle.ckpt_tables.specs.declared.tables.Tables.{Tables}
 use Rattle.lay_bytes.specs.Used.{used}
-use Rattle.ckpt_pages.specs.Shape.{HasShape}
-use Rattle.queue_tables.specs.Telling.{Tell}
+use Rattle.ckpt_tables.specs.Shape.{HasShape}
+use Rattle.queue_telling.specs.Telling.{Tell}
 
 -- the tables tell what the row leaves of the queue, and the reply is the row's
 pub record Leaves (t : Tables) (Q : Queue) (row : Row) (r : Reply) : Type 0 where

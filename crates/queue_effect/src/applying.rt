@@ -3,7 +3,7 @@ ghost use Rattle.std.specs.Prelude.{◌≡◌, ◌≤◌, ◌<◌, ◌+◌, ◌^
 ghost use Rattle.mas_types.specs.Fit.{IsFit};
 ghost use Rattle.mas_types.specs.Limits.{members_most};
 ghost use Rattle.mas_types.specs.Step.{row_of};
-ghost use Rattle.queue_tables.specs.Orders.{HaveOrders};
+ghost use Rattle.queue_telling.specs.Orders.{HaveOrders};
 ghost use Rattle.queue_effect.specs.Standing.{Plays, IfRefused, AreFit};
 
 use crate::displays::display;
@@ -14,7 +14,7 @@ use crate::members::{reset, restart, set_init, set_prt};
 use crate::operator::{cancel, out, set_class, set_held, set_out, set_prio};
 use crate::printing::{back, cancel_out, finish, mark, pick, set_forward};
 use crate::wire::{acknowledge, load, receive};
-use ckpt_pages::Tables;
+use ckpt_tables::Tables;
 use mas_types::{Command, MemberId, NoMemory, Reply};
 use std::alloc::Global;
 

@@ -7,11 +7,11 @@ ghost use Rattle.lay_bytes.specs.Used.{used};
 ghost use Rattle.job_queue.specs.Jobs.{order_of as job_order};
 ghost use Rattle.output_queue.specs.Outputs.{order_of as output_order};
 ghost use Rattle.cmd_report.specs.Named.{IsNamed};
-ghost use Rattle.queue_tables.specs.Telling.{Tell};
+ghost use Rattle.queue_telling.specs.Telling.{Tell};
 ghost use Rattle.queue_effect.specs.Standing.{Plays, AreFit};
 ghost use Rattle.queue_effect.specs.Gone.{job_of as job_of_lem, output_of as output_of_lem, SaysAs};
 
-use ckpt_pages::Tables;
+use ckpt_tables::Tables;
 use cmd_report::show;
 use lay_bytes::{JobRec, OutRec};
 use mas_types::{

@@ -10,14 +10,14 @@ ghost use Rattle.mas_types.specs.Commands.Life.{ended_row, ended, with_outputs, 
 ghost use Rattle.track_groups.specs.Groups.{given};
 ghost use Rattle.job_queue.specs.Jobs.{HasJob};
 ghost use Rattle.lay_bytes.specs.Used.{used};
-ghost use Rattle.queue_tables.specs.Orders.{HaveOrders};
-ghost use Rattle.queue_tables.specs.Telling.{Tell};
+ghost use Rattle.queue_telling.specs.Orders.{HaveOrders};
+ghost use Rattle.queue_telling.specs.Telling.{Tell};
 ghost use Rattle.queue_effect.specs.Standing.{Plays, IfRefused, AreFit, IsFitJob};
 
 use crate::groups::{free_members, give_groups};
 use crate::lookups::put_job;
 use crate::working::{Stage, job_at_work};
-use ckpt_pages::Tables;
+use ckpt_tables::Tables;
 use lay_bytes::JobRec;
 use mas_types::{JobNo, List, MemberId, OutNo, OutSpec, Phase, Refusal, Reply, Thing, purge_if};
 use output_queue::add;

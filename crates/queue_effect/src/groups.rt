@@ -5,10 +5,10 @@ ghost use Rattle.mas_types.specs.Owners.{freed, is_members, taken, free_count, m
 ghost use Rattle.mas_types.specs.Queue.{is_of};
 ghost use Rattle.track_groups.specs.Groups.{is_things, first_places, given};
 ghost use Rattle.output_queue.specs.Outputs.{AreOutputs};
-ghost use Rattle.queue_tables.specs.Orders.{HaveOrders};
+ghost use Rattle.queue_telling.specs.Orders.{HaveOrders};
 ghost use Rattle.queue_effect.specs.Standing.{AreFit};
 
-use ckpt_pages::Tables;
+use ckpt_tables::Tables;
 use lay_bytes::OutRec;
 use mas_types::{JobNo, MemberId, Owner, Thing};
 use output_queue::find_output;

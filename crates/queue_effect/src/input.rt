@@ -11,14 +11,14 @@ ghost use Rattle.mas_types.specs.Owners.{groups_needed as groups_needed_lem, mem
 ghost use Rattle.mas_types.specs.Queue.{has_number, knows_node as knows_node_lem};
 ghost use Rattle.mas_types.specs.Commands.Input.{begun, begin_row, take_row, drop_row, enter_row, entered, not_entered};
 ghost use Rattle.job_queue.specs.Jobs.{HasJob};
-ghost use Rattle.queue_tables.specs.Orders.{HaveOrders};
-ghost use Rattle.queue_tables.specs.Telling.{Tell};
+ghost use Rattle.queue_telling.specs.Orders.{HaveOrders};
+ghost use Rattle.queue_telling.specs.Telling.{Tell};
 ghost use Rattle.queue_effect.specs.Standing.{Plays, IfRefused, AreFit, IsFitJob};
 
 use crate::groups::{free_members, hand_out, take_groups};
 use crate::lookups::{put_job, take_job};
 use crate::working::{Stage, job_at_work};
-use ckpt_pages::Tables;
+use ckpt_tables::Tables;
 use job_queue::{JobsFull, add};
 use lay_bytes::JobRec;
 use mas_types::{JobFields, JobNo, Lines, MemberId, Name8, Phase, Refusal, Reply, Route, Thing};

@@ -7,14 +7,14 @@ ghost use Rattle.mas_types.specs.Queue.{is_in, first_in as first_in_lem, has_out
 ghost use Rattle.mas_types.specs.Selection.{is_for_convert, for_convert as for_convert_lem, is_for_execute, for_execute as for_execute_lem};
 ghost use Rattle.mas_types.specs.Commands.Life.{take_convert_row, take_exec_row, converted_row, gather_row, purge_row};
 ghost use Rattle.job_queue.specs.Jobs.{HasJob, in_phase};
-ghost use Rattle.queue_tables.specs.Orders.{HaveOrders};
-ghost use Rattle.queue_tables.specs.Telling.{Tell};
+ghost use Rattle.queue_telling.specs.Orders.{HaveOrders};
+ghost use Rattle.queue_telling.specs.Telling.{Tell};
 ghost use Rattle.queue_effect.specs.Standing.{Plays, IfRefused, AreFit, IsFitJob};
 
 use crate::groups::free_groups;
 use crate::lookups::{put_job, setting, take_job};
 use crate::working::{Stage, job_at_work};
-use ckpt_pages::Tables;
+use ckpt_tables::Tables;
 use job_queue::{find_convert, find_exec, find_in};
 use lay_bytes::JobRec;
 use mas_types::{JobNo, MemberId, Phase, Refusal, Reply, Thing, purge_if};

@@ -7,11 +7,11 @@ ghost use Rattle.mas_types.specs.Queue.{setting_of, has_number, has_key, prints_
 ghost use Rattle.mas_types.specs.Queue.{printing_at as printing_at_lem};
 ghost use Rattle.job_queue.specs.Jobs.{HasJob};
 ghost use Rattle.output_queue.specs.Outputs.{HasOutput};
-ghost use Rattle.queue_tables.specs.Orders.{HaveOrders};
-ghost use Rattle.queue_tables.specs.Telling.{Tell};
+ghost use Rattle.queue_telling.specs.Orders.{HaveOrders};
+ghost use Rattle.queue_telling.specs.Telling.{Tell};
 ghost use Rattle.queue_effect.specs.Standing.{AreFit, IsFitJob, IsFitOutput};
 
-use ckpt_pages::Tables;
+use ckpt_tables::Tables;
 use job_queue::find_job;
 use lay_bytes::{JobRec, OutRec};
 use mas_types::{JobNo, LineCount, MemberId, OutNo, Phase, Setting};

@@ -7,12 +7,12 @@ ghost use Rattle.mas_types.specs.Owners.{freed, is_held_by};
 ghost use Rattle.mas_types.specs.Reset.{reset as reset_lem};
 ghost use Rattle.mas_types.specs.Commands.Members.{set_init_row, set_prt_row, reset_row, restart_row};
 ghost use Rattle.queue_effect.specs.Slots.{setting_changed};
-ghost use Rattle.queue_tables.specs.Orders.{HaveOrders};
-ghost use Rattle.queue_tables.specs.Telling.{Tell};
+ghost use Rattle.queue_telling.specs.Orders.{HaveOrders};
+ghost use Rattle.queue_telling.specs.Telling.{Tell};
 ghost use Rattle.queue_effect.specs.Standing.{Plays, IfRefused, AreFit};
 ghost use Rattle.queue_resets.specs.Resets.{changed_where, is_one_of as is_one_of_lem, job_reset, output_reset};
 
-use ckpt_pages::Tables;
+use ckpt_tables::Tables;
 use mas_types::{Class, Copied, List, MemberId, Name8, NoMemory, Refusal, Reply};
 use queue_resets::{Who, is_one_of, reset_job_slots, reset_output_slots, reset_owner_list};
 use std::alloc::Global;

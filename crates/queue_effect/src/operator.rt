@@ -10,15 +10,15 @@ ghost use Rattle.mas_types.specs.Commands.Operator.{held_row, set_prio_row, set_
 ghost use Rattle.output_queue.specs.Outputs.{HasOutput};
 ghost use Rattle.queue_effect.specs.Slots.{emptied_where};
 ghost use Rattle.queue_resets.specs.Resets.{changed_where};
-ghost use Rattle.queue_tables.specs.Orders.{HaveOrders};
-ghost use Rattle.queue_tables.specs.Telling.{Tell};
+ghost use Rattle.queue_telling.specs.Orders.{HaveOrders};
+ghost use Rattle.queue_telling.specs.Telling.{Tell};
 ghost use Rattle.queue_effect.specs.Standing.{Plays, IfRefused, AreFit, IsFitJob, IsFitOutput};
 
 use crate::groups::free_prints;
 use crate::life::in_phase_of;
 use crate::lookups::{is_current, job_at, output_at, put_job, put_output};
 use crate::printing::is_elsewhere;
-use ckpt_pages::Tables;
+use ckpt_tables::Tables;
 use lay_bytes::{JobRec, OutRec};
 use mas_types::{Class, JobFields, JobNo, MemberId, OutNo, Phase, Prio, Refusal, Reply};
 use output_queue::find_elsewhere;

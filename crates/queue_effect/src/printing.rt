@@ -8,14 +8,14 @@ ghost use Rattle.mas_types.specs.Selection.{is_for_printer, for_printer as for_p
 ghost use Rattle.mas_types.specs.Commands.Printing.{pick_row, mark_row, done_row, back_row, forward_row, output_gone, with_job_over};
 ghost use Rattle.mas_types.specs.Commands.Operator.{cancel_out_row};
 ghost use Rattle.output_queue.specs.Outputs.{HasOutput};
-ghost use Rattle.queue_tables.specs.Orders.{HaveOrders};
-ghost use Rattle.queue_tables.specs.Telling.{Tell};
+ghost use Rattle.queue_telling.specs.Orders.{HaveOrders};
+ghost use Rattle.queue_telling.specs.Telling.{Tell};
 ghost use Rattle.queue_effect.specs.Standing.{Plays, IfRefused, AreFit, IsFitOutput};
 
 use crate::groups::free_groups;
 use crate::life::in_phase_of;
 use crate::lookups::{job_at, output_at, printing_at, put_job, put_output, setting, take_output};
-use ckpt_pages::Tables;
+use ckpt_tables::Tables;
 use lay_bytes::{JobRec, OutRec};
 use mas_types::{JobNo, MemberId, OutNo, Phase, Refusal, Reply, Thing};
 use output_queue::{find_for_printer, has_output};

@@ -6,11 +6,11 @@ ghost use Rattle.mas_types.specs.Queue.{first_in, printing_at};
 ghost use Rattle.mas_types.specs.Selection.{for_convert, for_execute, for_printer};
 ghost use Rattle.mas_types.specs.Units.{unit_of, print_unit as print_unit_lem, working_at};
 ghost use Rattle.job_queue.specs.Jobs.{in_phase};
-ghost use Rattle.queue_tables.specs.Telling.{Tell};
+ghost use Rattle.queue_telling.specs.Telling.{Tell};
 ghost use Rattle.queue_effect.specs.Phases.{Tells, stands_in};
 
 use crate::lookups::setting;
-use ckpt_pages::Tables;
+use ckpt_tables::Tables;
 use job_queue::{find_convert, find_exec, find_in, find_working};
 use lay_bytes::{JobRec, OutRec};
 use mas_types::{JobNo, MemberId, Phase, Unit};

@@ -10,14 +10,14 @@ ghost use Rattle.mas_types.specs.Selection.{is_for_wire, for_wire as for_wire_le
 ghost use Rattle.mas_types.specs.Commands.Wire.{load_row, sent_row, got_row, either, again, gap, sent_on, got_on};
 ghost use Rattle.job_queue.specs.Jobs.{AreJobs, HasJob};
 ghost use Rattle.queue_effect.specs.Slots.{count_changed};
-ghost use Rattle.queue_tables.specs.Orders.{HaveOrders};
-ghost use Rattle.queue_tables.specs.Telling.{Tell};
+ghost use Rattle.queue_telling.specs.Orders.{HaveOrders};
+ghost use Rattle.queue_telling.specs.Telling.{Tell};
 ghost use Rattle.queue_effect.specs.Standing.{Plays, IfRefused, AreFit};
 
 use crate::input::{enter_job, entering};
 use crate::life::in_phase_of;
 use crate::lookups::{is_current, put_job, wire};
-use ckpt_pages::Tables;
+use ckpt_tables::Tables;
 use lay_bytes::JobRec;
 use mas_types::{JobNo, LineCount, Lines, MemberId, Name8, Phase, Refusal, Reply, Route};
 use output_queue::same_name;

@@ -4,11 +4,11 @@ ghost use Rattle.mas_types.specs.declared.queues.Queue.{Queue};
 ghost use Rattle.mas_types.specs.Lists.{first_some};
 ghost use Rattle.mas_types.specs.Queue.{has_number};
 ghost use Rattle.job_queue.specs.Jobs.{HasJob};
-ghost use Rattle.queue_tables.specs.Telling.{Tell};
+ghost use Rattle.queue_telling.specs.Telling.{Tell};
 ghost use Rattle.queue_effect.specs.Working.{in_stage, not_at_work};
 
 use crate::lookups::job_at;
-use ckpt_pages::Tables;
+use ckpt_tables::Tables;
 use lay_bytes::JobRec;
 use mas_types::{JobNo, MemberId, Phase, Refusal};
 use queue_slots::Found;

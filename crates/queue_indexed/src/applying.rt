@@ -3,11 +3,11 @@ ghost use Rattle.std.specs.Prelude.{◌≡◌, ◌≤◌, ◌<◌, ◌+◌, ◌^
 ghost use Rattle.mas_types.specs.Fit.{IsFit};
 ghost use Rattle.mas_types.specs.Limits.{members_most};
 ghost use Rattle.mas_types.specs.Step.{row_of};
-ghost use Rattle.queue_tables.specs.Orders.{HaveOrders};
+ghost use Rattle.queue_telling.specs.Orders.{HaveOrders};
 ghost use Rattle.queue_effect.specs.Standing.{Plays, IfRefused, AreFit};
 ghost use Rattle.job_select.specs.Indexes.{IsOf};
 
-use ckpt_pages::Tables;
+use ckpt_tables::Tables;
 use job_select::Index;
 use mas_types::{Command, Copied, MemberId, NoMemory, Reply};
 use queue_effect::apply;

@@ -5,10 +5,10 @@ ghost use Rattle.mas_types.specs.Limits.{members_most};
 ghost use Rattle.mas_types.specs.Queue.{first_in, printing_at, in_purge, in_output, in_execute, in_convert};
 ghost use Rattle.mas_types.specs.Selection.{for_convert, for_execute, for_printer};
 ghost use Rattle.mas_types.specs.Units.{unit_of, print_unit as print_unit_lem, working_at};
-ghost use Rattle.queue_tables.specs.Telling.{Tell};
+ghost use Rattle.queue_telling.specs.Telling.{Tell};
 ghost use Rattle.job_select.specs.Indexes.{IsOf};
 
-use ckpt_pages::Tables;
+use ckpt_tables::Tables;
 use job_select::Index;
 use lay_bytes::OutRec;
 use mas_types::{JobNo, MemberId, Unit};

@@ -2,8 +2,8 @@
 use Rattle.mas_types.specs.declared.jobs.Text.{Text}
 use Rattle.lay_bytes.specs.declared.records.JobRec.{JobRec}
 use Rattle.lay_bytes.specs.declared.records.OutRec.{OutRec}
-use Rattle.ckpt_pages.specs.declared.tables.Tables.{Tables}
-use Rattle.ckpt_pages.specs.Shape.{HasSpelling}
+use Rattle.ckpt_tables.specs.declared.tables.Tables.{Tables}
+use Rattle.ckpt_tables.specs.Shape.{HasSpelling}
 use Rattle.ckpt_pages.specs.QueueOf.{queue_of}
 use Rattle.cmd_report.specs.Named.{IsNamed}
 

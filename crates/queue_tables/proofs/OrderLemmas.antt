@@ -17,14 +17,14 @@ use Rattle.mas_types.specs.Sound.{may_be_busy}
 use Rattle.lay_bytes.specs.declared.records.JobRec.{JobRec}
 use Rattle.lay_bytes.specs.declared.records.OutRec.{OutRec}
 use Rattle.lay_bytes.specs.Slots.{IfUsed}
-use Rattle.ckpt_pages.specs.declared.tables.Tables.{Tables}
+use Rattle.ckpt_tables.specs.declared.tables.Tables.{Tables}
 use Rattle.lay_bytes.specs.Used.{used}
 use Rattle.ckpt_pages.specs.Sound.{is_there, is_above, is_wrong_job_slot, has_outputs, same_print, is_wrong_output_slot, AreSound}
 use Rattle.ckpt_pages.specs.Starts.{empty_tables}
 use Rattle.ckpt_pages.proofs.SlotLists.{all_right, all_used, any_never, any_used, apart_right, distinct_used, in_slots}
 use Rattle.ckpt_pages.proofs.SoundLemmas.{none_wrong}
 use Rattle.queue_tables.specs.Laws.{EmptyHaveOrders, SoundHaveOrders}
-use Rattle.queue_tables.specs.Orders.{AreOrdered, HaveOrders}
+use Rattle.queue_telling.specs.Orders.{AreOrdered, HaveOrders}
 
 -- TABLES WITHOUT A FAULT
 

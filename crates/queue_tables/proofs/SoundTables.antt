@@ -19,16 +19,16 @@ use Rattle.mas_types.specs.Sound.{IsSound, IsSoundJob, IsSoundOutput, HasDeckGro
 use Rattle.lay_bytes.specs.declared.records.JobRec.{JobRec}
 use Rattle.lay_bytes.specs.declared.records.OutRec.{OutRec}
 use Rattle.lay_bytes.specs.Slots.{IfUsed}
-use Rattle.ckpt_pages.specs.declared.tables.Tables.{Tables}
+use Rattle.ckpt_tables.specs.declared.tables.Tables.{Tables}
 use Rattle.ckpt_pages.specs.declared.faults.TableFault.TheVariants as fault
 use Rattle.lay_bytes.specs.Used.{used}
 use Rattle.ckpt_pages.specs.Sound.{first_wrong, holds_one, is_there, is_above, is_wrong_job_slot, has_outputs, same_print, is_wrong_output_slot, has_deck, is_wrong_owner, is_wrong_place, or_else, map_some, wrong_slot, wrong_owner, wrong_place, AreSound}
 use Rattle.ckpt_pages.proofs.SlotLists.{test_cases, eq_sym, any_weaker, any_used, distinct_agree, in_slots}
-use Rattle.queue_tables.specs.Telling.{Tell}
+use Rattle.queue_telling.specs.Telling.{Tell}
 use Rattle.job_queue.specs.Jobs as jobs
 use Rattle.output_queue.specs.Outputs as outputs
 use Rattle.queue_tables.specs.Laws.{ToldAreSound}
-use Rattle.queue_tables.specs.Orders.{HaveOrders}
+use Rattle.queue_telling.specs.Orders.{HaveOrders}
 use Rattle.queue_tables.proofs.Lists.{all_are_right, each_is_right, all_slots, distinct_slots, distinct_or, all_told, distinct_told, any_told, found_passes, found_there}
 
 -- SMALL FACTS

@@ -15,13 +15,13 @@ use Rattle.mas_types.specs.Fit.{IsText}
 use Rattle.mas_types.specs.Queue.{line_count}
 use Rattle.lay_bytes.specs.declared.records.JobRec.{JobRec}
 use Rattle.lay_bytes.specs.declared.records.OutRec.{OutRec}
-use Rattle.ckpt_pages.specs.declared.tables.Tables.{Tables}
+use Rattle.ckpt_tables.specs.declared.tables.Tables.{Tables}
 use Rattle.ckpt_pages.specs.Checkpoints.{IsCheckpoint, SpellsOneAtMost}
 use Rattle.lay_bytes.specs.Used.{used}
 use Rattle.ckpt_pages.specs.QueueOf.{job_with, output_with, queue_of}
 use Rattle.lay_bytes.specs.Slots.{IsJobRec, IsOutRec}
 use Rattle.ckpt_pages.specs.Laws.{EmptyStandsForEmpty}
-use Rattle.ckpt_pages.specs.Shape.{HasSpelling}
+use Rattle.ckpt_tables.specs.Shape.{HasSpelling}
 use Rattle.ckpt_pages.specs.Starts.{empty_tables}
 use Rattle.ckpt_pages.specs.Sound.{AreSound}
 use Rattle.ckpt_pages.specs.SoundQueues.{AreTexts, SoundStandForSound}
@@ -32,7 +32,7 @@ use Rattle.queue_slots.proofs.Rising.{All-in_order}
 use Rattle.job_queue.specs.Jobs as jobs
 use Rattle.output_queue.specs.Outputs as outputs
 use Rattle.queue_tables.specs.Laws.{HaveLines, AreTextsOf}
-use Rattle.queue_tables.specs.Telling.{Tell, TellSound, PagesTell, AreToldAlike}
+use Rattle.queue_telling.specs.Telling.{Tell, TellSound, PagesTell, AreToldAlike}
 
 -- THE QUEUE THAT TABLES GIVE
 

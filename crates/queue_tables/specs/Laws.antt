@@ -10,17 +10,17 @@ use Rattle.mas_types.specs.Queue.{line_count}
 use Rattle.mas_types.specs.Sound.{IsSound}
 use Rattle.lay_bytes.specs.declared.records.JobRec.{JobRec}
 use Rattle.lay_bytes.specs.declared.records.OutRec.{OutRec}
-use Rattle.ckpt_pages.specs.declared.tables.Tables.{Tables}
+use Rattle.ckpt_tables.specs.declared.tables.Tables.{Tables}
 use Rattle.lay_bytes.specs.Used.{used}
 use Rattle.ckpt_pages.specs.QueueOf.{queue_of}
-use Rattle.ckpt_pages.specs.Shape.{HasSpelling}
+use Rattle.ckpt_tables.specs.Shape.{HasSpelling}
 use Rattle.ckpt_pages.specs.Sound.{AreSound}
 use Rattle.ckpt_pages.specs.Starts.{empty_tables}
 use Rattle.queue_slots.specs.Listed.{listed}
 use Rattle.job_queue.specs.Jobs as jobs
 use Rattle.output_queue.specs.Outputs as outputs
-use Rattle.queue_tables.specs.Orders.{HaveOrders}
-use Rattle.queue_tables.specs.Telling.{Tell, TellSound, PagesTell, AreToldAlike}
+use Rattle.queue_telling.specs.Orders.{HaveOrders}
+use Rattle.queue_telling.specs.Telling.{Tell, TellSound, PagesTell, AreToldAlike}
 
 -- the texts have as many lines as the slots say
 pub record HaveLines (t : Tables) (deck : JobRec → Text) (print : OutRec → Text) : Type 0 where

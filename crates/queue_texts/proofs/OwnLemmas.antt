@@ -18,11 +18,11 @@ use Rattle.mas_types.specs.Queue.{has_number, has_key, in_input}
 use Rattle.mas_types.specs.Sound.{IsSound, is_there, is_owner_there}
 use Rattle.lay_bytes.specs.declared.records.JobRec.{JobRec}
 use Rattle.lay_bytes.specs.declared.records.OutRec.{OutRec}
-use Rattle.ckpt_pages.specs.declared.tables.Tables.{Tables}
+use Rattle.ckpt_tables.specs.declared.tables.Tables.{Tables}
 use Rattle.job_queue.specs.Jobs as jobs
 use Rattle.output_queue.specs.Outputs as outputs
 use Rattle.queue_laws.proofs.Finds.{test_cases}
-use Rattle.queue_tables.specs.Telling.{Tell, TellSound}
+use Rattle.queue_telling.specs.Telling.{Tell, TellSound}
 use Rattle.queue_texts.specs.Leaving.{AreTheirOwn}
 
 pub sound_own : (Q : Queue) → IsSound Q → AreTheirOwn Q

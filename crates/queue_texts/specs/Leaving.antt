@@ -18,8 +18,8 @@ use Rattle.mas_types.specs.Ids.{same_number}
 use Rattle.mas_types.specs.Sound.{IsSound, is_owner_there, same_key}
 use Rattle.mas_types.specs.Step.{step}
 use Rattle.track_groups.specs.Places.{groups_of}
-use Rattle.ckpt_pages.specs.declared.tables.Tables.{Tables}
-use Rattle.queue_tables.specs.Telling.{Tell, TellSound}
+use Rattle.ckpt_tables.specs.declared.tables.Tables.{Tables}
+use Rattle.queue_telling.specs.Telling.{Tell, TellSound}
 
 -- P holds of each deck and each output, of its text, and of its groups in the order of their places
 pub record HoldsOfTexts (P : Thing → Text → List GroupNo → Type 0) (Q : Queue) : Type 0 where

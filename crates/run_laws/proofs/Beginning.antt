@@ -20,15 +20,15 @@ use Rattle.mas_types.specs.Limits.{page_bytes}
 use Rattle.mas_types.specs.Sound.{IsSound}
 use Rattle.queue_laws.specs.Runs.{IsGiven, RunsKeepConfiguration, RunsKeepSound}
 use Rattle.script_lang.specs.declared.types.Script.{Script}
-use Rattle.spool_disk.specs.declared.plant.Part.TheVariants.{Disk as DiskPart}
-use Rattle.spool_disk.specs.Acts.{top}
-use Rattle.spool_disk.specs.View.{View, Disk, IsImage, LeavesOnly, disk_now}
+use Rattle.spool_plant.specs.declared.plant.Part.TheVariants.{Disk as DiskPart}
+use Rattle.spool_plant.specs.Acts.{top}
+use Rattle.spool_plant.specs.View.{View, Disk, IsImage, LeavesOnly, disk_now}
 use Rattle.ckpt_form.specs.Form.{form_reads, form_needs}
 use Rattle.ckpt_copy.specs.Moments.{either_way}
 use Rattle.ckpt_copy.specs.Pages.{bytes_of, level}
-use Rattle.ckpt_pages.specs.declared.tables.Tables.{Tables}
+use Rattle.ckpt_tables.specs.declared.tables.Tables.{Tables}
 use Rattle.ckpt_pages.specs.Checkpoints.{IsCheckpoint, SpellsOneAtMost}
-use Rattle.ckpt_pages.specs.Shape.{page_count}
+use Rattle.ckpt_tables.specs.Shape.{page_count}
 use Rattle.ckpt_pages.proofs.SlotLists.{test_cases}
 use Rattle.mas_complex.specs.Crash.{left_at, next_order, IsOneOf, IsReadBy}
 use Rattle.mas_complex.specs.declared.renewals.Renewals.{Renewals}

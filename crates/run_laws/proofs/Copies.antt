@@ -8,15 +8,15 @@ use Rattle.mas_types.specs.declared.ids.Page.{Page}
 use Rattle.mas_types.specs.declared.journals.Journal.{Journal}
 use Rattle.mas_types.specs.declared.queues.Queue.{Queue}
 use Rattle.mas_types.specs.Journal.{kept_at, flying_at}
-use Rattle.spool_disk.specs.declared.plant.Part.TheVariants.{Disk as DiskPart}
-use Rattle.spool_disk.specs.Acts.{Rose, top}
-use Rattle.spool_disk.specs.View.{View, Disk, IsImage, LeavesOnly, disk_at, disk_now}
+use Rattle.spool_plant.specs.declared.plant.Part.TheVariants.{Disk as DiskPart}
+use Rattle.spool_plant.specs.Acts.{Rose, top}
+use Rattle.spool_plant.specs.View.{View, Disk, IsImage, LeavesOnly, disk_at, disk_now}
 use Rattle.ckpt_copy.specs.Pages.{bytes_of, level}
-use Rattle.ckpt_pages.specs.declared.tables.Tables.{Tables}
+use Rattle.ckpt_tables.specs.declared.tables.Tables.{Tables}
 use Rattle.ckpt_pages.specs.Checkpoints.{IsCheckpoint, SpellsOneAtMost}
 use Rattle.ckpt_pages.proofs.SlotLists.{test_cases}
 use Rattle.spool_volumes.specs.Volumes.{bytes_unless}
-use Rattle.queue_tables.specs.Telling.{Tell}
+use Rattle.queue_telling.specs.Telling.{Tell}
 use Rattle.mas_complex.specs.Crash.{left_at, lost_if, IsLeft, IsOneOf, IsReadBy, IsStale}
 use Rattle.mas_complex.specs.declared.renewals.Renewals.{Renewals}
 use Rattle.mas_complex.specs.Renewals.{is_renewed_at, of_device}

@@ -2,9 +2,9 @@
 use Rattle.std.proofs.Common.{◌≡◌, ◌⊎◌, inl, inr, ⊎_elim, ℕ, ◌==◌, ◌&&◌, Bool, true, false, List, Option, Some, None, refl, sym, ◌∙◌}
 use Rattle.mas_types.specs.declared.ids.Dev.{Dev}
 use Rattle.mas_types.specs.declared.ids.Dev.TheVariants.{Ckpt1, Ckpt2}
-use Rattle.spool_disk.specs.declared.plant.Part.TheVariants.{Disk as DiskPart}
-use Rattle.spool_disk.specs.Acts.{top}
-use Rattle.spool_disk.specs.View.{View, Disk, IsImage, disk_at, disk_now}
+use Rattle.spool_plant.specs.declared.plant.Part.TheVariants.{Disk as DiskPart}
+use Rattle.spool_plant.specs.Acts.{top}
+use Rattle.spool_plant.specs.View.{View, Disk, IsImage, disk_at, disk_now}
 use Rattle.ckpt_form.specs.Form.{form_reads}
 use Rattle.ckpt_copy.specs.Pages.{bytes_of}
 use Rattle.mas_complex.specs.Crash.{lost_if}

@@ -16,16 +16,16 @@ use Rattle.mas_types.specs.Journal.{kept_at, flying_at}
 use Rattle.mas_types.specs.Sound.{IsSound}
 use Rattle.queue_laws.specs.Runs.{RunsKeepConfiguration, RunsKeepSound}
 use Rattle.script_lang.specs.declared.types.Script.{Script}
-use Rattle.spool_disk.specs.declared.plant.Part.TheVariants.{Disk as DiskPart}
-use Rattle.spool_disk.specs.View.{View, disk_at, disk_now}
+use Rattle.spool_plant.specs.declared.plant.Part.TheVariants.{Disk as DiskPart}
+use Rattle.spool_plant.specs.View.{View, disk_at, disk_now}
 use Rattle.track_groups.specs.Places.{groups_of}
 use Rattle.ckpt_form.specs.Form.{form_reads}
 use Rattle.ckpt_copy.specs.Pages.{bytes_of}
-use Rattle.ckpt_pages.specs.declared.tables.Tables.{Tables}
+use Rattle.ckpt_tables.specs.declared.tables.Tables.{Tables}
 use Rattle.ckpt_pages.specs.Checkpoints.{SpellsOneAtMost}
 use Rattle.ckpt_pages.proofs.SlotLists.{test_cases}
 use Rattle.spool_volumes.specs.Volumes.{Volumes, bytes_unless, volumes_now}
-use Rattle.queue_tables.specs.Telling.{Tell}
+use Rattle.queue_telling.specs.Telling.{Tell}
 use Rattle.mas_complex.specs.declared.renewals.Renewals.{Renewals}
 use Rattle.mas_complex.specs.Journals.{journal_most}
 use Rattle.mas_complex.specs.Paper.{AreGivenIn, PaperKept}

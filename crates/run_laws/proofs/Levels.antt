@@ -5,8 +5,8 @@ use Rattle.mas_types.specs.declared.ids.Dev.TheVariants.{Ckpt1, Ckpt2}
 use Rattle.mas_types.specs.declared.journals.Journal.{Journal}
 use Rattle.mas_types.specs.declared.queues.Queue.{Queue}
 use Rattle.script_lang.specs.declared.types.Script.{Script}
-use Rattle.spool_disk.specs.Acts.{top}
-use Rattle.spool_disk.specs.View.{View, Disk, IsImage, LeavesOnly, disk_at}
+use Rattle.spool_plant.specs.Acts.{top}
+use Rattle.spool_plant.specs.View.{View, Disk, IsImage, LeavesOnly, disk_at}
 use Rattle.ckpt_form.specs.Form.{form_reads}
 use Rattle.ckpt_copy.specs.Pages.{bytes_of, level}
 use Rattle.ckpt_pages.specs.Starts.{empty_tables}

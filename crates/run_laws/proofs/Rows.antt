@@ -12,7 +12,7 @@ use Rattle.mas_types.specs.Limits.{page_bytes}
 use Rattle.mas_types.specs.Queue.{line_count}
 use Rattle.lay_bytes.specs.declared.records.JobRec.{JobRec}
 use Rattle.lay_bytes.specs.declared.records.OutRec.{OutRec}
-use Rattle.spool_disk.specs.View.{slice}
+use Rattle.spool_plant.specs.View.{slice}
 use Rattle.track_groups.specs.Places.{groups_of}
 use Rattle.spool_volumes.specs.Volumes.{Volumes, volume_of, start_of}
 use Rattle.spool_volumes.specs.Texts.{held, records_on, text_of}

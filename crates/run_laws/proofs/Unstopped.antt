@@ -6,7 +6,7 @@ use Rattle.mas_types.specs.declared.ids.MemberId.{MemberId}
 use Rattle.script_lang.specs.declared.types.Ask.{Ask}
 use Rattle.script_lang.specs.declared.types.Ask.TheVariants as ask
 use Rattle.script_lang.specs.declared.types.Step.{Step}
-use Rattle.spool_disk.specs.Acts.{next}
+use Rattle.spool_plant.specs.Acts.{next}
 use Rattle.run_turns.specs.Scenes.{Scene, scene_of}
 use Rattle.run_turns.specs.Steps.{is_up}
 use Rattle.run_turns.specs.Runs.{scene_if}

@@ -1,11 +1,11 @@
 -- What a plant shows that another one left.
 use Rattle.std.specs.Prelude.{ℕ, ◌<◌, List, Option}
 use Rattle.mas_types.specs.declared.ids.Dev.{Dev}
-use Rattle.spool_disk.specs.declared.choice.Choice.{Choice}
-use Rattle.spool_disk.specs.declared.plant.Part.TheVariants.{Disk as DiskPart}
-use Rattle.spool_disk.specs.Acts.{top}
+use Rattle.spool_plant.specs.declared.choice.Choice.{Choice}
+use Rattle.spool_plant.specs.declared.plant.Part.TheVariants.{Disk as DiskPart}
+use Rattle.spool_plant.specs.Acts.{top}
 use Rattle.spool_disk.specs.Begins.{IsCrashed}
-use Rattle.spool_disk.specs.View.{View, disk_now}
+use Rattle.spool_plant.specs.View.{View, disk_now}
 use Rattle.spool_volumes.specs.Volumes.{bytes_unless}
 use Rattle.mas_complex.specs.Crash.{left_at, IsLeft}
 

@@ -3,7 +3,7 @@ use Rattle.std.specs.Prelude.{◌≡◌, ℕ, All}
 use Rattle.script_lang.specs.declared.types.Ask.{Ask}
 use Rattle.script_lang.specs.declared.types.Ask.TheVariants as ask
 use Rattle.script_lang.specs.declared.types.Step.{Step}
-use Rattle.spool_disk.specs.View.{View}
+use Rattle.spool_plant.specs.View.{View}
 use Rattle.run_turns.specs.Scenes.{scene_of}
 use Rattle.mas_run.specs.Runs.{LinesBegun, LinesEnded, HavePassed}
 use Rattle.mas_run.specs.Unstopped.{AreWhole}

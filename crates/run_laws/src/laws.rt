@@ -7,7 +7,7 @@ ghost use Rattle.run_laws.specs.Unstopped.{PlaysOnUnarmed};
 use ckpt_pages::law_of_checkpoints;
 use mas_run::law_of_plays_on;
 use queue_laws::laws::law_of_runs;
-use spool_disk::Plant;
+use spool_plant::Plant;
 
 /// A crash of a plant in memory leaves an image of each device, and nothing of one that was lost.
 pub fn law_of_crashes()

@@ -5,7 +5,8 @@ ghost use Rattle.spool_disk.specs.MemView.{mem_book};
 
 use mas_run::{Ended, play_script};
 use mas_types::{Dev, List, NoMemory};
-use spool_disk::{Choice, MemPlant, MemSource, Plant, Sizes};
+use spool_disk::{MemPlant, MemSource, Sizes};
+use spool_plant::{Choice, Plant};
 use std::alloc::{AllocError, Global};
 use tests_lines::{Writer, number_at};
 

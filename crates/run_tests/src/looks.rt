@@ -3,7 +3,8 @@ use crate::cases::{Case, crashed, start};
 use crate::queues::add_queue;
 use mas_run::Ended;
 use mas_types::{Batch, Dev, Fate, Job, Lines, MemberId, NoMemory, Phase, Status, status_line};
-use spool_disk::{Act, Choice, MemPlant, Part, Plant};
+use spool_disk::MemPlant;
+use spool_plant::{Act, Choice, Part, Plant};
 use std::alloc::Global;
 use tests_lines::Writer;
 

@@ -4,7 +4,8 @@ use crate::cases::{Case, crashed, device};
 use crate::looks::{add_ended, block, content, count_said, found, kept_and_begun};
 use mas_run::Ended;
 use mas_types::{Dev, List, MemberId, NoMemory};
-use spool_disk::{Choice, MemPlant, Plant};
+use spool_disk::MemPlant;
+use spool_plant::{Choice, Plant};
 use std::alloc::Global;
 use tests_lines::{Writer, number_at};
 

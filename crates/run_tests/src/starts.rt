@@ -6,7 +6,8 @@ use crate::looks::{BLOCK, add_equal, add_left, add_lost, add_status, content, pu
 use crate::modes::{Told, kept_at};
 use mas_run::Ended;
 use mas_types::{Dev, NoMemory};
-use spool_disk::{Choice, MemPlant, Part, Plant};
+use spool_disk::MemPlant;
+use spool_plant::{Choice, Part, Plant};
 use std::alloc::Global;
 use tests_lines::Writer;
 

@@ -13,7 +13,8 @@ use mas_types::words::{push_digits, push_output_key};
 use mas_types::{
     Batch, Dev, Fate, Lines, List, MEMBERS_MOST, MemberId, NoMemory, Output, Queue, Status,
 };
-use spool_disk::{Choice, MemPlant, Part, Plant};
+use spool_disk::MemPlant;
+use spool_plant::{Choice, Part, Plant};
 use std::alloc::Global;
 use tests_lines::Writer;
 

@@ -24,7 +24,7 @@ use Rattle.step_turns.specs.declared.states.Release.{Release}
 use Rattle.step_turns.specs.declared.states.Release.TheVariants.{Inner, Keep, Outer}
 use Rattle.step_turns.proofs.Endings.{told_gives_none}
 use Rattle.step_turns.proofs.Sittings.{lock_is_held_rightly, some_may_follow}
-use Rattle.spool_disk.specs.View.{Line}
+use Rattle.spool_plant.specs.View.{Line}
 use Rattle.run_turns.specs.Sights.{Cut, Sight}
 use Rattle.run_turns.specs.Scenes.{Batched, Scene, flying_in, kept_in, with_fate}
 use Rattle.run_turns.specs.Admissions.{Plays, granted_by, tried}

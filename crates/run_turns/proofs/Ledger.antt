@@ -15,7 +15,7 @@ use Rattle.run_turns.specs.Sights.{Begun, Cut, Halt, Saying, Sight, Waiting, Wri
 use Rattle.run_turns.specs.Scenes.{Batched, Scene, flies_as, flight_found, flying_in, kept_in, kept_of, queue_found, scene_of, with_fate}
 use Rattle.run_turns.specs.Admissions.{Admission, Denied, Frees, Locks, Plays, Refused, Replaces, Resets, TakesOver, Unplayed, admitted}
 use Rattle.run_turns.specs.Pieces.{Piece, Play, fate_found, once_found, pieces_of, play_of}
-use Rattle.spool_disk.specs.View.{Line}
+use Rattle.spool_plant.specs.View.{Line}
 use Rattle.run_turns.specs.Cuts.{Left, adds, adds_all, adds_first, batches_cut, begun, given_cut, kept_all, left_by, none_left, printed_cut, torn, whole}
 use Rattle.run_turns.specs.Steps.{Outcome, Played, flight_then, is_up, played, played_as, played_ask, silent}
 use Rattle.run_turns.specs.Runs.{fate_then, history_from, outcomes_from, outcomes_if, scene_after, scene_if, settled}

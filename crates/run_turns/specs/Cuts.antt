@@ -4,7 +4,7 @@ use Rattle.mas_types.specs.declared.ids.MemberId.{MemberId}
 use Rattle.mas_types.specs.declared.journals.Entry.{Entry}
 use Rattle.mas_types.specs.declared.journals.Fate.TheVariants.{Kept}
 use Rattle.lock_cycle.specs.Books.{Book, after_stop}
-use Rattle.spool_disk.specs.View.{Line}
+use Rattle.spool_plant.specs.View.{Line}
 use Rattle.run_turns.specs.Sights.{Begun, Cause, Cut, Ends, Halt, Saying, Stops, Waiting, Writing}
 use Rattle.run_turns.specs.Scenes.{Batched, count_then, with_fate}
 use Rattle.run_turns.specs.Pieces.{Piece, Play, after_pieces, entered, released_by, spent}

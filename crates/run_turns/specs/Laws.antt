@@ -18,7 +18,7 @@ use Rattle.lock_cycle.specs.Books.{Book, IsMember, after_stop, is_holder, is_sto
 use Rattle.script_lang.specs.declared.types.Ask.{Ask}
 use Rattle.script_lang.specs.declared.types.Ask.TheVariants as ask
 use Rattle.script_lang.specs.declared.types.Step.{Step}
-use Rattle.spool_disk.specs.declared.plant.Fuse.{Fuse}
+use Rattle.spool_plant.specs.declared.plant.Fuse.{Fuse}
 use Rattle.step_turns.specs.Courses.{Course, course}
 use Rattle.step_turns.specs.Entries.{all_entries}
 use Rattle.step_turns.specs.declared.states.Task.{Task}

@@ -7,7 +7,7 @@ use Rattle.mas_types.specs.Starts.{classes_of, default_config}
 use Rattle.queue_laws.specs.Examples.Small.{empty, member, name}
 use Rattle.script_lang.specs.declared.types.Ask.TheVariants as ask
 use Rattle.script_lang.specs.declared.types.Step.{Step}
-use Rattle.spool_disk.specs.declared.plant.Fuse.TheVariants as fuse
+use Rattle.spool_plant.specs.declared.plant.Fuse.TheVariants as fuse
 use Rattle.run_turns.specs.Cuts.{whole}
 use Rattle.run_turns.specs.Fuses.{calm_run}
 use Rattle.run_turns.specs.Runs.{paper_of}

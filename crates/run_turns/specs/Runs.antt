@@ -8,7 +8,7 @@ use Rattle.mas_types.specs.Ids.{same_member}
 use Rattle.script_lang.specs.declared.types.Ask.{Ask}
 use Rattle.script_lang.specs.declared.types.Ask.TheVariants as ask
 use Rattle.script_lang.specs.declared.types.Step.{Step}
-use Rattle.spool_disk.specs.View.{Line}
+use Rattle.spool_plant.specs.View.{Line}
 use Rattle.run_turns.specs.Sights.{Sight, clear}
 use Rattle.run_turns.specs.Scenes.{Batched, Scene, scene_of, with_fate}
 use Rattle.run_turns.specs.Steps.{Outcome, Said, played}

@@ -10,7 +10,7 @@ use Rattle.mas_types.specs.Ids.{same_member}
 use Rattle.mas_types.specs.Run.{run}
 use Rattle.lock_cycle.specs.Books.{Book, new_book}
 use Rattle.paper_laws.specs.Counts.{Counts, begins_anew, none_printed}
-use Rattle.spool_disk.specs.declared.plant.Fuse.{Fuse}
+use Rattle.spool_plant.specs.declared.plant.Fuse.{Fuse}
 
 -- BATCHES
 

@@ -14,9 +14,9 @@ use Rattle.lock_cycle.specs.Books.{after_stop, is_stopped}
 use Rattle.script_lang.specs.declared.types.Ask.{Ask}
 use Rattle.script_lang.specs.declared.types.Ask.TheVariants as ask
 use Rattle.script_lang.specs.declared.types.Step.{Step}
-use Rattle.spool_disk.specs.declared.plant.Fuse.{Fuse}
-use Rattle.spool_disk.specs.declared.plant.Fuse.TheVariants as fuse
-use Rattle.spool_disk.specs.View.{Line}
+use Rattle.spool_plant.specs.declared.plant.Fuse.{Fuse}
+use Rattle.spool_plant.specs.declared.plant.Fuse.TheVariants as fuse
+use Rattle.spool_plant.specs.View.{Line}
 use Rattle.run_turns.specs.Sights.{Cause, Cut, Ends, Sight, Stops}
 use Rattle.run_turns.specs.Scenes.{Armed, Batched, Scene, flying_in, kept_in, with_count}
 use Rattle.run_turns.specs.Admissions.{Admission, admitted}

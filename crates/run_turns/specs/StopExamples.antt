@@ -13,8 +13,8 @@ use Rattle.lock_cycle.specs.Books.{after_free, after_try, new_book, try_refusal}
 use Rattle.queue_laws.specs.Examples.Small.{empty, member}
 use Rattle.script_lang.specs.declared.types.Ask.TheVariants as ask
 use Rattle.script_lang.specs.declared.types.Step.{Step}
-use Rattle.spool_disk.specs.declared.plant.Fuse.TheVariants as fuse
-use Rattle.spool_disk.specs.View.{Line}
+use Rattle.spool_plant.specs.declared.plant.Fuse.TheVariants as fuse
+use Rattle.spool_plant.specs.View.{Line}
 use Rattle.run_turns.specs.Sights.{Halt, Saying, Sight, Stops, Waiting, Writing, clear}
 use Rattle.run_turns.specs.Scenes.{Scene, queue_found, scene_of}
 use Rattle.run_turns.specs.Cuts.{whole}

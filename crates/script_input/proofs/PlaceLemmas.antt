@@ -24,7 +24,7 @@ use Rattle.script_lang.specs.declared.types.Run.{Run}
 use Rattle.script_lang.specs.declared.types.Script.{Script}
 use Rattle.script_lang.specs.declared.types.ScriptNo.TheVariants as no
 use Rattle.script_lang.specs.declared.types.Step.{Step}
-use Rattle.spool_disk.specs.declared.plant.Fuse.TheVariants as fuse
+use Rattle.spool_plant.specs.declared.plant.Fuse.TheVariants as fuse
 use Rattle.script_lang.specs.Asks.{asks, copy_asks, device_asks, fuse_asks, fuse_most, is_calm, lose_asks, lost_volume, member_asks, member_in, member_of, numbered, pair_asks, spool_asks, step_by, step_of, step_with, stop_asks, typed, units_most, verb_asks}
 use Rattle.script_lang.specs.Config.{configured, number_in}
 use Rattle.script_lang.specs.Lines.{has_word, is_deck_end, is_empty, is_line, lines_of, word_at, words_in, words_of}

@@ -1,12 +1,12 @@
 //! Reading a source to its end.
 ghost use Rattle.std.specs.Prelude.{◌≡◌, ℕ, ◌+◌, ◌≤◌, ◌<◌, [], ◌++◌, length, take, drop, IfOk, IfErr, OnOk, OnErr, IsErrOf, Ok};
-ghost use Rattle.spool_disk.specs.Acts.{Rose};
+ghost use Rattle.spool_plant.specs.Acts.{Rose};
 ghost use Rattle.script_input.specs.Reading.{TakesAtMost};
 ghost use Rattle.script_input.specs.declared.reading.SourceError.TheVariants.{NoMemory as no_memory};
 
 use mas_types::limits::SCRIPT_BYTES;
 use mas_types::{List, NoMemory};
-use spool_disk::{Got, Source};
+use spool_plant::{Got, Source};
 use std::alloc::Global;
 
 // The most bytes that are asked for at once.

@@ -12,7 +12,7 @@ use Rattle.mas_types.specs.Limits.{members_most, volumes_most, wires_most}
 use Rattle.operator_cmds.specs.Typed.{command_in}
 use Rattle.script_lang.specs.declared.types.Ask.{Ask}
 use Rattle.script_lang.specs.declared.types.Ask.TheVariants as ask
-use Rattle.spool_disk.specs.declared.plant.Fuse.TheVariants as fuse
+use Rattle.spool_plant.specs.declared.plant.Fuse.TheVariants as fuse
 use Rattle.script_lang.specs.declared.types.Run.{Run}
 use Rattle.script_lang.specs.declared.types.Step.{Step}
 use Rattle.script_lang.specs.Config.{number_in}

@@ -12,7 +12,7 @@ use crate::types::{Ask, Run, Step};
 use mas_types::limits::{VOLUMES_MOST, WIRES_MOST};
 use mas_types::{Dev, LineCause, Lines, MemberId, NoMemory, read_member};
 use operator_cmds::{CommandNo, read_command};
-use spool_disk::Fuse;
+use spool_plant::Fuse;
 use std::alloc::Global;
 
 /// The greatest number of work units that a step asks for.

@@ -3,7 +3,7 @@ ghost use Rattle.std.specs.Prelude.{◌≡◌};
 ghost use Rattle.script_lang.specs.declared.types.ScriptNo.TheVariants.{NoMemory as no_memory};
 
 use mas_types::{Command, Config, Dev, LineCause, Lines, List, MemberId, NoMemory, Route};
-use spool_disk::Fuse;
+use spool_plant::Fuse;
 
 /// What a step asks for.
 #[derive(Drop)]

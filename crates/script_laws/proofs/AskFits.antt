@@ -17,7 +17,7 @@ use Rattle.operator_cmds.specs.Laws.{ComputesCommands}
 use Rattle.operator_cmds.specs.Typed.{command_in}
 use Rattle.script_lang.specs.declared.types.Ask.{Ask}
 use Rattle.script_lang.specs.declared.types.Ask.TheVariants as ask
-use Rattle.spool_disk.specs.declared.plant.Fuse.TheVariants as fuse
+use Rattle.spool_plant.specs.declared.plant.Fuse.TheVariants as fuse
 use Rattle.script_lang.specs.declared.types.Run.{Run}
 use Rattle.script_lang.specs.declared.types.Step.{Step}
 use Rattle.script_lang.specs.Asks.{is_member_letter, member_of, member_in, is_calm, units_most, fuse_most, numbered, typed, lost_volume, verb_asks, copy_asks, pair_asks, fuse_asks, device_asks, member_asks, stop_asks, lose_asks, asks, step_with, step_by, step_of}

@@ -10,7 +10,7 @@ use Rattle.operator_cmds.specs.Laws.{ComputesCommands}
 use Rattle.operator_cmds.specs.Spellings.{IsSpelling}
 use Rattle.script_lang.specs.declared.types.Ask.{Ask}
 use Rattle.script_lang.specs.declared.types.Ask.TheVariants as ask
-use Rattle.spool_disk.specs.declared.plant.Fuse.TheVariants as fuse
+use Rattle.spool_plant.specs.declared.plant.Fuse.TheVariants as fuse
 use Rattle.script_lang.specs.declared.types.Run.{Run}
 use Rattle.script_lang.specs.declared.types.Step.{Step}
 use Rattle.script_lang.specs.Asks.{member_of, member_in, is_calm, units_most, fuse_most, numbered, typed, lost_volume, verb_asks, member_asks, asks, step_with, step_by, step_of}

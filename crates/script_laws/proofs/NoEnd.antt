@@ -10,7 +10,7 @@ use Rattle.mas_types.specs.Limits.{volumes_most, wires_most}
 use Rattle.operator_cmds.specs.Typed.{command_in}
 use Rattle.script_lang.specs.declared.types.Ask.{Ask}
 use Rattle.script_lang.specs.declared.types.Ask.TheVariants as ask
-use Rattle.spool_disk.specs.declared.plant.Fuse.TheVariants as fuse
+use Rattle.spool_plant.specs.declared.plant.Fuse.TheVariants as fuse
 use Rattle.script_lang.specs.declared.types.Run.{Run}
 use Rattle.script_lang.specs.Asks.{is_calm, member_in, units_most, fuse_most, numbered, typed, lost_volume, verb_asks, copy_asks, pair_asks, fuse_asks, device_asks, asks, step_with, step_by, step_of}
 use Rattle.script_lang.specs.Config.{number_in}

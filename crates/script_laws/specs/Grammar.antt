@@ -10,7 +10,7 @@ use Rattle.mas_types.specs.Numerals.{is_numeral, value_of}
 use Rattle.operator_cmds.specs.Spellings.{IsSpelling}
 use Rattle.script_lang.specs.declared.types.Ask.{Ask}
 use Rattle.script_lang.specs.declared.types.Ask.TheVariants as ask
-use Rattle.spool_disk.specs.declared.plant.Fuse.TheVariants as fuse
+use Rattle.spool_plant.specs.declared.plant.Fuse.TheVariants as fuse
 use Rattle.script_lang.specs.declared.types.Step.{Step}
 use Rattle.script_lang.specs.Asks.{fuse_most, units_most}
 use Rattle.script_laws.specs.Limits.{IsBetween, IsMember}

@@ -3,7 +3,7 @@ use crate::commands::add_meaning;
 use crate::reading::{Run, add_refusal};
 use mas_types::Dev;
 use script_lang::{Ask, Script, ScriptNo, Step};
-use spool_disk::Fuse;
+use spool_plant::Fuse;
 use std::alloc::Global;
 use tests_lines::Writer;
 

@@ -2,7 +2,8 @@
 use crate::reading::add_refusal;
 use mas_types::List;
 use script_input::{SourceError, read_source};
-use spool_disk::{Got, MemSource, Source};
+use spool_disk::MemSource;
+use spool_plant::{Got, Source};
 use std::alloc::Global;
 use tests_lines::Writer;
 

@@ -6,19 +6,19 @@ use Rattle.std.proofs.lemmas.Grind.{common_steps}
 use Rattle.std.proofs.Math.Path.{fun_ext}
 use Rattle.mas_types.specs.declared.ids.Dev.{Dev}
 use Rattle.mas_types.specs.declared.ids.Dev.TheVariants.{Ckpt1, Ckpt2, Spool}
-use Rattle.spool_disk.specs.declared.plant.Part.{Part}
-use Rattle.spool_disk.specs.declared.plant.Part.TheVariants.{Disk as DiskPart, Console, Printer, Wire}
-use Rattle.spool_disk.specs.declared.plant.Act.TheVariants.{Done, Halted}
+use Rattle.spool_plant.specs.declared.plant.Part.{Part}
+use Rattle.spool_plant.specs.declared.plant.Part.TheVariants.{Disk as DiskPart, Console, Printer, Wire}
+use Rattle.spool_plant.specs.declared.plant.Act.TheVariants.{Done, Halted}
 use Rattle.spool_disk.specs.declared.health.Health.{Health}
-use Rattle.spool_disk.specs.View.{Disk, Line, World, disk_now}
-use Rattle.spool_disk.specs.Acts.{Goes, Acts, Renews, SamePaper, SameWires, next, top}
+use Rattle.spool_plant.specs.View.{Disk, Line, World, disk_now}
+use Rattle.spool_plant.specs.Acts.{Goes, Acts, Renews, SamePaper, SameWires, next, top}
 use Rattle.spool_disk.specs.Places.{slot_of, place_of}
 use Rattle.spool_disk.specs.Health.{sound, health_at, was_lost, since_of, lost_from, renewed_after}
 use Rattle.spool_disk.specs.Kept.{fresh, size_at}
 use Rattle.spool_disk.specs.Deeds.{Deed, Idle, Wrote, Synced, Said, Passed, Fetched, Renewed, effect, after, gather, line_on, lines_of, moved, idled}
 use Rattle.spool_disk.specs.DeedLaws.{after_push, gather_append}
 use Rattle.spool_disk.specs.Renewals.{known_before, since_then}
-use Rattle.spool_disk.specs.State.{State, shown, lost_in, disk_in, first_lines, lines_in, moved_in, world_in, view_of, counted, recorded, renewed}
+use Rattle.spool_disk.specs.State.{Halts, State, halted, shown, lost_in, disk_in, first_lines, lines_in, moved_in, world_in, view_of, counted, recorded, renewed}
 
 -- no two devices have one slot, and no two parts one place
 pub slot_apart : (d e : Dev) → slot_of d ≡ slot_of e → d ≡ e
@@ -206,7 +206,7 @@ module _ (s : State) (full : length s.deeds ≡ s.now) (by_now : (k : ℕ) → s
       let short : t ≤ length s.deeds = omega arith in
       ap (λ (l : List Deed). since_then place l x) (drop-append-le t s.deeds (e ∷ []) short) ∙ since_append place (drop t s.deeds) (e ∷ []) x
 
-  pub past_recorded : (e : Deed) (stops : List ℕ) → Keeps e → (t : ℕ) → t ≤ s.now → world_in (recorded s e stops) t ≡ world_in s t
+  pub past_recorded : (e : Deed) (stops : Halts) → Keeps e → (t : ℕ) → t ≤ s.now → world_in (recorded s e stops) t ≡ world_in s t
   past_recorded e stops keeps t le =
       let short : t ≤ length s.deeds = omega arith in
       let gone : (λ d. lost_in (recorded s e stops) t (4 * slot_of d)) ≡ (λ d. lost_in s t (4 * slot_of d)) =
@@ -222,7 +222,7 @@ module _ (s : State) (full : length s.deeds ≡ s.now) (by_now : (k : ℕ) → s
       ap (shown (after slot (fresh s.base slot) (take s.now s.deeds))) (lost_now (4 * slot))
       ∙ ap (λ (l : List Deed). shown (after slot (fresh s.base slot) l) (was_lost (health_at s.parts (4 * slot)).since s.now)) (take_all s.now s.deeds (omega arith))
 
-  pub disk_new : (slot : ℕ) (e : Deed) (stops : List ℕ) → disk_in (recorded s e stops) (s.now + 1) slot ≡ shown (effect slot (after slot (fresh s.base slot) s.deeds) e) (was_lost (health_at s.parts (4 * slot)).since s.now)
+  pub disk_new : (slot : ℕ) (e : Deed) (stops : Halts) → disk_in (recorded s e stops) (s.now + 1) slot ≡ shown (effect slot (after slot (fresh s.base slot) s.deeds) e) (was_lost (health_at s.parts (4 * slot)).since s.now)
   disk_new slot e stops =
       ap (λ (o : Option ℕ). shown (after slot (fresh s.base slot) (take (s.now + 1) (s.deeds ++ e ∷ []))) (was_lost o (s.now + 1))) (since_late (4 * slot) (s.now + 1) (s.deeds ++ e ∷ []) (health_at s.parts (4 * slot)).since (grind (arith, common_steps)))
       ∙ ap (λ (l : List Deed). shown (after slot (fresh s.base slot) l) (was_lost (health_at s.parts (4 * slot)).since (s.now + 1))) (take_all (s.now + 1) (s.deeds ++ e ∷ []) (grind (arith, common_steps)))
@@ -239,15 +239,15 @@ module _ (s : State) (full : length s.deeds ≡ s.now) (by_now : (k : ℕ) → s
   pub none_new : {T : Type 0} (adds : Deed → List T) (e : Deed) → gather adds (e ∷ []) ≡ [] → gather adds (take (s.now + 1) (s.deeds ++ e ∷ [])) ≡ gather adds (take s.now s.deeds)
   none_new adds e none = all_new adds e ∙ ap (λ l. gather adds s.deeds ++ l) none ∙ append-nil (gather adds s.deeds) ∙ sym (all_old adds)
 
-  pub lines_new : (place : ℕ) (e : Deed) (stops : List ℕ) → lines_in (recorded s e stops) (s.now + 1) place ≡ lines_in s s.now place ++ lines_of place (e ∷ [])
+  pub lines_new : (place : ℕ) (e : Deed) (stops : Halts) → lines_in (recorded s e stops) (s.now + 1) place ≡ lines_in s s.now place ++ lines_of place (e ∷ [])
   lines_new place e stops =
       ap (λ (l : List Line). first_lines s.base place ++ l) (all_new (line_on place) e ∙ ap (λ (l : List Line). l ++ lines_of place (e ∷ [])) (sym (all_old (line_on place))))
       ∙ sym (append_assoc (first_lines s.base place) (lines_of place (take s.now s.deeds)) (lines_of place (e ∷ [])))
 
-  pub lines_same : (place : ℕ) (e : Deed) (stops : List ℕ) → lines_of place (e ∷ []) ≡ [] → lines_in (recorded s e stops) (s.now + 1) place ≡ lines_in s s.now place
+  pub lines_same : (place : ℕ) (e : Deed) (stops : Halts) → lines_of place (e ∷ []) ≡ [] → lines_in (recorded s e stops) (s.now + 1) place ≡ lines_in s s.now place
   lines_same place e stops none = ap (λ (l : List Line). first_lines s.base place ++ l) (none_new (line_on place) e none)
 
-  pub goes_recorded : (e : Deed) (stops : List ℕ) (waiting : ℕ → List ℕ) → Keeps e → s.now < top → ((m : ℕ) → slice_index s.stops m ≤ slice_index stops m) → Goes (view_of s) (view_of (record (recorded s e stops) { waiting = waiting }))
+  pub goes_recorded : (e : Deed) (stops : Halts) (waiting : ℕ → List ℕ) → Keeps e → s.now < top → ((m : ℕ) → slice_index s.stops.counts m ≤ slice_index stops.counts m) → Goes (view_of s) (view_of (record (recorded s e stops) { waiting = waiting }))
   goes_recorded e stops waiting keeps below more = record {
     later = omega arith;
     past = λ t le. past_recorded e stops keeps t le;
@@ -270,23 +270,27 @@ module _ (s : State) (full : length s.deeds ≡ s.now) (by_now : (k : ℕ) → s
     halted = λ f. absurd (cc);
     not_operator = λ f. absurd (cc);
     no_other_stop = λ m other. refl;
+    at_halt = λ f. absurd (cc);
+    else_halt = λ f. refl;
     last = λ at. absurd (omega arith);
     loses = λ d. refl;
     arms = λ m. refl;
   }
 
-  pub acts_halted : (by : ℕ) (part : Part) (e : Deed) → Keeps e → s.now < top → slice_index s.stops by ≤ top → 0 < by → by < length s.stops → Acts by part (view_of s) (view_of (recorded s e (counted s.stops by))) Halted
+  pub acts_halted : (by : ℕ) (part : Part) (e : Deed) → Keeps e → s.now < top → slice_index s.stops.counts by ≤ top → 0 < by → by < length s.stops.counts → Acts by part (view_of s) (view_of (recorded s e (halted s.stops by (s.now + 1)))) Halted
   acts_halted by part e keeps below fits member there = record {
     time = omega arith;
-    goes = goes_recorded e (counted s.stops by) s.waiting keeps below (λ m. rises s.stops by m fits there);
+    goes = goes_recorded e (halted s.stops by (s.now + 1)) s.waiting keeps below (λ m. rises s.stops.counts by m fits there);
     failed = λ f. absurd (cc);
     is_lost = λ f. absurd (cc);
     stays_lost = λ was f. absurd (cc);
     else_lost = λ p other. refl;
     else_faults = λ p other. refl;
-    halted = λ f. let same : slice_index (counted s.stops by) by ≡ next (slice_index s.stops by) = get_or-set_same s.stops by _ 0 there in omega (arith, same);
+    halted = λ f. let same : slice_index (counted s.stops.counts by) by ≡ next (slice_index s.stops.counts by) = get_or-set_same s.stops.counts by _ 0 there in omega (arith, same);
     not_operator = λ f. member;
-    no_other_stop = λ m other. ⊎_elim (λ ne. get_or-set_other s.stops by m _ 0 ne) (λ f. absurd (f refl)) other;
+    no_other_stop = λ m other. ⊎_elim (λ ne. get_or-set_other s.stops.counts by m _ 0 ne) (λ f. absurd (f refl)) other;
+    at_halt = λ f. refl;
+    else_halt = λ f. absurd (f refl);
     last = λ at. absurd (omega arith);
     loses = λ d. refl;
     arms = λ m. refl;
@@ -335,8 +339,10 @@ module _ (s : State) (full : length s.deeds ≡ s.now) (by_now : (k : ℕ) → s
       is_lost = λ f. absurd (cc);
       is_there = λ f. ap (λ (g : Health). g.lost) (health_same s.parts place (renewed_after (health_at s.parts place)) there place refl);
       else_lost = λ p ne. ap (λ (g : Health). g.lost) (health_other s.parts place (renewed_after (health_at s.parts place)) there (place_of p) (λ same. ne (place_same p (DiskPart dev) same)));
+      else_faults = λ p ne. ap (λ (g : Health). g.faults) (health_other s.parts place (renewed_after (health_at s.parts place)) there (place_of p) (λ same. ne (place_same p (DiskPart dev) same)));
       no_halt = λ f. absurd (cc);
       stops = λ m. refl;
+      halt = refl;
       last = λ at. absurd (omega arith);
       loses = λ d. refl;
       arms = λ m. refl;
@@ -410,7 +416,7 @@ module _ (acts : ℕ) (s s' : State) (part : Part) (h : Health) (small : s.now �
       ∙ ap (λ (f : ℕ → ℕ → List ℕ). record { disk = λ d. disk_in s t (slot_of d); console = lines_in s t 1; paper = λ m. lines_in s t (4 * m + 2); taken = f; given = λ w m. moved_in s' t true w m }) (wires false)
       ∙ ap (λ (f : ℕ → ℕ → List ℕ). record { disk = λ d. disk_in s t (slot_of d); console = lines_in s t 1; paper = λ m. lines_in s t (4 * m + 2); taken = λ w m. moved_in s t false w m; given = f }) (wires true)
 
-  pub goes_idled : ((p : Part) → (health_at s.parts (place_of p)).faults ≤ (health_at s'.parts (place_of p)).faults) → ((m : ℕ) → slice_index s.stops m ≤ slice_index s'.stops m) → s'.arms ≡ s.arms → Goes (view_of s) (view_of s')
+  pub goes_idled : ((p : Part) → (health_at s.parts (place_of p)).faults ≤ (health_at s'.parts (place_of p)).faults) → ((m : ℕ) → slice_index s.stops.counts m ≤ slice_index s'.stops.counts m) → s'.arms ≡ s.arms → Goes (view_of s) (view_of s')
   goes_idled more stops arms = record {
     later = omega (arith, small, time);
     past = past_idled;

@@ -2,23 +2,23 @@
 use Rattle.std.proofs.Common.{◌≡◌, ◌≢◌, ◌⊎◌, ℕ, ◌+◌, ◌*◌, ◌≤◌, ◌==◌, nat_le, if◌then◌else◌, Bool, true, false, List, [], ◌∷◌, ◌++◌, inl, inr, length, take, replicate, ◌<◌, refl, subst, sym, ◌∙◌, ap, arith}
 use Rattle.std.proofs.lemmas.List.{append-nil}
 use Rattle.mas_types.specs.declared.ids.Dev.{Dev}
-use Rattle.spool_disk.specs.declared.plant.Part.TheVariants.{Disk as DiskPart}
-use Rattle.spool_disk.specs.declared.plant.Act.{Act}
-use Rattle.spool_disk.specs.declared.plant.Act.TheVariants.{Done, Halted}
-use Rattle.spool_disk.specs.declared.plant.Took.TheVariants.{Halted as TookHalted}
-use Rattle.spool_disk.specs.View.{Disk, Line, disk_now, slice}
-use Rattle.spool_disk.specs.Acts.{SamePaper, SameWires, OnDevice, Dirtied, Writes, Syncs, Reads, RenewsThere, Said, Says, Prints, Takes}
+use Rattle.spool_plant.specs.declared.plant.Part.TheVariants.{Disk as DiskPart}
+use Rattle.spool_plant.specs.declared.plant.Act.{Act}
+use Rattle.spool_plant.specs.declared.plant.Act.TheVariants.{Done, Halted}
+use Rattle.spool_plant.specs.declared.plant.Took.TheVariants.{Halted as TookHalted}
+use Rattle.spool_plant.specs.View.{Disk, Line, disk_now, slice}
+use Rattle.spool_plant.specs.Acts.{SamePaper, SameWires, OnDevice, Dirtied, Writes, Syncs, Reads, RenewsThere, Said, Says, Prints, Takes}
 use Rattle.spool_disk.specs.Courses.{left_of, deed_left}
 use Rattle.spool_disk.specs.Places.{slot_of, place_of}
 use Rattle.spool_disk.specs.Health.{health_at, was_lost, since_of}
 use Rattle.spool_disk.specs.Kept.{fresh, size_at}
 use Rattle.spool_disk.specs.Deeds.{Deed, Idle, Wrote, Synced, Said as DeedSaid, Passed, Fetched, Renewed as RenewedDeed, overwrite, effect, after, gather, lines_of, same_side, moved}
 use Rattle.spool_disk.specs.DeedLaws.{length-after}
-use Rattle.spool_disk.specs.State.{State, renewed, shown, lines_in, moved_in, view_of, recorded}
+use Rattle.spool_disk.specs.State.{Halts, State, renewed, shown, lines_in, moved_in, view_of, recorded}
 use Rattle.spool_disk.proofs.Acting.{slot_apart, disk_old, disk_new, all_old, all_new, none_new, lines_new, lines_same, renewed_disk, renewed_is_there, renewed_else}
 use Rattle.spool_disk.proofs.Effects.{wrote_dirtied, wrote_bytes, slice_put, sync_bytes, sync_unsynced, IsOf, wrote_is_of, sync_is_of, IsLineOf, said_is_line, line_there, moved_there, moved_else, moved_other, renew_there, renew_is_of}
 
-module _ (s : State) (stops : List ℕ) (full : length s.deeds ≡ s.now) (by_now : (k : ℕ) → since_of (health_at s.parts k).since ≤ s.now) where
+module _ (s : State) (stops : Halts) (full : length s.deeds ≡ s.now) (by_now : (k : ℕ) → since_of (health_at s.parts k).since ≤ s.now) where
   was : (d : Dev) → disk_now (view_of s) d ≡ shown (after (slot_of d) (fresh s.base (slot_of d)) s.deeds) (was_lost (health_at s.parts (4 * slot_of d)).since s.now)
   was d = disk_old s full by_now (slot_of d)
 
@@ -182,7 +182,7 @@ module _ (s : State) (stops : List ℕ) (full : length s.deeds ≡ s.now) (by_no
   said_done place line = said_there place (DeedSaid place line true) (said_is_line place line true) (record { text = line; whole = true } ∷ []) (line_there place line true)
 
 -- bytes on a wire. What waits may change in the act
-module _ (s : State) (stops : List ℕ) (waiting : ℕ → List ℕ) (side : Bool) (wire member : ℕ) (bytes : List ℕ) (full : length s.deeds ≡ s.now) (by_now : (k : ℕ) → since_of (health_at s.parts k).since ≤ s.now) where
+module _ (s : State) (stops : Halts) (waiting : ℕ → List ℕ) (side : Bool) (wire member : ℕ) (bytes : List ℕ) (full : length s.deeds ≡ s.now) (by_now : (k : ℕ) → since_of (health_at s.parts k).since ≤ s.now) where
   abbrev deed : Deed
   deed = Passed side wire member bytes
 

@@ -2,21 +2,21 @@
 use Rattle.std.proofs.Common.{◌≡◌, ℕ, zero, suc, ◌+◌, ◌*◌, ◌<◌, Option, List, [], ◌∷◌, ◌++◌, length, take, drop, refl, subst, sym, ◌∙◌, ap}
 use Rattle.mas_types.specs.declared.ids.Dev.{Dev}
 use Rattle.spool_disk.specs.declared.base.Base.{Base}
-use Rattle.spool_disk.specs.declared.choice.Choice.{Choice}
-use Rattle.spool_disk.specs.declared.choice.Choice.TheVariants.{Old, New, Ones}
+use Rattle.spool_plant.specs.declared.choice.Choice.{Choice}
+use Rattle.spool_plant.specs.declared.choice.Choice.TheVariants.{Old, New, Ones}
 use Rattle.spool_disk.specs.declared.entry.Entry.{Entry}
 use Rattle.spool_disk.specs.declared.entry.Entry.TheVariants.{Idle as EntryIdle, Wrote as EntryWrote, Synced as EntrySynced, Said as EntrySaid, Passed as EntryPassed, Fetched as EntryFetched, Renewed as EntryRenewed}
 use Rattle.spool_disk.specs.Known.{known_since, known_health}
 use Rattle.spool_disk.specs.Renewals.{known_before, since_then}
 use Rattle.spool_disk.specs.declared.health.Health.{Health}
 use Rattle.spool_disk.specs.declared.memory.MemPlant.{MemPlant}
-use Rattle.spool_disk.specs.declared.plant.Part.{Part}
-use Rattle.spool_disk.specs.declared.plant.Part.TheVariants.{Disk as DiskPart}
-use Rattle.spool_disk.specs.View.{View, slice}
+use Rattle.spool_plant.specs.declared.plant.Part.{Part}
+use Rattle.spool_plant.specs.declared.plant.Part.TheVariants.{Disk as DiskPart}
+use Rattle.spool_plant.specs.View.{View, slice}
 use Rattle.spool_disk.specs.Deeds.{Deed, after, lines_of}
 use Rattle.spool_disk.specs.Entries.{kept_by, deed_of, deeds_of}
 use Rattle.spool_disk.specs.Kept.{fresh}
-use Rattle.spool_disk.specs.Crash.{LeavesBy}
+use Rattle.spool_plant.specs.Crash.{LeavesBy}
 use Rattle.spool_disk.specs.LeavesAt.{LeavesAt}
 use Rattle.spool_disk.specs.Health.{health_at, was_lost}
 use Rattle.spool_disk.specs.Sizes.{size_in}

@@ -2,7 +2,7 @@
 use Rattle.std.proofs.Common.{◌≡◌, ℕ, ◌<◌, ◌==◌, Bool, true, false, if◌then◌else◌, List, [], ◌∷◌, ◌++◌, length, replicate, Option, Vec, refl, sym, ◌∙◌, ap}
 use Rattle.std.specs.declared.alloc.Global.{Global}
 use Rattle.spool_disk.specs.declared.base.Base.{Base}
-use Rattle.spool_disk.specs.View.{Disk}
+use Rattle.spool_plant.specs.View.{Disk}
 use Rattle.spool_disk.specs.Standing.{bytes_at}
 use Rattle.spool_disk.specs.Kept.{AreCurrent, fresh, size_at}
 use Rattle.spool_disk.specs.Deeds.{Deed, Idle, Wrote, Synced, Said, Passed, Fetched, Renewed, overwrite, effect, after}

@@ -2,10 +2,10 @@
 use Rattle.std.proofs.Common.{◌≡◌, ⊎_elim, ℕ, zero, suc, ◌+◌, ◌≤◌, ◌<◌, ◌==◌, Bool, true, false, if◌then◌else◌, List, [], ◌∷◌, ◌++◌, length, take, replicate, get_or, refl, subst, sym, ◌∙◌, ap, arith}
 use Rattle.std.proofs.lemmas.List.{take_all, take_more}
 use Rattle.mas_types.specs.declared.ids.Dev.{Dev}
-use Rattle.spool_disk.specs.View.{Disk, Stretch}
+use Rattle.spool_plant.specs.View.{Disk, Stretch}
 use Rattle.spool_disk.specs.Deeds.{Deed, Idle, Wrote, Synced, Said, Passed, Fetched, Renewed, overwrite, effect, after}
 use Rattle.spool_disk.specs.DeedLaws.{after_push}
-use Rattle.spool_disk.specs.Crash.{or_earlier, before_writes}
+use Rattle.spool_plant.specs.Crash.{or_earlier, before_writes}
 use Rattle.spool_disk.specs.Settled.{synced_by, last_synced}
 use Rattle.spool_disk.specs.Kept.{fresh}
 use Rattle.spool_disk.specs.Places.{slot_of}

@@ -2,8 +2,8 @@
 use Rattle.std.proofs.Common.{◌≡◌, ℕ, ◌+◌, ◌-◌, ◌≤◌, ◌==◌, ◌≢◌, ◌⊎◌, ⊎_elim, ◌&&◌, nat_le, if◌then◌else◌, Bool, true, false, List, [], ◌∷◌, ◌++◌, length, take, drop, replicate, Option, refl, subst, sym, ◌∙◌, ap, arith, append_assoc, length-append}
 use Rattle.std.proofs.lemmas.Bool.Decides.{nat_tests}
 use Rattle.std.proofs.lemmas.List.{take_at, drop_at, drop-drop, length-take-le, append-nil}
-use Rattle.spool_disk.specs.View.{Disk, slice}
-use Rattle.spool_disk.specs.Acts.{DiffersIn, Dirtied}
+use Rattle.spool_plant.specs.View.{Disk, slice}
+use Rattle.spool_plant.specs.Acts.{DiffersIn, Dirtied}
 use Rattle.spool_disk.specs.Deeds.{Deed, Idle, Wrote, Synced, Said, Passed, Renewed, overwrite, effect, gather, lines_of, same_side, moved}
 use Rattle.spool_disk.specs.DeedLaws.{length-overwrite}
 use Rattle.spool_disk.specs.State.{shown}

@@ -3,13 +3,13 @@ use Rattle.std.proofs.lemmas.List.{append-nil}
 use Rattle.std.proofs.Common.{◌≡◌, inl, inr, ⊎_elim, ℕ, ◌≤◌, ◌<◌, List, length, set, slice_index, refl, subst, sym, ◌∙◌, ap, arith, get_or-set_same, get_or-set_other}
 use Rattle.mas_types.specs.declared.ids.Dev.{Dev}
 use Rattle.mas_types.specs.declared.ids.MemberId.{MemberId}
-use Rattle.spool_disk.specs.declared.plant.Part.{Part}
-use Rattle.spool_disk.specs.declared.plant.Part.TheVariants.{Disk as DiskPart, Console, Printer, Wire}
-use Rattle.spool_disk.specs.declared.plant.Act.TheVariants.{Failed}
-use Rattle.spool_disk.specs.declared.plant.Took.TheVariants.{Failed as TookFailed}
+use Rattle.spool_plant.specs.declared.plant.Part.{Part}
+use Rattle.spool_plant.specs.declared.plant.Part.TheVariants.{Disk as DiskPart, Console, Printer, Wire}
+use Rattle.spool_plant.specs.declared.plant.Act.TheVariants.{Failed}
+use Rattle.spool_plant.specs.declared.plant.Took.TheVariants.{Failed as TookFailed}
 use Rattle.spool_disk.specs.declared.health.Health.{Health}
-use Rattle.spool_disk.specs.View.{View, given_now}
-use Rattle.spool_disk.specs.Acts.{Acts, Loses, LosesThere, next, top, OnDevice, Renews, RenewsThere, Writes, Syncs, Reads, Says, Prints, GivesOn, Takes}
+use Rattle.spool_plant.specs.View.{View, given_now}
+use Rattle.spool_plant.specs.Acts.{Acts, Loses, LosesThere, next, top, OnDevice, Renews, RenewsThere, Writes, Syncs, Reads, Says, Prints, GivesOn, Takes}
 use Rattle.spool_disk.specs.Failing.{FailsAlone}
 use Rattle.spool_disk.specs.Places.{slot_of, place_of}
 use Rattle.spool_disk.specs.Health.{health_at, since_of, lost_after, failed_after}
@@ -35,6 +35,8 @@ module _ (acts : ℕ) (s : State) (part : Part) (small : s.now ≤ top) (short :
         halted = λ f. absurd (cc);
         not_operator = λ f. absurd (cc);
         no_other_stop = λ m other. refl;
+        at_halt = λ f. absurd (cc);
+        else_halt = λ f. refl;
         last = λ at. refl;
         loses = λ d. refl;
         arms = λ m. refl;
@@ -65,6 +67,7 @@ module _ (acts : ℕ) (s : State) (dev : Dev) (small : s.now ≤ top) (short : l
         else_lost = λ p ne. ap (λ (g : Health). g.lost) (else_same acts s (lost acts s dev) (DiskPart dev) new small short by_now there refl refl refl refl refl refl refl p ne);
         faults = faults;
         stops = λ m. refl;
+        halt = refl;
         counted = λ d is. let at : slot_of d ≡ slot_of dev = ap slot_of (disk_part d dev is) in
             subst (λ (n : ℕ). slice_index (counted s.loses (slot_of dev)) n ≡ next (slice_index s.loses n)) (sym at) (get_or-set_same s.loses (slot_of dev) _ 0 counted_there);
         small = λ d is. subst (λ (n : ℕ). slice_index s.loses n ≤ top) (sym (ap slot_of (disk_part d dev is))) fits;
@@ -117,8 +120,10 @@ fails_renewal dev old new act = record {
   is_lost = act.is_lost;
   is_there = λ f. absurd (cc);
   else_lost = λ p ne. act.else_lost p (inl ne);
+  else_faults = λ p ne. act.else_faults p (inl ne);
   no_halt = λ f. absurd (cc);
   stops = λ m. act.no_other_stop m (inr (λ f. absurd (cc)));
+  halt = act.else_halt (λ f. absurd (cc));
   last = λ at. refl;
   loses = act.loses;
   arms = act.arms;

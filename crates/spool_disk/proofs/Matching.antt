@@ -2,15 +2,15 @@
 use Rattle.std.proofs.Common.{◌≡◌, inl, inr, ⊎_elim, ℕ, ◌+◌, ◌-◌, ◌≤◌, ◌<◌, ◌==◌, nat_le, nat_lt, ◌&&◌, ◌||◌, min, max, Bool, true, false, if◌then◌else◌, List, [], ◌∷◌, length, take, drop, replicate, slice_index, refl, subst, sym, ◌∙◌, ap, arith}
 use Rattle.std.proofs.lemmas.Bool.Decides.{nat_tests}
 use Rattle.std.proofs.lemmas.List.{get_or-take, get_or-drop, length-take, length-drop, ext_get_or}
-use Rattle.spool_disk.specs.declared.choice.Choice.{Choice}
-use Rattle.spool_disk.specs.declared.choice.Choice.TheVariants.{Old, New, Ones}
+use Rattle.spool_plant.specs.declared.choice.Choice.{Choice}
+use Rattle.spool_plant.specs.declared.choice.Choice.TheVariants.{Old, New, Ones}
 use Rattle.spool_disk.specs.declared.entry.Entry.{Entry}
 use Rattle.spool_disk.specs.declared.entry.Entry.TheVariants.{Idle as EntryIdle, Wrote as EntryWrote, Synced as EntrySynced, Said as EntrySaid, Passed as EntryPassed, Fetched as EntryFetched, Renewed as EntryRenewed}
-use Rattle.spool_disk.specs.View.{Disk, Stretch, Apart, Avoids, slice}
-use Rattle.spool_disk.specs.Acts.{DiffersIn}
+use Rattle.spool_plant.specs.View.{Disk, Stretch, Apart, Avoids, slice}
+use Rattle.spool_plant.specs.Acts.{DiffersIn}
 use Rattle.spool_disk.specs.Deeds.{overwrite, effect, after}
 use Rattle.spool_disk.specs.Entries.{kept_by, deed_of, deeds_of}
-use Rattle.spool_disk.specs.Crash.{IsOnes, is_in, is_unsynced}
+use Rattle.spool_plant.specs.Crash.{IsOnes, is_in, is_unsynced}
 use Rattle.spool_disk.specs.Settled.{synced_by, last_synced, Leaves}
 use Rattle.spool_disk.proofs.Crashing.{differs_overwrite, differs_at}
 

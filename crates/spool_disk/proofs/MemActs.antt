@@ -5,18 +5,18 @@ use Rattle.std.proofs.Common.{◌≡◌, ◌≢◌, ◌⊎◌, inl, inr, min, re
 use Rattle.std.proofs.lemmas.List.{length-take}
 use Rattle.mas_types.specs.declared.ids.Dev.{Dev}
 use Rattle.spool_disk.specs.declared.memory.MemPlant.{MemPlant}
-use Rattle.spool_disk.specs.declared.plant.Part.{Part}
-use Rattle.spool_disk.specs.declared.plant.Part.TheVariants.{Disk as DiskPart}
-use Rattle.spool_disk.specs.declared.plant.Act.TheVariants.{Done, Failed, Halted}
-use Rattle.spool_disk.specs.declared.plant.Took.TheVariants.{Bytes as TookBytes, Halted as TookHalted}
-use Rattle.spool_disk.specs.View.{disk_now, given_now, slice}
-use Rattle.spool_disk.specs.Acts.{Acts, Renews, RenewsThere, Loses, LosesThere, Writes, Syncs, Reads, Says, Prints, GivesOn, Takes, top}
+use Rattle.spool_plant.specs.declared.plant.Part.{Part}
+use Rattle.spool_plant.specs.declared.plant.Part.TheVariants.{Disk as DiskPart}
+use Rattle.spool_plant.specs.declared.plant.Act.TheVariants.{Done, Failed, Halted}
+use Rattle.spool_plant.specs.declared.plant.Took.TheVariants.{Bytes as TookBytes, Halted as TookHalted}
+use Rattle.spool_plant.specs.View.{disk_now, given_now, slice}
+use Rattle.spool_plant.specs.Acts.{Acts, Renews, RenewsThere, Loses, LosesThere, Writes, Syncs, Reads, Says, Prints, GivesOn, Takes, top}
 use Rattle.spool_disk.specs.Places.{slot_of, place_of}
 use Rattle.spool_disk.specs.Health.{health_at}
 use Rattle.spool_disk.specs.Kept.{fresh, size_at}
 use Rattle.spool_disk.specs.Deeds.{Deed, Idle, Wrote, Synced, Said, Passed, Fetched, overwrite, after}
 use Rattle.spool_disk.specs.Entries.{deeds_of}
-use Rattle.spool_disk.specs.State.{State, lines_in, moved_in, view_of, counted, recorded, failed, lost, renewed}
+use Rattle.spool_disk.specs.State.{Halts, State, halted, lines_in, moved_in, view_of, recorded, failed, lost, renewed}
 use Rattle.spool_disk.specs.Courses.{left_of, deed_left}
 use Rattle.spool_disk.specs.Failing.{FailsAlone}
 use Rattle.spool_disk.specs.MemView.{state_of, mem_view}
@@ -30,8 +30,8 @@ use Rattle.spool_disk.proofs.Faults.{acts_failed, fails_alone, loses, loses_ther
 pub in_full : (m : MemPlant) → m.moment < m.kept.acts → length (state_of m).deeds ≡ (state_of m).now
 in_full m below = length-deeds m.kept.log.items m.kept.arena.items ∙ m.in_step.1 (omega (arith, m.in_step.0, below))
 
-pub halted_state : (s s1 s2 : State) (e : Deed) (by : ℕ) → s1 ≡ recorded s e s.stops → s2 ≡ record s1 { stops = counted s1.stops by } → s2 ≡ recorded s e (counted s.stops by)
-halted_state s s1 s2 e by first then_stop = then_stop ∙ ap (λ (x : State). record x { stops = counted x.stops by }) first
+pub halted_state : (s s1 s2 : State) (e : Deed) (by : ℕ) → s1 ≡ recorded s e s.stops → s2 ≡ record s1 { stops = halted s1.stops by s1.now } → s2 ≡ recorded s e (halted s.stops by (s.now + 1))
+halted_state s s1 s2 e by first then_stop = then_stop ∙ ap (λ (x : State). record x { stops = halted x.stops by x.now }) first
 
 module _ (m m' : MemPlant) (e : Deed) (below : m.moment < m.kept.acts) (below_top : m.moment < top) where
   module _ (is : state_of m' ≡ recorded (state_of m) e (state_of m).stops) where
@@ -72,54 +72,54 @@ module _ (m m' : MemPlant) (place : ℕ) (line : List ℕ) (below : m.moment < m
 
 -- an act that halts: it is recorded, and then the stop is counted
 module _ (m m1 m2 : MemPlant) (e : Deed) (by : ℕ) (below : m.moment < m.kept.acts) (first : state_of m1 ≡ recorded (state_of m) e (state_of m).stops)
-    (next_is : state_of m2 ≡ record (state_of m1) { stops = counted (state_of m1).stops by }) where
-  both : state_of m2 ≡ recorded (state_of m) e (counted (state_of m).stops by)
+    (next_is : state_of m2 ≡ record (state_of m1) { stops = halted (state_of m1).stops by (state_of m1).now }) where
+  both : state_of m2 ≡ recorded (state_of m) e (halted (state_of m).stops by (m.moment + 1))
   both = halted_state (state_of m) (state_of m1) (state_of m2) e by first next_is
 
   same_stops : (state_of m1).stops ≡ (state_of m).stops
   same_stops = ap (λ (x : State). x.stops) first
 
-  pub halted_acts : Keeps e → (part : Part) → m.moment < top → slice_index (state_of m1).stops by ≤ top → by < length (state_of m1).stops → 0 < by → Acts by part (mem_view m) (mem_view m2) Halted
+  pub halted_acts : Keeps e → (part : Part) → m.moment < top → slice_index (state_of m1).stops.counts by ≤ top → by < length (state_of m1).stops.counts → 0 < by → Acts by part (mem_view m) (mem_view m2) Halted
   halted_acts keeps part below_top fits there member =
       subst (λ (x : State). Acts by part (mem_view m) (view_of x) Halted) (sym both)
-      (acts_halted (state_of m) (in_full m below) m.lost_by_now by part e keeps below_top (subst (λ (l : List ℕ). slice_index l by ≤ top) same_stops fits) member (subst (λ (l : List ℕ). by < length l) same_stops there))
+      (acts_halted (state_of m) (in_full m below) m.lost_by_now by part e keeps below_top (subst (λ (h : Halts). slice_index h.counts by ≤ top) same_stops fits) member (subst (λ (h : Halts). by < length h.counts) same_stops there))
 
 module _ (m m1 m2 : MemPlant) (by : ℕ) (below : m.moment < m.kept.acts) (first : state_of m1 ≡ recorded (state_of m) Idle (state_of m).stops)
-    (next_is : state_of m2 ≡ record (state_of m1) { stops = counted (state_of m1).stops by }) where
+    (next_is : state_of m2 ≡ record (state_of m1) { stops = halted (state_of m1).stops by (state_of m1).now }) where
   pub halted_sync : (dev : Dev) → Syncs dev (mem_view m) (mem_view m2) Halted
   halted_sync dev =
       subst (λ (x : State). Syncs dev (mem_view m) (view_of x) Halted) (sym (both m m1 m2 Idle by below first next_is))
-      (sync_halted (state_of m) (counted (state_of m).stops by) (in_full m below) m.lost_by_now dev)
+      (sync_halted (state_of m) (halted (state_of m).stops by (m.moment + 1)) (in_full m below) m.lost_by_now dev)
 
   pub halted_read : (dev : Dev) (at : ℕ) (into : List ℕ) → Reads dev at (mem_view m) (mem_view m2) into Halted
   halted_read dev at into =
       subst (λ (x : State). Reads dev at (mem_view m) (view_of x) into Halted) (sym (both m m1 m2 Idle by below first next_is))
-      (read_halted (state_of m) (counted (state_of m).stops by) (in_full m below) m.lost_by_now dev at into)
+      (read_halted (state_of m) (halted (state_of m).stops by (m.moment + 1)) (in_full m below) m.lost_by_now dev at into)
 
 module _ (m m1 m2 : MemPlant) (by : ℕ) (below : m.moment < m.kept.acts) (dev : Dev) (at slot keep : ℕ) (bytes some : List ℕ) (there : slot ≡ slot_of dev) (fits : at + length bytes ≤ size_at m.kept.base (slot_of dev)) (is_some : some ≡ take keep bytes)
     (first : state_of m1 ≡ recorded (state_of m) (Wrote slot at (length bytes) some) (state_of m).stops)
-    (next_is : state_of m2 ≡ record (state_of m1) { stops = counted (state_of m1).stops by }) where
-  both_write : state_of m2 ≡ recorded (state_of m) (Wrote (slot_of dev) at (length bytes) (take keep bytes)) (counted (state_of m).stops by)
+    (next_is : state_of m2 ≡ record (state_of m1) { stops = halted (state_of m1).stops by (state_of m1).now }) where
+  both_write : state_of m2 ≡ recorded (state_of m) (Wrote (slot_of dev) at (length bytes) (take keep bytes)) (halted (state_of m).stops by (m.moment + 1))
   both_write =
       both m m1 m2 (Wrote slot at (length bytes) some) by below first next_is
-      ∙ ap (λ (n : ℕ). recorded (state_of m) (Wrote n at (length bytes) some) (counted (state_of m).stops by)) there
-      ∙ ap (λ (l : List ℕ). recorded (state_of m) (Wrote (slot_of dev) at (length bytes) l) (counted (state_of m).stops by)) is_some
+      ∙ ap (λ (n : ℕ). recorded (state_of m) (Wrote n at (length bytes) some) (halted (state_of m).stops by (m.moment + 1))) there
+      ∙ ap (λ (l : List ℕ). recorded (state_of m) (Wrote (slot_of dev) at (length bytes) l) (halted (state_of m).stops by (m.moment + 1))) is_some
 
   pub halted_write : Writes dev at bytes (mem_view m) (mem_view m2) Halted
   halted_write =
       subst (λ (x : State). Writes dev at bytes (mem_view m) (view_of x) Halted) (sym both_write)
-      (write_halted (state_of m) (counted (state_of m).stops by) (in_full m below) m.lost_by_now dev at bytes (take keep bytes) (omega (arith, length-take keep bytes)) fits)
+      (write_halted (state_of m) (halted (state_of m).stops by (m.moment + 1)) (in_full m below) m.lost_by_now dev at bytes (take keep bytes) (omega (arith, length-take keep bytes)) fits)
 
   pub halted_bytes : (disk_now (mem_view m2) dev).bytes ≡ overwrite at (take keep bytes) (disk_now (mem_view m) dev).bytes
   halted_bytes =
       subst (λ (x : State). (disk_now (view_of x) dev).bytes ≡ overwrite at (take keep bytes) (disk_now (mem_view m) dev).bytes) (sym both_write)
-      (wrote (state_of m) (counted (state_of m).stops by) (in_full m below) m.lost_by_now dev at (length bytes) (take keep bytes))
+      (wrote (state_of m) (halted (state_of m).stops by (m.moment + 1)) (in_full m below) m.lost_by_now dev at (length bytes) (take keep bytes))
 
 module _ (m m1 m2 : MemPlant) (by : ℕ) (below : m.moment < m.kept.acts) (place keep : ℕ) (line : List ℕ)
     (first : state_of m1 ≡ recorded (state_of m) (deed_left place keep line) (state_of m).stops)
-    (next_is : state_of m2 ≡ record (state_of m1) { stops = counted (state_of m1).stops by }) where
-  abbrev stopped : List ℕ
-  stopped = counted (state_of m).stops by
+    (next_is : state_of m2 ≡ record (state_of m1) { stops = halted (state_of m1).stops by (state_of m1).now }) where
+  abbrev stopped : Halts
+  stopped = halted (state_of m).stops by (m.moment + 1)
 
   now_is : state_of m2 ≡ recorded (state_of m) (deed_left place keep line) stopped
   now_is = both m m1 m2 (deed_left place keep line) by below first next_is
@@ -216,20 +216,20 @@ module _ (m m' : MemPlant) (wire member : ℕ) (bytes : List ℕ) (below : m.mom
 
 module _ (m m1 m2 : MemPlant) (wire by keep : ℕ) (bytes some : List ℕ) (below : m.moment < m.kept.acts) (is_some : some ≡ take keep bytes)
     (first : state_of m1 ≡ recorded (state_of m) (Passed true wire by some) (state_of m).stops)
-    (next_is : state_of m2 ≡ record (state_of m1) { stops = counted (state_of m1).stops by }) where
-  both_give : state_of m2 ≡ recorded (state_of m) (Passed true wire by (take keep bytes)) (counted (state_of m).stops by)
-  both_give = both m m1 m2 (Passed true wire by some) by below first next_is ∙ ap (λ (l : List ℕ). recorded (state_of m) (Passed true wire by l) (counted (state_of m).stops by)) is_some
+    (next_is : state_of m2 ≡ record (state_of m1) { stops = halted (state_of m1).stops by (state_of m1).now }) where
+  both_give : state_of m2 ≡ recorded (state_of m) (Passed true wire by (take keep bytes)) (halted (state_of m).stops by (m.moment + 1))
+  both_give = both m m1 m2 (Passed true wire by some) by below first next_is ∙ ap (λ (l : List ℕ). recorded (state_of m) (Passed true wire by l) (halted (state_of m).stops by (m.moment + 1))) is_some
 
   pub halted_bytes_given : given_now (mem_view m2) wire by ≡ given_now (mem_view m) wire by ++ take keep bytes
   halted_bytes_given =
       subst (λ (x : State). given_now (view_of x) wire by ≡ given_now (mem_view m) wire by ++ take keep bytes) (sym both_give)
-      (passed_there (state_of m) (counted (state_of m).stops by) (state_of m).waiting true wire by (take keep bytes) (in_full m below) m.lost_by_now)
+      (passed_there (state_of m) (halted (state_of m).stops by (m.moment + 1)) (state_of m).waiting true wire by (take keep bytes) (in_full m below) m.lost_by_now)
 
   pub halted_give : GivesOn wire by bytes (mem_view m) (mem_view m2) Halted
   halted_give =
       let s = state_of m in
       let full = in_full m below in
-      let stops = counted s.stops by in
+      let stops = halted s.stops by (m.moment + 1) in
       let part = take keep bytes in
       subst (λ (x : State). GivesOn wire by bytes (mem_view m) (view_of x) Halted) (sym both_give)
       (record {
@@ -243,11 +243,11 @@ module _ (m m1 m2 : MemPlant) (wire by keep : ℕ) (bytes some : List ℕ) (belo
       })
 
 module _ (m m1 m2 : MemPlant) (by : ℕ) (below : m.moment < m.kept.acts) (first : state_of m1 ≡ recorded (state_of m) Idle (state_of m).stops)
-    (next_is : state_of m2 ≡ record (state_of m1) { stops = counted (state_of m1).stops by }) where
+    (next_is : state_of m2 ≡ record (state_of m1) { stops = halted (state_of m1).stops by (state_of m1).now }) where
   pub halted_take : (wire member : ℕ) (into : List ℕ) → Takes wire member (mem_view m) (mem_view m2) into TookHalted
   halted_take wire member into =
       subst (λ (x : State). Takes wire member (mem_view m) (view_of x) into TookHalted) (sym (both m m1 m2 Idle by below first next_is))
-      (take_halted (state_of m) (counted (state_of m).stops by) (in_full m below) m.lost_by_now wire member into)
+      (take_halted (state_of m) (halted (state_of m).stops by (m.moment + 1)) (in_full m below) m.lost_by_now wire member into)
 
 -- a fault, and a device that is lost
 module _ (m m' : MemPlant) (small : m.moment ≤ top) where

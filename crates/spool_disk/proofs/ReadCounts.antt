@@ -9,7 +9,7 @@ use Rattle.spool_disk.specs.Courses.{deed_left}
 use Rattle.spool_disk.specs.Deeds.{Deed, Idle, Said, is_read, idled}
 use Rattle.spool_disk.specs.MemView.{state_of, SameReads}
 use Rattle.spool_disk.specs.Places.{slot_of}
-use Rattle.spool_disk.specs.State.{State, counted, recorded}
+use Rattle.spool_disk.specs.State.{State, halted, recorded}
 use Rattle.spool_disk.proofs.Entering.{length-deeds}
 use Rattle.spool_disk.proofs.MemActs.{in_full, halted_state}
 
@@ -41,7 +41,7 @@ reads_recorded m m' e dev below is none t le =
 
 -- an act that halted and is no read adds no read
 pub reads_halted : (m m1 m2 : MemPlant) (e : Deed) (by : ℕ) (dev : Dev) → m.moment < m.kept.acts → state_of m1 ≡ recorded (state_of m) e (state_of m).stops
-    → state_of m2 ≡ record (state_of m1) { stops = counted (state_of m1).stops by } → is_read (slot_of dev) e ≡ false → SameReads dev m m2
+    → state_of m2 ≡ record (state_of m1) { stops = halted (state_of m1).stops by (state_of m1).now } → is_read (slot_of dev) e ≡ false → SameReads dev m m2
 reads_halted m m1 m2 e by dev below first next_is none =
     reads_recorded m m2 e dev below (ap (λ (x : State). x.deeds) (halted_state (state_of m) (state_of m1) (state_of m2) e by first next_is)) none
 

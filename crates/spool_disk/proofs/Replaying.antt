@@ -2,7 +2,7 @@
 use Rattle.std.proofs.Common.{◌≡◌, inr, ℕ, zero, suc, ◌+◌, ◌-◌, ◌≤◌, ◌<◌, Bool, true, false, if◌then◌else◌, List, [], ◌∷◌, ◌++◌, length, take, drop, get_or, refl, subst, sym, ◌∙◌, ap, arith, length-append}
 use Rattle.std.proofs.lemmas.List.{drop_all, take_more, drop-drop, drop-append-le, length-take-le, take-append-drop}
 use Rattle.spool_disk.specs.declared.entry.Entry.{Entry}
-use Rattle.spool_disk.specs.View.{Disk, slice}
+use Rattle.spool_plant.specs.View.{Disk, slice}
 use Rattle.spool_disk.specs.Deeds.{Deed, effect, after, gather, lines_of, line_on}
 use Rattle.spool_disk.specs.DeedLaws.{after_push, gather_append}
 use Rattle.spool_disk.specs.Entries.{kept_by, kept_in, deed_of, deeds_of}

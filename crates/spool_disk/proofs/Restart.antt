@@ -3,12 +3,12 @@ use Rattle.std.proofs.Common.{subst, ◌≡◌, ◌⊎◌, inl, inr, ⊎_elim, �
 use Rattle.std.proofs.lemmas.Bool.Decides.{nat_tests}
 use Rattle.std.specs.declared.alloc.Global.{Global}
 use Rattle.spool_disk.specs.declared.base.Base.{Base}
-use Rattle.spool_disk.specs.declared.choice.Choice.{Choice}
+use Rattle.spool_plant.specs.declared.choice.Choice.{Choice}
 use Rattle.spool_disk.specs.declared.entry.Entry.{Entry}
 use Rattle.spool_disk.specs.declared.health.Health.{Health}
 use Rattle.spool_disk.specs.declared.sizes.Sizes.{Sizes}
 use Rattle.std.proofs.lemmas.List.{append-nil}
-use Rattle.spool_disk.specs.View.{View, Disk, Line}
+use Rattle.spool_plant.specs.View.{View, Disk, Line}
 use Rattle.spool_disk.specs.Standing.{bytes_at}
 use Rattle.spool_disk.specs.Sizes.{size_in}
 use Rattle.spool_disk.specs.Deeds.{Deed, after, gather, line_on, lines_of, moved}
@@ -93,7 +93,7 @@ restarted_lost t h = by_test (was_lost h.since t) where
   by_test false = refl
 
 -- a plant that has made no act
-module _ (base : Base) (parts : List Health) (s : State) (now : s.now ≡ 0) (based : s.base ≡ base) (deeds : s.deeds ≡ []) (part : s.parts ≡ parts) (stops : s.stops ≡ replicate 256 0) (loses : s.loses ≡ replicate 258 0) (arms : s.arms ≡ replicate 256 0) (waits : (w : ℕ) → s.waiting w ≡ [])
+module _ (base : Base) (parts : List Health) (s : State) (now : s.now ≡ 0) (based : s.base ≡ base) (deeds : s.deeds ≡ []) (part : s.parts ≡ parts) (stops : s.stops.counts ≡ replicate 256 0) (halt : s.stops.last ≡ 0) (loses : s.loses ≡ replicate 258 0) (arms : s.arms ≡ replicate 256 0) (waits : (w : ℕ) → s.waiting w ≡ [])
     (none : (k : ℕ) → (health_at parts k).faults ≡ 0) where
   first_disk : (slot : ℕ) → disk_in s s.now slot ≡ shown (fresh base slot) (was_lost (health_at parts (4 * slot)).since 0)
   first_disk slot =
@@ -115,12 +115,13 @@ module _ (base : Base) (parts : List Health) (s : State) (now : s.now ≡ 0) (ba
       now = now;
       unsynced = λ d. ap (λ (x : Disk). x.unsynced) (first_disk (slot_of d));
       faults = λ p. ap (λ (l : List Health). (health_at l (place_of p)).faults) part ∙ none (place_of p);
-      stops = λ m. zeros_at 256 m s.stops stops;
+      stops = λ m. zeros_at 256 m s.stops.counts stops;
       loses = λ d. zeros_at 258 (slot_of d) s.loses loses;
       waiting = waits;
       taken = λ w m. none_done (moved false w m) s.now;
       given = λ w m. none_done (moved true w m) s.now;
       arms = λ m. zeros_at 256 m s.arms arms;
+      halt = halt;
     };
     bytes = λ d. ap (λ (x : Disk). x.bytes) (first_disk (slot_of d));
     disk = λ d. ap (λ (x : Disk). x.lost) (first_disk (slot_of d));

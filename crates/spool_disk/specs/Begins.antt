@@ -1,10 +1,10 @@
 -- What a plant in memory shows at first, and after a crash.
 use Rattle.std.specs.Prelude.{◌≡◌, ℕ, ◌+◌, ◌*◌, false, if◌then◌else◌, Some, None, replicate, List, []}
 use Rattle.mas_types.specs.declared.ids.Dev.{Dev}
-use Rattle.spool_disk.specs.declared.plant.Part.{Part}
-use Rattle.spool_disk.specs.declared.plant.Part.TheVariants.{Disk as DiskPart}
+use Rattle.spool_plant.specs.declared.plant.Part.{Part}
+use Rattle.spool_plant.specs.declared.plant.Part.TheVariants.{Disk as DiskPart}
 use Rattle.spool_disk.specs.declared.base.Base.{Base}
-use Rattle.spool_disk.specs.declared.choice.Choice.{Choice}
+use Rattle.spool_plant.specs.declared.choice.Choice.{Choice}
 use Rattle.spool_disk.specs.declared.health.Health.{Health}
 use Rattle.spool_disk.specs.declared.sizes.Sizes.{Sizes}
 use Rattle.spool_disk.specs.Health.{was_lost, health_at}
@@ -12,8 +12,8 @@ use Rattle.spool_disk.specs.Sizes.{size_in}
 use Rattle.spool_disk.specs.Standing.{bytes_at}
 use Rattle.spool_disk.specs.Places.{slot_of, place_of}
 use Rattle.spool_disk.specs.State.{first_lines}
-use Rattle.spool_disk.specs.Crash.{LeavesBy}
-use Rattle.spool_disk.specs.View.{View, disk_at, disk_now, taken_now, given_now, IsImage}
+use Rattle.spool_plant.specs.Crash.{LeavesBy}
+use Rattle.spool_plant.specs.View.{View, disk_at, disk_now, taken_now, given_now, IsImage}
 
 -- no act was made, every count is 0, and nothing waits or has moved on a wire
 pub record IsNew (v : View) : Type 0 where
@@ -26,6 +26,7 @@ pub record IsNew (v : View) : Type 0 where
   pub taken : (w m : ℕ) → taken_now v w m ≡ []
   pub given : (w m : ℕ) → given_now v w m ≡ []
   pub arms : (m : ℕ) → v.arms m ≡ 0
+  pub halt : v.halt ≡ 0
 
 -- a part after a crash at a moment
 abbrev pub restarted : ℕ → Health → Health

@@ -1,6 +1,6 @@
 -- What bytes that come on a wire change.
 use Rattle.std.specs.Prelude.{◌≡◌, ◌≢◌, ℕ, List, ◌++◌}
-use Rattle.spool_disk.specs.View.{View}
+use Rattle.spool_plant.specs.View.{View}
 
 -- more bytes wait on a wire, and nothing else has changed
 pub record CameIn (wire : ℕ) (bytes : List ℕ) (old new : View) : Type 0 where

@@ -5,14 +5,14 @@ use Rattle.spool_disk.specs.declared.plan.Planned.{Planned}
 use Rattle.spool_disk.specs.declared.plan.Planned.TheVariants.{Fails, Halts}
 use Rattle.spool_disk.specs.declared.plan.Course.{Course}
 use Rattle.spool_disk.specs.declared.plan.Course.TheVariants.{Go, Fail, Halt}
-use Rattle.spool_disk.specs.declared.plant.Act.{Act}
-use Rattle.spool_disk.specs.declared.plant.Act.TheVariants.{Done, Failed, Halted}
-use Rattle.spool_disk.specs.declared.plant.Fuse.{Fuse}
-use Rattle.spool_disk.specs.declared.plant.Part.{Part}
-use Rattle.spool_disk.specs.declared.plant.Part.TheVariants.{Disk as DiskPart, Console, Printer, Wire}
+use Rattle.spool_plant.specs.declared.plant.Act.{Act}
+use Rattle.spool_plant.specs.declared.plant.Act.TheVariants.{Done, Failed, Halted}
+use Rattle.spool_plant.specs.declared.plant.Fuse.{Fuse}
+use Rattle.spool_plant.specs.declared.plant.Part.{Part}
+use Rattle.spool_plant.specs.declared.plant.Part.TheVariants.{Disk as DiskPart, Console, Printer, Wire}
 use Rattle.spool_disk.specs.Deeds.{Deed, Idle, Said}
 use Rattle.spool_disk.specs.Fuses.{Armed, none_armed, halts_next, burnt, with_fuse}
-use Rattle.spool_disk.specs.View.{View, Line}
+use Rattle.spool_plant.specs.View.{View, Line}
 
 -- What a plant in memory has room for: so many acts and so many bytes in all, and so many bytes more. And what is
 -- planned and armed.

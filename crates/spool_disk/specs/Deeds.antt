@@ -1,6 +1,6 @@
 -- What acts come to.
 use Rattle.std.specs.Prelude.{ℕ, ◌+◌, nat_le, nat_lt, ◌==◌, ◌&&◌, not, if◌then◌else◌, Bool, true, false, List, [], ◌∷◌, ◌++◌, length, take, drop, replicate, Option}
-use Rattle.spool_disk.specs.View.{Disk, Line}
+use Rattle.spool_plant.specs.View.{Disk, Line}
 
 -- An act that a plant recorded. A write has a stretch of a slot, and the bytes that came there; a line has the place of
 -- the console or printer that it stands on; bytes on a wire were given or taken by a member. A renewed device was lost

@@ -1,7 +1,7 @@
 -- Stops that are armed, for each member.
 use Rattle.std.specs.Prelude.{ℕ, ◌-◌, min, nat_lt, ◌==◌, ◌&&◌, ◌||◌, if◌then◌else◌, Bool, List, replicate, slice_index, slice_set}
-use Rattle.spool_disk.specs.declared.plant.Fuse.{Fuse}
-use Rattle.spool_disk.specs.declared.plant.Fuse.TheVariants.{Any, Print}
+use Rattle.spool_plant.specs.declared.plant.Fuse.{Fuse}
+use Rattle.spool_plant.specs.declared.plant.Fuse.TheVariants.{Any, Print}
 
 -- By the member's number, how many acts it makes from now up to the one that halts, and how many prints; 0 where none
 -- is armed.

@@ -1,7 +1,7 @@
 -- What is known of a part.
 use Rattle.std.specs.Prelude.{ℕ, ◌+◌, ◌==◌, nat_le, if◌then◌else◌, Bool, true, false, Option, Some, None, List, slice_index_or}
 use Rattle.spool_disk.specs.declared.health.Health.{Health}
-use Rattle.spool_disk.specs.Acts.{next, top}
+use Rattle.spool_plant.specs.Acts.{next, top}
 
 abbrev pub sound : Health
 sound = record { faults = 0; since = None; lost = false }

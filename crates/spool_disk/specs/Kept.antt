@@ -2,7 +2,7 @@
 use Rattle.std.specs.Prelude.{◌≡◌, ℕ, ◌<◌, false, List, [], Vec}
 use Rattle.std.specs.declared.alloc.Global.{Global}
 use Rattle.spool_disk.specs.declared.base.Base.{Base}
-use Rattle.spool_disk.specs.View.{Disk}
+use Rattle.spool_plant.specs.View.{Disk}
 use Rattle.spool_disk.specs.Sizes.{size_in}
 use Rattle.spool_disk.specs.Standing.{bytes_at}
 use Rattle.spool_disk.specs.Deeds.{Deed, after}

@@ -1,7 +1,7 @@
 -- What a crash after acts leaves at a slot.
 use Rattle.std.specs.Prelude.{ℕ, List}
 use Rattle.spool_disk.specs.declared.base.Base.{Base}
-use Rattle.spool_disk.specs.declared.choice.Choice.{Choice}
+use Rattle.spool_plant.specs.declared.choice.Choice.{Choice}
 use Rattle.spool_disk.specs.Deeds.{Deed, after}
 use Rattle.spool_disk.specs.Kept.{fresh}
 use Rattle.spool_disk.specs.Settled.{Leaves, last_synced}

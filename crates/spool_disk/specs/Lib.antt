@@ -1,5 +1,3 @@
-pub mod View
-pub mod Acts
 pub mod Sizes
 pub mod Standing
 pub mod Deeds
@@ -21,10 +19,8 @@ pub mod Took
 pub mod CameIn
 pub mod MemLaws
 pub mod Failing
-pub mod Crash
 pub mod Settled
 pub mod LeavesAt
 pub mod Begins
 pub mod Whole
-pub mod Source
 pub mod MemSource

@@ -3,8 +3,8 @@ use Rattle.std.proofs.Common.{◌≡◌, ℕ, suc, ◌*◌, ◌≤◌, Bool, tru
 use Rattle.std.proofs.lemmas.List.{drop_all}
 use Rattle.mas_types.specs.declared.ids.Dev.{Dev}
 use Rattle.spool_disk.specs.declared.memory.MemPlant.{MemPlant}
-use Rattle.spool_disk.specs.declared.plant.Part.TheVariants.{Disk as DiskPart}
-use Rattle.spool_disk.specs.View.{disk_at, disk_now}
+use Rattle.spool_plant.specs.declared.plant.Part.TheVariants.{Disk as DiskPart}
+use Rattle.spool_plant.specs.View.{disk_at, disk_now}
 use Rattle.spool_disk.specs.Places.{slot_of}
 use Rattle.spool_disk.specs.declared.entry.Entry.{Entry}
 use Rattle.spool_disk.specs.Deeds.{Deed}

@@ -1,6 +1,6 @@
 -- What a plant in memory shows, what it has room for, and what is planned of it.
 use Rattle.std.specs.Prelude.{◌≡◌, ℕ, ◌-◌, ◌≤◌, Bool, List, drop, filter, length}
-use Rattle.spool_disk.specs.declared.plant.Part.{Part}
+use Rattle.spool_plant.specs.declared.plant.Part.{Part}
 use Rattle.spool_disk.specs.declared.memory.MemPlant.{MemPlant}
 use Rattle.mas_types.specs.declared.ids.Dev.{Dev}
 use Rattle.spool_disk.specs.Deeds.{gather, gives, is_read}
@@ -9,7 +9,7 @@ use Rattle.spool_disk.specs.Places.{slot_of, place_of}
 use Rattle.spool_disk.specs.State.{State, lost_in, view_of}
 use Rattle.spool_disk.specs.Courses.{Book}
 use Rattle.spool_disk.specs.FuseView.{armed_of}
-use Rattle.spool_disk.specs.View.{View}
+use Rattle.spool_plant.specs.View.{View}
 use Rattle.spool_disk.specs.Waiting.{waiting_on}
 
 abbrev pub state_of : MemPlant → State
@@ -18,7 +18,7 @@ state_of m = record {
   base = m.kept.base;
   deeds = deeds_of m.kept.log.items m.kept.arena.items;
   parts = m.counts.parts.items;
-  stops = m.counts.stops.items;
+  stops = record { counts = m.counts.stops.items; last = m.halt };
   loses = m.counts.loses.items;
   arms = m.counts.arms.items;
   waiting = waiting_on m.incoming;

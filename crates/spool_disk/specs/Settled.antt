@@ -1,12 +1,12 @@
 -- What a crash leaves after acts.
 use Rattle.std.specs.Prelude.{◌≡◌, ◌⊎◌, ℕ, ◌==◌, if◌then◌else◌, Bool, true, false, length, replicate, List, [], ◌∷◌, ◌++◌}
-use Rattle.spool_disk.specs.declared.choice.Choice.{Choice}
-use Rattle.spool_disk.specs.declared.choice.Choice.TheVariants.{Old, New, Ones}
+use Rattle.spool_plant.specs.declared.choice.Choice.{Choice}
+use Rattle.spool_plant.specs.declared.choice.Choice.TheVariants.{Old, New, Ones}
 use Rattle.spool_disk.specs.declared.entry.Entry.{Entry}
 use Rattle.spool_disk.specs.declared.entry.Entry.TheVariants.{Idle as EntryIdle, Wrote as EntryWrote, Synced as EntrySynced, Said as EntrySaid, Passed as EntryPassed, Fetched as EntryFetched, Renewed as EntryRenewed}
-use Rattle.spool_disk.specs.View.{Disk}
+use Rattle.spool_plant.specs.View.{Disk}
 use Rattle.spool_disk.specs.Deeds.{Deed, Idle, Wrote, Synced, Said, Passed, Fetched, Renewed, effect}
-use Rattle.spool_disk.specs.Crash.{IsOnes}
+use Rattle.spool_plant.specs.Crash.{IsOnes}
 
 -- the bytes of the last sync, after an act
 abbrev pub synced_by : ℕ → List ℕ → Disk → Deed → List ℕ

@@ -3,23 +3,28 @@ use Rattle.std.specs.Prelude.{ℕ, ◌+◌, ◌*◌, Bool, List, [], ◌∷◌, 
 use Rattle.mas_types.specs.declared.ids.Dev.{Dev}
 use Rattle.spool_disk.specs.declared.base.Base.{Base}
 use Rattle.spool_disk.specs.declared.health.Health.{Health}
-use Rattle.spool_disk.specs.declared.plant.Part.{Part}
-use Rattle.spool_disk.specs.declared.plant.Part.TheVariants.{Disk as DiskPart}
-use Rattle.spool_disk.specs.Acts.{next}
+use Rattle.spool_plant.specs.declared.plant.Part.{Part}
+use Rattle.spool_plant.specs.declared.plant.Part.TheVariants.{Disk as DiskPart}
+use Rattle.spool_plant.specs.Acts.{next}
 use Rattle.spool_disk.specs.Deeds.{Deed, Renewed, after, gather, lines_of, moved, idled}
 use Rattle.spool_disk.specs.Entries.{deeds_of}
 use Rattle.spool_disk.specs.Health.{was_lost, health_at, lost_after, failed_after, renewed_after}
 use Rattle.spool_disk.specs.Kept.{fresh, size_at}
 use Rattle.spool_disk.specs.Places.{slot_of, place_of}
 use Rattle.spool_disk.specs.Renewals.{since_then}
-use Rattle.spool_disk.specs.View.{View, World, Disk, Line}
+use Rattle.spool_plant.specs.View.{View, World, Disk, Line}
+
+-- how often each member was stopped, and the moment behind the last such act
+pub record Halts : Type 0 where
+  pub counts : List ℕ
+  pub last : ℕ
 
 pub record State : Type 0 where
   pub now : ℕ
   pub base : Base
   pub deeds : List Deed
   pub parts : List Health
-  pub stops : List ℕ
+  pub stops : Halts
   pub loses : List ℕ
   pub arms : List ℕ
   pub waiting : ℕ → List ℕ
@@ -61,18 +66,23 @@ view_of s = record {
   size = λ d. size_at s.base (slot_of d);
   lost = λ p. (health_at s.parts (place_of p)).lost;
   faults = λ p. (health_at s.parts (place_of p)).faults;
-  stops = λ n. slice_index s.stops n;
+  stops = λ n. slice_index s.stops.counts n;
   loses = λ d. slice_index s.loses (slot_of d);
   waiting = s.waiting;
   arms = λ n. slice_index s.arms n;
+  halt = s.stops.last;
 }
 
 -- a count one higher
 abbrev pub counted : List ℕ → ℕ → List ℕ
 counted counts at = slice_set counts at (next (slice_index counts at))
 
+-- after an act in which a member was stopped, which ended at a moment
+abbrev pub halted : Halts → ℕ → ℕ → Halts
+halted h by now = record { counts = counted h.counts by; last = now }
+
 -- an act that was recorded, with these stops after it
-abbrev pub recorded : State → Deed → List ℕ → State
+abbrev pub recorded : State → Deed → Halts → State
 recorded s e stops = record {
   now = s.now + 1;
   base = s.base;

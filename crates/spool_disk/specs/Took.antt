@@ -1,9 +1,9 @@
 -- What the acts of a plant in memory answer.
 use Rattle.std.specs.Prelude.{ℕ}
-use Rattle.spool_disk.specs.declared.plant.Act.{Act}
-use Rattle.spool_disk.specs.declared.plant.Act.TheVariants.{Done, Failed, Halted}
-use Rattle.spool_disk.specs.declared.plant.Took.{Took}
-use Rattle.spool_disk.specs.declared.plant.Took.TheVariants.{Bytes, Failed as TookFailed, Halted as TookHalted}
+use Rattle.spool_plant.specs.declared.plant.Act.{Act}
+use Rattle.spool_plant.specs.declared.plant.Act.TheVariants.{Done, Failed, Halted}
+use Rattle.spool_plant.specs.declared.plant.Took.{Took}
+use Rattle.spool_plant.specs.declared.plant.Took.TheVariants.{Bytes, Failed as TookFailed, Halted as TookHalted}
 
 -- a read was done
 abbrev pub IsRead : Act → Type 0

@@ -1,18 +1,18 @@
 //! What a crash leaves of the devices, of the console and of the printers.
 ghost use Rattle.std.specs.Prelude.{◌≡◌, ◌+◌, ◌≤◌, ◌<◌, ◌++◌, ◌∷◌, [], ℕ, List, length, take, drop, IfOk, OnOk, if◌then◌else◌, slice_index, false};
-ghost use Rattle.spool_disk.specs.View.{Disk};
+ghost use Rattle.spool_plant.specs.View.{Disk};
 ghost use Rattle.spool_disk.specs.Deeds.{overwrite, effect, after, lines_of};
 ghost use Rattle.spool_disk.specs.Entries.{kept_by, kept_in, deed_of, deeds_of};
-ghost use Rattle.spool_disk.specs.Crash.{IsOnes, is_in};
+ghost use Rattle.spool_plant.specs.Crash.{IsOnes, is_in};
 ghost use Rattle.spool_disk.specs.Settled.{last_synced, Leaves, is_sync, IsQuiet, EndsSynced};
 ghost use Rattle.spool_disk.specs.Standing.{bytes_at};
 ghost use Rattle.spool_disk.specs.State.{first_lines};
 ghost use Rattle.spool_disk.specs.LeavesAt.{LeavesAt};
 
 use crate::base::Base;
-use crate::choice::Choice;
 use crate::entry::Entry;
 use crate::record::{clear, copy};
+use spool_plant::Choice;
 use std::alloc::{AllocError, Global};
 
 // Puts bytes over others, if they fit.

@@ -2,8 +2,8 @@
 ghost use Rattle.std.specs.Prelude.{◌≡◌, ◌<◌, true};
 ghost use Rattle.spool_disk.specs.Fuses.{sooner, none_armed, halts_next, to_halt, burnt, with_fuse};
 
-use crate::plant::Fuse;
 use mas_types::MemberId;
+use spool_plant::Fuse;
 
 // The sooner of two stops, where 0 is none.
 fn sooner_of(first: u32, second: u32) -> u32

@@ -1,6 +1,6 @@
 //! What is known of each part, and counts.
 ghost use Rattle.std.specs.Prelude.{◌≡◌, ◌+◌, ◌*◌, ◌<◌, ◌≤◌, ◌∷◌, [], ℕ, length, slice_set, slice_index, IfOk, map, replicate};
-ghost use Rattle.spool_disk.specs.Acts.{next, top};
+ghost use Rattle.spool_plant.specs.Acts.{next, top};
 ghost use Rattle.spool_disk.specs.Begins.{restarted};
 ghost use Rattle.spool_disk.specs.Known.{known_health};
 ghost use Rattle.spool_disk.specs.Health.{sound, health_at, lost_from, lost_after, failed_after, renewed_after};

@@ -1,14 +1,13 @@
 //! A plant in memory, which keeps a record of all acts.
-ghost use Rattle.std.specs.Prelude.{◌≡◌, ◌≢◌, ◌⊎◌, ◌+◌, ◌-◌, ◌≤◌, ◌<◌, ◌∷◌, ◌++◌, ℕ, length, min, slice_index, false, true, is_some, take, vec_capacity, IfOk, IfErr, if◌then◌else◌};
+ghost use Rattle.std.specs.Prelude.{◌≡◌, ◌≢◌, ◌⊎◌, ◌+◌, ◌-◌, ◌≤◌, ◌<◌, ◌++◌, ℕ, length, min, slice_index, false, true, is_some, take, vec_capacity, IfOk, IfErr, if◌then◌else◌};
 ghost use Rattle.mas_types.specs.declared.ids.Dev.{Dev};
 ghost use Rattle.spool_disk.specs.Places.{slot_of, place_of};
-ghost use Rattle.spool_disk.specs.Acts.{next, top};
+ghost use Rattle.spool_plant.specs.Acts.{next, top};
 ghost use Rattle.spool_disk.specs.Health.{health_at, since_of};
 ghost use Rattle.spool_disk.specs.Courses.{plan_at, is_print, as_planned as planned_course};
 ghost use Rattle.spool_disk.specs.Kept.{size_at};
 
 use crate::base::{Base, blank_base};
-use crate::choice::Choice;
 use crate::crash::crashed_base;
 use crate::fuses::Fuses;
 use crate::health::{Counts, Health, crashed_parts, sound_parts};
@@ -18,8 +17,8 @@ use crate::places::{place_number, slot_number};
 use crate::plan::{Course, Plan, Planned};
 use crate::record::Record;
 use crate::sizes::Sizes;
-use crate::{Act, Fuse, Part, Plant, Took};
 use mas_types::{Dev, Lines, List, MemberId, NoMemory};
+use spool_plant::{Act, Choice, Fuse, Part, Plant, Took};
 use std::alloc::{AllocError, Global};
 
 /// How many acts may be planned.
@@ -35,6 +34,8 @@ pub struct MemPlant {
     kept: Record,
     /// The counts of faults, stops, losses and armed calls.
     counts: Counts,
+    /// The moment behind the last act that was halted, 0 where there was none.
+    halt: u64,
     /// The plans that are still to come, at most 64.
     plans: Vec<Plan>,
     /// The stops that are armed.
@@ -83,10 +84,10 @@ impl MemPlant {
     ghost use Rattle.spool_disk.specs.declared.plan.Course.TheVariants.{Go, Halt};
     ghost use Rattle.spool_disk.specs.MemView.{mem_view, mem_book, state_of, SameReads};
     ghost use Rattle.spool_disk.specs.Deeds.{Idle, Wrote, Synced, Said, Passed, Fetched, idled};
-    ghost use Rattle.spool_disk.specs.State.{recorded, counted, failed, lost, renewed};
-    ghost use Rattle.spool_disk.specs.Acts.{Acts};
+    ghost use Rattle.spool_disk.specs.State.{recorded, halted, failed, lost, renewed};
+    ghost use Rattle.spool_plant.specs.Acts.{Acts};
     ghost use Rattle.spool_disk.specs.Failing.{FailsAlone};
-    ghost use Rattle.spool_disk.specs.declared.plant.Act.TheVariants.{Failed};
+    ghost use Rattle.spool_plant.specs.declared.plant.Act.TheVariants.{Failed};
     ghost use Rattle.spool_disk.specs.Courses.{spent, renews_now};
 
     // What becomes of an act with so many bytes to record.
@@ -196,15 +197,16 @@ impl MemPlant {
         self.moment += 1;
     }
 
-    // A stop of a member.
+    // A stop of a member in the act that was made last.
     fn stop(&mut self, by: MemberId)
         ensures state { state_of self.new
-            ≡ record (state_of self.old) { stops = counted (state_of self.old).stops by.0 } }
+            ≡ record (state_of self.old) { stops = halted (state_of self.old).stops by.0 (state_of self.old).now } }
         ensures book { mem_book self.new ≡ mem_book self.old }
-        ensures fits { slice_index (state_of self.old).stops by.0 ≤ top }
-        ensures there { by.0 < length (state_of self.old).stops }
+        ensures fits { slice_index (state_of self.old).stops.counts by.0 ≤ top }
+        ensures there { by.0 < length (state_of self.old).stops.counts }
     {
         self.counts.stop(by.0 as usize);
+        self.halt = self.moment;
     }
 
     // A moment in which nothing is done.
@@ -214,6 +216,7 @@ impl MemPlant {
         ensures base { self.new.kept.base ≡ self.old.kept.base }
         ensures deeds { (state_of self.new).deeds ≡ idled self.old.kept.acts (state_of self.old).deeds }
         ensures counts { self.new.counts ≡ self.old.counts }
+        ensures halt { self.new.halt ≡ self.old.halt }
         ensures incoming { self.new.incoming ≡ self.old.incoming }
         ensures book { mem_book self.new ≡ mem_book self.old }
     {
@@ -266,7 +269,7 @@ fn first(bytes: &[u8], keep: usize) -> &[u8]
 }
 
 impl MemPlant {
-    ghost use Rattle.std.specs.Prelude.{nat_le, ◌==◌, true, false};
+    ghost use Rattle.std.specs.Prelude.{◌==◌, true, false};
     ghost use Rattle.spool_disk.specs.MemView.{mem_book, state_of};
     ghost use Rattle.spool_disk.specs.Deeds.{Idle, Said};
     ghost use Rattle.spool_disk.specs.State.{recorded};
@@ -292,13 +295,13 @@ impl MemPlant {
 
 impl MemPlant {
     ghost use Rattle.spool_disk.specs.MemView.{mem_view, mem_book, mem_lost, mem_reads, mem_given, state_of, SameReads};
-    ghost use Rattle.spool_disk.specs.View.{paper_now};
+    ghost use Rattle.spool_plant.specs.View.{paper_now};
     ghost use Rattle.spool_disk.specs.State.{lines_in};
     ghost use Rattle.spool_disk.specs.CameIn.{CameIn};
     ghost use Rattle.spool_disk.specs.Begins.{BeginsWith, IsCrashed, IsBlank};
     ghost use Rattle.spool_disk.specs.Whole.{whole_lines};
     ghost use Rattle.spool_disk.specs.Courses.{empty_book, with_plan};
-    ghost use Rattle.spool_disk.specs.declared.plant.Part.{Part};
+    ghost use Rattle.spool_plant.specs.declared.plant.Part.{Part};
     ghost use Rattle.spool_disk.specs.declared.plan.Planned.TheVariants.{Fails, Halts};
 
     // A plant that begins so.
@@ -325,6 +328,7 @@ impl MemPlant {
             moment: 0,
             kept,
             counts,
+            halt: 0,
             plans,
             fuses: Fuses::new(),
             incoming,
@@ -452,12 +456,12 @@ impl Plant for MemPlant {
     ghost use Rattle.spool_disk.specs.Took.{IsRead, IfTook};
     ghost use Rattle.spool_disk.specs.MemLaws.{mem_sized, mem_there};
     ghost use Rattle.spool_disk.specs.Courses.{course_of, answer, spent_by, spent_taking, acted, left_of, with_stop, renews_now};
-    ghost use Rattle.spool_disk.specs.Acts.{Acts, Reads, Writes, Syncs, Says, Prints, GivesOn, Takes, FitsInto, act_of, Arms, Renews, RenewsThere, Loses, LosesThere};
-    ghost use Rattle.spool_disk.specs.View.{View, disk_now, paper_now, given_now};
+    ghost use Rattle.spool_plant.specs.Acts.{Acts, Reads, Writes, Syncs, Says, Prints, GivesOn, Takes, FitsInto, act_of, Arms, Renews, RenewsThere, Loses, LosesThere};
+    ghost use Rattle.spool_plant.specs.View.{disk_now, paper_now, given_now};
     ghost use Rattle.spool_disk.specs.Deeds.{overwrite};
     ghost use Rattle.spool_disk.specs.declared.plan.Course.TheVariants.{Go, Fail, Halt};
-    ghost use Rattle.spool_disk.specs.declared.plant.Act.TheVariants.{Done, Failed};
-    ghost use Rattle.spool_disk.specs.declared.plant.Part.TheVariants.{Disk, Console, Printer, Wire};
+    ghost use Rattle.spool_plant.specs.declared.plant.Act.TheVariants.{Done, Failed};
+    ghost use Rattle.spool_plant.specs.declared.plant.Part.TheVariants.{Disk, Console, Printer, Wire};
 
     ghost tells = { Unit {0} };
 

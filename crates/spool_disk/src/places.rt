@@ -2,8 +2,8 @@
 ghost use Rattle.std.specs.Prelude.{◌≡◌, ◌<◌};
 ghost use Rattle.spool_disk.specs.Places.{slot_of, place_of};
 
-use crate::plant::Part;
 use mas_types::Dev;
+use spool_plant::Part;
 
 /// The places of all parts: devices, the console, and a printer and a wire for each byte.
 pub const PLACES: usize = 1032;

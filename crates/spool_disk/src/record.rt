@@ -4,7 +4,7 @@ ghost use Rattle.spool_disk.specs.Deeds.{Idle, Wrote, Synced, Said, Passed, Fetc
 ghost use Rattle.spool_disk.specs.Entries.{kept_by, kept_in, deed_of, deeds_of};
 ghost use Rattle.spool_disk.specs.Standing.{bytes_at};
 ghost use Rattle.spool_disk.specs.Kept.{AreCurrent, fresh, size_at};
-ghost use Rattle.spool_disk.specs.View.{slice};
+ghost use Rattle.spool_plant.specs.View.{slice};
 
 use crate::base::Base;
 use crate::entry::Entry;

@@ -5,12 +5,12 @@ use Rattle.std.proofs.lemmas.List.Elements.{All-cons, All-get_or, All-head, All-
 use Rattle.mas_types.specs.declared.ids.Dev.{Dev}
 use Rattle.mas_types.specs.declared.ids.Dev.TheVariants.{Ckpt1, Ckpt2, Spool}
 use Rattle.mas_types.specs.declared.ids.GroupNo.{GroupNo}
-use Rattle.spool_disk.specs.declared.plant.Part.{Part}
-use Rattle.spool_disk.specs.declared.plant.Act.{Act}
-use Rattle.spool_disk.specs.declared.plant.Act.TheVariants.{Done, Failed, Halted}
-use Rattle.spool_disk.specs.declared.plant.Part.TheVariants.{Disk as DiskPart}
-use Rattle.spool_disk.specs.View.{View, World, Disk, Stretch, Avoids, disk_at, disk_now}
-use Rattle.spool_disk.specs.Acts.{Acts, Reads, ReadBy, Syncs, Synced, OnDevice, IsLostAfter, Untouched, top}
+use Rattle.spool_plant.specs.declared.plant.Part.{Part}
+use Rattle.spool_plant.specs.declared.plant.Act.{Act}
+use Rattle.spool_plant.specs.declared.plant.Act.TheVariants.{Done, Failed, Halted}
+use Rattle.spool_plant.specs.declared.plant.Part.TheVariants.{Disk as DiskPart}
+use Rattle.spool_plant.specs.View.{View, World, Disk, Stretch, Avoids, disk_at, disk_now}
+use Rattle.spool_plant.specs.Acts.{Acts, Reads, ReadBy, Syncs, Synced, OnDevice, IsLostAfter, Untouched, top}
 use Rattle.ckpt_copy.specs.Changes.{NoMore}
 use Rattle.ckpt_copy.specs.Meanwhile.{Meanwhile, SameSides}
 use Rattle.ckpt_copy.specs.Moments.{either_way, goes_on, goes_none, meanwhile_one, sides_none, sides_on}
@@ -156,14 +156,15 @@ module _ (old mid new : View) where
 -- WHAT READS OF GROUPS SPARE
 
 pub spares_none : (by per : ℕ) (groups : List GroupNo) (v : View) → SparesOthers by per groups false v v
-spares_none by per groups v = record { lost = λ p else. refl; faults = λ p else. refl; stops = λ m why. refl }
+spares_none by per groups v = record { lost = λ p else. refl; faults = λ p else. refl; stops = λ m why. refl; at_halt = λ is. absurd (cc) }
 
 -- an act on the volume of a group
-pub spares_act : (by per : ℕ) (g : GroupNo) (stopped : Bool) (old new : View) (act : Act) → (stopped ≡ false → act ≢ Halted) → Acts by (DiskPart (Spool (volume_of per g))) old new act → SparesOthers by per (g ∷ []) stopped old new
-spares_act by per g stopped old new act why acts = record {
+pub spares_act : (by per : ℕ) (g : GroupNo) (stopped : Bool) (old new : View) (act : Act) → (stopped ≡ false → act ≢ Halted) → (stopped ≡ true → act ≡ Halted) → Acts by (DiskPart (Spool (volume_of per g))) old new act → SparesOthers by per (g ∷ []) stopped old new
+spares_act by per g stopped old new act why so acts = record {
   lost = λ p else. acts.else_lost p (inl (apart p else));
   faults = λ p else. acts.else_faults p (inl (apart p else));
   stops = λ m other. acts.no_other_stop m (⊎_elim inl (λ none. inr (why none)) other);
+  at_halt = λ is. acts.at_halt (so is);
 } where
   apart : (p : Part) → IsElsewhere per (g ∷ []) p → p ≢ DiskPart (Spool (volume_of per g))
   apart p else = All-head (λ h. p ≢ DiskPart (Spool (volume_of per h))) g [] else
@@ -175,6 +176,7 @@ spares_then by per groups i d stopped old mid new there x y = record {
   lost = λ p else. y.lost p (one p else) ∙ x.lost p else;
   faults = λ p else. y.faults p (one p else) ∙ x.faults p else;
   stops = λ m why. y.stops m why ∙ x.stops m (inr refl);
+  at_halt = y.at_halt;
 } where
   one : (p : Part) → IsElsewhere per groups p → IsElsewhere per (get_or groups i d ∷ []) p
   one p else =

@@ -11,9 +11,9 @@ use Rattle.mas_types.specs.declared.ids.Dev.TheVariants.{Spool}
 use Rattle.mas_types.specs.Fit.{AreLines, is_text_line}
 use Rattle.mas_types.specs.Limits.{line_bytes, page_bytes}
 use Rattle.mas_types.specs.Records.{HoldsNoRecords, is_record, records_in}
-use Rattle.spool_disk.specs.Acts.{Goes}
-use Rattle.spool_disk.specs.View.{View, disk_now, slice}
-use Rattle.spool_disk.specs.declared.plant.Part.TheVariants.{Disk as DiskPart}
+use Rattle.spool_plant.specs.Acts.{Goes}
+use Rattle.spool_plant.specs.View.{View, disk_now, slice}
+use Rattle.spool_plant.specs.declared.plant.Part.TheVariants.{Disk as DiskPart}
 use Rattle.spool_text.specs.Laws.{ReadsWhatIsHeld}
 use Rattle.spool_volumes.specs.Volumes.{bytes_unless, volume_of, start_of, page_of, volumes_now, IsPlaced, IsSteady}
 use Rattle.spool_volumes.specs.Looks.{volumes_shown, lie_on_lost, LooksAt}

@@ -4,7 +4,7 @@ use Rattle.mas_types.specs.declared.ids.GroupNo.{GroupNo}
 use Rattle.mas_types.specs.declared.jobs.Text.TheVariants.{Whole}
 use Rattle.mas_types.specs.Fit.{AreLines}
 use Rattle.mas_types.specs.Limits.{page_bytes}
-use Rattle.spool_disk.specs.View.{Disk, IsImage}
+use Rattle.spool_plant.specs.View.{Disk, IsImage}
 use Rattle.ckpt_copy.specs.Has.{Has}
 use Rattle.spool_text.specs.Texts.{packed}
 use Rattle.spool_volumes.specs.Volumes.{Volumes, volume_of, start_of, page_of}

@@ -4,10 +4,10 @@ use Rattle.std.specs.List.{list_any}
 use Rattle.mas_types.specs.declared.ids.Dev.{Dev}
 use Rattle.mas_types.specs.declared.ids.Dev.TheVariants.{Ckpt1, Ckpt2, Spool}
 use Rattle.mas_types.specs.declared.ids.GroupNo.{GroupNo}
-use Rattle.spool_disk.specs.declared.plant.Part.{Part}
-use Rattle.spool_disk.specs.declared.plant.Part.TheVariants.{Disk as DiskPart}
-use Rattle.spool_disk.specs.View.{View, disk_at, disk_now, Throughout}
-use Rattle.spool_disk.specs.Acts.{Goes}
+use Rattle.spool_plant.specs.declared.plant.Part.{Part}
+use Rattle.spool_plant.specs.declared.plant.Part.TheVariants.{Disk as DiskPart}
+use Rattle.spool_plant.specs.View.{View, disk_at, disk_now, Throughout}
+use Rattle.spool_plant.specs.Acts.{Goes}
 use Rattle.ckpt_copy.specs.Changes.{NoMore}
 use Rattle.ckpt_copy.specs.Meanwhile.{SameSides}
 use Rattle.spool_volumes.specs.Volumes.{Volumes, volume_of}
@@ -51,6 +51,7 @@ pub record SparesOthers (by per : ℕ) (groups : List GroupNo) (stopped : Bool) 
   pub lost : (p : Part) → IsElsewhere per groups p → new.lost p ≡ old.lost p
   pub faults : (p : Part) → IsElsewhere per groups p → new.faults p ≡ old.faults p
   pub stops : (m : ℕ) → (m ≢ by) ⊎ (stopped ≡ false) → new.stops m ≡ old.stops m
+  pub at_halt : stopped ≡ true → new.halt ≡ new.now
 
 -- the member was stopped in a read
 abbrev pub read_stopped : {T : Type 0} → Result T ReadError → Bool

@@ -5,8 +5,8 @@ use Rattle.mas_types.specs.declared.queues.Config.{Config}
 use Rattle.mas_types.specs.declared.ids.Dev.{Dev}
 use Rattle.mas_types.specs.declared.ids.Dev.TheVariants.{Spool}
 use Rattle.mas_types.specs.Limits.{page_bytes}
-use Rattle.spool_disk.specs.declared.plant.Part.TheVariants.{Disk as DiskPart}
-use Rattle.spool_disk.specs.View.{View, disk_now, slice}
+use Rattle.spool_plant.specs.declared.plant.Part.TheVariants.{Disk as DiskPart}
+use Rattle.spool_plant.specs.View.{View, disk_now, slice}
 
 -- what is left of each volume, by its number counted from 1: its bytes, or nothing of a lost one
 abbrev pub Volumes : Type 0

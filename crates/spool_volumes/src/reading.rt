@@ -4,8 +4,8 @@ ghost use Rattle.mas_types.specs.declared.ids.Dev.TheVariants.{Spool};
 ghost use Rattle.mas_types.specs.Limits.{page_bytes};
 ghost use Rattle.mas_types.specs.Queue.{line_count};
 ghost use Rattle.mas_types.specs.Records.{is_record};
-ghost use Rattle.spool_disk.specs.Acts.{Rose};
-ghost use Rattle.spool_disk.specs.declared.plant.Part.TheVariants.{Disk};
+ghost use Rattle.spool_plant.specs.Acts.{Rose};
+ghost use Rattle.spool_plant.specs.declared.plant.Part.TheVariants.{Disk};
 ghost use Rattle.spool_volumes.specs.Volumes.{page_of, volume_of, volumes_now, IsPlaced, IsSteady};
 ghost use Rattle.spool_volumes.specs.Looks.{volumes_shown, lie_on_lost, LooksAt, SparesOthers, read_stopped};
 ghost use Rattle.spool_volumes.specs.Texts.{last_of, records_on, text_of, whole_text, Adds, IsLimited};
@@ -13,7 +13,7 @@ ghost use Rattle.spool_volumes.specs.declared.reading.ReadError.TheVariants.{Hal
 
 use mas_types::limits::PAGE_BYTES;
 use mas_types::{Dev, GroupNo, Lines, MemberId, NoMemory, Page, Text};
-use spool_disk::{Act, Part, Plant};
+use spool_plant::{Act, Part, Plant};
 use spool_text::{TextNo, law_of_reading, unpack};
 use std::alloc::Global;
 

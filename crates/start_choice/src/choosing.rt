@@ -3,7 +3,7 @@ ghost use Rattle.std.specs.Prelude.{◌≡◌, IfOk};
 ghost use Rattle.start_choice.specs.Choosing.{IsJudged, IsFew, HasFew, is_lower, started, alone, chosen, goes};
 
 use crate::sound_pages::usable;
-use ckpt_pages::Tables;
+use ckpt_tables::Tables;
 use duplex_pair::{Look, pages_level};
 use mas_complex::fits;
 use mas_types::{CopyState, Dev, List, NoMemory, Page};

@@ -1,9 +1,10 @@
 //! Pages that a start may begin with.
 ghost use Rattle.std.specs.Prelude.{◌≡◌, true, false, IfOk, IfSome, IfNone};
-ghost use Rattle.ckpt_pages.specs.Shape.{HasShape};
+ghost use Rattle.ckpt_tables.specs.Shape.{HasShape};
 ghost use Rattle.start_choice.specs.Usable.{IsUsable, AreOf, MayStart};
 
-use ckpt_pages::{PageNo, Tables, decode, first_fault};
+use ckpt_pages::{PageNo, decode, first_fault};
+use ckpt_tables::Tables;
 use duplex_pair::pages_level;
 use mas_types::{NoMemory, Page};
 use std::alloc::Global;

@@ -4,11 +4,11 @@ use Rattle.mas_types.specs.declared.ids.Dev.{Dev}
 use Rattle.mas_types.specs.declared.ids.Dev.TheVariants.{Ckpt1, Ckpt2, Spool}
 use Rattle.mas_types.specs.declared.ids.Page.{Page}
 use Rattle.mas_types.specs.declared.queues.Queue.{Queue}
-use Rattle.spool_disk.specs.declared.plant.Part.TheVariants.{Disk as DiskPart}
-use Rattle.spool_disk.specs.View.{View, World, Disk, disk_now}
-use Rattle.spool_disk.specs.Acts.{Goes, top}
+use Rattle.spool_plant.specs.declared.plant.Part.TheVariants.{Disk as DiskPart}
+use Rattle.spool_plant.specs.View.{View, World, Disk, disk_now}
+use Rattle.spool_plant.specs.Acts.{Goes, top}
 use Rattle.ckpt_copy.specs.Pages.{bytes_of}
-use Rattle.ckpt_pages.specs.declared.tables.Tables.{Tables}
+use Rattle.ckpt_tables.specs.declared.tables.Tables.{Tables}
 use Rattle.ckpt_pages.specs.Checkpoints.{IsCheckpoint}
 use Rattle.duplex_pair.specs.declared.errors.PairNo.{PairNo}
 use Rattle.duplex_pair.specs.declared.errors.PairNo.TheVariants.{BothLost, Halted}
@@ -16,7 +16,7 @@ use Rattle.duplex_pair.specs.Halves.{IsBothLost, IsGone}
 use Rattle.ckpt_places.specs.declared.places.Place.TheVariants.{Before}
 use Rattle.mas_complex.specs.Crash.{setting, OneCopy}
 use Rattle.ckpt_pages.specs.Sound.{AreSound}
-use Rattle.queue_tables.specs.Telling.{Tell}
+use Rattle.queue_telling.specs.Telling.{Tell}
 use Rattle.queue_tables.proofs.OrderLemmas.{sound_orders}
 use Rattle.mas_complex.specs.Meaning.{StandFor}
 use Rattle.start_choice.specs.declared.choosing.Start.{Start}

@@ -3,8 +3,8 @@ use Rattle.std.proofs.Common.{◌≡◌, ◌⊎◌, ℕ, Bool, true, false, List
 use Rattle.mas_types.specs.declared.ids.Dev.{Dev}
 use Rattle.mas_types.specs.declared.ids.Dev.TheVariants.{Ckpt1, Ckpt2}
 use Rattle.mas_types.specs.declared.ids.Page.{Page}
-use Rattle.spool_disk.specs.View.{View, Disk, disk_now}
-use Rattle.spool_disk.specs.Acts.{Goes}
+use Rattle.spool_plant.specs.View.{View, Disk, disk_now}
+use Rattle.spool_plant.specs.Acts.{Goes}
 use Rattle.ckpt_copy.specs.Pages.{bytes_of}
 use Rattle.duplex_pair.specs.Halves.{IsGone}
 use Rattle.start_choice.specs.declared.choosing.Start.{Start}

@@ -6,8 +6,8 @@ use Rattle.mas_types.specs.declared.jobs.Job.{Job}
 use Rattle.mas_types.specs.declared.jobs.Output.{Output as QueueOutput}
 use Rattle.mas_types.specs.declared.queues.Queue.{Queue}
 use Rattle.mas_types.specs.declared.queues.Thing.TheVariants.{Deck, Output}
-use Rattle.spool_disk.specs.declared.plant.Part.TheVariants.{Disk as DiskPart}
-use Rattle.spool_disk.specs.View.{View, World, Disk, disk_at, disk_now}
+use Rattle.spool_plant.specs.declared.plant.Part.TheVariants.{Disk as DiskPart}
+use Rattle.spool_plant.specs.View.{View, World, Disk, disk_at, disk_now}
 use Rattle.ckpt_copy.specs.Changes.{NoMore}
 use Rattle.ckpt_copy.specs.Moments.{either_way, goes_on, sides_on}
 use Rattle.ckpt_copy.specs.Pages.{bytes_of}

@@ -23,11 +23,11 @@ use Rattle.mas_types.specs.Queue.{in_input, line_count}
 use Rattle.mas_types.specs.Sound.{IsSound, IsSoundJob, IsSoundOutput, is_busy_right, is_owner_there, is_there, may_be_busy, may_have_outputs}
 use Rattle.lay_bytes.specs.declared.records.JobRec.{JobRec}
 use Rattle.lay_bytes.specs.declared.records.OutRec.{OutRec}
-use Rattle.ckpt_pages.specs.declared.tables.Tables.{Tables}
+use Rattle.ckpt_tables.specs.declared.tables.Tables.{Tables}
 use Rattle.ckpt_pages.proofs.SlotLists.{any_map, distinct_map}
 use Rattle.job_queue.specs.Jobs as jobs
 use Rattle.output_queue.specs.Outputs as outputs
-use Rattle.queue_tables.specs.Telling.{Tell, TellSound}
+use Rattle.queue_telling.specs.Telling.{Tell, TellSound}
 use Rattle.spool_volumes.specs.Texts.{IsLimited}
 
 -- LISTS THAT SHOW THE SAME

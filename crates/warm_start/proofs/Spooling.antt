@@ -18,11 +18,11 @@ use Rattle.mas_types.specs.declared.queues.Thing.TheVariants.{Deck, Output}
 use Rattle.mas_types.specs.Fit.{IsConfig}
 use Rattle.mas_types.specs.Limits.{page_bytes}
 use Rattle.mas_types.specs.Queue.{line_count}
-use Rattle.spool_disk.specs.declared.plant.Act.{Act}
-use Rattle.spool_disk.specs.declared.plant.Act.TheVariants.{Done, Failed, Halted}
-use Rattle.spool_disk.specs.declared.plant.Part.TheVariants.{Disk as DiskPart}
-use Rattle.spool_disk.specs.View.{View, Disk, Stretch, Avoids, disk_now, slice}
-use Rattle.spool_disk.specs.Acts.{Acts, Goes, Syncs, Synced}
+use Rattle.spool_plant.specs.declared.plant.Act.{Act}
+use Rattle.spool_plant.specs.declared.plant.Act.TheVariants.{Done, Failed, Halted}
+use Rattle.spool_plant.specs.declared.plant.Part.TheVariants.{Disk as DiskPart}
+use Rattle.spool_plant.specs.View.{View, Disk, Stretch, Avoids, disk_now, slice}
+use Rattle.spool_plant.specs.Acts.{Acts, Goes, Syncs, Synced}
 use Rattle.ckpt_copy.specs.Moments.{goes_none}
 use Rattle.lay_bytes.specs.declared.records.JobRec.{JobRec}
 use Rattle.lay_bytes.specs.declared.records.OutRec.{OutRec}

@@ -6,14 +6,14 @@ use Rattle.mas_types.specs.declared.ids.Page.{Page}
 use Rattle.mas_types.specs.declared.answers.CopyState.{CopyState}
 use Rattle.mas_types.specs.declared.answers.CopyState.TheVariants as state
 use Rattle.mas_types.specs.declared.queues.Queue.{Queue}
-use Rattle.spool_disk.specs.declared.plant.Part.{Part}
-use Rattle.spool_disk.specs.declared.plant.Part.TheVariants.{Disk as DiskPart}
-use Rattle.spool_disk.specs.View.{View, disk_now}
-use Rattle.spool_disk.specs.Acts.{Goes, Rose}
+use Rattle.spool_plant.specs.declared.plant.Part.{Part}
+use Rattle.spool_plant.specs.declared.plant.Part.TheVariants.{Disk as DiskPart}
+use Rattle.spool_plant.specs.View.{View, disk_now}
+use Rattle.spool_plant.specs.Acts.{Goes, Rose}
 use Rattle.ckpt_copy.specs.Pages.{bytes_of}
-use Rattle.ckpt_pages.specs.declared.tables.Tables.{Tables}
+use Rattle.ckpt_tables.specs.declared.tables.Tables.{Tables}
 use Rattle.ckpt_pages.specs.QueueOf.{queue_of}
-use Rattle.queue_tables.specs.Telling.{Tell}
+use Rattle.queue_telling.specs.Telling.{Tell}
 use Rattle.duplex_pair.specs.declared.errors.Look.{Look}
 use Rattle.duplex_pair.specs.declared.errors.Look.TheVariants as look
 use Rattle.duplex_pair.specs.Finds.{best}

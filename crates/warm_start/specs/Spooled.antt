@@ -5,7 +5,7 @@ use Rattle.mas_types.specs.declared.jobs.Text.{Text}
 use Rattle.mas_types.specs.declared.queues.Queue.{Queue}
 use Rattle.mas_types.specs.declared.queues.Thing.TheVariants.{Deck, Output}
 use Rattle.mas_types.specs.Queue.{line_count}
-use Rattle.spool_disk.specs.View.{View}
+use Rattle.spool_plant.specs.View.{View}
 use Rattle.track_groups.specs.Places.{groups_of}
 use Rattle.spool_volumes.specs.Volumes.{volumes_now}
 use Rattle.spool_volumes.specs.Texts.{records_on, text_of}

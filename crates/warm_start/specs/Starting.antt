@@ -9,16 +9,16 @@ use Rattle.mas_types.specs.declared.queues.Config.{Config}
 use Rattle.mas_types.specs.declared.queues.Queue.{Queue}
 use Rattle.mas_types.specs.Limits.{page_bytes}
 use Rattle.mas_types.specs.Sound.{IsSound}
-use Rattle.spool_disk.specs.declared.plant.Part.TheVariants.{Disk as DiskPart}
-use Rattle.spool_disk.specs.View.{View, Disk, IsImage, LeavesOnly, Throughout, disk_at, disk_now}
-use Rattle.spool_disk.specs.Acts.{Goes, Rose, next, top}
+use Rattle.spool_plant.specs.declared.plant.Part.TheVariants.{Disk as DiskPart}
+use Rattle.spool_plant.specs.View.{View, Disk, IsImage, LeavesOnly, Throughout, disk_at, disk_now}
+use Rattle.spool_plant.specs.Acts.{Goes, Rose, next, top}
 use Rattle.ckpt_copy.specs.Pages.{bytes_of, level}
-use Rattle.ckpt_pages.specs.declared.tables.Tables.{Tables}
+use Rattle.ckpt_tables.specs.declared.tables.Tables.{Tables}
 use Rattle.ckpt_pages.specs.Given.{levels_given}
 use Rattle.duplex_pair.specs.Halves.{SomeAlive}
 use Rattle.duplex_pair.specs.Looks.{WasLost}
 use Rattle.spool_volumes.specs.Volumes.{IsSteady, AreRoomy}
-use Rattle.queue_tables.specs.Telling.{Tell}
+use Rattle.queue_telling.specs.Telling.{Tell}
 use Rattle.ckpt_copy.specs.Changes.{NoMore}
 use Rattle.ckpt_copy.specs.Meanwhile.{SameSides}
 use Rattle.duplex_pair.specs.Both.{BothMeanwhile}

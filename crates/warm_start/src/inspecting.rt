@@ -12,7 +12,7 @@ use ckpt_pages::law_of_checkpoints;
 use duplex_pair::{Look, Pair, better_of};
 use mas_complex::Steady;
 use mas_types::{CopyState, Dev, List, Page, Queue};
-use spool_disk::Plant;
+use spool_plant::Plant;
 use start_choice::StartNo;
 use std::alloc::Global;
 

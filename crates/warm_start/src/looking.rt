@@ -2,7 +2,7 @@
 ghost use Rattle.std.specs.Prelude.{◌≡◌, IfOk, true, false};
 ghost use Rattle.mas_types.specs.declared.ids.Dev.TheVariants.{Ckpt1, Ckpt2};
 ghost use Rattle.mas_types.specs.Limits.{pages_most};
-ghost use Rattle.spool_disk.specs.View.{disk_now};
+ghost use Rattle.spool_plant.specs.View.{disk_now};
 ghost use Rattle.ckpt_copy.specs.Changes.{NoMore};
 ghost use Rattle.ckpt_copy.specs.Meanwhile.{Meanwhile};
 ghost use Rattle.duplex_pair.specs.Halves.{IsCkpt, pick, other, Acted, IsGone};
@@ -11,11 +11,11 @@ ghost use Rattle.start_choice.specs.Choosing.{HasFew};
 ghost use Rattle.duplex_pair.specs.Looks.{HasRoom};
 ghost use Rattle.warm_start.specs.Judging.{WasLooked, WasJudged, HasSizes, HasRoomBy};
 
-use ckpt_pages::law_of_page_sizes;
+use ckpt_tables::law_of_page_sizes;
 use duplex_pair::{Look, Pair};
 use mas_complex::Steady;
 use mas_types::{Dev, MemberId, NoMemory};
-use spool_disk::Plant;
+use spool_plant::Plant;
 use start_choice::{Judged, judge};
 use std::alloc::Global;
 

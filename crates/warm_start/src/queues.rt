@@ -8,7 +8,7 @@ ghost use Rattle.mas_types.specs.Sorted.{in_order};
 ghost use Rattle.warm_start.specs.Bare.{bare_text, bare_deck, bare_print};
 ghost use Rattle.start_choice.specs.Usable.{StandForWhatIsTold};
 
-use ckpt_pages::Tables;
+use ckpt_tables::Tables;
 use lay_bytes::{JobRec, OutRec};
 use mas_types::{Copied, GroupNo, Job, Lines, List, NoMemory, Output, Queue, Text};
 use std::alloc::{AllocError, Global};

@@ -8,7 +8,7 @@ ghost use Rattle.warm_start.specs.Takeover.{ActsOnCopies, IsRefusedBy, Leaves, T
 use lock_cycle::SeizeNo;
 use mas_complex::{Complex, RecoverNo, Steady};
 use mas_types::{List, MemberId, Page};
-use spool_disk::Plant;
+use spool_plant::Plant;
 use std::alloc::Global;
 
 /// Why nothing was taken over, or nothing was found out of a batch in flight: then it still is.

@@ -1,5 +1,5 @@
 use Rattle.std.proofs.Common.{ℕ, subst}
-use Rattle.spool_disk.specs.View.{disk_now}
+use Rattle.spool_plant.specs.View.{disk_now}
 use Rattle.change_log.specs.LogFound.{IsHeadIn}
 use Rattle.change_log.proofs.LogFinds.{head_read}
 use Rattle.change_log.proofs.finding.read_head.Goals as goal

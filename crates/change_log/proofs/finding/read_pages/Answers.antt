@@ -1,5 +1,5 @@
 use Rattle.std.proofs.Common.{◌+◌, ◌∷◌, [], length, length-append, slice_index, ◌∙◌, ap, ℕ, arith}
-use Rattle.spool_disk.specs.View.{Disk, disk_now}
+use Rattle.spool_plant.specs.View.{Disk, disk_now}
 use Rattle.ckpt_copy.specs.Pages.{bytes_of}
 use Rattle.ckpt_copy.proofs.Causing.{caused_then}
 use Rattle.ckpt_copy.proofs.Calm.{calm_on}

@@ -1,7 +1,7 @@
 use Rattle.std.proofs.Common.{◌≡◌, ℕ, length, slice_index, false}
-use Rattle.spool_disk.specs.View.{disk_now}
-use Rattle.spool_disk.specs.declared.plant.Act.TheVariants.{Done}
-use Rattle.spool_disk.specs.declared.plant.Part.TheVariants.{Disk as DiskPart}
+use Rattle.spool_plant.specs.View.{disk_now}
+use Rattle.spool_plant.specs.declared.plant.Act.TheVariants.{Done}
+use Rattle.spool_plant.specs.declared.plant.Part.TheVariants.{Disk as DiskPart}
 use Rattle.ckpt_copy.specs.Causes.{Caused}
 use Rattle.ckpt_copy.specs.Changes.{NoMore}
 use Rattle.ckpt_copy.specs.Meanwhile.{Meanwhile}

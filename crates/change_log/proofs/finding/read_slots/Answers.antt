@@ -1,5 +1,5 @@
 use Rattle.std.proofs.Common.{◌≡◌, ℕ, ◌<◌, ◌≤◌, All, Option, List, length, take, false, refl, sym, ◌∙◌, ap, subst, arith}
-use Rattle.spool_disk.specs.View.{Disk, disk_now}
+use Rattle.spool_plant.specs.View.{Disk, disk_now}
 use Rattle.ckpt_copy.specs.Changes.{NoMore}
 use Rattle.ckpt_copy.specs.Moments.{meanwhile_none}
 use Rattle.ckpt_copy.proofs.Causing.{caused_then, caused_none}

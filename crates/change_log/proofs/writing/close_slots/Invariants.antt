@@ -1,6 +1,6 @@
 use Rattle.std.proofs.Common.{ℕ, List}
-use Rattle.spool_disk.specs.View.{disk_now}
-use Rattle.spool_disk.specs.declared.plant.Act.TheVariants.{Done}
+use Rattle.spool_plant.specs.View.{disk_now}
+use Rattle.spool_plant.specs.declared.plant.Act.TheVariants.{Done}
 use Rattle.ckpt_copy.specs.Causes.{Caused}
 use Rattle.ckpt_copy.specs.Meanwhile.{Meanwhile}
 use Rattle.ckpt_copy.specs.Reading.{AllRead}

@@ -1,6 +1,6 @@
 use Rattle.std.proofs.Common.{arith, length, ◌≤◌, ◌*◌, ℕ, List, ap, sym, ◌∙◌}
 use Rattle.mas_types.specs.Limits.{page_bytes}
-use Rattle.spool_disk.specs.View.{disk_now}
+use Rattle.spool_plant.specs.View.{disk_now}
 use Rattle.ckpt_copy.specs.Pages.{bytes_of}
 use Rattle.change_log.specs.Logs.{log_size}
 use Rattle.change_log.specs.LogStates.{IsReady}

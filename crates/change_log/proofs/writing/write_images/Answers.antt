@@ -1,6 +1,6 @@
 use Rattle.std.proofs.Common.{ℕ, ◌+◌, ◌*◌, length, slice_index, sym, ◌∙◌, ap, arith}
 use Rattle.mas_types.specs.Limits.{page_bytes}
-use Rattle.spool_disk.specs.View.{disk_now}
+use Rattle.spool_plant.specs.View.{disk_now}
 use Rattle.ckpt_copy.specs.Moments.{meanwhile_end}
 use Rattle.ckpt_copy.specs.Pages.{bytes_of, page_in}
 use Rattle.ckpt_copy.proofs.Causing.{caused_then}

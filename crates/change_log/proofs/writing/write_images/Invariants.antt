@@ -1,7 +1,7 @@
 use Rattle.std.proofs.Common.{◌≡◌, ℕ, ◌+◌, ◌*◌, ◌≤◌, ◌<◌, take, length, slice_index}
 use Rattle.mas_types.specs.Limits.{page_bytes}
-use Rattle.spool_disk.specs.View.{disk_now}
-use Rattle.spool_disk.specs.declared.plant.Act.TheVariants.{Done}
+use Rattle.spool_plant.specs.View.{disk_now}
+use Rattle.spool_plant.specs.declared.plant.Act.TheVariants.{Done}
 use Rattle.ckpt_copy.specs.Causes.{Caused}
 use Rattle.ckpt_copy.specs.Changes.{Spreads}
 use Rattle.ckpt_copy.specs.Meanwhile.{Meanwhile}

@@ -1,6 +1,6 @@
 use Rattle.std.proofs.Common.{◌+◌, ◌*◌, length, sym, ◌∙◌, arith}
 use Rattle.mas_types.specs.Limits.{page_bytes}
-use Rattle.spool_disk.specs.View.{disk_now}
+use Rattle.spool_plant.specs.View.{disk_now}
 use Rattle.ckpt_copy.specs.Moments.{meanwhile_end}
 use Rattle.ckpt_copy.specs.Pages.{bytes_of}
 use Rattle.ckpt_copy.proofs.Spreading.{spread_first, spread_on, spread_sync}

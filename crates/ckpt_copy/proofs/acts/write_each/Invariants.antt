@@ -1,6 +1,6 @@
 use Rattle.std.proofs.Common.{◌≡◌, ◌+◌, ◌*◌, take, length}
-use Rattle.spool_disk.specs.View.{disk_now, slice}
-use Rattle.spool_disk.specs.declared.plant.Act.TheVariants.{Done}
+use Rattle.spool_plant.specs.View.{disk_now, slice}
+use Rattle.spool_plant.specs.declared.plant.Act.TheVariants.{Done}
 use Rattle.mas_types.specs.Limits.{page_bytes}
 use Rattle.ckpt_copy.specs.Causes.{Caused}
 use Rattle.ckpt_copy.specs.Changes.{Spreads}

@@ -1,7 +1,7 @@
 use Rattle.std.proofs.Common.{sym, subst}
 use Rattle.std.proofs.lemmas.Result.{err_from_is_err_and}
 use Rattle.ckpt_pages.specs.declared.header.Header.{Header}
-use Rattle.ckpt_pages.specs.declared.tables.Tables.{Tables}
+use Rattle.ckpt_tables.specs.declared.tables.Tables.{Tables}
 use Rattle.ckpt_pages.specs.Checkpoints.{IsCheckpoint, IsLeastBad}
 use Rattle.ckpt_pages.specs.Slots.{IsBadBehind}
 use Rattle.ckpt_pages.proofs.SlotPageLemmas.{of_reader, err_is, other_page, handed_on}

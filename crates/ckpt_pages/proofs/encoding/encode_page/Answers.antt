@@ -1,5 +1,5 @@
 use Rattle.std.proofs.Common.{◌≡◌, ℕ, sym, subst}
-use Rattle.ckpt_pages.specs.Pages.{page_of}
+use Rattle.ckpt_tables.specs.Pages.{page_of}
 use Rattle.ckpt_pages.proofs.encoding.encode_page.Goals as goal
 
 pub returns-then-page-eq0-clause-spelled : goal.returns-then-page-eq0-clause-spelled

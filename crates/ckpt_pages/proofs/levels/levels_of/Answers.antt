@@ -1,7 +1,7 @@
 use Rattle.std.proofs.Common.{ℕ, List, [], ◌∷◌, ◌++◌, sym, ap, ◌∙◌, add-one, arith}
-use Rattle.ckpt_pages.specs.Shape.{level_in}
+use Rattle.ckpt_tables.specs.Shape.{level_in}
 use Rattle.ckpt_pages.specs.Given.{levels_in}
-use Rattle.ckpt_pages.specs.Pages.{page_in}
+use Rattle.ckpt_tables.specs.Pages.{page_in}
 use Rattle.ckpt_pages.proofs.RunLemmas.{page_at}
 use Rattle.ckpt_pages.proofs.levels.levels_of.Goals as goal
 

@@ -1,6 +1,6 @@
 use Rattle.std.proofs.Common.{◌≡◌}
 use Rattle.ckpt_pages.specs.Given.{levels_in}
-use Rattle.ckpt_pages.specs.Pages.{page_in}
+use Rattle.ckpt_tables.specs.Pages.{page_in}
 use Rattle.ckpt_pages.proofs.levels.levels_of.Given as goal
 
 abbrev pub invariant-loop-page : goal.invariant-loop-page

@@ -1,7 +1,7 @@
 use Rattle.std.proofs.Common.{◌≡◌, ◌+◌, min, List, [], length, drop, subst, arith}
 use Rattle.std.proofs.lemmas.List.{drop_all}
 use Rattle.mas_types.specs.declared.journals.Batch.{Batch}
-use Rattle.spool_disk.specs.Acts.{top}
+use Rattle.spool_plant.specs.Acts.{top}
 use Rattle.mas_complex.specs.Journals.{kept_all}
 use Rattle.mas_complex.proofs.locking.entries_kept.Goals as goal
 

@@ -1,5 +1,5 @@
 use Rattle.std.proofs.Common.{◌≡◌, ◌+◌, ◌≤◌, min, length, drop}
-use Rattle.spool_disk.specs.Acts.{top}
+use Rattle.spool_plant.specs.Acts.{top}
 use Rattle.mas_complex.specs.Journals.{kept_all}
 use Rattle.mas_complex.proofs.locking.entries_kept.Given as goal
 

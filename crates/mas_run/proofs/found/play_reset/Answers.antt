@@ -5,7 +5,7 @@ use Rattle.mas_types.specs.Limits.{pages_most}
 use Rattle.lock_cycle.specs.Books.{Book}
 use Rattle.ckpt_form.specs.Form.{form_needs, form_reads}
 use Rattle.mas_types.specs.declared.ids.Dev.TheVariants.{Ckpt1, Ckpt2}
-use Rattle.ckpt_pages.specs.Shape.{page_count}
+use Rattle.ckpt_tables.specs.Shape.{page_count}
 use Rattle.mas_complex.specs.Headline.{Headline}
 use Rattle.mas_complex.specs.declared.renewals.Renewals.{Renewals}
 use Rattle.mas_complex.specs.Renewals.{is_open, no_renewals}

@@ -5,14 +5,14 @@ use Rattle.mas_types.specs.Sound.{IsSound}
 use Rattle.mas_types.specs.declared.ids.Dev.TheVariants.{Ckpt1, Ckpt2}
 use Rattle.mas_types.specs.declared.queues.Config.{Config}
 use Rattle.mas_types.specs.declared.queues.Queue.{Queue}
-use Rattle.queue_tables.specs.Telling.{Tell}
+use Rattle.queue_telling.specs.Telling.{Tell}
 use Rattle.queue_tables.proofs.OrderLemmas.{sound_orders}
 use Rattle.mas_complex.specs.Texts.{HasTexts, lost_now, spools_at}
 use Rattle.ckpt_form.specs.Form.{form_reads, form_needs, form_room}
 use Rattle.ckpt_copy.specs.Meanwhile.{SameSides}
 use Rattle.ckpt_copy.specs.Pages.{bytes_of}
-use Rattle.ckpt_pages.specs.Shape.{page_count}
-use Rattle.spool_disk.specs.View.{World, disk_now}
+use Rattle.ckpt_tables.specs.Shape.{page_count}
+use Rattle.spool_plant.specs.View.{World, disk_now}
 use Rattle.spool_volumes.specs.Volumes.{IsSteady, AreRoomy}
 use Rattle.warm_start.specs.Spooled.{AreGiven}
 use Rattle.warm_start.specs.Starting.{IsHeld, mark_of}

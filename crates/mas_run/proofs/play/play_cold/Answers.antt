@@ -4,7 +4,7 @@ use Rattle.mas_types.specs.declared.ids.Dev.TheVariants.{Ckpt1, Ckpt2}
 use Rattle.mas_types.specs.declared.queues.Config.{Config}
 use Rattle.mas_types.specs.declared.queues.Queue.{Queue}
 use Rattle.mas_types.specs.Fit.{IsConfig}
-use Rattle.spool_disk.specs.View.{View, World, disk_now}
+use Rattle.spool_plant.specs.View.{View, World, disk_now}
 use Rattle.ckpt_form.specs.Form.{form_count, form_needs, form_holds, form_reads, form_rests, form_rests_now, form_rests_reads}
 use Rattle.ckpt_copy.specs.Meanwhile.{SameSides}
 use Rattle.ckpt_copy.specs.Moments.{goes_none}
@@ -15,13 +15,13 @@ use Rattle.mas_complex.specs.Journals.{AreSettled, kept_all}
 use Rattle.mas_complex.specs.Locking.{book_of}
 use Rattle.mas_complex.specs.Meaning.{StandFor, run}
 use Rattle.member_node.specs.Calls.{IsOnlyOn, console_now}
-use Rattle.queue_tables.specs.Telling.{Tell}
+use Rattle.queue_telling.specs.Telling.{Tell}
 use Rattle.mas_complex.specs.Texts.{lost_now, spools_at}
 use Rattle.member_node.proofs.CourseLemmas.{left}
 use Rattle.member_node.proofs.DrawnLemmas.{drawn_stand, drawn_level}
 use Rattle.member_steps.proofs.ReadLemmas.{told_sound}
 use Rattle.member_node.specs.Copies.{RestsAt}
-use Rattle.ckpt_pages.specs.declared.tables.Tables.{Tables}
+use Rattle.ckpt_tables.specs.declared.tables.Tables.{Tables}
 use Rattle.ckpt_pages.specs.Checkpoints.{IsCheckpoint}
 use Rattle.mas_run.specs.Fresh.{AreFresh}
 use Rattle.mas_run.specs.Lines.{Proceeds}
@@ -35,7 +35,7 @@ use Rattle.mas_run.proofs.SpokenLemmas.{roomy_on}
 use Rattle.mas_run.proofs.VolumeLemmas.{kept_on}
 use Rattle.mas_run.proofs.WarmLemmas.{no, play_begins, play_not_text}
 use Rattle.std.proofs.lemmas.List.Elements.{All-weaker}
-use Rattle.ckpt_pages.specs.Shape.{IsRoute, page_count}
+use Rattle.ckpt_tables.specs.Shape.{IsRoute, page_count}
 use Rattle.script_laws.specs.Limits.{IsRoute as IsScriptRoute}
 use Rattle.mas_run.proofs.PaperLemmas.{papers_of}
 use Rattle.mas_run.proofs.play.play_cold.Goals as goal

@@ -5,7 +5,7 @@ use Rattle.mas_types.specs.declared.commands.Reply.TheVariants as reply
 use Rattle.mas_types.specs.declared.queues.Config.{Config}
 use Rattle.mas_types.specs.declared.queues.Queue.{Queue}
 use Rattle.mas_types.specs.Queue.{is_member}
-use Rattle.queue_tables.specs.Telling.{Tell}
+use Rattle.queue_telling.specs.Telling.{Tell}
 use Rattle.mas_complex.specs.Meaning.{step}
 use Rattle.member_steps.specs.Steps.{entry_of}
 use Rattle.member_steps.proofs.StepLemmas.{if_ok}

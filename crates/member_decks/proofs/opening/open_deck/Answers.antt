@@ -10,7 +10,7 @@ use Rattle.mas_types.specs.declared.queues.Config.{Config}
 use Rattle.mas_types.specs.declared.queues.Queue.{Queue}
 use Rattle.mas_types.specs.Closings.{IsReplyNamed}
 use Rattle.mas_types.specs.Queue.{is_member}
-use Rattle.queue_tables.specs.Telling.{Tell, TellSound}
+use Rattle.queue_telling.specs.Telling.{Tell, TellSound}
 use Rattle.mas_complex.specs.Meaning.{run, step}
 use Rattle.member_node.specs.Batches.{HasDone}
 use Rattle.member_steps.specs.Steps.{entry_of}

@@ -1,9 +1,9 @@
 use Rattle.std.proofs.Common.{◌≡◌, ◌∙◌, ◌++◌, ◌^◌, ◌<◌, ℕ, List, ap, refl, subst, sym, arith}
 use Rattle.mas_types.specs.Closings.{closing_line}
 use Rattle.lock_cycle.specs.Books.{Book, IsMember, after_stop}
-use Rattle.spool_disk.specs.declared.plant.Act.TheVariants.{Done, Failed, Halted}
-use Rattle.spool_disk.specs.declared.plant.Part.TheVariants.{Console}
-use Rattle.spool_disk.specs.Acts.{Acts, Says}
+use Rattle.spool_plant.specs.declared.plant.Act.TheVariants.{Done, Failed, Halted}
+use Rattle.spool_plant.specs.declared.plant.Part.TheVariants.{Console}
+use Rattle.spool_plant.specs.Acts.{Acts, Says}
 use Rattle.mas_complex.specs.Journals.{in_flight}
 use Rattle.mas_complex.specs.Meaning.{Closes}
 use Rattle.mas_complex.specs.Parts.{parts_of}

@@ -1,5 +1,5 @@
 use Rattle.std.proofs.Common.{◌≡◌, ◌≤◌, ◌∙◌, ℕ, Bool, ap, length, subst, sym}
-use Rattle.ckpt_pages.specs.Shape.{page_count}
+use Rattle.ckpt_tables.specs.Shape.{page_count}
 use Rattle.duplex_pair.specs.Halves.{pick}
 use Rattle.duplex_pair.specs.Replacing.{IsFormed, replace_stopped}
 use Rattle.mas_complex.specs.Parts.{parts_of}

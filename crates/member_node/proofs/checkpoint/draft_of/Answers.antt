@@ -2,7 +2,7 @@ use Rattle.std.proofs.Common.{◌≡◌, ◌∙◌, ℕ, ◌+◌, ◌-◌, ◌<�
 use Rattle.std.specs.Prelude.{◌==◌}
 use Rattle.std.specs.Str.{bytes_eq}
 use Rattle.std.proofs.lemmas.List.{drop_more}
-use Rattle.ckpt_pages.specs.Shape.{differing_from, page_count}
+use Rattle.ckpt_tables.specs.Shape.{differing_from, page_count}
 use Rattle.mas_complex.specs.Fits.{are_same}
 use Rattle.member_node.proofs.RedrawLemmas.{is_spelling, listed_all, listed_more, page_with, same_all, same_more, sized_more, spelled_from}
 use Rattle.member_node.proofs.checkpoint.draft_of.Goals as goal

@@ -1,7 +1,7 @@
 use Rattle.std.proofs.Common.{◌≡◌, ℕ, ◌-◌, ◌<◌, ◌&&◌, ◌++◌, length, drop}
 use Rattle.mas_types.specs.Limits.{page_bytes}
-use Rattle.ckpt_pages.specs.Pages.{page_of}
-use Rattle.ckpt_pages.specs.Shape.{differing, differing_from, page_count}
+use Rattle.ckpt_tables.specs.Pages.{page_of}
+use Rattle.ckpt_tables.specs.Shape.{differing, differing_from, page_count}
 use Rattle.mas_complex.specs.Fits.{are_same}
 use Rattle.member_node.proofs.RedrawLemmas.{spelled_from}
 use Rattle.member_node.proofs.checkpoint.draft_of.Given as goal

@@ -1,5 +1,5 @@
 use Rattle.std.proofs.Common.{◌≡◌, ◌<◌, ℕ}
-use Rattle.ckpt_pages.specs.Pages.{page_in, page_of}
+use Rattle.ckpt_tables.specs.Pages.{page_in, page_of}
 use Rattle.member_node.proofs.checkpoint.is_spelling.Given as goal
 
 abbrev pub invariant-loop-number : goal.invariant-loop-number

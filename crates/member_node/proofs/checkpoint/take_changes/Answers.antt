@@ -1,6 +1,6 @@
 use Rattle.std.proofs.Common.{◌<◌, length, arith}
 use Rattle.std.proofs.lemmas.List.Elements.{All-weaker}
-use Rattle.ckpt_pages.specs.Shape.{differing}
+use Rattle.ckpt_tables.specs.Shape.{differing}
 use Rattle.member_node.proofs.DrawnLemmas.{numbers_within}
 use Rattle.member_node.proofs.RedrawLemmas.{changes_taken}
 use Rattle.member_node.proofs.checkpoint.take_changes.Goals as goal

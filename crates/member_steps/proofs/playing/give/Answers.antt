@@ -2,7 +2,7 @@ use Rattle.std.proofs.Common.{◌≡◌, ◌≤◌, ◌∙◌, List, length, ap,
 use Rattle.mas_types.specs.declared.journals.Entry.{Entry}
 use Rattle.mas_types.specs.declared.queues.Queue.{Queue}
 use Rattle.mas_types.specs.Closings.{IsReplyNamed, reply_lines}
-use Rattle.queue_tables.specs.Telling.{Tell}
+use Rattle.queue_telling.specs.Telling.{Tell}
 use Rattle.member_node.specs.Batches.{last_reply}
 use Rattle.member_steps.specs.Steps.{IsGiven, entry_of, entry_with, step_lines}
 use Rattle.member_steps.proofs.StepLemmas.{if_ok, ok_of, only_entry}

@@ -2,8 +2,8 @@ use Rattle.std.proofs.Common.{◌∙◌, ◌+◌, ap, false, List, refl, sym, ar
 use Rattle.std.proofs.lemmas.Result.{err_from_is_err_and}
 use Rattle.member_node.specs.Calls.{console_now}
 use Rattle.mas_types.specs.declared.journals.Batch.{Batch}
-use Rattle.spool_disk.specs.declared.plant.Act.TheVariants.{Done}
-use Rattle.spool_disk.specs.declared.plant.Part.TheVariants.{Console}
+use Rattle.spool_plant.specs.declared.plant.Act.TheVariants.{Done}
+use Rattle.spool_plant.specs.declared.plant.Part.TheVariants.{Console}
 use Rattle.member_node.proofs.SpareLemmas.{spares_done, spares_none, spares_then}
 use Rattle.mas_complex.specs.Parts.{parts_of}
 use Rattle.member_steps.specs.Saying.{TellKept}

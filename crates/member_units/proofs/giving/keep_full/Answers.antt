@@ -9,7 +9,7 @@ use Rattle.member_units.specs.Works.{outside}
 use Rattle.member_units.proofs.Cuts.{after_all, after_none, batch_entries, full_all, full_none}
 use Rattle.member_units.proofs.Going.{apart_none}
 use Rattle.member_units.proofs.Working.{less_room}
-use Rattle.ckpt_pages.specs.declared.tables.Tables.{Tables}
+use Rattle.ckpt_tables.specs.declared.tables.Tables.{Tables}
 use Rattle.member_units.proofs.giving.keep_full.Goals as goal
 
 pub returns-then-len-lt-BATCH_MOST-clause-keeps : goal.returns-then-len-lt-BATCH_MOST-clause-keeps

@@ -4,7 +4,7 @@ use Rattle.mas_types.specs.declared.queues.Queue.{Queue}
 use Rattle.mas_types.specs.Commands.Life.{groups_of_outputs, is_cancelled}
 use Rattle.mas_types.specs.Owners.{member_count}
 use Rattle.mas_types.specs.Queue.{job_at}
-use Rattle.queue_tables.specs.Telling.{Tell}
+use Rattle.queue_telling.specs.Telling.{Tell}
 use Rattle.track_groups.specs.Groups.{held_by}
 use Rattle.mas_complex.specs.Texts.{spools_at}
 use Rattle.member_decks.proofs.OpenLemmas.{tells_some}

@@ -4,7 +4,7 @@ use Rattle.mas_types.specs.declared.commands.Command.TheVariants as command
 use Rattle.mas_types.specs.declared.queues.Config.{Config}
 use Rattle.mas_types.specs.declared.queues.Queue.{Queue}
 use Rattle.mas_types.specs.Queue.{is_member}
-use Rattle.queue_tables.specs.Telling.{Tell}
+use Rattle.queue_telling.specs.Telling.{Tell}
 use Rattle.mas_complex.specs.Meaning.{step}
 use Rattle.member_steps.proofs.StepLemmas.{if_ok}
 use Rattle.member_decks.specs.Decks.{closing_reply, given_in}

@@ -6,7 +6,7 @@ use Rattle.mas_types.specs.declared.ids.MemberId.{MemberId}
 use Rattle.mas_types.specs.declared.queues.Config.{Config}
 use Rattle.mas_types.specs.declared.queues.Queue.{Queue}
 use Rattle.mas_types.specs.Queue.{is_member}
-use Rattle.queue_tables.specs.Telling.{Tell, TellSound}
+use Rattle.queue_telling.specs.Telling.{Tell, TellSound}
 use Rattle.mas_complex.specs.Meaning.{step}
 use Rattle.member_steps.specs.Steps.{reply_to}
 use Rattle.member_steps.proofs.StepLemmas.{if_ok}

@@ -7,7 +7,7 @@ use Rattle.mas_complex.specs.Paper.{counts_of}
 use Rattle.mas_complex.specs.Parts.{parts_of}
 use Rattle.paper_laws.specs.Next.{MayPrint}
 use Rattle.ckpt_copy.specs.Moments.{goes_none}
-use Rattle.spool_disk.specs.declared.plant.Part.TheVariants.{Printer}
+use Rattle.spool_plant.specs.declared.plant.Part.TheVariants.{Printer}
 use Rattle.member_node.proofs.SpareLemmas.{sparing_beside, sparing_done, sparing_halted, sparing_none, sparing_then}
 use Rattle.member_node.specs.Calls.{none_lost}
 use Rattle.mas_types.specs.declared.answers.Closing.TheVariants as closing

@@ -1,6 +1,6 @@
 use Rattle.std.proofs.Common.{refl, subst}
-use Rattle.spool_disk.specs.declared.plant.Act.{Act}
-use Rattle.spool_disk.specs.Acts.{Acts}
+use Rattle.spool_plant.specs.declared.plant.Act.{Act}
+use Rattle.spool_plant.specs.Acts.{Acts}
 use Rattle.plant_files.specs.FileView.{tally_view}
 use Rattle.plant_files.proofs.plant.failed_take.Goals as goal
 

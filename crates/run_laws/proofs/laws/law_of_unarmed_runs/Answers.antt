@@ -1,5 +1,5 @@
 use Rattle.std.proofs.Common.{◌≡◌, sym, subst}
-use Rattle.spool_disk.specs.View.{View}
+use Rattle.spool_plant.specs.View.{View}
 use Rattle.run_laws.proofs.Unstopped.{still_unarmed}
 use Rattle.run_laws.proofs.laws.law_of_unarmed_runs.Goals as goal
 

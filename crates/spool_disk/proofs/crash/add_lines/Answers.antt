@@ -2,7 +2,7 @@ use Rattle.std.proofs.Common.{arith, ap, ◌∙◌, sym, ◌++◌, ◌∷◌, []
 use Rattle.std.proofs.lemmas.List.{take_all}
 use Rattle.spool_disk.specs.declared.entry.Entry.{Entry}
 use Rattle.spool_disk.specs.declared.entry.Entry.TheVariants.{Idle as EntryIdle}
-use Rattle.spool_disk.specs.View.{Line}
+use Rattle.spool_plant.specs.View.{Line}
 use Rattle.spool_disk.specs.Deeds.{line_on, lines_of}
 use Rattle.spool_disk.specs.Entries.{deeds_of, deed_of, kept_in, kept_by}
 use Rattle.spool_disk.proofs.Replaying.{next_kept, next_gather, next_within, part_is}

@@ -1,6 +1,6 @@
 use Rattle.std.proofs.Common.{◌∙◌, ap, ◌++◌, ℕ, List}
 use Rattle.spool_disk.specs.declared.entry.Entry.{Entry}
-use Rattle.spool_disk.specs.View.{Line}
+use Rattle.spool_plant.specs.View.{Line}
 use Rattle.spool_disk.specs.Deeds.{lines_of}
 use Rattle.spool_disk.proofs.Restart.{all_whole}
 use Rattle.spool_disk.specs.Entries.{deeds_of}

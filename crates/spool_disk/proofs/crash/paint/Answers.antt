@@ -2,10 +2,10 @@ use Rattle.std.proofs.Common.{arith, sym, take, drop, get_or, List, subst}
 use Rattle.std.proofs.lemmas.List.{length-take, take_all}
 use Rattle.spool_disk.specs.declared.entry.Entry.{Entry}
 use Rattle.spool_disk.specs.declared.entry.Entry.TheVariants.{Idle as EntryIdle}
-use Rattle.spool_disk.specs.View.{Disk, slice}
+use Rattle.spool_plant.specs.View.{Disk, slice}
 use Rattle.spool_disk.specs.Deeds.{after}
 use Rattle.spool_disk.specs.Entries.{deeds_of, kept_in, kept_by}
-use Rattle.spool_disk.specs.Crash.{IsOnes}
+use Rattle.spool_plant.specs.Crash.{IsOnes}
 use Rattle.spool_disk.proofs.Replaying.{next_after, quiet_at}
 use Rattle.spool_disk.proofs.crash.paint.Goals as goal
 

@@ -1,8 +1,8 @@
 use Rattle.std.proofs.Common.{take, List, ℕ}
-use Rattle.spool_disk.specs.View.{Disk}
+use Rattle.spool_plant.specs.View.{Disk}
 use Rattle.spool_disk.specs.Deeds.{after}
 use Rattle.spool_disk.specs.Entries.{deeds_of}
-use Rattle.spool_disk.specs.Crash.{IsOnes}
+use Rattle.spool_plant.specs.Crash.{IsOnes}
 use Rattle.spool_disk.specs.Settled.{IsQuiet}
 use Rattle.spool_disk.proofs.crash.paint.Given as goal
 

@@ -1,5 +1,5 @@
 use Rattle.std.proofs.Common.{arith, ap, ◌≡◌, ◌≤◌, ◌<◌, ℕ, length, max, subst, if◌then◌else◌, slice_index}
-use Rattle.spool_disk.specs.Crash.{is_in}
+use Rattle.spool_plant.specs.Crash.{is_in}
 use Rattle.spool_disk.specs.Entries.{kept_by}
 use Rattle.spool_disk.proofs.Crashing.{ones_painted}
 use Rattle.spool_disk.proofs.crash.paint_one.Goals as goal

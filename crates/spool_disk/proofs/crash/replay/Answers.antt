@@ -1,6 +1,6 @@
 use Rattle.std.proofs.Common.{arith, ap, ◌∙◌, sym, ℕ, take, get_or, List}
 use Rattle.spool_disk.specs.declared.entry.Entry.TheVariants.{Idle as EntryIdle}
-use Rattle.spool_disk.specs.View.{Disk}
+use Rattle.spool_plant.specs.View.{Disk}
 use Rattle.spool_disk.specs.Deeds.{after, effect}
 use Rattle.spool_disk.specs.Entries.{deeds_of, deed_of, kept_in, kept_by}
 use Rattle.spool_disk.proofs.Replaying.{next_kept, next_after, next_within, part_is}

@@ -1,5 +1,5 @@
 use Rattle.std.proofs.Common.{◌≡◌, take}
-use Rattle.spool_disk.specs.View.{Disk}
+use Rattle.spool_plant.specs.View.{Disk}
 use Rattle.spool_disk.specs.Deeds.{after}
 use Rattle.spool_disk.specs.Entries.{kept_in, deeds_of}
 use Rattle.spool_disk.proofs.crash.replay.Given as goal

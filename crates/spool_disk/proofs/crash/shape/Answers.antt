@@ -3,8 +3,8 @@ use Rattle.spool_disk.specs.declared.entry.Entry.{Entry}
 use Rattle.spool_disk.specs.Deeds.{after}
 use Rattle.spool_disk.specs.Entries.{deeds_of, kept_in}
 use Rattle.spool_disk.specs.Settled.{Leaves, last_synced, IsQuiet}
-use Rattle.spool_disk.specs.Crash.{IsOnes}
-use Rattle.spool_disk.specs.declared.choice.Choice.{Choice}
+use Rattle.spool_plant.specs.Crash.{IsOnes}
+use Rattle.spool_plant.specs.declared.choice.Choice.{Choice}
 use Rattle.spool_disk.proofs.Replaying.{kept_parts}
 use Rattle.spool_disk.proofs.Crashing.{shape_old, shape_new, shape_ones, ones_at_sync, leaves_none, empty_length}
 use Rattle.spool_disk.proofs.crash.shape.Goals as goal

@@ -1,5 +1,5 @@
 use Rattle.std.proofs.Common.{arith, ap, sym, ◌∙◌, length, ◌≡◌}
-use Rattle.spool_disk.specs.View.{slice}
+use Rattle.spool_plant.specs.View.{slice}
 use Rattle.spool_disk.specs.Standing.{bytes_at}
 use Rattle.spool_disk.proofs.Slots.{at_get}
 use Rattle.spool_disk.proofs.record.read_at.Goals as goal

@@ -1,9 +1,9 @@
 use Rattle.std.proofs.Common.{◌≡◌, ◌∙◌, [], ◌∷◌, true, false, length, refl, sym, arith}
 use Rattle.mas_types.specs.declared.ids.Dev.TheVariants.{Spool}
 use Rattle.mas_types.specs.Limits.{page_bytes}
-use Rattle.spool_disk.specs.View.{disk_now}
-use Rattle.spool_disk.specs.declared.plant.Act.TheVariants.{Done, Failed, Halted}
-use Rattle.spool_disk.specs.declared.plant.Part.TheVariants.{Disk as DiskPart}
+use Rattle.spool_plant.specs.View.{disk_now}
+use Rattle.spool_plant.specs.declared.plant.Act.TheVariants.{Done, Failed, Halted}
+use Rattle.spool_plant.specs.declared.plant.Part.TheVariants.{Disk as DiskPart}
 use Rattle.spool_volumes.specs.Volumes.{volume_of, start_of}
 use Rattle.spool_volumes.proofs.LookLemmas.{looks_none, looks_read, spares_act, spares_none}
 use Rattle.spool_volumes.proofs.ReadLemmas.{page_gone, page_there}
@@ -42,10 +42,10 @@ pub returns-then-lost-clause-spares : goal.returns-then-lost-clause-spares
 returns-then-lost-clause-spares g c = spares_none c.args.by.0 c.args.per (c.args.group ∷ []) (g.P.Plant.view c.args.plant.now)
 
 pub returns-in-Done-clause-spares : goal.returns-in-Done-clause-spares
-returns-in-Done-clause-spares g c = spares_act c.args.by.0 c.args.per c.args.group false (g.P.Plant.view c.args.plant.now) (g.P.Plant.view c.read.new.self) Done (λ none e. absurd (cc)) c.in-Done.ensures.acts
+returns-in-Done-clause-spares g c = spares_act c.args.by.0 c.args.per c.args.group false (g.P.Plant.view c.args.plant.now) (g.P.Plant.view c.read.new.self) Done (λ none e. absurd (cc)) (λ is. absurd (cc)) c.in-Done.ensures.acts
 
 pub returns-in-Failed-clause-spares : goal.returns-in-Failed-clause-spares
-returns-in-Failed-clause-spares g c = spares_act c.args.by.0 c.args.per c.args.group false (g.P.Plant.view c.args.plant.now) (g.P.Plant.view c.read.new.self) Failed (λ none e. absurd (cc)) c.in-Failed.ensures.acts
+returns-in-Failed-clause-spares g c = spares_act c.args.by.0 c.args.per c.args.group false (g.P.Plant.view c.args.plant.now) (g.P.Plant.view c.read.new.self) Failed (λ none e. absurd (cc)) (λ is. absurd (cc)) c.in-Failed.ensures.acts
 
 pub returns-in-Halted-clause-spares : goal.returns-in-Halted-clause-spares
-returns-in-Halted-clause-spares g c = spares_act c.args.by.0 c.args.per c.args.group true (g.P.Plant.view c.args.plant.now) (g.P.Plant.view c.read.new.self) Halted (λ none e. absurd (cc)) c.in-Halted.ensures.acts
+returns-in-Halted-clause-spares g c = spares_act c.args.by.0 c.args.per c.args.group true (g.P.Plant.view c.args.plant.now) (g.P.Plant.view c.read.new.self) Halted (λ none e. absurd (cc)) (λ is. refl) c.in-Halted.ensures.acts

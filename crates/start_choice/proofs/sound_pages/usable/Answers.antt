@@ -1,5 +1,5 @@
 use Rattle.std.proofs.Common.{◌≡◌, subst, sym}
-use Rattle.ckpt_pages.specs.declared.tables.Tables.{Tables}
+use Rattle.ckpt_tables.specs.declared.tables.Tables.{Tables}
 use Rattle.start_choice.specs.Usable.{MayStart}
 use Rattle.start_choice.proofs.sound_pages.usable.Goals as goal
 

@@ -1,7 +1,7 @@
 use Rattle.std.proofs.Common.{List, Result, IfOk, IfErr, sym, subst}
 use Rattle.mas_types.specs.declared.ids.Dev.TheVariants.{Ckpt1, Ckpt2}
 use Rattle.mas_types.specs.declared.ids.Page.{Page}
-use Rattle.spool_disk.specs.View.{disk_now}
+use Rattle.spool_plant.specs.View.{disk_now}
 use Rattle.ckpt_copy.specs.Changes.{NoMore}
 use Rattle.start_choice.specs.declared.choosing.StartNo.{StartNo}
 use Rattle.warm_start.specs.Inspecting.{HasLooked, SeesNone}

@@ -1,5 +1,5 @@
 use Rattle.mas_types.specs.declared.ids.Dev.TheVariants.{Ckpt1, Ckpt2}
-use Rattle.spool_disk.specs.View.{disk_now}
+use Rattle.spool_plant.specs.View.{disk_now}
 use Rattle.warm_start.proofs.Seeing.{judged_looked, judged_room}
 use Rattle.warm_start.proofs.looking.judge_both.Goals as goal
 

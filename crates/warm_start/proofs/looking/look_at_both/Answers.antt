@@ -1,7 +1,7 @@
 use Rattle.std.proofs.Common.{true, false, refl, inl, sym, subst}
 use Rattle.mas_types.specs.declared.ids.Dev.TheVariants.{Ckpt1, Ckpt2}
-use Rattle.spool_disk.specs.declared.plant.Part.TheVariants.{Disk as DiskPart}
-use Rattle.spool_disk.specs.View.{Disk, disk_now}
+use Rattle.spool_plant.specs.declared.plant.Part.TheVariants.{Disk as DiskPart}
+use Rattle.spool_plant.specs.View.{Disk, disk_now}
 use Rattle.duplex_pair.specs.Looks.{HasRoom}
 use Rattle.ckpt_copy.specs.Changes.{NoMore}
 use Rattle.duplex_pair.proofs.Composing.{both_calls, acted_first, acted_second, acted_then, gone_stays, other_disk, ne12}

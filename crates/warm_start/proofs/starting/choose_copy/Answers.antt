@@ -1,6 +1,6 @@
 use Rattle.std.proofs.Common.{ℕ, List, Result, IfOk, IfErr, sym, subst}
 use Rattle.mas_types.specs.declared.ids.Dev.TheVariants.{Ckpt1, Ckpt2}
-use Rattle.spool_disk.specs.View.{disk_now}
+use Rattle.spool_plant.specs.View.{disk_now}
 use Rattle.ckpt_copy.specs.Changes.{NoMore}
 use Rattle.start_choice.specs.declared.choosing.Start.{Start}
 use Rattle.start_choice.specs.declared.choosing.StartNo.{StartNo}

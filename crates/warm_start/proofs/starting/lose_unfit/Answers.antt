@@ -1,6 +1,6 @@
 use Rattle.std.proofs.Common.{◌≡◌, ◌&&◌, not, Bool, true, false, inl, inr, ⊎_elim, refl, sym, ap, ◌∙◌}
 use Rattle.mas_types.specs.declared.ids.Dev.TheVariants.{Ckpt1, Ckpt2}
-use Rattle.spool_disk.specs.View.{disk_now}
+use Rattle.spool_plant.specs.View.{disk_now}
 use Rattle.ckpt_copy.specs.Moments.{goes_on}
 use Rattle.duplex_pair.specs.Halves.{SameOrLost, IsGone}
 use Rattle.duplex_pair.proofs.Composing.{both_calls, gone_stays, other_disk, ne12, ne21}

@@ -1,6 +1,6 @@
 use Rattle.std.proofs.Common.{◌∙◌, ◌≤◌, false, Bool, inl, inr, ℕ, length, Err, refl, sym, ap, subst}
 use Rattle.mas_types.specs.declared.ids.Dev.TheVariants.{Ckpt1, Ckpt2}
-use Rattle.spool_disk.specs.View.{disk_now}
+use Rattle.spool_plant.specs.View.{disk_now}
 use Rattle.ckpt_copy.specs.Pages.{bytes_of, level}
 use Rattle.mas_types.specs.declared.queues.Config.{Config}
 use Rattle.mas_complex.specs.Texts.{HasTexts, lost_now, spools_at}

@@ -2,7 +2,7 @@ use Rattle.std.proofs.Common.{ℕ, List, ap, subst, sym}
 use Rattle.mas_types.specs.declared.ids.Dev.TheVariants.{Ckpt1, Ckpt2}
 use Rattle.mas_types.specs.declared.queues.Queue.{Queue}
 use Rattle.mas_types.specs.Fit.{IsConfig}
-use Rattle.spool_disk.specs.View.{Disk, disk_now}
+use Rattle.spool_plant.specs.View.{Disk, disk_now}
 use Rattle.ckpt_copy.specs.Pages.{bytes_of}
 use Rattle.mas_complex.specs.Journals.{kept_all}
 use Rattle.mas_complex.specs.Meaning.{run}

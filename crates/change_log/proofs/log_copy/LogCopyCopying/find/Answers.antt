@@ -1,8 +1,8 @@
 use Rattle.std.proofs.Common.{◌≡◌, ℕ, List, Option, IfSome, length, sym, ◌∙◌, subst, arith}
 use Rattle.std.proofs.lemmas.Result.{err_from_is_err_and}
 use Rattle.mas_types.specs.declared.ids.Page.{Page}
-use Rattle.spool_disk.specs.declared.plant.Act.TheVariants.{Done}
-use Rattle.spool_disk.specs.View.{disk_now}
+use Rattle.spool_plant.specs.declared.plant.Act.TheVariants.{Done}
+use Rattle.spool_plant.specs.View.{disk_now}
 use Rattle.ckpt_copy.specs.Causes.{Caused}
 use Rattle.ckpt_copy.specs.Pages.{bytes_of}
 use Rattle.change_log.specs.declared.finding.Head.{Head}

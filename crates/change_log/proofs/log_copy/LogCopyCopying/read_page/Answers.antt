@@ -1,5 +1,5 @@
 use Rattle.std.proofs.Common.{ap, ◌∙◌, ℕ, arith}
-use Rattle.spool_disk.specs.View.{disk_now}
+use Rattle.spool_plant.specs.View.{disk_now}
 use Rattle.change_log.specs.Logs.{block}
 use Rattle.change_log.proofs.log_copy.LogCopyCopying.read_page.Goals as goal
 

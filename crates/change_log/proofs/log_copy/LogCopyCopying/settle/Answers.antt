@@ -1,5 +1,5 @@
 use Rattle.std.proofs.Common.{ℕ, [], refl, sym, subst, arith}
-use Rattle.spool_disk.specs.View.{disk_now}
+use Rattle.spool_plant.specs.View.{disk_now}
 use Rattle.ckpt_copy.specs.Pages.{bytes_of}
 use Rattle.change_log.specs.LogStates.{IsReady, Stands}
 use Rattle.change_log.specs.LogRests.{Rests}

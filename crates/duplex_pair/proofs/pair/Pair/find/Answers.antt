@@ -2,9 +2,9 @@ use Rattle.std.proofs.Common.{refl, sym, ◌∙◌, ap, subst, true, false, ◌�
 use Rattle.mas_types.specs.declared.ids.Dev.{Dev}
 use Rattle.mas_types.specs.declared.ids.Dev.TheVariants.{Ckpt1, Ckpt2}
 use Rattle.mas_types.specs.declared.ids.Page.{Page}
-use Rattle.spool_disk.specs.declared.plant.Part.TheVariants.{Disk as DiskPart}
-use Rattle.spool_disk.specs.View.{View, disk_now}
-use Rattle.spool_disk.specs.Acts.{Goes}
+use Rattle.spool_plant.specs.declared.plant.Part.TheVariants.{Disk as DiskPart}
+use Rattle.spool_plant.specs.View.{View, disk_now}
+use Rattle.spool_plant.specs.Acts.{Goes}
 use Rattle.ckpt_copy.specs.Moments.{goes_on}
 use Rattle.duplex_pair.specs.declared.errors.PairFindNo.{PairFindNo}
 use Rattle.duplex_pair.specs.declared.errors.PairFindNo.TheVariants.{NotValid}

@@ -1,6 +1,6 @@
 use Rattle.std.proofs.Common.{refl}
 use Rattle.mas_types.specs.declared.ids.Dev.TheVariants.{Ckpt1}
-use Rattle.spool_disk.specs.View.{Disk, disk_now}
+use Rattle.spool_plant.specs.View.{Disk, disk_now}
 use Rattle.ckpt_copy.specs.Pages.{bytes_of}
 use Rattle.ckpt_copy.specs.Reading.{EachForms}
 use Rattle.duplex_pair.specs.Both.{Touched}

@@ -1,6 +1,6 @@
 use Rattle.std.proofs.Common.{refl}
 use Rattle.mas_types.specs.declared.ids.Dev.TheVariants.{Ckpt1, Ckpt2}
-use Rattle.spool_disk.specs.View.{disk_now}
+use Rattle.spool_plant.specs.View.{disk_now}
 use Rattle.ckpt_copy.specs.Changes.{NoMore}
 use Rattle.duplex_pair.proofs.Composing.{both_calls, both_first, no_more_start}
 use Rattle.duplex_pair.proofs.pair.Pair.read_either.Goals as goal

@@ -1,6 +1,6 @@
 use Rattle.std.proofs.Common.{refl, sym, subst}
 use Rattle.mas_types.specs.declared.ids.Dev.TheVariants.{Ckpt1, Ckpt2}
-use Rattle.spool_disk.specs.View.{Disk, disk_now}
+use Rattle.spool_plant.specs.View.{Disk, disk_now}
 use Rattle.ckpt_copy.specs.Meanwhile.{Meanwhile}
 use Rattle.ckpt_copy.specs.Pages.{bytes_of}
 use Rattle.ckpt_copy.specs.Reading.{AllRead}

@@ -1,8 +1,8 @@
 use Rattle.std.proofs.Common.{◌∙◌, ap, ℕ, subst, sym}
 use Rattle.std.proofs.Math.Logic.{∥∥₁_map}
 use Rattle.mas_types.specs.declared.ids.Dev.TheVariants.{Ckpt1, Ckpt2}
-use Rattle.spool_disk.specs.declared.plant.Part.TheVariants.{Disk}
-use Rattle.spool_disk.specs.View.{View}
+use Rattle.spool_plant.specs.declared.plant.Part.TheVariants.{Disk}
+use Rattle.spool_plant.specs.View.{View}
 use Rattle.mas_complex.specs.Crash.{copy_of, setting_with}
 use Rattle.mas_complex.proofs.Armed.{armed_keep, armed_on_paper, same_sizes}
 use Rattle.mas_complex.specs.Journals.{AreSettled, IsBegun}

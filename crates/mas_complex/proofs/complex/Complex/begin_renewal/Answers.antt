@@ -1,7 +1,7 @@
 use Rattle.std.proofs.Common.{◌≡◌, ◌∙◌, true, false, ap, sym, subst, ℕ}
 use Rattle.std.proofs.Math.Logic.{∥∥₁_map}
 use Rattle.mas_types.specs.declared.ids.Dev.TheVariants.{Ckpt1, Ckpt2}
-use Rattle.spool_disk.specs.declared.plant.Part.TheVariants.{Disk}
+use Rattle.spool_plant.specs.declared.plant.Part.TheVariants.{Disk}
 use Rattle.mas_complex.specs.declared.renewals.Renewals.{Renewals}
 use Rattle.mas_complex.specs.Renewals.{begun_on, is_open}
 use Rattle.mas_complex.specs.Crash.{Keeps, Setting, setting_with, copy_of}

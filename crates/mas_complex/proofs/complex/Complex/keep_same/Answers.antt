@@ -13,7 +13,7 @@ use Rattle.mas_complex.specs.Texts.{spools_at, lost_now, HasTexts}
 use Rattle.mas_complex.specs.Replies.{HaveReplies}
 use Rattle.mas_complex.proofs.Replied.{and_none, with_replied}
 use Rattle.mas_complex.proofs.ToldAlike.{stand_alike}
-use Rattle.queue_tables.specs.Telling.{AreToldAlike}
+use Rattle.queue_telling.specs.Telling.{AreToldAlike}
 use Rattle.paper_laws.specs.Counts.{AreAllowed}
 use Rattle.mas_complex.specs.Paper.{KeepsPaper, counts_of}
 use Rattle.mas_complex.proofs.Papers.{counts_fall}

@@ -1,6 +1,6 @@
 use Rattle.std.proofs.Math.Logic.{∥∥₁_map}
 use Rattle.mas_types.specs.declared.ids.Dev.TheVariants.{Ckpt1, Ckpt2}
-use Rattle.spool_disk.specs.View.{disk_now}
+use Rattle.spool_plant.specs.View.{disk_now}
 use Rattle.mas_complex.specs.Crash.{Setting, setting_with}
 use Rattle.mas_complex.proofs.Keeping.{at_rest}
 use Rattle.mas_complex.proofs.complex.Complex.kept_pages.Goals as goal

@@ -1,6 +1,6 @@
 use Rattle.std.proofs.Common.{refl}
 use Rattle.std.proofs.Math.Logic.{∥∥₁_map, ∥∥₁_map₂}
-use Rattle.spool_disk.specs.View.{disk_now}
+use Rattle.spool_plant.specs.View.{disk_now}
 use Rattle.duplex_pair.specs.Halves.{SameOrLost, pick}
 use Rattle.mas_complex.specs.Crash.{Setting, setting_with}
 use Rattle.mas_complex.proofs.Sides.{lose_side, no}

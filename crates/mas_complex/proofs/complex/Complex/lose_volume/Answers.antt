@@ -1,7 +1,7 @@
 use Rattle.std.proofs.Math.Logic.{∥∥₁_map, ∥∥₁_map₂}
 use Rattle.mas_types.specs.declared.ids.Dev.TheVariants.{Ckpt1, Ckpt2, Spool}
-use Rattle.spool_disk.specs.declared.plant.Part.TheVariants.{Disk as DiskPart}
-use Rattle.spool_disk.specs.View.{disk_now}
+use Rattle.spool_plant.specs.declared.plant.Part.TheVariants.{Disk as DiskPart}
+use Rattle.spool_plant.specs.View.{disk_now}
 use Rattle.mas_complex.specs.Journals.{kept_all, entries_in}
 use Rattle.mas_complex.specs.Crash.{Setting, setting_with, copy_of}
 use Rattle.mas_complex.proofs.Lost.{lost_later}

@@ -1,8 +1,8 @@
 use Rattle.std.proofs.Common.{◌<◌, subst, sym, ap}
 use Rattle.std.proofs.Math.Logic.{∥∥₁_map, ∥∥₁_elim, ∥∥₁_map₂}
 use Rattle.std.specs.Coded.{Coded-set, coded_list, coded_ℕ, coded_option}
-use Rattle.spool_disk.specs.View.{disk_now}
-use Rattle.spool_disk.specs.Acts.{top}
+use Rattle.spool_plant.specs.View.{disk_now}
+use Rattle.spool_plant.specs.Acts.{top}
 use Rattle.duplex_pair.specs.Halves.{pick}
 use Rattle.ckpt_places.specs.declared.places.Place.{Place}
 use Rattle.ckpt_places.specs.declared.places.Place.TheVariants.{Opened}

@@ -2,7 +2,7 @@ use Rattle.std.proofs.Common.{◌≡◌, ◌+◌, ◌++◌, true, Some, subst, s
 use Rattle.std.proofs.Math.Logic.{∥∥₁_map, ∥∥₁_elim, ∥∥₁_prop, ∥∥₁_map₂}
 use Rattle.std.specs.Coded.{Coded-set, coded_list, coded_ℕ}
 use Rattle.mas_types.specs.declared.ids.Dev.TheVariants.{Ckpt1, Ckpt2}
-use Rattle.spool_disk.specs.View.{disk_now}
+use Rattle.spool_plant.specs.View.{disk_now}
 use Rattle.ckpt_copy.specs.Pages.{bytes_of, level}
 use Rattle.ckpt_copy.specs.Reading.{AllRead}
 use Rattle.duplex_pair.specs.Both.{Touched}
@@ -12,14 +12,13 @@ use Rattle.ckpt_places.specs.declared.places.Place.TheVariants.{Before, Put}
 use Rattle.mas_complex.specs.Journals.{kept_all, entries_in}
 use Rattle.mas_complex.specs.Crash.{Setting, Stands, IsNear, setting_with}
 use Rattle.mas_complex.specs.Places.{IsPlaceAfter}
-use Rattle.ckpt_pages.proofs.SlotLists.{test_cases}
 use Rattle.mas_complex.proofs.Rising.{comes_near}
 use Rattle.mas_complex.proofs.Sides.{put_side, idles, other_coming, other_holds, some_coming, is_higher, one_level_more, rests_before, no}
 use Rattle.mas_complex.proofs.OnDevice.{at_copy, at_other, on_copy, sunk_acted, fit_after, one_dead}
 use Rattle.mas_complex.proofs.Frames.{frame_copy}
 use Rattle.mas_complex.proofs.Shows.{on_ok, put_shows}
 use Rattle.mas_complex.proofs.Apart.{elsewhere_of, elsewhere_is}
-use Rattle.mas_complex.proofs.Papers.{stays_on_paper}
+use Rattle.mas_complex.proofs.Papers.{test_cases, stays_on_paper}
 use Rattle.mas_complex.proofs.Batches.{settled_later, begun_later}
 use Rattle.mas_complex.proofs.complex.Complex.put_on.Goals as goal
 

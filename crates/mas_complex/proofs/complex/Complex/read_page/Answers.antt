@@ -1,7 +1,7 @@
 use Rattle.std.proofs.Common.{arith}
 use Rattle.std.proofs.Math.Logic.{∥∥₁_map, ∥∥₁_map₂}
 use Rattle.mas_types.specs.declared.ids.Dev.TheVariants.{Ckpt1, Ckpt2}
-use Rattle.spool_disk.specs.View.{disk_now}
+use Rattle.spool_plant.specs.View.{disk_now}
 use Rattle.mas_complex.specs.Crash.{Setting, setting_with, copy_of}
 use Rattle.ckpt_copy.specs.Changes.{NoMore}
 use Rattle.mas_complex.proofs.Calm.{both_keep, more_reads, read_copy}

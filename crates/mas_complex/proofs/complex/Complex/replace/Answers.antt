@@ -2,9 +2,9 @@ use Rattle.std.proofs.Common.{◌∙◌, ◌≡◌, ◌<◌, ◌≤◌, length, 
 use Rattle.std.proofs.lemmas.Result.{err_from_is_err_and}
 use Rattle.mas_types.specs.declared.ids.Dev.TheVariants.{Ckpt1, Ckpt2}
 use Rattle.mas_types.specs.Limits.{pages_least, pages_most}
-use Rattle.spool_disk.specs.declared.plant.Part.TheVariants.{Disk}
-use Rattle.spool_disk.specs.View.{disk_now}
-use Rattle.spool_disk.specs.Acts.{Rose, top}
+use Rattle.spool_plant.specs.declared.plant.Part.TheVariants.{Disk}
+use Rattle.spool_plant.specs.View.{disk_now}
+use Rattle.spool_plant.specs.Acts.{Rose, top}
 use Rattle.ckpt_copy.specs.Pages.{bytes_of}
 use Rattle.duplex_pair.specs.Halves.{other, pick}
 use Rattle.duplex_pair.specs.Replacing.{Replaces, replace_stopped}

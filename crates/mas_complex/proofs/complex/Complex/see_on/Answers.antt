@@ -1,8 +1,8 @@
 use Rattle.std.proofs.Common.{◌∙◌, false, refl, ap, sym, arith}
 use Rattle.std.proofs.Math.Logic.{∥∥₁_elim}
-use Rattle.spool_disk.specs.View.{disk_now}
+use Rattle.spool_plant.specs.View.{disk_now}
 use Rattle.ckpt_copy.specs.Moments.{goes_none}
-use Rattle.ckpt_pages.specs.Shape.{page_count}
+use Rattle.ckpt_tables.specs.Shape.{page_count}
 use Rattle.duplex_pair.specs.Halves.{pick}
 use Rattle.mas_complex.specs.Crash.{setting_with}
 use Rattle.mas_complex.specs.Parts.{parts_of}

@@ -2,7 +2,7 @@ use Rattle.std.proofs.Common.{arith}
 use Rattle.std.proofs.Math.Logic.{∥∥₁_map, ∥∥₁_elim, ∥∥₁_map₂}
 use Rattle.std.specs.Coded.{Coded-set, coded_list, coded_option, coded_ℕ}
 use Rattle.mas_types.specs.declared.ids.Dev.TheVariants.{Ckpt1, Ckpt2}
-use Rattle.spool_disk.specs.View.{disk_now}
+use Rattle.spool_plant.specs.View.{disk_now}
 use Rattle.ckpt_copy.specs.Pages.{bytes_of}
 use Rattle.mas_complex.specs.Crash.{Setting, setting_with, copy_of}
 use Rattle.ckpt_copy.specs.Reading.{AllRead}

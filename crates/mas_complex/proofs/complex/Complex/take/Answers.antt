@@ -1,7 +1,7 @@
 use Rattle.std.proofs.Common.{[]}
 use Rattle.std.proofs.Math.Logic.{∥∥₁_map, ∥∥₁_map₂}
 use Rattle.mas_types.specs.declared.ids.Dev.TheVariants.{Ckpt1, Ckpt2}
-use Rattle.spool_disk.specs.declared.plant.Act.TheVariants.{Done}
+use Rattle.spool_plant.specs.declared.plant.Act.TheVariants.{Done}
 use Rattle.mas_complex.specs.Crash.{Setting, setting_with, copy_of}
 use Rattle.mas_complex.proofs.Lost.{lost_later}
 use Rattle.mas_complex.proofs.Fates.{prints_keep}

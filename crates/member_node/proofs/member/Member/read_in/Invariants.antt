@@ -1,6 +1,6 @@
 use Rattle.std.proofs.Common.{◌≡◌, true, false, length}
 use Rattle.mas_types.specs.declared.ids.Dev.TheVariants.{Ckpt1, Ckpt2}
-use Rattle.spool_disk.specs.View.{disk_now}
+use Rattle.spool_plant.specs.View.{disk_now}
 use Rattle.ckpt_pages.specs.Checkpoints.{SpellSome}
 use Rattle.duplex_pair.specs.Halves.{SomeAlive}
 use Rattle.mas_complex.specs.Fits.{are_same}

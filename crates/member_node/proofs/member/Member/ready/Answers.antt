@@ -1,10 +1,10 @@
 use Rattle.std.proofs.Common.{◌≤◌, ◌^◌, length, rules}
 use Rattle.std.proofs.Math.Logic.{∥∥₁_map}
 use Rattle.mas_types.specs.declared.ids.Dev.TheVariants.{Ckpt1, Ckpt2}
-use Rattle.spool_disk.specs.View.{disk_now}
+use Rattle.spool_plant.specs.View.{disk_now}
 use Rattle.mas_complex.specs.Journals.{kept_all}
 use Rattle.mas_complex.specs.Meaning.{run}
-use Rattle.ckpt_pages.specs.Pages.{Spell}
+use Rattle.ckpt_tables.specs.Pages.{Spell}
 use Rattle.ckpt_pages.proofs.DecodingLemmas.{one_queue, one_value}
 use Rattle.queue_tables.proofs.ToldLemmas.{pages_alike}
 use Rattle.member_node.proofs.ReadyLemmas.{ready_copy, ready_count, ready_draft, ready_level, ready_raises}

@@ -1,6 +1,6 @@
 use Rattle.std.proofs.Common.{◌≡◌, false, length}
 use Rattle.mas_types.specs.declared.ids.Dev.TheVariants.{Ckpt1, Ckpt2}
-use Rattle.spool_disk.specs.View.{disk_now}
+use Rattle.spool_plant.specs.View.{disk_now}
 use Rattle.duplex_pair.specs.Halves.{SomeAlive}
 use Rattle.mas_complex.specs.Journals.{kept_all}
 use Rattle.mas_complex.specs.Meaning.{run}

@@ -4,7 +4,7 @@ use Rattle.std.specs.Coded.{Coded-set, coded_ℕ}
 use Rattle.mas_types.specs.declared.journals.Journal.{Journal}
 use Rattle.mas_types.specs.declared.queues.Queue.{Queue}
 use Rattle.ckpt_copy.specs.Pages.{bytes_of}
-use Rattle.queue_tables.specs.Telling.{AreToldAlike}
+use Rattle.queue_telling.specs.Telling.{AreToldAlike}
 use Rattle.mas_complex.specs.Journals.{entries_reserved, kept_all}
 use Rattle.mas_complex.specs.Meaning.{StandFor, run}
 use Rattle.member_node.proofs.StepLemmas.{reserved_is, write_done, write_lost, write_same, write_stopped}

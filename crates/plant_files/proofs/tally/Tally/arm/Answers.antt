@@ -1,5 +1,5 @@
 use Rattle.std.proofs.Common.{subst, sym, arith}
-use Rattle.spool_disk.specs.Acts.{Arms}
+use Rattle.spool_plant.specs.Acts.{Arms}
 use Rattle.plant_files.specs.FileView.{Shown, shown_of, tally_view, view_of}
 use Rattle.plant_files.proofs.Counting.{armed_arms}
 use Rattle.plant_files.proofs.tally.Tally.arm.Goals as goal

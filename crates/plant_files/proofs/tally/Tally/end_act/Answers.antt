@@ -1,6 +1,6 @@
 use Rattle.std.proofs.Common.{subst, sym, arith}
-use Rattle.spool_disk.specs.Acts.{Acts}
-use Rattle.spool_disk.specs.declared.plant.Act.TheVariants.{Done, Failed}
+use Rattle.spool_plant.specs.Acts.{Acts}
+use Rattle.spool_plant.specs.declared.plant.Act.TheVariants.{Done, Failed}
 use Rattle.plant_files.specs.FileView.{Shown, shown_of, tally_view, view_of}
 use Rattle.plant_files.proofs.Counting.{done_acts, failed_acts}
 use Rattle.plant_files.proofs.tally.Tally.end_act.Goals as goal

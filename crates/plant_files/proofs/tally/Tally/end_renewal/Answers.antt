@@ -1,7 +1,7 @@
 use Rattle.std.proofs.Common.{subst, sym, arith}
-use Rattle.spool_disk.specs.Acts.{Acts, Renews}
-use Rattle.spool_disk.specs.declared.plant.Act.TheVariants.{Done, Failed}
-use Rattle.spool_disk.specs.declared.plant.Part.TheVariants.{Disk}
+use Rattle.spool_plant.specs.Acts.{Acts, Renews}
+use Rattle.spool_plant.specs.declared.plant.Act.TheVariants.{Done, Failed}
+use Rattle.spool_plant.specs.declared.plant.Part.TheVariants.{Disk}
 use Rattle.spool_disk.proofs.Faults.{fails_renewal}
 use Rattle.plant_files.specs.FileView.{Shown, shown_of, tally_view, view_of}
 use Rattle.plant_files.proofs.Counting.{renewed_renews, failed_acts}

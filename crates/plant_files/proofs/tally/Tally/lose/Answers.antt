@@ -1,6 +1,6 @@
 use Rattle.std.proofs.Common.{subst, sym, arith}
-use Rattle.spool_disk.specs.Acts.{Loses}
-use Rattle.spool_disk.specs.declared.plant.Part.TheVariants.{Disk}
+use Rattle.spool_plant.specs.Acts.{Loses}
+use Rattle.spool_plant.specs.declared.plant.Part.TheVariants.{Disk}
 use Rattle.plant_files.specs.FileView.{Shown, shown_of, tally_view, view_of}
 use Rattle.plant_files.proofs.Counting.{lost_loses}
 use Rattle.plant_files.proofs.tally.Tally.lose.Goals as goal

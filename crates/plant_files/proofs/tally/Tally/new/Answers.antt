@@ -13,6 +13,7 @@ returns c = record {
   stops = λ m. zeros_at 256 m c.in_ok-new.field-0.stops.items c.in_ok-new.ensures.stops;
   loses = λ d. zeros_at 258 (slot_of d) c.in_ok-new.field-0.loses.items c.in_ok-new.ensures.loses;
   arms = λ m. zeros_at 256 m c.in_ok-new.field-0.arms.items c.in_ok-new.ensures.arms;
+  halt = refl;
 }
 
 pub invariant_of-result : goal.invariant_of-result

@@ -1,6 +1,6 @@
 use Rattle.std.proofs.Common.{arith, sym, subst, ap, ◌∙◌, ◌+◌, ◌≤◌, ℕ, List, true}
-use Rattle.spool_disk.specs.declared.plant.Part.TheVariants.{Printer}
-use Rattle.spool_disk.specs.Acts.{Acts, Prints, top}
+use Rattle.spool_plant.specs.declared.plant.Part.TheVariants.{Printer}
+use Rattle.spool_plant.specs.Acts.{Acts, Prints, top}
 use Rattle.plant_fuse.specs.Torn.{Halved}
 use Rattle.plant_fuse.specs.Closing.{halved_by}
 use Rattle.plant_fuse.specs.FuseViews.{fused_view}
@@ -15,24 +15,24 @@ use Rattle.plant_fuse.proofs.fused.FusedPlant.print.Goals as goal
 pub returns-then-fire-clause-acts : goal.returns-then-fire-clause-acts
 returns-then-fire-clause-acts g c =
     let is = c.note_half.ensures ∙ ap (λ (n : ℕ). halved_by c.print-passed.result ((c.args.by.0 + 1), n) c.args.self.now.halved.items) c.now-moment.ensures in
-    subst (λ (hs : List Halved). Acts c.args.by.0 (Printer c.args.by) (fused_view (g.P.Plant.view c.args.self.now.inner) c.args.self.now.halved.items c.args.self.now.stops.counts c.args.self.now.arms.counts) (fused_view (g.P.Plant.view c.print-passed.new.self) hs c.close.new.stops.counts c.args.self.now.arms.counts) c.close.result) (sym is)
-    (closed_acts c.args.by.0 (Printer c.args.by) (g.P.Plant.view c.args.self.now.inner) (g.P.Plant.view c.print-passed.new.self) c.args.self.now.halved.items (halved_by c.print-passed.result ((c.args.by.0 + 1), (g.P.Plant.view c.args.self.now.inner).now) c.args.self.now.halved.items) c.args.self.now.stops.counts c.args.self.now.arms.counts (past_halved (g.P.Plant.view c.args.self.now.inner) (g.P.Plant.view c.print-passed.new.self) c.print-passed.ensures.acts.goes c.args.self.now.halved.items (c.args.by.0 + 1) c.print-passed.result) c.close.new.stops.counts c.print-passed.result c.close.result
-    (c.fire.ensures.member c.if-fire.true) (c.args.self.now.stops.fits c.args.by.0) (omega (arith, c.close.ensures.few, c.args.self.now.stops.many)) c.print-passed.ensures.acts c.close.ensures.closes)
+    subst (λ (hs : List Halved). Acts c.args.by.0 (Printer c.args.by) (fused_view (g.P.Plant.view c.args.self.now.inner) c.args.self.now.halved.items c.args.self.now.stops c.args.self.now.arms.counts) (fused_view (g.P.Plant.view c.print-passed.new.self) hs c.note.new.self c.args.self.now.arms.counts) c.close-act.result) (sym is)
+    (closed_acts c.args.by.0 (Printer c.args.by) (g.P.Plant.view c.args.self.now.inner) (g.P.Plant.view c.print-passed.new.self) c.args.self.now.halved.items (halved_by c.print-passed.result ((c.args.by.0 + 1), (g.P.Plant.view c.args.self.now.inner).now) c.args.self.now.halved.items) c.args.self.now.stops c.note.new.self c.args.self.now.arms.counts (past_halved (g.P.Plant.view c.args.self.now.inner) (g.P.Plant.view c.print-passed.new.self) c.print-passed.ensures.acts.goes c.args.self.now.halved.items (c.args.by.0 + 1) c.print-passed.result) c.print-passed.result c.close-act.result
+    (c.fire.ensures.member c.if-fire.true) (c.args.self.now.stops.fits c.args.by.0) (omega (arith, c.close-act.ensures.few, c.args.self.now.stops.many)) c.print-passed.ensures.acts (rw c.note.ensures.counts c.close-act.ensures.closes) (rw c.close-act.ensures.last at c.note.ensures.last))
 
 pub returns-then-fire-clause-content : goal.returns-then-fire-clause-content
 returns-then-fire-clause-content g c told =
     let is = c.note_half.ensures ∙ ap (λ (n : ℕ). halved_by c.print-passed.result ((c.args.by.0 + 1), n) c.args.self.now.halved.items) c.now-moment.ensures in
     let small : (g.P.Plant.view c.args.self.now.inner).now ≤ top = omega (arith, c.now-moment.type_inv, c.now-moment.ensures) in
-    subst (λ (hs : List Halved). Prints c.args.by.0 c.args.line.now (fused_view (g.P.Plant.view c.args.self.now.inner) c.args.self.now.halved.items c.args.self.now.stops.counts c.args.self.now.arms.counts) (fused_view (g.P.Plant.view c.print-passed.new.self) hs c.close.new.stops.counts c.args.self.now.arms.counts) c.close.result) (sym is)
-    (print_closed (g.P.Plant.view c.args.self.now.inner) (g.P.Plant.view c.print-passed.new.self) c.args.self.now.halved.items c.args.self.now.stops.counts c.args.self.now.arms.counts c.close.new.stops.counts c.args.self.now.arms.counts c.print-passed.ensures.acts.goes (c.args.self.now.within told) c.args.by.0 (Printer c.args.by) c.args.by.0 c.args.line.now c.half.result.now c.print-passed.result c.close.result c.print-passed.ensures.acts small (c.print-passed.ensures.content told) c.close.ensures.closes)
+    subst (λ (hs : List Halved). Prints c.args.by.0 c.args.line.now (fused_view (g.P.Plant.view c.args.self.now.inner) c.args.self.now.halved.items c.args.self.now.stops c.args.self.now.arms.counts) (fused_view (g.P.Plant.view c.print-passed.new.self) hs c.note.new.self c.args.self.now.arms.counts) c.close-act.result) (sym is)
+    (print_closed (g.P.Plant.view c.args.self.now.inner) (g.P.Plant.view c.print-passed.new.self) c.args.self.now.halved.items c.args.self.now.stops c.args.self.now.arms.counts c.note.new.self c.args.self.now.arms.counts c.print-passed.ensures.acts.goes (c.args.self.now.within told) c.args.by.0 (Printer c.args.by) c.args.by.0 c.args.line.now c.half.result.now c.print-passed.result c.close-act.result c.print-passed.ensures.acts small (c.print-passed.ensures.content told) (rw c.note.ensures.counts c.close-act.ensures.closes))
 
 pub returns-else-fire-clause-acts : goal.returns-else-fire-clause-acts
 returns-else-fire-clause-acts g c =
-    passed_acts c.args.by.0 (Printer c.args.by) (g.P.Plant.view c.args.self.now.inner) (g.P.Plant.view c.print.new.self) c.args.self.now.halved.items c.args.self.now.halved.items c.args.self.now.stops.counts c.args.self.now.arms.counts (past_same (g.P.Plant.view c.args.self.now.inner) (g.P.Plant.view c.print.new.self) c.print.ensures.acts.goes c.args.self.now.halved.items) c.print.result c.print.ensures.acts
+    passed_acts c.args.by.0 (Printer c.args.by) (g.P.Plant.view c.args.self.now.inner) (g.P.Plant.view c.print-act.new.self) c.args.self.now.halved.items c.args.self.now.halved.items c.args.self.now.stops c.note-else-fire.new.self c.args.self.now.arms.counts (past_same (g.P.Plant.view c.args.self.now.inner) (g.P.Plant.view c.print-act.new.self) c.print-act.ensures.acts.goes c.args.self.now.halved.items) c.print-act.result c.print-act.ensures.acts c.note-else-fire.ensures.counts c.note-else-fire.ensures.last
 
 pub returns-else-fire-clause-content : goal.returns-else-fire-clause-content
 returns-else-fire-clause-content g c told =
-    prints_passed (g.P.Plant.view c.args.self.now.inner) (g.P.Plant.view c.print.new.self) c.args.self.now.halved.items c.args.self.now.stops.counts c.args.self.now.arms.counts c.args.self.now.stops.counts c.args.self.now.arms.counts c.print.ensures.acts.goes (c.args.self.now.within told) c.args.by.0 c.args.line.now c.print.result (c.print.ensures.content told)
+    prints_passed (g.P.Plant.view c.args.self.now.inner) (g.P.Plant.view c.print-act.new.self) c.args.self.now.halved.items c.args.self.now.stops c.args.self.now.arms.counts c.note-else-fire.new.self c.args.self.now.arms.counts c.print-act.ensures.acts.goes (c.args.self.now.within told) c.args.by.0 c.args.line.now c.print-act.result (c.print-act.ensures.content told)
 
 pub returns-then-fire-clause-half : goal.returns-then-fire-clause-half
 returns-then-fire-clause-half g c told halts =
@@ -41,4 +41,4 @@ returns-then-fire-clause-half g c told halts =
 pub invariant_of-self-else-fire-clause-unarmed : goal.invariant_of-self-else-fire-clause-unarmed
 invariant_of-self-else-fire-clause-unarmed g c =
     let s = c.args.self.now in
-    subst (λ (a : Armed). AreUnarmed a s.stops.counts s.arms.counts) (sym c.fire.ensures.burnt) (burnt_unarmed (armed_of s.fuses) s.stops.counts s.arms.counts c.args.by.0 true s.unarmed)
+    rw c.note-else-fire.ensures.counts (subst (λ (a : Armed). AreUnarmed a s.stops.counts s.arms.counts) (sym c.fire.ensures.burnt) (burnt_unarmed (armed_of s.fuses) s.stops.counts s.arms.counts c.args.by.0 true s.unarmed))

@@ -1,5 +1,5 @@
 use Rattle.std.proofs.Common.{arith, sym, subst, false}
-use Rattle.spool_disk.specs.declared.plant.Part.TheVariants.{Disk}
+use Rattle.spool_plant.specs.declared.plant.Part.TheVariants.{Disk}
 use Rattle.plant_fuse.proofs.Passing.{closed_acts, passed_acts, past_same}
 use Rattle.plant_fuse.proofs.Content.{sync_closed, syncs_passed}
 use Rattle.spool_disk.specs.Fuses.{Armed}
@@ -10,22 +10,22 @@ use Rattle.plant_fuse.proofs.fused.FusedPlant.sync.Goals as goal
 
 pub returns-then-fire-clause-acts : goal.returns-then-fire-clause-acts
 returns-then-fire-clause-acts g c =
-    closed_acts c.args.by.0 (Disk c.args.dev) (g.P.Plant.view c.args.self.now.inner) (g.P.Plant.view c.read-passed.new.self) c.args.self.now.halved.items c.args.self.now.halved.items c.args.self.now.stops.counts c.args.self.now.arms.counts (past_same (g.P.Plant.view c.args.self.now.inner) (g.P.Plant.view c.read-passed.new.self) (c.read-passed.ensures.acts).goes c.args.self.now.halved.items) c.close.new.stops.counts c.read-passed.result c.close.result
-    (c.fire.ensures.member c.if-fire.true) (c.args.self.now.stops.fits c.args.by.0) (omega (arith, c.close.ensures.few, c.args.self.now.stops.many)) c.read-passed.ensures.acts c.close.ensures.closes
+    closed_acts c.args.by.0 (Disk c.args.dev) (g.P.Plant.view c.args.self.now.inner) (g.P.Plant.view c.read-passed.new.self) c.args.self.now.halved.items c.args.self.now.halved.items c.args.self.now.stops c.note.new.self c.args.self.now.arms.counts (past_same (g.P.Plant.view c.args.self.now.inner) (g.P.Plant.view c.read-passed.new.self) (c.read-passed.ensures.acts).goes c.args.self.now.halved.items) c.read-passed.result c.close-act.result
+    (c.fire.ensures.member c.if-fire.true) (c.args.self.now.stops.fits c.args.by.0) (omega (arith, c.close-act.ensures.few, c.args.self.now.stops.many)) c.read-passed.ensures.acts (rw c.note.ensures.counts c.close-act.ensures.closes) (rw c.close-act.ensures.last at c.note.ensures.last)
 
 pub returns-then-fire-clause-content : goal.returns-then-fire-clause-content
 returns-then-fire-clause-content g c told =
-    sync_closed (g.P.Plant.view c.args.self.now.inner) (g.P.Plant.view c.read-passed.new.self) c.args.self.now.halved.items c.args.self.now.stops.counts c.args.self.now.arms.counts c.close.new.stops.counts c.args.self.now.arms.counts (c.read-passed.ensures.acts).goes (c.args.self.now.within told) c.args.by.0 c.args.dev 0 _ c.read-passed.result c.close.result (c.read-passed.ensures.content told) c.close.ensures.closes
+    sync_closed (g.P.Plant.view c.args.self.now.inner) (g.P.Plant.view c.read-passed.new.self) c.args.self.now.halved.items c.args.self.now.stops c.args.self.now.arms.counts c.note.new.self c.args.self.now.arms.counts (c.read-passed.ensures.acts).goes (c.args.self.now.within told) c.args.by.0 c.args.dev 0 _ c.read-passed.result c.close-act.result (c.read-passed.ensures.content told) (rw c.note.ensures.counts c.close-act.ensures.closes)
 
 pub returns-else-fire-clause-acts : goal.returns-else-fire-clause-acts
 returns-else-fire-clause-acts g c =
-    passed_acts c.args.by.0 (Disk c.args.dev) (g.P.Plant.view c.args.self.now.inner) (g.P.Plant.view c.sync.new.self) c.args.self.now.halved.items c.args.self.now.halved.items c.args.self.now.stops.counts c.args.self.now.arms.counts (past_same (g.P.Plant.view c.args.self.now.inner) (g.P.Plant.view c.sync.new.self) (c.sync.ensures.acts).goes c.args.self.now.halved.items) c.sync.result c.sync.ensures.acts
+    passed_acts c.args.by.0 (Disk c.args.dev) (g.P.Plant.view c.args.self.now.inner) (g.P.Plant.view c.sync-act.new.self) c.args.self.now.halved.items c.args.self.now.halved.items c.args.self.now.stops c.note-else-fire.new.self c.args.self.now.arms.counts (past_same (g.P.Plant.view c.args.self.now.inner) (g.P.Plant.view c.sync-act.new.self) (c.sync-act.ensures.acts).goes c.args.self.now.halved.items) c.sync-act.result c.sync-act.ensures.acts c.note-else-fire.ensures.counts c.note-else-fire.ensures.last
 
 pub returns-else-fire-clause-content : goal.returns-else-fire-clause-content
 returns-else-fire-clause-content g c told =
-    syncs_passed (g.P.Plant.view c.args.self.now.inner) (g.P.Plant.view c.sync.new.self) c.args.self.now.halved.items c.args.self.now.stops.counts c.args.self.now.arms.counts c.args.self.now.stops.counts c.args.self.now.arms.counts (c.sync.ensures.acts).goes (c.args.self.now.within told) c.args.dev c.sync.result (c.sync.ensures.content told)
+    syncs_passed (g.P.Plant.view c.args.self.now.inner) (g.P.Plant.view c.sync-act.new.self) c.args.self.now.halved.items c.args.self.now.stops c.args.self.now.arms.counts c.note-else-fire.new.self c.args.self.now.arms.counts (c.sync-act.ensures.acts).goes (c.args.self.now.within told) c.args.dev c.sync-act.result (c.sync-act.ensures.content told)
 
 pub invariant_of-self-else-fire-clause-unarmed : goal.invariant_of-self-else-fire-clause-unarmed
 invariant_of-self-else-fire-clause-unarmed g c =
     let s = c.args.self.now in
-    subst (λ (a : Armed). AreUnarmed a s.stops.counts s.arms.counts) (sym c.fire.ensures.burnt) (burnt_unarmed (armed_of s.fuses) s.stops.counts s.arms.counts c.args.by.0 false s.unarmed)
+    rw c.note-else-fire.ensures.counts (subst (λ (a : Armed). AreUnarmed a s.stops.counts s.arms.counts) (sym c.fire.ensures.burnt) (burnt_unarmed (armed_of s.fuses) s.stops.counts s.arms.counts c.args.by.0 false s.unarmed))

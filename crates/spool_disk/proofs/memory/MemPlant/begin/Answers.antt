@@ -10,6 +10,6 @@ pub returns-clause-view : goal.returns-clause-view
 returns-clause-view c =
     let kept = c.in_ok-kept.kept in
     let counts = c.in_ok-counts.counts in
-    let s : State = record { now = 0; base = kept.base; deeds = deeds_of kept.log.items kept.arena.items; parts = counts.parts.items; stops = counts.stops.items; loses = counts.loses.items; arms = counts.arms.items; waiting = waiting_on c.in_ok-incoming.incoming } in
+    let s : State = record { now = 0; base = kept.base; deeds = deeds_of kept.log.items kept.arena.items; parts = counts.parts.items; stops = record { counts = counts.stops.items; last = 0 }; loses = counts.loses.items; arms = counts.arms.items; waiting = waiting_on c.in_ok-incoming.incoming } in
     begins c.args.base c.args.parts.items s refl c.in_ok-kept.ensures.base (ap (λ (l : List Entry). deeds_of l kept.arena.items) c.in_ok-kept.ensures.log.0)
-    c.in_ok-counts.ensures.parts c.in_ok-counts.ensures.stops c.in_ok-counts.ensures.loses c.in_ok-counts.ensures.arms c.in_ok-incoming.ensures c.requires.none
+    c.in_ok-counts.ensures.parts c.in_ok-counts.ensures.stops refl c.in_ok-counts.ensures.loses c.in_ok-counts.ensures.arms c.in_ok-incoming.ensures c.requires.none

@@ -1,8 +1,8 @@
 use Rattle.std.proofs.Common.{◌≡◌, ℕ, true, subst, take, ◌++◌, refl, ap}
-use Rattle.spool_disk.specs.declared.plant.Part.TheVariants.{Wire}
+use Rattle.spool_plant.specs.declared.plant.Part.TheVariants.{Wire}
 use Rattle.spool_disk.specs.Deeds.{Passed}
 use Rattle.spool_disk.specs.MemView.{mem_view}
-use Rattle.spool_disk.specs.View.{given_now}
+use Rattle.spool_plant.specs.View.{given_now}
 use Rattle.spool_disk.proofs.MemActs.{done_acts, halted_acts, done_give, halted_give, halted_bytes_given}
 use Rattle.spool_disk.proofs.Faults.{fails_give}
 use Rattle.spool_disk.specs.State.{State}

@@ -1,9 +1,9 @@
 use Rattle.std.proofs.Common.{◌≡◌, ℕ, ◌+◌, ◌*◌, true, subst, ◌++◌, refl, ap}
-use Rattle.spool_disk.specs.declared.plant.Part.TheVariants.{Printer}
+use Rattle.spool_plant.specs.declared.plant.Part.TheVariants.{Printer}
 use Rattle.spool_disk.specs.Deeds.{Said}
 use Rattle.spool_disk.specs.Courses.{deed_left, left_of}
 use Rattle.spool_disk.specs.MemView.{mem_view}
-use Rattle.spool_disk.specs.View.{paper_now}
+use Rattle.spool_plant.specs.View.{paper_now}
 use Rattle.spool_disk.proofs.MemActs.{done_acts, halted_acts, done_print, halted_print, halted_line, left_keeps}
 use Rattle.spool_disk.proofs.Faults.{fails_print}
 use Rattle.spool_disk.specs.State.{State}

@@ -1,6 +1,6 @@
 use Rattle.std.proofs.Common.{length, ◌≡◌, ⊎_elim, false, ◌≤◌, ◌==◌, ◌∙◌, ap, arith, ℕ, drop, filter, subst, sym, ◌+◌, refl}
 use Rattle.spool_disk.specs.Kept.{size_at}
-use Rattle.spool_disk.specs.declared.plant.Part.TheVariants.{Disk as DiskPart}
+use Rattle.spool_plant.specs.declared.plant.Part.TheVariants.{Disk as DiskPart}
 use Rattle.spool_disk.specs.Deeds.{Idle, Fetched, is_read}
 use Rattle.spool_disk.specs.MemView.{state_of}
 use Rattle.spool_disk.specs.Places.{slot_of}

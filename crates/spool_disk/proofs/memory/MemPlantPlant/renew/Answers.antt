@@ -5,7 +5,7 @@ use Rattle.spool_disk.specs.State.{State}
 use Rattle.spool_disk.specs.Deeds.{Renewed}
 use Rattle.spool_disk.specs.Health.{health_at}
 use Rattle.spool_disk.specs.Places.{slot_of, place_of}
-use Rattle.spool_disk.specs.declared.plant.Part.TheVariants.{Disk as DiskPart}
+use Rattle.spool_plant.specs.declared.plant.Part.TheVariants.{Disk as DiskPart}
 use Rattle.spool_disk.proofs.ReadCounts.{reads_recorded}
 use Rattle.spool_disk.proofs.memory.MemPlantPlant.renew.Goals as goal
 

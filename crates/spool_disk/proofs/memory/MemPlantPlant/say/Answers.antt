@@ -1,5 +1,5 @@
 use Rattle.std.proofs.Common.{◌≡◌, ℕ, true, subst, ◌++◌, refl, ap}
-use Rattle.spool_disk.specs.declared.plant.Part.TheVariants.{Console}
+use Rattle.spool_plant.specs.declared.plant.Part.TheVariants.{Console}
 use Rattle.spool_disk.specs.Deeds.{Said}
 use Rattle.spool_disk.specs.Courses.{deed_left, left_of}
 use Rattle.spool_disk.specs.MemView.{mem_view}

@@ -1,5 +1,5 @@
 use Rattle.std.proofs.Common.{refl, ap}
-use Rattle.spool_disk.specs.declared.plant.Part.TheVariants.{Disk as DiskPart}
+use Rattle.spool_plant.specs.declared.plant.Part.TheVariants.{Disk as DiskPart}
 use Rattle.spool_disk.specs.Deeds.{Idle, Synced}
 use Rattle.spool_disk.proofs.MemActs.{done_acts, halted_acts, done_sync, halted_sync}
 use Rattle.spool_disk.proofs.Faults.{fails_sync}

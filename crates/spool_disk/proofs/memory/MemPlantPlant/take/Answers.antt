@@ -1,6 +1,6 @@
 use Rattle.std.proofs.Common.{arith, sym, ◌∙◌, ap, ◌≡◌, ◌++◌, ℕ, Bool, List, length, length-append, length-drop, take, drop, min, if◌then◌else◌, refl, false}
 use Rattle.std.proofs.lemmas.List.{take_at, length-take-le}
-use Rattle.spool_disk.specs.declared.plant.Part.TheVariants.{Wire}
+use Rattle.spool_plant.specs.declared.plant.Part.TheVariants.{Wire}
 use Rattle.spool_disk.specs.Deeds.{Idle, Passed}
 use Rattle.spool_disk.specs.Waiting.{waiting_on}
 use Rattle.spool_disk.proofs.Acting.{same_test, other_test}

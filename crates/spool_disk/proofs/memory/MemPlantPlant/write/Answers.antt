@@ -1,9 +1,9 @@
 use Rattle.std.proofs.Common.{arith, length, ◌≡◌, ◌≤◌, ap, List, ℕ, subst, sym, ◌+◌, take, refl}
 use Rattle.std.proofs.lemmas.List.{length-take}
 use Rattle.spool_disk.specs.Kept.{size_at}
-use Rattle.spool_disk.specs.View.{disk_now}
+use Rattle.spool_plant.specs.View.{disk_now}
 use Rattle.spool_disk.specs.MemView.{mem_view}
-use Rattle.spool_disk.specs.declared.plant.Part.TheVariants.{Disk as DiskPart}
+use Rattle.spool_plant.specs.declared.plant.Part.TheVariants.{Disk as DiskPart}
 use Rattle.spool_disk.specs.Deeds.{Wrote, overwrite}
 use Rattle.spool_disk.proofs.MemActs.{done_acts, halted_acts, done_write, halted_write, halted_bytes}
 use Rattle.spool_disk.proofs.Faults.{fails_write}

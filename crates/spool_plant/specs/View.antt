@@ -1,7 +1,7 @@
 -- What a plant shows: its moment, the world at each moment up to now, and its counts.
 use Rattle.std.specs.Prelude.{◌≡◌, ◌⊎◌, ℕ, ◌+◌, ◌≤◌, Bool, false, List, [], ◌∷◌, length, take, drop}
 use Rattle.mas_types.specs.declared.ids.Dev.{Dev}
-use Rattle.spool_disk.specs.declared.plant.Part.{Part}
+use Rattle.spool_plant.specs.declared.plant.Part.{Part}
 
 -- a stretch of bytes of a device
 pub record Stretch : Type 0 where
@@ -30,7 +30,8 @@ pub record World : Type 0 where
 
 -- What a plant shows: the number of acts made, the world at each moment up to now, the bytes of each device, the parts
 -- lost now, and for each part its faults, for each member its stops, for each device the calls that lost it, for each
--- wire the bytes that wait on it now, and for each member the calls that armed a stop of it.
+-- wire the bytes that wait on it now, and for each member the calls that armed a stop of it. And the moment behind the
+-- last act in which a member was stopped, which is 0 where there was none.
 pub record View : Type 0 where
   pub now : ℕ
   pub world : ℕ → World
@@ -41,6 +42,7 @@ pub record View : Type 0 where
   pub loses : Dev → ℕ
   pub waiting : ℕ → List ℕ
   pub arms : ℕ → ℕ
+  pub halt : ℕ
 
 -- the device at a moment, and now
 abbrev pub disk_at : View → ℕ → Dev → Disk

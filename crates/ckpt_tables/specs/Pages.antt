@@ -8,9 +8,9 @@ use Rattle.mas_types.specs.declared.queues.Setting.{Setting}
 use Rattle.mas_types.specs.declared.queues.Route.{Route}
 use Rattle.mas_types.specs.declared.queues.LineCount.{LineCount}
 use Rattle.lay_bytes.specs.Slots.{job_slot, output_slot, owner_entry}
-use Rattle.ckpt_pages.specs.declared.tables.Tables.{Tables}
+use Rattle.ckpt_tables.specs.declared.tables.Tables.{Tables}
 use Rattle.mas_types.specs.Limits.{page_bytes}
-use Rattle.ckpt_pages.specs.Shape.{page_count, jobs_a_page, outputs_a_page, owners_a_page, first_job_page, first_output_page, first_group_page}
+use Rattle.ckpt_tables.specs.Shape.{page_count, jobs_a_page, outputs_a_page, owners_a_page, first_job_page, first_output_page, first_group_page}
 
 -- the number of the classes, the classes, and zeros up to 36
 abbrev pub classes_entry : List Class → List ℕ

@@ -3,12 +3,12 @@ use Rattle.std.specs.Prelude.{◌≡◌, ℕ, List}
 use Rattle.mas_types.specs.declared.ids.Page.{Page}
 use Rattle.mas_types.specs.declared.queues.Queue.{Queue}
 use Rattle.mas_types.specs.Sound.{IsSound}
-use Rattle.ckpt_pages.specs.declared.tables.Tables.{Tables}
-use Rattle.ckpt_pages.specs.Shape.{HasSpelling, AreLevels}
-use Rattle.ckpt_pages.specs.Pages.{Spell}
+use Rattle.ckpt_tables.specs.declared.tables.Tables.{Tables}
+use Rattle.ckpt_tables.specs.Shape.{HasSpelling, AreLevels}
+use Rattle.ckpt_tables.specs.Pages.{Spell}
 use Rattle.job_queue.specs.Jobs.{AreJobs}
 use Rattle.output_queue.specs.Outputs.{AreOutputs}
-use Rattle.queue_tables.specs.Orders.{HaveOrders}
+use Rattle.queue_telling.specs.Orders.{HaveOrders}
 
 -- the tables tell all of the queue but its texts, of which they tell the numbers of lines
 pub record Tell (t : Tables) (Q : Queue) : Type 0 where

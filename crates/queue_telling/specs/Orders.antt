@@ -4,7 +4,7 @@ use Rattle.std.specs.List.{list_any}
 use Rattle.mas_types.specs.Fit.{AreDistinct}
 use Rattle.lay_bytes.specs.declared.records.JobRec.{JobRec}
 use Rattle.lay_bytes.specs.declared.records.OutRec.{OutRec}
-use Rattle.ckpt_pages.specs.declared.tables.Tables.{Tables}
+use Rattle.ckpt_tables.specs.declared.tables.Tables.{Tables}
 use Rattle.lay_bytes.specs.Used.{used}
 
 -- in these slots no two jobs or outputs have one order, and each order is below the next one

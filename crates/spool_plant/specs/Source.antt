@@ -1,8 +1,8 @@
 -- What a source gives.
 use Rattle.std.specs.Prelude.{◌≡◌, ◌⊎◌, ℕ, ◌-◌, ◌≤◌, nat_le, min, if◌then◌else◌, Option, Some, None, List, [], length, take, drop}
-use Rattle.spool_disk.specs.declared.source.Got.{Got}
-use Rattle.spool_disk.specs.declared.source.Got.TheVariants.{Bytes, End, Failed}
-use Rattle.spool_disk.specs.Acts.{Rose}
+use Rattle.spool_plant.specs.declared.source.Got.{Got}
+use Rattle.spool_plant.specs.declared.source.Got.TheVariants.{Bytes, End, Failed}
+use Rattle.spool_plant.specs.Acts.{Rose}
 
 -- nothing is left, or there is no room
 abbrev pub IsOver : List ℕ → List ℕ → Type 0

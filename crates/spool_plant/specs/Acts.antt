@@ -1,13 +1,13 @@
 -- What an act does to what a plant shows.
 use Rattle.std.specs.Prelude.{◌≡◌, ◌≢◌, ◌⊎◌, ℕ, ◌+◌, ◌-◌, ◌≤◌, ◌<◌, ◌^◌, min, true, false, List, [], ◌∷◌, ◌++◌, length, take, drop, replicate}
 use Rattle.mas_types.specs.declared.ids.Dev.{Dev}
-use Rattle.spool_disk.specs.declared.plant.Part.{Part}
-use Rattle.spool_disk.specs.declared.plant.Part.TheVariants.{Disk as DiskPart}
-use Rattle.spool_disk.specs.declared.plant.Act.{Act}
-use Rattle.spool_disk.specs.declared.plant.Act.TheVariants.{Done, Failed, Halted}
-use Rattle.spool_disk.specs.declared.plant.Took.{Took}
-use Rattle.spool_disk.specs.declared.plant.Took.TheVariants.{Bytes as TookBytes, Failed as TookFailed, Halted as TookHalted}
-use Rattle.spool_disk.specs.View.{View, Disk, Line, disk_now, paper_now, taken_now, given_now, slice}
+use Rattle.spool_plant.specs.declared.plant.Part.{Part}
+use Rattle.spool_plant.specs.declared.plant.Part.TheVariants.{Disk as DiskPart}
+use Rattle.spool_plant.specs.declared.plant.Act.{Act}
+use Rattle.spool_plant.specs.declared.plant.Act.TheVariants.{Done, Failed, Halted}
+use Rattle.spool_plant.specs.declared.plant.Took.{Took}
+use Rattle.spool_plant.specs.declared.plant.Took.TheVariants.{Bytes as TookBytes, Failed as TookFailed, Halted as TookHalted}
+use Rattle.spool_plant.specs.View.{View, Disk, Line, disk_now, paper_now, taken_now, given_now, slice}
 
 -- the greatest count
 abbrev pub top : ℕ
@@ -44,6 +44,8 @@ pub record Acts (by : ℕ) (part : Part) (old new : View) (result : Act) : Type 
   pub halted : result ≡ Halted → Rose (old.stops by) (new.stops by)
   pub not_operator : result ≡ Halted → 0 < by
   pub no_other_stop : (m : ℕ) → (m ≢ by) ⊎ (result ≢ Halted) → new.stops m ≡ old.stops m
+  pub at_halt : result ≡ Halted → new.halt ≡ new.now
+  pub else_halt : result ≢ Halted → new.halt ≡ old.halt
   pub last : old.now ≡ top → result ≡ Failed
   pub loses : (d : Dev) → new.loses d ≡ old.loses d
   pub arms : (m : ℕ) → new.arms m ≡ old.arms m
@@ -205,8 +207,10 @@ pub record Renews (dev : Dev) (old new : View) (result : Act) : Type 0 where
   pub is_lost : result ≡ Failed → new.lost (DiskPart dev) ≡ true
   pub is_there : result ≡ Done → new.lost (DiskPart dev) ≡ false
   pub else_lost : (p : Part) → p ≢ DiskPart dev → new.lost p ≡ old.lost p
+  pub else_faults : (p : Part) → p ≢ DiskPart dev → new.faults p ≡ old.faults p
   pub no_halt : result ≢ Halted
   pub stops : (m : ℕ) → new.stops m ≡ old.stops m
+  pub halt : new.halt ≡ old.halt
   pub last : old.now ≡ top → result ≡ Failed
   pub loses : (d : Dev) → new.loses d ≡ old.loses d
   pub arms : (m : ℕ) → new.arms m ≡ old.arms m
@@ -236,6 +240,7 @@ pub record Loses (part : Part) (old new : View) : Type 0 where
   pub else_lost : (p : Part) → p ≢ part → new.lost p ≡ old.lost p
   pub faults : (p : Part) → new.faults p ≡ old.faults p
   pub stops : (m : ℕ) → new.stops m ≡ old.stops m
+  pub halt : new.halt ≡ old.halt
   pub counted : (d : Dev) → DiskPart d ≡ part → new.loses d ≡ next (old.loses d)
   pub small : (d : Dev) → DiskPart d ≡ part → old.loses d ≤ top
   pub else_counted : (d : Dev) → DiskPart d ≢ part → new.loses d ≡ old.loses d

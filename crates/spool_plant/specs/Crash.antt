@@ -1,9 +1,9 @@
 -- What a crash leaves of a device, by choice.
 use Rattle.std.specs.Prelude.{◌≡◌, ℕ, suc, zero, ◌+◌, ◌<◌, nat_le, nat_lt, ◌&&◌, ◌||◌, if◌then◌else◌, Bool, false, List, [], ◌∷◌, length, slice_index}
 use Rattle.mas_types.specs.declared.ids.Dev.{Dev}
-use Rattle.spool_disk.specs.declared.choice.Choice.{Choice}
-use Rattle.spool_disk.specs.declared.choice.Choice.TheVariants.{Old, New, Ones}
-use Rattle.spool_disk.specs.View.{View, Disk, Stretch, disk_at}
+use Rattle.spool_plant.specs.declared.choice.Choice.{Choice}
+use Rattle.spool_plant.specs.declared.choice.Choice.TheVariants.{Old, New, Ones}
+use Rattle.spool_plant.specs.View.{View, Disk, Stretch, disk_at}
 
 -- a place is in a stretch
 abbrev pub is_in : ℕ → ℕ → ℕ → Bool

@@ -10,7 +10,7 @@ use Rattle.mas_types.specs.Fit.{IsConfig, IsSetting, IsName, IsLine}
 use Rattle.mas_types.specs.Limits.{number_most, routes_most, wires_most}
 use Rattle.lay_bytes.specs.Fields.{piece}
 use Rattle.lay_bytes.specs.Slots.{IsJobRec, IsOutRec, IsOwner, IfUsed}
-use Rattle.ckpt_pages.specs.declared.tables.Tables.{Tables}
+use Rattle.ckpt_tables.specs.declared.tables.Tables.{Tables}
 
 -- the slots of jobs, the slots of outputs and the entries of groups on a page
 abbrev pub jobs_a_page : ℕ

@@ -2,9 +2,9 @@
 ghost use Rattle.std.specs.Prelude.{◌≡◌, ◌+◌, ◌≤◌, length, IsTrue, ◌↔◌};
 ghost use Rattle.std.specs.Prelude.{ℕ, false};
 ghost use Rattle.mas_types.specs.declared.ids.Dev.{Dev};
-ghost use Rattle.spool_disk.specs.View.{View, disk_at, disk_now};
-ghost use Rattle.spool_disk.specs.Acts.{Acts, Reads, Writes, Syncs, Says, Prints, GivesOn, Takes, FitsInto, act_of, Arms, Renews, RenewsThere, Loses, LosesThere};
-ghost use Rattle.spool_disk.specs.declared.plant.Part.TheVariants.{Disk, Console, Printer, Wire};
+ghost use Rattle.spool_plant.specs.View.{View, disk_at, disk_now};
+ghost use Rattle.spool_plant.specs.Acts.{Acts, Reads, Writes, Syncs, Says, Prints, GivesOn, Takes, FitsInto, act_of, Arms, Renews, RenewsThere, Loses, LosesThere};
+ghost use Rattle.spool_plant.specs.declared.plant.Part.TheVariants.{Disk, Console, Printer, Wire};
 
 use mas_types::{Dev, MemberId};
 

@@ -1,0 +1,4 @@
+pub mod View
+pub mod Acts
+pub mod Crash
+pub mod Source
