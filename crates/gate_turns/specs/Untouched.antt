@@ -27,7 +27,7 @@ SaysNothing told x y = (facts_of told y).lines ≡ (facts_of told x).lines
 abbrev pub BeginsNothing : Bool → Shown → Shown → Type 0
 BeginsNothing told x y = (facts_of told y).begun ≡ (facts_of told x).begun
 
--- the same of both
+-- nothing is said and nothing begun: of each member both are as they were
 abbrev pub IsQuiet : Bool → Shown → Shown → Type 0
 IsQuiet told x y = SaysNothing told x y × BeginsNothing told x y
 

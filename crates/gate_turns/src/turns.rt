@@ -16,7 +16,7 @@ pub trait Turns<V: Telling> {
     /// What names the value, or the gate, at which turns are taken.
     ghost Place: { Type 0 };
 
-    /// The one at which it takes turns.
+    /// The place at which it takes turns.
     ghost place: { Self → Place };
 
     /// The member to whom it is bound. One that is bound to none serves each member.
@@ -25,7 +25,7 @@ pub trait Turns<V: Telling> {
     /// The value, in a turn, and none between two.
     ghost held: { Self → Option V };
 
-    /// The same with another value.
+    /// One that has another value, and is else as this one.
     ghost with_held: { Self → V → Self };
 
     /// Which value its next turn may find.

@@ -1,15 +1,15 @@
 -- What a call on one copy leaves as it was, said of plain data.
 use Rattle.std.proofs.Common.{◌≡◌, ◌≢◌, ◌==◌, ⊎_elim, ℕ, ◌≤◌, ◌<◌, Bool, true, false, List, refl, sym, subst, ap, ◌∙◌, arith}
 use Rattle.std.proofs.lemmas.Bool.{eqb-true, eqb-false}
-use Rattle.std.proofs.Math.Logic.{∥∥₁_elim}
+use Rattle.std.proofs.Math.Logic.{∥∥₁_elim, ∥∥₁_map}
 use Rattle.std.specs.Coded.{Coded, Coded-set, coded_list, coded_ℕ, coded_bool, coded×, code_by}
 use Rattle.mas_types.specs.declared.ids.Dev.{Dev}
 use Rattle.mas_types.specs.declared.ids.Dev.TheVariants.{Ckpt1, Ckpt2, Spool}
 use Rattle.spool_plant.specs.declared.plant.Part.TheVariants.{Disk as DiskPart}
-use Rattle.spool_plant.specs.View.{View, World, Disk, Line, Stretch, disk_at, disk_now}
-use Rattle.spool_plant.specs.Acts.{Goes, Loses, LosesThere}
+use Rattle.spool_plant.specs.View.{View, World, Disk, Line, Stretch, Throughout, disk_at, disk_now}
+use Rattle.spool_plant.specs.Acts.{Goes, Loses, LosesThere, SameWires}
 use Rattle.ckpt_copy.specs.Moments.{either_way}
-use Rattle.ckpt_copy.specs.Meanwhile.{Meanwhile}
+use Rattle.ckpt_copy.specs.Meanwhile.{Meanwhile, SameSides}
 use Rattle.duplex_pair.specs.Halves.{IsCkpt}
 use Rattle.duplex_pair.specs.Both.{BothMeanwhile}
 use Rattle.mas_complex.specs.Elsewhere.{Elsewhere, OnCopies}
@@ -28,15 +28,31 @@ coded_disk =
 abbrev pub coded_line : Coded Line
 coded_line = code_by (List ℕ × Bool) (coded× (coded_list coded_ℕ) coded_bool) (λ l. (l.text, l.whole)) (λ p. record { text = p.0; whole = p.1 }) (λ _. refl)
 
-pub elsewhere_of : (dev : Dev) (P : Disk → Type 0) (old new : View) → Meanwhile dev P old new → Elsewhere dev old new
-elsewhere_of dev P old new m = record { others = m.others; console = m.console; papers = λ t from le. (m.sides t from le).paper }
+-- nothing has moved on any wire after a call at each of whose moments it hadn't
+pub wires_of : (old new : View) → old.now ≤ new.now → Throughout old.now new.now (λ t. SameSides (old.world old.now) (new.world t)) → ((w : ℕ) → new.waiting w ≡ old.waiting w) → SameWires old new
+wires_of old new later sides waiting = record {
+  waiting = waiting;
+  taken = (sides new.now later (omega arith)).taken;
+  given = (sides new.now later (omega arith)).given;
+}
 
--- equations of devices and lines need no choice
+pub elsewhere_of : (dev : Dev) (P : Disk → Type 0) (old new : View) → Meanwhile dev P old new → Elsewhere dev old new
+elsewhere_of dev P old new m = record { others = m.others; console = m.console; papers = λ t from le. (m.sides t from le).paper; wires = wires_of old new m.goes.later m.sides m.waiting }
+
+-- equations of bytes, devices and lines need no choice
+wires_is : (old new : View) → ∥ SameWires old new ∥₁ → SameWires old new
+wires_is old new some = record {
+  waiting = λ w. ∥∥₁_elim some (Coded-set (coded_list coded_ℕ) _ _) (λ e. e.waiting w);
+  taken = λ w m. ∥∥₁_elim some (Coded-set (coded_list coded_ℕ) _ _) (λ e. e.taken w m);
+  given = λ w m. ∥∥₁_elim some (Coded-set (coded_list coded_ℕ) _ _) (λ e. e.given w m);
+}
+
 pub elsewhere_is : (dev : Dev) (old new : View) → ∥ Elsewhere dev old new ∥₁ → Elsewhere dev old new
 elsewhere_is dev old new some = record {
   others = λ t from le d ne. ∥∥₁_elim some (Coded-set coded_disk _ _) (λ e. e.others t from le d ne);
   console = λ t from le. ∥∥₁_elim some (Coded-set (coded_list coded_line) _ _) (λ e. e.console t from le);
   papers = λ t from le m. ∥∥₁_elim some (Coded-set (coded_list coded_line) _ _) (λ e. e.papers t from le m);
+  wires = wires_is old new (∥∥₁_map some (λ e. e.wires));
 }
 
 -- a volume that is lost, in one moment
@@ -52,6 +68,7 @@ module _ (v : ℕ) (old new : View) (there : LosesThere (Spool v) old new) where
         (λ (h : old.now < t). let e : t ≡ new.now = omega (arith, h, le, loses.time) in subst (λ (m : ℕ). (new.world m).console ≡ (old.world old.now).console) (sym e) there.only.console)
         (either_way t old.now);
     papers = same_papers old new loses.goes loses.time there.only.paper;
+    wires = there.only.wires;
   }
 
   pub bytes_lost : (d : Dev) → (disk_now new d).bytes ≡ (disk_now old d).bytes
@@ -86,19 +103,30 @@ papers_then old mid new first then x y t from le m = ⊎_elim
     (λ (h : mid.now < t). y t (omega (arith, h)) le m ∙ x mid.now first.later (omega arith) m)
     (either_way t mid.now)
 
+pub wires_none : (v : View) → SameWires v v
+wires_none v = record { waiting = λ w. refl; taken = λ w m. refl; given = λ w m. refl }
+
+wires_then : (old mid new : View) → SameWires old mid → SameWires mid new → SameWires old new
+wires_then old mid new x y = record {
+  waiting = λ w. y.waiting w ∙ x.waiting w;
+  taken = λ w m. y.taken w m ∙ x.taken w m;
+  given = λ w m. y.given w m ∙ x.given w m;
+}
+
 pub on_none : (v : View) → OnCopies v v
-on_none v = record { volumes = volumes_none v; console = refl; papers = papers_none v }
+on_none v = record { volumes = volumes_none v; console = refl; papers = papers_none v; wires = wires_none v }
 
 pub on_then : (old mid new : View) → Goes old mid → Goes mid new → OnCopies old mid → OnCopies mid new → OnCopies old new
 on_then old mid new first then x y = record {
   volumes = volumes_then old mid new first then x.volumes y.volumes;
   console = y.console ∙ x.console;
   papers = papers_then old mid new first then x.papers y.papers;
+  wires = wires_then old mid new x.wires y.wires;
 }
 
 pub on_one : (dev : Dev) → IsCkpt dev → (old new : View) → Goes old new → Elsewhere dev old new → OnCopies old new
-on_one Ckpt1 ckpt old new goes e = record { volumes = λ t from le d one two. e.others t from le d one; console = e.console new.now goes.later (omega arith); papers = e.papers }
-on_one Ckpt2 ckpt old new goes e = record { volumes = λ t from le d one two. e.others t from le d two; console = e.console new.now goes.later (omega arith); papers = e.papers }
+on_one Ckpt1 ckpt old new goes e = record { volumes = λ t from le d one two. e.others t from le d one; console = e.console new.now goes.later (omega arith); papers = e.papers; wires = e.wires }
+on_one Ckpt2 ckpt old new goes e = record { volumes = λ t from le d one two. e.others t from le d two; console = e.console new.now goes.later (omega arith); papers = e.papers; wires = e.wires }
 on_one (Spool n) ckpt old new goes e = absurd ckpt
 
 pub on_both : (P Q : Disk → Type 0) (old new : View) → BothMeanwhile P Q old new → OnCopies old new
@@ -106,6 +134,7 @@ on_both P Q old new m = record {
   volumes = m.others;
   console = m.console new.now m.goes.later (omega arith);
   papers = λ t from le. (m.sides t from le).paper;
+  wires = wires_of old new m.goes.later m.sides m.waiting;
 }
 
 -- printers through a call on both copies
@@ -121,4 +150,5 @@ on_is old new some = record {
   volumes = λ t from le d one two. ∥∥₁_elim some (Coded-set coded_disk _ _) (λ e. e.volumes t from le d one two);
   console = ∥∥₁_elim some (Coded-set (coded_list coded_line) _ _) (λ e. e.console);
   papers = λ t from le m. ∥∥₁_elim some (Coded-set (coded_list coded_line) _ _) (λ e. e.papers t from le m);
+  wires = wires_is old new (∥∥₁_map some (λ e. e.wires));
 }

@@ -26,6 +26,7 @@ use Rattle.mas_complex.specs.Journals.{kept, flying, kept_all, in_flight, entrie
 use Rattle.ckpt_places.specs.declared.places.Place.{Place}
 use Rattle.ckpt_places.specs.declared.places.Place.TheVariants.{Before}
 use Rattle.mas_complex.specs.Crash.{Setting, Stands, IsNext, IsStale, ReadsStale, ReadsBy, Alike, CrashAt, IsAt, IsAway, OneCopy, Copy, CopyAt, Keeps}
+use Rattle.mas_complex.proofs.Apart.{wires_none, wires_of}
 use Rattle.mas_complex.proofs.Batches.{now_kept, now_flying}
 use Rattle.mas_complex.proofs.Renewed.{renewed_open}
 use Rattle.mas_complex.proofs.Passing.{Passes}
@@ -454,8 +455,8 @@ beside Ckpt2 ckpt e = absurd (cc)
 beside (Spool n) ckpt e = absurd ckpt
 
 -- what the call leaves of all else
-pub replaced_elsewhere : (dev : Dev) (P : Disk → Type 0) (old new : View) → WhileReplaced dev P old new → Elsewhere dev old new
-replaced_elsewhere dev P old new m = record { others = m.others; console = m.console; papers = λ t from le. (m.sides t from le).paper }
+pub replaced_elsewhere : (dev : Dev) (P : Disk → Type 0) (old new : View) → old.now ≤ new.now → WhileReplaced dev P old new → Elsewhere dev old new
+replaced_elsewhere dev P old new later m = record { others = m.others; console = m.console; papers = λ t from le. (m.sides t from le).paper; wires = wires_of old new later m.sides m.waiting }
 
 -- before any act
 pub elsewhere_none : (dev : Dev) (v : View) → Elsewhere dev v v
@@ -463,6 +464,7 @@ elsewhere_none dev v = record {
   others = λ t from le d ne. let e : t ≡ v.now = omega (arith, from, le) in ap (λ (m : ℕ). disk_at v m d) e;
   console = λ t from le. let e : t ≡ v.now = omega (arith, from, le) in ap (λ (m : ℕ). (v.world m).console) e;
   papers = λ t from le k. let e : t ≡ v.now = omega (arith, from, le) in ap (λ (m : ℕ). (v.world m).paper k) e;
+  wires = wires_none v;
 }
 
 pub replaces_none : (by : ℕ) (dev : Dev) (v : View) → Replaces by dev false v v
@@ -473,6 +475,7 @@ replaces_none by dev v = record {
   faults = λ p. le_refl (v.faults p);
   stops = λ m. le_refl (v.stops m);
   else_lost = λ p ne. refl;
+  else_faults = λ p ne. refl;
   halted = λ is. absurd (cc);
   at_halt = λ is. absurd (cc);
   not_operator = λ is. absurd (cc);

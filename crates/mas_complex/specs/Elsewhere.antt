@@ -2,17 +2,21 @@
 use Rattle.std.specs.Prelude.{◌≡◌, ◌≢◌}
 use Rattle.mas_types.specs.declared.ids.Dev.{Dev}
 use Rattle.spool_plant.specs.View.{View, disk_at, disk_now, Throughout}
+use Rattle.spool_plant.specs.Acts.{SameWires}
 use Rattle.mas_complex.specs.Kept.{OnlyOnCopies}
 use Rattle.mas_complex.specs.Paper.{SamePapers}
 
--- at each moment of the call every other device, the console and the printers are as before it
+-- At each moment of the call every other device, the console and the printers are as before it. After it the wires
+-- are: nothing has moved on them.
 pub record Elsewhere (dev : Dev) (old new : View) : Type 0 where
   pub others : Throughout old.now new.now (λ t. (d : Dev) → d ≢ dev → disk_at new t d ≡ disk_now old d)
   pub console : Throughout old.now new.now (λ t. (new.world t).console ≡ (old.world old.now).console)
   pub papers : SamePapers old new
+  pub wires : SameWires old new
 
--- at each moment of the call every volume and the printers are as before it, and after it the console is
+-- At each moment of the call every volume and the printers are as before it. After it the console and the wires are.
 pub record OnCopies (old new : View) : Type 0 where
   pub volumes : OnlyOnCopies old new
   pub console : (new.world new.now).console ≡ (old.world old.now).console
   pub papers : SamePapers old new
+  pub wires : SameWires old new

@@ -18,9 +18,9 @@ pub struct Renewal {
 /// The renewals of both copies, in order.
 #[derive(Drop)]
 pub struct Renewals {
-    /// Those of CKPT1.
+    /// The renewals of CKPT1.
     pub first: List<Renewal>,
-    /// Those of CKPT2.
+    /// The renewals of CKPT2.
     pub second: List<Renewal>,
 }
 

@@ -25,13 +25,15 @@ use Rattle.member_node.specs.declared.checkpoint.Checkpoint.{Checkpoint}
 use Rattle.member_node.specs.Drawn.{AreDrawn}
 use Rattle.mas_types.specs.declared.ids.Dev.{Dev}
 use Rattle.spool_plant.specs.View.{View, disk_now}
+use Rattle.duplex_pair.specs.Both.{PairActed}
 use Rattle.duplex_pair.specs.Halves.{SomeAlive}
+use Rattle.mas_complex.specs.Elsewhere.{OnCopies}
 use Rattle.member_node.specs.Reads.{AreLow, ArePagesOf, HasRead, IsRead, IsReadIn, IsReadWhole, IsUpTo, MayGoOn, ReadCauses, ReadInCauses, ReadsAs, ReadsLow, StandAt, copies_alive, orders_after, too_high}
 use Rattle.member_node.specs.Copies.{RestsAt}
 use Rattle.member_node.specs.Spares.{Spares, is_stop}
 use Rattle.ckpt_places.specs.declared.places.Place.{Place}
 use Rattle.mas_complex.specs.Journals.{journal_most}
-use Rattle.member_node.proofs.CourseLemmas.{no as not_both, rose_later, apart_then, course_none, course_then, only_none, papers_none}
+use Rattle.member_node.proofs.CourseLemmas.{no as not_both, rose_later, apart_none, apart_on, apart_then, course_none, course_of, course_then}
 use Rattle.member_node.proofs.DrawnLemmas.{drawn_level, page_joined}
 use Rattle.member_node.proofs.SpareLemmas.{spares_for, spares_none, spares_then}
 
@@ -231,7 +233,16 @@ pub record IsReadTo (told : Type 0) (by : ℕ) (was1 is1 was2 is2 : Bool) (old n
   pub some : (page ≡ first) ⊎ SomeAlive is1 is2
 
 pub read_none : (told : Type 0) (a b : Bool) (v : View) → HasRead told a a b b v v
-read_none told a b v = record { course = course_none a b v; loses = λ t d. refl; apart = λ t. record { others = only_none v; console = refl; papers = papers_none v }; bytes = λ t d. refl }
+read_none told a b v = record { course = course_none a b v; loses = λ t d. refl; apart = λ t. apart_none v; bytes = λ t d. refl }
+
+-- one read of both copies
+pub read_acted : (told : Type 0) (by : ℕ) (a a' b b' stopped : Bool) (old new : View) → PairActed by a a' b b' stopped old new → (told → OnCopies old new) → (told → (d : Dev) → (disk_now new d).bytes ≡ (disk_now old d).bytes) → HasRead told a a' b b' old new
+read_acted told by a a' b b' stopped old new acted on bytes = record {
+  course = course_of by a a' b b' stopped old new acted;
+  loses = λ t d. acted.loses d;
+  apart = λ t. apart_on old new (on t);
+  bytes = bytes;
+}
 
 pub read_then : (told : Type 0) (a a' a'' b b' b'' : Bool) (v0 v1 v2 : View) → HasRead told a a' b b' v0 v1 → HasRead told a' a'' b' b'' v1 v2 → HasRead told a a'' b b'' v0 v2
 read_then told a a' a'' b b' b'' v0 v1 v2 x y = record {

@@ -11,7 +11,7 @@ use Rattle.mas_complex.specs.Journals.{begun, entries_reserved, fated, with_last
 use Rattle.member_node.specs.declared.member.NodeNo.TheVariants.{BothLost, Halted}
 use Rattle.member_node.specs.Calls.{Apart}
 use Rattle.member_node.specs.Writes.{IsWrite}
-use Rattle.member_node.proofs.CourseLemmas.{course_of, course_none, only_none, papers_none}
+use Rattle.member_node.proofs.CourseLemmas.{apart_none, course_none, course_of}
 use Rattle.member_node.proofs.SpareLemmas.{spares_none, spares_pair}
 use Rattle.member_node.proofs.WriteLemmas.{kept_out, flying_out}
 
@@ -30,7 +30,7 @@ module _ (T : Type 0) (told : Type 0) (by : MemberId) (es : List Entry) (front w
     cause = inr (refl, refl);
     spares = spares_none by.0 v0;
     journal = (v0.now, omega arith, omega arith, kept_out front was batches place (fated Kept v0.now (begun v0.now by es)) placed current one is unplaced none);
-    apart = λ t. record { others = only_none v0; console = refl; papers = papers_none v0 };
+    apart = λ t. apart_none v0;
   }
 
   module _ (a' b' : Bool) (v1 : View) (apart : told → Apart v0 v1) where

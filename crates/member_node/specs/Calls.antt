@@ -4,8 +4,9 @@ use Rattle.mas_types.specs.declared.ids.Dev.{Dev}
 use Rattle.mas_types.specs.declared.ids.Dev.TheVariants.{Ckpt1, Ckpt2, Spool}
 use Rattle.spool_plant.specs.declared.plant.Part.TheVariants.{Disk}
 use Rattle.spool_plant.specs.View.{View, Line, disk_at, disk_now, Throughout}
-use Rattle.spool_plant.specs.Acts.{Goes, Rose}
+use Rattle.spool_plant.specs.Acts.{Goes, Rose, SameWires}
 use Rattle.duplex_pair.specs.Halves.{SomeAlive}
+use Rattle.mas_complex.specs.CallCounts.{IsLostOnce}
 use Rattle.mas_complex.specs.Paper.{SamePapers}
 
 -- what stands on the console now
@@ -17,11 +18,13 @@ abbrev pub IsOnlyOn : View → View → Type 0
 IsOnlyOn old new = Throughout old.now new.now
     (λ t. (d : Dev) → d ≢ Ckpt1 → d ≢ Ckpt2 → disk_at new t d ≡ disk_now old d)
 
--- what calls leave as it was: at each moment the other devices and the printers, and at the end the console
+-- What calls leave as it was: at each moment the other devices and the printers, and at the end the console and the
+-- wires, on which nothing has moved then.
 pub record Apart (old new : View) : Type 0 where
   pub others : IsOnlyOn old new
   pub console : console_now new ≡ console_now old
   pub papers : SamePapers old new
+  pub wires : SameWires old new
 
 -- a device was lost: its faults rose, or the calls that lose it did
 abbrev pub WasLost : Dev → View → View → Type 0
@@ -45,8 +48,8 @@ abbrev pub none_lost : ℕ → Bool
 none_lost n = false
 
 -- Acts of a run on its copies, of which these counted as alive before and count so after. A copy is lost exactly where
--- its device failed or was lost by a call, and one that counts as alive isn't lost if it wasn't before. The volumes stay
--- as they are.
+-- its device failed or was lost by a call, once, and one that counts as alive isn't lost if it wasn't before. The
+-- volumes stay as they are.
 pub record Course (was1 is1 was2 is2 : Bool) (old new : View) : Type 0 where
   pub goes : Goes old new
   pub failed1 : was1 ≡ true → is1 ≡ false → WasLost Ckpt1 old new
@@ -56,4 +59,6 @@ pub record Course (was1 is1 was2 is2 : Bool) (old new : View) : Type 0 where
   pub alive1 : is1 ≡ true → was1 ≡ true
   pub alive2 : is2 ≡ true → was2 ≡ true
   pub grow : (d : Dev) → Grows (old.loses d) (new.loses d)
+  pub once1 : IsLostOnce was1 is1 (old.loses Ckpt1) (new.loses Ckpt1)
+  pub once2 : IsLostOnce was2 is2 (old.loses Ckpt2) (new.loses Ckpt2)
   pub volumes : VolumesStay none_lost old new

@@ -124,7 +124,7 @@ is_output_below order (Some output) = nat_lt output.order order
 
 -- levels and orders below this leave a step all that it can use
 abbrev pub too_high : ℕ
-too_high = 2 ^ 63 - 2 ^ 20
+too_high = 2 ^ 63 - 2 ^ 22
 
 -- the orders that a run has given, which began below 2 ^ 62, after so many batches: each gives 2 ^ 19 at most
 abbrev pub orders_after : ℕ → ℕ

@@ -34,7 +34,7 @@ use spool_plant::Plant;
 use std::alloc::Global;
 
 /// From here on a level or an order doesn't leave a step all that it can use: no run of this program comes so far.
-pub const TOO_HIGH: u64 = (1 << 63) - (1 << 20);
+pub const TOO_HIGH: u64 = (1 << 63) - (1 << 22);
 
 // Reads one page: it is the page of what each copy reads that counts as alive afterwards.
 fn read_one<P: Plant + Drop, C: Steady + Drop>(

@@ -16,7 +16,7 @@ use Rattle.member_node.specs.declared.member.NodeNo.TheVariants.{BothLost, Halte
 use Rattle.member_node.specs.Calls.{Course, console_now}
 use Rattle.member_node.specs.Lines.{said_as, IsAnswerOfSay}
 use Rattle.member_node.specs.Spares.{Spares}
-use Rattle.member_node.proofs.CourseLemmas.{no, only_none, only_on, only_said, papers_act, papers_none, papers_on, rose_later}
+use Rattle.member_node.proofs.CourseLemmas.{no, only_none, only_on, only_said, papers_act, papers_none, papers_on, rose_later, wires_none, wires_then}
 use Rattle.member_node.proofs.SpareLemmas.{spares_failed, spares_halted, spares_then}
 use Rattle.member_steps.specs.Saying.{torn, Breaks, HaveSaid, OnConsole}
 
@@ -30,7 +30,7 @@ disk_not_console : (d : Dev) → DiskPart d ≢ Console
 disk_not_console d e = absurd (cc)
 
 pub console_none : (told : Type 0) (v : View) → OnConsole told v v
-console_none told v = record { goes = goes_none v; lost = λ d. refl; faults = λ d. refl; loses = λ d. refl; disks = λ t d. refl; others = λ t. only_none v; papers = λ t. papers_none v }
+console_none told v = record { goes = goes_none v; lost = λ d. refl; faults = λ d. refl; loses = λ d. refl; disks = λ t d. refl; others = λ t. only_none v; papers = λ t. papers_none v; wires = λ t. wires_none v }
 
 pub console_on : (told : Type 0) (by : ℕ) (line : List ℕ) (v0 v1 v2 : View) (said : Act) → OnConsole told v0 v1 → Acts by Console v1 v2 said → (told → Says line v1 v2 said) → OnConsole told v0 v2
 console_on told by line v0 v1 v2 said x act says = record {
@@ -41,6 +41,7 @@ console_on told by line v0 v1 v2 said x act says = record {
   disks = λ t d. (says t).disks d ∙ x.disks t d;
   others = λ t. only_on v0 v1 v2 x.goes.later act.goes (x.others t) (only_said by line v1 v2 said act (says t));
   papers = λ t. papers_on v0 v1 v2 x.goes.later act.goes (x.papers t) (papers_act v1 v2 act.goes act.time (says t).paper);
+  wires = λ t. wires_then v0 v1 v2 (x.wires t) (says t).wires;
 }
 
 -- no copy is lost by acts on the console
@@ -54,6 +55,8 @@ console_course told a b v1 v2 x = record {
   alive1 = λ is. is;
   alive2 = λ is. is;
   grow = λ d. inl (x.loses d);
+  once1 = inl (x.loses Ckpt1);
+  once2 = inl (x.loses Ckpt2);
   volumes = record { lost = λ n other. x.lost (Spool n); faults = λ n other. x.faults (Spool n) };
 }
 

@@ -37,7 +37,7 @@ use Rattle.member_node.specs.Batches.{CanDraw, HasDone, level_with}
 use Rattle.member_node.specs.Calls.{console_now}
 use Rattle.member_node.specs.Drawn.{AreDrawn}
 use Rattle.member_node.specs.Writes.{HasKept, IsWrite}
-use Rattle.member_node.proofs.CourseLemmas.{course_none, course_then, only_none, only_on, papers_none, papers_on, rose_later}
+use Rattle.member_node.proofs.CourseLemmas.{course_none, course_then, only_none, only_on, papers_none, papers_on, rose_later, wires_none, wires_then}
 use Rattle.member_node.proofs.EntryLemmas.{nothing_done}
 use Rattle.member_node.proofs.SpareLemmas.{spares_none, spares_then}
 use Rattle.member_node.proofs.TextLemmas.{plain_brings, texts_after}
@@ -59,6 +59,7 @@ module _ (told : Type 0) (by : ℕ) (lines : List (List ℕ)) (b : Batch) (front
     journal = none;
     others = λ t. only_none v;
     papers = λ t. papers_none v;
+    wires = λ t. wires_none v;
     console = λ t. refl;
   }
 
@@ -75,6 +76,7 @@ module _ (told : Type 0) (by : ℕ) (lines : List (List ℕ)) (b : Batch) (front
       journal = inr write.journal;
       others = λ t. (write.apart t).others;
       papers = λ t. (write.apart t).papers;
+      wires = λ t. (write.apart t).wires;
       console = λ t. (write.apart t).console;
     }
     step_unwritten Halted write = record {
@@ -85,6 +87,7 @@ module _ (told : Type 0) (by : ℕ) (lines : List (List ℕ)) (b : Batch) (front
       journal = inr (inl write.journal);
       others = λ t. (write.apart t).others;
       papers = λ t. (write.apart t).papers;
+      wires = λ t. (write.apart t).wires;
       console = λ t. inl (write.apart t).console;
     }
 
@@ -107,6 +110,7 @@ module _ (told : Type 0) (by : ℕ) (lines : List (List ℕ)) (b : Batch) (front
         journal = kept_then said.acts.goes.later;
         others = λ t. only_on v0 v1 v2 write.course.goes.later said.acts.goes (write.apart t).others (said.acts.others t);
         papers = λ t. papers_on v0 v1 v2 write.course.goes.later said.acts.goes (write.apart t).papers (said.acts.papers t);
+        wires = λ t. wires_then v0 v1 v2 (write.apart t).wires (said.acts.wires t);
         console = λ t. said.console t ∙ ap (λ (l : List Line). l ++ map whole lines) (write.apart t).console;
       }
       step_told (Err ConsoleFault) said = record {
@@ -117,6 +121,7 @@ module _ (told : Type 0) (by : ℕ) (lines : List (List ℕ)) (b : Batch) (front
         journal = kept_then said.acts.goes.later;
         others = λ t. only_on v0 v1 v2 write.course.goes.later said.acts.goes (write.apart t).others (said.acts.others t);
         papers = λ t. papers_on v0 v1 v2 write.course.goes.later said.acts.goes (write.apart t).papers (said.acts.papers t);
+        wires = λ t. wires_then v0 v1 v2 (write.apart t).wires (said.acts.wires t);
         console = λ t. let some = said.console t in (some.0, some.1, console_then t some.0 some.2);
       }
       step_told (Err Halted) said = record {
@@ -127,6 +132,7 @@ module _ (told : Type 0) (by : ℕ) (lines : List (List ℕ)) (b : Batch) (front
         journal = inr (inr (kept_then said.acts.goes.later));
         others = λ t. only_on v0 v1 v2 write.course.goes.later said.acts.goes (write.apart t).others (said.acts.others t);
         papers = λ t. papers_on v0 v1 v2 write.course.goes.later said.acts.goes (write.apart t).papers (said.acts.papers t);
+        wires = λ t. wires_then v0 v1 v2 (write.apart t).wires (said.acts.wires t);
         console = λ t. let some = said.console t in inr (kept_then said.acts.goes.later, some.0, some.1, subst (λ (l : List Line). Breaks some.0 lines l (console_now v2)) (write.apart t).console some.2);
       }
 

@@ -5,7 +5,7 @@ use Rattle.mas_types.specs.declared.ids.MemberId.{MemberId}
 use Rattle.mas_types.specs.declared.journals.Batch.{Batch}
 use Rattle.spool_plant.specs.declared.plant.Part.TheVariants.{Disk, Console}
 use Rattle.spool_plant.specs.View.{View, Line, disk_now}
-use Rattle.spool_plant.specs.Acts.{Goes, Rose}
+use Rattle.spool_plant.specs.Acts.{Goes, Rose, SameWires}
 use Rattle.mas_complex.specs.Headline.{whole}
 use Rattle.mas_complex.specs.Journals.{StepIsKept}
 use Rattle.mas_complex.specs.Meaning.{Closes}
@@ -47,7 +47,7 @@ SayCauses (Err BothLost) by old new = ⊥
 SayCauses (Err NoMemory) by old new = ⊥
 
 -- Acts on the console: no device is lost and none fails, and where content is told, each holds at each moment what it
--- held, and so does each printer.
+-- held, and so does each printer. Nothing has moved on the wires.
 pub record OnConsole (told : Type 0) (old new : View) : Type 0 where
   pub goes : Goes old new
   pub lost : (d : Dev) → new.lost (Disk d) ≡ old.lost (Disk d)
@@ -56,6 +56,7 @@ pub record OnConsole (told : Type 0) (old new : View) : Type 0 where
   pub disks : told → (d : Dev) → disk_now new d ≡ disk_now old d
   pub others : told → IsOnlyOn old new
   pub papers : told → SamePapers old new
+  pub wires : told → SameWires old new
 
 -- The lines were said one after another, up to one that couldn't be.
 pub record HaveSaid {T : Type 0} (told : Type 0) (by : ℕ) (lines : List (List ℕ)) (old new : View)

@@ -11,7 +11,7 @@ use Rattle.mas_types.specs.declared.journals.Fate.TheVariants.{Kept}
 use Rattle.mas_types.specs.declared.queues.Queue.{Queue}
 use Rattle.spool_plant.specs.declared.plant.Part.TheVariants.{Console}
 use Rattle.spool_plant.specs.View.{View, Line}
-use Rattle.spool_plant.specs.Acts.{Rose}
+use Rattle.spool_plant.specs.Acts.{Rose, SameWires}
 use Rattle.duplex_pair.specs.Halves.{IsBothLost}
 use Rattle.ckpt_tables.specs.declared.tables.Tables.{Tables}
 use Rattle.queue_telling.specs.Orders.{HaveOrders}
@@ -131,7 +131,7 @@ StepTells (Err ConsoleFault) lines kept was now = (n : ℕ) × (n < length lines
 StepTells (Err Halted) lines kept was now = (now ≡ was) ⊎ (kept × (n : ℕ) × (n < length lines) × Breaks n lines was now)
 
 -- A step whose commands are this batch, and which closes with these lines, over a journal with these batches before it.
--- Nothing is printed in it.
+-- Nothing is printed in it, and nothing moves on the wires.
 pub record IsStep {T : Type 0} (told : Type 0) (by : ℕ) (lines : List (List ℕ)) (b : Batch) (front batches : List Batch)
     (was1 is1 was2 is2 : Bool) (old new : View) (result : Result T NodeNo) : Type 0 where
   pub course : Course was1 is1 was2 is2 old new
@@ -141,4 +141,5 @@ pub record IsStep {T : Type 0} (told : Type 0) (by : ℕ) (lines : List (List �
   pub journal : StepLeaves result front batches b new.now
   pub others : told → IsOnlyOn old new
   pub papers : told → SamePapers old new
+  pub wires : told → SameWires old new
   pub console : told → StepTells result lines (HasKept front batches b new.now) (console_now old) (console_now new)

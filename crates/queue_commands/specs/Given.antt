@@ -11,12 +11,10 @@ abbrev pub IsGiver : MemberId → Command → Type 0
 IsGiver m command.Restart = m.0 ≡ 0
 IsGiver m _ = (1 ≤ m.0) × (m.0 ≤ members_most)
 
--- the command brings no text, and is of no line to another node
+-- the command brings no text
 abbrev pub is_plain : Command → Bool
 is_plain (command.Enter job text) = false
 is_plain (command.Ended job specs) = false
-is_plain (command.Load line) = false
-is_plain (command.Sent line number) = false
 is_plain (command.Got line number job text) = false
 is_plain _ = true
 

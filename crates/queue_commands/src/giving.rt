@@ -91,16 +91,12 @@ fn read_copies_of(output: &OutSpec)
     let _copies = output.copies;
 }
 
-/// Whether a command brings no text and is of no line to another node.
+/// Whether a command brings no text.
 pub fn is_plain(command: &Command) -> bool
     ensures { result ≡ is_plain_lem command.now }
 {
     !matches!(
         command,
-        Command::Enter { .. }
-            | Command::Ended { .. }
-            | Command::Load { .. }
-            | Command::Sent { .. }
-            | Command::Got { .. }
+        Command::Enter { .. } | Command::Ended { .. } | Command::Got { .. }
     )
 }

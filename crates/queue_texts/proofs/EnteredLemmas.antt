@@ -23,10 +23,11 @@ use Rattle.mas_types.specs.Owners.{freed, is_members, handed_out, deck_places, g
 use Rattle.mas_types.specs.Queue.{in_input, has_number, job_at}
 use Rattle.mas_types.specs.Row.{none_such, wrong_phase}
 use Rattle.mas_types.specs.Sound.{is_owner_there}
-use Rattle.mas_types.specs.Commands.Input.{entered, enter_row, phase_entered}
+use Rattle.mas_types.specs.Commands.Input.{entered, enter_row, not_entered, phase_entered}
+use Rattle.mas_types.specs.Commands.Wire.{again, gap, got_on, got_row}
 use Rattle.queue_laws.proofs.Done.{done_keeps}
 use Rattle.queue_laws.proofs.Finds.{test_cases}
-use Rattle.queue_laws.proofs.Others.{second_none}
+use Rattle.queue_laws.proofs.Others.{after_two, second_none}
 use Rattle.queue_laws.proofs.SoundEnded.{block-All}
 use Rattle.queue_laws.proofs.SoundGone.{no_deck_of}
 use Rattle.queue_laws.proofs.SoundJobs.{in_phase_of}
@@ -34,7 +35,7 @@ use Rattle.track_groups.specs.Groups.{is_things, given, held_by, first_places}
 use Rattle.track_groups.specs.Places.{groups_of}
 use Rattle.track_groups.specs.Laws.{AreNotOf, TextsAreNoMembers, HandsOut, GetsTheLowest, KeepsOtherTexts, FreeingKeepsTexts}
 use Rattle.queue_texts.specs.Leaving.{HoldsOfTexts, WasThere, AreTheirOwn}
-use Rattle.queue_texts.specs.Entering.{groups_for, IsBrought, BringsText, EntersText, EnterBringsText}
+use Rattle.queue_texts.specs.Entering.{groups_for, IsBrought, BringsText, EntersText, EnterBringsText, GotBringsText}
 
 -- the laws of groups
 record GroupLaws : Type 0 where
@@ -159,3 +160,11 @@ module _ (no_members : TextsAreNoMembers) (hands_out : HandsOut) (lowest : GetsT
   enter_brings Q m n text own =
       done_keeps Q (enter_row Q m n text) (λ R. BringsText Q (thing.Deck n) text (groups_for Q m text) R) (stays laws Q m n text)
       (λ none. enters laws Q m n text own (in_phase_of Q n in_input (second_none (none_such refusal.NoJob (job_at Q n)) (wrong_phase in_input (job_at Q n)) _ none)))
+
+  pub got_brings : GotBringsText
+  got_brings Q m l number n text own =
+      done_keeps Q (got_row Q m l number n text) (λ R. BringsText Q (thing.Deck n) text (groups_for Q m text) R) (stays laws Q m n text)
+      (λ none.
+      let rest = after_two (again (got_on Q l) number) (gap (got_on Q l) number) (not_entered Q m n text) none in
+      let came = enters laws Q m n text own (in_phase_of Q n in_input (second_none (none_such refusal.NoJob (job_at Q n)) (wrong_phase in_input (job_at Q n)) _ rest)) in
+      record { decks = came.decks; outputs = came.outputs })

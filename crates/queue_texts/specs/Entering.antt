@@ -1,4 +1,4 @@
--- What Enter leaves of a queue's texts, each with the groups in which it stands.
+-- What Enter and Got leave of a queue's texts, each with the groups in which it stands.
 use Rattle.std.specs.Prelude.{◌≡◌, ◌⊎◌, ℕ, true, List, Some, take}
 use Rattle.mas_types.specs.declared.ids.GroupNo.{GroupNo}
 use Rattle.mas_types.specs.declared.ids.MemberId.{MemberId}
@@ -43,3 +43,8 @@ EntersText = (Q : Queue) (m : MemberId) (n : JobNo) (text : List (List ℕ)) →
 abbrev pub EnterBringsText : Type 0
 EnterBringsText = (Q : Queue) (m : MemberId) (n : JobNo) (text : List (List ℕ)) → AreTheirOwn Q
     → BringsText Q (Deck n) text (groups_for Q m text) (step Q m (command.Enter n text)).0
+
+-- after Got, refused or not, each text stands where it stood, or is the one that is brought, in its groups
+abbrev pub GotBringsText : Type 0
+GotBringsText = (Q : Queue) (m : MemberId) (l number : ℕ) (n : JobNo) (text : List (List ℕ)) → AreTheirOwn Q
+    → BringsText Q (Deck n) text (groups_for Q m text) (step Q m (command.Got l number n text)).0

@@ -1,6 +1,20 @@
 use Rattle.member_node.proofs.CourseLemmas.{apart_first, apart_second, apart_then}
 use Rattle.member_node.proofs.batch.open_both.Goals as goal
 
+pub returns-in_err-open_copy-clause-apart : goal.returns-in_err-open_copy-clause-apart
+returns-in_err-open_copy-clause-apart g c told =
+    let v0 = g.P.Plant.view c.args.complex.now.plant in
+    let v1 = g.P.Plant.view c.open_copy.new.self.plant in
+    let e = c.open_copy.ensures in
+    apart_first v0 v1 e.acted.goes.later (e.elsewhere told)
+
+pub returns-then-not-complex-clause-apart : goal.returns-then-not-complex-clause-apart
+returns-then-not-complex-clause-apart g c told =
+    let v0 = g.P.Plant.view c.args.complex.now.plant in
+    let v1 = g.P.Plant.view c.open_copy.new.self.plant in
+    let e = c.open_copy.ensures in
+    apart_first v0 v1 e.acted.goes.later (e.elsewhere told)
+
 pub returns-clause-apart : goal.returns-clause-apart
 returns-clause-apart g c told =
     let v0 = g.P.Plant.view c.args.complex.now.plant in

@@ -1,9 +1,11 @@
-use Rattle.std.proofs.Common.{sym, ◌∙◌, ap}
+use Rattle.std.proofs.Common.{Err, false, true, refl, sym, ◌∙◌, ap}
 use Rattle.std.proofs.Math.Logic.{∥∥₁_elim}
 use Rattle.std.specs.Coded.{Coded-set, coded_list, coded_ℕ}
 use Rattle.mas_types.specs.declared.ids.Dev.TheVariants.{Ckpt1, Ckpt2}
 use Rattle.spool_plant.specs.View.{disk_now}
-use Rattle.member_node.proofs.ReadLemmas.{other_alive, page_by}
+use Rattle.duplex_pair.specs.Both.{PairActed}
+use Rattle.member_node.proofs.ReadLemmas.{other_alive, page_by, read_acted}
+use Rattle.member_node.proofs.SpareLemmas.{spares_pair}
 use Rattle.member_node.proofs.reading.read_one.Goals as goal
 
 pub returns-in-Ok-clause-page : goal.returns-in-Ok-clause-page
@@ -21,3 +23,42 @@ returns-in-Ok-clause-page g c told was one two =
     (λ on. k.at_first (e.acted.alive1 on) c.requires.first) (λ on. k.at_second (e.acted.alive2 on) c.requires.second)
     (λ on. ap C.reads (sym (e.bytes told Ckpt1)) ∙ one told on) (λ on. ap C.reads (sym (e.bytes told Ckpt2)) ∙ two told on)
     (λ w r1 r2. e.read told w r1 r2) (other_alive z.pair.first.alive z.pair.second.alive e.ok))
+
+pub returns-in-Ok-clause-read : goal.returns-in-Ok-clause-read
+returns-in-Ok-clause-read g c =
+    let P = g.P.Plant in
+    let x = c.args.complex.now in
+    let z = c.read_page.new.self in
+    let e = c.in-Ok.ensures in
+    let acted : PairActed c.args.by.0 x.pair.first.alive z.pair.first.alive x.pair.second.alive z.pair.second.alive false (P.view x.plant) (P.view z.plant) = e.acted in
+    record {
+      acts = read_acted P.tells c.args.by.0 x.pair.first.alive z.pair.first.alive x.pair.second.alive z.pair.second.alive false (P.view x.plant) (P.view z.plant) acted e.apart e.bytes;
+      cause = e.ok;
+      spares = spares_pair c.args.by.0 x.pair.first.alive z.pair.first.alive x.pair.second.alive z.pair.second.alive false (P.view x.plant) (P.view z.plant) acted;
+    }
+
+pub returns-in-Err-BothLost-clause-read : goal.returns-in-Err-BothLost-clause-read
+returns-in-Err-BothLost-clause-read g c =
+    let P = g.P.Plant in
+    let x = c.args.complex.now in
+    let z = c.read_page.new.self in
+    let e = c.in-Err-BothLost.ensures in
+    let acted : PairActed c.args.by.0 x.pair.first.alive z.pair.first.alive x.pair.second.alive z.pair.second.alive false (P.view x.plant) (P.view z.plant) = rw c.in-Err-BothLost.field-0-is at e.acted in
+    record {
+      acts = read_acted P.tells c.args.by.0 x.pair.first.alive z.pair.first.alive x.pair.second.alive z.pair.second.alive false (P.view x.plant) (P.view z.plant) acted e.apart e.bytes;
+      cause = e.both (ap Err c.in-Err-BothLost.field-0-is);
+      spares = spares_pair c.args.by.0 x.pair.first.alive z.pair.first.alive x.pair.second.alive z.pair.second.alive false (P.view x.plant) (P.view z.plant) acted;
+    }
+
+pub returns-in-Err-Halted-clause-read : goal.returns-in-Err-Halted-clause-read
+returns-in-Err-Halted-clause-read g c =
+    let P = g.P.Plant in
+    let x = c.args.complex.now in
+    let z = c.read_page.new.self in
+    let e = c.in-Err-Halted.ensures in
+    let acted : PairActed c.args.by.0 x.pair.first.alive z.pair.first.alive x.pair.second.alive z.pair.second.alive true (P.view x.plant) (P.view z.plant) = rw c.in-Err-Halted.field-0-is at e.acted in
+    record {
+      acts = read_acted P.tells c.args.by.0 x.pair.first.alive z.pair.first.alive x.pair.second.alive z.pair.second.alive true (P.view x.plant) (P.view z.plant) acted e.apart e.bytes;
+      cause = (acted.stands refl, acted.halted refl);
+      spares = spares_pair c.args.by.0 x.pair.first.alive z.pair.first.alive x.pair.second.alive z.pair.second.alive true (P.view x.plant) (P.view z.plant) acted;
+    }

@@ -206,10 +206,10 @@ pub returns-clause-elsewhere : goal.returns-clause-elsewhere
 returns-clause-elsewhere g c told =
     let dev = c.args.dev in
     let old = g.P.Plant.view c.args.self.now.plant in
-    replaced_elsewhere dev (IsOrForms g.C.Copying.reads (disk_now old dev) (bytes_of c.args.pages.now)) old (g.P.Plant.view c.replace.new.plant) (c.replace.ensures.during told)
+    replaced_elsewhere dev (IsOrForms g.C.Copying.reads (disk_now old dev) (bytes_of c.args.pages.now)) old (g.P.Plant.view c.replace.new.plant) c.replace.ensures.replaces.later (c.replace.ensures.during told)
 
 pub returns-in_err-replace-clause-elsewhere : goal.returns-in_err-replace-clause-elsewhere
 returns-in_err-replace-clause-elsewhere g c told =
     let dev = c.args.dev in
     let old = g.P.Plant.view c.args.self.now.plant in
-    replaced_elsewhere dev (IsOrForms g.C.Copying.reads (disk_now old dev) (bytes_of c.args.pages.now)) old (g.P.Plant.view c.replace.new.plant) (c.replace.ensures.during told)
+    replaced_elsewhere dev (IsOrForms g.C.Copying.reads (disk_now old dev) (bytes_of c.args.pages.now)) old (g.P.Plant.view c.replace.new.plant) c.replace.ensures.replaces.later (c.replace.ensures.during told)

@@ -1,7 +1,6 @@
-use Rattle.std.proofs.Common.{◌≤◌, ℕ, false, true, refl, subst, sym, rules}
+use Rattle.std.proofs.Common.{◌≤◌, ℕ, Err, false, true, refl, ap, subst, sym}
 use Rattle.duplex_pair.specs.Both.{PairActed}
-use Rattle.member_node.specs.Calls.{Apart}
-use Rattle.member_node.proofs.CourseLemmas.{course_of}
+use Rattle.member_node.proofs.CourseLemmas.{apart_on, course_of}
 use Rattle.member_node.proofs.SpareLemmas.{spares_pair}
 use Rattle.member_node.proofs.member.Member.primary.Goals as goal
 
@@ -25,10 +24,8 @@ returns-in-Err-Halted-clause-settle g c =
       cause = (acted.stands refl, acted.halted refl);
       spares = spares_pair c.args.self.now.id.0 x.pair.first.alive z.pair.first.alive x.pair.second.alive z.pair.second.alive true (P.view x.plant) (P.view z.plant) acted;
       loses = acted.loses;
-      apart = λ told. apart_here told;
-    } where
-      apart_here : g.P.Plant.tells → Apart (g.P.Plant.view c.args.complex.now.plant) (g.P.Plant.view c.settle.new.self.plant)
-      apart_here told = search rules
+      apart = λ told. apart_on (P.view x.plant) (P.view z.plant) (c.in-Err-Halted.ensures.apart told);
+    }
 
 pub returns-in-Ok-clause-settle : goal.returns-in-Ok-clause-settle
 returns-in-Ok-clause-settle g c =
@@ -41,5 +38,19 @@ returns-in-Ok-clause-settle g c =
       cause = c.in-Ok.ensures.ok;
       spares = spares_pair c.args.self.now.id.0 x.pair.first.alive z.pair.first.alive x.pair.second.alive z.pair.second.alive false (P.view x.plant) (P.view z.plant) acted;
       loses = acted.loses;
-      apart = λ told. let a = c.in-Ok.ensures.apart told in record { others = c.in-Ok.ensures.throughout told; console = a.console; papers = c.in-Ok.ensures.papers told };
+      apart = λ told. apart_on (P.view x.plant) (P.view z.plant) (c.in-Ok.ensures.apart told);
+    }
+
+pub returns-in-Err-BothLost-clause-settle : goal.returns-in-Err-BothLost-clause-settle
+returns-in-Err-BothLost-clause-settle g c =
+    let P = g.P.Plant in
+    let x = c.args.complex.now in
+    let z = c.settle.new.self in
+    let acted : PairActed c.args.self.now.id.0 x.pair.first.alive z.pair.first.alive x.pair.second.alive z.pair.second.alive false (P.view x.plant) (P.view z.plant) = rw c.in-Err-BothLost.field-0-is at c.in-Err-BothLost.ensures.acted in
+    record {
+      course = course_of c.args.self.now.id.0 x.pair.first.alive z.pair.first.alive x.pair.second.alive z.pair.second.alive false (P.view x.plant) (P.view z.plant) acted;
+      cause = c.in-Err-BothLost.ensures.both (ap Err c.in-Err-BothLost.field-0-is);
+      spares = spares_pair c.args.self.now.id.0 x.pair.first.alive z.pair.first.alive x.pair.second.alive z.pair.second.alive false (P.view x.plant) (P.view z.plant) acted;
+      loses = acted.loses;
+      apart = λ told. apart_on (P.view x.plant) (P.view z.plant) (c.in-Err-BothLost.ensures.apart told);
     }
