@@ -11,7 +11,7 @@ use Rattle.spool_plant.specs.View.{View}
 use Rattle.member_node.specs.declared.member.NodeNo.{NodeNo}
 use Rattle.member_node.specs.declared.member.NodeNo.TheVariants.{BothLost, Halted, ConsoleFault, NoMemory}
 use Rattle.member_node.specs.Writes.{IsWrite}
-use Rattle.member_node.proofs.CourseLemmas.{course_none, only_none, papers_none}
+use Rattle.member_node.proofs.CourseLemmas.{apart_none, course_none}
 use Rattle.member_node.proofs.SpareLemmas.{spares_none}
 use Rattle.member_decks.specs.Keeping.{CopyCauses, GivesUpLeaves, IsOnCopies, KeepLeaves}
 
@@ -22,7 +22,7 @@ copies_none told by a b v = record {
   loses = λ t d. refl;
   cause = inr (refl, refl);
   spares = spares_none by v;
-  apart = λ t. record { others = only_none v; console = refl; papers = papers_none v };
+  apart = λ t. apart_none v;
 }
 
 module _ (told : Type 0) (by : ℕ) (b : Batch) (front batches : List Batch) (was1 is1 was2 is2 : Bool) (v0 v1 : View) where

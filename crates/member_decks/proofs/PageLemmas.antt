@@ -29,11 +29,11 @@ use Rattle.mas_complex.proofs.Quotients.{few_quotient}
 use Rattle.mas_complex.proofs.Spooled.{spared_other}
 use Rattle.member_node.specs.Calls.{none_lost}
 use Rattle.member_node.specs.Spares.{SparesBut}
-use Rattle.member_node.proofs.CourseLemmas.{papers_act, papers_none, papers_on}
+use Rattle.member_node.proofs.CourseLemmas.{papers_act, papers_none, papers_on, wires_none, wires_then}
 use Rattle.member_node.proofs.SpareLemmas.{sparing_done, sparing_failed, sparing_halted, sparing_then}
 use Rattle.member_decks.specs.declared.spooling.SpoolError.{SpoolError}
 use Rattle.member_decks.specs.declared.spooling.SpoolError.TheVariants.{Lost, Halted as Stopped}
-use Rattle.member_decks.specs.Spooling.{AreQuiet, OnVolumes, Rise, SpoolCauses, StandBelow, answer_of, lies_there, page_in}
+use Rattle.member_decks.specs.Spooling.{AreQuiet, GroupsKept, IsGroupKept, OnVolumes, Rise, SpoolCauses, StandBelow, answer_of, lies_there, page_in}
 
 -- ACTS
 
@@ -48,6 +48,7 @@ acts_none told by v = record {
   second = λ t. refl;
   console = λ t. refl;
   papers = λ t. papers_none v;
+  wires = λ t. wires_none v;
 }
 
 pub acts_on : (told : Type 0) (by : ℕ) (old mid new : View) → OnVolumes told by old mid → OnVolumes told by mid new → OnVolumes told by old new
@@ -61,6 +62,7 @@ acts_on told by old mid new one two = record {
   second = λ t. two.second t ∙ one.second t;
   console = λ t. two.console t ∙ one.console t;
   papers = λ t. papers_on old mid new one.goes.later two.goes (one.papers t) (two.papers t);
+  wires = λ t. wires_then old mid new (one.wires t) (two.wires t);
 }
 
 -- one act on a volume
@@ -75,6 +77,7 @@ act_on told by v old new r acts only = record {
   second = λ t. (only t).others Ckpt2 (λ same. absurd (cc));
   console = λ t. (only t).console;
   papers = λ t. papers_act old new acts.goes acts.time (only t).paper;
+  wires = λ t. (only t).wires;
 }
 
 -- ONE PAGE
@@ -110,8 +113,23 @@ stands v w config g bytes by long is roomy acts writes =
     let written = subst (λ (b : Bool). Written (page_start b (start_of config.groups g)) (page_part b bytes.0) (disk_now v (device_of config.groups g)) (disk_now w (device_of config.groups g)) Done) wide writes.disk in
     subst (λ (n : ℕ). slice (start_of config.groups g) n (disk_now w (device_of config.groups g)).bytes ≡ bytes.0) long written.1
 
-pub spares : (v w : View) (per : ℕ) (g h : GroupNo) (bytes : Page) (r : Act) → length bytes.0 ≡ page_bytes → WritesGroup per g v w bytes r → h.0 ≢ g.0 → page_in (spools_at w w.now) per h ≡ page_in (spools_at v v.now) per h
-spares v w per g h bytes r long writes other = (spared_other per g v w bytes r long writes h other).page
+pub spares : (v w : View) (per : ℕ) (g h : GroupNo) (bytes : Page) (r : Act) → length bytes.0 ≡ page_bytes → WritesGroup per g v w bytes r → h.0 ≢ g.0 → IsGroupKept per h (spools_at v v.now) (spools_at w w.now)
+spares v w per g h bytes r long writes other = let s = spared_other per g v w bytes r long writes h other in record { page = s.page; synced = s.synced }
+
+-- GROUPS THAT ARE AS THEY WERE
+
+pub kept_none : (per : ℕ) (groups : List GroupNo) (disks : Spools) → GroupsKept per groups disks disks
+kept_none per groups disks h apart = record { page = refl; synced = λ is. is }
+
+pub kept_then : (per : ℕ) (h : GroupNo) (old mid new : Spools) → IsGroupKept per h old mid → IsGroupKept per h mid new → IsGroupKept per h old new
+kept_then per h old mid new one two = record { page = two.page ∙ one.page; synced = λ is. two.synced (one.synced is) }
+
+-- acts that change no byte, and leave synced what was synced
+pub kept_quiet : (per : ℕ) (groups : List GroupNo) (old new : Spools) → AreQuiet old new → GroupsKept per groups old new
+kept_quiet per groups old new quiet h apart = record {
+  page = ap (λ (bytes : List ℕ). slice (start_of per h) page_bytes bytes) (quiet (volume_of per h)).bytes;
+  synced = λ is. (quiet (volume_of per h)).synced (record { from = start_of per h; len = page_bytes }) is;
+}
 
 -- ANSWERS
 

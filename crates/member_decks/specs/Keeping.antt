@@ -19,8 +19,8 @@ CopyCauses (Err BothLost) by was1 is1 was2 is2 old new = IsBothLost is1 is2
 CopyCauses (Err Halted) by was1 is1 was2 is2 old new = IsLeft was1 is1 was2 is2 × Rose (old.stops by) (new.stops by)
 CopyCauses (Err ConsoleFault) by was1 is1 was2 is2 old new = ⊥
 
--- Acts on the copies: where content is told the volumes, the console and the printers are as they were, and no copy is
--- lost by a call.
+-- Acts on the copies: where content is told the volumes, the console, the printers and the lines to other nodes are as
+-- they were, and no copy is lost by a call.
 pub record IsOnCopies {T : Type 0} (told : Type 0) (by : ℕ) (was1 is1 was2 is2 : Bool) (old new : View)
     (result : Result T NodeNo) : Type 0 where
   pub course : Course was1 is1 was2 is2 old new

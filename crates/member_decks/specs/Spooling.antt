@@ -1,5 +1,5 @@
 -- A text that goes into groups on the spool volumes.
-use Rattle.std.specs.Prelude.{◌≡◌, ◌≢◌, ◌⊎◌, ℕ, ◌<◌, ◌==◌, Bool, true, false, List, Some, slice_get, Result, Ok, Err}
+use Rattle.std.specs.Prelude.{◌≡◌, ◌≢◌, ◌⊎◌, ℕ, ◌<◌, ◌==◌, Bool, true, false, List, All, Some, slice_get, Result, Ok, Err}
 use Rattle.std.specs.List.{list_any}
 use Rattle.mas_types.specs.declared.ids.GroupNo.{GroupNo}
 use Rattle.mas_types.specs.declared.ids.Dev.{Dev}
@@ -10,10 +10,10 @@ use Rattle.spool_plant.specs.declared.plant.Act.TheVariants as act
 use Rattle.spool_plant.specs.declared.plant.Part.{Part}
 use Rattle.spool_plant.specs.declared.plant.Part.TheVariants.{Disk as DiskPart}
 use Rattle.spool_plant.specs.View.{View, Disk, Stretch, Avoids, disk_now, slice}
-use Rattle.spool_plant.specs.Acts.{Goes, Rose}
+use Rattle.spool_plant.specs.Acts.{Goes, Rose, SameWires}
 use Rattle.spool_volumes.specs.Volumes.{volume_of, start_of}
 use Rattle.mas_complex.specs.Paper.{SamePapers}
-use Rattle.mas_complex.specs.Texts.{Spools}
+use Rattle.mas_complex.specs.Texts.{IsSynced, Spools}
 use Rattle.member_node.specs.Calls.{none_lost}
 use Rattle.member_node.specs.Spares.{SparesBut}
 use Rattle.member_decks.specs.declared.spooling.SpoolError.{SpoolError}
@@ -26,6 +26,15 @@ Rise groups = (i j : ℕ) (g h : GroupNo) → i < j → slice_get groups i ≡ S
 -- the page of a group
 abbrev pub page_in : Spools → ℕ → GroupNo → List ℕ
 page_in disks per g = slice (start_of per g) page_bytes (disks (volume_of per g)).bytes
+
+-- a group is as it was: no byte of its page differs, and what was synced still is
+pub record IsGroupKept (per : ℕ) (g : GroupNo) (old new : Spools) : Type 0 where
+  pub page : page_in new per g ≡ page_in old per g
+  pub synced : IsSynced old per g → IsSynced new per g
+
+-- so is each group but these
+abbrev pub GroupsKept : ℕ → List GroupNo → Spools → Spools → Type 0
+GroupsKept per groups old new = (h : GroupNo) → All (λ g. h.0 ≢ g.0) groups → IsGroupKept per h old new
 
 -- the pages at the places below this one stand in the groups at these places, synced or not
 abbrev pub StandBelow : ℕ → Spools → ℕ → List (List ℕ) → List GroupNo → Type 0
@@ -45,7 +54,7 @@ abbrev pub lies_there : ℕ → ℕ → List GroupNo → Bool
 lies_there per volume groups = list_any (λ g. volume_of per g == volume) groups
 
 -- Acts of a member on spool volumes: no other part is lost, nobody else is stopped, nor the operator, and where content
--- is told, the copies, the console and at each moment the printers are as they were.
+-- is told, the copies, the console, the lines to other nodes and at each moment the printers are as they were.
 pub record OnVolumes (told : Type 0) (by : ℕ) (old new : View) : Type 0 where
   pub goes : Goes old new
   pub else_lost : (p : Part) → ((n : ℕ) → p ≢ DiskPart (Spool n)) → new.lost p ≡ old.lost p
@@ -56,6 +65,7 @@ pub record OnVolumes (told : Type 0) (by : ℕ) (old new : View) : Type 0 where
   pub second : told → disk_now new Ckpt2 ≡ disk_now old Ckpt2
   pub console : told → (new.world new.now).console ≡ (old.world old.now).console
   pub papers : told → SamePapers old new
+  pub wires : told → SameWires old new
 
 -- Why it stopped: a volume on which a group lies failed and is lost, or the member was stopped. Else nobody was. No other
 -- volume is lost, and no fault of one is counted.

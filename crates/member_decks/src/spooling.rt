@@ -12,7 +12,7 @@ ghost use Rattle.mas_complex.specs.Meaning.{run};
 ghost use Rattle.mas_complex.specs.Parts.{parts_of};
 ghost use Rattle.mas_complex.specs.Spool.{IsGroupOf, IsHeldBy, IsVolumeOf};
 ghost use Rattle.mas_complex.specs.Texts.{IsSynced, IsThere, spools_at};
-ghost use Rattle.member_decks.specs.Spooling.{AreQuiet, OnVolumes, Rise, SpoolCauses, StandBelow, answer_of, lies_there as lies_there_lem, page_in};
+ghost use Rattle.member_decks.specs.Spooling.{AreQuiet, GroupsKept, IsGroupKept, OnVolumes, Rise, SpoolCauses, StandBelow, answer_of, lies_there as lies_there_lem, page_in};
 
 use mas_complex::{Complex, Steady};
 use mas_types::{GroupNo, Lines, MemberId, Page};
@@ -85,10 +85,9 @@ fn write_page<P: Plant + Drop, C: Steady + Drop>(
         → slice_get (packed text.now) place
         ≡ Some (page_in (spools_at (P.view complex.new.plant) (P.view complex.new.plant).now)
         complex.old.base.config.groups group)) }
-    ensures spares { P.tells → (h : GroupNo) → h.0 ≢ group.0
-        → page_in (spools_at (P.view complex.new.plant) (P.view complex.new.plant).now) complex.old.base.config.groups h
-        ≡ page_in (spools_at (P.view complex.old.plant) (P.view complex.old.plant).now) complex.old.base.config.groups
-        h }
+    ensures spares { P.tells → (h : GroupNo) → h.0 ≢ group.0 → IsGroupKept complex.old.base.config.groups h
+        (spools_at (P.view complex.old.plant) (P.view complex.old.plant).now)
+        (spools_at (P.view complex.new.plant) (P.view complex.new.plant).now) }
 {
     law_of_groups();
     let mut page = Page([0; 4096]);
@@ -124,10 +123,9 @@ pub fn write_pages<P: Plant + Drop, C: Steady + Drop>(
     ensures stand { OnOk result (P.tells → AreRoomy (P.view complex.old.plant) complex.old.base.config
         → StandBelow (length groups.now) (spools_at (P.view complex.new.plant) (P.view complex.new.plant).now)
         complex.old.base.config.groups (packed text.now) groups.now) }
-    ensures spares { P.tells → (h : GroupNo) → All (λ g. h.0 ≢ g.0) groups.now
-        → page_in (spools_at (P.view complex.new.plant) (P.view complex.new.plant).now) complex.old.base.config.groups h
-        ≡ page_in (spools_at (P.view complex.old.plant) (P.view complex.old.plant).now) complex.old.base.config.groups
-        h }
+    ensures spares { P.tells → GroupsKept complex.old.base.config.groups groups.now
+        (spools_at (P.view complex.old.plant) (P.view complex.old.plant).now)
+        (spools_at (P.view complex.new.plant) (P.view complex.new.plant).now) }
 {
     for place in 0..groups.len() {
         write_page(complex, by, group_at(groups, place), text, place as u32)?;
@@ -195,7 +193,7 @@ pub fn sync_volumes<P: Plant + Drop, C: Steady + Drop>(
 /// is done the text stands in the groups, all of it synced.
 ///
 /// Lost comes only where the faults of a volume rose on which one of the groups lies, Halted only where the member was
-/// stopped. Of other volumes none is lost, and no fault is counted.
+/// stopped. Of other volumes none is lost, and no fault is counted. Whatever is answered, each other group is as it was.
 pub fn spool_text<P: Plant + Drop, C: Steady + Drop>(
     complex: &mut Complex<P, C>,
     by: MemberId,
@@ -220,6 +218,9 @@ pub fn spool_text<P: Plant + Drop, C: Steady + Drop>(
     ensures there { OnOk result (P.tells → AreRoomy (P.view complex.old.plant) complex.old.base.config
         → IsThere (spools_at (P.view complex.new.plant) (P.view complex.new.plant).now) complex.old.base.config.groups
         (Whole text.now) groups.now) }
+    ensures spares { P.tells → GroupsKept complex.old.base.config.groups groups.now
+        (spools_at (P.view complex.old.plant) (P.view complex.old.plant).now)
+        (spools_at (P.view complex.new.plant) (P.view complex.new.plant).now) }
 {
     write_pages(complex, by, groups, text)?;
     sync_volumes(complex, by, groups)?;

@@ -9,7 +9,7 @@ use Rattle.mas_complex.specs.Texts.{IsThere, spools_at}
 use Rattle.member_node.specs.declared.member.Member.{Member}
 use Rattle.member_decks.specs.declared.spooling.SpoolError.{SpoolError}
 use Rattle.member_decks.specs.declared.spooling.SpoolError.TheVariants as spool
-use Rattle.member_decks.specs.Spooling.{OnVolumes, SpoolCauses}
+use Rattle.member_decks.specs.Spooling.{OnVolumes, SpoolCauses, GroupsKept}
 use Rattle.member_sittings.specs.Asides.{HasSpooled, finds_of, lowest_groups}
 
 -- the first of a list are what all of it are
@@ -22,15 +22,18 @@ all_take P (suc n) (x ∷ xs) all = All-cons P x (take n xs) (All-head P x xs al
 pub spools_by : {P C : Type 0} (plants : PlantGhosts P) (x y : Parts P C) (m : Member) (text : List (List ℕ)) (r : Result (Unit {0}) SpoolError) → OnVolumes plants.tells m.id.0 (plants.view x.plant) (plants.view y.plant)
     → SpoolCauses r m.id.0 x.base.config.groups (lowest_groups m.id m.checkpoint.tables.owners text) (plants.view x.plant) (plants.view y.plant)
     → OnOk r (plants.tells → AreRoomy (plants.view x.plant) x.base.config → IsThere (spools_at (plants.view y.plant) (plants.view y.plant).now) x.base.config.groups (Whole text) (lowest_groups m.id m.checkpoint.tables.owners text))
+    → (plants.tells → GroupsKept x.base.config.groups (lowest_groups m.id m.checkpoint.tables.owners text) (spools_at (plants.view x.plant) (plants.view x.plant).now) (spools_at (plants.view y.plant) (plants.view y.plant).now))
     → HasSpooled plants x y m text (finds_of r)
-spools_by plants x y m text (Ok done) acts cause there = record {
+spools_by plants x y m text (Ok done) acts cause there spares = record {
   acts = acts;
   cause = cause;
   finds = record { only = refl; lost = tt; lies = tt; there = λ none told roomy. there told roomy };
+  spares = spares;
 }
-spools_by plants x y m text (Err (spool.Lost volume)) acts cause there = record {
+spools_by plants x y m text (Err (spool.Lost volume)) acts cause there spares = record {
   acts = acts;
   cause = cause.3;
   finds = record { only = refl; lost = (cause.1, cause.2); lies = cause.0; there = λ none. absurd (cc) };
+  spares = spares;
 }
-spools_by plants x y m text (Err spool.Halted) acts cause there = record { acts = acts; cause = (cause.2, cause.1); finds = tt }
+spools_by plants x y m text (Err spool.Halted) acts cause there spares = record { acts = acts; cause = (cause.2, cause.1); finds = tt; spares = spares }

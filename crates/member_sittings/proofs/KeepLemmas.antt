@@ -11,7 +11,7 @@ use Rattle.member_node.specs.declared.member.NodeNo.TheVariants.{BothLost, Halte
 use Rattle.member_node.specs.Calls.{console_now}
 use Rattle.member_node.specs.Spares.{Spares, stopped_in}
 use Rattle.member_node.specs.Writes.{HasKept}
-use Rattle.member_node.proofs.CourseLemmas.{course_none, only_none, papers_none}
+use Rattle.member_node.proofs.CourseLemmas.{course_none, only_none, papers_none, wires_none}
 use Rattle.member_node.proofs.SpareLemmas.{spares_none}
 use Rattle.member_steps.specs.Counting.{HasCounted}
 use Rattle.member_steps.specs.Steps.{IsStep, StepCauses, StepLeaves}
@@ -76,6 +76,7 @@ module _ {P C : Type 0} (plants : PlantGhosts P) (by : MemberId) (h : Holder) (s
         loses = acts.loses;
         others = λ t. (acts.apart t).others;
         papers = λ t. (acts.apart t).papers;
+        wires = λ t. (acts.apart t).wires;
         spares = spares_of SittingEnd e by.0 V W acts.spares;
         cause = causes_of SittingEnd e by.0 x.first_alive y.first_alive x.second_alive y.second_alive V W acts.cause;
       };
@@ -113,6 +114,7 @@ module _ {P C : Type 0} (plants : PlantGhosts P) (by : MemberId) (h : Holder) (s
             loses = acts.loses;
             others = λ t. (acts.apart t).others;
             papers = λ t. (acts.apart t).papers;
+            wires = λ t. (acts.apart t).wires;
             spares = acts.spares;
             cause = acts.cause;
           };
@@ -162,6 +164,7 @@ module _ {P C : Type 0} (plants : PlantGhosts P) (by : MemberId) (h : Holder) (s
               loses = step.loses;
               others = step.others;
               papers = step.papers;
+              wires = step.wires;
               spares = spares_of SittingEnd e by.0 V W step.spares;
               cause = step_causes SittingEnd e by.0 x.first_alive y.first_alive x.second_alive y.second_alive V W step.cause;
             };
@@ -188,6 +191,7 @@ module _ {P C : Type 0} (plants : PlantGhosts P) (by : MemberId) (h : Holder) (s
               loses = step.loses;
               others = step.others;
               papers = step.papers;
+              wires = step.wires;
               spares = step.spares;
               cause = step.cause;
             };
@@ -214,6 +218,7 @@ sat_none plants by h next lines x es same =
           loses = λ t d. refl;
           others = λ t. only_none v;
           papers = λ t. papers_none v;
+          wires = λ t. wires_none v;
           spares = spares_none by.0 v;
           cause = inr (refl, refl);
         };

@@ -24,7 +24,7 @@ use Rattle.member_node.specs.declared.member.NodeNo.{NodeNo}
 use Rattle.member_node.specs.declared.member.NodeNo.TheVariants as no_node
 use Rattle.member_decks.specs.declared.spooling.SpoolError.{SpoolError}
 use Rattle.member_decks.specs.declared.spooling.SpoolError.TheVariants as spool
-use Rattle.member_decks.specs.Spooling.{OnVolumes, lies_there}
+use Rattle.member_decks.specs.Spooling.{OnVolumes, lies_there, GroupsKept}
 use Rattle.member_decks.specs.Steps.{IsFoundLost, SpoolStops, names_volume}
 use Rattle.step_turns.specs.declared.states.Found.{Found}
 use Rattle.step_turns.specs.declared.states.State.{State}
@@ -104,6 +104,8 @@ module _ {P C : Type 0} (plants : PlantGhosts P) where
       pub acts : OnVolumes plants.tells m.id.0 (v x) (v y)
       pub cause : SpoolStops (λ found. names_volume found.lost) result m.id.0 (v x) (v y)
       pub finds : IfOk result (λ found. FindsDeck x y (lowest_groups m.id m.checkpoint.tables.owners text) text found)
+      pub spares : plants.tells → GroupsKept x.base.config.groups (lowest_groups m.id m.checkpoint.tables.owners text)
+          (spools_at (v x) (v x).now) (spools_at (v y) (v y).now)
 
 -- OVER THE SHARED VALUE
 

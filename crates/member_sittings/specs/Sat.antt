@@ -4,6 +4,7 @@ use Rattle.mas_types.specs.declared.ids.Dev.{Dev}
 use Rattle.mas_types.specs.declared.ids.MemberId.{MemberId}
 use Rattle.mas_types.specs.declared.journals.Batch.{Batch}
 use Rattle.mas_types.specs.declared.journals.Entry.{Entry}
+use Rattle.spool_plant.specs.Acts.{SameWires}
 use Rattle.spool_plant.specs.View.{View}
 use Rattle.spool_plant.specs.declared.plant.Plant.{Ghosts as PlantGhosts}
 use Rattle.ckpt_copy.specs.declared.copying.Copying.{Ghosts as CopyGhosts}
@@ -71,12 +72,14 @@ module _ {P C : Type 0} (plants : PlantGhosts P) where
   v x = plants.view x.plant
 
   -- Acts of a member on the copies and on the console, with the cause of their answer. Nothing is printed, no volume
-  -- changes, and no copy is lost by a call. The member is stopped only where the answer is Halted.
+  -- changes, nothing moves on a line to another node, and no copy is lost by a call. The member is stopped only where the
+  -- answer is Halted.
   pub record HasActed {T : Type 0} (by : MemberId) (old new : Parts P C) (result : Result T NodeNo) : Type 0 where
     pub course : Course old.first_alive new.first_alive old.second_alive new.second_alive (v old) (v new)
     pub loses : plants.tells → (d : Dev) → (v new).loses d ≡ (v old).loses d
     pub others : plants.tells → IsOnlyOn (v old) (v new)
     pub papers : plants.tells → SamePapers (v old) (v new)
+    pub wires : plants.tells → SameWires (v old) (v new)
     pub spares : Spares by.0 (stopped_in result) (v old) (v new)
     pub cause : StepCauses result by.0 old.first_alive new.first_alive old.second_alive new.second_alive (v old) (v new)
 

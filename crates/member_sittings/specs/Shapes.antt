@@ -61,7 +61,7 @@ abbrev pub SaysAtEnd : State → (List (List ℕ) → Type 0) → List (List ℕ
 SaysAtEnd Told says lines = says lines
 SaysAtEnd _ says lines = lines ≡ []
 
--- those of a reply, or of the volume that was found lost
+-- a deck's lines: of a reply, or of the volume that was found lost
 abbrev pub DeckLines : Holder → Option ℕ → List (List ℕ) → Type 0
 DeckLines h lost lines = (r : Reply) × (lines ≡ lines_by h.by h.step lost r)
 

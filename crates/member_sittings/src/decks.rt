@@ -24,9 +24,11 @@ use spool_text::groups_needed;
 use std::alloc::Global;
 use step_turns::{Aside, Holder};
 
-// Ends a sitting and its deck's step: the member's batch is kept, and the step closes with the reply to its last
-// command that isn't Drop, or with the volume that was found lost.
-fn close_deck<P: Plant + Drop, C: Steady + Drop>(
+/// Ends a sitting and its deck's step: the member's batch is kept, and the step closes with the reply to its last
+/// command that isn't Drop, or with the volume that was found lost.
+///
+/// The errors are those of the end of any sitting with lines: NoMemory leaves the batch unbegun.
+pub fn close_deck<P: Plant + Drop, C: Steady + Drop>(
     member: &mut Member,
     alloc: Global,
     complex: &mut Complex<P, C>,

@@ -12,6 +12,6 @@ mod seats;
 pub use asides::spool_deck;
 pub use closing::{close_sitting, give_up_sitting, pause_sitting};
 pub use commands::sit_command;
-pub use decks::{SpooledDeck, sit_deck, sit_spooled};
+pub use decks::{SpooledDeck, close_deck, sit_deck, sit_spooled};
 pub use ends::{SittingEnd, release_of};
 pub use seats::{keep_seat, take_seat};

@@ -24,7 +24,7 @@ use Rattle.step_turns.specs.declared.states.Holder.{Holder}
 use Rattle.step_turns.specs.Turns.{Turn, next_unit, no_more, one_command, units_from}
 use Rattle.member_units.specs.declared.nexts.Next.TheVariants as next
 use Rattle.member_units.specs.Nexts.{IsOfUnit, lines_of, text_of, turn_by}
-use Rattle.member_units.specs.Ready.{MayBeGiven}
+use Rattle.member_asides.specs.Ready.{MayBeGiven}
 
 one : {A : Type 0} (a b : A) → Some a ≡ Some b → a ≡ b
 one a b e = cc

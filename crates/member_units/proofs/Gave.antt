@@ -53,7 +53,7 @@ module _ {P C : Type 0} {plants : PlantGhosts P} {steadies : SteadyGhosts C} {co
       (subst (λ (xs : List (List Entry)). Kept {T = T} x y m.id xs r) same k))
 
   pub spares_of : (x y : Complex P C plants steadies copies) → Apart (plants.view x.plant) (plants.view y.plant) → SparesVolumes (outside x) (outside y)
-  spares_of x y apart = record { others = apart.others; papers = apart.papers }
+  spares_of x y apart = record { others = apart.others; papers = apart.papers; wires = apart.wires }
 
   module _ (x y : Complex P C plants steadies copies) (m n : Member) (h : Holder) (own : h.by ≡ m.id) (w : AtWork x m) (base : y.base ≡ x.base) where
     queue_now : (so_far gave : List Entry) → m.batch ≡ so_far → AtWork y n → end_of y.placed y.current y.journal.batches ≡ x.journal.batches → n.batch ≡ so_far ++ gave → queue_here y n ≡ run (queue_here x m) gave

@@ -17,7 +17,7 @@ use Rattle.job_outcome.specs.declared.units.UnitEnd.{UnitEnd}
 use Rattle.job_outcome.specs.declared.units.UnitEnd.TheVariants as ends
 use Rattle.member_node.specs.declared.member.NodeNo.{NodeNo}
 use Rattle.member_node.specs.declared.member.NodeNo.TheVariants.{BothLost, Halted, ConsoleFault, NoMemory}
-use Rattle.member_node.proofs.CourseLemmas.{course_then, only_none, only_on, papers_none, papers_on, rose_later}
+use Rattle.member_node.proofs.CourseLemmas.{course_then, only_none, only_on, papers_none, papers_on, rose_later, wires_none, wires_then}
 use Rattle.member_node.specs.Spares.{stopped_in}
 use Rattle.member_node.proofs.SpareLemmas.{spares_then}
 use Rattle.member_decks.specs.Batches.{AreAll, HasAll, IsKeptBatch}
@@ -43,7 +43,7 @@ use Rattle.step_turns.specs.Turns.{Turn, after_part, goes_on, goes_on_by, leaves
 use Rattle.step_turns.proofs.Given.{entries_append}
 use Rattle.member_sittings.specs.declared.ends.SittingEnd.{SittingEnd}
 use Rattle.member_sittings.specs.Shapes.{MayEndBy}
-use Rattle.member_units.specs.Plays.{Bounds, Closes, EndsAs, HasGiven, IsWithin, Keeps, Plays, SparesVolumes, Wrote, after_full, bounds, full_of, rests, unwritten, wrote_after, wrote_of}
+use Rattle.member_units.specs.Plays.{Bounds, Closes, EndsAs, HasGiven, IsWithin, Keeps, Plays, PlaysAs, SparesVolumes, Wrote, after_full, bounds, full_of, rests, unwritten, wrote_after, wrote_of}
 use Rattle.member_units.specs.Works.{Outside, Place}
 use Rattle.member_units.proofs.Cuts.{batch_entries, cut_end, full_entries, full_first, of_after, of_batch, of_cut, of_full_batches, starts_after, starts_full}
 use Rattle.member_units.proofs.Ours.{after_its}
@@ -168,28 +168,36 @@ closes_err {S} {T} told by e lines ess o n k = record { course = k.course; loses
 pub closes_ok : {S T : Type 0} (told : Type 0) (by : MemberId) (s : S) (t : T) (lines : List (List ℕ)) (ess : List (List Entry)) (o n : Outside) → Closes {T = S} told by lines ess o n (Ok s) → Closes {T = T} told by lines ess o n (Ok t)
 closes_ok told by s t lines ess o n k = record { course = k.course; loses = k.loses; cause = k.cause; spares = k.spares; rest = k.rest; batches_are = k.batches_are; journal = k.journal; console = k.console }
 
--- no volume is written, and nothing printed
+-- no volume is written, nothing printed, and nothing moves on a line
 pub apart_none : (o : Outside) → SparesVolumes o o
-apart_none o = record { others = only_none o.view; papers = papers_none o.view }
+apart_none o = record { others = only_none o.view; papers = papers_none o.view; wires = wires_none o.view }
 
 pub apart_then : (o m n : Outside) → o.view.now ≤ m.view.now → Goes m.view n.view → SparesVolumes o m → SparesVolumes m n → SparesVolumes o n
-apart_then o m n later goes one two = record { others = only_on o.view m.view n.view later goes one.others two.others; papers = papers_on o.view m.view n.view later goes one.papers two.papers }
+apart_then o m n later goes one two = record {
+  others = only_on o.view m.view n.view later goes one.others two.others;
+  papers = papers_on o.view m.view n.view later goes one.papers two.papers;
+  wires = wires_then o.view m.view n.view one.wires two.wires;
+}
 
--- THE REST OF A SITTING
+-- THE REST OF A SITTING, whatever bounds it
+
+-- what is written after these batches
+abbrev pub after_batches : List (List Entry) → Wrote → Wrote
+after_batches first w = record { batches = first ++ w.batches; next = w.next; lines = w.lines }
 
 -- the counts, by the entries another way
 counted_as : {T : Type 0} {by : MemberId} (es fs : List Entry) (was now : List ℕ) → es ≡ fs → (r : Result T NodeNo) → HasCounted by fs was now r → HasCounted by es was now r
 counted_as {T} {by} es fs was now same r c = subst (λ (l : List Entry). HasCounted {T = T} by l was now r) (sym same) c
 
-module _ (told : Type 0) (h : Holder) (b : Bounds) (given : ℕ) where
+module _ (told : Type 0) (h : Holder) (Fits : Wrote → Type 0) (given : ℕ) where
   -- the rest of a sitting, by what it is to write
-  pub plays_as : (w w' : Wrote) (old : Place) (new : Outside) (r : Result SittingEnd NodeNo) → (told → w ≡ w') → Plays told h b given w old new r → Plays told h b given w' old new r
-  plays_as w w' old new r same p = record { wrote = p.wrote; is = λ t. p.is t ∙ same t; of = p.of; within = p.within; ends = p.ends; closes = p.closes; counts = p.counts; spares = p.spares }
+  pub played_as : (w w' : Wrote) (old : Place) (new : Outside) (r : Result SittingEnd NodeNo) → (told → w ≡ w') → PlaysAs told h Fits given w old new r → PlaysAs told h Fits given w' old new r
+  played_as w w' old new r same p = record { wrote = p.wrote; is = λ t. p.is t ∙ same t; of = p.of; within = p.within; ends = p.ends; closes = p.closes; counts = p.counts; spares = p.spares }
 
   -- an error, where what was to be kept begins what is to be written
-  pub plays_error : {S : Type 0} (why : NodeNo) (w w' : Wrote) (xs : List (List Entry)) (old : Place) (new : Outside) → (told → w' ≡ w) → All (AreOf h.by h.step) w'.batches → IsWithin h b w' → StartsAs xs w'.batches
-      → (told → SparesVolumes old.outside new) → Keeps {T = S} told h.by xs old.outside new (Err why) → {gave : List Entry} → HasCounted {T = S} h.by gave old.outside.printed new.printed (Err why) → Plays told h b given w old new (Err why)
-  plays_error {S} why w w' xs old new is of within starts spares keeps {gave} counts = record {
+  pub played_error : {S : Type 0} (why : NodeNo) (w w' : Wrote) (xs : List (List Entry)) (old : Place) (new : Outside) → (told → w' ≡ w) → All (AreOf h.by h.step) w'.batches → Fits w' → StartsAs xs w'.batches
+      → (told → SparesVolumes old.outside new) → Keeps {T = S} told h.by xs old.outside new (Err why) → {gave : List Entry} → HasCounted {T = S} h.by gave old.outside.printed new.printed (Err why) → PlaysAs told h Fits given w old new (Err why)
+  played_error {S} why w w' xs old new is of within starts spares keeps {gave} counts = record {
     wrote = w';
     is = is;
     of = of;
@@ -202,9 +210,9 @@ module _ (told : Type 0) (h : Holder) (b : Bounds) (given : ℕ) where
   }
 
   -- the sitting ends in a state of the step
-  pub plays_leave : {S : Type 0} (s : S) (e : SittingEnd) (next : State) (old : Place) (new : Outside) → e.next ≡ next → e.given ≡ given → e.release ≡ released h.grant h.hold e.given e.next → AreOf h.by h.step old.batch → IsWithin h b (wrote_of old.batch (leaves next)) → (told → SparesVolumes old.outside new)
-      → Keeps {T = S} told h.by (batch_of old.batch) old.outside new (Ok s) → HasCounted {T = S} h.by old.batch old.outside.printed new.printed (Ok s) → Plays told h b given (wrote_of old.batch (leaves next)) old new (Ok e)
-  plays_leave {S} s e next old new is_next is_given is_released of within spares keeps counts = record {
+  pub played_leave : {S : Type 0} (s : S) (e : SittingEnd) (next : State) (old : Place) (new : Outside) → e.next ≡ next → e.given ≡ given → e.release ≡ released h.grant h.hold e.given e.next → AreOf h.by h.step old.batch → Fits (wrote_of old.batch (leaves next)) → (told → SparesVolumes old.outside new)
+      → Keeps {T = S} told h.by (batch_of old.batch) old.outside new (Ok s) → HasCounted {T = S} h.by old.batch old.outside.printed new.printed (Ok s) → PlaysAs told h Fits given (wrote_of old.batch (leaves next)) old new (Ok e)
+  played_leave {S} s e next old new is_next is_given is_released of within spares keeps counts = record {
     wrote = wrote_of old.batch (leaves next);
     is = λ t. refl;
     of = of_batch h.by h.step old.batch of;
@@ -219,9 +227,9 @@ module _ (told : Type 0) (h : Holder) (b : Bounds) (given : ℕ) where
   ToldThen e = (e.next ≡ Told) × (e.given ≡ given) × (e.release ≡ released h.grant h.hold e.given e.next)
 
   -- the step closes
-  pub plays_close : {S : Type 0} (s : S) (r : Result SittingEnd NodeNo) (lines : List (List ℕ)) (old : Place) (mid new : Outside) → IfOk r ToldThen → AreOf h.by h.step old.batch → IsWithin h b (wrote_of old.batch (says lines)) → (told → SparesVolumes old.outside new)
-      → Keeps {T = S} told h.by (batch_of old.batch) old.outside mid (Ok s) → HasCounted {T = S} h.by old.batch old.outside.printed mid.printed (Ok s) → Closes told h.by lines [] mid new r → new.printed ≡ mid.printed → Plays told h b given (wrote_of old.batch (says lines)) old new r
-  plays_close {S} s r lines old mid new ends of within spares keeps counts closes still = record {
+  pub played_close : {S : Type 0} (s : S) (r : Result SittingEnd NodeNo) (lines : List (List ℕ)) (old : Place) (mid new : Outside) → IfOk r ToldThen → AreOf h.by h.step old.batch → Fits (wrote_of old.batch (says lines)) → (told → SparesVolumes old.outside new)
+      → Keeps {T = S} told h.by (batch_of old.batch) old.outside mid (Ok s) → HasCounted {T = S} h.by old.batch old.outside.printed mid.printed (Ok s) → Closes told h.by lines [] mid new r → new.printed ≡ mid.printed → PlaysAs told h Fits given (wrote_of old.batch (says lines)) old new r
+  played_close {S} s r lines old mid new ends of within spares keeps counts closes still = record {
     wrote = wrote_of old.batch (says lines);
     is = λ t. refl;
     of = of_batch h.by h.step old.batch of;
@@ -235,25 +243,31 @@ module _ (told : Type 0) (h : Holder) (b : Bounds) (given : ℕ) where
     if_ok (Ok e) ends = (ends.0, ap (λ (n : ℕ). n + length old.batch) ends.1 ∙ ap (λ (es : List Entry). given + length es) (sym (batch_entries old.batch)), ends.2)
     if_ok (Err why) ends = tt
 
-  -- as much and more may come
-  pub plays_more : (least fewer : ℕ) (w : Wrote) (old : Place) (new : Outside) (r : Result SittingEnd NodeNo) → least ≤ b.most → fewer ≤ b.units → Plays told h (bounds least fewer b.found) given w old new r → Plays told h b given w old new r
-  plays_more least fewer w old new r le less p = record { wrote = p.wrote; is = p.is; of = p.of; within = more_wrote h b.found b.most least b.units fewer p.wrote le less p.within; ends = p.ends; closes = p.closes; counts = p.counts; spares = p.spares }
+  -- what fits otherwise fits so
+  pub played_fits : (Rest : Wrote → Type 0) (w : Wrote) (old : Place) (new : Outside) (r : Result SittingEnd NodeNo) → ((x : Wrote) → Rest x → Fits x) → PlaysAs told h Rest given w old new r → PlaysAs told h Fits given w old new r
+  played_fits Rest w old new r to p = record { wrote = p.wrote; is = p.is; of = p.of; within = to p.wrote p.within; ends = p.ends; closes = p.closes; counts = p.counts; spares = p.spares }
+
+  -- a full batch couldn't be kept
+  pub played_full_error : {S : Type 0} (why : NodeNo) (t : Turn) (old : Place) (new : Outside) → AreOf h.by h.step old.batch → All (AreOf h.by h.step) t.parts → Fits (wrote_after old.batch t) → (told → SparesVolumes old.outside new)
+      → Keeps {T = S} told h.by (full_of old.batch) old.outside new (Err why) → {gave : List Entry} → HasCounted {T = S} h.by gave old.outside.printed new.printed (Err why) → PlaysAs told h Fits given (wrote_after old.batch t) old new (Err why)
+  played_full_error {S} why t old new of its fits spares keeps {gave} counts =
+      played_error {S = S} why (wrote_after old.batch t) (wrote_after old.batch t) (full_of old.batch) old new (λ t. refl) (of_after h.by h.step old.batch t.parts of its) fits (starts_full old.batch t.parts) spares keeps {gave = gave} counts
 
   -- what is full is written, and then the rest
-  pub plays_full : {S : Type 0} (s : S) (t : Turn) (old mid : Place) (new : Outside) (r : Result SittingEnd NodeNo) (least : ℕ) → length (full_of old.batch) + least ≤ b.most → AreOf h.by h.step old.batch → mid.batch ≡ after_full old.batch → (told → SparesVolumes old.outside mid.outside)
-      → Keeps {T = S} told h.by (full_of old.batch) old.outside mid.outside (Ok s) → HasCounted {T = S} h.by (all_entries (full_of old.batch)) old.outside.printed mid.outside.printed (Ok s) → Plays told h (bounds least b.units b.found) given (wrote_of mid.batch t) mid new r → Plays told h b given (wrote_after old.batch t) old new r
-  plays_full {S} s t old mid new r least le of left spares keeps counts p = record {
-    wrote = record { batches = full_of old.batch ++ p.wrote.batches; next = p.wrote.next; lines = p.wrote.lines };
+  pub played_full : {S : Type 0} (s : S) (t : Turn) (Rest : Wrote → Type 0) (old mid : Place) (new : Outside) (r : Result SittingEnd NodeNo) → ((x : Wrote) → Rest x → Fits (after_batches (full_of old.batch) x)) → AreOf h.by h.step old.batch → mid.batch ≡ after_full old.batch → (told → SparesVolumes old.outside mid.outside)
+      → Keeps {T = S} told h.by (full_of old.batch) old.outside mid.outside (Ok s) → HasCounted {T = S} h.by (all_entries (full_of old.batch)) old.outside.printed mid.outside.printed (Ok s) → PlaysAs told h Rest given (wrote_of mid.batch t) mid new r → PlaysAs told h Fits given (wrote_after old.batch t) old new r
+  played_full {S} s t Rest old mid new r fits of left spares keeps counts p = record {
+    wrote = after_batches (full_of old.batch) p.wrote;
     is = λ told. joined (p.wrote) (p.is told);
     of = All-append (AreOf h.by h.step) (full_of old.batch) p.wrote.batches (of_full_batches h.by h.step old.batch of) p.of;
-    within = record { few = let few = p.within.few in let both = length-append (full_of old.batch) p.wrote.batches in omega (arith, few, both, le); says = p.within.says };
+    within = fits p.wrote p.within;
     ends = if_ok r p.ends;
     closes = closes_then told h.by {S = S} s r p.wrote.lines (full_of old.batch) p.wrote.batches old.outside mid.outside new keeps p.closes;
     counts = counted_as (all_entries (full_of old.batch ++ p.wrote.batches)) (all_entries (full_of old.batch) ++ all_entries p.wrote.batches) old.outside.printed new.printed (entries_append (full_of old.batch) p.wrote.batches) r
         (counted_then h.by (all_entries (full_of old.batch)) (all_entries p.wrote.batches) old.outside.printed mid.outside.printed new.printed s r counts p.counts);
     spares = λ told. apart_then old.outside mid.outside new keeps.course.goes.later p.closes.course.goes (spares told) (p.spares told);
   } where
-    joined : (w : Wrote) → w ≡ wrote_of mid.batch t → record { batches = full_of old.batch ++ w.batches; next = w.next; lines = w.lines } ≡ wrote_after old.batch t
+    joined : (w : Wrote) → w ≡ wrote_of mid.batch t → after_batches (full_of old.batch) w ≡ wrote_after old.batch t
     joined w is =
         let batches : full_of old.batch ++ w.batches ≡ cut_after old.batch (λ unwritten. cut unwritten t.parts) =
         ap (λ (x : Wrote). full_of old.batch ++ x.batches) is ∙ ap (λ (es : List Entry). full_of old.batch ++ cut es t.parts) left ∙ sym (full_first old.batch t.parts) in
@@ -268,9 +282,80 @@ module _ (told : Type 0) (h : Holder) (b : Bounds) (given : ℕ) where
         let more = length-append (all_entries (full_of old.batch)) (all_entries p.wrote.batches) in
         omega (arith, same, all, parts, less, both, more)
 
-    if_ok : (r : Result SittingEnd NodeNo) → IfOk r (EndsAs h given mid.batch p.wrote) → IfOk r (EndsAs h given old.batch (record { batches = full_of old.batch ++ p.wrote.batches; next = p.wrote.next; lines = p.wrote.lines }))
+    if_ok : (r : Result SittingEnd NodeNo) → IfOk r (EndsAs h given mid.batch p.wrote) → IfOk r (EndsAs h given old.batch (after_batches (full_of old.batch) p.wrote))
     if_ok (Ok e) ends = (ends.0, long e ends.1, ends.2)
     if_ok (Err why) ends = tt
+
+module _ (told : Type 0) (h : Holder) (Fits : Wrote → Type 0) (given : ℕ) (cs : List Command) (e : UnitEnd) (old mid : Place) where
+  -- the entries of a part, as the queue gives them
+  abbrev part_given : List Entry
+  part_given = given_in old.queue h.by h.step cs
+
+  -- out of memory for the part, or a batch couldn't be kept then: whatever its entries were, this may follow
+  pub played_part_error : (rest : List Entry → Turn) → AreOf h.by h.step old.batch → ((es : List Entry) → All (AreOf h.by h.step) (rest es).parts) → ((es : List Entry) → Fits (wrote_of old.batch (after_part es (rest es)))) → (why : NodeNo) → HasGiven told h cs e old mid (Err why)
+      → PlaysAs told h Fits given (wrote_of old.batch (after_part part_given (rest part_given))) old mid.outside (Err why)
+  played_part_error rest of its fits why g =
+      let w = wrote_of old.batch (after_part g.es (rest g.es)) in
+      played_error told h Fits given {S = UnitEnd} why (wrote_of old.batch (after_part part_given (rest part_given))) w (batch_of (old.batch ++ g.es)) old mid.outside
+      (λ t. ap (λ (es : List Entry). wrote_of old.batch (after_part es (rest es))) (g.is t))
+      (of_cut h.by h.step old.batch (g.es ∷ (rest g.es).parts) of (All-cons (AreOf h.by h.step) g.es (rest g.es).parts g.of (its g.es)))
+      (fits g.es)
+      (starts_after (old.batch ++ g.es) (rest g.es).parts)
+      g.spares g.keeps g.counts
+
+  -- the part was given, and this turn follows, which is that of the queue where content is told
+  pub played_part : (t rest : Turn) (end : UnitEnd) (given' : ℕ) (new : Outside) (r : Result SittingEnd NodeNo) (g : HasGiven told h cs e old mid (Ok end)) → given' ≡ given + length g.es → (told → t ≡ rest) → PlaysAs told h Fits given' (wrote_after mid.batch t) mid new r
+      → PlaysAs told h Fits given (wrote_of old.batch (after_part part_given rest)) old new r
+  played_part t rest end given' new r g more follows p = record {
+    wrote = p.wrote;
+    is = λ seen. p.is seen ∙ same seen;
+    of = p.of;
+    within = p.within;
+    ends = if_ok r p.ends;
+    closes = closes_then told h.by {S = UnitEnd} end r p.wrote.lines [] p.wrote.batches old.outside mid.outside new g.keeps p.closes;
+    counts = counted_then h.by [] (all_entries p.wrote.batches) old.outside.printed mid.outside.printed new.printed end r g.counts p.counts;
+    spares = λ seen. apart_then old.outside mid.outside new g.keeps.course.goes.later p.closes.course.goes (g.spares seen) (p.spares seen);
+  } where
+    same : told → wrote_after mid.batch t ≡ wrote_of old.batch (after_part part_given rest)
+    same seen =
+        ap (λ (es : List Entry). wrote_after es t) g.left
+        ∙ ap (λ (x : Turn). wrote_after (old.batch ++ g.es) x) (follows seen)
+        ∙ ap (λ (es : List Entry). wrote_after (old.batch ++ es) rest) (g.is seen)
+
+    if_ok : (r : Result SittingEnd NodeNo) → IfOk r (EndsAs h given' mid.batch p.wrote) → IfOk r (EndsAs h given old.batch p.wrote)
+    if_ok (Ok x) ends = let is = ends.1 in let longer = ap length g.left in let both = length-append old.batch g.es in (ends.0, omega (arith, is, longer, both, more), ends.2)
+    if_ok (Err why) ends = tt
+
+-- THE REST OF A SITTING OF WORK
+
+module _ (told : Type 0) (h : Holder) (b : Bounds) (given : ℕ) where
+  -- the same, within bounds
+  pub plays_as : (w w' : Wrote) (old : Place) (new : Outside) (r : Result SittingEnd NodeNo) → (told → w ≡ w') → Plays told h b given w old new r → Plays told h b given w' old new r
+  plays_as = played_as told h (IsWithin h b) given
+
+  pub plays_error : {S : Type 0} (why : NodeNo) (w w' : Wrote) (xs : List (List Entry)) (old : Place) (new : Outside) → (told → w' ≡ w) → All (AreOf h.by h.step) w'.batches → IsWithin h b w' → StartsAs xs w'.batches
+      → (told → SparesVolumes old.outside new) → Keeps {T = S} told h.by xs old.outside new (Err why) → {gave : List Entry} → HasCounted {T = S} h.by gave old.outside.printed new.printed (Err why) → Plays told h b given w old new (Err why)
+  plays_error {S} why w w' xs old new is of within starts spares keeps {gave} counts = played_error told h (IsWithin h b) given {S = S} why w w' xs old new is of within starts spares keeps {gave = gave} counts
+
+  pub plays_leave : {S : Type 0} (s : S) (e : SittingEnd) (next : State) (old : Place) (new : Outside) → e.next ≡ next → e.given ≡ given → e.release ≡ released h.grant h.hold e.given e.next → AreOf h.by h.step old.batch → IsWithin h b (wrote_of old.batch (leaves next)) → (told → SparesVolumes old.outside new)
+      → Keeps {T = S} told h.by (batch_of old.batch) old.outside new (Ok s) → HasCounted {T = S} h.by old.batch old.outside.printed new.printed (Ok s) → Plays told h b given (wrote_of old.batch (leaves next)) old new (Ok e)
+  plays_leave {S} = played_leave told h (IsWithin h b) given {S = S}
+
+  pub plays_close : {S : Type 0} (s : S) (r : Result SittingEnd NodeNo) (lines : List (List ℕ)) (old : Place) (mid new : Outside) → IfOk r (ToldThen told h (IsWithin h b) given) → AreOf h.by h.step old.batch → IsWithin h b (wrote_of old.batch (says lines)) → (told → SparesVolumes old.outside new)
+      → Keeps {T = S} told h.by (batch_of old.batch) old.outside mid (Ok s) → HasCounted {T = S} h.by old.batch old.outside.printed mid.printed (Ok s) → Closes told h.by lines [] mid new r → new.printed ≡ mid.printed → Plays told h b given (wrote_of old.batch (says lines)) old new r
+  plays_close {S} = played_close told h (IsWithin h b) given {S = S}
+
+  -- as much and more may come
+  pub plays_more : (least fewer : ℕ) (w : Wrote) (old : Place) (new : Outside) (r : Result SittingEnd NodeNo) → least ≤ b.most → fewer ≤ b.units → Plays told h (bounds least fewer b.found) given w old new r → Plays told h b given w old new r
+  plays_more least fewer w old new r le less p = record { wrote = p.wrote; is = p.is; of = p.of; within = more_wrote h b.found b.most least b.units fewer p.wrote le less p.within; ends = p.ends; closes = p.closes; counts = p.counts; spares = p.spares }
+
+  -- what is full is written, and then the rest
+  pub plays_full : {S : Type 0} (s : S) (t : Turn) (old mid : Place) (new : Outside) (r : Result SittingEnd NodeNo) (least : ℕ) → length (full_of old.batch) + least ≤ b.most → AreOf h.by h.step old.batch → mid.batch ≡ after_full old.batch → (told → SparesVolumes old.outside mid.outside)
+      → Keeps {T = S} told h.by (full_of old.batch) old.outside mid.outside (Ok s) → HasCounted {T = S} h.by (all_entries (full_of old.batch)) old.outside.printed mid.outside.printed (Ok s) → Plays told h (bounds least b.units b.found) given (wrote_of mid.batch t) mid new r → Plays told h b given (wrote_after old.batch t) old new r
+  plays_full {S} s t old mid new r least le of left spares keeps counts p =
+      played_full told h (IsWithin h b) given {S = S} s t (IsWithin h (bounds least b.units b.found)) old mid new r
+      (λ w within. record { few = let few = within.few in let both = length-append (full_of old.batch) w.batches in omega (arith, few, both, le); says = within.says })
+      of left spares keeps counts p
 
 -- A PART, and then the rest
 
@@ -288,38 +373,20 @@ module _ (told : Type 0) (h : Holder) (b : Bounds) (cs : List Command) (e : Unit
   -- out of memory for the part, or a batch couldn't be kept then
   pub part_error : MayEndBy b.found e → done + 1 + left ≤ b.units → 3 * left + 2 + unwritten old.batch ≤ b.most → (why : NodeNo) → HasGiven told h cs e old mid (Err why) → Plays told h b given (wrote_of old.batch whole_part) old mid.outside (Err why)
   part_error may few le why g =
-      let w = wrote_of old.batch (after_part g.es (then g.es e)) in
-      plays_error told h b given {S = UnitEnd} why (wrote_of old.batch whole_part) w (batch_of (old.batch ++ g.es)) old mid.outside
-      (λ t. ap (λ (es : List Entry). wrote_of old.batch (after_part es (then es e))) (g.is t))
-      (of_cut h.by h.step old.batch (g.es ∷ (then g.es e).parts) of (All-cons (AreOf h.by h.step) g.es (then g.es e).parts g.of (after_its h e left (run old.queue g.es) (given + length g.es) done)))
-      (wrote_within h b.found b.units b.most old.batch (after_part g.es (then g.es e)) (3 * left + 1 + 1) (omega (arith, le)) (part_within h b.found (3 * left + 1) b.units g.es (then g.es e) (goes_within h b.found e may (3 * left + 1) b.units left (run old.queue g.es) (given + length g.es) done few (omega arith))))
-      (starts_after (old.batch ++ g.es) (then g.es e).parts)
-      g.spares g.keeps g.counts
+      played_part_error told h (IsWithin h b) given cs e old mid (λ es. then es e) of (λ es. after_its h e left (run old.queue es) (given + length es) done)
+      (λ es. wrote_within h b.found b.units b.most old.batch (after_part es (then es e)) (3 * left + 1 + 1) (omega (arith, le)) (part_within h b.found (3 * left + 1) b.units es (then es e) (goes_within h b.found e may (3 * left + 1) b.units left (run old.queue es) (given + length es) done few (omega arith))))
+      why g
 
   -- the part was given, and the rest follows
   pub part_then : (end : UnitEnd) (given' : ℕ) (new : Outside) (r : Result SittingEnd NodeNo) (g : HasGiven told h cs e old mid (Ok end)) → given' ≡ given + length g.es
       → Plays told h b given' (wrote_after mid.batch (goes_on_by h end left (units_from h left) mid.queue given' done)) mid new r → Plays told h b given (wrote_of old.batch whole_part) old new r
-  part_then end given' new r g more p = record {
-    wrote = p.wrote;
-    is = λ t. p.is t ∙ same t;
-    of = p.of;
-    within = p.within;
-    ends = if_ok r p.ends;
-    closes = closes_then told h.by {S = UnitEnd} end r p.wrote.lines [] p.wrote.batches old.outside mid.outside new g.keeps p.closes;
-    counts = counted_then h.by [] (all_entries p.wrote.batches) old.outside.printed mid.outside.printed new.printed end r g.counts p.counts;
-    spares = λ t. apart_then old.outside mid.outside new g.keeps.course.goes.later p.closes.course.goes (g.spares t) (p.spares t);
-  } where
-    same : told → wrote_after mid.batch (goes_on_by h end left (units_from h left) mid.queue given' done) ≡ wrote_of old.batch whole_part
+  part_then end given' new r g more p = played_part told h (IsWithin h b) given cs e old mid (goes_on_by h end left (units_from h left) mid.queue given' done) (then all e) end given' new r g more same p where
+    same : told → goes_on_by h end left (units_from h left) mid.queue given' done ≡ then all e
     same t =
-        ap (λ (es : List Entry). wrote_after es (goes_on_by h end left (units_from h left) mid.queue given' done)) g.left
-        ∙ ap (λ (Q : Queue). wrote_after (old.batch ++ g.es) (goes_on_by h end left (units_from h left) Q given' done)) g.queue
-        ∙ ap (λ (n : ℕ). wrote_after (old.batch ++ g.es) (goes_on_by h end left (units_from h left) (run old.queue g.es) n done)) more
-        ∙ ap (λ (x : UnitEnd). wrote_after (old.batch ++ g.es) (then g.es x)) (g.ends t)
-        ∙ ap (λ (es : List Entry). wrote_after (old.batch ++ es) (then es e)) (g.is t)
-
-    if_ok : (r : Result SittingEnd NodeNo) → IfOk r (EndsAs h given' mid.batch p.wrote) → IfOk r (EndsAs h given old.batch p.wrote)
-    if_ok (Ok x) ends = let is = ends.1 in let longer = ap length g.left in let both = length-append old.batch g.es in (ends.0, omega (arith, is, longer, both, more), ends.2)
-    if_ok (Err why) ends = tt
+        ap (λ (Q : Queue). goes_on_by h end left (units_from h left) Q given' done) g.queue
+        ∙ ap (λ (n : ℕ). goes_on_by h end left (units_from h left) (run old.queue g.es) n done) more
+        ∙ ap (λ (x : UnitEnd). then g.es x) (g.ends t)
+        ∙ ap (λ (es : List Entry). then es e) (g.is t)
 
 -- AFTER A UNIT
 
@@ -335,8 +402,8 @@ module _ (told : Type 0) (h : Holder) (b : Bounds) (given : ℕ) where
   full_error {S} why e left done old new may few le of spares keeps {gave} counts =
       let t = goes_on_by h e left (units_from h left) old.queue given done in
       let one = unwritten_one old.batch in
-      plays_error told h b given {S = S} why (wrote_after old.batch t) (wrote_after old.batch t) (full_of old.batch) old new (λ t. refl) (of_after h.by h.step old.batch t.parts of (after_its h e left old.queue given done))
-      (after_within h b.found b.units b.most old.batch t (3 * left + 1) (omega (arith, one, le)) (goes_within h b.found e may (3 * left + 1) b.units left old.queue given done few (omega arith))) (starts_full old.batch t.parts) spares keeps counts
+      played_full_error told h (IsWithin h b) given {S = S} why t old new of (after_its h e left old.queue given done)
+      (after_within h b.found b.units b.most old.batch t (3 * left + 1) (omega (arith, one, le)) (goes_within h b.found e may (3 * left + 1) b.units left old.queue given done few (omega arith))) spares keeps {gave = gave} counts
 
 -- after a unit the next one follows, or the hold is spent
 goes_next : (h : Holder) (left : ℕ) (Q : Queue) (given done : ℕ) → rests h left given ≡ false → goes_on h left (units_from h left) Q given done ≡ units_from h left Q given done

@@ -11,6 +11,4 @@ pub mod Readiness
 pub mod Resting
 pub mod Firsts
 pub mod Taking
-pub mod Shown
-pub mod Printed
 pub mod Resumes

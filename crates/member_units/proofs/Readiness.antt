@@ -21,7 +21,7 @@ use Rattle.std.proofs.Common.{Option, Some, None}
 use Rattle.mas_types.specs.declared.jobs.Job.{Job}
 use Rattle.mas_types.specs.declared.jobs.Output.{Output}
 use Rattle.member_units.specs.Nexts.{AreFieldsOf, IsOfOutput, WaitsFor}
-use Rattle.member_units.specs.Ready.{IsReadyFor, IsReadyUnit}
+use Rattle.member_asides.specs.Ready.{IsReadyFor, IsReadyUnit}
 
 -- who waits for a text waits for that of a job that is there
 job_there : (runs : Bool) (p : Progress) (o : Option Job) (a : Aside) → text_of runs p o ≡ next.Wait a → is_some o ≡ true

@@ -25,7 +25,7 @@ use Rattle.member_units.specs.Nexts.{IsRightNext, WaitsFor}
 use Rattle.member_sittings.specs.declared.ends.SittingEnd.{SittingEnd}
 use Rattle.member_units.specs.declared.nexts.Next.{Next}
 use Rattle.member_units.specs.declared.nexts.Next.TheVariants as next
-use Rattle.member_units.specs.Ready.{HasFewer, IsReady, IsReadyUnit}
+use Rattle.member_asides.specs.Ready.{HasFewer, IsReady, IsReadyUnit}
 use Rattle.member_units.specs.Works.{HasSeat, Sits, SitsIn, Works, queue_here}
 use Rattle.member_units.proofs.Seated.{sits_works}
 

@@ -20,8 +20,8 @@ use Rattle.track_groups.specs.Groups.{held_by}
 use Rattle.mas_complex.specs.Texts.{Spools}
 use Rattle.member_work.specs.Spooled.{AreSpooled}
 use Rattle.member_work.specs.Steps.{IsUnderWay}
-use Rattle.member_units.specs.Asides.{lowest_for}
-use Rattle.member_units.specs.Ready.{OutputsStand}
+use Rattle.member_asides.specs.Asides.{lowest_for}
+use Rattle.member_asides.specs.Ready.{OutputsStand}
 
 -- OUTPUTS that were written: a job that was cancelled since has none
 

@@ -25,23 +25,23 @@ use Rattle.step_turns.specs.Batches.{cut}
 use Rattle.step_turns.specs.Courses.{sittings_most}
 use Rattle.step_turns.specs.Entries.{all_entries}
 use Rattle.step_turns.specs.Laws.{units_done, units_left}
-use Rattle.step_turns.specs.Sittings.{Sitting, released, sit}
+use Rattle.step_turns.specs.Sittings.{Sitting, released, sitting_of}
 use Rattle.step_turns.specs.declared.states.Aside.{Aside}
 use Rattle.step_turns.specs.declared.states.Aside.TheVariants.{Acknowledge, Exchange, PrintLines, ReadText, SpoolArrival, SpoolDeck, SpoolOutputs}
 use Rattle.step_turns.specs.declared.states.Found.{Found}
 use Rattle.step_turns.specs.declared.states.Holder.{Holder}
 use Rattle.step_turns.specs.declared.states.State.{State}
 use Rattle.step_turns.specs.declared.states.State.TheVariants.{Away}
-use Rattle.step_turns.specs.Turns.{turn}
+use Rattle.step_turns.specs.Turns.{Turn, turn}
 use Rattle.step_turns.proofs.Cutting.{cut_entries}
 use Rattle.member_sittings.specs.declared.ends.SittingEnd.{SittingEnd}
 use Rattle.member_sittings.specs.Left.{HasSaid}
-use Rattle.member_sittings.specs.Sat.{HasSat, IsEndOf, sat_in}
+use Rattle.member_sittings.specs.Sat.{HasSat, IsEndOf, IsSat, sat_in}
 use Rattle.member_sittings.specs.Shapes.{Says, SaysWork}
 use Rattle.member_sittings.specs.Tight.{IfNoWork}
 use Rattle.member_sittings.proofs.ReachLemmas.{LeftBy, by_all, by_cut_wanted, by_thirds_halted, by_thirds_lost, said_all, said_broken, said_none, said_some}
-use Rattle.member_units.specs.Plays.{EndsAs, Plays, Wrote, bounds, wrote_of}
-use Rattle.member_units.specs.Ready.{MayResume}
+use Rattle.member_units.specs.Plays.{EndsAs, IsWithin, Plays, PlaysAs, Wrote, bounds, wrote_of}
+use Rattle.member_asides.specs.Ready.{MayResume}
 use Rattle.member_units.specs.Works.{Run, outside, place_of, queue_kept, run_of}
 use Rattle.member_units.proofs.Working.{AtWork, none_flies}
 
@@ -68,12 +68,12 @@ all_where (Err NoMemory) by from now ess front batches rest are all = (λ is. ab
 all_where (Err BothLost) by from now ess front batches rest are all = (λ is. absurd (cc), λ x is. absurd (cc))
 all_where (Err Halted) by from now ess front batches rest are all = (λ is. absurd (cc), λ x is. absurd (cc))
 
-abbrev sitting_as : Holder → Wrote → Sitting
+-- a whole sitting, by what it writes
+abbrev pub sitting_as : Holder → Wrote → Sitting
 sitting_as h w = record { batches = w.batches; next = w.next; lines = w.lines; release = released h.grant h.hold (length (all_entries w.batches)) w.next }
 
-sits_as : (h : Holder) (Q : Queue) (s : State) (found : Found) (w : Wrote) → w ≡ wrote_of [] (turn h Q s found) → sitting_as h w ≡ sit Q h s found
-sits_as h Q s found w is =
-    let t = turn h Q s found in
+pub sits_as : (h : Holder) (t : Turn) (w : Wrote) → w ≡ wrote_of [] t → sitting_as h w ≡ sitting_of h t
+sits_as h t w is =
     ap (sitting_as h) is ∙ ap (λ (es : List Entry). record { batches = cut [] t.parts; next = t.next; lines = t.lines; release = released h.grant h.hold (length es) t.next }) (cut_entries [] t.parts)
 
 ends_as : (h : Holder) (w : Wrote) (r : Result SittingEnd NodeNo) → IfOk r (EndsAs h 0 [] w) → IfOk r (IsEndOf (sitting_as h w))
@@ -112,30 +112,35 @@ module _ {P C : Type 0} {plants : PlantGhosts P} {steadies : SteadyGhosts C} {co
       ap (λ (b : Book). record (parts_of y) { book = b }) book ∙ ap (λ (q : Queue). record (parts_of y) { book = x.book; base = q }) base ∙ ap (λ (n : ℕ). record (parts_of y) { book = x.book; base = x.base; since = n }) since
       ∙ ap (λ (rs : Renewals). record (parts_of y) { book = x.book; base = x.base; since = x.since; renewals = rs }) renewals
 
-  pub sat_of : (x y : Complex P C plants steadies copies) (m : Member) (h : Holder) (s : State) (found : Found) (w : Wrote) (r : Result SittingEnd NodeNo) → ((A : Type 0) → IfNoWork s A) → ((t : Sitting) → SaysWork h s found t → Says h s found t) → m.batch ≡ [] → AtWork x m → (plants.tells → w ≡ wrote_of [] (turn h (queue_kept x) s found))
-      → Plays plants.tells h (bounds (sittings_most s) (units_done s + units_left s) found) 0 w (place_of x m) (outside y) r → HasSat (record { holder = h; state = s; found = found }) x y r
-  sat_of x y m h s found w r units says nothing work is p =
+  -- what a sitting played from its beginning on, whatever bounds it
+  pub sat_played : (x y : Complex P C plants steadies copies) (m : Member) (h : Holder) (Fits : Wrote → Type 0) (w : Wrote) (r : Result SittingEnd NodeNo) → m.batch ≡ [] → AtWork x m
+      → (p : PlaysAs plants.tells h Fits 0 w (place_of x m) (outside y) r) → IsSat plants h.by (sitting_as h p.wrote) (parts_of x) (parts_of y) r
+  sat_played x y m h Fits w r nothing work p =
       let c = p.closes in
       let front = none_flies x m work in
       let are = c.batches_are ∙ ap (λ (bs : List Batch). bs ++ c.rest) front in
       let left = left_by r h.by (plants.view x.plant).now (plants.view y.plant).now p.wrote.batches c.rest c.journal in
       let all = all_where r h.by (plants.view x.plant).now (plants.view y.plant).now p.wrote.batches x.journal.batches (outside y).batches c.rest are c.journal in
       record {
-        sitting = sitting_as h p.wrote;
-        is = λ t. sits_as h (queue_kept x) s found p.wrote (p.is t ∙ is t);
-        of = p.of;
-        shaped = record { few = p.within.few; release = refl; says = says (sitting_as h p.wrote) p.within.says };
-        sat = record {
-          acts = record { course = c.course; loses = c.loses; others = λ t. (p.spares t).others; papers = λ t. (p.spares t).papers; spares = c.spares; cause = c.cause };
-          reach = left.reach;
-          more = c.rest;
-          journal = are;
-          left = left.left;
-          reached = left.reached;
-          console = λ t. said_by r (HasAll h.by (plants.view x.plant).now (plants.view y.plant).now p.wrote.batches x.journal.batches (outside y).batches) p.wrote.lines (console_now (plants.view x.plant)) (console_now (plants.view y.plant)) all.0 all.1
-              (subst (λ (bs : List Batch). StepTells r p.wrote.lines (HasAll h.by (plants.view x.plant).now (plants.view y.plant).now p.wrote.batches bs (outside y).batches) (console_now (plants.view x.plant)) (console_now (plants.view y.plant))) front (c.console t));
-          counts = p.counts;
-          ends = ends_as h p.wrote r (subst (λ (es : List Entry). IfOk r (EndsAs h 0 es p.wrote)) nothing p.ends);
-        };
-        tight = units _;
+        acts = record { course = c.course; loses = c.loses; others = λ t. (p.spares t).others; papers = λ t. (p.spares t).papers; wires = λ t. (p.spares t).wires; spares = c.spares; cause = c.cause };
+        reach = left.reach;
+        more = c.rest;
+        journal = are;
+        left = left.left;
+        reached = left.reached;
+        console = λ t. said_by r (HasAll h.by (plants.view x.plant).now (plants.view y.plant).now p.wrote.batches x.journal.batches (outside y).batches) p.wrote.lines (console_now (plants.view x.plant)) (console_now (plants.view y.plant)) all.0 all.1
+            (subst (λ (bs : List Batch). StepTells r p.wrote.lines (HasAll h.by (plants.view x.plant).now (plants.view y.plant).now p.wrote.batches bs (outside y).batches) (console_now (plants.view x.plant)) (console_now (plants.view y.plant))) front (c.console t));
+        counts = p.counts;
+        ends = ends_as h p.wrote r (subst (λ (es : List Entry). IfOk r (EndsAs h 0 es p.wrote)) nothing p.ends);
       }
+
+  pub sat_of : (x y : Complex P C plants steadies copies) (m : Member) (h : Holder) (s : State) (found : Found) (w : Wrote) (r : Result SittingEnd NodeNo) → ((A : Type 0) → IfNoWork s A) → ((t : Sitting) → SaysWork h s found t → Says h s found t) → m.batch ≡ [] → AtWork x m → (plants.tells → w ≡ wrote_of [] (turn h (queue_kept x) s found))
+      → Plays plants.tells h (bounds (sittings_most s) (units_done s + units_left s) found) 0 w (place_of x m) (outside y) r → HasSat (record { holder = h; state = s; found = found }) x y r
+  sat_of x y m h s found w r units says nothing work is p = record {
+    sitting = sitting_as h p.wrote;
+    is = λ t. sits_as h (turn h (queue_kept x) s found) p.wrote (p.is t ∙ is t);
+    of = p.of;
+    shaped = record { few = p.within.few; release = refl; says = says (sitting_as h p.wrote) p.within.says };
+    sat = sat_played x y m h (IsWithin h (bounds (sittings_most s) (units_done s + units_left s) found)) w r nothing work p;
+    tight = units _;
+  }

@@ -109,4 +109,4 @@ module _ {P C : Type 0} {plants : PlantGhosts P} {steadies : SteadyGhosts C} {co
     }
 
   pub said_apart : (y z : Complex P C plants steadies copies) → OnConsole plants.tells (plants.view y.plant) (plants.view z.plant) → plants.tells → SparesVolumes (outside y) (outside z)
-  said_apart y z acts told = record { others = acts.others told; papers = acts.papers told }
+  said_apart y z acts told = record { others = acts.others told; papers = acts.papers told; wires = acts.wires told }

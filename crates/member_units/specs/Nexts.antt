@@ -21,7 +21,7 @@ use Rattle.step_turns.specs.declared.states.Aside.TheVariants.{PrintLines, ReadT
 use Rattle.step_turns.specs.Turns.{Turn, no_more, one_command, units_from, waits_for}
 use Rattle.member_units.specs.declared.nexts.Next.{Next}
 use Rattle.member_units.specs.declared.nexts.Next.TheVariants as next
-use Rattle.member_units.specs.Ready.{IsReadyUnit}
+use Rattle.member_asides.specs.Ready.{IsReadyUnit}
 
 -- what follows, where so many units may follow the next one, so many are done, and so many commands are given in the
 -- sitting

@@ -4,6 +4,7 @@ use Rattle.mas_types.specs.declared.commands.Command.{Command}
 use Rattle.mas_types.specs.declared.ids.MemberId.{MemberId}
 use Rattle.mas_types.specs.declared.journals.Entry.{Entry}
 use Rattle.mas_types.specs.Run.{run}
+use Rattle.spool_plant.specs.Acts.{SameWires}
 use Rattle.mas_complex.specs.Paper.{SamePapers}
 use Rattle.member_node.specs.declared.member.NodeNo.{NodeNo}
 use Rattle.member_node.specs.Calls.{IsOnlyOn}
@@ -66,10 +67,11 @@ abbrev pub Closes : {T : Type 0} → Type 0 → MemberId → List (List ℕ) →
 Closes told by lines ess old new r = IsClosing told by lines ess old.batches new.batches old.first new.first old.second
     new.second old.view new.view r
 
--- no volume is written, and nothing is printed
+-- no volume is written, nothing is printed, and nothing moves on a line to another node
 pub record SparesVolumes (old new : Outside) : Type 0 where
   pub others : IsOnlyOn old.view new.view
   pub papers : SamePapers old.view new.view
+  pub wires : SameWires old.view new.view
 
 -- WHAT A SITTING MAY COME TO on every plant
 
@@ -101,18 +103,22 @@ abbrev pub EndsAs : Holder → ℕ → List Entry → Wrote → SittingEnd → T
 EndsAs h given so_far w e = (e.next ≡ w.next) × (e.given + length so_far ≡ given + length (all_entries w.batches))
     × (e.release ≡ released h.grant h.hold e.given e.next)
 
--- The rest of a sitting in which so many commands are given: what it writes, within bounds, is kept as its answer says.
+-- The rest of a sitting in which so many commands are given: what it writes, which fits so, is kept as its answer says.
 -- Where content is told it writes this.
-pub record Plays (told : Type 0) (h : Holder) (b : Bounds) (given : ℕ) (w : Wrote) (old : Place) (new : Outside)
-    (result : Result SittingEnd NodeNo) : Type 0 where
+pub record PlaysAs (told : Type 0) (h : Holder) (Fits : Wrote → Type 0) (given : ℕ) (w : Wrote) (old : Place)
+    (new : Outside) (result : Result SittingEnd NodeNo) : Type 0 where
   pub wrote : Wrote
   pub is : told → wrote ≡ w
   pub of : All (AreOf h.by h.step) wrote.batches
-  pub within : IsWithin h b wrote
+  pub within : Fits wrote
   pub ends : IfOk result (EndsAs h given old.batch wrote)
   pub closes : Closes told h.by wrote.lines wrote.batches old.outside new result
   pub counts : HasCounted h.by (all_entries wrote.batches) old.outside.printed new.printed result
   pub spares : told → SparesVolumes old.outside new
+
+-- the rest of a sitting of work, within bounds
+abbrev pub Plays : Type 0 → Holder → Bounds → ℕ → Wrote → Place → Outside → Result SittingEnd NodeNo → Type 0
+Plays told h b given w old new result = PlaysAs told h (IsWithin h b) given w old new result
 
 -- COMMANDS OF A UNIT
 

@@ -28,7 +28,7 @@ use Rattle.step_turns.specs.declared.states.Holder.{Holder}
 use Rattle.mas_complex.specs.Parts.{parts_of}
 use Rattle.step_turns.specs.declared.states.State.{State}
 use Rattle.member_sittings.specs.Whole.{IsBounded, IsLeftIn, IsSeat, IsSitting}
-use Rattle.member_units.specs.Ready.{IsReady}
+use Rattle.member_asides.specs.Ready.{IsReady}
 
 -- what others see of a shared value: what its plant shows, the journal with a batch in flight at its end, which copies
 -- count as alive, and how many lines each member has printed

@@ -20,7 +20,7 @@ ghost use Rattle.step_turns.specs.Batches.{batch_of};
 ghost use Rattle.step_turns.specs.Entries.{all_entries, closing_reply, given_in};
 ghost use Rattle.step_turns.specs.JobEnds.{drop_groups, ending, groups_for_end, taking};
 ghost use Rattle.member_units.specs.Plays.{HasGiven, Keeps, SparesVolumes, after_full, full_of};
-ghost use Rattle.member_units.specs.Ready.{MayBeGiven};
+ghost use Rattle.member_asides.specs.Ready.{MayBeGiven};
 ghost use Rattle.member_units.specs.Works.{HasRoom, IsLow, LeavesRoom, UsesOne, Works, outside, place_of, queue_here, queue_kept, run_of};
 
 use job_outcome::UnitEnd;
@@ -36,7 +36,7 @@ use step_turns::Holder;
 const BATCH_MOST: usize = 64;
 
 /// Keeps what the member gave since the last batch, if anything; nothing is said.
-pub(crate) fn keep<P: Plant + Drop, C: Steady + Drop>(
+pub fn keep<P: Plant + Drop, C: Steady + Drop>(
     member: &mut Member,
     alloc: Global,
     complex: &mut Complex<P, C>,
@@ -61,7 +61,7 @@ pub(crate) fn keep<P: Plant + Drop, C: Steady + Drop>(
 }
 
 /// Keeps what isn't written where that is a full batch.
-pub(crate) fn keep_full<P: Plant + Drop, C: Steady + Drop>(
+pub fn keep_full<P: Plant + Drop, C: Steady + Drop>(
     member: &mut Member,
     alloc: Global,
     complex: &mut Complex<P, C>,
@@ -90,7 +90,7 @@ pub(crate) fn keep_full<P: Plant + Drop, C: Steady + Drop>(
 }
 
 /// Gives a command that brings no text; a Mark is one of lines that the member has printed.
-pub(crate) fn give<P: Plant + Drop, C: Steady + Drop>(
+pub fn give<P: Plant + Drop, C: Steady + Drop>(
     member: &mut Member,
     alloc: Global,
     complex: &mut Complex<P, C>,

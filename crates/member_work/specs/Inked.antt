@@ -78,6 +78,10 @@ abbrev pub is_printer_lost : Option Closing → Bool
 is_printer_lost (Some PrinterLost) = true
 is_printer_lost _ = false
 
+-- no other member's count of printed lines differs
+abbrev pub OtherCountsStay : MemberId → List ℕ → List ℕ → Type 0
+OtherCountsStay by old new = (m : MemberId) → m.0 ≢ by.0 → counts_of new m ≡ counts_of old m
+
 module _ {P C : Type 0} (plants : PlantGhosts P) where
   -- Of these lines some stand on the member's printer now, by the answer. Nobody else printed anything.
   pub record HasInked {T : Type 0} (lost : T → Bool) (by : MemberId) (lines : List (List ℕ)) (x y : Parts P C)
@@ -87,7 +91,7 @@ module _ {P C : Type 0} (plants : PlantGhosts P) where
     pub others : (m : ℕ) → m ≢ by.0 → paper_now (plants.view y.plant) m ≡ paper_now (plants.view x.plant) m
     pub by_answer : IsInkedBy lost result (length lines) inked
     pub counted : IsCountOf result (counts_of x.printed by + inked.lines) (counts_of y.printed by)
-    pub other_counts : (m : MemberId) → m.0 ≢ by.0 → counts_of y.printed m ≡ counts_of x.printed m
+    pub other_counts : OtherCountsStay by x.printed y.printed
 
 -- OVER THE SHARED VALUE, of a call that prints lines, and answers how the unit is refused then
 

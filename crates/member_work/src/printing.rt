@@ -4,6 +4,7 @@ ghost use Rattle.mas_types.specs.declared.queues.Queue.{Queue};
 ghost use Rattle.mas_types.specs.Limits.{members_most, printer_lines_most};
 ghost use Rattle.ckpt_tables.specs.Shape.{HasSpelling};
 ghost use Rattle.queue_telling.specs.Telling.{Tell};
+ghost use Rattle.spool_plant.specs.Acts.{SameWires};
 ghost use Rattle.paper_laws.specs.Next.{limit_of};
 ghost use Rattle.lock_cycle.specs.Books.{IsMember, is_stopped};
 ghost use Rattle.mas_complex.specs.Crash.{setting};
@@ -11,7 +12,7 @@ ghost use Rattle.mas_complex.specs.Locking.{IsOfOther};
 ghost use Rattle.mas_complex.specs.Paper.{counts_of};
 ghost use Rattle.member_decks.specs.Steps.{SpoolStops};
 ghost use Rattle.job_outcome.specs.declared.outcomes.Read.TheVariants.{Lines as LinesRead};
-ghost use Rattle.member_work.specs.Inked.{Inks, lines_read, lines_upto};
+ghost use Rattle.member_work.specs.Inked.{Inks, OtherCountsStay, lines_read, lines_upto};
 ghost use Rattle.member_work.specs.Printing.{IsBeside, IsBookAfterLines, IsLinesPrinted, IsReservedAfterLines, MayPrintTo, SameDisks};
 ghost use Rattle.member_work.specs.Reading.{IsCounted};
 ghost use Rattle.member_work.specs.Rounds.{names_nothing, names_read};
@@ -92,6 +93,8 @@ fn print_lines<P: Plant + Drop, C: Steady + Drop>(
         (P.view complex.new.plant)) }
     ensures counted { IfOk result (λ end. end ≡ None → last ≤ output.now.mark + counts_of complex.new.printed by) }
     ensures cause { SpoolStops names_nothing result by.0 (P.view complex.old.plant) (P.view complex.new.plant) }
+    ensures other_counts { OtherCountsStay by complex.old.printed complex.new.printed }
+    ensures wires { P.tells → SameWires (P.view complex.old.plant) (P.view complex.new.plant) }
 {
     let first = output.mark.saturating_add(complex.printed_lines(by));
     for before in first..last {
@@ -147,6 +150,8 @@ pub fn print_text<P: Plant + Drop, C: Steady + Drop>(
     ensures printed { IfOk result (IsLinesPrinted by read.now (P.view complex.old.plant) (P.view complex.new.plant)) }
     ensures counted { IfOk result (λ end. end ≡ None → last ≤ output.now.mark + counts_of complex.new.printed by) }
     ensures cause { SpoolStops names_nothing result by.0 (P.view complex.old.plant) (P.view complex.new.plant) }
+    ensures other_counts { OtherCountsStay by complex.old.printed complex.new.printed }
+    ensures wires { P.tells → SameWires (P.view complex.old.plant) (P.view complex.new.plant) }
     ensures lines { OnErr result ((n : ℕ) → names_read read.now n ≡ false) }
 {
     match read {

@@ -1,6 +1,5 @@
 //! The outputs of a job into a member's groups on the spool volumes.
-ghost use Rattle.std.specs.Prelude.{◌≡◌, ◌≢◌, ◌≤◌, All, None, drop, length, take, OnOk, Ok};
-ghost use Rattle.mas_types.specs.declared.ids.GroupNo.{GroupNo as GroupNoLem};
+ghost use Rattle.std.specs.Prelude.{◌≡◌, ◌≤◌, All, None, drop, length, take, OnOk, Ok};
 ghost use Rattle.mas_types.specs.Fit.{IsOutSpec};
 ghost use Rattle.mas_types.specs.Commands.Life.{groups_of_outputs as groups_of_outputs_lem};
 ghost use Rattle.job_exec.specs.Running.{AreOutputs};
@@ -10,7 +9,7 @@ ghost use Rattle.mas_complex.specs.Meaning.{run};
 ghost use Rattle.mas_complex.specs.Parts.{parts_of};
 ghost use Rattle.mas_complex.specs.Spool.{IsGroupOf, IsHeldBy};
 ghost use Rattle.mas_complex.specs.Texts.{spools_at};
-ghost use Rattle.member_decks.specs.Spooling.{OnVolumes, Rise, SpoolCauses, page_in};
+ghost use Rattle.member_decks.specs.Spooling.{GroupsKept, OnVolumes, Rise, SpoolCauses};
 ghost use Rattle.spool_volumes.specs.Volumes.{AreRoomy};
 ghost use Rattle.member_work.specs.Spooled.{AreSpooled, AreWritten};
 
@@ -73,10 +72,9 @@ fn write_outputs<P: Plant + Drop, C: Steady + Drop>(
     ensures stand { OnOk result (P.tells → AreRoomy (P.view complex.old.plant) complex.old.base.config
         → AreWritten (spools_at (P.view complex.new.plant) (P.view complex.new.plant).now)
         complex.old.base.config.groups specs.now groups.now) }
-    ensures spares { P.tells → (h : GroupNoLem) → All (λ g. h.0 ≢ g.0) groups.now
-        → page_in (spools_at (P.view complex.new.plant) (P.view complex.new.plant).now) complex.old.base.config.groups h
-        ≡ page_in (spools_at (P.view complex.old.plant) (P.view complex.old.plant).now) complex.old.base.config.groups
-        h }
+    ensures spares { P.tells → GroupsKept complex.old.base.config.groups groups.now
+        (spools_at (P.view complex.old.plant) (P.view complex.old.plant).now)
+        (spools_at (P.view complex.new.plant) (P.view complex.new.plant).now) }
 {
     let Some((spec, rest)) = specs.split_first() else {
         return Ok(());
@@ -111,6 +109,9 @@ pub fn write_and_sync<P: Plant + Drop, C: Steady + Drop>(
     ensures there { OnOk result (P.tells → AreRoomy (P.view complex.old.plant) complex.old.base.config
         → AreSpooled (spools_at (P.view complex.new.plant) (P.view complex.new.plant).now)
         complex.old.base.config.groups specs.now groups.now) }
+    ensures spares { P.tells → GroupsKept complex.old.base.config.groups groups.now
+        (spools_at (P.view complex.old.plant) (P.view complex.old.plant).now)
+        (spools_at (P.view complex.new.plant) (P.view complex.new.plant).now) }
 {
     write_outputs(complex, by, groups, specs)?;
     sync_volumes(complex, by, groups)?;

@@ -1,8 +1,16 @@
 use Rattle.std.proofs.Common.{◌≡◌, ◌∙◌, Bool, true, false, sym}
 use Rattle.member_decks.specs.Spooling.{lies_there}
 use Rattle.member_node.proofs.SpareLemmas.{sparing_none}
-use Rattle.member_decks.proofs.PageLemmas.{cause_of, not_there}
+use Rattle.member_decks.proofs.PageLemmas.{act_on, acts_none, cause_of, not_there}
 use Rattle.member_decks.proofs.spooling.sync_volume.Goals as goal
+
+pub returns-then-not-lies_there-clause-acts : goal.returns-then-not-lies_there-clause-acts
+returns-then-not-lies_there-clause-acts g c = acts_none g.P.Plant.tells c.args.by.0 (g.P.Plant.view c.args.complex.now.plant)
+
+pub returns-clause-acts : goal.returns-clause-acts
+returns-clause-acts g c =
+    let P = g.P.Plant in
+    act_on P.tells c.args.by.0 c.args.volume (P.view c.args.complex.now.plant) (P.view c.spool_sync.new.self.plant) c.spool_sync.result c.spool_sync.ensures.acts (λ t. (c.spool_sync.ensures.content t).only)
 
 pub returns-then-not-lies_there-clause-synced : goal.returns-then-not-lies_there-clause-synced
 returns-then-not-lies_there-clause-synced g c told k h here on =

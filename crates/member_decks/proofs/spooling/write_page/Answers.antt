@@ -1,8 +1,15 @@
 use Rattle.std.proofs.Common.{◌≡◌, ◌∙◌, ℕ, List, Some, length, ap, sym}
 use Rattle.mas_types.specs.Limits.{page_bytes}
 use Rattle.spool_text.specs.Texts.{packed}
-use Rattle.member_decks.proofs.PageLemmas.{all_at, cause_of, lies_alone, on_done, spares, stands}
+use Rattle.spool_volumes.specs.Volumes.{volume_of}
+use Rattle.member_decks.proofs.PageLemmas.{act_on, all_at, cause_of, lies_alone, on_done, spares, stands}
 use Rattle.member_decks.proofs.spooling.write_page.Goals as goal
+
+pub returns-clause-acts : goal.returns-clause-acts
+returns-clause-acts g c =
+    let P = g.P.Plant in
+    let x = c.args.complex.now in
+    act_on P.tells c.args.by.0 (volume_of x.base.config.groups c.args.group) (P.view x.plant) (P.view c.spool_write.new.self.plant) c.spool_write.result c.spool_write.ensures.acts (λ t. (c.spool_write.ensures.content t).only)
 
 pub returns-clause-cause : goal.returns-clause-cause
 returns-clause-cause g c =

@@ -1,11 +1,10 @@
-use Rattle.std.proofs.Common.{◌≡◌, false, ◌≢◌, All}
-use Rattle.mas_types.specs.declared.ids.GroupNo.{GroupNo}
+use Rattle.std.proofs.Common.{◌≡◌, false}
 use Rattle.spool_text.specs.Texts.{packed}
 use Rattle.mas_complex.specs.Parts.{parts_of}
 use Rattle.mas_complex.specs.Texts.{spools_at}
 use Rattle.member_node.specs.Calls.{none_lost}
 use Rattle.member_node.specs.Spares.{SparesBut}
-use Rattle.member_decks.specs.Spooling.{OnVolumes, StandBelow, page_in}
+use Rattle.member_decks.specs.Spooling.{GroupsKept, OnVolumes, StandBelow}
 use Rattle.spool_volumes.specs.Volumes.{AreRoomy}
 use Rattle.member_decks.proofs.spooling.write_pages.Given as goal
 
@@ -21,5 +20,5 @@ invariant-loop-place g l =
       acts : OnVolumes P.tells l.by.0 (P.view x.plant) (P.view y.plant);
       cause : SparesBut l.by.0 false none_lost (P.view x.plant) (P.view y.plant);
       stand : P.tells → AreRoomy (P.view x.plant) x.base.config → StandBelow l.place (spools_at (P.view y.plant) (P.view y.plant).now) x.base.config.groups (packed l.text) l.groups;
-      spares : P.tells → (h : GroupNo) → All (λ g. h.0 ≢ g.0) l.groups → page_in (spools_at (P.view y.plant) (P.view y.plant).now) x.base.config.groups h ≡ page_in (spools_at (P.view x.plant) (P.view x.plant).now) x.base.config.groups h;
+      spares : P.tells → GroupsKept x.base.config.groups l.groups (spools_at (P.view x.plant) (P.view x.plant).now) (spools_at (P.view y.plant) (P.view y.plant).now);
     }

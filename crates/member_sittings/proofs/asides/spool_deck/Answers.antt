@@ -7,13 +7,14 @@ use Rattle.mas_complex.specs.Journals.{kept_all}
 use Rattle.mas_complex.specs.Meaning.{run}
 use Rattle.mas_complex.specs.Parts.{parts_of}
 use Rattle.mas_complex.specs.Spool.{IsGroupOf, IsHeldBy}
+use Rattle.mas_complex.specs.Texts.{spools_at}
 use Rattle.member_node.specs.declared.member.NodeNo.{NodeNo}
 use Rattle.member_decks.specs.Spooling.{Rise}
 use Rattle.member_decks.proofs.HeldLemmas.{all_within, as_many_held, lowest_rise}
-use Rattle.member_decks.proofs.PageLemmas.{acts_none}
+use Rattle.member_decks.proofs.PageLemmas.{acts_none, kept_none}
 use Rattle.member_node.proofs.SpareLemmas.{sparing_none}
 use Rattle.step_turns.specs.declared.states.Found.{Found}
-use Rattle.member_sittings.specs.Asides.{HasSpooled}
+use Rattle.member_sittings.specs.Asides.{HasSpooled, lowest_groups}
 use Rattle.member_sittings.proofs.AsideLemmas.{all_take, spools_by}
 use Rattle.member_sittings.proofs.asides.spool_deck.Goals as goal
 
@@ -62,8 +63,14 @@ pub returns-in_default-clause-spools : goal.returns-in_default-clause-spools
 returns-in_default-clause-spools g c =
     let P = g.P.Plant in
     let v = P.view c.args.complex.now.plant in
-    let by = c.args.member.now.id.0 in
-    record { acts = acts_none P.tells by v; cause = sparing_none by v; finds = tt }
+    let x = c.args.complex.now in
+    let m = c.args.member.now in
+    record {
+      acts = acts_none P.tells m.id.0 v;
+      cause = sparing_none m.id.0 v;
+      finds = tt;
+      spares = λ told. kept_none x.base.config.groups (lowest_groups m.id m.checkpoint.tables.owners c.args.text.now) (spools_at v v.now);
+    }
 
 pub returns-clause-spools : goal.returns-clause-spools
 returns-clause-spools g c =
@@ -75,5 +82,6 @@ returns-clause-spools g c =
     let list : c.as_slice-2.result.now ≡ held_by m.id m.checkpoint.tables.owners = c.as_slice-2.ensures ∙ c.in-Ok.ensures ∙ ap (held_by m.id) c.as_slice.ensures in
     let cause = rw (list, c.groups_needed-groups.ensures) at c.spool_text.ensures.cause in
     let there = rw (list, c.groups_needed-groups.ensures) at c.spool_text.ensures.there in
+    let spares = rw (list, c.groups_needed-groups.ensures) at c.spool_text.ensures.spares in
     subst (λ (r : Result Found NodeNo). HasSpooled P (parts_of x) (parts_of y) m text r) (sym c.found_by.ensures)
-    (spools_by P (parts_of x) (parts_of y) m text c.spool_text.result c.spool_text.ensures.acts cause there)
+    (spools_by P (parts_of x) (parts_of y) m text c.spool_text.result c.spool_text.ensures.acts cause there spares)

@@ -23,7 +23,7 @@ use Rattle.member_steps.proofs.ReadLemmas.{one_batch}
 use Rattle.member_work.specs.Steps.{IsKeeping}
 use Rattle.member_work.proofs.KeepingLemmas.{keeping_none, keeping_then, kept_not_in, kept_ok, settled}
 use Rattle.member_work.proofs.StateLemmas.{between_by, none_batch, on_two, one_batch_in, same_room, some_batch, work_between, work_order}
-use Rattle.member_node.proofs.CourseLemmas.{apart_then, only_none, papers_none}
+use Rattle.member_node.proofs.CourseLemmas.{apart_none, apart_then}
 use Rattle.member_work.proofs.closing.keep_given.Goals as goal
 
 pub returns-then-len-eq0-clause-nothing : goal.returns-then-len-eq0-clause-nothing
@@ -394,9 +394,7 @@ keep_batch-requires-clause-allowed g c = c.requires.work.allowed
 -- NOTHING ELSE CHANGES
 
 pub returns-then-len-eq0-clause-apart : goal.returns-then-len-eq0-clause-apart
-returns-then-len-eq0-clause-apart g c told =
-    let v = g.P.Plant.view c.args.complex.now.plant in
-    record { others = only_none v; console = refl; papers = papers_none v }
+returns-then-len-eq0-clause-apart g c told = apart_none (g.P.Plant.view c.args.complex.now.plant)
 
 pub returns-in_err-keep_batch-clause-apart : goal.returns-in_err-keep_batch-clause-apart
 returns-in_err-keep_batch-clause-apart g c told = c.keep_batch.ensures.acts.apart told

@@ -16,7 +16,7 @@ use Rattle.member_work.specs.Units.{drop_groups}
 use Rattle.member_work.specs.Work.{batches_in}
 use Rattle.member_work.proofs.BeginLemmas.{dropping_unmarked}
 use Rattle.member_work.proofs.EndingLemmas.{given_begins, end_none, given_all, given_copy, given_own, given_some, given_texts, given_work, gives_few, keeps_by, last_done, last_given_up, of_by, told_queue}
-use Rattle.member_node.proofs.CourseLemmas.{only_none, papers_none}
+use Rattle.member_node.proofs.CourseLemmas.{apart_none}
 use Rattle.member_work.proofs.ending.drop_given.Goals as goal
 
 pub give_back-requires-clause-member : goal.give_back-requires-clause-member
@@ -214,9 +214,7 @@ pub returns-in_default-clause-apart : goal.returns-in_default-clause-apart
 returns-in_default-clause-apart g c told = c.give_up.ensures.apart told
 
 pub returns-clause-apart : goal.returns-clause-apart
-returns-clause-apart g c told =
-    let v = g.P.Plant.view c.args.complex.now.plant in
-    record { others = only_none v; console = refl; papers = papers_none v }
+returns-clause-apart g c told = apart_none (g.P.Plant.view c.args.complex.now.plant)
 
 -- THE COUNTS OF PRINTED LINES
 

@@ -15,7 +15,7 @@ use Rattle.member_work.specs.Work.{batches_in}
 use Rattle.member_work.proofs.BeginLemmas.{ending_unmarked}
 use Rattle.member_work.proofs.CauseLemmas.{end_caused, reply_answered}
 use Rattle.member_work.proofs.EndingLemmas.{given_begins, end_none, ending_few, given_all, given_copy, given_own, given_some, given_texts, given_work, gives_few, keeps_by, last_done, last_given_up, of_by, reply_end, told_queue}
-use Rattle.member_node.proofs.CourseLemmas.{only_none, papers_none}
+use Rattle.member_node.proofs.CourseLemmas.{apart_none}
 use Rattle.member_work.proofs.ending.end_given.Goals as goal
 
 pub give_end-requires-clause-member : goal.give_end-requires-clause-member
@@ -216,9 +216,7 @@ pub returns-in_default-clause-apart : goal.returns-in_default-clause-apart
 returns-in_default-clause-apart g c told = c.give_up.ensures.apart told
 
 pub returns-clause-apart : goal.returns-clause-apart
-returns-clause-apart g c told =
-    let v = g.P.Plant.view c.args.complex.now.plant in
-    record { others = only_none v; console = refl; papers = papers_none v }
+returns-clause-apart g c told = apart_none (g.P.Plant.view c.args.complex.now.plant)
 
 pub returns-clause-answered : goal.returns-clause-answered
 returns-clause-answered g c =

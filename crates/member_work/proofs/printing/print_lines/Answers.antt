@@ -1,4 +1,5 @@
-use Rattle.std.proofs.Common.{◌≡◌, ◌<◌, ◌+◌, ◌∙◌, ℕ, false, true, Option, Some, None, List, refl, ap, sym, subst, arith}
+use Rattle.std.proofs.Common.{◌≡◌, ◌<◌, ◌+◌, ◌-◌, ◌∙◌, ℕ, false, true, Option, Some, None, List, refl, ap, sym, subst, arith}
+use Rattle.std.proofs.lemmas.List.{get_or-set_other}
 use Rattle.mas_types.specs.declared.journals.Batch.{Batch}
 use Rattle.lock_cycle.specs.Books.{Book, IsMember, is_stopped}
 use Rattle.mas_complex.specs.Journals.{entries_in, kept_all}
@@ -8,6 +9,7 @@ use Rattle.mas_complex.specs.Parts.{parts_of}
 use Rattle.paper_laws.specs.Next.{MayPrint}
 use Rattle.ckpt_copy.specs.Moments.{goes_none}
 use Rattle.spool_plant.specs.declared.plant.Part.TheVariants.{Printer}
+use Rattle.member_node.proofs.CourseLemmas.{wires_none, wires_then}
 use Rattle.member_node.proofs.SpareLemmas.{sparing_beside, sparing_done, sparing_halted, sparing_none, sparing_then}
 use Rattle.member_node.specs.Calls.{none_lost}
 use Rattle.mas_types.specs.declared.answers.Closing.TheVariants as closing
@@ -42,6 +44,8 @@ loop-before-init g c =
       most = λ less. omega (arith, less);
       so = λ told. printed_none P c.args.by (lines_upto c.args.output.now.job c.args.output.now.index (c.args.output.now.mark + counts_of x.printed c.args.by) c.args.last c.args.text.now) (parts_of x);
       disks = λ told d. refl;
+      counts = λ m other. refl;
+      wires = λ told. wires_none (P.view x.plant);
       next = λ small. omega (arith, sum, count, small);
     }
 
@@ -113,6 +117,8 @@ loop-before-preserved g c =
           (next_less r.job r.index text r.mark c.args.last was is c.loop-before.before i.more same small)
           (next_line r.job r.index text r.mark c.args.last was is c.loop-before.before i.more same small line (c.as_slice.ensures ∙ c.in-Ok.ensures));
       disks = λ told d. (e.content told).disks d ∙ i.disks told d;
+      counts = λ m other. ap (λ (l : List ℕ). counts_of l m) (rw done at e.printed) ∙ get_or-set_other y.printed c.args.by.0 m.0 (is + 1) 0 other ∙ i.counts m other;
+      wires = λ told. wires_then (P.view x.plant) (P.view y.plant) (P.view z.plant) (i.wires told) (e.content told).wires;
       next = λ less. omega (arith, same, one);
     }
 
@@ -173,6 +179,22 @@ pub returns-clause-counted : goal.returns-clause-counted
 returns-clause-counted g c is =
     let upto = c.loop-before.invariant.upto in
     omega (arith, upto)
+
+pub returns-in-Failed-clause-other_counts : goal.returns-in-Failed-clause-other_counts
+returns-in-Failed-clause-other_counts g c m other = ap (λ (l : List ℕ). counts_of l m) (rw c.in-Failed.is at c.print.ensures.printed) ∙ c.loop-before.invariant.counts m other
+
+pub returns-in-Halted-clause-other_counts : goal.returns-in-Halted-clause-other_counts
+returns-in-Halted-clause-other_counts g c m other = ap (λ (l : List ℕ). counts_of l m) (rw c.in-Halted.is at c.print.ensures.printed) ∙ c.loop-before.invariant.counts m other
+
+pub returns-in-Failed-clause-wires : goal.returns-in-Failed-clause-wires
+returns-in-Failed-clause-wires g c told =
+    let P = g.P.Plant in
+    wires_then (P.view c.args.complex.now.plant) (P.view c.loop-before.complex.plant) (P.view c.print.new.self.plant) (c.loop-before.invariant.wires told) (c.print.ensures.content told).wires
+
+pub returns-in-Halted-clause-wires : goal.returns-in-Halted-clause-wires
+returns-in-Halted-clause-wires g c told =
+    let P = g.P.Plant in
+    wires_then (P.view c.args.complex.now.plant) (P.view c.loop-before.complex.plant) (P.view c.print.new.self.plant) (c.loop-before.invariant.wires told) (c.print.ensures.content told).wires
 
 -- THE LINES ON PAPER
 

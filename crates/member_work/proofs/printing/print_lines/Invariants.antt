@@ -1,9 +1,10 @@
 use Rattle.std.proofs.Common.{◌≡◌, ◌≤◌, ◌<◌, ◌+◌, false}
+use Rattle.spool_plant.specs.Acts.{SameWires}
 use Rattle.mas_complex.specs.Paper.{counts_of}
 use Rattle.mas_complex.specs.Parts.{parts_of}
 use Rattle.member_node.specs.Calls.{none_lost}
 use Rattle.member_node.specs.Spares.{SparesBut}
-use Rattle.member_work.specs.Inked.{lines_upto}
+use Rattle.member_work.specs.Inked.{OtherCountsStay, lines_upto}
 use Rattle.member_work.specs.Printing.{IsBeside, SameDisks}
 use Rattle.member_work.proofs.InkedLemmas.{HavePrinted}
 use Rattle.member_work.proofs.printing.print_lines.Given as goal
@@ -34,5 +35,7 @@ invariant-loop-before g l =
       most : counts_of x.printed l.by < counts_of y.printed l.by → l.output.mark + counts_of y.printed l.by ≤ l.last;
       so : P.tells → HavePrinted P l.by (lines_upto l.output.job l.output.index (l.output.mark + counts_of x.printed l.by) l.last l.text) (parts_of x) (parts_of y);
       disks : SameDisks P.tells (P.view x.plant) (P.view y.plant);
+      counts : OtherCountsStay l.by x.printed y.printed;
+      wires : P.tells → SameWires (P.view x.plant) (P.view y.plant);
       next : l.before < l.last → l.output.mark + counts_of y.printed l.by ≡ l.before;
     }

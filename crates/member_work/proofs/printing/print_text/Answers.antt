@@ -1,6 +1,7 @@
 use Rattle.std.proofs.Common.{false, [], Some, ap, refl, sym, arith}
 use Rattle.mas_types.specs.declared.answers.Closing.TheVariants as closing
 use Rattle.member_work.specs.Units.{printed_end}
+use Rattle.member_node.proofs.CourseLemmas.{wires_none}
 use Rattle.member_node.proofs.SpareLemmas.{sparing_none}
 use Rattle.mas_complex.specs.Parts.{parts_of}
 use Rattle.member_work.specs.Inked.{is_printer_lost}
@@ -11,6 +12,12 @@ use Rattle.member_work.proofs.printing.print_text.Goals as goal
 pub returns-in-Gone-clause-acts : goal.returns-in-Gone-clause-acts
 returns-in-Gone-clause-acts g c = beside_none g.P.Plant.tells (g.P.Plant.view c.args.complex.now.plant)
 
+pub returns-in-Gone-clause-wires : goal.returns-in-Gone-clause-wires
+returns-in-Gone-clause-wires g c told = wires_none (g.P.Plant.view c.args.complex.now.plant)
+
+pub returns-in-Gone-clause-other_counts : goal.returns-in-Gone-clause-other_counts
+returns-in-Gone-clause-other_counts g c m other = refl
+
 pub returns-in-Gone-clause-printed : goal.returns-in-Gone-clause-printed
 returns-in-Gone-clause-printed g c = unprinted c.args.by c.args.read.now (g.P.Plant.view c.args.complex.now.plant) (closing.NoText c.in-Gone.group) (sym (ap (printed_end false) c.in-Gone.is))
 
@@ -19,6 +26,12 @@ returns-in-Gone-clause-counted g c is = absurd (cc)
 
 pub returns-in-Lost-clause-acts : goal.returns-in-Lost-clause-acts
 returns-in-Lost-clause-acts g c = beside_none g.P.Plant.tells (g.P.Plant.view c.args.complex.now.plant)
+
+pub returns-in-Lost-clause-wires : goal.returns-in-Lost-clause-wires
+returns-in-Lost-clause-wires g c told = wires_none (g.P.Plant.view c.args.complex.now.plant)
+
+pub returns-in-Lost-clause-other_counts : goal.returns-in-Lost-clause-other_counts
+returns-in-Lost-clause-other_counts g c m other = refl
 
 pub returns-in-Lost-clause-printed : goal.returns-in-Lost-clause-printed
 returns-in-Lost-clause-printed g c = unprinted c.args.by c.args.read.now (g.P.Plant.view c.args.complex.now.plant) (closing.SpoolLost c.in-Lost.volume) (sym (ap (printed_end false) c.in-Lost.is))

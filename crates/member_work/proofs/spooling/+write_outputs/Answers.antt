@@ -16,7 +16,7 @@ use Rattle.mas_complex.specs.Texts.{spools_at}
 use Rattle.spool_text.specs.Texts.{packed}
 use Rattle.member_decks.specs.Spooling.{Rise, StandBelow}
 use Rattle.member_decks.proofs.OpenLemmas.{on_ok}
-use Rattle.member_decks.proofs.PageLemmas.{acts_none, acts_on, still_roomy}
+use Rattle.member_decks.proofs.PageLemmas.{acts_none, acts_on, kept_none, kept_then, still_roomy}
 use Rattle.member_work.specs.Spooled.{AreWritten}
 use Rattle.member_node.proofs.SpareLemmas.{sparing_none}
 use Rattle.member_work.proofs.SpoolLemmas.{behind_long, cause_wider, first_fits, front_long, lies_behind, lies_front, rise_behind, rise_front, still_stand, written_none}
@@ -35,6 +35,12 @@ returns-in_default-clause-stand g t c told roomy =
     let P = g.P.Plant in
     let x = c.args.complex.now in
     written_none (spools_at (P.view x.plant) (P.view x.plant).now) x.base.config.groups c.args.specs.now c.args.groups.now (no_items c.args.specs.now c.in_default.ensures.cases)
+
+pub returns-in_default-clause-spares : goal.returns-in_default-clause-spares
+returns-in_default-clause-spares g t c told =
+    let P = g.P.Plant in
+    let x = c.args.complex.now in
+    kept_none x.base.config.groups c.args.groups.now (spools_at (P.view x.plant) (P.view x.plant).now)
 
 -- THE FIRST ONE
 
@@ -312,7 +318,7 @@ returns-clause-stand g t c =
     on_ok c.write_outputs.result (λ others told roomy.
     let here : StandBelow (length (take k gs)) mid per (packed s.text) (take k gs) = subst (λ (l : List GroupNo). StandBelow (length l) mid per (packed s.text) l) front (c.in_ok-write_pages.ensures.stand told roomy) in
     let at_k : StandBelow k mid per (packed s.text) (take k gs) = subst (λ (i : ℕ). StandBelow i mid per (packed s.text) (take k gs)) (front_long k gs le) here in
-    let spares = λ (h : GroupNo) (none : All (λ (j : GroupNo). h.0 ≢ j.0) (drop k gs)). rw base at (w.spares told h (subst (All (λ (j : GroupNo). h.0 ≢ j.0)) (sym behind) none)) in
+    let spares = λ (h : GroupNo) (none : All (λ (j : GroupNo). h.0 ≢ j.0) (drop k gs)). (rw base at (w.spares told h (subst (All (λ (j : GroupNo). h.0 ≢ j.0)) (sym behind) none))).page in
     let first : StandBelow k new per (packed s.text) (take k gs) = still_stand k per (packed s.text) gs mid new c.requires.rise spares at_k in
     let behind_written : AreWritten new per rest (drop k gs) = rw (base, behind) at (others told (rw base (still_roomy x.base.config (P.view x.plant) (P.view y.plant) e.acts.goes roomy))) in
     subst (λ (ss : List OutSpec). AreWritten new per ss gs) (sym c.in-Some.ensures.cases.0)
@@ -341,4 +347,4 @@ returns-clause-spares g t c told h none =
     let w = c.write_outputs.ensures in
     let first = e.spares told h (subst (All (λ (j : GroupNo). h.0 ≢ j.0)) (sym front) (All-take (λ (j : GroupNo). h.0 ≢ j.0) k gs none)) in
     let others = rw base at (w.spares told h (subst (All (λ (j : GroupNo). h.0 ≢ j.0)) (sym behind) (All-drop (λ (j : GroupNo). h.0 ≢ j.0) k gs none))) in
-    others ∙ first
+    kept_then x.base.config.groups h (spools_at (P.view x.plant) (P.view x.plant).now) (spools_at (P.view y.plant) (P.view y.plant).now) (spools_at (P.view z.plant) (P.view z.plant).now) first others

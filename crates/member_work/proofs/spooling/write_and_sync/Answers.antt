@@ -3,7 +3,7 @@ use Rattle.std.proofs.lemmas.Result.{err_from_is_err_and}
 use Rattle.mas_complex.specs.Texts.{spools_at}
 use Rattle.member_node.specs.Calls.{none_lost}
 use Rattle.member_node.proofs.SpareLemmas.{sparing_then}
-use Rattle.member_decks.proofs.PageLemmas.{acts_on, cause_after}
+use Rattle.member_decks.proofs.PageLemmas.{acts_on, cause_after, kept_quiet, kept_then}
 use Rattle.member_work.proofs.SpoolLemmas.{all_spooled}
 use Rattle.member_work.proofs.spooling.write_and_sync.Goals as goal
 
@@ -41,3 +41,21 @@ pub returns-clause-cause : goal.returns-clause-cause
 returns-clause-cause g c =
     let P = g.P.Plant in
     sparing_then c.args.by.0 false none_lost (P.view c.args.complex.now.plant) (P.view c.write_outputs.new.complex.plant) (P.view c.sync_volumes.new.complex.plant) c.in_ok-write_outputs.ensures.cause c.in_ok-sync_volumes.ensures.cause
+
+pub returns-clause-spares : goal.returns-clause-spares
+returns-clause-spares g c told h apart =
+    let P = g.P.Plant in
+    let x = c.args.complex.now in
+    let y = c.write_outputs.new.complex in
+    let z = c.sync_volumes.new.complex in
+    kept_then x.base.config.groups h (spools_at (P.view x.plant) (P.view x.plant).now) (spools_at (P.view y.plant) (P.view y.plant).now) (spools_at (P.view z.plant) (P.view z.plant).now) (c.write_outputs.ensures.spares told h apart)
+    (kept_quiet x.base.config.groups c.args.groups.now (spools_at (P.view y.plant) (P.view y.plant).now) (spools_at (P.view z.plant) (P.view z.plant).now) (c.sync_volumes.ensures.quiet told) h apart)
+
+pub returns-in_err-sync_volumes-clause-spares : goal.returns-in_err-sync_volumes-clause-spares
+returns-in_err-sync_volumes-clause-spares g c told h apart =
+    let P = g.P.Plant in
+    let x = c.args.complex.now in
+    let y = c.write_outputs.new.complex in
+    let z = c.sync_volumes.new.complex in
+    kept_then x.base.config.groups h (spools_at (P.view x.plant) (P.view x.plant).now) (spools_at (P.view y.plant) (P.view y.plant).now) (spools_at (P.view z.plant) (P.view z.plant).now) (c.write_outputs.ensures.spares told h apart)
+    (kept_quiet x.base.config.groups c.args.groups.now (spools_at (P.view y.plant) (P.view y.plant).now) (spools_at (P.view z.plant) (P.view z.plant).now) (c.sync_volumes.ensures.quiet told) h apart)

@@ -17,7 +17,7 @@ use Rattle.member_decks.proofs.OpenLemmas.{reply_done}
 use Rattle.job_outcome.specs.Next.{IsNamedEnd, end_by}
 use Rattle.member_work.specs.Steps.{HasCopy, IsAtWork, IsKeeping, IsStepUntold}
 use Rattle.member_work.proofs.GivenLemmas.{commanded, more_by_one, named_end, not_commanded, of_more, one_reply, texts_behind, work_given, work_tells}
-use Rattle.member_node.proofs.CourseLemmas.{only_none, papers_none}
+use Rattle.member_node.proofs.CourseLemmas.{apart_none}
 use Rattle.member_work.proofs.working.play_command.Goals as goal
 
 pub do_command-requires-clause-here : goal.do_command-requires-clause-here
@@ -276,9 +276,7 @@ pub returns-in_default-clause-apart : goal.returns-in_default-clause-apart
 returns-in_default-clause-apart g c told = c.give_up.ensures.apart told
 
 pub returns-clause-apart : goal.returns-clause-apart
-returns-clause-apart g c told =
-    let v = g.P.Plant.view c.args.complex.now.plant in
-    record { others = only_none v; console = refl; papers = papers_none v }
+returns-clause-apart g c told = apart_none (g.P.Plant.view c.args.complex.now.plant)
 
 -- THE COUNTS OF PRINTED LINES
 

@@ -22,6 +22,7 @@ use Rattle.ckpt_tables.specs.declared.tables.Tables.{Tables}
 use Rattle.queue_telling.specs.Telling.{Tell, TellSound}
 use Rattle.lock_cycle.specs.Books.{IsMember, after_stop}
 use Rattle.paper_laws.specs.Next.{limit_of}
+use Rattle.spool_plant.specs.Acts.{SameWires}
 use Rattle.spool_plant.specs.View.{View}
 use Rattle.spool_plant.specs.declared.plant.Plant.{Ghosts as PlantGhosts}
 use Rattle.spool_volumes.specs.Volumes.{AreRoomy}
@@ -40,9 +41,9 @@ use Rattle.mas_complex.specs.Texts.{spools_at}
 use Rattle.member_node.specs.declared.member.Member.{Member}
 use Rattle.member_node.specs.declared.member.NodeNo.{NodeNo}
 use Rattle.member_node.specs.declared.member.NodeNo.TheVariants.{BothLost, Halted, ConsoleFault, NoMemory}
-use Rattle.member_decks.specs.Spooling.{OnVolumes}
+use Rattle.member_decks.specs.Spooling.{OnVolumes, GroupsKept}
 use Rattle.member_decks.specs.Steps.{SpoolStops, names_volume}
-use Rattle.member_work.specs.Inked.{HasInked, lines_read}
+use Rattle.member_work.specs.Inked.{HasInked, OtherCountsStay, lines_read}
 use Rattle.member_work.specs.Looks.{as_it_is}
 use Rattle.member_work.specs.Printing.{IsBeside}
 use Rattle.member_work.specs.Reading.{IsFailedRead, OnlyReads}
@@ -53,7 +54,7 @@ use Rattle.step_turns.specs.States.{nothing_found}
 use Rattle.step_turns.specs.declared.states.Found.{Found}
 use Rattle.member_sittings.specs.Asides.{deck_found}
 use Rattle.member_sittings.specs.Whole.{queue_of}
-use Rattle.member_units.specs.Ready.{IsOutputReady}
+use Rattle.member_asides.specs.Ready.{IsOutputReady}
 
 -- WHAT A MEMBER FOUND
 
@@ -176,6 +177,8 @@ module _ {P C : Type 0} (plants : PlantGhosts P) where
       pub acts : OnVolumes plants.tells m.id.0 (v x) (v y)
       pub cause : SpoolStops (λ found. names_volume found.lost) result m.id.0 (v x) (v y)
       pub finds : IfOk result (FindsPlace x y (lowest_for m.id m.checkpoint.tables.owners specs) specs)
+      pub spares : plants.tells → GroupsKept x.base.config.groups (lowest_for m.id m.checkpoint.tables.owners specs)
+          (spools_at (v x) (v x).now) (spools_at (v y) (v y).now)
 
   -- PRINTING THE NEXT LINES OF AN OUTPUT
 
@@ -205,8 +208,9 @@ module _ {P C : Type 0} (plants : PlantGhosts P) where
         → output_at (queue_of x) n i ≡ Some o
         → last ≤ o.mark + counts_of y.printed m.id
 
-  -- Printing, by its answer: no volume is written. Of the lines that come next those stand on the member's printer that
-  -- the answer says, and no other printer has any more. Halted comes only where the member was stopped.
+  -- Printing, by its answer: no volume is written, and nothing moves on a line to another node. Of the lines that come
+  -- next those stand on the member's printer that the answer says, no other printer has any more, and no other member's
+  -- count differs. Halted comes only where the member was stopped.
   pub record HasPrintedNext (x y : Parts P C) (m : Member) (n : JobNo) (i : OutNo) (last : ℕ)
       (result : Result Found NodeNo) : Type 0 where
     pub acts : IsBeside plants.tells (v x) (v y)
@@ -214,6 +218,8 @@ module _ {P C : Type 0} (plants : PlantGhosts P) where
     pub inks : plants.tells → (o : Output) → output_at (queue_of x) n i ≡ Some o
         → HasInked plants (λ found. found.printer) m.id
         (lines_next (counts_of x.printed m.id) last o (read_by result o.text)) x y result
+    pub counts : OtherCountsStay m.id x.printed y.printed
+    pub wires : plants.tells → SameWires (v x) (v y)
     pub cause : SpoolStops (λ found. names_read found.read) result m.id.0 (v x) (v y)
     pub finds : IfOk result (FindsLines x y m n i last)
 

@@ -53,10 +53,10 @@ use Rattle.mas_complex.specs.Parts.{Parts}
 use Rattle.member_node.specs.declared.member.Member.{Member}
 use Rattle.member_decks.specs.declared.spooling.SpoolError.{SpoolError}
 use Rattle.member_decks.specs.declared.spooling.SpoolError.TheVariants as spool
-use Rattle.member_decks.specs.Spooling.{OnVolumes, SpoolCauses}
+use Rattle.member_decks.specs.Spooling.{OnVolumes, SpoolCauses, GroupsKept}
 use Rattle.member_work.specs.Spooled.{AreSpooled}
 use Rattle.member_sittings.specs.Asides.{finds_of}
-use Rattle.member_units.specs.Asides.{HasWritten, IsJobStill, IsOutputStill, lowest_for}
+use Rattle.member_asides.specs.Asides.{HasWritten, IsJobStill, IsOutputStill, lowest_for}
 
 one_group : (a b : GroupNo) → Some a ≡ Some b → a ≡ b
 one_group a b e = cc
@@ -189,15 +189,18 @@ failed_later per groups (read.Lost volume) old mid new after failed = record {
 pub writes_by : {P C : Type 0} (plants : PlantGhosts P) (x y : Parts P C) (m : Member) (specs : List OutSpec) (r : Result (Unit {0}) SpoolError) → OnVolumes plants.tells m.id.0 (plants.view x.plant) (plants.view y.plant)
     → SpoolCauses r m.id.0 x.base.config.groups (lowest_for m.id m.checkpoint.tables.owners specs) (plants.view x.plant) (plants.view y.plant)
     → OnOk r (plants.tells → AreRoomy (plants.view x.plant) x.base.config → AreSpooled (spools_at (plants.view y.plant) (plants.view y.plant).now) x.base.config.groups specs (lowest_for m.id m.checkpoint.tables.owners specs))
+    → (plants.tells → GroupsKept x.base.config.groups (lowest_for m.id m.checkpoint.tables.owners specs) (spools_at (plants.view x.plant) (plants.view x.plant).now) (spools_at (plants.view y.plant) (plants.view y.plant).now))
     → HasWritten plants x y m specs (finds_of r)
-writes_by plants x y m specs (Ok done) acts cause there = record {
+writes_by plants x y m specs (Ok done) acts cause there spares = record {
   acts = acts;
   cause = cause;
   finds = record { only = refl; lost = tt; there = λ none told roomy. there told roomy };
+  spares = spares;
 }
-writes_by plants x y m specs (Err (spool.Lost volume)) acts cause there = record {
+writes_by plants x y m specs (Err (spool.Lost volume)) acts cause there spares = record {
   acts = acts;
   cause = cause.3;
   finds = record { only = refl; lost = record { there = cause.0; lost = cause.1; rose = cause.2 }; there = λ none. absurd (cc) };
+  spares = spares;
 }
-writes_by plants x y m specs (Err spool.Halted) acts cause there = record { acts = acts; cause = (cause.2, cause.1); finds = tt }
+writes_by plants x y m specs (Err spool.Halted) acts cause there spares = record { acts = acts; cause = (cause.2, cause.1); finds = tt; spares = spares }

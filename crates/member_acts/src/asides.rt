@@ -4,7 +4,7 @@ ghost use Rattle.std.specs.Prelude.{◌≡◌, true, false, Some};
 ghost use Rattle.mas_types.specs.declared.answers.Closing.TheVariants.{PrinterLost};
 ghost use Rattle.mas_complex.specs.Parts.{parts_of};
 ghost use Rattle.member_sittings.specs.Asides.{deck_found, finds_of};
-ghost use Rattle.member_units.specs.Asides.{MayPrintLines, MayReadText, MayWriteOutputs, OnlyPrints, PrintsLines, ReadsText, WritesOutputs, printed_found, read_found};
+ghost use Rattle.member_asides.specs.Asides.{MayPrintLines, MayReadText, MayWriteOutputs, OnlyPrints, PrintsLines, ReadsText, WritesOutputs, printed_found, read_found};
 
 use job_outcome::Read;
 use job_queue::find_job;

@@ -8,16 +8,17 @@ use Rattle.mas_complex.specs.Journals.{kept_all}
 use Rattle.mas_complex.specs.Meaning.{run}
 use Rattle.mas_complex.specs.Parts.{parts_of}
 use Rattle.mas_complex.specs.Spool.{IsGroupOf, IsHeldBy}
+use Rattle.mas_complex.specs.Texts.{spools_at}
 use Rattle.member_decks.specs.Spooling.{Rise}
 use Rattle.member_decks.proofs.HeldLemmas.{all_within, as_many_held, lowest_rise}
-use Rattle.member_decks.proofs.PageLemmas.{acts_none}
+use Rattle.member_decks.proofs.PageLemmas.{acts_none, kept_none}
 use Rattle.member_node.proofs.SpareLemmas.{sparing_none}
 use Rattle.step_turns.specs.declared.states.Found.{Found}
 use Rattle.member_sittings.proofs.AsideLemmas.{all_take}
 use Rattle.member_node.specs.declared.member.NodeNo.{NodeNo}
-use Rattle.member_units.specs.Asides.{HasWritten}
-use Rattle.member_units.proofs.Shown.{writes_by}
-use Rattle.member_units.proofs.asides.write_outputs.Goals as goal
+use Rattle.member_asides.specs.Asides.{HasWritten, lowest_for}
+use Rattle.member_acts.proofs.Shown.{writes_by}
+use Rattle.member_acts.proofs.asides.write_outputs.Goals as goal
 
 pub slice_bounds-write_and_sync-end : goal.slice_bounds-write_and_sync-end
 slice_bounds-write_and_sync-end g c =
@@ -64,8 +65,14 @@ pub returns-in_default-clause-writes : goal.returns-in_default-clause-writes
 returns-in_default-clause-writes g c =
     let P = g.P.Plant in
     let v = P.view c.args.complex.now.plant in
-    let by = c.args.member.now.id.0 in
-    record { acts = acts_none P.tells by v; cause = sparing_none by v; finds = tt }
+    let x = c.args.complex.now in
+    let m = c.args.member.now in
+    record {
+      acts = acts_none P.tells m.id.0 v;
+      cause = sparing_none m.id.0 v;
+      finds = tt;
+      spares = λ told. kept_none x.base.config.groups (lowest_for m.id m.checkpoint.tables.owners c.args.outputs.now) (spools_at v v.now);
+    }
 
 pub returns-clause-writes : goal.returns-clause-writes
 returns-clause-writes g c =
@@ -77,5 +84,6 @@ returns-clause-writes g c =
     let list : c.as_slice-2.result.now ≡ held_by m.id m.checkpoint.tables.owners = c.as_slice-2.ensures ∙ c.in-Ok.ensures ∙ ap (held_by m.id) c.as_slice.ensures in
     let cause = rw (list, c.groups_of_outputs-needed.ensures.groups) at c.write_and_sync.ensures.cause in
     let there = rw (list, c.groups_of_outputs-needed.ensures.groups) at c.write_and_sync.ensures.there in
+    let spares = rw (list, c.groups_of_outputs-needed.ensures.groups) at c.write_and_sync.ensures.spares in
     subst (λ (r : Result Found NodeNo). HasWritten P (parts_of x) (parts_of y) m specs r) (sym c.found_by.ensures)
-    (writes_by P (parts_of x) (parts_of y) m specs c.write_and_sync.result c.write_and_sync.ensures.acts cause there)
+    (writes_by P (parts_of x) (parts_of y) m specs c.write_and_sync.result c.write_and_sync.ensures.acts cause there spares)

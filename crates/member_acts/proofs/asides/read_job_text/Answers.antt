@@ -18,9 +18,9 @@ use Rattle.mas_complex.specs.Texts.{spools_at}
 use Rattle.member_work.proofs.JobLemmas.{whole_text}
 use Rattle.member_work.proofs.LookingLemmas.{groups_within, number_of, told_job}
 use Rattle.step_turns.specs.declared.states.Found.{Found}
-use Rattle.member_units.specs.Asides.{FindsText}
-use Rattle.member_units.proofs.Shown.{gone_is, job_seen}
-use Rattle.member_units.proofs.asides.read_job_text.Goals as goal
+use Rattle.member_asides.specs.Asides.{FindsText}
+use Rattle.member_acts.proofs.Shown.{gone_is, job_seen}
+use Rattle.member_acts.proofs.asides.read_job_text.Goals as goal
 
 -- A TEXT THAT WAS GONE
 

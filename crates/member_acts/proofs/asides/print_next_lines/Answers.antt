@@ -18,6 +18,7 @@ use Rattle.mas_complex.specs.Meaning.{run}
 use Rattle.mas_complex.specs.Parts.{parts_of}
 use Rattle.mas_complex.specs.Spool.{IsGroupOf}
 use Rattle.member_node.specs.Spares.{SparesBut}
+use Rattle.member_node.proofs.CourseLemmas.{wires_none, wires_then}
 use Rattle.member_node.proofs.SpareLemmas.{sparing_before, sparing_more, sparing_none}
 use Rattle.mas_complex.specs.Paper.{counts_of}
 use Rattle.mas_complex.specs.Texts.{spools_at}
@@ -37,11 +38,11 @@ use Rattle.member_work.proofs.ReadLemmas.{stops_later}
 use Rattle.member_work.proofs.RoundLemmas.{wider_read}
 use Rattle.member_work.specs.Reading.{IsFailedRead}
 use Rattle.ckpt_copy.specs.Moments.{goes_none}
-use Rattle.member_units.specs.Asides.{FindsLines, IsOutputStill, lines_next, printed_in, read_found}
+use Rattle.member_asides.specs.Asides.{FindsLines, IsOutputStill, lines_next, printed_in, read_found}
 use Rattle.step_turns.specs.declared.states.Found.{Found}
-use Rattle.member_units.proofs.Printed.{inked_as_it_is, inked_error, inked_found, inked_unread, only_error, only_lines, papers_now, quiet_disks, same_lines, same_lost}
-use Rattle.member_units.proofs.Shown.{chunk_from, failed_later, gone_is, may_print_still, none_refused, output_read, output_was, printer_lost}
-use Rattle.member_units.proofs.asides.print_next_lines.Goals as goal
+use Rattle.member_acts.proofs.Printed.{inked_as_it_is, inked_error, inked_found, inked_unread, only_error, only_lines, papers_now, quiet_disks, same_lines, same_lost}
+use Rattle.member_acts.proofs.Shown.{chunk_from, failed_later, gone_is, may_print_still, none_refused, output_read, output_was, printer_lost}
+use Rattle.member_acts.proofs.asides.print_next_lines.Goals as goal
 
 -- A TEXT THAT WAS GONE
 
@@ -60,6 +61,8 @@ returns-in-Some-clause-prints g c =
       inks = λ told o there.
           subst (λ (f : Found). HasInked P (λ (k : Found). k.printer) m.id (lines_next (counts_of x.printed m.id) c.args.last o f.read) (parts_of x) (parts_of x) (Ok f)) (sym c.found_read.ensures)
           (inked_all P m.id [] (λ (k : Found). k.printer) (parts_of x) (parts_of x) (printed_none P m.id [] (parts_of x)) (omega arith) (read_found (read.Gone c.in-Some.group)) refl (omega arith));
+      counts = λ k other. refl;
+      wires = λ told. wires_none v;
       cause = subst (λ (k : Found). SparesBut m.id.0 false (names_read k.read) v v) (sym c.found_read.ensures) (sparing_none m.id.0 v);
       finds = subst (λ (f : Found). FindsLines P (parts_of x) (parts_of x) m c.args.job c.args.output c.args.last f) (sym c.found_read.ensures)
           (record {
@@ -168,6 +171,8 @@ returns-in_default-groups_of-clause-prints g c =
       inks = λ told o there.
           let lines = lines_next (counts_of x.printed m.id) c.args.last o (as_it_is o.text) in
           inked_wanting P m.id lines (λ (k : Found). k.printer) (parts_of x) (parts_of x) (printed_none P m.id lines (parts_of x)) (omega arith) (omega arith);
+      counts = λ k other. refl;
+      wires = λ told. wires_none v;
       cause = sparing_none m.id.0 v;
       finds = tt;
     }
@@ -196,6 +201,8 @@ returns-in_err-read-clause-prints g c =
       inks = λ told o there.
           inked_unread P m (lines_next (counts_of x.printed m) c.args.last o (as_it_is o.text)) (parts_of x) (parts_of y) (λ (k : Found). names_read k.read) (λ (k : Found). k.printer) c.in_err-read.field-0.0 c.in_err-read.ensures.cause
           (papers_now P.tells m.0 v w c.read_text.ensures.acts told) c.read_text.ensures.printed;
+      counts = λ k other. ap (λ (l : List ℕ). counts_of l k) c.read_text.ensures.printed;
+      wires = c.read_text.ensures.acts.wires;
       cause = c.in_err-read.ensures.cause;
       finds = tt;
     })
@@ -254,6 +261,8 @@ returns-in_err-end-clause-prints g c =
           inked_as_it_is P m P.tells X.base.config.groups (groups_of (OutputThing n i) Q.owners) v w o was c.args.last (parts_of X) (parts_of Z) (λ (k : Found). k.printer) c.in_err-end.field-0.0 a told seen
           (subst (λ (ls : List (List ℕ)). HasInked P (λ (k : Found). k.printer) m ls (parts_of X) (parts_of Z) (Err c.in_err-end.field-0.0)) (same_lines r o was is c.args.last a same.0 same.1 same.2 counts)
           (inked_error P m lines (parts_of X) (parts_of Z) {S = Option Closing} is_printer_lost (λ (k : Found). k.printer) c.in_err-end.field-0.0 from_reading));
+      counts = λ k other. c.print_text.ensures.other_counts k other ∙ ap (λ (l : List ℕ). counts_of l k) c.read_text.ensures.printed;
+      wires = λ told. wires_then v w z (c.read_text.ensures.acts.wires told) (c.print_text.ensures.wires told);
       cause = stops_later {T = Option Closing} names_nothing m.0 v w z (Err c.in_err-end.field-0.0) c.read_text.ensures.acts.goes (sparing_more m.0 false (names_read c.in_ok-read.read) none_lost v w (λ n other. c.in_err-end.ensures.lines n) c.in_ok-read.ensures.cause) c.in_err-end.ensures.cause;
       finds = tt;
     })
@@ -305,6 +314,8 @@ returns-clause-prints g c =
           (subst (λ (ls : List (List ℕ)). HasInked P (λ (a : Found). a.printer) m.id ls (parts_of x) (parts_of z) (Ok c.found_printed.result)) (same_lines r out was is c.args.last o same.0 same.1 same.2 counts)
           (inked_found P m.id lines (parts_of x) (parts_of z) {S = Option Closing} is_printer_lost (λ (a : Found). a.printer) c.in_ok-end.end c.found_printed.result
           (same_lost c.found_printed.result.printer k.lost o c.in_ok-end.end k.is found.printer found.not) from_reading));
+      counts = λ k other. c.print_text.ensures.other_counts k other ∙ ap (λ (l : List ℕ). counts_of l k) c.read_text.ensures.printed;
+      wires = λ told. wires_then v w u (c.read_text.ensures.acts.wires told) (c.print_text.ensures.wires told);
       cause = subst (λ (b : Read). SparesBut m.id.0 false (names_read b) v u) (sym found.read) (sparing_before m.id.0 false (names_read o) v w u c.in_ok-read.ensures.cause c.in_ok-end.ensures.cause);
       finds = record {
         only = found.only;
