@@ -1,12 +1,14 @@
 -- Acts that a step waits for: its member may do them once it has left the lock, and what they leave alone.
-use Rattle.std.proofs.Common.{◌≡◌, ⊎_elim, inr, ℕ, ◌≤◌, Bool, false, List, [], ◌∷◌, length, take, All, Option, None, Result, Ok, Err, refl, sym, ap, ◌∙◌, subst, arith}
+use Rattle.std.proofs.Common.{◌≡◌, ⊎_elim, inr, ℕ, ◌≤◌, Bool, false, List, [], ◌∷◌, length, take, All, Option, Some, None, Result, Ok, Err, refl, sym, ap, ◌∙◌, subst, arith}
 use Rattle.mas_types.specs.declared.ids.GroupNo.{GroupNo}
 use Rattle.mas_types.specs.declared.ids.MemberId.{MemberId}
 use Rattle.mas_types.specs.declared.journals.Entry.{Entry}
 use Rattle.mas_types.specs.declared.queues.Config.{Config}
 use Rattle.mas_types.specs.Sound.{IsSound}
 use Rattle.lock_cycle.specs.Books.{Book, IsMember, after_stop, is_stopped}
+use Rattle.mas_types.specs.declared.ids.Dev.TheVariants.{Ckpt1, Ckpt2}
 use Rattle.spool_plant.specs.View.{Disk, View}
+use Rattle.spool_plant.specs.declared.plant.Part.TheVariants.{Disk as DiskPart}
 use Rattle.spool_plant.specs.declared.plant.Plant.{Ghosts as PlantGhosts}
 use Rattle.spool_volumes.specs.Volumes.{AreRoomy}
 use Rattle.track_groups.specs.Groups.{held_by}
@@ -41,7 +43,9 @@ use Rattle.step_turns.specs.declared.states.Aside.TheVariants.{Acknowledge, Exch
 use Rattle.step_turns.specs.declared.states.State.TheVariants.{Away, Fresh, Rested, Told}
 use Rattle.member_sittings.specs.Gates.{IsOpen}
 use Rattle.member_sittings.specs.Whole.{Half, HoldsLock, IsAtRest, IsSeat, first_half, queue_of, second_half}
-use Rattle.member_units.specs.Asides.{HasOnlyPrinted, MayAside, printed_in, stopped_at}
+use Rattle.member_asides.specs.Asides.{HasOnlyPrinted, MayAside, printed_in, stopped_at}
+use Rattle.member_wires.specs.Acts.{StopsBeside}
+use Rattle.member_wires.specs.Asides.{wire_of}
 use Rattle.member_hand.specs.Asides.{ActsAfter, MayActAfter}
 use Rattle.member_hand.specs.Plays.{HasActedIn, stopped_by}
 use Rattle.member_hand.specs.Quiet.{IsAside, IsQuiet}
@@ -96,9 +100,20 @@ module _ {P C : Type 0} (plants : PlantGhosts P) (copies : CopyGhosts C) (y : Pa
     still = λ t. record { was = queue_of y; told = seat.between.queue t; output = refl; groups = refl; busy = refl; limit = refl };
     roomy = seat.still.roomy;
   }
-  may_act (Away (Exchange l offer)) w = absurd w
-  may_act (Away (SpoolArrival number job cards service)) w = absurd w
-  may_act (Away (Acknowledge number service)) w = absurd w
+  may_act (Away (Exchange l None)) w = record { up = λ positive. up; line = w.0; offer = tt }
+  may_act (Away (Exchange l (Some o))) w = record {
+    up = λ positive. up;
+    line = w.0;
+    offer = record {
+      may = may_aside;
+      sound = seat.between.sound;
+      there = w.1.there;
+      still = λ t. record { was = queue_of y; told = seat.between.queue t; job = refl; groups = refl };
+    };
+  }
+  may_act (Away (SpoolArrival number job cards service)) w =
+      record { up = λ positive. up; none = seat.still.none; groups = w.2; shape = seat.between.drawn.spelling.shape; config = seat.still.config; held = held }
+  may_act (Away (Acknowledge number service)) w = record { up = λ positive. up; line = w.line }
   may_act (Fresh task) w = tt
   may_act (Rested p) w = tt
   may_act Told w = tt
@@ -175,6 +190,14 @@ stops_named few but by v w fewer (Err ConsoleFault) stops = stops
 volume_named : (by : ℕ) (v w : View) (r : Result Found NodeNo) → SpoolStops (λ found. names_volume found.lost) r by v w → SpoolStops names_found r by v w
 volume_named by v w r stops = stops_named (λ found. names_volume found.lost) names_found by v w (λ f n none. (or_none (names_volume f.lost n) (names_read f.read n) none).0) r stops
 
+-- and those that name none
+beside_named : (by : ℕ) (v w : View) (r : Result Found NodeNo) → StopsBeside (wire_of r) by v w → SpoolStops names_found r by v w
+beside_named by v w (Ok found) stops = sparing_more by false none_lost (names_found found) v w (λ n other. refl) stops
+beside_named by v w (Err NoMemory) stops = stops
+beside_named by v w (Err Halted) stops = stops
+beside_named by v w (Err BothLost) stops = absurd stops
+beside_named by v w (Err ConsoleFault) stops = absurd stops
+
 read_named : (by : ℕ) (v w : View) (r : Result Found NodeNo) → SpoolStops (λ found. names_read found.read) r by v w → SpoolStops names_found r by v w
 read_named by v w r stops = stops_named (λ found. names_read found.read) names_found by v w (λ f n none. (or_none (names_volume f.lost n) (names_read f.read n) none).1) r stops
 
@@ -193,33 +216,33 @@ module _ {P C : Type 0} (plants : PlantGhosts P) (copies : CopyGhosts C) where
       subst (λ (q : Parts P C). ActsBeside plants.tells by (v x) (v q) r) (sym same)
       (subst (λ (a : Result Found NodeNo). ActsBeside plants.tells by (v x) (v x) a) (sym is) (record { beside = beside_none plants.tells (v x); cause = sparing_more by false none_lost (names_found nothing_found) (v x) (v x) (λ n other. refl) (sparing_none by (v x)) }))
 
-  pub acts_beside : (x y : Parts P C) (m : Member) (s : State) (r : Result Found NodeNo) → ActsAfter plants x y m s r → ActsBeside plants.tells m.id.0 (v x) (v y) r
-  acts_beside x y m (Away (SpoolDeck n text)) r a = record { beside = beside_volumes plants.tells m.id.0 (v x) (v y) a.1.acts; cause = volume_named m.id.0 (v x) (v y) r a.1.cause }
-  acts_beside x y m (Away (ReadText runs n fields p)) r a = record { beside = beside_volumes plants.tells m.id.0 (v x) (v y) a.1.acts; cause = read_named m.id.0 (v x) (v y) r a.1.cause }
-  acts_beside x y m (Away (SpoolOutputs n specs p)) r a = record { beside = beside_volumes plants.tells m.id.0 (v x) (v y) a.1.acts; cause = volume_named m.id.0 (v x) (v y) r a.1.cause }
-  acts_beside x y m (Away (PrintLines n i last p)) r a = record { beside = a.1.acts; cause = read_named m.id.0 (v x) (v y) r a.1.cause }
-  acts_beside x y m (Away (Exchange l offer)) r a = absurd a.1
-  acts_beside x y m (Away (SpoolArrival number job cards service)) r a = absurd a.1
-  acts_beside x y m (Away (Acknowledge number service)) r a = absurd a.1
-  acts_beside x y m (Fresh task) r a = none_done x y m.id.0 r a.0 a.1
-  acts_beside x y m (Rested p) r a = none_done x y m.id.0 r a.0 a.1
-  acts_beside x y m Told r a = none_done x y m.id.0 r a.0 a.1
+  pub acts_beside : (x y : Parts P C) (m : Member) (s : State) (was is : Option (List ℕ)) (r : Result Found NodeNo) → ActsAfter plants x y m s was is r → ActsBeside plants.tells m.id.0 (v x) (v y) r
+  acts_beside x y m (Away (SpoolDeck n text)) was is r a = record { beside = beside_volumes plants.tells m.id.0 (v x) (v y) a.1.acts; cause = volume_named m.id.0 (v x) (v y) r a.1.cause }
+  acts_beside x y m (Away (ReadText runs n fields p)) was is r a = record { beside = beside_volumes plants.tells m.id.0 (v x) (v y) a.1.acts; cause = read_named m.id.0 (v x) (v y) r a.1.cause }
+  acts_beside x y m (Away (SpoolOutputs n specs p)) was is r a = record { beside = beside_volumes plants.tells m.id.0 (v x) (v y) a.1.acts; cause = volume_named m.id.0 (v x) (v y) r a.1.cause }
+  acts_beside x y m (Away (PrintLines n i last p)) was is r a = record { beside = a.1.acts; cause = read_named m.id.0 (v x) (v y) r a.1.cause }
+  acts_beside x y m (Away (Exchange l offer)) was is r a = record { beside = record { goes = a.1.acts.goes; lost1 = a.1.acts.else_lost (DiskPart Ckpt1) (λ same. absurd (cc)) (λ n same. absurd (cc)); lost2 = a.1.acts.else_lost (DiskPart Ckpt2) (λ same. absurd (cc)) (λ n same. absurd (cc)); loses = a.1.acts.loses; first = a.1.acts.first; second = a.1.acts.second; console = a.1.acts.console }; cause = read_named m.id.0 (v x) (v y) r a.1.stops }
+  acts_beside x y m (Away (SpoolArrival number job cards service)) was is r a = record { beside = beside_volumes plants.tells m.id.0 (v x) (v y) a.1.acts; cause = volume_named m.id.0 (v x) (v y) r a.1.cause }
+  acts_beside x y m (Away (Acknowledge number service)) was is r a = record { beside = record { goes = a.1.gives.acts.goes; lost1 = a.1.gives.acts.else_lost (DiskPart Ckpt1) (λ same. absurd (cc)) (λ n same. absurd (cc)); lost2 = a.1.gives.acts.else_lost (DiskPart Ckpt2) (λ same. absurd (cc)) (λ n same. absurd (cc)); loses = a.1.gives.acts.loses; first = a.1.gives.acts.first; second = a.1.gives.acts.second; console = a.1.gives.acts.console }; cause = beside_named m.id.0 (v x) (v y) r a.1.gives.stops }
+  acts_beside x y m (Fresh task) was is r a = none_done x y m.id.0 r a.0 a.1
+  acts_beside x y m (Rested p) was is r a = none_done x y m.id.0 r a.0 a.1
+  acts_beside x y m Told was is r a = none_done x y m.id.0 r a.0 a.1
 
   -- what they changed
   none_changed : (x y : Parts P C) (by : MemberId) (r : Result Found NodeNo) → y ≡ x → HasOnlyPrinted r by x y
   none_changed x y by r same = only_plant x y (same ∙ ap (λ (p : P). record x { plant = p }) (sym (ap (λ (q : Parts P C). q.plant) same))) r by
 
-  pub changed_only : (x y : Parts P C) (m : Member) (s : State) (r : Result Found NodeNo) → ActsAfter plants x y m s r → HasOnlyPrinted r m.id x y
-  changed_only x y m (Away (SpoolDeck n text)) r a = only_plant x y a.0 r m.id
-  changed_only x y m (Away (ReadText runs n fields p)) r a = only_plant x y a.0 r m.id
-  changed_only x y m (Away (SpoolOutputs n specs p)) r a = only_plant x y a.0 r m.id
-  changed_only x y m (Away (PrintLines n i last p)) r a = a.0
-  changed_only x y m (Away (Exchange l offer)) r a = absurd a.1
-  changed_only x y m (Away (SpoolArrival number job cards service)) r a = absurd a.1
-  changed_only x y m (Away (Acknowledge number service)) r a = absurd a.1
-  changed_only x y m (Fresh task) r a = none_changed x y m.id r a.0
-  changed_only x y m (Rested p) r a = none_changed x y m.id r a.0
-  changed_only x y m Told r a = none_changed x y m.id r a.0
+  pub changed_only : (x y : Parts P C) (m : Member) (s : State) (was is : Option (List ℕ)) (r : Result Found NodeNo) → ActsAfter plants x y m s was is r → HasOnlyPrinted r m.id x y
+  changed_only x y m (Away (SpoolDeck n text)) was is r a = only_plant x y a.0 r m.id
+  changed_only x y m (Away (ReadText runs n fields p)) was is r a = only_plant x y a.0 r m.id
+  changed_only x y m (Away (SpoolOutputs n specs p)) was is r a = only_plant x y a.0 r m.id
+  changed_only x y m (Away (PrintLines n i last p)) was is r a = a.0
+  changed_only x y m (Away (Exchange l offer)) was is r a = only_plant x y a.0 r m.id
+  changed_only x y m (Away (SpoolArrival number job cards service)) was is r a = only_plant x y a.0 r m.id
+  changed_only x y m (Away (Acknowledge number service)) was is r a = only_plant x y a.0 r m.id
+  changed_only x y m (Fresh task) was is r a = none_changed x y m.id r a.0
+  changed_only x y m (Rested p) was is r a = none_changed x y m.id r a.0
+  changed_only x y m Told was is r a = none_changed x y m.id r a.0
 
   -- as acts of a step
   spares_by : (e : NodeNo) (by : ℕ) (v w : View) → SpoolStops names_found (Err e) by v w → Spares by (is_stop e) v w

@@ -43,13 +43,13 @@ module _ {P C : Type 0} {plants : PlantGhosts P} {steadies : SteadyGhosts C} {co
 
   -- what a turn leaves may be handed back, by its answer
   pub may_leave : (finds : (Complex P C plants steadies copies) → Type 0) (follows : (Complex P C plants steadies copies) → (Complex P C plants steadies copies) → Type 0) (bound : Option ℕ) (cares : Bool → List Bool) (p : Pause) → MayTakeTurns finds follows bound cares p
-      → (q : Pause) (x y : Complex P C plants steadies copies) (n : Member) (r : Result Stand NodeNo) → q.member.id ≡ p.member.id → (finds x ⊎ ((w : Complex P C plants steadies copies) × follows w x)) → MayPlay x q.member (start_of q.stand)
-      → parts_of y ≡ played_in (parts_of y) (parts_of x) → n.id ≡ q.member.id → IfOk r (Pieced x y (start_of q.stand)) → IfOk r (IsAfterPiece x y q.member n (start_of q.stand))
-      → IfErr r (λ why. Played x y q.member (start_of q.stand) (Err why)) → MayLeave bound cares x y
-  may_leave finds follows bound cares p may q x y n (Ok at) same found play frame id piece next cut =
-      may.whole q (turn_to (record { found = x; left = y; member = n }) at) same found play (record { frame = frame; id = id; piece = piece; next = next })
-  may_leave finds follows bound cares p may q x y n (Err why) same found play frame id piece next cut =
-      may.broken q (record { found = x; left = y; member = n }) why same found play (record { frame = frame; id = id; played = cut })
+      → (q : Pause) (x y : Complex P C plants steadies copies) (n : Member) (is : Option (List ℕ)) (r : Result Stand NodeNo) → q.member.id ≡ p.member.id → (finds x ⊎ ((w : Complex P C plants steadies copies) × follows w x)) → MayPlay x q.member (start_of q.stand)
+      → parts_of y ≡ played_in (parts_of y) (parts_of x) → n.id ≡ q.member.id → IfOk r (Pieced x y (start_of q.stand) q.reader is) → IfOk r (IsAfterPiece x y q.member n (start_of q.stand))
+      → IfErr r (λ why. Played x y q.member (start_of q.stand) q.reader is (Err why)) → MayLeave bound cares x y
+  may_leave finds follows bound cares p may q x y n is (Ok at) same found play frame id piece next cut =
+      may.whole q (turn_to (record { found = x; left = y; member = n; reader = is }) at) same found play (record { frame = frame; id = id; piece = piece; next = next })
+  may_leave finds follows bound cares p may q x y n is (Err why) same found play frame id piece next cut =
+      may.broken q (record { found = x; left = y; member = n; reader = is }) why same found play (record { frame = frame; id = id; played = cut })
 
   -- and where it has the value so, is bound so, and cares so
   pub handed_back : (x y : Complex P C plants steadies copies) (was bound : Option ℕ) (cared cares : Bool → List Bool) (taken : Bool → Facts) (held : Option (Complex P C plants steadies copies)) → bound ≡ was
@@ -83,7 +83,7 @@ module _ {P C : Type 0} {plants : PlantGhosts P} {steadies : SteadyGhosts C} {co
     pub since : e.left.since ≡ x.since
     pub renewals : e.left.renewals ≡ x.renewals
     pub id : e.member.id ≡ p.member.id
-    pub played : HasPlayed plants copies (start_of p.stand) (parts_of x) (parts_of e.left) (length p.member.room) r
+    pub played : HasPlayed plants copies (start_of p.stand) (parts_of x) (parts_of e.left) (length p.member.room) p.reader e.reader r
     pub next : OnOk r (IsAfterStep x e.left p.member e.member (start_of p.stand))
 
   -- a piece, and the step from there on
@@ -101,8 +101,8 @@ module _ {P C : Type 0} {plants : PlantGhosts P} {steadies : SteadyGhosts C} {co
         id = rest.id ∙ one.id;
         played = step_then plants copies (start_of p.stand) (parts_of t.found) (parts_of t.left) (parts_of e.left) (length p.member.room) (more_steps p.stand.state t.after.stand.state falls)
             (sym (journal_is plants copies (parts_of t.left) quiet.none quiet.unplaced)) base (runs_keep_configuration t.found.base (kept_all t.found.journal.batches)).config
-            r (start_of t.after.stand) one.piece.acts.course.goes rest.played.acts.course.goes goes.comes falls goes.few one.piece
-            (subst (λ (k : ℕ). HasPlayed plants copies (start_of t.after.stand) (parts_of t.left) (parts_of e.left) k r) one.next.room rest.played);
+            r (start_of t.after.stand) one.piece.acts.course.goes rest.played.acts.course.goes p.reader t.after.reader e.reader goes.comes falls goes.few one.piece
+            (subst (λ (k : ℕ). HasPlayed plants copies (start_of t.after.stand) (parts_of t.left) (parts_of e.left) k t.after.reader e.reader r) one.next.room rest.played);
         next = on_ok r (λ n. let more = n.level in record {
           aside = n.aside;
           room = n.room ∙ one.next.room;
@@ -112,14 +112,14 @@ module _ {P C : Type 0} {plants : PlantGhosts P} {steadies : SteadyGhosts C} {co
       }
 
   -- a step that is told leaves nothing more
-  told_one : (p : Pause) (e : End (Complex P C plants steadies copies)) (at : Stand) → PlaysPiece p (turn_to e at) → at.state ≡ Told → PlaysAsOne e.left (record { member = e.member; stand = at }) e (Ok tt)
+  told_one : (p : Pause) (e : End (Complex P C plants steadies copies)) (at : Stand) → PlaysPiece p (turn_to e at) → at.state ≡ Told → PlaysAsOne e.left (record { member = e.member; stand = at; reader = e.reader }) e (Ok tt)
   told_one p e at one told = record {
     base = refl;
     since = refl;
     renewals = refl;
     id = refl;
     played = told_played plants copies (start_of at) (parts_of e.left) (length e.member.room) one.next.aside.quiet told
-        (λ t. found_told e.found.base.config.groups p.stand.holder.by (plants.view e.found.plant) (plants.view e.left.plant) (queue_of (parts_of e.left)) at.state at.found told (one.piece.told t).finds);
+        (λ t. found_told e.found.base.config.groups p.stand.holder.by (plants.view e.found.plant) (plants.view e.left.plant) (queue_of (parts_of e.left)) at.state at.found told (one.piece.told t).finds) e.reader;
     next = record {
       aside = one.next.aside;
       room = refl;
@@ -137,13 +137,13 @@ module _ {P C : Type 0} {plants : PlantGhosts P} {steadies : SteadyGhosts C} {co
   as_one x p (t ∷ ts) e r chain = subst (λ z. PlaysAsOne z p e r) chain.0 (piece_and p t e r chain.1 (as_one t.left t.after ts e r chain.2))
 
   -- a value that ends as the chain left it
-  pub record EndsAs (x w : Complex P C plants steadies copies) (m n : Member) (s : Start) (r : Result (Unit {0}) NodeNo) : Type 0 where
+  pub record EndsAs (x w : Complex P C plants steadies copies) (m n : Member) (s : Start) (was is : Option (List ℕ)) (r : Result (Unit {0}) NodeNo) : Type 0 where
     pub frame : parts_of w ≡ played_in (parts_of w) (parts_of x)
     pub id : n.id ≡ m.id
-    pub played : Played x w m s r
+    pub played : Played x w m s was is r
     pub next : OnOk r (IsAfterStep x w m n s)
 
-  pub at_end : (x w y : Complex P C plants steadies copies) (p : Pause) (e : End (Complex P C plants steadies copies)) (r : Result (Unit {0}) NodeNo) → w ≡ y → y ≡ e.left → PlaysAsOne x p e r → EndsAs x w p.member e.member (start_of p.stand) r
+  pub at_end : (x w y : Complex P C plants steadies copies) (p : Pause) (e : End (Complex P C plants steadies copies)) (r : Result (Unit {0}) NodeNo) → w ≡ y → y ≡ e.left → PlaysAsOne x p e r → EndsAs x w p.member e.member (start_of p.stand) p.reader e.reader r
   at_end x w y p e r one two plays =
-      subst (λ z. EndsAs x z p.member e.member (start_of p.stand) r) (sym (one ∙ two))
+      subst (λ z. EndsAs x z p.member e.member (start_of p.stand) p.reader e.reader r) (sym (one ∙ two))
       (record { frame = played_frame (parts_of x) (parts_of e.left) plays.base plays.since plays.renewals; id = plays.id; played = plays.played; next = plays.next })

@@ -1,5 +1,5 @@
 -- A step that is cut in its first piece: what it left, by where that was.
-use Rattle.std.proofs.Common.{◌≡◌, ◌≢◌, ℕ, ◌+◌, ◌≤◌, Bool, true, false, List, [], ◌∷◌, ◌++◌, length, take, drop, inl, inr, All, Option, Some, None, Err, refl, sym, ap, ◌∙◌, subst, arith}
+use Rattle.std.proofs.Common.{◌≡◌, ◌≢◌, ℕ, ◌+◌, ◌≤◌, Bool, true, false, List, [], ◌∷◌, ◌++◌, length, take, drop, inl, inr, All, Option, Some, None, Err, refl, sym, ap, subst, arith}
 use Rattle.std.proofs.lemmas.List.Elements.{All-cons, All-nil}
 use Rattle.mas_types.specs.declared.ids.MemberId.{MemberId}
 use Rattle.mas_types.specs.declared.journals.Batch.{Batch}
@@ -34,15 +34,18 @@ use Rattle.step_turns.specs.declared.states.Aside.TheVariants.{Acknowledge, Exch
 use Rattle.step_turns.specs.declared.states.Holder.{Holder}
 use Rattle.step_turns.specs.declared.states.State.TheVariants.{Away, Fresh, Rested, Told}
 use Rattle.member_sittings.specs.declared.ends.SittingEnd.{SittingEnd}
-use Rattle.run_turns.specs.Cuts.{batches_cut, book_cut, lines_cut, printed_cut, stopped_by as stopped_for}
+use Rattle.run_turns.specs.Cuts.{batches_cut, book_cut, given_cut, lines_cut, printed_cut, stopped_by as stopped_for}
 use Rattle.run_turns.specs.Pieces.{Piece}
 use Rattle.run_turns.specs.Sights.{Begun, Cut, Halt, Sight, Waiting, Writing, clear}
 use Rattle.member_hand.specs.Cuts.{AreBatched, ArePart, IsBroken, IsCut, IsFlying, IsHaltBy, IsTight, cause_by}
+use Rattle.member_hand.specs.Hears.{GivesOnly, TakesNothing, line_served}
+use Rattle.member_hand.specs.Sits.{IsLineTask}
 use Rattle.member_hand.specs.Plays.{HasActedIn, HasCut, HasToldStep, IsOwnPiece, Leaves, Writes, left_of, pieces_at, stopped_by}
-use Rattle.member_hand.proofs.Fuel.{LosesPrinter, finds_here}
+use Rattle.member_hand.proofs.Fuel.{finds_here, loses_ink}
 use Rattle.member_hand.proofs.Halting.{pieces_own}
 use Rattle.member_hand.proofs.Reaching.{begun_by, fate_by, halt_by, part_some}
-use Rattle.member_hand.proofs.Sighting.{first_and_more, piece_now, same_poured, sight_then}
+use Rattle.member_hand.proofs.Sighting.{first_and_more, piece_now, sight_then}
+use Rattle.member_hand.proofs.StepKinds.{hears_early}
 use Rattle.run_turns.specs.Pieces.{pieces_from}
 use Rattle.run_turns.specs.Scenes.{count_then}
 use Rattle.step_turns.specs.Courses.{holder_then}
@@ -92,13 +95,13 @@ reach_tight BothLost r t tight = (inl tight.0, flies_alone r.part r.flies (first
 reach_tight Halted r t tight = flies_alone r.part r.flies (first_of (drop r.whole t.batches)) (take r.part (first_of (drop r.whole t.batches))) refl tight
 reach_tight ConsoleFault r t tight = tt
 
--- NOTHING THAT A CALM STEP FINDS is a lost printer
+-- NOTHING THAT A CALM STEP FINDS is a lost printer or a lost line
 
 of_option : {A : Type 0} (f : A → Found) (o : Option A) → ((a : A) → (f a).printer ≡ false) → (option_map_or f o nothing_found).printer ≡ false
 of_option f None none = refl
 of_option f (Some a) none = none a
 
-calm_printer : (Q : Queue) (s : State) → (calm Q s).printer ≡ false
+pub calm_printer : (Q : Queue) (s : State) → (calm Q s).printer ≡ false
 calm_printer Q (Away (SpoolDeck n text)) = refl
 calm_printer Q (Away (SpoolOutputs n specs p)) = refl
 calm_printer Q (Away (ReadText runs n fields p)) = of_option (λ (j : Job). with_text j.text) (job_at Q n) (λ j. refl)
@@ -115,7 +118,7 @@ of_wire : {A : Type 0} (f : A → Found) (o : Option A) → ((a : A) → (f a).w
 of_wire f None none = refl
 of_wire f (Some a) none = none a
 
-calm_wire : (Q : Queue) (s : State) → (calm Q s).wire ≡ false
+pub calm_wire : (Q : Queue) (s : State) → (calm Q s).wire ≡ false
 calm_wire Q (Away (SpoolDeck n text)) = refl
 calm_wire Q (Away (SpoolOutputs n specs p)) = refl
 calm_wire Q (Away (ReadText runs n fields p)) = of_wire (λ (j : Job). with_text j.text) (job_at Q n) (λ j. refl)
@@ -127,9 +130,6 @@ calm_wire Q (Away (Acknowledge number service)) = refl
 calm_wire Q (Fresh task) = refl
 calm_wire Q (Rested p) = refl
 calm_wire Q Told = refl
-
-calm_loses : (Q : Queue) (s : State) → (calm Q s).printer ≡ true → LosesPrinter s (calm Q s)
-calm_loses Q s is = absurd (let no : true ≡ false = sym is ∙ calm_printer Q s in cc)
 
 -- THE PIECE THAT THE QUEUE GIVES, with what it would have printed
 module _ {P C : Type 0} (s : Start) (x : Parts P C) where
@@ -220,16 +220,17 @@ module _ {P C : Type 0} (plants : PlantGhosts P) (copies : CopyGhosts C) where
     p = its_piece s x
 
     abbrev sight : Sight
-    sight = sight_then clear (sittings_most s.state) s.found (calm now t.next).printer 0 (Some (cut_at e halt))
+    sight = sight_then clear (sittings_most s.state) s.found (loses_ink t.next (calm now t.next)) 0 (Some (cut_at e halt))
 
     abbrev more : List Piece
     more = pieces_from (sittings_most t.next) clear (count_then s.holder.by (all_entries t.batches) count + length p.printed) now (holder_then (queue_of x) s.holder (all_entries t.batches)) t.next
 
     pieces_are : pieces_at plants copies sight x s.holder s.state ≡ p ∷ more
-    pieces_are = first_and_more clear s.found (calm now t.next) 0 (Some (cut_at e halt)) count (queue_of x) s.holder s.state ne refl (calm_loses now t.next) (λ i j. same_poured i j t.next (calm now t.next) (calm_wire now t.next)) p refl
+    pieces_are = first_and_more clear s.found (calm now t.next) 0 (Some (cut_at e halt)) count (queue_of x) s.holder s.state ne refl p refl
 
-    pub told_cut : VolumesStay none_lost (v x) (v w) → IfNoWork s.state (IsTight e halt p.sitting) → IsBroken e halt p.sitting → IsLeftAt (Unit {0}) s.holder.by p e halt x w → w.book ≡ stopped_for s.holder.by (cause_by e) (book_cut s.holder.by halt x.book p) → HasToldStep plants copies s x w (Err e)
-    told_cut volumes tight broke i book = record {
+    pub told_cut : VolumesStay none_lost (v x) (v w) → IfNoWork s.state (IsTight e halt p.sitting) → IsBroken e halt p.sitting → IsLeftAt (Unit {0}) s.holder.by p e halt x w → w.book ≡ stopped_for s.holder.by (cause_by e) (book_cut s.holder.by halt x.book p)
+        → GivesOnly s.holder.by (line_served s.state) (given_cut s.holder.by halt p.given) (v x) (v w) → ((IsLineTask s.state → ⊥) → TakesNothing (v x) (v w)) → (was is : Option (List ℕ)) → HasToldStep plants copies s x w was is (Err e)
+    told_cut volumes tight broke i book gives takes was is = record {
       sight = sight;
       pieces = p ∷ more;
       is = sym pieces_are;
@@ -244,4 +245,6 @@ module _ {P C : Type 0} (plants : PlantGhosts P) (copies : CopyGhosts C) where
       tight = tight;
       broke = broke;
       writes = cut_writes (Unit {0}) s.holder.by p e halt x w i more tt;
+      gives = gives;
+      hears = hears_early s.holder.by (v x) (v w) was is s.state e sight.finds takes;
     }

@@ -1,5 +1,5 @@
 -- A step that is told leaves nothing more.
-use Rattle.std.proofs.Common.{◌≡◌, inr, ℕ, false, [], None, Ok, append-nil, refl, sym, ap, ◌∙◌, subst, arith}
+use Rattle.std.proofs.Common.{◌≡◌, inr, ℕ, false, List, [], Option, None, Ok, append-nil, refl, sym, ap, ◌∙◌, subst, arith}
 use Rattle.std.proofs.lemmas.List.Elements.{All-nil}
 use Rattle.spool_plant.specs.View.{View, paper_now}
 use Rattle.spool_plant.specs.declared.plant.Plant.{Ghosts as PlantGhosts}
@@ -18,9 +18,11 @@ use Rattle.member_sittings.specs.Sat.{Start, journal_of}
 use Rattle.member_sittings.specs.Whole.{queue_of}
 use Rattle.member_sittings.specs.Tight.{IfNoWork}
 use Rattle.member_hand.specs.Shapes.{AreShaped}
-use Rattle.member_hand.specs.Plays.{IfCommand, HasActedIn, HasCut, HasPlayed, pieces_at}
+use Rattle.member_hand.specs.Hears.{HearsStep, ReaderStaysFrom, line_served}
+use Rattle.member_hand.specs.Plays.{IfCommand, IfNoPrint, HasActedIn, HasCut, HasPlayed, pieces_at}
 use Rattle.member_hand.specs.Quiet.{IsQuiet}
 use Rattle.member_hand.proofs.Passages.{passage_of}
+use Rattle.member_hand.proofs.Wiring.{gives_none, takes_none}
 
 module _ {P C : Type 0} (plants : PlantGhosts P) (copies : CopyGhosts C) where
   abbrev v : Parts P C → View
@@ -41,18 +43,19 @@ module _ {P C : Type 0} (plants : PlantGhosts P) (copies : CopyGhosts C) where
     nothing_acted : HasActedIn plants copies s.holder.by x x (Ok tt)
     nothing_acted = record { course = passage_of x.first_alive x.first_alive x.second_alive x.second_alive (v x) (v x) (course_none x.first_alive x.second_alive (v x)); loses = λ t d. refl; spares = spares_none s.holder.by.0 (v x); cause = inr (refl, refl) }
 
-    pub told_played : HasPlayed plants copies s x x pages (Ok tt)
-    told_played = record {
+    pub told_played : (was : Option (List ℕ)) → HasPlayed plants copies s x x pages was was (Ok tt)
+    told_played was = record {
       pieces = [];
       cut = None;
       played = nothing_left;
       shaped = subst (λ (u : State). AreShaped s.holder u s.found (v x) (v x) []) (sym told) (record { few = omega arith; kept = omega arith; says = All-nil _ });
       tight = subst (λ (u : State). IfNoWork u (Unit {0})) (sym told) tt;
       acts = nothing_acted;
-      dry = λ t. subst (λ (u : State). IfNoWork u (SamePapers (v x) (v x))) (sym told) (papers_none (v x));
+      dry = λ t. subst (λ (u : State). IfNoPrint u (SamePapers (v x) (v x))) (sym told) (papers_none (v x));
       still = λ t. subst (λ (u : State). IfCommand u (IsOnlyOn (v x) (v x))) (sym told) (only_none (v x));
       quiet = λ b. quiet;
       away = λ nobody. (quiet.unreserved, quiet.none);
+      reader = subst (λ (u : State). ReaderStaysFrom u was was) (sym told) refl;
       told = λ t. record {
         sight = clear;
         pieces = [];
@@ -70,5 +73,7 @@ module _ {P C : Type 0} (plants : PlantGhosts P) (copies : CopyGhosts C) where
           count = refl;
           other_counts = λ m other. refl;
         };
+        gives = gives_none s.holder.by (line_served s.state) (v x);
+        hears = subst (λ (u : State). HearsStep s.holder.by (v x) (v x) was was u (Ok tt) clear.finds []) (sym told) (takes_none (v x));
       };
     }

@@ -130,7 +130,8 @@ module _ {P C : Type 0} (plants : PlantGhosts P) (copies : CopyGhosts C) (x z : 
   )
   right_now me (Away (PrintLines n i last p)) found r = r
   right_now me (Away (Exchange l offer)) found r = r
-  right_now me (Away (SpoolArrival number job cards service)) found r = r
+  right_now me (Away (SpoolArrival number job cards service)) found r =
+      (r.0, r.1, r.2, r.3, λ none t. subst (λ (d : Spools). IsThere d x.base.config.groups (Whole cards) (lowest_groups me (queue_of x).owners cards)) (sym (same t)) (r.4 none t))
   right_now me (Away (Acknowledge number service)) found r = r
   right_now me (Rested p) found r = r
   right_now me Told found r = r

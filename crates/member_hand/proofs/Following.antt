@@ -1,5 +1,5 @@
 -- A piece of a step that is whole, and the step from there on, are the step.
-use Rattle.std.proofs.Common.{◌≡◌, ◌≢◌, ◌||◌, Bool, ℕ, zero, suc, ◌+◌, ◌≤◌, ◌<◌, true, false, List, [], ◌∷◌, ◌++◌, length, take, All, Option, Some, None, Result, Ok, Err, IfErr, append_assoc, refl, sym, ap, ◌∙◌, subst, arith}
+use Rattle.std.proofs.Common.{◌≡◌, ◌≢◌, ⊎_elim, inl, ◌||◌, Bool, ℕ, zero, suc, ◌+◌, ◌≤◌, ◌<◌, List, [], ◌∷◌, ◌++◌, length, take, All, Option, Some, None, Result, Ok, Err, IfErr, append_assoc, append-nil, refl, sym, ap, ◌∙◌, subst, arith}
 use Rattle.std.proofs.lemmas.List.Elements.{All-cons, All-head, All-nil, All-tail}
 use Rattle.mas_types.specs.declared.ids.MemberId.{MemberId}
 use Rattle.mas_types.specs.declared.journals.Batch.{Batch}
@@ -9,11 +9,11 @@ use Rattle.mas_types.specs.declared.queues.Config.{Config}
 use Rattle.mas_types.specs.declared.queues.Queue.{Queue}
 use Rattle.mas_types.specs.declared.jobs.Text.{Text}
 use Rattle.mas_types.specs.Run.{run}
-use Rattle.spool_plant.specs.View.{Line, View, paper_now}
+use Rattle.spool_plant.specs.View.{Line, View, given_now, paper_now}
 use Rattle.mas_types.specs.declared.ids.Dev.TheVariants.{Spool}
 use Rattle.mas_types.specs.declared.queues.Thing.TheVariants.{Deck, Output as OutputThing}
 use Rattle.spool_plant.specs.declared.plant.Part.{Part}
-use Rattle.spool_plant.specs.declared.plant.Part.TheVariants.{Disk as DiskPart, Printer}
+use Rattle.spool_plant.specs.declared.plant.Part.TheVariants.{Disk as DiskPart, Printer, Wire}
 use Rattle.spool_plant.specs.Acts.{Goes, Rose}
 use Rattle.track_groups.specs.Places.{groups_of}
 use Rattle.spool_plant.specs.declared.plant.Plant.{Ghosts as PlantGhosts}
@@ -41,7 +41,8 @@ use Rattle.step_turns.specs.declared.states.State.{State}
 use Rattle.step_turns.specs.declared.states.State.TheVariants.{Away, Fresh, Rested, Told}
 use Rattle.step_turns.specs.declared.states.Task.TheVariants.{Deck as DeckTask, Give, Line as LineTask, Work}
 use Rattle.step_turns.specs.Laws.{units_done, units_left}
-use Rattle.run_turns.specs.Pieces.{Piece, piece_at, pieces_from, poured, unless_told}
+use Rattle.run_turns.specs.Cuts.{adds_all, left_by, none_left}
+use Rattle.run_turns.specs.Pieces.{Piece, Play, piece_at, pieces_from, unless_told}
 use Rattle.run_turns.specs.Scenes.{Batched, count_then}
 use Rattle.run_turns.specs.Sights.{Cut, Halt, Sight}
 use Rattle.run_turns.proofs.Locks.{entries_kept}
@@ -49,19 +50,23 @@ use Rattle.step_turns.proofs.Sittings.{some_may_follow, steps_end}
 use Rattle.member_sittings.specs.Asides.{lowest_groups}
 use Rattle.member_sittings.specs.Sat.{Start, journal_of}
 use Rattle.member_sittings.specs.Tight.{IfNoWork}
-use Rattle.member_units.specs.Asides.{lowest_for}
+use Rattle.member_asides.specs.Asides.{lowest_for}
 use Rattle.member_sittings.specs.Whole.{queue_of}
+use Rattle.member_wires.specs.Acts.{HasLineFailed}
 use Rattle.member_hand.specs.Cuts.{AreBatched, AtCut, IsBetweenSittings, IsBroken, IsCutBy, IsTight, whole_pieces}
 use Rattle.member_hand.specs.Found.{AreFoundIn, FindsWritten, IsFoundAt, Wait, named_in, names_found, waits_in}
+use Rattle.member_hand.specs.Hears.{GivesOnly, HearsIn, HearsStep, ReaderStaysFrom, ReaderStaysIn, TakesNothing, line_served}
 use Rattle.member_hand.proofs.Passages.{or_none, passage_then}
-use Rattle.member_hand.specs.Plays.{HasActedIn, HasCut, HasPieced, HasPlayed, HasToldPiece, HasToldStep, IfCommand, IsOwnPiece, IsPiece, Leaves, Writes, left_of, one_left, piece_with, pieces_at}
+use Rattle.member_hand.specs.Plays.{HasActedIn, HasCut, HasPieced, HasPlayed, HasToldPiece, HasToldStep, IfCommand, IsOwnPiece, IsPiece, Leaves, Writes, left_of, one_left, piece_with, pieces_at, play_in}
 use Rattle.member_hand.specs.Shapes.{AreShaped}
 use Rattle.member_hand.specs.Sits.{ComesTo}
 use Rattle.member_hand.proofs.Adding.{Follows, after_one, piece_then}
 use Rattle.member_hand.proofs.Batching.{batched_then}
-use Rattle.member_hand.proofs.StepKinds.{if_all}
+use Rattle.member_hand.proofs.Serving.{StaysOn, same_line}
+use Rattle.member_hand.proofs.Wiring.{gives_then, hears_in, takes_none, takes_then}
+use Rattle.member_hand.proofs.StepKinds.{both_silent, hears_first, if_all, no_exchange, no_task, of_hears_in, of_hears_step, of_stays_from, of_stays_in, stays_from}
 use Rattle.member_hand.proofs.Shaping.{shaped_then}
-use Rattle.member_hand.proofs.Fuel.{LosesPrinter, finds_here, finds_later, no_more}
+use Rattle.member_hand.proofs.Fuel.{finds_here, finds_later, loses_ink, no_more}
 use Rattle.member_hand.proofs.Sighting.{first_and_more, piece_now, sight_then}
 
 -- THE CUT
@@ -84,6 +89,21 @@ whole_later (Some cut) p ps = refl
 at_later : (Q : Halt → Sitting → Type 0) (cut : Option Cut) (p : Piece) (ps : List Piece) → AtCut Q cut ps → AtCut Q (after_one cut) (p ∷ ps)
 at_later Q None p ps is = tt
 at_later Q (Some cut) p ps is = is
+
+-- WHERE NO PIECE WAS PLAYED nothing was given
+
+nothing_given : (by : MemberId) (play : Play) (count : ℕ) (r : Result (Unit {0}) NodeNo) (cut : Option Cut) → play.pieces ≡ [] → IsCutBy r play.pieces cut → (left_by by cut play count).given ≡ []
+nothing_given by play count r None none is = ap (λ (ps : List Piece). (adds_all by play.locked (none_left by play.book count) ps).given) none
+nothing_given by play count (Ok done) (Some cut) none is = absurd (cc)
+nothing_given by play count (Err e) (Some cut) none is = let there = is.there in let few : length play.pieces ≡ 0 = ap length none in absurd (omega (arith, there, few))
+
+-- and where no line is served nobody gave anything
+told_gives : (by : MemberId) (served : Option ℕ) (v v' : View) (bytes : List ℕ) → GivesOnly by None bytes v v' → GivesOnly by served [] v v'
+told_gives by served v v' bytes gives = record {
+  given = λ l is. gives.else_given l by.0 (inl (λ none. absurd (cc))) ∙ sym (append-nil (given_now v l by.0));
+  else_given = λ l m other. gives.else_given l m (inl (λ none. absurd (cc)));
+  else_taken = λ l m other. gives.else_taken l m (inl (λ none. absurd (cc)));
+}
 
 if_err : (r : Result (Unit {0}) NodeNo) (A B : NodeNo → Type 0) → ((e : NodeNo) → A e → B e) → IfErr r A → IfErr r B
 if_err (Ok done) A B f a = tt
@@ -238,6 +258,9 @@ module _ (per : ℕ) (old v0 v1 new : View) (before : Goes old v0) (after : Goes
   printer_in : (by : MemberId) → HasPrinterFailed by v0 v1 → HasPrinterFailed by old new
   printer_in by f = record { lost = after.lost (Printer by) f.lost; rose = rose_in (Printer by) f.rose }
 
+  line_in : (l : ℕ) → HasLineFailed l v0 v1 → HasLineFailed l old new
+  line_in l f = record { lost = after.lost (Wire l) f.lost; rose = rose_in (Wire l) f.rose }
+
   written_in : (groups : List GroupNo) (found : Found) → FindsWritten per groups found v0 v1 → FindsWritten per groups found old new
   written_in groups found f = record { only = f.only; lost = lost_in groups found.lost f.lost }
 
@@ -253,44 +276,21 @@ module _ (per : ℕ) (old v0 v1 new : View) (before : Goes old v0) (after : Goes
     there = f.there;
     as_had = read_in (Unit {0}) f.output.text (groups_of (OutputThing n i) Q.owners) found.read f.as_had;
   }
-  aside_in by Q (Exchange l offer) found f = f
-  aside_in by Q (SpoolArrival number job cards service) found f = f
-  aside_in by Q (Acknowledge number service) found f = f
+  aside_in by Q (Exchange l None) found f = record { only = f.only; text = f.text; lost = λ e. line_in l (f.lost e); frames = f.frames }
+  aside_in by Q (Exchange l (Some o)) found f = record {
+    only = f.only;
+    text = (f.text.0, f.text.1, read_in (Unit {0}) f.text.0.text (groups_of (Deck o.job) Q.owners) found.read f.text.2);
+    lost = λ e. line_in l (f.lost e);
+    frames = f.frames;
+  }
+  aside_in by Q (SpoolArrival number job cards service) found f = written_in (lowest_groups by Q.owners cards) found f
+  aside_in by Q (Acknowledge number service) found f = record { only = f.only; lost = λ e. line_in service.line (f.lost e) }
 
   pub found_in : (by : MemberId) (Q : Queue) (s : State) (found : Found) → IsFoundAt per by v0 v1 Q s found → IsFoundAt per by old new Q s found
   found_in by Q (Away a) found f = aside_in by Q a found f
   found_in by Q (Fresh task) found f = f
   found_in by Q (Rested p) found f = f
   found_in by Q Told found f = f
-
-false_true : false ≡ true → ⊥
-false_true e = absurd (cc)
-
--- only one that prints finds its printer lost
-pub printer_lost : (per : ℕ) (by : MemberId) (old new : View) (Q : Queue) (s : State) (found : Found) → IsFoundAt per by old new Q s found → found.printer ≡ true → LosesPrinter s found
-printer_lost per by old new Q (Away (PrintLines n i last p)) found f e = e
-printer_lost per by old new Q (Away (SpoolDeck n text)) found f e = absurd (false_true (sym (ap (λ (x : Found). x.printer) f.only) ∙ e))
-printer_lost per by old new Q (Away (SpoolOutputs n specs p)) found f e = absurd (false_true (sym (ap (λ (x : Found). x.printer) f.only) ∙ e))
-printer_lost per by old new Q (Away (ReadText runs n fields p)) found f e = absurd (false_true (sym (ap (λ (x : Found). x.printer) f.only) ∙ e))
-printer_lost per by old new Q (Away (Exchange l offer)) found f e = absurd f
-printer_lost per by old new Q (Away (SpoolArrival number job cards service)) found f e = absurd f
-printer_lost per by old new Q (Away (Acknowledge number service)) found f e = absurd f
-printer_lost per by old new Q (Fresh task) found f e = absurd (false_true (sym (ap (λ (x : Found). x.printer) f) ∙ e))
-printer_lost per by old new Q (Rested p) found f e = absurd (false_true (sym (ap (λ (x : Found). x.printer) f) ∙ e))
-printer_lost per by old new Q Told found f e = absurd (false_true (sym (ap (λ (x : Found). x.printer) f) ∙ e))
-
--- and no step gives bytes on a line yet
-pub same_given : (per : ℕ) (by : MemberId) (old new : View) (Q : Queue) (s : State) (found : Found) → IsFoundAt per by old new Q s found → (i j : ℕ) → poured i s found ≡ poured j s found
-same_given per by old new Q (Away (Exchange l offer)) found f i j = absurd f
-same_given per by old new Q (Away (Acknowledge number service)) found f i j = absurd f
-same_given per by old new Q (Away (SpoolArrival number job cards service)) found f i j = refl
-same_given per by old new Q (Away (SpoolDeck n text)) found f i j = refl
-same_given per by old new Q (Away (ReadText runs n fields p)) found f i j = refl
-same_given per by old new Q (Away (SpoolOutputs n specs p)) found f i j = refl
-same_given per by old new Q (Away (PrintLines n output last p)) found f i j = refl
-same_given per by old new Q (Fresh task) found f i j = refl
-same_given per by old new Q (Rested p) found f i j = refl
-same_given per by old new Q Told found f i j = refl
 
 -- WHERE A STEP WAITS LATER it has fewer sittings before it
 
@@ -347,7 +347,7 @@ module _ {P C : Type 0} (plants : PlantGhosts P) (copies : CopyGhosts C) (s : St
         (subst (λ (h : Holder). HasCut plants copies h ps cut y z r) one.holder two)
 
     -- the pieces on every plant
-    shaped_all : ComesTo s.state n.state → sittings_most n.state < sittings_most s.state → units_done n.state + units_left n.state ≤ units_done s.state + units_left s.state → (one : HasPieced plants copies s x y n) (ps : List Piece)
+    shaped_all : {was mid : Option (List ℕ)} → ComesTo s.state n.state → sittings_most n.state < sittings_most s.state → units_done n.state + units_left n.state ≤ units_done s.state + units_left s.state → (one : HasPieced plants copies s x y n was mid) (ps : List Piece)
         → AreShaped n.holder n.state n.found (w y) (w z) ps → AreShaped s.holder s.state s.found (w x) (w z) (one.piece ∷ ps)
     shaped_all comes falls units one ps rest =
         subst (λ (q : Piece). AreShaped s.holder s.state s.found (w x) (w z) (q ∷ ps)) (sym one.plain)
@@ -355,7 +355,7 @@ module _ {P C : Type 0} (plants : PlantGhosts P) (copies : CopyGhosts C) (s : St
         s.state n.state ne (some_may_follow s.state ne) (sym one.one.state) comes falls units one.shaped
         (subst (λ (h : Holder). AreShaped h n.state n.found (w y) (w z) ps) one.one.holder rest))
 
-    module _ (one : HasToldPiece plants copies s x y n) (two : HasToldStep plants copies n y z r) where
+    module _ (was mid is : Option (List ℕ)) (one : HasToldPiece plants copies s x y n) (two : HasToldStep plants copies n y z mid is r) where
       abbrev p : Piece
       p = one.piece
 
@@ -363,7 +363,7 @@ module _ {P C : Type 0} (plants : PlantGhosts P) (copies : CopyGhosts C) (s : St
       most = sittings_most s.state
 
       abbrev sight : Sight
-      sight = sight_then two.sight most s.found n.found.printer one.inked (after_one two.sight.cut)
+      sight = sight_then two.sight most s.found (loses_ink (sit (queue_of x) s.holder s.state s.found).next n.found) one.inked (after_one two.sight.cut)
 
       abbrev count : ℕ
       count = counts_of x.printed me
@@ -383,16 +383,6 @@ module _ {P C : Type 0} (plants : PlantGhosts P) (copies : CopyGhosts C) (s : St
       found_next : two.sight.finds (run (queue_of x) (all_entries t.batches)) t.next ≡ n.found
       found_next =
           ap (λ (Q : Queue). two.sight.finds Q t.next) (sym queue_is) ∙ ap (λ (u : State). two.sight.finds (queue_of y) u) (sym state_is) ∙ two.found
-
-      loses_next : n.found.printer ≡ true → LosesPrinter t.next n.found
-      loses_next e =
-          subst (λ (u : State). LosesPrinter u n.found) state_is
-          (printer_lost x.base.config.groups me (w x) (w y) (queue_of y) n.state n.found one.finds e)
-
-      gives_next : (i j : ℕ) → poured i t.next n.found ≡ poured j t.next n.found
-      gives_next i j =
-          subst (λ (u : State). poured i u n.found ≡ poured j u n.found) state_is
-          (same_given x.base.config.groups me (w x) (w y) (queue_of y) n.state n.found one.finds i j)
 
       -- the piece, as the pure words have it
       is_now : p ≡ piece_now count (queue_of x) s.holder t n.found one.inked
@@ -420,7 +410,7 @@ module _ {P C : Type 0} (plants : PlantGhosts P) (copies : CopyGhosts C) (s : St
       its_pieces : p ∷ two.pieces ≡ pieces_at plants copies sight x s.holder s.state
       its_pieces =
           ap (λ (ps : List Piece). p ∷ ps) (two.is ∙ pieces_are)
-          ∙ sym (first_and_more two.sight s.found n.found one.inked (after_one two.sight.cut) count (queue_of x) s.holder s.state ne found_next loses_next gives_next p is_now)
+          ∙ sym (first_and_more two.sight s.found n.found one.inked (after_one two.sight.cut) count (queue_of x) s.holder s.state ne found_next p is_now)
 
       -- what was found
       fewer : sittings_most p.sitting.next < most
@@ -506,8 +496,45 @@ module _ {P C : Type 0} (plants : PlantGhosts P) (copies : CopyGhosts C) (s : St
           (stay_more (names_found (sight.finds now p.sitting.next)) both (w x) (w y) (λ m none. (or_none (names_found (sight.finds now p.sitting.next) m) (named_in sight.finds rest m) none).0) here)
           (stay_more (named_in two.sight.finds rest) both (w y) (w z) (λ m none. sym (all_named rest rest_few m) ∙ (or_none (names_found (sight.finds now p.sitting.next) m) (named_in sight.finds rest m) none).1) later_on))
 
-      pub told_then : ComesTo s.state n.state → VolumesStay (names_found n.found) (w x) (w y) → HasToldStep plants copies s x z r
-      told_then comes volumes = record {
+      -- what was given on the line
+
+      -- a step that is told leaves nothing
+      left_none : n.state ≡ Told → (left_of plants copies me two.sight.cut two.pieces y).given ≡ []
+      left_none told = nothing_given me (play_in me two.pieces y.book (queue_of y)) (counts_of y.printed me) r two.sight.cut (two.is ∙ ap (λ (u : State). pieces_at plants copies two.sight y n.holder u) told) two.cut.by_answer
+
+      more_given : StaysOn (line_served s.state) n.state → GivesOnly me (line_served n.state) (left_of plants copies me two.sight.cut two.pieces y).given (w y) (w z)
+          → GivesOnly me (line_served s.state) (left_of plants copies me two.sight.cut two.pieces y).given (w y) (w z)
+      more_given on gives =
+          ⊎_elim
+          (λ told. subst (λ (bytes : List ℕ). GivesOnly me (line_served s.state) bytes (w y) (w z)) (sym (left_none told))
+          (told_gives me (line_served s.state) (w y) (w z) (left_of plants copies me two.sight.cut two.pieces y).given (subst (λ (u : State). GivesOnly me (line_served u) (left_of plants copies me two.sight.cut two.pieces y).given (w y) (w z)) told gives)))
+          (λ same. subst (λ (o : Option ℕ). GivesOnly me o (left_of plants copies me two.sight.cut two.pieces y).given (w y) (w z)) same gives) on
+
+      gave : ComesTo s.state n.state → GivesOnly me (line_served s.state) (left_of plants copies me (after_one two.sight.cut) (p ∷ two.pieces) x).given (w x) (w z)
+      gave comes =
+          let on = subst (λ (u : State). StaysOn (line_served s.state) u) (sym state_is) (same_line (queue_of x) s.holder s.state s.found (subst (λ (u : State). ComesTo s.state u) state_is comes)) in
+          let later_gives = more_given on (subst (λ (h : Holder). GivesOnly h.by (line_served n.state) (left_of plants copies h.by two.sight.cut two.pieces y).given (w y) (w z)) one.one.holder two.gives) in
+          subst (λ (bytes : List ℕ). GivesOnly me (line_served s.state) bytes (w x) (w z)) (sym follow.given)
+          (gives_then me (line_served s.state) p.given (left_of plants copies me two.sight.cut two.pieces y).given (w x) (w y) (w z) one.gives later_gives)
+
+      -- and what was heard
+      heard : ComesTo s.state n.state → HearsIn me (w x) (w y) was mid n.state n.found → ReaderStaysIn n.state was mid → ReaderStaysFrom n.state mid is
+          → HearsStep me (w x) (w z) was is s.state r sight.finds (waits_in (take (whole_pieces (after_one two.sight.cut) (p ∷ two.pieces)) (p ∷ two.pieces)) (queue_of x))
+      heard comes hears stays on =
+          let now = run (queue_of x) (all_entries p.sitting.batches) in
+          let j = whole_pieces two.sight.cut two.pieces in
+          let ws = waits_in (take j two.pieces) (queue_of y) in
+          let same : is ≡ mid = of_stays_from n.state mid is (no_task s.state n.state comes) on in
+          let after : TakesNothing (w y) (w z) = of_hears_step me (w y) (w z) mid is n.state r two.sight.finds ws (no_task s.state n.state comes)
+          (subst (λ (h : Holder). HearsStep h.by (w y) (w z) mid is n.state r two.sight.finds ws) one.one.holder two.hears) in
+          let all : HearsIn me (w x) (w z) was is n.state n.found = hears_in me was mid is n.state n.found (w x) (w x) (w y) (w z) (takes_none (w x)) hears after same in
+          subst (λ (k : ℕ). HearsStep me (w x) (w z) was is s.state r sight.finds (waits_in (take k (p ∷ two.pieces)) (queue_of x))) (sym (whole_later two.sight.cut p two.pieces))
+          (hears_first me (w x) (w z) was is s.state r sight.finds (record { queue = now; state = p.sitting.next }) (waits_in (take j two.pieces) now)
+          (λ task. subst (λ (f : Found). HearsIn me (w x) (w z) was is p.sitting.next f) found_now (subst (λ (u : State). HearsIn me (w x) (w z) was is u n.found) one.one.state all))
+          (λ no. takes_then (w x) (w y) (w z) (of_hears_in me (w x) (w y) was mid n.state n.found (no_exchange s.state n.state comes no) hears) after))
+
+      pub told_then : ComesTo s.state n.state → VolumesStay (names_found n.found) (w x) (w y) → HearsIn me (w x) (w y) was mid n.state n.found → ReaderStaysIn n.state was mid → ReaderStaysFrom n.state mid is → HasToldStep plants copies s x z was is r
+      told_then comes volumes hears stays on = record {
         sight = sight;
         pieces = p ∷ two.pieces;
         is = its_pieces;
@@ -520,20 +547,23 @@ module _ {P C : Type 0} (plants : PlantGhosts P) (copies : CopyGhosts C) (s : St
         tight = tight_later r s.state n.state comes two.sight.cut p two.pieces two.tight;
         broke = if_err r _ _ (λ e b. at_later (IsBroken e) two.sight.cut p two.pieces b) two.broke;
         writes = wrote (subst (λ (h : Holder). Writes plants copies h.by (left_of plants copies h.by two.sight.cut two.pieces y) y z r) one.one.holder two.writes);
+        gives = gave comes;
+        hears = heard comes hears stays on;
       }
 
-    pub step_then : ComesTo s.state n.state → sittings_most n.state < sittings_most s.state → units_done n.state + units_left n.state ≤ units_done s.state + units_left s.state → HasPieced plants copies s x y n → HasPlayed plants copies n y z pages r
-        → HasPlayed plants copies s x z pages r
-    step_then comes falls units one two = record {
+    pub step_then : (was mid is : Option (List ℕ)) → ComesTo s.state n.state → sittings_most n.state < sittings_most s.state → units_done n.state + units_left n.state ≤ units_done s.state + units_left s.state → HasPieced plants copies s x y n was mid
+        → HasPlayed plants copies n y z pages mid is r → HasPlayed plants copies s x z pages was is r
+    step_then was mid is comes falls units one two = record {
       pieces = one.piece ∷ two.pieces;
       cut = after_one two.cut;
       played = cut_restated one.piece one.one two.pieces two.cut two.played;
       shaped = shaped_all comes falls units one two.pieces two.shaped;
       tight = tight_later r s.state n.state comes two.cut one.piece two.pieces two.tight;
       acts = acts_then plants copies me x y z r one.acts (subst (λ (h : Holder). HasActedIn plants copies h.by y z r) one.one.holder two.acts);
-      dry = λ t. both_dry s.state n.state (SamePapers (w x) (w y)) (SamePapers (w y) (w z)) (SamePapers (w x) (w z)) comes (λ a b. papers_on (w x) (w y) (w z) goes.later later a b) (one.dry t) (two.dry t);
+      dry = λ t. both_silent s.state n.state (SamePapers (w x) (w y)) (SamePapers (w y) (w z)) (SamePapers (w x) (w z)) comes (λ a b. papers_on (w x) (w y) (w z) goes.later later a b) (one.dry t) (two.dry t);
       still = λ t. both_still s.state n.state (IsOnlyOn (w x) (w y)) (IsOnlyOn (w y) (w z)) (IsOnlyOn (w x) (w z)) comes (λ a b. only_on (w x) (w y) (w z) goes.later later a b) (one.still t) (two.still t);
       quiet = λ b. two.quiet (between_later two.cut b);
       away = two.away;
-      told = λ t. told_then (one.told t) (two.told t) comes one.volumes;
+      reader = stays_from s.state was is (λ no. of_stays_from n.state mid is (no_task s.state n.state comes) two.reader ∙ of_stays_in n.state was mid (no_exchange s.state n.state comes no) one.reader);
+      told = λ t. told_then was mid is (one.told t) (two.told t) comes one.volumes (one.hears t) one.reader two.reader;
     }

@@ -1,12 +1,15 @@
 -- As many pieces as a step may have are enough, and a step finds the same where what it found before its sittings alone
 -- differs.
-use Rattle.std.proofs.Common.{◌≡◌, ◌≢◌, ℕ, zero, suc, ◌+◌, ◌==◌, ◌≤◌, ◌<◌, Bool, true, false, if◌then◌else◌, List, [], ◌∷◌, length, take, Option, Some, refl, sym, ap, ◌∙◌, subst, arith}
+use Rattle.std.proofs.Common.{◌≡◌, ◌≢◌, ℕ, zero, suc, ◌+◌, ◌==◌, ◌≤◌, ◌<◌, Bool, true, false, if◌then◌else◌, List, [], ◌∷◌, length, take, Option, Some, None, refl, sym, ap, ◌∙◌, subst, arith}
 use Rattle.std.proofs.lemmas.Bool.{eq-eqb, ne_eqb}
 use Rattle.mas_types.specs.declared.answers.Closing.{Closing}
+use Rattle.mas_types.specs.declared.answers.Closing.TheVariants as closing
 use Rattle.mas_types.specs.declared.ids.JobNo.{JobNo}
 use Rattle.mas_types.specs.declared.ids.OutNo.{OutNo}
 use Rattle.mas_types.specs.declared.queues.Queue.{Queue}
+use Rattle.mas_types.specs.Closings.{closing_line}
 use Rattle.mas_types.specs.Run.{run}
+use Rattle.nje_frames.specs.declared.frames.Frame.{Frame}
 use Rattle.step_turns.specs.Courses.{Finds, holder_then, sittings_most}
 use Rattle.step_turns.specs.Entries.{all_entries}
 use Rattle.step_turns.specs.Sittings.{Sitting, sit}
@@ -14,11 +17,14 @@ use Rattle.job_outcome.specs.declared.outcomes.Read.{Read}
 use Rattle.job_outcome.specs.declared.outcomes.Read.TheVariants.{Gone, Lines, Lost}
 use Rattle.step_turns.specs.JobEnds.{printed_end}
 use Rattle.step_turns.specs.Sittings.{sitting_of}
+use Rattle.step_turns.specs.Serving.{acknowledged, exchange_end, exchanged, heard, unless_cut, unread}
+use Rattle.step_turns.specs.TurnParts.{says}
 use Rattle.step_turns.specs.Turns.{lines_printed}
 use Rattle.step_turns.specs.declared.states.Aside.TheVariants.{Acknowledge, Exchange, PrintLines, ReadText, SpoolArrival, SpoolDeck, SpoolOutputs}
 use Rattle.step_turns.specs.declared.states.Progress.{Progress}
 use Rattle.step_turns.specs.declared.states.Found.{Found}
 use Rattle.step_turns.specs.declared.states.Holder.{Holder}
+use Rattle.step_turns.specs.declared.states.Service.{Service}
 use Rattle.step_turns.specs.declared.states.State.{State}
 use Rattle.step_turns.specs.declared.states.State.TheVariants.{Away, Fresh, Rested, Told}
 use Rattle.step_turns.proofs.Sittings.{by_state, some_may_follow, steps_end}
@@ -124,16 +130,16 @@ module _ (A B : Sight) (most : ℕ) (alike : (Q : Queue) (s : State) → sitting
       ap (piece_first k A n Q h) (same_piece n Q h s less)
       ∙ ap (λ (ps : List Piece). p ∷ unless_told p.sitting.next ps) (same_pieces k (count_then h.by es n + length p.printed) (run Q es) (holder_then Q h es) p.sitting.next (omega (arith, less, le)))
 
--- A PRINTER THAT WAS FOUND LOST: the next sitting closes the step, and no line is printed after it
+-- A PRINTER OR A LINE THAT WAS FOUND LOST: the next sitting closes the step, and nothing is printed or given after it
 
-abbrev no_lines : List (List ℕ)
+abbrev pub no_lines : List (List ℕ)
 no_lines = []
 
 none_taken : (i : ℕ) → take i no_lines ≡ no_lines
 none_taken zero = refl
 none_taken (suc i) = refl
 
-none_inked : (b : Bool) (i : ℕ) → inked_of b i no_lines ≡ no_lines
+pub none_inked : (b : Bool) (i : ℕ) → inked_of b i no_lines ≡ no_lines
 none_inked true i = none_taken i
 none_inked false i = refl
 
@@ -148,9 +154,22 @@ refused b (Lost volume) e = record { end = _; is = refl }
 refused true (Lines lines) e = record { end = _; is = refl }
 refused false (Lines lines) e = absurd (cc)
 
-abbrev pub LosesPrinter : State → Found → Type 0
-LosesPrinter (Away (PrintLines n i last p)) found = found.printer ≡ true
-LosesPrinter _ found = ⊥
+-- and so does a step that exchanges
+pub record IsClosed (l : ℕ) (b : Bool) (o : Option Closing) : Type 0 where
+  pub end : Closing
+  pub is : unless_cut l b o ≡ Some end
+
+closed : (l : ℕ) (b : Bool) (o : Option Closing) → b ≡ true → IsClosed l b o
+closed l b (Some end) e = record { end = _; is = refl }
+closed l true None e = record { end = _; is = refl }
+closed l false None e = absurd (cc)
+
+-- whether it was looked at how much stands on paper, or on the line, of what a state had to print or give
+abbrev pub loses_ink : State → Found → Bool
+loses_ink (Away (PrintLines n i last p)) found = found.printer
+loses_ink (Away (Exchange l offer)) found = found.wire
+loses_ink (Away (Acknowledge (Some number) service)) found = found.wire
+loses_ink s found = false
 
 module _ (A : Sight) (i : ℕ) where
   abbrev B : Sight
@@ -159,30 +178,52 @@ module _ (A : Sight) (i : ℕ) where
   abbrev after_sitting : ℕ → ℕ → Sight → ℕ → Queue → Holder → Sitting → List Piece
   after_sitting inked k sight n Q h t = piece_first k sight n Q h (piece_by inked A.finds n Q h t)
 
+  -- where the sitting closes the step, it doesn't matter
+  told_end : (k n : ℕ) (Q : Queue) (h : Holder) (lines : List (List ℕ)) → after_sitting A.inked k A n Q h (sitting_of h (says lines)) ≡ after_sitting i k B n Q h (sitting_of h (says lines))
+  told_end k n Q h lines =
+      let t = sitting_of h (says lines) in
+      let found = A.finds Q Told in
+      ap (λ (ls : List (List ℕ)). piece_of t found.printer ls ∷ []) (none_inked found.printer A.inked ∙ sym (none_inked found.printer i))
+
   lines_end : (k n : ℕ) (Q : Queue) (h : Holder) (job : JobNo) (output : OutNo) (last : ℕ) (p : Progress) (end : Option Closing) (why : Closing) → end ≡ Some why
       → after_sitting A.inked k A n Q h (sitting_of h (lines_printed h end Q job output last p)) ≡ after_sitting i k B n Q h (sitting_of h (lines_printed h end Q job output last p))
   lines_end k n Q h job output last p end why e =
       subst (λ (o : Option Closing). after_sitting A.inked k A n Q h (sitting_of h (lines_printed h o Q job output last p)) ≡ after_sitting i k B n Q h (sitting_of h (lines_printed h o Q job output last p))) (sym e)
-      (let t = sitting_of h (lines_printed h (Some why) Q job output last p) in
-      let found = A.finds Q Told in
-      ap (λ (ls : List (List ℕ)). piece_of t found.printer ls ∷ []) (none_inked found.printer A.inked ∙ sym (none_inked found.printer i)))
+      (told_end k n Q h (closing_line h.by h.step why ∷ []))
 
-  lost_from : (k n : ℕ) (Q : Queue) (h : Holder) (s : State) (found : Found) → A.finds Q s ≡ found → LosesPrinter s found → pieces_from k A n Q h s ≡ pieces_from k B n Q h s
+  line_end : (k n : ℕ) (Q : Queue) (h : Holder) (l : ℕ) (fs : List Frame) (end : Option Closing) (why : Closing) → end ≡ Some why
+      → after_sitting A.inked k A n Q h (sitting_of h (exchanged h.by h.step end l fs Q)) ≡ after_sitting i k B n Q h (sitting_of h (exchanged h.by h.step end l fs Q))
+  line_end k n Q h l fs end why e =
+      subst (λ (o : Option Closing). after_sitting A.inked k A n Q h (sitting_of h (exchanged h.by h.step o l fs Q)) ≡ after_sitting i k B n Q h (sitting_of h (exchanged h.by h.step o l fs Q))) (sym e)
+      (told_end k n Q h (closing_line h.by h.step why ∷ []))
+
+  answer_end : (k n : ℕ) (Q : Queue) (h : Holder) (number : ℕ) (s : Service) (lost : Bool) → lost ≡ true
+      → after_sitting A.inked k A n Q h (sitting_of h (acknowledged h.by h.step (Some number) lost s Q)) ≡ after_sitting i k B n Q h (sitting_of h (acknowledged h.by h.step (Some number) lost s Q))
+  answer_end k n Q h number s lost e =
+      subst (λ (b : Bool). after_sitting A.inked k A n Q h (sitting_of h (acknowledged h.by h.step (Some number) b s Q)) ≡ after_sitting i k B n Q h (sitting_of h (acknowledged h.by h.step (Some number) b s Q))) (sym e)
+      (told_end k n Q h (closing_line h.by h.step (closing.LineLost s.line) ∷ []))
+
+  lost_from : (k n : ℕ) (Q : Queue) (h : Holder) (s : State) (found : Found) → A.finds Q s ≡ found → loses_ink s found ≡ true → pieces_from k A n Q h s ≡ pieces_from k B n Q h s
   lost_from zero n Q h s found e loses = refl
   lost_from (suc k) n Q h (Away (PrintLines job output last p)) found e loses =
       let f = A.finds Q (Away (PrintLines job output last p)) in
       let r = refused f.printer f.read (ap (λ (g : Found). g.printer) e ∙ loses) in
       lines_end k n Q h job output last p (printed_end f.printer f.read) r.end r.is
-  lost_from (suc k) n Q h (Away (SpoolDeck job text)) found e loses = absurd loses
-  lost_from (suc k) n Q h (Away (ReadText runs job fields p)) found e loses = absurd loses
-  lost_from (suc k) n Q h (Away (SpoolOutputs job specs p)) found e loses = absurd loses
-  lost_from (suc k) n Q h (Away (Exchange l offer)) found e loses = absurd loses
-  lost_from (suc k) n Q h (Away (SpoolArrival number job cards service)) found e loses = absurd loses
-  lost_from (suc k) n Q h (Away (Acknowledge number service)) found e loses = absurd loses
-  lost_from (suc k) n Q h (Fresh task) found e loses = absurd loses
-  lost_from (suc k) n Q h (Rested p) found e loses = absurd loses
-  lost_from (suc k) n Q h Told found e loses = absurd loses
+  lost_from (suc k) n Q h (Away (Exchange l offer)) found e loses =
+      let f = A.finds Q (Away (Exchange l offer)) in
+      let r = closed l f.wire (unread offer f.read) (ap (λ (g : Found). g.wire) e ∙ loses) in
+      line_end k n Q h l (heard f) (exchange_end offer l f) r.end r.is
+  lost_from (suc k) n Q h (Away (Acknowledge (Some number) service)) found e loses =
+      answer_end k n Q h number service (A.finds Q (Away (Acknowledge (Some number) service))).wire (ap (λ (g : Found). g.wire) e ∙ loses)
+  lost_from (suc k) n Q h (Away (Acknowledge None service)) found e loses = absurd (cc)
+  lost_from (suc k) n Q h (Away (SpoolDeck job text)) found e loses = absurd (cc)
+  lost_from (suc k) n Q h (Away (ReadText runs job fields p)) found e loses = absurd (cc)
+  lost_from (suc k) n Q h (Away (SpoolOutputs job specs p)) found e loses = absurd (cc)
+  lost_from (suc k) n Q h (Away (SpoolArrival number job cards service)) found e loses = absurd (cc)
+  lost_from (suc k) n Q h (Fresh task) found e loses = absurd (cc)
+  lost_from (suc k) n Q h (Rested p) found e loses = absurd (cc)
+  lost_from (suc k) n Q h Told found e loses = absurd (cc)
 
-pub ink_is_free : (A : Sight) (i k n : ℕ) (Q : Queue) (h : Holder) (s : State) (found : Found) → A.finds Q s ≡ found → LosesPrinter s found
+pub ink_is_free : (A : Sight) (i k n : ℕ) (Q : Queue) (h : Holder) (s : State) (found : Found) → A.finds Q s ≡ found → loses_ink s found ≡ true
     → pieces_from k A n Q h s ≡ pieces_from k (record A { inked = i }) n Q h s
 ink_is_free A i k n Q h s found e loses = lost_from A i k n Q h s found e loses

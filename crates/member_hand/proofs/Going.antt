@@ -1,5 +1,5 @@
 -- A step goes on after a piece: its member may play the next one, and is at its seat if it has the lock still.
-use Rattle.std.proofs.Common.{◌≡◌, ◌≢◌, ◌⊎◌, ℕ, ◌≤◌, true, false, [], length, None, Ok, refl, sym, ap, ◌∙◌, subst, arith}
+use Rattle.std.proofs.Common.{◌≡◌, ◌≢◌, ◌⊎◌, ℕ, ◌≤◌, true, false, List, [], length, Option, None, Ok, refl, sym, ap, ◌∙◌, subst, arith}
 use Rattle.mas_types.specs.declared.ids.MemberId.{MemberId}
 use Rattle.mas_types.specs.declared.queues.Queue.{Queue}
 use Rattle.mas_types.specs.Ids.{nobody}
@@ -37,6 +37,7 @@ use Rattle.member_hand.proofs.Entering.{entered_seated}
 use Rattle.member_hand.proofs.Finding.{right_at}
 use Rattle.member_hand.proofs.Locking.{acts_entered, inner_by, left_members, released_within, spent_acts, still_holds, within_free, within_unlocked, within_up}
 use Rattle.member_hand.proofs.Seating.{untold_on}
+use Rattle.member_hand.proofs.StepKinds.{few_after}
 
 -- A MEMBER THAT SAT is at its seat, and its step untold unless it is told
 
@@ -121,7 +122,7 @@ module _ {P C : Type 0} (plants : PlantGhosts P) (copies : CopyGhosts C) (s : St
   }
 
   pub few_next : AreFewUnits s.state → AreFewUnits end.next
-  few_next few = let fewer = leaves.goes.few in omega (arith, few, fewer)
+  few_next few = few_after s.state end.next leaves.goes.comes leaves.goes.few few
 
   -- IT MAY DO THE ACTS that the step waits for
 
@@ -144,21 +145,21 @@ module _ {P C : Type 0} (plants : PlantGhosts P) (copies : CopyGhosts C) (s : St
 
   -- THE STEP GOES ON
 
-  module _ (u : Parts P C) (found : Found) (acts : ActsAfter plants left u n end.next (Ok found)) (hold : ℕ) where
+  module _ (u : Parts P C) (was is : Option (List ℕ)) (found : Found) (acts : ActsAfter plants left u n end.next was is (Ok found)) (hold : ℕ) where
     beside : ActsBeside plants.tells n.id.0 (v left) (v u) (Ok found)
-    beside = acts_beside plants copies left u n end.next (Ok found) acts
+    beside = acts_beside plants copies left u n end.next was is (Ok found) acts
 
     changed : u ≡ asided u y
-    changed = only_these (Ok found) n.id left u (changed_only plants copies left u n end.next (Ok found) acts)
+    changed = only_these (Ok found) n.id left u (changed_only plants copies left u n end.next was is (Ok found) acts)
 
     unreserved : u.reserved ≡ None
-    unreserved = unreserved_by (Ok found) n.id left u (changed_only plants copies left u n end.next (Ok found) acts) seat.still.unreserved
+    unreserved = unreserved_by (Ok found) n.id left u (changed_only plants copies left u n end.next was is (Ok found) acts) seat.still.unreserved
 
     pub aside_next : IsAside plants copies u n
     aside_next = aside_then plants copies y u n seat changed beside.beside unreserved
 
     book_u : u.book ≡ left.book
-    book_u = ap (λ (q : Parts P C). q.book) (changed_only plants copies left u n end.next (Ok found) acts)
+    book_u = ap (λ (q : Parts P C). q.book) (changed_only plants copies left u n end.next was is (Ok found) acts)
 
     base_u : u.base ≡ y.base
     base_u = ap (λ (q : Parts P C). q.base) changed
@@ -186,7 +187,7 @@ module _ {P C : Type 0} (plants : PlantGhosts P) (copies : CopyGhosts C) (s : St
     pub goes_next : end.next ≢ Told → MayGoOn plants copies u n (next_holder s.holder hold end.given) end.next
     goes_next ne =
         let sits = sitting_of plants copies end.next y n s.holder.step ne leaves.sits in
-        let was = go.level in
+        let before = go.level in
         let level = leaves.goes.level in
         let falls = leaves.goes.falls in
         let same_level : u.level ≡ y.level = ap (λ (q : Parts P C). q.level) changed in
@@ -204,12 +205,12 @@ module _ {P C : Type 0} (plants : PlantGhosts P) (copies : CopyGhosts C) (s : St
           untold = untold_on plants copies y u n.id n.id s.holder.step refl base_u (ap (λ (q : Parts P C). q.since) changed) seat.still.begun beside.beside.goes beside.beside.console sits.untold;
           step = subst (λ (q : Parts P C). HasStepKept plants copies q n.id s.holder.step) (sym changed) (kept_from_later n.id s.holder.step y.batches (v y).now (v u).now beside.beside.goes.later sits.step);
           seat = seated_by s.holder.grant refl ne;
-          level = omega (arith, was, level, falls, same_level);
+          level = omega (arith, before, level, falls, same_level);
           holder = mine;
         }
 
     pub right_next : end.next ≢ Told → IsFoundRight plants copies u n.id end.next found
-    right_next ne = right_at plants copies y left.book u n seat end.next found ne (ap (λ (q : Parts P C). queue_of q) changed) base_u leaves.waits acts
+    right_next ne = right_at plants copies y left.book u n seat end.next was is found ne (ap (λ (q : Parts P C). queue_of q) changed) base_u leaves.waits acts
 
     pub level_next : GoesOn s.state end.next x.level u.level
     level_next = subst (λ (l : ℕ). GoesOn s.state end.next x.level l) (sym (ap (λ (q : Parts P C). q.level) changed)) leaves.goes

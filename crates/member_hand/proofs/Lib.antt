@@ -1,4 +1,6 @@
 pub mod StepKinds
+pub mod Serving
+pub mod Wiring
 pub mod Adding
 pub mod Fuel
 pub mod Sighting

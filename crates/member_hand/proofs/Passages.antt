@@ -1,5 +1,5 @@
 -- What becomes of the copies in a step, one act after another.
-use Rattle.std.proofs.Common.{◌≡◌, inl, refl, ◌∙◌, ◌||◌, ℕ, Bool, true, false}
+use Rattle.std.proofs.Common.{◌≡◌, inl, refl, ◌∙◌, ◌||◌, Bool, true, false}
 use Rattle.mas_types.specs.declared.ids.Dev.TheVariants.{Ckpt1, Ckpt2}
 use Rattle.spool_plant.specs.View.{View}
 use Rattle.ckpt_copy.specs.Moments.{goes_on}

@@ -27,9 +27,9 @@ use Rattle.step_turns.specs.declared.states.State.TheVariants.{Away, Fresh, Rest
 use Rattle.step_turns.specs.declared.states.Task.TheVariants.{Deck, Give, Line, Work}
 use Rattle.run_turns.specs.Pieces.{Piece, piece_of}
 use Rattle.member_sittings.specs.Ends.{ends_in}
-use Rattle.member_sittings.specs.Shapes.{LineLines, DeckLines, IsShaped, MayRefuseBy, Says, SaysAtEnd, WorkLines}
+use Rattle.member_sittings.specs.Shapes.{LineLines, DeckLines, IsShaped, MayRefuseBy, Says, SaysAtEnd, SaysLine, WorkLines}
 use Rattle.member_hand.specs.Shapes.{AreFewPieces, AreShaped, DeckLinesIn, IsFailedFound, SaysIn, WorkLinesIn, batches_in}
-use Rattle.member_hand.specs.Sits.{ComesTo, IsDeckTask, IsWork}
+use Rattle.member_hand.specs.Sits.{ComesTo, IsDeckTask, IsLineTask, IsServing, IsWork}
 
 -- lines that are said at the end alone
 at_end : (next : State) (P Q : List (List ℕ) → Type 0) → ((ls : List (List ℕ)) → P ls → Q ls) → (lines : List (List ℕ)) → SaysAtEnd next P lines → SaysAtEnd next Q lines
@@ -69,6 +69,15 @@ says_first h (Away (SpoolArrival number job cards service)) found old new t says
 says_first h (Away (Acknowledge number service)) found old new t says = says
 says_first h (Rested p) found old new t says = work_first h (units_done (Rested p) + units_left (Rested p)) found old new t says
 says_first h Told found old new t says = tt
+
+task_serves : (s : State) → IsLineTask s → IsServing s
+task_serves (Fresh (Line l)) task = tt
+task_serves (Fresh (Give c)) task = absurd task
+task_serves (Fresh (Deck fields cards)) task = absurd task
+task_serves (Fresh (Work m)) task = absurd task
+task_serves (Away aside) task = absurd task
+task_serves (Rested p) task = absurd task
+task_serves Told task = absurd task
 
 -- ITS PIECE ALONE
 
@@ -254,6 +263,51 @@ module _ (h : Holder) (hold : ℕ) (found later : Found) (v0 v1 v2 : View) (one 
       (λ q says. to_work s q ws (at_end q.next (WorkLinesIn k (units_done n + units_left n) later v1 v2) (WorkLinesIn h (units_done s + units_left s) found v0 v2) (work_lines (units_done s + units_left s) (units_done n + units_left n) units) q.lines (of_work n q wn says)))
       (of_few n wn rest))
 
+  -- a step that serves a line
+
+  of_line : (n : State) (q : Sitting) → IsServing n → SaysIn k n later v1 v2 q → SaysLine h q
+  of_line (Away (Exchange l offer)) q on says = says
+  of_line (Away (SpoolArrival number job cards service)) q on says = says
+  of_line (Away (Acknowledge number service)) q on says = says
+  of_line (Away (SpoolDeck n text)) q on says = absurd on
+  of_line (Away (ReadText runs n fields p)) q on says = absurd on
+  of_line (Away (SpoolOutputs n specs p)) q on says = absurd on
+  of_line (Away (PrintLines n i last p)) q on says = absurd on
+  of_line (Fresh (Line l)) q on says = says
+  of_line (Fresh (Give c)) q on says = absurd on
+  of_line (Fresh (Deck fields text)) q on says = absurd on
+  of_line (Fresh (Work n)) q on says = absurd on
+  of_line (Rested p) q on says = absurd on
+  of_line Told q on says = absurd on
+
+  few_line : (n : State) → IsServing n → AreShaped k n later v1 v2 ps → AreFewPieces k n later v1 v2 ps
+  few_line (Away aside) on few = few
+  few_line (Fresh (Line l)) on few = few
+  few_line (Fresh (Give c)) on few = absurd on
+  few_line (Fresh (Deck fields text)) on few = absurd on
+  few_line (Fresh (Work n)) on few = absurd on
+  few_line (Rested p) on few = absurd on
+  few_line Told on few = absurd on
+
+  serves_then : (s n : State) → IsServing n → ((q : Sitting) → SaysLine h q → SaysIn h s found v0 v2 q) → t.next ≡ n → sittings_most n < sittings_most s → IsShaped h s found t → AreShaped k n later v1 v2 ps → AreFewPieces h s found v0 v2 (first ∷ ps)
+  serves_then s n on to next falls is rest =
+      few_then s n next falls is.few (says_first h s found v0 v2 t is.says) (λ q says. to q (of_line n q on says)) (few_line n on rest)
+
+  line_then : (s n : State) → IsServing s → IsServing n → t.next ≡ n → sittings_most n < sittings_most s → IsShaped h s found t → AreShaped k n later v1 v2 ps → AreShaped h s found v0 v2 (first ∷ ps)
+  line_then (Away (Exchange l offer)) n was on next falls is rest = serves_then (Away (Exchange l offer)) n on (λ q says. says) next falls is rest
+  line_then (Away (SpoolArrival number job cards service)) n was on next falls is rest = serves_then (Away (SpoolArrival number job cards service)) n on (λ q says. says) next falls is rest
+  line_then (Away (Acknowledge number service)) n was on next falls is rest = serves_then (Away (Acknowledge number service)) n on (λ q says. says) next falls is rest
+  line_then (Away (SpoolDeck m text)) n was on next falls is rest = absurd was
+  line_then (Away (ReadText runs m fields p)) n was on next falls is rest = absurd was
+  line_then (Away (SpoolOutputs m specs p)) n was on next falls is rest = absurd was
+  line_then (Away (PrintLines m i last p)) n was on next falls is rest = absurd was
+  line_then (Fresh (Line l)) n was on next falls is rest = serves_then (Fresh (Line l)) n on (λ q says. says) next falls is rest
+  line_then (Fresh (Give c)) n was on next falls is rest = absurd was
+  line_then (Fresh (Deck fields cards)) n was on next falls is rest = absurd was
+  line_then (Fresh (Work m)) n was on next falls is rest = absurd was
+  line_then (Rested p) n was on next falls is rest = absurd was
+  line_then Told n was on next falls is rest = absurd was
+
   told_then : (s : State) → s ≢ Told → 1 ≤ sittings_most s → IsShaped h s found t → ps ≡ [] → AreShaped h s found v0 v2 (first ∷ ps)
   told_then s ne some is none = subst (λ (qs : List Piece). AreShaped h s found v0 v2 (first ∷ qs)) (sym none) (shaped_one h found v0 v2 t s ne some is)
 
@@ -278,6 +332,6 @@ module _ (h : Holder) (hold : ℕ) (found later : Found) (v0 v1 v2 : View) (one 
   shaped_then s (Away (ReadText runs n fields p)) ne some next comes falls units is rest = work_then s (Away (ReadText runs n fields p)) comes tt ne next falls units is rest
   shaped_then s (Away (SpoolOutputs n specs p)) ne some next comes falls units is rest = work_then s (Away (SpoolOutputs n specs p)) comes tt ne next falls units is rest
   shaped_then s (Away (PrintLines n i last p)) ne some next comes falls units is rest = work_then s (Away (PrintLines n i last p)) comes tt ne next falls units is rest
-  shaped_then s (Away (Exchange l offer)) ne some next comes falls units is rest = absurd comes
-  shaped_then s (Away (SpoolArrival number job cards service)) ne some next comes falls units is rest = absurd comes
-  shaped_then s (Away (Acknowledge number service)) ne some next comes falls units is rest = absurd comes
+  shaped_then s (Away (Exchange l offer)) ne some next comes falls units is rest = line_then s (Away (Exchange l offer)) (task_serves s comes) tt next falls is rest
+  shaped_then s (Away (SpoolArrival number job cards service)) ne some next comes falls units is rest = line_then s (Away (SpoolArrival number job cards service)) comes tt next falls is rest
+  shaped_then s (Away (Acknowledge number service)) ne some next comes falls units is rest = line_then s (Away (Acknowledge number service)) comes tt next falls is rest

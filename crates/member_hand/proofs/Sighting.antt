@@ -1,5 +1,6 @@
 -- What a step finds from a state on, with what it found before: its pieces are the first one and those that follow.
-use Rattle.std.proofs.Common.{◌≡◌, ◌≢◌, ℕ, zero, suc, ◌+◌, ◌<◌, Bool, true, false, if◌then◌else◌, List, ◌∷◌, length, Option, refl, sym, ap, ◌∙◌, arith}
+use Rattle.std.proofs.Common.{◌≡◌, ◌≢◌, ℕ, zero, suc, ◌+◌, ◌<◌, Bool, true, false, if◌then◌else◌, List, [], ◌∷◌, length, Option, Some, None, refl, sym, ap, ◌∙◌, arith}
+use Rattle.std.proofs.Math.Seq.{take-nil}
 use Rattle.mas_types.specs.declared.journals.Entry.{Entry}
 use Rattle.mas_types.specs.declared.queues.Queue.{Queue}
 use Rattle.mas_types.specs.Run.{run}
@@ -16,31 +17,53 @@ use Rattle.step_turns.proofs.Sittings.{some_may_follow, steps_end}
 use Rattle.run_turns.specs.Scenes.{count_then}
 use Rattle.run_turns.specs.Sights.{Cut, Sight}
 use Rattle.run_turns.specs.Pieces.{Piece, chunk, inked_of, piece_of, pieces_from, poured, poured_of, unless_told, with_given}
-use Rattle.member_hand.proofs.Fuel.{LosesPrinter, enough_of, finding, finds_here, finds_later, ink_is_free, piece_by, same_pieces}
+use Rattle.member_hand.proofs.Fuel.{enough_of, finding, finds_here, finds_later, ink_is_free, loses_ink, none_inked, piece_by, same_pieces}
 
--- the same lines stand on paper, whichever number is looked at
+-- THE SAME STANDS ON PAPER, and on the line, whichever number is looked at
+
 same_ink : (b : Bool) (i j : ℕ) (lines : List (List ℕ)) → inked_of b (if b then i else j) lines ≡ inked_of b i lines
 same_ink true i j lines = refl
 same_ink false i j lines = refl
 
--- where no line was found lost, all of the bytes were given
-all_poured : (b : Bool) (i j : ℕ) (bytes : List ℕ) → b ≡ false → poured_of b i bytes ≡ poured_of b j bytes
-all_poured true i j bytes e = absurd (cc)
-all_poured false i j bytes e = refl
+no_ink : (b : Bool) (i j : ℕ) → inked_of b j [] ≡ inked_of b i []
+no_ink b i j = none_inked b j ∙ sym (none_inked b i)
 
-pub same_poured : (i j : ℕ) (s : State) (found : Found) → found.wire ≡ false → poured i s found ≡ poured j s found
-same_poured i j (Away (Exchange l offer)) found e = all_poured found.wire i j (bytes_given (Away (Exchange l offer)) found.read) e
-same_poured i j (Away (Acknowledge number service)) found e = all_poured found.wire i j (bytes_given (Away (Acknowledge number service)) found.read) e
-same_poured i j (Away (SpoolArrival number job cards service)) found e = refl
-same_poured i j (Away (SpoolDeck n text)) found e = refl
-same_poured i j (Away (ReadText runs n fields p)) found e = refl
-same_poured i j (Away (SpoolOutputs n specs p)) found e = refl
-same_poured i j (Away (PrintLines n output last p)) found e = refl
-same_poured i j (Fresh task) found e = refl
-same_poured i j (Rested p) found e = refl
-same_poured i j Told found e = refl
+ink_alike : (s : State) (found : Found) (i j : ℕ) (Q : Queue) (count : ℕ)
+    → inked_of found.printer (if loses_ink s found then i else j) (chunk Q count s found.read) ≡ inked_of found.printer i (chunk Q count s found.read)
+ink_alike (Away (PrintLines n output last p)) found i j Q count = same_ink found.printer i j (chunk Q count (Away (PrintLines n output last p)) found.read)
+ink_alike (Away (Exchange l offer)) found i j Q count = no_ink found.printer i (if found.wire then i else j)
+ink_alike (Away (Acknowledge (Some number) service)) found i j Q count = no_ink found.printer i (if found.wire then i else j)
+ink_alike (Away (Acknowledge None service)) found i j Q count = no_ink found.printer i j
+ink_alike (Away (SpoolArrival number job cards service)) found i j Q count = no_ink found.printer i j
+ink_alike (Away (SpoolDeck n text)) found i j Q count = no_ink found.printer i j
+ink_alike (Away (ReadText runs n fields p)) found i j Q count = no_ink found.printer i j
+ink_alike (Away (SpoolOutputs n specs p)) found i j Q count = no_ink found.printer i j
+ink_alike (Fresh task) found i j Q count = no_ink found.printer i j
+ink_alike (Rested p) found i j Q count = no_ink found.printer i j
+ink_alike Told found i j Q count = no_ink found.printer i j
 
--- a sight from here on, with what is found here and how many lines are printed after it
+same_poured : (b : Bool) (i j : ℕ) (bytes : List ℕ) → poured_of b (if b then i else j) bytes ≡ poured_of b i bytes
+same_poured true i j bytes = refl
+same_poured false i j bytes = refl
+
+none_poured : (b : Bool) (i j : ℕ) → poured_of b j [] ≡ poured_of b i []
+none_poured true i j = take-nil j ∙ sym (take-nil i)
+none_poured false i j = refl
+
+pour_alike : (s : State) (found : Found) (i j : ℕ) → poured (if loses_ink s found then i else j) s found ≡ poured i s found
+pour_alike (Away (Exchange l offer)) found i j = same_poured found.wire i j (bytes_given (Away (Exchange l offer)) found.read)
+pour_alike (Away (Acknowledge (Some number) service)) found i j = same_poured found.wire i j (bytes_given (Away (Acknowledge (Some number) service)) found.read)
+pour_alike (Away (Acknowledge None service)) found i j = none_poured found.wire i j
+pour_alike (Away (SpoolArrival number job cards service)) found i j = refl
+pour_alike (Away (SpoolDeck n text)) found i j = refl
+pour_alike (Away (ReadText runs n fields p)) found i j = refl
+pour_alike (Away (SpoolOutputs n specs p)) found i j = refl
+pour_alike (Away (PrintLines n output last p)) found i j = refl
+pour_alike (Fresh task) found i j = refl
+pour_alike (Rested p) found i j = refl
+pour_alike Told found i j = refl
+
+-- a sight from here on, with what is found here and how much of it was done of what is printed or given after it
 abbrev pub sight_then : Sight → ℕ → Found → Bool → ℕ → Option Cut → Sight
 sight_then R most found lost inked cut =
     record { finds = finding most found R.finds; inked = if lost then inked else R.inked; flight = R.flight; renewed = R.renewed; cut = cut }
@@ -58,8 +81,7 @@ piece_and R n Q h p =
     p ∷ pieces_from (sittings_most p.sitting.next) R (count_then h.by es n + length p.printed) (run Q es) (holder_then Q h es) p.sitting.next
 
 module _ (R : Sight) (found later : Found) (inked : ℕ) (cut : Option Cut) (n : ℕ) (Q : Queue) (h : Holder) (s : State) (ne : s ≢ Told)
-    (found_then : R.finds (run Q (all_entries (sit Q h s found).batches)) (sit Q h s found).next ≡ later)
-    (loses : later.printer ≡ true → LosesPrinter (sit Q h s found).next later) (gives : (i j : ℕ) → poured i (sit Q h s found).next later ≡ poured j (sit Q h s found).next later) where
+    (found_then : R.finds (run Q (all_entries (sit Q h s found).batches)) (sit Q h s found).next ≡ later) where
   abbrev t : Sitting
   t = sit Q h s found
 
@@ -70,7 +92,7 @@ module _ (R : Sight) (found later : Found) (inked : ℕ) (cut : Option Cut) (n :
   now = run Q es
 
   abbrev A : Sight
-  A = sight_then R (sittings_most s) found later.printer inked cut
+  A = sight_then R (sittings_most s) found (loses_ink t.next later) inked cut
 
   abbrev p : Piece
   p = piece_now n Q h t later inked
@@ -82,8 +104,8 @@ module _ (R : Sight) (found later : Found) (inked : ℕ) (cut : Option Cut) (n :
   its_first =
       ap (λ (f : Found). piece_by A.inked A.finds n Q h (sit Q h s f)) (finds_here (sittings_most s) found R.finds Q s refl)
       ∙ ap (λ (f : Found). with_given (poured A.inked t.next f) (piece_of t f.printer (inked_of f.printer A.inked (chunk now (count_then h.by es n) t.next f.read)))) (finds_later (sittings_most s) found R.finds now t.next fewer ∙ found_then)
-      ∙ ap (λ (ls : List (List ℕ)). with_given (poured A.inked t.next later) (piece_of t later.printer ls)) (same_ink later.printer inked R.inked (chunk now (count_then h.by es n) t.next later.read))
-      ∙ ap (λ (bytes : List ℕ). with_given bytes (piece_of t later.printer (inked_of later.printer inked (chunk now (count_then h.by es n) t.next later.read)))) (gives A.inked inked)
+      ∙ ap (λ (ls : List (List ℕ)). with_given (poured A.inked t.next later) (piece_of t later.printer ls)) (ink_alike t.next later inked R.inked now (count_then h.by es n))
+      ∙ ap (λ (bytes : List ℕ). with_given bytes (piece_of t later.printer (inked_of later.printer inked (chunk now (count_then h.by es n) t.next later.read)))) (pour_alike t.next later inked R.inked)
 
   abbrev count : ℕ
   count = count_then h.by es n + length p.printed
@@ -92,14 +114,14 @@ module _ (R : Sight) (found later : Found) (inked : ℕ) (cut : Option Cut) (n :
   more S = pieces_from (sittings_most t.next) S count now (holder_then Q h es) t.next
 
   -- whichever number of lines is looked at, the pieces that follow are the same
-  ink_after : (b : Bool) → later.printer ≡ b → more (record R { inked = if b then inked else R.inked }) ≡ more R
-  ink_after true e = sym (ink_is_free R inked (sittings_most t.next) count now (holder_then Q h es) t.next later found_then (loses e))
+  ink_after : (b : Bool) → loses_ink t.next later ≡ b → more (record R { inked = if b then inked else R.inked }) ≡ more R
+  ink_after true e = sym (ink_is_free R inked (sittings_most t.next) count now (holder_then Q h es) t.next later found_then e)
   ink_after false e = refl
 
   its_more : more A ≡ more R
   its_more =
       same_pieces A (record R { inked = A.inked }) (sittings_most s) (λ S z less. finds_later (sittings_most s) found R.finds S z less) refl (sittings_most t.next) count now (holder_then Q h es) t.next fewer
-      ∙ ink_after later.printer refl
+      ∙ ink_after (loses_ink t.next later) refl
 
   from_first : (k : ℕ) → sittings_most s ≡ k → pieces_from k A n Q h s ≡ p ∷ more R
   from_first zero e = let some = some_may_follow s ne in absurd (omega (arith, e, some))

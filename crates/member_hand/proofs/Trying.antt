@@ -1,5 +1,5 @@
 -- A piece of a step, by its member's turn and the acts that follow: what is said of it whole, and where it is cut.
-use Rattle.std.proofs.Common.{◌≡◌, ◌≢◌, ⊎_elim, length, Result, Ok, Err, sym, ap, ◌∙◌}
+use Rattle.std.proofs.Common.{◌≡◌, ◌≢◌, ⊎_elim, ℕ, List, length, Option, Result, Ok, Err, sym, ap, ◌∙◌}
 use Rattle.mas_types.specs.declared.ids.MemberId.{MemberId}
 use Rattle.lock_cycle.specs.Books.{Book}
 use Rattle.spool_plant.specs.declared.plant.Plant.{Ghosts as PlantGhosts}
@@ -13,8 +13,9 @@ use Rattle.step_turns.specs.declared.states.State.TheVariants.{Told}
 use Rattle.run_turns.specs.Pieces.{entered}
 use Rattle.member_sittings.specs.declared.ends.SittingEnd.{SittingEnd}
 use Rattle.member_sittings.specs.Sat.{Start}
-use Rattle.member_units.specs.Asides.{HasOnlyPrinted}
+use Rattle.member_asides.specs.Asides.{HasOnlyPrinted}
 use Rattle.member_hand.specs.Asides.{ActsAfter}
+use Rattle.member_hand.specs.Hears.{ReaderStaysIn}
 use Rattle.member_hand.specs.Locks.{left_book, next_holder}
 use Rattle.member_hand.specs.Plays.{HasPieced, HasPlayed, played_in, stopped_by}
 use Rattle.member_hand.specs.Quiet.{MayGoOn}
@@ -43,16 +44,16 @@ module _ {P C : Type 0} (plants : PlantGhosts P) (copies : CopyGhosts C) (s : St
       ap (λ c. c.hold) (sym (seat plants copies s x y end turn m go n same book leaves).still.config)
       ∙ ap (λ (q : Parts P C). q.base.config.hold) turn.frame ∙ ap (λ (q : Parts P C). q.base.config.hold) turn.locked
 
-  pub pieced : s.state ≢ Told → (u : Parts P C) (found : Found) → ActsAfter plants left u n end.next (Ok found)
-      → HasPieced plants copies s x u (record { holder = next_holder s.holder n.checkpoint.tables.config.hold end.given; state = end.next; found = found })
-  pieced ne u found acts =
+  pub pieced : s.state ≢ Told → (u : Parts P C) (was is : Option (List ℕ)) (found : Found) → ActsAfter plants left u n end.next was is (Ok found) → ReaderStaysIn end.next was is
+      → HasPieced plants copies s x u (record { holder = next_holder s.holder n.checkpoint.tables.config.hold end.given; state = end.next; found = found }) was is
+  pieced ne u was is found acts stays =
       whole_piece plants copies s x y end turn (may plants copies s x y end turn m go n same book leaves) go.aside.quiet.none go.aside.quiet.unplaced ne n mine (seat plants copies s x y end turn m go n same book leaves) leaves.goes.comes
-      u found acts n.checkpoint.tables.config.hold hold_is leaves.waits
+      u was is found acts stays n.checkpoint.tables.config.hold hold_is leaves.waits
 
-  pub piece_cut : s.state ≢ Told → (u : Parts P C) (e : NodeNo) → ActsAfter plants left u n end.next (Err e) → HasPlayed plants copies s x (stopped_by e me u) (length m.room) (Err e)
-  piece_cut ne u e acts =
+  pub piece_cut : s.state ≢ Told → (u : Parts P C) (was is : Option (List ℕ)) (e : NodeNo) → ActsAfter plants left u n end.next was is (Err e) → ReaderStaysIn end.next was is → HasPlayed plants copies s x (stopped_by e me u) (length m.room) was is (Err e)
+  piece_cut ne u was is e acts stays =
       cut_piece plants copies s x y end turn (may plants copies s x y end turn m go n same book leaves) go.aside.quiet.none go.aside.quiet.unplaced ne n mine (seat plants copies s x y end turn m go n same book leaves) leaves.goes.comes
-      u e acts leaves.waits (length m.room) (room_same plants copies s x y end turn m go n same book leaves)
+      u was is e acts stays leaves.waits (length m.room) (room_same plants copies s x y end turn m go n same book leaves)
 
   -- as many members are in the book
   members_by : (r : Result Found NodeNo) (u : Parts P C) → HasOnlyPrinted r n.id left u → length u.book.members ≡ length left.book.members
@@ -63,14 +64,14 @@ module _ {P C : Type 0} (plants : PlantGhosts P) (copies : CopyGhosts C) (s : St
   members_by (Err Halted) u frame =
       ⊎_elim (λ f. ap (λ (q : Parts P C). length q.book.members) f) (λ f. ap (λ (q : Parts P C). length q.book.members) f ∙ stopped_members left.book n.id 0) frame
 
-  pub members_then : (r : Result Found NodeNo) (u : Parts P C) → ActsAfter plants left u n end.next r → length u.book.members ≡ length x.book.members
-  members_then r u acts =
-      members_by r u (changed_only plants copies left u n end.next r acts) ∙ left_members y.book me end.given end.release ∙ ap (λ (b : Book). length b.members) book ∙ entered_members x.book me
+  pub members_then : (was is : Option (List ℕ)) (r : Result Found NodeNo) (u : Parts P C) → ActsAfter plants left u n end.next was is r → length u.book.members ≡ length x.book.members
+  members_then was is r u acts =
+      members_by r u (changed_only plants copies left u n end.next was is r acts) ∙ left_members y.book me end.given end.release ∙ ap (λ (b : Book). length b.members) book ∙ entered_members x.book me
 
   -- and the base, the first moment, and when copies were replaced, are as they were
-  pub frame_then : (r : Result Found NodeNo) (u : Parts P C) → ActsAfter plants left u n end.next r → u ≡ played_in u x
-  frame_then r u acts =
-      let changed = only_these r n.id left u (changed_only plants copies left u n end.next r acts) in
+  pub frame_then : (was is : Option (List ℕ)) (r : Result Found NodeNo) (u : Parts P C) → ActsAfter plants left u n end.next was is r → u ≡ played_in u x
+  frame_then was is r u acts =
+      let changed = only_these r n.id left u (changed_only plants copies left u n end.next was is r acts) in
       played_frame x u (ap (λ (q : Parts P C). q.base) changed ∙ ap (λ (q : Parts P C). q.base) turn.frame ∙ ap (λ (q : Parts P C). q.base) turn.locked)
       (ap (λ (q : Parts P C). q.since) changed ∙ ap (λ (q : Parts P C). q.since) turn.frame ∙ ap (λ (q : Parts P C). q.since) turn.locked)
       (ap (λ (q : Parts P C). q.renewals) changed ∙ ap (λ (q : Parts P C). q.renewals) turn.frame ∙ ap (λ (q : Parts P C). q.renewals) turn.locked)

@@ -27,18 +27,20 @@ use Rattle.member_sittings.specs.Whole.{queue_of}
 use Rattle.step_turns.specs.Sittings.{Sitting, sit}
 use Rattle.step_turns.specs.declared.states.State.TheVariants.{Told}
 use Rattle.step_turns.proofs.Sittings.{some_may_follow}
-use Rattle.run_turns.specs.Cuts.{batches_cut, book_cut, broken, lines_cut, printed_cut}
+use Rattle.run_turns.specs.Cuts.{batches_cut, book_cut, broken, given_cut, lines_cut, printed_cut}
 use Rattle.run_turns.specs.Pieces.{Piece, entered, piece_of}
 use Rattle.run_turns.specs.Sights.{Halt, Saying, Waiting, Writing}
 use Rattle.member_hand.specs.Cuts.{AreBatched, IsAsideHalt, IsBroken, IsHaltBy, IsTight}
 use Rattle.member_hand.specs.Locks.{MayHold}
+use Rattle.member_hand.specs.Hears.{GivesOnly, TakesNothing, line_served}
 use Rattle.member_hand.specs.Plays.{HasActedIn, HasPlayed, stopped_by}
 use Rattle.member_hand.specs.Sits.{GoesOn, LeavesStep}
 use Rattle.member_hand.specs.Turns.{HasTurned, taken}
 use Rattle.member_hand.proofs.Batching.{batched_sooner}
 use Rattle.member_hand.proofs.Passages.{passage_of}
 use Rattle.member_hand.proofs.Cutting.{IsLeftAt, acted_stopped, bare_cut, book_stopped, cut_at, holder_stopped, its_piece, left_stopped, none_tight, reach_tight, told_cut, unbroken}
-use Rattle.member_hand.proofs.StepKinds.{if_all, if_map, if_still}
+use Rattle.member_hand.proofs.StepKinds.{if_all, if_map, if_silent, if_still, stays_from}
+use Rattle.member_hand.proofs.Wiring.{gives_after, gives_still, takes_still, takes_then}
 use Rattle.member_hand.proofs.Ending.{journal_is}
 use Rattle.member_hand.proofs.Following.{acts_then}
 use Rattle.member_hand.proofs.Locking.{acts_entered}
@@ -62,6 +64,11 @@ module _ (by : MemberId) where
   none_printed (Writing n b) lines is = refl
   none_printed (Saying n tail) lines is = refl
   none_printed (Waiting n tail) lines is = absurd is
+
+  pub none_given : (halt : Halt) (bytes : List ℕ) → IsLocked halt → given_cut by halt bytes ≡ []
+  none_given (Writing n b) bytes is = refl
+  none_given (Saying n tail) bytes is = refl
+  none_given (Waiting n tail) bytes is = absurd is
 
 -- the printers' lines, as they were
 pub papers_are : (v w : View) → v.now ≤ w.now → SamePapers v w → (m : ℕ) → paper_now w m ≡ paper_now v m
@@ -148,8 +155,8 @@ module _ {P C : Type 0} (plants : PlantGhosts P) (copies : CopyGhosts C) (s : St
     pub unsat_acted : HasActedIn plants copies me x z (Err e)
     unsat_acted = record { course = passage_of x.first_alive z.first_alive x.second_alive z.second_alive (v x) (v z) acts.course; loses = acts.loses; spares = acts.spares; cause = copy_causes (Err e) me.0 x.first_alive z.first_alive x.second_alive z.second_alive (v x) (v z) acts.cause }
 
-    pub unseated : HasPlayed plants copies s x (stopped_by e me z) pages (Err e)
-    unseated =
+    pub unseated : (was : Option (List ℕ)) → HasPlayed plants copies s x (stopped_by e me z) pages was was (Err e)
+    unseated was =
         let t : Sitting = blank_sitting s.holder s.state in
         let p : Piece = piece_of t false [] in
         let now = its_piece s x in
@@ -161,12 +168,15 @@ module _ {P C : Type 0} (plants : PlantGhosts P) (copies : CopyGhosts C) (s : St
           shaped = shaped_blank s.holder s.found (v x) (v (stopped_by e me z)) s.state ne (some_may_follow s.state ne);
           tight = if_all s.state (IsTight e (Writing 0 None) t) (none_tight e t);
           acts = acted_stopped plants copies me e x z unsat_acted;
-          dry = λ t. if_all s.state (SamePapers (v x) (v (stopped_by e me z))) (view_stopped e me z (λ w. SamePapers (v x) w) (acts.apart t).papers);
+          dry = λ t. if_silent s.state (SamePapers (v x) (v (stopped_by e me z))) (λ no. view_stopped e me z (λ w. SamePapers (v x) w) (acts.apart t).papers);
           still = λ t. if_still s.state (IsOnlyOn (v x) (v (stopped_by e me z))) (view_stopped e me z (λ w. IsOnlyOn (v x) w) (acts.apart t).others);
           quiet = λ b. absurd b;
           away = λ free. absurd (away_never (stopped_by e me z) (holder_stopped plants copies me e z ∙ ap (λ (b : Book). b.holder) seat_book) free);
+          reader = stays_from s.state was was (λ no. refl);
           told = λ t. told_cut plants copies s e (Writing 0 None) x (stopped_by e me z) ne (view_stopped e me z (λ w. VolumesStay none_lost (v x) w) acts.course.volumes) (if_all s.state (IsTight e (Writing 0 None) now.sitting) (none_tight e now.sitting)) (unbroken e 0 None now.sitting)
-              (left_stopped plants copies (Unit {0}) me now e (Writing 0 None) x z (unsat (Unit {0}) (λ u. t) now)) book;
+              (left_stopped plants copies (Unit {0}) me now e (Writing 0 None) x z (unsat (Unit {0}) (λ u. t) now)) book
+              (view_stopped e me z (λ w. GivesOnly me (line_served s.state) [] (v x) w) (gives_still me (line_served s.state) (v x) (v z) (acts.apart t).wires))
+              (λ no. view_stopped e me z (λ w. TakesNothing (v x) w) (takes_still (v x) (v z) (acts.apart t).wires)) was was;
         }
 
   -- THE SITTING WAS CUT
@@ -286,8 +296,15 @@ module _ {P C : Type 0} (plants : PlantGhosts P) (copies : CopyGhosts C) (s : St
     not_aside (Saying n tail) locked aside = aside
     not_aside (Waiting n tail) locked aside = locked
 
-    pub sat_cut : (pages : ℕ) (e : NodeNo) → Sat plants s z y (Err e) → HasPlayed plants copies s x (stopped_by e me y) pages (Err e)
-    sat_cut pages e sat =
+    -- nothing moves on a line
+    pub sat_gives : {T : Type 0} {r : Result T NodeNo} → HasActed plants me z y r → plants.tells → GivesOnly me (line_served s.state) [] (v x) (v y)
+    sat_gives a t = gives_after me (line_served s.state) [] (v x) (v z) (v y) (took.apart t).wires (gives_still me (line_served s.state) (v z) (v y) (a.wires t))
+
+    pub sat_takes : {T : Type 0} {r : Result T NodeNo} → HasActed plants me z y r → plants.tells → TakesNothing (v x) (v y)
+    sat_takes a t = takes_then (v x) (v z) (v y) (takes_still (v x) (v z) (took.apart t).wires) (takes_still (v z) (v y) (a.wires t))
+
+    pub sat_cut : (pages : ℕ) (was : Option (List ℕ)) (e : NodeNo) → Sat plants s z y (Err e) → HasPlayed plants copies s x (stopped_by e me y) pages was was (Err e)
+    sat_cut pages was e sat =
         let p : Piece = piece_of sat.sitting false [] in
         let c = bare_in p e sat.sat sat.tight in
         let now = its_piece s x in
@@ -299,16 +316,19 @@ module _ {P C : Type 0} (plants : PlantGhosts P) (copies : CopyGhosts C) (s : St
           shaped = shaped_one s.holder s.found (v x) (v (stopped_by e me y)) sat.sitting s.state ne (some_may_follow s.state ne) sat.shaped;
           tight = c.tight;
           acts = acted_stopped plants copies me e x y (acts_then plants copies me x z y (Err e) (seat_acted took) (sat_acted e sat.sat.acts));
-          dry = λ t. if_all s.state (SamePapers (v x) (v (stopped_by e me y))) (view_stopped e me y (λ w. SamePapers (v x) w) (sat_dry sat.sat.acts t));
+          dry = λ t. if_silent s.state (SamePapers (v x) (v (stopped_by e me y))) (λ no. view_stopped e me y (λ w. SamePapers (v x) w) (sat_dry sat.sat.acts t));
           still = λ t. if_still s.state (IsOnlyOn (v x) (v (stopped_by e me y))) (view_stopped e me y (λ w. IsOnlyOn (v x) w) (sat_still sat.sat.acts t));
           quiet = λ b. absurd (not_aside c.halt c.locked b);
           away = λ free. absurd (away_never (stopped_by e me y) (holder_stopped plants copies me e y ∙ ap (λ (b : Book). b.holder) sat_book) free);
+          reader = stays_from s.state was was (λ no. refl);
           told = λ t.
               let is : sat.sitting ≡ now.sitting = sat.is t ∙ ap (λ (Q : Queue). sit Q s.holder s.state s.found) seat_queue in
               let all = subst (IsSatTight e) is (record { sat = sat.sat; tight = sat.tight }) in
               let d = told_in t now e all.sat all.tight in
               told_cut plants copies s e d.halt x (stopped_by e me y) ne (view_stopped e me y (λ w. VolumesStay none_lost (v x) w) (sat_stays sat.sat.acts)) d.tight (d.broke tt) (left_stopped plants copies (Unit {0}) me now e d.halt x y d.left)
-              (book_stopped plants copies me e y (book_cut me d.halt x.book now) (sat_book ∙ sym (book_locked me d.halt x.book now d.locked)));
+              (book_stopped plants copies me e y (book_cut me d.halt x.book now) (sat_book ∙ sym (book_locked me d.halt x.book now d.locked)))
+              (subst (λ (bytes : List ℕ). GivesOnly me (line_served s.state) bytes (v x) (v (stopped_by e me y))) (sym (none_given me d.halt now.given d.locked)) (view_stopped e me y (λ w. GivesOnly me (line_served s.state) [] (v x) w) (sat_gives sat.sat.acts t)))
+              (λ no. view_stopped e me y (λ w. TakesNothing (v x) w) (sat_takes sat.sat.acts t)) was was;
         }
 
     -- by the sitting's answer
@@ -316,9 +336,9 @@ module _ {P C : Type 0} (plants : PlantGhosts P) (copies : CopyGhosts C) (s : St
     turned (Ok end) sat = record { seat = z; locked = frame; took = took; frame = same; sat = sat }
     turned (Err e) sat = tt
 
-    pub turn_cut : (pages : ℕ) (r : Result SittingEnd NodeNo) → Sat plants s z y r → IfErr r (λ e. HasPlayed plants copies s x (stopped_by e me y) pages (Err e))
+    pub turn_cut : (pages : ℕ) (r : Result SittingEnd NodeNo) → Sat plants s z y r → IfErr r (λ e. (was : Option (List ℕ)) → HasPlayed plants copies s x (stopped_by e me y) pages was was (Err e))
     turn_cut pages (Ok end) sat = tt
-    turn_cut pages (Err e) sat = sat_cut pages e sat
+    turn_cut pages (Err e) sat = λ was. sat_cut pages was e sat
 
     pub leaves_from : (n : Member) (r : Result SittingEnd NodeNo) → IfOk r (LeavesStep plants copies z y n s) → IfOk r (LeavesStep plants copies x y n s)
     leaves_from n (Ok end) l = record { sits = l.sits; waits = l.waits; goes = subst (λ (k : ℕ). GoesOn s.state end.next k y.level) (ap (λ (q : Parts P C). q.level) frame) l.goes }

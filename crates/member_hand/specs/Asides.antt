@@ -1,6 +1,6 @@
--- The acts aside for which a step waits: which may be done, and what they do. None is done on a line to another node
--- yet.
-use Rattle.std.specs.Prelude.{◌≡◌, Result, Ok}
+-- The acts aside for which a step waits: which may be done, and what they do. Those of an exchange tell too what the
+-- reader of the line was, and what it is.
+use Rattle.std.specs.Prelude.{◌≡◌, ℕ, List, Option, Result, Ok}
 use Rattle.mas_types.specs.declared.ids.MemberId.{MemberId}
 use Rattle.spool_plant.specs.declared.plant.Plant.{Ghosts as PlantGhosts}
 use Rattle.ckpt_copy.specs.declared.copying.Copying.{Ghosts as CopyGhosts}
@@ -16,7 +16,8 @@ use Rattle.step_turns.specs.declared.states.State.{State}
 use Rattle.step_turns.specs.declared.states.State.TheVariants.{Away}
 use Rattle.step_turns.specs.States.{nothing_found}
 use Rattle.member_sittings.specs.Asides.{HasSpooled, MaySpool}
-use Rattle.member_units.specs.Asides.{HasOnlyPrinted, HasPrintedNext, HasRead, HasWritten, MayPrintNext, MayRead, MayWrite}
+use Rattle.member_asides.specs.Asides.{HasOnlyPrinted, HasPrintedNext, HasRead, HasWritten, MayPrintNext, MayRead, MayWrite}
+use Rattle.member_wires.specs.Asides.{Exchanged, HasAnswered, MayAnswer, MayServe}
 
 module _ {P C : Type 0} (plants : PlantGhosts P) where
   abbrev pub MayActIn : Parts P C → Member → Aside → Type 0
@@ -24,18 +25,19 @@ module _ {P C : Type 0} (plants : PlantGhosts P) where
   MayActIn x m (ReadText runs n fields p) = MayRead plants x m n
   MayActIn x m (SpoolOutputs n specs p) = MayWrite plants x m specs
   MayActIn x m (PrintLines n i last p) = MayPrintNext plants x m n i last
-  MayActIn x m (Exchange l offer) = ⊥
-  MayActIn x m (SpoolArrival number job cards service) = ⊥
-  MayActIn x m (Acknowledge number service) = ⊥
+  MayActIn x m (Exchange l offer) = MayServe plants x m l offer
+  MayActIn x m (SpoolArrival number job cards service) = MaySpool plants x m cards
+  MayActIn x m (Acknowledge number service) = MayAnswer plants x m service.line
 
-  abbrev pub ActsIn : Parts P C → Parts P C → Member → Aside → Result Found NodeNo → Type 0
-  ActsIn x y m (SpoolDeck n text) r = HasSpooled plants x y m text r
-  ActsIn x y m (ReadText runs n fields p) r = HasRead plants x y m n r
-  ActsIn x y m (SpoolOutputs n specs p) r = HasWritten plants x y m specs r
-  ActsIn x y m (PrintLines n i last p) r = HasPrintedNext plants x y m n i last r
-  ActsIn x y m (Exchange l offer) r = ⊥
-  ActsIn x y m (SpoolArrival number job cards service) r = ⊥
-  ActsIn x y m (Acknowledge number service) r = ⊥
+  abbrev pub ActsIn : Parts P C → Parts P C → Member → Aside → Option (List ℕ) → Option (List ℕ)
+      → Result Found NodeNo → Type 0
+  ActsIn x y m (SpoolDeck n text) was is r = HasSpooled plants x y m text r
+  ActsIn x y m (ReadText runs n fields p) was is r = HasRead plants x y m n r
+  ActsIn x y m (SpoolOutputs n specs p) was is r = HasWritten plants x y m specs r
+  ActsIn x y m (PrintLines n i last p) was is r = HasPrintedNext plants x y m n i last r
+  ActsIn x y m (Exchange l offer) was is r = Exchanged plants x y m l offer was is r
+  ActsIn x y m (SpoolArrival number job cards service) was is r = HasSpooled plants x y m cards r
+  ActsIn x y m (Acknowledge number service) was is r = HasAnswered plants x y m service.line number r
 
   -- Only the plant differs after them, and where lines were printed how many the members have printed. A member that
   -- was stopped at its printer is stopped so already.
@@ -53,9 +55,10 @@ module _ {P C : Type 0} (plants : PlantGhosts P) where
   MayActAfter x m (Away aside) = MayActIn x m aside
   MayActAfter x m _ = Unit {0}
 
-  abbrev pub ActsAfter : Parts P C → Parts P C → Member → State → Result Found NodeNo → Type 0
-  ActsAfter x y m (Away aside) r = IsActedIn x y m.id aside r × ActsIn x y m aside r
-  ActsAfter x y m _ r = (y ≡ x) × (r ≡ Ok nothing_found)
+  abbrev pub ActsAfter : Parts P C → Parts P C → Member → State → Option (List ℕ) → Option (List ℕ)
+      → Result Found NodeNo → Type 0
+  ActsAfter x y m (Away aside) was is r = IsActedIn x y m.id aside r × ActsIn x y m aside was is r
+  ActsAfter x y m _ was is r = (y ≡ x) × (r ≡ Ok nothing_found)
 
 -- what is asked where a step waits for acts
 abbrev pub IfAway : State → Type 0 → Type 0
@@ -69,8 +72,8 @@ module _ {P C : Type 0} {plants : PlantGhosts P} {steadies : SteadyGhosts C} {co
   MayActAside x m aside = MayActIn plants (parts_of x) m aside
 
   abbrev pub ActsAside : Complex P C plants steadies copies → Complex P C plants steadies copies → Member → Aside
-      → Result Found NodeNo → Type 0
-  ActsAside x y m aside r = ActsIn plants (parts_of x) (parts_of y) m aside r
+      → Option (List ℕ) → Option (List ℕ) → Result Found NodeNo → Type 0
+  ActsAside x y m aside was is r = ActsIn plants (parts_of x) (parts_of y) m aside was is r
 
   abbrev pub ActsOnly : Complex P C plants steadies copies → Complex P C plants steadies copies → Member → Aside
       → Result Found NodeNo → Type 0
@@ -80,5 +83,5 @@ module _ {P C : Type 0} {plants : PlantGhosts P} {steadies : SteadyGhosts C} {co
   MayActThen x m s = MayActAfter plants (parts_of x) m s
 
   abbrev pub ActsThen : Complex P C plants steadies copies → Complex P C plants steadies copies → Member → State
-      → Result Found NodeNo → Type 0
-  ActsThen x y m s r = ActsAfter plants (parts_of x) (parts_of y) m s r
+      → Option (List ℕ) → Option (List ℕ) → Result Found NodeNo → Type 0
+  ActsThen x y m s was is r = ActsAfter plants (parts_of x) (parts_of y) m s was is r

@@ -18,14 +18,19 @@ use Rattle.member_hand.specs.Plays.{IsAfterPiece, MayPlay, Pieced, Played, playe
 use Rattle.member_hand.specs.Sits.{start_of}
 use Rattle.member_hand.specs.declared.sits.Stand.{Stand}
 
--- a member between two turns, and where its step stands then
+-- a member between two turns, where its step stands then, and what the reader of its line is
 pub record Pause : Type 0 where
   pub member : Member
   pub stand : Stand
+  pub reader : Option (List ℕ)
 
 -- a member that begins a task
-abbrev pub begun : Member → Holder → Task → Pause
-begun m h task = record { member = m; stand = record { holder = h; state = Fresh task; found = nothing_found } }
+abbrev pub begun : Member → Holder → Task → Option (List ℕ) → Pause
+begun m h task reader = record {
+  member = m;
+  stand = record { holder = h; state = Fresh task; found = nothing_found };
+  reader = reader;
+}
 
 -- a turn: the value as it was found and as it was left, and the member after it
 pub record Turn (A : Type 0) : Type 0 where
@@ -38,9 +43,14 @@ pub record End (A : Type 0) : Type 0 where
   pub found : A
   pub left : A
   pub member : Member
+  pub reader : Option (List ℕ)
 
 abbrev pub turn_to : {A : Type 0} → End A → Stand → Turn A
-turn_to e at = record { found = e.found; left = e.left; after = record { member = e.member; stand = at } }
+turn_to e at = record {
+  found = e.found;
+  left = e.left;
+  after = record { member = e.member; stand = at; reader = e.reader };
+}
 
 module _ {P C : Type 0} {plants : PlantGhosts P} {steadies : SteadyGhosts C} {copies : CopyGhosts C} where
   -- THE TURNS
@@ -49,14 +59,14 @@ module _ {P C : Type 0} {plants : PlantGhosts P} {steadies : SteadyGhosts C} {co
   pub record PlaysPiece (p : Pause) (t : Turn (Complex P C plants steadies copies)) : Type 0 where
     pub frame : parts_of t.left ≡ played_in (parts_of t.left) (parts_of t.found)
     pub id : t.after.member.id ≡ p.member.id
-    pub piece : Pieced t.found t.left (start_of p.stand) t.after.stand
+    pub piece : Pieced t.found t.left (start_of p.stand) p.reader t.after.reader t.after.stand
     pub next : IsAfterPiece t.found t.left p.member t.after.member (start_of p.stand) t.after.stand
 
   -- its step ends with an error in the turn
   pub record BreaksOff (p : Pause) (e : End (Complex P C plants steadies copies)) (why : NodeNo) : Type 0 where
     pub frame : parts_of e.left ≡ played_in (parts_of e.left) (parts_of e.found)
     pub id : e.member.id ≡ p.member.id
-    pub played : Played e.found e.left p.member (start_of p.stand) (Err why)
+    pub played : Played e.found e.left p.member (start_of p.stand) p.reader e.reader (Err why)
 
   -- the step ends so: it is told in a last piece, or breaks off
   abbrev pub EndsStep : Pause → End (Complex P C plants steadies copies) → Result (Unit {0}) NodeNo → Type 0
@@ -76,11 +86,11 @@ module _ {P C : Type 0} {plants : PlantGhosts P} {steadies : SteadyGhosts C} {co
 
     -- The member has played its step so. What may be found next follows the value that it left.
     pub record HasTakenTurns (finds then_finds : Complex P C plants steadies copies → Type 0) (p : Pause) (n : Member)
-        (r : Result (Unit {0}) NodeNo) : Type 0 where
+        (reader : Option (List ℕ)) (r : Result (Unit {0}) NodeNo) : Type 0 where
       pub turns : List (Turn (Complex P C plants steadies copies))
       pub found : Complex P C plants steadies copies
       pub left : Complex P C plants steadies copies
-      pub chain : TakesTurns finds p turns (record { found = found; left = left; member = n }) r
+      pub chain : TakesTurns finds p turns (record { found = found; left = left; member = n; reader = reader }) r
       pub leaves : OfEach then_finds (follows left)
 
   -- WHAT IT NEEDS

@@ -27,7 +27,7 @@ abbrev pub IsBegun : Option Begun → Type 0
 IsBegun None = Unit {0}
 IsBegun (Some b) = (1 ≤ b.entries) × (b.fate ≢ Dropped)
 
--- and nothing is in flight
+-- a batch that was begun, with some of its entries, and is kept
 abbrev pub IsBegunKept : Option Begun → Type 0
 IsBegunKept None = Unit {0}
 IsBegunKept (Some b) = (1 ≤ b.entries) × (b.fate ≡ Kept)
@@ -78,7 +78,7 @@ abbrev pub OfFirst : (Sitting → Type 0) → List Piece → Type 0
 OfFirst P [] = Unit {0}
 OfFirst P (p ∷ ps) = P p.sitting
 
--- and of the one that was cut, by where it was
+-- what is said of the sitting of these pieces that was cut, if one was, by where it was
 abbrev pub AtCut : (Halt → Sitting → Type 0) → Option Cut → List Piece → Type 0
 AtCut P None pieces = Unit {0}
 AtCut P (Some cut) pieces = OfFirst (P cut.halt) (drop cut.sittings pieces)

@@ -1,6 +1,6 @@
 -- What a step may find in the acts that it waits for: a text is as the queue has it, and nothing is lost but what
 -- failed.
-use Rattle.std.specs.Prelude.{◌≡◌, ◌||◌, ℕ, Bool, true, List, [], ◌∷◌, All, Some}
+use Rattle.std.specs.Prelude.{◌≡◌, ◌||◌, ℕ, Bool, true, List, [], ◌∷◌, All, Option, Some, None}
 use Rattle.std.specs.List.{list_any}
 use Rattle.mas_types.specs.declared.ids.GroupNo.{GroupNo}
 use Rattle.mas_types.specs.declared.ids.JobNo.{JobNo}
@@ -14,18 +14,24 @@ use Rattle.mas_types.specs.Queue.{job_at, output_at}
 use Rattle.mas_types.specs.Run.{run}
 use Rattle.spool_plant.specs.View.{View}
 use Rattle.track_groups.specs.Places.{groups_of}
+use Rattle.job_outcome.specs.declared.outcomes.Read.{Read}
+use Rattle.job_outcome.specs.declared.outcomes.Read.TheVariants as read
 use Rattle.member_decks.specs.Steps.{names_volume}
 use Rattle.member_work.specs.Rounds.{HasPrinterFailed, IsReadAs, IsSpoolLost, names_read}
+use Rattle.nje_frames.specs.Grammar.{IsFrame}
 use Rattle.step_turns.specs.Courses.{Finds}
 use Rattle.step_turns.specs.Entries.{all_entries}
 use Rattle.step_turns.specs.States.{nothing_found}
 use Rattle.step_turns.specs.declared.states.Found.{Found}
+use Rattle.step_turns.specs.declared.states.Offer.{Offer}
 use Rattle.step_turns.specs.declared.states.State.{State}
 use Rattle.step_turns.specs.declared.states.State.TheVariants.{Away}
 use Rattle.step_turns.specs.declared.states.Aside.TheVariants.{Acknowledge, Exchange, PrintLines, ReadText, SpoolArrival, SpoolDeck, SpoolOutputs}
 use Rattle.run_turns.specs.Pieces.{Piece}
 use Rattle.member_sittings.specs.Asides.{deck_found, lowest_groups}
-use Rattle.member_units.specs.Asides.{lowest_for, printed_found, read_found}
+use Rattle.member_asides.specs.Asides.{lowest_for, printed_found, read_found}
+use Rattle.member_wires.specs.Acts.{HasLineFailed}
+use Rattle.member_wires.specs.Asides.{wire_found}
 
 -- A text of these groups was written, or not: a volume that was found lost failed, and one of the groups lies on it.
 pub record FindsWritten (per : ℕ) (groups : List GroupNo) (found : Found) (old new : View) : Type 0 where
@@ -48,8 +54,27 @@ pub record FindsOutput (per : ℕ) (by : MemberId) (Q : Queue) (n : JobNo) (i : 
   pub there : output_at Q n i ≡ Some output
   pub as_had : IsReadAs (Unit {0}) per output.text (groups_of (OutputThing n i) Q.owners) (Some found.read) old new
 
+-- The job that is offered on a line is there, and its text was read so too; none was looked at where none is offered.
+abbrev pub FindsOffered : ℕ → Queue → Option Offer → Read → View → View → Type 0
+FindsOffered per Q None text old new = text ≡ read.Lines []
+FindsOffered per Q (Some o) text old new = (job : Job) × (job_at Q o.job ≡ Some job)
+    × IsReadAs (Unit {0}) per job.text (groups_of (Deck o.job) Q.owners) (Some text) old new
+
+-- And frames came over the line. It was found lost only if it failed.
+pub record FindsFrames (per : ℕ) (Q : Queue) (l : ℕ) (offer : Option Offer) (found : Found) (old new : View) : Type 0
+  where
+    pub only : found ≡ wire_found found.read found.wire found.frames
+    pub text : FindsOffered per Q offer found.read old new
+    pub lost : found.wire ≡ true → HasLineFailed l old new
+    pub frames : All IsFrame found.frames
+
+-- An acknowledgement was given, if there was one to give, unless the line failed.
+pub record FindsGiven (l : ℕ) (found : Found) (old new : View) : Type 0 where
+  pub only : found ≡ wire_found (read.Lines []) found.wire []
+  pub lost : found.wire ≡ true → HasLineFailed l old new
+
 -- What a member may find at a queue in the acts that a state waits for, in acts between two views of the plant, whose
--- volumes have so many groups each. No line to another node is served yet.
+-- volumes have so many groups each.
 abbrev pub IsFoundAt : ℕ → MemberId → View → View → Queue → State → Found → Type 0
 IsFoundAt per by old new Q (Away (SpoolDeck n text)) found = FindsWritten per (lowest_groups by Q.owners text) found old
     new
@@ -57,9 +82,10 @@ IsFoundAt per by old new Q (Away (ReadText runs n fields p)) found = FindsJob pe
 IsFoundAt per by old new Q (Away (SpoolOutputs n specs p)) found = FindsWritten per (lowest_for by Q.owners specs) found
     old new
 IsFoundAt per by old new Q (Away (PrintLines n i last p)) found = FindsOutput per by Q n i found old new
-IsFoundAt per by old new Q (Away (Exchange l offer)) found = ⊥
-IsFoundAt per by old new Q (Away (SpoolArrival number job cards service)) found = ⊥
-IsFoundAt per by old new Q (Away (Acknowledge number service)) found = ⊥
+IsFoundAt per by old new Q (Away (Exchange l offer)) found = FindsFrames per Q l offer found old new
+IsFoundAt per by old new Q (Away (SpoolArrival number job cards service)) found =
+    FindsWritten per (lowest_groups by Q.owners cards) found old new
+IsFoundAt per by old new Q (Away (Acknowledge number service)) found = FindsGiven service.line found old new
 IsFoundAt per by old new Q _ found = found ≡ nothing_found
 
 -- a queue, and a state of a step there

@@ -2,6 +2,7 @@ pub mod Locks
 pub mod Enters
 pub mod Quiet
 pub mod Found
+pub mod Hears
 pub mod Cuts
 pub mod Shapes
 pub mod Asides

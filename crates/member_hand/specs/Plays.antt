@@ -28,8 +28,9 @@ use Rattle.step_turns.specs.Entries.{all_entries}
 use Rattle.step_turns.specs.Sittings.{Sitting, sit}
 use Rattle.step_turns.specs.declared.states.Holder.{Holder}
 use Rattle.step_turns.specs.declared.states.State.{State}
-use Rattle.step_turns.specs.declared.states.State.TheVariants.{Fresh, Told}
-use Rattle.step_turns.specs.declared.states.Task.TheVariants.{Give}
+use Rattle.step_turns.specs.declared.states.Aside.TheVariants.{PrintLines, ReadText, SpoolOutputs}
+use Rattle.step_turns.specs.declared.states.State.TheVariants.{Away, Fresh, Rested, Told}
+use Rattle.step_turns.specs.declared.states.Task.TheVariants.{Give, Work}
 use Rattle.step_turns.specs.declared.states.Found.{Found}
 use Rattle.run_turns.specs.Cuts.{Left, adds, left_by, none_left}
 use Rattle.run_turns.specs.Pieces.{Piece, Play, chunk, inked_of, piece_of, pieces_from, poured, with_given}
@@ -40,9 +41,10 @@ use Rattle.member_sittings.specs.Sat.{Start, journal_of}
 use Rattle.member_sittings.specs.Shapes.{IsShaped}
 use Rattle.member_sittings.specs.Tight.{IfNoWork}
 use Rattle.member_sittings.specs.Whole.{IsSeat, queue_of}
-use Rattle.member_units.specs.Asides.{stopped_at}
+use Rattle.member_asides.specs.Asides.{stopped_at}
 use Rattle.member_hand.specs.Cuts.{AreBatched, AtCut, IsBetweenSittings, IsBroken, IsCutBy, IsTight, whole_pieces}
 use Rattle.member_hand.specs.Found.{AreFoundIn, IsFoundAt, named_in, names_found, waits_in}
+use Rattle.member_hand.specs.Hears.{GivesOnly, HearsIn, HearsStep, ReaderStaysFrom, ReaderStaysIn, line_served}
 use Rattle.member_hand.specs.Quiet.{IsAside, IsQuiet, MayGoOn, levels_for}
 use Rattle.member_hand.specs.Shapes.{AreShaped, IsFailedFound}
 use Rattle.member_hand.specs.Sits.{AreFewUnits, GoesOn, IsFoundRight, start_of}
@@ -57,6 +59,15 @@ abbrev pub IfCommand : State → Type 0 → Type 0
 IfCommand (Fresh (Give c)) A = A
 IfCommand Told A = A
 IfCommand _ A = Unit {0}
+
+-- asked of a step that doesn't work, which prints nothing
+abbrev pub IfNoPrint : State → Type 0 → Type 0
+IfNoPrint (Fresh (Work n)) A = Unit {0}
+IfNoPrint (Away (ReadText runs n fields p)) A = Unit {0}
+IfNoPrint (Away (SpoolOutputs n specs p)) A = Unit {0}
+IfNoPrint (Away (PrintLines n i last p)) A = Unit {0}
+IfNoPrint (Rested p) A = Unit {0}
+IfNoPrint s A = A
 
 -- these pieces, with the lock, from a book and a queue on
 abbrev pub play_in : MemberId → List Piece → Book → Queue → Play
@@ -150,9 +161,11 @@ module _ {P C : Type 0} (plants : PlantGhosts P) (copies : CopyGhosts C) where
     pub one : IsPiece s piece x y next
     pub finds : IsFoundAt x.base.config.groups s.holder.by (v x) (v y) (queue_of y) next.state next.found
     pub writes : Writes s.holder.by (one_left s.holder.by piece x) x y (Ok tt)
+    pub gives : GivesOnly s.holder.by (line_served s.state) piece.given (v x) (v y)
 
-  -- No volume is lost in a piece but one that was found lost, and no fault of another one is counted.
-  pub record HasPieced (s : Start) (x y : Parts P C) (next : Start) : Type 0 where
+  -- No volume is lost in a piece but one that was found lost, and no fault of another one is counted. The stream of the
+  -- member's line goes on from what its reader was to what it is.
+  pub record HasPieced (s : Start) (x y : Parts P C) (next : Start) (was is : Option (List ℕ)) : Type 0 where
     pub piece : Piece
     pub one : IsPiece s piece x y next
     pub acts : HasActedIn s.holder.by x y (Ok tt)
@@ -160,8 +173,10 @@ module _ {P C : Type 0} (plants : PlantGhosts P) (copies : CopyGhosts C) where
     pub shaped : IsShaped s.holder s.state s.found piece.sitting
     pub plain : piece ≡ piece_of piece.sitting false []
     pub failed : IsFailedFound s.holder.by next.found (v x) (v y)
-    pub dry : plants.tells → IfNoWork s.state (SamePapers (v x) (v y))
+    pub dry : plants.tells → IfNoPrint s.state (SamePapers (v x) (v y))
     pub still : plants.tells → IfCommand s.state (IsOnlyOn (v x) (v y))
+    pub reader : ReaderStaysIn next.state was is
+    pub hears : plants.tells → HearsIn s.holder.by (v x) (v y) was is next.state next.found
     pub told : plants.tells → HasToldPiece s x y next
 
   -- A STEP FROM A STATE ON, with what it found before
@@ -169,8 +184,9 @@ module _ {P C : Type 0} (plants : PlantGhosts P) (copies : CopyGhosts C) where
   -- Where content is told there are what the step found and where it was cut, so that its pieces are those that the
   -- queue gives which the member found, and it left of these what the cut leaves, lines too. At each place where it
   -- waited it found what it may find there. No volume is lost but those that it found lost so, and no fault of another
-  -- one is counted.
-  pub record HasToldStep (s : Start) (x y : Parts P C) (result : Result (Unit {0}) NodeNo) : Type 0 where
+  -- one is counted. On its line it gave what the cut leaves of its pieces, and heard what its reader went on with.
+  pub record HasToldStep (s : Start) (x y : Parts P C) (had has : Option (List ℕ)) (result : Result (Unit {0}) NodeNo)
+      : Type 0 where
     pub sight : Sight
     pub pieces : List Piece
     pub is : pieces ≡ pieces_at sight x s.holder s.state
@@ -183,22 +199,27 @@ module _ {P C : Type 0} (plants : PlantGhosts P) (copies : CopyGhosts C) where
     pub tight : IfNoWork s.state (IfErr result (λ e. AtCut (IsTight e) sight.cut pieces))
     pub broke : IfErr result (λ e. AtCut (IsBroken e) sight.cut pieces)
     pub writes : Writes s.holder.by (left_of s.holder.by sight.cut pieces x) x y result
+    pub gives : GivesOnly s.holder.by (line_served s.state) (left_of s.holder.by sight.cut pieces x).given (v x) (v y)
+    pub hears : HearsStep s.holder.by (v x) (v y) had has s.state result sight.finds
+        (waits_in (take (whole_pieces sight.cut pieces) pieces) (queue_of x))
 
   -- Whether content is told or not there are pieces of such shape, and a cut of them, so that these are what the step
   -- left in the journal and the book. A cut at lines may stand there as one before them, which leaves of these the
   -- same. Where content is told, only work prints at any moment, and a command changes no volume.
-  pub record HasPlayed (s : Start) (x y : Parts P C) (pages : ℕ) (result : Result (Unit {0}) NodeNo) : Type 0 where
+  pub record HasPlayed (s : Start) (x y : Parts P C) (pages : ℕ) (was is : Option (List ℕ))
+      (result : Result (Unit {0}) NodeNo) : Type 0 where
     pub pieces : List Piece
     pub cut : Option Cut
     pub played : HasCut s.holder pieces cut x y result
     pub shaped : AreShaped s.holder s.state s.found (v x) (v y) pieces
     pub tight : IfNoWork s.state (IfErr result (λ e. AtCut (IsTight e) cut pieces))
     pub acts : HasActedIn s.holder.by x y result
-    pub dry : plants.tells → IfNoWork s.state (SamePapers (v x) (v y))
+    pub dry : plants.tells → IfNoPrint s.state (SamePapers (v x) (v y))
     pub still : plants.tells → IfCommand s.state (IsOnlyOn (v x) (v y))
     pub quiet : IsBetweenSittings cut → IsQuiet plants copies y pages
     pub away : IsOperatorAway y.book y.reserved y.current
-    pub told : plants.tells → HasToldStep s x y result
+    pub reader : ReaderStaysFrom s.state was is
+    pub told : plants.tells → HasToldStep s x y was is result
 
 -- The parts as they are, with the base and the first moment as they were.
 abbrev pub played_in : {P C : Type 0} → Parts P C → Parts P C → Parts P C
@@ -218,20 +239,21 @@ module _ {P C : Type 0} {plants : PlantGhosts P} {steadies : SteadyGhosts C} {co
     pub right : IsFoundRight plants copies (parts_of x) m.id s.state s.found
     pub few : AreFewUnits s.state
 
-  -- What a step did, with the room of its member's pages as it was.
+  -- What a step did, with the room of its member's pages as it was, and what the reader of its line was and is.
   abbrev pub Played : Complex P C plants steadies copies → Complex P C plants steadies copies → Member → Start
-      → Result (Unit {0}) NodeNo → Type 0
-  Played x y m s result = HasPlayed plants copies s (parts_of x) (parts_of y) (length m.room) result
+      → Option (List ℕ) → Option (List ℕ) → Result (Unit {0}) NodeNo → Type 0
+  Played x y m s was is result = HasPlayed plants copies s (parts_of x) (parts_of y) (length m.room) was is result
 
   -- What a step did that ended with an error, once its member is stopped in the book where it was halted.
-  abbrev pub Halts : Complex P C plants steadies copies → Complex P C plants steadies copies → Member → Start → NodeNo
-      → Type 0
-  Halts x y m s e = HasPlayed plants copies s (parts_of x) (stopped_by e s.holder.by (parts_of y))
-      (length m.room) (Err e)
+  abbrev pub Halts : Complex P C plants steadies copies → Complex P C plants steadies copies → Member → Start
+      → Option (List ℕ) → Option (List ℕ) → NodeNo → Type 0
+  Halts x y m s was is e = HasPlayed plants copies s (parts_of x) (stopped_by e s.holder.by (parts_of y))
+      (length m.room) was is (Err e)
 
   -- A whole piece, by where it leaves its step.
-  abbrev pub Pieced : Complex P C plants steadies copies → Complex P C plants steadies copies → Start → Stand → Type 0
-  Pieced x y s at = HasPieced plants copies s (parts_of x) (parts_of y) (start_of at)
+  abbrev pub Pieced : Complex P C plants steadies copies → Complex P C plants steadies copies → Start
+      → Option (List ℕ) → Option (List ℕ) → Stand → Type 0
+  Pieced x y s was is at = HasPieced plants copies s (parts_of x) (parts_of y) (start_of at) was is
 
   -- where the member has the lock still it is at its seat
   abbrev pub HoldsOn : MemberId → Complex P C plants steadies copies → Member → Type 0

@@ -35,7 +35,7 @@ pub record IsFailedFound (by : MemberId) (found : Found) (old new : View) : Type
 
 -- THE LINES, caused by what the step had found already, or by what failed in acts between two views
 
--- those of a reply, or of the volume that was found lost
+-- a deck's lines: of a reply, or of the volume that was found lost
 abbrev pub DeckLinesIn : Holder → Found → View → View → List (List ℕ) → Type 0
 DeckLinesIn h found old new lines = (lost : Option ℕ) × (r : Reply) × (lines ≡ lines_by h.by h.step lost r)
     × ((lost ≡ found.lost) ⊎ IsFoundLost lost old new)

@@ -1,8 +1,8 @@
 -- A sitting from any state of a step: where it may be sat, and how it leaves the step.
-use Rattle.std.specs.Prelude.{◌≡◌, ℕ, ◌+◌, ◌≤◌, ◌<◌}
+use Rattle.std.specs.Prelude.{◌≡◌, ℕ, ◌+◌, ◌≤◌, ◌<◌, All}
 use Rattle.mas_types.specs.declared.ids.MemberId.{MemberId}
 use Rattle.mas_types.specs.declared.queues.Queue.{Queue}
-use Rattle.mas_types.specs.Fit.{AreLines, IsJobFields}
+use Rattle.mas_types.specs.Fit.{AreLines, IsJobFields, IsLine}
 use Rattle.mas_types.specs.Sound.{IsSound}
 use Rattle.spool_plant.specs.View.{View}
 use Rattle.spool_plant.specs.declared.plant.Plant.{Ghosts as PlantGhosts}
@@ -14,6 +14,7 @@ use Rattle.mas_complex.specs.Parts.{Parts, parts_of}
 use Rattle.mas_complex.specs.Texts.{spools_at}
 use Rattle.member_node.specs.declared.member.Member.{Member}
 use Rattle.member_node.specs.Reads.{too_high}
+use Rattle.nje_frames.specs.Grammar.{IsFrame}
 use Rattle.script_lang.specs.Asks.{units_most}
 use Rattle.step_turns.specs.Courses.{sittings_most}
 use Rattle.step_turns.specs.Laws.{units_done, units_left}
@@ -29,24 +30,36 @@ use Rattle.member_sittings.specs.declared.ends.SittingEnd.{SittingEnd}
 use Rattle.member_sittings.specs.Asides.{HasGroups, IsSpooled, deck_found}
 use Rattle.member_sittings.specs.Sat.{Start}
 use Rattle.member_sittings.specs.Whole.{IsGivable, IsLeftIn, IsToSit, queue_of}
-use Rattle.member_units.specs.Ready.{IsReady, MayResume}
+use Rattle.member_asides.specs.Ready.{IsReady, MayResume}
+use Rattle.member_wires.specs.Asides.{wire_found}
+use Rattle.member_frames.specs.Waits.{HasFrameMore, IsServable, WaitsOnLine}
 use Rattle.member_hand.specs.declared.sits.Stand.{Stand}
 
--- What a step may be asked to do, by the member. None serves a line to another node yet.
+-- what a step may be asked to do, by the member
 abbrev pub MayBeAsked : Queue → MemberId → Task → Type 0
 MayBeAsked base by (Give c) = IsGivable base by c
 MayBeAsked base by (Deck fields text) = IsJobFields fields × AreLines text
 MayBeAsked base by (Work n) = n ≤ units_most
-MayBeAsked base by (Line l) = ⊥
+MayBeAsked base by (Line l) = IsLine l
 
--- no step may play more units than a script may ask for
+-- No step may play more units than a script may ask for. One that serves a line has as many as the frames that came may
+-- need.
 abbrev pub AreFewUnits : State → Type 0
+AreFewUnits (Fresh (Line l)) = Unit {0}
+AreFewUnits (Away (Exchange l offer)) = Unit {0}
+AreFewUnits (Away (SpoolArrival number job cards service)) = Unit {0}
+AreFewUnits (Away (Acknowledge number service)) = Unit {0}
 AreFewUnits s = units_done s + units_left s ≤ units_most
 
--- A member waits rightly in a state of its step: for a deck it has the groups that its text needs; the job of work is
--- under way, its outputs have their groups, or an output is busy at the member.
+-- A member waits rightly in a state of its step: for a deck, and for a job that came over a line, it has the groups that
+-- its text needs; the job of work is under way, its outputs have their groups, or an output is busy at the member; the
+-- job that is offered on a line is there.
 abbrev pub WaitsWell : Type 0 → Queue → Member → State → Type 0
 WaitsWell told Q m (Away (SpoolDeck n text)) = HasGroups m text
+WaitsWell told Q m (Away (Exchange l offer)) = WaitsOnLine told m (Away (Exchange l offer))
+WaitsWell told Q m (Away (SpoolArrival number job cards service)) =
+    WaitsOnLine told m (Away (SpoolArrival number job cards service))
+WaitsWell told Q m (Away (Acknowledge number service)) = WaitsOnLine told m (Away (Acknowledge number service))
 WaitsWell told Q m s = IsReady told Q m.checkpoint.tables m.id s
 
 module _ {P C : Type 0} (plants : PlantGhosts P) (copies : CopyGhosts C) where
@@ -58,6 +71,12 @@ module _ {P C : Type 0} (plants : PlantGhosts P) (copies : CopyGhosts C) where
   IsFoundRight x by (Fresh task) found = MayBeAsked x.base by task × (found ≡ nothing_found)
   IsFoundRight x by (Away (SpoolDeck n text)) found = AreLines text × (found ≡ deck_found found.lost)
       × IsSpooled plants x by text found.lost
+  IsFoundRight x by (Away (Exchange l offer)) found = IsLine l
+      × (found ≡ wire_found found.read found.wire found.frames) × All IsFrame found.frames
+  IsFoundRight x by (Away (SpoolArrival number job cards service)) found = IsServable service × HasFrameMore service
+      × AreLines cards × (found ≡ deck_found found.lost) × IsSpooled plants x by cards found.lost
+  IsFoundRight x by (Away (Acknowledge number service)) found = IsServable service
+      × (found ≡ record nothing_found { wire = found.wire })
   IsFoundRight x by (Away aside) found = MayResume plants.tells (queue_of x) by (spools_at (v x) (v x).now)
       (counts_of x.printed) aside found
   IsFoundRight x by (Rested p) found = found ≡ nothing_found
@@ -79,7 +98,8 @@ start_of at = record { holder = at.holder; state = at.state; found = at.found }
 abbrev pub begins : Holder → Task → Start
 begins h task = record { holder = h; state = Fresh task; found = nothing_found }
 
--- WHICH STATES A STEP COMES TO from one: it waits for a deck's text after a deck, and rests or waits otherwise where it
+-- WHICH STATES A STEP COMES TO from one: it waits for a deck's text after a deck, for the exchange at the beginning of
+-- one that serves a line, and for a job's text or an acknowledgement in it; and it rests or waits otherwise where it
 -- works. None begins anew.
 
 abbrev pub IsWork : State → Type 0
@@ -101,6 +121,18 @@ abbrev pub IsDeckTask : State → Type 0
 IsDeckTask (Fresh (Deck fields text)) = Unit {0}
 IsDeckTask _ = ⊥
 
+abbrev pub IsLineTask : State → Type 0
+IsLineTask (Fresh (Line l)) = Unit {0}
+IsLineTask _ = ⊥
+
+-- a step that serves a line
+abbrev pub IsServing : State → Type 0
+IsServing (Fresh (Line l)) = Unit {0}
+IsServing (Away (Exchange l offer)) = Unit {0}
+IsServing (Away (SpoolArrival number job cards service)) = Unit {0}
+IsServing (Away (Acknowledge number service)) = Unit {0}
+IsServing _ = ⊥
+
 abbrev pub ComesTo : State → State → Type 0
 ComesTo s Told = Unit {0}
 ComesTo s (Fresh task) = ⊥
@@ -109,9 +141,9 @@ ComesTo s (Away (SpoolDeck n text)) = IsDeckTask s
 ComesTo s (Away (ReadText runs n fields p)) = IsWork s
 ComesTo s (Away (SpoolOutputs n specs p)) = IsWork s
 ComesTo s (Away (PrintLines n i last p)) = IsWork s
-ComesTo s (Away (Exchange l offer)) = ⊥
-ComesTo s (Away (SpoolArrival number job cards service)) = ⊥
-ComesTo s (Away (Acknowledge number service)) = ⊥
+ComesTo s (Away (Exchange l offer)) = IsLineTask s
+ComesTo s (Away (SpoolArrival number job cards service)) = IsServing s
+ComesTo s (Away (Acknowledge number service)) = IsServing s
 
 -- How a sitting leaves a step that stood so: the next state has fewer sittings before it, and no more units; and the
 -- level is one higher at most than before the units that were played.

@@ -1,5 +1,5 @@
 //! A member's step, piece by piece, each in a turn at the shared value.
-ghost use Rattle.std.specs.Prelude.{◌≡◌, length, Err, IfErr, IfOk, None, OnOk};
+ghost use Rattle.std.specs.Prelude.{◌≡◌, ℕ, List, Option, length, Err, IfErr, IfOk, None, OnOk};
 ghost use Rattle.lock_cycle.specs.Books.{IsMember};
 ghost use Rattle.mas_complex.specs.Parts.{parts_of};
 ghost use Rattle.run_turns.specs.Pieces.{entered};
@@ -16,6 +16,7 @@ use mas_complex::{Complex, Steady};
 use mas_types::MemberId;
 use member_node::{Member, NodeNo};
 use member_sittings::SittingEnd;
+use nje_frames::FrameReader;
 use spool_plant::Plant;
 use std::alloc::Global;
 use step_turns::{Holder, State, Task};
@@ -33,7 +34,8 @@ fn take_turn<P: Plant + Drop, C: Steady + Drop>(
     ensures book { complex.new.book ≡ entered complex.old.book stand.holder.by }
     ensures turn { IfOk result (TookTurn complex.old complex.new (start_of stand)) }
     ensures again { IfOk result (SitsOnFrom complex.old complex.new member.new (start_of stand)) }
-    ensures cut { IfErr result (Halts complex.old complex.new member.old (start_of stand)) }
+    ensures cut { IfErr result (λ e. (reader : Option (List ℕ))
+        → Halts complex.old complex.new member.old (start_of stand) reader reader e) }
 {
     let holder = stand.holder;
     complex.retake_lock(holder.by);
@@ -47,14 +49,15 @@ fn try_piece<P: Plant + Drop, C: Steady + Drop>(
     member: &mut Member,
     alloc: Global,
     complex: &mut Complex<P, C>,
+    reader: &mut FrameReader,
     stand: Stand,
 ) -> Result<Stand, NodeNo>
     requires { MayPlay complex.old member.old (start_of stand) }
     ensures frame { parts_of complex.new ≡ played_in (parts_of complex.new) (parts_of complex.old) }
     ensures id { member.new.id ≡ member.old.id }
-    ensures piece { IfOk result (Pieced complex.old complex.new (start_of stand)) }
+    ensures piece { IfOk result (Pieced complex.old complex.new (start_of stand) reader.old reader.new) }
     ensures next { IfOk result (IsAfterPiece complex.old complex.new member.old member.new (start_of stand)) }
-    ensures cut { IfErr result (Halts complex.old complex.new member.old (start_of stand)) }
+    ensures cut { IfErr result (Halts complex.old complex.new member.old (start_of stand) reader.old reader.new) }
     ensures members { length complex.new.book.members ≡ length complex.old.book.members }
 {
     let holder = stand.holder;
@@ -62,7 +65,7 @@ fn try_piece<P: Plant + Drop, C: Steady + Drop>(
     leave(complex, holder.by, &end);
     let whole = member.checkpoint.tables.config.hold;
     let next = next_holder(holder, whole, end.given);
-    let found = act_then(member, alloc, complex, holder.grant, &end.next)?;
+    let found = act_then(member, alloc, complex, reader, holder.grant, &end.next)?;
     Ok(Stand {
         holder: next,
         state: end.next,
@@ -88,22 +91,25 @@ fn stop_halted<P: Plant + Drop, C: Steady + Drop>(
 /// left of its hold is counted, and it leaves the lock or keeps it; then it does the acts that the step waits for.
 /// Answers where the step stands then. A member that is halted in it is stopped in the book in the same call.
 ///
-/// The errors are those of `sit` and `act_aside`. After one the step is over; what it left is told for each.
+/// The reader is that of the line, if the step serves one. The errors are those of `sit` and `act_aside`. After one the
+/// step is over; what it left is told for each.
 pub fn play_piece<P: Plant + Drop, C: Steady + Drop>(
     member: &mut Member,
     alloc: Global,
     complex: &mut Complex<P, C>,
+    reader: &mut FrameReader,
     stand: Stand,
 ) -> Result<Stand, NodeNo>
     requires { MayPlay complex.old member.old (start_of stand) }
     ensures frame { parts_of complex.new ≡ played_in (parts_of complex.new) (parts_of complex.old) }
     ensures id { member.new.id ≡ member.old.id }
-    ensures piece { IfOk result (Pieced complex.old complex.new (start_of stand)) }
+    ensures piece { IfOk result (Pieced complex.old complex.new (start_of stand) reader.old reader.new) }
     ensures next { IfOk result (IsAfterPiece complex.old complex.new member.old member.new (start_of stand)) }
-    ensures cut { IfErr result (λ e. Played complex.old complex.new member.old (start_of stand) (Err e)) }
+    ensures cut { IfErr result (λ e. Played complex.old complex.new member.old (start_of stand) reader.old reader.new
+        (Err e)) }
 {
     let by = stand.holder.by;
-    match try_piece(member, alloc, complex, stand) {
+    match try_piece(member, alloc, complex, reader, stand) {
         Ok(stand) => Ok(stand),
         Err(why) => {
             stop_halted(complex, by, why);
@@ -115,7 +121,8 @@ pub fn play_piece<P: Plant + Drop, C: Steady + Drop>(
 /// Plays a task of the member as a whole step, EACH PIECE IN A TURN at the shared value, which others may have between
 /// two turns. Without LOCK the lock is given up at each sitting's end and taken again at the next one's beginning; with
 /// it only at the step's end, and there only where the hold is spent. A step that is halted ends at once, and its member
-/// is stopped in the book in the same turn.
+/// is stopped in the book in the same turn. The reader is that of the line, if the task serves one: it goes on with the
+/// bytes that the step takes.
 ///
 /// Halted comes only where the member was stopped, BothLost only where both copies count as lost, ConsoleFault only
 /// where the console failed at a line. After an error the member can't go on; what the step left is told for each.
@@ -123,17 +130,18 @@ pub fn play_in_turns<P: Plant + Drop, C: Steady + Drop, T: Turns<Complex<P, C>>>
     member: &mut Member,
     alloc: Global,
     turns: &mut T,
+    reader: &mut FrameReader,
     holder: Holder,
     task: Task,
 ) -> Result<(), NodeNo>
     requires free { T.held turns.old ≡ None }
     requires may { MayTakeTurns (T.finds turns.old) (T.follows (T.place turns.old)) (T.bound turns.old)
-        (λ told. (T.memory turns.old told).cares) (begun member.old holder task) }
+        (λ told. (T.memory turns.old told).cares) (begun member.old holder task reader.old) }
     ensures free { T.held turns.new ≡ None }
     ensures place { T.place turns.new ≡ T.place turns.old }
     ensures bound { T.bound turns.new ≡ T.bound turns.old }
     ensures chain { HasTakenTurns (T.follows (T.place turns.old)) (T.finds turns.old) (T.finds turns.new)
-        (begun member.old holder task) member.new result }
+        (begun member.old holder task reader.old) member.new reader.new result }
 {
     let mut stand = Stand {
         holder,
@@ -142,7 +150,7 @@ pub fn play_in_turns<P: Plant + Drop, C: Steady + Drop, T: Turns<Complex<P, C>>>
     };
     loop {
         turns.turn();
-        let played = play_piece(member, alloc, turns.value(), stand);
+        let played = play_piece(member, alloc, turns.value(), reader, stand);
         turns.back();
         stand = played?;
         if let State::Told = &stand.state {
@@ -156,15 +164,16 @@ pub fn play_task<P: Plant + Drop, C: Steady + Drop>(
     member: &mut Member,
     alloc: Global,
     complex: &mut Complex<P, C>,
+    reader: &mut FrameReader,
     holder: Holder,
     task: Task,
 ) -> Result<(), NodeNo>
     requires { MayPlay complex.old member.old (begins holder task) }
     ensures frame { parts_of complex.new ≡ played_in (parts_of complex.new) (parts_of complex.old) }
     ensures id { member.new.id ≡ member.old.id }
-    ensures played { Played complex.old complex.new member.old (begins holder task) result }
+    ensures played { Played complex.old complex.new member.old (begins holder task) reader.old reader.new result }
     ensures next { OnOk result (IsAfterStep complex.old complex.new member.old member.new (begins holder task)) }
 {
     let mut hand = OneHand::new(complex);
-    play_in_turns(member, alloc, &mut hand, holder, task)
+    play_in_turns(member, alloc, &mut hand, reader, holder, task)
 }

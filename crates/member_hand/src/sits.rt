@@ -1,11 +1,13 @@
 //! A sitting from any state of a step.
-ghost use Rattle.std.specs.Prelude.{◌≡◌, IfOk};
+ghost use Rattle.std.specs.Prelude.{◌≡◌, false, IfOk};
 ghost use Rattle.mas_complex.specs.Parts.{parts_of};
+ghost use Rattle.step_turns.specs.Laws.{aside_on_line};
 ghost use Rattle.member_sittings.specs.Sat.{HasSat, resumes, sat_in};
 ghost use Rattle.member_hand.specs.Sits.{MaySitFrom, SitsOnFrom, begins, start_of};
 
 use card_reader::Deck;
 use mas_complex::{Complex, Steady};
+use member_frames::{sit_frames, sit_load};
 use member_node::{Member, NodeNo};
 use member_sittings::{SittingEnd, SpooledDeck, sit_command, sit_deck, sit_spooled};
 use member_units::{resume_work, sit_work};
@@ -51,7 +53,50 @@ fn begin<P: Plant + Drop, C: Steady + Drop>(
             };
             sit_work(member, alloc, complex, holder, progress)
         }
-        Task::Line(_) => unreachable!(),
+        Task::Line(line) => sit_load(member, alloc, complex, holder, line),
+    }
+}
+
+// Whether a step that waits so serves a line.
+fn serves_line(aside: &Aside) -> bool
+    ensures { result ≡ aside_on_line aside.now }
+{
+    match aside {
+        Aside::Exchange { .. } => true,
+        Aside::SpoolArrival { .. } => true,
+        Aside::Acknowledge { .. } => true,
+        _ => false,
+    }
+}
+
+// A sitting after acts for which a step waited that serves no line.
+fn resume_plain<P: Plant + Drop, C: Steady + Drop>(
+    member: &mut Member,
+    alloc: Global,
+    complex: &mut Complex<P, C>,
+    holder: Holder,
+    aside: Aside,
+    found: Found,
+) -> Result<SittingEnd, NodeNo>
+    requires may { MaySitFrom complex.old member.old (resumes holder aside found) }
+    requires off { aside_on_line aside ≡ false }
+    ensures frame { parts_of complex.new ≡ sat_in (parts_of complex.new) (parts_of complex.old) }
+    ensures id { member.new.id ≡ member.old.id }
+    ensures sat { HasSat (resumes holder aside found) complex.old complex.new result }
+    ensures again { IfOk result (SitsOnFrom complex.old complex.new member.new (resumes holder aside found)) }
+{
+    match aside {
+        Aside::SpoolDeck { job, text } => {
+            let lost = found.lost;
+            sit_spooled(
+                member,
+                alloc,
+                complex,
+                holder,
+                SpooledDeck { job, text, lost },
+            )
+        }
+        aside => resume_work(member, alloc, complex, holder, aside, found),
     }
 }
 
@@ -70,18 +115,10 @@ fn resume<P: Plant + Drop, C: Steady + Drop>(
     ensures sat { HasSat (resumes holder aside found) complex.old complex.new result }
     ensures again { IfOk result (SitsOnFrom complex.old complex.new member.new (resumes holder aside found)) }
 {
-    match aside {
-        Aside::SpoolDeck { job, text } => {
-            let lost = found.lost;
-            sit_spooled(
-                member,
-                alloc,
-                complex,
-                holder,
-                SpooledDeck { job, text, lost },
-            )
-        }
-        aside => resume_work(member, alloc, complex, holder, aside, found),
+    if serves_line(&aside) {
+        sit_frames(member, alloc, complex, holder, aside, found)
+    } else {
+        resume_plain(member, alloc, complex, holder, aside, found)
     }
 }
 

@@ -5,7 +5,7 @@ use Rattle.mas_types.specs.declared.ids.MemberId.{MemberId}
 use Rattle.mas_types.specs.Ids.{nobody}
 use Rattle.lock_cycle.specs.Books.{Book, IsMember, after_free, after_stop, is_stopped}
 use Rattle.spool_plant.specs.View.{Line, View}
-use Rattle.spool_plant.specs.Acts.{Rose}
+use Rattle.spool_plant.specs.Acts.{Rose, next}
 use Rattle.spool_plant.specs.declared.plant.Part.TheVariants.{Console}
 use Rattle.spool_plant.specs.declared.plant.Plant.{Ghosts as PlantGhosts}
 use Rattle.ckpt_copy.specs.declared.copying.Copying.{Ghosts as CopyGhosts}
@@ -114,6 +114,19 @@ holds_at by at end S b release cut = left_by by cut (record {
   flight = None;
 }) (S.counts by)
 
+-- one act was made, and in it nobody was stopped
+pub record IsOneAct (old new : View) : Type 0 where
+  pub time : new.now ≡ next old.now
+  pub halt : new.halt ≡ old.halt
+
+-- a call that makes one act, or none where there was no memory for its line
+abbrev pub ActsOnce : {T : Type 0} → Result T NodeNo → View → View → Type 0
+ActsOnce (Ok value) old new = IsOneAct old new
+ActsOnce (Err ConsoleFault) old new = IsOneAct old new
+ActsOnce (Err NoMemory) old new = new ≡ old
+ActsOnce (Err Halted) old new = ⊥
+ActsOnce (Err BothLost) old new = ⊥
+
 module _ {P C : Type 0} (plants : PlantGhosts P) where
   abbrev v : Parts P C → View
   v x = plants.view x.plant
@@ -136,7 +149,7 @@ module _ {P C : Type 0} (plants : PlantGhosts P) where
     pub book : (cut : Option Cut) → IsCutAs result cut → y.book ≡ (left cut).book
     pub console : plants.tells → HasStoodBy left x y result
 
-  -- the same of a line that finds nothing
+  -- what a line that finds nothing says and leaves
   abbrev pub HasStood : Scene → MemberId → ℕ → Admission → Parts P C → Parts P C → Result (Unit {0}) NodeNo → Type 0
   HasStood S by at a x y result = HasStoodBy (left_at S by at a) x y result
 
@@ -159,12 +172,13 @@ module _ {P C : Type 0} {plants : PlantGhosts P} {steadies : SteadyGhosts C} {co
   ClosesHeld by h end x y result = (S : Scene) → HasClosedBy plants
       (holds_at by h.step end S x.book (released h.grant h.hold 0 Told)) by (parts_of x) (parts_of y) result
 
-  -- A line that says that its member stopped in its step, by the operator: acts on the console alone, in which nobody
-  -- is stopped. The line stands where the answer is Ok, and else nothing was said.
+  -- A line that says that its member stopped in its step, by the operator: one act, on the console, in which nobody is
+  -- stopped; or none where there was no memory. The line stands where the answer is Ok, and else nothing was said.
   pub record SaysStopped (by : MemberId) (at : ℕ) (x y : Complex P C plants steadies copies)
       (result : Result (Unit {0}) NodeNo) : Type 0 where
     pub acts : OnConsole plants.tells (plants.view x.plant) (plants.view y.plant)
     pub spares : Spares 0 false (plants.view x.plant) (plants.view y.plant)
+    pub acted : ActsOnce result (plants.view x.plant) (plants.view y.plant)
     pub cause : HasCause result 0 (plants.view x.plant) (plants.view y.plant)
     pub unhalted : stopped_in result ≡ false
     pub console : plants.tells → console_now (plants.view y.plant) ≡ console_now (plants.view x.plant)

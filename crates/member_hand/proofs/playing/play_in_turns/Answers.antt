@@ -1,4 +1,4 @@
-use Rattle.std.proofs.Common.{◌∙◌, inl, inr, [], ◌∷◌, Ok, Err, ap, refl, sym, subst}
+use Rattle.std.proofs.Common.{◌∙◌, inl, inr, [], ◌∷◌, is_some, Ok, Err, ap, refl, sym, subst}
 use Rattle.std.proofs.lemmas.Result.{err_from_is_err_and}
 use Rattle.step_turns.specs.declared.states.Found.{Found}
 use Rattle.step_turns.specs.declared.states.State.TheVariants.{Fresh}
@@ -25,7 +25,7 @@ loop-stand-init g c =
       id = refl;
       may = λ z f. subst (λ (found : Found). MayPlay z m (record { holder = h; state = Fresh task; found = found })) (sym c.nothing_found.ensures) (c.requires.may.first z f);
       found = λ z f. inl f;
-      then = λ ts e r chain. (ts, subst (λ (found : Found). TakesTurns follows (T.finds x) (record { member = m; stand = record { holder = h; state = Fresh task; found = found } }) ts e r) c.nothing_found.ensures chain);
+      then = λ ts e r chain. (ts, subst (λ (found : Found). TakesTurns follows (T.finds x) (record { member = m; stand = record { holder = h; state = Fresh task; found = found }; reader = c.args.reader.now }) ts e r) c.nothing_found.ensures chain);
     }
 
 pub play_piece-played-requires : goal.play_piece-played-requires
@@ -33,6 +33,9 @@ play_piece-played-requires g c =
     let T = g.T.Turns in
     let x = c.value.result.now in
     c.loop-stand.invariant.may x (of_held (T.held c.turn.new.self) x (T.finds c.loop-stand.turns) c.value.ensures.value c.turn.ensures.found)
+
+pub back-requires-clause-held : goal.back-requires-clause-held
+back-requires-clause-held g c = ap is_some (g.met.T.Turns.holds c.turn.new.self c.play_piece-played.new.complex c.turn.ensures.held)
 
 pub back-requires-clause-may : goal.back-requires-clause-may
 back-requires-clause-may g c =
@@ -43,7 +46,7 @@ back-requires-clause-may g c =
     let x = c.value.result.now in
     let y = c.play_piece-played.new.complex in
     let e = c.play_piece-played.ensures in
-    let here : Pause = record { member = c.loop-stand.member; stand = c.loop-stand.stand } in
+    let here : Pause = record { member = c.loop-stand.member; stand = c.loop-stand.stand; reader = c.loop-stand.reader } in
     let found = of_held (T.held u) x (T.finds c.loop-stand.turns) c.value.ensures.value c.turn.ensures.found in
     let took = took_then (T.bound c.loop-stand.turns) (T.bound u) (T.bound (T.with_held u y)) (T.held u) x (T.taken u) (T.taken (T.with_held u y)) c.turn.ensures.bound (L.keeps_bound u y) c.value.ensures.value c.turn.ensures.taken (L.keeps_taken u y) in
     handed_back x y (T.bound c.args.turns.now) (T.bound (T.with_held u y)) (λ told. (T.memory c.args.turns.now told).cares) (λ told. (T.memory (T.with_held u y) told).cares)
@@ -51,7 +54,7 @@ back-requires-clause-may g c =
     (λ told. L.keeps_cares u y told ∙ ap (λ (m : Memory). m.cares) (c.turn.ensures.memory told) ∙ i.cares told)
     took (L.holds u y c.turn.ensures.held)
     (may_leave (T.finds c.args.turns.now) (T.follows (T.place c.args.turns.now)) (T.bound c.args.turns.now) (λ told. (T.memory c.args.turns.now told).cares) _ c.requires.may
-    here x y c.play_piece-played.new.member c.play_piece-played.result i.id (i.found x found) (i.may x found) e.frame e.id e.piece e.next e.cut)
+    here x y c.play_piece-played.new.member c.play_piece-played.new.reader c.play_piece-played.result i.id (i.found x found) (i.may x found) e.frame e.id e.piece e.next e.cut)
 
 pub loop-stand-preserved : goal.loop-stand-preserved
 loop-stand-preserved g c =
@@ -64,7 +67,7 @@ loop-stand-preserved g c =
     let n = c.play_piece-played.new.member in
     let at = c.in_ok-stand.stand in
     let e = c.in_ok-stand.ensures in
-    let after : Pause = record { member = n; stand = at } in
+    let after : Pause = record { member = n; stand = at; reader = c.play_piece-played.new.reader } in
     let follows = T.follows (T.place c.args.turns.now) in
     let found = of_held (T.held u) x (T.finds c.loop-stand.turns) c.value.ensures.value c.turn.ensures.found in
     let place = L.keeps_place u y ∙ c.turn.ensures.place ∙ i.place in
@@ -93,7 +96,7 @@ returns-in-Told-clause-chain g c =
     let e = c.in_ok-stand.ensures in
     let found = of_held (T.held u) x (T.finds c.loop-stand.turns) c.value.ensures.value c.turn.ensures.found in
     let place = L.keeps_place u y ∙ c.turn.ensures.place ∙ i.place in
-    let whole = i.then [] (record { found = x; left = y; member = c.play_piece-played.new.member }) (Ok tt)
+    let whole = i.then [] (record { found = x; left = y; member = c.play_piece-played.new.member; reader = c.play_piece-played.new.reader }) (Ok tt)
     (found, (c.in_ok-stand.stand, record { frame = e.frame; id = e.id; piece = e.piece; next = e.next }, c.in-Told.is)) in
     record {
       turns = whole.0;
@@ -116,7 +119,7 @@ returns-in_err-stand-clause-chain g c =
     let q = err_from_is_err_and c.from_residual.result c.from_residual.ensures.1 in
     let found = of_held (T.held u) x (T.finds c.loop-stand.turns) c.value.ensures.value c.turn.ensures.found in
     let place = L.keeps_place u y ∙ c.turn.ensures.place ∙ i.place in
-    let whole = i.then [] (record { found = x; left = y; member = c.play_piece-played.new.member }) (Err why)
+    let whole = i.then [] (record { found = x; left = y; member = c.play_piece-played.new.member; reader = c.play_piece-played.new.reader }) (Err why)
     (found, record { frame = c.play_piece-played.ensures.frame; id = c.play_piece-played.ensures.id; played = e.cut }) in
     rw (q.1, q.2) (record {
       turns = whole.0;

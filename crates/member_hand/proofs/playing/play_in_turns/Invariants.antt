@@ -17,7 +17,7 @@ invariant-loop-stand g l =
     let T = g.T.Turns in
     let first = T.finds l.fn.turns in
     let follows = T.follows (T.place l.fn.turns) in
-    let here : Pause = record { member = l.member; stand = l.stand } in
+    let here : Pause = record { member = l.member; stand = l.stand; reader = l.reader } in
     record {
       free : T.held l.turns ≡ None;
       place : T.place l.turns ≡ T.place l.fn.turns;
@@ -27,5 +27,5 @@ invariant-loop-stand g l =
       may : OfEach (T.finds l.turns) (λ x. MayPlay x l.member (start_of l.stand));
       found : OfEach (T.finds l.turns) (λ x. first x ⊎ ((w : _) × follows w x));
       then : (ts : List (Turn _)) (e : End _) (r : Result (Unit {0}) NodeNo) → TakesTurns follows (T.finds l.turns) here ts e r
-          → (us : List (Turn _)) × TakesTurns follows first (begun l.fn.member l.fn.holder l.fn.task) us e r;
+          → (us : List (Turn _)) × TakesTurns follows first (begun l.fn.member l.fn.holder l.fn.task l.fn.reader) us e r;
     }

@@ -23,4 +23,4 @@ returns-in-Err-clause-frame g c =
 
 pub returns-in-Err-clause-cut : goal.returns-in-Err-clause-cut
 returns-in-Err-clause-cut g c =
-    subst (λ y. HasPlayed g.P.Plant g.C.Copying (start_of c.args.stand) (parts_of c.args.complex.now) y (length c.args.member.now.room) (Err c.in-Err.why)) (sym c.stop_halted.ensures) c.in-Err.ensures.cut
+    subst (λ y. HasPlayed g.P.Plant g.C.Copying (start_of c.args.stand) (parts_of c.args.complex.now) y (length c.args.member.now.room) c.args.reader.now c.try_piece.new.reader (Err c.in-Err.why)) (sym c.stop_halted.ensures) c.in-Err.ensures.cut

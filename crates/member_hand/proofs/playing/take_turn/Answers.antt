@@ -50,8 +50,8 @@ returns-in_err-enter-clause-cut g c =
     let e = c.in_err-enter.field-0.0 in
     let p = err_from_is_err_and c.from_residual.result c.from_residual.ensures.1 in
     let acts = subst (λ (q : Parts _ _). CopiesActed P {T = Unit {0}} s.holder.by q z (Err e)) c.retake_lock.ensures.frame (subst (λ (i : MemberId). CopiesActed P {T = Unit {0}} i (parts_of c.retake_lock.new.self) z (Err e)) (sym go.holder) c.in_err-enter.ensures.acts) in
-    rw (p.1, p.2) (unseated P C s x z (subst (MayHold x.book) (sym go.holder) go.hold) go.aside.quiet.none go.aside.quiet.unplaced
-    (c.enter.ensures.frame ∙ ap (λ (q : Parts _ _). with_copies z q) c.retake_lock.ensures.frame) (not_told P C x m.id s.state s.found c.requires.right) (length m.room) e acts)
+    rw (p.1, p.2) (λ was. unseated P C s x z (subst (MayHold x.book) (sym go.holder) go.hold) go.aside.quiet.none go.aside.quiet.unplaced
+    (c.enter.ensures.frame ∙ ap (λ (q : Parts _ _). with_copies z q) c.retake_lock.ensures.frame) (not_told P C x m.id s.state s.found c.requires.right) (length m.room) e acts was)
 
 -- IT SITS
 

@@ -19,7 +19,7 @@ use Rattle.member_hand.proofs.playing.try_piece.Goals as goal
 pub returns-in_err-end-clause-cut : goal.returns-in_err-end-clause-cut
 returns-in_err-end-clause-cut g c =
     let p = err_from_is_err_and c.from_residual.result c.from_residual.ensures.1 in
-    rw (p.1, p.2) c.in_err-end.ensures.cut
+    rw (p.1, p.2) (c.in_err-end.ensures.cut c.args.reader.now)
 
 pub returns-in_err-end-clause-members : goal.returns-in_err-end-clause-members
 returns-in_err-end-clause-members g c = ap (λ (b : Book). length b.members) c.take_turn.ensures.book ∙ entered_members c.args.complex.now.book c.args.stand.holder.by
@@ -52,9 +52,9 @@ returns-in_err-found-clause-frame g c =
     let end = c.in_ok-end.end in
     let u = parts_of c.act_then.new.complex in
     let n = c.take_turn.new.member in
-    let acts = subst (λ (q : Parts _ _). ActsAfter g.P.Plant q u n end.next c.act_then.result) c.leave.ensures.frame c.act_then.ensures.acts in
+    let acts = subst (λ (q : Parts _ _). ActsAfter g.P.Plant q u n end.next c.args.reader.now c.act_then.new.reader c.act_then.result) c.leave.ensures.frame c.act_then.ensures.acts in
     frame_then g.P.Plant g.C.Copying (start_of c.args.stand) (parts_of c.args.complex.now) (parts_of c.take_turn.new.complex) end c.in_ok-end.ensures.turn c.args.member.now c.requires.goes
-    n c.take_turn.ensures.id c.take_turn.ensures.book c.in_ok-end.ensures.again c.act_then.result u acts
+    n c.take_turn.ensures.id c.take_turn.ensures.book c.in_ok-end.ensures.again c.args.reader.now c.act_then.new.reader c.act_then.result u acts
 
 pub returns-in_err-found-clause-cut : goal.returns-in_err-found-clause-cut
 returns-in_err-found-clause-cut g c =
@@ -63,20 +63,20 @@ returns-in_err-found-clause-cut g c =
     let u = parts_of c.act_then.new.complex in
     let n = c.take_turn.new.member in
     let e = c.in_err-found.field-0.0 in
-    let acts = subst (λ (q : Parts _ _). ActsAfter g.P.Plant q u n end.next (Err e)) c.leave.ensures.frame c.in_err-found.ensures.acts in
+    let acts = subst (λ (q : Parts _ _). ActsAfter g.P.Plant q u n end.next c.args.reader.now c.act_then.new.reader (Err e)) c.leave.ensures.frame c.in_err-found.ensures.acts in
     let p = err_from_is_err_and c.from_residual-in_err-found.result c.from_residual-in_err-found.ensures.1 in
     rw (p.1, p.2)
     (piece_cut g.P.Plant g.C.Copying (start_of c.args.stand) x (parts_of c.take_turn.new.complex) end c.in_ok-end.ensures.turn c.args.member.now c.requires.goes
-    n c.take_turn.ensures.id c.take_turn.ensures.book c.in_ok-end.ensures.again (not_told g.P.Plant g.C.Copying x c.args.member.now.id c.args.stand.state c.args.stand.found c.requires.right) u e acts)
+    n c.take_turn.ensures.id c.take_turn.ensures.book c.in_ok-end.ensures.again (not_told g.P.Plant g.C.Copying x c.args.member.now.id c.args.stand.state c.args.stand.found c.requires.right) u c.args.reader.now c.act_then.new.reader e acts c.act_then.ensures.reader)
 
 pub returns-in_err-found-clause-members : goal.returns-in_err-found-clause-members
 returns-in_err-found-clause-members g c =
     let end = c.in_ok-end.end in
     let u = parts_of c.act_then.new.complex in
     let n = c.take_turn.new.member in
-    let acts = subst (λ (q : Parts _ _). ActsAfter g.P.Plant q u n end.next c.act_then.result) c.leave.ensures.frame c.act_then.ensures.acts in
+    let acts = subst (λ (q : Parts _ _). ActsAfter g.P.Plant q u n end.next c.args.reader.now c.act_then.new.reader c.act_then.result) c.leave.ensures.frame c.act_then.ensures.acts in
     members_then g.P.Plant g.C.Copying (start_of c.args.stand) (parts_of c.args.complex.now) (parts_of c.take_turn.new.complex) end c.in_ok-end.ensures.turn c.args.member.now c.requires.goes
-    n c.take_turn.ensures.id c.take_turn.ensures.book c.in_ok-end.ensures.again c.act_then.result u acts
+    n c.take_turn.ensures.id c.take_turn.ensures.book c.in_ok-end.ensures.again c.args.reader.now c.act_then.new.reader c.act_then.result u acts
 
 -- THE PIECE IS WHOLE
 
@@ -85,18 +85,18 @@ returns-clause-frame g c =
     let end = c.in_ok-end.end in
     let u = parts_of c.act_then.new.complex in
     let n = c.take_turn.new.member in
-    let acts = subst (λ (q : Parts _ _). ActsAfter g.P.Plant q u n end.next c.act_then.result) c.leave.ensures.frame c.act_then.ensures.acts in
+    let acts = subst (λ (q : Parts _ _). ActsAfter g.P.Plant q u n end.next c.args.reader.now c.act_then.new.reader c.act_then.result) c.leave.ensures.frame c.act_then.ensures.acts in
     frame_then g.P.Plant g.C.Copying (start_of c.args.stand) (parts_of c.args.complex.now) (parts_of c.take_turn.new.complex) end c.in_ok-end.ensures.turn c.args.member.now c.requires.goes
-    n c.take_turn.ensures.id c.take_turn.ensures.book c.in_ok-end.ensures.again c.act_then.result u acts
+    n c.take_turn.ensures.id c.take_turn.ensures.book c.in_ok-end.ensures.again c.args.reader.now c.act_then.new.reader c.act_then.result u acts
 
 pub returns-clause-members : goal.returns-clause-members
 returns-clause-members g c =
     let end = c.in_ok-end.end in
     let u = parts_of c.act_then.new.complex in
     let n = c.take_turn.new.member in
-    let acts = subst (λ (q : Parts _ _). ActsAfter g.P.Plant q u n end.next c.act_then.result) c.leave.ensures.frame c.act_then.ensures.acts in
+    let acts = subst (λ (q : Parts _ _). ActsAfter g.P.Plant q u n end.next c.args.reader.now c.act_then.new.reader c.act_then.result) c.leave.ensures.frame c.act_then.ensures.acts in
     members_then g.P.Plant g.C.Copying (start_of c.args.stand) (parts_of c.args.complex.now) (parts_of c.take_turn.new.complex) end c.in_ok-end.ensures.turn c.args.member.now c.requires.goes
-    n c.take_turn.ensures.id c.take_turn.ensures.book c.in_ok-end.ensures.again c.act_then.result u acts
+    n c.take_turn.ensures.id c.take_turn.ensures.book c.in_ok-end.ensures.again c.args.reader.now c.act_then.new.reader c.act_then.result u acts
 
 pub returns-clause-piece : goal.returns-clause-piece
 returns-clause-piece g c =
@@ -105,10 +105,10 @@ returns-clause-piece g c =
     let u = parts_of c.act_then.new.complex in
     let n = c.take_turn.new.member in
     let found = c.in_ok-found.found in
-    let acts = subst (λ (q : Parts _ _). ActsAfter g.P.Plant q u n end.next (Ok found)) c.leave.ensures.frame c.in_ok-found.ensures.acts in
-    subst (λ (h : Holder). HasPieced g.P.Plant g.C.Copying (start_of c.args.stand) x u (record { holder = h; state = end.next; found = found })) (sym c.next_holder-next.ensures)
+    let acts = subst (λ (q : Parts _ _). ActsAfter g.P.Plant q u n end.next c.args.reader.now c.act_then.new.reader (Ok found)) c.leave.ensures.frame c.in_ok-found.ensures.acts in
+    subst (λ (h : Holder). HasPieced g.P.Plant g.C.Copying (start_of c.args.stand) x u (record { holder = h; state = end.next; found = found }) c.args.reader.now c.act_then.new.reader) (sym c.next_holder-next.ensures)
     (pieced g.P.Plant g.C.Copying (start_of c.args.stand) x (parts_of c.take_turn.new.complex) end c.in_ok-end.ensures.turn c.args.member.now c.requires.goes
-    n c.take_turn.ensures.id c.take_turn.ensures.book c.in_ok-end.ensures.again (not_told g.P.Plant g.C.Copying x c.args.member.now.id c.args.stand.state c.args.stand.found c.requires.right) u found acts)
+    n c.take_turn.ensures.id c.take_turn.ensures.book c.in_ok-end.ensures.again (not_told g.P.Plant g.C.Copying x c.args.member.now.id c.args.stand.state c.args.stand.found c.requires.right) u c.args.reader.now c.act_then.new.reader found acts c.act_then.ensures.reader)
 
 pub returns-clause-next : goal.returns-clause-next
 returns-clause-next g c =
@@ -128,15 +128,15 @@ returns-clause-next g c =
     let book = c.take_turn.ensures.book in
     let again = c.in_ok-end.ensures.again in
     let hold = n.checkpoint.tables.config.hold in
-    let acts = subst (λ (q : Parts _ _). ActsAfter P q u n end.next (Ok found)) c.leave.ensures.frame c.in_ok-found.ensures.acts in
+    let acts = subst (λ (q : Parts _ _). ActsAfter P q u n end.next c.args.reader.now c.act_then.new.reader (Ok found)) c.leave.ensures.frame c.in_ok-found.ensures.acts in
     record {
-      aside = aside_next P C s x y end turn m go n same book again u found acts hold;
+      aside = aside_next P C s x y end turn m go n same book again u c.args.reader.now c.act_then.new.reader found acts hold;
       room = room_same P C s x y end turn m go n same book again;
-      goes = level_next P C s x y end turn m go n same book again u found acts hold;
-      seat = seat_next P C s x y end turn m go n same book again u found acts hold;
+      goes = level_next P C s x y end turn m go n same book again u c.args.reader.now c.act_then.new.reader found acts hold;
+      seat = seat_next P C s x y end turn m go n same book again u c.args.reader.now c.act_then.new.reader found acts hold;
       may = λ ne. record {
-        goes = subst (λ (h : Holder). MayGoOn P C u n h end.next) (sym c.next_holder-next.ensures) (goes_next P C s x y end turn m go n same book again u found acts hold ne);
-        right = right_next P C s x y end turn m go n same book again u found acts hold ne;
+        goes = subst (λ (h : Holder). MayGoOn P C u n h end.next) (sym c.next_holder-next.ensures) (goes_next P C s x y end turn m go n same book again u c.args.reader.now c.act_then.new.reader found acts hold ne);
+        right = right_next P C s x y end turn m go n same book again u c.args.reader.now c.act_then.new.reader found acts hold ne;
         few = few_next P C s x y end turn m go n same book again c.requires.few;
       };
     }

@@ -1,14 +1,24 @@
 use Rattle.std.proofs.Common.{refl, arith}
 use Rattle.mas_complex.specs.Parts.{parts_of}
-use Rattle.step_turns.specs.declared.states.Task.TheVariants.{Deck, Give, Work}
+use Rattle.step_turns.specs.declared.states.Task.TheVariants.{Deck, Give, Line, Work}
 use Rattle.member_hand.specs.Sits.{begins}
-use Rattle.member_hand.proofs.Leaving.{both, deck_leaves, told_leaves, work_all}
+use Rattle.member_hand.proofs.Leaving.{both, deck_leaves, load_all, told_leaves, work_all}
 use Rattle.member_hand.proofs.sits.begin.Goals as goal
 
--- NO LINE TO ANOTHER NODE
+-- A LINE
 
-pub unreachable-requires : goal.unreachable-requires
-unreachable-requires g c = let right = rw c.in-Line.is at c.requires.right in right.0
+pub sit_load-requires-clause-line : goal.sit_load-requires-clause-line
+sit_load-requires-clause-line g c = let right = rw c.in-Line.is at c.requires.right in right.0
+
+pub returns-in-Line-clause-sat : goal.returns-in-Line-clause-sat
+returns-in-Line-clause-sat g c = rw c.in-Line.is c.sit_load.ensures.sat
+
+pub returns-in-Line-clause-again : goal.returns-in-Line-clause-again
+returns-in-Line-clause-again g c =
+    let x = parts_of c.args.complex.now in
+    let y = parts_of c.sit_load.new.complex in
+    let e = c.sit_load.ensures in
+    rw c.in-Line.is (load_all g.P.Plant g.C.Copying x y c.args.member.now c.sit_load.new.member (begins c.args.holder (Line c.in-Line.line)) tt refl (omega arith) c.sit_load.result tt (λ t says. says.0) e.sat e.again e.waits)
 
 -- A COMMAND
 

@@ -28,6 +28,7 @@ returns-in_default-clause-says g c =
     record {
       acts = console_none g.P.Plant.tells v;
       spares = spares_none 0 v;
+      acted = refl;
       cause = refl;
       unhalted = refl;
       console = λ t. sym (append-nil (console_now v));
@@ -42,6 +43,7 @@ returns-in-Done-clause-says g c =
     record {
       acts = says_done g.P.Plant line v w c.in-Done.ensures.acts (λ t. subst (λ (l : List ℕ). Says l v w Done) same (c.in-Done.ensures.content t));
       spares = spares_done 0 Console v w c.in-Done.ensures.acts;
+      acted = record { time = c.in-Done.ensures.acts.time; halt = c.in-Done.ensures.acts.else_halt (λ e. absurd (cc)) };
       cause = tt;
       unhalted = refl;
       console = λ t. (subst (λ (l : List ℕ). Says l v w Done) same (c.in-Done.ensures.content t)).console;
@@ -56,6 +58,7 @@ returns-in-Failed-clause-says g c =
     record {
       acts = says_failed g.P.Plant line v w c.in-Failed.ensures.acts (λ t. subst (λ (l : List ℕ). Says l v w Failed) same (c.in-Failed.ensures.content t));
       spares = spares_failed 0 Console v w c.in-Failed.ensures.acts;
+      acted = record { time = c.in-Failed.ensures.acts.time; halt = c.in-Failed.ensures.acts.else_halt (λ e. absurd (cc)) };
       cause = c.in-Failed.ensures.acts.failed refl;
       unhalted = refl;
       console = λ t. (subst (λ (l : List ℕ). Says l v w Failed) same (c.in-Failed.ensures.content t)).console ∙ sym (append-nil (console_now v));

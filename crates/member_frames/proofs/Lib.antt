@@ -1,0 +1,10 @@
+mod Loaded
+mod Bounded
+mod Idle
+mod Offering
+mod Fronts
+mod TurnLemmas
+mod Sending
+mod SatLemmas
+mod Arriving
+mod Getting

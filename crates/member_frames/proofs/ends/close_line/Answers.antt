@@ -1,0 +1,126 @@
+use Rattle.std.proofs.Common.{◌∙◌, ◌<◌, ◌^◌, ℕ, List, [], ◌∷◌, Ok, Err, refl, subst, sym, arith}
+use Rattle.std.proofs.lemmas.Result.{err_from_is_err_and}
+use Rattle.mas_types.specs.Closings.{closing_line}
+use Rattle.mas_types.specs.declared.ids.MemberId.{MemberId}
+use Rattle.member_steps.specs.Saying.{TellKept}
+use Rattle.member_steps.specs.Steps.{AreKeptFrom}
+use Rattle.member_steps.proofs.CountLemmas.{counted_by}
+use Rattle.member_steps.proofs.FateLemmas.{closing_tells}
+use Rattle.member_work.specs.Work.{batches_in}
+use Rattle.step_turns.specs.Batches.{batch_of}
+use Rattle.step_turns.specs.Turns.{says}
+use Rattle.member_units.specs.Plays.{unwritten, wrote_of}
+use Rattle.member_units.specs.Works.{outside, place_of}
+use Rattle.member_units.proofs.Cuts.{of_batch, one_batch, starts_itself}
+use Rattle.member_units.proofs.Gave.{keeps_as, spares_of}
+use Rattle.member_units.proofs.Going.{apart_then, closes_err, closes_ok, played_close, played_error}
+use Rattle.member_units.proofs.Seated.{closes_said, said_apart, seat_said}
+use Rattle.member_units.proofs.Working.{own_batch, same_run}
+use Rattle.member_frames.specs.Plays.{IsWithinLine}
+use Rattle.member_frames.proofs.Bounded.{line_within}
+use Rattle.member_frames.proofs.ends.close_line.Goals as goal
+
+-- OUT OF MEMORY FOR THE LINE
+
+pub give_up-requires-clause-untold : goal.give_up-requires-clause-untold
+give_up-requires-clause-untold g c told = c.requires.works.untold told c.args.member.now.batch c.requires.works.of
+
+pub returns-in_default-clause-run : goal.returns-in_default-clause-run
+returns-in_default-clause-run g c =
+    let k = c.give_up.ensures in
+    same_run c.args.complex.now c.give_up.new.complex c.args.member.now c.give_up.new.member c.args.holder k.base k.since k.renewals k.book k.id
+
+pub returns-in_default-clause-serves : goal.returns-in_default-clause-serves
+returns-in_default-clause-serves g c =
+    let x = c.args.complex.now in
+    let y = c.give_up.new.complex in
+    let m = c.args.member.now in
+    let h = c.args.holder in
+    let v = c.requires.works in
+    let w = wrote_of m.batch (says (closing_line h.by h.step c.args.end.now ∷ [])) in
+    played_error g.P.Plant.tells h (IsWithinLine h (unwritten m.batch)) c.args.given {S = Unit {0}} c.give_up.result w w (batch_of m.batch) (place_of x m) (outside y) (λ t. refl) (of_batch h.by h.step m.batch (own_batch x m h v)) (line_within h m.batch c.args.end.now c.requires.closes) (starts_itself m.batch)
+    (λ told. spares_of x y (c.give_up.ensures.apart told)) (keeps_as x y m h.by (batches_in (m.batch ∷ [])) (batch_of m.batch) (Err c.give_up.result) v.own v.work (one_batch m.batch) c.give_up.ensures.keeps)
+    (counted_by {T = Unit {0}} m.id h.by [] x.printed y.printed (Err c.give_up.result) (sym v.own) c.give_up.ensures.counts)
+
+-- THE BATCH COULDN'T BE KEPT
+
+pub returns-in_err-keep-clause-serves : goal.returns-in_err-keep-clause-serves
+returns-in_err-keep-clause-serves g c =
+    let x = c.args.complex.now in
+    let m = c.args.member.now in
+    let h = c.args.holder in
+    let w = wrote_of m.batch (says (closing_line h.by h.step c.args.end.now ∷ [])) in
+    let q = err_from_is_err_and c.from_residual.result c.from_residual.ensures.1 in
+    rw (q.1, q.2) (played_error g.P.Plant.tells h (IsWithinLine h (unwritten m.batch)) c.args.given {S = Unit {0}} _ w w (batch_of m.batch) (place_of x m) (outside c.keep.new.complex) (λ t. refl) (of_batch h.by h.step m.batch (own_batch x m h c.requires.works)) (line_within h m.batch c.args.end.now c.requires.closes) (starts_itself m.batch) c.keep.ensures.spares c.in_err-keep.ensures.keeps c.in_err-keep.ensures.counts)
+
+-- THE LINE
+
+pub tell_lines-requires-clause-up : goal.tell_lines-requires-clause-up
+tell_lines-requires-clause-up g c = c.in_ok-keep.ensures.works.may.up
+
+pub tell_lines-requires-clause-none : goal.tell_lines-requires-clause-none
+tell_lines-requires-clause-none g c = c.in_ok-keep.ensures.works.work.none
+
+pub tell_lines-requires-clause-kept : goal.tell_lines-requires-clause-kept
+tell_lines-requires-clause-kept g c told =
+    let y = c.keep.new.complex in
+    let h = c.args.holder in
+    let w = c.in_ok-keep.ensures.works in
+    let now = (g.P.Plant.view y.plant).now in
+    let small : c.args.holder.step < 2 ^ 64 = omega arith in
+    let kept : AreKeptFrom h.by h.step y.journal.batches now = subst (λ (i : MemberId). AreKeptFrom i h.step y.journal.batches now) (sym w.own) w.step in
+    subst (λ (ls : List (List ℕ)). TellKept ls y.journal.batches now) (sym c.in-Ok.ensures) (closing_tells h.by h.step small y.journal.batches now kept c.args.end.now)
+
+pub returns-in_err-tell_lines-clause-run : goal.returns-in_err-tell_lines-clause-run
+returns-in_err-tell_lines-clause-run g c =
+    let t = c.tell_lines.ensures in
+    let n = c.keep.new.member in
+    same_run c.keep.new.complex c.tell_lines.new.complex n n c.args.holder t.base t.since t.renewals t.book refl ∙ c.keep.ensures.run
+
+pub returns-in_err-tell_lines-clause-serves : goal.returns-in_err-tell_lines-clause-serves
+returns-in_err-tell_lines-clause-serves g c =
+    let P = g.P.Plant in
+    let x = c.args.complex.now in
+    let y = c.keep.new.complex in
+    let z = c.tell_lines.new.complex in
+    let m = c.args.member.now in
+    let n = c.keep.new.member in
+    let h = c.args.holder in
+    let t = c.tell_lines.ensures in
+    let o = c.in_ok-keep.ensures in
+    let lines = closing_line h.by h.step c.args.end.now ∷ [] in
+    let q = err_from_is_err_and c.from_residual-in_err-tell_lines.result c.from_residual-in_err-tell_lines.ensures.1 in
+    let said = closes_said y z n h o.works t.pair t.journal t.current t.placed lines (Err _) (rw c.in-Ok.ensures at c.in_err-tell_lines.ensures.said) in
+    rw (q.1, q.2) (played_close P.tells h (IsWithinLine h (unwritten m.batch)) c.args.given {S = Unit {0}} _ (Err _) lines (place_of x m) (outside y) (outside z) tt (own_batch x m h c.requires.works) (line_within h m.batch c.args.end.now c.requires.closes)
+    (λ told. apart_then (outside x) (outside y) (outside z) o.keeps.course.goes.later said.course.goes (c.keep.ensures.spares told) (said_apart y z t.said.acts told)) o.keeps o.counts (closes_err P.tells h.by _ lines [] (outside y) (outside z) said) t.printed)
+
+pub returns-clause-run : goal.returns-clause-run
+returns-clause-run g c =
+    let t = c.tell_lines.ensures in
+    let n = c.keep.new.member in
+    same_run c.keep.new.complex c.tell_lines.new.complex n n c.args.holder t.base t.since t.renewals t.book refl ∙ c.keep.ensures.run
+
+pub returns-clause-serves : goal.returns-clause-serves
+returns-clause-serves g c =
+    let P = g.P.Plant in
+    let x = c.args.complex.now in
+    let y = c.keep.new.complex in
+    let z = c.tell_lines.new.complex in
+    let m = c.args.member.now in
+    let n = c.keep.new.member in
+    let h = c.args.holder in
+    let t = c.tell_lines.ensures in
+    let o = c.in_ok-keep.ensures in
+    let lines = closing_line h.by h.step c.args.end.now ∷ [] in
+    let said = closes_said y z n h o.works t.pair t.journal t.current t.placed lines (Ok _) (rw c.in-Ok.ensures at c.in_ok-tell_lines.ensures.said) in
+    played_close P.tells h (IsWithinLine h (unwritten m.batch)) c.args.given {S = Unit {0}} _ (Ok _) lines (place_of x m) (outside y) (outside z) (refl, refl, c.release_of-release.ensures) (own_batch x m h c.requires.works) (line_within h m.batch c.args.end.now c.requires.closes)
+    (λ told. apart_then (outside x) (outside y) (outside z) o.keeps.course.goes.later said.course.goes (c.keep.ensures.spares told) (said_apart y z t.said.acts told)) o.keeps o.counts (closes_ok P.tells h.by _ _ lines [] (outside y) (outside z) said) t.printed
+
+pub returns-clause-seat : goal.returns-clause-seat
+returns-clause-seat g c =
+    let t = c.tell_lines.ensures in
+    let o = c.in_ok-keep.ensures in
+    seat_said c.keep.new.complex c.tell_lines.new.complex c.keep.new.member c.args.holder o.works t.pair t.journal t.current t.placed o.nothing t.base t.since t.book t.reserved t.first t.second t.level t.said.acts
+
+pub returns-clause-reached : goal.returns-clause-reached
+returns-clause-reached g c = rw c.tell_lines.ensures.level c.in_ok-keep.ensures.reached

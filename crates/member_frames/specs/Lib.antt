@@ -1,0 +1,4 @@
+pub mod Nexts
+pub mod Arriving
+pub mod Plays
+pub mod Waits

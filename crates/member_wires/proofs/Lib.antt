@@ -1,0 +1,3 @@
+mod OnLine
+mod Reading
+mod Exchanging
