@@ -6,6 +6,7 @@ use Rattle.lock_cycle.specs.Books.{IsMember}
 use Rattle.script_lang.specs.declared.types.Step.{Step}
 use Rattle.spool_plant.specs.declared.plant.Plant.{Ghosts as PlantGhosts}
 use Rattle.spool_plant.specs.View.{View}
+use Rattle.spool_plant.specs.Acts.{SameWires}
 use Rattle.ckpt_copy.specs.declared.copying.Copying.{Ghosts as CopyGhosts}
 use Rattle.mas_complex.specs.Paper.{counts_of}
 use Rattle.mas_complex.specs.declared.renewals.Renewals.{Renewals}
@@ -26,11 +27,13 @@ use Rattle.mas_run.specs.LinesPlayed.{HasPlayedLine, is_of_member}
 use Rattle.mas_run.specs.Renewing.{RenewsAs}
 use Rattle.mas_run.specs.Shows.{IsFlight, IsShown}
 use Rattle.mas_run.proofs.BookLemmas.{Since}
-use Rattle.mas_run.proofs.LeftLemmas.{found_left, passed_uncut}
+use Rattle.mas_run.proofs.LeftLemmas.{found_left, given_left, passed_uncut}
 use Rattle.mas_run.proofs.NextLemmas.{Stands, left_since, shown_next, stopped_count}
 use Rattle.mas_run.proofs.RenewedLemmas.{renews_later}
 use Rattle.mas_run.proofs.StopLemmas.{passed_error, passed_stopped}
 use Rattle.mas_run.proofs.UnsaidLemmas.{PassedSo, passed_unsaid}
+use Rattle.mas_run.proofs.WireLemmas.{carries_as, carries_later}
+use Rattle.mas_run.specs.Wires.{Carries}
 
 module _ {P C : Type 0} (plants : PlantGhosts P) (copies : CopyGhosts C) (told : Type 0) (tells : told → plants.tells) (S : Scene) (at : ℕ) (step : Step)
     (member : is_of_member step.what ≡ true) (x y : Parts P C) (base : y.base ≡ x.base) (shown : IsShown plants copies told S x) (was : Stands plants x) where
@@ -44,6 +47,11 @@ module _ {P C : Type 0} (plants : PlantGhosts P) (copies : CopyGhosts C) (told :
   journal_as : (g : Given) (when : ℕ) (own bs : List Batch) → bs ≡ settle (fate_found (admitted_at (line g)) g.sight) when (journal_of x) ++ own
       → bs ≡ settle (played_at (line g)).outcome.found when (journal_of x) ++ own
   journal_as g when own bs is = is ∙ ap (λ (f : Fate). settle f when (journal_of x) ++ own) (sym (found_left (line g) member))
+
+  -- the bytes that it gave and took, in the words of a run
+  wires_of : (since : ℕ) (old new : View) (l : LineAt) → is_of_member l.step.what ≡ true → Carries since l (admitted_at l) (left_at l).given old new
+      → Carries since l (admitted_at l) (played_at l).outcome.given old new
+  wires_of since old new l is c = carries_as since l (admitted_at l) (left_at l).given (played_at l).outcome.given old new (sym (given_left l is)) c
 
   -- IT WASN'T CUT
 
@@ -61,6 +69,7 @@ module _ {P C : Type 0} (plants : PlantGhosts P) (copies : CopyGhosts C) (told :
           moment = left.moment;
           batches = journal_as g left.at left.own (journal_of y) left.journal;
           renews = at_left.renews;
+          wires = λ t. wires_of x.since (v x) (v y) (line g) member (left.wires t);
         };
         shows = shown_next plants copies told (line g) x y member left base was now shown left.book since (λ t up. left.count t (since.up step.by up));
       }
@@ -80,6 +89,7 @@ module _ {P C : Type 0} (plants : PlantGhosts P) (copies : CopyGhosts C) (told :
           moment = left.moment;
           batches = journal_as g left.at left.own (journal_of y) left.journal;
           renews = at_left.renews;
+          wires = λ t. wires_of x.since (v x) (v y) (line g) member (left.wires t);
         };
         shows = tt;
       }
@@ -104,6 +114,9 @@ module _ {P C : Type 0} (plants : PlantGhosts P) (copies : CopyGhosts C) (told :
         subst (λ (rs : Renewals). RenewsAs a cut found x.renewals rs (v x) (v z)) (sym (ap (λ (w : Parts P C). w.renewals) frame))
         (renews_later a cut found x.renewals y.renewals (v x) (v y) (v z) later r)
 
+    wires_said : (l : LineAt) → is_of_member l.step.what ≡ true → SameWires (v y) (v z) → Carries x.since l (admitted_at l) (left_at l).given (v x) (v y) → Carries x.since l (admitted_at l) (played_at l).outcome.given (v x) (v z)
+    wires_said l is same c = wires_of x.since (v x) (v z) l is (carries_later x.since l (admitted_at l) (left_at l).given (v x) (v y) (v z) same c)
+
     journal_said : journal_of z ≡ journal_of y
     journal_said = ap journal_of frame
 
@@ -121,6 +134,7 @@ module _ {P C : Type 0} (plants : PlantGhosts P) (copies : CopyGhosts C) (told :
             moment = (left.moment.0, let up = said.acts.goes.later in let before = left.moment.1 in omega (arith, up, before));
             batches = journal_said ∙ journal_as g left.at left.own (journal_of y) left.journal;
             renews = renews_said g.sight.cut g.sight.renewed said.acts.goes.later at_left.renews;
+            wires = λ t. wires_said (line g) member (said.acts.wires (tells t)) (left.wires t);
           };
           shows = shown_said (played_at (line g)).next
               (shown_next plants copies told (line g) x y member left base was now shown left.book (left_since (line g) inside) (stopped_count plants copies told (line g) x y left inside));
@@ -142,6 +156,7 @@ module _ {P C : Type 0} (plants : PlantGhosts P) (copies : CopyGhosts C) (told :
             batches = journal_said ∙ journal_as so.0 left.at left.own (journal_of y)
                 (left.journal ∙ ap (λ (f : Fate). settle f left.at (journal_of x) ++ left.own) (sym so.1));
             renews = renews_said so.0.sight.cut so.0.sight.renewed said.acts.goes.later (so.3 x.renewals y.renewals (v y) at_left.renews);
+            wires = λ t. wires_said (line so.0) member (said.acts.wires (tells t)) (so.4 x.since (v y) (left.wires t));
           };
           shows = tt;
         }

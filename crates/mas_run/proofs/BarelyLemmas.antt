@@ -21,9 +21,6 @@ use Rattle.mas_run.proofs.BeginLemmas.{bare_pieces, bare_shaped, barely_none, be
 use Rattle.mas_run.proofs.CopiesLemmas.{copies_none, leaves_same}
 use Rattle.mas_run.proofs.RenewedLemmas.{renews_unbegun}
 use Rattle.mas_run.proofs.SceneLemmas.{LineDone, left_so}
-use Rattle.mas_run.proofs.StayLemmas.{if_stays}
-use Rattle.member_node.specs.Calls.{none_lost}
-use Rattle.member_node.proofs.CourseLemmas.{stay_none}
 
 abbrev short : Result (Unit {0}) NodeNo
 short = Err no_node.NoMemory
@@ -40,13 +37,13 @@ module _ {P C : Type 0} {plants : PlantGhosts P} {steadies : SteadyGhosts C} {co
   bare_here S a adm =
       left_so plants copies ⊥ S at by what a _ p p short adm (renews_unbegun a Ends Replaced p.renewals (plants.view x.plant))
       (begun_left plants copies ⊥ (λ t. absurd t) S at (line_by by what) a (bare_pieces S by at a) p p no_node.NoMemory tt (barely_none plants by (is_takeover a) p)
-      (inr (bare_shaped S at (line_by by what) Ends a (plants.view x.plant) (plants.view x.plant))) (λ t. absurd t) tt (λ t. absurd t))
+      (inr (bare_shaped S at (line_by by what) Ends a (plants.view x.plant) (plants.view x.plant))) (λ t. absurd t) tt)
 
   told_here : plants.tells → (S : Scene) (a : Admission) → admitted S.queue.config S.book by what ≡ a → LeftAt plants copies (Unit {0}) S at (line_by by what) p p short
   told_here tells S a adm =
       left_so plants copies (Unit {0}) S at by what a _ p p short adm (renews_unbegun a Ends Replaced p.renewals (plants.view x.plant))
       (begun_left plants copies (Unit {0}) (λ t. tells) S at (line_by by what) a (queue_pieces S at (line_by by what) Ends a) p p no_node.NoMemory tt (barely_none plants by (is_takeover a) p)
-      (inl tt) (λ t. queue_right S at (line_by by what) Ends a) tt (λ t. if_stays a _ (stay_none none_lost (plants.view x.plant))))
+      (inl tt) (λ t. queue_right S at (line_by by what) Ends a) tt)
 
   kept : KeepCopies plants p p short
   kept =

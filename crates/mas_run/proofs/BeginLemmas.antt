@@ -9,13 +9,13 @@ use Rattle.mas_types.specs.Closings.{reply_lines}
 use Rattle.script_lang.specs.declared.types.Step.{Step}
 use Rattle.spool_plant.specs.declared.plant.Plant.{Ghosts as PlantGhosts}
 use Rattle.spool_plant.specs.View.{Line, View, paper_now}
-use Rattle.spool_plant.specs.Acts.{Goes, Rose}
+use Rattle.spool_plant.specs.Acts.{Goes, Rose, SameWires}
 use Rattle.ckpt_copy.specs.declared.copying.Copying.{Ghosts as CopyGhosts}
 use Rattle.mas_complex.specs.Paper.{SamePapers, counts_of}
 use Rattle.mas_complex.specs.Parts.{Parts}
 use Rattle.member_hand.specs.Cuts.{AreBatched, ArePart, AtCut, IsBroken, IsHaltBy, IsTight, cause_by}
 use Rattle.member_hand.specs.Found.{IsFoundAt, Wait}
-use Rattle.member_node.specs.Calls.{console_now, none_lost}
+use Rattle.member_node.specs.Calls.{VolumesStay, console_now, none_lost}
 use Rattle.member_node.specs.declared.member.NodeNo.{NodeNo}
 use Rattle.member_node.specs.Spares.{Spares, is_stop}
 use Rattle.member_sittings.specs.Sat.{journal_of}
@@ -46,14 +46,15 @@ use Rattle.mas_run.proofs.LinesLemmas.{settle_none}
 use Rattle.mas_run.proofs.PassedLemmas.{proceeds_of}
 use Rattle.spool_plant.specs.declared.plant.Part.TheVariants.{Disk}
 use Rattle.ckpt_copy.specs.Moments.{goes_none}
-use Rattle.member_node.proofs.CourseLemmas.{papers_none}
+use Rattle.member_node.proofs.CourseLemmas.{papers_none, stay_none, wires_none}
 use Rattle.member_node.proofs.SpareLemmas.{spares_none}
 use Rattle.member_hand.specs.Plays.{IsOwnPiece}
 use Rattle.step_turns.specs.declared.states.Holder.{Holder}
 use Rattle.mas_run.proofs.VolumeLemmas.{kept_none}
 use Rattle.mas_types.specs.declared.commands.Reply.TheVariants as reply
 use Rattle.member_node.specs.declared.member.NodeNo.TheVariants as no_node
-use Rattle.mas_run.proofs.StayLemmas.{Stays, stays_any}
+use Rattle.mas_run.proofs.StayLemmas.{stays_any}
+use Rattle.mas_run.proofs.WireLemmas.{carries_none}
 
 -- WHERE IT WAS CUT
 
@@ -144,6 +145,12 @@ module _ (by : MemberId) (cause : Cause) (play : Play) (count : ℕ) where
     first [] = refl
     first (p ∷ ps) = refl
 
+  begun_given : begun.given ≡ []
+  begun_given = first play.pieces where
+    first : (ps : List Piece) → (first_of ps).given ≡ []
+    first [] = refl
+    first (p ∷ ps) = refl
+
 -- acts in which nothing was given, said or printed
 pub record HasBarelyBegun {P C : Type 0} (plants : PlantGhosts P) (reads : List ℕ → Option (List ℕ)) (by : MemberId) (takes : Bool) (x y : Parts P C) (e : NodeNo) : Type 0 where
   pub goes : Goes (plants.view x.plant) (plants.view y.plant)
@@ -152,7 +159,9 @@ pub record HasBarelyBegun {P C : Type 0} (plants : PlantGhosts P) (reads : List 
   pub loses : plants.tells → LosesAs reads (taking takes Flying) None (plants.view x.plant) (plants.view y.plant)
   pub console : plants.tells → console_now (plants.view y.plant) ≡ console_now (plants.view x.plant)
   pub papers : plants.tells → SamePapers (plants.view x.plant) (plants.view y.plant)
+  pub wires : plants.tells → SameWires (plants.view x.plant) (plants.view y.plant)
   pub volumes : plants.tells → AreVolumesKept (plants.view x.plant) (plants.view y.plant)
+  pub stay : VolumesStay none_lost (plants.view x.plant) (plants.view y.plant)
   pub journal : journal_of y ≡ journal_of x
   pub printed : y.printed ≡ x.printed
 
@@ -164,7 +173,9 @@ barely_none plants by takes x = record {
   loses = λ t d. inl refl;
   console = λ t. refl;
   papers = λ t. papers_none (plants.view x.plant);
+  wires = λ t. wires_none (plants.view x.plant);
   volumes = λ t. kept_none (plants.view x.plant);
+  stay = stay_none none_lost (plants.view x.plant);
   journal = refl;
   printed = refl;
 }
@@ -199,15 +210,15 @@ module _ {P C : Type 0} (plants : PlantGhosts P) (copies : CopyGhosts C) (told :
     paper_same t m = acted.papers (tells t) (v y).now acted.goes.later (let same : (v y).now ≤ (v y).now = omega arith in same) m
 
     pub begun_left : told ⊎ IsShapedAs l (v x) (v y) a → (told → ArePiecesOf S step.by at a l.given) → IfRuns {T = Unit {0}} (Err e) (y.book ≡ (left_as l a).book)
-        → (told → Stays a none_lost (v x) (v y)) → HasLeftAs plants copies told l a x y (Err e)
-    begun_left shaped right book stay = record {
+        → HasLeftAs plants copies told l a x y (Err e)
+    begun_left shaped right book = record {
       goes = proceeds_of (v x) (v y) acted.goes;
       stays = λ d other. acted.goes.lost (Disk d);
       arms = acted.goes.arms;
       shaped = shaped;
       right = right;
       honest = λ t. All-nil (λ (w : Wait). IsFoundAt S.queue.config.groups step.by (v x) (v y) w.queue w.state (calm w.queue w.state));
-      stay = λ t. stays_any a (named_as l a sight.cut) (v x) (v y) (stay t);
+      stay = λ t. stays_any (named_as l a sight.cut) (v x) (v y) acted.stay;
       cut = record { there = begun_there (pieces_as l a) (cause_by e); halt = begun_halt e may; cause = refl };
       tight = if_idle (is_work a) _ (begun_tight e (cause_by e) (pieces_as l a));
       broke = λ t. begun_broke e (cause_by e) (pieces_as l a);
@@ -230,6 +241,7 @@ module _ {P C : Type 0} (plants : PlantGhosts P) (copies : CopyGhosts C) (told :
       other_counts = λ t m other. ap (λ (p : List ℕ). counts_of p m) acted.printed;
       loses = λ t. subst (λ (f : Fate). LosesAs copies.reads (taking (is_takeover a) f) None (v x) (v y)) (sym (none_found a (cause_by e))) (acted.loses (tells t));
       volumes = λ t leaves. acted.volumes (tells t);
+      wires = λ t. carries_none x.since l a (left_as l a).given (v x) (v y) (begun_given step.by (cause_by e) (play_as l a) (S.counts step.by)) (acted.wires (tells t)) tt;
     }
 
 -- PIECES of a line that gave none: those of its admission that are as short as can be, and those that its queue gives

@@ -1,6 +1,6 @@
 -- Where neither a volume nor a printer failed, a step finds what it finds where nothing is lost, so that its pieces have the
 -- same sittings, and a line leaves the same but for what it printed.
-use Rattle.std.proofs.Common.{◌≡◌, ◌≢◌, ℕ, zero, suc, ◌+◌, ◌≤◌, Bool, true, false, List, [], ◌∷◌, drop, length, take, All, Option, Some, None, refl, sym, ◌∙◌, ap, subst, arith}
+use Rattle.std.proofs.Common.{◌≡◌, ◌≢◌, ℕ, zero, suc, ◌+◌, ◌≤◌, Bool, true, false, if◌then◌else◌, List, [], ◌∷◌, drop, length, take, All, Option, Some, None, refl, sym, ◌∙◌, ap, subst, arith}
 use Rattle.std.specs.Option.{option_map_or}
 use Rattle.std.proofs.lemmas.List.Elements.{All-head, All-tail}
 use Rattle.mas_types.specs.declared.ids.Dev.TheVariants.{Spool}
@@ -22,12 +22,14 @@ use Rattle.job_outcome.specs.declared.outcomes.Read.TheVariants as read
 use Rattle.member_work.specs.Looks.{as_it_is}
 use Rattle.member_work.specs.Rounds.{IsReadAs, IsSpoolLost}
 use Rattle.member_sittings.specs.Asides.{deck_found}
-use Rattle.member_units.specs.Asides.{printed_found, read_found}
+use Rattle.member_asides.specs.Asides.{printed_found, read_found}
 use Rattle.member_hand.specs.Cuts.{whole_pieces}
 use Rattle.member_hand.specs.Found.{FindsJob, FindsOutput, FindsWritten, IsFoundAt, Wait, waits_in}
 use Rattle.step_turns.specs.Courses.{holder_then}
 use Rattle.step_turns.specs.Entries.{all_entries}
+use Rattle.step_turns.specs.Courses.{Finds}
 use Rattle.step_turns.specs.Examples.{calm, text_of, with_text}
+use Rattle.step_turns.specs.Laws.{on_line}
 use Rattle.step_turns.specs.Sittings.{Sitting, sit}
 use Rattle.step_turns.specs.States.{nothing_found}
 use Rattle.step_turns.specs.declared.states.Aside.TheVariants.{Acknowledge, Exchange, PrintLines, ReadText, SpoolArrival, SpoolDeck, SpoolOutputs}
@@ -40,7 +42,7 @@ use Rattle.run_turns.specs.Cuts.{Left, adds, adds_all, adds_first, adds_part, cu
 use Rattle.run_turns.specs.Pieces.{Piece, Play, piece_at, piece_of, pieces_from, unless_told}
 use Rattle.run_turns.specs.Scenes.{count_then}
 use Rattle.run_turns.specs.Sights.{Cut, Halt, Saying, Sight, Waiting, Writing}
-use Rattle.mas_run.specs.Calm.{calmed}
+use Rattle.mas_run.specs.Calm.{calm_but, calmed}
 
 -- WHAT WAS FOUND
 
@@ -78,17 +80,23 @@ module _ (per : ℕ) (by : MemberId) (old new : View) (volumes : (n : ℕ) → R
       ∙ ap read_found (read_calm is.output.text _ found.read is.as_had)
       ∙ sym (ap (λ (p : Option Output). option_map_or (λ (o : Output). with_text o.text) p nothing_found) is.there)
 
-  pub found_calm : (Q : Queue) (s : State) (found : Found) → IsFoundAt per by old new Q s found → found ≡ calm Q s
-  found_calm Q (Away (SpoolDeck n text)) found is = written_calm _ found is
-  found_calm Q (Away (ReadText runs n fields p)) found is = job_calm Q n found is
-  found_calm Q (Away (SpoolOutputs n specs p)) found is = written_calm _ found is
-  found_calm Q (Away (PrintLines n i last p)) found is = output_calm Q n i found is
-  found_calm Q (Away (Exchange l offer)) found is = absurd is
-  found_calm Q (Away (SpoolArrival number job cards service)) found is = absurd is
-  found_calm Q (Away (Acknowledge number service)) found is = absurd is
-  found_calm Q (Fresh task) found is = is
-  found_calm Q (Rested p) found is = is
-  found_calm Q Told found is = is
+  off_calm : (Q : Queue) (s : State) (found : Found) → on_line s ≡ false → IsFoundAt per by old new Q s found → found ≡ calm Q s
+  off_calm Q (Away (SpoolDeck n text)) found off is = written_calm _ found is
+  off_calm Q (Away (ReadText runs n fields p)) found off is = job_calm Q n found is
+  off_calm Q (Away (SpoolOutputs n specs p)) found off is = written_calm _ found is
+  off_calm Q (Away (PrintLines n i last p)) found off is = output_calm Q n i found is
+  off_calm Q (Away (Exchange l offer)) found off is = absurd (cc)
+  off_calm Q (Away (SpoolArrival number job cards service)) found off is = absurd (cc)
+  off_calm Q (Away (Acknowledge number service)) found off is = absurd (cc)
+  off_calm Q (Fresh task) found off is = is
+  off_calm Q (Rested p) found off is = is
+  off_calm Q Told found off is = is
+
+  pub found_calm : (finds : Finds) (Q : Queue) (s : State) → IsFoundAt per by old new Q s (finds Q s) → finds Q s ≡ calm_but finds Q s
+  found_calm finds Q s is = by_line (on_line s) refl where
+    by_line : (line : Bool) → on_line s ≡ line → finds Q s ≡ (if line then finds Q s else calm Q s)
+    by_line true on = refl
+    by_line false off = off_calm Q s (finds Q s) off is
 
 -- THE SITTINGS are the same in so many pieces, and in the one after them
 
@@ -113,9 +121,9 @@ unless_same (Rested p) ps untold = refl
 
 module _ (sight : Sight) where
   abbrev pub IsCalm : Wait → Type 0
-  IsCalm w = sight.finds w.queue w.state ≡ calm w.queue w.state
+  IsCalm w = sight.finds w.queue w.state ≡ calm_but sight.finds w.queue w.state
 
-  pub from_alike : (more n count count' : ℕ) (Q : Queue) (h : Holder) (s : State) → sit Q h s (sight.finds Q s) ≡ sit Q h s (calm Q s)
+  pub from_alike : (more n count count' : ℕ) (Q : Queue) (h : Holder) (s : State) → sit Q h s (sight.finds Q s) ≡ sit Q h s (calm_but sight.finds Q s)
       → All IsCalm (waits_in (take n (pieces_from more sight count Q h s)) Q) → Alike n (pieces_from more sight count Q h s) (pieces_from more (calmed sight) count' Q h s)
   from_alike zero n count count' Q h s same calms = tt
   from_alike (suc more) zero count count' Q h s same calms = same

@@ -8,7 +8,10 @@ use Rattle.lock_cycle.specs.Books.{Book, after_stop}
 use Rattle.script_lang.specs.declared.types.Ask.{Ask}
 use Rattle.script_lang.specs.declared.types.Ask.TheVariants as ask
 use Rattle.script_lang.specs.declared.types.Step.{Step}
-use Rattle.step_turns.specs.Courses.{task_most}
+use Rattle.step_turns.specs.Courses.{Finds, task_most}
+use Rattle.step_turns.specs.Examples.{calm}
+use Rattle.step_turns.specs.Laws.{on_line}
+use Rattle.step_turns.specs.declared.states.Found.{Found}
 use Rattle.step_turns.specs.declared.states.State.TheVariants.{Fresh}
 use Rattle.member_hand.specs.Cuts.{whole_pieces}
 use Rattle.member_hand.specs.Found.{waits_in}
@@ -22,7 +25,7 @@ use Rattle.run_turns.specs.Givens.{RightIf}
 use Rattle.run_turns.specs.Runs.{outcomes_from, outcomes_if}
 use Rattle.run_turns.specs.Sights.{Sight, clear}
 use Rattle.run_turns.specs.Steps.{Outcome, Played, cause_of, flight_then, is_up, played, played_as, played_ask, said_by, silent, stopped_lines}
-use Rattle.mas_run.specs.Calm.{calmed}
+use Rattle.mas_run.specs.Calm.{calm_but, calmed}
 use Rattle.mas_run.proofs.CalmLemmas.{Alike, IsCalm, bare, from_alike, left_bare}
 
 alike_same : (n : ℕ) (ps : List Piece) → Alike n ps ps
@@ -175,8 +178,16 @@ AreCalm S at sights (step ∷ steps) =
     let s = get_or sights 0 clear in
     IsCalmAsk S step.by at s step.what × RightIf (played S at s step).goes_on (AreCalm (played S at s step).next (at + 1) (drop 1 sights) steps)
 
+one_found : (line : Bool) (found : Found) → (if line then found else found) ≡ found
+one_found true found = refl
+one_found false found = refl
+
+-- what is calm already stays
+calm_stays : calm_but calm ≡ calm
+calm_stays = λ i Q s. one_found (on_line s) (calm Q s) i
+
 first_sight : (sights : List Sight) → get_or (map calmed sights) 0 clear ≡ calmed (get_or sights 0 clear)
-first_sight [] = refl
+first_sight [] = ap (λ (finds : Finds). record clear { finds = finds }) (sym calm_stays)
 first_sight (s ∷ ss) = refl
 
 rest_sights : (sights : List Sight) → drop 1 (map calmed sights) ≡ map calmed (drop 1 sights)

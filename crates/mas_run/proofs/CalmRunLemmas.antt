@@ -51,7 +51,7 @@ module _ (S : Scene) (by : MemberId) (at : ℕ) (g : Given) (old new : View) (vo
       let Q = queue_met S a g.sight in
       let finds = g.sight.finds in
       All-weaker (λ (w : Wait). IsFoundAt S.queue.config.groups by old new w.queue w.state (finds w.queue w.state)) (IsCalm g.sight)
-      (λ w is. found_calm S.queue.config.groups by old new volumes printer w.queue w.state (finds w.queue w.state) is) _
+      (λ w is. found_calm S.queue.config.groups by old new volumes printer finds w.queue w.state is) _
       (subst (λ (qs : List Piece). All (λ (w : Wait). IsFoundAt S.queue.config.groups by old new w.queue w.state (finds w.queue w.state)) (waits_in (take (whole_pieces g.sight.cut qs) qs) Q))
       (ap (λ (ps : List Piece). pieces_found (is_locked a) (flight_met S a g.sight) ps) right) honest)
 

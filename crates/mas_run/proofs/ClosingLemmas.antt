@@ -17,14 +17,14 @@ use Rattle.lock_cycle.specs.Books.{is_stopped}
 use Rattle.spool_plant.specs.declared.plant.Part.TheVariants.{Console}
 use Rattle.spool_plant.specs.declared.plant.Plant.{Ghosts as PlantGhosts}
 use Rattle.spool_plant.specs.View.{Line, View, paper_now}
-use Rattle.spool_plant.specs.Acts.{Rose}
+use Rattle.spool_plant.specs.Acts.{Rose, SameWires}
 use Rattle.ckpt_copy.specs.declared.copying.Copying.{Ghosts as CopyGhosts}
 use Rattle.mas_complex.specs.Paper.{SamePapers, counts_of}
 use Rattle.mas_complex.specs.Parts.{Parts}
 use Rattle.member_hand.specs.Cuts.{AreBatched, AtCut, IsBroken, IsTight, cause_by, whole_pieces}
 use Rattle.member_hand.specs.Found.{AreFoundIn, IsFoundAt, Wait, waits_in}
 use Rattle.member_lines.specs.Closes.{IsCutAs, at_line, before_line}
-use Rattle.member_node.specs.Calls.{console_now, none_lost}
+use Rattle.member_node.specs.Calls.{VolumesStay, console_now, none_lost}
 use Rattle.member_node.specs.declared.member.NodeNo.{NodeNo}
 use Rattle.member_node.specs.declared.member.NodeNo.TheVariants as no_node
 use Rattle.member_node.specs.Spares.{Spares, stopped_in}
@@ -47,7 +47,9 @@ use Rattle.mas_run.specs.Shapes.{IsShapedAs}
 use Rattle.mas_run.specs.Volumes.{AreVolumesKept}
 use Rattle.mas_run.proofs.LeftLemmas.{if_idle}
 use Rattle.mas_run.proofs.LinesLemmas.{settle_none}
-use Rattle.mas_run.proofs.StayLemmas.{Stays, stays_any}
+use Rattle.mas_run.proofs.StayLemmas.{stays_any}
+use Rattle.mas_run.proofs.WireLemmas.{carries_none, takes_none}
+use Rattle.mas_run.specs.Wires.{HeardFirst}
 
 -- HOW IT ENDED: whole, before its only line, or at it
 
@@ -121,6 +123,14 @@ module _ (line : List ℕ) (r : Release) where
     no_print (Unsaid cause) = refl
     no_print (Broken n tail cause) = refl
 
+    no_given : (e : Ending) → (left_by by (cut_by e) (so play) count).given ≡ []
+    no_given Whole = refl
+    no_given (Unsaid cause) = refl
+    no_given (Broken n tail cause) = refl
+
+    pub one_given : (e : Ending) → (left_by by (cut_by e) play count).given ≡ []
+    one_given e = ap (λ (l : Left). l.given) (left_so e) ∙ no_given e
+
     pub one_batches : (e : Ending) → (left_by by (cut_by e) play count).batches ≡ []
     one_batches e = ap (λ (l : Left). l.batches) (left_so e) ∙ no_batch e
 
@@ -182,6 +192,13 @@ module _ (line : List ℕ) (r : Release) where
   honest_one per by old new Q (Unsaid cause) = All-nil (HonestAt per by old new)
   honest_one per by old new Q (Broken n tail cause) = All-nil (HonestAt per by old new)
 
+-- and heard nothing
+heard_one : (line : List ℕ) (r : Release) (since : ℕ) (by : MemberId) (old new : View) (Q : Queue) (e : Ending) → SameWires old new
+    → HeardFirst since by old new calm (waits_in (take (whole_pieces (cut_by e) (one line r ∷ [])) (one line r ∷ [])) Q)
+heard_one line r since by old new Q Whole same = takes_none old new same
+heard_one line r since by old new Q (Unsaid cause) same = tt
+heard_one line r since by old new Q (Broken n tail cause) same = tt
+
 -- WHAT IT LEAVES
 
 -- a line at a scene that found this of a copy, and was cut so
@@ -211,8 +228,9 @@ pub record HasMerelyActed {P C : Type 0} (plants : PlantGhosts P) (by : MemberId
   pub failed : result ≡ Err no_node.ConsoleFault → Rose ((plants.view x.plant).faults Console) ((plants.view y.plant).faults Console)
   pub loses : plants.tells → (d : Dev) → (plants.view y.plant).loses d ≡ (plants.view x.plant).loses d
   pub papers : plants.tells → SamePapers (plants.view x.plant) (plants.view y.plant)
+  pub wires : plants.tells → SameWires (plants.view x.plant) (plants.view y.plant)
   pub volumes : plants.tells → AreVolumesKept (plants.view x.plant) (plants.view y.plant)
-  pub stay : Stays a none_lost (plants.view x.plant) (plants.view y.plant)
+  pub stay : VolumesStay none_lost (plants.view x.plant) (plants.view y.plant)
 
 module _ {P C : Type 0} (plants : PlantGhosts P) (copies : CopyGhosts C) (told : Type 0) (tells : told → plants.tells) (S : Scene) (at : ℕ) (step : Step)
     (a : Admission) (found : Renewed) (e : Ending) (ps : List Piece) (line : List ℕ) (r : Release) (x y : Parts P C) (result : Result (Unit {0}) NodeNo) where
@@ -259,7 +277,7 @@ module _ {P C : Type 0} (plants : PlantGhosts P) (copies : CopyGhosts C) (told :
       right = λ t. closer.right;
       honest = λ t. subst (λ (qs : List Piece). AreFoundIn S.queue.config.groups step.by (v x) (v y) calm (waits_in (take (whole_pieces (cut_by e) qs) qs) (queue_met S a l.given.sight)))
           (sym closer.pieces) (honest_one line r S.queue.config.groups step.by (v x) (v y) (queue_met S a l.given.sight) e);
-      stay = λ t. stays_any a (named_as l a (cut_by e)) (v x) (v y) acted.stay;
+      stay = λ t. stays_any (named_as l a (cut_by e)) (v x) (v y) acted.stay;
       cut = subst (λ (qs : List Piece). IsCutBy result qs (cut_by e)) (sym closer.pieces) (cut_one line r result e may);
       tight = subst (λ (qs : List Piece). IfIdle (is_work a) (AtCut (IsTight (ended_as result)) (cut_by e) qs)) (sym closer.pieces)
           (if_idle (is_work a) _ (tight_one line r (ended_as result) e));
@@ -281,6 +299,9 @@ module _ {P C : Type 0} (plants : PlantGhosts P) (copies : CopyGhosts C) (told :
       other_counts = λ t m other. ap (λ (p : List ℕ). counts_of p m) printed;
       loses = λ t d. inl (acted.loses (tells t) d);
       volumes = λ t leaves. acted.volumes (tells t);
+      wires = λ t. carries_none x.since l a (left_as l a).given (v x) (v y) (one_given line r step.by (play_as l a) (S.counts step.by) closer.pieces e) (acted.wires (tells t))
+          (subst (λ (qs : List Piece). HeardFirst x.since step.by (v x) (v y) calm (waits_in (take (whole_pieces (cut_by e) qs) qs) (queue_met S a l.given.sight)))
+          (sym closer.pieces) (heard_one line r x.since step.by (v x) (v y) (queue_met S a l.given.sight) e (acted.wires (tells t))));
     }
 
 -- THE FOUR ADMISSIONS that only close

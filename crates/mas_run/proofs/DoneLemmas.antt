@@ -1,6 +1,6 @@
 -- A line whose member got the lock by a try, and played a task with it or reset a stopped member; and a line that ended
 -- before its first act.
-use Rattle.std.proofs.Common.{◌≡◌, ℕ, ◌-◌, ◌≤◌, ◌<◌, false, List, length, set, All, Result, Ok, Err, OnOk, refl, sym, ◌∙◌, ap, subst, arith}
+use Rattle.std.proofs.Common.{◌≡◌, ℕ, ◌-◌, ◌≤◌, ◌<◌, false, List, length, set, take, All, Option, Some, Result, Ok, Err, OnOk, refl, sym, ◌∙◌, ap, subst, arith}
 use Rattle.mas_types.specs.declared.commands.Command.TheVariants as command
 use Rattle.mas_types.specs.declared.ids.MemberId.{MemberId}
 use Rattle.mas_types.specs.declared.queues.Config.{Config}
@@ -8,7 +8,7 @@ use Rattle.mas_types.specs.declared.queues.Queue.{Queue}
 use Rattle.mas_types.specs.Limits.{members_most, steps_most}
 use Rattle.lock_cycle.specs.Books.{Book, IsMember, after_try, is_stopped, left_of as hold_left}
 use Rattle.spool_plant.specs.declared.plant.Plant.{Ghosts as PlantGhosts}
-use Rattle.spool_plant.specs.View.{View}
+use Rattle.spool_plant.specs.View.{View, taken_now}
 use Rattle.ckpt_copy.specs.declared.copying.Copying.{Ghosts as CopyGhosts}
 use Rattle.ckpt_copy.specs.Moments.{goes_none}
 use Rattle.ckpt_form.specs.declared.steady.Steady.{Ghosts as SteadyGhosts}
@@ -20,7 +20,9 @@ use Rattle.member_node.specs.declared.member.Member.{Member}
 use Rattle.member_node.specs.declared.member.NodeNo.{NodeNo}
 use Rattle.member_sittings.specs.Sat.{journal_of}
 use Rattle.member_sittings.specs.Whole.{IsGivable, queue_of}
-use Rattle.member_hand.specs.Cuts.{IsBetweenSittings}
+use Rattle.member_hand.specs.Cuts.{IsBetweenSittings, whole_pieces}
+use Rattle.member_hand.specs.Found.{waits_in}
+use Rattle.member_hand.specs.Hears.{HearsStep}
 use Rattle.member_hand.specs.Locks.{MayHold}
 use Rattle.member_hand.specs.Plays.{HasPlayed, IsAfterStep, MayPlay, Played}
 use Rattle.member_hand.specs.Quiet.{IsQuiet, MayGoOn}
@@ -51,6 +53,10 @@ use Rattle.mas_run.proofs.StepLemmas.{plays_bare, plays_told}
 use Rattle.mas_run.proofs.TakenLemmas.{journal_still}
 use Rattle.mas_run.proofs.TestedLemmas.{copies_tested, line_tested}
 use Rattle.mas_run.proofs.ToldLemmas.{EachSays, closing_of}
+use Rattle.mas_run.proofs.WireLemmas.{ReadsLine, waits_on}
+use Rattle.mas_run.proofs.ReaderLemmas.{read_after}
+use Rattle.mas_run.specs.Wires.{HasRead}
+use Rattle.nje_frames.specs.Laws.{ReadsAnyPieces}
 use Rattle.mas_run.proofs.TurnedLemmas.{HasWritten, IsNowAside, turned_halted, turned_next}
 
 -- a task within the limits uses few levels, and few units
@@ -58,13 +64,13 @@ few_task : (Q : Queue) (by : MemberId) (task : Task) → MayBeAsked Q by task �
 few_task Q by (Give c) asked = tt
 few_task Q by (Deck fields text) asked = tt
 few_task Q by (Work n) asked = asked
-few_task Q by (Line l) asked = absurd asked
+few_task Q by (Line l) asked = tt
 
 few_units : (Q : Queue) (by : MemberId) (task : Task) → MayBeAsked Q by task → AreFewUnits (Fresh task)
 few_units Q by (Give c) asked = omega arith
 few_units Q by (Deck fields text) asked = omega arith
 few_units Q by (Work n) asked = omega (arith, asked)
-few_units Q by (Line l) asked = absurd asked
+few_units Q by (Line l) asked = tt
 
 not_told : (task : Task) → Fresh task ≡ Told → ⊥
 not_told task e = absurd (cc)
@@ -163,12 +169,12 @@ module _ {P C : Type 0} {plants : PlantGhosts P} {steadies : SteadyGhosts C} {co
 
     -- A TASK
 
-    module _ (task : Task) (asked : MayBeAsked x.base by task) (adm : Plays task ≡ admitted x.base.config x.book by what) (r : Result (Unit {0}) NodeNo)
-        (played : Played mid y m (begins h task) r) (after : OnOk r (IsAfterStep mid y m n (begins h task))) where
-      its : HasPlayed plants copies (begins k task) t q (length m.room) r
+    module _ (task : Task) (asked : MayBeAsked x.base by task) (adm : Plays task ≡ admitted x.base.config x.book by what) (was_read is_read : Option (List ℕ)) (r : Result (Unit {0}) NodeNo)
+        (played : Played mid y m (begins h task) was_read is_read r) (after : OnOk r (IsAfterStep mid y m n (begins h task))) (read : plants.tells → ReadsLine plants p by task was_read) where
+      pub its : HasPlayed plants copies (begins k task) t q (length m.room) was_read is_read r
       its =
-          subst (λ (j : Holder). HasPlayed plants copies (begins j task) t q (length m.room) r) its_holder
-          (subst (λ (w : Parts P C). HasPlayed plants copies (begins h task) w q (length m.room) r) frame played)
+          subst (λ (j : Holder). HasPlayed plants copies (begins j task) t q (length m.room) was_read is_read r) its_holder
+          (subst (λ (w : Parts P C). HasPlayed plants copies (begins h task) w q (length m.room) was_read is_read r) frame played)
 
       quiet_all : IsBetweenSittings its.cut → IsQuiet plants copies q (page_count x.base.config)
       quiet_all between = subst (λ (pages : ℕ). IsQuiet plants copies q pages) up.many (its.quiet between)
@@ -190,17 +196,26 @@ module _ {P C : Type 0} {plants : PlantGhosts P} {steadies : SteadyGhosts C} {co
       bare S shown =
           line_tested plants copies p b ⊥ S at (line_by by what) q r
           (left_so plants copies ⊥ S at by what (Plays task) _ t q r (admitted_here plants copies ⊥ S p shown by what (Plays task) adm) renewals_t
-          (plays_bare plants copies S at (line_by by what) task t q (length m.room) r (hold_left b by) (granted_by x.book by) (none_flies plants copies ⊥ S p shown calm.none)
+          (plays_bare plants copies S at (line_by by what) task t q (length m.room) was_read is_read r (hold_left b by) (granted_by x.book by) (none_flies plants copies ⊥ S p shown calm.none)
           (tried_here plants copies ⊥ S p shown by (Plays task) b refl) (holder_here ⊥ S shown (Plays task) refl) still its))
 
       told : plants.tells → LineIsLeft (Unit {0}) at (line_by by what) x y r
       told tells S shown =
           line_tested plants copies p b (Unit {0}) S at (line_by by what) q r
           (left_so plants copies (Unit {0}) S at by what (Plays task) _ t q r (admitted_here plants copies (Unit {0}) S p shown by what (Plays task) adm) renewals_t
-          (plays_told plants copies S at (line_by by what) task t q (length m.room) r (hold_left b by) (granted_by x.book by) (none_flies plants copies (Unit {0}) S p shown calm.none)
+          (plays_told plants copies S at (line_by by what) task t q (length m.room) was_read is_read r (hold_left b by) (granted_by x.book by) (none_flies plants copies (Unit {0}) S p shown calm.none)
           (tried_here plants copies (Unit {0}) S p shown by (Plays task) b refl) (holder_here (Unit {0}) S shown (Plays task) refl) still
           shown.queue (ap (λ (c : Config). c.groups) (sym (same_config plants copies (Unit {0}) S p shown)))
-          (shown.counts tt by (ap (λ (c : Book). is_stopped c by) (sym shown.book) ∙ got.is_up.up)) its (its.told tells) tells))
+          (shown.counts tt by (ap (λ (c : Book). is_stopped c by) (sym shown.book) ∙ got.is_up.up)) its (its.told tells) (read tells) tells))
+
+      -- the reader of its line goes on
+      pub reads_on : plants.tells → ReadsAnyPieces → r ≡ Ok tt → (line : ℕ) → task ≡ Line line → HasRead (((u p).world x.since).taken line by.0) (taken_now (u p) line by.0) (Some was_read)
+          → HasRead (((u p).world x.since).taken line by.0) (taken_now (u q) line by.0) (Some is_read)
+      reads_on tells law ok line same was =
+          let so = its.told tells in
+          read_after by (u p) (u q) was_read is_read task so.sight.finds (waits_in (take (whole_pieces so.sight.cut so.pieces) so.pieces) (queue_of t)) (((u p).world x.since).taken line by.0) line law
+          (subst (λ (k : Result (Unit {0}) NodeNo). HearsStep by (u p) (u q) was_read is_read (Fresh task) k so.sight.finds (waits_in (take (whole_pieces so.sight.cut so.pieces) so.pieces) (queue_of t))) ok so.hears)
+          (waits_on so.sight (counts_of t.printed by) (queue_of t) k task so.pieces (whole_pieces so.sight.cut so.pieces) so.is) same was
 
       pub plays_done : LineDone x y (set ms (by.0 - 1) n) at by what r
       plays_done = record {

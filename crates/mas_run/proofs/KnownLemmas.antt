@@ -34,7 +34,7 @@ use Rattle.script_lang.specs.declared.types.Ask.{Ask}
 use Rattle.script_laws.specs.Limits.{IsCopy}
 use Rattle.script_lang.specs.declared.types.Ask.TheVariants as ask
 use Rattle.script_laws.specs.Limits.{IsAsk, IsBy}
-use Rattle.step_turns.specs.declared.states.Task.TheVariants.{Deck, Give, Work}
+use Rattle.step_turns.specs.declared.states.Task.TheVariants.{Deck, Give, Line, Work}
 use Rattle.run_turns.specs.Admissions.{Admission, Denied, Frees, Locks, Plays, Refused, Replaces, Resets, TakesOver, Unplayed, admitted, asked, command_admitted, deck_admitted, denied_closing, if_granted, no_member, reset_admitted, resets, tries}
 use Rattle.member_sittings.specs.Whole.{IsGivable}
 use Rattle.member_hand.specs.Sits.{MayBeAsked}
@@ -221,7 +221,7 @@ module _ (Q : Queue) (config : IsConfig Q.config) (b : Book) (by : MemberId) whe
     known_asked (ask.Work n) is played = known_tries (Plays (Work n)) (up, played.fits.what.1)
     known_asked ask.Lock is played = known_tries Locks up
     known_asked ask.Free is played = known_free (is_holder b by) refl
-    known_asked (ask.Line n) is played = absurd (true_false (sym played.built))
+    known_asked (ask.Line n) is played = known_tries (Plays (Line n)) (up, played.fits.what)
     known_asked (ask.Replace dev) is played = known_tries (Replaces dev) (up, copy_ckpt dev played.fits.what)
     known_asked ask.Stop is played = absurd (true_false (sym is))
     known_asked (ask.StopIn fuse n) is played = absurd (true_false (sym is))

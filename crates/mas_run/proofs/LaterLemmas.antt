@@ -9,18 +9,20 @@ use Rattle.mas_types.specs.declared.ids.MemberId.{MemberId}
 use Rattle.mas_types.specs.declared.ids.Dev.TheVariants.{Spool}
 use Rattle.mas_types.specs.declared.jobs.Text.{Text}
 use Rattle.mas_types.specs.declared.queues.Queue.{Queue}
-use Rattle.spool_plant.specs.declared.plant.Part.TheVariants.{Disk, Printer}
+use Rattle.spool_plant.specs.declared.plant.Part.TheVariants.{Disk, Printer, Wire}
 use Rattle.spool_plant.specs.View.{View}
 use Rattle.job_outcome.specs.declared.outcomes.Read.{Read}
 use Rattle.job_outcome.specs.declared.outcomes.Read.TheVariants as read
 use Rattle.member_decks.specs.Steps.{IsFoundLost}
 use Rattle.member_node.proofs.CourseLemmas.{rose_more}
+use Rattle.member_wires.specs.Acts.{HasLineFailed}
 use Rattle.member_work.specs.Causes.{MayRefuse}
 use Rattle.member_work.specs.Rounds.{HasFailed, HasPrinterFailed, IsReadAs, IsSpoolLost}
 use Rattle.step_turns.specs.Courses.{Finds}
 use Rattle.step_turns.specs.Laws.{units_done, units_left}
 use Rattle.step_turns.specs.States.{nothing_found}
 use Rattle.step_turns.specs.declared.states.Found.{Found}
+use Rattle.step_turns.specs.declared.states.Offer.{Offer}
 use Rattle.step_turns.specs.declared.states.Holder.{Holder}
 use Rattle.step_turns.specs.declared.states.State.{State}
 use Rattle.step_turns.specs.declared.states.State.TheVariants.{Away, Fresh, Rested, Told}
@@ -28,7 +30,7 @@ use Rattle.step_turns.specs.declared.states.Task.{Task}
 use Rattle.step_turns.specs.declared.states.Task.TheVariants.{Deck, Give, Line, Work}
 use Rattle.step_turns.specs.declared.states.Aside.TheVariants.{Acknowledge, Exchange, PrintLines, ReadText, SpoolArrival, SpoolDeck, SpoolOutputs}
 use Rattle.member_sittings.specs.Shapes.{SaysAtEnd}
-use Rattle.member_hand.specs.Found.{AreFoundIn, IsFoundAt, Wait}
+use Rattle.member_hand.specs.Found.{AreFoundIn, FindsOffered, IsFoundAt, Wait}
 use Rattle.member_hand.specs.Shapes.{AreFewPieces, AreShaped, DeckLinesIn, SaysIn, WorkLinesIn}
 use Rattle.run_turns.specs.Pieces.{Piece}
 use Rattle.mas_run.specs.Lines.{Proceeds}
@@ -48,6 +50,12 @@ module _ (old mid new : View) (goes : Proceeds mid new) where
     rose = rose_more (old.faults (Printer by)) (mid.faults (Printer by)) (new.faults (Printer by)) failed.rose (goes.faults (Printer by));
   }
 
+  line_later : (l : ℕ) → HasLineFailed l old mid → HasLineFailed l old new
+  line_later l failed = record {
+    lost = goes.lost (Wire l) refl failed.lost;
+    rose = rose_more (old.faults (Wire l)) (mid.faults (Wire l)) (new.faults (Wire l)) failed.rose (goes.faults (Wire l));
+  }
+
   read_later : (told : Type 0) (per : ℕ) (text : Text) (groups : List GroupNo) (r : Read) → IsReadAs told per text groups (Some r) old mid → IsReadAs told per text groups (Some r) old new
   read_later told per text groups (read.Lines lines) is = is
   read_later told per text groups (read.Gone group) is = is
@@ -56,6 +64,10 @@ module _ (old mid new : View) (goes : Proceeds mid new) where
   spooled_later : (per : ℕ) (groups : List GroupNo) (lost : Option ℕ) → IsSpoolLost per groups lost old mid → IsSpoolLost per groups lost old new
   spooled_later per groups None is = tt
   spooled_later per groups (Some volume) is = failed_later per groups volume is
+
+  offered_later : (per : ℕ) (Q : Queue) (offer : Option Offer) (r : Read) → FindsOffered per Q offer r old mid → FindsOffered per Q offer r old new
+  offered_later per Q None r is = is
+  offered_later per Q (Some o) r is = (is.0, is.1, read_later (Unit {0}) per is.0.text _ r is.2)
 
   found_later : (per : ℕ) (by : MemberId) (Q : Queue) (s : State) (found : Found) → IsFoundAt per by old mid Q s found → IsFoundAt per by old new Q s found
   found_later per by Q (Away (SpoolDeck n text)) found is = record { only = is.only; lost = spooled_later per _ found.lost is.lost }
@@ -70,9 +82,10 @@ module _ (old mid new : View) (goes : Proceeds mid new) where
         there = is.there;
         as_had = read_later (Unit {0}) per is.output.text _ found.read is.as_had;
       }
-  found_later per by Q (Away (Exchange l offer)) found is = is
-  found_later per by Q (Away (SpoolArrival number job cards service)) found is = is
-  found_later per by Q (Away (Acknowledge number service)) found is = is
+  found_later per by Q (Away (Exchange l offer)) found is =
+      record { only = is.only; text = offered_later per Q offer found.read is.text; lost = λ lost. line_later l (is.lost lost); frames = is.frames }
+  found_later per by Q (Away (SpoolArrival number job cards service)) found is = record { only = is.only; lost = spooled_later per _ found.lost is.lost }
+  found_later per by Q (Away (Acknowledge number service)) found is = record { only = is.only; lost = λ lost. line_later service.line (is.lost lost) }
   found_later per by Q (Fresh task) found is = is
   found_later per by Q (Rested p) found is = is
   found_later per by Q Told found is = is

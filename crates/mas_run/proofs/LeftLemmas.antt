@@ -14,7 +14,7 @@ use Rattle.spool_plant.specs.View.{Line, View, paper_now}
 use Rattle.ckpt_copy.specs.declared.copying.Copying.{Ghosts as CopyGhosts}
 use Rattle.mas_complex.specs.Parts.{Parts}
 use Rattle.member_hand.specs.Cuts.{AreBatched, AtCut, IsBroken, IsTight}
-use Rattle.member_node.specs.Calls.{console_now}
+use Rattle.member_node.specs.Calls.{VolumesStay, console_now}
 use Rattle.member_node.specs.declared.member.NodeNo.{NodeNo}
 use Rattle.member_node.specs.declared.member.NodeNo.TheVariants as no_node
 use Rattle.spool_plant.specs.Acts.{next}
@@ -26,7 +26,7 @@ use Rattle.run_turns.specs.Givens.{Given, ask_with, play_with, played_with, AreP
 use Rattle.mas_run.specs.LinesAt.{LineAt, admitted_at, pieces_at, played_at}
 use Rattle.run_turns.specs.Pieces.{fate_found, sayer_of}
 use Rattle.run_turns.specs.Admissions.{admitted}
-use Rattle.mas_run.specs.Lines.{AdmissionLeaves, AskLeaves, CutsAs, IfIdle, IfOfMember, IsPassed, IsWithin, LosesAs, arms_by, arms_then, cut_in, cut_of, is_takeover, is_work, printed_at, taking, IsGiven, IsHonest, IsHonestAs, StaysAs}
+use Rattle.mas_run.specs.Lines.{AdmissionLeaves, AskLeaves, CutsAs, IfIdle, IfOfMember, IsPassed, IsWithin, LosesAs, arms_by, arms_then, cut_in, cut_of, is_takeover, is_work, printed_at, taking, IsGiven, IsHonest, IsHonestAs, StaysAs, named_as, named_by, names_in}
 use Rattle.mas_run.specs.LinesLeft.{HasLeft, left_at}
 use Rattle.mas_run.specs.LinesPlayed.{is_of_member}
 
@@ -84,6 +84,19 @@ member_arms S by ask.Free is = refl
 member_arms S by (ask.Line n) is = refl
 member_arms S by (ask.Replace dev) is = refl
 
+-- it names the volumes that it found lost, and no others
+pub member_stays : (what : Ask) (found : ℕ → Bool) (old new : View) → is_of_member what ≡ true → VolumesStay found old new → VolumesStay (names_in what found) old new
+member_stays ask.Stop found old new is stay = absurd (false_true is)
+member_stays (ask.StopIn what n) found old new is stay = absurd (false_true is)
+member_stays (ask.Lose dev) found old new is stay = absurd (false_true is)
+member_stays (ask.Deck cards) found old new is stay = stay
+member_stays (ask.Command c) found old new is stay = stay
+member_stays (ask.Work n) found old new is stay = stay
+member_stays ask.Lock found old new is stay = stay
+member_stays ask.Free found old new is stay = stay
+member_stays (ask.Line n) found old new is stay = stay
+member_stays (ask.Replace dev) found old new is stay = stay
+
 -- where its pieces are right by its admission they are by what it asks for
 pub right_of : (S : Scene) (by : MemberId) (at : ℕ) (g : Given) (what : Ask) → is_of_member what ≡ true → ArePiecesOf S by at (admitted S.queue.config S.book by what) g
     → IsAskRight S by at g what
@@ -117,6 +130,9 @@ module _ (l : LineAt) (member : is_of_member l.step.what ≡ true) where
 
   pub printed_left : (played_at l).outcome.printed ≡ (left_at l).printed
   printed_left = ap (λ p. p.outcome.printed) as_member
+
+  pub given_left : (played_at l).outcome.given ≡ (left_at l).given
+  given_left = ap (λ p. p.outcome.given) as_member
 
   pub loses_none : (played_at l).outcome.loses ≡ None
   loses_none = ap (λ p. p.outcome.loses) as_member
@@ -177,8 +193,9 @@ module _ {P C : Type 0} (plants : PlantGhosts P) (copies : CopyGhosts C) (told :
   pub honest_of : told → IsHonest l (v x) (v y)
   honest_of t = subst (λ (c : Option Cut). IsHonestAs l (admitted_at l) c (v x) (v y)) (sym (member_cut l.step.what l.given.sight.cut member)) (left.honest t)
 
-  pub stay_of : told → StaysAs l (admitted_at l) (cut_of l) (v x) (v y)
-  stay_of t = subst (λ (c : Option Cut). StaysAs l (admitted_at l) c (v x) (v y)) (sym (member_cut l.step.what l.given.sight.cut member)) (left.stay t)
+  pub stay_of : told → VolumesStay (named_by l) (v x) (v y)
+  stay_of t = member_stays l.step.what (named_as l (admitted_at l) (cut_of l)) (v x) (v y) member
+      (subst (λ (c : Option Cut). StaysAs l (admitted_at l) c (v x) (v y)) (sym (member_cut l.step.what l.given.sight.cut member)) (left.stay t))
 
 -- what a line that takes the lock over found of a batch in flight
 abbrev pub took : LineAt → Option Fate
@@ -211,7 +228,7 @@ module _ {P C : Type 0} (plants : PlantGhosts P) (copies : CopyGhosts C) (told :
     stays = left.stays;
     given = given_of plants copies told l x y member left;
     honest = λ t. if_member l.step.what _ (honest_of plants copies told l x y member left t);
-    stay = λ t. if_member l.step.what _ (stay_of plants copies told l x y member left t);
+    stay = stay_of plants copies told l x y member left;
     cut = subst (λ (c : Option Cut). CutsAs {T = Unit {0}} (Ok tt) l.step.by c (w x) (w y)) (sym none_cut) (left.spares.stops l.step.by.0 (inr refl));
     within = subst (λ (c : Option Cut). IsWithin c (pieces_at l)) (sym none_cut) tt;
     why = no_node.Halted;

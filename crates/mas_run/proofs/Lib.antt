@@ -6,6 +6,8 @@ pub mod OnlyLemmas
 pub mod RefusalLemmas
 pub mod ResetLemmas
 pub mod WarmLemmas
+pub mod WireLemmas
+pub mod ServedLemmas
 pub mod PassedLemmas
 pub mod RenewedLemmas
 pub mod LinesLemmas
@@ -71,3 +73,5 @@ pub mod ArmLemmas
 pub mod CalmLemmas
 pub mod CalmLineLemmas
 pub mod CalmRunLemmas
+pub mod ReaderLemmas
+pub mod HeardLemmas

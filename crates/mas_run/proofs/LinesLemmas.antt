@@ -101,7 +101,7 @@ settle_both f at (a ∷ so) bs = ap (λ (cs : List Batch). settled_at f at a ∷
 
 module _ (told : Type 0) (front : List Batch) (now : ℕ) (settled : AreSettled front now) where
   abbrev own_here : Here → List Batch → Here
-  own_here h own = record { reads = h.reads; number = h.number; scene = h.scene; batches = own; renewals = h.renewals; view = h.view }
+  own_here h own = record { reads = h.reads; since = h.since; number = h.number; scene = h.scene; batches = own; renewals = h.renewals; view = h.view }
 
   abbrev own_there : There → List Batch → There
   own_there x own = record { batches = own; renewals = x.renewals; view = x.view; answer = x.answer }
@@ -124,7 +124,7 @@ module _ (told : Type 0) (front : List Batch) (now : ℕ) (settled : AreSettled 
       ((own_there end r ≡ own_there there mine) × (more ≡ 0))) rest
       (λ m. let i = passed_after (here_after h g step there) (drop 1 gs) steps more end mine now_is m.1 in (i.0, i.1, (m.0, i.2)))
       (λ e. (mine, ap (λ (x : There). x.batches) e.0 ∙ now_is, (ap (λ (x : There). own_there x mine) e.0, e.1))) in
-      (out.0, out.1, (own_there there mine, more, one, record { own = next.own; passed = next.passed; at = next.at; moment = next.moment; batches = refl; renews = next.renews }, out.2))
+      (out.0, out.1, (own_there there mine, more, one, record { own = next.own; passed = next.passed; at = next.at; moment = next.moment; batches = refl; renews = next.renews; wires = next.wires }, out.2))
 
 -- A LINE THAT FINDS NOTHING leaves the journal's batches as they were
 

@@ -38,14 +38,13 @@ use Rattle.mas_run.proofs.BookLemmas.{tried_since}
 
 abbrev pub IsFewTask : Task → Type 0
 IsFewTask (Work n) = n ≤ units_most
-IsFewTask (Line l) = ⊥
 IsFewTask _ = Unit {0}
 
 pub few_levels : (task : Task) → IsFewTask task → levels_for (Fresh task) + 4 ≤ levels_most
 few_levels (Give c) few = omega arith
 few_levels (Deck fields text) few = omega arith
 few_levels (Work n) few = omega (arith, few)
-few_levels (Line l) few = absurd few
+few_levels (Line l) few = omega arith
 
 -- THE LOCK
 

@@ -26,7 +26,7 @@ use Rattle.mas_run.specs.LinesPlayed.{PassesLines, here_at, there_at}
 use Rattle.mas_run.specs.Passed.{ArePassed, Passed, There}
 use Rattle.mas_run.specs.Shows.{Shows, StandsIn}
 use Rattle.mas_run.specs.Statuses.{status_of}
-use Rattle.mas_run.proofs.PassedLemmas.{Ended as EndedBy, passed_arms, passed_console, passed_ended, passed_failed, passed_history, passed_loses, passed_loses_copies, passed_many, passed_paper, passed_right, passed_volumes}
+use Rattle.mas_run.proofs.PassedLemmas.{Ended as EndedBy, passed_arms, passed_console, passed_ended, passed_failed, passed_gave, passed_history, passed_loses, passed_loses_copies, passed_many, passed_paper, passed_right, passed_volumes}
 use Rattle.mas_run.proofs.RenewedLemmas.{passed_first, passed_second, passed_stays}
 
 ends_as : (result : Result (Unit {0}) NodeNo) (cut : Option Cut) (many lines : ℕ) → EndedBy result cut many lines → EndsAs (status_of result) cut many lines
@@ -57,6 +57,7 @@ module _ (told : Type 0) (b : LinesBegun) where
         history = passed_history told (starts b) given b.steps many end [] tt p;
         said = λ t. passed_console told (starts b) given b.steps many end t p;
         paper = λ t m. passed_paper told (starts b) given b.steps many end m t p;
+        gave = λ t m line. passed_gave told (starts b) given b.steps many end m line t p;
         loses = λ t n. passed_loses told n (starts b) given b.steps many end t p;
         loses_copies = λ t none d. passed_loses_copies told d (starts b) given b.steps many end t none p;
         arms = λ m. passed_arms told (starts b) given b.steps many end m (b.view.arms m) refl p;
@@ -87,11 +88,13 @@ module _ {P C : Type 0} {plants : PlantGhosts P} {steadies : SteadyGhosts C} {co
         let p = passes S shows in
         passed_failed told (here_at plants copies 1 S (journal_of (parts_of x)) (parts_of x)) p.given steps many ends p.are failed
 
-    pub lines_passed : (front batches : List Batch) (rs : Renewals) → journal_of (parts_of x) ≡ front → x.renewals ≡ rs → batches ≡ journal_of (parts_of y)
-        → Passed told (record { reads = copies.reads; number = 1; scene = S; batches = front; renewals = rs; view = plants.view x.plant }) steps many (record { batches = batches; renewals = y.renewals; view = plants.view y.plant; answer = result })
-    lines_passed front batches rs was none is =
-        let first : Passed told (record { reads = copies.reads; number = 1; scene = S; batches = front; renewals = x.renewals; view = plants.view x.plant }) steps many ends =
-        subst (λ (bs : List Batch). Passed told (record { reads = copies.reads; number = 1; scene = S; batches = bs; renewals = x.renewals; view = plants.view x.plant }) steps many ends) was (passes S shows) in
-        let from : Passed told (record { reads = copies.reads; number = 1; scene = S; batches = front; renewals = rs; view = plants.view x.plant }) steps many ends =
-        subst (λ (ks : Renewals). Passed told (record { reads = copies.reads; number = 1; scene = S; batches = front; renewals = ks; view = plants.view x.plant }) steps many ends) none first in
-        subst (λ (bs : List Batch). Passed told (record { reads = copies.reads; number = 1; scene = S; batches = front; renewals = rs; view = plants.view x.plant }) steps many (record { batches = bs; renewals = y.renewals; view = plants.view y.plant; answer = result })) (sym is) from
+    pub lines_passed : (front batches : List Batch) (rs : Renewals) (since : ℕ) → x.since ≡ since → journal_of (parts_of x) ≡ front → x.renewals ≡ rs → batches ≡ journal_of (parts_of y)
+        → Passed told (record { reads = copies.reads; since = since; number = 1; scene = S; batches = front; renewals = rs; view = plants.view x.plant }) steps many (record { batches = batches; renewals = y.renewals; view = plants.view y.plant; answer = result })
+    lines_passed front batches rs since first_at was none is =
+        let begun : Passed told (record { reads = copies.reads; since = since; number = 1; scene = S; batches = journal_of (parts_of x); renewals = x.renewals; view = plants.view x.plant }) steps many ends =
+        subst (λ (n : ℕ). Passed told (record { reads = copies.reads; since = n; number = 1; scene = S; batches = journal_of (parts_of x); renewals = x.renewals; view = plants.view x.plant }) steps many ends) first_at (passes S shows) in
+        let first : Passed told (record { reads = copies.reads; since = since; number = 1; scene = S; batches = front; renewals = x.renewals; view = plants.view x.plant }) steps many ends =
+        subst (λ (bs : List Batch). Passed told (record { reads = copies.reads; since = since; number = 1; scene = S; batches = bs; renewals = x.renewals; view = plants.view x.plant }) steps many ends) was begun in
+        let from : Passed told (record { reads = copies.reads; since = since; number = 1; scene = S; batches = front; renewals = rs; view = plants.view x.plant }) steps many ends =
+        subst (λ (ks : Renewals). Passed told (record { reads = copies.reads; since = since; number = 1; scene = S; batches = front; renewals = ks; view = plants.view x.plant }) steps many ends) none first in
+        subst (λ (bs : List Batch). Passed told (record { reads = copies.reads; since = since; number = 1; scene = S; batches = front; renewals = rs; view = plants.view x.plant }) steps many (record { batches = bs; renewals = y.renewals; view = plants.view y.plant; answer = result })) (sym is) from

@@ -15,7 +15,7 @@ use Rattle.spool_plant.specs.declared.plant.Fuse.{Fuse}
 use Rattle.spool_plant.specs.declared.plant.Part.TheVariants.{Disk}
 use Rattle.spool_plant.specs.declared.plant.Plant.{Ghosts as PlantGhosts}
 use Rattle.spool_plant.specs.View.{View, disk_now}
-use Rattle.spool_plant.specs.Acts.{Loses, Rose}
+use Rattle.spool_plant.specs.Acts.{Loses, Rose, SameWires}
 use Rattle.ckpt_copy.specs.declared.copying.Copying.{Ghosts as CopyGhosts}
 use Rattle.ckpt_form.specs.declared.steady.Steady.{Ghosts as SteadyGhosts}
 use Rattle.duplex_pair.specs.Halves.{IsCkpt, pick}
@@ -25,7 +25,7 @@ use Rattle.mas_complex.specs.Journals.{kept_all}
 use Rattle.mas_complex.specs.Locking.{reserved_after_stop}
 use Rattle.mas_complex.specs.Parts.{Parts, parts_of, with_half}
 use Rattle.member_lines.specs.Stops.{ArmsIf as ArmsThere, ArmsStop, IsAt, Stops, stopped_at}
-use Rattle.member_node.proofs.CourseLemmas.{no}
+use Rattle.member_node.proofs.CourseLemmas.{no, wires_none}
 use Rattle.member_node.specs.Calls.{Grows, console_now}
 use Rattle.member_node.specs.declared.member.Member.{Member}
 use Rattle.member_sittings.specs.Sat.{journal_of}
@@ -45,6 +45,7 @@ use Rattle.mas_run.proofs.PassedLemmas.{proceeds_of}
 use Rattle.mas_run.proofs.PausedLemmas.{between_later, between_next}
 use Rattle.mas_run.proofs.PlainLemmas.{ArmsIf, arm_plain, arm_shown, armed_same, disk_of, lose_plain, lose_shown, own_dev, plain_played, same_dev, stop_plain, stop_shown}
 use Rattle.mas_run.proofs.CopiesLemmas.{leaves_same}
+use Rattle.mas_run.proofs.ReaderLemmas.{readers_still}
 
 true_false : true ≡ false → ⊥
 true_false e = absurd (cc)
@@ -162,6 +163,10 @@ module _ {P C : Type 0} {plants : PlantGhosts P} {steadies : SteadyGhosts C} {co
       next = subst (λ (w : Parts P C). IsBetween plants copies w ms (at + 1)) (sym whole)
           (between_next plants copies (record p { book = book_then }) ms at few
           (between_later plants copies p book_then (since_if (is_up here by) refl) (holder_if (is_up here by)) ms at is));
+      heard = λ rs read. readers_still plants p q (ap (λ (w : Parts P C). w.base) frame_here) (ap (λ (w : Parts P C). w.since) frame_here) is.booked rs read
+          (λ t. ap (λ (w : View). w.world x.since) plant_here)
+          (λ t m up. (since_if (is_up here by) refl).up m (subst (λ (b : Book). is_stopped b m ≡ false) (ap (λ (w : Parts P C). w.book) whole) up))
+          (λ t. subst (λ (w : View). SameWires (plants.view x.plant) w) (sym plant_here) (wires_none (plants.view x.plant)));
     }
 
   -- A STOP THAT IS ARMED
@@ -193,6 +198,10 @@ module _ {P C : Type 0} {plants : PlantGhosts P} {steadies : SteadyGhosts C} {co
       kept = leaves_same plants p q (Ok tt) (still_copies plants p q (ap (λ (w : Parts P C). w.first_alive) frame) (ap (λ (w : Parts P C). w.second_alive) frame) same_else) (ap (λ (w : Parts P C). w.renewals) frame)
           (λ is. sym (ap (λ (w : Parts P C). w.first_alive) frame) ∙ is) (λ is. sym (ap (λ (w : Parts P C). w.second_alive) frame) ∙ is);
       next = armed_next plants copies p q frame same_else ms at few is;
+      heard = λ rs read. readers_still plants p q (ap (λ (w : Parts P C). w.base) frame) (ap (λ (w : Parts P C). w.since) frame) is.booked rs read
+          (λ t. ap (λ (w : View). w.world x.since) same_else)
+          (λ t m up. subst (λ (b : Book). is_stopped b m ≡ false) (ap (λ (w : Parts P C). w.book) frame) up)
+          (λ t. subst (λ (w : View). SameWires (plants.view x.plant) w) (sym same_else) (record { waiting = λ w. refl; taken = λ w m. refl; given = λ w m. refl }));
     }
 
   -- A DEVICE THAT IS LOST, and the copy on it with it
@@ -298,4 +307,8 @@ module _ {P C : Type 0} {plants : PlantGhosts P} {steadies : SteadyGhosts C} {co
       kept = leaves_same plants p q (Ok tt) lost_copies (ap (λ (w : Parts P C). w.renewals) lost_whole) (alive_then Ckpt1 p.first_alive q.first_alive first_is) (alive_then Ckpt2 p.second_alive q.second_alive second_is);
       next = mute_next plants copies p q lost_whole (proceeds_of (plants.view x.plant) (plants.view y.plant) lost.goes) (alive_then Ckpt1 p.first_alive q.first_alive first_is)
           (alive_then Ckpt2 p.second_alive q.second_alive second_is) bytes quiet_there ms at few is;
+      heard = λ rs read. readers_still plants p q (ap (λ (w : Parts P C). w.base) lost_whole) (ap (λ (w : Parts P C). w.since) lost_whole) is.booked rs read
+          (λ t. lost.goes.past x.since is.begun)
+          (λ t m up. subst (λ (b : Book). is_stopped b m ≡ false) (ap (λ (w : Parts P C). w.book) lost_whole) up)
+          (λ t. (els t).wires);
     }

@@ -14,8 +14,7 @@ use Rattle.script_lang.specs.Asks.{member_in, step_by, step_of}
 use Rattle.script_lang.specs.Config.{configured}
 use Rattle.script_lang.specs.Lines.{has_word, is_deck_end, is_empty, is_line, lines_of, words_of}
 use Rattle.script_lang.specs.Script.{Next, Said, and_then, closed, next, next_config, next_in, next_outside, next_step, next_words, said, said_from, start, with_setup}
-use Rattle.script_input.specs.Lines.{step_lines}
-use Rattle.script_input.specs.Script.{first_unbuilt, played, read_as, unless_unbuilt}
+use Rattle.script_input.specs.Script.{read_as}
 
 -- no step was said, and no deck is open
 pub record HasNone (s : State) : Type 0 where
@@ -75,11 +74,4 @@ module _ (run : Run) (only : run.only ≡ true) where
 
   -- a script that is read for a run that only formats has no steps
   pub none_read : (bytes : List ℕ) (script : Script) → read_as run bytes ≡ Ok script → script.steps ≡ []
-  none_read bytes script e = by_said (said run bytes) refl e where
-    by_place : (numbers : List ℕ) (place : Option ℕ) (s : Script) → s.steps ≡ [] → unless_unbuilt numbers place s ≡ Ok script → script.steps ≡ []
-    by_place numbers None s none f = subst (λ (x : Script). x.steps ≡ []) (let same : s ≡ script = cc in same) none
-    by_place numbers (Some place) s none f = absurd (cc)
-
-    by_said : (is : Said) → said run bytes ≡ is → played (lines_of bytes) is ≡ Ok script → script.steps ≡ []
-    by_said (Err why) same f = no_script why script f
-    by_said (Ok s) same f = by_place (step_lines false 1 (lines_of bytes)) (first_unbuilt s.steps) s (none_said bytes s same) f
+  none_read bytes script e = none_said bytes script e

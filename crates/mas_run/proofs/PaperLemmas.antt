@@ -3,6 +3,7 @@ use Rattle.std.proofs.Common.{◌≡◌, ◌≤◌, ⊎_elim, ℕ, ◌∙◌, ap
 use Rattle.spool_plant.specs.View.{View, World, Throughout}
 use Rattle.ckpt_copy.specs.Meanwhile.{SameSides}
 use Rattle.mas_complex.specs.Paper.{SamePapers}
+use Rattle.member_node.specs.Calls.{Apart}
 use Rattle.mas_run.specs.Lines.{Proceeds}
 use Rattle.mas_run.specs.Papers.{ArePapersKeptUntil}
 use Rattle.mas_run.proofs.VolumeLemmas.{by_order}
@@ -28,3 +29,18 @@ papers_then until v0 v1 v2 later goes one two t from to m = ⊎_elim
 -- printers and wires that are as they were
 pub papers_of : (old new : View) → Throughout old.now new.now (λ t. SameSides (old.world old.now) (new.world t)) → SamePapers old new
 papers_of old new sides t from to m = (sides t from to).paper m
+
+pub sides_on : (a b c : World) → SameSides a b → SameSides b c → SameSides a c
+sides_on a b c one two = record {
+  paper = λ m. two.paper m ∙ one.paper m;
+  taken = λ w m. two.taken w m ∙ one.taken w m;
+  given = λ w m. two.given w m ∙ one.given w m;
+}
+
+-- calls on the copies leave them
+pub sides_apart : (old new : View) → old.now ≤ new.now → Apart old new → SameSides (old.world old.now) (new.world new.now)
+sides_apart old new later apart = record {
+  paper = apart.papers new.now later (let here : new.now ≤ new.now = omega arith in here);
+  taken = apart.wires.taken;
+  given = apart.wires.given;
+}

@@ -16,7 +16,7 @@ use Rattle.spool_plant.specs.Acts.{Goes, Rose, next as next_count}
 use Rattle.spool_plant.specs.declared.plant.Fuse.{Fuse}
 use Rattle.spool_plant.specs.declared.plant.Part.TheVariants.{Console}
 use Rattle.spool_plant.specs.declared.plant.Fuse.TheVariants as fuse
-use Rattle.spool_plant.specs.View.{Line, View, World, disk_now, paper_now}
+use Rattle.spool_plant.specs.View.{Line, View, World, disk_now, given_now, paper_now}
 use Rattle.member_hand.specs.Cuts.{AreBatched, IsBatched as StandsAs}
 use Rattle.ckpt_copy.specs.Changes.{NoMore}
 use Rattle.member_node.specs.Calls.{console_now}
@@ -26,13 +26,14 @@ use Rattle.run_turns.specs.Sights.{Cause, Cut, Ends, Stops}
 use Rattle.run_turns.specs.Pieces.{fate_found}
 use Rattle.run_turns.specs.Scenes.{Armed, Batched, Scene, with_fate}
 use Rattle.run_turns.specs.Steps.{Said, cause_of, counted, counted_at, is_up, run_goes_on, silent}
-use Rattle.run_turns.specs.Runs.{console, fate_then, history_from, outcomes_if, paper_of, scene_if, settled}
+use Rattle.run_turns.specs.Runs.{console, fate_then, given_on, history_from, outcomes_if, paper_of, scene_if, serves_line, settled}
 use Rattle.run_turns.specs.Givens.{AreRight, Given, RightIf, ask_with, cut_if, given_first, last_cut, outcomes_with, scene_with}
 use Rattle.mas_run.specs.LinesAt.{admitted_at, played_at}
 use Rattle.mas_run.specs.Histories.{AreHistory, IsBatched, settle, settled_at, with_found}
 use Rattle.mas_run.specs.Lines.{CutsAs, EndsBy, IsCutAs, IsUnsaid, MayLoseCopy, Proceeds, StopsUnsaid, arms_by, cut_in, is_takeover, loses_then, taking}
 use Rattle.mas_run.specs.Passed.{ArePassed, GoesOn, Here, LeaveVolumes, TakeNone, There, arms_after, here_after, line_of, loses_after}
 use Rattle.mas_run.specs.Volumes.{AreVolumesKept}
+use Rattle.mas_run.proofs.ServedLemmas.{line_gave_on}
 use Rattle.mas_run.proofs.VolumeLemmas.{by_order, kept_none, more_then}
 
 -- VIEWS
@@ -116,6 +117,28 @@ module _ (told : Type 0) where
       ∙ ap (λ (ls : List Line). console_now h.view ++ ls) (sym (map-append (λ (s : Said). s.line) p.outcome.said (console os))))
       (λ e. ap (λ (x : There). console_now x.view) e.0 ∙ next.passed.console t
       ∙ ap (λ (ls : List Said). console_now h.view ++ map (λ (s : Said). s.line) ls) (sym (append-nil p.outcome.said)))
+
+  -- THE LINES TO OTHER NODES
+
+  pub passed_gave : (h : Here) (gs : List Given) (steps : List Step) (many : ℕ) (end : There) (m : MemberId) (line : ℕ)
+      → told → ArePassed told h gs steps many end
+      → given_now end.view line m.0 ≡ given_now h.view line m.0 ++ given_on m line steps (outcomes_with h.scene h.number gs steps)
+  passed_gave h gs [] many end m line t p = ap (λ (v : View). given_now v line m.0) p.1 ∙ sym (append-nil (given_now h.view line m.0))
+  passed_gave h gs (step ∷ steps) many end m line t (there, more, is, next, rest) =
+      let p = played_at (line_of h (given_first gs) step) in
+      let os = outcomes_with p.next (h.number + 1) (drop 1 gs) steps in
+      let own : List ℕ = if serves_line m line step then p.outcome.given else [] in
+      let gave : given_now there.view line m.0 ≡ given_now h.view line m.0 ++ own = line_gave_on h.since (line_of h (given_first gs) step) h.view there.view m line (next.wires t) in
+      by_going p.goes_on (λ b. given_now end.view line m.0 ≡ given_now h.view line m.0 ++ (own ++ given_on m line steps (outcomes_if b os))) rest
+      (λ k. passed_gave (here_after h (given_first gs) step there) (drop 1 gs) steps more end m line t k.1
+      ∙ ap (λ (bytes : List ℕ). bytes ++ given_on m line steps os) gave
+      ∙ append_assoc (given_now h.view line m.0) own (given_on m line steps os))
+      (λ e. ap (λ (x : There). given_now x.view line m.0) e.0 ∙ gave
+      ∙ ap (λ (bytes : List ℕ). given_now h.view line m.0 ++ bytes) (sym (append-nil own) ∙ ap (λ (bytes : List ℕ). own ++ bytes) (sym (none_on steps))))
+    where
+      none_on : (steps : List Step) → given_on m line steps [] ≡ []
+      none_on [] = refl
+      none_on (step ∷ steps) = refl
 
   -- THE PRINTERS
 
@@ -247,7 +270,7 @@ ends_cause (Err e) by cut Ends old new is stops so = ((λ none. some none), neve
   some : Some cut ≡ None → ⊥
   some none = absurd (cc)
 
-  unsaid : (k : NodeNo) → IsUnsaid k → k ≢ no_node.Halted
+  unsaid : (k : NodeNo) → IsUnsaid k new → k ≢ no_node.Halted
   unsaid no_node.ConsoleFault h halted = absurd (cc)
   unsaid no_node.NoMemory h halted = absurd (cc)
   unsaid no_node.BothLost h halted = h

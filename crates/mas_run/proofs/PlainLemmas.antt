@@ -14,7 +14,7 @@ use Rattle.script_lang.specs.declared.types.Ask.TheVariants as ask
 use Rattle.script_lang.specs.declared.types.Step.{Step}
 use Rattle.lock_cycle.specs.Books.{Book, IsMember, after_stop, is_stopped}
 use Rattle.paper_laws.specs.Counts.{Counts}
-use Rattle.spool_plant.specs.Acts.{Arms, Loses, next}
+use Rattle.spool_plant.specs.Acts.{Arms, Loses, SameWires, next}
 use Rattle.spool_plant.specs.declared.plant.Fuse.{Fuse}
 use Rattle.spool_plant.specs.declared.plant.Part.{Part}
 use Rattle.spool_plant.specs.declared.plant.Part.TheVariants.{Disk}
@@ -26,8 +26,9 @@ use Rattle.mas_complex.specs.Elsewhere.{Elsewhere}
 use Rattle.mas_complex.specs.Paper.{SamePapers, counts_of}
 use Rattle.mas_complex.specs.Parts.{Parts}
 use Rattle.member_hand.specs.Cuts.{AreBatched, AtCut, IsBroken, IsTight}
-use Rattle.member_node.specs.Calls.{console_now}
+use Rattle.member_node.specs.Calls.{VolumesStay, console_now, none_lost}
 use Rattle.member_node.specs.declared.member.NodeNo.TheVariants as no_node
+use Rattle.member_node.proofs.CourseLemmas.{stay_none, wires_none}
 use Rattle.member_sittings.specs.Sat.{journal_of}
 use Rattle.member_sittings.specs.Whole.{queue_of}
 use Rattle.step_turns.specs.Sittings.{Sitting}
@@ -38,7 +39,7 @@ use Rattle.run_turns.specs.Scenes.{Batched, Scene}
 use Rattle.run_turns.specs.Sights.{Cut, Halt, Replaced}
 use Rattle.run_turns.specs.Steps.{Played, Said, arm, is_up, lose, nothing, silent, stop}
 use Rattle.mas_run.specs.Histories.{settle}
-use Rattle.mas_run.specs.Lines.{AskLeaves, CutsAs, IfOfMember, IsWithin, LeavesVolumes, Proceeds, StaysLost, arms_then, cut_in, cut_of, is_work, loses_then, same_device}
+use Rattle.mas_run.specs.Lines.{AskLeaves, CutsAs, IfOfMember, IsWithin, LeavesVolumes, Proceeds, StaysLost, arms_then, cut_in, cut_of, is_work, loses_then, named_by, same_device}
 use Rattle.mas_run.specs.LinesPlayed.{HasPlayedLine, is_of_member}
 use Rattle.mas_run.specs.Shows.{IsFlight, IsShown}
 use Rattle.mas_run.specs.Volumes.{AreVolumesKept}
@@ -48,6 +49,7 @@ use Rattle.mas_run.proofs.LinesLemmas.{settle_none}
 use Rattle.mas_run.proofs.PassedLemmas.{proceeds_none, proceeds_of}
 use Rattle.mas_run.proofs.RenewedLemmas.{renews_mute}
 use Rattle.mas_run.proofs.VolumeLemmas.{kept_none, no_more}
+use Rattle.mas_run.proofs.WireLemmas.{mute_carries}
 
 true_false : true ≡ false → ⊥
 true_false e = absurd (cc)
@@ -108,12 +110,15 @@ pub record IsPlain {P C : Type 0} (plants : PlantGhosts P) (told : Type 0) (l : 
   pub console : told → console_now (plants.view y.plant) ≡ console_now (plants.view x.plant)
   pub paper : told → (m : ℕ) → paper_now (plants.view y.plant) m ≡ paper_now (plants.view x.plant) m
   pub dry : told → SamePapers (plants.view x.plant) (plants.view y.plant)
+  pub given : (played_at l).outcome.given ≡ []
+  pub wires : told → SameWires (plants.view x.plant) (plants.view y.plant)
   pub loses : told → (d : Dev) → (plants.view y.plant).loses d ≡ loses_then (played_at l).outcome.loses d ((plants.view x.plant).loses d)
   pub arms : (m : ℕ) → (plants.view y.plant).arms m ≡ arms_then l m ((plants.view x.plant).arms m)
   pub volumes : told → LeavesVolumes l → AreVolumesKept (plants.view x.plant) (plants.view y.plant)
   pub journal : journal_of y ≡ journal_of x
   pub renewals : y.renewals ≡ x.renewals
   pub stays : (d : Dev) → StaysLost d (plants.view x.plant) (plants.view y.plant)
+  pub stay : VolumesStay (named_by l) (plants.view x.plant) (plants.view y.plant)
 
 module _ {P C : Type 0} (plants : PlantGhosts P) (copies : CopyGhosts C) (told : Type 0) (S : Scene) (at : ℕ) (step : Step) (none : is_of_member step.what ≡ false)
     (x y : Parts P C) where
@@ -139,7 +144,7 @@ module _ {P C : Type 0} (plants : PlantGhosts P) (copies : CopyGhosts C) (told :
         stays = λ d other. plain.stays d;
         given = record { shaped = inr (unasked step.what none _); right = λ t. unfound S step.by at step.what none };
         honest = λ t. unasked step.what none _;
-        stay = λ t. unasked step.what none _;
+        stay = λ t. plain.stay;
         cut = subst (λ (c : Option Cut). CutsAs {T = Unit {0}} (Ok tt) step.by c (v x) (v y)) (sym none_cut) (plain.stops step.by.0);
         within = subst (λ (c : Option Cut). IsWithin c (pieces_at l)) (sym none_cut) tt;
         why = no_node.Halted;
@@ -162,6 +167,7 @@ module _ {P C : Type 0} (plants : PlantGhosts P) (copies : CopyGhosts C) (told :
       batches = plain.journal ∙ sym (settle_none (v x).now (journal_of x)) ∙ sym (append-nil (settle Flying (v x).now (journal_of x)))
           ∙ ap (λ (f : Fate). settle f (v x).now (journal_of x) ++ []) (sym plain.found);
       renews = renews_mute None Replaced x.renewals y.renewals (v x) (v y) plain.renewals S.queue.config S.book step.by step.what none;
+      wires = λ t. mute_carries x.since l (played_at l).outcome.given (v x) (v y) plain.given (plain.wires t) S.queue.config S.book step.by step.what none;
     };
     shows = shows;
   }
@@ -200,12 +206,15 @@ module _ {P C : Type 0} (plants : PlantGhosts P) (told : Type 0) (S : Scene) (at
     console = λ t. ap console_now same;
     paper = λ t m. ap (λ (u : View). paper_now u m) same;
     dry = λ t. subst (λ (u : View). SamePapers (w x) u) (sym same) (papers_none (w x));
+    given = ap (λ o. o.given) (silent_found (is_up S by) S stops_then);
+    wires = λ t. subst (λ (u : View). SameWires (w x) u) (sym same) (wires_none (w x));
     loses = λ t d. ap (λ (u : View). u.loses d) same ∙ sym (loses_still (is_up S by) d);
     arms = λ m. ap (λ (u : View). u.arms m) same;
     volumes = λ t leaves. subst (λ (u : View). AreVolumesKept (w x) u) (sym same) (kept_none (w x));
     journal = journal;
     renewals = renewals;
     stays = λ d is. ap (λ (u : View). u.lost (Disk d)) same ∙ is;
+    stay = subst (λ (u : View). VolumesStay none_lost (w x) u) (sym same) (stay_none none_lost (w x));
   } where
     loses_still : (up : Bool) (d : Dev) → loses_then (silent_if up S stops_then).outcome.loses d ((w x).loses d) ≡ (w x).loses d
     loses_still true d = refl
@@ -317,12 +326,15 @@ module _ {P C : Type 0} (plants : PlantGhosts P) (told : Type 0) (S : Scene) (at
     console = λ t. ap console_now armed;
     paper = λ t m. ap (λ (w : View). paper_now w m) armed;
     dry = λ t. subst (λ (w : View). SamePapers (u x) w) (sym armed) (papers_none (u x));
+    given = ap (λ o. o.given) (silent_found (is_up S by) S arms_scene);
+    wires = λ t. subst (λ (w : View). SameWires (u x) w) (sym armed) (record { waiting = λ k. refl; taken = λ k m. refl; given = λ k m. refl });
     loses = λ t d. ap (λ (w : View). w.loses d) armed ∙ sym (ap (λ o. loses_then o.loses d ((u x).loses d)) (silent_found (is_up S by) S arms_scene));
     arms = λ m. armed_grow (is_up S by) by.0 (u x) (u y) arms m;
     volumes = λ t leaves. subst (λ (w : View). AreVolumesKept (u x) w) (sym armed) (kept_none (u x));
     journal = journal;
     renewals = renewals;
     stays = λ d is. ap (λ (w : View). w.lost (Disk d)) armed ∙ is;
+    stay = subst (λ (w : View). VolumesStay none_lost (u x) w) (sym armed) (record { lost = λ n other. refl; faults = λ n other. refl });
   }
 
 -- A DEVICE THAT IS LOST
@@ -346,6 +358,9 @@ own_dev (Spool n) = grind (arith, nat_tests)
 abbrev pub disk_of : Part → Dev
 disk_of (Disk d) = d
 disk_of _ = Ckpt1
+
+pub other_disk : (dev d : Dev) → same_device d dev ≡ false → Disk d ≢ Disk dev
+other_disk dev d other same = absurd (true_false (sym (own_dev dev) ∙ ap (λ (k : Dev). same_device k dev) (sym (ap disk_of same)) ∙ other))
 
 lost_count : (dev d : Dev) (old new : View) → Loses (Disk dev) old new → new.loses d ≡ loses_then (Some dev) d (old.loses d)
 lost_count dev d old new lost = by_dev (same_device d dev) refl where
@@ -383,10 +398,13 @@ module _ {P C : Type 0} (plants : PlantGhosts P) (told : Type 0) (tells : told �
     console = λ t. (els (tells t)).console (q y).now lost.goes.later (let same : (q y).now ≤ (q y).now = omega arith in same);
     paper = λ t m. (els (tells t)).papers (q y).now lost.goes.later (let same : (q y).now ≤ (q y).now = omega arith in same) m;
     dry = λ t. (els (tells t)).papers;
+    given = refl;
+    wires = λ t. (els (tells t)).wires;
     loses = λ t e. lost_count dev e (q x) (q y) lost;
     arms = lost.arms;
     volumes = λ t leaves. kept_elsewhere dev (q x) (q y) (leaves_dev (admitted_at d) dev leaves) (els (tells t));
     journal = journal;
     renewals = renewals;
     stays = λ e is. lost.goes.lost (Disk e) is;
+    stay = record { lost = λ n other. lost.else_lost (Disk (Spool n)) (other_disk dev (Spool n) other); faults = λ n other. lost.faults (Disk (Spool n)) };
   }

@@ -25,10 +25,10 @@ use Rattle.member_lines.specs.Replaces.{HasReplaced, found_of}
 use Rattle.run_turns.specs.Admissions.{Replaces}
 use Rattle.run_turns.specs.Sights.{LostAgain, NotLost, Renewed, Replaced}
 use Rattle.mas_run.specs.Copies.{KeepCopies, LeavesSome, StaysWhole, LeavesCopies}
-use Rattle.mas_run.specs.Lines.{Proceeds, is_copy, same_device}
+use Rattle.mas_run.specs.Lines.{Proceeds, is_copy}
 use Rattle.mas_run.specs.Renewing.{Begins, BeginsAndEnds, RenewsBy}
 use Rattle.mas_run.proofs.ClosingLemmas.{HasMerelyActed}
-use Rattle.mas_run.proofs.PlainLemmas.{disk_of, kept_elsewhere, own_dev}
+use Rattle.mas_run.proofs.PlainLemmas.{disk_of, kept_elsewhere, other_disk}
 use Rattle.std.specs.Prelude.{is_none}
 use Rattle.spool_plant.specs.Acts.{top}
 use Rattle.mas_complex.specs.declared.renewals.Renewal.{Renewal}
@@ -46,9 +46,6 @@ is_copy_of (Spool n) ckpt = absurd ckpt
 
 pub other_part : (dev : Dev) → IsCkpt dev → (p : Part) → is_copy p ≡ false → p ≢ Disk dev
 other_part dev ckpt p other same = absurd (true_false (sym (is_copy_of dev ckpt) ∙ ap is_copy (sym same) ∙ other))
-
-pub other_disk : (dev d : Dev) → same_device d dev ≡ false → Disk d ≢ Disk dev
-other_disk dev d other same = absurd (true_false (sym (own_dev dev) ∙ ap (λ (k : Dev). same_device k dev) (sym (ap disk_of same)) ∙ other))
 
 spool_other : (dev : Dev) → IsCkpt dev → (n : ℕ) → Spool n ≢ dev
 spool_other Ckpt1 ckpt n same = absurd (cc)
@@ -88,8 +85,12 @@ module _ {P C : Type 0} (plants : PlantGhosts P) (by : MemberId) (dev : Dev) (ck
     failed = λ is. absurd (other is);
     loses = λ t d. reps.loses d;
     papers = λ t. (els t).papers;
+    wires = λ t. (els t).wires;
     volumes = λ t. kept_elsewhere dev (v x) (v y) (spool_other dev ckpt) (els t);
-    stay = tt;
+    stay = record {
+      lost = λ n is. reps.else_lost (Disk (Spool n)) (other_part dev ckpt (Disk (Spool n)) refl);
+      faults = λ n is. reps.else_faults (Disk (Spool n)) (other_part dev ckpt (Disk (Spool n)) refl);
+    };
   }
 
 -- WHAT IT LEAVES, by its answer

@@ -11,9 +11,11 @@ use Rattle.lock_cycle.specs.Books.{Book, granted, is_holder, is_stopped, ticked,
 use Rattle.spool_plant.specs.declared.plant.Plant.{Ghosts as PlantGhosts}
 use Rattle.spool_plant.specs.View.{View}
 use Rattle.ckpt_copy.specs.declared.copying.Copying.{Ghosts as CopyGhosts}
+use Rattle.spool_plant.specs.Acts.{SameWires}
+use Rattle.member_node.proofs.CourseLemmas.{wires_then}
 use Rattle.mas_complex.specs.Paper.{SamePapers}
 use Rattle.mas_complex.specs.Parts.{Parts, with_copies}
-use Rattle.member_node.specs.Calls.{IsOnlyOn}
+use Rattle.member_node.specs.Calls.{IsOnlyOn, VolumesStay, none_lost}
 use Rattle.member_node.specs.declared.member.NodeNo.{NodeNo}
 use Rattle.member_decks.specs.Steps.{AreOf}
 use Rattle.member_sittings.specs.Sat.{CopiesActed, IsSatAs, Start, begins, sat_in}
@@ -25,7 +27,7 @@ use Rattle.member_hand.specs.Turns.{taken}
 use Rattle.member_hand.proofs.Cutting.{IsLeftAt, acted_stopped, bare_cut, book_stopped, cut_at, cut_is, cut_leaves, cut_writes, holder_stopped, left_stopped, none_tight, unbroken}
 use Rattle.member_hand.proofs.Following.{acts_then}
 use Rattle.member_hand.proofs.Halting.{sitting_own}
-use Rattle.member_hand.proofs.Turning.{IsLocked, away_never, bare_in, book_locked, not_aside, sat_acted, sat_book, sat_dry, sat_still, seat_acted, seat_book, seat_queue, told_in, unsat, unsat_acted, view_stopped}
+use Rattle.member_hand.proofs.Turning.{IsLocked, away_never, bare_in, book_locked, not_aside, sat_acted, sat_book, sat_dry, sat_stays, sat_still, seat_acted, seat_book, seat_queue, told_in, unsat, unsat_acted, view_stopped}
 use Rattle.step_turns.specs.Entries.{reply_to}
 use Rattle.step_turns.specs.Sittings.{Sitting, sit}
 use Rattle.step_turns.specs.States.{nothing_found}
@@ -106,8 +108,10 @@ module _ {P C : Type 0} (plants : PlantGhosts P) (copies : CopyGhosts C) (h : Ho
           played = bare_cut plants copies h p e (Writing 0 None) x y (unsat_here ⊥ (λ t. absurd t) p) own_piece book;
           tight = none_tight e p.sitting;
           acts = acted_stopped plants copies h.by e x z (unsat_acted plants copies s x z may none unplaced frame ne pages e acted);
+          volumes = view_stopped plants copies s x z may none unplaced frame ne e h.by z (λ w. VolumesStay none_lost (v x) w) acts.course.volumes;
           others = λ t. view_stopped plants copies s x z may none unplaced frame ne e h.by z (λ w. IsOnlyOn (v x) w) (acts.apart t).others;
           papers = λ t. view_stopped plants copies s x z may none unplaced frame ne e h.by z (λ w. SamePapers (v x) w) (acts.apart t).papers;
+          wires = λ t. view_stopped plants copies s x z may none unplaced frame ne e h.by z (λ w. SameWires (v x) w) (acts.apart t).wires;
           quiet = λ b. absurd b;
           away = λ free. absurd (away_never plants copies s x z may none unplaced frame ne y
               (holder_stopped plants copies h.by e z ∙ ap (λ (b : Book). b.holder) (seat_book plants copies s x z may none unplaced frame ne)) free);
@@ -152,8 +156,10 @@ module _ {P C : Type 0} (plants : PlantGhosts P) (copies : CopyGhosts C) (h : Ho
           tight = c.tight;
           acts = acted_stopped plants copies h.by e x w (acts_then plants copies h.by x z w (Err e) (seat_acted plants copies s x z may none unplaced frame ne seated)
               (sat_acted plants copies s x z may none unplaced frame ne seated w same e sat.sat.acts));
+          volumes = view_stopped plants copies s x z may none unplaced frame ne e h.by w (λ q. VolumesStay none_lost (v x) q) (sat_stays plants copies s x z may none unplaced frame ne seated w same sat.sat.acts);
           others = λ u. view_stopped plants copies s x z may none unplaced frame ne e h.by w (λ q. IsOnlyOn (v x) q) (sat_still plants copies s x z may none unplaced frame ne seated w same sat.sat.acts u);
           papers = λ u. view_stopped plants copies s x z may none unplaced frame ne e h.by w (λ q. SamePapers (v x) q) (sat_dry plants copies s x z may none unplaced frame ne seated w same sat.sat.acts u);
+          wires = λ u. view_stopped plants copies s x z may none unplaced frame ne e h.by w (λ q. SameWires (v x) q) (wires_then (v x) (v z) (v w) (took.apart u).wires (sat.sat.acts.wires u));
           quiet = λ b. absurd (not_aside plants copies s x z may none unplaced frame ne seated w same c.halt c.locked b);
           away = λ free. absurd (away_never plants copies s x z may none unplaced frame ne at_end
               (holder_stopped plants copies h.by e w ∙ ap (λ (b : Book). b.holder) (sat_book plants copies s x z may none unplaced frame ne seated w same)) free);

@@ -11,9 +11,11 @@ use Rattle.spool_plant.specs.View.{Line, View, paper_now}
 use Rattle.ckpt_copy.specs.declared.copying.Copying.{Ghosts as CopyGhosts}
 use Rattle.ckpt_tables.specs.Shape.{page_count}
 use Rattle.mas_complex.specs.Locking.{MayAct}
+use Rattle.spool_plant.specs.Acts.{SameWires}
+use Rattle.member_node.proofs.CourseLemmas.{wires_then}
 use Rattle.mas_complex.specs.Paper.{SamePapers, counts_of}
 use Rattle.mas_complex.specs.Parts.{Parts, with_copies}
-use Rattle.member_node.specs.Calls.{IsOnlyOn, console_now}
+use Rattle.member_node.specs.Calls.{IsOnlyOn, VolumesStay, console_now, none_lost}
 use Rattle.member_node.specs.declared.member.Member.{Member}
 use Rattle.member_decks.specs.Steps.{AreOf}
 use Rattle.member_sittings.specs.declared.ends.SittingEnd.{SittingEnd}
@@ -35,7 +37,7 @@ use Rattle.member_hand.proofs.Entering.{entered_seated}
 use Rattle.member_hand.proofs.Following.{acts_then}
 use Rattle.member_hand.proofs.Locking.{acts_entered, left_members, spent_acts, still_holds}
 use Rattle.member_hand.proofs.Reaching.{reached_all}
-use Rattle.member_hand.proofs.Turning.{papers_are, sat_book, sat_dry, sat_still, seat_acted, seat_batches, seat_printed, seat_queue}
+use Rattle.member_hand.proofs.Turning.{papers_are, sat_book, sat_dry, sat_stays, sat_still, seat_acted, seat_batches, seat_printed, seat_queue}
 use Rattle.step_turns.specs.Entries.{all_entries}
 use Rattle.step_turns.specs.Sittings.{Sitting}
 use Rattle.step_turns.specs.declared.states.Holder.{Holder}
@@ -211,8 +213,10 @@ module _ {P C : Type 0} (plants : PlantGhosts P) (copies : CopyGhosts C) (h : Ho
     played = its_cut;
     tight = tt;
     acts = its_acts;
+    volumes = subst (λ (q : View). VolumesStay none_lost (v x) q) (sym plant_same) (sat_stays plants copies s x z may none unplaced frame ne seated w same sat.sat.acts);
     others = λ u. subst (λ (q : View). IsOnlyOn (v x) q) (sym plant_same) (sat_still plants copies s x z may none unplaced frame ne seated w same sat.sat.acts u);
     papers = λ u. subst (λ (q : View). SamePapers (v x) q) (sym plant_same) (sat_dry plants copies s x z may none unplaced frame ne seated w same sat.sat.acts u);
+    wires = λ u. subst (λ (q : View). SameWires (v x) q) (sym plant_same) (wires_then (v x) (v z) (v w) (took.apart u).wires (sat.sat.acts.wires u));
     quiet = λ b. subst (λ (k : ℕ). IsQuiet plants copies y k) room aside_after.quiet;
     away = λ free. (unreserved, aside_after.quiet.none);
     told = λ u. record {

@@ -39,7 +39,7 @@ use Rattle.member_node.specs.declared.member.NodeNo.TheVariants as no_node
 use Rattle.member_node.specs.Calls.{IsLeft, console_now}
 use Rattle.member_node.specs.Reads.{IsSettle}
 use Rattle.member_node.specs.Writes.{IsWrite}
-use Rattle.member_node.proofs.CourseLemmas.{apart_then, course_none, course_then, left, only_none, papers_none}
+use Rattle.member_node.proofs.CourseLemmas.{apart_none, apart_then, course_none, course_then, left}
 use Rattle.member_node.proofs.SpareLemmas.{spares_none}
 use Rattle.member_steps.proofs.StepLemmas.{journal_kept}
 use Rattle.mas_complex.specs.Paper.{MayBegin, printed_after}
@@ -49,6 +49,7 @@ use Rattle.mas_run.specs.Runs.{HasSteps}
 use Rattle.mas_run.specs.Shows.{IsOfEarlier}
 use Rattle.mas_run.specs.Statuses.{IsCausedFrom, is_of_play, status_of}
 use Rattle.script_lang.specs.declared.types.Step.{Step}
+use Rattle.mas_run.proofs.PaperLemmas.{sides_apart}
 use Rattle.mas_run.proofs.VolumeLemmas.{kept_on}
 use Rattle.mas_run.proofs.RunLemmas.{reset_alone}
 
@@ -94,7 +95,7 @@ some_left was1 is1 was2 is2 some is = ⊎_elim (λ here. here) (λ same. subst (
 
 -- nothing is done if there is room already
 pub settle_none : (told : Type 0) (is1 is2 : Bool) (v : View) → SomeAlive is1 is2 → IsSettle {T = Unit {0}} told 0 is1 is1 is2 is2 v v (Ok tt)
-settle_none told is1 is2 v some = record { course = course_none is1 is2 v; cause = some; spares = spares_none 0 v; loses = λ d. refl; apart = λ t. record { others = only_none v; console = refl; papers = papers_none v } }
+settle_none told is1 is2 v some = record { course = course_none is1 is2 v; cause = some; spares = spares_none 0 v; loses = λ d. refl; apart = λ t. apart_none v }
 
 module _ (told : Type 0) (batches : List Batch) (was1 m1 was2 m2 : Bool) (old mid : View) where
   -- there was no memory for Restart's batch, after room was made
@@ -152,14 +153,14 @@ pub reset_ended : {T : Type 0} (tells : Type 0) (steps : List Step) (base : Queu
     → HasSteps false tells steps (status_of {T = T} (Err why)) base journal since old.loses old new
 reset_ended tells steps base journal since old new a a' c c' no_node.NoMemory base_sound is some there1 there2 lost1 lost2 head r =
     reset_alone tells steps status.NoMemory base [] journal since old new base_sound r.ends.0 is r.course.goes (inr (inr (refl, inl refl, refl, refl))) (inl refl) r.loses (λ t. (r.apart t).console) head (λ both. absurd (cc))
-    (λ ne. left a' c' r.ends.1 (λ x. r.course.there1 x (there1 (r.course.alive1 x))) (λ y. r.course.there2 y (there2 (r.course.alive2 y)))) (λ t. kept_on old new (r.apart t).others) (λ t. (r.apart t).papers)
+    (λ ne. left a' c' r.ends.1 (λ x. r.course.there1 x (there1 (r.course.alive1 x))) (λ y. r.course.there2 y (there2 (r.course.alive2 y)))) (λ t. kept_on old new (r.apart t).others) (λ t. (r.apart t).papers) (λ t. sides_apart old new r.course.goes.later (r.apart t))
 reset_ended tells steps base journal since old new a a' c c' no_node.BothLost base_sound is some there1 there2 lost1 lost2 head r =
     ⊎_elim
     (λ none. reset_alone tells steps status.BothLost base [] journal since old new base_sound none is r.course.goes (inr (inr (refl, inr refl, refl, refl))) (inr refl) r.loses (λ t. (r.apart t).console) head
-    (λ both. (inl (lost1 r.ends.1.0), inl (lost2 r.ends.1.1))) (λ ne. absurd (ne refl)) (λ t. kept_on old new (r.apart t).others) (λ t. (r.apart t).papers))
+    (λ both. (inl (lost1 r.ends.1.0), inl (lost2 r.ends.1.1))) (λ ne. absurd (ne refl)) (λ t. kept_on old new (r.apart t).others) (λ t. (r.apart t).papers) (λ t. sides_apart old new r.course.goes.later (r.apart t)))
     (λ flies. reset_alone tells steps status.BothLost base (restart_at flies.0 ∷ []) journal since old new base_sound flies.2 is r.course.goes
     (inr (inl (restart_at flies.0, refl, record { by = refl; entries = refl; began = omega (arith, is, flies.1) }, refl, refl, refl, refl, refl))) (inr refl) r.loses (λ t. (r.apart t).console) head
-    (λ both. (inl (lost1 r.ends.1.0), inl (lost2 r.ends.1.1))) (λ ne. absurd (ne refl)) (λ t. kept_on old new (r.apart t).others) (λ t. (r.apart t).papers))
+    (λ both. (inl (lost1 r.ends.1.0), inl (lost2 r.ends.1.1))) (λ ne. absurd (ne refl)) (λ t. kept_on old new (r.apart t).others) (λ t. (r.apart t).papers) (λ t. sides_apart old new r.course.goes.later (r.apart t)))
     r.ends.0
 reset_ended tells steps base journal since old new a a' c c' no_node.ConsoleFault base_sound is some there1 there2 lost1 lost2 head r = absurd r.ends
 reset_ended tells steps base journal since old new a a' c c' no_node.Halted base_sound is some there1 there2 lost1 lost2 head r = absurd r.ends

@@ -28,10 +28,12 @@ use Rattle.run_turns.specs.Admissions.{Resets, TakesOver, tried}
 use Rattle.run_turns.specs.Pieces.{Piece, holder_of, once_found, reset_pieces}
 use Rattle.run_turns.specs.Scenes.{Scene, flight_found, queue_found}
 use Rattle.run_turns.specs.Sights.{Cut, Sight, clear}
+use Rattle.member_node.proofs.CourseLemmas.{wires_then}
 use Rattle.mas_run.specs.LinesAt.{LineAt}
 use Rattle.mas_run.specs.LinesLeft.{HasLeftAs}
 use Rattle.mas_run.specs.Resetting.{HasResetBy, HasToldReset}
 use Rattle.mas_run.specs.Shapes.{IsResetPiece}
+use Rattle.mas_run.proofs.StayLemmas.{stays_any}
 use Rattle.mas_run.proofs.StepLemmas.{ComesTo, comes_none, stepped_left}
 use Rattle.mas_run.proofs.VolumeLemmas.{kept_on}
 
@@ -83,7 +85,7 @@ module _ {P C : Type 0} (plants : PlantGhosts P) (copies : CopyGhosts C) (S : Sc
         stepped_left plants copies ⊥ (λ t. absurd t) S at step (Resets of) (record clear { cut = reset.cut }) reset.pieces x x y result hold grant
         (ap (λ f. once_found f reset.pieces) none) book refl (v x).now (comes_none plants ⊥ step.by.0 x still) reset.played reset.acts
         (inr (subst (λ (k : Holder). IsResetPiece k of reset.pieces) (sym held) reset.shaped)) (λ t. absurd t) (λ t. absurd t) reset.tight
-        (λ t. absurd t) (λ t. absurd t) (λ t. absurd t) (λ t. absurd t) (λ t. absurd t) (λ t. absurd t)
+        (λ t. absurd t) (λ t. absurd t) (λ t. absurd t) (λ t. absurd t) (λ t. absurd t) (λ t. absurd t) (λ t. absurd t)
 
     pub resets_told : plants.tells → queue_of x ≡ S.queue → counts_of x.printed step.by ≡ S.counts step.by → (so : HasToldReset plants copies h of x y result)
         → HasLeftAs plants copies (Unit {0}) (line_so (record clear { cut = so.cut }) so.pieces) (Resets of) x y result
@@ -92,7 +94,7 @@ module _ {P C : Type 0} (plants : PlantGhosts P) (copies : CopyGhosts C) (S : Sc
         (ap (λ f. once_found f so.pieces) none) book refl (v x).now (comes_none plants (Unit {0}) step.by.0 x still) so.left reset.acts
         (inl tt) (λ t. so.is ∙ ap (λ (Q : Queue). reset_pieces Q h of) queue ∙ ap (λ (k : Holder). reset_pieces S.queue k of) (sym held))
         (λ t. reset_honest S.queue.config.groups step.by (v x) (v y) (queue_of x) h of so.pieces result so.cut S.queue so.is so.left.by_answer) so.tight
-        (λ t. so.broke) (λ t so. reset.papers tells) (λ t so. kept_on (v x) (v y) (reset.others tells)) (λ t up. counted) (λ t. so.writes) (λ t. tt)
+        (λ t. so.broke) (λ t so. reset.papers tells) (λ t so. kept_on (v x) (v y) (reset.others tells)) (λ t up. counted) (λ t. so.writes) (λ t. stays_any _ (v x) (v y) reset.volumes) (λ t. reset.wires tells)
 
   -- WITH THE LOCK TAKEN OVER, once it was found out what became of a batch in flight
 
@@ -110,7 +112,7 @@ module _ {P C : Type 0} (plants : PlantGhosts P) (copies : CopyGhosts C) (S : Sc
           stepped_left plants copies ⊥ (λ t. absurd t) S at step (TakesOver of) (record clear { cut = reset.cut; flight = found }) reset.pieces x mid y result hold grant
           (ap (λ f. once_found f reset.pieces) (none_flies found S.flight fated)) book refl when comes reset.played reset.acts
           (inr (subst (λ (k : Holder). IsResetPiece k of reset.pieces) (sym held) reset.shaped)) (λ t. absurd t) (λ t. absurd t) reset.tight
-          (λ t. absurd t) (λ t. absurd t) (λ t. absurd t) (λ t. absurd t) (λ t. absurd t) (λ t. absurd t)
+          (λ t. absurd t) (λ t. absurd t) (λ t. absurd t) (λ t. absurd t) (λ t. absurd t) (λ t. absurd t) (λ t. absurd t)
 
       pub takes_told : plants.tells → ComesTo plants copies.reads (Unit {0}) step.by.0 true found when x mid → queue_of mid ≡ queue_found found S.flight S.queue → counts_of mid.printed step.by ≡ S.counts step.by
           → (so : HasToldReset plants copies h of mid y result)
@@ -120,4 +122,5 @@ module _ {P C : Type 0} (plants : PlantGhosts P) (copies : CopyGhosts C) (S : Sc
           (ap (λ f. once_found f so.pieces) (none_flies found S.flight fated)) book refl when comes so.left reset.acts
           (inl tt) (λ t. so.is ∙ ap (λ (Q : Queue). reset_pieces Q h of) queue ∙ ap (λ (k : Holder). reset_pieces (queue_found found S.flight S.queue) k of) (sym held))
           (λ t. reset_honest S.queue.config.groups step.by (v x) (v y) (queue_of mid) h of so.pieces result so.cut (queue_found found S.flight S.queue) so.is so.left.by_answer) so.tight
-          (λ t. so.broke) (λ t so. reset.papers tells) (λ t so. kept_on (v mid) (v y) (reset.others tells)) (λ t up. counted) (λ t. so.writes) (λ t. tt)
+          (λ t. so.broke) (λ t so. reset.papers tells) (λ t so. kept_on (v mid) (v y) (reset.others tells)) (λ t up. counted) (λ t. so.writes) (λ t. stays_any _ (v mid) (v y) reset.volumes)
+          (λ t. wires_then (v x) (v mid) (v y) (comes.wires t) (reset.wires tells))

@@ -36,7 +36,7 @@ use Rattle.spool_plant.specs.declared.plant.Part.TheVariants.{Disk as DiskPart, 
 use Rattle.spool_plant.specs.Acts.{Goes, Rose, top}
 use Rattle.ckpt_form.specs.Form.{form_reads}
 use Rattle.ckpt_copy.specs.Changes.{NoMore}
-use Rattle.ckpt_copy.specs.Moments.{goes_none, goes_on}
+use Rattle.ckpt_copy.specs.Moments.{goes_none, goes_on, sides_none}
 use Rattle.ckpt_copy.specs.Reading.{AllRead}
 use Rattle.duplex_pair.specs.Halves.{SomeAlive, IsBothLost}
 use Rattle.duplex_pair.specs.declared.errors.PairNo.{PairNo}
@@ -51,9 +51,9 @@ use Rattle.mas_complex.specs.Headline.{Headline, AreToldKept}
 use Rattle.member_node.specs.declared.member.NodeNo.{NodeNo}
 use Rattle.script_lang.specs.declared.types.Script.{Script}
 use Rattle.script_lang.specs.declared.types.Step.{Step}
-use Rattle.mas_run.specs.Runs.{has_begun, AreAway, HasLost, IsAway, IsRestart, IsReset, IsRun, HavePassed, IsSafe, IsPlay, HasSteps, ReadsThere, LinesBegun, LinesEnded, NonePassed, ReplacesNone, WerePlayed, as_found, lost_from, starts, stops, OneIsGood}
+use Rattle.mas_run.specs.Runs.{has_begun, AreAway, AreSidesKept, HasLost, IsAway, IsRestart, IsReset, IsRun, HavePassed, IsSafe, IsPlay, HasSteps, ReadsThere, LinesBegun, LinesEnded, NonePassed, ReplacesNone, WerePlayed, as_found, lost_from, starts, stops, OneIsGood}
 use Rattle.mas_run.specs.Volumes.{AreVolumesKept, AreVolumesKeptUntil}
-use Rattle.mas_run.proofs.PaperLemmas.{papers_at, papers_past, papers_then}
+use Rattle.mas_run.proofs.PaperLemmas.{papers_at, papers_past, papers_then, sides_on}
 use Rattle.mas_run.proofs.VolumeLemmas.{kept_none, kept_past, kept_then}
 use Rattle.mas_types.specs.declared.journals.Batch.{Batch}
 use Rattle.mas_complex.specs.Journals.{kept_all, fated, AreSettled}
@@ -225,7 +225,7 @@ module _ {P C : Type 0} (plants : PlantGhosts P) where
 
 module _ (told : Type 0) (b : LinesBegun) (front : List Batch) (now : ℕ) (settled : AreSettled front now) where
   abbrev from_there : Here
-  from_there = record { reads = form_reads; number = 1; scene = scene_of b.from; batches = front; renewals = no_renewals; view = b.view }
+  from_there = record { reads = form_reads; since = b.since; number = 1; scene = scene_of b.from; batches = front; renewals = no_renewals; view = b.view }
 
   abbrev after : ℕ → There → LinesEnded
   after many end = record { many = many; batches = drop (length front) end.batches; renewals = end.renewals; view = end.view; answer = status_of end.answer }
@@ -248,7 +248,7 @@ module _ (tells : Type 0) (b : LinesBegun) (e : LinesEnded) where
     entered = goes_none b.view;
     lost_before = λ d. refl;
     unsaid = λ t. refl;
-    dry = λ t m. refl;
+    dry = λ t. sides_none (b.view.world b.view.now);
     bare = inr bare;
     told = λ t. inr (told t);
     good = there;
@@ -258,11 +258,11 @@ module _ (tells : Type 0) (b : LinesBegun) (e : LinesEnded) where
 pub play_of_lines : (tells : Type 0) (steps : List Step) (base : Queue) (front : List Batch) (now : ℕ) (journal : Journal) (rs : Renewals) (since : ℕ) (old new : View) (result : Result (Unit {0}) NodeNo) (many : ℕ)
     → AreSettled front now → IsSound base → (tells → ∥ Headline form_reads base since journal rs new ∥₁) → (status_of result ≡ status.BothLost → AreAway rs new)
     → (status_of result ≢ status.BothLost → OneIsGood rs new ⊎ HasLost old new)
-    → Passed ⊥ (record { reads = form_reads; number = 1; scene = scene_of (run base (kept_all front)); batches = front; renewals = no_renewals; view = old }) steps many (record { batches = journal.batches; renewals = rs; view = new; answer = result })
-    → (tells → Passed (Unit {0}) (record { reads = form_reads; number = 1; scene = scene_of (run base (kept_all front)); batches = front; renewals = no_renewals; view = old }) steps many (record { batches = journal.batches; renewals = rs; view = new; answer = result }))
+    → Passed ⊥ (record { reads = form_reads; since = since; number = 1; scene = scene_of (run base (kept_all front)); batches = front; renewals = no_renewals; view = old }) steps many (record { batches = journal.batches; renewals = rs; view = new; answer = result })
+    → (tells → Passed (Unit {0}) (record { reads = form_reads; since = since; number = 1; scene = scene_of (run base (kept_all front)); batches = front; renewals = no_renewals; view = old }) steps many (record { batches = journal.batches; renewals = rs; view = new; answer = result }))
     → IsPlay tells steps (status_of result) base front journal since old new
 play_of_lines tells steps base front now journal rs since old new result many settled sound head away there bare told =
-    let b : LinesBegun = record { steps = steps; from = run base (kept_all front); view = old } in
+    let b : LinesBegun = record { steps = steps; from = run base (kept_all front); since = since; view = old } in
     let end : There = record { batches = journal.batches; renewals = rs; view = new; answer = result } in
     let one = have_lines ⊥ b front now settled many end bare in
     record {
@@ -303,19 +303,19 @@ cold_lines tells steps answer base front journal since old new none is goes p = 
   dry = λ t. papers_at old new goes;
   safe = p.safe;
   away = p.away;
-  stays = λ d other. lines_stay tells (record { steps = steps; from = run base (kept_all front); view = old }) (record { many = p.many; batches = p.rest; renewals = p.renewals; view = new; answer = answer }) old.loses old d p.played other;
+  stays = λ d other. lines_stay tells (record { steps = steps; from = run base (kept_all front); since = since; view = old }) (record { many = p.many; batches = p.rest; renewals = p.renewals; view = new; answer = answer }) old.loses old d p.played other;
 }
 
 -- THE LINES AS THE CALL HAS THEM, which began before the formatting or the start
 
 module _ (first : View) (b : LinesBegun) (e : LinesEnded) (old : View) (goes : Goes first old) where
-  played_since : (tells : Type 0) (was other : Dev → ℕ) → (tells → console_now old ≡ console_now first) → (tells → SamePapers first old) → ((d : Dev) → was d ≡ other d)
+  played_since : (tells : Type 0) (was other : Dev → ℕ) → (tells → console_now old ≡ console_now first) → (tells → AreSidesKept first old) → ((d : Dev) → was d ≡ other d)
       → WerePlayed tells b e was old → WerePlayed tells b e other first
-  played_since tells was other quiet papers same p = record {
+  played_since tells was other quiet sides same p = record {
     entered = goes_on first old b.view goes p.entered;
     lost_before = λ d. p.lost_before d ∙ same d;
     unsaid = λ t. p.unsaid t ∙ quiet t;
-    dry = λ t m. p.dry t m ∙ papers t old.now goes.later (let here : old.now ≤ old.now = omega arith in here) m;
+    dry = λ t. sides_on (first.world first.now) (old.world old.now) (b.view.world b.view.now) (sides t) (p.dry t);
     bare = p.bare;
     told = p.told;
     good = λ ne. ⊎_elim inl (λ lost. inr (⊎_elim
@@ -325,8 +325,8 @@ module _ (first : View) (b : LinesBegun) (e : LinesEnded) (old : View) (goes : G
 
 module _ (first old new : View) (goes : Goes first old) (on : Proceeds old new) where
   pub steps_since : (cold : Bool) (tells : Type 0) (steps : List Step) (answer : Status) (base : Queue) (journal : Journal) (since : ℕ) (was : Dev → ℕ) → (tells → console_now old ≡ console_now first)
-      → (tells → AreVolumesKept first old) → (tells → SamePapers first old) → HasSteps cold tells steps answer base journal since was old new → HasSteps cold tells steps answer base journal since was first new
-  steps_since cold tells steps answer base journal since was quiet kept papers r = record {
+      → (tells → AreVolumesKept first old) → (tells → SamePapers first old) → (tells → AreSidesKept first old) → HasSteps cold tells steps answer base journal since was old new → HasSteps cold tells steps answer base journal since was first new
+  steps_since cold tells steps answer base journal since was quiet kept papers sides r = record {
     opening = r.opening;
     rest = r.rest;
     batches = r.batches;
@@ -334,8 +334,8 @@ module _ (first old new : View) (goes : Goes first old) (on : Proceeds old new) 
     at = r.at;
     began = r.began;
     many = r.many;
-    played = played_since first (record { steps = steps; from = run base (kept_all r.opening); view = r.entry }) (record { many = r.many; batches = r.rest; renewals = r.renewals; view = new; answer = answer }) old goes
-        tells was was quiet papers (λ d. refl) r.played;
+    played = played_since first (record { steps = steps; from = run base (kept_all r.opening); since = since; view = r.entry }) (record { many = r.many; batches = r.rest; renewals = r.renewals; view = new; answer = answer }) old goes
+        tells was was quiet sides (λ d. refl) r.played;
     opened = r.opened;
     before = λ t. kept_then r.at first old new goes.later on (kept t) (r.before t);
     dry = λ t. papers_then r.at first old new goes.later on (papers t) (r.dry t);
@@ -347,9 +347,9 @@ module _ (first old new : View) (goes : Goes first old) (on : Proceeds old new) 
 
   -- what was played after Restart is what is played of a warm run
   pub warm_lines : (tells : Type 0) (steps : List Step) (answer : Status) (base : Queue) (b : Batch) (last : ℕ) (front : List Batch) (journal : Journal) (since : ℕ) → front ≡ fated Kept last b ∷ [] → IsRestart since b → b.first ≤ last → last ≤ old.now → since ≤ old.now
-      → ((d : Dev) → old.loses d ≡ first.loses d) → (tells → console_now old ≡ console_now first) → (tells → AreVolumesKept first old) → (tells → SamePapers first old)
+      → ((d : Dev) → old.loses d ≡ first.loses d) → (tells → console_now old ≡ console_now first) → (tells → AreVolumesKept first old) → (tells → SamePapers first old) → (tells → AreSidesKept first old)
       → IsPlay tells steps answer base front journal since old new → HasSteps false tells steps answer base journal since first.loses first new
-  warm_lines tells steps answer base b last front journal since are is order past from same quiet kept papers p = record {
+  warm_lines tells steps answer base b last front journal since are is order past from same quiet kept papers sides p = record {
     opening = front;
     rest = p.rest;
     batches = p.batches;
@@ -357,8 +357,8 @@ module _ (first old new : View) (goes : Goes first old) (on : Proceeds old new) 
     at = old.now;
     began = (from, on.later, refl);
     many = p.many;
-    played = played_since first (record { steps = steps; from = run base (kept_all front); view = old }) (record { many = p.many; batches = p.rest; renewals = p.renewals; view = new; answer = answer }) old goes
-        tells old.loses first.loses quiet papers same p.played;
+    played = played_since first (record { steps = steps; from = run base (kept_all front); since = since; view = old }) (record { many = p.many; batches = p.rest; renewals = p.renewals; view = new; answer = answer }) old goes
+        tells old.loses first.loses quiet sides same p.played;
     opened = inl (fated Kept last b, are, record { by = is.by; entries = is.entries; began = is.began }, refl, order, past);
     before = λ t. kept_past old.now first old new (let le : old.now ≤ old.now = omega arith in le) on (kept t);
     dry = λ t. papers_past old.now first old new (let le : old.now ≤ old.now = omega arith in le) on (papers t);
@@ -366,7 +366,7 @@ module _ (first old new : View) (goes : Goes first old) (on : Proceeds old new) 
     renewals = p.renewals;
     away = p.away;
     stays = λ d other is.
-        lines_stay tells (record { steps = steps; from = run base (kept_all front); view = old }) (record { many = p.many; batches = p.rest; renewals = p.renewals; view = new; answer = answer }) old.loses old d p.played other
+        lines_stay tells (record { steps = steps; from = run base (kept_all front); since = since; view = old }) (record { many = p.many; batches = p.rest; renewals = p.renewals; view = new; answer = answer }) old.loses old d p.played other
         (goes.lost (DiskPart d) is);
   }
 
@@ -374,10 +374,10 @@ module _ (first old new : View) (goes : Goes first old) (on : Proceeds old new) 
 pub reset_alone : (tells : Type 0) (steps : List Step) (answer : Status) (base : Queue) (opening : List Batch) (journal : Journal) (since : ℕ) (old new : View) → IsSound base → journal.batches ≡ opening → since ≡ old.now → Goes old new → IsReset answer since new.now opening 0 []
     → (answer ≡ status.NoMemory) ⊎ (answer ≡ status.BothLost) → ((d : Dev) → new.loses d ≡ old.loses d) → (tells → console_now new ≡ console_now old) → (tells → ∥ Headline form_reads base since journal no_renewals new ∥₁)
     → (answer ≡ status.BothLost → AreAway no_renewals new)
-    → (answer ≢ status.BothLost → (new.lost (DiskPart Ckpt1) ≡ false) ⊎ (new.lost (DiskPart Ckpt2) ≡ false)) → (tells → AreVolumesKept old new) → (tells → SamePapers old new)
+    → (answer ≢ status.BothLost → (new.lost (DiskPart Ckpt1) ≡ false) ⊎ (new.lost (DiskPart Ckpt2) ≡ false)) → (tells → AreVolumesKept old new) → (tells → SamePapers old new) → (tells → AreSidesKept old new)
     → HasSteps false tells steps answer base journal since old.loses old new
-reset_alone tells steps answer base opening journal since old new sound are is goes reset why same quiet head away there kept papers =
-    let none : NonePassed (record { steps = steps; from = run base (kept_all opening); view = new }) (record { many = 0; batches = []; renewals = no_renewals; view = new; answer = answer }) =
+reset_alone tells steps answer base opening journal since old new sound are is goes reset why same quiet head away there kept papers sides =
+    let none : NonePassed (record { steps = steps; from = run base (kept_all opening); since = since; view = new }) (record { many = 0; batches = []; renewals = no_renewals; view = new; answer = answer }) =
     record { why = why; none = refl; empty = refl; unrenewed = refl; still = refl } in
     record {
       opening = opening;
@@ -391,7 +391,7 @@ reset_alone tells steps answer base opening journal since old new sound are is g
         entered = goes;
         lost_before = same;
         unsaid = quiet;
-        dry = λ t m. papers t new.now goes.later (let here : new.now ≤ new.now = omega arith in here) m;
+        dry = sides;
         bare = inl none;
         told = λ t. inl none;
         good = λ ne. inl (⊎_elim (λ one. inl (one, refl)) (λ two. inr (two, refl)) (there ne));
@@ -513,7 +513,7 @@ caused_through a a' c c' answer v0 v1 v2 course goes grow caused = record {
 stepless_run : (cold : Bool) (tells : Type 0) (script : Script) (answer : Status) (base : Queue) (journal : Journal) (since : ℕ) (old new : View) → script.steps ≡ [] → IsRun cold tells script answer base journal since old new → tells → AreVolumesKept old new
 stepless_run cold tells script answer base journal since old new none r t =
     let s = r.steps in
-    let b : LinesBegun = record { steps = script.steps; from = run base (kept_all s.opening); view = s.entry } in
+    let b : LinesBegun = record { steps = script.steps; from = run base (kept_all s.opening); since = since; view = s.entry } in
     let e : LinesEnded = record { many = s.many; batches = s.rest; renewals = s.renewals; view = new; answer = answer } in
     ⊎_elim
     (λ (p : NonePassed b e). subst (λ (n : ℕ). AreVolumesKeptUntil n old new) (sym s.began.2 ∙ ap (λ (v : View). v.now) (sym p.still)) (s.before t))

@@ -14,7 +14,7 @@ use Rattle.mas_complex.specs.Parts.{Parts}
 use Rattle.member_decks.specs.Keeping.{CopyCauses}
 use Rattle.member_lines.specs.Closes.{HasCause, HasClosed, HasClosedBy, IsCutAs, before_line, left_at as closes_at}
 use Rattle.member_lines.specs.Locks.{IsSeated, IsUnseated, seat_cut}
-use Rattle.member_node.proofs.CourseLemmas.{rose_later}
+use Rattle.member_node.proofs.CourseLemmas.{rose_later, stay_then, wires_then}
 use Rattle.member_node.proofs.SpareLemmas.{spares_for, spares_then}
 use Rattle.member_node.specs.declared.member.Member.{Member}
 use Rattle.member_node.specs.declared.member.NodeNo.{NodeNo}
@@ -35,7 +35,7 @@ use Rattle.mas_run.proofs.ClosingLemmas.{Ending, HasMerelyActed, IsCloser, MayEn
 use Rattle.mas_run.proofs.PassedLemmas.{kept_later, proceeds_of, proceeds_on}
 use Rattle.mas_run.proofs.StopLemmas.{papers_on}
 use Rattle.mas_run.proofs.VolumeLemmas.{kept_on}
-use Rattle.mas_run.proofs.StayLemmas.{console_stays, if_stays, stays_then}
+use Rattle.mas_run.proofs.StayLemmas.{console_stays}
 
 -- WHAT A CALL THAT CLOSES DID
 
@@ -80,8 +80,9 @@ module _ {P C : Type 0} (plants : PlantGhosts P) (S : Scene) (by : MemberId) (at
     failed = λ is. subst (λ (q : Result (Unit {0}) NodeNo). HasCause q sayer.0 (v x) (v y)) is closed.cause;
     loses = λ t. closed.acts.loses;
     papers = closed.acts.papers;
+    wires = closed.acts.wires;
     volumes = λ t. kept_on (v x) (v y) (closed.acts.others t);
-    stay = if_stays a _ (console_stays (v x) (v y) closed.acts);
+    stay = console_stays (v x) (v y) closed.acts;
   }
 
 if_runs : (r : Result (Unit {0}) NodeNo) (P : Type 0) → P → IfRuns r P
@@ -174,8 +175,9 @@ module _ {P C : Type 0} (plants : PlantGhosts P) (copies : CopyGhosts C) (S : Sc
     failed = λ is. absurd (subst (λ (q : Result (Unit {0}) NodeNo). CopyCauses q m.id.0 x.first_alive z.first_alive x.second_alive z.second_alive (u x) (u z)) is acts.cause);
     loses = acts.loses;
     papers = λ t. (acts.apart t).papers;
+    wires = λ t. (acts.apart t).wires;
     volumes = λ t. kept_on (u x) (u z) (acts.apart t).others;
-    stay = if_stays a _ acts.course.volumes;
+    stay = acts.course.volumes;
   }
 
   -- then others
@@ -189,8 +191,9 @@ module _ {P C : Type 0} (plants : PlantGhosts P) (copies : CopyGhosts C) (S : Sc
     failed = λ is. rose_later ((u x).faults Console) ((u mid).faults Console) ((u y).faults Console) (one.goes.faults Console) (two.failed is);
     loses = λ t d. two.loses t d ∙ one.loses t d;
     papers = λ t. papers_on (u x) (u mid) (u y) one.goes.later two.goes (one.papers t) (two.papers t);
+    wires = λ t. wires_then (u x) (u mid) (u y) (one.wires t) (two.wires t);
     volumes = λ t. kept_later (u x) (u mid) (u y) one.goes.later two.goes (one.volumes t) (two.volumes t);
-    stay = stays_then a none_lost (u x) (u mid) (u y) one.stay two.stay;
+    stay = stay_then none_lost (u x) (u mid) (u y) one.stay two.stay;
   }
 
   -- the member had no seat: its line is cut before anything was said

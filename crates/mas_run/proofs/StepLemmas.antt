@@ -10,18 +10,18 @@ use Rattle.lock_cycle.specs.Books.{is_stopped}
 use Rattle.spool_plant.specs.declared.plant.Part.TheVariants.{Console, Disk}
 use Rattle.spool_plant.specs.declared.plant.Plant.{Ghosts as PlantGhosts}
 use Rattle.spool_plant.specs.View.{Line, View, paper_now}
-use Rattle.spool_plant.specs.Acts.{Goes, Rose}
+use Rattle.spool_plant.specs.Acts.{Goes, Rose, SameWires}
 use Rattle.ckpt_copy.specs.declared.copying.Copying.{Ghosts as CopyGhosts}
 use Rattle.ckpt_copy.specs.Moments.{goes_on, goes_none}
 use Rattle.mas_complex.specs.Paper.{SamePapers, counts_of}
 use Rattle.mas_complex.specs.Parts.{Parts}
 use Rattle.member_hand.specs.Cuts.{AreBatched, AtCut, IsBatched, IsBroken, IsCutBy as IsCutIn, IsTight, whole_pieces}
-use Rattle.member_hand.specs.Found.{AreFoundIn, waits_in, named_in}
-use Rattle.member_hand.specs.Plays.{HasActedIn, HasCut, HasPlayed, HasToldStep, IfCommand, Writes, left_of, play_in}
-use Rattle.member_node.proofs.CourseLemmas.{papers_on, rose_later, papers_none}
+use Rattle.member_hand.specs.Found.{AreFoundIn, Wait, waits_in, named_in}
+use Rattle.member_hand.specs.Plays.{HasActedIn, HasCut, HasPlayed, HasToldStep, IfCommand, IfNoPrint, Writes, left_of, play_in}
+use Rattle.member_node.proofs.CourseLemmas.{wires_none, papers_on, rose_later, papers_none, stay_none, stay_then}
 use Rattle.member_node.proofs.SpareLemmas.{spares_then, spares_none}
 use Rattle.member_node.specs.declared.member.NodeNo.{NodeNo}
-use Rattle.member_node.specs.Calls.{console_now, VolumesStay}
+use Rattle.member_node.specs.Calls.{console_now, VolumesStay, none_lost}
 use Rattle.member_node.specs.Spares.{Spares, stopped_in}
 use Rattle.member_sittings.specs.Sat.{journal_of, begins}
 use Rattle.member_sittings.specs.Tight.{IfNoWork}
@@ -35,14 +35,16 @@ use Rattle.run_turns.specs.Pieces.{Piece, Play, fate_found, holder_of, once_foun
 use Rattle.run_turns.specs.Scenes.{Batched, Scene}
 use Rattle.run_turns.specs.Sights.{Cut, Halt, Sight, clear}
 use Rattle.mas_run.specs.Histories.{settle}
-use Rattle.mas_run.specs.Lines.{AdmissionLeaves, IfIdle, LosesAs, PrintsNone, is_takeover, is_work, Proceeds, taking, IfStays}
+use Rattle.mas_run.specs.Lines.{AdmissionLeaves, IfIdle, LosesAs, PrintsNone, is_takeover, is_work, Proceeds, taking, named_as}
 use Rattle.mas_run.specs.LinesAt.{LineAt, pieces_as, play_as}
 use Rattle.mas_run.specs.LinesLeft.{HasLeftAs, IfRuns, IsCutBy, ended_as, left_as}
 use Rattle.mas_run.specs.Shapes.{IsShapedAs, IsTaskShaped}
 use Rattle.mas_run.specs.Volumes.{AreVolumesKept}
+use Rattle.mas_run.specs.Wires.{Carries, waits_as}
 use Rattle.mas_run.proofs.ErasedLemmas.{erased, left_alike, left_same}
 use Rattle.mas_run.proofs.PassedLemmas.{kept_later, proceeds_of}
 use Rattle.mas_run.proofs.StopLemmas.{loses_on}
+use Rattle.mas_run.proofs.WireLemmas.{ReadsLine, WaitsOnLine, carries_as, task_carries, waits_on}
 use Rattle.step_turns.specs.Courses.{task_most}
 use Rattle.step_turns.specs.declared.states.Grant.{Grant}
 use Rattle.step_turns.specs.declared.states.State.TheVariants.{Fresh}
@@ -99,8 +101,10 @@ pub record ComesTo {P C : Type 0} (plants : PlantGhosts P) (reads : List ℕ →
   pub printed : mid.printed ≡ x.printed
   pub console : told → console_now (plants.view mid.plant) ≡ console_now (plants.view x.plant)
   pub papers : told → SamePapers (plants.view x.plant) (plants.view mid.plant)
+  pub wires : told → SameWires (plants.view x.plant) (plants.view mid.plant)
   pub loses : told → LosesAs reads (taking takes found) None (plants.view x.plant) (plants.view mid.plant)
   pub volumes : told → AreVolumesKept (plants.view x.plant) (plants.view mid.plant)
+  pub stay : VolumesStay none_lost (plants.view x.plant) (plants.view mid.plant)
 
 -- a step with which the line begins
 pub comes_none : {P C : Type 0} (plants : PlantGhosts P) {reads : List ℕ → Option (List ℕ)} (told : Type 0) (by : ℕ) (x : Parts P C) → journal_of x ≡ x.batches → ComesTo plants reads told by false Flying (plants.view x.plant).now x x
@@ -112,8 +116,10 @@ comes_none plants told by x still = record {
   printed = refl;
   console = λ t. refl;
   papers = λ t. papers_none (plants.view x.plant);
+  wires = λ t. wires_none (plants.view x.plant);
   loses = λ t d. inl refl;
   volumes = λ t. kept_none (plants.view x.plant);
+  stay = stay_none none_lost (plants.view x.plant);
 }
 
 ok_then : (r : Result (Unit {0}) NodeNo) (A B : Type 0) → (A → B) → OnOk r A → OnOk r B
@@ -159,6 +165,9 @@ module _ {P C : Type 0} (plants : PlantGhosts P) (copies : CopyGhosts C) (told :
     printed_alike : left_mid.printed ≡ (left_as l a).printed
     printed_alike = ap (λ (k : Left). k.printed) alike
 
+    given_alike : left_mid.given ≡ (left_as l a).given
+    given_alike = ap (λ (k : Left). k.given) alike
+
     -- and the count too, where it begins alike
     count_alike : counts_of mid.printed step.by ≡ S.counts step.by → left_mid.count ≡ (left_as l a).count
     count_alike same =
@@ -175,7 +184,7 @@ module _ {P C : Type 0} (plants : PlantGhosts P) (copies : CopyGhosts C) (told :
     Finds qs = AreFoundIn S.queue.config.groups step.by (v x) (v y) sight.finds (waits_in (take (whole_pieces sight.cut qs) qs) (queue_met S a sight))
 
     abbrev Stay : List Piece → Type 0
-    Stay qs = IfStays a (VolumesStay (named_in sight.finds (waits_in (take (whole_pieces sight.cut qs) qs) (queue_met S a sight))) (v x) (v y))
+    Stay qs = VolumesStay (named_in sight.finds (waits_in (take (whole_pieces sight.cut qs) qs) (queue_met S a sight))) (v mid) (v y)
 
     abbrev Tight : List Piece → Type 0
     Tight qs = IfIdle (is_work a) (AtCut (IsTight (ended_as result)) sight.cut qs)
@@ -186,15 +195,15 @@ module _ {P C : Type 0} (plants : PlantGhosts P) (copies : CopyGhosts C) (told :
     pub stepped_left : told ⊎ IsShapedAs l (v x) (v y) a → (told → ArePiecesOf S step.by at a l.given) → (told → Finds ps) → Tight ps → (told → Breaks ps)
         → (told → PrintsNone a → SamePapers (v mid) (v y)) → (told → AdmissionLeaves a → AreVolumesKept (v mid) (v y))
         → (told → is_stopped S.book step.by ≡ false → counts_of mid.printed step.by ≡ S.counts step.by) → (told → Writes plants copies step.by left_mid mid y result) → (told → Stay ps)
-        → HasLeftAs plants copies told l a x y result
-    stepped_left shaped right honest tight broke dry volumes counted written stay = record {
+        → (told → Carries x.since l a left_mid.given (v x) (v y)) → HasLeftAs plants copies told l a x y result
+    stepped_left shaped right honest tight broke dry volumes counted written stay wires = record {
       goes = proceeds_of (v x) (v y) (goes_on (v x) (v mid) (v y) comes.goes acts.course.goes);
       stays = λ d other is. acts.course.goes.lost (Disk d) (comes.goes.lost (Disk d) is);
       arms = λ m. acts.course.goes.arms m ∙ comes.goes.arms m;
       shaped = shaped;
       right = right;
       honest = λ t. subst (λ (qs : List Piece). Finds qs) (sym pieces) (honest t);
-      stay = λ t. subst (λ (qs : List Piece). Stay qs) (sym pieces) (stay t);
+      stay = λ t. stay_then (named_as l a sight.cut) (v x) (v mid) (v y) comes.stay (subst (λ (qs : List Piece). Stay qs) (sym pieces) (stay t));
       cut = subst (λ (qs : List Piece). IsCutBy result qs sight.cut) (sym pieces) (cut_there result ps sight.cut cut.by_answer);
       tight = subst (λ (qs : List Piece). Tight qs) (sym pieces) tight;
       broke = λ t. subst (λ (qs : List Piece). Breaks qs) (sym pieces) (broke t);
@@ -219,6 +228,7 @@ module _ {P C : Type 0} (plants : PlantGhosts P) (copies : CopyGhosts C) (told :
       other_counts = λ t m other. (written t).other_counts m other ∙ ap (λ (p : List ℕ). counts_of p m) comes.printed;
       loses = λ t d. loses_on copies.reads (v x) (v mid) (v y) acts.course.goes (acts.loses (tells t)) (taking (is_takeover a) (fate_found a sight)) d (comes.loses t d);
       volumes = λ t leaves. kept_later (v x) (v mid) (v y) comes.goes.later on (comes.volumes t) (volumes t leaves);
+      wires = λ t. carries_as x.since l a left_mid.given (left_as l a).given (v x) (v y) given_alike (wires t);
     }
 
 -- A TASK, played as a whole step
@@ -230,11 +240,11 @@ tight_so (Deck fields text) A B f is = f is
 tight_so (Work n) A B f is = tt
 tight_so (Node l) A B f is = tt
 
-dry_so : (task : Task) (A : Type 0) → IfNoWork (Fresh task) A → PrintsNone (Plays task) → A
+dry_so : (task : Task) (A : Type 0) → IfNoPrint (Fresh task) A → PrintsNone (Plays task) → A
 dry_so (Give c) A is none = is
 dry_so (Deck fields text) A is none = is
 dry_so (Work n) A is none = absurd none
-dry_so (Node l) A is none = absurd none
+dry_so (Node l) A is none = is
 
 still_so : (task : Task) (A : Type 0) → IfCommand (Fresh task) A → AdmissionLeaves (Plays task) → A
 still_so (Give c) A is leaves = is
@@ -249,7 +259,7 @@ cut_so (Ok done) ps cut P is at = subst (λ (c : Option Cut). AtCut (P no_node.H
 cut_so (Err e) ps cut P is at = at
 
 module _ {P C : Type 0} (plants : PlantGhosts P) (copies : CopyGhosts C) (S : Scene) (at : ℕ) (step : Step) (task : Task) (x y : Parts P C) (pages : ℕ)
-    (result : Result (Unit {0}) NodeNo) (hold : ℕ) (grant : Grant) (none : S.flight ≡ None) (book : tried S.book step.by (Plays task) ≡ x.book)
+    (was is : Option (List ℕ)) (result : Result (Unit {0}) NodeNo) (hold : ℕ) (grant : Grant) (none : S.flight ≡ None) (book : tried S.book step.by (Plays task) ≡ x.book)
     (held : holder_of S step.by at (Plays task) ≡ record { by = step.by; step = at; hold = hold; grant = grant }) (still : journal_of x ≡ x.batches) where
   abbrev u : Parts P C → View
   u z = plants.view z.plant
@@ -261,18 +271,19 @@ module _ {P C : Type 0} (plants : PlantGhosts P) (copies : CopyGhosts C) (S : Sc
   line_so sight ps = record { scene = S; number = at; step = step; given = record { sight = sight; pieces = ps } }
 
   -- a step of any plant, by its pieces and its cut
-  pub plays_bare : (played : HasPlayed plants copies (begins k (Fresh task)) x y pages result)
+  pub plays_bare : (played : HasPlayed plants copies (begins k (Fresh task)) x y pages was is result)
       → HasLeftAs plants copies ⊥ (line_so (record clear { cut = played.cut }) played.pieces) (Plays task) x y result
   plays_bare played =
       stepped_left plants copies ⊥ (λ t. absurd t) S at step (Plays task) (record clear { cut = played.cut }) played.pieces x x y result hold grant
       (ap (λ f. once_found f played.pieces) none) book refl (u x).now (comes_none plants ⊥ step.by.0 x still) played.played played.acts
       (inr (subst (λ (m : Holder). IsTaskShaped m (u x) (u y) task played.pieces) (sym held) (record { own = played.played.of; shaped = played.shaped })))
       (λ t. absurd t) (λ t. absurd t) (tight_so task _ _ (cut_so result played.pieces played.cut IsTight played.played.by_answer) played.tight)
-      (λ t. absurd t) (λ t. absurd t) (λ t. absurd t) (λ t. absurd t) (λ t. absurd t) (λ t. absurd t)
+      (λ t. absurd t) (λ t. absurd t) (λ t. absurd t) (λ t. absurd t) (λ t. absurd t) (λ t. absurd t) (λ t. absurd t)
 
   -- and of one that tells
   module _ (queue : queue_of x ≡ S.queue) (groups : x.base.config.groups ≡ S.queue.config.groups) (counted : counts_of x.printed step.by ≡ S.counts step.by)
-      (played : HasPlayed plants copies (begins k (Fresh task)) x y pages result) (so : HasToldStep plants copies (begins k (Fresh task)) x y result) where
+      (played : HasPlayed plants copies (begins k (Fresh task)) x y pages was is result) (so : HasToldStep plants copies (begins k (Fresh task)) x y was is result)
+      (read : ReadsLine plants x step.by task was) where
     right_here : so.pieces ≡ task_pieces so.sight (S.counts step.by) S.queue (holder_of S step.by at (Plays task)) task
     right_here =
         so.is
@@ -286,6 +297,21 @@ module _ {P C : Type 0} (plants : PlantGhosts P) (copies : CopyGhosts C) (S : Sc
     abbrev StaysAt : Queue → Type 0
     StaysAt Q = VolumesStay (named_in so.sight.finds (waits_in (take (whole_pieces so.sight.cut so.pieces) so.pieces) Q)) (u x) (u y)
 
+    -- the places at which it waited, and the first of them
+    abbrev waits_here : List Wait
+    waits_here = waits_in (take (whole_pieces so.sight.cut so.pieces) so.pieces) (queue_of x)
+
+    abbrev waits_by : List Piece → Queue → List Wait
+    waits_by qs Q = waits_in (take (whole_pieces so.sight.cut qs) qs) Q
+
+    waits_same : waits_as (line_so so.sight so.pieces) (Plays task) ≡ waits_here
+    waits_same =
+        ap (λ (qs : List Piece). waits_by qs S.queue) (ap (λ f. once_found f so.pieces) none)
+        ∙ ap (λ (Q : Queue). waits_by so.pieces Q) (sym queue)
+
+    waits_first : WaitsOnLine task waits_here
+    waits_first = waits_on so.sight (counts_of x.printed step.by) (queue_of x) k task so.pieces (whole_pieces so.sight.cut so.pieces) so.is
+
     pub plays_told : plants.tells → HasLeftAs plants copies (Unit {0}) (line_so so.sight so.pieces) (Plays task) x y result
     plays_told tells =
         stepped_left plants copies (Unit {0}) (λ t. tells) S at step (Plays task) so.sight so.pieces x x y result hold grant
@@ -294,3 +320,4 @@ module _ {P C : Type 0} (plants : PlantGhosts P) (copies : CopyGhosts C) (S : Sc
         (tight_so task _ _ (cut_so result so.pieces so.sight.cut IsTight so.cut.by_answer) so.tight) (λ t. cut_so result so.pieces so.sight.cut IsBroken so.cut.by_answer so.broke)
         (λ t none. dry_so task _ (played.dry tells) none) (λ t leaves. kept_on (u x) (u y) (still_so task _ (played.still tells) leaves)) (λ t up. counted) (λ t. so.writes)
         (λ t. subst (λ (Q : Queue). StaysAt Q) queue so.volumes)
+        (λ t. task_carries plants x (line_so so.sight so.pieces) (left_of plants copies step.by so.sight.cut so.pieces x).given (u y) was is result waits_here task so.gives so.hears waits_same read waits_first)

@@ -9,7 +9,7 @@ use Rattle.mas_types.specs.Closings.{closing_line}
 use Rattle.spool_plant.specs.declared.plant.Plant.{Ghosts as PlantGhosts}
 use Rattle.spool_plant.specs.declared.plant.Part.TheVariants.{Disk}
 use Rattle.spool_plant.specs.View.{Line, View, World, paper_now}
-use Rattle.spool_plant.specs.Acts.{Goes, Rose}
+use Rattle.spool_plant.specs.Acts.{Goes, Rose, next}
 use Rattle.ckpt_copy.specs.declared.copying.Copying.{Ghosts as CopyGhosts}
 use Rattle.ckpt_form.specs.declared.steady.Steady.{Ghosts as SteadyGhosts}
 use Rattle.mas_complex.specs.declared.complex.Complex.{Complex}
@@ -20,7 +20,7 @@ use Rattle.member_node.specs.Calls.{console_now}
 use Rattle.member_node.specs.declared.member.NodeNo.{NodeNo}
 use Rattle.member_node.specs.declared.member.NodeNo.TheVariants as no_node
 use Rattle.member_node.specs.Spares.{is_stop, stopped_in}
-use Rattle.member_lines.specs.Closes.{HasCause, SaysStopped, stopped_said}
+use Rattle.member_lines.specs.Closes.{HasCause, IsOneAct, SaysStopped, stopped_said}
 use Rattle.run_turns.specs.Sights.{Cause, Cut, Ends, Stops}
 use Rattle.run_turns.specs.Scenes.{Batched}
 use Rattle.run_turns.specs.Admissions.{Admission, Denied, Frees, Locks, Plays, Refused, Replaces, Resets, TakesOver, Unplayed}
@@ -28,12 +28,12 @@ use Rattle.run_turns.specs.Cuts.{whole}
 use Rattle.run_turns.specs.Steps.{Said, cause_of, stopped_lines}
 use Rattle.mas_run.specs.LinesAt.{LineAt, admitted_at, pieces_at}
 use Rattle.run_turns.specs.Pieces.{Piece}
-use Rattle.mas_run.specs.Lines.{CouldNotStay, CutsAs, IfIdle, IsPassed, IsWhyLost, IsWithin, LosesAs, MayLoseCopy, Proceeds, cut_of, is_work, loses_then, IsHonestAs, StaysAs, named_as}
+use Rattle.mas_run.specs.Lines.{CouldNotStay, CutsAs, IfIdle, IsNextAct, IsPassed, IsWhyLost, IsWithin, LosesAs, MayLoseCopy, Proceeds, cut_of, is_work, loses_then, IsHonestAs, StaysAs, named_as}
 use Rattle.mas_run.specs.LinesLeft.{HasLeft, HasSaidStop, IsCutBy, SaysStop, StopCauses, StopIsSaid, left_at}
 use Rattle.mas_run.specs.LinesPlayed.{is_of_member}
 use Rattle.mas_run.specs.Shapes.{IsShapedAs, holder_as}
 use Rattle.mas_run.proofs.LaterLemmas.{finds_later, task_later}
-use Rattle.mas_run.proofs.LeftLemmas.{arms_same, batches_left, if_member, leaves_as, lines_left, loses_none, member_cut, printed_here, given_of, honest_of, right_of, took, stay_of}
+use Rattle.mas_run.proofs.LeftLemmas.{arms_same, batches_left, if_member, leaves_as, lines_left, loses_none, member_cut, member_stays, printed_here, given_of, honest_of, right_of, took, stay_of}
 use Rattle.mas_run.proofs.LinesLemmas.{batched_later}
 use Rattle.mas_run.proofs.PassedLemmas.{kept_later, proceeds_of, proceeds_on}
 use Rattle.mas_run.proofs.VolumeLemmas.{by_order, kept_on}
@@ -65,9 +65,13 @@ within_cut e ps None is = absurd is
 within_cut e ps (Some cut) is = is.there
 
 cut_as : (by : MemberId) (ps : List Piece) (cut : Option Cut) (old new : View) → IsCutBy {T = Unit {0}} (Err no_node.Halted) ps cut
-    → Rose (old.stops by.0) (new.stops by.0) → CutsAs {T = Unit {0}} (Ok tt) by cut old new
-cut_as by ps None old new is rose = absurd is
-cut_as by ps (Some cut) old new is rose = (is.cause, is.halt, rose)
+    → Rose (old.stops by.0) (new.stops by.0) → IsNextAct new → CutsAs {T = Unit {0}} (Ok tt) by cut old new
+cut_as by ps None old new is rose after = absurd is
+cut_as by ps (Some cut) old new is rose after = (is.cause, is.halt, rose, after)
+
+-- one act after that in which the member was stopped
+pub act_after : (mid new : View) → mid.halt ≡ mid.now → IsOneAct mid new → IsNextAct new
+act_after mid new halt act = act.time ∙ ap (λ (t : ℕ). next t) (sym (act.halt ∙ halt))
 
 pub papers_on : (v0 v1 v2 : View) → v0.now ≤ v1.now → Proceeds v1 v2 → SamePapers v0 v1 → SamePapers v1 v2 → SamePapers v0 v2
 papers_on v0 v1 v2 later goes one two t from to m = ⊎_elim
@@ -138,9 +142,10 @@ module _ {P C : Type 0} (plants : PlantGhosts P) (copies : CopyGhosts C) (told :
     };
     honest = λ t. if_member l.step.what _ (subst (λ (c : Option Cut). IsHonestAs l (admitted_at l) c (v x) (v z)) (sym same_cut)
         (finds_later (v x) (v y) (v z) after l.scene.queue.config.groups l.step.by l.given.sight.finds _ (left.honest t)));
-    stay = λ t. if_member l.step.what _ (subst (λ (c : Option Cut). StaysAs l (admitted_at l) c (v x) (v z)) (sym same_cut)
-        (stays_on (admitted_at l) (named_as l (admitted_at l) l.given.sight.cut) (v x) (v y) (v z) (left.stay t) (console_stays (v y) (v z) said.acts)));
-    cut = subst (λ (c : Option Cut). CutsAs {T = Unit {0}} (Ok tt) l.step.by c (v x) (v z)) (sym same_cut) (cut_as l.step.by (pieces_at l) l.given.sight.cut (v x) (v z) left.cut rose);
+    stay = λ t. member_stays l.step.what (named_as l (admitted_at l) (cut_of l)) (v x) (v z) member (subst (λ (c : Option Cut). StaysAs l (admitted_at l) c (v x) (v z)) (sym same_cut)
+        (stays_on (named_as l (admitted_at l) l.given.sight.cut) (v x) (v y) (v z) (left.stay t) (console_stays (v y) (v z) said.acts)));
+    cut = subst (λ (c : Option Cut). CutsAs {T = Unit {0}} (Ok tt) l.step.by c (v x) (v z)) (sym same_cut) (cut_as l.step.by (pieces_at l) l.given.sight.cut (v x) (v z) left.cut rose
+        (act_after (v y) (v z) (left.spares.at_halt refl) said.acted));
     within = subst (λ (c : Option Cut). IsWithin c (pieces_at l)) (sym same_cut) (within_cut no_node.Halted (pieces_at l) l.given.sight.cut left.cut);
     why = no_node.Halted;
     is_why = refl;
@@ -201,7 +206,7 @@ module _ {P C : Type 0} (plants : PlantGhosts P) (copies : CopyGhosts C) (told :
     stays = left.stays;
     given = given_of plants copies told l x y member left;
     honest = λ t. if_member l.step.what _ (honest_of plants copies told l x y member left t);
-    stay = λ t. if_member l.step.what _ (stay_of plants copies told l x y member left t);
+    stay = stay_of plants copies told l x y member left;
     cut = subst (λ (c : Option Cut). CutsAs {T = Unit {0}} (Err e) l.step.by c (w x) (w y)) (sym cut_here)
         (cut_error e other l.step.by (pieces_at l) l.given.sight.cut (w x) (w y) left.cut (left.spares.stops l.step.by.0 (inr (not_stopped e other))));
     within = subst (λ (c : Option Cut). IsWithin c (pieces_at l)) (sym cut_here) (within_cut e (pieces_at l) l.given.sight.cut left.cut);
@@ -246,6 +251,7 @@ module _ {P C : Type 0} {plants : PlantGhosts P} {steadies : SteadyGhosts C} {co
   stop_said by at x y result frame says = record {
     frame = frame;
     acts = says.acts;
+    acted = says.acted;
     stops = λ m. says.spares.stops m (inr refl);
     cause = cause_said plants copies (parts_of x) (parts_of y) result says.cause says.unhalted;
     console = λ t. line_said plants copies by at (parts_of x) (parts_of y) result (says.console t);

@@ -19,6 +19,7 @@ use Rattle.member_sittings.specs.Sat.{journal_of}
 use Rattle.mas_run.specs.Lines.{IsWhyLost, LosesAs}
 use Rattle.mas_run.specs.Resetting.{IsTaken, IsUntaken, TakeCauses}
 use Rattle.mas_run.proofs.BeginLemmas.{HasBarelyBegun, MayBegin}
+use Rattle.mas_run.proofs.StayLemmas.{counted_stays}
 use Rattle.mas_run.proofs.StepLemmas.{ComesTo}
 use Rattle.mas_run.proofs.VolumeLemmas.{kept_on}
 
@@ -58,8 +59,10 @@ module _ {P C : Type 0} (plants : PlantGhosts P) (copies : CopyGhosts C) (by of 
     printed = taken.printed;
     console = λ t. (taken.apart (tells t)).console;
     papers = λ t. (taken.apart (tells t)).papers;
+    wires = λ t. (taken.apart (tells t)).wires;
     loses = λ t. counts_lose by.0 x.first_alive mid.first_alive x.second_alive mid.second_alive false (v x) (v mid) taken.counts copies.reads found (taken.left1 (tells t)) (taken.left2 (tells t));
     volumes = λ t. kept_on (v x) (v mid) (taken.apart (tells t)).volumes;
+    stay = counted_stays by.0 x.first_alive mid.first_alive x.second_alive mid.second_alive false (v x) (v mid) taken.counts;
   }
 
   caused_stop : (x y : Parts P C) (e : NodeNo) → TakeCauses plants copies e by x y → e ≡ no_node.Halted → Rose ((v x).stops by.0) ((v y).stops by.0)
@@ -79,7 +82,9 @@ module _ {P C : Type 0} (plants : PlantGhosts P) (copies : CopyGhosts C) (by of 
     loses = λ t. counts_lose by.0 x.first_alive y.first_alive x.second_alive y.second_alive (is_stop e) (v x) (v y) un.counts copies.reads Flying (λ was gone. inl refl) (λ was gone. inl refl);
     console = λ t. (un.apart t).console;
     papers = λ t. (un.apart t).papers;
+    wires = λ t. (un.apart t).wires;
     volumes = λ t. kept_on (v x) (v y) (un.apart t).volumes;
+    stay = counted_stays by.0 x.first_alive y.first_alive x.second_alive y.second_alive (is_stop e) (v x) (v y) un.counts;
     journal = un.journal;
     printed = un.printed;
   }

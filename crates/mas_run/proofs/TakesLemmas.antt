@@ -186,14 +186,14 @@ module _ {P C : Type 0} {plants : PlantGhosts P} {steadies : SteadyGhosts C} {co
         left_so plants copies ⊥ S at by what (TakesOver of) _ p q r_none (admitted_here plants copies ⊥ S p shown by what (TakesOver of) adm) renewals
         (begun_left plants copies ⊥ (λ t. absurd t) S at (line_by by what) (TakesOver of) (bare_pieces S by at (TakesOver of)) p q e (may_begin plants copies by of may.some p q e un.cause)
         (barely_untaken plants copies by of may.some p q e un) (inr (bare_shaped S at (line_by by what) (cause_by e) (TakesOver of) (u p) (u q))) (λ t. absurd t)
-        (book_none ⊥ S shown (bare_pieces S by at (TakesOver of))) (λ t. absurd t))
+        (book_none ⊥ S shown (bare_pieces S by at (TakesOver of))))
 
     told_none : plants.tells → LineIsLeft (Unit {0}) at (line_by by what) x y r_none
     told_none tells S shown =
         left_so plants copies (Unit {0}) S at by what (TakesOver of) _ p q r_none (admitted_here plants copies (Unit {0}) S p shown by what (TakesOver of) adm) renewals
         (begun_left plants copies (Unit {0}) (λ t. tells) S at (line_by by what) (TakesOver of) (queue_pieces S at (line_by by what) (cause_by e) (TakesOver of)) p q e
         (may_begin plants copies by of may.some p q e un.cause) (barely_untaken plants copies by of may.some p q e un) (inl tt) (λ t. queue_right S at (line_by by what) (cause_by e) (TakesOver of))
-        (book_none (Unit {0}) S shown (queue_pieces S at (line_by by what) (cause_by e) (TakesOver of))) (λ t. tt))
+        (book_none (Unit {0}) S shown (queue_pieces S at (line_by by what) (cause_by e) (TakesOver of))))
 
     goes_none : Proceeds (u p) (u q)
     goes_none = proceeds_of (u p) (u q) un.counts.goes

@@ -49,6 +49,7 @@ module _ {P C : Type 0} (plants : PlantGhosts P) (copies : CopyGhosts C) (x : Pa
     other_counts = left.other_counts;
     loses = left.loses;
     volumes = left.volumes;
+    wires = left.wires;
   }
 
   pub line_tested : (told : Type 0) (S : Scene) (at : ℕ) (step : Step) (y : Parts P C) (r : Result (Unit {0}) NodeNo) → LeftAt plants copies told S at step tested y r
@@ -110,6 +111,7 @@ module _ {P C : Type 0} (plants : PlantGhosts P) (copies : CopyGhosts C) (x y : 
           other_counts = left.other_counts;
           loses = left.loses;
           volumes = left.volumes;
+          wires = left.wires;
         };
         renews = is.renews;
       }

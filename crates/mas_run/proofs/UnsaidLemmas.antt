@@ -18,6 +18,7 @@ use Rattle.ckpt_copy.specs.declared.copying.Copying.{Ghosts as CopyGhosts}
 use Rattle.mas_complex.specs.Parts.{Parts}
 use Rattle.member_hand.specs.Cuts.{OfFirst, AreBatched, AtCut, IsBroken, IsTight, whole_pieces}
 use Rattle.member_hand.specs.Found.{AreFoundIn, waits_in, named_in}
+use Rattle.member_lines.specs.Closes.{ActsOnce}
 use Rattle.member_node.proofs.CourseLemmas.{rose_later}
 use Rattle.member_node.specs.Calls.{console_now, VolumesStay}
 use Rattle.member_node.specs.declared.member.NodeNo.{NodeNo}
@@ -33,20 +34,21 @@ use Rattle.run_turns.specs.Scenes.{Batched, Scene, count_then, flight_found, que
 use Rattle.run_turns.specs.Admissions.{Admission, Denied, Frees, Locks, Plays, Refused, Replaces, Resets, TakesOver, Unplayed, admitted, tried}
 use Rattle.run_turns.specs.Pieces.{Piece, Play, fate_found, is_locked, piece_at, pieces_found, pieces_from, sayer_of, unless_told}
 use Rattle.run_turns.specs.Cuts.{Left, left_by}
-use Rattle.run_turns.specs.Givens.{ArePiecesOf, Given, IsAskRight, play_with}
-use Rattle.mas_run.specs.LinesAt.{LineAt, admitted_at, pieces_at, played_at}
+use Rattle.run_turns.specs.Givens.{ArePiecesOf, Given, IsAskRight, play_with, queue_met}
+use Rattle.mas_run.specs.LinesAt.{LineAt, admitted_at, pieces_as, pieces_at, played_at}
 use Rattle.run_turns.specs.Steps.{Said}
-use Rattle.mas_run.specs.Lines.{CutsAs, IfIdle, IsHonest, IsPassed, IsThere, IsUnsaid, IsWithin, LosesAs, Proceeds, cut_of, is_takeover, is_work, printed_at, taking, IsHonestAs, IfStays, StaysAs, named_as}
+use Rattle.mas_run.specs.Lines.{CutsAs, IfIdle, IsHonest, IsPassed, IsThere, IsUnsaid, IsWithin, LosesAs, Proceeds, cut_of, is_takeover, is_work, printed_at, taking, IsHonestAs, StaysAs, named_as}
 use Rattle.mas_run.specs.LinesLeft.{HasLeft, HasSaidStop, IsCutBy, IsCutIn, StopCauses, left_at}
 use Rattle.mas_run.specs.LinesPlayed.{is_of_member}
 use Rattle.mas_run.specs.Renewing.{RenewsAs}
 use Rattle.mas_run.specs.Shapes.{IsShapedAs}
+use Rattle.mas_run.specs.Wires.{Carries, HeardFirst}
 use Rattle.mas_run.proofs.LaterLemmas.{finds_later}
-use Rattle.mas_run.proofs.LeftLemmas.{arms_same, batches_left, if_member, leaves_as, lines_left, loses_none, member_cut, printed_here, printed_left, right_of, took}
+use Rattle.mas_run.proofs.LeftLemmas.{arms_same, batches_left, if_member, leaves_as, lines_left, loses_none, member_cut, member_stays, printed_here, printed_left, right_of, took}
 use Rattle.mas_run.proofs.LinesLemmas.{batched_later}
 use Rattle.mas_run.proofs.PassedLemmas.{kept_later, proceeds_of, proceeds_on}
 use Rattle.mas_run.proofs.RenewedLemmas.{renews_ended}
-use Rattle.mas_run.proofs.StopLemmas.{loses_on, papers_on, shaped_as_later}
+use Rattle.mas_run.proofs.StopLemmas.{act_after, loses_on, papers_on, shaped_as_later}
 use Rattle.mas_run.proofs.VolumeLemmas.{kept_on}
 use Rattle.mas_run.proofs.StayLemmas.{console_stays, stays_on}
 
@@ -156,6 +158,9 @@ module _ (cut : Cut) (l : LineAt) (is : l.given.sight.cut ≡ Some cut) where
   pub printed_same : (left_at m).printed ≡ (left_at l).printed
   printed_same = ap (λ (p : Play). (left_so (Some (ended_cut cut)) p).printed) plays ∙ ap (λ (c : Option Cut). (left_so c (play_with l.scene l.step.by (admitted_at l) l.given)).printed) (sym is)
 
+  pub given_same : (left_at m).given ≡ (left_at l).given
+  given_same = ap (λ (p : Play). (left_so (Some (ended_cut cut)) p).given) plays ∙ ap (λ (c : Option Cut). (left_so c (play_with l.scene l.step.by (admitted_at l) l.given)).given) (sym is)
+
   -- of the sitting that was cut this is said as it was
   pub at_cut : (P : Halt → Sitting → Type 0) → AtCut P l.given.sight.cut (pieces_at l) → AtCut P (Some (ended_cut cut)) (pieces_at m)
   at_cut P here =
@@ -183,7 +188,7 @@ module _ (cut : Cut) (l : LineAt) (is : l.given.sight.cut ≡ Some cut) where
     abbrev stay_so : Option Cut → Fate → Type 0
     stay_so c f =
         let ps = pieces_found (is_locked (admitted_at l)) (flight_found f l.scene.flight) l.given.pieces in
-        IfStays (admitted_at l) (VolumesStay (named_in l.given.sight.finds (waits_in (take (whole_pieces c ps) ps) (queue_found f l.scene.flight l.scene.queue))) old new)
+        VolumesStay (named_in l.given.sight.finds (waits_in (take (whole_pieces c ps) ps) (queue_found f l.scene.flight l.scene.queue))) old new
 
     pub stay_same : StaysAs l (admitted_at l) l.given.sight.cut old new → StaysAs m (admitted_at m) (cut_of m) old new
     stay_same stay =
@@ -191,13 +196,40 @@ module _ (cut : Cut) (l : LineAt) (is : l.given.sight.cut ≡ Some cut) where
         (subst (stay_so (Some cut)) (sym fates)
         (subst (λ (c : Option Cut). stay_so c (fate_found (admitted_at l) l.given.sight)) is stay))
 
+  -- and of the bytes that it gave and took
+  module _ (since : ℕ) (old new : View) where
+    abbrev heard_so : Option Cut → Admission → Type 0
+    heard_so c a =
+        let ps = pieces_as l a in
+        HeardFirst since l.step.by old new l.given.sight.finds (waits_in (take (whole_pieces c ps) ps) (queue_met l.scene a l.given.sight))
+
+    carries_so : (a : Admission) (given : List ℕ) → Carries since l a given old new → Carries since m a given old new
+    carries_so (Plays (Node line)) given c = record {
+      gives = c.gives;
+      hears = subst (λ (k : Option Cut). heard_so k (Plays (Node line))) is c.hears;
+    }
+    carries_so (Plays (Give command)) given c = c
+    carries_so (Plays (Deck fields text)) given c = c
+    carries_so (Plays (Work n)) given c = c
+    carries_so (Refused sayer end) given c = c
+    carries_so (Denied why) given c = c
+    carries_so (Resets of) given c = c
+    carries_so (Replaces dev) given c = c
+    carries_so (TakesOver of) given c = c
+    carries_so Locks given c = c
+    carries_so Frees given c = c
+    carries_so Unplayed given c = c
+
+    pub carries_same : Carries since l (admitted_at l) (left_at l).given old new → Carries since m (admitted_at l) (left_at m).given old new
+    carries_same c = subst (λ (bytes : List ℕ). Carries since m (admitted_at l) bytes old new) (sym given_same) (carries_so (admitted_at l) (left_at l).given c)
+
 -- THE LINE as the run ended in it
 
-unsaid_why : {P C : Type 0} (plants : PlantGhosts P) (copies : CopyGhosts C) (x y : Parts P C) (e : NodeNo) → StopCauses plants copies x y (Err e) → IsUnsaid e
-unsaid_why plants copies x y no_node.ConsoleFault cause = tt
-unsaid_why plants copies x y no_node.NoMemory cause = tt
-unsaid_why plants copies x y no_node.BothLost cause = absurd cause
-unsaid_why plants copies x y no_node.Halted cause = absurd cause
+unsaid_why : (e : NodeNo) (old new : View) → old.halt ≡ old.now → ActsOnce {T = Unit {0}} (Err e) old new → IsUnsaid e new
+unsaid_why no_node.ConsoleFault old new halt acted = act_after old new halt acted
+unsaid_why no_node.NoMemory old new halt acted = subst (λ (v : View). v.now ≡ v.halt) (sym acted) (sym halt)
+unsaid_why no_node.BothLost old new halt acted = absurd acted
+unsaid_why no_node.Halted old new halt acted = absurd acted
 
 -- one answer has one error
 same_error : (d e : NodeNo) (r : Result (Unit {0}) NodeNo) → r ≡ Err d → r ≡ Err e → d ≡ e
@@ -215,6 +247,7 @@ abbrev pub PassedSo : Type 0 → (List ℕ → Option (List ℕ)) → LineAt →
 PassedSo told reads l own old new e = (g : Given) × (fate_found (admitted_at l) g.sight ≡ fate_found (admitted_at l) l.given.sight)
     × IsPassed told reads (record l { given = g }) own old new (Err e)
     × ((rs is : Renewals) (then_is : View) → RenewsAs (admitted_at l) l.given.sight.cut l.given.sight.renewed rs is old then_is → RenewsAs (admitted_at l) g.sight.cut g.sight.renewed rs is old then_is)
+    × ((since : ℕ) (then_is : View) → Carries since l (admitted_at l) (left_at l).given old then_is → Carries since (record l { given = g }) (admitted_at l) (left_at (record l { given = g })).given old then_is)
 
 module _ {P C : Type 0} (plants : PlantGhosts P) (copies : CopyGhosts C) (told : Type 0) (tells : told → plants.tells) (l : LineAt) (x y z : Parts P C) (e : NodeNo)
     (member : is_of_member l.step.what ≡ true) (left : HasLeft plants copies told l x y (Err no_node.Halted))
@@ -258,10 +291,10 @@ module _ {P C : Type 0} (plants : PlantGhosts P) (copies : CopyGhosts C) (told :
       };
       honest = λ t. if_member l.step.what _ (honest_same cut l is member (v x) (v z)
           (finds_later (v x) (v y) (v z) after l.scene.queue.config.groups l.step.by l.given.sight.finds _ (left.honest t)));
-      stay = λ t. if_member l.step.what _ (stay_same cut l is member (v x) (v z)
-          (stays_on (admitted_at l) (named_as l (admitted_at l) l.given.sight.cut) (v x) (v y) (v z) (left.stay t) (console_stays (v y) (v z) said.acts)));
+      stay = λ t. member_stays l.step.what (named_as n (admitted_at n) (cut_of n)) (v x) (v z) member (stay_same cut l is member (v x) (v z)
+          (stays_on (named_as l (admitted_at l) l.given.sight.cut) (v x) (v y) (v z) (left.stay t) (console_stays (v y) (v z) said.acts)));
       cut = subst (λ (c : Option Cut). CutsAs {T = Unit {0}} (Err e) l.step.by c (v x) (v z)) cut_here
-          (refl, inr (record { why = here.halt; stopped = rose; unsaid = unsaid_why plants copies y z e said.cause }));
+          (refl, inr (record { why = here.halt; stopped = rose; unsaid = unsaid_why e (v y) (v z) (left.spares.at_halt refl) said.acted }));
       within = subst (λ (c : Option Cut). IsWithin c (pieces_at n)) cut_here
           (subst (λ (p : Play). IsThere (ended_cut cut) p.pieces) (sym (plays cut l is)) here.there);
       why = no_node.Halted;
@@ -293,4 +326,5 @@ module _ {P C : Type 0} (plants : PlantGhosts P) (copies : CopyGhosts C) (told :
       fates cut l is,
       passed_cut cut is,
       (λ rs now mid r. renews_ended (admitted_at l) cut l.given.sight.renewed rs now (v x) mid (subst (λ (c : Option Cut). RenewsAs (admitted_at l) c l.given.sight.renewed rs now (v x) mid) is r)),
+      (λ since mid c. carries_same cut l is since (v x) mid c),
     )

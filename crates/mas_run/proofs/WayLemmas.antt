@@ -49,9 +49,9 @@ module _ {P C : Type 0} (plants : PlantGhosts P) (copies : CopyGhosts C) (told :
   abbrev pub LineFrom : ℕ → Step → Parts P C → Parts P C → Result (Unit {0}) NodeNo → Type 0
   LineFrom at line y z result = (S : Scene) → IsShown plants copies told S y → HasPlayedLine plants copies told S at line y z result
 
-  pub way_more : (k : ℕ) (line : Step) (y z : Parts P C) → drop k lines ≡ line ∷ drop (k + 1) lines → LineFrom (k + 1) line y z (Ok tt)
+  pub way_more : (k : ℕ) (line : Step) (y z : Parts P C) → drop k lines ≡ line ∷ drop (k + 1) lines → z.since ≡ y.since → LineFrom (k + 1) line y z (Ok tt)
       → AreOnTheWay k y → AreOnTheWay (k + 1) z
-  way_more k line y z is played way S shown =
+  way_more k line y z is since played way S shown =
       let w = way S shown in
       let p = played w.scene w.shown in
       record {
@@ -59,10 +59,12 @@ module _ {P C : Type 0} (plants : PlantGhosts P) (copies : CopyGhosts C) (told :
         shown = p.shows;
         then_all = λ many end rest.
             let e : k + suc many ≡ k + 1 + many = omega arith in
+            let on : Passed told (record (here_at plants copies (k + 1 + 1) (line_with w.scene (k + 1) p.given line).next (journal_of z) z) { since = y.since }) (drop (k + 1) lines) many end =
+            subst (λ (n : ℕ). Passed told (record (here_at plants copies (k + 1 + 1) (line_with w.scene (k + 1) p.given line).next (journal_of z) z) { since = n }) (drop (k + 1) lines) many end) since rest in
             subst (λ (n : ℕ). Passed told (here_at plants copies 1 S (journal_of x) x) lines n end) e
             (w.then_all (suc many) end
             (subst (λ (ls : List Step). Passed told (here_at plants copies (k + 1) w.scene (journal_of y) y) ls (suc many) end) (sym is)
-            (more_lines told (here_at plants copies (k + 1) w.scene (journal_of y) y) p.given line (there_at plants copies z (Ok tt)) p.next (drop (k + 1) lines) many end refl rest)));
+            (more_lines told (here_at plants copies (k + 1) w.scene (journal_of y) y) p.given line (there_at plants copies z (Ok tt)) p.next (drop (k + 1) lines) many end refl on)));
       }
 
   pub way_ends : (k : ℕ) (line : Step) (y z : Parts P C) (e : NodeNo) → drop k lines ≡ line ∷ drop (k + 1) lines → LineFrom (k + 1) line y z (Err e)

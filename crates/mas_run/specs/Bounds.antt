@@ -1,13 +1,12 @@
 -- What a line uses at most.
 use Rattle.std.specs.Prelude.{ℕ, ◌+◌, ◌^◌}
-use Rattle.script_lang.specs.Asks.{units_most}
 use Rattle.step_turns.specs.declared.states.State.TheVariants.{Fresh}
-use Rattle.step_turns.specs.declared.states.Task.TheVariants.{Work}
+use Rattle.step_turns.specs.declared.states.Task.TheVariants.{Line}
 use Rattle.member_hand.specs.Quiet.{levels_for}
 
--- how many levels a line may use: work of as many units as a script may ask for uses most, and a takeover one more
+-- how many levels a line may use: one that serves a line to another node uses most, and a takeover one more
 abbrev pub levels_most : ℕ
-levels_most = levels_for (Fresh (Work units_most)) + 4
+levels_most = levels_for (Fresh (Line 1)) + 4
 
 -- A line is begun below this level. A run begins far below it, and comes nowhere near in as many lines as a script has.
 abbrev pub level_most : ℕ

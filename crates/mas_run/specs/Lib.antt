@@ -8,6 +8,7 @@ pub mod Unstarted
 pub mod LinesAt
 pub mod Shapes
 pub mod Histories
+pub mod Wires
 pub mod Lines
 pub mod Renewing
 pub mod Passed

@@ -19,11 +19,11 @@ use Rattle.mas_complex.specs.Seen.{WasUnfit}
 use Rattle.warm_start.specs.Takeover.{fate_of}
 use Rattle.member_node.specs.declared.member.NodeNo.{NodeNo}
 use Rattle.member_node.specs.declared.member.NodeNo.TheVariants as no_node
-use Rattle.member_node.specs.Calls.{VolumesStay, console_now}
+use Rattle.member_node.specs.Calls.{VolumesStay, console_now, none_lost}
 use Rattle.step_turns.specs.declared.states.Task.TheVariants.{Deck, Work, Line as Node}
 use Rattle.run_turns.specs.Sights.{Cut, Ends, Stops, Writing}
 use Rattle.run_turns.specs.Scenes.{Scene}
-use Rattle.run_turns.specs.Admissions.{Admission, Plays, Replaces, Resets, TakesOver}
+use Rattle.run_turns.specs.Admissions.{Admission, Plays, Replaces, TakesOver}
 use Rattle.run_turns.specs.Pieces.{Piece, fate_found}
 use Rattle.run_turns.specs.Steps.{is_up}
 use Rattle.run_turns.specs.Givens.{IsRight, queue_met}
@@ -87,14 +87,15 @@ IsHonestAs l a cut old new =
 abbrev pub IsHonest : LineAt → View → View → Type 0
 IsHonest l old new = IsHonestAs l (admitted_at l) (cut_of l) old new
 
--- VOLUMES THAT STAY: each but those that its acts found lost, in the pieces that it played whole, is lost where it was,
--- and no fault of it is counted. It resets no member, replaces no copy, and takes no lock over.
+-- both are one device
+abbrev pub same_device : Dev → Dev → Bool
+same_device Ckpt1 Ckpt1 = true
+same_device Ckpt2 Ckpt2 = true
+same_device (Spool n) (Spool volume) = n == volume
+same_device _ _ = false
 
-abbrev pub IfStays : Admission → Type 0 → Type 0
-IfStays (Resets of) P = Unit {0}
-IfStays (Replaces dev) P = Unit {0}
-IfStays (TakesOver of) P = Unit {0}
-IfStays a P = P
+-- VOLUMES THAT STAY: each but those that the line names is lost where it was, and no fault of it is counted. A line of a
+-- member names those that its acts found lost, in the pieces that it played whole; one that loses a volume names that.
 
 abbrev pub named_as : LineAt → Admission → Option Cut → ℕ → Bool
 named_as l a cut =
@@ -102,7 +103,16 @@ named_as l a cut =
     named_in l.given.sight.finds (waits_in (take (whole_pieces cut ps) ps) (queue_met l.scene a l.given.sight))
 
 abbrev pub StaysAs : LineAt → Admission → Option Cut → View → View → Type 0
-StaysAs l a cut old new = IfStays a (VolumesStay (named_as l a cut) old new)
+StaysAs l a cut old new = VolumesStay (named_as l a cut) old new
+
+abbrev pub names_in : Ask → (ℕ → Bool) → ℕ → Bool
+names_in ask.Stop found = none_lost
+names_in (ask.StopIn what n) found = none_lost
+names_in (ask.Lose dev) found = λ volume. same_device (Spool volume) dev
+names_in what found = found
+
+abbrev pub named_by : LineAt → ℕ → Bool
+named_by l = names_in l.step.what (named_as l (admitted_at l) (cut_of l))
 
 -- WHY IT WAS CUT
 
@@ -113,11 +123,16 @@ OnlyStops by old new = (m : ℕ) → m ≢ by.0 → new.stops m ≡ old.stops m
 abbrev pub HasStopped : MemberId → View → View → Type 0
 HasStopped by old new = Rose (old.stops by.0) (new.stops by.0)
 
--- the operator could not say that the member was stopped
-abbrev pub IsUnsaid : NodeNo → Type 0
-IsUnsaid no_node.ConsoleFault = Unit {0}
-IsUnsaid no_node.NoMemory = Unit {0}
-IsUnsaid _ = ⊥
+-- one act followed that in which a member was stopped: the operator said so, or could not
+abbrev pub IsNextAct : View → Type 0
+IsNextAct v = v.now ≡ next v.halt
+
+-- the operator could not say that the member was stopped: the console failed at it, or there was no memory for the line,
+-- and nothing followed
+abbrev pub IsUnsaid : NodeNo → View → Type 0
+IsUnsaid no_node.ConsoleFault v = IsNextAct v
+IsUnsaid no_node.NoMemory v = v.now ≡ v.halt
+IsUnsaid _ v = ⊥
 
 -- the run ends with this answer, and nobody was stopped
 pub record EndsBy (e : NodeNo) (by : MemberId) (cut : Cut) (old new : View) : Type 0 where
@@ -129,11 +144,12 @@ pub record EndsBy (e : NodeNo) (by : MemberId) (cut : Cut) (old new : View) : Ty
 pub record StopsUnsaid (e : NodeNo) (by : MemberId) (cut : Cut) (old new : View) : Type 0 where
   pub why : IsHaltBy no_node.Halted cut.halt
   pub stopped : HasStopped by old new
-  pub unsaid : IsUnsaid e
+  pub unsaid : IsUnsaid e new
 
--- A line that was cut while the run went on: its member was stopped. Or the run ended in it.
+-- A line that was cut while the run went on: its member was stopped, and made no act after that. Or the run ended in it.
 abbrev pub IsCutAs : {T : Type 0} → Result T NodeNo → MemberId → Cut → View → View → Type 0
 IsCutAs (Ok done) by cut old new = (cut.cause ≡ Stops) × IsHaltBy no_node.Halted cut.halt × HasStopped by old new
+    × IsNextAct new
 IsCutAs (Err e) by cut old new = (cut.cause ≡ Ends) × (EndsBy e by cut old new ⊎ StopsUnsaid e by cut old new)
 
 abbrev pub CutsAs : {T : Type 0} → Result T NodeNo → MemberId → Option Cut → View → View → Type 0
@@ -168,12 +184,6 @@ IfIdle true P = Unit {0}
 IfIdle false P = P
 
 -- DEVICES LOST BY A CALL
-
-abbrev pub same_device : Dev → Dev → Bool
-same_device Ckpt1 Ckpt1 = true
-same_device Ckpt2 Ckpt2 = true
-same_device (Spool n) (Spool volume) = n == volume
-same_device _ _ = false
 
 -- a line puts another device in the place of this one
 abbrev pub is_replaced : Dev → Admission → Bool
@@ -241,10 +251,9 @@ arms_then l m arms =
 
 -- WHAT STAYS
 
--- no line is printed: the line doesn't work, nor serves another node
+-- no line is printed: the line doesn't work
 abbrev pub PrintsNone : Admission → Type 0
 PrintsNone (Plays (Work n)) = ⊥
-PrintsNone (Plays (Node n)) = ⊥
 PrintsNone _ = Unit {0}
 
 -- the volumes stay as they are: the line plays no deck and no work, serves no other node, and loses no volume
@@ -273,7 +282,7 @@ pub record IsPassed (told : Type 0) (reads : List ℕ → Option (List ℕ)) (l 
   pub goes : Proceeds old new
   pub given : IsGiven told l old new
   pub honest : told → IfOfMember l.step.what (IsHonest l old new)
-  pub stay : told → IfOfMember l.step.what (StaysAs l (admitted_at l) (cut_of l) old new)
+  pub stay : told → VolumesStay (named_by l) old new
   pub cut : CutsAs answer l.step.by (cut_of l) old new
   pub within : IsWithin (cut_of l) (pieces_at l)
   pub why : NodeNo

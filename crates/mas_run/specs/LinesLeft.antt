@@ -23,6 +23,7 @@ use Rattle.member_steps.specs.Saying.{OnConsole}
 use Rattle.member_sittings.specs.Sat.{journal_of}
 use Rattle.script_lang.specs.declared.types.Step.{Step}
 use Rattle.member_hand.specs.Cuts.{AreBatched, AtCut, IsBroken, IsHaltBy, IsTight, cause_by}
+use Rattle.member_lines.specs.Closes.{ActsOnce}
 use Rattle.run_turns.specs.Sights.{Cut}
 use Rattle.run_turns.specs.Cuts.{Left, left_by, whole}
 use Rattle.run_turns.specs.Admissions.{Admission, admitted}
@@ -36,6 +37,7 @@ use Rattle.mas_run.specs.Renewing.{RenewsAs}
 use Rattle.mas_run.specs.Shapes.{IsShapedAs}
 use Rattle.mas_run.specs.Shows.{IsShown}
 use Rattle.mas_run.specs.Volumes.{AreVolumesKept}
+use Rattle.mas_run.specs.Wires.{Carries}
 
 -- WHERE IT WAS CUT, by its answer
 
@@ -106,6 +108,8 @@ module _ {P C : Type 0} (plants : PlantGhosts P) (copies : CopyGhosts C) where
     pub other_counts : told → (m : MemberId) → m ≢ l.step.by → counts_of y.printed m ≡ counts_of x.printed m
     pub loses : told → LosesAs copies.reads (taking (is_takeover a) (fate_found a l.given.sight)) None (v x) (v y)
     pub volumes : told → AdmissionLeaves a → AreVolumesKept (v x) (v y)
+    -- what it gave and took on a line to another node
+    pub wires : told → Carries x.since l a (left_as l a).given (v x) (v y)
 
   abbrev pub HasLeft : Type 0 → LineAt → Parts P C → Parts P C → Result (Unit {0}) NodeNo → Type 0
   HasLeft told l x y result = HasLeftAs told l (admitted_at l) x y result
@@ -119,7 +123,7 @@ module _ {P C : Type 0} (plants : PlantGhosts P) (copies : CopyGhosts C) where
         x.renewals y.renewals (v x) (v y)
 
   -- THE OPERATOR SAYS that a member was stopped in its line, or the console failed at that, or there was no memory for
-  -- it; nobody is stopped, and nothing else is done.
+  -- it; nobody is stopped, and no other act is made.
   abbrev pub SaysStop : MemberId → ℕ → Parts P C → Parts P C → Result (Unit {0}) NodeNo → Type 0
   SaysStop by at x y (Ok done) = console_now (v y)
       ≡ console_now (v x) ++ whole (closing_line by at closing.Stopped) ∷ []
@@ -135,6 +139,7 @@ module _ {P C : Type 0} (plants : PlantGhosts P) (copies : CopyGhosts C) where
   pub record HasSaidStop (by : MemberId) (at : ℕ) (x y : Parts P C) (result : Result (Unit {0}) NodeNo) : Type 0 where
     pub frame : y ≡ record x { plant = y.plant }
     pub acts : OnConsole plants.tells (v x) (v y)
+    pub acted : ActsOnce result (v x) (v y)
     pub stops : (m : ℕ) → (v y).stops m ≡ (v x).stops m
     pub cause : StopCauses x y result
     pub console : plants.tells → SaysStop by at x y result

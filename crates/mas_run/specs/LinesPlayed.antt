@@ -34,8 +34,15 @@ module _ {P C : Type 0} (plants : PlantGhosts P) (copies : CopyGhosts C) where
 
   -- where a run stands, whose own journal has these batches after those of its opening
   abbrev pub here_at : ℕ → Scene → List Batch → Parts P C → Here
-  here_at at S batches x = record
-      { reads = copies.reads; number = at; scene = S; batches = batches; renewals = x.renewals; view = v x }
+  here_at at S batches x = record {
+    reads = copies.reads;
+    since = x.since;
+    number = at;
+    scene = S;
+    batches = batches;
+    renewals = x.renewals;
+    view = v x;
+  }
 
   abbrev pub there_at : Parts P C → Result (Unit {0}) NodeNo → There
   there_at y result = record { batches = journal_of y; renewals = y.renewals; view = v y; answer = result }

@@ -14,11 +14,13 @@ use Rattle.mas_run.specs.Histories.{settle}
 use Rattle.mas_complex.specs.declared.renewals.Renewals.{Renewals}
 use Rattle.mas_run.specs.Renewing.{RenewsAs}
 use Rattle.mas_run.specs.Lines.{IsPassed, LeavesVolumes, is_takeover, loses_then}
+use Rattle.mas_run.specs.Wires.{Carries}
 
 -- what a plant showed, what the journal of the run had, when copies were replaced, and the scene, at a line of this
--- number; and how a copy's bytes are read
+-- number, in a run whose first moment is this; and how a copy's bytes are read
 pub record Here : Type 0 where
   pub reads : List ℕ → Option (List ℕ)
+  pub since : ℕ
   pub number : ℕ
   pub scene : Scene
   pub batches : List Batch
@@ -46,10 +48,14 @@ pub record IsNext (told : Type 0) (h : Here) (g : Given) (step : Step) (there : 
   -- the copies that it replaced
   pub renews : RenewsAs (admitted_at (line_of h g step)) g.sight.cut g.sight.renewed h.renewals there.renewals h.view
       there.view
+  -- the bytes that it gave and took on a line to another node
+  pub wires : told → Carries h.since (line_of h g step) (admitted_at (line_of h g step))
+      (played_at (line_of h g step)).outcome.given h.view there.view
 
 abbrev pub here_after : Here → Given → Step → There → Here
 here_after h g step there = record {
   reads = h.reads;
+  since = h.since;
   number = h.number + 1;
   scene = (played_at (line_of h g step)).next;
   batches = there.batches;

@@ -13,7 +13,7 @@ pub record Begins (dev : Dev) (rs after : Renewals) (old new : View) : Type 0 wh
   pub within : (old.now ≤ from) × (from ≤ new.now)
   pub is : after ≡ begun_on dev from rs
 
--- and it ended in it: since then the new copy is good
+-- a replacement began in a line and ended in it: since then the new copy is good
 pub record BeginsAndEnds (dev : Dev) (rs after : Renewals) (old new : View) : Type 0 where
   pub from : ℕ
   pub until : ℕ

@@ -11,7 +11,7 @@ use Rattle.mas_types.specs.Queue.{is_member}
 use Rattle.mas_types.specs.Sound.{IsSound}
 use Rattle.lock_cycle.specs.Books.{IsMember, after_seize, after_stop, is_holder, is_stopped, left_of}
 use Rattle.spool_plant.specs.View.{View}
-use Rattle.spool_plant.specs.Acts.{Rose}
+use Rattle.spool_plant.specs.Acts.{Rose, SameWires}
 use Rattle.spool_plant.specs.declared.plant.Plant.{Ghosts as PlantGhosts}
 use Rattle.spool_volumes.specs.Volumes.{AreRoomy}
 use Rattle.ckpt_copy.specs.declared.copying.Copying.{Ghosts as CopyGhosts}
@@ -31,7 +31,7 @@ use Rattle.warm_start.specs.declared.takeovers.TakeNo.TheVariants as take_no
 use Rattle.member_node.specs.declared.member.Member.{Member}
 use Rattle.member_node.specs.declared.member.NodeNo.{NodeNo}
 use Rattle.member_node.specs.declared.member.NodeNo.TheVariants as no_node
-use Rattle.member_node.specs.Calls.{IsOnlyOn}
+use Rattle.member_node.specs.Calls.{IsOnlyOn, VolumesStay, none_lost}
 use Rattle.member_node.specs.Reads.{too_high}
 use Rattle.member_node.specs.Spares.{is_stop}
 use Rattle.member_sittings.specs.Sat.{begins, journal_of}
@@ -97,7 +97,7 @@ module _ {P C : Type 0} (plants : PlantGhosts P) (copies : CopyGhosts C) where
       pub writes : Writes plants copies h.by (left_at plants copies h.by cut pieces x) x y result
 
   -- Whether content is told or not there is a piece of a reset, and a cut of it, so that this is what the line left in
-  -- the journal and the book.
+  -- the journal and the book. Each volume is lost where it was, and no fault of it is counted.
   pub record HasResetBy (h : Holder) (of : MemberId) (x y : Parts P C) (pages : ℕ) (result : Result (Unit {0}) NodeNo)
       : Type 0 where
     pub pieces : List Piece
@@ -106,8 +106,10 @@ module _ {P C : Type 0} (plants : PlantGhosts P) (copies : CopyGhosts C) where
     pub played : HasCut plants copies h pieces cut x y result
     pub tight : AtCut (IsTight (ended_as result)) cut pieces
     pub acts : HasActedIn plants copies h.by x y result
+    pub volumes : VolumesStay none_lost (v x) (v y)
     pub others : plants.tells → IsOnlyOn (v x) (v y)
     pub papers : plants.tells → SamePapers (v x) (v y)
+    pub wires : plants.tells → SameWires (v x) (v y)
     pub quiet : IsBetweenSittings cut → IsQuiet plants copies y pages
     pub away : IsOperatorAway y.book y.reserved y.current
     pub told : plants.tells → HasToldReset h of x y result
@@ -244,7 +246,7 @@ module _ {P C : Type 0} {plants : PlantGhosts P} {steadies : SteadyGhosts C} {co
       → Holder → MemberId → Type 0
   IsAfterReset x y m n h of = IsAfterStep x y m n (begins h (reset_begins of))
 
-  -- and so where it took the lock over
+  -- what a line leaves in which the member took the lock over: it is aside, with as much room, and holds on
   pub record IsAfterTakeover (x y : Complex P C plants steadies copies) (m n : Member) : Type 0 where
     pub aside : IsAside plants copies (parts_of y) n
     pub room : length n.room ≡ length m.room

@@ -13,7 +13,7 @@ use Rattle.mas_types.specs.Starts.{empty_queue, no_queue}
 use Rattle.script_lang.specs.declared.types.Script.{Script}
 use Rattle.spool_plant.specs.declared.plant.Part.{Part}
 use Rattle.spool_plant.specs.declared.plant.Part.TheVariants.{Disk}
-use Rattle.spool_plant.specs.View.{View, disk_at, disk_now, Throughout, paper_now}
+use Rattle.spool_plant.specs.View.{View, disk_at, disk_now, Throughout, given_now, paper_now}
 use Rattle.spool_plant.specs.Acts.{Goes, Rose, top, next}
 use Rattle.ckpt_form.specs.Form.{form_reads, form_room}
 use Rattle.ckpt_copy.specs.Meanwhile.{SameSides}
@@ -50,7 +50,7 @@ use Rattle.member_node.specs.declared.member.NodeNo.{NodeNo}
 use Rattle.run_turns.specs.Sights.{Cut}
 use Rattle.run_turns.specs.Scenes.{scene_of}
 use Rattle.run_turns.specs.Steps.{Outcome}
-use Rattle.run_turns.specs.Runs.{console, history, outcomes_of, paper_of}
+use Rattle.run_turns.specs.Runs.{console, given_on, history, outcomes_of, paper_of}
 use Rattle.run_turns.specs.Givens.{Given, last_cut, outcomes_with, scene_with, sights_of}
 use Rattle.mas_run.specs.Histories.{AreHistory}
 use Rattle.mas_run.specs.Passed.{ArePassed, Here, LeaveVolumes, TakeNone, There, arms_after, loses_after}
@@ -212,13 +212,14 @@ abbrev pub EndsAs : Status → Option Cut → ℕ → ℕ → Type 0
 EndsAs status.Done cut many lines = (cut ≡ None) × (many ≡ lines)
 EndsAs _ cut many lines = (1 ≤ many) × (cut ≢ None)
 
--- THE LINES of a run: with what they began, the first of them at a queue, on a plant that showed this; and how they
--- ended: so many were played, the run's own journal, after its opening, has these batches, copies were replaced at these
--- moments, and this is its status
+-- THE LINES of a run: with what they began, the first of them at a queue, on a plant that showed this, in a run whose
+-- first moment is this; and how they ended: so many were played, the run's own journal, after its opening, has these
+-- batches, copies were replaced at these moments, and this is its status
 
 pub record LinesBegun : Type 0 where
   pub steps : List Step
   pub from : Queue
+  pub since : ℕ
   pub view : View
 
 pub record LinesEnded : Type 0 where
@@ -231,6 +232,7 @@ pub record LinesEnded : Type 0 where
 abbrev pub starts : LinesBegun → Here
 starts b = record {
   reads = form_reads;
+  since = b.since;
   number = 1;
   scene = scene_of b.from;
   batches = [];
@@ -259,6 +261,9 @@ pub record HavePassed (told : Type 0) (b : LinesBegun) (e : LinesEnded) : Type 0
   pub history : AreHistory (history did) e.batches
   pub said : told → console_now e.view ≡ console_now b.view ++ map (λ s. s.line) (console did)
   pub paper : told → (m : MemberId) → paper_now e.view m.0 ≡ paper_now b.view m.0 ++ paper_of m b.steps did
+  -- and each line to another node has the bytes that those lines of a member gave that served it, and no others
+  pub gave : told → (m : MemberId) (line : ℕ)
+      → given_now e.view line m.0 ≡ given_now b.view line m.0 ++ given_on m line b.steps did
   -- a device was lost by a call as often as a line that was played says so, and a copy besides perhaps by a takeover
   pub loses : told → (n : ℕ) → e.view.loses (Spool n) ≡ loses_after (Spool n) did (b.view.loses (Spool n))
   pub loses_copies : told → TakeNone (scene_of b.from) 1 given b.steps → (d : Dev)
@@ -281,13 +286,13 @@ pub record NonePassed (b : LinesBegun) (e : LinesEnded) : Type 0 where
   pub still : e.view ≡ b.view
 
 -- Both: what is known of any plant, and what is known besides of one that tells. Where a line was cut is known of the
--- second alone; so what lines gave stands in each by itself. Before the lines began nothing was said or printed, and
--- each device had been lost so often by a call.
+-- second alone; so what lines gave stands in each by itself. Before the lines began nothing was said or printed, nothing
+-- was given or taken on a line to another node, and each device had been lost so often by a call.
 pub record WerePlayed (tells : Type 0) (b : LinesBegun) (e : LinesEnded) (first : Dev → ℕ) (old : View) : Type 0 where
   pub entered : Goes old b.view
   pub lost_before : (d : Dev) → b.view.loses d ≡ first d
   pub unsaid : tells → console_now b.view ≡ console_now old
-  pub dry : tells → (m : ℕ) → paper_now b.view m ≡ paper_now old m
+  pub dry : tells → AreSidesKept old b.view
   pub bare : NonePassed b e ⊎ HavePassed ⊥ b e
   pub told : tells → NonePassed b e ⊎ HavePassed (Unit {0}) b e
   -- a good copy is left, except where both count as lost
@@ -317,7 +322,7 @@ pub record IsPlay (tells : Type 0) (steps : List Step) (answer : Status) (base :
   pub rest : List Batch
   pub renewals : Renewals
   pub batches : journal.batches ≡ front ++ rest
-  pub played : WerePlayed tells (record { steps = steps; from = run base (kept_all front); view = old })
+  pub played : WerePlayed tells (record { steps = steps; from = run base (kept_all front); since = since; view = old })
       (record { many = many; batches = rest; renewals = renewals; view = new; answer = answer }) old.loses old
   pub safe : IsSafe tells base journal renewals since new
   pub away : answer ≡ status.BothLost → AreAway renewals new
@@ -336,7 +341,8 @@ pub record HasSteps (cold : Bool) (tells : Type 0) (steps : List Step) (answer :
   pub many : ℕ
   -- the moments at which a copy was replaced, which is told by the lines that did so
   pub renewals : Renewals
-  pub played : WerePlayed tells (record { steps = steps; from = run base (kept_all opening); view = entry })
+  pub played : WerePlayed tells
+      (record { steps = steps; from = run base (kept_all opening); since = since; view = entry })
       (record { many = many; batches = rest; renewals = renewals; view = new; answer = answer }) first old
   pub opened : IsOpened cold answer since at opening many rest
   -- no byte of a volume changed before they began, and no line was printed before

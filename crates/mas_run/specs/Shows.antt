@@ -119,7 +119,7 @@ module _ {P C : Type 0} {plants : PlantGhosts P} {steadies : SteadyGhosts C} {co
   abbrev pub BetweenLines : Complex P C plants steadies copies → List Member → ℕ → Type 0
   BetweenLines x ms at = IsBetween plants copies (parts_of x) ms at
 
-  -- and once what is reserved is given up
+  -- between two lines once what is reserved is given up
   abbrev pub LeftBetween : Complex P C plants steadies copies → List Member → ℕ → Type 0
   LeftBetween x ms at = IsBetween plants copies (unreserved_in (parts_of x)) ms at
 

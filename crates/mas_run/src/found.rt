@@ -29,7 +29,7 @@ ghost use Rattle.mas_complex.specs.Renewals.{no_renewals};
 ghost use Rattle.mas_run.specs.Lines.{Proceeds};
 
 use crate::ended::Ended;
-use crate::members::members_of;
+use crate::members::{members_of, readers_of};
 use crate::play::{ended, play_asked, status_of, unbegun};
 use crate::reset::restart;
 use crate::running::Running;
@@ -126,12 +126,23 @@ fn play_reset<P: Plant + Drop>(
     let Ok(members) = members_of(alloc, &complex.base.config) else {
         return ended(Status::NoMemory, complex);
     };
+    let Ok(readers) = readers_of(alloc, &complex.base.config) else {
+        return ended(Status::NoMemory, complex);
+    };
     let Ok(operator) = Member::with(alloc, OPERATOR, checkpoint) else {
         return ended(Status::NoMemory, complex);
     };
     let mut operator = operator;
     match restart(&mut operator, alloc, &mut complex) {
-        Ok(()) => play_asked(alloc, lines, Running { complex, members }),
+        Ok(()) => play_asked(
+            alloc,
+            lines,
+            Running {
+                complex,
+                members,
+                readers,
+            },
+        ),
         Err(why) => ended(status_of(&Err(why)), complex),
     }
 }

@@ -6,7 +6,7 @@ use spool_plant::Plant;
 
 /// Where no volume failed in a run, nor the printer of a member that its script has a line of, no line found one lost:
 /// what its lines come to, and so its commands and what it says, follows from its script, the queue that it began with,
-/// and where members were stopped.
+/// where members were stopped, and what came over lines to other nodes.
 pub fn law_of_sound_volumes<P: Plant>()
     ensures { FindNone P.tells }
 {}

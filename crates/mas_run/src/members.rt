@@ -1,10 +1,13 @@
 //! The members of a run.
-ghost use Rattle.std.specs.Prelude.{IfOk};
+ghost use Rattle.std.specs.Prelude.{◌≡◌, ◌*◌, [], Some, All, length, IfOk};
 ghost use Rattle.mas_types.specs.Fit.{IsConfig};
+ghost use Rattle.mas_types.specs.Limits.{wires_most};
 ghost use Rattle.mas_run.specs.Fresh.{AreFresh};
 
+use crate::running::LINES;
 use mas_types::{Config, List, MemberId, NoMemory};
 use member_node::Member;
+use nje_frames::FrameReader;
 use std::alloc::Global;
 
 /// The members of a configuration, SYSA first. Each has read nothing and done nothing: before its first command it
@@ -19,4 +22,17 @@ pub(crate) fn members_of(alloc: Global, config: &Config) -> Result<List<Member>,
         members.push(member)?;
     }
     Ok(members)
+}
+
+/// What each member has read of each line to another node: nothing yet.
+pub(crate) fn readers_of(alloc: Global, config: &Config) -> Result<List<FrameReader>, NoMemory>
+    requires { IsConfig config.now }
+    ensures many { IfOk result (λ readers. length readers ≡ wires_most * config.now.members) }
+    ensures new { IfOk result (λ readers. All (λ reader. reader ≡ Some []) readers) }
+{
+    let mut readers = List::new(alloc);
+    for _before in 0..LINES * config.members as usize {
+        readers.push(FrameReader::new(alloc))?;
+    }
+    Ok(readers)
 }

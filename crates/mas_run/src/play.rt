@@ -1,8 +1,8 @@
 //! A script that is played from an empty queue.
-ghost use Rattle.std.specs.Prelude.{◌≡◌, ◌⊎◌, ℕ, ◌≤◌, [], true, false, length, All, IfOk, IfErr, OnOk, None, Some};
+ghost use Rattle.std.specs.Prelude.{◌≡◌, ◌⊎◌, ℕ, ◌*◌, ◌≤◌, [], true, false, length, All, IfOk, IfErr, OnOk, None, Some};
 ghost use Rattle.mas_types.specs.Starts.{empty_queue as queue_without_jobs};
 ghost use Rattle.mas_types.specs.Fit.{IsConfig};
-ghost use Rattle.mas_types.specs.Limits.{routes_most, steps_most};
+ghost use Rattle.mas_types.specs.Limits.{routes_most, steps_most, wires_most};
 ghost use Rattle.mas_types.specs.Lists.{first_some};
 ghost use Rattle.mas_types.specs.declared.ids.Dev.TheVariants.{Ckpt1, Ckpt2};
 ghost use Rattle.mas_types.specs.declared.ids.Dev.{Dev};
@@ -30,10 +30,11 @@ ghost use Rattle.run_turns.specs.Scenes.{scene_of};
 ghost use Rattle.mas_run.specs.Fresh.{AreFresh};
 ghost use Rattle.mas_run.specs.Lines.{Proceeds};
 ghost use Rattle.mas_run.specs.Shows.{BetweenLines, Shows};
+ghost use Rattle.mas_run.specs.Wires.{HaveRead};
 
 use crate::ended::Ended;
 use crate::found::status_of_start;
-use crate::members::members_of;
+use crate::members::{members_of, readers_of};
 use crate::running::Running;
 use ckpt_copy::Copying;
 use ckpt_form::CopyForm;
@@ -44,6 +45,7 @@ use mas_types::{
     Config, Dev, Journal, List, MemberId, NoMemory, Queue, Route, Status, empty_queue, no_queue,
 };
 use member_node::{Checkpoint, Member, NodeNo, blank};
+use nje_frames::FrameReader;
 use queue_tables::law_of_told_queues;
 use script_lang::{Script, Step};
 use spool_plant::Plant;
@@ -118,6 +120,7 @@ pub(crate) fn play_asked<P: Plant + Drop>(
     requires few { length lines.now ≤ steps_most }
     requires played { All IsPlayed lines.now }
     requires between { BetweenLines run.complex run.members 1 }
+    requires readers { HaveRead run.complex run.readers }
     requires shows { Shows (Unit {0}) (scene_of (run_of run.complex.base (kept_all run.complex.journal.batches)))
         run.complex }
     requires settled { AreSettled run.complex.journal.batches (P.view run.complex.plant).now }
@@ -145,6 +148,7 @@ pub(crate) fn play_asked<P: Plant + Drop>(
 struct Beginning {
     base: Queue,
     members: List<Member>,
+    readers: List<FrameReader>,
     // What is formatted.
     checkpoint: Checkpoint,
 }
@@ -156,6 +160,8 @@ fn start(alloc: Global, config: &Config, routes: &List<Route>) -> Result<Beginni
     requires routes { All IsRoute routes.now }
     ensures base { IfOk result (λ start. start.base ≡ queue_without_jobs config.now routes.now) }
     ensures members { IfOk result (λ start. AreFresh config.now start.members) }
+    ensures many { IfOk result (λ start. length start.readers ≡ wires_most * config.now.members) }
+    ensures new { IfOk result (λ start. All (λ reader. reader ≡ Some []) start.readers) }
     ensures tables { IfOk result (λ start. start.checkpoint.tables ≡ empty_tables config.now routes.now) }
     ensures level { IfOk result (λ start. start.checkpoint.level ≡ 1) }
     ensures drawn { IfOk result (λ start.
@@ -164,6 +170,7 @@ fn start(alloc: Global, config: &Config, routes: &List<Route>) -> Result<Beginni
     Ok(Beginning {
         base: empty_queue(alloc, config, routes)?,
         members: members_of(alloc, config)?,
+        readers: readers_of(alloc, config)?,
         checkpoint: blank(alloc, config, routes)?,
     })
 }
@@ -236,6 +243,7 @@ pub(crate) fn play_cold<P: Plant + Drop>(alloc: Global, script: &Script, plant: 
         Beginning {
             base,
             members,
+            readers,
             checkpoint,
         },
     ) = start(alloc, config, &script.routes)
@@ -254,5 +262,13 @@ pub(crate) fn play_cold<P: Plant + Drop>(alloc: Global, script: &Script, plant: 
     };
     law_of_told_queues();
     let complex = Complex::make(alloc, plant, pair, base, checkpoint.level);
-    play_asked(alloc, script.steps.as_slice(), Running { complex, members })
+    play_asked(
+        alloc,
+        script.steps.as_slice(),
+        Running {
+            complex,
+            members,
+            readers,
+        },
+    )
 }

@@ -1,13 +1,15 @@
 //! A run that has begun: its shared value and its members, and the lines of a script that are played on them.
-ghost use Rattle.std.specs.Prelude.{◌≡◌, ◌≤◌, ◌+◌, length, true, Err, OnOk, All};
-ghost use Rattle.mas_types.specs.Limits.{steps_most};
+ghost use Rattle.std.specs.Prelude.{◌≡◌, ◌≤◌, ◌<◌, ◌+◌, length, true, Err, OnOk, All};
+ghost use Rattle.mas_types.specs.Limits.{members_most, steps_most};
 ghost use Rattle.script_lang.specs.declared.types.Ask.TheVariants.{Lose, Stop, StopIn};
 ghost use Rattle.lock_cycle.specs.Books.{IsMember, left_of};
 ghost use Rattle.run_turns.specs.Admissions.{granted_by};
 ghost use Rattle.script_input.specs.Played.{IsPlayed};
+ghost use Rattle.mas_run.specs.Wires.{task_place};
 
 use crate::resetting::{reset_line, take_line};
 use mas_complex::{Complex, Steady};
+use mas_types::limits::WIRES_MOST;
 use mas_types::{Dev, List, MemberId};
 use member_hand::play_task;
 use member_lines::{
@@ -15,20 +17,26 @@ use member_lines::{
     say_refused, say_stopped, stop_line,
 };
 use member_node::{Member, NodeNo};
+use nje_frames::{FrameReader, law_of_streams};
 use script_lang::{Ask, Step};
 use spool_plant::{Fuse, Plant};
 use std::alloc::Global;
-use step_turns::{Grant, Holder};
+use step_turns::{Grant, Holder, Task};
 
-/// The shared value of a run, and its members: SYSA first, and as many as its configuration has.
+/// The shared value of a run, and its members: SYSA first, and as many as its configuration has. And what each has read
+/// of each line to another node, eight of SYSA first.
 #[derive(Drop)]
 pub(crate) struct Running<P: Plant + Drop, C: Steady + Drop> {
     pub(crate) complex: Complex<P, C>,
     pub(crate) members: List<Member>,
+    pub(crate) readers: List<FrameReader>,
 }
 
 // A line is begun below this level of the kept pages. A run begins far below it.
 const LEVEL_MOST: u64 = (1 << 62) + (1 << 61);
+
+/// The lines to other nodes that a member may serve.
+pub(crate) const LINES: usize = WIRES_MOST as usize;
 
 // How a member comes to hold the lock in a line: one that holds it before has it by LOCK.
 fn grant_of<P: Plant + Drop, C: Steady + Drop>(complex: &Complex<P, C>, by: MemberId) -> Grant
@@ -59,12 +67,24 @@ fn holder_of<P: Plant + Drop, C: Steady + Drop>(
     }
 }
 
+// The place of the reader of the line that a task serves, among those of all members.
+fn reader_of(at: usize, task: &Task) -> usize
+    requires { at < members_most }
+    ensures { result ≡ task_place at task.now }
+{
+    match task {
+        Task::Line(line) => LINES * at + (*line as usize).saturating_sub(1),
+        _ => LINES * at,
+    }
+}
+
 impl<P: Plant + Drop, C: Steady + Drop> Running<P, C> {
     ghost use Rattle.mas_run.specs.Copies.{CopiesKept};
-    ghost use Rattle.mas_run.specs.LinesLeft.{LineIsLeft};
+    ghost use Rattle.mas_run.specs.LinesLeft.{IfRuns, LineIsLeft};
     ghost use Rattle.mas_run.specs.LinesPlayed.{PlayedLine, PlayedLines, is_of_member, line_by};
     ghost use Rattle.mas_run.specs.MuteLines.{PlaysMute};
     ghost use Rattle.mas_run.specs.Shows.{BetweenLines, LeftBetween};
+    ghost use Rattle.mas_run.specs.Wires.{HaveRead};
 
     // A line of a member: it is tested, and then played as it is admitted, or closed. Where its member was halted it is
     // stopped in the book, nothing was said of that yet, and what it had reserved is still to be given up.
@@ -79,6 +99,7 @@ impl<P: Plant + Drop, C: Steady + Drop> Running<P, C> {
         requires member { is_of_member asked.now ≡ true }
         requires few { step ≤ steps_most }
         requires between { BetweenLines self.old.complex self.old.members step }
+        requires readers { HaveRead self.old.complex self.old.readers }
         ensures base { self.new.complex.base ≡ self.old.complex.base }
         ensures since { self.new.complex.since ≡ self.old.complex.since }
         ensures bare { LineIsLeft ⊥ step (line_by by asked.now) self.old.complex self.new.complex result }
@@ -88,6 +109,7 @@ impl<P: Plant + Drop, C: Steady + Drop> Running<P, C> {
         ensures next { OnOk result (BetweenLines self.new.complex self.new.members (step + 1)) }
         ensures halted { result ≡ Err NodeNo.Halted → LeftBetween self.new.complex self.new.members (step + 1) }
         ensures seated { result ≡ Err NodeNo.Halted → IsMember self.old.complex.book by }
+        ensures heard { IfRuns result (HaveRead self.new.complex self.new.readers) }
     {
         if self.complex.level >= LEVEL_MOST {
             return Err(NodeNo::NoMemory);
@@ -107,7 +129,17 @@ impl<P: Plant + Drop, C: Steady + Drop> Running<P, C> {
             Admission::Frees => free_line(alloc, complex, by, step),
             Admission::Plays(task) => {
                 let holder = holder_of(complex, by, step, grant);
-                play_task(self.members.item_mut(at), alloc, complex, holder, task)
+                law_of_streams();
+                let place = reader_of(at, &task);
+                let reader = self.readers.item_mut(place);
+                play_task(
+                    self.members.item_mut(at),
+                    alloc,
+                    complex,
+                    reader,
+                    holder,
+                    task,
+                )
             }
             Admission::Resets(of) => {
                 let holder = holder_of(complex, by, step, grant);
@@ -138,6 +170,7 @@ impl<P: Plant + Drop, C: Steady + Drop> Running<P, C> {
         requires member { is_of_member asked.now ≡ true }
         requires few { step ≤ steps_most }
         requires between { BetweenLines self.old.complex self.old.members step }
+        requires readers { HaveRead self.old.complex self.old.readers }
         ensures base { self.new.complex.base ≡ self.old.complex.base }
         ensures since { self.new.complex.since ≡ self.old.complex.since }
         ensures bare { PlayedLine ⊥ step (line_by by asked.now) self.old.complex self.new.complex result }
@@ -145,6 +178,7 @@ impl<P: Plant + Drop, C: Steady + Drop> Running<P, C> {
             → PlayedLine (Unit {0}) step (line_by by asked.now) self.old.complex self.new.complex result }
         ensures copies { CopiesKept self.old.complex self.new.complex result }
         ensures next { OnOk result (BetweenLines self.new.complex self.new.members (step + 1)) }
+        ensures heard { OnOk result (HaveRead self.new.complex self.new.readers) }
     {
         match self.play_member(alloc, step, by, asked) {
             Ok(()) => Ok(()),
@@ -162,8 +196,9 @@ impl<P: Plant + Drop, C: Steady + Drop> Running<P, C> {
     fn play_stop(&mut self, number: u32, by: MemberId)
         requires few { number ≤ steps_most }
         requires between { BetweenLines self.old.complex self.old.members number }
-        ensures { PlaysMute number (line_by by Stop) self.old.complex self.new.complex
+        ensures mute { PlaysMute number (line_by by Stop) self.old.complex self.new.complex
             self.new.members }
+        ensures readers { self.new.readers ≡ self.old.readers }
     {
         stop_line(&mut self.complex, by);
     }
@@ -172,8 +207,9 @@ impl<P: Plant + Drop, C: Steady + Drop> Running<P, C> {
     fn play_arm(&mut self, number: u32, by: MemberId, fuse: Fuse, count: u32)
         requires few { number ≤ steps_most }
         requires between { BetweenLines self.old.complex self.old.members number }
-        ensures { PlaysMute number (line_by by (StopIn fuse count)) self.old.complex self.new.complex
+        ensures mute { PlaysMute number (line_by by (StopIn fuse count)) self.old.complex self.new.complex
             self.new.members }
+        ensures readers { self.new.readers ≡ self.old.readers }
     {
         arm_line(&mut self.complex, by, fuse, count);
     }
@@ -182,8 +218,9 @@ impl<P: Plant + Drop, C: Steady + Drop> Running<P, C> {
     fn play_loss(&mut self, number: u32, by: MemberId, dev: Dev)
         requires few { number ≤ steps_most }
         requires between { BetweenLines self.old.complex self.old.members number }
-        ensures { PlaysMute number (line_by by (Lose dev)) self.old.complex self.new.complex
+        ensures mute { PlaysMute number (line_by by (Lose dev)) self.old.complex self.new.complex
             self.new.members }
+        ensures readers { self.new.readers ≡ self.old.readers }
     {
         self.complex.lose(dev);
     }
@@ -205,12 +242,14 @@ impl<P: Plant + Drop, C: Steady + Drop> Running<P, C> {
         requires played { IsPlayed line.now }
         requires few { number ≤ steps_most }
         requires between { BetweenLines self.old.complex self.old.members number }
+        requires readers { HaveRead self.old.complex self.old.readers }
         ensures base { self.new.complex.base ≡ self.old.complex.base }
         ensures since { self.new.complex.since ≡ self.old.complex.since }
         ensures bare { PlayedLine ⊥ number line.now self.old.complex self.new.complex result }
         ensures told { P.tells → PlayedLine (Unit {0}) number line.now self.old.complex self.new.complex result }
         ensures copies { CopiesKept self.old.complex self.new.complex result }
         ensures next { OnOk result (BetweenLines self.new.complex self.new.members (number + 1)) }
+        ensures heard { OnOk result (HaveRead self.new.complex self.new.readers) }
     {
         match &line.what {
             Ask::Stop => {
@@ -234,6 +273,7 @@ impl<P: Plant + Drop, C: Steady + Drop> Running<P, C> {
         requires few { length lines.now ≤ steps_most }
         requires played { All IsPlayed lines.now }
         requires between { BetweenLines self.old.complex self.old.members 1 }
+        requires readers { HaveRead self.old.complex self.old.readers }
         ensures base { self.new.complex.base ≡ self.old.complex.base }
         ensures since { self.new.complex.since ≡ self.old.complex.since }
         ensures played { PlayedLines P.tells 1 lines.now self.old.complex self.new.complex result }

@@ -112,13 +112,12 @@ pub fn play_steps<P: Plant + Drop>(alloc: Global, cold: bool, script: Script, pl
 /// the queue that is found on them. A run that `only` formats refuses every step.
 ///
 /// The script is read to its end before anything is played. Its lines are steps of SYSA to SYSH, stops of a member, and
-/// losses of a device; LINE isn't played. A cold run refuses the first device that is too small for the
-/// script's configuration, CKPT1, CKPT2, and then each spool volume that isn't lost, and formats both copies with the
-/// empty queue of the script's configuration and routes. A warm run looks at both, takes the usable one of greater
-/// level, CKPT1 on a tie, refuses a device that is too small for it in the same order, syncs the volumes and reads the
-/// texts, loses the other copy where it can't be used or doesn't fit and else brings it up, and gives Restart as its
-/// first batch; its jobs are at the node of the configuration that is found. Then the lines are played one after
-/// another.
+/// losses of a device. A cold run refuses the first device that is too small for the script's configuration, CKPT1,
+/// CKPT2, and then each spool volume that isn't lost, and formats both copies with the empty queue of the script's
+/// configuration and routes. A warm run looks at both, takes the usable one of greater level, CKPT1 on a tie, refuses a
+/// device that is too small for it in the same order, syncs the volumes and reads the texts, loses the other copy where
+/// it can't be used or doesn't fit and else brings it up, and gives Restart as its first batch; its jobs are at the
+/// node of the configuration that is found. Then the lines are played one after another.
 ///
 /// A step closes before its commands where its member is none or was stopped, a card of its deck is wrong, the member
 /// that it resets is none or is up, or its member doesn't get the lock. Else a deck's job begins and gets the groups
@@ -127,11 +126,14 @@ pub fn play_steps<P: Plant + Drop>(alloc: Global, cold: bool, script: Script, pl
 /// one batch. The lock of a stopped holder is taken over by who resets it, with what became of a batch in flight. Work
 /// does at most so many units, one after another, up to one that is refused or to where none applies; what it did is
 /// kept before a text is read or written, where the lock's hold is spent, and at its end. The lines of an output are
-/// printed from its mark on, in their order, and then marked. A batch is kept once each copy that is left has it, and
-/// the lines of its step are said then, those of a display first and the closing line last. A step takes the lock of
-/// the checkpoint and gives it up at its end, unless its member holds it by LOCK. A copy that fails or is lost is left
-/// out, and the run goes on with the other. REPLACE puts another device in the place of a lost copy's, and forms a copy
-/// of the pages of the other on it: it counts from then on, and is good, once its step said OK.
+/// printed from its mark on, in their order, and then marked. LINE of a line to another node gives the frames whose
+/// turn it is on it, takes what waits there, at most 65,536 bytes, and serves the frames that these complete in the
+/// stream that its member took from the line in the run, each after the batch that custody of its job needs is kept. A
+/// batch is kept once each copy that is left has it, and the lines of its step are said then, those of a display first
+/// and the closing line last. A step takes the lock of the checkpoint and gives it up at its end, unless its member
+/// holds it by LOCK. A copy that fails or is lost is left out, and the run goes on with the other. REPLACE puts another
+/// device in the place of a lost copy's, and forms a copy of the pages of the other on it: it counts from then on, and
+/// is good, once its step said OK.
 ///
 /// A member that is stopped in its step is down from then on, and holds what it held; the operator says so, and the run
 /// goes on. The status Words never comes.

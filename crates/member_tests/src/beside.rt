@@ -79,7 +79,7 @@ fn is_beside_on(
     Ok(is_beside(complex))
 }
 
-// The same over two new copies.
+// Over two new copies: whether the second member writes beside the first one's lock.
 fn is_beside_on_new(alloc: Global) -> Result<bool, NoMemory> {
     let plant = halting(alloc, NEVER)?;
     if plant.size(Dev::Ckpt1) < 4096 * 35 || plant.size(Dev::Ckpt2) < 4096 * 35 {

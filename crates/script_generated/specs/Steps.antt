@@ -41,7 +41,7 @@ abbrev pub ReadsGenerated : Type 0
 ReadsGenerated = (run : Run) (n : ℕ) → IsDeckCount n → run.only ≡ false
     → said run (script_text n) ≡ Ok (script_generated n)
 
--- and none of its steps is one that isn't played yet
+-- what is generated is played as this script, in each run that may have steps
 abbrev pub PlaysGenerated : Type 0
 PlaysGenerated = (run : Run) (n : ℕ) → IsDeckCount n → run.only ≡ false
     → read_as run (script_text n) ≡ Ok (script_generated n)

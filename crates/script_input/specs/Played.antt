@@ -6,7 +6,7 @@ use Rattle.script_lang.specs.declared.types.Step.{Step}
 use Rattle.script_laws.specs.Limits.{IsStep}
 use Rattle.script_input.specs.Commands.{is_typed}
 
--- what a line may ask for, so far: all but to serve a line to another node; of commands, one that an operator types
+-- what a line may ask for; of commands, one that an operator types
 abbrev pub may_ask : Ask → Bool
 may_ask (ask.Deck cards) = true
 may_ask (ask.Command given) = is_typed given
@@ -14,7 +14,7 @@ may_ask (ask.Lose device) = true
 may_ask (ask.Work n) = true
 may_ask ask.Lock = true
 may_ask ask.Free = true
-may_ask (ask.Line line) = false
+may_ask (ask.Line line) = true
 may_ask (ask.Replace copy) = true
 may_ask ask.Stop = true
 may_ask (ask.StopIn fuse n) = true

@@ -1,10 +1,8 @@
-//! Reading the script that the program plays: what the script's whole language says of it, where each step is played so
-//! far. The definitions in specs/ say which line is refused, and why.
+//! Reading the script that the program plays: what the script's language says of it, and that each of its steps is one
+//! that is played.
 #![tactic(auto)]
 
 pub mod laws;
-mod lines;
-mod played;
 mod reading;
 mod script;
 

@@ -1,13 +1,11 @@
 //! Reading a script.
-ghost use Rattle.std.specs.Prelude.{◌≡◌, false, All, IfOk};
+ghost use Rattle.std.specs.Prelude.{false, All, IfOk};
 ghost use Rattle.script_lang.specs.Script.{ComesTo};
 ghost use Rattle.script_laws.specs.Limits.{IsScript};
 ghost use Rattle.script_input.specs.Played.{IsPlayed};
 ghost use Rattle.script_input.specs.Script.{read_as};
 
-use crate::lines::step_line;
-use crate::played::first_unbuilt;
-use mas_types::LineCause;
+use crate::laws::law_of_typed_commands;
 use script_lang::{Script, ScriptNo};
 use script_laws::law_of_limits;
 use std::alloc::Global;
@@ -15,10 +13,9 @@ use std::alloc::Global;
 /// Reads the script of a run: of one from an empty queue where `cold` is true, and of one that only formats where
 /// `only` is true.
 ///
-/// `BadLine` of what the whole language of scripts refuses, at the least such line by the first of its causes. Where it
-/// refuses no line, `BadLine` at the least line of a step that is not played so far, by the cause NotBuilt: LINE, and a
-/// command that no operator types. `TooLong` exactly where there are over 16,777,216 bytes. NoMemory comes only
-/// when out of memory.
+/// `BadLine` of what the language of scripts refuses, at the least such line by the first of its causes; never by the
+/// cause NotBuilt, as each line of the language is played. `TooLong` exactly where there are over 16,777,216 bytes.
+/// NoMemory comes only when out of memory.
 pub fn read_script(alloc: Global, bytes: &[u8], cold: bool, only: bool) -> Result<Script, ScriptNo>
     ensures said { ComesTo result (read_as (record { cold = cold; race = false; only = only }) bytes.now) }
 
@@ -27,12 +24,6 @@ pub fn read_script(alloc: Global, bytes: &[u8], cold: bool, only: bool) -> Resul
     ensures plays { IfOk result (λ script. All IsPlayed script.steps) }
 {
     law_of_limits();
-    let script = script_lang::read_script(alloc, bytes, cold, false, only)?;
-    match first_unbuilt(script.steps.as_slice()) {
-        Some(place) => Err(ScriptNo::BadLine {
-            line: step_line(bytes, place),
-            cause: LineCause::NotBuilt,
-        }),
-        None => Ok(script),
-    }
+    law_of_typed_commands();
+    script_lang::read_script(alloc, bytes, cold, false, only)
 }

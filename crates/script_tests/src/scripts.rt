@@ -67,7 +67,7 @@ pub fn add_script(alloc: Global, out: &mut Writer, text: &[u8], run: Run) {
     add_read(alloc, out, read)
 }
 
-/// A script of what is played so far.
+/// A script as a run of the program reads it.
 pub fn add_input(alloc: Global, out: &mut Writer, text: &[u8], run: Run) {
     let read = script_input::read_script(alloc, text, run.cold, run.only);
     add_read(alloc, out, read)

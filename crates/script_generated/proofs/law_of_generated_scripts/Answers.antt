@@ -6,10 +6,8 @@ use Rattle.script_lang.specs.Lines.{is_line, lines_of}
 use Rattle.script_laws.specs.Grammar.{step_of_member}
 use Rattle.script_laws.specs.Laws.{ReadsScripts}
 use Rattle.script_laws.specs.Whole.{IsScriptOf, Plain}
-use Rattle.script_input.proofs.ScriptLemmas.{is_read}
 use Rattle.gen_work.specs.Generated.{part_lines, script_lines, script_text}
 use Rattle.script_generated.specs.Steps.{ReadsGenerated, part_steps, script_generated, script_steps, sysb}
-use Rattle.script_generated.proofs.Built.{all_built}
 use Rattle.script_generated.proofs.Lines.{lines_back, lines_length}
 use Rattle.script_generated.proofs.Parts.{parts_are, parts_count, parts_read, steps_count}
 use Rattle.script_generated.proofs.law_of_generated_scripts.Goals as goal
@@ -36,4 +34,4 @@ pub returns-clause-reads : goal.returns-clause-reads
 returns-clause-reads c run n is only = read_by c.law_of_scripts.ensures run n is only
 
 pub returns-clause-plays : goal.returns-clause-plays
-returns-clause-plays c run n is only = is_read run (script_text n) (script_generated n) (read_by c.law_of_scripts.ensures run n is only) (all_built n)
+returns-clause-plays c run n is only = read_by c.law_of_scripts.ensures run n is only

@@ -1,8 +1,9 @@
-use Rattle.std.proofs.Common.{◌≡◌, ◌∙◌, ◌≤◌, ℕ, [], length, inl, refl, sym, ap, subst, arith}
+use Rattle.std.proofs.Common.{◌≡◌, ◌∙◌, ◌*◌, ◌≤◌, ℕ, [], length, inl, refl, sym, ap, subst, arith}
 use Rattle.mas_types.specs.declared.queues.Config.{Config}
 use Rattle.mas_types.specs.declared.queues.Queue.{Queue}
-use Rattle.mas_types.specs.Limits.{pages_most}
+use Rattle.mas_types.specs.Limits.{pages_most, wires_most}
 use Rattle.lock_cycle.specs.Books.{Book}
+use Rattle.spool_plant.specs.View.{World}
 use Rattle.ckpt_form.specs.Form.{form_needs, form_reads}
 use Rattle.mas_types.specs.declared.ids.Dev.TheVariants.{Ckpt1, Ckpt2}
 use Rattle.ckpt_tables.specs.Shape.{page_count}
@@ -12,14 +13,17 @@ use Rattle.mas_complex.specs.Renewals.{is_open, no_renewals}
 use Rattle.mas_complex.specs.Journals.{fated}
 use Rattle.mas_types.specs.declared.journals.Fate.TheVariants.{Kept}
 use Rattle.mas_complex.specs.Locking.{book_of}
+use Rattle.mas_complex.specs.Parts.{parts_of}
 use Rattle.member_node.specs.declared.checkpoint.Checkpoint.{Checkpoint}
 use Rattle.member_node.specs.declared.member.NodeNo.TheVariants as no_node
 use Rattle.member_node.proofs.WriteLemmas.{none_out}
 use Rattle.member_steps.proofs.PageLemmas.{few_pages}
 use Rattle.mas_run.specs.Fresh.{AreFresh}
 use Rattle.mas_run.specs.Resets.{restart_at}
-use Rattle.mas_run.specs.Shows.{QuietFor}
+use Rattle.mas_run.specs.Shows.{BetweenLines, QuietFor}
 use Rattle.mas_run.proofs.BetweenLemmas.{lines_between, lines_shown, one_earlier, untold_since}
+use Rattle.mas_run.proofs.PaperLemmas.{sides_apart}
+use Rattle.mas_run.proofs.ReaderLemmas.{readers_new}
 use Rattle.mas_run.proofs.PassedLemmas.{proceeds_none, proceeds_of, proceeds_on}
 use Rattle.mas_run.proofs.ResetLemmas.{err_plays, reset_caused, reset_ended, reset_none, restart_earlier, settle_none}
 use Rattle.mas_run.proofs.RunLemmas.{caused_through, grows_through, warm_lines}
@@ -55,6 +59,33 @@ returns-in_default-clause-goes g c = rw c.ended.ensures.plant (proceeds_none (g.
 
 pub returns-in_default-clause-grow : goal.returns-in_default-clause-grow
 returns-in_default-clause-grow g c d = rw c.ended.ensures.plant (inl refl)
+
+-- THERE WAS NO MEMORY for the readers
+
+pub returns-in_default-readers_of-clause-steps : goal.returns-in_default-readers_of-clause-steps
+returns-in_default-readers_of-clause-steps g c =
+    let P = g.P.Plant in
+    let x = c.args.found.complex in
+    let v = P.view x.plant in
+    let e = c.ended-in_default-readers_of.ensures in
+    let J = c.ended-in_default-readers_of.result.journal in
+    let head : P.tells → ∥ Headline form_reads x.base x.since J no_renewals v ∥₁ = λ t. rw (e.base, e.since, e.plant, c.requires.unrenewed) at (e.headline t) in
+    let none : J.batches ≡ [] = e.journal ∙ none_out x.journal.batches x.journal.batches x.placed x.current refl c.requires.unplaced c.requires.none ∙ c.requires.journal in
+    rw (e.status, e.base, e.since, e.plant)
+    (reset_ended {T = Unit {0}} P.tells c.args.lines.now x.base J x.since v v x.pair.first.alive x.pair.first.alive x.pair.second.alive x.pair.second.alive no_node.NoMemory c.requires.base_sound c.requires.since c.requires.some c.requires.there1 c.requires.there2
+    (λ dead. x.first_lost dead (ap (λ (rs : Renewals). is_open rs.first) c.requires.unrenewed)) (λ dead. x.second_lost dead (ap (λ (rs : Renewals). is_open rs.second) c.requires.unrenewed)) head
+    (reset_none P.tells J.batches x.pair.first.alive x.pair.first.alive x.pair.second.alive x.pair.second.alive v v (settle_none P.tells x.pair.first.alive x.pair.second.alive v c.requires.some) none))
+
+pub returns-in_default-readers_of-clause-cause : goal.returns-in_default-readers_of-clause-cause
+returns-in_default-readers_of-clause-cause g c =
+    let e = c.ended-in_default-readers_of.ensures in
+    rw (e.status, e.plant) (record { failed1 = λ is was. absurd (cc); failed2 = λ is was. absurd (cc); console = λ is. absurd (cc) })
+
+pub returns-in_default-readers_of-clause-goes : goal.returns-in_default-readers_of-clause-goes
+returns-in_default-readers_of-clause-goes g c = rw c.ended-in_default-readers_of.ensures.plant (proceeds_none (g.P.Plant.view c.args.found.complex.plant))
+
+pub returns-in_default-readers_of-clause-grow : goal.returns-in_default-readers_of-clause-grow
+returns-in_default-readers_of-clause-grow g c d = rw c.ended-in_default-readers_of.ensures.plant (inl refl)
 
 -- THERE WAS NO MEMORY for the operator
 
@@ -186,6 +217,22 @@ play_asked-requires-clause-between g c =
           (subst (λ (n : ℕ). form_needs (page_count x.base.config) ≤ n) (sym (k.reset.course.goes.size Ckpt2)) c.requires.large.1),
     )
 
+-- nothing was taken since
+pub play_asked-requires-clause-readers : goal.play_asked-requires-clause-readers
+play_asked-requires-clause-readers g c =
+    let P = g.P.Plant in
+    let x = c.args.found.complex in
+    let y = c.restart.new.complex in
+    let v = P.view x.plant in
+    let w = P.view y.plant in
+    let k = c.in-Ok-restart.ensures in
+    let i = c.in-Ok-readers_of.ensures in
+    let between : BetweenLines y c.in-Ok.members 1 = play_asked-requires-clause-between g c in
+    let config : x.base.config ≡ y.base.config = sym (ap (λ (q : Queue). q.config) k.base) in
+    let since : v.now ≡ y.since = sym (k.since ∙ c.requires.since) in
+    readers_new P (parts_of y) c.in-Ok-readers_of.readers between.booked (i.many ∙ ap (λ (n : Config). wires_most * n.members) config) i.new
+    (λ t line by. (k.reset.apart t).wires.taken line by ∙ ap (λ (u : World). u.taken line by) (sym (k.reset.course.goes.past v.now (omega arith))) ∙ ap (λ (n : ℕ). (w.world n).taken line by) since)
+
 pub play_asked-requires-clause-shows : goal.play_asked-requires-clause-shows
 play_asked-requires-clause-shows g c =
     let y = c.restart.new.complex in
@@ -226,7 +273,8 @@ returns-in-Ok-restart-clause-steps g c =
     let out = none_out y.journal.batches y.journal.batches y.placed y.current refl k.quiet.unplaced k.quiet.none in
     let since : z.since ≡ v.now = d.since ∙ k.since ∙ c.requires.since in
     warm_lines v w (P.view z.plant) k.reset.course.goes d.goes P.tells c.args.lines.now z.status z.base (restart_at r.0) r.1 y.journal.batches z.journal z.since (sym out ∙ r.5)
-    (record { by = refl; entries = refl; began = omega (arith, since, r.2) }) r.3 r.4 (omega (arith, since, k.reset.course.goes.later)) k.reset.loses (λ t. (k.reset.apart t).console) (λ t. kept_on v w (k.reset.apart t).others) (λ t. (k.reset.apart t).papers) d.play
+    (record { by = refl; entries = refl; began = omega (arith, since, r.2) }) r.3 r.4 (omega (arith, since, k.reset.course.goes.later)) k.reset.loses (λ t. (k.reset.apart t).console) (λ t. kept_on v w (k.reset.apart t).others) (λ t. (k.reset.apart t).papers)
+    (λ t. sides_apart v w k.reset.course.goes.later (k.reset.apart t)) d.play
 
 pub returns-in-Ok-restart-clause-goes : goal.returns-in-Ok-restart-clause-goes
 returns-in-Ok-restart-clause-goes g c =

@@ -294,5 +294,6 @@ returns-clause-run g c begun =
       formatted = λ cold. absurd (cc);
       quiet = λ t. ap (λ (n : ℕ). (v2.world n).console) since ∙ ap (λ (u : World). u.console) (goes.past v1.now (omega arith)) ∙ quiet t;
       dry = λ t. rw since (subst (λ (u : World). SameSides (v0.world v0.now) u) (sym (goes.past v1.now (omega arith))) ((s.held t).sides v1.now s.starts.goes.later (omega arith)));
-      steps = steps_since v0 v1 v2 s.starts.goes goes false P.tells script.steps z.status z.base z.journal z.since v1.loses quiet (λ t. (s.held t).volumes) (λ t. papers_of v0 v1 (s.held t).sides) steps;
+      steps = steps_since v0 v1 v2 s.starts.goes goes false P.tells script.steps z.status z.base z.journal z.since v1.loses quiet (λ t. (s.held t).volumes) (λ t. papers_of v0 v1 (s.held t).sides)
+          (λ t. (s.held t).sides v1.now s.starts.goes.later (omega arith)) steps;
     }

@@ -1,4 +1,4 @@
-use Rattle.std.proofs.Common.{◌≡◌}
+use Rattle.std.proofs.Common.{◌≡◌, refl}
 use Rattle.ckpt_form.specs.Form.{form_reads}
 use Rattle.mas_complex.specs.Headline.{Headline}
 use Rattle.mas_complex.specs.Renewals.{no_renewals}
@@ -30,8 +30,8 @@ returns-clause-play g c =
     (play_of_lines P.tells steps x.base x.journal.batches v.now J y.renewals x.since v w r d.played.many c.requires.settled c.requires.between.sound head
     (away_after P (parts_of x) (parts_of y) r d.copies.devices y.first_lost y.second_lost)
     (good_after P (parts_of x) (parts_of y) r d.copies c.requires.some c.requires.unrenewed c.requires.there1 c.requires.there2)
-    (lines_passed x y S ⊥ steps d.played.many r d.played.bare (shown_bare x y S (Unit {0}) c.requires.shows) x.journal.batches J.batches no_renewals none c.requires.unrenewed e.journal)
-    (λ t. lines_passed x y S (Unit {0}) steps d.played.many r (d.played.told t) c.requires.shows x.journal.batches J.batches no_renewals none c.requires.unrenewed e.journal))
+    (lines_passed x y S ⊥ steps d.played.many r d.played.bare (shown_bare x y S (Unit {0}) c.requires.shows) x.journal.batches J.batches no_renewals x.since refl none c.requires.unrenewed e.journal)
+    (λ t. lines_passed x y S (Unit {0}) steps d.played.many r (d.played.told t) c.requires.shows x.journal.batches J.batches no_renewals x.since refl none c.requires.unrenewed e.journal))
 
 pub returns-clause-cause : goal.returns-clause-cause
 returns-clause-cause g c =

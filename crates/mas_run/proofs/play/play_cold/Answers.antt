@@ -1,9 +1,10 @@
-use Rattle.std.proofs.Common.{◌≡◌, ◌∙◌, ℕ, ◌≤◌, true, false, List, Err, length, refl, sym, ap, subst, arith}
+use Rattle.std.proofs.Common.{◌≡◌, ◌∙◌, ℕ, ◌*◌, ◌≤◌, true, false, List, Err, length, refl, sym, ap, subst, arith}
 use Rattle.std.proofs.Math.Logic.{∥∥₁_map}
 use Rattle.mas_types.specs.declared.ids.Dev.TheVariants.{Ckpt1, Ckpt2}
 use Rattle.mas_types.specs.declared.queues.Config.{Config}
 use Rattle.mas_types.specs.declared.queues.Queue.{Queue}
 use Rattle.mas_types.specs.Fit.{IsConfig}
+use Rattle.mas_types.specs.Limits.{wires_most}
 use Rattle.spool_plant.specs.View.{View, World, disk_now}
 use Rattle.ckpt_form.specs.Form.{form_count, form_needs, form_holds, form_reads, form_rests, form_rests_now, form_rests_reads}
 use Rattle.ckpt_copy.specs.Meanwhile.{SameSides}
@@ -14,6 +15,7 @@ use Rattle.mas_types.specs.declared.journals.Batch.{Batch}
 use Rattle.mas_complex.specs.Journals.{AreSettled, kept_all}
 use Rattle.mas_complex.specs.Locking.{book_of}
 use Rattle.mas_complex.specs.Meaning.{StandFor, run}
+use Rattle.mas_complex.specs.Parts.{parts_of}
 use Rattle.member_node.specs.Calls.{IsOnlyOn, console_now}
 use Rattle.queue_telling.specs.Telling.{Tell}
 use Rattle.mas_complex.specs.Texts.{lost_now, spools_at}
@@ -26,9 +28,10 @@ use Rattle.ckpt_pages.specs.Checkpoints.{IsCheckpoint}
 use Rattle.mas_run.specs.Fresh.{AreFresh}
 use Rattle.mas_run.specs.Lines.{Proceeds}
 use Rattle.mas_run.specs.Runs.{IsPlay}
-use Rattle.mas_run.specs.Shows.{QuietFor}
+use Rattle.mas_run.specs.Shows.{BetweenLines, QuietFor}
 use Rattle.mas_run.specs.Statuses.{IsCausedFrom}
 use Rattle.mas_run.proofs.BetweenLemmas.{lines_between, lines_shown, none_earlier, opened_first, opened_second, untold_since}
+use Rattle.mas_run.proofs.ReaderLemmas.{readers_new}
 use Rattle.mas_run.proofs.PassedLemmas.{proceeds_of, proceeds_on}
 use Rattle.mas_run.proofs.RunLemmas.{begun_empty, caused_since, caused_unformed, cold_lines, empty_texts, ever_on, formed_copy, formed_images, formed_lost, lost_ever, low_empty, orders_empty, reads_there, sound_base, sound_empty, steps_since, told_empty, unarmed, unarmed_view}
 use Rattle.mas_run.proofs.SpokenLemmas.{roomy_on}
@@ -116,6 +119,20 @@ play_asked-requires-clause-between g c =
       subst (λ (n : Config). form_needs (page_count n) ≤ (P.view y.plant).size Ckpt2) (sym base)
           (subst (λ (n : ℕ). form_needs (page_count config) ≤ n) (sym (ap (λ p. (P.view p).size Ckpt2) m.plant ∙ f.acted.goes.size Ckpt2)) c.in_default.ensures.large.1),
     )
+
+-- nothing was taken since
+pub play_asked-requires-clause-readers : goal.play_asked-requires-clause-readers
+play_asked-requires-clause-readers g c =
+    let P = g.P.Plant in
+    let y = c.make-complex.result in
+    let m = c.make-complex.ensures in
+    let i = c.in-Ok.ensures in
+    let v = P.view y.plant in
+    let between : BetweenLines y c.in-Ok.field-0.members 1 = play_asked-requires-clause-between g c in
+    let config : c.args.script.now.config ≡ y.base.config = sym (ap (λ (q : Queue). q.config) (m.base ∙ i.base)) in
+    let since : v.now ≡ y.since = sym (m.since ∙ ap (λ p. (P.view p).now) (sym m.plant)) in
+    readers_new P (parts_of y) c.in-Ok.field-0.readers between.booked (i.many ∙ ap (λ (k : Config). wires_most * k.members) config) i.new
+    (λ t line by. ap (λ (n : ℕ). (v.world n).taken line by) since)
 
 pub play_asked-requires-clause-shows : goal.play_asked-requires-clause-shows
 play_asked-requires-clause-shows g c =
@@ -214,7 +231,8 @@ returns-clause-run g c begun =
       });
       quiet = λ t. ap (λ (n : ℕ). (w.world n).console) since ∙ ap (λ (u : World). u.console) (goes.past v1.now (omega arith)) ∙ quiet t;
       dry = λ t. rw since (subst (λ (u : World). SameSides (v0.world v0.now) u) (sym (goes.past v1.now (omega arith))) ((f.during t).sides v1.now f.acted.goes.later (omega arith)));
-      steps = steps_since v0 v1 w f.acted.goes goes true P.tells steps r.status r.base r.journal r.since v1.loses quiet (λ t. kept_on v0 v1 (f.during t).others) (λ t. papers_of v0 v1 (f.during t).sides) lines;
+      steps = steps_since v0 v1 w f.acted.goes goes true P.tells steps r.status r.base r.journal r.since v1.loses quiet (λ t. kept_on v0 v1 (f.during t).others) (λ t. papers_of v0 v1 (f.during t).sides)
+          (λ t. (f.during t).sides v1.now f.acted.goes.later (omega arith)) lines;
     }
 
 pub returns-clause-config : goal.returns-clause-config

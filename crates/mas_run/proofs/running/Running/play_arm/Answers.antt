@@ -4,7 +4,7 @@ use Rattle.mas_run.proofs.running.Running.play_arm.Goals as goal
 pub arm_line-requires : goal.arm_line-requires
 arm_line-requires g c = c.requires.between.booked
 
-pub returns : goal.returns
-returns g c =
+pub returns-clause-mute : goal.returns-clause-mute
+returns-clause-mute g c =
     let e = c.arm_line.ensures in
     arm_mute c.args.self.now.complex c.arm_line.new.complex c.args.self.now.members c.args.number c.args.by c.requires.few c.requires.between c.args.fuse c.args.count e.frame e.arms

@@ -1,14 +1,16 @@
-use Rattle.std.proofs.Common.{◌≡◌, ◌+◌, ◌++◌, Result, Err, sym, ◌∙◌, ap, subst}
+use Rattle.std.proofs.Common.{◌≡◌, ◌+◌, ◌≤◌, ◌++◌, Result, Ok, Err, OnOk, sym, ◌∙◌, ap, subst}
 use Rattle.mas_complex.specs.Journals.{in_flight}
 use Rattle.mas_complex.specs.Parts.{Parts, parts_of, unreserved_in}
 use Rattle.member_node.specs.declared.member.NodeNo.{NodeNo}
 use Rattle.member_node.specs.declared.member.NodeNo.TheVariants.{BothLost, ConsoleFault, NoMemory}
 use Rattle.member_lines.specs.Earlier.{AreBefore}
 use Rattle.mas_run.specs.Copies.{CopiesKept}
-use Rattle.mas_run.specs.LinesLeft.{LineIsLeft}
+use Rattle.mas_run.specs.LinesLeft.{IfRuns, LineIsLeft}
 use Rattle.mas_run.specs.LinesPlayed.{line_by}
 use Rattle.mas_run.specs.Shows.{LeftBetween}
+use Rattle.mas_run.specs.Wires.{HaveRead}
 use Rattle.mas_run.proofs.AskLemmas.{done_bare, done_told, failed_bare, failed_told, stopped_after, stopped_bare, stopped_copies, stopped_told}
+use Rattle.mas_run.proofs.HeardLemmas.{readers_said}
 use Rattle.mas_run.proofs.KnownLemmas.{few_by}
 use Rattle.mas_run.proofs.running.Running.play_asked.Goals as goal
 
@@ -253,3 +255,26 @@ returns-in-Err-NoMemory-clause-copies g c =
 
 pub returns-in-Ok-clause-copies : goal.returns-in-Ok-clause-copies
 returns-in-Ok-clause-copies g c = c.in-Ok.ensures.copies
+
+pub returns-in-Ok-clause-heard : goal.returns-in-Ok-clause-heard
+returns-in-Ok-clause-heard g c = c.in-Ok.ensures.heard
+
+if_ok : (r : Result (Unit {0}) NodeNo) (A : Type 0) → A → OnOk r A
+if_ok (Ok done) A a = a
+if_ok (Err e) A a = tt
+
+pub returns-in-Err-Halted-clause-heard : goal.returns-in-Err-Halted-clause-heard
+returns-in-Err-Halted-clause-heard g c =
+    let P = g.P.Plant in
+    let y = c.play_member.new.self.complex in
+    let ns = c.play_member.new.self.members in
+    let rs = c.play_member.new.self.readers in
+    let mid = c.give_up_reserved.new.self in
+    let e = c.in-Err-Halted.ensures in
+    let is : LeftBetween y ns (c.args.step + 1) = e.halted (ap (λ (k : NodeNo). let r : Result (Unit {0}) NodeNo = Err k in r) c.in-Err-Halted.field-0-is) in
+    let frame : parts_of mid ≡ unreserved_in (parts_of y) = c.give_up_reserved.ensures in
+    let z = c.say_stopped.new.complex in
+    let s = c.say_stopped.ensures in
+    let heard : HaveRead y rs = subst (λ (k : NodeNo). IfRuns {T = Unit {0}} (Err k) (HaveRead y rs)) c.in-Err-Halted.field-0-is e.heard in
+    if_ok c.say_stopped.result (HaveRead z rs)
+    (readers_said P (parts_of mid) (parts_of y) (parts_of z) frame s.frame s.says.acts (subst (λ (w : Parts _ _). w.since ≤ (P.view w.plant).now) (sym frame) is.begun) is.booked rs heard)

@@ -16,6 +16,7 @@ loop-line-init g c =
       base = refl;
       since = refl;
       between = c.requires.between;
+      readers = c.requires.readers;
       bare = way_none P C ⊥ c.args.lines.now x;
       told = λ t. way_none P C (Unit {0}) c.args.lines.now x;
       copies = leaves_none P x;
@@ -47,8 +48,9 @@ loop-line-preserved g c =
       base = e.base ∙ i.base;
       since = e.since ∙ i.since;
       between = e.next;
-      bare = way_more P C ⊥ lines x k line y z first (subst (λ (n : ℕ). LineFrom P C ⊥ lines x n line y z (Ok tt)) number e.bare) i.bare;
-      told = λ t. way_more P C (Unit {0}) lines x k line y z first (subst (λ (n : ℕ). LineFrom P C (Unit {0}) lines x n line y z (Ok tt)) number (e.told t)) (i.told t);
+      readers = e.heard;
+      bare = way_more P C ⊥ lines x k line y z first e.since (subst (λ (n : ℕ). LineFrom P C ⊥ lines x n line y z (Ok tt)) number e.bare) i.bare;
+      told = λ t. way_more P C (Unit {0}) lines x k line y z first e.since (subst (λ (n : ℕ). LineFrom P C (Unit {0}) lines x n line y z (Ok tt)) number (e.told t)) (i.told t);
       copies = leaves_then P x y z (Ok tt) i.copies e.copies;
     }
 

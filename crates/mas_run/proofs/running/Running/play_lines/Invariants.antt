@@ -2,6 +2,7 @@ use Rattle.std.proofs.Common.{◌≡◌, ◌+◌, Ok}
 use Rattle.mas_complex.specs.Parts.{parts_of}
 use Rattle.mas_run.specs.Copies.{LeavesCopies}
 use Rattle.mas_run.specs.Shows.{BetweenLines}
+use Rattle.mas_run.specs.Wires.{HaveRead}
 use Rattle.mas_run.proofs.WayLemmas.{AreOnTheWay}
 use Rattle.mas_run.proofs.running.Running.play_lines.Given as goal
 
@@ -16,6 +17,7 @@ invariant-loop-line g l =
       base : y.base ≡ x.base;
       since : y.since ≡ x.since;
       between : BetweenLines y l.self.members (l.number + 1);
+      readers : HaveRead y l.self.readers;
       bare : AreOnTheWay P C ⊥ l.lines (parts_of x) l.line-index (parts_of y);
       told : P.tells → AreOnTheWay P C (Unit {0}) l.lines (parts_of x) l.line-index (parts_of y);
       copies : LeavesCopies P {T = Unit {0}} (parts_of x) (parts_of y) (Ok tt);

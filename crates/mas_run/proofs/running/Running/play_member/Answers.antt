@@ -1,4 +1,4 @@
-use Rattle.std.proofs.Common.{◌≡◌, ℕ, ◌-◌, ◌<◌, ◌++◌, false, true, set, slice_set, Err, ap, inr, refl, sym, ◌∙◌, subst, arith}
+use Rattle.std.proofs.Common.{◌≡◌, ℕ, ◌-◌, ◌<◌, ◌++◌, false, true, set, slice_get, slice_set, Some, Err, ap, inr, refl, sym, ◌∙◌, subst, arith}
 use Rattle.mas_types.specs.declared.commands.Reply.TheVariants as reply
 use Rattle.mas_types.specs.declared.answers.Closing.TheVariants as closing
 use Rattle.mas_types.specs.declared.ids.MemberId.{MemberId}
@@ -16,14 +16,17 @@ use Rattle.step_turns.specs.declared.states.Release.TheVariants.{Keep, Outer}
 use Rattle.step_turns.specs.declared.states.Holder.{Holder}
 use Rattle.step_turns.specs.declared.states.Grant.{Grant}
 use Rattle.mas_run.specs.Bounds.{level_most}
+use Rattle.mas_run.specs.LinesLeft.{IfRuns}
 use Rattle.mas_run.specs.LinesPlayed.{line_by}
 use Rattle.mas_run.specs.Resetting.{MayTakeAt}
+use Rattle.mas_run.specs.Wires.{AreReaders, task_place}
 use Rattle.mas_run.proofs.ArmLemmas.{InArm, InPlace, in_arm, in_place, within}
 use Rattle.mas_run.proofs.AdmittedLemmas.{HasGot, IsUpMember, admitted_got}
 use Rattle.mas_run.proofs.BarelyLemmas.{short_done}
 use Rattle.mas_run.proofs.ClosesLemmas.{Stays, freed_done, said_done, stays_freed, stays_on, stays_stopped}
 use Rattle.mas_run.proofs.ClosingLemmas.{denied_closer, frees_closer, refused_closer}
-use Rattle.mas_run.proofs.DoneLemmas.{may_play, may_reset, plays_done, resets_done}
+use Rattle.mas_run.proofs.HeardLemmas.{heard_task, on_line, place_inside, reads_line, still_done}
+use Rattle.mas_run.proofs.DoneLemmas.{may_play, may_reset, plays_done, reads_on, resets_done}
 use Rattle.mas_run.proofs.KnownLemmas.{IsDown, busy_named, denied_holder, few_asked, few_by, few_of, inside_of, not_holder, own_seat, said_by, sayer_of, some_by}
 use Rattle.mas_run.proofs.BookLemmas.{inside_since, none_since, tried_since}
 use Rattle.mas_run.proofs.ClosedLemmas.{held_up, none_held}
@@ -57,6 +60,7 @@ returns-then-self-ge-LEVEL_MOST g c =
       next = done.next;
       halted = done.halted;
       seated = done.seated;
+      heard = tt;
     }
 
 pub admit-requires-clause-seats : goal.admit-requires-clause-seats
@@ -95,6 +99,7 @@ returns-in_default g c =
       next = done.next;
       halted = done.halted;
       seated = done.seated;
+      heard = tt;
     }
 
 pub say_refused-requires-clause-says : goal.say_refused-requires-clause-says
@@ -179,6 +184,7 @@ returns-in-Refused g c =
       next = done.next;
       halted = done.halted;
       seated = done.seated;
+      heard = still_done x y ms ms at by what is r done c.args.self.now.readers c.requires.readers (Refused c.in-Refused.sayer c.in-Refused.end) w.adm (λ k same. absurd (cc));
     }
 
 pub say_denied-requires-clause-member : goal.say_denied-requires-clause-member
@@ -282,6 +288,7 @@ returns-in-Denied g c =
       next = done.next;
       halted = done.halted;
       seated = done.seated;
+      heard = still_done x y ms ms at by what is r done c.args.self.now.readers c.requires.readers (Denied c.in-Denied.why) w.adm (λ k same. absurd (cc));
     }
 
 pub free_line-requires-clause-member : goal.free_line-requires-clause-member
@@ -403,6 +410,7 @@ returns-in-Frees g c =
       next = done.next;
       halted = done.halted;
       seated = done.seated;
+      heard = still_done x y ms ms at by what is r done c.args.self.now.readers c.requires.readers Frees w.adm (λ k same. absurd (cc));
     }
 
 pub holder_of-holder-requires : goal.holder_of-holder-requires
@@ -420,6 +428,45 @@ holder_of-holder-requires g c =
     in_arm x by mid is.config what c.requires.member c.requires.played c.in-Ok.admission (Plays c.in-Plays.task) (ap admission_of c.in-Plays.is) c.in-Ok.ensures.admitted c.in-Ok.ensures.frame in
     let inside : IsMember x.book by = inside_of x.base x.book by is.booked w.known_so.0.member in
     subst (λ (b : Book). IsMember b by) (sym (ap (λ (z : Parts _ _). z.book) w.frame)) (inside_since x.book (after_try x.book by false) by (tried_since x.book by inside false) inside)
+
+-- its place among the members is one of the most
+pub reader_of-place-requires : goal.reader_of-place-requires
+reader_of-place-requires g c =
+    let P = g.P.Plant in
+    let C = g.C.Copying in
+    let x = c.args.self.now.complex in
+    let ms = c.args.self.now.members in
+    let by = c.args.by in
+    let at = c.args.step in
+    let what = c.args.asked.now in
+    let is = c.requires.between in
+    let mid = c.admit.new.complex in
+    let w : InArm x by mid is.config what (Plays c.in-Plays.task) =
+    in_arm x by mid is.config what c.requires.member c.requires.played c.in-Ok.admission (Plays c.in-Plays.task) (ap admission_of c.in-Plays.is) c.in-Ok.ensures.admitted c.in-Ok.ensures.frame in
+    let inside = within x by ms at is w.known_so.0 c.saturating_sub-at.result c.saturating_sub-at.ensures in
+    let many = is.many in
+    let most = is.config.members.1 in
+    omega (arith, inside, many, most)
+
+pub item_mut-reader-requires : goal.item_mut-reader-requires
+item_mut-reader-requires g c =
+    let P = g.P.Plant in
+    let C = g.C.Copying in
+    let x = c.args.self.now.complex in
+    let ms = c.args.self.now.members in
+    let by = c.args.by in
+    let at = c.args.step in
+    let what = c.args.asked.now in
+    let is = c.requires.between in
+    let mid = c.admit.new.complex in
+    let w : InArm x by mid is.config what (Plays c.in-Plays.task) =
+    in_arm x by mid is.config what c.requires.member c.requires.played c.in-Ok.admission (Plays c.in-Plays.task) (ap admission_of c.in-Plays.is) c.in-Ok.ensures.admitted c.in-Ok.ensures.frame in
+    let less : c.saturating_sub-at.result < x.base.config.members =
+    subst (λ (n : ℕ). c.saturating_sub-at.result < n) is.many (within x by ms at is w.known_so.0 c.saturating_sub-at.result c.saturating_sub-at.ensures) in
+    let place = place_inside c.in-Plays.task c.saturating_sub-at.result x.base.config.members (on_line x.base by c.in-Plays.task w.known_so.1) less in
+    let same = c.reader_of-place.ensures in
+    let many = c.requires.readers.many in
+    omega (arith, place, same, many)
 
 pub item_mut-requires : goal.item_mut-requires
 item_mut-requires g c =
@@ -488,10 +535,20 @@ returns-in-Plays g c =
     let n = c.play_task.new.member in
     let e = c.play_task.ensures in
     let r = c.play_task.result in
-    let done : LineDone x y (slice_set ms i n) at by what r =
-    done_at x y ms n at by what r i s.back
-    (plays_done x mid ms at by what c.requires.few is below w.frame inside got m s.own up h same y n e.id (ap (λ (w : Parts _ _). w.base) e.frame) (ap (λ (w : Parts _ _). w.since) e.frame) (ap (λ (w : Parts _ _). w.renewals) e.frame)
-    c.in-Plays.task w.known_so.1 w.adm r e.played e.next) in
+    let rs = c.args.self.now.readers in
+    let was = c.item_mut-reader.result.now in
+    let new = c.play_task.new.reader in
+    let task = c.in-Plays.task in
+    let on = on_line x.base by task w.known_so.1 in
+    let place : c.reader_of-place.result ≡ task_place (by.0 - 1) task = c.reader_of-place.ensures ∙ ap (λ (k : ℕ). task_place k task) s.back in
+    let there : slice_get rs (task_place (by.0 - 1) task) ≡ Some was = subst (λ (k : ℕ). slice_get rs k ≡ Some was) place c.item_mut-reader.ensures.value in
+    let read = reads_line P (parts_of x) by rs c.requires.readers w.known_so.0.member w.known_so.0.up task on was there in
+    let base = ap (λ (w : Parts _ _). w.base) e.frame in
+    let since = ap (λ (w : Parts _ _). w.since) e.frame in
+    let renewals = ap (λ (w : Parts _ _). w.renewals) e.frame in
+    let one : LineDone x y (set ms (by.0 - 1) n) at by what r =
+    plays_done x mid ms at by what c.requires.few is below w.frame inside got m s.own up h same y n e.id base since renewals task w.known_so.1 w.adm was new r e.played e.next read in
+    let done : LineDone x y (slice_set ms i n) at by what r = done_at x y ms n at by what r i s.back one in
     record {
       base = done.base;
       since = done.since;
@@ -501,6 +558,11 @@ returns-in-Plays g c =
       next = done.next;
       halted = done.halted;
       seated = done.seated;
+      heard =
+          subst (λ (k : ℕ). IfRuns r (AreReaders P (parts_of y) (set rs k new))) (sym place)
+          (heard_task x y ms at by what is one.base one.since r one.told one.seated rs c.requires.readers task w.adm w.known_so.0.member on was new there e.played.reader
+          (λ t ok line to was_so. reads_on x mid ms at by what c.requires.few is below w.frame inside got m s.own up h same y n e.id base since renewals task w.known_so.1 w.adm was new r e.played e.next read
+          t c.law_of_streams.ensures.pieces ok line to was_so));
     }
 
 pub holder_of-holder-requires-in-Resets : goal.holder_of-holder-requires-in-Resets
@@ -599,6 +661,7 @@ returns-in-Resets g c =
       next = done.next;
       halted = done.halted;
       seated = done.seated;
+      heard = still_done x y ms (slice_set ms i n) at by what is r done c.args.self.now.readers c.requires.readers (Resets c.in-Resets.of) w.adm (λ k same. absurd (cc));
     }
 
 pub holder_of-holder-requires-in-Replaces : goal.holder_of-holder-requires-in-Replaces
@@ -713,6 +776,7 @@ returns-in-Replaces g c =
       next = done.next;
       halted = done.halted;
       seated = done.seated;
+      heard = still_done x y ms (slice_set ms i n) at by what is r done c.args.self.now.readers c.requires.readers (Replaces c.in-Replaces.dev) w.adm (λ k same. absurd (cc));
     }
 
 pub item_mut-requires-in-TakesOver : goal.item_mut-requires-in-TakesOver
@@ -796,6 +860,7 @@ returns-in-TakesOver g c =
       next = done.next;
       halted = done.halted;
       seated = done.seated;
+      heard = still_done x y ms (slice_set ms i n) at by what is r done c.args.self.now.readers c.requires.readers (TakesOver c.in-TakesOver.of) w.adm (λ k same. absurd (cc));
     }
 
 pub item_mut-requires-in-Locks : goal.item_mut-requires-in-Locks
@@ -885,6 +950,7 @@ returns-in-Locks g c =
       next = done.next;
       halted = done.halted;
       seated = done.seated;
+      heard = still_done x y ms (slice_set ms i n) at by what is r done c.args.self.now.readers c.requires.readers Locks w.adm (λ k same. absurd (cc));
     }
 
 pub unreachable-requires : goal.unreachable-requires

@@ -4,5 +4,5 @@ use Rattle.mas_run.proofs.running.Running.play_stop.Goals as goal
 pub stop_line-requires : goal.stop_line-requires
 stop_line-requires g c = c.requires.between.booked
 
-pub returns : goal.returns
-returns g c = stop_mute c.args.self.now.complex c.stop_line.new.complex c.args.self.now.members c.args.number c.args.by c.requires.few c.requires.between c.stop_line.ensures
+pub returns-clause-mute : goal.returns-clause-mute
+returns-clause-mute g c = stop_mute c.args.self.now.complex c.stop_line.new.complex c.args.self.now.members c.args.number c.args.by c.requires.few c.requires.between c.stop_line.ensures
