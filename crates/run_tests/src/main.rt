@@ -1,40 +1,41 @@
-//! Runs over a plant in memory, as standard input asks: what a run says and leaves, a crash at each of its moments with
-//! the start after it, and each act that fails or halts. A line that begins with a point sets something of a case, one
-//! with an exclamation mark plays it, and the others are lines of its scripts. Each stretch of moments or acts with one
-//! outcome is told in a line, and each state that a start finds is told once and has a number.
+//! Plays the cases of standard input over a plant in memory, and writes what the runs say and leave.
 #![tactic(auto)]
 
-mod cases;
-mod looks;
-mod modes;
-mod plain;
-mod queues;
-mod starts;
-mod stops;
-
-use cases::{Case, set};
+use mas_run::play_script;
 use mas_types::NoMemory;
-use modes::{Told, play};
+use run_cases::{Case, Played, Player, Run, Told, take};
+use spool_disk::{MemPlant, MemSource};
+use std::alloc::Global;
 use std::io::Write;
 use std::process::ExitCode;
 
-// A line of standard input: a setting, a mode, or a line of a script.
-fn take(case: &mut Case, told: &mut Told, line: &str) -> Result<(), NoMemory> {
-    match line.as_bytes() {
-        [b'.', word, ..] => {
-            told.echo(line);
-            set(told.alloc, case, *word, line);
-        }
-        [b'!', word, ..] => {
-            told.echo(line);
-            play(case, told, *word, line)?;
-        }
-        _ => case.add(line),
-    }
-    Ok(())
+/// Plays scripts as the program does.
+#[derive(Drop)]
+struct Spool {
+    alloc: Global,
 }
 
-fn run(rt: &HostRuntime, case: &mut Case, told: &mut Told) -> Result<(), NoMemory> {
+impl Player for Spool {
+    fn alloc(&self) -> Global {
+        self.alloc
+    }
+
+    fn play(&self, cold: bool, source: MemSource, plant: MemPlant) -> Result<Run, NoMemory> {
+        let mut source = source;
+        let ended = play_script(self.alloc, cold, false, &mut source, plant);
+        let played = Played {
+            status: ended.status,
+            plant: ended.plant,
+            base: ended.base,
+            since: ended.since,
+            journal: ended.journal,
+        };
+        played.boxed(self.alloc)
+    }
+}
+
+// Takes each line of standard input.
+fn run(rt: &HostRuntime, case: &mut Case, told: &mut Told<Spool>) -> Result<(), NoMemory> {
     for line in rt.lines(rt.alloc()) {
         let Ok(line) = line else {
             return Err(NoMemory);
@@ -45,7 +46,7 @@ fn run(rt: &HostRuntime, case: &mut Case, told: &mut Told) -> Result<(), NoMemor
 }
 
 fn main(rt: HostRuntime) -> ExitCode {
-    let mut told = Told::new(rt.alloc());
+    let mut told = Told::new(Spool { alloc: rt.alloc() });
     let mut case = Case::new(rt.alloc());
     let played = run(&rt, &mut case, &mut told);
     let is_whole = played.is_ok() && case.is_whole() && told.out.is_whole();

@@ -1,9 +1,8 @@
 //! How the program ends: as its top call does, or before that has any device. The codes up to 8 are the top call's.
 ghost use Rattle.std.specs.Prelude.{◌≡◌};
-ghost use Rattle.mas_main.specs.Endings.{ending_code, folder_text};
+ghost use Rattle.mas_process.specs.Endings.{ending_code, folder_text};
 
-use mas_run::code;
-use mas_types::{NoMemory, Status, status_line};
+use mas_types::{NoMemory, Status, status_code, status_line};
 use mas_words::WordsNo;
 use plant_files::FolderError;
 use std::io::{self, Write};
@@ -43,8 +42,8 @@ pub fn code_of(ending: &Ending) -> u8
     ensures { result ≡ ending_code ending.now }
 {
     match ending {
-        Ending::Top(status) => code(status),
-        Ending::Folder(FolderError::NoMemory) => code(&Status::NoMemory),
+        Ending::Top(status) => status_code(status),
+        Ending::Folder(FolderError::NoMemory) => status_code(&Status::NoMemory),
         Ending::Folder(FolderError::InUse) => 9,
         Ending::Folder(_) => 10,
         Ending::NoNullDevice => 11,

@@ -1,5 +1,5 @@
 use Rattle.mas_types.specs.Sound.{IsSound}
-use Rattle.run_tests.proofs.plain.lines_from.Given as goal
+use Rattle.run_cases.proofs.plain.lines_from.Given as goal
 
 abbrev pub invariant-loop-batch : goal.invariant-loop-batch
 invariant-loop-batch l = IsSound l.queue

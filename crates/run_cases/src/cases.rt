@@ -1,9 +1,5 @@
 //! A case: its devices, its scripts, and what goes wrong.
-ghost use Rattle.std.specs.Prelude.{◌≡◌, IfOk};
-ghost use Rattle.spool_disk.specs.Courses.{empty_book};
-ghost use Rattle.spool_disk.specs.MemView.{mem_book};
-
-use mas_run::{Ended, play_script};
+use crate::player::{Player, Run};
 use mas_types::{Dev, List, NoMemory};
 use spool_disk::{MemPlant, MemSource, Sizes};
 use spool_plant::{Choice, Plant};
@@ -18,10 +14,6 @@ const ACTS: usize = 400;
 
 /// Room enough for the bytes that they write: a run, and those who look at what it leaves.
 const BYTES: usize = 500_000;
-
-/// A run over the plant in memory, as it ended. It stands in a box, as its plant does where a crash left that: so
-/// whoever has one lets it go by one call.
-pub type Run = Box<Ended<MemPlant>>;
 
 /// What a case is about.
 #[derive(Drop)]
@@ -109,10 +101,11 @@ impl Case {
     }
 
     /// The cold run.
-    pub fn run(&self, alloc: Global) -> Result<Run, NoMemory> {
+    pub fn run<P: Player>(&self, player: &P) -> Result<Run, NoMemory> {
+        let alloc = player.alloc();
         let source = source_of(alloc, self.script.bytes(), self.source)?;
         let plant = self.plant(alloc)?;
-        play_on(alloc, true, source, plant)
+        player.play(true, source, plant)
     }
 }
 
@@ -123,13 +116,6 @@ fn source_of(alloc: Global, script: &[u8], fault: Option<u64>) -> Result<MemSour
         bytes.push(*byte)?;
     }
     Ok(MemSource::new(bytes, fault))
-}
-
-// A run of a script, cold or warm.
-fn play_on(alloc: Global, cold: bool, source: MemSource, plant: MemPlant) -> Result<Run, NoMemory> {
-    let mut source = source;
-    let ended = play_script(alloc, cold, false, &mut source, plant);
-    Ok(Box::new(alloc, ended).map_err(AllocError::from)?)
 }
 
 /// A plant in a box.
@@ -149,9 +135,9 @@ pub fn crashed(
 }
 
 /// A warm run of a script over what is left.
-pub fn start(alloc: Global, script: &[u8], left: Box<MemPlant>) -> Result<Run, NoMemory> {
-    let source = source_of(alloc, script, None)?;
-    play_on(alloc, false, source, Box::into_inner(left))
+pub fn start<P: Player>(player: &P, script: &[u8], left: Box<MemPlant>) -> Result<Run, NoMemory> {
+    let source = source_of(player.alloc(), script, None)?;
+    player.play(false, source, Box::into_inner(left))
 }
 
 /// The device of a number: both copies, and the volume.

@@ -7,8 +7,8 @@ use crate::cases::{Case, crashed, start};
 use crate::looks::kept_and_begun;
 use crate::modes::Told;
 use crate::plain::lines_of;
+use crate::player::{Played, Player};
 use crate::queues::add_queue;
-use mas_run::Ended;
 use mas_types::words::{push_digits, push_output_key};
 use mas_types::{
     Batch, Dev, Fate, Lines, List, MEMBERS_MOST, MemberId, NoMemory, Output, Queue, Status,
@@ -184,16 +184,17 @@ fn are_told_kept(console: &Lines, batches: &[Batch], t: u64) -> bool {
 }
 
 // Each line that stood on the console at a moment tells a step that was kept by then.
-fn is_told_kept(alloc: Global, run: &Ended<MemPlant>, t: u64) -> Result<bool, NoMemory> {
+fn is_told_kept(alloc: Global, run: &Played, t: u64) -> Result<bool, NoMemory> {
     let left = crashed(alloc, &run.plant, t, Choice::Old)?;
     let console = left.console_lines(alloc)?;
     Ok(are_told_kept(&console, run.journal.batches.as_slice(), t))
 }
 
 // The queue that a start found, and behind it the one that the start after it finds.
-fn line_of(alloc: Global, first: &Ended<MemPlant>) -> Result<Writer, NoMemory> {
+fn line_of<P: Player>(player: &P, first: &Played) -> Result<Writer, NoMemory> {
+    let alloc = player.alloc();
     let left = crashed(alloc, &first.plant, first.plant.now(), Choice::New)?;
-    let second = start(alloc, b"", left)?;
+    let second = start(player, b"", left)?;
     let mut line = Writer::new(alloc);
     add_queue(&mut line, &first.base);
     add_queue(&mut line, &second.base);
@@ -201,16 +202,16 @@ fn line_of(alloc: Global, first: &Ended<MemPlant>) -> Result<Writer, NoMemory> {
 }
 
 // What a start finds on what a crash at a moment left.
-fn judge(
-    alloc: Global,
+fn judge<P: Player>(
+    player: &P,
     lines: &[Writer],
     batches: &[Batch],
     t: u64,
     left: Box<MemPlant>,
 ) -> Result<Find, NoMemory> {
-    let first = start(alloc, b"", left)?;
-    let line = line_of(alloc, &first)?;
-    let printed = are_printed(alloc, &first.plant, &first.base)?;
+    let first = start(player, b"", left)?;
+    let line = line_of(player, &first)?;
+    let printed = are_printed(player.alloc(), &first.plant, &first.base)?;
     if printed && matches!(&first.status, Status::Done) {
         Ok(find_of(lines, batches, t, line.bytes()))
     } else {
@@ -219,36 +220,36 @@ fn judge(
 }
 
 // What a start finds behind a crash at a moment, with a copy lost besides, if one is.
-fn found_at(
-    alloc: Global,
-    run: &Ended<MemPlant>,
+fn found_at<P: Player>(
+    player: &P,
+    run: &Played,
     lines: &[Writer],
     t: u64,
     choice: Choice,
     gone: Option<Dev>,
 ) -> Result<Find, NoMemory> {
-    let mut left = crashed(alloc, &run.plant, t, choice)?;
+    let mut left = crashed(player.alloc(), &run.plant, t, choice)?;
     if let Some(dev) = gone {
         left.lose(dev);
     }
     if left.lost(Part::Disk(Dev::Ckpt1)) && left.lost(Part::Disk(Dev::Ckpt2)) {
         return Ok(Find::Nothing);
     }
-    judge(alloc, lines, run.journal.batches.as_slice(), t, left)
+    judge(player, lines, run.journal.batches.as_slice(), t, left)
 }
 
 // The three starts behind a crash at a moment with one image.
-fn image_at(
-    alloc: Global,
-    run: &Ended<MemPlant>,
+fn image_at<P: Player>(
+    player: &P,
+    run: &Played,
     lines: &[Writer],
     t: u64,
     choice: Choice,
     tally: &mut Tally,
 ) -> Result<(), NoMemory> {
-    let both = found_at(alloc, run, lines, t, choice, None)?;
-    let second = found_at(alloc, run, lines, t, choice, Some(Dev::Ckpt1))?;
-    let first = found_at(alloc, run, lines, t, choice, Some(Dev::Ckpt2))?;
+    let both = found_at(player, run, lines, t, choice, None)?;
+    let second = found_at(player, run, lines, t, choice, Some(Dev::Ckpt1))?;
+    let first = found_at(player, run, lines, t, choice, Some(Dev::Ckpt2))?;
     tally.note(both);
     tally.note(second);
     tally.note(first);
@@ -260,19 +261,19 @@ fn image_at(
 }
 
 // The starts behind a crash at a moment.
-fn crash_at(
-    alloc: Global,
-    run: &Ended<MemPlant>,
+fn crash_at<P: Player>(
+    player: &P,
+    run: &Played,
     lines: &[Writer],
     t: u64,
     tally: &mut Tally,
 ) -> Result<(), NoMemory> {
-    if !is_told_kept(alloc, run, t)? {
+    if !is_told_kept(player.alloc(), run, t)? {
         tally.note(Find::Wrong);
     }
-    image_at(alloc, run, lines, t, Choice::Old, tally)?;
-    image_at(alloc, run, lines, t, Choice::New, tally)?;
-    image_at(alloc, run, lines, t, Choice::Ones, tally)
+    image_at(player, run, lines, t, Choice::Old, tally)?;
+    image_at(player, run, lines, t, Choice::New, tally)?;
+    image_at(player, run, lines, t, Choice::Ones, tally)
 }
 
 // How many reads were done since a moment.
@@ -284,9 +285,9 @@ fn reads_from(plant: &MemPlant, t: u64) -> u64 {
 }
 
 // The starts behind a crash at each moment from one on. Behind a read a moment is as the one before it.
-fn crashes_from(
-    alloc: Global,
-    run: &Ended<MemPlant>,
+fn crashes_from<P: Player>(
+    player: &P,
+    run: &Played,
     lines: &[Writer],
     from: u64,
 ) -> Result<Tally, NoMemory> {
@@ -299,33 +300,28 @@ fn crashes_from(
     for t in from..=run.plant.now() {
         let before = reads_from(&run.plant, t.saturating_sub(1));
         if t == from || before == reads_from(&run.plant, t) {
-            crash_at(alloc, run, lines, t, &mut tally)?;
+            crash_at(player, run, lines, t, &mut tally)?;
         }
     }
     Ok(tally)
 }
 
 // What starts find behind a stop at an act of a run.
-fn tally_of(
-    alloc: Global,
-    case: &Case,
-    run: &Ended<MemPlant>,
-    act: u64,
-) -> Result<Tally, NoMemory> {
-    let lines = lines_of(alloc, case.script.bytes(), &run.journal.batches)?;
-    crashes_from(alloc, run, lines.as_slice(), act)
+fn tally_of<P: Player>(player: &P, case: &Case, run: &Played, act: u64) -> Result<Tally, NoMemory> {
+    let lines = lines_of(player.alloc(), case.script.bytes(), &run.journal.batches)?;
+    crashes_from(player, run, lines.as_slice(), act)
 }
 
-// The same, and none where the run doesn't come to the act.
-fn tally_at(alloc: Global, case: &Case, act: u64) -> Result<Option<Tally>, NoMemory> {
-    let run = case.run(alloc)?;
+// What starts find behind a stop at an act; none where the run doesn't come to it.
+fn tally_at<P: Player>(player: &P, case: &Case, act: u64) -> Result<Option<Tally>, NoMemory> {
+    let run = case.run(player)?;
     if act >= run.plant.now() {
         return Ok(None);
     }
-    Ok(Some(tally_of(alloc, case, &run, act)?))
+    Ok(Some(tally_of(player, case, &run, act)?))
 }
 
-impl Told {
+impl<P: Player> Told<P> {
     // What starts find behind a stop at an act.
     fn stop(&mut self, tally: &Tally, act: u64) {
         let mut line = Writer::new(self.alloc);
@@ -337,7 +333,7 @@ impl Told {
     pub fn stops(&mut self, case: &mut Case, from: u64, to: u64) -> Result<(), NoMemory> {
         for act in from..=to {
             case.halts = act;
-            let Some(tally) = tally_at(self.alloc, case, act)? else {
+            let Some(tally) = tally_at(&self.player, case, act)? else {
                 break;
             };
             self.stop(&tally, act);

@@ -1,10 +1,11 @@
 //! Starts on copies of which either is as a run left it, older, without pages, with pages that can't be used, or lost:
 //! each start by itself, and with each of its acts failing. Told are its status, the parts that are lost, what became
-//! of the bytes of both copies, whether both read as the same pages then, and what the next start finds.
+//! of the bytes of both copies, also of those that were lost in it, whether both read as the same pages then, and what
+//! the next start finds.
 use crate::cases::{Case, NEVER, boxed, crashed, start};
 use crate::looks::{BLOCK, add_equal, add_left, add_lost, add_status, content, put};
 use crate::modes::{Told, kept_at};
-use mas_run::Ended;
+use crate::player::{Played, Player};
 use mas_types::{Dev, NoMemory};
 use spool_disk::MemPlant;
 use spool_plant::{Choice, Part, Plant};
@@ -54,7 +55,7 @@ fn spoil(bytes: &mut [u8]) {
 }
 
 // The bytes of a copy as it was at a moment of a run.
-fn older(alloc: Global, run: &Ended<MemPlant>, moment: u64, dev: Dev) -> Result<Vec<u8>, NoMemory> {
+fn older(alloc: Global, run: &Played, moment: u64, dev: Dev) -> Result<Vec<u8>, NoMemory> {
     let mut earlier = crashed(alloc, &run.plant, moment, Choice::Old)?;
     content(alloc, &mut earlier, dev)
 }
@@ -69,7 +70,7 @@ fn unsound(alloc: Global, plant: &mut MemPlant, dev: Dev) -> Result<Vec<u8>, NoM
 // Brings a copy that a run left to a form. An older one is as it was at a moment.
 fn bring_to(
     alloc: Global,
-    run: &Ended<MemPlant>,
+    run: &Played,
     moment: u64,
     form: Form,
     left: &mut MemPlant,
@@ -91,7 +92,7 @@ fn bring_to(
 // What a run leaves, with copies in these forms.
 fn prepared(
     alloc: Global,
-    run: &Ended<MemPlant>,
+    run: &Played,
     moment: u64,
     first: Form,
     second: Form,
@@ -114,6 +115,42 @@ fn is_same(
     Ok(first.as_slice() == second.as_slice())
 }
 
+// The plant at the last moment at which a device wasn't lost, with all that was written by then. There is none where the
+// device was lost from the first moment on.
+fn last_there(
+    alloc: Global,
+    after: &MemPlant,
+    dev: Dev,
+) -> Result<Option<Box<MemPlant>>, NoMemory> {
+    for past in 0..after.now() {
+        let moment = after.now().saturating_sub(past).saturating_sub(1);
+        let then = crashed(alloc, after, moment, Choice::New)?;
+        if !then.lost(Part::Disk(dev)) {
+            return Ok(Some(then));
+        }
+    }
+    Ok(None)
+}
+
+// What stood on a copy that is lost, unless it was lost before the start.
+fn add_lost_copy(
+    alloc: Global,
+    line: &mut Writer,
+    before: &mut MemPlant,
+    after: &MemPlant,
+    dev: Dev,
+) -> Result<(), NoMemory> {
+    line.add(b" is lost");
+    let Some(then) = last_there(alloc, after, dev)? else {
+        return Ok(());
+    };
+    let mut then = then;
+    let same = is_same(alloc, before, &mut then, dev)?;
+    line.add_flag(b" as it was", same);
+    line.add_flag(b" and written", !same);
+    Ok(())
+}
+
 // What became of the bytes of a copy.
 fn add_copy(
     alloc: Global,
@@ -123,8 +160,7 @@ fn add_copy(
     dev: Dev,
 ) -> Result<(), NoMemory> {
     if after.lost(Part::Disk(dev)) {
-        line.add(b" is lost");
-        return Ok(());
+        return add_lost_copy(alloc, line, before, after, dev);
     }
     let same = is_same(alloc, before, after, dev)?;
     line.add_flag(b" is the same", same);
@@ -150,7 +186,7 @@ fn add_start(
     alloc: Global,
     line: &mut Writer,
     ready: &MemPlant,
-    ended: &mut Ended<MemPlant>,
+    ended: &mut Played,
 ) -> Result<(), NoMemory> {
     add_status(alloc, line, &ended.status);
     add_lost(line, &ended.plant);
@@ -169,17 +205,17 @@ fn failing(alloc: Global, ready: &MemPlant, act: u64) -> Result<Box<MemPlant>, N
     boxed(alloc, plant)
 }
 
-impl Told {
+impl<P: Player> Told<P> {
     // The outcome of a start, and how many acts it made.
     fn start(
         &mut self,
         ready: &MemPlant,
-        ended: &mut Ended<MemPlant>,
+        ended: &mut Played,
         act: Option<u64>,
     ) -> Result<u64, NoMemory> {
         let acts = ended.plant.now();
         let mut found = Writer::new(self.alloc);
-        add_left(self.alloc, &mut found, ended)?;
+        add_left(&self.player, &mut found, ended)?;
         let number = self.state(found);
         let mut line = Writer::new(self.alloc);
         add_start(self.alloc, &mut line, ready, ended)?;
@@ -196,7 +232,7 @@ impl Told {
         act: Option<u64>,
     ) -> Result<u64, NoMemory> {
         let plant = failing(self.alloc, ready, act.unwrap_or(NEVER))?;
-        let mut ended = start(self.alloc, case.next.bytes(), plant)?;
+        let mut ended = start(&self.player, case.next.bytes(), plant)?;
         self.start(ready, &mut ended, act)
     }
 
@@ -224,7 +260,7 @@ impl Told {
     fn starts_on(
         &mut self,
         case: &Case,
-        run: &Ended<MemPlant>,
+        run: &Played,
         moment: u64,
         first: Form,
         second: Form,
@@ -234,12 +270,7 @@ impl Told {
         self.pair(case, &ready)
     }
 
-    fn starts_on_all(
-        &mut self,
-        case: &Case,
-        run: &Ended<MemPlant>,
-        moment: u64,
-    ) -> Result<(), NoMemory> {
+    fn starts_on_all(&mut self, case: &Case, run: &Played, moment: u64) -> Result<(), NoMemory> {
         for pair in 0..FORMS.len() * FORMS.len() {
             let first = FORMS[pair / FORMS.len()];
             let second = FORMS[pair % FORMS.len()];
@@ -250,7 +281,7 @@ impl Told {
 
     /// Starts on copies of every two forms. An older copy is as it was when a batch was kept.
     pub fn starts(&mut self, case: &Case, batch: u64) -> Result<(), NoMemory> {
-        let run = case.run(self.alloc)?;
+        let run = case.run(&self.player)?;
         self.starts_on_all(case, &run, kept_at(&run, batch))
     }
 }

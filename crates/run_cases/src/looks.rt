@@ -1,7 +1,7 @@
 //! What a run leaves, and what a start of it finds.
 use crate::cases::{Case, crashed, start};
+use crate::player::{Played, Player};
 use crate::queues::add_queue;
-use mas_run::Ended;
 use mas_types::{Batch, Dev, Fate, Job, Lines, MemberId, NoMemory, Phase, Status, status_line};
 use spool_disk::MemPlant;
 use spool_plant::{Act, Choice, Part, Plant};
@@ -94,7 +94,7 @@ fn add_outside(alloc: Global, line: &mut Writer, plant: &MemPlant, said: usize) 
 
 /// How a run ended: its status, how many batches are kept and how many in flight, what is lost, and what it said and
 /// printed.
-pub fn add_ended(alloc: Global, line: &mut Writer, ended: &Ended<MemPlant>) {
+pub fn add_ended(alloc: Global, line: &mut Writer, ended: &Played) {
     let batches = ended.journal.batches.as_slice();
     add_status(alloc, line, &ended.status);
     line.add_number(b", kept ", fated(batches, Fate::Kept));
@@ -175,9 +175,10 @@ fn are_equal(first: &[u8], second: &[u8]) -> bool {
 }
 
 /// The queue that a start finds behind an ended run.
-pub fn add_left(alloc: Global, line: &mut Writer, ended: &Ended<MemPlant>) -> Result<(), NoMemory> {
+pub fn add_left<P: Player>(player: &P, line: &mut Writer, ended: &Played) -> Result<(), NoMemory> {
+    let alloc = player.alloc();
     let left = crashed(alloc, &ended.plant, ended.plant.now(), Choice::Old)?;
-    let next = start(alloc, b"", left)?;
+    let next = start(player, b"", left)?;
     line.add(b", then ");
     add_status(alloc, line, &next.status);
     add_queue(line, &next.base);
@@ -195,7 +196,7 @@ fn change(case: &Case, left: &mut MemPlant) {
 }
 
 // How a start ended: its status, its batches, the queue that it found, what is lost, and what it said and printed.
-fn add_start(alloc: Global, line: &mut Writer, ended: &Ended<MemPlant>, said: usize) {
+fn add_start(alloc: Global, line: &mut Writer, ended: &Played, said: usize) {
     add_status(alloc, line, &ended.status);
     line.add_number(b", batches ", ended.journal.batches.len() as u64);
     line.add(b",");
@@ -214,19 +215,19 @@ pub fn add_equal(alloc: Global, line: &mut Writer, plant: &mut MemPlant) -> Resu
 }
 
 // All that is told of a start.
-fn add_found(
-    alloc: Global,
+fn add_found<P: Player>(
+    player: &P,
     line: &mut Writer,
     case: &Case,
-    ended: &mut Ended<MemPlant>,
+    ended: &mut Played,
     said: usize,
 ) -> Result<u64, NoMemory> {
-    add_start(alloc, line, ended, said);
+    add_start(player.alloc(), line, ended, said);
     if case.next.bytes().len() > 0 {
-        add_left(alloc, line, ended)?;
+        add_left(player, line, ended)?;
     }
     if case.equal {
-        add_equal(alloc, line, &mut ended.plant)?;
+        add_equal(player.alloc(), line, &mut ended.plant)?;
     }
     Ok(batches_of_decks(ended.base.jobs.as_slice()))
 }
@@ -237,15 +238,15 @@ pub fn count_said(alloc: Global, plant: &MemPlant) -> Result<usize, NoMemory> {
 }
 
 /// Tells a start of what a crash leaves. It gives after how many batches of decks its queue is.
-pub fn found(
-    alloc: Global,
+pub fn found<P: Player>(
+    player: &P,
     line: &mut Writer,
     case: &Case,
     left: Box<MemPlant>,
 ) -> Result<u64, NoMemory> {
     let mut left = left;
     change(case, &mut left);
-    let said = count_said(alloc, &left)?;
-    let mut ended = start(alloc, case.next.bytes(), left)?;
-    add_found(alloc, line, case, &mut ended, said)
+    let said = count_said(player.alloc(), &left)?;
+    let mut ended = start(player, case.next.bytes(), left)?;
+    add_found(player, line, case, &mut ended, said)
 }

@@ -2,7 +2,7 @@
 //! another.
 use crate::cases::{Case, crashed, device};
 use crate::looks::{add_ended, block, content, count_said, found, kept_and_begun};
-use mas_run::Ended;
+use crate::player::{Played, Player};
 use mas_types::{Dev, List, MemberId, NoMemory};
 use spool_disk::MemPlant;
 use spool_plant::{Choice, Plant};
@@ -12,8 +12,12 @@ use tests_lines::{Writer, number_at};
 /// What is told: the lines, the states that starts found, by number, and the stretch of moments or acts with one
 /// outcome that isn't told yet.
 #[derive(Drop)]
-pub struct Told {
+pub struct Told<P> {
+    /// What plays.
+    pub player: P,
+    /// Whose memory it takes.
     pub alloc: Global,
+    /// What is told.
     pub out: Writer,
     states: List<Writer>,
     from: u64,
@@ -21,10 +25,12 @@ pub struct Told {
     outcome: Writer,
 }
 
-impl Told {
+impl<P: Player> Told<P> {
     /// Nothing is told.
-    pub fn new(alloc: Global) -> Told {
+    pub fn new(player: P) -> Told<P> {
+        let alloc = player.alloc();
         Told {
+            player,
             alloc,
             out: Writer::new(alloc),
             states: List::new(alloc),
@@ -94,14 +100,14 @@ impl Told {
         &mut self,
         line: &mut Writer,
         case: &Case,
-        run: &Ended<MemPlant>,
+        run: &Played,
         t: u64,
         image: (Choice, &[u8]),
     ) -> Result<(), NoMemory> {
         let (choice, word) = image;
         let mut state = Writer::new(self.alloc);
         let left = crashed(self.alloc, &run.plant, t, choice)?;
-        let batches = found(self.alloc, &mut state, case, left)?;
+        let batches = found(&self.player, &mut state, case, left)?;
         let number = self.state(state);
         line.add_number(word, batches);
         line.add_number(b" #", number);
@@ -113,7 +119,7 @@ impl Told {
         &mut self,
         line: &mut Writer,
         case: &Case,
-        run: &Ended<MemPlant>,
+        run: &Played,
         t: u64,
     ) -> Result<(), NoMemory> {
         self.add_image(line, case, run, t, (Choice::Old, b", old "))?;
@@ -122,7 +128,7 @@ impl Told {
     }
 
     // The outcome of a moment.
-    fn moment(&mut self, case: &Case, run: &Ended<MemPlant>, t: u64) -> Result<(), NoMemory> {
+    fn moment(&mut self, case: &Case, run: &Played, t: u64) -> Result<(), NoMemory> {
         let mut line = Writer::new(self.alloc);
         add_moment(self.alloc, &mut line, run, t)?;
         self.add_found(&mut line, case, run, t)?;
@@ -130,13 +136,7 @@ impl Told {
         Ok(())
     }
 
-    fn moments(
-        &mut self,
-        case: &Case,
-        run: &Ended<MemPlant>,
-        from: u64,
-        to: u64,
-    ) -> Result<(), NoMemory> {
+    fn moments(&mut self, case: &Case, run: &Played, from: u64, to: u64) -> Result<(), NoMemory> {
         for t in from..=to.min(run.plant.now()) {
             self.moment(case, run, t)?;
         }
@@ -146,12 +146,7 @@ impl Told {
 
     // The outcome of a run, and what a start finds behind a crash at its end, by an act's number or that of the last
     // moment.
-    fn outcome(
-        &mut self,
-        case: &Case,
-        run: &Ended<MemPlant>,
-        number: Option<u64>,
-    ) -> Result<(), NoMemory> {
+    fn outcome(&mut self, case: &Case, run: &Played, number: Option<u64>) -> Result<(), NoMemory> {
         let now = run.plant.now();
         let mut line = Writer::new(self.alloc);
         add_ended(self.alloc, &mut line, run);
@@ -161,7 +156,7 @@ impl Told {
     }
 
     fn ended(&mut self, case: &Case, number: Option<u64>) -> Result<(), NoMemory> {
-        let run = case.run(self.alloc)?;
+        let run = case.run(&self.player)?;
         self.outcome(case, &run, number)
     }
 
@@ -174,7 +169,7 @@ impl Told {
 
     // A crash at each of the moments that a mode is about.
     fn crashes(&mut self, case: &Case, word: u8, first: u64, second: u64) -> Result<(), NoMemory> {
-        let run = case.run(self.alloc)?;
+        let run = case.run(&self.player)?;
         let (from, to) = moments_of(&run, word, first, second);
         self.moments(case, &run, from, to)
     }
@@ -199,7 +194,7 @@ impl Told {
         let Some(dev) = device(number_at(line, 1)) else {
             return Ok(());
         };
-        let mut run = case.run(self.alloc)?;
+        let mut run = case.run(&self.player)?;
         let bytes = content(self.alloc, &mut run.plant, dev)?;
         add_rows(&mut self.out, block(bytes.as_slice(), number as usize));
         Ok(())
@@ -225,7 +220,7 @@ fn add_rows(out: &mut Writer, bytes: &[u8]) {
 }
 
 /// The moment at which a batch was kept.
-pub fn kept_at(run: &Ended<MemPlant>, number: u64) -> u64 {
+pub fn kept_at(run: &Played, number: u64) -> u64 {
     let batches = run.journal.batches.as_slice();
     match batches.get(number as usize) {
         Some(batch) => batch.last,
@@ -243,12 +238,7 @@ fn add_lines_count(alloc: Global, line: &mut Writer, plant: &MemPlant) -> Result
 }
 
 // How many batches were kept and begun at a moment, and how many lines said and printed.
-fn add_moment(
-    alloc: Global,
-    line: &mut Writer,
-    run: &Ended<MemPlant>,
-    t: u64,
-) -> Result<(), NoMemory> {
+fn add_moment(alloc: Global, line: &mut Writer, run: &Played, t: u64) -> Result<(), NoMemory> {
     let (kept, begun) = kept_and_begun(run.journal.batches.as_slice(), t);
     line.add_number(b"kept ", kept);
     line.add_number(b", begun ", begun);
@@ -257,7 +247,7 @@ fn add_moment(
 }
 
 // The first and the last of the moments that a mode is about.
-fn moments_of(run: &Ended<MemPlant>, word: u8, first: u64, second: u64) -> (u64, u64) {
+fn moments_of(run: &Played, word: u8, first: u64, second: u64) -> (u64, u64) {
     match word {
         b'm' => (first, second),
         b'k' => (kept_at(run, first), kept_at(run, second)),
@@ -266,7 +256,12 @@ fn moments_of(run: &Ended<MemPlant>, word: u8, first: u64, second: u64) -> (u64,
 }
 
 /// Plays a case in the mode of a line's first letter.
-pub fn play(case: &mut Case, told: &mut Told, word: u8, line: &str) -> Result<(), NoMemory> {
+pub fn play<P: Player>(
+    case: &mut Case,
+    told: &mut Told<P>,
+    word: u8,
+    line: &str,
+) -> Result<(), NoMemory> {
     let first = number_at(line, 1).unwrap_or(0);
     let second = number_at(line, 2).unwrap_or(u64::MAX);
     match word {

@@ -1,14 +1,10 @@
--- How the program ends where it has no devices, and what it does with its folder.
-use Rattle.std.specs.Prelude.{ℕ, Bool, true, false, List, codes}
+-- How the program ends where it has no devices.
+use Rattle.std.specs.Prelude.{ℕ, List, codes}
 use Rattle.mas_types.specs.Statuses.{status_code}
-use Rattle.mas_top.specs.declared.tasks.Task.{Task}
-use Rattle.mas_top.specs.declared.tasks.Task.TheVariants as task
 use Rattle.plant_files.specs.declared.hold.FolderError.{FolderError}
 use Rattle.plant_files.specs.declared.hold.FolderError.TheVariants as folder
-use Rattle.plant_files.specs.declared.hold.Opening.{Opening}
-use Rattle.plant_files.specs.declared.hold.Opening.TheVariants as opening
-use Rattle.mas_main.specs.declared.ending.Ending.{Ending}
-use Rattle.mas_main.specs.declared.ending.Ending.TheVariants as ending
+use Rattle.mas_process.specs.declared.ending.Ending.{Ending}
+use Rattle.mas_process.specs.declared.ending.Ending.TheVariants as ending
 
 -- the exit code: up to 8 those of the top call, and above them those of a run that has no devices
 abbrev pub ending_code : Ending → ℕ
@@ -31,12 +27,3 @@ folder_text folder.NotOpened = codes "MAS FOLDER NOT OPENED"
 folder_text folder.NotLocked = codes "MAS FOLDER NOT LOCKED"
 folder_text folder.OneFile = codes "MAS FOLDER DEVICES ARE ONE FILE"
 folder_text folder.NoMemory = codes "MAS NO MEMORY"
-
--- only a run that formats makes its folder, and a report and a check make nothing
-abbrev pub opening_for : Task → Opening
-opening_for (task.Play true) = opening.Make
-opening_for (task.Play false) = opening.GoOn
-opening_for task.Report = opening.Look
-opening_for task.Format = opening.Make
-opening_for task.Check = opening.Look
-opening_for (task.Generate decks) = opening.Make

@@ -1,5 +1,5 @@
 use Rattle.mas_types.specs.Sound.{IsSound}
-use Rattle.run_tests.proofs.plain.give_all.Given as goal
+use Rattle.run_cases.proofs.plain.give_all.Given as goal
 
 abbrev pub invariant-loop-entry : goal.invariant-loop-entry
 invariant-loop-entry l = IsSound l.queue
