@@ -60,7 +60,7 @@ fn others_of(alloc: Global, tables: &Tables, decodes: u32, encodes: u32) -> Resu
     Ok(encode_often(tables, &levels, pages.as_slice(), encodes))
 }
 
-// The same of full tables.
+// How many pages of full tables were encoded to others than before.
 fn others(alloc: Global, decodes: u32, encodes: u32) -> Result<u32, PageNo> {
     let Ok(tables) = full_tables(alloc) else {
         return Err(PageNo::NoMemory);

@@ -85,7 +85,7 @@ fn given(alloc: Global, tables: &mut Tables, times: u32) -> Result<Option<u32>, 
     Ok(Some(give_often(alloc, tables, &command, times)))
 }
 
-// The same of full tables.
+// How many commands on full tables of so many jobs found no memory; none where they are not as they must be.
 fn without_memory(alloc: Global, jobs: u32, times: u32) -> Result<Option<u32>, NoMemory> {
     let mut tables = full_tables(alloc, jobs.min(2_048) as u16)?;
     let without = given(alloc, &mut tables, times);
