@@ -1,0 +1,4 @@
+pub mod Lent
+pub mod Rests
+pub mod Passings
+pub mod Workers
