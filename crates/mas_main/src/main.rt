@@ -5,7 +5,10 @@
 ghost use Rattle.std.specs.Prelude.{◌≡◌};
 ghost use Rattle.mas_main.specs.Openings.{opening_for};
 
-use mas_process::{Ending, code_of, folder_of, words_of, write_line_of};
+use mas_process::{
+    Ending, close_files, code_of, folder_of, let_journal_go, let_queue_go, words_of, write_line_of,
+};
+use mas_run::Ended;
 use mas_top::{Task, calm_top, task_of};
 use mas_types::Status;
 use mas_words::read_words;
@@ -24,12 +27,19 @@ fn opening_of(task: Task) -> Opening
     }
 }
 
-// Does a task on the devices of a folder. All that the run leaves is let go at one place.
+// Does a task on the devices of a folder. What the run leaves is let go by the crate that knows how.
 fn play(rt: &HostRuntime, words: &[String], files: FilePlant<HostRuntime>) -> Status {
     let mut script = StdSource::new(*rt);
-    let ended = calm_top(rt.alloc(), words, &mut script, Fused::new(files));
-    let status = ended.status;
-    drop(ended);
+    let Ended {
+        status,
+        plant,
+        base,
+        since: _,
+        journal,
+    } = calm_top(rt.alloc(), words, &mut script, Fused::new(files));
+    close_files(plant);
+    let_queue_go(base);
+    let_journal_go(journal);
     status
 }
 
