@@ -1,23 +1,24 @@
 //! The level of pages, and their numbers.
-ghost use Rattle.std.specs.Prelude.{◌≡◌, ◌+◌, ◌≤◌, ◌<◌, ℕ, length, Contains};
+ghost use Rattle.std.specs.Prelude.{◌≡◌, ◌+◌, ◌≤◌, ◌<◌, ℕ, length, take, drop, Contains};
 ghost use Rattle.std.specs.Int.{from_be_bytes, w64};
 ghost use Rattle.mas_types.specs.Limits.{page_bytes, pages_most};
-ghost use Rattle.lay_bytes.specs.Fields.{piece};
 ghost use Rattle.ckpt_copy.specs.Pages.{bytes_of, level, ArePages};
 ghost use Rattle.duplex_pair.specs.Lagging.{AreNumbers};
 
-use lay_bytes::read_u64;
 use mas_types::Page;
 use mas_types::limits::PAGES_MOST;
 
 const MOST: usize = PAGES_MOST as usize;
 
-// The level in a first page.
+// The level in a first page: the number of the eight bytes behind the first eight.
 fn page_level(page: &Page) -> u64
-    ensures level { result ≡ from_be_bytes w64 (piece 8 8 page.now.0) }
+    ensures level { result ≡ from_be_bytes w64 (take 8 (drop 8 page.now.0)) }
     ensures size { length page.now.0 ≡ page_bytes }
 {
-    read_u64(&page.0, 8)
+    let bytes = &page.0;
+    u64::from_be_bytes([
+        bytes[8], bytes[9], bytes[10], bytes[11], bytes[12], bytes[13], bytes[14], bytes[15],
+    ])
 }
 
 /// The level of pages, which stands in the first of them. It is 0 where there are none.
