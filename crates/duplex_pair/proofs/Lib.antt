@@ -5,3 +5,4 @@ pub mod Numbers
 pub mod Chosen
 pub mod FindActs
 pub mod Replaces
+pub mod ActCounting

@@ -6,3 +6,4 @@ pub mod Finds
 pub mod Lagging
 pub mod Founds
 pub mod Replacing
+pub mod ActCounts

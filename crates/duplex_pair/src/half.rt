@@ -2,7 +2,7 @@
 ghost use Rattle.std.specs.Prelude.{◌≡◌, ◌⊎◌, ℕ, ◌+◌, ◌≤◌, ◌<◌, List, [], length, OnOk, OnErr, IfOk, IsErrOf, true, false};
 ghost use Rattle.mas_types.specs.Limits.{pages_least, pages_most};
 ghost use Rattle.spool_plant.specs.View.{View, disk_now};
-ghost use Rattle.spool_plant.specs.Acts.{Loses};
+ghost use Rattle.spool_plant.specs.Acts.{Loses, next};
 ghost use Rattle.spool_plant.specs.declared.plant.Part.TheVariants.{Disk};
 ghost use Rattle.ckpt_copy.specs.Changes.{NoMore};
 ghost use Rattle.ckpt_copy.specs.Meanwhile.{Meanwhile};
@@ -197,7 +197,7 @@ impl<C: Copying + Drop> Half<C> {
         }
     }
 
-    /// Reads one page, unless the copy is lost.
+    /// Reads one page by one act, unless the copy is lost.
     pub(crate) fn read_page<P: Plant>(
         &mut self,
         plant: &mut P,
@@ -211,6 +211,7 @@ impl<C: Copying + Drop> Half<C> {
         ensures acted { Acted by.0 (C.dev self.old.copy) self.old.alive self.new.alive (half_stopped result)
             (P.view plant.old) (P.view plant.new) }
         ensures idle { self.old.alive ≡ false → plant.new ≡ plant.old }
+        ensures one { self.old.alive ≡ true → (P.view plant.new).now ≡ next (P.view plant.old).now }
         ensures there { OnOk result (self.new.alive ≡ true
             → (P.view plant.new).lost (Disk (C.dev self.old.copy)) ≡ false) }
         ensures gone { P.tells → IsGone (C.dev self.old.copy) self.old.alive self.new.alive (P.view plant.new) }

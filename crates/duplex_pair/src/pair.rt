@@ -14,6 +14,7 @@ ghost use Rattle.duplex_pair.specs.declared.errors.PairNo.TheVariants.{BothLost 
 ghost use Rattle.duplex_pair.specs.Halves.{IsCkpt, pick, other, Acted, IsGone, SameOrLost, SomeAlive, IsBothLost, AreReady};
 ghost use Rattle.duplex_pair.specs.Lagging.{IsLevelFound};
 ghost use Rattle.duplex_pair.specs.Looks.{HasRoom, WasSeen};
+ghost use Rattle.duplex_pair.specs.ActCounts.{after_acts, read_acts};
 ghost use Rattle.duplex_pair.specs.Both.{PairActed, Touched, BothMeanwhile};
 ghost use Rattle.duplex_pair.specs.Outcomes.{half_stopped, pair_stopped, look_stopped, least_room};
 
@@ -557,6 +558,8 @@ impl<C: Copying + Drop> Pair<C> {
         requires page2 { self.old.second.alive ≡ true → page < C.count self.old.second.copy }
         ensures acted { PairActed by.0 self.old.first.alive self.new.first.alive self.old.second.alive
             self.new.second.alive (half_stopped result) (P.view plant.old) (P.view plant.new) }
+        ensures acts { (P.view plant.new).now ≡ after_acts (read_acts self.old.first.alive self.new.first.alive
+            self.old.second.alive self.new.second.alive) (P.view plant.old).now }
         ensures gone1 { P.tells → IsGone Ckpt1 self.old.first.alive self.new.first.alive (P.view plant.new) }
         ensures gone2 { P.tells → IsGone Ckpt2 self.old.second.alive self.new.second.alive (P.view plant.new) }
         ensures during { P.tells → BothMeanwhile (NoMore (disk_now (P.view plant.old) Ckpt1))
@@ -579,8 +582,9 @@ impl<C: Copying + Drop> Pair<C> {
         Ok(())
     }
 
-    /// Reads one page from CKPT1 while its copy counts as alive, else from CKPT2. BothLost comes only where both copies
-    /// count as lost at the end of the call, Halted only where the member was stopped in it.
+    /// Reads one page from CKPT1 while its copy counts as alive, else from CKPT2. It makes one act on the copy that
+    /// answers, or in whose act the member is stopped, and one on each copy that fails in the call. BothLost comes only
+    /// where both copies count as lost at the end of the call, Halted only where the member was stopped in it.
     pub fn read_page<P: Plant>(
         &mut self,
         plant: &mut P,
@@ -594,6 +598,8 @@ impl<C: Copying + Drop> Pair<C> {
         requires page2 { self.old.second.alive ≡ true → page < C.count self.old.second.copy }
         ensures acted { PairActed by.0 self.old.first.alive self.new.first.alive self.old.second.alive
             self.new.second.alive (pair_stopped result) (P.view plant.old) (P.view plant.new) }
+        ensures acts { (P.view plant.new).now ≡ after_acts (read_acts self.old.first.alive self.new.first.alive
+            self.old.second.alive self.new.second.alive) (P.view plant.old).now }
         ensures gone1 { P.tells → IsGone Ckpt1 self.old.first.alive self.new.first.alive (P.view plant.new) }
         ensures gone2 { P.tells → IsGone Ckpt2 self.old.second.alive self.new.second.alive (P.view plant.new) }
         ensures during { P.tells → BothMeanwhile (NoMore (disk_now (P.view plant.old) Ckpt1))

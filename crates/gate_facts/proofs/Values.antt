@@ -23,13 +23,13 @@ groups_none [] s = refl
 groups_none (g ∷ gs) s = absurd s
 
 pub synced_refl : (d : Desk) → Synced d d
-synced_refl d = record { hold = refl; printed = refl; told = refl; groups = groups_refl d.groups }
+synced_refl d = record { hold = refl; printed = refl; told = refl; groups = groups_refl d.groups; noted = refl }
 
 pub synced_trans : (a b c : Desk) → Synced a b → Synced b c → Synced a c
-synced_trans a b c s t = record { hold = s.hold ∙ t.hold; printed = s.printed ∙ t.printed; told = s.told ∙ t.told; groups = groups_trans a.groups b.groups c.groups s.groups t.groups }
+synced_trans a b c s t = record { hold = s.hold ∙ t.hold; printed = s.printed ∙ t.printed; told = s.told ∙ t.told; groups = groups_trans a.groups b.groups c.groups s.groups t.groups; noted = s.noted ∙ t.noted }
 
 pub synced_none : (d : Desk) → Synced d no_desk → d ≡ no_desk
-synced_none d s = λ i. record { hold = s.hold i; printed = s.printed i; told = s.told i; groups = groups_none d.groups s.groups i }
+synced_none d s = λ i. record { hold = s.hold i; printed = s.printed i; told = s.told i; groups = groups_none d.groups s.groups i; noted = s.noted i }
 
 pub later_refl : (cares : List Bool) (a : Marks) → Later cares a a
 later_refl cares a = record { since = refl; arms = refl; own_stops = λ m e. refl; stops = λ m. omega arith; faults = λ k. omega arith; lost = λ d e. e; own_loses = λ op d. inl refl; loses = λ d. (omega arith, λ alive. refl) }

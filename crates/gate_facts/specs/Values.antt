@@ -25,6 +25,7 @@ no_desk = record {
   told
       = 0;
   groups = [];
+  noted = [];
 }
 
 abbrev pub begun_of : Facts → ℕ → List Entry
@@ -58,6 +59,7 @@ pub record Synced (d e : Desk) : Type 0 where
   pub printed : d.printed ≡ e.printed
   pub told : d.told ≡ e.told
   pub groups : SyncedGroups d.groups e.groups
+  pub noted : d.noted ≡ e.noted
 
 -- WHAT ONLY GROWS
 

@@ -35,4 +35,6 @@ pub struct Desk {
     pub told: u32,
     /// Its groups.
     pub groups: List<Group>,
+    /// The pages of the checkpoint that it noted last.
+    pub noted: List<Page>,
 }

@@ -2,6 +2,7 @@
 use Rattle.std.proofs.Common.{◌≡◌, ℕ, Bool, List, Option, ap, subst, sym}
 use Rattle.mas_types.specs.declared.ids.Dev.{Dev}
 use Rattle.mas_types.specs.declared.ids.Dev.TheVariants.{Ckpt1, Ckpt2, Spool}
+use Rattle.mas_types.specs.declared.ids.Page.{Page}
 use Rattle.mas_types.specs.declared.journals.Batch.{Batch}
 use Rattle.mas_types.specs.declared.journals.Entry.{Entry}
 use Rattle.mas_types.specs.declared.queues.Queue.{Queue}
@@ -12,7 +13,7 @@ use Rattle.mas_complex.specs.declared.renewals.Renewals.{Renewals}
 use Rattle.mas_complex.specs.Parts.{Parts, with_half, with_copy}
 
 -- the parts of a value with these halves
-module _ {P C H : Type 0} (copy : H → C) (alive : H → Bool) (found : H → ℕ) (book : Book) (base : Queue) (since : ℕ) (batches : List Batch) (current : Option Batch) (reserved : Option (List Entry)) (printed : List ℕ) (placed : Bool) (level : ℕ) (renewals : Renewals) where
+module _ {P C H : Type 0} (copy : H → C) (alive : H → Bool) (found : H → ℕ) (book : Book) (base : Queue) (since : ℕ) (batches : List Batch) (current : Option Batch) (reserved : Option (List Entry)) (printed : List ℕ) (placed : Bool) (level : ℕ) (renewals : Renewals) (had : List (List Page)) where
   abbrev parts : P → H → H → Place → Place → Parts P C
   parts plant h1 h2 p1 p2 = record {
     plant = plant;
@@ -34,6 +35,7 @@ module _ {P C H : Type 0} (copy : H → C) (alive : H → Bool) (found : H → �
     second = p2;
     level = level;
     renewals = renewals;
+    had = had;
   }
 
   pub frame_copy : (plant plant' : P) (h1 h2 k1 k2 : H) (p1 p2 q1 q2 : Place) (dev : Dev) → IsCkpt dev → other dev k1 k2 ≡ other dev h1 h2 → other dev q1 q2 ≡ other dev p1 p2

@@ -44,3 +44,5 @@ pub mod Renewing
 pub mod Frames
 pub mod Standing
 pub mod Short
+pub mod Pasts
+pub mod Noted

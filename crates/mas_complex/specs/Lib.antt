@@ -16,6 +16,7 @@ pub mod Locking
 pub mod Changed
 pub mod Replies
 pub mod Kept
+pub mod Past
 pub mod Paper
 pub mod Parts
 pub mod Settled

@@ -2,6 +2,8 @@
 use Rattle.std.specs.Prelude.{ℕ, ◌+◌, Bool, true, false, List, ◌∷◌, ◌++◌, [], Option, Some, None, Result, Ok, Err}
 use Rattle.mas_types.specs.declared.ids.Dev.{Dev}
 use Rattle.mas_types.specs.declared.ids.MemberId.{MemberId}
+use Rattle.mas_types.specs.declared.ids.Page.{Page}
+use Rattle.mas_complex.specs.Past.{values_of}
 use Rattle.mas_types.specs.declared.journals.Batch.{Batch}
 use Rattle.mas_types.specs.declared.journals.Entry.{Entry}
 use Rattle.mas_types.specs.declared.queues.Queue.{Queue}
@@ -45,6 +47,7 @@ pub record Parts (P C : Type 0) : Type 0 where
   pub second : Place
   pub level : ℕ
   pub renewals : Renewals
+  pub had : List (List Page)
 
 -- what the plant shows, what the bytes of a copy read as, and those parts of which facts are told
 pub record Shown : Type 0 where
@@ -62,6 +65,7 @@ pub record Shown : Type 0 where
   pub first : Place
   pub second : Place
   pub level : ℕ
+  pub had : List (List Page)
 
 -- the parts, with what they show
 abbrev pub shows : {P C : Type 0} → (List ℕ → Option (List ℕ)) → (P → View) → Parts P C → Shown
@@ -80,6 +84,7 @@ shows reads view x = record {
   first = x.first;
   second = x.second;
   level = x.level;
+  had = x.had;
 }
 
 module _ {P C : Type 0} {plants : PlantGhosts P} {steadies : SteadyGhosts C} {copies : CopyGhosts C} where
@@ -104,6 +109,7 @@ module _ {P C : Type 0} {plants : PlantGhosts P} {steadies : SteadyGhosts C} {co
     second = x.second;
     level = x.level;
     renewals = x.renewals;
+    had = values_of x.had;
   }
 
   abbrev pub shown_of : Complex P C plants steadies copies → Shown

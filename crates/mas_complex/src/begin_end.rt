@@ -12,11 +12,13 @@ ghost use Rattle.mas_complex.specs.Headline.{Headline, LeavesQueue};
 ghost use Rattle.mas_complex.specs.Replies.{AreReplied};
 ghost use Rattle.mas_complex.specs.Locking.{book_of};
 ghost use Rattle.mas_complex.specs.Paper.{no_counts};
+ghost use Rattle.mas_complex.specs.Past.{nobody_noted, values_of};
 ghost use Rattle.mas_complex.specs.Renewals.{no_renewals as none_renewed};
 
 use crate::complex::{Complex, Ended};
 use crate::counts::COUNTS;
 use crate::journal_end::finished;
+use crate::noting::none_noted;
 use crate::renewals::no_renewals;
 use ckpt_form::Steady;
 use ckpt_places::Place;
@@ -52,11 +54,13 @@ impl<P: Plant + Drop, C: Steady + Drop> Complex<P, C> {
         ensures printed { result.printed ≡ no_counts }
         ensures level { result.level ≡ level }
         ensures renewals { result.renewals ≡ none_renewed }
+        ensures had { values_of result.had ≡ nobody_noted }
         ensures fresh { P.tells → ∥ ((later : View) → Goes (P.view plant) later
             → LeavesQueue C.reads base (P.view plant).now later) ∥₁ }
     {
         let since = moment_of(&plant);
         let book = new_book_of(&base.config);
+        let had = none_noted(&List::new(alloc));
         Complex {
             plant,
             pair,
@@ -74,6 +78,7 @@ impl<P: Plant + Drop, C: Steady + Drop> Complex<P, C> {
             level,
             printed: [0; COUNTS],
             renewals: no_renewals(alloc),
+            had,
         }
     }
 

@@ -1,6 +1,8 @@
 //! The shared value.
 ghost use Rattle.std.specs.Prelude.{◌≡◌, ◌≢◌, ◌≤◌, ◌++◌, length, true, false, Some, IsSome};
 ghost use Rattle.mas_types.specs.declared.ids.Dev.TheVariants.{Ckpt1, Ckpt2};
+ghost use Rattle.spool_plant.specs.View.{disk_now};
+ghost use Rattle.ckpt_tables.specs.Shape.{page_count};
 ghost use Rattle.spool_plant.specs.declared.plant.Part.TheVariants.{Disk};
 ghost use Rattle.ckpt_copy.specs.Pages.{level};
 ghost use Rattle.mas_types.specs.declared.journals.Batch.{Batch};
@@ -12,9 +14,11 @@ ghost use Rattle.mas_complex.specs.Crash.{Keeps, setting_with, copy_of};
 ghost use Rattle.mas_complex.specs.Renewals.{is_open};
 ghost use Rattle.mas_complex.specs.Replies.{AreReplied};
 ghost use Rattle.mas_complex.specs.Paper.{KeepsPaper};
+ghost use Rattle.mas_complex.specs.Past.{HavePasts, sight_of, values_of};
 ghost use Rattle.mas_types.specs.Sound.{IsSound};
 
 use crate::counts::COUNTS;
+use crate::noting::Note;
 use crate::renewals::Renewals;
 use ckpt_form::Steady;
 use ckpt_places::Place;
@@ -71,11 +75,22 @@ pub struct Complex<P: Plant + Drop, C: Steady + Drop> {
     pub printed: [u32; COUNTS],
     /// When a copy was replaced.
     pub renewals: Renewals,
+    /// The pages that each member noted last, the operator's first; none of one that has noted none.
+    pub had: [Note; COUNTS],
 
     /// What a crash leaves and the console tells at each moment since then, and where each copy stands now.
     ghost kept: { P.tells → ∥ Keeps (setting_with C.reads base since renewals) journal.batches current level
         (copy_of (C.rests pair.first.copy) (C.holds pair.first.copy) pair.first.alive first)
         (copy_of (C.rests pair.second.copy) (C.holds pair.second.copy) pair.second.alive second) (P.view plant) ∥₁ },
+
+    /// Pages whose level isn't above that of pages that a member noted are as they were then.
+    ghost lasting: { P.tells → ∥ HavePasts (page_count base.config) (values_of had)
+        (sight_of pair.first.alive first ((P.view plant).lost (Disk Ckpt1))
+        (C.reads (disk_now (P.view plant) Ckpt1).bytes)
+        (C.behind pair.first.copy (disk_now (P.view plant) Ckpt1).bytes))
+        (sight_of pair.second.alive second ((P.view plant).lost (Disk Ckpt2))
+        (C.reads (disk_now (P.view plant) Ckpt2).bytes)
+        (C.behind pair.second.copy (disk_now (P.view plant) Ckpt2).bytes)) ∥₁ },
 
     /// Each entry has the reply that the commands give at its place.
     ghost replied: { P.tells → ∥ AreReplied base (journal.batches ++ in_flight current) ∥₁ },

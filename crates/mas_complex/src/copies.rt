@@ -8,6 +8,7 @@ ghost use Rattle.spool_plant.specs.declared.plant.Part.TheVariants.{Disk};
 ghost use Rattle.ckpt_copy.specs.Pages.{bytes_of, level, page_in};
 ghost use Rattle.duplex_pair.specs.declared.errors.PairNo.TheVariants.{BothLost as PairNoBothLost};
 ghost use Rattle.duplex_pair.specs.Halves.{IsCkpt, pick, other, IsBothLost, SomeAlive};
+ghost use Rattle.duplex_pair.specs.ActCounts.{after_acts, read_acts};
 ghost use Rattle.duplex_pair.specs.Both.{PairActed};
 ghost use Rattle.duplex_pair.specs.Outcomes.{pair_stopped};
 ghost use Rattle.ckpt_places.specs.declared.places.Place.TheVariants.{Before as AtBefore};
@@ -18,6 +19,8 @@ ghost use Rattle.mas_complex.specs.Elsewhere.{Elsewhere, OnCopies};
 ghost use Rattle.mas_complex.specs.Kept.{HaveKept, OnlyOnCopies};
 ghost use Rattle.mas_complex.specs.Locking.{MayAct};
 ghost use Rattle.mas_complex.specs.Paper.{SamePapers};
+ghost use Rattle.mas_complex.specs.Past.{HavePasts, sight_of, values_of};
+ghost use Rattle.ckpt_tables.specs.Shape.{page_count};
 ghost use Rattle.mas_complex.specs.Parts.{parts_of, with_copies, with_half, with_pair};
 
 use crate::complex::Complex;
@@ -35,6 +38,7 @@ impl<P: Plant + Drop, C: Steady + Drop> Complex<P, C> {
         ensures frame { parts_of self.new ≡ with_half dev (parts_of self.new) (parts_of self.old) }
         ensures other { other dev self.new.pair.first self.new.pair.second
             ≡ other dev self.old.pair.first self.old.pair.second }
+        ensures had { self.new.had ≡ self.old.had }
         ensures dead { (pick dev self.new.pair.first self.new.pair.second).alive ≡ false }
         ensures copy { (pick dev self.new.pair.first self.new.pair.second).copy
             ≡ (pick dev self.old.pair.first self.old.pair.second).copy }
@@ -48,6 +52,7 @@ impl<P: Plant + Drop, C: Steady + Drop> Complex<P, C> {
 
     fn lose_volume(&mut self, volume: u8)
         ensures pair { self.new.pair ≡ self.old.pair }
+        ensures had { self.new.had ≡ self.old.had }
         ensures frame { parts_of self.new ≡ record (parts_of self.old) { plant = self.new.plant } }
         ensures loses { Loses (Disk (Spool volume)) (P.view self.old.plant) (P.view self.new.plant) }
         ensures there { P.tells → LosesThere (Spool volume) (P.view self.old.plant) (P.view self.new.plant) }
@@ -72,6 +77,7 @@ impl<P: Plant + Drop, C: Steady + Drop> Complex<P, C> {
         ensures placed { self.new.placed ≡ self.old.placed }
         ensures first { self.new.first ≡ self.old.first }
         ensures second { self.new.second ≡ self.old.second }
+        ensures had { self.new.had ≡ self.old.had }
         ensures level { self.new.level ≡ self.old.level }
         ensures dead { IsCkpt dev → (pick dev self.new.pair.first self.new.pair.second).alive ≡ false }
         ensures volume { (n : ℕ) → dev ≡ Spool n → self.new.pair ≡ self.old.pair }
@@ -116,6 +122,7 @@ impl<P: Plant + Drop, C: Steady + Drop> Complex<P, C> {
         ensures current { self.new.current ≡ self.old.current }
         ensures reserved { self.new.reserved ≡ self.old.reserved }
         ensures placed { self.new.placed ≡ self.old.placed }
+        ensures had { self.new.had ≡ self.old.had }
         ensures level { self.new.level ≡ self.old.level }
         ensures place1 { IsPlaceAfter result AtBefore self.new.first }
         ensures place2 { IsPlaceAfter result AtBefore self.new.second }
@@ -144,8 +151,9 @@ impl<P: Plant + Drop, C: Steady + Drop> Complex<P, C> {
     }
 
     /// Reads a page of the checkpoint for the member that holds the lock and isn't stopped, from CKPT1 while its copy
-    /// counts as alive, else from CKPT2. BothLost comes only where both copies count as lost at the end of the call,
-    /// Halted only where the member was stopped in it.
+    /// counts as alive, else from CKPT2. It makes one act on the copy that answers, or in whose act the member is
+    /// stopped, and one on each copy that fails in the call. BothLost comes only where both copies count as lost at the
+    /// end of the call, Halted only where the member was stopped in it.
     pub fn read_page(&mut self, by: MemberId, page: u16, into: &mut Page) -> Result<(), PairNo>
         requires may { MayAct self.old.book by }
         requires page1 { self.old.pair.first.alive ≡ true → page < C.count self.old.pair.first.copy }
@@ -161,6 +169,7 @@ impl<P: Plant + Drop, C: Steady + Drop> Complex<P, C> {
         ensures placed { self.new.placed ≡ self.old.placed }
         ensures first { self.new.first ≡ self.old.first }
         ensures second { self.new.second ≡ self.old.second }
+        ensures had { self.new.had ≡ self.old.had }
         ensures level { self.new.level ≡ self.old.level }
         ensures copy1 { self.new.pair.first.copy ≡ self.old.pair.first.copy }
         ensures copy2 { self.new.pair.second.copy ≡ self.old.pair.second.copy }
@@ -175,6 +184,9 @@ impl<P: Plant + Drop, C: Steady + Drop> Complex<P, C> {
             → into.new.0 ≡ page_in page was) }
         ensures acted { PairActed by.0 self.old.pair.first.alive self.new.pair.first.alive self.old.pair.second.alive
             self.new.pair.second.alive (pair_stopped result) (P.view self.old.plant) (P.view self.new.plant) }
+        ensures acts { (P.view self.new.plant).now ≡ after_acts (read_acts self.old.pair.first.alive
+            self.new.pair.first.alive self.old.pair.second.alive self.new.pair.second.alive)
+            (P.view self.old.plant).now }
         ensures apart { P.tells → OnCopies (P.view self.old.plant) (P.view self.new.plant) }
         ensures throughout { P.tells → OnlyOnCopies (P.view self.old.plant) (P.view self.new.plant) }
         ensures papers { P.tells → SamePapers (P.view self.old.plant) (P.view self.new.plant) }
@@ -187,9 +199,17 @@ impl<P: Plant + Drop, C: Steady + Drop> Complex<P, C> {
 
     /// There are pages of the level reached that stand for the queue after the kept batches. Each copy that counts as
     /// alive, and is as before any batch, is at rest with them: so what is read of the one, of the other, or of both,
-    /// are these pages.
+    /// are these pages. What a copy reads that counts as alive is later than what members noted: a page whose level
+    /// isn't above that of noted ones is as it was then.
     pub fn kept_pages(&self)
-        ensures { P.tells → ∥ HaveKept (run self.now.base (kept_all self.now.journal.batches)) self.now.level
+        ensures noted { P.tells → ∥ HavePasts (page_count self.now.base.config) (values_of self.now.had)
+            (sight_of self.now.pair.first.alive self.now.first ((P.view self.now.plant).lost (Disk Ckpt1))
+            (C.reads (disk_now (P.view self.now.plant) Ckpt1).bytes)
+            (C.behind self.now.pair.first.copy (disk_now (P.view self.now.plant) Ckpt1).bytes))
+            (sight_of self.now.pair.second.alive self.now.second ((P.view self.now.plant).lost (Disk Ckpt2))
+            (C.reads (disk_now (P.view self.now.plant) Ckpt2).bytes)
+            (C.behind self.now.pair.second.copy (disk_now (P.view self.now.plant) Ckpt2).bytes)) ∥₁ }
+        ensures kept { P.tells → ∥ HaveKept (run self.now.base (kept_all self.now.journal.batches)) self.now.level
             (C.rests self.now.pair.first.copy) (C.rests self.now.pair.second.copy) self.now.pair.first.alive
             self.now.pair.second.alive self.now.first self.now.second (disk_now (P.view self.now.plant) Ckpt1)
             (disk_now (P.view self.now.plant) Ckpt2) ∥₁ }

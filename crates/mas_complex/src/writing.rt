@@ -20,6 +20,8 @@ ghost use Rattle.mas_complex.specs.Texts.{HasTexts, spools_at, lost_now};
 ghost use Rattle.mas_complex.specs.Replies.{HaveReplies};
 ghost use Rattle.mas_complex.specs.Locking.{MayAct, IsOwn};
 ghost use Rattle.mas_complex.specs.Paper.{MayBegin, printed_after};
+ghost use Rattle.mas_complex.specs.Past.{AreLater, IsNextOf, values_of};
+ghost use Rattle.ckpt_tables.specs.Shape.{page_count};
 ghost use Rattle.mas_complex.specs.Parts.{begun_in, dropped_in, kept_in, parts_of, with_copy};
 
 use crate::complex::Complex;
@@ -54,6 +56,8 @@ impl<P: Plant + Drop, C: Steady + Drop> Complex<P, C> {
             → Covers (C.count (pick dev self.old.pair.first self.old.pair.second).copy) changed.now was
             (bytes_of pages.now) }
         requires level { P.tells → level (bytes_of pages.now) ≡ self.old.level + 1 }
+        requires later { P.tells → ∥ ((pick dev self.old.pair.first self.old.pair.second).alive ≡ true
+            → AreLater (page_count self.old.base.config) (values_of self.old.had) (bytes_of pages.now)) ∥₁ }
         requires orders { P.tells → (pick dev self.old.pair.first self.old.pair.second).alive ≡ true
             → ((other dev self.old.pair.first self.old.pair.second).alive ≡ true
             → other dev self.old.first self.old.second ≡ AtBefore) → (was : List ℕ)
@@ -137,7 +141,8 @@ impl<P: Plant + Drop, C: Steady + Drop> Complex<P, C> {
     /// has printed. With a Pick, Mark, Back or Forward the member begins to count anew. The pages stand for the queue
     /// with the batch, which has an entry, and have the level after the one of the kept pages. The texts of that queue
     /// stand on the spool volumes, all of them synced, except those with a group on a volume that is lost. `changed`
-    /// are the numbers of page 0 and of just those that differ from what the copy reads. Both copies are given the same
+    /// are the numbers of page 0 and of just those that differ from what the copy reads. Page 0 gives the new level to
+    /// each of them, and to each other page the level that it had. Both copies are given the same
     /// pages: where the other one counts as alive, these wait behind its gate if others than the kept ones do. BothLost
     /// comes only where both copies count as lost at the end of the call, Halted only where the member was stopped in
     /// it.
@@ -168,6 +173,9 @@ impl<P: Plant + Drop, C: Steady + Drop> Complex<P, C> {
             → C.reads (disk_now (P.view self.old.plant) dev).bytes ≡ Some was
             → NamesOnly changed.now was (bytes_of pages.now) }
         requires level { P.tells → level (bytes_of pages.now) ≡ self.old.level + 1 }
+        requires leveled { P.tells → (pick dev self.old.pair.first self.old.pair.second).alive ≡ true → (was : List ℕ)
+            → C.reads (disk_now (P.view self.old.plant) dev).bytes ≡ Some was
+            → IsNextOf (page_count self.old.base.config) was (bytes_of pages.now) }
         requires orders { P.tells → (pick dev self.old.pair.first self.old.pair.second).alive ≡ true
             → ((other dev self.old.pair.first self.old.pair.second).alive ≡ true
             → other dev self.old.first self.old.second ≡ AtBefore) → (was : List ℕ)

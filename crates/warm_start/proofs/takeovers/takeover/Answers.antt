@@ -31,14 +31,14 @@ returns-in-Ok-clause-tells g c =
         at_rest = found.first alive;
         as_many = found.as_many1 alive;
         now = λ t. found.reads1 t alive;
-        images = λ t. first_images C.reads Q s.level rests1 rests2 s.pair.first.alive s.pair.second.alive s.first s.second one two (c.kept_pages.ensures t) pages
+        images = λ t. first_images C.reads Q s.level rests1 rests2 s.pair.first.alive s.pair.second.alive s.first s.second one two (c.kept_pages.ensures.kept t) pages
             (λ was rest. laws.rests_reads s.pair.first.copy was one rest) alive (found.first alive) (found.reads1 t alive);
       };
       second = λ alive. record {
         at_rest = found.second alive;
         as_many = found.as_many2 alive;
         now = λ t. found.reads2 t alive;
-        images = λ t. second_images C.reads Q s.level rests1 rests2 s.pair.first.alive s.pair.second.alive s.first s.second one two (c.kept_pages.ensures t) pages
+        images = λ t. second_images C.reads Q s.level rests1 rests2 s.pair.first.alive s.pair.second.alive s.first s.second one two (c.kept_pages.ensures.kept t) pages
             (λ was rest. laws.rests_reads s.pair.second.copy was two rest) alive (found.second alive) (found.reads2 t alive);
       };
       stands = found.stands;

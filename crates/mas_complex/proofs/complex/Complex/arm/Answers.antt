@@ -1,3 +1,6 @@
+use Rattle.mas_complex.proofs.Pasts.{Lasts}
+use Rattle.mas_complex.specs.Past.{values_of}
+use Rattle.ckpt_tables.specs.Shape.{page_count}
 use Rattle.std.proofs.Common.{◌∙◌, ap, ℕ, subst, sym}
 use Rattle.std.proofs.Math.Logic.{∥∥₁_map}
 use Rattle.mas_types.specs.declared.ids.Dev.TheVariants.{Ckpt1, Ckpt2}
@@ -54,3 +57,9 @@ pub invariant_of-self-clause-begun : goal.invariant_of-self-clause-begun
 invariant_of-self-clause-begun g c =
     let s = c.args.self.now in
     subst (λ (n : ℕ). IsBegun s.current n) (sym (ap (λ (v : View). v.now) c.arm.ensures.same)) s.begun
+
+pub invariant_of-self-clause-lasting : goal.invariant_of-self-clause-lasting
+invariant_of-self-clause-lasting g c told =
+    let s = c.args.self.now in
+    let C = g.C.Copying in
+    subst (λ (v : View). ∥ Lasts (λ h. h.alive) C.reads (λ h. C.behind h.copy) (page_count s.base.config) (values_of s.had) s.pair.first s.pair.second s.first s.second v ∥₁) (sym c.arm.ensures.same) (s.lasting told)

@@ -1,3 +1,10 @@
+use Rattle.mas_complex.proofs.Pasts.{lasts_beside, opened_unsure, reads_later, seen}
+use Rattle.duplex_pair.specs.Halves.{other}
+use Rattle.ckpt_copy.specs.Pages.{bytes_of}
+use Rattle.mas_types.specs.declared.ids.Dev.TheVariants.{Ckpt1, Ckpt2}
+use Rattle.mas_complex.specs.Past.{values_of}
+use Rattle.ckpt_tables.specs.Shape.{page_count}
+use Rattle.std.proofs.Math.Logic.{∥∥₁_map}
 use Rattle.std.proofs.Common.{◌≡◌, ◌∙◌, ap}
 use Rattle.ckpt_places.specs.declared.places.Place.{Place}
 use Rattle.ckpt_places.specs.declared.places.Place.TheVariants.{Before, Opened}
@@ -59,3 +66,13 @@ pub returns-clause-some : goal.returns-clause-some
 returns-clause-some g c =
     let b = c.open_on.new.self in
     some_beside (λ h. h.alive) c.args.dev c.requires.ckpt b.pair.first b.pair.second (ap (λ h. h.alive) (c.open_on.ensures.other ∙ c.put_on.ensures.other) ∙ c.requires.beside)
+
+pub put_on-requires-clause-later : goal.put_on-requires-clause-later
+put_on-requires-clause-later g c told =
+    let s = c.args.self.now in
+    let C = g.C.Copying in
+    let dev = c.args.dev in
+    let v = g.P.Plant.view s.plant in
+    let same = c.requires.same told c.requires.beside in
+    ∥∥₁_map (s.lasting told) (λ l alive. reads_later (page_count s.base.config) (values_of s.had) (seen (λ h. h.alive) C.reads (λ h. C.behind h.copy) (other dev s.pair.first s.pair.second) (other dev s.first s.second) v (other dev Ckpt1 Ckpt2)) (bytes_of c.args.found.now)
+    (lasts_beside (λ h. h.alive) C.reads (λ h. C.behind h.copy) (page_count s.base.config) (values_of s.had) dev c.requires.ckpt s.pair.first s.pair.second s.first s.second v l) c.requires.beside (λ unsure. absurd (opened_unsure (other dev s.first s.second) same.0 unsure)) same.1)

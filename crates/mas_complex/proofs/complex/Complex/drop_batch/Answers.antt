@@ -1,3 +1,6 @@
+use Rattle.mas_complex.proofs.Pasts.{lasts_ended, before_unsure}
+use Rattle.mas_complex.specs.Past.{values_of}
+use Rattle.ckpt_tables.specs.Shape.{page_count}
 use Rattle.std.proofs.Common.{refl, subst, sym, ◌≡◌, ◌∙◌, Option, Some, inr, arith, List}
 use Rattle.std.proofs.Math.Logic.{∥∥₁_map, ∥∥₁_elim, ∥∥₁_prop, ∥∥₁_map₂}
 use Rattle.mas_types.specs.declared.journals.Batch.{Batch}
@@ -79,3 +82,9 @@ invariant_of-self-clause-counted g c =
     let short : length b.entries ≤ entries_most = subst (λ (x : Option Batch). length (entries_in x) ≤ entries_most) was s.short in
     subst (λ (l : List Batch). AreFew false l) (sym c.set_last.ensures)
     (few_last (record { first = b.first; last = c.now-last.result; by = b.by; fate = Dropped; entries = b.entries }) s.placed s.journal.batches (s.place_current c.requires.current) s.place short s.counted)
+
+pub invariant_of-self-clause-lasting : goal.invariant_of-self-clause-lasting
+invariant_of-self-clause-lasting g c told =
+    let s = c.args.self.now in
+    let C = g.C.Copying in
+    ∥∥₁_map (s.lasting told) (λ x. lasts_ended (λ h. h.alive) C.reads (λ h. C.behind h.copy) (page_count s.base.config) (values_of s.had) s.pair.first s.pair.second s.first s.second (g.P.Plant.view s.plant) (λ is unsure. before_unsure s.first (c.requires.first is) unsure) (λ is unsure. before_unsure s.second (c.requires.second is) unsure) x)

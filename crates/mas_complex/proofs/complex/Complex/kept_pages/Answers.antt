@@ -5,8 +5,8 @@ use Rattle.mas_complex.specs.Crash.{Setting, setting_with}
 use Rattle.mas_complex.proofs.Keeping.{at_rest}
 use Rattle.mas_complex.proofs.complex.Complex.kept_pages.Goals as goal
 
-pub returns : goal.returns
-returns g c told =
+pub returns-clause-kept : goal.returns-clause-kept
+returns-clause-kept g c told =
     let s = c.args.self.now in
     let C = g.C.Copying in
     let S : Setting = setting_with C.reads s.base s.since s.renewals in

@@ -1,10 +1,16 @@
+use Rattle.duplex_pair.specs.Looks.{WasSeen}
+use Rattle.spool_plant.specs.declared.plant.Part.TheVariants.{Disk as DiskPart}
+use Rattle.mas_complex.proofs.Pasts.{lasts_at, lasts_on, not_lost, past_looked, seen}
+use Rattle.mas_complex.specs.Past.{values_of}
+use Rattle.ckpt_tables.specs.Shape.{page_count}
+use Rattle.mas_types.specs.declared.ids.Dev.TheVariants.{Ckpt1, Ckpt2}
 use Rattle.std.proofs.Common.{refl, sym, subst, ◌≡◌, ap, ◌++◌, Result, Ok, Err, IfOk}
 use Rattle.std.proofs.Math.Logic.{∥∥₁_map, ∥∥₁_elim, ∥∥₁_map₂}
 use Rattle.std.specs.Coded.{Coded-set, coded_ℕ}
 use Rattle.ckpt_copy.specs.Changes.{NoMore}
 use Rattle.ckpt_copy.specs.Pages.{bytes_of}
 use Rattle.spool_plant.specs.View.{disk_now}
-use Rattle.duplex_pair.specs.Halves.{pick}
+use Rattle.duplex_pair.specs.Halves.{pick, other}
 use Rattle.duplex_pair.specs.declared.errors.Look.{Look}
 use Rattle.duplex_pair.specs.declared.errors.Look.TheVariants.{Lost, Unread, Pages}
 use Rattle.duplex_pair.specs.declared.errors.LookNo.{LookNo}
@@ -86,7 +92,7 @@ pub returns-clause-frame : goal.returns-clause-frame
 returns-clause-frame g c =
     let s = c.args.self.now in
     let p = c.look-done.new.self in
-    frame_copy (λ h. h.copy) (λ h. h.alive) (λ h. h.found) s.book s.base s.since s.journal.batches s.current s.reserved s.printed s.placed s.level s.renewals s.plant c.look-done.new.plant s.pair.first s.pair.second p.first p.second s.first s.second c.set_place.new.first c.set_place.new.second
+    frame_copy (λ h. h.copy) (λ h. h.alive) (λ h. h.found) s.book s.base s.since s.journal.batches s.current s.reserved s.printed s.placed s.level s.renewals (values_of s.had) s.plant c.look-done.new.plant s.pair.first s.pair.second p.first p.second s.first s.second c.set_place.new.first c.set_place.new.second
     c.args.dev c.requires.ckpt c.look-done.ensures.other c.set_place.ensures.other
 
 pub returns-clause-next : goal.returns-clause-next
@@ -148,3 +154,23 @@ invariant_of-self-clause-begun g c =
 
 pub returns-clause-same : goal.returns-clause-same
 returns-clause-same g c = c.look-done.ensures.err
+
+pub invariant_of-self-clause-lasting : goal.invariant_of-self-clause-lasting
+invariant_of-self-clause-lasting g c told =
+    let s = c.args.self.now in
+    let C = g.C.Copying in
+    let dev = c.args.dev in
+    let p = c.look-done.new.self in
+    let h = pick dev s.pair.first s.pair.second in
+    let k = pick dev p.first p.second in
+    let place' = pick dev c.set_place.new.first c.set_place.new.second in
+    let old = g.P.Plant.view s.plant in
+    let new = g.P.Plant.view c.look-done.new.plant in
+    let e = c.look-done.ensures in
+    let after : IsPlaceSeen c.look-done.result s.level place' = subst (λ (x : Place). IsPlaceSeen c.look-done.result s.level x) (sym c.set_place.ensures.place) c.place_seen-place.ensures in
+    let same = look_bytes old new dev c.requires.ckpt (e.during told) in
+    ∥∥₁_map (s.lasting told) (λ x. lasts_on (λ h. h.alive) C.reads (λ h. C.behind h.copy) (page_count s.base.config) (values_of s.had) dev c.requires.ckpt s.pair.first s.pair.second p.first p.second s.first s.second c.set_place.new.first c.set_place.new.second old new
+    (not_lost old new e.acted.goes (DiskPart (other dev Ckpt1 Ckpt2))) e.other c.set_place.ensures.other (same (other dev Ckpt1 Ckpt2))
+    (past_looked (page_count s.base.config) (values_of s.had) (seen (λ h. h.alive) C.reads (λ h. C.behind h.copy) h (pick dev s.first s.second) old dev) (seen (λ h. h.alive) C.reads (λ h. C.behind h.copy) k place' new dev) s.level c.look-done.result
+    (lasts_at (λ h. h.alive) C.reads (λ h. C.behind h.copy) (page_count s.base.config) (values_of s.had) dev c.requires.ckpt s.pair.first s.pair.second s.first s.second old x) e.acted.alive (not_lost old new e.acted.goes (DiskPart dev)) (ap C.reads (same dev))
+    (λ pages is. (subst (λ (r : Result Look LookNo). IfOk r (λ look. WasSeen C.count C.room C.room_most C.ready C.reads C.rests g.P.Plant.tells dev new h.copy k.copy k.alive look)) is e.seen).there) after) x)

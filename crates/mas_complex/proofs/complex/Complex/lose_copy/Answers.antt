@@ -1,7 +1,12 @@
+use Rattle.spool_plant.specs.declared.plant.Part.TheVariants.{Disk as DiskPart}
+use Rattle.mas_complex.proofs.Pasts.{lasts_on, not_lost, past_dead, seen}
+use Rattle.mas_complex.specs.Past.{values_of}
+use Rattle.ckpt_tables.specs.Shape.{page_count}
+use Rattle.mas_types.specs.declared.ids.Dev.TheVariants.{Ckpt1, Ckpt2}
 use Rattle.std.proofs.Common.{refl}
 use Rattle.std.proofs.Math.Logic.{∥∥₁_map, ∥∥₁_map₂}
 use Rattle.spool_plant.specs.View.{disk_now}
-use Rattle.duplex_pair.specs.Halves.{SameOrLost, pick}
+use Rattle.duplex_pair.specs.Halves.{SameOrLost, pick, other}
 use Rattle.mas_complex.specs.Crash.{Setting, setting_with}
 use Rattle.mas_complex.proofs.Sides.{lose_side, no}
 use Rattle.mas_complex.proofs.OnDevice.{at_copy, at_other, on_copy, sunk_after, fit_after}
@@ -67,7 +72,7 @@ pub returns-clause-frame : goal.returns-clause-frame
 returns-clause-frame g c =
     let s = c.args.self.now in
     let p = c.lose.new.self in
-    frame_half (λ h. h.copy) (λ h. h.alive) (λ h. h.found) s.book s.base s.since s.journal.batches s.current s.reserved s.printed s.placed s.level s.renewals s.plant c.lose.new.plant s.pair.first s.pair.second p.first p.second s.first s.second
+    frame_half (λ h. h.copy) (λ h. h.alive) (λ h. h.found) s.book s.base s.since s.journal.batches s.current s.reserved s.printed s.placed s.level s.renewals (values_of s.had) s.plant c.lose.new.plant s.pair.first s.pair.second p.first p.second s.first s.second
     c.args.dev c.requires.ckpt c.lose.ensures.other
 
 pub returns-clause-bytes : goal.returns-clause-bytes
@@ -95,3 +100,16 @@ pub invariant_of-self-clause-begun : goal.invariant_of-self-clause-begun
 invariant_of-self-clause-begun g c =
     let s = c.args.self.now in
     begun_later s.current (g.P.Plant.view s.plant).now (g.P.Plant.view c.lose.new.plant).now s.begun c.lose.ensures.loses.goes.later
+
+pub invariant_of-self-clause-lasting : goal.invariant_of-self-clause-lasting
+invariant_of-self-clause-lasting g c told =
+    let s = c.args.self.now in
+    let C = g.C.Copying in
+    let dev = c.args.dev in
+    let p = c.lose.new.self in
+    let old = g.P.Plant.view s.plant in
+    let new = g.P.Plant.view c.lose.new.plant in
+    let e = c.lose.ensures in
+    ∥∥₁_map (s.lasting told) (λ x. lasts_on (λ h. h.alive) C.reads (λ h. C.behind h.copy) (page_count s.base.config) (values_of s.had) dev c.requires.ckpt s.pair.first s.pair.second p.first p.second s.first s.second s.first s.second old new
+    (not_lost old new e.loses.goes (DiskPart (other dev Ckpt1 Ckpt2))) e.other refl (lose_bytes old new dev c.requires.ckpt (e.during told) (other dev Ckpt1 Ckpt2))
+    (past_dead (page_count s.base.config) (values_of s.had) (seen (λ h. h.alive) C.reads (λ h. C.behind h.copy) (pick dev p.first p.second) (pick dev s.first s.second) new dev) e.alive) x)

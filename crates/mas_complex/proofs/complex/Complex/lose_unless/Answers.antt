@@ -1,3 +1,4 @@
+use Rattle.mas_complex.specs.Past.{values_of}
 use Rattle.mas_complex.proofs.Apart.{on_one, on_none}
 use Rattle.mas_complex.proofs.Counted.{counts_none, counts_lost}
 use Rattle.std.proofs.Common.{refl}
@@ -27,5 +28,5 @@ returns-else-not-stays-clause-apart g c told = on_none (g.P.Plant.view c.args.se
 pub returns-else-not-stays-clause-frame : goal.returns-else-not-stays-clause-frame
 returns-else-not-stays-clause-frame g c =
     let s = c.args.self.now in
-    frame_half (λ h. h.copy) (λ h. h.alive) (λ h. h.found) s.book s.base s.since s.journal.batches s.current s.reserved s.printed s.placed s.level s.renewals s.plant s.plant s.pair.first s.pair.second s.pair.first s.pair.second s.first s.second
+    frame_half (λ h. h.copy) (λ h. h.alive) (λ h. h.found) s.book s.base s.since s.journal.batches s.current s.reserved s.printed s.placed s.level s.renewals (values_of s.had) s.plant s.plant s.pair.first s.pair.second s.pair.first s.pair.second s.first s.second
     c.args.dev c.requires.ckpt refl

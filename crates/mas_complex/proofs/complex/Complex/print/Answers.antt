@@ -1,3 +1,7 @@
+use Rattle.mas_complex.proofs.Pasts.{lasts_later}
+use Rattle.mas_complex.specs.Past.{values_of}
+use Rattle.ckpt_tables.specs.Shape.{page_count}
+use Rattle.spool_plant.specs.View.{Disk}
 use Rattle.std.proofs.Common.{◌+◌, ℕ, List, ap, ◌∙◌, arith, subst, sym}
 use Rattle.std.proofs.lemmas.List.{get_or-set_same}
 use Rattle.std.proofs.Math.Logic.{∥∥₁_map, ∥∥₁_map₂, ∥∥₁_elim, ∥∥₁_prop}
@@ -78,3 +82,11 @@ pub invariant_of-self-clause-short_reserved : goal.invariant_of-self-clause-shor
 invariant_of-self-clause-short_reserved g c =
     let s = c.args.self.now in
     subst (λ (r : Option (List Entry)). length (entries_reserved r) ≤ entries_most) (sym c.stop_halted.ensures.reserved) (short_after_print c.args.by c.print-done.result s.reserved s.short_reserved)
+
+pub invariant_of-self-clause-lasting : goal.invariant_of-self-clause-lasting
+invariant_of-self-clause-lasting g c told =
+    let s = c.args.self.now in
+    let C = g.C.Copying in
+    let old = g.P.Plant.view s.plant in
+    let new = g.P.Plant.view c.print-done.new.self in
+    ∥∥₁_map (s.lasting told) (λ x. lasts_later (λ h. h.alive) C.reads (λ h. C.behind h.copy) (page_count s.base.config) (values_of s.had) s.pair.first s.pair.second s.first s.second old new c.print-done.ensures.acts.goes (ap (λ (d : Disk). d.bytes) ((c.print-done.ensures.content told).disks Ckpt1)) (ap (λ (d : Disk). d.bytes) ((c.print-done.ensures.content told).disks Ckpt2)) x)

@@ -1,3 +1,8 @@
+use Rattle.ckpt_copy.specs.Moments.{meanwhile_end}
+use Rattle.spool_plant.specs.declared.plant.Part.TheVariants.{Disk as DiskPart}
+use Rattle.mas_complex.proofs.Pasts.{beside_bytes, image_now, lasts_at, lasts_on, not_lost, past_alive, past_put, seen, touched_is}
+use Rattle.mas_complex.specs.Past.{values_of}
+use Rattle.ckpt_tables.specs.Shape.{page_count}
 use Rattle.std.proofs.Common.{◌≡◌, ◌+◌, ◌++◌, true, Some, subst, sym, ap}
 use Rattle.std.proofs.Math.Logic.{∥∥₁_map, ∥∥₁_elim, ∥∥₁_prop, ∥∥₁_map₂}
 use Rattle.std.specs.Coded.{Coded-set, coded_list, coded_ℕ}
@@ -103,7 +108,7 @@ pub returns-clause-frame : goal.returns-clause-frame
 returns-clause-frame g c =
     let s = c.args.self.now in
     let p = c.put-done.new.self in
-    frame_copy (λ h. h.copy) (λ h. h.alive) (λ h. h.found) s.book s.base s.since s.journal.batches s.current s.reserved s.printed s.placed s.level s.renewals s.plant c.put-done.new.plant s.pair.first s.pair.second p.first p.second s.first s.second c.set_place.new.first c.set_place.new.second
+    frame_copy (λ h. h.copy) (λ h. h.alive) (λ h. h.found) s.book s.base s.since s.journal.batches s.current s.reserved s.printed s.placed s.level s.renewals (values_of s.had) s.plant c.put-done.new.plant s.pair.first s.pair.second p.first p.second s.first s.second c.set_place.new.first c.set_place.new.second
     c.args.dev c.requires.ckpt c.put-done.ensures.other c.set_place.ensures.other
 
 pub returns-clause-elsewhere : goal.returns-clause-elsewhere
@@ -161,3 +166,36 @@ pub invariant_of-self-clause-begun : goal.invariant_of-self-clause-begun
 invariant_of-self-clause-begun g c =
     let s = c.args.self.now in
     begun_later s.current (g.P.Plant.view s.plant).now (g.P.Plant.view c.put-done.new.plant).now s.begun c.put-done.ensures.acted.goes.later
+
+pub invariant_of-self-clause-lasting : goal.invariant_of-self-clause-lasting
+invariant_of-self-clause-lasting g c told =
+    let s = c.args.self.now in
+    let C = g.C.Copying in
+    let S : Setting = setting_with C.reads s.base s.since s.renewals in
+    let dev = c.args.dev in
+    let p = c.put-done.new.self in
+    let h = pick dev s.pair.first s.pair.second in
+    let k = pick dev p.first p.second in
+    let place' = pick dev c.set_place.new.first c.set_place.new.second in
+    let old = g.P.Plant.view s.plant in
+    let new = g.P.Plant.view c.put-done.new.plant in
+    let e = c.put-done.ensures in
+    let pages = bytes_of c.args.pages.now in
+    let after : IsPlaceAfter c.put-done.result Put place' = subst (λ (x : Place). IsPlaceAfter c.put-done.result Put x) (sym c.set_place.ensures.place) c.place_after-place.ensures in
+    ∥∥₁_elim (s.kept told) ∥∥₁_prop (λ kk. ∥∥₁_map₂ (c.requires.later told) (s.lasting told) (λ later l.
+    let there = at_copy (λ h. C.rests h.copy) (λ h. C.holds h.copy) (λ h. h.alive) S kk.was kk.coming dev c.requires.ckpt s.pair.first s.pair.second s.first s.second old kk.first_at kk.second_at in
+    let rests : h.alive ≡ true → C.rests h.copy kk.was (disk_now old dev) = rests_before S (C.rests h.copy) (C.holds h.copy) kk.was kk.coming (pick dev s.first s.second) h.alive old.now (disk_now old dev) there c.requires.place in
+    let m = e.during told kk.was rests in
+    let x = seen (λ h. h.alive) C.reads (λ h. C.behind h.copy) h (pick dev s.first s.second) old dev in
+    let y = seen (λ h. h.alive) C.reads (λ h. C.behind h.copy) k place' new dev in
+    let reads : h.alive ≡ true → C.reads (disk_now old dev).bytes ≡ Some kk.was = λ is. g.met.C.Copying.rests_now h.copy kk.was (disk_now old dev) (rests is) in
+    lasts_on (λ h. h.alive) C.reads (λ h. C.behind h.copy) (page_count s.base.config) (values_of s.had) dev c.requires.ckpt s.pair.first s.pair.second p.first p.second s.first s.second c.set_place.new.first c.set_place.new.second old new
+    (not_lost old new e.acted.goes (DiskPart (other dev Ckpt1 Ckpt2))) e.other c.set_place.ensures.other (beside_bytes dev c.requires.ckpt (Touched h.alive (AllRead C.reads kk.was) (disk_now old dev)) old new m)
+    (past_alive (page_count s.base.config) (values_of s.had) x y e.acted.alive (λ is. past_put (page_count s.base.config) (values_of s.had) x y kk.was pages c.put-done.result (lasts_at (λ h. h.alive) C.reads (λ h. C.behind h.copy) (page_count s.base.config) (values_of s.had) dev c.requires.ckpt s.pair.first s.pair.second s.first s.second old l)
+    is (c.requires.place is) (reads is) (later is) after (λ both. one_dead (λ h. h.alive) dev c.requires.ckpt p.first p.second (e.both both))
+    (λ up. touched_is h.alive (AllRead C.reads kk.was) (disk_now old dev) (disk_now new dev) is (meanwhile_end dev (Touched h.alive (AllRead C.reads kk.was) (disk_now old dev)) old new m)
+    (disk_now new dev).bytes (image_now (disk_now new dev) (g.met.P.Plant.there c.put-done.new.plant told dev up)))
+    (on_ok c.put-done.result e.held (λ held now.
+    let holds = held told now kk.was (rests is) (is_higher (level kk.was) (level pages) s.level kk.stands.at_level (c.requires.level told)) (c.requires.covered told is kk.was (reads is)) in
+    (g.met.C.Copying.rests_now k.copy kk.was (disk_now new dev) (g.met.C.Copying.holds_rests k.copy kk.was pages (disk_now new dev) holds), g.met.C.Copying.holds_behind k.copy kk.was pages (disk_now new dev) holds)))))
+    l))

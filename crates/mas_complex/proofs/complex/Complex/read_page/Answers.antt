@@ -1,4 +1,7 @@
-use Rattle.std.proofs.Common.{arith}
+use Rattle.mas_complex.proofs.Pasts.{lasts_fallen}
+use Rattle.mas_complex.specs.Past.{values_of}
+use Rattle.ckpt_tables.specs.Shape.{page_count}
+use Rattle.std.proofs.Common.{arith, ap}
 use Rattle.std.proofs.Math.Logic.{∥∥₁_map, ∥∥₁_map₂}
 use Rattle.mas_types.specs.declared.ids.Dev.TheVariants.{Ckpt1, Ckpt2}
 use Rattle.spool_plant.specs.View.{disk_now}
@@ -74,3 +77,15 @@ pub invariant_of-self-clause-begun : goal.invariant_of-self-clause-begun
 invariant_of-self-clause-begun g c =
     let s = c.args.self.now in
     begun_later s.current (g.P.Plant.view s.plant).now (g.P.Plant.view c.read_page.new.plant).now s.begun c.read_page.ensures.acted.goes.later
+
+pub invariant_of-self-clause-lasting : goal.invariant_of-self-clause-lasting
+invariant_of-self-clause-lasting g c told =
+    let s = c.args.self.now in
+    let C = g.C.Copying in
+    let p = c.read_page.new.self in
+    let old = g.P.Plant.view s.plant in
+    let new = g.P.Plant.view c.read_page.new.plant in
+    let e = c.read_page.ensures in
+    let same = read_bytes old new (e.during told) in
+    ∥∥₁_map (s.lasting told) (λ x. lasts_fallen (λ h. h.alive) C.reads (λ h. C.behind h.copy) (page_count s.base.config) (values_of s.had) s.pair.first s.pair.second p.first p.second s.first s.second old new e.acted.goes e.acted.alive1 e.acted.alive2
+    (λ d. ap (λ k. C.behind k d) e.copy1) (λ d. ap (λ k. C.behind k d) e.copy2) (same Ckpt1) (same Ckpt2) x)

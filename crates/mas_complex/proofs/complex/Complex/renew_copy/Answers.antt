@@ -1,4 +1,8 @@
-use Rattle.std.proofs.Common.{◌≡◌, ◌∙◌, true, false, ap, sym, subst, Some, List, ℕ, le_refl}
+use Rattle.mas_complex.proofs.Pasts.{before_later, lasts_beside, lasts_on, part_beside, past_dead, past_formed, seen}
+use Rattle.spool_plant.specs.declared.plant.Part.TheVariants.{Disk as DiskPart}
+use Rattle.mas_complex.specs.Past.{values_of}
+use Rattle.ckpt_tables.specs.Shape.{page_count}
+use Rattle.std.proofs.Common.{◌≡◌, ◌∙◌, ap, sym, subst, Some, List, ℕ, le_refl, refl}
 use Rattle.std.proofs.Math.Logic.{∥∥₁_map, ∥∥₁_map₂}
 use Rattle.mas_types.specs.declared.ids.Dev.TheVariants.{Ckpt1, Ckpt2}
 use Rattle.spool_plant.specs.View.{Disk, disk_now}
@@ -41,6 +45,13 @@ invariant_of-self g c =
           (λ is d forms. stale_while (λ h. C.rests h.copy) (λ h. C.holds h.copy) (λ h. h.alive) S s.journal.batches s.current s.level s.pair.first s.pair.second s.first s.second (λ h pages d r. g.met.C.Copying.rests_reads h.copy pages d r) (λ h was next d r. g.met.C.Copying.holds_reads h.copy was next d r)
           dev c.requires.ckpt old kk c.requires.dead pages same is d forms)
           (e.during told)));
+      lasting = λ told.
+          ∥∥₁_map (s.lasting told) (λ l.
+          let same = same_halves dev c.requires.ckpt s.pair.first s.pair.second p.first p.second c.in_err-replace.ensures.err e.other in
+          lasts_on (λ h. h.alive) C.reads (λ h. C.behind h.copy) (page_count s.base.config) (values_of s.had) dev c.requires.ckpt s.pair.first s.pair.second p.first p.second s.first s.second s.first s.second old new
+          (λ up. sym (e.replaces.else_lost (DiskPart (other dev Ckpt1 Ckpt2)) (part_beside dev c.requires.ckpt)) ∙ up) e.other refl
+          (ap (λ (d : Disk). d.bytes) ((e.during told).others new.now e.replaces.later (le_refl new.now) (other dev Ckpt1 Ckpt2) (beside dev c.requires.ckpt)))
+          (past_dead (page_count s.base.config) (values_of s.had) (seen (λ h. h.alive) C.reads (λ h. C.behind h.copy) (pick dev p.first p.second) (pick dev s.first s.second) new dev) (ap (λ h. h.alive) c.in_err-replace.ensures.err ∙ c.requires.dead)) l);
       replied = s.replied;
       paper = λ told sound.
           ∥∥₁_map₂ (s.kept told) (s.paper told sound) (λ kk on. passes_on_paper s.base s.since s.journal.batches s.current s.printed s.book s.book old new kk.started kk.settled kk.begun
@@ -213,3 +224,23 @@ returns-in_err-replace-clause-elsewhere g c told =
     let dev = c.args.dev in
     let old = g.P.Plant.view c.args.self.now.plant in
     replaced_elsewhere dev (IsOrForms g.C.Copying.reads (disk_now old dev) (bytes_of c.args.pages.now)) old (g.P.Plant.view c.replace.new.plant) c.replace.ensures.replaces.later (c.replace.ensures.during told)
+
+pub invariant_of-self-2-clause-lasting : goal.invariant_of-self-2-clause-lasting
+invariant_of-self-2-clause-lasting g c told =
+    let s = c.args.self.now in
+    let C = g.C.Copying in
+    let dev = c.args.dev in
+    let p = c.replace.new.self in
+    let old = g.P.Plant.view s.plant in
+    let new = g.P.Plant.view c.replace.new.plant in
+    let e = c.replace.ensures in
+    let pages = bytes_of c.args.pages.now in
+    let y = seen (λ h. h.alive) C.reads (λ h. C.behind h.copy) (pick dev p.first p.second) (pick dev c.set_place.new.first c.set_place.new.second) new dev in
+    ∥∥₁_map (s.lasting told) (λ l.
+    lasts_on (λ h. h.alive) C.reads (λ h. C.behind h.copy) (page_count s.base.config) (values_of s.had) dev c.requires.ckpt s.pair.first s.pair.second p.first p.second s.first s.second c.set_place.new.first c.set_place.new.second old new
+    (λ up. sym (e.replaces.else_lost (DiskPart (other dev Ckpt1 Ckpt2)) (part_beside dev c.requires.ckpt)) ∙ up) e.other c.set_place.ensures.other
+    (ap (λ (d : Disk). d.bytes) ((e.during told).others new.now e.replaces.later (le_refl new.now) (other dev Ckpt1 Ckpt2) (beside dev c.requires.ckpt)))
+    (past_formed (page_count s.base.config) (values_of s.had) y pages (before_later (page_count s.base.config) (values_of s.had) (seen (λ h. h.alive) C.reads (λ h. C.behind h.copy) (other dev s.pair.first s.pair.second) (other dev s.first s.second) old (other dev Ckpt1 Ckpt2)) pages
+    (lasts_beside (λ h. h.alive) C.reads (λ h. C.behind h.copy) (page_count s.base.config) (values_of s.had) dev c.requires.ckpt s.pair.first s.pair.second s.first s.second old l) c.requires.beside c.requires.place (c.requires.reads told)) c.set_place.ensures.place
+    (g.met.C.Copying.rests_now _ pages (disk_now new dev) (c.in_ok-replace.ensures.formed told)))
+    l)

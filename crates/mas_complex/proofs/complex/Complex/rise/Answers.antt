@@ -1,3 +1,6 @@
+use Rattle.mas_complex.proofs.Pasts.{lasts_ended, opened_unsure}
+use Rattle.mas_complex.specs.Past.{values_of}
+use Rattle.ckpt_tables.specs.Shape.{page_count}
 use Rattle.std.proofs.Common.{Option, None, subst, refl}
 use Rattle.std.proofs.Math.Logic.{∥∥₁_map}
 use Rattle.mas_types.specs.declared.journals.Batch.{Batch}
@@ -17,3 +20,9 @@ invariant_of-self-clause-kept g c told =
     ∥∥₁_map (s.kept told) (λ k.
     let none : Keeps S s.journal.batches None s.level first second v = subst (λ (x : Option Batch). Keeps S s.journal.batches x s.level first second v) c.requires.none k in
     absurd (opened_some S s.journal.batches None s.level first second v none c.requires.some c.requires.first c.requires.second (none.none refl)))
+
+pub invariant_of-self-clause-lasting : goal.invariant_of-self-clause-lasting
+invariant_of-self-clause-lasting g c told =
+    let s = c.args.self.now in
+    let C = g.C.Copying in
+    ∥∥₁_map (s.lasting told) (λ x. lasts_ended (λ h. h.alive) C.reads (λ h. C.behind h.copy) (page_count s.base.config) (values_of s.had) s.pair.first s.pair.second s.first s.second (g.P.Plant.view s.plant) (λ is unsure. opened_unsure s.first (c.requires.first is) unsure) (λ is unsure. opened_unsure s.second (c.requires.second is) unsure) x)

@@ -1,3 +1,8 @@
+use Rattle.std.proofs.Common.{ap}
+use Rattle.mas_complex.proofs.Pasts.{lasts_later}
+use Rattle.mas_complex.specs.Past.{values_of}
+use Rattle.ckpt_tables.specs.Shape.{page_count}
+use Rattle.spool_plant.specs.View.{Disk}
 use Rattle.std.proofs.Math.Logic.{∥∥₁_map, ∥∥₁_map₂}
 use Rattle.mas_types.specs.declared.ids.Dev.TheVariants.{Ckpt1, Ckpt2}
 use Rattle.mas_complex.specs.Crash.{Setting, setting_with, copy_of}
@@ -46,3 +51,11 @@ pub invariant_of-self-clause-begun : goal.invariant_of-self-clause-begun
 invariant_of-self-clause-begun g c =
     let s = c.args.self.now in
     begun_later s.current (g.P.Plant.view s.plant).now (g.P.Plant.view c.say.new.self).now s.begun c.say.ensures.acts.goes.later
+
+pub invariant_of-self-clause-lasting : goal.invariant_of-self-clause-lasting
+invariant_of-self-clause-lasting g c told =
+    let s = c.args.self.now in
+    let C = g.C.Copying in
+    let old = g.P.Plant.view s.plant in
+    let new = g.P.Plant.view c.say.new.self in
+    ∥∥₁_map (s.lasting told) (λ x. lasts_later (λ h. h.alive) C.reads (λ h. C.behind h.copy) (page_count s.base.config) (values_of s.had) s.pair.first s.pair.second s.first s.second old new c.say.ensures.acts.goes (ap (λ (d : Disk). d.bytes) ((c.say.ensures.content told).disks Ckpt1)) (ap (λ (d : Disk). d.bytes) ((c.say.ensures.content told).disks Ckpt2)) x)

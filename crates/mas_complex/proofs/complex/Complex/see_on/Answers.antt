@@ -1,3 +1,4 @@
+use Rattle.mas_complex.specs.Past.{values_of}
 use Rattle.std.proofs.Common.{◌∙◌, false, refl, ap, sym, arith}
 use Rattle.std.proofs.Math.Logic.{∥∥₁_elim}
 use Rattle.spool_plant.specs.View.{disk_now}
@@ -18,7 +19,7 @@ use Rattle.mas_complex.proofs.complex.Complex.see_on.Goals as goal
 pub returns-then-not-alive-clause-frame : goal.returns-then-not-alive-clause-frame
 returns-then-not-alive-clause-frame g c =
     let s = c.args.self.now in
-    frame_copy (λ h. h.copy) (λ h. h.alive) (λ h. h.found) s.book s.base s.since s.journal.batches s.current s.reserved s.printed s.placed s.level s.renewals s.plant s.plant s.pair.first s.pair.second s.pair.first s.pair.second s.first s.second s.first s.second
+    frame_copy (λ h. h.copy) (λ h. h.alive) (λ h. h.found) s.book s.base s.since s.journal.batches s.current s.reserved s.printed s.placed s.level s.renewals (values_of s.had) s.plant s.plant s.pair.first s.pair.second s.pair.first s.pair.second s.first s.second s.first s.second
     c.args.dev c.requires.ckpt refl refl
 
 pub returns-then-not-alive-clause-goes : goal.returns-then-not-alive-clause-goes

@@ -1,3 +1,6 @@
+use Rattle.mas_complex.proofs.Pasts.{before_later, image_now, past_alive, past_settled, seen, touched_is}
+use Rattle.mas_complex.specs.Past.{values_of}
+use Rattle.ckpt_tables.specs.Shape.{page_count}
 use Rattle.std.proofs.Common.{arith}
 use Rattle.std.proofs.Math.Logic.{∥∥₁_map, ∥∥₁_elim, ∥∥₁_map₂}
 use Rattle.std.specs.Coded.{Coded-set, coded_list, coded_option, coded_ℕ}
@@ -157,3 +160,34 @@ pub invariant_of-self-clause-begun : goal.invariant_of-self-clause-begun
 invariant_of-self-clause-begun g c =
     let s = c.args.self.now in
     begun_later s.current (g.P.Plant.view s.plant).now (g.P.Plant.view c.settle-done.new.plant).now s.begun c.settle-done.ensures.acted.goes.later
+
+pub invariant_of-self-clause-lasting : goal.invariant_of-self-clause-lasting
+invariant_of-self-clause-lasting g c told =
+    let s = c.args.self.now in
+    let C = g.C.Copying in
+    let S : Setting = setting_with C.reads s.base s.since s.renewals in
+    let first = copy_of (C.rests s.pair.first.copy) (C.holds s.pair.first.copy) s.pair.first.alive s.first in
+    let second = copy_of (C.rests s.pair.second.copy) (C.holds s.pair.second.copy) s.pair.second.alive s.second in
+    let old = g.P.Plant.view s.plant in
+    let new = g.P.Plant.view c.settle-done.new.plant in
+    let p = c.settle-done.new.self in
+    let e = c.settle-done.ensures in
+    let pages = bytes_of c.args.pages.now in
+    let x1 = seen (λ h. h.alive) C.reads (λ h. C.behind h.copy) s.pair.first s.first old Ckpt1 in
+    let x2 = seen (λ h. h.alive) C.reads (λ h. C.behind h.copy) s.pair.second s.second old Ckpt2 in
+    let y1 = seen (λ h. h.alive) C.reads (λ h. C.behind h.copy) p.first c.place_after-self.result new Ckpt1 in
+    let y2 = seen (λ h. h.alive) C.reads (λ h. C.behind h.copy) p.second c.place_after-self-2.result new Ckpt2 in
+    ∥∥₁_map₂ (s.kept told) (s.lasting told) (λ kk l.
+    let r1 = settle_rests S kk.was kk.coming Ckpt1 old new first.rests (C.rests p.first.copy) first.holds (C.holds p.first.copy) first.place c.place_after-self.result first.alive p.first.alive pages kk.first_at c.requires.first (λ was d r. g.met.C.Copying.rests_now s.pair.first.copy was d r) (c.requires.reads1 told) in
+    let r2 = settle_rests S kk.was kk.coming Ckpt2 old new second.rests (C.rests p.second.copy) second.holds (C.holds p.second.copy) second.place c.place_after-self-2.result second.alive p.second.alive pages kk.second_at c.requires.second (λ was d r. g.met.C.Copying.rests_now s.pair.second.copy was d r) (c.requires.reads2 told) in
+    let m = e.during told r1 r2 in
+    record {
+      first = past_alive (page_count s.base.config) (values_of s.had) x1 y1 e.acted.alive1 (λ is. past_settled (page_count s.base.config) (values_of s.had) y1 pages c.settle-done.result (before_later (page_count s.base.config) (values_of s.had) x1 pages l.first is (c.requires.first is) (c.requires.reads1 told is))
+          c.place_after-self.ensures (λ both. (e.both both).0)
+          (λ up. touched_is s.pair.first.alive (AllRead C.reads pages) (disk_now old Ckpt1) (disk_now new Ckpt1) is (m.first new.now m.goes.later (omega arith)) (disk_now new Ckpt1).bytes (image_now (disk_now new Ckpt1) (g.met.P.Plant.there c.settle-done.new.plant told Ckpt1 up)))
+          (on_ok c.settle-done.result e.settled1 (λ settled now. g.met.C.Copying.rests_now p.first.copy pages (disk_now new Ckpt1) (settled told r1 r2 now))));
+      second = past_alive (page_count s.base.config) (values_of s.had) x2 y2 e.acted.alive2 (λ is. past_settled (page_count s.base.config) (values_of s.had) y2 pages c.settle-done.result (before_later (page_count s.base.config) (values_of s.had) x2 pages l.second is (c.requires.second is) (c.requires.reads2 told is))
+          c.place_after-self-2.ensures (λ both. (e.both both).1)
+          (λ up. touched_is s.pair.second.alive (AllRead C.reads pages) (disk_now old Ckpt2) (disk_now new Ckpt2) is (m.second new.now m.goes.later (omega arith)) (disk_now new Ckpt2).bytes (image_now (disk_now new Ckpt2) (g.met.P.Plant.there c.settle-done.new.plant told Ckpt2 up)))
+          (on_ok c.settle-done.result e.settled2 (λ settled now. g.met.C.Copying.rests_now p.second.copy pages (disk_now new Ckpt2) (settled told r1 r2 now))));
+    })

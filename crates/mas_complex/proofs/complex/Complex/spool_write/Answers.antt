@@ -1,7 +1,11 @@
+use Rattle.std.proofs.Common.{ap}
+use Rattle.mas_complex.proofs.Pasts.{lasts_later}
+use Rattle.mas_complex.specs.Past.{values_of}
+use Rattle.ckpt_tables.specs.Shape.{page_count}
 use Rattle.std.proofs.Math.Logic.{∥∥₁_map, ∥∥₁_map₂}
 use Rattle.mas_types.specs.declared.ids.Dev.TheVariants.{Ckpt1, Ckpt2, Spool}
 use Rattle.spool_plant.specs.declared.plant.Part.TheVariants.{Disk as DiskPart}
-use Rattle.spool_plant.specs.View.{disk_now}
+use Rattle.spool_plant.specs.View.{disk_now, Disk}
 use Rattle.spool_volumes.specs.Volumes.{volume_of}
 use Rattle.mas_complex.specs.Journals.{kept_all, entries_in}
 use Rattle.mas_complex.specs.Crash.{Setting, setting_with, copy_of}
@@ -55,3 +59,11 @@ pub invariant_of-self-clause-begun : goal.invariant_of-self-clause-begun
 invariant_of-self-clause-begun g c =
     let s = c.args.self.now in
     begun_later s.current (g.P.Plant.view s.plant).now (g.P.Plant.view c.write_group.new.plant).now s.begun c.write_group.ensures.acts.goes.later
+
+pub invariant_of-self-clause-lasting : goal.invariant_of-self-clause-lasting
+invariant_of-self-clause-lasting g c told =
+    let s = c.args.self.now in
+    let C = g.C.Copying in
+    let old = g.P.Plant.view s.plant in
+    let new = g.P.Plant.view c.write_group.new.plant in
+    ∥∥₁_map (s.lasting told) (λ x. lasts_later (λ h. h.alive) C.reads (λ h. C.behind h.copy) (page_count s.base.config) (values_of s.had) s.pair.first s.pair.second s.first s.second old new c.write_group.ensures.acts.goes (ap (λ (d : Disk). d.bytes) ((c.write_group.ensures.content told).only.others Ckpt1 (λ e. absurd (cc)))) (ap (λ (d : Disk). d.bytes) ((c.write_group.ensures.content told).only.others Ckpt2 (λ e. absurd (cc)))) x)

@@ -1,0 +1,343 @@
+-- Later pages, over several batches, and what calls leave of those that members noted.
+use Rattle.std.proofs.Common.{◌≡◌, ◌≢◌, inl, inr, ⊎_elim, ◌⊎◌, ℕ, zero, suc, ◌+◌, ◌≤◌, ◌<◌, Bool, true, false, List, [], ◌∷◌, length, get_or, slice_set, Option, Some, Result, Ok, Err, OnOk, IsErrOf, refl, sym, ◌∙◌, ap, subst, arith, le_refl, le_trans}
+use Rattle.std.proofs.lemmas.Option.{slice_get_within, slice_get-get_or, get_or_from_slice_get}
+use Rattle.std.proofs.lemmas.List.{get_or-set_same, get_or-set_other, get_or-replicate, length-set, length-replicate}
+use Rattle.std.proofs.lemmas.Bool.{cases_lt}
+use Rattle.mas_types.specs.declared.ids.Dev.{Dev}
+use Rattle.mas_types.specs.declared.ids.Dev.TheVariants.{Ckpt1, Ckpt2, Spool}
+use Rattle.mas_types.specs.declared.ids.Page.{Page}
+use Rattle.mas_types.specs.Limits.{members_most}
+use Rattle.spool_plant.specs.declared.plant.Part.{Part}
+use Rattle.spool_plant.specs.declared.plant.Part.TheVariants.{Disk as DiskPart}
+use Rattle.spool_plant.specs.View.{View, Disk, IsImage, disk_now}
+use Rattle.spool_plant.specs.Acts.{Goes}
+use Rattle.ckpt_copy.specs.Pages.{bytes_of, level, page_in}
+use Rattle.ckpt_copy.specs.Meanwhile.{Meanwhile}
+use Rattle.duplex_pair.specs.Both.{Touched}
+use Rattle.duplex_pair.specs.Halves.{IsCkpt, pick, other}
+use Rattle.duplex_pair.specs.declared.errors.Look.{Look}
+use Rattle.duplex_pair.specs.declared.errors.Look.TheVariants.{Lost, Unread, Pages}
+use Rattle.duplex_pair.specs.declared.errors.LookNo.{LookNo}
+use Rattle.duplex_pair.specs.declared.errors.PairNo.{PairNo}
+use Rattle.duplex_pair.specs.declared.errors.PairNo.TheVariants.{BothLost, Halted}
+use Rattle.ckpt_places.specs.declared.places.Place.{Place}
+use Rattle.ckpt_places.specs.declared.places.Place.TheVariants.{Before, Put, Opened, Unsure}
+use Rattle.mas_complex.specs.Crash.{OnComing}
+use Rattle.mas_complex.specs.Places.{IsPlaceAfter}
+use Rattle.mas_complex.specs.Seen.{IsPlaceSeen}
+use Rattle.mas_complex.specs.declared.noting.Note.{Note}
+use Rattle.mas_complex.specs.Past.{age, nobody_noted, sight_of, AreLater, HasNoted, HasPast, HavePasts, IsLater, IsLeftOrNew, IsNextOf, Sight, values_of}
+use Rattle.mas_complex.proofs.Sides.{no}
+use Rattle.mas_complex.proofs.Renewing.{beside}
+
+-- pages are later than themselves
+pub later_self : (count : ℕ) (was : List ℕ) → IsLater count was was
+later_self count was = record { rises = le_refl (level was); each = λ q some few low. (refl, refl) }
+
+each_next : (q : ℕ) (was is : List ℕ) → level is ≡ level was + 1 → IsLeftOrNew q was is → age q is ≤ level was
+    → (page_in q is ≡ page_in q was) × (age q is ≡ age q was)
+each_next q was is next (inl same) low = same
+each_next q was is next (inr new) low = absurd (omega (arith, next, new.1, low))
+
+-- those after a batch are later than those before it
+pub later_next : (count : ℕ) (was is : List ℕ) → IsNextOf count was is → IsLater count was is
+later_next count was is n = record {
+  rises = omega (arith, n.next);
+  each = λ q some few low. each_next q was is n.next (n.each q some few) low;
+}
+
+-- later than later
+pub later_later : (count : ℕ) (a b c : List ℕ) → IsLater count a b → IsLater count b c → IsLater count a c
+later_later count a b c ab bc = record {
+  rises = le_trans ab.rises bc.rises;
+  each = λ q some few low.
+      let last = bc.each q some few (le_trans low ab.rises) in
+      let first = ab.each q some few (subst (λ n. n ≤ level a) last.1 low) in
+      (last.0 ∙ first.0, last.1 ∙ first.1);
+}
+
+some_same : (x y : List ℕ) → Some x ≡ Some y → x ≡ y
+some_same x y e = cc
+
+before_put : (p : Place) → p ≡ Before → p ≡ Put → ⊥
+before_put p a b = cc
+
+pub before_unsure : (p : Place) → p ≡ Before → p ≡ Unsure → ⊥
+before_unsure p a b = cc
+
+put_unsure : (p : Place) → p ≡ Put → p ≡ Unsure → ⊥
+put_unsure p a b = cc
+
+opened_put : (p : Place) → p ≡ Opened → p ≡ Put → ⊥
+opened_put p a b = cc
+
+pub opened_unsure : (p : Place) → p ≡ Opened → p ≡ Unsure → ⊥
+opened_unsure p a b = cc
+
+-- WHAT IS NOTED
+
+empty_some : (page : Page) (pages : List Page) → [] ≡ page ∷ pages → ⊥
+empty_some page pages e = cc
+
+none_noted : (m : ℕ) (page : Page) (pages : List Page) → HasNoted nobody_noted m (page ∷ pages) → ⊥
+none_noted m page pages noted =
+    let empty : List Page = [] in
+    let within : m < length nobody_noted = slice_get_within nobody_noted m (page ∷ pages) noted in
+    let many : length nobody_noted ≡ members_most + 1 = length-replicate (members_most + 1) empty in
+    let none : get_or nobody_noted m empty ≡ empty = get_or-replicate (members_most + 1) m empty empty (omega (arith, within, many)) in
+    empty_some page pages (sym none ∙ get_or_from_slice_get nobody_noted m (page ∷ pages) empty noted)
+
+-- where nobody noted any pages, nothing is asked
+pub nobody_past : (count : ℕ) (had : List (List Page)) (one two : Sight) → had ≡ nobody_noted → HavePasts count had one two
+nobody_past count had one two none = record { first = past one; second = past two } where
+  all : (is : List ℕ) → AreLater count had is
+  all is m page pages noted = absurd (none_noted m page pages (subst (λ (l : List (List Page)). HasNoted l m (page ∷ pages)) none noted))
+
+  past : (x : Sight) → HasPast count had x
+  past x = record { reads = λ alive sure is read. all is; waits = λ alive put. all x.waits }
+
+-- a note is written in the place of another
+pub values_set : (had : List Note) (at : ℕ) (note : Note) → at < length had → values_of (slice_set had at note) ≡ slice_set (values_of had) at note.pages.value
+values_set [] at note lt = absurd (omega (arith, lt))
+values_set (x ∷ had) zero note lt = refl
+values_set (x ∷ had) (suc at) note lt = ap (λ (l : List (List Page)). x.pages.value ∷ l) (values_set had at note (omega (arith, lt)))
+
+length_values : (had : List Note) → length (values_of had) ≡ length had
+length_values [] = refl
+length_values (x ∷ had) = ap suc (length_values had)
+
+-- who notes pages has noted them
+pub noted_here : (had : List Note) (at : ℕ) (pages : List Page) → at < length had → HasNoted (slice_set (values_of had) at pages) at pages
+noted_here had at pages lt =
+    let many : length (values_of had) ≡ length had = length_values had in
+    let few : at < length (values_of had) = subst (λ (n : ℕ). at < n) (sym many) lt in
+    let within : at < length (slice_set (values_of had) at pages) = subst (λ (n : ℕ). at < n) (sym (length-set (values_of had) at pages)) few in
+    slice_get-get_or (slice_set (values_of had) at pages) at [] within ∙ ap Some (get_or-set_same (values_of had) at pages [] few)
+
+-- the pages noted are the new ones, or they were noted before
+noted_or : (had : List (List Page)) (by m : ℕ) (new x : List Page) → HasNoted (slice_set had by new) m x → (x ≡ new) ⊎ HasNoted had m x
+noted_or had by m new x noted =
+    let within : m < length (slice_set had by new) = slice_get_within (slice_set had by new) m x noted in
+    let few : m < length had = subst (λ (n : ℕ). m < n) (length-set had by new) within in
+    let here : get_or (slice_set had by new) m [] ≡ x = get_or_from_slice_get (slice_set had by new) m x [] noted in
+    let old : m ≢ by → HasNoted had m x = λ ne. slice_get-get_or had m [] few ∙ ap Some (sym (get_or-set_other had by m new [] ne) ∙ here) in
+    ⊎_elim (λ lt. inr (old (λ e. absurd (omega (arith, lt, e)))))
+    (λ ge. ⊎_elim (λ gt. inr (old (λ e. absurd (omega (arith, gt, e)))))
+    (λ le. let e : m ≡ by = omega (arith, ge, le) in
+    inl (sym here ∙ (ap (λ (k : ℕ). get_or (slice_set had by new) k []) e ∙ get_or-set_same had by new [] (omega (arith, few, e)))))
+    (cases_lt by m))
+    (cases_lt m by)
+
+module _ (count : ℕ) (had : List (List Page)) where
+  -- pages after one more batch
+  pub all_next : (was is : List ℕ) → IsNextOf count was is → AreLater count had was → AreLater count had is
+  all_next was is n are m page pages noted = later_later count (bytes_of (page ∷ pages)) was is (are m page pages noted) (later_next count was is n)
+
+  same_later : (l k : List ℕ) → l ≡ k → AreLater count had l → AreLater count had k
+  same_later l k e are = subst (λ (x : List ℕ). AreLater count had x) e are
+
+  -- what a copy reads that isn't unsure
+  pub reads_later : (x : Sight) (pages : List ℕ) → HasPast count had x → x.alive ≡ true → (x.place ≡ Unsure → x.lost ≡ false) → x.read ≡ Some pages → AreLater count had pages
+  reads_later x pages p is sure read = p.reads is sure pages read
+
+  pub before_later : (x : Sight) (pages : List ℕ) → HasPast count had x → x.alive ≡ true → x.place ≡ Before → x.read ≡ Some pages → AreLater count had pages
+  before_later x pages p is before read = p.reads is (λ unsure. absurd (before_unsure x.place before unsure)) pages read
+
+  -- a copy that shows the same
+  pub past_stays : (x y : Sight) → (y.alive ≡ true → x.alive ≡ true) → y.place ≡ x.place → (y.lost ≡ false → x.lost ≡ false) → y.read ≡ x.read → y.waits ≡ x.waits → HasPast count had x → HasPast count had y
+  past_stays x y alive place lost read waits p = record {
+    reads = λ is sure pages reads. p.reads (alive is) (λ unsure. lost (sure (place ∙ unsure))) pages (sym read ∙ reads);
+    waits = λ is put. same_later x.waits y.waits (sym waits) (p.waits (alive is) (sym place ∙ put));
+  }
+
+  -- one that counts as lost
+  pub past_dead : (x : Sight) → x.alive ≡ false → HasPast count had x
+  past_dead x dead = record { reads = λ is. absurd (no x.alive is dead); waits = λ is. absurd (no x.alive is dead) }
+
+  -- one that counts as alive only where it did before
+  pub past_alive : (x y : Sight) → (y.alive ≡ true → x.alive ≡ true) → (x.alive ≡ true → HasPast count had y) → HasPast count had y
+  past_alive x y stays so = by_alive x.alive refl where
+    by_alive : (b : Bool) → x.alive ≡ b → HasPast count had y
+    by_alive true e = so e
+    by_alive false e = record { reads = λ is. absurd (no x.alive (stays is) e); waits = λ is. absurd (no x.alive (stays is) e) }
+
+  -- one that reads these pages, with nothing behind its gate
+  past_reads : (y : Sight) (pages : List ℕ) → AreLater count had pages → (y.place ≡ Put → ⊥) → ((y.place ≡ Unsure → y.lost ≡ false) → y.read ≡ Some pages) → HasPast count had y
+  past_reads y pages later not_put read = record {
+    reads = λ is sure l reads. same_later pages l (some_same pages l (sym (read sure) ∙ reads)) later;
+    waits = λ is put. absurd (not_put put);
+  }
+
+  -- one at which the batch came to its end
+  pub past_ended : (x : Sight) → (x.alive ≡ true → x.place ≡ Unsure → ⊥) → HasPast count had x → HasPast count had (record x { place = Before })
+  past_ended x known p = record {
+    reads = λ is sure pages reads. p.reads is (λ unsure. absurd (known is unsure)) pages reads;
+    waits = λ is put. absurd (before_put Before refl put);
+  }
+
+  -- the next pages were put behind its gate
+  pub past_put : (x y : Sight) (was pages : List ℕ) {T : Type 0} (done : Result T PairNo) → HasPast count had x → x.alive ≡ true → x.place ≡ Before → x.read ≡ Some was → AreLater count had pages
+      → IsPlaceAfter done Put y.place → (IsErrOf done BothLost → y.alive ≡ false) → (y.lost ≡ false → y.read ≡ Some was) → OnOk done (y.alive ≡ true → (y.read ≡ Some was) × (y.waits ≡ pages)) → HasPast count had y
+  past_put x y was pages (Ok t) p is before read later after both halted held = record {
+    reads = λ now sure l reads. same_later was l (some_same was l (sym (held now).0 ∙ reads)) (before_later x was p is before read);
+    waits = λ now put. same_later pages y.waits (sym (held now).1) later;
+  }
+  past_put x y was pages (Err BothLost) p is before read later after both halted held = past_dead y (both refl)
+  past_put x y was pages (Err Halted) p is before read later after both halted held =
+      past_reads y was (before_later x was p is before read) (λ put. put_unsure y.place put after) (λ sure. halted (sure after))
+
+  -- its gate was opened
+  pub past_open : (x y : Sight) (was next : List ℕ) {T : Type 0} (done : Result T PairNo) → HasPast count had x → x.alive ≡ true → x.place ≡ Put → x.read ≡ Some was → x.waits ≡ next
+      → IsPlaceAfter done Opened y.place → (IsErrOf done BothLost → y.alive ≡ false) → (y.lost ≡ false → (y.read ≡ Some was) ⊎ (y.read ≡ Some next)) → OnOk done (y.alive ≡ true → y.read ≡ Some next) → HasPast count had y
+  past_open x y was next {T} done p is put read waits after both halted opened = by_done done after both opened where
+    later : AreLater count had next
+    later = same_later x.waits next waits (p.waits is put)
+
+    old : AreLater count had was
+    old = p.reads is (λ unsure. absurd (put_unsure x.place put unsure)) was read
+
+    by_done : (done : Result T PairNo) → IsPlaceAfter done Opened y.place → (IsErrOf done BothLost → y.alive ≡ false) → OnOk done (y.alive ≡ true → y.read ≡ Some next) → HasPast count had y
+    by_done (Ok t) after both opened = record {
+      reads = λ now sure l reads. same_later next l (some_same next l (sym (opened now) ∙ reads)) later;
+      waits = λ now put. absurd (opened_put y.place after put);
+    }
+    by_done (Err BothLost) after both opened = past_dead y (both refl)
+    by_done (Err Halted) after both opened = record {
+      reads = λ now sure l reads. ⊎_elim (λ e. same_later was l (some_same was l (sym e ∙ reads)) old) (λ e. same_later next l (some_same next l (sym e ∙ reads)) later) (halted (sure after));
+      waits = λ now put. absurd (put_unsure y.place put after);
+    }
+
+  -- it was settled
+  pub past_settled : (y : Sight) (pages : List ℕ) {T : Type 0} (done : Result T PairNo) → AreLater count had pages
+      → IsPlaceAfter done Before y.place → (IsErrOf done BothLost → y.alive ≡ false) → (y.lost ≡ false → y.read ≡ Some pages) → OnOk done (y.alive ≡ true → y.read ≡ Some pages) → HasPast count had y
+  past_settled y pages (Ok t) later after both halted settled = record {
+    reads = λ now sure l reads. same_later pages l (some_same pages l (sym (settled now) ∙ reads)) later;
+    waits = λ now put. absurd (before_put y.place after put);
+  }
+  past_settled y pages (Err BothLost) later after both halted settled = past_dead y (both refl)
+  past_settled y pages (Err Halted) later after both halted settled = past_reads y pages later (λ put. put_unsure y.place put after) (λ sure. halted (sure after))
+
+  -- it was looked at
+  pub past_looked : (x y : Sight) (reached : ℕ) (done : Result Look LookNo) → HasPast count had x → (y.alive ≡ true → x.alive ≡ true) → (y.lost ≡ false → x.lost ≡ false) → y.read ≡ x.read
+      → ((pages : List Page) → done ≡ Ok (Pages pages) → y.lost ≡ false) → IsPlaceSeen done reached y.place → HasPast count had y
+  past_looked x y reached done p alive lost read there seen = record {
+    reads = λ is sure l reads. p.reads (alive is) (λ unsure. lost (not_lost done there seen sure)) l (sym read ∙ reads);
+    waits = λ is put. absurd (not_put done seen put);
+  } where
+    not_lost : (r : Result Look LookNo) → ((pages : List Page) → r ≡ Ok (Pages pages) → y.lost ≡ false) → IsPlaceSeen r reached y.place → (y.place ≡ Unsure → y.lost ≡ false) → y.lost ≡ false
+    not_lost (Ok Lost) there seen sure = sure seen
+    not_lost (Ok Unread) there seen sure = sure seen
+    not_lost (Ok (Pages pages)) there seen sure = there pages refl
+    not_lost (Err e) there seen sure = sure seen
+
+    not_put : (r : Result Look LookNo) → IsPlaceSeen r reached y.place → y.place ≡ Put → ⊥
+    not_put (Ok Lost) seen put = put_unsure y.place put seen
+    not_put (Ok Unread) seen put = put_unsure y.place put seen
+    not_put (Ok (Pages pages)) seen put = ⊎_elim (λ b. before_put y.place b.0 put) (λ o. opened_put y.place o.0 put) seen
+    not_put (Err e) seen put = put_unsure y.place put seen
+
+  -- a new one has these pages
+  pub past_formed : (y : Sight) (pages : List ℕ) → AreLater count had pages → y.place ≡ Before → y.read ≡ Some pages → HasPast count had y
+  past_formed y pages later before read = past_reads y pages later (λ put. before_put y.place before put) (λ sure. read)
+
+  -- A member notes pages that the copy reads.
+  pub past_noted : (by : ℕ) (pages : List Page) (x : Sight) → (x.alive ≡ true → x.place ≡ Before) → (x.alive ≡ true → x.read ≡ Some (bytes_of pages)) → HasPast count had x → HasPast count (slice_set had by pages) x
+  past_noted by pages x before read p = record {
+    reads = λ is sure l reads m page rest noted.
+        ⊎_elim (λ e. subst (λ (k : List Page). IsLater count (bytes_of k) l) (sym e)
+        (subst (λ (k : List ℕ). IsLater count (bytes_of pages) k) (some_same (bytes_of pages) l (sym (read is) ∙ reads)) (later_self count (bytes_of pages))))
+        (λ old. p.reads is sure l reads m page rest old)
+        (noted_or had by m pages (page ∷ rest) noted);
+    waits = λ is put. absurd (before_put x.place (before is) put);
+  }
+
+-- DEVICES
+
+-- the bytes themselves are an image
+pub image_now : (d : Disk) → d.lost ≡ false → IsImage d d.bytes
+image_now d there = record { there = there; size = refl; synced = λ s avoids. refl }
+
+pub not_lost : (old new : View) → Goes old new → (p : Part) → new.lost p ≡ false → old.lost p ≡ false
+not_lost old new goes p is = by_lost (old.lost p) refl where
+  by_lost : (b : Bool) → old.lost p ≡ b → old.lost p ≡ false
+  by_lost true e = absurd (no (new.lost p) (goes.lost p e) is)
+  by_lost false e = e
+
+pub touched_is : (b : Bool) (P : Disk → Type 0) (was d : Disk) → b ≡ true → Touched b P was d → P d
+touched_is b P was d is t = subst (λ (x : Bool). Touched x P was d) is t
+
+pub coming_some : {R : Type 0} (n : Option (List ℕ)) (Q : List ℕ → Type 0) → OnComing n Q → ((pages : List ℕ) → Q pages → R) → R
+coming_some (Some pages) Q here so = so pages here
+coming_some _ Q here so = absurd here
+
+-- the other device stays
+pub beside_bytes : (dev : Dev) → IsCkpt dev → (P : Disk → Type 0) (old new : View) → Meanwhile dev P old new → (disk_now new (other dev Ckpt1 Ckpt2)).bytes ≡ (disk_now old (other dev Ckpt1 Ckpt2)).bytes
+beside_bytes dev ckpt P old new m = ap (λ (x : Disk). x.bytes) (m.others new.now m.goes.later (omega arith) (other dev Ckpt1 Ckpt2) (beside dev ckpt))
+
+pub part_beside : (dev : Dev) → IsCkpt dev → DiskPart (other dev Ckpt1 Ckpt2) ≢ DiskPart dev
+part_beside Ckpt1 ckpt e = absurd (cc)
+part_beside Ckpt2 ckpt e = absurd (cc)
+part_beside (Spool n) ckpt e = absurd ckpt
+
+pub alive_picked : {H : Type 0} (alive : H → Bool) (dev : Dev) (k1 k2 h1 h2 : H) → alive k1 ≡ alive h1 → alive k2 ≡ alive h2 → alive (pick dev k1 k2) ≡ alive (pick dev h1 h2)
+alive_picked alive Ckpt1 k1 k2 h1 h2 one two = one
+alive_picked alive Ckpt2 k1 k2 h1 h2 one two = two
+alive_picked alive (Spool n) k1 k2 h1 h2 one two = one
+
+module _ {H : Type 0} (alive : H → Bool) (reads : List ℕ → Option (List ℕ)) (behind : H → List ℕ → List ℕ) where
+  -- what is seen of a half of the pair
+  abbrev pub seen : H → Place → View → Dev → Sight
+  seen h p v dev = sight_of (alive h) p (v.lost (DiskPart dev)) (reads (disk_now v dev).bytes) (behind h (disk_now v dev).bytes)
+
+  module _ (count : ℕ) (had : List (List Page)) where
+    abbrev pub Lasts : H → H → Place → Place → View → Type 0
+    Lasts h1 h2 p1 p2 v = HavePasts count had (seen h1 p1 v Ckpt1) (seen h2 p2 v Ckpt2)
+
+    still : (dev : Dev) (h : H) (p : Place) (old new : View) → (new.lost (DiskPart dev) ≡ false → old.lost (DiskPart dev) ≡ false) → (disk_now new dev).bytes ≡ (disk_now old dev).bytes → HasPast count had (seen h p old dev) → HasPast count had (seen h p new dev)
+    still dev h p old new lost same x = past_stays count had (seen h p old dev) (seen h p new dev) (λ is. is) refl lost (ap reads same) (ap (behind h) same) x
+
+    -- the copies' devices stay
+    pub lasts_later : (h1 h2 : H) (p1 p2 : Place) (old new : View) → Goes old new → (disk_now new Ckpt1).bytes ≡ (disk_now old Ckpt1).bytes → (disk_now new Ckpt2).bytes ≡ (disk_now old Ckpt2).bytes → Lasts h1 h2 p1 p2 old → Lasts h1 h2 p1 p2 new
+    lasts_later h1 h2 p1 p2 old new goes one two x = record {
+      first = still Ckpt1 h1 p1 old new (not_lost old new goes (DiskPart Ckpt1)) one x.first;
+      second = still Ckpt2 h2 p2 old new (not_lost old new goes (DiskPart Ckpt2)) two x.second;
+    }
+
+    -- their bytes do, and a copy may count as lost now
+    pub lasts_fallen : (h1 h2 k1 k2 : H) (p1 p2 : Place) (old new : View) → Goes old new → (alive k1 ≡ true → alive h1 ≡ true) → (alive k2 ≡ true → alive h2 ≡ true) → ((d : List ℕ) → behind k1 d ≡ behind h1 d) → ((d : List ℕ) → behind k2 d ≡ behind h2 d)
+        → (disk_now new Ckpt1).bytes ≡ (disk_now old Ckpt1).bytes → (disk_now new Ckpt2).bytes ≡ (disk_now old Ckpt2).bytes → Lasts h1 h2 p1 p2 old → Lasts k1 k2 p1 p2 new
+    lasts_fallen h1 h2 k1 k2 p1 p2 old new goes falls1 falls2 same1 same2 one two x = record {
+      first = past_stays count had (seen h1 p1 old Ckpt1) (seen k1 p1 new Ckpt1) falls1 refl (not_lost old new goes (DiskPart Ckpt1)) (ap reads one) (same1 (disk_now new Ckpt1).bytes ∙ ap (behind h1) one) x.first;
+      second = past_stays count had (seen h2 p2 old Ckpt2) (seen k2 p2 new Ckpt2) falls2 refl (not_lost old new goes (DiskPart Ckpt2)) (ap reads two) (same2 (disk_now new Ckpt2).bytes ∙ ap (behind h2) two) x.second;
+    }
+
+    -- a call on the copy of one device
+    pub lasts_on : (dev : Dev) → IsCkpt dev → (h1 h2 k1 k2 : H) (p1 p2 q1 q2 : Place) (old new : View) → (new.lost (DiskPart (other dev Ckpt1 Ckpt2)) ≡ false → old.lost (DiskPart (other dev Ckpt1 Ckpt2)) ≡ false) → other dev k1 k2 ≡ other dev h1 h2 → other dev q1 q2 ≡ other dev p1 p2
+        → (disk_now new (other dev Ckpt1 Ckpt2)).bytes ≡ (disk_now old (other dev Ckpt1 Ckpt2)).bytes → HasPast count had (seen (pick dev k1 k2) (pick dev q1 q2) new dev) → Lasts h1 h2 p1 p2 old → Lasts k1 k2 q1 q2 new
+    lasts_on Ckpt1 ckpt h1 h2 k1 k2 p1 p2 q1 q2 old new lost same at bytes p x = record {
+      first = p;
+      second = subst (λ (k : H). HasPast count had (seen k q2 new Ckpt2)) (sym same) (subst (λ (q : Place). HasPast count had (seen h2 q new Ckpt2)) (sym at) (still Ckpt2 h2 p2 old new lost bytes x.second));
+    }
+    lasts_on Ckpt2 ckpt h1 h2 k1 k2 p1 p2 q1 q2 old new lost same at bytes p x = record {
+      first = subst (λ (k : H). HasPast count had (seen k q1 new Ckpt1)) (sym same) (subst (λ (q : Place). HasPast count had (seen h1 q new Ckpt1)) (sym at) (still Ckpt1 h1 p1 old new lost bytes x.first));
+      second = p;
+    }
+    lasts_on (Spool n) ckpt h1 h2 k1 k2 p1 p2 q1 q2 old new lost same at bytes p x = absurd ckpt
+
+    -- what is known of both is known of the one of a device, and of the other
+    pub lasts_at : (dev : Dev) → IsCkpt dev → (h1 h2 : H) (p1 p2 : Place) (v : View) → Lasts h1 h2 p1 p2 v → HasPast count had (seen (pick dev h1 h2) (pick dev p1 p2) v dev)
+    lasts_at Ckpt1 ckpt h1 h2 p1 p2 v x = x.first
+    lasts_at Ckpt2 ckpt h1 h2 p1 p2 v x = x.second
+    lasts_at (Spool n) ckpt h1 h2 p1 p2 v x = absurd ckpt
+
+    pub lasts_beside : (dev : Dev) → IsCkpt dev → (h1 h2 : H) (p1 p2 : Place) (v : View) → Lasts h1 h2 p1 p2 v → HasPast count had (seen (other dev h1 h2) (other dev p1 p2) v (other dev Ckpt1 Ckpt2))
+    lasts_beside Ckpt1 ckpt h1 h2 p1 p2 v x = x.second
+    lasts_beside Ckpt2 ckpt h1 h2 p1 p2 v x = x.first
+    lasts_beside (Spool n) ckpt h1 h2 p1 p2 v x = absurd ckpt
+
+    -- the batch came to its end on both
+    pub lasts_ended : (h1 h2 : H) (p1 p2 : Place) (v : View) → (alive h1 ≡ true → p1 ≡ Unsure → ⊥) → (alive h2 ≡ true → p2 ≡ Unsure → ⊥) → Lasts h1 h2 p1 p2 v → Lasts h1 h2 Before Before v
+    lasts_ended h1 h2 p1 p2 v known1 known2 x = record {
+      first = past_ended count had (seen h1 p1 v Ckpt1) known1 x.first;
+      second = past_ended count had (seen h2 p2 v Ckpt2) known2 x.second;
+    }
