@@ -17,6 +17,7 @@ mod wire;
 mod working;
 
 pub use applying::apply;
+pub use displays::display;
 pub use laws::law_of_fit_tables;
 pub use lookups::setting;
 pub use mas_types::Unit;
