@@ -14,3 +14,6 @@ pub mod AlikeLemmas
 pub mod SpareLemmas
 pub mod SpellLemmas
 pub mod ReplaceLemmas
+pub mod MirrorLemmas
+pub mod WantedLemmas
+pub mod AgeLemmas

@@ -25,10 +25,12 @@ use Rattle.member_node.specs.declared.checkpoint.Checkpoint.{Checkpoint}
 use Rattle.member_node.specs.Drawn.{AreDrawn}
 use Rattle.mas_types.specs.declared.ids.Dev.{Dev}
 use Rattle.spool_plant.specs.View.{View, disk_now}
+use Rattle.duplex_pair.specs.ActCounts.{after_acts, copies_failed}
 use Rattle.duplex_pair.specs.Both.{PairActed}
 use Rattle.duplex_pair.specs.Halves.{SomeAlive}
+use Rattle.duplex_pair.proofs.ActCounting.{acts_then}
 use Rattle.mas_complex.specs.Elsewhere.{OnCopies}
-use Rattle.member_node.specs.Reads.{AreLow, ArePagesOf, HasRead, IsRead, IsReadIn, IsReadWhole, IsUpTo, MayGoOn, ReadCauses, ReadInCauses, ReadsAs, ReadsLow, StandAt, copies_alive, orders_after, too_high}
+use Rattle.member_node.specs.Reads.{AreLow, ArePagesOf, HasRead, IsRead, IsReadIn, IsReadWhole, IsUpTo, MayGoOn, ReadCauses, ReadInCauses, ReadsAs, ReadsLow, StandAt, TookActs, copies_alive, orders_after, too_high}
 use Rattle.member_node.specs.Copies.{RestsAt}
 use Rattle.member_node.specs.Spares.{Spares, is_stop}
 use Rattle.ckpt_places.specs.declared.places.Place.{Place}
@@ -252,6 +254,11 @@ read_then told a a' a'' b b' b'' v0 v1 v2 x y = record {
   bytes = λ t d. y.bytes t d ∙ x.bytes t d;
 }
 
+-- page 0 was read, and so many pages after it
+pub acts_both : (n many : ℕ) (a a' a'' b b' b'' : Bool) (v0 v1 v2 : View) (told : Type 0) → HasRead told a a' b b' v0 v1 → HasRead told a' a'' b' b'' v1 v2 → n ≡ many → TookActs 1 a a' b b' v0 v1 → TookActs n a' a'' b' b'' v1 v2 → TookActs (1 + many) a a'' b b'' v0 v2
+acts_both n many a a' a'' b b' b'' v0 v1 v2 told x y same one rest =
+    acts_then 1 n a a' a'' b b' b'' v0.now v1.now v2.now x.course.alive1 y.course.alive1 x.course.alive2 y.course.alive2 one rest ∙ ap (λ (k : ℕ). after_acts ((1 + k) + copies_failed a a'' b b'') v0.now) same
+
 -- what each copy reads stays, so it reads the same pages by a later moment's name
 pub reads_earlier : (told : Type 0) (alive alive' : Bool) (read read' : Option (List ℕ)) (was : List ℕ) → (alive' ≡ true → alive ≡ true) → (told → read' ≡ read) → ReadsAs told alive read was → ReadsAs told alive' read' was
 reads_earlier told alive alive' read read' was alives same reads t on = same t ∙ reads t (alives on)
@@ -349,6 +356,10 @@ cause_in T U node.BothLost by is1 is2 v0 v1 cause = cause
 cause_in T U node.Halted by is1 is2 v0 v1 cause = cause
 cause_in T U node.ConsoleFault by is1 is2 v0 v1 cause = cause
 cause_in T U node.NoMemory by is1 is2 v0 v1 cause = absurd cause
+
+-- the same error, whatever the answer would have been
+pub error_as : (T U : Type 0) (told : Type 0) (by : ℕ) (a a' b b' : Bool) (v0 v1 : View) (e : NodeNo) → IsRead {T = T} told by a a' b b' v0 v1 (Err e) → IsRead {T = U} told by a a' b b' v0 v1 (Err e)
+error_as T U told by a a' b b' v0 v1 e x = record { acts = x.acts; cause = cause_as T U e by a' b' v0 v1 x.cause; spares = x.spares }
 
 -- an error after other reads
 pub error_later : (T U : Type 0) (told : Type 0) (by : ℕ) (a a' a'' b b' b'' : Bool) (v0 v1 v2 : View) (e : NodeNo) → HasRead told a a' b b' v0 v1 → Spares by false v0 v1 → IsRead {T = T} told by a' a'' b' b'' v1 v2 (Err e) → IsRead {T = U} told by a a'' b b'' v0 v2 (Err e)

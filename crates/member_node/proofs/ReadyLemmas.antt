@@ -1,5 +1,5 @@
 -- A draft of a member's pages.
-use Rattle.std.proofs.Common.{◌≡◌, ⊎_elim, ℕ, ◌+◌, ◌*◌, ◌≤◌, ◌<◌, ◌^◌, Bool, true, List, length, Option, Some, sym, ◌∙◌, ap, subst, arith}
+use Rattle.std.proofs.Common.{◌≡◌, ⊎_elim, ℕ, ◌+◌, ◌*◌, ◌≤◌, ◌<◌, ◌^◌, ◌&&◌, Bool, true, false, List, length, Option, Some, sym, ◌∙◌, ap, subst, arith}
 use Rattle.std.proofs.Math.Logic.{∥∥₁_elim}
 use Rattle.mas_types.specs.declared.ids.Page.{Page}
 use Rattle.mas_types.specs.declared.journals.Entry.{Entry}
@@ -13,6 +13,7 @@ use Rattle.queue_telling.specs.Orders.{HaveOrders}
 use Rattle.queue_telling.specs.Telling.{Tell, PagesTell}
 use Rattle.mas_complex.specs.Crash.{RaisesOrders, next_order, orders_most}
 use Rattle.mas_complex.specs.Meaning.{run}
+use Rattle.mas_complex.specs.Past.{IsNextOf}
 use Rattle.ckpt_places.specs.declared.places.Place.{Place}
 use Rattle.member_node.specs.declared.checkpoint.Checkpoint.{Checkpoint}
 use Rattle.member_node.specs.declared.checkpoint.Draft.{Draft}
@@ -20,7 +21,8 @@ use Rattle.member_node.specs.declared.checkpoint.Draft.TheVariants as draft
 use Rattle.member_node.specs.Batches.{CanDraw, HasDone, IsDraftOf, level_with}
 use Rattle.member_node.specs.Copies.{IsDraftFor, RestsAt}
 use Rattle.member_node.specs.Drawn.{AreDrawn}
-use Rattle.member_node.specs.Redrawn.{IsRedrawn, IsSameWhere}
+use Rattle.member_node.specs.Mirrors.{IsMirror}
+use Rattle.member_node.specs.Redrawn.{IsRedrawn, IsSameWhere, is_same}
 use Rattle.member_node.proofs.DrawnLemmas.{drawn_level, drawn_order, drawn_stand, drawn_tell}
 use Rattle.member_node.proofs.WriteLemmas.{covers_read, names_read}
 
@@ -72,7 +74,15 @@ ready_copy (draft.Changed numbers) X told alive place count room was is old new 
   numbers = λ on. subst (λ (n : ℕ). ArePages n numbers) (many ∙ rests.as_many on) drawn.numbers;
   covered = λ t on before reads. covers_read count (length new) numbers before (bytes_of old) (bytes_of new) read (sym (many ∙ rests.as_many on)) drawn.covered (rests.reads t on) reads;
   exact = λ t on before reads. names_read numbers before (bytes_of old) (bytes_of new) read drawn.exact (rests.reads t on) reads;
+  leveled = λ t on before reads. subst (λ (n : ℕ). IsNextOf n before (bytes_of new)) (many ∙ rests.as_many on) (subst (λ (w : List ℕ). IsNextOf (length new) w (bytes_of new)) (some_same (bytes_of old) before (sym (rests.reads t on) ∙ reads)) drawn.leveled);
   orders = λ t on before reads. subst (λ (w : List ℕ). RaisesOrders w (bytes_of new)) (some_same (bytes_of old) before (sym (rests.reads t on) ∙ reads)) (raises t);
 } where
   some_same : (x y : List ℕ) → Some x ≡ Some y → x ≡ y
   some_same x y e = cc
+
+-- pages that the room mirrors, where none of them changes
+pub ready_mirrors : (d : Draft) (mirrors : Bool) (was is : ℕ) (room old new : List Page) → IsRedrawn d was old is new → (mirrors ≡ true → IsMirror room old) → (mirrors && is_same d) ≡ true → IsMirror room new
+ready_mirrors draft.Same true was is room old new drawn mirrored both = subst (IsMirror room) (sym drawn.1) (mirrored both)
+ready_mirrors draft.Same false was is room old new drawn mirrored both = absurd (cc)
+ready_mirrors (draft.Changed numbers) true was is room old new drawn mirrored both = absurd (cc)
+ready_mirrors (draft.Changed numbers) false was is room old new drawn mirrored both = absurd (cc)

@@ -8,6 +8,7 @@ use Rattle.mas_types.specs.declared.queues.Queue.{Queue}
 use Rattle.mas_types.specs.Limits.{page_bytes}
 use Rattle.spool_plant.specs.Acts.{top}
 use Rattle.ckpt_copy.specs.Pages.{bytes_of, level}
+use Rattle.ckpt_pages.specs.Given.{levels_given}
 use Rattle.ckpt_tables.specs.Pages.{Spell}
 use Rattle.ckpt_tables.specs.Shape.{HasSpelling, AreLevels, page_count}
 use Rattle.queue_telling.specs.Orders.{HaveOrders}
@@ -32,6 +33,8 @@ pub record CanDraw (k : Checkpoint) : Type 0 where
   pub as_many : length k.pages ≡ page_count k.tables.config
   pub sized : All (λ page. length page.0 ≡ page_bytes) k.pages
   pub spelling : HasSpelling k.tables
+  pub aged : levels_given k.pages ≡ k.levels
+  pub at_level : level (bytes_of k.pages) ≡ k.level
 
 -- a checkpoint's pages aren't those that its tables are drawn as
 abbrev pub DrawsAnew : Checkpoint → Type 0

@@ -6,6 +6,7 @@ use Rattle.ckpt_places.specs.declared.places.Place.{Place}
 use Rattle.ckpt_places.specs.declared.places.Place.TheVariants.{Before}
 use Rattle.mas_complex.specs.Changed.{NamesOnly}
 use Rattle.mas_complex.specs.Crash.{RaisesOrders}
+use Rattle.mas_complex.specs.Past.{IsNextOf}
 use Rattle.member_node.specs.declared.checkpoint.Draft.{Draft}
 use Rattle.member_node.specs.declared.checkpoint.Draft.TheVariants as draft
 
@@ -17,8 +18,8 @@ pub record RestsAt (tells : Type 0) (alive : Bool) (place : Place) (count : ℕ)
   pub reads : tells → alive ≡ true → read ≡ Some (bytes_of pages)
 
 -- A copy that may be given pages, where it counts as alive: it has room for them and as many, the numbers are those of
--- page 0 and of just the pages that differ from what it reads, and the next order rises by no more than a batch may
--- raise it.
+-- page 0 and of just the pages that differ from what it reads, page 0 gives the next level to these and to each other
+-- page the level that it had, and the next order rises by no more than a batch may raise it.
 pub record MayPut (tells : Type 0) (alive : Bool) (count space : ℕ) (pages : List Page) (changed : List ℕ)
     (read : Option (List ℕ)) : Type 0 where
   pub room : alive ≡ true → 1 ≤ space
@@ -26,6 +27,7 @@ pub record MayPut (tells : Type 0) (alive : Bool) (count space : ℕ) (pages : L
   pub numbers : alive ≡ true → ArePages count changed
   pub covered : tells → alive ≡ true → (was : List ℕ) → read ≡ Some was → Covers count changed was (bytes_of pages)
   pub exact : tells → alive ≡ true → (was : List ℕ) → read ≡ Some was → NamesOnly changed was (bytes_of pages)
+  pub leveled : tells → alive ≡ true → (was : List ℕ) → read ≡ Some was → IsNextOf count was (bytes_of pages)
   pub orders : tells → alive ≡ true → (was : List ℕ) → read ≡ Some was → RaisesOrders was (bytes_of pages)
 
 -- a copy for which a draft is right: it reads the pages, or may be given them

@@ -6,4 +6,6 @@ pub mod Writes
 pub mod Batches
 pub mod Lines
 pub mod Reads
+pub mod Wanted
+pub mod Mirrors
 pub mod Spares

@@ -13,6 +13,7 @@ use Rattle.lay_bytes.specs.declared.records.OutRec.{OutRec}
 use Rattle.ckpt_tables.specs.declared.tables.Tables.{Tables}
 use Rattle.ckpt_pages.specs.Checkpoints.{IsCheckpoint}
 use Rattle.ckpt_tables.specs.Pages.{page_in as page_of_list}
+use Rattle.duplex_pair.specs.ActCounts.{after_acts, copies_failed}
 use Rattle.duplex_pair.specs.Halves.{IsBothLost, SomeAlive}
 use Rattle.ckpt_places.specs.declared.places.Place.{Place}
 use Rattle.ckpt_places.specs.declared.places.Place.TheVariants.{Before}
@@ -68,6 +69,10 @@ ReadCauses (Err BothLost) by is1 is2 old new = IsBothLost is1 is2
 ReadCauses (Err Halted) by is1 is2 old new = SomeAlive is1 is2 × Rose (old.stops by) (new.stops by)
 ReadCauses (Err ConsoleFault) by is1 is2 old new = ⊥
 ReadCauses (Err NoMemory) by is1 is2 old new = ⊥
+
+-- Calls on the copies that made so many acts, and one more for each copy that failed in them.
+abbrev pub TookActs : ℕ → Bool → Bool → Bool → Bool → View → View → Type 0
+TookActs count was1 is1 was2 is2 old new = new.now ≡ after_acts (count + copies_failed was1 is1 was2 is2) old.now
 
 -- Reads of the copies, of which these counted as alive before and count so after: they leave all bytes, the volumes and
 -- the console. Where content is told no copy is lost but by its device.

@@ -1,5 +1,5 @@
 -- Pages that were drawn again.
-use Rattle.std.specs.Prelude.{◌≡◌, ℕ, ◌+◌, true, false, List, length, All}
+use Rattle.std.specs.Prelude.{◌≡◌, ℕ, ◌+◌, Bool, true, false, List, length, All}
 use Rattle.mas_types.specs.declared.ids.Page.{Page}
 use Rattle.mas_types.specs.Limits.{page_bytes}
 use Rattle.ckpt_copy.specs.Pages.{bytes_of, ArePages, Covers}
@@ -8,6 +8,7 @@ use Rattle.ckpt_tables.specs.Pages.{Spell}
 use Rattle.ckpt_tables.specs.Shape.{differing}
 use Rattle.mas_complex.specs.Changed.{NamesOnly}
 use Rattle.mas_complex.specs.Fits.{are_same}
+use Rattle.mas_complex.specs.Past.{IsNextOf}
 use Rattle.member_node.specs.declared.checkpoint.Draft.{Draft}
 use Rattle.member_node.specs.declared.checkpoint.Draft.TheVariants as draft
 
@@ -17,10 +18,16 @@ pub record IsNewer (changed : List ℕ) (was : ℕ) (old : List Page) (is : ℕ)
   pub numbers : ArePages (length new) changed
   pub covered : Covers (length new) changed (bytes_of old) (bytes_of new)
   pub exact : NamesOnly changed (bytes_of old) (bytes_of new)
+  pub leveled : IsNextOf (length new) (bytes_of old) (bytes_of new)
 
 abbrev pub IsRedrawn : Draft → ℕ → List Page → ℕ → List Page → Type 0
 IsRedrawn draft.Same was old is new = (is ≡ was) × (new ≡ old)
 IsRedrawn (draft.Changed numbers) was old is new = IsNewer numbers was old is new
+
+-- no page changes
+abbrev pub is_same : Draft → Bool
+is_same draft.Same = true
+is_same (draft.Changed numbers) = false
 
 -- no page changes exactly where this holds
 abbrev pub IsSameWhere : Draft → Type 0 → Type 0

@@ -20,6 +20,8 @@ ghost use Rattle.mas_complex.specs.Meaning.{StandFor, run};
 ghost use Rattle.mas_complex.specs.Texts.{HasTexts, lost_now, spools_at};
 ghost use Rattle.member_node.specs.Calls.{Apart};
 ghost use Rattle.mas_complex.specs.Paper.{MayBegin, printed_after};
+ghost use Rattle.mas_complex.specs.Past.{IsNextOf, values_of};
+ghost use Rattle.ckpt_tables.specs.Shape.{page_count};
 
 use duplex_pair::PairNo;
 use mas_complex::{Complex, Steady};
@@ -56,6 +58,9 @@ fn log_both<P: Plant + Drop, C: Steady + Drop>(
     requires exact1 { P.tells → complex.old.pair.first.alive ≡ true → (was : List ℕ)
         → C.reads (disk_now (P.view complex.old.plant) Ckpt1).bytes ≡ Some was
         → NamesOnly changed.now was (bytes_of pages.now) }
+    requires leveled1 { P.tells → complex.old.pair.first.alive ≡ true → (was : List ℕ)
+        → C.reads (disk_now (P.view complex.old.plant) Ckpt1).bytes ≡ Some was
+        → IsNextOf (page_count complex.old.base.config) was (bytes_of pages.now) }
     requires orders1 { P.tells → complex.old.pair.first.alive ≡ true → (was : List ℕ)
         → C.reads (disk_now (P.view complex.old.plant) Ckpt1).bytes ≡ Some was
         → RaisesOrders was (bytes_of pages.now) }
@@ -65,6 +70,9 @@ fn log_both<P: Plant + Drop, C: Steady + Drop>(
     requires exact2 { P.tells → complex.old.pair.second.alive ≡ true → (was : List ℕ)
         → C.reads (disk_now (P.view complex.old.plant) Ckpt2).bytes ≡ Some was
         → NamesOnly changed.now was (bytes_of pages.now) }
+    requires leveled2 { P.tells → complex.old.pair.second.alive ≡ true → (was : List ℕ)
+        → C.reads (disk_now (P.view complex.old.plant) Ckpt2).bytes ≡ Some was
+        → IsNextOf (page_count complex.old.base.config) was (bytes_of pages.now) }
     requires orders2 { P.tells → complex.old.pair.second.alive ≡ true → (was : List ℕ)
         → C.reads (disk_now (P.view complex.old.plant) Ckpt2).bytes ≡ Some was
         → RaisesOrders was (bytes_of pages.now) }
@@ -89,6 +97,7 @@ fn log_both<P: Plant + Drop, C: Steady + Drop>(
     ensures journal { complex.new.journal ≡ complex.old.journal }
     ensures placed { complex.new.placed ≡ complex.old.placed }
     ensures level { complex.new.level ≡ complex.old.level }
+    ensures had { values_of complex.new.had ≡ values_of complex.old.had }
     ensures flying { complex.new.current
         ≡ Some (begun (P.view complex.old.plant).now by (entries_reserved complex.old.reserved)) }
     ensures places { OnOk result ((complex.new.first ≡ AtPut) × (complex.new.second ≡ AtPut)) }
@@ -138,6 +147,7 @@ fn open_both<P: Plant + Drop, C: Steady + Drop>(
         complex.old.journal.batches) }
     ensures unplaced { OnOk result (complex.new.placed ≡ false) }
     ensures level { OnOk result (complex.new.level ≡ complex.old.level + 1) }
+    ensures had { values_of complex.new.had ≡ values_of complex.old.had }
     ensures places { OnOk result ((complex.new.first ≡ AtBefore) × (complex.new.second ≡ AtBefore)) }
     ensures count1 { C.count complex.new.pair.first.copy ≡ C.count complex.old.pair.first.copy }
     ensures count2 { C.count complex.new.pair.second.copy ≡ C.count complex.old.pair.second.copy }
@@ -200,6 +210,9 @@ pub(crate) fn commit<P: Plant + Drop, C: Steady + Drop>(
     requires exact1 { P.tells → complex.old.pair.first.alive ≡ true → (was : List ℕ)
         → C.reads (disk_now (P.view complex.old.plant) Ckpt1).bytes ≡ Some was
         → NamesOnly changed.now was (bytes_of pages.now) }
+    requires leveled1 { P.tells → complex.old.pair.first.alive ≡ true → (was : List ℕ)
+        → C.reads (disk_now (P.view complex.old.plant) Ckpt1).bytes ≡ Some was
+        → IsNextOf (page_count complex.old.base.config) was (bytes_of pages.now) }
     requires orders1 { P.tells → complex.old.pair.first.alive ≡ true → (was : List ℕ)
         → C.reads (disk_now (P.view complex.old.plant) Ckpt1).bytes ≡ Some was
         → RaisesOrders was (bytes_of pages.now) }
@@ -209,6 +222,9 @@ pub(crate) fn commit<P: Plant + Drop, C: Steady + Drop>(
     requires exact2 { P.tells → complex.old.pair.second.alive ≡ true → (was : List ℕ)
         → C.reads (disk_now (P.view complex.old.plant) Ckpt2).bytes ≡ Some was
         → NamesOnly changed.now was (bytes_of pages.now) }
+    requires leveled2 { P.tells → complex.old.pair.second.alive ≡ true → (was : List ℕ)
+        → C.reads (disk_now (P.view complex.old.plant) Ckpt2).bytes ≡ Some was
+        → IsNextOf (page_count complex.old.base.config) was (bytes_of pages.now) }
     requires orders2 { P.tells → complex.old.pair.second.alive ≡ true → (was : List ℕ)
         → C.reads (disk_now (P.view complex.old.plant) Ckpt2).bytes ≡ Some was
         → RaisesOrders was (bytes_of pages.now) }
@@ -237,6 +253,7 @@ pub(crate) fn commit<P: Plant + Drop, C: Steady + Drop>(
         complex.old.journal.batches) }
     ensures unplaced { OnOk result (complex.new.placed ≡ false) }
     ensures level { OnOk result (complex.new.level ≡ complex.old.level + 1) }
+    ensures had { values_of complex.new.had ≡ values_of complex.old.had }
     ensures places { OnOk result ((complex.new.first ≡ AtBefore) × (complex.new.second ≡ AtBefore)) }
     ensures count1 { C.count complex.new.pair.first.copy ≡ C.count complex.old.pair.first.copy }
     ensures count2 { C.count complex.new.pair.second.copy ≡ C.count complex.old.pair.second.copy }

@@ -3,13 +3,15 @@ ghost use Rattle.std.specs.Prelude.{◌≡◌, ◌+◌, ◌≤◌, ◌<◌, ◌^
 ghost use Rattle.mas_types.specs.declared.ids.Page.{Page};
 ghost use Rattle.mas_types.specs.Fit.{IsConfig};
 ghost use Rattle.mas_types.specs.Limits.{page_bytes, routes_most};
-ghost use Rattle.ckpt_copy.specs.Pages.{bytes_of, ArePages, Covers};
+ghost use Rattle.ckpt_copy.specs.Pages.{bytes_of, level as level_of, ArePages, Covers};
 ghost use Rattle.mas_complex.specs.Changed.{NamesOnly};
+ghost use Rattle.mas_complex.specs.Past.{IsNextOf};
+ghost use Rattle.ckpt_pages.specs.Given.{levels_given};
 ghost use Rattle.ckpt_tables.specs.Shape.{page_count as page_count_lem, HasShape, HasSpelling, AreLevels, IsRoute};
 ghost use Rattle.ckpt_tables.specs.Pages.{Spell};
 ghost use Rattle.ckpt_pages.specs.Starts.{empty_tables, first_levels as first_levels_lem};
-ghost use Rattle.member_node.specs.Drawn.{AreDrawn, drawn_again, raised};
-ghost use Rattle.member_node.specs.Redrawn.{AreChanges, IsDraft, IsRedrawn, IsSameWhere};
+ghost use Rattle.member_node.specs.Drawn.{AreAsDrawn, AreDrawn, drawn_again, raised};
+ghost use Rattle.member_node.specs.Redrawn.{AreChanges, IsDraft, IsRedrawn, IsSameWhere, is_same as is_same_lem};
 
 use ckpt_pages::{empty, encode, encode_page, law_of_empty_tables};
 use ckpt_tables::{Tables, page_count};
@@ -162,6 +164,8 @@ fn take_changes(checkpoint: &mut Checkpoint, numbers: &[u16])
     requires pages { length checkpoint.old.pages ≡ page_count_lem checkpoint.old.tables.config }
     requires sized { All (λ page. length page.0 ≡ page_bytes) checkpoint.old.pages }
     requires differ { AreChanges checkpoint.old.tables checkpoint.old.levels checkpoint.old.pages numbers.now }
+    requires aged { levels_given checkpoint.old.pages ≡ checkpoint.old.levels }
+    requires at_level { level_of (bytes_of checkpoint.old.pages) ≡ checkpoint.old.level }
     ensures tables { checkpoint.new.tables ≡ checkpoint.old.tables }
     ensures level { checkpoint.new.level ≡ checkpoint.old.level + 1 }
     ensures drawn { AreDrawn checkpoint.new.tables checkpoint.new.level checkpoint.new.levels checkpoint.new.pages }
@@ -169,6 +173,8 @@ fn take_changes(checkpoint: &mut Checkpoint, numbers: &[u16])
     ensures covered { Covers (length checkpoint.new.pages) numbers.now (bytes_of checkpoint.old.pages)
         (bytes_of checkpoint.new.pages) }
     ensures exact { NamesOnly numbers.now (bytes_of checkpoint.old.pages) (bytes_of checkpoint.new.pages) }
+    ensures leveled { IsNextOf (length checkpoint.new.pages) (bytes_of checkpoint.old.pages)
+        (bytes_of checkpoint.new.pages) }
 {
     checkpoint.level += 1;
     raise(checkpoint.levels.as_mut_slice(), numbers, checkpoint.level);
@@ -180,35 +186,58 @@ fn take_changes(checkpoint: &mut Checkpoint, numbers: &[u16])
     );
 }
 
-/// Draws the tables again: where a page changes they have the next level then.
-///
-/// NoMemory leaves the checkpoint as it was.
-pub fn redraw(alloc: Global, checkpoint: &mut Checkpoint) -> Result<Draft, NoMemory>
+/// Whether a draft changes no page.
+pub(crate) fn is_same(draft: &Draft) -> bool
+    ensures { result ≡ is_same_lem draft.now }
+{
+    matches!(draft, Draft::Same)
+}
+
+/// What the tables of a checkpoint, drawn again, change of its pages: nothing where no command touched them. NoMemory
+/// comes only when out of memory.
+pub(crate) fn drafted(
+    alloc: Global,
+    checkpoint: &Checkpoint,
+    touched: bool,
+) -> Result<Draft, NoMemory>
+    requires shape { HasShape checkpoint.now.tables }
+    requires levels { length checkpoint.now.levels ≡ page_count_lem checkpoint.now.tables.config }
+    requires pages { length checkpoint.now.pages ≡ page_count_lem checkpoint.now.tables.config }
+    requires sized { All (λ page. length page.0 ≡ page_bytes) checkpoint.now.pages }
+    requires unchanged { touched ≡ false
+        → AreAsDrawn checkpoint.now.tables checkpoint.now.levels checkpoint.now.pages }
+    ensures { IfOk result (IsDraft checkpoint.now.tables checkpoint.now.levels checkpoint.now.pages) }
+{
+    if !touched {
+        return Ok(Draft::Same);
+    }
+    draft_of(
+        alloc,
+        &checkpoint.tables,
+        &checkpoint.levels,
+        checkpoint.pages.as_slice(),
+    )
+}
+
+/// Draws the pages of a draft again: where it has one they have the next level then.
+pub(crate) fn redraw(checkpoint: &mut Checkpoint, draft: &Draft)
     requires spelling { HasSpelling checkpoint.old.tables }
     requires leveled { AreLevels checkpoint.old.tables checkpoint.old.level checkpoint.old.levels }
     requires level { checkpoint.old.level + 1 < 2 ^ 63 }
     requires pages { length checkpoint.old.pages ≡ page_count_lem checkpoint.old.tables.config }
     requires sized { All (λ page. length page.0 ≡ page_bytes) checkpoint.old.pages }
-    ensures err { OnErr result (checkpoint.new ≡ checkpoint.old) }
+    requires aged { levels_given checkpoint.old.pages ≡ checkpoint.old.levels }
+    requires at_level { level_of (bytes_of checkpoint.old.pages) ≡ checkpoint.old.level }
+    requires draft { IsDraft checkpoint.old.tables checkpoint.old.levels checkpoint.old.pages draft.now }
     ensures tables { checkpoint.new.tables ≡ checkpoint.old.tables }
-    ensures drawn { OnOk result (AreDrawn checkpoint.new.tables checkpoint.new.level checkpoint.new.levels
-        checkpoint.new.pages) }
-    ensures draft { IfOk result (λ draft.
-        IsRedrawn draft checkpoint.old.level checkpoint.old.pages checkpoint.new.level checkpoint.new.pages) }
-    ensures same { IfOk result (λ draft.
-        IsSameWhere draft (Spell checkpoint.old.tables checkpoint.old.levels checkpoint.old.pages)) }
+    ensures drawn { AreDrawn checkpoint.new.tables checkpoint.new.level checkpoint.new.levels checkpoint.new.pages }
+    ensures draft { IsRedrawn draft.now checkpoint.old.level checkpoint.old.pages checkpoint.new.level
+        checkpoint.new.pages }
+    ensures same { IsSameWhere draft.now
+        (Spell checkpoint.old.tables checkpoint.old.levels checkpoint.old.pages) }
 {
-    let draft = draft_of(
-        alloc,
-        &checkpoint.tables,
-        &checkpoint.levels,
-        checkpoint.pages.as_slice(),
-    )?;
     match draft {
-        Draft::Same => Ok(Draft::Same),
-        Draft::Changed(numbers) => {
-            take_changes(checkpoint, numbers.as_slice());
-            Ok(Draft::Changed(numbers))
-        }
+        Draft::Same => {}
+        Draft::Changed(numbers) => take_changes(checkpoint, numbers.as_slice()),
     }
 }

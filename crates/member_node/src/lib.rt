@@ -4,12 +4,13 @@
 
 mod batch;
 mod checkpoint;
+mod giving;
 mod member;
 mod reading;
 mod replacing;
 mod writing;
 
-pub use checkpoint::{Checkpoint, Draft, blank, redraw};
+pub use checkpoint::{Checkpoint, Draft, blank};
 pub use cmd_report::reply_lines;
 pub use member::{Member, NodeNo};
 pub use reading::TOO_HIGH;

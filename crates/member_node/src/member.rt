@@ -11,11 +11,13 @@ ghost use Rattle.queue_telling.specs.Telling.{Tell, TellSound};
 ghost use Rattle.mas_complex.specs.Meaning.{step as step_of};
 ghost use Rattle.queue_effect.specs.Standing.{AreFit, IfRefused};
 ghost use Rattle.queue_commands.specs.Given.{IsGiver};
+ghost use Rattle.member_node.specs.Drawn.{AreAsDrawn};
+ghost use Rattle.member_node.specs.Mirrors.{IsMirror};
 
 use crate::checkpoint::{Checkpoint, blank};
+use crate::giving::give_to;
 use mas_types::limits::PAGE_BYTES;
 use mas_types::{Command, Config, Entry, List, MemberId, NoMemory, Page, Reply};
-use queue_commands::give;
 use std::alloc::Global;
 
 /// Why a member's call wasn't done.
@@ -44,6 +46,18 @@ pub struct Member {
     pub room: List<Page>,
     /// It has read all pages, and its checkpoint isn't brought up to them yet.
     pub behind: bool,
+    /// It has read nothing yet: its pages are of no level.
+    pub fresh: bool,
+    /// Its own pages stand in the room too, except page 0.
+    pub mirrors: bool,
+    /// A command that may change its tables was done on them since its pages were drawn or read.
+    pub touched: bool,
+
+    /// Where its own pages stand in the room, each of them is the same.
+    ghost mirrored: { mirrors ≡ true → IsMirror room checkpoint.pages },
+
+    /// Where no command may have changed its tables, its pages are those that these are drawn as.
+    ghost unchanged: { touched ≡ false → AreAsDrawn checkpoint.tables checkpoint.levels checkpoint.pages },
 }
 
 // So many pages of zeros.
@@ -93,6 +107,7 @@ impl Member {
         ensures batch { IfOk result (λ member. member.batch ≡ []) }
         ensures room { IfOk result (λ member. length member.room ≡ length member.checkpoint.pages) }
         ensures behind { IfOk result (λ member. member.behind ≡ false) }
+        ensures fresh { IfOk result (λ member. member.fresh ≡ true) }
     {
         let checkpoint = blank(alloc, config, &List::new(alloc))?;
         Member::with(alloc, id, checkpoint)
@@ -107,6 +122,7 @@ impl Member {
         ensures batch { IfOk result (λ member. member.batch ≡ []) }
         ensures room { IfOk result (λ member. length member.room ≡ length checkpoint.pages) }
         ensures behind { IfOk result (λ member. member.behind ≡ false) }
+        ensures fresh { IfOk result (λ member. member.fresh ≡ true) }
     {
         let room = blank_pages(alloc, checkpoint.pages.len())?;
         Ok(Member {
@@ -115,6 +131,9 @@ impl Member {
             batch: List::new(alloc),
             room,
             behind: false,
+            fresh: true,
+            mirrors: false,
+            touched: true,
         })
     }
 
@@ -132,6 +151,8 @@ impl Member {
         ensures id { self.new.id ≡ self.old.id }
         ensures room { self.new.room ≡ self.old.room }
         ensures behind { self.new.behind ≡ self.old.behind }
+        ensures fresh { self.new.fresh ≡ self.old.fresh }
+        ensures mirrors { self.new.mirrors ≡ self.old.mirrors }
         ensures level { self.new.checkpoint.level ≡ self.old.checkpoint.level }
         ensures levels { self.new.checkpoint.levels ≡ self.old.checkpoint.levels }
         ensures pages { self.new.checkpoint.pages ≡ self.old.checkpoint.pages }
@@ -162,9 +183,15 @@ impl Member {
     {
         let at = self.batch.len();
         self.batch.push(place(self.id, step))?;
-        match give(alloc, &mut self.checkpoint.tables, self.id, &command) {
+        let by = self.id;
+        match give_to(
+            alloc,
+            &mut self.checkpoint.tables,
+            &mut self.touched,
+            by,
+            &command,
+        ) {
             Ok(reply) => {
-                let by = self.id;
                 let entry = Entry {
                     by,
                     step,

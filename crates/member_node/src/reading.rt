@@ -1,17 +1,17 @@
 //! How a member reads the copies, and goes on from what it read.
-ghost use Rattle.std.specs.Prelude.{◌≡◌, ◌+◌, ◌≤◌, ◌<◌, ℕ, List, Some, None, All, [], length, true, false, IfOk, IfErr, IsErrOf, OnOk, OnErr};
+ghost use Rattle.std.specs.Prelude.{◌≡◌, ◌+◌, ◌≤◌, ◌<◌, ℕ, List, Some, None, All, [], length, true, false, IfOk, IfErr, IsErrOf, OnOk, OnErr, nat_lt, slice_set};
 ghost use Rattle.std.specs.List.{list_all};
 ghost use Rattle.mas_types.specs.declared.ids.Dev.{Dev};
 ghost use Rattle.mas_types.specs.declared.ids.Dev.TheVariants.{Ckpt1, Ckpt2};
-ghost use Rattle.mas_types.specs.Limits.{page_bytes, pages_most};
+ghost use Rattle.mas_types.specs.Limits.{members_most, page_bytes, pages_most};
 ghost use Rattle.spool_plant.specs.View.{disk_now};
 ghost use Rattle.ckpt_copy.specs.Pages.{bytes_of, level, page_in};
 ghost use Rattle.ckpt_tables.specs.declared.tables.Tables.{Tables as TablesLem};
 ghost use Rattle.ckpt_pages.specs.Checkpoints.{IsCheckpoint, SpellSome};
-ghost use Rattle.ckpt_tables.specs.Shape.{page_count};
+ghost use Rattle.ckpt_tables.specs.Shape.{level_in, page_count};
+ghost use Rattle.duplex_pair.specs.ActCounts.{after_acts, read_acts};
 ghost use Rattle.duplex_pair.specs.Halves.{SomeAlive};
 ghost use Rattle.duplex_pair.specs.Outcomes.{least_room};
-ghost use Rattle.mas_complex.specs.Fits.{are_same};
 ghost use Rattle.mas_complex.specs.Journals.{kept_all};
 ghost use Rattle.mas_complex.specs.Locking.{MayAct};
 ghost use Rattle.mas_complex.specs.Meaning.{run};
@@ -21,14 +21,18 @@ ghost use Rattle.queue_telling.specs.Telling.{Tell};
 ghost use Rattle.ckpt_places.specs.declared.places.Place.TheVariants.{Before};
 ghost use Rattle.member_node.specs.Calls.{Course};
 ghost use Rattle.member_node.specs.Spares.{Spares};
-ghost use Rattle.member_node.specs.Reads.{ArePagesOf, IsCalm, IsRead, IsReadWhole, MayGoOn, ReadsAs, StandAt, copies_alive, is_job_below, is_output_below};
+ghost use Rattle.member_node.specs.Mirrors.{IsMirror};
+ghost use Rattle.member_node.specs.Wanted.{AreUnchanged, one_if, wanted};
+ghost use Rattle.ckpt_pages.specs.Given.{levels_given};
+ghost use Rattle.ckpt_tables.specs.Pages.{page_in as page_of_list};
+ghost use Rattle.member_node.specs.Reads.{ArePagesOf, IsCalm, IsRead, IsReadWhole, MayGoOn, ReadsAs, StandAt, TookActs, copies_alive, is_job_below, is_output_below};
 
 use crate::member::{Member, NodeNo};
 use ckpt_pages::{PageNo, decode, first_bad, law_of_checkpoints, law_of_levels, levels_of};
-use ckpt_tables::{Tables, law_of_page_sizes};
+use ckpt_tables::{Tables, law_of_page_sizes, level_of};
 use duplex_pair::{PairNo, pages_level};
-use lay_bytes::{JobRec, OutRec};
-use mas_complex::{Complex, Steady, same_pages};
+use lay_bytes::{JobRec, OutRec, is_same_page};
+use mas_complex::{Complex, Steady};
 use mas_types::{Config, Dev, Level, List, MemberId, NoMemory, Page};
 use spool_plant::Plant;
 use std::alloc::Global;
@@ -52,6 +56,7 @@ fn read_one<P: Plant + Drop, C: Steady + Drop>(
     ensures printed { complex.new.printed ≡ complex.old.printed }
     ensures since { complex.new.since ≡ complex.old.since }
     ensures renewals { complex.new.renewals ≡ complex.old.renewals }
+    ensures had { complex.new.had ≡ complex.old.had }
     ensures book { complex.new.book ≡ complex.old.book }
     ensures journal { complex.new.journal ≡ complex.old.journal }
     ensures current { complex.new.current ≡ complex.old.current }
@@ -66,6 +71,9 @@ fn read_one<P: Plant + Drop, C: Steady + Drop>(
         complex.old.pair.second.alive complex.new.pair.second.alive (P.view complex.old.plant)
         (P.view complex.new.plant) result }
     ensures loses { (d : Dev) → (P.view complex.new.plant).loses d ≡ (P.view complex.old.plant).loses d }
+    ensures acts { (P.view complex.new.plant).now ≡ after_acts (read_acts complex.old.pair.first.alive
+        complex.new.pair.first.alive complex.old.pair.second.alive complex.new.pair.second.alive)
+        (P.view complex.old.plant).now }
     ensures page { OnOk result (P.tells → (was : List ℕ)
         → ReadsAs P.tells complex.new.pair.first.alive (C.reads (disk_now (P.view complex.new.plant) Ckpt1).bytes) was
         → ReadsAs P.tells complex.new.pair.second.alive (C.reads (disk_now (P.view complex.new.plant) Ckpt2).bytes) was
@@ -97,6 +105,7 @@ fn read_from<P: Plant + Drop, C: Steady + Drop>(
     ensures printed { complex.new.printed ≡ complex.old.printed }
     ensures since { complex.new.since ≡ complex.old.since }
     ensures renewals { complex.new.renewals ≡ complex.old.renewals }
+    ensures had { complex.new.had ≡ complex.old.had }
     ensures book { complex.new.book ≡ complex.old.book }
     ensures journal { complex.new.journal ≡ complex.old.journal }
     ensures current { complex.new.current ≡ complex.old.current }
@@ -124,6 +133,198 @@ fn read_from<P: Plant + Drop, C: Steady + Drop>(
     Ok(())
 }
 
+// Whether a page is newer than pages of this level, as page 0 gives it.
+fn is_newer(page0: &Page, page: u16, level: Level) -> bool
+    requires { page < 384 }
+    ensures { result ≡ nat_lt level (level_in page0.now.0 page) }
+{
+    level_of(page0, page) > level
+}
+
+// Reads a page where it is newer than the one that stands there, and leaves this one where it isn't. It answers how
+// many pages it read.
+fn read_newer<P: Plant + Drop, C: Steady + Drop>(
+    complex: &mut Complex<P, C>,
+    by: MemberId,
+    page: u16,
+    newer: bool,
+    into: &mut Page,
+) -> Result<u32, NodeNo>
+    requires may { MayAct complex.old.book by }
+    requires first { complex.old.first ≡ Before }
+    requires second { complex.old.second ≡ Before }
+    requires page1 { complex.old.pair.first.alive ≡ true → page < C.count complex.old.pair.first.copy }
+    requires page2 { complex.old.pair.second.alive ≡ true → page < C.count complex.old.pair.second.copy }
+    requires alive { SomeAlive complex.old.pair.first.alive complex.old.pair.second.alive }
+    ensures base { complex.new.base ≡ complex.old.base }
+    ensures printed { complex.new.printed ≡ complex.old.printed }
+    ensures since { complex.new.since ≡ complex.old.since }
+    ensures renewals { complex.new.renewals ≡ complex.old.renewals }
+    ensures had { complex.new.had ≡ complex.old.had }
+    ensures book { complex.new.book ≡ complex.old.book }
+    ensures journal { complex.new.journal ≡ complex.old.journal }
+    ensures current { complex.new.current ≡ complex.old.current }
+    ensures reserved { complex.new.reserved ≡ complex.old.reserved }
+    ensures placed { complex.new.placed ≡ complex.old.placed }
+    ensures first { complex.new.first ≡ complex.old.first }
+    ensures second { complex.new.second ≡ complex.old.second }
+    ensures level { complex.new.level ≡ complex.old.level }
+    ensures copy1 { complex.new.pair.first.copy ≡ complex.old.pair.first.copy }
+    ensures copy2 { complex.new.pair.second.copy ≡ complex.old.pair.second.copy }
+    ensures count { IfOk result (λ count. count ≡ one_if newer) }
+    ensures stays { newer ≡ false → into.new ≡ into.old }
+    ensures read { IsRead P.tells by.0 complex.old.pair.first.alive complex.new.pair.first.alive
+        complex.old.pair.second.alive complex.new.pair.second.alive (P.view complex.old.plant)
+        (P.view complex.new.plant) result }
+    ensures loses { (d : Dev) → (P.view complex.new.plant).loses d ≡ (P.view complex.old.plant).loses d }
+    ensures acts { IfOk result (λ count.
+        TookActs count complex.old.pair.first.alive complex.new.pair.first.alive complex.old.pair.second.alive
+        complex.new.pair.second.alive (P.view complex.old.plant) (P.view complex.new.plant)) }
+    ensures page { OnOk result (newer ≡ true → P.tells → (was : List ℕ)
+        → ReadsAs P.tells complex.new.pair.first.alive (C.reads (disk_now (P.view complex.new.plant) Ckpt1).bytes) was
+        → ReadsAs P.tells complex.new.pair.second.alive (C.reads (disk_now (P.view complex.new.plant) Ckpt2).bytes) was
+        → into.new.0 ≡ page_in page was) }
+{
+    if !newer {
+        return Ok(0);
+    }
+    read_one(complex, by, page, into)?;
+    Ok(1)
+}
+
+// Reads the pages whose level exceeds this one, by page 0. It answers how many it read.
+//
+// Where each other page is as each copy reads it that counts as alive, what these read stands in all of them then.
+fn read_above<P: Plant + Drop, C: Steady + Drop>(
+    complex: &mut Complex<P, C>,
+    by: MemberId,
+    room: &mut [Page],
+    level: Level,
+) -> Result<u32, NodeNo>
+    requires may { MayAct complex.old.book by }
+    requires calm1 { IsCalm complex.old.pair.first.alive complex.old.first (C.count complex.old.pair.first.copy)
+        (length room.old) }
+    requires calm2 { IsCalm complex.old.pair.second.alive complex.old.second (C.count complex.old.pair.second.copy)
+        (length room.old) }
+    requires some { 2 ≤ length room.old }
+    requires few { length room.old ≤ pages_most }
+    requires alive { SomeAlive complex.old.pair.first.alive complex.old.pair.second.alive }
+    ensures base { complex.new.base ≡ complex.old.base }
+    ensures printed { complex.new.printed ≡ complex.old.printed }
+    ensures since { complex.new.since ≡ complex.old.since }
+    ensures renewals { complex.new.renewals ≡ complex.old.renewals }
+    ensures had { complex.new.had ≡ complex.old.had }
+    ensures book { complex.new.book ≡ complex.old.book }
+    ensures journal { complex.new.journal ≡ complex.old.journal }
+    ensures current { complex.new.current ≡ complex.old.current }
+    ensures reserved { complex.new.reserved ≡ complex.old.reserved }
+    ensures placed { complex.new.placed ≡ complex.old.placed }
+    ensures first { complex.new.first ≡ complex.old.first }
+    ensures second { complex.new.second ≡ complex.old.second }
+    ensures level { complex.new.level ≡ complex.old.level }
+    ensures copy1 { complex.new.pair.first.copy ≡ complex.old.pair.first.copy }
+    ensures copy2 { complex.new.pair.second.copy ≡ complex.old.pair.second.copy }
+    ensures many { length room.new ≡ length room.old }
+    ensures header { OnOk result (page_of_list room.new 0 ≡ page_of_list room.old 0) }
+    ensures none { IfOk result (λ count. count ≡ 0 → (q : ℕ) → page_of_list room.new q ≡ page_of_list room.old q) }
+    ensures count { IfOk result (λ count. count ≡ length (wanted level (levels_given room.new))) }
+    ensures read { IsRead P.tells by.0 complex.old.pair.first.alive complex.new.pair.first.alive
+        complex.old.pair.second.alive complex.new.pair.second.alive (P.view complex.old.plant)
+        (P.view complex.new.plant) result }
+    ensures loses { (d : Dev) → (P.view complex.new.plant).loses d ≡ (P.view complex.old.plant).loses d }
+    ensures acts { IfOk result (λ count.
+        TookActs count complex.old.pair.first.alive complex.new.pair.first.alive complex.old.pair.second.alive
+        complex.new.pair.second.alive (P.view complex.old.plant) (P.view complex.new.plant)) }
+    ensures pages { OnOk result (P.tells → (was : List ℕ)
+        → ReadsAs P.tells complex.old.pair.first.alive (C.reads (disk_now (P.view complex.old.plant) Ckpt1).bytes) was
+        → ReadsAs P.tells complex.old.pair.second.alive (C.reads (disk_now (P.view complex.old.plant) Ckpt2).bytes) was
+        → ArePagesOf 0 1 was room.old → AreUnchanged (length room.old) level room.old was
+        → ArePagesOf 1 (length room.new) was room.new) }
+{
+    let mut count = 0;
+    for page in 1..room.len() {
+        let newer = is_newer(&room[0], page as u16, level);
+        let read = read_newer(complex, by, page as u16, newer, &mut room[page])?;
+        count += read;
+    }
+    Ok(count)
+}
+
+// Gives the room the member's own pages, except page 0, unless it has them.
+fn mirror(room: &mut [Page], own: &[Page], mirrors: bool)
+    requires many { length own.now ≡ length room.old }
+    requires mirrors { mirrors ≡ true → IsMirror room.old own.now }
+    ensures many { length room.new ≡ length room.old }
+    ensures header { page_of_list room.new 0 ≡ page_of_list room.old 0 }
+    ensures mirrors { IsMirror room.new own.now }
+{
+    if mirrors {
+        return;
+    }
+    for page in 1..room.len() {
+        room[page] = own[page];
+    }
+}
+
+// Reads the pages whose level exceeds this one, by page 0, and takes each other page from the member's own, where the
+// room doesn't mirror these. It answers how many it read.
+//
+// Where the member's own pages were the kept ones of this level, or this is 0, what each copy read that counted as
+// alive stands in them then.
+fn read_wanted<P: Plant + Drop, C: Steady + Drop>(
+    complex: &mut Complex<P, C>,
+    by: MemberId,
+    room: &mut [Page],
+    own: &[Page],
+    level: Level,
+    mirrors: bool,
+) -> Result<u32, NodeNo>
+    requires may { MayAct complex.old.book by }
+    requires calm1 { IsCalm complex.old.pair.first.alive complex.old.first (C.count complex.old.pair.first.copy)
+        (length room.old) }
+    requires calm2 { IsCalm complex.old.pair.second.alive complex.old.second (C.count complex.old.pair.second.copy)
+        (length room.old) }
+    requires some { 2 ≤ length room.old }
+    requires few { length room.old ≤ pages_most }
+    requires as_many { length own.now ≡ length room.old }
+    requires mirrors { mirrors ≡ true → IsMirror room.old own.now }
+    requires alive { SomeAlive complex.old.pair.first.alive complex.old.pair.second.alive }
+    ensures base { complex.new.base ≡ complex.old.base }
+    ensures printed { complex.new.printed ≡ complex.old.printed }
+    ensures since { complex.new.since ≡ complex.old.since }
+    ensures renewals { complex.new.renewals ≡ complex.old.renewals }
+    ensures had { complex.new.had ≡ complex.old.had }
+    ensures book { complex.new.book ≡ complex.old.book }
+    ensures journal { complex.new.journal ≡ complex.old.journal }
+    ensures current { complex.new.current ≡ complex.old.current }
+    ensures reserved { complex.new.reserved ≡ complex.old.reserved }
+    ensures placed { complex.new.placed ≡ complex.old.placed }
+    ensures first { complex.new.first ≡ complex.old.first }
+    ensures second { complex.new.second ≡ complex.old.second }
+    ensures level { complex.new.level ≡ complex.old.level }
+    ensures copy1 { complex.new.pair.first.copy ≡ complex.old.pair.first.copy }
+    ensures copy2 { complex.new.pair.second.copy ≡ complex.old.pair.second.copy }
+    ensures many { length room.new ≡ length room.old }
+    ensures header { OnOk result (page_of_list room.new 0 ≡ page_of_list room.old 0) }
+    ensures none { IfOk result (λ count. count ≡ 0 → IsMirror room.new own.now) }
+    ensures count { IfOk result (λ count. count ≡ length (wanted level (levels_given room.new))) }
+    ensures read { IsRead P.tells by.0 complex.old.pair.first.alive complex.new.pair.first.alive
+        complex.old.pair.second.alive complex.new.pair.second.alive (P.view complex.old.plant)
+        (P.view complex.new.plant) result }
+    ensures loses { (d : Dev) → (P.view complex.new.plant).loses d ≡ (P.view complex.old.plant).loses d }
+    ensures acts { IfOk result (λ count.
+        TookActs count complex.old.pair.first.alive complex.new.pair.first.alive complex.old.pair.second.alive
+        complex.new.pair.second.alive (P.view complex.old.plant) (P.view complex.new.plant)) }
+    ensures pages { OnOk result (P.tells → (was : List ℕ)
+        → ReadsAs P.tells complex.old.pair.first.alive (C.reads (disk_now (P.view complex.old.plant) Ckpt1).bytes) was
+        → ReadsAs P.tells complex.old.pair.second.alive (C.reads (disk_now (P.view complex.old.plant) Ckpt2).bytes) was
+        → ArePagesOf 0 1 was room.old → AreUnchanged (length room.old) level own.now was
+        → ArePagesOf 1 (length room.new) was room.new) }
+{
+    mirror(room, own, mirrors);
+    read_above(complex, by, room, level)
+}
+
 // Loses the copy that pages are read from.
 fn lose_source<P: Plant + Drop, C: Steady + Drop>(complex: &mut Complex<P, C>)
     requires some { SomeAlive complex.old.pair.first.alive complex.old.pair.second.alive }
@@ -131,6 +332,7 @@ fn lose_source<P: Plant + Drop, C: Steady + Drop>(complex: &mut Complex<P, C>)
     ensures printed { complex.new.printed ≡ complex.old.printed }
     ensures since { complex.new.since ≡ complex.old.since }
     ensures renewals { complex.new.renewals ≡ complex.old.renewals }
+    ensures had { complex.new.had ≡ complex.old.had }
     ensures book { complex.new.book ≡ complex.old.book }
     ensures journal { complex.new.journal ≡ complex.old.journal }
     ensures current { complex.new.current ≡ complex.old.current }
@@ -162,6 +364,7 @@ fn lose_read<P: Plant + Drop, C: Steady + Drop>(complex: &mut Complex<P, C>) -> 
     ensures printed { complex.new.printed ≡ complex.old.printed }
     ensures since { complex.new.since ≡ complex.old.since }
     ensures renewals { complex.new.renewals ≡ complex.old.renewals }
+    ensures had { complex.new.had ≡ complex.old.had }
     ensures book { complex.new.book ≡ complex.old.book }
     ensures journal { complex.new.journal ≡ complex.old.journal }
     ensures current { complex.new.current ≡ complex.old.current }
@@ -178,6 +381,7 @@ fn lose_read<P: Plant + Drop, C: Steady + Drop>(complex: &mut Complex<P, C>) -> 
         complex.old.pair.second.alive complex.new.pair.second.alive (P.view complex.old.plant)
         (P.view complex.new.plant) result }
     ensures only { IfErr result (λ e. e ≡ no_node.BothLost) }
+    ensures untold { P.tells → ⊥ }
 {
     lose_source(complex);
     if complex.pair.first.alive {
@@ -189,30 +393,39 @@ fn lose_read<P: Plant + Drop, C: Steady + Drop>(complex: &mut Complex<P, C>) -> 
     Err(NodeNo::BothLost)
 }
 
-// Whether these pages spell tables. They need no test where they are alike to pages that do, which is noted.
-fn spells(room: &[Page], own: &[Page], alike: &mut bool) -> bool
-    requires own { SpellSome own.now }
+// Whether these pages are byte for byte the member's own, of which they have each but page 0 where they mirror them.
+fn are_own(room: &[Page], own: &[Page], mirrors: bool) -> bool
+    requires many { length room.now ≡ length own.now }
+    requires some { 1 ≤ length own.now }
+    requires mirrors { mirrors ≡ true → IsMirror room.now own.now }
+    ensures { result ≡ true → room.now ≡ own.now }
+{
+    if !mirrors {
+        return false;
+    }
+    is_same_page(&room[0], &own[0])
+}
+
+// Whether these pages spell tables. They need no test where they are alike to pages that do.
+fn spells(room: &[Page], alike: bool) -> bool
+    requires { alike ≡ true → SpellSome room.now }
     ensures good { result ≡ true → SpellSome room.now }
     ensures bad { result ≡ false → SpellSome room.now → ⊥ }
-    ensures alike { alike.new ≡ are_same room.now own.now }
 {
-    let same = same_pages(room, own);
-    *alike = same;
-    if same {
+    if alike {
         return true;
     }
     first_bad(room).is_none()
 }
 
-// Whether the pages that were read spell tables, as the member's own do, with a note of whether they are alike to
-// these. Where content is told they do, and stand for the queue after the kept batches.
+// Whether the pages that were read spell tables, as pages do that are alike to the member's own. Where content is told
+// they do, and stand for the queue after the kept batches.
 fn are_spelled<P: Plant + Drop, C: Steady + Drop>(
     complex: &Complex<P, C>,
     room: &[Page],
-    own: &[Page],
-    alike: &mut bool,
+    alike: bool,
 ) -> bool
-    requires own { SpellSome own.now }
+    requires own { alike ≡ true → SpellSome room.now }
     requires config { P.tells → page_count (run complex.now.base (kept_all complex.now.journal.batches)).config
         ≡ length room.now }
     requires read { P.tells → ∥ IsReadWhole (run complex.now.base (kept_all complex.now.journal.batches))
@@ -221,7 +434,6 @@ fn are_spelled<P: Plant + Drop, C: Steady + Drop>(
         (C.reads (disk_now (P.view complex.now.plant) Ckpt2).bytes) room.now ∥₁ }
     ensures good { result ≡ true → SpellSome room.now }
     ensures bad { result ≡ false → P.tells → ⊥ }
-    ensures alike { alike.new ≡ are_same room.now own.now }
     ensures reads1 { ReadsAs P.tells complex.now.pair.first.alive
         (C.reads (disk_now (P.view complex.now.plant) Ckpt1).bytes) (bytes_of room.now) }
     ensures reads2 { ReadsAs P.tells complex.now.pair.second.alive
@@ -229,7 +441,7 @@ fn are_spelled<P: Plant + Drop, C: Steady + Drop>(
     ensures stand { P.tells → ∥ StandAt (run complex.now.base (kept_all complex.now.journal.batches)) complex.now.level
         room.now ∥₁ }
 {
-    spells(room, own, alike)
+    spells(room, alike)
 }
 
 // The orders of the jobs are below this one.
@@ -275,13 +487,16 @@ fn may_go_on(config: &Config, pages: &[Page], tables: &Tables) -> bool
 
 impl Member {
     ghost use Rattle.member_node.specs.Copies.{RestsAt};
-    ghost use Rattle.member_node.specs.Drawn.{AreDrawn};
+    ghost use Rattle.member_node.specs.Drawn.{AreAsDrawn, AreDrawn};
     ghost use Rattle.member_node.specs.Reads.{IsReadIn, IsSettle, IsUpTo, ReadsLow, pages_had, too_high};
+    ghost use Rattle.member_node.specs.Wanted.{HasHad, level_had};
+    ghost use Rattle.mas_complex.specs.Past.{HasNoted, values_of};
 
     /// The first read: page 0, from CKPT1 while its copy counts as alive, else from CKPT2. The member holds the lock.
     ///
-    /// BothLost comes only where both copies count as lost at the end of the call, Halted only where the member was
-    /// stopped in it. The member's tables are as they were.
+    /// It makes one act, and one more on CKPT2 where CKPT1 fails in it. BothLost comes only where both copies count as
+    /// lost at the end of the call, Halted only where the member was stopped in it. The member's tables are as they
+    /// were.
     pub fn first_read<P: Plant + Drop, C: Steady + Drop>(
         &mut self,
         complex: &mut Complex<P, C>,
@@ -296,6 +511,7 @@ impl Member {
         ensures printed { complex.new.printed ≡ complex.old.printed }
         ensures since { complex.new.since ≡ complex.old.since }
         ensures renewals { complex.new.renewals ≡ complex.old.renewals }
+        ensures had { complex.new.had ≡ complex.old.had }
         ensures book { complex.new.book ≡ complex.old.book }
         ensures journal { complex.new.journal ≡ complex.old.journal }
         ensures current { complex.new.current ≡ complex.old.current }
@@ -311,10 +527,14 @@ impl Member {
         ensures batch { self.new.batch ≡ self.old.batch }
         ensures as_many { length self.new.room ≡ length self.old.room }
         ensures behind { self.new.behind ≡ false }
+        ensures fresh { self.new.fresh ≡ self.old.fresh }
         ensures read { IsRead P.tells self.old.id.0 complex.old.pair.first.alive complex.new.pair.first.alive
             complex.old.pair.second.alive complex.new.pair.second.alive (P.view complex.old.plant)
             (P.view complex.new.plant) result }
         ensures loses { (d : Dev) → (P.view complex.new.plant).loses d ≡ (P.view complex.old.plant).loses d }
+        ensures acts { (P.view complex.new.plant).now ≡ after_acts (read_acts complex.old.pair.first.alive
+            complex.new.pair.first.alive complex.old.pair.second.alive complex.new.pair.second.alive)
+            (P.view complex.old.plant).now }
         ensures page { OnOk result (P.tells → (was : List ℕ)
             → ReadsAs P.tells complex.new.pair.first.alive (C.reads (disk_now (P.view complex.new.plant) Ckpt1).bytes)
             was → ReadsAs P.tells complex.new.pair.second.alive
@@ -325,11 +545,12 @@ impl Member {
         read_one(complex, self.id, 0, &mut room[0])
     }
 
-    /// The second read, after the first one: all other pages. It answers their number. Their bytes come into the
-    /// member's room, and their spelling is tested, unless they are byte for byte the member's own pages, which is
-    /// noted in `alike`. Its tables are as they were, until `catch_up` brings them up to these pages. A copy from which
-    /// a page came that is no spelling is lost, and all is read again from the other one. Where content is told that
-    /// doesn't come.
+    /// The second read, after the first one: exactly the other pages whose level, as page 0 gives it, exceeds that of
+    /// the member's own, or all of them where it has read nothing yet. It answers their number, and makes as many acts,
+    /// and one more for each copy that fails in it. Their bytes come into the member's room, beside its own pages. The
+    /// spelling is tested, unless none was read and page 0 is its own too, byte for byte, which is noted in `alike`.
+    /// Its tables are as they were, until `catch_up` brings them up to these pages. A copy from which a page came that
+    /// is no spelling is lost, and all is read again from the other one. Where content is told that doesn't come.
     ///
     /// After Ok the pages in the room are those that each copy reads which counts as alive, and stand for the queue
     /// after the kept batches. BothLost comes only where both copies count as lost at the end of the call, Halted only
@@ -350,6 +571,11 @@ impl Member {
             (length self.old.room) }
         requires config { P.tells → page_count (run complex.old.base (kept_all complex.old.journal.batches)).config
             ≡ length self.old.room }
+        requires many { length self.old.room ≡ length self.old.checkpoint.pages }
+        requires same_config { P.tells → complex.old.base.config ≡ self.old.checkpoint.tables.config }
+        requires alive { SomeAlive complex.old.pair.first.alive complex.old.pair.second.alive }
+        requires noted { HasHad P.tells self.old.fresh (values_of complex.old.had) self.old.id.0
+            self.old.checkpoint.pages }
         requires page { P.tells → (was : List ℕ)
             → ReadsAs P.tells complex.old.pair.first.alive (C.reads (disk_now (P.view complex.old.plant) Ckpt1).bytes)
             was → ReadsAs P.tells complex.old.pair.second.alive
@@ -358,6 +584,7 @@ impl Member {
         ensures printed { complex.new.printed ≡ complex.old.printed }
         ensures since { complex.new.since ≡ complex.old.since }
         ensures renewals { complex.new.renewals ≡ complex.old.renewals }
+        ensures had { complex.new.had ≡ complex.old.had }
         ensures book { complex.new.book ≡ complex.old.book }
         ensures journal { complex.new.journal ≡ complex.old.journal }
         ensures current { complex.new.current ≡ complex.old.current }
@@ -376,10 +603,15 @@ impl Member {
             complex.old.pair.second.alive complex.new.pair.second.alive (P.view complex.old.plant)
             (P.view complex.new.plant) result }
         ensures err { OnErr result (self.new.behind ≡ false) }
-        ensures count { IfOk result (λ count. count + 1 ≡ length self.new.room) }
+        ensures count { IfOk result (λ count. P.tells → count
+            ≡ length (wanted (level_had self.old.fresh self.old.checkpoint.level) (levels_given self.new.room))) }
+        ensures fresh { self.new.fresh ≡ self.old.fresh }
         ensures behind { OnOk result (self.new.behind ≡ true) }
         ensures spelled { OnOk result (SpellSome self.new.room) }
-        ensures alike { OnOk result (alike.new ≡ are_same self.new.room self.new.checkpoint.pages) }
+        ensures acts { IfOk result (λ count. P.tells
+            → TookActs count complex.old.pair.first.alive complex.new.pair.first.alive complex.old.pair.second.alive
+            complex.new.pair.second.alive (P.view complex.old.plant) (P.view complex.new.plant)) }
+        ensures alike { OnOk result (alike.new ≡ true → self.new.room ≡ self.new.checkpoint.pages) }
         ensures rests1 { OnOk result (RestsAt P.tells complex.new.pair.first.alive complex.new.first
             (C.count complex.new.pair.first.copy) self.new.room
             (C.reads (disk_now (P.view complex.new.plant) Ckpt1).bytes)) }
@@ -390,21 +622,33 @@ impl Member {
             → ∥ StandAt (run complex.new.base (kept_all complex.new.journal.batches)) complex.new.level self.new.room
             ∥₁) }
     {
+        let mirrors = self.mirrors;
+        self.mirrors = false;
         self.behind = false;
         let by = self.id;
+        let level = self.level();
         complex.kept_pages();
-        read_from(complex, by, self.room.as_mut_slice(), 1)?;
-        while !are_spelled(
-            complex,
-            self.room.as_slice(),
-            self.checkpoint.pages.as_slice(),
-            alike,
-        ) {
+        law_of_levels();
+        let own = self.checkpoint.pages.as_slice();
+        let count = read_wanted(complex, by, self.room.as_mut_slice(), own, level, mirrors)?;
+        let read = self.room.as_slice();
+        *alike = are_own(read, own, count == 0);
+        'spelled: while !are_spelled(complex, self.room.as_slice(), *alike) {
             lose_read(complex)?;
-            read_from(complex, by, self.room.as_mut_slice(), 0)?;
+            *alike = false;
+            self.mirrors = false;
+            let room = self.room.as_mut_slice();
+            read_from(complex, by, room, 0)?;
         }
         self.behind = true;
-        Ok(self.room.len() as u32 - 1)
+        Ok(count)
+    }
+
+    // The level of its pages: 0 where it has read nothing yet.
+    fn level(&self) -> Level
+        ensures { result ≡ level_had self.now.fresh self.now.checkpoint.level }
+    {
+        if self.fresh { 0 } else { self.checkpoint.level }
     }
 
     // The pages that it has: those that it read last, or those of its tables.
@@ -439,6 +683,7 @@ impl Member {
         ensures printed { complex.new.printed ≡ complex.old.printed }
         ensures since { complex.new.since ≡ complex.old.since }
         ensures renewals { complex.new.renewals ≡ complex.old.renewals }
+        ensures had { complex.new.had ≡ complex.old.had }
         ensures book { complex.new.book ≡ complex.old.book }
         ensures journal { complex.new.journal ≡ complex.old.journal }
         ensures current { complex.new.current ≡ complex.old.current }
@@ -475,7 +720,7 @@ impl Member {
     /// orders that aren't below the next one, or too high ones. The member is as it was then, and where nothing was
     /// read.
     ///
-    /// Its tables are those that its own pages were drawn from: where it read the same bytes, which is `alike`, they
+    /// Its tables are those that its own pages were drawn from: where it read the same bytes, which `alike` says, they
     /// are up already, and stay.
     ///
     /// NoMemory leaves the member as it was.
@@ -484,7 +729,7 @@ impl Member {
             self.old.checkpoint.pages }
         requires spelled { self.old.behind ≡ true → SpellSome self.old.room }
         requires few { length self.old.room ≤ pages_most }
-        requires alike { alike ≡ are_same self.old.room self.old.checkpoint.pages }
+        requires alike { alike ≡ true → self.old.room ≡ self.old.checkpoint.pages }
         ensures id { self.new.id ≡ self.old.id }
         ensures batch { self.new.batch ≡ self.old.batch }
         ensures err { OnErr result (self.new ≡ self.old) }
@@ -495,6 +740,7 @@ impl Member {
         ensures up { IfOk result (λ up. up ≡ true → self.old.behind ≡ true
             → IsUpTo self.old.checkpoint.tables.config self.old.room self.new.checkpoint) }
         ensures here { IfOk result (λ up. up ≡ true → self.new.behind ≡ false) }
+        ensures fresh { IfOk result (λ up. up ≡ true → self.old.behind ≡ true → self.new.fresh ≡ false) }
         ensures as_many { length self.old.checkpoint.pages ≡ length self.old.room
             → length self.new.room ≡ length self.old.room }
     {
@@ -525,7 +771,7 @@ impl Member {
     fn stay_up(&mut self) -> bool
         requires drawn { AreDrawn self.old.checkpoint.tables self.old.checkpoint.level self.old.checkpoint.levels
             self.old.checkpoint.pages }
-        requires same { are_same self.old.room self.old.checkpoint.pages ≡ true }
+        requires same { self.old.room ≡ self.old.checkpoint.pages }
         ensures id { self.new.id ≡ self.old.id }
         ensures batch { self.new.batch ≡ self.old.batch }
         ensures room { self.new.room ≡ self.old.room }
@@ -534,6 +780,7 @@ impl Member {
             → MayGoOn self.old.checkpoint.tables.config self.old.room t → ⊥) }
         ensures up { result ≡ true → IsUpTo self.old.checkpoint.tables.config self.old.room self.new.checkpoint }
         ensures here { result ≡ true → self.new.behind ≡ false }
+        ensures fresh { result ≡ true → self.new.fresh ≡ false }
     {
         let pages = self.room.as_slice();
         let tables = &self.checkpoint.tables;
@@ -541,6 +788,8 @@ impl Member {
             return false;
         }
         self.behind = false;
+        self.fresh = false;
+        self.mirrors = true;
         true
     }
 
@@ -556,6 +805,7 @@ impl Member {
         alloc: Global,
         complex: &mut Complex<P, C>,
     ) -> Result<(), NodeNo>
+        requires by { self.old.id.0 ≤ members_most }
         requires drawn { AreDrawn self.old.checkpoint.tables self.old.checkpoint.level self.old.checkpoint.levels
             self.old.checkpoint.pages }
         requires may { MayAct complex.old.book self.old.id }
@@ -574,6 +824,9 @@ impl Member {
         requires low2 { ReadsLow P.tells complex.old.pair.second.alive self.old.checkpoint.tables.config
             (length complex.old.journal.batches) (C.reads (disk_now (P.view complex.old.plant) Ckpt2).bytes) }
         requires level { complex.old.level < too_high }
+        requires same_config { P.tells → complex.old.base.config ≡ self.old.checkpoint.tables.config }
+        requires noted { HasHad P.tells self.old.fresh (values_of complex.old.had) self.old.id.0
+            self.old.checkpoint.pages }
         ensures base { complex.new.base ≡ complex.old.base }
         ensures printed { complex.new.printed ≡ complex.old.printed }
         ensures since { complex.new.since ≡ complex.old.since }
@@ -593,7 +846,18 @@ impl Member {
         ensures read { IsReadIn P.tells self.old.id.0 complex.old.pair.first.alive complex.new.pair.first.alive
             complex.old.pair.second.alive complex.new.pair.second.alive (P.view complex.old.plant)
             (P.view complex.new.plant) result }
+        ensures acts { OnOk result (P.tells → TookActs
+            (1 + length (wanted (level_had self.old.fresh self.old.checkpoint.level)
+            (levels_given self.new.checkpoint.pages)))
+            complex.old.pair.first.alive complex.new.pair.first.alive complex.old.pair.second.alive
+            complex.new.pair.second.alive (P.view complex.old.plant) (P.view complex.new.plant)) }
         ensures here { OnOk result (self.new.behind ≡ false) }
+        ensures own { OnOk result ((self.new.fresh ≡ false)
+            × HasNoted (values_of complex.new.had) self.new.id.0 self.new.checkpoint.pages) }
+        ensures noted { OnOk result ((self.new.fresh ≡ false)
+            × (values_of complex.new.had
+            ≡ slice_set (values_of complex.old.had) self.old.id.0 self.new.checkpoint.pages)) }
+        ensures noted_err { OnErr result (complex.new.had ≡ complex.old.had) }
         ensures as_many { OnOk result (length self.new.checkpoint.pages ≡ length self.old.room) }
         ensures many { OnOk result (length self.new.room ≡ length self.new.checkpoint.pages) }
         ensures up { OnOk result (IsUpTo self.old.checkpoint.tables.config self.new.checkpoint.pages
@@ -615,6 +879,7 @@ impl Member {
             lose_read(complex)?;
             self.read_all(complex, &mut alike)?;
         }
+        complex.note_pages(self.id, &self.checkpoint.pages);
         Ok(())
     }
 
@@ -635,10 +900,15 @@ impl Member {
             (length self.old.room) }
         requires config { P.tells → page_count (run complex.old.base (kept_all complex.old.journal.batches)).config
             ≡ length self.old.room }
+        requires many { length self.old.room ≡ length self.old.checkpoint.pages }
+        requires same_config { P.tells → complex.old.base.config ≡ self.old.checkpoint.tables.config }
+        requires noted { HasHad P.tells self.old.fresh (values_of complex.old.had) self.old.id.0
+            self.old.checkpoint.pages }
         ensures base { complex.new.base ≡ complex.old.base }
         ensures printed { complex.new.printed ≡ complex.old.printed }
         ensures since { complex.new.since ≡ complex.old.since }
         ensures renewals { complex.new.renewals ≡ complex.old.renewals }
+        ensures had { complex.new.had ≡ complex.old.had }
         ensures book { complex.new.book ≡ complex.old.book }
         ensures journal { complex.new.journal ≡ complex.old.journal }
         ensures current { complex.new.current ≡ complex.old.current }
@@ -657,8 +927,13 @@ impl Member {
             complex.old.pair.second.alive complex.new.pair.second.alive (P.view complex.old.plant)
             (P.view complex.new.plant) result }
         ensures behind { OnOk result (self.new.behind ≡ true) }
+        ensures fresh { self.new.fresh ≡ self.old.fresh }
         ensures spelled { OnOk result (SpellSome self.new.room) }
-        ensures alike { OnOk result (alike.new ≡ are_same self.new.room self.new.checkpoint.pages) }
+        ensures acts { OnOk result (P.tells → TookActs
+            (1 + length (wanted (level_had self.old.fresh self.old.checkpoint.level) (levels_given self.new.room)))
+            complex.old.pair.first.alive complex.new.pair.first.alive complex.old.pair.second.alive
+            complex.new.pair.second.alive (P.view complex.old.plant) (P.view complex.new.plant)) }
+        ensures alike { OnOk result (alike.new ≡ true → self.new.room ≡ self.new.checkpoint.pages) }
         ensures rests1 { OnOk result (RestsAt P.tells complex.new.pair.first.alive complex.new.first
             (C.count complex.new.pair.first.copy) self.new.room
             (C.reads (disk_now (P.view complex.new.plant) Ckpt1).bytes)) }
@@ -680,7 +955,7 @@ impl Member {
             self.old.checkpoint.pages }
         requires spelled { self.old.behind ≡ true → SpellSome self.old.room }
         requires few { length self.old.room ≤ pages_most }
-        requires alike { alike ≡ are_same self.old.room self.old.checkpoint.pages }
+        requires alike { alike ≡ true → self.old.room ≡ self.old.checkpoint.pages }
         ensures id { self.new.id ≡ self.old.id }
         ensures batch { self.new.batch ≡ self.old.batch }
         ensures only { IfErr result (λ e. e ≡ no_node.NoMemory) }
@@ -690,6 +965,7 @@ impl Member {
         ensures up { IfOk result (λ up. up ≡ true → self.old.behind ≡ true
             → IsUpTo self.old.checkpoint.tables.config self.old.room self.new.checkpoint) }
         ensures here { IfOk result (λ up. up ≡ true → self.new.behind ≡ false) }
+        ensures fresh { IfOk result (λ up. up ≡ true → self.old.behind ≡ true → self.new.fresh ≡ false) }
         ensures as_many { length self.old.checkpoint.pages ≡ length self.old.room
             → length self.new.room ≡ length self.old.room }
         ensures sized { All (λ page. length page.0 ≡ page_bytes) self.old.room }
@@ -703,6 +979,7 @@ impl Member {
 
     // Takes the pages of the member's room, which spell these tables with these levels.
     fn take_up(&mut self, alloc: Global, tables: Tables, levels: List<Level>)
+        requires { AreAsDrawn tables levels self.old.room }
         ensures id { self.new.id ≡ self.old.id }
         ensures batch { self.new.batch ≡ self.old.batch }
         ensures tables { self.new.checkpoint.tables ≡ tables }
@@ -711,12 +988,16 @@ impl Member {
         ensures pages { self.new.checkpoint.pages ≡ self.old.room }
         ensures room { self.new.room ≡ self.old.checkpoint.pages }
         ensures behind { self.new.behind ≡ false }
+        ensures fresh { self.new.fresh ≡ false }
     {
+        self.mirrors = false;
         self.checkpoint.level = pages_level(self.room.as_slice());
         self.checkpoint.tables = tables;
         self.checkpoint.levels = levels;
         let read = std::mem::replace(&mut self.room, List::new(alloc));
         self.room = std::mem::replace(&mut self.checkpoint.pages, read);
         self.behind = false;
+        self.fresh = false;
+        self.touched = false;
     }
 }

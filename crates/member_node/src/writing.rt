@@ -1,8 +1,10 @@
 //! How a member's batch is written.
-ghost use Rattle.std.specs.Prelude.{◌≡◌, ◌⊎◌, ◌+◌, ◌≤◌, ◌<◌, ◌^◌, ◌++◌, [], ◌∷◌, ℕ, List, Some, None, All, length, true, false, IfOk, OnOk, OnErr, IsErrOf, IsSome};
+ghost use Rattle.std.specs.Prelude.{◌≡◌, ◌⊎◌, ◌+◌, ◌≤◌, ◌<◌, ◌^◌, ◌++◌, [], ◌∷◌, ℕ, List, Some, None, All, length, true, false, IfOk, OnOk, OnErr, IsErrOf, IsSome, slice_set};
 ghost use Rattle.mas_types.specs.declared.ids.Dev.{Dev};
 ghost use Rattle.mas_types.specs.declared.ids.Dev.TheVariants.{Ckpt1, Ckpt2};
 ghost use Rattle.mas_types.specs.declared.ids.MemberId.{MemberId};
+ghost use Rattle.mas_types.specs.Limits.{members_most};
+ghost use Rattle.ckpt_tables.specs.Shape.{page_count};
 ghost use Rattle.mas_types.specs.declared.journals.Batch.{Batch};
 ghost use Rattle.mas_types.specs.declared.journals.Fate.TheVariants.{Kept};
 ghost use Rattle.spool_plant.specs.declared.plant.Part.TheVariants.{Console};
@@ -18,9 +20,10 @@ ghost use Rattle.mas_complex.specs.Texts.{HasTexts, lost_now, spools_at};
 ghost use Rattle.mas_complex.specs.Replies.{HaveReplies};
 ghost use Rattle.member_node.specs.declared.member.NodeNo.TheVariants.{Halted};
 ghost use Rattle.mas_complex.specs.Paper.{MayBegin, printed_after};
+ghost use Rattle.mas_complex.specs.Past.{HasNoted, values_of};
 
 use crate::batch::commit;
-use crate::checkpoint::{Draft, is_spelling, redraw};
+use crate::checkpoint::{Draft, drafted, is_same, is_spelling, redraw};
 use crate::member::{Member, NodeNo};
 use duplex_pair::PairNo;
 use mas_complex::{Complex, Steady};
@@ -35,12 +38,15 @@ impl Member {
     ghost use Rattle.member_node.specs.Lines.{said_as, IsAnswerOfSay};
     ghost use Rattle.member_node.specs.Writes.{IsWrite};
 
-    /// Whether the write of its batch changes a page.
+    /// Whether the write of its batch changes a page. Nothing is drawn where no command touched its tables.
     pub fn draws_anew(&self) -> bool
         requires draws { CanDraw self.now.checkpoint }
         ensures anew { result ≡ true → DrawsAnew self.now.checkpoint }
         ensures same { result ≡ false → DrawsAnew self.now.checkpoint → ⊥ }
     {
+        if !self.touched {
+            return false;
+        }
         let own = &self.checkpoint;
         !is_spelling(&own.tables, &own.levels, own.pages.as_slice())
     }
@@ -94,7 +100,10 @@ impl Member {
         ensures placed { OnOk result (complex.new.placed ≡ true) }
         ensures grown { OnOk result (complex.old.placed ≡ false → (place : Batch)
             × (complex.new.journal.batches ≡ complex.old.journal.batches ++ place ∷ [])) }
-        ensures given_up { OnErr result ((self.new ≡ self.old) ⊎ (self.new.batch ≡ [])) }
+        ensures given_up { OnErr result ((self.new ≡ self.old)
+            ⊎ ((self.new.batch ≡ []) × (self.new.fresh ≡ true))) }
+        ensures fresh { OnOk result (self.new.fresh ≡ self.old.fresh) }
+        ensures had { values_of complex.new.had ≡ values_of complex.old.had }
         ensures id { self.new.id ≡ self.old.id }
         ensures room { self.new.room ≡ self.old.room }
         ensures behind { self.new.behind ≡ self.old.behind }
@@ -115,9 +124,15 @@ impl Member {
             (C.room complex.old.pair.second.copy) self.new.checkpoint.pages
             (C.reads (disk_now (P.view complex.old.plant) Ckpt2).bytes)) }
     {
-        let draft = redraw(alloc, &mut self.checkpoint)?;
+        let draft = drafted(alloc, &self.checkpoint, self.touched)?;
+        redraw(&mut self.checkpoint, &draft);
+        self.touched = false;
+        self.mirrors &= is_same(&draft);
         let entries = std::mem::replace(&mut self.batch, List::new(alloc));
+        // Pages that were drawn and aren't to be written are of no level: then all are read again.
+        let fresh = std::mem::replace(&mut self.fresh, true);
         complex.reserve(alloc, entries)?;
+        self.fresh = fresh;
         Ok(draft)
     }
 
@@ -127,12 +142,14 @@ impl Member {
     ///
     /// The texts of the queue with the batch stand on the spool volumes, except those with a group on a volume that is
     /// lost. BothLost comes only where both copies count as lost at the end of the call, Halted only where the member
-    /// was stopped in it.
+    /// was stopped in it. Once it is kept the member's pages are noted.
     pub fn write<P: Plant + Drop, C: Steady + Drop>(
         &self,
         complex: &mut Complex<P, C>,
         draft: &Draft,
     ) -> Result<(), NodeNo>
+        requires by { self.now.id.0 ≤ members_most }
+        requires config { P.tells → page_count complex.old.base.config ≡ length self.now.checkpoint.pages }
         requires may { MayAct complex.old.book self.now.id }
         requires own { All (λ e. e.by ≡ self.now.id) (entries_reserved complex.old.reserved) }
         requires none { complex.old.current ≡ None }
@@ -172,6 +189,87 @@ impl Member {
             complex.old.journal.batches) }
         ensures unplaced { OnOk result (complex.new.placed ≡ false) }
         ensures none { OnOk result (complex.new.current ≡ None) }
+        ensures own { OnOk result (HasNoted (values_of complex.new.had) self.now.id.0 self.now.checkpoint.pages) }
+        ensures noted { OnOk result (values_of complex.new.had
+            ≡ slice_set (values_of complex.old.had) self.now.id.0 self.now.checkpoint.pages) }
+        ensures noted_err { OnErr result (values_of complex.new.had ≡ values_of complex.old.had) }
+        ensures level { OnOk result (complex.new.level ≡ level_with draft.now complex.old.level) }
+        ensures rests1 { OnOk result (RestsAt P.tells complex.new.pair.first.alive complex.new.first
+            (C.count complex.new.pair.first.copy) self.now.checkpoint.pages
+            (C.reads (disk_now (P.view complex.new.plant) Ckpt1).bytes)) }
+        ensures rests2 { OnOk result (RestsAt P.tells complex.new.pair.second.alive complex.new.second
+            (C.count complex.new.pair.second.copy) self.now.checkpoint.pages
+            (C.reads (disk_now (P.view complex.new.plant) Ckpt2).bytes)) }
+        ensures room1 { OnOk result (complex.new.pair.first.alive ≡ true
+            → C.room complex.new.pair.first.copy
+            ≡ room_with draft.now C.room_after (C.room complex.old.pair.first.copy)) }
+        ensures room2 { OnOk result (complex.new.pair.second.alive ≡ true
+            → C.room complex.new.pair.second.copy
+            ≡ room_with draft.now C.room_after (C.room complex.old.pair.second.copy)) }
+        ensures flying { OnErr result ((complex.new.journal ≡ complex.old.journal)
+            × (complex.new.placed ≡ complex.old.placed)
+            × (complex.new.current ≡ Some (begun (P.view complex.old.plant).now self.now.id
+            (entries_reserved complex.old.reserved)))) }
+        ensures write { (front : List Batch) (place : Batch) → complex.old.journal.batches ≡ front ++ place ∷ []
+            → IsWrite P.tells self.now.id.0
+            (begun (P.view complex.old.plant).now self.now.id (entries_reserved complex.old.reserved)) front
+            (end_of complex.new.placed complex.new.current complex.new.journal.batches) complex.old.pair.first.alive
+            complex.new.pair.first.alive complex.old.pair.second.alive complex.new.pair.second.alive
+            (P.view complex.old.plant) (P.view complex.new.plant) result }
+        ensures operator { IsErrOf result Halted → 0 < self.now.id.0 }
+    {
+        self.put(complex, draft)?;
+        complex.note_pages(self.id, &self.checkpoint.pages);
+        Ok(())
+    }
+
+    // The batch on both copies, or kept without a write.
+    fn put<P: Plant + Drop, C: Steady + Drop>(
+        &self,
+        complex: &mut Complex<P, C>,
+        draft: &Draft,
+    ) -> Result<(), NodeNo>
+        requires config { P.tells → page_count complex.old.base.config ≡ length self.now.checkpoint.pages }
+        requires may { MayAct complex.old.book self.now.id }
+        requires own { All (λ e. e.by ≡ self.now.id) (entries_reserved complex.old.reserved) }
+        requires none { complex.old.current ≡ None }
+        requires reserved { IsSome complex.old.reserved }
+        requires some { 1 ≤ length (entries_reserved complex.old.reserved) }
+        requires small { complex.old.level + 1 < 2 ^ 63 }
+        requires replied { P.tells → ∥ HaveReplies (run complex.old.base (kept_all complex.old.journal.batches))
+            (entries_reserved complex.old.reserved) ∥₁ }
+        requires first { complex.old.first ≡ AtBefore }
+        requires second { complex.old.second ≡ AtBefore }
+        requires untold { P.tells → IsUntold (setting C.reads complex.old.base complex.old.since)
+            (P.view complex.old.plant) (entries_reserved complex.old.reserved) }
+        requires allowed { P.tells → MayBegin complex.old.base complex.old.journal.batches complex.old.printed
+            (entries_reserved complex.old.reserved) }
+        requires texts { P.tells → ∥ HasTexts (lost_now (P.view complex.old.plant))
+            (spools_at (P.view complex.old.plant) (P.view complex.old.plant).now) complex.old.base.config.groups
+            (run complex.old.base (kept_all complex.old.journal.batches ++ entries_reserved complex.old.reserved)) ∥₁ }
+        requires draft { P.tells → ∥ IsDraftOf draft.now P.tells
+            (run complex.old.base (kept_all complex.old.journal.batches)) (entries_reserved complex.old.reserved)
+            complex.old.level self.now.checkpoint.pages ∥₁ }
+        requires draft1 { IsDraftFor draft.now P.tells complex.old.pair.first.alive
+            (C.count complex.old.pair.first.copy) (C.room complex.old.pair.first.copy) self.now.checkpoint.pages
+            (C.reads (disk_now (P.view complex.old.plant) Ckpt1).bytes) }
+        requires draft2 { IsDraftFor draft.now P.tells complex.old.pair.second.alive
+            (C.count complex.old.pair.second.copy) (C.room complex.old.pair.second.copy) self.now.checkpoint.pages
+            (C.reads (disk_now (P.view complex.old.plant) Ckpt2).bytes) }
+        ensures base { complex.new.base ≡ complex.old.base }
+        ensures printed { complex.new.printed
+            ≡ printed_after self.now.id (entries_reserved complex.old.reserved) complex.old.printed }
+        ensures since { complex.new.since ≡ complex.old.since }
+        ensures renewals { complex.new.renewals ≡ complex.old.renewals }
+        ensures book { complex.new.book ≡ complex.old.book }
+        ensures unreserved { complex.new.reserved ≡ None }
+        ensures kept { OnOk result (complex.new.journal.batches
+            ≡ with_last (fated Kept (P.view complex.new.plant).now
+            (begun (P.view complex.old.plant).now self.now.id (entries_reserved complex.old.reserved)))
+            complex.old.journal.batches) }
+        ensures unplaced { OnOk result (complex.new.placed ≡ false) }
+        ensures none { OnOk result (complex.new.current ≡ None) }
+        ensures had { values_of complex.new.had ≡ values_of complex.old.had }
         ensures level { OnOk result (complex.new.level ≡ level_with draft.now complex.old.level) }
         ensures rests1 { OnOk result (RestsAt P.tells complex.new.pair.first.alive complex.new.first
             (C.count complex.new.pair.first.copy) self.now.checkpoint.pages

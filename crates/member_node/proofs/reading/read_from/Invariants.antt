@@ -13,6 +13,7 @@ invariant-loop-page g l =
       printed : z.printed ≡ x.printed;
       since : z.since ≡ x.since;
       renewals : z.renewals ≡ x.renewals;
+      had : z.had ≡ x.had;
       book : z.book ≡ x.book;
       journal : z.journal ≡ x.journal;
       current : z.current ≡ x.current;

@@ -16,7 +16,7 @@ returns-in-Ok-clause-page g c told was one two =
     let z = c.read_page.new.self in
     let e = c.in-Ok.ensures in
     let old = P.view x.plant in
-    ∥∥₁_elim (c.kept_pages.ensures told) (Coded-set (coded_list coded_ℕ) _ _) (λ k.
+    ∥∥₁_elim (c.kept_pages.ensures.kept told) (Coded-set (coded_list coded_ℕ) _ _) (λ k.
     page_by (λ w. C.rests x.pair.first.copy w (disk_now old Ckpt1)) (λ w. C.rests x.pair.second.copy w (disk_now old Ckpt2)) (C.reads (disk_now old Ckpt1).bytes) (C.reads (disk_now old Ckpt2).bytes)
     (λ w r. g.met.C.Copying.rests_now x.pair.first.copy w (disk_now old Ckpt1) r) (λ w r. g.met.C.Copying.rests_now x.pair.second.copy w (disk_now old Ckpt2) r)
     c.args.page c.read_page.new.into.0 was k.was z.pair.first.alive z.pair.second.alive

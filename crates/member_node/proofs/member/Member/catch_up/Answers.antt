@@ -1,9 +1,11 @@
 use Rattle.std.proofs.Common.{◌≡◌, ℕ, sym, refl, subst}
+use Rattle.ckpt_copy.specs.Pages.{bytes_of, level}
 use Rattle.ckpt_pages.specs.declared.entries.PageNo.{PageNo}
 use Rattle.ckpt_pages.specs.declared.entries.PageNo.TheVariants.{BadPage, NoMemory}
 use Rattle.ckpt_pages.specs.Checkpoints.{IsCheckpoint}
 use Rattle.ckpt_pages.proofs.DecodingLemmas.{one_value}
 use Rattle.member_node.specs.Reads.{MayGoOn}
+use Rattle.member_node.proofs.EntryLemmas.{facts_same}
 use Rattle.member_node.proofs.ReadLemmas.{up_to}
 use Rattle.member_node.proofs.member.Member.catch_up.Goals as goal
 
@@ -18,13 +20,20 @@ unreachable-requires c =
 
 pub returns-then-not-may_go_on-clause-refused : goal.returns-then-not-may_go_on-clause-refused
 returns-then-not-may_go_on-clause-refused c is_false = (
-  refl,
+  facts_same c.args.self.now _ _,
   λ t is may.
       let s = c.args.self.now in
       let own : IsCheckpoint s.room c.in-Ok.tables = rw c.as_slice-pages.ensures at c.in-Ok.ensures.found in
       let theirs : MayGoOn s.checkpoint.tables.config s.room c.in-Ok.tables = subst (MayGoOn s.checkpoint.tables.config s.room) (sym (one_value s.room c.in-Ok.tables t own is)) may in
       c.may_go_on.ensures.not c.if-not-may_go_on.true (rw c.as_slice-pages.ensures theirs),
 )
+
+pub take_up-requires : goal.take_up-requires
+take_up-requires c =
+    let s = c.args.self.now in
+    (up_to c.law_of_levels.ensures.given s.checkpoint.tables.config s.room c.in-Ok.tables c.in_ok-levels.levels (rw c.as_slice-pages.ensures at c.in-Ok.ensures.found)
+    (rw c.as_slice-pages.ensures at c.law_of_page_sizes.ensures) (rw c.as_slice-pages.ensures at c.in_ok-levels.ensures) (rw c.as_slice-pages.ensures at (c.may_go_on.ensures.may c.if-not-may_go_on.false))
+    (record { tables = c.in-Ok.tables; level = level (bytes_of s.room); levels = c.in_ok-levels.levels; pages = s.room }) refl refl refl refl).drawn.spelled.each
 
 pub returns-clause-up : goal.returns-clause-up
 returns-clause-up c is behind =

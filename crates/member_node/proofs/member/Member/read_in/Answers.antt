@@ -1,16 +1,19 @@
-use Rattle.std.proofs.Common.{◌≡◌, ◌∙◌, false, length, sym, ap, subst}
+use Rattle.std.proofs.Common.{◌≡◌, ◌∙◌, ◌+◌, false, List, length, Some, sym, ap, subst}
+use Rattle.ckpt_copy.specs.Pages.{bytes_of}
 use Rattle.std.proofs.Math.Logic.{∥∥₁_elim, ∥∥₁_map}
 use Rattle.std.proofs.lemmas.Result.{err_from_is_err_and}
 use Rattle.std.specs.Coded.{Coded-set, coded_ℕ}
 use Rattle.mas_types.specs.declared.ids.Page.{Page}
 use Rattle.mas_complex.specs.Journals.{kept_all}
 use Rattle.mas_complex.specs.Meaning.{run}
+use Rattle.ckpt_pages.specs.Given.{levels_given}
 use Rattle.ckpt_pages.proofs.DecodingLemmas.{one_value}
 use Rattle.member_node.specs.declared.checkpoint.Checkpoint.{Checkpoint}
 use Rattle.member_node.specs.declared.member.Member.{Member}
 use Rattle.member_node.specs.Drawn.{AreDrawn}
 use Rattle.member_node.specs.Spares.{Spares}
-use Rattle.member_node.specs.Reads.{HasRead, AreLow, MayGoOn, copies_alive}
+use Rattle.member_node.specs.Wanted.{level_had, wanted}
+use Rattle.member_node.specs.Reads.{HasRead, AreLow, IsUpTo, MayGoOn, TookActs, copies_alive}
 use Rattle.member_node.proofs.ReadLemmas.{few_orders, fewer_then, in_error, in_first, in_lost, in_memory, low_goes, low_of, read_then, same_pages, tell_up_to}
 use Rattle.member_node.proofs.SpareLemmas.{spares_for, spares_then}
 use Rattle.member_node.proofs.member.Member.read_in.Goals as goal
@@ -60,6 +63,7 @@ loop-complex-preserved g c =
       printed = e.printed ∙ l.printed ∙ i.printed;
       since = e.since ∙ l.since ∙ i.since;
       renewals = e.renewals ∙ l.renewals ∙ i.renewals;
+      had = e.had ∙ l.had ∙ i.had;
       book = e.book ∙ l.book ∙ i.book;
       journal = e.journal ∙ l.journal ∙ i.journal;
       current = e.current ∙ l.current ∙ i.current;
@@ -74,12 +78,14 @@ loop-complex-preserved g c =
       checkpoint = e.checkpoint ∙ ap (λ (m : Member). m.checkpoint) same ∙ i.checkpoint;
       batch = e.batch ∙ ap (λ (m : Member). m.batch) same ∙ i.batch;
       behind = e.behind;
+      fresh = e.fresh ∙ ap (λ (m : Member). m.fresh) same ∙ i.fresh;
       as_many = e.as_many ∙ ap (λ (m : Member). length m.room) same ∙ i.as_many;
       some = e.read.cause;
       acts = read_then P.tells x.pair.first.alive y.pair.first.alive w.pair.first.alive x.pair.second.alive y.pair.second.alive w.pair.second.alive (P.view x.plant) (P.view y.plant) (P.view w.plant) lost e.read.acts;
       spares = spares_then c.args.self.now.id.0 false (P.view x.plant) (P.view y.plant) (P.view w.plant) spared (rw (c.is_caught_up.ensures.id, i.id) at e.read.spares);
       spelled = e.spelled;
       alike = e.alike;
+      took = λ told. absurd (c.lose_read.ensures.untold told);
       rests1 = e.rests1;
       rests2 = e.rests2;
       stand = e.stand;
@@ -142,7 +148,9 @@ returns-clause-told g c told =
     let m = c.loop-complex.self in
     let i = c.loop-complex.invariant in
     let up = c.in_ok-is_caught_up.ensures.up c.if-not-branch.false i.behind in
-    ∥∥₁_map (i.stand told) (λ st. (tell_up_to one_value same_pages (run z.base (kept_all z.journal.batches)) z.level m.checkpoint.tables.config m.room c.is_caught_up.new.self.checkpoint st up).0)
+    let e = c.note_pages.ensures.frame in
+    rw (ap (λ p. p.base) e, ap (λ p. p.batches) e)
+    (∥∥₁_map (i.stand told) (λ st. (tell_up_to one_value same_pages (run z.base (kept_all z.journal.batches)) z.level m.checkpoint.tables.config m.room c.is_caught_up.new.self.checkpoint st up).0))
 
 pub returns-clause-ordered : goal.returns-clause-ordered
 returns-clause-ordered g c told =
@@ -158,7 +166,8 @@ returns-clause-same_level g c told =
     let m = c.loop-complex.self in
     let i = c.loop-complex.invariant in
     let up = c.in_ok-is_caught_up.ensures.up c.if-not-branch.false i.behind in
-    ∥∥₁_elim (i.stand told) (Coded-set coded_ℕ _ _) (λ st. (tell_up_to one_value same_pages (run z.base (kept_all z.journal.batches)) z.level m.checkpoint.tables.config m.room c.is_caught_up.new.self.checkpoint st up).1)
+    ap (λ p. p.level) c.note_pages.ensures.frame
+    ∙ ∥∥₁_elim (i.stand told) (Coded-set coded_ℕ _ _) (λ st. (tell_up_to one_value same_pages (run z.base (kept_all z.journal.batches)) z.level m.checkpoint.tables.config m.room c.is_caught_up.new.self.checkpoint st up).1)
 
 pub read_all-requires-in-loop-complex-clause-calm1 : goal.read_all-requires-in-loop-complex-clause-calm1
 read_all-requires-in-loop-complex-clause-calm1 g c =
@@ -194,3 +203,56 @@ loop-complex-smaller g c =
     let w = c.read_all-in-loop-complex.new.complex in
     let course = c.in_ok-read_all-2.ensures.read.acts.course in
     fewer_then (copies_alive z.pair.first.alive z.pair.second.alive) y.pair.first.alive w.pair.first.alive y.pair.second.alive w.pair.second.alive course.alive1 course.alive2 c.lose_read.ensures.lost
+
+-- the pages that it brought its tables up to are those that each copy reads
+pub note_pages-requires-clause-reads1 : goal.note_pages-requires-clause-reads1
+note_pages-requires-clause-reads1 g c told on =
+    let i = c.loop-complex.invariant in
+    let up = c.in_ok-is_caught_up.ensures.up c.if-not-branch.false i.behind in
+    i.rests1.reads told on ∙ ap (λ (pages : List Page). Some (bytes_of pages)) (sym up.has)
+
+pub note_pages-requires-clause-reads2 : goal.note_pages-requires-clause-reads2
+note_pages-requires-clause-reads2 g c told on =
+    let i = c.loop-complex.invariant in
+    let up = c.in_ok-is_caught_up.ensures.up c.if-not-branch.false i.behind in
+    i.rests2.reads told on ∙ ap (λ (pages : List Page). Some (bytes_of pages)) (sym up.has)
+
+pub read_all-requires-in-loop-complex-clause-same_config : goal.read_all-requires-in-loop-complex-clause-same_config
+read_all-requires-in-loop-complex-clause-same_config g c told =
+    let i = c.loop-complex.invariant in
+    let same : c.is_caught_up.new.self ≡ c.loop-complex.self = (c.in_ok-is_caught_up.ensures.refused c.if-not-branch.true).0 in
+    rw (c.in_ok-lose_read.ensures.base ∙ i.base, ap (λ (m : Member). m.checkpoint) same ∙ i.checkpoint) (c.requires.same_config told)
+
+pub read_all-requires-in-loop-complex-clause-noted : goal.read_all-requires-in-loop-complex-clause-noted
+read_all-requires-in-loop-complex-clause-noted g c told read =
+    let i = c.loop-complex.invariant in
+    let same : c.is_caught_up.new.self ≡ c.loop-complex.self = (c.in_ok-is_caught_up.ensures.refused c.if-not-branch.true).0 in
+    rw (c.in_ok-lose_read.ensures.had ∙ i.had, ap (λ (m : Member). m.id) same ∙ i.id, ap (λ (m : Member). m.checkpoint) same ∙ i.checkpoint) (c.requires.noted told (sym (ap (λ (m : Member). m.fresh) same ∙ i.fresh) ∙ read))
+
+pub returns-clause-up : goal.returns-clause-up
+returns-clause-up g c =
+    let i = c.loop-complex.invariant in
+    let up = c.in_ok-is_caught_up.ensures.up c.if-not-branch.false i.behind in
+    subst (λ (pages : List Page). IsUpTo c.args.self.now.checkpoint.tables.config pages c.is_caught_up.new.self.checkpoint) (sym up.has)
+    (subst (λ (k : Checkpoint). IsUpTo k.tables.config c.loop-complex.self.room c.is_caught_up.new.self.checkpoint) i.checkpoint up)
+
+pub returns-clause-read : goal.returns-clause-read
+returns-clause-read g c =
+    let i = c.loop-complex.invariant in
+    let e = c.note_pages.ensures.frame in
+    rw (ap (λ p. p.first_alive) e, ap (λ p. p.second_alive) e, ap (λ p. p.plant) e) (record { acts = i.acts; cause = i.some; spares = i.spares })
+
+pub returns-clause-acts : goal.returns-clause-acts
+returns-clause-acts g c told =
+    let P = g.P.Plant in
+    let x = c.args.complex.now in
+    let s = c.args.self.now in
+    let z = c.loop-complex.complex in
+    let i = c.loop-complex.invariant in
+    let up = c.in_ok-is_caught_up.ensures.up c.if-not-branch.false i.behind in
+    let e = c.note_pages.ensures.frame in
+    rw (ap (λ p. p.first_alive) e, ap (λ p. p.second_alive) e, ap (λ p. p.plant) e)
+    (subst (λ (pages : List Page). TookActs (1 + length (wanted (level_had s.fresh s.checkpoint.level) (levels_given pages))) x.pair.first.alive z.pair.first.alive x.pair.second.alive z.pair.second.alive (P.view x.plant) (P.view z.plant)) (sym up.has) (i.took told))
+
+pub returns-clause-own : goal.returns-clause-own
+returns-clause-own g c = (c.in_ok-is_caught_up.ensures.fresh c.if-not-branch.false c.loop-complex.invariant.behind, c.note_pages.ensures.noted)

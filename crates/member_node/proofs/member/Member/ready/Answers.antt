@@ -1,4 +1,4 @@
-use Rattle.std.proofs.Common.{◌≤◌, ◌^◌, length, rules}
+use Rattle.std.proofs.Common.{◌≤◌, ◌^◌, ◌&&◌, ◌∙◌, Bool, ap, sym, length, rules}
 use Rattle.std.proofs.Math.Logic.{∥∥₁_map}
 use Rattle.mas_types.specs.declared.ids.Dev.TheVariants.{Ckpt1, Ckpt2}
 use Rattle.spool_plant.specs.View.{disk_now}
@@ -7,19 +7,19 @@ use Rattle.mas_complex.specs.Meaning.{run}
 use Rattle.ckpt_tables.specs.Pages.{Spell}
 use Rattle.ckpt_pages.proofs.DecodingLemmas.{one_queue, one_value}
 use Rattle.queue_tables.proofs.ToldLemmas.{pages_alike}
-use Rattle.member_node.proofs.ReadyLemmas.{ready_copy, ready_count, ready_draft, ready_level, ready_raises}
+use Rattle.member_node.proofs.ReadyLemmas.{ready_copy, ready_count, ready_draft, ready_level, ready_mirrors, ready_raises}
 use Rattle.member_node.proofs.member.Member.ready.Goals as goal
 
 pub returns-clause-level : goal.returns-clause-level
 returns-clause-level g c =
     let k = c.args.self.now.checkpoint in
     let n = c.redraw.new.checkpoint in
-    ready_level c.in_ok-draft.draft k.level n.level k.pages n.pages c.in_ok-draft.ensures.draft
+    ready_level c.in_ok-draft.draft k.level n.level k.pages n.pages c.redraw.ensures.draft
 
 pub returns-clause-draft : goal.returns-clause-draft
 returns-clause-draft g c told =
     let x = c.args.complex.now in
-    let e = c.in_ok-draft.ensures in
+    let e = c.redraw.ensures in
     ∥∥₁_map (c.requires.done told) (λ done. ready_draft (λ pages. pages_alike pages one_value one_queue) c.in_ok-draft.draft g.P.Plant.tells (run x.base (kept_all x.journal.batches)) c.args.self.now.batch c.args.self.now.checkpoint c.redraw.new.checkpoint x.level
     done (c.requires.level told) c.requires.small e.tables e.drawn e.draft)
 
@@ -28,7 +28,7 @@ returns-clause-draft1 g c =
     let x = c.args.complex.now in
     let k = c.args.self.now.checkpoint in
     let n = c.redraw.new.checkpoint in
-    let e = c.in_ok-draft.ensures in
+    let e = c.redraw.ensures in
     let C = g.C.Copying in
     ready_copy c.in_ok-draft.draft (Spell k.tables k.levels k.pages) g.P.Plant.tells x.pair.first.alive x.first (C.count x.pair.first.copy) (C.room x.pair.first.copy) k.level n.level k.pages n.pages (C.reads (disk_now (g.P.Plant.view x.plant) Ckpt1).bytes)
     c.requires.rests1 c.requires.room1 (ready_count k n c.requires.draws e.tables e.drawn) e.same e.draft
@@ -41,7 +41,7 @@ returns-clause-draft2 g c =
     let x = c.args.complex.now in
     let k = c.args.self.now.checkpoint in
     let n = c.redraw.new.checkpoint in
-    let e = c.in_ok-draft.ensures in
+    let e = c.redraw.ensures in
     let C = g.C.Copying in
     ready_copy c.in_ok-draft.draft (Spell k.tables k.levels k.pages) g.P.Plant.tells x.pair.second.alive x.second (C.count x.pair.second.copy) (C.room x.pair.second.copy) k.level n.level k.pages n.pages (C.reads (disk_now (g.P.Plant.view x.plant) Ckpt2).bytes)
     c.requires.rests2 c.requires.room2 (ready_count k n c.requires.draws e.tables e.drawn) e.same e.draft
@@ -51,3 +51,22 @@ returns-clause-draft2 g c =
 
 pub returns-clause-grown : goal.returns-clause-grown
 returns-clause-grown g c placed = let grown = c.in_ok-reserve.ensures.grown placed in (grown.0, grown.1)
+
+-- pages that were drawn are those of the tables, and the room mirrors them where none changed
+pub invariant_of-self-in-Break-branch-2 : goal.invariant_of-self-in-Break-branch-2
+invariant_of-self-in-Break-branch-2 g c =
+    let k = c.args.self.now in
+    let n = c.redraw.new.checkpoint in
+    record {
+      mirrored = λ both. ready_mirrors c.in_ok-draft.draft k.mirrors k.checkpoint.level n.level k.room k.checkpoint.pages n.pages c.redraw.ensures.draft k.mirrored (ap (λ (b : Bool). k.mirrors && b) (sym c.is_same.ensures) ∙ both);
+      unchanged = λ is. c.redraw.ensures.drawn.spelled.each;
+    }
+
+pub invariant_of-self-2-clause-unchanged : goal.invariant_of-self-2-clause-unchanged
+invariant_of-self-2-clause-unchanged g c is = c.redraw.ensures.drawn.spelled.each
+
+pub invariant_of-self-2-clause-mirrored : goal.invariant_of-self-2-clause-mirrored
+invariant_of-self-2-clause-mirrored g c both =
+    let k = c.args.self.now in
+    let n = c.redraw.new.checkpoint in
+    ready_mirrors c.in_ok-draft.draft k.mirrors k.checkpoint.level n.level k.room k.checkpoint.pages n.pages c.redraw.ensures.draft k.mirrored (ap (λ (b : Bool). k.mirrors && b) (sym c.is_same.ensures) ∙ both)

@@ -1,5 +1,6 @@
-use Rattle.std.proofs.Common.{◌∙◌, ℕ, false, length, refl, sym, ap, subst}
-use Rattle.std.proofs.Math.Logic.{∥∥₁_map}
+use Rattle.std.proofs.Common.{◌≡◌, ◌∙◌, ℕ, List, false, length, refl, sym, ap, subst, arith}
+use Rattle.std.proofs.Math.Logic.{∥∥₁_map, ∥∥₁_map₂}
+use Rattle.std.proofs.lemmas.Bool.{eqb-true}
 use Rattle.std.proofs.lemmas.Result.{err_from_is_err_and}
 use Rattle.mas_types.specs.declared.ids.Dev.TheVariants.{Ckpt1, Ckpt2}
 use Rattle.mas_types.specs.declared.ids.Page.{Page}
@@ -7,7 +8,18 @@ use Rattle.ckpt_pages.specs.Checkpoints.{SpellSome}
 use Rattle.spool_plant.specs.View.{disk_now}
 use Rattle.mas_complex.specs.Journals.{kept_all}
 use Rattle.mas_complex.specs.Meaning.{run}
-use Rattle.member_node.specs.Reads.{ArePagesOf, HasRead, copies_alive}
+use Rattle.member_node.specs.Reads.{ArePagesOf, HasRead, ReadsAs, copies_alive}
+use Rattle.member_node.specs.Mirrors.{IsMirror}
+use Rattle.member_node.specs.Wanted.{AreUnchanged, level_had, wanted}
+use Rattle.ckpt_copy.specs.Pages.{page_in as page_of_bytes}
+use Rattle.ckpt_tables.specs.Pages.{page_in}
+use Rattle.ckpt_tables.specs.Shape.{page_count}
+use Rattle.ckpt_pages.specs.Given.{levels_given}
+use Rattle.spool_plant.specs.declared.plant.Part.TheVariants.{Disk}
+use Rattle.mas_complex.specs.Kept.{HaveKept}
+use Rattle.mas_complex.specs.Past.{HavePasts, sight_of, values_of}
+use Rattle.mas_complex.proofs.Pasts.{before_unsure}
+use Rattle.member_node.proofs.WantedLemmas.{own_unchanged}
 use Rattle.member_node.specs.Spares.{Spares}
 use Rattle.member_node.specs.declared.checkpoint.Checkpoint.{Checkpoint}
 use Rattle.member_node.proofs.AlikeLemmas.{own_spell}
@@ -15,63 +27,98 @@ use Rattle.member_node.proofs.ReadLemmas.{error_later, fewer_then, lost_later_re
 use Rattle.member_node.proofs.SpareLemmas.{spares_for, spares_then}
 use Rattle.member_node.proofs.member.Member.second_read.Goals as goal
 
+-- pages that are alike to the member's own spell tables
 pub are_spelled-requires-clause-own : goal.are_spelled-requires-clause-own
-are_spelled-requires-clause-own g c =
-    let own : SpellSome c.loop-by.self.checkpoint.pages = subst (λ (k : Checkpoint). SpellSome k.pages) (sym c.loop-by.invariant.checkpoint) (own_spell c.args.self.now.checkpoint c.requires.drawn) in
-    rw c.as_slice-in-loop-by.ensures own
+are_spelled-requires-clause-own g c on =
+    let some : SpellSome c.spelled.self.room = subst SpellSome (sym (c.spelled.invariant.alike on)) (own_spell c.args.self.now.checkpoint c.requires.drawn) in
+    rw c.as_slice.ensures some
+
+pub read_wanted-requires-clause-mirrors : goal.read_wanted-requires-clause-mirrors
+read_wanted-requires-clause-mirrors g c on =
+    let s = c.args.self.now in
+    subst (λ (ps : List Page). IsMirror c.as_mut_slice.result.now ps) (sym c.as_slice-own.ensures) (subst (λ (ps : List Page). IsMirror ps s.checkpoint.pages) (sym c.as_mut_slice.ensures.value) (s.mirrored on))
+
+-- which they are where no page was read and page 0 is the same
+pub are_own-requires-clause-many : goal.are_own-requires-clause-many
+are_own-requires-clause-many g c =
+    let e = c.in_ok-count.ensures in
+    let v = c.as_mut_slice.ensures.value in
+    let after = room_after c.args.self.now.room c.as_mut_slice.result.now c.read_wanted.new.room v e.many in
+    ap (length {A = Page}) c.as_slice-read.ensures ∙ ap (length {A = Page}) after ∙ e.many ∙ ap (length {A = Page}) v ∙ c.requires.many ∙ sym (ap (length {A = Page}) c.as_slice-own.ensures)
+
+pub are_own-requires-clause-some : goal.are_own-requires-clause-some
+are_own-requires-clause-some g c = omega (arith, c.requires.some, c.requires.many, ap (length {A = Page}) c.as_slice-own.ensures)
+
+pub are_own-requires-clause-mirrors : goal.are_own-requires-clause-mirrors
+are_own-requires-clause-mirrors g c none =
+    let e = c.in_ok-count.ensures in
+    let after = room_after c.args.self.now.room c.as_mut_slice.result.now c.read_wanted.new.room c.as_mut_slice.ensures.value e.many in
+    subst (λ (ps : List Page). IsMirror ps c.as_slice-own.result.now) (sym (c.as_slice-read.ensures ∙ after)) (e.none (eqb-true c.in_ok-count.count 0 none))
 
 pub are_spelled-requires-clause-config : goal.are_spelled-requires-clause-config
 are_spelled-requires-clause-config g c told =
-    let i = c.loop-by.invariant in
+    let i = c.spelled.invariant in
     rw (i.base, i.journal, c.as_slice.ensures) (c.requires.config told ∙ sym i.as_many)
 
 pub are_spelled-requires-clause-read : goal.are_spelled-requires-clause-read
-are_spelled-requires-clause-read g c told = rw c.as_slice.ensures (c.loop-by.invariant.whole told)
+are_spelled-requires-clause-read g c told = rw c.as_slice.ensures (c.spelled.invariant.whole told)
 
-pub read_from-requires-in-loop-by-clause-calm1 : goal.read_from-requires-in-loop-by-clause-calm1
-read_from-requires-in-loop-by-clause-calm1 g c =
-    let i = c.loop-by.invariant in
+pub read_from-requires-clause-calm1 : goal.read_from-requires-clause-calm1
+read_from-requires-clause-calm1 g c =
+    let i = c.spelled.invariant in
     let l = c.in_ok-lose_read.ensures in
     record {
       before = l.first ∙ i.first ∙ c.requires.calm1.before;
-      as_many = λ on. ap (length {A = Page}) c.as_mut_slice-in-loop-by.ensures.value ∙ i.as_many ∙ c.requires.calm1.as_many (i.acts.course.alive1 (l.read.acts.course.alive1 on)) ∙ sym (ap g.C.Copying.count (l.copy1 ∙ i.copy1));
+      as_many = λ on. ap (length {A = Page}) c.as_mut_slice-room.ensures.value ∙ i.as_many ∙ c.requires.calm1.as_many (i.acts.course.alive1 (l.read.acts.course.alive1 on)) ∙ sym (ap g.C.Copying.count (l.copy1 ∙ i.copy1));
     }
 
-pub read_from-requires-in-loop-by-clause-calm2 : goal.read_from-requires-in-loop-by-clause-calm2
-read_from-requires-in-loop-by-clause-calm2 g c =
-    let i = c.loop-by.invariant in
+pub read_from-requires-clause-calm2 : goal.read_from-requires-clause-calm2
+read_from-requires-clause-calm2 g c =
+    let i = c.spelled.invariant in
     let l = c.in_ok-lose_read.ensures in
     record {
       before = l.second ∙ i.second ∙ c.requires.calm2.before;
-      as_many = λ on. ap (length {A = Page}) c.as_mut_slice-in-loop-by.ensures.value ∙ i.as_many ∙ c.requires.calm2.as_many (i.acts.course.alive2 (l.read.acts.course.alive2 on)) ∙ sym (ap g.C.Copying.count (l.copy2 ∙ i.copy2));
+      as_many = λ on. ap (length {A = Page}) c.as_mut_slice-room.ensures.value ∙ i.as_many ∙ c.requires.calm2.as_many (i.acts.course.alive2 (l.read.acts.course.alive2 on)) ∙ sym (ap g.C.Copying.count (l.copy2 ∙ i.copy2));
     }
 
-pub loop-by-smaller : goal.loop-by-smaller
-loop-by-smaller g c =
-    let z = c.loop-by.complex in
+pub spelled-smaller : goal.spelled-smaller
+spelled-smaller g c =
+    let z = c.spelled.complex in
     let y = c.lose_read.new.complex in
-    let w = c.read_from-in-loop-by.new.complex in
-    let course = c.in_ok-read_from-2.ensures.read.acts.course in
+    let w = c.read_from.new.complex in
+    let course = c.in_ok-read_from.ensures.read.acts.course in
     fewer_then (copies_alive z.pair.first.alive z.pair.second.alive) y.pair.first.alive w.pair.first.alive y.pair.second.alive w.pair.second.alive course.alive1 course.alive2 c.lose_read.ensures.lost
 
-pub loop-by-init : goal.loop-by-init
-loop-by-init g c =
+pub spelled-init : goal.spelled-init
+spelled-init g c =
     let P = g.P.Plant in
     let C = g.C.Copying in
     let x = c.args.complex.now in
     let s = c.args.self.now in
-    let z = c.read_from.new.complex in
-    let e = c.in_ok-read_from.ensures in
+    let z = c.read_wanted.new.complex in
+    let e = c.in_ok-count.ensures in
     let v = c.as_mut_slice.ensures.value in
-    let room = c.read_from.new.room in
-    let after = room_after s.room c.as_mut_slice.result.now room v e.as_many in
+    let room = c.read_wanted.new.room in
+    let after = room_after s.room c.as_mut_slice.result.now room v e.many in
     let one = disk_now (P.view x.plant) Ckpt1 in
     let two = disk_now (P.view x.plant) Ckpt2 in
+    let own : (told : P.tells) (k : HaveKept (run x.base (kept_all x.journal.batches)) x.level (C.rests x.pair.first.copy) (C.rests x.pair.second.copy) x.pair.first.alive x.pair.second.alive x.first x.second one two)
+    (n : HavePasts (page_count x.base.config) (values_of x.had) (sight_of x.pair.first.alive x.first ((P.view x.plant).lost (Disk Ckpt1)) (C.reads one.bytes) (C.behind x.pair.first.copy one.bytes)) (sight_of x.pair.second.alive x.second ((P.view x.plant).lost (Disk Ckpt2)) (C.reads two.bytes) (C.behind x.pair.second.copy two.bytes)))
+    (w : List ℕ) → ReadsAs P.tells x.pair.first.alive (C.reads one.bytes) w → ReadsAs P.tells x.pair.second.alive (C.reads two.bytes) w → AreUnchanged (length c.as_mut_slice.result.now) c.level-level.result c.as_slice-own.result.now w
+    = λ told k n w r1 r2.
+    let many : page_count x.base.config ≡ length s.checkpoint.pages = ap page_count (c.requires.same_config told) ∙ sym c.requires.drawn.spelled.count in
+    let rooms : page_count x.base.config ≡ length s.room = many ∙ sym c.requires.many in
+    let same = own_unchanged c.law_of_levels.ensures.each P.tells told (run x.base (kept_all x.journal.batches)) k.was k.queue x.pair.first.alive x.pair.second.alive c.requires.alive (C.reads one.bytes) (C.reads two.bytes)
+    (λ on. g.met.C.Copying.rests_now x.pair.first.copy k.was one (k.at_first on c.requires.calm1.before)) (λ on. g.met.C.Copying.rests_now x.pair.second.copy k.was two (k.at_second on c.requires.calm2.before))
+    (page_count x.base.config) (values_of x.had) (λ on is read. n.first.reads on (λ unsure. absurd (before_unsure x.first c.requires.calm1.before unsure)) is read) (λ on is read. n.second.reads on (λ unsure. absurd (before_unsure x.second c.requires.calm2.before unsure)) is read)
+    s.checkpoint c.requires.drawn many (rooms ∙ sym (c.requires.config told)) (omega (arith, rooms, c.requires.some)) s.fresh s.id.0 c.requires.noted w r1 r2 in
+    rw (v, c.level-level.ensures, c.as_slice-own.ensures) (subst (λ (n : ℕ). AreUnchanged n (level_had s.fresh s.checkpoint.level) s.checkpoint.pages w) rooms same) in
     record {
       base = e.base;
       printed = e.printed;
       since = e.since;
       renewals = e.renewals;
+      had = e.had;
       book = e.book;
       journal = e.journal;
       current = e.current;
@@ -86,29 +133,34 @@ loop-by-init g c =
       checkpoint = refl;
       batch = refl;
       behind = refl;
-      as_many = ap (length {A = Page}) after ∙ e.as_many ∙ ap (length {A = Page}) v;
+      fresh = refl;
+      count = λ told. c.in_ok-count.ensures.count ∙ ap (λ (l : ℕ). length (wanted l (levels_given room))) c.level-level.ensures ∙ ap (λ (ps : List Page). length (wanted (level_had s.fresh s.checkpoint.level) (levels_given ps))) (sym after);
+      took = λ told. e.acts;
+      alike = λ on. sym c.as_slice-read.ensures ∙ c.are_own.ensures on ∙ c.as_slice-own.ensures;
+      as_many = ap (length {A = Page}) after ∙ e.many ∙ ap (length {A = Page}) v;
       some = e.read.cause;
       acts = e.read.acts;
       spares = e.read.spares;
-      whole = λ told. ∥∥₁_map (c.kept_pages.ensures told) (λ k. rw (after, e.base, e.journal, e.level)
+      whole = λ told. ∥∥₁_map₂ (c.kept_pages.ensures.kept told) (c.kept_pages.ensures.noted told) (λ k n. rw (after, e.base, e.journal, e.level)
           (read_whole P.tells (run x.base (kept_all x.journal.batches)) x.level x.pair.first.alive z.pair.first.alive x.pair.second.alive z.pair.second.alive (P.view x.plant) (P.view z.plant) C.reads s.room room e.read.acts told
           k.was k.at_level k.queue (λ on. g.met.C.Copying.rests_now x.pair.first.copy k.was one (k.at_first on c.requires.calm1.before)) (λ on. g.met.C.Copying.rests_now x.pair.second.copy k.was two (k.at_second on c.requires.calm2.before))
-          (λ w r1 r2. c.requires.page told w r1 r2) (λ w are. e.before w (subst (ArePagesOf 0 1 w) (sym v) are)) (λ w r1 r2. e.pages told w r1 r2)));
+          (λ w r1 r2. c.requires.page told w r1 r2) (λ w are q from to. (let z : q ≡ 0 = omega (arith, to) in subst (λ (q : ℕ). page_in room q ≡ page_of_bytes q w) (sym z) (e.header ∙ ap (λ (ps : List Page). page_in ps 0) v ∙ are 0 (omega arith) (omega arith))))
+          (λ w r1 r2. e.pages told w r1 r2 (subst (ArePagesOf 0 1 w) (sym v) (c.requires.page told w r1 r2)) (own told k n w r1 r2))));
     }
 
-pub loop-by-preserved : goal.loop-by-preserved
-loop-by-preserved g c =
+pub spelled-preserved : goal.spelled-preserved
+spelled-preserved g c =
     let P = g.P.Plant in
     let x = c.args.complex.now in
-    let z = c.loop-by.complex in
+    let z = c.spelled.complex in
     let y = c.lose_read.new.complex in
-    let w = c.read_from-in-loop-by.new.complex in
-    let i = c.loop-by.invariant in
+    let w = c.read_from.new.complex in
+    let i = c.spelled.invariant in
     let l = c.in_ok-lose_read.ensures in
-    let e = c.in_ok-read_from-2.ensures in
-    let v = c.as_mut_slice-in-loop-by.ensures.value in
-    let room = c.read_from-in-loop-by.new.room in
-    let after = room_after c.loop-by.self.room c.as_mut_slice-in-loop-by.result.now room v e.as_many in
+    let e = c.in_ok-read_from.ensures in
+    let v = c.as_mut_slice-room.ensures.value in
+    let room = c.read_from.new.room in
+    let after = room_after c.spelled.self.room c.as_mut_slice-room.result.now room v e.as_many in
     let lost : HasRead P.tells x.pair.first.alive y.pair.first.alive x.pair.second.alive y.pair.second.alive (P.view x.plant) (P.view y.plant)
     = read_then P.tells x.pair.first.alive z.pair.first.alive y.pair.first.alive x.pair.second.alive z.pair.second.alive y.pair.second.alive (P.view x.plant) (P.view z.plant) (P.view y.plant) i.acts l.read.acts in
     let spared : Spares c.args.self.now.id.0 false (P.view x.plant) (P.view y.plant)
@@ -118,6 +170,7 @@ loop-by-preserved g c =
       printed = e.printed ∙ l.printed ∙ i.printed;
       since = e.since ∙ l.since ∙ i.since;
       renewals = e.renewals ∙ l.renewals ∙ i.renewals;
+      had = e.had ∙ l.had ∙ i.had;
       book = e.book ∙ l.book ∙ i.book;
       journal = e.journal ∙ l.journal ∙ i.journal;
       current = e.current ∙ l.current ∙ i.current;
@@ -132,47 +185,51 @@ loop-by-preserved g c =
       checkpoint = i.checkpoint;
       batch = i.batch;
       behind = i.behind;
+      fresh = i.fresh;
+      count = λ told. absurd (c.are_spelled.ensures.bad c.spelled-test.true told);
+      took = λ told. absurd (c.are_spelled.ensures.bad c.spelled-test.true told);
+      alike = λ on. absurd (cc);
       as_many = ap (length {A = Page}) after ∙ e.as_many ∙ ap (length {A = Page}) v ∙ i.as_many;
       some = e.read.cause;
       acts = read_then P.tells x.pair.first.alive y.pair.first.alive w.pair.first.alive x.pair.second.alive y.pair.second.alive w.pair.second.alive (P.view x.plant) (P.view y.plant) (P.view w.plant) lost e.read.acts;
       spares = spares_then c.args.self.now.id.0 false (P.view x.plant) (P.view y.plant) (P.view w.plant) spared e.read.spares;
-      whole = λ told. absurd (c.are_spelled.ensures.bad c.loop-by-test.true told);
+      whole = λ told. absurd (c.are_spelled.ensures.bad c.spelled-test.true told);
     }
 
 pub returns-in_err-lose_read-clause-read : goal.returns-in_err-lose_read-clause-read
 returns-in_err-lose_read-clause-read g c =
     let P = g.P.Plant in
     let x = c.args.complex.now in
-    let z = c.loop-by.complex in
+    let z = c.spelled.complex in
     let y = c.lose_read.new.complex in
     let p = err_from_is_err_and c.from_residual-in_err-lose_read.result c.from_residual-in_err-lose_read.ensures.1 in
     rw (p.1, p.2) (lost_later_read ℕ P.tells c.args.self.now.id.0 x.pair.first.alive z.pair.first.alive y.pair.first.alive x.pair.second.alive z.pair.second.alive y.pair.second.alive (P.view x.plant) (P.view z.plant) (P.view y.plant)
-    c.in_err-lose_read.field-0.0 c.loop-by.invariant.acts c.loop-by.invariant.spares c.in_err-lose_read.ensures.only c.in_err-lose_read.ensures.read)
+    c.in_err-lose_read.field-0.0 c.spelled.invariant.acts c.spelled.invariant.spares c.in_err-lose_read.ensures.only c.in_err-lose_read.ensures.read)
 
-pub returns-in_err-read_from-2-clause-read : goal.returns-in_err-read_from-2-clause-read
-returns-in_err-read_from-2-clause-read g c =
+pub returns-in_err-read_from-clause-read : goal.returns-in_err-read_from-clause-read
+returns-in_err-read_from-clause-read g c =
     let P = g.P.Plant in
     let x = c.args.complex.now in
-    let z = c.loop-by.complex in
+    let z = c.spelled.complex in
     let y = c.lose_read.new.complex in
-    let w = c.read_from-in-loop-by.new.complex in
-    let i = c.loop-by.invariant in
+    let w = c.read_from.new.complex in
+    let i = c.spelled.invariant in
     let l = c.in_ok-lose_read.ensures in
-    let e = c.in_err-read_from-2.ensures in
+    let e = c.in_err-read_from.ensures in
     let lost : HasRead P.tells x.pair.first.alive y.pair.first.alive x.pair.second.alive y.pair.second.alive (P.view x.plant) (P.view y.plant)
     = read_then P.tells x.pair.first.alive z.pair.first.alive y.pair.first.alive x.pair.second.alive z.pair.second.alive y.pair.second.alive (P.view x.plant) (P.view z.plant) (P.view y.plant) i.acts l.read.acts in
     let spared : Spares c.args.self.now.id.0 false (P.view x.plant) (P.view y.plant)
     = spares_then c.args.self.now.id.0 false (P.view x.plant) (P.view z.plant) (P.view y.plant) i.spares (spares_for c.args.self.now.id.0 0 (P.view z.plant) (P.view y.plant) l.read.spares) in
-    let p = err_from_is_err_and c.from_residual-in_err-read_from-2.result c.from_residual-in_err-read_from-2.ensures.1 in
+    let p = err_from_is_err_and c.from_residual-in_err-read_from.result c.from_residual-in_err-read_from.ensures.1 in
     rw (p.1, p.2) (error_later (Unit {0}) ℕ P.tells c.args.self.now.id.0 x.pair.first.alive y.pair.first.alive w.pair.first.alive x.pair.second.alive y.pair.second.alive w.pair.second.alive (P.view x.plant) (P.view y.plant) (P.view w.plant)
-    c.in_err-read_from-2.field-0.0 lost spared e.read)
+    c.in_err-read_from.field-0.0 lost spared e.read)
 
 pub returns-clause-spelled : goal.returns-clause-spelled
-returns-clause-spelled g c = rw c.as_slice.ensures at (c.are_spelled.ensures.good c.loop-by-test.false)
+returns-clause-spelled g c = rw c.as_slice.ensures at (c.are_spelled.ensures.good c.spelled-test.false)
 
 pub returns-clause-rests1 : goal.returns-clause-rests1
 returns-clause-rests1 g c =
-    let i = c.loop-by.invariant in
+    let i = c.spelled.invariant in
     record {
       before = i.first ∙ c.requires.calm1.before;
       as_many = λ on. i.as_many ∙ c.requires.calm1.as_many (i.acts.course.alive1 on) ∙ sym (ap g.C.Copying.count i.copy1);
@@ -181,9 +238,15 @@ returns-clause-rests1 g c =
 
 pub returns-clause-rests2 : goal.returns-clause-rests2
 returns-clause-rests2 g c =
-    let i = c.loop-by.invariant in
+    let i = c.spelled.invariant in
     record {
       before = i.second ∙ c.requires.calm2.before;
       as_many = λ on. i.as_many ∙ c.requires.calm2.as_many (i.acts.course.alive2 on) ∙ sym (ap g.C.Copying.count i.copy2);
       reads = rw c.as_slice.ensures at c.are_spelled.ensures.reads2;
     }
+
+pub returns-clause-acts : goal.returns-clause-acts
+returns-clause-acts g c = c.spelled.invariant.took
+
+pub returns-clause-alike : goal.returns-clause-alike
+returns-clause-alike g c on = let i = c.spelled.invariant in i.alike on ∙ ap (λ (k : Checkpoint). k.pages) (sym i.checkpoint)

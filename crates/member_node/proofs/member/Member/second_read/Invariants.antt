@@ -1,19 +1,21 @@
-use Rattle.std.proofs.Common.{◌≡◌, false, length}
+use Rattle.std.proofs.Common.{◌≡◌, true, false, length}
 use Rattle.mas_types.specs.declared.ids.Dev.TheVariants.{Ckpt1, Ckpt2}
 use Rattle.spool_plant.specs.View.{disk_now}
 use Rattle.duplex_pair.specs.Halves.{SomeAlive}
 use Rattle.mas_complex.specs.Journals.{kept_all}
 use Rattle.mas_complex.specs.Meaning.{run}
-use Rattle.member_node.specs.Reads.{HasRead, IsReadWhole, copies_alive}
+use Rattle.member_node.specs.Reads.{HasRead, IsReadWhole, TookActs, copies_alive}
 use Rattle.member_node.specs.Spares.{Spares}
+use Rattle.member_node.specs.Wanted.{level_had, wanted}
+use Rattle.ckpt_pages.specs.Given.{levels_given}
 use Rattle.member_node.proofs.member.Member.second_read.Given as goal
 
 -- a copy is lost at each turn
-abbrev pub decreases-loop-by : goal.decreases-loop-by
-decreases-loop-by g l = copies_alive l.complex.pair.first.alive l.complex.pair.second.alive
+abbrev pub decreases-spelled : goal.decreases-spelled
+decreases-spelled g l = copies_alive l.complex.pair.first.alive l.complex.pair.second.alive
 
-abbrev pub invariant-loop-by : goal.invariant-loop-by
-invariant-loop-by g l =
+abbrev pub invariant-spelled : goal.invariant-spelled
+invariant-spelled g l =
     let P = g.P.Plant in
     let C = g.C.Copying in
     let x = l.fn.complex in
@@ -23,6 +25,7 @@ invariant-loop-by g l =
       printed : z.printed ≡ x.printed;
       since : z.since ≡ x.since;
       renewals : z.renewals ≡ x.renewals;
+      had : z.had ≡ x.had;
       book : z.book ≡ x.book;
       journal : z.journal ≡ x.journal;
       current : z.current ≡ x.current;
@@ -37,6 +40,10 @@ invariant-loop-by g l =
       checkpoint : l.self.checkpoint ≡ l.fn.self.checkpoint;
       batch : l.self.batch ≡ l.fn.self.batch;
       behind : l.self.behind ≡ false;
+      fresh : l.self.fresh ≡ l.fn.self.fresh;
+      count : P.tells → l.count ≡ length (wanted (level_had l.fn.self.fresh l.fn.self.checkpoint.level) (levels_given l.self.room));
+      took : P.tells → TookActs l.count x.pair.first.alive z.pair.first.alive x.pair.second.alive z.pair.second.alive (P.view x.plant) (P.view z.plant);
+      alike : l.alike ≡ true → l.self.room ≡ l.fn.self.checkpoint.pages;
       as_many : length l.self.room ≡ length l.fn.self.room;
       some : SomeAlive z.pair.first.alive z.pair.second.alive;
       acts : HasRead P.tells x.pair.first.alive z.pair.first.alive x.pair.second.alive z.pair.second.alive (P.view x.plant) (P.view z.plant);

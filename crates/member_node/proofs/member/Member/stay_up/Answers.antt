@@ -2,7 +2,9 @@ use Rattle.std.proofs.Common.{sym, refl, subst}
 use Rattle.ckpt_pages.specs.Checkpoints.{IsCheckpoint}
 use Rattle.ckpt_pages.proofs.DecodingLemmas.{one_value}
 use Rattle.member_node.specs.Reads.{MayGoOn}
+use Rattle.member_node.proofs.EntryLemmas.{facts_same}
 use Rattle.member_node.proofs.AlikeLemmas.{alike_checkpoint, up_already}
+use Rattle.member_node.proofs.MirrorLemmas.{own_mirror}
 use Rattle.member_node.proofs.member.Member.stay_up.Goals as goal
 
 pub may_go_on-requires : goal.may_go_on-requires
@@ -12,7 +14,7 @@ may_go_on-requires c =
 
 pub returns-then-not-may_go_on-clause-refused : goal.returns-then-not-may_go_on-clause-refused
 returns-then-not-may_go_on-clause-refused c is_false = (
-  refl,
+  facts_same c.args.self.now _ _,
   λ t is may.
       let s = c.args.self.now in
       let own : IsCheckpoint s.room s.checkpoint.tables = alike_checkpoint s.room s.checkpoint c.requires.drawn c.requires.same in
@@ -25,3 +27,6 @@ returns-clause-up c is =
     let s = c.args.self.now in
     let may : MayGoOn s.checkpoint.tables.config s.room s.checkpoint.tables = rw c.as_slice-pages.ensures at (c.may_go_on.ensures.may c.if-not-may_go_on.false) in
     up_already s.room s.checkpoint c.requires.drawn c.requires.same may
+
+pub invariant_of-self-clause-mirrored : goal.invariant_of-self-clause-mirrored
+invariant_of-self-clause-mirrored c on = let s = c.args.self.now in own_mirror s.room s.checkpoint.pages c.requires.same
