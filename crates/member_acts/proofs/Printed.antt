@@ -28,7 +28,7 @@ use Rattle.member_work.specs.Looks.{as_it_is}
 use Rattle.member_work.specs.Printing.{IsBookAfterLines, IsReservedAfterLines}
 use Rattle.member_work.specs.Rounds.{IsReadAs}
 use Rattle.member_work.specs.Units.{printed_end as printed_by}
-use Rattle.member_work.proofs.InkedLemmas.{inked_stopped, inked_wanting, unprinted_yet}
+use Rattle.member_acts.proofs.InkedLemmas.{inked_stopped, inked_wanting, unprinted_yet}
 use Rattle.mas_types.specs.declared.ids.GroupNo.{GroupNo}
 use Rattle.step_turns.specs.declared.states.Found.{Found}
 use Rattle.member_asides.specs.Asides.{HasOnlyPrinted, lines_next, printed_in}

@@ -1,5 +1,5 @@
 -- What acts without the lock show of a text.
-use Rattle.std.proofs.Common.{OnOk, Result, Ok, Err, ◌≡◌, ◌∙◌, ℕ, ◌*◌, Bool, true, false, List, append-nil, Option, Some, None, ap, refl, sym, subst, arith}
+use Rattle.std.proofs.Common.{OnOk, Result, Ok, Err, ◌≡◌, ◌∙◌, ℕ, ◌*◌, ◌≤◌, Bool, true, false, List, append-nil, Option, Some, None, ap, refl, sym, subst, arith}
 use Rattle.std.proofs.Math.Logic.{∥∥₁_elim}
 use Rattle.std.specs.Coded.{Coded-set}
 use Rattle.queue_laws.proofs.Finds.{find-All}
@@ -56,7 +56,7 @@ use Rattle.member_decks.specs.declared.spooling.SpoolError.TheVariants as spool
 use Rattle.member_decks.specs.Spooling.{OnVolumes, SpoolCauses, GroupsKept}
 use Rattle.member_work.specs.Spooled.{AreSpooled}
 use Rattle.member_sittings.specs.Asides.{finds_of}
-use Rattle.member_asides.specs.Asides.{HasWritten, IsJobStill, IsOutputStill, lowest_for}
+use Rattle.member_asides.specs.Asides.{HasStayed, HasWritten, IsJobStill, IsOutputStill, lowest_for}
 
 one_group : (a b : GroupNo) → Some a ≡ Some b → a ≡ b
 one_group a b e = cc
@@ -90,9 +90,15 @@ module _ (told : Type 0) (config : Config) (t : Tables) (Q : Queue) (v w : View)
       → Reads told config v w j.text r.cards (groups_of (Deck n) t.owners) (groups_of (Deck n) Q.owners) o → IsFailedRead config.groups (groups_of (Deck n) t.owners) o v w → IsReadAs told config.groups j.text (groups_of (Deck n) Q.owners) (Some o) v w
   job_seen o still job number found tells whole roomy texts reads failed =
       let same = still.groups ∙ ap (groups_of (Deck n)) still.told.owners in
-      let there : job_at still.was r.number ≡ Some j = ap (job_at still.was) number ∙ sym still.job ∙ found in
-      let its = job.same still.was j still.told there in
-      text_seen told config v w j.text r.cards (groups_of (Deck n) t.owners) (groups_of (Deck n) Q.owners) (HasTexts (lost_now v) (spools_at v v.now) config.groups Q) o same its.2 tells whole roomy texts (stands_there found) reads failed
+      let had = still.text j found in
+      let there : job_at still.was r.number ≡ Some had.0 = ap (job_at still.was) number ∙ had.1 in
+      let its = job.same still.was had.0 still.told there in
+      let lines : line_count j.text ≡ r.cards = ap line_count had.2 ∙ its.2 in
+      text_seen told config v w j.text r.cards (groups_of (Deck n) t.owners) (groups_of (Deck n) Q.owners) (HasTexts (lost_now v) (spools_at v v.now) config.groups Q) o same lines tells whole roomy texts (stands_there found) reads failed
+
+-- as many lines in all
+same_total : (had has : Output) → HasStayed had has → total has ≡ total had
+same_total had has same = ap (λ (k : Text). line_count k * has.copies) same.text ∙ ap (λ (k : ℕ). line_count had.text * k) same.copies
 
 -- the text of an output, and its groups, as the member's tables still tell them
 module _ (told : Type 0) (config : Config) (t : Tables) (Q : Queue) (v w : View) (n : JobNo) (i : OutNo) (by : MemberId) (r : OutRec) (o : Output) where
@@ -107,7 +113,15 @@ module _ (told : Type 0) (config : Config) (t : Tables) (Q : Queue) (v w : View)
   -- what the record says of it
   pub output_was : (still : IsOutputStill t by n i Q) → IsToldOutput t r → r.job ≡ n → r.index ≡ i → output_at Q n i ≡ Some o → (o.job ≡ r.job) × (o.index ≡ r.index) × (o.mark ≡ r.mark) × (line_count o.text ≡ r.lines) × (total o ≡ r.lines * r.copies)
   output_was still rec job index found =
-      rec.same still.was o still.told (ap (λ (k : JobNo). output_at still.was k r.index) job ∙ ap (output_at still.was n) index ∙ sym still.output ∙ found)
+      let key = key_of n i Q.outputs o found in
+      let had = still.output o found in
+      let same = rec.same still.was had.0 still.told (ap (λ (k : JobNo). output_at still.was k r.index) job ∙ ap (output_at still.was n) index ∙ had.1) in (
+        key.0 ∙ sym job,
+        key.1 ∙ sym index,
+        had.2.mark ∙ same.2,
+        ap line_count had.2.text ∙ same.3,
+        same_total had.0 o had.2 ∙ same.4,
+      )
 
   pub output_read : (x : Read) → (still : IsOutputStill t by n i Q) → IsToldOutput t r → r.job ≡ n → r.index ≡ i → output_at Q n i ≡ Some o → told → IsWhole o.text → AreRoomy v config → ∥ HasTexts (lost_now v) (spools_at v v.now) config.groups Q ∥₁
       → Reads told config v w o.text r.lines (groups_of (OutputThing n i) t.owners) (groups_of (OutputThing n i) Q.owners) x → IsFailedRead config.groups (groups_of (OutputThing n i) t.owners) x v w
@@ -119,26 +133,31 @@ module _ (told : Type 0) (config : Config) (t : Tables) (Q : Queue) (v w : View)
 
 -- its next lines may be printed
 pub may_print_still : (base : Queue) (batches : List Batch) (current : Option Batch) (m : MemberId) (t : Tables) (n : JobNo) (i : OutNo) (r : OutRec) (last : ℕ) (lines : List (List ℕ)) → current ≡ None → (still : IsOutputStill t m n i (run base (kept_all batches))) → IsToldOutput t r → IsChunkOf t m r last
-    → r.job ≡ n → r.index ≡ i → (p : IsPrinting still.was m n i) → p.output.text ≡ Whole lines → MayPrintTo base batches current m r.job r.index r.mark last lines
+    → r.job ≡ n → r.index ≡ i → (p : IsPrinting still.was m n i) → (still.busy p.output p.there p.busy).0.text ≡ Whole lines → MayPrintTo base batches current m r.job r.index r.mark last lines
 may_print_still base batches current m t n i r last lines none still rec chunk job index p text =
     let Q : Queue = run base (kept_all batches) in
-    let o : Output = p.output in
+    let w : Output = p.output in
+    let has = still.busy w p.there p.busy in
+    let o : Output = has.0 in
+    let key = key_of n i Q.outputs o has.1 in
     let named : (R : Queue) → output_at R r.job r.index ≡ output_at R n i = λ R. ap (λ (k : JobNo). output_at R k r.index) job ∙ ap (output_at R n) index in
-    let was : output_at still.was r.job r.index ≡ Some o = named still.was ∙ p.there in
-    let there : output_at Q r.job r.index ≡ Some o = named Q ∙ still.output ∙ p.there in
-    let busy : printing_at Q m ≡ Some o = still.busy ∙ p.busy in
-    let is = chunk.is still.was o still.told was in
-    let same = rec.same still.was o still.told was in
+    let was : output_at still.was r.job r.index ≡ Some w = named still.was ∙ p.there in
+    let there : output_at Q r.job r.index ≡ Some o = named Q ∙ has.1 in
+    let busy : printing_at Q m ≡ Some o = has.2 in
+    let is = chunk.is still.was w still.told was in
+    let same = rec.same still.was w still.told was in
     let limit = still.limit in
+    let mark : o.mark ≡ w.mark = has.3.mark in
+    let upto : last ≤ total w = omega (arith, is) in
     record {
       output = o;
       busy = busy;
-      job = same.0;
-      index = same.1;
-      mark_is = same.2;
+      job = key.0 ∙ sym job;
+      index = key.1 ∙ sym index;
+      mark_is = mark ∙ same.2;
       text = text;
-      upto = omega (arith, is);
-      limit = omega (arith, is, limit);
+      upto = subst (λ (k : ℕ). last ≤ k) (sym (same_total w o has.3)) upto;
+      limit = omega (arith, is, limit, mark);
       still = rw none (subst (λ (es : List Entry). busy_in (output_at (run base es) r.job r.index) m ≡ true) (sym (append-nil (kept_all batches))) (still_busy Q m r.job r.index o there busy));
     }
 

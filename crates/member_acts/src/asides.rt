@@ -6,15 +6,17 @@ ghost use Rattle.mas_complex.specs.Parts.{parts_of};
 ghost use Rattle.member_sittings.specs.Asides.{deck_found, finds_of};
 ghost use Rattle.member_asides.specs.Asides.{MayPrintLines, MayReadText, MayWriteOutputs, OnlyPrints, PrintsLines, ReadsText, WritesOutputs, printed_found, read_found};
 
+use crate::gone::{gone_deck, gone_output};
+use crate::printing::print_text;
+use crate::reading::read_text;
+use crate::spooling::write_and_sync;
 use job_outcome::Read;
 use job_queue::find_job;
 use mas_complex::{Complex, Steady};
 use mas_types::{Closing, JobNo, Lines, List, OutNo, OutSpec, Thing};
 use member_decks::SpoolError;
 use member_node::{Member, NodeNo};
-use member_work::{
-    gone_deck, gone_output, groups_of_outputs, print_text, read_text, write_and_sync,
-};
+use member_work::groups_of_outputs;
 use output_queue::find_output;
 use spool_plant::Plant;
 use std::alloc::Global;

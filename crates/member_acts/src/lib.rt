@@ -3,5 +3,9 @@
 #![tactic(auto)]
 
 mod asides;
+mod gone;
+mod printing;
+mod reading;
+mod spooling;
 
 pub use asides::{print_next_lines, read_job_text, write_outputs};

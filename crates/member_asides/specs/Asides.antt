@@ -31,6 +31,7 @@ use Rattle.track_groups.specs.Places.{groups_of}
 use Rattle.job_exec.specs.Running.{AreOutputs}
 use Rattle.job_outcome.specs.declared.outcomes.Read.{Read}
 use Rattle.job_outcome.specs.Outcomes.{IsReadable}
+use Rattle.nje_frames.specs.declared.frames.Frame.{Frame}
 use Rattle.mas_complex.specs.declared.complex.Complex.{Complex}
 use Rattle.ckpt_form.specs.declared.steady.Steady.{Ghosts as SteadyGhosts}
 use Rattle.mas_complex.specs.Locking.{IsUp, reserved_after_stop}
@@ -58,6 +59,10 @@ use Rattle.member_asides.specs.Ready.{IsOutputReady}
 
 -- WHAT A MEMBER FOUND
 
+-- at a line to another node: this text, whether the line was found lost, and these frames
+abbrev pub wire_found : Read → Bool → List Frame → Found
+wire_found read lost frames = record nothing_found { read = read; wire = lost; frames = frames }
+
 -- what a member found that read a text
 abbrev pub read_found : Read → Found
 read_found read = record nothing_found { read = read }
@@ -68,21 +73,29 @@ printed_found read lost = record nothing_found { read = read; printer = lost }
 
 -- WHAT THE MEMBER'S TABLES SAY OF A QUEUE, though others may have changed it since
 
--- a job and its groups are still as the tables tell
+-- A job has its text and its groups still, as the tables tell. Others may have held or cancelled it, or changed its class.
 pub record IsJobStill (t : Tables) (n : JobNo) (Q : Queue) : Type 0 where
   pub was : Queue
   pub told : Tell t was
-  pub job : job_at Q n ≡ job_at was n
+  pub text : (has : Job) → job_at Q n ≡ Some has → (had : Job) × (job_at was n ≡ Some had) × (has.text ≡ had.text)
   pub groups : groups_of (Deck n) Q.owners ≡ groups_of (Deck n) was.owners
 
--- an output and its groups, the output that is busy at the member, and the limit of its printer are still as the
--- tables tell
+-- an output has its mark, its text and its copies still
+pub record HasStayed (had has : Output) : Type 0 where
+  pub mark : has.mark ≡ had.mark
+  pub text : has.text ≡ had.text
+  pub copies : has.copies ≡ had.copies
+
+-- An output has these and its groups still, as the tables tell, and is busy at the member if it was. So is the limit of
+-- the member's printer.
 pub record IsOutputStill (t : Tables) (by : MemberId) (n : JobNo) (i : OutNo) (Q : Queue) : Type 0 where
   pub was : Queue
   pub told : Tell t was
-  pub output : output_at Q n i ≡ output_at was n i
+  pub output : (has : Output) → output_at Q n i ≡ Some has → (had : Output) × (output_at was n i ≡ Some had)
+      × HasStayed had has
+  pub busy : (had : Output) → output_at was n i ≡ Some had → printing_at was by ≡ Some had
+      → (has : Output) × (output_at Q n i ≡ Some has) × (printing_at Q by ≡ Some has) × HasStayed had has
   pub groups : groups_of (OutputThing n i) Q.owners ≡ groups_of (OutputThing n i) was.owners
-  pub busy : printing_at Q by ≡ printing_at was by
   pub limit : limit_of Q by ≡ limit_of was by
 
 -- the lowest groups of a member, as many as outputs need

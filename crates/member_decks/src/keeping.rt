@@ -17,6 +17,7 @@ ghost use Rattle.queue_effect.specs.Standing.{AreFit};
 ghost use Rattle.member_node.specs.Batches.{CanDraw, HasDone};
 ghost use Rattle.member_node.specs.Copies.{RestsAt};
 ghost use Rattle.member_steps.specs.Counting.{HasCounted};
+ghost use Rattle.member_steps.specs.Noting.{KeepsNotes, LeavesNotes};
 ghost use Rattle.member_steps.specs.Steps.{AreAllKept, IsBetween};
 ghost use Rattle.member_decks.specs.Decks.{closes as closes_lem, closing_reply, finishing as finishing_lem, lines_by};
 ghost use Rattle.member_decks.specs.Keeping.{GivesUpLeaves, IsOnCopies, KeepLeaves};
@@ -96,6 +97,7 @@ pub fn keep_batch<P: Plant + Drop, C: Steady + Drop>(
     alloc: Global,
     complex: &mut Complex<P, C>,
 ) -> Result<(), NodeNo>
+    requires by { member.old.id.0 ≤ members_most }
     requires may { MayAct complex.old.book member.old.id }
     requires some { 1 ≤ length member.old.batch }
     requires own { All (λ e. e.by ≡ member.old.id) member.old.batch }
@@ -154,6 +156,7 @@ pub fn keep_batch<P: Plant + Drop, C: Steady + Drop>(
         → AreAllKept complex.new.journal.batches (P.view complex.new.plant).now) }
     ensures level { OnOk result (member.new.checkpoint.level ≤ member.old.checkpoint.level + 1) }
     ensures reached { OnOk result (complex.new.level ≤ complex.old.level + 1) }
+    ensures notes { KeepsNotes complex.old complex.new member.old member.new result }
     ensures counts { HasCounted member.old.id member.old.batch complex.old.printed complex.new.printed result }
 {
     let Ok(draft) = member.ready(alloc, complex) else {
@@ -170,6 +173,7 @@ pub fn give_up<P: Plant + Drop, C: Steady + Drop>(
     alloc: Global,
     complex: &mut Complex<P, C>,
 ) -> NodeNo
+    requires by { member.old.id.0 ≤ members_most }
     requires may { MayAct complex.old.book member.old.id }
     requires own { All (λ e. e.by ≡ member.old.id) member.old.batch }
     requires none { complex.old.current ≡ None }
@@ -209,6 +213,7 @@ pub fn give_up<P: Plant + Drop, C: Steady + Drop>(
     ensures leaves { GivesUpLeaves result complex.old.journal.batches
         (end_of complex.new.placed complex.new.current complex.new.journal.batches)
         (begun (P.view complex.old.plant).now member.old.id member.old.batch) (P.view complex.new.plant).now }
+    ensures notes { LeavesNotes member.old.id complex.old complex.new }
     ensures counts { HasCounted {T = Unit {0}} member.old.id [] complex.old.printed complex.new.printed (Err result) }
 {
     if member.batch.len() == 0 {

@@ -1,14 +1,12 @@
-//! The parts of a deck's step: its job begins and gets groups, its text goes into them, and batches are kept.
+//! What a step gives that reads a deck; batches of it that are kept, and the lines with which it closes.
 #![tactic(auto)]
 
 mod examples;
-mod holding;
 mod keeping;
 mod opening;
 mod spooling;
 
 pub use examples::examples_of_deck_steps;
-pub use holding::take_hold;
 pub use keeping::{finishing, give_up, keep_batch, last_lines};
-pub use opening::{Opened, open_deck, take_groups};
-pub use spooling::{SpoolError, spool_text, sync_volumes, write_pages};
+pub use opening::Opened;
+pub use spooling::SpoolError;

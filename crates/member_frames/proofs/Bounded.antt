@@ -10,7 +10,7 @@ use Rattle.step_turns.specs.declared.states.State.{State}
 use Rattle.step_turns.specs.declared.states.State.TheVariants.{Away, Fresh, Rested, Told}
 use Rattle.step_turns.specs.TurnParts.{leaves, says}
 use Rattle.member_sittings.specs.Shapes.{LineLines, SaysAtEnd}
-use Rattle.member_units.specs.Plays.{unwritten, wrote_of}
+use Rattle.member_giving.specs.Plays.{unwritten, wrote_of}
 use Rattle.member_frames.specs.Plays.{EndsLine, IsWithinLine}
 
 -- the step closes

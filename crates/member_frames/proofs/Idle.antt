@@ -8,6 +8,7 @@ use Rattle.member_node.specs.Calls.{console_now}
 use Rattle.member_node.proofs.CourseLemmas.{course_none, only_none, papers_none, wires_none}
 use Rattle.member_node.proofs.SpareLemmas.{spares_none}
 use Rattle.member_steps.proofs.CountLemmas.{counted_error}
+use Rattle.member_steps.proofs.NoteLemmas.{notes_none}
 use Rattle.step_turns.specs.Entries.{all_entries}
 use Rattle.step_turns.specs.Sittings.{Sitting}
 use Rattle.member_sittings.specs.Sat.{IsSat, journal_of}
@@ -26,6 +27,7 @@ sat_nothing plants by t x same =
         wires = λ s. wires_none v;
         spares = spares_none by.0 v;
         cause = inr (refl, refl);
+        notes = notes_none by x.had;
       };
       reach = record { whole = 0; part = 0; flies = false };
       more = [];

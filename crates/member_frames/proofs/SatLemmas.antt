@@ -34,11 +34,11 @@ use Rattle.member_sittings.specs.Sat.{HasSat, resumes}
 use Rattle.member_sittings.specs.Shapes.{Says, SaysLine}
 use Rattle.member_sittings.specs.Tight.{IfNoWork}
 use Rattle.member_sittings.specs.Whole.{queue_of}
-use Rattle.member_units.specs.Plays.{Wrote, wrote_of}
+use Rattle.member_giving.specs.Plays.{Wrote, wrote_of}
 use Rattle.member_asides.specs.Ready.{HasFewer}
-use Rattle.member_units.specs.Works.{HasRoom, IsLow, outside, place_of}
-use Rattle.member_units.proofs.Sat.{sat_played, sits_as, sitting_as}
-use Rattle.member_units.proofs.Working.{AtWork}
+use Rattle.member_giving.specs.Works.{HasRoom, IsLow, outside, place_of}
+use Rattle.member_giving.proofs.Sat.{sat_played, sits_as, sitting_as}
+use Rattle.member_giving.proofs.Working.{AtWork}
 use Rattle.member_frames.specs.Plays.{IsWithinLine, SatLine, ServesLine, answer_end, ends_or_serves}
 use Rattle.member_frames.specs.Waits.{IsServable, WaitsOnLine}
 use Rattle.member_frames.proofs.Fronts.{serves_any}

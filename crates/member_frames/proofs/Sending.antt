@@ -17,11 +17,11 @@ use Rattle.step_turns.specs.declared.states.Holder.{Holder}
 use Rattle.step_turns.specs.declared.states.Service.{Service}
 use Rattle.step_turns.specs.TurnParts.{Turn}
 use Rattle.member_sittings.specs.declared.ends.SittingEnd.{SittingEnd}
-use Rattle.member_units.specs.Plays.{HasGiven, Keeps, SparesVolumes, Wrote, after_full, full_of, unwritten, wrote_of}
-use Rattle.member_units.specs.Works.{Outside, Place}
-use Rattle.member_units.proofs.Gave.{closing_one}
-use Rattle.member_units.proofs.Going.{after_batches, played_fits, played_full, played_full_error, played_part, played_part_error}
-use Rattle.member_units.proofs.Within.{full_le, unwritten_one}
+use Rattle.member_giving.specs.Plays.{HasGiven, Keeps, SparesOthers, Wrote, after_full, full_of, unwritten, wrote_of}
+use Rattle.member_giving.specs.Works.{Outside, Place}
+use Rattle.member_giving.proofs.Gave.{closing_one}
+use Rattle.member_giving.proofs.Going.{after_batches, played_fits, played_full, played_full_error, played_part, played_part_error}
+use Rattle.member_giving.proofs.Within.{full_le, unwritten_one}
 use Rattle.member_frames.specs.declared.nexts.Next.{Next}
 use Rattle.member_frames.specs.declared.nexts.Next.TheVariants as next
 use Rattle.member_frames.specs.Nexts.{counts_by, frames_in, next_of, turn_by}
@@ -71,7 +71,7 @@ module _ (told : Type 0) (h : Holder) (number : ℕ) (s : Service) (old mid : Pl
     one_more = let longer = ap (λ (l : List Entry). length l) g.left in let both = length-append old.batch g.es in omega (arith, one, longer, both)
 
     -- a full batch couldn't be kept
-    pub send_full_error : (new : Outside) (why : NodeNo) → (told → SparesVolumes mid.outside new) → Keeps {T = Unit {0}} told h.by (full_of mid.batch) mid.outside new (Err why)
+    pub send_full_error : (new : Outside) (why : NodeNo) → SparesOthers told h.by mid.outside new → Keeps {T = Unit {0}} told h.by (full_of mid.batch) mid.outside new (Err why)
         → {gave : List Entry} → HasCounted {T = Unit {0}} h.by gave mid.outside.printed new.printed (Err why) → Whole new (Err why)
     send_full_error new why spares keeps {gave} counted =
         let v = turn_serves h s.frames counts (run old.queue es) (suc given) in
@@ -103,7 +103,7 @@ module _ (told : Type 0) (h : Holder) (number : ℕ) (s : Service) (old mid : Pl
           ∙ ap (λ (k : ℕ). serves h.by h.step s.frames counts (run old.queue es) k) later
 
       -- the next frame follows
-      pub send_then : (new : Outside) (r : Result SittingEnd NodeNo) {S : Type 0} (done : S) → (told → SparesVolumes mid.outside after.outside) → Keeps {T = S} told h.by (full_of mid.batch) mid.outside after.outside (Ok done)
+      pub send_then : (new : Outside) (r : Result SittingEnd NodeNo) {S : Type 0} (done : S) → SparesOthers told h.by mid.outside after.outside → Keeps {T = S} told h.by (full_of mid.batch) mid.outside after.outside (Ok done)
           → HasCounted {T = S} h.by (all_entries (full_of mid.batch)) mid.outside.printed after.outside.printed (Ok done) → ServesLine told h least (given + 1) (wrote_of after.batch t) after new r → Whole new r
       send_then new r {S} done spares keeps counted p =
           played_part told h (IsWithinLine h most) given (sent ∷ []) end_as old mid t (rest es) end (given + 1) new r g one_more follows

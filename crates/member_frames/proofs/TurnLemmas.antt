@@ -29,8 +29,8 @@ use Rattle.step_turns.specs.declared.states.Holder.{Holder}
 use Rattle.step_turns.specs.declared.states.Service.{Service}
 use Rattle.step_turns.specs.TurnParts.{Turn, after_part, says}
 use Rattle.member_sittings.specs.Shapes.{LineLines, SaysAtEnd}
-use Rattle.member_units.specs.Plays.{unwritten, wrote_after, wrote_of}
-use Rattle.member_units.proofs.Within.{after_few, cut_few}
+use Rattle.member_giving.specs.Plays.{unwritten, wrote_after, wrote_of}
+use Rattle.member_giving.proofs.Within.{after_few, cut_few}
 use Rattle.member_frames.specs.Plays.{IsWithinLine}
 
 -- its parts and the sittings that may follow are so many together at most; its lines are such, and its entries those of

@@ -25,8 +25,8 @@ use Rattle.member_sittings.specs.declared.ends.SittingEnd.{SittingEnd}
 use Rattle.member_sittings.specs.Sat.{IsSat}
 use Rattle.member_sittings.specs.Shapes.{LineLines, SaysAtEnd}
 use Rattle.member_sittings.specs.Whole.{queue_of}
-use Rattle.member_units.specs.Plays.{PlaysAs, Wrote}
-use Rattle.member_units.specs.Works.{Outside, Place}
+use Rattle.member_giving.specs.Plays.{PlaysAs, Wrote}
+use Rattle.member_giving.specs.Works.{Outside, Place}
 
 -- a step closes so without a reply
 abbrev pub EndsLine : Closing → Type 0

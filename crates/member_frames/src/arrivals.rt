@@ -9,7 +9,7 @@ ghost use Rattle.member_sittings.specs.Asides.{DeckIsSpooled, deck_found};
 ghost use Rattle.member_sittings.specs.Sat.{HasSat, SitsOn, resumes, sat_in};
 ghost use Rattle.member_sittings.specs.Whole.{MaySit};
 ghost use Rattle.member_asides.specs.Ready.{HasFewer};
-ghost use Rattle.member_units.specs.Works.{SitsIn};
+ghost use Rattle.member_giving.specs.Works.{SitsIn};
 ghost use Rattle.step_turns.specs.Serving.{taken_most};
 ghost use Rattle.step_turns.specs.declared.states.Aside.TheVariants.{SpoolArrival};
 ghost use Rattle.member_frames.specs.Arriving.{BeginsArrival, IsJobFrame};
@@ -20,8 +20,9 @@ use crate::ends::close_line;
 use card_reader::{DeckNo, read_deck};
 use mas_complex::{Complex, Steady};
 use mas_types::{Closing, Command, JobFields, JobNo, Lines, List, Reply};
-use member_decks::{Opened, open_deck};
+use member_decks::Opened;
 use member_node::{Member, NodeNo};
+use member_opening::open_deck;
 use member_sittings::{
     SittingEnd, SpooledDeck, close_deck, give_up_sitting, pause_sitting, sit_spooled,
 };

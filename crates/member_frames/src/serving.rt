@@ -1,9 +1,9 @@
 //! Frames handled one after another, within a sitting.
 ghost use Rattle.std.specs.Prelude.{◌≡◌, ◌+◌, ◌*◌, ◌≤◌, [], IfOk};
 ghost use Rattle.step_turns.specs.Laws.{units_left};
-ghost use Rattle.member_units.specs.Plays.{wrote_of};
+ghost use Rattle.member_giving.specs.Plays.{wrote_of};
 ghost use Rattle.member_asides.specs.Ready.{HasFewer};
-ghost use Rattle.member_units.specs.Works.{HasRoom, SitsIn, Works, outside, place_of, queue_here, run_of};
+ghost use Rattle.member_giving.specs.Works.{HasRoom, SitsIn, Works, outside, place_of, queue_here, run_of};
 ghost use Rattle.member_frames.specs.Nexts.{IsNoBegin, IsServableNext, frames_in, turn_by};
 ghost use Rattle.member_frames.specs.Plays.{ServesLine};
 ghost use Rattle.member_frames.specs.Waits.{WaitsOnLine};
@@ -12,9 +12,9 @@ use crate::ends::{close_line, leave_line};
 use crate::nexts::{Next, counted, next_of};
 use mas_complex::{Complex, Steady};
 use mas_types::{Closing, Command};
+use member_giving::{give, keep_full};
 use member_node::{Member, NodeNo};
 use member_sittings::SittingEnd;
-use member_units::{give, keep_full};
 use spool_plant::Plant;
 use std::alloc::Global;
 use step_turns::{Aside, Holder, State};

@@ -1,7 +1,7 @@
--- A line of a step tells none of those before it.
-use Rattle.std.proofs.Common.{◌≡◌, ℕ, ◌+◌, ◌^◌, ◌<◌, ◌==◌, ◌&&◌, ◌||◌, Bool, true, false, List, [], ◌∷◌, All, refl, ap, arith}
-use Rattle.std.proofs.lemmas.Bool.{ne_eqb}
-use Rattle.std.proofs.lemmas.List.Elements.{All-head, All-tail}
+-- A line of a step tells none of those before it, and none of another member.
+use Rattle.std.proofs.Common.{◌≡◌, ◌∙◌, ◌⊎◌, inr, ⊎_elim, ℕ, ◌+◌, ◌^◌, ◌<◌, ◌==◌, true, false, List, [], ◌∷◌, All, refl, ap, subst, sym, arith}
+use Rattle.std.proofs.lemmas.Bool.{eqb-true}
+use Rattle.std.proofs.lemmas.List.Elements.{All-head, All-tail, All-weaker}
 use Rattle.mas_types.specs.declared.ids.MemberId.{MemberId}
 use Rattle.mas_types.specs.declared.answers.Closing.{Closing}
 use Rattle.mas_types.specs.declared.answers.Closing.TheVariants as closing
@@ -12,7 +12,8 @@ use Rattle.mas_types.specs.Closings.{closing_line, closing_text}
 use Rattle.mas_types.specs.Ids.{same_member}
 use Rattle.mas_complex.specs.Journals.{StepIsKept, has_step}
 use Rattle.mas_complex.specs.Meaning.{Closes, is_telling}
-use Rattle.member_lines.specs.Earlier.{AreBefore}
+use Rattle.member_steps.specs.Steps.{AreEarlier, AreKeptFrom, IsKeptBy}
+use Rattle.member_steps.proofs.LineLemmas.{by_test, one_member, same_id}
 pub use Rattle.member_steps.proofs.LineLemmas.{line_of, same_step, same_text}
 
 -- WHAT A CLOSING LINE TELLS: no earlier step
@@ -57,27 +58,35 @@ never_stopped by at small m s less closes =
     not_stopped closes.end closes.telling
     (ap first_byte (same_text by m at s (closing_text closing.Stopped) (closing_text closes.end) small (omega arith) closes.is))
 
--- WHERE A LINE TELLS NO STEP before this one, what it tells is kept, if all entries are of such steps
+-- and no other member's
+pub its_member : (by : MemberId) (at : ℕ) (end : Closing) (m : MemberId) (s : ℕ) → Closes (closing_line by at end) m s → by ≡ m
+its_member by at end m s closes = one_member by m _ _ closes.is
 
-module _ (line : List ℕ) (last : ℕ) (never : (m : MemberId) (s : ℕ) → s < last → Closes line m s → ⊥) (m : MemberId) (s : ℕ) (closes : Closes line m s) where
-  abbrev IsBefore : Entry → Type 0
-  IsBefore e = e.step < last
+-- WHAT A LINE OF A MEMBER TELLS IS KEPT, where it tells no step before this one, and each batch is kept that has an entry
+-- of this step of the member, or of a later one
 
-  step_rest : (z w rest : Bool) → w ≡ false → rest ≡ false → ((z && w) || rest) ≡ false
-  step_rest true true rest is more = absurd (cc)
-  step_rest true false rest is more = more
-  step_rest false w rest is more = more
-
-  none_of : (es : List Entry) → All IsBefore es → has_step m s es ≡ false
+module _ (by m : MemberId) (s last : ℕ) (own : by ≡ m) (never : s < last → ⊥) where
+  none_of : (es : List Entry) → AreEarlier by last es → has_step m s es ≡ false
   none_of [] before = refl
   none_of (e ∷ es) before =
-      let here : e.step < last = All-head IsBefore e es before in
-      step_rest (same_member e.by m) (e.step == s) (has_step m s es) (ne_eqb e.step s (λ is. never m s (omega (arith, is, here)) closes))
-      (none_of es (All-tail IsBefore e es before))
+      let here : e.by ≡ by → e.step < last = All-head (λ (d : Entry). d.by ≡ by → d.step < last) e es before in
+      let more : has_step m s es ≡ false = none_of es (All-tail (λ (d : Entry). d.by ≡ by → d.step < last) e es before) in
+      by_test (same_member e.by m)
+      (λ its. by_test (e.step == s)
+      (λ same. absurd (never (subst (λ (n : ℕ). n < last) (eqb-true e.step s same) (here (same_id e.by m (eqb-true e.by.0 m.0 its) ∙ sym own)))))
+      (λ other. rw (its, other) more))
+      (λ other. rw other more)
 
-  pub new_kept : (bs : List Batch) (now : ℕ) → AreBefore last bs → StepIsKept bs now m s
-  new_kept [] now before = tt
-  new_kept (b ∷ bs) now before = (
-    (λ is. let no : has_step m s b.entries ≡ false = none_of b.entries (All-head (λ (c : Batch). All IsBefore c.entries) b bs before) in absurd (cc)),
-    new_kept bs now (All-tail (λ (c : Batch). All IsBefore c.entries) b bs before),
-  )
+  pub step_kept : (bs : List Batch) (now : ℕ) → AreKeptFrom by last bs now → StepIsKept bs now m s
+  step_kept [] now all = tt
+  step_kept (b ∷ bs) now all =
+      let here : IsKeptBy now b ⊎ AreEarlier by last b.entries = All-head (λ (c : Batch). IsKeptBy now c ⊎ AreEarlier by last c.entries) b bs all in (
+        (λ has. ⊎_elim (λ is. is) (λ before. absurd (let no : has_step m s b.entries ≡ false = none_of b.entries before in cc)) here),
+        step_kept bs now (All-tail (λ (c : Batch). IsKeptBy now c ⊎ AreEarlier by last c.entries) b bs all),
+      )
+
+-- WHERE EACH ENTRY is of an earlier step
+pub earlier_kept : (by : MemberId) (at now : ℕ) (bs : List Batch) → All (λ b. All (λ e. e.step < at) b.entries) bs → AreKeptFrom by at bs now
+earlier_kept by at now bs are =
+    All-weaker (λ (b : Batch). All (λ e. e.step < at) b.entries) (λ (b : Batch). IsKeptBy now b ⊎ AreEarlier by at b.entries)
+    (λ b of. inr (All-weaker (λ (e : Entry). e.step < at) (λ (e : Entry). e.by ≡ by → e.step < at) (λ e less same. less) b.entries of)) bs are

@@ -4,6 +4,7 @@ use Rattle.mas_types.specs.declared.answers.Closing.{Closing}
 use Rattle.mas_types.specs.declared.ids.Dev.{Dev}
 use Rattle.mas_types.specs.declared.ids.Dev.TheVariants.{Ckpt1, Ckpt2, Spool}
 use Rattle.mas_types.specs.declared.ids.MemberId.{MemberId}
+use Rattle.mas_types.specs.declared.ids.Page.{Page}
 use Rattle.mas_types.specs.declared.journals.Batch.{Batch}
 use Rattle.mas_types.specs.declared.journals.Entry.{Entry}
 use Rattle.mas_types.specs.declared.queues.Config.{Config}
@@ -22,16 +23,17 @@ use Rattle.duplex_pair.specs.Halves.{IsCkpt, pick}
 use Rattle.duplex_pair.specs.Replacing.{Replaces}
 use Rattle.mas_complex.specs.Journals.{AreSettled}
 use Rattle.mas_complex.specs.Locking.{reserved_after_stop}
-use Rattle.mas_complex.specs.Parts.{Parts, replaced_in, with_copies}
+use Rattle.mas_complex.specs.Parts.{Parts, replaced_in}
 use Rattle.member_node.specs.declared.member.Member.{Member}
 use Rattle.member_node.specs.declared.member.NodeNo.{NodeNo}
 use Rattle.member_node.specs.declared.member.NodeNo.TheVariants.{BothLost, ConsoleFault, Halted, NoMemory}
 use Rattle.member_node.specs.Calls.{console_now}
 use Rattle.member_node.specs.Reads.{AreLow}
+use Rattle.member_node.specs.Wanted.{HasHad}
 use Rattle.member_steps.proofs.FateLemmas.{settled_later}
 use Rattle.member_steps.proofs.ReadLemmas.{between_by}
 use Rattle.member_sittings.specs.Gates.{HasTakenSeat}
-use Rattle.member_sittings.specs.Sat.{CopiesActed}
+use Rattle.member_sittings.specs.Sat.{CopiesActed, seated_in}
 use Rattle.member_sittings.specs.Whole.{HoldsLock, IsAtRest, IsSeat, first_half, second_half}
 use Rattle.step_turns.specs.declared.states.Grant.{Grant}
 use Rattle.step_turns.specs.declared.states.Grant.TheVariants.{ByLock, ForStep}
@@ -97,9 +99,9 @@ module _ {P C : Type 0} (plants : PlantGhosts P) (left it : Option Cut → Left)
 -- WHAT IS AS IT WAS
 
 module _ {P C : Type 0} where
-  -- all but the book, of what a replacement leaves
+  -- all but the book and what was noted, of what a replacement leaves
   abbrev pub renewed_in : Parts P C → Parts P C → Parts P C
-  renewed_in is was = record (replacing_in is was) { book = was.book }
+  renewed_in is was = record (replacing_in is was) { book = was.book; had = was.had }
 
   pub renewed_rest : (r : Result (Unit {0}) ReplaceNo) (dev : Dev) (from now : ℕ) (y x : Parts P C) → y ≡ replaced_in r dev from now y x → y ≡ renewed_in y x
   renewed_rest (Ok value) dev from now y x e = e ∙ ap (λ (z : Parts P C). renewed_in z x) (sym e)
@@ -126,13 +128,13 @@ module _ {P C : Type 0} where
       is ∙ ap (λ (w : Parts P C). replacing_in w x) (sym is)
 
   -- and a seat that wasn't had
-  pub unseated_in : (x z y : Parts P C) → z ≡ with_copies z x → y ≡ record z { plant = y.plant; book = y.book } → y ≡ replacing_in y x
+  pub unseated_in : (x z y : Parts P C) → z ≡ seated_in z x → y ≡ record z { plant = y.plant; book = y.book } → y ≡ replacing_in y x
   unseated_in x z y one two =
-      let is : y ≡ record (with_copies z x) { plant = y.plant; book = y.book } = two ∙ ap (λ (w : Parts P C). record w { plant = y.plant; book = y.book }) one in
+      let is : y ≡ record (seated_in z x) { plant = y.plant; book = y.book } = two ∙ ap (λ (w : Parts P C). record w { plant = y.plant; book = y.book }) one in
       is ∙ ap (λ (w : Parts P C). replacing_in w x) (sym is)
 
-  pub seated_in : (x z y : Parts P C) → z ≡ with_copies z x → y ≡ replacing_in y z → y ≡ replacing_in y x
-  seated_in x z y one two = two ∙ ap (λ (w : Parts P C). replacing_in y w) one
+  pub then_replaced : (x z y : Parts P C) → z ≡ seated_in z x → y ≡ replacing_in y z → y ≡ replacing_in y x
+  then_replaced x z y one two = two ∙ ap (λ (w : Parts P C). replacing_in y w) one
 
 -- THE SEAT, which the member has still
 module _ {P C : Type 0} (plants : PlantGhosts P) (copies : CopyGhosts C) (by : ℕ) (m : Member) (dev : Dev) (ckpt : IsCkpt dev) (stopped : Bool) (x y : Parts P C) (rest : y ≡ renewed_in y x)
@@ -178,13 +180,14 @@ module _ {P C : Type 0} (plants : PlantGhosts P) (copies : CopyGhosts C) (by : �
       kept = subst (λ (bs : List Batch). AreSettled bs W.now) (sym batches) (settled_later x.batches V.now W.now replaces.later s.still.kept);
       begun = let later = replaces.later in let begun = s.still.begun in subst (λ (since : ℕ). since ≤ W.now) (sym (ap (λ (z : Parts P C). z.since) rest)) (omega (arith, begun, later));
       roomy = λ t. subst (AreRoomy W) (sym config) (roomy x.base.config (s.still.roomy t));
+      noted = subst (λ (h : List (List Page)). HasHad plants.tells m.fresh h m.id.0 m.checkpoint.pages) (sym (ap (λ (z : Parts P C). z.had) rest)) s.still.noted;
     };
     between = between_by plants.tells x.base y.base x.batches y.batches x.current y.current x.placed y.placed x.level y.level m.batch m.checkpoint base batches current placed (ap (λ (z : Parts P C). z.level) rest) s.between;
     low = λ t. subst (λ (c : Config). AreLow c (length y.batches) m.checkpoint.tables) (sym config) (subst (λ (bs : List Batch). AreLow x.base.config (length bs) m.checkpoint.tables) (sym batches) (s.low t));
   }
 
 -- THE LINE, once its seat was had
-module _ {P C : Type 0} (plants : PlantGhosts P) (copies : CopyGhosts C) (S : Scene) (m n : Member) (at : ℕ) (dev : Dev) (x mid y : Parts P C) (entered : mid ≡ with_copies mid x)
+module _ {P C : Type 0} (plants : PlantGhosts P) (copies : CopyGhosts C) (S : Scene) (m n : Member) (at : ℕ) (dev : Dev) (x mid y : Parts P C) (entered : mid ≡ seated_in mid x)
     (acts : CopiesActed plants m.id x mid done) (took : HasTakenSeat plants copies mid n) where
   pub seats : (r : Result (Unit {0}) NodeNo) → HasGoneOn plants copies S n at dev mid y r → ReplacesBy plants copies S m n at dev x y r
   seats (Ok value) goes_on = record { mid = mid; entered = entered; acts = acts; took = took; goes_on = goes_on }

@@ -5,12 +5,12 @@ use Rattle.mas_types.specs.declared.ids.MemberId.{MemberId}
 use Rattle.lock_cycle.specs.Books.{Book, after_stop, is_holder}
 use Rattle.spool_plant.specs.declared.plant.Plant.{Ghosts as PlantGhosts}
 use Rattle.ckpt_copy.specs.declared.copying.Copying.{Ghosts as CopyGhosts}
-use Rattle.mas_complex.specs.Parts.{Parts, with_copies}
+use Rattle.mas_complex.specs.Parts.{Parts}
 use Rattle.member_node.specs.declared.member.Member.{Member}
 use Rattle.member_node.specs.declared.member.NodeNo.{NodeNo}
 use Rattle.member_node.specs.declared.member.NodeNo.TheVariants.{BothLost, ConsoleFault, Halted, NoMemory}
 use Rattle.member_sittings.specs.Gates.{HasTakenSeat}
-use Rattle.member_sittings.specs.Sat.{CopiesActed}
+use Rattle.member_sittings.specs.Sat.{CopiesActed, seated_in}
 use Rattle.step_turns.specs.declared.states.Release.{Release}
 use Rattle.step_turns.specs.declared.states.Release.TheVariants.{Keep}
 use Rattle.run_turns.specs.Admissions.{Admission, Locks, Refused}
@@ -36,13 +36,13 @@ cut_is ConsoleFault = refl
 cut_is NoMemory = refl
 
 module _ {P C : Type 0} (by : MemberId) (x mid y : Parts P C) where
-  pub unseated_frame : (why : NodeNo) → mid ≡ with_copies mid x → y ≡ stopped_so (failed why) by mid → y ≡ stopped_so (failed why) by (with_copies y x)
+  pub unseated_frame : (why : NodeNo) → mid ≡ seated_in mid x → y ≡ stopped_so (failed why) by mid → y ≡ stopped_so (failed why) by (seated_in y x)
   unseated_frame Halted entered e =
-      let is : y ≡ stopped_so (failed Halted) by (with_copies mid x) = e ∙ ap (λ (z : Parts P C). stopped_so (failed Halted) by z) entered in
-      is ∙ ap (λ (z : Parts P C). stopped_so (failed Halted) by (with_copies z x)) (sym is)
-  unseated_frame BothLost entered e = let is : y ≡ with_copies mid x = e ∙ entered in is ∙ ap (λ (z : Parts P C). with_copies z x) (sym is)
-  unseated_frame ConsoleFault entered e = let is : y ≡ with_copies mid x = e ∙ entered in is ∙ ap (λ (z : Parts P C). with_copies z x) (sym is)
-  unseated_frame NoMemory entered e = let is : y ≡ with_copies mid x = e ∙ entered in is ∙ ap (λ (z : Parts P C). with_copies z x) (sym is)
+      let is : y ≡ stopped_so (failed Halted) by (seated_in mid x) = e ∙ ap (λ (z : Parts P C). stopped_so (failed Halted) by z) entered in
+      is ∙ ap (λ (z : Parts P C). stopped_so (failed Halted) by (seated_in z x)) (sym is)
+  unseated_frame BothLost entered e = let is : y ≡ seated_in mid x = e ∙ entered in is ∙ ap (λ (z : Parts P C). seated_in z x) (sym is)
+  unseated_frame ConsoleFault entered e = let is : y ≡ seated_in mid x = e ∙ entered in is ∙ ap (λ (z : Parts P C). seated_in z x) (sym is)
+  unseated_frame NoMemory entered e = let is : y ≡ seated_in mid x = e ∙ entered in is ∙ ap (λ (z : Parts P C). seated_in z x) (sym is)
 
   book_so : (why : NodeNo) → mid.book ≡ x.book → y ≡ stopped_so (failed why) by mid → y.book ≡ stopped_by by (seat_cause why) x.book
   book_so Halted same e = ap (λ (z : Parts P C). z.book) e ∙ ap (λ (b : Book). after_stop b by) same
@@ -51,7 +51,7 @@ module _ {P C : Type 0} (by : MemberId) (x mid y : Parts P C) where
   book_so NoMemory same e = ap (λ (z : Parts P C). z.book) e ∙ same
 
   acts_so : (plants : PlantGhosts P) (why : NodeNo) → y ≡ stopped_so (failed why) by mid → CopiesActed plants by x mid (failed why) → CopiesActed plants by x y (failed why)
-  acts_so plants Halted e acts = subst (λ (z : Parts P C). CopiesActed plants by x z (failed Halted)) (sym e) acts
+  acts_so plants Halted e acts = subst (λ (z : Parts P C). CopiesActed plants by x z (failed Halted)) (sym e) (record { on = acts.on; notes = acts.notes })
   acts_so plants BothLost e acts = subst (λ (z : Parts P C). CopiesActed plants by x z (failed BothLost)) (sym e) acts
   acts_so plants ConsoleFault e acts = subst (λ (z : Parts P C). CopiesActed plants by x z (failed ConsoleFault)) (sym e) acts
   acts_so plants NoMemory e acts = subst (λ (z : Parts P C). CopiesActed plants by x z (failed NoMemory)) (sym e) acts
@@ -59,7 +59,7 @@ module _ {P C : Type 0} (by : MemberId) (x mid y : Parts P C) where
 -- by a line of the lock's holder
 module _ {P C : Type 0} (plants : PlantGhosts P) (copies : CopyGhosts C) (S : Scene) (m : Member) (at : ℕ) (a : Admission) (end : Closing) (release : Release) (x : Parts P C) (holds : is_holder x.book m.id ≡ true)
     (same : (cut : Option Cut) → left_at S m.id at a cut ≡ holds_at m.id at end S x.book release cut) where
-  pub unseated : (mid y : Parts P C) (why : NodeNo) → mid ≡ with_copies mid x → y ≡ stopped_so (failed why) m.id mid → CopiesActed plants m.id x mid (failed why) → IsUnseated plants copies S m at a x y why
+  pub unseated : (mid y : Parts P C) (why : NodeNo) → mid ≡ seated_in mid x → y ≡ stopped_so (failed why) m.id mid → CopiesActed plants m.id x mid (failed why) → IsUnseated plants copies S m at a x y why
   unseated mid y why entered frame acts =
       let its_book : y.book ≡ stopped_by m.id (seat_cause why) x.book = book_so m.id x mid y why (ap (λ (z : Parts P C). z.book) entered) frame in
       record {
@@ -77,7 +77,7 @@ module _ {P C : Type 0} (plants : PlantGhosts P) (copies : CopyGhosts C) (S : Sc
   pub its_left : (cut : Option Cut) → left_at S m.id at Locks cut ≡ holds_at m.id at says_ok S x.book Keep cut
   its_left = locks_as m.id at S x.book (tested.flight refl) tested.book
 
-  module _ (n : Member) (mid y : Parts P C) (entered : mid ≡ with_copies mid x) (acts : CopiesActed plants m.id x mid done) (took : HasTakenSeat plants copies mid n) (same : mid.book ≡ x.book) where
+  module _ (n : Member) (mid y : Parts P C) (entered : mid ≡ seated_in mid x) (acts : CopiesActed plants m.id x mid done) (took : HasTakenSeat plants copies mid n) (same : mid.book ≡ x.book) where
     mid_left : (cut : Option Cut) → left_at S m.id at Locks cut ≡ holds_at m.id at says_ok S mid.book Keep cut
     mid_left cut = its_left cut ∙ ap (λ (b : Book). holds_at m.id at says_ok S b Keep cut) (sym same)
 

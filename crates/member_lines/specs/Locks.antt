@@ -4,12 +4,12 @@ use Rattle.spool_plant.specs.declared.plant.Plant.{Ghosts as PlantGhosts}
 use Rattle.ckpt_copy.specs.declared.copying.Copying.{Ghosts as CopyGhosts}
 use Rattle.ckpt_form.specs.declared.steady.Steady.{Ghosts as SteadyGhosts}
 use Rattle.mas_complex.specs.declared.complex.Complex.{Complex}
-use Rattle.mas_complex.specs.Parts.{Parts, parts_of, with_copies}
+use Rattle.mas_complex.specs.Parts.{Parts, parts_of}
 use Rattle.member_node.specs.declared.member.Member.{Member}
 use Rattle.member_node.specs.declared.member.NodeNo.{NodeNo}
 use Rattle.member_node.specs.declared.member.NodeNo.TheVariants.{BothLost, ConsoleFault, Halted, NoMemory}
 use Rattle.member_sittings.specs.Gates.{HasTakenSeat}
-use Rattle.member_sittings.specs.Sat.{CopiesActed}
+use Rattle.member_sittings.specs.Sat.{CopiesActed, seated_in}
 use Rattle.run_turns.specs.Admissions.{Admission}
 use Rattle.run_turns.specs.Scenes.{Scene}
 use Rattle.run_turns.specs.Sights.{Cut, Ends, Stops}
@@ -35,7 +35,7 @@ module _ {P C : Type 0} (plants : PlantGhosts P) (copies : CopyGhosts C) where
   pub record IsSeated (S : Scene) (m n : Member) (at : ℕ) (a : Admission) (x y : Parts P C)
       (result : Result (Unit {0}) NodeNo) : Type 0 where
     pub mid : Parts P C
-    pub entered : mid ≡ with_copies mid x
+    pub entered : mid ≡ seated_in mid x
     pub acts : CopiesActed plants m.id x mid done
     pub frame : y ≡ stopped_so result m.id (record mid { plant = y.plant })
     pub took : HasTakenSeat plants copies mid n

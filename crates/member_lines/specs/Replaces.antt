@@ -16,12 +16,12 @@ use Rattle.duplex_pair.specs.Replacing.{IsFormed, Replaces, replace_stopped}
 use Rattle.lock_cycle.specs.Books.{Book}
 use Rattle.mas_complex.specs.declared.complex.Complex.{Complex}
 use Rattle.mas_complex.specs.Elsewhere.{Elsewhere}
-use Rattle.mas_complex.specs.Parts.{Parts, parts_of, replaced_in, with_copies}
+use Rattle.mas_complex.specs.Parts.{Parts, parts_of, replaced_in}
 use Rattle.member_node.specs.declared.member.Member.{Member}
 use Rattle.member_node.specs.declared.member.NodeNo.{NodeNo}
 use Rattle.member_node.specs.declared.member.NodeNo.TheVariants.{BothLost, Halted, NoMemory}
 use Rattle.member_sittings.specs.Gates.{HasTakenSeat, IsAtGate, IsAtSeat}
-use Rattle.member_sittings.specs.Sat.{CopiesActed}
+use Rattle.member_sittings.specs.Sat.{CopiesActed, seated_in}
 use Rattle.member_sittings.specs.Whole.{IsSeat}
 use Rattle.run_turns.specs.Admissions.{Replaces as ReplacesCopy}
 use Rattle.run_turns.specs.Cuts.{Left, left_by}
@@ -63,7 +63,7 @@ pub record IsTestedAs (S : Scene) (by : MemberId) (h : Holder) (dev : Dev) (b : 
   pub holder : holder_of S by h.step (ReplacesCopy dev) ≡ h
 
 -- The parts as they are, except that the base and its moment, the journal, what is reserved and in flight, the counts
--- of printed lines and the level are as they were.
+-- of printed lines and the level are as they were. What the member noted is as it is: it may have read in the line.
 abbrev pub replacing_in : {P C : Type 0} → Parts P C → Parts P C → Parts P C
 replacing_in is was = record was {
   plant = is.plant;
@@ -77,6 +77,7 @@ replacing_in is was = record was {
   first = is.first;
   second = is.second;
   renewals = is.renewals;
+  had = is.had;
 }
 
 module _ {P C : Type 0} (plants : PlantGhosts P) (copies : CopyGhosts C) where
@@ -131,13 +132,13 @@ module _ {P C : Type 0} (plants : PlantGhosts P) (copies : CopyGhosts C) where
   -- It couldn't take its seat: acts on the copies alone, and nothing was said or replaced.
   pub record HasNoSeat (S : Scene) (m : Member) (at : ℕ) (dev : Dev) (x y : Parts P C) (why : NodeNo) : Type 0 where
     pub unseated : IsUnseated plants copies S m at (ReplacesCopy dev) x y why
-    pub frame : y ≡ stopped_so (failed why) m.id (with_copies y x)
+    pub frame : y ≡ stopped_so (failed why) m.id (seated_in y x)
 
   -- It took its seat, by acts on the copies alone.
   pub record HasSeat (S : Scene) (m n : Member) (at : ℕ) (dev : Dev) (x y : Parts P C)
       (result : Result (Unit {0}) NodeNo) : Type 0 where
     pub mid : Parts P C
-    pub entered : mid ≡ with_copies mid x
+    pub entered : mid ≡ seated_in mid x
     pub acts : CopiesActed plants m.id x mid done
     pub took : HasTakenSeat plants copies mid n
     pub goes_on : HasGoneOn S n at dev mid y result

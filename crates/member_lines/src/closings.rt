@@ -6,7 +6,7 @@ ghost use Rattle.lock_cycle.specs.Books.{IsMember, is_stopped};
 ghost use Rattle.mas_complex.specs.Parts.{parts_of};
 ghost use Rattle.run_turns.specs.Admissions.{Denied, Refused, denied_closing};
 ghost use Rattle.member_lines.specs.Closes.{Closes, IsSayer, SaysStopped, failed, stopped_so};
-ghost use Rattle.member_lines.specs.Earlier.{IsNewStep};
+ghost use Rattle.member_lines.specs.Earlier.{IsStepKept};
 
 use crate::admissions::NOBODY;
 use lock_cycle::LockNo;
@@ -66,7 +66,7 @@ pub fn say_refused<P: Plant + Drop, C: Steady + Drop>(
     requires says { IsSayer complex.old.book of.sayer of.by }
     requires by { of.by.0 ≤ members_most }
     requires named { AreMembersNamed end.now }
-    requires new { P.tells → IsNewStep complex.old of.step }
+    requires kept { P.tells → IsStepKept complex.old of.by of.step }
     ensures frame { parts_of complex.new
         ≡ stopped_so result of.by (record (parts_of complex.old) { plant = complex.new.plant }) }
     ensures closed { Closes of.by of.step (Refused of.sayer end.now) of.sayer complex.old complex.new result }
@@ -96,7 +96,7 @@ pub fn say_denied<P: Plant + Drop, C: Steady + Drop>(
     requires up { is_stopped complex.old.book by ≡ false }
     requires by { by.0 ≤ members_most }
     requires named { AreMembersNamed (denied_closing why) }
-    requires new { P.tells → IsNewStep complex.old step }
+    requires kept { P.tells → IsStepKept complex.old by step }
     ensures frame { parts_of complex.new
         ≡ stopped_so result by (record (parts_of complex.old) { plant = complex.new.plant }) }
     ensures closed { Closes by step (Denied why) by complex.old complex.new result }
@@ -120,7 +120,7 @@ pub fn say_stopped<P: Plant + Drop, C: Steady + Drop>(
     step: u32,
 ) -> Result<(), NodeNo>
     requires by { by.0 ≤ members_most }
-    requires new { P.tells → IsNewStep complex.old (step + 1) }
+    requires kept { P.tells → IsStepKept complex.old by (step + 1) }
     ensures frame { parts_of complex.new ≡ record (parts_of complex.old) { plant = complex.new.plant } }
     ensures says { SaysStopped by step complex.old complex.new result }
 {

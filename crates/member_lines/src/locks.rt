@@ -2,11 +2,12 @@
 ghost use Rattle.std.specs.Prelude.{◌≡◌, ◌≤◌, None, false, true};
 ghost use Rattle.mas_types.specs.Limits.{members_most};
 ghost use Rattle.lock_cycle.specs.Books.{IsMember, is_holder, is_stopped};
-ghost use Rattle.mas_complex.specs.Parts.{parts_of, with_copies};
+ghost use Rattle.mas_complex.specs.Parts.{parts_of};
 ghost use Rattle.member_sittings.specs.Gates.{MayTakeSeat};
+ghost use Rattle.member_sittings.specs.Sat.{seated_in};
 ghost use Rattle.run_turns.specs.Admissions.{Frees, Locks};
 ghost use Rattle.member_lines.specs.Closes.{Closes, freed_by, stopped_so};
-ghost use Rattle.member_lines.specs.Earlier.{IsNewStep};
+ghost use Rattle.member_lines.specs.Earlier.{IsStepKept};
 ghost use Rattle.member_lines.specs.Locks.{SeatsAndCloses};
 
 use crate::closings::{Closed, say_refused, stop_halted};
@@ -31,7 +32,7 @@ pub fn free_line<P: Plant + Drop, C: Steady + Drop>(
     requires by { by.0 ≤ members_most }
     requires holds { is_holder complex.old.book by ≡ true }
     requires none { complex.old.current ≡ None }
-    requires new { P.tells → IsNewStep complex.old step }
+    requires kept { P.tells → IsStepKept complex.old by step }
     ensures frame { parts_of complex.new
         ≡ freed_by result by (record (parts_of complex.old) { plant = complex.new.plant }) }
     ensures closed { Closes by step Frees by complex.old complex.new result }
@@ -63,9 +64,9 @@ pub fn lock_line<P: Plant + Drop, C: Steady + Drop>(
     step: u32,
 ) -> Result<(), NodeNo>
     requires may { MayTakeSeat complex.old member.old }
-    requires new { P.tells → IsNewStep complex.old step }
+    requires kept { P.tells → IsStepKept complex.old member.old.id step }
     ensures frame { parts_of complex.new
-        ≡ stopped_so result member.old.id (with_copies (parts_of complex.new) (parts_of complex.old)) }
+        ≡ stopped_so result member.old.id (seated_in (parts_of complex.new) (parts_of complex.old)) }
     ensures id { member.new.id ≡ member.old.id }
     ensures locks { SeatsAndCloses member.old member.new step Locks complex.old complex.new result }
 {

@@ -4,14 +4,15 @@ ghost use Rattle.mas_types.specs.Closings.{AreMembersNamed};
 ghost use Rattle.mas_types.specs.Limits.{members_most};
 ghost use Rattle.lock_cycle.specs.Books.{IsMember};
 ghost use Rattle.mas_complex.specs.Locking.{MayAct};
-ghost use Rattle.mas_complex.specs.Parts.{parts_of, with_copies};
+ghost use Rattle.mas_complex.specs.Parts.{parts_of};
 ghost use Rattle.member_sittings.specs.Gates.{ActedOnCopies, TookSeat};
+ghost use Rattle.member_sittings.specs.Sat.{seated_in};
 ghost use Rattle.step_turns.specs.Sittings.{released};
 ghost use Rattle.step_turns.specs.declared.states.State.TheVariants.{Told};
 ghost use Rattle.run_turns.specs.Pieces.{released_by, replaced_closing};
 ghost use Rattle.run_turns.specs.Sights.{Renewed};
 ghost use Rattle.member_lines.specs.Closes.{ClosesHeld, failed};
-ghost use Rattle.member_lines.specs.Earlier.{IsNewStep};
+ghost use Rattle.member_lines.specs.Earlier.{IsStepKept};
 ghost use Rattle.member_lines.specs.Replaces.{EndsAs, MayRenew, MayReplace, MaySitDown, RenewsAndCloses, ReplacesAndCloses, WasReplaced, found_of, replacing_in};
 
 use crate::closings::{Closed, say_refused, stop_halted};
@@ -48,7 +49,7 @@ fn sit_down<P: Plant + Drop, C: Steady + Drop>(
     grant: Grant,
 ) -> Result<(), NodeNo>
     requires { MaySitDown grant complex.old member.old }
-    ensures frame { parts_of complex.new ≡ with_copies (parts_of complex.new) (parts_of complex.old) }
+    ensures frame { parts_of complex.new ≡ seated_in (parts_of complex.new) (parts_of complex.old) }
     ensures id { member.new.id ≡ member.old.id }
     ensures acts { ActedOnCopies member.old.id complex.old complex.new result }
     ensures seat { OnOk result (TookSeat complex.new member.new) }
@@ -109,7 +110,7 @@ fn say_and_leave<P: Plant + Drop, C: Steady + Drop>(
     requires none { complex.old.current ≡ None }
     requires unreserved { complex.old.reserved ≡ None }
     requires named { AreMembersNamed end.now }
-    requires new { P.tells → IsNewStep complex.old holder.step }
+    requires kept { P.tells → IsStepKept complex.old by holder.step }
     ensures frame { parts_of complex.new
         ≡ record (parts_of complex.old) { plant = complex.new.plant; book = complex.new.book } }
     ensures closed { ClosesHeld by holder end.now complex.old complex.new result }
@@ -138,7 +139,7 @@ fn replace_and_close<P: Plant + Drop, C: Steady + Drop>(
     dev: Dev,
 ) -> Result<(), NodeNo>
     requires may { MayRenew complex.old member.now dev }
-    requires new { P.tells → IsNewStep complex.old holder.step }
+    requires kept { P.tells → IsStepKept complex.old member.now.id holder.step }
     ensures frame { parts_of complex.new ≡ replacing_in (parts_of complex.new) (parts_of complex.old) }
     ensures renews { RenewsAndCloses member.now holder dev complex.old complex.new result }
 {
@@ -169,7 +170,7 @@ pub fn replace_line<P: Plant + Drop, C: Steady + Drop>(
     dev: Dev,
 ) -> Result<(), NodeNo>
     requires may { MayReplace complex.old member.old holder dev }
-    requires new { P.tells → IsNewStep complex.old holder.step }
+    requires kept { P.tells → IsStepKept complex.old member.old.id holder.step }
     ensures frame { parts_of complex.new ≡ replacing_in (parts_of complex.new) (parts_of complex.old) }
     ensures id { member.new.id ≡ member.old.id }
     ensures replaces { ReplacesAndCloses member.old member.new holder dev complex.old complex.new result }

@@ -15,7 +15,9 @@ use Rattle.member_node.proofs.CourseLemmas.{course_none, only_none, papers_none,
 use Rattle.member_node.proofs.SpareLemmas.{spares_none}
 use Rattle.member_steps.specs.Counting.{HasCounted}
 use Rattle.member_steps.specs.Steps.{IsStep, StepCauses, StepLeaves}
+use Rattle.member_steps.specs.Noting.{OtherNotesStay}
 use Rattle.member_steps.proofs.CountLemmas.{counted_error, counted_ok, counted_one, counted_up}
+use Rattle.member_steps.proofs.NoteLemmas.{notes_none}
 use Rattle.member_decks.specs.Batches.{HasAll}
 use Rattle.member_decks.specs.Keeping.{CopyCauses, GivesUpLeaves, IsOnCopies, KeepLeaves}
 use Rattle.step_turns.specs.Entries.{all_entries}
@@ -26,7 +28,7 @@ use Rattle.step_turns.specs.declared.states.State.{State}
 use Rattle.member_sittings.specs.declared.ends.SittingEnd.{SittingEnd}
 use Rattle.member_sittings.specs.Ends.{ends_in}
 use Rattle.member_sittings.specs.Left.{HasSaid, said_of}
-use Rattle.member_sittings.specs.Sat.{IsEndOf, IsSatAs, journal_of}
+use Rattle.member_sittings.specs.Sat.{CopiesActed, IsEndOf, IsSatAs, journal_of}
 use Rattle.member_sittings.proofs.ReachLemmas.{OneLeft, none_left, one_all, one_given_up, one_kept, one_step, one_unkept, said_answer, said_by, said_none}
 
 -- the causes of an answer are those of a step's
@@ -52,6 +54,11 @@ step_causes T BothLost by a a' b b' v w cause = cause
 step_causes T Halted by a a' b b' v w cause = cause
 step_causes T ConsoleFault by a a' b b' v w cause = cause
 
+-- acts on the copies, with what was noted
+pub acted : {P C T : Type 0} (plants : PlantGhosts P) (by : MemberId) (x y : Parts P C) (r : Result T NodeNo) → IsOnCopies plants.tells by.0 x.first_alive y.first_alive x.second_alive y.second_alive (plants.view x.plant) (plants.view y.plant) r
+    → OtherNotesStay by x.had y.had → CopiesActed plants by x y r
+acted plants by x y r acts stay = record { on = acts; notes = stay }
+
 module _ {P C : Type 0} (plants : PlantGhosts P) (by : MemberId) (h : Holder) (same : h.by ≡ by) (next : State) (lines : List (List ℕ)) (x y : Parts P C) where
   abbrev V : View
   V = plants.view x.plant
@@ -67,25 +74,26 @@ module _ {P C : Type 0} (plants : PlantGhosts P) (by : MemberId) (h : Holder) (s
   named es r sat = subst (λ (i : MemberId). IsSatAs plants i (Of es) x y r) (sym same) sat
 
   -- acts on the copies alone, after which a sitting ended with this error
-  by_copies : (es : List Entry) (e : NodeNo) → IsOnCopies {T = Unit {0}} plants.tells by.0 x.first_alive y.first_alive x.second_alive y.second_alive V W (Err e) → OneLeft {T = SittingEnd} by V.now W.now es x.batches (journal_of y) (Err e)
+  by_copies : (es : List Entry) (e : NodeNo) → CopiesActed plants {T = Unit {0}} by x y (Err e) → OneLeft {T = SittingEnd} by V.now W.now es x.batches (journal_of y) (Err e)
       → {gave : List Entry} → HasCounted {T = Unit {0}} by gave x.printed y.printed (Err e) → IsSatAs plants h.by (Of es) x y (Err e)
   by_copies es e acts one {gave} counts = named es (Err e) (record {
     sat = record {
       acts = record {
-        course = acts.course;
-        loses = acts.loses;
-        others = λ t. (acts.apart t).others;
-        papers = λ t. (acts.apart t).papers;
-        wires = λ t. (acts.apart t).wires;
-        spares = spares_of SittingEnd e by.0 V W acts.spares;
-        cause = causes_of SittingEnd e by.0 x.first_alive y.first_alive x.second_alive y.second_alive V W acts.cause;
+        course = acts.on.course;
+        loses = acts.on.loses;
+        others = λ t. (acts.on.apart t).others;
+        papers = λ t. (acts.on.apart t).papers;
+        wires = λ t. (acts.on.apart t).wires;
+        spares = spares_of SittingEnd e by.0 V W acts.on.spares;
+        cause = causes_of SittingEnd e by.0 x.first_alive y.first_alive x.second_alive y.second_alive V W acts.on.cause;
+        notes = acts.notes;
       };
       reach = one.by_it.reach;
       more = one.more;
       journal = one.are;
       left = one.by_it.left;
       reached = one.by_it.reached;
-      console = λ t. said_none lines (console_now V) (console_now W) _ e (no_console e by.0 x.first_alive y.first_alive x.second_alive y.second_alive V W acts.cause) (acts.apart t).console;
+      console = λ t. said_none lines (console_now V) (console_now W) _ e (no_console e by.0 x.first_alive y.first_alive x.second_alive y.second_alive V W acts.on.cause) (acts.on.apart t).console;
       counts = counted_up by gave (all_entries (es ∷ [])) x.printed y.printed (Err e) e counts;
       ends = tt;
     };
@@ -93,30 +101,31 @@ module _ {P C : Type 0} (plants : PlantGhosts P) (by : MemberId) (h : Holder) (s
   })
 
   -- the batch couldn't be kept
-  pub sat_unkept : (es : List Entry) (e : NodeNo) → 1 ≤ length es → IsOnCopies {T = Unit {0}} plants.tells by.0 x.first_alive y.first_alive x.second_alive y.second_alive V W (Err e)
+  pub sat_unkept : (es : List Entry) (e : NodeNo) → 1 ≤ length es → CopiesActed plants {T = Unit {0}} by x y (Err e)
       → KeepLeaves {T = Unit {0}} (Err e) x.batches (journal_of y) (begun V.now by es) W.now → HasCounted {T = Unit {0}} by es x.printed y.printed (Err e) → IsSatAs plants h.by (Of es) x y (Err e)
-  sat_unkept es e some acts leaves counts = by_copies es e acts (one_unkept by V.now W.now acts.course.goes.later es some x.batches (journal_of y) e leaves) counts
+  sat_unkept es e some acts leaves counts = by_copies es e acts (one_unkept by V.now W.now acts.on.course.goes.later es some x.batches (journal_of y) e leaves) counts
 
   -- out of memory before the batch had all its entries
-  pub sat_given_up : (es rest : List Entry) (e : NodeNo) → 1 ≤ length rest → IsOnCopies {T = Unit {0}} plants.tells by.0 x.first_alive y.first_alive x.second_alive y.second_alive V W (Err e)
+  pub sat_given_up : (es rest : List Entry) (e : NodeNo) → 1 ≤ length rest → CopiesActed plants {T = Unit {0}} by x y (Err e)
       → GivesUpLeaves e x.batches (journal_of y) (begun V.now by es) W.now → HasCounted {T = Unit {0}} by [] x.printed y.printed (Err e) → IsSatAs plants h.by (Of (es ++ rest)) x y (Err e)
-  sat_given_up es rest e more acts leaves counts = by_copies (es ++ rest) e acts (one_given_up by V.now W.now acts.course.goes.later es rest x.batches (journal_of y) e more leaves) counts
+  sat_given_up es rest e more acts leaves counts = by_copies (es ++ rest) e acts (one_given_up by V.now W.now acts.on.course.goes.later es rest x.batches (journal_of y) e more leaves) counts
 
   -- the batch was kept, and nothing is said
-  pub sat_kept : (es : List Entry) (end : SittingEnd) → 1 ≤ length es → lines ≡ [] → IsEndOf (Of es) end → IsOnCopies {T = Unit {0}} plants.tells by.0 x.first_alive y.first_alive x.second_alive y.second_alive V W (Ok tt)
+  pub sat_kept : (es : List Entry) (end : SittingEnd) → 1 ≤ length es → lines ≡ [] → IsEndOf (Of es) end → CopiesActed plants {T = Unit {0}} by x y (Ok tt)
       → HasKept x.batches (journal_of y) (begun V.now by es) W.now → HasCounted {T = Unit {0}} by es x.printed y.printed (Ok tt) → IsSatAs plants h.by (Of es) x y (Ok end)
   sat_kept es end some silent ends acts kept counts =
-      let one : OneLeft by V.now W.now es x.batches (journal_of y) (Ok end) = one_kept by V.now W.now acts.course.goes.later es some x.batches (journal_of y) (Ok end) tt kept in
+      let one : OneLeft by V.now W.now es x.batches (journal_of y) (Ok end) = one_kept by V.now W.now acts.on.course.goes.later es some x.batches (journal_of y) (Ok end) tt kept in
       named es (Ok end) (record {
         sat = record {
           acts = record {
-            course = acts.course;
-            loses = acts.loses;
-            others = λ t. (acts.apart t).others;
-            papers = λ t. (acts.apart t).papers;
-            wires = λ t. (acts.apart t).wires;
-            spares = acts.spares;
-            cause = acts.cause;
+            course = acts.on.course;
+            loses = acts.on.loses;
+            others = λ t. (acts.on.apart t).others;
+            papers = λ t. (acts.on.apart t).papers;
+            wires = λ t. (acts.on.apart t).wires;
+            spares = acts.on.spares;
+            cause = acts.on.cause;
+            notes = acts.notes;
           };
           reach = one.by_it.reach;
           more = one.more;
@@ -125,9 +134,9 @@ module _ {P C : Type 0} (plants : PlantGhosts P) (by : MemberId) (h : Holder) (s
           reached = one.by_it.reached;
           console = λ t. record {
             said = record { lines = length lines; torn = None };
-            is = (acts.apart t).console ∙ sym (append-nil (console_now V)) ∙ silently t;
+            is = (acts.on.apart t).console ∙ sym (append-nil (console_now V)) ∙ silently t;
             by_answer = refl;
-            once_kept = inr (one_all by V.now W.now acts.course.goes.later es some x.batches (journal_of y) kept);
+            once_kept = inr (one_all by V.now W.now acts.on.course.goes.later es some x.batches (journal_of y) kept);
           };
           counts = counted_ok by (all_entries (es ∷ [])) x.printed y.printed tt end (counted_one by es x.printed y.printed (Ok tt) counts);
           ends = ends;
@@ -139,7 +148,7 @@ module _ {P C : Type 0} (plants : PlantGhosts P) (by : MemberId) (h : Holder) (s
       silently t = subst (λ (l : List (List ℕ)). console_now V ++ [] ≡ console_now V ++ said_of (record { lines = length l; torn = None }) l) (sym silent) refl
 
   -- A step's batch and its lines: one answer for both.
-  module _ (es : List Entry) (some : 1 ≤ length es) where
+  module _ (es : List Entry) (some : 1 ≤ length es) (notes : OtherNotesStay by x.had y.had) where
     abbrev Step : Result (Unit {0}) NodeNo → Type 0
     Step r = IsStep plants.tells by.0 lines (begun V.now by es) x.batches (journal_of y) x.first_alive y.first_alive x.second_alive y.second_alive V W r
 
@@ -167,6 +176,7 @@ module _ {P C : Type 0} (plants : PlantGhosts P) (by : MemberId) (h : Holder) (s
               wires = step.wires;
               spares = spares_of SittingEnd e by.0 V W step.spares;
               cause = step_causes SittingEnd e by.0 x.first_alive y.first_alive x.second_alive y.second_alive V W step.cause;
+              notes = notes;
             };
             reach = one.by_it.reach;
             more = one.more;
@@ -194,6 +204,7 @@ module _ {P C : Type 0} (plants : PlantGhosts P) (by : MemberId) (h : Holder) (s
               wires = step.wires;
               spares = step.spares;
               cause = step.cause;
+              notes = notes;
             };
             reach = one.by_it.reach;
             more = one.more;
@@ -221,6 +232,7 @@ sat_none plants by h next lines x es same =
           wires = λ t. wires_none v;
           spares = spares_none by.0 v;
           cause = inr (refl, refl);
+          notes = notes_none by x.had;
         };
         reach = record { whole = 0; part = 0; flies = false };
         more = [];

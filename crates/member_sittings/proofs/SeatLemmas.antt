@@ -32,7 +32,9 @@ use Rattle.member_node.specs.Drawn.{AreDrawn}
 use Rattle.member_node.specs.Reads.{AreLow, orders_after, too_high}
 use Rattle.member_node.specs.Writes.{HasKept}
 use Rattle.member_node.proofs.EntryLemmas.{nothing_done}
+use Rattle.member_node.specs.Wanted.{HasHad}
 use Rattle.member_steps.specs.Steps.{IsBetween, entry_with}
+use Rattle.member_steps.proofs.NoteLemmas.{had_as}
 use Rattle.member_steps.proofs.ReadLemmas.{at_lock, calm_rest, low_written, one_batch, told_sound, untold_later}
 use Rattle.member_steps.proofs.StepLemmas.{begins_alone, between_done, can_draw}
 use Rattle.member_steps.proofs.FateLemmas.{kept_from_out, settled_later, settled_out}
@@ -66,6 +68,7 @@ module _ {P C : Type 0} (plants : PlantGhosts P) (copies : CopyGhosts C) where
       config = s.config ∙ sym did.config;
       first = subst (λ (ps : List Page). IsAtRest plants.tells (first_half plants copies x) ps) (sym did.pages) s.first;
       second = subst (λ (ps : List Page). IsAtRest plants.tells (second_half plants copies x) ps) (sym did.pages) s.second;
+      noted = had_as plants.tells x.had x.had m n refl did.id did.fresh did.pages s.noted;
       kept = s.kept;
       begun = s.begun;
       roomy = s.roomy;
@@ -121,6 +124,7 @@ module _ {P C : Type 0} (plants : PlantGhosts P) (copies : CopyGhosts C) where
     pub between : IsBetween plants.tells y.base y.batches y.current y.placed y.level n.batch n.checkpoint
     pub first : IsAtRest plants.tells (first_half plants copies y) n.checkpoint.pages
     pub second : IsAtRest plants.tells (second_half plants copies y) n.checkpoint.pages
+    pub noted : HasHad plants.tells n.fresh y.had n.id.0 n.checkpoint.pages
     pub goes : Goes (view_of x) (view_of y)
     pub leaves : HasKept x.batches (journal_of y) (begun (view_of x).now m.id m.batch) (view_of y).now
 
@@ -139,6 +143,7 @@ module _ {P C : Type 0} (plants : PlantGhosts P) (copies : CopyGhosts C) where
       config = same_config ∙ g.still.config ∙ sym (ap (λ (t : Tables). t.config) k.tables);
       first = k.first;
       second = k.second;
+      noted = k.noted;
       kept = settled_out x.batches y.batches y.placed y.current (begun (view_of x).now m.id m.batch) (view_of x).now (view_of y).now k.goes.later k.between.unplaced k.between.none k.leaves g.still.kept;
       begun = let later = k.goes.later in let begun = g.still.begun in subst (λ (s : ℕ). s ≤ (view_of y).now) (sym k.since) (omega (arith, begun, later));
       roomy = λ t. subst (AreRoomy (view_of y)) (sym same_config) (still_roomy x.base.config (view_of x) (view_of y) k.goes (g.still.roomy t));
@@ -195,6 +200,7 @@ module _ {P C : Type 0} (plants : PlantGhosts P) (copies : CopyGhosts C) where
         begun = t.begun;
         roomy = t.roomy;
         level = level;
+        noted = t.noted;
       }
     where
       open_of : (h : Half) (config : Config) (batches : ℕ) (m : Member) → (plants.tells → AreLow config batches m.checkpoint.tables) → AreDrawn m.checkpoint.tables m.checkpoint.level m.checkpoint.levels m.checkpoint.pages
@@ -218,6 +224,7 @@ module _ {P C : Type 0} (plants : PlantGhosts P) (copies : CopyGhosts C) where
     pub between : IsBetween plants.tells y.base y.batches y.current y.placed y.level n.batch n.checkpoint
     pub first : IsAtRest plants.tells (first_half plants copies y) n.checkpoint.pages
     pub second : IsAtRest plants.tells (second_half plants copies y) n.checkpoint.pages
+    pub noted : HasHad plants.tells n.fresh y.had n.id.0 n.checkpoint.pages
     pub room1 : IsRoomy (first_half plants copies y)
     pub room2 : IsRoomy (second_half plants copies y)
     pub many : length n.room ≡ length n.checkpoint.pages
@@ -241,6 +248,7 @@ module _ {P C : Type 0} (plants : PlantGhosts P) (copies : CopyGhosts C) where
       config = base_config ∙ g.config ∙ sym k.config;
       first = k.first;
       second = k.second;
+      noted = k.noted;
       kept = subst (λ (bs : List Batch). AreSettled bs (plants.view y.plant).now) (sym k.batches) (settled_later x.batches (plants.view x.plant).now (plants.view y.plant).now k.goes.later g.kept);
       begun = let later = k.goes.later in let begun = g.begun in subst (λ (s : ℕ). s ≤ (plants.view y.plant).now) (sym k.since) (omega (arith, begun, later));
       roomy = λ t. subst (AreRoomy (plants.view y.plant)) (sym base_config) (still_roomy x.base.config (plants.view x.plant) (plants.view y.plant) k.goes (g.roomy t));

@@ -15,6 +15,7 @@ use Rattle.mas_complex.specs.Parts.{Parts, parts_of}
 use Rattle.member_node.specs.declared.member.Member.{Member}
 use Rattle.member_node.specs.declared.member.NodeNo.{NodeNo}
 use Rattle.member_node.specs.Reads.{IsCalm, ReadsLow, too_high}
+use Rattle.member_node.specs.Wanted.{HasHad}
 use Rattle.member_steps.specs.Steps.{IsAtLock, IsToldSound}
 use Rattle.member_sittings.specs.Sat.{CopiesActed}
 use Rattle.member_sittings.specs.Whole.{Half, HoldsLock, IsBounded, IsSeat, first_half, queue_of, second_half}
@@ -30,7 +31,7 @@ module _ {P C : Type 0} (plants : PlantGhosts P) (copies : CopyGhosts C) where
   v x = plants.view x.plant
 
   -- The member holds the lock, and nothing is in flight, reserved or placed. Every batch has its fate. The member may
-  -- know nothing of what the copies have by now: others may have written since it did.
+  -- know nothing of what the copies have by now: others may have written since it did. It has the pages that it noted.
   pub record IsAtGate (x : Parts P C) (m : Member) : Type 0 where
     pub holds : HoldsLock x.book x.base.config m.id
     pub at_lock : IsAtLock x.current x.placed m.batch m.checkpoint m.room
@@ -45,6 +46,7 @@ module _ {P C : Type 0} (plants : PlantGhosts P) (copies : CopyGhosts C) where
     pub begun : x.since ≤ (v x).now
     pub roomy : plants.tells → AreRoomy (v x) x.base.config
     pub level : x.level < too_high
+    pub noted : HasHad plants.tells m.fresh x.had m.id.0 m.checkpoint.pages
 
   -- The member has its seat still, from a sitting before: it holds the lock since, so nobody else could write.
   pub record IsAtSeat (x : Parts P C) (m : Member) : Type 0 where

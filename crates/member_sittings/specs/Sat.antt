@@ -12,12 +12,13 @@ use Rattle.mas_complex.specs.declared.complex.Complex.{Complex}
 use Rattle.ckpt_form.specs.declared.steady.Steady.{Ghosts as SteadyGhosts}
 use Rattle.mas_complex.specs.Journals.{begun, end_of}
 use Rattle.mas_complex.specs.Paper.{SamePapers}
-use Rattle.mas_complex.specs.Parts.{Parts, parts_of}
+use Rattle.mas_complex.specs.Parts.{Parts, parts_of, with_copies}
 use Rattle.member_node.specs.declared.member.Member.{Member}
 use Rattle.member_node.specs.declared.member.NodeNo.{NodeNo}
 use Rattle.member_node.specs.Calls.{Course, IsOnlyOn, console_now}
 use Rattle.member_node.specs.Spares.{Spares, stopped_in}
 use Rattle.member_steps.specs.Counting.{HasCounted}
+use Rattle.member_steps.specs.Noting.{OtherNotesStay}
 use Rattle.member_steps.specs.Steps.{StepCauses}
 use Rattle.member_decks.specs.Batches.{HasAll}
 use Rattle.member_decks.specs.Keeping.{GivesUpLeaves, IsOnCopies}
@@ -57,6 +58,10 @@ abbrev pub sat_in : {P C : Type 0} → Parts P C → Parts P C → Parts P C
 sat_in is was = record is
     { book = was.book; base = was.base; since = was.since; renewals = was.renewals }
 
+-- What a member changes that takes its seat: the plant, the copies, and what was noted.
+abbrev pub seated_in : {P C : Type 0} → Parts P C → Parts P C → Parts P C
+seated_in is was = record (with_copies is was) { had = is.had }
+
 -- the journal, with a batch in flight at its end
 abbrev pub journal_of : {P C : Type 0} → Parts P C → List Batch
 journal_of x = end_of x.placed x.current x.batches
@@ -73,7 +78,7 @@ module _ {P C : Type 0} (plants : PlantGhosts P) where
 
   -- Acts of a member on the copies and on the console, with the cause of their answer. Nothing is printed, no volume
   -- changes, nothing moves on a line to another node, and no copy is lost by a call. The member is stopped only where the
-  -- answer is Halted.
+  -- answer is Halted. What each other member noted stays.
   pub record HasActed {T : Type 0} (by : MemberId) (old new : Parts P C) (result : Result T NodeNo) : Type 0 where
     pub course : Course old.first_alive new.first_alive old.second_alive new.second_alive (v old) (v new)
     pub loses : plants.tells → (d : Dev) → (v new).loses d ≡ (v old).loses d
@@ -82,6 +87,7 @@ module _ {P C : Type 0} (plants : PlantGhosts P) where
     pub wires : plants.tells → SameWires (v old) (v new)
     pub spares : Spares by.0 (stopped_in result) (v old) (v new)
     pub cause : StepCauses result by.0 old.first_alive new.first_alive old.second_alive new.second_alive (v old) (v new)
+    pub notes : OtherNotesStay by old.had new.had
 
   -- the batches are kept, one after another, since the sitting began
   abbrev pub AreKeptIn : MemberId → Sitting → Parts P C → Parts P C → Type 0
@@ -123,11 +129,11 @@ module _ {P C : Type 0} (plants : PlantGhosts P) where
     pub sat : IsSat s.holder.by sitting old new result
     pub tight : IfNoWork s.state (IsTightBy result sitting.batches sat.reach)
 
-  -- acts on the copies alone
-  abbrev pub CopiesActed : {T : Type 0} → MemberId → Parts P C → Parts P C → Result T NodeNo → Type 0
-  CopiesActed by old new result =
-      IsOnCopies plants.tells by.0 old.first_alive new.first_alive old.second_alive new.second_alive (v old) (v new)
-      result
+  -- acts on the copies alone, which leave what each other member noted
+  pub record CopiesActed {T : Type 0} (by : MemberId) (old new : Parts P C) (result : Result T NodeNo) : Type 0 where
+    pub on : IsOnCopies plants.tells by.0 old.first_alive new.first_alive old.second_alive new.second_alive (v old)
+        (v new) result
+    pub notes : OtherNotesStay by old.had new.had
 
   -- Memory wanted in the middle of a sitting: of its next batch these first entries are kept if there was memory for
   -- that, or are in flight.

@@ -36,6 +36,7 @@ use Rattle.member_node.specs.declared.member.Member.{Member}
 use Rattle.member_node.specs.Batches.{CanDraw, HasDone}
 use Rattle.member_node.specs.Copies.{RestsAt}
 use Rattle.member_node.specs.Reads.{AreLow, orders_after, too_high}
+use Rattle.member_node.specs.Wanted.{HasHad}
 use Rattle.member_steps.specs.Steps.{AreKeptFrom, IsBetween}
 use Rattle.member_decks.specs.Steps.{AreOf}
 use Rattle.step_turns.specs.declared.states.Holder.{Holder}
@@ -104,7 +105,8 @@ module _ {P C : Type 0} (plants : PlantGhosts P) (copies : CopyGhosts C) where
   -- WITHIN A SITTING
 
   -- The member holds the lock, and nothing is in flight, reserved or placed. Each copy has the pages that the member's
-  -- tables were drawn as last. Every batch has its fate, and each volume that isn't lost the size that its groups need.
+  -- tables were drawn as last, which it noted. Every batch has its fate, and each volume that isn't lost the size that
+  -- its groups need.
   pub record IsStill (x : Parts P C) (m : Member) : Type 0 where
     pub holds : HoldsLock x.book x.base.config m.id
     pub none : x.current ≡ None
@@ -115,6 +117,7 @@ module _ {P C : Type 0} (plants : PlantGhosts P) (copies : CopyGhosts C) where
     pub config : x.base.config ≡ m.checkpoint.tables.config
     pub first : IsAtRest plants.tells (first_half x) m.checkpoint.pages
     pub second : IsAtRest plants.tells (second_half x) m.checkpoint.pages
+    pub noted : HasHad plants.tells m.fresh x.had m.id.0 m.checkpoint.pages
     pub kept : AreSettled x.batches (v x).now
     pub begun : x.since ≤ (v x).now
     pub roomy : plants.tells → AreRoomy (v x) x.base.config
@@ -209,6 +212,7 @@ pub record Commanded (m n : Member) : Type 0 where
   pub id : n.id ≡ m.id
   pub room : n.room ≡ m.room
   pub here : n.behind ≡ false
+  pub fresh : n.fresh ≡ m.fresh
   pub level : n.checkpoint.level ≡ m.checkpoint.level
   pub levels : n.checkpoint.levels ≡ m.checkpoint.levels
   pub pages : n.checkpoint.pages ≡ m.checkpoint.pages

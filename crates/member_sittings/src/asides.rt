@@ -6,8 +6,9 @@ ghost use Rattle.member_sittings.specs.Asides.{MaySpoolDeck, SpoolsDeck, deck_fo
 use job_outcome::Read;
 use mas_complex::{Complex, Steady};
 use mas_types::{Lines, List};
-use member_decks::{SpoolError, spool_text};
+use member_decks::SpoolError;
 use member_node::{Member, NodeNo};
+use member_opening::spool_text;
 use spool_plant::Plant;
 use spool_text::groups_needed;
 use std::alloc::Global;

@@ -1,12 +1,13 @@
 //! A member that got the lock takes its seat: it takes in what the copies have. One that held it knows what they have.
 ghost use Rattle.std.specs.Prelude.{◌≡◌, ◌<◌, Ok, OnOk};
-ghost use Rattle.mas_complex.specs.Parts.{parts_of, with_copies};
+ghost use Rattle.mas_complex.specs.Parts.{parts_of};
 ghost use Rattle.member_node.specs.Reads.{too_high};
 ghost use Rattle.member_sittings.specs.Gates.{ActedOnCopies, AreBothLost, HaveRoom, MayKeepSeat, MayTakeSeat, TookSeat};
+ghost use Rattle.member_sittings.specs.Sat.{seated_in};
 
 use mas_complex::{Complex, Steady};
-use member_decks::take_hold;
 use member_node::{Member, NodeNo, TOO_HIGH};
+use member_opening::take_hold;
 use spool_plant::Plant;
 use std::alloc::Global;
 
@@ -21,7 +22,7 @@ pub fn take_seat<P: Plant + Drop, C: Steady + Drop>(
     complex: &mut Complex<P, C>,
 ) -> Result<(), NodeNo>
     requires { MayTakeSeat complex.old member.old }
-    ensures frame { parts_of complex.new ≡ with_copies (parts_of complex.new) (parts_of complex.old) }
+    ensures frame { parts_of complex.new ≡ seated_in (parts_of complex.new) (parts_of complex.old) }
     ensures id { member.new.id ≡ member.old.id }
     ensures acts { ActedOnCopies member.old.id complex.old complex.new result }
     ensures seat { OnOk result (TookSeat complex.new member.new) }
@@ -39,7 +40,7 @@ fn make_room<P: Plant + Drop, C: Steady + Drop>(
     requires may { MayKeepSeat complex.old member.now }
     requires order { member.now.checkpoint.tables.order < too_high }
     requires high { member.now.checkpoint.level < too_high }
-    ensures frame { parts_of complex.new ≡ with_copies (parts_of complex.new) (parts_of complex.old) }
+    ensures frame { parts_of complex.new ≡ seated_in (parts_of complex.new) (parts_of complex.old) }
     ensures acts { ActedOnCopies member.now.id complex.old complex.new result }
     ensures seat { OnOk result (TookSeat complex.new member.now) }
     ensures idle { HaveRoom complex.old → complex.new ≡ complex.old }
@@ -63,7 +64,7 @@ pub fn keep_seat<P: Plant + Drop, C: Steady + Drop>(
     complex: &mut Complex<P, C>,
 ) -> Result<(), NodeNo>
     requires { MayKeepSeat complex.old member.old }
-    ensures frame { parts_of complex.new ≡ with_copies (parts_of complex.new) (parts_of complex.old) }
+    ensures frame { parts_of complex.new ≡ seated_in (parts_of complex.new) (parts_of complex.old) }
     ensures id { member.new.id ≡ member.old.id }
     ensures acts { ActedOnCopies member.old.id complex.old complex.new result }
     ensures seat { OnOk result (TookSeat complex.new member.new) }

@@ -2,8 +2,11 @@ pub mod Codes
 pub mod CountLemmas
 pub mod FateLemmas
 pub mod LineLemmas
+pub mod LowCopies
+pub mod NoteLemmas
 pub mod PageLemmas
 pub mod ReadLemmas
 pub mod SayLemmas
+pub mod SoundQueues
 pub mod StepLemmas
 pub mod UntoldLemmas

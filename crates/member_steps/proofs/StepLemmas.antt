@@ -37,6 +37,8 @@ use Rattle.member_node.specs.Batches.{CanDraw, HasDone, level_with}
 use Rattle.member_node.specs.Calls.{console_now}
 use Rattle.member_node.specs.Drawn.{AreDrawn}
 use Rattle.member_node.specs.Writes.{HasKept, IsWrite}
+use Rattle.member_node.proofs.DrawnLemmas.{drawn_level}
+use Rattle.member_node.proofs.AgeLemmas.{aged_as, drawn_aged, level_as}
 use Rattle.member_node.proofs.CourseLemmas.{course_none, course_then, only_none, only_on, papers_none, papers_on, rose_later, wires_none, wires_then}
 use Rattle.member_node.proofs.EntryLemmas.{nothing_done}
 use Rattle.member_node.proofs.SpareLemmas.{spares_none, spares_then}
@@ -210,7 +212,13 @@ can_draw k n drawn pages level levels config spelling = record {
   as_many = ap length pages ∙ drawn.spelled.count ∙ ap page_count (sym config);
   sized = subst (All (λ page. length page.0 ≡ page_bytes)) (sym pages) drawn.sized;
   spelling = spelling;
+  aged = aged_as k n (drawn_aged k.tables k.level k.levels k.pages drawn) pages levels;
+  at_level = level_as k n (drawn_level k.tables k.level k.levels k.pages drawn) pages level;
 }
+
+-- tables that tell a run's queue with more entries have as many pages as its configuration says
+pub pages_as_many : (base : Queue) (es more : List Entry) (t : Tables) → Tell t (run (run base es) more) → page_count base.config ≡ page_count t.config
+pages_as_many base es more t told = ap page_count (sym (runs_keep_configuration base es).config ∙ sym (runs_keep_configuration (run base es) more).config ∙ told.config)
 
 -- WHAT HOLDS WHATEVER THE ANSWER
 

@@ -1,4 +1,5 @@
 pub mod Counting
+pub mod Noting
 pub mod Saying
 pub mod Steps
 pub mod Untold

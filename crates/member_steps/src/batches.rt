@@ -1,6 +1,7 @@
 //! A step whose commands are done: they are written, and its lines are said.
 ghost use Rattle.std.specs.Prelude.{◌≡◌, ◌+◌, ◌≤◌, ◌<◌, ◌^◌, ◌++◌, All, None, length, true, false, OnOk};
 ghost use Rattle.mas_types.specs.declared.ids.Dev.TheVariants.{Ckpt1, Ckpt2};
+ghost use Rattle.mas_types.specs.Limits.{members_most};
 ghost use Rattle.spool_plant.specs.View.{disk_now};
 ghost use Rattle.mas_complex.specs.Crash.{IsUntold, setting};
 ghost use Rattle.mas_complex.specs.Journals.{begun, end_of, kept_all};
@@ -12,6 +13,7 @@ ghost use Rattle.queue_effect.specs.Standing.{AreFit};
 ghost use Rattle.member_node.specs.Batches.{CanDraw, HasDone};
 ghost use Rattle.member_node.specs.Copies.{RestsAt};
 ghost use Rattle.member_steps.specs.Counting.{HasCounted};
+ghost use Rattle.member_steps.specs.Noting.{KeepsNotes};
 ghost use Rattle.member_steps.specs.Saying.{TellKept};
 ghost use Rattle.member_steps.specs.Steps.{AreAllKept, IsBetween, IsStep};
 ghost use Rattle.mas_complex.specs.Paper.{MayBegin, printed_after};
@@ -26,7 +28,7 @@ use std::alloc::Global;
 /// Writes the commands that a member has done, as one batch, to both copies, and says lines then. The member holds the
 /// lock, or is the operator while nobody does. All memory is taken before the first write. The texts of the queue with
 /// the batch stand on the spool volumes, except those with a group on a volume that is lost. Each step that a line
-/// tells is kept before, as far as it has been given.
+/// tells is kept before, as far as it has been given. Once the batch is kept the member has noted its pages.
 ///
 /// NoMemory leaves the shared value's journal and the copies as they were, BothLost and Halted perhaps the batch in
 /// flight. After any of the four errors the member can't go on: its tables may be ahead of the copies.
@@ -36,6 +38,7 @@ pub fn play_batch<P: Plant + Drop, C: Steady + Drop>(
     complex: &mut Complex<P, C>,
     lines: &Lines,
 ) -> Result<(), NodeNo>
+    requires by { member.old.id.0 ≤ members_most }
     requires may { MayAct complex.old.book member.old.id }
     requires some { 1 ≤ length member.old.batch }
     requires own { All (λ e. e.by ≡ member.old.id) member.old.batch }
@@ -94,6 +97,7 @@ pub fn play_batch<P: Plant + Drop, C: Steady + Drop>(
         → AreAllKept complex.new.journal.batches (P.view complex.new.plant).now) }
     ensures level { OnOk result (member.new.checkpoint.level ≤ member.old.checkpoint.level + 1) }
     ensures reached { OnOk result (complex.new.level ≤ complex.old.level + 1) }
+    ensures notes { KeepsNotes complex.old complex.new member.old member.new result }
     ensures counts { HasCounted member.old.id member.old.batch complex.old.printed complex.new.printed result }
 {
     let Ok(draft) = member.ready(alloc, complex) else {

@@ -39,6 +39,7 @@ pub fn give(
     ensures pages { member.new.checkpoint.pages ≡ member.old.checkpoint.pages }
     ensures room { member.new.room ≡ member.old.room }
     ensures behind { member.new.behind ≡ member.old.behind }
+    ensures fresh { member.new.fresh ≡ member.old.fresh }
     ensures levels { member.new.checkpoint.levels ≡ member.old.checkpoint.levels }
     ensures spelling { HasSpelling member.new.checkpoint.tables }
     ensures fit { AreFit member.new.checkpoint.tables }

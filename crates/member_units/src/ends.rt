@@ -6,13 +6,13 @@ ghost use Rattle.step_turns.specs.declared.states.Found.{Found};
 ghost use Rattle.step_turns.specs.declared.states.State.TheVariants.{Told};
 ghost use Rattle.step_turns.specs.Turns.{leaves, says};
 ghost use Rattle.member_sittings.specs.Shapes.{MayCloseBy};
-ghost use Rattle.member_units.specs.Plays.{Plays, bounds, unwritten, wrote_of};
-ghost use Rattle.member_units.specs.Works.{HasRoom, HasSeat, Works, outside, place_of, queue_here, run_of};
+ghost use Rattle.member_giving.specs.Plays.{Plays, bounds, unwritten, wrote_of};
+ghost use Rattle.member_giving.specs.Works.{HasRoom, HasSeat, Works, outside, place_of, queue_here, run_of};
 
-use crate::giving::keep;
 use cmd_report::one_line;
 use mas_complex::{Complex, Steady};
 use mas_types::Closing;
+use member_giving::keep;
 use member_node::{Member, NodeNo};
 use member_sittings::{SittingEnd, release_of};
 use member_steps::tell_lines;

@@ -3,11 +3,7 @@
 #![tactic(auto)]
 
 mod ends;
-mod giving;
-mod nexts;
 mod sitting;
 mod units;
 
-pub use giving::{give, keep, keep_full};
-pub use nexts::{Next, next_unit};
 pub use sitting::{resume_work, sit_work};

@@ -22,16 +22,16 @@ ghost use Rattle.step_turns.specs.Turns.{aside_turn, job_ends as job_ends_lem, l
 ghost use Rattle.member_sittings.specs.Sat.{HasSat, begins, resumes, sat_in};
 ghost use Rattle.member_sittings.specs.Whole.{MaySit};
 ghost use Rattle.member_sittings.specs.Shapes.{MayRefuseBy};
-ghost use Rattle.member_units.specs.Plays.{MayStopBy, Plays, bounds, wrote_of};
+ghost use Rattle.member_giving.specs.Plays.{MayStopBy, Plays, bounds, wrote_of};
 ghost use Rattle.member_asides.specs.Ready.{HasFewer, MayResume, OutputsStand};
-ghost use Rattle.member_units.specs.Works.{IsLow, ReadyIn, SitsIn, Works, outside, place_of, queue_here, queue_kept, run_of};
+ghost use Rattle.member_giving.specs.Works.{IsLow, ReadyIn, SitsIn, Works, outside, place_of, queue_here, queue_kept, run_of};
 
 use crate::ends::{close, leave};
-use crate::giving::{end_job, free_groups, give, take_groups};
 use crate::units::{begin, go_on_after};
 use job_outcome::{Outcome, Read, UnitEnd, outcome_of};
 use mas_complex::{Complex, Steady};
 use mas_types::{Closing, Command, JobNo, List, OutNo, OutSpec};
+use member_giving::{end_job, free_groups, give, take_groups};
 use member_node::{Member, NodeNo};
 use member_sittings::SittingEnd;
 use member_work::groups_for_end;

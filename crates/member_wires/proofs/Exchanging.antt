@@ -25,10 +25,10 @@ use Rattle.step_turns.specs.Serving.{unread}
 use Rattle.step_turns.specs.declared.states.Found.{Found}
 use Rattle.step_turns.specs.declared.states.Offer.{Offer}
 use Rattle.member_sittings.specs.Whole.{queue_of}
-use Rattle.member_asides.specs.Asides.{HasRead}
+use Rattle.member_asides.specs.Asides.{HasRead, wire_found}
 use Rattle.member_wires.specs.declared.acts.End.{End}
 use Rattle.member_wires.specs.Acts.{AreOnLine, GivenBy, GivesBytes, HasGivenBytes, HasLineFailed, IsHeard, StopsBeside}
-use Rattle.member_wires.specs.Asides.{Exchanged, FindsOffered, GaveBy, HasMoved, IsFoundHeard, end_of, job_bytes, offered_bytes, wire_found}
+use Rattle.member_wires.specs.Asides.{Exchanged, FindsOffered, GaveBy, HasMoved, IsFoundHeard, end_of, job_bytes, offered_bytes}
 use Rattle.member_wires.proofs.OnLine.{on_line_none, on_line_then}
 use Rattle.member_wires.proofs.Reading.{on_line_read}
 

@@ -29,9 +29,8 @@ use Rattle.step_turns.specs.declared.states.Found.{Found}
 use Rattle.step_turns.specs.declared.states.Offer.{Offer}
 use Rattle.step_turns.specs.declared.states.State.TheVariants.{Away}
 use Rattle.step_turns.specs.declared.states.Aside.TheVariants.{Exchange}
-use Rattle.step_turns.specs.States.{nothing_found}
 use Rattle.member_sittings.specs.Whole.{queue_of}
-use Rattle.member_asides.specs.Asides.{MayRead}
+use Rattle.member_asides.specs.Asides.{MayRead, wire_found}
 use Rattle.member_wires.specs.declared.acts.End.{End}
 use Rattle.member_wires.specs.Acts.{AreOnLine, GivesBytes, HasLineFailed, IsHeard, ReadsOn, TakesAll}
 
@@ -40,9 +39,6 @@ abbrev pub end_of : Member → ℕ → End
 end_of m l = record { by = m.id; line = l }
 
 -- WHAT A MEMBER FOUND
-
-abbrev pub wire_found : Read → Bool → List Frame → Found
-wire_found read lost frames = record nothing_found { read = read; wire = lost; frames = frames }
 
 -- the bytes of the frame of the job that is offered, with this text
 abbrev pub job_bytes : Offer → List (List ℕ) → List ℕ

@@ -6,7 +6,8 @@ ghost use Rattle.mas_complex.specs.Parts.{parts_of};
 ghost use Rattle.member_node.specs.declared.member.NodeNo.TheVariants.{NoMemory as out_of_memory};
 ghost use Rattle.nje_frames.specs.Grammar.{IsFrame};
 ghost use Rattle.member_wires.specs.Acts.{GivesBytes, IsHeard, ReadsOn};
-ghost use Rattle.member_wires.specs.Asides.{Acknowledges, Exchanges, IsFoundHeard, MayAcknowledge, MayExchange, job_bytes, lost_of, wire_found};
+ghost use Rattle.member_wires.specs.Asides.{Acknowledges, Exchanges, IsFoundHeard, MayAcknowledge, MayExchange, job_bytes, lost_of};
+ghost use Rattle.member_asides.specs.Asides.{wire_found};
 
 use crate::acts::{End, Taken, give_frame, take_waiting};
 use job_outcome::Read;

@@ -30,6 +30,7 @@ use Rattle.mas_complex.specs.Texts.{HasTexts, lost_now, spools_at}
 use Rattle.member_node.specs.declared.checkpoint.Checkpoint.{Checkpoint}
 use Rattle.member_node.specs.declared.member.NodeNo.{NodeNo}
 use Rattle.member_node.specs.Batches.{CanDraw, HasDone, last_reply}
+use Rattle.member_node.proofs.AgeLemmas.{aged_as, level_as}
 use Rattle.member_node.proofs.TextLemmas.{plain_brings, texts_after}
 use Rattle.member_node.proofs.WriteLemmas.{run_append}
 use Rattle.member_steps.specs.Steps.{entry_of, entry_with, reply_to}
@@ -135,6 +136,8 @@ can_still k n draws pages level levels config spelling = record {
   as_many = ap length pages ∙ draws.as_many ∙ ap page_count (sym config);
   sized = subst (All (λ page. length page.0 ≡ page_bytes)) (sym pages) draws.sized;
   spelling = spelling;
+  aged = aged_as k n draws.aged pages levels;
+  at_level = level_as k n draws.at_level pages level;
 }
 
 module _ (told : Type 0) (v : View) (since : ℕ) (base : Queue) (batches : List Batch) (current : Option Batch) (placed : Bool) (level : ℕ) (reserved : Option (List Entry)) (printed : List ℕ) (by : MemberId) (batch : List Entry) (k : Checkpoint) (room : List Page) (behind : Bool) (w : IsAtWork told v since base batches current placed level reserved printed by batch k room behind) where

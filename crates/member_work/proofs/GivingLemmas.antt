@@ -66,6 +66,7 @@ module _ (at : ℕ) (m n o : Member) where
     id = two.id ∙ one.id;
     room = two.room ∙ one.room;
     behind = two.behind ∙ one.behind;
+    fresh = two.fresh ∙ one.fresh;
     level = two.level ∙ one.level;
     levels = two.levels ∙ one.levels;
     pages = two.pages ∙ one.pages;
@@ -88,6 +89,7 @@ given_none at m spelling fit = record {
   id = refl;
   room = refl;
   behind = refl;
+  fresh = refl;
   level = refl;
   levels = refl;
   pages = refl;

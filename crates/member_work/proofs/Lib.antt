@@ -1,9 +1,7 @@
 pub mod Computed
 pub mod CalmLemmas
-pub mod ReadLemmas
 pub mod RoundLemmas
 pub mod CauseLemmas
-pub mod GoneLemmas
 pub mod SpoolLemmas
 pub mod GivingLemmas
 pub mod KeptLemmas
@@ -18,8 +16,6 @@ pub mod SayingLemmas
 pub mod GivenLemmas
 pub mod PartLemmas
 pub mod UnderWayLemmas
-pub mod GoneOutputLemmas
 pub mod JobLemmas
 pub mod PrintedLemmas
-pub mod InkedLemmas
 pub mod UnitStepLemmas

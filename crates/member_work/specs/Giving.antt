@@ -30,6 +30,7 @@ pub record HasGiven (at : ℕ) (m n : Member) : Type 0 where
   pub id : n.id ≡ m.id
   pub room : n.room ≡ m.room
   pub behind : n.behind ≡ m.behind
+  pub fresh : n.fresh ≡ m.fresh
   pub level : n.checkpoint.level ≡ m.checkpoint.level
   pub levels : n.checkpoint.levels ≡ m.checkpoint.levels
   pub pages : n.checkpoint.pages ≡ m.checkpoint.pages

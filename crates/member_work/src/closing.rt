@@ -1,12 +1,14 @@
 //! What a step has given since the last batch, kept.
 ghost use Rattle.std.specs.Prelude.{◌≡◌, ◌+◌, ◌≤◌, ◌<◌, ◌^◌, ◌∷◌, [], Err, OnOk};
 ghost use Rattle.mas_types.specs.declared.ids.Dev.TheVariants.{Ckpt1, Ckpt2};
+ghost use Rattle.mas_types.specs.Limits.{members_most};
 ghost use Rattle.spool_plant.specs.View.{disk_now};
 ghost use Rattle.mas_complex.specs.Crash.{IsUntold, setting};
 ghost use Rattle.mas_complex.specs.Journals.{end_of};
 ghost use Rattle.mas_complex.specs.Locking.{MayAct};
 ghost use Rattle.member_node.specs.Calls.{Apart};
 ghost use Rattle.member_steps.specs.Counting.{HasCounted};
+ghost use Rattle.member_steps.specs.Noting.{KeepsNotes, LeavesNotes};
 ghost use Rattle.member_work.specs.Steps.{HasCopy, IsAtWork, IsKeeping};
 ghost use Rattle.member_work.specs.Work.{batches_in};
 
@@ -17,15 +19,16 @@ use member_node::{Member, NodeNo};
 use spool_plant::Plant;
 use std::alloc::Global;
 
-/// Keeps what the member gave since the last batch, if anything, as a batch, and makes room for the next one; nothing
-/// is said. BothLost comes only where both copies count as lost at the end of the call, Halted only where the member
-/// was stopped in it, and NoMemory only when out of memory.
+/// Keeps what the member gave since the last batch, if anything, as a batch, notes its pages, and makes room for the next
+/// one; nothing is said. BothLost comes only where both copies count as lost at the end of the call, Halted only where
+/// the member was stopped in it, and NoMemory only when out of memory.
 pub fn keep_given<P: Plant + Drop, C: Steady + Drop>(
     member: &mut Member,
     alloc: Global,
     complex: &mut Complex<P, C>,
 ) -> Result<(), NodeNo>
     requires may { MayAct complex.old.book member.old.id }
+    requires by { member.old.id.0 ≤ members_most }
     requires work { IsAtWork P.tells (P.view complex.old.plant) complex.old.since complex.old.base
         complex.old.journal.batches complex.old.current complex.old.placed complex.old.level complex.old.reserved
         complex.old.printed member.old.id member.old.batch member.old.checkpoint member.old.room member.old.behind }
@@ -63,6 +66,7 @@ pub fn keep_given<P: Plant + Drop, C: Steady + Drop>(
     ensures high { OnOk result (member.new.checkpoint.level ≤ member.old.checkpoint.level + 1) }
     ensures reached { OnOk result (complex.new.level ≤ complex.old.level + 1) }
     ensures counts { HasCounted member.old.id member.old.batch complex.old.printed complex.new.printed result }
+    ensures notes { KeepsNotes complex.old complex.new member.old member.new result }
 {
     if member.batch.len() == 0 {
         return Ok(());
@@ -79,6 +83,7 @@ pub fn give_up<P: Plant + Drop, C: Steady + Drop>(
     complex: &mut Complex<P, C>,
 ) -> NodeNo
     requires may { MayAct complex.old.book member.old.id }
+    requires by { member.old.id.0 ≤ members_most }
     requires work { IsAtWork P.tells (P.view complex.old.plant) complex.old.since complex.old.base
         complex.old.journal.batches complex.old.current complex.old.placed complex.old.level complex.old.reserved
         complex.old.printed member.old.id member.old.batch member.old.checkpoint member.old.room member.old.behind }
@@ -103,6 +108,7 @@ pub fn give_up<P: Plant + Drop, C: Steady + Drop>(
         complex.old.pair.first.alive complex.new.pair.first.alive complex.old.pair.second.alive
         complex.new.pair.second.alive (P.view complex.old.plant) (P.view complex.new.plant) (Err result) }
     ensures counts { HasCounted {T = Unit {0}} member.old.id [] complex.old.printed complex.new.printed (Err result) }
+    ensures notes { LeavesNotes member.old.id complex.old complex.new }
 {
     match keep_given(member, alloc, complex) {
         Ok(()) => NodeNo::NoMemory,

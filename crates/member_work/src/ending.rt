@@ -17,6 +17,7 @@ ghost use Rattle.member_node.specs.Calls.{Apart};
 ghost use Rattle.member_node.specs.Reads.{too_high};
 ghost use Rattle.member_decks.specs.Decks.{closing_reply, given_in};
 ghost use Rattle.member_steps.specs.Counting.{HasCounted};
+ghost use Rattle.member_steps.specs.Noting.{KeepsNotes};
 ghost use Rattle.member_decks.specs.Steps.{AreOf};
 ghost use Rattle.job_exec.specs.Running.{AreOutputs};
 ghost use Rattle.job_outcome.specs.declared.units.UnitEnd.TheVariants.{Done, Refused};
@@ -108,6 +109,7 @@ pub fn end_given<P: Plant + Drop, C: Steady + Drop>(
     ensures reached { OnOk result (complex.new.level ≡ complex.old.level) }
     ensures answered { IfOk result IsAnswered }
     ensures counts { HasCounted member.old.id [] complex.old.printed complex.new.printed result }
+    ensures notes { KeepsNotes complex.old complex.new member.old member.new result }
 {
     complex.kept_texts();
     let Ok(end) = give_end(member, alloc, step, job, specs) else {
@@ -180,6 +182,7 @@ pub fn take_given<P: Plant + Drop, C: Steady + Drop>(
     ensures enough { result ≡ Ok Done → needed ≤ member_count member.new.id member.new.checkpoint.tables.owners }
     ensures answered { IfOk result IsAnswered }
     ensures counts { HasCounted member.old.id [] complex.old.printed complex.new.printed result }
+    ensures notes { KeepsNotes complex.old complex.new member.old member.new result }
 {
     complex.kept_texts();
     let Ok(end) = take_for_end(member, alloc, step, needed) else {
@@ -248,6 +251,7 @@ pub fn drop_given<P: Plant + Drop, C: Steady + Drop>(
     ensures reached { OnOk result (complex.new.level ≡ complex.old.level) }
     ensures end { IfOk result (λ end. end ≡ Refused (SpoolLost volume)) }
     ensures counts { HasCounted member.old.id [] complex.old.printed complex.new.printed result }
+    ensures notes { KeepsNotes complex.old complex.new member.old member.new result }
 {
     complex.kept_texts();
     let end = UnitEnd::Refused(Closing::SpoolLost(volume));

@@ -16,6 +16,7 @@ ghost use Rattle.mas_complex.specs.Meaning.{run};
 ghost use Rattle.mas_complex.specs.Paper.{counts_of};
 ghost use Rattle.member_node.specs.Calls.{Apart};
 ghost use Rattle.member_steps.specs.Counting.{HasCounted};
+ghost use Rattle.member_steps.specs.Noting.{KeepsNotes};
 ghost use Rattle.member_decks.specs.Steps.{AreOf};
 ghost use Rattle.job_outcome.specs.Next.{IsNamedEnd};
 ghost use Rattle.member_work.specs.Steps.{HasCopy, IsAtWork, IsCommanded, IsStepUntold};
@@ -96,6 +97,7 @@ pub fn play_command<P: Plant + Drop, C: Steady + Drop>(
     ensures reached { OnOk result (complex.new.level ≡ complex.old.level) }
     ensures added { OnOk result (length member.new.batch ≡ length member.old.batch + 1) }
     ensures counts { HasCounted member.old.id [] complex.old.printed complex.new.printed result }
+    ensures notes { KeepsNotes complex.old complex.new member.old member.new result }
 {
     law_of_texts();
     complex.kept_texts();

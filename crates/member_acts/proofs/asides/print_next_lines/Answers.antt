@@ -31,10 +31,10 @@ use Rattle.member_work.specs.Looks.{as_it_is}
 use Rattle.member_work.specs.Printing.{IsBookAfterLines, IsChunkOf, IsPrinting, IsReservedAfterLines, MayPrintTo}
 use Rattle.member_work.specs.Rounds.{IsReadAs, names_nothing, names_read}
 use Rattle.member_node.specs.Calls.{none_lost}
-use Rattle.member_work.proofs.InkedLemmas.{inked_after, inked_all, inked_wanting, printed_none}
+use Rattle.member_acts.proofs.InkedLemmas.{inked_after, inked_all, inked_wanting, printed_none}
 use Rattle.member_work.proofs.LookingLemmas.{groups_within}
 use Rattle.member_work.proofs.PrintedLemmas.{beside_none, beside_on, beside_volumes, failed_wider, lines_whole, output_key, told_output, whole_output}
-use Rattle.member_work.proofs.ReadLemmas.{stops_later}
+use Rattle.member_acts.proofs.ReadLemmas.{stops_later}
 use Rattle.member_work.proofs.RoundLemmas.{wider_read}
 use Rattle.member_work.specs.Reading.{IsFailedRead}
 use Rattle.ckpt_copy.specs.Moments.{goes_none}
@@ -145,8 +145,9 @@ print_text-requires-clause-may g c told lines is =
     let Q : Queue = run x.base (kept_all x.journal.batches) in
     let still : IsOutputStill t m.id n i Q = c.requires.still told in
     let busy : IsPrinting still.was m.id n i = c.requires.output.printing still.was still.told (c.requires.sound told) in
-    let out : Output = busy.output in
-    let there : output_at Q n i ≡ Some out = still.output ∙ busy.there in
+    let has = still.busy busy.output busy.there busy.busy in
+    let out : Output = has.0 in
+    let there : output_at Q n i ≡ Some out = has.1 in
     let list : c.as_slice-groups.result.now ≡ groups_of (OutputThing n i) t.owners = c.as_slice-groups.ensures ∙ c.in-Ok.ensures ∙ ap (groups_of (OutputThing n i)) c.as_slice-2.ensures in
     let seen : IsReadAs P.tells x.base.config.groups out.text (groups_of (OutputThing n i) Q.owners) (Some c.in_ok-read.read) (P.view x.plant) (P.view y.plant) =
     output_read P.tells x.base.config t Q (P.view x.plant) (P.view y.plant) n i m.id r out c.in_ok-read.read still rec key.0 key.1 there told
@@ -182,7 +183,7 @@ returns-in_err-read-clause-frame g c =
     let e = c.read_text.ensures in
     let x = parts_of c.args.complex.now in
     let y = parts_of c.read_text.new.complex in
-    let same : y ≡ printed_in y x = rw (e.pair, e.base, e.since, e.renewals, e.book, e.journal, e.current, e.reserved, e.placed, e.first, e.second, e.level) refl in
+    let same : y ≡ printed_in y x = rw (e.pair, e.base, e.since, e.renewals, e.book, e.journal, e.current, e.reserved, e.placed, e.first, e.second, e.level, e.had) refl in
     let p = err_from_is_err_and c.from_residual.result c.from_residual.ensures.1 in
     rw (p.1, p.2) (only_error c.args.member.now.id x y Found c.in_err-read.field-0.0 same)
 
@@ -215,7 +216,7 @@ returns-in_err-end-clause-frame g c =
     let x = parts_of c.args.complex.now in
     let z = parts_of c.print_text.new.complex in
     let same : z ≡ record (printed_in z x) { book = z.book; reserved = z.reserved } =
-    rw (f.pair, f.base, f.since, f.renewals, f.journal, f.current, f.placed, f.first, f.second, f.level, e.pair, e.base, e.since, e.renewals, e.journal, e.current, e.placed, e.first, e.second, e.level) refl in
+    rw (f.pair, f.base, f.since, f.renewals, f.journal, f.current, f.placed, f.first, f.second, f.level, f.had, e.pair, e.base, e.since, e.renewals, e.journal, e.current, e.placed, e.first, e.second, e.level, e.had) refl in
     let book : IsBookAfterLines {T = Option Closing} (Err c.in_err-end.field-0.0) m x.book z.book = rw e.book at c.in_err-end.ensures.book in
     let reserved : IsReservedAfterLines {T = Option Closing} (Err c.in_err-end.field-0.0) m x.reserved z.reserved = rw e.reserved at c.in_err-end.ensures.reserved in
     let p = err_from_is_err_and c.from_residual-in_err-end.result c.from_residual-in_err-end.ensures.1 in
@@ -271,7 +272,7 @@ pub returns-clause-frame : goal.returns-clause-frame
 returns-clause-frame g c =
     let e = c.read_text.ensures in
     let f = c.print_text.ensures in
-    rw (f.pair, f.base, f.since, f.renewals, f.journal, f.current, f.placed, f.first, f.second, f.level, c.in_ok-end.ensures.book, c.in_ok-end.ensures.reserved, e.pair, e.base, e.since, e.renewals, e.book, e.journal, e.current, e.reserved, e.placed, e.first, e.second, e.level) refl
+    rw (f.pair, f.base, f.since, f.renewals, f.journal, f.current, f.placed, f.first, f.second, f.level, f.had, c.in_ok-end.ensures.book, c.in_ok-end.ensures.reserved, e.pair, e.base, e.since, e.renewals, e.book, e.journal, e.current, e.reserved, e.placed, e.first, e.second, e.level, e.had) refl
 
 pub returns-clause-prints : goal.returns-clause-prints
 returns-clause-prints g c =

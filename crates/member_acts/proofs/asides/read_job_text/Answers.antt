@@ -84,7 +84,7 @@ returns-in_default-groups_of-clause-reads g c =
 pub returns-in_err-read-clause-frame : goal.returns-in_err-read-clause-frame
 returns-in_err-read-clause-frame g c =
     let e = c.read_text.ensures in
-    rw (e.pair, e.base, e.since, e.renewals, e.book, e.journal, e.current, e.reserved, e.printed, e.placed, e.first, e.second, e.level) refl
+    rw (e.pair, e.base, e.since, e.renewals, e.book, e.journal, e.current, e.reserved, e.printed, e.placed, e.first, e.second, e.level, e.had) refl
 
 pub returns-in_err-read-clause-reads : goal.returns-in_err-read-clause-reads
 returns-in_err-read-clause-reads g c =
@@ -94,7 +94,7 @@ returns-in_err-read-clause-reads g c =
 pub returns-clause-frame : goal.returns-clause-frame
 returns-clause-frame g c =
     let e = c.read_text.ensures in
-    rw (e.pair, e.base, e.since, e.renewals, e.book, e.journal, e.current, e.reserved, e.printed, e.placed, e.first, e.second, e.level) refl
+    rw (e.pair, e.base, e.since, e.renewals, e.book, e.journal, e.current, e.reserved, e.printed, e.placed, e.first, e.second, e.level, e.had) refl
 
 pub returns-clause-reads : goal.returns-clause-reads
 returns-clause-reads g c =

@@ -1,7 +1,9 @@
 use Rattle.std.proofs.Common.{inl, [], refl, arith}
 use Rattle.mas_complex.specs.Journals.{begun, end_of}
 use Rattle.member_node.proofs.WriteLemmas.{none_out}
+use Rattle.mas_complex.specs.Past.{values_of}
 use Rattle.member_steps.proofs.CountLemmas.{counted_error, counted_up}
+use Rattle.member_steps.proofs.NoteLemmas.{notes_none}
 use Rattle.member_decks.proofs.KeepLemmas.{copies_none, up_copies, up_kept, up_unkept}
 use Rattle.member_decks.proofs.keeping.give_up.Goals as goal
 
@@ -47,3 +49,14 @@ returns-in-Ok-clause-counts g c = let m = c.args.member.now in counted_up m.id m
 
 pub returns-in-Err-clause-counts : goal.returns-in-Err-clause-counts
 returns-in-Err-clause-counts g c = let m = c.args.member.now in counted_up m.id m.batch [] c.args.complex.now.printed c.keep_batch.new.complex.printed _ _ c.in-Err.ensures.counts
+
+-- WHAT WAS NOTED
+
+pub returns-then-len-eq0-clause-notes : goal.returns-then-len-eq0-clause-notes
+returns-then-len-eq0-clause-notes g c = notes_none c.args.member.now.id (values_of c.args.complex.now.had)
+
+pub returns-in-Ok-clause-notes : goal.returns-in-Ok-clause-notes
+returns-in-Ok-clause-notes g c = c.in-Ok.ensures.notes.others
+
+pub returns-in-Err-clause-notes : goal.returns-in-Err-clause-notes
+returns-in-Err-clause-notes g c = c.in-Err.ensures.notes.others

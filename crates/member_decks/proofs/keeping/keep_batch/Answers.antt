@@ -4,6 +4,7 @@ use Rattle.mas_types.specs.declared.journals.Batch.{Batch}
 use Rattle.mas_types.specs.declared.journals.Fate.TheVariants.{Kept}
 use Rattle.mas_types.specs.declared.queues.Queue.{Queue}
 use Rattle.ckpt_tables.specs.declared.tables.Tables.{Tables}
+use Rattle.ckpt_tables.specs.Shape.{page_count}
 use Rattle.queue_telling.specs.Orders.{HaveOrders}
 use Rattle.queue_telling.specs.Telling.{Tell, TellSound}
 use Rattle.mas_complex.specs.Journals.{begun, end_of, entries_reserved, fated, kept_all}
@@ -11,9 +12,11 @@ use Rattle.mas_complex.specs.Meaning.{run}
 use Rattle.member_node.specs.Batches.{level_with}
 use Rattle.member_node.proofs.WriteLemmas.{none_out, queue_kept}
 use Rattle.mas_complex.specs.Paper.{printed_after}
+use Rattle.mas_complex.specs.Past.{values_of}
 use Rattle.member_steps.specs.Steps.{AreAllKept}
 use Rattle.member_steps.proofs.CountLemmas.{counted_batch, counted_error}
-use Rattle.member_steps.proofs.StepLemmas.{journal_kept, kept_push, level_most}
+use Rattle.member_steps.proofs.NoteLemmas.{keeps_error, keeps_noted, notes_by, notes_same, notes_set, notes_then}
+use Rattle.member_steps.proofs.StepLemmas.{journal_kept, kept_push, level_most, pages_as_many}
 use Rattle.member_decks.proofs.KeepLemmas.{copies_kept, copies_none, copies_unwritten, keep_unwritten}
 use Rattle.member_decks.proofs.keeping.keep_batch.Goals as goal
 
@@ -70,6 +73,18 @@ pub write-requires-clause-allowed : goal.write-requires-clause-allowed
 write-requires-clause-allowed g c told =
     let e = c.ready.ensures in
     rw (e.base, e.kept, e.printed, c.in-Ok.ensures.reserved) (c.requires.allowed told)
+
+pub write-requires-clause-by : goal.write-requires-clause-by
+write-requires-clause-by g c = rw c.ready.ensures.id c.requires.by
+
+pub write-requires-clause-config : goal.write-requires-clause-config
+write-requires-clause-config g c told =
+    let x = c.args.complex.now in
+    let m = c.args.member.now in
+    let e = c.ready.ensures in
+    ap (λ (Q : Queue). page_count Q.config) e.base
+    ∙ pages_as_many x.base (kept_all x.journal.batches) m.batch m.checkpoint.tables (c.requires.done told).queue
+    ∙ sym (c.in-Ok.ensures.drawn.spelled.count ∙ ap (λ (t : Tables). page_count t.config) e.tables)
 
 pub returns-clause-acts : goal.returns-clause-acts
 returns-clause-acts g c =
@@ -175,3 +190,32 @@ returns-clause-counts g c =
     let e = c.ready.ensures in
     let k : z.printed ≡ printed_after m.id m.batch x.printed = rw (e.id, e.printed, c.in-Ok.ensures.reserved) at c.write.ensures.printed in
     counted_batch m.id m.batch x.printed z.printed _ c.requires.own k
+
+-- WHAT WAS NOTED
+
+pub returns-in_default-clause-notes : goal.returns-in_default-clause-notes
+returns-in_default-clause-notes g c =
+    let x = c.args.complex.now in
+    let y = c.ready.new.complex in
+    let m = c.args.member.now in
+    keeps_error g.P.Plant.tells (values_of x.had) (values_of y.had) m c.ready.new.self _ (notes_same m.id (values_of x.had) (values_of y.had) c.ready.ensures.had)
+
+pub returns-in_err-write-clause-notes : goal.returns-in_err-write-clause-notes
+returns-in_err-write-clause-notes g c =
+    let x = c.args.complex.now in
+    let z = c.write.new.complex in
+    let m = c.args.member.now in
+    let p = err_from_is_err_and c.from_residual.result c.from_residual.ensures.1 in
+    rw (p.1, p.2) (keeps_error g.P.Plant.tells (values_of x.had) (values_of z.had) m c.ready.new.self _ (notes_same m.id (values_of x.had) (values_of z.had) (c.in_err-write.ensures.noted_err ∙ c.ready.ensures.had)))
+
+pub returns-clause-notes : goal.returns-clause-notes
+returns-clause-notes g c =
+    let x = c.args.complex.now in
+    let y = c.ready.new.complex in
+    let z = c.write.new.complex in
+    let m = c.args.member.now in
+    let n = c.ready.new.self in
+    let k = c.in_ok-write.ensures in
+    let written = notes_by n.id m.id (values_of y.had) (values_of z.had) c.ready.ensures.id (notes_set n.id (values_of y.had) (values_of z.had) n.checkpoint.pages k.noted) in
+    keeps_noted g.P.Plant.tells (values_of x.had) (values_of z.had) m n _ k.own (λ read. c.in-Ok.ensures.fresh ∙ read)
+    (notes_then m.id (values_of x.had) (values_of y.had) (values_of z.had) (notes_same m.id (values_of x.had) (values_of y.had) c.ready.ensures.had) written)

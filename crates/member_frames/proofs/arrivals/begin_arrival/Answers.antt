@@ -32,7 +32,7 @@ use Rattle.member_sittings.specs.Whole.{Commanded}
 use Rattle.member_sittings.proofs.KeepLemmas.{sat_given_up}
 use Rattle.member_sittings.proofs.OpenLemmas.{front_is, gives_opened, of_strip, one_some, opened_of, or_one, strip}
 use Rattle.member_sittings.proofs.TurnLemmas.{all_of_one, opened_alike, with_closed, with_ready}
-use Rattle.member_units.proofs.Resting.{fewer_left, fewer_told}
+use Rattle.member_giving.proofs.Resting.{fewer_left, fewer_told}
 use Rattle.member_frames.proofs.Arriving.{ArrivalTurn, Firsts, arrival_closes, arrival_few, arrival_says, arrival_sits, arrival_waits, ends_next, fewer_away}
 use Rattle.member_frames.proofs.SatLemmas.{waits_left}
 use Rattle.member_frames.proofs.arrivals.begin_arrival.Goals as goal
@@ -57,7 +57,7 @@ give_up_sitting-requires g c =
     let d = c.open_deck.ensures in
     let few = groups_few c.args.read.text c.requires.text in
     let groups : c.groups_needed-groups.result ≡ groups_needed c.args.read.text = c.groups_needed-groups.ensures in
-    let did : Commanded m n = record { id = d.id; room = d.room; here = d.here; level = d.level; levels = d.levels; pages = d.pages; config = d.config; spelling = d.spelling; fit = d.fit } in
+    let did : Commanded m n = record { id = d.id; room = d.room; here = d.here; fresh = d.fresh; level = d.level; levels = d.levels; pages = d.pages; config = d.config; spelling = d.spelling; fit = d.fit } in
     let b = c.requires.may.bounds in
     let high = b.high in
     let reached = b.reached in
@@ -112,7 +112,7 @@ close_deck-requires-clause-may g c =
     let d = c.open_deck.ensures in
     let few = groups_few c.args.read.text c.requires.text in
     let groups : c.groups_needed-groups.result ≡ groups_needed c.args.read.text = c.groups_needed-groups.ensures in
-    let did : Commanded m n = record { id = d.id; room = d.room; here = d.here; level = d.level; levels = d.levels; pages = d.pages; config = d.config; spelling = d.spelling; fit = d.fit } in
+    let did : Commanded m n = record { id = d.id; room = d.room; here = d.here; fresh = d.fresh; level = d.level; levels = d.levels; pages = d.pages; config = d.config; spelling = d.spelling; fit = d.fit } in
     let b = c.requires.may.bounds in
     let high = b.high in
     let reached = b.reached in
@@ -191,7 +191,7 @@ pause_sitting-requires g c =
     let d = c.open_deck.ensures in
     let few = groups_few c.args.read.text c.requires.text in
     let groups : c.groups_needed-groups.result ≡ groups_needed c.args.read.text = c.groups_needed-groups.ensures in
-    let did : Commanded m n = record { id = d.id; room = d.room; here = d.here; level = d.level; levels = d.levels; pages = d.pages; config = d.config; spelling = d.spelling; fit = d.fit } in
+    let did : Commanded m n = record { id = d.id; room = d.room; here = d.here; fresh = d.fresh; level = d.level; levels = d.levels; pages = d.pages; config = d.config; spelling = d.spelling; fit = d.fit } in
     let b = c.requires.may.bounds in
     let high = b.high in
     let reached = b.reached in

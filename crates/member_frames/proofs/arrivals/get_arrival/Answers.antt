@@ -36,7 +36,7 @@ use Rattle.member_sittings.specs.Whole.{Commanded, IsToCut}
 use Rattle.member_sittings.proofs.KeepLemmas.{sat_given_up}
 use Rattle.member_sittings.proofs.SeatLemmas.{gives_one}
 use Rattle.member_sittings.proofs.TurnLemmas.{all_of_one}
-use Rattle.member_units.proofs.Resting.{fewer_left, fewer_told}
+use Rattle.member_giving.proofs.Resting.{fewer_left, fewer_told}
 use Rattle.member_frames.proofs.Arriving.{ends_next}
 use Rattle.member_frames.proofs.Getting.{arrival_got, arrival_refused, away_shaped, drop_closes, gives_two, got_fewer, got_of, got_servable, got_shaped, got_texts, is_refused, not_refused, of_more, told_shaped, two_entries, two_named, two_of}
 use Rattle.member_frames.proofs.Idle.{sat_nothing}
@@ -114,6 +114,7 @@ give_up_sitting-requires g c =
       id = e.id;
       room = e.room;
       here = e.behind ∙ sits.seat.still.here;
+      fresh = e.fresh;
       level = e.level;
       levels = e.levels;
       pages = e.pages;
@@ -212,6 +213,7 @@ close_deck-requires-clause-may g c =
       id = e.id ∙ e1.id;
       room = e.room ∙ e1.room;
       here = e.behind ∙ e1.behind ∙ sits.seat.still.here;
+      fresh = e.fresh ∙ e1.fresh;
       level = e.level ∙ e1.level;
       levels = e.levels ∙ e1.levels;
       pages = e.pages ∙ e1.pages;
@@ -355,6 +357,7 @@ pause_sitting-requires g c =
       id = e.id;
       room = e.room;
       here = e.behind ∙ sits.seat.still.here;
+      fresh = e.fresh;
       level = e.level;
       levels = e.levels;
       pages = e.pages;

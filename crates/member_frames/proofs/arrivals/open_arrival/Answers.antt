@@ -20,12 +20,12 @@ use Rattle.step_turns.specs.Sittings.{sitting_of}
 use Rattle.step_turns.specs.declared.states.State.TheVariants.{Told}
 use Rattle.step_turns.specs.TurnParts.{says}
 use Rattle.member_sittings.specs.declared.ends.SittingEnd.{SittingEnd}
-use Rattle.member_units.specs.Plays.{unwritten, wrote_of}
-use Rattle.member_units.specs.Works.{Run, SitsIn}
-use Rattle.member_units.proofs.Resting.{again_told, fewer_told}
-use Rattle.member_units.proofs.Sat.{frame_of}
-use Rattle.member_units.proofs.Seated.{low_bounds, works_sits}
-use Rattle.member_units.proofs.Within.{unwritten_one}
+use Rattle.member_giving.specs.Plays.{unwritten, wrote_of}
+use Rattle.member_giving.specs.Works.{Run, SitsIn}
+use Rattle.member_giving.proofs.Resting.{again_told, fewer_told}
+use Rattle.member_giving.proofs.Sat.{frame_of}
+use Rattle.member_giving.proofs.Seated.{low_bounds, works_sits}
+use Rattle.member_giving.proofs.Within.{unwritten_one}
 use Rattle.member_frames.specs.declared.arrivals.ReadJob.{ReadJob}
 use Rattle.member_frames.specs.Arriving.{IsJobFrame, arrival_turn}
 use Rattle.member_frames.specs.Plays.{arrival_of}

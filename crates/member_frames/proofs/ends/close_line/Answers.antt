@@ -1,4 +1,4 @@
-use Rattle.std.proofs.Common.{◌∙◌, ◌<◌, ◌^◌, ℕ, List, [], ◌∷◌, Ok, Err, refl, subst, sym, arith}
+use Rattle.std.proofs.Common.{◌∙◌, ◌<◌, ◌^◌, ℕ, List, [], ◌∷◌, Ok, Err, ap, refl, subst, sym, arith}
 use Rattle.std.proofs.lemmas.Result.{err_from_is_err_and}
 use Rattle.mas_types.specs.Closings.{closing_line}
 use Rattle.mas_types.specs.declared.ids.MemberId.{MemberId}
@@ -9,13 +9,13 @@ use Rattle.member_steps.proofs.FateLemmas.{closing_tells}
 use Rattle.member_work.specs.Work.{batches_in}
 use Rattle.step_turns.specs.Batches.{batch_of}
 use Rattle.step_turns.specs.Turns.{says}
-use Rattle.member_units.specs.Plays.{unwritten, wrote_of}
-use Rattle.member_units.specs.Works.{outside, place_of}
-use Rattle.member_units.proofs.Cuts.{of_batch, one_batch, starts_itself}
-use Rattle.member_units.proofs.Gave.{keeps_as, spares_of}
-use Rattle.member_units.proofs.Going.{apart_then, closes_err, closes_ok, played_close, played_error}
-use Rattle.member_units.proofs.Seated.{closes_said, said_apart, seat_said}
-use Rattle.member_units.proofs.Working.{own_batch, same_run}
+use Rattle.member_giving.specs.Plays.{unwritten, wrote_of}
+use Rattle.member_giving.specs.Works.{outside, place_of}
+use Rattle.member_giving.proofs.Cuts.{of_batch, one_batch, starts_itself}
+use Rattle.member_giving.proofs.Gave.{keeps_as, spares_of}
+use Rattle.member_giving.proofs.Going.{apart_then, closes_err, closes_ok, played_close, played_error}
+use Rattle.member_giving.proofs.Seated.{closes_said, said_apart, seat_said}
+use Rattle.member_giving.proofs.Working.{own_batch, same_run}
 use Rattle.member_frames.specs.Plays.{IsWithinLine}
 use Rattle.member_frames.proofs.Bounded.{line_within}
 use Rattle.member_frames.proofs.ends.close_line.Goals as goal
@@ -39,7 +39,7 @@ returns-in_default-clause-serves g c =
     let v = c.requires.works in
     let w = wrote_of m.batch (says (closing_line h.by h.step c.args.end.now ∷ [])) in
     played_error g.P.Plant.tells h (IsWithinLine h (unwritten m.batch)) c.args.given {S = Unit {0}} c.give_up.result w w (batch_of m.batch) (place_of x m) (outside y) (λ t. refl) (of_batch h.by h.step m.batch (own_batch x m h v)) (line_within h m.batch c.args.end.now c.requires.closes) (starts_itself m.batch)
-    (λ told. spares_of x y (c.give_up.ensures.apart told)) (keeps_as x y m h.by (batches_in (m.batch ∷ [])) (batch_of m.batch) (Err c.give_up.result) v.own v.work (one_batch m.batch) c.give_up.ensures.keeps)
+    (spares_of x y h.by m.id v.own c.give_up.ensures.apart c.give_up.ensures.notes) (keeps_as x y m h.by (batches_in (m.batch ∷ [])) (batch_of m.batch) (Err c.give_up.result) v.own v.work (one_batch m.batch) c.give_up.ensures.keeps)
     (counted_by {T = Unit {0}} m.id h.by [] x.printed y.printed (Err c.give_up.result) (sym v.own) c.give_up.ensures.counts)
 
 -- THE BATCH COULDN'T BE KEPT
@@ -92,7 +92,7 @@ returns-in_err-tell_lines-clause-serves g c =
     let q = err_from_is_err_and c.from_residual-in_err-tell_lines.result c.from_residual-in_err-tell_lines.ensures.1 in
     let said = closes_said y z n h o.works t.pair t.journal t.current t.placed lines (Err _) (rw c.in-Ok.ensures at c.in_err-tell_lines.ensures.said) in
     rw (q.1, q.2) (played_close P.tells h (IsWithinLine h (unwritten m.batch)) c.args.given {S = Unit {0}} _ (Err _) lines (place_of x m) (outside y) (outside z) tt (own_batch x m h c.requires.works) (line_within h m.batch c.args.end.now c.requires.closes)
-    (λ told. apart_then (outside x) (outside y) (outside z) o.keeps.course.goes.later said.course.goes (c.keep.ensures.spares told) (said_apart y z t.said.acts told)) o.keeps o.counts (closes_err P.tells h.by _ lines [] (outside y) (outside z) said) t.printed)
+    (apart_then P.tells h.by (outside x) (outside y) (outside z) o.keeps.course.goes.later said.course.goes c.keep.ensures.spares (said_apart y z h.by t.said.acts (ap (λ p. p.had) t.frame))) o.keeps o.counts (closes_err P.tells h.by _ lines [] (outside y) (outside z) said) t.printed)
 
 pub returns-clause-run : goal.returns-clause-run
 returns-clause-run g c =
@@ -114,13 +114,13 @@ returns-clause-serves g c =
     let lines = closing_line h.by h.step c.args.end.now ∷ [] in
     let said = closes_said y z n h o.works t.pair t.journal t.current t.placed lines (Ok _) (rw c.in-Ok.ensures at c.in_ok-tell_lines.ensures.said) in
     played_close P.tells h (IsWithinLine h (unwritten m.batch)) c.args.given {S = Unit {0}} _ (Ok _) lines (place_of x m) (outside y) (outside z) (refl, refl, c.release_of-release.ensures) (own_batch x m h c.requires.works) (line_within h m.batch c.args.end.now c.requires.closes)
-    (λ told. apart_then (outside x) (outside y) (outside z) o.keeps.course.goes.later said.course.goes (c.keep.ensures.spares told) (said_apart y z t.said.acts told)) o.keeps o.counts (closes_ok P.tells h.by _ _ lines [] (outside y) (outside z) said) t.printed
+    (apart_then P.tells h.by (outside x) (outside y) (outside z) o.keeps.course.goes.later said.course.goes c.keep.ensures.spares (said_apart y z h.by t.said.acts (ap (λ p. p.had) t.frame))) o.keeps o.counts (closes_ok P.tells h.by _ _ lines [] (outside y) (outside z) said) t.printed
 
 pub returns-clause-seat : goal.returns-clause-seat
 returns-clause-seat g c =
     let t = c.tell_lines.ensures in
     let o = c.in_ok-keep.ensures in
-    seat_said c.keep.new.complex c.tell_lines.new.complex c.keep.new.member c.args.holder o.works t.pair t.journal t.current t.placed o.nothing t.base t.since t.book t.reserved t.first t.second t.level t.said.acts
+    seat_said c.keep.new.complex c.tell_lines.new.complex c.keep.new.member c.args.holder o.works t.pair t.journal t.current t.placed o.nothing t.base t.since t.book t.reserved t.first t.second t.level (ap (λ p. p.had) t.frame) t.said.acts
 
 pub returns-clause-reached : goal.returns-clause-reached
 returns-clause-reached g c = rw c.tell_lines.ensures.level c.in_ok-keep.ensures.reached

@@ -3,11 +3,11 @@ use Rattle.std.proofs.lemmas.Result.{err_from_is_err_and}
 use Rattle.step_turns.specs.Batches.{batch_of}
 use Rattle.step_turns.specs.Courses.{sittings_most}
 use Rattle.step_turns.specs.TurnParts.{leaves}
-use Rattle.member_units.specs.Plays.{unwritten, wrote_of}
-use Rattle.member_units.specs.Works.{outside, place_of}
-use Rattle.member_units.proofs.Cuts.{of_batch, starts_itself}
-use Rattle.member_units.proofs.Going.{played_error, played_leave}
-use Rattle.member_units.proofs.Working.{own_batch}
+use Rattle.member_giving.specs.Plays.{unwritten, wrote_of}
+use Rattle.member_giving.specs.Works.{outside, place_of}
+use Rattle.member_giving.proofs.Cuts.{of_batch, starts_itself}
+use Rattle.member_giving.proofs.Going.{played_error, played_leave}
+use Rattle.member_giving.proofs.Working.{own_batch}
 use Rattle.member_frames.specs.Plays.{IsWithinLine}
 use Rattle.member_frames.proofs.Bounded.{wait_within}
 use Rattle.member_frames.proofs.ends.leave_line.Goals as goal

@@ -3,12 +3,12 @@ use Rattle.mas_types.specs.declared.journals.Entry.{Entry}
 use Rattle.mas_types.specs.Closings.{closing_line}
 use Rattle.step_turns.specs.declared.states.State.TheVariants.{Told}
 use Rattle.step_turns.specs.TurnParts.{says}
-use Rattle.member_units.specs.Plays.{unwritten, wrote_of}
-use Rattle.member_units.specs.Works.{Run}
-use Rattle.member_units.proofs.Resting.{again_told, fewer_told, reached_left}
-use Rattle.member_units.proofs.Sat.{frame_of}
-use Rattle.member_units.proofs.Seated.{low_bounds, works_sits}
-use Rattle.member_units.proofs.Within.{unwritten_one}
+use Rattle.member_giving.specs.Plays.{unwritten, wrote_of}
+use Rattle.member_giving.specs.Works.{Run}
+use Rattle.member_giving.proofs.Resting.{again_told, fewer_told, reached_left}
+use Rattle.member_giving.proofs.Sat.{frame_of}
+use Rattle.member_giving.proofs.Seated.{low_bounds, works_sits}
+use Rattle.member_giving.proofs.Within.{unwritten_one}
 use Rattle.member_frames.proofs.SatLemmas.{line_room, sat_line, sat_more, waits_left}
 use Rattle.member_frames.proofs.frames.end_or_serve.Goals as goal
 

@@ -3,12 +3,12 @@ use Rattle.mas_types.specs.declared.queues.Queue.{Queue}
 use Rattle.step_turns.specs.Serving.{begins, serves}
 use Rattle.step_turns.specs.declared.states.Service.{Service}
 use Rattle.step_turns.specs.TurnParts.{Turn}
-use Rattle.member_units.specs.Plays.{wrote_of}
-use Rattle.member_units.specs.Works.{Run, queue_here, queue_kept}
-use Rattle.member_units.proofs.Resting.{fewer_than, if_ok, tells_here}
-use Rattle.member_units.proofs.Sat.{frame_of}
-use Rattle.member_units.proofs.Seated.{low_bounds, works_sits}
-use Rattle.member_units.proofs.Working.{kept_here}
+use Rattle.member_giving.specs.Plays.{wrote_of}
+use Rattle.member_giving.specs.Works.{Run, queue_here, queue_kept}
+use Rattle.member_giving.proofs.Resting.{fewer_than, if_ok, tells_here}
+use Rattle.member_giving.proofs.Sat.{frame_of}
+use Rattle.member_giving.proofs.Seated.{low_bounds, works_sits}
+use Rattle.member_giving.proofs.Working.{kept_here}
 use Rattle.member_frames.specs.declared.nexts.Next.{Next}
 use Rattle.member_frames.specs.Nexts.{frames_in, next_of, turn_by}
 use Rattle.member_frames.specs.Plays.{arrival_of, ends_or_serves}

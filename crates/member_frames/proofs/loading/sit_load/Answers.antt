@@ -28,7 +28,7 @@ use Rattle.member_sittings.specs.Whole.{Commanded}
 use Rattle.member_sittings.proofs.KeepLemmas.{sat_none}
 use Rattle.member_sittings.proofs.SeatLemmas.{gives_one}
 use Rattle.member_sittings.proofs.TurnLemmas.{all_of_one}
-use Rattle.member_units.proofs.Resting.{if_ok as if_answered}
+use Rattle.member_giving.proofs.Resting.{if_ok as if_answered}
 use Rattle.member_frames.specs.Waits.{IsOfferThere}
 use Rattle.member_frames.proofs.Loaded.{load_sits}
 use Rattle.member_frames.proofs.SatLemmas.{waits_left}
@@ -89,6 +89,7 @@ pause_sitting-requires g c =
       id = e.id;
       room = e.room;
       here = e.behind ∙ sits.seat.still.here;
+      fresh = e.fresh;
       level = e.level;
       levels = e.levels;
       pages = e.pages;

@@ -1,4 +1,4 @@
-use Rattle.std.proofs.Common.{◌-◌, arith}
+use Rattle.std.proofs.Common.{arith}
 use Rattle.member_frames.proofs.Fronts.{wire_told}
 use Rattle.member_frames.proofs.nexts.count_on.Goals as goal
 

@@ -5,11 +5,11 @@ use Rattle.step_turns.specs.declared.states.Service.{Service}
 use Rattle.step_turns.specs.declared.states.Aside.TheVariants.{Acknowledge}
 use Rattle.step_turns.specs.declared.states.State.TheVariants.{Away, Told}
 use Rattle.step_turns.specs.TurnParts.{leaves}
-use Rattle.member_units.specs.Plays.{unwritten, wrote_of}
-use Rattle.member_units.specs.Works.{outside, place_of, queue_here}
-use Rattle.member_units.proofs.Going.{played_as}
-use Rattle.member_units.proofs.Resting.{again_left, again_told, fewer_left, fewer_told, reached_left, tells_here}
-use Rattle.member_units.proofs.Working.{less_room, own_batch}
+use Rattle.member_giving.specs.Plays.{unwritten, wrote_of}
+use Rattle.member_giving.specs.Works.{outside, place_of, queue_here}
+use Rattle.member_giving.proofs.Going.{played_as}
+use Rattle.member_giving.proofs.Resting.{again_left, again_told, fewer_left, fewer_told, reached_left, tells_here}
+use Rattle.member_giving.proofs.Working.{less_room, own_batch}
 use Rattle.member_frames.specs.declared.nexts.Next.TheVariants as next
 use Rattle.member_frames.specs.Nexts.{frames_in, next_of, turn_by}
 use Rattle.member_frames.specs.Plays.{IsWithinLine}

@@ -2,8 +2,8 @@ use Rattle.std.proofs.Common.{◌≡◌, ◌+◌, ◌*◌, ◌≤◌, ◌<◌, �
 use Rattle.member_node.specs.declared.member.NodeNo.{NodeNo}
 use Rattle.step_turns.specs.Serving.{taken_most}
 use Rattle.member_sittings.specs.declared.ends.SittingEnd.{SittingEnd}
-use Rattle.member_units.specs.Plays.{unwritten, wrote_of}
-use Rattle.member_units.specs.Works.{HasRoom, Outside, Works, place_of, queue_here, run_of}
+use Rattle.member_giving.specs.Plays.{unwritten, wrote_of}
+use Rattle.member_giving.specs.Works.{HasRoom, Outside, Works, place_of, queue_here, run_of}
 use Rattle.member_frames.specs.Nexts.{IsNoBegin, IsServableNext, frames_in, turn_by}
 use Rattle.member_frames.specs.Plays.{ServesLine}
 use Rattle.member_frames.proofs.serving.serve.Given as goal

@@ -8,7 +8,7 @@ use Rattle.mas_complex.specs.Journals.{in_flight}
 use Rattle.mas_complex.specs.Meaning.{Closes}
 use Rattle.mas_complex.specs.Parts.{parts_of}
 use Rattle.member_lines.proofs.Closing.{closed_done, closed_failed, closed_halted, closed_none, sayer_seated, sayer_up}
-use Rattle.member_lines.proofs.Earlier.{never_earlier, new_kept}
+use Rattle.member_lines.proofs.Earlier.{its_member, never_earlier, step_kept}
 use Rattle.member_lines.proofs.closings.say_refused.Goals as goal
 
 pub say-requires-clause-up : goal.say-requires-clause-up
@@ -20,8 +20,10 @@ say-requires-clause-told g c told m s closes =
     let line : List ℕ = closing_line c.args.of.by c.args.of.step c.args.end.now in
     let small : c.args.of.step < 2 ^ 64 = omega arith in
     let same : c.as_slice.result.now ≡ line = c.as_slice.ensures ∙ c.in-Ok.ensures in
-    new_kept line c.args.of.step (never_earlier c.args.of.by c.args.of.step c.args.end.now small) m s (subst (λ (l : List ℕ). Closes l m s) same closes)
-    (x.journal.batches ++ in_flight x.current) (g.P.Plant.view x.plant).now (c.requires.new told)
+    let its : Closes line m s = subst (λ (l : List ℕ). Closes l m s) same closes in
+    step_kept c.args.of.by m s c.args.of.step (its_member c.args.of.by c.args.of.step c.args.end.now m s its)
+    (λ less. never_earlier c.args.of.by c.args.of.step c.args.end.now small m s less its)
+    (x.journal.batches ++ in_flight x.current) (g.P.Plant.view x.plant).now (c.requires.kept told)
 
 pub returns-in_default-clause-closed : goal.returns-in_default-clause-closed
 returns-in_default-clause-closed g c S tested =

@@ -10,7 +10,7 @@ use Rattle.member_node.specs.Calls.{console_now}
 use Rattle.member_node.proofs.SpareLemmas.{spares_done, spares_failed, spares_none}
 use Rattle.member_steps.proofs.SayLemmas.{console_none}
 use Rattle.member_lines.proofs.Closing.{says_done, says_failed}
-use Rattle.member_lines.proofs.Earlier.{never_stopped, new_kept}
+use Rattle.member_lines.proofs.Earlier.{its_member, never_stopped, step_kept}
 use Rattle.member_lines.proofs.closings.say_stopped.Goals as goal
 
 pub say-requires-clause-told : goal.say-requires-clause-told
@@ -19,8 +19,10 @@ say-requires-clause-told g c told m s closes =
     let line : List ℕ = closing_line c.args.by c.args.step closing.Stopped in
     let small : c.args.step < 2 ^ 64 = omega arith in
     let same : c.as_slice.result.now ≡ line = c.as_slice.ensures ∙ c.in-Ok.ensures in
-    new_kept line (c.args.step + 1) (never_stopped c.args.by c.args.step small) m s (subst (λ (l : List ℕ). Closes l m s) same closes)
-    (x.journal.batches ++ in_flight x.current) (g.P.Plant.view x.plant).now (c.requires.new told)
+    let its : Closes line m s = subst (λ (l : List ℕ). Closes l m s) same closes in
+    step_kept c.args.by m s (c.args.step + 1) (its_member c.args.by c.args.step closing.Stopped m s its)
+    (λ less. never_stopped c.args.by c.args.step small m s less its)
+    (x.journal.batches ++ in_flight x.current) (g.P.Plant.view x.plant).now (c.requires.kept told)
 
 pub returns-in_default-clause-says : goal.returns-in_default-clause-says
 returns-in_default-clause-says g c =

@@ -1,4 +1,4 @@
-use Rattle.std.proofs.Common.{◌≡◌, ◌++◌, true, List, Option, ap, inl, inr, refl, subst, sym}
+use Rattle.std.proofs.Common.{◌≡◌, ◌++◌, true, List, ap, inl, inr, refl, subst, sym}
 use Rattle.mas_types.specs.declared.journals.Batch.{Batch}
 use Rattle.lock_cycle.specs.Books.{Book, IsMember, is_holder}
 use Rattle.mas_complex.specs.Journals.{in_flight}
@@ -7,7 +7,8 @@ use Rattle.step_turns.specs.declared.states.Release.TheVariants.{Keep}
 use Rattle.run_turns.specs.Admissions.{Locks}
 use Rattle.run_turns.proofs.Alone.{holds_it}
 use Rattle.member_lines.specs.Closes.{IsSayer}
-use Rattle.member_lines.specs.Earlier.{AreBefore}
+use Rattle.member_steps.specs.Steps.{AreKeptFrom}
+use Rattle.member_steps.proofs.FateLemmas.{kept_from_later}
 use Rattle.member_lines.proofs.Closing.{refused_tested}
 use Rattle.member_lines.proofs.Holding.{says_ok}
 use Rattle.member_lines.proofs.Seating.{its_left, seated, unseated, unseated_frame}
@@ -19,12 +20,14 @@ say_refused-requires-clause-says g c =
     let m = c.args.member.now in
     subst (λ (b : Book). IsSayer b m.id m.id) (sym (ap (λ p. p.book) c.take_seat.ensures.frame)) (inr (refl, lock.seated, lock.may.up lock.some))
 
-pub say_refused-requires-clause-new : goal.say_refused-requires-clause-new
-say_refused-requires-clause-new g c told =
+pub say_refused-requires-clause-kept : goal.say_refused-requires-clause-kept
+say_refused-requires-clause-kept g c told =
     let x = c.args.complex.now in
     let mid = c.take_seat.new.complex in
-    subst (λ (bs : List Batch). AreBefore c.args.step (bs ++ in_flight mid.current)) (sym (ap (λ p. p.batches) c.take_seat.ensures.frame))
-    (subst (λ (b : Option Batch). AreBefore c.args.step (x.journal.batches ++ in_flight b)) (sym (ap (λ p. p.current) c.take_seat.ensures.frame)) (c.requires.new told))
+    let now = (g.P.Plant.view x.plant).now in
+    let then_at = (g.P.Plant.view mid.plant).now in
+    subst (λ (bs : List Batch). AreKeptFrom c.args.member.now.id c.args.step bs then_at) (sym (ap (λ p. p.batches ++ in_flight p.current) c.take_seat.ensures.frame))
+    (kept_from_later c.args.member.now.id c.args.step (x.journal.batches ++ in_flight x.current) now then_at c.in-Ok.ensures.acts.on.course.goes.later (c.requires.kept told))
 
 pub returns-in-Ok-clause-locks : goal.returns-in-Ok-clause-locks
 returns-in-Ok-clause-locks g c S tested =

@@ -5,12 +5,13 @@ use Rattle.mas_types.specs.Closings.{AreMembersNamed}
 use Rattle.lock_cycle.specs.Books.{Book}
 use Rattle.mas_complex.specs.Journals.{in_flight}
 use Rattle.mas_complex.specs.Parts.{parts_of}
+use Rattle.member_steps.specs.Steps.{AreKeptFrom}
+use Rattle.member_steps.proofs.FateLemmas.{kept_from_later}
 use Rattle.step_turns.specs.declared.states.State.TheVariants.{Told}
 use Rattle.step_turns.specs.Sittings.{released}
 use Rattle.run_turns.specs.Pieces.{replaced_closing}
 use Rattle.run_turns.specs.Sights.{Renewed}
 use Rattle.member_lines.specs.Closes.{HasClosedBy, failed, holds_at}
-use Rattle.member_lines.specs.Earlier.{AreBefore}
 use Rattle.member_lines.specs.Replaces.{FollowsBy, IsTestedAs, left_found}
 use Rattle.member_lines.proofs.Renewing.{closed_as, closing_named, follows_in, renewed_rest, replaces_as, stopped_keeps}
 use Rattle.member_lines.proofs.replacing.replace_and_close.Goals as goal
@@ -35,13 +36,15 @@ say_and_leave-requires-clause-named g c =
     let f = c.in-Ok.ensures.closes in
     subst (λ (k : Closing). AreMembersNamed k) (sym f.2) (closing_named c.args.dev f.0)
 
-pub say_and_leave-requires-clause-new : goal.say_and_leave-requires-clause-new
-say_and_leave-requires-clause-new g c told =
+pub say_and_leave-requires-clause-kept : goal.say_and_leave-requires-clause-kept
+say_and_leave-requires-clause-kept g c told =
     let P = g.P.Plant in
     let x = c.args.complex.now in
     let z = c.replace_at_seat.new.complex in
+    let m = c.args.member.now in
     let rest = renewed_rest c.replace_at_seat.result c.args.dev (P.view x.plant).now (P.view z.plant).now (parts_of z) (parts_of x) c.replace_at_seat.ensures.frame in
-    subst (λ (bs : List Batch). AreBefore c.args.holder.step bs) (sym (ap (λ p. p.batches ++ in_flight p.current) rest)) (c.requires.new told)
+    subst (λ (bs : List Batch). AreKeptFrom m.id c.args.holder.step bs (P.view z.plant).now) (sym (ap (λ p. p.batches ++ in_flight p.current) rest))
+    (kept_from_later m.id c.args.holder.step (x.journal.batches ++ in_flight x.current) (P.view x.plant).now (P.view z.plant).now c.replace_at_seat.ensures.replaces.later (c.requires.kept told))
 
 pub returns-in-Ok-clause-frame : goal.returns-in-Ok-clause-frame
 returns-in-Ok-clause-frame g c =

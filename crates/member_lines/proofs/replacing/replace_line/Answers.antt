@@ -6,15 +6,16 @@ use Rattle.ckpt_tables.specs.Shape.{page_count}
 use Rattle.lock_cycle.specs.Books.{Book, IsMember, is_holder}
 use Rattle.mas_complex.specs.Journals.{in_flight}
 use Rattle.mas_complex.specs.Parts.{parts_of}
+use Rattle.member_steps.specs.Steps.{AreKeptFrom}
+use Rattle.member_steps.proofs.FateLemmas.{kept_from_later}
 use Rattle.step_turns.specs.declared.states.State.TheVariants.{Told}
 use Rattle.step_turns.specs.Sittings.{released}
 use Rattle.run_turns.specs.Admissions.{Replaces as ReplacesCopy}
 use Rattle.run_turns.specs.Pieces.{replaced_closing}
 use Rattle.run_turns.specs.Sights.{Replaced}
 use Rattle.run_turns.proofs.Alone.{holds_it}
-use Rattle.member_lines.specs.Earlier.{AreBefore}
 use Rattle.member_lines.specs.Replaces.{IsTestedAs}
-use Rattle.member_lines.proofs.Renewing.{at_holds, at_unreserved, replaces_as, seated_in, seats, stopped_keeps, unseated_in}
+use Rattle.member_lines.proofs.Renewing.{at_holds, at_unreserved, replaces_as, seats, stopped_keeps, then_replaced, unseated_in}
 use Rattle.member_lines.proofs.Seating.{unseated, unseated_frame}
 use Rattle.member_lines.proofs.replacing.replace_line.Goals as goal
 
@@ -22,7 +23,7 @@ pub replace_and_close-requires-clause-may : goal.replace_and_close-requires-clau
 replace_and_close-requires-clause-may g c =
     let x = c.args.complex.now in
     let mid = c.sit_down.new.complex in
-    let goes = c.in-Ok.ensures.acts.course.goes in
+    let goes = c.in-Ok.ensures.acts.on.course.goes in
     let base = ap (λ p. p.base) c.sit_down.ensures.frame in
     record {
       ckpt = c.requires.may.ckpt;
@@ -31,13 +32,21 @@ replace_and_close-requires-clause-may g c =
           (subst (λ (q : Queue). g.C.Copying.needs (page_count q.config) ≤ (g.P.Plant.view x.plant).size c.args.dev) (sym base) c.requires.may.size);
     }
 
-pub replace_and_close-requires-clause-new : goal.replace_and_close-requires-clause-new
-replace_and_close-requires-clause-new g c told =
-    subst (λ (bs : List Batch). AreBefore c.args.holder.step bs) (sym (ap (λ p. p.batches ++ in_flight p.current) c.sit_down.ensures.frame)) (c.requires.new told)
+pub replace_and_close-requires-clause-kept : goal.replace_and_close-requires-clause-kept
+replace_and_close-requires-clause-kept g c told =
+    let x = c.args.complex.now in
+    let mid = c.sit_down.new.complex in
+    let at = c.args.holder.step in
+    let now = (g.P.Plant.view x.plant).now in
+    let then_at = (g.P.Plant.view mid.plant).now in
+    let all : AreKeptFrom c.args.member.now.id at (mid.journal.batches ++ in_flight mid.current) then_at =
+    subst (λ (bs : List Batch). AreKeptFrom c.args.member.now.id at bs then_at) (sym (ap (λ p. p.batches ++ in_flight p.current) c.sit_down.ensures.frame))
+    (kept_from_later c.args.member.now.id at (x.journal.batches ++ in_flight x.current) now then_at c.in-Ok.ensures.acts.on.course.goes.later (c.requires.kept told)) in
+    subst (λ (i : MemberId). AreKeptFrom i at (mid.journal.batches ++ in_flight mid.current) then_at) (sym c.sit_down.ensures.id) all
 
 pub returns-in-Ok-clause-frame : goal.returns-in-Ok-clause-frame
 returns-in-Ok-clause-frame g c =
-    seated_in (parts_of c.args.complex.now) (parts_of c.sit_down.new.complex) (parts_of c.replace_and_close.new.complex) c.sit_down.ensures.frame c.replace_and_close.ensures.frame
+    then_replaced (parts_of c.args.complex.now) (parts_of c.sit_down.new.complex) (parts_of c.replace_and_close.new.complex) c.sit_down.ensures.frame c.replace_and_close.ensures.frame
 
 pub returns-in-Ok-clause-replaces : goal.returns-in-Ok-clause-replaces
 returns-in-Ok-clause-replaces g c S tested =

@@ -117,6 +117,7 @@ close_sitting-requires-clause-may g c =
       level = e.level;
       levels = e.levels;
       pages = e.pages;
+      fresh = e.fresh;
       config = e.config;
       spelling = e.spelling;
       fit = e.fit;

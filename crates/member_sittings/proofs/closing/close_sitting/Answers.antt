@@ -7,6 +7,9 @@ use Rattle.member_sittings.proofs.KeepLemmas.{ends_of, sat_closed, sat_unclosed}
 use Rattle.member_sittings.proofs.SeatLemmas.{Kept, own_batch, seat_kept}
 use Rattle.member_sittings.proofs.closing.close_sitting.Goals as goal
 
+pub play_batch-requires-clause-by : goal.play_batch-requires-clause-by
+play_batch-requires-clause-by g c = c.requires.may.gives.still.holds.few
+
 pub play_batch-requires-clause-own : goal.play_batch-requires-clause-own
 play_batch-requires-clause-own g c =
     let m = c.args.member.now in
@@ -22,7 +25,7 @@ returns-in_err-play_batch-clause-sat g c =
     let z = c.play_batch.new.complex in
     let m = c.args.member.now in
     let p = err_from_is_err_and c.from_residual.result c.from_residual.ensures.1 in
-    rw (p.1, p.2) (sat_unclosed P m.id c.args.holder c.requires.may.holder Told c.args.lines.now (parts_of x) (parts_of z) m.batch c.requires.may.some _ c.in_err-play_batch.ensures.step c.in_err-play_batch.ensures.counts)
+    rw (p.1, p.2) (sat_unclosed P m.id c.args.holder c.requires.may.holder Told c.args.lines.now (parts_of x) (parts_of z) m.batch c.requires.may.some c.in_err-play_batch.ensures.notes.others _ c.in_err-play_batch.ensures.step c.in_err-play_batch.ensures.counts)
 
 pub returns-clause-sat : goal.returns-clause-sat
 returns-clause-sat g c =
@@ -31,7 +34,7 @@ returns-clause-sat g c =
     let z = c.play_batch.new.complex in
     let m = c.args.member.now in
     let h = c.args.holder in
-    sat_closed P m.id h c.requires.may.holder Told c.args.lines.now (parts_of x) (parts_of z) m.batch c.requires.may.some _
+    sat_closed P m.id h c.requires.may.holder Told c.args.lines.now (parts_of x) (parts_of z) m.batch c.requires.may.some c.in_ok-play_batch.ensures.notes.others _
     (ends_of h m.batch Told c.args.lines.now c.len-given.result c.release_of-release.result c.len-given.ensures c.release_of-release.ensures) c.in_ok-play_batch.ensures.step c.in_ok-play_batch.ensures.counts
 
 pub returns-clause-again : goal.returns-clause-again
@@ -56,6 +59,7 @@ returns-clause-again g c =
       between = k.between;
       first = k.rests1;
       second = k.rests2;
+      noted = k.notes.own c.requires.may.gives.still.noted;
       goes = k.step.course.goes;
       leaves = k.step.journal;
     } in

@@ -1,6 +1,9 @@
 use Rattle.member_sittings.proofs.SeatLemmas.{own_batch}
 use Rattle.member_sittings.proofs.closing.give_up_sitting.Goals as goal
 
+pub give_up-requires-clause-by : goal.give_up-requires-clause-by
+give_up-requires-clause-by g c = c.requires.gives.still.holds.few
+
 pub give_up-requires-clause-own : goal.give_up-requires-clause-own
 give_up-requires-clause-own g c =
     let m = c.args.member.now in
@@ -10,4 +13,4 @@ pub give_up-requires-clause-untold : goal.give_up-requires-clause-untold
 give_up-requires-clause-untold g c told = c.requires.gives.untold told c.args.member.now.batch c.requires.gives.of
 
 pub returns-clause-cut : goal.returns-clause-cut
-returns-clause-cut g c = rw c.requires.holder (record { acts = c.give_up.ensures.acts; counts = c.give_up.ensures.counts; leaves = c.give_up.ensures.leaves })
+returns-clause-cut g c = rw c.requires.holder (record { acts = record { on = c.give_up.ensures.acts; notes = c.give_up.ensures.notes }; counts = c.give_up.ensures.counts; leaves = c.give_up.ensures.leaves })

@@ -3,9 +3,12 @@ use Rattle.std.proofs.lemmas.Result.{err_from_is_err_and}
 use Rattle.ckpt_tables.specs.declared.tables.Tables.{Tables}
 use Rattle.mas_complex.specs.Parts.{parts_of}
 use Rattle.step_turns.specs.declared.states.State.TheVariants.{Away}
-use Rattle.member_sittings.proofs.KeepLemmas.{ends_of, sat_kept, sat_unkept}
+use Rattle.member_sittings.proofs.KeepLemmas.{acted, ends_of, sat_kept, sat_unkept}
 use Rattle.member_sittings.proofs.SeatLemmas.{Kept, own_batch, sits_kept}
 use Rattle.member_sittings.proofs.closing.pause_sitting.Goals as goal
+
+pub keep_batch-requires-clause-by : goal.keep_batch-requires-clause-by
+keep_batch-requires-clause-by g c = c.requires.gives.still.holds.few
 
 pub keep_batch-requires-clause-own : goal.keep_batch-requires-clause-own
 keep_batch-requires-clause-own g c =
@@ -23,7 +26,7 @@ returns-in_err-keep_batch-clause-sat g c =
     let m = c.args.member.now in
     let k = c.in_err-keep_batch.ensures in
     let p = err_from_is_err_and c.from_residual.result c.from_residual.ensures.1 in
-    rw (p.1, p.2) (sat_unkept P m.id c.args.holder c.requires.holder (Away c.args.aside) [] (parts_of x) (parts_of z) m.batch _ c.requires.some k.acts k.leaves k.counts)
+    rw (p.1, p.2) (sat_unkept P m.id c.args.holder c.requires.holder (Away c.args.aside) [] (parts_of x) (parts_of z) m.batch _ c.requires.some (acted P m.id (parts_of x) (parts_of z) _ k.acts k.notes.others) k.leaves k.counts)
 
 pub returns-clause-sat : goal.returns-clause-sat
 returns-clause-sat g c =
@@ -34,7 +37,7 @@ returns-clause-sat g c =
     let h = c.args.holder in
     let k = c.in_ok-keep_batch.ensures in
     sat_kept P m.id h c.requires.holder (Away c.args.aside) [] (parts_of x) (parts_of z) m.batch _ c.requires.some refl
-    (ends_of h m.batch (Away c.args.aside) [] c.len-given.result c.release_of-release.result c.len-given.ensures c.release_of-release.ensures) k.acts k.leaves k.counts
+    (ends_of h m.batch (Away c.args.aside) [] c.len-given.result c.release_of-release.result c.len-given.ensures c.release_of-release.ensures) (acted P m.id (parts_of x) (parts_of z) _ k.acts k.notes.others) k.leaves k.counts
 
 pub returns-clause-again : goal.returns-clause-again
 returns-clause-again g c =
@@ -58,6 +61,7 @@ returns-clause-again g c =
       between = k.between;
       first = k.rests1;
       second = k.rests2;
+      noted = k.notes.own c.requires.gives.still.noted;
       goes = k.acts.course.goes;
       leaves = k.leaves;
     } in

@@ -53,7 +53,7 @@ give_up_sitting-requires g c =
     let d = c.open_deck.ensures in
     let few = groups_few c.args.deck.text c.requires.deck.text in
     let groups : c.groups_needed-groups.result ≡ groups_needed c.args.deck.text = c.groups_needed-groups.ensures in
-    let did : Commanded m n = record { id = d.id; room = d.room; here = d.here; level = d.level; levels = d.levels; pages = d.pages; config = d.config; spelling = d.spelling; fit = d.fit } in
+    let did : Commanded m n = record { id = d.id; room = d.room; here = d.here; fresh = d.fresh; level = d.level; levels = d.levels; pages = d.pages; config = d.config; spelling = d.spelling; fit = d.fit } in
     let b = c.requires.may.bounds in
     let high = b.high in
     let reached = b.reached in
@@ -107,7 +107,7 @@ close_deck-requires-clause-may g c =
     let d = c.open_deck.ensures in
     let few = groups_few c.args.deck.text c.requires.deck.text in
     let groups : c.groups_needed-groups.result ≡ groups_needed c.args.deck.text = c.groups_needed-groups.ensures in
-    let did : Commanded m n = record { id = d.id; room = d.room; here = d.here; level = d.level; levels = d.levels; pages = d.pages; config = d.config; spelling = d.spelling; fit = d.fit } in
+    let did : Commanded m n = record { id = d.id; room = d.room; here = d.here; fresh = d.fresh; level = d.level; levels = d.levels; pages = d.pages; config = d.config; spelling = d.spelling; fit = d.fit } in
     let b = c.requires.may.bounds in
     let high = b.high in
     let reached = b.reached in
@@ -177,7 +177,7 @@ pause_sitting-requires g c =
     let d = c.open_deck.ensures in
     let few = groups_few c.args.deck.text c.requires.deck.text in
     let groups : c.groups_needed-groups.result ≡ groups_needed c.args.deck.text = c.groups_needed-groups.ensures in
-    let did : Commanded m n = record { id = d.id; room = d.room; here = d.here; level = d.level; levels = d.levels; pages = d.pages; config = d.config; spelling = d.spelling; fit = d.fit } in
+    let did : Commanded m n = record { id = d.id; room = d.room; here = d.here; fresh = d.fresh; level = d.level; levels = d.levels; pages = d.pages; config = d.config; spelling = d.spelling; fit = d.fit } in
     let b = c.requires.may.bounds in
     let high = b.high in
     let reached = b.reached in

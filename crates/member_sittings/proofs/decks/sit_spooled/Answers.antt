@@ -90,6 +90,7 @@ close_deck-requires-clause-may g c =
       id = e.id;
       room = e.room;
       here = e.behind ∙ sits.seat.still.here;
+      fresh = e.fresh;
       level = e.level;
       levels = e.levels;
       pages = e.pages;

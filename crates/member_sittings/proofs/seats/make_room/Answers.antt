@@ -3,6 +3,8 @@ use Rattle.mas_types.specs.declared.queues.Config.{Config}
 use Rattle.member_node.specs.Reads.{AreLow}
 use Rattle.mas_types.specs.declared.journals.Journal.{Journal}
 use Rattle.mas_complex.specs.Parts.{parts_of}
+use Rattle.mas_complex.specs.Past.{values_of}
+use Rattle.member_steps.proofs.NoteLemmas.{had_as, notes_same}
 use Rattle.member_steps.proofs.ReadLemmas.{between_by}
 use Rattle.member_sittings.proofs.SeatLemmas.{Taken, gate_again, taken_seat}
 use Rattle.member_sittings.proofs.Staying.{on_four, settle_copies}
@@ -19,7 +21,11 @@ returns-clause-acts g c =
     let P = g.P.Plant in
     let x = c.args.complex.now in
     let y = c.primary.new.complex in
-    settle_copies P.tells c.args.member.now.id.0 x.pair.first.alive y.pair.first.alive x.pair.second.alive y.pair.second.alive (P.view x.plant) (P.view y.plant) c.primary.result c.primary.ensures.settle
+    let m = c.args.member.now in
+    record {
+      on = settle_copies P.tells m.id.0 x.pair.first.alive y.pair.first.alive x.pair.second.alive y.pair.second.alive (P.view x.plant) (P.view y.plant) c.primary.result c.primary.ensures.settle;
+      notes = notes_same m.id (values_of x.had) (values_of y.had) (ap values_of c.primary.ensures.had);
+    }
 
 pub returns-clause-seat : goal.returns-clause-seat
 returns-clause-seat g c =
@@ -46,6 +52,7 @@ returns-clause-seat g c =
       between = between_by P.tells x.base y.base x.journal.batches y.journal.batches x.current y.current x.placed y.placed x.level y.level m.batch m.checkpoint e.base journal e.current e.placed e.level s.between;
       first = rw still.here at one;
       second = rw still.here at two;
+      noted = had_as P.tells (values_of x.had) (values_of y.had) m m (ap values_of e.had) refl refl refl still.noted;
       room1 = room1;
       room2 = room2;
       many = still.many;

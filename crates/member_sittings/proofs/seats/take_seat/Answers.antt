@@ -5,10 +5,20 @@ use Rattle.mas_complex.specs.Parts.{parts_of}
 use Rattle.member_sittings.proofs.SeatLemmas.{Taken, taken_seat}
 use Rattle.member_sittings.proofs.seats.take_seat.Goals as goal
 
+pub take_hold-requires-clause-by : goal.take_hold-requires-clause-by
+take_hold-requires-clause-by g c = c.requires.holds.few
+
+pub take_hold-requires-clause-noted : goal.take_hold-requires-clause-noted
+take_hold-requires-clause-noted g c = c.requires.noted
+
 pub returns-in_err-take_hold-clause-acts : goal.returns-in_err-take_hold-clause-acts
 returns-in_err-take_hold-clause-acts g c =
     let p = err_from_is_err_and c.from_residual.result c.from_residual.ensures.1 in
-    rw (p.1, p.2) c.in_err-take_hold.ensures.acts
+    let e = c.in_err-take_hold.ensures in
+    rw (p.1, p.2) (record { on = e.acts; notes = e.notes.others })
+
+pub returns-clause-acts : goal.returns-clause-acts
+returns-clause-acts g c = let k = c.in_ok-take_hold.ensures in record { on = k.acts; notes = k.notes.others }
 
 pub returns-clause-seat : goal.returns-clause-seat
 returns-clause-seat g c =
@@ -33,6 +43,7 @@ returns-clause-seat g c =
       between = k.between;
       first = k.rests1;
       second = k.rests2;
+      noted = k.notes.own c.requires.noted;
       room1 = k.room1;
       room2 = k.room2;
       many = k.many;

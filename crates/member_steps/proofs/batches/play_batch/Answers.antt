@@ -1,23 +1,27 @@
 use Rattle.std.proofs.Common.{◌≡◌, ◌∙◌, ◌+◌, ◌≤◌, ◌++◌, ℕ, List, [], ◌∷◌, ap, refl, subst, sym, arith}
 use Rattle.std.proofs.lemmas.Result.{err_from_is_err_and}
 use Rattle.mas_types.specs.declared.ids.Dev.TheVariants.{Ckpt1, Ckpt2}
+use Rattle.mas_types.specs.declared.ids.Page.{Page}
 use Rattle.mas_types.specs.declared.journals.Batch.{Batch}
 use Rattle.mas_types.specs.declared.journals.Fate.TheVariants.{Kept}
 use Rattle.mas_types.specs.declared.journals.Journal.{Journal}
 use Rattle.mas_types.specs.declared.queues.Queue.{Queue}
 use Rattle.ckpt_tables.specs.declared.tables.Tables.{Tables}
+use Rattle.ckpt_tables.specs.Shape.{page_count}
 use Rattle.queue_telling.specs.Orders.{HaveOrders}
 use Rattle.queue_telling.specs.Telling.{Tell, TellSound}
 use Rattle.mas_complex.specs.Journals.{begun, end_of, entries_reserved, fated, kept_all}
 use Rattle.mas_complex.specs.Meaning.{run}
 use Rattle.mas_complex.specs.Paper.{printed_after}
+use Rattle.mas_complex.specs.Past.{HasNoted, values_of}
 use Rattle.member_node.specs.Batches.{level_with}
 use Rattle.member_node.proofs.WriteLemmas.{none_out, queue_kept}
 use Rattle.member_steps.specs.Saying.{TellKept}
 use Rattle.member_steps.specs.Steps.{AreAllKept}
 use Rattle.member_steps.proofs.CountLemmas.{counted_batch, counted_error}
 use Rattle.member_steps.proofs.FateLemmas.{tell_push}
-use Rattle.member_steps.proofs.StepLemmas.{journal_kept, kept_later, kept_push, level_most, ok_of, step_told, step_unplayed, step_unwritten}
+use Rattle.member_steps.proofs.NoteLemmas.{keeps_error, keeps_noted, notes_by, notes_same, notes_set, notes_then}
+use Rattle.member_steps.proofs.StepLemmas.{journal_kept, kept_later, kept_push, level_most, ok_of, pages_as_many, step_told, step_unplayed, step_unwritten}
 use Rattle.member_steps.proofs.batches.play_batch.Goals as goal
 
 pub returns-in_default-clause-step : goal.returns-in_default-clause-step
@@ -60,6 +64,18 @@ pub write-requires-clause-allowed : goal.write-requires-clause-allowed
 write-requires-clause-allowed g c told =
     let e = c.ready.ensures in
     rw (e.base, e.kept, e.printed, c.in-Ok.ensures.reserved) (c.requires.allowed told)
+
+pub write-requires-clause-by : goal.write-requires-clause-by
+write-requires-clause-by g c = rw c.ready.ensures.id c.requires.by
+
+pub write-requires-clause-config : goal.write-requires-clause-config
+write-requires-clause-config g c told =
+    let x = c.args.complex.now in
+    let m = c.args.member.now in
+    let e = c.ready.ensures in
+    ap (λ (Q : Queue). page_count Q.config) e.base
+    ∙ pages_as_many x.base (kept_all x.journal.batches) m.batch m.checkpoint.tables (c.requires.done told).queue
+    ∙ sym (c.in-Ok.ensures.drawn.spelled.count ∙ ap (λ (t : Tables). page_count t.config) e.tables)
 
 pub tell_lines-requires-clause-up : goal.tell_lines-requires-clause-up
 tell_lines-requires-clause-up g c = rw (c.write.ensures.book, c.ready.ensures.book, c.ready.ensures.id) c.requires.may.up
@@ -210,3 +226,34 @@ returns-clause-counts g c =
     let e = c.ready.ensures in
     let k : c.write.new.complex.printed ≡ printed_after m.id m.batch x.printed = rw (e.id, e.printed, c.in-Ok.ensures.reserved) at c.write.ensures.printed in
     counted_batch m.id m.batch x.printed w.printed c.tell_lines.result c.requires.own (c.tell_lines.ensures.printed ∙ k)
+
+-- WHAT WAS NOTED
+
+pub returns-in_default-clause-notes : goal.returns-in_default-clause-notes
+returns-in_default-clause-notes g c =
+    let x = c.args.complex.now in
+    let y = c.ready.new.complex in
+    let m = c.args.member.now in
+    keeps_error g.P.Plant.tells (values_of x.had) (values_of y.had) m c.ready.new.self _ (notes_same m.id (values_of x.had) (values_of y.had) c.ready.ensures.had)
+
+pub returns-in_err-write-clause-notes : goal.returns-in_err-write-clause-notes
+returns-in_err-write-clause-notes g c =
+    let x = c.args.complex.now in
+    let z = c.write.new.complex in
+    let m = c.args.member.now in
+    let p = err_from_is_err_and c.from_residual.result c.from_residual.ensures.1 in
+    rw (p.1, p.2) (keeps_error g.P.Plant.tells (values_of x.had) (values_of z.had) m c.ready.new.self _ (notes_same m.id (values_of x.had) (values_of z.had) (c.in_err-write.ensures.noted_err ∙ c.ready.ensures.had)))
+
+pub returns-clause-notes : goal.returns-clause-notes
+returns-clause-notes g c =
+    let x = c.args.complex.now in
+    let y = c.ready.new.complex in
+    let z = c.write.new.complex in
+    let w = c.tell_lines.new.complex in
+    let m = c.args.member.now in
+    let n = c.ready.new.self in
+    let said : values_of w.had ≡ values_of z.had = ap (λ p. p.had) c.tell_lines.ensures.frame in
+    let noted : HasNoted (values_of w.had) n.id.0 n.checkpoint.pages = subst (λ (had : List (List Page)). HasNoted had n.id.0 n.checkpoint.pages) (sym said) c.in_ok-write.ensures.own in
+    let written = notes_by n.id m.id (values_of y.had) (values_of w.had) c.ready.ensures.id (notes_set n.id (values_of y.had) (values_of w.had) n.checkpoint.pages (said ∙ c.in_ok-write.ensures.noted)) in
+    keeps_noted g.P.Plant.tells (values_of x.had) (values_of w.had) m n c.tell_lines.result noted (λ read. c.in-Ok.ensures.fresh ∙ read)
+    (notes_then m.id (values_of x.had) (values_of y.had) (values_of w.had) (notes_same m.id (values_of x.had) (values_of y.had) c.ready.ensures.had) written)

@@ -1,4 +1,4 @@
-use Rattle.std.proofs.Common.{◌∙◌, ◌<◌, ◌^◌, ℕ, List, [], ◌∷◌, Ok, Err, refl, subst, sym, arith}
+use Rattle.std.proofs.Common.{◌∙◌, ◌<◌, ◌^◌, ℕ, List, [], ◌∷◌, Ok, Err, ap, refl, subst, sym, arith}
 use Rattle.std.proofs.lemmas.Result.{err_from_is_err_and}
 use Rattle.mas_types.specs.Closings.{closing_line}
 use Rattle.mas_types.specs.declared.ids.MemberId.{MemberId}
@@ -9,14 +9,14 @@ use Rattle.member_steps.proofs.FateLemmas.{closing_tells}
 use Rattle.member_work.specs.Work.{batches_in}
 use Rattle.step_turns.specs.Batches.{batch_of}
 use Rattle.step_turns.specs.Turns.{says}
-use Rattle.member_units.specs.Plays.{bounds, unwritten, wrote_of}
-use Rattle.member_units.specs.Works.{outside, place_of}
-use Rattle.member_units.proofs.Cuts.{of_batch, one_batch, starts_itself}
-use Rattle.member_units.proofs.Gave.{keeps_as, spares_of}
-use Rattle.member_units.proofs.Going.{apart_then, closes_err, closes_ok, plays_close, plays_error}
-use Rattle.member_units.proofs.Seated.{closes_said, said_apart, seat_said}
-use Rattle.member_units.proofs.Within.{close_within}
-use Rattle.member_units.proofs.Working.{own_batch, same_run}
+use Rattle.member_giving.specs.Plays.{bounds, unwritten, wrote_of}
+use Rattle.member_giving.specs.Works.{outside, place_of}
+use Rattle.member_giving.proofs.Cuts.{of_batch, one_batch, starts_itself}
+use Rattle.member_giving.proofs.Gave.{keeps_as, spares_of}
+use Rattle.member_giving.proofs.Going.{apart_then, closes_err, closes_ok, plays_close, plays_error}
+use Rattle.member_giving.proofs.Seated.{closes_said, said_apart, seat_said}
+use Rattle.member_giving.proofs.Within.{close_within}
+use Rattle.member_giving.proofs.Working.{own_batch, same_run}
 use Rattle.member_units.proofs.ends.close.Goals as goal
 
 -- OUT OF MEMORY FOR THE LINE
@@ -38,7 +38,7 @@ returns-in_default-clause-plays g c units found may =
     let v = c.requires.works in
     let w = wrote_of m.batch (says (closing_line h.by h.step c.args.end.now ∷ [])) in
     plays_error g.P.Plant.tells h (bounds (unwritten m.batch) units found) c.args.given {S = Unit {0}} c.give_up.result w w (batch_of m.batch) (place_of x m) (outside y) (λ t. refl) (of_batch h.by h.step m.batch (own_batch x m h v)) (close_within h found units m.batch c.args.end.now may) (starts_itself m.batch)
-    (λ told. spares_of x y (c.give_up.ensures.apart told)) (keeps_as x y m h.by (batches_in (m.batch ∷ [])) (batch_of m.batch) (Err c.give_up.result) v.own v.work (one_batch m.batch) c.give_up.ensures.keeps)
+    (spares_of x y h.by m.id v.own c.give_up.ensures.apart c.give_up.ensures.notes) (keeps_as x y m h.by (batches_in (m.batch ∷ [])) (batch_of m.batch) (Err c.give_up.result) v.own v.work (one_batch m.batch) c.give_up.ensures.keeps)
     (counted_by {T = Unit {0}} m.id h.by [] x.printed y.printed (Err c.give_up.result) (sym v.own) c.give_up.ensures.counts)
 
 -- THE BATCH COULDN'T BE KEPT
@@ -91,7 +91,7 @@ returns-in_err-tell_lines-clause-plays g c units found may =
     let q = err_from_is_err_and c.from_residual-in_err-tell_lines.result c.from_residual-in_err-tell_lines.ensures.1 in
     let said = closes_said y z n h o.works t.pair t.journal t.current t.placed lines (Err _) (rw c.in-Ok.ensures at c.in_err-tell_lines.ensures.said) in
     rw (q.1, q.2) (plays_close P.tells h (bounds (unwritten m.batch) units found) c.args.given {S = Unit {0}} _ (Err _) lines (place_of x m) (outside y) (outside z) tt (own_batch x m h c.requires.works) (close_within h found units m.batch c.args.end.now may)
-    (λ told. apart_then (outside x) (outside y) (outside z) o.keeps.course.goes.later said.course.goes (c.keep.ensures.spares told) (said_apart y z t.said.acts told)) o.keeps o.counts (closes_err P.tells h.by _ lines [] (outside y) (outside z) said) t.printed)
+    (apart_then P.tells h.by (outside x) (outside y) (outside z) o.keeps.course.goes.later said.course.goes c.keep.ensures.spares (said_apart y z h.by t.said.acts (ap (λ p. p.had) t.frame))) o.keeps o.counts (closes_err P.tells h.by _ lines [] (outside y) (outside z) said) t.printed)
 
 pub returns-clause-run : goal.returns-clause-run
 returns-clause-run g c =
@@ -113,13 +113,13 @@ returns-clause-plays g c units found may =
     let lines = closing_line h.by h.step c.args.end.now ∷ [] in
     let said = closes_said y z n h o.works t.pair t.journal t.current t.placed lines (Ok _) (rw c.in-Ok.ensures at c.in_ok-tell_lines.ensures.said) in
     plays_close P.tells h (bounds (unwritten m.batch) units found) c.args.given {S = Unit {0}} _ (Ok _) lines (place_of x m) (outside y) (outside z) (refl, refl, c.release_of-release.ensures) (own_batch x m h c.requires.works) (close_within h found units m.batch c.args.end.now may)
-    (λ told. apart_then (outside x) (outside y) (outside z) o.keeps.course.goes.later said.course.goes (c.keep.ensures.spares told) (said_apart y z t.said.acts told)) o.keeps o.counts (closes_ok P.tells h.by _ _ lines [] (outside y) (outside z) said) t.printed
+    (apart_then P.tells h.by (outside x) (outside y) (outside z) o.keeps.course.goes.later said.course.goes c.keep.ensures.spares (said_apart y z h.by t.said.acts (ap (λ p. p.had) t.frame))) o.keeps o.counts (closes_ok P.tells h.by _ _ lines [] (outside y) (outside z) said) t.printed
 
 pub returns-clause-seat : goal.returns-clause-seat
 returns-clause-seat g c =
     let t = c.tell_lines.ensures in
     let o = c.in_ok-keep.ensures in
-    seat_said c.keep.new.complex c.tell_lines.new.complex c.keep.new.member c.args.holder o.works t.pair t.journal t.current t.placed o.nothing t.base t.since t.book t.reserved t.first t.second t.level t.said.acts
+    seat_said c.keep.new.complex c.tell_lines.new.complex c.keep.new.member c.args.holder o.works t.pair t.journal t.current t.placed o.nothing t.base t.since t.book t.reserved t.first t.second t.level (ap (λ p. p.had) t.frame) t.said.acts
 
 pub returns-clause-reached : goal.returns-clause-reached
 returns-clause-reached g c = rw c.tell_lines.ensures.level c.in_ok-keep.ensures.reached

@@ -3,12 +3,12 @@ use Rattle.std.proofs.lemmas.Result.{err_from_is_err_and}
 use Rattle.step_turns.specs.Batches.{batch_of}
 use Rattle.step_turns.specs.Courses.{sittings_most}
 use Rattle.step_turns.specs.Turns.{leaves}
-use Rattle.member_units.specs.Plays.{bounds, unwritten, wrote_of}
-use Rattle.member_units.specs.Works.{outside, place_of}
-use Rattle.member_units.proofs.Cuts.{of_batch, starts_itself}
-use Rattle.member_units.proofs.Going.{plays_error, plays_leave}
-use Rattle.member_units.proofs.Within.{leave_within}
-use Rattle.member_units.proofs.Working.{own_batch}
+use Rattle.member_giving.specs.Plays.{bounds, unwritten, wrote_of}
+use Rattle.member_giving.specs.Works.{outside, place_of}
+use Rattle.member_giving.proofs.Cuts.{of_batch, starts_itself}
+use Rattle.member_giving.proofs.Going.{plays_error, plays_leave}
+use Rattle.member_giving.proofs.Within.{leave_within}
+use Rattle.member_giving.proofs.Working.{own_batch}
 use Rattle.member_units.proofs.ends.leave.Goals as goal
 
 pub returns-in_err-keep-clause-plays : goal.returns-in_err-keep-clause-plays

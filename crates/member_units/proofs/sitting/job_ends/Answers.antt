@@ -15,14 +15,14 @@ use Rattle.step_turns.specs.JobEnds.{groups_for_end}
 use Rattle.step_turns.specs.declared.states.State.TheVariants.{Away}
 use Rattle.step_turns.specs.declared.states.Aside.TheVariants.{SpoolOutputs}
 use Rattle.step_turns.specs.Turns.{job_ends as job_ends_lem, outputs_stand as outputs_stand_lem}
-use Rattle.member_units.specs.Plays.{bounds, unwritten, wrote_of}
-use Rattle.member_units.specs.Works.{Run, outside, place_of, queue_here, queue_kept}
-use Rattle.member_units.proofs.Firsts.{first_room}
-use Rattle.member_units.proofs.Going.{plays_as, plays_more}
-use Rattle.member_units.proofs.Resting.{again_left, fewer_left, fewer_than, if_ok, reached_left, ready_once, tells_here}
-use Rattle.member_units.proofs.Taking.{ends_none, needs_all, refused_then, still_under_way, taken_error, taken_then}
-use Rattle.member_units.proofs.Within.{answered_by, unwritten_one}
-use Rattle.member_units.proofs.Working.{kept_here}
+use Rattle.member_giving.specs.Plays.{bounds, unwritten, wrote_of}
+use Rattle.member_giving.specs.Works.{Run, outside, place_of, queue_here, queue_kept}
+use Rattle.member_giving.proofs.Firsts.{first_room}
+use Rattle.member_giving.proofs.Going.{plays_as, plays_more}
+use Rattle.member_giving.proofs.Resting.{again_left, fewer_left, fewer_than, if_ok, reached_left, ready_once, tells_here}
+use Rattle.member_giving.proofs.Taking.{ends_none, needs_all, refused_then, still_under_way, taken_error, taken_then}
+use Rattle.member_giving.proofs.Within.{answered_by, unwritten_one}
+use Rattle.member_giving.proofs.Working.{kept_here}
 use Rattle.member_units.proofs.sitting.job_ends.Goals as goal
 
 -- NO GROUPS ARE NEEDED

@@ -17,11 +17,11 @@ use Rattle.step_turns.specs.Entries.{closing_reply, given_in}
 use Rattle.step_turns.specs.JobEnds.{drop_groups, ending, groups_for_end}
 use Rattle.step_turns.specs.Turns.{outputs_stand as outputs_stand_lem}
 use Rattle.member_sittings.specs.Shapes.{MayEndBy}
-use Rattle.member_units.specs.Plays.{bounds}
-use Rattle.member_units.specs.Works.{outside, queue_here, queue_kept}
-use Rattle.member_units.proofs.Firsts.{first_error, first_room, first_then}
-use Rattle.member_units.proofs.Resting.{if_ok}
-use Rattle.member_units.proofs.Within.{answered_by}
+use Rattle.member_giving.specs.Plays.{bounds}
+use Rattle.member_giving.specs.Works.{outside, queue_here, queue_kept}
+use Rattle.member_giving.proofs.Firsts.{first_error, first_room, first_then}
+use Rattle.member_giving.proofs.Resting.{if_ok}
+use Rattle.member_giving.proofs.Within.{answered_by}
 use Rattle.member_units.proofs.sitting.outputs_stand.Goals as goal
 
 -- A VOLUME IS LOST

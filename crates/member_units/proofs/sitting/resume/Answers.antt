@@ -9,13 +9,13 @@ use Rattle.member_work.proofs.KeepingLemmas.{keeping_wanted}
 use Rattle.step_turns.specs.Turns.{text_read}
 use Rattle.member_sittings.specs.declared.ends.SittingEnd.{SittingEnd}
 use Rattle.member_sittings.specs.Shapes.{MayRefuseBy}
-use Rattle.member_units.specs.Plays.{MayStopBy, bounds, wrote_of}
-use Rattle.member_units.specs.Works.{outside, place_of, queue_here}
-use Rattle.member_units.proofs.Cuts.{of_cut}
-use Rattle.member_units.proofs.Going.{apart_none, plays_error, plays_more}
-use Rattle.member_units.proofs.Ours.{text_its}
-use Rattle.member_units.proofs.Resting.{fewer_than, if_ok}
-use Rattle.member_units.proofs.Within.{lost_by, prints_by, stops_by, text_within, wrote_within}
+use Rattle.member_giving.specs.Plays.{MayStopBy, bounds, wrote_of}
+use Rattle.member_giving.specs.Works.{outside, place_of, queue_here}
+use Rattle.member_giving.proofs.Cuts.{of_cut}
+use Rattle.member_giving.proofs.Going.{apart_none, plays_error, plays_more}
+use Rattle.member_giving.proofs.Ours.{text_its}
+use Rattle.member_giving.proofs.Resting.{fewer_than, if_ok}
+use Rattle.member_giving.proofs.Within.{lost_by, prints_by, stops_by, text_within, wrote_within}
 use Rattle.member_units.proofs.sitting.resume.Goals as goal
 
 -- NO DECK
@@ -55,7 +55,7 @@ returns-in_default-clause-plays g c =
     let outcome = outcome_of c.in-ReadText.runs c.in-ReadText.fields c.args.found.read in
     let within = text_within h c.args.found (3 * p.left + 3) units (queue_here x m) c.in-ReadText.job p (omega arith) (omega arith) outcome (stops_by c.in-ReadText.runs c.in-ReadText.fields c.args.found) in
     rw c.in-ReadText.is (plays_error P.tells h (bounds (3 * p.left + 3) units c.args.found) 0 {S = SittingEnd} NoMemory (wrote_of [] t) (wrote_of [] t) [] (place_of x m) o (λ told. refl) (of_cut h.by h.step [] t.parts (All-nil _) (text_its h (outcome_of c.in-ReadText.runs c.in-ReadText.fields c.args.found.read) (queue_here x m) c.in-ReadText.job c.in-ReadText.progress)) (wrote_within h c.args.found units (3 * p.left + 3) [] t (3 * p.left + 3) (omega arith) within) tt
-    (λ told. apart_none o) (keeping_wanted {T = SittingEnd} P.tells h.by o.batches o.batches refl [] o.first o.second o.view)
+    (apart_none P.tells h.by o) (keeping_wanted {T = SittingEnd} P.tells h.by o.batches o.batches refl [] o.first o.second o.view)
     (counted_error {T = SittingEnd} h.by [] o.printed o.printed NoMemory refl))
 
 pub text_read-requires-clause-under_way : goal.text_read-requires-clause-under_way

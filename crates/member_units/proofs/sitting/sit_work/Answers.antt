@@ -4,12 +4,12 @@ use Rattle.step_turns.specs.declared.states.State.TheVariants.{Fresh, Rested}
 use Rattle.step_turns.specs.declared.states.Task.TheVariants.{Work}
 use Rattle.step_turns.specs.States.{nothing_found}
 use Rattle.step_turns.specs.Turns.{units_from}
-use Rattle.member_units.specs.Plays.{bounds, wrote_of}
-use Rattle.member_units.specs.Works.{Run, outside, place_of, queue_here, queue_kept}
-use Rattle.member_units.proofs.Going.{plays_more}
-use Rattle.member_units.proofs.Sat.{frame_of, sat_of}
-use Rattle.member_units.proofs.Seated.{low_bounds, works_sits}
-use Rattle.member_units.proofs.Working.{kept_here, room_low}
+use Rattle.member_giving.specs.Plays.{bounds, wrote_of}
+use Rattle.member_giving.specs.Works.{Run, outside, place_of, queue_here, queue_kept}
+use Rattle.member_giving.proofs.Going.{plays_more}
+use Rattle.member_giving.proofs.Sat.{frame_of, sat_of}
+use Rattle.member_giving.proofs.Seated.{low_bounds, works_sits}
+use Rattle.member_giving.proofs.Working.{kept_here, room_low}
 use Rattle.member_units.proofs.sitting.sit_work.Goals as goal
 
 pub begin-requires-clause-works : goal.begin-requires-clause-works

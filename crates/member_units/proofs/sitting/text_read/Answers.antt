@@ -8,13 +8,13 @@ use Rattle.member_work.proofs.CauseLemmas.{reply_answered}
 use Rattle.step_turns.specs.Entries.{closing_reply, given_in}
 use Rattle.step_turns.specs.declared.states.State.TheVariants.{Told}
 use Rattle.step_turns.specs.Turns.{closes_as, text_read as text_read_lem}
-use Rattle.member_units.specs.Plays.{bounds, unwritten, wrote_of}
-use Rattle.member_units.specs.Works.{outside, place_of, queue_here, queue_kept}
-use Rattle.member_units.proofs.Firsts.{first_error, first_then}
-use Rattle.member_units.proofs.Going.{plays_as, plays_more}
-use Rattle.member_units.proofs.Resting.{again_told, fewer_than, fewer_told, if_ok, reached_left, ready_told}
-use Rattle.member_units.proofs.Within.{answered_by, unwritten_one}
-use Rattle.member_units.proofs.Working.{room_low, uses_one}
+use Rattle.member_giving.specs.Plays.{bounds, unwritten, wrote_of}
+use Rattle.member_giving.specs.Works.{outside, place_of, queue_here, queue_kept}
+use Rattle.member_giving.proofs.Firsts.{first_error, first_then}
+use Rattle.member_giving.proofs.Going.{plays_as, plays_more}
+use Rattle.member_giving.proofs.Resting.{again_told, fewer_than, fewer_told, if_ok, reached_left, ready_told}
+use Rattle.member_giving.proofs.Within.{answered_by, unwritten_one}
+use Rattle.member_giving.proofs.Working.{room_low, uses_one}
 use Rattle.member_units.proofs.sitting.text_read.Goals as goal
 
 -- THE JOB IS CONVERTED

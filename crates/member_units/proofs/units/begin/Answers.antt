@@ -10,14 +10,14 @@ use Rattle.step_turns.specs.Courses.{sittings_most}
 use Rattle.step_turns.specs.Entries.{closing_reply, given_in}
 use Rattle.step_turns.specs.declared.states.State.TheVariants.{Away, Told}
 use Rattle.step_turns.specs.Turns.{leaves, no_more, one_command, units_from}
-use Rattle.member_units.specs.Plays.{bounds, unwritten, wrote_of}
-use Rattle.member_units.specs.Works.{Run, outside, place_of, queue_here, queue_kept}
-use Rattle.member_units.proofs.Following.{unit_given, unit_unmarked}
-use Rattle.member_units.proofs.Going.{part_error, part_then, plays_as, plays_more}
-use Rattle.member_units.proofs.Readiness.{unit_ready}
-use Rattle.member_units.proofs.Resting.{again_left, again_told, fewer_left, fewer_than, fewer_told, if_ok, left_some, reached_left, ready_left, ready_told, tells_here, waits_few, waits_fewer}
-use Rattle.member_units.proofs.Within.{answered_by, unwritten_one}
-use Rattle.member_units.proofs.Working.{less_room, own_batch, uses_one}
+use Rattle.member_giving.specs.Plays.{bounds, unwritten, wrote_of}
+use Rattle.member_giving.specs.Works.{Run, outside, place_of, queue_here, queue_kept}
+use Rattle.member_giving.proofs.Following.{unit_given, unit_unmarked}
+use Rattle.member_giving.proofs.Going.{part_error, part_then, plays_as, plays_more}
+use Rattle.member_giving.proofs.Readiness.{unit_ready}
+use Rattle.member_giving.proofs.Resting.{again_left, again_told, fewer_left, fewer_than, fewer_told, if_ok, left_some, reached_left, ready_left, ready_told, tells_here, waits_few, waits_fewer}
+use Rattle.member_giving.proofs.Within.{answered_by, unwritten_one}
+use Rattle.member_giving.proofs.Working.{less_room, own_batch, uses_one}
 use Rattle.member_units.proofs.units.begin.Goals as goal
 
 pub give-requires-clause-room : goal.give-requires-clause-room

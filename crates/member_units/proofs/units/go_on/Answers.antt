@@ -12,14 +12,14 @@ use Rattle.step_turns.specs.Courses.{sittings_most}
 use Rattle.step_turns.specs.Entries.{closing_reply, given_in}
 use Rattle.step_turns.specs.declared.states.State.TheVariants.{Away, Rested, Told}
 use Rattle.step_turns.specs.Turns.{leaves, no_more, one_command, units_from}
-use Rattle.member_units.specs.Plays.{bounds, unwritten, wrote_of}
-use Rattle.member_units.specs.Works.{Run, outside, place_of, queue_here, queue_kept}
-use Rattle.member_units.proofs.Following.{unit_given, unit_unmarked}
-use Rattle.member_units.proofs.Going.{closed_after, full_error, on_after, part_error, part_then, plays_as, plays_more, rest_after}
-use Rattle.member_units.proofs.Readiness.{unit_ready}
-use Rattle.member_units.proofs.Resting.{again_left, again_told, fewer_left, fewer_told, left_some, reached_left, ready_left, ready_told, tells_here, waits_few, waits_fewer}
-use Rattle.member_units.proofs.Within.{answered_by, full_le, unwritten_one}
-use Rattle.member_units.proofs.Working.{less_room, own_batch}
+use Rattle.member_giving.specs.Plays.{bounds, unwritten, wrote_of}
+use Rattle.member_giving.specs.Works.{Run, outside, place_of, queue_here, queue_kept}
+use Rattle.member_giving.proofs.Following.{unit_given, unit_unmarked}
+use Rattle.member_giving.proofs.Going.{closed_after, full_error, on_after, part_error, part_then, plays_as, plays_more, rest_after}
+use Rattle.member_giving.proofs.Readiness.{unit_ready}
+use Rattle.member_giving.proofs.Resting.{again_left, again_told, fewer_left, fewer_told, left_some, reached_left, ready_left, ready_told, tells_here, waits_few, waits_fewer}
+use Rattle.member_giving.proofs.Within.{answered_by, full_le, unwritten_one}
+use Rattle.member_giving.proofs.Working.{less_room, own_batch}
 use Rattle.member_units.proofs.units.go_on.Goals as goal
 
 pub loop-end-init : goal.loop-end-init

@@ -5,8 +5,8 @@ use Rattle.step_turns.specs.declared.states.Found.{Found}
 use Rattle.step_turns.specs.Turns.{goes_on_by, units_from}
 use Rattle.member_sittings.specs.declared.ends.SittingEnd.{SittingEnd}
 use Rattle.member_sittings.specs.Shapes.{MayEndBy}
-use Rattle.member_units.specs.Plays.{Plays, bounds, wrote_after}
-use Rattle.member_units.specs.Works.{HasRoom, Outside, Works, place_of, queue_here, run_of}
+use Rattle.member_giving.specs.Plays.{Plays, bounds, wrote_after}
+use Rattle.member_giving.specs.Works.{HasRoom, Outside, Works, place_of, queue_here, run_of}
 use Rattle.member_units.proofs.units.go_on.Given as goal
 
 abbrev pub decreases-loop-end : goal.decreases-loop-end

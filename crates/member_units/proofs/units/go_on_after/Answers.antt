@@ -1,8 +1,8 @@
 use Rattle.std.proofs.Common.{◌+◌, ◌*◌, ℕ, subst}
 use Rattle.mas_types.specs.declared.queues.Queue.{Queue}
 use Rattle.step_turns.specs.Turns.{goes_on_by, units_from}
-use Rattle.member_units.specs.Plays.{Plays, bounds, wrote_after}
-use Rattle.member_units.specs.Works.{outside, place_of, queue_here}
+use Rattle.member_giving.specs.Plays.{Plays, bounds, wrote_after}
+use Rattle.member_giving.specs.Works.{outside, place_of, queue_here}
 use Rattle.member_units.proofs.units.go_on_after.Goals as goal
 
 pub returns-clause-plays : goal.returns-clause-plays

@@ -3,9 +3,10 @@ use Rattle.std.proofs.lemmas.Result.{err_from_is_err_and}
 use Rattle.mas_complex.specs.Parts.{parts_of}
 use Rattle.job_outcome.specs.declared.outcomes.Read.{Read}
 use Rattle.step_turns.specs.declared.states.Found.{Found}
-use Rattle.member_wires.specs.Asides.{HasAnswered, end_of, wire_found}
+use Rattle.member_wires.specs.Asides.{HasAnswered, end_of}
 use Rattle.member_wires.proofs.OnLine.{gives_nothing}
 use Rattle.member_wires.proofs.asides.acknowledge.Goals as goal
+use Rattle.member_asides.specs.Asides.{wire_found}
 
 pub returns-in_default-clause-acknowledges : goal.returns-in_default-clause-acknowledges
 returns-in_default-clause-acknowledges g c =

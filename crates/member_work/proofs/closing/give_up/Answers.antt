@@ -22,3 +22,11 @@ returns-in-Ok-clause-counts g c = let m = c.args.member.now in counted_up m.id m
 
 pub returns-in-Err-clause-counts : goal.returns-in-Err-clause-counts
 returns-in-Err-clause-counts g c = let m = c.args.member.now in counted_up m.id m.batch [] c.args.complex.now.printed c.keep_given.new.complex.printed _ _ c.in-Err.ensures.counts
+
+-- WHAT MEMBERS NOTED
+
+pub returns-in-Ok-clause-notes : goal.returns-in-Ok-clause-notes
+returns-in-Ok-clause-notes g c = c.in-Ok.ensures.notes.others
+
+pub returns-in-Err-clause-notes : goal.returns-in-Err-clause-notes
+returns-in-Err-clause-notes g c = c.in-Err.ensures.notes.others

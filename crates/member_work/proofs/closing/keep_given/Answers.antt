@@ -24,6 +24,8 @@ use Rattle.member_work.specs.Steps.{IsKeeping}
 use Rattle.member_work.proofs.KeepingLemmas.{keeping_none, keeping_then, kept_not_in, kept_ok, settled}
 use Rattle.member_work.proofs.StateLemmas.{between_by, none_batch, on_two, one_batch_in, same_room, some_batch, work_between, work_order}
 use Rattle.member_node.proofs.CourseLemmas.{apart_none, apart_then}
+use Rattle.member_steps.proofs.NoteLemmas.{keeps_same, keeps_then}
+use Rattle.mas_complex.specs.Past.{values_of}
 use Rattle.member_work.proofs.closing.keep_given.Goals as goal
 
 pub returns-then-len-eq0-clause-nothing : goal.returns-then-len-eq0-clause-nothing
@@ -424,3 +426,26 @@ returns-clause-counts g c =
     let x = c.args.complex.now in
     let m = c.args.member.now in
     counted_on m.id m.batch x.printed c.keep_batch.new.complex.printed c.primary.new.complex.printed _ c.primary.result c.primary.ensures.printed c.in_ok-keep_batch.ensures.counts
+
+-- WHAT MEMBERS NOTED
+
+pub returns-then-len-eq0-clause-notes : goal.returns-then-len-eq0-clause-notes
+returns-then-len-eq0-clause-notes g c =
+    let had = values_of c.args.complex.now.had in
+    let m = c.args.member.now in
+    keeps_same {T = Unit {0}} g.P.Plant.tells had had m m (Ok tt) refl refl refl refl
+
+pub returns-in_err-keep_batch-clause-notes : goal.returns-in_err-keep_batch-clause-notes
+returns-in_err-keep_batch-clause-notes g c =
+    let q = err_from_is_err_and c.from_residual.result c.from_residual.ensures.1 in
+    rw (q.1, q.2) c.in_err-keep_batch.ensures.notes
+
+pub returns-clause-notes : goal.returns-clause-notes
+returns-clause-notes g c =
+    let x = c.args.complex.now in
+    let y = c.keep_batch.new.complex in
+    let z = c.primary.new.complex in
+    let m = c.args.member.now in
+    let n = c.keep_batch.new.member in
+    keeps_then {S = Unit {0}} g.P.Plant.tells (values_of x.had) (values_of y.had) (values_of z.had) m n n _ c.primary.result c.keep_batch.ensures.id c.in_ok-keep_batch.ensures.notes
+    (keeps_same g.P.Plant.tells (values_of y.had) (values_of z.had) n n c.primary.result (ap values_of c.primary.ensures.had) refl refl refl)

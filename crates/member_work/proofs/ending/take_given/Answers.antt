@@ -16,6 +16,8 @@ use Rattle.member_work.proofs.BeginLemmas.{taking_unmarked}
 use Rattle.member_work.proofs.CauseLemmas.{taken_answered, taken_caused}
 use Rattle.member_work.proofs.EndingLemmas.{given_begins, end_none, given_all, given_copy, given_own, given_some, given_texts, given_work, gives_few, keeps_by, last_done, last_given_up, of_by, taken_ends, taking_few, told_queue}
 use Rattle.member_node.proofs.CourseLemmas.{apart_none}
+use Rattle.member_steps.proofs.NoteLemmas.{keeps_error, keeps_same, notes_by}
+use Rattle.mas_complex.specs.Past.{values_of}
 use Rattle.member_work.proofs.ending.take_given.Goals as goal
 
 pub take_for_end-requires-clause-member : goal.take_for_end-requires-clause-member
@@ -235,3 +237,22 @@ returns-in_default-clause-counts g c =
 
 pub returns-clause-counts : goal.returns-clause-counts
 returns-clause-counts g c = let printed = c.args.complex.now.printed in counted_none c.args.member.now.id printed printed _ refl
+
+-- WHAT MEMBERS NOTED
+
+pub give_up-requires-clause-by : goal.give_up-requires-clause-by
+give_up-requires-clause-by g c = rw c.take_for_end.ensures.has.id c.requires.by
+
+pub returns-in_default-clause-notes : goal.returns-in_default-clause-notes
+returns-in_default-clause-notes g c =
+    let was = values_of c.args.complex.now.had in
+    let is = values_of c.give_up.new.complex.had in
+    let m = c.args.member.now in
+    let n = c.take_for_end.new.member in
+    keeps_error g.P.Plant.tells was is m c.give_up.new.member c.give_up.result (notes_by n.id m.id was is c.take_for_end.ensures.has.id c.give_up.ensures.notes)
+
+pub returns-clause-notes : goal.returns-clause-notes
+returns-clause-notes g c =
+    let had = values_of c.args.complex.now.had in
+    let h = c.take_for_end.ensures.has in
+    keeps_same g.P.Plant.tells had had c.args.member.now c.take_for_end.new.member _ refl h.id h.fresh h.pages

@@ -34,6 +34,7 @@ returns-clause-has c =
       id = d.id;
       room = d.room;
       behind = d.behind;
+      fresh = d.fresh;
       level = d.level;
       levels = d.levels;
       pages = d.pages;

@@ -18,6 +18,8 @@ use Rattle.job_outcome.specs.Next.{IsNamedEnd, end_by}
 use Rattle.member_work.specs.Steps.{HasCopy, IsAtWork, IsKeeping, IsStepUntold}
 use Rattle.member_work.proofs.GivenLemmas.{commanded, more_by_one, named_end, not_commanded, of_more, one_reply, texts_behind, work_given, work_tells}
 use Rattle.member_node.proofs.CourseLemmas.{apart_none}
+use Rattle.member_steps.proofs.NoteLemmas.{keeps_error, keeps_same, notes_by}
+use Rattle.mas_complex.specs.Past.{values_of}
 use Rattle.member_work.proofs.working.play_command.Goals as goal
 
 pub do_command-requires-clause-here : goal.do_command-requires-clause-here
@@ -290,3 +292,22 @@ returns-in_default-clause-counts g c =
 
 pub returns-clause-counts : goal.returns-clause-counts
 returns-clause-counts g c = let printed = c.args.complex.now.printed in counted_none c.args.member.now.id printed printed _ refl
+
+-- WHAT MEMBERS NOTED
+
+pub give_up-requires-clause-by : goal.give_up-requires-clause-by
+give_up-requires-clause-by g c = rw (ap (λ (i : Member). i.id) c.in_default.ensures.err) c.requires.by
+
+pub returns-in_default-clause-notes : goal.returns-in_default-clause-notes
+returns-in_default-clause-notes g c =
+    let was = values_of c.args.complex.now.had in
+    let is = values_of c.give_up.new.complex.had in
+    let m = c.args.member.now in
+    let n = c.do_command.new.self in
+    keeps_error g.P.Plant.tells was is m c.give_up.new.member c.give_up.result (notes_by n.id m.id was is (ap (λ (i : Member). i.id) c.in_default.ensures.err) c.give_up.ensures.notes)
+
+pub returns-clause-notes : goal.returns-clause-notes
+returns-clause-notes g c =
+    let had = values_of c.args.complex.now.had in
+    let d = c.do_command.ensures in
+    keeps_same g.P.Plant.tells had had c.args.member.now c.do_command.new.self _ refl d.id d.fresh d.pages

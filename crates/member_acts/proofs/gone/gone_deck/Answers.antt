@@ -1,0 +1,20 @@
+use Rattle.std.proofs.Common.{◌≡◌, ◌∙◌, ◌&&◌, None, Option, if◌then◌else◌, ap, refl, sym}
+use Rattle.std.specs.List.{list_any}
+use Rattle.mas_types.specs.declared.ids.GroupNo.{GroupNo}
+use Rattle.mas_types.specs.Journal.{is_kept}
+use Rattle.mas_complex.specs.Journals.{kept_all}
+use Rattle.member_work.specs.Gone.{gone_since, is_brought}
+use Rattle.member_acts.proofs.GoneLemmas.{gone_deck_is, since_when}
+use Rattle.member_acts.proofs.gone.gone_deck.Goals as goal
+
+pub returns-clause-since : goal.returns-clause-since
+returns-clause-since g c =
+    let y = c.args.complex.now in
+    c.unless_brought.ensures ∙ ap (λ (o : Option GroupNo). if list_any (λ b. is_kept b.fate && is_brought c.args.job b.entries) c.as_slice-batches.result.now then None else o) c.gone_in.ensures
+    ∙ sym (since_when c.args.job y.base y.journal.batches c.as_slice-batches.result.now _ c.as_slice-batches.ensures refl)
+
+pub returns-clause-gone : goal.returns-clause-gone
+returns-clause-gone g c told j found =
+    let y = c.args.complex.now in
+    let since : c.unless_brought.result ≡ gone_since y.base (kept_all y.journal.batches) c.args.job = returns-clause-since g c in
+    since ∙ gone_deck_is c.args.job y.base y.journal.batches y.current (c.kept_replies.ensures told) (c.requires.config told) (c.requires.numbers told) j found

@@ -1,0 +1,107 @@
+-- What follows in a sitting by the next unit.
+use Rattle.std.proofs.Common.{◌≡◌, ℕ, zero, suc, ◌-◌, ◌≤◌, Bool, true, false, Option, Some, None, ap, refl, sym, arith}
+use Rattle.std.specs.Option.{option_map_or}
+use Rattle.mas_types.specs.declared.commands.Command.{Command}
+use Rattle.mas_types.specs.declared.commands.Command.TheVariants as command
+use Rattle.mas_types.specs.declared.ids.JobNo.{JobNo}
+use Rattle.mas_types.specs.declared.ids.MemberId.{MemberId}
+use Rattle.mas_types.specs.declared.ids.OutNo.{OutNo}
+use Rattle.mas_types.specs.declared.jobs.Job.{Job}
+use Rattle.mas_types.specs.declared.jobs.Output.{Output}
+use Rattle.mas_types.specs.declared.queues.Queue.{Queue}
+use Rattle.mas_types.specs.declared.units.Unit as units
+use Rattle.mas_types.specs.declared.units.Unit.TheVariants as unit
+use Rattle.mas_types.specs.Limits.{members_most}
+use Rattle.mas_types.specs.Queue.{is_member, job_at, output_at}
+use Rattle.mas_types.specs.Step.{may_give}
+use Rattle.mas_types.specs.Units.{unit_of}
+use Rattle.queue_commands.specs.Given.{IsGiver, is_plain}
+use Rattle.paper_laws.specs.Counts.{IsMarkRight}
+use Rattle.member_work.specs.Units.{command_of}
+use Rattle.member_work.proofs.UnitStepLemmas.{each_command}
+use Rattle.step_turns.specs.Entries.{is_drop}
+use Rattle.step_turns.specs.declared.states.Holder.{Holder}
+use Rattle.step_turns.specs.Turns.{Turn, next_unit, no_more, one_command, units_from}
+use Rattle.member_giving.specs.declared.nexts.Next.TheVariants as next
+use Rattle.member_giving.specs.Nexts.{IsOfUnit, lines_of, text_of, turn_by}
+use Rattle.member_asides.specs.Ready.{MayBeGiven}
+
+one : {A : Type 0} (a b : A) → Some a ≡ Some b → a ≡ b
+one a b e = cc
+
+module _ (h : Holder) where
+  -- where units are left the next one follows
+  pub some_left : (left : ℕ) (Q : Queue) (given done : ℕ) → (left ≡ 0 → ⊥) → units_from h left Q given done ≡ next_unit h (unit_of Q h.by) (left - 1) (units_from h (left - 1)) Q given done
+  some_left zero Q given done some = absurd (some refl)
+  some_left (suc left) Q given done some =
+      let less : left ≡ suc left - 1 = omega arith in
+      ap (λ (k : ℕ). next_unit h (unit_of Q h.by) k (units_from h k) Q given done) less
+
+  pub none_left : (left : ℕ) (Q : Queue) (given done : ℕ) → left ≡ 0 → units_from h left Q given done ≡ no_more h done
+  none_left zero Q given done none = refl
+  none_left (suc left) Q given done none = absurd (omega (arith, none))
+
+  module _ (left : ℕ) (Q : Queue) (given done : ℕ) where
+    abbrev Following : units.Unit → Turn
+    Following u = next_unit h u left (units_from h left) Q given done
+
+    -- a unit of one command
+    pub by_command : (u : units.Unit) (c : Command) → command_of u ≡ Some c → Following u ≡ turn_by h (next.Give c) left Q given done
+    by_command (unit.Print n i) c is = absurd (cc)
+    by_command (unit.Finish n i) c is = ap (λ (d : Command). one_command h d left (units_from h left) Q given done) (one (command.Done n i) c is)
+    by_command unit.Pick c is = ap (λ (d : Command). one_command h d left (units_from h left) Q given done) (one command.Pick c is)
+    by_command unit.Purge c is = ap (λ (d : Command). one_command h d left (units_from h left) Q given done) (one command.Purge c is)
+    by_command unit.Gather c is = ap (λ (d : Command). one_command h d left (units_from h left) Q given done) (one command.Gather c is)
+    by_command (unit.Run n) c is = absurd (cc)
+    by_command (unit.Convert n) c is = absurd (cc)
+    by_command unit.TakeExec c is = ap (λ (d : Command). one_command h d left (units_from h left) Q given done) (one command.TakeExec c is)
+    by_command unit.TakeConvert c is = ap (λ (d : Command). one_command h d left (units_from h left) Q given done) (one command.TakeConvert c is)
+    by_command unit.Idle c is = absurd (cc)
+
+    -- no unit applies
+    pub by_none : (u : units.Unit) → command_of u ≡ None → ((n : JobNo) (i : OutNo) → u ≡ unit.Print n i → ⊥) → ((n : JobNo) → u ≡ unit.Run n → ⊥) → ((n : JobNo) → u ≡ unit.Convert n → ⊥) → Following u ≡ no_more h done
+    by_none (unit.Print n i) none prints runs converts = absurd (prints n i refl)
+    by_none (unit.Finish n i) none prints runs converts = absurd (cc)
+    by_none unit.Pick none prints runs converts = absurd (cc)
+    by_none unit.Purge none prints runs converts = absurd (cc)
+    by_none unit.Gather none prints runs converts = absurd (cc)
+    by_none (unit.Run n) none prints runs converts = absurd (runs n refl)
+    by_none (unit.Convert n) none prints runs converts = absurd (converts n refl)
+    by_none unit.TakeExec none prints runs converts = absurd (cc)
+    by_none unit.TakeConvert none prints runs converts = absurd (cc)
+    by_none unit.Idle none prints runs converts = refl
+
+    -- a unit that reads a text
+    text_next : (runs : Bool) (o : Option Job) (n : JobNo) → option_map_or (λ (j : Job). turn_by h (text_of runs (record { done = done; left = left }) (Some j)) left Q given done) o (no_more h done) ≡ turn_by h (text_of runs (record { done = done; left = left }) o) left Q given done
+    text_next runs None n = refl
+    text_next runs (Some j) n = refl
+
+    pub by_run : (n : JobNo) → Following (unit.Run n) ≡ turn_by h (text_of true (record { done = done; left = left }) (job_at Q n)) left Q given done
+    by_run n = text_next true (job_at Q n) n
+
+    pub by_convert : (n : JobNo) → Following (unit.Convert n) ≡ turn_by h (text_of false (record { done = done; left = left }) (job_at Q n)) left Q given done
+    by_convert n = text_next false (job_at Q n) n
+
+    lines_next : (by : MemberId) → by ≡ h.by → (o : Option Output) → option_map_or (λ (p : Output). turn_by h (lines_of h.by (record { done = done; left = left }) Q (Some p)) left Q given done) o (no_more h done) ≡ turn_by h (lines_of by (record { done = done; left = left }) Q o) left Q given done
+    lines_next by is None = refl
+    lines_next by is (Some o) = ap (λ (m : MemberId). turn_by h (lines_of m (record { done = done; left = left }) Q (Some o)) left Q given done) (sym is)
+
+    pub by_print : (by : MemberId) → by ≡ h.by → (n : JobNo) (i : OutNo) → Following (unit.Print n i) ≡ turn_by h (lines_of by (record { done = done; left = left }) Q (output_at Q n i)) left Q given done
+    by_print by is n i = lines_next by is (output_at Q n i)
+
+-- THE COMMAND OF A UNIT
+
+record Givable (base : Queue) (by : MemberId) (c : Command) : Type 0 where
+  plain : is_plain c ≡ true
+  giver : IsGiver by c
+  may : may_give base by c ≡ true
+  closes : is_drop c ≡ false
+
+pub unit_given : (base : Queue) (by : MemberId) (c : Command) → 1 ≤ by.0 → by.0 ≤ members_most → is_member base.config by ≡ true → IsOfUnit c → MayBeGiven base by c
+unit_given base by c some few member u =
+    let g = each_command (Givable base by) (λ n i. record { plain = refl; giver = (some, few); may = member; closes = refl }) (record { plain = refl; giver = (some, few); may = member; closes = refl }) (record { plain = refl; giver = (some, few); may = member; closes = refl }) (record { plain = refl; giver = (some, few); may = member; closes = refl }) (record { plain = refl; giver = (some, few); may = member; closes = refl }) (record { plain = refl; giver = (some, few); may = member; closes = refl }) u.of c u.is in
+    record { plain = g.plain; fit = u.fit; giver = g.giver; may = g.may; closes = g.closes }
+
+-- a unit's command marks no lines
+pub unit_unmarked : (Q : Queue) (by : MemberId) (count : ℕ) (c : Command) → IsOfUnit c → IsMarkRight Q by count c
+unit_unmarked Q by count c u = each_command (λ (d : Command). IsMarkRight Q by count d) (λ n i. tt) tt tt tt tt tt u.of c u.is

@@ -1,0 +1,146 @@
+-- A whole sitting.
+use Rattle.std.proofs.Common.{◌≡◌, ◌∙◌, ⊎_elim, ℕ, ◌+◌, List, [], ◌++◌, length, Result, Ok, Err, ap, refl, subst, arith}
+use Rattle.std.specs.Prelude.{IfOk}
+use Rattle.mas_types.specs.declared.ids.MemberId.{MemberId}
+use Rattle.mas_types.specs.declared.journals.Batch.{Batch}
+use Rattle.mas_types.specs.declared.journals.Entry.{Entry}
+use Rattle.mas_types.specs.declared.queues.Queue.{Queue}
+use Rattle.lock_cycle.specs.Books.{Book}
+use Rattle.spool_plant.specs.View.{Line}
+use Rattle.spool_plant.specs.declared.plant.Plant.{Ghosts as PlantGhosts}
+use Rattle.ckpt_copy.specs.declared.copying.Copying.{Ghosts as CopyGhosts}
+use Rattle.mas_complex.specs.declared.complex.Complex.{Complex}
+use Rattle.mas_complex.specs.declared.renewals.Renewals.{Renewals}
+use Rattle.ckpt_form.specs.declared.steady.Steady.{Ghosts as SteadyGhosts}
+use Rattle.mas_complex.specs.Parts.{parts_of}
+use Rattle.mas_complex.specs.Texts.{Spools}
+use Rattle.member_node.specs.declared.member.Member.{Member}
+use Rattle.member_node.specs.declared.member.NodeNo.{NodeNo}
+use Rattle.member_node.specs.declared.member.NodeNo.TheVariants.{BothLost, Halted, ConsoleFault, NoMemory}
+use Rattle.member_node.specs.Calls.{console_now}
+use Rattle.member_steps.specs.Steps.{StepTells}
+use Rattle.member_decks.specs.Batches.{HasAll}
+use Rattle.member_work.specs.Steps.{WorkLeaves}
+use Rattle.step_turns.specs.Batches.{cut}
+use Rattle.step_turns.specs.Courses.{sittings_most}
+use Rattle.step_turns.specs.Entries.{all_entries}
+use Rattle.step_turns.specs.Laws.{units_done, units_left}
+use Rattle.step_turns.specs.Sittings.{Sitting, released, sitting_of}
+use Rattle.step_turns.specs.declared.states.Aside.{Aside}
+use Rattle.step_turns.specs.declared.states.Aside.TheVariants.{Acknowledge, Exchange, PrintLines, ReadText, SpoolArrival, SpoolDeck, SpoolOutputs}
+use Rattle.step_turns.specs.declared.states.Found.{Found}
+use Rattle.step_turns.specs.declared.states.Holder.{Holder}
+use Rattle.step_turns.specs.declared.states.State.{State}
+use Rattle.step_turns.specs.declared.states.State.TheVariants.{Away}
+use Rattle.step_turns.specs.Turns.{Turn, turn}
+use Rattle.step_turns.proofs.Cutting.{cut_entries}
+use Rattle.member_sittings.specs.declared.ends.SittingEnd.{SittingEnd}
+use Rattle.member_sittings.specs.Left.{HasSaid}
+use Rattle.member_sittings.specs.Sat.{HasSat, IsEndOf, IsSat, sat_in}
+use Rattle.member_sittings.specs.Shapes.{Says, SaysWork}
+use Rattle.member_sittings.specs.Tight.{IfNoWork}
+use Rattle.member_sittings.proofs.ReachLemmas.{LeftBy, by_all, by_cut_wanted, by_thirds_halted, by_thirds_lost, said_all, said_broken, said_none, said_some}
+use Rattle.member_giving.specs.Plays.{EndsAs, IsWithin, Plays, PlaysAs, Wrote, bounds, wrote_of}
+use Rattle.member_asides.specs.Ready.{MayResume}
+use Rattle.member_giving.specs.Works.{Run, outside, place_of, queue_kept, run_of}
+use Rattle.member_giving.proofs.Working.{AtWork, none_flies}
+
+-- by the answer: what is left in the journal
+left_by : (r : Result SittingEnd NodeNo) (by : MemberId) (from now : ℕ) (ess : List (List Entry)) (more : List Batch) → WorkLeaves r by from now ess more → LeftBy by from now ess more r
+left_by (Ok e) by from now ess more all = by_all by from now ess more (Ok e) all
+left_by (Err ConsoleFault) by from now ess more all = by_all by from now ess more (Err ConsoleFault) all
+left_by (Err NoMemory) by from now ess more leaves = ⊎_elim (λ cut. by_cut_wanted by from now ess more cut) (λ all. by_all by from now ess more (Err NoMemory) all) leaves
+left_by (Err BothLost) by from now ess more leaves = by_thirds_lost by from now ess more leaves
+left_by (Err Halted) by from now ess more leaves = by_thirds_halted by from now ess more leaves
+
+-- by the answer: what was said on the console
+said_by : (r : Result SittingEnd NodeNo) (A : Type 0) (lines : List (List ℕ)) (was now : List Line) → (r ≡ Err ConsoleFault → A) → ((e : SittingEnd) → r ≡ Ok e → A) → StepTells r lines A was now → HasSaid A lines was now r
+said_by (Ok e) A lines was now fault ok tells = said_all lines was now A e (ok e refl) tells
+said_by (Err ConsoleFault) A lines was now fault ok tells = said_some lines was now A tells.0 (fault refl) tells.1 tells.2
+said_by (Err NoMemory) A lines was now fault ok tells = said_none lines was now A NoMemory (λ e. absurd (cc)) tells
+said_by (Err BothLost) A lines was now fault ok tells = said_none lines was now A BothLost (λ e. absurd (cc)) tells
+said_by (Err Halted) A lines was now fault ok tells = ⊎_elim (λ none. said_none lines was now A Halted (λ e. absurd (cc)) none) (λ some. said_broken lines was now A some.1 some.0 some.2 some.3) tells
+
+all_where : (r : Result SittingEnd NodeNo) (by : MemberId) (from now : ℕ) (ess : List (List Entry)) (front batches rest : List Batch) → batches ≡ front ++ rest → WorkLeaves r by from now ess rest → (r ≡ Err ConsoleFault → HasAll by from now ess front batches) × ((e : SittingEnd) → r ≡ Ok e → HasAll by from now ess front batches)
+all_where (Ok e) by from now ess front batches rest are all = (λ is. absurd (cc), λ x is. (rest, are, all))
+all_where (Err ConsoleFault) by from now ess front batches rest are all = (λ is. (rest, are, all), λ x is. absurd (cc))
+all_where (Err NoMemory) by from now ess front batches rest are all = (λ is. absurd (cc), λ x is. absurd (cc))
+all_where (Err BothLost) by from now ess front batches rest are all = (λ is. absurd (cc), λ x is. absurd (cc))
+all_where (Err Halted) by from now ess front batches rest are all = (λ is. absurd (cc), λ x is. absurd (cc))
+
+-- a whole sitting, by what it writes
+abbrev pub sitting_as : Holder → Wrote → Sitting
+sitting_as h w = record { batches = w.batches; next = w.next; lines = w.lines; release = released h.grant h.hold (length (all_entries w.batches)) w.next }
+
+pub sits_as : (h : Holder) (t : Turn) (w : Wrote) → w ≡ wrote_of [] t → sitting_as h w ≡ sitting_of h t
+sits_as h t w is =
+    ap (sitting_as h) is ∙ ap (λ (es : List Entry). record { batches = cut [] t.parts; next = t.next; lines = t.lines; release = released h.grant h.hold (length es) t.next }) (cut_entries [] t.parts)
+
+ends_as : (h : Holder) (w : Wrote) (r : Result SittingEnd NodeNo) → IfOk r (EndsAs h 0 [] w) → IfOk r (IsEndOf (sitting_as h w))
+ends_as h w (Ok e) ends =
+    let all : e.given ≡ length (all_entries w.batches) = let is = ends.1 in omega (arith, is) in
+    record { next = ends.0; given = all; release = ends.2 ∙ ap (λ (n : ℕ). released h.grant h.hold n e.next) all ∙ ap (λ (s : State). released h.grant h.hold (length (all_entries w.batches)) s) ends.0 }
+ends_as h w (Err why) ends = tt
+
+-- a sitting after acts that work waited for plays units
+pub plays_units : (told : Type 0) (Q : Queue) (by : MemberId) (disks : Spools) (counts : MemberId → ℕ) (a : Aside) (found : Found) → MayResume told Q by disks counts a found → (A : Type 0) → IfNoWork (Away a) A
+plays_units told Q by disks counts (SpoolDeck n text) found may A = absurd may
+plays_units told Q by disks counts (ReadText runs n fields p) found may A = tt
+plays_units told Q by disks counts (SpoolOutputs n specs p) found may A = tt
+plays_units told Q by disks counts (PrintLines n i last p) found may A = tt
+plays_units told Q by disks counts (Exchange l offer) found may A = absurd may
+plays_units told Q by disks counts (SpoolArrival number job cards service) found may A = absurd may
+plays_units told Q by disks counts (Acknowledge number service) found may A = absurd may
+
+-- and closes as work does
+pub says_units : (told : Type 0) (Q : Queue) (by : MemberId) (disks : Spools) (counts : MemberId → ℕ) (h : Holder) (a : Aside) (found : Found) → MayResume told Q by disks counts a found → (t : Sitting) → SaysWork h (Away a) found t → Says h (Away a) found t
+says_units told Q by disks counts h (SpoolDeck n text) found may t says = absurd may
+says_units told Q by disks counts h (ReadText runs n fields p) found may t says = says
+says_units told Q by disks counts h (SpoolOutputs n specs p) found may t says = says
+says_units told Q by disks counts h (PrintLines n i last p) found may t says = says
+says_units told Q by disks counts h (Exchange l offer) found may t says = absurd may
+says_units told Q by disks counts h (SpoolArrival number job cards service) found may t says = absurd may
+says_units told Q by disks counts h (Acknowledge number service) found may t says = absurd may
+
+module _ {P C : Type 0} {plants : PlantGhosts P} {steadies : SteadyGhosts C} {copies : CopyGhosts C} where
+  pub frame_of : (x y : Complex P C plants steadies copies) (m n : Member) → run_of y n ≡ run_of x m → parts_of y ≡ sat_in (parts_of y) (parts_of x)
+  frame_of x y m n same =
+      let base : y.base ≡ x.base = ap (λ (r : Run). r.base) same in
+      let since : y.since ≡ x.since = ap (λ (r : Run). r.since) same in
+      let renewals : y.renewals ≡ x.renewals = ap (λ (r : Run). r.renewals) same in
+      let book : y.book ≡ x.book = ap (λ (r : Run). r.book) same in
+      ap (λ (b : Book). record (parts_of y) { book = b }) book ∙ ap (λ (q : Queue). record (parts_of y) { book = x.book; base = q }) base ∙ ap (λ (n : ℕ). record (parts_of y) { book = x.book; base = x.base; since = n }) since
+      ∙ ap (λ (rs : Renewals). record (parts_of y) { book = x.book; base = x.base; since = x.since; renewals = rs }) renewals
+
+  -- what a sitting played from its beginning on, whatever bounds it
+  pub sat_played : (x y : Complex P C plants steadies copies) (m : Member) (h : Holder) (Fits : Wrote → Type 0) (w : Wrote) (r : Result SittingEnd NodeNo) → m.batch ≡ [] → AtWork x m
+      → (p : PlaysAs plants.tells h Fits 0 w (place_of x m) (outside y) r) → IsSat plants h.by (sitting_as h p.wrote) (parts_of x) (parts_of y) r
+  sat_played x y m h Fits w r nothing work p =
+      let c = p.closes in
+      let front = none_flies x m work in
+      let are = c.batches_are ∙ ap (λ (bs : List Batch). bs ++ c.rest) front in
+      let left = left_by r h.by (plants.view x.plant).now (plants.view y.plant).now p.wrote.batches c.rest c.journal in
+      let all = all_where r h.by (plants.view x.plant).now (plants.view y.plant).now p.wrote.batches x.journal.batches (outside y).batches c.rest are c.journal in
+      record {
+        acts = record { course = c.course; loses = c.loses; others = p.spares.others; papers = p.spares.papers; wires = p.spares.wires; spares = c.spares; cause = c.cause; notes = p.spares.notes };
+        reach = left.reach;
+        more = c.rest;
+        journal = are;
+        left = left.left;
+        reached = left.reached;
+        console = λ t. said_by r (HasAll h.by (plants.view x.plant).now (plants.view y.plant).now p.wrote.batches x.journal.batches (outside y).batches) p.wrote.lines (console_now (plants.view x.plant)) (console_now (plants.view y.plant)) all.0 all.1
+            (subst (λ (bs : List Batch). StepTells r p.wrote.lines (HasAll h.by (plants.view x.plant).now (plants.view y.plant).now p.wrote.batches bs (outside y).batches) (console_now (plants.view x.plant)) (console_now (plants.view y.plant))) front (c.console t));
+        counts = p.counts;
+        ends = ends_as h p.wrote r (subst (λ (es : List Entry). IfOk r (EndsAs h 0 es p.wrote)) nothing p.ends);
+      }
+
+  pub sat_of : (x y : Complex P C plants steadies copies) (m : Member) (h : Holder) (s : State) (found : Found) (w : Wrote) (r : Result SittingEnd NodeNo) → ((A : Type 0) → IfNoWork s A) → ((t : Sitting) → SaysWork h s found t → Says h s found t) → m.batch ≡ [] → AtWork x m → (plants.tells → w ≡ wrote_of [] (turn h (queue_kept x) s found))
+      → Plays plants.tells h (bounds (sittings_most s) (units_done s + units_left s) found) 0 w (place_of x m) (outside y) r → HasSat (record { holder = h; state = s; found = found }) x y r
+  sat_of x y m h s found w r units says nothing work is p = record {
+    sitting = sitting_as h p.wrote;
+    is = λ t. sits_as h (turn h (queue_kept x) s found) p.wrote (p.is t ∙ is t);
+    of = p.of;
+    shaped = record { few = p.within.few; release = refl; says = says (sitting_as h p.wrote) p.within.says };
+    sat = sat_played x y m h (IsWithin h (bounds (sittings_most s) (units_done s + units_left s) found)) w r nothing work p;
+    tight = units _;
+  }

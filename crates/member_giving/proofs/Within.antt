@@ -1,0 +1,293 @@
+-- What a sitting of work may come to on every plant: how many batches, and which lines.
+use Rattle.std.proofs.Common.{◌≡◌, inl, inr, ℕ, zero, suc, ◌+◌, ◌*◌, ◌≤◌, Bool, true, false, List, [], ◌∷◌, ◌++◌, length, Option, Some, None, ap, refl, arith}
+use Rattle.std.specs.Option.{option_map_or}
+use Rattle.std.specs.Prelude.{IfSome}
+use Rattle.mas_types.specs.declared.answers.Closing.{Closing}
+use Rattle.mas_types.specs.declared.answers.Closing.TheVariants as closing
+use Rattle.mas_types.specs.declared.commands.Command.{Command}
+use Rattle.mas_types.specs.declared.commands.Command.TheVariants as command
+use Rattle.mas_types.specs.declared.commands.Reply.{Reply}
+use Rattle.mas_types.specs.declared.commands.Reply.TheVariants as reply
+use Rattle.mas_types.specs.declared.ids.JobNo.{JobNo}
+use Rattle.mas_types.specs.declared.jobs.Job.{Job}
+use Rattle.mas_types.specs.declared.jobs.JobFields.{JobFields}
+use Rattle.mas_types.specs.declared.jobs.OutSpec.{OutSpec}
+use Rattle.mas_types.specs.declared.jobs.Output.{Output}
+use Rattle.mas_types.specs.declared.journals.Entry.{Entry}
+use Rattle.mas_types.specs.declared.queues.Queue.{Queue}
+use Rattle.mas_types.specs.declared.units.Unit as work
+use Rattle.mas_types.specs.declared.units.Unit.TheVariants as unit
+use Rattle.mas_types.specs.Queue.{job_at, output_at}
+use Rattle.mas_types.specs.Run.{run}
+use Rattle.mas_types.specs.Units.{unit_of}
+use Rattle.queue_laws.proofs.Finds.{test_cases}
+use Rattle.job_outcome.specs.declared.outcomes.Outcome.{Outcome}
+use Rattle.job_outcome.specs.declared.outcomes.Outcome.TheVariants as outcome
+use Rattle.job_outcome.specs.declared.outcomes.Read.{Read}
+use Rattle.job_outcome.specs.declared.outcomes.Read.TheVariants as read
+use Rattle.job_outcome.specs.declared.units.UnitEnd.{UnitEnd}
+use Rattle.job_outcome.specs.declared.units.UnitEnd.TheVariants as ends
+use Rattle.job_outcome.specs.Meaning.{listed}
+use Rattle.job_outcome.specs.Next.{end_by}
+use Rattle.job_outcome.specs.Outcomes.{converted_as, outcome_of, outcome_of_text}
+use Rattle.member_work.specs.Causes.{IsAnswered}
+use Rattle.member_work.proofs.CauseLemmas.{reply_answered}
+use Rattle.step_turns.specs.Batches.{cut, cut_after, is_full}
+use Rattle.step_turns.specs.Courses.{sittings_most}
+use Rattle.step_turns.specs.Decks.{are_refused, takes}
+use Rattle.step_turns.specs.Entries.{closing_reply}
+use Rattle.step_turns.specs.JobEnds.{ending, groups_for_end, printed_end, taking}
+use Rattle.step_turns.specs.declared.states.Aside.TheVariants.{SpoolOutputs}
+use Rattle.step_turns.specs.declared.states.Found.{Found}
+use Rattle.step_turns.specs.declared.states.Holder.{Holder}
+use Rattle.step_turns.specs.declared.states.Progress.{Progress}
+use Rattle.step_turns.specs.declared.states.State.{State}
+use Rattle.step_turns.specs.declared.states.State.TheVariants.{Away, Fresh, Rested, Told}
+use Rattle.step_turns.specs.Turns.{Turn, Units, after_part, closes_as, ends_with, gives, goes_on, goes_on_by, groups_taken, is_spent, job_ends, leaves, next_unit, no_more, one_command, prints_output, reads_job, text_read, units_from}
+use Rattle.member_sittings.specs.Shapes.{MayCloseBy, MayEndBy, MayRefuseBy, SaysAtEnd, WorkLines}
+use Rattle.member_giving.specs.Plays.{IsWithin, MayStopBy, Wrote, after_full, bounds, full_of, unwritten, wrote_after, wrote_of}
+
+-- HOW MANY BATCHES
+
+pub unwritten_one : (es : List Entry) → unwritten es ≤ 1
+unwritten_one [] = omega arith
+unwritten_one (e ∷ es) = omega arith
+
+unwritten_full : (es : List Entry) → is_full es ≡ true → unwritten es ≡ 1
+unwritten_full [] full = absurd (cc)
+unwritten_full (e ∷ es) full = refl
+
+-- each part gives one batch at most
+pub cut_few : (es : List Entry) (parts : List (List Entry)) → length (cut es parts) ≤ unwritten es + length parts
+cut_few es [] = omega arith
+cut_few es (p ∷ parts) =
+    test_cases (is_full (es ++ p)) (length (cut es (p ∷ parts)) ≤ unwritten es + length (p ∷ parts))
+    (λ full. let rest = cut_few [] parts in rw full (omega (arith, rest)))
+    (λ few. let rest = cut_few (es ++ p) parts in let one = unwritten_one (es ++ p) in rw few (omega (arith, rest, one)))
+
+pub after_few : (es : List Entry) (parts : List (List Entry)) → length (cut_after es (λ more. cut more parts)) ≤ unwritten es + length parts
+after_few es parts =
+    test_cases (is_full es) (length (cut_after es (λ more. cut more parts)) ≤ unwritten es + length parts)
+    (λ full. let rest = cut_few [] parts in let one = unwritten_full es full in rw full (omega (arith, rest, one)))
+    (λ few. let rest = cut_few es parts in rw few rest)
+
+-- what is full is written, or it isn't
+pub full_few : (es : List Entry) → length (full_of es) + unwritten (after_full es) ≡ unwritten es
+full_few es =
+    test_cases (is_full es) (length (full_of es) + unwritten (after_full es) ≡ unwritten es)
+    (λ full. let one = unwritten_full es full in rw full (omega (arith, one)))
+    (λ few. rw few (omega arith))
+
+-- so with what follows then
+pub full_le : (es fs : List Entry) (x most : ℕ) → fs ≡ after_full es → x + 1 ≤ most → length (full_of es) + (x + unwritten fs) ≤ most
+full_le es fs x most is le =
+    let both = full_few es in
+    let one = unwritten_one es in
+    let same : unwritten fs ≡ unwritten (after_full es) = ap unwritten is in
+    omega (arith, both, one, same, le)
+
+-- HOW IT MAY CLOSE
+
+pub answered_by : (found : Found) (e : UnitEnd) → IsAnswered e → MayEndBy found e
+answered_by found ends.Done a = tt
+answered_by found ends.Idle a = tt
+answered_by found (ends.Refused end) a = refused end a where
+  by_reply : (r : Reply) → IsAnswered (ends.Refused (closing.Reply r)) → MayEndBy found (ends.Refused (closing.Reply r))
+  by_reply (reply.No why) a = tt
+  by_reply reply.Plain a = absurd a
+  by_reply (reply.Job n) a = absurd a
+  by_reply (reply.Output n i) a = absurd a
+  by_reply (reply.Count n) a = absurd a
+  by_reply (reply.Shown lines) a = absurd a
+
+  refused : (end : Closing) → IsAnswered (ends.Refused end) → MayEndBy found (ends.Refused end)
+  refused (closing.Reply r) a = by_reply r a
+  refused (closing.NoText group) a = absurd a
+  refused (closing.SpoolLost volume) a = absurd a
+  refused closing.PrinterLost a = absurd a
+  refused (closing.DoneUnits n) a = absurd a
+  refused (closing.Busy m) a = absurd a
+  refused (closing.Dormant tick) a = absurd a
+  refused closing.Down a = absurd a
+  refused closing.Stopped a = absurd a
+  refused (closing.Up m) a = absurd a
+  refused (closing.ResetOf m) a = absurd a
+  refused closing.NotHolder a = absurd a
+  refused (closing.BadCard card cause) a = absurd a
+  refused (closing.LineLost line) a = absurd a
+  refused (closing.NotLost copy) a = absurd a
+  refused (closing.CkptLost copy) a = absurd a
+  refused (closing.Line sent got) a = absurd a
+
+-- by what was found
+
+pub stops_by : (runs : Bool) (fields : JobFields) (found : Found) → MayStopBy found (outcome_of runs fields found.read)
+stops_by runs fields found = by_read found.read refl where
+  listed_as : (line : Option (List ℕ)) → MayStopBy found (converted_as fields line)
+  listed_as None = tt
+  listed_as (Some line) = tt
+
+  by_text : (runs : Bool) (text : List (List ℕ)) → MayStopBy found (outcome_of_text runs fields text)
+  by_text true text = tt
+  by_text false text = listed_as (listed fields text)
+
+  by_read : (r : Read) → found.read ≡ r → MayStopBy found (outcome_of runs fields r)
+  by_read (read.Lines text) is = by_text runs text
+  by_read (read.Gone group) is = is
+  by_read (read.Lost volume) is = inr is
+
+pub prints_by : (found : Found) → IfSome (printed_end found.printer found.read) (MayRefuseBy found)
+prints_by found = by_read found.printer found.read refl refl where
+  by_read : (lost : Bool) (r : Read) → found.printer ≡ lost → found.read ≡ r → IfSome (printed_end lost r) (MayRefuseBy found)
+  by_read lost (read.Gone group) printer is = is
+  by_read lost (read.Lost volume) printer is = inr is
+  by_read true (read.Lines lines) printer is = printer
+  by_read false (read.Lines lines) printer is = tt
+
+pub lost_by : (lost : Option ℕ) → IfSome lost (λ volume. lost ≡ Some volume)
+lost_by None = tt
+lost_by (Some volume) = refl
+
+-- more units may be done
+more_closings : (units more : ℕ) (found : Found) (end : Closing) → units ≤ more → MayCloseBy units found end → MayCloseBy more found end
+more_closings units more found end le (inl done) = let few = done.1 in inl (done.0, omega (arith, le, few), done.2)
+more_closings units more found end le (inr refused) = inr refused
+
+-- THE TURN
+
+module _ (h : Holder) (found : Found) where
+  -- what is known of a turn
+  pub record TurnWithin (most units : ℕ) (t : Turn) : Type 0 where
+    pub few : length t.parts + sittings_most t.next ≤ most
+    pub says : SaysAtEnd t.next (WorkLines h units found) t.lines
+
+  closes_within : (most units : ℕ) (end : Closing) → MayCloseBy units found end → TurnWithin most units (closes_as h end)
+  closes_within most units end may = record { few = omega arith; says = (end, refl, may) }
+
+  done_within : (most units done : ℕ) → done ≤ units → TurnWithin most units (no_more h done)
+  done_within most units done le = closes_within most units (closing.DoneUnits done) (inl (done, le, refl))
+
+  waits_within : (most units : ℕ) (s : State) → sittings_most s ≤ most → SaysAtEnd s (WorkLines h units found) [] → TurnWithin most units (leaves s)
+  waits_within most units s few says = record { few = omega (arith, few); says = says }
+
+  pub part_within : (most units : ℕ) (es : List Entry) (t : Turn) → TurnWithin most units t → TurnWithin (most + 1) units (after_part es t)
+  part_within most units es t w = record { few = let few = w.few in omega (arith, few); says = w.says }
+
+  more_within : (most least units : ℕ) (t : Turn) → least ≤ most → TurnWithin least units t → TurnWithin most units t
+  more_within most least units t le w = record { few = let few = w.few in omega (arith, few, le); says = w.says }
+
+  abbrev AllWithin : ℕ → Units → Type 0
+  AllWithin left more = (most units : ℕ) (Q : Queue) (given done : ℕ) → done + left ≤ units → 3 * left + 1 ≤ most → TurnWithin most units (more Q given done)
+
+  on_within : (left : ℕ) (more : Units) → AllWithin left more → AllWithin left (goes_on h left more)
+  on_within zero more all most units Q given done few le = all most units Q given done few le
+  on_within (suc left) more all most units Q given done few le =
+      test_cases (is_spent h.grant h.hold given) (TurnWithin most units (goes_on h (suc left) more Q given done))
+      (λ spent. rw spent (waits_within most units (Rested (record { done = done; left = suc left })) le refl))
+      (λ on. rw on (all most units Q given done few le))
+
+  by_within : (e : UnitEnd) → MayEndBy found e → (left : ℕ) (more : Units) → AllWithin left more → (most units : ℕ) (Q : Queue) (given done : ℕ) → done + 1 + left ≤ units → 3 * left + 1 ≤ most → TurnWithin most units (goes_on_by h e left more Q given done)
+  by_within ends.Done may left more all most units Q given done few le = on_within left more all most units Q given (done + 1) few le
+  by_within ends.Idle may left more all most units Q given done few le = done_within most units done (omega (arith, few))
+  by_within (ends.Refused end) may left more all most units Q given done few le = closes_within most units end (inr may)
+
+  one_within : (c : Command) (left : ℕ) (more : Units) → AllWithin left more → (most units : ℕ) (Q : Queue) (given done : ℕ) → done + suc left ≤ units → 3 * suc left + 1 ≤ most → TurnWithin most units (one_command h c left more Q given done)
+  one_within c left more all most units Q given done few le =
+      let es = gives h Q (c ∷ []) in
+      let end = end_by (closing_reply es) in
+      let then = by_within end (answered_by found end (reply_answered (closing_reply es))) left more all (3 * left + 1) units (run Q es) (given + length es) done (omega (arith, few)) (omega arith) in
+      more_within most (3 * left + 1 + 1) units (one_command h c left more Q given done) (omega (arith, le)) (part_within (3 * left + 1) units es _ then)
+
+  next_within : (u : work.Unit) (left : ℕ) (more : Units) → AllWithin left more → (most units : ℕ) (Q : Queue) (given done : ℕ) → done + suc left ≤ units → 3 * suc left + 1 ≤ most → TurnWithin most units (next_unit h u left more Q given done)
+  next_within u left more all most units Q given done few le = by_unit u where
+    none : TurnWithin most units (no_more h done)
+    none = done_within most units done (omega (arith, few))
+
+    job : (runs : Bool) (o : Option Job) → TurnWithin most units (option_map_or (reads_job h runs left done) o (no_more h done))
+    job runs None = none
+    job runs (Some j) = waits_within most units (reads_job h runs left done j).next (omega (arith, le)) refl
+
+    output : (o : Option Output) → TurnWithin most units (option_map_or (prints_output h Q left done) o (no_more h done))
+    output None = none
+    output (Some o) = waits_within most units (prints_output h Q left done o).next (omega (arith, le)) refl
+
+    by_unit : (u : work.Unit) → TurnWithin most units (next_unit h u left more Q given done)
+    by_unit (unit.Print n i) = output (output_at Q n i)
+    by_unit (unit.Finish n i) = one_within (command.Done n i) left more all most units Q given done few le
+    by_unit unit.Pick = one_within command.Pick left more all most units Q given done few le
+    by_unit unit.Purge = one_within command.Purge left more all most units Q given done few le
+    by_unit unit.Gather = one_within command.Gather left more all most units Q given done few le
+    by_unit (unit.Run n) = job true (job_at Q n)
+    by_unit (unit.Convert n) = job false (job_at Q n)
+    by_unit unit.TakeExec = one_within command.TakeExec left more all most units Q given done few le
+    by_unit unit.TakeConvert = one_within command.TakeConvert left more all most units Q given done few le
+    by_unit unit.Idle = none
+
+  -- units one after another
+  units_within : (left : ℕ) → AllWithin left (units_from h left)
+  units_within zero most units Q given done few le = done_within most units done (omega (arith, few))
+  units_within (suc left) most units Q given done few le = next_within (unit_of Q h.by) left (units_from h left) (units_within left) most units Q given done few le
+
+  -- what follows a unit
+  pub goes_within : (e : UnitEnd) → MayEndBy found e → (most units left : ℕ) (Q : Queue) (given done : ℕ) → done + 1 + left ≤ units → 3 * left + 1 ≤ most → TurnWithin most units (goes_on_by h e left (units_from h left) Q given done)
+  goes_within e may most units left Q given done few le = by_within e may left (units_from h left) (units_within left) most units Q given done few le
+
+  -- what follows once a job's text was read
+  module _ (most units : ℕ) (Q : Queue) (n : JobNo) (p : Progress) (few : p.done + 1 + p.left ≤ units) (le : 3 * p.left + 3 ≤ most) where
+    ends_within : (es : List Entry) → TurnWithin most units (ends_with h es p Q)
+    ends_within es =
+        let end = end_by (closing_reply es) in
+        more_within most (3 * p.left + 1 + 1) units (ends_with h es p Q) (omega (arith, le))
+        (part_within (3 * p.left + 1) units es _ (goes_within end (answered_by found end (reply_answered (closing_reply es))) (3 * p.left + 1) units p.left (run Q es) (0 + length es) p.done few (omega arith)))
+
+    taken_within : (refused : Bool) (needed : ℕ) (specs : List OutSpec) → TurnWithin most units (groups_taken h refused needed Q n specs p)
+    taken_within true needed specs = ends_within (gives h Q (taking Q h.by needed))
+    taken_within false needed specs =
+        more_within most (3 * p.left + 2 + 1) units (groups_taken h false needed Q n specs p) (omega (arith, le))
+        (part_within (3 * p.left + 2) units (gives h Q (takes needed Q h.by needed)) _ (waits_within (3 * p.left + 2) units (Away (SpoolOutputs n specs p)) (omega arith) refl))
+
+    job_within : (needed : ℕ) (specs : List OutSpec) → TurnWithin most units (job_ends h needed Q n specs p)
+    job_within zero specs = ends_within (gives h Q (ending Q h.by n specs))
+    job_within (suc needed) specs = taken_within (are_refused (suc needed) Q h.by (suc needed)) (suc needed) specs
+
+    pub text_within : (o : Outcome) → MayStopBy found o → TurnWithin most units (text_read h o Q n p)
+    text_within outcome.Convert may = ends_within (gives h Q (command.Converted n ∷ []))
+    text_within (outcome.End specs) may = job_within (groups_for_end Q n specs) specs
+    text_within (outcome.Stop end) may = closes_within most units end (inr may)
+
+-- WHAT IT WRITES
+
+module _ (h : Holder) (found : Found) (units : ℕ) where
+  abbrev Within : ℕ → Wrote → Type 0
+  Within most w = IsWithin h (bounds most units found) w
+
+  pub wrote_within : (most : ℕ) (es : List Entry) (t : Turn) (least : ℕ) → least + unwritten es ≤ most → TurnWithin h found least units t → Within most (wrote_of es t)
+  wrote_within most es t least le w = record { few = let few = w.few in let all = cut_few es t.parts in omega (arith, few, all, le); says = w.says }
+
+  pub after_within : (most : ℕ) (es : List Entry) (t : Turn) (least : ℕ) → least + unwritten es ≤ most → TurnWithin h found least units t → Within most (wrote_after es t)
+  after_within most es t least le w = record { few = let few = w.few in let all = after_few es t.parts in omega (arith, few, all, le); says = w.says }
+
+  pub close_within : (es : List Entry) (end : Closing) → MayCloseBy units found end → Within (unwritten es) (wrote_of es (closes_as h end))
+  close_within es end may = record { few = omega arith; says = (end, refl, may) }
+
+  pub leave_within : (es : List Entry) (s : State) → (s ≡ Told → ⊥) → Within (sittings_most s + unwritten es) (wrote_of es (leaves s))
+  leave_within es s goes = record { few = omega arith; says = silent s goes } where
+    silent : (s : State) → (s ≡ Told → ⊥) → SaysAtEnd s (WorkLines h units found) []
+    silent (Fresh task) goes = refl
+    silent (Away aside) goes = refl
+    silent (Rested p) goes = refl
+    silent Told goes = absurd (goes refl)
+
+  pub pause_within : (most : ℕ) (es part : List Entry) (s : State) → (s ≡ Told → ⊥) → sittings_most s + 1 + unwritten es ≤ most → Within most (wrote_of es (after_part part (leaves s)))
+  pause_within most es part s goes le =
+      let w = leave_within [] s goes in
+      wrote_within most es (after_part part (leaves s)) (sittings_most s + 1) le (part_within h found (sittings_most s) units part (leaves s) (record { few = omega arith; says = w.says }))
+
+-- bounds that leave more
+pub more_wrote : (h : Holder) (found : Found) (most least units fewer : ℕ) (w : Wrote) → least ≤ most → fewer ≤ units → IsWithin h (bounds least fewer found) w → IsWithin h (bounds most units found) w
+more_wrote h found most least units fewer w le less b = record { few = let few = b.few in omega (arith, few, le); says = more w.next b.says } where
+  more : (s : State) → SaysAtEnd s (WorkLines h fewer found) w.lines → SaysAtEnd s (WorkLines h units found) w.lines
+  more (Fresh task) said = said
+  more (Away aside) said = said
+  more (Rested p) said = said
+  more Told said = (said.0, said.1, more_closings fewer units found said.0 less said.2)

@@ -1,0 +1,16 @@
+use Rattle.std.proofs.Common.{◌≡◌, ◌≤◌, ◌∙◌, ℕ, Option, ap, subst}
+use Rattle.std.specs.Prelude.{option_copied}
+use Rattle.std.specs.Option.{option_map_or}
+use Rattle.mas_types.specs.declared.queues.Setting.{Setting}
+use Rattle.mas_types.specs.Limits.{printer_lines_most}
+use Rattle.paper_laws.specs.Next.{limit_of}
+use Rattle.member_decks.proofs.OpenLemmas.{tells_some}
+use Rattle.member_work.proofs.PrintedLemmas.{limit_most}
+use Rattle.member_work.proofs.chunks.limit_at.Goals as goal
+
+pub returns-in-Some-clause-most : goal.returns-in-Some-clause-most
+returns-in-Some-clause-most c =
+    let t = c.args.tables.now in
+    let s = tells_some t in
+    let same : limit_of s.0 c.args.by ≡ c.in-Some.setting.now.lines = ap (λ (o : Option Setting). option_map_or (λ x. x.lines) o 0) (c.setting.ensures s.0 s.1 ∙ ap option_copied c.in-Some.is) in
+    subst (λ (n : ℕ). n ≤ printer_lines_most) same (limit_most t s.0 c.args.by c.requires.spelled s.1)

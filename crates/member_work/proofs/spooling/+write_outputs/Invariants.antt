@@ -1,5 +1,0 @@
-use Rattle.std.proofs.Common.{length}
-use Rattle.member_work.proofs.spooling.+write_outputs.Given as goal
-
-abbrev pub decreases-write_outputs : goal.decreases-write_outputs
-decreases-write_outputs g l = length l.specs.now
