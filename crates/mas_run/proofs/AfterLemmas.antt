@@ -19,6 +19,7 @@ use Rattle.ckpt_tables.specs.Shape.{page_count}
 use Rattle.mas_complex.specs.Journals.{AreSettled, in_flight}
 use Rattle.mas_complex.specs.Parts.{Parts}
 use Rattle.member_node.specs.declared.member.Member.{Member}
+use Rattle.member_steps.specs.Noting.{OtherNotesStay}
 use Rattle.member_sittings.specs.Whole.{HasUntold, IsSeat}
 use Rattle.member_hand.specs.Quiet.{IsAside, IsQuiet}
 use Rattle.mas_run.specs.Lines.{Proceeds}
@@ -42,8 +43,8 @@ earlier_now at bs c none are =
     subst (λ (js : List Batch). All (IsOfEarlier at) js) (ap (λ (o : Option Batch). bs ++ in_flight o) none ∙ append-nil bs) are
 
 module _ {P C : Type 0} (plants : PlantGhosts P) (copies : CopyGhosts C) (x y : Parts P C) (base : y.base ≡ x.base) (since : Since x.book y.book) (by : MemberId)
-    (holder : (y.book.holder ≡ by) ⊎ (y.book.holder ≡ nobody)) where
-  -- THE OTHER MEMBERS are as they were: none of them holds the lock
+    (holder : (y.book.holder ≡ by) ⊎ (y.book.holder ≡ nobody)) (notes : OtherNotesStay by x.had y.had) where
+  -- THE OTHER MEMBERS are as they were: none of them holds the lock, and what they noted stays
 
   other_holds : (j : ℕ) (k : MemberId) → 1 ≤ j → k ≡ record { 0 = j } → (j ≡ by.0 → ⊥) → is_holder y.book k ≡ true → ⊥
   other_holds j k some id other holds =
@@ -59,6 +60,7 @@ module _ {P C : Type 0} (plants : PlantGhosts P) (copies : CopyGhosts C) (x y : 
       config = ap (λ (Q : Queue). Q.config) base ∙ (is.up (since.up m.id up)).config;
       many = (is.up (since.up m.id up)).many ∙ ap (λ (Q : Queue). page_count Q.config) (sym base);
       idle = (is.up (since.up m.id up)).idle;
+      noted = λ t read. notes m.id.0 (λ same. absurd (other (sym (ap (λ (k : MemberId). k.0) is.id) ∙ same))) ∙ (is.up (since.up m.id up)).noted t read;
       seated = λ holds. absurd (other_holds j m.id some is.id other holds);
     };
   }
@@ -101,7 +103,7 @@ module _ {P C : Type 0} (plants : PlantGhosts P) (copies : CopyGhosts C) (x y : 
     its_member : IsMemberAt plants copies y by.0 n
     its_member = record {
       id = id;
-      up = λ up. record { config = aside.config; many = same_room; idle = aside.idle; seated = λ holds. seat (holds_by holds) };
+      up = λ up. record { config = aside.config; many = same_room; idle = aside.idle; noted = aside.noted; seated = λ holds. seat (holds_by holds) };
     }
 
     quiet_after : IsQuiet plants copies y (page_count y.base.config)

@@ -1,5 +1,5 @@
 -- A run as its lines begin: nobody holds the lock, and each member is idle.
-use Rattle.std.proofs.Common.{◌≡◌, ℕ, zero, suc, ◌+◌, ◌≤◌, min, true, false, List, [], ◌∷◌, ◌++◌, length, replicate, All, Option, Some, None, refl, sym, ◌∙◌, ap, subst, arith}
+use Rattle.std.proofs.Common.{◌≡◌, ℕ, zero, suc, ◌+◌, ◌≤◌, min, Bool, true, false, List, [], ◌∷◌, ◌++◌, length, replicate, All, Option, Some, None, refl, sym, ◌∙◌, ap, subst, arith}
 use Rattle.std.proofs.lemmas.Bool.{eqb-true}
 use Rattle.std.proofs.lemmas.List.Elements.{All-nil, All-cons}
 use Rattle.mas_types.specs.declared.ids.Dev.TheVariants.{Ckpt1, Ckpt2}
@@ -50,9 +50,10 @@ length_new (suc n) a = ap suc (length_new n a)
 -- A MEMBER THAT IS MADE
 
 pub fresh_of : (config : Config) (at : ℕ) (m : Member) → m.id ≡ record { 0 = at } → m.checkpoint.tables.config ≡ config
-    → AreDrawn m.checkpoint.tables m.checkpoint.level m.checkpoint.levels m.checkpoint.pages → m.batch ≡ [] → length m.room ≡ length m.checkpoint.pages → IsFresh config at m
-fresh_of config at m id same drawn nothing many = record {
+    → AreDrawn m.checkpoint.tables m.checkpoint.level m.checkpoint.levels m.checkpoint.pages → m.batch ≡ [] → length m.room ≡ length m.checkpoint.pages → m.fresh ≡ true → IsFresh config at m
+fresh_of config at m id same drawn nothing many fresh = record {
   id = id;
+  fresh = fresh;
   idle = record { nothing = nothing; drawn = drawn; many = many };
   config = same;
   many = many ∙ drawn.spelled.count ∙ ap page_count same;
@@ -95,6 +96,10 @@ none_counted printed is m = ap (λ (l : List ℕ). counts_of l m) is ∙ zero_of
   zero_of zero (suc n) = refl
   zero_of (suc i) (suc n) = zero_of i n
 
+-- one that has read no pages yet has none that it noted
+fresh_read : (fresh : Bool) → fresh ≡ true → fresh ≡ false → ⊥
+fresh_read fresh none read = cc
+
 module _ {P C : Type 0} (plants : PlantGhosts P) (copies : CopyGhosts C) (x : Parts P C) (book : x.book ≡ book_of x.base.config) where
   here : x.book.holder ≡ nobody
   here = ap (λ (b : Book). b.holder) book
@@ -114,6 +119,7 @@ module _ {P C : Type 0} (plants : PlantGhosts P) (copies : CopyGhosts C) (x : Pa
       config = sym fresh.config;
       many = fresh.many;
       idle = fresh.idle;
+      noted = λ t read. absurd (fresh_read m.fresh fresh.fresh read);
       seated = λ holds. absurd (not_holder at m some fresh.id holds);
     };
   }

@@ -109,6 +109,7 @@ module _ {P C : Type 0} (plants : PlantGhosts P) (copies : CopyGhosts C) (x : Pa
       config = (is.up (since.up m.id up)).config;
       many = (is.up (since.up m.id up)).many;
       idle = (is.up (since.up m.id up)).idle;
+      noted = (is.up (since.up m.id up)).noted;
       seated = λ holds. absurd (no_holder j m.id some is.id holds);
     };
   }

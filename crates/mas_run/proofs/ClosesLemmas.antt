@@ -47,19 +47,20 @@ pub record Stays {P C : Type 0} (z w : Parts P C) : Type 0 where
   pub alive2 : w.second_alive ≡ z.second_alive
   pub journal : journal_of w ≡ journal_of z
   pub printed : w.printed ≡ z.printed
+  pub had : w.had ≡ z.had
 
 stays_none : {P C : Type 0} (z : Parts P C) → Stays z z
-stays_none z = record { base = refl; since = refl; renewals = refl; alive1 = refl; alive2 = refl; journal = refl; printed = refl }
+stays_none z = record { base = refl; since = refl; renewals = refl; alive1 = refl; alive2 = refl; journal = refl; printed = refl; had = refl }
 
 pub stays_stopped : {P C : Type 0} (by : MemberId) (z : Parts P C) (r : Result (Unit {0}) NodeNo) → Stays z (stopped_so r by z)
 stays_stopped by z (Ok done) = stays_none z
 stays_stopped by z (Err no_node.BothLost) = stays_none z
 stays_stopped by z (Err no_node.ConsoleFault) = stays_none z
 stays_stopped by z (Err no_node.NoMemory) = stays_none z
-stays_stopped by z (Err no_node.Halted) = record { base = refl; since = refl; renewals = refl; alive1 = refl; alive2 = refl; journal = refl; printed = refl }
+stays_stopped by z (Err no_node.Halted) = record { base = refl; since = refl; renewals = refl; alive1 = refl; alive2 = refl; journal = refl; printed = refl; had = refl }
 
 pub stays_freed : {P C : Type 0} (by : MemberId) (z : Parts P C) (r : Result (Unit {0}) NodeNo) → Stays z (freed_by r by z)
-stays_freed by z (Ok done) = record { base = refl; since = refl; renewals = refl; alive1 = refl; alive2 = refl; journal = refl; printed = refl }
+stays_freed by z (Ok done) = record { base = refl; since = refl; renewals = refl; alive1 = refl; alive2 = refl; journal = refl; printed = refl; had = refl }
 stays_freed by z (Err e) = stays_stopped by z (Err e)
 
 -- the plant is another then
@@ -72,6 +73,7 @@ stays_on x z w q is stays = record {
   alive2 = stays.alive2 ∙ ap (λ (k : Parts _ _). k.second_alive) is;
   journal = stays.journal ∙ ap (λ (k : Parts _ _). journal_of k) is;
   printed = stays.printed ∙ ap (λ (k : Parts _ _). k.printed) is;
+  had = stays.had ∙ ap (λ (k : Parts _ _). k.had) is;
 }
 
 pub if_ok : (r : Result (Unit {0}) NodeNo) (A : Type 0) → (r ≡ Ok tt → A) → OnOk r A

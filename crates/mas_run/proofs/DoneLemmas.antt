@@ -225,9 +225,9 @@ module _ {P C : Type 0} {plants : PlantGhosts P} {steadies : SteadyGhosts C} {co
         told = told;
         copies_kept = leaves_same plants p q r (copies_tested plants copies p b q r (acted_copies plants copies by t q r its.acts)) renewals_t its.acts.course.alive1 its.acts.course.alive2;
         next = turned_next x y t ms k few is refl refl (tried_since x.book by inside false) (hold_t task asked) earlier (goes_none (u p)) (λ o. refl) base_t since_t n (stays ∙ own)
-            its.pieces its.cut its.away quiet_all its.acts.course.goes r its.played wrote (now_of r after);
+            its.pieces its.cut its.away quiet_all its.acts.notes its.acts.course.goes r its.played wrote (now_of r after);
         halted = turned_halted x y t ms k few is refl refl (tried_since x.book by inside false) (hold_t task asked) earlier (goes_none (u p)) (λ o. refl) base_t since_t n (stays ∙ own)
-            its.pieces its.cut its.away quiet_all its.acts.course.goes r its.played wrote;
+            its.pieces its.cut its.away quiet_all its.acts.notes its.acts.course.goes r its.played wrote;
         seated = λ e. inside;
       }
 
@@ -275,8 +275,8 @@ module _ {P C : Type 0} {plants : PlantGhosts P} {steadies : SteadyGhosts C} {co
         told = told_reset;
         copies_kept = leaves_same plants p q r (copies_tested plants copies p b q r (acted_copies plants copies by t q r its_reset.acts)) renewals_t its_reset.acts.course.alive1 its_reset.acts.course.alive2;
         next = turned_next x y t ms k few is refl refl (tried_since x.book by inside false) hold_reset earlier (goes_none (u p)) (λ o. refl) base_t since_t n (stays ∙ own)
-            its_reset.pieces its_reset.cut its_reset.away quiet_reset its_reset.acts.course.goes r its_reset.played wrote_reset (now_reset r after);
+            its_reset.pieces its_reset.cut its_reset.away quiet_reset its_reset.acts.notes its_reset.acts.course.goes r its_reset.played wrote_reset (now_reset r after);
         halted = turned_halted x y t ms k few is refl refl (tried_since x.book by inside false) hold_reset earlier (goes_none (u p)) (λ o. refl) base_t since_t n (stays ∙ own)
-            its_reset.pieces its_reset.cut its_reset.away quiet_reset its_reset.acts.course.goes r its_reset.played wrote_reset;
+            its_reset.pieces its_reset.cut its_reset.away quiet_reset its_reset.acts.notes its_reset.acts.course.goes r its_reset.played wrote_reset;
         seated = λ e. inside;
       }

@@ -23,6 +23,7 @@ use Rattle.mas_complex.specs.Parts.{Parts, batches_left, parts_of, placed_left, 
 use Rattle.member_node.specs.Calls.{console_now}
 use Rattle.member_node.specs.declared.member.Member.{Member}
 use Rattle.member_node.specs.declared.member.NodeNo.TheVariants as no_node
+use Rattle.member_steps.specs.Noting.{OtherNotesStay}
 use Rattle.member_hand.proofs.Entering.{entered_seated}
 use Rattle.member_hand.proofs.Locking.{acts_entered, up_spent}
 use Rattle.member_hand.specs.Cuts.{IsAsideHalt, IsBetweenSittings, IsCutBy}
@@ -145,7 +146,8 @@ true_false e = absurd (cc)
 
 module _ {P C : Type 0} {plants : PlantGhosts P} {steadies : SteadyGhosts C} {copies : CopyGhosts C} (x : Parts P C) (y : Complex P C plants steadies copies)
     (base : y.base ≡ x.base) (began : y.since ≡ x.since) (since : Since x.book y.book) (by : MemberId) (some : 1 ≤ by.0) (within : IsMember y.book by) (holder : IsHeldBy by y.book) (down : is_stopped y.book by ≡ true)
-    (goes : Proceeds (plants.view x.plant) (plants.view y.plant)) (away : IsOperatorAway y.book y.reserved y.current) where
+    (goes : Proceeds (plants.view x.plant) (plants.view y.plant)) (away : IsOperatorAway y.book y.reserved y.current)
+    (notes : OtherNotesStay by x.had (parts_of y).had) where
   abbrev q : Parts P C
   q = parts_of y
 
@@ -170,7 +172,7 @@ module _ {P C : Type 0} {plants : PlantGhosts P} {steadies : SteadyGhosts C} {co
       → ((k : MemberId) (later : ℕ) → at < later → later ≤ steps_most → HasUntold plants copies q k later)
       → LeftBetween y (set ms (by.0 - 1) n) (at + 1)
   halted_between n ms at few is id quiet own untold =
-      between_halted plants copies x z base since by holder n id down ms at some
+      between_halted plants copies x z base since by holder notes n id down ms at some
       (let le = within.1 in let many = since.many in let booked = is.booked in omega (arith, le, many, booked)) few is stands (settled_unreserved y)
       (λ free. subst (λ (Q : Queue). IsQuiet plants copies z (page_count Q.config)) (sym base)
       (quiet_unreserved (page_count x.base.config) (quiet (λ mine. absurd (true_false (sym (left_held mine) ∙ free))))))
@@ -237,10 +239,10 @@ module _ {P C : Type 0} {plants : PlantGhosts P} {steadies : SteadyGhosts C} {co
           ∙ halted_holds h.by c pieces mid.book (queue_of mid) count may at.cause at.there locked)))
           (aside_or c.halt)
 
-    pub step_halted : (n : Member) (ms : List Member) → n.id ≡ h.by → h.step ≤ steps_most → IsBetween plants copies x ms h.step → LeftBetween y (set ms (h.by.0 - 1) n) (h.step + 1)
-    step_halted n ms id few is =
+    pub step_halted : (n : Member) (ms : List Member) → n.id ≡ h.by → OtherNotesStay h.by x.had w.had → h.step ≤ steps_most → IsBetween plants copies x ms h.step → LeftBetween y (set ms (h.by.0 - 1) n) (h.step + 1)
+    step_halted n ms id notes few is =
         halted_between x y (base ∙ mid_base) (since ∙ mid_since) book_since h.by may.some (inside_since x.book w.book h.by book_since (before_of may.seated))
-        (subst (λ (b : Book). IsHeldBy h.by b) (sym book_after) (held_left h.by cut play count may.free)) its_down goes away n ms h.step few is id quiet_aside
+        (subst (λ (b : Book). IsHeldBy h.by b) (sym book_after) (held_left h.by cut play count may.free)) its_down goes away notes n ms h.step few is id quiet_aside
         (earlier_more h.step (journal_of w) mid.batches left.leaves.more left.leaves.journal mid_earlier
         (left_earlier h.by h.step cut play count (v mid).now (v w).now left.leaves.more left.of left.leaves.batches))
         (λ k later less small t.

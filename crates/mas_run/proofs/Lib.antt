@@ -37,8 +37,6 @@ pub mod StepLemmas
 pub mod ResettingLemmas
 pub mod BeginLemmas
 pub mod TakenLemmas
-pub mod SoundLemmas
-pub mod TakenQueueLemmas
 pub mod TakenCalmLemmas
 pub mod TakenOnLemmas
 pub mod SpokenLemmas

@@ -176,7 +176,7 @@ module _ {P C : Type 0} (plants : PlantGhosts P) (copies : CopyGhosts C) (x : Pa
   pub may_go_on : (task : Task) (hold : ℕ) → x.level < level_most → IsFewTask task
       → MayGoOn plants copies tested m (record { by = m.id; step = at; hold = hold; grant = granted_by x.book m.id }) (Fresh task)
   may_go_on task hold below small = record {
-    aside = record { quiet = quiet_tested (length m.room) (sym member.many); idle = member.idle; config = member.config };
+    aside = record { quiet = quiet_tested (length m.room) (sym member.many); idle = member.idle; noted = member.noted; config = member.config };
     hold = may_hold;
     member = got.is_up.member;
     base_sound = λ t. is.sound;

@@ -112,6 +112,7 @@ module _ {P C : Type 0} (plants : PlantGhosts P) (copies : CopyGhosts C) where
         kept = seat.still.kept;
         begun = seat.still.begun;
         roomy = seat.still.roomy;
+        noted = seat.still.noted;
       };
       between = seat.between;
       low = seat.low;
@@ -127,6 +128,7 @@ module _ {P C : Type 0} (plants : PlantGhosts P) (copies : CopyGhosts C) where
         config = (is.up (since.up m.id up)).config;
         many = (is.up (since.up m.id up)).many;
         idle = (is.up (since.up m.id up)).idle;
+        noted = (is.up (since.up m.id up)).noted;
         seated = λ holds. seat_later m up ((is.up (since.up m.id up)).seated (sym (same_holder m.id) ∙ holds));
       };
     }

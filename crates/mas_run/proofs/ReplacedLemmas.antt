@@ -152,6 +152,14 @@ module _ {P C : Type 0} (plants : PlantGhosts P) (copies : CopyGhosts C) (n : Me
   replaced_book (Err no.Halted) h = ap (λ (w : Parts P C). w.book) h.frame
   replaced_book (Err no.NoMemory) h = ap (λ (w : Parts P C). w.book) h.frame
 
+  pub replaced_had : (answer : Result (Unit {0}) ReplaceNo) → HasReplaced plants copies n dev x y answer → y.had ≡ x.had
+  replaced_had (Ok done) h = ap (λ (w : Parts P C). w.had) h.frame
+  replaced_had (Err no.NotLost) h = ap (λ (w : Parts P C). w.had) h.frame
+  replaced_had (Err no.BothLost) h = ap (λ (w : Parts P C). w.had) h.frame
+  replaced_had (Err no.Failed) h = ap (λ (w : Parts P C). w.had) h.frame
+  replaced_had (Err no.Halted) h = ap (λ (w : Parts P C). w.had) h.frame
+  replaced_had (Err no.NoMemory) h = ap (λ (w : Parts P C). w.had) h.frame
+
   -- the moments: a line of which these are a part began before them, and ended after
   module _ (old new : View) (from : old.now ≤ (u x).now) (to : (u y).now ≤ new.now) where
     begins_in : (answer : Result (Unit {0}) ReplaceNo) → HasReplaced plants copies n dev x y answer → y.renewals ≡ begun_on dev (u x).now x.renewals → Begins dev x.renewals y.renewals old new

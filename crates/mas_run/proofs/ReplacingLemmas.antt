@@ -1,5 +1,5 @@
 -- A line that replaces a copy: its member takes its seat or keeps it, replaces the copy, and says so.
-use Rattle.std.proofs.Common.{◌≡◌, ◌≢◌, ◌⊎◌, ⊎_elim, inl, inr, ℕ, ◌+◌, ◌-◌, ◌≤◌, ◌<◌, Bool, true, false, List, [], ◌∷◌, ◌++◌, length, set, All, append-nil, Option, Some, None, Result, Ok, Err, OnOk, refl, sym, ◌∙◌, ap, subst, arith, if◌then◌else◌}
+use Rattle.std.proofs.Common.{◌≡◌, ◌≢◌, ◌⊎◌, ⊎_elim, inl, inr, ℕ, ◌+◌, ◌-◌, ◌≤◌, ◌<◌, Bool, true, false, List, [], ◌∷◌, ◌++◌, length, set, All, append-nil, Option, Some, None, Result, Ok, Err, OnOk, refl, sym, ◌∙◌, ap, subst, arith, if◌then◌else◌, slice_get}
 use Rattle.std.proofs.lemmas.Bool.{eq-eqb}
 use Rattle.std.proofs.lemmas.List.{set-get_or}
 use Rattle.std.proofs.lemmas.List.Elements.{All-nil}
@@ -12,6 +12,7 @@ use Rattle.mas_types.specs.declared.queues.Queue.{Queue}
 use Rattle.mas_types.specs.Closings.{closing_line}
 use Rattle.mas_types.specs.Ids.{nobody}
 use Rattle.mas_types.specs.Limits.{steps_most}
+use Rattle.mas_types.specs.declared.ids.Page.{Page}
 use Rattle.lock_cycle.specs.declared.standings.Standing.{Standing}
 use Rattle.lock_cycle.specs.Books.{Book, IsMember, after_free, after_spend, after_stop, after_try, beginner, is_holder, is_stopped, left_of as hold_left, noted, standing, with_holder, with_standing}
 use Rattle.spool_plant.specs.declared.plant.Plant.{Ghosts as PlantGhosts}
@@ -26,7 +27,7 @@ use Rattle.duplex_pair.specs.Replacing.{Replaces as ReplacesDevice, replace_stop
 use Rattle.mas_complex.specs.declared.complex.Complex.{Complex}
 use Rattle.mas_complex.specs.declared.renewals.Renewals.{Renewals}
 use Rattle.mas_complex.specs.Elsewhere.{Elsewhere}
-use Rattle.mas_complex.specs.Parts.{Parts, parts_of, with_copies}
+use Rattle.mas_complex.specs.Parts.{Parts, parts_of}
 use Rattle.mas_complex.specs.Paper.{counts_of}
 use Rattle.member_node.specs.Calls.{console_now}
 use Rattle.member_node.specs.declared.member.Member.{Member}
@@ -34,9 +35,10 @@ use Rattle.member_node.specs.declared.member.NodeNo.{NodeNo}
 use Rattle.member_node.specs.declared.member.NodeNo.TheVariants as no_node
 use Rattle.member_node.specs.Spares.{stopped_in}
 use Rattle.member_sittings.specs.Gates.{IsAtSeat}
-use Rattle.member_sittings.specs.Sat.{journal_of}
+use Rattle.member_sittings.specs.Sat.{journal_of, seated_in}
 use Rattle.member_sittings.specs.Whole.{HoldsLock, IsSeat}
 use Rattle.member_steps.proofs.ReadLemmas.{pages_of_run}
+use Rattle.member_steps.specs.Noting.{OtherNotesStay}
 use Rattle.member_work.proofs.PrintedLemmas.{beside_none}
 use Rattle.member_hand.proofs.Acting.{aside_then, asided, seat_then}
 use Rattle.member_hand.specs.Quiet.{IsAside, IsSeatedBy}
@@ -77,7 +79,7 @@ use Rattle.mas_run.proofs.HaltedLemmas.{halted_between}
 use Rattle.mas_run.proofs.MayLemmas.{may_go_on, none_left_held, tested_up}
 use Rattle.mas_run.proofs.OwnLemmas.{found_says, line_says}
 use Rattle.mas_run.proofs.PassedLemmas.{proceeds_of}
-use Rattle.mas_run.proofs.ReplacedLemmas.{renews_found, renews_some, replaced_book, replaced_leaves, replaced_merely}
+use Rattle.mas_run.proofs.ReplacedLemmas.{renews_found, renews_some, replaced_book, replaced_had, replaced_leaves, replaced_merely}
 use Rattle.mas_run.proofs.SaidLemmas.{copies_merely, left_bare, left_told, merely_closed, not_lost, then_merely, unseated_bare, unseated_told}
 use Rattle.mas_run.proofs.SceneLemmas.{LineDone, admitted_here, none_flies, tested_here, tried_here}
 use Rattle.mas_run.proofs.SeatsLemmas.{copies_acted, may_seat}
@@ -353,7 +355,7 @@ module _ {P C : Type 0} {plants : PlantGhosts P} {steadies : SteadyGhosts C} {co
 
     module _ (e : NodeNo) (told : Type 0) (S : Scene) (shown : IsShown plants copies told S p) (un : HasNoSeat plants copies S m at dev t q e) where
       renewals_unseated : q.renewals ≡ t.renewals
-      renewals_unseated = ap (λ (w : Parts P C). w.renewals) un.frame ∙ (stays_stopped m.id (with_copies q t) (failed e)).renewals
+      renewals_unseated = ap (λ (w : Parts P C). w.renewals) un.frame ∙ (stays_stopped m.id (seated_in q t) (failed e)).renewals
 
       renews_unseated : (cause : Cause) → RenewsAs (Replaces dev) (before_line cause) Replaced t.renewals q.renewals (u t) (u q)
       renews_unseated cause = inl renewals_unseated
@@ -376,17 +378,23 @@ module _ {P C : Type 0} {plants : PlantGhosts P} {steadies : SteadyGhosts C} {co
       z_book : z.book ≡ b
       z_book = replaced_book plants copies n dev ckpt s z seat.goes_on.answer seat.goes_on.replaced ∙ s_book
 
+      -- what its member noted alone may differ
+      its_notes : q.had ≡ z.had → OtherNotesStay by p.had q.had
+      its_notes same_had j other =
+          ap (λ (h : List (List Page)). slice_get h j) (same_had ∙ replaced_had plants copies n dev ckpt s z seat.goes_on.answer seat.goes_on.replaced)
+          ∙ seat.acts.notes j (λ is_it. absurd (other (is_it ∙ ap (λ (i : MemberId). i.0) own)))
+
       took : HasMerelyActed plants by (Replaces dev) t s went
       took = copies_merely plants copies S at (line_by by what) (Replaces dev) t s m own s went seat.acts
 
       took_copies : LeavesCopies plants t s went
-      took_copies = leaves_same plants t s went (copies_acted plants m.id t s went seat.acts) s_renewals seat.acts.course.alive1 seat.acts.course.alive2
+      took_copies = leaves_same plants t s went (copies_acted plants m.id t s went seat.acts) s_renewals seat.acts.on.course.alive1 seat.acts.on.course.alive2
 
       acts_by : ReplacesDevice by.0 dev (replace_stopped seat.goes_on.answer) (u s) (u z)
       acts_by = subst (λ (j : MemberId). ReplacesDevice j.0 dev (replace_stopped seat.goes_on.answer) (u s) (u z)) own_n seat.goes_on.replaced.replaces
 
       before : plants.tells → console_now (u z) ≡ console_now (u t)
-      before tells = (seat.goes_on.replaced.elsewhere tells).console (u z).now seat.goes_on.replaced.replaces.later (omega arith) ∙ (seat.acts.apart tells).console
+      before tells = (seat.goes_on.replaced.elsewhere tells).console (u z).now seat.goes_on.replaced.replaces.later (omega arith) ∙ (seat.acts.on.apart tells).console
 
       -- IT CLOSED
 
@@ -502,10 +510,13 @@ module _ {P C : Type 0} {plants : PlantGhosts P} {steadies : SteadyGhosts C} {co
               let free = ap (λ (c : Book). c.holder) book ∙ freed_holder b by false b_holds in
               (inr free, subst (λ (c : Book). Since x.book c) (sym book) (then_since x.book b (after_free b by false) tried_b (freed_since b by inside_b false)), (λ mine. absurd (not_nobody q.book free mine)))
 
+          notes_q : OtherNotesStay by p.had q.had
+          notes_q = its_notes (ap (λ (w : Parts P C). w.had) frame_q)
+
           pub closed_next : BetweenLines y (set ms (by.0 - 1) n) (at + 1)
           closed_next =
               let held = held_by rel book_q in
-              between_after plants copies p q base held.1 by held.0 n aside_q room_q own_n held.2 ms at inside.0 (let le = inside.1 in let booked = is.booked in omega (arith, le, booked)) few is acted.goes.size
+              between_after plants copies p q base held.1 by held.0 notes_q n aside_q room_q own_n held.2 ms at inside.0 (let le = inside.1 in let booked = is.booked in omega (arith, le, booked)) few is acted.goes.size
               (earlier_more at q.batches p.batches [] (ap (λ (w : Parts P C). w.batches) frame_t ∙ sym (append-nil p.batches)) (earlier_now at p.batches p.current calm is.earlier) (All-nil (IsOfEarlier (at + 1))))
               (λ j later less small tells.
               let w = closed_wrote tells in
@@ -594,6 +605,7 @@ module _ {P C : Type 0} {plants : PlantGhosts P} {steadies : SteadyGhosts C} {co
       pub wrote : plants.tells → (ls : List Line) × (console_now (u q) ≡ console_now (u t) ++ ls) × TellNone at ls
       pub next : OnOk k_r (BetweenLines y (set ms (by.0 - 1) n) (at + 1))
       pub book : k_r ≡ failed no_node.Halted → q.book ≡ after_stop b by
+      pub notes : OtherNotesStay by p.had q.had
 
     module _ (told : Type 0) (S : Scene) (shown : IsShown plants copies told S p) where
       did_unseated : (e : NodeNo) → HasNoSeat plants copies S m at dev t q e → Did told S (failed e)
@@ -602,13 +614,14 @@ module _ {P C : Type 0} {plants : PlantGhosts P} {steadies : SteadyGhosts C} {co
           record {
             bare = unseated_bare plants copies S at (line_by by what) (Replaces dev) t q m own here (pieces Replaced) (line Replaced) rel (closer told S shown Replaced) journal printed (renews_unseated e told S shown un) e un.unseated;
             left = λ tells counted. unseated_told plants copies S at (line_by by what) (Replaces dev) t q m own here (pieces Replaced) (line Replaced) rel (closer told S shown Replaced) journal printed (renews_unseated e told S shown un) tells e un.unseated;
-            kept = leaves_same plants t q (failed e) (copies_acted plants m.id t q (failed e) un.unseated.acts) (renewals_unseated e told S shown un) un.unseated.acts.course.alive1 un.unseated.acts.course.alive2;
-            goes = proceeds_of (u t) (u q) un.unseated.acts.course.goes;
-            wrote = λ tells. ([], (un.unseated.acts.apart tells).console ∙ sym (append-nil (console_now (u t))), (λ j less small es of. tt));
+            kept = leaves_same plants t q (failed e) (copies_acted plants m.id t q (failed e) un.unseated.acts) (renewals_unseated e told S shown un) un.unseated.acts.on.course.alive1 un.unseated.acts.on.course.alive2;
+            goes = proceeds_of (u t) (u q) un.unseated.acts.on.course.goes;
+            wrote = λ tells. ([], (un.unseated.acts.on.apart tells).console ∙ sym (append-nil (console_now (u t))), (λ j less small es of. tt));
             next = tt;
             book = λ halted.
                 let is_halted : e ≡ no_node.Halted = error_same e no_node.Halted halted in
-                ap (λ (w : Parts P C). w.book) un.frame ∙ ap (λ (j : NodeNo). (stopped_so (failed j) m.id (with_copies q t)).book) is_halted ∙ ap (λ (j : MemberId). after_stop b j) own;
+                ap (λ (w : Parts P C). w.book) un.frame ∙ ap (λ (j : NodeNo). (stopped_so (failed j) m.id (seated_in q t)).book) is_halted ∙ ap (λ (j : MemberId). after_stop b j) own;
+            notes = λ j other. un.unseated.acts.notes j (λ is_it. absurd (other (is_it ∙ ap (λ (i : MemberId). i.0) own)));
           }
 
       module _ (k_r : Result (Unit {0}) NodeNo) (seat : HasSeat plants copies S m n at dev t q k_r) where
@@ -622,6 +635,7 @@ module _ {P C : Type 0} {plants : PlantGhosts P} {steadies : SteadyGhosts C} {co
           wrote = closed_wrote told S shown k_r seat found is_found closed frame_q;
           next = if_ok k_r _ (closed_next told S shown k_r seat found is_found closed frame_q);
           book = closed_halted told S shown k_r seat found is_found closed frame_q;
+          notes = its_notes told S shown k_r seat (ap (λ (w : Parts P C). w.had) frame_q);
         }
 
         did_open : (e : NodeNo) → k_r ≡ failed e → q ≡ stopped_so k_r n.id seat.goes_on.there → stopped_in (failed e) ≡ replace_stopped seat.goes_on.answer → e ≢ no_node.ConsoleFault
@@ -636,6 +650,7 @@ module _ {P C : Type 0} {plants : PlantGhosts P} {steadies : SteadyGhosts C} {co
               wrote = open_wrote told S shown k_r seat e is_e frame_e same_stop heard both;
               next = tt;
               book = λ halted. book_open told S shown k_r seat e is_e frame_e same_stop heard both (error_same e no_node.Halted halted);
+              notes = its_notes told S shown k_r seat (ap (λ (w : Parts P C). w.had) frame_e ∙ (stays_stopped n.id seat.goes_on.there (failed e)).had);
             })
 
         did_by : (answer : Result (Unit {0}) ReplaceNo) → seat.goes_on.answer ≡ answer → FollowsBy plants copies (found_of answer) S n.id at dev answer seat.goes_on.there q k_r → Did told S k_r
@@ -700,7 +715,7 @@ module _ {P C : Type 0} {plants : PlantGhosts P} {steadies : SteadyGhosts C} {co
       halted =
           halted_between p y base since (subst (λ (c : Book). Since x.book c) (sym book_h) (then_since x.book b (after_stop b by) tried_b (stopped_since b by inside_b)))
           by inside.0 (subst (λ (c : Book). IsMember c by) (sym book_h) (inside_since b (after_stop b by) by (stopped_since b by inside_b) inside_b)) (inl mine) (ap (λ (c : Book). is_stopped c by) book_h ∙ stopped_now b by inside_b) here.goes
-          (λ free. absurd (not_none y.book mine free)) n ms at few is own_n (λ apart. absurd (apart mine)) earlier
+          (λ free. absurd (not_none y.book mine free)) here.notes n ms at few is own_n (λ apart. absurd (apart mine)) earlier
           (λ j later less small tells.
           let w = here.wrote tells in
           untold_then plants copies p q base since is.begun here.goes w.0 (λ o. w.1) j later (w.2 later less small) (is.untold j later (omega (arith, less)) small) tells)

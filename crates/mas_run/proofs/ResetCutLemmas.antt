@@ -14,11 +14,11 @@ use Rattle.ckpt_copy.specs.declared.copying.Copying.{Ghosts as CopyGhosts}
 use Rattle.spool_plant.specs.Acts.{SameWires}
 use Rattle.member_node.proofs.CourseLemmas.{wires_then}
 use Rattle.mas_complex.specs.Paper.{SamePapers}
-use Rattle.mas_complex.specs.Parts.{Parts, with_copies}
+use Rattle.mas_complex.specs.Parts.{Parts}
 use Rattle.member_node.specs.Calls.{IsOnlyOn, VolumesStay, none_lost}
 use Rattle.member_node.specs.declared.member.NodeNo.{NodeNo}
 use Rattle.member_decks.specs.Steps.{AreOf}
-use Rattle.member_sittings.specs.Sat.{CopiesActed, IsSatAs, Start, begins, sat_in}
+use Rattle.member_sittings.specs.Sat.{CopiesActed, IsSatAs, Start, begins, sat_in, seated_in}
 use Rattle.member_sittings.specs.Whole.{queue_of}
 use Rattle.member_hand.specs.Cuts.{cause_by}
 use Rattle.member_hand.specs.Locks.{MayHold}
@@ -57,7 +57,7 @@ abbrev told_piece : Holder → MemberId → Queue → Piece
 told_piece h of Q = piece_of (record (told_sitting h of Q) { lines = closing_line h.by h.step (reset_closing of (reply_to Q h.by (command.Reset of))) ∷ [] }) false []
 
 module _ {P C : Type 0} (plants : PlantGhosts P) (copies : CopyGhosts C) (h : Holder) (of : MemberId) (x z : Parts P C) (may : MayHold x.book h.by) (none : x.current ≡ None)
-    (unplaced : x.placed ≡ false) (holds : x.book.holder ≡ h.by) (seat : z ≡ with_copies z x) where
+    (unplaced : x.placed ≡ false) (holds : x.book.holder ≡ h.by) (seat : z ≡ seated_in z x) where
   abbrev v : Parts P C → View
   v w = plants.view w.plant
 
@@ -70,8 +70,8 @@ module _ {P C : Type 0} (plants : PlantGhosts P) (copies : CopyGhosts C) (h : Ho
   same_book : entered x.book h.by ≡ x.book
   same_book = entered_same x.book h.by may.up holds
 
-  frame : z ≡ with_copies z (taken h.by x)
-  frame = seat ∙ ap (λ (b : Book). with_copies z (record x { book = b })) (sym same_book)
+  frame : z ≡ seated_in z (taken h.by x)
+  frame = seat ∙ ap (λ (b : Book). seated_in z (record x { book = b })) (sym same_book)
 
   taken_same : taken h.by x ≡ x
   taken_same = ap (λ (b : Book). record x { book = b }) same_book
@@ -108,10 +108,10 @@ module _ {P C : Type 0} (plants : PlantGhosts P) (copies : CopyGhosts C) (h : Ho
           played = bare_cut plants copies h p e (Writing 0 None) x y (unsat_here ⊥ (λ t. absurd t) p) own_piece book;
           tight = none_tight e p.sitting;
           acts = acted_stopped plants copies h.by e x z (unsat_acted plants copies s x z may none unplaced frame ne pages e acted);
-          volumes = view_stopped plants copies s x z may none unplaced frame ne e h.by z (λ w. VolumesStay none_lost (v x) w) acts.course.volumes;
-          others = λ t. view_stopped plants copies s x z may none unplaced frame ne e h.by z (λ w. IsOnlyOn (v x) w) (acts.apart t).others;
-          papers = λ t. view_stopped plants copies s x z may none unplaced frame ne e h.by z (λ w. SamePapers (v x) w) (acts.apart t).papers;
-          wires = λ t. view_stopped plants copies s x z may none unplaced frame ne e h.by z (λ w. SameWires (v x) w) (acts.apart t).wires;
+          volumes = view_stopped plants copies s x z may none unplaced frame ne e h.by z (λ w. VolumesStay none_lost (v x) w) acts.on.course.volumes;
+          others = λ t. view_stopped plants copies s x z may none unplaced frame ne e h.by z (λ w. IsOnlyOn (v x) w) (acts.on.apart t).others;
+          papers = λ t. view_stopped plants copies s x z may none unplaced frame ne e h.by z (λ w. SamePapers (v x) w) (acts.on.apart t).papers;
+          wires = λ t. view_stopped plants copies s x z may none unplaced frame ne e h.by z (λ w. SameWires (v x) w) (acts.on.apart t).wires;
           quiet = λ b. absurd b;
           away = λ free. absurd (away_never plants copies s x z may none unplaced frame ne y
               (holder_stopped plants copies h.by e z ∙ ap (λ (b : Book). b.holder) (seat_book plants copies s x z may none unplaced frame ne)) free);
@@ -159,7 +159,7 @@ module _ {P C : Type 0} (plants : PlantGhosts P) (copies : CopyGhosts C) (h : Ho
           volumes = view_stopped plants copies s x z may none unplaced frame ne e h.by w (λ q. VolumesStay none_lost (v x) q) (sat_stays plants copies s x z may none unplaced frame ne seated w same sat.sat.acts);
           others = λ u. view_stopped plants copies s x z may none unplaced frame ne e h.by w (λ q. IsOnlyOn (v x) q) (sat_still plants copies s x z may none unplaced frame ne seated w same sat.sat.acts u);
           papers = λ u. view_stopped plants copies s x z may none unplaced frame ne e h.by w (λ q. SamePapers (v x) q) (sat_dry plants copies s x z may none unplaced frame ne seated w same sat.sat.acts u);
-          wires = λ u. view_stopped plants copies s x z may none unplaced frame ne e h.by w (λ q. SameWires (v x) q) (wires_then (v x) (v z) (v w) (took.apart u).wires (sat.sat.acts.wires u));
+          wires = λ u. view_stopped plants copies s x z may none unplaced frame ne e h.by w (λ q. SameWires (v x) q) (wires_then (v x) (v z) (v w) (took.on.apart u).wires (sat.sat.acts.wires u));
           quiet = λ b. absurd (not_aside plants copies s x z may none unplaced frame ne seated w same c.halt c.locked b);
           away = λ free. absurd (away_never plants copies s x z may none unplaced frame ne at_end
               (holder_stopped plants copies h.by e w ∙ ap (λ (b : Book). b.holder) (sat_book plants copies s x z may none unplaced frame ne seated w same)) free);

@@ -14,13 +14,13 @@ use Rattle.mas_complex.specs.Locking.{MayAct}
 use Rattle.spool_plant.specs.Acts.{SameWires}
 use Rattle.member_node.proofs.CourseLemmas.{wires_then}
 use Rattle.mas_complex.specs.Paper.{SamePapers, counts_of}
-use Rattle.mas_complex.specs.Parts.{Parts, with_copies}
+use Rattle.mas_complex.specs.Parts.{Parts}
 use Rattle.member_node.specs.Calls.{IsOnlyOn, VolumesStay, console_now, none_lost}
 use Rattle.member_node.specs.declared.member.Member.{Member}
 use Rattle.member_decks.specs.Steps.{AreOf}
 use Rattle.member_sittings.specs.declared.ends.SittingEnd.{SittingEnd}
 use Rattle.member_sittings.specs.Left.{Said, said_of}
-use Rattle.member_sittings.specs.Sat.{CopiesActed, IsSatAs, Start, begins, journal_of, sat_in}
+use Rattle.member_sittings.specs.Sat.{CopiesActed, IsSatAs, Start, begins, journal_of, sat_in, seated_in}
 use Rattle.member_sittings.specs.Whole.{IsSeat, queue_of}
 use Rattle.member_steps.proofs.ReadLemmas.{pages_of_run}
 use Rattle.member_work.proofs.PrintedLemmas.{beside_none}
@@ -56,7 +56,7 @@ take_all [] = refl
 take_all (l ∷ ls) = ap (λ (k : List (List ℕ)). l ∷ k) (take_all ls)
 
 module _ {P C : Type 0} (plants : PlantGhosts P) (copies : CopyGhosts C) (h : Holder) (of : MemberId) (x z : Parts P C) (may : MayHold x.book h.by) (none : x.current ≡ None)
-    (unplaced : x.placed ≡ false) (holds : x.book.holder ≡ h.by) (seat : z ≡ with_copies z x) (took : CopiesActed plants {T = Unit {0}} h.by x z (Ok tt)) (w : Parts P C) (same : w ≡ sat_in w z)
+    (unplaced : x.placed ≡ false) (holds : x.book.holder ≡ h.by) (seat : z ≡ seated_in z x) (took : CopiesActed plants {T = Unit {0}} h.by x z (Ok tt)) (w : Parts P C) (same : w ≡ sat_in w z)
     (t : Sitting) (own : All (AreOf h.by h.step) t.batches) (shaped : IsResetPiece h of (piece_of t false [] ∷ [])) (is : plants.tells → piece_of t false [] ∷ [] ≡ reset_pieces (queue_of z) h of)
     (end : SittingEnd) (sat : IsSatAs plants h.by t z w (Ok end)) (n : Member) (id : n.id ≡ h.by) (at_seat : IsSeat plants copies w n) (y : Parts P C)
     (left : y ≡ record w { book = left_book w.book h.by end.given end.release }) where
@@ -72,8 +72,8 @@ module _ {P C : Type 0} (plants : PlantGhosts P) (copies : CopyGhosts C) (h : Ho
   same_book : entered x.book h.by ≡ x.book
   same_book = entered_same x.book h.by may.up holds
 
-  frame : z ≡ with_copies z (taken h.by x)
-  frame = seat ∙ ap (λ (b : Book). with_copies z (record x { book = b })) (sym same_book)
+  frame : z ≡ seated_in z (taken h.by x)
+  frame = seat ∙ ap (λ (b : Book). seated_in z (record x { book = b })) (sym same_book)
 
   seated : CopiesActed plants {T = Unit {0}} h.by (taken h.by x) z (Ok tt)
   seated = subst (λ (q : Parts P C). CopiesActed plants {T = Unit {0}} h.by q z (Ok tt)) (sym (ap (λ (b : Book). record x { book = b }) same_book)) took
@@ -85,7 +85,7 @@ module _ {P C : Type 0} (plants : PlantGhosts P) (copies : CopyGhosts C) (h : Ho
   plant_same = ap (λ (q : Parts P C). v q) left
 
   sooner : (v x).now ≤ (v z).now
-  sooner = took.course.goes.later
+  sooner = took.on.course.goes.later
 
   -- WHAT IT LEFT
 
@@ -120,8 +120,8 @@ module _ {P C : Type 0} (plants : PlantGhosts P) (copies : CopyGhosts C) (h : Ho
   its_acts =
       subst (λ (q : Parts P C). HasActedIn plants copies h.by x q (Ok tt)) (sym left)
       (let a = acts_then plants copies h.by x z w (Ok tt) (seat_acted plants copies s x z may none unplaced frame ne seated)
-      (record { course = passage_of z.first_alive w.first_alive z.second_alive w.second_alive (v z) (v w) sat.sat.acts.course; loses = sat.sat.acts.loses; spares = sat.sat.acts.spares; cause = sat.sat.acts.cause }) in
-      record { course = a.course; loses = a.loses; spares = a.spares; cause = a.cause })
+      (record { course = passage_of z.first_alive w.first_alive z.second_alive w.second_alive (v z) (v w) sat.sat.acts.course; loses = sat.sat.acts.loses; spares = sat.sat.acts.spares; cause = sat.sat.acts.cause; notes = sat.sat.acts.notes }) in
+      record { course = a.course; loses = a.loses; spares = a.spares; cause = a.cause; notes = a.notes })
 
   module _ (u : plants.tells) where
     its_console : console_now (v y) ≡ console_now (v x) ++ map whole t.lines
@@ -130,12 +130,12 @@ module _ {P C : Type 0} (plants : PlantGhosts P) (copies : CopyGhosts C) (h : Ho
         ap (λ (q : View). console_now q) plant_same
         ∙ said.is ∙ ap (λ (k : Said). console_now (v z) ++ said_of k t.lines) said.by_answer
         ∙ ap (λ (ls : List Line). console_now (v z) ++ ls) (append-nil (map whole (take (length t.lines) t.lines)) ∙ ap (λ (ls : List (List ℕ)). map whole ls) (take_all t.lines))
-        ∙ ap (λ (ls : List Line). ls ++ map whole t.lines) (took.apart u).console
+        ∙ ap (λ (ls : List Line). ls ++ map whole t.lines) (took.on.apart u).console
 
     its_papers : (k : ℕ) → paper_now (v y) k ≡ paper_now (v x) k
     its_papers k =
         ap (λ (q : View). paper_now q k) plant_same
-        ∙ papers_are (v z) (v w) sat.sat.acts.course.goes.later (sat.sat.acts.papers u) k ∙ papers_are (v x) (v z) sooner (took.apart u).papers k
+        ∙ papers_are (v z) (v w) sat.sat.acts.course.goes.later (sat.sat.acts.papers u) k ∙ papers_are (v x) (v z) sooner (took.on.apart u).papers k
 
     its_count : counts_of y.printed h.by ≡ (left_of plants copies h.by None (p ∷ []) x).count
     its_count =
@@ -216,7 +216,7 @@ module _ {P C : Type 0} (plants : PlantGhosts P) (copies : CopyGhosts C) (h : Ho
     volumes = subst (λ (q : View). VolumesStay none_lost (v x) q) (sym plant_same) (sat_stays plants copies s x z may none unplaced frame ne seated w same sat.sat.acts);
     others = λ u. subst (λ (q : View). IsOnlyOn (v x) q) (sym plant_same) (sat_still plants copies s x z may none unplaced frame ne seated w same sat.sat.acts u);
     papers = λ u. subst (λ (q : View). SamePapers (v x) q) (sym plant_same) (sat_dry plants copies s x z may none unplaced frame ne seated w same sat.sat.acts u);
-    wires = λ u. subst (λ (q : View). SameWires (v x) q) (sym plant_same) (wires_then (v x) (v z) (v w) (took.apart u).wires (sat.sat.acts.wires u));
+    wires = λ u. subst (λ (q : View). SameWires (v x) q) (sym plant_same) (wires_then (v x) (v z) (v w) (took.on.apart u).wires (sat.sat.acts.wires u));
     quiet = λ b. subst (λ (k : ℕ). IsQuiet plants copies y k) room aside_after.quiet;
     away = λ free. (unreserved, aside_after.quiet.none);
     told = λ u. record {

@@ -166,18 +166,18 @@ module _ {P C : Type 0} (plants : PlantGhosts P) (copies : CopyGhosts C) (S : Sc
   -- acts on the copies
   pub copies_merely : (z : Parts P C) (r : Result (Unit {0}) NodeNo) → CopiesActed plants m.id x z r → HasMerelyActed plants step.by a x z r
   copies_merely z r acts = record {
-    goes = proceeds_of (u x) (u z) acts.course.goes;
-    stays = λ d other. acts.course.goes.lost (Disk d);
-    arms = acts.course.goes.arms;
-    spares = subst (λ (k : MemberId). Spares k.0 (stopped_in r) (u x) (u z)) own acts.spares;
+    goes = proceeds_of (u x) (u z) acts.on.course.goes;
+    stays = λ d other. acts.on.course.goes.lost (Disk d);
+    arms = acts.on.course.goes.arms;
+    spares = subst (λ (k : MemberId). Spares k.0 (stopped_in r) (u x) (u z)) own acts.on.spares;
     stopped = λ is. subst (λ (k : MemberId). Rose ((u x).stops k.0) ((u z).stops k.0)) own
-        (subst (λ (q : Result (Unit {0}) NodeNo). CopyCauses q m.id.0 x.first_alive z.first_alive x.second_alive z.second_alive (u x) (u z)) is acts.cause).1;
-    failed = λ is. absurd (subst (λ (q : Result (Unit {0}) NodeNo). CopyCauses q m.id.0 x.first_alive z.first_alive x.second_alive z.second_alive (u x) (u z)) is acts.cause);
-    loses = acts.loses;
-    papers = λ t. (acts.apart t).papers;
-    wires = λ t. (acts.apart t).wires;
-    volumes = λ t. kept_on (u x) (u z) (acts.apart t).others;
-    stay = acts.course.volumes;
+        (subst (λ (q : Result (Unit {0}) NodeNo). CopyCauses q m.id.0 x.first_alive z.first_alive x.second_alive z.second_alive (u x) (u z)) is acts.on.cause).1;
+    failed = λ is. absurd (subst (λ (q : Result (Unit {0}) NodeNo). CopyCauses q m.id.0 x.first_alive z.first_alive x.second_alive z.second_alive (u x) (u z)) is acts.on.cause);
+    loses = acts.on.loses;
+    papers = λ t. (acts.on.apart t).papers;
+    wires = λ t. (acts.on.apart t).wires;
+    volumes = λ t. kept_on (u x) (u z) (acts.on.apart t).others;
+    stay = acts.on.course.volumes;
   }
 
   -- then others
@@ -213,16 +213,16 @@ module _ {P C : Type 0} (plants : PlantGhosts P) (copies : CopyGhosts C) (S : Sc
 
       pub unseated_bare : (e : NodeNo) → IsUnseated plants copies S m at a x y e → LeftAt plants copies ⊥ S at step x y (Err e)
       unseated_bare e un =
-          let k = seat_end e un.acts.cause in
+          let k = seat_end e un.acts.on.cause in
           left_bare plants copies S at step a adm Replaced ps line rel closer x y (Err e) journal printed (Unsaid k.0) (renews k.0) k.1 (copies_merely y (Err e) un.acts) (book_unseated e k.0 k.2 un)
 
       pub unseated_told : plants.tells → (e : NodeNo) → IsUnseated plants copies S m at a x y e → LeftAt plants copies (Unit {0}) S at step x y (Err e)
       unseated_told tells e un =
-          let k = seat_end e un.acts.cause in
+          let k = seat_end e un.acts.on.cause in
           let none : (closes_at S step.by at a (before_line k.0)).lines ≡ [] =
           sym (ap (λ (c : Option Cut). (closes_at S step.by at a c).lines) k.2) ∙ sym (ap (λ (by : MemberId). (closes_at S by at a (seat_cut e)).lines) own) ∙ un.lines in
           left_told plants copies S at step a adm Replaced ps line rel closer x y (Err e) journal printed tells (Unsaid k.0) (renews k.0) k.1 (copies_merely y (Err e) un.acts) (book_unseated e k.0 k.2 un)
-          ((un.acts.apart tells).console ∙ sym (append-nil (console_now (u x))) ∙ ap (λ (ls : List Line). console_now (u x) ++ ls) (sym none)) (λ up. tt)
+          ((un.acts.on.apart tells).console ∙ sym (append-nil (console_now (u x))) ∙ ap (λ (ls : List Line). console_now (u x) ++ ls) (sym none)) (λ up. tt)
 
     -- it has its seat
     module _ (n : Member) (r : Result (Unit {0}) NodeNo) (seated : IsSeated plants copies S m n at a x y r) (renews : (e : Ending) → RenewsAs a (cut_by e) Replaced x.renewals y.renewals (u x) (u y)) where
@@ -244,5 +244,5 @@ module _ {P C : Type 0} (plants : PlantGhosts P) (copies : CopyGhosts C) (S : Sc
           let so = ended_so r stood.cut stood.is_cut in
           left_told plants copies S at step a adm Replaced ps line rel closer x y r journal printed tells so.ending (renews so.ending) so.may acted_here
           (if_runs r _ (closed_here.book (cut_by so.ending) (subst (λ (c : Option Cut). IsCutAs r c) so.is stood.is_cut)))
-          (stood.lines ∙ ap (λ (ls : List Line). ls ++ (closes_at S step.by at a stood.cut).lines) (seated.acts.apart tells).console
+          (stood.lines ∙ ap (λ (ls : List Line). ls ++ (closes_at S step.by at a stood.cut).lines) (seated.acts.on.apart tells).console
           ∙ ap (λ (c : Option Cut). console_now (u x) ++ (closes_at S step.by at a c).lines) so.is) counted

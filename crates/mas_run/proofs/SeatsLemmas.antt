@@ -1,5 +1,5 @@
 -- A line by which its member keeps the lock: the member takes its seat, and says so.
-use Rattle.std.proofs.Common.{◌≡◌, ⊎_elim, inl, ℕ, ◌+◌, ◌-◌, ◌≤◌, ◌<◌, true, false, List, [], ◌++◌, length, set, All, append-nil, None, Result, Ok, Err, OnOk, sym, ◌∙◌, ap, subst, arith}
+use Rattle.std.proofs.Common.{◌≡◌, ⊎_elim, inl, ℕ, ◌+◌, ◌-◌, ◌≤◌, ◌<◌, true, false, List, [], ◌++◌, length, set, All, append-nil, None, Result, Ok, Err, OnOk, sym, ◌∙◌, ap, subst, arith, slice_get}
 use Rattle.mas_types.specs.declared.answers.Closing.TheVariants as closing
 use Rattle.mas_types.specs.declared.commands.Reply.TheVariants as reply
 use Rattle.mas_types.specs.declared.ids.MemberId.{MemberId}
@@ -8,6 +8,7 @@ use Rattle.mas_types.specs.declared.queues.Config.{Config}
 use Rattle.mas_types.specs.Closings.{closing_line}
 use Rattle.mas_types.specs.Ids.{nobody}
 use Rattle.mas_types.specs.Limits.{steps_most}
+use Rattle.mas_types.specs.declared.ids.Page.{Page}
 use Rattle.lock_cycle.specs.Books.{Book, IsMember, after_stop, after_try, is_stopped}
 use Rattle.spool_plant.specs.declared.plant.Plant.{Ghosts as PlantGhosts}
 use Rattle.spool_plant.specs.View.{Line, View}
@@ -15,14 +16,15 @@ use Rattle.ckpt_copy.specs.declared.copying.Copying.{Ghosts as CopyGhosts}
 use Rattle.ckpt_copy.specs.Moments.{goes_on}
 use Rattle.ckpt_form.specs.declared.steady.Steady.{Ghosts as SteadyGhosts}
 use Rattle.mas_complex.specs.declared.complex.Complex.{Complex}
-use Rattle.mas_complex.specs.Parts.{Parts, parts_of, with_copies}
+use Rattle.mas_complex.specs.Parts.{Parts, parts_of}
 use Rattle.member_node.specs.Calls.{console_now}
 use Rattle.member_node.specs.declared.member.Member.{Member}
 use Rattle.member_node.specs.declared.member.NodeNo.{NodeNo}
 use Rattle.member_node.specs.declared.member.NodeNo.TheVariants as no_node
+use Rattle.member_steps.specs.Noting.{OtherNotesStay}
 use Rattle.member_decks.specs.Keeping.{CopyCauses}
 use Rattle.member_sittings.specs.Gates.{IsAtGate, IsOpen, MayTakeSeat}
-use Rattle.member_sittings.specs.Sat.{CopiesActed, journal_of}
+use Rattle.member_sittings.specs.Sat.{CopiesActed, journal_of, seated_in}
 use Rattle.member_sittings.specs.Whole.{first_half, second_half}
 use Rattle.member_lines.specs.Closes.{HasClosed, left_at as closes_at, stopped_so}
 use Rattle.member_lines.specs.Locks.{IsSeated, IsUnseated, SeatsAndCloses, SeatsBy}
@@ -72,7 +74,7 @@ module _ {P C : Type 0} (plants : PlantGhosts P) where
   copies_cause by x y (Err no_node.ConsoleFault) cause = absurd cause
 
   pub copies_acted : (by : MemberId) (x y : Parts P C) (r : Result (Unit {0}) NodeNo) → CopiesActed plants by x y r → KeepCopies plants x y r
-  copies_acted by x y r acts = copies_of plants x y r (passage_of x.first_alive y.first_alive x.second_alive y.second_alive (v x) (v y) acts.course) (copies_cause by.0 x y r acts.cause)
+  copies_acted by x y r acts = copies_of plants x y r (passage_of x.first_alive y.first_alive x.second_alive y.second_alive (v x) (v y) acts.on.course) (copies_cause by.0 x y r acts.on.cause)
 
 -- a member that is up, and got the lock, may take its seat
 pub may_seat : {P C : Type 0} {plants : PlantGhosts P} {steadies : SteadyGhosts C} {copies : CopyGhosts C} (x mid : Complex P C plants steadies copies) (ms : List Member)
@@ -102,6 +104,7 @@ may_seat {plants = plants} {copies = copies} x mid ms at by few is below frame i
       kept = q.kept;
       begun = q.begun;
       roomy = q.roomy;
+      noted = go.aside.noted;
       level = omega (arith, below);
     }))
 
@@ -110,7 +113,7 @@ may_seat {plants = plants} {copies = copies} x mid ms at by few is below frame i
 module _ {P C : Type 0} {plants : PlantGhosts P} {steadies : SteadyGhosts C} {copies : CopyGhosts C} (x mid y : Complex P C plants steadies copies) (ms : List Member)
     (at : ℕ) (by : MemberId) (what : Ask) (few : at ≤ steps_most) (is : BetweenLines x ms at) (adm : Locks ≡ admitted x.base.config x.book by what)
     (frame : parts_of mid ≡ record (parts_of x) { book = after_try x.book by false }) (inside : IsMember x.book by) (got : HasGot x.base.config x.book by)
-    (m n : Member) (own : m.id ≡ by) (stays : n.id ≡ m.id) (r : Result (Unit {0}) NodeNo) (frame_y : parts_of y ≡ stopped_so r m.id (with_copies (parts_of y) (parts_of mid)))
+    (m n : Member) (own : m.id ≡ by) (stays : n.id ≡ m.id) (r : Result (Unit {0}) NodeNo) (frame_y : parts_of y ≡ stopped_so r m.id (seated_in (parts_of y) (parts_of mid)))
     (locks : SeatsAndCloses m n at Locks mid y r) where
   abbrev p : Parts P C
   p = parts_of x
@@ -130,13 +133,13 @@ module _ {P C : Type 0} {plants : PlantGhosts P} {steadies : SteadyGhosts C} {co
   calm : x.current ≡ None
   calm = (is.quiet (none_left_held x.book by got.is_up.up got.none)).none
 
-  frame_t : q ≡ stopped_so r by (with_copies q t)
+  frame_t : q ≡ stopped_so r by (seated_in q t)
   frame_t =
-      subst (λ (k : MemberId). q ≡ stopped_so r k (with_copies q t)) own
-      (subst (λ (w : Parts P C). q ≡ stopped_so r m.id (with_copies q w)) frame frame_y)
+      subst (λ (k : MemberId). q ≡ stopped_so r k (seated_in q t)) own
+      (subst (λ (w : Parts P C). q ≡ stopped_so r m.id (seated_in q w)) frame frame_y)
 
-  same_t : Stays (with_copies q t) q
-  same_t = subst (λ (w : Parts P C). Stays (with_copies q t) w) (sym frame_t) (stays_stopped by (with_copies q t) r)
+  same_t : Stays (seated_in q t) q
+  same_t = subst (λ (w : Parts P C). Stays (seated_in q t) w) (sym frame_t) (stays_stopped by (seated_in q t) r)
 
   journal : journal_of q ≡ journal_of t
   journal = same_t.journal
@@ -198,14 +201,20 @@ module _ {P C : Type 0} {plants : PlantGhosts P} {steadies : SteadyGhosts C} {co
     pub up2 : q.second_alive ≡ true → t.second_alive ≡ true
     pub goes : Proceeds (u p) (u q)
     pub wrote : plants.tells → (ls : List Line) × (console_now (u q) ≡ console_now (u p) ++ ls) × TellNone at ls
+    pub notes : OtherNotesStay by p.had q.had
+
+  -- of the notes, its own alone may differ
+  own_notes : (had : List (List Page)) → OtherNotesStay m.id p.had had → OtherNotesStay by p.had had
+  own_notes had notes k other = notes k (λ same. absurd (other (same ∙ ap (λ (j : MemberId). j.0) own)))
 
   did_unseated : (e : NodeNo) → IsUnseated plants copies S0 m at Locks t q e → Did (Err e)
   did_unseated e un = record {
     kept = copies_acted plants m.id t q (Err e) un.acts;
-    up1 = un.acts.course.alive1;
-    up2 = un.acts.course.alive2;
-    goes = proceeds_of (u p) (u q) un.acts.course.goes;
-    wrote = λ tells. ([], (un.acts.apart tells).console ∙ sym (append-nil (console_now (u p))), (λ k less small es of. tt));
+    up1 = un.acts.on.course.alive1;
+    up2 = un.acts.on.course.alive2;
+    goes = proceeds_of (u p) (u q) un.acts.on.course.goes;
+    wrote = λ tells. ([], (un.acts.on.apart tells).console ∙ sym (append-nil (console_now (u p))), (λ k less small es of. tt));
+    notes = own_notes q.had un.acts.notes;
   }
 
   alive1_stopped : (z : Parts P C) (k : Result (Unit {0}) NodeNo) → (stopped_so k m.id z).first_alive ≡ z.first_alive
@@ -214,24 +223,25 @@ module _ {P C : Type 0} {plants : PlantGhosts P} {steadies : SteadyGhosts C} {co
   alive2_stopped : (z : Parts P C) (k : Result (Unit {0}) NodeNo) → (stopped_so k m.id z).second_alive ≡ z.second_alive
   alive2_stopped z k = (stays_stopped m.id z k).alive2
 
-  did_seated : (k : Result (Unit {0}) NodeNo) → IsSeated plants copies S0 m n at Locks t q k → Did k
-  did_seated k seated =
+  did_seated : (k_r : Result (Unit {0}) NodeNo) → IsSeated plants copies S0 m n at Locks t q k_r → Did k_r
+  did_seated k_r seated =
       let w = seated.mid in
       let c = seated.closed in
       record {
-        kept = copies_then plants t w q k (copies_acted plants m.id t w (Ok tt) seated.acts)
-            (said_copies plants w q k c.acts (ap (λ (z : Parts P C). z.first_alive) seated.frame ∙ alive1_stopped (record w { plant = q.plant }) k)
-            (ap (λ (z : Parts P C). z.second_alive) seated.frame ∙ alive2_stopped (record w { plant = q.plant }) k) (not_lost k m.id.0 (u w) (u q) c.cause));
-        up1 = λ is. seated.acts.course.alive1 (sym (ap (λ (z : Parts P C). z.first_alive) seated.frame ∙ alive1_stopped (record w { plant = q.plant }) k) ∙ is);
-        up2 = λ is. seated.acts.course.alive2 (sym (ap (λ (z : Parts P C). z.second_alive) seated.frame ∙ alive2_stopped (record w { plant = q.plant }) k) ∙ is);
-        goes = proceeds_of (u p) (u q) (goes_on (u p) (u w) (u q) seated.acts.course.goes c.acts.goes);
+        kept = copies_then plants t w q k_r (copies_acted plants m.id t w (Ok tt) seated.acts)
+            (said_copies plants w q k_r c.acts (ap (λ (z : Parts P C). z.first_alive) seated.frame ∙ alive1_stopped (record w { plant = q.plant }) k_r)
+            (ap (λ (z : Parts P C). z.second_alive) seated.frame ∙ alive2_stopped (record w { plant = q.plant }) k_r) (not_lost k_r m.id.0 (u w) (u q) c.cause));
+        up1 = λ is. seated.acts.on.course.alive1 (sym (ap (λ (z : Parts P C). z.first_alive) seated.frame ∙ alive1_stopped (record w { plant = q.plant }) k_r) ∙ is);
+        up2 = λ is. seated.acts.on.course.alive2 (sym (ap (λ (z : Parts P C). z.second_alive) seated.frame ∙ alive2_stopped (record w { plant = q.plant }) k_r) ∙ is);
+        goes = proceeds_of (u p) (u q) (goes_on (u p) (u w) (u q) seated.acts.on.course.goes c.acts.goes);
         wrote = λ tells.
             let s = c.console tells in
             let found = queue_found (fate_found Locks clear) S0.flight S0.queue in (
               (closes_at S0 m.id at Locks s.cut).lines,
-              s.lines ∙ ap (λ (ls : List Line). ls ++ (closes_at S0 m.id at Locks s.cut).lines) (seated.acts.apart tells).console,
+              s.lines ∙ ap (λ (ls : List Line). ls ++ (closes_at S0 m.id at Locks s.cut).lines) (seated.acts.on.apart tells).console,
               left_tells m.id at s.cut (play_of S0 m.id at clear Locks) (S0.counts m.id) (found_says m.id at true (flight_found (fate_found Locks clear) S0.flight) (pieces_of S0 m.id at clear found Locks) (line_says S0 m.id at clear found Locks)),
             );
+        notes = λ k other. ap (λ (h : List (List Page)). slice_get h k) (ap (λ (z : Parts P C). z.had) seated.frame ∙ (stays_stopped m.id (record w { plant = q.plant }) k_r).had) ∙ own_notes w.had seated.acts.notes k other;
       }
 
   did_by : (k : Result (Unit {0}) NodeNo) → SeatsBy plants copies S0 m n at Locks t q k → Did k
@@ -260,8 +270,8 @@ module _ {P C : Type 0} {plants : PlantGhosts P} {steadies : SteadyGhosts C} {co
   -- IT WAS HALTED, and is stopped
 
   module _ (e : r ≡ Err no_node.Halted) where
-    frame_h : q ≡ stopped_so {T = Unit {0}} (Err no_node.Halted) by (with_copies q t)
-    frame_h = subst (λ (k : Result (Unit {0}) NodeNo). q ≡ stopped_so k by (with_copies q t)) e frame_t
+    frame_h : q ≡ stopped_so {T = Unit {0}} (Err no_node.Halted) by (seated_in q t)
+    frame_h = subst (λ (k : Result (Unit {0}) NodeNo). q ≡ stopped_so k by (seated_in q t)) e frame_t
 
     book_h : y.book ≡ after_stop b by
     book_h = ap (λ (z : Parts P C). z.book) frame_h
@@ -289,7 +299,7 @@ module _ {P C : Type 0} {plants : PlantGhosts P} {steadies : SteadyGhosts C} {co
     halted : LeftBetween y (set ms (by.0 - 1) n) (at + 1)
     halted =
         halted_between p y base since (subst (λ (c : Book). Since x.book c) (sym book_h) (then_since x.book b (after_stop b by) (tried_since x.book by inside false) (stopped_since b by inside_b)))
-        by inside.0 (subst (λ (c : Book). IsMember c by) (sym book_h) (inside_since b (after_stop b by) by (stopped_since b by inside_b) inside_b)) (inl mine) (ap (λ (c : Book). is_stopped c by) book_h ∙ stopped_now b by inside_b) did.goes (λ free. absurd (not_none y.book mine free)) n ms at few is (stays ∙ own)
+        by inside.0 (subst (λ (c : Book). IsMember c by) (sym book_h) (inside_since b (after_stop b by) by (stopped_since b by inside_b) inside_b)) (inl mine) (ap (λ (c : Book). is_stopped c by) book_h ∙ stopped_now b by inside_b) did.goes (λ free. absurd (not_none y.book mine free)) did.notes n ms at few is (stays ∙ own)
         (λ apart. absurd (apart mine)) earlier
         (λ k later less small tells.
         let w = did.wrote tells in

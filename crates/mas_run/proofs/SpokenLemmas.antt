@@ -120,6 +120,7 @@ module _ {P C : Type 0} (plants : PlantGhosts P) (copies : CopyGhosts C) (x : Pa
       kept = settled_later x.batches (v x).now (v z).now is.still.kept goes.later;
       begun = let le = is.still.begun in let on = goes.later in omega (arith, le, on);
       roomy = λ t. roomy_on (v x) (v z) x.base.config goes (is.still.roomy t);
+      noted = is.still.noted;
     };
     between = is.between;
     low = is.low;
@@ -132,6 +133,7 @@ module _ {P C : Type 0} (plants : PlantGhosts P) (copies : CopyGhosts C) (x : Pa
       config = (is.up up).config;
       many = (is.up up).many;
       idle = (is.up up).idle;
+      noted = (is.up up).noted;
       seated = λ holds. seat_spoken m ((is.up up).seated holds);
     };
   }

@@ -27,9 +27,10 @@ use Rattle.mas_complex.specs.Crash.{IsAt, Keeps, OneCopy, Setting, copy_of}
 use Rattle.mas_complex.specs.Journals.{AreSettled, end_of, fated, kept_all, with_last}
 use Rattle.mas_complex.specs.Locking.{IsOfOther}
 use Rattle.mas_complex.specs.Parts.{Parts, ended_at}
+use Rattle.mas_complex.specs.Past.{HasPast, HavePasts, sight_of}
 use Rattle.mas_complex.specs.Seen.{IsGreater, ReadsSeen}
 use Rattle.ckpt_places.specs.declared.places.Place.{Place}
-use Rattle.ckpt_places.specs.declared.places.Place.TheVariants.{Before}
+use Rattle.ckpt_places.specs.declared.places.Place.TheVariants.{Before, Put, Unsure}
 use Rattle.warm_start.specs.declared.takeovers.TakeNo.{TakeNo}
 use Rattle.warm_start.specs.declared.takeovers.TakeNo.TheVariants as take_no
 use Rattle.warm_start.specs.Takeover.{HasActed, HasFailed1, HasFailed2, HasFound, IsRefusedBy, TakesBy, fate_of, placed_then, taken_in}
@@ -45,7 +46,7 @@ use Rattle.mas_run.specs.Resetting.{IsTaken, IsUnfound, IsUntaken, node_no, rest
 use Rattle.mas_run.specs.Shows.{StandsIn}
 use Rattle.mas_run.proofs.BookLemmas.{Since, inside_since, seized_since, stopped_since, then_since}
 use Rattle.mas_run.proofs.LinesLemmas.{settle_both, settle_still}
-use Rattle.mas_run.proofs.TakenQueueLemmas.{low_found, sound_told}
+use Rattle.member_steps.proofs.LowCopies.{low_found, sound_told}
 
 -- A COPY THAT IS LOST may count as before any batch, as each other one does
 
@@ -81,6 +82,29 @@ module _ (S : Setting) (js : List Batch) (c : Option Batch) (reached : ℕ) (res
     first_at = rested_copy S rests1 holds1 k.was k.coming place1 alive1 v.now (disk_now v Ckpt1) one k.first_at;
     second_at = rested_copy S rests2 holds2 k.was k.coming place2 alive2 v.now (disk_now v Ckpt2) two k.second_at;
   }
+
+-- what is read of a copy that counts as alive stays later than what members noted, since it was before any batch
+
+not_unsure : (place : Place) → place ≡ Before → place ≡ Unsure → ⊥
+not_unsure place before unsure = cc
+
+not_put : (place : Place) → place ≡ Before → place ≡ Put → ⊥
+not_put place before put = cc
+
+rested_past : (count : ℕ) (had : List (List Page)) (alive lost : Bool) (place : Place) (read : Option (List ℕ)) (waits : List ℕ) → (alive ≡ true → place ≡ Before)
+    → HasPast count had (sight_of alive place lost read waits) → HasPast count had (sight_of alive Before lost read waits)
+rested_past count had alive lost place read waits rests past = record {
+  reads = λ on sure. past.reads on (λ unsure. absurd (not_unsure place (rests on) unsure));
+  waits = λ on put. absurd (not_put Before refl put);
+}
+
+pub rested_pasts : (count : ℕ) (had : List (List Page)) (alive1 lost1 alive2 lost2 : Bool) (place1 place2 : Place) (read1 read2 : Option (List ℕ)) (waits1 waits2 : List ℕ) → (alive1 ≡ true → place1 ≡ Before)
+    → (alive2 ≡ true → place2 ≡ Before) → HavePasts count had (sight_of alive1 place1 lost1 read1 waits1) (sight_of alive2 place2 lost2 read2 waits2)
+    → HavePasts count had (sight_of alive1 Before lost1 read1 waits1) (sight_of alive2 Before lost2 read2 waits2)
+rested_pasts count had alive1 lost1 alive2 lost2 place1 place2 read1 read2 waits1 waits2 one two pasts = record {
+  first = rested_past count had alive1 lost1 place1 read1 waits1 one pasts.first;
+  second = rested_past count had alive2 lost2 place2 read2 waits2 two pasts.second;
+}
 
 -- A BATCH IN FLIGHT is of a stopped member
 
@@ -297,6 +321,7 @@ module _ {P C : Type 0} (plants : PlantGhosts P) (copies : CopyGhosts C) (by of 
       journal = ap (λ (p : Parts P C). journal_of p) leaves
           ∙ fate_journal fate (not_flying (level (bytes_of pages) == x.level)) (v z).now (v x).now x.batches x.placed x.book x.current stands was;
       printed = ap (λ (p : Parts P C). p.printed) leaves;
+      had = ap (λ (p : Parts P C). p.had) leaves;
       book = ap (λ (p : Parts P C). p.book) leaves;
       quiet = quiet;
       level = subst (λ (n : ℕ). n ≤ x.level + 1) (sym (ap (λ (p : Parts P C). p.level) leaves)) found.near;
@@ -315,6 +340,7 @@ module _ {P C : Type 0} (plants : PlantGhosts P) (copies : CopyGhosts C) (by of 
     journal = ap (λ (p : Parts P C). journal_of p) leaves;
     current = ap (λ (p : Parts P C). p.current) leaves;
     printed = ap (λ (p : Parts P C). p.printed) leaves;
+    had = ap (λ (p : Parts P C). p.had) leaves;
     book = tt;
     stands = tt;
   }
@@ -335,6 +361,7 @@ module _ {P C : Type 0} (plants : PlantGhosts P) (copies : CopyGhosts C) (by of 
     journal = ap (λ (p : Parts P C). journal_of p) leaves;
     current = ap (λ (p : Parts P C). p.current) leaves;
     printed = ap (λ (p : Parts P C). p.printed) leaves;
+    had = ap (λ (p : Parts P C). p.had) leaves;
     book = tt;
     stands = tt;
   }
@@ -346,6 +373,7 @@ module _ {P C : Type 0} (plants : PlantGhosts P) (copies : CopyGhosts C) (by of 
     journal = ap (λ (p : Parts P C). journal_of p) leaves;
     current = ap (λ (p : Parts P C). p.current) leaves;
     printed = ap (λ (p : Parts P C). p.printed) leaves;
+    had = ap (λ (p : Parts P C). p.had) leaves;
     book = tt;
     stands = tt;
   }
@@ -380,6 +408,7 @@ module _ {P C : Type 0} (plants : PlantGhosts P) (copies : CopyGhosts C) (by of 
     journal = ap (λ (p : Parts P C). journal_of p) leaves;
     current = ap (λ (p : Parts P C). p.current) leaves;
     printed = ap (λ (p : Parts P C). p.printed) leaves;
+    had = ap (λ (p : Parts P C). p.had) leaves;
     book = ap (λ (p : Parts P C). p.book) leaves;
     stands = subst (λ (p : Parts P C). StandsIn p.batches p.placed p.book p.current) (sym leaves) (stands_then x.current stands);
   }

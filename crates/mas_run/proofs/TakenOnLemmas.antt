@@ -11,6 +11,7 @@ use Rattle.mas_types.specs.declared.journals.Fate.{Fate}
 use Rattle.mas_types.specs.declared.queues.Queue.{Queue}
 use Rattle.mas_types.specs.Queue.{is_member}
 use Rattle.mas_types.specs.Sound.{IsSound}
+use Rattle.mas_types.specs.declared.ids.Page.{Page}
 use Rattle.lock_cycle.specs.declared.answers.SeizeNo.{SeizeNo}
 use Rattle.lock_cycle.specs.declared.answers.SeizeNo.TheVariants as seized
 use Rattle.lock_cycle.specs.declared.standings.Standing.{Standing}
@@ -24,6 +25,7 @@ use Rattle.mas_complex.specs.Journals.{end_of, in_flight, with_last}
 use Rattle.mas_complex.specs.Parts.{Parts}
 use Rattle.member_node.specs.declared.member.Member.{Member}
 use Rattle.member_node.specs.declared.member.NodeNo.{NodeNo}
+use Rattle.member_node.specs.Wanted.{HasHad}
 use Rattle.member_steps.proofs.ReadLemmas.{pages_of_run, untold_later}
 use Rattle.member_steps.specs.Steps.{AreEarlier, IsKeptBy}
 use Rattle.member_hand.specs.Locks.{MayHold}
@@ -105,6 +107,7 @@ module _ {P C : Type 0} (plants : PlantGhosts P) (copies : CopyGhosts C) (x mid 
   aside = record {
     quiet = subst (λ (n : ℕ). IsQuiet plants copies mid n) (pages_of_run x.base [] m.checkpoint m.room may.config may.idle.drawn may.idle.many) taken.quiet;
     idle = may.idle;
+    noted = subst (λ (h : List (List Page)). HasHad plants.tells m.fresh h m.id.0 m.checkpoint.pages) (sym taken.had) may.noted;
     config = ap (λ (Q : Queue). Q.config) base ∙ may.config;
   }
 

@@ -1,5 +1,5 @@
 -- A line whose member takes the lock of a stopped member over, and resets that.
-use Rattle.std.proofs.Common.{◌≡◌, ⊎_elim, inl, inr, ℕ, ◌+◌, ◌-◌, ◌≤◌, ◌<◌, Bool, true, false, if◌then◌else◌, List, [], ◌∷◌, append-nil, length, set, All, Some, Result, Ok, Err, OnOk, refl, sym, ◌∙◌, ap, subst, arith}
+use Rattle.std.proofs.Common.{◌≡◌, ⊎_elim, inl, inr, ℕ, ◌+◌, ◌-◌, ◌≤◌, ◌<◌, Bool, true, false, if◌then◌else◌, List, [], ◌∷◌, append-nil, length, set, All, Some, Result, Ok, Err, OnOk, refl, sym, ◌∙◌, ap, subst, arith, slice_get}
 use Rattle.mas_types.specs.declared.commands.Command.TheVariants as command
 use Rattle.mas_types.specs.declared.ids.Dev.{Dev}
 use Rattle.mas_types.specs.declared.ids.Dev.TheVariants.{Ckpt1, Ckpt2, Spool}
@@ -9,6 +9,7 @@ use Rattle.mas_types.specs.declared.queues.Queue.{Queue}
 use Rattle.mas_types.specs.Ids.{nobody}
 use Rattle.mas_types.specs.Run.{run}
 use Rattle.mas_types.specs.Limits.{steps_most}
+use Rattle.mas_types.specs.declared.ids.Page.{Page}
 use Rattle.lock_cycle.specs.Books.{Book, IsMember, after_seize, after_stop, is_holder, is_stopped, left_of as hold_left}
 use Rattle.spool_plant.specs.declared.plant.Plant.{Ghosts as PlantGhosts}
 use Rattle.spool_plant.specs.View.{View}
@@ -25,6 +26,7 @@ use Rattle.member_node.specs.declared.member.Member.{Member}
 use Rattle.member_node.specs.declared.member.NodeNo.{NodeNo}
 use Rattle.member_node.specs.declared.member.NodeNo.TheVariants as no_node
 use Rattle.member_node.specs.Spares.{is_stop}
+use Rattle.member_steps.specs.Noting.{OtherNotesStay}
 use Rattle.member_sittings.specs.Sat.{journal_of}
 use Rattle.member_sittings.specs.Whole.{queue_of}
 use Rattle.member_hand.specs.Cuts.{IsBetweenSittings, cause_by}
@@ -210,7 +212,7 @@ module _ {P C : Type 0} {plants : PlantGhosts P} {steadies : SteadyGhosts C} {co
         let inside_b = inside_since x.book b by seized may.seated in
         let mine : y.book.holder ≡ by = ap (λ (c : Book). c.holder) book_h ∙ b_mine in
         halted_between p y base since (subst (λ (c : Book). Since x.book c) (sym book_h) (then_since x.book b (after_stop b by) seized (stopped_since b by inside_b)))
-        by may.some (subst (λ (c : Book). IsMember c by) (sym book_h) (inside_since b (after_stop b by) by (stopped_since b by inside_b) inside_b)) (inl mine) (ap (λ (c : Book). is_stopped c by) book_h ∙ stopped_now b by inside_b) goes_none (λ none. absurd (not_free y.book mine none)) n ms at few is stays
+        by may.some (subst (λ (c : Book). IsMember c by) (sym book_h) (inside_since b (after_stop b by) by (stopped_since b by inside_b) inside_b)) (inl mine) (ap (λ (c : Book). is_stopped c by) book_h ∙ stopped_now b by inside_b) goes_none (λ none. absurd (not_free y.book mine none)) (λ j other. ap (λ (h : List (List Page)). slice_get h j) un.had) n ms at few is stays
         (λ apart. absurd (apart mine))
         (earlier_then at (journal_of q) (subst (λ (bs : List Batch). All (IsOfEarlier at) bs) (sym un.journal) (earlier_journal at p.batches p.placed p.book p.current is.stands is.earlier)))
         (λ k later less small tells.
@@ -297,6 +299,9 @@ module _ {P C : Type 0} {plants : PlantGhosts P} {steadies : SteadyGhosts C} {co
     earlier : All (IsOfEarlier at) t.batches
     earlier = earlier_taken plants copies p t m at of may takes.found takes.taken takes.base takes.since
 
+    notes : OtherNotesStay by p.had q.had
+    notes j other = takes.reset.acts.notes j other ∙ ap (λ (h : List (List Page)). slice_get h j) takes.taken.had
+
     takes_done : LineDone x y (set ms (by.0 - 1) n) at by what r
     takes_done = record {
       base = base;
@@ -305,9 +310,9 @@ module _ {P C : Type 0} {plants : PlantGhosts P} {steadies : SteadyGhosts C} {co
       told = told;
       copies_kept = leaves_same plants p q r on_copies renewals (λ is. takes.taken.counts.alive1 (takes.reset.acts.course.alive1 is)) (λ is. takes.taken.counts.alive2 (takes.reset.acts.course.alive2 is));
       next = turned_next x y t ms k few is takes.base takes.since t_since hold_t earlier takes.taken.counts.goes (λ o. (takes.taken.apart o).console) base_t since_t n stays
-          takes.reset.pieces takes.reset.cut takes.reset.away quiet_all takes.reset.acts.course.goes r takes.reset.played wrote (now_of r after);
+          takes.reset.pieces takes.reset.cut takes.reset.away quiet_all notes takes.reset.acts.course.goes r takes.reset.played wrote (now_of r after);
       halted = turned_halted x y t ms k few is takes.base takes.since t_since hold_t earlier takes.taken.counts.goes (λ o. (takes.taken.apart o).console) base_t since_t n stays
-          takes.reset.pieces takes.reset.cut takes.reset.away quiet_all takes.reset.acts.course.goes r takes.reset.played wrote;
+          takes.reset.pieces takes.reset.cut takes.reset.away quiet_all notes takes.reset.acts.course.goes r takes.reset.played wrote;
       seated = λ e. inside;
     }
 
@@ -326,6 +331,7 @@ pub may_take : {P C : Type 0} (plants : PlantGhosts P) (copies : CopyGhosts C) (
 may_take plants copies x ms at few is below m up its of down holds = record {
   stands = is.stands;
   idle = up.idle;
+  noted = up.noted;
   config = up.config;
   fits = is.config;
   some = some_of x.base m.id its.member;

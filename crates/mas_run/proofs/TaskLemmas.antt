@@ -13,6 +13,7 @@ use Rattle.mas_complex.specs.Paper.{counts_of}
 use Rattle.mas_complex.specs.Parts.{Parts}
 use Rattle.member_node.specs.Calls.{console_now}
 use Rattle.member_node.specs.declared.member.Member.{Member}
+use Rattle.member_steps.specs.Noting.{OtherNotesStay}
 use Rattle.member_hand.specs.Plays.{HasCut, Writes, left_of, play_in}
 use Rattle.member_hand.specs.Quiet.{IsAside}
 use Rattle.member_sittings.specs.Whole.{IsSeat, queue_of}
@@ -112,11 +113,11 @@ module _ {P C : Type 0} (plants : PlantGhosts P) (copies : CopyGhosts C) (x mid 
         then_since x.book mid.book y.book mid_book (subst (λ (b : Book). Since mid.book b) (sym book_after) (play_since h.by play count inside cut))
 
     pub step_next : (n : Member) (ms : List Member) → IsAside plants copies y n → length n.room ≡ page_count x.base.config → n.id ≡ h.by
-        → (y.book.holder ≡ h.by → IsSeat plants copies y n) → h.step ≤ steps_most
+        → (y.book.holder ≡ h.by → IsSeat plants copies y n) → OtherNotesStay h.by x.had y.had → h.step ≤ steps_most
         → IsBetween plants copies x ms h.step → IsBetween plants copies y (set ms (h.by.0 - 1) n) (h.step + 1)
-    step_next n ms aside room id seat few is =
+    step_next n ms aside room id seat notes few is =
         between_after plants copies x y (base ∙ mid_base) book_since h.by (subst (λ (b : Book). IsHeldBy h.by b) (sym book_after) (held_left h.by cut play count held))
-        n aside room id seat ms h.step inside.0 (let le = inside.1 in let many = mid_book.many in let booked = is.booked in omega (arith, le, many, booked)) few is goes.size
+        notes n aside room id seat ms h.step inside.0 (let le = inside.1 in let many = mid_book.many in let booked = is.booked in omega (arith, le, many, booked)) few is goes.size
         (earlier_more h.step y.batches mid.batches left.leaves.more (sym (journal_still y aside.quiet.none aside.quiet.unplaced) ∙ left.leaves.journal) mid_earlier
         (left_earlier h.by h.step cut play count (v mid).now (v y).now left.leaves.more left.of left.leaves.batches))
         (λ k later less small t.

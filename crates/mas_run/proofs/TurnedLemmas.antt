@@ -15,6 +15,7 @@ use Rattle.member_node.specs.Calls.{console_now}
 use Rattle.member_node.specs.declared.member.Member.{Member}
 use Rattle.member_node.specs.declared.member.NodeNo.{NodeNo}
 use Rattle.member_node.specs.declared.member.NodeNo.TheVariants as no_node
+use Rattle.member_steps.specs.Noting.{OtherNotesStay}
 use Rattle.member_sittings.specs.Whole.{IsSeat}
 use Rattle.member_hand.specs.Cuts.{IsBetweenSittings}
 use Rattle.member_hand.specs.Locks.{MayHold}
@@ -47,7 +48,7 @@ module _ {P C : Type 0} {plants : PlantGhosts P} {steadies : SteadyGhosts C} {co
     (may : MayHold t.book h.by) (t_earlier : All (IsOfEarlier h.step) t.batches) (t_goes : Goes (plants.view x.plant) (plants.view t.plant))
     (t_quiet : plants.tells → console_now (plants.view t.plant) ≡ console_now (plants.view x.plant)) (base : y.base ≡ t.base) (since : y.since ≡ t.since)
     (n : Member) (id : n.id ≡ h.by) (pieces : List Piece) (cut : Option Cut) (away : IsOperatorAway y.book y.reserved y.current)
-    (quiet : IsBetweenSittings cut → IsQuiet plants copies (parts_of y) (page_count x.base.config)) where
+    (quiet : IsBetweenSittings cut → IsQuiet plants copies (parts_of y) (page_count x.base.config)) (notes : OtherNotesStay h.by (parts_of x).had (parts_of y).had) where
   abbrev p : Parts P C
   p = parts_of x
 
@@ -64,7 +65,7 @@ module _ {P C : Type 0} {plants : PlantGhosts P} {steadies : SteadyGhosts C} {co
     next_by : (r : Result (Unit {0}) NodeNo) → HasCut plants copies h pieces cut t q r → (plants.tells → HasWritten plants copies h t q r) → OnOk r (IsNowAside plants copies h q (page_count x.base.config) n)
         → OnOk r (BetweenLines y (set ms (h.by.0 - 1) n) (h.step + 1))
     next_by (Ok done) left wrote now =
-        step_next plants copies p t h t_base t_since t_book may.seated may.free t_earlier t_quiet q base since pieces cut left on wrote n ms now.aside now.room id now.seat few is
+        step_next plants copies p t h t_base t_since t_book may.seated may.free t_earlier t_quiet q base since pieces cut left on wrote n ms now.aside now.room id now.seat notes few is
     next_by (Err e) left wrote now = tt
 
     module _ (r : Result (Unit {0}) NodeNo) (left : HasCut plants copies h pieces cut t q r) (wrote : plants.tells → HasWritten plants copies h t q r) where
@@ -74,4 +75,4 @@ module _ {P C : Type 0} {plants : PlantGhosts P} {steadies : SteadyGhosts C} {co
       pub turned_halted : r ≡ Err no_node.Halted → LeftBetween y (set ms (h.by.0 - 1) n) (h.step + 1)
       turned_halted e =
           step_halted p t h t_base t_since t_book may t_earlier t_quiet y base since pieces cut (subst (λ (k : Result (Unit {0}) NodeNo). HasCut plants copies h pieces cut t q k) e left)
-          on away quiet (λ tells. subst (λ (k : Result (Unit {0}) NodeNo). HasWritten plants copies h t q k) e (wrote tells)) n ms id few is
+          on away quiet (λ tells. subst (λ (k : Result (Unit {0}) NodeNo). HasWritten plants copies h t q k) e (wrote tells)) n ms id notes few is

@@ -1,5 +1,5 @@
 -- The members of a run as it begins.
-use Rattle.std.specs.Prelude.{◌≡◌, ℕ, ◌+◌, List, [], ◌∷◌, length}
+use Rattle.std.specs.Prelude.{◌≡◌, ℕ, ◌+◌, true, List, [], ◌∷◌, length}
 use Rattle.mas_types.specs.declared.queues.Config.{Config}
 use Rattle.ckpt_tables.specs.Shape.{page_count}
 use Rattle.member_node.specs.declared.member.Member.{Member}
@@ -9,6 +9,7 @@ use Rattle.member_hand.specs.Quiet.{IsIdle}
 pub record IsFresh (of : Config) (at : ℕ) (m : Member) : Type 0 where
   pub id : m.id ≡ record { 0 = at }
   pub idle : IsIdle m
+  pub fresh : m.fresh ≡ true
   pub config : m.checkpoint.tables.config ≡ of
   pub many : length m.room ≡ page_count of
 

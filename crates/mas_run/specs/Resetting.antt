@@ -34,6 +34,7 @@ use Rattle.member_node.specs.declared.member.NodeNo.TheVariants as no_node
 use Rattle.member_node.specs.Calls.{IsOnlyOn, VolumesStay, none_lost}
 use Rattle.member_node.specs.Reads.{too_high}
 use Rattle.member_node.specs.Spares.{is_stop}
+use Rattle.member_node.specs.Wanted.{HasHad}
 use Rattle.member_sittings.specs.Sat.{begins, journal_of}
 use Rattle.member_sittings.specs.Whole.{HasUntold, IsGivable, queue_of}
 use Rattle.step_turns.specs.declared.states.Grant.TheVariants.{ForStep}
@@ -116,10 +117,11 @@ module _ {P C : Type 0} (plants : PlantGhosts P) (copies : CopyGhosts C) where
 
   -- WITH THE LOCK OF A STOPPED MEMBER
 
-  -- A member that is up, and idle, may take the lock over that a stopped member holds, and then reset that.
+  -- A member that is up, and idle with the pages that it noted, may take the lock over that a stopped member holds, and then reset that.
   pub record MayTakeAt (x : Parts P C) (m : Member) (at : ℕ) (of : MemberId) : Type 0 where
     pub stands : StandsIn x.batches x.placed x.book x.current
     pub idle : IsIdle m
+    pub noted : HasHad plants.tells m.fresh x.had m.id.0 m.checkpoint.pages
     pub config : x.base.config ≡ m.checkpoint.tables.config
     pub fits : IsConfig x.base.config
     pub some : 1 ≤ m.id.0
@@ -155,7 +157,8 @@ module _ {P C : Type 0} (plants : PlantGhosts P) (copies : CopyGhosts C) where
   CopiesLeft no_node.ConsoleFault y = Unit {0}
 
   -- The lock was taken over, and nothing was found out of a batch in flight: acts on the copies alone, with the cause
-  -- of their answer. A member that was stopped in them is stopped in the book, and holds the lock.
+  -- of their answer. Nobody noted any pages. A member that was stopped in them is stopped in the book, and holds the
+  -- lock.
   pub record IsUntaken (by of : MemberId) (x y : Parts P C) (e : NodeNo) : Type 0 where
     pub counts : KeepsCounts by.0 x.first_alive y.first_alive x.second_alive y.second_alive (is_stop e) (v x) (v y)
     pub apart : plants.tells → OnCopies (v x) (v y)
@@ -164,18 +167,21 @@ module _ {P C : Type 0} (plants : PlantGhosts P) (copies : CopyGhosts C) where
     pub journal : journal_of y ≡ journal_of x
     pub current : y.current ≡ x.current
     pub printed : y.printed ≡ x.printed
+    pub had : y.had ≡ x.had
     pub book : IfRuns {T = Unit {0}} (Err e) (y.book ≡ after_stop (after_seize x.book by of) by)
     pub stands : IfRuns {T = Unit {0}} (Err e) (StandsIn y.batches y.placed y.book y.current)
 
   -- The lock was taken over, and this was found of a batch in flight, if one was: it is kept or dropped. The copies
   -- are at rest then, and each that counts as alive has the pages of the configuration. A batch that is kept raises the
-  -- level by one. A copy was lost only where an act on it failed, or it couldn't stay beside the pages found.
+  -- level by one. Nobody noted any pages. A copy was lost only where an act on it failed, or it couldn't stay beside the
+  -- pages found.
   pub record IsTaken (by of : MemberId) (x y : Parts P C) (found : Fate) : Type 0 where
     pub counts : KeepsCounts by.0 x.first_alive y.first_alive x.second_alive y.second_alive false (v x) (v y)
     pub apart : plants.tells → OnCopies (v x) (v y)
     pub fated : found ≢ Flying
     pub journal : journal_of y ≡ settle found (v y).now (journal_of x)
     pub printed : y.printed ≡ x.printed
+    pub had : y.had ≡ x.had
     pub book : y.book ≡ after_seize x.book by of
     pub quiet : IsQuiet plants copies y (page_count x.base.config)
     pub level : y.level ≤ x.level + 1

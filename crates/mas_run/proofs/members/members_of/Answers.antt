@@ -13,7 +13,7 @@ loop-before-preserved c =
     let e = c.in_ok-member.ensures in
     let i = c.loop-before.invariant in
     let is : c.push.new.self ≡ ms ++ m ∷ [] = c.in_ok-push.ensures.ok in
-    let one : IsFresh config (c.loop-before.before + 1) m = fresh_of config (c.loop-before.before + 1) m e.id e.config e.drawn e.batch e.room in
+    let one : IsFresh config (c.loop-before.before + 1) m = fresh_of config (c.loop-before.before + 1) m e.id e.config e.drawn e.batch e.room e.fresh in
     let here : c.loop-before.before + 1 ≡ 1 + length ms = omega (arith, i.many) in
     record {
       many = ap length is ∙ length-append ms (m ∷ []) ∙ ap (λ (n : ℕ). n + 1) i.many;

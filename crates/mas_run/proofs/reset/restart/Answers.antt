@@ -12,6 +12,7 @@ use Rattle.spool_plant.specs.Acts.{Goes}
 use Rattle.spool_volumes.specs.Volumes.{AreRoomy}
 use Rattle.ckpt_tables.specs.Shape.{page_count}
 use Rattle.mas_types.specs.declared.journals.Fate.TheVariants.{Kept}
+use Rattle.mas_types.specs.Limits.{members_most}
 use Rattle.mas_complex.specs.Journals.{begun, end_of, entries_reserved, fated, kept_all}
 use Rattle.mas_complex.specs.Meaning.{run}
 use Rattle.mas_complex.specs.Parts.{parts_of}
@@ -69,6 +70,18 @@ pub write-requires-clause-may : goal.write-requires-clause-may
 write-requires-clause-may g c =
     let same = c.ready.ensures.id ∙ c.give_restart.ensures.id ∙ c.requires.id in
     rw (c.ready.ensures.book, c.make_room.ensures.book) (record { holds = c.requires.free ∙ sym same; up = λ some. absurd (omega (arith, some, ap (λ (m : MemberId). m.0) same)) })
+
+pub write-requires-clause-by : goal.write-requires-clause-by
+write-requires-clause-by g c =
+    let same = c.ready.ensures.id ∙ c.give_restart.ensures.id ∙ c.requires.id in
+    subst (λ (m : MemberId). m.0 ≤ members_most) (sym same) (omega arith)
+
+pub write-requires-clause-config : goal.write-requires-clause-config
+write-requires-clause-config g c told =
+    let e = c.ready.ensures in
+    let base = e.base ∙ c.make_room.ensures.base in
+    let tables = ap (λ (t : Tables). t.config) e.tables ∙ c.give_restart.ensures.config in
+    ap page_count (ap (λ (q : Queue). q.config) base ∙ c.requires.queue.config ∙ sym tables) ∙ sym c.in-Ok-ready.ensures.drawn.spelled.count
 
 pub write-requires-clause-own : goal.write-requires-clause-own
 write-requires-clause-own g c =

@@ -9,7 +9,7 @@ use Rattle.member_node.specs.declared.member.NodeNo.{NodeNo}
 use Rattle.member_hand.proofs.PieceLemmas.{played_frame}
 use Rattle.member_sittings.specs.Whole.{queue_of}
 use Rattle.mas_run.specs.Resetting.{IsTaken, IsUntaken, rested_in}
-use Rattle.mas_run.proofs.TakenQueueLemmas.{kept_sound}
+use Rattle.member_steps.proofs.LowCopies.{kept_sound}
 use Rattle.mas_run.proofs.TakenCalmLemmas.{is_taken, others_stand, taken_base, taken_renewals, taken_since, unfound, untaken}
 use Rattle.mas_run.proofs.resetting.take_lock.Goals as goal
 use Rattle.mas_run.proofs.resetting.take_lock.Goals.{then-complex, else-complex}

@@ -4,6 +4,7 @@ pub invariant_of-complex : goal.invariant_of-complex
 invariant_of-complex c =
     let x = c.is_beside_on.new.complex in record {
       kept = x.kept;
+      lasting = x.lasting;
       replied = x.replied;
       paper = x.paper;
       first_ready = x.first_ready;

@@ -3,7 +3,8 @@ use Rattle.mas_complex.specs.Journals.{in_flight}
 use Rattle.mas_complex.specs.Parts.{Parts, parts_of, unreserved_in}
 use Rattle.member_node.specs.declared.member.NodeNo.{NodeNo}
 use Rattle.member_node.specs.declared.member.NodeNo.TheVariants.{BothLost, ConsoleFault, NoMemory}
-use Rattle.member_lines.specs.Earlier.{AreBefore}
+use Rattle.member_lines.proofs.Earlier.{earlier_kept}
+use Rattle.member_steps.specs.Steps.{AreKeptFrom}
 use Rattle.mas_run.specs.Copies.{CopiesKept}
 use Rattle.mas_run.specs.LinesLeft.{IfRuns, LineIsLeft}
 use Rattle.mas_run.specs.LinesPlayed.{line_by}
@@ -18,15 +19,17 @@ pub say_stopped-requires-clause-by : goal.say_stopped-requires-clause-by
 say_stopped-requires-clause-by g c =
     few_by c.args.by c.args.asked.now c.requires.member c.requires.played.fits.by
 
-pub say_stopped-requires-clause-new : goal.say_stopped-requires-clause-new
-say_stopped-requires-clause-new g c told =
+pub say_stopped-requires-clause-kept : goal.say_stopped-requires-clause-kept
+say_stopped-requires-clause-kept g c told =
     let y = c.play_member.new.self.complex in
     let ns = c.play_member.new.self.members in
     let mid = c.give_up_reserved.new.self in
     let e = c.in-Err-Halted.ensures in
     let is : LeftBetween y ns (c.args.step + 1) = e.halted (ap (λ (k : NodeNo). let r : Result (Unit {0}) NodeNo = Err k in r) c.in-Err-Halted.field-0-is) in
     let frame : parts_of mid ≡ unreserved_in (parts_of y) = c.give_up_reserved.ensures in
-    subst (λ (w : Parts _ _). AreBefore (c.args.step + 1) (w.batches ++ in_flight w.current)) (sym frame) is.earlier
+    let w = unreserved_in (parts_of y) in
+    subst (λ (w : Parts _ _). AreKeptFrom c.args.by (c.args.step + 1) (w.batches ++ in_flight w.current) (g.P.Plant.view w.plant).now) (sym frame)
+    (earlier_kept c.args.by (c.args.step + 1) (g.P.Plant.view w.plant).now (w.batches ++ in_flight w.current) is.earlier)
 
 pub returns-in-Err-Halted-clause-base : goal.returns-in-Err-Halted-clause-base
 returns-in-Err-Halted-clause-base g c =

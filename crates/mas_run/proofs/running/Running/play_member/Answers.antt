@@ -9,7 +9,8 @@ use Rattle.mas_complex.specs.Parts.{Parts, parts_of}
 use Rattle.member_node.specs.declared.member.NodeNo.TheVariants.{NoMemory}
 use Rattle.member_lines.specs.Admissions.{admission_of}
 use Rattle.member_lines.specs.Closes.{IsSayer}
-use Rattle.member_lines.specs.Earlier.{AreBefore}
+use Rattle.member_lines.proofs.Earlier.{earlier_kept}
+use Rattle.member_steps.specs.Steps.{AreKeptFrom}
 use Rattle.run_turns.specs.Admissions.{Denied, Frees, Locks, Plays, Refused, Replaces, Resets, TakesOver, Unplayed, admitted, denied_closing, granted_by}
 use Rattle.run_turns.specs.Pieces.{closes_with}
 use Rattle.step_turns.specs.declared.states.Release.TheVariants.{Keep, Outer}
@@ -137,8 +138,8 @@ say_refused-requires-clause-named g c =
     in_arm x by mid is.config what c.requires.member c.requires.played c.in-Ok.admission (Refused c.in-Refused.sayer c.in-Refused.end) (ap admission_of c.in-Refused.is) c.in-Ok.ensures.admitted c.in-Ok.ensures.frame in
     w.known_so.1
 
-pub say_refused-requires-clause-new : goal.say_refused-requires-clause-new
-say_refused-requires-clause-new g c told =
+pub say_refused-requires-clause-kept : goal.say_refused-requires-clause-kept
+say_refused-requires-clause-kept g c told =
     let P = g.P.Plant in
     let C = g.C.Copying in
     let x = c.args.self.now.complex in
@@ -150,7 +151,8 @@ say_refused-requires-clause-new g c told =
     let mid = c.admit.new.complex in
     let w : InArm x by mid is.config what (Refused c.in-Refused.sayer c.in-Refused.end) =
     in_arm x by mid is.config what c.requires.member c.requires.played c.in-Ok.admission (Refused c.in-Refused.sayer c.in-Refused.end) (ap admission_of c.in-Refused.is) c.in-Ok.ensures.admitted c.in-Ok.ensures.frame in
-    subst (λ (z : Parts _ _). AreBefore at (z.batches ++ in_flight z.current)) (sym w.frame) is.earlier
+    subst (λ (z : Parts _ _). AreKeptFrom by at (z.batches ++ in_flight z.current) (P.view z.plant).now) (sym w.frame)
+    (earlier_kept by at (P.view x.plant).now (x.journal.batches ++ in_flight x.current) is.earlier)
 
 pub returns-in-Refused : goal.returns-in-Refused
 returns-in-Refused g c =
@@ -240,8 +242,8 @@ say_denied-requires-clause-named g c =
     in_arm x by mid is.config what c.requires.member c.requires.played c.in-Ok.admission (Denied c.in-Denied.why) (ap admission_of c.in-Denied.is) c.in-Ok.ensures.admitted c.in-Ok.ensures.frame in
     busy_named x.base is.config x.book by c.in-Denied.why w.known_so.1 (let held = is.held in let most = is.config.members.1 in omega (arith, held, most))
 
-pub say_denied-requires-clause-new : goal.say_denied-requires-clause-new
-say_denied-requires-clause-new g c told =
+pub say_denied-requires-clause-kept : goal.say_denied-requires-clause-kept
+say_denied-requires-clause-kept g c told =
     let P = g.P.Plant in
     let C = g.C.Copying in
     let x = c.args.self.now.complex in
@@ -253,7 +255,8 @@ say_denied-requires-clause-new g c told =
     let mid = c.admit.new.complex in
     let w : InArm x by mid is.config what (Denied c.in-Denied.why) =
     in_arm x by mid is.config what c.requires.member c.requires.played c.in-Ok.admission (Denied c.in-Denied.why) (ap admission_of c.in-Denied.is) c.in-Ok.ensures.admitted c.in-Ok.ensures.frame in
-    subst (λ (z : Parts _ _). AreBefore at (z.batches ++ in_flight z.current)) (sym w.frame) is.earlier
+    subst (λ (z : Parts _ _). AreKeptFrom by at (z.batches ++ in_flight z.current) (P.view z.plant).now) (sym w.frame)
+    (earlier_kept by at (P.view x.plant).now (x.journal.batches ++ in_flight x.current) is.earlier)
 
 pub returns-in-Denied : goal.returns-in-Denied
 returns-in-Denied g c =
@@ -361,8 +364,8 @@ free_line-requires-clause-none g c =
     in_arm x by mid is.config what c.requires.member c.requires.played c.in-Ok.admission (Frees) (ap admission_of c.in-Frees.is) c.in-Ok.ensures.admitted c.in-Ok.ensures.frame in
     ap (λ (z : Parts _ _). z.current) w.frame ∙ (is.quiet (held_up x.book by w.known_so.1 w.known_so.0.up)).none
 
-pub free_line-requires-clause-new : goal.free_line-requires-clause-new
-free_line-requires-clause-new g c told =
+pub free_line-requires-clause-kept : goal.free_line-requires-clause-kept
+free_line-requires-clause-kept g c told =
     let P = g.P.Plant in
     let C = g.C.Copying in
     let x = c.args.self.now.complex in
@@ -374,7 +377,8 @@ free_line-requires-clause-new g c told =
     let mid = c.admit.new.complex in
     let w : InArm x by mid is.config what (Frees) =
     in_arm x by mid is.config what c.requires.member c.requires.played c.in-Ok.admission (Frees) (ap admission_of c.in-Frees.is) c.in-Ok.ensures.admitted c.in-Ok.ensures.frame in
-    subst (λ (z : Parts _ _). AreBefore at (z.batches ++ in_flight z.current)) (sym w.frame) is.earlier
+    subst (λ (z : Parts _ _). AreKeptFrom by at (z.batches ++ in_flight z.current) (P.view z.plant).now) (sym w.frame)
+    (earlier_kept by at (P.view x.plant).now (x.journal.batches ++ in_flight x.current) is.earlier)
 
 pub returns-in-Frees : goal.returns-in-Frees
 returns-in-Frees g c =
@@ -720,8 +724,8 @@ replace_line-requires-clause-may g c =
     c.holder_of-holder-in-Replaces.ensures ∙ ap (λ (k : Grant). let j : Holder = record { by = by; step = at; hold = left_of mid.book by; grant = k } in j) c.grant_of-grant.ensures in
     may_replace x mid ms at by what c.requires.few is below w.frame inside got m s.own up h same c.in-Replaces.dev w.known_so.1
 
-pub replace_line-requires-clause-new : goal.replace_line-requires-clause-new
-replace_line-requires-clause-new g c told =
+pub replace_line-requires-clause-kept : goal.replace_line-requires-clause-kept
+replace_line-requires-clause-kept g c told =
     let P = g.P.Plant in
     let C = g.C.Copying in
     let x = c.args.self.now.complex in
@@ -734,8 +738,14 @@ replace_line-requires-clause-new g c told =
     let w : InArm x by mid is.config what (Replaces c.in-Replaces.dev) =
     in_arm x by mid is.config what c.requires.member c.requires.played c.in-Ok.admission (Replaces c.in-Replaces.dev) (ap admission_of c.in-Replaces.is) c.in-Ok.ensures.admitted c.in-Ok.ensures.frame in
     let same_step = ap (λ (k : Holder). k.step) c.holder_of-holder-in-Replaces.ensures in
-    subst (λ (n : ℕ). AreBefore n (mid.journal.batches ++ in_flight mid.current)) (sym same_step)
-    (subst (λ (z : Parts _ _). AreBefore at (z.batches ++ in_flight z.current)) (sym w.frame) is.earlier)
+    let i = c.saturating_sub-at.result in
+    let m = c.item_mut-in-Replaces.result.now in
+    let s : InPlace x by i m = in_place x by ms at is w.known_so.0 i c.saturating_sub-at.ensures m c.item_mut-in-Replaces.ensures.value in
+    let all : AreKeptFrom by at (mid.journal.batches ++ in_flight mid.current) (P.view mid.plant).now =
+    subst (λ (z : Parts _ _). AreKeptFrom by at (z.batches ++ in_flight z.current) (P.view z.plant).now) (sym w.frame)
+    (earlier_kept by at (P.view x.plant).now (x.journal.batches ++ in_flight x.current) is.earlier) in
+    subst (λ (n : ℕ). AreKeptFrom m.id n (mid.journal.batches ++ in_flight mid.current) (P.view mid.plant).now) (sym same_step)
+    (subst (λ (k : MemberId). AreKeptFrom k at (mid.journal.batches ++ in_flight mid.current) (P.view mid.plant).now) (sym s.own) all)
 
 pub returns-in-Replaces : goal.returns-in-Replaces
 returns-in-Replaces g c =
@@ -900,8 +910,8 @@ lock_line-requires-clause-may g c =
     let below : x.level < level_most = omega (arith, c.if-self-ge-LEVEL_MOST.false) in
     may_seat x mid ms at by c.requires.few is below w.frame inside got m s.own up
 
-pub lock_line-requires-clause-new : goal.lock_line-requires-clause-new
-lock_line-requires-clause-new g c told =
+pub lock_line-requires-clause-kept : goal.lock_line-requires-clause-kept
+lock_line-requires-clause-kept g c told =
     let P = g.P.Plant in
     let C = g.C.Copying in
     let x = c.args.self.now.complex in
@@ -913,7 +923,13 @@ lock_line-requires-clause-new g c told =
     let mid = c.admit.new.complex in
     let w : InArm x by mid is.config what (Locks) =
     in_arm x by mid is.config what c.requires.member c.requires.played c.in-Ok.admission (Locks) (ap admission_of c.in-Locks.is) c.in-Ok.ensures.admitted c.in-Ok.ensures.frame in
-    subst (λ (z : Parts _ _). AreBefore at (z.batches ++ in_flight z.current)) (sym w.frame) is.earlier
+    let i = c.saturating_sub-at.result in
+    let m = c.item_mut-in-Locks.result.now in
+    let s : InPlace x by i m = in_place x by ms at is w.known_so i c.saturating_sub-at.ensures m c.item_mut-in-Locks.ensures.value in
+    let all : AreKeptFrom by at (mid.journal.batches ++ in_flight mid.current) (P.view mid.plant).now =
+    subst (λ (z : Parts _ _). AreKeptFrom by at (z.batches ++ in_flight z.current) (P.view z.plant).now) (sym w.frame)
+    (earlier_kept by at (P.view x.plant).now (x.journal.batches ++ in_flight x.current) is.earlier) in
+    subst (λ (k : MemberId). AreKeptFrom k at (mid.journal.batches ++ in_flight mid.current) (P.view mid.plant).now) (sym s.own) all
 
 pub returns-in-Locks : goal.returns-in-Locks
 returns-in-Locks g c =
