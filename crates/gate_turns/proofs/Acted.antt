@@ -72,6 +72,7 @@ counted_for x view printed actor by part result acts told cares own stops spares
     printed = counts s (other k s ne at);
     told = ap (told_by s) (spares.lines s (other k s ne at));
     groups = spares.groups s (other k s ne at);
+    noted = refl;
   });
   other_stops = λ k e. each_seat (λ a b. a ≡ b) (λ (m : MemberId). view.stops m.0) (λ (m : MemberId). x.view.stops m.0) 0 refl 0 9 k (λ s at lt. stops s.0 (ap (marked_at cares) (here k s at) ∙ e));
   other_loses = λ none d. inl (at_map (λ a b. a ≡ b) view.loses x.view.loses 0 refl acts.loses devices d);
@@ -157,7 +158,7 @@ said_spares x view by line result true goes says before own = record {
       (λ i. groups_on (λ d. (says refl).disks d i) x.base.config.groups k (run x.base (kept_all x.batches)).owners);
 } where
   same_groups : (a b : List Group) → a ≡ b → SyncedGroups a b
-  same_groups a b e = subst (λ c. SyncedGroups a c) e (synced_refl (record { hold = no_hold; printed = 0; told = 0; groups = a })).groups
+  same_groups a b e = subst (λ c. SyncedGroups a c) e (synced_refl (record { hold = no_hold; printed = 0; told = 0; groups = a; noted = [] })).groups
 
 pub says_may : SaysMayGoBack
 says_may x view by line result told cares acts says before own mine = acted x view by Console result acts told cares mine (said_spares x view by line result told acts.goes says before own)

@@ -47,7 +47,7 @@ stays_reserved b m k ne has (Some (e ∷ es)) own = ap (λ z. if z then None els
 
 desk_same : (told : Bool) (x : Shown) (b : Book) (r : Option (List Entry)) (k : MemberId) → hold_of told (with_book x b r) k ≡ hold_of told x k
     → Synced (desk_in told (with_book x b r) k) (desk_in told x k)
-desk_same told x b r k e = record { hold = e; printed = refl; told = refl; groups = (synced_refl (desk_in told x k)).groups }
+desk_same told x b r k e = record { hold = e; printed = refl; told = refl; groups = (synced_refl (desk_in told x k)).groups; noted = refl }
 
 booked : (x : Shown) (b : Book) (r : Option (List Entry)) (m : MemberId) → Leaves m x.book b x.reserved r x.current → MayGoBack m x b r
 booked x b r m leaves told cares = record {

@@ -1,4 +1,5 @@
 -- A value on whose copies the holder of the lock acted may be given back.
+use Rattle.mas_types.specs.declared.ids.Page.{Page}
 use Rattle.std.proofs.Common.{◌≡◌, ◌≢◌, ◌⊎◌, inl, inr, ℕ, zero, suc, ◌+◌, ◌≤◌, ◌==◌, Bool, true, false, List, [], ◌∷◌, ◌++◌, length, Option, Some, None, refl, sym, ap, subst, ◌∙◌, arith}
 use Rattle.std.proofs.Math.Logic.{∥∥₁_elim}
 use Rattle.std.proofs.lemmas.Bool.{ne_eqb}
@@ -151,6 +152,7 @@ module _ (x c : Shown) (by : MemberId) (stopped told : Bool) (cares : List Bool)
       printed = call.printed s (other k s ne at);
       told = ap (told_by s) (lines_same s);
       groups = groups_same told s call.apart (λ is. groups is s (other k s ne at) (sym (seat_at (shows_stopped x.book) false 0 9 k s lt at) ∙ up));
+      noted = ap (λ (pages : List Page). if told then pages else []) (call.noted s (other k s ne at));
     });
     other_stops = λ k e. each_seat (λ a b. a ≡ b) (λ (m : MemberId). c.view.stops m.0) (λ (m : MemberId). x.view.stops m.0) 0 refl 0 9 k (λ s at lt. call.counts.no_other_stop s.0 (inl (other k s (not_own k e) at)));
     other_loses = λ none d. once d;
@@ -295,6 +297,7 @@ reserved_back x by batches reserved told cares holds kept begun = record {
     printed = refl;
     told = refl;
     groups = groups_same told s;
+    noted = refl;
   });
   other_stops = λ k e. refl;
   other_loses = λ none d. inl refl;

@@ -1,5 +1,5 @@
 -- Printed lines: a member counts its own alone.
-use Rattle.std.proofs.Common.{◌≡◌, ◌≢◌, ℕ, Bool, true, false, List, length, if◌then◌else◌, refl, subst, ap, ◌∙◌}
+use Rattle.std.proofs.Common.{◌≡◌, ◌≢◌, ℕ, Bool, true, false, List, [], length, if◌then◌else◌, refl, subst, ap, ◌∙◌}
 use Rattle.std.proofs.lemmas.List.{get_or-set_other}
 use Rattle.std.specs.Prelude.{slice_index_or, slice_set, drop}
 use Rattle.std.specs.List.{list_any}
@@ -50,7 +50,7 @@ printed_spares x view by line result true goes prints before = record {
       (λ i. groups_on (λ d. (prints refl).disks d i) x.base.config.groups k (run x.base (kept_all x.batches)).owners);
 } where
   same_groups : (a b : List Group) → a ≡ b → SyncedGroups a b
-  same_groups a b e = subst (λ c. SyncedGroups a c) e (synced_refl (record { hold = no_hold; printed = 0; told = 0; groups = a })).groups
+  same_groups a b e = subst (λ c. SyncedGroups a c) e (synced_refl (record { hold = no_hold; printed = 0; told = 0; groups = a; noted = [] })).groups
 
 pub prints_may : PrintsMayGoBack
 prints_may x view by line result told cares acts prints before mine =

@@ -68,7 +68,7 @@ own_each by stopped [] all = tt
 own_each by stopped (e ∷ es) all = (inl (ap (λ (m : MemberId). m.0) (All-head (λ (d : Entry). d.by ≡ by) e es all)), own_each by stopped es (All-tail (λ (d : Entry). d.by ≡ by) e es all))
 
 pub same_groups : (a b : List Group) → a ≡ b → SyncedGroups a b
-same_groups a b e = subst (λ c. SyncedGroups a c) e (synced_refl (record { hold = no_hold; printed = 0; told = 0; groups = a })).groups
+same_groups a b e = subst (λ c. SyncedGroups a c) e (synced_refl (record { hold = no_hold; printed = 0; told = 0; groups = a; noted = [] })).groups
 
 pub keeps_may : KeepsMayGoBack
 keeps_may x by now entries told cares reserved own none ends holds same mine =
@@ -88,6 +88,7 @@ keeps_may x by now entries told cares reserved own none ends holds same mine =
         printed = batches_leave by entries x.printed s (other k s ne at);
         told = refl;
         groups = calm told s (λ t. ap (run x.base) more ∙ same t);
+        noted = refl;
       });
       other_stops = λ k e. refl;
       other_loses = λ none d. inl refl;

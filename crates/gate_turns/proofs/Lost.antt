@@ -89,6 +89,7 @@ desk_lost dev told x view m loss stays = record {
   printed = refl;
   told = ap (λ ls. told_by m (lines_by x.base.config.members m.0 ls)) (said_lost dev x view told loss.loses.goes loss.apart loss.begun);
   groups = lost_groups dev x view told m loss.loses.goes loss.apart loss.volume;
+  noted = refl;
 }
 
 pub history_lost : LossesLeaveHistory

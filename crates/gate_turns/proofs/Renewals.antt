@@ -57,6 +57,7 @@ module _ (by : MemberId) (dev : Dev) (stopped told : Bool) (x : Shown) (view : V
     printed = refl;
     told = ap (λ ls. told_by m (lines_by x.base.config.members m.0 ls)) (said told refl);
     groups = groups told refl m;
+    noted = refl;
   }
 
   leaves_history : LeavesHistory (facts_of told x) (facts_of told after)

@@ -37,7 +37,7 @@ pub follows_left : {A K : Type 0} (held : Option A) (x : A) (here place : K) (fo
 follows_left {A = A} held x here place follows finds e p next y f = subst (λ k. follows k x y) p (of_held held x (λ w. (y : A) → finds y → follows here w y) e next y f)
 
 -- a try leaves a value at rest
-tried_rest : (x : Shown) (by : MemberId) (inner : Bool) → 0 < by.0 → IsAtRest x → IsAtRest (with_book x (after_try x.book by inner) x.reserved)
+pub tried_rest : (x : Shown) (by : MemberId) (inner : Bool) → 0 < by.0 → IsAtRest x → IsAtRest (with_book x (after_try x.book by inner) x.reserved)
 tried_rest x by inner some rest = record {
   away = tries_cases x.book by inner (λ b. IsOperatorAway b x.reserved x.current) rest.away rest.away (λ none is. absurd (let e : by.0 ≡ 0 = ap (λ (m : MemberId). m.0) is in omega (arith, e, some)));
   members = tries_cases x.book by inner (λ b. length b.members ≡ members_of x.base.config) rest.members rest.members (λ none. length-set x.book.members (by.0 - 1) _ ∙ rest.members);
@@ -55,11 +55,11 @@ module _ {P C : Type 0} {plants : PlantGhosts P} {steadies : SteadyGhosts C} {co
   pub shown_framed : (was is : Complex P C plants steadies copies) (b : Book) → parts_of is ≡ record (parts_of was) { book = b } → shown_of is ≡ with_book (shown_of was) b was.reserved
   shown_framed was is b frame = ap (λ (p : Parts P C). shows copies.reads plants.view p) frame
 
-  -- one that is bound found the value at rest
-  pub rested : (was bound : Option ℕ) (held : Option (Complex P C plants steadies copies)) (x : Complex P C plants steadies copies) → was ≡ bound → held ≡ Some x
-      → IfSome was (λ m. IfSome held (λ z. IsAtRest (shown_of z))) → IfSome bound (λ m. IsAtRest (shown_of x))
-  rested was bound held x same has rest =
-      subst (λ o. IfSome o (λ m. IsAtRest (shown_of x))) same (subst (λ h. IfSome was (λ m. IfSome h (λ z. IsAtRest (shown_of z)))) has rest)
+  -- one that is bound found what holds between two turns
+  pub rested : (rests : Complex P C plants steadies copies → Type 0) (was bound : Option ℕ) (held : Option (Complex P C plants steadies copies)) (x : Complex P C plants steadies copies) → was ≡ bound → held ≡ Some x
+      → IfSome was (λ m. IfSome held rests) → IfSome bound (λ m. rests x)
+  rested rests was bound held x same has rest =
+      subst (λ o. IfSome o (λ m. rests x)) same (subst (λ h. IfSome was (λ m. IfSome h rests)) has rest)
 
   -- and where it is lent another value it keeps what that value told
   pub took_then : (was mid now : Option ℕ) (held : Option (Complex P C plants steadies copies)) (x : Complex P C plants steadies copies) (first later : Bool → Facts) → mid ≡ was → now ≡ mid → held ≡ Some x
@@ -72,19 +72,18 @@ module _ {P C : Type 0} {plants : PlantGhosts P} {steadies : SteadyGhosts C} {co
       subst (λ o. IfSome o (λ m. EachWay plants.tells (λ told. later told ≡ facts_of told (shown_of x)))) (sym (f ∙ e)) (record { bare = kept false ∙ found.bare; told = λ t. kept true ∙ found.told t })
 
   -- after a try the value may be handed back
-  pub tried_back : (was is : Complex P C plants steadies copies) (by : MemberId) (inner : Bool) (bound : Option ℕ) (cares : Bool → List Bool) (taken : Bool → Facts) (held : Option (Complex P C plants steadies copies))
+  pub tried_back : (rests : Complex P C plants steadies copies → Type 0) (was is : Complex P C plants steadies copies) (by : MemberId) (inner : Bool) (bound : Option ℕ) (cares : Bool → List Bool) (taken : Bool → Facts) (held : Option (Complex P C plants steadies copies))
       → Serves bound by.0 → held ≡ Some is → IfSome bound (λ m. EachWay plants.tells (λ told. taken told ≡ facts_of told (shown_of was))) → IsMember was.book by
-      → shown_of is ≡ with_book (shown_of was) (after_try was.book by inner) was.reserved → IfSome bound (λ m. IsAtRest (shown_of was))
-      → IfSome bound (λ m. IfSome held (λ x. MayHandBack plants.tells m cares taken (shown_of x)))
-  tried_back was is by inner None cares taken held serves has took member shown rest = tt
-  tried_back was is by inner (Some k) cares taken held serves has took member shown rest =
+      → shown_of is ≡ with_book (shown_of was) (after_try was.book by inner) was.reserved → (rests was → rests is) → IfSome bound (λ m. rests was)
+      → IfSome bound (λ m. IfSome held (λ x. MayHandBack plants.tells (rests x) m cares taken (shown_of x)))
+  tried_back rests was is by inner None cares taken held serves has took member shown keeps rest = tt
+  tried_back rests was is by inner (Some k) cares taken held serves has took member shown keeps rest =
       let theirs : (told : Bool) → taken told ≡ facts_of told (shown_of was) → MayGiveBack by.0 (cares told) (taken told) (facts_of told (shown_of is)) =
       λ told e. subst (λ t. MayGiveBack by.0 (cares told) t (facts_of told (shown_of is))) (sym e)
       (subst (λ s. MayGiveBack by.0 (cares told) (facts_of told (shown_of was)) (facts_of told s)) (sym shown) (tries_may (shown_of was) by inner member told (cares told))) in
-      let at_rest : IsAtRest (shown_of is) = subst (λ s. IsAtRest s) (sym shown) (tried_rest (shown_of was) by inner member.0 rest) in
-      subst (λ n. IfSome held (λ x. MayHandBack plants.tells n cares taken (shown_of x))) (sym serves)
-      (subst (λ o. IfSome o (λ x. MayHandBack plants.tells by.0 cares taken (shown_of x))) (sym has)
-      (record { rest = at_rest; theirs = record { bare = theirs false took.bare; told = λ t. theirs true (took.told t) } }))
+      subst (λ n. IfSome held (λ x. MayHandBack plants.tells (rests x) n cares taken (shown_of x))) (sym serves)
+      (subst (λ o. IfSome o (λ x. MayHandBack plants.tells (rests x) by.0 cares taken (shown_of x))) (sym has)
+      (record { rest = keeps rest; theirs = record { bare = theirs false took.bare; told = λ t. theirs true (took.told t) } }))
 
 -- what a value keeps of its past says that it has begun
 module _ {P C : Type 0} {plants : PlantGhosts P} {steadies : SteadyGhosts C} {copies : CopyGhosts C} where

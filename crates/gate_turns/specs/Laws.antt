@@ -1,4 +1,5 @@
 -- What calls of a shared value leave to the others, so that it may be given back.
+use Rattle.mas_complex.specs.Past.{noted_by}
 use Rattle.std.specs.Prelude.{◌≡◌, ◌≢◌, ◌⊎◌, ℕ, ◌^◌, ◌<◌, ◌≤◌, ◌↔◌, Bool, true, false, List, [], ◌∷◌, ◌++◌, length, Option, Some, None, All}
 use Rattle.mas_types.specs.declared.ids.MemberId.{MemberId}
 use Rattle.mas_types.specs.declared.ids.GroupNo.{GroupNo}
@@ -190,6 +191,7 @@ pub record IsCall (by : MemberId) (stopped told : Bool) (x c : Shown) : Type 0 w
   pub apart : told ≡ true → OnCopies x.view c.view
   pub begun : told ≡ true → HasBegun x
   pub printed : (m : MemberId) → m.0 ≢ by.0 → counts_of c.printed m ≡ counts_of x.printed m
+  pub noted : (m : MemberId) → m.0 ≢ by.0 → noted_by c.had m.0 ≡ noted_by x.had m.0
 
 -- entries that are kept leave the groups of each other member that isn't stopped
 abbrev pub LeavesGroups : MemberId → Shown → List Entry → Type 0

@@ -16,6 +16,7 @@ use Rattle.mas_complex.specs.Meaning.{run}
 use Rattle.mas_complex.specs.Paper.{counts_of}
 use Rattle.gate_turns.specs.Seats.{all_seats, has_lock, shows_stopped}
 use Rattle.mas_complex.specs.Parts.{Shown}
+use Rattle.mas_complex.specs.Past.{noted_by}
 use Rattle.gate_turns.specs.Words.{lines_by}
 use Rattle.gate_turns.specs.Told.{told_by}
 use Rattle.gate_turns.specs.Desks.{kept_pages, no_hold, whole_hold, groups_on}
@@ -65,6 +66,7 @@ module _ (told : Bool) where
     told = told_by m
         (lines_by x.base.config.members m.0 (said_of x));
     groups = groups_of x m;
+    noted = if told then noted_by x.had m.0 else [];
   }
 
   -- what the value tells: its content only where this is asked for, as a plant that doesn't tell its content says

@@ -28,10 +28,11 @@ pub record IsAtRest (x : Shown) : Type 0 where
   pub away : IsOperatorAway x.book x.reserved x.current
   pub members : length x.book.members ≡ members_of x.base.config
 
--- what one that is bound to a member may hand back, which took this: a value at rest, with the others' as it was
-pub record MayHandBack (tells : Type 0) (m : ℕ) (cares : Bool → List Bool) (taken : Bool → Facts) (x : Shown) : Type 0
+-- What one that is bound to a member may hand back, which took this: a value with the others' as it was. What is to
+-- hold between two turns holds of it.
+pub record MayHandBack (tells rests : Type 0) (m : ℕ) (cares : Bool → List Bool) (taken : Bool → Facts) (x : Shown) : Type 0
   where
-    pub rest : IsAtRest x
+    pub rest : rests
     pub theirs : EachWay tells (λ told. MayGiveBack m (cares told) (taken told) (facts_of told x))
 
 -- bound to this member, or to none
@@ -56,6 +57,11 @@ module _ {P C : Type 0} {plants : PlantGhosts P} {steadies : SteadyGhosts C} {co
   pub record MayTry (x : Complex P C plants steadies copies) (by : MemberId) : Type 0 where
     pub member : IsMember x.book by
     pub away : IsOperatorAway x.book x.reserved x.current
+
+  -- a try leaves what is to hold between two turns
+  abbrev pub KeepsRest : (Complex P C plants steadies copies → Type 0) → MemberId → Bool → Type 0
+  KeepsRest rests by inner = (x y : Complex P C plants steadies copies)
+      → parts_of y ≡ record (parts_of x) { book = after_try x.book by inner } → rests x → rests y
 
   -- The value that was found, with its book after the try; the answer is that book's. What may be found next follows
   -- the value that was left.

@@ -38,6 +38,8 @@ impl<'a, V: Telling> Turns<V> for OneHand<'a, V> {
 
     ghost held = { λ t. if t.out then Some t.value.now else None };
 
+    ghost rests = { λ x. Unit {0} };
+
     ghost with_held = { λ t x. record t { value = record t.value { now = x } } };
 
     ghost finds = { λ t x. x ≡ t.value.now };

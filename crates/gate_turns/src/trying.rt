@@ -1,6 +1,6 @@
 //! One turn in which a member tries at the lock.
 ghost use Rattle.std.specs.Prelude.{◌≡◌, true, false, None, OnOk};
-ghost use Rattle.gate_turns.specs.Turning.{Serves, IsMemberOf, OfEach, MayTry, HasTried};
+ghost use Rattle.gate_turns.specs.Turning.{Serves, IsMemberOf, KeepsRest, OfEach, MayTry, HasTried};
 
 use crate::laws::law_of_lock_calls;
 use crate::turns::Turns;
@@ -21,6 +21,7 @@ pub fn try_in_turn<P: Plant + Drop, C: Steady + Drop, T: Turns<Complex<P, C>>>(
     requires serves { Serves (T.bound turns.old) by.0 }
     requires member { IsMemberOf (T.memory turns.old false).base.config by }
     requires may { OfEach (T.finds turns.old) (λ x. MayTry x by) }
+    requires rests { KeepsRest T.rests by inner }
     ensures free { T.held turns.new ≡ None }
     ensures bound { T.bound turns.new ≡ T.bound turns.old }
     ensures place { T.place turns.new ≡ T.place turns.old }

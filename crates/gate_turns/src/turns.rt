@@ -11,7 +11,7 @@ pub trait Turns<V: Telling> {
     ghost use Rattle.gate_facts.specs.declared.facts.Facts.{Facts};
     ghost use Rattle.gate_facts.specs.Memory.{Memory, Knows, IsLeft};
     ghost use Rattle.gate_turns.specs.Shared.{facts_of};
-    ghost use Rattle.gate_turns.specs.Turning.{EachWay, Serves, IsAtRest, MayHandBack};
+    ghost use Rattle.gate_turns.specs.Turning.{EachWay, Serves, MayHandBack};
 
     /// What names the value, or the gate, at which turns are taken.
     ghost Place: { Type 0 };
@@ -24,6 +24,9 @@ pub trait Turns<V: Telling> {
 
     /// The value, in a turn, and none between two.
     ghost held: { Self → Option V };
+
+    /// What holds of the value between two turns, where this one is bound.
+    ghost rests: { V → Type 0 };
 
     /// One that has another value, and is else as this one.
     ghost with_held: { Self → V → Self };
@@ -41,14 +44,14 @@ pub trait Turns<V: Telling> {
     /// What the value told as the turn began, for one that is bound.
     ghost taken: { Self → Bool → Facts };
 
-    /// Begins a turn. One that is bound finds the value at rest.
+    /// Begins a turn. One that is bound finds that of the value which holds between two turns.
     fn turn(&mut self)
         requires { held self.old ≡ None }
         ensures held { is_some (held self.new) ≡ true }
         ensures found { IfSome (held self.new) (finds self.old) }
         ensures known { IfSome (held self.new) (λ x. EachWay V.tells
             (λ told. (m : ℕ) → Serves (bound self.old) m → Knows m (memory self.old told) (facts_of told (V.shown x)))) }
-        ensures rest { IfSome (bound self.old) (λ m. IfSome (held self.new) (λ x. IsAtRest (V.shown x))) }
+        ensures rest { IfSome (bound self.old) (λ m. IfSome (held self.new) rests) }
         ensures taken { IfSome (bound self.old) (λ m. IfSome (held self.new) (λ x. EachWay V.tells
             (λ told. taken self.new told ≡ facts_of told (V.shown x)))) }
         ensures memory { (told : Bool) → memory self.new told ≡ memory self.old told }
@@ -66,7 +69,7 @@ pub trait Turns<V: Telling> {
     fn back(&mut self)
         requires held { is_some (held self.old) ≡ true }
         requires may { IfSome (bound self.old) (λ m. IfSome (held self.old) (λ x.
-            MayHandBack V.tells m (λ told. (memory self.old told).cares) (taken self.old) (V.shown x))) }
+            MayHandBack V.tells (rests x) m (λ told. (memory self.old told).cares) (taken self.old) (V.shown x))) }
         ensures held { held self.new ≡ None }
         ensures next { IfSome (held self.old) (λ x. (y : V) → finds self.new y → follows (place self.old) x y) }
         ensures left { IfSome (held self.old) (λ x. EachWay V.tells

@@ -1,5 +1,5 @@
 -- What a pass knows in a turn and after it, and what workers leave.
-use Rattle.std.proofs.Common.{◌≡◌, ◌∙◌, ℕ, zero, suc, ◌<◌, Bool, true, false, List, [], ◌∷◌, length, slice_index_or, ap, refl, subst, sym, arith}
+use Rattle.std.proofs.Common.{◌≡◌, ◌∙◌, ℕ, suc, ◌<◌, Bool, true, false, List, [], ◌∷◌, length, slice_index_or, ap, refl, subst, sym, arith}
 use Rattle.std.specs.List.{refill}
 use Rattle.std.specs.Prelude.{Option, Some, None, IfSome, is_some, if◌then◌else◌}
 use Rattle.gate_facts.specs.declared.facts.Facts.{Facts}

@@ -94,6 +94,7 @@ impl<'a, P: Plant + Drop, C: Steady + Drop, R: Wait> Passing<'a, P, C, R> {
 
 impl<'a, P: Plant + Drop, C: Steady + Drop, R: Wait> Turns<Complex<P, C>> for Passing<'a, P, C, R> {
     ghost use Rattle.std.specs.Prelude.{Some, refl, if◌then◌else◌};
+    ghost use Rattle.mas_race.specs.Between.{BetweenTurns};
     ghost use Rattle.member_gate.specs.Passes.{view};
     ghost use Rattle.member_gate.specs.Views.{memory_in, sight};
     ghost use Rattle.mas_race.specs.Passings.{PassPlace, at_pass, found_by, found_after, held_within};
@@ -116,6 +117,8 @@ impl<'a, P: Plant + Drop, C: Steady + Drop, R: Wait> Turns<Complex<P, C>> for Pa
     ghost memory = { λ t. memory_in (view t.turn.now.pass) };
 
     ghost taken = { λ t told. (sight (view t.turn.now.pass) told).out };
+
+    ghost rests = { λ x. BetweenTurns x };
 
     fn turn(&mut self) {
         let turn = &mut *self.turn;

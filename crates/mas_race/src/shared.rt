@@ -1,19 +1,18 @@
 //! The shared value in a gate.
-ghost use Rattle.gate_turns.specs.Turning.{IsAtRest};
-ghost use Rattle.mas_complex.specs.Parts.{shown_of};
-ghost use Rattle.mas_race.specs.Rests.{rest_prop};
+ghost use Rattle.mas_race.specs.Between.{BetweenTurns, rest_prop};
 
 use mas_complex::{Complex, Steady};
 use member_gate::Kept;
 use spool_plant::Plant;
 
-/// A shared value between two turns: the operator has no batch, and the book is of the members of the configuration.
+/// A shared value between two turns of a race.
 #[derive(Drop)]
 pub struct Shared<P: Plant + Drop, C: Steady + Drop> {
     /// The value.
     pub complex: Complex<P, C>,
 
-    ghost rest: { IsAtRest (shown_of complex) } by { rest_prop (shown_of complex) },
+    /// What every turn leaves.
+    ghost rest: { BetweenTurns complex } by { rest_prop complex },
 }
 
 impl<P: Plant + Drop, C: Steady + Drop> Kept for Shared<P, C> {

@@ -3,6 +3,7 @@ use Rattle.std.proofs.Common.{◌≡◌, ⊎_elim, inr, ℕ, ◌≤◌, Bool, fa
 use Rattle.mas_types.specs.declared.ids.GroupNo.{GroupNo}
 use Rattle.mas_types.specs.declared.ids.MemberId.{MemberId}
 use Rattle.mas_types.specs.declared.journals.Entry.{Entry}
+use Rattle.mas_types.specs.declared.jobs.Output.{Output}
 use Rattle.mas_types.specs.declared.queues.Config.{Config}
 use Rattle.mas_types.specs.Sound.{IsSound}
 use Rattle.lock_cycle.specs.Books.{Book, IsMember, after_stop, is_stopped}
@@ -25,6 +26,7 @@ use Rattle.member_node.specs.declared.member.NodeNo.TheVariants.{BothLost, Halte
 use Rattle.member_node.specs.Reads.{IsCalm}
 use Rattle.member_node.specs.Calls.{VolumesStay, none_lost}
 use Rattle.member_node.specs.Spares.{Spares, is_stop}
+use Rattle.member_node.specs.Wanted.{HasHad}
 use Rattle.member_node.proofs.SpareLemmas.{sparing_more, sparing_none}
 use Rattle.member_steps.specs.Steps.{StepCauses}
 use Rattle.member_steps.proofs.ReadLemmas.{calm_rest, low_later, low_written, told_sound}
@@ -43,7 +45,7 @@ use Rattle.step_turns.specs.declared.states.Aside.TheVariants.{Acknowledge, Exch
 use Rattle.step_turns.specs.declared.states.State.TheVariants.{Away, Fresh, Rested, Told}
 use Rattle.member_sittings.specs.Gates.{IsOpen}
 use Rattle.member_sittings.specs.Whole.{Half, HoldsLock, IsAtRest, IsSeat, first_half, queue_of, second_half}
-use Rattle.member_asides.specs.Asides.{HasOnlyPrinted, MayAside, printed_in, stopped_at}
+use Rattle.member_asides.specs.Asides.{HasOnlyPrinted, HasStayed, MayAside, printed_in, stopped_at}
 use Rattle.member_wires.specs.Acts.{StopsBeside}
 use Rattle.member_wires.specs.Asides.{wire_of}
 use Rattle.member_hand.specs.Asides.{ActsAfter, MayActAfter}
@@ -55,6 +57,9 @@ use Rattle.member_hand.proofs.Printing.{only_plant}
 
 -- WHICH ACTS A MEMBER MAY DO, once its sitting has ended and the lock is left or kept: of the book this asks only that
 -- it isn't stopped
+
+stayed : (o : Output) → HasStayed o o
+stayed o = record { mark = refl; text = refl; copies = refl }
 
 whole_of : {A : Type 0} (xs : List A) → take (length xs) xs ≡ xs
 whole_of [] = refl
@@ -86,7 +91,7 @@ module _ {P C : Type 0} (plants : PlantGhosts P) (copies : CopyGhosts C) (y : Pa
     may = may_aside;
     sound = seat.between.sound;
     there = w.1.there;
-    still = λ t. record { was = queue_of y; told = seat.between.queue t; job = refl; groups = refl };
+    still = λ t. record { was = queue_of y; told = seat.between.queue t; text = λ j found. (j, found, refl); groups = refl };
   }
   may_act (Away (SpoolOutputs n specs p)) w = record { may = may_aside; none = seat.still.none; outputs = w.outputs; enough = w.enough; held = held }
   may_act (Away (PrintLines n i last p)) w = record {
@@ -97,7 +102,14 @@ module _ {P C : Type 0} (plants : PlantGhosts P) (copies : CopyGhosts C) (y : Pa
     none = seat.still.none;
     sound = seat.between.sound;
     output = w;
-    still = λ t. record { was = queue_of y; told = seat.between.queue t; output = refl; groups = refl; busy = refl; limit = refl };
+    still = λ t. record {
+      was = queue_of y;
+      told = seat.between.queue t;
+      output = λ o found. (o, found, stayed o);
+      busy = λ o there busy. (o, there, busy, stayed o);
+      groups = refl;
+      limit = refl;
+    };
     roomy = seat.still.roomy;
   }
   may_act (Away (Exchange l None)) w = record { up = λ positive. up; line = w.0; offer = tt }
@@ -108,7 +120,7 @@ module _ {P C : Type 0} (plants : PlantGhosts P) (copies : CopyGhosts C) (y : Pa
       may = may_aside;
       sound = seat.between.sound;
       there = w.1.there;
-      still = λ t. record { was = queue_of y; told = seat.between.queue t; job = refl; groups = refl };
+      still = λ t. record { was = queue_of y; told = seat.between.queue t; text = λ j found. (j, found, refl); groups = refl };
     };
   }
   may_act (Away (SpoolArrival number job cards service)) w =
@@ -270,6 +282,7 @@ module _ {P C : Type 0} (plants : PlantGhosts P) (copies : CopyGhosts C) where
         loses = λ t d. a.beside.loses d;
         spares = spares_by e by.0 (v x) (v y) a.cause;
         cause = caused_by e by.0 x.first_alive x.second_alive (v x) (v y) a.cause;
+        notes = λ m other. refl;
       })
 
   pub acted_ok : (x y : Parts P C) (by : MemberId) (found : Found) → y ≡ asided y x → ActsBeside plants.tells by.0 (v x) (v y) (Ok found) → HasActedIn plants copies by x y (Ok tt)
@@ -279,6 +292,7 @@ module _ {P C : Type 0} (plants : PlantGhosts P) (copies : CopyGhosts C) where
         loses = λ t d. a.beside.loses d;
         spares = a.cause.spares;
         cause = inr (refl, refl);
+        notes = λ m other. refl;
       })
 
   -- A MEMBER THAT SAT IS IDLE after them, and at its seat if it has the lock still
@@ -334,6 +348,7 @@ module _ {P C : Type 0} (plants : PlantGhosts P) (copies : CopyGhosts C) where
     aside_then = record {
       quiet = quiet_then;
       idle = record { nothing = seat.between.nothing; drawn = seat.between.drawn; many = seat.still.many };
+      noted = subst (λ (q : Parts P C). HasHad plants.tells m.fresh q.had m.id.0 m.checkpoint.pages) (sym frame) seat.still.noted;
       config = ap (λ (q : Parts P C). q.base.config) frame ∙ seat.still.config;
     }
 
@@ -356,6 +371,7 @@ module _ {P C : Type 0} (plants : PlantGhosts P) (copies : CopyGhosts C) where
         kept = kept_now;
         begun = begun_now;
         roomy = roomy_now;
+        noted = seat.still.noted;
       };
       between = seat.between;
       low = seat.low;

@@ -42,34 +42,34 @@ module _ {P C : Type 0} {plants : PlantGhosts P} {steadies : SteadyGhosts C} {co
   from_found follows F G more p (t ∷ ts) e r chain = (more t.found chain.0, chain.1, chain.2)
 
   -- what a turn leaves may be handed back, by its answer
-  pub may_leave : (finds : (Complex P C plants steadies copies) → Type 0) (follows : (Complex P C plants steadies copies) → (Complex P C plants steadies copies) → Type 0) (bound : Option ℕ) (cares : Bool → List Bool) (p : Pause) → MayTakeTurns finds follows bound cares p
+  pub may_leave : (finds : (Complex P C plants steadies copies) → Type 0) (follows : (Complex P C plants steadies copies) → (Complex P C plants steadies copies) → Type 0) (rests : Complex P C plants steadies copies → Type 0) (bound : Option ℕ) (cares : Bool → List Bool) (p : Pause) → MayTakeTurns finds follows rests bound cares p
       → (q : Pause) (x y : Complex P C plants steadies copies) (n : Member) (is : Option (List ℕ)) (r : Result Stand NodeNo) → q.member.id ≡ p.member.id → (finds x ⊎ ((w : Complex P C plants steadies copies) × follows w x)) → MayPlay x q.member (start_of q.stand)
       → parts_of y ≡ played_in (parts_of y) (parts_of x) → n.id ≡ q.member.id → IfOk r (Pieced x y (start_of q.stand) q.reader is) → IfOk r (IsAfterPiece x y q.member n (start_of q.stand))
-      → IfErr r (λ why. Played x y q.member (start_of q.stand) q.reader is (Err why)) → MayLeave bound cares x y
-  may_leave finds follows bound cares p may q x y n is (Ok at) same found play frame id piece next cut =
+      → IfErr r (λ why. Played x y q.member (start_of q.stand) q.reader is (Err why)) → MayLeave rests bound cares x y
+  may_leave finds follows rests bound cares p may q x y n is (Ok at) same found play frame id piece next cut =
       may.whole q (turn_to (record { found = x; left = y; member = n; reader = is }) at) same found play (record { frame = frame; id = id; piece = piece; next = next })
-  may_leave finds follows bound cares p may q x y n is (Err why) same found play frame id piece next cut =
+  may_leave finds follows rests bound cares p may q x y n is (Err why) same found play frame id piece next cut =
       may.broken q (record { found = x; left = y; member = n; reader = is }) why same found play (record { frame = frame; id = id; played = cut })
 
   -- and where it has the value so, is bound so, and cares so
-  pub handed_back : (x y : Complex P C plants steadies copies) (was bound : Option ℕ) (cared cares : Bool → List Bool) (taken : Bool → Facts) (held : Option (Complex P C plants steadies copies)) → bound ≡ was
-      → ((told : Bool) → cares told ≡ cared told) → IfSome bound (λ m. EachWay plants.tells (λ told. taken told ≡ facts_of told (shown_of x))) → held ≡ Some y → MayLeave was cared x y
-      → IfSome bound (λ m. IfSome held (λ z. MayHandBack plants.tells m cares taken (shown_of z)))
-  handed_back x y None bound cared cares taken held same cares_so took has may = subst (λ (o : Option ℕ). IfSome o (λ m. IfSome held (λ z. MayHandBack plants.tells m cares taken (shown_of z)))) (sym same) tt
-  handed_back x y (Some m) bound cared cares taken held same cares_so took has may =
+  pub handed_back : (rests : Complex P C plants steadies copies → Type 0) (x y : Complex P C plants steadies copies) (was bound : Option ℕ) (cared cares : Bool → List Bool) (taken : Bool → Facts) (held : Option (Complex P C plants steadies copies)) → bound ≡ was
+      → ((told : Bool) → cares told ≡ cared told) → IfSome bound (λ m. EachWay plants.tells (λ told. taken told ≡ facts_of told (shown_of x))) → held ≡ Some y → MayLeave rests was cared x y
+      → IfSome bound (λ m. IfSome held (λ z. MayHandBack plants.tells (rests z) m cares taken (shown_of z)))
+  handed_back rests x y None bound cared cares taken held same cares_so took has may = subst (λ (o : Option ℕ). IfSome o (λ m. IfSome held (λ z. MayHandBack plants.tells (rests z) m cares taken (shown_of z)))) (sym same) tt
+  handed_back rests x y (Some m) bound cared cares taken held same cares_so took has may =
       let found = subst (λ (o : Option ℕ). IfSome o (λ m. EachWay plants.tells (λ told. taken told ≡ facts_of told (shown_of x)))) same took in
       let each : (told : Bool) → taken told ≡ facts_of told (shown_of x) → MayGiveBack m (cared told) (facts_of told (shown_of x)) (facts_of told (shown_of y)) → MayGiveBack m (cares told) (taken told) (facts_of told (shown_of y)) =
       λ told e back. subst (λ (c : List Bool). MayGiveBack m c (taken told) (facts_of told (shown_of y))) (sym (cares_so told))
       (subst (λ (f : Facts). MayGiveBack m (cared told) f (facts_of told (shown_of y))) (sym e) back) in
-      subst (λ (o : Option ℕ). IfSome o (λ m. IfSome held (λ z. MayHandBack plants.tells m cares taken (shown_of z)))) (sym same)
-      (subst (λ (o : Option (Complex P C plants steadies copies)). IfSome o (λ z. MayHandBack plants.tells m cares taken (shown_of z))) (sym has)
+      subst (λ (o : Option ℕ). IfSome o (λ m. IfSome held (λ z. MayHandBack plants.tells (rests z) m cares taken (shown_of z)))) (sym same)
+      (subst (λ (o : Option (Complex P C plants steadies copies)). IfSome o (λ z. MayHandBack plants.tells (rests z) m cares taken (shown_of z))) (sym has)
       (record { rest = may.rest; theirs = record { bare = each false found.bare may.theirs.bare; told = λ t. each true (found.told t) (may.theirs.told t) } }))
 
   -- WHERE NOBODY ELSE TAKES TURNS
 
   -- what is found is what was left
   pub alone_may : (x : Complex P C plants steadies copies) (p : Pause) (cares : Bool → List Bool) → MayPlay x p.member (start_of p.stand) → (w : Complex P C plants steadies copies) → w ≡ x
-      → MayTakeTurns (λ z. z ≡ w) (λ y z. z ≡ y) None cares p
+      → MayTakeTurns (λ z. z ≡ w) (λ y z. z ≡ y) (λ z. Unit {0}) None cares p
   alone_may x p cares may w same = record {
     first = λ z e. subst (λ u. MayPlay u p.member (start_of p.stand)) (sym (e ∙ same)) may;
     next = λ y z q id e m. subst (λ u. MayPlay u q.member (start_of q.stand)) (sym e) m;

@@ -167,7 +167,7 @@ module _ {P C : Type 0} (plants : PlantGhosts P) (copies : CopyGhosts C) where
   left_stopped told by p NoMemory halt x w i = i
 
   pub acted_stopped : (by : MemberId) (e : NodeNo) (x w : Parts P C) → HasActedIn plants copies by x w (Err e) → HasActedIn plants copies by x (stopped_by e by w) (Err e)
-  acted_stopped by Halted x w a = record { course = a.course; loses = a.loses; spares = a.spares; cause = a.cause }
+  acted_stopped by Halted x w a = record { course = a.course; loses = a.loses; spares = a.spares; cause = a.cause; notes = a.notes }
   acted_stopped by BothLost x w a = a
   acted_stopped by ConsoleFault x w a = a
   acted_stopped by NoMemory x w a = a

@@ -41,7 +41,7 @@ module _ {P C : Type 0} (plants : PlantGhosts P) (copies : CopyGhosts C) where
     }
 
     nothing_acted : HasActedIn plants copies s.holder.by x x (Ok tt)
-    nothing_acted = record { course = passage_of x.first_alive x.first_alive x.second_alive x.second_alive (v x) (v x) (course_none x.first_alive x.second_alive (v x)); loses = λ t d. refl; spares = spares_none s.holder.by.0 (v x); cause = inr (refl, refl) }
+    nothing_acted = record { course = passage_of x.first_alive x.first_alive x.second_alive x.second_alive (v x) (v x) (course_none x.first_alive x.second_alive (v x)); loses = λ t d. refl; spares = spares_none s.holder.by.0 (v x); cause = inr (refl, refl); notes = λ m other. refl }
 
     pub told_played : (was : Option (List ℕ)) → HasPlayed plants copies s x x pages was was (Ok tt)
     told_played was = record {

@@ -11,7 +11,7 @@ use Rattle.lock_cycle.specs.Books.{Book, IsMember, granted, is_holder, is_stoppe
 use Rattle.spool_plant.specs.declared.plant.Plant.{Ghosts as PlantGhosts}
 use Rattle.ckpt_copy.specs.declared.copying.Copying.{Ghosts as CopyGhosts}
 use Rattle.track_groups.specs.Groups.{held_by}
-use Rattle.mas_complex.specs.Parts.{Parts, with_copies}
+use Rattle.mas_complex.specs.Parts.{Parts}
 use Rattle.mas_complex.specs.Texts.{IsThere, Spools, spools_at}
 use Rattle.member_node.specs.declared.member.Member.{Member}
 use Rattle.member_work.specs.Spooled.{AreSpooled}
@@ -26,7 +26,7 @@ use Rattle.step_turns.specs.declared.states.State.TheVariants.{Away, Fresh, Rest
 use Rattle.run_turns.specs.Pieces.{entered}
 use Rattle.member_sittings.specs.Asides.{lowest_groups}
 use Rattle.member_sittings.specs.Gates.{IsAtGate, IsOpen}
-use Rattle.member_sittings.specs.Sat.{Start}
+use Rattle.member_sittings.specs.Sat.{Start, seated_in}
 use Rattle.member_sittings.specs.Whole.{HoldsLock, IsSeat, IsToSit, first_half, queue_of, second_half}
 use Rattle.member_hand.specs.Enters.{IsBeforeSeat, IsToEnter}
 use Rattle.member_hand.specs.Quiet.{IsSeatedBy, MayGoOn}
@@ -73,6 +73,7 @@ module _ {P C : Type 0} (plants : PlantGhosts P) (copies : CopyGhosts C) (x : Pa
         kept = q.kept;
         begun = q.begun;
         roomy = q.roomy;
+        noted = go.aside.noted;
         level = omega (arith, level);
       }
 
@@ -92,6 +93,7 @@ module _ {P C : Type 0} (plants : PlantGhosts P) (copies : CopyGhosts C) (x : Pa
       kept = seat.still.kept;
       begun = seat.still.begun;
       roomy = seat.still.roomy;
+      noted = seat.still.noted;
     };
     between = seat.between;
     low = seat.low;
@@ -110,10 +112,10 @@ module _ {P C : Type 0} (plants : PlantGhosts P) (copies : CopyGhosts C) (x : Pa
 
 -- ITS SITTING MAY BEGIN with what it found: the seat changes no volume
 
-module _ {P C : Type 0} (plants : PlantGhosts P) (copies : CopyGhosts C) (x z : Parts P C) (by : MemberId) (frame : z ≡ with_copies z (taken by x))
+module _ {P C : Type 0} (plants : PlantGhosts P) (copies : CopyGhosts C) (x z : Parts P C) (by : MemberId) (frame : z ≡ seated_in z (taken by x))
     (same : plants.tells → spools_at (plants.view z.plant) (plants.view z.plant).now ≡ spools_at (plants.view x.plant) (plants.view x.plant).now) where
   abbrev now : Parts P C
-  now = with_copies z (taken by x)
+  now = seated_in z (taken by x)
 
   right_now : (me : MemberId) (s : State) (found : Found) → IsFoundRight plants copies x me s found → IsFoundRight plants copies now me s found
   right_now me (Fresh task) found r = r

@@ -206,6 +206,7 @@ module _ {P C : Type 0} (plants : PlantGhosts P) (copies : CopyGhosts C) where
     loses = λ t d. two.loses t d ∙ one.loses t d;
     spares = spares_then by.0 _ (v x) (v y) (v z) one.spares two.spares;
     cause = causes_then r by.0 x.first_alive y.first_alive z.first_alive x.second_alive y.second_alive z.second_alive (v x) (v y) (v z) one.cause one.course.goes two.cause;
+    notes = λ m other. two.notes m other ∙ one.notes m other;
   }
 
   module _ (s : Start) (p : Piece) (x y : Parts P C) (found : Found) (between : y.batches ≡ journal_of y)

@@ -99,7 +99,7 @@ module _ {P C : Type 0} (plants : PlantGhosts P) (copies : CopyGhosts C) (s : St
   left = record y { book = left_book y.book me end.given end.release }
 
   sooner : (v x).now ≤ (v z).now
-  sooner = turn.took.course.goes.later
+  sooner = turn.took.on.course.goes.later
 
   -- THE SITTING
 
@@ -140,13 +140,13 @@ module _ {P C : Type 0} (plants : PlantGhosts P) (copies : CopyGhosts C) (s : St
         let said = sat.console told in
         said.is ∙ ap (λ (k : Said). console_now (v z) ++ said_of k t.lines) said.by_answer
         ∙ ap (λ (ls : List Line). console_now (v z) ++ ls) (append-nil (map whole (take (length t.lines) t.lines)) ∙ ap (λ (ls : List (List ℕ)). map whole ls) (take_all t.lines))
-        ∙ ap (λ (ls : List Line). ls ++ map whole t.lines) (turn.took.apart told).console
+        ∙ ap (λ (ls : List Line). ls ++ map whole t.lines) (turn.took.on.apart told).console
 
     sat_papers : plants.tells → (k : ℕ) → paper_now (v y) k ≡ paper_now (v x) k
-    sat_papers told k = papers_are (v z) (v y) sat.acts.course.goes.later (sat.acts.papers told) k ∙ papers_are (v x) (v z) sooner (turn.took.apart told).papers k
+    sat_papers told k = papers_are (v z) (v y) sat.acts.course.goes.later (sat.acts.papers told) k ∙ papers_are (v x) (v z) sooner (turn.took.on.apart told).papers k
 
     sat_did : HasActedIn plants copies me x y (Ok tt)
-    sat_did = acts_then plants copies me x z y (Ok tt) (seat_acted plants copies s x z may none unplaced turn.locked ne turn.took) (record { course = passage_of z.first_alive y.first_alive z.second_alive y.second_alive (v z) (v y) sat.acts.course; loses = sat.acts.loses; spares = sat.acts.spares; cause = sat.acts.cause })
+    sat_did = acts_then plants copies me x z y (Ok tt) (seat_acted plants copies s x z may none unplaced turn.locked ne turn.took) (record { course = passage_of z.first_alive y.first_alive z.second_alive y.second_alive (v z) (v y) sat.acts.course; loses = sat.acts.loses; spares = sat.acts.spares; cause = sat.acts.cause; notes = sat.acts.notes })
 
     -- the book once the lock is left
     left_is : left.book ≡ released_by t.release (after_spend (entered x.book me) (me) (length (all_entries t.batches))) me
@@ -157,7 +157,7 @@ module _ {P C : Type 0} (plants : PlantGhosts P) (copies : CopyGhosts C) (s : St
 
   -- nothing moves on a line
   sat_wires : plants.tells → SameWires (v x) (v y)
-  sat_wires told = wires_then (v x) (v z) (v y) (turn.took.apart told).wires (turn.sat.sat.acts.wires told)
+  sat_wires told = wires_then (v x) (v z) (v y) (turn.took.on.apart told).wires (turn.sat.sat.acts.wires told)
 
   -- no volume is lost in it, nor fails
   sat_volumes : VolumesStay none_lost (v x) (v y)

@@ -10,7 +10,7 @@ use Rattle.spool_plant.specs.View.{Line, View, paper_now}
 use Rattle.spool_plant.specs.declared.plant.Plant.{Ghosts as PlantGhosts}
 use Rattle.ckpt_copy.specs.declared.copying.Copying.{Ghosts as CopyGhosts}
 use Rattle.mas_complex.specs.Paper.{SamePapers, counts_of}
-use Rattle.mas_complex.specs.Parts.{Parts, with_copies}
+use Rattle.mas_complex.specs.Parts.{Parts}
 use Rattle.member_node.specs.declared.member.Member.{Member}
 use Rattle.member_node.specs.declared.member.NodeNo.{NodeNo}
 use Rattle.member_node.specs.declared.member.NodeNo.TheVariants.{BothLost, Halted, ConsoleFault, NoMemory}
@@ -21,7 +21,7 @@ use Rattle.member_decks.specs.Keeping.{CopyCauses}
 use Rattle.member_decks.proofs.OutcomeLemmas.{copy_causes}
 use Rattle.member_sittings.specs.declared.ends.SittingEnd.{SittingEnd}
 use Rattle.member_sittings.specs.Left.{Reach, ReachesBy, Said, said_nothing, said_of, torn_line}
-use Rattle.member_sittings.specs.Sat.{CopiesActed, HasActed, IsSat, Sat, Start, journal_of, sat_in}
+use Rattle.member_sittings.specs.Sat.{CopiesActed, HasActed, IsSat, Sat, Start, journal_of, sat_in, seated_in}
 use Rattle.member_sittings.specs.Tight.{IfNoWork, IsTightBy}
 use Rattle.member_sittings.specs.Whole.{queue_of}
 use Rattle.step_turns.specs.Sittings.{Sitting, sit}
@@ -90,7 +90,7 @@ reaches_in T ConsoleFault ess r is = is
 -- THE TURN
 
 module _ {P C : Type 0} (plants : PlantGhosts P) (copies : CopyGhosts C) (s : Start) (x z : Parts P C) (may : MayHold x.book s.holder.by) (none : x.current ≡ None) (unplaced : x.placed ≡ false)
-    (frame : z ≡ with_copies z (taken s.holder.by x)) (ne : s.state ≢ Told) where
+    (frame : z ≡ seated_in z (taken s.holder.by x)) (ne : s.state ≢ Told) where
   abbrev me : MemberId
   me = s.holder.by
 
@@ -115,7 +115,7 @@ module _ {P C : Type 0} (plants : PlantGhosts P) (copies : CopyGhosts C) (s : St
   seat_journal = ap (λ (q : Parts P C). journal_of q) frame ∙ journal_is plants copies x none unplaced
 
   pub seat_acted : CopiesActed plants {T = Unit {0}} me (taken me x) z (Ok tt) → HasActedIn plants copies me x z (Ok tt)
-  seat_acted took = record { course = passage_of x.first_alive z.first_alive x.second_alive z.second_alive (v x) (v z) took.course; loses = took.loses; spares = took.spares; cause = took.cause }
+  seat_acted took = record { course = passage_of x.first_alive z.first_alive x.second_alive z.second_alive (v x) (v z) took.on.course; loses = took.on.loses; spares = took.on.spares; cause = took.on.cause; notes = took.notes }
 
   -- nobody but the member has the lock then
   pub away_never : (w : Parts P C) → w.book.holder ≡ (entered x.book me).holder → w.book.holder ≡ nobody → ⊥
@@ -142,18 +142,18 @@ module _ {P C : Type 0} (plants : PlantGhosts P) (copies : CopyGhosts C) (s : St
 
     pub unsat : (told : Type 0) → (told → plants.tells) → (p : Piece) → IsLeftAt plants copies told me p e (Writing 0 None) x z
     unsat told tells p = record {
-      by_answer = begins_none e acts.cause;
+      by_answer = begins_none e acts.on.cause;
       more = [];
       journal = seat_journal ∙ sym (append-nil x.batches);
       batches = tt;
-      console = λ t. (acts.apart (tells t)).console ∙ sym (append-nil (console_now (v x)));
-      paper = λ t. papers_are (v x) (v z) acts.course.goes.later (acts.apart (tells t)).papers me.0 ∙ sym (append-nil (paper_now (v x) me.0));
-      other_papers = λ t m other. papers_are (v x) (v z) acts.course.goes.later (acts.apart (tells t)).papers m;
+      console = λ t. (acts.on.apart (tells t)).console ∙ sym (append-nil (console_now (v x)));
+      paper = λ t. papers_are (v x) (v z) acts.on.course.goes.later (acts.on.apart (tells t)).papers me.0 ∙ sym (append-nil (paper_now (v x) me.0));
+      other_papers = λ t m other. papers_are (v x) (v z) acts.on.course.goes.later (acts.on.apart (tells t)).papers m;
       other_counts = λ t m other. ap (λ (l : List ℕ). counts_of l m) seat_printed;
     }
 
     pub unsat_acted : HasActedIn plants copies me x z (Err e)
-    unsat_acted = record { course = passage_of x.first_alive z.first_alive x.second_alive z.second_alive (v x) (v z) acts.course; loses = acts.loses; spares = acts.spares; cause = copy_causes (Err e) me.0 x.first_alive z.first_alive x.second_alive z.second_alive (v x) (v z) acts.cause }
+    unsat_acted = record { course = passage_of x.first_alive z.first_alive x.second_alive z.second_alive (v x) (v z) acts.on.course; loses = acts.on.loses; spares = acts.on.spares; cause = copy_causes (Err e) me.0 x.first_alive z.first_alive x.second_alive z.second_alive (v x) (v z) acts.on.cause; notes = acts.notes }
 
     pub unseated : (was : Option (List ℕ)) → HasPlayed plants copies s x (stopped_by e me z) pages was was (Err e)
     unseated was =
@@ -168,36 +168,36 @@ module _ {P C : Type 0} (plants : PlantGhosts P) (copies : CopyGhosts C) (s : St
           shaped = shaped_blank s.holder s.found (v x) (v (stopped_by e me z)) s.state ne (some_may_follow s.state ne);
           tight = if_all s.state (IsTight e (Writing 0 None) t) (none_tight e t);
           acts = acted_stopped plants copies me e x z unsat_acted;
-          dry = λ t. if_silent s.state (SamePapers (v x) (v (stopped_by e me z))) (λ no. view_stopped e me z (λ w. SamePapers (v x) w) (acts.apart t).papers);
-          still = λ t. if_still s.state (IsOnlyOn (v x) (v (stopped_by e me z))) (view_stopped e me z (λ w. IsOnlyOn (v x) w) (acts.apart t).others);
+          dry = λ t. if_silent s.state (SamePapers (v x) (v (stopped_by e me z))) (λ no. view_stopped e me z (λ w. SamePapers (v x) w) (acts.on.apart t).papers);
+          still = λ t. if_still s.state (IsOnlyOn (v x) (v (stopped_by e me z))) (view_stopped e me z (λ w. IsOnlyOn (v x) w) (acts.on.apart t).others);
           quiet = λ b. absurd b;
           away = λ free. absurd (away_never (stopped_by e me z) (holder_stopped plants copies me e z ∙ ap (λ (b : Book). b.holder) seat_book) free);
           reader = stays_from s.state was was (λ no. refl);
-          told = λ t. told_cut plants copies s e (Writing 0 None) x (stopped_by e me z) ne (view_stopped e me z (λ w. VolumesStay none_lost (v x) w) acts.course.volumes) (if_all s.state (IsTight e (Writing 0 None) now.sitting) (none_tight e now.sitting)) (unbroken e 0 None now.sitting)
+          told = λ t. told_cut plants copies s e (Writing 0 None) x (stopped_by e me z) ne (view_stopped e me z (λ w. VolumesStay none_lost (v x) w) acts.on.course.volumes) (if_all s.state (IsTight e (Writing 0 None) now.sitting) (none_tight e now.sitting)) (unbroken e 0 None now.sitting)
               (left_stopped plants copies (Unit {0}) me now e (Writing 0 None) x z (unsat (Unit {0}) (λ u. t) now)) book
-              (view_stopped e me z (λ w. GivesOnly me (line_served s.state) [] (v x) w) (gives_still me (line_served s.state) (v x) (v z) (acts.apart t).wires))
-              (λ no. view_stopped e me z (λ w. TakesNothing (v x) w) (takes_still (v x) (v z) (acts.apart t).wires)) was was;
+              (view_stopped e me z (λ w. GivesOnly me (line_served s.state) [] (v x) w) (gives_still me (line_served s.state) (v x) (v z) (acts.on.apart t).wires))
+              (λ no. view_stopped e me z (λ w. TakesNothing (v x) w) (takes_still (v x) (v z) (acts.on.apart t).wires)) was was;
         }
 
   -- THE SITTING WAS CUT
 
   module _ (took : CopiesActed plants {T = Unit {0}} me (taken me x) z (Ok tt)) (y : Parts P C) (same : y ≡ sat_in y z) where
     pub sat_acted : (e : NodeNo) → HasActed plants {T = SittingEnd} me z y (Err e) → HasActedIn plants copies me z y (Err e)
-    sat_acted e a = record { course = passage_of z.first_alive y.first_alive z.second_alive y.second_alive (v z) (v y) a.course; loses = a.loses; spares = a.spares; cause = causes_in SittingEnd e me.0 z.first_alive y.first_alive z.second_alive y.second_alive (v z) (v y) a.cause }
+    sat_acted e a = record { course = passage_of z.first_alive y.first_alive z.second_alive y.second_alive (v z) (v y) a.course; loses = a.loses; spares = a.spares; cause = causes_in SittingEnd e me.0 z.first_alive y.first_alive z.second_alive y.second_alive (v z) (v y) a.cause; notes = a.notes }
 
     pub sat_book : y.book ≡ entered x.book me
     sat_book = ap (λ (q : Parts P C). q.book) same ∙ seat_book
 
     -- where content is told nothing is printed up to here, and no volume changes
     pub sat_dry : {T : Type 0} {r : Result T NodeNo} → HasActed plants me z y r → plants.tells → SamePapers (v x) (v y)
-    sat_dry a t = papers_on (v x) (v z) (v y) took.course.goes.later a.course.goes (took.apart t).papers (a.papers t)
+    sat_dry a t = papers_on (v x) (v z) (v y) took.on.course.goes.later a.course.goes (took.on.apart t).papers (a.papers t)
 
     pub sat_still : {T : Type 0} {r : Result T NodeNo} → HasActed plants me z y r → plants.tells → IsOnlyOn (v x) (v y)
-    sat_still a t = only_on (v x) (v z) (v y) took.course.goes.later a.course.goes (took.apart t).others (a.others t)
+    sat_still a t = only_on (v x) (v z) (v y) took.on.course.goes.later a.course.goes (took.on.apart t).others (a.others t)
 
     -- and no volume is lost, nor fails
     pub sat_stays : {T : Type 0} {r : Result T NodeNo} → HasActed plants me z y r → VolumesStay none_lost (v x) (v y)
-    sat_stays a = stay_then none_lost (v x) (v z) (v y) took.course.volumes a.course.volumes
+    sat_stays a = stay_then none_lost (v x) (v z) (v y) took.on.course.volumes a.course.volumes
 
     -- a sitting, and what it may not leave
     record IsSatTight (e : NodeNo) (u : Sitting) : Type 0 where
@@ -213,7 +213,7 @@ module _ {P C : Type 0} (plants : PlantGhosts P) (copies : CopyGhosts C) (s : St
       pub broke : told → IsBroken e halt p.sitting
 
     sooner : (v x).now ≤ (v z).now
-    sooner = took.course.goes.later
+    sooner = took.on.course.goes.later
 
     -- by where it was, the batches that stand and the lines that were said
     cut_in : (told : Type 0) → (told → plants.tells) → (p : Piece) (e : NodeNo) (sat : IsSat plants me p.sitting z y (Err e)) (halt : Halt) → IsLocked halt → IsHaltBy e halt
@@ -229,11 +229,11 @@ module _ {P C : Type 0} (plants : PlantGhosts P) (copies : CopyGhosts C) (s : St
         more = more;
         journal = journal ∙ ap (λ (bs : List Batch). bs ++ more) seat_batches;
         batches = batched_sooner me (v x).now (v z).now (v y).now (batches_cut me halt p.sitting.batches) more sooner batches;
-        console = λ t. console t ∙ ap (λ (ls : List Line). ls ++ lines_cut me halt p.sitting.lines) (took.apart (tells t)).console;
+        console = λ t. console t ∙ ap (λ (ls : List Line). ls ++ lines_cut me halt p.sitting.lines) (took.on.apart (tells t)).console;
         paper = λ t.
-            papers_are (v z) (v y) sat.acts.course.goes.later (sat.acts.papers (tells t)) me.0 ∙ papers_are (v x) (v z) sooner (took.apart (tells t)).papers me.0
+            papers_are (v z) (v y) sat.acts.course.goes.later (sat.acts.papers (tells t)) me.0 ∙ papers_are (v x) (v z) sooner (took.on.apart (tells t)).papers me.0
             ∙ sym (append-nil (paper_now (v x) me.0)) ∙ ap (λ (ls : List Line). paper_now (v x) me.0 ++ ls) (sym (none_printed me halt p.printed locked));
-        other_papers = λ t m other. papers_are (v z) (v y) sat.acts.course.goes.later (sat.acts.papers (tells t)) m ∙ papers_are (v x) (v z) sooner (took.apart (tells t)).papers m;
+        other_papers = λ t m other. papers_are (v z) (v y) sat.acts.course.goes.later (sat.acts.papers (tells t)) m ∙ papers_are (v x) (v z) sooner (took.on.apart (tells t)).papers m;
         other_counts = λ t m other. sat.counts.others m other ∙ ap (λ (l : List ℕ). counts_of l m) seat_printed;
       };
     }
@@ -298,10 +298,10 @@ module _ {P C : Type 0} (plants : PlantGhosts P) (copies : CopyGhosts C) (s : St
 
     -- nothing moves on a line
     pub sat_gives : {T : Type 0} {r : Result T NodeNo} → HasActed plants me z y r → plants.tells → GivesOnly me (line_served s.state) [] (v x) (v y)
-    sat_gives a t = gives_after me (line_served s.state) [] (v x) (v z) (v y) (took.apart t).wires (gives_still me (line_served s.state) (v z) (v y) (a.wires t))
+    sat_gives a t = gives_after me (line_served s.state) [] (v x) (v z) (v y) (took.on.apart t).wires (gives_still me (line_served s.state) (v z) (v y) (a.wires t))
 
     pub sat_takes : {T : Type 0} {r : Result T NodeNo} → HasActed plants me z y r → plants.tells → TakesNothing (v x) (v y)
-    sat_takes a t = takes_then (v x) (v z) (v y) (takes_still (v x) (v z) (took.apart t).wires) (takes_still (v z) (v y) (a.wires t))
+    sat_takes a t = takes_then (v x) (v z) (v y) (takes_still (v x) (v z) (took.on.apart t).wires) (takes_still (v z) (v y) (a.wires t))
 
     pub sat_cut : (pages : ℕ) (was : Option (List ℕ)) (e : NodeNo) → Sat plants s z y (Err e) → HasPlayed plants copies s x (stopped_by e me y) pages was was (Err e)
     sat_cut pages was e sat =

@@ -96,23 +96,24 @@ module _ {P C : Type 0} {plants : PlantGhosts P} {steadies : SteadyGhosts C} {co
   -- WHAT IT NEEDS
 
   -- one that is bound to a member may hand this back, which found that
-  abbrev pub MayLeave : Option ℕ → (Bool → List Bool) → Complex P C plants steadies copies
-      → Complex P C plants steadies copies → Type 0
-  MayLeave bound cares x y =
-      IfSome bound (λ m. MayHandBack plants.tells m cares (λ told. facts_of told (shown_of x)) (shown_of y))
+  abbrev pub MayLeave : (Complex P C plants steadies copies → Type 0) → Option ℕ → (Bool → List Bool)
+      → Complex P C plants steadies copies → Complex P C plants steadies copies → Type 0
+  MayLeave rests bound cares x y =
+      IfSome bound (λ m. MayHandBack plants.tells (rests y) m cares (λ told. facts_of told (shown_of x)) (shown_of y))
 
   -- A member may play its step in turns: it may play a piece on each value that may be found first, and on each that
   -- may follow a value that it left so that it may go on; and what a turn of it leaves may be handed back.
   pub record MayTakeTurns (finds : Complex P C plants steadies copies → Type 0)
-      (follows : Complex P C plants steadies copies → Complex P C plants steadies copies → Type 0) (bound : Option ℕ)
+      (follows : Complex P C plants steadies copies → Complex P C plants steadies copies → Type 0)
+      (rests : Complex P C plants steadies copies → Type 0) (bound : Option ℕ)
       (cares : Bool → List Bool) (p : Pause) : Type 0 where
     pub first : OfEach finds (λ x. MayPlay x p.member (start_of p.stand))
     pub next : (x y : Complex P C plants steadies copies) (q : Pause) → q.member.id ≡ p.member.id → follows x y
         → MayPlay x q.member (start_of q.stand) → MayPlay y q.member (start_of q.stand)
     pub whole : (q : Pause) (t : Turn (Complex P C plants steadies copies)) → q.member.id ≡ p.member.id
         → (finds t.found ⊎ ((x : Complex P C plants steadies copies) × follows x t.found))
-        → MayPlay t.found q.member (start_of q.stand) → PlaysPiece q t → MayLeave bound cares t.found t.left
+        → MayPlay t.found q.member (start_of q.stand) → PlaysPiece q t → MayLeave rests bound cares t.found t.left
     pub broken : (q : Pause) (e : End (Complex P C plants steadies copies)) (why : NodeNo)
         → q.member.id ≡ p.member.id
         → (finds e.found ⊎ ((x : Complex P C plants steadies copies) × follows x e.found))
-        → MayPlay e.found q.member (start_of q.stand) → BreaksOff q e why → MayLeave bound cares e.found e.left
+        → MayPlay e.found q.member (start_of q.stand) → BreaksOff q e why → MayLeave rests bound cares e.found e.left

@@ -21,6 +21,7 @@ use Rattle.member_node.specs.declared.member.Member.{Member}
 use Rattle.member_node.specs.declared.member.NodeNo.{NodeNo}
 use Rattle.member_node.specs.Calls.{Grows, IsOnlyOn, VolumesStay, WasLost, console_now}
 use Rattle.member_node.specs.Spares.{Spares, stopped_in}
+use Rattle.member_steps.specs.Noting.{OtherNotesStay}
 use Rattle.member_steps.specs.Steps.{StepCauses}
 use Rattle.member_decks.specs.Steps.{AreOf}
 use Rattle.step_turns.specs.Courses.{holder_then, sittings_most}
@@ -102,12 +103,13 @@ module _ {P C : Type 0} (plants : PlantGhosts P) (copies : CopyGhosts C) where
       (piece_of t found.printer (inked_of found.printer inked (chunk now count t.next found.read)))
 
   -- The acts of a step: nobody was stopped but its member, and it only where the answer says so; no device was lost by
-  -- a call; and the answer has its cause.
+  -- a call; the answer has its cause; and what other members noted of their pages is as it was.
   pub record HasActedIn (by : MemberId) (x y : Parts P C) (result : Result (Unit {0}) NodeNo) : Type 0 where
     pub course : Passage x.first_alive y.first_alive x.second_alive y.second_alive (v x) (v y)
     pub loses : plants.tells → (d : Dev) → (v y).loses d ≡ (v x).loses d
     pub spares : Spares by.0 (stopped_in result) (v x) (v y)
     pub cause : StepCauses result by.0 x.first_alive y.first_alive x.second_alive y.second_alive (v x) (v y)
+    pub notes : OtherNotesStay by x.had y.had
 
   -- WHAT A STEP LEAVES of its pieces, by where it was cut
 

@@ -11,6 +11,7 @@ use Rattle.mas_complex.specs.Parts.{Parts}
 use Rattle.member_node.specs.declared.member.Member.{Member}
 use Rattle.member_node.specs.Drawn.{AreDrawn}
 use Rattle.member_node.specs.Reads.{too_high}
+use Rattle.member_node.specs.Wanted.{HasHad}
 use Rattle.member_steps.specs.Steps.{IsToldSound}
 use Rattle.step_turns.specs.Courses.{sittings_most}
 use Rattle.step_turns.specs.Laws.{units_left}
@@ -50,10 +51,12 @@ module _ {P C : Type 0} (plants : PlantGhosts P) (copies : CopyGhosts C) where
     pub begun : x.since ≤ (v x).now
     pub roomy : plants.tells → AreRoomy (v x) x.base.config
 
-  -- a member is idle there: whoever holds the lock, it may take its seat once it has that
+  -- A member is idle there, and has the pages that it noted, unless it has read none. Whoever holds the lock, it may
+  -- take its seat once it has that.
   pub record IsAside (x : Parts P C) (m : Member) : Type 0 where
     pub quiet : IsQuiet x (length m.room)
     pub idle : IsIdle m
+    pub noted : HasHad plants.tells m.fresh x.had m.id.0 m.checkpoint.pages
     pub config : x.base.config ≡ m.checkpoint.tables.config
 
   -- one that holds by the operator's LOCK is at its seat still

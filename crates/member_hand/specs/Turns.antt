@@ -5,10 +5,10 @@ use Rattle.spool_plant.specs.declared.plant.Plant.{Ghosts as PlantGhosts}
 use Rattle.ckpt_copy.specs.declared.copying.Copying.{Ghosts as CopyGhosts}
 use Rattle.ckpt_form.specs.declared.steady.Steady.{Ghosts as SteadyGhosts}
 use Rattle.mas_complex.specs.declared.complex.Complex.{Complex}
-use Rattle.mas_complex.specs.Parts.{Parts, parts_of, with_copies}
+use Rattle.mas_complex.specs.Parts.{Parts, parts_of}
 use Rattle.run_turns.specs.Pieces.{entered}
 use Rattle.member_sittings.specs.declared.ends.SittingEnd.{SittingEnd}
-use Rattle.member_sittings.specs.Sat.{CopiesActed, Sat, Start, sat_in}
+use Rattle.member_sittings.specs.Sat.{CopiesActed, Sat, Start, sat_in, seated_in}
 
 -- the member has the lock
 abbrev pub taken : {P C : Type 0} → MemberId → Parts P C → Parts P C
@@ -18,7 +18,7 @@ module _ {P C : Type 0} (plants : PlantGhosts P) where
   -- Between the two the member took its seat: it read the copies, and made room for a batch.
   pub record HasTurned (s : Start) (x y : Parts P C) (end : SittingEnd) : Type 0 where
     pub seat : Parts P C
-    pub locked : seat ≡ with_copies seat (taken s.holder.by x)
+    pub locked : seat ≡ seated_in seat (taken s.holder.by x)
     pub took : CopiesActed plants {T = Unit {0}} s.holder.by (taken s.holder.by x) seat (Ok tt)
     pub frame : y ≡ sat_in y seat
     pub sat : Sat plants s seat y (Ok end)

@@ -18,8 +18,8 @@ use spool_plant::Plant;
 use std::alloc::Global;
 use step_turns::{Aside, Found, Grant, State};
 
-// What a member found that looked at nothing.
-pub(crate) fn nothing_found(alloc: Global) -> Found
+/// What a member found that looked at nothing.
+pub fn nothing_found(alloc: Global) -> Found
     ensures { result ≡ nothing_found_lem }
 {
     Found {

@@ -1,7 +1,8 @@
 //! How a member comes to the lock and leaves it, at the ends of a sitting.
 ghost use Rattle.std.specs.Prelude.{◌≡◌, Ok, OnOk};
-ghost use Rattle.mas_complex.specs.Parts.{parts_of, with_copies};
+ghost use Rattle.mas_complex.specs.Parts.{parts_of};
 ghost use Rattle.member_sittings.specs.Gates.{ActedOnCopies, AreBothLost, HaveRoom};
+ghost use Rattle.member_sittings.specs.Sat.{seated_in};
 ghost use Rattle.member_sittings.specs.Whole.{MaySit};
 ghost use Rattle.step_turns.specs.declared.states.Grant.TheVariants.{ByLock};
 ghost use Rattle.member_hand.specs.Enters.{MayEnter};
@@ -28,7 +29,7 @@ pub fn enter<P: Plant + Drop, C: Steady + Drop>(
     holder: Holder,
 ) -> Result<(), NodeNo>
     requires { MayEnter complex.old member.old holder }
-    ensures frame { parts_of complex.new ≡ with_copies (parts_of complex.new) (parts_of complex.old) }
+    ensures frame { parts_of complex.new ≡ seated_in (parts_of complex.new) (parts_of complex.old) }
     ensures id { member.new.id ≡ member.old.id }
     ensures acts { ActedOnCopies member.old.id complex.old complex.new result }
     ensures seat { OnOk result (MaySit complex.new member.new holder) }

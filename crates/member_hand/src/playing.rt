@@ -135,7 +135,7 @@ pub fn play_in_turns<P: Plant + Drop, C: Steady + Drop, T: Turns<Complex<P, C>>>
     task: Task,
 ) -> Result<(), NodeNo>
     requires free { T.held turns.old ≡ None }
-    requires may { MayTakeTurns (T.finds turns.old) (T.follows (T.place turns.old)) (T.bound turns.old)
+    requires may { MayTakeTurns (T.finds turns.old) (T.follows (T.place turns.old)) T.rests (T.bound turns.old)
         (λ told. (T.memory turns.old told).cares) (begun member.old holder task reader.old) }
     ensures free { T.held turns.new ≡ None }
     ensures place { T.place turns.new ≡ T.place turns.old }

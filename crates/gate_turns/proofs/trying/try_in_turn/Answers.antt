@@ -31,9 +31,9 @@ back-requires-clause-may g c =
     let took = took_then (T.bound c.args.turns.now) (T.bound u) (T.bound (T.with_held u y)) (T.held u) x (T.taken u) (T.taken (T.with_held u y)) c.turn.ensures.bound (L.keeps_bound u y) c.value.ensures.value c.turn.ensures.taken (L.keeps_taken u y) in
     let serves = subst (λ b. Serves b by.0) (sym (L.keeps_bound u y ∙ c.turn.ensures.bound)) c.requires.serves in
     let shown : shown_of y ≡ with_book (shown_of x) (after_try x.book by c.args.inner) x.reserved = shown_framed x y (after_try x.book by c.args.inner) c.try_lock-tried.ensures.frame in
-    let rest = rested (T.bound c.args.turns.now) (T.bound (T.with_held u y)) (T.held u) x (sym (L.keeps_bound u y ∙ c.turn.ensures.bound)) c.value.ensures.value c.turn.ensures.rest in
-    tried_back x y by c.args.inner (T.bound (T.with_held u y)) (λ told. (T.memory (T.with_held u y) told).cares) (T.taken (T.with_held u y)) (T.held (T.with_held u y)) serves (L.holds u y c.turn.ensures.held)
-    took may.member shown rest
+    let rest = rested T.rests (T.bound c.args.turns.now) (T.bound (T.with_held u y)) (T.held u) x (sym (L.keeps_bound u y ∙ c.turn.ensures.bound)) c.value.ensures.value c.turn.ensures.rest in
+    tried_back T.rests x y by c.args.inner (T.bound (T.with_held u y)) (λ told. (T.memory (T.with_held u y) told).cares) (T.taken (T.with_held u y)) (T.held (T.with_held u y)) serves (L.holds u y c.turn.ensures.held)
+    took may.member shown (c.requires.rests x y c.try_lock-tried.ensures.frame) rest
 
 pub returns-clause-ok : goal.returns-clause-ok
 returns-clause-ok g c =

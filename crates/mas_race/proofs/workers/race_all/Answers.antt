@@ -1,4 +1,4 @@
-use Rattle.std.proofs.Common.{◌≡◌, length, slice_index_or, subst, arith}
+use Rattle.std.proofs.Common.{slice_index_or, subst, arith}
 use Rattle.mas_race.proofs.Steps.{sliced_run}
 use Rattle.mas_race.proofs.workers.race_all.Goals as goal
 

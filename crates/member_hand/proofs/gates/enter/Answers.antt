@@ -24,8 +24,8 @@ returns-in-ForStep-clause-seat g c =
     (λ took. record {
       sits = record {
         seat = took.seat;
-        untold = untold_on g.P.Plant g.C.Copying x y m.id n.id c.args.holder.step e.id base since gate.begun e.acts.course.goes (λ t. (e.acts.apart t).console) c.requires.untold;
-        step = step_on g.P.Plant g.C.Copying x y m.id n.id c.args.holder.step e.id batches e.acts.course.goes c.requires.step;
+        untold = untold_on g.P.Plant g.C.Copying x y m.id n.id c.args.holder.step e.id base since gate.begun e.acts.on.course.goes (λ t. (e.acts.on.apart t).console) c.requires.untold;
+        step = step_on g.P.Plant g.C.Copying x y m.id n.id c.args.holder.step e.id batches e.acts.on.course.goes c.requires.step;
       };
       bounds = took.bounds;
       holder = c.requires.holder ∙ sym e.id;
@@ -52,8 +52,8 @@ returns-in-ByLock-clause-seat g c =
     (λ took. record {
       sits = record {
         seat = took.seat;
-        untold = untold_on g.P.Plant g.C.Copying x y m.id n.id c.args.holder.step e.id base since gate.seat.still.begun e.acts.course.goes (λ t. (e.acts.apart t).console) c.requires.untold;
-        step = step_on g.P.Plant g.C.Copying x y m.id n.id c.args.holder.step e.id batches e.acts.course.goes c.requires.step;
+        untold = untold_on g.P.Plant g.C.Copying x y m.id n.id c.args.holder.step e.id base since gate.seat.still.begun e.acts.on.course.goes (λ t. (e.acts.on.apart t).console) c.requires.untold;
+        step = step_on g.P.Plant g.C.Copying x y m.id n.id c.args.holder.step e.id batches e.acts.on.course.goes c.requires.step;
       };
       bounds = took.bounds;
       holder = c.requires.holder ∙ sym e.id;

@@ -49,11 +49,11 @@ back-requires-clause-may g c =
     let here : Pause = record { member = c.loop-stand.member; stand = c.loop-stand.stand; reader = c.loop-stand.reader } in
     let found = of_held (T.held u) x (T.finds c.loop-stand.turns) c.value.ensures.value c.turn.ensures.found in
     let took = took_then (T.bound c.loop-stand.turns) (T.bound u) (T.bound (T.with_held u y)) (T.held u) x (T.taken u) (T.taken (T.with_held u y)) c.turn.ensures.bound (L.keeps_bound u y) c.value.ensures.value c.turn.ensures.taken (L.keeps_taken u y) in
-    handed_back x y (T.bound c.args.turns.now) (T.bound (T.with_held u y)) (λ told. (T.memory c.args.turns.now told).cares) (λ told. (T.memory (T.with_held u y) told).cares)
+    handed_back T.rests x y (T.bound c.args.turns.now) (T.bound (T.with_held u y)) (λ told. (T.memory c.args.turns.now told).cares) (λ told. (T.memory (T.with_held u y) told).cares)
     (T.taken (T.with_held u y)) (T.held (T.with_held u y)) (L.keeps_bound u y ∙ c.turn.ensures.bound ∙ i.bound)
     (λ told. L.keeps_cares u y told ∙ ap (λ (m : Memory). m.cares) (c.turn.ensures.memory told) ∙ i.cares told)
     took (L.holds u y c.turn.ensures.held)
-    (may_leave (T.finds c.args.turns.now) (T.follows (T.place c.args.turns.now)) (T.bound c.args.turns.now) (λ told. (T.memory c.args.turns.now told).cares) _ c.requires.may
+    (may_leave (T.finds c.args.turns.now) (T.follows (T.place c.args.turns.now)) T.rests (T.bound c.args.turns.now) (λ told. (T.memory c.args.turns.now told).cares) _ c.requires.may
     here x y c.play_piece-played.new.member c.play_piece-played.new.reader c.play_piece-played.result i.id (i.found x found) (i.may x found) e.frame e.id e.piece e.next e.cut)
 
 pub loop-stand-preserved : goal.loop-stand-preserved

@@ -1,12 +1,12 @@
 use Rattle.std.proofs.Common.{◌∙◌, Ok, Err, ap, length, sym, subst}
 use Rattle.std.proofs.lemmas.Result.{err_from_is_err_and}
 use Rattle.mas_types.specs.declared.ids.MemberId.{MemberId}
-use Rattle.mas_complex.specs.Parts.{Parts, parts_of, with_copies}
+use Rattle.mas_complex.specs.Parts.{Parts, parts_of}
 use Rattle.mas_complex.specs.Texts.{spools_at}
 use Rattle.member_decks.proofs.FinishLemmas.{spools_apart}
 use Rattle.member_hand.specs.Locks.{MayHold}
 use Rattle.member_hand.specs.Sits.{start_of}
-use Rattle.member_sittings.specs.Sat.{CopiesActed}
+use Rattle.member_sittings.specs.Sat.{CopiesActed, seated_in}
 use Rattle.lock_cycle.specs.Books.{IsMember}
 use Rattle.member_hand.proofs.Entering.{to_enter, to_sit}
 use Rattle.member_hand.proofs.Locking.{tries_well}
@@ -51,7 +51,7 @@ returns-in_err-enter-clause-cut g c =
     let p = err_from_is_err_and c.from_residual.result c.from_residual.ensures.1 in
     let acts = subst (λ (q : Parts _ _). CopiesActed P {T = Unit {0}} s.holder.by q z (Err e)) c.retake_lock.ensures.frame (subst (λ (i : MemberId). CopiesActed P {T = Unit {0}} i (parts_of c.retake_lock.new.self) z (Err e)) (sym go.holder) c.in_err-enter.ensures.acts) in
     rw (p.1, p.2) (λ was. unseated P C s x z (subst (MayHold x.book) (sym go.holder) go.hold) go.aside.quiet.none go.aside.quiet.unplaced
-    (c.enter.ensures.frame ∙ ap (λ (q : Parts _ _). with_copies z q) c.retake_lock.ensures.frame) (not_told P C x m.id s.state s.found c.requires.right) (length m.room) e acts was)
+    (c.enter.ensures.frame ∙ ap (λ (q : Parts _ _). seated_in z q) c.retake_lock.ensures.frame) (not_told P C x m.id s.state s.found c.requires.right) (length m.room) e acts was)
 
 -- IT SITS
 
@@ -63,8 +63,8 @@ sit-requires g c =
     let z = parts_of c.enter.new.complex in
     let s = start_of c.args.stand in
     let acts = c.in_ok-enter.ensures.acts in
-    to_sit P C x z s.holder.by (c.enter.ensures.frame ∙ ap (λ (q : Parts _ _). with_copies z q) c.retake_lock.ensures.frame)
-    (λ t. spools_apart (P.view c.retake_lock.new.self.plant) (P.view c.enter.new.complex.plant) acts.course.goes.later (acts.apart t).others ∙ ap (λ (q : Parts _ _). spools_at (P.view q.plant) (P.view q.plant).now) c.retake_lock.ensures.frame)
+    to_sit P C x z s.holder.by (c.enter.ensures.frame ∙ ap (λ (q : Parts _ _). seated_in z q) c.retake_lock.ensures.frame)
+    (λ t. spools_apart (P.view c.retake_lock.new.self.plant) (P.view c.enter.new.complex.plant) acts.on.course.goes.later (acts.on.apart t).others ∙ ap (λ (q : Parts _ _). spools_at (P.view q.plant) (P.view q.plant).now) c.retake_lock.ensures.frame)
     c.args.member.now c.enter.new.member s c.enter.ensures.id c.requires.goes c.requires.right c.requires.few c.in_ok-enter.ensures.seat
 
 pub returns-clause-frame : goal.returns-clause-frame
@@ -91,7 +91,7 @@ returns-clause-turn g c =
     let s = start_of c.args.stand in
     let go = c.requires.goes in
     let acts = subst (λ (q : Parts _ _). CopiesActed P {T = Unit {0}} s.holder.by q z (Ok tt)) c.retake_lock.ensures.frame (subst (λ (i : MemberId). CopiesActed P {T = Unit {0}} i (parts_of c.retake_lock.new.self) z (Ok tt)) (sym go.holder) c.in_ok-enter.ensures.acts) in
-    turned P C s x z (subst (MayHold x.book) (sym go.holder) go.hold) go.aside.quiet.none go.aside.quiet.unplaced (c.enter.ensures.frame ∙ ap (λ (q : Parts _ _). with_copies z q) c.retake_lock.ensures.frame)
+    turned P C s x z (subst (MayHold x.book) (sym go.holder) go.hold) go.aside.quiet.none go.aside.quiet.unplaced (c.enter.ensures.frame ∙ ap (λ (q : Parts _ _). seated_in z q) c.retake_lock.ensures.frame)
     (not_told P C x m.id s.state s.found c.requires.right) acts (parts_of c.sit.new.complex) c.sit.ensures.frame c.sit.result c.sit.ensures.sat
 
 pub returns-clause-again : goal.returns-clause-again
@@ -104,7 +104,7 @@ returns-clause-again g c =
     let s = start_of c.args.stand in
     let go = c.requires.goes in
     let acts = subst (λ (q : Parts _ _). CopiesActed P {T = Unit {0}} s.holder.by q z (Ok tt)) c.retake_lock.ensures.frame (subst (λ (i : MemberId). CopiesActed P {T = Unit {0}} i (parts_of c.retake_lock.new.self) z (Ok tt)) (sym go.holder) c.in_ok-enter.ensures.acts) in
-    leaves_from P C s x z (subst (MayHold x.book) (sym go.holder) go.hold) go.aside.quiet.none go.aside.quiet.unplaced (c.enter.ensures.frame ∙ ap (λ (q : Parts _ _). with_copies z q) c.retake_lock.ensures.frame)
+    leaves_from P C s x z (subst (MayHold x.book) (sym go.holder) go.hold) go.aside.quiet.none go.aside.quiet.unplaced (c.enter.ensures.frame ∙ ap (λ (q : Parts _ _). seated_in z q) c.retake_lock.ensures.frame)
     (not_told P C x m.id s.state s.found c.requires.right) acts (parts_of c.sit.new.complex) c.sit.ensures.frame c.sit.new.member c.sit.result c.sit.ensures.again
 
 pub returns-clause-cut : goal.returns-clause-cut
@@ -117,5 +117,5 @@ returns-clause-cut g c =
     let s = start_of c.args.stand in
     let go = c.requires.goes in
     let acts = subst (λ (q : Parts _ _). CopiesActed P {T = Unit {0}} s.holder.by q z (Ok tt)) c.retake_lock.ensures.frame (subst (λ (i : MemberId). CopiesActed P {T = Unit {0}} i (parts_of c.retake_lock.new.self) z (Ok tt)) (sym go.holder) c.in_ok-enter.ensures.acts) in
-    turn_cut P C s x z (subst (MayHold x.book) (sym go.holder) go.hold) go.aside.quiet.none go.aside.quiet.unplaced (c.enter.ensures.frame ∙ ap (λ (q : Parts _ _). with_copies z q) c.retake_lock.ensures.frame)
+    turn_cut P C s x z (subst (MayHold x.book) (sym go.holder) go.hold) go.aside.quiet.none go.aside.quiet.unplaced (c.enter.ensures.frame ∙ ap (λ (q : Parts _ _). seated_in z q) c.retake_lock.ensures.frame)
     (not_told P C x m.id s.state s.found c.requires.right) acts (parts_of c.sit.new.complex) c.sit.ensures.frame (length m.room) c.sit.result c.sit.ensures.sat
