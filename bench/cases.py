@@ -1,5 +1,5 @@
-"""Cases that a queue must bear: many outputs that wait, a class that no printer takes, a queue that stays empty, a
-start with all groups taken, and a generated script."""
+"""Cases that a queue must bear: many outputs that wait, a class that no printer takes, a queue that stays empty, single
+commands at a small and a large checkpoint, a start with all groups taken, and a generated script."""
 import os
 import subprocess
 import time
@@ -71,6 +71,24 @@ def empty(command, where, count):
     size = count // 10
     tenths = [1000 * between(took, 2 * size * k or 1, 2 * size * (k + 1)) / size for k in range(10)]
     return tenths, (took.seen[-1][1] - took.seen[2 * size][1]) / (count - size)
+
+
+GIVEN = 2_000
+
+
+def commands(command, where, pages, members):
+    """Milliseconds on the processor of a display of a job, and of a hold or a release of it, at so many pages, where
+    these members give them by turns. Each is the least of three runs, without what a run takes that gives none."""
+
+    def least(*texts):
+        given = [b"%s %s\n" % (members[k % len(members)], texts[k % len(texts)]) for k in range(GIVEN if texts else 0)]
+        lines = [SIZES[pages].front, deck(0), *given]
+        runs = [in_folder(where, lambda folder: play(command, folder, lines)) for _ in range(3)]
+        assert all(took.told[-1].split()[2] == b"OK" for took in runs), runs[0].told[-1]
+        return min(took.processor for took in runs)
+
+    none = least()
+    return tuple(1000 * (took - none) / GIVEN for took in (least(b"$DJ1"), least(b"$HJ1", b"$AJ1")))
 
 
 CARD = b"%-80d"
