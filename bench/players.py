@@ -171,7 +171,7 @@ def play_floor(decks, pages):
     said_yet = iter(line + b"\n" for number in range(1, decks + 1) for line in lines_of(number))
     for act in acts(decks, pages):
         if len(act) == 1:
-            os.fsync(files[act[0]])
+            os.fdatasync(files[act[0]])
         elif act[0] is None:
             os.write(1, next(said_yet))
         else:
@@ -231,7 +231,7 @@ def play_again(name):
     bytes_of = {act[2]: b"x" * (act[2] - 1) + b"\n" for act in done if len(act) == 3}
     for name, *written_there in done:
         if not written_there:
-            os.fsync(files[name])
+            os.fdatasync(files[name])
         elif name is None:
             os.write(1, bytes_of[written_there[1]])
         else:

@@ -89,10 +89,10 @@ pub(crate) fn read_next<F: Read>(file: &mut F, into: &mut [u8]) -> io::Result<us
     Err(io::Error::from(ErrorKind::Interrupted))
 }
 
-// Leaves what was written to a file on its disk. A device that keeps nothing, as a terminal or the null device, has
-// nothing to leave.
+// Leaves what was written to a file on its disk, and its size, not the times of its last change. A device that keeps
+// nothing, as a terminal or the null device, has nothing to leave.
 pub(crate) fn sync_written<F: OpenFile>(file: &F) -> io::Result<()> {
-    match file.sync_all() {
+    match file.sync_data() {
         Err(error) if error.kind() == ErrorKind::InvalidInput => Ok(()),
         answer => answer,
     }

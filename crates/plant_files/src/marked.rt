@@ -201,7 +201,7 @@ impl<F: Read + Write + Seek + FileExt + OpenFile + Drop> Marked<F> {
 
     pub(crate) fn sync(&mut self) -> io::Result<()> {
         match &mut self.kept {
-            Kept::Open(file) => file.sync_all(),
+            Kept::Open(file) => file.sync_data(),
             Kept::Blank => Ok(()),
             Kept::Lost => Err(not_there()),
         }
