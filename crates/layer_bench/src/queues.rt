@@ -9,6 +9,7 @@ use crate::samples::fill_jobs;
 use ckpt_pages::{empty, sound};
 use ckpt_tables::Tables;
 use mas_types::{Class, Command, Config, List, MemberId, Name8, NoMemory, Phase};
+use page_marks::Marks;
 use queue_effect::{apply, law_of_fit_tables};
 use queue_laws::fitness::is_fit;
 use std::alloc::Global;
@@ -52,9 +53,10 @@ fn give_often(alloc: Global, tables: &mut Tables, command: &Command, times: u32)
     requires order { tables.old.order ≤ 10000 }
     requires command { IsFit command.now }
 {
+    let mut marks = Marks::none();
     let mut without = 0;
     for _time in 0..times {
-        if apply(alloc, tables, MemberId(1), command).is_err() {
+        if apply(alloc, tables, &mut marks, MemberId(1), command).is_err() {
             without += 1;
         }
     }

@@ -11,10 +11,12 @@ ghost use Rattle.ckpt_pages.specs.Sound.{AreSound};
 ghost use Rattle.queue_telling.specs.Orders.{HaveOrders};
 ghost use Rattle.queue_telling.specs.Telling.{TellSound};
 ghost use Rattle.queue_effect.specs.Standing.{AreFit, IfRefused, Plays};
+ghost use Rattle.page_marks.specs.Marks.{Touches};
 ghost use Rattle.queue_commands.specs.Given.{IsGiver, IsInRange, is_plain as is_plain_lem};
 
 use ckpt_tables::Tables;
 use mas_types::{Command, MemberId, NoMemory, OutSpec, Reply};
+use page_marks::Marks;
 use queue_effect::apply;
 use queue_tables::law_of_told_queues;
 use std::alloc::Global;
@@ -30,6 +32,7 @@ use std::alloc::Global;
 pub fn give(
     alloc: Global,
     tables: &mut Tables,
+    marks: &mut Marks,
     by: MemberId,
     command: &Command,
 ) -> Result<Reply, NoMemory>
@@ -46,7 +49,8 @@ pub fn give(
         → AreSound tables.new) }
     ensures named { IfOk result IsReplyNamed }
     ensures refused { IfOk result (λ reply. IfRefused reply (tables.new ≡ tables.old)) }
-    ensures no_memory { OnErr result (tables.new ≡ tables.old) }
+    ensures no_memory { OnErr result ((tables.new ≡ tables.old) × (marks.new ≡ marks.old)) }
+    ensures touches { Touches marks.old.pages marks.new.pages tables.old tables.new }
     ensures spelling { HasSpelling tables.new }
     ensures fit { AreFit tables.new }
     ensures orders { HaveOrders tables.old → HaveOrders tables.new }
@@ -55,7 +59,7 @@ pub fn give(
 {
     law_of_told_queues();
     read_numbers(command);
-    match apply(alloc, tables, by, command) {
+    match apply(alloc, tables, marks, by, command) {
         Ok(reply) => Ok(reply),
         Err(NoMemory) => Err(NoMemory),
     }

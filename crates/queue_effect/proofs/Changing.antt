@@ -315,7 +315,7 @@ pub found_outputs : (t : Tables) (test : Output → Bool) (o : Option (Found Out
 found_outputs t test None h = tt
 found_outputs t test (Some f) h = λ Q stands. h Q.outputs stands.outputs
 
-found_passes : {A : Type 0} (test : A → Bool) (xs : List A) (x : A) → find test xs ≡ Some x → test x ≡ true
+pub found_passes : {A : Type 0} (test : A → Bool) (xs : List A) (x : A) → find test xs ≡ Some x → test x ≡ true
 found_passes test [] x found = absurd (cc)
 found_passes test (y ∷ ys) x found =
     test_cases (test y) (test x ≡ true)

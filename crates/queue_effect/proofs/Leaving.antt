@@ -1,5 +1,5 @@
 -- How a row ends.
-use Rattle.std.proofs.Common.{◌≡◌, ℕ, Bool, Some, None, set, refl, sym, ap, ◌∙◌}
+use Rattle.std.proofs.Common.{◌≡◌, ℕ, Bool, List, [], ◌∷◌, Option, Some, None, set, refl, sym, ap, ◌∙◌}
 use Rattle.mas_types.specs.declared.jobs.Job.{Job}
 use Rattle.mas_types.specs.declared.jobs.Output.{Output}
 use Rattle.mas_types.specs.Lists.{change_first}
@@ -14,12 +14,16 @@ use Rattle.mas_types.specs.declared.commands.Reply.{Reply}
 use Rattle.mas_types.specs.declared.commands.Reply.TheVariants as reply
 use Rattle.mas_types.specs.Lists.{first_some}
 use Rattle.mas_types.specs.Row.{Row}
+use Rattle.mas_types.specs.declared.ids.JobNo.{JobNo}
 use Rattle.mas_types.specs.declared.ids.MemberId.{MemberId}
 use Rattle.mas_types.specs.Queue.{printing_at}
 use Rattle.mas_types.specs.Selection.{is_for_printer}
+use Rattle.mas_types.specs.Commands.Input.{entered, not_entered}
 use Rattle.mas_types.specs.Commands.Printing.{pick_row, picked_by}
+use Rattle.mas_types.specs.Commands.Wire.{again, gap, got_on, got_row}
 use Rattle.ckpt_tables.specs.declared.tables.Tables.{Tables}
 use Rattle.queue_telling.specs.Telling.{Tell}
+use Rattle.queue_effect.specs.Slots.{count_changed}
 use Rattle.queue_effect.specs.Standing.{Leaves}
 
 -- a refused row leaves all as it was
@@ -56,3 +60,18 @@ picked t Q m at x stands none has =
     (rw (none, has.found) refl)
     (output_changed t Q (is_for_printer Q m) at x (record x { busy = m }) (picked_by m) (λ r. record r { busy = m }) stands has (λ o is. refl) refl refl)
     (rw (has.found, job, index) refl)
+
+-- the refusals of a number, and then others
+none_refused : (a b : Option Refusal) (rest : List (Option Refusal)) → first_some (a ∷ b ∷ []) ≡ None → first_some rest ≡ None → first_some (a ∷ b ∷ rest) ≡ None
+none_refused None None rest none later = later
+none_refused None (Some why) rest none later = absurd (cc)
+none_refused (Some why) b rest none later = absurd (cc)
+
+-- a job is entered that came over a line, and its number is got
+pub got_over : (t : Tables) (Q : Queue) (m : MemberId) (l number : ℕ) (n : JobNo) (text : List (List ℕ)) → first_some (again (got_on Q l) number ∷ gap (got_on Q l) number ∷ []) ≡ None → first_some (not_entered Q m n text) ≡ None
+    → Tell t (entered m n text Q) → Leaves (record t { lines = count_changed l (λ count. record count { got = number }) t.lines }) Q (got_row Q m l number n text) (reply.Job n)
+got_over t Q m l number n text next allowed stands =
+    done_row (record t { lines = count_changed l (λ count. record count { got = number }) t.lines }) Q (got_row Q m l number n text) (reply.Job n)
+    (none_refused (again (got_on Q l) number) (gap (got_on Q l) number) (not_entered Q m n text) next allowed)
+    (record { config = stands.config; jobs = stands.jobs; outputs = stands.outputs; owners = stands.owners; members = stands.members; routes = stands.routes; lines = ap (count_changed l (λ count. record count { got = number })) stands.lines; last = stands.last })
+    refl

@@ -10,3 +10,5 @@ pub mod Showing
 pub mod SlotLemmas
 pub mod UnitLemmas
 pub mod PhaseLemmas
+pub mod Marking
+pub mod OneJob

@@ -1,7 +1,8 @@
 -- Loops over slots.
-use Rattle.std.proofs.Common.{◌≡◌, ℕ, ◌+◌, ◌<◌, Bool, List, [], ◌∷◌, ◌++◌, length, get_or, take, Option, Some, None, refl, ap}
-use Rattle.std.specs.Prelude.{count_by, if◌then◌else◌}
+use Rattle.std.proofs.Common.{◌≡◌, ℕ, ◌+◌, ◌<◌, Bool, List, [], ◌∷◌, ◌++◌, length, get_or, take, Option, Some, None, refl, ap, ◌∙◌}
+use Rattle.std.specs.Prelude.{count_by, filter, if◌then◌else◌}
 use Rattle.std.proofs.lemmas.List.{take_more}
+use Rattle.std.proofs.lemmas.List.Elements.{filter-append}
 use Rattle.std.proofs.lemmas.List.Sums.{sum_by-append}
 use Rattle.lay_bytes.specs.Used.{used}
 
@@ -13,6 +14,10 @@ used-append (Some x ∷ xs) ys = ap (λ zs. x ∷ zs) (used-append xs ys)
 -- one more slot
 pub used_more : {X : Type 0} (xs : List (Option X)) (i : ℕ) (d : Option X) → i < length xs → used (take (i + 1) xs) ≡ used (take i xs) ++ used (get_or xs i d ∷ [])
 used_more xs i d inside = rw (take_more xs i d inside) (used-append (take i xs) (get_or xs i d ∷ []))
+
+-- those that a test picks, with one more slot
+pub kept_more : {X : Type 0} (p : X → Bool) (xs : List (Option X)) (i : ℕ) (d : Option X) → i < length xs → filter p (used (take (i + 1) xs)) ≡ filter p (used (take i xs)) ++ filter p (used (get_or xs i d ∷ []))
+kept_more p xs i d inside = ap (filter p) (used_more xs i d inside) ∙ filter-append p (used (take i xs)) (used (get_or xs i d ∷ []))
 
 -- how many records a test picks, with one more slot
 pub counted_more : {X : Type 0} (p : X → Bool) (xs : List (Option X)) (i : ℕ) (d : Option X) → i < length xs

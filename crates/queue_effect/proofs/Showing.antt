@@ -2,7 +2,7 @@
 use Rattle.std.proofs.Common.{◌≡◌, ℕ, ◌≤◌, List, [], ◌∷◌, length, map, Option, Some, None, refl, ap, sym, ◌∙◌, subst, arith}
 use Rattle.std.specs.List.{All}
 use Rattle.std.proofs.lemmas.List.Elements.{All-cons, All-head, All-tail, All-nil}
-use Rattle.std.specs.Prelude.{filter, find, option_map}
+use Rattle.std.specs.Prelude.{filter, option_map}
 use Rattle.std.specs.Option.{option_map_or}
 use Rattle.mas_types.specs.declared.ids.JobNo.{JobNo}
 use Rattle.mas_types.specs.declared.jobs.Job.{Job}
@@ -14,9 +14,8 @@ use Rattle.mas_types.specs.declared.queues.Setting.{Setting}
 use Rattle.mas_types.specs.declared.commands.Refusal.TheVariants as refusal
 use Rattle.mas_types.specs.declared.commands.Reply.TheVariants as reply
 use Rattle.mas_types.specs.declared.commands.What.TheVariants as what
-use Rattle.mas_types.specs.Ids.{same_number}
 use Rattle.mas_types.specs.Lists.{first_some}
-use Rattle.mas_types.specs.Queue.{has_number, is_of}
+use Rattle.mas_types.specs.Queue.{is_of}
 use Rattle.mas_types.specs.Row.{settled, done, none_such}
 use Rattle.mas_types.specs.declared.commands.Refusal.{Refusal}
 use Rattle.mas_types.specs.declared.commands.Reply.{Reply}
@@ -33,13 +32,12 @@ use Rattle.queue_effect.specs.Standing.{Leaves, AreFit, IsFitJob, IsFitOutput}
 use Rattle.lay_bytes.specs.declared.records.JobRec.{JobRec}
 use Rattle.lay_bytes.specs.declared.records.OutRec.{OutRec}
 use Rattle.queue_slots.specs.Listed.{listed}
-use Rattle.queue_slots.proofs.Alike.{find-alike, filter-alike}
 use Rattle.job_queue.specs.Jobs as jobs
 use Rattle.output_queue.specs.Outputs as outputs
 use Rattle.queue_effect.specs.Gone.{job_of, output_of, SaysAs}
 
 -- what tells the same gives the same lines
-lines_alike : {A B C D : Type 0} (u : A → C) (v : B → C) (g : C → D) (xs : List A) (ys : List B) → map u xs ≡ map v ys → map (λ x. g (u x)) xs ≡ map (λ y. g (v y)) ys
+pub lines_alike : {A B C D : Type 0} (u : A → C) (v : B → C) (g : C → D) (xs : List A) (ys : List B) → map u xs ≡ map v ys → map (λ x. g (u x)) xs ≡ map (λ y. g (v y)) ys
 lines_alike u v g [] [] same = refl
 lines_alike u v g [] (y ∷ ys) same = absurd (cc)
 lines_alike u v g (x ∷ xs) [] same = absurd (cc)
@@ -62,7 +60,7 @@ jobs_said a b same = ap reply.Shown (lines_alike jobs.rec_of jobs.rec_of (λ (r 
 pub outputs_said : (a b : Queue) → OutputsAlike a b → SaysAs what.Outputs a b
 outputs_said a b same = ap reply.Shown (lines_alike outputs.rec_of outputs.rec_of (λ (r : OutRec). output_line (output_of r)) a.outputs b.outputs same)
 
-one_said : (a b : Queue) (n : JobNo) (x y : Option Job) → option_map jobs.rec_of x ≡ option_map jobs.rec_of y → map output_line (filter (is_of n) a.outputs) ≡ map output_line (filter (is_of n) b.outputs)
+pub one_said : (a b : Queue) (n : JobNo) (x y : Option Job) → option_map jobs.rec_of x ≡ option_map jobs.rec_of y → map output_line (filter (is_of n) a.outputs) ≡ map output_line (filter (is_of n) b.outputs)
     → (settled a a (reply.Shown (option_map_or (one_job a n) x [])) (first_some (none_such refusal.NoJob x ∷ []))).1 ≡ (settled b b (reply.Shown (option_map_or (one_job b n) y [])) (first_some (none_such refusal.NoJob y ∷ []))).1
 one_said a b n None None same lines = refl
 one_said a b n None (Some y) same lines = absurd (cc)
@@ -71,13 +69,6 @@ one_said a b n (Some x) (Some y) same lines =
     let here : jobs.rec_of x ≡ jobs.rec_of y = cc in
     let first : job_line x ≡ job_line y = ap (λ (r : JobRec). job_line (job_of r)) here in
     cc
-
-pub job_said : (a b : Queue) (n : JobNo) → JobsAlike a b → OutputsAlike a b → SaysAs (what.Job n) a b
-job_said a b n same prints =
-    one_said a b n (find (has_number n) a.jobs) (find (has_number n) b.jobs)
-    (find-alike jobs.rec_of jobs.rec_of (λ (r : JobRec). same_number r.number n) a.jobs b.jobs same)
-    (lines_alike outputs.rec_of outputs.rec_of (λ (r : OutRec). output_line (output_of r)) (filter (is_of n) a.outputs) (filter (is_of n) b.outputs)
-    (filter-alike outputs.rec_of outputs.rec_of (λ (r : OutRec). same_number r.job n) a.outputs b.outputs prints))
 
 -- WHAT IS LISTED
 
@@ -99,7 +90,7 @@ named_jobs n (x ∷ xs) all =
     let here : IsFitJob n x = All-head (IsFitJob n) x xs all in
     All-cons (λ (j : Job). j.busy.0 ≤ members_most) (job_of x) (map job_of xs) here.busy (named_jobs n xs (All-tail (IsFitJob n) x xs all))
 
-named_outputs : (n : ℕ) (xs : List OutRec) → All (IsFitOutput n) xs → All (λ o. o.busy.0 ≤ members_most) (map output_of xs)
+pub named_outputs : (n : ℕ) (xs : List OutRec) → All (IsFitOutput n) xs → All (λ o. o.busy.0 ≤ members_most) (map output_of xs)
 named_outputs n [] all = All-nil (λ (o : Output). o.busy.0 ≤ members_most)
 named_outputs n (x ∷ xs) all =
     let here : IsFitOutput n x = All-head (IsFitOutput n) x xs all in
@@ -121,7 +112,7 @@ module _ (t : Tables) (fit : AreFit t) where
   abbrev js : List Job
   js = map job_of (listed jobs.order_of t.jobs)
 
-  abbrev os : List Output
+  abbrev pub os : List Output
   os = map output_of (listed outputs.order_of t.outputs)
 
   pub part_named : (gs : List Owner) (ps : List Job) (qs : List Output) (ss : List Setting) → All (λ j. j.busy.0 ≤ members_most) ps → All (λ o. o.busy.0 ≤ members_most) qs → length ss ≤ members_most → IsNamed (part ps qs gs ss)
@@ -131,14 +122,11 @@ module _ (t : Tables) (fit : AreFit t) where
     jobs_alike : map jobs.rec_of js ≡ map jobs.rec_of Q.jobs
     jobs_alike = told_jobs (listed jobs.order_of t.jobs) ∙ stands.jobs
 
-    outputs_alike : map outputs.rec_of os ≡ map outputs.rec_of Q.outputs
+    pub outputs_alike : map outputs.rec_of os ≡ map outputs.rec_of Q.outputs
     outputs_alike = told_outputs (listed outputs.order_of t.outputs) ∙ stands.outputs
 
     pub says_queue : SaysAs what.Queue (part js [] [] []) Q
     says_queue = jobs_said (part js [] [] []) Q jobs_alike
-
-    pub says_job : (n : JobNo) → SaysAs (what.Job n) (part js os [] []) Q
-    says_job n = job_said (part js os [] []) Q n jobs_alike outputs_alike
 
     pub says_outputs : SaysAs what.Outputs (part [] os [] []) Q
     says_outputs = outputs_said (part [] os [] []) Q outputs_alike

@@ -5,17 +5,19 @@ ghost use Rattle.mas_types.specs.Limits.{members_most};
 ghost use Rattle.mas_types.specs.Step.{row_of};
 ghost use Rattle.queue_telling.specs.Orders.{HaveOrders};
 ghost use Rattle.queue_effect.specs.Standing.{Plays, IfRefused, AreFit};
+ghost use Rattle.page_marks.specs.Marks.{Touches};
 
 use crate::displays::display;
 use crate::ending::end_job;
 use crate::input::{begin, drop_job, enter, take};
 use crate::life::{converted, gather, purge, take_convert, take_exec};
-use crate::members::{reset, restart, set_init, set_prt};
+use crate::members::{Setup, reset, restart, set_init, set_prt};
 use crate::operator::{cancel, out, set_class, set_held, set_out, set_prio};
 use crate::printing::{back, cancel_out, finish, mark, pick, set_forward};
-use crate::wire::{acknowledge, load, receive};
+use crate::wire::{Arrival, acknowledge, load, receive};
 use ckpt_tables::Tables;
 use mas_types::{Command, MemberId, NoMemory, Reply};
+use page_marks::Marks;
 use std::alloc::Global;
 
 /// Gives a command of a member: for each queue that the tables tell, they tell what the command leaves of it, and the
@@ -28,6 +30,7 @@ use std::alloc::Global;
 pub fn apply(
     alloc: Global,
     tables: &mut Tables,
+    marks: &mut Marks,
     by: MemberId,
     command: &Command,
 ) -> Result<Reply, NoMemory>
@@ -37,51 +40,67 @@ pub fn apply(
     requires command { IsFit command.now }
     ensures plays { IfOk result (λ reply. Plays tables.old tables.new (λ Q. row_of Q by command.now) reply) }
     ensures refused { IfOk result (λ reply. IfRefused reply (tables.new ≡ tables.old)) }
-    ensures no_memory { OnErr result (tables.new ≡ tables.old) }
+    ensures no_memory { OnErr result ((tables.new ≡ tables.old) × (marks.new ≡ marks.old)) }
     ensures fits { AreFit tables.new }
     ensures orders { HaveOrders tables.old → HaveOrders tables.new }
     ensures order { tables.new.order ≤ tables.old.order + 32 }
+    ensures touches { AreFit tables.old → Touches marks.old.pages marks.new.pages tables.old tables.new }
 {
     match command {
-        Command::Begin { fields } => Ok(begin(tables, by, fields)),
-        Command::Take { want } => Ok(take(tables, by, *want)),
-        Command::Drop { job } => Ok(drop_job(tables, by, *job)),
-        Command::Enter { job, text } => Ok(enter(tables, by, *job, text)),
-        Command::TakeConvert => Ok(take_convert(tables, by)),
-        Command::Converted { job } => Ok(converted(tables, by, *job)),
-        Command::TakeExec => Ok(take_exec(tables, by)),
-        Command::Ended { job, outputs } => Ok(end_job(tables, by, *job, outputs)),
-        Command::Gather => Ok(gather(tables)),
-        Command::Pick => Ok(pick(tables, by)),
-        Command::Mark { job, index, at } => Ok(mark(tables, by, *job, *index, *at)),
-        Command::Done { job, index } => Ok(finish(tables, by, *job, *index)),
-        Command::Purge => Ok(purge(tables)),
-        Command::Hold { job } => Ok(set_held(tables, *job, true)),
-        Command::Release { job } => Ok(set_held(tables, *job, false)),
-        Command::Cancel { job } => Ok(cancel(tables, by, *job)),
-        Command::SetPrio { job, prio } => Ok(set_prio(tables, *job, *prio)),
-        Command::SetClass { job, class } => Ok(set_class(tables, *job, *class)),
-        Command::Out { job } => Ok(out(tables, *job)),
-        Command::CancelOut { job, index } => Ok(cancel_out(tables, by, *job, *index)),
-        Command::SetOut { job, index, class } => Ok(set_out(tables, by, *job, *index, *class)),
+        Command::Begin { fields } => Ok(begin(tables, marks, by, fields)),
+        Command::Take { want } => Ok(take(tables, marks, by, *want)),
+        Command::Drop { job } => Ok(drop_job(tables, marks, by, *job)),
+        Command::Enter { job, text } => Ok(enter(tables, marks, by, *job, text)),
+        Command::TakeConvert => Ok(take_convert(tables, marks, by)),
+        Command::Converted { job } => Ok(converted(tables, marks, by, *job)),
+        Command::TakeExec => Ok(take_exec(tables, marks, by)),
+        Command::Ended { job, outputs } => Ok(end_job(tables, marks, by, *job, outputs)),
+        Command::Gather => Ok(gather(tables, marks)),
+        Command::Pick => Ok(pick(tables, marks, by)),
+        Command::Mark { job, index, at } => Ok(mark(tables, marks, by, *job, *index, *at)),
+        Command::Done { job, index } => Ok(finish(tables, marks, by, *job, *index)),
+        Command::Purge => Ok(purge(tables, marks)),
+        Command::Hold { job } => Ok(set_held(tables, marks, *job, true)),
+        Command::Release { job } => Ok(set_held(tables, marks, *job, false)),
+        Command::Cancel { job } => Ok(cancel(tables, marks, by, *job)),
+        Command::SetPrio { job, prio } => Ok(set_prio(tables, marks, *job, *prio)),
+        Command::SetClass { job, class } => Ok(set_class(tables, marks, *job, *class)),
+        Command::Out { job } => Ok(out(tables, marks, *job)),
+        Command::CancelOut { job, index } => Ok(cancel_out(tables, marks, by, *job, *index)),
+        Command::SetOut { job, index, class } => Ok(set_out(
+            tables, marks, by, *job, *index, *class,
+        )),
         Command::Show { what } => display(alloc, tables, *what),
-        Command::SetInit { classes } => set_init(alloc, tables, by, classes),
+        Command::SetInit { classes } => set_init(alloc, tables, marks, by, classes),
         Command::SetPrt {
             classes,
             forms,
             lines,
-        } => set_prt(alloc, tables, by, classes, *forms, *lines),
-        Command::Back { lines } => Ok(back(tables, by, *lines)),
-        Command::Forward { lines } => Ok(set_forward(tables, by, *lines)),
-        Command::Reset { of } => Ok(reset(tables, *of)),
-        Command::Restart => Ok(restart(tables)),
-        Command::Load { line } => Ok(load(tables, *line)),
-        Command::Sent { line, number } => Ok(acknowledge(tables, *line, *number)),
+        } => {
+            let setup = Setup {
+                forms: *forms,
+                lines: *lines,
+            };
+            set_prt(alloc, tables, marks, by, classes, setup)
+        }
+        Command::Back { lines } => Ok(back(tables, marks, by, *lines)),
+        Command::Forward { lines } => Ok(set_forward(tables, marks, by, *lines)),
+        Command::Reset { of } => Ok(reset(tables, marks, *of)),
+        Command::Restart => Ok(restart(tables, marks)),
+        Command::Load { line } => Ok(load(tables, marks, *line)),
+        Command::Sent { line, number } => Ok(acknowledge(tables, marks, *line, *number)),
         Command::Got {
             line,
             number,
             job,
             text,
-        } => Ok(receive(tables, by, *line, *number, *job, text)),
+        } => {
+            let arrival = Arrival {
+                line: *line,
+                number: *number,
+                job: *job,
+            };
+            Ok(receive(tables, marks, by, arrival, text))
+        }
     }
 }

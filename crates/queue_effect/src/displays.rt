@@ -1,7 +1,10 @@
 //! Show: what a display of the queue says.
-ghost use Rattle.std.specs.Prelude.{◌≡◌, ◌++◌, ◌∷◌, [], map, IfOk, OnOk};
+ghost use Rattle.std.specs.Prelude.{◌≡◌, ◌≤◌, ◌++◌, ◌∷◌, [], All, filter, map, IfOk, OnOk};
 ghost use Rattle.mas_types.specs.declared.queues.Queue.{Queue};
+ghost use Rattle.mas_types.specs.Ids.{same_number};
+ghost use Rattle.mas_types.specs.Limits.{members_most};
 ghost use Rattle.mas_types.specs.Shown.{show_row};
+ghost use Rattle.mas_types.specs.Sorted.{in_order};
 ghost use Rattle.queue_slots.specs.Listed.{listed};
 ghost use Rattle.lay_bytes.specs.Used.{used};
 ghost use Rattle.job_queue.specs.Jobs.{order_of as job_order};
@@ -9,8 +12,9 @@ ghost use Rattle.output_queue.specs.Outputs.{order_of as output_order};
 ghost use Rattle.cmd_report.specs.Named.{IsNamed};
 ghost use Rattle.queue_telling.specs.Telling.{Tell};
 ghost use Rattle.queue_effect.specs.Standing.{Plays, AreFit};
-ghost use Rattle.queue_effect.specs.Gone.{job_of as job_of_lem, output_of as output_of_lem, SaysAs};
+ghost use Rattle.queue_effect.specs.Gone.{job_of as job_of_lem, output_of as output_of_lem, SaysAs, TellJob};
 
+use crate::lookups::job_at;
 use ckpt_tables::Tables;
 use cmd_report::show;
 use lay_bytes::{JobRec, OutRec};
@@ -106,17 +110,83 @@ fn used_outputs(alloc: Global, slots: &[Option<OutRec>]) -> Result<Vec<OutRec>, 
     Ok(outputs)
 }
 
-/// The outputs in order, their texts told by their numbers of lines.
-fn listed_outputs(alloc: Global, slots: &[Option<OutRec>]) -> Result<List<Output>, NoMemory>
-    ensures { IfOk result (λ outputs. outputs ≡ map output_of_lem (listed output_order slots.now)) }
+fn push_output_of(
+    outputs: &mut Vec<OutRec>,
+    slot: &Option<OutRec>,
+    job: JobNo,
+) -> Result<(), AllocError>
+    ensures { OnOk result (outputs.new.items
+        ≡ outputs.old.items ++ filter (λ r. same_number r.job job) (used (slot.now ∷ []))) }
 {
-    let mut records = used_outputs(alloc, slots)?;
-    records.sort_by_key(|output| output.order)?;
+    match slot {
+        Some(output) if output.job.0 == job.0 => {
+            outputs.push(*output)?;
+            Ok(())
+        }
+        _ => Ok(()),
+    }
+}
+
+fn used_outputs_of(
+    alloc: Global,
+    slots: &[Option<OutRec>],
+    job: JobNo,
+) -> Result<Vec<OutRec>, AllocError>
+    ensures { IfOk result (λ outputs. outputs.items ≡ filter (λ r. same_number r.job job) (used slots.now)) }
+{
+    let mut outputs = Vec::new(alloc);
+    for slot in slots {
+        push_output_of(&mut outputs, slot, job)?;
+    }
+    Ok(outputs)
+}
+
+/// The outputs of these records in order, their texts told by their numbers of lines.
+fn outputs_in_order(alloc: Global, records: Vec<OutRec>) -> Result<List<Output>, NoMemory>
+    ensures { IfOk result (λ outputs. outputs ≡ map output_of_lem (in_order output_order records.items)) }
+{
+    let mut sorted = records;
+    sorted.sort_by_key(|output| output.order)?;
     let mut outputs = List::new(alloc);
-    for output in records.as_slice() {
+    for output in sorted.as_slice() {
         outputs.push(output_of(output))?;
     }
     Ok(outputs)
+}
+
+/// All outputs in order.
+fn listed_outputs(alloc: Global, slots: &[Option<OutRec>]) -> Result<List<Output>, NoMemory>
+    ensures { IfOk result (λ outputs. outputs ≡ map output_of_lem (listed output_order slots.now)) }
+{
+    let records = used_outputs(alloc, slots)?;
+    outputs_in_order(alloc, records)
+}
+
+/// The outputs of a job in order.
+fn outputs_of_job(
+    alloc: Global,
+    slots: &[Option<OutRec>],
+    job: JobNo,
+) -> Result<List<Output>, NoMemory>
+    ensures { IfOk result (λ outputs. outputs
+        ≡ map output_of_lem (filter (λ r. same_number r.job job) (listed output_order slots.now))) }
+{
+    let records = used_outputs_of(alloc, slots, job)?;
+    outputs_in_order(alloc, records)
+}
+
+/// The job with a number, its text told by its number of lines; none where it isn't there.
+fn job_alone(alloc: Global, tables: &Tables, job: JobNo) -> Result<List<Job>, NoMemory>
+    requires { AreFit tables.now }
+    ensures named { IfOk result (λ jobs. All (λ j. j.busy.0 ≤ members_most) jobs) }
+    ensures same { IfOk result (λ jobs. (Q : Queue) → Tell tables.now Q → TellJob job jobs Q.jobs) }
+{
+    let Some(found) = job_at(tables, job) else {
+        return Ok(List::new(alloc));
+    };
+    let mut jobs = List::new(alloc);
+    jobs.push(job_of(&found.item))?;
+    Ok(jobs)
 }
 
 /// A queue of these jobs and outputs.
@@ -186,8 +256,8 @@ fn job_part(alloc: Global, tables: &Tables, job: JobNo) -> Result<Queue, NoMemor
     ensures named { IfOk result IsNamed }
     ensures same { IfOk result (λ part. (Q : Queue) → Tell tables.now Q → SaysAs (What.Job job) part Q) }
 {
-    let jobs = listed_jobs(alloc, tables.jobs.as_slice())?;
-    let outputs = listed_outputs(alloc, tables.outputs.as_slice())?;
+    let jobs = job_alone(alloc, tables, job)?;
+    let outputs = outputs_of_job(alloc, tables.outputs.as_slice(), job)?;
     Ok(jobs_part(alloc, tables, jobs, outputs))
 }
 

@@ -13,6 +13,7 @@ ghost use Rattle.lay_bytes.specs.Used.{used};
 ghost use Rattle.queue_telling.specs.Orders.{HaveOrders};
 ghost use Rattle.queue_telling.specs.Telling.{Tell};
 ghost use Rattle.queue_effect.specs.Standing.{Plays, IfRefused, AreFit, IsFitJob};
+ghost use Rattle.page_marks.specs.Marks.{Touches};
 
 use crate::groups::{free_members, give_groups};
 use crate::lookups::put_job;
@@ -21,7 +22,8 @@ use ckpt_tables::Tables;
 use lay_bytes::JobRec;
 use mas_types::{JobNo, List, MemberId, OutNo, OutSpec, Phase, Refusal, Reply, Thing, purge_if};
 use output_queue::add;
-use queue_slots::{Found, used_count};
+use page_marks::{HEADER_PAGE, Marks};
+use queue_slots::{Found, free_slot, used_count};
 use spool_text::groups_needed;
 use track_groups::{law_of_giving, member_count};
 
@@ -61,7 +63,14 @@ fn groups_of(outputs: &[OutSpec]) -> u32
 }
 
 /// Adds an output of the job, in the lowest groups of the member. A slot is free, and the member has so many groups.
-fn add_output(tables: &mut Tables, by: MemberId, job: JobNo, index: OutNo, output: &OutSpec)
+fn add_output(
+    tables: &mut Tables,
+    marks: &mut Marks,
+    by: MemberId,
+    job: JobNo,
+    index: OutNo,
+    output: &OutSpec,
+)
     requires spec { IsOutSpec output.now }
     requires fit { AreFit tables.old }
     requires slot { length (used tables.old.outputs) < length tables.old.outputs }
@@ -79,14 +88,21 @@ fn add_output(tables: &mut Tables, by: MemberId, job: JobNo, index: OutNo, outpu
     ensures order { tables.new.order ≡ tables.old.order + 1 }
     ensures fits { AreFit tables.new }
     ensures orders { HaveOrders tables.old → HaveOrders tables.new }
+    ensures touches { AreFit tables.old → Touches marks.old.pages marks.new.pages tables.old tables.new }
 {
     let order = tables.order;
+    let Some(at) = free_slot(tables.outputs.as_slice()) else {
+        unreachable!();
+    };
     let Ok(()) = add(tables.outputs.as_mut_slice(), job, index, output, order) else {
         unreachable!();
     };
     tables.order += 1;
+    marks.put_output(&tables.config, at);
+    marks.put(HEADER_PAGE);
     give_groups(
         tables,
+        marks,
         by,
         Thing::Output(job, index),
         groups_needed(&output.text),
@@ -94,7 +110,14 @@ fn add_output(tables: &mut Tables, by: MemberId, job: JobNo, index: OutNo, outpu
 }
 
 /// Adds the outputs of the job with their indexes from one on.
-fn add_outputs(tables: &mut Tables, by: MemberId, job: JobNo, first: u8, outputs: &[OutSpec])
+fn add_outputs(
+    tables: &mut Tables,
+    marks: &mut Marks,
+    by: MemberId,
+    job: JobNo,
+    first: u8,
+    outputs: &[OutSpec],
+)
     requires few { first + length outputs.now ≤ index_most + 1 }
     requires specs { All IsOutSpec outputs.now }
     requires fit { AreFit tables.old }
@@ -109,18 +132,20 @@ fn add_outputs(tables: &mut Tables, by: MemberId, job: JobNo, first: u8, outputs
     ensures order { tables.new.order ≡ tables.old.order + length outputs.now }
     ensures fits { AreFit tables.new }
     ensures orders { HaveOrders tables.old → HaveOrders tables.new }
+    ensures touches { AreFit tables.old → Touches marks.old.pages marks.new.pages tables.old tables.new }
 {
     let Some((output, rest)) = outputs.split_first() else {
         return;
     };
     law_of_giving();
-    add_output(tables, by, job, OutNo(first), output);
-    add_outputs(tables, by, job, first + 1, rest);
+    add_output(tables, marks, by, job, OutNo(first), output);
+    add_outputs(tables, marks, by, job, first + 1, rest);
 }
 
 /// The job ends with these outputs: they are added, and what the member has of groups beyond theirs becomes free.
 fn end_with(
     tables: &mut Tables,
+    marks: &mut Marks,
     found: &Found<JobRec>,
     by: MemberId,
     job: JobNo,
@@ -139,15 +164,22 @@ fn end_with(
     ensures order { tables.new.order ≡ tables.old.order + length outputs.now }
     ensures fits { AreFit tables.new }
     ensures orders { HaveOrders tables.old → HaveOrders tables.new }
+    ensures touches { AreFit tables.old → Touches marks.old.pages marks.new.pages tables.old tables.new }
 {
     law_of_giving();
-    put_job(tables, found.at, ended_record(&found.item));
-    add_outputs(tables, by, job, 1, outputs);
-    free_members(tables, by);
+    put_job(tables, marks, found.at, ended_record(&found.item));
+    add_outputs(tables, marks, by, job, 1, outputs);
+    free_members(tables, marks, by);
 }
 
 /// Ended: the job has run and goes to Output with its outputs, or without any to Purge where it is cancelled.
-pub fn end_job(tables: &mut Tables, by: MemberId, job: JobNo, outputs: &List<OutSpec>) -> Reply
+pub fn end_job(
+    tables: &mut Tables,
+    marks: &mut Marks,
+    by: MemberId,
+    job: JobNo,
+    outputs: &List<OutSpec>,
+) -> Reply
     requires few { length outputs.now ≤ index_most }
     requires specs { All IsOutSpec outputs.now }
     requires fit { AreFit tables.old }
@@ -157,13 +189,14 @@ pub fn end_job(tables: &mut Tables, by: MemberId, job: JobNo, outputs: &List<Out
     ensures fits { AreFit tables.new }
     ensures orders { HaveOrders tables.old → HaveOrders tables.new }
     ensures order { tables.new.order ≤ tables.old.order + 32 }
+    ensures touches { AreFit tables.old → Touches marks.old.pages marks.new.pages tables.old tables.new }
 {
     let found = match job_at_work(tables, by, job, Stage::Run) {
         Ok(found) => found,
         Err(why) => return Reply::No(why),
     };
     if found.item.cancelled {
-        end_with(tables, &found, by, job, &[]);
+        end_with(tables, marks, &found, by, job, &[]);
         return Reply::Count(0);
     }
     if are_outputs_full(tables, outputs.len()) {
@@ -172,6 +205,6 @@ pub fn end_job(tables: &mut Tables, by: MemberId, job: JobNo, outputs: &List<Out
     if member_count(tables.owners.as_slice(), by) < groups_of(outputs.as_slice()) {
         return Reply::No(Refusal::Nothing);
     }
-    end_with(tables, &found, by, job, outputs.as_slice());
+    end_with(tables, marks, &found, by, job, outputs.as_slice());
     Reply::Count(outputs.len() as u32)
 }

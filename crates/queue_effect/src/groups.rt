@@ -7,33 +7,44 @@ ghost use Rattle.track_groups.specs.Groups.{is_things, first_places, given};
 ghost use Rattle.output_queue.specs.Outputs.{AreOutputs};
 ghost use Rattle.queue_telling.specs.Orders.{HaveOrders};
 ghost use Rattle.queue_effect.specs.Standing.{AreFit};
+ghost use Rattle.page_marks.specs.Marks.{Touches};
 
 use ckpt_tables::Tables;
 use lay_bytes::OutRec;
 use mas_types::{JobNo, MemberId, Owner, Thing};
 use output_queue::find_output;
+use page_marks::Marks;
 use track_groups::{SpoolFull, free_member, free_thing, give_to, law_of_giving, take};
 
 /// The groups of a deck or an output become free.
-pub fn free_groups(tables: &mut Tables, thing: Thing)
+pub fn free_groups(tables: &mut Tables, marks: &mut Marks, thing: Thing)
     ensures value { tables.new ≡ record tables.old { owners = freed (is_things thing) tables.old.owners } }
     ensures fit { AreFit tables.old → AreFit tables.new }
     ensures orders { HaveOrders tables.old → HaveOrders tables.new }
+    ensures touches { AreFit tables.old → Touches marks.old.pages marks.new.pages tables.old tables.new }
 {
+    marks.put_groups(&tables.config);
     free_thing(tables.owners.as_mut_slice(), thing);
 }
 
 /// The groups of a member become free.
-pub fn free_members(tables: &mut Tables, by: MemberId)
+pub fn free_members(tables: &mut Tables, marks: &mut Marks, by: MemberId)
     ensures value { tables.new ≡ record tables.old { owners = freed (is_members by) tables.old.owners } }
     ensures fit { AreFit tables.old → AreFit tables.new }
     ensures orders { HaveOrders tables.old → HaveOrders tables.new }
+    ensures touches { AreFit tables.old → Touches marks.old.pages marks.new.pages tables.old tables.new }
 {
+    marks.put_groups(&tables.config);
     free_member(tables.owners.as_mut_slice(), by);
 }
 
 /// The lowest free groups become the member's. `SpoolFull` where none is free; nothing is changed then.
-pub fn take_groups(tables: &mut Tables, by: MemberId, want: u32) -> Result<u32, SpoolFull>
+pub fn take_groups(
+    tables: &mut Tables,
+    marks: &mut Marks,
+    by: MemberId,
+    want: u32,
+) -> Result<u32, SpoolFull>
     ensures taken { OnOk result (tables.new ≡ record tables.old { owners = taken by want tables.old.owners }) }
     ensures count { IfOk result (λ n. n ≡ min want (free_count tables.old.owners)) }
     ensures some { OnOk result ((free_count tables.old.owners == 0) ≡ false) }
@@ -41,34 +52,39 @@ pub fn take_groups(tables: &mut Tables, by: MemberId, want: u32) -> Result<u32, 
     ensures unchanged { OnErr result (tables.new ≡ tables.old) }
     ensures fit { AreFit tables.old → AreFit tables.new }
     ensures orders { HaveOrders tables.old → HaveOrders tables.new }
+    ensures touches { AreFit tables.old → Touches marks.old.pages marks.new.pages tables.old tables.new }
 {
+    marks.put_groups(&tables.config);
     take(tables.owners.as_mut_slice(), by, want)
 }
 
 /// A text gets the lowest groups of the member, which has so many.
-pub fn give_groups(tables: &mut Tables, by: MemberId, thing: Thing, count: u32)
+pub fn give_groups(tables: &mut Tables, marks: &mut Marks, by: MemberId, thing: Thing, count: u32)
     requires few { count ≤ 65536 }
     requires room { count ≤ member_count by tables.old.owners }
     ensures value { tables.new ≡ record tables.old { owners = given by (first_places thing count) tables.old.owners } }
     ensures left { member_count by tables.new.owners + count ≡ member_count by tables.old.owners }
     ensures fit { AreFit tables.old → AreFit tables.new }
     ensures orders { HaveOrders tables.old → HaveOrders tables.new }
+    ensures touches { AreFit tables.old → Touches marks.old.pages marks.new.pages tables.old tables.new }
 {
+    marks.put_groups(&tables.config);
     give_to(tables.owners.as_mut_slice(), by, thing, count);
 }
 
 /// A text gets the lowest groups of the member, which has so many, and the member's others become free.
-pub fn hand_out(tables: &mut Tables, by: MemberId, thing: Thing, count: u32)
+pub fn hand_out(tables: &mut Tables, marks: &mut Marks, by: MemberId, thing: Thing, count: u32)
     requires few { count ≤ 65536 }
     requires room { count ≤ member_count by tables.old.owners }
     ensures value { tables.new ≡ record tables.old
         { owners = handed_out by (first_places thing count) tables.old.owners } }
     ensures fit { AreFit tables.old → AreFit tables.new }
     ensures orders { HaveOrders tables.old → HaveOrders tables.new }
+    ensures touches { AreFit tables.old → Touches marks.old.pages marks.new.pages tables.old tables.new }
 {
     law_of_giving();
-    give_groups(tables, by, thing, count);
-    free_members(tables, by);
+    give_groups(tables, marks, by, thing, count);
+    free_members(tables, marks, by);
 }
 
 fn is_print_of(owner: Owner, outputs: &[Option<OutRec>], of: JobNo) -> bool
@@ -99,13 +115,15 @@ fn free_owners(owners: &mut [Owner], outputs: &[Option<OutRec>], job: JobNo)
 }
 
 /// The groups of the outputs of a job become free.
-pub fn free_prints(tables: &mut Tables, job: JobNo)
+pub fn free_prints(tables: &mut Tables, marks: &mut Marks, job: JobNo)
     ensures value { (os : List Output) → AreOutputs tables.old.outputs os
         → tables.new ≡ record tables.old { owners = freed (is_of_any (filter (is_of job) os)) tables.old.owners } }
     ensures fit { AreFit tables.old → AreFit tables.new }
     ensures orders { HaveOrders tables.old → HaveOrders tables.new }
     ensures jobs { tables.new.jobs ≡ tables.old.jobs }
     ensures order { tables.new.order ≡ tables.old.order }
+    ensures touches { AreFit tables.old → Touches marks.old.pages marks.new.pages tables.old tables.new }
 {
+    marks.put_groups(&tables.config);
     free_owners(tables.owners.as_mut_slice(), tables.outputs.as_slice(), job);
 }

@@ -14,6 +14,7 @@ ghost use Rattle.job_queue.specs.Jobs.{HasJob};
 ghost use Rattle.queue_telling.specs.Orders.{HaveOrders};
 ghost use Rattle.queue_telling.specs.Telling.{Tell};
 ghost use Rattle.queue_effect.specs.Standing.{Plays, IfRefused, AreFit, IsFitJob};
+ghost use Rattle.page_marks.specs.Marks.{Touches};
 
 use crate::groups::{free_members, hand_out, take_groups};
 use crate::lookups::{put_job, take_job};
@@ -23,7 +24,8 @@ use job_queue::{JobsFull, add};
 use lay_bytes::JobRec;
 use mas_types::{JobFields, JobNo, Lines, MemberId, Name8, Phase, Refusal, Reply, Route, Thing};
 use output_queue::same_name;
-use queue_slots::Found;
+use page_marks::{HEADER_PAGE, Marks};
+use queue_slots::{Found, free_slot};
 use spool_text::groups_needed;
 use track_groups::{SpoolFull, member_count};
 
@@ -39,7 +41,12 @@ fn knows_node(tables: &Tables, node: &Name8) -> bool
     same_name(node, &tables.config.node) || has_route(tables.routes.as_slice(), node)
 }
 
-fn add_job(tables: &mut Tables, by: MemberId, fields: &JobFields) -> Result<JobNo, JobsFull>
+fn add_job(
+    tables: &mut Tables,
+    marks: &mut Marks,
+    by: MemberId,
+    fields: &JobFields,
+) -> Result<JobNo, JobsFull>
     requires fit { AreFit tables.old }
     requires order { tables.old.order < 2 ^ 63 }
     requires member { by.0 ≤ members_most }
@@ -51,7 +58,11 @@ fn add_job(tables: &mut Tables, by: MemberId, fields: &JobFields) -> Result<JobN
     ensures order { OnOk result (tables.new.order ≡ tables.old.order + 1) }
     ensures fits { OnOk result (AreFit tables.new) }
     ensures orders { OnOk result (HaveOrders tables.old → HaveOrders tables.new) }
+    ensures touches { AreFit tables.old → Touches marks.old.pages marks.new.pages tables.old tables.new }
 {
+    let Some(at) = free_slot(tables.jobs.as_slice()) else {
+        return Err(JobsFull);
+    };
     let job = add(
         tables.jobs.as_mut_slice(),
         tables.last,
@@ -61,11 +72,13 @@ fn add_job(tables: &mut Tables, by: MemberId, fields: &JobFields) -> Result<JobN
     )?;
     tables.last = job;
     tables.order += 1;
+    marks.put_job(at);
+    marks.put(HEADER_PAGE);
     Ok(job)
 }
 
 /// Begin: a new job, with the next number and the next order.
-pub fn begin(tables: &mut Tables, by: MemberId, fields: &JobFields) -> Reply
+pub fn begin(tables: &mut Tables, marks: &mut Marks, by: MemberId, fields: &JobFields) -> Reply
     requires fit { AreFit tables.old }
     requires order { tables.old.order < 2 ^ 63 }
     requires member { by.0 ≤ members_most }
@@ -74,46 +87,49 @@ pub fn begin(tables: &mut Tables, by: MemberId, fields: &JobFields) -> Reply
     ensures fits { AreFit tables.new }
     ensures orders { HaveOrders tables.old → HaveOrders tables.new }
     ensures order { tables.new.order ≤ tables.old.order + 1 }
+    ensures touches { AreFit tables.old → Touches marks.old.pages marks.new.pages tables.old tables.new }
 {
     if !knows_node(tables, &fields.node) {
         return Reply::No(Refusal::NoNode);
     }
-    match add_job(tables, by, fields) {
+    match add_job(tables, marks, by, fields) {
         Ok(job) => Reply::Job(job),
         Err(JobsFull) => Reply::No(Refusal::JobsFull),
     }
 }
 
 /// Take: the lowest free groups become the member's.
-pub fn take(tables: &mut Tables, by: MemberId, want: u32) -> Reply
+pub fn take(tables: &mut Tables, marks: &mut Marks, by: MemberId, want: u32) -> Reply
     ensures plays { Plays tables.old tables.new (λ Q. take_row Q by want) result }
     ensures refused { IfRefused result (tables.new ≡ tables.old) }
     ensures fit { AreFit tables.old → AreFit tables.new }
     ensures orders { HaveOrders tables.old → HaveOrders tables.new }
     ensures order { tables.new.order ≡ tables.old.order }
+    ensures touches { AreFit tables.old → Touches marks.old.pages marks.new.pages tables.old tables.new }
 {
-    match take_groups(tables, by, want) {
+    match take_groups(tables, marks, by, want) {
         Ok(count) => Reply::Count(count),
         Err(SpoolFull) => Reply::No(Refusal::SpoolFull),
     }
 }
 
 /// Drop: the groups of the member become free, and the job goes, if one is named.
-pub fn drop_job(tables: &mut Tables, by: MemberId, job: JobNo) -> Reply
+pub fn drop_job(tables: &mut Tables, marks: &mut Marks, by: MemberId, job: JobNo) -> Reply
     ensures plays { Plays tables.old tables.new (λ Q. drop_row Q by job) result }
     ensures refused { IfRefused result (tables.new ≡ tables.old) }
     ensures fit { AreFit tables.old → AreFit tables.new }
     ensures orders { HaveOrders tables.old → HaveOrders tables.new }
     ensures order { tables.new.order ≡ tables.old.order }
+    ensures touches { AreFit tables.old → Touches marks.old.pages marks.new.pages tables.old tables.new }
 {
     if job.0 == 0 {
-        free_members(tables, by);
+        free_members(tables, marks, by);
         return Reply::Plain;
     }
     match job_at_work(tables, by, job, Stage::Input) {
         Ok(found) => {
-            take_job(tables, found.at);
-            free_members(tables, by);
+            take_job(tables, marks, found.at);
+            free_members(tables, marks, by);
             Reply::Plain
         }
         Err(why) => Reply::No(why),
@@ -180,7 +196,14 @@ pub fn entering(
 }
 
 /// The job gets its text, in the lowest groups of the member, and goes on.
-pub fn enter_job(tables: &mut Tables, found: &Found<JobRec>, by: MemberId, job: JobNo, text: &Lines)
+pub fn enter_job(
+    tables: &mut Tables,
+    marks: &mut Marks,
+    found: &Found<JobRec>,
+    by: MemberId,
+    job: JobNo,
+    text: &Lines,
+)
     requires text { AreLines text.now }
     requires here { slice_get tables.old.jobs found.now.at ≡ Some (Some found.now.item) }
     requires room { groups_needed_lem text.now ≤ member_count_lem by tables.old.owners }
@@ -191,14 +214,21 @@ pub fn enter_job(tables: &mut Tables, found: &Found<JobRec>, by: MemberId, job: 
     ensures orders { HaveOrders tables.old → HaveOrders tables.new }
     ensures order { tables.new.order ≡ tables.old.order }
     ensures lines { tables.new.lines ≡ tables.old.lines }
+    ensures touches { AreFit tables.old → Touches marks.old.pages marks.new.pages tables.old tables.new }
 {
     let entered = entered_record(&tables.config.node, &found.item, text);
-    put_job(tables, found.at, entered);
-    hand_out(tables, by, Thing::Deck(job), groups_needed(text));
+    put_job(tables, marks, found.at, entered);
+    hand_out(tables, marks, by, Thing::Deck(job), groups_needed(text));
 }
 
 /// Enter: the job gets its deck, and goes on.
-pub fn enter(tables: &mut Tables, by: MemberId, job: JobNo, text: &Lines) -> Reply
+pub fn enter(
+    tables: &mut Tables,
+    marks: &mut Marks,
+    by: MemberId,
+    job: JobNo,
+    text: &Lines,
+) -> Reply
     requires text { AreLines text.now }
     requires fit { AreFit tables.old }
     ensures plays { Plays tables.old tables.new (λ Q. enter_row Q by job text.now) result }
@@ -206,10 +236,11 @@ pub fn enter(tables: &mut Tables, by: MemberId, job: JobNo, text: &Lines) -> Rep
     ensures fits { AreFit tables.new }
     ensures orders { HaveOrders tables.old → HaveOrders tables.new }
     ensures order { tables.new.order ≡ tables.old.order }
+    ensures touches { AreFit tables.old → Touches marks.old.pages marks.new.pages tables.old tables.new }
 {
     match entering(tables, by, job, text) {
         Ok(found) => {
-            enter_job(tables, &found, by, job, text);
+            enter_job(tables, marks, &found, by, job, text);
             Reply::Job(job)
         }
         Err(why) => Reply::No(why),

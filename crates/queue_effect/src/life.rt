@@ -10,6 +10,7 @@ ghost use Rattle.job_queue.specs.Jobs.{HasJob, in_phase};
 ghost use Rattle.queue_telling.specs.Orders.{HaveOrders};
 ghost use Rattle.queue_telling.specs.Telling.{Tell};
 ghost use Rattle.queue_effect.specs.Standing.{Plays, IfRefused, AreFit, IsFitJob};
+ghost use Rattle.page_marks.specs.Marks.{Touches};
 
 use crate::groups::free_groups;
 use crate::lookups::{put_job, setting, take_job};
@@ -19,6 +20,7 @@ use job_queue::{find_convert, find_exec, find_in};
 use lay_bytes::JobRec;
 use mas_types::{JobNo, MemberId, Phase, Refusal, Reply, Thing, purge_if};
 use output_queue::has_output;
+use page_marks::Marks;
 use queue_slots::Found;
 
 fn for_convert(tables: &Tables) -> Option<Found<JobRec>>
@@ -69,34 +71,36 @@ pub fn in_phase_of(job: &JobRec, phase: Phase) -> JobRec
 }
 
 /// TakeConvert: the job selected for conversion becomes busy at the member.
-pub fn take_convert(tables: &mut Tables, by: MemberId) -> Reply
+pub fn take_convert(tables: &mut Tables, marks: &mut Marks, by: MemberId) -> Reply
     requires { by.0 ≤ members_most }
     ensures plays { Plays tables.old tables.new (λ Q. take_convert_row Q by) result }
     ensures refused { IfRefused result (tables.new ≡ tables.old) }
     ensures fit { AreFit tables.old → AreFit tables.new }
     ensures orders { HaveOrders tables.old → HaveOrders tables.new }
     ensures order { tables.new.order ≡ tables.old.order }
+    ensures touches { AreFit tables.old → Touches marks.old.pages marks.new.pages tables.old tables.new }
 {
     let Some(found) = for_convert(tables) else {
         return Reply::No(Refusal::Nothing);
     };
-    put_job(tables, found.at, busy_at(&found.item, by));
+    put_job(tables, marks, found.at, busy_at(&found.item, by));
     Reply::Job(found.item.number)
 }
 
 /// TakeExec: the job selected for execution becomes busy at the member.
-pub fn take_exec(tables: &mut Tables, by: MemberId) -> Reply
+pub fn take_exec(tables: &mut Tables, marks: &mut Marks, by: MemberId) -> Reply
     requires { by.0 ≤ members_most }
     ensures plays { Plays tables.old tables.new (λ Q. take_exec_row Q by) result }
     ensures refused { IfRefused result (tables.new ≡ tables.old) }
     ensures fit { AreFit tables.old → AreFit tables.new }
     ensures orders { HaveOrders tables.old → HaveOrders tables.new }
     ensures order { tables.new.order ≡ tables.old.order }
+    ensures touches { AreFit tables.old → Touches marks.old.pages marks.new.pages tables.old tables.new }
 {
     let Some(found) = for_execute(tables, by) else {
         return Reply::No(Refusal::Nothing);
     };
-    put_job(tables, found.at, busy_at(&found.item, by));
+    put_job(tables, marks, found.at, busy_at(&found.item, by));
     Reply::Job(found.item.number)
 }
 
@@ -112,34 +116,36 @@ fn outputs_phase(tables: &Tables, job: JobNo) -> Phase
 }
 
 /// Gather: the first job in Output goes to Hardcopy, or to Purge where it has no output.
-pub fn gather(tables: &mut Tables) -> Reply
+pub fn gather(tables: &mut Tables, marks: &mut Marks) -> Reply
     ensures plays { Plays tables.old tables.new gather_row result }
     ensures refused { IfRefused result (tables.new ≡ tables.old) }
     ensures fit { AreFit tables.old → AreFit tables.new }
     ensures orders { HaveOrders tables.old → HaveOrders tables.new }
     ensures order { tables.new.order ≡ tables.old.order }
+    ensures touches { AreFit tables.old → Touches marks.old.pages marks.new.pages tables.old tables.new }
 {
     let Some(found) = first_job_in(tables, Phase::Output) else {
         return Reply::No(Refusal::Nothing);
     };
     let phase = outputs_phase(tables, found.item.number);
-    put_job(tables, found.at, in_phase_of(&found.item, phase));
+    put_job(tables, marks, found.at, in_phase_of(&found.item, phase));
     Reply::Job(found.item.number)
 }
 
 /// Purge: the first job in Purge goes, and its groups become free.
-pub fn purge(tables: &mut Tables) -> Reply
+pub fn purge(tables: &mut Tables, marks: &mut Marks) -> Reply
     ensures plays { Plays tables.old tables.new purge_row result }
     ensures refused { IfRefused result (tables.new ≡ tables.old) }
     ensures fit { AreFit tables.old → AreFit tables.new }
     ensures orders { HaveOrders tables.old → HaveOrders tables.new }
     ensures order { tables.new.order ≡ tables.old.order }
+    ensures touches { AreFit tables.old → Touches marks.old.pages marks.new.pages tables.old tables.new }
 {
     let Some(found) = first_job_in(tables, Phase::Purge) else {
         return Reply::No(Refusal::Nothing);
     };
-    take_job(tables, found.at);
-    free_groups(tables, Thing::Deck(found.item.number));
+    take_job(tables, marks, found.at);
+    free_groups(tables, marks, Thing::Deck(found.item.number));
     Reply::Job(found.item.number)
 }
 
@@ -157,16 +163,17 @@ fn converted_record(job: &JobRec) -> JobRec
 }
 
 /// Converted: the job goes to Execute, or to Purge where it is cancelled.
-pub fn converted(tables: &mut Tables, by: MemberId, job: JobNo) -> Reply
+pub fn converted(tables: &mut Tables, marks: &mut Marks, by: MemberId, job: JobNo) -> Reply
     ensures plays { Plays tables.old tables.new (λ Q. converted_row Q by job) result }
     ensures refused { IfRefused result (tables.new ≡ tables.old) }
     ensures fit { AreFit tables.old → AreFit tables.new }
     ensures orders { HaveOrders tables.old → HaveOrders tables.new }
     ensures order { tables.new.order ≡ tables.old.order }
+    ensures touches { AreFit tables.old → Touches marks.old.pages marks.new.pages tables.old tables.new }
 {
     match job_at_work(tables, by, job, Stage::Convert) {
         Ok(found) => {
-            put_job(tables, found.at, converted_record(&found.item));
+            put_job(tables, marks, found.at, converted_record(&found.item));
             Reply::Job(job)
         }
         Err(why) => Reply::No(why),

@@ -10,12 +10,14 @@ ghost use Rattle.output_queue.specs.Outputs.{HasOutput};
 ghost use Rattle.queue_telling.specs.Orders.{HaveOrders};
 ghost use Rattle.queue_telling.specs.Telling.{Tell};
 ghost use Rattle.queue_effect.specs.Standing.{AreFit, IsFitJob, IsFitOutput};
+ghost use Rattle.page_marks.specs.Marks.{Touches};
 
 use ckpt_tables::Tables;
 use job_queue::find_job;
 use lay_bytes::{JobRec, OutRec};
 use mas_types::{JobNo, LineCount, MemberId, OutNo, Phase, Setting};
 use output_queue::{find_output, find_printing};
+use page_marks::Marks;
 use queue_slots::Found;
 
 /// The setting of a member; none of nobody, and of a member that isn't there.
@@ -87,29 +89,33 @@ pub fn is_current(counts: &[LineCount], job: &JobRec) -> bool
 }
 
 /// Writes the slot of a job.
-pub fn put_job(tables: &mut Tables, at: usize, job: JobRec)
+pub fn put_job(tables: &mut Tables, marks: &mut Marks, at: usize, job: JobRec)
     requires { at < length tables.old.jobs }
     ensures value { tables.new ≡ record tables.old { jobs = slice_set tables.old.jobs at (Some job) } }
     ensures fit { (x : JobRec) → slice_get tables.old.jobs at ≡ Some (Some x)
         → (IsFitJob tables.old.order x → IsFitJob tables.old.order job) → AreFit tables.old → AreFit tables.new }
     ensures orders { (x : JobRec) → slice_get tables.old.jobs at ≡ Some (Some x) → job.order ≡ x.order
         → HaveOrders tables.old → HaveOrders tables.new }
+    ensures touches { AreFit tables.old → Touches marks.old.pages marks.new.pages tables.old tables.new }
 {
+    marks.put_job(at);
     *tables.jobs.item_mut(at) = Some(job);
 }
 
 /// Empties the slot of a job.
-pub fn take_job(tables: &mut Tables, at: usize)
+pub fn take_job(tables: &mut Tables, marks: &mut Marks, at: usize)
     requires { at < length tables.old.jobs }
     ensures value { tables.new ≡ record tables.old { jobs = slice_set tables.old.jobs at None } }
     ensures fit { AreFit tables.old → AreFit tables.new }
     ensures orders { HaveOrders tables.old → HaveOrders tables.new }
+    ensures touches { AreFit tables.old → Touches marks.old.pages marks.new.pages tables.old tables.new }
 {
+    marks.put_job(at);
     *tables.jobs.item_mut(at) = None;
 }
 
 /// Writes the slot of an output.
-pub fn put_output(tables: &mut Tables, at: usize, output: OutRec)
+pub fn put_output(tables: &mut Tables, marks: &mut Marks, at: usize, output: OutRec)
     requires { at < length tables.old.outputs }
     ensures value { tables.new ≡ record tables.old { outputs = slice_set tables.old.outputs at (Some output) } }
     ensures fit { (x : OutRec) → slice_get tables.old.outputs at ≡ Some (Some x)
@@ -117,16 +123,20 @@ pub fn put_output(tables: &mut Tables, at: usize, output: OutRec)
         → AreFit tables.new }
     ensures orders { (x : OutRec) → slice_get tables.old.outputs at ≡ Some (Some x) → output.order ≡ x.order
         → HaveOrders tables.old → HaveOrders tables.new }
+    ensures touches { AreFit tables.old → Touches marks.old.pages marks.new.pages tables.old tables.new }
 {
+    marks.put_output(&tables.config, at);
     *tables.outputs.item_mut(at) = Some(output);
 }
 
 /// Empties the slot of an output.
-pub fn take_output(tables: &mut Tables, at: usize)
+pub fn take_output(tables: &mut Tables, marks: &mut Marks, at: usize)
     requires { at < length tables.old.outputs }
     ensures value { tables.new ≡ record tables.old { outputs = slice_set tables.old.outputs at None } }
     ensures fit { AreFit tables.old → AreFit tables.new }
     ensures orders { HaveOrders tables.old → HaveOrders tables.new }
+    ensures touches { AreFit tables.old → Touches marks.old.pages marks.new.pages tables.old tables.new }
 {
+    marks.put_output(&tables.config, at);
     *tables.outputs.item_mut(at) = None;
 }

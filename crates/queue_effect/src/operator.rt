@@ -13,6 +13,7 @@ ghost use Rattle.queue_resets.specs.Resets.{changed_where};
 ghost use Rattle.queue_telling.specs.Orders.{HaveOrders};
 ghost use Rattle.queue_telling.specs.Telling.{Tell};
 ghost use Rattle.queue_effect.specs.Standing.{Plays, IfRefused, AreFit, IsFitJob, IsFitOutput};
+ghost use Rattle.page_marks.specs.Marks.{Touches};
 
 use crate::groups::free_prints;
 use crate::life::in_phase_of;
@@ -22,6 +23,7 @@ use ckpt_tables::Tables;
 use lay_bytes::{JobRec, OutRec};
 use mas_types::{Class, JobFields, JobNo, MemberId, OutNo, Phase, Prio, Refusal, Reply};
 use output_queue::find_elsewhere;
+use page_marks::Marks;
 use queue_slots::Found;
 
 fn with_held(job: &JobRec, held: bool) -> JobRec
@@ -36,17 +38,18 @@ fn with_held(job: &JobRec, held: bool) -> JobRec
 }
 
 /// Hold, Release: the job is held, or no longer.
-pub fn set_held(tables: &mut Tables, job: JobNo, held: bool) -> Reply
+pub fn set_held(tables: &mut Tables, marks: &mut Marks, job: JobNo, held: bool) -> Reply
     ensures plays { Plays tables.old tables.new (λ Q. held_row Q job held) result }
     ensures refused { IfRefused result (tables.new ≡ tables.old) }
     ensures fit { AreFit tables.old → AreFit tables.new }
     ensures orders { HaveOrders tables.old → HaveOrders tables.new }
     ensures order { tables.new.order ≡ tables.old.order }
+    ensures touches { AreFit tables.old → Touches marks.old.pages marks.new.pages tables.old tables.new }
 {
     let Some(found) = job_at(tables, job) else {
         return Reply::No(Refusal::NoJob);
     };
-    put_job(tables, found.at, with_held(&found.item, held));
+    put_job(tables, marks, found.at, with_held(&found.item, held));
     Reply::Job(job)
 }
 
@@ -62,12 +65,13 @@ fn with_prio(job: &JobRec, prio: Prio) -> JobRec
 }
 
 /// SetPrio: the job gets another priority.
-pub fn set_prio(tables: &mut Tables, job: JobNo, prio: Prio) -> Reply
+pub fn set_prio(tables: &mut Tables, marks: &mut Marks, job: JobNo, prio: Prio) -> Reply
     ensures plays { Plays tables.old tables.new (λ Q. set_prio_row Q job prio) result }
     ensures refused { IfRefused result (tables.new ≡ tables.old) }
     ensures fit { AreFit tables.old → AreFit tables.new }
     ensures orders { HaveOrders tables.old → HaveOrders tables.new }
     ensures order { tables.new.order ≡ tables.old.order }
+    ensures touches { AreFit tables.old → Touches marks.old.pages marks.new.pages tables.old tables.new }
 {
     let Some(found) = job_at(tables, job) else {
         return Reply::No(Refusal::NoJob);
@@ -75,7 +79,7 @@ pub fn set_prio(tables: &mut Tables, job: JobNo, prio: Prio) -> Reply
     if matches!(found.item.phase, Phase::Purge) {
         return Reply::No(Refusal::WrongPhase(found.item.phase));
     }
-    put_job(tables, found.at, with_prio(&found.item, prio));
+    put_job(tables, marks, found.at, with_prio(&found.item, prio));
     Reply::Job(job)
 }
 
@@ -100,12 +104,13 @@ fn with_class(job: &JobRec, class: Class) -> JobRec
 }
 
 /// SetClass: the job gets another class.
-pub fn set_class(tables: &mut Tables, job: JobNo, class: Class) -> Reply
+pub fn set_class(tables: &mut Tables, marks: &mut Marks, job: JobNo, class: Class) -> Reply
     ensures plays { Plays tables.old tables.new (λ Q. set_class_row Q job class) result }
     ensures refused { IfRefused result (tables.new ≡ tables.old) }
     ensures fit { AreFit tables.old → AreFit tables.new }
     ensures orders { HaveOrders tables.old → HaveOrders tables.new }
     ensures order { tables.new.order ≡ tables.old.order }
+    ensures touches { AreFit tables.old → Touches marks.old.pages marks.new.pages tables.old tables.new }
 {
     let Some(found) = job_at(tables, job) else {
         return Reply::No(Refusal::NoJob);
@@ -113,7 +118,7 @@ pub fn set_class(tables: &mut Tables, job: JobNo, class: Class) -> Reply
     if !has_yet_to_run(found.item.phase) {
         return Reply::No(Refusal::WrongPhase(found.item.phase));
     }
-    put_job(tables, found.at, with_class(&found.item, class));
+    put_job(tables, marks, found.at, with_class(&found.item, class));
     Reply::Job(job)
 }
 
@@ -126,12 +131,20 @@ fn with_out_class(output: &OutRec, class: Class) -> OutRec
 }
 
 /// SetOut: the output gets another class.
-pub fn set_out(tables: &mut Tables, by: MemberId, job: JobNo, index: OutNo, class: Class) -> Reply
+pub fn set_out(
+    tables: &mut Tables,
+    marks: &mut Marks,
+    by: MemberId,
+    job: JobNo,
+    index: OutNo,
+    class: Class,
+) -> Reply
     ensures plays { Plays tables.old tables.new (λ Q. set_out_row Q by job index class) result }
     ensures refused { IfRefused result (tables.new ≡ tables.old) }
     ensures fit { AreFit tables.old → AreFit tables.new }
     ensures orders { HaveOrders tables.old → HaveOrders tables.new }
     ensures order { tables.new.order ≡ tables.old.order }
+    ensures touches { AreFit tables.old → Touches marks.old.pages marks.new.pages tables.old tables.new }
 {
     let Some(found) = output_at(tables, job, index) else {
         return Reply::No(Refusal::NoOutput);
@@ -139,7 +152,7 @@ pub fn set_out(tables: &mut Tables, by: MemberId, job: JobNo, index: OutNo, clas
     if is_elsewhere(found.item.busy, by) {
         return Reply::No(Refusal::InUse(found.item.busy));
     }
-    put_output(tables, found.at, with_out_class(&found.item, class));
+    put_output(tables, marks, found.at, with_out_class(&found.item, class));
     Reply::Output(job, index)
 }
 
@@ -178,25 +191,28 @@ fn empty_slots(outputs: &mut [Option<OutRec>], job: JobNo)
     }
 }
 
-fn empty_outputs(tables: &mut Tables, job: JobNo)
+fn empty_outputs(tables: &mut Tables, marks: &mut Marks, job: JobNo)
     ensures value { tables.new ≡ record tables.old
         { outputs = map (emptied_where (λ r. same_number r.job job)) tables.old.outputs } }
     ensures fit { AreFit tables.old → AreFit tables.new }
     ensures orders { HaveOrders tables.old → HaveOrders tables.new }
+    ensures touches { AreFit tables.old → Touches marks.old.pages marks.new.pages tables.old tables.new }
 {
+    marks.put_outputs(&tables.config);
     empty_slots(tables.outputs.as_mut_slice(), job);
 }
 
 /// The outputs of the job go, and their groups become free.
-fn drop_outputs(tables: &mut Tables, job: JobNo)
+fn drop_outputs(tables: &mut Tables, marks: &mut Marks, job: JobNo)
     ensures stands { (Q : Queue) → Tell tables.old Q → Tell tables.new (without_outputs_of job Q) }
     ensures jobs { tables.new.jobs ≡ tables.old.jobs }
     ensures fit { AreFit tables.old → AreFit tables.new }
     ensures orders { HaveOrders tables.old → HaveOrders tables.new }
     ensures order { tables.new.order ≡ tables.old.order }
+    ensures touches { AreFit tables.old → Touches marks.old.pages marks.new.pages tables.old tables.new }
 {
-    free_prints(tables, job);
-    empty_outputs(tables, job);
+    free_prints(tables, marks, job);
+    empty_outputs(tables, marks, job);
 }
 
 /// The first output of the job that is busy at another than the member.
@@ -210,12 +226,13 @@ fn printing_elsewhere(tables: &Tables, by: MemberId, job: JobNo) -> Option<Found
 }
 
 /// Cancel: a busy job becomes cancelled; any other loses its outputs and goes to Purge.
-pub fn cancel(tables: &mut Tables, by: MemberId, job: JobNo) -> Reply
+pub fn cancel(tables: &mut Tables, marks: &mut Marks, by: MemberId, job: JobNo) -> Reply
     ensures plays { Plays tables.old tables.new (λ Q. cancel_row Q by job) result }
     ensures refused { IfRefused result (tables.new ≡ tables.old) }
     ensures fit { AreFit tables.old → AreFit tables.new }
     ensures orders { HaveOrders tables.old → HaveOrders tables.new }
     ensures order { tables.new.order ≡ tables.old.order }
+    ensures touches { AreFit tables.old → Touches marks.old.pages marks.new.pages tables.old tables.new }
 {
     let Some(found) = job_at(tables, job) else {
         return Reply::No(Refusal::NoJob);
@@ -227,11 +244,16 @@ pub fn cancel(tables: &mut Tables, by: MemberId, job: JobNo) -> Reply
         return Reply::No(Refusal::InUse(output.item.busy));
     }
     if found.item.busy.0 != 0 {
-        put_job(tables, found.at, cancelled(&found.item));
+        put_job(tables, marks, found.at, cancelled(&found.item));
         return Reply::Job(job);
     }
-    drop_outputs(tables, job);
-    put_job(tables, found.at, in_phase_of(&found.item, Phase::Purge));
+    drop_outputs(tables, marks, job);
+    put_job(
+        tables,
+        marks,
+        found.at,
+        in_phase_of(&found.item, Phase::Purge),
+    );
     Reply::Job(job)
 }
 
@@ -290,7 +312,7 @@ fn held_outputs(tables: &Tables, job: JobNo) -> u32
     held_count(tables.outputs.as_slice(), job)
 }
 
-fn release_outputs(tables: &mut Tables, job: JobNo)
+fn release_outputs(tables: &mut Tables, marks: &mut Marks, job: JobNo)
     ensures value { tables.new ≡ record tables.old {
       outputs = map (changed_where (λ r. same_number r.job job && r.held) (λ r. record r { held = Bool.false }))
           tables.old.outputs;
@@ -299,23 +321,26 @@ fn release_outputs(tables: &mut Tables, job: JobNo)
         → Tell tables.new (record Q { outputs = change (is_held_of job) released_lem Q.outputs }) }
     ensures fit { AreFit tables.old → AreFit tables.new }
     ensures orders { HaveOrders tables.old → HaveOrders tables.new }
+    ensures touches { AreFit tables.old → Touches marks.old.pages marks.new.pages tables.old tables.new }
 {
+    marks.put_outputs(&tables.config);
     release_slots(tables.outputs.as_mut_slice(), job);
 }
 
 /// Out: the held outputs of the job are released.
-pub fn out(tables: &mut Tables, job: JobNo) -> Reply
+pub fn out(tables: &mut Tables, marks: &mut Marks, job: JobNo) -> Reply
     requires { AreFit tables.old }
     ensures plays { Plays tables.old tables.new (λ Q. out_row Q job) result }
     ensures refused { IfRefused result (tables.new ≡ tables.old) }
     ensures fits { AreFit tables.new }
     ensures orders { HaveOrders tables.old → HaveOrders tables.new }
     ensures order { tables.new.order ≡ tables.old.order }
+    ensures touches { AreFit tables.old → Touches marks.old.pages marks.new.pages tables.old tables.new }
 {
     let Some(_found) = job_at(tables, job) else {
         return Reply::No(Refusal::NoJob);
     };
     let count = held_outputs(tables, job);
-    release_outputs(tables, job);
+    release_outputs(tables, marks, job);
     Reply::Count(count)
 }

@@ -11,6 +11,7 @@ ghost use Rattle.output_queue.specs.Outputs.{HasOutput};
 ghost use Rattle.queue_telling.specs.Orders.{HaveOrders};
 ghost use Rattle.queue_telling.specs.Telling.{Tell};
 ghost use Rattle.queue_effect.specs.Standing.{Plays, IfRefused, AreFit, IsFitOutput};
+ghost use Rattle.page_marks.specs.Marks.{Touches};
 
 use crate::groups::free_groups;
 use crate::life::in_phase_of;
@@ -19,6 +20,7 @@ use ckpt_tables::Tables;
 use lay_bytes::{JobRec, OutRec};
 use mas_types::{JobNo, MemberId, OutNo, Phase, Refusal, Reply, Thing};
 use output_queue::{find_for_printer, has_output};
+use page_marks::Marks;
 use printer_proc::{backspace, forward};
 use queue_slots::Found;
 
@@ -52,13 +54,14 @@ fn busy_at(output: &OutRec, by: MemberId) -> OutRec
 }
 
 /// Pick: the output selected for the member's printer becomes busy at the member.
-pub fn pick(tables: &mut Tables, by: MemberId) -> Reply
+pub fn pick(tables: &mut Tables, marks: &mut Marks, by: MemberId) -> Reply
     requires { by.0 ≤ members_most }
     ensures plays { Plays tables.old tables.new (λ Q. pick_row Q by) result }
     ensures refused { IfRefused result (tables.new ≡ tables.old) }
     ensures fit { AreFit tables.old → AreFit tables.new }
     ensures orders { HaveOrders tables.old → HaveOrders tables.new }
     ensures order { tables.new.order ≡ tables.old.order }
+    ensures touches { AreFit tables.old → Touches marks.old.pages marks.new.pages tables.old tables.new }
 {
     if let Some(_other) = printing_at(tables, by) {
         return Reply::No(Refusal::InUse(by));
@@ -66,7 +69,7 @@ pub fn pick(tables: &mut Tables, by: MemberId) -> Reply
     let Some(found) = for_printer(tables, by) else {
         return Reply::No(Refusal::Nothing);
     };
-    put_output(tables, found.at, busy_at(&found.item, by));
+    put_output(tables, marks, found.at, busy_at(&found.item, by));
     Reply::Output(found.item.job, found.item.index)
 }
 
@@ -85,12 +88,20 @@ fn marked(output: &OutRec, mark: u32) -> OutRec
 }
 
 /// Mark: so many lines of the output are printed.
-pub fn mark(tables: &mut Tables, by: MemberId, job: JobNo, index: OutNo, at: u32) -> Reply
+pub fn mark(
+    tables: &mut Tables,
+    marks: &mut Marks,
+    by: MemberId,
+    job: JobNo,
+    index: OutNo,
+    at: u32,
+) -> Reply
     ensures plays { Plays tables.old tables.new (λ Q. mark_row Q by job index at) result }
     ensures refused { IfRefused result (tables.new ≡ tables.old) }
     ensures fit { AreFit tables.old → AreFit tables.new }
     ensures orders { HaveOrders tables.old → HaveOrders tables.new }
     ensures order { tables.new.order ≡ tables.old.order }
+    ensures touches { AreFit tables.old → Touches marks.old.pages marks.new.pages tables.old tables.new }
 {
     let Some(found) = output_at(tables, job, index) else {
         return Reply::No(Refusal::NoOutput);
@@ -99,39 +110,41 @@ pub fn mark(tables: &mut Tables, by: MemberId, job: JobNo, index: OutNo, at: u32
         return Reply::No(Refusal::InUse(found.item.busy));
     }
     let mark = at.min(total(&found.item));
-    put_output(tables, found.at, marked(&found.item, mark));
+    put_output(tables, marks, found.at, marked(&found.item, mark));
     Reply::Count(mark)
 }
 
 /// Back: the printer of the member is set back.
-pub fn back(tables: &mut Tables, by: MemberId, lines: u32) -> Reply
+pub fn back(tables: &mut Tables, marks: &mut Marks, by: MemberId, lines: u32) -> Reply
     ensures plays { Plays tables.old tables.new (λ Q. back_row Q by lines) result }
     ensures refused { IfRefused result (tables.new ≡ tables.old) }
     ensures fit { AreFit tables.old → AreFit tables.new }
     ensures orders { HaveOrders tables.old → HaveOrders tables.new }
     ensures order { tables.new.order ≡ tables.old.order }
+    ensures touches { AreFit tables.old → Touches marks.old.pages marks.new.pages tables.old tables.new }
 {
     let Some(found) = printing_at(tables, by) else {
         return Reply::No(Refusal::Nothing);
     };
     let mark = backspace(found.item.mark, lines);
-    put_output(tables, found.at, marked(&found.item, mark));
+    put_output(tables, marks, found.at, marked(&found.item, mark));
     Reply::Count(mark)
 }
 
 /// Forward: the printer of the member is set forward.
-pub fn set_forward(tables: &mut Tables, by: MemberId, lines: u32) -> Reply
+pub fn set_forward(tables: &mut Tables, marks: &mut Marks, by: MemberId, lines: u32) -> Reply
     ensures plays { Plays tables.old tables.new (λ Q. forward_row Q by lines) result }
     ensures refused { IfRefused result (tables.new ≡ tables.old) }
     ensures fit { AreFit tables.old → AreFit tables.new }
     ensures orders { HaveOrders tables.old → HaveOrders tables.new }
     ensures order { tables.new.order ≡ tables.old.order }
+    ensures touches { AreFit tables.old → Touches marks.old.pages marks.new.pages tables.old tables.new }
 {
     let Some(found) = printing_at(tables, by) else {
         return Reply::No(Refusal::Nothing);
     };
     let mark = forward(found.item.mark, lines, total(&found.item));
-    put_output(tables, found.at, marked(&found.item, mark));
+    put_output(tables, marks, found.at, marked(&found.item, mark));
     Reply::Count(mark)
 }
 
@@ -148,21 +161,28 @@ fn phase_over(tables: &Tables, job: &JobRec) -> Phase
 }
 
 /// A job in Hardcopy that has no output any more goes to Purge.
-fn close_job(tables: &mut Tables, job: JobNo)
+fn close_job(tables: &mut Tables, marks: &mut Marks, job: JobNo)
     ensures stands { (Q : Queue) → Tell tables.old Q → Tell tables.new (with_job_over job Q) }
     ensures fit { AreFit tables.old → AreFit tables.new }
     ensures orders { HaveOrders tables.old → HaveOrders tables.new }
     ensures order { tables.new.order ≡ tables.old.order }
+    ensures touches { AreFit tables.old → Touches marks.old.pages marks.new.pages tables.old tables.new }
 {
     let Some(found) = job_at(tables, job) else {
         return;
     };
     let phase = phase_over(tables, &found.item);
-    put_job(tables, found.at, in_phase_of(&found.item, phase));
+    put_job(tables, marks, found.at, in_phase_of(&found.item, phase));
 }
 
 /// The output goes, its groups become free, and its job goes to Purge where it was the last one.
-fn remove_output(tables: &mut Tables, found: &Found<OutRec>, job: JobNo, index: OutNo)
+fn remove_output(
+    tables: &mut Tables,
+    marks: &mut Marks,
+    found: &Found<OutRec>,
+    job: JobNo,
+    index: OutNo,
+)
     requires { slice_get tables.old.outputs found.now.at ≡ Some (Some found.now.item) }
     ensures stands { (Q : Queue) → Tell tables.old Q
         → HasOutput (has_key job index) tables.old.outputs Q.outputs found.now.at found.now.item
@@ -170,19 +190,27 @@ fn remove_output(tables: &mut Tables, found: &Found<OutRec>, job: JobNo, index: 
     ensures fit { AreFit tables.old → AreFit tables.new }
     ensures orders { HaveOrders tables.old → HaveOrders tables.new }
     ensures order { tables.new.order ≡ tables.old.order }
+    ensures touches { AreFit tables.old → Touches marks.old.pages marks.new.pages tables.old tables.new }
 {
-    take_output(tables, found.at);
-    free_groups(tables, Thing::Output(job, index));
-    close_job(tables, job);
+    take_output(tables, marks, found.at);
+    free_groups(tables, marks, Thing::Output(job, index));
+    close_job(tables, marks, job);
 }
 
 /// Done: the output, all of which is printed, goes.
-pub fn finish(tables: &mut Tables, by: MemberId, job: JobNo, index: OutNo) -> Reply
+pub fn finish(
+    tables: &mut Tables,
+    marks: &mut Marks,
+    by: MemberId,
+    job: JobNo,
+    index: OutNo,
+) -> Reply
     ensures plays { Plays tables.old tables.new (λ Q. done_row Q by job index) result }
     ensures refused { IfRefused result (tables.new ≡ tables.old) }
     ensures fit { AreFit tables.old → AreFit tables.new }
     ensures orders { HaveOrders tables.old → HaveOrders tables.new }
     ensures order { tables.new.order ≡ tables.old.order }
+    ensures touches { AreFit tables.old → Touches marks.old.pages marks.new.pages tables.old tables.new }
 {
     let Some(found) = output_at(tables, job, index) else {
         return Reply::No(Refusal::NoOutput);
@@ -193,7 +221,7 @@ pub fn finish(tables: &mut Tables, by: MemberId, job: JobNo, index: OutNo) -> Re
     if found.item.mark < total(&found.item) {
         return Reply::No(Refusal::Nothing);
     }
-    remove_output(tables, &found, job, index);
+    remove_output(tables, marks, &found, job, index);
     Reply::Output(job, index)
 }
 
@@ -205,12 +233,19 @@ pub fn is_elsewhere(busy: MemberId, by: MemberId) -> bool
 }
 
 /// CancelOut: the output goes, printed or not.
-pub fn cancel_out(tables: &mut Tables, by: MemberId, job: JobNo, index: OutNo) -> Reply
+pub fn cancel_out(
+    tables: &mut Tables,
+    marks: &mut Marks,
+    by: MemberId,
+    job: JobNo,
+    index: OutNo,
+) -> Reply
     ensures plays { Plays tables.old tables.new (λ Q. cancel_out_row Q by job index) result }
     ensures refused { IfRefused result (tables.new ≡ tables.old) }
     ensures fit { AreFit tables.old → AreFit tables.new }
     ensures orders { HaveOrders tables.old → HaveOrders tables.new }
     ensures order { tables.new.order ≡ tables.old.order }
+    ensures touches { AreFit tables.old → Touches marks.old.pages marks.new.pages tables.old tables.new }
 {
     let Some(found) = output_at(tables, job, index) else {
         return Reply::No(Refusal::NoOutput);
@@ -218,6 +253,6 @@ pub fn cancel_out(tables: &mut Tables, by: MemberId, job: JobNo, index: OutNo) -
     if is_elsewhere(found.item.busy, by) {
         return Reply::No(Refusal::InUse(found.item.busy));
     }
-    remove_output(tables, &found, job, index);
+    remove_output(tables, marks, &found, job, index);
     Reply::Output(job, index)
 }

@@ -13,6 +13,7 @@ ghost use Rattle.queue_effect.specs.Slots.{count_changed};
 ghost use Rattle.queue_telling.specs.Orders.{HaveOrders};
 ghost use Rattle.queue_telling.specs.Telling.{Tell};
 ghost use Rattle.queue_effect.specs.Standing.{Plays, IfRefused, AreFit};
+ghost use Rattle.page_marks.specs.Marks.{Touches};
 
 use crate::input::{enter_job, entering};
 use crate::life::in_phase_of;
@@ -21,6 +22,7 @@ use ckpt_tables::Tables;
 use lay_bytes::JobRec;
 use mas_types::{JobNo, LineCount, Lines, MemberId, Name8, Phase, Refusal, Reply, Route};
 use output_queue::same_name;
+use page_marks::{Marks, NODES_PAGE};
 use queue_slots::{Found, Rank, Test, best_slot, first_slot};
 
 /// The job in Xmit with a number.
@@ -138,19 +140,21 @@ fn loaded(tables: &Tables, line: u8) -> Option<JobNo>
     }
 }
 
-fn put_current(tables: &mut Tables, line: u8, job: JobNo)
+fn put_current(tables: &mut Tables, marks: &mut Marks, line: u8, job: JobNo)
     requires some { 1 ≤ line }
     requires within { line ≤ length tables.old.lines }
     ensures value { tables.new ≡ record tables.old
         { lines = count_changed line (λ count. record count { current = job }) tables.old.lines } }
     ensures fit { AreFit tables.old → AreFit tables.new }
     ensures orders { HaveOrders tables.old → HaveOrders tables.new }
+    ensures touches { AreFit tables.old → Touches marks.old.pages marks.new.pages tables.old tables.new }
 {
+    marks.put(NODES_PAGE);
     tables.lines.item_mut(line as usize - 1).current = job;
 }
 
 /// Load: where no job is current on the line, the one selected for it becomes so.
-pub fn load(tables: &mut Tables, line: u8) -> Reply
+pub fn load(tables: &mut Tables, marks: &mut Marks, line: u8) -> Reply
     requires line { IsLine line }
     requires fit { AreFit tables.old }
     ensures plays { Plays tables.old tables.new (λ Q. load_row Q line) result }
@@ -158,11 +162,12 @@ pub fn load(tables: &mut Tables, line: u8) -> Reply
     ensures fits { AreFit tables.new }
     ensures orders { HaveOrders tables.old → HaveOrders tables.new }
     ensures order { tables.new.order ≡ tables.old.order }
+    ensures touches { AreFit tables.old → Touches marks.old.pages marks.new.pages tables.old tables.new }
 {
     let Some(job) = loaded(tables, line) else {
         return Reply::No(Refusal::Nothing);
     };
-    put_current(tables, line, job);
+    put_current(tables, marks, line, job);
     Reply::Job(job)
 }
 
@@ -197,21 +202,23 @@ fn got(tables: &Tables, line: u8) -> u32
     }
 }
 
-fn put_sent(tables: &mut Tables, line: u8, number: u32)
+fn put_sent(tables: &mut Tables, marks: &mut Marks, line: u8, number: u32)
     requires some { 1 ≤ line }
     requires within { line ≤ length tables.old.lines }
     ensures value { tables.new ≡ record tables.old
         { lines = count_changed line (λ count. record count { sent = number; current = no_number }) tables.old.lines } }
     ensures fit { AreFit tables.old → AreFit tables.new }
     ensures orders { HaveOrders tables.old → HaveOrders tables.new }
+    ensures touches { AreFit tables.old → Touches marks.old.pages marks.new.pages tables.old tables.new }
 {
+    marks.put(NODES_PAGE);
     let count = tables.lines.item_mut(line as usize - 1);
     count.sent = number;
     count.current = JobNo(0);
 }
 
 /// Sent: the job that is current on the line goes to Purge.
-pub fn acknowledge(tables: &mut Tables, line: u8, number: u32) -> Reply
+pub fn acknowledge(tables: &mut Tables, marks: &mut Marks, line: u8, number: u32) -> Reply
     requires line { IsLine line }
     requires fit { AreFit tables.old }
     ensures plays { Plays tables.old tables.new (λ Q. sent_row Q line number) result }
@@ -219,6 +226,7 @@ pub fn acknowledge(tables: &mut Tables, line: u8, number: u32) -> Reply
     ensures fits { AreFit tables.new }
     ensures orders { HaveOrders tables.old → HaveOrders tables.new }
     ensures order { tables.new.order ≡ tables.old.order }
+    ensures touches { AreFit tables.old → Touches marks.old.pages marks.new.pages tables.old tables.new }
 {
     if let Some(why) = refusal_of_number(sent(tables, line), number) {
         return Reply::No(why);
@@ -226,48 +234,67 @@ pub fn acknowledge(tables: &mut Tables, line: u8, number: u32) -> Reply
     let Some(found) = current_on(tables, line) else {
         return Reply::No(Refusal::Nothing);
     };
-    put_job(tables, found.at, in_phase_of(&found.item, Phase::Purge));
-    put_sent(tables, line, number);
+    put_job(
+        tables,
+        marks,
+        found.at,
+        in_phase_of(&found.item, Phase::Purge),
+    );
+    put_sent(tables, marks, line, number);
     Reply::Count(number)
 }
 
-fn put_got(tables: &mut Tables, line: u8, number: u32)
+fn put_got(tables: &mut Tables, marks: &mut Marks, line: u8, number: u32)
     requires some { 1 ≤ line }
     requires within { line ≤ length tables.old.lines }
     ensures value { tables.new ≡ record tables.old
         { lines = count_changed line (λ count. record count { got = number }) tables.old.lines } }
     ensures fit { AreFit tables.old → AreFit tables.new }
     ensures orders { HaveOrders tables.old → HaveOrders tables.new }
+    ensures touches { AreFit tables.old → Touches marks.old.pages marks.new.pages tables.old tables.new }
 {
+    marks.put(NODES_PAGE);
     tables.lines.item_mut(line as usize - 1).got = number;
+}
+
+/// A job that came over a line.
+#[derive(Clone, Copy)]
+pub struct Arrival {
+    /// The line.
+    pub line: u8,
+    /// The job's number on the line.
+    pub number: u32,
+    /// The job.
+    pub job: JobNo,
 }
 
 /// Got: as Enter, for a job that came over the line.
 pub fn receive(
     tables: &mut Tables,
+    marks: &mut Marks,
     by: MemberId,
-    line: u8,
-    number: u32,
-    job: JobNo,
+    arrival: Arrival,
     text: &Lines,
 ) -> Reply
-    requires line { IsLine line }
+    requires line { IsLine arrival.line }
     requires text { AreLines text.now }
     requires fit { AreFit tables.old }
-    ensures plays { Plays tables.old tables.new (λ Q. got_row Q by line number job text.now) result }
+    ensures plays { Plays tables.old tables.new
+        (λ Q. got_row Q by arrival.line arrival.number arrival.job text.now) result }
     ensures refused { IfRefused result (tables.new ≡ tables.old) }
     ensures fits { AreFit tables.new }
     ensures orders { HaveOrders tables.old → HaveOrders tables.new }
     ensures order { tables.new.order ≡ tables.old.order }
+    ensures touches { AreFit tables.old → Touches marks.old.pages marks.new.pages tables.old tables.new }
 {
-    if let Some(why) = refusal_of_number(got(tables, line), number) {
+    if let Some(why) = refusal_of_number(got(tables, arrival.line), arrival.number) {
         return Reply::No(why);
     }
-    let found = match entering(tables, by, job, text) {
+    let found = match entering(tables, by, arrival.job, text) {
         Ok(found) => found,
         Err(why) => return Reply::No(why),
     };
-    enter_job(tables, &found, by, job, text);
-    put_got(tables, line, number);
-    Reply::Job(job)
+    enter_job(tables, marks, &found, by, arrival.job, text);
+    put_got(tables, marks, arrival.line, arrival.number);
+    Reply::Job(arrival.job)
 }

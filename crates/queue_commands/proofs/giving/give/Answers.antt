@@ -30,3 +30,9 @@ pub returns-in-Ok-clause-config : goal.returns-in-Ok-clause-config
 returns-in-Ok-clause-config c =
     given_config c.args.tables.now c.apply.new.tables c.args.by c.args.command.now c.requires.giver c.read_numbers.ensures c.requires.command c.requires.spelling
     c.law_of_told_queues.ensures.tell c.in-Ok.reply c.in-Ok.ensures.plays
+
+pub returns-in-Ok-clause-touches : goal.returns-in-Ok-clause-touches
+returns-in-Ok-clause-touches c = c.apply.ensures.touches c.requires.fit
+
+pub returns-in-Err-clause-touches : goal.returns-in-Err-clause-touches
+returns-in-Err-clause-touches c = c.apply.ensures.touches c.requires.fit

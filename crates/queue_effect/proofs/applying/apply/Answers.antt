@@ -42,6 +42,9 @@ returns-in-SetPrio-clause-plays c = rw c.in-SetPrio.is c.set_prio.ensures.plays
 pub returns-in-SetClass-clause-plays : goal.returns-in-SetClass-clause-plays
 returns-in-SetClass-clause-plays c = rw c.in-SetClass.is c.set_class.ensures.plays
 
+pub returns-in-Out-clause-plays : goal.returns-in-Out-clause-plays
+returns-in-Out-clause-plays c = rw c.in-Out.is c.out.ensures.plays
+
 pub returns-in-CancelOut-clause-plays : goal.returns-in-CancelOut-clause-plays
 returns-in-CancelOut-clause-plays c = rw c.in-CancelOut.is c.cancel_out.ensures.plays
 

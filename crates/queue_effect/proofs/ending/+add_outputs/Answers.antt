@@ -6,6 +6,7 @@ use Rattle.mas_types.specs.Owners.{groups_needed, member_count}
 use Rattle.mas_types.specs.Commands.Life.{groups_of_outputs}
 use Rattle.queue_effect.proofs.EndLemmas.{none_added, more_added, no_items}
 use Rattle.queue_effect.proofs.GroupLemmas.{sum-groups}
+use Rattle.queue_effect.proofs.Marking.{then_touched}
 use Rattle.queue_effect.proofs.ending.+add_outputs.Goals as goal
 
 pub returns-in_default-clause-stands : goal.returns-in_default-clause-stands
@@ -37,3 +38,6 @@ returns-clause-stands t c = λ Q stands.
     rw c.in-Some.ensures.cases.0
     (more_added c.law_of_giving.ensures.texts c.law_of_giving.ensures.turns c.add_outputs.new.tables Q c.args.by c.args.job c.args.first x rest
     (c.add_outputs.ensures.stands _ (c.add_output.ensures.stands Q stands)))
+
+pub returns-clause-touches : goal.returns-clause-touches
+returns-clause-touches t c = then_touched _ _ _ _ _ _ c.add_output.ensures.touches (λ fit. c.add_output.ensures.fits) c.add_outputs.ensures.touches

@@ -1,3 +1,5 @@
+use Rattle.std.proofs.Common.{None, arith}
+use Rattle.page_marks.proofs.MarkLemmas.{touch_job}
 use Rattle.queue_effect.proofs.FitLemmas.{job_taken_fit}
 use Rattle.queue_effect.proofs.OrderLemmas.{job_taken_orders}
 use Rattle.queue_effect.proofs.lookups.take_job.Goals as goal
@@ -7,3 +9,9 @@ returns-clause-fit c = job_taken_fit c.args.tables.now c.args.at
 
 pub returns-clause-orders : goal.returns-clause-orders
 returns-clause-orders c = job_taken_orders c.args.tables.now c.args.at
+
+pub returns-clause-touches : goal.returns-clause-touches
+returns-clause-touches c fit =
+    let t = c.args.tables.now in
+    let shape = fit.shape in
+    rw c.put_job.ensures (touch_job c.args.marks.now.pages t c.args.at None (omega (arith, c.args.marks.now.many, shape.jobs, shape.outputs, shape.config.jobs.1, shape.config.outputs.1, c.requires)))

@@ -1,3 +1,4 @@
+use Rattle.queue_effect.proofs.Marking.{jobs_touched}
 use Rattle.std.proofs.lemmas.List.{length-map}
 use Rattle.lay_bytes.specs.declared.records.JobRec.{JobRec}
 use Rattle.queue_resets.specs.Resets.{is_one_of, job_reset}
@@ -20,3 +21,6 @@ returns-clause-orders c = λ had.
     let t = c.args.tables.now in
     let test : JobRec → Bool = λ r. is_one_of c.args.who r.busy in
     rw (refill_map t.jobs c.reset_job_slots.new.slots (changed_where test job_reset) (rw c.as_mut_slice.ensures.value at c.reset_job_slots.ensures)) (jobs_changed_orders t test job_reset (λ r. refl) had)
+
+pub returns-clause-touches : goal.returns-clause-touches
+returns-clause-touches c fit = jobs_touched c.args.marks.now.pages c.put_jobs.new.self.pages c.args.marks.now.many c.args.tables.now fit _ c.put_jobs.ensures

@@ -1,3 +1,4 @@
+use Rattle.queue_effect.proofs.Marking.{outputs_touched}
 use Rattle.std.proofs.lemmas.List.{length-map}
 use Rattle.lay_bytes.specs.declared.records.OutRec.{OutRec}
 use Rattle.queue_resets.specs.Resets.{is_one_of, output_reset}
@@ -20,3 +21,6 @@ returns-clause-orders c = λ had.
     let t = c.args.tables.now in
     let test : OutRec → Bool = λ r. is_one_of c.args.who r.busy in
     rw (refill_map t.outputs c.reset_output_slots.new.slots (changed_where test output_reset) (rw c.as_mut_slice.ensures.value at c.reset_output_slots.ensures)) (outputs_changed_orders t test output_reset (λ r. refl) had)
+
+pub returns-clause-touches : goal.returns-clause-touches
+returns-clause-touches c fit = outputs_touched c.args.marks.now.pages c.put_outputs.new.self.pages c.args.marks.now.many c.args.tables.now fit _ c.put_outputs.ensures

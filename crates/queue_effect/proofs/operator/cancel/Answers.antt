@@ -4,6 +4,7 @@ use Rattle.mas_types.specs.Commands.Operator.{cancel_row}
 use Rattle.mas_types.specs.declared.commands.Refusal.TheVariants as refusal
 use Rattle.queue_effect.proofs.Changing.{cancel_elsewhere}
 use Rattle.queue_effect.proofs.Leaving.{refused}
+use Rattle.queue_effect.proofs.Marking.{then_touched}
 use Rattle.queue_effect.proofs.operator.cancel.Goals as goal
 
 pub returns-in-Some-printing_elsewhere-clause-plays : goal.returns-in-Some-printing_elsewhere-clause-plays
@@ -19,3 +20,6 @@ put_job-requires c = found_within c.args.tables.now.jobs c.in-Some.found c.in-So
 
 pub put_job-requires-2 : goal.put_job-requires-2
 put_job-requires-2 c = rw c.drop_outputs.ensures.jobs (found_within c.args.tables.now.jobs c.in-Some.found c.in-Some.ensures.here)
+
+pub returns-clause-touches : goal.returns-clause-touches
+returns-clause-touches c = then_touched _ _ _ _ _ _ c.drop_outputs.ensures.touches c.drop_outputs.ensures.fit c.put_job-2.ensures.touches

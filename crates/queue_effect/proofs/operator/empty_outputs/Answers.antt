@@ -6,6 +6,7 @@ use Rattle.queue_effect.specs.Slots.{emptied_where}
 use Rattle.queue_effect.specs.Standing.{IsFitOutput}
 use Rattle.queue_effect.proofs.FitLemmas.{outputs_fit, used_emptied, refill_map}
 use Rattle.queue_effect.proofs.OrderLemmas.{outputs_emptied_orders}
+use Rattle.queue_effect.proofs.Marking.{outputs_touched}
 use Rattle.queue_effect.proofs.operator.empty_outputs.Goals as goal
 
 pub returns-clause-fit : goal.returns-clause-fit
@@ -20,3 +21,6 @@ returns-clause-orders c = λ had.
     let t = c.args.tables.now in
     let test : OutRec → Bool = λ r. same_number r.job c.args.job in
     rw (refill_map t.outputs c.empty_slots.new.outputs (emptied_where test) (rw c.as_mut_slice.ensures.value at c.empty_slots.ensures)) (outputs_emptied_orders t test had)
+
+pub returns-clause-touches : goal.returns-clause-touches
+returns-clause-touches c fit = outputs_touched c.args.marks.now.pages _ c.args.marks.now.many c.args.tables.now fit _ c.put_outputs.ensures

@@ -8,6 +8,7 @@ use Rattle.queue_effect.specs.Standing.{IsFitOutput}
 use Rattle.queue_effect.proofs.Changing.{outputs_released}
 use Rattle.queue_effect.proofs.FitLemmas.{outputs_fit, used_changed, refill_map}
 use Rattle.queue_effect.proofs.OrderLemmas.{outputs_changed_orders}
+use Rattle.queue_effect.proofs.Marking.{outputs_touched}
 use Rattle.queue_effect.proofs.operator.release_outputs.Goals as goal
 
 pub returns-clause-stands : goal.returns-clause-stands
@@ -30,3 +31,6 @@ returns-clause-orders c = λ had.
     let test : OutRec → Bool = λ r. same_number r.job c.args.job && r.held in
     let free : OutRec → OutRec = λ r. record r { held = false } in
     rw (refill_map t.outputs c.release_slots.new.outputs (changed_where test free) (rw c.as_mut_slice.ensures.value at c.release_slots.ensures)) (outputs_changed_orders t test free (λ r. refl) had)
+
+pub returns-clause-touches : goal.returns-clause-touches
+returns-clause-touches c fit = outputs_touched c.args.marks.now.pages _ c.args.marks.now.many c.args.tables.now fit _ c.put_outputs.ensures
