@@ -1,5 +1,5 @@
 -- The levels of pages that were drawn again, as page 0 gives them.
-use Rattle.std.proofs.Common.{◌≡◌, ◌≢◌, ◌⊎◌, inl, inr, ⊎_elim, ℕ, zero, suc, ◌+◌, ◌^◌, ◌≤◌, ◌<◌, List, [], ◌∷◌, ◌++◌, length, slice_index, slice_index_or, slice_set, refl, sym, ◌∙◌, ap, subst, arith, All, Contains}
+use Rattle.std.proofs.Common.{◌≡◌, ◌≢◌, ◌⊎◌, inl, inr, ⊎_elim, ℕ, zero, suc, ◌+◌, ◌≤◌, ◌<◌, List, [], ◌∷◌, ◌++◌, length, slice_index, slice_index_or, slice_set, refl, sym, ◌∙◌, ap, arith, All, Contains}
 use Rattle.std.proofs.lemmas.List.{get_or-set_other, get_or-set_same, length-set}
 use Rattle.std.proofs.lemmas.List.Elements.{All-contains}
 use Rattle.std.proofs.lemmas.Bool.{cases_lt}
@@ -52,7 +52,7 @@ raised_one (p ∷ ps) (suc k) at q levels few lt is = raised_one ps k at q (slic
 
 -- LEVELS AS PAGE 0 GIVES THEM
 
-given_at : (page0 : List ℕ) (n q : ℕ) → q < n → slice_index (levels_in page0 n) q ≡ level_in page0 q
+pub given_at : (page0 : List ℕ) (n q : ℕ) → q < n → slice_index (levels_in page0 n) q ≡ level_in page0 q
 given_at page0 zero q lt = absurd (omega (arith, lt))
 given_at page0 (suc n) q lt = ⊎_elim
     (λ less. get_or-append (levels_in page0 n) (level_in page0 n ∷ []) 0 q (omega (arith, less, levels_many page0 n)) ∙ given_at page0 n q less)

@@ -1,10 +1,14 @@
 -- Pages that are alike to a member's own.
-use Rattle.std.proofs.Common.{◌≡◌, ℕ, List, sym, subst}
+use Rattle.std.proofs.Common.{◌≡◌, ℕ, ◌≤◌, Bool, List, length, sym, subst, arith}
 use Rattle.mas_types.specs.declared.ids.Page.{Page}
+use Rattle.mas_types.specs.Limits.{pages_most}
 use Rattle.ckpt_tables.specs.declared.tables.Tables.{Tables}
 use Rattle.ckpt_pages.specs.Checkpoints.{IsCheckpoint, SpellSome}
 use Rattle.member_node.specs.declared.checkpoint.Checkpoint.{Checkpoint}
+use Rattle.page_tables.specs.Bringing.{AreOlder}
+use Rattle.page_tables.proofs.TakeLemmas.{older_than}
 use Rattle.member_node.specs.Drawn.{AreDrawn}
+use Rattle.member_node.specs.Mirrors.{IsMirrorBut}
 use Rattle.member_node.specs.Reads.{IsUpTo, MayGoOn}
 
 -- pages are the checkpoint of the tables that they were drawn from
@@ -21,3 +25,8 @@ alike_checkpoint room k d same = subst (λ (ps : List Page). IsCheckpoint ps k.t
 -- tables that were drawn are up to pages that are alike to theirs
 pub up_already : (room : List Page) (k : Checkpoint) → AreDrawn k.tables k.level k.levels k.pages → room ≡ k.pages → MayGoOn k.tables.config room k.tables → IsUpTo k.tables.config room k
 up_already room k d same may = record { has = sym same; drawn = d; may = may }
+
+-- pages that differ from a member's own where marks are: each other page is the one that its tables spell
+pub own_older : (k : Checkpoint) (room : List Page) (marks : List Bool) → AreDrawn k.tables k.level k.levels k.pages → length room ≡ length k.pages → length room ≤ pages_most → IsMirrorBut marks room k.pages → AreOlder k.tables room marks
+own_older k room marks drawn many few mirror =
+    older_than k.tables k.levels k.pages room marks drawn.spelled many (λ p some within off. mirror p some (omega (arith, within, few)) within (omega (arith, within, many)) off)

@@ -5,11 +5,10 @@ use Rattle.std.proofs.lemmas.Slice.Eq.{bytes_eq-Decides}
 use Rattle.mas_types.specs.declared.ids.Page.{Page}
 use Rattle.mas_types.specs.Limits.{page_bytes}
 use Rattle.ckpt_tables.specs.declared.tables.Tables.{Tables}
-use Rattle.ckpt_tables.specs.Shape.{page_count, HasSpelling, AreLevels}
+use Rattle.ckpt_tables.specs.Shape.{HasSpelling, AreLevels}
 use Rattle.ckpt_tables.specs.Pages.{page_in, Spell}
 use Rattle.mas_complex.specs.Fits.{are_same}
-use Rattle.member_node.specs.Drawn.{AreAsDrawn, AreDrawn}
-use Rattle.member_node.specs.Redrawn.{IsSpelling}
+use Rattle.member_node.specs.Drawn.{AreDrawn}
 
 and_both : (a b : Bool) → (a && b) ≡ true → (a ≡ true) × (b ≡ true)
 and_both true b e = (refl, e)
@@ -57,13 +56,3 @@ spelled_alike t levels was drawn spelled too =
 pub not_spelled : (t : Tables) (levels : List ℕ) (was drawn : List Page) → Spell t levels drawn → are_same was drawn ≡ false → Spell t levels was → ⊥
 not_spelled t levels was drawn spelled differ too =
     let same : are_same was drawn ≡ true = spelled_alike t levels was drawn spelled too in cc
-
--- as many pages as the tables have, each of which is as it is drawn, spell them
-pub as_drawn : (t : Tables) (levels : List ℕ) (pages : List Page) → length pages ≡ page_count t.config → AreAsDrawn t levels pages → Spell t levels pages
-as_drawn t levels pages count each = record { count = count; each = each }
-
--- what such pages change of themselves: nothing
-pub draws_none : (t : Tables) (levels : List ℕ) (pages : List Page) → length pages ≡ page_count t.config → All (λ page. length page.0 ≡ page_bytes) pages → AreAsDrawn t levels pages
-    → (drawn : List Page) × IsSpelling t levels drawn × (are_same pages drawn ≡ true)
-draws_none t levels pages count sized each =
-    let spelled = as_drawn t levels pages count each in (pages, record { spelled = spelled; sized = sized }, spelled_alike t levels pages pages spelled spelled)

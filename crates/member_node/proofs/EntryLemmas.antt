@@ -1,6 +1,6 @@
 -- An entry that a batch gets.
-use Rattle.std.proofs.Common.{◌≡◌, ℕ, suc, zero, ◌+◌, ◌-◌, ◌*◌, ◌≤◌, Bool, true, false, List, [], ◌∷◌, ◌++◌, length, slice_get, slice_set, Some, Result, Ok, Err, OnOk, OnErr, refl, sym, ◌∙◌, ap, subst, arith, All, append-nil}
-use Rattle.std.specs.Coded.{Coded-set, coded_list, coded_ℕ}
+use Rattle.std.proofs.Common.{◌≡◌, ℕ, suc, zero, ◌+◌, ◌-◌, ◌*◌, ◌≤◌, Bool, true, false, List, [], ◌∷◌, ◌++◌, length, slice_get, slice_set, Some, Result, Ok, Err, OnErr, refl, sym, ◌∙◌, ap, subst, arith, All, append-nil}
+use Rattle.std.specs.Coded.{Coded-set, coded_bool, coded_list, coded_ℕ}
 use Rattle.std.specs.List.{remove}
 use Rattle.std.proofs.lemmas.List.{length-append}
 use Rattle.std.proofs.lemmas.List.Edits.{remove-append_right}
@@ -10,7 +10,6 @@ use Rattle.mas_types.specs.Limits.{page_bytes}
 use Rattle.mas_types.specs.declared.commands.Command.{Command}
 use Rattle.mas_types.specs.declared.commands.Command.TheVariants as command
 use Rattle.mas_types.specs.declared.commands.Reply.{Reply}
-use Rattle.mas_types.specs.declared.commands.Reply.TheVariants as reply
 use Rattle.mas_types.specs.declared.journals.Entry.{Entry}
 use Rattle.mas_types.specs.declared.queues.Queue.{Queue}
 use Rattle.mas_types.specs.Step.{row_of}
@@ -19,15 +18,18 @@ use Rattle.ckpt_tables.specs.declared.tables.Tables.{Tables}
 use Rattle.ckpt_tables.specs.Shape.{HasSpelling, AreLevels, page_count}
 use Rattle.queue_telling.specs.Orders.{HaveOrders}
 use Rattle.queue_telling.specs.Telling.{Tell, PagesTell}
-use Rattle.queue_effect.specs.Standing.{AreFit, IfRefused, Plays}
+use Rattle.queue_effect.specs.Standing.{AreFit, Plays}
 use Rattle.mas_complex.specs.Crash.{next_order}
 use Rattle.mas_complex.specs.Meaning.{step, run}
 use Rattle.mas_complex.specs.Replies.{HaveReplies}
 use Rattle.member_node.specs.declared.checkpoint.Checkpoint.{Checkpoint}
 use Rattle.member_node.specs.declared.member.Member.{Member}
 use Rattle.member_node.specs.Batches.{HasDone, last_reply}
-use Rattle.member_node.specs.Drawn.{AreAsDrawn, AreDrawn}
-use Rattle.member_node.specs.Mirrors.{IsMirror}
+use Rattle.page_marks.specs.declared.marks.Marks.{Marks}
+use Rattle.page_marks.specs.Marks.{is_marked, Touches}
+use Rattle.member_node.specs.Drawn.{AreDrawn, AreUnmarkedDrawn}
+use Rattle.member_node.specs.Mirrors.{IsMirrorBut}
+use Rattle.page_tables.specs.Bringing.{are_orders_low}
 use Rattle.member_node.proofs.DrawnLemmas.{drawn_order, drawn_tell}
 use Rattle.member_node.proofs.WriteLemmas.{run_append}
 
@@ -116,49 +118,58 @@ given_reply old new m c r plays Q told = sym (plays Q told).reply
 pub given_tells : (old new : Tables) (m : MemberId) (c : Command) (r : Reply) → Plays old new (λ Q. row_of Q m c) r → (Q : Queue) → Tell old Q → Tell new (step Q m c).0
 given_tells old new m c r plays Q told = (plays Q told).stands
 
--- A DISPLAY
-
--- what holds anyway holds after Ok, after an error, and of a refusal
-pub on_any : {T E A : Type 0} (r : Result T E) → A → OnOk r A
-on_any (Ok x) a = a
-on_any (Err e) a = tt
-
+-- what holds anyway holds after an error
 pub err_any : {T E A : Type 0} (r : Result T E) → A → OnErr r A
 err_any (Ok x) a = tt
 err_any (Err e) a = a
 
-pub refused_any : {A : Type 0} (r : Reply) → A → IfRefused r A
-refused_any (reply.No why) a = a
-refused_any _ a = tt
-
 -- NOTHING WAS DONE
 
-unchanged_prop : (t : Tables) (levels : List ℕ) (pages : List Page) (touched : Bool) → IsProp (touched ≡ false → AreAsDrawn t levels pages)
-unchanged_prop t levels pages touched x y i is p lt = Coded-set (coded_list coded_ℕ) _ _ (x is p lt) (y is p lt) i
+unchanged_prop : (marks : List Bool) (t : Tables) (levels : List ℕ) (pages : List Page) → IsProp (AreUnmarkedDrawn marks t levels pages)
+unchanged_prop marks t levels pages x y i p lt none = Coded-set (coded_list coded_ℕ) _ _ (x p lt none) (y p lt none) i
 
-mirrored_prop : (room own : List Page) (mirrors : Bool) → IsProp (mirrors ≡ true → IsMirror room own)
-mirrored_prop room own mirrors x y i is q from to = Coded-set (coded_list coded_ℕ) _ _ (x is q from to) (y is q from to) i
+mirrored_prop : (marks : List Bool) (room own : List Page) → IsProp (IsMirrorBut marks room own)
+mirrored_prop marks room own x y i q from few to1 to2 none = Coded-set (coded_list coded_ℕ) _ _ (x q from few to1 to2 none) (y q from few to1 to2 none) i
 
--- a member with its own tables, batch and mark is itself
-pub member_same : (k : Member) (t : Tables) (es : List Entry) (touched : Bool) (mirrored : k.mirrors ≡ true → IsMirror k.room k.checkpoint.pages) (unchanged : touched ≡ false → AreAsDrawn t k.checkpoint.levels k.checkpoint.pages)
-    → t ≡ k.checkpoint.tables → es ≡ k.batch → touched ≡ k.touched → record k { checkpoint = record k.checkpoint { tables = t }; batch = es; touched = touched; mirrored = mirrored; unchanged = unchanged } ≡ k
-member_same k t es touched mirrored unchanged same_tables same_batch same_mark = at_tables unchanged where
-  with_tables : (s : Tables) (mark : Bool) → (mark ≡ false → AreAsDrawn s k.checkpoint.levels k.checkpoint.pages) → Member
-  with_tables s mark w = record k { checkpoint = record k.checkpoint { tables = s }; batch = es; touched = mark; mirrored = mirrored; unchanged = w }
+ordered_prop : (t : Tables) (fresh : Bool) → IsProp (fresh ≡ false → are_orders_low t ≡ true)
+ordered_prop t fresh x y i is = Coded-set coded_bool _ _ (x is) (y is) i
 
-  own : (w : k.touched ≡ false → AreAsDrawn k.checkpoint.tables k.checkpoint.levels k.checkpoint.pages) → with_tables k.checkpoint.tables k.touched w ≡ k
-  own w =
-      ap (λ (x : k.touched ≡ false → AreAsDrawn k.checkpoint.tables k.checkpoint.levels k.checkpoint.pages). record k { batch = es; mirrored = mirrored; unchanged = x })
-      (unchanged_prop k.checkpoint.tables k.checkpoint.levels k.checkpoint.pages k.touched w k.unchanged)
-      ∙ ap (λ (x : k.mirrors ≡ true → IsMirror k.room k.checkpoint.pages). record k { batch = es; mirrored = x }) (mirrored_prop k.room k.checkpoint.pages k.mirrors mirrored k.mirrored)
+abbrev Unchanged : Member → Tables → Marks → Type 0
+Unchanged k t marks = AreUnmarkedDrawn marks.pages t k.checkpoint.levels k.checkpoint.pages
+
+abbrev Mirrored : Member → Type 0
+Mirrored k = IsMirrorBut k.differ.pages k.room k.checkpoint.pages
+
+abbrev Ordered : Member → Tables → Type 0
+Ordered k t = k.fresh ≡ false → are_orders_low t ≡ true
+
+-- a member with its own tables, batch and marks is itself
+pub member_same : (k : Member) (t : Tables) (es : List Entry) (marks : Marks) (mirrored : Mirrored k) (unchanged : Unchanged k t marks) (ordered : Ordered k t) → t ≡ k.checkpoint.tables → es ≡ k.batch → marks ≡ k.marks
+    → record k { checkpoint = record k.checkpoint { tables = t }; batch = es; marks = marks; mirrored = mirrored; unchanged = unchanged; ordered = ordered } ≡ k
+member_same k t es marks mirrored unchanged ordered same_tables same_batch same_marks = at_tables unchanged ordered where
+  with_tables : (s : Tables) (m : Marks) → Unchanged k s m → Ordered k s → Member
+  with_tables s m w o = record k { checkpoint = record k.checkpoint { tables = s }; batch = es; marks = m; mirrored = mirrored; unchanged = w; ordered = o }
+
+  own : (w : Unchanged k k.checkpoint.tables k.marks) (o : Ordered k k.checkpoint.tables) → with_tables k.checkpoint.tables k.marks w o ≡ k
+  own w o =
+      ap (λ (x : Unchanged k k.checkpoint.tables k.marks). record k { batch = es; mirrored = mirrored; unchanged = x; ordered = o }) (unchanged_prop k.marks.pages k.checkpoint.tables k.checkpoint.levels k.checkpoint.pages w k.unchanged)
+      ∙ ap (λ (x : Ordered k k.checkpoint.tables). record k { batch = es; mirrored = mirrored; ordered = x }) (ordered_prop k.checkpoint.tables k.fresh o k.ordered)
+      ∙ ap (λ (x : Mirrored k). record k { batch = es; mirrored = x }) (mirrored_prop k.differ.pages k.room k.checkpoint.pages mirrored k.mirrored)
       ∙ ap (λ (l : List Entry). record k { batch = l }) same_batch
 
-  at_mark : (w : touched ≡ false → AreAsDrawn k.checkpoint.tables k.checkpoint.levels k.checkpoint.pages) → with_tables k.checkpoint.tables touched w ≡ k
-  at_mark = subst (λ (mark : Bool). (w : mark ≡ false → AreAsDrawn k.checkpoint.tables k.checkpoint.levels k.checkpoint.pages) → with_tables k.checkpoint.tables mark w ≡ k) (sym same_mark) own
+  at_mark : (w : Unchanged k k.checkpoint.tables marks) (o : Ordered k k.checkpoint.tables) → with_tables k.checkpoint.tables marks w o ≡ k
+  at_mark = subst (λ (m : Marks). (w : Unchanged k k.checkpoint.tables m) (o : Ordered k k.checkpoint.tables) → with_tables k.checkpoint.tables m w o ≡ k) (sym same_marks) own
 
-  at_tables : (w : touched ≡ false → AreAsDrawn t k.checkpoint.levels k.checkpoint.pages) → with_tables t touched w ≡ k
-  at_tables = subst (λ (s : Tables). (w : touched ≡ false → AreAsDrawn s k.checkpoint.levels k.checkpoint.pages) → with_tables s touched w ≡ k) (sym same_tables) at_mark
+  at_tables : (w : Unchanged k t marks) (o : Ordered k t) → with_tables t marks w o ≡ k
+  at_tables = subst (λ (s : Tables). (w : Unchanged k s marks) (o : Ordered k s) → with_tables s marks w o ≡ k) (sym same_tables) at_mark
 
 -- the facts of a member's type are the same facts, whoever gave them
-pub facts_same : (k : Member) (mirrored : k.mirrors ≡ true → IsMirror k.room k.checkpoint.pages) (unchanged : k.touched ≡ false → AreAsDrawn k.checkpoint.tables k.checkpoint.levels k.checkpoint.pages) → record k { mirrored = mirrored; unchanged = unchanged } ≡ k
-facts_same k mirrored unchanged = member_same k k.checkpoint.tables k.batch k.touched mirrored unchanged refl refl refl
+pub facts_same : (k : Member) (mirrored : Mirrored k) (unchanged : Unchanged k k.checkpoint.tables k.marks) (ordered : Ordered k k.checkpoint.tables) → record k { mirrored = mirrored; unchanged = unchanged; ordered = ordered } ≡ k
+facts_same k mirrored unchanged ordered = member_same k k.checkpoint.tables k.batch k.marks mirrored unchanged ordered refl refl refl
+
+-- pages that commands didn't mark are still those of the tables
+pub still_unchanged : (k : Member) (marks : List Bool) (t : Tables) → Touches k.marks.pages marks k.checkpoint.tables t → AreUnmarkedDrawn marks t k.checkpoint.levels k.checkpoint.pages
+still_unchanged k marks t touches p lt none = k.unchanged p lt (was (is_marked k.marks.pages p) refl) ∙ sym (touches.alike p none k.checkpoint.levels) where
+  was : (b : Bool) → is_marked k.marks.pages p ≡ b → is_marked k.marks.pages p ≡ false
+  was true is = let now : is_marked marks p ≡ true = touches.rise p is in absurd (cc)
+  was false is = is

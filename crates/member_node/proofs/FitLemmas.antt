@@ -7,8 +7,11 @@ use Rattle.lay_bytes.specs.declared.records.JobRec.{JobRec}
 use Rattle.lay_bytes.specs.declared.records.OutRec.{OutRec}
 use Rattle.lay_bytes.specs.Slots.{IfUsed, IsJobRec, IsOutRec}
 use Rattle.lay_bytes.specs.Used.{used}
-use Rattle.queue_effect.specs.Standing.{IsFitJob, IsFitOutput}
-use Rattle.member_node.specs.Reads.{is_job_below, is_output_below}
+use Rattle.ckpt_tables.specs.declared.tables.Tables.{Tables}
+use Rattle.ckpt_tables.specs.Shape.{HasSpelling}
+use Rattle.queue_effect.specs.Standing.{AreFit, IsFitJob, IsFitOutput}
+use Rattle.page_tables.specs.Bringing.{are_orders_low}
+use Rattle.page_tables.specs.Kinds.{is_job_below, is_output_below}
 
 pub not_both : (b : Bool) → b ≡ false → b ≡ true → ⊥
 not_both b p q = cc
@@ -58,3 +61,12 @@ outputs_below order (None ∷ slots) fit = outputs_below order slots fit
 outputs_below order (Some o ∷ slots) fit =
     let here : IsFitOutput order o = All-head (IsFitOutput order) o (used slots) fit in
     true_both (nat_lt o.order order) (list_all (is_output_below order) slots) (is_below o.order order here.below) (outputs_below order slots (All-tail (IsFitOutput order) o (used slots) fit))
+
+-- tables that are fit have such orders, and those that have a spelling are fit then
+pub orders_low : (t : Tables) → AreFit t → are_orders_low t ≡ true
+orders_low t fit = true_both (list_all (is_job_below t.order) t.jobs) (list_all (is_output_below t.order) t.outputs) (jobs_below t.order t.jobs fit.jobs) (outputs_below t.order t.outputs fit.outputs)
+
+pub low_fit : (t : Tables) → HasSpelling t → are_orders_low t ≡ true → AreFit t
+low_fit t spelling low =
+    let both = both_true (list_all (is_job_below t.order) t.jobs) (list_all (is_output_below t.order) t.outputs) low in
+    record { shape = spelling.shape; jobs = jobs_fit t.order t.jobs both.0 spelling.jobs; outputs = outputs_fit t.order t.outputs both.1 spelling.outputs }

@@ -17,3 +17,4 @@ pub mod ReplaceLemmas
 pub mod MirrorLemmas
 pub mod WantedLemmas
 pub mod AgeLemmas
+pub mod HeaderLemmas

@@ -1,7 +1,8 @@
 -- A draft of a member's pages.
-use Rattle.std.proofs.Common.{◌≡◌, ⊎_elim, ℕ, ◌+◌, ◌*◌, ◌≤◌, ◌<◌, ◌^◌, ◌&&◌, Bool, true, false, List, length, Option, Some, sym, ◌∙◌, ap, subst, arith}
+use Rattle.std.proofs.Common.{◌≡◌, ⊎_elim, ℕ, ◌+◌, ◌*◌, ◌≤◌, ◌<◌, ◌^◌, Bool, true, List, length, Option, Some, sym, ◌∙◌, ap, subst, arith, All}
 use Rattle.std.proofs.Math.Logic.{∥∥₁_elim}
 use Rattle.mas_types.specs.declared.ids.Page.{Page}
+use Rattle.mas_types.specs.Limits.{page_bytes, pages_most}
 use Rattle.mas_types.specs.declared.journals.Entry.{Entry}
 use Rattle.mas_types.specs.declared.queues.Queue.{Queue}
 use Rattle.ckpt_copy.specs.Moments.{either_way}
@@ -21,9 +22,10 @@ use Rattle.member_node.specs.declared.checkpoint.Draft.TheVariants as draft
 use Rattle.member_node.specs.Batches.{CanDraw, HasDone, IsDraftOf, level_with}
 use Rattle.member_node.specs.Copies.{IsDraftFor, RestsAt}
 use Rattle.member_node.specs.Drawn.{AreDrawn}
-use Rattle.member_node.specs.Mirrors.{IsMirror}
-use Rattle.member_node.specs.Redrawn.{IsRedrawn, IsSameWhere, is_same}
-use Rattle.member_node.proofs.DrawnLemmas.{drawn_level, drawn_order, drawn_stand, drawn_tell}
+use Rattle.member_node.specs.Mirrors.{IsMirrorBut, marked_by}
+use Rattle.member_node.specs.Redrawn.{IsRedrawn, IsSameWhere}
+use Rattle.member_node.proofs.DrawnLemmas.{drawn_level, drawn_order, drawn_stand, drawn_tell, page_joined}
+use Rattle.member_node.proofs.MirrorLemmas.{unmarked_all}
 use Rattle.member_node.proofs.WriteLemmas.{covers_read, names_read}
 
 pub ready_level : (d : Draft) (was is : ℕ) (old new : List Page) → IsRedrawn d was old is new → is ≡ level_with d was
@@ -80,9 +82,12 @@ ready_copy (draft.Changed numbers) X told alive place count room was is old new 
   some_same : (x y : List ℕ) → Some x ≡ Some y → x ≡ y
   some_same x y e = cc
 
--- pages that the room mirrors, where none of them changes
-pub ready_mirrors : (d : Draft) (mirrors : Bool) (was is : ℕ) (room old new : List Page) → IsRedrawn d was old is new → (mirrors ≡ true → IsMirror room old) → (mirrors && is_same d) ≡ true → IsMirror room new
-ready_mirrors draft.Same true was is room old new drawn mirrored both = subst (IsMirror room) (sym drawn.1) (mirrored both)
-ready_mirrors draft.Same false was is room old new drawn mirrored both = absurd (cc)
-ready_mirrors (draft.Changed numbers) true was is room old new drawn mirrored both = absurd (cc)
-ready_mirrors (draft.Changed numbers) false was is room old new drawn mirrored both = absurd (cc)
+-- Pages that the room has, and that a draft doesn't change.
+pub ready_mirror : (d : Draft) (k n : Checkpoint) (room : List Page) (marks : List Bool) → length marks ≡ pages_most → All (λ page. length page.0 ≡ page_bytes) k.pages → All (λ page. length page.0 ≡ page_bytes) n.pages → length n.pages ≡ length k.pages
+    → IsRedrawn d k.level k.pages n.level n.pages → IsMirrorBut marks room k.pages → IsMirrorBut (marked_by d marks) room n.pages
+ready_mirror draft.Same k n room marks long was is many drawn mirror = subst (IsMirrorBut marks room) (sym drawn.1) mirror
+ready_mirror (draft.Changed numbers) k n room marks long was is many newer mirror = λ q from few to1 to2 off.
+    let inside : q < length k.pages = omega (arith, to2, many) in
+    let both = unmarked_all numbers marks q (omega (arith, few, long)) off in
+    mirror q from few to1 inside both.0
+    ∙ ⊎_elim (λ one. absurd (both.1 one)) (λ same. sym (page_joined k.pages q was inside) ∙ sym same ∙ page_joined n.pages q is to2) (newer.covered q to2)

@@ -7,7 +7,7 @@ use Rattle.mas_types.specs.declared.ids.Page.{Page}
 use Rattle.ckpt_tables.specs.declared.tables.Tables.{Tables}
 use Rattle.ckpt_tables.specs.Pages.{page_in, page_of, Spell}
 
-page_got : (pages : List Page) (p : ℕ) (d : Page) → p < length pages → (get_or pages p d).0 ≡ page_in pages p
+pub page_got : (pages : List Page) (p : ℕ) (d : Page) → p < length pages → (get_or pages p d).0 ≡ page_in pages p
 page_got [] p d lt = absurd (omega (arith, lt))
 page_got (x ∷ xs) zero d lt = refl
 page_got (x ∷ xs) (suc p) d lt = page_got xs p d (omega (arith, lt))

@@ -1,14 +1,20 @@
 -- Pages that are drawn from tables.
-use Rattle.std.specs.Prelude.{◌≡◌, ℕ, ◌<◌, List, [], ◌∷◌, length, All, slice_set}
+use Rattle.std.specs.Prelude.{◌≡◌, ℕ, ◌<◌, Bool, false, List, [], ◌∷◌, length, All, slice_set}
 use Rattle.mas_types.specs.declared.ids.Page.{Page}
 use Rattle.mas_types.specs.Limits.{page_bytes}
 use Rattle.ckpt_tables.specs.declared.tables.Tables.{Tables}
 use Rattle.ckpt_tables.specs.Shape.{HasSpelling, AreLevels}
 use Rattle.ckpt_tables.specs.Pages.{page_in, page_of, Spell}
+use Rattle.page_marks.specs.Marks.{is_marked}
 
 -- each page is the one that the tables are drawn as
 abbrev pub AreAsDrawn : Tables → List ℕ → List Page → Type 0
 AreAsDrawn t levels pages = (p : ℕ) → p < length pages → page_in pages p ≡ page_of t levels p
+
+-- so is each that has no mark
+abbrev pub AreUnmarkedDrawn : List Bool → Tables → List ℕ → List Page → Type 0
+AreUnmarkedDrawn marks t levels pages = (p : ℕ) → p < length pages → is_marked marks p ≡ false
+    → page_in pages p ≡ page_of t levels p
 
 -- the pages spell the tables, and were drawn at this level
 pub record AreDrawn (t : Tables) (level : ℕ) (levels : List ℕ) (pages : List Page) : Type 0 where

@@ -1,5 +1,5 @@
 -- What a member reads of the copies, and how its tables are brought up to that.
-use Rattle.std.specs.Prelude.{◌≡◌, ℕ, ◌+◌, ◌-◌, ◌*◌, ◌≤◌, ◌<◌, ◌^◌, nat_lt, Bool, true, if◌then◌else◌, List, length, All, Option, Some, None, Result, Ok, Err}
+use Rattle.std.specs.Prelude.{◌≡◌, ℕ, ◌+◌, ◌-◌, ◌*◌, ◌≤◌, ◌<◌, ◌^◌, Bool, true, false, if◌then◌else◌, List, length, All, Option, Some, Result, Ok, Err}
 use Rattle.mas_types.specs.declared.ids.Dev.{Dev}
 use Rattle.mas_types.specs.declared.ids.Page.{Page}
 use Rattle.mas_types.specs.declared.queues.Config.{Config}
@@ -8,11 +8,10 @@ use Rattle.mas_types.specs.Limits.{page_bytes}
 use Rattle.spool_plant.specs.View.{View, disk_now}
 use Rattle.spool_plant.specs.Acts.{Rose}
 use Rattle.ckpt_copy.specs.Pages.{bytes_of, level, page_in}
-use Rattle.lay_bytes.specs.declared.records.JobRec.{JobRec}
-use Rattle.lay_bytes.specs.declared.records.OutRec.{OutRec}
 use Rattle.ckpt_tables.specs.declared.tables.Tables.{Tables}
 use Rattle.ckpt_pages.specs.Checkpoints.{IsCheckpoint}
 use Rattle.ckpt_tables.specs.Pages.{page_in as page_of_list}
+use Rattle.page_tables.specs.Bringing.{CanBringUp, order_in}
 use Rattle.duplex_pair.specs.ActCounts.{after_acts, copies_failed}
 use Rattle.duplex_pair.specs.Halves.{IsBothLost, SomeAlive}
 use Rattle.ckpt_places.specs.declared.places.Place.{Place}
@@ -118,15 +117,6 @@ pub record IsSettle {T : Type 0} (told : Type 0) (by : ℕ) (was1 is1 was2 is2 :
 abbrev pub pages_had : Bool → List Page → List Page → List Page
 pages_had behind room own = if behind then room else own
 
--- the order of what stands in a slot is below this one
-abbrev pub is_job_below : ℕ → Option JobRec → Bool
-is_job_below order None = true
-is_job_below order (Some job) = nat_lt job.order order
-
-abbrev pub is_output_below : ℕ → Option OutRec → Bool
-is_output_below order None = true
-is_output_below order (Some output) = nat_lt output.order order
-
 -- levels and orders below this leave a step all that it can use
 abbrev pub too_high : ℕ
 too_high = 2 ^ 63 - 2 ^ 22
@@ -141,6 +131,15 @@ pub record MayGoOn (config : Config) (pages : List Page) (t : Tables) : Type 0 w
   pub fit : AreFit t
   pub low_level : level (bytes_of pages) < too_high
   pub low_order : t.order < too_high
+
+-- A member that has read may bring its tables up to the pages of its room in their place, and go on from these. Those
+-- pages that aren't marked as different are its own.
+pub record MayComeUp (fresh : Bool) (differ : List Bool) (room own : List Page) (t : Tables) : Type 0 where
+  pub read : fresh ≡ false
+  pub many : length room ≡ length own
+  pub can : CanBringUp t room differ
+  pub low_level : level (bytes_of room) < too_high
+  pub low_order : order_in (page_of_list room 0) < too_high
 
 -- the checkpoint of these pages, which a member of this configuration may go on from
 pub record IsUpTo (config : Config) (pages : List Page) (k : Checkpoint) : Type 0 where

@@ -1,5 +1,5 @@
 -- Pages that were drawn again.
-use Rattle.std.specs.Prelude.{◌≡◌, ℕ, ◌+◌, Bool, true, false, List, length, All}
+use Rattle.std.specs.Prelude.{◌≡◌, ℕ, ◌+◌, true, false, List, length, All}
 use Rattle.mas_types.specs.declared.ids.Page.{Page}
 use Rattle.mas_types.specs.Limits.{page_bytes}
 use Rattle.ckpt_copy.specs.Pages.{bytes_of, ArePages, Covers}
@@ -23,11 +23,6 @@ pub record IsNewer (changed : List ℕ) (was : ℕ) (old : List Page) (is : ℕ)
 abbrev pub IsRedrawn : Draft → ℕ → List Page → ℕ → List Page → Type 0
 IsRedrawn draft.Same was old is new = (is ≡ was) × (new ≡ old)
 IsRedrawn (draft.Changed numbers) was old is new = IsNewer numbers was old is new
-
--- no page changes
-abbrev pub is_same : Draft → Bool
-is_same draft.Same = true
-is_same (draft.Changed numbers) = false
 
 -- no page changes exactly where this holds
 abbrev pub IsSameWhere : Draft → Type 0 → Type 0

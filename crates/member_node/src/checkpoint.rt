@@ -8,16 +8,19 @@ ghost use Rattle.mas_complex.specs.Changed.{NamesOnly};
 ghost use Rattle.mas_complex.specs.Past.{IsNextOf};
 ghost use Rattle.ckpt_pages.specs.Given.{levels_given};
 ghost use Rattle.ckpt_tables.specs.Shape.{page_count as page_count_lem, HasShape, HasSpelling, AreLevels, IsRoute};
-ghost use Rattle.ckpt_tables.specs.Pages.{Spell};
+ghost use Rattle.ckpt_tables.specs.Pages.{page_of, Spell};
 ghost use Rattle.ckpt_pages.specs.Starts.{empty_tables, first_levels as first_levels_lem};
-ghost use Rattle.member_node.specs.Drawn.{AreAsDrawn, AreDrawn, drawn_again, raised};
-ghost use Rattle.member_node.specs.Redrawn.{AreChanges, IsDraft, IsRedrawn, IsSameWhere, is_same as is_same_lem};
+ghost use Rattle.member_node.specs.Drawn.{AreDrawn, AreUnmarkedDrawn, drawn_again, raised};
+ghost use Rattle.page_marks.specs.Marks.{is_marked};
+ghost use Rattle.std.specs.Str.{bytes_eq};
+ghost use Rattle.member_node.specs.Redrawn.{AreChanges, IsDraft, IsRedrawn, IsSameWhere};
 
 use ckpt_pages::{empty, encode, encode_page, law_of_empty_tables};
 use ckpt_tables::{Tables, page_count};
 use lay_bytes::is_same_page;
 use mas_types::limits::PAGE_BYTES;
 use mas_types::{Config, Level, List, NoMemory, Page, Route};
+use page_marks::Marks;
 use std::alloc::Global;
 
 /// Tables, and the pages that were drawn last, with their level and the level of each.
@@ -95,24 +98,53 @@ fn note(numbers: &mut List<u16>, number: u16, asked: bool) -> Result<(), NoMemor
     Ok(())
 }
 
-// What the tables, drawn with these levels, change of pages: one after another is drawn, and compared.
-fn draft_of(
+// Whether a page is the one that the tables are drawn as with these levels: one without a mark is.
+fn is_as_drawn(
+    tables: &Tables,
+    number: u16,
+    levels: &List<Level>,
+    marks: &Marks,
+    own: &Page,
+    room: &mut Page,
+) -> bool
+    requires shape { HasShape tables.now }
+    requires number { number < page_count_lem tables.now.config }
+    requires levels { length levels.now ≡ page_count_lem tables.now.config }
+    requires size { length own.now.0 ≡ page_bytes }
+    requires unchanged { is_marked marks.now.pages number ≡ false
+        → own.now.0 ≡ page_of tables.now levels.now number }
+    ensures same { result ≡ bytes_eq own.now.0 (page_of tables.now levels.now number) }
+    ensures sized { length (page_of tables.now levels.now number) ≡ page_bytes }
+{
+    if !marks.has(number) {
+        return true;
+    }
+    encode_page(tables, number, levels, room);
+    is_same_page(own, room)
+}
+
+/// What the tables, drawn with these levels, change of pages: one that has a mark after another is drawn, and compared.
+/// NoMemory comes only when out of memory.
+pub(crate) fn draft_of(
     alloc: Global,
     tables: &Tables,
     levels: &List<Level>,
     pages: &[Page],
+    marks: &Marks,
 ) -> Result<Draft, NoMemory>
     requires shape { HasShape tables.now }
     requires levels { length levels.now ≡ page_count_lem tables.now.config }
     requires pages { length pages.now ≡ page_count_lem tables.now.config }
+    requires sized { All (λ page. length page.0 ≡ page_bytes) pages.now }
+    requires unchanged { AreUnmarkedDrawn marks.now.pages tables.now levels.now pages.now }
     ensures { IfOk result (IsDraft tables.now levels.now pages.now) }
 {
     let mut numbers = List::new(alloc);
     let mut same = true;
-    let mut page = Page([0; PAGE_BYTES]);
+    let mut room = Page([0; PAGE_BYTES]);
     for number in 0..page_count(&tables.config) {
-        encode_page(tables, number, levels, &mut page);
-        let is_same = is_same_page(&pages[number as usize], &page);
+        let own = &pages[number as usize];
+        let is_same = is_as_drawn(tables, number, levels, marks, own, &mut room);
         note(&mut numbers, number, (number == 0) | !is_same)?;
         same &= is_same;
     }
@@ -124,17 +156,24 @@ fn draft_of(
 }
 
 /// Whether these pages are those that the tables are drawn as with these levels.
-pub(crate) fn is_spelling(tables: &Tables, levels: &List<Level>, pages: &[Page]) -> bool
+pub(crate) fn is_spelling(
+    tables: &Tables,
+    levels: &List<Level>,
+    pages: &[Page],
+    marks: &Marks,
+) -> bool
     requires shape { HasShape tables.now }
     requires levels { length levels.now ≡ page_count_lem tables.now.config }
     requires pages { length pages.now ≡ page_count_lem tables.now.config }
+    requires sized { All (λ page. length page.0 ≡ page_bytes) pages.now }
+    requires unchanged { AreUnmarkedDrawn marks.now.pages tables.now levels.now pages.now }
     ensures yes { result ≡ true → Spell tables.now levels.now pages.now }
     ensures no { result ≡ false → Spell tables.now levels.now pages.now → ⊥ }
 {
-    let mut page = Page([0; PAGE_BYTES]);
+    let mut room = Page([0; PAGE_BYTES]);
     for number in 0..page_count(&tables.config) {
-        encode_page(tables, number, levels, &mut page);
-        if !is_same_page(&pages[number as usize], &page) {
+        let own = &pages[number as usize];
+        if !is_as_drawn(tables, number, levels, marks, own, &mut room) {
             return false;
         }
     }
@@ -184,39 +223,6 @@ fn take_changes(checkpoint: &mut Checkpoint, numbers: &[u16])
         numbers,
         checkpoint.pages.as_mut_slice(),
     );
-}
-
-/// Whether a draft changes no page.
-pub(crate) fn is_same(draft: &Draft) -> bool
-    ensures { result ≡ is_same_lem draft.now }
-{
-    matches!(draft, Draft::Same)
-}
-
-/// What the tables of a checkpoint, drawn again, change of its pages: nothing where no command touched them. NoMemory
-/// comes only when out of memory.
-pub(crate) fn drafted(
-    alloc: Global,
-    checkpoint: &Checkpoint,
-    touched: bool,
-) -> Result<Draft, NoMemory>
-    requires shape { HasShape checkpoint.now.tables }
-    requires levels { length checkpoint.now.levels ≡ page_count_lem checkpoint.now.tables.config }
-    requires pages { length checkpoint.now.pages ≡ page_count_lem checkpoint.now.tables.config }
-    requires sized { All (λ page. length page.0 ≡ page_bytes) checkpoint.now.pages }
-    requires unchanged { touched ≡ false
-        → AreAsDrawn checkpoint.now.tables checkpoint.now.levels checkpoint.now.pages }
-    ensures { IfOk result (IsDraft checkpoint.now.tables checkpoint.now.levels checkpoint.now.pages) }
-{
-    if !touched {
-        return Ok(Draft::Same);
-    }
-    draft_of(
-        alloc,
-        &checkpoint.tables,
-        &checkpoint.levels,
-        checkpoint.pages.as_slice(),
-    )
 }
 
 /// Draws the pages of a draft again: where it has one they have the next level then.

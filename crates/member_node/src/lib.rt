@@ -4,7 +4,7 @@
 
 mod batch;
 mod checkpoint;
-mod giving;
+mod marking;
 mod member;
 mod reading;
 mod replacing;

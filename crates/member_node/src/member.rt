@@ -11,13 +11,15 @@ ghost use Rattle.queue_telling.specs.Telling.{Tell, TellSound};
 ghost use Rattle.mas_complex.specs.Meaning.{step as step_of};
 ghost use Rattle.queue_effect.specs.Standing.{AreFit, IfRefused};
 ghost use Rattle.queue_commands.specs.Given.{IsGiver};
-ghost use Rattle.member_node.specs.Drawn.{AreAsDrawn};
-ghost use Rattle.member_node.specs.Mirrors.{IsMirror};
+ghost use Rattle.member_node.specs.Drawn.{AreUnmarkedDrawn};
+ghost use Rattle.member_node.specs.Mirrors.{IsMirrorBut};
+ghost use Rattle.page_tables.specs.Bringing.{are_orders_low};
 
 use crate::checkpoint::{Checkpoint, blank};
-use crate::giving::give_to;
 use mas_types::limits::PAGE_BYTES;
 use mas_types::{Command, Config, Entry, List, MemberId, NoMemory, Page, Reply};
+use page_marks::Marks;
+use queue_commands::give;
 use std::alloc::Global;
 
 /// Why a member's call wasn't done.
@@ -46,18 +48,22 @@ pub struct Member {
     pub room: List<Page>,
     /// It has read all pages, and its checkpoint isn't brought up to them yet.
     pub behind: bool,
-    /// It has read nothing yet: its pages are of no level.
-    pub fresh: bool,
-    /// Its own pages stand in the room too, except page 0.
-    pub mirrors: bool,
-    /// A command that may change its tables was done on them since its pages were drawn or read.
-    pub touched: bool,
+    /// It has read nothing yet: its pages are of no level. Nothing above can say so of a member that has read, which
+    /// would make it read all pages anew.
+    pub(crate) fresh: bool,
+    /// The pages that may differ between the room and its own, besides page 0.
+    pub differ: Marks,
+    /// The pages that commands may have changed since its pages were drawn or read.
+    pub marks: Marks,
 
-    /// Where its own pages stand in the room, each of them is the same.
-    ghost mirrored: { mirrors ≡ true → IsMirror room checkpoint.pages },
+    /// Each other page stands in the room as it is its own.
+    ghost mirrored: { IsMirrorBut differ.pages room checkpoint.pages },
 
-    /// Where no command may have changed its tables, its pages are those that these are drawn as.
-    ghost unchanged: { touched ≡ false → AreAsDrawn checkpoint.tables checkpoint.levels checkpoint.pages },
+    /// Each of its pages without a mark is the one that its tables are drawn as.
+    ghost unchanged: { AreUnmarkedDrawn marks.pages checkpoint.tables checkpoint.levels checkpoint.pages },
+
+    /// Once it has read, the orders of its jobs and outputs are below the next one.
+    ghost ordered: { fresh ≡ false → are_orders_low checkpoint.tables ≡ true },
 }
 
 // So many pages of zeros.
@@ -132,8 +138,8 @@ impl Member {
             room,
             behind: false,
             fresh: true,
-            mirrors: false,
-            touched: true,
+            differ: Marks::all(),
+            marks: Marks::all(),
         })
     }
 
@@ -152,7 +158,7 @@ impl Member {
         ensures room { self.new.room ≡ self.old.room }
         ensures behind { self.new.behind ≡ self.old.behind }
         ensures fresh { self.new.fresh ≡ self.old.fresh }
-        ensures mirrors { self.new.mirrors ≡ self.old.mirrors }
+        ensures differ { self.new.differ ≡ self.old.differ }
         ensures level { self.new.checkpoint.level ≡ self.old.checkpoint.level }
         ensures levels { self.new.checkpoint.levels ≡ self.old.checkpoint.levels }
         ensures pages { self.new.checkpoint.pages ≡ self.old.checkpoint.pages }
@@ -184,10 +190,10 @@ impl Member {
         let at = self.batch.len();
         self.batch.push(place(self.id, step))?;
         let by = self.id;
-        match give_to(
+        match give(
             alloc,
             &mut self.checkpoint.tables,
-            &mut self.touched,
+            &mut self.marks,
             by,
             &command,
         ) {

@@ -1,5 +1,5 @@
 //! How a member reads the copies, and goes on from what it read.
-ghost use Rattle.std.specs.Prelude.{◌≡◌, ◌+◌, ◌≤◌, ◌<◌, ℕ, List, Some, None, All, [], length, true, false, IfOk, IfErr, IsErrOf, OnOk, OnErr, nat_lt, slice_set};
+ghost use Rattle.std.specs.Prelude.{◌≡◌, ◌+◌, ◌≤◌, ◌<◌, ℕ, List, Some, None, All, [], length, replicate, true, false, IfOk, IfErr, IsErrOf, OnOk, OnErr, nat_lt, slice_set};
 ghost use Rattle.std.specs.List.{list_all};
 ghost use Rattle.mas_types.specs.declared.ids.Dev.{Dev};
 ghost use Rattle.mas_types.specs.declared.ids.Dev.TheVariants.{Ckpt1, Ckpt2};
@@ -8,7 +8,7 @@ ghost use Rattle.spool_plant.specs.View.{disk_now};
 ghost use Rattle.ckpt_copy.specs.Pages.{bytes_of, level, page_in};
 ghost use Rattle.ckpt_tables.specs.declared.tables.Tables.{Tables as TablesLem};
 ghost use Rattle.ckpt_pages.specs.Checkpoints.{IsCheckpoint, SpellSome};
-ghost use Rattle.ckpt_tables.specs.Shape.{level_in, page_count};
+ghost use Rattle.ckpt_tables.specs.Shape.{HasSpelling, level_in, page_count};
 ghost use Rattle.duplex_pair.specs.ActCounts.{after_acts, read_acts};
 ghost use Rattle.duplex_pair.specs.Halves.{SomeAlive};
 ghost use Rattle.duplex_pair.specs.Outcomes.{least_room};
@@ -21,12 +21,16 @@ ghost use Rattle.queue_telling.specs.Telling.{Tell};
 ghost use Rattle.ckpt_places.specs.declared.places.Place.TheVariants.{Before};
 ghost use Rattle.member_node.specs.Calls.{Course};
 ghost use Rattle.member_node.specs.Spares.{Spares};
-ghost use Rattle.member_node.specs.Mirrors.{IsMirror};
+ghost use Rattle.member_node.specs.Mirrors.{IsMirror, IsMirrorBut};
+ghost use Rattle.page_marks.specs.Marks.{is_marked};
 ghost use Rattle.member_node.specs.Wanted.{AreUnchanged, one_if, wanted};
 ghost use Rattle.ckpt_pages.specs.Given.{levels_given};
 ghost use Rattle.ckpt_tables.specs.Pages.{page_in as page_of_list};
-ghost use Rattle.member_node.specs.Reads.{ArePagesOf, IsCalm, IsRead, IsReadWhole, MayGoOn, ReadsAs, StandAt, TookActs, copies_alive, is_job_below, is_output_below};
+ghost use Rattle.page_tables.specs.Bringing.{AreOlder, are_orders_low};
+ghost use Rattle.page_tables.specs.Kinds.{is_job_below, is_output_below};
+ghost use Rattle.member_node.specs.Reads.{ArePagesOf, IsCalm, IsRead, IsReadWhole, MayGoOn, ReadsAs, StandAt, TookActs, copies_alive};
 
+use crate::marking::mark_if;
 use crate::member::{Member, NodeNo};
 use ckpt_pages::{PageNo, decode, first_bad, law_of_checkpoints, law_of_levels, levels_of};
 use ckpt_tables::{Tables, law_of_page_sizes, level_of};
@@ -34,6 +38,8 @@ use duplex_pair::{PairNo, pages_level};
 use lay_bytes::{JobRec, OutRec, is_same_page};
 use mas_complex::{Complex, Steady};
 use mas_types::{Config, Dev, Level, List, MemberId, NoMemory, Page};
+use page_marks::Marks;
+use page_tables::{bring_up, can_bring_up, order_of};
 use spool_plant::Plant;
 use std::alloc::Global;
 
@@ -192,7 +198,7 @@ fn read_newer<P: Plant + Drop, C: Steady + Drop>(
     Ok(1)
 }
 
-// Reads the pages whose level exceeds this one, by page 0. It answers how many it read.
+// Reads the pages whose level exceeds this one, by page 0, and marks them. It answers how many it read.
 //
 // Where each other page is as each copy reads it that counts as alive, what these read stands in all of them then.
 fn read_above<P: Plant + Drop, C: Steady + Drop>(
@@ -200,6 +206,7 @@ fn read_above<P: Plant + Drop, C: Steady + Drop>(
     by: MemberId,
     room: &mut [Page],
     level: Level,
+    differ: &mut Marks,
 ) -> Result<u32, NodeNo>
     requires may { MayAct complex.old.book by }
     requires calm1 { IsCalm complex.old.pair.first.alive complex.old.first (C.count complex.old.pair.first.copy)
@@ -227,6 +234,8 @@ fn read_above<P: Plant + Drop, C: Steady + Drop>(
     ensures many { length room.new ≡ length room.old }
     ensures header { OnOk result (page_of_list room.new 0 ≡ page_of_list room.old 0) }
     ensures none { IfOk result (λ count. count ≡ 0 → (q : ℕ) → page_of_list room.new q ≡ page_of_list room.old q) }
+    ensures differ { OnOk result ((q : ℕ) → is_marked differ.new.pages q ≡ false
+        → page_of_list room.new q ≡ page_of_list room.old q) }
     ensures count { IfOk result (λ count. count ≡ length (wanted level (levels_given room.new))) }
     ensures read { IsRead P.tells by.0 complex.old.pair.first.alive complex.new.pair.first.alive
         complex.old.pair.second.alive complex.new.pair.second.alive (P.view complex.old.plant)
@@ -245,29 +254,54 @@ fn read_above<P: Plant + Drop, C: Steady + Drop>(
     for page in 1..room.len() {
         let newer = is_newer(&room[0], page as u16, level);
         let read = read_newer(complex, by, page as u16, newer, &mut room[page])?;
+        mark_if(differ, page, newer);
         count += read;
     }
     Ok(count)
 }
 
-// Gives the room the member's own pages, except page 0, unless it has them.
-fn mirror(room: &mut [Page], own: &[Page], mirrors: bool)
-    requires many { length own.now ≡ length room.old }
-    requires mirrors { mirrors ≡ true → IsMirror room.old own.now }
-    ensures many { length room.new ≡ length room.old }
-    ensures header { page_of_list room.new 0 ≡ page_of_list room.old 0 }
-    ensures mirrors { IsMirror room.new own.now }
+// Takes the member's own page where another may stand there.
+fn take_own(into: &mut Page, own: &Page, differs: bool)
+    requires { differs ≡ false → into.old.0 ≡ own.now.0 }
+    ensures { into.new.0 ≡ own.now.0 }
 {
-    if mirrors {
-        return;
-    }
-    for page in 1..room.len() {
-        room[page] = own[page];
+    if differs {
+        *into = *own;
     }
 }
 
-// Reads the pages whose level exceeds this one, by page 0, and takes each other page from the member's own, where the
-// room doesn't mirror these. It answers how many it read.
+// Gives the room the member's own pages, except page 0: those that have a mark, which is taken away.
+fn mirror(room: &mut [Page], own: &[Page], differ: &mut Marks)
+    requires many { length own.now ≡ length room.old }
+    requires few { length room.old ≤ pages_most }
+    requires mirrors { IsMirrorBut differ.old.pages room.old own.now }
+    ensures many { length room.new ≡ length room.old }
+    ensures header { page_of_list room.new 0 ≡ page_of_list room.old 0 }
+    ensures mirrors { IsMirror room.new own.now }
+    ensures unmarked { differ.new.pages ≡ replicate pages_most false }
+{
+    for page in 1..room.len() {
+        take_own(&mut room[page], &own[page], differ.has(page as u16));
+    }
+    *differ = Marks::none();
+}
+
+// Whether page 0 of what was read is that of the member's own pages of this level: not where it has read nothing yet.
+fn is_own_header(room: &[Page], own: &[Page], level: Level) -> bool
+    requires some1 { 1 ≤ length room.now }
+    requires some2 { 1 ≤ length own.now }
+    ensures { result ≡ true → (1 ≤ level) × (page_of_list room.now 0 ≡ page_of_list own.now 0) }
+{
+    if level == 0 {
+        return false;
+    }
+    is_same_page(&room[0], &own[0])
+}
+
+// Reads the pages whose level exceeds this one, by page 0, and takes each other page from the member's own, where
+// another may stand in the room. It answers how many it read, and marks them.
+//
+// Where page 0 is the member's own, which has read before, no level is looked at: none exceeds its own.
 //
 // Where the member's own pages were the kept ones of this level, or this is 0, what each copy read that counted as
 // alive stands in them then.
@@ -277,7 +311,7 @@ fn read_wanted<P: Plant + Drop, C: Steady + Drop>(
     room: &mut [Page],
     own: &[Page],
     level: Level,
-    mirrors: bool,
+    differ: &mut Marks,
 ) -> Result<u32, NodeNo>
     requires may { MayAct complex.old.book by }
     requires calm1 { IsCalm complex.old.pair.first.alive complex.old.first (C.count complex.old.pair.first.copy)
@@ -287,7 +321,8 @@ fn read_wanted<P: Plant + Drop, C: Steady + Drop>(
     requires some { 2 ≤ length room.old }
     requires few { length room.old ≤ pages_most }
     requires as_many { length own.now ≡ length room.old }
-    requires mirrors { mirrors ≡ true → IsMirror room.old own.now }
+    requires mirrors { IsMirrorBut differ.old.pages room.old own.now }
+    requires low { 1 ≤ level → All (λ age. age ≤ level) (levels_given own.now) }
     requires alive { SomeAlive complex.old.pair.first.alive complex.old.pair.second.alive }
     ensures base { complex.new.base ≡ complex.old.base }
     ensures printed { complex.new.printed ≡ complex.old.printed }
@@ -307,6 +342,7 @@ fn read_wanted<P: Plant + Drop, C: Steady + Drop>(
     ensures many { length room.new ≡ length room.old }
     ensures header { OnOk result (page_of_list room.new 0 ≡ page_of_list room.old 0) }
     ensures none { IfOk result (λ count. count ≡ 0 → IsMirror room.new own.now) }
+    ensures differ { OnOk result (IsMirrorBut differ.new.pages room.new own.now) }
     ensures count { IfOk result (λ count. count ≡ length (wanted level (levels_given room.new))) }
     ensures read { IsRead P.tells by.0 complex.old.pair.first.alive complex.new.pair.first.alive
         complex.old.pair.second.alive complex.new.pair.second.alive (P.view complex.old.plant)
@@ -321,8 +357,11 @@ fn read_wanted<P: Plant + Drop, C: Steady + Drop>(
         → ArePagesOf 0 1 was room.old → AreUnchanged (length room.old) level own.now was
         → ArePagesOf 1 (length room.new) was room.new) }
 {
-    mirror(room, own, mirrors);
-    read_above(complex, by, room, level)
+    mirror(room, own, differ);
+    if is_own_header(room, own, level) {
+        return Ok(0);
+    }
+    read_above(complex, by, room, level, differ)
 }
 
 // Loses the copy that pages are read from.
@@ -406,13 +445,19 @@ fn are_own(room: &[Page], own: &[Page], mirrors: bool) -> bool
     is_same_page(&room[0], &own[0])
 }
 
-// Whether these pages spell tables. They need no test where they are alike to pages that do.
-fn spells(room: &[Page], alike: bool) -> bool
-    requires { alike ≡ true → SpellSome room.now }
+// Whether these pages spell tables, of which those that don't differ are those of the given tables. They need no test
+// where they are alike to pages that do, and only those that differ do where the tables can be brought up to them.
+fn spells(room: &[Page], alike: bool, tables: &Tables, differ: &Marks) -> bool
+    requires own { alike ≡ true → SpellSome room.now }
+    requires spelling { HasSpelling tables.now }
+    requires older { AreOlder tables.now room.now differ.now.pages }
     ensures good { result ≡ true → SpellSome room.now }
     ensures bad { result ≡ false → SpellSome room.now → ⊥ }
 {
     if alike {
+        return true;
+    }
+    if can_bring_up(tables, room, differ) {
         return true;
     }
     first_bad(room).is_none()
@@ -424,8 +469,12 @@ fn are_spelled<P: Plant + Drop, C: Steady + Drop>(
     complex: &Complex<P, C>,
     room: &[Page],
     alike: bool,
+    tables: &Tables,
+    differ: &Marks,
 ) -> bool
     requires own { alike ≡ true → SpellSome room.now }
+    requires spelling { HasSpelling tables.now }
+    requires older { AreOlder tables.now room.now differ.now.pages }
     requires config { P.tells → page_count (run complex.now.base (kept_all complex.now.journal.batches)).config
         ≡ length room.now }
     requires read { P.tells → ∥ IsReadWhole (run complex.now.base (kept_all complex.now.journal.batches))
@@ -441,7 +490,7 @@ fn are_spelled<P: Plant + Drop, C: Steady + Drop>(
     ensures stand { P.tells → ∥ StandAt (run complex.now.base (kept_all complex.now.journal.batches)) complex.now.level
         room.now ∥₁ }
 {
-    spells(room, alike)
+    spells(room, alike, tables, differ)
 }
 
 // The orders of the jobs are below this one.
@@ -485,10 +534,27 @@ fn may_go_on(config: &Config, pages: &[Page], tables: &Tables) -> bool
     are_outputs_below(tables.outputs.as_slice(), tables.order)
 }
 
+// A member may go on from these pages, which spell its own tables. It doesn't look at their orders again once it has
+// read.
+fn may_stay(pages: &[Page], tables: &Tables, fresh: bool) -> bool
+    requires checkpoint { IsCheckpoint pages.now tables.now }
+    requires low { fresh ≡ false → are_orders_low tables.now ≡ true }
+    ensures may { result ≡ true → MayGoOn tables.now.config pages.now tables.now }
+    ensures not { result ≡ false → MayGoOn tables.now.config pages.now tables.now → ⊥ }
+{
+    if fresh {
+        return may_go_on(&tables.config, pages, tables);
+    }
+    if pages_level(pages) >= TOO_HIGH {
+        return false;
+    }
+    tables.order < TOO_HIGH
+}
+
 impl Member {
     ghost use Rattle.member_node.specs.Copies.{RestsAt};
     ghost use Rattle.member_node.specs.Drawn.{AreAsDrawn, AreDrawn};
-    ghost use Rattle.member_node.specs.Reads.{IsReadIn, IsSettle, IsUpTo, ReadsLow, pages_had, too_high};
+    ghost use Rattle.member_node.specs.Reads.{IsReadIn, IsSettle, IsUpTo, MayComeUp, ReadsLow, pages_had, too_high};
     ghost use Rattle.member_node.specs.Wanted.{HasHad, level_had};
     ghost use Rattle.mas_complex.specs.Past.{HasNoted, values_of};
 
@@ -622,24 +688,38 @@ impl Member {
             → ∥ StandAt (run complex.new.base (kept_all complex.new.journal.batches)) complex.new.level self.new.room
             ∥₁) }
     {
-        let mirrors = self.mirrors;
-        self.mirrors = false;
-        self.behind = false;
         let by = self.id;
         let level = self.level();
+        let mut differ = self.differ;
+        self.differ = Marks::all();
+        self.behind = false;
         complex.kept_pages();
         law_of_levels();
         let own = self.checkpoint.pages.as_slice();
-        let count = read_wanted(complex, by, self.room.as_mut_slice(), own, level, mirrors)?;
+        let count = read_wanted(
+            complex,
+            by,
+            self.room.as_mut_slice(),
+            own,
+            level,
+            &mut differ,
+        )?;
         let read = self.room.as_slice();
         *alike = are_own(read, own, count == 0);
-        'spelled: while !are_spelled(complex, self.room.as_slice(), *alike) {
+        'spelled: while !are_spelled(
+            complex,
+            self.room.as_slice(),
+            *alike,
+            &self.checkpoint.tables,
+            &differ,
+        ) {
             lose_read(complex)?;
             *alike = false;
-            self.mirrors = false;
+            differ = Marks::all();
             let room = self.room.as_mut_slice();
             read_from(complex, by, room, 0)?;
         }
+        self.differ = differ;
         self.behind = true;
         Ok(count)
     }
@@ -750,6 +830,11 @@ impl Member {
         if alike {
             return Ok(self.stay_up());
         }
+        let levels = levels_of(alloc, self.room.as_slice())?;
+        if self.can_come_up() {
+            self.come_up(alloc, levels);
+            return Ok(true);
+        }
         let pages = self.room.as_slice();
         let tables = match decode(alloc, pages) {
             Ok(tables) => tables,
@@ -759,7 +844,6 @@ impl Member {
         if !may_go_on(&self.checkpoint.tables.config, pages, &tables) {
             return Ok(false);
         }
-        let levels = levels_of(alloc, pages)?;
         law_of_levels();
         law_of_checkpoints();
         law_of_page_sizes(pages);
@@ -784,12 +868,11 @@ impl Member {
     {
         let pages = self.room.as_slice();
         let tables = &self.checkpoint.tables;
-        if !may_go_on(&tables.config, pages, tables) {
+        if !may_stay(pages, tables, self.fresh) {
             return false;
         }
         self.behind = false;
         self.fresh = false;
-        self.mirrors = true;
         true
     }
 
@@ -977,9 +1060,65 @@ impl Member {
         }
     }
 
+    // Whether its tables can be brought up to the pages that it read in their place, and it may go on from these.
+    fn can_come_up(&self) -> bool
+        requires drawn { AreDrawn self.now.checkpoint.tables self.now.checkpoint.level self.now.checkpoint.levels
+            self.now.checkpoint.pages }
+        requires few { length self.now.room ≤ pages_most }
+        ensures { result ≡ true → MayComeUp self.now.fresh self.now.differ.pages self.now.room
+            self.now.checkpoint.pages self.now.checkpoint.tables }
+    {
+        if self.fresh {
+            return false;
+        }
+        let pages = self.room.as_slice();
+        if pages.len() != self.checkpoint.pages.len() {
+            return false;
+        }
+        if pages_level(pages) >= TOO_HIGH {
+            return false;
+        }
+        if !can_bring_up(&self.checkpoint.tables, pages, &self.differ) {
+            return false;
+        }
+        if order_of(&pages[0]) >= TOO_HIGH {
+            return false;
+        }
+        true
+    }
+
+    // Brings its tables up to the pages of its room in their place, and takes these, which have these levels.
+    fn come_up(&mut self, alloc: Global, levels: List<Level>)
+        requires drawn { AreDrawn self.old.checkpoint.tables self.old.checkpoint.level self.old.checkpoint.levels
+            self.old.checkpoint.pages }
+        requires few { length self.old.room ≤ pages_most }
+        requires may { MayComeUp self.old.fresh self.old.differ.pages self.old.room self.old.checkpoint.pages
+            self.old.checkpoint.tables }
+        requires levels { levels ≡ levels_given self.old.room }
+        ensures id { self.new.id ≡ self.old.id }
+        ensures batch { self.new.batch ≡ self.old.batch }
+        ensures up { IsUpTo self.old.checkpoint.tables.config self.old.room self.new.checkpoint }
+        ensures room { self.new.room ≡ self.old.checkpoint.pages }
+        ensures behind { self.new.behind ≡ false }
+        ensures fresh { self.new.fresh ≡ false }
+    {
+        let pages = self.room.as_slice();
+        law_of_levels();
+        law_of_page_sizes(pages);
+        let level = pages_level(pages);
+        bring_up(&mut self.checkpoint.tables, pages, &self.differ);
+        self.checkpoint.level = level;
+        self.checkpoint.levels = levels;
+        let read = std::mem::replace(&mut self.room, List::new(alloc));
+        self.room = std::mem::replace(&mut self.checkpoint.pages, read);
+        self.behind = false;
+        self.marks = Marks::none();
+    }
+
     // Takes the pages of the member's room, which spell these tables with these levels.
     fn take_up(&mut self, alloc: Global, tables: Tables, levels: List<Level>)
-        requires { AreAsDrawn tables levels self.old.room }
+        requires drawn { AreAsDrawn tables levels self.old.room }
+        requires low { are_orders_low tables ≡ true }
         ensures id { self.new.id ≡ self.old.id }
         ensures batch { self.new.batch ≡ self.old.batch }
         ensures tables { self.new.checkpoint.tables ≡ tables }
@@ -990,7 +1129,6 @@ impl Member {
         ensures behind { self.new.behind ≡ false }
         ensures fresh { self.new.fresh ≡ false }
     {
-        self.mirrors = false;
         self.checkpoint.level = pages_level(self.room.as_slice());
         self.checkpoint.tables = tables;
         self.checkpoint.levels = levels;
@@ -998,6 +1136,6 @@ impl Member {
         self.room = std::mem::replace(&mut self.checkpoint.pages, read);
         self.behind = false;
         self.fresh = false;
-        self.touched = false;
+        self.marks = Marks::none();
     }
 }

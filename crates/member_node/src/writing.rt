@@ -23,11 +23,13 @@ ghost use Rattle.mas_complex.specs.Paper.{MayBegin, printed_after};
 ghost use Rattle.mas_complex.specs.Past.{HasNoted, values_of};
 
 use crate::batch::commit;
-use crate::checkpoint::{Draft, drafted, is_same, is_spelling, redraw};
+use crate::checkpoint::{Draft, draft_of, is_spelling, redraw};
+use crate::marking::mark_drawn;
 use crate::member::{Member, NodeNo};
 use duplex_pair::PairNo;
 use mas_complex::{Complex, Steady};
 use mas_types::{List, NoMemory};
+use page_marks::Marks;
 use spool_plant::{Act, Plant};
 use std::alloc::Global;
 
@@ -38,17 +40,14 @@ impl Member {
     ghost use Rattle.member_node.specs.Lines.{said_as, IsAnswerOfSay};
     ghost use Rattle.member_node.specs.Writes.{IsWrite};
 
-    /// Whether the write of its batch changes a page. Nothing is drawn where no command touched its tables.
+    /// Whether the write of its batch changes a page. Only pages are drawn that commands may have changed.
     pub fn draws_anew(&self) -> bool
         requires draws { CanDraw self.now.checkpoint }
         ensures anew { result ≡ true → DrawsAnew self.now.checkpoint }
         ensures same { result ≡ false → DrawsAnew self.now.checkpoint → ⊥ }
     {
-        if !self.touched {
-            return false;
-        }
         let own = &self.checkpoint;
-        !is_spelling(&own.tables, &own.levels, own.pages.as_slice())
+        !is_spelling(&own.tables, &own.levels, own.pages.as_slice(), &self.marks)
     }
 
     /// Takes all memory that the write of its batch needs: the pages are drawn a level higher where one changes, and
@@ -124,10 +123,17 @@ impl Member {
             (C.room complex.old.pair.second.copy) self.new.checkpoint.pages
             (C.reads (disk_now (P.view complex.old.plant) Ckpt2).bytes)) }
     {
-        let draft = drafted(alloc, &self.checkpoint, self.touched)?;
+        let own = &self.checkpoint;
+        let draft = draft_of(
+            alloc,
+            &own.tables,
+            &own.levels,
+            own.pages.as_slice(),
+            &self.marks,
+        )?;
         redraw(&mut self.checkpoint, &draft);
-        self.touched = false;
-        self.mirrors &= is_same(&draft);
+        self.marks = Marks::none();
+        mark_drawn(&mut self.differ, &draft);
         let entries = std::mem::replace(&mut self.batch, List::new(alloc));
         // Pages that were drawn and aren't to be written are of no level: then all are read again.
         let fresh = std::mem::replace(&mut self.fresh, true);

@@ -1,10 +1,11 @@
-use Rattle.std.proofs.Common.{◌≡◌, ◌∙◌, ℕ, ◌+◌, ◌≤◌, ◌<◌, nat_lt, List, [], length, get_or, refl, ap, arith}
+use Rattle.std.proofs.Common.{◌≡◌, ◌∙◌, ℕ, ◌≤◌, ◌<◌, nat_lt, Bool, false, List, [], length, get_or, refl, sym, ap, arith}
 use Rattle.std.proofs.lemmas.Result.{err_from_is_err_and}
 use Rattle.mas_types.specs.declared.ids.Page.{Page}
 use Rattle.ckpt_tables.specs.Pages.{page_in}
 use Rattle.ckpt_tables.specs.Shape.{level_in}
-use Rattle.member_node.specs.Wanted.{one_if}
 use Rattle.member_node.proofs.ReadLemmas.{error_later}
+use Rattle.page_marks.specs.Marks.{is_marked}
+use Rattle.member_node.proofs.MirrorLemmas.{differ_more}
 use Rattle.member_node.proofs.RedrawLemmas.{page_with}
 use Rattle.member_node.proofs.WantedLemmas.{above_count, above_next, above_start, one_most, page_at}
 use Rattle.member_node.proofs.reading.read_above.Goals as goal
@@ -30,6 +31,7 @@ loop-page-init g c =
       copy1 = refl;
       copy2 = refl;
       read = above_start P.tells c.args.by.0 x.pair.first.alive x.pair.second.alive (P.view x.plant) g.C.Copying.reads c.args.level c.args.room.now c.requires.alive (omega (arith, c.requires.some));
+      differ = λ q off. refl;
     }
 
 pub read_newer-requires-clause-alive : goal.read_newer-requires-clause-alive
@@ -52,8 +54,10 @@ loop-page-preserved g c =
     let page = c.loop-page.page in
     let first : 1 ≤ c.loop-page.page = omega arith in
     let lt : c.loop-page.page < length c.loop-page.room = omega arith in
+    let long : c.loop-page.page < length c.loop-page.differ.pages = omega (arith, lt, i.read.many, c.requires.few, c.loop-page.differ.many) in
     let header : (get_or c.loop-page.room 0 (page_with [])).0 ≡ page_in c.loop-page.room 0 = page_at room 0 (page_with []) (omega (arith, first, lt)) in
     let here : (get_or c.loop-page.room c.loop-page.page (page_with [])).0 ≡ page_in c.loop-page.room c.loop-page.page = page_at room page (page_with []) lt in
+    let stays : c.is_newer-newer.result ≡ false → c.read_newer.new.into.0 ≡ page_in c.loop-page.room c.loop-page.page = λ old. ap (λ (p : Page). p.0) (e.stays old) ∙ here in
     record {
       base = e.base ∙ i.base;
       printed = e.printed ∙ i.printed;
@@ -73,7 +77,8 @@ loop-page-preserved g c =
       read = above_next P.tells c.args.by.0 x.pair.first.alive z.pair.first.alive w.pair.first.alive x.pair.second.alive z.pair.second.alive w.pair.second.alive (P.view x.plant) (P.view z.plant) (P.view w.plant) g.C.Copying.reads
           c.args.level page c.loop-page.count c.in_ok-read.read c.is_newer-newer.result c.args.room.now room c.read_newer.new.into i.read first lt
           (c.is_newer-newer.ensures ∙ ap (λ (p : List ℕ). nat_lt c.args.level (level_in p page)) header) e.count
-          e.read.acts e.read.spares e.loses e.acts e.read.cause (λ old. ap (λ (p : Page). p.0) (e.stays old) ∙ here) e.page;
+          e.read.acts e.read.spares e.loses e.acts e.read.cause stays e.page;
+      differ = λ q off. differ_more c.is_newer-newer.result page c.loop-page.differ.pages room c.args.room.now c.read_newer.new.into long lt stays i.differ q (ap (λ (m : List Bool). is_marked m q) (sym c.mark_if.ensures) ∙ off);
     }
 
 pub returns-in_err-read-clause-read : goal.returns-in_err-read-clause-read
@@ -92,6 +97,9 @@ returns-clause-header g c = c.loop-page.invariant.read.header
 
 pub returns-clause-none : goal.returns-clause-none
 returns-clause-none g c = c.loop-page.invariant.read.none
+
+pub returns-clause-differ : goal.returns-clause-differ
+returns-clause-differ g c = c.loop-page.invariant.differ
 
 pub returns-clause-count : goal.returns-clause-count
 returns-clause-count g c =

@@ -1,4 +1,6 @@
-use Rattle.std.proofs.Common.{◌≡◌}
+use Rattle.std.proofs.Common.{◌≡◌, ℕ, false}
+use Rattle.ckpt_tables.specs.Pages.{page_in}
+use Rattle.page_marks.specs.Marks.{is_marked}
 use Rattle.member_node.proofs.WantedLemmas.{IsReadAbove}
 use Rattle.member_node.proofs.reading.read_above.Given as goal
 
@@ -25,4 +27,5 @@ invariant-loop-page g l =
       copy1 : z.pair.first.copy ≡ x.pair.first.copy;
       copy2 : z.pair.second.copy ≡ x.pair.second.copy;
       read : IsReadAbove P.tells l.by.0 x.pair.first.alive z.pair.first.alive x.pair.second.alive z.pair.second.alive (P.view x.plant) (P.view z.plant) C.reads l.level l.page l.count l.fn.room l.room;
+      differ : (q : ℕ) → is_marked l.differ.pages q ≡ false → page_in l.room q ≡ page_in l.fn.room q;
     }

@@ -1,4 +1,4 @@
-use Rattle.std.proofs.Common.{◌≡◌, ℕ, Bool, sym, ap}
+use Rattle.std.proofs.Common.{ℕ, Bool, sym, ap}
 use Rattle.std.proofs.lemmas.Result.{err_from_is_err_and}
 use Rattle.duplex_pair.proofs.ActCounting.{no_acts, one_read}
 use Rattle.member_node.specs.Wanted.{one_if}

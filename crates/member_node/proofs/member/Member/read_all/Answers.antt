@@ -1,4 +1,4 @@
-use Rattle.std.proofs.Common.{◌≡◌, ◌∙◌, ◌+◌, ℕ, Bool, false, length, ap, sym, subst}
+use Rattle.std.proofs.Common.{◌∙◌, ℕ, Bool, false, length, ap, sym, subst}
 use Rattle.std.proofs.lemmas.Result.{err_from_is_err_and}
 use Rattle.ckpt_pages.specs.Given.{levels_given}
 use Rattle.duplex_pair.proofs.ActCounting.{one_read}

@@ -1,4 +1,4 @@
-use Rattle.std.proofs.Common.{◌≤◌, ◌^◌, ◌&&◌, ◌∙◌, Bool, ap, sym, length, rules}
+use Rattle.std.proofs.Common.{◌≤◌, ◌^◌, ◌∙◌, inl, Bool, List, ap, sym, subst, length, rules}
 use Rattle.std.proofs.Math.Logic.{∥∥₁_map}
 use Rattle.mas_types.specs.declared.ids.Dev.TheVariants.{Ckpt1, Ckpt2}
 use Rattle.spool_plant.specs.View.{disk_now}
@@ -7,7 +7,10 @@ use Rattle.mas_complex.specs.Meaning.{run}
 use Rattle.ckpt_tables.specs.Pages.{Spell}
 use Rattle.ckpt_pages.proofs.DecodingLemmas.{one_queue, one_value}
 use Rattle.queue_tables.proofs.ToldLemmas.{pages_alike}
-use Rattle.member_node.proofs.ReadyLemmas.{ready_copy, ready_count, ready_draft, ready_level, ready_mirrors, ready_raises}
+use Rattle.member_node.specs.Mirrors.{IsMirrorBut}
+use Rattle.page_tables.specs.Bringing.{are_orders_low}
+use Rattle.member_node.proofs.EntryLemmas.{err_any, facts_same}
+use Rattle.member_node.proofs.ReadyLemmas.{ready_copy, ready_count, ready_draft, ready_level, ready_mirror, ready_raises}
 use Rattle.member_node.proofs.member.Member.ready.Goals as goal
 
 pub returns-clause-level : goal.returns-clause-level
@@ -49,24 +52,37 @@ returns-clause-draft2 g c =
       few : length c.args.self.now.batch ≤ 2 ^ 14
       few = search (rules, c.in_ok-reserve.ensures.few)
 
+pub returns-in_err-draft-clause-given_up : goal.returns-in_err-draft-clause-given_up
+returns-in_err-draft-clause-given_up g c = err_any c.from_residual.result (inl (facts_same c.args.self.now _ _ _))
+
 pub returns-clause-grown : goal.returns-clause-grown
 returns-clause-grown g c placed = let grown = c.in_ok-reserve.ensures.grown placed in (grown.0, grown.1)
 
--- pages that were drawn are those of the tables, and the room mirrors them where none changed
+-- pages that were drawn are those of the tables, and the room has each other page as before
 pub invariant_of-self-in-Break-branch-2 : goal.invariant_of-self-in-Break-branch-2
 invariant_of-self-in-Break-branch-2 g c =
-    let k = c.args.self.now in
+    let m = c.args.self.now in
+    let k = m.checkpoint in
     let n = c.redraw.new.checkpoint in
+    let e = c.redraw.ensures in
+    let same = ready_mirror c.in_ok-draft.draft k n m.room m.differ.pages m.differ.many c.requires.draws.sized e.drawn.sized (ready_count k n c.requires.draws e.tables e.drawn) e.draft m.mirrored in
     record {
-      mirrored = λ both. ready_mirrors c.in_ok-draft.draft k.mirrors k.checkpoint.level n.level k.room k.checkpoint.pages n.pages c.redraw.ensures.draft k.mirrored (ap (λ (b : Bool). k.mirrors && b) (sym c.is_same.ensures) ∙ both);
-      unchanged = λ is. c.redraw.ensures.drawn.spelled.each;
+      mirrored = subst (λ (marks : List Bool). IsMirrorBut marks m.room n.pages) (sym c.mark_drawn.ensures) same;
+      unchanged = λ p lt none. e.drawn.spelled.each p lt;
+      ordered = λ read. absurd (cc);
     }
 
 pub invariant_of-self-2-clause-unchanged : goal.invariant_of-self-2-clause-unchanged
-invariant_of-self-2-clause-unchanged g c is = c.redraw.ensures.drawn.spelled.each
+invariant_of-self-2-clause-unchanged g c p lt none = c.redraw.ensures.drawn.spelled.each p lt
 
 pub invariant_of-self-2-clause-mirrored : goal.invariant_of-self-2-clause-mirrored
-invariant_of-self-2-clause-mirrored g c both =
-    let k = c.args.self.now in
+invariant_of-self-2-clause-mirrored g c =
+    let m = c.args.self.now in
+    let k = m.checkpoint in
     let n = c.redraw.new.checkpoint in
-    ready_mirrors c.in_ok-draft.draft k.mirrors k.checkpoint.level n.level k.room k.checkpoint.pages n.pages c.redraw.ensures.draft k.mirrored (ap (λ (b : Bool). k.mirrors && b) (sym c.is_same.ensures) ∙ both)
+    let e = c.redraw.ensures in
+    let same = ready_mirror c.in_ok-draft.draft k n m.room m.differ.pages m.differ.many c.requires.draws.sized e.drawn.sized (ready_count k n c.requires.draws e.tables e.drawn) e.draft m.mirrored in
+    subst (λ (marks : List Bool). IsMirrorBut marks m.room n.pages) (sym c.mark_drawn.ensures) same
+
+pub invariant_of-self-2-clause-ordered : goal.invariant_of-self-2-clause-ordered
+invariant_of-self-2-clause-ordered g c read = ap are_orders_low c.redraw.ensures.tables ∙ c.args.self.now.ordered (sym c.replace-fresh.ensures.value ∙ read)

@@ -1,5 +1,5 @@
 use Rattle.std.proofs.Common.{◌≡◌, ◌∙◌, ℕ, List, false, length, refl, sym, ap, subst, arith}
-use Rattle.std.proofs.Math.Logic.{∥∥₁_map, ∥∥₁_map₂}
+use Rattle.std.proofs.Math.Logic.{∥∥₁_map₂}
 use Rattle.std.proofs.lemmas.Bool.{eqb-true}
 use Rattle.std.proofs.lemmas.Result.{err_from_is_err_and}
 use Rattle.mas_types.specs.declared.ids.Dev.TheVariants.{Ckpt1, Ckpt2}
@@ -9,20 +9,23 @@ use Rattle.spool_plant.specs.View.{disk_now}
 use Rattle.mas_complex.specs.Journals.{kept_all}
 use Rattle.mas_complex.specs.Meaning.{run}
 use Rattle.member_node.specs.Reads.{ArePagesOf, HasRead, ReadsAs, copies_alive}
-use Rattle.member_node.specs.Mirrors.{IsMirror}
+use Rattle.member_node.specs.Mirrors.{IsMirror, IsMirrorBut}
 use Rattle.member_node.specs.Wanted.{AreUnchanged, level_had, wanted}
 use Rattle.ckpt_copy.specs.Pages.{page_in as page_of_bytes}
 use Rattle.ckpt_tables.specs.Pages.{page_in}
-use Rattle.ckpt_tables.specs.Shape.{page_count}
+use Rattle.ckpt_tables.specs.Shape.{HasSpelling, page_count}
+use Rattle.page_tables.specs.Bringing.{AreOlder}
 use Rattle.ckpt_pages.specs.Given.{levels_given}
 use Rattle.spool_plant.specs.declared.plant.Part.TheVariants.{Disk}
 use Rattle.mas_complex.specs.Kept.{HaveKept}
 use Rattle.mas_complex.specs.Past.{HavePasts, sight_of, values_of}
 use Rattle.mas_complex.proofs.Pasts.{before_unsure}
+use Rattle.member_node.proofs.HeaderLemmas.{own_low}
+use Rattle.member_node.proofs.MirrorLemmas.{mirror_all}
 use Rattle.member_node.proofs.WantedLemmas.{own_unchanged}
 use Rattle.member_node.specs.Spares.{Spares}
 use Rattle.member_node.specs.declared.checkpoint.Checkpoint.{Checkpoint}
-use Rattle.member_node.proofs.AlikeLemmas.{own_spell}
+use Rattle.member_node.proofs.AlikeLemmas.{own_older, own_spell}
 use Rattle.member_node.proofs.ReadLemmas.{error_later, fewer_then, lost_later_read, read_then, read_whole, room_after}
 use Rattle.member_node.proofs.SpareLemmas.{spares_for, spares_then}
 use Rattle.member_node.proofs.member.Member.second_read.Goals as goal
@@ -33,10 +36,28 @@ are_spelled-requires-clause-own g c on =
     let some : SpellSome c.spelled.self.room = subst SpellSome (sym (c.spelled.invariant.alike on)) (own_spell c.args.self.now.checkpoint c.requires.drawn) in
     rw c.as_slice.ensures some
 
-pub read_wanted-requires-clause-mirrors : goal.read_wanted-requires-clause-mirrors
-read_wanted-requires-clause-mirrors g c on =
+-- and each page that doesn't differ is that of the member's tables
+pub are_spelled-requires-clause-spelling : goal.are_spelled-requires-clause-spelling
+are_spelled-requires-clause-spelling g c = subst (λ (k : Checkpoint). HasSpelling k.tables) (sym c.spelled.invariant.checkpoint) c.requires.drawn.spelling
+
+pub are_spelled-requires-clause-older : goal.are_spelled-requires-clause-older
+are_spelled-requires-clause-older g c =
+    let i = c.spelled.invariant in
     let s = c.args.self.now in
-    subst (λ (ps : List Page). IsMirror c.as_mut_slice.result.now ps) (sym c.as_slice-own.ensures) (subst (λ (ps : List Page). IsMirror ps s.checkpoint.pages) (sym c.as_mut_slice.ensures.value) (s.mirrored on))
+    let older : AreOlder s.checkpoint.tables c.spelled.self.room c.spelled.differ.pages =
+    own_older s.checkpoint c.spelled.self.room c.spelled.differ.pages c.requires.drawn (i.as_many ∙ c.requires.many) (omega (arith, i.as_many, c.requires.few)) i.mirrored in
+    rw c.as_slice.ensures (subst (λ (k : Checkpoint). AreOlder k.tables c.spelled.self.room c.spelled.differ.pages) (sym i.checkpoint) older)
+
+pub read_wanted-requires-clause-mirrors : goal.read_wanted-requires-clause-mirrors
+read_wanted-requires-clause-mirrors g c =
+    let s = c.args.self.now in
+    let m : IsMirrorBut s.differ.pages c.as_mut_slice.result.now s.checkpoint.pages = subst (λ (ps : List Page). IsMirrorBut s.differ.pages ps s.checkpoint.pages) (sym c.as_mut_slice.ensures.value) s.mirrored in
+    rw c.as_slice-own.ensures m
+
+pub read_wanted-requires-clause-low : goal.read_wanted-requires-clause-low
+read_wanted-requires-clause-low g c =
+    let s = c.args.self.now in
+    rw (c.level-level.ensures, c.as_slice-own.ensures) (own_low c.law_of_levels.ensures.given s.checkpoint c.requires.drawn s.fresh)
 
 -- which they are where no page was read and page 0 is the same
 pub are_own-requires-clause-many : goal.are_own-requires-clause-many
@@ -80,6 +101,23 @@ read_from-requires-clause-calm2 g c =
       before = l.second ∙ i.second ∙ c.requires.calm2.before;
       as_many = λ on. ap (length {A = Page}) c.as_mut_slice-room.ensures.value ∙ i.as_many ∙ c.requires.calm2.as_many (i.acts.course.alive2 (l.read.acts.course.alive2 on)) ∙ sym (ap g.C.Copying.count (l.copy2 ∙ i.copy2));
     }
+
+-- each page may differ, until it is known which do
+pub invariant_of-self : goal.invariant_of-self
+invariant_of-self g c =
+    let s = c.args.self.now in
+    record { mirrored = mirror_all _ _ _ c.all-self.ensures; unchanged = s.unchanged; ordered = s.ordered }
+
+pub invariant_of-self-2-clause-mirrored : goal.invariant_of-self-2-clause-mirrored
+invariant_of-self-2-clause-mirrored g c = mirror_all _ _ _ c.all-self.ensures
+
+pub invariant_of-self-in-spelled-clause-mirrored : goal.invariant_of-self-in-spelled-clause-mirrored
+invariant_of-self-in-spelled-clause-mirrored g c = mirror_all _ _ _ c.spelled.invariant.all
+
+pub invariant_of-self-3-clause-mirrored : goal.invariant_of-self-3-clause-mirrored
+invariant_of-self-3-clause-mirrored g c =
+    let i = c.spelled.invariant in
+    subst (λ (k : Checkpoint). IsMirrorBut c.spelled.differ.pages c.spelled.self.room k.pages) (sym i.checkpoint) i.mirrored
 
 pub spelled-smaller : goal.spelled-smaller
 spelled-smaller g c =
@@ -137,6 +175,8 @@ spelled-init g c =
       count = λ told. c.in_ok-count.ensures.count ∙ ap (λ (l : ℕ). length (wanted l (levels_given room))) c.level-level.ensures ∙ ap (λ (ps : List Page). length (wanted (level_had s.fresh s.checkpoint.level) (levels_given ps))) (sym after);
       took = λ told. e.acts;
       alike = λ on. sym c.as_slice-read.ensures ∙ c.are_own.ensures on ∙ c.as_slice-own.ensures;
+      all = c.all-self.ensures;
+      mirrored = rw after (subst (λ (ps : List Page). IsMirrorBut c.read_wanted.new.differ.pages c.read_wanted.new.room ps) c.as_slice-own.ensures e.differ);
       as_many = ap (length {A = Page}) after ∙ e.many ∙ ap (length {A = Page}) v;
       some = e.read.cause;
       acts = e.read.acts;
@@ -189,6 +229,8 @@ spelled-preserved g c =
       count = λ told. absurd (c.are_spelled.ensures.bad c.spelled-test.true told);
       took = λ told. absurd (c.are_spelled.ensures.bad c.spelled-test.true told);
       alike = λ on. absurd (cc);
+      mirrored = mirror_all _ _ _ c.all-differ.ensures;
+      all = i.all;
       as_many = ap (length {A = Page}) after ∙ e.as_many ∙ ap (length {A = Page}) v ∙ i.as_many;
       some = e.read.cause;
       acts = read_then P.tells x.pair.first.alive y.pair.first.alive w.pair.first.alive x.pair.second.alive y.pair.second.alive w.pair.second.alive (P.view x.plant) (P.view y.plant) (P.view w.plant) lost e.read.acts;
@@ -244,6 +286,9 @@ returns-clause-rests2 g c =
       as_many = λ on. i.as_many ∙ c.requires.calm2.as_many (i.acts.course.alive2 on) ∙ sym (ap g.C.Copying.count i.copy2);
       reads = rw c.as_slice.ensures at c.are_spelled.ensures.reads2;
     }
+
+pub returns-clause-stand : goal.returns-clause-stand
+returns-clause-stand g c = rw c.as_slice.ensures at c.are_spelled.ensures.stand
 
 pub returns-clause-acts : goal.returns-clause-acts
 returns-clause-acts g c = c.spelled.invariant.took

@@ -1,9 +1,11 @@
-use Rattle.std.proofs.Common.{◌≡◌, true, false, length}
+use Rattle.std.proofs.Common.{◌≡◌, true, false, length, replicate}
+use Rattle.mas_types.specs.Limits.{pages_most}
 use Rattle.mas_types.specs.declared.ids.Dev.TheVariants.{Ckpt1, Ckpt2}
 use Rattle.spool_plant.specs.View.{disk_now}
 use Rattle.duplex_pair.specs.Halves.{SomeAlive}
 use Rattle.mas_complex.specs.Journals.{kept_all}
 use Rattle.mas_complex.specs.Meaning.{run}
+use Rattle.member_node.specs.Mirrors.{IsMirrorBut}
 use Rattle.member_node.specs.Reads.{HasRead, IsReadWhole, TookActs, copies_alive}
 use Rattle.member_node.specs.Spares.{Spares}
 use Rattle.member_node.specs.Wanted.{level_had, wanted}
@@ -44,6 +46,8 @@ invariant-spelled g l =
       count : P.tells → l.count ≡ length (wanted (level_had l.fn.self.fresh l.fn.self.checkpoint.level) (levels_given l.self.room));
       took : P.tells → TookActs l.count x.pair.first.alive z.pair.first.alive x.pair.second.alive z.pair.second.alive (P.view x.plant) (P.view z.plant);
       alike : l.alike ≡ true → l.self.room ≡ l.fn.self.checkpoint.pages;
+      mirrored : IsMirrorBut l.differ.pages l.self.room l.fn.self.checkpoint.pages;
+      all : l.self.differ.pages ≡ replicate pages_most true;
       as_many : length l.self.room ≡ length l.fn.self.room;
       some : SomeAlive z.pair.first.alive z.pair.second.alive;
       acts : HasRead P.tells x.pair.first.alive z.pair.first.alive x.pair.second.alive z.pair.second.alive (P.view x.plant) (P.view z.plant);

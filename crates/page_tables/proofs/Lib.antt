@@ -1,0 +1,4 @@
+pub mod PartLemmas
+pub mod HeaderOver
+pub mod SlotLemmas
+pub mod TakeLemmas

@@ -1,0 +1,11 @@
+//! Tables brought up to pages that differ from theirs where marks are: only these pages are read, and only their slots
+//! are written.
+#![tactic(auto)]
+
+mod bringing;
+mod header;
+mod kinds;
+mod slots;
+
+pub use bringing::{bring_up, can_bring_up};
+pub use header::order_of;
