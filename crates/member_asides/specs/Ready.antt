@@ -45,10 +45,10 @@ pub record MayBeGiven (base : Queue) (by : MemberId) (c : Command) : Type 0 wher
 
 -- WHERE IT WAITS. The facts on a queue hold of each that the member's tables tell, if none is named.
 
--- The job is there, whatever the plant tells. It is under way where the tables have the sound parts.
-pub record IsJobReady (t : Tables) (n : JobNo) : Type 0 where
+-- The job is there, whatever the plant tells. It is under way at the member where the tables have the sound parts.
+pub record IsJobReady (t : Tables) (by : MemberId) (n : JobNo) : Type 0 where
   pub there : (Q : Queue) → Tell t Q → is_some (job_at Q n) ≡ true
-  pub under_way : (Q : Queue) → Tell t Q → TellSound t → IsUnderWay Q n
+  pub under_way : (Q : Queue) → Tell t Q → TellSound t → IsUnderWay Q by n
 
 -- The output is there, whatever the plant tells. It is busy at the member where the tables have the sound parts. And
 -- this is the last of its lines that are printed next.
@@ -58,18 +58,19 @@ pub record IsOutputReady (t : Tables) (by : MemberId) (n : JobNo) (i : OutNo) (l
   pub printing : (Q : Queue) → Tell t Q → TellSound t → IsPrinting Q by n i
   pub chunk : (Q : Queue) (o : Output) → Tell t Q → output_at Q n i ≡ Some o → last ≡ chunk_end Q by o
 
--- The member has the groups that the outputs of a job need. Where content is told the job is under way in the queue.
+-- The member has the groups that the outputs of a job need. Where content is told the job is under way at it in the
+-- queue.
 pub record AreOutputsReady (told : Type 0) (Q : Queue) (t : Tables) (by : MemberId) (n : JobNo) (specs : List OutSpec)
     : Type 0 where
   pub outputs : AreOutputs specs
   pub some : 1 ≤ groups_of_outputs specs
   pub enough : groups_of_outputs specs ≤ member_count by t.owners
-  pub job : told → IsUnderWay Q n
+  pub job : told → IsUnderWay Q by n
 
 -- a unit waits for what it begins with
 abbrev pub IsReadyUnit : Tables → MemberId → Aside → Type 0
 IsReadyUnit t by (SpoolDeck n text) = ⊥
-IsReadyUnit t by (ReadText runs n fields p) = IsJobFields fields × IsJobReady t n
+IsReadyUnit t by (ReadText runs n fields p) = IsJobFields fields × IsJobReady t by n
 IsReadyUnit t by (SpoolOutputs n specs p) = ⊥
 IsReadyUnit t by (PrintLines n i last p) = IsOutputReady t by n i last
 IsReadyUnit t by (Exchange l offer) = ⊥
@@ -79,7 +80,7 @@ IsReadyUnit t by (Acknowledge number s) = ⊥
 -- a step waits, at this queue
 abbrev pub IsReadyFor : Type 0 → Queue → Tables → MemberId → Aside → Type 0
 IsReadyFor told Q t by (SpoolDeck n text) = ⊥
-IsReadyFor told Q t by (ReadText runs n fields p) = IsJobFields fields × IsJobReady t n
+IsReadyFor told Q t by (ReadText runs n fields p) = IsJobFields fields × IsJobReady t by n
 IsReadyFor told Q t by (SpoolOutputs n specs p) = AreOutputsReady told Q t by n specs
 IsReadyFor told Q t by (PrintLines n i last p) = IsOutputReady t by n i last
 IsReadyFor told Q t by (Exchange l offer) = ⊥
@@ -104,16 +105,16 @@ pub record HasFewer (sittings units : ℕ) (s : State) : Type 0 where
 -- the job's outputs stand in the lowest groups of the member, unless a volume of theirs was found lost
 pub record OutputsStand (told : Type 0) (Q : Queue) (by : MemberId) (disks : Spools) (per : ℕ) (n : JobNo)
     (specs : List OutSpec) (lost : Option ℕ) : Type 0 where
-  pub job : told → IsUnderWay Q n
+  pub job : told → IsUnderWay Q by n
   pub there : lost ≡ None → told
       → AreSpooled disks per (outputs_at_end (job_at Q n) specs) (take (groups_for_end Q n specs) (held_by by Q.owners))
 
--- A step may go on with a job that is under way still, whose text was read, or whose outputs stand there; or with an
+-- A step may go on with a job that is under way at the member still, whose text was read, or whose outputs stand there; or with an
 -- output whose lines stand on paper, unless one couldn't be printed.
 abbrev pub MayResume : Type 0 → Queue → MemberId → Spools → (MemberId → ℕ) → Aside → Found → Type 0
 MayResume told Q by disks counts (SpoolDeck n text) found = ⊥
 MayResume told Q by disks counts (ReadText runs n fields p) found = IsJobFields fields × IsReadable found.read
-    × (told → IsUnderWay Q n)
+    × (told → IsUnderWay Q by n)
 MayResume told Q by disks counts (SpoolOutputs n specs p) found = AreOutputs specs
     × OutputsStand told Q by disks Q.config.groups n specs found.lost
 MayResume told Q by disks counts (PrintLines n i last p) found = IsIndex i.0

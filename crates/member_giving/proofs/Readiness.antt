@@ -32,7 +32,7 @@ output_there : (by : MemberId) (p : Progress) (Q : Queue) (o : Option Output) (a
 output_there by p Q None a e = absurd (cc)
 output_there by p Q (Some o) a e = refl
 
-pub text_ready : (t : Tables) (by : MemberId) (runs : Bool) (n : JobNo) (p : Progress) (x : Next) → IsText t runs n p x → ((Q : Queue) → Tell t Q → TellSound t → IsUnderWay Q n) → IsRightNext t by x
+pub text_ready : (t : Tables) (by : MemberId) (runs : Bool) (n : JobNo) (p : Progress) (x : Next) → IsText t runs n p x → ((Q : Queue) → Tell t Q → TellSound t → IsUnderWay Q by n) → IsRightNext t by x
 text_ready t by runs n p x text job = let s = tells_some t in by_job (job_at s.0 n) (text.is s.0 s.1) where
   by_job : (o : Option Job) → x ≡ text_of runs p o → IsRightNext t by x
   by_job None is = subst (IsRightNext t by) (sym is) tt
@@ -42,7 +42,7 @@ text_ready t by runs n p x text job = let s = tells_some t in by_job (job_at s.0
         right.1,
         record {
           there = λ Q told. subst (λ (k : JobNo). is_some (job_at Q k) ≡ true) (sym right.0) (job_there runs p (job_at Q n) (ReadText runs j.number j.fields p) (sym (text.is Q told) ∙ is));
-          under_way = λ Q told sound. subst (λ (k : JobNo). IsUnderWay Q k) (sym right.0) (job Q told sound);
+          under_way = λ Q told sound. subst (λ (k : JobNo). IsUnderWay Q by k) (sym right.0) (job Q told sound);
         },
       )
 

@@ -29,7 +29,7 @@ by_cancelled : (b : Bool) (disks : Spools) (per : ℕ) (specs : List OutSpec) (g
 by_cancelled true disks per specs groups spooled = tt
 by_cancelled false disks per specs groups spooled = spooled
 
-pub outputs_resume : (told : Type 0) (t : Tables) (Q : Queue) (by : MemberId) (disks : Spools) (per : ℕ) (n : JobNo) (specs : List OutSpec) (lost : Option ℕ) → (told → Tell t Q) → (told → IsUnderWay Q n) → (lost ≡ None → told → AreSpooled disks per specs (lowest_for by t.owners specs)) → OutputsStand told Q by disks per n specs lost
+pub outputs_resume : (told : Type 0) (t : Tables) (Q : Queue) (by : MemberId) (disks : Spools) (per : ℕ) (n : JobNo) (specs : List OutSpec) (lost : Option ℕ) → (told → Tell t Q) → (told → IsUnderWay Q by n) → (lost ≡ None → told → AreSpooled disks per specs (lowest_for by t.owners specs)) → OutputsStand told Q by disks per n specs lost
 outputs_resume told t Q by disks per n specs lost tell job spooled = record {
   job = job;
   there = λ none again.

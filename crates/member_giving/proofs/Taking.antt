@@ -2,6 +2,7 @@
 use Rattle.std.proofs.Common.{◌≡◌, ◌∙◌, ℕ, zero, suc, ◌+◌, ◌*◌, ◌≤◌, Bool, true, false, if◌then◌else◌, List, [], ◌∷◌, ◌++◌, length, None, Result, Ok, Err, append-nil, ap, refl, sym, arith}
 use Rattle.mas_types.specs.declared.commands.Command.{Command}
 use Rattle.mas_types.specs.declared.ids.JobNo.{JobNo}
+use Rattle.mas_types.specs.declared.ids.MemberId.{MemberId}
 use Rattle.mas_types.specs.declared.jobs.OutSpec.{OutSpec}
 use Rattle.mas_types.specs.declared.journals.Entry.{Entry}
 use Rattle.mas_types.specs.declared.queues.Queue.{Queue}
@@ -124,8 +125,8 @@ module _ {P C : Type 0} {plants : PlantGhosts P} {steadies : SteadyGhosts C} {co
 
   -- the job is under way still once all groups are taken
   pub still_under_way : (x y : Complex P C plants steadies copies) (m n : Member) (h : Holder) (job : JobNo) (needed : ℕ) → 1 ≤ needed → plants.tells → (end : UnitEnd) → end ≡ ends.Done
-      → HasGiven plants.tells h (taking (queue_here x m) h.by needed) (taken_end (queue_here x m) h.by h.step needed) (place_of x m) (place_of y n) (Ok end) → IsUnderWay (queue_here x m) job → IsUnderWay (queue_here y n) job
-  still_under_way x y m n h job needed some t end done g job_is =
+      → HasGiven plants.tells h (taking (queue_here x m) h.by needed) (taken_end (queue_here x m) h.by h.step needed) (place_of x m) (place_of y n) (Ok end) → (at : MemberId) → IsUnderWay (queue_here x m) at job → IsUnderWay (queue_here y n) at job
+  still_under_way x y m n h job needed some t end done g at job_is =
       let Q : Queue = queue_here x m in
       let taken = queue_is Q h.by h.step needed some (sym (g.ends t) ∙ done) g.es (g.is t) in
-      under_way_taken Q (queue_here y n) h.by needed job (g.queue ∙ taken) job_is
+      under_way_taken Q (queue_here y n) h.by at needed job (g.queue ∙ taken) job_is

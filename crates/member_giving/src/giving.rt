@@ -163,7 +163,7 @@ pub fn end_job<P: Plant + Drop, C: Steady + Drop>(
     requires level { complex.old.level + 1 < 2 ^ 63 }
     requires nothing { member.old.batch ≡ [] }
     requires outputs { AreOutputs outputs }
-    requires under_way { P.tells → IsUnderWay (queue_kept complex.old) job }
+    requires under_way { P.tells → IsUnderWay (queue_kept complex.old) member.old.id job }
     requires spooled { P.tells → AreSpooled (spools_at (P.view complex.old.plant) (P.view complex.old.plant).now)
         complex.old.base.config.groups (outputs_at_end (job_at (queue_kept complex.old) job) outputs)
         (take (groups_for_end (queue_kept complex.old) job outputs)

@@ -120,7 +120,7 @@ fn job_ends<P: Plant + Drop, C: Steady + Drop>(
     requires low { IsLow complex.old member.old }
     requires nothing { member.old.batch ≡ [] }
     requires outputs { AreOutputs ends.outputs }
-    requires under_way { P.tells → IsUnderWay (queue_kept complex.old) ends.job }
+    requires under_way { P.tells → IsUnderWay (queue_kept complex.old) member.old.id ends.job }
     requires level { complex.old.level + ends.progress.left + 4 < too_high }
     requires units { ends.progress.done + ends.progress.left < 9999 }
     ensures run { run_of complex.new member.new ≡ run_of complex.old member.old }
@@ -170,7 +170,7 @@ fn text_read<P: Plant + Drop, C: Steady + Drop>(
     requires nothing { member.old.batch ≡ [] }
     requires fits { AreFitOutputs outcome }
     requires named { IsNamedOutcome outcome }
-    requires under_way { P.tells → IsUnderWay (queue_kept complex.old) job.job }
+    requires under_way { P.tells → IsUnderWay (queue_kept complex.old) member.old.id job.job }
     requires level { complex.old.level + job.progress.left + 4 < too_high }
     requires units { job.progress.done + job.progress.left < 9999 }
     ensures run { run_of complex.new member.new ≡ run_of complex.old member.old }

@@ -82,10 +82,11 @@ take_jobs Q by want = test_cases (free_count Q.owners == 0) ((step Q by (command
 take_outputs : (Q : Queue) (by : MemberId) (want : ℕ) → (step Q by (command.Take want)).0.outputs ≡ Q.outputs
 take_outputs Q by want = test_cases (free_count Q.owners == 0) ((step Q by (command.Take want)).0.outputs ≡ Q.outputs) (λ e. rw e refl) (λ e. rw e refl)
 
-pub under_way_taken : (Q R : Queue) (by : MemberId) (want : ℕ) (n : JobNo) → R ≡ (step Q by (command.Take want)).0 → IsUnderWay Q n → IsUnderWay R n
-under_way_taken Q R by want n same u = record {
+pub under_way_taken : (Q R : Queue) (by at : MemberId) (want : ℕ) (n : JobNo) → R ≡ (step Q by (command.Take want)).0 → IsUnderWay Q at n → IsUnderWay R at n
+under_way_taken Q R by at want n same u = record {
   job = u.job;
   there = ap (λ (S : Queue). find (has_number n) S.jobs) same ∙ ap (find (has_number n)) (take_jobs Q by want) ∙ u.there;
+  busy = u.busy;
   phase = u.phase;
   none = ap (λ (S : Queue). list_any (is_of n) S.outputs) same ∙ ap (list_any (is_of n)) (take_outputs Q by want) ∙ u.none;
 }

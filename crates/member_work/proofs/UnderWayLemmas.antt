@@ -17,7 +17,7 @@ use Rattle.mas_types.specs.declared.units.Unit as units
 use Rattle.mas_types.specs.declared.units.Unit.TheVariants as unit
 use Rattle.mas_types.specs.Commands.Life.{runs}
 use Rattle.mas_types.specs.Fit.{AreDistinct, IsIndex}
-use Rattle.mas_types.specs.Ids.{is_somebody, same_number}
+use Rattle.mas_types.specs.Ids.{is_somebody, same_member, same_number}
 use Rattle.mas_types.specs.Lists.{first_some}
 use Rattle.mas_types.specs.Queue.{first_in, has_output, in_convert, in_execute, in_output, in_purge, is_busy_at, is_of, job_at, output_at, printing_at, prints_at, total}
 use Rattle.mas_types.specs.Selection.{for_convert, for_execute, for_printer}
@@ -107,17 +107,25 @@ both_first : (a b : Bool) → (a && b) ≡ true → a ≡ true
 both_first true b e = refl
 both_first false b e = absurd (cc)
 
--- the job at work is in the queue, in that phase
-at_work : (Q : Queue) (m : MemberId) (in_phase : Phase → Bool) (j : Job) → AreDistinct (λ x y. same_number x.number y.number) Q.jobs → working_at Q m in_phase ≡ Some j → (job_at Q j.number ≡ Some j) × (in_phase j.phase ≡ true)
+both_second : (a b : Bool) → (a && b) ≡ true → b ≡ true
+both_second true b e = e
+both_second false b e = absurd (cc)
+
+-- members of one number are one
+one_member : (a b : MemberId) → same_member a b ≡ true → a ≡ b
+one_member a b same = let e : a.0 ≡ b.0 = grind (arith, nat_tests, same) in ap (λ (n : ℕ). let m : MemberId = record { 0 = n } in m) e
+
+-- the job at work is in the queue, in that phase, and busy at the member
+at_work : (Q : Queue) (m : MemberId) (in_phase : Phase → Bool) (j : Job) → AreDistinct (λ x y. same_number x.number y.number) Q.jobs → working_at Q m in_phase ≡ Some j → (job_at Q j.number ≡ Some j) × (in_phase j.phase ≡ true) × (j.busy ≡ m)
 at_work Q m in_phase j distinct is =
-    test_cases (is_somebody m) ((job_at Q j.number ≡ Some j) × (in_phase j.phase ≡ true))
+    test_cases (is_somebody m) ((job_at Q j.number ≡ Some j) × (in_phase j.phase ≡ true) × (j.busy ≡ m))
     (λ e. there (rw e at is))
     (λ e. absurd (let none = rw e at is in cc))
   where
-    there : find (λ x. in_phase x.phase && is_busy_at m x) Q.jobs ≡ Some j → (job_at Q j.number ≡ Some j) × (in_phase j.phase ≡ true)
+    there : find (λ x. in_phase x.phase && is_busy_at m x) Q.jobs ≡ Some j → (job_at Q j.number ≡ Some j) × (in_phase j.phase ≡ true) × (j.busy ≡ m)
     there found =
         let here = find-All (IsFoundIn Q.jobs) (λ (x : Job). in_phase x.phase && is_busy_at m x) Q.jobs j (found_itself Q.jobs distinct) found in
-        (here.0, both_first (in_phase j.phase) (is_busy_at m j) here.1)
+        (here.0, both_first (in_phase j.phase) (is_busy_at m j) here.1, one_member j.busy m (both_second (in_phase j.phase) (is_busy_at m j) here.1))
 
 runs_execute : (p : Phase) → in_execute p ≡ true → runs p ≡ true
 runs_execute phase.Execute e = refl
@@ -206,19 +214,19 @@ none_of t Q n j s told found ran = by_found (job_at s.queue n) refl where
       one : (x : Job) → Some (jobs.rec_of x) ≡ Some (jobs.rec_of j) → jobs.rec_of x ≡ jobs.rec_of j
       one x e = cc
 
-under_way : (t : Tables) (Q : Queue) (m : MemberId) (n : JobNo) (in_phase : Phase → Bool) (j : Job) → ToldAreTheirOwn → TellSound t → Tell t Q → ((p : Phase) → in_phase p ≡ true → runs p ≡ true) → working_at Q m in_phase ≡ Some j → j.number ≡ n → IsUnderWay Q n
+under_way : (t : Tables) (Q : Queue) (m : MemberId) (n : JobNo) (in_phase : Phase → Bool) (j : Job) → ToldAreTheirOwn → TellSound t → Tell t Q → ((p : Phase) → in_phase p ≡ true → runs p ≡ true) → working_at Q m in_phase ≡ Some j → j.number ≡ n → IsUnderWay Q m n
 under_way t Q m n in_phase j own s told ran is number =
     let here = at_work Q m in_phase j (own t Q s told).numbers is in
     let found : job_at Q n ≡ Some j = subst (λ (k : JobNo). job_at Q k ≡ Some j) number here.0 in
     let runs_it : runs j.phase ≡ true = ran j.phase here.1 in
-    record { job = j; there = found; phase = runs_it; none = none_of t Q n j s told found runs_it }
+    record { job = j; there = found; busy = here.2; phase = runs_it; none = none_of t Q n j s told found runs_it }
 
-pub run_under_way : (t : Tables) (Q : Queue) (m : MemberId) (n : JobNo) → ToldAreTheirOwn → TellSound t → Tell t Q → unit.Run n ≡ unit_of Q m → IsUnderWay Q n
+pub run_under_way : (t : Tables) (Q : Queue) (m : MemberId) (n : JobNo) → ToldAreTheirOwn → TellSound t → Tell t Q → unit.Run n ≡ unit_of Q m → IsUnderWay Q m n
 run_under_way t Q m n own s told is =
     let w = run_is n (printing_at Q m) (for_printer Q m) (first_in in_purge Q) (first_in in_output Q) (working_at Q m in_execute) (working_at Q m in_convert) (for_execute Q m) (for_convert Q) (sym is) in
     under_way t Q m n in_execute w.0 own s told runs_execute w.1 w.2
 
-pub convert_under_way : (t : Tables) (Q : Queue) (m : MemberId) (n : JobNo) → ToldAreTheirOwn → TellSound t → Tell t Q → unit.Convert n ≡ unit_of Q m → IsUnderWay Q n
+pub convert_under_way : (t : Tables) (Q : Queue) (m : MemberId) (n : JobNo) → ToldAreTheirOwn → TellSound t → Tell t Q → unit.Convert n ≡ unit_of Q m → IsUnderWay Q m n
 convert_under_way t Q m n own s told is =
     let w = convert_is n (printing_at Q m) (for_printer Q m) (first_in in_purge Q) (first_in in_output Q) (working_at Q m in_execute) (working_at Q m in_convert) (for_execute Q m) (for_convert Q) (sym is) in
     under_way t Q m n in_convert w.0 own s told runs_convert w.1 w.2

@@ -67,6 +67,6 @@ IsSoundPlain t c = TellSound t × (brings_text c ≡ false)
 pub record MayEnd (t : Tables) (Q : Queue) (by : MemberId) (n : JobNo) (specs : List OutSpec) (disks : Spools)
     (per : ℕ) : Type 0 where
   pub sound : TellSound t
-  pub under_way : IsUnderWay Q n
+  pub under_way : IsUnderWay Q by n
   pub spooled : AreSpooled disks per (outputs_at_end (job_at Q n) specs)
       (take (groups_for_end Q n specs) (held_by by Q.owners))

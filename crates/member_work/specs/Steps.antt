@@ -156,10 +156,11 @@ pub record IsCommanded (told : Type 0) (by : MemberId) (at : ℕ) (c : Command) 
     pub played : IsPlayed told by at ((entry_with by at c reply ∷ []) ∷ []) (end_by reply) so_far is_left front batches
         was1 is1 was2 is2 old new result
 
--- the job with this number is in Convert or Execute, and has no output
-pub record IsUnderWay (Q : Queue) (n : JobNo) : Type 0 where
+-- the job with this number is in Convert or Execute, busy at the member, and has no output
+pub record IsUnderWay (Q : Queue) (by : MemberId) (n : JobNo) : Type 0 where
   pub job : Job
   pub there : job_at Q n ≡ Some job
+  pub busy : job.busy ≡ by
   pub phase : in_phases job.phase ≡ true
   pub none : has_output n Q ≡ false
 

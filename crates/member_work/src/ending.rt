@@ -54,7 +54,8 @@ pub fn end_given<P: Plant + Drop, C: Steady + Drop>(
     requires member { is_member complex.old.base.config member.old.id ≡ true }
     requires outputs { AreOutputs specs }
     requires nothing { member.old.batch ≡ [] }
-    requires under_way { P.tells → IsUnderWay (run complex.old.base (kept_all complex.old.journal.batches)) job }
+    requires under_way { P.tells
+        → IsUnderWay (run complex.old.base (kept_all complex.old.journal.batches)) member.old.id job }
     requires spooled { P.tells → AreSpooled (spools_at (P.view complex.old.plant) (P.view complex.old.plant).now)
         complex.old.base.config.groups
         (outputs_at_end (job_at (run complex.old.base (kept_all complex.old.journal.batches)) job) specs)

@@ -72,7 +72,8 @@ found_in book now found is was = record (looked_in book is was) {
 }
 
 -- The parts by the answer, at the moment after the call: those of the copies are as they are after it, and all else as
--- is said here. Who took the lock and was stopped then, or is out of memory, is stopped in the book and holds the lock.
+-- is said here. Who took the lock and was stopped then is stopped in the book, and holds the lock; so does one that is out
+-- of memory, which isn't stopped.
 abbrev pub taken_in : {P C : Type 0} → Result (List Page) TakeNo → ℕ → MemberId → MemberId → Parts P C → Parts P C
     → Parts P C
 taken_in (Ok pages) now by of is was = found_in (after_seize was.book by of) now (level (bytes_of pages)) is was
@@ -80,7 +81,7 @@ taken_in (Err StillUp) now by of is was = was
 taken_in (Err NotHolder) now by of is was = was
 taken_in (Err BothLost) now by of is was = looked_in (after_seize was.book by of) is was
 taken_in (Err Halted) now by of is was = looked_in (after_stop (after_seize was.book by of) by) is was
-taken_in (Err NoMemory) now by of is was = looked_in (after_stop (after_seize was.book by of) by) is was
+taken_in (Err NoMemory) now by of is was = looked_in (after_seize was.book by of) is was
 
 -- WHAT WAS DONE
 

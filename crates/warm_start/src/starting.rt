@@ -17,6 +17,7 @@ ghost use Rattle.ckpt_places.specs.declared.places.Place.TheVariants.{Before as 
 ghost use Rattle.mas_complex.specs.Locking.{book_of};
 ghost use Rattle.mas_complex.specs.Headline.{LeavesQueue};
 ghost use Rattle.mas_complex.specs.Paper.{no_counts};
+ghost use Rattle.mas_complex.specs.Past.{nobody_noted, values_of};
 ghost use Rattle.mas_complex.specs.Renewals.{no_renewals};
 ghost use Rattle.spool_volumes.specs.Volumes.{IsSteady, AreRoomy};
 ghost use Rattle.queue_telling.specs.Telling.{Tell};
@@ -394,6 +395,7 @@ pub fn warm<P: Plant + Drop, C: Steady + Drop>(
     ensures unreserved { IfOk result (λ w. w.complex.reserved ≡ None) }
     ensures printed { IfOk result (λ w. w.complex.printed ≡ no_counts) }
     ensures renewals { IfOk result (λ w. w.complex.renewals ≡ no_renewals) }
+    ensures had { IfOk result (λ w. values_of w.complex.had ≡ nobody_noted) }
     ensures book { IfOk result (λ w. w.complex.book ≡ book_of w.complex.base.config) }
     ensures cause { IfErr result (λ u. (alive1 alive2 : Bool)
         × IsCauseOf C.reads P.tells C.needs (P.view plant) (P.view u.plant) alive1 alive2 u.why) }

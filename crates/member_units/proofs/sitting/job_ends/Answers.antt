@@ -1,5 +1,6 @@
 use Rattle.std.proofs.Common.{◌≡◌, ◌∙◌, ◌+◌, ◌*◌, ◌≤◌, [], ℕ, None, Ok, ap, sym, subst, arith}
 use Rattle.std.proofs.lemmas.Result.{err_from_is_err_and}
+use Rattle.mas_types.specs.declared.ids.MemberId.{MemberId}
 use Rattle.mas_types.specs.declared.queues.Queue.{Queue}
 use Rattle.mas_types.specs.Commands.Life.{groups_of_outputs, is_cancelled}
 use Rattle.mas_types.specs.Owners.{member_count}
@@ -124,16 +125,17 @@ returns-in-Done-clause-ready g c =
     let h = c.args.holder in
     let z = c.leave.new.complex in
     let k = c.leave.new.member in
-    let under_way : g.P.Plant.tells → IsUnderWay (queue_here c.take_groups.new.complex mid) n =
-    λ told. still_under_way x c.take_groups.new.complex m mid h n needed some told c.in_ok-end.end c.in-Done.is c.in_ok-end.ensures.given
-    (subst (λ (Q : Queue). IsUnderWay Q n) (sym (kept_here x m c.requires.nothing)) (c.requires.under_way told)) in
+    let id : mid.id ≡ m.id = ap (λ (r : Run). r.id) c.take_groups.ensures.run in
+    let under_way : g.P.Plant.tells → IsUnderWay (queue_here c.take_groups.new.complex mid) by n =
+    λ told. still_under_way x c.take_groups.new.complex m mid h n needed some told c.in_ok-end.end c.in-Done.is c.in_ok-end.ensures.given by
+    (subst (λ (i : MemberId). IsUnderWay (queue_here x m) i n) (sym id) (subst (λ (Q : Queue). IsUnderWay Q m.id n) (sym (kept_here x m c.requires.nothing)) (c.requires.under_way told))) in
     ready_once g.P.Plant.tells (queue_kept z) k.checkpoint.tables k.id c.leave.result mid.checkpoint.tables by (Away (SpoolOutputs n specs c.args.ends.progress)) c.leave.ensures.tables (ap (λ (r : Run). r.id) c.leave.ensures.run)
     (on_two c.leave.result
     (λ (queue : queue_here z k ≡ queue_here c.take_groups.new.complex mid) (nothing : k.batch ≡ []). record {
       outputs = c.requires.outputs;
       some = subst (λ (k : ℕ). 1 ≤ k) (sym all) some;
       enough = subst (λ (k : ℕ). k ≤ member_count by mid.checkpoint.tables.owners) (sym all) enough;
-      job = λ told. subst (λ (Q : Queue). IsUnderWay Q n) (sym queue ∙ kept_here z k nothing) (under_way told);
+      job = λ told. subst (λ (Q : Queue). IsUnderWay Q by n) (sym queue ∙ kept_here z k nothing) (under_way told);
     })
     c.leave.ensures.queue c.leave.ensures.nothing)
     c.leave.ensures.next
