@@ -8,12 +8,12 @@ ghost use Rattle.mas_main.specs.Openings.{opening_for};
 use mas_process::{
     Ending, close_files, code_of, folder_of, let_journal_go, let_queue_go, words_of, write_line_of,
 };
-use mas_run::Ended;
 use mas_top::{Task, calm_top, task_of};
 use mas_types::Status;
 use mas_words::read_words;
 use plant_files::{FilePlant, Opening, StdSource, Streams};
 use plant_fuse::Fused;
+use run_opening::Ended;
 use std::process::ExitCode;
 
 // What a task does with the folder.

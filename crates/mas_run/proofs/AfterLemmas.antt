@@ -22,10 +22,12 @@ use Rattle.member_node.specs.declared.member.Member.{Member}
 use Rattle.member_steps.specs.Noting.{OtherNotesStay}
 use Rattle.member_sittings.specs.Whole.{HasUntold, IsSeat}
 use Rattle.member_hand.specs.Quiet.{IsAside, IsQuiet}
-use Rattle.mas_run.specs.Lines.{Proceeds}
-use Rattle.mas_run.specs.Shows.{AreMembers, IsBetween, IsMemberAt, IsOfEarlier, StandsIn, is_left_held}
-use Rattle.mas_run.proofs.BookLemmas.{Since}
-use Rattle.mas_run.proofs.SpokenLemmas.{large_on, roomy_on}
+use Rattle.run_opening.specs.Lines.{Proceeds}
+use Rattle.run_opening.specs.Shows.{AreMembers, IsBetween, IsMemberAt, is_left_held}
+use Rattle.member_hand.specs.Standing.{IsOfEarlier, StandsIn}
+use Rattle.member_resets.proofs.BookLemmas.{Since}
+use Rattle.mas_run.proofs.SpokenLemmas.{large_on}
+use Rattle.run_opening.proofs.RoomLemmas.{roomy_on}
 
 -- batches of earlier lines than one are of earlier lines than the next
 pub earlier_then : (at : ℕ) (bs : List Batch) → All (IsOfEarlier at) bs → All (IsOfEarlier (at + 1)) bs

@@ -45,9 +45,10 @@ use Rattle.member_node.specs.declared.member.NodeNo.{NodeNo}
 use Rattle.mas_run.specs.Lines.{CutsAs, cut_in, is_takeover, loses_then, same_device}
 use Rattle.mas_run.specs.LinesAt.{admitted_at, played_at}
 use Rattle.mas_run.specs.Passed.{ArePassed, Here, TakeNone, There, here_after, line_of, loses_after}
-use Rattle.mas_run.specs.Runs.{has_begun, as_found, begins_at, HavePassed, IsRun, LinesBegun, LinesEnded, starts, stops}
+use Rattle.run_opening.specs.Runs.{has_begun, as_found, begins_at}
+use Rattle.mas_run.specs.Runs.{HavePassed, IsRun, LinesBegun, LinesEnded, starts, stops}
 use Rattle.mas_run.specs.Statuses.{AreLeftAlone, CannotStop, IsLeftAlone, TakesNone, resets_in}
-use Rattle.mas_run.specs.Unstarted.{IsNotStarted}
+use Rattle.run_opening.specs.Unstarted.{IsNotStarted}
 use Rattle.mas_run.proofs.OthersLemmas.{StopsBy, StopsIn, line_stops}
 use Rattle.mas_run.proofs.PassedLemmas.{by_going, passed_goes}
 use Rattle.mas_run.proofs.PlainLemmas.{same_dev}

@@ -14,7 +14,7 @@ use Rattle.spool_plant.specs.declared.plant.Plant.{Ghosts as PlantGhosts}
 use Rattle.ckpt_copy.specs.declared.copying.Copying.{Ghosts as CopyGhosts}
 use Rattle.mas_complex.specs.Journals.{kept_all}
 use Rattle.mas_complex.specs.Parts.{Parts}
-use Rattle.member_lines.proofs.Tested.{seated}
+use Rattle.member_hand.proofs.Seated.{seated}
 use Rattle.member_node.specs.declared.member.NodeNo.{NodeNo}
 use Rattle.member_node.specs.declared.member.NodeNo.TheVariants as no_node
 use Rattle.member_node.specs.declared.member.Member.{Member}
@@ -26,9 +26,9 @@ use Rattle.run_turns.specs.Sights.{Cut}
 use Rattle.mas_run.specs.LinesAt.{LineAt, admitted_at}
 use Rattle.mas_run.specs.LinesLeft.{HasSaidStop, LeftAt, left_at}
 use Rattle.mas_run.specs.LinesPlayed.{HasPlayedLine, is_of_member}
-use Rattle.mas_run.specs.Shows.{IsBetween, IsShown}
+use Rattle.run_opening.specs.Shows.{IsBetween, IsShown}
 use Rattle.mas_run.proofs.AskedLemmas.{asked_done, asked_error, asked_stopped, asked_unsaid}
-use Rattle.mas_run.proofs.BookLemmas.{Since, none_since, unlocked_book}
+use Rattle.member_resets.proofs.BookLemmas.{Since, none_since, unlocked_book}
 use Rattle.mas_run.proofs.NextLemmas.{Stands, left_since}
 
 -- WHO IS NO MEMBER is refused, and the book stays as it was

@@ -15,7 +15,7 @@ use Rattle.script_input.specs.Played.{IsPlayed}
 use Rattle.script_lang.specs.declared.types.Ask.{Ask}
 use Rattle.run_turns.specs.Admissions.{Admission, admitted}
 use Rattle.mas_run.specs.LinesPlayed.{is_of_member, line_by}
-use Rattle.mas_run.specs.Shows.{BetweenLines, IsMemberAt, IsMemberUp}
+use Rattle.run_opening.specs.Shows.{BetweenLines, IsMemberAt, IsMemberUp}
 use Rattle.mas_run.proofs.AdmittedLemmas.{IsUpMember}
 use Rattle.mas_run.proofs.KnownLemmas.{IsKnown, inside_of, known}
 use Rattle.mas_run.proofs.SceneLemmas.{member_at}

@@ -17,7 +17,7 @@ use Rattle.run_turns.specs.Scenes.{Scene}
 use Rattle.mas_run.specs.Copies.{CopiesKept, LeavesCopies}
 use Rattle.mas_run.specs.LinesLeft.{LeftAt, LineIsLeft}
 use Rattle.mas_run.specs.LinesPlayed.{HasPlayedLine, PlayedLine, is_of_member, line_by}
-use Rattle.mas_run.specs.Shows.{BetweenLines, IsBetween, IsShown, LeftBetween}
+use Rattle.run_opening.specs.Shows.{BetweenLines, IsBetween, IsShown, LeftBetween}
 use Rattle.mas_run.proofs.AnswerLemmas.{asked_as, asked_halted, seats_shown, stands_between}
 use Rattle.mas_run.proofs.CopiesLemmas.{copies_halted, said_copies, leaves_same, leaves_then}
 use Rattle.mas_run.proofs.MuteLemmas.{stopped_next}

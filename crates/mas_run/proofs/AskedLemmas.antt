@@ -21,12 +21,12 @@ use Rattle.run_turns.specs.Sights.{Cut, Renewed}
 use Rattle.mas_run.specs.LinesAt.{LineAt, admitted_at, played_at}
 use Rattle.run_turns.specs.Pieces.{fate_found}
 use Rattle.run_turns.specs.Scenes.{Scene}
-use Rattle.mas_run.specs.Histories.{settle}
+use Rattle.member_resets.specs.Settling.{settle}
 use Rattle.mas_run.specs.LinesLeft.{HasSaidStop, LeftAt, left_at}
 use Rattle.mas_run.specs.LinesPlayed.{HasPlayedLine, is_of_member}
 use Rattle.mas_run.specs.Renewing.{RenewsAs}
-use Rattle.mas_run.specs.Shows.{IsFlight, IsShown}
-use Rattle.mas_run.proofs.BookLemmas.{Since}
+use Rattle.run_opening.specs.Shows.{IsFlight, IsShown}
+use Rattle.member_resets.proofs.BookLemmas.{Since}
 use Rattle.mas_run.proofs.LeftLemmas.{found_left, given_left, passed_uncut}
 use Rattle.mas_run.proofs.NextLemmas.{Stands, left_since, shown_next, stopped_count}
 use Rattle.mas_run.proofs.RenewedLemmas.{renews_later}

@@ -27,10 +27,10 @@ use Rattle.run_turns.specs.Givens.{ArePiecesOf, queue_met}
 use Rattle.run_turns.specs.Pieces.{Piece, Play, fate_found, holder_of, piece_of, pieces_of}
 use Rattle.run_turns.specs.Scenes.{Batched, Scene}
 use Rattle.run_turns.specs.Sights.{Cause, Cut, Halt, Sight, Writing, clear}
-use Rattle.mas_run.specs.Histories.{settle}
+use Rattle.member_resets.specs.Settling.{settle, IfRuns, reset_piece}
 use Rattle.mas_run.specs.Lines.{IsThere, LosesAs, is_takeover, is_work, taking, named_as}
 use Rattle.mas_run.specs.LinesAt.{LineAt, pieces_as, play_as}
-use Rattle.mas_run.specs.LinesLeft.{HasLeftAs, IfRuns, left_as}
+use Rattle.mas_run.specs.LinesLeft.{HasLeftAs, left_as}
 use Rattle.member_hand.specs.Shapes.{AreFewPieces, SaysIn}
 use Rattle.member_decks.specs.Steps.{AreOf}
 use Rattle.member_steps.specs.Steps.{entry_with}
@@ -39,18 +39,18 @@ use Rattle.mas_types.specs.declared.commands.Command.{Command}
 use Rattle.step_turns.specs.States.{nothing_found}
 use Rattle.step_turns.specs.declared.states.State.TheVariants.{Fresh, Told}
 use Rattle.step_turns.specs.declared.states.Task.{Task}
-use Rattle.mas_run.specs.Shapes.{IsShapedAs, reset_piece}
-use Rattle.mas_run.specs.Volumes.{AreVolumesKept}
+use Rattle.mas_run.specs.Shapes.{IsShapedAs}
+use Rattle.run_opening.specs.Volumes.{AreVolumesKept}
 use Rattle.mas_run.proofs.LeftLemmas.{if_idle}
 use Rattle.mas_run.proofs.LinesLemmas.{settle_none}
-use Rattle.mas_run.proofs.PassedLemmas.{proceeds_of}
+use Rattle.run_opening.proofs.ProceedLemmas.{proceeds_of}
 use Rattle.spool_plant.specs.declared.plant.Part.TheVariants.{Disk}
 use Rattle.ckpt_copy.specs.Moments.{goes_none}
 use Rattle.member_node.proofs.CourseLemmas.{papers_none, stay_none, wires_none}
 use Rattle.member_node.proofs.SpareLemmas.{spares_none}
 use Rattle.member_hand.specs.Plays.{IsOwnPiece}
 use Rattle.step_turns.specs.declared.states.Holder.{Holder}
-use Rattle.mas_run.proofs.VolumeLemmas.{kept_none}
+use Rattle.run_opening.proofs.VolumeLemmas.{kept_none}
 use Rattle.mas_types.specs.declared.commands.Reply.TheVariants as reply
 use Rattle.member_node.specs.declared.member.NodeNo.TheVariants as no_node
 use Rattle.mas_run.proofs.StayLemmas.{stays_any}

@@ -25,9 +25,8 @@ use Rattle.member_sittings.specs.Asides.{deck_found}
 use Rattle.member_asides.specs.Asides.{printed_found, read_found}
 use Rattle.member_hand.specs.Cuts.{whole_pieces}
 use Rattle.member_hand.specs.Found.{FindsJob, FindsOutput, FindsWritten, IsFoundAt, Wait, waits_in}
-use Rattle.step_turns.specs.Courses.{holder_then}
+use Rattle.step_turns.specs.Courses.{holder_then, Finds}
 use Rattle.step_turns.specs.Entries.{all_entries}
-use Rattle.step_turns.specs.Courses.{Finds}
 use Rattle.step_turns.specs.Examples.{calm, text_of, with_text}
 use Rattle.step_turns.specs.Laws.{on_line}
 use Rattle.step_turns.specs.Sittings.{Sitting, sit}

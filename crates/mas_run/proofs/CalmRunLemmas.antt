@@ -20,13 +20,15 @@ use Rattle.run_turns.specs.Alone.{shown}
 use Rattle.run_turns.specs.Steps.{Played}
 use Rattle.run_turns.proofs.Givens.{ask_right}
 use Rattle.mas_run.specs.Calm.{FindNone, NoneFailed}
-use Rattle.mas_run.specs.Lines.{IfOfMember, IsHonest, IsHonestAs, Proceeds}
+use Rattle.mas_run.specs.Lines.{IfOfMember, IsHonest, IsHonestAs}
+use Rattle.run_opening.specs.Lines.{Proceeds}
 use Rattle.mas_run.specs.LinesAt.{LineAt}
 use Rattle.mas_run.specs.Passed.{ArePassed, GoesOn, Here, IsNext, There, here_after}
 use Rattle.mas_run.specs.Runs.{starts, stops}
 use Rattle.mas_run.proofs.CalmLemmas.{IsCalm, found_calm}
 use Rattle.mas_run.proofs.CalmLineLemmas.{AreCalm, IsCalmAsk, IsCalmLine, lines_same}
-use Rattle.mas_run.proofs.PassedLemmas.{by_going, passed_goes, proceeds_none}
+use Rattle.mas_run.proofs.PassedLemmas.{by_going, passed_goes}
+use Rattle.run_opening.proofs.ProceedLemmas.{proceeds_none}
 
 -- what didn't fail in a run didn't fail in a part of it
 none_within : (steps : List Step) (old mid new late : View) → Proceeds old mid → Proceeds new late → NoneFailed steps old late → NoneFailed steps mid new

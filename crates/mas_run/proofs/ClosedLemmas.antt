@@ -26,13 +26,14 @@ use Rattle.run_turns.specs.Admissions.{Admission}
 use Rattle.run_turns.specs.Pieces.{is_locked, play_of}
 use Rattle.run_turns.specs.Scenes.{Scene}
 use Rattle.run_turns.specs.Sights.{clear}
-use Rattle.mas_run.specs.Shows.{AreMembers, IsBetween, IsFlight, IsMemberAt, IsShown, StandsIn, is_left_held}
-use Rattle.mas_run.proofs.BookLemmas.{Since, freed_since, none_since, stopped_since}
+use Rattle.run_opening.specs.Shows.{AreMembers, IsBetween, IsFlight, IsMemberAt, IsShown, is_left_held}
+use Rattle.member_hand.specs.Standing.{StandsIn}
+use Rattle.member_resets.proofs.BookLemmas.{Since, freed_since, none_since, stopped_since}
 use Rattle.mas_run.proofs.OwnLemmas.{found_says, line_says}
-use Rattle.mas_run.proofs.PassedLemmas.{proceeds_of}
+use Rattle.run_opening.proofs.ProceedLemmas.{proceeds_of}
 use Rattle.mas_run.proofs.PausedLemmas.{between_later}
 use Rattle.mas_run.proofs.SpokenLemmas.{between_spoken}
-use Rattle.mas_run.proofs.ToldLemmas.{TellNone, left_tells}
+use Rattle.member_resets.proofs.ToldLemmas.{TellNone, left_tells}
 
 -- THE SCENE that a value shows
 

@@ -26,8 +26,8 @@ use Rattle.mas_run.specs.Copies.{CopiesKept}
 use Rattle.mas_run.specs.LinesLeft.{LineIsLeft}
 use Rattle.mas_run.specs.LinesPlayed.{line_by}
 use Rattle.mas_run.specs.Renewing.{RenewsAs}
-use Rattle.mas_run.specs.Shows.{BetweenLines, IsBetween, IsShown, LeftBetween}
-use Rattle.mas_run.proofs.BookLemmas.{Since, inside_since, none_since}
+use Rattle.run_opening.specs.Shows.{BetweenLines, IsBetween, IsShown, LeftBetween}
+use Rattle.member_resets.proofs.BookLemmas.{Since, inside_since, none_since}
 use Rattle.mas_run.proofs.ClosedLemmas.{closed_freed, closed_halted, closed_ok, scene_at, shown_at}
 use Rattle.mas_run.proofs.ClosingLemmas.{Ending, HasMerelyActed, IsCloser, closing_at, cut_by}
 use Rattle.mas_run.proofs.CopiesLemmas.{said_copies, leaves_same}

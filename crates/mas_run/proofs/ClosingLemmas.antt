@@ -39,12 +39,13 @@ use Rattle.run_turns.specs.Givens.{ArePiecesOf, queue_met}
 use Rattle.run_turns.specs.Pieces.{Piece, Play, closes_with, fate_found, once_found, piece_of, play_of}
 use Rattle.run_turns.specs.Scenes.{Batched, Scene}
 use Rattle.run_turns.specs.Sights.{Cause, Cut, Ends, Renewed, Replaced, Stops, clear}
-use Rattle.mas_run.specs.Histories.{settle}
-use Rattle.mas_run.specs.Lines.{IfIdle, Proceeds, StaysLost, is_replaced, is_work, named_as}
+use Rattle.member_resets.specs.Settling.{settle, IfRuns, ended_as}
+use Rattle.mas_run.specs.Lines.{IfIdle, is_replaced, is_work, named_as}
+use Rattle.run_opening.specs.Lines.{Proceeds, StaysLost}
 use Rattle.mas_run.specs.LinesAt.{LineAt, pieces_as, play_as}
-use Rattle.mas_run.specs.LinesLeft.{HasLeftAs, IfRuns, IsCutBy, ended_as, left_as}
+use Rattle.mas_run.specs.LinesLeft.{HasLeftAs, IsCutBy, left_as}
 use Rattle.mas_run.specs.Shapes.{IsShapedAs}
-use Rattle.mas_run.specs.Volumes.{AreVolumesKept}
+use Rattle.run_opening.specs.Volumes.{AreVolumesKept}
 use Rattle.mas_run.proofs.LeftLemmas.{if_idle}
 use Rattle.mas_run.proofs.LinesLemmas.{settle_none}
 use Rattle.mas_run.proofs.StayLemmas.{stays_any}

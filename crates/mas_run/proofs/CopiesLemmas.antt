@@ -2,20 +2,18 @@
 use Rattle.std.proofs.Common.{◌≡◌, ◌⊎◌, inl, inr, ℕ, Bool, true, false, Result, Ok, Err, refl, sym, ◌∙◌, subst, ⊎_elim, ap}
 use Rattle.mas_types.specs.declared.ids.Dev.{Dev}
 use Rattle.mas_types.specs.declared.ids.Dev.TheVariants.{Ckpt1, Ckpt2}
-use Rattle.spool_plant.specs.declared.plant.Part.TheVariants.{Disk}
 use Rattle.spool_plant.specs.declared.plant.Plant.{Ghosts as PlantGhosts}
 use Rattle.spool_plant.specs.View.{View}
 use Rattle.duplex_pair.specs.Halves.{SomeAlive}
 use Rattle.mas_complex.specs.Parts.{Parts}
 use Rattle.member_node.specs.declared.member.NodeNo.{NodeNo}
 use Rattle.member_node.specs.declared.member.NodeNo.TheVariants as no_node
-use Rattle.member_node.specs.Calls.{Grows, IsLeft, WasLost}
-use Rattle.member_node.proofs.CourseLemmas.{grow_rose, no, rose_grow, rose_later, rose_more}
+use Rattle.member_node.specs.Calls.{Grows, IsLeft}
+use Rattle.member_node.proofs.CourseLemmas.{grow_rose, no, rose_grow}
 use Rattle.mas_run.specs.Copies.{KeepCopies, LeavesSome, LeavesCopies}
-use Rattle.mas_run.specs.Lines.{Proceeds}
 use Rattle.mas_run.specs.Runs.{HasLost}
 use Rattle.mas_run.proofs.CourseLemmas.{has_lost_later, has_lost_more}
-use Rattle.mas_run.proofs.PassedLemmas.{proceeds_none, proceeds_of, proceeds_on}
+use Rattle.run_opening.proofs.ProceedLemmas.{proceeds_none, proceeds_of, proceeds_on}
 use Rattle.member_steps.specs.Saying.{OnConsole}
 use Rattle.member_steps.specs.Steps.{StepCauses}
 use Rattle.member_hand.specs.Plays.{HasActedIn, Passage}
@@ -23,21 +21,10 @@ use Rattle.mas_types.specs.declared.ids.MemberId.{MemberId}
 use Rattle.ckpt_copy.specs.declared.copying.Copying.{Ghosts as CopyGhosts}
 use Rattle.mas_complex.specs.Renewals.{is_open}
 use Rattle.mas_complex.specs.declared.renewals.Renewals.{Renewals}
+use Rattle.run_opening.proofs.LossLemmas.{lost_after, lost_before}
 
 grows_on : (x y z : ℕ) → Grows x y → Grows y z → Grows x z
 grows_on x y z one two = ⊎_elim (λ same. ⊎_elim (λ still. inl (still ∙ same)) (λ rose. inr (grow_rose x y z one rose)) two) (λ rose. inr (rose_grow x y z rose two)) one
-
-pub lost_before : (d : Dev) (v0 v1 v2 : View) → WasLost d v0 v1 → Proceeds v1 v2 → Grows (v1.loses d) (v2.loses d) → WasLost d v0 v2
-lost_before d v0 v1 v2 lost goes grow = ⊎_elim
-    (λ failed. inl (rose_more (v0.faults (Disk d)) (v1.faults (Disk d)) (v2.faults (Disk d)) failed (goes.faults (Disk d))))
-    (λ called. inr (rose_grow (v0.loses d) (v1.loses d) (v2.loses d) called grow))
-    lost
-
-pub lost_after : (d : Dev) (v0 v1 v2 : View) → Proceeds v0 v1 → Grows (v0.loses d) (v1.loses d) → WasLost d v1 v2 → WasLost d v0 v2
-lost_after d v0 v1 v2 goes grow lost = ⊎_elim
-    (λ failed. inl (rose_later (v0.faults (Disk d)) (v1.faults (Disk d)) (v2.faults (Disk d)) (goes.faults (Disk d)) failed))
-    (λ called. inr (grow_rose (v0.loses d) (v1.loses d) (v2.loses d) grow called))
-    lost
 
 by_test : {A : Type 0} (b : Bool) → (b ≡ true → A) → (b ≡ false → A) → A
 by_test true f g = f refl

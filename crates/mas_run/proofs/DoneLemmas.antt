@@ -39,23 +39,24 @@ use Rattle.run_turns.specs.Scenes.{Scene}
 use Rattle.mas_run.specs.Bounds.{level_most}
 use Rattle.mas_run.specs.LinesLeft.{LineIsLeft}
 use Rattle.mas_run.specs.LinesPlayed.{line_by}
-use Rattle.mas_run.specs.Resetting.{HasReset, HasResetBy, IsAfterReset, MayReset}
-use Rattle.mas_run.specs.Shows.{BetweenLines, IsMemberUp, IsOfEarlier, IsShown}
+use Rattle.member_resets.specs.Resetting.{HasReset, HasResetBy, IsAfterReset, MayReset}
+use Rattle.run_opening.specs.Shows.{BetweenLines, IsMemberUp, IsShown}
+use Rattle.member_hand.specs.Standing.{IsOfEarlier}
 use Rattle.mas_run.proofs.AdmittedLemmas.{HasGot}
 use Rattle.mas_run.proofs.AfterLemmas.{earlier_now}
-use Rattle.mas_run.proofs.BookLemmas.{tried_since}
+use Rattle.member_resets.proofs.BookLemmas.{tried_since}
 use Rattle.mas_run.proofs.CopiesLemmas.{acted_copies, leaves_same}
 use Rattle.mas_run.proofs.MayLemmas.{IsFewTask, may_go_on, none_left_held}
 use Rattle.mas_run.proofs.OwnLemmas.{from_says}
 use Rattle.mas_run.proofs.ResettingLemmas.{resets_bare, resets_told}
 use Rattle.mas_run.proofs.SceneLemmas.{LineDone, admitted_here, left_so, none_flies, same_config, tried_here}
 use Rattle.mas_run.proofs.StepLemmas.{plays_bare, plays_told}
-use Rattle.mas_run.proofs.TakenLemmas.{journal_still}
+use Rattle.member_resets.proofs.SettleLemmas.{journal_still}
 use Rattle.mas_run.proofs.TestedLemmas.{copies_tested, line_tested}
-use Rattle.mas_run.proofs.ToldLemmas.{EachSays, closing_of}
+use Rattle.member_resets.proofs.ToldLemmas.{EachSays, closing_of}
 use Rattle.mas_run.proofs.WireLemmas.{ReadsLine, waits_on}
 use Rattle.mas_run.proofs.ReaderLemmas.{read_after}
-use Rattle.mas_run.specs.Wires.{HasRead}
+use Rattle.run_opening.specs.Wires.{HasRead}
 use Rattle.nje_frames.specs.Laws.{ReadsAnyPieces}
 use Rattle.mas_run.proofs.TurnedLemmas.{HasWritten, IsNowAside, turned_halted, turned_next}
 

@@ -22,7 +22,7 @@ use Rattle.mas_complex.specs.declared.complex.Complex.{Complex}
 use Rattle.mas_complex.specs.Journals.{AreSettled, EndsInPlace, HasPlace, IsBegun, IsPlace, end_of, in_flight, with_last}
 use Rattle.mas_complex.specs.Parts.{Parts, batches_left, parts_of, placed_left, unreserved_in}
 use Rattle.member_sittings.specs.Sat.{journal_of}
-use Rattle.mas_run.specs.Shows.{IsOfEarlier, StandsIn}
+use Rattle.member_hand.specs.Standing.{IsOfEarlier, StandsIn}
 
 -- THE LAST PLACE
 

@@ -39,14 +39,15 @@ use Rattle.step_turns.specs.Entries.{all_entries}
 use Rattle.run_turns.specs.Cuts.{Left, adds, adds_all, adds_first, left_by, none_left, stopped_by}
 use Rattle.run_turns.specs.Pieces.{Piece, Play, after_piece, entered, released_by, spent}
 use Rattle.run_turns.specs.Sights.{Cause, Cut, Halt, Saying, Stops, Waiting, Writing}
-use Rattle.mas_run.specs.Lines.{Proceeds}
-use Rattle.mas_run.specs.Shows.{IsBetween, IsOfEarlier, LeftBetween, StandsIn, is_left_held}
+use Rattle.run_opening.specs.Lines.{Proceeds}
+use Rattle.run_opening.specs.Shows.{IsBetween, LeftBetween, is_left_held}
+use Rattle.member_hand.specs.Standing.{IsOfEarlier, StandsIn}
 use Rattle.mas_run.proofs.AfterLemmas.{between_halted, earlier_more}
-use Rattle.mas_run.proofs.BookLemmas.{Since, inside_since, piece_since, play_since, play_stops, spent_since, then_since}
+use Rattle.member_resets.proofs.BookLemmas.{Since, inside_since, piece_since, play_since, play_stops, spent_since, then_since}
 use Rattle.mas_run.proofs.FlightLemmas.{earlier_left, journal_unreserved, settled_unreserved, stands_unreserved}
 use Rattle.mas_run.proofs.OwnLemmas.{left_earlier}
 use Rattle.mas_run.proofs.TaskLemmas.{IsHeldBy, held_adds, held_left}
-use Rattle.mas_run.proofs.ToldLemmas.{EachSays, left_tells, untold_then}
+use Rattle.member_resets.proofs.ToldLemmas.{EachSays, left_tells, untold_then}
 
 -- WHAT IS RESERVED, once it is given up
 
@@ -248,6 +249,6 @@ module _ {P C : Type 0} {plants : PlantGhosts P} {steadies : SteadyGhosts C} {co
         (λ k later less small t.
         let wr = told t in
         let ls = (left_of plants copies h.by wr.1 wr.0 mid).lines in
-        untold_then plants copies x w (base ∙ mid_base) (since ∙ mid_since) is.begun goes ls (λ u. wr.3.console ∙ ap (λ (l : List Line). l ++ ls) (mid_quiet u)) k later
+        untold_then plants copies x w (base ∙ mid_base) (since ∙ mid_since) is.begun goes.past ls (λ u. wr.3.console ∙ ap (λ (l : List Line). l ++ ls) (mid_quiet u)) k later
         (left_tells h.by h.step wr.1 (play_in h.by wr.0 mid.book (queue_of mid)) count wr.2 later less small)
         (is.untold k later (omega (arith, less)) small) t)

@@ -27,12 +27,14 @@ use Rattle.run_turns.specs.Givens.{Given, play_with}
 use Rattle.run_turns.specs.Scenes.{Scene}
 use Rattle.run_turns.specs.Sights.{Cut}
 use Rattle.mas_run.specs.LinesAt.{LineAt, admitted_at, pieces_at}
-use Rattle.mas_run.specs.LinesLeft.{IfRuns, IsCutBy, LeftAt, LineIsLeft, left_at}
+use Rattle.mas_run.specs.LinesLeft.{IsCutBy, LeftAt, LineIsLeft, left_at}
+use Rattle.member_resets.specs.Settling.{IfRuns}
 use Rattle.mas_run.specs.LinesPlayed.{line_by}
-use Rattle.mas_run.specs.Shows.{BetweenLines, IsShown}
-use Rattle.mas_run.specs.Wires.{AreReaders, Carries, HasRead, reader_place, task_place}
+use Rattle.run_opening.specs.Shows.{BetweenLines, IsShown}
+use Rattle.run_opening.specs.Wires.{AreReaders, HasRead, reader_place}
+use Rattle.mas_run.specs.Wires.{Carries, task_place}
 use Rattle.mas_run.proofs.AnswerLemmas.{done_since, seats_shown}
-use Rattle.mas_run.proofs.BookLemmas.{Since, admitted_since, inside_since, play_stops}
+use Rattle.member_resets.proofs.BookLemmas.{Since, admitted_since, inside_since, play_stops}
 use Rattle.mas_run.proofs.ClosedLemmas.{scene_at, shown_at}
 use Rattle.mas_run.proofs.NextLemmas.{left_since}
 use Rattle.mas_run.proofs.ReaderLemmas.{readers_served, readers_still, set_still}

@@ -14,9 +14,11 @@ use Rattle.mas_complex.specs.Journals.{AreSettled, end_of, in_flight, kept_all, 
 use Rattle.run_turns.specs.Scenes.{Batched, flies_as, flight_found, flying_in, kept_in, queue_found}
 use Rattle.run_turns.specs.Runs.{fate_then}
 use Rattle.run_turns.specs.Steps.{flight_then}
-use Rattle.mas_run.specs.Histories.{AreHistory, settle, settled_at}
-use Rattle.mas_run.specs.Shows.{IsFlight, StandsIn}
-use Rattle.mas_run.proofs.LinesLemmas.{settle_both, settle_still}
+use Rattle.mas_run.specs.Histories.{AreHistory}
+use Rattle.member_resets.specs.Settling.{settle, settled_at}
+use Rattle.run_opening.specs.Shows.{IsFlight}
+use Rattle.member_hand.specs.Standing.{StandsIn}
+use Rattle.member_resets.proofs.SettleLemmas.{settle_both, settle_still}
 use Rattle.mas_run.proofs.PassedLemmas.{settled_is}
 use Rattle.mas_run.proofs.ShowsLemmas.{queue_next, queue_taken}
 

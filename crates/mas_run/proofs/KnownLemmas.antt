@@ -31,9 +31,8 @@ use Rattle.queue_commands.specs.Given.{IsGiver, is_plain}
 use Rattle.script_input.specs.Commands.{is_typed}
 use Rattle.script_input.specs.Played.{IsPlayed}
 use Rattle.script_lang.specs.declared.types.Ask.{Ask}
-use Rattle.script_laws.specs.Limits.{IsCopy}
+use Rattle.script_laws.specs.Limits.{IsCopy, IsAsk, IsBy}
 use Rattle.script_lang.specs.declared.types.Ask.TheVariants as ask
-use Rattle.script_laws.specs.Limits.{IsAsk, IsBy}
 use Rattle.step_turns.specs.declared.states.Task.TheVariants.{Deck, Give, Line, Work}
 use Rattle.run_turns.specs.Admissions.{Admission, Denied, Frees, Locks, Plays, Refused, Replaces, Resets, TakesOver, Unplayed, admitted, asked, command_admitted, deck_admitted, denied_closing, if_granted, no_member, reset_admitted, resets, tries}
 use Rattle.member_sittings.specs.Whole.{IsGivable}

@@ -33,7 +33,7 @@ use Rattle.member_sittings.specs.Shapes.{SaysAtEnd}
 use Rattle.member_hand.specs.Found.{AreFoundIn, FindsOffered, IsFoundAt, Wait}
 use Rattle.member_hand.specs.Shapes.{AreFewPieces, AreShaped, DeckLinesIn, SaysIn, WorkLinesIn}
 use Rattle.run_turns.specs.Pieces.{Piece}
-use Rattle.mas_run.specs.Lines.{Proceeds}
+use Rattle.run_opening.specs.Lines.{Proceeds}
 use Rattle.mas_run.specs.Shapes.{IsTaskShaped}
 
 module _ (old mid new : View) (goes : Proceeds mid new) where

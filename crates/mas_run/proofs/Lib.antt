@@ -1,11 +1,8 @@
 pub mod CourseLemmas
-pub mod VolumeLemmas
 pub mod PaperLemmas
 pub mod RunLemmas
 pub mod OnlyLemmas
 pub mod RefusalLemmas
-pub mod ResetLemmas
-pub mod WarmLemmas
 pub mod WireLemmas
 pub mod ServedLemmas
 pub mod PassedLemmas
@@ -15,14 +12,11 @@ pub mod MemberRunLemmas
 pub mod CopiesLemmas
 pub mod WayLemmas
 pub mod UnstoppedLemmas
-pub mod BetweenLemmas
 pub mod StayLemmas
 pub mod LeftLemmas
 pub mod LaterLemmas
 pub mod StopLemmas
 pub mod UnsaidLemmas
-pub mod BookLemmas
-pub mod ToldLemmas
 pub mod ShowsLemmas
 pub mod JournalLemmas
 pub mod NextLemmas
@@ -37,8 +31,6 @@ pub mod StepLemmas
 pub mod ResettingLemmas
 pub mod BeginLemmas
 pub mod TakenLemmas
-pub mod TakenCalmLemmas
-pub mod TakenOnLemmas
 pub mod SpokenLemmas
 pub mod OwnLemmas
 pub mod OthersLemmas
@@ -48,8 +40,6 @@ pub mod AfterLemmas
 pub mod ClosedLemmas
 pub mod TaskLemmas
 pub mod MayLemmas
-pub mod ResetCutLemmas
-pub mod ResetDoneLemmas
 pub mod LocksLemmas
 pub mod MuteLemmas
 pub mod MuteLineLemmas

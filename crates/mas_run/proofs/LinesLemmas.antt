@@ -17,10 +17,11 @@ use Rattle.run_turns.specs.Scenes.{Batched, Scene}
 use Rattle.run_turns.specs.Steps.{cause_of, is_up, run_goes_on}
 use Rattle.run_turns.specs.Givens.{Given, ask_with, given_first}
 use Rattle.mas_run.specs.LinesAt.{played_at}
-use Rattle.mas_run.specs.Histories.{settle, settled_at, with_found}
+use Rattle.member_resets.specs.Settling.{settle}
 use Rattle.mas_run.specs.Lines.{CutsAs, cut_in}
 use Rattle.mas_run.specs.Passed.{ArePassed, GoesOn, Here, IsNext, Passed, There, here_after, line_of}
 use Rattle.mas_run.proofs.PassedLemmas.{by_going, silent_goes}
+use Rattle.member_resets.proofs.SettleLemmas.{settle_still, settle_both}
 
 -- WHETHER THE RUN GOES ON follows from the answer
 
@@ -88,16 +89,6 @@ module _ (told : Type 0) (h : Here) (g : Given) (step : Step) (there : There) (n
   }
 
 -- AFTER AN OPENING that is settled, the journal has the lines' own batches
-
-pub settle_still : (f : Fate) (at : ℕ) (bs : List Batch) (now : ℕ) → AreSettled bs now → settle f at bs ≡ bs
-settle_still f at [] now are = refl
-settle_still f at (b ∷ bs) now are =
-    ap (λ (c : Batch). c ∷ settle f at bs) (ap (λ (t : Bool). if t then with_found f at b else b) are.0)
-    ∙ ap (λ (cs : List Batch). b ∷ cs) (settle_still f at bs now are.3)
-
-pub settle_both : (f : Fate) (at : ℕ) (so bs : List Batch) → settle f at (so ++ bs) ≡ settle f at so ++ settle f at bs
-settle_both f at [] bs = refl
-settle_both f at (a ∷ so) bs = ap (λ (cs : List Batch). settled_at f at a ∷ cs) (settle_both f at so bs)
 
 module _ (told : Type 0) (front : List Batch) (now : ℕ) (settled : AreSettled front now) where
   abbrev own_here : Here → List Batch → Here

@@ -25,14 +25,15 @@ use Rattle.run_turns.specs.Admissions.{Locks}
 use Rattle.run_turns.specs.Pieces.{fate_found, pieces_of, play_of}
 use Rattle.run_turns.specs.Scenes.{Scene, flight_found, queue_found}
 use Rattle.run_turns.specs.Sights.{clear}
-use Rattle.mas_run.specs.Lines.{Proceeds}
-use Rattle.mas_run.specs.Shows.{IsBetween, IsOfEarlier}
+use Rattle.run_opening.specs.Lines.{Proceeds}
+use Rattle.run_opening.specs.Shows.{IsBetween}
+use Rattle.member_hand.specs.Standing.{IsOfEarlier}
 use Rattle.mas_run.proofs.AfterLemmas.{between_after, earlier_more, earlier_now}
-use Rattle.mas_run.proofs.BookLemmas.{Since, tried_since}
+use Rattle.member_resets.proofs.BookLemmas.{Since, tried_since}
 use Rattle.mas_run.proofs.OwnLemmas.{found_says, line_says}
-use Rattle.mas_run.proofs.PassedLemmas.{proceeds_of}
+use Rattle.run_opening.proofs.ProceedLemmas.{proceeds_of}
 use Rattle.mas_run.proofs.SpokenLemmas.{seat_spoken}
-use Rattle.mas_run.proofs.ToldLemmas.{left_tells, untold_then}
+use Rattle.member_resets.proofs.ToldLemmas.{left_tells, untold_then}
 
 module _ {P C : Type 0} (plants : PlantGhosts P) (copies : CopyGhosts C) (x : Parts P C) (by : MemberId) (inside : IsMember x.book by) (holds : (after_try x.book by false).holder ≡ by)
     (mid : Parts P C) (entered : mid ≡ seated_in mid (record x { book = after_try x.book by false })) (acts : CopiesActed plants {T = Unit {0}} by (record x { book = after_try x.book by false }) mid (Ok tt))
@@ -81,6 +82,6 @@ module _ {P C : Type 0} (plants : PlantGhosts P) (copies : CopyGhosts C) (x : Pa
       let s = closed.console t in
       let ls = (left_at S by at Locks s.cut).lines in
       let Q = queue_found (fate_found Locks clear) S.flight S.queue in
-      untold_then plants copies x y base since is.begun goes ls (λ u. s.lines ∙ ap (λ (l : List Line). l ++ ls) (acts.on.apart t).console) k later
+      untold_then plants copies x y base since is.begun goes.past ls (λ u. s.lines ∙ ap (λ (l : List Line). l ++ ls) (acts.on.apart t).console) k later
       (left_tells by at s.cut (play_of S by at clear Locks) (S.counts by) (found_says by at true (flight_found (fate_found Locks clear) S.flight) (pieces_of S by at clear Q Locks) (line_says S by at clear Q Locks)) later less small)
       (is.untold k later (omega (arith, less)) small) t)

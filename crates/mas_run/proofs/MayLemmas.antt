@@ -30,9 +30,10 @@ use Rattle.step_turns.specs.declared.states.Task.{Task}
 use Rattle.step_turns.specs.declared.states.Task.TheVariants.{Deck, Give, Line, Work}
 use Rattle.run_turns.specs.Admissions.{granted_by}
 use Rattle.mas_run.specs.Bounds.{level_most, levels_most}
-use Rattle.mas_run.specs.Shows.{IsBetween, IsMemberUp, IsOfEarlier, is_left_held}
+use Rattle.run_opening.specs.Shows.{IsBetween, IsMemberUp, is_left_held}
+use Rattle.member_hand.specs.Standing.{IsOfEarlier}
 use Rattle.mas_run.proofs.AdmittedLemmas.{HasGot}
-use Rattle.mas_run.proofs.BookLemmas.{tried_since}
+use Rattle.member_resets.proofs.BookLemmas.{tried_since}
 
 -- WHAT A TASK USES AT MOST
 

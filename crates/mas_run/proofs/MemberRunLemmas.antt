@@ -24,8 +24,9 @@ use Rattle.run_turns.proofs.Givens.{right_lines}
 use Rattle.mas_run.specs.Runs.{LinesBegun, LinesEnded, EndsAs, HavePassed, starts, stops}
 use Rattle.mas_run.specs.LinesPlayed.{PassesLines, here_at, there_at}
 use Rattle.mas_run.specs.Passed.{ArePassed, Passed, There}
-use Rattle.mas_run.specs.Shows.{Shows, StandsIn}
-use Rattle.mas_run.specs.Statuses.{status_of}
+use Rattle.run_opening.specs.Shows.{Shows}
+use Rattle.member_hand.specs.Standing.{StandsIn}
+use Rattle.run_opening.specs.Statuses.{status_of}
 use Rattle.mas_run.proofs.PassedLemmas.{Ended as EndedBy, passed_arms, passed_console, passed_ended, passed_failed, passed_gave, passed_history, passed_loses, passed_loses_copies, passed_many, passed_paper, passed_right, passed_volumes}
 use Rattle.mas_run.proofs.RenewedLemmas.{passed_first, passed_second, passed_stays}
 

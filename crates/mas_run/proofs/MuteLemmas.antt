@@ -17,11 +17,11 @@ use Rattle.member_lines.specs.Closes.{SaysStopped, stopped_said}
 use Rattle.member_node.specs.Calls.{console_now}
 use Rattle.member_node.specs.declared.member.Member.{Member}
 use Rattle.member_node.specs.declared.member.NodeNo.{NodeNo}
-use Rattle.mas_run.specs.Lines.{Proceeds}
-use Rattle.mas_run.specs.Shows.{IsBetween}
-use Rattle.mas_run.proofs.PassedLemmas.{proceeds_of}
+use Rattle.run_opening.specs.Lines.{Proceeds}
+use Rattle.run_opening.specs.Shows.{IsBetween}
+use Rattle.run_opening.proofs.ProceedLemmas.{proceeds_of}
 use Rattle.mas_run.proofs.SpokenLemmas.{between_said, between_spoken}
-use Rattle.mas_run.proofs.ToldLemmas.{TellNone, closing_of, whole_later}
+use Rattle.member_resets.proofs.ToldLemmas.{TellNone, closing_of, whole_later}
 
 module _ {P C : Type 0} (plants : PlantGhosts P) (copies : CopyGhosts C) (x y : Parts P C) where
   abbrev v : Parts P C → View

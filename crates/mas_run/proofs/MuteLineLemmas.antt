@@ -33,15 +33,16 @@ use Rattle.member_sittings.specs.Whole.{queue_of}
 use Rattle.run_turns.specs.Scenes.{Scene}
 use Rattle.run_turns.specs.Steps.{Played, is_up, silent, stop}
 use Rattle.mas_run.specs.Copies.{KeepCopies}
-use Rattle.mas_run.specs.Lines.{Proceeds, same_device}
+use Rattle.run_opening.specs.Lines.{Proceeds}
+use Rattle.mas_run.specs.Lines.{same_device}
 use Rattle.mas_run.specs.LinesPlayed.{PlayedLine, line_by}
 use Rattle.mas_run.specs.MuteLines.{PlaysMute}
-use Rattle.mas_run.specs.Shows.{BetweenLines, IsBetween, IsShown}
-use Rattle.mas_run.proofs.BookLemmas.{Since, none_since, stopped_since}
+use Rattle.run_opening.specs.Shows.{BetweenLines, IsBetween, IsShown}
+use Rattle.member_resets.proofs.BookLemmas.{Since, none_since, stopped_since}
 use Rattle.mas_run.proofs.ClosedLemmas.{scene_at, shown_at}
 use Rattle.mas_run.proofs.KnownLemmas.{inside_of}
 use Rattle.mas_run.proofs.MuteLemmas.{armed_next, mute_next}
-use Rattle.mas_run.proofs.PassedLemmas.{proceeds_of}
+use Rattle.run_opening.proofs.ProceedLemmas.{proceeds_of}
 use Rattle.mas_run.proofs.PausedLemmas.{between_later, between_next}
 use Rattle.mas_run.proofs.PlainLemmas.{ArmsIf, arm_plain, arm_shown, armed_same, disk_of, lose_plain, lose_shown, own_dev, plain_played, same_dev, stop_plain, stop_shown}
 use Rattle.mas_run.proofs.CopiesLemmas.{leaves_same}

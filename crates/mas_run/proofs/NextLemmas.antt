@@ -24,8 +24,9 @@ use Rattle.run_turns.specs.Sights.{Cut}
 use Rattle.run_turns.specs.Steps.{scene_left}
 use Rattle.mas_run.specs.LinesLeft.{HasLeft, IsCutBy, left_at}
 use Rattle.mas_run.specs.LinesPlayed.{is_of_member}
-use Rattle.mas_run.specs.Shows.{IsFlight, IsShown, StandsIn}
-use Rattle.mas_run.proofs.BookLemmas.{Since, inside_since, admitted_since, line_since, play_stops}
+use Rattle.run_opening.specs.Shows.{IsFlight, IsShown}
+use Rattle.member_hand.specs.Standing.{StandsIn}
+use Rattle.member_resets.proofs.BookLemmas.{play_stops, Since, inside_since, admitted_since, line_since}
 use Rattle.mas_run.proofs.JournalLemmas.{flight_next, queue_then}
 use Rattle.mas_run.proofs.LeftLemmas.{next_left}
 use Rattle.mas_run.proofs.PassedLemmas.{history_own}

@@ -29,8 +29,8 @@ use Rattle.run_turns.specs.Cuts.{Left, adds, adds_all, adds_first, batches_cut, 
 use Rattle.run_turns.specs.Pieces.{Piece, Play, holder_of, once_found, piece_at, pieces_found, pieces_from, pieces_of, replaced_closing, reset_closing, unless_told}
 use Rattle.run_turns.specs.Scenes.{Batched, Scene, count_then, with_fate}
 use Rattle.run_turns.specs.Sights.{Begun, Cut, Halt, Saying, Sight, Waiting, Writing}
-use Rattle.mas_run.specs.Shows.{IsOfEarlier}
-use Rattle.mas_run.proofs.ToldLemmas.{AreOfStep, EachSays, closing_of, reply_of}
+use Rattle.member_hand.specs.Standing.{IsOfEarlier}
+use Rattle.member_resets.proofs.ToldLemmas.{AreOfStep, EachSays, closing_of, reply_of}
 
 -- A SITTING says the lines of a closing as its step is told, and none before
 

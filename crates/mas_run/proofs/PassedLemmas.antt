@@ -12,7 +12,7 @@ use Rattle.mas_types.specs.Journal.{is_flying}
 use Rattle.script_lang.specs.declared.types.Step.{Step}
 use Rattle.script_lang.specs.declared.types.Ask.{Ask}
 use Rattle.script_lang.specs.declared.types.Ask.TheVariants as ask
-use Rattle.spool_plant.specs.Acts.{Goes, Rose, next as next_count}
+use Rattle.spool_plant.specs.Acts.{Rose, next as next_count}
 use Rattle.spool_plant.specs.declared.plant.Fuse.{Fuse}
 use Rattle.spool_plant.specs.declared.plant.Part.TheVariants.{Console}
 use Rattle.spool_plant.specs.declared.plant.Fuse.TheVariants as fuse
@@ -29,44 +29,15 @@ use Rattle.run_turns.specs.Steps.{Said, cause_of, counted, counted_at, is_up, ru
 use Rattle.run_turns.specs.Runs.{console, fate_then, given_on, history_from, outcomes_if, paper_of, scene_if, serves_line, settled}
 use Rattle.run_turns.specs.Givens.{AreRight, Given, RightIf, ask_with, cut_if, given_first, last_cut, outcomes_with, scene_with}
 use Rattle.mas_run.specs.LinesAt.{admitted_at, played_at}
-use Rattle.mas_run.specs.Histories.{AreHistory, IsBatched, settle, settled_at, with_found}
-use Rattle.mas_run.specs.Lines.{CutsAs, EndsBy, IsCutAs, IsUnsaid, MayLoseCopy, Proceeds, StopsUnsaid, arms_by, cut_in, is_takeover, loses_then, taking}
+use Rattle.mas_run.specs.Histories.{AreHistory, IsBatched}
+use Rattle.member_resets.specs.Settling.{settle, settled_at, with_found}
+use Rattle.mas_run.specs.Lines.{CutsAs, EndsBy, IsCutAs, IsUnsaid, MayLoseCopy, StopsUnsaid, arms_by, cut_in, is_takeover, loses_then, taking}
+use Rattle.run_opening.specs.Lines.{Proceeds}
 use Rattle.mas_run.specs.Passed.{ArePassed, GoesOn, Here, LeaveVolumes, TakeNone, There, arms_after, here_after, line_of, loses_after}
-use Rattle.mas_run.specs.Volumes.{AreVolumesKept}
+use Rattle.run_opening.specs.Volumes.{AreVolumesKept}
 use Rattle.mas_run.proofs.ServedLemmas.{line_gave_on}
-use Rattle.mas_run.proofs.VolumeLemmas.{by_order, kept_none, more_then}
-
--- VIEWS
-
-pub proceeds_none : (v : View) → Proceeds v v
-proceeds_none v = record {
-  later = omega arith;
-  past = λ t le. refl;
-  size = λ d. refl;
-  faults = λ p. omega arith;
-  stops = λ m. omega arith;
-  lost = λ p other is. is;
-}
-
-pub proceeds_on : (old mid new : View) → Proceeds old mid → Proceeds mid new → Proceeds old new
-proceeds_on old mid new first more = record {
-  later = omega (arith, first.later, more.later);
-  past = λ t le. more.past t (omega (arith, first.later, le)) ∙ first.past t le;
-  size = λ d. more.size d ∙ first.size d;
-  faults = λ p. omega (arith, first.faults p, more.faults p);
-  stops = λ m. omega (arith, first.stops m, more.stops m);
-  lost = λ p other is. more.lost p other (first.lost p other is);
-}
-
-pub proceeds_of : (old new : View) → Goes old new → Proceeds old new
-proceeds_of old new goes = record {
-  later = goes.later;
-  past = goes.past;
-  size = goes.size;
-  faults = goes.faults;
-  stops = goes.stops;
-  lost = λ p other is. goes.lost p is;
-}
+use Rattle.run_opening.proofs.VolumeLemmas.{by_order, kept_none, more_then}
+use Rattle.run_opening.proofs.ProceedLemmas.{proceeds_none, proceeds_on}
 
 -- LINES
 

@@ -14,8 +14,9 @@ use Rattle.mas_complex.specs.Parts.{Parts}
 use Rattle.member_node.specs.declared.member.Member.{Member}
 use Rattle.member_sittings.specs.Whole.{HoldsLock, IsSeat}
 use Rattle.member_hand.specs.Quiet.{IsQuiet}
-use Rattle.mas_run.specs.Shows.{AreMembers, IsBetween, IsMemberAt, IsOfEarlier, StandsIn, is_left_held}
-use Rattle.mas_run.proofs.BookLemmas.{Since, inside_since}
+use Rattle.run_opening.specs.Shows.{AreMembers, IsBetween, IsMemberAt, is_left_held}
+use Rattle.member_hand.specs.Standing.{IsOfEarlier, StandsIn}
+use Rattle.member_resets.proofs.BookLemmas.{Since, inside_since}
 
 true_false : true ≡ false → ⊥
 true_false e = absurd (cc)

@@ -38,17 +38,18 @@ use Rattle.mas_run.specs.LinesAt.{LineAt, admitted_at, pieces_at, played_at}
 use Rattle.run_turns.specs.Scenes.{Batched, Scene}
 use Rattle.run_turns.specs.Sights.{Cut, Halt, Replaced}
 use Rattle.run_turns.specs.Steps.{Played, Said, arm, is_up, lose, nothing, silent, stop}
-use Rattle.mas_run.specs.Histories.{settle}
-use Rattle.mas_run.specs.Lines.{AskLeaves, CutsAs, IfOfMember, IsWithin, LeavesVolumes, Proceeds, StaysLost, arms_then, cut_in, cut_of, is_work, loses_then, named_by, same_device}
+use Rattle.member_resets.specs.Settling.{settle}
+use Rattle.mas_run.specs.Lines.{AskLeaves, CutsAs, IfOfMember, IsWithin, LeavesVolumes, arms_then, cut_in, cut_of, is_work, loses_then, named_by, same_device}
+use Rattle.run_opening.specs.Lines.{Proceeds, StaysLost}
 use Rattle.mas_run.specs.LinesPlayed.{HasPlayedLine, is_of_member}
-use Rattle.mas_run.specs.Shows.{IsFlight, IsShown}
-use Rattle.mas_run.specs.Volumes.{AreVolumesKept}
-use Rattle.mas_run.proofs.BookLemmas.{Since, none_since, stopped_since}
+use Rattle.run_opening.specs.Shows.{IsFlight, IsShown}
+use Rattle.run_opening.specs.Volumes.{AreVolumesKept}
+use Rattle.member_resets.proofs.BookLemmas.{Since, none_since, stopped_since}
 use Rattle.mas_run.proofs.LeftLemmas.{if_idle}
 use Rattle.mas_run.proofs.LinesLemmas.{settle_none}
-use Rattle.mas_run.proofs.PassedLemmas.{proceeds_none, proceeds_of}
+use Rattle.run_opening.proofs.ProceedLemmas.{proceeds_none, proceeds_of}
 use Rattle.mas_run.proofs.RenewedLemmas.{renews_mute}
-use Rattle.mas_run.proofs.VolumeLemmas.{kept_none, no_more}
+use Rattle.run_opening.proofs.VolumeLemmas.{kept_none, no_more}
 use Rattle.mas_run.proofs.WireLemmas.{mute_carries}
 
 true_false : true ≡ false → ⊥

@@ -1,5 +1,5 @@
 -- The readers of a run's members: what each has read of its line, from one line of a script to the next.
-use Rattle.std.proofs.Common.{◌≡◌, ◌≢◌, ◌⊎◌, inl, inr, ℕ, ◌+◌, ◌-◌, ◌*◌, ◌≤◌, ◌<◌, ◌==◌, Bool, true, false, List, [], ◌∷◌, ◌++◌, append_assoc, append-nil, length, set, slice_get, Option, Some, None, Ok, refl, sym, ◌∙◌, ap, subst, arith, All}
+use Rattle.std.proofs.Common.{◌≡◌, ◌≢◌, ◌⊎◌, inl, inr, ℕ, ◌+◌, ◌-◌, ◌*◌, ◌≤◌, ◌<◌, ◌==◌, Bool, true, false, List, [], ◌∷◌, ◌++◌, append_assoc, append-nil, length, set, slice_get, Option, Some, None, Ok, refl, sym, ◌∙◌, ap, subst, arith}
 use Rattle.std.proofs.lemmas.Bool.{eqb-true}
 use Rattle.std.proofs.lemmas.Bool.Decides.{nat_tests}
 use Rattle.std.proofs.lemmas.List.{get_or-set_other, get_or-set_same, length-set, set-get_or}
@@ -29,9 +29,10 @@ use Rattle.step_turns.specs.declared.states.Task.{Task}
 use Rattle.step_turns.specs.declared.states.Task.TheVariants.{Line as Node}
 use Rattle.member_hand.specs.Found.{Wait}
 use Rattle.member_hand.specs.Hears.{Hears, HearsAtFirst, HearsIn, HearsStep, IsElsewhere}
-use Rattle.member_lines.proofs.Tested.{seated}
-use Rattle.mas_run.specs.Wires.{AreReaders, HasRead, reader_place}
+use Rattle.member_hand.proofs.Seated.{seated}
+use Rattle.run_opening.specs.Wires.{AreReaders, HasRead, reader_place}
 use Rattle.mas_run.proofs.WireLemmas.{WaitsOnLine, same_rest, some_same}
+use Rattle.run_opening.proofs.ReaderLemmas.{Readers, place_within}
 
 -- ONE READER
 
@@ -79,9 +80,6 @@ module _ (by : MemberId) (old new : View) (was is : Option (List ℕ)) where
 
 -- THE LIST OF THEM
 
-abbrev Readers : Type 0
-Readers = List (Option (List ℕ))
-
 get_set_own : (rs : Readers) (j : ℕ) (r : Option (List ℕ)) → j < length rs → slice_get (set rs j r) j ≡ Some r
 get_set_own rs j r less =
     let many : length (set rs j r) ≡ length rs = length-set rs j r in
@@ -98,9 +96,6 @@ set_still rs j was is here same =
     ap (λ (r : Option (List ℕ)). set rs j r) (same ∙ sym (get_or_from_slice_get rs j was None here)) ∙ set-get_or rs j None
 
 -- THEIR PLACES
-
-pub place_within : (m : MemberId) (line members : ℕ) → 1 ≤ m.0 → m.0 ≤ members → IsLine line → reader_place m line < wires_most * members
-place_within m line members some few inside = omega (arith, some, few, inside.0, inside.1)
 
 same_number : (m k line other : ℕ) → 1 ≤ m → 1 ≤ k → IsLine line → IsLine other → wires_most * (m - 1) + (line - 1) ≡ wires_most * (k - 1) + (other - 1) → m ≡ k
 same_number m k line other some more inside within same = omega (arith, some, more, inside.0, inside.1, within.0, within.1, same)
@@ -200,24 +195,3 @@ module _ {P C : Type 0} (plants : PlantGhosts P) (x y : Parts P C) (base : y.bas
       many = length-set rs place is ∙ read.many ∙ many_same;
       each = λ t m line member inside is_up. each_now t m line (member_same m member) inside is_up;
     }
-
--- AS A RUN BEGINS: nothing was taken since its first moment, and each reader is new
-pub readers_new : {P C : Type 0} (plants : PlantGhosts P) (x : Parts P C) (rs : Readers) → length x.book.members ≡ x.base.config.members → length rs ≡ wires_most * x.base.config.members
-    → All (λ reader. reader ≡ Some []) rs
-    → (plants.tells → (w m : ℕ) → taken_now (plants.view x.plant) w m ≡ ((plants.view x.plant).world x.since).taken w m) → AreReaders plants x rs
-readers_new plants x rs booked many new none = record {
-  many = many;
-  each = λ t m line member inside is_up.
-      let seat = seated x.base.config x.book m booked member in
-      let few : m.0 ≤ x.base.config.members = subst (λ (k : ℕ). m.0 ≤ k) booked seat.1 in
-      record {
-        stream = [];
-        since = none t line m.0 ∙ sym (append-nil (((plants.view x.plant).world x.since).taken line m.0));
-        rest = [];
-        is =
-            let place = reader_place m line in
-            let less = subst (λ (k : ℕ). place < k) (sym many) (place_within m line x.base.config.members seat.0 few inside) in
-            slice_get-get_or rs place (Some []) less ∙ ap (λ (reader : Option (List ℕ)). Some reader) (new place (Some []) less);
-        goes_on = λ more. refl;
-      };
-}

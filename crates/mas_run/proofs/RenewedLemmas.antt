@@ -25,7 +25,8 @@ use Rattle.mas_complex.specs.Renewals.{with_device}
 use Rattle.run_turns.specs.Admissions.{Admission, Denied, Frees, Locks, Plays, Refused, Replaces, Resets, TakesOver, Unplayed, admitted, asked, command_admitted, deck_admitted, if_granted, reset_admitted, resets}
 use Rattle.run_turns.specs.Givens.{Given, given_first}
 use Rattle.run_turns.specs.Sights.{Cause, Cut, Ends, Halt, LostAgain, NotLost, Renewed, Replaced, Saying, Waiting, Writing}
-use Rattle.mas_run.specs.Lines.{StaysLost, is_replaced, same_device}
+use Rattle.run_opening.specs.Lines.{StaysLost}
+use Rattle.mas_run.specs.Lines.{is_replaced, same_device}
 use Rattle.mas_run.specs.LinesAt.{admitted_at, played_at}
 use Rattle.mas_run.specs.LinesPlayed.{is_of_member}
 use Rattle.mas_run.specs.Passed.{ArePassed, Here, There, here_after, line_of}

@@ -25,7 +25,7 @@ use Rattle.member_lines.specs.Replaces.{HasReplaced, found_of}
 use Rattle.run_turns.specs.Admissions.{Replaces}
 use Rattle.run_turns.specs.Sights.{LostAgain, NotLost, Renewed, Replaced}
 use Rattle.mas_run.specs.Copies.{KeepCopies, LeavesSome, StaysWhole, LeavesCopies}
-use Rattle.mas_run.specs.Lines.{Proceeds, is_copy}
+use Rattle.run_opening.specs.Lines.{Proceeds, is_copy}
 use Rattle.mas_run.specs.Renewing.{Begins, BeginsAndEnds, RenewsBy}
 use Rattle.mas_run.proofs.ClosingLemmas.{HasMerelyActed}
 use Rattle.mas_run.proofs.PlainLemmas.{disk_of, kept_elsewhere, other_disk}

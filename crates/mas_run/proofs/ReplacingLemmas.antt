@@ -61,33 +61,35 @@ use Rattle.run_turns.specs.Scenes.{Scene}
 use Rattle.run_turns.specs.Sights.{Cause, Cut, Ends, LostAgain, NotLost, Renewed, Replaced, Saying, Stops, clear}
 use Rattle.mas_run.specs.Bounds.{level_most}
 use Rattle.mas_run.specs.Copies.{KeepCopies, LeavesCopies}
-use Rattle.mas_run.specs.Lines.{Proceeds}
-use Rattle.mas_run.specs.LinesLeft.{IfRuns, LeftAt, LineIsLeft}
+use Rattle.run_opening.specs.Lines.{Proceeds}
+use Rattle.mas_run.specs.LinesLeft.{LeftAt, LineIsLeft}
+use Rattle.member_resets.specs.Settling.{IfRuns}
 use Rattle.mas_run.specs.LinesPlayed.{line_by}
 use Rattle.mas_run.specs.Renewing.{Begins, BeginsAndEnds, RenewsAs, RenewsBy}
-use Rattle.mas_run.specs.Shows.{BetweenLines, IsMemberUp, IsOfEarlier, IsShown, LeftBetween}
+use Rattle.run_opening.specs.Shows.{BetweenLines, IsMemberUp, IsShown, LeftBetween}
+use Rattle.member_hand.specs.Standing.{IsOfEarlier}
 use Rattle.mas_run.proofs.AdmittedLemmas.{HasGot}
 use Rattle.mas_run.proofs.AfterLemmas.{between_after, earlier_more, earlier_now, earlier_then}
 use Rattle.mas_run.proofs.BeginLemmas.{begun_lines}
-use Rattle.mas_run.proofs.BookLemmas.{Since, freed_since, inside_since, stopped_now, stopped_since, then_since, tried_since}
+use Rattle.member_resets.proofs.BookLemmas.{Since, freed_since, inside_since, stopped_now, stopped_since, then_since, tried_since}
 use Rattle.mas_run.proofs.ClosedLemmas.{scene_at, shown_at}
 use Rattle.mas_run.proofs.ClosesLemmas.{if_ok, stays_stopped}
 use Rattle.mas_run.proofs.ClosingLemmas.{Broken, Ending, HasMerelyActed, IsCloser, MayEnd, Unsaid, Whole, closing_found, cut_by, ended_so, some_end}
 use Rattle.mas_run.proofs.CopiesLemmas.{said_copies, leaves_same, leaves_then}
-use Rattle.mas_run.proofs.ResetCutLemmas.{entered_same}
+use Rattle.member_resets.proofs.ResetCutLemmas.{entered_same}
 use Rattle.mas_run.proofs.HaltedLemmas.{halted_between}
 use Rattle.mas_run.proofs.MayLemmas.{may_go_on, none_left_held, tested_up}
 use Rattle.mas_run.proofs.OwnLemmas.{found_says, line_says}
-use Rattle.mas_run.proofs.PassedLemmas.{proceeds_of}
+use Rattle.run_opening.proofs.ProceedLemmas.{proceeds_of}
 use Rattle.mas_run.proofs.ReplacedLemmas.{renews_found, renews_some, replaced_book, replaced_had, replaced_leaves, replaced_merely}
 use Rattle.mas_run.proofs.SaidLemmas.{copies_merely, left_bare, left_told, merely_closed, not_lost, then_merely, unseated_bare, unseated_told}
 use Rattle.mas_run.proofs.SceneLemmas.{LineDone, admitted_here, none_flies, tested_here, tried_here}
 use Rattle.mas_run.proofs.SeatsLemmas.{copies_acted, may_seat}
 use Rattle.mas_run.proofs.SpokenLemmas.{seat_spoken}
-use Rattle.mas_run.proofs.TakenLemmas.{journal_still}
+use Rattle.member_resets.proofs.SettleLemmas.{journal_still}
 use Rattle.mas_run.proofs.TakesLemmas.{begun_book}
 use Rattle.mas_run.proofs.TestedLemmas.{copies_tested, line_tested}
-use Rattle.mas_run.proofs.ToldLemmas.{TellNone, left_tells, untold_then}
+use Rattle.member_resets.proofs.ToldLemmas.{TellNone, left_tells, untold_then}
 use Rattle.mas_complex.specs.Renewals.{is_open}
 
 -- THE BOOK of a line that only closes
@@ -520,7 +522,7 @@ module _ {P C : Type 0} {plants : PlantGhosts P} {steadies : SteadyGhosts C} {co
               (earlier_more at q.batches p.batches [] (ap (λ (w : Parts P C). w.batches) frame_t ∙ sym (append-nil p.batches)) (earlier_now at p.batches p.current calm is.earlier) (All-nil (IsOfEarlier (at + 1))))
               (λ j later less small tells.
               let w = closed_wrote tells in
-              untold_then plants copies p q base since is.begun acted.goes w.0 (λ o. w.1) j later (w.2 later less small) (is.untold j later (omega (arith, less)) small) tells)
+              untold_then plants copies p q base since is.begun acted.goes.past w.0 (λ o. w.1) j later (w.2 later less small) (is.untold j later (omega (arith, less)) small) tells)
 
         -- it was halted as it said its line
         pub closed_halted : k_r ≡ failed no_node.Halted → q.book ≡ after_stop b by
@@ -718,7 +720,7 @@ module _ {P C : Type 0} {plants : PlantGhosts P} {steadies : SteadyGhosts C} {co
           (λ free. absurd (not_none y.book mine free)) here.notes n ms at few is own_n (λ apart. absurd (apart mine)) earlier
           (λ j later less small tells.
           let w = here.wrote tells in
-          untold_then plants copies p q base since is.begun here.goes w.0 (λ o. w.1) j later (w.2 later less small) (is.untold j later (omega (arith, less)) small) tells)
+          untold_then plants copies p q base since is.begun here.goes.past w.0 (λ o. w.1) j later (w.2 later less small) (is.untold j later (omega (arith, less)) small) tells)
 
     pub replaces_done : LineDone x y (set ms (by.0 - 1) n) at by what r
     replaces_done = record {

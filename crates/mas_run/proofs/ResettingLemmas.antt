@@ -31,11 +31,11 @@ use Rattle.run_turns.specs.Sights.{Cut, Sight, clear}
 use Rattle.member_node.proofs.CourseLemmas.{wires_then}
 use Rattle.mas_run.specs.LinesAt.{LineAt}
 use Rattle.mas_run.specs.LinesLeft.{HasLeftAs}
-use Rattle.mas_run.specs.Resetting.{HasResetBy, HasToldReset}
-use Rattle.mas_run.specs.Shapes.{IsResetPiece}
+use Rattle.member_resets.specs.Resetting.{HasResetBy, HasToldReset}
+use Rattle.member_resets.specs.Settling.{IsResetPiece}
 use Rattle.mas_run.proofs.StayLemmas.{stays_any}
 use Rattle.mas_run.proofs.StepLemmas.{ComesTo, comes_none, stepped_left}
-use Rattle.mas_run.proofs.VolumeLemmas.{kept_on}
+use Rattle.run_opening.proofs.VolumeLemmas.{kept_on}
 
 -- A RESET WAITS FOR NOTHING
 

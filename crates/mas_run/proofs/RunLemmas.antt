@@ -1,159 +1,56 @@
 -- A run, from what its lines leave.
-use Rattle.std.proofs.Common.{◌≡◌, ◌≢◌, ◌⊎◌, inl, inr, ⊎_elim, ℕ, zero, suc, ◌<◌, ◌≤◌, nat_lt, Bool, true, false, ◌||◌, List, [], ◌∷◌, ◌++◌, length, drop, Some, None, Result, Ok, Err, refl, sym, ◌∙◌, ap, subst, arith, le_refl, replicate, All}
-use Rattle.std.specs.Coded.{×_prop, Coded, Coded-set, coded_ℕ, code_by, le_prop}
-use Rattle.std.proofs.Math.Logic.{∥∥₁_map, ∥∥₁_elim, ∥∥₁_prop}
-use Rattle.std.proofs.lemmas.Bool.Decides.{nat_tests}
-use Rattle.std.proofs.lemmas.List.Elements.{All-nil}
-use Rattle.ckpt_tables.specs.Shape.{HasShape}
-use Rattle.queue_effect.specs.Standing.{AreFit, IsFitJob, IsFitOutput}
-use Rattle.member_node.specs.Calls.{Course, Grows, console_now, IsLeft}
-use Rattle.member_node.specs.Reads.{AreLow, orders_after}
+use Rattle.std.proofs.Common.{◌≡◌, ◌≢◌, ◌⊎◌, inl, inr, ⊎_elim, ℕ, ◌≤◌, Bool, true, false, List, [], ◌++◌, length, drop, Result, Ok, Err, refl, sym, ◌∙◌, ap, subst, arith}
+use Rattle.member_node.specs.Calls.{IsLeft}
 use Rattle.member_node.proofs.CourseLemmas.{left}
-use Rattle.ckpt_tables.specs.declared.tables.Tables.{Tables}
-use Rattle.lay_bytes.specs.Used.{used}
-use Rattle.ckpt_pages.specs.Starts.{empty_tables}
 use Rattle.mas_types.specs.declared.ids.Dev.TheVariants.{Ckpt1, Ckpt2, Spool}
 use Rattle.mas_types.specs.declared.ids.Dev.{Dev}
 use Rattle.mas_types.specs.declared.journals.Journal.{Journal}
-use Rattle.mas_types.specs.declared.journals.Fate.{Fate}
-use Rattle.mas_types.specs.declared.journals.Fate.TheVariants.{Kept, Dropped, Flying}
 use Rattle.mas_types.specs.declared.queues.Queue.{Queue}
 use Rattle.mas_types.specs.declared.answers.Status.{Status}
-use Rattle.mas_types.specs.Starts.{empty_queue}
-use Rattle.mas_types.specs.declared.queues.Config.{Config}
-use Rattle.mas_types.specs.declared.queues.Route.{Route}
-use Rattle.mas_types.specs.Fit.{IsConfig}
-use Rattle.mas_types.specs.Limits.{routes_most}
 use Rattle.mas_types.specs.Sound.{IsSound}
-use Rattle.mas_types.proofs.EmptyQueue.{empty_queue-sound}
-use Rattle.queue_telling.specs.Orders.{HaveOrders}
-use Rattle.queue_telling.specs.Telling.{Tell, TellSound}
-use Rattle.queue_tables.proofs.OrderLemmas.{empty_orders}
-use Rattle.mas_complex.specs.Texts.{HasTexts, Spools}
-use Rattle.spool_plant.specs.View.{View, World, Disk, disk_at, disk_now}
-use Rattle.spool_plant.specs.declared.plant.Part.{Part}
-use Rattle.spool_plant.specs.declared.plant.Part.TheVariants.{Disk as DiskPart, Console, Printer, Wire}
-use Rattle.spool_plant.specs.Acts.{Goes, Rose, top}
+use Rattle.spool_plant.specs.View.{View, World, disk_now}
+use Rattle.spool_plant.specs.declared.plant.Part.TheVariants.{Disk as DiskPart, Console}
+use Rattle.spool_plant.specs.Acts.{Rose}
 use Rattle.ckpt_form.specs.Form.{form_reads}
 use Rattle.ckpt_copy.specs.Changes.{NoMore}
-use Rattle.ckpt_copy.specs.Moments.{goes_none, goes_on, sides_none}
-use Rattle.ckpt_copy.specs.Reading.{AllRead}
+use Rattle.ckpt_copy.specs.Moments.{goes_none, sides_none}
 use Rattle.duplex_pair.specs.Halves.{SomeAlive, IsBothLost}
-use Rattle.duplex_pair.specs.declared.errors.PairNo.{PairNo}
-use Rattle.duplex_pair.specs.Outcomes.{pair_stopped}
-use Rattle.duplex_pair.specs.Both.{PairActed}
-use Rattle.ckpt_places.specs.declared.places.Place.TheVariants.{Before}
 use Rattle.mas_complex.specs.declared.renewals.Renewals.{Renewals}
 use Rattle.mas_complex.specs.Renewals.{is_open, no_renewals}
 use Rattle.mas_complex.specs.declared.renewals.Renewal.{Renewal}
-use Rattle.mas_complex.specs.Crash.{setting, OneCopy}
-use Rattle.mas_complex.specs.Headline.{Headline, AreToldKept}
+use Rattle.mas_complex.specs.Headline.{Headline}
 use Rattle.member_node.specs.declared.member.NodeNo.{NodeNo}
+use Rattle.ckpt_copy.specs.declared.copying.Copying.{Ghosts as CopyGhosts}
+use Rattle.ckpt_form.specs.declared.steady.Steady.{Ghosts as SteadyGhosts}
+use Rattle.mas_complex.specs.declared.complex.Complex.{Complex}
+use Rattle.member_node.specs.declared.member.Member.{Member}
+use Rattle.run_opening.specs.Openings.{at_end, HasBegunWith, HasNoLines, IsOpenRun}
 use Rattle.script_lang.specs.declared.types.Script.{Script}
 use Rattle.script_lang.specs.declared.types.Step.{Step}
-use Rattle.mas_run.specs.Runs.{has_begun, AreAway, AreSidesKept, HasLost, IsAway, IsRestart, IsReset, IsRun, HavePassed, IsSafe, IsPlay, HasSteps, ReadsThere, LinesBegun, LinesEnded, NonePassed, ReplacesNone, WerePlayed, as_found, lost_from, starts, stops, OneIsGood}
-use Rattle.mas_run.specs.Volumes.{AreVolumesKept, AreVolumesKeptUntil}
-use Rattle.mas_run.proofs.PaperLemmas.{papers_at, papers_past, papers_then, sides_on}
-use Rattle.mas_run.proofs.VolumeLemmas.{kept_none, kept_past, kept_then}
+use Rattle.run_opening.specs.Runs.{has_begun, AreAway, IsAway, OneIsGood}
+use Rattle.mas_run.specs.Runs.{HasLost, IsRun, HavePassed, IsPlay, HasSteps, LinesBegun, LinesEnded, NonePassed, ReplacesNone, WerePlayed, starts, stops}
+use Rattle.run_opening.specs.Volumes.{AreVolumesKept, AreVolumesKeptUntil}
+use Rattle.mas_run.proofs.PaperLemmas.{papers_past}
+use Rattle.run_opening.proofs.VolumeLemmas.{kept_past, kept_then}
 use Rattle.mas_types.specs.declared.journals.Batch.{Batch}
-use Rattle.mas_complex.specs.Journals.{kept_all, fated, AreSettled}
-use Rattle.mas_complex.specs.Paper.{SamePapers}
+use Rattle.mas_complex.specs.Journals.{kept_all, AreSettled}
 use Rattle.mas_complex.specs.Meaning.{run}
 use Rattle.std.proofs.lemmas.List.{append-nil}
-use Rattle.mas_run.specs.Statuses.{IsCaused, IsCausedFrom, LeavesLost, status_of}
+use Rattle.run_opening.specs.Statuses.{IsCausedFrom, status_of}
 use Rattle.std.proofs.Math.Seq.{drop-append_seam}
 use Rattle.spool_plant.specs.declared.plant.Plant.{Ghosts as PlantGhosts}
 use Rattle.mas_complex.specs.Parts.{Parts}
 use Rattle.run_turns.specs.Scenes.{scene_of}
 use Rattle.mas_run.specs.Copies.{KeepCopies, LeavesSome, LeavesCopies}
-use Rattle.mas_run.specs.Lines.{Proceeds, StaysLost}
+use Rattle.run_opening.specs.Lines.{Proceeds, StaysLost}
 use Rattle.mas_run.specs.Passed.{Here, LeaveVolumes, Passed, There}
-use Rattle.mas_run.proofs.CopiesLemmas.{alive_on, lost_after, lost_before}
+use Rattle.mas_run.proofs.CopiesLemmas.{alive_on}
 use Rattle.mas_run.proofs.LinesLemmas.{passed_after}
 use Rattle.mas_run.proofs.MemberRunLemmas.{have_passed}
-use Rattle.mas_run.proofs.PassedLemmas.{passed_goes, proceeds_of}
+use Rattle.mas_run.proofs.PassedLemmas.{passed_goes}
 use Rattle.mas_types.specs.declared.answers.Status.TheVariants as status
-use Rattle.duplex_pair.specs.declared.errors.PairNo.TheVariants as pair_no
 use Rattle.member_node.specs.declared.member.NodeNo.TheVariants as no_node
-
-abbrev fate_code : Fate → ℕ
-fate_code Kept = 0
-fate_code Dropped = 1
-fate_code Flying = 2
-
-abbrev fate_from : ℕ → Fate
-fate_from zero = Kept
-fate_from (suc zero) = Dropped
-fate_from (suc (suc n)) = Flying
-
-fate_back : (f : Fate) → fate_from (fate_code f) ≡ f
-fate_back Kept = refl
-fate_back Dropped = refl
-fate_back Flying = refl
-
-abbrev coded_fate : Coded Fate
-coded_fate = code_by ℕ coded_ℕ fate_code fate_from fate_back
-
--- what is told is kept, which needs no choice
-pub told_of : (base : Queue) (since : ℕ) (J : Journal) (rs : Renewals) (v : View) → ∥ Headline form_reads base since J rs v ∥₁ → AreToldKept J since v
-told_of base since J rs v head t from le by at end telling there k d lt has =
-    ∥∥₁_elim head (×_prop (Coded-set coded_fate _ _) le_prop) (λ h. h.told t from le by at end telling there k d lt has)
-
--- a copy that was there at a moment, with these pages, was so then whatever came later
-pub reads_there : (dev : Dev) (pages : List ℕ) (old new : View) → Proceeds old new → (disk_now old dev).lost ≡ false → form_reads (disk_now old dev).bytes ≡ Some pages → ReadsThere dev pages old.now new
-reads_there dev pages old new goes there reads =
-    let same : disk_at new old.now dev ≡ disk_now old dev = ap (λ (w : World). w.disk dev) (goes.past old.now (le_refl old.now)) in
-    (ap (λ (d : Disk). d.lost) same ∙ there, ap (λ (d : Disk). form_reads d.bytes) same ∙ reads)
-
--- devices of copies that were lost before or are so after
-abbrev pub lost_ever : View → View → Dev → Bool
-lost_ever old new d = old.lost (DiskPart d) || new.lost (DiskPart d)
-
-true_or : (a b : Bool) → a ≡ true → (a || b) ≡ true
-true_or true b is = refl
-true_or false b is = absurd (cc)
-
-pub ever_lost : (old new : View) → Proceeds old new → (p : Part) → old.lost p ≡ true → (as_found (lost_ever old new) new).lost p ≡ true
-ever_lost old new goes (DiskPart Ckpt1) is = true_or (old.lost (DiskPart Ckpt1)) (new.lost (DiskPart Ckpt1)) is
-ever_lost old new goes (DiskPart Ckpt2) is = true_or (old.lost (DiskPart Ckpt2)) (new.lost (DiskPart Ckpt2)) is
-ever_lost old new goes (DiskPart (Spool n)) is = goes.lost (DiskPart (Spool n)) refl is
-ever_lost old new goes Console is = goes.lost Console refl is
-ever_lost old new goes (Printer m) is = goes.lost (Printer m) refl is
-ever_lost old new goes (Wire w) is = goes.lost (Wire w) refl is
-
-or_on : (a b : Bool) → (a ≡ true → b ≡ true) → (a || b) ≡ b
-or_on true b on = sym (on refl)
-or_on false b on = refl
-
-pub ever_on : (old new : View) (d : Dev) → StaysLost d old new → lost_ever old new d ≡ new.lost (DiskPart d)
-ever_on old new d stays = or_on (old.lost (DiskPart d)) (new.lost (DiskPart d)) stays
-
--- but for stops that were armed, and copies that were replaced, it went as acts go
-abbrev pub unarmed_view : View → View → View
-unarmed_view old new = record new { lost = λ p. lost_from (lost_ever old new) p (new.lost p); arms = old.arms }
-
-pub unarmed : (old new : View) → Proceeds old new → Goes old (unarmed_view old new)
-unarmed old new goes = record {
-  later = goes.later;
-  past = goes.past;
-  size = goes.size;
-  faults = goes.faults;
-  stops = goes.stops;
-  lost = ever_lost old new goes;
-  arms = λ m. refl;
-}
-
--- what holds at each moment
-safe_of : (told : Type 0) (base : Queue) (journal : Journal) (rs : Renewals) (since : ℕ) (new : View) → IsSound base → (told → ∥ Headline form_reads base since journal rs new ∥₁) → IsSafe told base journal rs since new
-safe_of told base journal rs since new sound head = record {
-  crash = λ t. ∥∥₁_map (head t) (λ h. h.crash);
-  alike = λ t. ∥∥₁_map (head t) (λ h. h.alike);
-  texts = λ t. ∥∥₁_map (head t) (λ h. h.texts);
-  told = λ t. told_of base since journal rs new (head t);
-  paper = λ t. ∥∥₁_elim (head t) ∥∥₁_prop (λ h. h.paper sound);
-  levels = λ t. ∥∥₁_map (head t) (λ h. h.levels);
-  few = λ t. ∥∥₁_elim (head t) le_prop (λ h. h.few);
-}
+use Rattle.run_opening.proofs.OpeningLemmas.{safe_of}
 
 -- THE LINES, once they ended
 
@@ -281,232 +178,115 @@ play_of_lines tells steps base front now journal rs since old new result many se
 lines_stay : (tells : Type 0) (b : LinesBegun) (e : LinesEnded) (was : Dev → ℕ) (old : View) (d : Dev) → WerePlayed tells b e was old → ReplacesNone d b.steps → StaysLost d b.view e.view
 lines_stay tells b e was old d p none is = ⊎_elim (λ (n : NonePassed b e). ap (λ (v : View). v.lost (DiskPart d)) n.still ∙ is) (λ (h : HavePassed ⊥ b e). h.stays d none is) p.bare
 
--- no byte of a volume changes before a run's first act
-pub volumes_at : (old new : View) → Proceeds old new → AreVolumesKeptUntil old.now old new
-volumes_at old new goes = kept_past old.now old old new (let le : old.now ≤ old.now = omega arith in le) goes (kept_none old)
+-- A RUN from where its lines begin
 
--- a cold run begins with its lines
-pub cold_lines : (tells : Type 0) (steps : List Step) (answer : Status) (base : Queue) (front : List Batch) (journal : Journal) (since : ℕ) (old new : View) → front ≡ [] → since ≡ old.now → Proceeds old new
-    → IsPlay tells steps answer base front journal since old new → HasSteps true tells steps answer base journal since old.loses old new
-cold_lines tells steps answer base front journal since old new none is goes p = record {
-  opening = front;
-  rest = p.rest;
-  batches = p.batches;
-  entry = old;
-  at = old.now;
-  began = (omega (arith, is), goes.later, refl);
-  many = p.many;
-  played = p.played;
-  renewals = p.renewals;
-  opened = (none, sym is);
-  before = λ t. volumes_at old new goes;
-  dry = λ t. papers_at old new goes;
-  safe = p.safe;
-  away = p.away;
-  stays = λ d other. lines_stay tells (record { steps = steps; from = run base (kept_all front); since = since; view = old }) (record { many = p.many; batches = p.rest; renewals = p.renewals; view = new; answer = answer }) old.loses old d p.played other;
-}
+module _ {P C : Type 0} {plants : PlantGhosts P} {steadies : SteadyGhosts C} {copies : CopyGhosts C} (cold : Bool) (script : Script) (old : View) (x : Complex P C plants steadies copies) (ms : List Member)
+    (o : IsOpenRun cold plants.tells script old x ms) (answer : Status) (journal : Journal) (new : View) (goes : Proceeds (at_end x) new)
+    (p : IsPlay plants.tells script.steps answer x.base x.journal.batches journal x.since (at_end x) new) where
+  abbrev first_line : LinesBegun
+  first_line = record { steps = script.steps; from = run x.base (kept_all x.journal.batches); since = x.since; view = at_end x }
 
--- THE LINES AS THE CALL HAS THEM, which began before the formatting or the start
+  abbrev last_line : LinesEnded
+  last_line = record { many = p.many; batches = p.rest; renewals = p.renewals; view = new; answer = answer }
 
-module _ (first : View) (b : LinesBegun) (e : LinesEnded) (old : View) (goes : Goes first old) where
-  played_since : (tells : Type 0) (was other : Dev → ℕ) → (tells → console_now old ≡ console_now first) → (tells → AreSidesKept first old) → ((d : Dev) → was d ≡ other d)
-      → WerePlayed tells b e was old → WerePlayed tells b e other first
-  played_since tells was other quiet sides same p = record {
-    entered = goes_on first old b.view goes p.entered;
-    lost_before = λ d. p.lost_before d ∙ same d;
-    unsaid = λ t. p.unsaid t ∙ quiet t;
-    dry = λ t. sides_on (first.world first.now) (old.world old.now) (b.view.world b.view.now) (sides t) (p.dry t);
-    bare = p.bare;
-    told = p.told;
+  stay_lost : (d : Dev) → ReplacesNone d script.steps → StaysLost d (at_end x) new
+  stay_lost d none = lines_stay plants.tells first_line last_line (at_end x).loses (at_end x) d p.played none
+
+  were_played_since : WerePlayed plants.tells first_line last_line o.first old
+  were_played_since = record {
+    entered = o.opened.entered;
+    lost_before = o.opened.lost_before;
+    unsaid = o.opened.unsaid;
+    dry = o.opened.dry;
+    bare = p.played.bare;
+    told = p.played.told;
     good = λ ne. ⊎_elim inl (λ lost. inr (⊎_elim
-        (λ one. inl (subst (λ (n : ℕ). Rose n (e.view.loses Ckpt1)) (same Ckpt1) one))
-        (λ two. inr (subst (λ (n : ℕ). Rose n (e.view.loses Ckpt2)) (same Ckpt2) two)) lost)) (p.good ne);
+        (λ one. inl (subst (λ (n : ℕ). Rose n (new.loses Ckpt1)) (o.opened.lost_before Ckpt1) one))
+        (λ two. inr (subst (λ (n : ℕ). Rose n (new.loses Ckpt2)) (o.opened.lost_before Ckpt2) two)) lost)) (p.played.good ne);
   }
 
-module _ (first old new : View) (goes : Goes first old) (on : Proceeds old new) where
-  pub steps_since : (cold : Bool) (tells : Type 0) (steps : List Step) (answer : Status) (base : Queue) (journal : Journal) (since : ℕ) (was : Dev → ℕ) → (tells → console_now old ≡ console_now first)
-      → (tells → AreVolumesKept first old) → (tells → SamePapers first old) → (tells → AreSidesKept first old) → HasSteps cold tells steps answer base journal since was old new → HasSteps cold tells steps answer base journal since was first new
-  steps_since cold tells steps answer base journal since was quiet kept papers sides r = record {
-    opening = r.opening;
-    rest = r.rest;
-    batches = r.batches;
-    entry = r.entry;
-    at = r.at;
-    began = r.began;
-    many = r.many;
-    played = played_since first (record { steps = steps; from = run base (kept_all r.opening); since = since; view = r.entry }) (record { many = r.many; batches = r.rest; renewals = r.renewals; view = new; answer = answer }) old goes
-        tells was was quiet sides (λ d. refl) r.played;
-    opened = r.opened;
-    before = λ t. kept_then r.at first old new goes.later on (kept t) (r.before t);
-    dry = λ t. papers_then r.at first old new goes.later on (papers t) (r.dry t);
-    safe = r.safe;
-    renewals = r.renewals;
-    away = r.away;
-    stays = λ d other is. r.stays d other (goes.lost (DiskPart d) is);
-  }
-
-  -- what was played after Restart is what is played of a warm run
-  pub warm_lines : (tells : Type 0) (steps : List Step) (answer : Status) (base : Queue) (b : Batch) (last : ℕ) (front : List Batch) (journal : Journal) (since : ℕ) → front ≡ fated Kept last b ∷ [] → IsRestart since b → b.first ≤ last → last ≤ old.now → since ≤ old.now
-      → ((d : Dev) → old.loses d ≡ first.loses d) → (tells → console_now old ≡ console_now first) → (tells → AreVolumesKept first old) → (tells → SamePapers first old) → (tells → AreSidesKept first old)
-      → IsPlay tells steps answer base front journal since old new → HasSteps false tells steps answer base journal since first.loses first new
-  warm_lines tells steps answer base b last front journal since are is order past from same quiet kept papers sides p = record {
-    opening = front;
+  steps_of_lines : HasSteps cold plants.tells script.steps answer x.base journal x.since o.first old new
+  steps_of_lines = record {
+    opening = x.journal.batches;
     rest = p.rest;
     batches = p.batches;
-    entry = old;
-    at = old.now;
-    began = (from, on.later, refl);
+    entry = at_end x;
+    at = (at_end x).now;
+    began = (o.opened.began, goes.later, refl);
     many = p.many;
-    played = played_since first (record { steps = steps; from = run base (kept_all front); since = since; view = old }) (record { many = p.many; batches = p.rest; renewals = p.renewals; view = new; answer = answer }) old goes
-        tells old.loses first.loses quiet sides same p.played;
-    opened = inl (fated Kept last b, are, record { by = is.by; entries = is.entries; began = is.began }, refl, order, past);
-    before = λ t. kept_past old.now first old new (let le : old.now ≤ old.now = omega arith in le) on (kept t);
-    dry = λ t. papers_past old.now first old new (let le : old.now ≤ old.now = omega arith in le) on (papers t);
-    safe = p.safe;
     renewals = p.renewals;
+    played = were_played_since;
+    opened = o.opened.opened answer p.rest p.many;
+    before = λ t. kept_past (at_end x).now old (at_end x) new (let le : (at_end x).now ≤ (at_end x).now = omega arith in le) goes (o.opened.volumes t);
+    dry = λ t. papers_past (at_end x).now old (at_end x) new (let le : (at_end x).now ≤ (at_end x).now = omega arith in le) goes (o.opened.papers t);
+    safe = p.safe;
     away = p.away;
-    stays = λ d other is.
-        lines_stay tells (record { steps = steps; from = run base (kept_all front); since = since; view = old }) (record { many = p.many; batches = p.rest; renewals = p.renewals; view = new; answer = answer }) old.loses old d p.played other
-        (goes.lost (DiskPart d) is);
+    stays = λ d none is. stay_lost d none (o.opened.entered.lost (DiskPart d) is);
   }
 
--- a warm run in which Restart isn't kept plays no line
-pub reset_alone : (tells : Type 0) (steps : List Step) (answer : Status) (base : Queue) (opening : List Batch) (journal : Journal) (since : ℕ) (old new : View) → IsSound base → journal.batches ≡ opening → since ≡ old.now → Goes old new → IsReset answer since new.now opening 0 []
-    → (answer ≡ status.NoMemory) ⊎ (answer ≡ status.BothLost) → ((d : Dev) → new.loses d ≡ old.loses d) → (tells → console_now new ≡ console_now old) → (tells → ∥ Headline form_reads base since journal no_renewals new ∥₁)
-    → (answer ≡ status.BothLost → AreAway no_renewals new)
-    → (answer ≢ status.BothLost → (new.lost (DiskPart Ckpt1) ≡ false) ⊎ (new.lost (DiskPart Ckpt2) ≡ false)) → (tells → AreVolumesKept old new) → (tells → SamePapers old new) → (tells → AreSidesKept old new)
-    → HasSteps false tells steps answer base journal since old.loses old new
-reset_alone tells steps answer base opening journal since old new sound are is goes reset why same quiet head away there kept papers sides =
-    let none : NonePassed (record { steps = steps; from = run base (kept_all opening); since = since; view = new }) (record { many = 0; batches = []; renewals = no_renewals; view = new; answer = answer }) =
-    record { why = why; none = refl; empty = refl; unrenewed = refl; still = refl } in
+  pub run_of_lines : IsRun cold plants.tells script answer x.base journal x.since old new
+  run_of_lines =
+      let b : HasBegunWith cold plants.tells script x.base x.since o.first (o.lost new) old new = o.begun new goes in
+      record {
+        first = o.first;
+        before = b.before;
+        lost = o.lost new;
+        lost_on = λ d none. o.lost_on new d (stay_lost d none);
+        queue = b.queue;
+        sound = b.sound;
+        moment = b.moment;
+        fresh = b.fresh;
+        formatted = b.formatted;
+        quiet = b.quiet;
+        dry = b.dry;
+        steps = steps_of_lines;
+      }
+
+-- a warm run that couldn't be reset plays no line
+pub run_of_none : (cold : Bool) (tells : Type 0) (script : Script) (answer : Status) (base : Queue) (journal : Journal) (since : ℕ) (old new : View) → HasNoLines cold tells script answer base journal since old new
+    → IsRun cold tells script answer base journal since old new
+run_of_none cold tells script answer base journal since old new n =
+    let b = n.begun in
+    let none : NonePassed (record { steps = script.steps; from = run base (kept_all journal.batches); since = since; view = new }) (record { many = 0; batches = []; renewals = no_renewals; view = new; answer = answer }) =
+    record { why = n.why; none = refl; empty = refl; unrenewed = refl; still = refl } in
     record {
-      opening = opening;
-      rest = [];
-      batches = are ∙ sym (append-nil opening);
-      entry = new;
-      at = new.now;
-      began = (omega (arith, is, goes.later), omega arith, refl);
-      many = 0;
-      played = record {
-        entered = goes;
-        lost_before = same;
-        unsaid = quiet;
-        dry = sides;
-        bare = inl none;
-        told = λ t. inl none;
-        good = λ ne. inl (⊎_elim (λ one. inl (one, refl)) (λ two. inr (two, refl)) (there ne));
+      first = n.first;
+      before = b.before;
+      lost = n.lost;
+      lost_on = λ d replaced. n.lost_on d;
+      queue = b.queue;
+      sound = b.sound;
+      moment = b.moment;
+      fresh = b.fresh;
+      formatted = b.formatted;
+      quiet = b.quiet;
+      dry = b.dry;
+      steps = record {
+        opening = journal.batches;
+        rest = [];
+        batches = sym (append-nil journal.batches);
+        entry = new;
+        at = new.now;
+        began = (n.began, omega arith, refl);
+        many = 0;
+        renewals = no_renewals;
+        played = record {
+          entered = n.entered;
+          lost_before = n.lost_before;
+          unsaid = n.unsaid;
+          dry = n.dry;
+          bare = inl none;
+          told = λ t. inl none;
+          good = λ ne. inl (n.good ne);
+        };
+        opened = n.opened;
+        before = n.volumes;
+        dry = n.papers;
+        safe = n.safe;
+        away = n.away;
+        stays = λ d replaced. n.entered.lost (DiskPart d);
       };
-      opened = reset;
-      before = kept;
-      dry = papers;
-      safe = safe_of tells base journal no_renewals since new sound head;
-      renewals = no_renewals;
-      away = away;
-      stays = λ d other. goes.lost (DiskPart d);
     }
-
--- how both copies were lost: in the formatting, or later
-pub caused_since : (by : ℕ) (a b stopped : Bool) (answer : Status) (entry old new : View) → PairActed by true a true b stopped entry old → Proceeds old new → ((d : Dev) → Grows (old.loses d) (new.loses d)) → IsCausedFrom a b answer old new → IsCaused answer entry new
-caused_since by a b stopped answer entry old new formed goes grow caused = record {
-  failed1 = λ d. by_copy a (λ is. lost_after Ckpt1 entry old new (proceeds_of entry old formed.goes) (inl (formed.loses Ckpt1)) (caused.failed1 d is)) (λ not. lost_before Ckpt1 entry old new (inl (formed.failed1 refl not)) goes (grow Ckpt1));
-  failed2 = λ d. by_copy b (λ is. lost_after Ckpt2 entry old new (proceeds_of entry old formed.goes) (inl (formed.loses Ckpt2)) (caused.failed2 d is)) (λ not. lost_before Ckpt2 entry old new (inl (formed.failed2 refl not)) goes (grow Ckpt2));
-  console = λ d. omega (arith, formed.goes.faults Console, caused.console d);
-} where
-  by_copy : {A : Type 0} (x : Bool) → (x ≡ true → A) → (x ≡ false → A) → A
-  by_copy true f g = f refl
-  by_copy false f g = g refl
-
--- a run that lost both copies in the formatting
-pub caused_formed : (by : ℕ) (a b stopped : Bool) (entry new : View) → PairActed by true a true b stopped entry new → IsBothLost a b → IsCaused status.BothLost entry new
-caused_formed by a b stopped entry new formed both = record {
-  failed1 = λ d. inl (formed.failed1 refl both.0);
-  failed2 = λ d. inl (formed.failed2 refl both.1);
-  console = λ d. absurd (cc);
-}
-
--- the operator is never stopped in the formatting
-pub caused_unformed : (T : Type 0) (a b : Bool) (why : PairNo) (entry new : View) → PairActed 0 true a true b (pair_stopped {T = T} (Err why)) entry new → (why ≡ pair_no.BothLost → IsBothLost a b) → IsCaused status.BothLost entry new
-caused_unformed T a b pair_no.BothLost entry new formed both = caused_formed 0 a b false entry new formed (both refl)
-caused_unformed T a b pair_no.Halted entry new formed both = let some = formed.not_operator refl in absurd (omega (arith, some))
-
--- and what that leaves lost
-pub formed_lost : (T : Type 0) (a b : Bool) (why : PairNo) (entry new : View) → PairActed 0 true a true b (pair_stopped {T = T} (Err why)) entry new → (why ≡ pair_no.BothLost → IsBothLost a b) → LeavesLost status.BothLost entry new
-formed_lost T a b pair_no.BothLost entry new formed both = record { stays = formed.goes.lost; both = λ is. (formed.is_lost1 refl (both refl).0, formed.is_lost2 refl (both refl).1) }
-formed_lost T a b pair_no.Halted entry new formed both = let some = formed.not_operator refl in absurd (omega (arith, some))
-
--- A COPY AS IT WAS FORMED
-
-pub formed_copy : (base : Queue) (now : ℕ) (rests : List ℕ → Disk → Type 0) (holds : List ℕ → List ℕ → Disk → Type 0) (alive : Bool) (disk : Disk) (pages : List ℕ)
-    → (alive ≡ true → rests pages disk) → (alive ≡ false → now < top → disk.lost ≡ true) → OneCopy (setting form_reads base now) rests holds pages None Before alive false now disk
-formed_copy base now rests holds alive disk pages rested gone = record { at = rested; formed = λ _. refl; gone = gone }
-
--- what the images of a copy read as later
-pub formed_images : (dev : Dev) (rests : List ℕ → Disk → Type 0) (pages : List ℕ) (alive : Bool) (v w : View) → Proceeds v w → ((d : Disk) → rests pages d → AllRead form_reads pages d)
-    → (alive ≡ true → rests pages (disk_now v dev)) → (alive ≡ false → v.now < top → (disk_now v dev).lost ≡ true) → v.now < top → AllRead form_reads pages (disk_at w v.now dev)
-formed_images dev rests pages alive v w goes read rested gone lt =
-    let le : v.now ≤ v.now = omega arith in
-    subst (λ (x : World). AllRead form_reads pages (x.disk dev)) (sym (goes.past v.now le)) (by_copy alive (λ a. read (disk_now v dev) (rested a)) (λ n image is. absurd (clash (disk_now v dev).lost (gone n lt) is.there)))
-  where
-    by_copy : {A : Type 0} (x : Bool) → (x ≡ true → A) → (x ≡ false → A) → A
-    by_copy true f g = f refl
-    by_copy false f g = g refl
-
-    clash : (b : Bool) → b ≡ true → b ≡ false → ⊥
-    clash b p q = absurd (cc)
-
--- WHAT IS KNOWN OF THE EMPTY QUEUE
-
-none_used : {A : Type 0} (P : A → Type 0) (n : ℕ) → All P (used (replicate n None))
-none_used P zero = All-nil P
-none_used P (suc n) = none_used P n
-
-module _ (config : Config) (routes : List Route) (t : Tables) (is : t ≡ empty_tables config routes) where
-  pub fit_empty : HasShape t → AreFit t
-  fit_empty shape = record {
-    shape = shape;
-    jobs = subst (λ (u : Tables). All (IsFitJob u.order) (used u.jobs)) (sym is) (none_used (IsFitJob 0) config.jobs);
-    outputs = subst (λ (u : Tables). All (IsFitOutput u.order) (used u.outputs)) (sym is) (none_used (IsFitOutput 0) config.outputs);
-  }
-
-  pub low_empty : (batches : ℕ) → HasShape t → AreLow t.config batches t
-  low_empty batches shape = record { same = refl; fit = fit_empty shape; order = subst (λ (u : Tables). u.order ≤ orders_after batches) (sym is) (omega arith) }
-
-  pub orders_empty : HaveOrders t
-  orders_empty = subst HaveOrders (sym is) (empty_orders config routes)
-
-  pub told_empty : (Q : Queue) → Q ≡ empty_queue config routes → Tell (empty_tables config routes) (empty_queue config routes) → Tell t Q
-  told_empty Q queue told = subst (Tell t) (sym queue) (subst (λ (u : Tables). Tell u (empty_queue config routes)) (sym is) told)
-
-  pub sound_empty : IsConfig config → length routes ≤ routes_most → Tell (empty_tables config routes) (empty_queue config routes) → TellSound t
-  sound_empty fits few told = subst TellSound (sym is) (record { queue = empty_queue config routes; told = told; sound = empty_queue-sound config routes fits few })
-
--- an empty queue has the sound parts
-pub sound_base : (config : Config) (routes : List Route) (Q : Queue) → Q ≡ empty_queue config routes → IsConfig config → length routes ≤ routes_most → IsSound Q
-sound_base config routes Q is fits few = subst IsSound (sym is) (empty_queue-sound config routes fits few)
-
--- an empty queue has members
-pub begun_empty : (config : Config) (routes : List Route) (Q : Queue) → Q ≡ empty_queue config routes → IsConfig config → has_begun Q ≡ true
-begun_empty config routes Q is fits = let some = fits.members.0 in let e : nat_lt 0 config.members ≡ true = grind (arith, nat_tests, some) in ap has_begun is ∙ e
-
--- an empty queue has no texts
-pub empty_texts : (config : Config) (routes : List Route) (gone : ℕ → Bool) (disks : Spools) (Q : Queue) → Q ≡ empty_queue config routes → HasTexts gone disks Q.config.groups Q
-empty_texts config routes gone disks Q is = subst (λ (R : Queue). HasTexts gone disks R.config.groups R) (sym is) (record { decks = All-nil _; outputs = All-nil _ })
-
--- CAUSES, THROUGH RESTART AND THE START
-
-pub grows_through : (v0 v1 v2 : View) (d : Dev) → v1.loses d ≡ v0.loses d → Grows (v1.loses d) (v2.loses d) → Grows (v0.loses d) (v2.loses d)
-grows_through v0 v1 v2 d same grow = ⊎_elim (λ e. inl (e ∙ same)) (λ r. inr (omega (arith, r, same))) grow
-
-by_alive : {A : Type 0} (x : Bool) → (x ≡ true → A) → (x ≡ false → A) → A
-by_alive true f g = f refl
-by_alive false f g = g refl
-
-pub caused_through : (a a' c c' : Bool) (answer : Status) (v0 v1 v2 : View) → Course a a' c c' v0 v1 → Proceeds v1 v2 → ((d : Dev) → Grows (v1.loses d) (v2.loses d)) → IsCausedFrom a' c' answer v1 v2 → IsCausedFrom a c answer v0 v2
-caused_through a a' c c' answer v0 v1 v2 course goes grow caused = record {
-  failed1 = λ e was. by_alive a' (λ is. lost_after Ckpt1 v0 v1 v2 (proceeds_of v0 v1 course.goes) (course.grow Ckpt1) (caused.failed1 e is)) (λ not. lost_before Ckpt1 v0 v1 v2 (course.failed1 was not) goes (grow Ckpt1));
-  failed2 = λ e was. by_alive c' (λ is. lost_after Ckpt2 v0 v1 v2 (proceeds_of v0 v1 course.goes) (course.grow Ckpt2) (caused.failed2 e is)) (λ not. lost_before Ckpt2 v0 v1 v2 (course.failed2 was not) goes (grow Ckpt2));
-  console = λ e. omega (arith, course.goes.faults Console, caused.console e);
-}
 
 -- A SCRIPT WITHOUT LINES leaves the volumes as they are
 

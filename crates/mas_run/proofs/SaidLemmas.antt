@@ -29,12 +29,14 @@ use Rattle.run_turns.specs.Pieces.{Piece, Play, play_of}
 use Rattle.run_turns.specs.Scenes.{Scene}
 use Rattle.run_turns.specs.Sights.{Cause, Cut, Ends, Renewed, Replaced, Stops, clear}
 use Rattle.mas_run.specs.LinesAt.{LineAt}
-use Rattle.mas_run.specs.LinesLeft.{HasLeftAs, IfRuns, LeftAt, left_as}
+use Rattle.mas_run.specs.LinesLeft.{HasLeftAs, LeftAt, left_as}
+use Rattle.member_resets.specs.Settling.{IfRuns}
 use Rattle.mas_run.specs.Renewing.{RenewsAs}
 use Rattle.mas_run.proofs.ClosingLemmas.{Ending, HasMerelyActed, IsCloser, MayEnd, Unsaid, closed_left, closing_at, closing_found, cut_by, ended_so, some_end}
-use Rattle.mas_run.proofs.PassedLemmas.{kept_later, proceeds_of, proceeds_on}
+use Rattle.mas_run.proofs.PassedLemmas.{kept_later}
+use Rattle.run_opening.proofs.ProceedLemmas.{proceeds_of, proceeds_on}
 use Rattle.mas_run.proofs.StopLemmas.{papers_on}
-use Rattle.mas_run.proofs.VolumeLemmas.{kept_on}
+use Rattle.run_opening.proofs.VolumeLemmas.{kept_on}
 use Rattle.mas_run.proofs.StayLemmas.{console_stays}
 
 -- WHAT A CALL THAT CLOSES DID

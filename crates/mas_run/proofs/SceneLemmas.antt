@@ -26,7 +26,7 @@ use Rattle.mas_run.specs.Copies.{CopiesKept}
 use Rattle.mas_run.specs.LinesLeft.{HasLeftAs, LeftAt, LineIsLeft}
 use Rattle.mas_run.specs.LinesPlayed.{line_by}
 use Rattle.mas_run.specs.Renewing.{RenewsAs}
-use Rattle.mas_run.specs.Shows.{AreMembers, BetweenLines, IsFlight, IsMemberAt, IsShown, LeftBetween}
+use Rattle.run_opening.specs.Shows.{AreMembers, BetweenLines, IsFlight, IsMemberAt, IsShown, LeftBetween}
 
 -- WHAT A LINE DID, for every answer
 

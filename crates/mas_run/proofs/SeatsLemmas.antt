@@ -38,13 +38,14 @@ use Rattle.run_turns.specs.Sights.{clear}
 use Rattle.member_hand.proofs.Passages.{passage_of}
 use Rattle.mas_run.specs.Bounds.{level_most}
 use Rattle.mas_run.specs.Copies.{KeepCopies, LeavesSome}
-use Rattle.mas_run.specs.Lines.{Proceeds}
+use Rattle.run_opening.specs.Lines.{Proceeds}
 use Rattle.mas_run.specs.LinesLeft.{LeftAt, LineIsLeft}
 use Rattle.mas_run.specs.LinesPlayed.{line_by}
-use Rattle.mas_run.specs.Shows.{BetweenLines, IsBetween, IsMemberUp, IsOfEarlier, IsShown, LeftBetween}
+use Rattle.run_opening.specs.Shows.{BetweenLines, IsBetween, IsMemberUp, IsShown, LeftBetween}
+use Rattle.member_hand.specs.Standing.{IsOfEarlier}
 use Rattle.mas_run.proofs.AdmittedLemmas.{HasGot}
 use Rattle.mas_run.proofs.AfterLemmas.{earlier_now, earlier_then}
-use Rattle.mas_run.proofs.BookLemmas.{Since, inside_since, stopped_now, stopped_since, then_since, tried_since}
+use Rattle.member_resets.proofs.BookLemmas.{Since, inside_since, stopped_now, stopped_since, then_since, tried_since}
 use Rattle.mas_run.proofs.ClosedLemmas.{scene_at, shown_at}
 use Rattle.mas_run.proofs.ClosesLemmas.{Stays, if_ok, stays_stopped}
 use Rattle.mas_run.proofs.ClosingLemmas.{Ending, IsCloser, closing_at, locks_closer}
@@ -52,12 +53,12 @@ use Rattle.mas_run.proofs.CopiesLemmas.{copies_of, copies_then, said_copies, lea
 use Rattle.mas_run.proofs.HaltedLemmas.{halted_between}
 use Rattle.mas_run.proofs.LocksLemmas.{locks_next}
 use Rattle.mas_run.proofs.MayLemmas.{may_go_on, none_left_held}
-use Rattle.mas_run.proofs.PassedLemmas.{proceeds_of}
+use Rattle.run_opening.proofs.ProceedLemmas.{proceeds_of}
 use Rattle.mas_run.proofs.SaidLemmas.{not_lost, seated_bare, seated_told, unseated_bare, unseated_told}
 use Rattle.mas_run.proofs.SceneLemmas.{LineDone, admitted_here, none_flies, tested_here}
-use Rattle.mas_run.proofs.TakenLemmas.{journal_still}
+use Rattle.member_resets.proofs.SettleLemmas.{journal_still}
 use Rattle.mas_run.proofs.TestedLemmas.{copies_tested, line_tested}
-use Rattle.mas_run.proofs.ToldLemmas.{TellNone, left_tells, untold_then}
+use Rattle.member_resets.proofs.ToldLemmas.{TellNone, left_tells, untold_then}
 use Rattle.mas_run.proofs.OwnLemmas.{found_says, line_says}
 
 -- ACTS ON THE COPIES ALONE
@@ -303,7 +304,7 @@ module _ {P C : Type 0} {plants : PlantGhosts P} {steadies : SteadyGhosts C} {co
         (λ apart. absurd (apart mine)) earlier
         (λ k later less small tells.
         let w = did.wrote tells in
-        untold_then plants copies p q base since is.begun did.goes w.0 (λ o. w.1) k later (w.2 later less small) (is.untold k later (omega (arith, less)) small) tells)
+        untold_then plants copies p q base since is.begun did.goes.past w.0 (λ o. w.1) k later (w.2 later less small) (is.untold k later (omega (arith, less)) small) tells)
 
   pub seats_done : LineDone x y (set ms (by.0 - 1) n) at by what r
   seats_done = record {

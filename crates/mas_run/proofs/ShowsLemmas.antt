@@ -11,8 +11,9 @@ use Rattle.mas_complex.proofs.Batches.{kept_all_append}
 use Rattle.mas_complex.specs.Journals.{AreSettled, kept_all}
 use Rattle.member_node.proofs.WriteLemmas.{run_append}
 use Rattle.run_turns.specs.Scenes.{Batched, kept_in, kept_of, queue_found}
-use Rattle.mas_run.specs.Histories.{AreHistory, settle, settled_at}
-use Rattle.mas_run.proofs.LinesLemmas.{settle_both, settle_still}
+use Rattle.mas_run.specs.Histories.{AreHistory}
+use Rattle.member_resets.specs.Settling.{settle, settled_at}
+use Rattle.member_resets.proofs.SettleLemmas.{settle_both, settle_still}
 use Rattle.mas_run.proofs.PassedLemmas.{settled_is}
 
 -- BATCHES OF A LINE

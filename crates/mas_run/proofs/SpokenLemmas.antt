@@ -1,18 +1,16 @@
 -- A line that was said leaves the value between two lines, or at its member's seat, where no later step is told by it.
-use Rattle.std.proofs.Common.{◌≡◌, ℕ, ◌+◌, ◌*◌, ◌≤◌, ◌<◌, ◌++◌, Bool, true, false, List, [], ◌∷◌, All, refl, sym, ◌∙◌, ap, subst, arith}
+use Rattle.std.proofs.Common.{◌≡◌, ℕ, ◌+◌, ◌≤◌, ◌<◌, ◌++◌, Bool, true, List, [], ◌∷◌, All, refl, sym, ◌∙◌, ap, subst, arith}
 use Rattle.std.proofs.lemmas.List.Elements.{All-weaker}
 use Rattle.mas_types.specs.declared.ids.Dev.{Dev}
-use Rattle.mas_types.specs.declared.ids.Dev.TheVariants.{Ckpt1, Ckpt2, Spool}
+use Rattle.mas_types.specs.declared.ids.Dev.TheVariants.{Ckpt1, Ckpt2}
 use Rattle.mas_types.specs.declared.queues.Queue.{Queue}
 use Rattle.mas_types.specs.declared.ids.Page.{Page}
 use Rattle.mas_types.specs.declared.journals.Batch.{Batch}
 use Rattle.mas_types.specs.declared.journals.Entry.{Entry}
 use Rattle.mas_types.specs.declared.queues.Config.{Config}
-use Rattle.mas_types.specs.Limits.{page_bytes, steps_most}
+use Rattle.mas_types.specs.Limits.{steps_most}
 use Rattle.spool_plant.specs.declared.plant.Plant.{Ghosts as PlantGhosts}
-use Rattle.spool_plant.specs.declared.plant.Part.TheVariants.{Disk}
 use Rattle.spool_plant.specs.View.{Line, View, disk_now}
-use Rattle.spool_volumes.specs.Volumes.{AreRoomy}
 use Rattle.ckpt_copy.specs.declared.copying.Copying.{Ghosts as CopyGhosts}
 use Rattle.ckpt_tables.specs.Shape.{page_count}
 use Rattle.mas_complex.proofs.Batches.{settled_later}
@@ -25,19 +23,11 @@ use Rattle.member_sittings.specs.Gates.{IsOpen}
 use Rattle.member_sittings.specs.Whole.{IsAtRest, IsSeat, first_half, second_half}
 use Rattle.member_steps.proofs.ReadLemmas.{low_later}
 use Rattle.member_hand.specs.Quiet.{IsQuiet}
-use Rattle.mas_run.specs.Lines.{Proceeds}
-use Rattle.mas_run.specs.Shows.{AreLarge, AreMembers, IsBetween, IsMemberAt, IsOfEarlier}
-use Rattle.mas_run.proofs.ToldLemmas.{TellNone, Untells, untold_then}
-
--- a volume has the size that its groups need
-unlost : (was is : Bool) → (was ≡ true → is ≡ true) → is ≡ false → was ≡ false
-unlost false is on not = refl
-unlost true is on not = absurd (let both : true ≡ false = sym (on refl) ∙ not in cc)
-
-pub roomy_on : (old new : View) (config : Config) → Proceeds old new → AreRoomy old config → AreRoomy new config
-roomy_on old new config goes roomy n some le there =
-    subst (λ (s : ℕ). page_bytes * config.groups ≤ s) (sym (goes.size (Spool n)))
-    (roomy n some le (unlost (old.lost (Disk (Spool n))) (new.lost (Disk (Spool n))) (goes.lost (Disk (Spool n)) refl) there))
+use Rattle.run_opening.specs.Lines.{Proceeds}
+use Rattle.run_opening.specs.Shows.{AreLarge, AreMembers, IsBetween, IsMemberAt}
+use Rattle.member_hand.specs.Standing.{IsOfEarlier}
+use Rattle.member_resets.proofs.ToldLemmas.{TellNone, Untells, untold_then}
+use Rattle.run_opening.proofs.RoomLemmas.{roomy_on}
 
 -- a device of a copy has the size that the pages need
 pub large_on : {P C : Type 0} (plants : PlantGhosts P) (copies : CopyGhosts C) (x y : Parts P C) → y.base ≡ x.base → ((d : Dev) → (plants.view y.plant).size d ≡ (plants.view x.plant).size d)
@@ -163,7 +153,7 @@ module _ {P C : Type 0} (plants : PlantGhosts P) (copies : CopyGhosts C) (x : Pa
     large = large_on plants copies x z refl goes.size is.large;
     untold = λ by later le small t.
         let said = lines t in
-        untold_then plants copies x z refl refl is.begun goes said.0 (λ u. said.1) by later
+        untold_then plants copies x z refl refl is.begun goes.past said.0 (λ u. said.1) by later
         (said.2 later le small) (is.untold by later (omega (arith, le, on)) small) t;
     earlier = earlier_to at to on _ is.earlier;
     few = few;

@@ -34,15 +34,17 @@ use Rattle.run_turns.specs.Givens.{ArePiecesOf, queue_met}
 use Rattle.run_turns.specs.Pieces.{Piece, Play, fate_found, holder_of, once_found, pieces_from, task_pieces}
 use Rattle.run_turns.specs.Scenes.{Batched, Scene}
 use Rattle.run_turns.specs.Sights.{Cut, Halt, Sight, clear}
-use Rattle.mas_run.specs.Histories.{settle}
-use Rattle.mas_run.specs.Lines.{AdmissionLeaves, IfIdle, LosesAs, PrintsNone, is_takeover, is_work, Proceeds, taking, named_as}
+use Rattle.member_resets.specs.Settling.{settle, IfRuns, ended_as}
+use Rattle.mas_run.specs.Lines.{AdmissionLeaves, IfIdle, LosesAs, PrintsNone, is_takeover, is_work, taking, named_as}
+use Rattle.run_opening.specs.Lines.{Proceeds}
 use Rattle.mas_run.specs.LinesAt.{LineAt, pieces_as, play_as}
-use Rattle.mas_run.specs.LinesLeft.{HasLeftAs, IfRuns, IsCutBy, ended_as, left_as}
+use Rattle.mas_run.specs.LinesLeft.{HasLeftAs, IsCutBy, left_as}
 use Rattle.mas_run.specs.Shapes.{IsShapedAs, IsTaskShaped}
-use Rattle.mas_run.specs.Volumes.{AreVolumesKept}
+use Rattle.run_opening.specs.Volumes.{AreVolumesKept}
 use Rattle.mas_run.specs.Wires.{Carries, waits_as}
 use Rattle.mas_run.proofs.ErasedLemmas.{erased, left_alike, left_same}
-use Rattle.mas_run.proofs.PassedLemmas.{kept_later, proceeds_of}
+use Rattle.mas_run.proofs.PassedLemmas.{kept_later}
+use Rattle.run_opening.proofs.ProceedLemmas.{proceeds_of}
 use Rattle.mas_run.proofs.StopLemmas.{loses_on}
 use Rattle.mas_run.proofs.WireLemmas.{ReadsLine, WaitsOnLine, carries_as, task_carries, waits_on}
 use Rattle.step_turns.specs.Courses.{task_most}
@@ -52,7 +54,7 @@ use Rattle.step_turns.specs.declared.states.Task.{Task}
 use Rattle.step_turns.specs.declared.states.Task.TheVariants.{Deck, Give, Work, Line as Node}
 use Rattle.step_turns.specs.Sittings.{Sitting}
 use Rattle.mas_run.proofs.LinesLemmas.{settle_none}
-use Rattle.mas_run.proofs.VolumeLemmas.{kept_none, kept_on}
+use Rattle.run_opening.proofs.VolumeLemmas.{kept_none, kept_on}
 use Rattle.member_node.specs.declared.member.NodeNo.TheVariants as no_node
 
 -- BATCHES that were begun since a moment were so since an earlier one

@@ -28,15 +28,18 @@ use Rattle.run_turns.specs.Cuts.{whole}
 use Rattle.run_turns.specs.Steps.{Said, cause_of, stopped_lines}
 use Rattle.mas_run.specs.LinesAt.{LineAt, admitted_at, pieces_at}
 use Rattle.run_turns.specs.Pieces.{Piece}
-use Rattle.mas_run.specs.Lines.{CouldNotStay, CutsAs, IfIdle, IsNextAct, IsPassed, IsWhyLost, IsWithin, LosesAs, MayLoseCopy, Proceeds, cut_of, is_work, loses_then, IsHonestAs, StaysAs, named_as}
+use Rattle.mas_run.specs.Lines.{CutsAs, IfIdle, IsNextAct, IsPassed, IsWithin, LosesAs, MayLoseCopy, cut_of, is_work, loses_then, IsHonestAs, StaysAs, named_as}
+use Rattle.member_resets.specs.WhyLost.{CouldNotStay, IsWhyLost}
+use Rattle.run_opening.specs.Lines.{Proceeds}
 use Rattle.mas_run.specs.LinesLeft.{HasLeft, HasSaidStop, IsCutBy, SaysStop, StopCauses, StopIsSaid, left_at}
 use Rattle.mas_run.specs.LinesPlayed.{is_of_member}
 use Rattle.mas_run.specs.Shapes.{IsShapedAs, holder_as}
 use Rattle.mas_run.proofs.LaterLemmas.{finds_later, task_later}
 use Rattle.mas_run.proofs.LeftLemmas.{arms_same, batches_left, if_member, leaves_as, lines_left, loses_none, member_cut, member_stays, printed_here, given_of, honest_of, right_of, took, stay_of}
 use Rattle.mas_run.proofs.LinesLemmas.{batched_later}
-use Rattle.mas_run.proofs.PassedLemmas.{kept_later, proceeds_of, proceeds_on}
-use Rattle.mas_run.proofs.VolumeLemmas.{by_order, kept_on}
+use Rattle.mas_run.proofs.PassedLemmas.{kept_later}
+use Rattle.run_opening.proofs.ProceedLemmas.{proceeds_of, proceeds_on}
+use Rattle.run_opening.proofs.VolumeLemmas.{by_order, kept_on}
 use Rattle.mas_run.proofs.StayLemmas.{console_stays, stays_on}
 
 -- SHAPES, of a later view

@@ -1,32 +1,35 @@
 -- The lock of a stopped member taken over: what was found of a batch in flight, or nothing was.
-use Rattle.std.proofs.Common.{◌≡◌, inl, inr, ⊎_elim, ℕ, ◌≤◌, Bool, true, false, List, Option, Some, None, refl, sym, ◌∙◌, ap, subst, arith}
+use Rattle.std.proofs.Common.{◌≡◌, inl, inr, ⊎_elim, ℕ, ◌≤◌, ◌<◌, Bool, true, false, List, [], ◌∷◌, ◌++◌, All, Option, Some, None, refl, sym, ◌∙◌, ap, subst, arith}
+use Rattle.std.proofs.lemmas.List.Elements.{All-append, All-cons, All-head, All-nil, All-tail}
 use Rattle.mas_types.specs.declared.ids.Dev.TheVariants.{Ckpt1, Ckpt2, Spool}
 use Rattle.mas_types.specs.declared.ids.MemberId.{MemberId}
 use Rattle.mas_types.specs.declared.journals.Batch.{Batch}
+use Rattle.mas_types.specs.declared.journals.Entry.{Entry}
 use Rattle.mas_types.specs.declared.journals.Fate.{Fate}
+use Rattle.lock_cycle.specs.Books.{Book}
 use Rattle.mas_types.specs.declared.journals.Fate.TheVariants.{Flying}
 use Rattle.spool_plant.specs.declared.plant.Plant.{Ghosts as PlantGhosts}
 use Rattle.spool_plant.specs.View.{View}
 use Rattle.spool_plant.specs.Acts.{Rose}
 use Rattle.ckpt_copy.specs.declared.copying.Copying.{Ghosts as CopyGhosts}
 use Rattle.mas_complex.specs.CallCounts.{KeepsCounts}
-use Rattle.mas_complex.specs.Journals.{end_of}
+use Rattle.mas_complex.proofs.BatchEnds.{with_last-append}
+use Rattle.mas_complex.specs.Journals.{end_of, in_flight, with_last}
 use Rattle.mas_complex.specs.Parts.{Parts}
 use Rattle.member_node.specs.declared.member.NodeNo.{NodeNo}
 use Rattle.member_node.specs.declared.member.NodeNo.TheVariants as no_node
 use Rattle.member_node.specs.Spares.{Spares, is_stop}
 use Rattle.member_sittings.specs.Sat.{journal_of}
-use Rattle.mas_run.specs.Lines.{IsWhyLost, LosesAs}
-use Rattle.mas_run.specs.Resetting.{IsTaken, IsUntaken, TakeCauses}
+use Rattle.mas_run.specs.Lines.{LosesAs}
+use Rattle.member_resets.specs.Settling.{settle, settled_at}
+use Rattle.member_resets.specs.WhyLost.{IsWhyLost}
+use Rattle.member_resets.specs.Resetting.{IsTaken, IsUntaken, TakeCauses}
 use Rattle.mas_run.proofs.BeginLemmas.{HasBarelyBegun, MayBegin}
 use Rattle.mas_run.proofs.StayLemmas.{counted_stays}
 use Rattle.mas_run.proofs.StepLemmas.{ComesTo}
-use Rattle.mas_run.proofs.VolumeLemmas.{kept_on}
-
--- nothing is in flight or placed
-pub journal_still : {P C : Type 0} (x : Parts P C) → x.current ≡ None → x.placed ≡ false → journal_of x ≡ x.batches
-journal_still x none unplaced =
-    ap (λ (c : Option Batch). end_of x.placed c x.batches) none ∙ ap (λ (p : Bool). end_of p None x.batches) unplaced
+use Rattle.run_opening.proofs.VolumeLemmas.{kept_on}
+use Rattle.member_resets.proofs.SettleLemmas.{journal_still, settled_entries}
+use Rattle.member_hand.specs.Standing.{StandsIn, IsOfEarlier}
 
 -- CALLS ON THE COPIES that may lose one, once
 
@@ -88,3 +91,38 @@ module _ {P C : Type 0} (plants : PlantGhosts P) (copies : CopyGhosts C) (by of 
     journal = un.journal;
     printed = un.printed;
   }
+
+-- BATCHES OF EARLIER LINES
+
+all_front : {A : Type 0} (Q : A → Type 0) (xs ys : List A) → All Q (xs ++ ys) → All Q xs
+all_front Q [] ys are = All-nil Q
+all_front Q (x ∷ xs) ys are = All-cons Q x xs (All-head Q x (xs ++ ys) are) (all_front Q xs ys (All-tail Q x (xs ++ ys) are))
+
+all_back : {A : Type 0} (Q : A → Type 0) (xs ys : List A) → All Q (xs ++ ys) → All Q ys
+all_back Q [] ys are = are
+all_back Q (x ∷ xs) ys are = all_back Q xs ys (All-tail Q x (xs ++ ys) are)
+
+-- those of the journal, with what is in flight
+pub earlier_journal : (at : ℕ) (batches : List Batch) (placed : Bool) (b : Book) (c : Option Batch) → StandsIn batches placed b c → All (IsOfEarlier at) (batches ++ in_flight c)
+    → All (IsOfEarlier at) (end_of placed c batches)
+earlier_journal at batches placed b None stands are =
+    subst (λ (p : Bool). All (IsOfEarlier at) (end_of p None batches)) (sym stands) (all_front (IsOfEarlier at) batches [] are)
+earlier_journal at batches placed b (Some c) stands are =
+    let e = stands.0 in
+    let all : All (IsOfEarlier at) (e.before ++ e.place ∷ []) = subst (λ (bs : List Batch). All (IsOfEarlier at) bs) e.is (all_front (IsOfEarlier at) batches (c ∷ []) are) in
+    subst (λ (bs : List Batch). All (IsOfEarlier at) bs) (sym (ap (λ (bs : List Batch). with_last c bs) e.is ∙ with_last-append c e.before e.place))
+    (All-append (IsOfEarlier at) e.before (c ∷ []) (all_front (IsOfEarlier at) e.before (e.place ∷ []) all) (all_back (IsOfEarlier at) batches (c ∷ []) are))
+
+-- a fate leaves the entries
+earlier_settled : (at : ℕ) (f : Fate) (now : ℕ) (bs : List Batch) → All (IsOfEarlier at) bs → All (IsOfEarlier at) (settle f now bs)
+earlier_settled at f now [] are = All-nil (IsOfEarlier at)
+earlier_settled at f now (b ∷ bs) are =
+    All-cons (IsOfEarlier at) (settled_at f now b) (settle f now bs)
+    (subst (λ (es : List Entry). All (λ (e : Entry). e.step < at) es) (sym (settled_entries f now b)) (All-head (IsOfEarlier at) b bs are))
+    (earlier_settled at f now bs (All-tail (IsOfEarlier at) b bs are))
+
+pub earlier_taken : {P C : Type 0} (plants : PlantGhosts P) (copies : CopyGhosts C) (x mid : Parts P C) (by of : MemberId) (at : ℕ) (found : Fate) → IsTaken plants copies by of x mid found → StandsIn x.batches x.placed x.book x.current
+    → All (IsOfEarlier at) (x.batches ++ in_flight x.current) → All (IsOfEarlier at) mid.batches
+earlier_taken plants copies x mid by of at found taken stands earlier =
+    subst (λ (bs : List Batch). All (IsOfEarlier at) bs) (sym taken.journal ∙ journal_still mid taken.quiet.none taken.quiet.unplaced)
+    (earlier_settled at found (plants.view mid.plant).now (journal_of x) (earlier_journal at x.batches x.placed x.book x.current stands earlier))

@@ -1,5 +1,5 @@
 -- A line whose member takes the lock of a stopped member over, and resets that.
-use Rattle.std.proofs.Common.{◌≡◌, ⊎_elim, inl, inr, ℕ, ◌+◌, ◌-◌, ◌≤◌, ◌<◌, Bool, true, false, if◌then◌else◌, List, [], ◌∷◌, append-nil, length, set, All, Some, Result, Ok, Err, OnOk, refl, sym, ◌∙◌, ap, subst, arith, slice_get}
+use Rattle.std.proofs.Common.{◌≡◌, ⊎_elim, inl, inr, ℕ, ◌+◌, ◌-◌, ◌≤◌, ◌<◌, Bool, true, false, if◌then◌else◌, List, [], ◌∷◌, ◌++◌, append-nil, length, set, All, Some, Result, Ok, Err, OnOk, refl, sym, ◌∙◌, ap, subst, arith, slice_get}
 use Rattle.mas_types.specs.declared.commands.Command.TheVariants as command
 use Rattle.mas_types.specs.declared.ids.Dev.{Dev}
 use Rattle.mas_types.specs.declared.ids.Dev.TheVariants.{Ckpt1, Ckpt2, Spool}
@@ -18,7 +18,7 @@ use Rattle.ckpt_form.specs.declared.steady.Steady.{Ghosts as SteadyGhosts}
 use Rattle.ckpt_tables.specs.Shape.{page_count}
 use Rattle.mas_complex.specs.CallCounts.{IsLostOnce, KeepsCounts}
 use Rattle.mas_complex.specs.declared.complex.Complex.{Complex}
-use Rattle.mas_complex.specs.Journals.{kept_all}
+use Rattle.mas_complex.specs.Journals.{in_flight, kept_all}
 use Rattle.mas_complex.specs.Paper.{counts_of}
 use Rattle.mas_complex.specs.Parts.{Parts, parts_of}
 use Rattle.member_node.specs.Calls.{Grows, console_now}
@@ -29,6 +29,7 @@ use Rattle.member_node.specs.Spares.{is_stop}
 use Rattle.member_steps.specs.Noting.{OtherNotesStay}
 use Rattle.member_sittings.specs.Sat.{journal_of}
 use Rattle.member_sittings.specs.Whole.{queue_of}
+use Rattle.member_lines.proofs.Earlier.{earlier_kept}
 use Rattle.member_hand.specs.Cuts.{IsBetweenSittings, cause_by}
 use Rattle.member_hand.specs.Locks.{MayHold}
 use Rattle.member_hand.specs.Quiet.{IsQuiet}
@@ -43,29 +44,32 @@ use Rattle.run_turns.specs.Scenes.{Scene, queue_found}
 use Rattle.run_turns.specs.Sights.{Cause}
 use Rattle.mas_run.specs.Bounds.{level_most}
 use Rattle.mas_run.specs.Copies.{KeepCopies, LeavesSome}
-use Rattle.mas_run.specs.Lines.{Proceeds}
+use Rattle.run_opening.specs.Lines.{Proceeds}
 use Rattle.mas_run.specs.LinesAt.{LineAt, play_as}
-use Rattle.mas_run.specs.LinesLeft.{IfRuns, LineIsLeft, left_as}
+use Rattle.mas_run.specs.LinesLeft.{LineIsLeft, left_as}
+use Rattle.member_resets.specs.Settling.{IfRuns}
 use Rattle.mas_run.specs.LinesPlayed.{line_by}
-use Rattle.mas_run.specs.Resetting.{CopiesLeft, HasTakenOver, IsAfterTakeover, IsUntaken, MayTakeAt, TakeCauses, TakesAndResets, TakesBy, taker_at}
-use Rattle.mas_run.specs.Shows.{BetweenLines, IsBetween, IsFlight, IsMemberUp, IsOfEarlier, IsShown, LeftBetween}
+use Rattle.member_resets.specs.Resetting.{CopiesLeft, HasTakenOver, IsAfterTakeover, IsUntaken, MayTakeAt, TakeCauses, TakesAndResets, TakesBy, taker_at, untaken_book}
+use Rattle.run_opening.specs.Shows.{BetweenLines, IsBetween, IsFlight, IsMemberUp, IsShown, LeftBetween}
+use Rattle.member_hand.specs.Standing.{IsOfEarlier}
 use Rattle.mas_run.proofs.AdmittedLemmas.{IsUpMember}
 use Rattle.mas_run.proofs.AfterLemmas.{earlier_then}
 use Rattle.mas_run.proofs.BeginLemmas.{at_first, bare_pieces, bare_shaped, begun_left, begun_sight, first_halt, queue_pieces, queue_right}
-use Rattle.mas_run.proofs.BookLemmas.{Since, inside_since, seized_since, stopped_now, stopped_since, then_since}
+use Rattle.member_resets.proofs.BookLemmas.{Since, inside_since, seized_since, stopped_now, stopped_since, then_since}
 use Rattle.mas_run.proofs.CopiesLemmas.{acted_copies, copies_then, leaves_same}
 use Rattle.mas_run.proofs.DoneLemmas.{reset_says}
 use Rattle.mas_run.proofs.HaltedLemmas.{halted_between}
 use Rattle.mas_run.proofs.JournalLemmas.{queue_met}
 use Rattle.mas_run.proofs.KnownLemmas.{IsDown, few_of, inside_of, some_of}
 use Rattle.mas_run.proofs.MayLemmas.{few_levels}
-use Rattle.mas_run.proofs.PassedLemmas.{proceeds_of}
-use Rattle.mas_run.proofs.ResetCutLemmas.{entered_same}
+use Rattle.run_opening.proofs.ProceedLemmas.{proceeds_of}
+use Rattle.member_resets.proofs.ResetCutLemmas.{entered_same}
 use Rattle.mas_run.proofs.ResettingLemmas.{takes_bare, takes_told}
 use Rattle.mas_run.proofs.SceneLemmas.{LineDone, admitted_here, left_so}
-use Rattle.mas_run.proofs.TakenLemmas.{barely_untaken, comes_taken, journal_still, may_begin}
-use Rattle.mas_run.proofs.TakenOnLemmas.{earlier_journal, earlier_taken, may_hold, seized_now, up_still}
-use Rattle.mas_run.proofs.ToldLemmas.{EachSays, untold_then}
+use Rattle.mas_run.proofs.TakenLemmas.{barely_untaken, comes_taken, earlier_journal, earlier_taken, may_begin}
+use Rattle.member_resets.proofs.SettleLemmas.{journal_still}
+use Rattle.member_resets.proofs.TakenOnLemmas.{may_hold, seized_now, up_still}
+use Rattle.member_resets.proofs.ToldLemmas.{EachSays, untold_then}
 use Rattle.mas_run.proofs.TurnedLemmas.{HasWritten, IsNowAside, turned_halted, turned_next}
 
 -- THE COPIES in calls that may lose one
@@ -109,9 +113,6 @@ if_halted no_node.Halted b c f = f refl
 if_halted no_node.BothLost b c f = tt
 if_halted no_node.ConsoleFault b c f = tt
 if_halted no_node.NoMemory b c f = tt
-
-runs_halted : (e : NodeNo) (A : Type 0) → IfRuns {T = Unit {0}} (Err e) A → e ≡ no_node.Halted → A
-runs_halted e A is halted = subst (λ (k : NodeNo). IfRuns {T = Unit {0}} (Err k) A) halted is
 
 -- a takeover that left no copy answers so
 pub taken_leaves : {P C : Type 0} (plants : PlantGhosts P) (copies : CopyGhosts C) (by : MemberId) (x y : Parts P C) (e : NodeNo) → TakeCauses plants copies e by x y → CopiesLeft plants copies e y
@@ -173,13 +174,16 @@ module _ {P C : Type 0} {plants : PlantGhosts P} {steadies : SteadyGhosts C} {co
     abbrev r_none : Result (Unit {0}) NodeNo
     r_none = Err e
 
+    book_stopped : e ≡ no_node.Halted → q.book ≡ after_stop b by
+    book_stopped halted = un.book ∙ ap (λ (k : NodeNo). untaken_book k by of x.book) halted
+
     book_none : (told : Type 0) (S : Scene) → IsShown plants copies told S p → (ps : List Piece)
         → IfRuns r_none (y.book ≡ (left_as (record { scene = S; number = at; step = line_by by what; given = record { sight = begun_sight (cause_by e); pieces = ps } }) (TakesOver of)).book)
     book_none told S shown ps = if_halted e _ _
         (λ halted.
         let l : LineAt = record { scene = S; number = at; step = line_by by what; given = record { sight = begun_sight (cause_by e); pieces = ps } } in
         let play = play_as l (TakesOver of) in
-        runs_halted e _ un.book halted
+        book_stopped halted
         ∙ sym (begun_book by (cause_by e) play (S.counts by) (ap (λ (c : Book). is_stopped c by) (book_here told S shown) ∙ b_up) (ap (λ (c : Book). c.holder) (book_here told S shown) ∙ b_mine)
         ∙ ap (λ (k : NodeNo). stopped_by by (cause_by k) play.book) halted ∙ ap (λ (c : Book). after_stop c by) (book_here told S shown)))
 
@@ -208,7 +212,7 @@ module _ {P C : Type 0} {plants : PlantGhosts P} {steadies : SteadyGhosts C} {co
 
     halted_none : e ≡ no_node.Halted → LeftBetween y (set ms (by.0 - 1) n) (at + 1)
     halted_none halted =
-        let book_h : y.book ≡ after_stop b by = runs_halted e _ un.book halted in
+        let book_h : y.book ≡ after_stop b by = book_stopped halted in
         let inside_b = inside_since x.book b by seized may.seated in
         let mine : y.book.holder ≡ by = ap (λ (c : Book). c.holder) book_h ∙ b_mine in
         halted_between p y base since (subst (λ (c : Book). Since x.book c) (sym book_h) (then_since x.book b (after_stop b by) seized (stopped_since b by inside_b)))
@@ -216,7 +220,7 @@ module _ {P C : Type 0} {plants : PlantGhosts P} {steadies : SteadyGhosts C} {co
         (λ apart. absurd (apart mine))
         (earlier_then at (journal_of q) (subst (λ (bs : List Batch). All (IsOfEarlier at) bs) (sym un.journal) (earlier_journal at p.batches p.placed p.book p.current is.stands is.earlier)))
         (λ k later less small tells.
-        untold_then plants copies p q base since is.begun goes_none [] (λ o. (un.apart o).console ∙ sym (append-nil (console_now (u p)))) k later (λ es of. tt)
+        untold_then plants copies p q base since is.begun goes_none.past [] (λ o. (un.apart o).console ∙ sym (append-nil (console_now (u p)))) k later (λ es of. tt)
         (is.untold k later (omega (arith, less)) small) tells)
 
     none_done : LineDone x y (set ms (by.0 - 1) n) at by what r_none
@@ -297,7 +301,7 @@ module _ {P C : Type 0} {plants : PlantGhosts P} {steadies : SteadyGhosts C} {co
         (acted_copies plants copies by t q r takes.reset.acts)
 
     earlier : All (IsOfEarlier at) t.batches
-    earlier = earlier_taken plants copies p t m at of may takes.found takes.taken takes.base takes.since
+    earlier = earlier_taken plants copies p t by of at takes.found takes.taken is.stands is.earlier
 
     notes : OtherNotesStay by p.had q.had
     notes j other = takes.reset.acts.notes j other ∙ ap (λ (h : List (List Page)). slice_get h j) takes.taken.had
@@ -346,7 +350,7 @@ may_take plants copies x ms at few is below m up its of down holds = record {
   base_sound = λ t. is.sound;
   roomy = is.roomy;
   untold = is.untold m.id at (omega arith) few;
-  earlier = is.earlier;
+  step = earlier_kept m.id at (plants.view x.plant).now (x.batches ++ in_flight x.current) is.earlier;
   begun = is.begun;
   givable = down.givable its.member;
   level = let most = few_levels (Give (command.Reset of)) tt in omega (arith, below, most);

@@ -23,13 +23,14 @@ use Rattle.step_turns.specs.declared.states.Release.TheVariants.{Inner, Keep, Ou
 use Rattle.run_turns.specs.Cuts.{Left, adds, adds_all, adds_first, book_cut, left_by, none_left, stopped_by}
 use Rattle.run_turns.specs.Pieces.{Piece, Play, after_piece, entered, released_by, spent}
 use Rattle.run_turns.specs.Sights.{Cause, Cut, Ends, Halt, Saying, Stops, Waiting, Writing}
-use Rattle.mas_run.specs.Lines.{Proceeds}
-use Rattle.mas_run.specs.Shows.{IsBetween, IsOfEarlier}
+use Rattle.run_opening.specs.Lines.{Proceeds}
+use Rattle.run_opening.specs.Shows.{IsBetween}
+use Rattle.member_hand.specs.Standing.{IsOfEarlier}
 use Rattle.mas_run.proofs.AfterLemmas.{between_after, earlier_more}
-use Rattle.mas_run.proofs.BookLemmas.{Since, play_since, then_since}
+use Rattle.member_resets.proofs.BookLemmas.{Since, play_since, then_since}
 use Rattle.mas_run.proofs.OwnLemmas.{left_earlier}
-use Rattle.mas_run.proofs.TakenLemmas.{journal_still}
-use Rattle.mas_run.proofs.ToldLemmas.{EachSays, left_tells, untold_then}
+use Rattle.member_resets.proofs.SettleLemmas.{journal_still}
+use Rattle.member_resets.proofs.ToldLemmas.{EachSays, left_tells, untold_then}
 
 -- WHO HOLDS THE LOCK after a line of a member that had it: that member, or nobody
 
@@ -123,6 +124,6 @@ module _ {P C : Type 0} (plants : PlantGhosts P) (copies : CopyGhosts C) (x mid 
         (λ k later less small t.
         let w = told t in
         let ls = (left_of plants copies h.by w.1 w.0 mid).lines in
-        untold_then plants copies x y (base ∙ mid_base) (since ∙ mid_since) is.begun goes ls (λ u. w.3.console ∙ ap (λ (l : List Line). l ++ ls) (mid_quiet u)) k later
+        untold_then plants copies x y (base ∙ mid_base) (since ∙ mid_since) is.begun goes.past ls (λ u. w.3.console ∙ ap (λ (l : List Line). l ++ ls) (mid_quiet u)) k later
         (left_tells h.by h.step w.1 (play_in h.by w.0 mid.book (queue_of mid)) count w.2 later less small)
         (is.untold k later (omega (arith, less)) small) t)

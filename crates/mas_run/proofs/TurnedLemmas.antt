@@ -24,13 +24,14 @@ use Rattle.member_hand.specs.Quiet.{IsAside, IsQuiet}
 use Rattle.step_turns.specs.declared.states.Holder.{Holder}
 use Rattle.run_turns.specs.Pieces.{Piece}
 use Rattle.run_turns.specs.Sights.{Cut}
-use Rattle.mas_run.specs.Lines.{Proceeds}
-use Rattle.mas_run.specs.Shows.{BetweenLines, IsOfEarlier, LeftBetween}
-use Rattle.mas_run.proofs.BookLemmas.{Since}
+use Rattle.run_opening.specs.Lines.{Proceeds}
+use Rattle.run_opening.specs.Shows.{BetweenLines, LeftBetween}
+use Rattle.member_hand.specs.Standing.{IsOfEarlier}
+use Rattle.member_resets.proofs.BookLemmas.{Since}
 use Rattle.mas_run.proofs.HaltedLemmas.{step_halted}
-use Rattle.mas_run.proofs.PassedLemmas.{proceeds_of}
+use Rattle.run_opening.proofs.ProceedLemmas.{proceeds_of}
 use Rattle.mas_run.proofs.TaskLemmas.{step_next}
-use Rattle.mas_run.proofs.ToldLemmas.{EachSays}
+use Rattle.member_resets.proofs.ToldLemmas.{EachSays}
 
 module _ {P C : Type 0} (plants : PlantGhosts P) (copies : CopyGhosts C) where
   -- what it wrote, by its answer

@@ -37,7 +37,8 @@ use Rattle.run_turns.specs.Cuts.{Left, left_by}
 use Rattle.run_turns.specs.Givens.{ArePiecesOf, Given, IsAskRight, play_with, queue_met}
 use Rattle.mas_run.specs.LinesAt.{LineAt, admitted_at, pieces_as, pieces_at, played_at}
 use Rattle.run_turns.specs.Steps.{Said}
-use Rattle.mas_run.specs.Lines.{CutsAs, IfIdle, IsHonest, IsPassed, IsThere, IsUnsaid, IsWithin, LosesAs, Proceeds, cut_of, is_takeover, is_work, printed_at, taking, IsHonestAs, StaysAs, named_as}
+use Rattle.mas_run.specs.Lines.{CutsAs, IfIdle, IsHonest, IsPassed, IsThere, IsUnsaid, IsWithin, LosesAs, cut_of, is_takeover, is_work, printed_at, taking, IsHonestAs, StaysAs, named_as}
+use Rattle.run_opening.specs.Lines.{Proceeds}
 use Rattle.mas_run.specs.LinesLeft.{HasLeft, HasSaidStop, IsCutBy, IsCutIn, StopCauses, left_at}
 use Rattle.mas_run.specs.LinesPlayed.{is_of_member}
 use Rattle.mas_run.specs.Renewing.{RenewsAs}
@@ -46,10 +47,11 @@ use Rattle.mas_run.specs.Wires.{Carries, HeardFirst}
 use Rattle.mas_run.proofs.LaterLemmas.{finds_later}
 use Rattle.mas_run.proofs.LeftLemmas.{arms_same, batches_left, if_member, leaves_as, lines_left, loses_none, member_cut, member_stays, printed_here, printed_left, right_of, took}
 use Rattle.mas_run.proofs.LinesLemmas.{batched_later}
-use Rattle.mas_run.proofs.PassedLemmas.{kept_later, proceeds_of, proceeds_on}
+use Rattle.mas_run.proofs.PassedLemmas.{kept_later}
+use Rattle.run_opening.proofs.ProceedLemmas.{proceeds_of, proceeds_on}
 use Rattle.mas_run.proofs.RenewedLemmas.{renews_ended}
 use Rattle.mas_run.proofs.StopLemmas.{act_after, loses_on, papers_on, shaped_as_later}
-use Rattle.mas_run.proofs.VolumeLemmas.{kept_on}
+use Rattle.run_opening.proofs.VolumeLemmas.{kept_on}
 use Rattle.mas_run.proofs.StayLemmas.{console_stays, stays_on}
 
 -- THE LINE, cut there because the run ended

@@ -11,7 +11,7 @@ use Rattle.run_turns.specs.Scenes.{Scene}
 use Rattle.run_turns.specs.Givens.{line_with}
 use Rattle.mas_run.specs.LinesPlayed.{HasPlayedLine, here_at, there_at}
 use Rattle.mas_run.specs.Passed.{Passed, There}
-use Rattle.mas_run.specs.Shows.{IsShown}
+use Rattle.run_opening.specs.Shows.{IsShown}
 use Rattle.mas_run.proofs.LinesLemmas.{last_line, more_lines}
 
 -- the line of an index, and those after it

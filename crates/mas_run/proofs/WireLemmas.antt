@@ -38,7 +38,8 @@ use Rattle.run_turns.specs.Scenes.{count_then}
 use Rattle.run_turns.specs.Sights.{Sight}
 use Rattle.mas_run.specs.LinesAt.{LineAt}
 use Rattle.mas_run.specs.LinesPlayed.{is_of_member}
-use Rattle.mas_run.specs.Wires.{Carries, Completes, HasHeard, HasRead, HeardFirst, HeardIn, stream_since, waits_as}
+use Rattle.mas_run.specs.Wires.{Carries, HasHeard, HeardFirst, HeardIn, stream_since, waits_as}
+use Rattle.run_opening.specs.Wires.{Completes, HasRead}
 
 -- NOTHING GIVEN OR TAKEN
 

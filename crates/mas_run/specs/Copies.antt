@@ -15,7 +15,7 @@ use Rattle.mas_complex.specs.Renewals.{is_open}
 use Rattle.member_node.specs.declared.member.NodeNo.{NodeNo}
 use Rattle.member_node.specs.declared.member.NodeNo.TheVariants.{BothLost}
 use Rattle.member_node.specs.Calls.{Grows, IsLeft, WasLost}
-use Rattle.mas_run.specs.Lines.{Proceeds}
+use Rattle.run_opening.specs.Lines.{Proceeds}
 use Rattle.mas_run.specs.Runs.{HasLost}
 
 -- A copy that counts as alive isn't being replaced, if it wasn't before where it counted as alive then.

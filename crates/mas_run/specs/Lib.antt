@@ -1,10 +1,7 @@
 pub mod Refusals
-pub mod Volumes
 pub mod Papers
 pub mod Statuses
-pub mod Resets
 pub mod Runs
-pub mod Unstarted
 pub mod LinesAt
 pub mod Shapes
 pub mod Histories
@@ -13,11 +10,8 @@ pub mod Lines
 pub mod Renewing
 pub mod Passed
 pub mod Bounds
-pub mod Fresh
-pub mod Shows
 pub mod Copies
 pub mod LinesLeft
-pub mod Resetting
 pub mod LinesPlayed
 pub mod Calm
 pub mod Unstopped

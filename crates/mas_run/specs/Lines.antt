@@ -3,20 +3,14 @@ use Rattle.std.specs.Prelude.{◌≡◌, ◌≢◌, ◌⊎◌, ℕ, ◌+◌, ◌
 use Rattle.mas_types.specs.declared.ids.Dev.{Dev}
 use Rattle.mas_types.specs.declared.ids.Dev.TheVariants.{Ckpt1, Ckpt2, Spool}
 use Rattle.mas_types.specs.declared.ids.MemberId.{MemberId}
-use Rattle.mas_types.specs.declared.ids.Page.{Page}
 use Rattle.mas_types.specs.declared.journals.Batch.{Batch}
 use Rattle.mas_types.specs.declared.journals.Fate.{Fate}
-use Rattle.mas_types.specs.declared.journals.Fate.TheVariants.{Flying}
 use Rattle.script_lang.specs.declared.types.Ask.{Ask}
 use Rattle.script_lang.specs.declared.types.Ask.TheVariants as ask
-use Rattle.spool_plant.specs.declared.plant.Part.{Part}
 use Rattle.spool_plant.specs.declared.plant.Part.TheVariants.{Console, Disk}
-use Rattle.spool_plant.specs.View.{Line, View, disk_at, disk_now, paper_now}
+use Rattle.spool_plant.specs.View.{Line, View, paper_now}
 use Rattle.spool_plant.specs.Acts.{Rose, next}
-use Rattle.ckpt_copy.specs.Pages.{bytes_of, level}
 use Rattle.mas_complex.specs.Paper.{SamePapers}
-use Rattle.mas_complex.specs.Seen.{WasUnfit}
-use Rattle.warm_start.specs.Takeover.{fate_of}
 use Rattle.member_node.specs.declared.member.NodeNo.{NodeNo}
 use Rattle.member_node.specs.declared.member.NodeNo.TheVariants as no_node
 use Rattle.member_node.specs.Calls.{VolumesStay, console_now, none_lost}
@@ -31,27 +25,9 @@ use Rattle.mas_run.specs.LinesAt.{LineAt, admitted_at, pieces_as, pieces_at, pla
 use Rattle.member_hand.specs.Cuts.{AreBatched, AtCut, IsBroken, IsHaltBy, IsTight, whole_pieces}
 use Rattle.member_hand.specs.Found.{AreFoundIn, named_in, waits_in}
 use Rattle.mas_run.specs.Shapes.{IsShaped}
-use Rattle.mas_run.specs.Volumes.{AreVolumesKept}
-
--- the device of a copy: where it is lost a line may put another one in its place
-abbrev pub is_copy : Part → Bool
-is_copy (Disk Ckpt1) = true
-is_copy (Disk Ckpt2) = true
-is_copy _ = false
-
--- What holds after any number of acts, calls that lose a device, stops that are armed, and replacements: past worlds
--- stay, counts of faults and stops don't fall, and a lost part that isn't the device of a copy stays lost.
-pub record Proceeds (old new : View) : Type 0 where
-  pub later : old.now ≤ new.now
-  pub past : (t : ℕ) → t ≤ old.now → new.world t ≡ old.world t
-  pub size : (d : Dev) → new.size d ≡ old.size d
-  pub faults : (p : Part) → old.faults p ≤ new.faults p
-  pub stops : (m : ℕ) → old.stops m ≤ new.stops m
-  pub lost : (p : Part) → is_copy p ≡ false → old.lost p ≡ true → new.lost p ≡ true
-
--- a device that is lost stays lost
-abbrev pub StaysLost : Dev → View → View → Type 0
-StaysLost d old new = old.lost (Disk d) ≡ true → new.lost (Disk d) ≡ true
+use Rattle.run_opening.specs.Volumes.{AreVolumesKept}
+use Rattle.run_opening.specs.Lines.{HasStopped, OnlyStops, Proceeds, StaysLost}
+use Rattle.member_resets.specs.WhyLost.{IsWhyLost}
 
 -- LINES OF MEMBERS: all but stops, stops that are armed, and losses of a device
 
@@ -115,13 +91,6 @@ abbrev pub named_by : LineAt → ℕ → Bool
 named_by l = names_in l.step.what (named_as l (admitted_at l) (cut_of l))
 
 -- WHY IT WAS CUT
-
--- nobody's stops rose but this member's
-abbrev pub OnlyStops : MemberId → View → View → Type 0
-OnlyStops by old new = (m : ℕ) → m ≢ by.0 → new.stops m ≡ old.stops m
-
-abbrev pub HasStopped : MemberId → View → View → Type 0
-HasStopped by old new = Rose (old.stops by.0) (new.stops by.0)
 
 -- one act followed that in which a member was stopped: the operator said so, or could not
 abbrev pub IsNextAct : View → Type 0
@@ -204,29 +173,6 @@ is_takeover _ = false
 abbrev pub taking : Bool → Fate → Option Fate
 taking true found = Some found
 taking false found = None
-
--- A copy couldn't stay beside the pages that a takeover found, and by which a batch in flight has this fate. They had
--- the level that the kept batches had reached, or at most one more; and at a moment of the line the other copy had
--- them. As the line began this copy read as pages of no greater level, which don't fit those, for so many puts as it
--- had room for, or have another level than those and than the one reached.
-pub record CouldNotStay (reads : List ℕ → Option (List ℕ)) (fate : Fate) (dev other : Dev) (old new : View) : Type 0
-  where
-    pub pages : List Page
-    pub reached : ℕ
-    pub fated : fate ≡ fate_of (level (bytes_of pages)) reached
-    pub near : level (bytes_of pages) ≤ reached + 1
-    pub at : ℕ
-    pub moment : (old.now ≤ at) × (at ≤ new.now)
-    pub beside : reads (disk_at new at other).bytes ≡ Some (bytes_of pages)
-    pub room : ℕ
-    pub unfit : WasUnfit reads (disk_now old dev).bytes reached room pages
-    pub least : level (bytes_of unfit.other) ≤ level (bytes_of pages)
-
--- why a takeover lost a copy: it found nothing out, and the line was cut in it; or an act on the copy failed, or it
--- couldn't stay
-abbrev pub IsWhyLost : (List ℕ → Option (List ℕ)) → Fate → Dev → Dev → View → View → Type 0
-IsWhyLost reads found dev other old new = (found ≡ Flying)
-    ⊎ (Rose (old.faults (Disk dev)) (new.faults (Disk dev)) ⊎ CouldNotStay reads found dev other old new)
 
 abbrev pub MayLoseCopy : (List ℕ → Option (List ℕ)) → Option Fate → Dev → View → View → Type 0
 MayLoseCopy reads (Some found) Ckpt1 old new = (new.loses Ckpt1 ≡ old.loses Ckpt1 + 1)

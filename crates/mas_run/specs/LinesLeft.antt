@@ -31,12 +31,13 @@ use Rattle.run_turns.specs.Givens.{ArePiecesOf, Given}
 use Rattle.mas_run.specs.LinesAt.{LineAt, admitted_at, pieces_as, play_as}
 use Rattle.run_turns.specs.Pieces.{Piece, fate_found}
 use Rattle.run_turns.specs.Scenes.{Scene}
-use Rattle.mas_run.specs.Histories.{settle}
-use Rattle.mas_run.specs.Lines.{AdmissionLeaves, IfIdle, IsHonestAs, IsThere, LosesAs, PrintsNone, Proceeds, StaysAs, StaysLost, is_replaced, is_takeover, is_work, taking}
+use Rattle.member_resets.specs.Settling.{settle, IfRuns, ended_as}
+use Rattle.mas_run.specs.Lines.{AdmissionLeaves, IfIdle, IsHonestAs, IsThere, LosesAs, PrintsNone, StaysAs, is_replaced, is_takeover, is_work, taking}
+use Rattle.run_opening.specs.Lines.{Proceeds, StaysLost}
 use Rattle.mas_run.specs.Renewing.{RenewsAs}
 use Rattle.mas_run.specs.Shapes.{IsShapedAs}
-use Rattle.mas_run.specs.Shows.{IsShown}
-use Rattle.mas_run.specs.Volumes.{AreVolumesKept}
+use Rattle.run_opening.specs.Shows.{IsShown}
+use Rattle.run_opening.specs.Volumes.{AreVolumesKept}
 use Rattle.mas_run.specs.Wires.{Carries}
 
 -- WHERE IT WAS CUT, by its answer
@@ -58,17 +59,6 @@ left_as l a = left_by l.step.by l.given.sight.cut (play_as l a) (l.scene.counts 
 
 abbrev pub left_at : LineAt → Left
 left_at l = left_as l (admitted_at l)
-
--- the run goes on after the line, once its member's stop is said, if it was stopped
-abbrev pub IfRuns : {T : Type 0} → Result T NodeNo → Type 0 → Type 0
-IfRuns (Ok done) P = P
-IfRuns (Err no_node.Halted) P = P
-IfRuns _ P = Unit {0}
-
--- the answer that a line cut so ends with, if the run ends in it
-abbrev pub ended_as : {T : Type 0} → Result T NodeNo → NodeNo
-ended_as (Ok done) = no_node.Halted
-ended_as (Err e) = e
 
 module _ {P C : Type 0} (plants : PlantGhosts P) (copies : CopyGhosts C) where
   abbrev v : Parts P C → View

@@ -16,7 +16,7 @@ use Rattle.member_sittings.specs.Sat.{journal_of}
 use Rattle.run_turns.specs.Scenes.{Scene}
 use Rattle.run_turns.specs.Givens.{Given, line_with}
 use Rattle.mas_run.specs.Passed.{Here, IsNext, Passed, There}
-use Rattle.mas_run.specs.Shows.{IsShown}
+use Rattle.run_opening.specs.Shows.{IsShown}
 
 -- a line of this member, and whether it is a line of one: all but a stop, one that is armed, and the loss of a device
 abbrev pub line_by : MemberId → Ask → Step

@@ -8,8 +8,8 @@ use Rattle.mas_complex.specs.declared.complex.Complex.{Complex}
 use Rattle.member_node.specs.declared.member.Member.{Member}
 use Rattle.mas_run.specs.Copies.{CopiesKept}
 use Rattle.mas_run.specs.LinesPlayed.{PlayedLine}
-use Rattle.mas_run.specs.Shows.{BetweenLines}
-use Rattle.mas_run.specs.Wires.{HaveRead}
+use Rattle.run_opening.specs.Shows.{BetweenLines}
+use Rattle.run_opening.specs.Wires.{HaveRead}
 
 module _ {P C : Type 0} {plants : PlantGhosts P} {steadies : SteadyGhosts C} {copies : CopyGhosts C} where
   -- Such a line of this number was played: it says nothing, and the run goes on.

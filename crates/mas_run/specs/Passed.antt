@@ -10,7 +10,7 @@ use Rattle.run_turns.specs.Scenes.{Armed, Scene}
 use Rattle.run_turns.specs.Steps.{Outcome}
 use Rattle.run_turns.specs.Givens.{Given, RightIf, given_first, line_with}
 use Rattle.mas_run.specs.LinesAt.{LineAt, admitted_at, played_at}
-use Rattle.mas_run.specs.Histories.{settle}
+use Rattle.member_resets.specs.Settling.{settle}
 use Rattle.mas_complex.specs.declared.renewals.Renewals.{Renewals}
 use Rattle.mas_run.specs.Renewing.{RenewsAs}
 use Rattle.mas_run.specs.Lines.{IsPassed, LeavesVolumes, is_takeover, loses_then}

@@ -1,32 +1,18 @@
 -- What is known of a line's pieces whatever the plant tells: where it tells nothing the replies may be others than
 -- those of the table of commands.
-use Rattle.std.specs.Prelude.{◌≡◌, false, List, [], ◌∷◌, All}
-use Rattle.mas_types.specs.declared.commands.Command.TheVariants as command
-use Rattle.mas_types.specs.declared.commands.Reply.{Reply}
-use Rattle.mas_types.specs.declared.ids.MemberId.{MemberId}
-use Rattle.mas_types.specs.Closings.{closing_line}
+use Rattle.std.specs.Prelude.{List, All}
 use Rattle.spool_plant.specs.View.{View}
-use Rattle.member_steps.specs.Steps.{entry_with}
-use Rattle.member_sittings.specs.Ends.{ends_in}
 use Rattle.step_turns.specs.States.{nothing_found}
 use Rattle.step_turns.specs.declared.states.Holder.{Holder}
-use Rattle.step_turns.specs.declared.states.State.TheVariants.{Fresh, Told}
+use Rattle.step_turns.specs.declared.states.State.TheVariants.{Fresh}
 use Rattle.step_turns.specs.declared.states.Task.{Task}
 use Rattle.run_turns.specs.Admissions.{Admission, Plays, Resets, TakesOver}
 use Rattle.run_turns.specs.Givens.{ArePiecesOf}
-use Rattle.run_turns.specs.Pieces.{Piece, holder_of, piece_of, reset_closing}
+use Rattle.run_turns.specs.Pieces.{Piece, holder_of}
 use Rattle.member_hand.specs.Plays.{IsOwnPiece}
 use Rattle.member_hand.specs.Shapes.{AreShaped}
 use Rattle.mas_run.specs.LinesAt.{LineAt, admitted_at}
-
--- a reset is one piece, which gives it with some reply, and closes with the name of the member that was reset
-abbrev pub reset_piece : Holder → MemberId → Reply → Piece
-reset_piece h of r =
-    piece_of (ends_in h ((entry_with h.by h.step (command.Reset of) r ∷ []) ∷ []) Told
-    (closing_line h.by h.step (reset_closing of r) ∷ [])) false []
-
-abbrev pub IsResetPiece : Holder → MemberId → List Piece → Type 0
-IsResetPiece h of ps = (r : Reply) × (ps ≡ reset_piece h of r ∷ [])
+use Rattle.member_resets.specs.Settling.{IsResetPiece}
 
 -- a task's pieces are its step's, and shaped so from its first state on
 pub record IsTaskShaped (h : Holder) (old new : View) (task : Task) (ps : List Piece) : Type 0 where

@@ -7,7 +7,6 @@ ghost use Rattle.run_turns.specs.Admissions.{granted_by};
 ghost use Rattle.script_input.specs.Played.{IsPlayed};
 ghost use Rattle.mas_run.specs.Wires.{task_place};
 
-use crate::resetting::{reset_line, take_line};
 use mas_complex::{Complex, Steady};
 use mas_types::limits::WIRES_MOST;
 use mas_types::{Dev, List, MemberId};
@@ -17,6 +16,7 @@ use member_lines::{
     say_refused, say_stopped, stop_line,
 };
 use member_node::{Member, NodeNo};
+use member_resets::{reset_line, take_line};
 use nje_frames::{FrameReader, law_of_streams};
 use script_lang::{Ask, Step};
 use spool_plant::{Fuse, Plant};
@@ -36,7 +36,7 @@ pub(crate) struct Running<P: Plant + Drop, C: Steady + Drop> {
 const LEVEL_MOST: u64 = (1 << 62) + (1 << 61);
 
 /// The lines to other nodes that a member may serve.
-pub(crate) const LINES: usize = WIRES_MOST as usize;
+const LINES: usize = WIRES_MOST as usize;
 
 // How a member comes to hold the lock in a line: one that holds it before has it by LOCK.
 fn grant_of<P: Plant + Drop, C: Steady + Drop>(complex: &Complex<P, C>, by: MemberId) -> Grant
@@ -80,11 +80,12 @@ fn reader_of(at: usize, task: &Task) -> usize
 
 impl<P: Plant + Drop, C: Steady + Drop> Running<P, C> {
     ghost use Rattle.mas_run.specs.Copies.{CopiesKept};
-    ghost use Rattle.mas_run.specs.LinesLeft.{IfRuns, LineIsLeft};
+    ghost use Rattle.mas_run.specs.LinesLeft.{LineIsLeft};
+    ghost use Rattle.member_resets.specs.Settling.{IfRuns};
     ghost use Rattle.mas_run.specs.LinesPlayed.{PlayedLine, PlayedLines, is_of_member, line_by};
     ghost use Rattle.mas_run.specs.MuteLines.{PlaysMute};
-    ghost use Rattle.mas_run.specs.Shows.{BetweenLines, LeftBetween};
-    ghost use Rattle.mas_run.specs.Wires.{HaveRead};
+    ghost use Rattle.run_opening.specs.Shows.{BetweenLines, LeftBetween};
+    ghost use Rattle.run_opening.specs.Wires.{HaveRead};
 
     // A line of a member: it is tested, and then played as it is admitted, or closed. Where its member was halted it is
     // stopped in the book, nothing was said of that yet, and what it had reserved is still to be given up.

@@ -1,5 +1,5 @@
 //! A script that is played.
-ghost use Rattle.std.specs.Prelude.{◌≡◌, ◌≢◌, ◌⊎◌, ℕ, ◌≤◌, true, false, [], None, All, IfOk, IfErr, OnOk, IsErrOf};
+ghost use Rattle.std.specs.Prelude.{◌≡◌, ◌≢◌, ◌⊎◌, ℕ, ◌≤◌, true, false, [], None, All, IfOk, IfErr, OnOk, IsErrOf, ◌<◌, Err};
 ghost use Rattle.mas_types.specs.declared.answers.CopyState.{CopyState};
 ghost use Rattle.mas_types.specs.declared.ids.Dev.{Dev};
 ghost use Rattle.mas_types.specs.declared.ids.Dev.TheVariants.{Ckpt1, Ckpt2};
@@ -14,19 +14,21 @@ ghost use Rattle.ckpt_tables.specs.Shape.{page_count};
 ghost use Rattle.warm_start.specs.Starting.{OnlyLookedAtAll};
 ghost use Rattle.spool_volumes.specs.Volumes.{AreRoomy};
 ghost use Rattle.member_node.specs.Calls.{console_now};
-ghost use Rattle.mas_run.specs.Unstarted.{IsNotStarted};
-ghost use Rattle.mas_run.specs.Refusals.{refusal_before_play, refused_sizes, said_by, steps_of, Answers, IsPlayedOut, IsSaid, IsTakenFrom, IsTooSmall, is_of_script};
-ghost use Rattle.mas_run.specs.Runs.{has_begun, AreSidesKept, Begins, IsUnbegun, IsRun};
-ghost use Rattle.mas_run.specs.Statuses.{IsCaused, IsStill, LeavesLost, is_of_text, is_unplayed};
-ghost use Rattle.mas_run.specs.Volumes.{AreVolumesKept};
-ghost use Rattle.mas_run.specs.Lines.{Proceeds};
+ghost use Rattle.run_opening.specs.Unstarted.{IsNotStarted};
+ghost use Rattle.mas_run.specs.Refusals.{refusal_before_play, said_by, steps_of, IsSaid};
+ghost use Rattle.run_opening.specs.Refusals.{refused_sizes, Answers, IsPlayedOut, IsTakenFrom, IsTooSmall, is_of_script};
+ghost use Rattle.run_opening.specs.Runs.{has_begun, AreSidesKept, Begins, IsUnbegun};
+ghost use Rattle.mas_run.specs.Runs.{IsRun};
+ghost use Rattle.run_opening.specs.Statuses.{IsCaused, LeavesLost, is_of_text, is_unplayed};
+ghost use Rattle.mas_run.specs.Statuses.{IsStill};
+ghost use Rattle.run_opening.specs.Volumes.{AreVolumesKept};
+ghost use Rattle.run_opening.specs.Lines.{Proceeds};
 
-use crate::ended::Ended;
-use crate::found::play_warm;
-use crate::play::{play_cold, unbegun};
+use crate::play::play_asked;
 use mas_types::Status;
-use script_input::{SourceError, read_script, read_source};
-use script_lang::{Script, ScriptNo};
+use run_opening::{Ended, open_run, read_text, status_of_script, unbegun};
+use script_input::read_script;
+use script_lang::Script;
 use spool_plant::{Plant, Source};
 use std::alloc::Global;
 
@@ -48,17 +50,10 @@ fn read_all<S: Source>(
         (λ status. (v : View) → Answers cold (refusal_before_play cold only (S.left source.old) v) status) }
     ensures source { IsErrOf result Status.SourceFault → Rose (S.faults source.old) (S.faults source.new) }
 {
-    let bytes = match read_source(alloc, source) {
-        Ok(bytes) => bytes,
-        Err(SourceError::Fault) => return Err(Status::SourceFault),
-        Err(SourceError::TooLong) => return Err(Status::TooLong),
-        Err(SourceError::NoMemory) => return Err(Status::NoMemory),
-    };
+    let bytes = read_text(alloc, source)?;
     match read_script(alloc, bytes.as_slice(), cold, only) {
         Ok(script) => Ok(script),
-        Err(ScriptNo::BadLine { line, cause }) => Err(Status::BadLine { line, cause }),
-        Err(ScriptNo::TooLong) => Err(Status::TooLong),
-        Err(ScriptNo::NoMemory) => Err(Status::NoMemory),
+        Err(why) => Err(status_of_script(why)),
     }
 }
 
@@ -101,10 +96,9 @@ pub fn play_steps<P: Plant + Drop>(alloc: Global, cold: bool, script: Script, pl
         (P.view result.plant) }
     ensures stepless { script.steps ≡ [] → P.tells → AreVolumesKept (P.view plant) (P.view result.plant) }
 {
-    if cold {
-        play_cold(alloc, &script, plant)
-    } else {
-        play_warm(alloc, &script, plant)
+    match open_run(alloc, cold, &script, plant) {
+        Ok(run) => play_asked(alloc, script.steps.as_slice(), run),
+        Err(ended) => ended,
     }
 }
 

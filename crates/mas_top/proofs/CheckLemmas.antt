@@ -25,9 +25,9 @@ use Rattle.mas_check.specs.Worlds.{IsSameDisk, HasFailed as IsFailed, OnlyReads}
 use Rattle.ckpt_pages.specs.Sound.{fault_of}
 use Rattle.mas_complex.specs.Headline.{whole}
 use Rattle.member_node.specs.Calls.{console_now}
-use Rattle.mas_run.specs.Statuses.{IsCaused, LeavesLost}
-use Rattle.mas_run.specs.Unstarted.{status_of_start}
-use Rattle.mas_run.specs.Volumes.{AreVolumesKept}
+use Rattle.run_opening.specs.Statuses.{IsCaused, LeavesLost}
+use Rattle.run_opening.specs.Unstarted.{status_of_start}
+use Rattle.run_opening.specs.Volumes.{AreVolumesKept}
 use Rattle.start_choice.specs.declared.choosing.StartNo.{StartNo}
 use Rattle.start_choice.specs.declared.choosing.StartNo.TheVariants as no_start
 use Rattle.warm_start.specs.Inspecting.{Looks, HasFailed, HasLooked, SeesNone, SomeThere}

@@ -19,9 +19,10 @@ use Rattle.spool_plant.specs.View.{View}
 use Rattle.spool_plant.specs.Acts.{Rose}
 use Rattle.gen_work.specs.Generated.{IsDeckCount, script_text}
 use Rattle.script_generated.specs.Steps.{PlaysGenerated, part_steps, script_generated, script_steps, sysa, sysb}
-use Rattle.mas_run.specs.Lines.{Proceeds}
+use Rattle.run_opening.specs.Lines.{Proceeds}
 use Rattle.mas_types.specs.Lists.{first_some}
-use Rattle.mas_run.specs.Refusals.{calm, refusal_before_play, refusal_of, refused_devices, said_by, steps_of, IsPlayedOut, IsSaid}
+use Rattle.mas_run.specs.Refusals.{calm, refusal_before_play, said_by, steps_of, IsSaid}
+use Rattle.run_opening.specs.Refusals.{refused_devices, IsPlayedOut, refusal_of}
 use Rattle.mas_run.specs.Runs.{ReplacesNone}
 use Rattle.mas_run.specs.Statuses.{AreLeftAlone, IsLeftAlone, IsStill, TakesNone, resets_in}
 use Rattle.member_node.specs.Calls.{WasLost}

@@ -46,10 +46,11 @@ use Rattle.paper_laws.specs.Paper.{AreMarkedLinesOn}
 use Rattle.run_turns.specs.Scenes.{Batched}
 use Rattle.run_turns.specs.Givens.{Given, given_first}
 use Rattle.script_lang.specs.declared.types.Step.{Step}
-use Rattle.mas_run.specs.Histories.{settle, with_found}
+use Rattle.member_resets.specs.Settling.{settle, with_found}
 use Rattle.mas_run.specs.LinesAt.{played_at}
 use Rattle.mas_run.specs.Passed.{ArePassed, Here, There, here_after, line_of}
-use Rattle.mas_run.specs.Runs.{HavePassed, IsSafe, LinesBegun, LinesEnded, NonePassed, starts, stops}
+use Rattle.mas_run.specs.Runs.{HavePassed, LinesBegun, LinesEnded, NonePassed, starts, stops}
+use Rattle.run_opening.specs.Runs.{IsSafe}
 use Rattle.mas_run.proofs.PassedLemmas.{by_going}
 
 -- BATCHES BEGAN, and ended unless they are in flight, by a moment

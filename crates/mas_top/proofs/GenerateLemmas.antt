@@ -28,13 +28,14 @@ use Rattle.mas_complex.specs.Renewals.{no_renewals}
 use Rattle.mas_complex.specs.declared.renewals.Renewal.{Renewal}
 use Rattle.mas_complex.specs.declared.renewals.Renewals.{Renewals}
 use Rattle.mas_complex.proofs.Papers.{same_papers}
-use Rattle.mas_run.specs.Lines.{Proceeds}
+use Rattle.run_opening.specs.Lines.{Proceeds}
 use Rattle.mas_run.specs.Refusals.{refusal_before_play}
-use Rattle.mas_run.specs.Runs.{has_begun, Begins, IsRun, IsSafe, LinesBegun, LinesEnded, ReplacesNone, WerePlayed}
-use Rattle.mas_run.specs.Statuses.{IsCaused, is_unplayed}
+use Rattle.run_opening.specs.Runs.{has_begun, Begins, IsSafe}
+use Rattle.mas_run.specs.Runs.{IsRun, LinesBegun, LinesEnded, ReplacesNone, WerePlayed}
+use Rattle.run_opening.specs.Statuses.{IsCaused, is_unplayed}
 use Rattle.member_node.specs.Calls.{console_now}
-use Rattle.mas_run.proofs.PassedLemmas.{proceeds_none, proceeds_of}
-use Rattle.mas_run.proofs.RefusalLemmas.{free_answer}
+use Rattle.run_opening.proofs.ProceedLemmas.{proceeds_none, proceeds_of}
+use Rattle.run_opening.proofs.RefusalLemmas.{free_answer}
 use Rattle.mas_top.specs.Generates.{IsGenerated, IsSaid, MaySay, SaysOne, SumsUp, script_source}
 use Rattle.mas_top.specs.Plays.{IsPlayed, Sourced}
 use Rattle.mas_top.proofs.ExtendLemmas.{AreOver, lines_over, safe_on}

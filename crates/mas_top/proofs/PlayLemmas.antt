@@ -8,13 +8,14 @@ use Rattle.mas_types.specs.Starts.{no_queue}
 use Rattle.spool_plant.specs.View.{View}
 use Rattle.spool_plant.specs.Acts.{Rose}
 use Rattle.ckpt_copy.specs.Moments.{sides_none}
-use Rattle.mas_run.specs.Refusals.{Answers, IsTakenFrom, is_of_script, is_refusal, refusal_before_play}
-use Rattle.mas_run.specs.Runs.{has_begun, AreSidesKept}
-use Rattle.mas_run.specs.Statuses.{IsCaused, LeavesLost}
-use Rattle.mas_run.specs.Unstarted.{IsNotStarted}
-use Rattle.mas_run.specs.Volumes.{AreVolumesKept}
+use Rattle.run_opening.specs.Refusals.{Answers, IsTakenFrom, is_of_script, is_refusal}
+use Rattle.mas_run.specs.Refusals.{refusal_before_play}
+use Rattle.run_opening.specs.Runs.{has_begun, AreSidesKept}
+use Rattle.run_opening.specs.Statuses.{IsCaused, LeavesLost}
+use Rattle.run_opening.specs.Unstarted.{IsNotStarted}
+use Rattle.run_opening.specs.Volumes.{AreVolumesKept}
 use Rattle.mas_run.proofs.RefusalLemmas.{ends}
-use Rattle.mas_run.proofs.VolumeLemmas.{kept_none}
+use Rattle.run_opening.proofs.VolumeLemmas.{kept_none}
 use Rattle.mas_top.specs.Plays.{IsPlayed, Sourced}
 
 -- A RUN THAT HAS NOT BEGUN

@@ -25,11 +25,10 @@ use Rattle.warm_start.specs.Inspecting.{Looks, HasFailed, HasFound, FindsNone, S
 use Rattle.warm_start.specs.Starting.{HasGone, mark_of}
 use Rattle.warm_start.proofs.Begun.{found_later, gone_on_to}
 use Rattle.queue_report.specs.Reports.{report_lines}
-use Rattle.member_node.specs.Calls.{IsOnlyOn}
-use Rattle.mas_run.specs.Runs.{has_begun, Begins}
-use Rattle.mas_run.specs.Statuses.{IsCaused, LeavesLost}
-use Rattle.member_node.specs.Calls.{console_now}
-use Rattle.mas_run.specs.Unstarted.{status_of_start}
+use Rattle.member_node.specs.Calls.{IsOnlyOn, console_now}
+use Rattle.run_opening.specs.Runs.{has_begun, Begins}
+use Rattle.run_opening.specs.Statuses.{IsCaused, LeavesLost}
+use Rattle.run_opening.specs.Unstarted.{status_of_start}
 use Rattle.mas_top.specs.Reports.{ChangesNoDevice, SaysQueue, IsReport}
 use Rattle.mas_top.specs.Saying.{Adds, Says as AreSaid}
 use Rattle.mas_top.proofs.SayLemmas.{adds_none}

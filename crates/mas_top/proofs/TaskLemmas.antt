@@ -16,8 +16,8 @@ use Rattle.mas_types.specs.declared.answers.Status.TheVariants as status
 use Rattle.mas_types.specs.declared.queues.Queue.{Queue}
 use Rattle.mas_types.specs.Starts.{no_queue}
 use Rattle.spool_plant.specs.View.{View}
-use Rattle.mas_run.specs.Runs.{has_begun, Begins}
-use Rattle.mas_run.specs.Statuses.{IsCaused, LeavesLost}
+use Rattle.run_opening.specs.Runs.{has_begun, Begins}
+use Rattle.run_opening.specs.Statuses.{IsCaused, LeavesLost}
 use Rattle.mas_top.specs.declared.tasks.Task.{Task}
 use Rattle.mas_top.specs.declared.tasks.Task.TheVariants as task
 use Rattle.mas_top.specs.Tasks.{status_of_no, task_asked, task_by, task_of}

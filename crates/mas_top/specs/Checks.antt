@@ -20,7 +20,7 @@ use Rattle.mas_complex.specs.Paper.{SamePapers}
 use Rattle.start_choice.specs.declared.choosing.StartNo.{StartNo}
 use Rattle.warm_start.specs.Inspecting.{HasFailed, HasLooked, SeesNone}
 use Rattle.member_node.specs.Calls.{console_now}
-use Rattle.mas_run.specs.Unstarted.{status_of_start}
+use Rattle.run_opening.specs.Unstarted.{status_of_start}
 
 -- At each moment no byte of a device has changed, the same ranges of a volume are unsynced and no more of a copy, and
 -- each printer has the lines that it had; no device is lost but one of which an act failed.

@@ -16,8 +16,8 @@ use Rattle.gen_work.specs.Summaries.{summary_line, summary_of}
 use Rattle.script_generated.specs.Steps.{script_generated}
 use Rattle.mas_complex.specs.Renewals.{no_renewals}
 use Rattle.member_node.specs.Calls.{WasLost}
-use Rattle.mas_run.specs.Refusals.{IsPlayedOut, refused_devices}
-use Rattle.mas_run.specs.Runs.{has_begun, IsSafe}
+use Rattle.run_opening.specs.Refusals.{IsPlayedOut, refused_devices}
+use Rattle.run_opening.specs.Runs.{has_begun, IsSafe}
 use Rattle.mas_run.specs.Statuses.{AreLeftAlone}
 use Rattle.mas_top.specs.Plays.{IsPlayed, Sourced}
 

@@ -14,11 +14,14 @@ use Rattle.ckpt_form.specs.Form.{form_needs}
 use Rattle.ckpt_tables.specs.Shape.{page_count}
 use Rattle.spool_volumes.specs.Volumes.{AreRoomy}
 use Rattle.warm_start.specs.Starting.{OnlyLookedAtAll}
-use Rattle.mas_run.specs.Refusals.{refusal_before_play, said_by, steps_of, Answers, IsPlayedOut, IsSaid, IsTakenFrom, IsTooSmall}
-use Rattle.mas_run.specs.Runs.{has_begun, AreSidesKept, IsRun}
-use Rattle.mas_run.specs.Statuses.{IsStill, LeavesLost, is_unplayed}
-use Rattle.mas_run.specs.Unstarted.{IsNotStarted}
-use Rattle.mas_run.specs.Volumes.{AreVolumesKept}
+use Rattle.mas_run.specs.Refusals.{refusal_before_play, said_by, steps_of, IsSaid}
+use Rattle.run_opening.specs.Refusals.{Answers, IsPlayedOut, IsTakenFrom, IsTooSmall}
+use Rattle.run_opening.specs.Runs.{has_begun, AreSidesKept}
+use Rattle.mas_run.specs.Runs.{IsRun}
+use Rattle.mas_run.specs.Statuses.{IsStill}
+use Rattle.run_opening.specs.Statuses.{LeavesLost, is_unplayed}
+use Rattle.run_opening.specs.Unstarted.{IsNotStarted}
+use Rattle.run_opening.specs.Volumes.{AreVolumesKept}
 
 -- A script's source: whether it tells what it has left, its faults before and after the run, and what it had and has
 -- left.

@@ -17,9 +17,9 @@ use Rattle.mas_complex.specs.Paper.{SamePapers}
 use Rattle.start_choice.specs.declared.choosing.StartNo.{StartNo}
 use Rattle.warm_start.specs.Inspecting.{HasFailed, HasFound, FindsNone}
 use Rattle.queue_report.specs.Reports.{report_lines}
-use Rattle.mas_run.specs.Runs.{has_begun}
+use Rattle.run_opening.specs.Runs.{has_begun}
 use Rattle.member_node.specs.Calls.{console_now}
-use Rattle.mas_run.specs.Unstarted.{status_of_start}
+use Rattle.run_opening.specs.Unstarted.{status_of_start}
 
 -- At each moment no byte of a device has changed, and each printer has the lines that it had; no device is lost but a
 -- copy of the checkpoint on which an act failed.

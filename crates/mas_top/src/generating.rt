@@ -3,16 +3,17 @@ ghost use Rattle.std.specs.Prelude.{◌≡◌, ◌≢◌, ◌≤◌, length, tak
 ghost use Rattle.gen_work.specs.Generated.{IsDeckCount};
 ghost use Rattle.gen_work.specs.Summaries.{summary_line as summary_line_lem, summary_of as summary_of_lem};
 ghost use Rattle.spool_plant.specs.Source.{Gives, GivesCount};
-ghost use Rattle.mas_run.specs.Lines.{Proceeds};
-ghost use Rattle.mas_run.specs.Runs.{has_begun, Begins, IsUnbegun};
-ghost use Rattle.mas_run.specs.Statuses.{IsCaused, LeavesLost};
-ghost use Rattle.mas_run.specs.Volumes.{AreVolumesKept};
+ghost use Rattle.run_opening.specs.Lines.{Proceeds};
+ghost use Rattle.run_opening.specs.Runs.{has_begun, Begins, IsUnbegun};
+ghost use Rattle.run_opening.specs.Statuses.{IsCaused, LeavesLost};
+ghost use Rattle.run_opening.specs.Volumes.{AreVolumesKept};
 ghost use Rattle.member_node.specs.Calls.{console_now};
 ghost use Rattle.mas_top.specs.Generates.{IsGenerated, IsSaid, MaySay};
 
 use gen_work::{generate, summary_line, summary_of};
-use mas_run::{Ended, play_script, unbegun};
+use mas_run::play_script;
 use mas_types::{Journal, List, MemberId, NoMemory, Queue, Status};
+use run_opening::{Ended, unbegun};
 use script_generated::law_of_generated_scripts;
 use spool_plant::{Act, Got, Plant, Source};
 use std::alloc::Global;

@@ -1,13 +1,13 @@
 //! The check of the checkpoint that is found.
 ghost use Rattle.std.specs.Prelude.{◌≡◌, IfOk};
-ghost use Rattle.mas_run.specs.Runs.{IsUnbegun};
+ghost use Rattle.run_opening.specs.Runs.{IsUnbegun};
 ghost use Rattle.mas_top.specs.Checks.{AreLinesOf, IsCheckRun};
 ghost use Rattle.mas_top.specs.Saying.{Says};
 
 use crate::saying::say_lines;
 use mas_check::{CheckNo, check, check_line};
-use mas_run::{Ended, status_of_start, unbegun};
 use mas_types::{Lines, NoMemory, Status, Verdict};
+use run_opening::{Ended, status_of_start, unbegun};
 use spool_plant::Plant;
 use std::alloc::Global;
 use warm_start::looked;

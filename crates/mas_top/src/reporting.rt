@@ -1,17 +1,16 @@
 //! The report of the queue that is found.
 ghost use Rattle.std.specs.Prelude.{◌≡◌, ◌≢◌, [], false};
 ghost use Rattle.spool_plant.specs.Acts.{Goes};
-ghost use Rattle.member_node.specs.Calls.{IsOnlyOn};
-ghost use Rattle.mas_run.specs.Runs.{has_begun, Begins, IsUnbegun};
-ghost use Rattle.mas_run.specs.Statuses.{IsCaused};
-ghost use Rattle.member_node.specs.Calls.{console_now};
+ghost use Rattle.member_node.specs.Calls.{IsOnlyOn, console_now};
+ghost use Rattle.run_opening.specs.Runs.{has_begun, Begins, IsUnbegun};
+ghost use Rattle.run_opening.specs.Statuses.{IsCaused};
 ghost use Rattle.mas_top.specs.Reports.{IsReport};
 ghost use Rattle.mas_top.specs.Saying.{Says};
 
 use crate::saying::say_lines;
-use mas_run::{Ended, status_of_start, unbegun};
 use mas_types::{Journal, Lines, List, Queue, Status};
 use queue_report::{law_of_named_queues, report};
+use run_opening::{Ended, status_of_start, unbegun};
 use spool_plant::Plant;
 use std::alloc::Global;
 use warm_start::found;

@@ -1,9 +1,9 @@
 //! The top call.
 ghost use Rattle.std.specs.Prelude.{◌≡◌, ◌≢◌, ◌⊎◌, ℕ, Bool, true, false, map, string_bytes, None, Some};
-ghost use Rattle.mas_run.specs.Lines.{Proceeds};
-ghost use Rattle.mas_run.specs.Volumes.{AreVolumesKept};
-ghost use Rattle.mas_run.specs.Runs.{has_begun, Begins, IsUnbegun};
-ghost use Rattle.mas_run.specs.Statuses.{IsCaused, LeavesLost};
+ghost use Rattle.run_opening.specs.Lines.{Proceeds};
+ghost use Rattle.run_opening.specs.Volumes.{AreVolumesKept};
+ghost use Rattle.run_opening.specs.Runs.{has_begun, Begins, IsUnbegun};
+ghost use Rattle.run_opening.specs.Statuses.{IsCaused, LeavesLost};
 ghost use Rattle.member_node.specs.Calls.{console_now};
 ghost use Rattle.mas_top.specs.Checks.{IsCheckRun};
 ghost use Rattle.mas_top.specs.Generates.{IsGenerated};
@@ -15,8 +15,9 @@ use crate::generating::play_generated;
 use crate::inspecting::check_found;
 use crate::reporting::report_queue;
 use crate::tasks::{Task, read_task, status_of_no};
-use mas_run::{Ended, play_script, unbegun};
+use mas_run::play_script;
 use mas_types::Status;
+use run_opening::{Ended, unbegun};
 use spool_plant::{Plant, Source};
 use std::alloc::Global;
 

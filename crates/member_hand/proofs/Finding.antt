@@ -169,7 +169,7 @@ module _ {P C : Type 0} (plants : PlantGhosts P) (copies : CopyGhosts C) (y : Pa
         (a.1.finds.there none t (seat.still.roomy t))),
   )
   right_here (Away (ReadText runs n fields p)) was is found fresh ne queue base w a =
-      (w.0, a.1.finds.fits, λ t. subst (λ (Q : Queue). IsUnderWay Q n) (sym queue) (w.1.under_way (queue_of y) (seat.between.queue t) (seat.between.sound t)))
+      (w.0, a.1.finds.fits, λ t. subst (λ (Q : Queue). IsUnderWay Q m.id n) (sym queue) (w.1.under_way (queue_of y) (seat.between.queue t) (seat.between.sound t)))
   right_here (Away (SpoolOutputs n specs p)) was is found fresh ne queue base w a = (
     w.outputs,
     subst (λ (Q : Queue). OutputsStand plants.tells Q m.id (spools_at (v u) (v u).now) Q.config.groups n specs found.lost) (sym queue)

@@ -26,3 +26,4 @@ pub mod Piecing
 pub mod Going
 pub mod Trying
 pub mod Chaining
+pub mod Seated

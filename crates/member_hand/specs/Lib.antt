@@ -10,3 +10,4 @@ pub mod Sits
 pub mod Turns
 pub mod Plays
 pub mod Chains
+pub mod Standing

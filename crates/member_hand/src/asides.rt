@@ -74,8 +74,8 @@ pub fn act_aside<P: Plant + Drop, C: Steady + Drop>(
     }
 }
 
-// What follows a sitting that left its step so: the acts for which the step waits, if it waits for any.
-pub(crate) fn act_then<P: Plant + Drop, C: Steady + Drop>(
+/// What follows a sitting that left its step so: the acts for which the step waits, if it waits for any.
+pub fn act_then<P: Plant + Drop, C: Steady + Drop>(
     member: &Member,
     alloc: Global,
     complex: &mut Complex<P, C>,

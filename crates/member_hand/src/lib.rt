@@ -7,7 +7,7 @@ mod gates;
 mod playing;
 mod sits;
 
-pub use asides::{act_aside, nothing_found};
+pub use asides::{act_aside, act_then, nothing_found};
 pub use gates::{enter, leave, next_holder};
-pub use playing::{play_in_turns, play_piece, play_task};
+pub use playing::{play_in_turns, play_piece, play_task, stop_halted};
 pub use sits::{Stand, sit};

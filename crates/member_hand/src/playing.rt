@@ -73,8 +73,8 @@ fn try_piece<P: Plant + Drop, C: Steady + Drop>(
     })
 }
 
-// A member that was halted is stopped in the book; after any other error all is as it was.
-fn stop_halted<P: Plant + Drop, C: Steady + Drop>(
+/// A member that was halted is stopped in the book; after any other error all is as it was.
+pub fn stop_halted<P: Plant + Drop, C: Steady + Drop>(
     complex: &mut Complex<P, C>,
     by: MemberId,
     why: NodeNo,

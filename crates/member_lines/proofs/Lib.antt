@@ -4,4 +4,3 @@ pub mod Holding
 pub mod Renewing
 pub mod Resetting
 pub mod Seating
-pub mod Tested

@@ -41,16 +41,16 @@ use Rattle.mas_complex.proofs.Orders.{order_spelled}
 use Rattle.start_choice.specs.declared.choosing.StartNo.TheVariants as no_start
 use Rattle.warm_start.specs.Starting.{IsSmall, IsState, AreNotLost, OnlyLookedAtAll, mark_of}
 use Rattle.start_choice.specs.Usable.{AreOf, AreUsable, HaveSize, MayStart}
-use Rattle.mas_run.specs.Lines.{Proceeds, StaysLost}
-use Rattle.mas_run.specs.Runs.{has_begun, Begins, IsRun}
-use Rattle.mas_run.specs.Statuses.{IsCaused}
-use Rattle.mas_run.specs.Unstarted.{IsNotStarted, StartCauses}
+use Rattle.run_opening.specs.Lines.{Proceeds, StaysLost}
+use Rattle.run_opening.specs.Runs.{has_begun, Begins}
+use Rattle.mas_run.specs.Runs.{IsRun}
+use Rattle.run_opening.specs.Statuses.{IsCaused}
+use Rattle.run_opening.specs.Unstarted.{IsNotStarted, StartCauses}
 use Rattle.run_laws.specs.Left.{IsLeftBy}
 use Rattle.queue_tables.proofs.SoundTables.{told_are_sound}
 use Rattle.run_laws.specs.Beginning.{AreGoodLeft, AreLarge, AreLow, BothLow, HasEnded, IsGoodLeft, IsHindered, IsLow, IsUnbounded}
 use Rattle.run_laws.specs.Joins.{level_of, order_of}
-use Rattle.run_laws.proofs.Levels.{HasLevels, HasOrders, first_there, low_levels, low_orders}
-use Rattle.run_laws.proofs.Levels.{Begins as StartsSo}
+use Rattle.run_laws.proofs.Levels.{HasLevels, HasOrders, first_there, low_levels, low_orders, Begins as StartsSo}
 use Rattle.run_laws.proofs.Copies.{IsBeside, good_one, image_of, stand_by, stands, told_by}
 
 -- THE QUEUE THAT IS LEFT

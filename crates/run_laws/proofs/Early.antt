@@ -9,7 +9,7 @@ use Rattle.ckpt_form.specs.Form.{form_reads}
 use Rattle.ckpt_copy.specs.Pages.{bytes_of}
 use Rattle.mas_complex.specs.Crash.{lost_if}
 use Rattle.warm_start.specs.Starting.{IsHeld, IsSeen, Mark}
-use Rattle.mas_run.specs.Runs.{begins_at}
+use Rattle.run_opening.specs.Runs.{begins_at}
 use Rattle.run_laws.specs.Left.{IsLeftBy}
 use Rattle.run_laws.specs.Early.{FindsWhatWasThere, GivesPages}
 use Rattle.run_laws.proofs.Copies.{image_of}

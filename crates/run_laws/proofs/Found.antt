@@ -32,16 +32,16 @@ use Rattle.mas_complex.specs.Paper.{AreGivenIn, PaperKept}
 use Rattle.mas_complex.specs.Headline.{AreAlwaysAlike, AreLevelsLow, AreTextsLeft}
 use Rattle.mas_complex.specs.Meaning.{run}
 use Rattle.mas_complex.specs.Texts.{Spools, bytes_on, lost_now, spools_at, IsThereUnless, HasTexts, GivesTexts}
-use Rattle.mas_run.specs.Lines.{Proceeds}
-use Rattle.mas_run.specs.Runs.{has_begun, as_found, IsFoundQueue, IsRun, begins_at}
-use Rattle.mas_run.specs.Volumes.{AreVolumesKeptUntil}
+use Rattle.run_opening.specs.Lines.{Proceeds}
+use Rattle.run_opening.specs.Runs.{has_begun, as_found, IsFoundQueue, begins_at}
+use Rattle.mas_run.specs.Runs.{IsRun}
+use Rattle.run_opening.specs.Volumes.{AreVolumesKeptUntil}
 use Rattle.run_laws.specs.Left.{IsLeftBy}
 use Rattle.run_laws.specs.Again.{IsQueueAgain}
 use Rattle.run_laws.specs.Joins.{lost_in, IsQueueOf, GoesOn, FindsWhatIsLeft, level_of, order_of}
 use Rattle.run_laws.specs.Beginning.{AreGoodLeft, IsGoodLeft}
 use Rattle.run_laws.proofs.Beginning.{beside1, beside2, bounds1, bounds2, hinders}
-use Rattle.run_laws.proofs.Levels.{first_there}
-use Rattle.run_laws.proofs.Levels.{Begins as StartsSo}
+use Rattle.run_laws.proofs.Levels.{first_there, Begins as StartsSo}
 use Rattle.run_laws.proofs.Copies.{stands, told_by}
 use Rattle.run_laws.proofs.Rows.{jobs_again, outputs_again}
 

@@ -17,7 +17,8 @@ use Rattle.mas_complex.specs.Headline.{AreLevelsLow}
 use Rattle.mas_complex.specs.Journals.{batches_kept, journal_most}
 use Rattle.mas_complex.proofs.Orders.{order_spelled}
 use Rattle.mas_complex.proofs.Rising.{kept_fewer}
-use Rattle.mas_run.specs.Runs.{IsRun, OneReadsThere, as_found}
+use Rattle.mas_run.specs.Runs.{IsRun}
+use Rattle.run_opening.specs.Runs.{OneReadsThere, as_found}
 use Rattle.run_laws.specs.Beginning.{level_first, order_first}
 
 -- an image of a device that reads as pages reads as ones of a low level

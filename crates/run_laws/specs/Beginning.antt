@@ -22,10 +22,10 @@ use Rattle.mas_complex.specs.Renewals.{is_renewed_at, of_device}
 use Rattle.spool_volumes.specs.Volumes.{AreRoomy}
 use Rattle.warm_start.specs.Starting.{NoneOrFailed, OnlyLookedAtAll, WasTaken}
 use Rattle.start_choice.specs.Usable.{HaveSize}
-use Rattle.mas_run.specs.Lines.{Proceeds}
-use Rattle.mas_run.specs.Runs.{has_begun, Begins, HasBase}
-use Rattle.mas_run.specs.Statuses.{IsCaused, LeavesLost}
-use Rattle.mas_run.specs.Unstarted.{IsNotStarted}
+use Rattle.run_opening.specs.Lines.{Proceeds}
+use Rattle.run_opening.specs.Runs.{has_begun, Begins, HasBase}
+use Rattle.run_opening.specs.Statuses.{IsCaused, LeavesLost}
+use Rattle.run_opening.specs.Unstarted.{IsNotStarted}
 
 -- WHAT IS LEFT
 

@@ -6,7 +6,7 @@ use Rattle.mas_types.specs.declared.queues.Queue.{Queue}
 use Rattle.spool_plant.specs.View.{View, IsImage, disk_now}
 use Rattle.ckpt_form.specs.Form.{form_reads}
 use Rattle.ckpt_copy.specs.Pages.{bytes_of}
-use Rattle.mas_run.specs.Runs.{IsFoundQueue, IsHeldUntil}
+use Rattle.run_opening.specs.Runs.{IsFoundQueue, IsHeldUntil}
 use Rattle.run_laws.specs.Left.{IsLeftBy}
 
 -- a copy gave these pages: its bytes read as them, or what a crash may leave of it does

@@ -8,7 +8,8 @@ use Rattle.script_lang.specs.declared.types.Script.{Script}
 use Rattle.spool_plant.specs.View.{View}
 use Rattle.mas_complex.specs.Meaning.{run}
 use Rattle.mas_complex.specs.Texts.{lost_now}
-use Rattle.mas_run.specs.Runs.{has_begun, as_found, IsRun}
+use Rattle.run_opening.specs.Runs.{has_begun, as_found}
+use Rattle.mas_run.specs.Runs.{IsRun}
 use Rattle.run_laws.specs.Left.{IsLeftBy}
 use Rattle.run_laws.specs.Again.{IsQueueAgain}
 use Rattle.run_laws.specs.Beginning.{level_first, order_first, AreGoodLeft, AreLarge, BothLow, HasEnded, IsHindered}

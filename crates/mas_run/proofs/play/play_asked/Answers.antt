@@ -18,10 +18,10 @@ returns-clause-play g c =
     let y = c.play_lines-answer.new.self.complex in
     let v = P.view x.plant in
     let w = P.view y.plant in
-    let e = c.ended.ensures in
+    let e = c.end_run.ensures in
     let d = c.play_lines-answer.ensures in
     let r = c.play_lines-answer.result in
-    let J = c.ended.result.journal in
+    let J = c.end_run.result.journal in
     let steps = c.args.lines.now in
     let S : Scene = scene_of (run x.base (kept_all x.journal.batches)) in
     let none : journal_of (parts_of x) ≡ x.journal.batches = nothing_out x.journal.batches x.placed x.book x.current c.requires.between.stands c.requires.shows.flight in
@@ -38,7 +38,7 @@ returns-clause-cause g c =
     let P = g.P.Plant in
     let x = c.args.run.complex in
     let y = c.play_lines-answer.new.self.complex in
-    let e = c.ended.ensures in
+    let e = c.end_run.ensures in
     let d = c.play_lines-answer.ensures in
     let r = c.play_lines-answer.result in
     let S : Scene = scene_of (run x.base (kept_all x.journal.batches)) in
@@ -47,7 +47,7 @@ returns-clause-cause g c =
     (lines_failed x y S ⊥ c.args.lines.now d.played.many r d.played.bare (shown_bare x y S (Unit {0}) c.requires.shows)))
 
 pub returns-clause-goes : goal.returns-clause-goes
-returns-clause-goes g c = rw c.ended.ensures.plant c.play_lines-answer.ensures.copies.devices.goes
+returns-clause-goes g c = rw c.end_run.ensures.plant c.play_lines-answer.ensures.copies.devices.goes
 
 pub returns-clause-grow : goal.returns-clause-grow
-returns-clause-grow g c d = rw c.ended.ensures.plant (c.play_lines-answer.ensures.copies.devices.grow d)
+returns-clause-grow g c d = rw c.end_run.ensures.plant (c.play_lines-answer.ensures.copies.devices.grow d)

@@ -1,15 +1,27 @@
-use Rattle.std.proofs.Common.{inl, inr, refl}
-use Rattle.mas_types.specs.declared.answers.Status.TheVariants as status
-use Rattle.mas_run.specs.Refusals.{calm, refusal_before_play}
+use Rattle.std.proofs.Common.{◌≡◌, ◌∙◌, Err, refl, sym, ap, subst}
+use Rattle.std.proofs.lemmas.Result.{err_from_is_err_and}
+use Rattle.mas_run.specs.Refusals.{calm, refusal_before_play, said_by}
 use Rattle.mas_run.proofs.OnlyLemmas.{none_read}
-use Rattle.mas_run.proofs.RefusalLemmas.{free_answer}
+use Rattle.mas_run.proofs.RefusalLemmas.{err_is}
+use Rattle.mas_types.specs.declared.answers.Status.TheVariants as status
+use Rattle.run_opening.proofs.RefusalLemmas.{said_answers, script_kind, script_source, unread_answers}
 use Rattle.mas_run.proofs.top.read_all.Goals as goal
 
-pub returns-in-Err-Fault-clause-refused : goal.returns-in-Err-Fault-clause-refused
-returns-in-Err-Fault-clause-refused g c = λ tells v. free_answer c.args.cold (refusal_before_play c.args.cold c.args.only (g.S.Source.left c.args.source.now) v) status.SourceFault (inl refl)
+pub returns-in-Ok-clause-only : goal.returns-in-Ok-clause-only
+returns-in-Ok-clause-only g c only = none_read (calm c.args.cold c.args.only) only c.as_slice.result.now c.in-Ok.script c.in-Ok.ensures.said
 
-pub returns-in-Err-NoMemory-clause-refused : goal.returns-in-Err-NoMemory-clause-refused
-returns-in-Err-NoMemory-clause-refused g c = λ tells v. free_answer c.args.cold (refusal_before_play c.args.cold c.args.only (g.S.Source.left c.args.source.now) v) status.NoMemory (inr refl)
+pub returns-clause-kind : goal.returns-clause-kind
+returns-clause-kind g c = rw c.status_of_script.ensures (script_kind c.in-Err.why)
 
-pub returns-in-Ok-read_script-clause-only : goal.returns-in-Ok-read_script-clause-only
-returns-in-Ok-read_script-clause-only g c only = none_read (calm c.args.cold c.args.only) only c.as_slice.result.now c.in-Ok-read_script.script c.in-Ok-read_script.ensures.said
+pub returns-clause-refused : goal.returns-clause-refused
+returns-clause-refused g c = λ tells v. rw c.status_of_script.ensures
+    (said_answers c.args.cold (said_by c.args.cold c.args.only (g.S.Source.left c.args.source.now)) v c.in-Err.why (rw (c.as_slice.ensures, c.in_ok-bytes.ensures.bytes tells) at c.in-Err.ensures.said))
+
+pub returns-clause-source : goal.returns-clause-source
+returns-clause-source g c is = absurd (script_source c.in-Err.why (sym c.status_of_script.ensures ∙ err_is c.status_of_script.result status.SourceFault is))
+
+pub returns-in_err-bytes-clause-refused : goal.returns-in_err-bytes-clause-refused
+returns-in_err-bytes-clause-refused g c tells =
+    let p = err_from_is_err_and c.from_residual.result c.from_residual.ensures.1 in
+    rw (p.1, p.2) (λ v. unread_answers c.args.cold (calm c.args.cold c.args.only) (g.S.Source.left c.args.source.now) v _ c.in_err-bytes.ensures.kind (λ is. c.in_err-bytes.ensures.long tells (ap Err is))
+    (λ line why is. c.in_err-bytes.ensures.no_line line why (ap Err is)))

@@ -3,10 +3,10 @@ use Rattle.mas_types.specs.declared.answers.Status.{Status}
 use Rattle.mas_types.specs.declared.answers.Status.TheVariants as status
 use Rattle.gen_work.specs.Summaries.{summary_line, summary_of}
 use Rattle.mas_run.specs.Refusals.{IsSaid}
-use Rattle.mas_run.specs.Runs.{Begins, has_begun}
-use Rattle.mas_run.specs.Statuses.{is_unplayed}
-use Rattle.mas_run.proofs.PassedLemmas.{proceeds_none, proceeds_on}
-use Rattle.mas_run.proofs.VolumeLemmas.{kept_none}
+use Rattle.run_opening.specs.Runs.{Begins, has_begun}
+use Rattle.run_opening.specs.Statuses.{is_unplayed}
+use Rattle.run_opening.proofs.ProceedLemmas.{proceeds_none, proceeds_on}
+use Rattle.run_opening.proofs.VolumeLemmas.{kept_none}
 use Rattle.mas_top.specs.Generates.{SumsUp, script_source}
 use Rattle.mas_top.specs.Plays.{IsPlayed, source_of}
 use Rattle.mas_top.specs.ScriptTexts.{left_of}

@@ -2,7 +2,7 @@ use Rattle.std.proofs.Common.{◌∙◌, List, ℕ, sym, ap, subst}
 use Rattle.cmd_report.specs.Named.{IsNamed}
 use Rattle.warm_start.specs.Bare.{bare_deck, bare_print}
 use Rattle.start_choice.specs.declared.choosing.StartNo.TheVariants as no_start
-use Rattle.mas_run.specs.Runs.{has_begun}
+use Rattle.run_opening.specs.Runs.{has_begun}
 use Rattle.mas_top.specs.Saying.{Says}
 use Rattle.mas_top.proofs.ReportLemmas.{none_report, none_elsewhere, said_report, said_caused, said_goes, said_elsewhere, said_not_words, start_not_words}
 use Rattle.mas_top.proofs.reporting.report_queue.Goals as goal

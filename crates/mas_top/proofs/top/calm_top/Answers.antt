@@ -1,14 +1,15 @@
 use Rattle.std.proofs.Common.{◌≡◌, ◌∙◌, ℕ, Bool, true, false, Some, map, inr, refl, sym, ap, subst, arith}
 use Rattle.std.specs.Prelude.{string_bytes}
-use Rattle.mas_run.specs.Refusals.{is_of_script, refusal_before_play}
-use Rattle.mas_run.specs.Runs.{has_begun}
+use Rattle.run_opening.specs.Refusals.{is_of_script}
+use Rattle.mas_run.specs.Refusals.{refusal_before_play}
+use Rattle.run_opening.specs.Runs.{has_begun}
 use Rattle.mas_top.specs.declared.tasks.Task.TheVariants as task
 use Rattle.mas_top.specs.Generates.{IsGenerated}
 use Rattle.mas_top.specs.Plays.{IsPlayed, source_of}
 use Rattle.mas_top.specs.Tasks.{task_asked}
-use Rattle.mas_run.proofs.PassedLemmas.{proceeds_none, proceeds_of}
-use Rattle.mas_run.proofs.RefusalLemmas.{free_answer}
-use Rattle.mas_run.proofs.VolumeLemmas.{kept_none, kept_on}
+use Rattle.run_opening.proofs.ProceedLemmas.{proceeds_none, proceeds_of}
+use Rattle.run_opening.proofs.RefusalLemmas.{free_answer}
+use Rattle.run_opening.proofs.VolumeLemmas.{kept_none, kept_on}
 use Rattle.mas_top.proofs.GenerateLemmas.{not_generated}
 use Rattle.mas_top.proofs.PlayLemmas.{not_played}
 use Rattle.mas_top.proofs.CheckLemmas.{check_caused, check_lost, check_not_words, not_checked, volumes_kept}

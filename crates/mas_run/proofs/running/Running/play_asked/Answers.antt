@@ -6,10 +6,11 @@ use Rattle.member_node.specs.declared.member.NodeNo.TheVariants.{BothLost, Conso
 use Rattle.member_lines.proofs.Earlier.{earlier_kept}
 use Rattle.member_steps.specs.Steps.{AreKeptFrom}
 use Rattle.mas_run.specs.Copies.{CopiesKept}
-use Rattle.mas_run.specs.LinesLeft.{IfRuns, LineIsLeft}
+use Rattle.mas_run.specs.LinesLeft.{LineIsLeft}
+use Rattle.member_resets.specs.Settling.{IfRuns}
 use Rattle.mas_run.specs.LinesPlayed.{line_by}
-use Rattle.mas_run.specs.Shows.{LeftBetween}
-use Rattle.mas_run.specs.Wires.{HaveRead}
+use Rattle.run_opening.specs.Shows.{LeftBetween}
+use Rattle.run_opening.specs.Wires.{HaveRead}
 use Rattle.mas_run.proofs.AskLemmas.{done_bare, done_told, failed_bare, failed_told, stopped_after, stopped_bare, stopped_copies, stopped_told}
 use Rattle.mas_run.proofs.HeardLemmas.{readers_said}
 use Rattle.mas_run.proofs.KnownLemmas.{few_by}

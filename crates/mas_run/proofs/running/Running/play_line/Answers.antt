@@ -1,7 +1,7 @@
 use Rattle.std.proofs.Common.{ℕ, List, Option, Ok, sym, subst}
 use Rattle.script_lang.specs.declared.types.Ask.{Ask}
 use Rattle.mas_run.specs.LinesPlayed.{PlayedLine, line_by}
-use Rattle.mas_run.specs.Wires.{HaveRead}
+use Rattle.run_opening.specs.Wires.{HaveRead}
 use Rattle.mas_run.proofs.running.Running.play_line.Goals as goal
 
 pub returns-in-Stop-clause-base : goal.returns-in-Stop-clause-base

@@ -1,8 +1,8 @@
 use Rattle.std.proofs.Common.{◌≡◌, ◌+◌, Ok}
 use Rattle.mas_complex.specs.Parts.{parts_of}
 use Rattle.mas_run.specs.Copies.{LeavesCopies}
-use Rattle.mas_run.specs.Shows.{BetweenLines}
-use Rattle.mas_run.specs.Wires.{HaveRead}
+use Rattle.run_opening.specs.Shows.{BetweenLines}
+use Rattle.run_opening.specs.Wires.{HaveRead}
 use Rattle.mas_run.proofs.WayLemmas.{AreOnTheWay}
 use Rattle.mas_run.proofs.running.Running.play_lines.Given as goal
 

@@ -17,10 +17,11 @@ use Rattle.step_turns.specs.declared.states.Release.TheVariants.{Keep, Outer}
 use Rattle.step_turns.specs.declared.states.Holder.{Holder}
 use Rattle.step_turns.specs.declared.states.Grant.{Grant}
 use Rattle.mas_run.specs.Bounds.{level_most}
-use Rattle.mas_run.specs.LinesLeft.{IfRuns}
+use Rattle.member_resets.specs.Settling.{IfRuns}
 use Rattle.mas_run.specs.LinesPlayed.{line_by}
-use Rattle.mas_run.specs.Resetting.{MayTakeAt}
-use Rattle.mas_run.specs.Wires.{AreReaders, task_place}
+use Rattle.member_resets.specs.Resetting.{MayTakeAt}
+use Rattle.run_opening.specs.Wires.{AreReaders}
+use Rattle.mas_run.specs.Wires.{task_place}
 use Rattle.mas_run.proofs.ArmLemmas.{InArm, InPlace, in_arm, in_place, within}
 use Rattle.mas_run.proofs.AdmittedLemmas.{HasGot, IsUpMember, admitted_got}
 use Rattle.mas_run.proofs.BarelyLemmas.{short_done}
@@ -29,7 +30,7 @@ use Rattle.mas_run.proofs.ClosingLemmas.{denied_closer, frees_closer, refused_cl
 use Rattle.mas_run.proofs.HeardLemmas.{heard_task, on_line, place_inside, reads_line, still_done}
 use Rattle.mas_run.proofs.DoneLemmas.{may_play, may_reset, plays_done, reads_on, resets_done}
 use Rattle.mas_run.proofs.KnownLemmas.{IsDown, busy_named, denied_holder, few_asked, few_by, few_of, inside_of, not_holder, own_seat, said_by, sayer_of, some_by}
-use Rattle.mas_run.proofs.BookLemmas.{inside_since, none_since, tried_since}
+use Rattle.member_resets.proofs.BookLemmas.{inside_since, none_since, tried_since}
 use Rattle.mas_run.proofs.ClosedLemmas.{held_up, none_held}
 use Rattle.mas_run.proofs.MayLemmas.{tested_up}
 use Rattle.mas_run.proofs.ReplacingLemmas.{may_replace, replaces_done}

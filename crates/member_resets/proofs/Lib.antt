@@ -1,0 +1,9 @@
+pub mod OnceLemmas
+pub mod BookLemmas
+pub mod SettleLemmas
+pub mod ResetCutLemmas
+pub mod ResetDoneLemmas
+pub mod TakenCalmLemmas
+pub mod TakenOnLemmas
+pub mod Flights
+pub mod ToldLemmas

@@ -1,0 +1,16 @@
+pub mod ResultLemmas
+pub mod NotedLemmas
+pub mod VolumeLemmas
+pub mod PaperLemmas
+pub mod OpeningLemmas
+pub mod RefusalLemmas
+pub mod ResetLemmas
+pub mod WarmLemmas
+pub mod ProceedLemmas
+pub mod LossLemmas
+pub mod BetweenLemmas
+pub mod RoomLemmas
+pub mod ReaderLemmas
+pub mod UnresetLemmas
+pub mod EndLemmas
+pub mod FoundLemmas

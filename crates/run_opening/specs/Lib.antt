@@ -1,0 +1,11 @@
+pub mod Refusals
+pub mod Volumes
+pub mod Statuses
+pub mod Resets
+pub mod Runs
+pub mod Unstarted
+pub mod Wires
+pub mod Lines
+pub mod Fresh
+pub mod Shows
+pub mod Openings
