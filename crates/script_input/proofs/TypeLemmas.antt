@@ -1,5 +1,5 @@
 -- The commands of a script are typed.
-use Rattle.std.proofs.Common.{◌≡◌, refl, subst, sym, true, List, ℕ}
+use Rattle.std.proofs.Common.{◌≡◌, refl, subst, sym, true, List, ℕ, Ok}
 use Rattle.std.specs.Prelude.{All}
 use Rattle.std.proofs.lemmas.List.Elements.{All-cons, All-nil}
 use Rattle.mas_types.specs.declared.commands.Command.{Command}
@@ -16,7 +16,9 @@ use Rattle.script_laws.specs.Grammar.{AsksFor, DeckLine, LockLine, FreeLine, Com
 use Rattle.script_laws.specs.Laws.{ReadsScripts}
 use Rattle.script_laws.specs.Whole.{AreLinesOf, NoLine, SkippedLine, StepLine, DeckLines, IsScriptOf, Plain, Configured}
 use Rattle.script_input.specs.Commands.{is_typed}
+use Rattle.script_lang.specs.Script.{said}
 use Rattle.script_input.specs.Laws.{IsTypedIn, TypesCommands}
+use Rattle.script_input.specs.Played.{MayBeRaced}
 
 abbrev IsTypedStep : Step → Type 0
 IsTypedStep step = IsTypedIn step.what
@@ -75,3 +77,19 @@ script_typed run _ _ (Configured front line lines setup steps skipped config are
 
 pub types_commands : ReadsScripts → TypesCommands
 types_commands reads run bytes script e = script_typed run (lines_of bytes) script ((reads run bytes script).0 e).2
+
+-- THE LINES OF A RACE are such as may stand in it
+
+lines_raced : (run : Run) (lines : List (List ℕ)) (steps : List Step) → run.race ≡ true → AreLinesOf run lines steps → All MayBeRaced steps
+lines_raced run _ _ race NoLine = All-nil MayBeRaced
+lines_raced run _ _ race (SkippedLine line lines steps is behind) = lines_raced run lines steps race behind
+lines_raced run _ _ race (StepLine line lines step steps is other behind) = All-cons MayBeRaced step steps (is.race race) (lines_raced run lines steps race behind)
+lines_raced run _ _ race (DeckLines line cards lines m steps is all behind) = All-cons MayBeRaced (step_of_member m (ask.Deck cards)) steps tt (lines_raced run lines steps race behind)
+
+script_raced : (run : Run) (lines : List (List ℕ)) (script : Script) → run.race ≡ true → IsScriptOf run lines script → All MayBeRaced script.steps
+script_raced run _ _ race (Plain lines steps are) = lines_raced run lines steps race are
+script_raced run _ _ race (Configured front line lines setup steps skipped config are) = lines_raced run lines steps race are
+
+pub all_raced : ReadsScripts → (run : Run) (bytes : List ℕ) (script : Script) → run.race ≡ true → said run bytes ≡ Ok script
+    → All MayBeRaced script.steps
+all_raced reads run bytes script race e = script_raced run (lines_of bytes) script race ((reads run bytes script).0 e).2

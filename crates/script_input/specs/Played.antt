@@ -3,6 +3,7 @@ use Rattle.std.specs.Prelude.{◌≡◌, Bool, true, false}
 use Rattle.script_lang.specs.declared.types.Ask.{Ask}
 use Rattle.script_lang.specs.declared.types.Ask.TheVariants as ask
 use Rattle.script_lang.specs.declared.types.Step.{Step}
+use Rattle.script_laws.specs.Grammar.{MayRace}
 use Rattle.script_laws.specs.Limits.{IsStep}
 use Rattle.script_input.specs.Commands.{is_typed}
 
@@ -26,3 +27,7 @@ is_built step = may_ask step.what
 pub record IsPlayed (step : Step) : Type 0 where
   pub fits : IsStep step
   pub built : is_built step ≡ true
+
+-- a step that may stand in a race
+abbrev pub MayBeRaced : Step → Type 0
+MayBeRaced step = MayRace step.what

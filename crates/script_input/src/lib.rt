@@ -7,4 +7,4 @@ mod reading;
 mod script;
 
 pub use reading::{SourceError, read_source};
-pub use script::read_script;
+pub use script::{read_race, read_script};
