@@ -56,8 +56,8 @@ entries_kept b = if is_kept b.fate then b.entries else []
 abbrev pub kept_in : List Batch → List Entry
 kept_in bs = entries_of (filter (λ b. is_kept b.fate) bs)
 
--- LINES. The mark of an output is what the last Mark of it answered, and 0 when it comes, as its job ends. A script that
--- is generated moves it in no other way.
+-- LINES. The mark of an output is what the last Mark of it answered, and 0 when it comes, as its job ends. A script
+-- that is generated moves it in no other way.
 
 abbrev pub mark_then : JobNo → OutNo → ℕ → Counted → ℕ
 mark_then n i mark (counted.Ended job) = if same_number job n then 0 else mark

@@ -46,8 +46,8 @@ impl<P: Plant + Drop, C: Steady + Drop> Complex<P, C> {
         begin_on(&mut self.renewals, dev, from)
     }
 
-    // Another device takes the place of a lost copy's, and a copy of the pages is formed on it: those that the other copy
-    // reads, which is as before any batch.
+    // Another device takes the place of a lost copy's, and a copy of the pages is formed on it: those that the other
+    // copy reads, which is as before any batch.
     fn renew_copy(&mut self, by: MemberId, dev: Dev, pages: &[Page]) -> Result<(), ReplaceNo>
         requires ckpt { IsCkpt dev }
         requires dead { (pick dev self.old.pair.first self.old.pair.second).alive ≡ false }

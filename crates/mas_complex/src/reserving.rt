@@ -50,8 +50,8 @@ impl<P: Plant + Drop, C: Steady + Drop> Complex<P, C> {
     /// of the operator where nobody does, and nothing may be in flight. A batch that was reserved before and hasn't
     /// begun is given up.
     ///
-    /// NoMemory comes where the place can't be had, also where the journal has 2^40 batches, or this one more than 16,384
-    /// entries; the value is as it was.
+    /// NoMemory comes where the place can't be had, also where the journal has 2^40 batches, or this one more than
+    /// 16,384 entries; the value is as it was.
     pub fn reserve(&mut self, alloc: Global, entries: List<Entry>) -> Result<(), NoMemory>
         requires none { self.old.current ≡ None }
         requires some { 1 ≤ length entries }

@@ -83,8 +83,8 @@ impl<P: Plant + Drop, C: Steady + Drop> Complex<P, C> {
         done
     }
 
-    // The pages of the copy on one device; none of one that counts as lost. One that can't be read, or has other than as
-    // many pages as the configuration, is lost.
+    // The pages of the copy on one device; none of one that counts as lost. One that can't be read, or has other than
+    // as many pages as the configuration, is lost.
     #[tactic(auto, using(crate::proofs::Counted::counts_one))]
     pub(crate) fn see_on(
         &mut self,

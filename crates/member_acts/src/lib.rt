@@ -1,5 +1,5 @@
-//! The acts of a step of work that want no lock: a job's text is read, the texts of its outputs are written, and the next
-//! lines of an output are printed.
+//! The acts of a step of work that want no lock: a job's text is read, the texts of its outputs are written, and the
+//! next lines of an output are printed.
 #![tactic(auto)]
 
 mod asides;

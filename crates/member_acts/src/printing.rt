@@ -80,8 +80,8 @@ fn print_lines<P: Plant + Drop, C: Steady + Drop>(
 }
 
 /// Prints the lines of an output with this text up to this one, and answers None where they stand on paper, else how
-/// the unit is refused. Halted comes only where the member was stopped, NoMemory only when out of memory: both only where
-/// lines were read.
+/// the unit is refused. Halted comes only where the member was stopped, NoMemory only when out of memory: both only
+/// where lines were read.
 pub(crate) fn print_text<P: Plant + Drop, C: Steady + Drop>(
     complex: &mut Complex<P, C>,
     alloc: Global,

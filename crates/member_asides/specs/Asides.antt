@@ -73,7 +73,8 @@ printed_found read lost = record nothing_found { read = read; printer = lost }
 
 -- WHAT THE MEMBER'S TABLES SAY OF A QUEUE, though others may have changed it since
 
--- A job has its text and its groups still, as the tables tell. Others may have held or cancelled it, or changed its class.
+-- A job has its text and its groups still, as the tables tell. Others may have held or cancelled it, or changed its
+-- class.
 pub record IsJobStill (t : Tables) (n : JobNo) (Q : Queue) : Type 0 where
   pub was : Queue
   pub told : Tell t was
@@ -160,8 +161,8 @@ module _ {P C : Type 0} (plants : PlantGhosts P) where
         → IsReadAs plants.tells x.base.config.groups j.text (groups_of (Deck n) (queue_of x).owners) (Some found.read)
         (v x) (v y)
 
-  -- Reading, by its answer: no volume is written, and each stays as it is that isn't found lost. Halted comes only where
-  -- the member was stopped.
+  -- Reading, by its answer: no volume is written, and each stays as it is that isn't found lost. Halted comes only
+  -- where the member was stopped.
   pub record HasRead (x y : Parts P C) (m : Member) (n : JobNo) (result : Result Found NodeNo) : Type 0 where
     pub acts : OnVolumes plants.tells m.id.0 (v x) (v y)
     pub reads : OnlyReads plants.tells (v x) (v y)

@@ -109,8 +109,8 @@ pub record OutputsStand (told : Type 0) (Q : Queue) (by : MemberId) (disks : Spo
   pub there : lost ≡ None → told
       → AreSpooled disks per (outputs_at_end (job_at Q n) specs) (take (groups_for_end Q n specs) (held_by by Q.owners))
 
--- A step may go on with a job that is under way at the member still, whose text was read, or whose outputs stand there; or with an
--- output whose lines stand on paper, unless one couldn't be printed.
+-- A step may go on with a job that is under way at the member still, whose text was read, or whose outputs stand there;
+-- or with an output whose lines stand on paper, unless one couldn't be printed.
 abbrev pub MayResume : Type 0 → Queue → MemberId → Spools → (MemberId → ℕ) → Aside → Found → Type 0
 MayResume told Q by disks counts (SpoolDeck n text) found = ⊥
 MayResume told Q by disks counts (ReadText runs n fields p) found = IsJobFields fields × IsReadable found.read

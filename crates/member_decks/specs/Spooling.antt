@@ -67,8 +67,8 @@ pub record OnVolumes (told : Type 0) (by : ℕ) (old new : View) : Type 0 where
   pub papers : told → SamePapers old new
   pub wires : told → SameWires old new
 
--- Why it stopped: a volume on which a group lies failed and is lost, or the member was stopped. Else nobody was. No other
--- volume is lost, and no fault of one is counted.
+-- Why it stopped: a volume on which a group lies failed and is lost, or the member was stopped. Else nobody was. No
+-- other volume is lost, and no fault of one is counted.
 abbrev pub SpoolCauses : {T : Type 0} → Result T SpoolError → ℕ → ℕ → List GroupNo → View → View → Type 0
 SpoolCauses (Ok done) by per groups old new = SparesBut by false none_lost old new
 SpoolCauses (Err (Lost v)) by per groups old new = (lies_there per v groups ≡ true)

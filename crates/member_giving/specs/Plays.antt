@@ -68,8 +68,8 @@ abbrev pub Closes : {T : Type 0} → Type 0 → MemberId → List (List ℕ) →
 Closes told by lines ess old new r = IsClosing told by lines ess old.batches new.batches old.first new.first old.second
     new.second old.view new.view r
 
--- Where content is told no volume is written, nothing is printed, and nothing moves on a line to another node. What every
--- other member noted is as it was.
+-- Where content is told no volume is written, nothing is printed, and nothing moves on a line to another node. What
+-- every other member noted is as it was.
 pub record SparesOthers (told : Type 0) (by : MemberId) (old new : Outside) : Type 0 where
   pub others : told → IsOnlyOn old.view new.view
   pub papers : told → SamePapers old.view new.view

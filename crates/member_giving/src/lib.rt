@@ -1,5 +1,5 @@
-//! What a member gives in a sitting of a step, and what of it is kept; what a step of work does next; and what a sitting
-//! of work, or of a line to another node, is and gives.
+//! What a member gives in a sitting of a step, and what of it is kept; what a step of work does next; and what a
+//! sitting of work, or of a line to another node, is and gives.
 #![tactic(auto)]
 
 mod giving;

@@ -9,7 +9,7 @@ use Rattle.mas_complex.specs.declared.complex.Complex.{Complex}
 use Rattle.member_steps.specs.Steps.{AreKeptFrom}
 
 module _ {P C : Type 0} {plants : PlantGhosts P} {steadies : SteadyGhosts C} {copies : CopyGhosts C} where
-  -- Each batch is kept by now, one in flight too, that has an entry of this step of the member, or of a later one. Where
-  -- several members are at their lines, those of the others may be of any step.
+  -- Each batch is kept by now, one in flight too, that has an entry of this step of the member, or of a later one.
+  -- Where several members are at their lines, those of the others may be of any step.
   abbrev pub IsStepKept : Complex P C plants steadies copies → MemberId → ℕ → Type 0
   IsStepKept x by at = AreKeptFrom by at (x.journal.batches ++ in_flight x.current) (plants.view x.plant).now

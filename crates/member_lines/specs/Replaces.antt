@@ -93,9 +93,9 @@ module _ {P C : Type 0} (plants : PlantGhosts P) (copies : CopyGhosts C) where
   abbrev pub IsLargeEnough : Parts P C → Dev → Type 0
   IsLargeEnough x dev = copies.needs (page_count x.base.config) ≤ (v x).size dev
 
-  -- The copy was to be replaced, by a member at its seat. Each answer has its cause: the copy counted as alive, exactly;
-  -- both counted as lost, exactly; the new device failed, and is lost. With Ok it counts as alive, and has all its room.
-  -- The member has its seat still, so each copy that counts as alive reads its pages.
+  -- The copy was to be replaced, by a member at its seat. Each answer has its cause: the copy counted as alive,
+  -- exactly; both counted as lost, exactly; the new device failed, and is lost. With Ok it counts as alive, and has all
+  -- its room. The member has its seat still, so each copy that counts as alive reads its pages.
   pub record HasReplaced (m : Member) (dev : Dev) (x y : Parts P C) (answer : Result (Unit {0}) ReplaceNo) : Type 0
     where
       pub frame : y ≡ replaced_in answer dev (v x).now (v y).now y x
@@ -113,8 +113,8 @@ module _ {P C : Type 0} (plants : PlantGhosts P) (copies : CopyGhosts C) where
       pub seat : IsSeat plants copies y m
 
   -- What follows the replacement. Where its answer closes the step the line is said, which changes nothing but the
-  -- console, and then the lock is left as the step leaves it. Else nothing follows but that a member that was stopped is
-  -- stopped in the book.
+  -- console, and then the lock is left as the step leaves it. Else nothing follows but that a member that was stopped
+  -- is stopped in the book.
   abbrev pub FollowsBy : Option Renewed → Scene → MemberId → ℕ → Dev → Result (Unit {0}) ReplaceNo → Parts P C
       → Parts P C → Result (Unit {0}) NodeNo → Type 0
   FollowsBy (Some found) S by at dev answer x y result = HasClosedBy plants (left_found S by at dev found) by x y result

@@ -154,14 +154,14 @@ fn replace_and_close<P: Plant + Drop, C: Steady + Drop>(
 }
 
 /// The member that has the lock replaces a lost copy by one of the pages that the other copy has: it takes its seat, or
-/// keeps it, writes the new copy, says how that went, and leaves the lock, or keeps it where it has it by LOCK and some of
-/// its hold is left. The step gives no command.
+/// keeps it, writes the new copy, says how that went, and leaves the lock, or keeps it where it has it by LOCK and some
+/// of its hold is left. The step gives no command.
 ///
 /// The line says that the copy isn't lost exactly where it counts as alive, and that it is lost again only where its
-/// device's faults rose. BothLost comes only where both copies count as lost at the end of the call. NoMemory is want of
-/// memory for its tables, the list of replacements or its line. Halted comes only where the member was stopped in the
-/// call, and then it is stopped in the book; ConsoleFault only where the console's count of faults rose. After an error
-/// it holds the lock still.
+/// device's faults rose. BothLost comes only where both copies count as lost at the end of the call. NoMemory is want
+/// of memory for its tables, the list of replacements or its line. Halted comes only where the member was stopped in
+/// the call, and then it is stopped in the book; ConsoleFault only where the console's count of faults rose. After an
+/// error it holds the lock still.
 pub fn replace_line<P: Plant + Drop, C: Steady + Drop>(
     member: &mut Member,
     alloc: Global,

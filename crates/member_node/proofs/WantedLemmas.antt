@@ -8,7 +8,7 @@ use Rattle.mas_types.specs.declared.ids.Dev.TheVariants.{Ckpt1, Ckpt2}
 use Rattle.mas_types.specs.declared.ids.Page.{Page}
 use Rattle.mas_types.specs.declared.queues.Queue.{Queue}
 use Rattle.spool_plant.specs.View.{View, disk_now}
-use Rattle.ckpt_copy.specs.Pages.{bytes_of, level, page_in as page_of_bytes}
+use Rattle.ckpt_copy.specs.Pages.{bytes_of, page_in as page_of_bytes}
 use Rattle.ckpt_tables.specs.Pages.{page_in}
 use Rattle.ckpt_tables.specs.Shape.{level_in, page_count}
 use Rattle.ckpt_pages.specs.Given.{levels_given, levels_in}

@@ -1,5 +1,5 @@
-//! The parts of a deck's step: a member that has the lock reads, the deck's job begins and gets groups, and its text goes
-//! into them.
+//! The parts of a deck's step: a member that has the lock reads, the deck's job begins and gets groups, and its text
+//! goes into them.
 #![tactic(auto)]
 
 mod holding;

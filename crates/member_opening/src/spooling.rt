@@ -185,7 +185,8 @@ pub fn sync_volumes<P: Plant + Drop, C: Steady + Drop>(
 /// is done the text stands in the groups, all of it synced.
 ///
 /// Lost comes only where the faults of a volume rose on which one of the groups lies, Halted only where the member was
-/// stopped. Of other volumes none is lost, and no fault is counted. Whatever is answered, each other group is as it was.
+/// stopped. Of other volumes none is lost, and no fault is counted. Whatever is answered, each other group is as it
+/// was.
 pub fn spool_text<P: Plant + Drop, C: Steady + Drop>(
     complex: &mut Complex<P, C>,
     by: MemberId,

@@ -77,8 +77,8 @@ module _ {P C : Type 0} (plants : PlantGhosts P) where
   v x = plants.view x.plant
 
   -- Acts of a member on the copies and on the console, with the cause of their answer. Nothing is printed, no volume
-  -- changes, nothing moves on a line to another node, and no copy is lost by a call. The member is stopped only where the
-  -- answer is Halted. What each other member noted stays.
+  -- changes, nothing moves on a line to another node, and no copy is lost by a call. The member is stopped only where
+  -- the answer is Halted. What each other member noted stays.
   pub record HasActed {T : Type 0} (by : MemberId) (old new : Parts P C) (result : Result T NodeNo) : Type 0 where
     pub course : Course old.first_alive new.first_alive old.second_alive new.second_alive (v old) (v new)
     pub loses : plants.tells → (d : Dev) → (v new).loses d ≡ (v old).loses d

@@ -43,8 +43,8 @@ MayEndBy found _ = Unit {0}
 abbrev pub MayCloseBy : ℕ → Found → Closing → Type 0
 MayCloseBy units found end = ((n : ℕ) × (n ≤ units) × (end ≡ closing.DoneUnits n)) ⊎ MayRefuseBy found end
 
--- HOW A STEP MAY CLOSE that serves a line, on every plant: with the jobs that left and came, with the reply to a command,
--- by the cards of a job, or by what was lost. What each rests on is said where content is told.
+-- HOW A STEP MAY CLOSE that serves a line, on every plant: with the jobs that left and came, with the reply to a
+-- command, by the cards of a job, or by what was lost. What each rests on is said where content is told.
 abbrev pub MayCloseLine : Closing → Type 0
 MayCloseLine (closing.Line sent got) = Unit {0}
 MayCloseLine (closing.LineLost line) = Unit {0}

@@ -15,9 +15,9 @@ use Rattle.member_node.specs.Wanted.{HasHad}
 abbrev pub OtherNotesStay : MemberId → List (List Page) → List (List Page) → Type 0
 OtherNotesStay by was is = (m : ℕ) → m ≢ by.0 → slice_get is m ≡ slice_get was m
 
--- A call of a member, by what was noted before it and after it. Nobody else's note differs, whatever the answer. Where it
--- ends well a member that had the pages that it noted has those that it noted last, and one that has read pages knows
--- that it has.
+-- A call of a member, by what was noted before it and after it. Nobody else's note differs, whatever the answer. Where
+-- it ends well a member that had the pages that it noted has those that it noted last, and one that has read pages
+-- knows that it has.
 pub record KeepsOwnNotes {T : Type 0} (tells : Type 0) (was is : List (List Page)) (m n : Member)
     (result : Result T NodeNo) : Type 0 where
   pub own : OnOk result (HasHad tells m.fresh was m.id.0 m.checkpoint.pages

@@ -43,8 +43,8 @@ pub record AreOnLine (told : Type 0) (end : End) (old new : View) : Type 0 where
   pub taken : told → (w m : ℕ) → (w ≢ end.line) ⊎ (m ≢ end.by.0) → taken_now new w m ≡ taken_now old w m
   pub waiting : told → (w : ℕ) → w ≢ end.line → new.waiting w ≡ old.waiting w
 
--- Why acts beside the copies ended: out of memory, or the member was stopped. Else nobody was. No volume is lost, and no
--- fault of one is counted.
+-- Why acts beside the copies ended: out of memory, or the member was stopped. Else nobody was. No volume is lost, and
+-- no fault of one is counted.
 abbrev pub StopsBeside : {T : Type 0} → Result T NodeNo → ℕ → View → View → Type 0
 StopsBeside (Ok done) by old new = SparesBut by false none_lost old new
 StopsBeside (Err NoMemory) by old new = SparesBut by false none_lost old new

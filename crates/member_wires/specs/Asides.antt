@@ -84,8 +84,8 @@ GaveBy (Err Halted) bytes n = n ≤ length bytes
 GaveBy (Err BothLost) bytes n = ⊥
 GaveBy (Err ConsoleFault) bytes n = ⊥
 
--- So many of the frame's bytes were given, and these were taken, which waited before all others, and only once the whole
--- frame was given.
+-- So many of the frame's bytes were given, and these were taken, which waited before all others, and only once the
+-- whole frame was given.
 pub record HasMoved (end : End) (bytes took : List ℕ) (old new : View) (result : Result Bool NodeNo) : Type 0 where
   pub gave : ℕ
   pub by_answer : GaveBy result bytes gave

@@ -94,7 +94,8 @@ fn read_on(reader: &mut FrameReader, bytes: &[u8], frames: &mut List<Frame>) -> 
     }
 }
 
-// Takes the bytes that wait on a line, and reads the frames that they complete, in the stream that the reader had of it.
+// Takes the bytes that wait on a line, and reads the frames that they complete, in the stream that the reader had of
+// it.
 fn hear<P: Plant + Drop, C: Steady + Drop>(
     alloc: Global,
     complex: &mut Complex<P, C>,

@@ -1,5 +1,5 @@
-//! The acts of a member's step that serves a line to another node, without the lock: the frame of the job that is current
-//! on it is given, the bytes that wait are taken, and a job that came is acknowledged.
+//! The acts of a member's step that serves a line to another node, without the lock: the frame of the job that is
+//! current on it is given, the bytes that wait are taken, and a job that came is acknowledged.
 #![tactic(auto)]
 
 mod acts;

@@ -19,9 +19,9 @@ use member_node::{Member, NodeNo};
 use spool_plant::Plant;
 use std::alloc::Global;
 
-/// Keeps what the member gave since the last batch, if anything, as a batch, notes its pages, and makes room for the next
-/// one; nothing is said. BothLost comes only where both copies count as lost at the end of the call, Halted only where
-/// the member was stopped in it, and NoMemory only when out of memory.
+/// Keeps what the member gave since the last batch, if anything, as a batch, notes its pages, and makes room for the
+/// next one; nothing is said. BothLost comes only where both copies count as lost at the end of the call, Halted only
+/// where the member was stopped in it, and NoMemory only when out of memory.
 pub fn keep_given<P: Plant + Drop, C: Steady + Drop>(
     member: &mut Member,
     alloc: Global,

@@ -10,8 +10,8 @@ pub fn law_of_custody()
     ensures once { GetsEachOnce }
 {}
 
-/// Along any history of a node's queue the numbers that it gets on a line are the next ones, each once, and so are those
-/// under which its jobs leave: whatever comes over the line, and whatever its members do.
+/// Along any history of a node's queue the numbers that it gets on a line are the next ones, each once, and so are
+/// those under which its jobs leave: whatever comes over the line, and whatever its members do.
 pub fn law_of_numbers()
     ensures got { NumbersAreGotOnce }
     ensures sent { NumbersAreSentOnce }

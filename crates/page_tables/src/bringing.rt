@@ -66,7 +66,8 @@ fn are_readable(config: &Config, pages: &[Page], marks: &Marks) -> bool
     requires config { IsConfig config.now }
     requires count { length pages.now ≡ page_count_lem config.now }
     ensures good { result ≡ true → AreReadable config.now (order_in (page_in pages.now 0)) pages.now marks.now.pages }
-    ensures bad { result ≡ false → AreReadable config.now (order_in (page_in pages.now 0)) pages.now marks.now.pages → ⊥ }
+    ensures bad { result ≡ false
+        → AreReadable config.now (order_in (page_in pages.now 0)) pages.now marks.now.pages → ⊥ }
 {
     let order = order_of(&pages[0]);
     for page in 1..pages.len() {

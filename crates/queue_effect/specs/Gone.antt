@@ -24,6 +24,7 @@ output_of r = output_with (λ x. Gone (record { 0 = 0 }) x.lines) r
 abbrev pub SaysAs : What → Queue → Queue → Type 0
 SaysAs what a b = (done a (show_row a what)).1 ≡ (done b (show_row b what)).1
 
--- the first job of a number in one list is that in another, but for its text, and there is none where the other has none
+-- the first job of a number in one list is that in another, but for its text, and there is none where the other has
+-- none
 abbrev pub TellJob : JobNo → List Job → List Job → Type 0
 TellJob n a b = option_map rec_of (find (has_number n) a) ≡ option_map rec_of (find (has_number n) b)

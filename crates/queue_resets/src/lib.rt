@@ -1,5 +1,5 @@
-//! What the reset of a member leaves of jobs and outputs in their slots, and of the owners of groups: what is busy at the
-//! member becomes free of it, and the groups that it took.
+//! What the reset of a member leaves of jobs and outputs in their slots, and of the owners of groups: what is busy at
+//! the member becomes free of it, and the groups that it took.
 #![tactic(auto)]
 
 mod resets;

@@ -1,5 +1,5 @@
-//! Cases of runs over a plant in memory: what a run says and leaves, a crash at each of its moments with the start after
-//! it, and each act that fails or halts. A line that begins with a point sets something of a case, one with an
+//! Cases of runs over a plant in memory: what a run says and leaves, a crash at each of its moments with the start
+//! after it, and each act that fails or halts. A line that begins with a point sets something of a case, one with an
 //! exclamation mark plays it, and the others are lines of its scripts. Each stretch of moments or acts with one outcome
 //! is told in a line, and each state that a start finds is told once and has a number. Who plays the scripts is a
 //! parameter.

@@ -115,8 +115,8 @@ fn is_same(
     Ok(first.as_slice() == second.as_slice())
 }
 
-// The plant at the last moment at which a device wasn't lost, with all that was written by then. There is none where the
-// device was lost from the first moment on.
+// The plant at the last moment at which a device wasn't lost, with all that was written by then. There is none where
+// the device was lost from the first moment on.
 fn last_there(
     alloc: Global,
     after: &MemPlant,

@@ -1,8 +1,8 @@
 //! A stop at each act of a stretch, up to the first that no run comes to, and behind each one a crash at each moment
 //! from there on: with each image, with both copies and with either one lost. What a start finds then must be the queue
-//! after the kept batches, or that with the batch in flight; with both copies exactly where either one has it. Each step
-//! that the console told is kept by then, each line that an output's mark counts stands on some paper, and the start
-//! after that one finds the same queue, reset.
+//! after the kept batches, or that with the batch in flight; with both copies exactly where either one has it. Each
+//! step that the console told is kept by then, each line that an output's mark counts stands on some paper, and the
+//! start after that one finds the same queue, reset.
 use crate::cases::{Case, crashed, start};
 use crate::looks::kept_and_begun;
 use crate::modes::Told;

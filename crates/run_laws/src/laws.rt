@@ -39,9 +39,9 @@ pub fn law_of_early_crashes<N: Plant>(next: &N)
     let _next = next;
 }
 
-/// On a plant that halts an act only where a stop of its member was armed, as the plant over files does that `plant_fuse`
-/// makes: where no stop of a member was armed before a run, and no line of its script arms one, no line of that member
-/// was cut but the one in which the run ended, if one was.
+/// On a plant that halts an act only where a stop of its member was armed, as the plant over files does that
+/// `plant_fuse` makes: where no stop of a member was armed before a run, and no line of its script arms one, no line of
+/// that member was cut but the one in which the run ended, if one was.
 pub fn law_of_unarmed_runs<P: Plant>(plant: &P)
     ensures bare { P.halts_armed → PlaysOnUnarmed ⊥ (P.view plant.now) }
     ensures told { P.halts_armed → PlaysOnUnarmed (Unit {0}) (P.view plant.now) }

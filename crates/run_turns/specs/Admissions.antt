@@ -26,8 +26,8 @@ use Rattle.step_turns.specs.declared.states.Grant.{Grant}
 use Rattle.step_turns.specs.declared.states.Grant.TheVariants.{ByLock, ForStep}
 
 -- What becomes of a line: it closes so before any try, and this member says it; or its member doesn't get the lock.
--- Else it has the lock, and plays a task, or resets a member, or replaces a copy; it takes the lock of a stopped holder,
--- and resets that; or it keeps the lock, or gives it up. A line of another kind isn't played.
+-- Else it has the lock, and plays a task, or resets a member, or replaces a copy; it takes the lock of a stopped
+-- holder, and resets that; or it keeps the lock, or gives it up. A line of another kind isn't played.
 pub data Admission : Type 0 where
   Refused : MemberId → Closing → Admission
   Denied : LockNo → Admission

@@ -26,8 +26,8 @@ broken n tail lines = map whole (take n lines) ++ torn tail (drop n lines)
 
 -- WHAT IS LEFT
 
--- what a step left: its batches, the lines on the console, those on the member's printer, how many prints were made, the
--- bytes given on a line to another node, the member's count of printed lines, and the book
+-- what a step left: its batches, the lines on the console, those on the member's printer, how many prints were made,
+-- the bytes given on a line to another node, the member's count of printed lines, and the book
 pub record Left : Type 0 where
   pub batches : List Batched
   pub lines : List Line

@@ -22,8 +22,8 @@ pub fn law_of_tests()
 {}
 
 /// A stop is noted in the book and changes nothing else; one of a member that is none, or was stopped before, does
-/// nothing. Whatever a line of a stopped member asks for, it gives no batch and no bytes, and prints nothing. Who stops in a step
-/// that took the lock holds it, unless it stops in acts that follow a sitting.
+/// nothing. Whatever a line of a stopped member asks for, it gives no batch and no bytes, and prints nothing. Who stops
+/// in a step that took the lock holds it, unless it stops in acts that follow a sitting.
 pub fn law_of_stops()
     ensures none { NoStopOfTheStopped }
     ensures noted { StopsAreNoted }
@@ -37,9 +37,9 @@ pub fn law_of_histories()
     ensures { QueuesAreOfHistory }
 {}
 
-/// Wherever a step was cut, and whatever it found: it gave the first ones of the entries that it would have given, and of
-/// the bytes that it would have given on a line to another node. And where one of its lines stands, even a torn one, all
-/// of its batches are kept.
+/// Wherever a step was cut, and whatever it found: it gave the first ones of the entries that it would have given, and
+/// of the bytes that it would have given on a line to another node. And where one of its lines stands, even a torn one,
+/// all of its batches are kept.
 pub fn law_of_cuts()
     ensures first { CutsGiveFirst }
     ensures bytes { CutsGiveFirstBytes }
@@ -71,8 +71,9 @@ pub fn law_of_runs_of_one()
     ensures { RunsOfOneAreWhole }
 {}
 
-/// A run follows from the pieces that its lines gave, wherever they were cut: its outcomes, and the scene that it leaves.
-/// Where the pieces of each line are those that its queue gives, by what it found, these are what the script says.
+/// A run follows from the pieces that its lines gave, wherever they were cut: its outcomes, and the scene that it
+/// leaves. Where the pieces of each line are those that its queue gives, by what it found, these are what the script
+/// says.
 pub fn law_of_given_pieces()
     ensures { RightLinesAreTheScript }
 {}

@@ -16,8 +16,8 @@ pub fn law_of_generated_scripts()
 }
 
 /// The lines that a summary counts are those that each Mark printed by the table of commands, and the jobs are those of
-/// the queue after the entries: where these may be given, have their replies by the table, begin with a sound queue that
-/// has no outputs, and set no mark back or forward.
+/// the queue after the entries: where these may be given, have their replies by the table, begin with a sound queue
+/// that has no outputs, and set no mark back or forward.
 pub fn law_of_summaries()
     ensures { SumsAreOfTable }
 {}

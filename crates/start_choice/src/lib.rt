@@ -1,4 +1,5 @@
-//! Which copy of the checkpoint counts at a start: what a start makes of the pages that a copy reads as, and the choice.
+//! Which copy of the checkpoint counts at a start: what a start makes of the pages that a copy reads as, and the
+//! choice.
 #![tactic(auto)]
 
 mod choosing;

@@ -36,17 +36,17 @@ pub fn law_of_holds()
 {}
 
 /// Why a step closes as it does: as its last command was answered, with the units that are done, by a text, a volume, a
-/// printer or a line that its member found gone or lost, by the cards of a job that came over its line, or with the jobs
-/// that left and came.
+/// printer or a line that its member found gone or lost, by the cards of a job that came over its line, or with the
+/// jobs that left and came.
 pub fn law_of_causes()
     ensures { LinesAreCaused }
 {}
 
 /// What a step gives on its line. Over a queue that nobody else changes, and where no line and no volume is found lost,
-/// its sittings give what the step gives read straight: a Load and the job's frame, and then for each frame that came what
-/// this asks for. It offers the job that its Load answered, under the next number, with the job's own
-/// nodes. It acknowledges a number only where the queue that is kept has got it. And it counts the jobs that left and
-/// came as its entries do.
+/// its sittings give what the step gives read straight: a Load and the job's frame, and then for each frame that came
+/// what this asks for. It offers the job that its Load answered, under the next number, with the job's own nodes. It
+/// acknowledges a number only where the queue that is kept has got it. And it counts the jobs that left and came as its
+/// entries do.
 pub fn law_of_lines()
     ensures offers { OffersAreLoaded }
     ensures acknowledges { AcknowledgedAreGot }

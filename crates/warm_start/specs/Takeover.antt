@@ -72,8 +72,8 @@ found_in book now found is was = record (looked_in book is was) {
 }
 
 -- The parts by the answer, at the moment after the call: those of the copies are as they are after it, and all else as
--- is said here. Who took the lock and was stopped then is stopped in the book, and holds the lock; so does one that is out
--- of memory, which isn't stopped.
+-- is said here. Who took the lock and was stopped then is stopped in the book, and holds the lock; so does one that is
+-- out of memory, which isn't stopped.
 abbrev pub taken_in : {P C : Type 0} → Result (List Page) TakeNo → ℕ → MemberId → MemberId → Parts P C → Parts P C
     → Parts P C
 taken_in (Ok pages) now by of is was = found_in (after_seize was.book by of) now (level (bytes_of pages)) is was
@@ -151,8 +151,8 @@ module _ {P C : Type 0} (plants : PlantGhosts P) (copies : CopyGhosts C) where
         ⊎ WasUnfit copies.reads (disk_now (v plants old) Ckpt2).bytes old.level
         (copies.room_in (disk_now (v plants old) Ckpt2).bytes) pages
 
-  -- What is known by the answer. Once the member was stopped in it, a copy counts as alive. Out of memory both copies may
-  -- count as lost too: then they are so by the same causes.
+  -- What is known by the answer. Once the member was stopped in it, a copy counts as alive. Out of memory both copies
+  -- may count as lost too: then they are so by the same causes.
   abbrev pub TakesBy : MemberId → Parts P C → Parts P C → Result (List Page) TakeNo → Type 0
   TakesBy by old new (Ok pages) = HasFound old new pages
   TakesBy by old new (Err StillUp) = Unit {0}

@@ -47,8 +47,8 @@ impl From<SeizeNo> for TakeNo {
 ///
 /// StillUp comes exactly where `of` isn't stopped, NotHolder exactly where it is stopped and doesn't hold: then nothing
 /// is changed. After the other errors the lock is taken over, and a batch in flight still is. BothLost comes only where
-/// both copies count as lost at the end of the call, Halted only where `by` was stopped in it: then it is stopped in the
-/// book too. After BothLost and NoMemory the book is as the lock was taken over, and `by` is up in it.
+/// both copies count as lost at the end of the call, Halted only where `by` was stopped in it: then it is stopped in
+/// the book too. After BothLost and NoMemory the book is as the lock was taken over, and `by` is up in it.
 ///
 /// This speaks of the shared value as one hand reaches it. Where members pass it in turns, all of it is one turn.
 pub fn takeover<P: Plant + Drop, C: Steady + Drop>(

@@ -1,8 +1,8 @@
-use Rattle.std.proofs.Common.{◌≡◌, ◌≤◌, ◌<◌, ◌∙◌, ℕ, List, [], length, sym, ap, subst, rules, arith}
+use Rattle.std.proofs.Common.{◌≡◌, ◌<◌, ◌∙◌, ℕ, List, [], length, sym, ap, subst, rules, arith}
 use Rattle.mas_types.specs.declared.ids.Page.{Page}
 use Rattle.ckpt_tables.specs.Pages.{page_in}
 use Rattle.ckpt_pages.proofs.RunLemmas.{page_at}
-use Rattle.page_tables.specs.Bringing.{CanBringUp, order_in}
+use Rattle.page_tables.specs.Bringing.{order_in}
 use Rattle.member_node.specs.Reads.{too_high}
 use Rattle.member_node.proofs.AlikeLemmas.{own_older}
 use Rattle.member_node.proofs.member.Member.can_come_up.Goals as goal
