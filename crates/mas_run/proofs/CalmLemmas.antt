@@ -22,7 +22,7 @@ use Rattle.job_outcome.specs.declared.outcomes.Read.TheVariants as read
 use Rattle.member_work.specs.Looks.{as_it_is}
 use Rattle.member_work.specs.Rounds.{IsReadAs, IsSpoolLost}
 use Rattle.member_sittings.specs.Asides.{deck_found}
-use Rattle.member_asides.specs.Asides.{printed_found, read_found}
+use Rattle.member_hand.specs.Found.{printed_found, read_found}
 use Rattle.member_hand.specs.Cuts.{whole_pieces}
 use Rattle.member_hand.specs.Found.{FindsJob, FindsOutput, FindsWritten, IsFoundAt, Wait, waits_in}
 use Rattle.step_turns.specs.Courses.{holder_then, Finds}

@@ -15,7 +15,7 @@ use Rattle.job_outcome.specs.declared.outcomes.Read.{Read}
 use Rattle.job_outcome.specs.declared.outcomes.Read.TheVariants as read
 use Rattle.member_decks.specs.Steps.{IsFoundLost}
 use Rattle.member_node.proofs.CourseLemmas.{rose_more}
-use Rattle.member_wires.specs.Acts.{HasLineFailed}
+use Rattle.member_hand.specs.Acts.{HasLineFailed}
 use Rattle.member_work.specs.Causes.{MayRefuse}
 use Rattle.member_work.specs.Rounds.{HasFailed, HasPrinterFailed, IsReadAs, IsSpoolLost}
 use Rattle.step_turns.specs.Courses.{Finds}

@@ -16,3 +16,5 @@ pub mod LinesPlayed
 pub mod Calm
 pub mod Unstopped
 pub mod MuteLines
+pub use Rattle.member_hand.specs.Cuts
+pub use Rattle.member_resets.specs.Settling

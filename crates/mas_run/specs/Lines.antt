@@ -70,8 +70,9 @@ same_device Ckpt2 Ckpt2 = true
 same_device (Spool n) (Spool volume) = n == volume
 same_device _ _ = false
 
--- VOLUMES THAT STAY: each but those that the line names is lost where it was, and no fault of it is counted. A line of a
--- member names those that its acts found lost, in the pieces that it played whole; one that loses a volume names that.
+-- VOLUMES THAT STAY: each but those that the line names is lost where it was, and no fault of it is counted. A line of
+-- a member names those that its acts found lost, in the pieces that it played whole; one that loses a volume names
+-- that.
 
 abbrev pub named_as : LineAt → Admission → Option Cut → ℕ → Bool
 named_as l a cut =
@@ -96,8 +97,8 @@ named_by l = names_in l.step.what (named_as l (admitted_at l) (cut_of l))
 abbrev pub IsNextAct : View → Type 0
 IsNextAct v = v.now ≡ next v.halt
 
--- the operator could not say that the member was stopped: the console failed at it, or there was no memory for the line,
--- and nothing followed
+-- the operator could not say that the member was stopped: the console failed at it, or there was no memory for the
+-- line, and nothing followed
 abbrev pub IsUnsaid : NodeNo → View → Type 0
 IsUnsaid no_node.ConsoleFault v = IsNextAct v
 IsUnsaid no_node.NoMemory v = v.now ≡ v.halt
@@ -115,7 +116,8 @@ pub record StopsUnsaid (e : NodeNo) (by : MemberId) (cut : Cut) (old new : View)
   pub stopped : HasStopped by old new
   pub unsaid : IsUnsaid e new
 
--- A line that was cut while the run went on: its member was stopped, and made no act after that. Or the run ended in it.
+-- A line that was cut while the run went on: its member was stopped, and made no act after that. Or the run ended in
+-- it.
 abbrev pub IsCutAs : {T : Type 0} → Result T NodeNo → MemberId → Cut → View → View → Type 0
 IsCutAs (Ok done) by cut old new = (cut.cause ≡ Stops) × IsHaltBy no_node.Halted cut.halt × HasStopped by old new
     × IsNextAct new

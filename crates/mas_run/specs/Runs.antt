@@ -130,8 +130,8 @@ pub record NonePassed (b : LinesBegun) (e : LinesEnded) : Type 0 where
   pub still : e.view ≡ b.view
 
 -- Both: what is known of any plant, and what is known besides of one that tells. Where a line was cut is known of the
--- second alone; so what lines gave stands in each by itself. Before the lines began nothing was said or printed, nothing
--- was given or taken on a line to another node, and each device had been lost so often by a call.
+-- second alone; so what lines gave stands in each by itself. Before the lines began nothing was said or printed,
+-- nothing was given or taken on a line to another node, and each device had been lost so often by a call.
 pub record WerePlayed (tells : Type 0) (b : LinesBegun) (e : LinesEnded) (first : Dev → ℕ) (old : View) : Type 0 where
   pub entered : Goes old b.view
   pub lost_before : (d : Dev) → b.view.loses d ≡ first d

@@ -1,5 +1,5 @@
--- Lines to other nodes in a run: the bytes that each line of a script gives on one, and those that it takes from it, with
--- the frames that these complete in the stream that its member took from it in the run.
+-- Lines to other nodes in a run: the bytes that each line of a script gives on one, and those that it takes from it,
+-- with the frames that these complete in the stream that its member took from it in the run.
 use Rattle.std.specs.Prelude.{◌≡◌, ◌≢◌, ◌⊎◌, ℕ, ◌-◌, ◌+◌, ◌*◌, ◌≤◌, List, [], ◌∷◌, ◌++◌, drop, length, take, Option, Some, None}
 use Rattle.mas_types.specs.declared.ids.MemberId.{MemberId}
 use Rattle.mas_types.specs.Limits.{wires_most}

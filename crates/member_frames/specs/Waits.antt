@@ -32,8 +32,8 @@ abbrev pub IsOfferThere : Tables → Option Offer → Type 0
 IsOfferThere t None = Unit {0}
 IsOfferThere t (Some o) = IsThere t o.job
 
--- The frames that are still to be handled were read from the line. With the jobs that left and came they are no more than
--- the frames that came.
+-- The frames that are still to be handled were read from the line. With the jobs that left and came they are no more
+-- than the frames that came.
 pub record IsServable (s : Service) : Type 0 where
   pub line : IsLine s.line
   pub frames : All IsFrame s.frames

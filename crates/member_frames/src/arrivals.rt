@@ -174,8 +174,8 @@ pub struct Stored {
     pub lost: Option<u8>,
 }
 
-// The sitting after a job's text was spooled: the job is got with it, and the step waits to acknowledge it. Where Got is
-// refused the job is dropped, and the step closes with that.
+// The sitting after a job's text was spooled: the job is got with it, and the step waits to acknowledge it. Where Got
+// is refused the job is dropped, and the step closes with that.
 fn get_arrival<P: Plant + Drop, C: Steady + Drop>(
     member: &mut Member,
     alloc: Global,
@@ -227,12 +227,12 @@ fn get_arrival<P: Plant + Drop, C: Steady + Drop>(
     pause_sitting(member, alloc, complex, holder, aside)
 }
 
-/// The sitting after a job's text was to be spooled: the job is got with its text, and the step waits to acknowledge it.
-/// Where Got is refused, or a volume was found lost, the job is dropped, and the step closes with that.
+/// The sitting after a job's text was to be spooled: the job is got with its text, and the step waits to acknowledge
+/// it. Where Got is refused, or a volume was found lost, the job is dropped, and the step closes with that.
 ///
-/// NoMemory leaves the journal and the copies as they were, unless Got was refused. BothLost comes only where both copies
-/// count as lost at the end of the call, Halted only where the member was stopped in it, ConsoleFault only where the
-/// console failed. After an error the member can't go on.
+/// NoMemory leaves the journal and the copies as they were, unless Got was refused. BothLost comes only where both
+/// copies count as lost at the end of the call, Halted only where the member was stopped in it, ConsoleFault only where
+/// the console failed. After an error the member can't go on.
 pub fn sit_arrival<P: Plant + Drop, C: Steady + Drop>(
     member: &mut Member,
     alloc: Global,

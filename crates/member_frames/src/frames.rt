@@ -140,9 +140,9 @@ fn end_or_serve<P: Plant + Drop, C: Steady + Drop>(
 }
 
 /// A sitting of a step that serves a line, after the acts for which it waited. After the exchange, or an
-/// acknowledgement, the frames that came are handled one after another: an acknowledgement by Sent, a job by its number.
-/// The step waits again for a job's text to be spooled, or to acknowledge one; or it closes, with the jobs that left and
-/// came, or with what refused one or was lost. Once a job's text was spooled it is got, or dropped.
+/// acknowledgement, the frames that came are handled one after another: an acknowledgement by Sent, a job by its
+/// number. The step waits again for a job's text to be spooled, or to acknowledge one; or it closes, with the jobs that
+/// left and came, or with what refused one or was lost. Once a job's text was spooled it is got, or dropped.
 ///
 /// NoMemory leaves the first ones of the sitting's batches, or all of them, and of the next one perhaps what was done
 /// of it. BothLost comes only where both copies count as lost at the end of the call, Halted only where the member was

@@ -26,4 +26,5 @@ pub mod Piecing
 pub mod Going
 pub mod Trying
 pub mod Chaining
-pub mod Seated
+pub use Rattle.member_quiet.proofs.Seated
+pub use Rattle.member_frames.proofs.Resumes

@@ -1,5 +1,5 @@
--- A step as a chain of turns at a shared value: in each turn the member plays a piece of its step, and between two turns
--- others may have had the value.
+-- A step as a chain of turns at a shared value: in each turn the member plays a piece of its step, and between two
+-- turns others may have had the value.
 use Rattle.std.specs.Prelude.{◌≡◌, ◌⊎◌, ℕ, Bool, List, [], ◌∷◌, Option, Result, Ok, Err, IfSome}
 use Rattle.spool_plant.specs.declared.plant.Plant.{Ghosts as PlantGhosts}
 use Rattle.ckpt_copy.specs.declared.copying.Copying.{Ghosts as CopyGhosts}

@@ -10,4 +10,5 @@ pub mod Sits
 pub mod Turns
 pub mod Plays
 pub mod Chains
-pub mod Standing
+pub use Rattle.member_quiet.specs.Standing
+pub use Rattle.member_wires.specs.Acts

@@ -75,8 +75,8 @@ abbrev pub play_in : MemberId → List Piece → Book → Queue → Play
 play_in by pieces book Q =
     record { sayer = by; pieces = pieces; book = book; locked = true; queue = Q; flight = None }
 
--- Acts of a step, of which these copies counted as alive before and count so after. What becomes of the copies is as in a
--- sitting; of the volumes nothing is said.
+-- Acts of a step, of which these copies counted as alive before and count so after. What becomes of the copies is as in
+-- a sitting; of the volumes nothing is said.
 pub record Passage (was1 is1 was2 is2 : Bool) (old new : View) : Type 0 where
   pub goes : Goes old new
   pub failed1 : was1 ≡ true → is1 ≡ false → WasLost Ckpt1 old new

@@ -51,9 +51,9 @@ AreFewUnits (Away (SpoolArrival number job cards service)) = Unit {0}
 AreFewUnits (Away (Acknowledge number service)) = Unit {0}
 AreFewUnits s = units_done s + units_left s ≤ units_most
 
--- A member waits rightly in a state of its step: for a deck, and for a job that came over a line, it has the groups that
--- its text needs; the job of work is under way, its outputs have their groups, or an output is busy at the member; the
--- job that is offered on a line is there.
+-- A member waits rightly in a state of its step: for a deck, and for a job that came over a line, it has the groups
+-- that its text needs; the job of work is under way, its outputs have their groups, or an output is busy at the member;
+-- the job that is offered on a line is there.
 abbrev pub WaitsWell : Type 0 → Queue → Member → State → Type 0
 WaitsWell told Q m (Away (SpoolDeck n text)) = HasGroups m text
 WaitsWell told Q m (Away (Exchange l offer)) = WaitsOnLine told m (Away (Exchange l offer))

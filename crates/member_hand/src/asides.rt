@@ -31,10 +31,10 @@ pub fn nothing_found(alloc: Global) -> Found
     }
 }
 
-/// Does the acts aside for which a step waits: the text of a deck, of a job that came over a line, or of a job's outputs
-/// is written and synced; a job's text is read; an output's text is read and its next lines are printed; on a line a
-/// job's frame is given and bytes are taken, or an acknowledgement is given. Answers what was found. NOBODY HOLDS THE
-/// LOCK IN THEM, unless its member has it by the operator's LOCK.
+/// Does the acts aside for which a step waits: the text of a deck, of a job that came over a line, or of a job's
+/// outputs is written and synced; a job's text is read; an output's text is read and its next lines are printed; on a
+/// line a job's frame is given and bytes are taken, or an acknowledgement is given. Answers what was found. NOBODY
+/// HOLDS THE LOCK IN THEM, unless its member has it by the operator's LOCK.
 ///
 /// The reader is that of the line, if the step serves one: it goes on with the bytes that were taken.
 ///

@@ -120,9 +120,9 @@ pub fn play_piece<P: Plant + Drop, C: Steady + Drop>(
 
 /// Plays a task of the member as a whole step, EACH PIECE IN A TURN at the shared value, which others may have between
 /// two turns. Without LOCK the lock is given up at each sitting's end and taken again at the next one's beginning; with
-/// it only at the step's end, and there only where the hold is spent. A step that is halted ends at once, and its member
-/// is stopped in the book in the same turn. The reader is that of the line, if the task serves one: it goes on with the
-/// bytes that the step takes.
+/// it only at the step's end, and there only where the hold is spent. A step that is halted ends at once, and its
+/// member is stopped in the book in the same turn. The reader is that of the line, if the task serves one: it goes on
+/// with the bytes that the step takes.
 ///
 /// Halted comes only where the member was stopped, BothLost only where both copies count as lost, ConsoleFault only
 /// where the console failed at a line. After an error the member can't go on; what the step left is told for each.

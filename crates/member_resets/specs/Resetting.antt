@@ -109,8 +109,8 @@ module _ {P C : Type 0} (plants : PlantGhosts P) (copies : CopyGhosts C) where
       pub writes : Writes plants copies h.by (left_at plants copies h.by cut pieces x) x y result
 
   -- Whether content is told or not there is a piece of a reset, and a cut of it, so that this is what the line left in
-  -- the journal and the book. A copy was lost by a call once at most; each volume is lost where it was, and no fault of it
-  -- is counted. No other member's count of printed lines differs.
+  -- the journal and the book. A copy was lost by a call once at most; each volume is lost where it was, and no fault of
+  -- it is counted. No other member's count of printed lines differs.
   pub record HasResetBy (h : Holder) (of : MemberId) (x y : Parts P C) (pages : ℕ) (result : Result (Unit {0}) NodeNo)
       : Type 0 where
     pub pieces : List Piece
@@ -131,7 +131,8 @@ module _ {P C : Type 0} (plants : PlantGhosts P) (copies : CopyGhosts C) where
 
   -- WITH THE LOCK OF A STOPPED MEMBER
 
-  -- A member that is up, and idle with the pages that it noted, may take the lock over that a stopped member holds, and then reset that.
+  -- A member that is up, and idle with the pages that it noted, may take the lock over that a stopped member holds, and
+  -- then reset that.
   pub record MayTakeAt (x : Parts P C) (m : Member) (at : ℕ) (of : MemberId) : Type 0 where
     pub stands : StandsIn x.batches x.placed x.book x.current
     pub idle : IsIdle m
@@ -187,8 +188,8 @@ module _ {P C : Type 0} (plants : PlantGhosts P) (copies : CopyGhosts C) where
 
   -- The lock was taken over, and this was found of a batch in flight, if one was: it is kept or dropped. The copies
   -- are at rest then, and each that counts as alive has the pages of the configuration. A batch that is kept raises the
-  -- level by one. Nobody noted any pages. A copy was lost only where an act on it failed, or it couldn't stay beside the
-  -- pages found.
+  -- level by one. Nobody noted any pages. A copy was lost only where an act on it failed, or it couldn't stay beside
+  -- the pages found.
   pub record IsTaken (by of : MemberId) (x y : Parts P C) (found : Fate) : Type 0 where
     pub counts : KeepsCounts by.0 x.first_alive y.first_alive x.second_alive y.second_alive false (v x) (v y)
     pub apart : plants.tells → OnCopies (v x) (v y)

@@ -33,11 +33,11 @@ use Rattle.member_node.specs.Reads.{AreLow, ReadsLow}
 use Rattle.member_steps.proofs.ReadLemmas.{calm_rest, low_written}
 use Rattle.member_sittings.specs.Gates.{IsOpen}
 use Rattle.member_sittings.specs.Whole.{Half, HasUntold, IsAtRest, first_half, queue_of, second_half}
-use Rattle.member_hand.specs.Quiet.{IsQuiet}
+use Rattle.member_quiet.specs.Quiet.{IsQuiet}
 use Rattle.run_turns.specs.Scenes.{scene_of}
 use Rattle.run_opening.specs.Fresh.{AreFresh, AreFreshFrom, IsFresh}
 use Rattle.run_opening.specs.Shows.{AreLarge, AreMembers, BetweenLines, IsBetween, IsMemberAt, IsShown, QuietFor, Shows}
-use Rattle.member_hand.specs.Standing.{IsOfEarlier, StandsIn}
+use Rattle.member_quiet.specs.Standing.{IsOfEarlier, StandsIn}
 use Rattle.run_opening.proofs.ResetLemmas.{none_untold_later}
 
 -- the book of a run has as many members as the configuration

@@ -7,7 +7,7 @@ use Rattle.mas_types.specs.Limits.{wires_most}
 use Rattle.spool_plant.specs.View.{taken_now}
 use Rattle.spool_plant.specs.declared.plant.Plant.{Ghosts as PlantGhosts}
 use Rattle.mas_complex.specs.Parts.{Parts}
-use Rattle.member_hand.proofs.Seated.{seated}
+use Rattle.member_quiet.proofs.Seated.{seated}
 use Rattle.run_opening.specs.Wires.{AreReaders, reader_place}
 
 -- THE LIST OF THEM

@@ -36,7 +36,7 @@ use Rattle.member_steps.proofs.StepLemmas.{journal_kept}
 use Rattle.mas_complex.specs.Paper.{MayBegin, printed_after}
 use Rattle.mas_complex.proofs.Allowed.{one_begins}
 use Rattle.run_opening.specs.Resets.{HasReset, restart_at, restart_entries}
-use Rattle.member_hand.specs.Standing.{IsOfEarlier}
+use Rattle.member_quiet.specs.Standing.{IsOfEarlier}
 use Rattle.run_opening.specs.Statuses.{IsCausedFrom, is_of_play, status_of}
 
 -- nothing was said since this moment

@@ -3,7 +3,7 @@ use Rattle.std.specs.Prelude.{◌≡◌, ℕ, ◌+◌, true, List, [], ◌∷◌
 use Rattle.mas_types.specs.declared.queues.Config.{Config}
 use Rattle.ckpt_tables.specs.Shape.{page_count}
 use Rattle.member_node.specs.declared.member.Member.{Member}
-use Rattle.member_hand.specs.Quiet.{IsIdle}
+use Rattle.member_quiet.specs.Quiet.{IsIdle}
 
 -- a member of this number that has done nothing
 pub record IsFresh (of : Config) (at : ℕ) (m : Member) : Type 0 where

@@ -77,8 +77,8 @@ IsGoodNow d rs v = (v.lost (Disk d) ≡ false) × (is_open rs ≡ false)
 abbrev pub OneIsGood : Renewals → View → Type 0
 OneIsGood rs v = IsGoodNow Ckpt1 rs.first v ⊎ IsGoodNow Ckpt2 rs.second v
 
--- A plant as it shows all at a run's end, but that devices of copies are lost that were lost at its first moment: a line
--- may have put others in their place.
+-- A plant as it shows all at a run's end, but that devices of copies are lost that were lost at its first moment: a
+-- line may have put others in their place.
 abbrev pub lost_from : (Dev → Bool) → Part → Bool → Bool
 lost_from lost (Disk Ckpt1) is = lost Ckpt1
 lost_from lost (Disk Ckpt2) is = lost Ckpt2
@@ -179,12 +179,12 @@ LosesFirst false (Spool n) was is = is ≡ was
 -- first moment is this; and how they ended: so many were played, the run's own journal, after its opening, has these
 -- batches, copies were replaced at these moments, and this is its status
 
--- What holds at each moment from a run's first on, where copies were replaced at these moments: a crash leaves the queue
--- after what was kept where a copy is good; both copies read the same pages or those on either side of the batch in
--- flight, but for one that is being replaced; each text is left, and what is told is kept; the lines
--- that each kept Mark answered stand on paper, and each line that a printer has more is the next one of the output that
--- is busy at its member, and whole unless an act of the member was halted. The levels on the copies rise by one for
--- each batch that is kept, of which there are at most 2^40.
+-- What holds at each moment from a run's first on, where copies were replaced at these moments: a crash leaves the
+-- queue after what was kept where a copy is good; both copies read the same pages or those on either side of the batch
+-- in flight, but for one that is being replaced; each text is left, and what is told is kept; the lines that each kept
+-- Mark answered stand on paper, and each line that a printer has more is the next one of the output that is busy at its
+-- member, and whole unless an act of the member was halted. The levels on the copies rise by one for each batch that is
+-- kept, of which there are at most 2^40.
 pub record IsSafe (tells : Type 0) (base : Queue) (journal : Journal) (rs : Renewals) (since : ℕ) (new : View) : Type 0
   where
     pub crash : tells → ∥ IsCrashSafe form_reads base journal rs since new ∥₁

@@ -23,9 +23,9 @@ use Rattle.mas_complex.specs.Parts.{Parts, parts_of, unreserved_in}
 use Rattle.member_node.specs.declared.member.Member.{Member}
 use Rattle.member_node.specs.Wanted.{HasHad}
 use Rattle.member_sittings.specs.Whole.{HasUntold, IsSeat, queue_of}
-use Rattle.member_hand.specs.Quiet.{IsIdle, IsQuiet}
+use Rattle.member_quiet.specs.Quiet.{IsIdle, IsQuiet}
 use Rattle.run_turns.specs.Scenes.{Scene}
-use Rattle.member_hand.specs.Standing.{IsOfEarlier, StandsIn}
+use Rattle.member_quiet.specs.Standing.{IsOfEarlier, StandsIn}
 
 -- THE SCENE
 
@@ -64,8 +64,8 @@ module _ {P C : Type 0} (plants : PlantGhosts P) (copies : CopyGhosts C) where
   AreLarge x = (copies.needs (page_count x.base.config) ≤ (v x).size Ckpt1)
       × (copies.needs (page_count x.base.config) ≤ (v x).size Ckpt2)
 
-  -- A member that isn't stopped has room for the pages of the configuration. It is idle, and has the pages that it noted,
-  -- unless it has read none. It is at its seat where it holds the lock by LOCK.
+  -- A member that isn't stopped has room for the pages of the configuration. It is idle, and has the pages that it
+  -- noted, unless it has read none. It is at its seat where it holds the lock by LOCK.
   pub record IsMemberUp (x : Parts P C) (m : Member) : Type 0 where
     pub config : x.base.config ≡ m.checkpoint.tables.config
     pub many : length m.room ≡ page_count x.base.config

@@ -97,9 +97,9 @@ fn refuse_devices<P: Plant>(plant: &P, config: &Config) -> Result<(), Status>
     }
 }
 
-/// Formats both copies with the empty queue of the script's configuration and routes. A copy that fails is left out. The
-/// run is open then, and its lines can be played. Or it ended before: a device is too small, both copies were lost, or
-/// there was no memory.
+/// Formats both copies with the empty queue of the script's configuration and routes. A copy that fails is left out.
+/// The run is open then, and its lines can be played. Or it ended before: a device is too small, both copies were lost,
+/// or there was no memory.
 pub(crate) fn open_cold<P: Plant + Drop>(
     alloc: Global,
     script: &Script,
