@@ -78,8 +78,8 @@ TakeoversMayGoBack = (x c : Shown) (by of : MemberId) (stopped told : Bool) (car
     → (told ≡ true → BatchLeavesGroups by (with_book x (after_seize x.book by of) x.reserved) x.current)
     → MayGiveBack by.0 cares (facts_of told x) (facts_of told (taken x c by of))
 
--- What a takeover leaves that found nothing out may be handed back. Both copies are lost, or there was no memory, or the
--- member that took over was stopped: then it is stopped in the book.
+-- What a takeover leaves that found nothing out may be handed back. Both copies are lost, or there was no memory, or
+-- the member that took over was stopped: then it is stopped in the book.
 abbrev pub FailedTakeoversMayGoBack : Type 0
 FailedTakeoversMayGoBack = (x c : Shown) (by of : MemberId) (stopped told : Bool) (cares : List Bool)
     → IsMember x.book by → IsMember x.book of → marked_at cares by.0 ≡ true

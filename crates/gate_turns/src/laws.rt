@@ -106,8 +106,9 @@ pub fn law_of_losses()
 {}
 
 /// The replacement of a copy leaves the desk of each member but the one that replaces it, and what was kept, begun and
-/// said, whatever it answers. Of the marks it leaves the first moment, and the counts of lost devices and of armed stops.
-/// A copy that it formed counts as alive again: so only one who lends the value to nobody else may replace a copy.
+/// said, whatever it answers. Of the marks it leaves the first moment, and the counts of lost devices and of armed
+/// stops. A copy that it formed counts as alive again: so only one who lends the value to nobody else may replace a
+/// copy.
 pub fn law_of_renewals()
     ensures desks { RenewalsLeaveDesks }
     ensures history { RenewalsLeaveHistory }

@@ -11,7 +11,8 @@ use spool_plant::Plant;
 
 /// One turn in which the member tries at the lock of the checkpoint, inside a step or between two, and which is given
 /// back whether or not it got it. After Ok the member remembers that it has the lock. The value is just as it was found
-/// except for the try, and the answer is that value's book's. Down, Busy and Dormant come as `try_lock` of the book says.
+/// except for the try, and the answer is that value's book's. Down, Busy and Dormant come as `try_lock` of the book
+/// says.
 pub fn try_in_turn<P: Plant + Drop, C: Steady + Drop, T: Turns<Complex<P, C>>>(
     turns: &mut T,
     by: MemberId,

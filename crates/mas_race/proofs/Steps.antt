@@ -1,13 +1,11 @@
--- What a pass knows in a turn and after it, and what workers leave.
+-- What a pass knows in a turn and after it.
 use Rattle.std.proofs.Common.{◌≡◌, ◌∙◌, ℕ, suc, ◌<◌, Bool, true, false, List, [], ◌∷◌, length, slice_index_or, ap, refl, subst, sym, arith}
-use Rattle.std.specs.List.{refill}
 use Rattle.std.specs.Prelude.{Option, Some, None, IfSome, is_some, if◌then◌else◌}
 use Rattle.gate_facts.specs.declared.facts.Facts.{Facts}
 use Rattle.gate_facts.specs.Memory.{Knows}
 use Rattle.gate_facts.specs.Ways.{EachWay}
 use Rattle.member_gate.specs.declared.view.View.{View}
 use Rattle.member_gate.specs.Views.{Finds, memory_by, memory_in, sees, taking, counting, ending}
-use Rattle.mas_race.specs.Workers.{HaveRun}
 
 -- THE PASS
 
@@ -42,27 +40,3 @@ value_here false value held = absurd (cc)
 pub held_here : {A : Type 0} (has : Bool) (value : Option A) (x : A) → is_some (if has then value else None) ≡ true → value ≡ Some x → (if has then value else None) ≡ Some x
 held_here true value x held is = is
 held_here false value x held is = absurd (cc)
-
--- WORKERS
-
--- a list that is written as a whole is what was written
-pub refill_whole : {X : Type 0} (xs ws : List X) → length ws ≡ length xs → refill (length xs) xs ws ≡ ws
-refill_whole [] [] e = refl
-refill_whole [] (w ∷ ws) e = absurd (omega (arith, e))
-refill_whole (x ∷ xs) [] e = absurd (omega (arith, e))
-refill_whole (x ∷ xs) (w ∷ ws) e = ap (λ (l : List _). w ∷ l) (refill_whole xs ws (omega (arith, e)))
-
--- what each is left as by its run
-pub have_run : {W : Type 0} (ran : W → W → Type 0) (xs ys : List W) → length ys ≡ length xs
-    → ((k : ℕ) (d : W) → k < length xs → ran (slice_index_or xs k d) (slice_index_or ys k d)) → HaveRun ran xs ys
-have_run ran [] [] e each = tt
-have_run ran [] (y ∷ ys) e each = absurd (omega (arith, e))
-have_run ran (x ∷ xs) [] e each = absurd (omega (arith, e))
-have_run ran (x ∷ xs) (y ∷ ys) e each = (each 0 x (omega arith), have_run ran xs ys (omega (arith, e)) (λ k d lt. each (suc k) d (omega (arith, lt))))
-
--- workers that stand in a slice
-pub sliced_run : {W : Type 0} (ran : W → W → Type 0) (xs s ys : List W) → s ≡ xs → length ys ≡ length s
-    → ((k : ℕ) (d : W) → k < length s → ran (slice_index_or s k d) (slice_index_or ys k d)) → HaveRun ran xs (refill (length xs) xs ys)
-sliced_run ran xs s ys same long each =
-    let many : length ys ≡ length xs = long ∙ ap (λ (l : List _). length l) same in
-    subst (HaveRun ran xs) (sym (refill_whole xs ys many)) (subst (λ (l : List _). HaveRun ran l ys) same (have_run ran s ys long each))

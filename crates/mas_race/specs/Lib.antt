@@ -1,4 +1,4 @@
 pub mod Lent
+pub mod Beginnings
 pub mod Between
 pub mod Passings
-pub mod Workers

@@ -14,6 +14,7 @@ use Rattle.member_gate.specs.declared.pass.Pass.{Pass}
 use Rattle.member_gate.specs.declared.view.View.{View}
 use Rattle.member_gate.specs.Passes.{view}
 use Rattle.member_gate.specs.Views.{Finds, memory_by, sees}
+use Rattle.mas_race.specs.Beginnings.{Began, IsFrom}
 use Rattle.mas_race.specs.Between.{BetweenTurns}
 
 -- the reference by which a pass takes turns, the gate that it is of, its member, and the members of which it knows the
@@ -34,14 +35,19 @@ held_within true was x held = refl
 held_within false was x held = absurd (cc)
 
 module _ {P C : Type 0} {plants : PlantGhosts P} {steadies : SteadyGhosts C} {copies : CopyGhosts C} where
+  -- what holds of a value between two turns of a race that began so
+  pub record RestsAs (b : Began) (x : Complex P C plants steadies copies) : Type 0 where
+    pub between : BetweenTurns x
+    pub from : IsFrom b x
+
   -- a pass that knows this may find that value at its turn
-  pub record found_by (v : View) (x : Complex P C plants steadies copies) : Type 0 where
-    pub rest : BetweenTurns x
+  pub record found_by (b : Began) (v : View) (x : Complex P C plants steadies copies) : Type 0 where
+    pub rest : RestsAs b x
     pub finds : Finds plants.tells v (λ told. facts_of told (shown_of x))
 
   -- A pass of this place that gave back the first value may find the second at its next turn: of what it knows then
   -- nothing has changed.
-  pub record found_after (p : PassPlace) (x y : Complex P C plants steadies copies) : Type 0 where
-    pub rest : BetweenTurns y
+  pub record found_after (b : Began) (p : PassPlace) (x y : Complex P C plants steadies copies) : Type 0 where
+    pub rest : RestsAs b y
     pub knows : EachWay plants.tells (λ told.
         Knows p.member (memory_by p.cares (sees p.member (facts_of told (shown_of x)))) (facts_of told (shown_of y)))

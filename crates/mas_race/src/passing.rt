@@ -4,7 +4,7 @@ ghost use Rattle.std.specs.Borrow.{sem};
 ghost use Rattle.mas_race.specs.Lent.{lends_some};
 ghost use Rattle.member_gate.specs.Passes.{IsPassOf, view};
 
-use crate::shared::Shared;
+use crate::shared::{Beginning, Shared};
 use gate_turns::Turns;
 use mas_complex::{Complex, Steady};
 use member_gate::{Gate, Pass};
@@ -23,20 +23,27 @@ fn lent<V>(value: &mut Option<V>) -> &mut V
     }
 }
 
+// Puts a value where another may be, which is let go.
+fn refill<V: Drop>(place: &mut Option<V>, value: V)
+    ensures { place.new ≡ Some value }
+{
+    *place = Some(value);
+}
+
 /// A pass, and in a turn the value that it took.
 #[derive(Drop)]
-pub struct Turn<P: Plant + Drop, C: Steady + Drop> {
+pub struct Turn<P: Plant + Drop, C: Steady + Drop, J: Beginning> {
     /// The pass.
-    pub pass: Pass<Shared<P, C>>,
+    pub pass: Pass<Shared<P, C, J>>,
     value: Option<Complex<P, C>>,
 
     /// In a turn the value is here.
     ghost out: { (view pass).has ≡ true → is_some value ≡ true },
 }
 
-impl<P: Plant + Drop, C: Steady + Drop> Turn<P, C> {
+impl<P: Plant + Drop, C: Steady + Drop, J: Beginning> Turn<P, C, J> {
     /// A pass that hasn't the turn may take turns.
-    pub fn new(pass: Pass<Shared<P, C>>) -> Turn<P, C>
+    pub fn new(pass: Pass<Shared<P, C, J>>) -> Turn<P, C, J>
         requires free { (view pass).has ≡ false }
         ensures pass { result.pass ≡ pass }
     {
@@ -44,7 +51,7 @@ impl<P: Plant + Drop, C: Steady + Drop> Turn<P, C> {
     }
 
     /// The pass.
-    pub fn into_pass(self) -> Pass<Shared<P, C>>
+    pub fn into_pass(self) -> Pass<Shared<P, C, J>>
         ensures { result ≡ self.pass }
     {
         let Turn { pass, .. } = self;
@@ -55,16 +62,16 @@ impl<P: Plant + Drop, C: Steady + Drop> Turn<P, C> {
 /// A pass that takes turns at the gate that it is of. Its turn waits for that of every other pass, and lends the shared
 /// value, which it keeps until the turn ends. It is bound to the pass's member.
 #[derive(Drop)]
-pub struct Passing<'a, P: Plant + Drop, C: Steady + Drop, R: Wait> {
+pub struct Passing<'a, P: Plant + Drop, C: Steady + Drop, J: Beginning, R: Wait> {
     rt: &'a R,
-    gate: &'a Gate<Shared<P, C>>,
-    turn: &'a mut Turn<P, C>,
+    gate: &'a Gate<Shared<P, C, J>>,
+    turn: &'a mut Turn<P, C, J>,
 
     /// The pass is of the gate.
     ghost own: { IsPassOf gate.now turn.now.pass },
 }
 
-impl<'a, P: Plant + Drop, C: Steady + Drop, R: Wait> Passing<'a, P, C, R> {
+impl<'a, P: Plant + Drop, C: Steady + Drop, J: Beginning, R: Wait> Passing<'a, P, C, J, R> {
     ghost use Rattle.std.specs.Prelude.{Bool};
     ghost use Rattle.gate_turns.specs.Turning.{OfEach};
     ghost use Rattle.member_gate.specs.Views.{memory_in};
@@ -73,31 +80,31 @@ impl<'a, P: Plant + Drop, C: Steady + Drop, R: Wait> Passing<'a, P, C, R> {
     /// A pass of this gate that hasn't the turn takes turns with it.
     pub fn new(
         rt: &'a R,
-        gate: &'a Gate<Shared<P, C>>,
-        turn: &'a mut Turn<P, C>,
-    ) -> Passing<'a, P, C, R>
+        gate: &'a Gate<Shared<P, C, J>>,
+        turn: &'a mut Turn<P, C, J>,
+    ) -> Passing<'a, P, C, J, R>
         requires own { IsPassOf gate.now turn.old.pass }
         requires free { (view turn.old.pass).has ≡ false }
-        ensures free { ⟦<Passing<'a, P, C, R> as Turns<Complex<P, C>>>⟧.held result ≡ None }
-        ensures place { ⟦<Passing<'a, P, C, R> as Turns<Complex<P, C>>>⟧.place result
+        ensures free { ⟦<Passing<'a, P, C, J, R> as Turns<Complex<P, C>>>⟧.held result ≡ None }
+        ensures place { ⟦<Passing<'a, P, C, J, R> as Turns<Complex<P, C>>>⟧.place result
             ≡ at_pass turn.entry.ghost_name turn.old.pass }
-        ensures bound { ⟦<Passing<'a, P, C, R> as Turns<Complex<P, C>>>⟧.bound result
+        ensures bound { ⟦<Passing<'a, P, C, J, R> as Turns<Complex<P, C>>>⟧.bound result
             ≡ Some (view turn.old.pass).member }
-        ensures finds { OfEach (⟦<Passing<'a, P, C, R> as Turns<Complex<P, C>>>⟧.finds result)
-            (found_by (view turn.old.pass)) }
-        ensures memory { (told : Bool) → ⟦<Passing<'a, P, C, R> as Turns<Complex<P, C>>>⟧.memory result told
+        ensures finds { OfEach (⟦<Passing<'a, P, C, J, R> as Turns<Complex<P, C>>>⟧.finds result)
+            (found_by J.began (view turn.old.pass)) }
+        ensures memory { (told : Bool) → ⟦<Passing<'a, P, C, J, R> as Turns<Complex<P, C>>>⟧.memory result told
             ≡ memory_in (view turn.old.pass) told }
     {
         Passing { rt, gate, turn }
     }
 }
 
-impl<'a, P: Plant + Drop, C: Steady + Drop, R: Wait> Turns<Complex<P, C>> for Passing<'a, P, C, R> {
+impl<'a, P: Plant + Drop, C: Steady + Drop, J: Beginning, R: Wait> Turns<Complex<P, C>>
+    for Passing<'a, P, C, J, R> {
     ghost use Rattle.std.specs.Prelude.{Some, refl, if◌then◌else◌};
-    ghost use Rattle.mas_race.specs.Between.{BetweenTurns};
     ghost use Rattle.member_gate.specs.Passes.{view};
     ghost use Rattle.member_gate.specs.Views.{memory_in, sight};
-    ghost use Rattle.mas_race.specs.Passings.{PassPlace, at_pass, found_by, found_after, held_within};
+    ghost use Rattle.mas_race.specs.Passings.{PassPlace, RestsAs, at_pass, found_by, found_after, held_within};
 
     ghost Place = { PassPlace };
 
@@ -110,21 +117,20 @@ impl<'a, P: Plant + Drop, C: Steady + Drop, R: Wait> Turns<Complex<P, C>> for Pa
     ghost with_held = { λ t x.
         record t { turn = record t.turn { now = record t.turn.now { value = Some x; out = λ has. refl } } } };
 
-    ghost finds = { λ t. found_by (view t.turn.now.pass) };
+    ghost finds = { λ t. found_by J.began (view t.turn.now.pass) };
 
-    ghost follows = { found_after };
+    ghost follows = { found_after J.began };
 
     ghost memory = { λ t. memory_in (view t.turn.now.pass) };
 
     ghost taken = { λ t told. (sight (view t.turn.now.pass) told).out };
 
-    ghost rests = { λ x. BetweenTurns x };
+    ghost rests = { λ x. RestsAs J.began x };
 
     fn turn(&mut self) {
         let turn = &mut *self.turn;
         let shared = self.gate.turn(self.rt, &mut turn.pass);
-        let Shared { complex } = shared;
-        turn.value = Some(complex);
+        refill(&mut turn.value, shared.into_complex());
     }
 
     fn value(&mut self) -> &mut Complex<P, C> {
@@ -135,7 +141,7 @@ impl<'a, P: Plant + Drop, C: Steady + Drop, R: Wait> Turns<Complex<P, C>> for Pa
     fn back(&mut self) {
         let turn = &mut *self.turn;
         match turn.value.take() {
-            Some(complex) => self.gate.end_turn(&mut turn.pass, Shared { complex }),
+            Some(complex) => self.gate.end_turn(&mut turn.pass, Shared::new(complex)),
             None => unreachable!(),
         }
     }

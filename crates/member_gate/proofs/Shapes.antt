@@ -1,6 +1,6 @@
 -- What the rule says of the value and all views stays true at each kind of step.
 use Rattle.std.proofs.Common.{◌≡◌, ◌≢◌, ℕ, zero, suc, ◌<◌, ◌≤◌, ◌⊎◌, Bool, true, false, List, [], ◌∷◌, ◌++◌, length, set, refl, sym, ap, subst, ◌∙◌, inl, inr, ⊎_elim, arith, ne_eqb, nat_eq, if◌then◌else◌}
-use Rattle.std.proofs.lemmas.List.{length-append, get_or-set_same, get_or-set_other, get_or-replicate}
+use Rattle.std.proofs.lemmas.List.{append_assoc, length-append, get_or-set_same, get_or-set_other, get_or-replicate}
 use Rattle.std.proofs.Math.ListN.{replicate}
 use mathlib.Core.Option.{some, some-injective, some-ne-none}
 use mathlib.Core.Logic.{dite}
@@ -8,14 +8,14 @@ use native.Mathlib.Decide.{ℕ_discrete}
 use lib.ListN.{get_elem?}
 use Rattle.gate_facts.specs.declared.facts.Facts.{Facts}
 use Rattle.mas_types.specs.declared.journals.Entry.{Entry}
-use Rattle.gate_facts.specs.Values.{marked_at, no_desk, begun_of, stopped_of, desk_of, lines_of, entries_by, Synced, Later}
+use Rattle.gate_facts.specs.Values.{StartsWith, marked_at, no_desk, begun_of, stopped_of, desk_of, lines_of, entries_by, Synced, Later}
 use Rattle.gate_facts.specs.Memory.{seats, Knows, MayGiveBack}
 use Rattle.gate_facts.specs.Laws.{Apart}
 use Rattle.gate_facts.proofs.Lists.{true_false, not_true, starts_self, starts_length, at_within, at_append, each_at}
 use Rattle.gate_facts.proofs.Values.{synced_refl, synced_none, later_refl}
 use Rattle.gate_facts.proofs.Turns.{others_know}
 use Rattle.member_gate.specs.Marking.{marked, single}
-use Rattle.member_gate.specs.Views.{memory_by, MayBegin}
+use Rattle.member_gate.specs.Views.{memory_by, AllBegin, MayBegin}
 use Rattle.member_gate.specs.Rules.{OneWay, Has, Fits, Distinct, NoneHolds, Shape}
 use Rattle.atomic_table.proofs.Lists.{at_set, set_here, set_else, at_longer}
 use Rattle.member_gate.proofs.Places.{true_within, grown_at, grown_length, grown_new, single_here, single_only, single_else, either_at, either_left, either_right, none_left, none_right, none_both, either_within, longer_left, longer_right, longer_starts, marked_more, chosen_first, chosen_second}
@@ -100,6 +100,20 @@ quiet is vs id v w at s fit own cares holds given root = record {
       (at_set vs id j w u atj);
 }
 
+-- WHAT WAS HEARD
+
+-- what a list begins with a longer one begins with
+starts_more : (ks more ys : List Entry) → StartsWith ks ys → StartsWith (ks ++ more) ys
+starts_more ks more ys s = (s.0 ++ more, ap (λ (l : List Entry). l ++ more) s.1 ∙ append_assoc ys s.0 more)
+
+pub begin_more : (ks more : List Entry) (hs : List (List Entry)) → AllBegin ks hs → AllBegin (ks ++ more) hs
+begin_more ks more [] all = tt
+begin_more ks more (h ∷ hs) all = (starts_more ks more h all.0, begin_more ks more hs all.1)
+
+pub begin_both : (ks : List Entry) (hs gs : List (List Entry)) → AllBegin ks hs → AllBegin ks gs → AllBegin ks (hs ++ gs)
+begin_both ks [] gs all more = more
+begin_both ks (h ∷ hs) gs all more = (all.0, begin_both ks hs gs all.1 more)
+
 -- what a view knows holds of the value
 abbrev pub Knowing : OneWay → Facts → Type 0
 Knowing v is = Knows v.member (memory_by v.cares v.sight) is
@@ -132,7 +146,7 @@ counts_shape is is' vs id v at s out has live begun may =
     record {
       each = set_fits vs id w is is'
           (λ j u atj ne. let f = s.each j u atj in
-          record { knows = λ l. others_meet is is' v u out (s.distinct id j v u at atj (λ e. ne (sym e))) itself (f.itself l) may (f.knows l); within = f.within; before = (let b = f.before in omega arith); small = f.small; opens = f.opens; itself = f.itself })
+          record { knows = λ l. others_meet is is' v u out (s.distinct id j v u at atj (λ e. ne (sym e))) itself (f.itself l) may (f.knows l); within = f.within; before = (let b = f.before in omega arith); small = f.small; opens = f.opens; itself = f.itself; heard = λ l. subst (λ (ks : List Entry). AllBegin ks u.sight.heard) (sym kept_is) (begin_more is.kept more u.sight.heard (f.heard l)) })
           record {
             knows = λ _. record {
               base = refl;
@@ -149,6 +163,7 @@ counts_shape is is' vs id v at s out has live begun may =
             small = mine.small;
             opens = λ o. has;
             itself = mine.itself;
+            heard = λ l. subst (λ (ks : List Entry). AllBegin ks v.sight.heard) (sym kept_is) (begin_more is.kept more v.sight.heard (mine.heard l));
           };
       distinct = set_distinct vs id w s.distinct (λ j u atj ne.
           let d = s.distinct id j v u at atj (λ e. ne (sym e)) in
@@ -222,6 +237,7 @@ split_shape is vs id v m at s live root idle pos small new =
       small = mine.small;
       opens = mine.opens;
       itself = mine.itself;
+      heard = mine.heard;
     } in
     let apart : AllDistinct ws = set_distinct vs id l s.distinct (λ j u atj ne. let d = s.distinct id j v u at atj (λ e. ne (sym e)) in
     record { own = d.own; cares = λ k y z. d.cares k (cared k y).1 z; holds = d.holds; root = d.root }) in
@@ -241,6 +257,7 @@ split_shape is vs id v m at s live root idle pos small new =
       small = small;
       opens = λ e. true_false false e refl;
       itself = λ _. single_here m;
+      heard = λ _. tt;
     } in
     let distinct_new : (j : ℕ) (u : OneWay) → Has ws j u → Distinct r u = λ j u atj. record {
       own = λ k y z. true_false false y refl;
@@ -319,6 +336,7 @@ join_shape is vs id other v w at ato ne s live live' begun =
       small = fv.small;
       opens = λ o. true_false v.opening o begun;
       itself = λ _. either_left v.holds w.holds v.member (fv.itself live);
+      heard = λ _. begin_both is.kept v.sight.heard (w.sight.last.kept ∷ w.sight.heard) (fv.heard live) (kw.kept, fw.heard live');
     } in
     let others : (j : ℕ) (u : OneWay) → Has vs j u → j ≢ id → j ≢ other → Distinct b u = λ j u atj no no'.
     let dv = s.distinct id j v u at atj (λ e. no (sym e)) in
@@ -341,7 +359,7 @@ join_shape is vs id other v w at ato ne s live live' begun =
     let none_out : (k : ℕ) → NoneHolds vs k → NoneHolds (set ws other spent_one) k = λ k none.
     none_after ws other spent_one k refl (none_after vs id b k (none_both v.holds w.holds k (none id v at) (none other w ato)) none) in
     record {
-      each = set_fits ws other spent_one is is (λ j u atj _. fit j u atj) record { knows = λ l. true_false false l refl; within = omega arith; before = omega arith; small = omega arith; opens = λ o. true_false false o refl; itself = λ l. true_false false l refl };
+      each = set_fits ws other spent_one is is (λ j u atj _. fit j u atj) record { knows = λ l. true_false false l refl; within = omega arith; before = omega arith; small = omega arith; opens = λ o. true_false false o refl; itself = λ l. true_false false l refl; heard = λ l. true_false false l refl };
       distinct = λ i j x y ati atj no.
           ⊎_elim
           (λ t. subst (λ (z : OneWay). Distinct z y) t.1 (empty y))
@@ -419,12 +437,13 @@ open_shape is may =
       small = omega arith;
       opens = λ o. refl;
       itself = λ l. refl;
+      heard = λ l. tt;
     } in
     record {
       each = λ j w atj. subst (λ (z : OneWay). Fits is z) (only_one v w j atj).1 fit;
       distinct = λ i j a b ati atj ne. absurd (ne ((only_one v a i ati).0 ∙ sym (only_one v b j atj).0));
       mines = λ k e atk pos up. let z = each_at (λ (y : Entry). y.by.0 ≡ 0) is.kept k e may.kept atk in absurd (omega arith);
-      never = λ m pos none. (may.stopped m, (λ k e atk by. let z = each_at (λ (y : Entry). y.by.0 ≡ 0) is.kept k e may.kept atk in absurd (omega arith)), may.desks m);
+      never = λ m pos none. (may.stopped m, (λ k e atk by. let z = each_at (λ (y : Entry). y.by.0 ≡ 0) is.kept k e may.kept atk in absurd (omega arith)), may.desks m pos);
       fresh = λ j u atj isroot m pos small out. let same = (only_one v u j atj).1 in (
         ap (λ (z : OneWay). marked_at z.cares m) (sym same) ∙ cared_first m small,
         λ i x ati. ap (λ (z : OneWay). marked_at z.holds m) (sym (only_one v x i ati).1) ∙ single_else 0 m (λ e. absurd (omega arith)),

@@ -13,7 +13,7 @@ use Rattle.member_gate.specs.declared.view.Sight.{Sight}
 use Rattle.member_gate.specs.Marking.{marked, grown}
 use Rattle.gate_facts.specs.Values.{marked_at}
 use Rattle.gate_facts.specs.Ways.{EachWay}
-use Rattle.member_gate.specs.Views.{sight, mine, Meets, HasAll, MayEnd, Finds, MayLeave, MineGrows, MayBegin, refused, taking, counting, ending, opened, opener, giving, given_to, joined, spent}
+use Rattle.member_gate.specs.Views.{sight, mine, AllBegin, HasHeard, Meets, HasAll, MayEnd, Finds, MayLeave, MineGrows, MayBegin, refused, taking, counting, ending, opened, opener, giving, given_to, joined, spent}
 use Rattle.member_gate.specs.Rules.{OneWay, one_way, Has, Fits, Shape, Place, Ruled, tried, counted, ended, began}
 use Rattle.atomic_table.proofs.Lists.{at_set, set_here, set_else, at_snoc, at_longer}
 use Rattle.gate_facts.specs.Memory.{seats}
@@ -79,6 +79,7 @@ fits_same is v w seen member cares own holds live opens fit = record {
   small = subst (λ (n : ℕ). n < seats) (sym member) fit.small;
   opens = opens;
   itself = λ l. ap (λ (hs : List Bool). marked_at hs w.member) holds ∙ (ap (λ (n : ℕ). marked_at v.holds n) member ∙ fit.itself (sym live ∙ l));
+  heard = λ l. subst (λ (hs : List (List Entry)). AllBegin is.kept hs) (sym seen.3) (fit.heard (sym live ∙ l));
 }
 
 module _ {V : Type 0} (tells : Type 0) (facts : V → Bool → Facts) where
@@ -156,10 +157,11 @@ module _ {V : Type 0} (tells : Type 0) (facts : V → Bool → Facts) where
 
   -- what a pass finds at its turn
   finds : (is : Bool → Facts) (vs : List View) (id : ℕ) (v : View) (x : V) → ((told : Bool) → facts x told ≡ is told) → Has vs id v → v.live ≡ true → Shapes tells is vs → Finds tells v (facts x)
-  finds is vs id v x is_x at live s = each_way tells (λ told. Shape (is told) (map (one_way told) vs)) (λ told. Meets v told (facts x told) × HasAll v told (facts x told))
+  finds is vs id v x is_x at live s = each_way tells (λ told. Shape (is told) (map (one_way told) vs)) (λ told. Meets v told (facts x told) × HasAll v told (facts x told) × HasHeard v told (facts x told))
       (λ told one. let at' = has_map (one_way told) vs id v at in (
         subst (λ (f : Facts). Meets v told f) (sym (is_x told)) ((one.each id (one_way told v) at').knows live),
         subst (λ (f : Facts). HasAll v told f) (sym (is_x told)) (has_all (is told) (map (one_way told) vs) id (one_way told v) at' one live),
+        subst (λ (f : Facts). HasHeard v told f) (sym (is_x told)) ((one.each id (one_way told v) at').heard live),
       ))
       s
 
@@ -205,7 +207,7 @@ module _ {V : Type 0} (tells : Type 0) (facts : V → Bool → Facts) where
           words = ap (λ (b : Bool). either b (v.member + 1) (suc m) ∷ count ∷ []) (ne_eqb (suc m) 0 (λ e. omega arith));
           counts = counts;
           place = place_set hs vs id v w is (suc m) at idle idle place;
-          shape = quiet_ways tells is vs id v w at s (λ told fit. fits_same (is told) (one_way told v) (one_way told w) (refl, refl, refl) refl refl refl refl refl (λ o. true_false v.opening o begun) fit) refl refl refl refl refl;
+          shape = quiet_ways tells is vs id v w at s (λ told fit. fits_same (is told) (one_way told v) (one_way told w) (refl, refl, refl, refl) refl refl refl refl refl (λ o. true_false v.opening o begun) fit) refl refl refl refl refl;
         },
         ((let b = his.small in let c : place.1.member ≡ m = place.4 in omega arith), (λ e. absurd (omega arith)), λ _. refl),
       )
@@ -296,7 +298,7 @@ module _ {V : Type 0} (tells : Type 0) (facts : V → Bool → Facts) where
             λ j u atj.
                 ⊎_elim (λ q. ap (λ (z : View). z.has) (sym q.1)) (λ q. not_true u.has (λ h. q.0 (t.3 j u q.1 h))) (at_set vs id j w u atj),
           );
-          shape = quiet_ways tells is vs id v w at s (λ told fit. fits_same (is told) (one_way told v) (one_way told w) (refl, refl, refl) refl refl refl refl refl (λ o. true_false v.opening o begun) fit) refl refl refl refl refl;
+          shape = quiet_ways tells is vs id v w at s (λ told fit. fits_same (is told) (one_way told v) (one_way told w) (refl, refl, refl, refl) refl refl refl refl refl (λ o. true_false v.opening o begun) fit) refl refl refl refl refl;
         },
         refl,
       )
@@ -324,7 +326,7 @@ module _ {V : Type 0} (tells : Type 0) (facts : V → Bool → Facts) where
           words = ap (λ (k : ℕ). turn ∷ k ∷ []) (same ∙ (ap (λ (z : Facts). length z.kept) (t.1 false) ∙ counts false));
           counts = counts;
           place = place_turn hs (set hs 0 none) vs is is turn id v w place at has has refl t.1 refl;
-          shape = quiet_ways tells is vs id v w at s (λ told fit. fits_same (is told) (one_way told v) (one_way told w) (refl, refl, refl) refl refl refl refl refl (λ o. has) fit) refl refl refl refl refl;
+          shape = quiet_ways tells is vs id v w at s (λ told fit. fits_same (is told) (one_way told v) (one_way told w) (refl, refl, refl, refl) refl refl refl refl refl (λ o. has) fit) refl refl refl refl refl;
         },
         refl,
       )

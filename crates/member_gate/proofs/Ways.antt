@@ -7,7 +7,7 @@ use Rattle.gate_facts.specs.Memory.{seats, IsLeft}
 use Rattle.member_gate.specs.declared.view.View.{View}
 use Rattle.member_gate.specs.declared.view.Sight.{Sight}
 use Rattle.member_gate.specs.Marking.{grown, single, either_of}
-use Rattle.member_gate.specs.Views.{sight, memory_in, taking, sees, counting, ending, handed, given_to, nothing, opener, spent, both_sights, joined}
+use Rattle.member_gate.specs.Views.{sight, memory_in, taking, sees, seeing, counting, ending, handed, given_to, nothing, opener, spent, both_sights, joined}
 use Rattle.member_gate.specs.Rules.{OneWay, one_way, Has}
 
 -- LISTS OF VIEWS
@@ -31,7 +31,7 @@ module _ {A B : Type 0} (f : A → B) where
 
 -- the pass counts a value, where there were n entries and are k
 abbrev pub counting_one : ℕ → ℕ → OneWay → Facts → OneWay
-counting_one n k v is = record v { own = grown v.own n k; sight = sees v.member is }
+counting_one n k v is = record v { own = grown v.own n k; sight = seeing v.sight v.member is }
 
 abbrev pub giving_one : ℕ → OneWay → OneWay
 giving_one m v = record v { cares = slice_set v.cares m false; given = either_of v.given (single m) }
@@ -110,17 +110,17 @@ joined_way false v w = refl
 
 -- what a pass knows of the value when its turn is over, but for what it takes
 abbrev pub SameSeen : Sight → Sight → Type 0
-SameSeen s t = (s.last ≡ t.last) × (s.desk ≡ t.desk) × (s.stopped ≡ t.stopped)
+SameSeen s t = (s.last ≡ t.last) × (s.desk ≡ t.desk) × (s.stopped ≡ t.stopped) × (s.heard ≡ t.heard)
 
 pub taking_seen : (told : Bool) (v : View) (n : ℕ) (is : Bool → Facts) → SameSeen (sight (taking v n is) told) (sight v told)
-taking_seen true v n is = (refl, refl, refl)
-taking_seen false v n is = (refl, refl, refl)
+taking_seen true v n is = (refl, refl, refl, refl)
+taking_seen false v n is = (refl, refl, refl, refl)
 
 pub taking_out : (told : Bool) (v : View) (n : ℕ) (is : Bool → Facts) → (sight (taking v n is) told).out ≡ is told
 taking_out true v n is = refl
 taking_out false v n is = refl
 
-pub counting_sees : (told : Bool) (v : View) (is : Bool → Facts) → sight (counting v is) told ≡ sees v.member (is told)
+pub counting_sees : (told : Bool) (v : View) (is : Bool → Facts) → sight (counting v is) told ≡ seeing (sight v told) v.member (is told)
 counting_sees true v is = refl
 counting_sees false v is = refl
 

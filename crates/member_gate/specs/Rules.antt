@@ -12,7 +12,7 @@ use Rattle.gate_facts.specs.Values.{marked_at, no_desk, stopped_of, desk_of}
 use Rattle.gate_facts.specs.Memory.{seats, Knows}
 use Rattle.gate_facts.specs.Laws.{Apart}
 use Rattle.gate_facts.specs.Ways.{EachWay}
-use Rattle.member_gate.specs.Views.{sight, memory_by, Finds, MineGrows, refused, taking, counting, ending, opened}
+use Rattle.member_gate.specs.Views.{sight, memory_by, AllBegin, Finds, MineGrows, refused, taking, counting, ending, opened}
 
 -- ONE WAY
 
@@ -54,6 +54,7 @@ pub record Fits (is : Facts) (v : OneWay) : Type 0 where
   pub small : v.member < seats
   pub opens : v.opening ≡ true → v.has ≡ true
   pub itself : v.live ≡ true → marked_at v.holds v.member ≡ true
+  pub heard : v.live ≡ true → AllBegin is.kept v.sight.heard
 
 -- what the rule says of two views
 pub record Distinct (v w : OneWay) : Type 0 where

@@ -1,10 +1,10 @@
 -- What a pass knows, and how its steps change it.
-use Rattle.std.specs.Prelude.{◌≡◌, ℕ, ◌+◌, ◌<◌, Bool, true, false, if◌then◌else◌, List, [], ◌++◌, length, replicate, slice_set}
+use Rattle.std.specs.Prelude.{◌≡◌, ℕ, ◌+◌, ◌<◌, Bool, true, false, if◌then◌else◌, List, [], ◌∷◌, ◌++◌, length, replicate, slice_set}
 use Rattle.mas_types.specs.declared.journals.Entry.{Entry}
 use Rattle.mas_types.specs.Starts.{no_queue}
 use Rattle.gate_facts.specs.declared.facts.Facts.{Facts}
 use Rattle.gate_facts.specs.declared.marks.Marks.{Marks}
-use Rattle.gate_facts.specs.Values.{marked_at, no_desk, begun_of, stopped_of, desk_of, lines_of, entries_by}
+use Rattle.gate_facts.specs.Values.{StartsWith, marked_at, no_desk, begun_of, stopped_of, desk_of, lines_of, entries_by}
 use Rattle.gate_facts.specs.Memory.{seats, Memory, Knows, MayGiveBack, EachOf}
 use Rattle.gate_facts.specs.Ways.{EachWay}
 use Rattle.member_gate.specs.declared.view.View.{View}
@@ -53,9 +53,19 @@ abbrev pub HasAll : View → Bool → Facts → Type 0
 HasAll v told is = (m : ℕ) → 0 < m → marked_at v.holds m ≡ true → stopped_of is m ≡ false
     → entries_by m is.kept ≡ entries_by m (mine v told)
 
+-- the list begins with each of these
+abbrev pub AllBegin : List Entry → List (List Entry) → Type 0
+AllBegin kept [] = Unit {0}
+AllBegin kept (seen ∷ more) = StartsWith kept seen × AllBegin kept more
+
+-- what the passes that it took in had seen is the beginning of what is kept
+abbrev pub HasHeard : View → Bool → Facts → Type 0
+HasHeard v told is = AllBegin is.kept (sight v told).heard
+
 -- what the pass finds at its turn
 abbrev pub Finds : Type 0 → View → (Bool → Facts) → Type 0
-Finds tells v is = EachWay tells (λ told. Meets v told (is told) × HasAll v told (is told))
+Finds tells v is = EachWay tells
+    (λ told. Meets v told (is told) × HasAll v told (is told) × HasHeard v told (is told))
 
 -- the value that the pass gives back is one that it may give back
 abbrev pub MayLeave : Type 0 → View → (Bool → Facts) → Type 0
@@ -70,7 +80,7 @@ MineGrows tells v w is = EachWay tells (λ told. (more : List Entry)
 pub record MayBegin (is : Facts) : Type 0 where
   pub kept : EachOf (λ e. e.by.0 ≡ 0) is.kept
   pub stopped : (m : ℕ) → stopped_of is m ≡ false
-  pub desks : (m : ℕ) → desk_of is m ≡ no_desk
+  pub desks : (m : ℕ) → 0 < m → desk_of is m ≡ no_desk
 
 -- A STEP OF A PASS
 
@@ -98,15 +108,19 @@ taking v n is = record v {
 
 -- what a member's pass knows that will give this value back
 abbrev pub sees : ℕ → Facts → Sight
-sees m is = record { stopped = stopped_of is m; last = is; desk = desk_of is m; out = is }
+sees m is = record { stopped = stopped_of is m; last = is; desk = desk_of is m; out = is; heard = [] }
+
+-- it has heard from other passes what it had
+abbrev pub seeing : Sight → ℕ → Facts → Sight
+seeing s m is = record (sees m is) { heard = s.heard }
 
 -- the number of entries is stored: from now on the pass knows the value that it will give back, and what was added is
 -- its own
 abbrev pub counting : View → (Bool → Facts) → View
 counting v is = record v {
   own = grown v.own (length v.bare.out.kept) (length (is false).kept);
-  bare = sees v.member (is false);
-  told = sees v.member (is true);
+  bare = seeing v.bare v.member (is false);
+  told = seeing v.told v.member (is true);
 }
 
 -- the turn is given up
@@ -123,7 +137,7 @@ giving m v = record v { cares = slice_set v.cares m false; given = either_of v.g
 
 -- what a new pass knows of the value
 abbrev pub handed : Sight → Sight
-handed s = record s { stopped = false; desk = no_desk }
+handed s = record s { stopped = false; desk = no_desk; heard = [] }
 
 -- the new pass
 abbrev pub given_to : ℕ → View → View
@@ -216,7 +230,8 @@ both_facts cs a b = record a {
 
 -- what two passes know of the value
 abbrev pub both_sights : List Bool → Sight → Sight → Sight
-both_sights cs s t = record s { last = both_facts cs s.last t.last }
+both_sights cs s t =
+    record s { last = both_facts cs s.last t.last; heard = s.heard ++ t.last.kept ∷ t.heard }
 
 -- the first pass, once it took in the second
 abbrev pub joined : View → View → View

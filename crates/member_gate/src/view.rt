@@ -1,6 +1,6 @@
 //! What a pass knows. No value of these types is made: contracts alone speak of them.
 use gate_facts::{Desk, Facts};
-use mas_types::List;
+use mas_types::{Entry, List};
 
 /// What a pass knows of the value, without its content or with it.
 pub struct Sight {
@@ -12,6 +12,8 @@ pub struct Sight {
     pub desk: Desk,
     /// The value in its turn: as it was taken, or, once the pass counted it, as it will be given back.
     pub out: Facts,
+    /// The kept lists that the passes which it took in had seen.
+    pub heard: List<List<Entry>>,
 }
 
 /// What a pass knows. The lists of truth values are marks: of places of the kept list, or of members, with member 0

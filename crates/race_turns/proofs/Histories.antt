@@ -103,20 +103,23 @@ module _ (base : Queue) (by : MemberId) (at : Standing) (a : Asked) (t : Taken) 
       → ends_in t.cut ≡ false → StandsAs (stands_then at t turn l) is
   stands_on s was is stands follows takes goes = record {
     from = omega (arith, takes.within);
-    stopped = ap (λ (b : Bool). b || stops_in t.cut) (stands.stopped ∙ sym follows.stopped) ∙ sym takes.stops;
+    stopped = ap (λ (b : Bool). b || stops_in t.cut) (stands.stopped ∙ sym follows.stopped) ∙ sym (takes.stops goes);
     printed = λ up.
-        let both = sym takes.stops ∙ up in
+        let both = sym (takes.stops goes) ∙ up in
         sym (takes.count (uncut t.cut (no_right was.stopped (stops_in t.cut) both) goes));
   }
 
 -- ALL OF THEM
 
 -- what a value has later of what it showed
-pub record HasSince (s : Side) (ts : List Taken) (all : Leaves) (end : Side) : Type 0 where
+pub record HasSince (ended : Bool) (s : Side) (ts : List Taken) (all : Leaves) (end : Side) : Type 0 where
   pub begun : end.begun ≡ s.begun ++ entries_of all.batches
   pub said : end.said ≡ s.said ++ whole_texts all.lines
   pub kept : Extends end.kept s.kept
-  pub stopped : end.stopped ≡ (s.stopped || is_stopped_in ts)
+  pub stopped : ended ≡ false → end.stopped ≡ (s.stopped || is_stopped_in ts)
+
+true_false : true ≡ false → ⊥
+true_false e = absurd (cc)
 
 or_false : (b : Bool) → b ≡ (b || false)
 or_false true = refl
@@ -126,21 +129,22 @@ or_or : (a b c : Bool) → ((a || b) || c) ≡ (a || (b || c))
 or_or true b c = refl
 or_or false b c = refl
 
-nothing_since : (s last end : Side) (all : Leaves) → last ≡ s → all ≡ none → Follows last end → HasSince s [] all end
-nothing_since s last end all is nothing_left follows = record {
+nothing_since : (ended : Bool) (s last end : Side) (all : Leaves) → last ≡ s → all ≡ none → Follows last end
+    → HasSince ended s [] all end
+nothing_since ended s last end all is nothing_left follows = record {
   begun = follows.begun ∙ ap (λ (x : Side). x.begun) is ∙ sym (append-nil s.begun)
       ∙ ap (λ (x : Leaves). s.begun ++ entries_of x.batches) (sym nothing_left);
   said = follows.said ∙ ap (λ (x : Side). x.said) is ∙ sym (append-nil s.said)
       ∙ ap (λ (x : Leaves). s.said ++ whole_texts x.lines) (sym nothing_left);
   kept = subst (λ (x : Side). Extends end.kept x.kept) is follows.kept;
-  stopped = follows.stopped ∙ ap (λ (x : Side). x.stopped) is ∙ or_false s.stopped;
+  stopped = λ no. follows.stopped ∙ ap (λ (x : Side). x.stopped) is ∙ or_false s.stopped;
 }
 
-since_turn : (s was is end : Side) (t : Taken) (ts : List Taken) (l : Left) (more all : Leaves) → Follows s was
+since_turn : (ended : Bool) (s was is end : Side) (t : Taken) (ts : List Taken) (l : Left) (more all : Leaves) → Follows s was
     → Extends is.kept was.kept → is.begun ≡ was.begun ++ entries_of l.batches
-    → is.said ≡ was.said ++ whole_texts l.lines → is.stopped ≡ (was.stopped || stops_in t.cut)
-    → all ≡ then_left l more → HasSince is ts more end → HasSince s (t ∷ ts) all end
-since_turn s was is end t ts l more all follows grows begun said stops both later = record {
+    → is.said ≡ was.said ++ whole_texts l.lines → (ended ≡ false → is.stopped ≡ (was.stopped || stops_in t.cut))
+    → all ≡ then_left l more → HasSince ended is ts more end → HasSince ended s (t ∷ ts) all end
+since_turn ended s was is end t ts l more all follows grows begun said stops both later = record {
   begun = later.begun ∙ ap (λ (es : List Entry). es ++ entries_of more.batches)
       (begun ∙ ap (λ (es : List Entry). es ++ entries_of l.batches) follows.begun)
       ∙ append_assoc s.begun (entries_of l.batches) (entries_of more.batches)
@@ -152,42 +156,47 @@ since_turn s was is end t ts l more all follows grows begun said stops both late
       ∙ ap (λ (ts : List (List ℕ)). s.said ++ ts) (sym (texts_added l.lines more.lines))
       ∙ ap (λ (x : Leaves). s.said ++ whole_texts x.lines) (sym both);
   kept = extends_on s.kept was.kept end.kept (extends_on was.kept is.kept end.kept later.kept grows) follows.kept;
-  stopped = later.stopped ∙ ap (λ (b : Bool). b || is_stopped_in ts)
-      (stops ∙ ap (λ (b : Bool). b || stops_in t.cut) follows.stopped)
+  stopped = λ no. later.stopped no ∙ ap (λ (b : Bool). b || is_stopped_in ts)
+      (stops no ∙ ap (λ (b : Bool). b || stops_in t.cut) follows.stopped)
       ∙ or_or s.stopped (stops_in t.cut) (is_stopped_in ts);
 }
 
 module _ (base : Queue) (by : MemberId) (saw : Queue → Stage → Taken → Turn → Type 0) (ended : Bool) where
   turns_since : (s : Side) (at : Standing) (lines : List Asked) (hs : List Sided) (all : Leaves) (last end : Side)
       → StandsAs at s → AreTaken base by saw ended s at lines hs all last → Follows last end
-      → TakesTurns base end.kept by saw ended at lines (taken_of hs) all × HasSince s (taken_of hs) all end
+      → TakesTurns base end.kept by saw ended at lines (taken_of hs) all × HasSince ended s (taken_of hs) all end
   turns_since s at [] [] all last end stands (is, over, nothing_left) follows =
-      ((over, nothing_left), nothing_since s last end all is nothing_left follows)
+      ((over, nothing_left), nothing_since ended s last end all is nothing_left follows)
   turns_since s at (a ∷ lines) [] all last end stands (is, over, nothing_left) follows =
-      ((over, nothing_left), nothing_since s last end all is nothing_left follows)
+      ((over, nothing_left), nothing_since ended s last end all is nothing_left follows)
   turns_since s at [] (h ∷ hs) all last end stands never follows = absurd never
   turns_since s at (a ∷ lines) (h ∷ hs) all last end stands (found, (turn, l, more, takes, seen, both, then_so)) follows =
       let t : Taken = h.taken in
       let next : Standing = stands_then at t turn l in
-      let rest = if_ended (ends_in t.cut)
+      let rest = if_ended (ends_in t.cut) {R = HasSince ended h.is (taken_of hs) more end × (ended ≡ false → ends_in t.cut ≡ false)}
       (λ ends e. (
         (e.0, ap taken_of e.1, e.2),
-        subst (λ (xs : List Sided). HasSince h.is (taken_of xs) more end) (sym e.1)
-            (nothing_since h.is last end more e.3 e.2 follows),
+        (
+          subst (λ (xs : List Sided). HasSince ended h.is (taken_of xs) more end) (sym e.1)
+              (nothing_since ended h.is last end more e.3 e.2 follows),
+          λ no. absurd (true_false (sym e.0 ∙ no)),
+        ),
       ))
-      (λ goes m. turns_since h.is next next.lines hs more last end
-      (stands_on base by at a t turn l s h.was h.is stands found takes goes) m follows)
+      (λ goes m.
+      let both_so = turns_since h.is next next.lines hs more last end
+      (stands_on base by at a t turn l s h.was h.is stands found takes goes) m follows in
+      (both_so.0, (both_so.1, λ no. goes)))
       then_so in (
         (
           turn,
           l,
           more,
-          turn_stands base by at a t turn l saw s h.was h.is end.kept stands found takes seen rest.1.kept,
+          turn_stands base by at a t turn l saw s h.was h.is end.kept stands found takes seen rest.1.0.kept,
           both,
           rest.0,
         ),
-        since_turn s h.was h.is end t (taken_of hs) l more all found takes.grows takes.begun takes.said takes.stops both
-            rest.1,
+        since_turn ended s h.was h.is end t (taken_of hs) l more all found takes.grows takes.begun takes.said
+            (λ no. takes.stops (rest.1.1 no)) both rest.1.0,
       )
 
   pub one_history : (s : Side) (at : Standing) (lines : List Asked) (hs : List Sided) (all : Leaves) (last end : Side)

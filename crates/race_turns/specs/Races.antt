@@ -180,8 +180,8 @@ abbrev pub begins : ℕ → MemberId → List Step → Standing
 begins from by steps =
     record { lines = lines_of by 1 steps; stage = Opens; from = from; count = 0; stopped = false }
 
--- A member has raced through its lines of a script, which began after so many entries of the history, up to their end or
--- to where the run ended for it: these were its turns, and this is what it left.
+-- A member has raced through its lines of a script, which began after so many entries of the history, up to their end
+-- or to where the run ended for it: these were its turns, and this is what it left.
 pub record HasRaced (base : Queue) (history : List Entry) (by : MemberId)
     (saw : Queue → Stage → Taken → Turn → Type 0) (from : ℕ) (steps : List Step) (ended : Bool) (all : Leaves) : Type 0
   where

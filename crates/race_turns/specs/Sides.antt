@@ -23,7 +23,8 @@ abbrev pub Extends : List Entry → List Entry → Type 0
 Extends longer first = (more : List Entry) × (longer ≡ first ++ more)
 
 -- A turn of the member, on a value that showed it this before and after. A takeover finds out first what became of a
--- batch in flight: that stands before the turn's place.
+-- batch in flight: that stands before the turn's place. Where the run ends for the member in it the member may be
+-- stopped too, as the operator couldn't say so.
 pub record Takes (base : Queue) (by : MemberId) (at : Standing) (a : Asked) (t : Taken) (turn : Turn) (l : Left)
     (was is : Side) : Type 0 where
   pub turn_is : turn
@@ -38,7 +39,7 @@ pub record Takes (base : Queue) (by : MemberId) (at : Standing) (a : Asked) (t :
   pub begun : is.begun ≡ was.begun ++ entries_of l.batches
   pub said : is.said ≡ was.said ++ whole_texts l.lines
   pub count : t.cut ≡ None → is.count ≡ l.count
-  pub stops : is.stopped ≡ (was.stopped || stops_in t.cut)
+  pub stops : ends_in t.cut ≡ false → is.stopped ≡ (was.stopped || stops_in t.cut)
 
 -- What the value shows the member later, whatever the others did: more may be kept, and nothing else differs, but that
 -- nothing is said of the count of a member that is stopped.
@@ -93,13 +94,13 @@ abbrev pub taken_of : List Sided → List Taken
 taken_of hs = map (λ h. h.taken) hs
 
 -- The turns of a member are turns at the history of each later value; and that has of the member what they left, and
--- what it had before them.
+-- what it had before them. Unless the run ended for it the member is stopped there where it was stopped in one of them.
 pub record HasSides (base : Queue) (by : MemberId) (saw : Queue → Stage → Taken → Turn → Type 0) (ended : Bool)
     (s : Side) (at : Standing) (lines : List Asked) (hs : List Sided) (all : Leaves) (end : Side) : Type 0 where
   pub takes : TakesTurns base end.kept by saw ended at lines (taken_of hs) all
   pub begun : end.begun ≡ s.begun ++ entries_of all.batches
   pub said : end.said ≡ s.said ++ whole_texts all.lines
-  pub stopped : end.stopped ≡ (s.stopped || is_stopped_in (taken_of hs))
+  pub stopped : ended ≡ false → end.stopped ≡ (s.stopped || is_stopped_in (taken_of hs))
 
 -- so it is whatever is seen of a turn besides; here nothing is
 abbrev pub anything : Queue → Stage → Taken → Turn → Type 0
