@@ -1,0 +1,15 @@
+pub mod Bounds
+pub mod Stages
+pub mod Asked
+pub mod Waits
+pub mod Kinds
+pub mod Opened
+pub mod Turning
+pub mod Turned
+pub mod Backs
+pub use Rattle.member_hand.specs.Chains
+pub use Rattle.member_hand.specs.Found
+pub use Rattle.member_hand.specs.Plays
+pub use Rattle.member_hand.specs.Quiet
+pub use Rattle.member_hand.specs.Standing
+pub use Rattle.member_resets.specs.Settling
