@@ -3,14 +3,14 @@
 #![tactic(auto)]
 
 ghost use Rattle.std.specs.Prelude.{◌≡◌};
-ghost use Rattle.mas_main.specs.Openings.{opening_for};
+ghost use Rattle.mas_main.specs.Openings.{opening_for, opening_of_words};
 
 use mas_process::{
     Ending, close_files, code_of, folder_of, let_journal_go, let_queue_go, words_of, write_line_of,
 };
-use mas_top::{Task, calm_top, task_of};
+use mas_top::{Task, mas_top, race_of, task_of};
 use mas_types::Status;
-use mas_words::read_words;
+use mas_words::{Words, read_words};
 use plant_files::{FilePlant, Opening, StdSource, Streams};
 use plant_fuse::Fused;
 use run_opening::Ended;
@@ -27,44 +27,72 @@ fn opening_of(task: Task) -> Opening
     }
 }
 
-// Does a task on the devices of a folder. What the run leaves is let go by the crate that knows how.
-fn play(rt: &HostRuntime, words: &[String], files: FilePlant<HostRuntime>) -> Status {
-    let mut script = StdSource::new(*rt);
+// What is done with the folder: a race opens it as a play does.
+fn opening_asked(words: &Words) -> Option<Opening>
+    ensures { result ≡ opening_of_words words.now }
+{
+    match race_of(words) {
+        Some(cold) => Some(opening_of(Task::Play(cold))),
+        None => match task_of(words) {
+            Some(task) => Some(opening_of(task)),
+            None => None,
+        },
+    }
+}
+
+// What the top call is handed.
+struct Opened {
+    words: Vec<String>,
+    script: StdSource<HostRuntime>,
+    plant: Fused<FilePlant<HostRuntime>>,
+}
+
+// Opens what the words of the program ask for. Where they are refused, or the folder isn't opened, no file of it is
+// touched.
+fn open(rt: &HostRuntime) -> Result<Opened, Ending> {
+    // Before any other file is opened.
+    let streams = Streams::open(rt, rt.alloc()).map_err(|_| Ending::NoNullDevice)?;
+    let words = words_of(rt)?;
+    let read = read_words(rt.alloc(), &words)?;
+    let Some(opening) = opening_asked(&read) else {
+        return Err(Ending::Top(Status::Words));
+    };
+    let folder = folder_of(&read)?;
+    let files = FilePlant::open(*rt, rt.alloc(), streams, folder, opening)?;
+    Ok(Opened {
+        words,
+        script: StdSource::new(*rt),
+        plant: Fused::new(files),
+    })
+}
+
+// What the run leaves is let go by the crate that knows how.
+fn close(ended: Ended<Fused<FilePlant<HostRuntime>>>) -> Ending {
     let Ended {
         status,
         plant,
         base,
         since: _,
         journal,
-    } = calm_top(rt.alloc(), words, &mut script, Fused::new(files));
+    } = ended;
     close_files(plant);
     let_queue_go(base);
     let_journal_go(journal);
-    status
-}
-
-// Does what these words ask for. Where they are refused, or the folder isn't opened, no file of it is touched.
-fn run_words(rt: &HostRuntime, streams: Streams, words: &[String]) -> Result<Status, Ending> {
-    let read = read_words(rt.alloc(), words)?;
-    let Some(task) = task_of(&read) else {
-        return Err(Ending::Top(Status::Words));
-    };
-    let folder = folder_of(&read)?;
-    let files = FilePlant::open(*rt, rt.alloc(), streams, folder, opening_of(task))?;
-    Ok(play(rt, words, files))
-}
-
-// Does what the words of the program ask for.
-fn run(rt: &HostRuntime) -> Result<Status, Ending> {
-    // Before any other file is opened.
-    let streams = Streams::open(rt, rt.alloc()).map_err(|_| Ending::NoNullDevice)?;
-    let words = words_of(rt)?;
-    run_words(rt, streams, &words)
+    Ending::Top(status)
 }
 
 fn main(rt: HostRuntime) -> ExitCode {
-    let ending = match run(&rt) {
-        Ok(status) => Ending::Top(status),
+    let ending = match open(&rt) {
+        Ok(
+            Opened {
+                words,
+                script,
+                plant,
+            },
+        ) => {
+            let mut script = script;
+            close(mas_top(&rt, rt.alloc(), &words, &mut script, plant))
+        }
         Err(ending) => ending,
     };
     // Where standard error can't be written to, the exit status alone tells.

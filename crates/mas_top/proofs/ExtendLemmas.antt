@@ -40,13 +40,13 @@ use Rattle.mas_complex.specs.Texts.{GivesTexts, IsReadUnless, lost_now}
 use Rattle.mas_complex.proofs.Ending.{kept_is, left_below}
 use Rattle.mas_complex.proofs.Papers.{line_past, on_same}
 use Rattle.mas_complex.proofs.Passing.{passes_of}
-use Rattle.member_hand.specs.Cuts.{AreBatched, IsBatched}
+use Rattle.mas_run.specs.Cuts.{AreBatched, IsBatched}
 use Rattle.member_node.specs.Calls.{console_now}
 use Rattle.paper_laws.specs.Paper.{AreMarkedLinesOn}
 use Rattle.run_turns.specs.Scenes.{Batched}
 use Rattle.run_turns.specs.Givens.{Given, given_first}
 use Rattle.script_lang.specs.declared.types.Step.{Step}
-use Rattle.member_resets.specs.Settling.{settle, with_found}
+use Rattle.mas_run.specs.Settling.{settle, with_found}
 use Rattle.mas_run.specs.LinesAt.{played_at}
 use Rattle.mas_run.specs.Passed.{ArePassed, Here, There, here_after, line_of}
 use Rattle.mas_run.specs.Runs.{HavePassed, LinesBegun, LinesEnded, NonePassed, starts, stops}

@@ -6,3 +6,4 @@ pub mod CheckLemmas
 pub mod ExtendLemmas
 pub mod GenerateLemmas
 pub mod CompleteLemmas
+pub mod RaceLemmas

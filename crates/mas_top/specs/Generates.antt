@@ -65,8 +65,8 @@ pub record IsGenerated (decks : ℕ) (tells same : Type 0) (answer : Status) (ba
   pub played : IsPlayed true false (script_source decks rest) tells same ended base journal since old between
   -- and then what it came to was said
   pub summed : SumsUp tells (summary_line (summary_of base journal)) ended answer between new
-  -- what a run that has begun, and in which no copy was replaced, promises of each moment holds up to its end, below the
-  -- greatest moment
+  -- what a run that has begun, and in which no copy was replaced, promises of each moment holds up to its end, below
+  -- the greatest moment
   pub safe : has_begun base ≡ true → new.now < top → IsSafe tells base journal no_renewals since new
   -- where the devices are large enough and nothing hinders it, it is played to its end, and the line is said
   pub complete : first_some (refused_devices (script_generated decks).config old) ≡ None → IsUnhindered tells old new

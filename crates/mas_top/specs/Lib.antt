@@ -5,3 +5,5 @@ pub mod Checks
 pub mod Plays
 pub mod ScriptTexts
 pub mod Generates
+pub mod Raced
+pub mod Tops

@@ -71,8 +71,8 @@ pub record IsPlayed (cold only : Bool) (source : Sourced) (tells same : Type 0) 
   pub run : has_begun base ≡ true
       → ((script : Script) × (source.tells → IsSaid cold only source.left script)
       × IsRun cold tells script answer base journal since old new)
-  -- what neither a fault, nor a line that loses a copy, nor a takeover of the lock hinders is played to its end, where a
-  -- warm run finds a queue and its devices are large enough for it
+  -- what neither a fault, nor a line that loses a copy, nor a takeover of the lock hinders is played to its end, where
+  -- a warm run finds a queue and its devices are large enough for it
   pub complete : source.tells → refusal_before_play cold only source.left old ≡ None
       → IsStill tells (steps_of (said_by cold only source.left)) source.before source.after old new
       → IsPlayedOut cold answer

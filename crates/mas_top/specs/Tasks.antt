@@ -1,4 +1,4 @@
--- What the words ask for, of what is built.
+-- What the words ask for.
 use Rattle.std.specs.Prelude.{ℕ, Bool, List, Option, Some, None, option_and_then}
 use Rattle.mas_words.specs.declared.types.Verb.{Verb}
 use Rattle.mas_words.specs.declared.types.Verb.TheVariants as verb
@@ -22,7 +22,7 @@ task_by cold verb.Race = None
 abbrev pub task_of : Words → Option Task
 task_of words = task_by words.cold words.verb
 
--- what the texts behind the program's name ask for; none where they are none of its words, or that isn't built yet
+-- what the texts behind the program's name ask for; none where they are none of its words, or ask for a race
 abbrev pub task_asked : List (List ℕ) → Option Task
 task_asked texts = option_and_then task_of (words_of texts)
 
@@ -30,3 +30,14 @@ task_asked texts = option_and_then task_of (words_of texts)
 abbrev pub status_of_no : WordsNo → Status
 status_of_no no_words.Words = status.Words
 status_of_no no_words.NoMemory = status.NoMemory
+
+-- the words ask for a race, cold or warm
+abbrev pub race_by : Bool → Verb → Option Bool
+race_by cold verb.Race = Some cold
+race_by cold _ = None
+
+abbrev pub race_of : Words → Option Bool
+race_of words = race_by words.cold words.verb
+
+abbrev pub race_asked : List (List ℕ) → Option Bool
+race_asked texts = option_and_then race_of (words_of texts)

@@ -8,5 +8,5 @@ mod saying;
 mod tasks;
 mod top;
 
-pub use tasks::{Task, task_of};
-pub use top::calm_top;
+pub use tasks::{Task, race_of, task_of};
+pub use top::{calm_top, mas_top, race_top};

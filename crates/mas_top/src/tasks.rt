@@ -1,13 +1,13 @@
 //! What the program does.
 ghost use Rattle.std.specs.Prelude.{◌≡◌, map, string_bytes};
 ghost use Rattle.mas_words.specs.Words.{Reads};
-ghost use Rattle.mas_top.specs.Tasks.{status_of_no as status_of_no_lem, task_asked, task_of as task_of_lem};
+ghost use Rattle.mas_top.specs.Tasks.{race_of as race_of_lem, status_of_no as status_of_no_lem, task_asked, task_of as task_of_lem};
 
 use mas_types::Status;
 use mas_words::{Verb, Words, WordsNo, read_words};
 use std::alloc::Global;
 
-/// What the program does, of what is built.
+/// What the program does with one thread.
 #[derive(Clone, Copy)]
 pub enum Task {
     /// Plays a script, cold where true: from an empty queue. Else from the queue that is found.
@@ -22,7 +22,7 @@ pub enum Task {
     Generate(u32),
 }
 
-/// What the words ask for. None where that isn't built yet.
+/// What the words ask for. None where that is a race.
 pub fn task_of(words: &Words) -> Option<Task>
     ensures { result ≡ task_of_lem words.now }
 {
@@ -36,7 +36,17 @@ pub fn task_of(words: &Words) -> Option<Task>
     }
 }
 
-/// Reads what the words ask for: `Words` where they aren't the program's, or ask for what isn't built yet.
+/// Whether the words ask for a race: a cold one where true. None where they ask for something else.
+pub fn race_of(words: &Words) -> Option<bool>
+    ensures { result ≡ race_of_lem words.now }
+{
+    match words.verb {
+        Verb::Race => Some(words.cold),
+        _ => None,
+    }
+}
+
+/// Reads what the words ask for: `Words` where they aren't the program's, or ask for a race.
 pub(crate) fn read_task(alloc: Global, words: &[String]) -> Result<Task, WordsNo>
     ensures { Reads (task_asked (map string_bytes words.now)) result }
 {

@@ -9,17 +9,24 @@ ghost use Rattle.mas_top.specs.Checks.{IsCheckRun};
 ghost use Rattle.mas_top.specs.Generates.{IsGenerated};
 ghost use Rattle.mas_top.specs.Plays.{IsPlayed, source_of};
 ghost use Rattle.mas_top.specs.Reports.{IsReport};
-ghost use Rattle.mas_top.specs.Tasks.{task_asked};
+ghost use Rattle.mas_top.specs.Raced.{IsRaced};
+ghost use Rattle.mas_top.specs.Tasks.{race_asked, task_asked};
+ghost use Rattle.mas_top.specs.Tops.{DoesCalm};
 
 use crate::generating::play_generated;
 use crate::inspecting::check_found;
 use crate::reporting::report_queue;
-use crate::tasks::{Task, read_task, status_of_no};
+use crate::tasks::{Task, race_of, read_task, status_of_no};
+use mas_race::{Meet, NoMeet};
 use mas_run::play_script;
 use mas_types::Status;
+use mas_words::read_words;
+use race_run::race_script;
 use run_opening::{Ended, unbegun};
 use spool_plant::{Plant, Source};
 use std::alloc::Global;
+use std::sync::Wait;
+use std::thread::Threads;
 
 /// Does on a plant what the words behind the program's name ask for.
 ///
@@ -28,9 +35,10 @@ use std::alloc::Global;
 /// `END`; it reads no script, and changes and loses no device. `format` reads a script that has no steps, and formats
 /// CKPT1 and CKPT2 with the empty queue of its configuration and routes, as a cold run does. `check` says one line:
 /// what is wrong with the pages of greatest level that a copy reads as and with the texts of their queue, if anything;
-/// it reads no script, and changes and loses no device. `generate` plays the script of so many decks from an empty queue,
-/// as `play --cold` plays any, and then says in one line what it came to; it reads no script. Where the words are none
-/// of the program's, or ask for `race`, which isn't built yet, the status is Words, and nothing is touched.
+/// it reads no script, and changes and loses no device. `generate` plays the script of so many decks from an empty
+/// queue, as `play --cold` plays any, and then says in one line what it came to; it reads no script. Where the words
+/// are none of the program's, or ask for `race`, for which threads are needed, the status is Words, and nothing is
+/// touched.
 pub fn calm_top<P: Plant + Drop, S: Source>(
     alloc: Global,
     words: &[String],
@@ -84,4 +92,56 @@ pub fn calm_top<P: Plant + Drop, S: Source>(
         Task::Check => check_found(alloc, plant),
         Task::Generate(decks) => play_generated(alloc, decks, plant),
     }
+}
+
+/// Does on a plant what the words behind the program's name ask for, `race` too: that plays a script as `play` does,
+/// but each member's lines in a thread of its own, as `race_script` does, and after all lines the operator says the
+/// history. `meet` is called about each line of a member. All other words are done as by `calm_top`.
+///
+/// That it returns isn't said of a race.
+pub fn race_top<R: Threads + Wait + Sync, P: Plant + Send + Drop, S: Source, M: Meet + Sync>(
+    rt: &R,
+    alloc: Global,
+    words: &[String],
+    script: &mut S,
+    plant: P,
+    meet: &M,
+) -> Ended<P>
+    ensures race { (cold : Bool) → race_asked (map string_bytes words.now) ≡ Some cold
+        → IsRaced cold (source_of S.tells (S.faults script.old) (S.faults script.new) (S.left script.old)
+        (S.left script.new)) P.tells (result.plant ≡ plant) result.status result.base result.journal result.since
+        (P.view plant) (P.view result.plant) }
+    ensures calm { race_asked (map string_bytes words.now) ≡ None → DoesCalm (map string_bytes words.now)
+        (source_of S.tells (S.faults script.old) (S.faults script.new) (S.left script.old) (S.left script.new))
+        P.tells (script.new ≡ script.old) (result.plant ≡ plant) result.status result.base result.journal result.since
+        (P.view plant) (P.view result.plant) }
+{
+    let read = match read_words(alloc, words) {
+        Ok(read) => read,
+        Err(why) => return unbegun(alloc, status_of_no(why), plant),
+    };
+    match race_of(&read) {
+        Some(cold) => race_script(rt, alloc, cold, script, plant, meet),
+        None => calm_top(alloc, words, script, plant),
+    }
+}
+
+/// Does on a plant what the words behind the program's name ask for. In a race no members meet.
+pub fn mas_top<R: Threads + Wait + Sync, P: Plant + Send + Drop, S: Source>(
+    rt: &R,
+    alloc: Global,
+    words: &[String],
+    script: &mut S,
+    plant: P,
+) -> Ended<P>
+    ensures race { (cold : Bool) → race_asked (map string_bytes words.now) ≡ Some cold
+        → IsRaced cold (source_of S.tells (S.faults script.old) (S.faults script.new) (S.left script.old)
+        (S.left script.new)) P.tells (result.plant ≡ plant) result.status result.base result.journal result.since
+        (P.view plant) (P.view result.plant) }
+    ensures calm { race_asked (map string_bytes words.now) ≡ None → DoesCalm (map string_bytes words.now)
+        (source_of S.tells (S.faults script.old) (S.faults script.new) (S.left script.old) (S.left script.new))
+        P.tells (script.new ≡ script.old) (result.plant ≡ plant) result.status result.base result.journal result.since
+        (P.view plant) (P.view result.plant) }
+{
+    race_top(rt, alloc, words, script, plant, &NoMeet)
 }

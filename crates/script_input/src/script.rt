@@ -28,8 +28,8 @@ pub fn read_script(alloc: Global, bytes: &[u8], cold: bool, only: bool) -> Resul
     script_lang::read_script(alloc, bytes, cold, false, only)
 }
 
-/// Reads the script of a race, as `read_script` does: a line that may not stand in a race is refused too, with the cause
-/// Race.
+/// Reads the script of a race, as `read_script` does: a line that may not stand in a race is refused too, with the
+/// cause Race.
 pub fn read_race(alloc: Global, bytes: &[u8], cold: bool) -> Result<Script, ScriptNo>
     ensures said { ComesTo result (read_as (record { cold = cold; race = true; only = false }) bytes.now) }
 
