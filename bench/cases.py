@@ -1,5 +1,6 @@
 """Cases that a queue must bear: many outputs that wait, a class that no printer takes, a queue that stays empty, single
-commands at a small and a large checkpoint, a start with all groups taken, and a generated script."""
+commands at a small and a large checkpoint and in a short and a full queue, a start with all groups taken, a generated
+script, and a race."""
 import os
 import subprocess
 import time
@@ -91,6 +92,46 @@ def commands(command, where, pages, members):
     return tuple(1000 * (took - none) / GIVEN for took in (least(b"$DJ1"), least(b"$HJ1", b"$AJ1")))
 
 
+# The jobs of a short queue and of a full one, which has as many outputs as SIZES[102] has slots.
+FEW, MANY, PAIRS = 16, 1_008, 16
+IN_QUEUE = 5_000
+
+
+def deck_in_queue(number):
+    """A deck with its work. Behind those of the short queue come some whose jobs have two outputs."""
+    cards = deck(number)
+    if not FEW <= number < FEW + PAIRS:
+        return cards
+    step = [b"//AGAIN EXEC PGM=IEBGENER", b"//SYSPRINT DD DUMMY", b"//SYSIN DD DUMMY", b"//SYSUT1 DD *", b"ONE LINE"]
+    step += [b"/*", b"//SYSUT2 DD SYSOUT=(A,,PAY)", b"//"]
+    return cards.replace(b"//\n++END", b"\n".join([*step, b"++END"]))
+
+
+def in_queue(command, where, jobs):
+    """Milliseconds on the processor, by a member whose queue has so many jobs: for the first and the last of them, of a
+    display of it and of a hold or a release. Each is the least of three runs, without what a run takes that gives
+    none. With them comes how many outputs the queue has."""
+
+    def run(folder):
+        play(command, folder, [SIZES[102].front, *map(deck_in_queue, range(jobs))])
+        shown = play(command, folder, [b"SYSA $DO\n"], ()).told
+
+        def least(*texts):
+            given = [b"SYSA %s\n" % texts[k % len(texts)] for k in range(IN_QUEUE if texts else 0)]
+            runs = [play(command, folder, given, ()) for _ in range(3)]
+            assert all(took.told[-1].split()[2] == b"OK" for took in runs if texts), runs[0].told[-1]
+            return min(took.processor for took in runs)
+
+        none = least()
+        for job in (1, jobs):
+            for texts in ([b"$DJ%d" % job], [b"$HJ%d" % job, b"$AJ%d" % job]):
+                yield 1000 * (least(*texts) - none) / IN_QUEUE
+        yield len(shown) - 1
+
+    *each, outputs = in_folder(where, lambda folder: list(run(folder)))
+    return each, outputs
+
+
 CARD = b"%-80d"
 LONG = 9_999
 
@@ -168,3 +209,29 @@ def generated(command, where, decks):
     took = in_folder(where, lambda folder: Taken(words, b"", folder, None))
     assert took.told[-1].startswith(b"SUMMARY ENTERED %d " % decks), took.told[-1]
     return took.seconds, taken_again(done, where).seconds
+
+
+RACERS = b"ABCDEFGH"
+
+
+def raced(command, where, decks):
+    """Seconds of a script of so many decks, of eight members by turns: in a race, and in play, the least of three."""
+    front = b"CONFIG MEMBERS=8,JOBS=1008,OUTPUTS=1024,GROUPS=2048\n"
+    alone = [deck(number).rpartition(b"SYSA WORK")[0] for number in range(decks)]
+    lines = [cards.replace(b"SYSA", b"SYS%c" % RACERS[number % 8]) for number, cards in enumerate(alone)]
+    given = b"".join([front, *lines])
+
+    def run(folder, word):
+        begin = time.perf_counter()
+        ended = subprocess.run([*command, word, "--cold"], input=given, capture_output=True, cwd=folder, check=True)
+        seconds = time.perf_counter() - begin
+        assert ended.stdout.count(b" OK JOB") == decks, ended.stdout[-80:]
+        assert word == "play" or ended.stdout.endswith(b"H END %d\n" % (3 * decks)), ended.stdout[-80:]
+        return seconds
+
+    least = {}
+    for _ in range(3):
+        for word in ("race", "play"):
+            took = in_folder(where, lambda folder: run(folder, word))
+            least[word] = min(took, least.get(word, took))
+    return least["race"], least["play"]
