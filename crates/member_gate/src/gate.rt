@@ -15,7 +15,12 @@ use mas_types::{MEMBERS_MOST, MemberId};
 use std::alloc::Global;
 use std::marker::Brand;
 use std::sync::Wait;
-use std::thread;
+use std::thread::Parker;
+use std::time::Duration;
+
+// For so many microseconds a pass that waits sleeps between two tries. Passes that only yielded would keep the
+// processors from the one that has the turn.
+const NAP: u64 = 1_000;
 
 impl<V: Kept> Gate<V> {
     /// A gate with this value, for so many members, and the pass of member 0, from which the others are split. The
@@ -94,7 +99,7 @@ impl<V: Kept> Gate<V> {
         }
     }
 
-    /// Waits for the turn, and takes it and the value.
+    /// Waits for the turn, and takes it and the value. Between two tries the thread sleeps.
     pub fn turn<R: Wait>(&self, rt: &R, pass: &mut Pass<V>) -> V
         requires own { IsPassOf self.now pass.old }
         requires free { (view pass.old).has ≡ false }
@@ -102,10 +107,11 @@ impl<V: Kept> Gate<V> {
         ensures value { Finds V.tells (view pass.old) (V.facts result) }
         ensures view { (n : ℕ) × (view pass.new ≡ taking (view pass.old) n (V.facts result)) }
     {
+        let parker = Parker::new();
         for _ in rt.forever() {
             match self.try_turn(pass) {
                 Ok(value) => return value,
-                Err(_) => thread::yield_now(),
+                Err(_) => parker.park_timeout(rt, Duration::from_micros(NAP)),
             }
         }
         unreachable!()
