@@ -1,28 +1,34 @@
 -- What entries count for, and the lines that they tell, one more at a time.
-use Rattle.std.proofs.Common.{◌≡◌, ◌∙◌, sym, ap, ℕ, ◌+◌, ◌<◌, Bool, true, false, List, [], ◌∷◌, ◌++◌, length, take, drop, get_or, refl, append_assoc, drop-cons, add-one, arith}
+use Rattle.std.proofs.Common.{◌≡◌, ◌∙◌, sym, ap, ℕ, ◌+◌, ◌<◌, Bool, true, false, List, [], ◌∷◌, ◌++◌, length, map, take, drop, get_or, refl, append_assoc, drop-cons, add-one, arith}
 use Rattle.std.proofs.lemmas.List.{take_more}
 use Rattle.std.proofs.lemmas.List.Elements.{filter_map-append}
 use Rattle.mas_types.specs.declared.ids.JobNo.{JobNo}
 use Rattle.mas_types.specs.declared.ids.OutNo.{OutNo}
 use Rattle.mas_types.specs.declared.journals.Batch.{Batch}
-use Rattle.mas_types.specs.declared.journals.Entry.{Entry}
 use Rattle.mas_types.specs.Journal.{is_kept}
+use Rattle.brief_journal.specs.declared.entries.BriefEntry.{BriefEntry}
+use Rattle.brief_journal.specs.Brief.{entry_of}
 use Rattle.gen_work.specs.declared.summaries.Counted.{Counted}
 use Rattle.gen_work.specs.Summaries.{counted_in, counted_of, entries_kept, kept_in, mark_after, mark_then, printed_behind, printed_by}
 
 -- ONE MORE
 
-here : {A : Type 0} (xs : List A) (i : ℕ) (x : A) → i < length xs → x ≡ get_or xs i x → drop i xs ≡ x ∷ drop (i + 1) xs
-here {A} xs i x inside is = place ∙ ap (λ (y : A). y ∷ drop (i + 1) xs) (sym is) where
-  place : drop i xs ≡ get_or xs i x ∷ drop (i + 1) xs
-  place = rw (drop-cons xs i x inside, add-one) refl
+place : {A : Type 0} (xs : List A) (i : ℕ) (x : A) → i < length xs → drop i xs ≡ get_or xs i x ∷ drop (i + 1) xs
+place xs i x inside = rw (drop-cons xs i x inside, add-one) refl
 
-pub entries_more : (es : List Entry) (i : ℕ) (e : Entry) (old new whole : List Counted) → i < length es → e ≡ get_or es i e
-    → new ≡ old ++ counted_in (e ∷ []) → old ++ counted_in (drop i es) ≡ whole → new ++ counted_in (drop (i + 1) es) ≡ whole
-entries_more es i e old new whole inside is more so_far =
-    let rest = drop (i + 1) es in
-    let split : counted_in (drop i es) ≡ counted_in (e ∷ []) ++ counted_in rest = ap counted_in (here es i e inside is) ∙ filter_map-append counted_of (e ∷ []) rest in
-    ap (λ (l : List Counted). l ++ counted_in rest) more ∙ append_assoc old (counted_in (e ∷ [])) (counted_in rest)
+here : {A : Type 0} (xs : List A) (i : ℕ) (x : A) → i < length xs → x ≡ get_or xs i x → drop i xs ≡ x ∷ drop (i + 1) xs
+here {A} xs i x inside is = place xs i x inside ∙ ap (λ (y : A). y ∷ drop (i + 1) xs) (sym is)
+
+pub briefs_more : (bs : List BriefEntry) (i : ℕ) (none : BriefEntry) (old new whole : List Counted) → i < length bs
+    → new ≡ old ++ counted_in (entry_of (get_or bs i none) ∷ []) → old ++ counted_in (map entry_of (drop i bs)) ≡ whole
+    → new ++ counted_in (map entry_of (drop (i + 1) bs)) ≡ whole
+briefs_more bs i none old new whole inside more so_far =
+    let b = get_or bs i none in
+    let left = map entry_of (drop (i + 1) bs) in
+    let rest = counted_in left in
+    let split : counted_in (map entry_of (drop i bs)) ≡ counted_in (entry_of b ∷ []) ++ rest = ap (λ (l : List BriefEntry). counted_in (map entry_of l)) (place bs i none inside)
+    ∙ filter_map-append counted_of (entry_of b ∷ []) left in
+    ap (λ (l : List Counted). l ++ rest) more ∙ append_assoc old (counted_in (entry_of b ∷ [])) rest
     ∙ ap (λ (l : List Counted). old ++ l) (sym split) ∙ so_far
 
 kept_first : (b : Batch) (bs : List Batch) → kept_in (b ∷ bs) ≡ entries_kept b ++ kept_in bs
@@ -42,9 +48,6 @@ batches_more bs i b old new whole inside is more so_far =
     ∙ ap (λ (l : List Counted). old ++ l) (sym split) ∙ so_far
 
 -- LINES
-
-place : (xs : List Counted) (k : ℕ) (d : Counted) → k < length xs → drop k xs ≡ get_or xs k d ∷ drop (k + 1) xs
-place xs k d inside = rw (drop-cons xs k d inside, add-one) refl
 
 pub mark_more : (n : JobNo) (i : OutNo) (xs : List Counted) (k : ℕ) (d : Counted) (old new whole : ℕ) → k < length xs
     → new ≡ mark_then n i old (get_or xs k d) → mark_after n i old (drop k xs) ≡ whole → mark_after n i new (drop (k + 1) xs) ≡ whole

@@ -1,12 +1,14 @@
 //! What a run came to: the decks that were entered, the lines that were printed, and the jobs that are left. All of it
 //! stands in the commands that were kept, and in their replies.
-ghost use Rattle.std.specs.Prelude.{◌≡◌, ◌+◌, ◌++◌, ◌∷◌, ◌&&◌, [], if◌then◌else◌, count_by, IfOk, OnOk};
+ghost use Rattle.std.specs.Prelude.{◌≡◌, ◌+◌, ◌++◌, ◌∷◌, ◌&&◌, [], if◌then◌else◌, count_by, map, IfOk, OnOk};
 ghost use Rattle.mas_types.specs.Ids.{same_index, same_number};
 ghost use Rattle.mas_types.specs.Journal.{is_kept as is_kept_lem};
+ghost use Rattle.brief_journal.specs.Brief.{command_of, entry_of, reply_of};
 ghost use Rattle.gen_work.specs.Summaries.{count_in as count_in_lem, counted_as as counted_as_lem, counted_in, counted_of as counted_of_lem, dropped as dropped_lem, entries_kept, is_begun, is_entered, is_gone, is_refusal as is_refusal_lem, kept_in, mark_after as mark_after_lem, mark_then as mark_then_lem, printed_behind, printed_by as printed_by_lem, summary_line as summary_line_lem, summary_of as summary_of_lem};
 
+use brief_journal::{BriefBatch, BriefCommand, BriefEntry, BriefJournal, BriefReply};
 use mas_types::words::{push_decimal, push_text};
-use mas_types::{Batch, Command, Entry, Fate, JobNo, Journal, List, NoMemory, OutNo, Queue, Reply};
+use mas_types::{Fate, JobNo, List, NoMemory, OutNo, Queue};
 use std::alloc::Global;
 
 /// What a run came to.
@@ -45,17 +47,17 @@ pub enum Counted {
     Gone,
 }
 
-fn is_refusal(reply: &Reply) -> bool
-    ensures { result ≡ is_refusal_lem reply.now }
+fn is_refusal(reply: &BriefReply) -> bool
+    ensures { result ≡ is_refusal_lem (reply_of reply.now) }
 {
-    matches!(reply, Reply::No(_))
+    matches!(reply, BriefReply::No(_))
 }
 
-fn count_in(reply: &Reply) -> u32
-    ensures { result ≡ count_in_lem reply.now }
+fn count_in(reply: &BriefReply) -> u32
+    ensures { result ≡ count_in_lem (reply_of reply.now) }
 {
     match reply {
-        Reply::Count(n) => *n,
+        BriefReply::Count(n) => *n,
         _ => 0,
     }
 }
@@ -71,47 +73,47 @@ fn dropped(job: JobNo) -> Option<Counted>
 }
 
 // What a command counts for, by the count that it answered.
-fn counted_as(command: &Command, count: u32) -> Option<Counted>
-    ensures { result ≡ counted_as_lem command.now count }
+fn counted_as(command: &BriefCommand, count: u32) -> Option<Counted>
+    ensures { result ≡ counted_as_lem (command_of command.now) count }
 {
     match command {
-        Command::Begin { .. } => Some(Counted::Begun),
-        Command::Enter { .. } => Some(Counted::Entered),
-        Command::Ended { job, .. } => Some(Counted::Ended { job: *job }),
-        Command::Mark { job, index, .. } => Some(Counted::Marked {
+        BriefCommand::Begin => Some(Counted::Begun),
+        BriefCommand::Enter(_) => Some(Counted::Entered),
+        BriefCommand::Ended(job) => Some(Counted::Ended { job: *job }),
+        BriefCommand::Mark(job, index, _) => Some(Counted::Marked {
             job: *job,
             index: *index,
             lines: count,
         }),
-        Command::Drop { job } => dropped(*job),
-        Command::Purge => Some(Counted::Gone),
+        BriefCommand::Drop(job) => dropped(*job),
+        BriefCommand::Purge => Some(Counted::Gone),
         _ => None,
     }
 }
 
-fn counted_of(entry: &Entry) -> Option<Counted>
-    ensures { result ≡ counted_of_lem entry.now }
+fn counted_of(brief: &BriefEntry) -> Option<Counted>
+    ensures { result ≡ counted_of_lem (entry_of brief.now) }
 {
-    if is_refusal(&entry.reply) {
+    if is_refusal(&brief.reply) {
         return None;
     }
-    counted_as(&entry.command, count_in(&entry.reply))
+    counted_as(&brief.command, count_in(&brief.reply))
 }
 
-fn push_entry(counted: &mut List<Counted>, entry: &Entry) -> Result<(), NoMemory>
-    ensures { OnOk result (counted.new ≡ counted.old ++ counted_in (entry.now ∷ [])) }
+fn push_entry(counted: &mut List<Counted>, brief: &BriefEntry) -> Result<(), NoMemory>
+    ensures { OnOk result (counted.new ≡ counted.old ++ counted_in (entry_of brief.now ∷ [])) }
 {
-    match counted_of(entry) {
+    match counted_of(brief) {
         Some(one) => counted.push(one),
         None => Ok(()),
     }
 }
 
-fn push_entries(counted: &mut List<Counted>, entries: &[Entry]) -> Result<(), NoMemory>
-    ensures { OnOk result (counted.new ≡ counted.old ++ counted_in entries.now) }
+fn push_entries(counted: &mut List<Counted>, briefs: &[BriefEntry]) -> Result<(), NoMemory>
+    ensures { OnOk result (counted.new ≡ counted.old ++ counted_in (map entry_of briefs.now)) }
 {
-    for entry in entries {
-        push_entry(counted, entry)?;
+    for brief in briefs {
+        push_entry(counted, brief)?;
     }
     Ok(())
 }
@@ -123,17 +125,18 @@ fn is_kept(fate: Fate) -> bool
 }
 
 // Adds what the entries of a batch count for, if it was kept.
-fn push_batch(counted: &mut List<Counted>, batch: &Batch) -> Result<(), NoMemory>
+#[tactic(auto, using(crate::proofs::BriefLemmas::all_count))]
+fn push_batch(counted: &mut List<Counted>, batch: &BriefBatch) -> Result<(), NoMemory>
     ensures { OnOk result (counted.new ≡ counted.old ++ counted_in (entries_kept batch.now)) }
 {
-    if !is_kept(batch.fate) {
+    if !is_kept(batch.fate()) {
         return Ok(());
     }
-    push_entries(counted, batch.entries.as_slice())
+    push_entries(counted, batch.briefs())
 }
 
 // What the entries that were kept count for.
-fn counted_by(alloc: Global, batches: &[Batch]) -> Result<List<Counted>, NoMemory>
+fn counted_by(alloc: Global, batches: &[BriefBatch]) -> Result<List<Counted>, NoMemory>
     ensures { IfOk result (λ all. all ≡ counted_in (kept_in batches.now)) }
 {
     let mut counted = List::new(alloc);
@@ -237,10 +240,10 @@ fn gone(all: &[Counted]) -> usize
 /// decks were entered; how many lines were printed, which is the sum of what each Mark answered, less the mark of its
 /// output before it; and how many jobs are left. NoMemory comes when out of memory, and where a number would be above
 /// 2^64 - 1.
-pub fn summary_of(alloc: Global, base: &Queue, journal: &Journal) -> Result<Summary, NoMemory>
+pub fn summary_of(alloc: Global, base: &Queue, journal: &BriefJournal) -> Result<Summary, NoMemory>
     ensures { IfOk result (λ summary. summary ≡ summary_of_lem base.now journal.now) }
 {
-    let counted = counted_by(alloc, journal.batches.as_slice())?;
+    let counted = counted_by(alloc, journal.batches())?;
     let all = counted.as_slice();
     let printed = printed(all)?;
     let jobs = sum(base.jobs.len() as u64, begun(all) as u64)?;

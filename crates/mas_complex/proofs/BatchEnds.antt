@@ -1,26 +1,16 @@
 -- The end of a journal is written.
-use Rattle.std.proofs.Common.{◌≡◌, ℕ, suc, ◌-◌, ◌≤◌, ◌<◌, Bool, true, false, List, [], ◌∷◌, ◌++◌, length, drop, slice_set, Option, Some, None, refl, ap, sym, subst, ◌∙◌, arith, le_trans}
-use Rattle.std.proofs.lemmas.List.{take-append-le, take_all, length-set}
-use Rattle.std.specs.List.{refill}
+use Rattle.std.proofs.Common.{◌≡◌, ℕ, suc, ◌-◌, ◌≤◌, ◌<◌, Bool, true, false, List, [], ◌∷◌, ◌++◌, length, slice_set, Option, Some, None, refl, ap, sym, subst, ◌∙◌, arith, le_trans}
 use Rattle.std.specs.Prelude.{remove}
 use Rattle.mas_types.specs.declared.journals.Batch.{Batch}
 use Rattle.mas_complex.specs.Journals.{journal_most, with_last, without_last, end_of}
-
--- a slice that was written as a whole is what was written
-refilled : {X : Type 0} (xs ws : List X) → length ws ≡ length xs → refill (length xs) xs ws ≡ ws
-refilled xs ws same =
-    take-append-le (length xs) ws (drop (length ws) xs) (omega arith) ∙ take_all (length xs) ws (omega arith)
 
 set_at : (x b : Batch) (bs : List Batch) → slice_set (b ∷ bs) (length bs) x ≡ with_last x (b ∷ bs)
 set_at x b [] = refl
 set_at x b (next ∷ bs) = ap (λ (ys : List Batch). b ∷ ys) (set_at x next bs)
 
-pub last_set : (x : Batch) (bs : List Batch) → 0 < length bs → refill (length bs) bs (slice_set bs (length bs - 1) x) ≡ with_last x bs
-last_set x [] some = absurd (omega arith)
-last_set x (b ∷ bs) some =
-    let e : length (b ∷ bs) - 1 ≡ length bs = omega arith in
-    refilled (b ∷ bs) (slice_set (b ∷ bs) (length (b ∷ bs) - 1) x) (length-set (b ∷ bs) (length (b ∷ bs) - 1) x)
-    ∙ rw e (set_at x b bs)
+pub last_put : (x : Batch) (bs : List Batch) → 0 < length bs → slice_set bs (length bs - 1) x ≡ with_last x bs
+last_put x [] some = absurd (omega arith)
+last_put x (b ∷ bs) some = let e : length (b ∷ bs) - 1 ≡ length bs = omega arith in rw e (set_at x b bs)
 
 remove_at : (b : Batch) (bs : List Batch) → remove (b ∷ bs) (length bs) ≡ without_last (b ∷ bs)
 remove_at b [] = refl

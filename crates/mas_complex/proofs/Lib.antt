@@ -46,3 +46,4 @@ pub mod Standing
 pub mod Short
 pub mod Pasts
 pub mod Noted
+pub mod Briefs

@@ -20,11 +20,12 @@ use crate::counts::COUNTS;
 use crate::journal_end::finished;
 use crate::noting::none_noted;
 use crate::renewals::no_renewals;
+use brief_journal::BriefJournal;
 use ckpt_form::Steady;
 use ckpt_places::Place;
 use duplex_pair::Pair;
 use lock_cycle::LockBook;
-use mas_types::{Config, Journal, List, MEMBERS_MOST, Queue};
+use mas_types::{Config, List, MEMBERS_MOST, Queue};
 use spool_plant::Plant;
 use std::alloc::Global;
 
@@ -67,9 +68,7 @@ impl<P: Plant + Drop, C: Steady + Drop> Complex<P, C> {
             book,
             base,
             since,
-            journal: Journal {
-                batches: List::new(alloc),
-            },
+            journal: BriefJournal::new(alloc),
             current: None,
             reserved: None,
             placed: false,

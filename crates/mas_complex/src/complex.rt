@@ -20,11 +20,12 @@ ghost use Rattle.mas_types.specs.Sound.{IsSound};
 use crate::counts::COUNTS;
 use crate::noting::Note;
 use crate::renewals::Renewals;
+use brief_journal::{BriefBatch, BriefEntries, BriefJournal};
 use ckpt_form::Steady;
 use ckpt_places::Place;
 use duplex_pair::Pair;
 use lock_cycle::LockBook;
-use mas_types::{Batch, Entry, Journal, List, Queue};
+use mas_types::Queue;
 use spool_plant::Plant;
 
 /// What a shared value hands out at its end.
@@ -37,7 +38,7 @@ pub struct Ended<P: Plant + Drop> {
     /// The moment from which on it kept its promises.
     pub since: u64,
     /// The batches of its time, with their fates.
-    pub journal: Journal,
+    pub journal: BriefJournal,
     /// When a copy was replaced.
     pub renewals: Renewals,
 }
@@ -57,11 +58,11 @@ pub struct Complex<P: Plant + Drop, C: Steady + Drop> {
     /// The moment from which on it keeps its promises.
     pub since: u64,
     /// The batches that have their fates, and the place of one to come.
-    pub journal: Journal,
+    pub journal: BriefJournal,
     /// The batch in flight.
-    pub current: Option<Batch>,
+    pub current: Option<BriefBatch>,
     /// The entries of the batch to come.
-    pub reserved: Option<List<Entry>>,
+    pub reserved: Option<BriefEntries>,
     /// The journal ends in the place of the batch to come.
     pub placed: bool,
     /// How far the batch in flight has come on CKPT1.

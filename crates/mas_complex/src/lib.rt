@@ -25,6 +25,9 @@ mod spool;
 mod wires;
 mod writing;
 
+pub use brief_journal::{
+    BriefBatch, BriefCommand, BriefEntries, BriefEntry, BriefJournal, BriefReply,
+};
 pub use ckpt_form::Steady;
 pub use ckpt_places::Place;
 pub use complex::{Complex, Ended};

@@ -7,30 +7,32 @@ ghost use Rattle.mas_complex.specs.Locking.{IsOperatorAway, MayAct, reserved_aft
 ghost use Rattle.mas_complex.specs.Parts.{parts_of};
 
 use crate::complex::Complex;
+use brief_journal::{BriefBatch, BriefEntries};
 use ckpt_form::Steady;
 use lock_cycle::{LockBook, LockNo, NotHolder, SeizeNo};
-use mas_types::{Batch, Entry, Fate, List, MemberId};
+use mas_types::{Fate, MemberId};
 use spool_plant::Plant;
 
 // The entries of the kept batches, or the greatest number.
-fn entries_kept(batches: &[Batch]) -> u64
+fn entries_kept(batches: &[BriefBatch]) -> u64
     ensures { result ≡ min (length (kept_all batches.now)) top }
 {
     let mut count: u64 = 0;
     for batch in batches {
-        if batch.fate == Fate::Kept {
-            count = count.saturating_add(batch.entries.len() as u64);
+        if batch.fate() == Fate::Kept {
+            count = count.saturating_add(batch.count() as u64);
         }
     }
     count
 }
 
 // The first of the entries is this member's.
-fn is_of(entries: &[Entry], by: MemberId) -> bool
+#[tactic(auto, using(crate::proofs::Briefs::first_is, crate::proofs::Briefs::first_none))]
+fn is_of(entries: &BriefEntries, by: MemberId) -> bool
     ensures { result ≡ is_of_member by entries.now }
 {
-    match entries.first() {
-        Some(entry) => entry.by == by,
+    match entries.as_slice().first() {
+        Some(brief) => brief.by == by,
         None => false,
     }
 }
@@ -38,7 +40,7 @@ fn is_of(entries: &[Entry], by: MemberId) -> bool
 // The member is stopped in the book, and a batch of it that is reserved is given up.
 pub(crate) fn give_up_after_stop(
     book: &mut LockBook,
-    reserved: &mut Option<List<Entry>>,
+    reserved: &mut Option<BriefEntries>,
     by: MemberId,
 )
     requires { IsMember book.old by }
@@ -47,7 +49,7 @@ pub(crate) fn give_up_after_stop(
 {
     book.stop(by);
     let goes = match reserved {
-        Some(entries) => is_of(entries.as_slice(), by),
+        Some(entries) => is_of(entries, by),
         None => false,
     };
     if goes {
@@ -58,7 +60,7 @@ pub(crate) fn give_up_after_stop(
 // The member gives the lock up, and with it a batch that is reserved.
 fn give_up_after_free(
     book: &mut LockBook,
-    reserved: &mut Option<List<Entry>>,
+    reserved: &mut Option<BriefEntries>,
     by: MemberId,
     inner: bool,
 ) -> Result<(), NotHolder>
@@ -79,7 +81,7 @@ impl<P: Plant + Drop, C: Steady + Drop> Complex<P, C> {
     pub fn kept_count(&self) -> u64
         ensures { result ≡ length (kept_all self.now.journal.batches) }
     {
-        entries_kept(self.journal.batches.as_slice())
+        entries_kept(self.journal.batches())
     }
 
     /// A try of the member at the lock of the checkpoint, as its book says. An `inner` try is one in the middle of a

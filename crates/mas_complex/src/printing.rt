@@ -16,9 +16,10 @@ ghost use Rattle.mas_complex.specs.Parts.{parts_of};
 use crate::complex::Complex;
 use crate::counts::COUNTS;
 use crate::locking::give_up_after_stop;
+use brief_journal::BriefEntries;
 use ckpt_form::Steady;
 use lock_cycle::LockBook;
-use mas_types::{Entry, List, MemberId};
+use mas_types::MemberId;
 use spool_plant::{Act, Plant};
 
 // A line that was printed is counted.
@@ -35,7 +36,7 @@ fn count_line(printed: &mut [u32; COUNTS], by: MemberId, done: Act)
 }
 
 // The member that was stopped in a print is stopped in the book, and a batch of it that is reserved is given up.
-fn stop_halted(book: &mut LockBook, reserved: &mut Option<List<Entry>>, by: MemberId, done: Act)
+fn stop_halted(book: &mut LockBook, reserved: &mut Option<BriefEntries>, by: MemberId, done: Act)
     requires { IsMember book.old by }
     ensures book { book.new ≡ book_by by done book.old }
     ensures reserved { reserved.new ≡ reserved_by by done reserved.old }

@@ -191,7 +191,7 @@ impl<P: Plant + Drop, C: Steady + Drop> Complex<P, C> {
             ≤ order_first + orders_most * length self.now.journal.batches }
     {
         pages_level(found) <= self.level.saturating_add(1)
-            && pages_order(found) <= ORDER_FIRST + ORDERS_MOST * self.journal.batches.len() as u64
+            && pages_order(found) <= ORDER_FIRST + ORDERS_MOST * self.journal.len() as u64
     }
 
     // The pages found where a copy has some.

@@ -17,8 +17,9 @@ ghost use Rattle.mas_complex.specs.Parts.{begun_in, kept_same_in, parts_of, plac
 use crate::complex::Complex;
 use crate::counts::count_anew;
 use crate::journal_end::{drop_last, empty_place, push_place, set_last};
+use brief_journal::{BriefBatch, BriefEntries};
 use ckpt_form::Steady;
-use mas_types::{Batch, Entry, Fate, List, MemberId, NoMemory};
+use mas_types::{Entry, Fate, List, MemberId, NoMemory};
 use spool_plant::Plant;
 use std::alloc::Global;
 
@@ -41,7 +42,7 @@ impl<P: Plant + Drop, C: Steady + Drop> Complex<P, C> {
             × (self.new.journal.batches ≡ self.old.journal.batches ++ place ∷ []) × IsPlace place) }
     {
         let place = empty_place(alloc, self.plant.now());
-        push_place(&mut self.journal.batches, place)?;
+        push_place(&mut self.journal, place)?;
         self.placed = true;
         Ok(())
     }
@@ -83,10 +84,11 @@ impl<P: Plant + Drop, C: Steady + Drop> Complex<P, C> {
         if entries.len() > ENTRIES_MOST {
             return Err(NoMemory);
         }
+        let brief = BriefEntries::of(alloc, &entries)?;
         if !self.placed {
             self.add_place(alloc)?;
         }
-        self.reserved = Some(entries);
+        self.reserved = Some(brief);
         Ok(())
     }
 
@@ -98,7 +100,7 @@ impl<P: Plant + Drop, C: Steady + Drop> Complex<P, C> {
         ensures { parts_of self.new ≡ record (parts_of self.old)
             { batches = without_last self.old.journal.batches; placed = false } }
     {
-        drop_last(&mut self.journal.batches);
+        drop_last(&mut self.journal);
         self.placed = false;
     }
 
@@ -132,8 +134,8 @@ impl<P: Plant + Drop, C: Steady + Drop> Complex<P, C> {
     {
         let first = self.plant.now();
         if let Some(entries) = self.reserved.take() {
-            count_anew(&mut self.printed, by, entries.as_slice());
-            self.current = Some(Batch {
+            count_anew(&mut self.printed, by, &entries);
+            self.current = Some(BriefBatch {
                 first,
                 last: u64::MAX,
                 by,
@@ -211,10 +213,10 @@ impl<P: Plant + Drop, C: Steady + Drop> Complex<P, C> {
     {
         let now = self.plant.now();
         if let Some(entries) = self.reserved.take() {
-            count_anew(&mut self.printed, by, entries.as_slice());
+            count_anew(&mut self.printed, by, &entries);
             set_last(
-                &mut self.journal.batches,
-                Batch {
+                &mut self.journal,
+                BriefBatch {
                     first: now,
                     last: now,
                     by,

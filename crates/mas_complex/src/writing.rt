@@ -25,12 +25,12 @@ ghost use Rattle.ckpt_tables.specs.Shape.{page_count};
 ghost use Rattle.mas_complex.specs.Parts.{begun_in, dropped_in, kept_in, parts_of, with_copy};
 
 use crate::complex::Complex;
-use crate::journal_end::set_last;
+use crate::journal_end::end_last;
 use crate::places::{place_after, set_place};
 use ckpt_form::Steady;
 use ckpt_places::{Place, all_opened};
 use duplex_pair::PairNo;
-use mas_types::{Batch, Dev, Fate, MemberId, Page};
+use mas_types::{Dev, Fate, MemberId, Page};
 use spool_plant::Plant;
 
 impl<P: Plant + Drop, C: Steady + Drop> Complex<P, C> {
@@ -345,16 +345,7 @@ impl<P: Plant + Drop, C: Steady + Drop> Complex<P, C> {
     {
         let last = self.plant.now();
         if let Some(batch) = self.current.take() {
-            set_last(
-                &mut self.journal.batches,
-                Batch {
-                    first: batch.first,
-                    last,
-                    by: batch.by,
-                    fate: Fate::Kept,
-                    entries: batch.entries,
-                },
-            );
+            end_last(&mut self.journal, batch, Fate::Kept, last);
             self.placed = false;
             self.first = Place::Before;
             self.second = Place::Before;
@@ -371,16 +362,7 @@ impl<P: Plant + Drop, C: Steady + Drop> Complex<P, C> {
     {
         let last = self.plant.now();
         if let Some(batch) = self.current.take() {
-            set_last(
-                &mut self.journal.batches,
-                Batch {
-                    first: batch.first,
-                    last,
-                    by: batch.by,
-                    fate: Fate::Dropped,
-                    entries: batch.entries,
-                },
-            );
+            end_last(&mut self.journal, batch, Fate::Dropped, last);
             self.placed = false;
             self.first = Place::Before;
             self.second = Place::Before;

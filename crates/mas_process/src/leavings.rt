@@ -1,5 +1,6 @@
 //! What a run leaves. It is let go here, so that the program itself proves nothing of how.
-use mas_types::{Journal, Queue};
+use brief_journal::BriefJournal;
+use mas_types::Queue;
 use plant_files::FilePlant;
 use plant_fuse::Fused;
 
@@ -14,6 +15,6 @@ pub fn let_queue_go(base: Queue) {
 }
 
 /// The commands of a run are let go, with their replies.
-pub fn let_journal_go(journal: Journal) {
+pub fn let_journal_go(journal: BriefJournal) {
     drop(journal);
 }

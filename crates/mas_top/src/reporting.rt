@@ -8,20 +8,13 @@ ghost use Rattle.mas_top.specs.Reports.{IsReport};
 ghost use Rattle.mas_top.specs.Saying.{Says};
 
 use crate::saying::say_lines;
-use mas_types::{Journal, Lines, List, Queue, Status};
+use mas_complex::BriefJournal;
+use mas_types::{Lines, Queue, Status};
 use queue_report::{law_of_named_queues, report};
 use run_opening::{Ended, status_of_start, unbegun};
 use spool_plant::Plant;
 use std::alloc::Global;
 use warm_start::found;
-
-fn no_journal(alloc: Global) -> Journal
-    ensures { result.batches ≡ [] }
-{
-    Journal {
-        batches: List::new(alloc),
-    }
-}
 
 // The report's end: its lines are said.
 fn said<P: Plant + Drop>(
@@ -43,7 +36,7 @@ fn said<P: Plant + Drop>(
         plant,
         base: queue,
         since,
-        journal: no_journal(alloc),
+        journal: BriefJournal::new(alloc),
     }
 }
 

@@ -4,3 +4,4 @@ pub mod GoneOutputLemmas
 pub mod InkedLemmas
 pub mod Shown
 pub mod Printed
+pub mod BriefLemmas

@@ -12,11 +12,10 @@ ghost use Rattle.mas_types.specs.Sound.{IsSound};
 ghost use Rattle.mas_complex.specs.Journals.{kept_all};
 ghost use Rattle.mas_complex.specs.Meaning.{run};
 ghost use Rattle.member_work.specs.Gone.{are_outputs_brought as are_outputs_brought_lem, brings_job as brings_job_lem, brings_outputs as brings_outputs_lem, gone_in as gone_in_lem, gone_output_in as gone_output_in_lem, gone_output_since, gone_since, gone_with as gone_with_lem, is_brought as is_brought_lem, names_job as names_job_lem};
+ghost use Rattle.brief_journal.specs.Brief.{command_of, reply_of};
 
-use mas_complex::{Complex, Steady};
-use mas_types::{
-    Batch, Command, Entry, Fate, GroupNo, Job, JobNo, List, OutNo, Output, Queue, Reply, Text,
-};
+use mas_complex::{BriefBatch, BriefCommand, BriefEntry, BriefReply, Complex, Steady};
+use mas_types::{Fate, GroupNo, Job, JobNo, OutNo, Output, Queue, Text};
 use member_work::kept_replies;
 use spool_plant::Plant;
 
@@ -44,44 +43,49 @@ fn gone_in(queue: &Queue, job: JobNo) -> Option<GroupNo>
     }
 }
 
-fn names_job(job: JobNo, reply: &Reply) -> bool
-    ensures { result ≡ names_job_lem job reply.now }
+fn names_job(job: JobNo, reply: &BriefReply) -> bool
+    ensures { result ≡ names_job_lem job (reply_of reply.now) }
 {
     match reply {
-        Reply::Job(named) => named.0 == job.0,
+        BriefReply::Job(named) => named.0 == job.0,
         _ => false,
     }
 }
 
 // The entry began a job of this number, or gave it its text.
-fn brings_job(job: JobNo, entry: &Entry) -> bool
-    ensures { result ≡ brings_job_lem job entry.now.command entry.now.reply }
+fn brings_job(job: JobNo, brief: &BriefEntry) -> bool
+    ensures { result ≡ brings_job_lem job (command_of brief.now.command) (reply_of brief.now.reply) }
 {
-    match &entry.command {
-        Command::Begin { .. } | Command::Enter { .. } | Command::Got { .. } => {
-            names_job(job, &entry.reply)
+    match &brief.command {
+        BriefCommand::Begin | BriefCommand::Enter(_) | BriefCommand::Got(..) => {
+            names_job(job, &brief.reply)
         }
         _ => false,
     }
 }
 
-fn is_brought(job: JobNo, entries: &List<Entry>) -> bool
-    ensures { result ≡ is_brought_lem job entries.now }
+// One of the entries that these are in brief did.
+fn is_job_brought(job: JobNo, briefs: &[BriefEntry]) -> bool
+    ensures { result ≡ list_any (λ b. brings_job_lem job (command_of b.command) (reply_of b.reply)) briefs.now }
 {
-    entries
-        .as_slice()
-        .iter()
-        .any(|entry| brings_job(job, entry))
+    briefs.iter().any(|brief| brings_job(job, brief))
+}
+
+// One of the batch's entries did.
+fn is_brought(job: JobNo, batch: &BriefBatch) -> bool
+    ensures { result ≡ is_brought_lem job batch.now.entries }
+{
+    is_job_brought(job, batch.briefs())
 }
 
 // One of a kept batch's entries did.
-fn is_brought_by(job: JobNo, batch: &Batch) -> bool
+fn is_brought_by(job: JobNo, batch: &BriefBatch) -> bool
     ensures { result ≡ (is_kept_lem batch.now.fate && is_brought_lem job batch.now.entries) }
 {
-    matches!(batch.fate, Fate::Kept) && is_brought(job, &batch.entries)
+    matches!(batch.fate(), Fate::Kept) && is_brought(job, batch)
 }
 
-fn is_brought_in(job: JobNo, batches: &[Batch]) -> bool
+fn is_brought_in(job: JobNo, batches: &[BriefBatch]) -> bool
     ensures { result ≡ list_any (λ b. is_kept_lem b.fate && is_brought_lem job b.entries) batches.now }
 {
     batches.iter().any(|batch| is_brought_by(job, batch))
@@ -89,7 +93,7 @@ fn is_brought_in(job: JobNo, batches: &[Batch]) -> bool
 
 // The group with which the text was gone, unless one of these batches brought a job of this number. They aren't looked
 // at where it was whole.
-fn unless_brought(job: JobNo, gone: Option<GroupNo>, batches: &[Batch]) -> Option<GroupNo>
+fn unless_brought(job: JobNo, gone: Option<GroupNo>, batches: &[BriefBatch]) -> Option<GroupNo>
     ensures { result ≡ (if list_any (λ b. is_kept_lem b.fate && is_brought_lem job b.entries) batches.now then None else
         gone) }
 {
@@ -116,7 +120,7 @@ pub(crate) fn gone_deck<P: Plant + Drop, C: Steady + Drop>(
         → result ≡ gone_with_lem j.text }
 {
     kept_replies(complex);
-    let batches = complex.journal.batches.as_slice();
+    let batches = complex.journal.batches();
     unless_brought(job, gone_in(&complex.base, job), batches)
 }
 
@@ -131,32 +135,37 @@ fn output_at(queue: &Queue, job: JobNo, index: OutNo) -> Option<&Output>
 }
 
 // The entry brought outputs of the job.
-fn brings_outputs(job: JobNo, entry: &Entry) -> bool
-    ensures { result ≡ brings_outputs_lem job entry.now.command entry.now.reply }
+fn brings_outputs(job: JobNo, brief: &BriefEntry) -> bool
+    ensures { result ≡ brings_outputs_lem job (command_of brief.now.command) (reply_of brief.now.reply) }
 {
-    match (&entry.command, &entry.reply) {
-        (Command::Ended { job: ended, .. }, Reply::Count(_)) => ended.0 == job.0,
+    match (&brief.command, &brief.reply) {
+        (BriefCommand::Ended(ended), BriefReply::Count(_)) => ended.0 == job.0,
         _ => false,
     }
 }
 
-fn are_outputs_brought(job: JobNo, entries: &List<Entry>) -> bool
-    ensures { result ≡ are_outputs_brought_lem job entries.now }
+// One of the entries that these are in brief did.
+fn is_end_brought(job: JobNo, briefs: &[BriefEntry]) -> bool
+    ensures { result ≡ list_any (λ b. brings_outputs_lem job (command_of b.command) (reply_of b.reply)) briefs.now }
 {
-    entries
-        .as_slice()
-        .iter()
-        .any(|entry| brings_outputs(job, entry))
+    briefs.iter().any(|brief| brings_outputs(job, brief))
+}
+
+// One of the batch's entries did.
+fn are_outputs_brought(job: JobNo, batch: &BriefBatch) -> bool
+    ensures { result ≡ are_outputs_brought_lem job batch.now.entries }
+{
+    is_end_brought(job, batch.briefs())
 }
 
 // One of a kept batch's entries did.
-fn are_outputs_brought_by(job: JobNo, batch: &Batch) -> bool
+fn are_outputs_brought_by(job: JobNo, batch: &BriefBatch) -> bool
     ensures { result ≡ (is_kept_lem batch.now.fate && are_outputs_brought_lem job batch.now.entries) }
 {
-    matches!(batch.fate, Fate::Kept) && are_outputs_brought(job, &batch.entries)
+    matches!(batch.fate(), Fate::Kept) && are_outputs_brought(job, batch)
 }
 
-fn are_outputs_brought_in(job: JobNo, batches: &[Batch]) -> bool
+fn are_outputs_brought_in(job: JobNo, batches: &[BriefBatch]) -> bool
     ensures { result ≡ list_any (λ b. is_kept_lem b.fate && are_outputs_brought_lem job b.entries) batches.now }
 {
     batches
@@ -174,7 +183,11 @@ fn gone_output_in(queue: &Queue, job: JobNo, index: OutNo) -> Option<GroupNo>
 }
 
 // The group with which an output's text was gone, unless one of these batches brought outputs of its job.
-fn unless_outputs_brought(job: JobNo, gone: Option<GroupNo>, batches: &[Batch]) -> Option<GroupNo>
+fn unless_outputs_brought(
+    job: JobNo,
+    gone: Option<GroupNo>,
+    batches: &[BriefBatch],
+) -> Option<GroupNo>
     ensures { result ≡ (if list_any (λ b. is_kept_lem b.fate && are_outputs_brought_lem job b.entries) batches.now then
         None else gone) }
 {
@@ -202,6 +215,6 @@ pub(crate) fn gone_output<P: Plant + Drop, C: Steady + Drop>(
 {
     kept_replies(complex);
     complex.kept_given();
-    let batches = complex.journal.batches.as_slice();
+    let batches = complex.journal.batches();
     unless_outputs_brought(job, gone_output_in(&complex.base, job, index), batches)
 }

@@ -13,6 +13,7 @@ mod player;
 mod queues;
 mod starts;
 mod stops;
+mod whole;
 
 pub use cases::Case;
 use cases::set;

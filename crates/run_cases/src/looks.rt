@@ -2,7 +2,8 @@
 use crate::cases::{Case, crashed, start};
 use crate::player::{Played, Player};
 use crate::queues::add_queue;
-use mas_types::{Batch, Dev, Fate, Job, Lines, MemberId, NoMemory, Phase, Status, status_line};
+use brief_journal::BriefBatch;
+use mas_types::{Dev, Fate, Job, Lines, MemberId, NoMemory, Phase, Status, status_line};
 use spool_disk::MemPlant;
 use spool_plant::{Act, Choice, Part, Plant};
 use std::alloc::Global;
@@ -37,21 +38,21 @@ pub fn batches_of_decks(jobs: &[Job]) -> u64 {
 }
 
 /// How many batches were kept at a moment, and how many had begun.
-pub fn kept_and_begun(batches: &[Batch], t: u64) -> (u64, u64) {
+pub fn kept_and_begun(batches: &[BriefBatch], t: u64) -> (u64, u64) {
     let mut kept = 0u64;
     let mut begun = 0u64;
     for batch in batches {
-        kept = kept.saturating_add(u64::from(batch.last <= t));
-        begun = begun.saturating_add(u64::from(batch.first <= t));
+        kept = kept.saturating_add(u64::from(batch.last() <= t));
+        begun = begun.saturating_add(u64::from(batch.first() <= t));
     }
     (kept, begun)
 }
 
 // How many batches are kept, or in flight.
-fn fated(batches: &[Batch], fate: Fate) -> u64 {
+fn fated(batches: &[BriefBatch], fate: Fate) -> u64 {
     let mut count = 0u64;
     for batch in batches {
-        count = count.saturating_add(u64::from(batch.fate == fate));
+        count = count.saturating_add(u64::from(batch.fate() == fate));
     }
     count
 }
@@ -95,7 +96,7 @@ fn add_outside(alloc: Global, line: &mut Writer, plant: &MemPlant, said: usize) 
 /// How a run ended: its status, how many batches are kept and how many in flight, what is lost, and what it said and
 /// printed.
 pub fn add_ended(alloc: Global, line: &mut Writer, ended: &Played) {
-    let batches = ended.journal.batches.as_slice();
+    let batches = ended.journal.batches();
     add_status(alloc, line, &ended.status);
     line.add_number(b", kept ", fated(batches, Fate::Kept));
     line.add_number(b", flying ", fated(batches, Fate::Flying));
@@ -198,7 +199,7 @@ fn change(case: &Case, left: &mut MemPlant) {
 // How a start ended: its status, its batches, the queue that it found, what is lost, and what it said and printed.
 fn add_start(alloc: Global, line: &mut Writer, ended: &Played, said: usize) {
     add_status(alloc, line, &ended.status);
-    line.add_number(b", batches ", ended.journal.batches.len() as u64);
+    line.add_number(b", batches ", ended.journal.len() as u64);
     line.add(b",");
     add_queue(line, &ended.base);
     add_outside(alloc, line, &ended.plant, said)

@@ -221,9 +221,9 @@ fn add_rows(out: &mut Writer, bytes: &[u8]) {
 
 /// The moment at which a batch was kept.
 pub fn kept_at(run: &Played, number: u64) -> u64 {
-    let batches = run.journal.batches.as_slice();
+    let batches = run.journal.batches();
     match batches.get(number as usize) {
-        Some(batch) => batch.last,
+        Some(batch) => batch.last(),
         None => u64::MAX,
     }
 }
@@ -239,7 +239,7 @@ fn add_lines_count(alloc: Global, line: &mut Writer, plant: &MemPlant) -> Result
 
 // How many batches were kept and begun at a moment, and how many lines said and printed.
 fn add_moment(alloc: Global, line: &mut Writer, run: &Played, t: u64) -> Result<(), NoMemory> {
-    let (kept, begun) = kept_and_begun(run.journal.batches.as_slice(), t);
+    let (kept, begun) = kept_and_begun(run.journal.batches(), t);
     line.add_number(b"kept ", kept);
     line.add_number(b", begun ", begun);
     let left = crashed(alloc, &run.plant, t, Choice::Old)?;

@@ -7,9 +7,9 @@ ghost use Rattle.mas_types.specs.Step.{may_give};
 ghost use Rattle.script_laws.specs.Limits.{IsScript};
 
 use crate::queues::add_queue;
-use mas_types::{
-    Batch, Command, Copied, Entry, Fate, List, MemberId, NoMemory, Queue, empty_queue,
-};
+use crate::whole::command_of;
+use brief_journal::{BriefBatch, BriefEntry, BriefJournal};
+use mas_types::{Command, Copied, Fate, List, MemberId, NoMemory, Queue, empty_queue};
 use model_queue::conditions::is_member;
 use model_queue::step_plain;
 use queue_laws::fitness::is_fit;
@@ -36,27 +36,50 @@ fn step(alloc: Global, queue: &mut Queue, by: MemberId, command: &Command) -> Re
     Ok(())
 }
 
-// An entry on the queue, which it leaves as it is where nobody may give it.
-fn give(alloc: Global, queue: &mut Queue, entry: &Entry) -> Result<(), NoMemory>
+// A command on the queue, which it leaves as it is where nobody may give it.
+fn give(alloc: Global, queue: &mut Queue, by: MemberId, command: &Command) -> Result<(), NoMemory>
     requires { IsSound queue.old }
     ensures { IsSound queue.new }
 {
-    if !is_member(&queue.config, entry.by) {
+    if !is_member(&queue.config, by) {
         return Ok(());
     }
-    match &entry.command {
+    match command {
         Command::Restart => Ok(()),
-        command => step(alloc, queue, entry.by, command),
+        command => step(alloc, queue, by, command),
     }
 }
 
-// Entries on the queue, one after another.
-fn give_all(alloc: Global, queue: &mut Queue, entries: &List<Entry>) -> Result<(), NoMemory>
+// An entry on the queue.
+fn give_brief(
+    alloc: Global,
+    script: &Script,
+    queue: &mut Queue,
+    brief: &BriefEntry,
+) -> Result<(), NoMemory>
     requires { IsSound queue.old }
     ensures { IsSound queue.new }
 {
-    for entry in entries.as_slice() {
-        give(alloc, queue, entry)?;
+    let Some(command) = command_of(alloc, script, queue, brief)? else {
+        return Ok(());
+    };
+    let given = give(alloc, queue, brief.by, &command);
+    drop(command);
+    given
+}
+
+// Entries on the queue, one after another.
+fn give_all(
+    alloc: Global,
+    script: &Script,
+    queue: &mut Queue,
+    briefs: &[BriefEntry],
+) -> Result<(), NoMemory>
+    requires { IsSound queue.old }
+    ensures { IsSound queue.new }
+{
+    for brief in briefs {
+        give_brief(alloc, script, queue, brief)?;
     }
     Ok(())
 }
@@ -73,21 +96,31 @@ fn reset(alloc: Global, queue: &mut Queue) -> Result<Writer, NoMemory>
 }
 
 // What entries make of the queue, in a line.
-fn line_with(alloc: Global, queue: &Queue, entries: &List<Entry>) -> Result<Writer, NoMemory>
+fn line_with(
+    alloc: Global,
+    script: &Script,
+    queue: &Queue,
+    briefs: &[BriefEntry],
+) -> Result<Writer, NoMemory>
     requires { IsSound queue.now }
 {
     let mut with = queue.copy(alloc)?;
-    give_all(alloc, &mut with, entries)?;
+    give_all(alloc, script, &mut with, briefs)?;
     reset(alloc, &mut with)
 }
 
 // A batch on the queue, if it was kept.
-fn keep(alloc: Global, queue: &mut Queue, batch: &Batch) -> Result<(), NoMemory>
+fn keep(
+    alloc: Global,
+    script: &Script,
+    queue: &mut Queue,
+    batch: &BriefBatch,
+) -> Result<(), NoMemory>
     requires { IsSound queue.old }
     ensures { IsSound queue.new }
 {
-    if batch.fate == Fate::Kept {
-        give_all(alloc, queue, &batch.entries)
+    if batch.fate() == Fate::Kept {
+        give_all(alloc, script, queue, batch.briefs())
     } else {
         Ok(())
     }
@@ -96,26 +129,31 @@ fn keep(alloc: Global, queue: &mut Queue, batch: &Batch) -> Result<(), NoMemory>
 // The queues of these batches, one after another.
 fn lines_from(
     alloc: Global,
+    script: &Script,
     queue: &mut Queue,
-    batches: &List<Batch>,
+    batches: &[BriefBatch],
 ) -> Result<List<Writer>, NoMemory>
     requires { IsSound queue.old }
 {
     let mut lines = List::new(alloc);
-    lines.push(line_with(alloc, queue, &List::new(alloc))?)?;
-    for batch in batches.as_slice() {
-        lines.push(line_with(alloc, queue, &batch.entries)?)?;
-        keep(alloc, queue, batch)?;
+    lines.push(line_with(alloc, script, queue, &[])?)?;
+    for batch in batches {
+        lines.push(line_with(alloc, script, queue, batch.briefs())?)?;
+        keep(alloc, script, queue, batch)?;
     }
     Ok(lines)
 }
 
 // The queues of a cold run of a script.
-fn lines_in(alloc: Global, script: &Script, batches: &List<Batch>) -> Result<List<Writer>, NoMemory>
+fn lines_in(
+    alloc: Global,
+    script: &Script,
+    batches: &[BriefBatch],
+) -> Result<List<Writer>, NoMemory>
     requires { IsScript script.now }
 {
     let mut queue = empty_queue(alloc, &script.config, &script.routes)?;
-    lines_from(alloc, &mut queue, batches)
+    lines_from(alloc, script, &mut queue, batches)
 }
 
 // The script that these bytes are, if they are one.
@@ -135,10 +173,10 @@ fn script_of(alloc: Global, bytes: &[u8]) -> Option<Script>
 pub fn lines_of(
     alloc: Global,
     script: &[u8],
-    batches: &List<Batch>,
+    journal: &BriefJournal,
 ) -> Result<List<Writer>, NoMemory> {
     let Some(script) = script_of(alloc, script) else {
         return Ok(List::new(alloc));
     };
-    lines_in(alloc, &script, batches)
+    lines_in(alloc, &script, journal.batches())
 }

@@ -1,5 +1,6 @@
 //! What plays the scripts of cases, and what a run leaves.
-use mas_types::{Journal, NoMemory, Queue, Status};
+use brief_journal::BriefJournal;
+use mas_types::{NoMemory, Queue, Status};
 use spool_disk::{MemPlant, MemSource};
 use std::alloc::{AllocError, Global};
 
@@ -15,7 +16,7 @@ pub struct Played {
     /// The moment from which on it keeps its promises.
     pub since: u64,
     /// Its commands, with their replies.
-    pub journal: Journal,
+    pub journal: BriefJournal,
 }
 
 /// A run that was played. It stands in a box, as its plant does after a crash: so whoever has one lets it go by one

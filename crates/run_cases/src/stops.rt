@@ -9,10 +9,9 @@ use crate::modes::Told;
 use crate::plain::lines_of;
 use crate::player::{Played, Player};
 use crate::queues::add_queue;
+use brief_journal::BriefBatch;
 use mas_types::words::{push_digits, push_output_key};
-use mas_types::{
-    Batch, Dev, Fate, Lines, List, MEMBERS_MOST, MemberId, NoMemory, Output, Queue, Status,
-};
+use mas_types::{Dev, Fate, Lines, List, MEMBERS_MOST, MemberId, NoMemory, Output, Queue, Status};
 use spool_disk::MemPlant;
 use spool_plant::{Choice, Part, Plant};
 use std::alloc::Global;
@@ -70,12 +69,12 @@ fn is_there(lines: &[Writer], at: u64, line: &[u8]) -> bool {
 }
 
 // The place of the queue after so many batches: the last of them that was kept made it.
-fn place_of(batches: &[Batch], ended: u64) -> u64 {
+fn place_of(batches: &[BriefBatch], ended: u64) -> u64 {
     let mut place = 0u64;
     let mut number = 0u64;
     for batch in batches {
         number = number.saturating_add(1);
-        if number <= ended && batch.fate == Fate::Kept {
+        if number <= ended && batch.fate() == Fate::Kept {
             place = number;
         }
     }
@@ -83,7 +82,7 @@ fn place_of(batches: &[Batch], ended: u64) -> u64 {
 }
 
 // What a start found behind a crash at a moment, by its line.
-fn find_of(lines: &[Writer], batches: &[Batch], t: u64, line: &[u8]) -> Find {
+fn find_of(lines: &[Writer], batches: &[BriefBatch], t: u64, line: &[u8]) -> Find {
     let (ended, begun) = kept_and_begun(batches, t);
     let is_kept = is_there(lines, place_of(batches, ended), line);
     if begun <= ended {
@@ -153,8 +152,8 @@ fn step_of(line: &[u8]) -> u32 {
     step
 }
 
-fn has_step(batch: &Batch, step: u32) -> bool {
-    for entry in batch.entries.as_slice() {
+fn has_step(batch: &BriefBatch, step: u32) -> bool {
+    for entry in batch.briefs() {
         if entry.step == step {
             return true;
         }
@@ -163,9 +162,9 @@ fn has_step(batch: &Batch, step: u32) -> bool {
 }
 
 // Each batch with an entry of the step was kept by a moment.
-fn is_step_kept(batches: &[Batch], step: u32, t: u64) -> bool {
+fn is_step_kept(batches: &[BriefBatch], step: u32, t: u64) -> bool {
     for batch in batches {
-        if has_step(batch, step) && (batch.fate != Fate::Kept || batch.last > t) {
+        if has_step(batch, step) && (batch.fate() != Fate::Kept || batch.last() > t) {
             return false;
         }
     }
@@ -173,7 +172,7 @@ fn is_step_kept(batches: &[Batch], step: u32, t: u64) -> bool {
 }
 
 // Each line of a console tells a step that was kept by a moment, but for those that say of a stop.
-fn are_told_kept(console: &Lines, batches: &[Batch], t: u64) -> bool {
+fn are_told_kept(console: &Lines, batches: &[BriefBatch], t: u64) -> bool {
     for at in 0..console.len() {
         let line = console.line(at);
         if !line.ends_with(b" STOPPED") && !is_step_kept(batches, step_of(line), t) {
@@ -187,7 +186,7 @@ fn are_told_kept(console: &Lines, batches: &[Batch], t: u64) -> bool {
 fn is_told_kept(alloc: Global, run: &Played, t: u64) -> Result<bool, NoMemory> {
     let left = crashed(alloc, &run.plant, t, Choice::Old)?;
     let console = left.console_lines(alloc)?;
-    Ok(are_told_kept(&console, run.journal.batches.as_slice(), t))
+    Ok(are_told_kept(&console, run.journal.batches(), t))
 }
 
 // The queue that a start found, and behind it the one that the start after it finds.
@@ -205,7 +204,7 @@ fn line_of<P: Player>(player: &P, first: &Played) -> Result<Writer, NoMemory> {
 fn judge<P: Player>(
     player: &P,
     lines: &[Writer],
-    batches: &[Batch],
+    batches: &[BriefBatch],
     t: u64,
     left: Box<MemPlant>,
 ) -> Result<Find, NoMemory> {
@@ -235,7 +234,7 @@ fn found_at<P: Player>(
     if left.lost(Part::Disk(Dev::Ckpt1)) && left.lost(Part::Disk(Dev::Ckpt2)) {
         return Ok(Find::Nothing);
     }
-    judge(player, lines, run.journal.batches.as_slice(), t, left)
+    judge(player, lines, run.journal.batches(), t, left)
 }
 
 // The three starts behind a crash at a moment with one image.
@@ -308,7 +307,7 @@ fn crashes_from<P: Player>(
 
 // What starts find behind a stop at an act of a run.
 fn tally_of<P: Player>(player: &P, case: &Case, run: &Played, act: u64) -> Result<Tally, NoMemory> {
-    let lines = lines_of(player.alloc(), case.script.bytes(), &run.journal.batches)?;
+    let lines = lines_of(player.alloc(), case.script.bytes(), &run.journal)?;
     crashes_from(player, run, lines.as_slice(), act)
 }
 

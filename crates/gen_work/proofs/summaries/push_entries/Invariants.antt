@@ -1,7 +1,8 @@
-use Rattle.std.proofs.Common.{◌≡◌, ◌++◌, drop}
+use Rattle.std.proofs.Common.{◌≡◌, ◌++◌, map, drop}
+use Rattle.brief_journal.specs.Brief.{entry_of}
 use Rattle.gen_work.specs.Summaries.{counted_in}
 use Rattle.gen_work.proofs.summaries.push_entries.Given as goal
 
 -- what is left is added
-abbrev pub invariant-loop-entry : goal.invariant-loop-entry
-invariant-loop-entry l = l.counted ++ counted_in (drop l.entry-index l.entries) ≡ l.initial.counted ++ counted_in l.entries
+abbrev pub invariant-loop-brief : goal.invariant-loop-brief
+invariant-loop-brief l = l.counted ++ counted_in (map entry_of (drop l.brief-index l.briefs)) ≡ l.initial.counted ++ counted_in (map entry_of l.briefs)

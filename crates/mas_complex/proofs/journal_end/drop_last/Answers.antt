@@ -5,4 +5,5 @@ use Rattle.mas_complex.proofs.journal_end.drop_last.Goals as goal
 
 pub returns-then-count-gt0 : goal.returns-then-count-gt0
 returns-then-count-gt0 c =
-    c.remove.ensures.rest ∙ ap (λ (n : ℕ). remove c.args.batches.now (n - 1)) c.len-count.ensures ∙ last_removed c.args.batches.now (omega arith)
+    let bs = c.args.journal.now.batches in
+    c.remove.ensures ∙ ap (λ (n : ℕ). remove bs (n - 1)) c.len-count.ensures ∙ last_removed bs (omega arith)

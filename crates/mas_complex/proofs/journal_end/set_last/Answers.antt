@@ -1,8 +1,8 @@
-use Rattle.mas_complex.proofs.BatchEnds.{last_set}
+use Rattle.std.proofs.Common.{ℕ, ◌-◌, ◌∙◌, slice_set, ap, arith}
+use Rattle.mas_complex.proofs.BatchEnds.{last_put}
 use Rattle.mas_complex.proofs.journal_end.set_last.Goals as goal
 
-pub returns-in-Some : goal.returns-in-Some
-returns-in-Some c =
-    let value = c.as_mut_slice.ensures.value in
-    let item = c.in-Some.ensures.item in
-    rw value (last_set c.args.batch c.args.batches.now (rw value at item.3.0))
+pub returns-then-count-gt0 : goal.returns-then-count-gt0
+returns-then-count-gt0 c =
+    let bs = c.args.journal.now.batches in
+    c.set.ensures ∙ ap (λ (n : ℕ). slice_set bs (n - 1) c.args.batch) c.len-count.ensures ∙ last_put c.args.batch bs (omega arith)

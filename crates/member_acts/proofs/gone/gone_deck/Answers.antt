@@ -10,8 +10,8 @@ use Rattle.member_acts.proofs.gone.gone_deck.Goals as goal
 pub returns-clause-since : goal.returns-clause-since
 returns-clause-since g c =
     let y = c.args.complex.now in
-    c.unless_brought.ensures ∙ ap (λ (o : Option GroupNo). if list_any (λ b. is_kept b.fate && is_brought c.args.job b.entries) c.as_slice-batches.result.now then None else o) c.gone_in.ensures
-    ∙ sym (since_when c.args.job y.base y.journal.batches c.as_slice-batches.result.now _ c.as_slice-batches.ensures refl)
+    c.unless_brought.ensures ∙ ap (λ (o : Option GroupNo). if list_any (λ b. is_kept b.fate && is_brought c.args.job b.entries) c.batches-batches.result.now then None else o) c.gone_in.ensures
+    ∙ sym (since_when c.args.job y.base y.journal.batches c.batches-batches.result.now _ c.batches-batches.ensures refl)
 
 pub returns-clause-gone : goal.returns-clause-gone
 returns-clause-gone g c told j found =

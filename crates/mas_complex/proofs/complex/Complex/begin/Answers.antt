@@ -55,7 +55,7 @@ invariant_of-self-clause-paper g c told sound =
     let own : All (λ x. x.by ≡ c.args.by) es = subst (λ (l : List Entry). All (λ x. x.by ≡ c.args.by) l) e c.requires.own in
     ∥∥₁_elim (s.kept told) ∥∥₁_prop (λ k. ∥∥₁_map₂ (s.paper told sound) (c.requires.allowed told sound) (λ on allowed.
     let k' = subst (λ (x : Option Batch). AreSettled s.journal.batches old.now × IsBegun x old.now) c.requires.none (k.settled, k.begun) in
-    rw (c.count_anew.ensures, c.as_slice.ensures) (begins_on_paper s.base s.since s.journal.batches b s.printed s.book old k.started k'.0 refl c.now-first.ensures sound
+    rw c.count_anew.ensures (begins_on_paper s.base s.since s.journal.batches b s.printed s.book old k.started k'.0 refl c.now-first.ensures sound
     (subst (λ (x : Option Batch). KeepsPaper s.base s.since s.journal.batches x s.printed s.book old) c.requires.none on) own
     (subst (λ (l : List Entry). AreAllowed s.base (run s.base (kept_all s.journal.batches)) (counts_of s.printed) l) e allowed)
     (counts_fall c.args.by es s.printed own))))

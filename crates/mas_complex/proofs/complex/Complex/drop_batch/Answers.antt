@@ -30,7 +30,7 @@ invariant_of-self-clause-kept g c told =
     let old = g.P.Plant.view s.plant in
     let b = c.in-Some.batch in
     let was : s.current ≡ Some b = sym c.take.ensures.value ∙ c.in-Some.is in
-    ∥∥₁_elim (s.kept told) ∥∥₁_prop (λ k. ∥∥₁_map s.place (λ has. rw (c.set_last.ensures, c.take.ensures.after)
+    ∥∥₁_elim (s.kept told) ∥∥₁_prop (λ k. ∥∥₁_map s.place (λ has. rw (c.end_last.ensures, c.take.ensures.after)
     (dropped_placed S s.level first second old (λ pages d r. g.met.C.Copying.rests_reads s.pair.first.copy pages d r) (λ was next d r. g.met.C.Copying.holds_reads s.pair.first.copy was next d r) (λ pages d r. g.met.C.Copying.rests_reads s.pair.second.copy pages d r) (λ was next d r. g.met.C.Copying.holds_reads s.pair.second.copy was next d r) s.journal.batches (has_ends s.placed s.journal.batches (s.place_current c.requires.current) has)
     (record { first = b.first; last = c.now-last.result; by = b.by; fate = Dropped; entries = b.entries }) b
     (subst (λ (x : Option Batch). Keeps S s.journal.batches x s.level first second old) was k) refl refl c.now-last.ensures refl c.requires.first c.requires.second)))
@@ -40,7 +40,7 @@ invariant_of-self-clause-replied g c told =
     let s = c.args.self.now in
     let b = c.in-Some.batch in
     let was : s.current ≡ Some b = sym c.take.ensures.value ∙ c.in-Some.is in
-    ∥∥₁_elim (s.replied told) ∥∥₁_prop (λ are. ∥∥₁_map s.place (λ has. rw (c.set_last.ensures, c.take.ensures.after)
+    ∥∥₁_elim (s.replied told) ∥∥₁_prop (λ are. ∥∥₁_map s.place (λ has. rw (c.end_last.ensures, c.take.ensures.after)
     (fated_replied s.base s.journal.batches b (record { first = b.first; last = c.now-last.result; by = b.by; fate = Dropped; entries = b.entries }) (has_ends s.placed s.journal.batches (s.place_current c.requires.current) has)
     (subst (λ (x : Option Batch). AreReplied s.base (s.journal.batches ++ in_flight x)) was are) refl)))
 
@@ -50,13 +50,13 @@ invariant_of-self-clause-paper g c told sound =
     let old = g.P.Plant.view s.plant in
     let b = c.in-Some.batch in
     let was : s.current ≡ Some b = sym c.take.ensures.value ∙ c.in-Some.is in
-    ∥∥₁_elim (s.kept told) ∥∥₁_prop (λ k. ∥∥₁_map₂ (s.paper told sound) s.place (λ on has. rw (c.set_last.ensures, c.take.ensures.after)
+    ∥∥₁_elim (s.kept told) ∥∥₁_prop (λ k. ∥∥₁_map₂ (s.paper told sound) s.place (λ on has. rw (c.end_last.ensures, c.take.ensures.after)
     (fated_on_paper s.base s.since s.printed s.book old s.journal.batches (has_ends s.placed s.journal.batches (s.place_current c.requires.current) has) k.settled
     (record { first = b.first; last = c.now-last.result; by = b.by; fate = Dropped; entries = b.entries }) b
     (subst (λ (x : Option Batch). KeepsPaper s.base s.since s.journal.batches x s.printed s.book old) was on) (subst (λ (x : Option Batch). IsBegun x old.now) was k.begun) refl refl c.now-last.ensures (inr refl))))
 
 pub invariant_of-self-clause-few : goal.invariant_of-self-clause-few
-invariant_of-self-clause-few g c = rw c.set_last.ensures (few_with_last _ c.args.self.now.journal.batches c.args.self.now.few)
+invariant_of-self-clause-few g c = rw c.end_last.ensures (few_with_last _ c.args.self.now.journal.batches c.args.self.now.few)
 
 pub invariant_of-self-clause-settled : goal.invariant_of-self-clause-settled
 invariant_of-self-clause-settled g c =
@@ -65,7 +65,7 @@ invariant_of-self-clause-settled g c =
     let b = c.in-Some.batch in
     let was : s.current ≡ Some b = sym c.take.ensures.value ∙ c.in-Some.is in
     let begun : IsBegun (Some b) old.now = subst (λ (x : Option Batch). IsBegun x old.now) was s.begun in
-    subst (λ (l : List Batch). AreSettled l old.now) (sym c.set_last.ensures) (settled_with_last (record { first = b.first; last = c.now-last.result; by = b.by; fate = Dropped; entries = b.entries }) s.journal.batches old.now s.settled refl
+    subst (λ (l : List Batch). AreSettled l old.now) (sym c.end_last.ensures) (settled_with_last (record { first = b.first; last = c.now-last.result; by = b.by; fate = Dropped; entries = b.entries }) s.journal.batches old.now s.settled refl
     (omega (arith, begun.1, c.now-last.ensures)) (omega (arith, c.now-last.ensures)))
 
 pub invariant_of-self-clause-begun : goal.invariant_of-self-clause-begun
@@ -80,7 +80,7 @@ invariant_of-self-clause-counted g c =
     let b = c.in-Some.batch in
     let was : s.current ≡ Some b = sym c.take.ensures.value ∙ c.in-Some.is in
     let short : length b.entries ≤ entries_most = subst (λ (x : Option Batch). length (entries_in x) ≤ entries_most) was s.short in
-    subst (λ (l : List Batch). AreFew false l) (sym c.set_last.ensures)
+    subst (λ (l : List Batch). AreFew false l) (sym c.end_last.ensures)
     (few_last (record { first = b.first; last = c.now-last.result; by = b.by; fate = Dropped; entries = b.entries }) s.placed s.journal.batches (s.place_current c.requires.current) s.place short s.counted)
 
 pub invariant_of-self-clause-lasting : goal.invariant_of-self-clause-lasting

@@ -62,7 +62,7 @@ invariant_of-self-clause-paper g c told sound =
     let es = c.in-Some.entries in
     let e : entries_reserved s.reserved ≡ es = ap entries_reserved (sym c.take.ensures.value ∙ c.in-Some.is) in
     let own : All (λ x. x.by ≡ c.args.by) es = subst (λ (l : List Entry). All (λ x. x.by ≡ c.args.by) l) e c.requires.own in
-    ∥∥₁_elim (s.kept told) ∥∥₁_prop (λ k. ∥∥₁_elim (c.requires.allowed told sound) ∥∥₁_prop (λ allowed. ∥∥₁_map₂ (s.paper told sound) s.place (λ on has. rw (c.set_last.ensures, c.count_anew.ensures, c.as_slice.ensures, c.requires.none)
+    ∥∥₁_elim (s.kept told) ∥∥₁_prop (λ k. ∥∥₁_elim (c.requires.allowed told sound) ∥∥₁_prop (λ allowed. ∥∥₁_map₂ (s.paper told sound) s.place (λ on has. rw (c.set_last.ensures, c.count_anew.ensures, c.requires.none)
     (same_on_paper s.base s.since s.printed s.book old s.journal.batches (has_ends s.placed s.journal.batches (s.place_reserved c.requires.reserved) has) k.settled
     (record { first = c.now-now.result; last = c.now-now.result; by = c.args.by; fate = Kept; entries = es }) (record { first = c.now-now.result; last = 0; by = c.args.by; fate = Flying; entries = es }) sound
     (subst (λ (x : Option Batch). KeepsPaper s.base s.since s.journal.batches x s.printed s.book old) c.requires.none on) k.started refl c.now-now.ensures own
