@@ -9,12 +9,12 @@ use Rattle.indexmap.specs.IndexMap.{IndexMap}
 use Rattle.queue_slots.proofs.Cases.{test_cases}
 use Rattle.job_select.specs.Chains.{has_slot, slots_of, is_chain, HaveSame, Moves, StandsIn, chain_at, stands_in, AreChains}
 
-slice_get-set_same : {A : Type 0} (xs : List A) (i : ℕ) (x y : A) → slice_get xs i ≡ Some x → slice_get (set xs i y) i ≡ Some y
+pub slice_get-set_same : {A : Type 0} (xs : List A) (i : ℕ) (x y : A) → slice_get xs i ≡ Some x → slice_get (set xs i y) i ≡ Some y
 slice_get-set_same [] i x y e = absurd cc
 slice_get-set_same (z ∷ xs) zero x y e = refl
 slice_get-set_same (z ∷ xs) (suc i) x y e = slice_get-set_same xs i x y e
 
-slice_get-set_other : {A : Type 0} (xs : List A) (i j : ℕ) (y : A) → (j ≡ i → ⊥) → slice_get (set xs i y) j ≡ slice_get xs j
+pub slice_get-set_other : {A : Type 0} (xs : List A) (i j : ℕ) (y : A) → (j ≡ i → ⊥) → slice_get (set xs i y) j ≡ slice_get xs j
 slice_get-set_other [] i j y other = refl
 slice_get-set_other (z ∷ xs) zero zero y other = absurd (other refl)
 slice_get-set_other (z ∷ xs) zero (suc j) y other = refl

@@ -5,3 +5,7 @@ pub mod KeyLemmas
 pub mod KindLemmas
 pub mod IndexLemmas
 pub mod ToldLemmas
+pub mod FollowLemmas
+pub mod BehindLemmas
+pub mod CodedSlots
+pub mod EndLemmas

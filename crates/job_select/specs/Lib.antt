@@ -3,3 +3,4 @@ pub mod Best
 pub mod Kinds
 pub mod Indexes
 pub mod Examples
+pub mod Behind

@@ -1,4 +1,6 @@
 //! The index: slots of jobs and outputs, and the chains in which they stand.
+ghost use Rattle.std.specs.Prelude.{◌≡◌, [], drop};
+ghost use Rattle.lay_bytes.specs.Used.{used};
 ghost use Rattle.job_select.specs.Chains.{AreChains};
 ghost use Rattle.job_select.specs.Kinds.{job_chain as job_chain_lem, number_chain as number_chain_lem, output_chain as output_chain_lem};
 
@@ -21,7 +23,13 @@ pub struct Index {
     pub(crate) job_chains: Chains,
     /// The outputs by their classes, and by the members that print them.
     pub(crate) output_chains: Chains,
+    /// No job stands in the slots from this one on.
+    pub(crate) jobs_end: usize,
+    /// No output stands in the slots from this one on.
+    pub(crate) outputs_end: usize,
     ghost numbered: { AreChains number_chain_lem jobs numbers },
     ghost chained: { AreChains job_chain_lem jobs job_chains },
     ghost printed: { AreChains output_chain_lem outputs output_chains },
+    ghost jobs_ended: { used (drop jobs_end jobs) ≡ [] },
+    ghost outputs_ended: { used (drop outputs_end outputs) ≡ [] },
 }

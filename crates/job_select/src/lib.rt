@@ -7,11 +7,14 @@ mod choices;
 mod classes;
 mod examples;
 mod finding;
+mod following;
 mod index;
 mod jobs;
+mod kept;
 mod moving;
 mod outputs;
 mod selecting;
 
 pub use examples::examples_of_selection;
 pub use index::Index;
+pub use kept::KeptIndex;

@@ -1,7 +1,8 @@
 //! How an index is built, and brought up to what stands in the slots.
-ghost use Rattle.std.specs.Prelude.{◌≡◌, ◌≤◌, ◌<◌, [], Option, Some, None, IfOk, OnOk, OnErr, length, replicate, slice_get, slice_set};
+ghost use Rattle.std.specs.Prelude.{◌≡◌, ◌≤◌, ◌<◌, [], List, Option, Some, None, IfOk, OnOk, OnErr, drop, length, replicate, slice_get, slice_set};
 ghost use Rattle.lay_bytes.specs.declared.records.JobRec.{JobRec as AnyJob};
 ghost use Rattle.lay_bytes.specs.declared.records.OutRec.{OutRec as AnyOutput};
+ghost use Rattle.lay_bytes.specs.Used.{used};
 ghost use Rattle.ckpt_tables.specs.Shape.{HasShape};
 ghost use Rattle.job_select.specs.Chains.{HaveSame, Moves, StandsIn, chain_at};
 ghost use Rattle.job_select.specs.Kinds.{job_chain as job_chain_lem, number_chain as number_chain_lem, output_chain as output_chain_lem};
@@ -100,6 +101,17 @@ fn move_output(
     Ok(())
 }
 
+/// From which slot on nothing stands, where nothing stood from `end` on and what stands in a slot changes.
+fn end_with<T>(end: usize, slot: u16, new: &Option<T>) -> usize
+    ensures { (slots : List (Option T)) → used (drop end slots) ≡ []
+        → used (drop result (slice_set slots slot new.now)) ≡ [] }
+{
+    match new {
+        Some(_) => end.max(slot as usize + 1),
+        None => end,
+    }
+}
+
 /// As many empty slots as `count` says.
 fn empty_slots<T: Drop>(alloc: Global, count: usize) -> Result<List<Option<T>>, NoMemory>
     ensures { IfOk result (λ slots. slots ≡ replicate count None) }
@@ -127,6 +139,8 @@ fn index_of(alloc: Global, jobs: List<Option<JobRec>>, outputs: List<Option<OutR
         numbers,
         job_chains,
         output_chains,
+        jobs_end: 0,
+        outputs_end: 0,
     }
 }
 
@@ -200,7 +214,7 @@ impl Index {
         Ok(())
     }
 
-    fn follow_job(
+    pub(crate) fn follow_job(
         &mut self,
         alloc: Global,
         at: usize,
@@ -218,7 +232,7 @@ impl Index {
         self.job_moved(alloc, at as u16, &old, &new)
     }
 
-    fn follow_output(
+    pub(crate) fn follow_output(
         &mut self,
         alloc: Global,
         at: usize,
@@ -260,6 +274,7 @@ impl Index {
         ) {
             Ok(()) => {
                 *self.jobs.item_mut(slot as usize) = *new;
+                self.jobs_end = end_with(self.jobs_end, slot, new);
                 Ok(())
             }
             Err(NoMemory) => Err(NoMemory),
@@ -283,6 +298,7 @@ impl Index {
         match move_output(alloc, &mut self.output_chains, slot, old, new) {
             Ok(()) => {
                 *self.outputs.item_mut(slot as usize) = *new;
+                self.outputs_end = end_with(self.outputs_end, slot, new);
                 Ok(())
             }
             Err(NoMemory) => Err(NoMemory),

@@ -1,6 +1,6 @@
-//! Does one thing as often as it is told: reads and writes pages, reads decks, scripts or frames, gives commands, or
-//! plays events on a net. The first word says which, by its first letter, and numbers behind it how often and of what
-//! size. Without such a word it does each a few times. `bench/layers` takes the time and the memory.
+//! Does one thing as often as it is told: reads and writes pages, reads decks, scripts or frames, gives commands, looks
+//! for units, or plays events on a net. The first word says which, by its first letter, and numbers behind it how often
+//! and of what size. Without such a word it does each a few times. `bench/layers` takes the time and the memory.
 #![tactic(auto)]
 
 mod decks;
@@ -10,6 +10,7 @@ mod pages;
 mod queues;
 mod samples;
 mod scripts;
+mod units;
 
 use std::env;
 use std::process::ExitCode;
@@ -44,6 +45,7 @@ fn run(rt: &HostRuntime, letter: u8, numbers: Numbers) -> bool {
         b's' => scripts::run(alloc, numbers),
         b'f' => frames::run(alloc, numbers),
         b'q' => queues::run(alloc, numbers),
+        b'u' => units::run(alloc, numbers),
         b'n' => nets::run(rt, numbers),
         _ => {
             pages::run(alloc, [1, 323, 0])
@@ -51,6 +53,7 @@ fn run(rt: &HostRuntime, letter: u8, numbers: Numbers) -> bool {
                 && scripts::run(alloc, [1, 80, 0])
                 && frames::run(alloc, [1, 100, 80])
                 && queues::run(alloc, [16, 8, 0])
+                && units::run(alloc, [16, 8, 0])
                 && nets::run(rt, [2_000, 0, 0])
         }
     }

@@ -10,7 +10,7 @@ use ckpt_pages::{empty, sound};
 use ckpt_tables::Tables;
 use mas_types::{Class, Command, Config, List, MemberId, Name8, NoMemory, Phase};
 use page_marks::Marks;
-use queue_effect::{apply, law_of_fit_tables};
+use queue_effect::{Ends, apply, law_of_fit_tables};
 use queue_laws::fitness::is_fit;
 use std::alloc::Global;
 
@@ -37,7 +37,7 @@ fn config(jobs: u16) -> Config
 }
 
 /// Tables with a job in each slot.
-fn full_tables(alloc: Global, jobs: u16) -> Result<Tables, NoMemory>
+pub(crate) fn full_tables(alloc: Global, jobs: u16) -> Result<Tables, NoMemory>
     ensures shape { IfOk result HasShape }
     ensures order { IfOk result (λ tables. tables.order ≡ 10000) }
 {
@@ -56,7 +56,11 @@ fn give_often(alloc: Global, tables: &mut Tables, command: &Command, times: u32)
     let mut marks = Marks::none();
     let mut without = 0;
     for _time in 0..times {
-        if apply(alloc, tables, &mut marks, MemberId(1), command).is_err() {
+        let ends = Ends {
+            jobs: tables.jobs.len(),
+            outputs: tables.outputs.len(),
+        };
+        if apply(alloc, tables, &mut marks, ends, MemberId(1), command).is_err() {
             without += 1;
         }
     }

@@ -6,13 +6,27 @@ ghost use Rattle.mas_types.specs.Queue.{first_in, printing_at, in_purge, in_outp
 ghost use Rattle.mas_types.specs.Selection.{for_convert, for_execute, for_printer};
 ghost use Rattle.mas_types.specs.Units.{unit_of, print_unit as print_unit_lem, working_at};
 ghost use Rattle.queue_telling.specs.Telling.{Tell};
+ghost use Rattle.job_select.specs.Behind.{IsKept};
 ghost use Rattle.job_select.specs.Indexes.{IsOf};
 
 use ckpt_tables::Tables;
-use job_select::Index;
+use job_select::{Index, KeptIndex};
 use lay_bytes::OutRec;
 use mas_types::{JobNo, MemberId, Unit};
-use queue_effect::setting;
+use queue_effect::{setting, unit};
+
+/// The next unit of a member, that of `unit`: by the index that is kept with the tables, or by walks over all slots
+/// if it is lost.
+pub fn find_unit(tables: &Tables, kept: &KeptIndex, by: MemberId) -> Unit
+    requires member { by.0 ≤ members_most }
+    requires kept { IsKept kept.now tables.now }
+    ensures { (Q : Queue) → Tell tables.now Q → result ≡ unit_of Q by }
+{
+    if kept.current {
+        return unit_with(tables, &kept.index, by);
+    }
+    unit(tables, by)
+}
 
 /// The next unit of a member, that of `unit`: the first that applies, Idle where none does. The
 /// index is that of the tables.
