@@ -2,7 +2,7 @@
 use Rattle.std.proofs.Common.{◌≡◌, ◌≢◌, ◌⊎◌, ⊎_elim, inl, inr, ℕ, ◌+◌, ◌-◌, ◌*◌, ◌<◌, ◌≤◌, ◌||◌, ◌&&◌, if◌then◌else◌, Bool, true, false, zero, suc, List, [], ◌∷◌, length, take, drop, nat_lt, nat_le, slice_set, slice_index_or, Option, refl, sym, ◌∙◌, ap, arith}
 use Rattle.std.specs.Prelude.{◌==◌}
 use Rattle.std.proofs.lemmas.Bool.Decides.{nat_tests}
-use Rattle.std.proofs.lemmas.List.{drop_all, get_or-set_other, get_or-set_same, take-set-le, drop-set-lt, drop-set-add}
+use Rattle.std.proofs.lemmas.List.{drop_all, drop-drop, drop-take, take-take, get_or-set_other, get_or-set_same, take-set-le, drop-set-lt, drop-set-add}
 use Rattle.mas_types.specs.declared.ids.JobNo.{JobNo}
 use Rattle.mas_types.specs.declared.queues.LineCount.{LineCount}
 use Rattle.mas_types.specs.declared.queues.Owner.{Owner}
@@ -13,7 +13,7 @@ use Rattle.mas_types.specs.Limits.{pages_most}
 use Rattle.ckpt_tables.specs.declared.tables.Tables.{Tables}
 use Rattle.ckpt_tables.specs.Pages.{filled, page_pieces, part}
 use Rattle.ckpt_tables.specs.Shape.{page_count, jobs_a_page, outputs_a_page, owners_a_page, first_job_page, first_output_page, first_group_page}
-use Rattle.page_marks.specs.Marks.{is_marked, job_page, marked, output_page, IsDrawnAlike, Touches}
+use Rattle.page_marks.specs.Marks.{group_page, groups_end_page, is_marked, job_page, marked, output_page, IsDrawnAlike, Touches}
 
 clash : (b : Bool) → b ≡ true → b ≡ false → ⊥
 clash b one two = cc
@@ -149,6 +149,17 @@ beyond (x ∷ m) (suc p) over = beyond m p (omega (arith, over))
 part_beyond : {X : Type 0} (count k : ℕ) (xs ys : List X) → length xs ≤ count * k → length ys ≤ count * k → part count k xs ≡ part count k ys
 part_beyond count k xs ys one two = ap (take count) (drop_all (count * k) xs one ∙ sym (drop_all (count * k) ys two))
 
+-- a part that ends where both lists are the same up to there, and one that begins where they are the same from there on
+part_low : {X : Type 0} (count k first : ℕ) (xs ys : List X) → count * k + count ≤ first → take first xs ≡ take first ys → part count k xs ≡ part count k ys
+part_low count k first xs ys below same =
+    sym (drop-take (count * k) count xs) ∙ ap (drop (count * k)) (sym (take-take (count * k + count) first xs below) ∙ ap (take (count * k + count)) same ∙ take-take (count * k + count) first ys below)
+    ∙ drop-take (count * k) count ys
+
+part_high : {X : Type 0} (count k end : ℕ) (xs ys : List X) → end ≤ count * k → drop end xs ≡ drop end ys → part count k xs ≡ part count k ys
+part_high count k end xs ys above same =
+    let e : count * k ≡ end + (count * k - end) = omega (arith, above) in
+    rw e (ap (take count) (sym (drop-drop (count * k - end) end xs) ∙ ap (drop (count * k - end)) same ∙ drop-drop (count * k - end) end ys))
+
 module _ (m n : List Bool) (many : length m ≡ pages_most) (kind : ℕ → Bool) (are : (p : ℕ) → p < pages_most → is_marked n p ≡ (is_marked m p || kind p)) where
   rise_kind : (p : ℕ) → is_marked m p ≡ true → is_marked n p ≡ true
   rise_kind p is = ⊎_elim (λ lt. are p lt ∙ or_left (is_marked m p) (kind p) is) (λ ge. absurd (clash (is_marked m p) is (beyond m p (omega (arith, many, ge))))) (sides p pages_most)
@@ -169,6 +180,31 @@ module _ (m n : List Bool) (many : length m ≡ pages_most) (t : Tables) (few : 
         (λ none. absurd (clash (nat_le (first_group_page t.config) p) (grind (arith, nat_tests, from)) none))
         (not_kind m n many (λ q. nat_le (first_group_page t.config) q) are p is));
   }
+
+  -- the owners outside first .. end are the same
+  pub touch_owners_between : (os : List Owner) (first end : ℕ) → ((p : ℕ) → p < pages_most → is_marked n p ≡ (is_marked m p || (nat_le (group_page t.config first) p && nat_lt p (groups_end_page t.config end))))
+      → end ≤ owners_a_page * (page_count t.config - first_group_page t.config) → take first os ≡ take first t.owners → drop end os ≡ drop end t.owners → Touches m n t (record t { owners = os })
+  touch_owners_between os first end are within low high = record {
+    config = refl;
+    rise = rise_kind m n many (λ p. nat_le (group_page t.config first) p && nat_lt p (groups_end_page t.config end)) are;
+    alike = λ p is. alike_by t (record t { owners = os }) refl p (λ e. (refl, refl)) (λ e. refl) (λ e. (refl, refl)) (λ from to. refl) (λ from to. refl)
+        (λ from. ⊎_elim
+        (λ over. above p (omega (arith, within, few, over)))
+        (λ none. ⊎_elim
+        (λ lt. below p from lt)
+        (λ ge. ⊎_elim
+        (λ lt. absurd (clash (nat_le (group_page t.config first) p && nat_lt p (groups_end_page t.config end))
+        (both (nat_le (group_page t.config first) p) (nat_lt p (groups_end_page t.config end)) (grind (arith, nat_tests, ge)) (grind (arith, nat_tests, lt))) none))
+        (λ after. above p (omega (arith, after)))
+        (sides p (groups_end_page t.config end)))
+        (sides p (group_page t.config first)))
+        (not_kind m n many (λ q. nat_le (group_page t.config first) q && nat_lt q (groups_end_page t.config end)) are p is));
+  } where
+    above : (p : ℕ) → end ≤ owners_a_page * (p - first_group_page t.config) → part owners_a_page (p - first_group_page t.config) os ≡ part owners_a_page (p - first_group_page t.config) t.owners
+    above p from = part_high owners_a_page (p - first_group_page t.config) end os t.owners from high
+
+    below : (p : ℕ) → first_group_page t.config ≤ p → p < group_page t.config first → part owners_a_page (p - first_group_page t.config) os ≡ part owners_a_page (p - first_group_page t.config) t.owners
+    below p from lt = part_low owners_a_page (p - first_group_page t.config) first os t.owners (omega (arith, from, lt)) low
 
   pub touch_outputs : (os : List (Option OutRec)) → ((p : ℕ) → p < pages_most → is_marked n p ≡ (is_marked m p || (nat_le (first_output_page t.config) p && nat_lt p (first_group_page t.config))))
       → Touches m n t (record t { outputs = os })

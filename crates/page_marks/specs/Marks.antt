@@ -3,7 +3,7 @@ use Rattle.std.specs.Prelude.{◌≡◌, ℕ, ◌+◌, ◌/◌, Bool, true, fals
 use Rattle.mas_types.specs.declared.queues.Config.{Config}
 use Rattle.ckpt_tables.specs.declared.tables.Tables.{Tables}
 use Rattle.ckpt_tables.specs.Pages.{page_of}
-use Rattle.ckpt_tables.specs.Shape.{jobs_a_page, outputs_a_page, first_job_page, first_output_page}
+use Rattle.ckpt_tables.specs.Shape.{jobs_a_page, outputs_a_page, owners_a_page, first_job_page, first_output_page, first_group_page}
 
 -- the page has a mark
 abbrev pub is_marked : List Bool → ℕ → Bool
@@ -19,6 +19,13 @@ job_page at = first_job_page + at / jobs_a_page
 
 abbrev pub output_page : Config → ℕ → ℕ
 output_page c at = first_output_page c + at / outputs_a_page
+
+-- the page of a group, and the one after those of the groups below the end
+abbrev pub group_page : Config → ℕ → ℕ
+group_page c at = first_group_page c + at / owners_a_page
+
+abbrev pub groups_end_page : Config → ℕ → ℕ
+groups_end_page c end = first_group_page c + (end + 511) / owners_a_page
 
 -- a page is drawn alike from both tables
 abbrev pub IsDrawnAlike : ℕ → Tables → Tables → Type 0

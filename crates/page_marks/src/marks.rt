@@ -1,10 +1,10 @@
 //! A mark for each page.
-ghost use Rattle.std.specs.Prelude.{◌≡◌, ◌+◌, ◌<◌, ◌≤◌, ◌^◌, ◌||◌, ◌&&◌, ℕ, true, false, nat_le, nat_lt, length, replicate};
+ghost use Rattle.std.specs.Prelude.{◌≡◌, ◌+◌, ◌/◌, ◌<◌, ◌≤◌, ◌^◌, ◌||◌, ◌&&◌, ℕ, true, false, nat_le, nat_lt, length, replicate};
 ghost use Rattle.mas_types.specs.Limits.{pages_most};
-ghost use Rattle.ckpt_tables.specs.Shape.{first_group_page, first_job_page, first_output_page};
-ghost use Rattle.page_marks.specs.Marks.{is_marked, job_page, marked, output_page};
+ghost use Rattle.ckpt_tables.specs.Shape.{first_group_page, first_job_page, first_output_page, owners_a_page};
+ghost use Rattle.page_marks.specs.Marks.{group_page, groups_end_page, is_marked, job_page, marked, output_page};
 
-use ckpt_tables::{FIRST_JOB_PAGE, JOBS_A_PAGE, OUTPUTS_A_PAGE};
+use ckpt_tables::{FIRST_JOB_PAGE, JOBS_A_PAGE, OUTPUTS_A_PAGE, OWNERS_A_PAGE};
 use mas_types::Config;
 use mas_types::limits::PAGES_MOST;
 
@@ -111,6 +111,15 @@ impl Marks {
     {
         self.put_from(first_group(config), MARKS);
     }
+
+    /// Marks the pages of the groups from the first on, up to the end, without it.
+    pub fn put_groups_between(&mut self, config: &Config, first: usize, end: usize)
+        ensures { (p : ℕ) → p < pages_most → is_marked self.new.pages p ≡ (is_marked self.old.pages p
+            || (nat_le (group_page config.now first) p && nat_lt p (groups_end_page config.now end))) }
+    {
+        let groups = first_group(config);
+        self.put_from(groups + first / OWNERS_A_PAGE, groups + pages_to(end));
+    }
 }
 
 // Whether a page is one of those from the first on, up to the end, without it.
@@ -130,7 +139,16 @@ fn first_output(config: &Config) -> usize
 
 // The first page of groups.
 fn first_group(config: &Config) -> usize
-    ensures { result ≡ first_group_page config.now }
+    ensures value { result ≡ first_group_page config.now }
+    ensures few { result < 2 ^ 17 }
 {
     first_output(config) + config.outputs as usize / OUTPUTS_A_PAGE
+}
+
+// How many pages the groups up to the end take.
+fn pages_to(end: usize) -> usize
+    ensures value { result ≡ (end + 511) / owners_a_page }
+    ensures few { result < 2 ^ 56 }
+{
+    end / OWNERS_A_PAGE + (end % OWNERS_A_PAGE + 511) / OWNERS_A_PAGE
 }

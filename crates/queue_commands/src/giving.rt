@@ -10,14 +10,14 @@ ghost use Rattle.ckpt_tables.specs.Shape.{HasSpelling};
 ghost use Rattle.ckpt_pages.specs.Sound.{AreSound};
 ghost use Rattle.queue_telling.specs.Orders.{HaveOrders};
 ghost use Rattle.queue_telling.specs.Telling.{TellSound};
-ghost use Rattle.queue_effect.specs.Standing.{AreFit, IfRefused, Plays};
+ghost use Rattle.queue_effect.specs.Standing.{AreEnds, AreFit, IfRefused, Plays};
 ghost use Rattle.page_marks.specs.Marks.{Touches};
 ghost use Rattle.queue_commands.specs.Given.{IsGiver, IsInRange, is_plain as is_plain_lem};
 
 use ckpt_tables::Tables;
 use mas_types::{Command, MemberId, NoMemory, OutSpec, Reply};
 use page_marks::Marks;
-use queue_effect::apply;
+use queue_effect::{Ends, apply};
 use queue_tables::law_of_told_queues;
 use std::alloc::Global;
 
@@ -28,17 +28,20 @@ use std::alloc::Global;
 /// without a fault stay so.
 ///
 /// The orders of jobs and outputs are below the next one, which is below 2^63 - 32, and what is busy is so at nobody or
-/// at one of at most eight members. What the command carries is within the limits.
+/// at one of at most eight members. What the command carries is within the limits. A display looks at no slot past the
+/// ends, where nothing stands.
 pub fn give(
     alloc: Global,
     tables: &mut Tables,
     marks: &mut Marks,
+    ends: Ends,
     by: MemberId,
     command: &Command,
 ) -> Result<Reply, NoMemory>
     requires spelling { HasSpelling tables.old }
     requires fit { AreFit tables.old }
     requires order { tables.old.order + 32 < 2 ^ 63 }
+    requires ends { AreEnds ends tables.old }
     requires giver { IsGiver by command.now }
     requires command { IsFit command.now }
     ensures plays { IfOk result (λ reply. Plays tables.old tables.new (λ Q. row_of Q by command.now) reply) }
@@ -59,7 +62,7 @@ pub fn give(
 {
     law_of_told_queues();
     read_numbers(command);
-    match apply(alloc, tables, marks, by, command) {
+    match apply(alloc, tables, marks, ends, by, command) {
         Ok(reply) => Ok(reply),
         Err(NoMemory) => Err(NoMemory),
     }

@@ -4,3 +4,4 @@
 mod giving;
 
 pub use giving::{give, is_plain};
+pub use queue_effect::Ends;

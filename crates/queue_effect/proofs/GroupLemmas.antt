@@ -14,7 +14,7 @@ use Rattle.mas_types.specs.declared.queues.Owner.TheVariants as owner
 use Rattle.mas_types.specs.Fit.{AreLines}
 use Rattle.mas_types.specs.Ids.{same_number}
 use Rattle.mas_types.specs.Limits.{page_bytes}
-use Rattle.mas_types.specs.Owners.{taken, freed, is_free, is_members, groups_after, groups_needed}
+use Rattle.mas_types.specs.Owners.{taken, freed, is_free, is_members, is_of_any, groups_after, groups_needed}
 use Rattle.mas_types.specs.Queue.{is_of, has_key}
 use Rattle.mas_types.specs.Commands.Life.{groups_of_outputs}
 use Rattle.track_groups.specs.Groups.{given}
@@ -24,6 +24,7 @@ use Rattle.queue_slots.specs.declared.slots.Found.{Found}
 use Rattle.queue_slots.proofs.Cases.{test_cases}
 use Rattle.queue_slots.proofs.Keys.{any-none, any-some}
 use Rattle.output_queue.specs.Outputs.{AreOutputs, HasOutput}
+use Rattle.queue_effect.specs.Spans.{is_jobs_print}
 
 pub length-taken : (m : MemberId) (want : ℕ) (gs : List Owner) → length (taken m want gs) ≡ length gs
 length-taken m want [] = refl
@@ -77,6 +78,14 @@ none_filtered n j i (o ∷ os) apart =
     test_cases (same_number o.job n) (list_any (has_key j i) (filter (is_of n) (o ∷ os)) ≡ false)
     (λ e. let off : same_number o.job j ≡ false = same_job o.job.0 n.0 j.0 e apart in rw (e, off) (none_filtered n j i os apart))
     (λ e. rw e (none_filtered n j i os apart))
+
+-- a group of one of the job's outputs is said to be of an output of the job
+pub print_of : (n : JobNo) (os : List Output) (g : Owner) → is_of_any (filter (is_of n) os) g ≡ true → is_jobs_print n g ≡ true
+print_of n os owner.Free is = absurd (cc)
+print_of n os (owner.Member m) is = absurd (cc)
+print_of n os (owner.Deck j place) is = absurd (cc)
+print_of n os (owner.Output j i place) is =
+    test_cases (same_number j n) (same_number j n ≡ true) (λ e. e) (λ apart. absurd (let none = none_filtered n j i os apart in cc))
 
 -- an output with the key is there where its slot is found
 pub key_found : (j : JobNo) (i : OutNo) (slots : List (Option OutRec)) (os : List Output) (r : Option (Found OutRec)) → AreOutputs slots os

@@ -8,6 +8,7 @@ pub mod Loops
 pub mod OrderLemmas
 pub mod Showing
 pub mod SlotLemmas
+pub mod SpanLemmas
 pub mod UnitLemmas
 pub mod PhaseLemmas
 pub mod Marking

@@ -1,7 +1,8 @@
 -- Marks over tables that are fit.
-use Rattle.std.proofs.Common.{◌≡◌, ℕ, ◌*◌, ◌<◌, ◌≤◌, ◌||◌, ◌&&◌, Bool, true, List, length, nat_le, nat_lt, Option, slice_set, refl, sym, arith}
+use Rattle.std.proofs.Common.{◌≡◌, ℕ, ◌*◌, ◌<◌, ◌≤◌, ◌||◌, ◌&&◌, Bool, true, List, ◌++◌, length, take, drop, nat_le, nat_lt, Option, slice_set, refl, sym, ◌∙◌, ap, arith}
 use Rattle.std.specs.List.{refill, length_refill}
 use Rattle.std.proofs.Math.ListN.{length-set}
+use Rattle.std.proofs.lemmas.List.{append-nil, drop_all, take_all}
 use Rattle.std.proofs.lemmas.Nat.{mul-le}
 use Rattle.mas_types.specs.declared.ids.JobNo.{JobNo}
 use Rattle.mas_types.specs.Fit.{IsConfig}
@@ -12,8 +13,10 @@ use Rattle.lay_bytes.specs.declared.records.JobRec.{JobRec}
 use Rattle.lay_bytes.specs.declared.records.OutRec.{OutRec}
 use Rattle.ckpt_tables.specs.declared.tables.Tables.{Tables}
 use Rattle.ckpt_tables.specs.Shape.{page_count, first_job_page, first_output_page, first_group_page}
-use Rattle.page_marks.specs.Marks.{is_marked, job_page, marked, output_page, Touches}
-use Rattle.page_marks.proofs.MarkLemmas.{touches_then, touch_header, touch_job, touch_jobs, touch_output, touch_outputs, touch_owners}
+use Rattle.page_marks.specs.Marks.{group_page, groups_end_page, is_marked, job_page, marked, output_page, Touches}
+use Rattle.page_marks.proofs.MarkLemmas.{touches_then, touch_header, touch_job, touch_jobs, touch_output, touch_outputs, touch_owners, touch_owners_between}
+use Rattle.queue_effect.specs.declared.spans.Span.{Span}
+use Rattle.queue_effect.specs.Spans.{StaysOutside}
 use Rattle.queue_effect.specs.Standing.{AreFit}
 
 -- one change after the other
@@ -24,6 +27,10 @@ few_pages : (c : Config) → IsConfig c → page_count c ≤ pages_most
 few_pages c is =
     let groups : c.volumes * c.groups ≤ volumes_most * groups_most = mul-le c.volumes c.groups volumes_most groups_most is.volumes.1 is.groups.1 in
     omega (arith, is.jobs.1, is.outputs.1, groups)
+
+refill_same : (xs ws : List Owner) → length ws ≡ length xs → refill (length xs) xs ws ≡ ws
+refill_same xs ws same =
+    ap (λ (l : List Owner). take (length xs) (ws ++ l)) (drop_all (length ws) xs (omega (arith, same))) ∙ ap (take (length xs)) (append-nil ws) ∙ take_all (length xs) ws (omega (arith, same))
 
 module _ (m n : List Bool) (many : length m ≡ pages_most) (t : Tables) (fit : AreFit t) where
   -- the owners are others, as many as there were
@@ -41,6 +48,15 @@ module _ (m n : List Bool) (many : length m ≡ pages_most) (t : Tables) (fit : 
 
   pub owners_refilled : (ws : List Owner) → ((p : ℕ) → p < pages_most → is_marked n p ≡ (is_marked m p || nat_le (first_group_page t.config) p)) → Touches m n t (record t { owners = refill (length t.owners) t.owners ws })
   owners_refilled ws are = owners_touched (refill (length t.owners) t.owners ws) (sym (length_refill (length t.owners) t.owners ws refl)) are
+
+  -- the owners in the span are others
+  pub owners_changed : (s : Span) (gs ws : List Owner) → gs ≡ t.owners → StaysOutside s gs ws → ((p : ℕ) → p < pages_most → is_marked n p ≡ (is_marked m p || (nat_le (group_page t.config s.first) p && nat_lt p (groups_end_page t.config s.end))))
+      → Touches m n t (record t { owners = refill (length t.owners) t.owners ws })
+  owners_changed s gs ws owners changed are =
+      let shape = fit.shape.owners in
+      let stays : StaysOutside s t.owners ws = rw owners at changed in
+      let same : refill (length t.owners) t.owners ws ≡ ws = refill_same t.owners ws stays.size in
+      touch_owners_between m n many t (few_pages t.config fit.shape.config) (refill (length t.owners) t.owners ws) s.first s.end are (omega (arith, stays.end, shape)) (ap (take s.first) same ∙ stays.low) (ap (drop s.end) same ∙ stays.high)
 
 -- one slot gets another item, and the header tells of it
 module _ (m : List Bool) (many : length m ≡ pages_most) (t : Tables) (fit : AreFit t) where

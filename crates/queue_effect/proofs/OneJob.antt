@@ -65,6 +65,10 @@ again n (r ∷ rs) =
 
 -- THE JOB
 
+-- slots with the same used ones tell of the same jobs
+pub are_front : (front slots : List (Option JobRec)) (items : List Job) → used front ≡ used slots → jobs.AreJobs slots items → jobs.AreJobs front items
+are_front front slots items same are = ap (λ (rs : List JobRec). map jobs.unordered (in_order jobs.order_of rs)) same ∙ are
+
 -- a job that was found tells what the queue's tells
 pub found_told : (n : JobNo) (items : List Job) (x : JobRec) (j : Job) → find (has_number n) items ≡ Some j → jobs.rec_of j ≡ jobs.unordered x → TellJob n (job_of x ∷ []) items
 found_told n items x j found is =

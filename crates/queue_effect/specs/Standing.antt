@@ -1,5 +1,5 @@
 -- What a command on tables comes to, and which tables may be given one.
-use Rattle.std.specs.Prelude.{◌≡◌, ◌≤◌, ◌<◌, ℕ, All}
+use Rattle.std.specs.Prelude.{◌≡◌, ◌≤◌, ◌<◌, ℕ, [], All, drop}
 use Rattle.mas_types.specs.declared.queues.Queue.{Queue}
 use Rattle.mas_types.specs.declared.commands.Reply.{Reply}
 use Rattle.mas_types.specs.declared.commands.Reply.TheVariants as reply
@@ -11,6 +11,7 @@ use Rattle.ckpt_tables.specs.declared.tables.Tables.{Tables}
 use Rattle.lay_bytes.specs.Used.{used}
 use Rattle.ckpt_tables.specs.Shape.{HasShape}
 use Rattle.queue_telling.specs.Telling.{Tell}
+use Rattle.queue_effect.specs.declared.ends.Ends.{Ends}
 
 -- the tables tell what the row leaves of the queue, and the reply is the row's
 pub record Leaves (t : Tables) (Q : Queue) (row : Row) (r : Reply) : Type 0 where
@@ -41,3 +42,8 @@ pub record AreFit (t : Tables) : Type 0 where
   pub shape : HasShape t
   pub jobs : All (IsFitJob t.order) (used t.jobs)
   pub outputs : All (IsFitOutput t.order) (used t.outputs)
+
+-- no job stands in the slots from the one end on, and no output in those from the other
+pub record AreEnds (ends : Ends) (t : Tables) : Type 0 where
+  pub jobs : used (drop ends.jobs t.jobs) ≡ []
+  pub outputs : used (drop ends.outputs t.outputs) ≡ []

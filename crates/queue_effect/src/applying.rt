@@ -4,11 +4,12 @@ ghost use Rattle.mas_types.specs.Fit.{IsFit};
 ghost use Rattle.mas_types.specs.Limits.{members_most};
 ghost use Rattle.mas_types.specs.Step.{row_of};
 ghost use Rattle.queue_telling.specs.Orders.{HaveOrders};
-ghost use Rattle.queue_effect.specs.Standing.{Plays, IfRefused, AreFit};
+ghost use Rattle.queue_effect.specs.Standing.{Plays, IfRefused, AreEnds, AreFit};
 ghost use Rattle.page_marks.specs.Marks.{Touches};
 
 use crate::displays::display;
 use crate::ending::end_job;
+use crate::ends::Ends;
 use crate::input::{begin, drop_job, enter, take};
 use crate::life::{converted, gather, purge, take_convert, take_exec};
 use crate::members::{Setup, reset, restart, set_init, set_prt};
@@ -26,16 +27,18 @@ use std::alloc::Global;
 ///
 /// The tables have their shape, their orders are below the next one, which is below 2^63 - 32, and what is busy is so
 /// at nobody or at one of at most eight members, as is the member itself. What the command carries is within the
-/// limits.
+/// limits. A display looks at no slot past the ends, where nothing stands.
 pub fn apply(
     alloc: Global,
     tables: &mut Tables,
     marks: &mut Marks,
+    ends: Ends,
     by: MemberId,
     command: &Command,
 ) -> Result<Reply, NoMemory>
     requires fit { AreFit tables.old }
     requires order { tables.old.order + 32 < 2 ^ 63 }
+    requires ends { AreEnds ends tables.old }
     requires member { by.0 ≤ members_most }
     requires command { IsFit command.now }
     ensures plays { IfOk result (λ reply. Plays tables.old tables.new (λ Q. row_of Q by command.now) reply) }
@@ -70,7 +73,7 @@ pub fn apply(
         Command::SetOut { job, index, class } => Ok(set_out(
             tables, marks, by, *job, *index, *class,
         )),
-        Command::Show { what } => display(alloc, tables, *what),
+        Command::Show { what } => display(alloc, tables, ends, *what),
         Command::SetInit { classes } => set_init(alloc, tables, marks, by, classes),
         Command::SetPrt {
             classes,

@@ -1,5 +1,5 @@
 //! Show: what a display of the queue says.
-ghost use Rattle.std.specs.Prelude.{◌≡◌, ◌≤◌, ◌++◌, ◌∷◌, [], All, filter, map, IfOk, OnOk};
+ghost use Rattle.std.specs.Prelude.{◌≡◌, ◌≤◌, ◌++◌, ◌∷◌, [], All, drop, filter, map, IfOk, OnOk};
 ghost use Rattle.mas_types.specs.declared.queues.Queue.{Queue};
 ghost use Rattle.mas_types.specs.Ids.{same_number};
 ghost use Rattle.mas_types.specs.Limits.{members_most};
@@ -11,12 +11,13 @@ ghost use Rattle.job_queue.specs.Jobs.{order_of as job_order};
 ghost use Rattle.output_queue.specs.Outputs.{order_of as output_order};
 ghost use Rattle.cmd_report.specs.Named.{IsNamed};
 ghost use Rattle.queue_telling.specs.Telling.{Tell};
-ghost use Rattle.queue_effect.specs.Standing.{Plays, AreFit};
+ghost use Rattle.queue_effect.specs.Standing.{Plays, AreEnds, AreFit};
 ghost use Rattle.queue_effect.specs.Gone.{job_of as job_of_lem, output_of as output_of_lem, SaysAs, TellJob};
 
-use crate::lookups::job_at;
+use crate::ends::Ends;
 use ckpt_tables::Tables;
 use cmd_report::show;
+use job_queue::find_job;
 use lay_bytes::{JobRec, OutRec};
 use mas_types::{
     Copied, GroupNo, Job, JobNo, List, NoMemory, Output, Owner, Queue, Reply, Setting, Text, What,
@@ -175,13 +176,23 @@ fn outputs_of_job(
     outputs_in_order(alloc, records)
 }
 
+// The slots before the end, from which on nothing stands.
+fn slots_to<T>(slots: &[Option<T>], end: usize) -> &[Option<T>]
+    requires { used (drop end slots.now) ≡ [] }
+    ensures { used result.now ≡ used slots.now }
+{
+    &slots[..end.min(slots.len())]
+}
+
 /// The job with a number, its text told by its number of lines; none where it isn't there.
-fn job_alone(alloc: Global, tables: &Tables, job: JobNo) -> Result<List<Job>, NoMemory>
-    requires { AreFit tables.now }
+fn job_alone(alloc: Global, tables: &Tables, ends: Ends, job: JobNo) -> Result<List<Job>, NoMemory>
+    requires fit { AreFit tables.now }
+    requires ends { AreEnds ends tables.now }
     ensures named { IfOk result (λ jobs. All (λ j. j.busy.0 ≤ members_most) jobs) }
     ensures same { IfOk result (λ jobs. (Q : Queue) → Tell tables.now Q → TellJob job jobs Q.jobs) }
 {
-    let Some(found) = job_at(tables, job) else {
+    let slots = slots_to(tables.jobs.as_slice(), ends.jobs);
+    let Some(found) = find_job(slots, job) else {
         return Ok(List::new(alloc));
     };
     let mut jobs = List::new(alloc);
@@ -240,35 +251,41 @@ fn groups_part(alloc: Global, tables: &Tables, owners: List<Owner>, members: Lis
 }
 
 /// What a display of the jobs shows.
-fn queue_part(alloc: Global, tables: &Tables) -> Result<Queue, NoMemory>
-    requires { AreFit tables.now }
+fn queue_part(alloc: Global, tables: &Tables, ends: Ends) -> Result<Queue, NoMemory>
+    requires fit { AreFit tables.now }
+    requires ends { AreEnds ends tables.now }
     ensures named { IfOk result IsNamed }
     ensures same { IfOk result (λ part. (Q : Queue) → Tell tables.now Q → SaysAs What.Queue part Q) }
 {
-    let jobs = listed_jobs(alloc, tables.jobs.as_slice())?;
+    let slots = slots_to(tables.jobs.as_slice(), ends.jobs);
+    let jobs = listed_jobs(alloc, slots)?;
     let none = List::new(alloc);
     Ok(jobs_part(alloc, tables, jobs, none))
 }
 
 /// What a display of a job shows.
-fn job_part(alloc: Global, tables: &Tables, job: JobNo) -> Result<Queue, NoMemory>
-    requires { AreFit tables.now }
+fn job_part(alloc: Global, tables: &Tables, ends: Ends, job: JobNo) -> Result<Queue, NoMemory>
+    requires fit { AreFit tables.now }
+    requires ends { AreEnds ends tables.now }
     ensures named { IfOk result IsNamed }
     ensures same { IfOk result (λ part. (Q : Queue) → Tell tables.now Q → SaysAs (What.Job job) part Q) }
 {
-    let jobs = job_alone(alloc, tables, job)?;
-    let outputs = outputs_of_job(alloc, tables.outputs.as_slice(), job)?;
+    let jobs = job_alone(alloc, tables, ends, job)?;
+    let slots = slots_to(tables.outputs.as_slice(), ends.outputs);
+    let outputs = outputs_of_job(alloc, slots, job)?;
     Ok(jobs_part(alloc, tables, jobs, outputs))
 }
 
 /// What a display of the outputs shows.
-fn outputs_part(alloc: Global, tables: &Tables) -> Result<Queue, NoMemory>
-    requires { AreFit tables.now }
+fn outputs_part(alloc: Global, tables: &Tables, ends: Ends) -> Result<Queue, NoMemory>
+    requires fit { AreFit tables.now }
+    requires ends { AreEnds ends tables.now }
     ensures named { IfOk result IsNamed }
     ensures same { IfOk result (λ part. (Q : Queue) → Tell tables.now Q → SaysAs What.Outputs part Q) }
 {
     let none = List::new(alloc);
-    let outputs = listed_outputs(alloc, tables.outputs.as_slice())?;
+    let slots = slots_to(tables.outputs.as_slice(), ends.outputs);
+    let outputs = listed_outputs(alloc, slots)?;
     Ok(jobs_part(alloc, tables, none, outputs))
 }
 
@@ -295,27 +312,29 @@ fn members_part(alloc: Global, tables: &Tables) -> Result<Queue, NoMemory>
 }
 
 /// As much of the queue as the display shows.
-fn shown_part(alloc: Global, tables: &Tables, what: What) -> Result<Queue, NoMemory>
-    requires { AreFit tables.now }
+fn shown_part(alloc: Global, tables: &Tables, ends: Ends, what: What) -> Result<Queue, NoMemory>
+    requires fit { AreFit tables.now }
+    requires ends { AreEnds ends tables.now }
     ensures named { IfOk result IsNamed }
     ensures same { IfOk result (λ part. (Q : Queue) → Tell tables.now Q → SaysAs what part Q) }
 {
     match what {
-        What::Queue => queue_part(alloc, tables),
-        What::Job(job) => job_part(alloc, tables, job),
-        What::Outputs => outputs_part(alloc, tables),
+        What::Queue => queue_part(alloc, tables, ends),
+        What::Job(job) => job_part(alloc, tables, ends, job),
+        What::Outputs => outputs_part(alloc, tables, ends),
         What::Spool => spool_part(alloc, tables),
         What::Members => members_part(alloc, tables),
     }
 }
 
-/// Show: the lines of a display, or NoJob where it is of a job that isn't there. NoMemory comes only when out of
-/// memory.
-pub fn display(alloc: Global, tables: &Tables, what: What) -> Result<Reply, NoMemory>
-    requires { AreFit tables.now }
+/// Show: the lines of a display, or NoJob where it is of a job that isn't there. Slots past the ends are not looked at.
+/// NoMemory comes only when out of memory.
+pub fn display(alloc: Global, tables: &Tables, ends: Ends, what: What) -> Result<Reply, NoMemory>
+    requires fit { AreFit tables.now }
+    requires ends { AreEnds ends tables.now }
     ensures { IfOk result (λ reply. Plays tables.now tables.now (λ Q. show_row Q what) reply) }
 {
-    let part = shown_part(alloc, tables, what)?;
+    let part = shown_part(alloc, tables, ends, what)?;
     let reply = show(alloc, &part, what)?;
     Ok(reply)
 }

@@ -6,15 +6,20 @@ ghost use Rattle.mas_types.specs.Queue.{is_of};
 ghost use Rattle.track_groups.specs.Groups.{is_things, first_places, given};
 ghost use Rattle.output_queue.specs.Outputs.{AreOutputs};
 ghost use Rattle.queue_telling.specs.Orders.{HaveOrders};
+ghost use Rattle.queue_effect.specs.Spans.{HoldsAll, StaysOutside, is_jobs_print};
 ghost use Rattle.queue_effect.specs.Standing.{AreFit};
 ghost use Rattle.page_marks.specs.Marks.{Touches};
 
+use crate::spans::{
+    FreeGroups, MembersGroups, PrintsGroups, Span, ThingsGroups, free_members_in, free_things_in,
+    give_in, span_of, span_of_all, take_in,
+};
 use ckpt_tables::Tables;
 use lay_bytes::OutRec;
 use mas_types::{JobNo, MemberId, Owner, Thing};
 use output_queue::find_output;
 use page_marks::Marks;
-use track_groups::{SpoolFull, free_member, free_thing, give_to, law_of_giving, take};
+use track_groups::{SpoolFull, law_of_giving};
 
 /// The groups of a deck or an output become free.
 pub fn free_groups(tables: &mut Tables, marks: &mut Marks, thing: Thing)
@@ -23,8 +28,9 @@ pub fn free_groups(tables: &mut Tables, marks: &mut Marks, thing: Thing)
     ensures orders { HaveOrders tables.old → HaveOrders tables.new }
     ensures touches { AreFit tables.old → Touches marks.old.pages marks.new.pages tables.old tables.new }
 {
-    marks.put_groups(&tables.config);
-    free_thing(tables.owners.as_mut_slice(), thing);
+    let span = span_of_all(tables.owners.as_slice(), &ThingsGroups(thing));
+    marks.put_groups_between(&tables.config, span.first, span.end);
+    free_things_in(tables.owners.as_mut_slice(), span, thing);
 }
 
 /// The groups of a member become free.
@@ -34,8 +40,9 @@ pub fn free_members(tables: &mut Tables, marks: &mut Marks, by: MemberId)
     ensures orders { HaveOrders tables.old → HaveOrders tables.new }
     ensures touches { AreFit tables.old → Touches marks.old.pages marks.new.pages tables.old tables.new }
 {
-    marks.put_groups(&tables.config);
-    free_member(tables.owners.as_mut_slice(), by);
+    let span = span_of_all(tables.owners.as_slice(), &MembersGroups(by));
+    marks.put_groups_between(&tables.config, span.first, span.end);
+    free_members_in(tables.owners.as_mut_slice(), span, by);
 }
 
 /// The lowest free groups become the member's. `SpoolFull` where none is free; nothing is changed then.
@@ -54,8 +61,9 @@ pub fn take_groups(
     ensures orders { HaveOrders tables.old → HaveOrders tables.new }
     ensures touches { AreFit tables.old → Touches marks.old.pages marks.new.pages tables.old tables.new }
 {
-    marks.put_groups(&tables.config);
-    take(tables.owners.as_mut_slice(), by, want)
+    let span = span_of(tables.owners.as_slice(), &FreeGroups, want as usize);
+    marks.put_groups_between(&tables.config, span.first, span.end);
+    take_in(tables.owners.as_mut_slice(), span, by, want)
 }
 
 /// A text gets the lowest groups of the member, which has so many.
@@ -68,8 +76,9 @@ pub fn give_groups(tables: &mut Tables, marks: &mut Marks, by: MemberId, thing: 
     ensures orders { HaveOrders tables.old → HaveOrders tables.new }
     ensures touches { AreFit tables.old → Touches marks.old.pages marks.new.pages tables.old tables.new }
 {
-    marks.put_groups(&tables.config);
-    give_to(tables.owners.as_mut_slice(), by, thing, count);
+    let span = span_of(tables.owners.as_slice(), &MembersGroups(by), count as usize);
+    marks.put_groups_between(&tables.config, span.first, span.end);
+    give_in(tables.owners.as_mut_slice(), span, by, thing, count);
 }
 
 /// A text gets the lowest groups of the member, which has so many, and the member's others become free.
@@ -114,6 +123,15 @@ fn free_owners(owners: &mut [Owner], outputs: &[Option<OutRec>], job: JobNo)
     }
 }
 
+fn free_prints_in(owners: &mut [Owner], span: Span, outputs: &[Option<OutRec>], job: JobNo)
+    requires { HoldsAll (is_jobs_print job) span owners.old }
+    ensures value { (os : List Output) → AreOutputs outputs.now os
+        → owners.new ≡ freed (is_of_any (filter (is_of job) os)) owners.old }
+    ensures rest { StaysOutside span owners.old owners.new }
+{
+    free_owners(&mut owners[span.first..span.end], outputs, job);
+}
+
 /// The groups of the outputs of a job become free.
 pub fn free_prints(tables: &mut Tables, marks: &mut Marks, job: JobNo)
     ensures value { (os : List Output) → AreOutputs tables.old.outputs os
@@ -124,6 +142,12 @@ pub fn free_prints(tables: &mut Tables, marks: &mut Marks, job: JobNo)
     ensures order { tables.new.order ≡ tables.old.order }
     ensures touches { AreFit tables.old → Touches marks.old.pages marks.new.pages tables.old tables.new }
 {
-    marks.put_groups(&tables.config);
-    free_owners(tables.owners.as_mut_slice(), tables.outputs.as_slice(), job);
+    let span = span_of_all(tables.owners.as_slice(), &PrintsGroups(job));
+    marks.put_groups_between(&tables.config, span.first, span.end);
+    free_prints_in(
+        tables.owners.as_mut_slice(),
+        span,
+        tables.outputs.as_slice(),
+        job,
+    );
 }

@@ -4,6 +4,7 @@
 mod applying;
 mod displays;
 mod ending;
+mod ends;
 mod groups;
 mod input;
 mod laws;
@@ -12,12 +13,14 @@ mod lookups;
 mod members;
 mod operator;
 mod printing;
+mod spans;
 mod units;
 mod wire;
 mod working;
 
 pub use applying::apply;
 pub use displays::display;
+pub use ends::Ends;
 pub use laws::law_of_fit_tables;
 pub use lookups::setting;
 pub use mas_types::Unit;

@@ -7,9 +7,9 @@ use Rattle.queue_effect.proofs.displays.outputs_part.Goals as goal
 
 pub returns-clause-named : goal.returns-clause-named
 returns-clause-named c =
-    rw (c.jobs_part.ensures, c.new-none.ensures, c.in_ok-outputs.ensures, c.as_slice.ensures)
-    record { jobs = All-nil (λ (j : Job). j.busy.0 ≤ members_most); outputs = outputs_named c.args.tables.now c.requires; members = omega arith }
+    rw (c.jobs_part.ensures, c.new-none.ensures, c.in_ok-outputs.ensures, c.slots_to-slots.ensures, c.as_slice.ensures)
+    record { jobs = All-nil (λ (j : Job). j.busy.0 ≤ members_most); outputs = outputs_named c.args.tables.now c.requires.fit; members = omega arith }
 
 pub returns-clause-same : goal.returns-clause-same
 returns-clause-same c = λ Q stands.
-    rw (c.jobs_part.ensures, c.in_ok-outputs.ensures, c.as_slice.ensures) (says_outputs c.args.tables.now c.requires Q stands)
+    rw (c.jobs_part.ensures, c.in_ok-outputs.ensures, c.slots_to-slots.ensures, c.as_slice.ensures) (says_outputs c.args.tables.now c.requires.fit Q stands)
