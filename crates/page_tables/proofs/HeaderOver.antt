@@ -10,14 +10,16 @@ use Rattle.mas_types.specs.declared.queues.Config.{Config}
 use Rattle.mas_types.specs.Fit.{IsConfig}
 use Rattle.lay_bytes.specs.Fields.{piece, first_bad, pieces}
 use Rattle.lay_bytes.proofs.Pieces.{both_from, both_true}
+use Rattle.ckpt_tables.specs.declared.tables.Tables.{Tables}
 use Rattle.ckpt_tables.specs.Shape.{page_count}
 use Rattle.ckpt_tables.specs.Pages.{filled_to, page_in}
 use Rattle.ckpt_pages.specs.Fields.{header_fields, header_in}
-use Rattle.ckpt_pages.specs.Headers.{IsHeader, config_of, header_bytes, is_whole}
+use Rattle.ckpt_pages.specs.Checkpoints.{IsCheckpoint}
+use Rattle.ckpt_pages.specs.Headers.{IsHeader, config_of, header_bytes, header_with, is_whole}
 use Rattle.ckpt_pages.specs.Testing.{NoLevels, SomeLevels}
-use Rattle.ckpt_pages.proofs.HeaderLemmas.{ages_all, not_checked, numbers_take, split_front}
+use Rattle.ckpt_pages.proofs.HeaderLemmas.{ages_all, ages_of, cut_of, join_front, not_checked, numbers_of, numbers_said, numbers_take, split_front}
 use Rattle.ckpt_pages.proofs.TestingLemmas.{header_there}
-use Rattle.page_tables.specs.Bringing.{HasHeader, IsHead, head_pieces}
+use Rattle.page_tables.specs.Bringing.{HasHeader, IsHead, head_pieces, said_config}
 
 -- jobs and outputs fill whole pages, as those of the configuration do
 whole_by : (ps : List (List ℕ)) (c : Config) → IsConfig c → config_of (header_in ps) c.node ≡ c → is_whole (header_in ps) ≡ true
@@ -75,3 +77,18 @@ bad_levels c pages bytes head rest here front back len none has =
       },
       is.ages.ages,
     )
+
+-- page 0 of pages that spell tables is a header of the configuration that it says
+pub header_of_spelled : (c : Config) (pages : List Page) (t : Tables) (is : IsCheckpoint pages t) → length pages ≡ page_count c → said_config c.node (page_in pages 0) ≡ c → HasHeader c pages
+header_of_spelled c pages t is count said =
+    let numbers = numbers_of t is.level is.levels is.fit is.ages in
+    let cut = cut_of t is.level is.levels (page_in pages 0) is.ages (is.spell.each 0 (omega (arith, count))) in
+    let again : header_in (head_pieces pages) ≡ header_with t is.level = ap (λ (head : List ℕ). header_in (pieces 0 header_fields head)) cut.head ∙ numbers_said (header_with t is.level) numbers in
+    let header : IsHeader (header_with t is.level) pages = record {
+      numbers = numbers;
+      count = is.spell.count;
+      levels = is.levels;
+      ages = record { len = is.ages.count ∙ sym is.spell.count; ages = ages_of t is.level is.levels is.ages };
+      page = join_front (page_in pages 0) (header_bytes (header_with t is.level)) (map (to_be_bytes w64) is.levels) 1024 4096 refl cut.head cut.rest;
+    } in
+    record { is = subst (λ h. IsHeader h pages) (sym again) header; config = said }

@@ -2,6 +2,7 @@
 use Rattle.std.specs.Prelude.{◌≡◌, ◌≢◌, ◌⊎◌, ℕ, ◌+◌, ◌-◌, ◌*◌, ◌≤◌, ◌<◌, min, Bool, true, false, List, ◌++◌, ◌&&◌, length, take, drop, All}
 use Rattle.std.specs.List.{list_all}
 use Rattle.std.specs.Int.{w32, w64, from_be_bytes}
+use Rattle.mas_types.specs.declared.ids.Name8.{Name8}
 use Rattle.mas_types.specs.declared.ids.Page.{Page}
 use Rattle.mas_types.specs.declared.queues.Config.{Config}
 use Rattle.lay_bytes.specs.Fields.{piece, pieces}
@@ -25,6 +26,10 @@ head_pieces pages = pieces 0 header_fields (take 1024 (page_in pages 0))
 -- the order that page 0 says
 abbrev pub order_in : List ℕ → ℕ
 order_in page0 = from_be_bytes w64 (piece 40 8 (take 1024 page0))
+
+-- the configuration that page 0 says, with this name of the node
+abbrev pub said_config : Name8 → List ℕ → Config
+said_config node page0 = config_of (header_in (pieces 0 header_fields (take 1024 page0))) node
 
 -- the bytes before the levels have their fields, and say this configuration, except for the name of the node
 pub record IsHead (c : Config) (head : List ℕ) : Type 0 where
@@ -72,6 +77,11 @@ pub record IsReadable (c : Config) (order : ℕ) (page : List ℕ) (p : ℕ) : T
 -- so is each page with a mark
 abbrev pub AreReadable : Config → ℕ → List Page → List Bool → Type 0
 AreReadable c order pages marks = (p : ℕ) → IsNewer marks pages p → IsReadable c order (page_in pages p) p
+
+-- page 0 gives no lower order than that of the tables, and each other page with a mark can be read
+pub record IsLater (t : Tables) (pages : List Page) (marks : List Bool) : Type 0 where
+  pub order : t.order ≤ order_in (page_in pages 0)
+  pub each : AreReadable t.config (order_in (page_in pages 0)) pages marks
 
 -- Tables can be brought up to pages in their place: page 0 has their configuration and no lower order, and each other
 -- page with a mark can be read, with orders below the next one.

@@ -5,9 +5,9 @@ ghost use Rattle.ckpt_tables.specs.Shape.{page_count as page_count_lem, first_gr
 ghost use Rattle.ckpt_tables.specs.Pages.{page_in};
 ghost use Rattle.ckpt_pages.specs.Checkpoints.{IsCheckpoint, SpellSome};
 ghost use Rattle.ckpt_tables.specs.declared.tables.Tables.{Tables as TablesLem};
-ghost use Rattle.page_tables.specs.Bringing.{AreOlder, AreReadable, CanBringUp, IsReadable, IsUpBefore, Takes, are_orders_low, groups_on as groups_on_lem, order_in, with_header};
+ghost use Rattle.page_tables.specs.Bringing.{AreOlder, AreReadable, CanBringUp, IsLater, IsReadable, IsUpBefore, Takes, are_orders_low, groups_on as groups_on_lem, order_in, with_header};
 
-use crate::header::{has_header, head_of, order_of};
+use crate::header::{has_header, head_of, is_said, order_of};
 use crate::slots::{are_slots, take_part};
 use ckpt_tables::{
     FIRST_JOB_PAGE, JOBS_A_PAGE, OUTPUTS_A_PAGE, OWNERS_A_PAGE, Tables, bytes_in, first_group_page,
@@ -79,6 +79,19 @@ fn are_readable(config: &Config, pages: &[Page], marks: &Marks) -> bool
     true
 }
 
+// Whether page 0 gives no lower order than that of the tables, and each other page with a mark can be read.
+fn is_later(tables: &Tables, pages: &[Page], marks: &Marks) -> bool
+    requires config { IsConfig tables.now.config }
+    requires count { length pages.now ≡ page_count_lem tables.now.config }
+    ensures good { result ≡ true → IsLater tables.now pages.now marks.now.pages }
+    ensures bad { result ≡ false → IsLater tables.now pages.now marks.now.pages → ⊥ }
+{
+    if order_of(&pages[0]) < tables.order {
+        return false;
+    }
+    are_readable(&tables.config, pages, marks)
+}
+
 /// Whether tables can be brought up to pages in their place: page 0 has their configuration and gives no lower order,
 /// and each other page with a mark is one of slots or groups that can be read, with no order that isn't below the next
 /// one. The pages then spell tables, as those without a mark are the given tables'.
@@ -95,11 +108,24 @@ pub fn can_bring_up(tables: &Tables, pages: &[Page], marks: &Marks) -> bool
     if !has_header(&tables.config, pages) {
         return false;
     }
-    if order_of(&pages[0]) < tables.order {
+    law_of_page_sizes(pages);
+    is_later(tables, pages, marks)
+}
+
+/// The same of pages that are known to spell tables: the fields and the levels of their page 0 aren't tested again.
+pub fn can_bring_up_spelled(tables: &Tables, pages: &[Page], marks: &Marks) -> bool
+    requires spelling { HasSpelling tables.now }
+    requires spelled { SpellSome pages.now }
+    ensures good { result ≡ true → CanBringUp tables.now pages.now marks.now.pages }
+    ensures bad { result ≡ false → CanBringUp tables.now pages.now marks.now.pages → ⊥ }
+{
+    if pages.len() != page_count(&tables.config) as usize {
         return false;
     }
-    law_of_page_sizes(pages);
-    are_readable(&tables.config, pages, marks)
+    if !is_said(&tables.config, &pages[0]) {
+        return false;
+    }
+    is_later(tables, pages, marks)
 }
 
 // Writes what a page of slots or groups says.

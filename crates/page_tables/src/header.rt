@@ -1,13 +1,14 @@
 //! The header of page 0, for tables of a known configuration.
-ghost use Rattle.std.specs.Prelude.{◌≡◌, ◌+◌, ◌*◌, ◌≤◌, length, take, drop, true, false};
+ghost use Rattle.std.specs.Prelude.{◌≡◌, ◌+◌, ◌*◌, ◌≤◌, ◌<◌, length, take, drop, true, false, nat_lt};
+ghost use Rattle.std.specs.Int.{w64, from_be_bytes};
 ghost use Rattle.mas_types.specs.Fit.{IsConfig};
 ghost use Rattle.mas_types.specs.Limits.{page_bytes};
-ghost use Rattle.lay_bytes.specs.Fields.{pieces};
-ghost use Rattle.ckpt_tables.specs.Shape.{page_count as page_count_lem};
+ghost use Rattle.lay_bytes.specs.Fields.{piece, pieces};
+ghost use Rattle.ckpt_tables.specs.Shape.{level_in, page_count as page_count_lem};
 ghost use Rattle.ckpt_pages.specs.Fields.{header_fields, header_in};
 ghost use Rattle.ckpt_pages.specs.Headers.{config_of};
 ghost use Rattle.ckpt_pages.specs.Testing.{SomeLevels, NoLevels};
-ghost use Rattle.page_tables.specs.Bringing.{HasHeader, IsHead, order_in};
+ghost use Rattle.page_tables.specs.Bringing.{HasHeader, IsHead, order_in, said_config};
 
 use ckpt_tables::bytes_in;
 use lay_bytes::{Field, check_fields, is_zero, read_u16, read_u64};
@@ -54,6 +55,36 @@ pub fn order_of(page0: &Page) -> u64
     read_u64(head_of(page0), 40)
 }
 
+// The number of eight bytes at an offset, which are copied at once.
+fn long_at(bytes: &[u8], at: usize) -> u64
+    requires { at + 8 ≤ length bytes.now }
+    ensures { result ≡ from_be_bytes w64 (piece at 8 bytes.now) }
+{
+    let mut long = [0; 8];
+    long.copy_from_slice(&bytes[at..at + 8]);
+    u64::from_be_bytes(long)
+}
+
+/// The level of a page, as page 0 gives it, read with one test of its place.
+pub fn level_at(page0: &Page, page: u16) -> Level
+    requires { page < 384 }
+    ensures { result ≡ level_in page0.now.0 page }
+{
+    if page == 0 {
+        long_at(bytes_in(page0), 8)
+    } else {
+        long_at(bytes_in(page0), 1024 + 8 * page as usize)
+    }
+}
+
+/// Whether a page is newer than pages of this level, as page 0 gives it.
+pub fn is_newer(page0: &Page, page: u16, level: Level) -> bool
+    requires { page < 384 }
+    ensures { result ≡ nat_lt level (level_in page0.now.0 page) }
+{
+    level_at(page0, page) > level
+}
+
 // The configuration that a header says, with this name of the node, which stands on page 2.
 fn config_in(head: &[u8], node: Name8) -> Config
     requires { length head.now ≡ 1024 }
@@ -82,7 +113,7 @@ fn are_levels(level: Level, bytes: &[u8], count: usize) -> bool
         return false;
     }
     for page in 0..count {
-        let age = read_u64(bytes, 8 * page);
+        let age = long_at(bytes, 8 * page);
         if age < 1 || level < age {
             return false;
         }
@@ -96,6 +127,15 @@ fn is_same(one: &Config, other: &Config) -> bool
     ensures apart { result ≡ false → one.now ≡ other.now → ⊥ }
 {
     *one == *other
+}
+
+// Whether page 0 says this configuration, except for the name of the node.
+pub(crate) fn is_said(config: &Config, page0: &Page) -> bool
+    ensures same { result ≡ true → said_config config.now.node page0.now.0 ≡ config.now }
+    ensures other { result ≡ false → said_config config.now.node page0.now.0 ≡ config.now → ⊥ }
+{
+    let said = config_in(head_of(page0), config.node);
+    is_same(&said, config)
 }
 
 // Whether a header has its fields, and says this configuration, except for the name of the node.

@@ -7,5 +7,5 @@ mod header;
 mod kinds;
 mod slots;
 
-pub use bringing::{bring_up, can_bring_up};
-pub use header::order_of;
+pub use bringing::{bring_up, can_bring_up, can_bring_up_spelled};
+pub use header::{is_newer, level_at, order_of};

@@ -4,11 +4,11 @@ use Rattle.page_tables.proofs.header.are_levels.Goals as goal
 
 pub returns-then-age-lt1-clause-bad : goal.returns-then-age-lt1-clause-bad
 returns-then-age-lt1-clause-bad c h =
-    level_outside c.args.level c.args.count c.loop-page.page c.read_u64-age.result c.args.bytes.now c.loop-page-test.true c.read_u64-age.ensures (λ some most. omega (arith, some, most))
+    level_outside c.args.level c.args.count c.loop-page.page c.long_at-age.result c.args.bytes.now c.loop-page-test.true c.long_at-age.ensures (λ some most. omega (arith, some, most))
 
 pub loop-page-preserved : goal.loop-page-preserved
 loop-page-preserved c =
-    one_level_more c.args.level c.loop-page.page c.args.count c.read_u64-age.result c.args.bytes.now c.loop-page.invariant c.loop-page-test.true c.requires.room (λ i. omega (arith, c.type_inv.bytes i)) c.read_u64-age.type_inv c.read_u64-age.ensures
+    one_level_more c.args.level c.loop-page.page c.args.count c.long_at-age.result c.args.bytes.now c.loop-page.invariant c.loop-page-test.true c.requires.room (λ i. omega (arith, c.type_inv.bytes i)) c.long_at-age.type_inv c.long_at-age.ensures
     (omega arith) (omega arith)
 
 pub returns-clause-good : goal.returns-clause-good
