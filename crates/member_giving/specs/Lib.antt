@@ -1,3 +1,5 @@
 pub mod Works
 pub mod Plays
 pub mod Nexts
+pub use Rattle.member_asides.specs.Asides
+pub use Rattle.member_asides.specs.Ready

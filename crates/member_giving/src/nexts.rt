@@ -15,7 +15,7 @@ use mas_types::{Command, JobNo, OutNo, Unit};
 use member_node::Member;
 use member_work::{chunk_end, command_of};
 use output_queue::find_output;
-use queue_effect::unit;
+use queue_indexed::find_unit;
 use queue_texts::law_of_texts;
 use step_turns::{Aside, Progress};
 
@@ -85,7 +85,7 @@ pub fn next_unit(member: &Member, progress: Progress) -> Next
         done: progress.done,
         left: progress.left - 1,
     };
-    let next = unit(&member.checkpoint.tables, member.id);
+    let next = find_unit(&member.checkpoint.tables, &member.kept, member.id);
     if let Some(command) = command_of(next) {
         return Next::Give(command);
     }

@@ -1,10 +1,14 @@
 -- Pages that are alike to a member's own.
-use Rattle.std.proofs.Common.{◌≡◌, ℕ, ◌≤◌, Bool, List, length, sym, subst, arith}
+use Rattle.std.proofs.Common.{◌≡◌, ◌∙◌, ℕ, ◌≤◌, ◌<◌, Bool, List, length, sym, subst, arith}
 use Rattle.mas_types.specs.declared.ids.Page.{Page}
 use Rattle.mas_types.specs.Limits.{pages_most}
 use Rattle.ckpt_tables.specs.declared.tables.Tables.{Tables}
 use Rattle.ckpt_pages.specs.Checkpoints.{IsCheckpoint, SpellSome}
 use Rattle.member_node.specs.declared.checkpoint.Checkpoint.{Checkpoint}
+use Rattle.job_select.specs.declared.index.Index.{Index}
+use Rattle.job_select.specs.Behind.{IsBehind}
+use Rattle.job_select.specs.Indexes.{IsOf}
+use Rattle.job_select.proofs.BehindLemmas.{behind_alike}
 use Rattle.page_tables.specs.Bringing.{AreOlder}
 use Rattle.page_tables.proofs.TakeLemmas.{older_than}
 use Rattle.member_node.specs.Drawn.{AreDrawn}
@@ -30,3 +34,10 @@ up_already room k d same may = record { has = sym same; drawn = d; may = may }
 pub own_older : (k : Checkpoint) (room : List Page) (marks : List Bool) → AreDrawn k.tables k.level k.levels k.pages → length room ≡ length k.pages → length room ≤ pages_most → IsMirrorBut marks room k.pages → AreOlder k.tables room marks
 own_older k room marks drawn many few mirror =
     older_than k.tables k.levels k.pages room marks drawn.spelled many (λ p some within off. mirror p some (omega (arith, within, few)) within (omega (arith, within, many)) off)
+
+-- an index of the tables lags behind those that they are brought up to on pages with marks alone
+pub behind_read : (index : Index) (k : Checkpoint) (room : List Page) (marks : List Bool) (t : Tables) → AreDrawn k.tables k.level k.levels k.pages → length room ≡ length k.pages → AreOlder k.tables room marks → IsCheckpoint room t → t.config ≡ k.tables.config
+    → IsOf index k.tables → IsBehind index t marks
+behind_read index k room marks t drawn many older is config of =
+    behind_alike k.tables t is.levels marks drawn.spelling is.fit config
+    (λ p from to off. let within : p < length room = omega (arith, to, many, drawn.spelled.count) in sym (is.spell.each p within) ∙ older p (omega (arith, from)) within off is.levels) index of

@@ -18,13 +18,16 @@ use Rattle.ckpt_tables.specs.declared.tables.Tables.{Tables}
 use Rattle.ckpt_tables.specs.Shape.{HasSpelling, AreLevels, page_count}
 use Rattle.queue_telling.specs.Orders.{HaveOrders}
 use Rattle.queue_telling.specs.Telling.{Tell, PagesTell}
-use Rattle.queue_effect.specs.Standing.{AreFit, Plays}
+use Rattle.queue_commands.specs.Standing.{AreFit, Plays}
 use Rattle.mas_complex.specs.Crash.{next_order}
 use Rattle.mas_complex.specs.Meaning.{step, run}
 use Rattle.mas_complex.specs.Replies.{HaveReplies}
 use Rattle.member_node.specs.declared.checkpoint.Checkpoint.{Checkpoint}
 use Rattle.member_node.specs.declared.member.Member.{Member}
 use Rattle.member_node.specs.Batches.{HasDone, last_reply}
+use Rattle.job_select.specs.declared.kept.KeptIndex.{KeptIndex}
+use Rattle.job_select.specs.Behind.{IsKept}
+use Rattle.job_select.proofs.CodedSlots.{of_prop}
 use Rattle.page_marks.specs.declared.marks.Marks.{Marks}
 use Rattle.page_marks.specs.Marks.{is_marked, Touches}
 use Rattle.member_node.specs.Drawn.{AreDrawn, AreUnmarkedDrawn}
@@ -134,6 +137,9 @@ mirrored_prop marks room own x y i q from few to1 to2 none = Coded-set (coded_li
 ordered_prop : (t : Tables) (fresh : Bool) → IsProp (fresh ≡ false → are_orders_low t ≡ true)
 ordered_prop t fresh x y i is = Coded-set coded_bool _ _ (x is) (y is) i
 
+kept_prop : (kept : KeptIndex) (t : Tables) → IsProp (IsKept kept t)
+kept_prop kept t x y i is = of_prop kept.index t (x is) (y is) i
+
 abbrev Unchanged : Member → Tables → Marks → Type 0
 Unchanged k t marks = AreUnmarkedDrawn marks.pages t k.checkpoint.levels k.checkpoint.pages
 
@@ -144,28 +150,30 @@ abbrev Ordered : Member → Tables → Type 0
 Ordered k t = k.fresh ≡ false → are_orders_low t ≡ true
 
 -- a member with its own tables, batch and marks is itself
-pub member_same : (k : Member) (t : Tables) (es : List Entry) (marks : Marks) (mirrored : Mirrored k) (unchanged : Unchanged k t marks) (ordered : Ordered k t) → t ≡ k.checkpoint.tables → es ≡ k.batch → marks ≡ k.marks
-    → record k { checkpoint = record k.checkpoint { tables = t }; batch = es; marks = marks; mirrored = mirrored; unchanged = unchanged; ordered = ordered } ≡ k
-member_same k t es marks mirrored unchanged ordered same_tables same_batch same_marks = at_tables unchanged ordered where
-  with_tables : (s : Tables) (m : Marks) → Unchanged k s m → Ordered k s → Member
-  with_tables s m w o = record k { checkpoint = record k.checkpoint { tables = s }; batch = es; marks = m; mirrored = mirrored; unchanged = w; ordered = o }
+pub member_same : (k : Member) (t : Tables) (es : List Entry) (marks : Marks) (mirrored : Mirrored k) (unchanged : Unchanged k t marks) (ordered : Ordered k t) (indexed : IsKept k.kept t) → t ≡ k.checkpoint.tables → es ≡ k.batch → marks ≡ k.marks
+    → record k { checkpoint = record k.checkpoint { tables = t }; batch = es; marks = marks; mirrored = mirrored; unchanged = unchanged; ordered = ordered; indexed = indexed } ≡ k
+member_same k t es marks mirrored unchanged ordered indexed same_tables same_batch same_marks = at_tables unchanged ordered indexed where
+  with_tables : (s : Tables) (m : Marks) → Unchanged k s m → Ordered k s → IsKept k.kept s → Member
+  with_tables s m w o x = record k { checkpoint = record k.checkpoint { tables = s }; batch = es; marks = m; mirrored = mirrored; unchanged = w; ordered = o; indexed = x }
 
-  own : (w : Unchanged k k.checkpoint.tables k.marks) (o : Ordered k k.checkpoint.tables) → with_tables k.checkpoint.tables k.marks w o ≡ k
-  own w o =
-      ap (λ (x : Unchanged k k.checkpoint.tables k.marks). record k { batch = es; mirrored = mirrored; unchanged = x; ordered = o }) (unchanged_prop k.marks.pages k.checkpoint.tables k.checkpoint.levels k.checkpoint.pages w k.unchanged)
-      ∙ ap (λ (x : Ordered k k.checkpoint.tables). record k { batch = es; mirrored = mirrored; ordered = x }) (ordered_prop k.checkpoint.tables k.fresh o k.ordered)
-      ∙ ap (λ (x : Mirrored k). record k { batch = es; mirrored = x }) (mirrored_prop k.differ.pages k.room k.checkpoint.pages mirrored k.mirrored)
+  own : (w : Unchanged k k.checkpoint.tables k.marks) (o : Ordered k k.checkpoint.tables) (x : IsKept k.kept k.checkpoint.tables) → with_tables k.checkpoint.tables k.marks w o x ≡ k
+  own w o x =
+      ap (λ (u : Unchanged k k.checkpoint.tables k.marks). record k { batch = es; mirrored = mirrored; unchanged = u; ordered = o; indexed = x }) (unchanged_prop k.marks.pages k.checkpoint.tables k.checkpoint.levels k.checkpoint.pages w k.unchanged)
+      ∙ ap (λ (u : Ordered k k.checkpoint.tables). record k { batch = es; mirrored = mirrored; ordered = u; indexed = x }) (ordered_prop k.checkpoint.tables k.fresh o k.ordered)
+      ∙ ap (λ (u : IsKept k.kept k.checkpoint.tables). record k { batch = es; mirrored = mirrored; indexed = u }) (kept_prop k.kept k.checkpoint.tables x k.indexed)
+      ∙ ap (λ (u : Mirrored k). record k { batch = es; mirrored = u }) (mirrored_prop k.differ.pages k.room k.checkpoint.pages mirrored k.mirrored)
       ∙ ap (λ (l : List Entry). record k { batch = l }) same_batch
 
-  at_mark : (w : Unchanged k k.checkpoint.tables marks) (o : Ordered k k.checkpoint.tables) → with_tables k.checkpoint.tables marks w o ≡ k
-  at_mark = subst (λ (m : Marks). (w : Unchanged k k.checkpoint.tables m) (o : Ordered k k.checkpoint.tables) → with_tables k.checkpoint.tables m w o ≡ k) (sym same_marks) own
+  at_mark : (w : Unchanged k k.checkpoint.tables marks) (o : Ordered k k.checkpoint.tables) (x : IsKept k.kept k.checkpoint.tables) → with_tables k.checkpoint.tables marks w o x ≡ k
+  at_mark = subst (λ (m : Marks). (w : Unchanged k k.checkpoint.tables m) (o : Ordered k k.checkpoint.tables) (x : IsKept k.kept k.checkpoint.tables) → with_tables k.checkpoint.tables m w o x ≡ k) (sym same_marks) own
 
-  at_tables : (w : Unchanged k t marks) (o : Ordered k t) → with_tables t marks w o ≡ k
-  at_tables = subst (λ (s : Tables). (w : Unchanged k s marks) (o : Ordered k s) → with_tables s marks w o ≡ k) (sym same_tables) at_mark
+  at_tables : (w : Unchanged k t marks) (o : Ordered k t) (x : IsKept k.kept t) → with_tables t marks w o x ≡ k
+  at_tables = subst (λ (s : Tables). (w : Unchanged k s marks) (o : Ordered k s) (x : IsKept k.kept s) → with_tables s marks w o x ≡ k) (sym same_tables) at_mark
 
 -- the facts of a member's type are the same facts, whoever gave them
-pub facts_same : (k : Member) (mirrored : Mirrored k) (unchanged : Unchanged k k.checkpoint.tables k.marks) (ordered : Ordered k k.checkpoint.tables) → record k { mirrored = mirrored; unchanged = unchanged; ordered = ordered } ≡ k
-facts_same k mirrored unchanged ordered = member_same k k.checkpoint.tables k.batch k.marks mirrored unchanged ordered refl refl refl
+pub facts_same : (k : Member) (mirrored : Mirrored k) (unchanged : Unchanged k k.checkpoint.tables k.marks) (ordered : Ordered k k.checkpoint.tables) (indexed : IsKept k.kept k.checkpoint.tables)
+    → record k { mirrored = mirrored; unchanged = unchanged; ordered = ordered; indexed = indexed } ≡ k
+facts_same k mirrored unchanged ordered indexed = member_same k k.checkpoint.tables k.batch k.marks mirrored unchanged ordered indexed refl refl refl
 
 -- pages that commands didn't mark are still those of the tables
 pub still_unchanged : (k : Member) (marks : List Bool) (t : Tables) → Touches k.marks.pages marks k.checkpoint.tables t → AreUnmarkedDrawn marks t k.checkpoint.levels k.checkpoint.pages

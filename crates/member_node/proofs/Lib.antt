@@ -18,3 +18,7 @@ pub mod MirrorLemmas
 pub mod WantedLemmas
 pub mod AgeLemmas
 pub mod HeaderLemmas
+pub use Rattle.queue_commands.proofs.LawLemmas
+pub use Rattle.queue_commands.proofs.OrderLemmas
+pub use Rattle.queue_commands.proofs.SoundTables
+pub use Rattle.queue_commands.proofs.ToldLemmas

@@ -9,17 +9,19 @@ ghost use Rattle.ckpt_tables.specs.Shape.{HasSpelling};
 ghost use Rattle.mas_types.specs.Step.{may_give};
 ghost use Rattle.queue_telling.specs.Telling.{Tell, TellSound};
 ghost use Rattle.mas_complex.specs.Meaning.{step as step_of};
-ghost use Rattle.queue_effect.specs.Standing.{AreFit, IfRefused};
+ghost use Rattle.queue_commands.specs.Standing.{AreFit, IfRefused};
 ghost use Rattle.queue_commands.specs.Given.{IsGiver};
+ghost use Rattle.job_select.specs.Behind.{IsKept};
 ghost use Rattle.member_node.specs.Drawn.{AreUnmarkedDrawn};
 ghost use Rattle.member_node.specs.Mirrors.{IsMirrorBut};
 ghost use Rattle.page_tables.specs.Bringing.{are_orders_low};
 
 use crate::checkpoint::{Checkpoint, blank};
+use job_select::KeptIndex;
 use mas_types::limits::PAGE_BYTES;
 use mas_types::{Command, Config, Entry, List, MemberId, NoMemory, Page, Reply};
 use page_marks::Marks;
-use queue_commands::give;
+use queue_commands::{Ends, give};
 use std::alloc::Global;
 
 /// Why a member's call wasn't done.
@@ -55,6 +57,8 @@ pub struct Member {
     pub differ: Marks,
     /// The pages that commands may have changed since its pages were drawn or read.
     pub marks: Marks,
+    /// The index that it keeps with its tables.
+    pub kept: KeptIndex,
 
     /// Each other page stands in the room as it is its own.
     ghost mirrored: { IsMirrorBut differ.pages room checkpoint.pages },
@@ -64,6 +68,9 @@ pub struct Member {
 
     /// Once it has read, the orders of its jobs and outputs are below the next one.
     ghost ordered: { fresh ≡ false → are_orders_low checkpoint.tables ≡ true },
+
+    /// Its index, unless it is lost, is of its tables.
+    ghost indexed: { IsKept kept checkpoint.tables },
 }
 
 // So many pages of zeros.
@@ -140,6 +147,7 @@ impl Member {
             fresh: true,
             differ: Marks::all(),
             marks: Marks::all(),
+            kept: KeptIndex::none(alloc),
         })
     }
 
@@ -190,14 +198,21 @@ impl Member {
         let at = self.batch.len();
         self.batch.push(place(self.id, step))?;
         let by = self.id;
+        let ends = Ends {
+            jobs: self.kept.jobs_end(&self.checkpoint.tables),
+            outputs: self.kept.outputs_end(&self.checkpoint.tables),
+        };
         match give(
             alloc,
             &mut self.checkpoint.tables,
             &mut self.marks,
+            ends,
             by,
             &command,
         ) {
             Ok(reply) => {
+                self.kept
+                    .follow(alloc, &self.checkpoint.tables, &self.marks);
                 let entry = Entry {
                     by,
                     step,

@@ -1,5 +1,5 @@
 //! How a member reads the copies, and goes on from what it read.
-ghost use Rattle.std.specs.Prelude.{◌≡◌, ◌+◌, ◌≤◌, ◌<◌, ℕ, List, Some, None, All, [], length, replicate, true, false, IfOk, IfErr, IsErrOf, OnOk, OnErr, nat_lt, slice_set};
+ghost use Rattle.std.specs.Prelude.{◌≡◌, ◌+◌, ◌≤◌, ◌<◌, ℕ, List, Some, None, All, [], length, replicate, true, false, IfOk, IfErr, IsErrOf, OnOk, OnErr, slice_set};
 ghost use Rattle.std.specs.List.{list_all};
 ghost use Rattle.mas_types.specs.declared.ids.Dev.{Dev};
 ghost use Rattle.mas_types.specs.declared.ids.Dev.TheVariants.{Ckpt1, Ckpt2};
@@ -8,7 +8,7 @@ ghost use Rattle.spool_plant.specs.View.{disk_now};
 ghost use Rattle.ckpt_copy.specs.Pages.{bytes_of, level, page_in};
 ghost use Rattle.ckpt_tables.specs.declared.tables.Tables.{Tables as TablesLem};
 ghost use Rattle.ckpt_pages.specs.Checkpoints.{IsCheckpoint, SpellSome};
-ghost use Rattle.ckpt_tables.specs.Shape.{HasSpelling, level_in, page_count};
+ghost use Rattle.ckpt_tables.specs.Shape.{HasShape, HasSpelling, page_count};
 ghost use Rattle.duplex_pair.specs.ActCounts.{after_acts, read_acts};
 ghost use Rattle.duplex_pair.specs.Halves.{SomeAlive};
 ghost use Rattle.duplex_pair.specs.Outcomes.{least_room};
@@ -33,13 +33,13 @@ ghost use Rattle.member_node.specs.Reads.{ArePagesOf, IsCalm, IsRead, IsReadWhol
 use crate::marking::mark_if;
 use crate::member::{Member, NodeNo};
 use ckpt_pages::{PageNo, decode, first_bad, law_of_checkpoints, law_of_levels, levels_of};
-use ckpt_tables::{Tables, law_of_page_sizes, level_of};
+use ckpt_tables::{Tables, law_of_page_sizes};
 use duplex_pair::{PairNo, pages_level};
 use lay_bytes::{JobRec, OutRec, is_same_page};
 use mas_complex::{Complex, Steady};
 use mas_types::{Config, Dev, Level, List, MemberId, NoMemory, Page};
 use page_marks::Marks;
-use page_tables::{bring_up, can_bring_up, order_of};
+use page_tables::{bring_up, can_bring_up, can_bring_up_spelled, is_newer, level_at, order_of};
 use spool_plant::Plant;
 use std::alloc::Global;
 
@@ -137,14 +137,6 @@ fn read_from<P: Plant + Drop, C: Steady + Drop>(
         read_one(complex, by, page as u16, &mut room[page])?;
     }
     Ok(())
-}
-
-// Whether a page is newer than pages of this level, as page 0 gives it.
-fn is_newer(page0: &Page, page: u16, level: Level) -> bool
-    requires { page < 384 }
-    ensures { result ≡ nat_lt level (level_in page0.now.0 page) }
-{
-    level_of(page0, page) > level
 }
 
 // Reads a page where it is newer than the one that stands there, and leaves this one where it isn't. It answers how
@@ -493,6 +485,26 @@ fn are_spelled<P: Plant + Drop, C: Steady + Drop>(
     spells(room, alike, tables, differ)
 }
 
+// Writes the level of each page, as page 0 gives it, over those of as many pages.
+fn write_levels(levels: &mut [Level], pages: &[Page])
+    requires many { length levels.old ≡ length pages.now }
+    requires few { length pages.now ≤ pages_most }
+    ensures { levels.new ≡ levels_given pages.now }
+{
+    for page in 0..levels.len() {
+        levels[page] = level_at(&pages[0], page as u16);
+    }
+}
+
+// Takes the level of each page, as page 0 gives it, in place of those of as many pages.
+fn take_levels(levels: &mut List<Level>, pages: &[Page])
+    requires many { length levels.old ≡ length pages.now }
+    requires few { length pages.now ≤ pages_most }
+    ensures { levels.new ≡ levels_given pages.now }
+{
+    write_levels(levels.as_mut_slice(), pages);
+}
+
 // The orders of the jobs are below this one.
 fn are_jobs_below(jobs: &[Option<JobRec>], order: u64) -> bool
     ensures { result ≡ list_all (is_job_below order) jobs.now }
@@ -830,11 +842,11 @@ impl Member {
         if alike {
             return Ok(self.stay_up());
         }
-        let levels = levels_of(alloc, self.room.as_slice())?;
         if self.can_come_up() {
-            self.come_up(alloc, levels);
+            self.come_up(alloc);
             return Ok(true);
         }
+        let levels = levels_of(alloc, self.room.as_slice())?;
         let pages = self.room.as_slice();
         let tables = match decode(alloc, pages) {
             Ok(tables) => tables,
@@ -1064,7 +1076,7 @@ impl Member {
     fn can_come_up(&self) -> bool
         requires drawn { AreDrawn self.now.checkpoint.tables self.now.checkpoint.level self.now.checkpoint.levels
             self.now.checkpoint.pages }
-        requires few { length self.now.room ≤ pages_most }
+        requires spelled { SpellSome self.now.room }
         ensures { result ≡ true → MayComeUp self.now.fresh self.now.differ.pages self.now.room
             self.now.checkpoint.pages self.now.checkpoint.tables }
     {
@@ -1078,7 +1090,7 @@ impl Member {
         if pages_level(pages) >= TOO_HIGH {
             return false;
         }
-        if !can_bring_up(&self.checkpoint.tables, pages, &self.differ) {
+        if !can_bring_up_spelled(&self.checkpoint.tables, pages, &self.differ) {
             return false;
         }
         if order_of(&pages[0]) >= TOO_HIGH {
@@ -1087,14 +1099,13 @@ impl Member {
         true
     }
 
-    // Brings its tables up to the pages of its room in their place, and takes these, which have these levels.
-    fn come_up(&mut self, alloc: Global, levels: List<Level>)
+    // Brings its tables, the levels and the index up to the pages of its room in their place, and takes these.
+    fn come_up(&mut self, alloc: Global)
         requires drawn { AreDrawn self.old.checkpoint.tables self.old.checkpoint.level self.old.checkpoint.levels
             self.old.checkpoint.pages }
         requires few { length self.old.room ≤ pages_most }
         requires may { MayComeUp self.old.fresh self.old.differ.pages self.old.room self.old.checkpoint.pages
             self.old.checkpoint.tables }
-        requires levels { levels ≡ levels_given self.old.room }
         ensures id { self.new.id ≡ self.old.id }
         ensures batch { self.new.batch ≡ self.old.batch }
         ensures up { IsUpTo self.old.checkpoint.tables.config self.old.room self.new.checkpoint }
@@ -1107,16 +1118,19 @@ impl Member {
         law_of_page_sizes(pages);
         let level = pages_level(pages);
         bring_up(&mut self.checkpoint.tables, pages, &self.differ);
+        self.kept
+            .follow(alloc, &self.checkpoint.tables, &self.differ);
         self.checkpoint.level = level;
-        self.checkpoint.levels = levels;
+        take_levels(&mut self.checkpoint.levels, pages);
         let read = std::mem::replace(&mut self.room, List::new(alloc));
         self.room = std::mem::replace(&mut self.checkpoint.pages, read);
         self.behind = false;
         self.marks = Marks::none();
     }
 
-    // Takes the pages of the member's room, which spell these tables with these levels.
+    // Takes the pages of the member's room, which spell these tables with these levels, and builds the index anew.
     fn take_up(&mut self, alloc: Global, tables: Tables, levels: List<Level>)
+        requires shape { HasShape tables }
         requires drawn { AreAsDrawn tables levels self.old.room }
         requires low { are_orders_low tables ≡ true }
         ensures id { self.new.id ≡ self.old.id }
@@ -1137,5 +1151,6 @@ impl Member {
         self.behind = false;
         self.fresh = false;
         self.marks = Marks::none();
+        self.kept.build(alloc, &self.checkpoint.tables);
     }
 }

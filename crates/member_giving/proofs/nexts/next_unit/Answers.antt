@@ -18,11 +18,14 @@ returns-then-progress-eq0-clause-unit c Q h given own told = none_left h c.args.
 
 -- ONE COMMAND
 
+pub find_unit-next-requires-clause-kept : goal.find_unit-next-requires-clause-kept
+find_unit-next-requires-clause-kept c = c.args.member.now.indexed
+
 pub returns-in-Some-clause-unit : goal.returns-in-Some-clause-unit
 returns-in-Some-clause-unit c Q h given own told =
     let p = c.args.progress in
-    let u = c.unit-next.result in
-    let is : unit_of Q h.by ≡ u = ap (unit_of Q) own ∙ sym (c.unit-next.ensures Q told) in
+    let u = c.find_unit-next.result in
+    let is : unit_of Q h.by ≡ u = ap (unit_of Q) own ∙ sym (c.find_unit-next.ensures Q told) in
     some_left h p.left Q given p.done c.if-progress-eq0.false
     ∙ ap (λ (x : units.Unit). next_unit_lem h x (p.left - 1) (units_from h (p.left - 1)) Q given p.done) is
     ∙ by_command h (p.left - 1) Q given p.done u c.in-Some.command (sym c.command_of.ensures ∙ c.in-Some.is)
@@ -32,14 +35,14 @@ returns-in-Some-clause-right c =
     let t = c.args.member.now.checkpoint.tables in
     let s = tells_some t in
     let is = sym c.command_of.ensures ∙ c.in-Some.is in
-    record { of = c.unit-next.result; is = is; fit = command_fits c.unit-next.result c.in-Some.command is (λ n i same. finish_indexed t s.0 c.args.member.now.id n i c.requires.spelling s.1 (sym same ∙ c.unit-next.ensures s.0 s.1)) }
+    record { of = c.find_unit-next.result; is = is; fit = command_fits c.find_unit-next.result c.in-Some.command is (λ n i same. finish_indexed t s.0 c.args.member.now.id n i c.requires.spelling s.1 (sym same ∙ c.find_unit-next.ensures s.0 s.1)) }
 
 -- A TEXT
 
 pub returns-in-Run-clause-unit : goal.returns-in-Run-clause-unit
 returns-in-Run-clause-unit c Q h given own told =
     let p = c.args.progress in
-    let is : unit_of Q h.by ≡ c.unit-next.result = ap (unit_of Q) own ∙ sym (c.unit-next.ensures Q told) in
+    let is : unit_of Q h.by ≡ c.find_unit-next.result = ap (unit_of Q) own ∙ sym (c.find_unit-next.ensures Q told) in
     some_left h p.left Q given p.done c.if-progress-eq0.false
     ∙ ap (λ (x : units.Unit). next_unit_lem h x (p.left - 1) (units_from h (p.left - 1)) Q given p.done) (is ∙ c.in-Run.is)
     ∙ by_run h (p.left - 1) Q given p.done c.in-Run.job
@@ -48,7 +51,7 @@ returns-in-Run-clause-unit c Q h given own told =
 pub returns-in-Convert-clause-unit : goal.returns-in-Convert-clause-unit
 returns-in-Convert-clause-unit c Q h given own told =
     let p = c.args.progress in
-    let is : unit_of Q h.by ≡ c.unit-next.result = ap (unit_of Q) own ∙ sym (c.unit-next.ensures Q told) in
+    let is : unit_of Q h.by ≡ c.find_unit-next.result = ap (unit_of Q) own ∙ sym (c.find_unit-next.ensures Q told) in
     some_left h p.left Q given p.done c.if-progress-eq0.false
     ∙ ap (λ (x : units.Unit). next_unit_lem h x (p.left - 1) (units_from h (p.left - 1)) Q given p.done) (is ∙ c.in-Convert.is)
     ∙ by_convert h (p.left - 1) Q given p.done c.in-Convert.job
@@ -57,7 +60,7 @@ returns-in-Convert-clause-unit c Q h given own told =
 pub returns-in-Print-clause-unit : goal.returns-in-Print-clause-unit
 returns-in-Print-clause-unit c Q h given own told =
     let p = c.args.progress in
-    let is : unit_of Q h.by ≡ c.unit-next.result = ap (unit_of Q) own ∙ sym (c.unit-next.ensures Q told) in
+    let is : unit_of Q h.by ≡ c.find_unit-next.result = ap (unit_of Q) own ∙ sym (c.find_unit-next.ensures Q told) in
     some_left h p.left Q given p.done c.if-progress-eq0.false
     ∙ ap (λ (x : units.Unit). next_unit_lem h x (p.left - 1) (units_from h (p.left - 1)) Q given p.done) (is ∙ c.in-Print.is)
     ∙ by_print h (p.left - 1) Q given p.done c.args.member.now.id (sym own) c.in-Print.job c.in-Print.output
@@ -66,27 +69,27 @@ returns-in-Print-clause-unit c Q h given own told =
 pub returns-in-Run-clause-right : goal.returns-in-Run-clause-right
 returns-in-Run-clause-right c =
     text_ready c.args.member.now.checkpoint.tables c.args.member.now.id true c.in-Run.job _ c.next_text.result c.next_text.ensures
-    (λ Q told sound. run_under_way c.args.member.now.checkpoint.tables Q c.args.member.now.id c.in-Run.job c.law_of_texts.ensures.told sound told (sym c.in-Run.is ∙ c.unit-next.ensures Q told))
+    (λ Q told sound. run_under_way c.args.member.now.checkpoint.tables Q c.args.member.now.id c.in-Run.job c.law_of_texts.ensures.told sound told (sym c.in-Run.is ∙ c.find_unit-next.ensures Q told))
 
 pub returns-in-Convert-clause-right : goal.returns-in-Convert-clause-right
 returns-in-Convert-clause-right c =
     text_ready c.args.member.now.checkpoint.tables c.args.member.now.id false c.in-Convert.job _ c.next_text-in-Convert.result c.next_text-in-Convert.ensures
-    (λ Q told sound. convert_under_way c.args.member.now.checkpoint.tables Q c.args.member.now.id c.in-Convert.job c.law_of_texts.ensures.told sound told (sym c.in-Convert.is ∙ c.unit-next.ensures Q told))
+    (λ Q told sound. convert_under_way c.args.member.now.checkpoint.tables Q c.args.member.now.id c.in-Convert.job c.law_of_texts.ensures.told sound told (sym c.in-Convert.is ∙ c.find_unit-next.ensures Q told))
 
 pub returns-in-Print-clause-right : goal.returns-in-Print-clause-right
 returns-in-Print-clause-right c =
     lines_ready c.args.member.now.checkpoint.tables c.args.member.now.id c.in-Print.job c.in-Print.output _ c.next_lines.result c.next_lines.ensures
-    (λ Q told sound. print_under_way c.args.member.now.checkpoint.tables Q c.args.member.now.id c.in-Print.job c.in-Print.output c.law_of_texts.ensures.told sound told (sym c.in-Print.is ∙ c.unit-next.ensures Q told))
+    (λ Q told sound. print_under_way c.args.member.now.checkpoint.tables Q c.args.member.now.id c.in-Print.job c.in-Print.output c.law_of_texts.ensures.told sound told (sym c.in-Print.is ∙ c.find_unit-next.ensures Q told))
 
 -- NONE
 
 pub returns-in_default-next-clause-unit : goal.returns-in_default-next-clause-unit
 returns-in_default-next-clause-unit c Q h given own told =
     let p = c.args.progress in
-    let is : unit_of Q h.by ≡ c.unit-next.result = ap (unit_of Q) own ∙ sym (c.unit-next.ensures Q told) in
+    let is : unit_of Q h.by ≡ c.find_unit-next.result = ap (unit_of Q) own ∙ sym (c.find_unit-next.ensures Q told) in
     some_left h p.left Q given p.done c.if-progress-eq0.false
     ∙ ap (λ (x : units.Unit). next_unit_lem h x (p.left - 1) (units_from h (p.left - 1)) Q given p.done) is
-    ∙ by_none h (p.left - 1) Q given p.done c.unit-next.result (sym c.command_of.ensures ∙ c.in_default.is) c.in_default-next.not-Print c.in_default-next.not-Run c.in_default-next.not-Convert
+    ∙ by_none h (p.left - 1) Q given p.done c.find_unit-next.result (sym c.command_of.ensures ∙ c.in_default.is) c.in_default-next.not-Print c.in_default-next.not-Run c.in_default-next.not-Convert
 
 -- WHAT WAITS
 

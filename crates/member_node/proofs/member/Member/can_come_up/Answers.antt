@@ -4,20 +4,16 @@ use Rattle.ckpt_tables.specs.Pages.{page_in}
 use Rattle.ckpt_pages.proofs.RunLemmas.{page_at}
 use Rattle.page_tables.specs.Bringing.{order_in}
 use Rattle.member_node.specs.Reads.{too_high}
-use Rattle.member_node.proofs.AlikeLemmas.{own_older}
 use Rattle.member_node.proofs.member.Member.can_come_up.Goals as goal
 
-pub can_bring_up-requires-clause-older : goal.can_bring_up-requires-clause-older
-can_bring_up-requires-clause-older c =
-    let s = c.args.self.now in
-    let many : length s.room ≡ length s.checkpoint.pages = search rules in
-    rw c.as_slice-pages.ensures (own_older s.checkpoint s.room s.differ.pages c.requires.drawn many c.requires.few s.mirrored)
+pub can_bring_up_spelled-requires-clause-spelled : goal.can_bring_up_spelled-requires-clause-spelled
+can_bring_up_spelled-requires-clause-spelled c = rw c.as_slice-pages.ensures c.requires.spelled
 
 pub returns : goal.returns
 returns c is =
     let s = c.args.self.now in
     let many : length s.room ≡ length s.checkpoint.pages = search rules in
-    let can = c.can_bring_up.ensures.good c.if-not-can_bring_up.false in
+    let can = c.can_bring_up_spelled.ensures.good c.if-not-can_bring_up_spelled.false in
     let first = page_at c.as_slice-pages.result.now 0 (record { 0 = [] }) (omega (arith, can.count)) in
     let low : c.order_of.result < too_high = search rules in
     record {

@@ -19,9 +19,12 @@ unreachable-requires c =
     let e = c.in-Err-BadPage in
     not_bad e.field-0 e.field-0-0 e.field-0-is (e.ensures.only some.0 (rw c.as_slice-pages.ensures some.1))
 
+pub can_come_up-requires-clause-spelled : goal.can_come_up-requires-clause-spelled
+can_come_up-requires-clause-spelled c = c.requires.spelled c.if-not-self.false
+
 pub returns-then-not-may_go_on-clause-refused : goal.returns-then-not-may_go_on-clause-refused
 returns-then-not-may_go_on-clause-refused c is_false = (
-  facts_same c.args.self.now _ _ _,
+  facts_same c.args.self.now _ _ _ _,
   λ t is may.
       let s = c.args.self.now in
       let own : IsCheckpoint s.room c.in-Ok.tables = rw c.as_slice-pages.ensures at c.in-Ok.ensures.found in
@@ -35,6 +38,9 @@ take_up-requires-clause-drawn c =
     (up_to c.law_of_levels.ensures.given s.checkpoint.tables.config s.room c.in-Ok.tables c.in_ok-levels.levels (rw c.as_slice-pages.ensures at c.in-Ok.ensures.found)
     (rw c.as_slice-pages.ensures at c.law_of_page_sizes.ensures) (rw c.as_slice.ensures at c.in_ok-levels.ensures) (rw c.as_slice-pages.ensures at (c.may_go_on.ensures.may c.if-not-may_go_on.false))
     (record { tables = c.in-Ok.tables; level = level (bytes_of s.room); levels = c.in_ok-levels.levels; pages = s.room }) refl refl refl refl).drawn.spelled.each
+
+pub take_up-requires-clause-shape : goal.take_up-requires-clause-shape
+take_up-requires-clause-shape c = c.in-Ok.ensures.found.fit.shape
 
 pub take_up-requires-clause-low : goal.take_up-requires-clause-low
 take_up-requires-clause-low c = orders_low c.in-Ok.tables (c.may_go_on.ensures.may c.if-not-may_go_on.false).fit

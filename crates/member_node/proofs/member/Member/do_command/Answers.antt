@@ -4,11 +4,26 @@ use Rattle.mas_types.specs.declared.commands.Reply.{Reply}
 use Rattle.mas_types.specs.declared.journals.Entry.{Entry}
 use Rattle.mas_types.specs.Closings.{IsReplyNamed}
 use Rattle.mas_complex.specs.Meaning.{run}
-use Rattle.queue_effect.specs.Standing.{IfRefused}
+use Rattle.queue_commands.specs.Standing.{IfRefused}
+use Rattle.job_select.specs.Behind.{IsKept}
+use Rattle.job_select.proofs.BehindLemmas.{behind_touched}
 use Rattle.member_node.specs.Batches.{HasDone}
 use Rattle.member_node.proofs.FitLemmas.{orders_low}
 use Rattle.member_node.proofs.EntryLemmas.{err_any, given_entry, given_reply, given_tells, member_same, still_unchanged, taken_entry, more_done}
 use Rattle.member_node.proofs.member.Member.do_command.Goals as goal
+
+-- its index knows where used slots end
+pub give-requires-clause-ends : goal.give-requires-clause-ends
+give-requires-clause-ends c = record { jobs = c.jobs_end.ensures; outputs = c.outputs_end.ensures }
+
+-- the index lags behind on the pages that the command marked
+pub follow-requires-clause-shape : goal.follow-requires-clause-shape
+follow-requires-clause-shape c = c.give.ensures.spelling.shape
+
+pub follow-requires-clause-behind : goal.follow-requires-clause-behind
+follow-requires-clause-behind c current =
+    let k = c.args.self.now in
+    behind_touched k.kept.index k.marks.pages c.give.new.marks.pages k.checkpoint.tables c.give.new.tables c.requires.spelling c.give.ensures.spelling c.give.ensures.touches (k.indexed current)
 
 pub returns-in-Ok-clause-entry : goal.returns-in-Ok-clause-entry
 returns-in-Ok-clause-entry c Q told =
@@ -55,6 +70,12 @@ invariant_of-self-in-Ok-clause-unchanged c = still_unchanged c.args.self.now c.g
 pub invariant_of-self-in-Err-clause-unchanged : goal.invariant_of-self-in-Err-clause-unchanged
 invariant_of-self-in-Err-clause-unchanged c = still_unchanged c.args.self.now c.give.new.marks.pages c.give.new.tables c.give.ensures.touches
 
+pub invariant_of-self-in-Ok-clause-indexed : goal.invariant_of-self-in-Ok-clause-indexed
+invariant_of-self-in-Ok-clause-indexed c = c.follow.ensures
+
+pub invariant_of-self-in-Err-clause-indexed : goal.invariant_of-self-in-Err-clause-indexed
+invariant_of-self-in-Err-clause-indexed c = subst (IsKept c.args.self.now.kept) (sym c.in-Err.ensures.no_memory.0) c.args.self.now.indexed
+
 pub invariant_of-self-in-Ok-clause-ordered : goal.invariant_of-self-in-Ok-clause-ordered
 invariant_of-self-in-Ok-clause-ordered c read = orders_low c.give.new.tables c.give.ensures.fit
 
@@ -64,13 +85,13 @@ invariant_of-self-in-Err-clause-ordered c read = orders_low c.give.new.tables c.
 pub returns-in_err-push-clause-err : goal.returns-in_err-push-clause-err
 returns-in_err-push-clause-err c =
     let k = c.args.self.now in
-    err_any c.from_residual.result (member_same k k.checkpoint.tables c.push.new.self k.marks _ _ _ refl c.in_err-push.ensures.err refl)
+    err_any c.from_residual.result (member_same k k.checkpoint.tables c.push.new.self k.marks _ _ _ _ refl c.in_err-push.ensures.err refl)
 
 pub returns-in-Err-clause-err : goal.returns-in-Err-clause-err
 returns-in-Err-clause-err c =
     let k = c.args.self.now in
     let e = c.in-Err.ensures in
-    member_same k c.give.new.tables c.remove.new.self c.give.new.marks _ _ _ e.no_memory.0
+    member_same k c.give.new.tables c.remove.new.self c.give.new.marks _ _ _ _ e.no_memory.0
     (taken_entry k.batch c.push.new.self c.remove.new.self c.place.result c.len-at.result c.in_ok-push.ensures.ok c.len-at.ensures c.remove.ensures.rest) e.no_memory.1
 
 -- whatever the tables tell, there is a reply, and it is named

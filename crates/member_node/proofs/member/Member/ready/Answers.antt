@@ -6,7 +6,8 @@ use Rattle.mas_complex.specs.Journals.{kept_all}
 use Rattle.mas_complex.specs.Meaning.{run}
 use Rattle.ckpt_tables.specs.Pages.{Spell}
 use Rattle.ckpt_pages.proofs.DecodingLemmas.{one_queue, one_value}
-use Rattle.queue_tables.proofs.ToldLemmas.{pages_alike}
+use Rattle.queue_commands.proofs.ToldLemmas.{pages_alike}
+use Rattle.job_select.specs.Behind.{IsKept}
 use Rattle.member_node.specs.Mirrors.{IsMirrorBut}
 use Rattle.page_tables.specs.Bringing.{are_orders_low}
 use Rattle.member_node.proofs.EntryLemmas.{err_any, facts_same}
@@ -53,7 +54,7 @@ returns-clause-draft2 g c =
       few = search (rules, c.in_ok-reserve.ensures.few)
 
 pub returns-in_err-draft-clause-given_up : goal.returns-in_err-draft-clause-given_up
-returns-in_err-draft-clause-given_up g c = err_any c.from_residual.result (inl (facts_same c.args.self.now _ _ _))
+returns-in_err-draft-clause-given_up g c = err_any c.from_residual.result (inl (facts_same c.args.self.now _ _ _ _))
 
 pub returns-clause-grown : goal.returns-clause-grown
 returns-clause-grown g c placed = let grown = c.in_ok-reserve.ensures.grown placed in (grown.0, grown.1)
@@ -70,6 +71,7 @@ invariant_of-self-in-Break-branch-2 g c =
       mirrored = subst (λ (marks : List Bool). IsMirrorBut marks m.room n.pages) (sym c.mark_drawn.ensures) same;
       unchanged = λ p lt none. e.drawn.spelled.each p lt;
       ordered = λ read. absurd (cc);
+      indexed = subst (IsKept m.kept) (sym e.tables) m.indexed;
     }
 
 pub invariant_of-self-2-clause-unchanged : goal.invariant_of-self-2-clause-unchanged
@@ -83,6 +85,9 @@ invariant_of-self-2-clause-mirrored g c =
     let e = c.redraw.ensures in
     let same = ready_mirror c.in_ok-draft.draft k n m.room m.differ.pages m.differ.many c.requires.draws.sized e.drawn.sized (ready_count k n c.requires.draws e.tables e.drawn) e.draft m.mirrored in
     subst (λ (marks : List Bool). IsMirrorBut marks m.room n.pages) (sym c.mark_drawn.ensures) same
+
+pub invariant_of-self-2-clause-indexed : goal.invariant_of-self-2-clause-indexed
+invariant_of-self-2-clause-indexed g c = subst (IsKept c.args.self.now.kept) (sym c.redraw.ensures.tables) c.args.self.now.indexed
 
 pub invariant_of-self-2-clause-ordered : goal.invariant_of-self-2-clause-ordered
 invariant_of-self-2-clause-ordered g c read = ap are_orders_low c.redraw.ensures.tables ∙ c.args.self.now.ordered (sym c.replace-fresh.ensures.value ∙ read)

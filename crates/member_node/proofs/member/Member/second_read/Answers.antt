@@ -106,7 +106,7 @@ read_from-requires-clause-calm2 g c =
 pub invariant_of-self : goal.invariant_of-self
 invariant_of-self g c =
     let s = c.args.self.now in
-    record { mirrored = mirror_all _ _ _ c.all-self.ensures; unchanged = s.unchanged; ordered = s.ordered }
+    record { mirrored = mirror_all _ _ _ c.all-self.ensures; unchanged = s.unchanged; ordered = s.ordered; indexed = s.indexed }
 
 pub invariant_of-self-2-clause-mirrored : goal.invariant_of-self-2-clause-mirrored
 invariant_of-self-2-clause-mirrored g c = mirror_all _ _ _ c.all-self.ensures

@@ -14,7 +14,7 @@ may_stay-requires-clause-checkpoint c =
 
 pub returns-then-not-may_stay-clause-refused : goal.returns-then-not-may_stay-clause-refused
 returns-then-not-may_stay-clause-refused c is_false = (
-  facts_same c.args.self.now _ _ _,
+  facts_same c.args.self.now _ _ _ _,
   λ t is may.
       let s = c.args.self.now in
       let own : IsCheckpoint s.room s.checkpoint.tables = alike_checkpoint s.room s.checkpoint c.requires.drawn c.requires.same in

@@ -11,3 +11,6 @@ invariant_of-self-clause-unchanged c = rw (c.replace.ensures.after, c.replace-re
 
 pub invariant_of-self-clause-ordered : goal.invariant_of-self-clause-ordered
 invariant_of-self-clause-ordered c read = c.requires.low
+
+pub invariant_of-self-clause-indexed : goal.invariant_of-self-clause-indexed
+invariant_of-self-clause-indexed c = c.build.ensures
