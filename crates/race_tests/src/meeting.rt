@@ -1,10 +1,11 @@
 //! Two members that enter a hundred decks each, and meet in their first steps.
+use brief_journal::BriefJournal;
 use mas_race::{Meet, NoMeet};
 use mas_top::race_top;
-use mas_types::{Journal, Lines, List, MemberId, NoMemory, Status};
-use run_opening::Ended;
+use mas_types::{Lines, List, MemberId, NoMemory, Status};
+use run_opening::{Ended, unbegun};
 use spool_disk::{MemPlant, MemSource, Sizes};
-use std::alloc::Global;
+use std::alloc::{AllocError, Global};
 use std::sync::Wait;
 use std::sync::atomic::{AtomicU64, Ordering};
 use std::test::Fail;
@@ -82,6 +83,25 @@ fn script(alloc: Global) -> Result<List<u8>, NoMemory> {
     Ok(bytes)
 }
 
+// Room for the pages of both copies, the text of each job, and all acts.
+fn plant(alloc: Global) -> Result<MemPlant, NoMemory> {
+    let sizes = Sizes {
+        ckpt: 1 << 20,
+        volumes: 1,
+        volume: 4096 * 512,
+    };
+    MemPlant::new(alloc, sizes, 400_000, 100_000_000)
+}
+
+// The words behind the program's name.
+fn words(alloc: Global, asked: &[&str]) -> Result<Vec<String>, AllocError> {
+    let mut words = Vec::new(alloc);
+    for word in asked {
+        words.push(String::from_str(alloc, word)?)?;
+    }
+    Ok(words)
+}
+
 // Does what the words ask for on a plant, with a script of these bytes.
 fn does<R: Threads + Wait + Sync, M: Meet + Sync>(
     rt: &R,
@@ -90,13 +110,29 @@ fn does<R: Threads + Wait + Sync, M: Meet + Sync>(
     script: List<u8>,
     plant: MemPlant,
     meet: &M,
-) -> Result<Ended<MemPlant>, Fail> {
-    let mut words = Vec::new(alloc);
-    for word in asked {
-        words.push(String::from_str(alloc, word)?)?;
-    }
+) -> Ended<MemPlant> {
+    let Ok(words) = words(alloc, asked) else {
+        return unbegun(alloc, Status::NoMemory, plant);
+    };
     let mut source = MemSource::new(script, None);
-    Ok(race_top(rt, alloc, words.as_slice(), &mut source, plant, meet))
+    race_top(rt, alloc, words.as_slice(), &mut source, plant, meet)
+}
+
+/// What a race left.
+#[derive(Clone, Copy)]
+struct Left {
+    /// It ended well, and the journal has each member's entries.
+    entries: bool,
+    /// So did the report after it, and all lines are on the console.
+    lines: bool,
+}
+
+// The queue is reported, and then all lines are on the console. What is left of a run is let go in one call.
+fn is_reported<R: Threads + Wait + Sync>(rt: &R, alloc: Global, plant: MemPlant) -> bool {
+    let told = does(rt, alloc, &["report"], List::new(alloc), plant, &NoMeet);
+    let is_said = matches!(told.status, Status::Done) && has_said_all(alloc, &told.plant);
+    drop(told);
+    is_said
 }
 
 // The members race over their decks, and then the queue is reported on the same devices.
@@ -104,42 +140,30 @@ fn race<R: Threads + Wait + Sync, M: Meet + Sync>(
     rt: &R,
     alloc: Global,
     meet: &M,
-) -> Result<(), Fail> {
-    let sizes = Sizes {
-        ckpt: 1 << 20,
-        volumes: 1,
-        volume: 4096 * 512,
-    };
-    let plant = MemPlant::new(alloc, sizes, 400_000, 100_000_000)
-        .ok()
-        .ok_or("memory")?;
-    let script = script(alloc).ok().ok_or("memory")?;
-    let ended = does(rt, alloc, &["race", "--cold"], script, plant, meet)?;
-    if !matches!(ended.status, Status::Done) || !has_all(&ended.journal) {
-        return Err(Fail::new("the members' entries"));
-    }
-    let ended = does(
-        rt,
-        alloc,
-        &["report"],
-        List::new(alloc),
-        ended.plant,
-        &NoMeet,
-    )?;
-    let console = ended.plant.console_lines(alloc).ok().ok_or("memory")?;
-    if !matches!(ended.status, Status::Done) || !says_all(&console) {
-        return Err(Fail::new("the lines on the console"));
-    }
-    Ok(())
+) -> Result<Left, NoMemory> {
+    let decks = script(alloc)?;
+    let plant = plant(alloc)?;
+    let Ended {
+        status,
+        plant,
+        base,
+        journal,
+        ..
+    } = does(rt, alloc, &["race", "--cold"], decks, plant, meet);
+    let entries = matches!(status, Status::Done) && has_all(&journal);
+    drop(base);
+    drop(journal);
+    let lines = is_reported(rt, alloc, plant);
+    Ok(Left { entries, lines })
 }
 
 // A member's entries are those of its decks in their order, each deck's together. SYSA has the odd steps, SYSB the even
 // ones.
-fn gives_its_own(journal: &Journal, by: MemberId) -> bool {
+fn gives_its_own(journal: &BriefJournal, by: MemberId) -> bool {
     let mut count = 0usize;
     let mut step = u32::from(by.0);
-    for batch in journal.batches.as_slice() {
-        for entry in batch.entries.as_slice() {
+    for batch in journal.batches() {
+        for entry in batch.briefs() {
             if entry.by == by {
                 if entry.step != step {
                     return false;
@@ -154,7 +178,7 @@ fn gives_its_own(journal: &Journal, by: MemberId) -> bool {
     count == DECKS * ENTRIES
 }
 
-fn has_all(journal: &Journal) -> bool {
+fn has_all(journal: &BriefJournal) -> bool {
     gives_its_own(journal, MemberId(1)) && gives_its_own(journal, MemberId(2))
 }
 
@@ -184,15 +208,27 @@ fn says_all(console: &Lines) -> bool {
         && all_begin(console, volume + 3, volume + 4, b"END")
 }
 
+fn has_said_all(alloc: Global, plant: &MemPlant) -> bool {
+    match plant.console_lines(alloc) {
+        Ok(console) => says_all(&console),
+        Err(NoMemory) => false,
+    }
+}
+
 #[test]
 fn two_members_race(rt: HostRuntime) -> Result<(), Fail> {
-    race(&rt, rt.alloc(), &NoMeet)
+    let left = race(&rt, rt.alloc(), &NoMeet).ok().ok_or("memory")?;
+    assert!(rt; left.entries);
+    assert!(rt; left.lines);
+    Ok(())
 }
 
 #[test]
 fn two_members_meet(rt: HostRuntime) -> Result<(), Fail> {
     let meet = FirstSteps::new();
-    race(&rt, rt.alloc(), &meet)?;
+    let left = race(&rt, rt.alloc(), &meet).ok().ok_or("memory")?;
+    assert!(rt; left.entries);
+    assert!(rt; left.lines);
     assert!(rt; meet.have_met());
     Ok(())
 }
