@@ -18,10 +18,10 @@ use Rattle.mas_types.specs.Fit.{AreLines, IsFit}
 use Rattle.mas_types.specs.Limits.{members_most}
 use Rattle.mas_types.specs.Step as table
 use Rattle.spool_plant.specs.View.{View}
-use Rattle.queue_texts.specs.Leaving.{AreTheirOwn, OthersLeaveTexts}
+use Rattle.member_node.specs.Leaving.{AreTheirOwn, OthersLeaveTexts}
 use Rattle.queue_texts.specs.Entering.{EnterBringsText, groups_for}
 use Rattle.queue_texts.proofs.BroughtLemmas.{brought_holds}
-use Rattle.queue_commands.specs.Given.{IsGiver}
+use Rattle.member_node.specs.Given.{IsGiver}
 use Rattle.mas_complex.specs.Meaning.{run}
 use Rattle.mas_complex.specs.Texts.{HasTexts, IsThere, IsThereUnless, Spools, spools_at}
 use Rattle.member_node.specs.Calls.{IsOnlyOn}

@@ -18,8 +18,8 @@ use Rattle.lay_bytes.specs.declared.records.OutRec.{OutRec}
 use Rattle.ckpt_tables.specs.declared.tables.Tables.{Tables}
 use Rattle.ckpt_pages.specs.QueueOf.{queue_of}
 use Rattle.queue_telling.specs.Telling.{Tell, TellSound}
-use Rattle.queue_tables.proofs.ToldLemmas.{tell_given}
-use Rattle.queue_texts.specs.Leaving.{OthersLeaveTexts, ToldAreTheirOwn}
+use Rattle.member_node.proofs.ToldLemmas.{tell_given}
+use Rattle.member_node.specs.Leaving.{OthersLeaveTexts, ToldAreTheirOwn}
 use Rattle.mas_complex.specs.Meaning.{run, step}
 use Rattle.mas_complex.specs.Texts.{HasTexts}
 use Rattle.member_node.specs.Batches.{last_reply}

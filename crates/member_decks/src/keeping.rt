@@ -13,7 +13,7 @@ ghost use Rattle.mas_complex.specs.Locking.{MayAct};
 ghost use Rattle.mas_complex.specs.Meaning.{run};
 ghost use Rattle.mas_complex.specs.Texts.{HasTexts, lost_now, spools_at};
 ghost use Rattle.queue_telling.specs.Telling.{TellSound};
-ghost use Rattle.queue_effect.specs.Standing.{AreFit};
+ghost use Rattle.member_node.specs.Standing.{AreFit};
 ghost use Rattle.member_node.specs.Batches.{CanDraw, HasDone};
 ghost use Rattle.member_node.specs.Copies.{RestsAt};
 ghost use Rattle.member_steps.specs.Counting.{HasCounted};

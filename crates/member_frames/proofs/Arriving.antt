@@ -29,7 +29,7 @@ use Rattle.member_sittings.specs.Ends.{ends_in}
 use Rattle.member_sittings.specs.Sat.{IsEndOf}
 use Rattle.member_sittings.specs.Shapes.{LineLines, SaysAtEnd}
 use Rattle.member_sittings.proofs.TurnLemmas.{all_of_one, sit_one}
-use Rattle.member_asides.specs.Ready.{HasFewer}
+use Rattle.member_giving.specs.Ready.{HasFewer}
 use Rattle.member_frames.specs.declared.arrivals.ReadJob.{ReadJob}
 use Rattle.member_frames.specs.Arriving.{arrival_opens, arrival_turn}
 

@@ -57,7 +57,7 @@ use Rattle.member_sittings.specs.Shapes.{DeckLines, IsShaped, LineLines, SaysAtE
 use Rattle.member_sittings.specs.Whole.{Commanded, HasTextsAfter, IsGiving, IsSitting, queue_of}
 use Rattle.member_sittings.proofs.SeatLemmas.{gives_commanded}
 use Rattle.member_sittings.proofs.TurnLemmas.{all_of_one, sit_one}
-use Rattle.member_asides.specs.Ready.{HasFewer}
+use Rattle.member_giving.specs.Ready.{HasFewer}
 use Rattle.member_frames.specs.Waits.{HasFrameMore, IsServable}
 
 -- THE REPLY TO GOT

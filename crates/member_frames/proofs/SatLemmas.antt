@@ -35,7 +35,7 @@ use Rattle.member_sittings.specs.Shapes.{Says, SaysLine}
 use Rattle.member_sittings.specs.Tight.{IfNoWork}
 use Rattle.member_sittings.specs.Whole.{queue_of}
 use Rattle.member_giving.specs.Plays.{Wrote, wrote_of}
-use Rattle.member_asides.specs.Ready.{HasFewer}
+use Rattle.member_giving.specs.Ready.{HasFewer}
 use Rattle.member_giving.specs.Works.{HasRoom, IsLow, outside, place_of}
 use Rattle.member_giving.proofs.Sat.{sat_played, sits_as, sitting_as}
 use Rattle.member_giving.proofs.Working.{AtWork}

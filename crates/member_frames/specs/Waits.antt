@@ -22,7 +22,7 @@ use Rattle.step_turns.specs.declared.states.Aside.TheVariants.{Acknowledge, Exch
 use Rattle.step_turns.specs.declared.states.State.TheVariants.{Away, Told}
 use Rattle.step_turns.specs.States.{nothing_found}
 use Rattle.member_sittings.specs.Asides.{DeckIsSpooled, HasGroups, deck_found}
-use Rattle.member_asides.specs.Asides.{wire_found}
+use Rattle.member_giving.specs.Asides.{wire_found}
 
 -- the job that is offered is there, whatever the plant tells
 pub record IsThere (t : Tables) (n : JobNo) : Type 0 where

@@ -8,7 +8,7 @@ ghost use Rattle.member_node.specs.Reads.{too_high};
 ghost use Rattle.member_sittings.specs.Asides.{DeckIsSpooled, deck_found};
 ghost use Rattle.member_sittings.specs.Sat.{HasSat, SitsOn, resumes, sat_in};
 ghost use Rattle.member_sittings.specs.Whole.{MaySit};
-ghost use Rattle.member_asides.specs.Ready.{HasFewer};
+ghost use Rattle.member_giving.specs.Ready.{HasFewer};
 ghost use Rattle.member_giving.specs.Works.{SitsIn};
 ghost use Rattle.step_turns.specs.Serving.{taken_most};
 ghost use Rattle.step_turns.specs.declared.states.Aside.TheVariants.{SpoolArrival};

@@ -10,7 +10,7 @@ ghost use Rattle.step_turns.specs.Laws.{aside_done, aside_units, units_left};
 ghost use Rattle.step_turns.specs.Serving.{exchange_end as exchange_end_lem, unless_cut, unread};
 ghost use Rattle.member_sittings.specs.Sat.{HasSat, resumes, sat_in};
 ghost use Rattle.member_sittings.specs.Whole.{MaySit};
-ghost use Rattle.member_asides.specs.Ready.{HasFewer};
+ghost use Rattle.member_giving.specs.Ready.{HasFewer};
 ghost use Rattle.member_giving.specs.Works.{SitsIn};
 ghost use Rattle.member_frames.specs.Plays.{EndsLine, EndsOrServes, answer_end as answer_end_lem};
 ghost use Rattle.member_frames.specs.Waits.{IsServable, MayResumeLine, WaitsOnLine};

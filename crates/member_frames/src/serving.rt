@@ -2,7 +2,7 @@
 ghost use Rattle.std.specs.Prelude.{◌≡◌, ◌+◌, ◌*◌, ◌≤◌, [], IfOk};
 ghost use Rattle.step_turns.specs.Laws.{units_left};
 ghost use Rattle.member_giving.specs.Plays.{wrote_of};
-ghost use Rattle.member_asides.specs.Ready.{HasFewer};
+ghost use Rattle.member_giving.specs.Ready.{HasFewer};
 ghost use Rattle.member_giving.specs.Works.{HasRoom, SitsIn, Works, outside, place_of, queue_here, run_of};
 ghost use Rattle.member_frames.specs.Nexts.{IsNoBegin, IsServableNext, frames_in, turn_by};
 ghost use Rattle.member_frames.specs.Plays.{ServesLine};

@@ -7,7 +7,7 @@ ghost use Rattle.mas_types.specs.Limits.{members_most};
 ghost use Rattle.mas_types.specs.Queue.{is_member};
 ghost use Rattle.ckpt_tables.specs.Shape.{HasSpelling};
 ghost use Rattle.queue_telling.specs.Telling.{Tell, TellSound};
-ghost use Rattle.queue_effect.specs.Standing.{AreFit};
+ghost use Rattle.member_node.specs.Standing.{AreFit};
 ghost use Rattle.member_node.specs.Batches.{HasDone};
 ghost use Rattle.member_decks.specs.Decks.{are_refused, ends_as};
 ghost use Rattle.member_decks.specs.Taking.{IsOpening, IsTaking};

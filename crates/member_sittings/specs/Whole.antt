@@ -17,8 +17,8 @@ use Rattle.ckpt_copy.specs.declared.copying.Copying.{Ghosts as CopyGhosts}
 use Rattle.ckpt_tables.specs.Shape.{HasSpelling}
 use Rattle.lock_cycle.specs.Books.{Book, IsMember}
 use Rattle.paper_laws.specs.Counts.{is_mark}
-use Rattle.queue_commands.specs.Given.{IsGiver, is_plain}
-use Rattle.queue_effect.specs.Standing.{AreFit}
+use Rattle.member_node.specs.Given.{IsGiver, is_plain}
+use Rattle.member_node.specs.Standing.{AreFit}
 use Rattle.queue_telling.specs.Telling.{TellSound}
 use Rattle.spool_volumes.specs.Volumes.{AreRoomy}
 use Rattle.mas_types.specs.declared.ids.Page.{Page}

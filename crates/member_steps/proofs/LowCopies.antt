@@ -18,9 +18,9 @@ use Rattle.ckpt_pages.specs.Checkpoints.{IsCheckpoint}
 use Rattle.ckpt_pages.proofs.DecodingLemmas.{one_value}
 use Rattle.queue_telling.specs.Orders.{HaveOrders}
 use Rattle.queue_telling.specs.Telling.{Tell}
-use Rattle.queue_tables.proofs.OrderLemmas.{orders_are}
-use Rattle.queue_tables.proofs.SoundTables.{told_are_sound}
-use Rattle.queue_effect.proofs.LawLemmas.{sound_fit}
+use Rattle.member_node.proofs.OrderLemmas.{orders_are}
+use Rattle.member_node.proofs.SoundTables.{told_are_sound}
+use Rattle.member_node.proofs.LawLemmas.{sound_fit}
 use Rattle.mas_complex.proofs.Orders.{order_spelled}
 use Rattle.mas_complex.specs.Crash.{next_order, order_first, orders_most}
 use Rattle.mas_complex.specs.Journals.{in_flight, kept_all}

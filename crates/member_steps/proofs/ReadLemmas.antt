@@ -17,8 +17,8 @@ use Rattle.ckpt_tables.specs.Shape.{page_count}
 use Rattle.ckpt_pages.proofs.DecodingLemmas.{one_value}
 use Rattle.queue_telling.specs.Orders.{HaveOrders}
 use Rattle.queue_telling.specs.Telling.{Tell, TellSound}
-use Rattle.queue_tables.proofs.OrderLemmas.{orders_are}
-use Rattle.queue_tables.proofs.ToldLemmas.{tell_alike}
+use Rattle.member_node.proofs.OrderLemmas.{orders_are}
+use Rattle.member_node.proofs.ToldLemmas.{tell_alike}
 use Rattle.duplex_pair.specs.Halves.{SomeAlive}
 use Rattle.ckpt_places.specs.declared.places.Place.{Place}
 use Rattle.mas_complex.specs.Crash.{EachTells, IsUntold, setting}

@@ -15,9 +15,9 @@ use Rattle.queue_laws.proofs.RunLaws.{give_alike, runs_keep_configuration}
 use Rattle.ckpt_tables.specs.declared.tables.Tables.{Tables}
 use Rattle.ckpt_tables.specs.Shape.{AreLevels, HasSpelling, page_count}
 use Rattle.queue_telling.specs.Telling.{Tell, TellSound}
-use Rattle.queue_texts.specs.Leaving.{OthersLeaveTexts, ToldAreTheirOwn}
+use Rattle.member_node.specs.Leaving.{OthersLeaveTexts, ToldAreTheirOwn}
 use Rattle.mas_complex.specs.Texts.{Spools, HasTexts}
-use Rattle.queue_commands.specs.Given.{is_plain}
+use Rattle.member_node.specs.Given.{is_plain}
 use Rattle.mas_types.specs.declared.queues.Queue.{Queue}
 use Rattle.spool_plant.specs.declared.plant.Part.TheVariants.{Console}
 use Rattle.spool_plant.specs.View.{View, Line}

@@ -16,7 +16,7 @@ use Rattle.duplex_pair.specs.Halves.{IsBothLost}
 use Rattle.ckpt_tables.specs.declared.tables.Tables.{Tables}
 use Rattle.queue_telling.specs.Orders.{HaveOrders}
 use Rattle.queue_telling.specs.Telling.{Tell, TellSound}
-use Rattle.queue_effect.specs.Standing.{AreFit}
+use Rattle.member_node.specs.Standing.{AreFit}
 use Rattle.mas_complex.specs.Headline.{whole}
 use Rattle.mas_complex.specs.Journals.{kept_all}
 use Rattle.mas_complex.specs.Meaning.{step, run}

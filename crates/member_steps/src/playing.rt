@@ -6,8 +6,8 @@ ghost use Rattle.mas_types.specs.Limits.{members_most};
 ghost use Rattle.mas_types.specs.Step.{may_give};
 ghost use Rattle.ckpt_tables.specs.Shape.{HasSpelling};
 ghost use Rattle.queue_telling.specs.Telling.{Tell, TellSound};
-ghost use Rattle.queue_effect.specs.Standing.{AreFit};
-ghost use Rattle.queue_commands.specs.Given.{IsGiver, is_plain};
+ghost use Rattle.member_node.specs.Standing.{AreFit};
+ghost use Rattle.member_node.specs.Given.{IsGiver, is_plain};
 ghost use Rattle.member_node.specs.Batches.{HasDone};
 ghost use Rattle.member_steps.specs.Steps.{IsGiven, entry_of, step_lines};
 

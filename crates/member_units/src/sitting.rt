@@ -23,7 +23,7 @@ ghost use Rattle.member_sittings.specs.Sat.{HasSat, begins, resumes, sat_in};
 ghost use Rattle.member_sittings.specs.Whole.{MaySit};
 ghost use Rattle.member_sittings.specs.Shapes.{MayRefuseBy};
 ghost use Rattle.member_giving.specs.Plays.{MayStopBy, Plays, bounds, wrote_of};
-ghost use Rattle.member_asides.specs.Ready.{HasFewer, MayResume, OutputsStand};
+ghost use Rattle.member_giving.specs.Ready.{HasFewer, MayResume, OutputsStand};
 ghost use Rattle.member_giving.specs.Works.{IsLow, ReadyIn, SitsIn, Works, outside, place_of, queue_here, queue_kept, run_of};
 
 use crate::ends::{close, leave};

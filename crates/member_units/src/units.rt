@@ -6,7 +6,7 @@ ghost use Rattle.step_turns.specs.Laws.{units_left};
 ghost use Rattle.step_turns.specs.Turns.{goes_on_by, units_from};
 ghost use Rattle.member_sittings.specs.Shapes.{MayEndBy};
 ghost use Rattle.member_giving.specs.Plays.{Plays, bounds, rests as rests_lem, wrote_after, wrote_of};
-ghost use Rattle.member_asides.specs.Ready.{HasFewer};
+ghost use Rattle.member_giving.specs.Ready.{HasFewer};
 ghost use Rattle.member_giving.specs.Works.{HasRoom, ReadyIn, SitsIn, Works, outside, place_of, queue_here, run_of};
 
 use crate::ends::{close, leave};

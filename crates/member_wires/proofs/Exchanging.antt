@@ -24,8 +24,8 @@ use Rattle.nje_frames.specs.declared.frames.Frame.{Frame}
 use Rattle.step_turns.specs.Serving.{unread}
 use Rattle.step_turns.specs.declared.states.Found.{Found}
 use Rattle.step_turns.specs.declared.states.Offer.{Offer}
-use Rattle.member_sittings.specs.Whole.{queue_of}
-use Rattle.member_asides.specs.Asides.{HasRead, wire_found}
+use Rattle.member_acts.specs.Whole.{queue_of}
+use Rattle.member_acts.specs.Asides.{HasRead, wire_found}
 use Rattle.member_wires.specs.declared.acts.End.{End}
 use Rattle.member_wires.specs.Acts.{AreOnLine, GivenBy, GivesBytes, HasGivenBytes, HasLineFailed, IsHeard, StopsBeside}
 use Rattle.member_wires.specs.Asides.{Exchanged, FindsOffered, GaveBy, HasMoved, IsFoundHeard, end_of, job_bytes, offered_bytes}

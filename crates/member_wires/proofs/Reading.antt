@@ -20,7 +20,7 @@ use Rattle.member_wires.specs.declared.acts.Taken.{Taken}
 use Rattle.member_wires.specs.Acts.{AreOnLine, IsHeard, ReadsOn, StopsBeside, TakesAll, TakesInto}
 use Rattle.member_wires.specs.Asides.{IsFoundHeard}
 use Rattle.member_wires.proofs.OnLine.{on_line_none, took_none}
-use Rattle.member_asides.specs.Asides.{wire_found}
+use Rattle.member_acts.specs.Asides.{wire_found}
 
 pub on_line_read : (told : Type 0) (end : End) (old new : View) → OnVolumes told end.by.0 old new → OnlyReads told old new → AreOnLine told end old new
 on_line_read told end old new acts reads = record {

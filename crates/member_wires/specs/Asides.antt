@@ -29,8 +29,8 @@ use Rattle.step_turns.specs.declared.states.Found.{Found}
 use Rattle.step_turns.specs.declared.states.Offer.{Offer}
 use Rattle.step_turns.specs.declared.states.State.TheVariants.{Away}
 use Rattle.step_turns.specs.declared.states.Aside.TheVariants.{Exchange}
-use Rattle.member_sittings.specs.Whole.{queue_of}
-use Rattle.member_asides.specs.Asides.{MayRead, wire_found}
+use Rattle.member_acts.specs.Whole.{queue_of}
+use Rattle.member_acts.specs.Asides.{MayRead, wire_found}
 use Rattle.member_wires.specs.declared.acts.End.{End}
 use Rattle.member_wires.specs.Acts.{AreOnLine, GivesBytes, HasLineFailed, IsHeard, ReadsOn, TakesAll}
 

@@ -7,7 +7,7 @@ ghost use Rattle.member_node.specs.declared.member.NodeNo.TheVariants.{NoMemory 
 ghost use Rattle.nje_frames.specs.Grammar.{IsFrame};
 ghost use Rattle.member_wires.specs.Acts.{GivesBytes, IsHeard, ReadsOn};
 ghost use Rattle.member_wires.specs.Asides.{Acknowledges, Exchanges, IsFoundHeard, MayAcknowledge, MayExchange, job_bytes, lost_of};
-ghost use Rattle.member_asides.specs.Asides.{wire_found};
+ghost use Rattle.member_acts.specs.Asides.{wire_found};
 
 use crate::acts::{End, Taken, give_frame, take_waiting};
 use job_outcome::Read;

@@ -15,6 +15,11 @@ use Rattle.mas_types.specs.Histories.{history, history_end, history_line, histor
 use Rattle.mas_types.specs.Journal.{entries_of, is_kept, kept_list}
 use Rattle.mas_types.specs.Numerals.{in_digits}
 use Rattle.mas_types.specs.Shown.{member_word}
+use Rattle.brief_journal.specs.declared.entries.BriefEntry.{BriefEntry}
+use Rattle.brief_journal.specs.declared.entries.BriefReply.{BriefReply}
+use Rattle.brief_journal.specs.declared.entries.BriefReply.TheVariants as answer
+use Rattle.brief_journal.specs.Brief.{brief_of, brief_reply, entry_of, reply_of}
+use Rattle.cmd_report.specs.Named.{IsEntryNamed}
 use Rattle.spool_plant.specs.declared.plant.Act.TheVariants.{Done, Failed}
 use Rattle.spool_plant.specs.declared.plant.Part.TheVariants.{Console, Disk}
 use Rattle.spool_plant.specs.Acts.{Acts}
@@ -35,9 +40,23 @@ pub other_refusal : (why : Refusal) → ((m : MemberId) → why ≡ refusal.InUs
 other_refusal (refusal.InUse m) other = absurd (other m refl)
 other_refusal _ other = tt
 
-pub other_reply : (r : Reply) → ((why : Refusal) → r ≡ reply.No why → ⊥) → IsReplyNamed r
-other_reply (reply.No why) other = absurd (other why refl)
+pub other_reply : (r : BriefReply) → ((why : Refusal) → r ≡ answer.No why → ⊥) → IsReplyNamed (reply_of r)
+other_reply (answer.No why) other = absurd (other why refl)
 other_reply _ other = tt
+
+-- an entry names members that have names, if it does so in brief
+abbrev pub IsBriefNamed : BriefEntry → Type 0
+IsBriefNamed b = IsEntryNamed (entry_of b)
+
+reply_whole : (r : Reply) → IsReplyNamed (reply_of (brief_reply r)) → IsReplyNamed r
+reply_whole (reply.No why) h = h
+reply_whole _ h = tt
+
+pub named_whole : (es : List Entry) → All IsBriefNamed (map brief_of es) → All IsEntryNamed es
+named_whole [] all = All-nil IsEntryNamed
+named_whole (e ∷ es) all =
+    let h = All-head IsBriefNamed (brief_of e) (map brief_of es) all in
+    All-cons IsEntryNamed e es (h.0, reply_whole e.reply h.1) (named_whole es (All-tail IsBriefNamed (brief_of e) (map brief_of es) all))
 
 -- WHAT IS KEPT
 

@@ -3,9 +3,10 @@
 use denote.RattleType.{RattleType}
 use denote.Ref.{NamedLft}
 use mathlib.Core.List.{[], ◌∷◌}
+use denote.Struct.Declared.{shape}
 use denote.Struct.Field.{unit-field}
-use denote.Param.Send.{AllSend, IsSend, IsSync, sendable, plain_send, plain_sync, such_send, such_sync, param_send, param_sync, recorded_send, recorded_sync, struct_send, struct_sync, enum_send, enum_sync, array_send, array_sync, number_array_send, number_array_sync}
-use Rattle.std.proofs.Crossing.{crosses}
+use denote.Param.Send.{AllSend, fixed_send, view_send, IsSend, IsSync, sendable, plain_send, plain_sync, such_send, such_sync, param_send, param_sync, recorded_send, recorded_sync, struct_send, struct_sync, enum_send, enum_sync, array_send, array_sync, number_array_send, number_array_sync}
+use Rattle.std.proofs.Crossing.{Vec-send, crosses}
 use Rattle.std.specs.contracts.result.Result as results
 use Rattle.atomic_table.proofs.shared.Seat.TheSendSync.{the_send as seat_send}
 use Rattle.atomic_table.proofs.shared.Shared.TheSendSync.{the_sync as table_sync}
@@ -29,8 +30,12 @@ use Rattle.mas_types.specs.contracts.jobs.Output.{the_row as output_row}
 use Rattle.mas_types.specs.contracts.commands.Command.{the_field as command_field}
 use Rattle.mas_types.specs.contracts.commands.Reply.{the_field as reply_field}
 use Rattle.mas_types.specs.contracts.journals.Entry.{the_row as entry_row}
-use Rattle.mas_types.specs.contracts.journals.Batch.{the_row as batch_row}
-use Rattle.mas_types.specs.contracts.journals.Journal.{the_field as journal_field}
+use Rattle.brief_journal.specs.contracts.entries.BriefCommand.{the_field as brief_command_field}
+use Rattle.brief_journal.specs.contracts.entries.BriefReply.{the_field as brief_reply_field}
+use Rattle.brief_journal.specs.contracts.entries.BriefEntry.{the_row as brief_row}
+use Rattle.brief_journal.specs.contracts.batches.BriefEntries.{the_row as entries_row}
+use Rattle.brief_journal.specs.contracts.batches.BriefBatch.{the_row as batch_row}
+use Rattle.brief_journal.specs.contracts.journals.BriefJournal.{the_field as journal_field}
 use Rattle.mas_types.specs.contracts.queues.Owner.{the_row as owner_row}
 use Rattle.mas_types.specs.contracts.queues.Setting.{the_row as setting_row}
 use Rattle.mas_types.specs.contracts.queues.Route.{the_row as route_row}
@@ -45,6 +50,8 @@ use Rattle.mas_race.specs.contracts.shared.Shared as shareds
 use Rattle.member_gate.specs.contracts.pass.Pass as passes
 use Rattle.member_gate.specs.contracts.pass.Gate as gates
 use Rattle.member_node.specs.contracts.checkpoint.Checkpoint.{the_field as checkpoint_field}
+use Rattle.job_select.specs.contracts.index.Index as indexes
+use Rattle.job_select.specs.contracts.kept.KeptIndex as kepts
 use Rattle.member_node.specs.contracts.member.Member as members
 use Rattle.member_node.specs.contracts.member.NodeNo as refusals
 use Rattle.race_run.specs.contracts.lines.Course as courses
@@ -58,6 +65,9 @@ ruleset syncs = (tt, plain_sync, such_sync, param_sync, recorded_sync, struct_sy
 -- ALL OF SEVERAL, as the fields of a struct are
 one_send : (A : RattleType) → IsSend A → AllSend (A ∷ [])
 one_send A a = (a, tt)
+
+three_send : (A B C : RattleType) → IsSend A → IsSend B → IsSend C → AllSend (A ∷ B ∷ C ∷ [])
+three_send A B C a b c = (a, (b, (c, tt)))
 
 pub two_send : (A B : RattleType) → IsSend A → IsSend B → AllSend (A ∷ B ∷ [])
 two_send A B a b = (a, (b, tt))
@@ -97,11 +107,23 @@ reply_send = search (lines_send, sends) depth 100 fits 100000
 entry_send : IsSend entry_row
 entry_send = search (id_send, command_send, reply_send, sends) depth 100 fits 100000
 
+brief_command_send : IsSend brief_command_field.row
+brief_command_send = search sends depth 300 fits 100000
+
+brief_reply_send : IsSend brief_reply_field.row
+brief_reply_send = search sends depth 100 fits 100000
+
+brief_send : IsSend brief_row
+brief_send = search (id_send, brief_command_send, brief_reply_send, sends) depth 100 fits 100000
+
+entries_send : IsSend entries_row
+entries_send = search (brief_send, sendable, crosses) depth 100 fits 100000
+
 batch_send : IsSend batch_row
-batch_send = search (list_send, entry_send, sends) depth 100 fits 100000
+batch_send = search (id_send, entries_send, sendable, crosses) depth 100 fits 100000
 
 journal_send : IsSend journal_field.row
-journal_send = search (list_send, batch_send, sends) depth 100 fits 100000
+journal_send = search (list_send, batch_send, sendable, crosses) depth 100 fits 100000
 
 -- A QUEUE
 
@@ -134,8 +156,23 @@ page_send = search sends depth 100 fits 100000
 checkpoint_send : IsSend checkpoint_field.row
 checkpoint_send = search (list_send, page_send, owner_send, setting_send, route_send, count_send, sendable, crosses) depth 40 fits 20000
 
+-- the chains of an index, each a map whose values are lists of slots
+ruleset maps = (view_send, fixed_send, Vec-send, recorded_send, struct_send, three_send, two_send, one_send, array_send, number_array_send, plain_send)
+
+index_send : IsSend indexes.the_field.row
+index_send = struct_send (shape indexes.the_type) (
+  search (list_send, sendable, crosses) depth 40 fits 20000,
+  (
+    search (list_send, sendable, crosses) depth 40 fits 20000,
+    (search maps depth 40 fits 20000, (search maps depth 40 fits 20000, (search maps depth 40 fits 20000, (search sends depth 40 fits 20000, (search sends depth 40 fits 20000, tt))))),
+  ),
+)
+
+kept_send : IsSend kepts.the_field.row
+kept_send = struct_send (shape kepts.the_type) (index_send, (search sends, tt))
+
 member_send : IsSend members.the_field.row
-member_send = search (list_send, page_send, entry_send, checkpoint_send, one_send, sends) depth 100 fits 100000
+member_send = search (list_send, page_send, entry_send, checkpoint_send, kept_send, one_send, sends) depth 100 fits 100000
 
 pub member_row : IsSend members.the_row
 member_row = search (member_send, recorded_send)
@@ -171,10 +208,10 @@ book_send = search (sendable, crosses) depth 40 fits 20000
 
 module _ (P C : RattleType) (plants : PlantGhosts P.Denot) (steadies : SteadyGhosts C.Denot) (copies : CopyGhosts C.Denot) where
   complex_send : IsSend P → IsSend C → IsSend (complexes.the_field P C plants steadies copies).row
-  complex_send p c = search (list_send, book_send, queue_send, journal_send, batch_send, entry_send, renewals_send, note_send, sendable, crosses) depth 200 fits 200000
+  complex_send p c = search (list_send, book_send, queue_send, journal_send, batch_send, entries_send, renewals_send, note_send, sendable, crosses) depth 200 fits 200000
 
   pub shared_send : (K : RattleType) (o : BeginningGhosts K.Denot) → IsSend P → IsSend C → IsSend K → IsSend (shareds.the_row P C K plants steadies copies o)
-  shared_send K o p c k = search (list_send, book_send, queue_send, journal_send, batch_send, entry_send, renewals_send, note_send, sendable, crosses) depth 200 fits 200000
+  shared_send K o p c k = search (list_send, book_send, queue_send, journal_send, batch_send, entries_send, renewals_send, note_send, sendable, crosses) depth 200 fits 200000
 
 pub pass_row : (T : RattleType) → IsSend T → IsSend (passes.the_row T)
 pass_row T s = search (seat_send, sendable) depth 60 fits 20000

@@ -5,13 +5,14 @@ ghost use Rattle.mas_types.specs.Closings.{IsRefusalNamed, IsReplyNamed};
 ghost use Rattle.mas_types.specs.Histories.{history as history_lem};
 ghost use Rattle.mas_types.specs.Limits.{members_most};
 ghost use Rattle.mas_types.specs.Journal.{kept_list};
+ghost use Rattle.brief_journal.specs.Brief.{entry_of, reply_of};
 ghost use Rattle.mas_complex.specs.Parts.{parts_of};
 ghost use Rattle.race_run.specs.Histories.{IsSaying, SaysHistory};
 
 use crate::before::OPERATOR;
 use cmd_report::history;
-use mas_complex::{Complex, Steady};
-use mas_types::{Entry, Journal, Lines, MEMBERS_MOST, MemberId, NoMemory, Refusal, Reply, Status};
+use mas_complex::{BriefEntry, BriefJournal, BriefReply, Complex, Steady};
+use mas_types::{Lines, MEMBERS_MOST, MemberId, NoMemory, Refusal, Status};
 use spool_plant::{Act, Plant};
 use std::alloc::Global;
 
@@ -31,24 +32,24 @@ fn is_refusal_named(why: &Refusal) -> bool
     }
 }
 
-fn is_reply_named(reply: &Reply) -> bool
-    ensures { result ≡ true → IsReplyNamed reply.now }
+fn is_reply_named(reply: &BriefReply) -> bool
+    ensures { result ≡ true → IsReplyNamed (reply_of reply.now) }
 {
     match reply {
-        Reply::No(why) => is_refusal_named(why),
+        BriefReply::No(why) => is_refusal_named(why),
         _ => true,
     }
 }
 
 // Whether each member that entries name has a name.
-fn are_named(entries: &[Entry]) -> bool
-    ensures { result ≡ true → All IsEntryNamed entries.now }
+fn are_named(briefs: &[BriefEntry]) -> bool
+    ensures { result ≡ true → All (λ b. IsEntryNamed (entry_of b)) briefs.now }
 {
-    for entry in entries {
-        if !is_named(entry.by) {
+    for brief in briefs {
+        if !is_named(brief.by) {
             return false;
         }
-        if !is_reply_named(&entry.reply) {
+        if !is_reply_named(&brief.reply) {
             return false;
         }
     }
@@ -56,11 +57,11 @@ fn are_named(entries: &[Entry]) -> bool
 }
 
 // Whether each member that a history names has a name.
-fn is_history_named(journal: &Journal) -> bool
+fn is_history_named(journal: &BriefJournal) -> bool
     ensures { result ≡ true → IsHistoryNamed journal.now }
 {
-    for batch in journal.batches.as_slice() {
-        if !are_named(batch.entries.as_slice()) {
+    for batch in journal.batches() {
+        if !are_named(batch.briefs()) {
             return false;
         }
     }
@@ -68,7 +69,7 @@ fn is_history_named(journal: &Journal) -> bool
 }
 
 // The lines of the history. No history of a run names a member that has no name.
-fn lines_of(alloc: Global, journal: &Journal) -> Result<Lines, NoMemory>
+fn lines_of(alloc: Global, journal: &BriefJournal) -> Result<Lines, NoMemory>
     requires count { length (kept_list journal.now) < 2 ^ 63 }
     ensures { IfOk result (λ lines. lines ≡ history_lem journal.now) }
 {

@@ -31,8 +31,8 @@ use Rattle.member_node.specs.Copies.{RestsAt}
 use Rattle.member_node.specs.Drawn.{AreDrawn}
 use Rattle.member_node.specs.Reads.{AreLow, ReadsLow}
 use Rattle.member_steps.proofs.ReadLemmas.{calm_rest, low_written}
-use Rattle.member_sittings.specs.Gates.{IsOpen}
-use Rattle.member_sittings.specs.Whole.{Half, HasUntold, IsAtRest, first_half, queue_of, second_half}
+use Rattle.member_quiet.specs.Gates.{IsOpen}
+use Rattle.member_quiet.specs.Whole.{Half, HasUntold, IsAtRest, first_half, queue_of, second_half}
 use Rattle.member_quiet.specs.Quiet.{IsQuiet}
 use Rattle.run_turns.specs.Scenes.{scene_of}
 use Rattle.run_opening.specs.Fresh.{AreFresh, AreFreshFrom, IsFresh}

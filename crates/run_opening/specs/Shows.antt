@@ -22,7 +22,7 @@ use Rattle.mas_complex.specs.Paper.{counts_of}
 use Rattle.mas_complex.specs.Parts.{Parts, parts_of, unreserved_in}
 use Rattle.member_node.specs.declared.member.Member.{Member}
 use Rattle.member_node.specs.Wanted.{HasHad}
-use Rattle.member_sittings.specs.Whole.{HasUntold, IsSeat, queue_of}
+use Rattle.member_quiet.specs.Whole.{HasUntold, IsSeat, queue_of}
 use Rattle.member_quiet.specs.Quiet.{IsIdle, IsQuiet}
 use Rattle.run_turns.specs.Scenes.{Scene}
 use Rattle.member_quiet.specs.Standing.{IsOfEarlier, StandsIn}

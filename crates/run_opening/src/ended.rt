@@ -8,8 +8,8 @@ ghost use Rattle.run_opening.specs.Statuses.{status_of as status_of_lem};
 ghost use Rattle.mas_types.specs.Statuses.{status_code as code_of_status};
 
 use ckpt_form::CopyForm;
-use mas_complex::Complex;
-use mas_types::{Journal, List, Queue, Status, no_queue, status_code};
+use mas_complex::{BriefJournal, Complex};
+use mas_types::{Queue, Status, no_queue, status_code};
 use member_node::NodeNo;
 use spool_plant::Plant;
 use std::alloc::Global;
@@ -28,7 +28,7 @@ pub struct Ended<P> {
     /// The moment from which on the run keeps its promises: of a cold run the one after the formatting.
     pub since: u64,
     /// The commands of the run, with their replies.
-    pub journal: Journal,
+    pub journal: BriefJournal,
 }
 
 /// The end of a run that has not begun.
@@ -43,15 +43,7 @@ pub fn unbegun<P: Plant + Drop>(alloc: Global, status: Status, plant: P) -> Ende
         plant,
         base: no_queue(alloc),
         since,
-        journal: no_journal(alloc),
-    }
-}
-
-fn no_journal(alloc: Global) -> Journal
-    ensures { result.batches ≡ [] }
-{
-    Journal {
-        batches: List::new(alloc),
+        journal: BriefJournal::new(alloc),
     }
 }
 

@@ -9,7 +9,7 @@ use Rattle.mas_types.specs.declared.queues.Queue.{Queue}
 use Rattle.mas_types.specs.Fit.{IsFit}
 use Rattle.mas_types.specs.Queue.{is_member}
 use Rattle.mas_types.specs.Step.{may_give}
-use Rattle.queue_commands.specs.Given.{IsGiver}
+use Rattle.member_node.specs.Given.{IsGiver}
 use Rattle.ckpt_tables.specs.declared.tables.Tables.{Tables}
 use Rattle.mas_complex.specs.Journals.{kept_all}
 use Rattle.mas_complex.specs.Meaning.{run}

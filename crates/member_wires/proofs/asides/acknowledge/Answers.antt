@@ -6,7 +6,7 @@ use Rattle.step_turns.specs.declared.states.Found.{Found}
 use Rattle.member_wires.specs.Asides.{HasAnswered, end_of}
 use Rattle.member_wires.proofs.OnLine.{gives_nothing}
 use Rattle.member_wires.proofs.asides.acknowledge.Goals as goal
-use Rattle.member_asides.specs.Asides.{wire_found}
+use Rattle.member_acts.specs.Asides.{wire_found}
 
 pub returns-in_default-clause-acknowledges : goal.returns-in_default-clause-acknowledges
 returns-in_default-clause-acknowledges g c =

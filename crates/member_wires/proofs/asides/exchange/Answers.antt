@@ -9,7 +9,7 @@ use Rattle.member_wires.specs.Asides.{Exchanged, IsFoundHeard, end_of, job_bytes
 use Rattle.member_wires.proofs.OnLine.{frame_on, up_after}
 use Rattle.member_wires.proofs.Exchanging.{frame_err, frame_given, frame_lost, given_none, heard_ends, offered_there, text_cut, text_err}
 use Rattle.member_wires.proofs.asides.exchange.Goals as goal
-use Rattle.member_asides.specs.Asides.{wire_found}
+use Rattle.member_acts.specs.Asides.{wire_found}
 
 -- NO JOB IS OFFERED
 

@@ -28,7 +28,7 @@ use Rattle.member_node.specs.Reads.{AreLow}
 use Rattle.member_steps.proofs.ReadLemmas.{told_sound}
 use Rattle.member_steps.proofs.StepLemmas.{can_draw, journal_kept, step_texts}
 use Rattle.member_decks.proofs.PageLemmas.{still_roomy}
-use Rattle.member_sittings.specs.Whole.{first_half, second_half}
+use Rattle.member_quiet.specs.Whole.{first_half, second_half}
 use Rattle.run_opening.proofs.BetweenLemmas.{open_rest}
 use Rattle.run_opening.proofs.ResetLemmas.{low_first, none_untold_later, one_settled, reset_done, reset_none, reset_unsettled, reset_written, restart_begins, restart_own, restart_printed, settle_none, some_kept, tell_none}
 use Rattle.run_opening.proofs.reset.restart.Goals as goal
