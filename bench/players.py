@@ -445,6 +445,11 @@ class Taken:
         tenth = decks // 10
         return (ends[tenth] - ends[0]) / tenth, (ends[-1] - ends[-1 - tenth]) / tenth
 
+    def settled(self, decks):
+        """Seconds a deck, without the first one and the start before it."""
+        ends = self.at[1::2]
+        return (ends[-1] - ends[0]) / (decks - 1)
+
 
 # The name of a player that makes the acts of a list again, and of the file of that list.
 AGAIN = "acts"
