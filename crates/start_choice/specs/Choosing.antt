@@ -32,6 +32,11 @@ abbrev pub HasFew : Judged → Type 0
 HasFew (Good good) = IsFew good
 HasFew (Bad why) = Unit {0}
 
+-- what a start makes of some copy: pages that can be used have their tables
+abbrev pub IsSomeJudged : Judged → Type 0
+IsSomeJudged (Good good) = AreOf good.pages good.tables × IsFew good
+IsSomeJudged (Bad why) = Unit {0}
+
 abbrev pub is_lower : GoodPages → GoodPages → Bool
 is_lower one two = nat_lt (level (bytes_of one.pages)) (level (bytes_of two.pages))
 

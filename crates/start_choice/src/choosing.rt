@@ -1,12 +1,14 @@
 //! Which copy counts at a start.
 ghost use Rattle.std.specs.Prelude.{◌≡◌, IfOk};
-ghost use Rattle.start_choice.specs.Choosing.{IsJudged, IsFew, HasFew, is_lower, started, alone, chosen, goes};
+ghost use Rattle.duplex_pair.specs.declared.errors.Look.TheVariants.{Pages};
+ghost use Rattle.start_choice.specs.Usable.{AreOf};
+ghost use Rattle.start_choice.specs.Choosing.{IsJudged, IsSomeJudged, IsFew, HasFew, is_lower, started, alone, chosen, goes};
 
 use crate::sound_pages::usable;
 use ckpt_tables::Tables;
 use duplex_pair::{Look, pages_level};
-use mas_complex::fits;
-use mas_types::{CopyState, Dev, List, NoMemory, Page};
+use mas_complex::{fits, same_pages};
+use mas_types::{Copied, CopyState, Dev, List, NoMemory, Page};
 use std::alloc::Global;
 
 /// Pages that a start may begin with, and the tables that they spell.
@@ -74,6 +76,36 @@ pub fn judge(alloc: Global, look: Look) -> Result<Judged, NoMemory>
             Some(tables) => Ok(Judged::Good(Good { pages, tables })),
             None => Ok(Judged::Bad(CopyState::Unsound)),
         },
+    }
+}
+
+// What a start makes of these pages beside a copy that can be used.
+fn judge_pages(alloc: Global, good: &Good, pages: List<Page>) -> Result<Judged, NoMemory>
+    requires tables { AreOf good.now.pages good.now.tables }
+    requires few { IsFew good.now }
+    ensures judged { IfOk result (IsJudged (Pages pages)) }
+    ensures few { IfOk result HasFew }
+{
+    if !same_pages(good.pages.as_slice(), pages.as_slice()) {
+        return judge(alloc, Look::Pages(pages));
+    }
+    let tables = good.tables.copy(alloc)?;
+    Ok(Judged::Good(Good { pages, tables }))
+}
+
+/// What a start makes of a copy that was looked at so, as `judge` has it, beside another copy that is judged. The same
+/// pages are not judged again.
+pub fn judge_beside(alloc: Global, one: &Judged, look: Look) -> Result<Judged, NoMemory>
+    requires { IsSomeJudged one.now }
+    ensures judged { IfOk result (IsJudged look) }
+    ensures few { IfOk result HasFew }
+{
+    match one {
+        Judged::Good(good) => match look {
+            Look::Pages(pages) => judge_pages(alloc, good, pages),
+            look => judge(alloc, look),
+        },
+        Judged::Bad(_) => judge(alloc, look),
     }
 }
 

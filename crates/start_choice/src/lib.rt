@@ -5,5 +5,5 @@
 mod choosing;
 mod sound_pages;
 
-pub use choosing::{Good, Judged, Start, StartNo, choose, is_to_go, judge};
+pub use choosing::{Good, Judged, Start, StartNo, choose, is_to_go, judge, judge_beside};
 pub use sound_pages::usable;
