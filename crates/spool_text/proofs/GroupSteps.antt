@@ -6,6 +6,7 @@ use Rattle.std.proofs.lemmas.List.{drop_all, length-drop}
 use Rattle.std.proofs.lemmas.Bool.Decides.{nat_tests, leb_tells}
 use Rattle.mas_types.specs.Limits.{page_bytes}
 use Rattle.mas_types.specs.Records.{end_byte, HoldsNoRecords, records_in}
+use Rattle.brief_queue.specs.Records.{count_of, lines_of}
 use Rattle.spool_text.specs.Reading.{AddsRecords, AddsFirst}
 use Rattle.spool_text.proofs.Lists.{test_cases, drop_here}
 use Rattle.spool_text.proofs.RecordLemmas.{and_first, begins_record, records_in-record, records_in-bad, held_from_read, read_from_held}
@@ -96,15 +97,23 @@ push_step group at old now new page inside further is p =
 
 -- CHECKED WITHOUT BEING PUSHED
 
-is_some-option_map : {A B : Type 0} (f : A → B) (found : Option A) → is_some (option_map f found) ≡ is_some found
-is_some-option_map f None = refl
-is_some-option_map f (Some x) = refl
+-- before the first record no record is counted
+pub counted_none : (group : List ℕ) → option_map (λ n. 0 + n) (count_of (records_in (drop 0 group))) ≡ count_of (records_in group)
+counted_none group = go (records_in group)
+  where
+    go : (found : Option (List (List ℕ))) → option_map (λ n. 0 + n) (count_of found) ≡ count_of found
+    go None = refl
+    go (Some lines) = ap Some (omega arith)
 
--- past a record the page holds records where it did before
-pub check_step : (group : List ℕ) (at : ℕ) → length group ≡ page_bytes → at < page_bytes → get_or group at 0 ≢ end_byte
+one_more : (count : ℕ) (line : List ℕ) (found : Option (List (List ℕ))) → option_map (λ n. count + 1 + n) (count_of found) ≡ option_map (λ n. count + n) (count_of (option_map (λ lines. line ∷ lines) found))
+one_more count line None = refl
+one_more count line (Some lines) = ap Some (omega arith)
+
+-- past a record one more is counted
+pub check_step : (group : List ℕ) (at count : ℕ) → length group ≡ page_bytes → at < page_bytes → get_or group at 0 ≢ end_byte
     → begins_record (get_or group at 0) (drop (at + 1) group) ≡ true
-    → (at + (1 + get_or group at 0) ≤ page_bytes) × (is_some (records_in (drop (at + (1 + get_or group at 0)) group)) ≡ is_some (records_in (drop at group)))
-check_step group at page inside further fits =
+    → (at + (1 + get_or group at 0) ≤ page_bytes) × (option_map (λ n. count + 1 + n) (count_of (records_in (drop (at + (1 + get_or group at 0)) group))) ≡ option_map (λ n. count + n) (count_of (records_in (drop at group))))
+check_step group at count page inside further fits =
     let b = get_or group at 0 in
     let here : drop at group ≡ b ∷ drop (at + 1) group = drop_here group at (omega arith) 0 in
     let go : (b == end_byte) ≡ false = grind (arith, nat_tests) in
@@ -112,10 +121,50 @@ check_step group at page inside further fits =
     let room : b ≤ length (drop (at + 1) group) = grind (arith, nat_tests) in
     let next : at + (1 + b) ≡ at + 1 + b = omega arith in
     let read = records_in-record (get_or group at 0) (drop (at + 1) group) go fits in
-    let same : is_some (records_in (drop at group)) ≡ is_some (records_in (drop b (drop (at + 1) group))) =
-    rw here (ap is_some read ∙ is_some-option_map (λ lines. take b (drop (at + 1) group) ∷ lines) (records_in (drop b (drop (at + 1) group)))) in
-    (omega (arith, length-drop (at + 1) group), rw (next, ← drop-drop) (sym same))
+    let same : option_map (λ n. count + 1 + n) (count_of (records_in (drop b (drop (at + 1) group)))) ≡ option_map (λ n. count + n) (count_of (records_in (drop at group))) =
+    rw here (one_more count (take b (drop (at + 1) group)) (records_in (drop b (drop (at + 1) group))) ∙ ap (λ (found : Option (List (List ℕ))). option_map (λ n. count + n) (count_of found)) (sym read)) in
+    (omega (arith, length-drop (at + 1) group), rw (next, ← drop-drop) same)
+
+-- where bytes begin no record none is counted
+pub counted_bad : (group : List ℕ) (at count : ℕ) → at < length group → get_or group at 0 ≢ end_byte → begins_record (get_or group at 0) (drop (at + 1) group) ≡ false
+    → option_map (λ n. count + n) (count_of (records_in (drop at group))) ≡ None
+counted_bad group at count inside further bad =
+    let b = get_or group at 0 in
+    let here : drop at group ≡ b ∷ drop (at + 1) group = drop_here group at inside 0 in
+    let go : (b == end_byte) ≡ false = grind (arith, nat_tests) in
+    rw (here, records_in-bad b (drop (at + 1) group) go bad) refl
+
+-- at the byte after the records all are counted
+pub counted_end : (group : List ℕ) (at count : ℕ) → at < length group → get_or group at 0 ≡ end_byte → option_map (λ n. count + n) (count_of (records_in (drop at group))) ≡ Some count
+counted_end group at count inside is =
+    let here : drop at group ≡ end_byte ∷ drop (at + 1) group = rw (drop_here group at inside 0, is) refl in
+    rw here (ap Some (omega arith))
+
+-- behind the last byte there are none
+pub counted_out : (group : List ℕ) (at count : ℕ) → length group ≤ at → option_map (λ n. count + n) (count_of (records_in (drop at group))) ≡ None
+counted_out group at count out = let none : drop at group ≡ [] = drop_all at group out in rw none refl
 
 -- what isn't read isn't held
 pub not_held : (group : List ℕ) → is_some (records_in group) ≡ false → HoldsNoRecords group
 not_held group none = λ lines held. absurd (let read = read_from_held group lines held in let w = rw read at none in cc)
+
+-- records are counted where there are any
+pub some_counted : (found : Option (List (List ℕ))) → is_some (count_of found) ≡ is_some found
+some_counted None = refl
+some_counted (Some lines) = refl
+
+-- what is added of a group whose records are counted
+pub adds_counted : (group : List ℕ) (old new : List (List ℕ)) (count : ℕ) → count_of (records_in group) ≡ Some count → new ≡ old ++ lines_of (records_in group) → AddsRecords group old new
+adds_counted group old new count counted is = go (records_in group) refl counted is
+  where
+    go : (found : Option (List (List ℕ))) → records_in group ≡ found → count_of found ≡ Some count → new ≡ old ++ lines_of found → AddsRecords group old new
+    go None e counted is = absurd (cc)
+    go (Some lines) e counted is = record { lines = lines; holds = held_from_read group lines e; is = is }
+
+-- where none are counted none are held
+pub none_counted : (group : List ℕ) → count_of (records_in group) ≡ None → HoldsNoRecords group
+none_counted group none = not_held group (go (records_in group) none)
+  where
+    go : (found : Option (List (List ℕ))) → count_of found ≡ None → is_some found ≡ false
+    go None none = refl
+    go (Some lines) none = absurd (cc)

@@ -8,7 +8,7 @@ mod unpacking;
 
 pub use laws::{law_of_groups, law_of_reading, law_of_texts};
 pub use packing::{groups_needed, pack};
-pub use unpacking::{TextNo, is_line, unpack};
+pub use unpacking::{TextNo, add_lines, is_line, unpack};
 
 /// The byte after the records of a group.
 const END_BYTE: u8 = 0xFF;

@@ -1,10 +1,12 @@
 //! Lines out of groups.
-ghost use Rattle.std.specs.Prelude.{◌≡◌, ◌+◌, ◌-◌, ◌<◌, ◌≤◌, ◌++◌, ◌&&◌, ◌↔◌, nat_le, length, take, drop, Some, IsSome, OnOk, is_some, OnErr, slice_index};
+ghost use Rattle.std.specs.Prelude.{◌≡◌, ◌+◌, ◌-◌, ◌<◌, ◌≤◌, ◌++◌, ◌&&◌, ◌↔◌, nat_le, length, take, drop, true, false, Some, IsSome, OnOk, is_some, OnErr, slice_index};
 ghost use Rattle.mas_types.specs.Fit.{is_text_byte as is_text_byte_lem, is_text_line};
 ghost use Rattle.mas_types.specs.Records.{is_record, records_in, HoldsNoRecords};
+ghost use Rattle.brief_queue.specs.Records.{count_of};
 ghost use Rattle.spool_text.specs.Reading.{AddsRecords, AddsFirst};
 
 use crate::END_BYTE;
+use brief_queue::BriefLines;
 use mas_types::limits::{LINE_BYTES, PAGE_BYTES};
 use mas_types::{Lines, NoMemory, Page};
 use std::alloc::Global;
@@ -77,18 +79,27 @@ fn is_record_at(group: &[u8; 4096], at: usize) -> bool
     size <= rest.len() && is_line(&rest[..size])
 }
 
+// How many records the bytes hold, none where they hold none.
+fn count_in(group: &[u8; 4096]) -> Option<u16>
+    ensures { result ≡ count_of (records_in group.now) }
+{
+    let mut at = 0;
+    let mut count: u16 = 0;
+    while at < PAGE_BYTES && group[at] != END_BYTE {
+        if !is_record_at(group, at) {
+            return None;
+        }
+        at += 1 + group[at] as usize;
+        count += 1;
+    }
+    if at < PAGE_BYTES { Some(count) } else { None }
+}
+
 /// Whether the bytes are records and the byte after them.
 fn holds_records(group: &[u8; 4096]) -> bool
     ensures { result ≡ is_some (records_in group.now) }
 {
-    let mut at = 0;
-    while at < PAGE_BYTES && group[at] != END_BYTE {
-        if !is_record_at(group, at) {
-            return false;
-        }
-        at += 1 + group[at] as usize;
-    }
-    at < PAGE_BYTES
+    count_in(group).is_some()
 }
 
 /// Adds the records of a group.
@@ -123,5 +134,21 @@ pub fn unpack(_alloc: Global, group: &Page, into: &mut Lines) -> Result<(), Text
     match push_records(&group.0, into) {
         Ok(()) => Ok(()),
         Err(NoMemory) => Err(TextNo::NoMemory),
+    }
+}
+
+/// Adds the lines that a group holds, of which memory keeps no byte; false where it holds no records, as `unpack` has
+/// it. Then the lines are as they were.
+pub fn add_lines(group: &Page, into: &mut BriefLines) -> bool
+    ensures added { result ≡ true → AddsRecords group.now.0 into.old into.new }
+    ensures none { result ≡ false → HoldsNoRecords group.now.0 }
+    ensures unchanged { result ≡ false → into.new ≡ into.old }
+{
+    match count_in(&group.0) {
+        Some(count) => {
+            into.add_group(group, count);
+            true
+        }
+        None => false,
     }
 }

@@ -1,10 +1,8 @@
-use Rattle.std.proofs.Common.{◌≡◌, true, ◌+◌, drop, get_or, ◌∙◌}
-use Rattle.spool_text.proofs.GroupSteps.{check_step}
-use Rattle.spool_text.proofs.RecordLemmas.{begins_record}
+use Rattle.std.proofs.Common.{◌∙◌, ap}
+use Rattle.std.specs.Prelude.{is_some}
+use Rattle.mas_types.specs.Records.{records_in}
+use Rattle.spool_text.proofs.GroupSteps.{some_counted}
 use Rattle.spool_text.proofs.unpacking.holds_records.Goals as goal
 
-pub loop-at-preserved : goal.loop-at-preserved
-loop-at-preserved c =
-    let fits : begins_record (get_or c.args.group.now c.loop-at.at 0) (drop (c.loop-at.at + 1) c.args.group.now) ≡ true = cc in
-    let next = check_step c.args.group.now c.loop-at.at c.told-group c.loop-at-test.true c.if-group-at.true fits in
-    record { within = next.0; same = next.1 ∙ c.loop-at.invariant.same }
+pub returns : goal.returns
+returns c = c.is_some.ensures ∙ ap is_some c.count_in.ensures ∙ some_counted (records_in c.args.group.now)
