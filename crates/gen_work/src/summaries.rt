@@ -7,8 +7,9 @@ ghost use Rattle.brief_journal.specs.Brief.{command_of, entry_of, reply_of};
 ghost use Rattle.gen_work.specs.Summaries.{count_in as count_in_lem, counted_as as counted_as_lem, counted_in, counted_of as counted_of_lem, dropped as dropped_lem, entries_kept, is_begun, is_entered, is_gone, is_refusal as is_refusal_lem, kept_in, mark_after as mark_after_lem, mark_then as mark_then_lem, printed_behind, printed_by as printed_by_lem, summary_line as summary_line_lem, summary_of as summary_of_lem};
 
 use brief_journal::{BriefBatch, BriefCommand, BriefEntry, BriefJournal, BriefReply};
+use brief_queue::BriefQueue;
 use mas_types::words::{push_decimal, push_text};
-use mas_types::{Fate, JobNo, List, NoMemory, OutNo, Queue};
+use mas_types::{Fate, JobNo, List, NoMemory, OutNo};
 use std::alloc::Global;
 
 /// What a run came to.
@@ -240,13 +241,17 @@ fn gone(all: &[Counted]) -> usize
 /// decks were entered; how many lines were printed, which is the sum of what each Mark answered, less the mark of its
 /// output before it; and how many jobs are left. NoMemory comes when out of memory, and where a number would be above
 /// 2^64 - 1.
-pub fn summary_of(alloc: Global, base: &Queue, journal: &BriefJournal) -> Result<Summary, NoMemory>
+pub fn summary_of(
+    alloc: Global,
+    base: &BriefQueue,
+    journal: &BriefJournal,
+) -> Result<Summary, NoMemory>
     ensures { IfOk result (λ summary. summary ≡ summary_of_lem base.now journal.now) }
 {
     let counted = counted_by(alloc, journal.batches())?;
     let all = counted.as_slice();
     let printed = printed(all)?;
-    let jobs = sum(base.jobs.len() as u64, begun(all) as u64)?;
+    let jobs = sum(base.jobs().len() as u64, begun(all) as u64)?;
     Ok(Summary {
         entered: entered(all) as u64,
         printed,

@@ -21,11 +21,12 @@ use crate::journal_end::finished;
 use crate::noting::none_noted;
 use crate::renewals::no_renewals;
 use brief_journal::BriefJournal;
+use brief_queue::BriefQueue;
 use ckpt_form::Steady;
 use ckpt_places::Place;
 use duplex_pair::Pair;
 use lock_cycle::LockBook;
-use mas_types::{Config, List, MEMBERS_MOST, Queue};
+use mas_types::{List, MEMBERS_MOST};
 use spool_plant::Plant;
 use std::alloc::Global;
 
@@ -33,7 +34,13 @@ impl<P: Plant + Drop, C: Steady + Drop> Complex<P, C> {
     /// A shared value of a plant and the two copies on it. Each copy that counts as alive is at rest with the same
     /// pages, of this level, which stand for the base, and the device of one that counts as lost is lost. Nobody holds
     /// the lock.
-    pub fn make(alloc: Global, plant: P, pair: Pair<C>, base: Queue, level: u64) -> Complex<P, C>
+    pub fn make(
+        alloc: Global,
+        plant: P,
+        pair: Pair<C>,
+        base: BriefQueue,
+        level: u64,
+    ) -> Complex<P, C>
         requires ready1 { pair.first.alive ≡ true → C.ready pair.first.copy (P.view plant) }
         requires ready2 { pair.second.alive ≡ true → C.ready pair.second.copy (P.view plant) }
         requires lost1 { pair.first.alive ≡ false → (P.view plant).lost (Disk Ckpt1) ≡ true }
@@ -60,7 +67,7 @@ impl<P: Plant + Drop, C: Steady + Drop> Complex<P, C> {
             → LeavesQueue C.reads base (P.view plant).now later) ∥₁ }
     {
         let since = moment_of(&plant);
-        let book = new_book_of(&base.config);
+        let book = new_book_of(&base);
         let had = none_noted(&List::new(alloc));
         Complex {
             plant,
@@ -123,10 +130,11 @@ fn moment_of<P: Plant>(plant: &P) -> u64
     plant.now()
 }
 
-// The book of a complex of this configuration, in which nobody holds.
-fn new_book_of(config: &Config) -> LockBook
-    ensures { result ≡ book_of config.now }
+// The book of a complex that begins with this queue, in which nobody holds.
+fn new_book_of(base: &BriefQueue) -> LockBook
+    ensures { result ≡ book_of base.now.config }
 {
+    let config = base.config();
     LockBook::new(
         config.members.min(MEMBERS_MOST),
         config.hold,

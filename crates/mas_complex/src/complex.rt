@@ -21,11 +21,11 @@ use crate::counts::COUNTS;
 use crate::noting::Note;
 use crate::renewals::Renewals;
 use brief_journal::{BriefBatch, BriefEntries, BriefJournal};
+use brief_queue::BriefQueue;
 use ckpt_form::Steady;
 use ckpt_places::Place;
 use duplex_pair::Pair;
 use lock_cycle::LockBook;
-use mas_types::Queue;
 use spool_plant::Plant;
 
 /// What a shared value hands out at its end.
@@ -33,8 +33,8 @@ use spool_plant::Plant;
 pub struct Ended<P: Plant + Drop> {
     /// The plant that was lent to the shared value.
     pub plant: P,
-    /// The queue that it began with.
-    pub base: Queue,
+    /// The queue that it began with. Memory has no texts of it.
+    pub base: BriefQueue,
     /// The moment from which on it kept its promises.
     pub since: u64,
     /// The batches of its time, with their fates.
@@ -53,8 +53,8 @@ pub struct Complex<P: Plant + Drop, C: Steady + Drop> {
     pub pair: Pair<C>,
     /// Who holds the lock of the checkpoint, and how each member stands with it.
     pub book: LockBook,
-    /// The queue that it began with.
-    pub base: Queue,
+    /// The queue that it began with. Memory has no texts of it.
+    pub base: BriefQueue,
     /// The moment from which on it keeps its promises.
     pub since: u64,
     /// The batches that have their fates, and the place of one to come.

@@ -28,6 +28,7 @@ mod writing;
 pub use brief_journal::{
     BriefBatch, BriefCommand, BriefEntries, BriefEntry, BriefJournal, BriefReply,
 };
+pub use brief_queue::{BriefJob, BriefOutput, BriefQueue, BriefText};
 pub use ckpt_form::Steady;
 pub use ckpt_places::Place;
 pub use complex::{Complex, Ended};

@@ -20,6 +20,7 @@ ghost use Rattle.mas_complex.specs.Seen.{IfPages, IsPlaceSeen, HasNext, IsOneSee
 
 use crate::complex::Complex;
 use crate::places::{place_seen, set_place};
+use brief_queue::BriefQueue;
 use ckpt_form::Steady;
 use ckpt_tables::{law_of_page_sizes, page_count};
 use duplex_pair::{Look, LookNo};
@@ -45,6 +46,14 @@ fn usable(look: Look, count: usize) -> Look
             }
         }
     }
+}
+
+// How many pages a copy has.
+fn pages_of(base: &BriefQueue) -> u16
+    requires { IsConfig base.now.config }
+    ensures { result ≡ page_count_lem base.now.config }
+{
+    page_count(&base.config())
 }
 
 impl<P: Plant + Drop, C: Steady + Drop> Complex<P, C> {
@@ -130,7 +139,7 @@ impl<P: Plant + Drop, C: Steady + Drop> Complex<P, C> {
         if !self.pair.alive(dev) {
             return Ok(None);
         }
-        let count = page_count(&self.base.config);
+        let count = pages_of(&self.base);
         let look = self.look_on(alloc, by, dev)?;
         match usable(look, count as usize) {
             Look::Pages(pages) => Ok(Some(pages)),

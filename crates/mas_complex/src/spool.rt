@@ -15,6 +15,7 @@ ghost use Rattle.spool_volumes.specs.Volumes.{volume_of, start_of};
 ghost use Rattle.mas_complex.specs.Parts.{parts_of};
 
 use crate::complex::Complex;
+use brief_queue::BriefQueue;
 use ckpt_form::Steady;
 use mas_types::limits::PAGE_BYTES;
 use mas_types::{Dev, GroupNo, MemberId, Page};
@@ -44,8 +45,9 @@ fn start(per: u32, group: GroupNo) -> u64
     PAGE_BYTES as u64 * (group.0 % per) as u64
 }
 
-// The page of a group is read, or no byte from a volume that is too small for it.
-fn read_group<P: Plant>(
+// The page of a group is read where there are so many volumes with so many groups each, or no byte from a volume that
+// is too small for it.
+fn read_place<P: Plant>(
     plant: &mut P,
     by: MemberId,
     volumes: u8,
@@ -68,8 +70,9 @@ fn read_group<P: Plant>(
     }
 }
 
-// The page of a group is written, or no byte to a volume that is too small for it.
-fn write_group<P: Plant>(
+// The page of a group is written where there are so many volumes with so many groups each, or no byte to a volume that
+// is too small for it.
+fn write_place<P: Plant>(
     plant: &mut P,
     by: MemberId,
     volumes: u8,
@@ -90,6 +93,44 @@ fn write_group<P: Plant>(
     } else {
         plant.write(by, dev, 0, &[])
     }
+}
+
+// The page of a group of the queue's configuration is read.
+fn read_group<P: Plant>(
+    plant: &mut P,
+    by: MemberId,
+    base: &BriefQueue,
+    group: GroupNo,
+    into: &mut Page,
+) -> Act
+    requires { IsGroupOf base.now.config group }
+    ensures acts { Acts by.0 (Disk (device_of base.now.config.groups group)) (P.view plant.old) (P.view plant.new)
+        result }
+    ensures content { P.tells → ReadsGroup base.now.config.groups group (P.view plant.old) (P.view plant.new) into.new
+        result }
+    ensures nowhere { is_within (P.view plant.old) base.now.config.groups group ≡ false → into.new ≡ into.old }
+{
+    let shape = base.config();
+    read_place(plant, by, shape.volumes, shape.groups as u32, group, into)
+}
+
+// The page of a group of the queue's configuration is written.
+fn write_group<P: Plant>(
+    plant: &mut P,
+    by: MemberId,
+    base: &BriefQueue,
+    group: GroupNo,
+    bytes: &Page,
+) -> Act
+    requires { IsGroupOf base.now.config group }
+    ensures acts { Acts by.0 (Disk (device_of base.now.config.groups group)) (P.view plant.old) (P.view plant.new)
+        result }
+    ensures content { P.tells → WritesGroup base.now.config.groups group (P.view plant.old) (P.view plant.new)
+        bytes.now result }
+    ensures whole { length bytes.now.0 ≡ page_bytes }
+{
+    let shape = base.config();
+    write_place(plant, by, shape.volumes, shape.groups as u32, group, bytes)
 }
 
 impl<P: Plant + Drop, C: Steady + Drop> Complex<P, C> {
@@ -122,14 +163,7 @@ impl<P: Plant + Drop, C: Steady + Drop> Complex<P, C> {
             → into.new ≡ into.old }
         ensures frame { parts_of self.new ≡ record (parts_of self.old) { plant = self.new.plant } }
     {
-        read_group(
-            &mut self.plant,
-            by,
-            self.base.config.volumes,
-            self.base.config.groups as u32,
-            group,
-            into,
-        )
+        read_group(&mut self.plant, by, &self.base, group, into)
     }
 
     /// Writes the page of a group of the configuration, for a member that isn't stopped. It needs no lock. The group is
@@ -165,14 +199,7 @@ impl<P: Plant + Drop, C: Steady + Drop> Complex<P, C> {
         ensures frame { parts_of self.new ≡ record (parts_of self.old) { plant = self.new.plant } }
     {
         law_of_places();
-        write_group(
-            &mut self.plant,
-            by,
-            self.base.config.volumes,
-            self.base.config.groups as u32,
-            group,
-            bytes,
-        )
+        write_group(&mut self.plant, by, &self.base, group, bytes)
     }
 
     /// Syncs a spool volume of the configuration, or the one of the stream, for a member that isn't stopped. Nothing on

@@ -1,6 +1,6 @@
 //! What a run leaves. It is let go here, so that the program itself proves nothing of how.
 use brief_journal::BriefJournal;
-use mas_types::Queue;
+use brief_queue::BriefQueue;
 use plant_files::FilePlant;
 use plant_fuse::Fused;
 
@@ -10,7 +10,7 @@ pub fn close_files(files: Fused<FilePlant<HostRuntime>>) {
 }
 
 /// The queue that a run began with is let go.
-pub fn let_queue_go(base: Queue) {
+pub fn let_queue_go(base: BriefQueue) {
     drop(base);
 }
 

@@ -11,9 +11,9 @@ ghost use Rattle.member_node.specs.Calls.{console_now};
 ghost use Rattle.mas_top.specs.Generates.{IsGenerated, IsSaid, MaySay};
 
 use gen_work::{generate, summary_line, summary_of};
-use mas_complex::BriefJournal;
+use mas_complex::{BriefJournal, BriefQueue};
 use mas_run::play_script;
-use mas_types::{List, MemberId, NoMemory, Queue, Status};
+use mas_types::{List, MemberId, NoMemory, Status};
 use run_opening::{Ended, unbegun};
 use script_generated::law_of_generated_scripts;
 use spool_plant::{Act, Got, Plant, Source};
@@ -62,7 +62,11 @@ impl Source for ScriptText {
 }
 
 // The line that says what a run came to.
-fn summary_text(alloc: Global, base: &Queue, journal: &BriefJournal) -> Result<List<u8>, NoMemory>
+fn summary_text(
+    alloc: Global,
+    base: &BriefQueue,
+    journal: &BriefJournal,
+) -> Result<List<u8>, NoMemory>
     ensures { IfOk result (λ line. line ≡ summary_line_lem (summary_of_lem base.now journal.now)) }
 {
     let summary = summary_of(alloc, base, journal)?;
@@ -85,7 +89,7 @@ fn say_line<P: Plant>(plant: &mut P, line: &[u8]) -> Status
 fn sum_up<P: Plant + Drop>(
     alloc: Global,
     since: u64,
-    base: Queue,
+    base: BriefQueue,
     journal: BriefJournal,
     plant: P,
 ) -> Ended<P>

@@ -1,5 +1,7 @@
 //! The report of the queue that is found.
-ghost use Rattle.std.specs.Prelude.{◌≡◌, ◌≢◌, [], false};
+ghost use Rattle.std.specs.Prelude.{◌≡◌, ◌≢◌, [], false, IfOk};
+ghost use Rattle.cmd_report.specs.Named.{IsNamed};
+ghost use Rattle.queue_report.specs.Reports.{report_lines};
 ghost use Rattle.spool_plant.specs.Acts.{Goes};
 ghost use Rattle.member_node.specs.Calls.{IsOnlyOn, console_now};
 ghost use Rattle.run_opening.specs.Runs.{has_begun, Begins, IsUnbegun};
@@ -8,19 +10,30 @@ ghost use Rattle.mas_top.specs.Reports.{IsReport};
 ghost use Rattle.mas_top.specs.Saying.{Says};
 
 use crate::saying::say_lines;
-use mas_complex::BriefJournal;
-use mas_types::{Lines, Queue, Status};
+use mas_complex::{BriefJournal, BriefQueue};
+use mas_types::{Lines, NoMemory, Queue, Status};
 use queue_report::{law_of_named_queues, report};
 use run_opening::{Ended, status_of_start, unbegun};
 use spool_plant::Plant;
 use std::alloc::Global;
 use warm_start::found;
 
+// The lines of the report of a queue, and the queue without its texts.
+fn reported(alloc: Global, queue: Queue) -> Result<(Lines, BriefQueue), NoMemory>
+    requires { IsNamed queue }
+    ensures lines { IfOk result (λ both. both.0 ≡ report_lines queue) }
+    ensures base { IfOk result (λ both. both.1 ≡ queue) }
+{
+    let lines = report(alloc, &queue)?;
+    let base = BriefQueue::of(alloc, queue)?;
+    Ok((lines, base))
+}
+
 // The report's end: its lines are said.
 fn said<P: Plant + Drop>(
     alloc: Global,
     since: u64,
-    queue: Queue,
+    queue: BriefQueue,
     lines: &Lines,
     plant: P,
 ) -> Ended<P>
@@ -62,8 +75,8 @@ pub(crate) fn report_queue<P: Plant + Drop>(alloc: Global, plant: P) -> Ended<P>
         Ok(queue) => queue,
         Err(why) => return unbegun(alloc, status_of_start(why), plant),
     };
-    let Ok(lines) = report(alloc, &queue) else {
+    let Ok((lines, base)) = reported(alloc, queue) else {
         return unbegun(alloc, Status::NoMemory, plant);
     };
-    said(alloc, since, queue, &lines, plant)
+    said(alloc, since, base, &lines, plant)
 }

@@ -55,7 +55,7 @@ use Rattle.member_decks.specs.declared.spooling.SpoolError.{SpoolError}
 use Rattle.member_decks.specs.declared.spooling.SpoolError.TheVariants as spool
 use Rattle.member_decks.specs.Spooling.{OnVolumes, SpoolCauses, GroupsKept}
 use Rattle.member_work.specs.Spooled.{AreSpooled}
-use Rattle.member_sittings.specs.Asides.{finds_of}
+use Rattle.member_asides.specs.Asides.{finds_of}
 use Rattle.member_asides.specs.Asides.{HasStayed, HasWritten, IsJobStill, IsOutputStill, lowest_for}
 
 one_group : (a b : GroupNo) → Some a ≡ Some b → a ≡ b

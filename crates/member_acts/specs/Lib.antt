@@ -1,2 +1,2 @@
 pub use Rattle.member_asides.specs.Asides
-pub use Rattle.member_sittings.specs.Whole
+pub use Rattle.member_asides.specs.Whole

@@ -14,31 +14,34 @@ ghost use Rattle.mas_complex.specs.Meaning.{run};
 ghost use Rattle.member_work.specs.Gone.{are_outputs_brought as are_outputs_brought_lem, brings_job as brings_job_lem, brings_outputs as brings_outputs_lem, gone_in as gone_in_lem, gone_output_in as gone_output_in_lem, gone_output_since, gone_since, gone_with as gone_with_lem, is_brought as is_brought_lem, names_job as names_job_lem};
 ghost use Rattle.brief_journal.specs.Brief.{command_of, reply_of};
 
-use mas_complex::{BriefBatch, BriefCommand, BriefEntry, BriefReply, Complex, Steady};
-use mas_types::{Fate, GroupNo, Job, JobNo, OutNo, Output, Queue, Text};
+use mas_complex::{
+    BriefBatch, BriefCommand, BriefEntry, BriefJob, BriefOutput, BriefQueue, BriefReply, BriefText,
+    Complex, Steady,
+};
+use mas_types::{Fate, GroupNo, JobNo, OutNo};
 use member_work::kept_replies;
 use spool_plant::Plant;
 
-fn gone_with(text: &Text) -> Option<GroupNo>
+fn gone_with(text: &BriefText) -> Option<GroupNo>
     ensures { result ≡ gone_with_lem text.now }
 {
-    match text {
-        Text::Whole(_) => None,
-        Text::Gone(group, _) => Some(*group),
+    match text.what_is_gone() {
+        Some((group, _)) => Some(group),
+        None => None,
     }
 }
 
-fn job_at(queue: &Queue, job: JobNo) -> Option<&Job>
+fn job_at(queue: &BriefQueue, job: JobNo) -> Option<&BriefJob>
     ensures { option_copied result ≡ job_at_lem queue.now job }
 {
-    queue.jobs.as_slice().iter().find(|it| it.number.0 == job.0)
+    queue.jobs().iter().find(|it| it.number().0 == job.0)
 }
 
-fn gone_in(queue: &Queue, job: JobNo) -> Option<GroupNo>
+fn gone_in(queue: &BriefQueue, job: JobNo) -> Option<GroupNo>
     ensures { result ≡ gone_in_lem queue.now job }
 {
     match job_at(queue, job) {
-        Some(found) => gone_with(&found.text),
+        Some(found) => gone_with(found.text()),
         None => None,
     }
 }
@@ -124,14 +127,13 @@ pub(crate) fn gone_deck<P: Plant + Drop, C: Steady + Drop>(
     unless_brought(job, gone_in(&complex.base, job), batches)
 }
 
-fn output_at(queue: &Queue, job: JobNo, index: OutNo) -> Option<&Output>
+fn output_at(queue: &BriefQueue, job: JobNo, index: OutNo) -> Option<&BriefOutput>
     ensures { option_copied result ≡ output_at_lem queue.now job index }
 {
     queue
-        .outputs
-        .as_slice()
+        .outputs()
         .iter()
-        .find(|it| it.job.0 == job.0 && it.index.0 == index.0)
+        .find(|it| it.job().0 == job.0 && it.index().0 == index.0)
 }
 
 // The entry brought outputs of the job.
@@ -173,11 +175,11 @@ fn are_outputs_brought_in(job: JobNo, batches: &[BriefBatch]) -> bool
         .any(|batch| are_outputs_brought_by(job, batch))
 }
 
-fn gone_output_in(queue: &Queue, job: JobNo, index: OutNo) -> Option<GroupNo>
+fn gone_output_in(queue: &BriefQueue, job: JobNo, index: OutNo) -> Option<GroupNo>
     ensures { result ≡ gone_output_in_lem queue.now job index }
 {
     match output_at(queue, job, index) {
-        Some(found) => gone_with(&found.text),
+        Some(found) => gone_with(found.text()),
         None => None,
     }
 }

@@ -73,7 +73,7 @@ fn read_page<P: Plant + Drop, C: Steady + Drop>(
         (P.view complex.new.plant) }
     ensures cause { SpoolStops names_volume result by.0 (P.view complex.old.plant) (P.view complex.new.plant) }
 {
-    let config = complex.base.config;
+    let config = complex.base.config();
     match complex.spool_read(by, group, into) {
         Act::Done => {
             law_of_pages(into);

@@ -99,7 +99,7 @@ fn admit_deck<P: Plant + Drop, C: Steady + Drop>(
     ensures admitted { IfOk result (λ a. admission_of a
         ≡ deck_admitted complex.old.book by (text_of cards.now) (read_as complex.old.base.config.node cards.now)) }
 {
-    match read_deck(alloc, complex.base.config.node, cards) {
+    match read_deck(alloc, complex.base.config().node, cards) {
         Ok(Deck { fields, text }) => {
             let task = Task::Deck { fields, text };
             Ok(try_for(complex, by, Admission::Plays(task)))
@@ -125,7 +125,7 @@ fn admit_reset<P: Plant + Drop, C: Steady + Drop>(
         ≡ record (parts_of complex.old) { book = tested_as complex.old.book by (admission_of result) } }
     ensures admitted { admission_of result ≡ reset_admitted complex.old.base.config complex.old.book by of }
 {
-    if !is_member(&complex.base.config, of) {
+    if !is_member(&complex.base.config(), of) {
         return no_member(by);
     }
     if !complex.stopped(of) {
@@ -229,7 +229,7 @@ pub fn admit<P: Plant + Drop, C: Steady + Drop>(
     ensures admitted { IfOk result (λ a. admission_of a
         ≡ admitted complex.old.base.config complex.old.book by ask.now) }
 {
-    if !is_member(&complex.base.config, by) {
+    if !is_member(&complex.base.config(), by) {
         return Ok(no_member(NOBODY));
     }
     if complex.stopped(by) {

@@ -14,7 +14,7 @@ pub fn stop_line<P: Plant + Drop, C: Steady + Drop>(complex: &mut Complex<P, C>,
     requires { length complex.old.book.members ≡ complex.old.base.config.members }
     ensures { Stops m complex.old complex.new }
 {
-    if !is_member(&complex.base.config, m) {
+    if !is_member(&complex.base.config(), m) {
         return;
     }
     if complex.stopped(m) {
@@ -37,7 +37,7 @@ pub fn arm_line<P: Plant + Drop, C: Steady + Drop>(
     ensures frame { parts_of complex.new ≡ record (parts_of complex.old) { plant = complex.new.plant } }
     ensures arms { ArmsStop m complex.old complex.new }
 {
-    if !is_member(&complex.base.config, m) {
+    if !is_member(&complex.base.config(), m) {
         return;
     }
     if complex.stopped(m) {

@@ -84,7 +84,7 @@ fn write_page<P: Plant + Drop, C: Steady + Drop>(
     law_of_groups();
     let mut page = Page([0; 4096]);
     pack(text, place, &mut page);
-    let config = complex.base.config;
+    let config = complex.base.config();
     let volume = volume_of(config.volumes, config.groups as u32, group);
     answer(complex.spool_write(by, group, &page), volume)
 }
@@ -147,7 +147,7 @@ fn sync_volume<P: Plant + Drop, C: Steady + Drop>(
     ensures quiet { P.tells → AreQuiet (spools_at (P.view complex.old.plant) (P.view complex.old.plant).now)
         (spools_at (P.view complex.new.plant) (P.view complex.new.plant).now) }
 {
-    if !lies_there(complex.base.config.groups as u32, volume, groups) {
+    if !lies_there(complex.base.config().groups as u32, volume, groups) {
         return Ok(());
     }
     answer(complex.spool_sync(by, volume), volume)
@@ -174,7 +174,7 @@ pub fn sync_volumes<P: Plant + Drop, C: Steady + Drop>(
     ensures quiet { P.tells → AreQuiet (spools_at (P.view complex.old.plant) (P.view complex.old.plant).now)
         (spools_at (P.view complex.new.plant) (P.view complex.new.plant).now) }
 {
-    for before in 0..complex.base.config.volumes {
+    for before in 0..complex.base.config().volumes {
         sync_volume(complex, by, groups, before + 1)?;
     }
     Ok(())

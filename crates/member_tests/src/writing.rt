@@ -13,7 +13,7 @@ use crate::shared::OPERATOR;
 use ckpt_copy::Copying;
 use ckpt_form::CopyForm;
 use duplex_pair::{Pair, PairNo};
-use mas_complex::Complex;
+use mas_complex::{BriefQueue, Complex};
 use mas_types::{Config, Dev, List, MemberId, NoMemory, Page, default_config, empty_queue};
 use spool_plant::Plant;
 use std::alloc::Global;
@@ -55,7 +55,8 @@ pub(crate) fn formed(
     ensures members { IfOk result (λ some. IfSome some (λ c. length c.book.members ≡ 2)) }
     ensures config { IfOk result (λ some. IfSome some (λ c. IsConfig c.base.config)) }
 {
-    let base = empty_queue(alloc, &small_config(), &List::new(alloc))?;
+    let none = empty_queue(alloc, &small_config(), &List::new(alloc))?;
+    let base = BriefQueue::without_jobs(alloc, none);
     let mut plant = plant;
     let mut pair = Pair::new(CopyForm::new(Dev::Ckpt1, 6), CopyForm::new(Dev::Ckpt2, 6));
     let Ok(()) = pair.form(&mut plant, OPERATOR, pages) else {

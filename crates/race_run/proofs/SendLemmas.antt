@@ -25,8 +25,6 @@ use Rattle.mas_types.specs.contracts.ids.Page.{the_row as page_row}
 use Rattle.mas_types.specs.contracts.texts.Lines.{the_row as lines_row}
 use Rattle.mas_types.specs.contracts.jobs.JobFields.{the_field as fields_field}
 use Rattle.mas_types.specs.contracts.jobs.OutSpec.{the_row as spec_row}
-use Rattle.mas_types.specs.contracts.jobs.Job.{the_row as job_row}
-use Rattle.mas_types.specs.contracts.jobs.Output.{the_row as output_row}
 use Rattle.mas_types.specs.contracts.commands.Command.{the_field as command_field}
 use Rattle.mas_types.specs.contracts.commands.Reply.{the_field as reply_field}
 use Rattle.mas_types.specs.contracts.journals.Entry.{the_row as entry_row}
@@ -40,7 +38,11 @@ use Rattle.mas_types.specs.contracts.queues.Owner.{the_row as owner_row}
 use Rattle.mas_types.specs.contracts.queues.Setting.{the_row as setting_row}
 use Rattle.mas_types.specs.contracts.queues.Route.{the_row as route_row}
 use Rattle.mas_types.specs.contracts.queues.LineCount.{the_row as count_row}
-use Rattle.mas_types.specs.contracts.queues.Queue.{the_field as queue_field}
+use Rattle.brief_queue.specs.contracts.texts.BriefText.{the_row as text_row}
+use Rattle.brief_queue.specs.contracts.jobs.BriefJob.{the_row as job_row}
+use Rattle.brief_queue.specs.contracts.jobs.BriefOutput.{the_row as output_row}
+use Rattle.brief_queue.specs.contracts.queues.BriefQueue.{the_field as queue_field}
+use Rattle.brief_queue.proofs.Sent.{told_send}
 use Rattle.lock_cycle.specs.contracts.book.LockBook.{the_row as book_row}
 use Rattle.mas_complex.specs.contracts.renewals.Renewal.{the_row as renewal_row}
 use Rattle.mas_complex.specs.contracts.renewals.Renewals.{the_field as renewals_field}
@@ -139,11 +141,14 @@ route_send = search sends depth 100 fits 100000
 count_send : IsSend count_row
 count_send = search sends depth 100 fits 100000
 
+text_send : IsSend text_row
+text_send = search (told_send, sendable, crosses) depth 100 fits 100000
+
 job_send : IsSend job_row
-job_send = search (lines_send, fields_send, sends) depth 100 fits 100000
+job_send = search (text_send, fields_send, sendable, crosses) depth 100 fits 100000
 
 output_send : IsSend output_row
-output_send = search (lines_send, sendable, crosses) depth 40 fits 20000
+output_send = search (text_send, sendable, crosses) depth 100 fits 100000
 
 queue_send : IsSend queue_field.row
 queue_send = search (list_send, job_send, output_send, owner_send, setting_send, route_send, count_send, sendable, crosses) depth 40 fits 20000

@@ -61,7 +61,7 @@ fn prepare_line<P: Plant + Drop, C: Steady + Drop>(
             Ok(())
         }
         _ => {
-            if line.by.0 <= complex.base.config.members {
+            if line.by.0 <= complex.base.config().members {
                 return Ok(());
             }
             refuse_line(alloc, complex, line.by, number)

@@ -5,6 +5,7 @@
 //! parameter.
 #![tactic(auto)]
 
+mod bases;
 mod cases;
 mod looks;
 mod modes;

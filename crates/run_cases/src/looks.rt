@@ -1,9 +1,11 @@
 //! What a run leaves, and what a start of it finds.
+use crate::bases::base_of;
 use crate::cases::{Case, crashed, start};
 use crate::player::{Played, Player};
 use crate::queues::add_queue;
 use brief_journal::BriefBatch;
-use mas_types::{Dev, Fate, Job, Lines, MemberId, NoMemory, Phase, Status, status_line};
+use brief_queue::BriefJob;
+use mas_types::{Dev, Fate, Lines, MemberId, NoMemory, Phase, Status, status_line};
 use spool_disk::MemPlant;
 use spool_plant::{Act, Choice, Part, Plant};
 use std::alloc::Global;
@@ -29,7 +31,7 @@ const SLOTS: u8 = 4;
 const OPEN: u8 = 165;
 
 /// How many of the jobs are entered, and once more how many there are: after how many batches of decks the queue is.
-pub fn batches_of_decks(jobs: &[Job]) -> u64 {
+pub fn batches_of_decks(jobs: &[BriefJob]) -> u64 {
     let mut count = 0u64;
     for job in jobs {
         count = count.saturating_add(if job.phase == Phase::Input { 1 } else { 2 });
@@ -182,7 +184,7 @@ pub fn add_left<P: Player>(player: &P, line: &mut Writer, ended: &Played) -> Res
     let next = start(player, b"", left)?;
     line.add(b", then ");
     add_status(alloc, line, &next.status);
-    add_queue(line, &next.base);
+    add_queue(line, &base_of(alloc, &next)?);
     Ok(())
 }
 
@@ -197,12 +199,18 @@ fn change(case: &Case, left: &mut MemPlant) {
 }
 
 // How a start ended: its status, its batches, the queue that it found, what is lost, and what it said and printed.
-fn add_start(alloc: Global, line: &mut Writer, ended: &Played, said: usize) {
+fn add_start(
+    alloc: Global,
+    line: &mut Writer,
+    ended: &Played,
+    said: usize,
+) -> Result<(), NoMemory> {
     add_status(alloc, line, &ended.status);
     line.add_number(b", batches ", ended.journal.len() as u64);
     line.add(b",");
-    add_queue(line, &ended.base);
-    add_outside(alloc, line, &ended.plant, said)
+    add_queue(line, &base_of(alloc, ended)?);
+    add_outside(alloc, line, &ended.plant, said);
+    Ok(())
 }
 
 /// Tells whether both copies read as the same pages.
@@ -223,14 +231,14 @@ fn add_found<P: Player>(
     ended: &mut Played,
     said: usize,
 ) -> Result<u64, NoMemory> {
-    add_start(player.alloc(), line, ended, said);
+    add_start(player.alloc(), line, ended, said)?;
     if case.next.bytes().len() > 0 {
         add_left(player, line, ended)?;
     }
     if case.equal {
         add_equal(player.alloc(), line, &mut ended.plant)?;
     }
-    Ok(batches_of_decks(ended.base.jobs.as_slice()))
+    Ok(batches_of_decks(ended.base.jobs()))
 }
 
 /// How many lines the console has.

@@ -1,6 +1,7 @@
 //! What plays the scripts of cases, and what a run leaves.
 use brief_journal::BriefJournal;
-use mas_types::{NoMemory, Queue, Status};
+use brief_queue::BriefQueue;
+use mas_types::{NoMemory, Status};
 use spool_disk::{MemPlant, MemSource};
 use std::alloc::{AllocError, Global};
 
@@ -12,7 +13,7 @@ pub struct Played {
     /// Its devices.
     pub plant: MemPlant,
     /// The queue that it began with.
-    pub base: Queue,
+    pub base: BriefQueue,
     /// The moment from which on it keeps its promises.
     pub since: u64,
     /// Its commands, with their replies.

@@ -3,6 +3,7 @@
 //! after the kept batches, or that with the batch in flight; with both copies exactly where either one has it. Each
 //! step that the console told is kept by then, each line that an output's mark counts stands on some paper, and the
 //! start after that one finds the same queue, reset.
+use crate::bases::base_of;
 use crate::cases::{Case, crashed, start};
 use crate::looks::kept_and_begun;
 use crate::modes::Told;
@@ -10,8 +11,9 @@ use crate::plain::lines_of;
 use crate::player::{Played, Player};
 use crate::queues::add_queue;
 use brief_journal::BriefBatch;
+use brief_queue::{BriefOutput, BriefQueue};
 use mas_types::words::{push_digits, push_output_key};
-use mas_types::{Dev, Fate, Lines, List, MEMBERS_MOST, MemberId, NoMemory, Output, Queue, Status};
+use mas_types::{Dev, Fate, Lines, List, MEMBERS_MOST, MemberId, NoMemory, Status};
 use spool_disk::MemPlant;
 use spool_plant::{Choice, Part, Plant};
 use std::alloc::Global;
@@ -98,7 +100,7 @@ fn find_of(lines: &[Writer], batches: &[BriefBatch], t: u64, line: &[u8]) -> Fin
 }
 
 // How the line of that number of an output begins on paper.
-fn front_of(alloc: Global, output: &Output, number: u32) -> Result<List<u8>, NoMemory> {
+fn front_of(alloc: Global, output: &BriefOutput, number: u32) -> Result<List<u8>, NoMemory> {
     let mut front = List::new(alloc);
     push_output_key(&mut front, output.job, output.index)?;
     front.push(b' ')?;
@@ -121,7 +123,7 @@ fn is_on_paper(alloc: Global, plant: &MemPlant, front: &[u8]) -> Result<bool, No
 }
 
 // Each line that the output's mark counts stands on some paper.
-fn is_printed(alloc: Global, plant: &MemPlant, output: &Output) -> Result<bool, NoMemory> {
+fn is_printed(alloc: Global, plant: &MemPlant, output: &BriefOutput) -> Result<bool, NoMemory> {
     for number in 1..=output.mark {
         let front = front_of(alloc, output, number)?;
         if !is_on_paper(alloc, plant, front.as_slice())? {
@@ -132,8 +134,8 @@ fn is_printed(alloc: Global, plant: &MemPlant, output: &Output) -> Result<bool, 
 }
 
 // Each line that a mark counts stands on some paper.
-fn are_printed(alloc: Global, plant: &MemPlant, queue: &Queue) -> Result<bool, NoMemory> {
-    for output in queue.outputs.as_slice() {
+fn are_printed(alloc: Global, plant: &MemPlant, queue: &BriefQueue) -> Result<bool, NoMemory> {
+    for output in queue.outputs() {
         if !is_printed(alloc, plant, output)? {
             return Ok(false);
         }
@@ -195,8 +197,8 @@ fn line_of<P: Player>(player: &P, first: &Played) -> Result<Writer, NoMemory> {
     let left = crashed(alloc, &first.plant, first.plant.now(), Choice::New)?;
     let second = start(player, b"", left)?;
     let mut line = Writer::new(alloc);
-    add_queue(&mut line, &first.base);
-    add_queue(&mut line, &second.base);
+    add_queue(&mut line, &base_of(alloc, first)?);
+    add_queue(&mut line, &base_of(alloc, &second)?);
     Ok(line)
 }
 

@@ -8,8 +8,8 @@ ghost use Rattle.run_opening.specs.Statuses.{status_of as status_of_lem};
 ghost use Rattle.mas_types.specs.Statuses.{status_code as code_of_status};
 
 use ckpt_form::CopyForm;
-use mas_complex::{BriefJournal, Complex};
-use mas_types::{Queue, Status, no_queue, status_code};
+use mas_complex::{BriefJournal, BriefQueue, Complex};
+use mas_types::{Status, no_queue, status_code};
 use member_node::NodeNo;
 use spool_plant::Plant;
 use std::alloc::Global;
@@ -24,7 +24,7 @@ pub struct Ended<P> {
     /// The plant that was lent to the run.
     pub plant: P,
     /// The queue that the run began with.
-    pub base: Queue,
+    pub base: BriefQueue,
     /// The moment from which on the run keeps its promises: of a cold run the one after the formatting.
     pub since: u64,
     /// The commands of the run, with their replies.
@@ -41,7 +41,7 @@ pub fn unbegun<P: Plant + Drop>(alloc: Global, status: Status, plant: P) -> Ende
     Ended {
         status,
         plant,
-        base: no_queue(alloc),
+        base: BriefQueue::without_jobs(alloc, no_queue(alloc)),
         since,
         journal: BriefJournal::new(alloc),
     }

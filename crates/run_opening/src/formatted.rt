@@ -25,8 +25,8 @@ use ckpt_copy::Copying;
 use ckpt_form::CopyForm;
 use ckpt_tables::page_count;
 use duplex_pair::Pair;
-use mas_complex::Complex;
-use mas_types::{Config, Dev, List, MemberId, NoMemory, Queue, Route, Status, empty_queue};
+use mas_complex::{BriefQueue, Complex};
+use mas_types::{Config, Dev, List, MemberId, NoMemory, Route, Status, empty_queue};
 use member_node::{Checkpoint, Member, blank};
 use nje_frames::FrameReader;
 use queue_tables::law_of_told_queues;
@@ -41,7 +41,7 @@ const OPERATOR: MemberId = MemberId(0);
 // What a cold run begins with.
 #[derive(Drop)]
 struct Beginning {
-    base: Queue,
+    base: BriefQueue,
     members: List<Member>,
     readers: List<FrameReader>,
     // What is formatted.
@@ -63,7 +63,7 @@ fn start(alloc: Global, config: &Config, routes: &List<Route>) -> Result<Beginni
         AreDrawn start.checkpoint.tables start.checkpoint.level start.checkpoint.levels start.checkpoint.pages) }
 {
     Ok(Beginning {
-        base: empty_queue(alloc, config, routes)?,
+        base: BriefQueue::without_jobs(alloc, empty_queue(alloc, config, routes)?),
         members: members_of(alloc, config)?,
         readers: readers_of(alloc, config)?,
         checkpoint: blank(alloc, config, routes)?,

@@ -105,16 +105,17 @@ fn reset_found<P: Plant + Drop>(
         levels,
     } = found;
     let mut complex = complex;
+    let config = complex.base.config();
     let checkpoint = Checkpoint {
         tables,
         level: complex.level,
         levels,
         pages,
     };
-    let Ok(members) = members_of(alloc, &complex.base.config) else {
+    let Ok(members) = members_of(alloc, &config) else {
         return Err(end_run(Status::NoMemory, complex));
     };
-    let Ok(readers) = readers_of(alloc, &complex.base.config) else {
+    let Ok(readers) = readers_of(alloc, &config) else {
         return Err(end_run(Status::NoMemory, complex));
     };
     let Ok(operator) = Member::with(alloc, OPERATOR, checkpoint) else {

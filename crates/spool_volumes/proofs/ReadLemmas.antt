@@ -1,5 +1,5 @@
 -- Lemmas on reading groups.
-use Rattle.std.proofs.Common.{◌≡◌, ◌||◌, ◌&&◌, ◌==◌, ℕ, ◌+◌, ◌≤◌, nat_le, Bool, true, false, if◌then◌else◌, List, [], ◌∷◌, ◌++◌, length, All, arith, Option, Some, None, option_map, unwrap_or, refl, sym, ap, subst, ◌∙◌, append_assoc}
+use Rattle.std.proofs.Common.{◌≡◌, ◌||◌, ◌&&◌, ◌==◌, ℕ, ◌+◌, ◌≤◌, nat_le, Bool, true, false, if◌then◌else◌, List, [], ◌∷◌, ◌++◌, length, All, arith, Option, Some, None, Result, Ok, option_map, unwrap_or, refl, sym, ap, subst, ◌∙◌, append_assoc}
 use Rattle.std.specs.List.{list_any}
 use Rattle.std.proofs.lemmas.Bool.Decides.{nat_tests}
 use Rattle.std.proofs.lemmas.List.{append-nil}
@@ -29,6 +29,10 @@ page_gone false at bytes is = absurd (cc)
 pub page_there : (lost : Bool) (at : ℕ) (bytes into : List ℕ) → (lost ≡ true → ⊥) → into ≡ slice at page_bytes bytes → option_map (slice at page_bytes) (bytes_unless lost bytes) ≡ Some into
 page_there true at bytes into there is = absurd (there refl)
 page_there false at bytes into there is = ap Some (sym is)
+
+-- an answer that is there is the other where both are given alike
+pub ok_is : {E : Type 0} (a b : Bool) → (let one : Result Bool E = Ok a in one ≡ Ok b) → a ≡ b
+ok_is a b is = cc
 
 pub no_records : ReadsWhatIsHeld → (page : List ℕ) → HoldsNoRecords page → records_in page ≡ None
 no_records law page none = by_records (records_in page) refl where

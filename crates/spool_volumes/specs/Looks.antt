@@ -12,7 +12,7 @@ use Rattle.ckpt_copy.specs.Changes.{NoMore}
 use Rattle.ckpt_copy.specs.Meanwhile.{SameSides}
 use Rattle.spool_volumes.specs.Volumes.{Volumes, volume_of}
 use Rattle.spool_volumes.specs.declared.reading.ReadError.{ReadError}
-use Rattle.spool_volumes.specs.declared.reading.ReadError.TheVariants.{Halted, NoMemory}
+use Rattle.spool_volumes.specs.declared.reading.ReadError.TheVariants.{Halted}
 
 -- what a plant shows of each volume, lost or not
 abbrev pub volumes_shown : View → Volumes
@@ -57,4 +57,3 @@ pub record SparesOthers (by per : ℕ) (groups : List GroupNo) (stopped : Bool) 
 abbrev pub read_stopped : {T : Type 0} → Result T ReadError → Bool
 read_stopped (Ok value) = false
 read_stopped (Err Halted) = true
-read_stopped (Err NoMemory) = false

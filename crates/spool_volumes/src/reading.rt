@@ -11,19 +11,17 @@ ghost use Rattle.spool_volumes.specs.Looks.{volumes_shown, lie_on_lost, LooksAt,
 ghost use Rattle.spool_volumes.specs.Texts.{last_of, records_on, text_of, whole_text, Adds, IsLimited};
 ghost use Rattle.spool_volumes.specs.declared.reading.ReadError.TheVariants.{Halted as ReadErrorHalted};
 
+use brief_queue::{BriefLines, BriefText};
 use mas_types::limits::PAGE_BYTES;
-use mas_types::{Dev, GroupNo, Lines, MemberId, NoMemory, Page, Text};
+use mas_types::{Dev, GroupNo, MemberId, Page};
 use spool_plant::{Act, Part, Plant};
-use spool_text::{TextNo, law_of_reading, unpack};
-use std::alloc::Global;
+use spool_text::{add_lines, law_of_reading};
 
 /// Why a text was not read.
 #[derive(Clone, Copy)]
 pub enum ReadError {
     /// The member was stopped inside a read.
     Halted,
-    /// There was no memory for the lines.
-    NoMemory,
 }
 
 // Reads the page of a group; false where its volume is lost.
@@ -60,12 +58,11 @@ fn read_page<P: Plant>(
 
 // Adds the lines of a group; false where it holds no records or its volume is lost.
 fn add_group<P: Plant>(
-    alloc: Global,
     plant: &mut P,
     by: MemberId,
     per: u32,
     group: GroupNo,
-    lines: &mut Lines,
+    lines: &mut BriefLines,
 ) -> Result<bool, ReadError>
     requires some { 1 ≤ per }
     requires placed { IsPlaced (P.view plant.old) per group }
@@ -87,30 +84,18 @@ fn add_group<P: Plant>(
     if !read_page(plant, by, per, group, &mut page.0)? {
         return Ok(false);
     }
-    match unpack(alloc, &page, lines) {
-        Ok(()) => Ok(true),
-        Err(TextNo::Bad) => Ok(false),
-        Err(TextNo::NoMemory) => Err(ReadError::NoMemory),
-    }
+    Ok(add_lines(&page, lines))
 }
 
 // The text of these lines, of which so many are counted.
-fn ended(count: u16, groups: &[GroupNo], lines: Lines) -> Text
+fn ended(count: u16, groups: &[GroupNo], lines: BriefLines) -> BriefText
     ensures text { result ≡ whole_text count groups.now lines }
     ensures count { line_count result ≡ count }
 {
-    if lines.len() == count as usize {
-        return Text::Whole(lines);
+    if lines.are(count) {
+        return BriefText::whole(lines);
     }
-    Text::Gone(last_group(groups), count)
-}
-
-// No lines, with room for so many, and for the bytes of their groups if these are more than one.
-fn room_for(alloc: Global, groups: usize, count: u16) -> Result<Lines, NoMemory>
-    ensures { IfOk result (λ lines. lines ≡ []) }
-{
-    let pages = if groups > 1 { groups } else { 0 };
-    Lines::with_room(alloc, count as usize, pages.saturating_mul(PAGE_BYTES))
+    BriefText::gone(last_group(groups), count)
 }
 
 /// The last of groups, 0 where there is none.
@@ -132,15 +117,14 @@ pub fn last_group(groups: &[GroupNo]) -> GroupNo
 /// volume was lost in the call, and so it does where none of its groups lies on a volume that is lost then: else read
 /// again. Halted comes only where the member was stopped inside a read, never for the operator; else nobody is stopped.
 /// No byte of a volume is changed, and nothing more is unsynced. A volume on which none of the groups lies isn't lost,
-/// and no fault of it is counted. NoMemory comes only when out of memory.
+/// and no fault of it is counted. No byte of the text is kept in memory.
 pub fn read_text<P: Plant>(
-    alloc: Global,
     plant: &mut P,
     by: MemberId,
     per: u32,
     groups: &[GroupNo],
     count: u16,
-) -> Result<Text, ReadError>
+) -> Result<BriefText, ReadError>
     requires some { 1 ≤ per }
     requires placed { All (IsPlaced (P.view plant.old) per) groups.now }
     ensures looks { LooksAt P.tells by.0 (P.view plant.old) (P.view plant.new) }
@@ -154,13 +138,10 @@ pub fn read_text<P: Plant>(
     ensures halted { IsErrOf result ReadErrorHalted → (0 < by.0)
         × Rose ((P.view plant.old).stops by.0) ((P.view plant.new).stops by.0) }
 {
-    let Ok(room) = room_for(alloc, groups.len(), count) else {
-        return Err(ReadError::NoMemory);
-    };
-    let mut lines = room;
+    let mut lines = BriefLines::none();
     for group in groups {
-        if !add_group(alloc, plant, by, per, *group, &mut lines)? {
-            return Ok(Text::Gone(*group, count));
+        if !add_group(plant, by, per, *group, &mut lines)? {
+            return Ok(BriefText::gone(*group, count));
         }
     }
     Ok(ended(count, groups, lines))

@@ -16,7 +16,7 @@ use duplex_pair::{Look, Pair};
 use mas_complex::Steady;
 use mas_types::{Dev, MemberId, NoMemory};
 use spool_plant::Plant;
-use start_choice::{Judged, judge};
+use start_choice::{Judged, judge, judge_beside};
 use std::alloc::Global;
 
 /// The operator, who starts the program and never halts.
@@ -118,6 +118,6 @@ pub(crate) fn judge_both<P: Plant, C: Steady + Drop>(
 {
     let (first, second) = look_at_both(alloc, plant, pair)?;
     let first_judged = judge(alloc, first)?;
-    let second_judged = judge(alloc, second)?;
+    let second_judged = judge_beside(alloc, &first_judged, second)?;
     Ok((first_judged, second_judged))
 }

@@ -1,5 +1,5 @@
 //! The queue of tables with the texts that the spool volumes give.
-ghost use Rattle.std.specs.Prelude.{◌≡◌, ◌≤◌, ◌<◌, ◌^◌, ℕ, false, [], All, List, length, IfOk};
+ghost use Rattle.std.specs.Prelude.{◌≡◌, ◌≤◌, ◌<◌, ℕ, false, [], All, List, length, IfOk};
 ghost use Rattle.lay_bytes.specs.declared.records.JobRec.{JobRec as JobRecLem};
 ghost use Rattle.lay_bytes.specs.declared.records.OutRec.{OutRec as OutRecLem};
 ghost use Rattle.mas_types.specs.declared.ids.Dev.TheVariants.{Spool};
@@ -12,6 +12,7 @@ ghost use Rattle.spool_volumes.specs.Volumes.{volume_of, IsSteady, AreRoomy};
 ghost use Rattle.spool_volumes.specs.Looks.{LooksAt};
 ghost use Rattle.spool_volumes.specs.Texts.{IsLimited};
 ghost use Rattle.track_groups.specs.Places.{groups_of as groups_of_lem};
+ghost use Rattle.track_texts.specs.Index.{AreTextGroups};
 ghost use Rattle.ckpt_tables.specs.Shape.{HasSpelling};
 ghost use Rattle.job_queue.specs.Jobs.{AreJobs};
 ghost use Rattle.output_queue.specs.Outputs.{AreOutputs};
@@ -22,11 +23,13 @@ ghost use Rattle.warm_start.specs.Spooled.{IsGiven, AreGiven};
 use crate::looking::OPERATOR;
 use crate::queues::{jobs_in_order, outputs_in_order};
 use ckpt_tables::Tables;
-use mas_types::{Copied, Dev, GroupNo, Job, List, NoMemory, Output, Owner, Queue, Text, Thing};
+use mas_complex::{BriefJob, BriefOutput, BriefQueue, BriefText};
+use mas_types::{Copied, Dev, GroupNo, List, NoMemory, Owner, Thing};
 use spool_plant::Plant;
 use spool_volumes::read_text;
 use std::alloc::Global;
-use track_groups::{groups_of, law_of_places};
+use track_groups::law_of_places;
+use track_texts::TextGroups;
 
 // Syncs each volume of the configuration. One that fails is lost.
 fn sync_volumes<P: Plant>(plant: &mut P, volumes: u8)
@@ -40,13 +43,18 @@ fn sync_volumes<P: Plant>(plant: &mut P, volumes: u8)
 }
 
 // The groups of a deck or an output, each of which is there.
-fn groups_in(alloc: Global, owners: &[Owner], thing: Thing) -> Result<List<GroupNo>, NoMemory>
-    requires { length owners.now < 2 ^ 32 }
+fn groups_in(
+    alloc: Global,
+    texts: &TextGroups,
+    owners: &[Owner],
+    thing: Thing,
+) -> Result<List<GroupNo>, NoMemory>
+    requires { AreTextGroups texts.now owners.now }
     ensures groups { IfOk result (λ groups. groups ≡ groups_of_lem thing owners.now) }
     ensures numbered { (t : ThingLem) → All (λ g. g.0 < length owners.now) (groups_of_lem t owners.now) }
 {
     law_of_places();
-    groups_of(alloc, owners, thing)
+    texts.groups_of(alloc, thing)
 }
 
 // The text of a deck or an output, of which its slot counts so many lines.
@@ -54,10 +62,12 @@ fn text_in<P: Plant>(
     alloc: Global,
     plant: &mut P,
     tables: &Tables,
+    texts: &TextGroups,
     thing: Thing,
     count: u16,
-) -> Result<Text, NoMemory>
+) -> Result<BriefText, NoMemory>
     requires spelling { HasSpelling tables.now }
+    requires index { AreTextGroups texts.now tables.now.owners }
     requires roomy { AreRoomy (P.view plant.old) tables.now.config }
     ensures looks { LooksAt P.tells 0 (P.view plant.old) (P.view plant.new) }
     ensures count { IfOk result (λ text. line_count text ≡ count) }
@@ -69,17 +79,23 @@ fn text_in<P: Plant>(
         → IsGiven (P.view plant.old) tables.now.config.groups text (groups_of_lem thing tables.now.owners)) }
 {
     let per = tables.config.groups as u32;
-    let groups = groups_in(alloc, tables.owners.as_slice(), thing)?;
+    let groups = groups_in(alloc, texts, tables.owners.as_slice(), thing)?;
     // The operator is never stopped.
-    let Ok(text) = read_text(alloc, plant, OPERATOR, per, groups.as_slice(), count) else {
+    let Ok(text) = read_text(plant, OPERATOR, per, groups.as_slice(), count) else {
         return Err(NoMemory);
     };
     Ok(text)
 }
 
 // The jobs of tables with their texts.
-fn jobs_on<P: Plant>(alloc: Global, plant: &mut P, tables: &Tables) -> Result<List<Job>, NoMemory>
+fn jobs_on<P: Plant>(
+    alloc: Global,
+    plant: &mut P,
+    tables: &Tables,
+    texts: &TextGroups,
+) -> Result<List<BriefJob>, NoMemory>
     requires spelling { HasSpelling tables.now }
+    requires index { AreTextGroups texts.now tables.now.owners }
     requires roomy { AreRoomy (P.view plant.old) tables.now.config }
     ensures looks { LooksAt P.tells 0 (P.view plant.old) (P.view plant.new) }
     ensures jobs { IfOk result (λ jobs. AreJobs tables.now.jobs jobs) }
@@ -99,10 +115,11 @@ fn jobs_on<P: Plant>(alloc: Global, plant: &mut P, tables: &Tables) -> Result<Li
             alloc,
             plant,
             tables,
+            texts,
             Thing::Deck(record.number),
             record.cards,
         )?;
-        jobs.push(Job {
+        jobs.push(BriefJob {
             number: record.number,
             fields: record.fields,
             phase: record.phase,
@@ -119,8 +136,10 @@ fn outputs_on<P: Plant>(
     alloc: Global,
     plant: &mut P,
     tables: &Tables,
-) -> Result<List<Output>, NoMemory>
+    texts: &TextGroups,
+) -> Result<List<BriefOutput>, NoMemory>
     requires spelling { HasSpelling tables.now }
+    requires index { AreTextGroups texts.now tables.now.owners }
     requires roomy { AreRoomy (P.view plant.old) tables.now.config }
     ensures looks { LooksAt P.tells 0 (P.view plant.old) (P.view plant.new) }
     ensures outputs { IfOk result (λ outputs. AreOutputs tables.now.outputs outputs) }
@@ -137,8 +156,8 @@ fn outputs_on<P: Plant>(
     let mut outputs = List::new(alloc);
     for record in records.as_slice() {
         let thing = Thing::Output(record.job, record.index);
-        let text = text_in(alloc, plant, tables, thing, record.lines)?;
-        outputs.push(Output {
+        let text = text_in(alloc, plant, tables, texts, thing, record.lines)?;
+        outputs.push(BriefOutput {
             job: record.job,
             index: record.index,
             class: record.class,
@@ -167,7 +186,7 @@ pub fn spooled_queue<P: Plant>(
     alloc: Global,
     plant: &mut P,
     tables: &Tables,
-) -> Result<Queue, NoMemory>
+) -> Result<BriefQueue, NoMemory>
     requires spelling { HasSpelling tables.now }
     requires roomy { AreRoomy (P.view plant.old) tables.now.config }
     ensures looks { LooksAt P.tells 0 (P.view plant.old) (P.view plant.new) }
@@ -182,9 +201,10 @@ pub fn spooled_queue<P: Plant>(
 {
     law_of_places();
     sync_volumes(plant, tables.config.volumes);
-    let jobs = jobs_on(alloc, plant, tables)?;
-    let outputs = outputs_on(alloc, plant, tables)?;
-    Ok(Queue {
+    let texts = TextGroups::of(alloc, tables.owners.as_slice())?;
+    let jobs = jobs_on(alloc, plant, tables, &texts)?;
+    let outputs = outputs_on(alloc, plant, tables, &texts)?;
+    Ok(BriefQueue {
         config: tables.config,
         jobs,
         outputs,

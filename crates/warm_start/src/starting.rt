@@ -34,9 +34,9 @@ use ckpt_copy::Copying;
 use ckpt_pages::levels_of;
 use ckpt_tables::Tables;
 use duplex_pair::{Pair, PairNo, pages_level};
-use mas_complex::{Complex, Steady};
+use mas_complex::{BriefQueue, Complex, Steady};
 use mas_types::limits::PAGE_BYTES;
-use mas_types::{Config, Dev, Level, List, Page, Queue};
+use mas_types::{Config, Dev, Level, List, Page};
 use queue_tables::law_of_told_queues;
 use spool_plant::{Part, Plant};
 use start_choice::{Good, Start, StartNo, choose, is_to_go};
@@ -76,7 +76,7 @@ struct Found {
 struct Ready {
     start: Start,
     levels: List<Level>,
-    base: Queue,
+    base: BriefQueue,
 }
 
 fn refuse_if_small<P: Plant>(plant: &P, dev: Dev, needed: u64) -> Result<(), StartNo>

@@ -1,5 +1,7 @@
-use Rattle.mas_complex.proofs.Quotients.{few_quotient}
 use Rattle.mas_complex.proofs.spool.write_group.Goals as goal
 
-pub device-dev-requires-clause-placed : goal.device-dev-requires-clause-placed
-device-dev-requires-clause-placed g c = few_quotient c.args.group.0 c.args.volumes c.args.per c.requires.some c.requires.placed
+pub returns-clause-acts : goal.returns-clause-acts
+returns-clause-acts g c = rw c.config-shape.ensures at c.write_place.ensures.acts
+
+pub returns-clause-content : goal.returns-clause-content
+returns-clause-content g c = rw c.config-shape.ensures at c.write_place.ensures.content

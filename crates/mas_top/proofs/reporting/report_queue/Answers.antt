@@ -17,8 +17,8 @@ returns-in-Err-clause-report g c =
 pub returns-in-Err-clause-words : goal.returns-in-Err-clause-words
 returns-in-Err-clause-words g c = rw (c.unbegun.ensures.status, c.status_of_start.ensures) (start_not_words c.in-Err.why)
 
-pub report-requires : goal.report-requires
-report-requires g c =
+pub reported-requires : goal.reported-requires
+reported-requires g c =
     let f = c.in-Ok.ensures.queue in
     subst IsNamed (sym f.is) (c.law_of_named_queues.ensures f.tables bare_deck bare_print f.usable.0.fit)
 
@@ -41,21 +41,21 @@ returns-clause-report g c =
     let Q = c.in-Ok.queue in
     let v0 = P.view c.args.plant in
     let v1 = P.view c.found.new.plant in
-    let says = subst (λ (l : List (List ℕ)). Says P.tells l v1 (P.view r.plant) r.status) c.in-Ok-report.ensures c.said.ensures.says in
-    rw c.said.ensures.base (said_report P.tells v0 v1 (P.view r.plant) Q c.in-Ok.ensures.looks c.in-Ok.ensures.queue r.status r.journal r.since says c.said.ensures.journal (c.said.ensures.since ∙ c.now-since.ensures))
+    let says = subst (λ (l : List (List ℕ)). Says P.tells l v1 (P.view r.plant) r.status) c.in-Ok-reported.ensures.lines c.said.ensures.says in
+    rw (c.said.ensures.base ∙ c.in-Ok-reported.ensures.base) (said_report P.tells v0 v1 (P.view r.plant) Q c.in-Ok.ensures.looks c.in-Ok.ensures.queue r.status r.journal r.since says c.said.ensures.journal (c.said.ensures.since ∙ c.now-since.ensures))
 
 pub returns-clause-words : goal.returns-clause-words
 returns-clause-words g c =
     let P = g.P.Plant in
     let r = c.said.result in
-    said_not_words P.tells c.in-Ok-report.lines (P.view c.found.new.plant) (P.view r.plant) r.status c.said.ensures.says
+    said_not_words P.tells c.in-Ok-reported.lines (P.view c.found.new.plant) (P.view r.plant) r.status c.said.ensures.says
 
 pub returns-clause-cause : goal.returns-clause-cause
 returns-clause-cause g c =
     let P = g.P.Plant in
     let r = c.said.result in
     let v1 = P.view c.found.new.plant in
-    let says = subst (λ (l : List (List ℕ)). Says P.tells l v1 (P.view r.plant) r.status) c.in-Ok-report.ensures c.said.ensures.says in
+    let says = subst (λ (l : List (List ℕ)). Says P.tells l v1 (P.view r.plant) r.status) c.in-Ok-reported.ensures.lines c.said.ensures.says in
     said_caused P.tells (P.view c.args.plant) v1 (P.view r.plant) c.in-Ok.queue c.in-Ok.ensures.looks r.status says
 
 pub returns-clause-goes : goal.returns-clause-goes
@@ -63,7 +63,7 @@ returns-clause-goes g c =
     let P = g.P.Plant in
     let r = c.said.result in
     let v1 = P.view c.found.new.plant in
-    let says = subst (λ (l : List (List ℕ)). Says P.tells l v1 (P.view r.plant) r.status) c.in-Ok-report.ensures c.said.ensures.says in
+    let says = subst (λ (l : List (List ℕ)). Says P.tells l v1 (P.view r.plant) r.status) c.in-Ok-reported.ensures.lines c.said.ensures.says in
     said_goes P.tells (P.view c.args.plant) v1 (P.view r.plant) c.in-Ok.queue c.in-Ok.ensures.looks r.status says
 
 pub returns-clause-elsewhere : goal.returns-clause-elsewhere
@@ -71,5 +71,5 @@ returns-clause-elsewhere g c told =
     let P = g.P.Plant in
     let r = c.said.result in
     let v1 = P.view c.found.new.plant in
-    let says = subst (λ (l : List (List ℕ)). Says P.tells l v1 (P.view r.plant) r.status) c.in-Ok-report.ensures c.said.ensures.says in
+    let says = subst (λ (l : List (List ℕ)). Says P.tells l v1 (P.view r.plant) r.status) c.in-Ok-reported.ensures.lines c.said.ensures.says in
     said_elsewhere P.tells (P.view c.args.plant) v1 (P.view r.plant) c.in-Ok.queue c.in-Ok.ensures.looks r.status says told

@@ -14,7 +14,7 @@ use Rattle.member_decks.proofs.HeldLemmas.{all_within, as_many_held, lowest_rise
 use Rattle.member_decks.proofs.PageLemmas.{acts_none, kept_none}
 use Rattle.member_node.proofs.SpareLemmas.{sparing_none}
 use Rattle.step_turns.specs.declared.states.Found.{Found}
-use Rattle.member_sittings.proofs.AsideLemmas.{all_take}
+use Rattle.member_asides.proofs.AsideLemmas.{all_take}
 use Rattle.member_node.specs.declared.member.NodeNo.{NodeNo}
 use Rattle.member_asides.specs.Asides.{HasWritten, lowest_for}
 use Rattle.member_acts.proofs.Shown.{writes_by}

@@ -66,7 +66,8 @@ pub returns-in-Failed-clause-failed : goal.returns-in-Failed-clause-failed
 returns-in-Failed-clause-failed g c volume is =
     let P = g.P.Plant in
     let x = c.args.complex.now in
-    let same : volume ≡ volume_of x.base.config.groups c.args.group = cc (is, c.volume_of.ensures) in
+    let lies = rw c.config-config.ensures at c.volume_of.ensures in
+    let same : volume ≡ volume_of x.base.config.groups c.args.group = cc (is, lies) in
     failed_read c.args.by.0 x.base.config.groups volume c.args.group (P.view x.plant) (P.view c.spool_read.new.self.plant) same c.in-Failed.ensures.acts
 
 pub returns-in-Done-clause-cause : goal.returns-in-Done-clause-cause
@@ -79,7 +80,7 @@ pub returns-in-Failed-clause-cause : goal.returns-in-Failed-clause-cause
 returns-in-Failed-clause-cause g c =
     let P = g.P.Plant in
     let x = c.args.complex.now in
-    rw c.volume_of.ensures
+    rw (c.volume_of.ensures, c.config-config.ensures)
     (sparing_failed c.args.by.0 (volume_of x.base.config.groups c.args.group) (P.view x.plant) (P.view c.spool_read.new.self.plant) c.in-Failed.ensures.acts)
 
 pub returns-in-Halted-clause-cause : goal.returns-in-Halted-clause-cause

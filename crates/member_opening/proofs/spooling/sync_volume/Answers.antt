@@ -14,7 +14,8 @@ returns-clause-acts g c =
 
 pub returns-then-not-lies_there-clause-synced : goal.returns-then-not-lies_there-clause-synced
 returns-then-not-lies_there-clause-synced g c told k h here on =
-    let none : lies_there c.args.complex.now.base.config.groups c.args.volume c.args.groups.now ≡ false = sym c.lies_there.ensures ∙ c.if-not-lies_there.true in
+    let lies = rw c.config.ensures at c.lies_there.ensures in
+    let none : lies_there c.args.complex.now.base.config.groups c.args.volume c.args.groups.now ≡ false = sym lies ∙ c.if-not-lies_there.true in
     absurd (not_there c.args.complex.now.base.config.groups c.args.volume c.args.groups.now k h none here on)
 
 pub returns-then-not-lies_there-clause-cause : goal.returns-then-not-lies_there-clause-cause
@@ -25,7 +26,8 @@ returns-clause-cause g c =
     let P = g.P.Plant in
     let x = c.args.complex.now in
     let y = c.spool_sync.new.self in
+    let lies = rw c.config.ensures at c.lies_there.ensures in
     rw c.answer.ensures
-    (cause_of c.args.by.0 x.base.config.groups c.args.volume c.args.groups.now (P.view x.plant) (P.view y.plant) c.spool_sync.result (there _ c.if-not-lies_there.false c.lies_there.ensures) c.spool_sync.ensures.acts) where
+    (cause_of c.args.by.0 x.base.config.groups c.args.volume c.args.groups.now (P.view x.plant) (P.view y.plant) c.spool_sync.result (there _ c.if-not-lies_there.false lies) c.spool_sync.ensures.acts) where
       there : (b : Bool) → b ≡ true → b ≡ lies_there c.args.complex.now.base.config.groups c.args.volume c.args.groups.now → lies_there c.args.complex.now.base.config.groups c.args.volume c.args.groups.now ≡ true
       there b is same = sym same ∙ is

@@ -1,5 +1,6 @@
 use Rattle.std.proofs.Common.{◌≡◌, ◌∙◌, Err, ap, false, refl, arith}
 use Rattle.std.proofs.lemmas.Result.{err_from_is_err_and}
+use Rattle.mas_types.specs.declared.queues.Config.{Config}
 use Rattle.mas_complex.specs.Parts.{parts_of}
 use Rattle.mas_complex.specs.Texts.{spools_at}
 use Rattle.member_steps.proofs.SayLemmas.{frame_then}
@@ -57,4 +58,4 @@ returns-clause-synced g c t =
     let x = c.args.complex.now in
     let y = c.loop-before.complex in
     let i = c.loop-before.invariant in
-    synced_all x.base.config c.args.groups.now (spools_at (P.view y.plant) (P.view y.plant).now) c.loop-before.before (omega arith) c.requires.within (i.synced t)
+    synced_all x.base.config c.args.groups.now (spools_at (P.view y.plant) (P.view y.plant).now) c.loop-before.before (omega (arith, ap (λ (q : Config). q.volumes) c.config-before-end.ensures)) c.requires.within (i.synced t)

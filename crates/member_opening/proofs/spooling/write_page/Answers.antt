@@ -17,7 +17,7 @@ returns-clause-cause g c =
     let x = c.args.complex.now in
     let y = c.spool_write.new.self in
     let per = x.base.config.groups in
-    rw (c.answer.ensures, c.volume_of-volume.ensures)
+    rw (c.answer.ensures, c.volume_of-volume.ensures, c.config-config.ensures)
     (cause_of c.args.by.0 per _ _ (P.view x.plant) (P.view y.plant) c.spool_write.result (lies_alone per c.args.group) c.spool_write.ensures.acts)
 
 pub returns-clause-stands : goal.returns-clause-stands
@@ -26,7 +26,7 @@ returns-clause-stands g c =
     let x = c.args.complex.now in
     let y = c.spool_write.new.self in
     let long : length c.pack.new.into.0 ≡ page_bytes = all_at (λ (group : List ℕ). length group ≡ page_bytes) (packed c.args.text.now) c.args.place c.pack.new.into.0 (c.law_of_groups.ensures.pages c.args.text.now c.requires.text) c.pack.ensures in
-    rw (c.answer.ensures, c.volume_of-volume.ensures)
+    rw (c.answer.ensures, c.volume_of-volume.ensures, c.config-config.ensures)
     (on_done _ c.spool_write.result _
     (λ done told roomy. c.pack.ensures ∙ ap Some (sym (stands (P.view x.plant) (P.view y.plant) x.base.config c.args.group c.pack.new.into c.args.by.0 long c.requires.group roomy
     (rw done at c.spool_write.ensures.acts) (rw done at (c.spool_write.ensures.content told))))))

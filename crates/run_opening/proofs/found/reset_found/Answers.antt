@@ -33,6 +33,12 @@ use Rattle.run_opening.proofs.OpeningLemmas.{caused_through, grows_through}
 use Rattle.run_opening.proofs.VolumeLemmas.{kept_on}
 use Rattle.run_opening.proofs.found.reset_found.Goals as goal
 
+pub members_of-requires : goal.members_of-requires
+members_of-requires g c = rw c.config-config.ensures c.requires.config
+
+pub readers_of-requires : goal.readers_of-requires
+readers_of-requires g c = rw c.config-config.ensures c.requires.config
+
 pub with-requires : goal.with-requires
 with-requires g c = subst (λ (n : ℕ). n ≤ pages_most) (sym c.requires.drawn.spelled.count) (few_pages c.args.found.tables.config c.requires.drawn.spelling.shape.config)
 
@@ -149,7 +155,7 @@ returns-in-Ok-restart-clause-readers g c =
     let config : x.base.config ≡ y.base.config = sym (ap (λ (q : Queue). q.config) k.base) in
     let book : y.book ≡ book_of y.base.config = k.book ∙ c.requires.book ∙ ap book_of config in
     let since : v.now ≡ y.since = sym (k.since ∙ c.requires.since) in
-    readers_new P (parts_of y) c.in-Ok-readers_of.readers (members_booked (parts_of y) book (rw k.base c.requires.config)) (i.many ∙ ap (λ (n : Config). wires_most * n.members) config) i.new
+    readers_new P (parts_of y) c.in-Ok-readers_of.readers (members_booked (parts_of y) book (rw k.base c.requires.config)) (i.many ∙ ap (λ (n : Config). wires_most * n.members) (c.config-config.ensures ∙ config)) i.new
     (λ t line by. (k.reset.apart t).wires.taken line by ∙ ap (λ (u : World). u.taken line by) (sym (k.reset.course.goes.past v.now (omega arith))) ∙ ap (λ (n : ℕ). (w.world n).taken line by) since)
 
 pub returns-in-Ok-restart-clause-reset : goal.returns-in-Ok-restart-clause-reset
@@ -166,7 +172,7 @@ returns-in-Ok-restart-clause-reset g c =
     let book : y.book ≡ book_of y.base.config = k.book ∙ c.requires.book ∙ ap book_of (sym config) in
     let many : length c.in-Ok-with.operator.checkpoint.pages ≡ page_count y.base.config =
     ap (λ (n : Checkpoint). length n.pages) i.checkpoint ∙ c.requires.drawn.spelled.count ∙ ap page_count (sym c.requires.queue.config) ∙ ap page_count (sym config) in
-    let fresh : AreFresh y.base.config c.in-Ok.members = subst (λ (n : Config). AreFresh n c.in-Ok.members) (sym config) c.in-Ok.ensures in
+    let fresh : AreFresh y.base.config c.in-Ok.members = subst (λ (n : Config). AreFresh n c.in-Ok.members) (c.config-config.ensures ∙ sym config) c.in-Ok.ensures in
     let out = none_out y.journal.batches y.journal.batches y.placed y.current refl k.quiet.unplaced k.quiet.none in
     record {
       base = k.base;

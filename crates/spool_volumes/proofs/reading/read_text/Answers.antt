@@ -13,7 +13,7 @@ abbrev none : GroupNo
 none = record { 0 = 0 }
 
 pub loop-group-init : goal.loop-group-init
-loop-group-init g c = (record { looks = looks_none g.P.Plant.tells c.args.by.0 (g.P.Plant.view c.args.plant.now); all = λ told. sym c.in-Ok.ensures; none = λ told. refl; limited = rw c.in-Ok.ensures (All-nil (λ line. is_record line ≡ true)) }, spares_none c.args.by.0 c.args.per c.args.groups.now (g.P.Plant.view c.args.plant.now))
+loop-group-init g c = (record { looks = looks_none g.P.Plant.tells c.args.by.0 (g.P.Plant.view c.args.plant.now); all = λ told. sym c.none-lines.ensures; none = λ told. refl; limited = rw c.none-lines.ensures (All-nil (λ line. is_record line ≡ true)) }, spares_none c.args.by.0 c.args.per c.args.groups.now (g.P.Plant.view c.args.plant.now))
 
 pub add_group-requires-clause-placed : goal.add_group-requires-clause-placed
 add_group-requires-clause-placed g c =
@@ -40,7 +40,7 @@ returns-then-not-branch-clause-left g c told kept =
     let split : groups ≡ take i groups ++ group ∷ drop (i + 1) groups = rw (← rest) (rw take-append-drop refl) in
     let gone = left_next g.P.Plant.tells c.args.by.0 (g.P.Plant.view c.args.plant.now) (g.P.Plant.view c.loop-group.plant) new c.args.per (take i groups) group (drop (i + 1) groups) c.loop-group.lines told c.loop-group.invariant.0 (c.in_ok-add_group.ensures.out (ap Ok c.if-not-branch.true) told)
     (subst (λ (l : List GroupNo). lie_on_lost new c.args.per l ≡ false) split kept) in
-    rw (rw (← split) at gone) refl
+    c.gone.ensures ∙ rw (rw (← split) at gone) refl
 
 pub returns-then-not-branch-clause-text : goal.returns-then-not-branch-clause-text
 returns-then-not-branch-clause-text g c told steady =
@@ -50,7 +50,7 @@ returns-then-not-branch-clause-text g c told steady =
     let rest : drop i groups ≡ group ∷ drop (i + 1) groups = rw (drop-cons groups i none c.loop-group-test.true, add-one) refl in
     let split : take i groups ++ group ∷ drop (i + 1) groups ≡ groups = rw (← rest) (take-append-drop i groups) in
     let gone = gone_next g.P.Plant.tells c.args.by.0 (g.P.Plant.view c.args.plant.now) (g.P.Plant.view c.loop-group.plant) (g.P.Plant.view c.add_group.new.plant) c.args.per (take i groups) group (drop (i + 1) groups) c.loop-group.lines told c.loop-group.invariant.0 c.add_group.ensures.looks.goes steady (c.in_ok-add_group.ensures.none (ap Ok c.if-not-branch.true) told) in
-    rw (rw split at gone) refl
+    c.gone.ensures ∙ rw (rw split at gone) refl
 
 pub returns-clause-left : goal.returns-clause-left
 returns-clause-left g c told kept =
@@ -75,9 +75,3 @@ loop-group-preserved g c =
 pub returns-then-not-branch-clause-spares : goal.returns-then-not-branch-clause-spares
 returns-then-not-branch-clause-spares g c =
     spares_then c.args.by.0 c.args.per c.args.groups.now c.loop-group.group-index none false (g.P.Plant.view c.args.plant.now) (g.P.Plant.view c.loop-group.plant) (g.P.Plant.view c.add_group.new.plant) c.loop-group-test.true c.loop-group.invariant.1 c.in_ok-add_group.ensures.spares
-
-pub returns-in_default-clause-looks : goal.returns-in_default-clause-looks
-returns-in_default-clause-looks g c = looks_none g.P.Plant.tells c.args.by.0 (g.P.Plant.view c.args.plant.now)
-
-pub returns-in_default-clause-spares : goal.returns-in_default-clause-spares
-returns-in_default-clause-spares g c = spares_none c.args.by.0 c.args.per c.args.groups.now (g.P.Plant.view c.args.plant.now)

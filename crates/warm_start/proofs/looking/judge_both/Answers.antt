@@ -1,7 +1,11 @@
 use Rattle.mas_types.specs.declared.ids.Dev.TheVariants.{Ckpt1, Ckpt2}
 use Rattle.spool_plant.specs.View.{disk_now}
 use Rattle.warm_start.proofs.Seeing.{judged_looked, judged_room}
+use Rattle.start_choice.proofs.ChoiceLemmas.{some_judged}
 use Rattle.warm_start.proofs.looking.judge_both.Goals as goal
+
+pub judge_beside-requires : goal.judge_beside-requires
+judge_beside-requires g c = some_judged _ c.in_ok-first_judged.first_judged c.in_ok-first_judged.ensures.judged c.in_ok-first_judged.ensures.few
 
 pub returns-clause-first : goal.returns-clause-first
 returns-clause-first g c =

@@ -1,4 +1,6 @@
 use Rattle.std.proofs.Common.{List, All, subst, sym}
+use Rattle.mas_types.specs.declared.queues.Owner.{Owner}
+use Rattle.track_texts.specs.Index.{AreTextGroups}
 use Rattle.mas_types.specs.declared.jobs.Job.{Job}
 use Rattle.mas_types.specs.declared.queues.Thing.TheVariants.{Deck, Output}
 use Rattle.track_groups.specs.Places.{groups_of}
@@ -10,6 +12,12 @@ use Rattle.ckpt_copy.specs.Moments.{goes_none}
 use Rattle.spool_volumes.proofs.LookLemmas.{looks_then}
 use Rattle.warm_start.proofs.Spooling.{are_given, clean_later, given_later, has_texts, later_texts, steady_first, steady_then}
 use Rattle.warm_start.proofs.spooled.spooled_queue.Goals as goal
+
+pub jobs_on-requires-clause-index : goal.jobs_on-requires-clause-index
+jobs_on-requires-clause-index g c = subst (λ (os : List Owner). AreTextGroups c.in_ok-texts.texts os) c.as_slice.ensures c.in_ok-texts.ensures
+
+pub outputs_on-requires-clause-index : goal.outputs_on-requires-clause-index
+outputs_on-requires-clause-index g c = subst (λ (os : List Owner). AreTextGroups c.in_ok-texts.texts os) c.as_slice.ensures c.in_ok-texts.ensures
 
 pub returns-in_err-jobs-clause-looks : goal.returns-in_err-jobs-clause-looks
 returns-in_err-jobs-clause-looks g c =

@@ -6,8 +6,12 @@ use Rattle.track_groups.specs.Places.{groups_of}
 use Rattle.spool_volumes.specs.Volumes.{volumes_now}
 use Rattle.spool_volumes.specs.Looks.{volumes_shown, lie_on_lost}
 use Rattle.spool_volumes.specs.Texts.{records_on, text_of}
+use Rattle.track_texts.specs.Index.{AreTextGroups}
 use Rattle.warm_start.proofs.Spooling.{placed, read_unless, given_as}
 use Rattle.warm_start.proofs.spooled.text_in.Goals as goal
+
+pub groups_in-requires : goal.groups_in-requires
+groups_in-requires g c = subst (λ (os : List Owner). AreTextGroups c.args.texts.now os) (sym c.as_slice.ensures) c.requires.index
 
 pub read_text-requires-clause-placed : goal.read_text-requires-clause-placed
 read_text-requires-clause-placed g c =

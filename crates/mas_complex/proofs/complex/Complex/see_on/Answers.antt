@@ -39,7 +39,7 @@ pub returns-in-Pages-clause-seen : goal.returns-in-Pages-clause-seen
 returns-in-Pages-clause-seen g c =
     let s = c.look_on.new.self in
     let dev = c.args.dev in
-    let look = used_pages c.page_count-count.result c.in_ok-look.look c.in-Pages.pages (sym c.usable.ensures.usable ∙ c.in-Pages.is) in
+    let look = used_pages c.pages_of-count.result c.in_ok-look.look c.in-Pages.pages (sym c.usable.ensures.usable ∙ c.in-Pages.is) in
     let seen = rw look.0 at c.in_ok-look.ensures.seen in
     let count = g.met.C.Copying.ready_count (pick dev s.pair.first s.pair.second).copy (g.P.Plant.view s.plant) seen.is_ready in
     record {
@@ -53,26 +53,26 @@ returns-in-Pages-clause-seen g c =
 
 pub returns-in-Pages-clause-many : goal.returns-in-Pages-clause-many
 returns-in-Pages-clause-many g c =
-    (used_pages c.page_count-count.result c.in_ok-look.look c.in-Pages.pages (sym c.usable.ensures.usable ∙ c.in-Pages.is)).1 ∙ c.page_count-count.ensures
+    (used_pages c.pages_of-count.result c.in_ok-look.look c.in-Pages.pages (sym c.usable.ensures.usable ∙ c.in-Pages.is)).1 ∙ c.pages_of-count.ensures
 
 pub returns-in-Pages-clause-reads : goal.returns-in-Pages-clause-reads
 returns-in-Pages-clause-reads g c told =
     let s = c.look_on.new.self in
     let dev = c.args.dev in
-    let look = used_pages c.page_count-count.result c.in_ok-look.look c.in-Pages.pages (sym c.usable.ensures.usable ∙ c.in-Pages.is) in
+    let look = used_pages c.pages_of-count.result c.in_ok-look.look c.in-Pages.pages (sym c.usable.ensures.usable ∙ c.in-Pages.is) in
     let seen = rw look.0 at c.in_ok-look.ensures.seen in
     g.met.C.Copying.rests_now (pick dev s.pair.first s.pair.second).copy _ (disk_now (g.P.Plant.view s.plant) dev) (seen.found told)
 
 pub returns-in-Pages-clause-room : goal.returns-in-Pages-clause-room
 returns-in-Pages-clause-room g c told =
-    let look = used_pages c.page_count-count.result c.in_ok-look.look c.in-Pages.pages (sym c.usable.ensures.usable ∙ c.in-Pages.is) in
+    let look = used_pages c.pages_of-count.result c.in_ok-look.look c.in-Pages.pages (sym c.usable.ensures.usable ∙ c.in-Pages.is) in
     rw look.0 at (c.in_ok-look.ensures.room told)
 
 -- A COPY THAT COUNTS AS LOST
 
 pub returns-in-Lost-clause-seen : goal.returns-in-Lost-clause-seen
 returns-in-Lost-clause-seen g c =
-    let seen = rw (used_lost c.page_count-count.result c.in_ok-look.look (sym c.usable.ensures.usable ∙ c.in-Lost.is)) at c.in_ok-look.ensures.seen in
+    let seen = rw (used_lost c.pages_of-count.result c.in_ok-look.look (sym c.usable.ensures.usable ∙ c.in-Lost.is)) at c.in_ok-look.ensures.seen in
     seen.is_dead
 
 -- ONE THAT CAN'T BE READ, or has another number of pages
@@ -88,9 +88,9 @@ returns-in-Unread-clause-unseen g c told none alive =
     let v = g.P.Plant.view s.plant in
     let base = ap (λ p. p.base) c.look_on.ensures.frame in
     let not = sym c.usable.ensures.usable ∙ c.in-Unread.is in
-    let many = c.page_count-count.ensures ∙ ap (λ q. page_count q.config) (sym base) in
-    let there = unused_there C.count C.room C.room_most C.ready C.reads C.rests g.P.Plant.tells dev v was.copy h.copy h.alive c.page_count-count.result c.in_ok-look.look not c.in_ok-look.ensures.seen in
-    let unused = rw many at (unused_reads C.count C.room C.room_most C.ready C.reads C.rests g.P.Plant.tells dev v was.copy h.copy h.alive c.page_count-count.result (λ pages d r. g.met.C.Copying.rests_now h.copy pages d r) told c.in_ok-look.look not c.usable.ensures.sized c.in_ok-look.ensures.seen) in
+    let many = c.pages_of-count.ensures ∙ ap (λ q. page_count q.config) (sym base) in
+    let there = unused_there C.count C.room C.room_most C.ready C.reads C.rests g.P.Plant.tells dev v was.copy h.copy h.alive c.pages_of-count.result c.in_ok-look.look not c.in_ok-look.ensures.seen in
+    let unused = rw many at (unused_reads C.count C.room C.room_most C.ready C.reads C.rests g.P.Plant.tells dev v was.copy h.copy h.alive c.pages_of-count.result (λ pages d r. g.met.C.Copying.rests_now h.copy pages d r) told c.in_ok-look.look not c.usable.ensures.sized c.in_ok-look.ensures.seen) in
     absurd (∥∥₁_elim (s.kept told) (λ a b. absurd a) (λ k. always_used C.reads s.base s.since s.renewals s.level _ _ k.was k.coming k.stands k.comes (C.rests h.copy) (C.holds h.copy) (pick dev s.first s.second) h.alive v.now (disk_now v dev)
     (at_copy (λ h. C.rests h.copy) (λ h. C.holds h.copy) (λ h. h.alive) (setting_with C.reads s.base s.since s.renewals) k.was k.coming dev c.requires.ckpt s.pair.first s.pair.second s.first s.second v k.first_at k.second_at) there.0
     (λ pages d r. g.met.C.Copying.rests_reads h.copy pages d r) (λ was next d r. g.met.C.Copying.holds_reads h.copy was next d r) (g.met.P.Plant.there s.plant told dev there.1) unused))
@@ -104,7 +104,7 @@ returns-in-Unread-clause-counts g c =
     let C = g.C.Copying in
     let dev = c.args.dev in
     let alive = (unused_there C.count C.room C.room_most C.ready C.reads C.rests P.tells dev (P.view a.plant) (pick dev s.pair.first s.pair.second).copy (pick dev a.pair.first a.pair.second).copy (pick dev a.pair.first a.pair.second).alive
-    c.page_count-count.result c.in_ok-look.look (sym c.usable.ensures.usable ∙ c.in-Unread.is) c.in_ok-look.ensures.seen).0 in
+    c.pages_of-count.result c.in_ok-look.look (sym c.usable.ensures.usable ∙ c.in-Unread.is) c.in_ok-look.ensures.seen).0 in
     counts_then c.args.by.0 s.pair.first.alive a.pair.first.alive b.pair.first.alive s.pair.second.alive a.pair.second.alive b.pair.second.alive false (P.view s.plant) (P.view a.plant) (P.view b.plant)
     (counts_one (λ h. h.alive) c.args.by.0 c.args.dev c.requires.ckpt s.pair.first s.pair.second a.pair.first a.pair.second false (P.view s.plant) (P.view a.plant) c.look_on.ensures.other c.in_ok-look.ensures.acted)
     (counts_lost (λ h. h.alive) a.pair.first a.pair.second b.pair.first b.pair.second c.args.by.0 (P.view a.plant) (P.view b.plant) c.args.dev c.requires.ckpt alive c.lose_copy.ensures.dead c.lose_copy.ensures.other c.lose_copy.ensures.loses)
