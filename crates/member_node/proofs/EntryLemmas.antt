@@ -8,7 +8,6 @@ use Rattle.mas_types.specs.declared.ids.MemberId.{MemberId}
 use Rattle.mas_types.specs.declared.ids.Page.{Page}
 use Rattle.mas_types.specs.Limits.{page_bytes}
 use Rattle.mas_types.specs.declared.commands.Command.{Command}
-use Rattle.mas_types.specs.declared.commands.Command.TheVariants as command
 use Rattle.mas_types.specs.declared.commands.Reply.{Reply}
 use Rattle.mas_types.specs.declared.journals.Entry.{Entry}
 use Rattle.mas_types.specs.declared.queues.Queue.{Queue}
@@ -149,31 +148,36 @@ Mirrored k = IsMirrorBut k.differ.pages k.room k.checkpoint.pages
 abbrev Ordered : Member → Tables → Type 0
 Ordered k t = k.fresh ≡ false → are_orders_low t ≡ true
 
--- a member with its own tables, batch and marks is itself
-pub member_same : (k : Member) (t : Tables) (es : List Entry) (marks : Marks) (mirrored : Mirrored k) (unchanged : Unchanged k t marks) (ordered : Ordered k t) (indexed : IsKept k.kept t) → t ≡ k.checkpoint.tables → es ≡ k.batch → marks ≡ k.marks
-    → record k { checkpoint = record k.checkpoint { tables = t }; batch = es; marks = marks; mirrored = mirrored; unchanged = unchanged; ordered = ordered; indexed = indexed } ≡ k
-member_same k t es marks mirrored unchanged ordered indexed same_tables same_batch same_marks = at_tables unchanged ordered indexed where
-  with_tables : (s : Tables) (m : Marks) → Unchanged k s m → Ordered k s → IsKept k.kept s → Member
-  with_tables s m w o x = record k { checkpoint = record k.checkpoint { tables = s }; batch = es; marks = m; mirrored = mirrored; unchanged = w; ordered = o; indexed = x }
-
-  own : (w : Unchanged k k.checkpoint.tables k.marks) (o : Ordered k k.checkpoint.tables) (x : IsKept k.kept k.checkpoint.tables) → with_tables k.checkpoint.tables k.marks w o x ≡ k
-  own w o x =
-      ap (λ (u : Unchanged k k.checkpoint.tables k.marks). record k { batch = es; mirrored = mirrored; unchanged = u; ordered = o; indexed = x }) (unchanged_prop k.marks.pages k.checkpoint.tables k.checkpoint.levels k.checkpoint.pages w k.unchanged)
-      ∙ ap (λ (u : Ordered k k.checkpoint.tables). record k { batch = es; mirrored = mirrored; ordered = u; indexed = x }) (ordered_prop k.checkpoint.tables k.fresh o k.ordered)
-      ∙ ap (λ (u : IsKept k.kept k.checkpoint.tables). record k { batch = es; mirrored = mirrored; indexed = u }) (kept_prop k.kept k.checkpoint.tables x k.indexed)
-      ∙ ap (λ (u : Mirrored k). record k { batch = es; mirrored = u }) (mirrored_prop k.differ.pages k.room k.checkpoint.pages mirrored k.mirrored)
-      ∙ ap (λ (l : List Entry). record k { batch = l }) same_batch
-
-  at_mark : (w : Unchanged k k.checkpoint.tables marks) (o : Ordered k k.checkpoint.tables) (x : IsKept k.kept k.checkpoint.tables) → with_tables k.checkpoint.tables marks w o x ≡ k
-  at_mark = subst (λ (m : Marks). (w : Unchanged k k.checkpoint.tables m) (o : Ordered k k.checkpoint.tables) (x : IsKept k.kept k.checkpoint.tables) → with_tables k.checkpoint.tables m w o x ≡ k) (sym same_marks) own
-
-  at_tables : (w : Unchanged k t marks) (o : Ordered k t) (x : IsKept k.kept t) → with_tables t marks w o x ≡ k
-  at_tables = subst (λ (s : Tables). (w : Unchanged k s marks) (o : Ordered k s) (x : IsKept k.kept s) → with_tables s marks w o x ≡ k) (sym same_tables) at_mark
-
 -- the facts of a member's type are the same facts, whoever gave them
 pub facts_same : (k : Member) (mirrored : Mirrored k) (unchanged : Unchanged k k.checkpoint.tables k.marks) (ordered : Ordered k k.checkpoint.tables) (indexed : IsKept k.kept k.checkpoint.tables)
     → record k { mirrored = mirrored; unchanged = unchanged; ordered = ordered; indexed = indexed } ≡ k
-facts_same k mirrored unchanged ordered indexed = member_same k k.checkpoint.tables k.batch k.marks mirrored unchanged ordered indexed refl refl refl
+facts_same k mirrored unchanged ordered indexed =
+    ap (λ (u : Unchanged k k.checkpoint.tables k.marks). record k { mirrored = mirrored; unchanged = u; ordered = ordered; indexed = indexed }) (unchanged_prop k.marks.pages k.checkpoint.tables k.checkpoint.levels k.checkpoint.pages unchanged k.unchanged)
+    ∙ ap (λ (u : Ordered k k.checkpoint.tables). record k { mirrored = mirrored; ordered = u; indexed = indexed }) (ordered_prop k.checkpoint.tables k.fresh ordered k.ordered)
+    ∙ ap (λ (u : IsKept k.kept k.checkpoint.tables). record k { mirrored = mirrored; indexed = u }) (kept_prop k.kept k.checkpoint.tables indexed k.indexed)
+    ∙ ap (λ (u : Mirrored k). record k { mirrored = u }) (mirrored_prop k.differ.pages k.room k.checkpoint.pages mirrored k.mirrored)
+
+-- a member with its own tables, batch, marks and index is itself
+pub member_same : (k : Member) (t : Tables) (es : List Entry) (marks : Marks) (kept : KeptIndex) (mirrored : Mirrored k) (unchanged : Unchanged k t marks) (ordered : Ordered k t) (indexed : IsKept kept t)
+    → t ≡ k.checkpoint.tables → es ≡ k.batch → marks ≡ k.marks → kept ≡ k.kept
+    → record k { checkpoint = record k.checkpoint { tables = t }; batch = es; marks = marks; kept = kept; mirrored = mirrored; unchanged = unchanged; ordered = ordered; indexed = indexed } ≡ k
+member_same k t es marks kept mirrored unchanged ordered indexed same_tables same_batch same_marks same_kept = at_tables unchanged ordered indexed where
+  with_tables : (s : Tables) (m : Marks) (x : KeptIndex) → Unchanged k s m → Ordered k s → IsKept x s → Member
+  with_tables s m x w o i = record k { checkpoint = record k.checkpoint { tables = s }; batch = es; marks = m; kept = x; mirrored = mirrored; unchanged = w; ordered = o; indexed = i }
+
+  own : (w : Unchanged k k.checkpoint.tables k.marks) (o : Ordered k k.checkpoint.tables) (i : IsKept k.kept k.checkpoint.tables) → with_tables k.checkpoint.tables k.marks k.kept w o i ≡ k
+  own w o i =
+      ap (λ (l : List Entry). record k { batch = l; mirrored = mirrored; unchanged = w; ordered = o; indexed = i }) same_batch
+      ∙ facts_same k mirrored w o i
+
+  at_kept : (w : Unchanged k k.checkpoint.tables k.marks) (o : Ordered k k.checkpoint.tables) (i : IsKept kept k.checkpoint.tables) → with_tables k.checkpoint.tables k.marks kept w o i ≡ k
+  at_kept = subst (λ (x : KeptIndex). (w : Unchanged k k.checkpoint.tables k.marks) (o : Ordered k k.checkpoint.tables) (i : IsKept x k.checkpoint.tables) → with_tables k.checkpoint.tables k.marks x w o i ≡ k) (sym same_kept) own
+
+  at_mark : (w : Unchanged k k.checkpoint.tables marks) (o : Ordered k k.checkpoint.tables) (i : IsKept kept k.checkpoint.tables) → with_tables k.checkpoint.tables marks kept w o i ≡ k
+  at_mark = subst (λ (m : Marks). (w : Unchanged k k.checkpoint.tables m) (o : Ordered k k.checkpoint.tables) (i : IsKept kept k.checkpoint.tables) → with_tables k.checkpoint.tables m kept w o i ≡ k) (sym same_marks) at_kept
+
+  at_tables : (w : Unchanged k t marks) (o : Ordered k t) (i : IsKept kept t) → with_tables t marks kept w o i ≡ k
+  at_tables = subst (λ (s : Tables). (w : Unchanged k s marks) (o : Ordered k s) (i : IsKept kept s) → with_tables s marks kept w o i ≡ k) (sym same_tables) at_mark
 
 -- pages that commands didn't mark are still those of the tables
 pub still_unchanged : (k : Member) (marks : List Bool) (t : Tables) → Touches k.marks.pages marks k.checkpoint.tables t → AreUnmarkedDrawn marks t k.checkpoint.levels k.checkpoint.pages

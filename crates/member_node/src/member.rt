@@ -21,7 +21,7 @@ use job_select::KeptIndex;
 use mas_types::limits::PAGE_BYTES;
 use mas_types::{Command, Config, Entry, List, MemberId, NoMemory, Page, Reply};
 use page_marks::Marks;
-use queue_commands::{Ends, give};
+use queue_indexed::apply_with;
 use std::alloc::Global;
 
 /// Why a member's call wasn't done.
@@ -198,21 +198,15 @@ impl Member {
         let at = self.batch.len();
         self.batch.push(place(self.id, step))?;
         let by = self.id;
-        let ends = Ends {
-            jobs: self.kept.jobs_end(&self.checkpoint.tables),
-            outputs: self.kept.outputs_end(&self.checkpoint.tables),
-        };
-        match give(
+        match apply_with(
             alloc,
             &mut self.checkpoint.tables,
             &mut self.marks,
-            ends,
+            &mut self.kept,
             by,
             &command,
         ) {
             Ok(reply) => {
-                self.kept
-                    .follow(alloc, &self.checkpoint.tables, &self.marks);
                 let entry = Entry {
                     by,
                     step,
