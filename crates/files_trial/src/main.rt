@@ -7,7 +7,7 @@ mod plants;
 use mas_types::{Dev, MemberId};
 use plant_files::{FilePlant, Opening, StdSource, Streams};
 use plant_fuse::Fused;
-use plants::{add_act, add_bytes, take_text, use_devices, use_lines};
+use plants::{add_act, add_bytes, take_text, use_devices, use_lines, write_before};
 use spool_plant::{Fuse, Got, Part, Plant, Source};
 use std::fs;
 use std::io::Write;
@@ -66,9 +66,10 @@ fn write(rt: &HostRuntime, out: &mut Writer, plant: &mut Plants) {
     plant.lose(Dev::Spool(1));
 }
 
-// The second run finds what the first one left, and takes what came in on a line.
+// The second run finds what the first one left, writes before it, and takes what came in on a line.
 fn read(rt: &HostRuntime, out: &mut Writer, plant: &mut Plants) {
-    add_bytes(out, b"ckpt1", plant, Dev::Ckpt1);
+    add_bytes(out, b"ckpt1", plant, Dev::Ckpt1, 9);
+    write_before(out, plant);
     add_flags(rt, out, plant);
     take_text(out, plant);
 }
@@ -84,8 +85,8 @@ fn renew(out: &mut Writer, plant: &mut Plants) {
     add_act(out, plant.renew(Dev::Spool(9)));
     out.add(b"\n");
     out.add_flag(b"volume 1 is lost\n", plant.lost(Part::Disk(Dev::Spool(1))));
-    add_bytes(out, b"spool1", plant, Dev::Spool(1));
-    add_bytes(out, b"ckpt1", plant, Dev::Ckpt1);
+    add_bytes(out, b"spool1", plant, Dev::Spool(1), 9);
+    add_bytes(out, b"ckpt1", plant, Dev::Ckpt1, 9);
 }
 
 // A run of that number, if the folder's plant is opened.

@@ -14,15 +14,30 @@ pub fn add_act(out: &mut Writer, act: Act) {
     }
 }
 
-/// Writes two bytes to CKPT1, syncs it, and syncs a device that has no file.
+// Writes two bytes of a device, and syncs it.
+fn add_write<P: Plant>(out: &mut Writer, plant: &mut P, dev: Dev, at: u16, bytes: &[u8; 2]) {
+    if plant.size(dev) >= at as u64 + 2 {
+        add_act(out, plant.write(SYSA, dev, at as u64, bytes));
+        add_act(out, plant.sync(SYSA, dev));
+    }
+}
+
+/// Writes two bytes to CKPT1 and to volume 2, syncs each, and syncs a device that has no file.
 pub fn use_devices<P: Plant>(out: &mut Writer, plant: &mut P) {
     out.add(b"devices");
-    if plant.size(Dev::Ckpt1) >= 16_777_216 {
-        add_act(out, plant.write(SYSA, Dev::Ckpt1, 10, b"AB"));
-        add_act(out, plant.sync(SYSA, Dev::Ckpt1));
-        add_act(out, plant.sync(SYSA, Dev::Spool(9)));
-    }
+    add_write(out, plant, Dev::Ckpt1, 10, b"AB");
+    add_write(out, plant, Dev::Spool(2), 50_000, b"CD");
+    add_act(out, plant.sync(SYSA, Dev::Spool(9)));
     out.add(b"\n");
+}
+
+/// Writes two bytes to volume 2 before those that stand there, and tells both.
+pub fn write_before<P: Plant>(out: &mut Writer, plant: &mut P) {
+    out.add(b"before");
+    add_write(out, plant, Dev::Spool(2), 10, b"EF");
+    out.add(b"\n");
+    add_bytes(out, b"spool2", plant, Dev::Spool(2), 9);
+    add_bytes(out, b"spool2", plant, Dev::Spool(2), 49_999);
 }
 
 /// Prints two lines, prints on a printer that has no file, gives bytes on a line, and says two lines.
@@ -39,12 +54,12 @@ pub fn use_lines<P: Plant>(out: &mut Writer, plant: &mut P) {
     out.add(b"\n");
 }
 
-/// Four bytes of a device around those that were written.
-pub fn add_bytes<P: Plant>(out: &mut Writer, word: &[u8], plant: &mut P, dev: Dev) {
+/// Four bytes of a device, from a place on.
+pub fn add_bytes<P: Plant>(out: &mut Writer, word: &[u8], plant: &mut P, dev: Dev, at: u16) {
     let mut into = [9; 4];
     out.add(word);
-    if plant.size(dev) >= 16_777_216 {
-        add_act(out, plant.read(SYSA, dev, 9, &mut into));
+    if plant.size(dev) >= at as u64 + 4 {
+        add_act(out, plant.read(SYSA, dev, at as u64, &mut into));
         for byte in &into {
             out.add_number(b" ", *byte as u64);
         }

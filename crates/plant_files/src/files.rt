@@ -31,6 +31,36 @@ pub(crate) fn read_at<F: FileExt>(file: &F, at: u64, into: &mut [u8]) -> io::Res
     Ok(())
 }
 
+// A file that is made longer ahead ends at a multiple of so many bytes.
+const AHEAD: u64 = 131_072;
+
+// Writes so many of these zeros.
+fn write_zeros<F: FileExt>(
+    file: &F,
+    at: u64,
+    zeros: &[u8; AHEAD as usize],
+    count: usize,
+) -> io::Result<()>
+    requires { count ≤ 131072 }
+{
+    file.write_all_at(&zeros[..count], at)
+}
+
+// Makes a file longer that ends there, or before, and answers where it ends then. Zeros are written, as which it was
+// read there before. A longer file stays, and so does what is no file of a disk.
+pub(crate) fn lengthen<F: FileExt + OpenFile>(file: &F, end: u64) -> io::Result<u64> {
+    let found = file.metadata()?;
+    if !found.is_file() {
+        return Ok(u64::MAX);
+    }
+    if found.len() > end {
+        return Ok(found.len());
+    }
+    let more = (AHEAD - end % AHEAD) % AHEAD;
+    write_zeros(file, end, &[0; AHEAD as usize], more as usize)?;
+    Ok(end.saturating_add(more))
+}
+
 // Adds bytes at the end of a file.
 pub(crate) fn append<F: Write + Seek>(file: &mut F, bytes: &[u8]) -> io::Result<()> {
     file.seek(SeekFrom::End(0))?;

@@ -184,8 +184,13 @@ impl<F: Read + Write + Seek + FileExt + OpenFile + Drop> Folder<F> {
         self.marked(dev)?.read(at, into)
     }
 
+    // Writes to a device. The texts on a volume grow, a copy of the checkpoint has its size from the first batches on.
     pub(crate) fn write(&mut self, dev: Dev, at: u64, bytes: &[u8]) -> io::Result<()> {
-        self.marked(dev)?.file()?.write_all_at(bytes, at)
+        let marked = self.marked(dev)?;
+        match dev {
+            Dev::Ckpt1 | Dev::Ckpt2 => marked.write(at, bytes),
+            Dev::Spool(_) => marked.write_ahead(at, bytes),
+        }
     }
 
     // Leaves on the disk what the printers printed.

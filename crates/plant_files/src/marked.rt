@@ -1,5 +1,5 @@
 //! A file of the folder, and the mark beside it.
-use crate::files::{add_line, append_line, not_there, read_at, sync_written};
+use crate::files::{add_line, append_line, lengthen, not_there, read_at, sync_written};
 use crate::hold::{FolderError, Opening, lock};
 use std::alloc::{AllocError, Global};
 use std::fs::{self, File, OpenFile, OpenOptions};
@@ -48,6 +48,8 @@ pub(crate) struct Marked<F: Drop> {
     paper: Paper,
     // The last line that this run added has its end.
     is_whole: bool,
+    // The file ends there, or behind it, as far as this run knows.
+    end: u64,
     path: String,
     mark: String,
 }
@@ -113,6 +115,7 @@ pub(crate) fn open_marked<R: Files>(
         kept: open_kept(rt, path.as_str(), mark.as_str(), how),
         paper: Paper::Synced,
         is_whole: false,
+        end: 0,
         path,
         mark,
     })
@@ -153,6 +156,7 @@ impl<F: Drop> Marked<F> {
     pub(crate) fn put(&mut self, file: F) {
         self.kept = Kept::Open(file);
         self.is_whole = false;
+        self.end = 0;
     }
 }
 
@@ -197,6 +201,21 @@ impl<F: Read + Write + Seek + FileExt + OpenFile + Drop> Marked<F> {
             }
             Kept::Lost => Err(not_there()),
         }
+    }
+
+    pub(crate) fn write(&mut self, at: u64, bytes: &[u8]) -> io::Result<()> {
+        self.file()?.write_all_at(bytes, at)
+    }
+
+    // Writes to a file that is made longer ahead of its bytes: a sync takes several times as long where the file got
+    // longer since the last one. Where it can't be made longer the bytes stand there nevertheless.
+    pub(crate) fn write_ahead(&mut self, at: u64, bytes: &[u8]) -> io::Result<()> {
+        self.write(at, bytes)?;
+        let end = at.saturating_add(bytes.len() as u64);
+        if self.end < end {
+            self.end = lengthen(self.file()?, end).unwrap_or(end);
+        }
+        Ok(())
     }
 
     pub(crate) fn sync(&mut self) -> io::Result<()> {
