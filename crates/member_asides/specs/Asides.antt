@@ -42,8 +42,8 @@ use Rattle.mas_complex.specs.Texts.{spools_at}
 use Rattle.member_node.specs.declared.member.Member.{Member}
 use Rattle.member_node.specs.declared.member.NodeNo.{NodeNo}
 use Rattle.member_node.specs.declared.member.NodeNo.TheVariants.{BothLost, Halted, ConsoleFault, NoMemory}
-use Rattle.member_decks.specs.Spooling.{OnVolumes, GroupsKept}
-use Rattle.member_decks.specs.Steps.{SpoolStops, names_volume}
+use Rattle.member_sittings.specs.Spooling.{OnVolumes, GroupsKept}
+use Rattle.member_sittings.specs.Steps.{SpoolStops, names_volume}
 use Rattle.member_work.specs.Inked.{HasInked, OtherCountsStay, lines_read}
 use Rattle.member_work.specs.Looks.{as_it_is}
 use Rattle.member_work.specs.Printing.{IsBeside}
@@ -53,7 +53,7 @@ use Rattle.member_work.specs.Spooled.{AreSpooled}
 use Rattle.step_turns.specs.JobEnds.{printed_end}
 use Rattle.step_turns.specs.States.{nothing_found}
 use Rattle.step_turns.specs.declared.states.Found.{Found}
-use Rattle.member_sittings.specs.Asides.{deck_found}
+pub use Rattle.member_sittings.specs.Asides.{deck_found, finds_of}
 use Rattle.member_sittings.specs.Whole.{queue_of}
 use Rattle.member_asides.specs.Ready.{IsOutputReady}
 

@@ -1,2 +1,3 @@
 pub mod Ready
 pub mod Asides
+pub use Rattle.member_sittings.specs.Whole

@@ -18,14 +18,14 @@ use Rattle.mas_types.specs.Fit.{AreLines, IsFit}
 use Rattle.mas_types.specs.Limits.{members_most}
 use Rattle.mas_types.specs.Step as table
 use Rattle.spool_plant.specs.View.{View}
-use Rattle.member_node.specs.Leaving.{AreTheirOwn, OthersLeaveTexts}
+use Rattle.member_steps.specs.Leaving.{AreTheirOwn, OthersLeaveTexts}
 use Rattle.queue_texts.specs.Entering.{EnterBringsText, groups_for}
 use Rattle.queue_texts.proofs.BroughtLemmas.{brought_holds}
-use Rattle.member_node.specs.Given.{IsGiver}
+use Rattle.member_steps.specs.Given.{IsGiver}
 use Rattle.mas_complex.specs.Meaning.{run}
 use Rattle.mas_complex.specs.Texts.{HasTexts, IsThere, IsThereUnless, Spools, spools_at}
-use Rattle.member_node.specs.Calls.{IsOnlyOn}
-use Rattle.member_node.proofs.TextLemmas.{texts_after}
+use Rattle.member_steps.specs.Calls.{IsOnlyOn}
+use Rattle.member_steps.proofs.TextLemmas.{texts_after}
 use Rattle.paper_laws.specs.Counts.{is_mark}
 use Rattle.member_decks.specs.Decks.{finishing, given_in}
 

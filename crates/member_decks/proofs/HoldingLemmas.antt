@@ -1,10 +1,10 @@
 -- A member that got the lock, and took in what the copies have.
 use Rattle.std.proofs.Common.{inl, ℕ, Bool, false, Result, Ok, Err}
 use Rattle.spool_plant.specs.View.{View}
-use Rattle.member_node.specs.declared.member.NodeNo.{NodeNo}
-use Rattle.member_node.specs.declared.member.NodeNo.TheVariants.{BothLost, Halted, ConsoleFault, NoMemory}
-use Rattle.member_node.specs.Reads.{IsSettle, ReadInCauses}
-use Rattle.member_node.specs.Spares.{is_stop, stopped_in}
+use Rattle.member_steps.specs.NodeNo.{NodeNo}
+use Rattle.member_steps.specs.NodeNo.TheVariants.{BothLost, Halted, ConsoleFault, NoMemory}
+use Rattle.member_steps.specs.Reads.{IsSettle, ReadInCauses}
+use Rattle.member_steps.specs.Spares.{is_stop, stopped_in}
 use Rattle.member_steps.proofs.ReadLemmas.{HasBegun, cause_settle}
 use Rattle.member_decks.specs.Keeping.{CopyCauses, IsOnCopies}
 

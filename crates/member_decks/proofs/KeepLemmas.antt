@@ -8,11 +8,11 @@ use Rattle.queue_laws.proofs.Finds.{find-All}
 use Rattle.member_decks.specs.Decks.{closes}
 use Rattle.mas_types.specs.declared.journals.Batch.{Batch}
 use Rattle.spool_plant.specs.View.{View}
-use Rattle.member_node.specs.declared.member.NodeNo.{NodeNo}
-use Rattle.member_node.specs.declared.member.NodeNo.TheVariants.{BothLost, Halted, ConsoleFault, NoMemory}
-use Rattle.member_node.specs.Writes.{IsWrite}
-use Rattle.member_node.proofs.CourseLemmas.{apart_none, course_none}
-use Rattle.member_node.proofs.SpareLemmas.{spares_none}
+use Rattle.member_steps.specs.NodeNo.{NodeNo}
+use Rattle.member_steps.specs.NodeNo.TheVariants.{BothLost, Halted, ConsoleFault, NoMemory}
+use Rattle.member_steps.specs.Writes.{IsWrite}
+use Rattle.member_steps.proofs.CourseLemmas.{apart_none, course_none}
+use Rattle.member_steps.proofs.SpareLemmas.{spares_none}
 use Rattle.member_decks.specs.Keeping.{CopyCauses, GivesUpLeaves, IsOnCopies, KeepLeaves}
 
 -- nothing was done

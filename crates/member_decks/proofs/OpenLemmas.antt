@@ -18,13 +18,13 @@ use Rattle.lay_bytes.specs.declared.records.OutRec.{OutRec}
 use Rattle.ckpt_tables.specs.declared.tables.Tables.{Tables}
 use Rattle.ckpt_pages.specs.QueueOf.{queue_of}
 use Rattle.queue_telling.specs.Telling.{Tell, TellSound}
-use Rattle.member_node.proofs.ToldLemmas.{tell_given}
-use Rattle.member_node.specs.Leaving.{OthersLeaveTexts, ToldAreTheirOwn}
+use Rattle.member_steps.proofs.ToldLemmas.{tell_given}
+use Rattle.member_steps.specs.Leaving.{OthersLeaveTexts, ToldAreTheirOwn}
 use Rattle.mas_complex.specs.Meaning.{run, step}
 use Rattle.mas_complex.specs.Texts.{HasTexts}
-use Rattle.member_node.specs.Batches.{last_reply}
-use Rattle.member_node.proofs.TextLemmas.{texts_after}
-use Rattle.member_node.proofs.WriteLemmas.{run_append}
+use Rattle.member_steps.specs.Batches.{last_reply}
+use Rattle.member_steps.proofs.TextLemmas.{texts_after}
+use Rattle.member_steps.proofs.WriteLemmas.{run_append}
 use Rattle.member_steps.specs.Steps.{entry_of}
 use Rattle.member_decks.specs.Decks.{are_refused, behind_begin, given_in, left_after, opening, takes}
 use Rattle.member_decks.specs.Taking.{IsOpening, IsPart, IsTaking, LeaveTexts}

@@ -7,10 +7,10 @@ use Rattle.spool_plant.specs.declared.plant.Part.TheVariants.{Console}
 use Rattle.spool_plant.specs.View.{View}
 use Rattle.spool_plant.specs.Acts.{Goes}
 use Rattle.mas_complex.specs.Journals.{begun, fated}
-use Rattle.member_node.specs.declared.member.NodeNo.{NodeNo}
-use Rattle.member_node.specs.declared.member.NodeNo.TheVariants.{BothLost, Halted, ConsoleFault, NoMemory}
-use Rattle.member_node.specs.Calls.{IsLeft}
-use Rattle.member_node.proofs.CourseLemmas.{rose_later}
+use Rattle.member_steps.specs.NodeNo.{NodeNo}
+use Rattle.member_steps.specs.NodeNo.TheVariants.{BothLost, Halted, ConsoleFault, NoMemory}
+use Rattle.member_steps.specs.Calls.{IsLeft}
+use Rattle.member_steps.proofs.CourseLemmas.{rose_later}
 use Rattle.member_steps.specs.Steps.{StepCauses}
 use Rattle.member_decks.specs.Batches.{IsFlyingBatch, IsKeptBatch, OneFlies}
 use Rattle.member_decks.specs.Keeping.{CopyCauses}

@@ -27,10 +27,10 @@ use Rattle.mas_complex.specs.Texts.{Spools, spools_at, bytes_on, IsSynced, IsThe
 use Rattle.queue_laws.proofs.Finds.{test_cases}
 use Rattle.mas_complex.proofs.Quotients.{few_quotient}
 use Rattle.mas_complex.proofs.Spooled.{spared_other}
-use Rattle.member_node.specs.Calls.{none_lost}
-use Rattle.member_node.specs.Spares.{SparesBut}
-use Rattle.member_node.proofs.CourseLemmas.{papers_act, papers_none, papers_on, wires_none, wires_then}
-use Rattle.member_node.proofs.SpareLemmas.{sparing_done, sparing_failed, sparing_halted, sparing_then}
+use Rattle.member_steps.specs.Calls.{none_lost}
+use Rattle.member_steps.specs.Spares.{SparesBut}
+use Rattle.member_steps.proofs.CourseLemmas.{papers_act, papers_none, papers_on, wires_none, wires_then}
+use Rattle.member_steps.proofs.SpareLemmas.{sparing_done, sparing_failed, sparing_halted, sparing_then}
 use Rattle.member_decks.specs.declared.spooling.SpoolError.{SpoolError}
 use Rattle.member_decks.specs.declared.spooling.SpoolError.TheVariants.{Lost, Halted as Stopped}
 use Rattle.member_decks.specs.Spooling.{AreQuiet, GroupsKept, IsGroupKept, OnVolumes, Rise, SpoolCauses, StandBelow, answer_of, lies_there, page_in}

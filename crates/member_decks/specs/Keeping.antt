@@ -5,11 +5,11 @@ use Rattle.mas_types.specs.declared.journals.Batch.{Batch}
 use Rattle.spool_plant.specs.View.{View}
 use Rattle.spool_plant.specs.Acts.{Rose}
 use Rattle.duplex_pair.specs.Halves.{IsBothLost}
-use Rattle.member_node.specs.declared.member.NodeNo.{NodeNo}
-use Rattle.member_node.specs.declared.member.NodeNo.TheVariants.{BothLost, Halted, ConsoleFault, NoMemory}
-use Rattle.member_node.specs.Calls.{Apart, Course, IsLeft}
-use Rattle.member_node.specs.Spares.{Spares, stopped_in}
-use Rattle.member_node.specs.Writes.{HasKept, HasFlying}
+use Rattle.member_steps.specs.NodeNo.{NodeNo}
+use Rattle.member_steps.specs.NodeNo.TheVariants.{BothLost, Halted, ConsoleFault, NoMemory}
+use Rattle.member_steps.specs.Calls.{Apart, Course, IsLeft}
+use Rattle.member_steps.specs.Spares.{Spares, stopped_in}
+use Rattle.member_steps.specs.Writes.{HasKept, HasFlying}
 
 -- the cause of an answer to acts on the copies, and which of them count as alive after it
 abbrev pub CopyCauses : {T : Type 0} → Result T NodeNo → ℕ → Bool → Bool → Bool → Bool → View → View → Type 0

@@ -14,8 +14,8 @@ use Rattle.spool_plant.specs.Acts.{Goes, Rose, SameWires}
 use Rattle.spool_volumes.specs.Volumes.{volume_of, start_of}
 use Rattle.mas_complex.specs.Paper.{SamePapers}
 use Rattle.mas_complex.specs.Texts.{IsSynced, Spools}
-use Rattle.member_node.specs.Calls.{none_lost}
-use Rattle.member_node.specs.Spares.{SparesBut}
+use Rattle.member_steps.specs.Calls.{none_lost}
+use Rattle.member_steps.specs.Spares.{SparesBut}
 use Rattle.member_decks.specs.declared.spooling.SpoolError.{SpoolError}
 use Rattle.member_decks.specs.declared.spooling.SpoolError.TheVariants.{Lost, Halted}
 

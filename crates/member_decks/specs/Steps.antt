@@ -6,10 +6,10 @@ use Rattle.mas_types.specs.declared.journals.Entry.{Entry}
 use Rattle.spool_plant.specs.declared.plant.Part.TheVariants.{Disk as DiskPart}
 use Rattle.spool_plant.specs.View.{View}
 use Rattle.spool_plant.specs.Acts.{Rose}
-use Rattle.member_node.specs.declared.member.NodeNo.{NodeNo}
-use Rattle.member_node.specs.declared.member.NodeNo.TheVariants.{BothLost, Halted, ConsoleFault, NoMemory}
-use Rattle.member_node.specs.Calls.{none_lost}
-use Rattle.member_node.specs.Spares.{SparesBut}
+use Rattle.member_steps.specs.NodeNo.{NodeNo}
+use Rattle.member_steps.specs.NodeNo.TheVariants.{BothLost, Halted, ConsoleFault, NoMemory}
+use Rattle.member_steps.specs.Calls.{none_lost}
+use Rattle.member_steps.specs.Spares.{SparesBut}
 
 -- a volume that was found lost: it failed in the step, and is lost
 abbrev pub IsFoundLost : Option ℕ → View → View → Type 0

@@ -45,7 +45,7 @@ use Rattle.step_turns.specs.declared.states.Aside.TheVariants.{Acknowledge, Exch
 use Rattle.step_turns.specs.declared.states.State.TheVariants.{Away, Fresh, Rested, Told}
 use Rattle.member_sittings.specs.Gates.{IsOpen}
 use Rattle.member_sittings.specs.Whole.{Half, HoldsLock, IsAtRest, IsSeat, first_half, queue_of, second_half}
-use Rattle.member_asides.specs.Asides.{HasOnlyPrinted, HasStayed, MayAside, printed_in, stopped_at}
+use Rattle.member_frames.specs.Asides.{HasOnlyPrinted, HasStayed, MayAside, printed_in, stopped_at}
 use Rattle.member_wires.specs.Acts.{StopsBeside}
 use Rattle.member_wires.specs.Asides.{wire_of}
 use Rattle.member_hand.specs.Asides.{ActsAfter, MayActAfter}

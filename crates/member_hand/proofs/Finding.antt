@@ -47,8 +47,8 @@ use Rattle.step_turns.specs.declared.states.Aside.TheVariants.{Acknowledge, Exch
 use Rattle.step_turns.specs.declared.states.State.TheVariants.{Away, Fresh, Rested, Told}
 use Rattle.member_sittings.specs.Asides.{LiesOnOne, deck_found, lowest_groups}
 use Rattle.member_sittings.specs.Whole.{IsSeat, queue_of}
-use Rattle.member_asides.specs.Asides.{lowest_for, wire_found}
-use Rattle.member_asides.specs.Ready.{OutputsStand}
+use Rattle.member_frames.specs.Asides.{lowest_for, wire_found}
+use Rattle.member_frames.specs.Ready.{OutputsStand}
 use Rattle.member_frames.proofs.Resumes.{lines_resume, outputs_resume}
 use Rattle.member_wires.specs.Acts.{IfLost}
 use Rattle.member_wires.specs.Asides.{Exchanged, FindsOffered as WasOffered}

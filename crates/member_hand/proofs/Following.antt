@@ -50,7 +50,7 @@ use Rattle.step_turns.proofs.Sittings.{some_may_follow, steps_end}
 use Rattle.member_sittings.specs.Asides.{lowest_groups}
 use Rattle.member_sittings.specs.Sat.{Start, journal_of}
 use Rattle.member_sittings.specs.Tight.{IfNoWork}
-use Rattle.member_asides.specs.Asides.{lowest_for}
+use Rattle.member_frames.specs.Asides.{lowest_for}
 use Rattle.member_sittings.specs.Whole.{queue_of}
 use Rattle.member_wires.specs.Acts.{HasLineFailed}
 use Rattle.member_hand.specs.Cuts.{AreBatched, AtCut, IsBetweenSittings, IsBroken, IsCutBy, IsTight, whole_pieces}

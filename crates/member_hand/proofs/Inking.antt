@@ -45,8 +45,8 @@ use Rattle.run_turns.specs.Pieces.{chunk, chunk_of, inked_of, lines_from, poured
 use Rattle.run_turns.specs.Sights.{Waiting}
 use Rattle.member_sittings.specs.Left.{torn_line}
 use Rattle.member_sittings.specs.Whole.{queue_of}
-use Rattle.member_asides.specs.Asides.{lines_next}
-use Rattle.member_acts.proofs.Printed.{papers_now}
+use Rattle.member_frames.specs.Asides.{lines_next}
+use Rattle.member_wires.proofs.Printed.{papers_now}
 use Rattle.member_wires.specs.Acts.{GivenBy, StopsBeside}
 use Rattle.member_wires.specs.Asides.{Exchanged, FindsOffered, GaveBy, HasAnswered, ack_bytes, offered_bytes}
 use Rattle.member_hand.specs.Found.{names_found}

@@ -31,7 +31,7 @@ use Rattle.member_sittings.specs.Asides.{WaitsRightly}
 use Rattle.member_sittings.specs.Sat.{IsSatOn, Sat, Start, begins as rests, resumes}
 use Rattle.member_sittings.specs.Shapes.{Says}
 use Rattle.member_sittings.specs.Whole.{IsLeftIn, queue_of}
-use Rattle.member_asides.specs.Ready.{HasFewer, IsReady, MayResume}
+use Rattle.member_frames.specs.Ready.{HasFewer, IsReady, MayResume}
 use Rattle.member_frames.specs.Waits.{MayResumeLine, WaitsOnLine}
 use Rattle.member_hand.specs.Sits.{ComesTo, GoesOn, IsDeckTask, IsFoundRight, IsLineTask, IsServing, IsWork, LeavesStep, WaitsWell, begins}
 use Rattle.member_hand.proofs.StepKinds.{IsExchange}

@@ -52,7 +52,7 @@ use Rattle.member_hand.specs.Quiet.{IsQuiet}
 use Rattle.member_hand.specs.Sits.{ComesTo, IsLineTask, IsWork, WaitsWell}
 use Rattle.member_hand.specs.Turns.{HasTurned}
 use Rattle.member_decks.specs.Steps.{AreOf}
-use Rattle.member_asides.specs.Asides.{HasOnlyPrinted}
+use Rattle.member_frames.specs.Asides.{HasOnlyPrinted}
 use Rattle.member_hand.proofs.Acting.{ActsBeside, acted_err, acted_ok, acts_beside, asided, book_then, changed_only, only_these, quiet_then, stay_by, then_stopped, unreserved_by, unreserved_then}
 use Rattle.member_hand.proofs.Batching.{batched_later, batched_sooner}
 use Rattle.member_hand.proofs.Cutting.{IsLeftAt, acted_stopped, aside_tight, aside_unbroken, bare_cut, book_stopped, cut_at, its_piece, its_queue, its_sitting, left_stopped, told_cut}

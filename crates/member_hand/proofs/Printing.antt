@@ -11,7 +11,7 @@ use Rattle.step_turns.specs.declared.states.Aside.{Aside}
 use Rattle.step_turns.specs.declared.states.Found.{Found}
 use Rattle.step_turns.specs.declared.states.State.{State}
 use Rattle.step_turns.specs.declared.states.State.TheVariants.{Away, Fresh, Rested, Told}
-use Rattle.member_asides.specs.Asides.{HasOnlyPrinted, printed_in}
+use Rattle.member_frames.specs.Asides.{HasOnlyPrinted, printed_in}
 use Rattle.member_hand.specs.Asides.{ActsAfter}
 use Rattle.member_hand.specs.Hears.{ReaderStaysIn}
 

@@ -13,7 +13,7 @@ use Rattle.step_turns.specs.declared.states.State.TheVariants.{Told}
 use Rattle.run_turns.specs.Pieces.{entered}
 use Rattle.member_sittings.specs.declared.ends.SittingEnd.{SittingEnd}
 use Rattle.member_sittings.specs.Sat.{Start}
-use Rattle.member_asides.specs.Asides.{HasOnlyPrinted}
+use Rattle.member_frames.specs.Asides.{HasOnlyPrinted}
 use Rattle.member_hand.specs.Asides.{ActsAfter}
 use Rattle.member_hand.specs.Hears.{ReaderStaysIn}
 use Rattle.member_hand.specs.Locks.{left_book, next_holder}

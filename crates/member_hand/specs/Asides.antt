@@ -16,7 +16,7 @@ use Rattle.step_turns.specs.declared.states.State.{State}
 use Rattle.step_turns.specs.declared.states.State.TheVariants.{Away}
 use Rattle.step_turns.specs.States.{nothing_found}
 use Rattle.member_sittings.specs.Asides.{HasSpooled, MaySpool}
-use Rattle.member_asides.specs.Asides.{HasOnlyPrinted, HasPrintedNext, HasRead, HasWritten, MayPrintNext, MayRead, MayWrite}
+use Rattle.member_frames.specs.Asides.{HasOnlyPrinted, HasPrintedNext, HasRead, HasWritten, MayPrintNext, MayRead, MayWrite}
 use Rattle.member_wires.specs.Asides.{Exchanged, HasAnswered, MayAnswer, MayServe}
 
 module _ {P C : Type 0} (plants : PlantGhosts P) where

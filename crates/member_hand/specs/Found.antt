@@ -29,8 +29,8 @@ use Rattle.step_turns.specs.declared.states.State.TheVariants.{Away}
 use Rattle.step_turns.specs.declared.states.Aside.TheVariants.{Acknowledge, Exchange, PrintLines, ReadText, SpoolArrival, SpoolDeck, SpoolOutputs}
 use Rattle.run_turns.specs.Pieces.{Piece}
 use Rattle.member_sittings.specs.Asides.{deck_found, lowest_groups}
-use Rattle.member_asides.specs.Asides.{lowest_for, wire_found}
-pub use Rattle.member_asides.specs.Asides.{printed_found, read_found}
+use Rattle.member_frames.specs.Asides.{lowest_for, wire_found}
+pub use Rattle.member_frames.specs.Asides.{printed_found, read_found}
 use Rattle.member_wires.specs.Acts.{HasLineFailed}
 
 -- A text of these groups was written, or not: a volume that was found lost failed, and one of the groups lies on it.

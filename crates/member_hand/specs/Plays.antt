@@ -42,7 +42,7 @@ use Rattle.member_sittings.specs.Sat.{Start, journal_of}
 use Rattle.member_sittings.specs.Shapes.{IsShaped}
 use Rattle.member_sittings.specs.Tight.{IfNoWork}
 use Rattle.member_sittings.specs.Whole.{IsSeat, queue_of}
-use Rattle.member_asides.specs.Asides.{stopped_at}
+use Rattle.member_frames.specs.Asides.{stopped_at}
 use Rattle.member_hand.specs.Cuts.{AreBatched, AtCut, IsBetweenSittings, IsBroken, IsCutBy, IsTight, whole_pieces}
 use Rattle.member_hand.specs.Found.{AreFoundIn, IsFoundAt, named_in, names_found, waits_in}
 use Rattle.member_hand.specs.Hears.{GivesOnly, HearsIn, HearsStep, ReaderStaysFrom, ReaderStaysIn, line_served}

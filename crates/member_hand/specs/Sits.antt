@@ -30,10 +30,10 @@ use Rattle.member_sittings.specs.declared.ends.SittingEnd.{SittingEnd}
 use Rattle.member_sittings.specs.Asides.{HasGroups, IsSpooled, deck_found}
 use Rattle.member_sittings.specs.Sat.{Start}
 use Rattle.member_sittings.specs.Whole.{IsGivable, IsLeftIn, IsToSit, queue_of}
-use Rattle.member_asides.specs.Ready.{IsReady, MayResume}
+use Rattle.member_frames.specs.Ready.{IsReady, MayResume}
 use Rattle.member_frames.specs.Waits.{HasFrameMore, IsServable, WaitsOnLine}
 use Rattle.member_hand.specs.declared.sits.Stand.{Stand}
-use Rattle.member_asides.specs.Asides.{wire_found}
+use Rattle.member_frames.specs.Asides.{wire_found}
 
 -- what a step may be asked to do, by the member
 abbrev pub MayBeAsked : Queue → MemberId → Task → Type 0

@@ -6,3 +6,5 @@ pub mod Shapes
 pub mod Sat
 pub mod Asides
 pub mod Gates
+pub use Rattle.member_decks.specs.Spooling
+pub use Rattle.member_decks.specs.Steps

@@ -10,3 +10,8 @@ pub mod SayLemmas
 pub mod SoundQueues
 pub mod StepLemmas
 pub mod UntoldLemmas
+pub use Rattle.member_node.proofs.CourseLemmas
+pub use Rattle.member_node.proofs.SpareLemmas
+pub use Rattle.member_node.proofs.TextLemmas
+pub use Rattle.member_node.proofs.ToldLemmas
+pub use Rattle.member_node.proofs.WriteLemmas

@@ -3,3 +3,13 @@ pub mod Noting
 pub mod Saying
 pub mod Steps
 pub mod Untold
+pub use Rattle.member_node.specs.Batches
+pub use Rattle.member_node.specs.Calls
+pub use Rattle.member_node.specs.Copies
+pub use Rattle.member_node.specs.Given
+pub use Rattle.member_node.specs.Leaving
+pub use Rattle.member_node.specs.Reads
+pub use Rattle.member_node.specs.Spares
+pub use Rattle.member_node.specs.Standing
+pub use Rattle.member_node.specs.Writes
+pub use Rattle.member_node.specs.declared.member.NodeNo

@@ -9,5 +9,6 @@ mod telling;
 
 pub use batches::play_batch;
 pub use laws::law_of_told_steps;
+pub use member_node::{Member, NodeNo};
 pub use playing::give;
 pub use telling::tell_lines;

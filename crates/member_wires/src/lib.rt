@@ -6,3 +6,4 @@ mod acts;
 mod asides;
 
 pub use asides::{acknowledge, exchange};
+pub use member_acts::{print_next_lines, read_job_text, write_outputs};

@@ -1,6 +1,6 @@
 use Rattle.std.proofs.Common.{inl, [], refl, arith}
 use Rattle.mas_complex.specs.Journals.{begun, end_of}
-use Rattle.member_node.proofs.WriteLemmas.{none_out}
+use Rattle.member_steps.proofs.WriteLemmas.{none_out}
 use Rattle.mas_complex.specs.Past.{values_of}
 use Rattle.member_steps.proofs.CountLemmas.{counted_error, counted_up}
 use Rattle.member_steps.proofs.NoteLemmas.{notes_none}

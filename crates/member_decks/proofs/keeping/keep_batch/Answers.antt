@@ -9,8 +9,8 @@ use Rattle.queue_telling.specs.Orders.{HaveOrders}
 use Rattle.queue_telling.specs.Telling.{Tell, TellSound}
 use Rattle.mas_complex.specs.Journals.{begun, end_of, entries_reserved, fated, kept_all}
 use Rattle.mas_complex.specs.Meaning.{run}
-use Rattle.member_node.specs.Batches.{level_with}
-use Rattle.member_node.proofs.WriteLemmas.{none_out, queue_kept}
+use Rattle.member_steps.specs.Batches.{level_with}
+use Rattle.member_steps.proofs.WriteLemmas.{none_out, queue_kept}
 use Rattle.mas_complex.specs.Paper.{printed_after}
 use Rattle.mas_complex.specs.Past.{values_of}
 use Rattle.member_steps.specs.Steps.{AreAllKept}

@@ -1,6 +1,6 @@
 use Rattle.std.proofs.Common.{List, refl, sym, subst}
 use Rattle.mas_types.specs.declared.jobs.OutSpec.{OutSpec}
-use Rattle.member_asides.specs.Asides.{MayWriteOutputs, WritesOutputs}
+use Rattle.member_frames.specs.Asides.{MayWriteOutputs, WritesOutputs}
 use Rattle.member_hand.proofs.asides.act_aside.Goals as goal
 
 -- A DECK'S TEXT

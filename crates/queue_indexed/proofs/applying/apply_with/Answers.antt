@@ -1,6 +1,3 @@
-use Rattle.std.proofs.Common.{sym, subst}
-use Rattle.ckpt_tables.specs.declared.tables.Tables.{Tables}
-use Rattle.job_select.specs.Behind.{IsKept}
 use Rattle.job_select.proofs.BehindLemmas.{behind_touched}
 use Rattle.queue_indexed.proofs.applying.apply_with.Goals as goal
 

@@ -1,0 +1,1 @@
+pub use Rattle.member_sittings.proofs.AsideLemmas
