@@ -47,15 +47,23 @@ def backlog(command, where, count):
 CLASSES = b"ABCDEFGHIJKLMNOPQRSTUVWXYZ0123456789"
 
 
+# Behind the outputs that wait so many more are looked at, or so many idle lines.
+WAITED, IDLE = 600, 5_000
+
+
 def waiting(command, where, count, cause, classes):
-    """Milliseconds of a deck with its work, and of an idle line of WORK, at so many outputs of class A that wait for
-    their class or for their forms, where the printer takes these classes."""
+    """Milliseconds on the processor of a deck with its work, and of an idle line of WORK, behind so many outputs of
+    class A that wait for their class or for their forms, where the printer takes these classes. Each is what runs with
+    them take more than runs without, the least of three."""
     output = b"A" if cause == "class" else b"(A,,PAY)"
-    lines = [SIZES[102].front, b"SYSA $TPRT,Q=%s,F=STD,L=20\n" % classes]
-    lines += [*(deck(number, output) for number in range(count)), *[b"SYSA WORK 1\n"] * 100]
-    took = in_folder(where, lambda folder: play(command, folder, lines))
-    last = 2 * count + 1
-    return 1000 * between(took, last - 100, last) / 50, 1000 * between(took, last, last + 100) / 100
+
+    def least(decks, idle):
+        lines = [SIZES[102].front, b"SYSA $TPRT,Q=%s,F=STD,L=20\n" % classes]
+        lines += [*(deck(number, output) for number in range(decks)), *[b"SYSA WORK 1\n"] * idle]
+        return min(in_folder(where, lambda folder: play(command, folder, lines)).processor for _ in range(3))
+
+    none, more, idle = least(count, 0), least(count + WAITED, 0), least(count, IDLE)
+    return 1000 * (more - none) / WAITED, 1000 * (idle - none) / IDLE
 
 
 def small_deck(number):

@@ -1,4 +1,5 @@
 """What plays decks and work: the program, a bare loop with its writes and syncs, queues in SQLite and in beanstalkd."""
+import fcntl
 import json
 import os
 import re
@@ -14,6 +15,8 @@ from typing import NamedTuple
 TOP = os.path.dirname(os.path.dirname(os.path.abspath(__file__)))
 PROGRAM = os.path.join(TOP, "crates", "mas_main", "out", "mas_main")
 PAGE = 4096
+# A volume's file gets longer by so many groups at once.
+AHEAD = 32
 CARDS = [b"EMPLOYEE %06d   NAME OF EMPLOYEE %06d   SALARY %07d.00" % (card, card, card) for card in range(40)]
 
 
@@ -120,7 +123,10 @@ class Log:
 
 
 def group(number):
+    """A text of one group, and zeros behind it where it is the first of those by which the file gets longer."""
     yield "SPOOL1", PAGE * number, PAGE
+    if number % AHEAD == 0:
+        yield "SPOOL1", PAGE * (number + 1), PAGE * (AHEAD - 1)
     yield ("SPOOL1",)
 
 
@@ -167,7 +173,7 @@ def written(decks, pages):
 def play_floor(decks, pages):
     """The bare loop."""
     files = {name: os.open(name, os.O_RDWR | os.O_CREAT, 0o666) for name in ("CKPT1", "CKPT2", "SPOOL1")}
-    bytes_of = {size: b"x" * size for size in (1, 11, PAGE)}
+    bytes_of = {size: b"x" * size for size in (1, 11, PAGE, PAGE * (AHEAD - 1))}
     said_yet = iter(line + b"\n" for number in range(1, decks + 1) for line in lines_of(number))
     for act in acts(decks, pages):
         if len(act) == 1:
@@ -400,6 +406,10 @@ def held_by(process):
         return 0, 0.0, 0.0, 0.0
 
 
+# What a pipe holds: a run can be no further ahead of the line that is looked at.
+PIPE = 4096
+
+
 class Taken:
     """What a run took: seconds without those in which it waited for a processor that others had, those seconds, seconds
     on the processor, KiB of memory at most, and at which second each line was said. The lines are those of so many
@@ -414,20 +424,24 @@ class Taken:
             file.write(given)
             file.seek(0)
             begin = time.perf_counter()
-            child = subprocess.Popen(words, stdin=file, stdout=subprocess.PIPE, cwd=folder)
+            child = subprocess.Popen(words, bufsize=PIPE, stdin=file, stdout=subprocess.PIPE, cwd=folder)
+            fcntl.fcntl(child.stdout, fcntl.F_SETPIPE_SZ, PIPE)
             told, self.at, self.memory, self.waited, self.seen = [], [], 0, 0.0, []
             for line in child.stdout:
                 told.append(line)
-                if len(told) % 10 == 0 or decks is None or len(told) > 2 * decks - 10:
+                if len(told) % 10 < 2 or decks is None or len(told) > 2 * decks - 10:
                     # What a process held before it became this program counts in its usage, but not here.
                     memory, run, waited, own = held_by(child.pid)
                     self.memory, self.waited = max(self.memory, memory), max(self.waited, waited)
-                    self.seen.append((run, memory, own))
+                    self.seen.append((run, self.memory, own) if memory else None)
                 self.at.append(time.perf_counter() - self.waited)
             _, status, usage = os.wait4(child.pid, 0)
             end = time.perf_counter()
         child.stdout.close()
         child.returncode = os.waitstatus_to_exitcode(status)
+        self.user, self.processor = usage.ru_utime, usage.ru_utime + usage.ru_stime
+        # A run that has ended before its line is looked at has taken all that it takes.
+        self.seen = [it or (self.processor, self.memory, self.user) for it in self.seen]
         if told and told[0].startswith(b"READY"):
             # A player in Python: what it takes to start is none of its work.
             begin, waited = map(float, told.pop(0).split()[1:])
@@ -437,7 +451,6 @@ class Taken:
         if child.returncode != 0 or wanted is not None and b"".join(told) != wanted:
             raise ValueError(f"{words} ended with {child.returncode}, and said {b''.join(told[-2:])!r} last")
         self.seconds = end - begin - self.waited
-        self.user, self.processor = usage.ru_utime, usage.ru_utime + usage.ru_stime
 
     def each(self, decks):
         """Seconds a deck of the first tenth and of the last tenth of the decks, without the first deck."""
@@ -454,7 +467,9 @@ class Taken:
 # The name of a player that makes the acts of a list again, and of the file of that list.
 AGAIN = "acts"
 PLAYERS = ["the raw floor", "the program", "SQLite, two files", "SQLite, one file"]
-PLAYERS += [f"{player}, write-ahead log" for player in PLAYERS[2:]]
+# These take several times what the others do.
+SLOW = PLAYERS[2:]
+PLAYERS += [f"{player}, write-ahead log" for player in SLOW]
 if shutil.which("beanstalkd"):
     PLAYERS.append("beanstalkd, one copy")
 
