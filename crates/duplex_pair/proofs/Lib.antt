@@ -4,5 +4,4 @@ pub mod Mends
 pub mod Numbers
 pub mod Chosen
 pub mod FindActs
-pub mod Replaces
 pub mod ActCounting

@@ -5,5 +5,4 @@ pub mod Both
 pub mod Finds
 pub mod Lagging
 pub mod Founds
-pub mod Replacing
 pub mod ActCounts

@@ -7,7 +7,7 @@ use Rattle.spool_plant.specs.declared.plant.Part.TheVariants.{Disk as DiskPart}
 use Rattle.spool_plant.specs.View.{View}
 use Rattle.spool_plant.specs.Acts.{Goes}
 use Rattle.duplex_pair.specs.Halves.{IsCkpt}
-use Rattle.duplex_pair.specs.Replacing.{Replaces}
+use Rattle.pair_replacing.specs.Replacing.{Replaces}
 
 pub record Passes (old new : View) : Type 0 where
   pub later : old.now ≤ new.now

@@ -14,9 +14,9 @@ use Rattle.ckpt_copy.specs.Reading.{AllRead}
 use Rattle.spool_plant.specs.declared.plant.Part.{Part}
 use Rattle.spool_plant.specs.declared.plant.Part.TheVariants.{Disk as DiskPart}
 use Rattle.duplex_pair.specs.Halves.{IsCkpt, IsBothLost, SameOrLost, pick, other}
-use Rattle.duplex_pair.specs.declared.replacing.ReplaceNo.{ReplaceNo}
-use Rattle.duplex_pair.specs.declared.replacing.ReplaceNo.TheVariants.{NotLost, BothLost, Failed, Halted, NoMemory}
-use Rattle.duplex_pair.specs.Replacing.{Replaces, WhileReplaced, IsOrForms, replace_stopped}
+use Rattle.pair_replacing.specs.declared.replacing.ReplaceNo.{ReplaceNo}
+use Rattle.pair_replacing.specs.declared.replacing.ReplaceNo.TheVariants.{NotLost, BothLost, Failed, Halted, NoMemory}
+use Rattle.pair_replacing.specs.Replacing.{Replaces, WhileReplaced, IsOrForms, replace_stopped}
 use Rattle.mas_complex.specs.Elsewhere.{Elsewhere}
 use Rattle.mas_complex.specs.Parts.{Parts, replaced_in, with_half}
 use Rattle.mas_complex.specs.declared.renewals.Renewal.{Renewal}

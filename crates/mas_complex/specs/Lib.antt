@@ -20,3 +20,6 @@ pub mod Past
 pub mod Paper
 pub mod Parts
 pub mod Settled
+pub use Rattle.ckpt_form.specs.declared.steady.Steady
+pub use Rattle.pair_replacing.specs.Replacing
+pub use Rattle.pair_replacing.specs.declared.replacing.ReplaceNo

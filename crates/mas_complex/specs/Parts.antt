@@ -13,8 +13,8 @@ use Rattle.ckpt_copy.specs.declared.copying.Copying.{Ghosts as CopyGhosts}
 use Rattle.mas_types.specs.declared.journals.Fate.{Fate}
 use Rattle.mas_types.specs.declared.journals.Fate.TheVariants.{Kept, Dropped}
 use Rattle.duplex_pair.specs.Halves.{pick, other}
-use Rattle.duplex_pair.specs.declared.replacing.ReplaceNo.{ReplaceNo}
-use Rattle.duplex_pair.specs.declared.replacing.ReplaceNo.TheVariants.{NotLost, BothLost, Failed, Halted, NoMemory}
+use Rattle.pair_replacing.specs.declared.replacing.ReplaceNo.{ReplaceNo}
+use Rattle.pair_replacing.specs.declared.replacing.ReplaceNo.TheVariants.{NotLost, BothLost, Failed, Halted, NoMemory}
 use Rattle.mas_complex.specs.Renewals.{begun_on, ended_on}
 use Rattle.lock_cycle.specs.Books.{Book}
 use Rattle.mas_complex.specs.Journals.{begun, fated, with_last, without_last, entries_reserved}

@@ -35,6 +35,7 @@ pub use complex::{Complex, Ended};
 pub use counts::COUNTS;
 pub use fitting::{fits, same_pages};
 pub use noting::Note;
+pub use pair_replacing::ReplaceNo;
 pub use recover::RecoverNo;
 pub use renewals::{Renewal, Renewals};
 pub use spool::examples_of_texts;

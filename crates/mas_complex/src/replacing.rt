@@ -6,9 +6,9 @@ ghost use Rattle.spool_plant.specs.View.{disk_now};
 ghost use Rattle.spool_plant.specs.Acts.{Rose, top};
 ghost use Rattle.spool_plant.specs.declared.plant.Part.TheVariants.{Disk};
 ghost use Rattle.ckpt_copy.specs.Pages.{bytes_of};
-ghost use Rattle.duplex_pair.specs.declared.replacing.ReplaceNo.TheVariants.{NotLost, BothLost, Failed, Halted};
+ghost use Rattle.pair_replacing.specs.declared.replacing.ReplaceNo.TheVariants.{NotLost, BothLost, Failed, Halted};
 ghost use Rattle.duplex_pair.specs.Halves.{IsCkpt, pick, other, IsBothLost};
-ghost use Rattle.duplex_pair.specs.Replacing.{Replaces, IsFormed, replace_stopped};
+ghost use Rattle.pair_replacing.specs.Replacing.{Replaces, IsFormed, replace_stopped};
 ghost use Rattle.ckpt_places.specs.declared.places.Place.TheVariants.{Before as AtBefore};
 ghost use Rattle.mas_complex.specs.Elsewhere.{Elsewhere};
 ghost use Rattle.mas_complex.specs.Locking.{MayAct};
@@ -20,8 +20,8 @@ use crate::places::set_place;
 use crate::renewals::{begin_on, end_on};
 use ckpt_form::Steady;
 use ckpt_places::Place;
-use duplex_pair::ReplaceNo;
 use mas_types::{Dev, MemberId, NoMemory, Page};
+use pair_replacing::{ReplaceNo, replace};
 use spool_plant::Plant;
 
 impl<P: Plant + Drop, C: Steady + Drop> Complex<P, C> {
@@ -80,7 +80,7 @@ impl<P: Plant + Drop, C: Steady + Drop> Complex<P, C> {
             → C.reads (disk_now (P.view self.new.plant) dev).bytes ≡ Some (bytes_of pages.now)) }
         ensures elsewhere { P.tells → Elsewhere dev (P.view self.old.plant) (P.view self.new.plant) }
     {
-        self.pair.replace(&mut self.plant, by, dev, pages)?;
+        replace(&mut self.pair, &mut self.plant, by, dev, pages)?;
         let until = self.plant.now();
         end_on(&mut self.renewals, dev, until);
         set_place(dev, &mut self.first, &mut self.second, Place::Before);

@@ -7,7 +7,7 @@ use Rattle.spool_plant.specs.View.{disk_now}
 use Rattle.spool_plant.specs.Acts.{Rose, top}
 use Rattle.ckpt_copy.specs.Pages.{bytes_of}
 use Rattle.duplex_pair.specs.Halves.{other, pick}
-use Rattle.duplex_pair.specs.Replacing.{Replaces, replace_stopped}
+use Rattle.pair_replacing.specs.Replacing.{Replaces, replace_stopped}
 use Rattle.ckpt_places.specs.declared.places.Place.TheVariants.{Before}
 use Rattle.mas_complex.specs.Elsewhere.{Elsewhere}
 use Rattle.mas_complex.specs.Parts.{parts_of}

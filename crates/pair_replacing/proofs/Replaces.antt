@@ -11,7 +11,7 @@ use Rattle.ckpt_copy.specs.Causes.{Caused}
 use Rattle.ckpt_copy.specs.Meanwhile.{Meanwhile, SameSides}
 use Rattle.ckpt_copy.specs.Moments.{either_way, meanwhile_weaker, sides_none}
 use Rattle.ckpt_copy.specs.Reading.{EachForms, IsOfOld}
-use Rattle.duplex_pair.specs.Replacing.{Replaces, WhileReplaced, IsOrBlank, IsBlank, IsOrForms}
+use Rattle.pair_replacing.specs.Replacing.{Replaces, WhileReplaced, IsOrBlank, IsBlank, IsOrForms}
 
 pub renewed : (dev : Dev) (old new : View) (act : Act) → Renews dev old new act → Replaces 0 dev false old new
 renewed dev old new act renews = record {

@@ -9,8 +9,8 @@ use Rattle.ckpt_copy.specs.declared.copying.CopyNo.{CopyNo}
 use Rattle.ckpt_copy.specs.declared.copying.CopyNo.TheVariants.{Failed as CopyFailed, Halted as CopyHalted}
 use Rattle.ckpt_copy.specs.Meanwhile.{SameSides}
 use Rattle.duplex_pair.specs.Halves.{SameOrLost}
-use Rattle.duplex_pair.specs.declared.replacing.ReplaceNo.{ReplaceNo}
-use Rattle.duplex_pair.specs.declared.replacing.ReplaceNo.TheVariants.{NotLost, BothLost, Failed, Halted, NoMemory}
+use Rattle.pair_replacing.specs.declared.replacing.ReplaceNo.{ReplaceNo}
+use Rattle.pair_replacing.specs.declared.replacing.ReplaceNo.TheVariants.{NotLost, BothLost, Failed, Halted, NoMemory}
 
 -- what a call of a copy that is formed anew answers, as the answer of a replacement
 abbrev pub formed_no : CopyNo → ReplaceNo
