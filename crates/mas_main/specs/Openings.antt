@@ -2,8 +2,8 @@
 use Rattle.std.specs.Prelude.{Bool, true, false, Option, Some, None}
 use Rattle.mas_words.specs.declared.types.Words.{Words}
 use Rattle.mas_top.specs.Tasks.{race_of, task_of}
-use Rattle.mas_top.specs.declared.tasks.Task.{Task}
-use Rattle.mas_top.specs.declared.tasks.Task.TheVariants as task
+use Rattle.mas_top.specs.Task.{Task}
+use Rattle.mas_top.specs.Task.TheVariants as task
 use Rattle.plant_files.specs.declared.hold.Opening.{Opening}
 use Rattle.plant_files.specs.declared.hold.Opening.TheVariants as opening
 

@@ -17,22 +17,22 @@ use Rattle.run_opening.proofs.EndLemmas.{unbegun_not}
 use Rattle.run_opening.proofs.ProceedLemmas.{proceeds_none}
 use Rattle.run_opening.proofs.RefusalLemmas.{free_answer}
 use Rattle.run_opening.proofs.VolumeLemmas.{kept_none}
-use Rattle.mas_run.specs.Refusals.{refusal_before_play}
+use Rattle.mas_tasks.specs.Refusals.{refusal_before_play}
 use Rattle.race_run.specs.Scripts.{refusal_before_race}
-use Rattle.mas_top.specs.declared.tasks.Task.{Task}
-use Rattle.mas_top.specs.declared.tasks.Task.TheVariants as task
-use Rattle.mas_top.specs.Checks.{IsCheckRun}
-use Rattle.mas_top.specs.Generates.{IsGenerated}
-use Rattle.mas_top.specs.Plays.{IsPlayed, Sourced}
+use Rattle.mas_tasks.specs.declared.tasks.Task.{Task}
+use Rattle.mas_tasks.specs.declared.tasks.Task.TheVariants as task
+use Rattle.mas_tasks.specs.Checks.{IsCheckRun}
+use Rattle.mas_tasks.specs.Generates.{IsGenerated}
+use Rattle.mas_tasks.specs.Plays.{IsPlayed, Sourced}
 use Rattle.mas_top.specs.Raced.{IsRaced}
-use Rattle.mas_top.specs.Reports.{IsReport}
-use Rattle.mas_top.specs.Tasks.{race_asked, race_of, status_of_no, task_asked, task_of}
+use Rattle.mas_tasks.specs.Reports.{IsReport}
+use Rattle.mas_tasks.specs.Tasks.{race_asked, race_of, status_of_no, task_asked, task_of}
 use Rattle.mas_top.specs.Tops.{DoesCalm}
-use Rattle.mas_top.proofs.CheckLemmas.{not_checked}
-use Rattle.mas_top.proofs.GenerateLemmas.{not_generated}
-use Rattle.mas_top.proofs.PlayLemmas.{not_played}
-use Rattle.mas_top.proofs.ReportLemmas.{not_reported}
-use Rattle.mas_top.proofs.TaskLemmas.{memory_not_source, none_words, some_memory, words_begins, words_caused, words_lost, words_or_memory}
+use Rattle.mas_tasks.proofs.CheckLemmas.{not_checked}
+use Rattle.mas_tasks.proofs.GenerateLemmas.{not_generated}
+use Rattle.mas_tasks.proofs.PlayLemmas.{not_played}
+use Rattle.mas_tasks.proofs.ReportLemmas.{not_reported}
+use Rattle.mas_tasks.proofs.TaskLemmas.{memory_not_source, none_words, some_memory, words_begins, words_caused, words_lost, words_or_memory}
 
 -- WHICH RACE the words ask for
 

@@ -1,9 +1,4 @@
-pub mod Tasks
-pub mod Saying
-pub mod Reports
-pub mod Checks
-pub mod Plays
-pub mod ScriptTexts
-pub mod Generates
 pub mod Raced
 pub mod Tops
+pub use Rattle.mas_tasks.specs.Tasks
+pub use Rattle.mas_tasks.specs.declared.tasks.Task

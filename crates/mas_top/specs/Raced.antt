@@ -23,7 +23,7 @@ use Rattle.run_opening.specs.Unstarted.{IsNotStarted}
 use Rattle.run_opening.specs.Volumes.{AreVolumesKept}
 use Rattle.race_run.specs.Races.{IsRace, IsUnhindered}
 use Rattle.race_run.specs.Scripts.{refusal_before_race, IsSaid}
-use Rattle.mas_top.specs.Plays.{Sourced}
+use Rattle.mas_tasks.specs.Plays.{Sourced}
 
 -- A race of a script, cold or warm, on a plant that showed `old` before and `new` after it, and is the same where
 -- nothing was done.

@@ -10,12 +10,12 @@ use Rattle.run_opening.specs.Lines.{Proceeds}
 use Rattle.run_opening.specs.Runs.{has_begun, Begins, IsUnbegun}
 use Rattle.run_opening.specs.Statuses.{IsCaused, LeavesLost}
 use Rattle.run_opening.specs.Volumes.{AreVolumesKept}
-use Rattle.mas_top.specs.declared.tasks.Task.TheVariants as task
-use Rattle.mas_top.specs.Checks.{IsCheckRun}
-use Rattle.mas_top.specs.Generates.{IsGenerated}
-use Rattle.mas_top.specs.Plays.{IsPlayed, Sourced}
-use Rattle.mas_top.specs.Reports.{IsReport}
-use Rattle.mas_top.specs.Tasks.{task_asked}
+use Rattle.mas_tasks.specs.declared.tasks.Task.TheVariants as task
+use Rattle.mas_tasks.specs.Checks.{IsCheckRun}
+use Rattle.mas_tasks.specs.Generates.{IsGenerated}
+use Rattle.mas_tasks.specs.Plays.{IsPlayed, Sourced}
+use Rattle.mas_tasks.specs.Reports.{IsReport}
+use Rattle.mas_tasks.specs.Tasks.{task_asked}
 
 -- What these texts ask for is done, on a plant that showed `old` before and `new` after it; the source and the plant
 -- are the same where they weren't touched.

@@ -1,8 +1,8 @@
 use Rattle.std.proofs.Common.{◌≡◌, ◌∙◌, Bool, Some, map, refl, sym, subst, arith}
 use Rattle.std.specs.Prelude.{string_bytes}
-use Rattle.mas_top.specs.Plays.{source_of}
+use Rattle.mas_tasks.specs.Plays.{source_of}
 use Rattle.mas_top.specs.Raced.{IsRaced}
-use Rattle.mas_top.specs.Tasks.{race_asked}
+use Rattle.mas_tasks.specs.Tasks.{race_asked}
 use Rattle.mas_top.proofs.RaceLemmas.{asked_race, not_raced, race_memory, race_none, race_same, words_calm}
 use Rattle.mas_top.proofs.top.race_top.Goals as goal
 
