@@ -33,9 +33,9 @@ use Rattle.member_work.specs.Rounds.{IsReadAs, IsSpoolLost}
 use Rattle.member_sittings.specs.Asides.{LiesOnOne, deck_found, lowest_groups}
 use Rattle.member_sittings.specs.Whole.{queue_of}
 use Rattle.member_asides.specs.Asides.{lowest_for, printed_found, read_found}
-use Rattle.member_hand.specs.Asides.{ActsAfter}
-use Rattle.member_hand.specs.Found.{IsFoundAt}
-use Rattle.member_hand.proofs.Inking.{chunk_is, one_found}
+use Rattle.member_resets.specs.Asides.{ActsAfter}
+use Rattle.member_resets.specs.Found.{IsFoundAt}
+use Rattle.member_resets.proofs.Inking.{chunk_is, one_found}
 use Rattle.member_racing.specs.Waits.{IsMine}
 
 spool_lost : (per : ℕ) (groups : List GroupNo) (lost : Option ℕ) (old new : View) → LiesOnOne per groups lost → IsFoundLost lost old new → IsSpoolLost per groups lost old new

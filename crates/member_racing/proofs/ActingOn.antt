@@ -28,8 +28,8 @@ use Rattle.member_node.specs.declared.member.Member.{Member}
 use Rattle.member_decks.proofs.HeldLemmas.{all_held}
 use Rattle.member_sittings.specs.Whole.{queue_of}
 use Rattle.member_asides.specs.Asides.{HasStayed, IsJobStill, IsOutputStill, MayAside}
-use Rattle.member_hand.specs.Asides.{MayActAfter}
-use Rattle.member_hand.specs.Sits.{WaitsWell}
+use Rattle.member_resets.specs.Asides.{MayActAfter}
+use Rattle.member_resets.specs.Sits.{WaitsWell}
 use Rattle.member_work.specs.Printing.{IsPrinting}
 use Rattle.member_work.specs.Steps.{IsUnderWay}
 use Rattle.member_racing.specs.Waits.{IsMine}

@@ -25,11 +25,11 @@ use Rattle.step_turns.specs.declared.states.State.{State}
 use Rattle.step_turns.specs.declared.states.State.TheVariants.{Away, Fresh, Rested, Told}
 use Rattle.step_turns.specs.declared.states.Aside.TheVariants.{Acknowledge, Exchange, PrintLines, ReadText, SpoolArrival, SpoolDeck, SpoolOutputs}
 use Rattle.member_asides.specs.Asides.{printed_in}
-use Rattle.member_hand.proofs.Acting.{changed_only}
-use Rattle.member_hand.specs.Asides.{ActsAfter}
-use Rattle.member_hand.specs.Sits.{WaitsWell}
-use Rattle.member_hand.specs.declared.sits.Stand.{Stand}
-use Rattle.member_hand.proofs.Resumes.{lines_resume}
+use Rattle.member_resets.proofs.Acting.{changed_only}
+use Rattle.member_resets.specs.Asides.{ActsAfter}
+use Rattle.member_resets.specs.Sits.{WaitsWell}
+use Rattle.member_resets.specs.Stand.{Stand}
+use Rattle.member_resets.proofs.Sat.{lines_resume}
 use Rattle.member_node.specs.declared.member.Member.{Member}
 use Rattle.member_node.specs.declared.member.NodeNo.{NodeNo}
 use Rattle.member_sittings.specs.Whole.{queue_of}

@@ -24,7 +24,7 @@ use Rattle.mas_complex.specs.Parts.{Parts, parts_of}
 use Rattle.step_turns.specs.Sittings.{Sitting, sit}
 use Rattle.step_turns.specs.declared.states.Found.{Found}
 use Rattle.step_turns.specs.declared.states.Holder.{Holder}
-use Rattle.member_hand.specs.declared.sits.Stand.{Stand}
+use Rattle.member_resets.specs.Stand.{Stand}
 use Rattle.member_node.specs.declared.member.Member.{Member}
 use Rattle.member_node.specs.declared.member.NodeNo.{NodeNo}
 use Rattle.member_node.specs.declared.member.NodeNo.TheVariants as no_node
@@ -32,10 +32,10 @@ use Rattle.member_asides.specs.Asides.{stopped_at}
 use Rattle.member_sittings.specs.declared.ends.SittingEnd.{SittingEnd}
 use Rattle.member_steps.specs.Steps.{entry_with}
 use Rattle.member_decks.specs.Steps.{AreOf}
-use Rattle.member_hand.specs.Plays.{IsOwnPiece, play_in}
+use Rattle.member_resets.specs.Plays.{IsOwnPiece, play_in}
 use Rattle.member_sittings.specs.Sat.{IsSat, Start, journal_of}
 use Rattle.member_sittings.specs.Whole.{queue_of}
-use Rattle.member_hand.proofs.Acting.{changed_only, only_these}
+use Rattle.member_resets.proofs.Acting.{changed_only, only_these}
 use Rattle.member_lines.specs.Closes.{stopped_so}
 use Rattle.member_racing.specs.Kinds.{ActsBy, HasSeat, SeatsAndResets, SitsBy, TakesBy}
 use Rattle.member_resets.specs.Resetting.{HasResetBy, IsTaken, TakesAndResets, TakesBy as ClosesTaken, taker_at}

@@ -17,7 +17,7 @@ use Rattle.race_turns.specs.Turns.{left_holder, racer}
 use Rattle.step_turns.specs.States.{nothing_found}
 use Rattle.step_turns.specs.Laws.{on_line}
 use Rattle.run_turns.specs.Admissions.{Admission, Denied, Frees, Locks, Plays, Refused, Replaces, Resets, TakesOver, Unplayed, admitted}
-use Rattle.member_hand.specs.declared.sits.Stand.{Stand}
+use Rattle.member_resets.specs.Stand.{Stand}
 use Rattle.member_node.specs.declared.member.Member.{Member}
 use Rattle.member_node.specs.declared.member.NodeNo.{NodeNo}
 use Rattle.member_racing.specs.Asked.{IsAsked, IsKnown}

@@ -18,7 +18,7 @@ use Rattle.step_turns.specs.declared.states.State.TheVariants.{Fresh}
 use Rattle.step_turns.specs.declared.states.Task.{Task}
 use Rattle.step_turns.specs.declared.states.Task.TheVariants.{Give}
 use Rattle.member_sittings.specs.Whole.{IsGivable}
-use Rattle.member_hand.specs.Sits.{MayBeAsked}
+use Rattle.member_resets.specs.Sits.{MayBeAsked}
 use Rattle.member_racing.specs.Asked.{resets_of}
 use Rattle.member_racing.specs.Waits.{is_begun}
 use Rattle.member_racing.proofs.NoResets.{IsNoReset, only_stopped, sits_no_resets}

@@ -56,9 +56,9 @@ use Rattle.member_decks.specs.Spooling.{IsGroupKept}
 use Rattle.member_sittings.specs.Sat.{journal_of}
 use Rattle.member_sittings.specs.Whole.{queue_of}
 use Rattle.step_turns.specs.Laws.{on_line}
-use Rattle.member_hand.specs.Asides.{MayActAfter}
-use Rattle.member_hand.specs.Plays.{played_in}
-use Rattle.member_hand.specs.declared.sits.Stand.{Stand}
+use Rattle.member_resets.specs.Asides.{MayActAfter}
+use Rattle.member_resets.specs.Plays.{played_in}
+use Rattle.member_resets.specs.Stand.{Stand}
 use Rattle.member_resets.specs.Settling.{settle}
 use Rattle.member_racing.specs.Backs.{MayGoBack}
 use Rattle.member_racing.specs.Opened.{IsIdleTurn, Tries}

@@ -21,8 +21,8 @@ use Rattle.member_node.specs.declared.member.NodeNo.TheVariants as no_node
 use Rattle.member_steps.proofs.ReadLemmas.{pages_of_run}
 use Rattle.member_steps.specs.Steps.{AreKeptFrom}
 use Rattle.member_sittings.specs.Whole.{HasUntold, IsGivable}
-use Rattle.member_hand.specs.Quiet.{IsIdle}
-use Rattle.member_hand.specs.declared.sits.Stand.{Stand}
+use Rattle.member_resets.specs.Quiet.{IsIdle}
+use Rattle.member_resets.specs.Stand.{Stand}
 use Rattle.member_resets.specs.Resetting.{IsAfterTakeover, MayTakeAt}
 use Rattle.member_racing.specs.Kinds.{ActsBy, TakesBy}
 use Rattle.member_racing.specs.Opened.{KeepsActing, TakesBeside, Tries}
@@ -72,6 +72,11 @@ module _ {P C : Type 0} (plants : PlantGhosts P) (copies : CopyGhosts C) where
     tables = config;
     noted = λ t not_fresh. absurd (let bad : true ≡ false = sym fresh ∙ not_fresh in cc);
   }
+
+-- what holds anyway holds where it was done
+pub on_done : {A : Type 0} (r : Result (Unit {0}) NodeNo) → A → OnOk r A
+on_done (Ok done) a = a
+on_done (Err e) a = tt
 
 -- A LINE THAT WAITS FOR ACTS has its member's tables for them
 

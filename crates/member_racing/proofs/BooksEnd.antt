@@ -11,7 +11,7 @@ use Rattle.mas_complex.specs.Parts.{Parts, parts_of}
 use Rattle.member_node.specs.declared.member.Member.{Member}
 use Rattle.member_node.specs.declared.member.NodeNo.{NodeNo}
 use Rattle.member_node.specs.declared.member.NodeNo.TheVariants as no_node
-use Rattle.member_hand.specs.declared.sits.Stand.{Stand}
+use Rattle.member_resets.specs.Stand.{Stand}
 use Rattle.member_racing.specs.Opened.{TriesBy, done_of}
 use Rattle.member_racing.specs.Stages.{Raced}
 use Rattle.member_racing.specs.Turning.{EndsTurn}

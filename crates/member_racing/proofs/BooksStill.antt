@@ -26,11 +26,11 @@ use Rattle.member_asides.specs.Asides.{HasOnlyPrinted}
 use Rattle.member_sittings.specs.declared.ends.SittingEnd.{SittingEnd}
 use Rattle.member_sittings.specs.Sat.{Start}
 use Rattle.member_sittings.specs.Whole.{queue_of}
-use Rattle.member_hand.specs.Cuts.{IsCutBy, cause_by}
-use Rattle.member_hand.specs.Locks.{left_book}
-use Rattle.member_hand.specs.Plays.{play_in}
-use Rattle.member_hand.specs.declared.sits.Stand.{Stand}
-use Rattle.member_hand.proofs.Acting.{changed_only}
+use Rattle.member_resets.specs.Cuts.{IsCutBy, cause_by}
+use Rattle.member_resets.specs.Locks.{left_book}
+use Rattle.member_resets.specs.Plays.{play_in}
+use Rattle.member_resets.specs.Stand.{Stand}
+use Rattle.member_resets.proofs.Acting.{changed_only}
 use Rattle.member_lines.specs.Closes.{stopped_so}
 use Rattle.member_racing.specs.Kinds.{ActsBy, HasSeat, SeatsAndResets, SitsBy, TakesBy}
 use Rattle.member_racing.specs.Opened.{GoesAs, OpensAs, TriesBy, UnlessLeft, WaitsOn, done_of}

@@ -25,8 +25,8 @@ use Rattle.member_asides.specs.Asides.{stopped_at}
 use Rattle.member_steps.specs.Noting.{OtherNotesStay}
 use Rattle.member_steps.specs.Saying.{OnConsole}
 use Rattle.member_steps.specs.Steps.{StepCauses}
-use Rattle.member_hand.specs.Plays.{Passage}
-use Rattle.member_hand.proofs.Passages.{passage_then}
+use Rattle.member_resets.specs.Plays.{Passage}
+use Rattle.member_resets.proofs.Passages.{passage_then}
 use Rattle.member_lines.specs.Closes.{HasCause}
 use Rattle.member_racing.specs.Opened.{done_of}
 use Rattle.member_resets.specs.Resetting.{AreLostOnce}

@@ -41,11 +41,11 @@ use Rattle.member_decks.proofs.OutcomeLemmas.{causes_then, copy_causes}
 use Rattle.member_sittings.specs.declared.ends.SittingEnd.{SittingEnd}
 use Rattle.member_sittings.specs.Sat.{IsSat, Start}
 use Rattle.member_work.specs.Printing.{IsBeside}
-use Rattle.member_hand.specs.Asides.{ActsAfter}
-use Rattle.member_hand.specs.Plays.{HasActedIn, Passage}
-use Rattle.member_hand.specs.declared.sits.Stand.{Stand}
-use Rattle.member_hand.proofs.Acting.{acted_err, acted_ok, acts_beside, asided, changed_only, only_these}
-use Rattle.member_hand.proofs.Passages.{passage_of, passage_then}
+use Rattle.member_resets.specs.Asides.{ActsAfter}
+use Rattle.member_resets.specs.Plays.{HasActedIn, Passage}
+use Rattle.member_resets.specs.Stand.{Stand}
+use Rattle.member_resets.proofs.Acting.{acted_err, acted_ok, acts_beside, asided, changed_only, only_these}
+use Rattle.member_resets.proofs.Passages.{passage_of, passage_then}
 use Rattle.member_lines.specs.Closes.{HasCause, HasClosed, stopped_so}
 use Rattle.member_racing.specs.Asked.{IsAsked, IsKnown}
 use Rattle.member_racing.specs.Kinds.{ActsBy, HasSat, HasSeat, SeatsAndResets, SitsBy, TakesBy}

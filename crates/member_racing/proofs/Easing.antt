@@ -6,7 +6,7 @@ use Rattle.spool_plant.specs.declared.plant.Plant.{Ghosts as PlantGhosts}
 use Rattle.ckpt_copy.specs.declared.copying.Copying.{Ghosts as CopyGhosts}
 use Rattle.ckpt_tables.specs.Shape.{page_count}
 use Rattle.mas_complex.specs.Parts.{Parts}
-use Rattle.member_hand.specs.Quiet.{IsAside}
+use Rattle.member_resets.specs.Quiet.{IsAside}
 use Rattle.member_node.specs.declared.member.Member.{Member}
 use Rattle.member_node.specs.Wanted.{HasHad}
 use Rattle.member_sittings.specs.Whole.{IsSeat}

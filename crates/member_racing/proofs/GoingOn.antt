@@ -38,10 +38,10 @@ use Rattle.step_turns.specs.declared.states.State.{State}
 use Rattle.step_turns.specs.declared.states.State.TheVariants.{Away, Fresh, Rested, Told}
 use Rattle.step_turns.specs.declared.states.Aside.TheVariants.{Acknowledge, Exchange, PrintLines, ReadText, SpoolArrival, SpoolDeck, SpoolOutputs}
 use Rattle.member_asides.specs.Asides.{lowest_for}
-use Rattle.member_hand.specs.Sits.{IsFoundRight, MayBeAsked}
+use Rattle.member_resets.specs.Sits.{IsFoundRight, MayBeAsked}
 use Rattle.member_sittings.specs.Asides.{lowest_groups}
 use Rattle.member_sittings.specs.Whole.{queue_of}
-use Rattle.member_hand.proofs.Resumes.{lines_resume}
+use Rattle.member_resets.proofs.Sat.{lines_resume}
 use Rattle.member_work.specs.Printing.{IsPrinting}
 use Rattle.member_work.specs.Spooled.{AreSpooled}
 use Rattle.member_racing.specs.Waits.{IsMine, IsStillRight}

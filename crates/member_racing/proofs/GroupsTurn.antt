@@ -33,8 +33,8 @@ use Rattle.member_decks.proofs.PageLemmas.{kept_quiet, quiet_none}
 use Rattle.member_sittings.specs.declared.ends.SittingEnd.{SittingEnd}
 use Rattle.member_sittings.specs.Sat.{IsSat, Start}
 use Rattle.member_sittings.specs.Whole.{queue_of}
-use Rattle.member_hand.specs.Asides.{ActsAfter, MayActAfter}
-use Rattle.member_hand.specs.declared.sits.Stand.{Stand}
+use Rattle.member_resets.specs.Asides.{ActsAfter, MayActAfter}
+use Rattle.member_resets.specs.Stand.{Stand}
 use Rattle.member_lines.specs.Closes.{HasClosed}
 use Rattle.member_racing.specs.Kinds.{ActsBy, HasSat, HasSeat, SeatsAndResets, SitsBy, TakesBy}
 use Rattle.member_racing.specs.Opened.{ClosesRefused, GoesAs, OpensAs, TriesBy, UnlessLeft, WaitsOn, done_of}

@@ -37,15 +37,15 @@ use Rattle.member_work.specs.Printing.{IsBeside}
 use Rattle.member_asides.specs.Asides.{HasOnlyPrinted}
 use Rattle.member_sittings.specs.Sat.{Start}
 use Rattle.member_sittings.specs.Whole.{IsSeat, queue_of}
-use Rattle.member_hand.specs.Cuts.{IsAsideHalt, IsBetweenSittings, IsCutBy}
-use Rattle.member_hand.specs.Locks.{MayHold}
-use Rattle.member_hand.specs.Plays.{play_in}
-use Rattle.member_hand.specs.Quiet.{IsAside, IsQuiet}
-use Rattle.member_hand.specs.declared.sits.Stand.{Stand}
-use Rattle.member_hand.proofs.Acting.{acts_beside, aside_then, asided, changed_only, only_these, unreserved_by}
-use Rattle.member_hand.proofs.Going.{seat_of}
-use Rattle.member_hand.proofs.Locking.{acts_entered}
-use Rattle.member_hand.proofs.Turning.{IsLocked}
+use Rattle.member_resets.specs.Cuts.{IsAsideHalt, IsBetweenSittings, IsCutBy}
+use Rattle.member_resets.specs.Locks.{MayHold}
+use Rattle.member_resets.specs.Plays.{play_in}
+use Rattle.member_resets.specs.Quiet.{IsAside, IsQuiet}
+use Rattle.member_resets.specs.Stand.{Stand}
+use Rattle.member_resets.proofs.Acting.{acts_beside, aside_then, asided, changed_only, only_these, unreserved_by}
+use Rattle.member_resets.proofs.Going.{seat_of}
+use Rattle.member_resets.proofs.Locking.{acts_entered}
+use Rattle.member_resets.proofs.Turning.{IsLocked}
 use Rattle.member_lines.specs.Closes.{HasClosed, stopped_so}
 use Rattle.member_resets.specs.Resetting.{HasResetBy, TakesAndResets, TakesBy as ClosesTaken, untaken_book}
 use Rattle.member_resets.specs.Settling.{reset_piece}

@@ -55,4 +55,4 @@ pub mod StandsOn
 pub mod ActsSit
 pub mod TakenOver
 pub mod StandsTurn
-pub use Rattle.member_hand.proofs.Chaining
+pub use Rattle.member_resets.proofs.Chaining

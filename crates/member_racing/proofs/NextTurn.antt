@@ -25,7 +25,7 @@ use Rattle.member_node.specs.declared.member.NodeNo.TheVariants as no_node
 use Rattle.member_node.specs.Calls.{console_now}
 use Rattle.member_lines.proofs.Earlier.{line_of}
 use Rattle.member_sittings.specs.Whole.{HasUntold}
-use Rattle.member_hand.specs.Plays.{played_in}
+use Rattle.member_resets.specs.Plays.{played_in}
 use Rattle.member_resets.proofs.BookLemmas.{stopped_now}
 use Rattle.member_resets.proofs.ToldLemmas.{Untells, untold_then, whole_later}
 use Rattle.member_racing.specs.Asked.{IsAsked, IsKnown}

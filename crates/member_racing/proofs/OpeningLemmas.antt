@@ -32,15 +32,15 @@ use Rattle.race_turns.specs.Turns.{left_holder}
 use Rattle.member_node.specs.declared.member.Member.{Member}
 use Rattle.member_steps.specs.Steps.{AreKeptFrom}
 use Rattle.member_sittings.specs.Whole.{HasUntold}
-use Rattle.member_hand.specs.Asides.{IfAway}
-use Rattle.member_hand.specs.Locks.{IsUnlocked, MayHold}
-use Rattle.member_hand.specs.Quiet.{IsQuiet, MayGoOn, levels_for}
-use Rattle.member_hand.specs.Sits.{AreFewUnits, MayBeAsked}
+use Rattle.member_resets.specs.Asides.{IfAway}
+use Rattle.member_resets.specs.Locks.{IsUnlocked, MayHold}
+use Rattle.member_resets.specs.Quiet.{IsQuiet, MayGoOn, levels_for}
+use Rattle.member_resets.specs.Sits.{AreFewUnits, MayBeAsked}
 use Rattle.member_node.specs.declared.member.NodeNo.{NodeNo}
 use Rattle.run_turns.specs.Admissions.{Admission, admitted}
 use Rattle.member_lines.specs.Admissions.{AreFewUnits as FewAsked, admission_of, tested_as}
-use Rattle.member_hand.specs.Plays.{played_in}
-use Rattle.member_hand.proofs.PieceLemmas.{played_frame}
+use Rattle.member_resets.specs.Plays.{played_in}
+use Rattle.member_resets.proofs.PieceLemmas.{played_frame}
 use Rattle.member_node.specs.declared.member.NodeNo.TheVariants as no_node
 use Rattle.member_lines.specs.Closes.{IsSayer, stopped_so}
 use Rattle.member_lines.specs.declared.admissions.Admission.{Admission as Admitted}

@@ -13,7 +13,7 @@ use Rattle.member_node.specs.declared.member.NodeNo.{NodeNo}
 use Rattle.member_node.specs.declared.member.NodeNo.TheVariants as no_node
 use Rattle.member_decks.specs.Steps.{AreOf}
 use Rattle.member_sittings.specs.Left.{HasLeft, IsLastBatch, Reach, ReachesBy, StandThere, first_of, left_by as left_in, next_in}
-use Rattle.member_hand.specs.Cuts.{AreBatched, IsBatched, IsCutBy, IsHaltBy}
+use Rattle.member_resets.specs.Cuts.{AreBatched, IsBatched, IsCutBy, IsHaltBy}
 use Rattle.run_turns.specs.Cuts.{Left, adds, adds_all, adds_first, batches_cut, begun, kept_all, left_by, none_left}
 use Rattle.run_turns.specs.Pieces.{Piece, Play}
 use Rattle.run_turns.specs.Scenes.{Batched}

@@ -34,9 +34,9 @@ use Rattle.member_decks.proofs.PageLemmas.{still_roomy}
 use Rattle.member_asides.specs.Asides.{stopped_at}
 use Rattle.member_sittings.specs.Sat.{journal_of}
 use Rattle.member_sittings.specs.Whole.{Half, first_half, second_half}
-use Rattle.member_hand.specs.Plays.{played_in}
-use Rattle.member_hand.specs.Quiet.{IsQuiet}
-use Rattle.member_hand.proofs.Acting.{asided}
+use Rattle.member_resets.specs.Plays.{played_in}
+use Rattle.member_resets.specs.Quiet.{IsQuiet}
+use Rattle.member_resets.proofs.Acting.{asided}
 use Rattle.member_resets.specs.Settling.{settle, settled_at, with_found}
 use Rattle.member_racing.specs.Opened.{IsIdleTurn, Tries, done_of}
 use Rattle.member_racing.specs.Turning.{EndsTurn, raced_at}

@@ -13,7 +13,7 @@ use Rattle.gate_turns.specs.Actors.{ResetsStopped}
 use Rattle.mas_complex.specs.Journals.{in_flight}
 use Rattle.mas_complex.specs.Parts.{Parts}
 use Rattle.mas_race.specs.Between.{IsBetweenTurns, IsFree, IsLowHalf}
-use Rattle.member_hand.specs.Quiet.{IsQuiet}
+use Rattle.member_resets.specs.Quiet.{IsQuiet}
 use Rattle.member_sittings.specs.Gates.{IsOpen}
 use Rattle.member_sittings.specs.Whole.{Half, first_half, second_half}
 use Rattle.member_racing.proofs.Books.{OnlyBy}

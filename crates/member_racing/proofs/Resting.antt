@@ -32,7 +32,7 @@ use Rattle.member_steps.specs.Steps.{AreEarlier, AreKeptFrom, IsKeptBy}
 use Rattle.member_steps.proofs.LowCopies.{low_found, sound_told}
 use Rattle.member_sittings.specs.Gates.{IsOpen}
 use Rattle.member_sittings.specs.Whole.{Half, first_half, queue_of, second_half}
-use Rattle.member_hand.specs.Quiet.{IsQuiet}
+use Rattle.member_resets.specs.Quiet.{IsQuiet}
 use Rattle.mas_race.specs.Between.{IsBetweenTurns, IsFree, IsLowHalf}
 
 pub all_front : {A : Type 0} (Q : A → Type 0) (xs ys : List A) → All Q (xs ++ ys) → All Q xs

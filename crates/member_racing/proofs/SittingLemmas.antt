@@ -12,15 +12,15 @@ use Rattle.race_turns.specs.Turns.{stage_after}
 use Rattle.member_node.specs.declared.member.Member.{Member}
 use Rattle.member_sittings.specs.declared.ends.SittingEnd.{SittingEnd}
 use Rattle.member_sittings.specs.Sat.{Start}
-use Rattle.member_hand.specs.Asides.{ActsAfter}
-use Rattle.member_hand.specs.Locks.{left_book, next_holder}
-use Rattle.member_hand.specs.Plays.{played_in}
-use Rattle.member_hand.specs.Sits.{LeavesStep}
-use Rattle.member_hand.specs.Turns.{HasTurned}
-use Rattle.member_hand.specs.declared.sits.Stand.{Stand}
-use Rattle.member_hand.proofs.Acting.{changed_only, only_these}
-use Rattle.member_hand.proofs.Going.{seat_of}
-use Rattle.member_hand.proofs.PieceLemmas.{played_frame}
+use Rattle.member_resets.specs.Asides.{ActsAfter}
+use Rattle.member_resets.specs.Locks.{left_book, next_holder}
+use Rattle.member_resets.specs.Plays.{played_in}
+use Rattle.member_resets.specs.Sits.{LeavesStep}
+use Rattle.member_resets.specs.Turns.{HasTurned}
+use Rattle.member_resets.specs.Stand.{Stand}
+use Rattle.member_resets.proofs.Acting.{changed_only, only_these}
+use Rattle.member_resets.proofs.Going.{seat_of}
+use Rattle.member_resets.proofs.PieceLemmas.{played_frame}
 use Rattle.member_racing.specs.Kinds.{SitsOut}
 use Rattle.member_racing.specs.Stages.{IsStageOf, stage_of}
 use Rattle.member_racing.specs.declared.stages.Stage.{Stage as Stands}

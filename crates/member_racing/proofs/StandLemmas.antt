@@ -24,15 +24,15 @@ use Rattle.step_turns.specs.declared.states.State.TheVariants.{Away, Fresh, Rest
 use Rattle.step_turns.specs.declared.states.Aside.TheVariants.{Acknowledge, Exchange, PrintLines, ReadText, SpoolArrival, SpoolDeck, SpoolOutputs}
 use Rattle.step_turns.specs.declared.states.Task.TheVariants.{Deck, Give, Line, Work}
 use Rattle.track_groups.specs.Groups.{held_by}
-use Rattle.member_hand.specs.Asides.{MayActAfter}
-use Rattle.member_hand.specs.Locks.{MayHold, left_book, next_holder}
-use Rattle.member_hand.specs.Sits.{AreFewUnits, ComesTo, WaitsWell}
-use Rattle.member_hand.specs.declared.sits.Stand.{Stand}
-use Rattle.member_hand.proofs.Entering.{entered_seated}
-use Rattle.member_hand.proofs.Acting.{may_act}
-use Rattle.member_hand.proofs.Going.{seat_of}
-use Rattle.member_hand.proofs.StepKinds.{few_after}
-use Rattle.member_hand.proofs.Locking.{acts_entered, inner_by, left_members, released_within, within_up}
+use Rattle.member_resets.specs.Asides.{MayActAfter}
+use Rattle.member_resets.specs.Locks.{MayHold, left_book, next_holder}
+use Rattle.member_resets.specs.Sits.{AreFewUnits, ComesTo, WaitsWell}
+use Rattle.member_resets.specs.Stand.{Stand}
+use Rattle.member_resets.proofs.Entering.{entered_seated}
+use Rattle.member_resets.proofs.Acting.{may_act}
+use Rattle.member_resets.proofs.Going.{seat_of}
+use Rattle.member_resets.proofs.StepKinds.{few_after}
+use Rattle.member_resets.proofs.Locking.{acts_entered, inner_by, left_members, released_within, within_up}
 use Rattle.member_node.specs.declared.member.Member.{Member}
 use Rattle.member_sittings.specs.declared.ends.SittingEnd.{SittingEnd}
 use Rattle.member_sittings.specs.Sat.{Start}

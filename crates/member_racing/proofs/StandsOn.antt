@@ -23,9 +23,9 @@ use Rattle.step_turns.specs.declared.states.State.TheVariants.{Away, Fresh, Rest
 use Rattle.step_turns.specs.declared.states.Aside.TheVariants.{Acknowledge, Exchange, PrintLines, ReadText, SpoolArrival, SpoolDeck, SpoolOutputs}
 use Rattle.track_groups.specs.Groups.{held_by}
 use Rattle.member_asides.specs.Asides.{MayAside}
-use Rattle.member_hand.specs.Asides.{MayActAfter}
-use Rattle.member_hand.specs.Sits.{WaitsWell}
-use Rattle.member_hand.specs.declared.sits.Stand.{Stand}
+use Rattle.member_resets.specs.Asides.{MayActAfter}
+use Rattle.member_resets.specs.Sits.{WaitsWell}
+use Rattle.member_resets.specs.Stand.{Stand}
 use Rattle.member_node.specs.declared.member.Member.{Member}
 use Rattle.member_sittings.specs.Whole.{queue_of}
 use Rattle.member_steps.proofs.SoundQueues.{sound_is}

@@ -21,10 +21,10 @@ use Rattle.script_lang.specs.declared.types.Ask.{Ask}
 use Rattle.step_turns.specs.declared.states.Holder.{Holder}
 use Rattle.step_turns.specs.declared.states.State.TheVariants.{Fresh}
 use Rattle.step_turns.specs.Laws.{on_line}
-use Rattle.member_hand.specs.Locks.{MayHold}
-use Rattle.member_hand.specs.Plays.{played_in}
-use Rattle.member_hand.specs.Sits.{AreFewUnits}
-use Rattle.member_hand.specs.declared.sits.Stand.{Stand}
+use Rattle.member_resets.specs.Locks.{MayHold}
+use Rattle.member_resets.specs.Plays.{played_in}
+use Rattle.member_resets.specs.Sits.{AreFewUnits}
+use Rattle.member_resets.specs.Stand.{Stand}
 use Rattle.member_node.specs.declared.member.Member.{Member}
 use Rattle.member_node.specs.declared.member.NodeNo.{NodeNo}
 use Rattle.member_node.specs.declared.member.NodeNo.TheVariants as no_node

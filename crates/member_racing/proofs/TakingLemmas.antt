@@ -20,10 +20,10 @@ use Rattle.member_steps.proofs.ReadLemmas.{pages_of_run}
 use Rattle.member_work.proofs.PrintedLemmas.{beside_none}
 use Rattle.member_work.specs.Printing.{IsBeside}
 use Rattle.member_sittings.specs.Whole.{IsSeat}
-use Rattle.member_hand.specs.Locks.{IsToLeave, left_book}
-use Rattle.member_hand.specs.Quiet.{IsAside}
-use Rattle.member_hand.proofs.Acting.{aside_then, asided}
-use Rattle.member_hand.proofs.Locking.{within_unlocked}
+use Rattle.member_resets.specs.Locks.{IsToLeave, left_book}
+use Rattle.member_resets.specs.Quiet.{IsAside}
+use Rattle.member_resets.proofs.Acting.{aside_then, asided}
+use Rattle.member_resets.proofs.Locking.{within_unlocked}
 use Rattle.step_turns.specs.declared.states.Grant.TheVariants.{ForStep}
 use Rattle.step_turns.specs.declared.states.Release.TheVariants.{Inner}
 

@@ -17,7 +17,7 @@ use Rattle.mas_complex.specs.Meaning.{run}
 use Rattle.mas_complex.specs.Parts.{parts_of}
 use Rattle.mas_race.specs.Between.{BetweenTurns}
 use Rattle.member_steps.proofs.LowCopies.{kept_sound}
-use Rattle.member_hand.specs.Quiet.{IsQuiet}
+use Rattle.member_resets.specs.Quiet.{IsQuiet}
 use Rattle.member_racing.proofs.Resting.{quiet_between}
 
 -- WHICH COPIES COUNT AS ALIVE

@@ -54,11 +54,11 @@ use Rattle.member_node.specs.declared.member.NodeNo.{NodeNo}
 use Rattle.member_node.specs.declared.member.NodeNo.TheVariants as no_node
 use Rattle.member_sittings.specs.Sat.{journal_of}
 use Rattle.member_sittings.specs.Whole.{queue_of}
-use Rattle.member_hand.specs.Cuts.{AreBatched, IsBatched, IsHaltBy, cause_by}
-use Rattle.member_hand.specs.Found.{IsFoundAt}
-use Rattle.member_hand.specs.Plays.{played_in}
-use Rattle.member_hand.proofs.Cutting.{cut_at}
-use Rattle.member_hand.proofs.Following.{found_in}
+use Rattle.member_resets.specs.Cuts.{AreBatched, IsBatched, IsHaltBy, cause_by}
+use Rattle.member_resets.specs.Found.{IsFoundAt}
+use Rattle.member_resets.specs.Plays.{played_in}
+use Rattle.member_resets.proofs.Cutting.{cut_at}
+use Rattle.member_resets.proofs.Following.{found_in}
 use Rattle.member_lines.specs.Closes.{ActsOnce, stopped_said}
 use Rattle.member_resets.specs.Settling.{settle}
 use Rattle.member_resets.proofs.BookLemmas.{stopped_now}

@@ -48,14 +48,14 @@ use Rattle.member_node.specs.declared.member.NodeNo.{NodeNo}
 use Rattle.member_node.specs.declared.member.NodeNo.TheVariants as no_node
 use Rattle.member_sittings.specs.Sat.{Start, journal_of}
 use Rattle.member_sittings.specs.Whole.{queue_of}
-use Rattle.member_hand.specs.Asides.{ActsAfter}
-use Rattle.member_hand.specs.Cuts.{AreBatched, IsHaltBy}
-use Rattle.member_hand.specs.Found.{IsFoundAt}
-use Rattle.member_hand.specs.Locks.{MayHold}
-use Rattle.member_hand.specs.declared.sits.Stand.{Stand}
-use Rattle.member_hand.proofs.Acting.{acts_beside, changed_only, only_these}
-use Rattle.member_hand.proofs.Cutting.{cut_at}
-use Rattle.member_hand.proofs.Inking.{halts_idle}
+use Rattle.member_resets.specs.Asides.{ActsAfter}
+use Rattle.member_resets.specs.Cuts.{AreBatched, IsHaltBy}
+use Rattle.member_resets.specs.Found.{IsFoundAt}
+use Rattle.member_resets.specs.Locks.{MayHold}
+use Rattle.member_resets.specs.Stand.{Stand}
+use Rattle.member_resets.proofs.Acting.{acts_beside, changed_only, only_these}
+use Rattle.member_resets.proofs.Cutting.{cut_at}
+use Rattle.member_resets.proofs.Inking.{halts_idle}
 use Rattle.member_lines.specs.Closes.{HasClosed, HasStoodBy, IsCutAs, left_at, stopped_so}
 use Rattle.member_resets.specs.Resetting.{HasResetBy, IsTaken, IsUntaken, TakeCauses, TakesBy as ClosesTaken, taker_at}
 use Rattle.member_resets.specs.Settling.{settle}

@@ -35,9 +35,9 @@ use Rattle.member_node.specs.Calls.{console_now}
 use Rattle.member_node.specs.declared.member.NodeNo.{NodeNo}
 use Rattle.member_sittings.specs.Sat.{journal_of}
 use Rattle.member_sittings.specs.Shapes.{IsShaped, Says, SaysAtEnd}
-use Rattle.member_hand.specs.Cuts.{AreBatched, IsHaltBy}
-use Rattle.member_hand.specs.Found.{IsFoundAt}
-use Rattle.member_hand.proofs.Cutting.{cut_at}
+use Rattle.member_resets.specs.Cuts.{AreBatched, IsHaltBy}
+use Rattle.member_resets.specs.Found.{IsFoundAt}
+use Rattle.member_resets.proofs.Cutting.{cut_at}
 use Rattle.member_resets.specs.Settling.{settle}
 use Rattle.member_racing.specs.Stages.{Raced, stage_of}
 use Rattle.member_racing.specs.Turned.{IfActed}

@@ -19,8 +19,8 @@ use Rattle.mas_race.specs.Between.{BetweenTurns}
 use Rattle.member_node.specs.declared.member.Member.{Member}
 use Rattle.member_node.specs.declared.member.NodeNo.{NodeNo}
 use Rattle.member_node.specs.declared.member.NodeNo.TheVariants as no_node
-use Rattle.member_hand.specs.Plays.{played_in}
-use Rattle.member_hand.specs.declared.sits.Stand.{Stand}
+use Rattle.member_resets.specs.Plays.{played_in}
+use Rattle.member_resets.specs.Stand.{Stand}
 use Rattle.member_racing.specs.Opened.{Tries, done_of}
 use Rattle.member_racing.specs.Stages.{Raced}
 use Rattle.member_racing.specs.Turned.{Costs}

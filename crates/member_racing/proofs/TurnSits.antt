@@ -29,13 +29,13 @@ use Rattle.member_sittings.specs.declared.ends.SittingEnd.{SittingEnd}
 use Rattle.member_sittings.specs.Left.{Said, said_of}
 use Rattle.member_sittings.specs.Sat.{CopiesActed, IsSat, Start, journal_of, sat_in, seated_in}
 use Rattle.member_sittings.specs.Tight.{IfNoWork, IsTightBy}
-use Rattle.member_hand.specs.Cuts.{IsHaltBy}
-use Rattle.member_hand.specs.Found.{IsFoundAt}
-use Rattle.member_hand.specs.Locks.{MayHold}
-use Rattle.member_hand.specs.Turns.{taken}
-use Rattle.member_hand.proofs.Cutting.{IsLeftAt, cut_at}
-use Rattle.member_hand.proofs.Reaching.{reached_all}
-use Rattle.member_hand.proofs.Turning.{IsCutIn, seat_batches, seat_printed, told_in, unsat}
+use Rattle.member_resets.specs.Cuts.{IsHaltBy}
+use Rattle.member_resets.specs.Found.{IsFoundAt}
+use Rattle.member_resets.specs.Locks.{MayHold}
+use Rattle.member_resets.specs.Turns.{taken}
+use Rattle.member_resets.proofs.Cutting.{IsLeftAt, cut_at}
+use Rattle.member_resets.proofs.Reaching.{reached_all}
+use Rattle.member_resets.proofs.Turning.{IsCutIn, seat_batches, seat_printed, told_in, unsat}
 use Rattle.member_resets.proofs.SettleLemmas.{journal_still}
 use Rattle.member_resets.specs.Settling.{settle}
 use Rattle.member_racing.specs.Stages.{Raced, stage_of}

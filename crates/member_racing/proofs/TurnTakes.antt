@@ -27,11 +27,11 @@ use Rattle.member_node.specs.declared.member.NodeNo.{NodeNo}
 use Rattle.member_sittings.specs.declared.ends.SittingEnd.{SittingEnd}
 use Rattle.member_sittings.specs.Sat.{Start, begins}
 use Rattle.member_sittings.specs.Whole.{queue_of}
-use Rattle.member_hand.specs.Cuts.{IsCut, IsCutBy}
-use Rattle.member_hand.specs.Locks.{MayHold}
-use Rattle.member_hand.specs.Plays.{Leaves, Writes, left_of}
-use Rattle.member_hand.proofs.Cutting.{cut_at}
-use Rattle.member_hand.proofs.Turning.{seat_queue}
+use Rattle.member_resets.specs.Cuts.{IsCut, IsCutBy}
+use Rattle.member_resets.specs.Locks.{MayHold}
+use Rattle.member_resets.specs.Plays.{Leaves, Writes, left_of}
+use Rattle.member_resets.proofs.Cutting.{cut_at}
+use Rattle.member_resets.proofs.Turning.{seat_queue}
 use Rattle.member_resets.specs.Resetting.{HasResetBy, reset_begins}
 use Rattle.member_racing.specs.Kinds.{GaveReset, HasSeat, SeatsAndResets, SitsBy}
 use Rattle.member_racing.specs.Stages.{stage_of}

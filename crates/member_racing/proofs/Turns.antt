@@ -31,7 +31,7 @@ use Rattle.member_racing.specs.declared.stages.Stage.{Stage as Stands}
 use Rattle.member_resets.proofs.Flights.{stands_held}
 use Rattle.member_racing.proofs.Members.{few_of, inside_of, reset_givable, some_of}
 use Rattle.member_racing.proofs.Resting.{steps_kept}
-use Rattle.member_hand.specs.Standing.{StandsIn}
+use Rattle.member_resets.specs.Standing.{StandsIn}
 
 by_test : {A : Type 0} (b : Bool) → (b ≡ true → A) → (b ≡ false → A) → A
 by_test true f g = f refl

@@ -25,7 +25,7 @@ use Rattle.queue_laws.specs.Laws.{IsBusyKept}
 use Rattle.race_turns.specs.Turns.{racer}
 use Rattle.script_lang.specs.declared.types.Ask.{Ask}
 use Rattle.track_groups.specs.Groups.{held_by}
-use Rattle.member_hand.specs.declared.sits.Stand.{Stand}
+use Rattle.member_resets.specs.Stand.{Stand}
 use Rattle.member_node.specs.declared.member.Member.{Member}
 use Rattle.member_sittings.specs.Whole.{queue_of}
 use Rattle.member_steps.proofs.SoundQueues.{sound_is}

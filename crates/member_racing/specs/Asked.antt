@@ -18,7 +18,7 @@ use Rattle.step_turns.specs.declared.states.State.TheVariants.{Fresh}
 use Rattle.step_turns.specs.declared.states.Task.{Task}
 use Rattle.step_turns.specs.declared.states.Task.TheVariants.{Give}
 use Rattle.member_sittings.specs.Whole.{IsGivable}
-use Rattle.member_hand.specs.Sits.{MayBeAsked}
+use Rattle.member_resets.specs.Sits.{MayBeAsked}
 
 -- a deck, a command, or work: in a race no line keeps the lock, gives it up, serves another node or replaces a copy
 abbrev pub IsRaced : Ask → Type 0

@@ -1,6 +1,6 @@
 -- What a line uses at most.
 use Rattle.std.specs.Prelude.{ℕ, ◌+◌, ◌^◌}
-use Rattle.member_hand.specs.Quiet.{levels_for}
+use Rattle.member_resets.specs.Quiet.{levels_for}
 use Rattle.step_turns.specs.declared.states.State.TheVariants.{Fresh}
 use Rattle.step_turns.specs.declared.states.Task.TheVariants.{Line}
 

@@ -23,13 +23,13 @@ use Rattle.member_sittings.specs.declared.ends.SittingEnd.{SittingEnd}
 use Rattle.member_sittings.specs.Ends.{ends_in}
 use Rattle.member_sittings.specs.Sat.{CopiesActed, IsSatAs, Sat, Start, sat_in, seated_in}
 use Rattle.member_sittings.specs.Whole.{queue_of}
-use Rattle.member_hand.specs.Asides.{ActsAfter}
+use Rattle.member_resets.specs.Asides.{ActsAfter}
 use Rattle.ckpt_tables.specs.Shape.{page_count}
-use Rattle.member_hand.specs.Locks.{left_book, next_holder}
-use Rattle.member_hand.specs.Quiet.{IsQuiet}
-use Rattle.member_hand.specs.Sits.{LeavesStep}
-use Rattle.member_hand.specs.Turns.{HasTurned, taken}
-use Rattle.member_hand.specs.declared.sits.Stand.{Stand}
+use Rattle.member_resets.specs.Locks.{left_book, next_holder}
+use Rattle.member_resets.specs.Quiet.{IsQuiet}
+use Rattle.member_resets.specs.Sits.{LeavesStep}
+use Rattle.member_resets.specs.Turns.{HasTurned, taken}
+use Rattle.member_resets.specs.Stand.{Stand}
 use Rattle.member_resets.specs.Resetting.{IsTaken, IsUntaken, taker_at}
 use Rattle.member_racing.specs.Stages.{IsStageOf, stage_of}
 use Rattle.member_racing.specs.declared.stages.Stage.{Stage as Stands}

@@ -7,9 +7,9 @@ pub mod Opened
 pub mod Turning
 pub mod Turned
 pub mod Backs
-pub use Rattle.member_hand.specs.Chains
-pub use Rattle.member_hand.specs.Found
-pub use Rattle.member_hand.specs.Plays
-pub use Rattle.member_hand.specs.Quiet
-pub use Rattle.member_hand.specs.Standing
+pub use Rattle.member_resets.specs.Chains
+pub use Rattle.member_resets.specs.Found
+pub use Rattle.member_resets.specs.Plays
+pub use Rattle.member_resets.specs.Quiet
+pub use Rattle.member_resets.specs.Standing
 pub use Rattle.member_resets.specs.Settling

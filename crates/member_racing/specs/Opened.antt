@@ -1,5 +1,5 @@
 -- What a turn of a line did before it was ended, by where the line stood, and by what becomes of it where it is opened.
-use Rattle.std.specs.Prelude.{◌≡◌, ◌⊎◌, ℕ, ◌≤◌, false, length, Option, Some, None, Result, Ok, Err, IfOk}
+use Rattle.std.specs.Prelude.{◌≡◌, ◌⊎◌, ℕ, ◌≤◌, true, false, [], length, Option, Some, None, Result, Ok, Err, IfOk}
 use Rattle.mas_types.specs.declared.answers.Closing.{Closing}
 use Rattle.mas_types.specs.declared.ids.MemberId.{MemberId}
 use Rattle.lock_cycle.specs.Books.{Book, after_try}
@@ -14,6 +14,7 @@ use Rattle.run_turns.specs.Admissions.{Admission, Denied, Frees, Locks, Plays, R
 use Rattle.run_turns.specs.Scenes.{Scene}
 use Rattle.race_turns.specs.Turns.{left_holder, racer}
 use Rattle.step_turns.specs.declared.states.State.TheVariants.{Fresh}
+use Rattle.member_node.specs.Drawn.{AreDrawn}
 use Rattle.member_node.specs.declared.member.Member.{Member}
 use Rattle.member_node.specs.declared.member.NodeNo.{NodeNo}
 use Rattle.member_node.specs.declared.member.NodeNo.TheVariants as no_node
@@ -38,6 +39,24 @@ ComesTo s result = IfOk result (λ next. next ≡ s)
 abbrev pub IfLeft : Option MemberId → (MemberId → Type 0) → Type 0
 IfLeft None A = Unit {0}
 IfLeft (Some of) A = A of
+
+-- a member of the same number with nothing in hand, which reads all pages anew
+pub record ReadsAnew (m n : Member) : Type 0 where
+  pub id : n.id ≡ m.id
+  pub batch : n.batch ≡ []
+  pub room : length n.room ≡ length n.checkpoint.pages
+  pub fresh : n.fresh ≡ true
+
+-- with the tables that it had
+pub record IsKeptAnew (m n : Member) : Type 0 where
+  pub anew : ReadsAnew m n
+  pub checkpoint : n.checkpoint ≡ m.checkpoint
+
+-- with the tables of an empty queue
+pub record IsBlankFor (m n : Member) : Type 0 where
+  pub anew : ReadsAnew m n
+  pub config : n.checkpoint.tables.config ≡ m.checkpoint.tables.config
+  pub drawn : AreDrawn n.checkpoint.tables n.checkpoint.level n.checkpoint.levels n.checkpoint.pages
 
 -- who holds the lock is one of the members
 abbrev pub IsSeated : Book → Type 0

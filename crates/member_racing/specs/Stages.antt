@@ -4,7 +4,7 @@ use Rattle.mas_types.specs.declared.ids.MemberId.{MemberId}
 use Rattle.script_lang.specs.declared.types.Ask.{Ask}
 use Rattle.race_turns.specs.Turns.{Stage, Acts, Closed, Opens, Sits}
 use Rattle.step_turns.specs.declared.states.State.TheVariants.{Told}
-use Rattle.member_hand.specs.declared.sits.Stand.{Stand}
+use Rattle.member_resets.specs.Stand.{Stand}
 use Rattle.member_racing.specs.declared.stages.Stage.{Stage as Stands}
 use Rattle.member_racing.specs.declared.stages.Stage.TheVariants as line
 

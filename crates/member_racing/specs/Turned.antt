@@ -28,9 +28,9 @@ use Rattle.member_node.specs.declared.member.NodeNo.{NodeNo}
 use Rattle.member_node.specs.declared.member.NodeNo.TheVariants as no_node
 use Rattle.member_node.specs.Calls.{IsLeft}
 use Rattle.member_sittings.specs.Sat.{journal_of}
-use Rattle.member_hand.specs.Cuts.{IsHaltBy}
-use Rattle.member_hand.specs.Found.{IsFoundAt}
-use Rattle.member_hand.specs.Plays.{Passage}
+use Rattle.member_resets.specs.Cuts.{IsHaltBy}
+use Rattle.member_resets.specs.Found.{IsFoundAt}
+use Rattle.member_resets.specs.Plays.{Passage}
 use Rattle.member_resets.specs.Settling.{IfRuns, settle}
 use Rattle.member_racing.specs.Stages.{Raced, stage_of}
 use Rattle.member_racing.specs.declared.stages.Stage.{Stage as Stands}

@@ -16,7 +16,7 @@ use Rattle.member_node.specs.declared.member.Member.{Member}
 use Rattle.member_node.specs.declared.member.NodeNo.{NodeNo}
 use Rattle.member_node.specs.declared.member.NodeNo.TheVariants as no_node
 use Rattle.member_asides.specs.Asides.{stopped_at}
-use Rattle.member_hand.specs.Quiet.{IsQuiet}
+use Rattle.member_resets.specs.Quiet.{IsQuiet}
 use Rattle.member_lines.specs.Closes.{SaysStopped}
 use Rattle.member_lines.specs.Earlier.{IsStepKept}
 use Rattle.mas_race.specs.Between.{BetweenTurns, is_held}

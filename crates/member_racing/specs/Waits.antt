@@ -33,10 +33,10 @@ use Rattle.member_work.specs.Spooled.{AreSpooled}
 use Rattle.member_work.specs.Steps.{IsUnderWay}
 use Rattle.member_sittings.specs.Whole.{HasUntold, queue_of}
 use Rattle.member_asides.specs.Asides.{lowest_for}
-use Rattle.member_hand.specs.Asides.{MayActAfter}
-use Rattle.member_hand.specs.Quiet.{IsIdle}
-use Rattle.member_hand.specs.Sits.{AreFewUnits, IsFoundRight, WaitsWell}
-use Rattle.member_hand.specs.declared.sits.Stand.{Stand}
+use Rattle.member_resets.specs.Asides.{MayActAfter}
+use Rattle.member_resets.specs.Quiet.{IsIdle}
+use Rattle.member_resets.specs.Sits.{AreFewUnits, IsFoundRight, WaitsWell}
+use Rattle.member_resets.specs.Stand.{Stand}
 use Rattle.member_racing.specs.Asked.{IsAsked}
 use Rattle.member_racing.specs.Stages.{first_unsaid}
 use Rattle.member_racing.specs.declared.stages.Stage.{Stage as Stands}

@@ -2,7 +2,7 @@
 ghost use Rattle.std.specs.Prelude.{◌≡◌, ◌&&◌, IfOk, OnOk, not};
 ghost use Rattle.mas_complex.specs.Parts.{parts_of};
 ghost use Rattle.mas_race.specs.Between.{BetweenTurns, is_held};
-ghost use Rattle.member_hand.specs.Plays.{played_in};
+ghost use Rattle.member_resets.specs.Plays.{played_in};
 ghost use Rattle.member_racing.specs.Backs.{MayGoBack};
 ghost use Rattle.member_racing.specs.Opened.{IsSeated, KeepsActing, TakesBeside, Tries};
 ghost use Rattle.member_racing.specs.Stages.{IsBegun};

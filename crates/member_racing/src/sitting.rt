@@ -1,18 +1,18 @@
 //! A sitting with its lock, and the acts aside that a step waits for, each in a turn of its own.
 ghost use Rattle.std.specs.Prelude.{◌≡◌, IfOk};
 ghost use Rattle.step_turns.specs.declared.states.Grant.TheVariants.{ForStep};
-ghost use Rattle.member_hand.specs.Asides.{IfAway, MayActThen};
-ghost use Rattle.member_hand.specs.Locks.{IsUnlocked};
+ghost use Rattle.member_resets.specs.Asides.{IfAway, MayActThen};
+ghost use Rattle.member_resets.specs.Locks.{IsUnlocked};
 ghost use Rattle.mas_complex.specs.Parts.{parts_of};
-ghost use Rattle.member_hand.specs.Plays.{MayPlay, played_in};
-ghost use Rattle.member_hand.specs.Sits.{start_of};
+ghost use Rattle.member_resets.specs.Plays.{MayPlay, played_in};
+ghost use Rattle.member_resets.specs.Sits.{start_of};
 ghost use Rattle.member_racing.specs.Kinds.{ActsTurn, SitsTurn};
 ghost use Rattle.member_racing.specs.Waits.{HasEase};
 
 use crate::stages::{Stage, stage_of};
 use mas_complex::{Complex, Steady};
-use member_hand::{Stand, act_then, enter, leave, next_holder, nothing_found, sit};
 use member_node::{Member, NodeNo};
+use member_resets::{Stand, act_then, enter, leave, next_holder, nothing_found, sit};
 use nje_frames::FrameReader;
 use spool_plant::Plant;
 use std::alloc::Global;

@@ -4,7 +4,7 @@ ghost use Rattle.step_turns.specs.States.{nothing_found};
 ghost use Rattle.race_turns.specs.Turns.{stage_after};
 ghost use Rattle.member_racing.specs.Stages.{IsStageOf, stage_of as stage_of_lem};
 
-use member_hand::Stand;
+use member_resets::Stand;
 use step_turns::State;
 
 /// Where a member's line stands between two turns.

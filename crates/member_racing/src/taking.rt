@@ -1,21 +1,21 @@
 //! The lock of a stopped member, taken over in the middle of another's line.
-ghost use Rattle.std.specs.Prelude.{◌≡◌, ◌≤◌, IfOk, OnOk};
+ghost use Rattle.std.specs.Prelude.{◌≡◌, ◌≤◌, IfOk, OnOk, length};
 ghost use Rattle.mas_types.specs.declared.commands.Command.TheVariants as command;
-ghost use Rattle.mas_types.specs.Limits.{members_most};
+ghost use Rattle.mas_types.specs.Fit.{IsConfig};
+ghost use Rattle.mas_types.specs.Limits.{members_most, pages_most};
 ghost use Rattle.mas_complex.specs.Parts.{parts_of};
 ghost use Rattle.member_sittings.specs.Sat.{SitsOn, sat_in};
 ghost use Rattle.member_sittings.specs.Whole.{IsGivable, MaySit};
-ghost use Rattle.member_hand.specs.Plays.{played_in};
+ghost use Rattle.member_resets.specs.Plays.{played_in};
 ghost use Rattle.member_racing.specs.Kinds.{GivesQuietly, TakesTurnOf};
-ghost use Rattle.member_racing.specs.Opened.{TakesBeside};
+ghost use Rattle.member_racing.specs.Opened.{IsBlankFor, IsKeptAnew, TakesBeside};
 ghost use Rattle.member_racing.specs.Waits.{HasEase};
 ghost use Rattle.member_resets.specs.Resetting.{IsAfterTakeover, MayTakeOver};
 
 use mas_complex::{Complex, Steady};
-use mas_types::{Command, Lines, MemberId};
-use member_hand::{enter, leave};
+use mas_types::{Command, Lines, MemberId, NoMemory};
 use member_node::{Member, NodeNo};
-use member_resets::take_lock;
+use member_resets::{enter, leave, take_lock};
 use member_sittings::{SittingEnd, close_sitting};
 use queue_texts::law_of_texts;
 use spool_plant::Plant;
@@ -82,6 +82,23 @@ pub(crate) fn take_and_reset<P: Plant + Drop, C: Steady + Drop>(
     Ok(())
 }
 
+// Another copy of the member steps out of it, which has read nothing. What stays has the tables that it had, and reads
+// all pages anew at its next sitting.
+fn part_beside(member: &mut Member, alloc: Global) -> Result<Member, NoMemory>
+    requires config { IsConfig member.old.checkpoint.tables.config }
+    requires pages { length member.old.checkpoint.pages ≤ pages_most }
+    ensures id { member.new.id ≡ member.old.id }
+    ensures kept { OnOk result (IsKeptAnew member.old member.new) }
+    ensures other { IfOk result (λ other. IsBlankFor member.old other) }
+{
+    let id = member.id;
+    let blank = Member::new(alloc, id, &member.checkpoint.tables.config)?;
+    let Member { checkpoint, .. } = std::mem::replace(member, blank);
+    let anew = Member::with(alloc, id, checkpoint)?;
+    let other = std::mem::replace(member, anew);
+    Ok(other)
+}
+
 /// The same by another copy of the member, for a line that waits for acts: they go by the tables with which the member
 /// left the lock, and it keeps these. It reads all pages anew at its next sitting.
 ///
@@ -100,15 +117,10 @@ pub(crate) fn take_beside<P: Plant + Drop, C: Steady + Drop>(
     ensures ease { OnOk result (HasEase complex.new member.new) }
     ensures takes { TakesBeside step of complex.old complex.new member.old member.new result }
 {
-    let id = member.id;
-    let Ok(copy) = Member::new(alloc, id, &member.checkpoint.tables.config) else {
+    let Ok(mut other) = part_beside(member, alloc) else {
         return Err(NodeNo::NoMemory);
     };
-    let Member { checkpoint, .. } = std::mem::replace(member, copy);
-    let Ok(anew) = Member::with(alloc, id, checkpoint) else {
-        return Err(NodeNo::NoMemory);
-    };
-    take_and_reset(member, alloc, complex, step, of)?;
-    *member = anew;
-    Ok(())
+    let taken = take_and_reset(&mut other, alloc, complex, step, of);
+    drop(other);
+    taken
 }

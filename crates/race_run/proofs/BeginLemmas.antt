@@ -62,12 +62,12 @@ use Rattle.member_racing.proofs.Unsaid.{none_tells}
 use Rattle.run_opening.specs.Fresh.{AreFresh, AreFreshFrom, IsFresh}
 use Rattle.run_opening.specs.Shows.{BetweenLines, Shows}
 use Rattle.race_turns.specs.Races.{lines_of}
-use Rattle.race_run.specs.Before.{refused_lines}
-use Rattle.race_run.specs.Prepared.{HasPrepared, MayPrepare}
+use Rattle.race_ends.specs.Before.{refused_lines}
+use Rattle.race_ends.specs.Prepared.{HasPrepared, MayPrepare}
 use Rattle.race_run.specs.Racing.{AreAsked, MayBegin}
 use Rattle.race_run.specs.Values.{AreNew, CanBegin, IsOperators, IsUntouched, MayAllBegin}
 use Rattle.race_run.proofs.AskedLemmas.{are_asked}
-use Rattle.race_run.proofs.SpokenLemmas.{refused_none, said_then}
+use Rattle.race_ends.proofs.SpokenLemmas.{refused_none, said_then}
 
 -- A NEW BOOK: nobody holds in it, and nobody is stopped
 

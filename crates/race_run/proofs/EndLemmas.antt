@@ -36,8 +36,8 @@ use Rattle.run_opening.proofs.ProceedLemmas.{proceeds_of, proceeds_on}
 use Rattle.run_opening.specs.Lines.{Proceeds}
 use Rattle.run_opening.specs.Runs.{AreAway, IsSafe, OneIsGood}
 use Rattle.run_opening.specs.Statuses.{IsCausedFrom, is_of_play, status_of}
-use Rattle.race_run.specs.Histories.{EndsRace, IsSaying, SaysHistory, SaysSome}
-use Rattle.race_run.specs.Prepared.{HasPrepared}
+use Rattle.race_ends.specs.Histories.{EndsRace, IsSaying, SaysHistory, SaysSome}
+use Rattle.race_ends.specs.Prepared.{HasPrepared}
 use Rattle.race_run.specs.Races.{HaveNotRaced, HaveRaced, IsGone, IsRaceOf, MembersBegun, begun_as, ended_as}
 use Rattle.race_run.specs.Values.{HaveAllRaced}
 use Rattle.race_run.proofs.CauseLemmas.{rose_or}

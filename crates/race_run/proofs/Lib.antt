@@ -10,14 +10,9 @@ pub mod AllLemmas
 pub mod JournalLemmas
 pub mod CauseLemmas
 pub mod ValueLemmas
-pub mod BeforeLemmas
-pub mod PrepareLemmas
-pub mod SpokenLemmas
 pub mod AskedLemmas
 pub mod OpenLemmas
 pub mod BeginLemmas
-pub mod HistoryLemmas
 pub mod EndLemmas
 pub mod TopLemmas
-pub mod FrameLemmas
 pub mod SendLemmas

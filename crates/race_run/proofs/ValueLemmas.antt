@@ -51,7 +51,7 @@ use Rattle.run_opening.specs.Statuses.{IsCausedFrom, is_of_play, status_of}
 use Rattle.mas_types.specs.Statuses.{status_code}
 use Rattle.member_node.specs.declared.member.NodeNo.{NodeNo}
 use Rattle.member_node.specs.declared.member.NodeNo.TheVariants as no_node
-use Rattle.race_run.specs.Before.{IsOne}
+use Rattle.race_ends.specs.Before.{IsOne}
 use Rattle.race_run.specs.Racing.{console_mark}
 use Rattle.race_run.specs.Races.{HaveRaced, IsGone, MemberHasRaced, is_less, seen_in}
 use Rattle.race_run.specs.Rounds.{IsRoot, KnowsAs, MayAllRace, RacedOn}

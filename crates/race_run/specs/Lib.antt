@@ -1,9 +1,6 @@
 pub mod Scripts
-pub mod Before
-pub mod Histories
 pub mod Races
 pub mod Racing
 pub mod Racers
 pub mod Values
-pub mod Prepared
 pub mod Rounds

@@ -35,8 +35,8 @@ use Rattle.run_opening.specs.Lines.{HasStopped, OnlyStops}
 use Rattle.run_opening.specs.Openings.{HasBegunWith, HasNoLines, HasOpened}
 use Rattle.run_opening.specs.Runs.{AreAway, IsSafe, OneIsGood}
 use Rattle.run_opening.specs.Statuses.{status_of}
-use Rattle.race_run.specs.Before.{IsOne, armed_by, refused_lines}
-use Rattle.race_run.specs.Histories.{EndsRace}
+use Rattle.race_ends.specs.Before.{IsOne, armed_by, refused_lines}
+use Rattle.race_ends.specs.Histories.{EndsRace}
 
 -- WHAT IS SEEN OF A TURN: the plant came to it by acts alone, from what it showed as the members began; nobody was
 -- stopped in it but its member, and that where it was cut so, or where the run ended in it, since the operator couldn't

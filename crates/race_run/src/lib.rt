@@ -2,8 +2,6 @@
 //! shared value, and after all of them the operator says the history.
 #![tactic(auto)]
 
-mod before;
-mod histories;
 mod lines;
 mod racers;
 mod running;

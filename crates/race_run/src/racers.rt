@@ -56,6 +56,7 @@ fn race_one<P: Plant + Drop, R: Wait, M: Meet, J: Beginning>(
     let mut member = member;
     let mut turn = Turn::new(pass);
     let answer = race_with(course, gate, &mut member, &mut turn);
+    drop(member);
     (turn.into_pass(), answer)
 }
 

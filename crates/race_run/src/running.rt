@@ -19,8 +19,6 @@ ghost use Rattle.run_opening.specs.Statuses.{IsCausedFrom, is_of_play};
 ghost use Rattle.race_run.specs.Races.{IsRaceOf};
 ghost use Rattle.race_run.specs.Values.{CanBegin, HaveAllRaced, IsUntouched};
 
-use crate::before::prepare;
-use crate::histories::say_history;
 use crate::lines::Course;
 use crate::racers::race_rest;
 use ckpt_form::CopyForm;
@@ -29,6 +27,7 @@ use mas_race::{Beginning, Meet, Shared};
 use mas_types::{List, Status};
 use member_gate::Gate;
 use member_node::Member;
+use race_ends::{prepare, say_history};
 use run_opening::{Ended, OpenRun, end_run, status_of};
 use spool_plant::Plant;
 use std::marker::Brand;

@@ -16,8 +16,8 @@ use Rattle.step_turns.specs.declared.states.Task.TheVariants.{Give}
 use Rattle.member_lines.specs.Admissions.{admission_of}
 use Rattle.member_lines.specs.Closes.{HasClosed, IsSayer, IsTested, stopped_so}
 use Rattle.member_node.specs.declared.member.NodeNo.{NodeNo}
-use Rattle.member_hand.specs.Quiet.{MayGoOn}
-use Rattle.member_hand.specs.Sits.{MayBeAsked, start_of}
+use Rattle.member_resets.specs.Quiet.{MayGoOn}
+use Rattle.member_resets.specs.Sits.{MayBeAsked, start_of}
 use Rattle.member_sittings.specs.Sat.{Start, begins}
 use Rattle.member_steps.specs.Steps.{AreKeptFrom}
 use Rattle.member_racing.specs.Kinds.{SitsBy}

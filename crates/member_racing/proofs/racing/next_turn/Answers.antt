@@ -10,7 +10,7 @@ use Rattle.member_racing.specs.Turning.{raced_at}
 use Rattle.member_racing.specs.Waits.{MayActNext, MaySitNext, WaitsAt}
 use Rattle.member_racing.specs.declared.stages.Stage.{Stage as Stands}
 use Rattle.mas_types.specs.declared.journals.Batch.{Batch}
-use Rattle.member_hand.specs.Asides.{MayActAfter}
+use Rattle.member_resets.specs.Asides.{MayActAfter}
 use Rattle.member_racing.proofs.Beside.{acted_acting, beside_err, beside_ok, sat_acting}
 use Rattle.member_racing.proofs.GoingOn.{right_now}
 use Rattle.member_racing.proofs.Members.{few_of, inside_of, some_of}

@@ -2,8 +2,8 @@ use Rattle.std.proofs.Common.{◌∙◌, Err, Ok, ℕ, List, Option, ap, refl, s
 use Rattle.std.proofs.lemmas.Result.{err_from_is_err_and}
 use Rattle.lock_cycle.specs.Books.{is_stopped}
 use Rattle.mas_complex.specs.Parts.{Parts, parts_of}
-use Rattle.member_hand.specs.Asides.{ActsAfter}
-use Rattle.member_hand.proofs.Acting.{changed_only}
+use Rattle.member_resets.specs.Asides.{ActsAfter}
+use Rattle.member_resets.proofs.Acting.{changed_only}
 use Rattle.member_racing.proofs.Easing.{ease_as}
 use Rattle.member_racing.proofs.SittingLemmas.{acted_frame}
 use Rattle.member_racing.proofs.sitting.act_turn.Goals as goal

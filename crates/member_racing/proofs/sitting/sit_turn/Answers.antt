@@ -7,15 +7,15 @@ use Rattle.mas_complex.specs.Texts.{spools_at}
 use Rattle.member_decks.proofs.FinishLemmas.{spools_apart}
 use Rattle.step_turns.specs.declared.states.Found.{Found}
 use Rattle.member_sittings.specs.Sat.{CopiesActed, seated_in}
-use Rattle.member_hand.specs.Locks.{MayHold}
-use Rattle.member_hand.specs.Sits.{start_of}
-use Rattle.member_hand.specs.Turns.{HasTurned}
-use Rattle.member_hand.specs.declared.sits.Stand.{Stand}
-use Rattle.member_hand.proofs.Entering.{to_enter, to_sit}
-use Rattle.member_hand.proofs.Going.{may_leave, seat_of}
-use Rattle.member_hand.proofs.Locking.{tries_well}
-use Rattle.member_hand.proofs.PieceLemmas.{not_told, played_frame}
-use Rattle.member_hand.proofs.Turning.{leaves_from}
+use Rattle.member_resets.specs.Locks.{MayHold}
+use Rattle.member_resets.specs.Sits.{start_of}
+use Rattle.member_resets.specs.Turns.{HasTurned}
+use Rattle.member_resets.specs.Stand.{Stand}
+use Rattle.member_resets.proofs.Entering.{to_enter, to_sit}
+use Rattle.member_resets.proofs.Going.{may_leave, seat_of}
+use Rattle.member_resets.proofs.Locking.{tries_well}
+use Rattle.member_resets.proofs.PieceLemmas.{not_told, played_frame}
+use Rattle.member_resets.proofs.Turning.{leaves_from}
 use Rattle.member_racing.proofs.Easing.{ease_as, ease_seat}
 use Rattle.member_racing.proofs.SittingLemmas.{sits_out}
 use Rattle.member_racing.proofs.sitting.sit_turn.Goals as goal

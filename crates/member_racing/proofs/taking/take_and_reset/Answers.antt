@@ -5,10 +5,10 @@ use Rattle.mas_types.specs.declared.ids.MemberId.{MemberId}
 use Rattle.mas_types.specs.declared.queues.Queue.{Queue}
 use Rattle.lock_cycle.specs.Books.{Book}
 use Rattle.mas_complex.specs.Parts.{parts_of}
-use Rattle.member_hand.proofs.Entering.{to_enter}
-use Rattle.member_hand.proofs.Going.{seat_of}
-use Rattle.member_hand.specs.Quiet.{IsQuiet}
-use Rattle.member_hand.proofs.PieceLemmas.{played_frame}
+use Rattle.member_resets.proofs.Entering.{to_enter}
+use Rattle.member_resets.proofs.Going.{seat_of}
+use Rattle.member_resets.specs.Quiet.{IsQuiet}
+use Rattle.member_resets.proofs.PieceLemmas.{played_frame}
 use Rattle.member_sittings.specs.Sat.{seated_in}
 use Rattle.member_sittings.specs.Whole.{IsGivable}
 use Rattle.member_steps.proofs.ReadLemmas.{pages_of_run}

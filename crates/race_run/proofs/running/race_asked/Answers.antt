@@ -9,8 +9,8 @@ use Rattle.run_opening.specs.Lines.{Proceeds}
 use Rattle.run_opening.specs.Statuses.{is_of_play}
 use Rattle.race_run.proofs.BeginLemmas.{can_begin, may_prepare, nothing_flies, nothing_placed}
 use Rattle.race_run.proofs.EndLemmas.{cause_by, ends_done, ends_other, race_by, race_cause, race_goes, race_grows, race_is, race_kind, refused_cause, refused_kind, refused_race, safe_by, said_as}
-use Rattle.race_run.proofs.FrameLemmas.{base_on, journal_on, renewals_on, since_on}
-use Rattle.race_run.proofs.HistoryLemmas.{history_same, saying_none}
+use Rattle.race_ends.proofs.FrameLemmas.{base_on, journal_on, renewals_on, since_on}
+use Rattle.race_ends.proofs.HistoryLemmas.{history_same, saying_none}
 use Rattle.race_run.proofs.JournalLemmas.{kept_is}
 use Rattle.race_run.proofs.running.race_asked.Goals as goal
 
