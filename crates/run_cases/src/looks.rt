@@ -18,6 +18,9 @@ const SYSB: MemberId = MemberId(2);
 /// Who reads and writes from outside of a run.
 const OPERATOR: MemberId = MemberId(0);
 
+/// The one volume, which has all texts.
+pub const VOLUME: Dev = Dev::Spool(1);
+
 /// The bytes of a block.
 pub const BLOCK: usize = 4096;
 
@@ -180,11 +183,12 @@ fn are_equal(first: &[u8], second: &[u8]) -> bool {
 /// The queue that a start finds behind an ended run.
 pub fn add_left<P: Player>(player: &P, line: &mut Writer, ended: &Played) -> Result<(), NoMemory> {
     let alloc = player.alloc();
-    let left = crashed(alloc, &ended.plant, ended.plant.now(), Choice::Old)?;
+    let mut left = crashed(alloc, &ended.plant, ended.plant.now(), Choice::Old)?;
+    let volume = content(alloc, &mut left, VOLUME)?;
     let next = start(player, b"", left)?;
     line.add(b", then ");
     add_status(alloc, line, &next.status);
-    add_queue(line, &base_of(alloc, &next)?);
+    add_queue(line, &base_of(alloc, volume.as_slice(), &next.base)?);
     Ok(())
 }
 
@@ -204,11 +208,12 @@ fn add_start(
     line: &mut Writer,
     ended: &Played,
     said: usize,
+    volume: &[u8],
 ) -> Result<(), NoMemory> {
     add_status(alloc, line, &ended.status);
     line.add_number(b", batches ", ended.journal.len() as u64);
     line.add(b",");
-    add_queue(line, &base_of(alloc, ended)?);
+    add_queue(line, &base_of(alloc, volume, &ended.base)?);
     add_outside(alloc, line, &ended.plant, said);
     Ok(())
 }
@@ -230,8 +235,9 @@ fn add_found<P: Player>(
     case: &Case,
     ended: &mut Played,
     said: usize,
+    volume: &[u8],
 ) -> Result<u64, NoMemory> {
-    add_start(player.alloc(), line, ended, said)?;
+    add_start(player.alloc(), line, ended, said, volume)?;
     if case.next.bytes().len() > 0 {
         add_left(player, line, ended)?;
     }
@@ -256,6 +262,7 @@ pub fn found<P: Player>(
     let mut left = left;
     change(case, &mut left);
     let said = count_said(player.alloc(), &left)?;
+    let volume = content(player.alloc(), &mut left, VOLUME)?;
     let mut ended = start(player, case.next.bytes(), left)?;
-    add_found(player, line, case, &mut ended, said)
+    add_found(player, line, case, &mut ended, said, volume.as_slice())
 }

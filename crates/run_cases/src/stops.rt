@@ -5,7 +5,7 @@
 //! start after that one finds the same queue, reset.
 use crate::bases::base_of;
 use crate::cases::{Case, crashed, start};
-use crate::looks::kept_and_begun;
+use crate::looks::{VOLUME, content, kept_and_begun};
 use crate::modes::Told;
 use crate::plain::lines_of;
 use crate::player::{Played, Player};
@@ -191,14 +191,15 @@ fn is_told_kept(alloc: Global, run: &Played, t: u64) -> Result<bool, NoMemory> {
     Ok(are_told_kept(&console, run.journal.batches(), t))
 }
 
-// The queue that a start found, and behind it the one that the start after it finds.
-fn line_of<P: Player>(player: &P, first: &Played) -> Result<Writer, NoMemory> {
+// The queue that a start found on a volume, and behind it the one that the start after it finds.
+fn line_of<P: Player>(player: &P, first: &Played, volume: &[u8]) -> Result<Writer, NoMemory> {
     let alloc = player.alloc();
-    let left = crashed(alloc, &first.plant, first.plant.now(), Choice::New)?;
+    let mut left = crashed(alloc, &first.plant, first.plant.now(), Choice::New)?;
+    let then = content(alloc, &mut left, VOLUME)?;
     let second = start(player, b"", left)?;
     let mut line = Writer::new(alloc);
-    add_queue(&mut line, &base_of(alloc, first)?);
-    add_queue(&mut line, &base_of(alloc, &second)?);
+    add_queue(&mut line, &base_of(alloc, volume, &first.base)?);
+    add_queue(&mut line, &base_of(alloc, then.as_slice(), &second.base)?);
     Ok(line)
 }
 
@@ -210,8 +211,10 @@ fn judge<P: Player>(
     t: u64,
     left: Box<MemPlant>,
 ) -> Result<Find, NoMemory> {
+    let mut left = left;
+    let volume = content(player.alloc(), &mut left, VOLUME)?;
     let first = start(player, b"", left)?;
-    let line = line_of(player, &first)?;
+    let line = line_of(player, &first, volume.as_slice())?;
     let printed = are_printed(player.alloc(), &first.plant, &first.base)?;
     if printed && matches!(&first.status, Status::Done) {
         Ok(find_of(lines, batches, t, line.bytes()))
