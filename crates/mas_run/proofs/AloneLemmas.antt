@@ -1,57 +1,200 @@
 -- Copies that are left alone aren't both lost.
-use Rattle.std.proofs.Common.{◌≡◌, ◌≢◌, ◌⊎◌, inl, inr, ⊎_elim, ℕ, zero, suc, ◌+◌, ◌-◌, ◌≤◌, ◌<◌, ◌==◌, nat_le, Bool, true, false, not, ◌&&◌, if◌then◌else◌, All, List, [], ◌∷◌, drop, replicate, Option, Some, None, Result, Ok, Err, refl, sym, ◌∙◌, ap, subst, arith, eq-eqb}
-use Rattle.std.specs.Prelude.{slice_index_or}
+use Rattle.mas_run.proofs.Names.{◌≡◌, ℕ, ◌+◌, nat_lt, Bool, true, false, not, ◌&&◌, if◌then◌else◌, List, [], ◌∷◌, length, codes, Option, Some, None, Ok, Err, refl, sym, ◌∙◌, ap, subst, ◌≢◌, ◌⊎◌, inl, inr, ⊎_elim, zero, suc, ◌-◌, ◌≤◌, ◌<◌, ◌==◌, nat_le, All, drop, replicate, Result, arith, eq-eqb, ◌||◌, take, slice_index_or, is_some, slice_set, script_bytes, Script, member_in, step_by, step_of, Next, ScriptSaid as Said, and_then, closed, script_next as next, next_config, next_in, next_outside, next_step, next_words, said, said_from, start, with_setup, and_from, cases_eq, All-head, All-tail, Status, Command, Dev, Ckpt1, Ckpt2, MemberId, Page, JobFields, Journal, Config, Queue, is_member, BadCard, read_as as cards_as, text_of, LockNo, Book, beginner, is_holder, is_stopped, try_refusal, after_free, after_seize, after_try, granted, left_of, noted, seize_refusal, standing, ticked, with_holder, with_standing, Ask, Step, IsBy, IsStep, Disk, View, disk_now, Rose, next as next_moment, top, form_reads, form_room, Admission, admitted, asked, command_admitted, deck_admitted, if_granted, reset_admitted, resets, Frees, Refused, TakesOver, Unplayed, tried, Given, RightIf, ask_with, given_first, line_with, outcomes_with, play_with, outcomes_if, Cause, Cut, Ends, Stops, Halt, Waiting, Scene, scene_of, Outcome, is_up, silent, WasLost, NodeNo, CutsAs, cut_in, is_takeover, loses_then, same_device, admitted_at, played_at, ArePassed, Here, TakeNone, There, here_after, line_of, loses_after, has_begun, as_found, begins_at, HavePassed, IsRun, LinesBegun, LinesEnded, starts, stops, AreLeftAlone, CannotStop, IsLeftAlone, TakesNone, resets_in, IsNotStarted, get_or-set_other, Entry, nobody, Standing, all_entries, Release, Inner, Keep, Outer, Left, adds, adds_all, adds_first, adds_part, book_cut, left_by, none_left, stopped_by, Piece, Play, entered, released_by, spent}
+use Rattle.std.specs.List.{list_any}
+use Rattle.script_lang.specs.declared.config.Setup.{Setup}
+use Rattle.script_lang.specs.declared.script.OpenDeck.{OpenDeck}
+use Rattle.script_lang.specs.declared.script.State.{State}
+use Rattle.script_lang.specs.declared.types.Run.{Run}
+use Rattle.script_lang.specs.declared.types.ScriptNo.{ScriptNo}
+use Rattle.script_lang.specs.Config.{configured}
+use Rattle.script_lang.specs.Lines.{has_word, is_deck_end, is_empty, is_line, lines_of, words_of}
+use Rattle.script_input.specs.Script.{read_as}
 use Rattle.std.specs.Str.{bytes_eq}
-use Rattle.std.proofs.lemmas.Bool.{and_from}
-use Rattle.std.proofs.lemmas.List.Elements.{All-head, All-tail}
 use Rattle.std.proofs.lemmas.Slice.Eq.{bytes_eq-Decides}
-use Rattle.mas_types.specs.declared.answers.Status.{Status}
-use Rattle.mas_types.specs.declared.answers.Status.TheVariants as status
-use Rattle.mas_types.specs.declared.commands.Command.{Command}
-use Rattle.mas_types.specs.declared.ids.Dev.{Dev}
-use Rattle.mas_types.specs.declared.ids.Dev.TheVariants.{Ckpt1, Ckpt2}
-use Rattle.mas_types.specs.declared.ids.MemberId.{MemberId}
-use Rattle.mas_types.specs.declared.ids.Page.{Page}
-use Rattle.mas_types.specs.declared.jobs.JobFields.{JobFields}
-use Rattle.mas_types.specs.declared.journals.Journal.{Journal}
-use Rattle.mas_types.specs.declared.queues.Config.{Config}
-use Rattle.mas_types.specs.declared.queues.Queue.{Queue}
-use Rattle.mas_types.specs.Queue.{is_member}
-use Rattle.card_reader.specs.declared.decks.Refused.{Refused}
-use Rattle.card_reader.specs.Decks.{read_as, text_of}
-use Rattle.lock_cycle.specs.declared.answers.LockNo.{LockNo}
-use Rattle.lock_cycle.specs.Books.{Book, beginner, is_holder, is_stopped, try_refusal}
-use Rattle.script_lang.specs.declared.types.Ask.{Ask}
-use Rattle.script_lang.specs.declared.types.Ask.TheVariants as ask
-use Rattle.script_lang.specs.declared.types.Script.{Script}
-use Rattle.script_lang.specs.declared.types.Step.{Step}
-use Rattle.script_laws.specs.Limits.{IsBy, IsStep}
-use Rattle.spool_plant.specs.declared.plant.Part.TheVariants.{Disk}
-use Rattle.spool_plant.specs.View.{View, disk_now}
-use Rattle.spool_plant.specs.Acts.{Rose, next, top}
-use Rattle.ckpt_form.specs.Form.{form_reads, form_room}
 use Rattle.ckpt_copy.specs.Pages.{bytes_of, level}
 use Rattle.mas_complex.specs.Fits.{are_same, fits}
-use Rattle.run_turns.specs.Admissions.{Admission, admitted, asked, command_admitted, deck_admitted, if_granted, reset_admitted, resets}
-use Rattle.run_turns.specs.Givens.{Given, RightIf, ask_with, given_first, line_with, outcomes_with}
-use Rattle.run_turns.specs.Runs.{outcomes_if}
-use Rattle.run_turns.specs.Sights.{Cause, Cut, Ends, Stops}
-use Rattle.run_turns.specs.Scenes.{Scene, scene_of}
-use Rattle.run_turns.specs.Steps.{Outcome, is_up, silent}
 use Rattle.warm_start.specs.Starting.{Mark, IsFound, IsSeen, IsUnfit, NoneOrFailed}
 use Rattle.start_choice.specs.Usable.{HaveSize, IsUsable}
-use Rattle.member_node.specs.Calls.{WasLost}
-use Rattle.member_node.specs.declared.member.NodeNo.{NodeNo}
-use Rattle.mas_run.specs.Lines.{CutsAs, cut_in, is_takeover, loses_then, same_device}
-use Rattle.mas_run.specs.LinesAt.{admitted_at, played_at}
-use Rattle.mas_run.specs.Passed.{ArePassed, Here, TakeNone, There, here_after, line_of, loses_after}
-use Rattle.run_opening.specs.Runs.{has_begun, as_found, begins_at}
-use Rattle.mas_run.specs.Runs.{HavePassed, IsRun, LinesBegun, LinesEnded, starts, stops}
-use Rattle.mas_run.specs.Statuses.{AreLeftAlone, CannotStop, IsLeftAlone, TakesNone, resets_in}
-use Rattle.run_opening.specs.Unstarted.{IsNotStarted}
-use Rattle.mas_run.proofs.OthersLemmas.{StopsBy, StopsIn, line_stops}
 use Rattle.mas_run.proofs.PassedLemmas.{by_going, passed_goes}
-use Rattle.mas_run.proofs.PlainLemmas.{same_dev}
+use Rattle.mas_run.proofs.MuteLineLemmas.{same_dev}
+use Rattle.mas_types.specs.declared.answers.LineCause.TheVariants as cause
+use Rattle.script_lang.specs.declared.types.ScriptNo.TheVariants as no
+use Rattle.mas_types.specs.declared.answers.Status.TheVariants as status
+use Rattle.script_lang.specs.declared.types.Ask.TheVariants as ask
+
+-- no step was said, and no deck is open
+pub record HasNone (s : State) : Type 0 where
+  pub deck : s.deck ≡ None
+  pub steps : s.script.steps ≡ []
+
+abbrev Keeps : Next → Type 0
+Keeps (Ok s) = HasNone s
+Keeps (Err why) = Unit {0}
+
+keeps_if : (test : Bool) (x y : Next) → Keeps x → Keeps y → Keeps (if test then x else y)
+keeps_if true x y one two = one
+keeps_if false x y one two = two
+
+keeps_setup : (s : State) (setup : Option Setup) → s.script.steps ≡ [] → Keeps (with_setup s setup)
+keeps_setup s None none = tt
+keeps_setup s (Some setup) none = record { deck = refl; steps = none }
+
+module _ (run : Run) (only : run.only ≡ true) where
+  keeps_next : (s : State) (ends : Bool) (line : List ℕ) → HasNone s → Keeps (next run s ends line)
+  keeps_next s ends line none = let keeps_outside : (s : State) (ends : Bool) (line : List ℕ) → HasNone s → Keeps (next_outside run s ends line) = λ s ends line none. let keeps_words : (s : State) (ends : Bool) (words : List (List ℕ)) → s.script.steps ≡ [] → Keeps (next_words run s ends words) = λ s ends words none. let keeps_step : (s : State) (ends : Bool) (words : List (List ℕ)) → Keeps (next_step s ends (step_of run words)) = λ s ends words. subst (λ (b : Bool). Keeps (next_step s ends (if b then Err cause.Only else step_by run words (member_in words)))) (sym only) tt in
+      let keeps_config : (s : State) (words : List (List ℕ)) → s.script.steps ≡ [] → Keeps (next_config run s words) = λ s words none. keeps_if s.seen (Err cause.Late) (if not run.cold && not run.only then Err cause.Warm else with_setup s (configured words)) tt
+      (keeps_if (not run.cold && not run.only) (Err cause.Warm) (with_setup s (configured words)) tt (keeps_setup s (configured words) none)) in
+      keeps_if (has_word words 0 (codes "CONFIG")) (next_config run s words) (next_step s ends (step_of run words)) (keeps_config s words none) (keeps_step s ends words) in
+      keeps_if (not (is_line line)) (Err cause.Text) (if is_empty line then Ok s else next_words run s ends (words_of line)) tt
+      (keeps_if (is_empty line) (Ok s) (next_words run s ends (words_of line)) none (keeps_words s ends (words_of line) none.steps)) in
+      subst (λ (deck : Option OpenDeck). Keeps (next_in run (closed s) deck ends line)) (sym none.deck) (keeps_outside (closed s) ends line (record { deck = refl; steps = none.steps }))
+
+  no_script : {A : Type 0} (why : ScriptNo) (script : Script) → (let is : Said = Err why in is) ≡ Ok script → A
+  no_script why script e = absurd (cc)
+
+  none_then : (number : ℕ) (more : State → Said) (script : Script) → ((t : State) → HasNone t → more t ≡ Ok script → script.steps ≡ []) → (r : Next) → Keeps r → and_then number more r ≡ Ok script → script.steps ≡ []
+  none_then number more script go (Ok t) keeps e = go t keeps e
+  none_then number more script go (Err why) keeps e = no_script (no.BadLine number why) script e
+
+  none_from : (number : ℕ) (s : State) (lines : List (List ℕ)) (script : Script) → HasNone s → said_from run number s lines ≡ Ok script → script.steps ≡ []
+  none_from number s [] script none e = let same_script : (s : State) (script : Script) → (let is : Said = Ok s.script in is) ≡ Ok script → s.script ≡ script = λ s script e. cc in
+      ap (λ (x : Script). x.steps) (sym (same_script s script e)) ∙ none.steps
+  none_from number s (line ∷ lines) script none e = none_then number (λ t. said_from run (number + 1) t lines) script (λ t keeps f. none_from (number + 1) t lines script keeps f)
+      (next run s (list_any is_deck_end lines) line) (keeps_next s (list_any is_deck_end lines) line none) e
+
+  none_said : (bytes : List ℕ) (script : Script) → said run bytes ≡ Ok script → script.steps ≡ []
+  none_said bytes script e = by_length (nat_lt script_bytes (length bytes)) e where
+    by_length : (long : Bool) → (if long then Err no.TooLong else said_from run 1 start (lines_of bytes)) ≡ Ok script → script.steps ≡ []
+    by_length true f = no_script no.TooLong script f
+    by_length false f = none_from 1 start (lines_of bytes) script (record { deck = refl; steps = refl }) f
+
+  -- a script that is read for a run that only formats has no steps
+  pub none_read : (bytes : List ℕ) (script : Script) → read_as run bytes ≡ Ok script → script.steps ≡ []
+  none_read bytes script e = none_said bytes script e
+
+-- Copies that are left alone aren't both lost.
+
+-- a member that stands otherwise there is stopped exactly if it was, where this doesn't change that
+set_as : (xs : List Standing) (i : ℕ) (s d : Standing) → s.stopped ≡ (slice_index_or xs i d).stopped → (slice_index_or (slice_set xs i s) i d).stopped ≡ (slice_index_or xs i d).stopped
+set_as [] i s d same = refl
+set_as (x ∷ xs) zero s d same = same
+set_as (x ∷ xs) (suc i) s d same = set_as xs i s d same
+
+-- the member of a line was stopped where it was cut
+abbrev StopsIn : Option Cut → Type 0
+StopsIn None = ⊥
+StopsIn (Some cut) = cut.cause ≡ Stops
+
+-- a line stops its member
+abbrev StopsBy : Ask → Option Cut → Type 0
+StopsBy what cut = (what ≡ ask.Stop) ⊎ StopsIn (cut_in what cut)
+
+module _ (by k : MemberId) where
+  -- the two have different places in the book
+  abbrev Apart : Type 0
+  Apart = k.0 - 1 ≢ by.0 - 1
+
+  -- a member is stopped exactly if it was
+  abbrev Same : Book → Book → Type 0
+  Same b c = is_stopped c k ≡ is_stopped b k
+
+  same_then : (a b c : Book) → Same a b → Same b c → Same a c
+  same_then a b c one two = two ∙ one
+
+  other_set : Apart → (b : Book) (s : Standing) → Same b (with_standing b by s)
+  other_set apart b s = ap (λ (x : Standing). x.stopped) (get_or-set_other b.members (by.0 - 1) (k.0 - 1) s (beginner 0) apart)
+
+  set_same : (b : Book) (s : Standing) → s.stopped ≡ is_stopped b by → Same b (with_standing b by s)
+  set_same b s same =
+      ⊎_elim
+      (λ here. subst (λ (i : ℕ). (slice_index_or (slice_set b.members (by.0 - 1) s) i (beginner 0)).stopped ≡ (slice_index_or b.members i (beginner 0)).stopped) (sym here) (set_as b.members (by.0 - 1) s (beginner 0) same))
+      (λ apart. other_set apart b s) (cases_eq (k.0 - 1) (by.0 - 1))
+
+  if_same : (t : Bool) (b c d : Book) → Same b c → Same b d → Same b (if t then c else d)
+  if_same true b c d one two = one
+  if_same false b c d one two = two
+
+  -- CALLS OF THE BOOK
+
+  granted_same : (b : Book) → Same b (granted b by)
+  granted_same b = set_same (with_holder b by) (record (standing b by) { left = b.hold }) refl
+
+  tried_same : (b : Book) (inner : Bool) → Same b (after_try b by inner)
+  tried_same b inner =
+      if_same (is_stopped b by || is_holder b by) b b (if is_some (try_refusal b by inner) then ticked b inner else granted (ticked b inner) by) refl
+      (if_same (is_some (try_refusal b by inner)) b (ticked b inner) (granted (ticked b inner) by) refl (granted_same (ticked b inner)))
+
+  freed_same : (b : Book) (inner : Bool) → Same b (after_free b by inner)
+  freed_same b inner =
+      if_same (is_holder b by) b (if inner then with_holder b nobody else with_holder (noted b by) nobody) b
+      (if_same inner b (with_holder b nobody) (with_holder (noted b by) nobody) refl (set_same b (record (standing b by) { freed = Some b.tick }) refl)) refl
+
+  -- A PIECE
+
+  released_same : (r : Release) (b : Book) → Same b (released_by r b by)
+  released_same Keep b = refl
+  released_same Inner b = freed_same b true
+  released_same Outer b = freed_same b false
+
+  sat_same : (b : Book) (ess : List (List Entry)) (r : Release) → Same b (released_by r (spent (entered b by) by ess) by)
+  sat_same b ess r =
+      same_then b (entered b by) (released_by r (spent (entered b by) by ess) by) (tried_same b true)
+      (same_then (entered b by) (spent (entered b by) by ess) (released_by r (spent (entered b by) by ess) by)
+      (set_same (entered b by) (record (standing (entered b by) by) { left = left_of (entered b by) by - length (all_entries ess) }) refl) (released_same r (spent (entered b by) by ess)))
+
+  cut_same : (halt : Halt) (b : Book) (p : Piece) → Same b (book_cut by halt b p)
+  cut_same (Waiting n tail) b p = sat_same b p.sitting.batches p.sitting.release
+  cut_same _ b p = tried_same b true
+
+  -- A LINE
+
+  adds_same : (locked : Bool) (l : Left) (p : Piece) → Same l.book (adds by locked l p).book
+  adds_same true l p = sat_same l.book p.sitting.batches p.sitting.release
+  adds_same false l p = refl
+
+  all_same : (locked : Bool) (l : Left) (ps : List Piece) → Same l.book (adds_all by locked l ps).book
+  all_same locked l [] = refl
+  all_same locked l (p ∷ ps) =
+      same_then l.book (adds by locked l p).book (adds_all by locked (adds by locked l p) ps).book (adds_same locked l p) (all_same locked (adds by locked l p) ps)
+
+  part_same : (locked : Bool) (halt : Halt) (l : Left) (p : Piece) → Same l.book (adds_part by locked halt l p).book
+  part_same true halt l p = cut_same halt l.book p
+  part_same false halt l p = refl
+
+  first_same : (locked : Bool) (halt : Halt) (l : Left) (ps : List Piece) → Same l.book (adds_first by locked halt l ps).book
+  first_same locked halt l [] = refl
+  first_same locked halt l (p ∷ ps) = part_same locked halt l p
+
+  cause_same : (cause : Cause) → (cause ≡ Stops → Apart) → (b : Book) → Same b (stopped_by by cause b)
+  cause_same Stops apart b = other_set (apart refl) b (record (standing b by) { stopped = true })
+  cause_same Ends apart b = refl
+
+  admitted_same : (a : Admission) (b : Book) → Same b (tried b by a)
+  admitted_same (Refused sayer end) b = refl
+  admitted_same (TakesOver of) b = let seized_same : (b : Book) (of : MemberId) → Same b (after_seize b by of) = λ b of. if_same (is_some (seize_refusal b of)) b b (granted b by) refl (granted_same b) in seized_same b of
+  admitted_same Frees b = refl
+  admitted_same Unplayed b = refl
+  admitted_same _ b = tried_same b false
+
+  play_same : (play : Play) (count : ℕ) (cut : Option Cut) → (StopsIn cut → Apart) → Same play.book (left_by by cut play count).book
+  play_same play count None apart = all_same play.locked (none_left by play.book count) play.pieces
+  play_same play count (Some cut) apart =
+      let one = adds_all by play.locked (none_left by play.book count) (take cut.sittings play.pieces) in
+      let two = adds_first by play.locked cut.halt one (drop cut.sittings play.pieces) in
+      same_then play.book two.book (stopped_by by cut.cause two.book)
+      (same_then play.book one.book two.book (all_same play.locked (none_left by play.book count) (take cut.sittings play.pieces)) (first_same play.locked cut.halt one (drop cut.sittings play.pieces)))
+      (cause_same cut.cause apart two.book)
+
+  silent_same : (t : Bool) (S T U : Scene) → Same S.book T.book → Same S.book U.book → Same S.book (if t then silent T else silent U).next.book
+  silent_same true S T U one two = one
+  silent_same false S T U one two = two
+
+  line_stops : (S : Scene) (at : ℕ) (g : Given) (what : Ask) → (StopsBy what g.sight.cut → Apart) → Same S.book (ask_with S by at g what).next.book
+  line_stops S at g ask.Stop apart = silent_same (is_up S by) S _ S (other_set (apart (inl refl)) S.book (record (standing S.book by) { stopped = true })) refl
+  line_stops S at g (ask.StopIn what n) apart = silent_same (is_up S by) S _ S refl refl
+  line_stops S at g (ask.Lose dev) apart = refl
+  line_stops S at g another apart = let line_same : (S : Scene) (a : Admission) (g : Given) → (StopsIn g.sight.cut → Apart) → Same S.book (left_by by g.sight.cut (play_with S by a g) (S.counts by)).book = λ S a g apart. same_then S.book (tried S.book by a) (left_by by g.sight.cut (play_with S by a g) (S.counts by)).book (admitted_same a S.book) (play_same (play_with S by a g) (S.counts by) g.sight.cut apart) in
+      line_same S (admitted S.queue.config S.book by another) g (λ stop. apart (inr stop))
 
 -- NO LOCK IS TAKEN OVER where no line resets another member that a line before it may have stopped
 
@@ -71,29 +214,24 @@ not_false true e = refl
 not_false false e = absurd (true_false e)
 
 module _ (config : Config) (b : Book) (by : MemberId) where
-  reset_takes : (of : MemberId) → (is_member config of ≡ true → is_stopped b of ≡ false) → is_takeover (reset_admitted config b by of) ≡ false
-  reset_takes of up = if_takes (not (is_member config of)) _ _ refl
-      (λ is. if_takes (not (is_stopped b of)) _ _ refl (λ stopped. absurd (true_false (sym (not_false (is_stopped b of) stopped) ∙ up (not_false (is_member config of) is)))))
-
   command_takes : (c : Command) (of : Option MemberId) → ((k : MemberId) → of ≡ Some k → is_member config k ≡ true → is_stopped b k ≡ false) → is_takeover (command_admitted config b by c of) ≡ false
   command_takes c None up = granted_takes (try_refusal b by false) _ refl
-  command_takes c (Some of) up = reset_takes of (up of refl)
+  command_takes c (Some of) up = let reset_takes : (of : MemberId) → (is_member config of ≡ true → is_stopped b of ≡ false) → is_takeover (reset_admitted config b by of) ≡ false = λ of up. if_takes (not (is_member config of)) _ _ refl
+      (λ is. if_takes (not (is_stopped b of)) _ _ refl (λ stopped. absurd (true_false (sym (not_false (is_stopped b of) stopped) ∙ up (not_false (is_member config of) is))))) in
+      reset_takes of (up of refl)
 
-  deck_takes : (text : List (List ℕ)) (said : Result JobFields Refused) → is_takeover (deck_admitted b by text said) ≡ false
+  deck_takes : (text : List (List ℕ)) (said : Result JobFields BadCard) → is_takeover (deck_admitted b by text said) ≡ false
   deck_takes text (Err bad) = refl
   deck_takes text (Ok fields) = granted_takes (try_refusal b by false) _ refl
 
   asked_takes : (what : Ask) → ((k : MemberId) → resets_in what ≡ Some k → is_member config k ≡ true → is_stopped b k ≡ false) → is_takeover (asked config b by what) ≡ false
-  asked_takes (ask.Deck cards) up = deck_takes (text_of cards) (read_as config.node cards)
+  asked_takes (ask.Deck cards) up = deck_takes (text_of cards) (cards_as config.node cards)
   asked_takes (ask.Command c) up = command_takes c (resets c) up
-  asked_takes (ask.Work n) up = granted_takes (try_refusal b by false) _ refl
-  asked_takes ask.Lock up = granted_takes (try_refusal b by false) _ refl
   asked_takes ask.Free up = if_takes (is_holder b by) _ _ refl (λ e. refl)
   asked_takes (ask.Lose dev) up = refl
-  asked_takes (ask.Line n) up = granted_takes (try_refusal b by false) _ refl
-  asked_takes (ask.Replace dev) up = granted_takes (try_refusal b by false) _ refl
   asked_takes ask.Stop up = refl
   asked_takes (ask.StopIn fuse n) up = refl
+  asked_takes _ up = granted_takes (try_refusal b by false) _ refl
 
   admitted_takes : (what : Ask) → ((k : MemberId) → resets_in what ≡ Some k → is_stopped b by ≡ false → is_member config k ≡ true → is_stopped b k ≡ false) → is_takeover (admitted config b by what) ≡ false
   admitted_takes what up = if_takes (not (is_member config by)) _ _ refl (λ is. if_takes (is_stopped b by) _ _ refl (λ free. asked_takes what (λ k resets. up k resets free)))
@@ -118,31 +256,21 @@ stop_rose (Err e) by (Some cut) x y so stop = absurd (let ends : cut.cause ≡ E
 -- who is stopped by a line is a member
 stops_member : (by : MemberId) (what : Ask) (cut : Option Cut) → IsBy by what → StopsBy what cut → 1 ≤ by.0
 stops_member by (ask.Deck cards) cut is stop = is.0
-stops_member by (ask.Command c) cut is stop = is.0
-stops_member by (ask.Work n) cut is stop = is.0
-stops_member by ask.Lock cut is stop = is.0
-stops_member by ask.Free cut is stop = is.0
-stops_member by (ask.Line n) cut is stop = is.0
-stops_member by (ask.Replace dev) cut is stop = is.0
-stops_member by ask.Stop cut is stop = is.0
-stops_member by (ask.StopIn fuse n) cut is stop = is.0
 stops_member by (ask.Lose dev) cut is (inl same) = absurd (cc)
 stops_member by (ask.Lose dev) cut is (inr stop) = absurd stop
+stops_member by _ cut is stop = is.0
 
 -- LINES ONE AFTER ANOTHER, in a run whose plant showed `old` before and `new` after it
 module _ (told : Type 0) (old new : View) where
-  -- a count rose in a run in which it rose
-  rose_in : (was x y is : ℕ) → was ≤ x → y ≤ is → Rose x y → Rose was is
-  rose_in was x y is from to rose = omega (arith, from, to, rose)
-
   -- whom no line before can have stopped isn't stopped
   abbrev AreUp : List Step → Book → Type 0
   AreUp before b = (k : MemberId) → 1 ≤ k.0 → All (CannotStop old new k) before → is_stopped b k ≡ false
 
+  -- a count rose in a run in which it rose
   -- a line that can't have stopped a member stops another one, or nobody
   stops_other : (k : MemberId) (s : Step) (answer : Result (Unit {0}) NodeNo) (cut : Option Cut) (x y : View) → 1 ≤ k.0 → IsBy s.by s.what → CannotStop old new k s
       → CutsAs answer s.by (cut_in s.what cut) x y → ((m : ℕ) → old.stops m ≤ x.stops m) → ((m : ℕ) → y.stops m ≤ new.stops m) → StopsBy s.what cut → k.0 - 1 ≢ s.by.0 - 1
-  stops_other k s answer cut x y some by cannot so since until stop same =
+  stops_other k s answer cut x y some by cannot so since until stop same = let rose_in : (was x y is : ℕ) → was ≤ x → y ≤ is → Rose x y → Rose was is = λ was x y is from to rose. omega (arith, from, to, rose) in
       let one : 1 ≤ s.by.0 = stops_member s.by s.what cut by stop in
       let number : s.by.0 ≡ k.0 = omega (arith, some, one, same) in
       ⊎_elim (λ other. other (ap (λ (i : ℕ). let m : MemberId = record { 0 = i } in m) number))
@@ -159,11 +287,11 @@ module _ (told : Type 0) (old new : View) where
   takes_none : (h : Here) (gs : List Given) (before steps : List Step) (many : ℕ) (end : There) → ((m : ℕ) → old.stops m ≤ h.view.stops m) → ((m : ℕ) → end.view.stops m ≤ new.stops m)
       → All IsStep steps → TakesNone old new before steps → AreUp before h.scene.book → ArePassed told h gs steps many end → TakeNone h.scene h.number gs steps
   takes_none h gs before [] many end since until fits takes up p = tt
-  takes_none h gs before (s ∷ steps) many end since until fits takes up (there, more, is, next, rest) =
+  takes_none h gs before (s ∷ steps) many end since until fits takes up (there, more, is, next_moment, rest) =
       let g = given_first gs in
       let p = played_at (line_of h g s) in
       let h2 = here_after h g s there in
-      let from : (m : ℕ) → old.stops m ≤ there.view.stops m = λ m. omega (arith, since m, next.passed.goes.stops m) in (
+      let from : (m : ℕ) → old.stops m ≤ there.view.stops m = λ m. omega (arith, since m, next_moment.passed.goes.stops m) in (
         line_takes h.scene h.number g before s takes.0 up,
         by_going p.goes_on (λ b. RightIf b (TakeNone p.next (h.number + 1) (drop 1 gs) steps)) rest
             (λ x.
@@ -171,7 +299,7 @@ module _ (told : Type 0) (old new : View) where
             takes_none h2 (drop 1 gs) (s ∷ before) steps more end from until (All-tail IsStep s steps fits) takes.1
             (λ k some none.
             line_stops s.by k h.scene h.number g s.what
-            (stops_other k s there.answer g.sight.cut h.view there.view some (All-head IsStep s steps fits).by (All-head (CannotStop old new k) s before none) next.passed.cut since to)
+            (stops_other k s there.answer g.sight.cut h.view there.view some (All-head IsStep s steps fits).by (All-head (CannotStop old new k) s before none) next_moment.passed.cut since to)
             ∙ up k some (All-tail (CannotStop old new k) s before none)) x.1)
             (λ e. tt),
       )
@@ -196,7 +324,7 @@ module _ (d : Dev) (n : ℕ) where
 
   other_loses : (dev : Dev) → ask.Lose dev ≢ ask.Lose d → loses_then (Some dev) d n ≡ n
   other_loses dev other = by_same (same_device d dev) refl where
-    by_same : (t : Bool) → same_device d dev ≡ t → (if t then next n else n) ≡ n
+    by_same : (t : Bool) → same_device d dev ≡ t → (if t then next_moment n else n) ≡ n
     by_same true is = absurd (other (ap (λ (x : Dev). ask.Lose x) (sym (same_dev d dev is))))
     by_same false is = refl
 
@@ -204,13 +332,7 @@ module _ (d : Dev) (n : ℕ) where
   ask_loses S by at g (ask.Lose dev) other = other_loses dev other
   ask_loses S by at g ask.Stop other = silent_loses (is_up S by) _ _
   ask_loses S by at g (ask.StopIn fuse k) other = silent_loses (is_up S by) _ _
-  ask_loses S by at g (ask.Deck cards) other = refl
-  ask_loses S by at g (ask.Command c) other = refl
-  ask_loses S by at g (ask.Work k) other = refl
-  ask_loses S by at g ask.Lock other = refl
-  ask_loses S by at g ask.Free other = refl
-  ask_loses S by at g (ask.Line k) other = refl
-  ask_loses S by at g (ask.Replace dev) other = refl
+  ask_loses S by at g _ other = refl
 
 lines_lose : (d : Dev) (S : Scene) (at : ℕ) (gs : List Given) (steps : List Step) (n : ℕ) → All (λ (s : Step). s.what ≢ ask.Lose d) steps
     → loses_after d (outcomes_with S at gs steps) n ≡ n
@@ -230,9 +352,6 @@ same_as_self : (xs : List Page) → are_same xs xs ≡ true
 same_as_self [] = refl
 same_as_self (x ∷ xs) = and_from (bytes_eq x.0 x.0) (are_same xs xs) ((bytes_eq-Decides x.0 x.0).1 refl) (same_as_self xs)
 
-fits_self : (pages : List Page) (room : ℕ) → fits pages pages room ≡ true
-fits_self pages room = let e : (level (bytes_of pages) == level (bytes_of pages)) ≡ true = eq-eqb (level (bytes_of pages)) (level (bytes_of pages)) refl in rw e (same_as_self pages)
-
 -- WHAT A START FINDS WHERE ONE COPY WAS LOST BEFORE: the pages of the other one, which the start doesn't lose
 
 clash : (b : Bool) → b ≡ true → b ≡ false → ⊥
@@ -251,32 +370,23 @@ module _ (dev : Dev) (old new : View) (mark : Mark) where
     unfit_seen : (seen : Option (List ℕ)) → IsSeen form_reads dev old new mark seen → ((own : List Page) → seen ≡ Some (bytes_of own) → HaveSize own → IsUsable own → fits pages own room ≡ false) → ⊥
     unfit_seen None (inl gone) unfit = failed gone.failed
     unfit_seen None (inr none) unfit = let e : Some (bytes_of pages) ≡ None = sym read ∙ none in absurd (cc)
-    unfit_seen (Some bytes) is unfit = clash (fits pages pages room) (fits_self pages room) (unfit pages (sym is.1 ∙ read) sized usable)
+    unfit_seen (Some bytes) is unfit = let fits_self : (pages : List Page) (room : ℕ) → fits pages pages room ≡ true = λ pages room. let e : (level (bytes_of pages) == level (bytes_of pages)) ≡ true = eq-eqb (level (bytes_of pages)) (level (bytes_of pages)) refl in rw e (same_as_self pages) in
+        clash (fits pages pages room) (fits_self pages room) (unfit pages (sym is.1 ∙ read) sized usable)
 
     never_unfit : IsUnfit form_reads dev old new mark room pages → ⊥
     never_unfit u = unfit_seen u.seen u.is u.unfit
 
-found_first : (old new : View) (mark : Mark) (found : List ℕ) → old.lost (Disk Ckpt2) ≡ true → IsFound form_reads old new mark found → form_reads (disk_now old Ckpt1).bytes ≡ Some found
-found_first old new mark found lost f = ⊎_elim (λ b. read_of Ckpt1 old new mark found f.one f.seen1 b.0) (λ b. absurd (none_of_lost Ckpt2 old new mark found f.two f.seen2 b.0 lost)) f.best
-
-found_second : (old new : View) (mark : Mark) (found : List ℕ) → old.lost (Disk Ckpt1) ≡ true → IsFound form_reads old new mark found → form_reads (disk_now old Ckpt2).bytes ≡ Some found
-found_second old new mark found lost f = ⊎_elim (λ b. absurd (none_of_lost Ckpt1 old new mark found f.one f.seen1 b.0 lost)) (λ b. read_of Ckpt2 old new mark found f.two f.seen2 b.0) f.best
-
 -- BOTH LOST
-
-not_risen : (was is : ℕ) → is ≡ was → was < top → Rose was is → ⊥
-not_risen was is same few rose = omega (arith, same, few, rose)
 
 abbrev Alone : Dev → List Step → View → View → Type 0
 Alone dev steps old new = IsLeftAlone dev steps old new
 
 -- a copy that was left alone was lost by calls, if it was lost
-by_calls : (dev : Dev) (steps : List Step) (old new : View) → Alone dev steps old new → WasLost dev old new → Rose (old.loses dev) (new.loses dev)
-by_calls dev steps old new alone lost = ⊎_elim (λ f. absurd (alone.failed f)) (λ r. r) lost
-
 -- a copy that was left alone isn't lost in a run that hasn't begun, where no call lost it
 unlost : (dev : Dev) (steps : List Step) (old new : View) → Alone dev steps old new → new.loses dev ≡ old.loses dev → WasLost dev old new → ⊥
-unlost dev steps old new alone same lost = not_risen (old.loses dev) (new.loses dev) same alone.counted (by_calls dev steps old new alone lost)
+unlost dev steps old new alone same lost = let by_calls : (dev : Dev) (steps : List Step) (old new : View) → Alone dev steps old new → WasLost dev old new → Rose (old.loses dev) (new.loses dev) = λ dev steps old new alone lost. ⊎_elim (λ f. absurd (alone.failed f)) (λ r. r) lost in
+    let not_risen : (was is : ℕ) → is ≡ was → was < top → Rose was is → ⊥ = λ was is same few rose. omega (arith, same, few, rose) in
+    not_risen (old.loses dev) (new.loses dev) same alone.counted (by_calls dev steps old new alone lost)
 
 -- a copy that was left alone is there for a warm run
 unstarted_alone : (steps : List Step) (old new : View) → AreLeftAlone steps old new → NoneOrFailed old new → ⊥
@@ -295,17 +405,14 @@ module _ (tells : Type 0) (told : tells) (script : Script) (answer : Status) (ba
         ∙ lines_lose d _ 1 p.given script.steps (r.steps.entry.loses d) alone.unasked)
         (r.steps.played.told told)
 
-  cold_alone : IsRun true tells script answer base J since old new → AreLeftAlone script.steps old new → WasLost Ckpt1 old new → WasLost Ckpt2 old new → ⊥
-  cold_alone r alone lost1 lost2 = ⊎_elim (λ a. unrisen true r Ckpt1 a.0 (r.before Ckpt1) lost1) (λ a. unrisen true r Ckpt2 a.0 (r.before Ckpt2) lost2) alone
-
   warm_alone : IsRun false tells script answer base J since old new → AreLeftAlone script.steps old new → WasLost Ckpt1 old new → WasLost Ckpt2 old new → ⊥
   warm_alone r (inl (one, (inl two))) lost1 lost2 = ⊎_elim (λ e. unrisen false r Ckpt1 one e lost1) (λ e. unrisen false r Ckpt2 two e lost2) r.queue.one
-  warm_alone r (inl (one, (inr gone))) lost1 lost2 =
+  warm_alone r (inl (one, (inr gone))) lost1 lost2 = let found_first : (old new : View) (mark : Mark) (found : List ℕ) → old.lost (Disk Ckpt2) ≡ true → IsFound form_reads old new mark found → form_reads (disk_now old Ckpt1).bytes ≡ Some found = λ old new mark found lost f. ⊎_elim (λ b. read_of Ckpt1 old new mark found f.one f.seen1 b.0) (λ b. absurd (none_of_lost Ckpt2 old new mark found f.two f.seen2 b.0 lost)) f.best in
       let q = r.queue in
       let read = found_first old (as_found r.lost new) (begins_at since r.first) (bytes_of q.pages) gone (q.found told) in
       ⊎_elim (λ e. unrisen false r Ckpt1 one e lost1)
       (λ u. never_unfit Ckpt1 old (as_found r.lost new) (begins_at since r.first) (form_room (disk_now old Ckpt1).bytes) q.pages q.sized (q.tables, q.are) one.failed read u) (q.kept1 told)
-  warm_alone r (inr (two, gone)) lost1 lost2 =
+  warm_alone r (inr (two, gone)) lost1 lost2 = let found_second : (old new : View) (mark : Mark) (found : List ℕ) → old.lost (Disk Ckpt1) ≡ true → IsFound form_reads old new mark found → form_reads (disk_now old Ckpt2).bytes ≡ Some found = λ old new mark found lost f. ⊎_elim (λ b. absurd (none_of_lost Ckpt1 old new mark found f.one f.seen1 b.0 lost)) (λ b. read_of Ckpt2 old new mark found f.two f.seen2 b.0) f.best in
       let q = r.queue in
       let read = found_second old (as_found r.lost new) (begins_at since r.first) (bytes_of q.pages) gone (q.found told) in
       ⊎_elim (λ e. unrisen false r Ckpt2 two e lost2)
@@ -317,7 +424,8 @@ module _ (tells : Type 0) (told : tells) (script : Script) (answer : Status) (ba
   not_both cold alone unstarted kept run lost1 lost2 = by_begun cold (has_begun base) unstarted kept run refl where
     by_begun : (c begun : Bool) → (c ≡ false → has_begun base ≡ false → IsNotStarted tells status.BothLost old new) → (c ≡ true → has_begun base ≡ false → (d : Dev) → new.loses d ≡ old.loses d)
         → (has_begun base ≡ true → IsRun c tells script answer base J since old new) → has_begun base ≡ begun → ⊥
-    by_begun true true not keep has e = cold_alone (has e) alone lost1 lost2
+    by_begun true true not keep has e = let cold_alone : IsRun true tells script answer base J since old new → AreLeftAlone script.steps old new → WasLost Ckpt1 old new → WasLost Ckpt2 old new → ⊥ = λ r alone lost1 lost2. ⊎_elim (λ a. unrisen true r Ckpt1 a.0 (r.before Ckpt1) lost1) (λ a. unrisen true r Ckpt2 a.0 (r.before Ckpt2) lost2) alone in
+        cold_alone (has e) alone lost1 lost2
     by_begun false true not keep has e = warm_alone (has e) alone lost1 lost2
     by_begun true false not keep has e = ⊎_elim (λ a. unlost Ckpt1 script.steps old new a.0 (keep refl e Ckpt1) lost1) (λ a. unlost Ckpt2 script.steps old new a.0 (keep refl e Ckpt2) lost2) alone
     by_begun false false not keep has e = unstarted_alone script.steps old new alone (not refl e).0.failed

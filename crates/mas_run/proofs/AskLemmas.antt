@@ -1,110 +1,653 @@
 -- A line of a member, once the operator said that its member was stopped, if it was.
-use Rattle.std.proofs.Common.{◌≡◌, ◌≢◌, ℕ, ◌+◌, ◌≤◌, true, List, Result, Ok, Err, OnOk, sym, ◌∙◌, ap, subst}
-use Rattle.mas_types.specs.declared.ids.MemberId.{MemberId}
-use Rattle.mas_types.specs.Limits.{steps_most}
-use Rattle.lock_cycle.specs.Books.{Book, IsMember}
-use Rattle.spool_plant.specs.declared.plant.Plant.{Ghosts as PlantGhosts}
-use Rattle.ckpt_copy.specs.declared.copying.Copying.{Ghosts as CopyGhosts}
-use Rattle.ckpt_form.specs.declared.steady.Steady.{Ghosts as SteadyGhosts}
-use Rattle.mas_complex.specs.declared.complex.Complex.{Complex}
-use Rattle.mas_complex.specs.Parts.{Parts, parts_of, unreserved_in}
-use Rattle.member_node.specs.declared.member.Member.{Member}
-use Rattle.member_node.specs.declared.member.NodeNo.{NodeNo}
+use Rattle.mas_run.proofs.Names.{◌≡◌, ℕ, ◌+◌, ◌≤◌, true, List, Result, Ok, Err, OnOk, sym, ◌∙◌, ap, subst, Bool, false, not, if◌then◌else◌, length, Option, None, refl, ◌≢◌, ◌++◌, arith, inr, zero, suc, ◌==◌, [], ◌∷◌, drop, map, take, append-nil, Some, ⊎_elim, inl, ◌-◌, ◌*◌, ◌<◌, set, slice_get, MemberId, steps_most, wires_most, Book, IsMember, is_stopped, Ghosts as PlantGhosts, CopyGhosts, SteadyGhosts, Complex, Parts, parts_of, unreserved_in, Member, NodeNo, SaysStopped, ActsOnce, failed, Ask, Scene, Batched, count_then, flight_found, queue_found, with_count, CopiesKept, LeavesCopies, LeftAt, HasSaidStop, linesleft_left_at as left_at, HasLeft, IsCutBy, LinesLeftIsCutIn as IsCutIn, StopCauses, LeavesAt, seen_of, LineIsLeft, HasPlayedLine, is_of_member, line_by, BetweenLines, IsBetween, IsShown, IsFlight, LineDone, LineIsPlayed, Config, Queue, nobody, same_member, is_member, runs_keep_configuration, Step, kept_all, AreSettled, seated, Admission, Refused, admitted, asked, no_member, Plays, Resets, TakesOver, tried, left_by, none_left, Left, play_with, Given, ArePiecesOf, IsAskRight, queue_met, Cut, Renewed, Ends, Halt, Sight, LineAt, admitted_at, played_at, pieces_as, pieces_at, Since, none_since, unlocked_book, play_stops, inside_since, admitted_since, line_since, Batch, Fate, View, Line, paper_now, taken_now, SameWires, Rose, counts_of, Renewals, journal_of, queue_of, fate_found, Piece, Play, is_locked, piece_at, pieces_found, pieces_from, sayer_of, unless_told, settle, IfRuns, RenewsAs, Carries, HeardFirst, task_place, Dev, run, Console, Disk, OfFirst, AreBatched, AtCut, IsBroken, IsTight, whole_pieces, AreFoundIn, waits_in, named_in, rose_later, console_now, VolumesStay, holder_then, all_entries, Sitting, Holder, State, Deck, Give, Work, Node, Said, scene_left, CutsAs, IfIdle, IsHonest, IsPassed, IsThere, IsUnsaid, IsWithin, LosesAs, cut_of, is_takeover, is_work, printed_at, taking, IsHonestAs, StaysAs, named_as, Proceeds, IsShapedAs, proceeds_of, proceeds_on, kept_on, nat_tests, same_member_is, StandsIn, journal_unreserved, IsLine, IsElsewhere, ReaderStaysFrom, MayBeAsked, OnConsole, Fresh, Task, AreReaders, HasRead, reader_place}
+use Rattle.mas_run.proofs.CopiesLemmas.{said_copies, leaves_same, leaves_then}
+use Rattle.mas_run.proofs.MuteLineLemmas.{stopped_next}
+use Rattle.mas_run.proofs.ClosingLemmas.{not_lost}
+use Rattle.mas_run.proofs.LeftLemmas.{stop_said, passed_error, passed_stopped, act_after, loses_on, papers_on, shaped_as_later, finds_later, found_left, given_left, passed_uncut, arms_same, batches_left, if_member, leaves_as, lines_left, loses_none, member_cut, member_stays, printed_here, printed_left, right_of, took, next_left, console_stays, stays_on, on_ok}
+use Rattle.mas_run.proofs.PassedLemmas.{renews_later, renews_ended, batched_later, kept_later, history_own}
+use Rattle.mas_run.proofs.WireLemmas.{carries_as, carries_later, readers_served, readers_still, set_still, ReadsLine, carries_still}
+use Rattle.mas_run.proofs.JournalLemmas.{flight_next, queue_then}
+use Rattle.mas_run.proofs.ClosesLemmas.{scene_at, shown_at, if_ok}
+use Rattle.mas_run.proofs.ArmLemmas.{admitted_here, InArm}
 use Rattle.member_node.specs.declared.member.NodeNo.TheVariants as no_node
-use Rattle.member_lines.specs.Closes.{SaysStopped}
-use Rattle.script_lang.specs.declared.types.Ask.{Ask}
-use Rattle.run_turns.specs.Scenes.{Scene}
-use Rattle.mas_run.specs.Copies.{CopiesKept, LeavesCopies}
-use Rattle.mas_run.specs.LinesLeft.{LeftAt, LineIsLeft}
-use Rattle.mas_run.specs.LinesPlayed.{HasPlayedLine, PlayedLine, is_of_member, line_by}
-use Rattle.run_opening.specs.Shows.{BetweenLines, IsBetween, IsShown, LeftBetween}
-use Rattle.mas_run.proofs.AnswerLemmas.{asked_as, asked_halted, seats_shown, stands_between}
-use Rattle.mas_run.proofs.CopiesLemmas.{copies_halted, said_copies, leaves_same, leaves_then}
-use Rattle.mas_run.proofs.MuteLemmas.{stopped_next}
-use Rattle.mas_run.proofs.SaidLemmas.{not_lost}
-use Rattle.mas_run.proofs.StopLemmas.{stop_said}
-use Rattle.mas_run.proofs.TestedLemmas.{copies_unreserved, left_unreserved}
+use Rattle.mas_types.specs.declared.answers.Closing.TheVariants as closing
+use Rattle.script_lang.specs.declared.types.Ask.TheVariants as ask
 
-if_ok : (r : Result (Unit {0}) NodeNo) (A : Type 0) → A → OnOk r A
-if_ok (Ok done) A a = a
-if_ok (Err e) A a = tt
+-- what stands between lines, of the journal and what is in flight
+pub record Stands {P C : Type 0} (plants : PlantGhosts P) (x : Parts P C) : Type 0 where
+  pub stands : StandsIn x.batches x.placed x.book x.current
+  pub settled : AreSettled x.batches (plants.view x.plant).now
 
-abbrev failed : NodeNo → Result (Unit {0}) NodeNo
-failed e = Err e
+module _ {P C : Type 0} (plants : PlantGhosts P) (copies : CopyGhosts C) (told : Type 0) (l : LineAt) (x y : Parts P C) {result : Result (Unit {0}) NodeNo}
+    (member : is_of_member l.step.what ≡ true) (left : HasLeft plants copies told l x y result) (base : y.base ≡ x.base)
+    (was : Stands plants x) (now : Stands plants y) (shown : IsShown plants copies told l.scene x)
+    (book : y.book ≡ (left_at l).book) (since : Since l.scene.book (left_at l).book)
+    (counted : told → is_stopped (left_at l).book l.step.by ≡ false → counts_of y.printed l.step.by ≡ (left_at l).count) where
+  abbrev left_next : Scene
+  left_next = scene_left l.scene l.step.by (play_with l.scene l.step.by (admitted_at l) l.given) (left_at l)
 
-abbrev went : Result (Unit {0}) NodeNo
-went = Ok tt
+  count_now : told → (m : MemberId) → is_stopped left_next.book m ≡ false → counts_of y.printed m ≡ left_next.counts m
+  count_now t m up = next_member (same_member m l.step.by) refl where
+    next_member : (is : Bool) → same_member m l.step.by ≡ is → counts_of y.printed m ≡ with_count l.step.by (left_at l).count l.scene.counts m
+    next_member true is =
+        let same : m ≡ l.step.by = same_member_is m l.step.by is in
+        ap (λ (k : MemberId). counts_of y.printed k) same
+        ∙ counted t (subst (λ (k : MemberId). is_stopped (left_at l).book k ≡ false) same up)
+        ∙ ap (λ (b : Bool). if b then (left_at l).count else l.scene.counts m) (sym is)
+    next_member false is =
+        left.other_counts t m (λ same. other (sym is ∙ ap (λ (k : MemberId). same_member k l.step.by) same))
+        ∙ shown.counts t m (since.up m up)
+        ∙ ap (λ (b : Bool). if b then (left_at l).count else l.scene.counts m) (sym is) where
+          other : false ≡ same_member l.step.by l.step.by → ⊥
+          other e = apart (e ∙ own l.step.by.0) where
+            apart : false ≡ true → ⊥
+            apart f = absurd (cc)
 
-ok_apart : went ≡ failed no_node.Halted → ⊥
-ok_apart e = absurd (cc)
+            own : (n : ℕ) → (n == n) ≡ true
+            own n = grind (arith, nat_tests)
 
-same_error : (d e : NodeNo) → failed d ≡ failed e → d ≡ e
-same_error d e is = cc
+  shown_next : IsShown plants copies told (played_at l).next y
+  shown_next = let flown : IsFlight x.book l.scene.flight x.current = subst (λ (b : Book). IsFlight b l.scene.flight x.current) (sym shown.book) shown.flight in
+      let next_view : Parts P C → View = λ z. plants.view z.plant in let flight_now : IsFlight left_next.book left_next.flight y.current = subst (λ (b : Book). IsFlight b left_next.flight y.current) book
+      (flight_next x.base l.scene.queue x.batches y.batches x.placed y.placed x.book y.book x.current y.current (next_view x).now left.at
+      was.stands now.stands was.settled ((next_view y).now, now.settled) l.scene.flight flown shown.queue
+      (fate_found (admitted_at l) l.given.sight) left.own (left_at l).batches
+      (history_own l.step.by (next_view x).now (next_view y).now (left_at l).batches left.own left.batches) left.journal) in
+      let queue_now : queue_of y ≡ left_next.queue = ap (λ (Q : Queue). run Q (kept_all y.batches)) base
+      ∙ queue_then x.base l.scene.queue x.batches y.batches x.placed y.placed x.book y.book x.current y.current (next_view x).now left.at
+      was.stands now.stands was.settled ((next_view y).now, now.settled) l.scene.flight flown shown.queue
+      (fate_found (admitted_at l) l.given.sight) left.own (left_at l).batches
+      (history_own l.step.by (next_view x).now (next_view y).now (left_at l).batches left.own left.batches) left.journal in
+      subst (λ (S : Scene). IsShown plants copies told S y) (sym (next_left l member))
+      (record { queue = queue_now; book = book; flight = flight_now; counts = count_now })
+
+-- A MEMBER THAT WAS STOPPED in its line is stopped in the book, and no count is said of it
+
+module _ {P C : Type 0} (plants : PlantGhosts P) (copies : CopyGhosts C) (told : Type 0) (l : LineAt) (x y : Parts P C)
+    (left : HasLeft plants copies told l x y (Err no_node.Halted)) (inside : IsMember l.scene.book l.step.by) where
+  stopped_count : told → is_stopped (left_at l).book l.step.by ≡ false → counts_of y.printed l.step.by ≡ (left_at l).count
+  stopped_count t up = next_cut l.given.sight.cut refl left.cut where
+    apart : true ≡ false → ⊥
+    apart e = absurd (cc)
+
+    next_cut : (c : Option Cut) → l.given.sight.cut ≡ c → IsCutBy {T = Unit {0}} (Err no_node.Halted) (pieces_at l) c → counts_of y.printed l.step.by ≡ (left_at l).count
+    next_cut None is so = absurd so
+    next_cut (Some cut) is so =
+        let play = play_with l.scene l.step.by (admitted_at l) l.given in
+        let seated = inside_since l.scene.book play.book l.step.by (admitted_since l.step.by (admitted_at l) l.scene.book inside) inside in
+        absurd (apart (sym (play_stops l.step.by play (l.scene.counts l.step.by) seated l.given.sight.cut cut is so.cause) ∙ up))
+
+-- the book from before a line of a member on
+left_since : (l : LineAt) → IsMember l.scene.book l.step.by → Since l.scene.book (left_at l).book
+left_since l inside = line_since l.step.by l.scene.book (admitted_at l) (play_with l.scene l.step.by (admitted_at l) l.given) (l.scene.counts l.step.by) l.given.sight.cut refl inside
+
+-- THE LINE, cut there because the run ended
+
+abbrev ended_cut : Cut → Cut
+ended_cut cut = record cut { cause = Ends }
+
+abbrev ended_given : Cut → Given → Given
+ended_given cut g = record g { sight = record g.sight { cut = Some (ended_cut cut) } }
+
+abbrev ended_line : Cut → LineAt → LineAt
+ended_line cut l = record l { given = ended_given cut l.given }
+
+-- ITS PIECES are the same: where a line was cut tells nothing of what it found
+
+fate_same : (a : Admission) (s : Sight) (c : Option Cut) → fate_found a (record s { cut = c }) ≡ fate_found a s
+fate_same (TakesOver of) s c = refl
+fate_same _ s c = refl
+
+pieces_same : (n : ℕ) (s : Sight) (c : Option Cut) (count : ℕ) (Q : Queue) (h : Holder) (st : State)
+    → pieces_from n (record s { cut = c }) count Q h st ≡ pieces_from n s count Q h st
+pieces_same zero s c count Q h st = refl
+pieces_same (suc more) s c count Q h st =
+    let p = piece_at s count Q h st in
+    let es = all_entries p.sitting.batches in
+    ap (λ (ps : List Piece). p ∷ unless_told p.sitting.next ps)
+    (pieces_same more s c (count_then h.by es count + length p.printed) (run Q es) (holder_then Q h es) p.sitting.next)
+
+right_same : (S : Scene) (by : MemberId) (at : ℕ) (cut : Cut) (g : Given) (a : Admission) → ArePiecesOf S by at a g → ArePiecesOf S by at a (ended_given cut g)
+right_same S by at cut g (Plays task) is = is ∙ sym (pieces_same _ g.sight (Some (ended_cut cut)) (S.counts by) S.queue _ _)
+right_same S by at cut g _ is = is
+
+ask_same : (S : Scene) (by : MemberId) (at : ℕ) (cut : Cut) (g : Given) (what : Ask) → IsAskRight S by at g what → IsAskRight S by at (ended_given cut g) what
+ask_same S by at cut g ask.Stop is = tt
+ask_same S by at cut g (ask.StopIn fuse n) is = tt
+ask_same S by at cut g (ask.Lose dev) is = tt
+ask_same S by at cut g another is = right_same S by at cut g (admitted S.queue.config S.book by another) is
+
+shaped_same : (cut : Cut) (l : LineAt) (old new : View) (a : Admission) → IsShapedAs l old new a → IsShapedAs (ended_line cut l) old new a
+shaped_same cut l old new (Plays task) is = is
+shaped_same cut l old new (Resets of) is = is
+shaped_same cut l old new (TakesOver of) is = is
+shaped_same cut l old new a is = right_same l.scene l.step.by l.number cut l.given a is
+
+-- WHAT IT LEAVES is the same but for the book, of which nothing is said once the run ended
+
+-- a play by what was found of a batch in flight
+abbrev play_by : Scene → MemberId → Admission → List Piece → Fate → Play
+play_by S by a ps f = record {
+  sayer = sayer_of by a;
+  pieces = pieces_found (is_locked a) (flight_found f S.flight) ps;
+  book = tried S.book by a;
+  locked = is_locked a;
+  queue = queue_found f S.flight S.queue;
+  flight = flight_found f S.flight;
+}
+
+module _ (cut : Cut) (l : LineAt) (is : l.given.sight.cut ≡ Some cut) where
+  abbrev m : LineAt
+  m = ended_line cut l
+
+  fates : fate_found (admitted_at l) m.given.sight ≡ fate_found (admitted_at l) l.given.sight
+  fates = fate_same (admitted_at l) l.given.sight (Some (ended_cut cut))
+
+  plays : play_with l.scene l.step.by (admitted_at l) m.given ≡ play_with l.scene l.step.by (admitted_at l) l.given
+  plays = ap (play_by l.scene l.step.by (admitted_at l) l.given.pieces) fates
+
+  -- by its cut, and by what was found
+  abbrev left_so : Option Cut → Play → Left
+  left_so c play = left_by l.step.by c play (l.scene.counts l.step.by)
+
+  abbrev AreSame : Left → Left → Type 0
+  AreSame a b = (a.batches ≡ b.batches) × (a.lines ≡ b.lines) × (a.printed ≡ b.printed) × (a.given ≡ b.given)
+
+  same_left : AreSame (left_at m) (left_at l)
+  same_left =
+      subst (λ (p : Play). AreSame (left_so (Some (ended_cut cut)) p) (left_at l)) (sym plays)
+      (subst (λ (c : Option Cut). AreSame (left_so (Some (ended_cut cut)) (play_with l.scene l.step.by (admitted_at l) l.given)) (left_so c (play_with l.scene l.step.by (admitted_at l) l.given))) (sym is) (refl, refl, refl, refl))
+
+  -- of the sitting that was cut this is said as it was
+  at_cut : (P : Halt → Sitting → Type 0) → AtCut P l.given.sight.cut (pieces_at l) → AtCut P (Some (ended_cut cut)) (pieces_at m)
+  at_cut P here =
+      subst (λ (p : Play). OfFirst (P cut.halt) (drop cut.sittings p.pieces)) (sym plays)
+      (subst (λ (c : Option Cut). AtCut P c (pieces_at l)) is here)
+
+  idle_cut : (works : Bool) (P : Halt → Sitting → Type 0) → IfIdle works (AtCut P l.given.sight.cut (pieces_at l)) → IfIdle works (AtCut P (Some (ended_cut cut)) (pieces_at m))
+  idle_cut true P here = tt
+  idle_cut false P here = at_cut P here
+
+  -- and of what it found
+  module _ (member : is_of_member l.step.what ≡ true) (old new : View) where
+    honest_same : IsHonestAs l (admitted_at l) l.given.sight.cut old new → IsHonest m old new
+    honest_same honest = let found_so : Option Cut → Fate → Type 0 = λ c f. let ps = pieces_found (is_locked (admitted_at l)) (flight_found f l.scene.flight) l.given.pieces in
+        AreFoundIn l.scene.queue.config.groups l.step.by old new l.given.sight.finds
+        (waits_in (take (whole_pieces c ps) ps) (queue_found f l.scene.flight l.scene.queue)) in
+        subst (λ (c : Option Cut). found_so c (fate_found (admitted_at l) m.given.sight)) (sym (member_cut l.step.what (Some (ended_cut cut)) member))
+        (subst (found_so (Some cut)) (sym fates)
+        (subst (λ (c : Option Cut). found_so c (fate_found (admitted_at l) l.given.sight)) is honest))
+
+    stay_same : StaysAs l (admitted_at l) l.given.sight.cut old new → StaysAs m (admitted_at m) (cut_of m) old new
+    stay_same stay = let stay_so : Option Cut → Fate → Type 0 = λ c f. let ps = pieces_found (is_locked (admitted_at l)) (flight_found f l.scene.flight) l.given.pieces in
+        VolumesStay (named_in l.given.sight.finds (waits_in (take (whole_pieces c ps) ps) (queue_found f l.scene.flight l.scene.queue))) old new in
+        subst (λ (c : Option Cut). stay_so c (fate_found (admitted_at l) m.given.sight)) (sym (member_cut l.step.what (Some (ended_cut cut)) member))
+        (subst (stay_so (Some cut)) (sym fates)
+        (subst (λ (c : Option Cut). stay_so c (fate_found (admitted_at l) l.given.sight)) is stay))
+
+  -- and of the bytes that it gave and took
+  module _ (since : ℕ) (old new : View) where
+    carries_so : (a : Admission) (given : List ℕ) → Carries since l a given old new → Carries since m a given old new
+    carries_so (Plays (Node line)) given c = let heard_so : Option Cut → Admission → Type 0 = λ c a. let ps = pieces_as l a in
+        HeardFirst since l.step.by old new l.given.sight.finds (waits_in (take (whole_pieces c ps) ps) (queue_met l.scene a l.given.sight)) in
+        record {
+          gives = c.gives;
+          hears = subst (λ (k : Option Cut). heard_so k (Plays (Node line))) is c.hears;
+        }
+    carries_so _ given c = c
+
+    carries_same : Carries since l (admitted_at l) (left_at l).given old new → Carries since m (admitted_at l) (left_at m).given old new
+    carries_same c = subst (λ (bytes : List ℕ). Carries since m (admitted_at l) bytes old new) (sym same_left.3) (carries_so (admitted_at l) (left_at l).given c)
+
+-- THE LINE as the run ended in it
+
+unsaid_why : (e : NodeNo) (old new : View) → old.halt ≡ old.now → ActsOnce {T = Unit {0}} (Err e) old new → IsUnsaid e new
+unsaid_why no_node.ConsoleFault old new halt acted = act_after old new halt acted
+unsaid_why no_node.NoMemory old new halt acted = subst (λ (plant_of : View). plant_of.now ≡ plant_of.halt) (sym acted) (sym halt)
+unsaid_why _ old new halt acted = absurd acted
+
+console_failed : {P C : Type 0} (plants : PlantGhosts P) (copies : CopyGhosts C) (x y : Parts P C) (e : NodeNo) → StopCauses plants copies x y (Err e)
+    → e ≡ no_node.ConsoleFault → Rose ((plants.view x.plant).faults Console) ((plants.view y.plant).faults Console)
+console_failed plants copies x y no_node.ConsoleFault cause is = cause
+console_failed plants copies x y no_node.NoMemory cause is = absurd (cc)
+console_failed plants copies x y _ cause is = absurd cause
+
+-- a line of some given ones, which found the same of a batch in flight
+abbrev PassedSo : Type 0 → (List ℕ → Option (List ℕ)) → LineAt → List Batch → View → View → NodeNo → Type 0
+PassedSo told reads l own old new e = (g : Given) × (fate_found (admitted_at l) g.sight ≡ fate_found (admitted_at l) l.given.sight)
+    × IsPassed told reads (record l { given = g }) own old new (Err e)
+    × ((rs is : Renewals) (then_is : View) → RenewsAs (admitted_at l) l.given.sight.cut l.given.sight.renewed rs is old then_is → RenewsAs (admitted_at l) g.sight.cut g.sight.renewed rs is old then_is)
+    × ((since : ℕ) (then_is : View) → Carries since l (admitted_at l) (left_at l).given old then_is → Carries since (record l { given = g }) (admitted_at l) (left_at (record l { given = g })).given old then_is)
+
+module _ {P C : Type 0} (plants : PlantGhosts P) (copies : CopyGhosts C) (told : Type 0) (tells : told → plants.tells) (l : LineAt) (x y z : Parts P C) (e : NodeNo)
+    (member : is_of_member l.step.what ≡ true) (left : HasLeft plants copies told l x y (Err no_node.Halted))
+    (said : HasSaidStop plants copies l.step.by l.number y z (Err e)) where
+  abbrev plant_of : Parts P C → View
+  plant_of w = plants.view w.plant
+
+  module _ (cut : Cut) (is : l.given.sight.cut ≡ Some cut) where
+    abbrev n : LineAt
+    n = ended_line cut l
+
+    here : IsCutIn no_node.Halted (pieces_at l) cut
+    here = subst (λ (c : Option Cut). IsCutBy {T = Unit {0}} (Err no_node.Halted) (pieces_at l) c) is left.cut
+
+    -- one answer has one error
+    passed_cut : IsPassed told copies.reads n left.own (plant_of x) (plant_of z) (Err e)
+    passed_cut = let printed_now : (k : ℕ) → printed_at l k ≡ printed_at n k = λ k. ap (λ (ls : List Line). if l.step.by.0 == k then ls else []) (printed_left l member ∙ sym (same_left cut l is).2 ∙ sym (printed_left n member)) in
+        let lines_here : (left_at l).lines ≡ map (λ (s : Said). s.line) (played_at n).outcome.said = sym (same_left cut l is).1 ∙ sym (append-nil (left_at n).lines) ∙ sym (lines_left n member) in
+        let cut_here : Some (ended_cut cut) ≡ cut_of n = sym (member_cut l.step.what (Some (ended_cut cut)) member) in
+        let papers_same : told → (k : ℕ) → paper_now (plant_of z) k ≡ paper_now (plant_of y) k = λ t k. said.acts.papers (tells t) (plant_of z).now said.acts.goes.later (let same : (plant_of z).now ≤ (plant_of z).now = omega arith in same) k in
+        let rose : Rose ((plant_of x).stops l.step.by.0) ((plant_of z).stops l.step.by.0) = subst (λ (n : ℕ). Rose ((plant_of x).stops l.step.by.0) n) (sym (said.stops l.step.by.0)) (left.stopped refl) in
+        let after : Proceeds (plant_of y) (plant_of z) = proceeds_of (plant_of y) (plant_of z) said.acts.goes in
+        let same_error : (d e : NodeNo) (r : Result (Unit {0}) NodeNo) → r ≡ Err d → r ≡ Err e → d ≡ e = λ d e r one two. cc in record {
+          goes = proceeds_on (plant_of x) (plant_of y) (plant_of z) left.goes after;
+          stays = λ d other is. said.acts.goes.lost (Disk d) (left.stays d other is);
+          given = record {
+            shaped = ⊎_elim inl (λ s. inr (if_member l.step.what _ (shaped_same cut l (plant_of x) (plant_of z) (admitted_at l)
+                (shaped_as_later (plant_of x) (plant_of y) (plant_of z) after l (admitted_at l) s)))) left.shaped;
+            right = λ t. ask_same l.scene l.step.by l.number cut l.given l.step.what (right_of l.scene l.step.by l.number l.given l.step.what member (left.right t));
+          };
+          honest = λ t. if_member l.step.what _ (honest_same cut l is member (plant_of x) (plant_of z)
+              (finds_later (plant_of x) (plant_of y) (plant_of z) after l.scene.queue.config.groups l.step.by l.given.sight.finds _ (left.honest t)));
+          stay = λ t. member_stays l.step.what (named_as n (admitted_at n) (cut_of n)) (plant_of x) (plant_of z) member (stay_same cut l is member (plant_of x) (plant_of z)
+              (stays_on (named_as l (admitted_at l) l.given.sight.cut) (plant_of x) (plant_of y) (plant_of z) (left.stay t) (console_stays (plant_of y) (plant_of z) said.acts)));
+          cut = subst (λ (c : Option Cut). CutsAs {T = Unit {0}} (Err e) l.step.by c (plant_of x) (plant_of z)) cut_here
+              (refl, inr (record { why = here.halt; stopped = rose; unsaid = unsaid_why e (plant_of y) (plant_of z) (left.spares.at_halt refl) said.acted }));
+          within = subst (λ (c : Option Cut). IsWithin c (pieces_at n)) cut_here
+              (subst (λ (p : Play). IsThere (ended_cut cut) p.pieces) (sym (plays cut l is)) here.there);
+          why = no_node.Halted;
+          is_why = inr (refl, rose);
+          tight = subst (λ (c : Option Cut). IfIdle (is_work (admitted_at l)) (AtCut (IsTight no_node.Halted) c (pieces_at n))) cut_here
+              (idle_cut cut l is (is_work (admitted_at l)) (IsTight no_node.Halted) left.tight);
+          broke = λ t. subst (λ (c : Option Cut). AtCut (IsBroken no_node.Halted) c (pieces_at n)) cut_here (at_cut cut l is (IsBroken no_node.Halted) (left.broke t));
+          spares = λ k other. said.stops k ∙ left.spares.stops k (inl other);
+          failed = λ so. rose_later ((plant_of x).faults Console) ((plant_of y).faults Console) ((plant_of z).faults Console) (left.goes.faults Console) (console_failed plants copies y z e said.cause (same_error e no_node.ConsoleFault (Err e) refl so));
+          batches = subst (λ (bs : List Batched). AreBatched l.step.by (plant_of x).now (plant_of z).now bs left.own) (sym (batches_left n member ∙ (same_left cut l is).0))
+              (batched_later l.step.by (plant_of x).now (plant_of y).now (plant_of z).now (left_at l).batches left.own said.acts.goes.later left.batches);
+          console = λ t. said.console (tells t) ∙ left.console t ∙ ap (λ (ls : List Line). console_now (plant_of x) ++ ls) lines_here;
+          paper = λ t k. papers_same t k ∙ printed_here plants copies told l x y member left k t ∙ ap (λ (ls : List Line). paper_now (plant_of x) k ++ ls) (printed_now k);
+          dry = λ t none. papers_on (plant_of x) (plant_of y) (plant_of z) left.goes.later after (left.dry t none) (said.acts.papers (tells t));
+          loses = λ t. subst (λ (d : Option Dev). LosesAs copies.reads (took n) d (plant_of x) (plant_of z)) (sym (loses_none n member))
+              (subst (λ (f : Fate). LosesAs copies.reads (taking (is_takeover (admitted_at l)) f) None (plant_of x) (plant_of z)) (sym (fates cut l is))
+              (λ d. loses_on copies.reads (plant_of x) (plant_of y) (plant_of z) said.acts.goes said.acts.loses (took l) d (left.loses t d)));
+          arms = λ k. said.acts.goes.arms k ∙ left.arms k ∙ sym (arms_same plants copies told l x y member left k);
+          volumes = λ t leaves. kept_later (plant_of x) (plant_of y) (plant_of z) left.goes.later after (left.volumes t (leaves_as plants copies told l x y member left l.step.what member leaves))
+              (kept_on (plant_of y) (plant_of z) (said.acts.others (tells t)));
+        }
+
+  passed_unsaid : PassedSo told copies.reads l left.own (plant_of x) (plant_of z) e
+  passed_unsaid = by_cut l.given.sight.cut refl left.cut where
+    by_cut : (c : Option Cut) → l.given.sight.cut ≡ c → IsCutBy {T = Unit {0}} (Err no_node.Halted) (pieces_at l) c → PassedSo told copies.reads l left.own (plant_of x) (plant_of z) e
+    by_cut None is so = absurd so
+    by_cut (Some cut) is so = (
+      ended_given cut l.given,
+      fates cut l is,
+      passed_cut cut is,
+      (λ rs now mid r. renews_ended (admitted_at l) cut l.given.sight.renewed rs now (plant_of x) mid (subst (λ (c : Option Cut). RenewsAs (admitted_at l) c l.given.sight.renewed rs now (plant_of x) mid) is r)),
+      (λ since mid c. carries_same cut l is since (plant_of x) mid c),
+    )
+
+module _ {P C : Type 0} (plants : PlantGhosts P) (copies : CopyGhosts C) (told : Type 0) (tells : told → plants.tells) (S : Scene) (at : ℕ) (step : Step)
+    (member : is_of_member step.what ≡ true) (x y : Parts P C) (base : y.base ≡ x.base) (shown : IsShown plants copies told S x) (was : Stands plants x) where
+  abbrev v : Parts P C → View
+  v w = plants.view w.plant
+
+  abbrev line_of : Given → LineAt
+  line_of g = record { scene = S; number = at; step = step; given = g }
+
+  -- the line, whatever it gave, in the words of a run
+  one_played : (z : Parts P C) (g : Given) (own : List Batch) (when : ℕ) (r : Result (Unit {0}) NodeNo) → IsPassed told copies.reads (line_of g) own (v x) (v z) r → ((v x).now ≤ when) × (when ≤ (v z).now)
+      → journal_of z ≡ settle (fate_found (admitted_at (line_of g)) g.sight) when (journal_of x) ++ own
+      → RenewsAs (admitted_at (line_of g)) g.sight.cut g.sight.renewed x.renewals z.renewals (v x) (v z)
+      → (told → Carries x.since (line_of g) (admitted_at (line_of g)) (left_at (line_of g)).given (v x) (v z))
+      → OnOk r (IsShown plants copies told (played_at (line_of g)).next z) → HasPlayedLine plants copies told S at step x z r
+  one_played z g own when r passed moment journal renews wires shows =
+      let l : LineAt = line_of g in
+      record {
+        given = g;
+        next = record {
+          own = own;
+          passed = passed;
+          at = when;
+          moment = moment;
+          batches = journal ∙ ap (λ (f : Fate). settle f when (journal_of x) ++ own) (sym (found_left l member));
+          renews = renews;
+          wires = λ t. carries_as x.since l (admitted_at l) (left_at l).given (played_at l).outcome.given (v x) (v z) (sym (given_left l member)) (wires t);
+        };
+        shows = shows;
+      }
+
+  -- it wasn't cut
+  asked_done : Stands plants y → (left : LeftAt plants copies told S at step x y (Ok tt)) → Since S.book (left_at (line_of left.given)).book
+      → HasPlayedLine plants copies told S at step x y (Ok tt)
+  asked_done now at_left since =
+      let l : LineAt = line_of at_left.given in
+      let left = at_left.left in
+      one_played y at_left.given left.own left.at (Ok tt) (passed_uncut plants copies told l x y member left) left.moment left.journal at_left.renews left.wires
+      (shown_next plants copies told l x y member left base was now shown left.book since (λ t up. left.count t (since.up step.by up)))
+
+  -- the run ended in it, nobody having been stopped
+  asked_error : (e : NodeNo) → e ≢ no_node.Halted → LeftAt plants copies told S at step x y (Err e) → HasPlayedLine plants copies told S at step x y (Err e)
+  asked_error e other at_left =
+      let left = at_left.left in
+      one_played y at_left.given left.own left.at (Err e) (passed_error plants copies told (line_of at_left.given) x y e other member left) left.moment left.journal at_left.renews left.wires tt
+
+  -- ITS MEMBER WAS STOPPED in it
+
+  module _ (z : Parts P C) (frame : z ≡ record y { plant = z.plant }) (at_left : LeftAt plants copies told S at step x y (Err no_node.Halted)) where
+    -- the copies that it replaced
+    abbrev a : Admission
+    a = admitted S.queue.config S.book step.by step.what
+
+    renews_said : (cut : Option Cut) (found : Renewed) → (v y).now ≤ (v z).now → RenewsAs a cut found x.renewals y.renewals (v x) (v y) → RenewsAs a cut found x.renewals z.renewals (v x) (v z)
+    renews_said cut found later r =
+        subst (λ (rs : Renewals). RenewsAs a cut found x.renewals rs (v x) (v z)) (sym (ap (λ (w : Parts P C). w.renewals) frame))
+        (renews_later a cut found x.renewals y.renewals (v x) (v y) (v z) later r)
+
+    wires_said : (l : LineAt) → SameWires (v y) (v z) → Carries x.since l (admitted_at l) (left_at l).given (v x) (v y) → Carries x.since l (admitted_at l) (left_at l).given (v x) (v z)
+    wires_said l same c = carries_later x.since l (admitted_at l) (left_at l).given (v x) (v y) (v z) same c
+
+    moment_said : (v y).now ≤ (v z).now → ((v x).now ≤ at_left.left.at) × (at_left.left.at ≤ (v z).now)
+    moment_said later = (at_left.left.moment.0, let before = at_left.left.moment.1 in omega (arith, later, before))
+
+    shown_said : (T : Scene) → IsShown plants copies told T y → IsShown plants copies told T z
+    shown_said T is = record {
+      queue = ap queue_of frame ∙ is.queue;
+      book = ap (λ (w : Parts P C). w.book) frame ∙ is.book;
+      flight = subst (λ (c : Option Batch). IsFlight T.book T.flight c) (sym (ap (λ (w : Parts P C). w.current) frame)) is.flight;
+      counts = λ t m up. ap (λ (w : Parts P C). counts_of w.printed m) frame ∙ is.counts t m up;
+    }
+
+    asked_stopped : Stands plants y → IsMember S.book step.by → HasSaidStop plants copies step.by at y z (Ok tt) → HasPlayedLine plants copies told S at step x z (Ok tt)
+    asked_stopped now inside said =
+        let g = at_left.given in
+        let left = at_left.left in
+        one_played z g left.own left.at (Ok tt) (passed_stopped plants copies told tells (line_of g) x y z member left said) (moment_said said.acts.goes.later)
+        (ap journal_of frame ∙ left.journal) (renews_said g.sight.cut g.sight.renewed said.acts.goes.later at_left.renews) (λ t. wires_said (line_of g) (said.acts.wires (tells t)) (left.wires t))
+        (shown_said (played_at (line_of g)).next
+        (shown_next plants copies told (line_of g) x y member left base was now shown left.book (left_since (line_of g) inside) (stopped_count plants copies told (line_of g) x y left inside)))
+
+    asked_unsaid : (e : NodeNo) → HasSaidStop plants copies step.by at y z (Err e) → HasPlayedLine plants copies told S at step x z (Err e)
+    asked_unsaid e said =
+        let left = at_left.left in
+        let so : PassedSo told copies.reads (line_of at_left.given) left.own (v x) (v z) e = passed_unsaid plants copies told tells (line_of at_left.given) x y z e member left said in
+        one_played z so.0 left.own left.at (Err e) so.2 (moment_said said.acts.goes.later)
+        (ap journal_of frame ∙ left.journal ∙ ap (λ (f : Fate). settle f left.at (journal_of x) ++ left.own) (sym so.1))
+        (renews_said so.0.sight.cut so.0.sight.renewed said.acts.goes.later (so.3 x.renewals y.renewals (v y) at_left.renews))
+        (λ t. wires_said (line_of so.0) (said.acts.wires (tells t)) (so.4 x.since (v y) (left.wires t))) tt
+
+-- WHO IS NO MEMBER is refused, and the book stays as it was
+
+done_since : (l : LineAt) → length l.scene.book.members ≡ l.scene.queue.config.members → l.given.sight.cut ≡ None → Since l.scene.book (left_at l).book
+done_since l seats uncut = by_member (is_member l.scene.queue.config l.step.by) refl where
+  by_member : (m : Bool) → is_member l.scene.queue.config l.step.by ≡ m → Since l.scene.book (left_at l).book
+  by_member false none = let none_book : (l : LineAt) → is_member l.scene.queue.config l.step.by ≡ false → l.given.sight.cut ≡ None → (left_at l).book ≡ l.scene.book = λ l none uncut. let refused_none : (config : Config) (b : Book) (by : MemberId) (what : Ask) → is_member config by ≡ false → admitted config b by what ≡ Refused nobody no_member = λ config b by what none. ap (λ (m : Bool). if not m then Refused nobody no_member else if is_stopped b by then Refused nobody closing.Down else asked config b by what) none in
+      let S = l.scene in
+      let by = l.step.by in
+      ap (λ (c : Option Cut). (left_by by c (play_with S by (admitted_at l) l.given) (S.counts by)).book) uncut
+      ∙ ap (λ (a : Admission). (left_by by None (play_with S by a l.given) (S.counts by)).book) (refused_none S.queue.config S.book by l.step.what none)
+      ∙ unlocked_book by (none_left by S.book (S.counts by)) (play_with S by (Refused nobody no_member) l.given).pieces in
+      subst (λ (b : Book). Since l.scene.book b) (sym (none_book l none uncut)) (none_since l.scene.book)
+  by_member true some = left_since l (seated l.scene.queue.config l.scene.book l.step.by seats some)
+
+-- BETWEEN TWO LINES
+
+module _ {P C : Type 0} (plants : PlantGhosts P) (copies : CopyGhosts C) where
+  stands_between : (x : Parts P C) {ms : List Member} {at : ℕ} → IsBetween plants copies x ms at → Stands plants x
+  stands_between x is = record { stands = is.stands; settled = is.settled }
+
+  -- the book has a place for each member of the configuration
+  seats_shown : (told : Type 0) (S : Scene) (x : Parts P C) {ms : List Member} {at : ℕ} → IsBetween plants copies x ms at → IsShown plants copies told S x
+      → length S.book.members ≡ S.queue.config.members
+  seats_shown told S x is shown =
+      ap (λ (b : Book). length b.members) (sym shown.book) ∙ is.booked
+      ∙ sym (ap (λ (c : Config). c.members) (runs_keep_configuration x.base (kept_all x.batches)).config)
+      ∙ ap (λ (Q : Queue). Q.config.members) shown.queue
+
+  -- THE ANSWER
+
+  module _ (told : Type 0) (tells : told → plants.tells) (S : Scene) (at : ℕ) (step : Step) (member : is_of_member step.what ≡ true) (x y : Parts P C)
+      (base : y.base ≡ x.base) (shown : IsShown plants copies told S x) (was : Stands plants x) where
+    abbrev Played : Parts P C → Result (Unit {0}) NodeNo → Type 0
+    Played z r = HasPlayedLine plants copies told S at step x z r
+
+    -- it wasn't halted
+    asked_as : (r : Result (Unit {0}) NodeNo) → (r ≡ Err no_node.Halted → ⊥) → length S.book.members ≡ S.queue.config.members → OnOk r (Stands plants y)
+        → LeftAt plants copies told S at step x y r → Played y r
+    asked_as (Ok done) other seats now left =
+        asked_done plants copies told tells S at step member x y base shown was now left
+        (done_since (record { scene = S; number = at; step = step; given = left.given }) seats left.left.cut)
+    asked_as (Err e) other seats now left =
+        asked_error plants copies told tells S at step member x y base shown was e (λ is. other (ap (λ (k : NodeNo). Err k) is)) left
+
+    -- it was halted, and the operator said so, or couldn't
+    asked_halted : (z : Parts P C) (r : Result (Unit {0}) NodeNo) → Stands plants y → IsMember S.book step.by → LeftAt plants copies told S at step x y (Err no_node.Halted)
+        → HasSaidStop plants copies step.by at y z r → Played z r
+    asked_halted z (Ok done) now inside left said =
+        asked_stopped plants copies told tells S at step member x y base shown was z said.frame left now inside said
+    asked_halted z (Err e) now inside left said =
+        asked_unsaid plants copies told tells S at step member x y base shown was z said.frame left e said
 
 module _ {P C : Type 0} {plants : PlantGhosts P} {steadies : SteadyGhosts C} {copies : CopyGhosts C} (x y : Complex P C plants steadies copies) (ms ns : List Member)
-    (at : ℕ) (by : MemberId) (what : Ask) (member : is_of_member what ≡ true) (is : BetweenLines x ms at) (base : y.base ≡ x.base) where
+    (at : ℕ) (by : MemberId) (what : Ask) (member : is_of_member what ≡ true) (is : BetweenLines x ms at) where
   abbrev p : Parts P C
   p = parts_of x
 
-  abbrev q : Parts P C
-  q = parts_of y
-
   -- IT WASN'T HALTED
 
-  pub done_bare : BetweenLines y ns (at + 1) → LineIsLeft ⊥ at (line_by by what) x y went → PlayedLine ⊥ at (line_by by what) x y went
-  done_bare next left S shown =
-      asked_as plants copies ⊥ (λ t. absurd t) S at (line_by by what) member p q base shown (stands_between plants copies p is) went ok_apart (seats_shown plants copies ⊥ S p is shown)
-      (stands_between plants copies q next) (left S shown)
-
-  pub done_told : plants.tells → BetweenLines y ns (at + 1) → LineIsLeft (Unit {0}) at (line_by by what) x y went → PlayedLine (Unit {0}) at (line_by by what) x y went
-  done_told tells next left S shown =
-      asked_as plants copies (Unit {0}) (λ t. tells) S at (line_by by what) member p q base shown (stands_between plants copies p is) went ok_apart (seats_shown plants copies (Unit {0}) S p is shown)
-      (stands_between plants copies q next) (left S shown)
-
-  module _ (e : NodeNo) (other : e ≢ no_node.Halted) where
-    pub failed_bare : LineIsLeft ⊥ at (line_by by what) x y (failed e) → PlayedLine ⊥ at (line_by by what) x y (failed e)
-    failed_bare left S shown =
-        asked_as plants copies ⊥ (λ t. absurd t) S at (line_by by what) member p q base shown (stands_between plants copies p is) (failed e) (λ halted. other (same_error e no_node.Halted halted))
-        (seats_shown plants copies ⊥ S p is shown) tt (left S shown)
-
-    pub failed_told : plants.tells → LineIsLeft (Unit {0}) at (line_by by what) x y (failed e) → PlayedLine (Unit {0}) at (line_by by what) x y (failed e)
-    failed_told tells left S shown =
-        asked_as plants copies (Unit {0}) (λ t. tells) S at (line_by by what) member p q base shown (stands_between plants copies p is) (failed e) (λ halted. other (same_error e no_node.Halted halted))
-        (seats_shown plants copies (Unit {0}) S p is shown) tt (left S shown)
+  pub played_line : (r : Result (Unit {0}) NodeNo) → (r ≡ failed no_node.Halted → ⊥) → LineDone x y ns at by what r → LineIsPlayed x y ns at (line_by by what) r
+  played_line r other done = record {
+    base = done.base;
+    since = done.since;
+    bare = λ S shown. played_as ⊥ (λ t. absurd t) S shown (done.bare S shown);
+    told = λ tells S shown. played_as (Unit {0}) (λ t. tells) S shown (done.told tells S shown);
+    kept = done.copies_kept;
+    next = done.next;
+  } where
+    played_as : (told : Type 0) (tells : told → plants.tells) (S : Scene) → IsShown plants copies told S p → LeftAt plants copies told S at (line_by by what) p (parts_of y) r → HasPlayedLine plants copies told S at (line_by by what) p (parts_of y) r
+    played_as told tells S shown left =
+        asked_as plants copies told tells S at (line_by by what) member p (parts_of y) done.base shown (stands_between plants copies p is) r other (seats_shown plants copies told S p is shown)
+        (on_ok r (BetweenLines y ns (at + 1)) (Stands plants (parts_of y)) (λ next. stands_between plants copies (parts_of y) next) done.next) left
 
   -- IT WAS HALTED: what is reserved is given up, and the operator says that it was stopped
 
-  module _ (mid z : Complex P C plants steadies copies) (frame : parts_of mid ≡ unreserved_in q) (halted : LeftBetween y ns (at + 1)) (seated : IsMember x.book by)
+  module _ (done : LineDone x y ns at by what (failed no_node.Halted)) (mid z : Complex P C plants steadies copies) (frame : parts_of mid ≡ unreserved_in (parts_of y))
       (r : Result (Unit {0}) NodeNo) (frame_z : parts_of z ≡ record (parts_of mid) { plant = z.plant }) (says : SaysStopped by at mid z r) where
-    between : IsBetween plants copies (parts_of mid) ns (at + 1)
-    between = subst (λ (w : Parts P C). IsBetween plants copies w ns (at + 1)) (sym frame) halted
+    between_mid : IsBetween plants copies (parts_of mid) ns (at + 1)
+    between_mid = subst (λ (w : Parts P C). IsBetween plants copies w ns (at + 1)) (sym frame) (done.halted refl)
 
     base_mid : mid.base ≡ x.base
-    base_mid = ap (λ (w : Parts P C). w.base) frame ∙ base
+    base_mid = ap (λ (w : Parts P C). w.base) frame ∙ done.base
 
-    stopped_as : (told : Type 0) (tells : told → plants.tells) (S : Scene) → IsShown plants copies told S p → LeftAt plants copies told S at (line_by by what) p q (failed no_node.Halted)
+    stopped_as : (told : Type 0) (tells : told → plants.tells) (S : Scene) → IsShown plants copies told S p → LeftAt plants copies told S at (line_by by what) p (parts_of y) (failed no_node.Halted)
         → HasPlayedLine plants copies told S at (line_by by what) p (parts_of z) r
     stopped_as told tells S shown left =
         asked_halted plants copies told tells S at (line_by by what) member p (parts_of mid) base_mid shown (stands_between plants copies p is) (parts_of z) r
-        (stands_between plants copies (parts_of mid) between) (subst (λ (b : Book). IsMember b by) shown.book seated)
+        (stands_between plants copies (parts_of mid) between_mid) (subst (λ (b : Book). IsMember b by) shown.book (done.seated refl))
         (subst (λ (w : Parts P C). LeftAt plants copies told S at (line_by by what) p w (failed no_node.Halted)) (sym frame)
-        (left_unreserved plants copies p q told S at (line_by by what) (failed no_node.Halted) left))
+        (subst (λ (bs : List Batch). LeavesAt copies.reads told S at (line_by by what) (seen_of plants copies p) (record (seen_of plants copies (parts_of y)) { journal = bs }) (parts_of y).book (failed no_node.Halted)) (sym (journal_unreserved (parts_of y))) left))
         (stop_said by at mid z r frame_z says)
 
-    pub stopped_bare : LineIsLeft ⊥ at (line_by by what) x y (failed no_node.Halted) → PlayedLine ⊥ at (line_by by what) x z r
-    stopped_bare left S shown = stopped_as ⊥ (λ t. absurd t) S shown (left S shown)
-
-    pub stopped_told : plants.tells → LineIsLeft (Unit {0}) at (line_by by what) x y (failed no_node.Halted) → PlayedLine (Unit {0}) at (line_by by what) x z r
-    stopped_told tells left S shown = stopped_as (Unit {0}) (λ t. tells) S shown (left S shown)
-
-    pub stopped_copies : CopiesKept x y (failed no_node.Halted) → CopiesKept x z r
-    stopped_copies keep =
+    stopped_copies : CopiesKept x z r
+    stopped_copies =
         leaves_then plants p (parts_of mid) (parts_of z) r
-        (subst (λ (w : Parts P C). LeavesCopies plants p w went) (sym frame) (record { devices = copies_unreserved plants copies p q (copies_halted plants p q keep.devices); whole1 = keep.whole1; whole2 = keep.whole2 }))
+        (subst (λ (w : Parts P C). LeavesCopies plants {T = Unit {0}} p w (Ok tt)) (sym frame) done.copies_kept)
         (leaves_same plants (parts_of mid) (parts_of z) r
         (said_copies plants (parts_of mid) (parts_of z) r says.acts (ap (λ (w : Parts P C). w.first_alive) frame_z) (ap (λ (w : Parts P C). w.second_alive) frame_z)
         (not_lost r 0 (plants.view mid.plant) (plants.view z.plant) says.cause))
         (ap (λ (w : Parts P C). w.renewals) frame_z) (λ is. sym (ap (λ (w : Parts P C). w.first_alive) frame_z) ∙ is) (λ is. sym (ap (λ (w : Parts P C). w.second_alive) frame_z) ∙ is))
 
-    pub stopped_after : at ≤ steps_most → OnOk r (BetweenLines z ns (at + 1))
-    stopped_after few = if_ok r (BetweenLines z ns (at + 1)) (stopped_next by at mid z r frame_z says ns few between)
+    pub stopped_line : at ≤ steps_most → LineIsPlayed x z ns at (line_by by what) r
+    stopped_line few = record {
+      base = ap (λ (w : Parts P C). w.base) frame_z ∙ base_mid;
+      since = ap (λ (w : Parts P C). w.since) frame_z ∙ ap (λ (w : Parts P C). w.since) frame ∙ done.since;
+      bare = λ S shown. stopped_as ⊥ (λ t. absurd t) S shown (done.bare S shown);
+      told = λ tells S shown. stopped_as (Unit {0}) (λ t. tells) S shown (done.told tells S shown);
+      kept = stopped_copies;
+      next = if_ok r _ (λ e. stopped_next by at mid z r frame_z says ns few between_mid);
+    }
+
+-- The readers of a run's members after a line of a script, from what it left.
+
+abbrev IsOnLine : Task → Type 0
+IsOnLine task = (line : ℕ) → task ≡ Node line → IsLine line
+
+pub on_line : (Q : Queue) (by : MemberId) (task : Task) → MayBeAsked Q by task → IsOnLine task
+on_line Q by (Node l) asked line same = let line_same : (l line : ℕ) → Node l ≡ Node line → l ≡ line = λ l line e. cc in subst IsLine (line_same l line same) asked
+on_line Q by (Give c) asked line same = absurd (cc)
+on_line Q by _ asked line same = absurd (cc)
+
+-- the place is one of a reader
+pub place_inside : (task : Task) (at members : ℕ) → IsOnLine task → at < members → task_place at task < wires_most * members
+place_inside (Node line) at members on less = let inside = on line refl in omega (arith, less, inside.0, inside.1)
+place_inside _ at members on less = omega (arith, less)
+
+abbrev went : Result (Unit {0}) NodeNo
+went = Ok tt
+
+if_runs : (k : Result (Unit {0}) NodeNo) (A B : Type 0) → (A → B) → IfRuns k A → IfRuns k B
+if_runs (Ok done) A B f a = f a
+if_runs (Err no_node.Halted) A B f a = f a
+if_runs _ A B f a = tt
+
+-- where the run goes on this is built of what is known then, if it is told
+runs_then : (k : Result (Unit {0}) NodeNo) (T A B : Type 0) → (T → IfRuns k A) → ((T → A) → B) → IfRuns k B
+runs_then (Ok done) T A B known build = build known
+runs_then (Err no_node.Halted) T A B known build = build known
+runs_then _ T A B known build = tt
+
+module _ {P C : Type 0} {plants : PlantGhosts P} {steadies : SteadyGhosts C} {copies : CopyGhosts C} (x y : Complex P C plants steadies copies) (ms : List Member) (at : ℕ) (by : MemberId) (what : Ask)
+    (is : BetweenLines x ms at) (base : y.base ≡ x.base) (since : y.since ≡ x.since) (r : Result (Unit {0}) NodeNo) (told : plants.tells → LineIsLeft (Unit {0}) at (line_by by what) x y r)
+    (inside : r ≡ failed no_node.Halted → IsMember x.book by) (rs : List (Option (List ℕ))) (read : AreReaders plants (parts_of x) rs) where
+  abbrev q : Parts P C
+  q = parts_of y
+
+  abbrev S : Scene
+  S = scene_at (parts_of x)
+
+  shown : IsShown plants copies (Unit {0}) S (parts_of x)
+  shown = shown_at plants copies (Unit {0}) (parts_of x) is.stands
+
+  abbrev At : Result (Unit {0}) NodeNo → Type 0
+  At k = LeftAt plants copies (Unit {0}) S at (line_by by what) (parts_of x) q k
+
+  left : plants.tells → At r
+  left t = told t S shown
+
+  abbrev line : Given → LineAt
+  line g = record { scene = S; number = at; step = line_by by what; given = g }
+
+  past : plants.tells → (plants.view q.plant).world x.since ≡ (plants.view (parts_of x).plant).world x.since
+  past t = (left t).left.goes.past x.since is.begun
+
+  -- who is up then was up before
+  since_by : (k : Result (Unit {0}) NodeNo) → At k → (k ≡ failed no_node.Halted → IsMember x.book by) → IfRuns k (Since x.book y.book)
+  since_by (Ok done) a halted = subst (λ (b : Book). Since x.book b) (sym a.left.book) (done_since (line a.given) (seats_shown plants copies (Unit {0}) S (parts_of x) is shown) a.left.cut)
+  since_by (Err no_node.Halted) a halted = subst (λ (b : Book). Since x.book b) (sym a.left.book) (left_since (line a.given) (halted refl))
+  since_by _ a halted = tt
+
+  -- a member that was stopped is stopped in the book
+  stops_by : At (failed no_node.Halted) → IsMember x.book by → is_stopped y.book by ≡ true
+  stops_by a seat = subst (λ (b : Book). is_stopped b by ≡ true) (sym a.left.book) (by_cut a.given.sight.cut refl a.left.cut) where
+    by_cut : (c : Option Cut) → a.given.sight.cut ≡ c → IsCutBy {T = Unit {0}} (Err no_node.Halted) (pieces_at (line a.given)) c → is_stopped (left_at (line a.given)).book by ≡ true
+    by_cut None cut so = absurd so
+    by_cut (Some c) cut so =
+        let play = play_with S by (admitted_at (line a.given)) a.given in
+        play_stops by play (S.counts by) (inside_since x.book play.book by (admitted_since by (admitted_at (line a.given)) x.book seat) seat) a.given.sight.cut c cut so.cause
+
+  same_admission : admitted S.queue.config S.book by what ≡ admitted x.base.config x.book by what
+  same_admission = admitted_here plants copies (Unit {0}) S (parts_of x) shown by what (admitted x.base.config x.book by what) refl
+
+  -- A LINE THAT SERVES NONE
+
+  heard_still : ((n : ℕ) → admitted x.base.config x.book by what ≢ Plays (Node n)) → IfRuns r (AreReaders plants q rs)
+  heard_still other =
+      runs_then r plants.tells (Since x.book y.book) (AreReaders plants q rs) (λ t. since_by r (left t) inside)
+      (λ later. readers_still plants (parts_of x) q base since is.booked rs read past (λ t. (later t).up)
+      (λ t. carries_still x.since (line (left t).given) (admitted_at (line (left t).given)) (left_at (line (left t).given)).given (plants.view (parts_of x).plant) (plants.view q.plant)
+      (λ n same. other n (sym same_admission ∙ same)) ((left t).left.wires tt)))
+
+  -- A TASK
+
+  module _ (task : Task) (adm : Plays task ≡ admitted x.base.config x.book by what) (its : is_member x.base.config by ≡ true) (on : IsOnLine task) (was now : Option (List ℕ))
+      (here : slice_get rs (task_place (by.0 - 1) task) ≡ Some was) (stays : ReaderStaysFrom (Fresh task) was now)
+      (heard : plants.tells → r ≡ went → (n : ℕ) → task ≡ Node n → HasRead (((plants.view (parts_of x).plant).world x.since).taken n by.0) (taken_now (plants.view (parts_of x).plant) n by.0) (Some was)
+      → HasRead (((plants.view (parts_of x).plant).world x.since).taken n by.0) (taken_now (plants.view q.plant) n by.0) (Some now)) where
+    none_node : (t : Task) → Plays t ≡ admitted x.base.config x.book by what → ((n : ℕ) → t ≢ Node n) → (n : ℕ) → admitted x.base.config x.book by what ≢ Plays (Node n)
+    none_node t is_so other n same = other n (task_same t (Node n) (is_so ∙ same)) where
+      task_same : (a b : Task) → Plays a ≡ Plays b → a ≡ b
+      task_same a b e = cc
+
+    -- the reader of its line
+    read_on : (n : ℕ) → task ≡ Node n → plants.tells → (k : Result (Unit {0}) NodeNo) → r ≡ k → At k → Since x.book y.book → is_stopped y.book by ≡ false
+        → IfRuns k (HasRead (((plants.view (parts_of x).plant).world x.since).taken n by.0) (taken_now (plants.view q.plant) n by.0) (Some now))
+    read_on n same t (Ok done) is_so a later up =
+        heard t is_so n same
+        (subst (λ (o : Option (Option (List ℕ))). HasRead (((plants.view (parts_of x).plant).world x.since).taken n by.0) (taken_now (plants.view (parts_of x).plant) n by.0) o)
+        (ap (λ (k : Task). slice_get rs (task_place (by.0 - 1) k)) (sym same) ∙ here) (read.each t by n its (on n same) (later.up by up)))
+    read_on n same t (Err no_node.Halted) is_so a later up = let true_false : true ≡ false → ⊥ = λ e. absurd (cc) in absurd (true_false (sym (stops_by a (inside is_so)) ∙ up))
+    read_on n same t _ is_so a later up = tt
+
+    -- nothing was taken from another line, or by another member
+    elsewhere : (n : ℕ) → task ≡ Node n → plants.tells → (w m : ℕ) → IsElsewhere (Some n) by w m → taken_now (plants.view q.plant) w m ≡ taken_now (plants.view (parts_of x).plant) w m
+    elsewhere n same t =
+        let l = line (left t).given in
+        let serves : admitted_at l ≡ Plays (Node n) = same_admission ∙ sym adm ∙ ap (λ (k : Task). Plays k) same in
+        let carries : Carries x.since l (Plays (Node n)) (left_at l).given (plants.view (parts_of x).plant) (plants.view q.plant) =
+        subst (λ (a : Admission). Carries x.since l a (left_at l).given (plants.view (parts_of x).plant) (plants.view q.plant)) serves ((left t).left.wires tt) in
+        carries.gives.else_taken
+
+    served : (n : ℕ) → task ≡ Node n → IfRuns r (AreReaders plants q (set rs (reader_place by n) now))
+    served n same = by_answer r refl where
+      at_answer : (k : Result (Unit {0}) NodeNo) → r ≡ k → plants.tells → At k
+      at_answer k is_so t = subst At is_so (left t)
+
+      by_answer : (k : Result (Unit {0}) NodeNo) → r ≡ k → IfRuns k (AreReaders plants q (set rs (reader_place by n) now))
+      by_answer (Ok done) is_so =
+          readers_served plants (parts_of x) q base since is.booked rs read past (λ t. (since_by (Ok done) (at_answer (Ok done) is_so t) (λ e. inside (is_so ∙ e))).up) by n (on n same) its now (elsewhere n same)
+          (λ t up. read_on n same t (Ok done) is_so (at_answer (Ok done) is_so t) (since_by (Ok done) (at_answer (Ok done) is_so t) (λ e. inside (is_so ∙ e))) up)
+      by_answer (Err no_node.Halted) is_so =
+          readers_served plants (parts_of x) q base since is.booked rs read past (λ t. (since_by (failed no_node.Halted) (at_answer (failed no_node.Halted) is_so t) (λ e. inside (is_so ∙ e))).up) by n (on n same) its now
+          (elsewhere n same)
+          (λ t up. read_on n same t (failed no_node.Halted) is_so (at_answer (failed no_node.Halted) is_so t) (since_by (failed no_node.Halted) (at_answer (failed no_node.Halted) is_so t) (λ e. inside (is_so ∙ e))) up)
+      by_answer _ is_so = tt
+
+    pub heard_task : IfRuns r (AreReaders plants q (set rs (task_place (by.0 - 1) task) now))
+    heard_task = by_task task refl where
+      plainly : (t : Task) → task ≡ t → ((n : ℕ) → t ≢ Node n) → now ≡ was → IfRuns r (AreReaders plants q (set rs (task_place (by.0 - 1) t) now))
+      plainly t same other still = let plain : (t : Task) → Plays t ≡ admitted x.base.config x.book by what → ((n : ℕ) → t ≢ Node n) → slice_get rs (task_place (by.0 - 1) t) ≡ Some was → now ≡ was → IfRuns r (AreReaders plants q (set rs (task_place (by.0 - 1) t) now)) = λ t is_so other there same. if_runs r (AreReaders plants q rs) (AreReaders plants q (set rs (task_place (by.0 - 1) t) now))
+          (λ are. subst (λ (k : List (Option (List ℕ))). AreReaders plants q k) (sym (set_still rs (task_place (by.0 - 1) t) was now there same)) are)
+          (heard_still (none_node t is_so other)) in
+          plain t (ap (λ (k : Task). Plays k) (sym same) ∙ adm) other (subst (λ (k : Task). slice_get rs (task_place (by.0 - 1) k) ≡ Some was) same here) still
+
+      by_task : (t : Task) → task ≡ t → IfRuns r (AreReaders plants q (set rs (task_place (by.0 - 1) t) now))
+      by_task (Node n) same = served n same
+      by_task (Give c) same = plainly (Give c) same (λ n e. absurd (cc)) (subst (λ (k : Task). ReaderStaysFrom (Fresh k) was now) same stays)
+      by_task (Deck fields text) same = plainly (Deck fields text) same (λ n e. absurd (cc)) (subst (λ (k : Task). ReaderStaysFrom (Fresh k) was now) same stays)
+      by_task (Work k) same = plainly (Work k) same (λ n e. absurd (cc)) (subst (λ (j : Task). ReaderStaysFrom (Fresh j) was now) same stays)
+
+-- AS ITS DRIVER HAS IT
+
+module _ {P C : Type 0} {plants : PlantGhosts P} {steadies : SteadyGhosts C} {copies : CopyGhosts C} {x mid : Complex P C plants steadies copies} {ms : List Member} {at : ℕ} {by : MemberId} {what : Ask} {a : Admission}
+    (w : InArm x mid ms at by what a) {y : Complex P C plants steadies copies} {ns : List Member} {r : Result (Unit {0}) NodeNo} (done : LineDone x y ns at by what r)
+    (rs : List (Option (List ℕ))) (read : AreReaders plants (parts_of x) rs) where
+  pub still_done : ((n : ℕ) → a ≢ Plays (Node n)) → IfRuns r (AreReaders plants (parts_of y) rs)
+  still_done other = heard_still x y ms at by what w.is done.base done.since r done.told done.seated rs read (λ n same. other n (w.adm ∙ same))
+
+-- the reader of a task's line has read what its member took
+pub reads_line : {P C : Type 0} (plants : PlantGhosts P) (x : Parts P C) (by : MemberId) (rs : List (Option (List ℕ))) → AreReaders plants x rs → is_member x.base.config by ≡ true → is_stopped x.book by ≡ false
+    → (task : Task) → IsOnLine task → (was : Option (List ℕ)) → slice_get rs (task_place (by.0 - 1) task) ≡ Some was → plants.tells → ReadsLine plants x by task was
+reads_line plants x by rs read member up task on was here tells line same =
+    subst (λ (o : Option (Option (List ℕ))). HasRead (((plants.view x.plant).world x.since).taken line by.0) (taken_now (plants.view x.plant) line by.0) o)
+    (ap (λ (k : Task). slice_get rs (task_place (by.0 - 1) k)) (sym same) ∙ here) (read.each tells by line member (on line same) up)
+
+-- THE OPERATOR SAID that a member was stopped
+module _ {P C : Type 0} (plants : PlantGhosts P) (x y z : Parts P C) (mid : x ≡ unreserved_in y) (frame : z ≡ record x { plant = z.plant })
+    (acts : OnConsole plants.tells (plants.view x.plant) (plants.view z.plant)) (begun : x.since ≤ (plants.view x.plant).now) (booked : length y.book.members ≡ y.base.config.members)
+    (rs : List (Option (List ℕ))) (read : AreReaders plants y rs) where
+  pub readers_said : AreReaders plants z rs
+  readers_said = let booked_x : length x.book.members ≡ x.base.config.members = subst (λ (w : Parts P C). length w.book.members ≡ w.base.config.members) (sym mid) booked in
+      let same_x : AreReaders plants x rs = subst (λ (w : Parts P C). AreReaders plants w rs) (sym mid) (record { many = read.many; each = read.each }) in
+      readers_still plants x z (ap (λ (w : Parts P C). w.base) frame) (ap (λ (w : Parts P C). w.since) frame) booked_x rs same_x (λ t. acts.goes.past x.since begun)
+      (λ t m up. subst (λ (b : Book). is_stopped b m ≡ false) (ap (λ (w : Parts P C). w.book) frame) up) acts.wires

@@ -1,41 +1,258 @@
 -- A line of a member that only closes: it is refused or denied, or the lock is given up.
-use Rattle.std.proofs.Common.{◌≡◌, ◌⊎◌, ⊎_elim, ℕ, ◌+◌, ◌≤◌, true, false, List, None, Result, Ok, Err, OnOk, refl, sym, ◌∙◌, ap, subst}
-use Rattle.mas_types.specs.declared.ids.Dev.{Dev}
-use Rattle.mas_types.specs.declared.ids.MemberId.{MemberId}
-use Rattle.mas_types.specs.Ids.{nobody}
-use Rattle.mas_types.specs.Limits.{steps_most}
-use Rattle.lock_cycle.specs.Books.{Book, IsMember, is_holder, is_stopped}
-use Rattle.spool_plant.specs.declared.plant.Plant.{Ghosts as PlantGhosts}
-use Rattle.ckpt_copy.specs.declared.copying.Copying.{Ghosts as CopyGhosts}
-use Rattle.ckpt_form.specs.declared.steady.Steady.{Ghosts as SteadyGhosts}
-use Rattle.mas_complex.specs.declared.complex.Complex.{Complex}
-use Rattle.mas_complex.specs.Parts.{Parts, parts_of}
-use Rattle.member_node.specs.declared.member.Member.{Member}
-use Rattle.member_node.specs.declared.member.NodeNo.{NodeNo}
-use Rattle.member_node.specs.declared.member.NodeNo.TheVariants as no_node
-use Rattle.member_node.specs.Spares.{stopped_in}
-use Rattle.member_sittings.specs.Sat.{journal_of}
-use Rattle.member_lines.specs.Closes.{Closes, HasClosed, freed_by, left_at as closes_at, stopped_so}
-use Rattle.script_lang.specs.declared.types.Ask.{Ask}
-use Rattle.step_turns.specs.declared.states.Release.{Release}
-use Rattle.run_turns.specs.Admissions.{Admission, Replaces, admitted, tried}
-use Rattle.run_turns.specs.Sights.{Replaced}
-use Rattle.run_turns.specs.Pieces.{Piece, is_locked}
-use Rattle.run_turns.specs.Scenes.{Scene}
-use Rattle.mas_run.specs.Copies.{CopiesKept}
-use Rattle.mas_run.specs.LinesLeft.{LineIsLeft}
-use Rattle.mas_run.specs.LinesPlayed.{line_by}
-use Rattle.mas_run.specs.Renewing.{RenewsAs}
-use Rattle.run_opening.specs.Shows.{BetweenLines, IsBetween, IsShown, LeftBetween}
-use Rattle.member_resets.proofs.BookLemmas.{Since, inside_since, none_since}
-use Rattle.mas_run.proofs.ClosedLemmas.{closed_freed, closed_halted, closed_ok, scene_at, shown_at}
-use Rattle.mas_run.proofs.ClosingLemmas.{Ending, HasMerelyActed, IsCloser, closing_at, cut_by}
+use Rattle.mas_run.proofs.Names.{◌≡◌, ℕ, ◌+◌, ◌≤◌, ◌&&◌, ◌++◌, Bool, true, false, if◌then◌else◌, List, [], ◌∷◌, Option, Some, None, Result, Ok, Err, refl, sym, ◌∙◌, ap, subst, arith, ◌<◌, All, ◌⊎◌, ⊎_elim, OnOk, inr, inl, eqb-true, Ckpt1, Ckpt2, MemberId, Batch, Entry, is_somebody, nobody, steps_most, Book, IsMember, after_free, after_stop, is_holder, is_stopped, noted, with_holder, Ghosts as PlantGhosts, DiskView as Disk, Line, View, CopyGhosts, page_count, reserved_after_stop, counts_of, Parts, parts_of, console_now, Member, NodeNo, HasClosed, left_at, stopped_so, Closes, freed_by, left_at as closes_at, IsSayer, queue_of, HoldsLock, IsSeat, Admission, Replaces, tried, Denied, Frees, Refused, denied_closing, is_locked, play_of, Piece, closes_with, Scene, clear, Replaced, AreMembers, IsBetween, IsFlight, IsMemberAt, IsShown, is_left_held, BetweenLines, LeftBetween, StandsIn, IsOfEarlier, Since, freed_since, none_since, stopped_since, inside_since, tried_since, proceeds_of, TellNone, left_tells, in_flight, Dev, SteadyGhosts, Complex, stopped_in, journal_of, Ask, Release, CopiesKept, LineIsLeft, LineDone, line_by, is_of_member, RenewsAs, AreMembersNamed, closing_line, Closing, IsPlayed, Keep, Outer, LockNo, tested_as}
+use Rattle.mas_run.proofs.TurnedLemmas.{found_says, line_says, between_spoken, quiet_with, same_unreserved}
+use Rattle.mas_run.proofs.ClosingLemmas.{Ending, HasMerelyActed, IsCloser, closing_at, cut_by, denied_closer, frees_closer, refused_closer, closes_left, merely_closed, none_stopped, not_lost}
 use Rattle.mas_run.proofs.CopiesLemmas.{said_copies, leaves_same}
-use Rattle.mas_run.proofs.HaltedLemmas.{same_unreserved}
-use Rattle.mas_run.proofs.RenewedLemmas.{renews_none}
-use Rattle.mas_run.proofs.SaidLemmas.{closes_bare, closes_told, merely_closed, none_stopped, not_lost}
-use Rattle.mas_run.proofs.SceneLemmas.{LineDone, admitted_here, none_flies, tested_here}
-use Rattle.mas_run.proofs.TestedLemmas.{copies_tested, line_tested}
+use Rattle.mas_run.proofs.PassedLemmas.{renews_none}
+use Rattle.mas_run.proofs.ArmLemmas.{admitted_here, none_flies, tested_here, IsTold, InArm, arm_book, arm_inside, tried_inside, tested_up}
+use Rattle.mas_run.proofs.KnownLemmas.{busy_named, denied_holder, own_seat, said_by, sayer_of, some_by}
+use Rattle.member_node.specs.declared.member.NodeNo.TheVariants as no_node
+use Rattle.mas_types.specs.declared.answers.Closing.TheVariants as closing
+use Rattle.mas_types.specs.declared.commands.Reply.TheVariants as reply
+use Rattle.mas_run.proofs.JournalLemmas.{flown_of}
+
+true_false : true ≡ false → ⊥
+true_false e = absurd (cc)
+
+-- THE NEXT NUMBER
+
+module _ {P C : Type 0} (plants : PlantGhosts P) (copies : CopyGhosts C) where
+  pub between_next : (x : Parts P C) (ms : List Member) (at : ℕ) → at ≤ steps_most → IsBetween plants copies x ms at → IsBetween plants copies x ms (at + 1)
+  between_next x ms at few is = let earlier_later : (at : ℕ) (bs : List Batch) → All (IsOfEarlier at) bs → All (IsOfEarlier (at + 1)) bs = λ at bs are. let entry_later : (at : ℕ) (es : List Entry) → All (λ e. e.step < at) es → All (λ e. e.step < at + 1) es = λ at es are. λ k d lt. let less = are k d lt in omega (arith, less) in
+      λ k d lt. entry_later at _ (are k d lt) in
+      record {
+        stands = is.stands;
+        settled = is.settled;
+        quiet = is.quiet;
+        unreserved = is.unreserved;
+        members = is.members;
+        many = is.many;
+        booked = is.booked;
+        held = is.held;
+        config = is.config;
+        sound = is.sound;
+        begun = is.begun;
+        roomy = is.roomy;
+        large = is.large;
+        untold = λ by later le small. is.untold by later (omega (arith, le)) small;
+        earlier = earlier_later at (x.batches ++ in_flight x.current) is.earlier;
+        few = omega (arith, few);
+      }
+
+  -- A LATER BOOK, with the same holder
+
+  module _ (x : Parts P C) (c : Book) (since : Since x.book c) (holder : c.holder ≡ x.book.holder) where
+    abbrev y : Parts P C
+    y = record x { book = c }
+
+    still_stopped : (k : MemberId) → is_stopped x.book k ≡ true → is_stopped c k ≡ true
+    still_stopped k was = either (is_stopped c k) refl where
+      either : (s : Bool) → is_stopped c k ≡ s → is_stopped c k ≡ true
+      either true e = e
+      either false e = absurd (true_false (sym was ∙ since.up k e))
+
+    stands_later : (o : Option Batch) → StandsIn x.batches x.placed x.book o → StandsIn x.batches x.placed c o
+    stands_later None stands = stands
+    stands_later (Some b) stands = (stands.0, stands.1, still_stopped b.by stands.2)
+
+    -- no stopped member holds now: none did
+    unheld : is_left_held c ≡ false → is_left_held x.book ≡ false
+    unheld none = either (is_somebody x.book.holder) refl where
+      either : (b : Bool) → is_somebody x.book.holder ≡ b → is_left_held x.book ≡ false
+      either false e = ap (λ (t : Bool). t && is_stopped x.book x.book.holder) e
+      either true e =
+          ap (λ (t : Bool). t && is_stopped x.book x.book.holder) e
+          ∙ since.up x.book.holder (sym (ap (λ (k : MemberId). is_somebody k && is_stopped c k) holder ∙ ap (λ (t : Bool). t && is_stopped c x.book.holder) e) ∙ none)
+
+    -- who is up now was so before, and sits where it sat
+    lock_later : (k : MemberId) → is_stopped c k ≡ false → HoldsLock x.book x.base.config k → HoldsLock c x.base.config k
+    lock_later k up lock = record {
+      may = record { holds = holder ∙ lock.may.holds; up = λ some. up };
+      some = lock.some;
+      few = lock.few;
+      seated = inside_since x.book c k since lock.seated;
+      member = lock.member;
+    }
+
+    seat_later : (m : Member) → is_stopped c m.id ≡ false → IsSeat plants copies x m → IsSeat plants copies y m
+    seat_later m up seat = record {
+      still = record {
+        holds = lock_later m.id up seat.still.holds;
+        none = seat.still.none;
+        unreserved = seat.still.unreserved;
+        unplaced = seat.still.unplaced;
+        here = seat.still.here;
+        many = seat.still.many;
+        config = seat.still.config;
+        first = seat.still.first;
+        second = seat.still.second;
+        kept = seat.still.kept;
+        begun = seat.still.begun;
+        roomy = seat.still.roomy;
+        noted = seat.still.noted;
+      };
+      between = seat.between;
+      low = seat.low;
+    }
+
+    member_later : (at : ℕ) (m : Member) → IsMemberAt plants copies x at m → IsMemberAt plants copies y at m
+    member_later at m is = let same_holder : (k : MemberId) → is_holder c k ≡ is_holder x.book k = λ k. ap (λ (h : MemberId). is_holder (record c { holder = h }) k) holder in record {
+      id = is.id;
+      up = λ up. record {
+        config = (is.up (since.up m.id up)).config;
+        many = (is.up (since.up m.id up)).many;
+        idle = (is.up (since.up m.id up)).idle;
+        noted = (is.up (since.up m.id up)).noted;
+        seated = λ holds. seat_later m up ((is.up (since.up m.id up)).seated (sym (same_holder m.id) ∙ holds));
+      };
+    }
+
+    members_later : (at : ℕ) (ms : List Member) → AreMembers plants copies x at ms → AreMembers plants copies y at ms
+    members_later at [] are = tt
+    members_later at (m ∷ ms) are = (member_later at m are.0, members_later (at + 1) ms are.1)
+
+    pub between_later : (ms : List Member) (at : ℕ) → IsBetween plants copies x ms at → IsBetween plants copies y ms at
+    between_later ms at is = record {
+      stands = stands_later x.current is.stands;
+      settled = is.settled;
+      quiet = λ none. let q = is.quiet (unheld none) in quiet_with plants copies x c x.reserved q.unreserved (page_count x.base.config) q;
+      unreserved = is.unreserved;
+      members = members_later 1 ms is.members;
+      many = is.many;
+      booked = since.many ∙ is.booked;
+      held = let le = is.held in let same = ap (λ (k : MemberId). k.0) holder in omega (arith, le, same);
+      config = is.config;
+      sound = is.sound;
+      begun = is.begun;
+      roomy = is.roomy;
+      large = is.large;
+      untold = is.untold;
+      earlier = is.earlier;
+      few = is.few;
+    }
+
+-- THE SCENE that a value shows
+
+abbrev pub scene_at : {P C : Type 0} → Parts P C → Scene
+scene_at x = record { queue = queue_of x; book = x.book; flight = flown_of x.current; counts = counts_of x.printed; armed = [] }
+
+pub shown_at : {P C : Type 0} (plants : PlantGhosts P) (copies : CopyGhosts C) (told : Type 0) (x : Parts P C) → StandsIn x.batches x.placed x.book x.current
+    → IsShown plants copies told (scene_at x) x
+shown_at plants copies told x stands = record { queue = refl; book = refl; flight = flies x.current stands; counts = λ t m up. refl } where
+  flies : (c : Option Batch) → StandsIn x.batches x.placed x.book c → IsFlight x.book (flown_of c) c
+  flies None is = refl
+  flies (Some b) is = record { batch = b; is = refl; entries = refl; flies = is.1; stopped = is.2 }
+
+-- WHAT WAS SAID
+
+module _ {P C : Type 0} (plants : PlantGhosts P) (copies : CopyGhosts C) (x : Parts P C) (b : Book) (since : Since x.book b) (holder : b.holder ≡ x.book.holder)
+    (S : Scene) (by sayer : MemberId) (at : ℕ) (a : Admission) (y : Parts P C) (r : Result (Unit {0}) NodeNo)
+    (closed : HasClosed plants S by at a sayer (record x { book = b }) y r) where
+  -- the value as its test left it, with the plant as it is now
+  abbrev said : Parts P C
+  said = record x { book = b; plant = y.plant }
+
+  said_between : (ms : List Member) → at ≤ steps_most → IsBetween plants copies x ms at → IsBetween plants copies said ms (at + 1)
+  said_between ms few is = let v : Parts P C → View = λ w. plants.view w.plant in
+      let stood : plants.tells → (ls : List Line) × (console_now (v y) ≡ console_now (v x) ++ ls) × TellNone at ls = λ t. let s = closed.console t in (
+        (left_at S by at a s.cut).lines,
+        s.lines,
+        left_tells by at s.cut (play_of S by at clear a) (S.counts by) (found_says by at (is_locked a) _ _ (line_says S by at clear _ a)),
+      ) in
+      between_spoken plants copies (record x { book = b }) y.plant x.first_alive x.second_alive x.first_found x.second_found (proceeds_of (v x) (v y) closed.acts.goes) (λ on. on) (λ on. on)
+      (λ t. ap (λ (d : Disk). d.bytes) (closed.acts.disks t Ckpt1)) (λ t. ap (λ (d : Disk). d.bytes) (closed.acts.disks t Ckpt2)) ms at few stood (between_later plants copies x b since holder ms at is)
+
+  closed_ok : (ms : List Member) → at ≤ steps_most → y ≡ said → IsBetween plants copies x ms at → IsBetween plants copies y ms (at + 1)
+  closed_ok ms few frame is = subst (λ (w : Parts P C). IsBetween plants copies w ms (at + 1)) (sym frame) (said_between ms few is)
+
+  -- its member was halted at the line, and is stopped
+  closed_halted : (ms : List Member) → at ≤ steps_most → IsMember b by → y ≡ stopped_so {T = Unit {0}} (Err no_node.Halted) by said → IsBetween plants copies x ms at
+      → IsBetween plants copies y ms (at + 1)
+  closed_halted ms few inside frame is = let none_reserved : x.reserved ≡ None → x.reserved ≡ reserved_after_stop by x.reserved = λ none. none ∙ sym (ap (λ (o : Option (List Entry)). reserved_after_stop by o) none) in
+      let later = between_later plants copies said (after_stop b by) (stopped_since b by inside) refl ms (at + 1) (said_between ms few is) in
+      subst (λ (w : Parts P C). IsBetween plants copies w ms (at + 1)) (sym frame)
+      (subst (λ (o : Option (List Entry)). IsBetween plants copies (record said { book = after_stop b by; reserved = o }) ms (at + 1)) (none_reserved is.unreserved) later)
+
+-- THE LOCK IS GIVEN UP: nobody holds it then
+
+module _ {P C : Type 0} (plants : PlantGhosts P) (copies : CopyGhosts C) (x : Parts P C) (c : Book) (since : Since x.book c) (none : c.holder ≡ nobody) where
+  abbrev freed : Parts P C
+  freed = record x { book = c; reserved = None }
+
+  no_holder : (j : ℕ) (k : MemberId) → 1 ≤ j → k ≡ record { 0 = j } → is_holder c k ≡ true → ⊥
+  no_holder j k some id holds =
+      let same : c.holder.0 ≡ k.0 = eqb-true c.holder.0 k.0 holds in
+      let number : k.0 ≡ j = ap (λ (m : MemberId). m.0) id in
+      let zero_holds : c.holder.0 ≡ 0 = ap (λ (m : MemberId). m.0) none in
+      absurd (omega (arith, same, number, some, zero_holds))
+
+  freed_one : (j : ℕ) (m : Member) → 1 ≤ j → IsMemberAt plants copies x j m → IsMemberAt plants copies freed j m
+  freed_one j m some is = record {
+    id = is.id;
+    up = λ up. record {
+      config = (is.up (since.up m.id up)).config;
+      many = (is.up (since.up m.id up)).many;
+      idle = (is.up (since.up m.id up)).idle;
+      noted = (is.up (since.up m.id up)).noted;
+      seated = λ holds. absurd (no_holder j m.id some is.id holds);
+    };
+  }
+
+  freed_all : (j : ℕ) (ms : List Member) → 1 ≤ j → AreMembers plants copies x j ms → AreMembers plants copies freed j ms
+  freed_all j [] some are = tt
+  freed_all j (m ∷ ms) some are = (freed_one j m some are.0, freed_all (j + 1) ms (omega arith) are.1)
+
+  freed_stands : (o : Option Batch) → o ≡ None → x.placed ≡ false → StandsIn x.batches x.placed c o
+  freed_stands None is unplaced = unplaced
+  freed_stands (Some b) is unplaced = absurd (cc)
+
+  -- a member that was up held it
+  between_freed : (ms : List Member) (at : ℕ) → is_left_held x.book ≡ false → IsBetween plants copies x ms at → IsBetween plants copies freed ms at
+  between_freed ms at up is =
+      let q = is.quiet up in
+      record {
+        stands = freed_stands x.current q.none q.unplaced;
+        settled = is.settled;
+        quiet = λ free. quiet_with plants copies x c None refl (page_count x.base.config) q;
+        unreserved = refl;
+        members = freed_all 1 ms (omega arith) is.members;
+        many = is.many;
+        booked = since.many ∙ is.booked;
+        held = let nobody_now = ap (λ (k : MemberId). k.0) none in omega (arith, nobody_now);
+        config = is.config;
+        sound = is.sound;
+        begun = is.begun;
+        roomy = is.roomy;
+        large = is.large;
+        untold = is.untold;
+        earlier = is.earlier;
+        few = is.few;
+      }
+
+-- FREE: its line was said, and then its member gave the lock up
+
+-- while nobody holds it
+pub none_held : (b : Book) → b.holder ≡ nobody → is_left_held b ≡ false
+none_held b free = ap (λ (m : MemberId). is_somebody m && is_stopped b m) free
+
+held_up : (b : Book) (by : MemberId) → is_holder b by ≡ true → is_stopped b by ≡ false → is_left_held b ≡ false
+held_up b by holds up =
+    ap (λ (m : MemberId). is_somebody m && is_stopped b m) (ap (λ (k : ℕ). let m : MemberId = record { 0 = k } in m) (eqb-true b.holder.0 by.0 holds))
+    ∙ ap (λ (s : Bool). is_somebody by && s) up ∙ and_false (is_somebody by)
+  where
+    and_false : (t : Bool) → (t && false) ≡ false
+    and_false true = refl
+    and_false false = refl
+
+module _ {P C : Type 0} (plants : PlantGhosts P) (copies : CopyGhosts C) (x : Parts P C) (S : Scene) (by sayer : MemberId) (at : ℕ) (a : Admission) (y : Parts P C)
+    (closed : HasClosed plants S by at a sayer (record x { book = x.book }) y (Ok tt)) (inside : IsMember x.book by) (holds : is_holder x.book by ≡ true) (up : is_stopped x.book by ≡ false) where
+  closed_freed : (ms : List Member) → at ≤ steps_most → y ≡ record x { book = after_free x.book by false; reserved = None; plant = y.plant } → IsBetween plants copies x ms at
+      → IsBetween plants copies y ms (at + 1)
+  closed_freed ms few frame is = let gives_up : (b : Book) (by : MemberId) → is_holder b by ≡ true → (after_free b by false).holder ≡ nobody = λ b by holds. ap (λ (h : Bool). (if h then with_holder (noted b by) nobody else b).holder) holds in
+      let spoken = said_between plants copies x x.book (none_since x.book) refl S by sayer at a y (Ok tt) closed ms few is in
+      subst (λ (w : Parts P C). IsBetween plants copies w ms (at + 1)) (sym frame)
+      (between_freed plants copies (record x { plant = y.plant }) (after_free x.book by false) (freed_since x.book by inside false) (gives_up x.book by holds) ms (at + 1)
+      (held_up x.book by holds up) spoken)
 
 -- WHAT STAYS of a value whose member is stopped in the book where it was halted, or gave the lock up
 
@@ -53,18 +270,15 @@ stays_none : {P C : Type 0} (z : Parts P C) → Stays z z
 stays_none z = record { base = refl; since = refl; renewals = refl; alive1 = refl; alive2 = refl; journal = refl; printed = refl; had = refl }
 
 pub stays_stopped : {P C : Type 0} (by : MemberId) (z : Parts P C) (r : Result (Unit {0}) NodeNo) → Stays z (stopped_so r by z)
-stays_stopped by z (Ok done) = stays_none z
-stays_stopped by z (Err no_node.BothLost) = stays_none z
-stays_stopped by z (Err no_node.ConsoleFault) = stays_none z
-stays_stopped by z (Err no_node.NoMemory) = stays_none z
 stays_stopped by z (Err no_node.Halted) = record { base = refl; since = refl; renewals = refl; alive1 = refl; alive2 = refl; journal = refl; printed = refl; had = refl }
+stays_stopped by z _ = stays_none z
 
-pub stays_freed : {P C : Type 0} (by : MemberId) (z : Parts P C) (r : Result (Unit {0}) NodeNo) → Stays z (freed_by r by z)
+stays_freed : {P C : Type 0} (by : MemberId) (z : Parts P C) (r : Result (Unit {0}) NodeNo) → Stays z (freed_by r by z)
 stays_freed by z (Ok done) = record { base = refl; since = refl; renewals = refl; alive1 = refl; alive2 = refl; journal = refl; printed = refl; had = refl }
 stays_freed by z (Err e) = stays_stopped by z (Err e)
 
 -- the plant is another then
-pub stays_on : {P C : Type 0} (x z w : Parts P C) (q : P) → z ≡ record x { plant = q } → Stays z w → Stays x w
+stays_on : {P C : Type 0} (x z w : Parts P C) (q : P) → z ≡ record x { plant = q } → Stays z w → Stays x w
 stays_on x z w q is stays = record {
   base = stays.base ∙ ap (λ (k : Parts _ _). k.base) is;
   since = stays.since ∙ ap (λ (k : Parts _ _). k.since) is;
@@ -82,9 +296,8 @@ if_ok (Err e) A f = tt
 
 -- A LINE THAT ONLY CLOSES, said on the value that its test left
 
-module _ {P C : Type 0} {plants : PlantGhosts P} {steadies : SteadyGhosts C} {copies : CopyGhosts C} (x mid y : Complex P C plants steadies copies) (ms : List Member)
-    (at : ℕ) (by : MemberId) (what : Ask) (few : at ≤ steps_most) (is : BetweenLines x ms at)
-    (a : Admission) (adm : a ≡ admitted x.base.config x.book by what) (b : Book) (frame : parts_of mid ≡ record (parts_of x) { book = b }) (book : tried x.book by a ≡ b)
+module _ {P C : Type 0} {plants : PlantGhosts P} {steadies : SteadyGhosts C} {copies : CopyGhosts C} {x mid : Complex P C plants steadies copies} {ms : List Member}
+    {at : ℕ} {by : MemberId} {what : Ask} {a : Admission} (w : InArm x mid ms at by what a) (y : Complex P C plants steadies copies) (book : tried x.book by a ≡ tested_as x.book by a)
     (none : is_locked a ≡ true → x.current ≡ None) (apart : (dev : Dev) → a ≡ Replaces dev → ⊥) (sayer : MemberId) (says : (sayer ≡ nobody) ⊎ (sayer ≡ by)) (r : Result (Unit {0}) NodeNo) (closed : Closes by at a sayer mid y r)
     (pieces : List Piece) (line : List ℕ) (rel : Release)
     (closer : (S : Scene) → (is_locked a ≡ true → S.flight ≡ None) → (e : Ending) → IsCloser (closing_at S at (line_by by what) e pieces) a line rel)
@@ -92,108 +305,126 @@ module _ {P C : Type 0} {plants : PlantGhosts P} {steadies : SteadyGhosts C} {co
   abbrev p : Parts P C
   p = parts_of x
 
+  abbrev b : Book
+  b = tested_as x.book by a
+
   abbrev t : Parts P C
   t = record p { book = b }
 
   abbrev q : Parts P C
   q = parts_of y
 
-  at_test : Stays t q
-  at_test = subst (λ (w : Parts P C). Stays w q) frame stays
-
   closed_at : (told : Type 0) (S : Scene) → IsShown plants copies told S p → HasClosed plants S by at a sayer t q r
   closed_at told S shown =
-      subst (λ (w : Parts P C). HasClosed plants S by at a sayer w q r) frame
-      (closed S (tested_here plants copies told S p shown by a mid.book (book ∙ sym (ap (λ (w : Parts P C). w.book) frame)) none))
+      subst (λ (z : Parts P C). HasClosed plants S by at a sayer z q r) w.frame
+      (closed S (tested_here plants copies told S p shown by a mid.book (book ∙ sym (arm_book w)) none))
 
   here : HasClosed plants (scene_at p) by at a sayer t q r
-  here = closed_at (Unit {0}) (scene_at p) (shown_at plants copies (Unit {0}) p is.stands)
-
-  merely : (told : Type 0) (S : Scene) (shown : IsShown plants copies told S p) → HasMerelyActed plants by a t q r
-  merely told S shown = merely_closed plants S by at a sayer t q r (closes_at S by at a) (closed_at told S shown) says
-
-  renews_by : (e : Ending) → RenewsAs a (cut_by e) Replaced t.renewals q.renewals (plants.view x.plant) (plants.view y.plant)
-  renews_by e = renews_none a (cut_by e) Replaced t.renewals q.renewals (plants.view x.plant) (plants.view y.plant) apart at_test.renewals
-
-  unflown : (told : Type 0) (S : Scene) → IsShown plants copies told S p → is_locked a ≡ true → S.flight ≡ None
-  unflown told S shown locked = none_flies plants copies told S p shown (none locked)
-
-  bare : LineIsLeft ⊥ at (line_by by what) x y r
-  bare S shown =
-      line_tested plants copies p b ⊥ S at (line_by by what) q r
-      (closes_bare plants copies S at (line_by by what) a (admitted_here plants copies ⊥ S p shown by what a adm) Replaced pieces line rel (closer S (unflown ⊥ S shown)) t q r at_test.journal at_test.printed
-      sayer (closed_at ⊥ S shown) (merely ⊥ S shown) (λ e may is. renews_by e))
-
-  told : plants.tells → LineIsLeft (Unit {0}) at (line_by by what) x y r
-  told u S shown =
-      line_tested plants copies p b (Unit {0}) S at (line_by by what) q r
-      (closes_told plants copies S at (line_by by what) a (admitted_here plants copies (Unit {0}) S p shown by what a adm) Replaced pieces line rel (closer S (unflown (Unit {0}) S shown)) t q r at_test.journal at_test.printed
-      sayer (closed_at (Unit {0}) S shown) (merely (Unit {0}) S shown) (λ e may is. renews_by e) u (λ up. if_ok r _ (λ e. shown.counts tt by up)))
-
-  copies_kept : CopiesKept x y r
-  copies_kept =
-      leaves_same plants p q r (copies_tested plants copies p b q r
-      (said_copies plants t q r here.acts at_test.alive1 at_test.alive2 (not_lost r sayer.0 (plants.view x.plant) (plants.view y.plant) here.cause))) at_test.renewals (λ is. sym at_test.alive1 ∙ is) (λ is. sym at_test.alive2 ∙ is)
-
-  true_false : true ≡ false → ⊥
-  true_false e = absurd (cc)
+  here = closed_at (Unit {0}) (scene_at p) (shown_at plants copies (Unit {0}) p w.is.stands)
 
   seated : r ≡ Err no_node.Halted → IsMember x.book by
   seated e = ⊎_elim
       (λ nobody_says. absurd (true_false (sym (ap stopped_in e) ∙ none_stopped plants (scene_at p) by at a sayer t q r (closes_at (scene_at p) by at a) here says nobody_says)))
       seat says
 
-  pub line_done : OnOk r (BetweenLines y ms (at + 1)) → (r ≡ Err no_node.Halted → LeftBetween y ms (at + 1)) → LineDone x y ms at by what r
-  line_done next halted = record {
-    base = at_test.base;
-    since = at_test.since;
-    bare = bare;
-    told = told;
-    copies_kept = copies_kept;
-    next = next;
-    halted = halted;
-    seated = seated;
-  }
+  line_done : OnOk r (BetweenLines y ms (at + 1)) → (r ≡ Err no_node.Halted → LeftBetween y ms (at + 1)) → LineDone x y ms at by what r
+  line_done next halted = let at_test : Stays t q = subst (λ (z : Parts P C). Stays z q) w.frame stays in
+      let copies_kept : CopiesKept x y r = leaves_same plants p q r (said_copies plants t q r here.acts at_test.alive1 at_test.alive2 (not_lost r sayer.0 (plants.view x.plant) (plants.view y.plant) here.cause)) at_test.renewals (λ is. sym at_test.alive1 ∙ is) (λ is. sym at_test.alive2 ∙ is) in
+      let left : (told : Type 0) → IsTold plants told → LineIsLeft told at (line_by by what) x y r = λ told knows S shown. let unflown : (told : Type 0) (S : Scene) → IsShown plants copies told S p → is_locked a ≡ true → S.flight ≡ None = λ told S shown locked. none_flies plants copies told S p shown (none locked) in
+      let renews_by : (e : Ending) → RenewsAs a (cut_by e) Replaced t.renewals q.renewals (plants.view x.plant) (plants.view y.plant) = λ e. renews_none a (cut_by e) Replaced t.renewals q.renewals (plants.view x.plant) (plants.view y.plant) apart at_test.renewals in
+      let merely : (told : Type 0) (S : Scene) (shown : IsShown plants copies told S p) → HasMerelyActed plants by a t q r = λ told S shown. merely_closed plants S by at a sayer t q r (closes_at S by at a) (closed_at told S shown) says in
+      closes_left plants copies S at (line_by by what) a (admitted_here plants copies told S p shown by what a w.adm) Replaced pieces line rel (closer S (unflown told S shown)) t q r at_test.journal at_test.printed
+      told (λ o up. if_ok r _ (λ e. shown.counts o by up)) sayer t (λ tells. refl) (closed_at told S shown) (merely told S shown) renews_by knows in
+      record {
+        base = at_test.base;
+        since = at_test.since;
+        bare = left ⊥ (inl (λ t. t));
+        told = λ tells. left (Unit {0}) (inr (tt, tells));
+        copies_kept = copies_kept;
+        next = next;
+        halted = halted;
+        seated = seated;
+      }
 
   -- it was said, and its member is stopped where it was halted at it
   module _ (since : Since x.book b) (holder : b.holder ≡ x.book.holder) (frame_y : parts_of y ≡ stopped_so r by (record (parts_of mid) { plant = y.plant })) where
-    frame_t : q ≡ stopped_so r by (record t { plant = y.plant })
-    frame_t = subst (λ (w : Parts P C). q ≡ stopped_so r by (record w { plant = y.plant })) frame frame_y
-
-    said_ok : r ≡ Ok tt → IsBetween plants copies q ms (at + 1)
-    said_ok e =
-        closed_ok plants copies p b since holder (scene_at p) by sayer at a q r here ms few (subst (λ (k : Result (Unit {0}) NodeNo). q ≡ stopped_so k by (record t { plant = y.plant })) e frame_t) is
-
-    said_halted : r ≡ Err no_node.Halted → LeftBetween y ms (at + 1)
-    said_halted e =
-        let between = closed_halted plants copies p b since holder (scene_at p) by sayer at a q r here ms few (inside_since x.book b by since (seated e))
-        (subst (λ (k : Result (Unit {0}) NodeNo). q ≡ stopped_so k by (record t { plant = y.plant })) e frame_t) is in
-        subst (λ (w : Parts P C). IsBetween plants copies w ms (at + 1)) (sym (same_unreserved q between.unreserved q.book between.stands)) between
-
-    pub said_done : LineDone x y ms at by what r
-    said_done = line_done (if_ok r _ said_ok) said_halted
+    said_done : LineDone x y ms at by what r
+    said_done = let frame_t : q ≡ stopped_so r by (record t { plant = y.plant }) = subst (λ (z : Parts P C). q ≡ stopped_so r by (record z { plant = y.plant })) w.frame frame_y in
+        let said_halted : r ≡ Err no_node.Halted → LeftBetween y ms (at + 1) = λ e. let between = closed_halted plants copies p b since holder (scene_at p) by sayer at a q r here ms w.few (inside_since x.book b by since (seated e))
+        (subst (λ (k : Result (Unit {0}) NodeNo). q ≡ stopped_so k by (record t { plant = y.plant })) e frame_t) w.is in
+        subst (λ (z : Parts P C). IsBetween plants copies z ms (at + 1)) (sym (same_unreserved q between.unreserved q.book between.stands)) between in
+        let said_ok : r ≡ Ok tt → IsBetween plants copies q ms (at + 1) = λ e. closed_ok plants copies p b since holder (scene_at p) by sayer at a q r here ms w.few (subst (λ (k : Result (Unit {0}) NodeNo). q ≡ stopped_so k by (record t { plant = y.plant })) e frame_t) w.is in
+        line_done (if_ok r _ said_ok) said_halted
 
   -- and its member gave the lock up then, where it wasn't
   module _ (same : b ≡ x.book) (inside : IsMember x.book by) (holds : is_holder x.book by ≡ true) (up : is_stopped x.book by ≡ false)
       (frame_y : parts_of y ≡ freed_by r by (record (parts_of mid) { plant = y.plant })) where
-    frame_p : q ≡ freed_by r by (record p { plant = y.plant })
-    frame_p =
-        subst (λ (c : Book). q ≡ freed_by r by (record p { book = c; plant = y.plant })) same
-        (subst (λ (w : Parts P C). q ≡ freed_by r by (record w { plant = y.plant })) frame frame_y)
+    freed_done : LineDone x y ms at by what r
+    freed_done = let closed_p : HasClosed plants (scene_at p) by at a sayer p q r = subst (λ (c : Book). HasClosed plants (scene_at p) by at a sayer (record p { book = c }) q r) same here in
+        let frame_p : q ≡ freed_by r by (record p { plant = y.plant }) = subst (λ (c : Book). q ≡ freed_by r by (record p { book = c; plant = y.plant })) same
+        (subst (λ (z : Parts P C). q ≡ freed_by r by (record z { plant = y.plant })) w.frame frame_y) in
+        let freed_halted : r ≡ Err no_node.Halted → LeftBetween y ms (at + 1) = λ e. let between = closed_halted plants copies p x.book (none_since x.book) refl (scene_at p) by sayer at a q r closed_p ms w.few inside
+        (subst (λ (k : Result (Unit {0}) NodeNo). q ≡ freed_by k by (record p { plant = y.plant })) e frame_p) w.is in
+        subst (λ (z : Parts P C). IsBetween plants copies z ms (at + 1)) (sym (same_unreserved q between.unreserved q.book between.stands)) between in
+        let freed_ok : r ≡ Ok tt → IsBetween plants copies q ms (at + 1) = λ e. closed_freed plants copies p (scene_at p) by sayer at a q (subst (λ (k : Result (Unit {0}) NodeNo). HasClosed plants (scene_at p) by at a sayer p q k) e closed_p) inside holds up ms w.few
+        (subst (λ (k : Result (Unit {0}) NodeNo). q ≡ freed_by k by (record p { plant = y.plant })) e frame_p) w.is in
+        line_done (if_ok r _ freed_ok) freed_halted
 
-    closed_p : HasClosed plants (scene_at p) by at a sayer p q r
-    closed_p = subst (λ (c : Book). HasClosed plants (scene_at p) by at a sayer (record p { book = c }) q r) same here
+-- THE THREE ADMISSIONS that only close
 
-    freed_ok : r ≡ Ok tt → IsBetween plants copies q ms (at + 1)
-    freed_ok e =
-        closed_freed plants copies p (scene_at p) by sayer at a q (subst (λ (k : Result (Unit {0}) NodeNo). HasClosed plants (scene_at p) by at a sayer p q k) e closed_p) inside holds up ms few
-        (subst (λ (k : Result (Unit {0}) NodeNo). q ≡ freed_by k by (record p { plant = y.plant })) e frame_p) is
+false_true : false ≡ true → ⊥
+false_true e = absurd (cc)
 
-    freed_halted : r ≡ Err no_node.Halted → LeftBetween y ms (at + 1)
-    freed_halted e =
-        let between = closed_halted plants copies p x.book (none_since x.book) refl (scene_at p) by sayer at a q r closed_p ms few inside
-        (subst (λ (k : Result (Unit {0}) NodeNo). q ≡ freed_by k by (record p { plant = y.plant })) e frame_p) is in
-        subst (λ (w : Parts P C). IsBetween plants copies w ms (at + 1)) (sym (same_unreserved q between.unreserved q.book between.stands)) between
+-- a value with another plant
+abbrev on_plant : {P C : Type 0} → Parts P C → P → Parts P C
+on_plant z q = record z { plant = q }
 
-    pub freed_done : LineDone x y ms at by what r
-    freed_done = line_done (if_ok r _ freed_ok) freed_halted
+stays_by : {P C : Type 0} (mid y : Parts P C) (q : P) (z : Parts P C) → y ≡ z → Stays (on_plant mid q) z → Stays mid y
+stays_by mid y q z is stays = subst (λ (k : Parts _ _). Stays mid k) (sym is) (stays_on mid (on_plant mid q) z q refl stays)
+
+module _ {P C : Type 0} {plants : PlantGhosts P} {steadies : SteadyGhosts C} {copies : CopyGhosts C} {x mid : Complex P C plants steadies copies} {ms : List Member}
+    {at : ℕ} {by : MemberId} {what : Ask} where
+  -- by the operator, or by its member
+  module _ {sayer : MemberId} {end : Closing} (w : InArm x mid ms at by what (Refused sayer end)) where
+    pub refused_sayer : IsSayer mid.book sayer by
+    refused_sayer = subst (λ (b : Book). IsSayer b sayer by) (sym (arm_book w)) (sayer_of x.base w.is.config x.book by w.is.booked sayer w.known_so.0)
+
+    pub refused_done : is_of_member what ≡ true → IsPlayed (line_by by what) → (y : Complex P C plants steadies copies) (r : Result (Unit {0}) NodeNo) → Closes by at (Refused sayer end) sayer mid y r → parts_of y ≡ stopped_so r by (on_plant (parts_of mid) y.plant)
+        → LineDone x y ms at by what r
+    refused_done member played y r closed frame_y =
+        said_done w y refl (λ locked. absurd (false_true locked)) (λ dev same. absurd (cc)) sayer (said_by x.base w.is.config x.book by sayer w.known_so.0) r closed
+        (closes_with by at end Keep) (closing_line by at end) Keep (λ S none k. refused_closer S at (line_by by what) k sayer end)
+        (stays_by (parts_of mid) (parts_of y) y.plant _ frame_y (stays_stopped by (on_plant (parts_of mid) y.plant) r))
+        (λ same. own_seat x.base w.is.config x.book by w.is.booked sayer w.known_so.0 same (some_by by what member played.fits.by))
+        (none_since x.book) refl frame_y
+
+  -- of a member that didn't get the lock
+  module _ {why : LockNo} (w : InArm x mid ms at by what (Denied why)) where
+    pub denied_inside : IsMember mid.book by
+    denied_inside = tried_inside w w.known_so.0 refl
+
+    pub denied_up : is_stopped mid.book by ≡ false
+    denied_up = ap (λ (b : Book). is_stopped b by) (arm_book w) ∙ tested_up x.book by (arm_inside w w.known_so.0) w.known_so.0.up
+
+    pub denied_named : AreMembersNamed (denied_closing why)
+    denied_named = busy_named x.base w.is.config x.book by why w.known_so.1 (let held = w.is.held in let most = w.is.config.members.1 in omega (arith, held, most))
+
+    pub denied_done : (y : Complex P C plants steadies copies) (r : Result (Unit {0}) NodeNo) → Closes by at (Denied why) by mid y r → parts_of y ≡ stopped_so r by (on_plant (parts_of mid) y.plant) → LineDone x y ms at by what r
+    denied_done y r closed frame_y =
+        said_done w y refl (λ locked. absurd (false_true locked)) (λ dev same. absurd (cc)) by (inr refl) r closed
+        (closes_with by at (denied_closing why) Keep) (closing_line by at (denied_closing why)) Keep (λ S none k. denied_closer S at (line_by by what) k why)
+        (stays_by (parts_of mid) (parts_of y) y.plant _ frame_y (stays_stopped by (on_plant (parts_of mid) y.plant) r))
+        (λ same. arm_inside w w.known_so.0) (tried_since x.book by (arm_inside w w.known_so.0) false) (denied_holder x.base w.is.config x.book by why w.known_so.1) frame_y
+
+  -- of one that gives it up
+  module _ (w : InArm x mid ms at by what Frees) where
+    pub frees_none : mid.current ≡ None
+    frees_none = ap (λ (z : Parts P C). z.current) w.frame ∙ (w.is.quiet (held_up x.book by w.known_so.1 w.known_so.0.up)).none
+
+    pub freed_line : (y : Complex P C plants steadies copies) (r : Result (Unit {0}) NodeNo) → Closes by at Frees by mid y r → parts_of y ≡ freed_by r by (on_plant (parts_of mid) y.plant) → LineDone x y ms at by what r
+    freed_line y r closed frame_y =
+        let end = closing.Reply reply.Plain in
+        freed_done w y refl (λ locked. sym (ap (λ (z : Parts P C). z.current) w.frame) ∙ frees_none) (λ dev same. absurd (cc)) by (inr refl) r closed
+        (closes_with by at end Outer) (closing_line by at end) Outer (λ S unflown k. frees_closer S at (line_by by what) k (unflown refl))
+        (stays_by (parts_of mid) (parts_of y) y.plant _ frame_y (stays_freed by (on_plant (parts_of mid) y.plant) r))
+        (λ same. arm_inside w w.known_so.0) refl (arm_inside w w.known_so.0) w.known_so.1 w.known_so.0.up frame_y

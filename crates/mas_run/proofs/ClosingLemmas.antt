@@ -1,56 +1,12 @@
 -- A line that only closes, or that ends before it does: what it leaves, by how it ended.
-use Rattle.std.proofs.Common.{◌≡◌, ◌≢◌, inl, inr, ℕ, ◌+◌, ◌≤◌, false, List, [], ◌∷◌, ◌++◌, take, append-nil, Option, None, Result, Ok, Err, OnOk, refl, sym, ◌∙◌, ap, subst, arith}
-use Rattle.std.proofs.lemmas.List.Elements.{All-cons, All-nil}
-use Rattle.mas_types.specs.declared.answers.Closing.{Closing}
+use Rattle.mas_run.proofs.Names.{◌≡◌, ◌≢◌, inl, inr, ℕ, ◌+◌, ◌≤◌, false, List, [], ◌∷◌, ◌++◌, take, append-nil, Option, None, Result, Ok, Err, OnOk, refl, sym, ◌∙◌, ap, subst, arith, ◌⊎◌, ⊎_elim, Bool, true, All-cons, All-nil, Closing, Dev, MemberId, Fate, Flying, Queue, closing_line, run, LockNo, Step, is_stopped, Console, Disk, Ghosts as PlantGhosts, Line, View, paper_now, Rose, SameWires, CopyGhosts, SamePapers, counts_of, Parts, AreBatched, AtCut, IsBroken, IsTight, cause_by, whole_pieces, AreFoundIn, IsFoundAt, Wait, waits_in, IsCutAs, at_line, before_line, HasCause, HasClosed, HasClosedBy, left_at as closes_at, VolumesStay, console_now, none_lost, NodeNo, Spares, stopped_in, journal_of, CopiesActed, Release, Keep, Outer, Told, calm, Admission, Denied, Frees, Locks, Refused, denied_closing, admitted, Left, left_by, ArePiecesOf, queue_met, Piece, Play, closes_with, fate_found, once_found, piece_of, play_of, Batched, Scene, Cause, Cut, Ends, Renewed, Replaced, Stops, clear, settle, IfRuns, ended_as, IfIdle, is_replaced, is_work, named_as, Proceeds, StaysLost, LineAt, pieces_as, play_as, HasLeftAs, IsCutBy, left_as, LeftAt, IsShapedAs, AreVolumesKept, HeardFirst, nobody, CopyCauses, IsSeated, IsUnseated, seat_cut, rose_later, stay_then, wires_then, spares_for, spares_then, Member, RenewsAs, proceeds_of, proceeds_on, kept_on}
+use Rattle.mas_run.proofs.LeftLemmas.{if_idle, stays_any, papers_on, console_stays}
+use Rattle.mas_run.proofs.PassedLemmas.{settle_none, kept_later}
+use Rattle.mas_run.proofs.WireLemmas.{carries_none, takes_none}
+use Rattle.mas_run.proofs.ArmLemmas.{IsTold, told_tells}
 use Rattle.mas_types.specs.declared.answers.Closing.TheVariants as closing
 use Rattle.mas_types.specs.declared.commands.Reply.TheVariants as reply
-use Rattle.mas_types.specs.declared.ids.Dev.{Dev}
-use Rattle.mas_types.specs.declared.ids.MemberId.{MemberId}
-use Rattle.mas_types.specs.declared.journals.Fate.{Fate}
-use Rattle.mas_types.specs.declared.journals.Fate.TheVariants.{Flying}
-use Rattle.mas_types.specs.declared.queues.Queue.{Queue}
-use Rattle.mas_types.specs.Closings.{closing_line}
-use Rattle.mas_types.specs.Run.{run}
-use Rattle.lock_cycle.specs.declared.answers.LockNo.{LockNo}
-use Rattle.script_lang.specs.declared.types.Step.{Step}
-use Rattle.lock_cycle.specs.Books.{is_stopped}
-use Rattle.spool_plant.specs.declared.plant.Part.TheVariants.{Console}
-use Rattle.spool_plant.specs.declared.plant.Plant.{Ghosts as PlantGhosts}
-use Rattle.spool_plant.specs.View.{Line, View, paper_now}
-use Rattle.spool_plant.specs.Acts.{Rose, SameWires}
-use Rattle.ckpt_copy.specs.declared.copying.Copying.{Ghosts as CopyGhosts}
-use Rattle.mas_complex.specs.Paper.{SamePapers, counts_of}
-use Rattle.mas_complex.specs.Parts.{Parts}
-use Rattle.member_hand.specs.Cuts.{AreBatched, AtCut, IsBroken, IsTight, cause_by, whole_pieces}
-use Rattle.member_hand.specs.Found.{AreFoundIn, IsFoundAt, Wait, waits_in}
-use Rattle.member_lines.specs.Closes.{IsCutAs, at_line, before_line}
-use Rattle.member_node.specs.Calls.{VolumesStay, console_now, none_lost}
-use Rattle.member_node.specs.declared.member.NodeNo.{NodeNo}
 use Rattle.member_node.specs.declared.member.NodeNo.TheVariants as no_node
-use Rattle.member_node.specs.Spares.{Spares, stopped_in}
-use Rattle.member_sittings.specs.Sat.{journal_of}
-use Rattle.step_turns.specs.declared.states.Release.{Release}
-use Rattle.step_turns.specs.declared.states.Release.TheVariants.{Keep, Outer}
-use Rattle.step_turns.specs.declared.states.State.TheVariants.{Told}
-use Rattle.step_turns.specs.Examples.{calm}
-use Rattle.run_turns.specs.Admissions.{Admission, Denied, Frees, Locks, Refused, denied_closing}
-use Rattle.run_turns.specs.Cuts.{Left, left_by}
-use Rattle.run_turns.specs.Givens.{ArePiecesOf, queue_met}
-use Rattle.run_turns.specs.Pieces.{Piece, Play, closes_with, fate_found, once_found, piece_of, play_of}
-use Rattle.run_turns.specs.Scenes.{Batched, Scene}
-use Rattle.run_turns.specs.Sights.{Cause, Cut, Ends, Renewed, Replaced, Stops, clear}
-use Rattle.member_resets.specs.Settling.{settle, IfRuns, ended_as}
-use Rattle.mas_run.specs.Lines.{IfIdle, is_replaced, is_work, named_as}
-use Rattle.run_opening.specs.Lines.{Proceeds, StaysLost}
-use Rattle.mas_run.specs.LinesAt.{LineAt, pieces_as, play_as}
-use Rattle.mas_run.specs.LinesLeft.{HasLeftAs, IsCutBy, left_as}
-use Rattle.mas_run.specs.Shapes.{IsShapedAs}
-use Rattle.run_opening.specs.Volumes.{AreVolumesKept}
-use Rattle.mas_run.proofs.LeftLemmas.{if_idle}
-use Rattle.mas_run.proofs.LinesLemmas.{settle_none}
-use Rattle.mas_run.proofs.StayLemmas.{stays_any}
-use Rattle.mas_run.proofs.WireLemmas.{carries_none, takes_none}
-use Rattle.mas_run.specs.Wires.{HeardFirst}
 
 -- HOW IT ENDED: whole, before its only line, or at it
 
@@ -65,19 +21,17 @@ cut_by (Unsaid cause) = before_line cause
 cut_by (Broken n tail cause) = at_line n tail cause
 
 -- the errors that end it at its line
-abbrev pub BreaksBy : NodeNo → ℕ → Option (List ℕ) → Type 0
+abbrev BreaksBy : NodeNo → ℕ → Option (List ℕ) → Type 0
 BreaksBy no_node.ConsoleFault n tail = (n ≡ 0) × (tail ≡ None)
 BreaksBy no_node.Halted n tail = Unit {0}
-BreaksBy no_node.BothLost n tail = ⊥
-BreaksBy no_node.NoMemory n tail = ⊥
+BreaksBy _ n tail = ⊥
 
 abbrev pub MayEnd : Result (Unit {0}) NodeNo → Ending → Type 0
 MayEnd (Ok done) Whole = Unit {0}
-MayEnd (Ok done) (Unsaid cause) = ⊥
-MayEnd (Ok done) (Broken n tail cause) = ⊥
 MayEnd (Err e) Whole = ⊥
 MayEnd (Err e) (Unsaid cause) = (cause ≡ cause_by e) × (e ≢ no_node.ConsoleFault)
 MayEnd (Err e) (Broken n tail cause) = (cause ≡ cause_by e) × BreaksBy e n tail
+MayEnd (Ok done) _ = ⊥
 
 -- as its answer cut it
 pub record EndedSo (r : Result (Unit {0}) NodeNo) (cut : Option Cut) : Type 0 where
@@ -85,7 +39,7 @@ pub record EndedSo (r : Result (Unit {0}) NodeNo) (cut : Option Cut) : Type 0 wh
   pub is : cut ≡ cut_by ending
   pub may : MayEnd r ending
 
-pub ended_so : (r : Result (Unit {0}) NodeNo) (cut : Option Cut) → IsCutAs r cut → EndedSo r cut
+ended_so : (r : Result (Unit {0}) NodeNo) (cut : Option Cut) → IsCutAs r cut → EndedSo r cut
 ended_so (Ok done) cut is = record { ending = Whole; is = is; may = tt }
 ended_so (Err no_node.ConsoleFault) cut is = record { ending = Broken 0 None Ends; is = is; may = (refl, (refl, refl)) }
 ended_so (Err no_node.NoMemory) cut is = record { ending = Unsaid Ends; is = is; may = (refl, λ e. absurd (cc)) }
@@ -93,7 +47,7 @@ ended_so (Err no_node.Halted) cut is = record { ending = Broken is.lines is.tail
 ended_so (Err no_node.BothLost) cut is = absurd is
 
 -- some ending of each answer, whatever is told
-pub some_end : (r : Result (Unit {0}) NodeNo) → (r ≡ Err no_node.BothLost → ⊥) → (e : Ending) × MayEnd r e × IsCutAs r (cut_by e)
+some_end : (r : Result (Unit {0}) NodeNo) → (r ≡ Err no_node.BothLost → ⊥) → (e : Ending) × MayEnd r e × IsCutAs r (cut_by e)
 some_end (Ok done) other = (Whole, tt, refl)
 some_end (Err no_node.ConsoleFault) other = (Broken 0 None Ends, (refl, (refl, refl)), refl)
 some_end (Err no_node.NoMemory) other = (Unsaid Ends, (refl, λ e. absurd (cc)), refl)
@@ -102,7 +56,7 @@ some_end (Err no_node.BothLost) other = absurd (other refl)
 
 -- ITS ONE PIECE
 
-abbrev pub one : List ℕ → Release → Piece
+abbrev one : List ℕ → Release → Piece
 one line r = piece_of (record { batches = []; next = Told; lines = line ∷ []; release = r }) false []
 
 module _ (line : List ℕ) (r : Release) where
@@ -114,72 +68,45 @@ module _ (line : List ℕ) (r : Release) where
     left_so : (e : Ending) → left_by by (cut_by e) play count ≡ left_by by (cut_by e) (so play) count
     left_so e = ap (λ (ps : List Piece). left_by by (cut_by e) (record play { pieces = ps }) count) is
 
-    no_batch : (e : Ending) → (left_by by (cut_by e) (so play) count).batches ≡ []
-    no_batch Whole = refl
-    no_batch (Unsaid cause) = refl
-    no_batch (Broken n tail cause) = refl
+    abbrev IsNothing : Left → Type 0
+    IsNothing l = (l.batches ≡ []) × (l.printed ≡ []) × (l.given ≡ [])
 
-    no_print : (e : Ending) → (left_by by (cut_by e) (so play) count).printed ≡ []
-    no_print Whole = refl
-    no_print (Unsaid cause) = refl
-    no_print (Broken n tail cause) = refl
+    one_nothing : (e : Ending) → IsNothing (left_by by (cut_by e) play count)
+    one_nothing e = subst IsNothing (sym (left_so e)) (so_nothing e) where
+      so_nothing : (f : Ending) → IsNothing (left_by by (cut_by f) (so play) count)
+      so_nothing Whole = (refl, refl, refl)
+      so_nothing _ = (refl, refl, refl)
 
-    no_given : (e : Ending) → (left_by by (cut_by e) (so play) count).given ≡ []
-    no_given Whole = refl
-    no_given (Unsaid cause) = refl
-    no_given (Broken n tail cause) = refl
-
-    pub one_given : (e : Ending) → (left_by by (cut_by e) play count).given ≡ []
-    one_given e = ap (λ (l : Left). l.given) (left_so e) ∙ no_given e
-
-    pub one_batches : (e : Ending) → (left_by by (cut_by e) play count).batches ≡ []
-    one_batches e = ap (λ (l : Left). l.batches) (left_so e) ∙ no_batch e
-
-    pub one_printed : (e : Ending) → (left_by by (cut_by e) play count).printed ≡ []
-    one_printed e = ap (λ (l : Left). l.printed) (left_so e) ∙ no_print e
-
-    pub one_count : (left_by by None play count).count ≡ count
+    one_count : (left_by by None play count).count ≡ count
     one_count = let same : count + 0 ≡ count = omega arith in ap (λ (l : Left). l.count) (left_so Whole) ∙ same
 
   -- WHERE IT WAS CUT
 
   cut_one : (k : Result (Unit {0}) NodeNo) (e : Ending) → MayEnd k e → IsCutBy k (one line r ∷ []) (cut_by e)
   cut_one (Ok done) Whole may = refl
-  cut_one (Ok done) (Unsaid cause) may = absurd may
-  cut_one (Ok done) (Broken n tail cause) may = absurd may
+  cut_one (Ok done) _ may = absurd may
   cut_one (Err k) Whole may = absurd may
-  cut_one (Err no_node.BothLost) (Unsaid cause) may = record { there = inl (omega arith); halt = tt; cause = may.0 }
-  cut_one (Err no_node.NoMemory) (Unsaid cause) may = record { there = inl (omega arith); halt = tt; cause = may.0 }
-  cut_one (Err no_node.Halted) (Unsaid cause) may = record { there = inl (omega arith); halt = tt; cause = may.0 }
   cut_one (Err no_node.ConsoleFault) (Unsaid cause) may = absurd (may.1 refl)
-  cut_one (Err no_node.BothLost) (Broken n tail cause) may = absurd may.1
-  cut_one (Err no_node.NoMemory) (Broken n tail cause) may = absurd may.1
   cut_one (Err no_node.Halted) (Broken n tail cause) may = record { there = inl (omega arith); halt = tt; cause = may.0 }
   cut_one (Err no_node.ConsoleFault) (Broken n tail cause) may = record { there = inl (omega arith); halt = may.1.1; cause = may.0 }
+  cut_one _ (Unsaid cause) may = record { there = inl (omega arith); halt = tt; cause = may.0 }
+  cut_one _ (Broken n tail cause) may = absurd may.1
 
   tight_one : (k : NodeNo) (e : Ending) → AtCut (IsTight k) (cut_by e) (one line r ∷ [])
   tight_one k Whole = tt
   tight_one no_node.BothLost (Unsaid cause) = (inr refl, tt)
   tight_one no_node.NoMemory (Unsaid cause) = inr refl
-  tight_one no_node.Halted (Unsaid cause) = tt
-  tight_one no_node.ConsoleFault (Unsaid cause) = tt
   tight_one no_node.BothLost (Broken n tail cause) = tt
-  tight_one no_node.NoMemory (Broken n tail cause) = tt
-  tight_one no_node.Halted (Broken n tail cause) = tt
-  tight_one no_node.ConsoleFault (Broken n tail cause) = tt
+  tight_one _ (Broken n tail cause) = tt
+  tight_one _ (Unsaid cause) = tt
 
   broken_one : (k : Result (Unit {0}) NodeNo) (e : Ending) → MayEnd k e → AtCut (IsBroken (ended_as k)) (cut_by e) (one line r ∷ [])
   broken_one k Whole may = tt
-  broken_one (Ok done) (Unsaid cause) may = absurd may
-  broken_one (Ok done) (Broken n tail cause) may = absurd may
-  broken_one (Err no_node.BothLost) (Unsaid cause) may = tt
-  broken_one (Err no_node.NoMemory) (Unsaid cause) may = tt
-  broken_one (Err no_node.Halted) (Unsaid cause) may = tt
-  broken_one (Err no_node.ConsoleFault) (Unsaid cause) may = tt
-  broken_one (Err no_node.BothLost) (Broken n tail cause) may = tt
-  broken_one (Err no_node.NoMemory) (Broken n tail cause) may = tt
-  broken_one (Err no_node.Halted) (Broken n tail cause) may = tt
+  broken_one (Ok done) _ may = absurd may
   broken_one (Err no_node.ConsoleFault) (Broken n tail cause) may = let none = may.1.0 in omega (arith, none)
+  broken_one (Err no_node.ConsoleFault) (Unsaid cause) may = tt
+  broken_one _ (Unsaid cause) may = tt
+  broken_one _ (Broken n tail cause) may = tt
 
   abbrev HonestAt : ℕ → MemberId → View → View → Wait → Type 0
   HonestAt per by old new w = IsFoundAt per by old new w.queue w.state (calm w.queue w.state)
@@ -190,15 +117,13 @@ module _ (line : List ℕ) (r : Release) where
   honest_one per by old new Q Whole =
       let w : Wait = record { queue = run Q []; state = Told } in
       All-cons (HonestAt per by old new) w [] refl (All-nil (HonestAt per by old new))
-  honest_one per by old new Q (Unsaid cause) = All-nil (HonestAt per by old new)
-  honest_one per by old new Q (Broken n tail cause) = All-nil (HonestAt per by old new)
+  honest_one per by old new Q _ = All-nil (HonestAt per by old new)
 
 -- and heard nothing
 heard_one : (line : List ℕ) (r : Release) (since : ℕ) (by : MemberId) (old new : View) (Q : Queue) (e : Ending) → SameWires old new
     → HeardFirst since by old new calm (waits_in (take (whole_pieces (cut_by e) (one line r ∷ [])) (one line r ∷ [])) Q)
 heard_one line r since by old new Q Whole same = takes_none old new same
-heard_one line r since by old new Q (Unsaid cause) same = tt
-heard_one line r since by old new Q (Broken n tail cause) same = tt
+heard_one line r since by old new Q _ same = tt
 
 -- WHAT IT LEAVES
 
@@ -248,62 +173,52 @@ module _ {P C : Type 0} (plants : PlantGhosts P) (copies : CopyGhosts C) (told :
     play : Play
     play = play_as l a
 
-    batches_none : (left_as l a).batches ≡ []
-    batches_none = one_batches line r step.by (play_as l a) (S.counts step.by) closer.pieces e
-
-    printed_none : (left_as l a).printed ≡ []
-    printed_none = one_printed line r step.by (play_as l a) (S.counts step.by) closer.pieces e
-
-    papers_now : told → (m : ℕ) → paper_now (v y) m ≡ paper_now (v x) m
-    papers_now t m = acted.papers (tells t) (v y).now acted.goes.later (let same : (v y).now ≤ (v y).now = omega arith in same) m
-
     -- the member's count is as it was
     count_same : (k : Result (Unit {0}) NodeNo) (f : Ending) → MayEnd k f → OnOk k (counts_of x.printed step.by ≡ S.counts step.by)
         → OnOk k (counts_of y.printed step.by ≡ (left_by step.by (cut_by f) (play_as l a) (S.counts step.by)).count)
     count_same (Ok done) Whole so was =
         ap (λ (p : List ℕ). counts_of p step.by) printed ∙ was ∙ sym (one_count line r step.by (play_as l a) (S.counts step.by) closer.pieces)
-    count_same (Ok done) (Unsaid cause) so was = absurd so
-    count_same (Ok done) (Broken n tail cause) so was = absurd so
     count_same (Err k) f so was = tt
+    count_same (Ok done) _ so was = absurd so
 
-    found_none : settle (fate_found a l.given.sight) (v x).now (journal_of x) ++ [] ≡ journal_of x
-    found_none = ap (λ (f : Fate). settle f (v x).now (journal_of x) ++ []) closer.found ∙ append-nil (settle Flying (v x).now (journal_of x)) ∙ settle_none (v x).now (journal_of x)
-
-    pub closed_left : HasLeftAs plants copies told l a x y result
-    closed_left = record {
-      goes = acted.goes;
-      stays = acted.stays;
-      arms = acted.arms;
-      shaped = inr (closer.shaped (v x) (v y));
-      right = λ t. closer.right;
-      honest = λ t. subst (λ (qs : List Piece). AreFoundIn S.queue.config.groups step.by (v x) (v y) calm (waits_in (take (whole_pieces (cut_by e) qs) qs) (queue_met S a l.given.sight)))
-          (sym closer.pieces) (honest_one line r S.queue.config.groups step.by (v x) (v y) (queue_met S a l.given.sight) e);
-      stay = λ t. stays_any (named_as l a (cut_by e)) (v x) (v y) acted.stay;
-      cut = subst (λ (qs : List Piece). IsCutBy result qs (cut_by e)) (sym closer.pieces) (cut_one line r result e may);
-      tight = subst (λ (qs : List Piece). IfIdle (is_work a) (AtCut (IsTight (ended_as result)) (cut_by e) qs)) (sym closer.pieces)
-          (if_idle (is_work a) _ (tight_one line r (ended_as result) e));
-      broke = λ t. subst (λ (qs : List Piece). AtCut (IsBroken (ended_as result)) (cut_by e) qs) (sym closer.pieces) (broken_one line r result e may);
-      spares = acted.spares;
-      stopped = acted.stopped;
-      failed = acted.failed;
-      own = [];
-      at = (v x).now;
-      moment = (omega arith, acted.goes.later);
-      journal = journal ∙ sym found_none;
-      batches = subst (λ (bs : List Batched). AreBatched step.by (v x).now (v y).now bs []) (sym batches_none) tt;
-      book = book;
-      console = console;
-      paper = λ t. papers_now t step.by.0 ∙ sym (append-nil (paper_now (v x) step.by.0)) ∙ ap (λ (ls : List Line). paper_now (v x) step.by.0 ++ ls) (sym printed_none);
-      other_papers = λ t m other. papers_now t m;
-      dry = λ t none. acted.papers (tells t);
-      count = λ t up. count_same result e may (counted t up);
-      other_counts = λ t m other. ap (λ (p : List ℕ). counts_of p m) printed;
-      loses = λ t d. inl (acted.loses (tells t) d);
-      volumes = λ t leaves. acted.volumes (tells t);
-      wires = λ t. carries_none x.since l a (left_as l a).given (v x) (v y) (one_given line r step.by (play_as l a) (S.counts step.by) closer.pieces e) (acted.wires (tells t))
-          (subst (λ (qs : List Piece). HeardFirst x.since step.by (v x) (v y) calm (waits_in (take (whole_pieces (cut_by e) qs) qs) (queue_met S a l.given.sight)))
-          (sym closer.pieces) (heard_one line r x.since step.by (v x) (v y) (queue_met S a l.given.sight) e (acted.wires (tells t))));
-    }
+    closed_left : HasLeftAs plants copies told l a x y result
+    closed_left = let found_none : settle (fate_found a l.given.sight) (v x).now (journal_of x) ++ [] ≡ journal_of x = ap (λ (f : Fate). settle f (v x).now (journal_of x) ++ []) closer.found ∙ append-nil (settle Flying (v x).now (journal_of x)) ∙ settle_none (v x).now (journal_of x) in
+        let papers_now : told → (m : ℕ) → paper_now (v y) m ≡ paper_now (v x) m = λ t m. acted.papers (tells t) (v y).now acted.goes.later (let same : (v y).now ≤ (v y).now = omega arith in same) m in
+        let printed_none : (left_as l a).printed ≡ [] = (one_nothing line r step.by (play_as l a) (S.counts step.by) closer.pieces e).1 in
+        let batches_none : (left_as l a).batches ≡ [] = (one_nothing line r step.by (play_as l a) (S.counts step.by) closer.pieces e).0 in record {
+          goes = acted.goes;
+          stays = acted.stays;
+          arms = acted.arms;
+          shaped = inr (closer.shaped (v x) (v y));
+          right = λ t. closer.right;
+          honest = λ t. subst (λ (qs : List Piece). AreFoundIn S.queue.config.groups step.by (v x) (v y) calm (waits_in (take (whole_pieces (cut_by e) qs) qs) (queue_met S a l.given.sight)))
+              (sym closer.pieces) (honest_one line r S.queue.config.groups step.by (v x) (v y) (queue_met S a l.given.sight) e);
+          stay = λ t. stays_any (named_as l a (cut_by e)) (v x) (v y) acted.stay;
+          cut = subst (λ (qs : List Piece). IsCutBy result qs (cut_by e)) (sym closer.pieces) (cut_one line r result e may);
+          tight = subst (λ (qs : List Piece). IfIdle (is_work a) (AtCut (IsTight (ended_as result)) (cut_by e) qs)) (sym closer.pieces)
+              (if_idle (is_work a) _ (tight_one line r (ended_as result) e));
+          broke = λ t. subst (λ (qs : List Piece). AtCut (IsBroken (ended_as result)) (cut_by e) qs) (sym closer.pieces) (broken_one line r result e may);
+          spares = acted.spares;
+          stopped = acted.stopped;
+          failed = acted.failed;
+          own = [];
+          at = (v x).now;
+          moment = (omega arith, acted.goes.later);
+          journal = journal ∙ sym found_none;
+          batches = subst (λ (bs : List Batched). AreBatched step.by (v x).now (v y).now bs []) (sym batches_none) tt;
+          book = book;
+          console = console;
+          paper = λ t. papers_now t step.by.0 ∙ sym (append-nil (paper_now (v x) step.by.0)) ∙ ap (λ (ls : List Line). paper_now (v x) step.by.0 ++ ls) (sym printed_none);
+          other_papers = λ t m other. papers_now t m;
+          dry = λ t none. acted.papers (tells t);
+          count = λ t up. count_same result e may (counted t up);
+          other_counts = λ t m other. ap (λ (p : List ℕ). counts_of p m) printed;
+          loses = λ t d. inl (acted.loses (tells t) d);
+          volumes = λ t leaves. acted.volumes (tells t);
+          wires = λ t. carries_none x.since l a (left_as l a).given (v x) (v y) (one_nothing line r step.by (play_as l a) (S.counts step.by) closer.pieces e).2 (acted.wires (tells t))
+              (subst (λ (qs : List Piece). HeardFirst x.since step.by (v x) (v y) calm (waits_in (take (whole_pieces (cut_by e) qs) qs) (queue_met S a l.given.sight)))
+              (sym closer.pieces) (heard_one line r x.since step.by (v x) (v y) (queue_met S a l.given.sight) e (acted.wires (tells t))));
+        }
 
 -- THE FOUR ADMISSIONS that only close
 
@@ -339,3 +254,165 @@ module _ (S : Scene) (at : ℕ) (step : Step) (e : Ending) where
     found = refl;
     play = refl;
   }
+
+-- WHAT A CALL THAT CLOSES DID
+
+by_test : {A : Type 0} (b : Bool) → (b ≡ true → A) → (b ≡ false → A) → A
+by_test true f g = f refl
+by_test false f g = g refl
+
+pub not_lost : (r : Result (Unit {0}) NodeNo) (m : ℕ) (old new : View) → HasCause r m old new → r ≡ Err no_node.BothLost → ⊥
+not_lost r m old new cause is = subst (λ (q : Result (Unit {0}) NodeNo). HasCause q m old new) is cause
+
+module _ {P C : Type 0} (plants : PlantGhosts P) (S : Scene) (by : MemberId) (at : ℕ) (a : Admission) (sayer : MemberId) (x y : Parts P C) (r : Result (Unit {0}) NodeNo)
+    (left : Option Cut → Left) (closed : HasClosedBy plants left sayer x y r) (says : (sayer ≡ nobody) ⊎ (sayer ≡ by)) where
+  -- the operator is never stopped
+  pub none_stopped : sayer ≡ nobody → stopped_in r ≡ false
+  none_stopped none = by_test (stopped_in r) (λ is. absurd (let some = closed.spares.operator is in let zero : sayer.0 ≡ 0 = ap (λ (m : MemberId). m.0) none in omega (arith, some, zero))) (λ up. up)
+
+  was_stopped : r ≡ Err no_node.Halted → Rose ((plants.view x.plant).stops by.0) ((plants.view y.plant).stops by.0)
+  was_stopped is = ⊎_elim
+      (λ none. absurd (halted (sym (ap (λ (q : Result (Unit {0}) NodeNo). stopped_in q) is) ∙ none_stopped none)))
+      (λ same. subst (λ (m : MemberId). Rose ((plants.view x.plant).stops m.0) ((plants.view y.plant).stops m.0)) same (subst (λ (q : Result (Unit {0}) NodeNo). HasCause q sayer.0 (plants.view x.plant) (plants.view y.plant)) is closed.cause))
+      says where
+        halted : true ≡ false → ⊥
+        halted e = absurd (cc)
+
+  pub merely_closed : HasMerelyActed plants by a x y r
+  merely_closed = let its_own : Spares by.0 (stopped_in r) (plants.view x.plant) (plants.view y.plant) = ⊎_elim
+      (λ none. let up = none_stopped none in
+      subst (λ (b : Bool). Spares by.0 b (plants.view x.plant) (plants.view y.plant)) (sym up) (spares_for by.0 sayer.0 (plants.view x.plant) (plants.view y.plant) (subst (λ (b : Bool). Spares sayer.0 b (plants.view x.plant) (plants.view y.plant)) up closed.spares)))
+      (λ same. subst (λ (m : MemberId). Spares m.0 (stopped_in r) (plants.view x.plant) (plants.view y.plant)) same closed.spares)
+      says in
+      record {
+        goes = proceeds_of (plants.view x.plant) (plants.view y.plant) closed.acts.goes;
+        stays = λ d other. closed.acts.goes.lost (Disk d);
+        arms = closed.acts.goes.arms;
+        spares = its_own;
+        stopped = was_stopped;
+        failed = λ is. subst (λ (q : Result (Unit {0}) NodeNo). HasCause q sayer.0 (plants.view x.plant) (plants.view y.plant)) is closed.cause;
+        loses = λ t. closed.acts.loses;
+        papers = closed.acts.papers;
+        wires = closed.acts.wires;
+        volumes = λ t. kept_on (plants.view x.plant) (plants.view y.plant) (closed.acts.others t);
+        stay = console_stays (plants.view x.plant) (plants.view y.plant) closed.acts;
+      }
+
+pub if_runs : (r : Result (Unit {0}) NodeNo) (P : Type 0) → P → IfRuns r P
+if_runs (Ok done) P p = p
+if_runs (Err no_node.Halted) P p = p
+if_runs _ P p = tt
+
+-- A LINE AS IT WAS ADMITTED, whose pieces and closing line are these
+
+module _ {P C : Type 0} (plants : PlantGhosts P) (copies : CopyGhosts C) (S : Scene) (at : ℕ) (step : Step) (a : Admission)
+    (adm : admitted S.queue.config S.book step.by step.what ≡ a) (found : Renewed) (ps : List Piece) (line : List ℕ) (rel : Release)
+    (closer : (e : Ending) → IsCloser (closing_found found S at step e ps) a line rel) where
+  abbrev w : Parts P C → View
+  w z = plants.view z.plant
+
+  -- what such a line leaves that is cut so
+  abbrev closes_so : Option Cut → Left
+  closes_so cut = left_by step.by cut (play_of S step.by at (record clear { renewed = found }) a) (S.counts step.by)
+
+  abbrev Renews : Parts P C → Parts P C → Ending → Type 0
+  Renews x y e = RenewsAs a (cut_by e) found x.renewals y.renewals (w x) (w y)
+
+  module _ (x y : Parts P C) (r : Result (Unit {0}) NodeNo) (journal : journal_of y ≡ journal_of x) (printed : y.printed ≡ x.printed) (told : Type 0)
+      (counted : told → is_stopped S.book step.by ≡ false → OnOk r (counts_of x.printed step.by ≡ S.counts step.by)) where
+    -- what it leaves in the words of the calls that close
+    pub left_said : (told → plants.tells) → (e : Ending) → Renews x y e → MayEnd r e → HasMerelyActed plants step.by a x y r → IfRuns r (y.book ≡ (closes_so (cut_by e)).book)
+        → (told → console_now (w y) ≡ console_now (w x) ++ (closes_so (cut_by e)).lines) → LeftAt plants copies told S at step x y r
+    left_said tells e renews may acted book console = let line_left : (told : Type 0) (e : Ending) (x y : Parts P C) (r : Result (Unit {0}) NodeNo) → Renews x y e → HasLeftAs plants copies told (closing_found found S at step e ps) a x y r → LeftAt plants copies told S at step x y r = λ told e x y r renews left. record {
+      given = (closing_found found S at step e ps).given;
+      renews = subst (λ (b : Admission). RenewsAs b (cut_by e) found x.renewals y.renewals (w x) (w y)) (sym adm) renews;
+      left = subst (λ (b : Admission). HasLeftAs plants copies told (closing_found found S at step e ps) b x y r) (sym adm) left;
+    } in
+        let left_same : (e : Ending) → left_as (closing_found found S at step e ps) a ≡ closes_so (cut_by e) = λ e. ap (λ (play : Play). left_by step.by (cut_by e) play (S.counts step.by)) (closer e).play in
+        line_left told e x y r renews (closed_left plants copies told tells S at step a found e ps line rel x y r (closer e) may acted journal printed
+        (subst (λ k. IfRuns r (y.book ≡ k)) (sym (ap (λ k. k.book) (left_same e))) book)
+        (λ t. console t ∙ ap (λ (ls : List Line). console_now (w x) ++ ls) (sym (ap (λ k. k.lines) (left_same e)))) counted)
+
+    -- A call that closes the line, by its member or the operator, from a value that shows the same console
+
+    module _ (sayer : MemberId) (mid : Parts P C) (before : plants.tells → console_now (w mid) ≡ console_now (w x)) (closed : HasClosedBy plants closes_so sayer mid y r)
+        (acted : HasMerelyActed plants step.by a x y r) (renews : (e : Ending) → Renews x y e) where
+      ends : (told → plants.tells) → (e : Ending) → MayEnd r e → IsCutAs r (cut_by e) → (told → console_now (w y) ≡ console_now (w x) ++ (closes_so (cut_by e)).lines) → LeftAt plants copies told S at step x y r
+      ends tells e may is = left_said tells e (renews e) may acted (if_runs r _ (closed.book (cut_by e) is))
+
+      pub closes_left : IsTold plants told → LeftAt plants copies told S at step x y r
+      closes_left (inl none) =
+          let some = some_end r (not_lost r sayer.0 (w mid) (w y) closed.cause) in
+          ends (λ t. absurd (none t)) some.0 some.1 some.2 (λ t. absurd (none t))
+      closes_left (inr known) =
+          let stood = closed.console known.1 in
+          let so = ended_so r stood.cut stood.is_cut in
+          ends (λ t. known.1) so.ending so.may (subst (λ (c : Option Cut). IsCutAs r c) so.is stood.is_cut)
+          (λ t. stood.lines ∙ ap (λ (ls : List Line). ls ++ (closes_so stood.cut).lines) (before known.1) ∙ ap (λ (c : Option Cut). console_now (w x) ++ (closes_so c).lines) so.is)
+
+-- A MEMBER TAKES ITS SEAT, and then closes the line, or couldn't take it
+
+module _ {P C : Type 0} (plants : PlantGhosts P) (copies : CopyGhosts C) (S : Scene) (at : ℕ) (step : Step) (a : Admission)
+    (x y : Parts P C) (m : Member) (own : m.id ≡ step.by) where
+  abbrev u : Parts P C → View
+  u z = plants.view z.plant
+
+  -- acts on the copies
+  pub copies_merely : (z : Parts P C) (r : Result (Unit {0}) NodeNo) → CopiesActed plants m.id x z r → HasMerelyActed plants step.by a x z r
+  copies_merely z r acts = record {
+    goes = proceeds_of (u x) (u z) acts.on.course.goes;
+    stays = λ d other. acts.on.course.goes.lost (Disk d);
+    arms = acts.on.course.goes.arms;
+    spares = subst (λ (k : MemberId). Spares k.0 (stopped_in r) (u x) (u z)) own acts.on.spares;
+    stopped = λ is. subst (λ (k : MemberId). Rose ((u x).stops k.0) ((u z).stops k.0)) own
+        (subst (λ (q : Result (Unit {0}) NodeNo). CopyCauses q m.id.0 x.first_alive z.first_alive x.second_alive z.second_alive (u x) (u z)) is acts.on.cause).1;
+    failed = λ is. absurd (subst (λ (q : Result (Unit {0}) NodeNo). CopyCauses q m.id.0 x.first_alive z.first_alive x.second_alive z.second_alive (u x) (u z)) is acts.on.cause);
+    loses = acts.on.loses;
+    papers = λ t. (acts.on.apart t).papers;
+    wires = λ t. (acts.on.apart t).wires;
+    volumes = λ t. kept_on (u x) (u z) (acts.on.apart t).others;
+    stay = acts.on.course.volumes;
+  }
+
+  -- then others
+  pub then_merely : (mid : Parts P C) (r : Result (Unit {0}) NodeNo) → HasMerelyActed plants step.by a x mid (Ok tt) → HasMerelyActed plants step.by a mid y r → HasMerelyActed plants step.by a x y r
+  then_merely mid r one two = record {
+    goes = proceeds_on (u x) (u mid) (u y) one.goes two.goes;
+    stays = λ d other is. two.stays d other (one.stays d other is);
+    arms = λ k. two.arms k ∙ one.arms k;
+    spares = spares_then step.by.0 (stopped_in r) (u x) (u mid) (u y) one.spares two.spares;
+    stopped = λ is. rose_later ((u x).stops step.by.0) ((u mid).stops step.by.0) ((u y).stops step.by.0) (one.goes.stops step.by.0) (two.stopped is);
+    failed = λ is. rose_later ((u x).faults Console) ((u mid).faults Console) ((u y).faults Console) (one.goes.faults Console) (two.failed is);
+    loses = λ t d. two.loses t d ∙ one.loses t d;
+    papers = λ t. papers_on (u x) (u mid) (u y) one.goes.later two.goes (one.papers t) (two.papers t);
+    wires = λ t. wires_then (u x) (u mid) (u y) (one.wires t) (two.wires t);
+    volumes = λ t. kept_later (u x) (u mid) (u y) one.goes.later two.goes (one.volumes t) (two.volumes t);
+    stay = stay_then none_lost (u x) (u mid) (u y) one.stay two.stay;
+  }
+
+  -- the member had no seat: its line is cut before anything was said
+  seat_end : (e : NodeNo) → CopyCauses {T = Unit {0}} (Err e) m.id.0 x.first_alive y.first_alive x.second_alive y.second_alive (u x) (u y)
+      → (cause : Cause) × MayEnd (Err e) (Unsaid cause) × (seat_cut e ≡ before_line cause)
+  seat_end no_node.Halted cause = (Stops, (refl, λ is. absurd (cc)), refl)
+  seat_end no_node.ConsoleFault cause = absurd cause
+  seat_end _ cause = (Ends, (refl, λ is. absurd (cc)), refl)
+
+  module _ (adm : admitted S.queue.config S.book step.by step.what ≡ a) (ps : List Piece) (line : List ℕ) (rel : Release)
+      (closer : (e : Ending) → IsCloser (closing_at S at step e ps) a line rel) (journal : journal_of y ≡ journal_of x) (printed : y.printed ≡ x.printed) where
+    module _ (told : Type 0) (knows : IsTold plants told) where
+      pub unseated_left : ((cause : Cause) → RenewsAs a (before_line cause) Replaced x.renewals y.renewals (u x) (u y)) → (e : NodeNo) → IsUnseated plants copies S m at a x y e → LeftAt plants copies told S at step x y (Err e)
+      unseated_left renews e un =
+          let k = seat_end e un.acts.on.cause in
+          let none : (closes_at S step.by at a (before_line k.0)).lines ≡ [] =
+          sym (ap (λ (c : Option Cut). (closes_at S step.by at a c).lines) k.2) ∙ sym (ap (λ (by : MemberId). (closes_at S by at a (seat_cut e)).lines) own) ∙ un.lines in
+          left_said plants copies S at step a adm Replaced ps line rel closer x y (Err e) journal printed told (λ t up. tt) (told_tells plants told knows) (Unsaid k.0) (renews k.0) k.1 (copies_merely y (Err e) un.acts)
+          (if_runs (Err e) _ (un.book ∙ ap (λ (by : MemberId). (closes_at S by at a (seat_cut e)).book) own ∙ ap (λ (c : Option Cut). (closes_at S step.by at a c).book) k.2))
+          (λ t. (un.acts.on.apart (told_tells plants told knows t)).console ∙ sym (append-nil (console_now (u x))) ∙ ap (λ (ls : List Line). console_now (u x) ++ ls) (sym none))
+
+      -- it has its seat
+      pub seated_left : (n : Member) (r : Result (Unit {0}) NodeNo) → IsSeated plants copies S m n at a x y r → ((e : Ending) → RenewsAs a (cut_by e) Replaced x.renewals y.renewals (u x) (u y))
+          → (told → is_stopped S.book step.by ≡ false → OnOk r (counts_of x.printed step.by ≡ S.counts step.by)) → LeftAt plants copies told S at step x y r
+      seated_left n r seated renews counted =
+          let closed : HasClosed plants S step.by at a step.by seated.mid y r = subst (λ (k : MemberId). HasClosed plants S k at a k seated.mid y r) own seated.closed in
+          closes_left plants copies S at step a adm Replaced ps line rel closer x y r journal printed told counted step.by seated.mid (λ tells. (seated.acts.on.apart tells).console) closed
+          (then_merely seated.mid r (copies_merely seated.mid (Ok tt) seated.acts) (merely_closed plants S step.by at a step.by seated.mid y r (closes_at S step.by at a) closed (inr refl))) renews knows

@@ -1,41 +1,12 @@
 -- The copies in lines one after another.
-use Rattle.std.proofs.Common.{◌≡◌, ◌⊎◌, inl, inr, ℕ, Bool, true, false, Result, Ok, Err, refl, sym, ◌∙◌, subst, ⊎_elim, ap}
-use Rattle.mas_types.specs.declared.ids.Dev.{Dev}
-use Rattle.mas_types.specs.declared.ids.Dev.TheVariants.{Ckpt1, Ckpt2}
-use Rattle.spool_plant.specs.declared.plant.Plant.{Ghosts as PlantGhosts}
-use Rattle.spool_plant.specs.View.{View}
-use Rattle.duplex_pair.specs.Halves.{SomeAlive}
-use Rattle.mas_complex.specs.Parts.{Parts}
-use Rattle.member_node.specs.declared.member.NodeNo.{NodeNo}
+use Rattle.mas_run.proofs.Names.{◌≡◌, ◌⊎◌, inl, inr, ℕ, Bool, true, false, Result, Ok, Err, refl, sym, ◌∙◌, subst, ⊎_elim, ap, Dev, Ckpt1, Ckpt2, Ghosts as PlantGhosts, View, SomeAlive, Parts, NodeNo, Grows, IsLeft, grow_rose, no, rose_grow, KeepCopies, LeavesCopies, LeavesOne, LeavesSome, ends_both, sides_of, HasLost, proceeds_none, proceeds_of, proceeds_on, OnConsole, StepCauses, HasActedIn, Passage, MemberId, CopyGhosts, is_open, Renewals}
 use Rattle.member_node.specs.declared.member.NodeNo.TheVariants as no_node
-use Rattle.member_node.specs.Calls.{Grows, IsLeft}
-use Rattle.member_node.proofs.CourseLemmas.{grow_rose, no, rose_grow}
-use Rattle.mas_run.specs.Copies.{KeepCopies, LeavesSome, LeavesCopies}
-use Rattle.mas_run.specs.Runs.{HasLost}
-use Rattle.mas_run.proofs.CourseLemmas.{has_lost_later, has_lost_more}
-use Rattle.run_opening.proofs.ProceedLemmas.{proceeds_none, proceeds_of, proceeds_on}
-use Rattle.member_steps.specs.Saying.{OnConsole}
-use Rattle.member_steps.specs.Steps.{StepCauses}
-use Rattle.member_hand.specs.Plays.{HasActedIn, Passage}
-use Rattle.mas_types.specs.declared.ids.MemberId.{MemberId}
-use Rattle.ckpt_copy.specs.declared.copying.Copying.{Ghosts as CopyGhosts}
-use Rattle.mas_complex.specs.Renewals.{is_open}
-use Rattle.mas_complex.specs.declared.renewals.Renewals.{Renewals}
 use Rattle.run_opening.proofs.LossLemmas.{lost_after, lost_before}
-
-grows_on : (x y z : ℕ) → Grows x y → Grows y z → Grows x z
-grows_on x y z one two = ⊎_elim (λ same. ⊎_elim (λ still. inl (still ∙ same)) (λ rose. inr (grow_rose x y z one rose)) two) (λ rose. inr (rose_grow x y z rose two)) one
+use Rattle.member_decks.proofs.OutcomeLemmas.{left_then}
 
 by_test : {A : Type 0} (b : Bool) → (b ≡ true → A) → (b ≡ false → A) → A
 by_test true f g = f refl
 by_test false f g = g refl
-
--- one is left, or both are as they were, at both of two calls
-left_on : (a a' a'' b b' b'' : Bool) → IsLeft a a' b b' → IsLeft a' a'' b' b'' → IsLeft a a'' b b''
-left_on a a' a'' b b' b'' one two = ⊎_elim inl
-    (λ same. ⊎_elim (λ some. inl (subst (λ (x : Bool). SomeAlive x b'') (sym same.0) (subst (λ (x : Bool). SomeAlive a' x) (sym same.1) some)))
-    (λ still. inr (same.0 ∙ still.0, same.1 ∙ still.1)) one)
-    two
 
 -- so one is alive, where one was
 pub alive_on : (a a' b b' : Bool) → SomeAlive a b → IsLeft a a' b b' → SomeAlive a' b'
@@ -51,20 +22,25 @@ module _ {P C : Type 0} (plants : PlantGhosts P) where
 
   lefts : (x y z : Parts P C) → ((d : Dev) → Grows ((v x).loses d) ((v y).loses d)) → ((d : Dev) → Grows ((v y).loses d) ((v z).loses d))
       → Left x y → Left y z → Left x z
-  lefts x y z grow more one two = ⊎_elim
+  lefts x y z grow more one two = let has_lost_later : (v0 v1 v2 : View) → ((d : Dev) → Grows (v0.loses d) (v1.loses d)) → HasLost v1 v2 → HasLost v0 v2 = λ v0 v1 v2 grow lost. ⊎_elim
+      (λ rose. inl (grow_rose (v0.loses Ckpt1) (v1.loses Ckpt1) (v2.loses Ckpt1) (grow Ckpt1) rose))
+      (λ rose. inr (grow_rose (v0.loses Ckpt2) (v1.loses Ckpt2) (v2.loses Ckpt2) (grow Ckpt2) rose))
+      lost in
+      let has_lost_more : (v0 v1 v2 : View) → HasLost v0 v1 → ((d : Dev) → Grows (v1.loses d) (v2.loses d)) → HasLost v0 v2 = λ v0 v1 v2 lost grow. ⊎_elim
+      (λ rose. inl (rose_grow (v0.loses Ckpt1) (v1.loses Ckpt1) (v2.loses Ckpt1) rose (grow Ckpt1)))
+      (λ rose. inr (rose_grow (v0.loses Ckpt2) (v1.loses Ckpt2) (v2.loses Ckpt2) rose (grow Ckpt2)))
+      lost in
+      ⊎_elim
       (λ some. ⊎_elim
-      (λ others. inl (left_on x.first_alive y.first_alive z.first_alive x.second_alive y.second_alive z.second_alive some others))
+      (λ others. inl (left_then x.first_alive y.first_alive z.first_alive x.second_alive y.second_alive z.second_alive some others))
       (λ lost. inr (has_lost_later (v x) (v y) (v z) grow lost)) two)
       (λ lost. inr (has_lost_more (v x) (v y) (v z) lost more))
       one
 
-  left_by : {T : Type 0} (x y z : Parts P C) (r : Result T NodeNo) → ((d : Dev) → Grows ((v x).loses d) ((v y).loses d)) → ((d : Dev) → Grows ((v y).loses d) ((v z).loses d))
-      → Left x y → LeavesSome plants y z r → LeavesSome plants x z r
-  left_by x y z (Ok done) grow more one two = lefts x y z grow more one two
-  left_by x y z (Err no_node.NoMemory) grow more one two = lefts x y z grow more one two
-  left_by x y z (Err no_node.ConsoleFault) grow more one two = lefts x y z grow more one two
-  left_by x y z (Err no_node.Halted) grow more one two = lefts x y z grow more one two
-  left_by x y z (Err no_node.BothLost) grow more one two = two
+  left_by : (both : Bool) (x y z : Parts P C) → ((d : Dev) → Grows ((v x).loses d) ((v y).loses d)) → ((d : Dev) → Grows ((v y).loses d) ((v z).loses d))
+      → Left x y → LeavesOne both (sides_of plants y) (sides_of plants z) → LeavesOne both (sides_of plants x) (sides_of plants z)
+  left_by false x y z grow more one two = lefts x y z grow more one two
+  left_by true x y z grow more one two = two
 
   pub copies_none : (x : Parts P C) → KeepCopies plants {T = Unit {0}} x x (Ok tt)
   copies_none x = record {
@@ -78,19 +54,20 @@ module _ {P C : Type 0} (plants : PlantGhosts P) where
   }
 
   pub copies_then : {T : Type 0} (x y z : Parts P C) (r : Result T NodeNo) → KeepCopies plants {T = Unit {0}} x y (Ok tt) → KeepCopies plants y z r → KeepCopies plants x z r
-  copies_then x y z r one two = record {
-    goes = proceeds_on (v x) (v y) (v z) one.goes two.goes;
-    failed1 = λ is not. by_test y.first_alive
-        (λ still. lost_after Ckpt1 (v x) (v y) (v z) one.goes (one.grow Ckpt1) (two.failed1 still not))
-        (λ gone. lost_before Ckpt1 (v x) (v y) (v z) (one.failed1 is gone) two.goes (two.grow Ckpt1));
-    failed2 = λ is not. by_test y.second_alive
-        (λ still. lost_after Ckpt2 (v x) (v y) (v z) one.goes (one.grow Ckpt2) (two.failed2 still not))
-        (λ gone. lost_before Ckpt2 (v x) (v y) (v z) (one.failed2 is gone) two.goes (two.grow Ckpt2));
-    there1 = λ is there. two.there1 is (λ then_is. one.there1 then_is there);
-    there2 = λ is there. two.there2 is (λ then_is. one.there2 then_is there);
-    grow = λ d. grows_on ((v x).loses d) ((v y).loses d) ((v z).loses d) (one.grow d) (two.grow d);
-    left = left_by x y z r one.grow two.grow one.left two.left;
-  }
+  copies_then x y z r one two = let grows_on : (x y z : ℕ) → Grows x y → Grows y z → Grows x z = λ x y z one two. ⊎_elim (λ same. ⊎_elim (λ still. inl (still ∙ same)) (λ rose. inr (grow_rose x y z one rose)) two) (λ rose. inr (rose_grow x y z rose two)) one in
+      record {
+        goes = proceeds_on (v x) (v y) (v z) one.goes two.goes;
+        failed1 = λ is not. by_test y.first_alive
+            (λ still. lost_after Ckpt1 (v x) (v y) (v z) one.goes (one.grow Ckpt1) (two.failed1 still not))
+            (λ gone. lost_before Ckpt1 (v x) (v y) (v z) (one.failed1 is gone) two.goes (two.grow Ckpt1));
+        failed2 = λ is not. by_test y.second_alive
+            (λ still. lost_after Ckpt2 (v x) (v y) (v z) one.goes (one.grow Ckpt2) (two.failed2 still not))
+            (λ gone. lost_before Ckpt2 (v x) (v y) (v z) (one.failed2 is gone) two.goes (two.grow Ckpt2));
+        there1 = λ is there. two.there1 is (λ then_is. one.there1 then_is there);
+        there2 = λ is there. two.there2 is (λ then_is. one.there2 then_is there);
+        grow = λ d. grows_on ((v x).loses d) ((v y).loses d) ((v z).loses d) (one.grow d) (two.grow d);
+        left = left_by (ends_both r) x y z one.grow two.grow one.left two.left;
+      }
 
   -- calls without a stop that is armed
   pub copies_of : {T : Type 0} (x y : Parts P C) (r : Result T NodeNo) → Passage x.first_alive y.first_alive x.second_alive y.second_alive (v x) (v y)
@@ -108,22 +85,18 @@ module _ {P C : Type 0} (plants : PlantGhosts P) where
   -- a step, by the cause of its answer
   step_leaves : (by : ℕ) (x y : Parts P C) (r : Result (Unit {0}) NodeNo) → StepCauses r by x.first_alive y.first_alive x.second_alive y.second_alive (v x) (v y)
       → LeavesSome plants x y r
-  step_leaves by x y (Ok done) cause = inl cause
-  step_leaves by x y (Err no_node.NoMemory) cause = inl cause
   step_leaves by x y (Err no_node.BothLost) cause = cause
   step_leaves by x y (Err no_node.ConsoleFault) cause = inl cause.0
   step_leaves by x y (Err no_node.Halted) cause = inl cause.0
+  step_leaves by x y _ cause = inl cause
 
   pub acted_copies : (copies : CopyGhosts C) (by : MemberId) (x y : Parts P C) (r : Result (Unit {0}) NodeNo) → HasActedIn plants copies by x y r → KeepCopies plants x y r
   acted_copies copies by x y r acts = copies_of x y r acts.course (step_leaves by.0 x y r acts.cause)
 
   -- a line that was said, and what was left of it
   unlost : (r : Result (Unit {0}) NodeNo) (x y : Parts P C) → (r ≡ Err no_node.BothLost → ⊥) → y.first_alive ≡ x.first_alive → y.second_alive ≡ x.second_alive → LeavesSome plants x y r
-  unlost (Ok done) x y other same1 same2 = inl (inr (same1, same2))
-  unlost (Err no_node.NoMemory) x y other same1 same2 = inl (inr (same1, same2))
-  unlost (Err no_node.ConsoleFault) x y other same1 same2 = inl (inr (same1, same2))
-  unlost (Err no_node.Halted) x y other same1 same2 = inl (inr (same1, same2))
   unlost (Err no_node.BothLost) x y other same1 same2 = absurd (other refl)
+  unlost _ x y other same1 same2 = inl (inr (same1, same2))
 
   pub said_copies : (x y : Parts P C) (r : Result (Unit {0}) NodeNo) → OnConsole plants.tells (v x) (v y) → y.first_alive ≡ x.first_alive → y.second_alive ≡ x.second_alive
       → (r ≡ Err no_node.BothLost → ⊥) → KeepCopies plants x y r
@@ -137,18 +110,6 @@ module _ {P C : Type 0} (plants : PlantGhosts P) where
     left = unlost r x y other same1 same2;
   }
 
-  -- a line in which its member was halted, before the operator says so
-  pub copies_halted : (x y : Parts P C) → KeepCopies plants {T = Unit {0}} x y (Err no_node.Halted) → KeepCopies plants {T = Unit {0}} x y (Ok tt)
-  copies_halted x y keep = record {
-    goes = keep.goes;
-    failed1 = keep.failed1;
-    failed2 = keep.failed2;
-    there1 = keep.there1;
-    there2 = keep.there2;
-    grow = keep.grow;
-    left = keep.left;
-  }
-
   -- AND WHETHER THEY ARE BEING REPLACED
 
   pub leaves_same : {T : Type 0} (x y : Parts P C) (r : Result T NodeNo) → KeepCopies plants x y r → y.renewals ≡ x.renewals → (y.first_alive ≡ true → x.first_alive ≡ true) → (y.second_alive ≡ true → x.second_alive ≡ true)
@@ -160,7 +121,7 @@ module _ {P C : Type 0} (plants : PlantGhosts P) where
   }
 
   pub leaves_none : (x : Parts P C) → LeavesCopies plants {T = Unit {0}} x x (Ok tt)
-  leaves_none x = leaves_same x x (Ok tt) (copies_none x) refl (λ is. is) (λ is. is)
+  leaves_none x = leaves_same {T = Unit {0}} x x (Ok tt) (copies_none x) refl (λ is. is) (λ is. is)
 
   pub leaves_then : {T : Type 0} (x y z : Parts P C) (r : Result T NodeNo) → LeavesCopies plants {T = Unit {0}} x y (Ok tt) → LeavesCopies plants y z r → LeavesCopies plants x z r
   leaves_then x y z r one two = record {

@@ -1,26 +1,56 @@
 -- The journal before and after a line, and what follows of it for the queue and for what is in flight.
-use Rattle.std.proofs.Common.{◌≡◌, ℕ, Bool, false, if◌then◌else◌, List, [], ◌∷◌, ◌++◌, append-nil, Option, Some, None, refl, sym, ◌∙◌, ap, subst}
-use Rattle.mas_types.specs.declared.journals.Batch.{Batch}
-use Rattle.mas_types.specs.declared.journals.Entry.{Entry}
-use Rattle.mas_types.specs.declared.journals.Fate.{Fate}
-use Rattle.mas_types.specs.declared.journals.Fate.TheVariants.{Dropped, Flying, Kept}
-use Rattle.mas_types.specs.declared.queues.Queue.{Queue}
-use Rattle.mas_types.specs.Journal.{is_flying, is_kept}
-use Rattle.mas_types.specs.Run.{run}
-use Rattle.lock_cycle.specs.Books.{Book}
-use Rattle.mas_complex.proofs.BatchEnds.{with_last-append}
-use Rattle.mas_complex.proofs.Batches.{kept_all_append, placed_all, unplaced_settled}
-use Rattle.mas_complex.specs.Journals.{AreSettled, end_of, in_flight, kept_all, with_last}
-use Rattle.run_turns.specs.Scenes.{Batched, flies_as, flight_found, flying_in, kept_in, queue_found}
-use Rattle.run_turns.specs.Runs.{fate_then}
-use Rattle.run_turns.specs.Steps.{flight_then}
-use Rattle.mas_run.specs.Histories.{AreHistory}
-use Rattle.member_resets.specs.Settling.{settle, settled_at}
-use Rattle.run_opening.specs.Shows.{IsFlight}
-use Rattle.member_hand.specs.Standing.{StandsIn}
-use Rattle.member_resets.proofs.SettleLemmas.{settle_both, settle_still}
+use Rattle.mas_run.proofs.Names.{◌≡◌, ℕ, Bool, false, if◌then◌else◌, List, [], ◌∷◌, ◌++◌, append-nil, Option, Some, None, refl, sym, ◌∙◌, ap, subst, Batch, Entry, Fate, Dropped, Flying, Kept, Queue, is_flying, is_kept, run, Book, with_last-append, kept_all_append, placed_all, unplaced_settled, AreSettled, end_of, in_flight, kept_all, with_last, Batched, flies_as, flight_found, flying_in, kept_in, queue_found, kept_of, fate_then, flight_then, AreHistory, settle, settled_at, IsFlight, StandsIn, settle_both, settle_still, run_append}
 use Rattle.mas_run.proofs.PassedLemmas.{settled_is}
-use Rattle.mas_run.proofs.ShowsLemmas.{queue_next, queue_taken}
+
+-- BATCHES OF A LINE
+
+kept_fate : (f : Fate) (es : List Entry) → (if is_kept f then es else []) ≡ kept_of f es
+kept_fate Kept es = refl
+kept_fate _ es = refl
+
+kept_history : (xs : List Batched) (bs : List Batch) → AreHistory xs bs → kept_all bs ≡ kept_in xs
+kept_history [] [] are = refl
+kept_history [] (b ∷ bs) are = absurd are
+kept_history (x ∷ xs) [] are = absurd are
+kept_history (x ∷ xs) (b ∷ bs) are =
+    let one : (if is_kept b.fate then b.entries else []) ≡ kept_of x.fate x.entries =
+    kept_fate b.fate b.entries ∙ ap (λ (f : Fate). kept_of f b.entries) are.0.fate ∙ ap (kept_of x.fate) are.0.entries in
+    ap (λ (es : List Entry). es ++ kept_all bs) one ∙ ap (λ (es : List Entry). kept_of x.fate x.entries ++ es) (kept_history xs bs are.1)
+
+-- after a line that found nothing out
+queue_next : (base from : Queue) (front own batches : List Batch) (xs : List Batched) → batches ≡ front ++ own → run base (kept_all front) ≡ from → AreHistory xs own
+    → run base (kept_all batches) ≡ run from (kept_in xs)
+queue_next base from front own batches xs is before are =
+    ap (λ (bs : List Batch). run base (kept_all bs)) is
+    ∙ ap (run base) (kept_all_append front own)
+    ∙ run_append base (kept_all front) (kept_all own)
+    ∙ ap (λ (q : Queue). run q (kept_all own)) before
+    ∙ ap (run from) (kept_history xs own are)
+
+-- WHAT A TAKEOVER FOUND of the batch in flight, which is the last
+
+module _ (b : Batch) (flies : b.fate ≡ Flying) (at : ℕ) where
+  kept_one : (c : Batch) → kept_all (c ∷ []) ≡ (if is_kept c.fate then c.entries else [])
+  kept_one c = append-nil _
+
+  queue_taken : (base from : Queue) (before : List Batch) (now : ℕ) → AreSettled before now → run base (kept_all (before ++ b ∷ [])) ≡ from
+      → (found : Fate) → run base (kept_all (settle found at (before ++ b ∷ []))) ≡ queue_found found (Some b.entries) from
+  queue_taken base from before now settled is found = let kept_found : (found : Fate) → kept_all (settled_at found at b ∷ []) ≡ kept_of found b.entries = λ found. let s = settled_is found Flying at b flies in
+      kept_one (settled_at found at b) ∙ kept_fate (settled_at found at b).fate (settled_at found at b).entries
+      ∙ ap (λ (f : Fate). kept_of f (settled_at found at b).entries) s.1 ∙ ap (kept_of found) s.0 in
+      ap (λ (bs : List Batch). run base (kept_all bs)) (settle_both found at before (b ∷ []) ∙ ap (λ (bs : List Batch). bs ++ settled_at found at b ∷ []) (settle_still found at before now settled))
+      ∙ ap (run base) (kept_all_append before (settled_at found at b ∷ []) ∙ ap (λ (es : List Entry). kept_all before ++ es) (kept_found found))
+      ∙ run_append base (kept_all before) (kept_of found b.entries)
+      ∙ ap (λ (q : Queue). run q (kept_of found b.entries)) (sym first_shown)
+      ∙ found_as found where
+        first_shown : from ≡ run base (kept_all before)
+        first_shown = sym is ∙ ap (run base) (kept_all_append before (b ∷ []) ∙ ap (λ (es : List Entry). kept_all before ++ es) (kept_one b
+            ∙ ap (λ (f : Fate). if is_kept f then b.entries else []) flies) ∙ append-nil (kept_all before))
+
+        found_as : (f : Fate) → run from (kept_of f b.entries) ≡ queue_found f (Some b.entries) from
+        found_as Kept = refl
+        found_as Dropped = refl
+        found_as Flying = refl
 
 -- THE JOURNAL without what is in flight
 
@@ -30,7 +60,7 @@ pub record Front (batches : List Batch) (placed : Bool) (current : Option Batch)
   pub kept : kept_all batches ≡ kept_all before
   pub settled : (now : ℕ) → AreSettled batches now → AreSettled before now
 
-pub front_of : (batches : List Batch) (placed : Bool) (b : Book) (current : Option Batch) → StandsIn batches placed b current → Front batches placed current
+front_of : (batches : List Batch) (placed : Bool) (b : Book) (current : Option Batch) → StandsIn batches placed b current → Front batches placed current
 front_of batches placed b None stands = record {
   before = batches;
   journal = ap (λ (p : Bool). end_of p None batches) stands ∙ sym (append-nil batches);
@@ -74,8 +104,7 @@ some_same c d e = ap first e where
 
 found_none : (f : Fate) (Q : Queue) → queue_found f None Q ≡ Q
 found_none Kept Q = refl
-found_none Dropped Q = refl
-found_none Flying Q = refl
+found_none _ Q = refl
 
 -- what a line finds of the queue: a batch in flight is found out, or is in flight still
 pub queue_met : (base : Queue) (batches : List Batch) (placed : Bool) (b : Book) (current : Option Batch) (now at : ℕ) → StandsIn batches placed b current
@@ -106,7 +135,7 @@ abbrev last_flying : List Batch → Option (List Entry)
 last_flying [] = None
 last_flying (c ∷ cs) = flight_then (last_flying cs) (one_flying c)
 
-abbrev flown_of : Option Batch → Option (List Entry)
+abbrev pub flown_of : Option Batch → Option (List Entry)
 flown_of None = None
 flown_of (Some c) = Some c.entries
 
@@ -146,8 +175,7 @@ last_journal batches placed b current now stands are =
 
 flight_none : (f : Fate) → flight_found f None ≡ None
 flight_none Kept = refl
-flight_none Dropped = refl
-flight_none Flying = refl
+flight_none _ = refl
 
 -- a batch that was in flight, once it was found out
 found_flying : (c : Batch) (at : ℕ) (es : List Entry) → c.fate ≡ Flying → c.entries ≡ es → (found : Fate) → one_flying (settled_at found at c) ≡ flight_found found (Some es)
@@ -184,9 +212,8 @@ flight_met batches placed b (Some c) now at stands are (Some es) flies found =
 
 -- no batch but the last is in flight
 abbrev FliesLast : List Batch → Type 0
-FliesLast [] = Unit {0}
-FliesLast (c ∷ []) = Unit {0}
 FliesLast (c ∷ d ∷ cs) = (is_flying c.fate ≡ false) × FliesLast (d ∷ cs)
+FliesLast _ = Unit {0}
 
 fly_cons : (c : Batch) (cs : List Batch) → is_flying c.fate ≡ false → FliesLast cs → FliesLast (c ∷ cs)
 fly_cons c [] still last = tt
@@ -209,14 +236,12 @@ fly_journal [] now are current = fly_current current
 fly_journal (c ∷ cs) now are current = fly_cons c (cs ++ in_flight current) are.0 (fly_journal cs now are.3 current)
 
 flies_still : (f : Fate) (es : List Entry) (rest : Option (List Entry)) → is_flying f ≡ false → flies_as f es rest ≡ rest
-flies_still Kept es rest still = refl
-flies_still Dropped es rest still = refl
 flies_still Flying es rest still = absurd (cc)
+flies_still _ es rest still = refl
 
 flies_one : (f : Fate) (es : List Entry) → flies_as f es None ≡ (if is_flying f then Some es else None)
 flies_one Kept es = refl
-flies_one Dropped es = refl
-flies_one Flying es = refl
+flies_one _ es = refl
 
 last_own : (xs : List Batched) (cs : List Batch) → AreHistory xs cs → FliesLast cs → last_flying cs ≡ flying_in xs
 last_own [] [] are last = refl
@@ -234,7 +259,7 @@ last_own (x ∷ xs) (c ∷ d ∷ cs) are last =
     ∙ last_own xs (d ∷ cs) are.1 last.1
     ∙ sym (flies_still x.fate x.entries (flying_in xs) still)
 
-pub is_flight : (batches : List Batch) (placed : Bool) (b : Book) (o : Option (List Entry)) (current : Option Batch) → StandsIn batches placed b current
+is_flight : (batches : List Batch) (placed : Bool) (b : Book) (o : Option (List Entry)) (current : Option Batch) → StandsIn batches placed b current
     → flown_of current ≡ o → IsFlight b o current
 is_flight batches placed b None None stands is = refl
 is_flight batches placed b (Some es) None stands is = absurd (cc)

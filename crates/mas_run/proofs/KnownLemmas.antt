@@ -1,84 +1,67 @@
--- What is known of a line within the limits, by what becomes of it.
-use Rattle.std.proofs.Common.{◌≡◌, ◌⊎◌, ⊎_elim, inl, inr, ℕ, ◌+◌, ◌≤◌, nat_le, ◌&&◌, ◌||◌, is_some, Bool, true, false, not, if◌then◌else◌, List, length, Option, Some, None, Result, Ok, Err, refl, sym, ◌∙◌, ap, subst, arith}
-use Rattle.std.proofs.lemmas.Bool.{eqb-true}
-use Rattle.std.proofs.lemmas.Bool.Decides.{nat_tests}
-use Rattle.mas_types.specs.declared.answers.Closing.{Closing}
-use Rattle.mas_types.specs.declared.answers.Closing.TheVariants as closing
-use Rattle.mas_types.specs.declared.commands.Command.{Command}
-use Rattle.mas_types.specs.declared.commands.Command.TheVariants as command
-use Rattle.mas_types.specs.declared.ids.Dev.{Dev}
-use Rattle.mas_types.specs.declared.ids.Dev.TheVariants.{Ckpt1, Ckpt2, Spool}
-use Rattle.mas_types.specs.declared.ids.MemberId.{MemberId}
-use Rattle.duplex_pair.specs.Halves.{IsCkpt}
-use Rattle.mas_types.specs.declared.jobs.JobFields.{JobFields}
-use Rattle.mas_types.specs.declared.queues.Queue.{Queue}
-use Rattle.mas_types.specs.Closings.{AreMembersNamed}
-use Rattle.mas_types.specs.Fit.{IsConfig, IsFit}
-use Rattle.mas_types.specs.Ids.{is_somebody, nobody}
-use Rattle.mas_types.specs.Limits.{members_most}
-use Rattle.mas_types.specs.Queue.{is_member}
+-- What is known of a line by its admission, and of its member.
+use Rattle.mas_run.proofs.Names.{◌≡◌, ◌⊎◌, inl, inr, Bool, true, false, not, ◌||◌, if◌then◌else◌, List, ℕ, Option, Some, None, is_some, Result, Ok, Err, refl, sym, ◌∙◌, ap, subst, ⊎_elim, ◌+◌, ◌≤◌, nat_le, ◌&&◌, length, arith, eqb-true, and_parts, Closing, Command, MemberId, JobFields, Config, nobody, is_somebody, is_member, BadCard, read_as, text_of, job_seen_in, nothing_seen, refused_card, seen_after, LockNo, Book, after_try, granted, is_holder, is_stopped, ticked, try_refusal, IsMember, is_dormant, wakes, Ask, Deck, Give, Node as Line, Work, Admission, Frees, Locks, Plays, Refused, Replaces, Resets, TakesOver, admitted, asked, command_admitted, deck_admitted, if_granted, no_member, resets, tries, Denied, Unplayed, denied_closing, reset_admitted, nat_tests, Dev, Spool, IsCkpt, Queue, AreMembersNamed, IsConfig, IsFit, members_most, is_mark, IsPlayed, IsCopy, IsAsk, IsBy, IsGivable, MayBeAsked, AreFewUnits, IsSayer, is_of_member, line_by}
 use Rattle.mas_types.specs.Step.{may_give}
-use Rattle.card_reader.specs.declared.decks.Refused.{Refused as BadCard}
-use Rattle.card_reader.specs.Decks.{job_seen_in, nothing_seen, read_as, refused_card, seen_after, text_of}
 use Rattle.card_reader.specs.Statements.{cards_to_end, items_of}
 use Rattle.card_reader.proofs.Fields.{fields_fit, least-ok}
 use Rattle.card_reader.proofs.Refusals.{cards_fit}
-use Rattle.lock_cycle.specs.declared.answers.LockNo.{LockNo}
-use Rattle.lock_cycle.specs.declared.answers.LockNo.TheVariants as lock
-use Rattle.lock_cycle.specs.Books.{Book, IsMember, after_try, granted, is_dormant, is_holder, is_stopped, ticked, try_refusal, wakes}
-use Rattle.paper_laws.specs.Counts.{is_mark}
 use Rattle.queue_commands.specs.Given.{IsGiver, is_plain}
 use Rattle.script_input.specs.Commands.{is_typed}
-use Rattle.script_input.specs.Played.{IsPlayed}
-use Rattle.script_lang.specs.declared.types.Ask.{Ask}
-use Rattle.script_laws.specs.Limits.{IsCopy, IsAsk, IsBy}
+use Rattle.mas_types.specs.declared.answers.Closing.TheVariants as closing
 use Rattle.script_lang.specs.declared.types.Ask.TheVariants as ask
-use Rattle.step_turns.specs.declared.states.Task.TheVariants.{Deck, Give, Line, Work}
-use Rattle.run_turns.specs.Admissions.{Admission, Denied, Frees, Locks, Plays, Refused, Replaces, Resets, TakesOver, Unplayed, admitted, asked, command_admitted, deck_admitted, denied_closing, if_granted, no_member, reset_admitted, resets, tries}
-use Rattle.member_sittings.specs.Whole.{IsGivable}
-use Rattle.member_hand.specs.Sits.{MayBeAsked}
-use Rattle.member_lines.specs.Admissions.{AreFewUnits}
-use Rattle.member_lines.specs.Closes.{IsSayer}
-use Rattle.mas_run.specs.LinesPlayed.{is_of_member, line_by}
-use Rattle.mas_run.proofs.AdmittedLemmas.{IsUpMember}
+use Rattle.mas_types.specs.declared.commands.Command.TheVariants as command
+use Rattle.lock_cycle.specs.declared.answers.LockNo.TheVariants as lock
+
+-- A TRY of a member that is up, which wasn't refused
+
+pub holder_is : (b : Book) (by : MemberId) → is_holder b by ≡ true → b.holder ≡ by
+holder_is b by holds = ap (λ (k : ℕ). let m : MemberId = record { 0 = k } in m) (eqb-true b.holder.0 by.0 holds)
+
+module _ (b : Book) (by : MemberId) (up : is_stopped b by ≡ false) (none : try_refusal b by false ≡ None) where
+  abbrev tried_as : Bool → Bool → Option LockNo → Book
+  tried_as stopped holds r = if stopped || holds then b else if is_some r then ticked b false else granted (ticked b false) by
+
+  tried_so : (holds : Bool) → is_holder b by ≡ holds → after_try b by false ≡ tried_as false holds None
+  tried_so holds is =
+      ap (λ (s : Bool). tried_as s (is_holder b by) (try_refusal b by false)) up
+      ∙ ap (λ (h : Bool). tried_as false h (try_refusal b by false)) is
+      ∙ ap (λ (r : Option LockNo). tried_as false holds r) none
+
+  -- who holds it already keeps the book
+  pub holder_keeps : is_holder b by ≡ true → after_try b by false ≡ b
+  holder_keeps holds = tried_so true holds
+
+  got_holder : (after_try b by false).holder ≡ by
+  got_holder = by_test (is_holder b by) refl where
+    by_test : (h : Bool) → is_holder b by ≡ h → (after_try b by false).holder ≡ by
+    by_test true holds = ap (λ (c : Book). c.holder) (tried_so true holds) ∙ holder_is b by holds
+    by_test false free = ap (λ (c : Book). c.holder) (tried_so false free)
+
+module _ (config : Config) (b : Book) (by : MemberId) where
+  -- WHO IS UP
+
+  pub record IsUpMember : Type 0 where
+    pub member : is_member config by ≡ true
+    pub up : is_stopped b by ≡ false
+
+  -- who got the lock by a try
+  pub record HasGot : Type 0 where
+    pub is_up : IsUpMember
+    pub none : try_refusal b by false ≡ None
+    pub holds : (after_try b by false).holder ≡ by
 
 -- THE LIMITS of a line of a member
 
 pub few_by : (by : MemberId) (what : Ask) → is_of_member what ≡ true → IsBy by what → by.0 ≤ members_most
-few_by by (ask.Deck cards) is some = some.1
-few_by by (ask.Command c) is some = some.1
-few_by by (ask.Work n) is some = some.1
-few_by by ask.Lock is some = some.1
-few_by by ask.Free is some = some.1
-few_by by (ask.Line n) is some = some.1
-few_by by (ask.Replace dev) is some = some.1
-few_by by ask.Stop is some = some.1
-few_by by (ask.StopIn fuse n) is some = some.1
 few_by by (ask.Lose dev) is some = absurd (cc)
+few_by by _ is some = some.1
 
 pub some_by : (by : MemberId) (what : Ask) → is_of_member what ≡ true → IsBy by what → 1 ≤ by.0
-some_by by (ask.Deck cards) is some = some.0
-some_by by (ask.Command c) is some = some.0
-some_by by (ask.Work n) is some = some.0
-some_by by ask.Lock is some = some.0
-some_by by ask.Free is some = some.0
-some_by by (ask.Line n) is some = some.0
-some_by by (ask.Replace dev) is some = some.0
-some_by by ask.Stop is some = some.0
-some_by by (ask.StopIn fuse n) is some = some.0
 some_by by (ask.Lose dev) is some = absurd (cc)
+some_by by _ is some = some.0
 
 pub few_asked : (what : Ask) → IsAsk what → AreFewUnits what
 few_asked (ask.Work n) is = is.1
-few_asked (ask.Deck cards) is = tt
-few_asked (ask.Command c) is = tt
-few_asked ask.Lock is = tt
-few_asked ask.Free is = tt
-few_asked (ask.Line n) is = tt
-few_asked (ask.Replace dev) is = tt
-few_asked ask.Stop is = tt
-few_asked (ask.StopIn fuse n) is = tt
-few_asked (ask.Lose dev) is = tt
+few_asked _ is = tt
 
 -- A MEMBER of the configuration
 
@@ -86,13 +69,9 @@ and_left : (a b : Bool) → (a && b) ≡ true → a ≡ true
 and_left true b is = refl
 and_left false b is = absurd (cc)
 
-and_right : (a b : Bool) → (a && b) ≡ true → b ≡ true
-and_right true b is = is
-and_right false b is = absurd (cc)
-
 pub few_of : (Q : Queue) → IsConfig Q.config → (m : MemberId) → is_member Q.config m ≡ true → m.0 ≤ members_most
 few_of Q config m is =
-    let within : nat_le m.0 Q.config.members ≡ true = and_right (is_somebody m) (nat_le m.0 Q.config.members) is in
+    let within : nat_le m.0 Q.config.members ≡ true = (and_parts (is_somebody m) (nat_le m.0 Q.config.members) is).1 in
     let le : m.0 ≤ Q.config.members = grind (arith, nat_tests) in
     let most = config.members.1 in
     omega (arith, le, most)
@@ -105,7 +84,7 @@ some_of Q m is = by_number m.0 (and_left (is_somebody m) (nat_le m.0 Q.config.me
 -- in whose book each member of the configuration has its place
 pub inside_of : (Q : Queue) (b : Book) (m : MemberId) → length b.members ≡ Q.config.members → is_member Q.config m ≡ true → IsMember b m
 inside_of Q b m booked is =
-    let within : nat_le m.0 Q.config.members ≡ true = and_right (is_somebody m) (nat_le m.0 Q.config.members) is in
+    let within : nat_le m.0 Q.config.members ≡ true = (and_parts (is_somebody m) (nat_le m.0 Q.config.members) is).1 in
     let le : m.0 ≤ Q.config.members = grind (arith, nat_tests) in
     let some = some_of Q m is in (
       omega (arith, some),
@@ -134,7 +113,7 @@ typed_may : (Q : Queue) (by : MemberId) (c : Command) → is_typed c ≡ true �
 typed_may Q by command.Restart is member = absurd (cc)
 typed_may Q by _ is member = member
 
-pub typed_givable : (Q : Queue) (by : MemberId) (c : Command) → IsConfig Q.config → is_member Q.config by ≡ true → IsFit c → is_typed c ≡ true → IsGivable Q by c
+typed_givable : (Q : Queue) (by : MemberId) (c : Command) → IsConfig Q.config → is_member Q.config by ≡ true → IsFit c → is_typed c ≡ true → IsGivable Q by c
 typed_givable Q by c config member fit is = record {
   plain = typed_plain c is;
   fit = fit;
@@ -146,9 +125,8 @@ typed_givable Q by c config member fit is = record {
 -- A COPY that a script may have replaced
 
 copy_ckpt : (d : Dev) → IsCopy d → IsCkpt d
-copy_ckpt Ckpt1 is = tt
-copy_ckpt Ckpt2 is = tt
 copy_ckpt (Spool n) is = absurd is
+copy_ckpt _ is = tt
 
 -- BY ITS ADMISSION
 
@@ -159,28 +137,28 @@ module _ (Q : Queue) (config : IsConfig Q.config) (b : Book) (by : MemberId) whe
     pub down : is_stopped b of ≡ true
     pub givable : is_member Q.config by ≡ true → IsGivable Q by (command.Reset of)
 
-  abbrev pub IsSaidBy : MemberId → Type 0
+  abbrev IsSaidBy : MemberId → Type 0
   IsSaidBy sayer = (sayer ≡ nobody) ⊎ ((sayer ≡ by) × IsUpMember Q.config b by)
 
   abbrev pub IsKnown : Admission → Type 0
   IsKnown (Refused sayer end) = IsSaidBy sayer × AreMembersNamed end
   IsKnown (Denied why) = IsUpMember Q.config b by × (try_refusal b by false ≡ Some why)
-  IsKnown (Plays task) = IsUpMember Q.config b by × MayBeAsked Q by task
-  IsKnown (Resets of) = IsUpMember Q.config b by × IsDown of
+  IsKnown (Plays task) = IsUpMember Q.config b by × MayBeAsked Q by task × HasGot Q.config b by
+  IsKnown (Resets of) = IsUpMember Q.config b by × IsDown of × HasGot Q.config b by
   IsKnown (TakesOver of) = IsUpMember Q.config b by × IsDown of × (is_holder b of ≡ true)
-  IsKnown Locks = IsUpMember Q.config b by
+  IsKnown Locks = IsUpMember Q.config b by × HasGot Q.config b by
   IsKnown Frees = IsUpMember Q.config b by × (is_holder b by ≡ true)
-  IsKnown (Replaces dev) = IsUpMember Q.config b by × IsCkpt dev
+  IsKnown (Replaces dev) = IsUpMember Q.config b by × IsCkpt dev × HasGot Q.config b by
   IsKnown Unplayed = ⊥
 
   module _ (up : IsUpMember Q.config b by) where
     own_refused : (end : Closing) → AreMembersNamed end → IsKnown (Refused by end)
     own_refused end named = (inr (refl, up), named)
 
-    known_tries : (a : Admission) → IsKnown a → IsKnown (tries b by a)
+    known_tries : (a : Admission) → (HasGot Q.config b by → IsKnown a) → IsKnown (tries b by a)
     known_tries a known = by_refusal (try_refusal b by false) refl where
       by_refusal : (r : Option LockNo) → try_refusal b by false ≡ r → IsKnown (if_granted r a)
-      by_refusal None is = known
+      by_refusal None is = known (record { is_up = up; none = is; holds = got_holder b by up.up is })
       by_refusal (Some why) is = (up, is)
 
     known_deck : (cards : List (List ℕ)) (r : Result JobFields BadCard) → read_as Q.config.node cards ≡ r → IsKnown (deck_admitted b by (text_of cards) r)
@@ -188,7 +166,7 @@ module _ (Q : Queue) (config : IsConfig Q.config) (b : Book) (by : MemberId) whe
     known_deck cards (Ok fields) is =
         let none = (least-ok (refused_card 1 (cards_to_end 0 cards + 1) cards) (job_seen_in (seen_after Q.config.node nothing_seen (items_of cards))) fields is).0 in
         known_tries (Plays (Deck fields (text_of cards)))
-        (up, (fields_fit Q.config.node cards fields config.node is, cards_fit (cards_to_end 0 cards) (cards_to_end 0 cards + 1) cards none))
+        (λ got. (up, (fields_fit Q.config.node cards fields config.node is, cards_fit (cards_to_end 0 cards) (cards_to_end 0 cards + 1) cards none), got))
 
     known_reset : (of : MemberId) → IsFit (command.Reset of) → IsKnown (reset_admitted Q.config b by of)
     known_reset of fit = by_tests (is_member Q.config of) (is_stopped b of) (is_holder b of) refl refl refl where
@@ -198,10 +176,10 @@ module _ (Q : Queue) (config : IsConfig Q.config) (b : Book) (by : MemberId) whe
       by_tests true false h some up holds = own_refused (closing.Up of) (few_of Q config of some)
       by_tests true true true some down holds = (up, record { member = some; down = down; givable = λ member. typed_givable Q by (command.Reset of) config member fit refl }, holds)
       by_tests true true false some down holds =
-          known_tries (Resets of) (up, record { member = some; down = down; givable = λ member. typed_givable Q by (command.Reset of) config member fit refl })
+          known_tries (Resets of) (λ got. (up, record { member = some; down = down; givable = λ member. typed_givable Q by (command.Reset of) config member fit refl }, got))
 
     known_command : (c : Command) → IsFit c → is_typed c ≡ true → (r : Option MemberId) → resets c ≡ r → IsKnown (command_admitted Q.config b by c r)
-    known_command c fit typed None is = known_tries (Plays (Give c)) (up, typed_givable Q by c config up.member fit typed)
+    known_command c fit typed None is = known_tries (Plays (Give c)) (λ got. (up, typed_givable Q by c config up.member fit typed, got))
     known_command c fit typed (Some of) is = known_reset of (subst IsFit (reset_of c of is) fit) where
       reset_of : (c : Command) (of : MemberId) → resets c ≡ Some of → c ≡ command.Reset of
       reset_of (command.Reset m) of is = let same : m ≡ of = cc in ap (λ (k : MemberId). command.Reset k) same
@@ -211,20 +189,15 @@ module _ (Q : Queue) (config : IsConfig Q.config) (b : Book) (by : MemberId) whe
     known_free true holds = (up, holds)
     known_free false holds = own_refused closing.NotHolder tt
 
-    true_false : true ≡ false → ⊥
-    true_false e = absurd (cc)
-
     known_asked : (what : Ask) → is_of_member what ≡ true → IsPlayed (line_by by what) → IsKnown (asked Q.config b by what)
     known_asked (ask.Deck cards) is played = known_deck cards (read_as Q.config.node cards) refl
     known_asked (ask.Command c) is played = known_command c played.fits.what played.built (resets c) refl
-    known_asked (ask.Work n) is played = known_tries (Plays (Work n)) (up, played.fits.what.1)
-    known_asked ask.Lock is played = known_tries Locks up
+    known_asked (ask.Work n) is played = known_tries (Plays (Work n)) (λ got. (up, played.fits.what.1, got))
+    known_asked ask.Lock is played = known_tries Locks (λ got. (up, got))
     known_asked ask.Free is played = known_free (is_holder b by) refl
-    known_asked (ask.Line n) is played = known_tries (Plays (Line n)) (up, played.fits.what)
-    known_asked (ask.Replace dev) is played = known_tries (Replaces dev) (up, copy_ckpt dev played.fits.what)
-    known_asked ask.Stop is played = absurd (true_false (sym is))
-    known_asked (ask.StopIn fuse n) is played = absurd (true_false (sym is))
-    known_asked (ask.Lose dev) is played = absurd (true_false (sym is))
+    known_asked (ask.Line n) is played = known_tries (Plays (Line n)) (λ got. (up, played.fits.what, got))
+    known_asked (ask.Replace dev) is played = known_tries (Replaces dev) (λ got. (up, copy_ckpt dev played.fits.what, got))
+    known_asked _ is played = let true_false : true ≡ false → ⊥ = λ e. absurd (cc) in absurd (true_false (sym is))
 
   pub known : (what : Ask) → is_of_member what ≡ true → IsPlayed (line_by by what) → IsKnown (admitted Q.config b by what)
   known what is played = by_tests (is_member Q.config by) (is_stopped b by) refl refl where

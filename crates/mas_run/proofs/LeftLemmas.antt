@@ -1,34 +1,33 @@
+-- A line of a member, in the words of a run: by what it left, and once the operator said that its member was stopped.
+use Rattle.mas_run.proofs.Names.{ℕ, Bool, refl, ◌≡◌, ◌≢◌, inl, inr, ◌==◌, ◌&&◌, true, false, if◌then◌else◌, List, [], ◌∷◌, ◌++◌, map, append-nil, Option, None, Result, Ok, sym, ◌∙◌, ap, subst, arith, ⊎_elim, ◌⊎◌, ◌≤◌, append_assoc, Some, Err, ◌+◌, OnOk, Spool, Ckpt1, Ckpt2, View, Line, paper_now, Line as Printed, World, KeepsCounts, VolumesStay, none_lost, console_now, stay_both, stay_more, rose_more, OnConsole, eqb-true, nat_tests, map-append, Fate, Dev, MemberId, Ask, Ghosts as PlantGhosts, CopyGhosts, Parts, parts_of, AreBatched, AtCut, IsBroken, IsTight, cause_by, NodeNo, next, Goes, Rose, Sitting, Cut, Halt, Cause, Ends, Stops, Batched, Scene, Said, cause_of, steps_said_by as said_by, scene_left, stopped_lines, Given, ask_with, play_with, played_with, ArePiecesOf, IsAskRight, LineAt, admitted_at, pieces_at, played_at, fate_found, sayer_of, Piece, admitted, Admission, Plays, AdmissionLeaves, AskLeaves, CutsAs, IfIdle, IfOfMember, IsPassed, IsWithin, LosesAs, arms_by, arms_then, cut_in, cut_of, is_takeover, is_work, printed_at, taking, IsGiven, IsHonest, IsHonestAs, StaysAs, named_as, named_by, names_in, IsNextAct, MayLoseCopy, loses_then, HasLeft, linesleft_left_at as left_at, HasSaidStop, IsCutBy, SaysStop, StopCauses, StopIsSaid, is_of_member, closing_line, Disk, Printer, Wire, SteadyGhosts, Complex, SamePapers, is_stop, stopped_in, HasCause, IsOneAct, SaysStopped, stopped_said, whole, CouldNotStay, IsWhyLost, Proceeds, IsShapedAs, holder_as, IsTaskShaped, proceeds_of, proceeds_on, by_order, kept_on, All-weaker, Closing, GroupNo, Text, Queue, Read, IsFoundLost, HasFailed, HasPrinterFailed, IsReadAs, IsSpoolLost, Finds, units_done, units_left, nothing_found, Found, Offer, Holder, State, Away, Fresh, Rested, Told, Task, Deck, Give, Work, Acknowledge, Exchange, PrintLines, ReadText, AreFoundIn, FindsOffered, IsFoundAt, Wait, AreFewPieces, AreShaped, DeckLinesIn, SaysIn, WorkLinesIn}
+use Rattle.mas_run.proofs.PassedLemmas.{batched_later, kept_later}
+use Rattle.member_resets.specs.Acts.{HasLineFailed}
+use Rattle.member_work.specs.Causes.{MayRefuse}
+use Rattle.member_sittings.specs.Shapes.{SaysAtEnd}
+use Rattle.script_lang.specs.declared.types.Ask.TheVariants as ask
+use Rattle.member_node.specs.declared.member.NodeNo.TheVariants as no_node
+use Rattle.mas_types.specs.declared.answers.Closing.TheVariants as closing
+use Rattle.mas_types.specs.declared.commands.Reply.TheVariants as reply
+use Rattle.job_outcome.specs.declared.outcomes.Read.TheVariants as read
+
+-- where none is lost none but these is
+pub stays_any : (but : ℕ → Bool) (old new : View) → VolumesStay none_lost old new → VolumesStay but old new
+stays_any but old new is = stay_more none_lost but old new (λ n other. refl) is
+
+-- then nothing is done to them
+pub stays_on : (but : ℕ → Bool) (old mid new : View) → VolumesStay but old mid → VolumesStay none_lost mid new → VolumesStay but old new
+stays_on but old mid new one two = stay_both but old mid new one (stays_any but mid new two)
+
+-- what is said on the console does nothing to them
+pub console_stays : {told : Type 0} (old new : View) → OnConsole told old new → VolumesStay none_lost old new
+console_stays old new acts = record { lost = λ n other. acts.lost (Spool n); faults = λ n other. acts.faults (Spool n) }
+
+-- nor does a call on the copies
+pub counted_stays : (by : ℕ) (a a' b b' stopped : Bool) (old new : View) → KeepsCounts by a a' b b' stopped old new → VolumesStay none_lost old new
+counted_stays by a a' b b' stopped old new counts = record { lost = λ n other. counts.volumes_lost n; faults = λ n other. counts.volumes_faults n }
+
 -- From what a line of a member leaves to what the run says of it: where its member was stopped the operator says so, or
 -- the run ends.
-use Rattle.std.proofs.Common.{◌≡◌, ◌≢◌, inl, inr, ℕ, ◌==◌, ◌&&◌, Bool, true, false, if◌then◌else◌, List, [], ◌∷◌, ◌++◌, map, append-nil, Option, None, Result, Ok, refl, sym, ◌∙◌, ap, subst, arith, ⊎_elim}
-use Rattle.std.proofs.lemmas.Bool.{eqb-true}
-use Rattle.std.proofs.lemmas.Bool.Decides.{nat_tests}
-use Rattle.std.proofs.lemmas.List.{map-append}
-use Rattle.mas_types.specs.declared.journals.Fate.{Fate}
-use Rattle.mas_types.specs.declared.ids.Dev.{Dev}
-use Rattle.mas_types.specs.declared.ids.MemberId.{MemberId}
-use Rattle.script_lang.specs.declared.types.Ask.{Ask}
-use Rattle.script_lang.specs.declared.types.Ask.TheVariants as ask
-use Rattle.spool_plant.specs.declared.plant.Plant.{Ghosts as PlantGhosts}
-use Rattle.spool_plant.specs.View.{Line, View, paper_now}
-use Rattle.ckpt_copy.specs.declared.copying.Copying.{Ghosts as CopyGhosts}
-use Rattle.mas_complex.specs.Parts.{Parts}
-use Rattle.member_hand.specs.Cuts.{AreBatched, AtCut, IsBroken, IsTight}
-use Rattle.member_node.specs.Calls.{VolumesStay, console_now}
-use Rattle.member_node.specs.declared.member.NodeNo.{NodeNo}
-use Rattle.member_node.specs.declared.member.NodeNo.TheVariants as no_node
-use Rattle.spool_plant.specs.Acts.{next}
-use Rattle.step_turns.specs.Sittings.{Sitting}
-use Rattle.run_turns.specs.Sights.{Cut, Halt}
-use Rattle.run_turns.specs.Scenes.{Batched, Scene}
-use Rattle.run_turns.specs.Steps.{Said, cause_of, said_by, scene_left, stopped_lines}
-use Rattle.run_turns.specs.Givens.{Given, ask_with, play_with, played_with, ArePiecesOf, IsAskRight}
-use Rattle.mas_run.specs.LinesAt.{LineAt, admitted_at, pieces_at, played_at}
-use Rattle.run_turns.specs.Pieces.{fate_found, sayer_of}
-use Rattle.run_turns.specs.Admissions.{admitted}
-use Rattle.mas_run.specs.Lines.{AdmissionLeaves, AskLeaves, CutsAs, IfIdle, IfOfMember, IsPassed, IsWithin, LosesAs, arms_by, arms_then, cut_in, cut_of, is_takeover, is_work, printed_at, taking, IsGiven, IsHonest, IsHonestAs, StaysAs, named_as, named_by, names_in}
-use Rattle.mas_run.specs.LinesLeft.{HasLeft, left_at}
-use Rattle.mas_run.specs.LinesPlayed.{is_of_member}
 
 false_true : false ≡ true → ⊥
 false_true e = absurd (cc)
@@ -40,62 +39,30 @@ member_played : (S : Scene) (by : MemberId) (at : ℕ) (g : Given) (what : Ask) 
 member_played S by at g ask.Stop is = absurd (false_true is)
 member_played S by at g (ask.StopIn what n) is = absurd (false_true is)
 member_played S by at g (ask.Lose dev) is = absurd (false_true is)
-member_played S by at g (ask.Deck cards) is = refl
-member_played S by at g (ask.Command c) is = refl
-member_played S by at g (ask.Work n) is = refl
-member_played S by at g ask.Lock is = refl
-member_played S by at g ask.Free is = refl
-member_played S by at g (ask.Line n) is = refl
-member_played S by at g (ask.Replace dev) is = refl
+member_played S by at g _ is = refl
 
 pub if_member : (what : Ask) (P : Type 0) → P → IfOfMember what P
 if_member ask.Stop P p = tt
 if_member (ask.StopIn what n) P p = tt
 if_member (ask.Lose dev) P p = tt
-if_member (ask.Deck cards) P p = p
-if_member (ask.Command c) P p = p
-if_member (ask.Work n) P p = p
-if_member ask.Lock P p = p
-if_member ask.Free P p = p
-if_member (ask.Line n) P p = p
-if_member (ask.Replace dev) P p = p
+if_member _ P p = p
 
 pub member_cut : (what : Ask) (cut : Option Cut) → is_of_member what ≡ true → cut_in what cut ≡ cut
 member_cut ask.Stop cut is = absurd (false_true is)
 member_cut (ask.StopIn what n) cut is = absurd (false_true is)
 member_cut (ask.Lose dev) cut is = absurd (false_true is)
-member_cut (ask.Deck cards) cut is = refl
-member_cut (ask.Command c) cut is = refl
-member_cut (ask.Work n) cut is = refl
-member_cut ask.Lock cut is = refl
-member_cut ask.Free cut is = refl
-member_cut (ask.Line n) cut is = refl
-member_cut (ask.Replace dev) cut is = refl
+member_cut _ cut is = refl
 
 member_arms : (S : Scene) (by : MemberId) (what : Ask) → is_of_member what ≡ true → arms_by S by what ≡ false
-member_arms S by ask.Stop is = refl
 member_arms S by (ask.StopIn what n) is = absurd (false_true is)
-member_arms S by (ask.Lose dev) is = refl
-member_arms S by (ask.Deck cards) is = refl
-member_arms S by (ask.Command c) is = refl
-member_arms S by (ask.Work n) is = refl
-member_arms S by ask.Lock is = refl
-member_arms S by ask.Free is = refl
-member_arms S by (ask.Line n) is = refl
-member_arms S by (ask.Replace dev) is = refl
+member_arms S by _ is = refl
 
 -- it names the volumes that it found lost, and no others
 pub member_stays : (what : Ask) (found : ℕ → Bool) (old new : View) → is_of_member what ≡ true → VolumesStay found old new → VolumesStay (names_in what found) old new
 member_stays ask.Stop found old new is stay = absurd (false_true is)
 member_stays (ask.StopIn what n) found old new is stay = absurd (false_true is)
 member_stays (ask.Lose dev) found old new is stay = absurd (false_true is)
-member_stays (ask.Deck cards) found old new is stay = stay
-member_stays (ask.Command c) found old new is stay = stay
-member_stays (ask.Work n) found old new is stay = stay
-member_stays ask.Lock found old new is stay = stay
-member_stays ask.Free found old new is stay = stay
-member_stays (ask.Line n) found old new is stay = stay
-member_stays (ask.Replace dev) found old new is stay = stay
+member_stays _ found old new is stay = stay
 
 -- where its pieces are right by its admission they are by what it asks for
 pub right_of : (S : Scene) (by : MemberId) (at : ℕ) (g : Given) (what : Ask) → is_of_member what ≡ true → ArePiecesOf S by at (admitted S.queue.config S.book by what) g
@@ -103,13 +70,7 @@ pub right_of : (S : Scene) (by : MemberId) (at : ℕ) (g : Given) (what : Ask) �
 right_of S by at g ask.Stop is right = absurd (false_true is)
 right_of S by at g (ask.StopIn what n) is right = absurd (false_true is)
 right_of S by at g (ask.Lose dev) is right = absurd (false_true is)
-right_of S by at g (ask.Deck cards) is right = right
-right_of S by at g (ask.Command c) is right = right
-right_of S by at g (ask.Work n) is right = right
-right_of S by at g ask.Lock is right = right
-right_of S by at g ask.Free is right = right
-right_of S by at g (ask.Line n) is right = right
-right_of S by at g (ask.Replace dev) is right = right
+right_of S by at g _ is right = right
 
 lines_said : (by : MemberId) (ls : List Line) → map (λ (s : Said). s.line) (map (said_by by) ls) ≡ ls
 lines_said by [] = refl
@@ -150,52 +111,43 @@ module _ (l : LineAt) (member : is_of_member l.step.what ≡ true) where
 
 module _ {P C : Type 0} (plants : PlantGhosts P) (copies : CopyGhosts C) (told : Type 0) (l : LineAt) (x y : Parts P C)
     (member : is_of_member l.step.what ≡ true) {result : Result (Unit {0}) NodeNo} (left : HasLeft plants copies told l x y result) where
-  abbrev v : Parts P C → View
-  v z = plants.view z.plant
-
   -- each printer has the lines of the line's member, or none
-  pub printed_here : (m : ℕ) → told → paper_now (v y) m ≡ paper_now (v x) m ++ printed_at l m
+  pub printed_here : (m : ℕ) → told → paper_now (plants.view y.plant) m ≡ paper_now (plants.view x.plant) m ++ printed_at l m
   printed_here m t = by_member (l.step.by.0 == m) refl where
-    by_member : (is : Bool) → (l.step.by.0 == m) ≡ is → paper_now (v y) m ≡ paper_now (v x) m ++ printed_at l m
+    by_member : (is : Bool) → (l.step.by.0 == m) ≡ is → paper_now (plants.view y.plant) m ≡ paper_now (plants.view x.plant) m ++ printed_at l m
     by_member true is =
         let same : l.step.by.0 ≡ m = eqb-true l.step.by.0 m is in
-        subst (λ (k : ℕ). paper_now (v y) k ≡ paper_now (v x) k ++ (left_at l).printed) same (left.paper t)
-        ∙ ap (λ (ls : List Line). paper_now (v x) m ++ ls) (sym (printed_left l member)
+        subst (λ (k : ℕ). paper_now (plants.view y.plant) k ≡ paper_now (plants.view x.plant) k ++ (left_at l).printed) same (left.paper t)
+        ∙ ap (λ (ls : List Line). paper_now (plants.view x.plant) m ++ ls) (sym (printed_left l member)
         ∙ ap (λ (b : Bool). if b then (played_at l).outcome.printed else []) (sym is))
     by_member false is =
         let other : m ≢ l.step.by.0 = λ e. absurd (let same : (l.step.by.0 == m) ≡ true = grind (arith, nat_tests, e) in cc) in
-        left.other_papers t m other ∙ sym (append-nil (paper_now (v x) m))
-        ∙ ap (λ (ls : List Line). paper_now (v x) m ++ ls) (ap (λ (b : Bool). if b then (played_at l).outcome.printed else []) (sym is))
+        left.other_papers t m other ∙ sym (append-nil (paper_now (plants.view x.plant) m))
+        ∙ ap (λ (ls : List Line). paper_now (plants.view x.plant) m ++ ls) (ap (λ (b : Bool). if b then (played_at l).outcome.printed else []) (sym is))
 
-  pub arms_same : (m : ℕ) → arms_then l m ((v x).arms m) ≡ (v x).arms m
-  arms_same m = ap (λ (b : Bool). if b && (l.step.by.0 == m) then next ((v x).arms m) else (v x).arms m) (member_arms l.scene l.step.by l.step.what member)
+  pub arms_same : (m : ℕ) → arms_then l m ((plants.view x.plant).arms m) ≡ (plants.view x.plant).arms m
+  arms_same m = ap (λ (b : Bool). if b && (l.step.by.0 == m) then next ((plants.view x.plant).arms m) else (plants.view x.plant).arms m) (member_arms l.scene l.step.by l.step.what member)
 
   -- a line of a member leaves volumes by its admission
   pub leaves_as : (what : Ask) → is_of_member what ≡ true → AskLeaves (admitted_at l) what → AdmissionLeaves (admitted_at l)
   leaves_as ask.Stop is leaves = absurd (false_true is)
   leaves_as (ask.StopIn what n) is leaves = absurd (false_true is)
   leaves_as (ask.Lose dev) is leaves = absurd (false_true is)
-  leaves_as (ask.Deck cards) is leaves = leaves
-  leaves_as (ask.Command c) is leaves = leaves
-  leaves_as (ask.Work n) is leaves = leaves
-  leaves_as ask.Lock is leaves = leaves
-  leaves_as ask.Free is leaves = leaves
-  leaves_as (ask.Line n) is leaves = leaves
-  leaves_as (ask.Replace dev) is leaves = leaves
+  leaves_as _ is leaves = leaves
 
   -- what it gave, and what it found
-  pub given_of : IsGiven told l (v x) (v y)
+  given_of : IsGiven told l (plants.view x.plant) (plants.view y.plant)
   given_of = record {
     shaped = ⊎_elim inl (λ s. inr (if_member l.step.what _ s)) left.shaped;
     right = λ t. right_of l.scene l.step.by l.number l.given l.step.what member (left.right t);
   }
 
-  pub honest_of : told → IsHonest l (v x) (v y)
-  honest_of t = subst (λ (c : Option Cut). IsHonestAs l (admitted_at l) c (v x) (v y)) (sym (member_cut l.step.what l.given.sight.cut member)) (left.honest t)
+  honest_of : told → IsHonest l (plants.view x.plant) (plants.view y.plant)
+  honest_of t = subst (λ (c : Option Cut). IsHonestAs l (admitted_at l) c (plants.view x.plant) (plants.view y.plant)) (sym (member_cut l.step.what l.given.sight.cut member)) (left.honest t)
 
-  pub stay_of : told → VolumesStay (named_by l) (v x) (v y)
-  stay_of t = member_stays l.step.what (named_as l (admitted_at l) (cut_of l)) (v x) (v y) member
-      (subst (λ (c : Option Cut). StaysAs l (admitted_at l) c (v x) (v y)) (sym (member_cut l.step.what l.given.sight.cut member)) (left.stay t))
+  stay_of : told → VolumesStay (named_by l) (plants.view x.plant) (plants.view y.plant)
+  stay_of t = member_stays l.step.what (named_as l (admitted_at l) (cut_of l)) (plants.view x.plant) (plants.view y.plant) member
+      (subst (λ (c : Option Cut). StaysAs l (admitted_at l) c (plants.view x.plant) (plants.view y.plant)) (sym (member_cut l.step.what l.given.sight.cut member)) (left.stay t))
 
 -- what a line that takes the lock over found of a batch in flight
 abbrev pub took : LineAt → Option Fate
@@ -203,46 +155,322 @@ took l = taking (is_takeover (admitted_at l)) (fate_found (admitted_at l) l.give
 
 -- A LINE THAT WASN'T CUT
 
+pub on_ok : (r : Result (Unit {0}) NodeNo) (A B : Type 0) → (A → B) → OnOk r A → OnOk r B
+on_ok (Ok done) A B f a = f a
+on_ok (Err e) A B f a = tt
+
 pub if_idle : (works : Bool) (P : Type 0) → P → IfIdle works P
 if_idle true P p = tt
 if_idle false P p = p
 
 module _ {P C : Type 0} (plants : PlantGhosts P) (copies : CopyGhosts C) (told : Type 0) (l : LineAt) (x y : Parts P C)
     (member : is_of_member l.step.what ≡ true) (left : HasLeft plants copies told l x y (Ok tt)) where
+  -- what a cut leaves is said of none
+  pub passed_uncut : IsPassed told copies.reads l left.own (plants.view x.plant) (plants.view y.plant) (Ok tt)
+  passed_uncut = let none_stopped : stopped_lines l.step.by l.number (cause_of l.given.sight.cut) ≡ [] = ap (λ (c : Option Cut). stopped_lines l.step.by l.number (cause_of c)) left.cut in
+      let none_cut : cut_of l ≡ None = member_cut l.step.what l.given.sight.cut member ∙ left.cut in
+      let if_none : (P : Halt → Sitting → Type 0) → AtCut P (cut_of l) (pieces_at l) = λ P. subst (λ (c : Option Cut). AtCut P c (pieces_at l)) (sym none_cut) tt in record {
+        goes = left.goes;
+        stays = left.stays;
+        given = given_of plants copies told l x y member left;
+        honest = λ t. if_member l.step.what _ (honest_of plants copies told l x y member left t);
+        stay = stay_of plants copies told l x y member left;
+        cut = subst (λ (c : Option Cut). CutsAs {T = Unit {0}} (Ok tt) l.step.by c (plants.view x.plant) (plants.view y.plant)) (sym none_cut) (left.spares.stops l.step.by.0 (inr refl));
+        within = subst (λ (c : Option Cut). IsWithin c (pieces_at l)) (sym none_cut) tt;
+        why = no_node.Halted;
+        is_why = refl;
+        tight = if_idle (is_work (admitted_at l)) _ (if_none (IsTight no_node.Halted));
+        broke = λ t. if_none (IsBroken no_node.Halted);
+        spares = λ m other. left.spares.stops m (inl other);
+        failed = λ e. absurd (cc);
+        batches = subst (λ (bs : List Batched). AreBatched l.step.by (plants.view x.plant).now (plants.view y.plant).now bs left.own) (sym (batches_left l member)) left.batches;
+        console = λ t. left.console t ∙ ap (λ (ls : List Line). console_now (plants.view x.plant) ++ ls)
+            (sym (append-nil (left_at l).lines) ∙ ap (λ (ss : List Said). (left_at l).lines ++ map (λ (s : Said). s.line) ss) (sym none_stopped) ∙ sym (lines_left l member));
+        paper = λ t m. printed_here plants copies told l x y member left m t;
+        dry = left.dry;
+        loses = λ t. subst (λ (d : Option Dev). LosesAs copies.reads (took l) d (plants.view x.plant) (plants.view y.plant)) (sym (loses_none l member)) (left.loses t);
+        arms = λ m. left.arms m ∙ sym (arms_same plants copies told l x y member left m);
+        volumes = λ t leaves. left.volumes t (leaves_as plants copies told l x y member left l.step.what member leaves);
+      }
+
+-- A line in which its member was stopped, once the operator has said so.
+
+module _ (old mid new : View) (goes : Proceeds mid new) where
+  failed_later : (per : ℕ) (groups : List GroupNo) (volume : ℕ) → HasFailed per groups volume old mid → HasFailed per groups volume old new
+  failed_later per groups volume failed = record {
+    there = failed.there;
+    lost = goes.lost (Disk (Spool volume)) refl failed.lost;
+    rose = rose_more (old.faults (Disk (Spool volume))) (mid.faults (Disk (Spool volume))) (new.faults (Disk (Spool volume))) failed.rose (goes.faults (Disk (Spool volume)));
+  }
+
+  printer_later : (by : MemberId) → HasPrinterFailed by old mid → HasPrinterFailed by old new
+  printer_later by failed = record {
+    lost = goes.lost (Printer by) refl failed.lost;
+    rose = rose_more (old.faults (Printer by)) (mid.faults (Printer by)) (new.faults (Printer by)) failed.rose (goes.faults (Printer by));
+  }
+
+  line_later : (l : ℕ) → HasLineFailed l old mid → HasLineFailed l old new
+  line_later l failed = record {
+    lost = goes.lost (Wire l) refl failed.lost;
+    rose = rose_more (old.faults (Wire l)) (mid.faults (Wire l)) (new.faults (Wire l)) failed.rose (goes.faults (Wire l));
+  }
+
+  read_later : (told : Type 0) (per : ℕ) (text : Text) (groups : List GroupNo) (r : Read) → IsReadAs told per text groups (Some r) old mid → IsReadAs told per text groups (Some r) old new
+  read_later told per text groups (read.Lost volume) is = (is.0, failed_later per groups volume is.1)
+  read_later told per text groups _ is = is
+
+  spooled_later : (per : ℕ) (groups : List GroupNo) (lost : Option ℕ) → IsSpoolLost per groups lost old mid → IsSpoolLost per groups lost old new
+  spooled_later per groups None is = tt
+  spooled_later per groups (Some volume) is = failed_later per groups volume is
+
+  offered_later : (per : ℕ) (Q : Queue) (offer : Option Offer) (r : Read) → FindsOffered per Q offer r old mid → FindsOffered per Q offer r old new
+  offered_later per Q None r is = is
+  offered_later per Q (Some o) r is = (is.0, is.1, read_later (Unit {0}) per is.0.text _ r is.2)
+
+  found_later : (per : ℕ) (by : MemberId) (Q : Queue) (s : State) (found : Found) → IsFoundAt per by old mid Q s found → IsFoundAt per by old new Q s found
+  found_later per by Q (Away (ReadText runs n fields p)) found is =
+      record { only = is.only; job = is.job; there = is.there; as_had = read_later (Unit {0}) per is.job.text _ found.read is.as_had }
+  found_later per by Q (Away (PrintLines n i last p)) found is =
+      record {
+        only = is.only;
+        lost = λ lost. printer_later by (is.lost lost);
+        output = is.output;
+        there = is.there;
+        as_had = read_later (Unit {0}) per is.output.text _ found.read is.as_had;
+      }
+  found_later per by Q (Away (Exchange l offer)) found is =
+      record { only = is.only; text = offered_later per Q offer found.read is.text; lost = λ lost. line_later l (is.lost lost); frames = is.frames }
+  found_later per by Q (Away (Acknowledge number service)) found is = record { only = is.only; lost = λ lost. line_later service.line (is.lost lost) }
+  found_later per by Q (Fresh task) found is = is
+  found_later per by Q (Rested p) found is = is
+  found_later per by Q Told found is = is
+  found_later per by Q _ found is = record { only = is.only; lost = spooled_later per _ found.lost is.lost }
+
+  pub finds_later : (per : ℕ) (by : MemberId) (finds : Finds) (ws : List Wait) → AreFoundIn per by old mid finds ws → AreFoundIn per by old new finds ws
+  finds_later per by finds ws are =
+      All-weaker (λ (w : Wait). IsFoundAt per by old mid w.queue w.state (finds w.queue w.state)) (λ (w : Wait). IsFoundAt per by old new w.queue w.state (finds w.queue w.state))
+      (λ w is. found_later per by w.queue w.state (finds w.queue w.state) is) ws are
+
+  -- AND HOW A STEP CLOSES
+
+  lost_later : (lost : Option ℕ) → IsFoundLost lost old mid → IsFoundLost lost old new
+  lost_later None is = tt
+  lost_later (Some volume) is = (
+    goes.lost (Disk (Spool volume)) refl is.0,
+    rose_more (old.faults (Disk (Spool volume))) (mid.faults (Disk (Spool volume))) (new.faults (Disk (Spool volume))) is.1 (goes.faults (Disk (Spool volume))),
+  )
+
+  refuse_later : (by : MemberId) (end : Closing) → MayRefuse by end old mid → MayRefuse by end old new
+  refuse_later by (closing.Reply (reply.No why)) may = tt
+  refuse_later by (closing.NoText group) may = tt
+  refuse_later by (closing.SpoolLost volume) may = lost_later (Some volume) may
+  refuse_later by closing.PrinterLost may = printer_later by may
+  refuse_later by _ may = absurd may
+
+  -- lines that are said at a step's end alone
+  at_end : (next : State) (F G : List (List ℕ) → Type 0) → ((ls : List (List ℕ)) → F ls → G ls) → (ls : List (List ℕ)) → SaysAtEnd next F ls → SaysAtEnd next G ls
+  at_end Told F G f ls says = f ls says
+  at_end _ F G f ls says = says
+
+  says_later : (h : Holder) (task : Task) (p : Piece) → SaysIn h (Fresh task) nothing_found old mid p.sitting → SaysIn h (Fresh task) nothing_found old new p.sitting
+  says_later h (Deck fields text) p says = let deck_later : (h : Holder) (found : Found) (ls : List (List ℕ)) → DeckLinesIn h found old mid ls → DeckLinesIn h found old new ls = λ h found ls d. (d.0, d.1, d.2, ⊎_elim inl (λ failed. inr (lost_later d.0 failed)) d.3) in
+      at_end p.sitting.next (DeckLinesIn h nothing_found old mid) (DeckLinesIn h nothing_found old new) (deck_later h nothing_found) p.sitting.lines says
+  says_later h (Work n) p says = let work_later : (h : Holder) (units : ℕ) (found : Found) (ls : List (List ℕ)) → WorkLinesIn h units found old mid ls → WorkLinesIn h units found old new ls = λ h units found ls w. (w.0, w.1, ⊎_elim inl (λ refused. inr (refuse_later h.by w.0 refused)) w.2) in
+      let units = units_done (Fresh (Work n)) + units_left (Fresh (Work n)) in
+      at_end p.sitting.next (WorkLinesIn h units nothing_found old mid) (WorkLinesIn h units nothing_found old new) (work_later h units nothing_found) p.sitting.lines says
+  says_later h _ p says = says
+
+  shape_later : (h : Holder) (task : Task) (ps : List Piece) → AreShaped h (Fresh task) nothing_found old mid ps → AreShaped h (Fresh task) nothing_found old new ps
+  shape_later h (Give c) ps is = is
+  shape_later h another ps is = let few_later : (h : Holder) (task : Task) (ps : List Piece) → AreFewPieces h (Fresh task) nothing_found old mid ps → AreFewPieces h (Fresh task) nothing_found old new ps = λ h task ps is. record {
+    few = is.few;
+    kept = is.kept;
+    says = All-weaker (λ p. SaysIn h (Fresh task) nothing_found old mid p.sitting) (λ p. SaysIn h (Fresh task) nothing_found old new p.sitting) (says_later h task) ps is.says;
+  } in
+      few_later h another ps is
+
+  task_later : (h : Holder) (task : Task) (ps : List Piece) → IsTaskShaped h old mid task ps → IsTaskShaped h old new task ps
+  task_later h task ps is = record { own = is.own; shaped = shape_later h task ps is.shaped }
+
+-- SHAPES, of a later view
+
+pub shaped_as_later : (old mid new : View) (goes : Proceeds mid new) (l : LineAt) (a : Admission) → IsShapedAs l old mid a → IsShapedAs l old new a
+shaped_as_later old mid new goes l (Plays task) is = task_later old mid new goes (holder_as l (Plays task)) task l.given.pieces is
+shaped_as_later old mid new goes l _ is = is
+
+-- THE CUT
+
+-- a line that was cut and answers Halted was cut there, and its member is stopped
+cut_stops : (ps : List Piece) (cut : Option Cut) → IsCutBy {T = Unit {0}} (Err no_node.Halted) ps cut → cause_of cut ≡ Some Stops
+cut_stops ps None is = absurd is
+cut_stops ps (Some cut) is = ap (λ (why : Cause). Some why) is.cause
+
+-- and it was cut in a piece that was begun
+within_cut : (e : NodeNo) (ps : List Piece) (cut : Option Cut) → IsCutBy {T = Unit {0}} (Err e) ps cut → IsWithin cut ps
+within_cut e ps None is = absurd is
+within_cut e ps (Some cut) is = is.there
+
+cut_as : (by : MemberId) (ps : List Piece) (cut : Option Cut) (old new : View) → IsCutBy {T = Unit {0}} (Err no_node.Halted) ps cut
+    → Rose (old.stops by.0) (new.stops by.0) → IsNextAct new → CutsAs {T = Unit {0}} (Ok tt) by cut old new
+cut_as by ps None old new is rose after = absurd is
+cut_as by ps (Some cut) old new is rose after = (is.cause, is.halt, rose, after)
+
+-- one act after that in which the member was stopped
+pub act_after : (mid new : View) → mid.halt ≡ mid.now → IsOneAct mid new → IsNextAct new
+act_after mid new halt act = act.time ∙ ap (λ (t : ℕ). next t) (sym (act.halt ∙ halt))
+
+pub papers_on : (v0 v1 v2 : View) → v0.now ≤ v1.now → Proceeds v1 v2 → SamePapers v0 v1 → SamePapers v1 v2 → SamePapers v0 v2
+papers_on v0 v1 v2 later goes one two t from to m = ⊎_elim
+    (λ before. ap (λ (w : World). w.paper m) (goes.past t before) ∙ one t from before m)
+    (λ after. two t after to m ∙ one v1.now later (let same : v1.now ≤ v1.now = omega arith in same) m)
+    (by_order t v1.now)
+
+-- acts that lose nothing by a call leave what was lost before
+pub loses_on : (reads : List ℕ → Option (List ℕ)) (v0 v1 v2 : View) → Goes v1 v2 → ((d : Dev) → v2.loses d ≡ v1.loses d) → (took : Option Fate) (d : Dev)
+    → (v1.loses d ≡ loses_then None d (v0.loses d)) ⊎ MayLoseCopy reads took d v0 v1 → (v2.loses d ≡ loses_then None d (v0.loses d)) ⊎ MayLoseCopy reads took d v0 v2
+loses_on reads v0 v1 v2 goes same took d (inl is) = inl (same d ∙ is)
+loses_on reads v0 v1 v2 goes same took d (inr may) = inr (may_on took d may) where
+  stay_on : (found : Fate) (dev other : Dev) → CouldNotStay reads found dev other v0 v1 → CouldNotStay reads found dev other v0 v2
+  stay_on found dev other s = record {
+    pages = s.pages;
+    reached = s.reached;
+    fated = s.fated;
+    near = s.near;
+    at = s.at;
+    moment = (s.moment.0, let le = s.moment.1 in omega (arith, le, goes.later));
+    beside = ap (λ (w : World). reads (w.disk other).bytes) (goes.past s.at s.moment.1) ∙ s.beside;
+    room = s.room;
+    unfit = s.unfit;
+    least = s.least;
+  }
+
+  why_on : (found : Fate) (dev other : Dev) → IsWhyLost reads found dev other v0 v1 → IsWhyLost reads found dev other v0 v2
+  why_on found dev other (inl none) = inl none
+  why_on found dev other (inr (inl rose)) = inr (inl (let more = goes.faults (Disk dev) in omega (arith, rose, more)))
+  why_on found dev other (inr (inr stay)) = inr (inr (stay_on found dev other stay))
+
+  may_on : (t : Option Fate) (e : Dev) → MayLoseCopy reads t e v0 v1 → MayLoseCopy reads t e v0 v2
+  may_on (Some found) Ckpt1 h = (same Ckpt1 ∙ h.0, goes.lost (Disk Ckpt1) h.1, why_on found Ckpt1 Ckpt2 h.2)
+  may_on (Some found) Ckpt2 h = (same Ckpt2 ∙ h.0, goes.lost (Disk Ckpt2) h.1, why_on found Ckpt2 Ckpt1 h.2)
+  may_on _ _ h = h
+
+module _ {P C : Type 0} (plants : PlantGhosts P) (copies : CopyGhosts C) (told : Type 0) (tells : told → plants.tells) (l : LineAt) (x y z : Parts P C)
+    (member : is_of_member l.step.what ≡ true) (left : HasLeft plants copies told l x y (Err no_node.Halted))
+    (said : HasSaidStop plants copies l.step.by l.number y z (Ok tt)) where
+  abbrev v : Parts P C → View
+  v w = plants.view w.plant
+
+  pub passed_stopped : IsPassed told copies.reads l left.own (v x) (v z) (Ok tt)
+  passed_stopped = let stop_line : map (λ (s : Said). s.line) (stopped_lines l.step.by l.number (cause_of l.given.sight.cut)) ≡ whole (closing_line l.step.by l.number closing.Stopped) ∷ [] = ap (λ (c : Option Cause). map (λ (s : Said). s.line) (stopped_lines l.step.by l.number c)) (cut_stops (pieces_at l) l.given.sight.cut left.cut) in
+      let papers_same : told → (m : ℕ) → paper_now (v z) m ≡ paper_now (v y) m = λ t m. said.acts.papers (tells t) (v z).now said.acts.goes.later (let same : (v z).now ≤ (v z).now = omega arith in same) m in
+      let rose : Rose ((v x).stops l.step.by.0) ((v z).stops l.step.by.0) = subst (λ (n : ℕ). Rose ((v x).stops l.step.by.0) n) (sym (said.stops l.step.by.0)) (left.stopped refl) in
+      let same_cut : cut_of l ≡ l.given.sight.cut = member_cut l.step.what l.given.sight.cut member in let after : Proceeds (v y) (v z) = proceeds_of (v y) (v z) said.acts.goes in record {
+        goes = proceeds_on (v x) (v y) (v z) left.goes after;
+        stays = λ d other is. said.acts.goes.lost (Disk d) (left.stays d other is);
+        given = record {
+          shaped = ⊎_elim inl (λ s. inr (if_member l.step.what _ (shaped_as_later (v x) (v y) (v z) after l (admitted_at l) s))) left.shaped;
+          right = λ t. right_of l.scene l.step.by l.number l.given l.step.what member (left.right t);
+        };
+        honest = λ t. if_member l.step.what _ (subst (λ (c : Option Cut). IsHonestAs l (admitted_at l) c (v x) (v z)) (sym same_cut)
+            (finds_later (v x) (v y) (v z) after l.scene.queue.config.groups l.step.by l.given.sight.finds _ (left.honest t)));
+        stay = λ t. member_stays l.step.what (named_as l (admitted_at l) (cut_of l)) (v x) (v z) member (subst (λ (c : Option Cut). StaysAs l (admitted_at l) c (v x) (v z)) (sym same_cut)
+            (stays_on (named_as l (admitted_at l) l.given.sight.cut) (v x) (v y) (v z) (left.stay t) (console_stays (v y) (v z) said.acts)));
+        cut = subst (λ (c : Option Cut). CutsAs {T = Unit {0}} (Ok tt) l.step.by c (v x) (v z)) (sym same_cut) (cut_as l.step.by (pieces_at l) l.given.sight.cut (v x) (v z) left.cut rose
+            (act_after (v y) (v z) (left.spares.at_halt refl) said.acted));
+        within = subst (λ (c : Option Cut). IsWithin c (pieces_at l)) (sym same_cut) (within_cut no_node.Halted (pieces_at l) l.given.sight.cut left.cut);
+        why = no_node.Halted;
+        is_why = refl;
+        tight = subst (λ (c : Option Cut). IfIdle (is_work (admitted_at l)) (AtCut (IsTight no_node.Halted) c (pieces_at l))) (sym same_cut) left.tight;
+        broke = λ t. subst (λ (c : Option Cut). AtCut (IsBroken no_node.Halted) c (pieces_at l)) (sym same_cut) (left.broke t);
+        spares = λ m other. said.stops m ∙ left.spares.stops m (inl other);
+        failed = λ e. absurd (cc);
+        batches = subst (λ (bs : List Batched). AreBatched l.step.by (v x).now (v z).now bs left.own) (sym (batches_left l member))
+            (batched_later l.step.by (v x).now (v y).now (v z).now (left_at l).batches left.own said.acts.goes.later left.batches);
+        console = λ t. said.console (tells t) ∙ ap (λ (ls : List Printed). ls ++ whole (closing_line l.step.by l.number closing.Stopped) ∷ []) (left.console t)
+            ∙ append_assoc (console_now (v x)) (left_at l).lines (whole (closing_line l.step.by l.number closing.Stopped) ∷ [])
+            ∙ ap (λ (ls : List Printed). console_now (v x) ++ ls) (ap (λ (ls : List Printed). (left_at l).lines ++ ls) (sym stop_line) ∙ sym (lines_left l member));
+        paper = λ t m. papers_same t m ∙ printed_here plants copies told l x y member left m t;
+        dry = λ t none. papers_on (v x) (v y) (v z) left.goes.later after (left.dry t none) (said.acts.papers (tells t));
+        loses = λ t. subst (λ (d : Option Dev). LosesAs copies.reads (took l) d (v x) (v z)) (sym (loses_none l member)) (λ d. loses_on copies.reads (v x) (v y) (v z) said.acts.goes said.acts.loses (took l) d (left.loses t d));
+        arms = λ m. said.acts.goes.arms m ∙ left.arms m ∙ sym (arms_same plants copies told l x y member left m);
+        volumes = λ t leaves. kept_later (v x) (v y) (v z) left.goes.later after (left.volumes t (leaves_as plants copies told l x y member left l.step.what member leaves))
+            (kept_on (v y) (v z) (said.acts.others (tells t)));
+      }
+
+-- A LINE IN WHICH THE RUN ENDED, nobody having been stopped
+
+ends_by : (e : NodeNo) → e ≢ no_node.Halted → cause_by e ≡ Ends
+ends_by no_node.Halted other = absurd (other refl)
+ends_by _ other = refl
+
+not_stopped : (e : NodeNo) → e ≢ no_node.Halted → is_stop e ≡ false
+not_stopped no_node.Halted other = absurd (other refl)
+not_stopped _ other = refl
+
+cut_ends : (e : NodeNo) → e ≢ no_node.Halted → (ps : List Piece) (cut : Option Cut) → IsCutBy {T = Unit {0}} (Err e) ps cut → cause_of cut ≡ Some Ends
+cut_ends e other ps None is = absurd is
+cut_ends e other ps (Some cut) is = ap (λ (why : Cause). Some why) (is.cause ∙ ends_by e other)
+
+cut_error : (e : NodeNo) → e ≢ no_node.Halted → (by : MemberId) (ps : List Piece) (cut : Option Cut) (old new : View) → IsCutBy {T = Unit {0}} (Err e) ps cut
+    → new.stops by.0 ≡ old.stops by.0 → CutsAs {T = Unit {0}} (Err e) by cut old new
+cut_error e other by ps None old new is up = absurd is
+cut_error e other by ps (Some cut) old new is up = (is.cause ∙ ends_by e other, inl (record { why = is.halt; other = other; up = up }))
+
+module _ {P C : Type 0} (plants : PlantGhosts P) (copies : CopyGhosts C) (told : Type 0) (l : LineAt) (x y : Parts P C) (e : NodeNo) (other : e ≢ no_node.Halted)
+    (member : is_of_member l.step.what ≡ true) (left : HasLeft plants copies told l x y (Err e)) where
   abbrev w : Parts P C → View
   w z = plants.view z.plant
 
-  none_cut : cut_of l ≡ None
-  none_cut = member_cut l.step.what l.given.sight.cut member ∙ left.cut
+  pub passed_error : IsPassed told copies.reads l left.own (w x) (w y) (Err e)
+  passed_error = let none_said : stopped_lines l.step.by l.number (cause_of l.given.sight.cut) ≡ [] = ap (λ (c : Option Cause). stopped_lines l.step.by l.number c) (cut_ends e other (pieces_at l) l.given.sight.cut left.cut) in
+      let cut_here : cut_of l ≡ l.given.sight.cut = member_cut l.step.what l.given.sight.cut member in record {
+        goes = left.goes;
+        stays = left.stays;
+        given = given_of plants copies told l x y member left;
+        honest = λ t. if_member l.step.what _ (honest_of plants copies told l x y member left t);
+        stay = stay_of plants copies told l x y member left;
+        cut = subst (λ (c : Option Cut). CutsAs {T = Unit {0}} (Err e) l.step.by c (w x) (w y)) (sym cut_here)
+            (cut_error e other l.step.by (pieces_at l) l.given.sight.cut (w x) (w y) left.cut (left.spares.stops l.step.by.0 (inr (not_stopped e other))));
+        within = subst (λ (c : Option Cut). IsWithin c (pieces_at l)) (sym cut_here) (within_cut e (pieces_at l) l.given.sight.cut left.cut);
+        why = e;
+        is_why = inl (refl, left.spares.stops l.step.by.0 (inr (not_stopped e other)));
+        tight = subst (λ (c : Option Cut). IfIdle (is_work (admitted_at l)) (AtCut (IsTight e) c (pieces_at l))) (sym cut_here) left.tight;
+        broke = λ t. subst (λ (c : Option Cut). AtCut (IsBroken e) c (pieces_at l)) (sym cut_here) (left.broke t);
+        spares = λ m differs. left.spares.stops m (inl differs);
+        failed = left.failed;
+        batches = subst (λ (bs : List Batched). AreBatched l.step.by (w x).now (w y).now bs left.own) (sym (batches_left l member)) left.batches;
+        console = λ t. left.console t ∙ ap (λ (ls : List Printed). console_now (w x) ++ ls)
+            (sym (append-nil (left_at l).lines) ∙ ap (λ (ss : List Said). (left_at l).lines ++ map (λ (s : Said). s.line) ss) (sym none_said) ∙ sym (lines_left l member));
+        paper = λ t m. printed_here plants copies told l x y member left m t;
+        dry = left.dry;
+        loses = λ t. subst (λ (d : Option Dev). LosesAs copies.reads (took l) d (w x) (w y)) (sym (loses_none l member)) (left.loses t);
+        arms = λ m. left.arms m ∙ sym (arms_same plants copies told l x y member left m);
+        volumes = λ t leaves. left.volumes t (leaves_as plants copies told l x y member left l.step.what member leaves);
+      }
 
-  -- what a cut leaves is said of none
-  if_none : (P : Halt → Sitting → Type 0) → AtCut P (cut_of l) (pieces_at l)
-  if_none P = subst (λ (c : Option Cut). AtCut P c (pieces_at l)) (sym none_cut) tt
+-- WHAT THE OPERATOR SAYS, in the words of a run
 
-  none_stopped : stopped_lines l.step.by l.number (cause_of l.given.sight.cut) ≡ []
-  none_stopped = ap (λ (c : Option Cut). stopped_lines l.step.by l.number (cause_of c)) left.cut
+module _ {P C : Type 0} (plants : PlantGhosts P) (copies : CopyGhosts C) where
+  cause_said : (x y : Parts P C) (result : Result (Unit {0}) NodeNo) → HasCause result 0 (plants.view x.plant) (plants.view y.plant) → stopped_in result ≡ false
+      → StopCauses plants copies x y result
+  cause_said x y (Err no_node.ConsoleFault) cause up = cause
+  cause_said x y (Err no_node.BothLost) cause up = cause
+  cause_said x y (Err no_node.Halted) cause up = let not_halted : true ≡ false → ⊥ = λ e. absurd (cc) in absurd (not_halted up)
+  cause_said x y _ cause up = tt
 
-  pub passed_uncut : IsPassed told copies.reads l left.own (w x) (w y) (Ok tt)
-  passed_uncut = record {
-    goes = left.goes;
-    stays = left.stays;
-    given = given_of plants copies told l x y member left;
-    honest = λ t. if_member l.step.what _ (honest_of plants copies told l x y member left t);
-    stay = stay_of plants copies told l x y member left;
-    cut = subst (λ (c : Option Cut). CutsAs {T = Unit {0}} (Ok tt) l.step.by c (w x) (w y)) (sym none_cut) (left.spares.stops l.step.by.0 (inr refl));
-    within = subst (λ (c : Option Cut). IsWithin c (pieces_at l)) (sym none_cut) tt;
-    why = no_node.Halted;
-    is_why = refl;
-    tight = if_idle (is_work (admitted_at l)) _ (if_none (IsTight no_node.Halted));
-    broke = λ t. if_none (IsBroken no_node.Halted);
-    spares = λ m other. left.spares.stops m (inl other);
-    failed = λ e. absurd (cc);
-    batches = subst (λ (bs : List Batched). AreBatched l.step.by (w x).now (w y).now bs left.own) (sym (batches_left l member)) left.batches;
-    console = λ t. left.console t ∙ ap (λ (ls : List Line). console_now (w x) ++ ls)
-        (sym (append-nil (left_at l).lines) ∙ ap (λ (ss : List Said). (left_at l).lines ++ map (λ (s : Said). s.line) ss) (sym none_stopped) ∙ sym (lines_left l member));
-    paper = λ t m. printed_here plants copies told l x y member left m t;
-    dry = left.dry;
-    loses = λ t. subst (λ (d : Option Dev). LosesAs copies.reads (took l) d (w x) (w y)) (sym (loses_none l member)) (left.loses t);
-    arms = λ m. left.arms m ∙ sym (arms_same plants copies told l x y member left m);
-    volumes = λ t leaves. left.volumes t (leaves_as plants copies told l x y member left l.step.what member leaves);
+  line_said : (by : MemberId) (at : ℕ) (x y : Parts P C) (result : Result (Unit {0}) NodeNo)
+      → console_now (plants.view y.plant) ≡ console_now (plants.view x.plant) ++ stopped_said result by at → SaysStop plants copies by at x y result
+  line_said by at x y (Ok done) is = is
+  line_said by at x y (Err e) is = is ∙ append-nil (console_now (plants.view x.plant))
+
+module _ {P C : Type 0} {plants : PlantGhosts P} {steadies : SteadyGhosts C} {copies : CopyGhosts C} where
+  pub stop_said : (by : MemberId) (at : ℕ) (x y : Complex P C plants steadies copies) (result : Result (Unit {0}) NodeNo)
+      → parts_of y ≡ record (parts_of x) { plant = y.plant } → SaysStopped by at x y result → StopIsSaid by at x y result
+  stop_said by at x y result frame says = record {
+    frame = frame;
+    acts = says.acts;
+    acted = says.acted;
+    stops = λ m. says.spares.stops m (inr refl);
+    cause = cause_said plants copies (parts_of x) (parts_of y) result says.cause says.unhalted;
+    console = λ t. line_said plants copies by at (parts_of x) (parts_of y) result (says.console t);
   }

@@ -1,76 +1,345 @@
 -- A stop of a member, a stop that is armed, and the loss of a device, as lines of a script.
-use Rattle.std.proofs.Common.{◌≡◌, ◌≢◌, ◌⊎◌, inl, inr, ⊎_elim, ℕ, ◌+◌, ◌≤◌, not, Bool, true, false, if◌then◌else◌, List, length, Option, None, Ok, le_refl, refl, sym, ◌∙◌, ap, subst, arith}
-use Rattle.mas_types.specs.declared.ids.Dev.{Dev}
-use Rattle.mas_types.specs.declared.ids.Dev.TheVariants.{Ckpt1, Ckpt2, Spool}
-use Rattle.mas_types.specs.declared.ids.MemberId.{MemberId}
-use Rattle.mas_types.specs.declared.journals.Entry.{Entry}
-use Rattle.mas_types.specs.declared.queues.Config.{Config}
-use Rattle.mas_types.specs.declared.queues.Queue.{Queue}
-use Rattle.mas_types.specs.Limits.{steps_most}
-use Rattle.mas_types.specs.Queue.{is_member}
-use Rattle.queue_laws.proofs.RunLaws.{runs_keep_configuration}
+use Rattle.mas_run.proofs.Names.{◌≡◌, ◌≢◌, ◌⊎◌, inl, inr, ⊎_elim, ℕ, ◌+◌, ◌≤◌, not, Bool, true, false, if◌then◌else◌, List, length, Option, None, Ok, le_refl, refl, sym, ◌∙◌, ap, subst, arith, [], ◌∷◌, Result, Err, append-nil, ◌==◌, ◌&&◌, ◌++◌, map, Some, Dev, Ckpt1, Ckpt2, Spool, MemberId, Entry, Config, Queue, steps_most, is_member, runs_keep_configuration, Book, IsMember, after_stop, is_stopped, Fuse, Disk, Ghosts as PlantGhosts, View, disk_now, DiskView, Line, paper_now, Loses, Rose, SameWires, Arms, next, CopyGhosts, SteadyGhosts, IsCkpt, pick, Complex, Elsewhere, kept_all, reserved_after_stop, Parts, parts_of, with_half, no, papers_none, Grows, console_now, VolumesStay, none_lost, Member, journal_of, queue_of, Scene, Batched, Played, is_up, silent, stop, Said, arm, lose, nothing, KeepCopies, Proceeds, StaysLost, same_device, AskLeaves, CutsAs, IfOfMember, IsWithin, LeavesVolumes, arms_then, cut_in, cut_of, is_work, loses_then, named_by, PlayedLine, line_by, HasPlayedLine, is_of_member, LineIsPlayed, BetweenLines, IsBetween, IsShown, IsFlight, Since, none_since, stopped_since, proceeds_of, HaveRead, closing_line, SaysStopped, stopped_said, NodeNo, TellNone, closing_of, whole_later, eqb-true, nat_tests, Batch, Fate, Flying, Ask, Step, Counts, Part, NoMore, SamePapers, counts_of, AreBatched, AtCut, IsBroken, IsTight, Sitting, Admission, IsAskRight, none_given, LineAt, admitted_at, pieces_at, played_at, Cut, Halt, Replaced, settle, AreVolumesKept, kept_none, no_more}
 use Rattle.script_lang.specs.declared.types.Ask.TheVariants as ask
-use Rattle.lock_cycle.specs.Books.{Book, IsMember, after_stop, is_stopped}
-use Rattle.spool_plant.specs.declared.plant.Fuse.{Fuse}
-use Rattle.spool_plant.specs.declared.plant.Part.TheVariants.{Disk}
-use Rattle.spool_plant.specs.declared.plant.Plant.{Ghosts as PlantGhosts}
-use Rattle.spool_plant.specs.View.{View, disk_now}
-use Rattle.spool_plant.specs.Acts.{Loses, Rose, SameWires}
-use Rattle.ckpt_copy.specs.declared.copying.Copying.{Ghosts as CopyGhosts}
-use Rattle.ckpt_form.specs.declared.steady.Steady.{Ghosts as SteadyGhosts}
-use Rattle.duplex_pair.specs.Halves.{IsCkpt, pick}
-use Rattle.mas_complex.specs.declared.complex.Complex.{Complex}
-use Rattle.mas_complex.specs.Elsewhere.{Elsewhere}
-use Rattle.mas_complex.specs.Journals.{kept_all}
-use Rattle.mas_complex.specs.Locking.{reserved_after_stop}
-use Rattle.mas_complex.specs.Parts.{Parts, parts_of, with_half}
 use Rattle.member_lines.specs.Stops.{ArmsIf as ArmsThere, ArmsStop, IsAt, Stops, stopped_at}
-use Rattle.member_node.proofs.CourseLemmas.{no, wires_none}
-use Rattle.member_node.specs.Calls.{Grows, console_now}
-use Rattle.member_node.specs.declared.member.Member.{Member}
-use Rattle.member_sittings.specs.Sat.{journal_of}
-use Rattle.member_sittings.specs.Whole.{queue_of}
-use Rattle.run_turns.specs.Scenes.{Scene}
-use Rattle.run_turns.specs.Steps.{Played, is_up, silent, stop}
-use Rattle.mas_run.specs.Copies.{KeepCopies}
-use Rattle.run_opening.specs.Lines.{Proceeds}
-use Rattle.mas_run.specs.Lines.{same_device}
-use Rattle.mas_run.specs.LinesPlayed.{PlayedLine, line_by}
-use Rattle.mas_run.specs.MuteLines.{PlaysMute}
-use Rattle.run_opening.specs.Shows.{BetweenLines, IsBetween, IsShown}
-use Rattle.member_resets.proofs.BookLemmas.{Since, none_since, stopped_since}
-use Rattle.mas_run.proofs.ClosedLemmas.{scene_at, shown_at}
+use Rattle.mas_run.proofs.ClosesLemmas.{scene_at, shown_at, between_later}
 use Rattle.mas_run.proofs.KnownLemmas.{inside_of}
-use Rattle.mas_run.proofs.MuteLemmas.{armed_next, mute_next}
-use Rattle.run_opening.proofs.ProceedLemmas.{proceeds_of}
-use Rattle.mas_run.proofs.PausedLemmas.{between_later, between_next}
-use Rattle.mas_run.proofs.PlainLemmas.{ArmsIf, arm_plain, arm_shown, armed_same, disk_of, lose_plain, lose_shown, own_dev, plain_played, same_dev, stop_plain, stop_shown}
 use Rattle.mas_run.proofs.CopiesLemmas.{leaves_same}
-use Rattle.mas_run.proofs.ReaderLemmas.{readers_still}
+use Rattle.mas_run.proofs.WireLemmas.{readers_still, mute_carries}
+use Rattle.mas_types.specs.declared.answers.Closing.TheVariants as closing
+use Rattle.mas_run.proofs.TurnedLemmas.{between_said, between_spoken}
+use Rattle.member_node.specs.declared.member.NodeNo.TheVariants as no_node
+use Rattle.mas_run.proofs.LeftLemmas.{if_idle}
+use Rattle.mas_run.proofs.PassedLemmas.{settle_none, renews_mute}
 
 true_false : true ≡ false → ⊥
 true_false e = absurd (cc)
+
+-- WHAT SUCH A LINE NEEDN'T SAY
+
+unasked : (what : Ask) → is_of_member what ≡ false → (P : Type 0) → IfOfMember what P
+unasked ask.Stop none P = tt
+unasked (ask.StopIn fuse n) none P = tt
+unasked (ask.Lose dev) none P = tt
+unasked _ none P = absurd (true_false none)
+
+unfound : (S : Scene) (by : MemberId) (at : ℕ) (what : Ask) → is_of_member what ≡ false → IsAskRight S by at none_given what
+unfound S by at ask.Stop none = tt
+unfound S by at (ask.StopIn fuse n) none = tt
+unfound S by at (ask.Lose dev) none = tt
+unfound S by at _ none = absurd (true_false none)
+
+uncut : (what : Ask) → cut_in what None ≡ None
+uncut ask.Stop = refl
+uncut _ = refl
+
+none_either : (b : Bool) (ls : List Line) → ls ≡ [] → (if b then ls else []) ≡ []
+none_either true ls none = none
+none_either false ls none = refl
+
+-- what it does, and what the plant shows then
+pub record IsPlain {P C : Type 0} (plants : PlantGhosts P) (told : Type 0) (l : LineAt) (x y : Parts P C) : Type 0 where
+  pub found : (played_at l).outcome.found ≡ Flying
+  pub batches : (played_at l).outcome.batches ≡ []
+  pub said : (played_at l).outcome.said ≡ []
+  pub printed : (played_at l).outcome.printed ≡ []
+  pub goes : Proceeds (plants.view x.plant) (plants.view y.plant)
+  pub stops : (m : ℕ) → (plants.view y.plant).stops m ≡ (plants.view x.plant).stops m
+  pub console : told → console_now (plants.view y.plant) ≡ console_now (plants.view x.plant)
+  pub paper : told → (m : ℕ) → paper_now (plants.view y.plant) m ≡ paper_now (plants.view x.plant) m
+  pub dry : told → SamePapers (plants.view x.plant) (plants.view y.plant)
+  pub given : (played_at l).outcome.given ≡ []
+  pub wires : told → SameWires (plants.view x.plant) (plants.view y.plant)
+  pub loses : told → (d : Dev) → (plants.view y.plant).loses d ≡ loses_then (played_at l).outcome.loses d ((plants.view x.plant).loses d)
+  pub arms : (m : ℕ) → (plants.view y.plant).arms m ≡ arms_then l m ((plants.view x.plant).arms m)
+  pub volumes : told → LeavesVolumes l → AreVolumesKept (plants.view x.plant) (plants.view y.plant)
+  pub journal : journal_of y ≡ journal_of x
+  pub renewals : y.renewals ≡ x.renewals
+  pub stays : (d : Dev) → StaysLost d (plants.view x.plant) (plants.view y.plant)
+  pub stay : VolumesStay (named_by l) (plants.view x.plant) (plants.view y.plant)
+
+module _ {P C : Type 0} (plants : PlantGhosts P) (copies : CopyGhosts C) (told : Type 0) (S : Scene) (at : ℕ) (step : Step) (none : is_of_member step.what ≡ false)
+    (x y : Parts P C) where
+  abbrev l : LineAt
+  l = record { scene = S; number = at; step = step; given = none_given }
+
+  plain_played : IsPlain plants told l x y → IsShown plants copies told (played_at l).next y → HasPlayedLine plants copies told S at step x y (Ok tt)
+  plain_played plain shows = let none_cut : cut_of l ≡ None = uncut step.what in
+      let if_uncut : (Q : Halt → Sitting → Type 0) → AtCut Q (cut_of l) (pieces_at l) = λ Q. subst (λ (c : Option Cut). AtCut Q c (pieces_at l)) (sym none_cut) tt in
+      let plain_view : Parts P C → View = λ w. plants.view w.plant in record {
+        given = none_given;
+        next = record {
+          own = [];
+          passed = record {
+            goes = plain.goes;
+            stays = λ d other. plain.stays d;
+            given = record { shaped = inr (unasked step.what none _); right = λ t. unfound S step.by at step.what none };
+            honest = λ t. unasked step.what none _;
+            stay = λ t. plain.stay;
+            cut = subst (λ (c : Option Cut). CutsAs {T = Unit {0}} (Ok tt) step.by c (plain_view x) (plain_view y)) (sym none_cut) (plain.stops step.by.0);
+            within = subst (λ (c : Option Cut). IsWithin c (pieces_at l)) (sym none_cut) tt;
+            why = no_node.Halted;
+            is_why = refl;
+            tight = if_idle (is_work (admitted_at l)) _ (if_uncut (IsTight no_node.Halted));
+            broke = λ t. if_uncut (IsBroken no_node.Halted);
+            spares = λ m other. plain.stops m;
+            failed = λ e. absurd (cc);
+            batches = subst (λ (bs : List Batched). AreBatched step.by (plain_view x).now (plain_view y).now bs []) (sym plain.batches) tt;
+            console = λ t. plain.console t ∙ sym (append-nil (console_now (plain_view x))) ∙ ap (λ (ss : List Said). console_now (plain_view x) ++ map (λ (s : Said). s.line) ss) (sym plain.said);
+            paper = λ t m. plain.paper t m ∙ sym (append-nil (paper_now (plain_view x) m))
+                ∙ ap (λ (ls : List Line). paper_now (plain_view x) m ++ ls) (sym (none_either (step.by.0 == m) (played_at l).outcome.printed plain.printed));
+            dry = λ t so. plain.dry t;
+            loses = λ t d. inl (plain.loses t d);
+            arms = plain.arms;
+            volumes = plain.volumes;
+          };
+          at = (plain_view x).now;
+          moment = (omega arith, plain.goes.later);
+          batches = plain.journal ∙ sym (settle_none (plain_view x).now (journal_of x)) ∙ sym (append-nil (settle Flying (plain_view x).now (journal_of x)))
+              ∙ ap (λ (f : Fate). settle f (plain_view x).now (journal_of x) ++ []) (sym plain.found);
+          renews = renews_mute None Replaced x.renewals y.renewals (plain_view x) (plain_view y) plain.renewals S.queue.config S.book step.by step.what none;
+          wires = λ t. mute_carries x.since l (played_at l).outcome.given (plain_view x) (plain_view y) plain.given (plain.wires t) S.queue.config S.book step.by step.what none;
+        };
+        shows = shows;
+      }
+
+-- A STOP, and one that is armed: by whether its member is up
+
+abbrev silent_if : Bool → Scene → Scene → Played
+silent_if up S T = if up then silent T else silent S
+
+silent_found : (up : Bool) (S T : Scene) → (silent_if up S T).outcome ≡ nothing
+silent_found true S T = refl
+silent_found false S T = refl
+
+-- nothing but the counts of stops that were armed differs
+abbrev armed_as : View → View → View
+armed_as old new = record old { arms = new.arms }
+
+same_armed : (old new : View) → new ≡ old → new ≡ armed_as old new
+same_armed old new same = same ∙ ap (λ (a : ℕ → ℕ). record old { arms = a }) (sym (ap (λ (w : View). w.arms) same))
+
+armed_goes : (old new : View) → Proceeds old (armed_as old new)
+armed_goes old new = record { later = omega arith; past = λ t le. refl; size = λ d. refl; faults = λ p. omega arith; stops = λ m. omega arith; lost = λ p other is. is }
+
+armed_wires : (old new : View) → SameWires old (armed_as old new)
+armed_wires old new = record { waiting = λ k. refl; taken = λ k m. refl; given = λ k m. refl }
+
+-- a line that did nothing to the plant but that
+module _ {P C : Type 0} (plants : PlantGhosts P) (told : Type 0) (l : LineAt) (quiet : (played_at l).outcome ≡ nothing) (named : named_by l ≡ none_lost) (x y : Parts P C)
+    (armed : plants.view y.plant ≡ armed_as (plants.view x.plant) (plants.view y.plant)) (counted : (m : ℕ) → (plants.view y.plant).arms m ≡ arms_then l m ((plants.view x.plant).arms m))
+    (journal : journal_of y ≡ journal_of x) (renewals : y.renewals ≡ x.renewals) where
+  abbrev old : View
+  old = plants.view x.plant
+
+  quiet_plain : IsPlain plants told l x y
+  quiet_plain = record {
+    found = ap (λ o. o.found) quiet;
+    batches = ap (λ o. o.batches) quiet;
+    said = ap (λ o. o.said) quiet;
+    printed = ap (λ o. o.printed) quiet;
+    goes = subst (λ (w : View). Proceeds old w) (sym armed) (armed_goes old (plants.view y.plant));
+    stops = λ m. ap (λ (w : View). w.stops m) armed;
+    console = λ t. ap console_now armed;
+    paper = λ t m. ap (λ (w : View). paper_now w m) armed;
+    dry = λ t. subst (λ (w : View). SamePapers old w) (sym armed) (papers_none old);
+    given = ap (λ o. o.given) quiet;
+    wires = λ t. subst (λ (w : View). SameWires old w) (sym armed) (armed_wires old (plants.view y.plant));
+    loses = λ t d. ap (λ (w : View). w.loses d) armed ∙ sym (ap (λ o. loses_then o.loses d (old.loses d)) quiet);
+    arms = counted;
+    volumes = λ t leaves. subst (λ (w : View). AreVolumesKept old w) (sym armed) (kept_none old);
+    journal = journal;
+    renewals = renewals;
+    stays = λ d is. ap (λ (w : View). w.lost (Disk d)) armed ∙ is;
+    stay = subst (λ (f : ℕ → Bool). VolumesStay f old (plants.view y.plant)) (sym named)
+        (subst (λ (w : View). VolumesStay none_lost old w) (sym armed) (record { lost = λ n other. refl; faults = λ n other. refl }));
+  }
+
+-- what flies does so by the book of any later line: its member stays stopped
+flight_since : (b c : Book) → Since b c → (o : Option (List Entry)) (current : Option Batch) → IsFlight b o current → IsFlight c o current
+flight_since b c since None current is = is
+flight_since b c since (Some es) current is =
+    record { batch = is.batch; is = is.is; entries = is.entries; flies = is.flies; stopped = still (is_stopped c is.batch.by) refl } where
+      still : (s : Bool) → is_stopped c is.batch.by ≡ s → is_stopped c is.batch.by ≡ true
+      still true e = e
+      still false e = absurd (true_false (sym is.stopped ∙ since.up is.batch.by e))
+
+module _ {P C : Type 0} (plants : PlantGhosts P) (copies : CopyGhosts C) (told : Type 0) (S : Scene) (by : MemberId) (x y : Parts P C)
+    (shown : IsShown plants copies told S x) (queue : queue_of y ≡ queue_of x) (current : y.current ≡ x.current) (printed : y.printed ≡ x.printed) where
+  abbrev stopped_scene : Scene
+  stopped_scene = record S { book = after_stop S.book by }
+
+  -- a scene with the same queue, batch in flight and counts, and a later book
+  later_shown : (T : Scene) → T.queue ≡ S.queue → T.flight ≡ S.flight → T.counts ≡ S.counts → Since S.book T.book → y.book ≡ T.book → IsShown plants copies told T y
+  later_shown T queues flights counts since book = record {
+    queue = queue ∙ shown.queue ∙ sym queues;
+    book = book;
+    flight = subst (λ (o : Option (List Entry)). IsFlight T.book o y.current) (sym flights)
+        (subst (λ (c : Option Batch). IsFlight T.book S.flight c) (sym current) (flight_since S.book T.book since S.flight x.current shown.flight));
+    counts = λ t m up. ap (λ p. counts_of p m) printed ∙ shown.counts t m (since.up m up) ∙ sym (ap (λ (cs : Counts). cs m) counts);
+  }
+
+  stops_by : (up : Bool) → is_up S by ≡ up → (is_up S by ≡ true → IsMember S.book by) → y.book ≡ (silent_if up S stopped_scene).next.book
+      → IsShown plants copies told (silent_if up S stopped_scene).next y
+  stops_by true is inside book = later_shown stopped_scene refl refl refl (stopped_since S.book by (inside is)) book
+  stops_by false is inside book = later_shown S refl refl refl (none_since S.book) book
+
+  stop_shown : (is_up S by ≡ true → IsMember S.book by) → y.book ≡ (stop S by).next.book → IsShown plants copies told (stop S by).next y
+  stop_shown inside book = stops_by (is_up S by) refl inside book
+
+  -- a stop that is armed, and a device that is lost, leave the book
+  arms_by_up : (up : Bool) (T : Scene) → T.queue ≡ S.queue → T.flight ≡ S.flight → T.counts ≡ S.counts → T.book ≡ S.book → y.book ≡ x.book
+      → IsShown plants copies told (silent_if up S T).next y
+  arms_by_up true T queues flights counts books book =
+      later_shown T queues flights counts (subst (λ (b : Book). Since S.book b) (sym books) (none_since S.book)) (book ∙ shown.book ∙ sym books)
+  arms_by_up false T queues flights counts books book = later_shown S refl refl refl (none_since S.book) (book ∙ shown.book)
+
+  arm_shown : (what : Fuse) (n : ℕ) → y.book ≡ x.book → IsShown plants copies told (arm S by what n).next y
+  arm_shown what n book = arms_by_up (is_up S by) (record S { armed = S.armed ++ record { member = by; fuse = what; left = n } ∷ [] }) refl refl refl refl book
+
+  lose_shown : (dev : Dev) → y.book ≡ x.book → IsShown plants copies told (lose S dev).next y
+  lose_shown dev book = later_shown S refl refl refl (none_since S.book) (book ∙ shown.book)
+
+-- A STOP THAT IS ARMED
+
+-- the plant shows that, if the member is up, and else what it showed
+abbrev ArmsIf : Bool → ℕ → View → View → Type 0
+ArmsIf true m old new = Arms m old new
+ArmsIf false m old new = new ≡ old
+
+armed_same : (up : Bool) (m : ℕ) (old new : View) → ArmsIf up m old new → new ≡ armed_as old new
+armed_same true m before after arms = arms.same
+armed_same false m before after same = same_armed before after same
+
+armed_grow : (up : Bool) (m : ℕ) (old new : View) → ArmsIf up m old new → (k : ℕ) → new.arms k ≡ (if up && (m == k) then next (old.arms k) else old.arms k)
+armed_grow false m old new same k = ap (λ (plain_seen : View). plain_seen.arms k) same
+armed_grow true m old new arms k = by_member (m == k) refl where
+  by_member : (is : Bool) → (m == k) ≡ is → new.arms k ≡ (if m == k then next (old.arms k) else old.arms k)
+  by_member true is =
+      let same : m ≡ k = eqb-true m k is in
+      subst (λ (j : ℕ). new.arms j ≡ next (old.arms j)) same arms.counted ∙ ap (λ (b : Bool). if b then next (old.arms k) else old.arms k) (sym is)
+  by_member false is =
+      let other : k ≢ m = λ e. absurd (let same : (m == k) ≡ true = grind (arith, nat_tests, e) in cc) in
+      arms.else_counted k other ∙ ap (λ (b : Bool). if b then next (old.arms k) else old.arms k) (sym is)
+
+-- A DEVICE THAT IS LOST
+
+pub same_dev : (d e : Dev) → same_device d e ≡ true → d ≡ e
+same_dev Ckpt1 Ckpt1 is = refl
+same_dev Ckpt2 Ckpt2 is = refl
+same_dev (Spool n) (Spool m) is = ap (λ (k : ℕ). Spool k) (eqb-true n m is)
+same_dev _ Ckpt2 is = absurd (cc)
+same_dev _ (Spool m) is = absurd (cc)
+same_dev _ Ckpt1 is = absurd (cc)
+
+own_dev : (d : Dev) → same_device d d ≡ true
+own_dev (Spool n) = grind (arith, nat_tests)
+own_dev _ = refl
+
+abbrev pub disk_of : Part → Dev
+disk_of (Disk d) = d
+disk_of _ = Ckpt1
+
+pub other_disk : (dev d : Dev) → same_device d dev ≡ false → Disk d ≢ Disk dev
+other_disk dev d other same = absurd (true_false (sym (own_dev dev) ∙ ap (λ (k : Dev). same_device k dev) (sym (ap disk_of same)) ∙ other))
+
+lost_count : (dev d : Dev) (old new : View) → Loses (Disk dev) old new → new.loses d ≡ loses_then (Some dev) d (old.loses d)
+lost_count dev d old new lost = plain_dev (same_device d dev) refl where
+  plain_dev : (is : Bool) → same_device d dev ≡ is → new.loses d ≡ (if same_device d dev then next (old.loses d) else old.loses d)
+  plain_dev true is = lost.counted d (ap (λ (e : Dev). Disk e) (same_dev d dev is)) ∙ ap (λ (b : Bool). if b then next (old.loses d) else old.loses d) (sym is)
+  plain_dev false is = lost.else_counted d (λ e. absurd (true_false (sym (own_dev dev) ∙ ap (λ (k : Dev). same_device k dev) (sym (ap disk_of e)) ∙ is)))
+      ∙ ap (λ (b : Bool). if b then next (old.loses d) else old.loses d) (sym is)
+
+pub kept_elsewhere : (dev : Dev) (old new : View) → ((n : ℕ) → Spool n ≢ dev) → Elsewhere dev old new → AreVolumesKept old new
+kept_elsewhere dev old new apart els t from to n =
+    subst (NoMore (disk_now old (Spool n))) (sym (els.others t from to (Spool n) (apart n))) (no_more (disk_now old (Spool n)))
+
+module _ {P C : Type 0} (plants : PlantGhosts P) (told : Type 0) (tells : told → plants.tells) (S : Scene) (at : ℕ) (by : MemberId) (dev : Dev) (x y : Parts P C)
+    (lost : Loses (Disk dev) (plants.view x.plant) (plants.view y.plant)) (els : plants.tells → Elsewhere dev (plants.view x.plant) (plants.view y.plant))
+    (journal : journal_of y ≡ journal_of x) (renewals : y.renewals ≡ x.renewals) where
+  abbrev d : LineAt
+  d = record { scene = S; number = at; step = record { by = by; what = ask.Lose dev }; given = none_given }
+
+  leaves_dev : (a : Admission) (e : Dev) → AskLeaves a (ask.Lose e) → (n : ℕ) → Spool n ≢ e
+  leaves_dev a (Spool m) leaves n same = absurd leaves
+  leaves_dev a _ leaves n same = absurd (cc)
+
+  lose_plain : IsPlain plants told d x y
+  lose_plain = let plain_part : Parts P C → View = λ z. plants.view z.plant in record {
+    found = refl;
+    batches = refl;
+    said = refl;
+    printed = refl;
+    goes = proceeds_of (plain_part x) (plain_part y) lost.goes;
+    stops = lost.stops;
+    console = λ t. (els (tells t)).console (plain_part y).now lost.goes.later (let same : (plain_part y).now ≤ (plain_part y).now = omega arith in same);
+    paper = λ t m. (els (tells t)).papers (plain_part y).now lost.goes.later (let same : (plain_part y).now ≤ (plain_part y).now = omega arith in same) m;
+    dry = λ t. (els (tells t)).papers;
+    given = refl;
+    wires = λ t. (els (tells t)).wires;
+    loses = λ t e. lost_count dev e (plain_part x) (plain_part y) lost;
+    arms = lost.arms;
+    volumes = λ t leaves. kept_elsewhere dev (plain_part x) (plain_part y) (leaves_dev (admitted_at d) dev leaves) (els (tells t));
+    journal = journal;
+    renewals = renewals;
+    stays = λ e is. lost.goes.lost (Disk e) is;
+    stay = record { lost = λ n other. lost.else_lost (Disk (Spool n)) (other_disk dev (Spool n) other); faults = λ n other. lost.faults (Disk (Spool n)) };
+  }
+
+module _ {P C : Type 0} (plants : PlantGhosts P) (copies : CopyGhosts C) (x y : Parts P C) where
+  abbrev plant_of : Parts P C → View
+  plant_of w = plants.view w.plant
+
+  mute_next : y ≡ record x { plant = y.plant; first_alive = y.first_alive; second_alive = y.second_alive; first_found = y.first_found; second_found = y.second_found }
+      → Proceeds (plant_of x) (plant_of y) → (y.first_alive ≡ true → x.first_alive ≡ true) → (y.second_alive ≡ true → x.second_alive ≡ true)
+      → (plants.tells → (d : Dev) → (disk_now (plant_of y) d).bytes ≡ (disk_now (plant_of x) d).bytes) → (plants.tells → console_now (plant_of y) ≡ console_now (plant_of x))
+      → (ms : List Member) (at : ℕ) → at ≤ steps_most → IsBetween plants copies x ms at → IsBetween plants copies y ms (at + 1)
+  mute_next frame goes alive1 alive2 bytes quiet ms at few is =
+      subst (λ (w : Parts P C). IsBetween plants copies w ms (at + 1)) (sym frame)
+      (between_spoken plants copies x y.plant y.first_alive y.second_alive y.first_found y.second_found goes alive1 alive2 (λ t. bytes t Ckpt1) (λ t. bytes t Ckpt2) ms at few
+      (λ t. ([], quiet t ∙ sym (append-nil (console_now (plant_of x))), (λ k less small es of. tt))) is)
+
+-- STOPS THAT ARE ARMED are all that differs
+
+module _ {P C : Type 0} (plants : PlantGhosts P) (copies : CopyGhosts C) (x y : Parts P C) (frame : y ≡ record x { plant = y.plant })
+    (same : plants.view y.plant ≡ record (plants.view x.plant) { arms = (plants.view y.plant).arms }) where
+  armed_next : (ms : List Member) (at : ℕ) → at ≤ steps_most → IsBetween plants copies x ms at → IsBetween plants copies y ms (at + 1)
+  armed_next ms at few is = let mute_whole : y ≡ record x { plant = y.plant; first_alive = y.first_alive; second_alive = y.second_alive; first_found = y.first_found; second_found = y.second_found } = subst (λ (w : Parts P C). w ≡ record x { plant = w.plant; first_alive = w.first_alive; second_alive = w.second_alive; first_found = w.first_found; second_found = w.second_found }) (sym frame) refl in
+      let alive_same2 : y.second_alive ≡ x.second_alive = ap (λ (w : Parts P C). w.second_alive) frame in let alive_same1 : y.first_alive ≡ x.first_alive = ap (λ (w : Parts P C). w.first_alive) frame in
+      mute_next plants copies x y mute_whole (subst (λ (w : View). Proceeds (plants.view x.plant) w) (sym same) (armed_goes (plants.view x.plant) (plants.view y.plant)))
+      (λ on. sym alive_same1 ∙ on) (λ on. sym alive_same2 ∙ on) (λ t d. ap (λ (w : View). (disk_now w d).bytes) same) (λ t. ap (λ (w : View). console_now w) same) ms at few is
+
+-- THE OPERATOR SAID that a member was stopped in its line, after which the value was between two lines already
+
+stopped_tells : (by : MemberId) (at : ℕ) (r : Result (Unit {0}) NodeNo) → TellNone at (stopped_said r by at)
+stopped_tells by at (Ok done) = λ k less small es of. whole_later by at k less (omega (arith, small)) es of (closing_line by at closing.Stopped ∷ []) (closing_of by at closing.Stopped)
+stopped_tells by at (Err e) = λ k less small es of. tt
+
+module _ {P C : Type 0} {plants : PlantGhosts P} {steadies : SteadyGhosts C} {copies : CopyGhosts C} where
+  pub stopped_next : (by : MemberId) (at : ℕ) (y z : Complex P C plants steadies copies) (r : Result (Unit {0}) NodeNo) → parts_of z ≡ record (parts_of y) { plant = z.plant }
+      → SaysStopped by at y z r → (ms : List Member) → at ≤ steps_most → IsBetween plants copies (parts_of y) ms (at + 1) → IsBetween plants copies (parts_of z) ms (at + 1)
+  stopped_next by at y z r frame says ms few is =
+      let x = parts_of y in
+      subst (λ (w : Parts P C). IsBetween plants copies w ms (at + 1)) (sym frame)
+      (between_said plants copies x z.plant x.first_alive x.second_alive x.first_found x.second_found (proceeds_of (plants.view y.plant) (plants.view z.plant) says.acts.goes) (λ on. on) (λ on. on)
+      (λ t. ap (λ (d : DiskView). d.bytes) (says.acts.disks t Ckpt1)) (λ t. ap (λ (d : DiskView). d.bytes) (says.acts.disks t Ckpt2)) ms (at + 1) (at + 1) (omega arith) (omega (arith, few))
+      (λ t. (stopped_said r by at, says.console t, (λ k le small es of. stopped_tells by at r k (omega (arith, le)) small es of))) is)
 
 -- COPIES that are as they were, where nothing of the plant differs but the stops that are armed
 
 module _ {P C : Type 0} (plants : PlantGhosts P) (x y : Parts P C) (one : y.first_alive ≡ x.first_alive) (two : y.second_alive ≡ x.second_alive)
     (same : plants.view y.plant ≡ record (plants.view x.plant) { arms = (plants.view y.plant).arms }) where
-  abbrev v : Parts P C → View
-  v w = plants.view w.plant
-
-  goes_so : (old : View) (arms : ℕ → ℕ) → Proceeds old (record old { arms = arms })
-  goes_so old arms = record { later = omega arith; past = λ t le. refl; size = λ d. refl; faults = λ p. omega arith; stops = λ m. omega arith; lost = λ p other is. is }
-
   still_copies : KeepCopies plants {T = Unit {0}} x y (Ok tt)
-  still_copies = record {
-    goes = subst (λ (u : View). Proceeds (v x) u) (sym same) (goes_so (v x) (v y).arms);
-    failed1 = λ is gone. absurd (no x.first_alive is (sym one ∙ gone));
-    failed2 = λ is gone. absurd (no x.second_alive is (sym two ∙ gone));
-    there1 = λ is there. ap (λ (u : View). u.lost (Disk Ckpt1)) same ∙ there (sym one ∙ is);
-    there2 = λ is there. ap (λ (u : View). u.lost (Disk Ckpt2)) same ∙ there (sym two ∙ is);
-    grow = λ d. inl (ap (λ (u : View). u.loses d) same);
-    left = inl (inr (one, two));
-  }
+  still_copies =
+      record {
+        goes = subst (λ (u : View). Proceeds (plants.view x.plant) u) (sym same) (armed_goes (plants.view x.plant) (plants.view y.plant));
+        failed1 = λ is gone. absurd (no x.first_alive is (sym one ∙ gone));
+        failed2 = λ is gone. absurd (no x.second_alive is (sym two ∙ gone));
+        there1 = λ is there. ap (λ (u : View). u.lost (Disk Ckpt1)) same ∙ there (sym one ∙ is);
+        there2 = λ is there. ap (λ (u : View). u.lost (Disk Ckpt2)) same ∙ there (sym two ∙ is);
+        grow = λ d. inl (ap (λ (u : View). u.loses d) same);
+        left = inl (inr (one, two));
+      }
 
 -- A DEVICE THAT IS LOST
 
@@ -114,19 +383,31 @@ module _ {P C : Type 0} {plants : PlantGhosts P} {steadies : SteadyGhosts C} {co
     by_test true e = e
     by_test false e = absurd (true_false (sym up ∙ ap (λ (t : Bool). if t then not (is_stopped S.book by) else false) e))
 
+  -- A LINE THAT LEAVES THE PLANT, but for stops that are armed, and all else but the book
+
+  module _ (step : Step) (frame : q ≡ record p { plant = q.plant; book = q.book }) (later : Since p.book q.book) (holder : q.book.holder ≡ p.book.holder)
+      (armed : plants.view y.plant ≡ armed_as (plants.view x.plant) (plants.view y.plant)) where
+    quiet_mute : ((told : Type 0) → PlayedLine told at step x y (Ok tt)) → LineIsPlayed x y ms at step (Ok tt)
+    quiet_mute line = record {
+      base = ap (λ (w : Parts P C). w.base) frame;
+      since = ap (λ (w : Parts P C). w.since) frame;
+      bare = line ⊥;
+      told = λ t. line (Unit {0});
+      kept = leaves_same plants {T = Unit {0}} p q (Ok tt) (still_copies plants p q (ap (λ (w : Parts P C). w.first_alive) frame) (ap (λ (w : Parts P C). w.second_alive) frame) armed)
+          (ap (λ (w : Parts P C). w.renewals) frame) (λ is. sym (ap (λ (w : Parts P C). w.first_alive) frame) ∙ is) (λ is. sym (ap (λ (w : Parts P C). w.second_alive) frame) ∙ is);
+      next = armed_next plants copies (record p { book = q.book }) q frame armed ms at few (between_later plants copies p q.book later holder ms at is);
+    }
+
+    quiet_heard : (rs : List (Option (List ℕ))) → HaveRead x rs → HaveRead y rs
+    quiet_heard rs read =
+        readers_still plants p q (ap (λ (w : Parts P C). w.base) frame) (ap (λ (w : Parts P C). w.since) frame) is.booked rs read (λ t. ap (λ (w : View). w.world x.since) armed)
+        (λ t m up. later.up m up) (λ t. subst (λ (w : View). SameWires (plants.view x.plant) w) (sym armed) (armed_wires (plants.view x.plant) (plants.view y.plant)))
+
   -- A STOP OF A MEMBER between its acts
 
   module _ (stops : Stops by x y) where
     frame_here : q ≡ stopped_at here by p
     frame_here = stops here (is_at (Unit {0}) here here_shown)
-
-    stop_line : (told : Type 0) → PlayedLine told at (line_by by ask.Stop) x y (Ok tt)
-    stop_line told S shown =
-        let frame = stops S (is_at told S shown) in
-        plain_played plants copies told S at (line_by by ask.Stop) refl p q
-        (stop_plain plants told S at by p q (ap (λ (w : Parts P C). w.plant) frame) (ap (λ (w : Parts P C). journal_of w) frame) (ap (λ (w : Parts P C). w.renewals) frame))
-        (stop_shown plants copies told S by p q shown (ap (λ (w : Parts P C). queue_of w) frame) (ap (λ (w : Parts P C). w.current) frame) (ap (λ (w : Parts P C). w.printed) frame)
-        (inside_up S (is_at told S shown)) (ap (λ (w : Parts P C). w.book) frame))
 
     abbrev stopped_if : Bool → Played
     stopped_if up = if up then silent (record here { book = after_stop here.book by }) else silent here
@@ -149,26 +430,32 @@ module _ {P C : Type 0} {plants : PlantGhosts P} {steadies : SteadyGhosts C} {co
     whole : q ≡ record p { book = book_then }
     whole = frame_here ∙ ap (λ (o : Option (List Entry)). record p { book = book_then; reserved = o }) (reserved_if (is_up here by) p.reserved is.unreserved ∙ sym is.unreserved)
 
-    plant_here : plants.view y.plant ≡ plants.view x.plant
-    plant_here = ap (λ (w : Parts P C). plants.view w.plant) frame_here
+    stop_frame : q ≡ record p { plant = q.plant; book = q.book }
+    stop_frame = subst (λ (w : Parts P C). w ≡ record p { plant = w.plant; book = w.book }) (sym whole) refl
 
-    pub stop_mute : PlaysMute at (line_by by ask.Stop) x y ms
-    stop_mute = record {
-      base = ap (λ (w : Parts P C). w.base) frame_here;
-      since = ap (λ (w : Parts P C). w.since) frame_here;
-      bare = stop_line ⊥;
-      told = λ t. stop_line (Unit {0});
-      kept = leaves_same plants p q (Ok tt) (still_copies plants p q (ap (λ (w : Parts P C). w.first_alive) frame_here) (ap (λ (w : Parts P C). w.second_alive) frame_here)
-          (plant_here ∙ ap (λ (a : ℕ → ℕ). record (plants.view x.plant) { arms = a }) (sym (ap (λ (w : View). w.arms) plant_here)))) (ap (λ (w : Parts P C). w.renewals) frame_here)
-          (λ is. sym (ap (λ (w : Parts P C). w.first_alive) frame_here) ∙ is) (λ is. sym (ap (λ (w : Parts P C). w.second_alive) frame_here) ∙ is);
-      next = subst (λ (w : Parts P C). IsBetween plants copies w ms (at + 1)) (sym whole)
-          (between_next plants copies (record p { book = book_then }) ms at few
-          (between_later plants copies p book_then (since_if (is_up here by) refl) (holder_if (is_up here by)) ms at is));
-      heard = λ rs read. readers_still plants p q (ap (λ (w : Parts P C). w.base) frame_here) (ap (λ (w : Parts P C). w.since) frame_here) is.booked rs read
-          (λ t. ap (λ (w : View). w.world x.since) plant_here)
-          (λ t m up. (since_if (is_up here by) refl).up m (subst (λ (b : Book). is_stopped b m ≡ false) (ap (λ (w : Parts P C). w.book) whole) up))
-          (λ t. subst (λ (w : View). SameWires (plants.view x.plant) w) (sym plant_here) (wires_none (plants.view x.plant)));
-    }
+    stop_since : Since p.book q.book
+    stop_since = subst (λ (b : Book). Since p.book b) (sym (ap (λ (w : Parts P C). w.book) whole)) (since_if (is_up here by) refl)
+
+    stop_holder : q.book.holder ≡ p.book.holder
+    stop_holder = ap (λ (w : Parts P C). w.book.holder) whole ∙ holder_if (is_up here by)
+
+    stop_seen : plants.view y.plant ≡ plants.view x.plant
+    stop_seen = ap (λ (w : Parts P C). plants.view w.plant) frame_here
+
+    stop_line : (told : Type 0) → PlayedLine told at (line_by by ask.Stop) x y (Ok tt)
+    stop_line told S shown =
+        let frame = stops S (is_at told S shown) in
+        plain_played plants copies told S at (line_by by ask.Stop) refl p q
+        (quiet_plain plants told (record { scene = S; number = at; step = line_by by ask.Stop; given = none_given }) (silent_found (is_up S by) S (record S { book = after_stop S.book by })) refl p q
+        (same_armed (plants.view x.plant) (plants.view y.plant) stop_seen) (λ m. ap (λ (w : View). w.arms m) stop_seen) (ap (λ (w : Parts P C). journal_of w) frame) (ap (λ (w : Parts P C). w.renewals) frame))
+        (stop_shown plants copies told S by p q shown (ap (λ (w : Parts P C). queue_of w) frame) (ap (λ (w : Parts P C). w.current) frame) (ap (λ (w : Parts P C). w.printed) frame)
+        (inside_up S (is_at told S shown)) (ap (λ (w : Parts P C). w.book) frame))
+
+    pub stop_mute : LineIsPlayed x y ms at (line_by by ask.Stop) (Ok tt)
+    stop_mute = quiet_mute (line_by by ask.Stop) stop_frame stop_since stop_holder (same_armed (plants.view x.plant) (plants.view y.plant) stop_seen) stop_line
+
+    pub stop_heard : (rs : List (Option (List ℕ))) → HaveRead x rs → HaveRead y rs
+    stop_heard rs read = quiet_heard (line_by by ask.Stop) stop_frame stop_since stop_holder (same_armed (plants.view x.plant) (plants.view y.plant) stop_seen) rs read
 
   -- A STOP THAT IS ARMED
 
@@ -180,30 +467,32 @@ module _ {P C : Type 0} {plants : PlantGhosts P} {steadies : SteadyGhosts C} {co
     arms_at : (S : Scene) → IsAt S p → ArmsIf (is_up S by) by.0 (plants.view x.plant) (plants.view y.plant)
     arms_at S at_scene = arms_as (is_up S by) (arms S at_scene)
 
-    same_else : plants.view y.plant ≡ record (plants.view x.plant) { arms = (plants.view y.plant).arms }
+    same_else : plants.view y.plant ≡ armed_as (plants.view x.plant) (plants.view y.plant)
     same_else = armed_same (is_up here by) by.0 (plants.view x.plant) (plants.view y.plant) (arms_at here (is_at (Unit {0}) here here_shown))
+
+    same_book : q.book ≡ p.book
+    same_book = ap (λ (w : Parts P C). w.book) frame
+
+    arm_frame : q ≡ record p { plant = q.plant; book = q.book }
+    arm_frame = frame ∙ ap (λ (b : Book). record p { plant = q.plant; book = b }) (sym same_book)
+
+    arm_since : Since p.book q.book
+    arm_since = subst (λ (b : Book). Since p.book b) (sym same_book) (none_since p.book)
 
     arm_line : (told : Type 0) → PlayedLine told at (line_by by (ask.StopIn what n)) x y (Ok tt)
     arm_line told S shown =
+        let T : Scene = record S { armed = S.armed ++ record { member = by; fuse = what; left = n } ∷ [] } in
         plain_played plants copies told S at (line_by by (ask.StopIn what n)) refl p q
-        (arm_plain plants told S at by what n p q (arms_at S (is_at told S shown)) (ap (λ (w : Parts P C). journal_of w) frame) (ap (λ (w : Parts P C). w.renewals) frame))
+        (quiet_plain plants told (record { scene = S; number = at; step = line_by by (ask.StopIn what n); given = none_given }) (silent_found (is_up S by) S T) refl p q
+        same_else (armed_grow (is_up S by) by.0 (plants.view x.plant) (plants.view y.plant) (arms_at S (is_at told S shown))) (ap (λ (w : Parts P C). journal_of w) frame) (ap (λ (w : Parts P C). w.renewals) frame))
         (arm_shown plants copies told S by p q shown (ap (λ (w : Parts P C). queue_of w) frame) (ap (λ (w : Parts P C). w.current) frame) (ap (λ (w : Parts P C). w.printed) frame)
-        what n (ap (λ (w : Parts P C). w.book) frame))
+        what n same_book)
 
-    pub arm_mute : PlaysMute at (line_by by (ask.StopIn what n)) x y ms
-    arm_mute = record {
-      base = ap (λ (w : Parts P C). w.base) frame;
-      since = ap (λ (w : Parts P C). w.since) frame;
-      bare = arm_line ⊥;
-      told = λ t. arm_line (Unit {0});
-      kept = leaves_same plants p q (Ok tt) (still_copies plants p q (ap (λ (w : Parts P C). w.first_alive) frame) (ap (λ (w : Parts P C). w.second_alive) frame) same_else) (ap (λ (w : Parts P C). w.renewals) frame)
-          (λ is. sym (ap (λ (w : Parts P C). w.first_alive) frame) ∙ is) (λ is. sym (ap (λ (w : Parts P C). w.second_alive) frame) ∙ is);
-      next = armed_next plants copies p q frame same_else ms at few is;
-      heard = λ rs read. readers_still plants p q (ap (λ (w : Parts P C). w.base) frame) (ap (λ (w : Parts P C). w.since) frame) is.booked rs read
-          (λ t. ap (λ (w : View). w.world x.since) same_else)
-          (λ t m up. subst (λ (b : Book). is_stopped b m ≡ false) (ap (λ (w : Parts P C). w.book) frame) up)
-          (λ t. subst (λ (w : View). SameWires (plants.view x.plant) w) (sym same_else) (record { waiting = λ w. refl; taken = λ w m. refl; given = λ w m. refl }));
-    }
+    pub arm_mute : LineIsPlayed x y ms at (line_by by (ask.StopIn what n)) (Ok tt)
+    arm_mute = quiet_mute (line_by by (ask.StopIn what n)) arm_frame arm_since (ap (λ (b : Book). b.holder) same_book) same_else arm_line
+
+    pub arm_heard : (rs : List (Option (List ℕ))) → HaveRead x rs → HaveRead y rs
+    arm_heard rs read = quiet_heard (line_by by (ask.StopIn what n)) arm_frame arm_since (ap (λ (b : Book). b.holder) same_book) same_else rs read
 
   -- A DEVICE THAT IS LOST, and the copy on it with it
 
@@ -214,26 +503,19 @@ module _ {P C : Type 0} {plants : PlantGhosts P} {steadies : SteadyGhosts C} {co
     abbrev Whole : Type 0
     Whole = q ≡ record p { plant = q.plant; first_alive = q.first_alive; second_alive = q.second_alive; first_found = q.first_found; second_found = q.second_found }
 
-    first_half_lost : q ≡ record p { plant = q.plant; first_copy = q.first_copy; first_alive = q.first_alive; first_found = q.first_found } → q.first_copy ≡ p.first_copy → Whole
-    first_half_lost is_so same =
-        is_so
-        ∙ ap (λ (c : C). record p { plant = q.plant; first_copy = c; first_alive = q.first_alive; first_found = q.first_found }) same
-        ∙ ap (λ (a : Bool). record p { plant = q.plant; first_alive = q.first_alive; first_found = q.first_found; second_alive = a }) (sym (ap (λ (w : Parts P C). w.second_alive) is_so))
-        ∙ ap (λ (n : ℕ). record p { plant = q.plant; first_alive = q.first_alive; first_found = q.first_found; second_alive = q.second_alive; second_found = n })
-        (sym (ap (λ (w : Parts P C). w.second_found) is_so))
-
-    second_half_lost : q ≡ record p { plant = q.plant; second_copy = q.second_copy; second_alive = q.second_alive; second_found = q.second_found } → q.second_copy ≡ p.second_copy → Whole
-    second_half_lost is_so same =
-        is_so
+    whole_by : (d : Dev) → q ≡ with_half d q p → (pick d y.pair.first y.pair.second).copy ≡ (pick d x.pair.first x.pair.second).copy → Whole
+    whole_by Ckpt2 is_so same = let second_half_lost : q ≡ record p { plant = q.plant; second_copy = q.second_copy; second_alive = q.second_alive; second_found = q.second_found } → q.second_copy ≡ p.second_copy → Whole = λ is_so same. is_so
         ∙ ap (λ (c : C). record p { plant = q.plant; second_copy = c; second_alive = q.second_alive; second_found = q.second_found }) same
         ∙ ap (λ (a : Bool). record p { plant = q.plant; second_alive = q.second_alive; second_found = q.second_found; first_alive = a }) (sym (ap (λ (w : Parts P C). w.first_alive) is_so))
         ∙ ap (λ (n : ℕ). record p { plant = q.plant; second_alive = q.second_alive; second_found = q.second_found; first_alive = q.first_alive; first_found = n })
-        (sym (ap (λ (w : Parts P C). w.first_found) is_so))
-
-    whole_by : (d : Dev) → q ≡ with_half d q p → (pick d y.pair.first y.pair.second).copy ≡ (pick d x.pair.first x.pair.second).copy → Whole
-    whole_by Ckpt1 is_so same = first_half_lost is_so same
-    whole_by Ckpt2 is_so same = second_half_lost is_so same
-    whole_by (Spool n) is_so same = first_half_lost is_so same
+        (sym (ap (λ (w : Parts P C). w.first_found) is_so)) in
+        second_half_lost is_so same
+    whole_by _ is_so same = let first_half_lost : q ≡ record p { plant = q.plant; first_copy = q.first_copy; first_alive = q.first_alive; first_found = q.first_found } → q.first_copy ≡ p.first_copy → Whole = λ is_so same. is_so
+        ∙ ap (λ (c : C). record p { plant = q.plant; first_copy = c; first_alive = q.first_alive; first_found = q.first_found }) same
+        ∙ ap (λ (a : Bool). record p { plant = q.plant; first_alive = q.first_alive; first_found = q.first_found; second_alive = a }) (sym (ap (λ (w : Parts P C). w.second_alive) is_so))
+        ∙ ap (λ (n : ℕ). record p { plant = q.plant; first_alive = q.first_alive; first_found = q.first_found; second_alive = q.second_alive; second_found = n })
+        (sym (ap (λ (w : Parts P C). w.second_found) is_so)) in
+        first_half_lost is_so same
 
     lost_whole : Whole
     lost_whole = whole_by dev frame copy
@@ -246,9 +528,8 @@ module _ {P C : Type 0} {plants : PlantGhosts P} {steadies : SteadyGhosts C} {co
     first_by (Spool n) is_so gone apart = inr (ap (λ w. w.first.alive) (apart n refl))
 
     second_by : (d : Dev) → q ≡ with_half d q p → (IsCkpt d → (pick d y.pair.first y.pair.second).alive ≡ false) → ((d ≡ Ckpt2) × (q.second_alive ≡ false)) ⊎ (q.second_alive ≡ p.second_alive)
-    second_by Ckpt1 is_so gone = inr (ap (λ (w : Parts P C). w.second_alive) is_so)
     second_by Ckpt2 is_so gone = inl (refl, gone tt)
-    second_by (Spool n) is_so gone = inr (ap (λ (w : Parts P C). w.second_alive) is_so)
+    second_by _ is_so gone = inr (ap (λ (w : Parts P C). w.second_alive) is_so)
 
     first_is : ((dev ≡ Ckpt1) × (q.first_alive ≡ false)) ⊎ (q.first_alive ≡ p.first_alive)
     first_is = first_by dev frame dead volume
@@ -265,51 +546,44 @@ module _ {P C : Type 0} {plants : PlantGhosts P} {steadies : SteadyGhosts C} {co
     failed_then d was now (inl gone) on off = inr (rose plants dev p q lost d gone.0)
     failed_then d was now (inr same) on off = absurd (no now (same ∙ on) off)
 
-    -- two devices that differ
-    there_then : (d : Dev) (was now : Bool) → ((dev ≡ d) × (now ≡ false)) ⊎ (now ≡ was) → ((now ≡ true) → d ≢ dev) → now ≡ true → (plants.view x.plant).lost (Disk d) ≡ false → (plants.view y.plant).lost (Disk d) ≡ false
-    there_then d was now so apart on there = lost.else_lost (Disk d) (λ e. apart on (ap disk_of e)) ∙ there
-
-    apart_by : (e d : Dev) → IsCkpt d → (IsCkpt e → (pick e y.pair.first y.pair.second).alive ≡ false) → (pick d y.pair.first y.pair.second).alive ≡ true → d ≢ e
-    apart_by e d ckpt gone on same =
-        no (pick d y.pair.first y.pair.second).alive on (subst (λ (k : Dev). (pick k y.pair.first y.pair.second).alive ≡ false) (sym same) (gone (subst IsCkpt same ckpt)))
-
     left_then : (d : Dev) → (d ≡ Ckpt1) ⊎ (d ≡ Ckpt2) → dev ≡ d → Rose ((plants.view x.plant).loses Ckpt1) ((plants.view y.plant).loses Ckpt1) ⊎ Rose ((plants.view x.plant).loses Ckpt2) ((plants.view y.plant).loses Ckpt2)
     left_then d (inl one) is_it = inl (rose plants dev p q lost Ckpt1 (is_it ∙ one))
     left_then d (inr two) is_it = inr (rose plants dev p q lost Ckpt2 (is_it ∙ two))
 
+    -- two devices that differ
     lost_copies : KeepCopies plants {T = Unit {0}} p q (Ok tt)
-    lost_copies = record {
-      goes = proceeds_of (plants.view x.plant) (plants.view y.plant) lost.goes;
-      failed1 = failed_then Ckpt1 p.first_alive q.first_alive first_is;
-      failed2 = failed_then Ckpt2 p.second_alive q.second_alive second_is;
-      there1 = λ on there. there_then Ckpt1 p.first_alive q.first_alive first_is (apart_by dev Ckpt1 tt dead) on (there (alive_then Ckpt1 p.first_alive q.first_alive first_is on));
-      there2 = λ on there. there_then Ckpt2 p.second_alive q.second_alive second_is (apart_by dev Ckpt2 tt dead) on (there (alive_then Ckpt2 p.second_alive q.second_alive second_is on));
-      grow = grows plants dev p q lost;
-      left = ⊎_elim (λ gone. inr (left_then Ckpt1 (inl refl) gone.0))
-          (λ one. ⊎_elim (λ gone. inr (left_then Ckpt2 (inr refl) gone.0)) (λ two. inl (inr (one, two))) second_is) first_is;
-    }
+    lost_copies = let apart_by : (e d : Dev) → IsCkpt d → (IsCkpt e → (pick e y.pair.first y.pair.second).alive ≡ false) → (pick d y.pair.first y.pair.second).alive ≡ true → d ≢ e = λ e d ckpt gone on same. no (pick d y.pair.first y.pair.second).alive on (subst (λ (k : Dev). (pick k y.pair.first y.pair.second).alive ≡ false) (sym same) (gone (subst IsCkpt same ckpt))) in
+        let there_then : (d : Dev) (was now : Bool) → ((dev ≡ d) × (now ≡ false)) ⊎ (now ≡ was) → ((now ≡ true) → d ≢ dev) → now ≡ true → (plants.view x.plant).lost (Disk d) ≡ false → (plants.view y.plant).lost (Disk d) ≡ false = λ d was now so apart on there. lost.else_lost (Disk d) (λ e. apart on (ap disk_of e)) ∙ there in
+        record {
+          goes = proceeds_of (plants.view x.plant) (plants.view y.plant) lost.goes;
+          failed1 = failed_then Ckpt1 p.first_alive q.first_alive first_is;
+          failed2 = failed_then Ckpt2 p.second_alive q.second_alive second_is;
+          there1 = λ on there. there_then Ckpt1 p.first_alive q.first_alive first_is (apart_by dev Ckpt1 tt dead) on (there (alive_then Ckpt1 p.first_alive q.first_alive first_is on));
+          there2 = λ on there. there_then Ckpt2 p.second_alive q.second_alive second_is (apart_by dev Ckpt2 tt dead) on (there (alive_then Ckpt2 p.second_alive q.second_alive second_is on));
+          grow = grows plants dev p q lost;
+          left = ⊎_elim (λ gone. inr (left_then Ckpt1 (inl refl) gone.0))
+              (λ one. ⊎_elim (λ gone. inr (left_then Ckpt2 (inr refl) gone.0)) (λ two. inl (inr (one, two))) second_is) first_is;
+        }
 
-    quiet_there : plants.tells → console_now (plants.view y.plant) ≡ console_now (plants.view x.plant)
-    quiet_there t = (els t).console (plants.view y.plant).now lost.goes.later (le_refl (plants.view y.plant).now)
-
-    lose_line : (told : Type 0) → (told → plants.tells) → PlayedLine told at (line_by by (ask.Lose dev)) x y (Ok tt)
-    lose_line told tells S shown =
-        plain_played plants copies told S at (line_by by (ask.Lose dev)) refl p q
+    pub lose_mute : LineIsPlayed x y ms at (line_by by (ask.Lose dev)) (Ok tt)
+    lose_mute = let lose_line : (told : Type 0) → (told → plants.tells) → PlayedLine told at (line_by by (ask.Lose dev)) x y (Ok tt) = λ told tells S shown. plain_played plants copies told S at (line_by by (ask.Lose dev)) refl p q
         (lose_plain plants told tells S at by dev p q lost els (ap (λ (w : Parts P C). journal_of w) lost_whole) (ap (λ (w : Parts P C). w.renewals) lost_whole))
         (lose_shown plants copies told S by p q shown (ap (λ (w : Parts P C). queue_of w) lost_whole) (ap (λ (w : Parts P C). w.current) lost_whole) (ap (λ (w : Parts P C). w.printed) lost_whole)
-        dev (ap (λ (w : Parts P C). w.book) lost_whole))
+        dev (ap (λ (w : Parts P C). w.book) lost_whole)) in
+        let quiet_there : plants.tells → console_now (plants.view y.plant) ≡ console_now (plants.view x.plant) = λ t. (els t).console (plants.view y.plant).now lost.goes.later (le_refl (plants.view y.plant).now) in
+        record {
+          base = ap (λ (w : Parts P C). w.base) lost_whole;
+          since = ap (λ (w : Parts P C). w.since) lost_whole;
+          bare = lose_line ⊥ (λ t. absurd t);
+          told = λ t. lose_line (Unit {0}) (λ u. t);
+          kept = leaves_same plants {T = Unit {0}} p q (Ok tt) lost_copies (ap (λ (w : Parts P C). w.renewals) lost_whole) (alive_then Ckpt1 p.first_alive q.first_alive first_is) (alive_then Ckpt2 p.second_alive q.second_alive second_is);
+          next = mute_next plants copies p q lost_whole (proceeds_of (plants.view x.plant) (plants.view y.plant) lost.goes) (alive_then Ckpt1 p.first_alive q.first_alive first_is)
+              (alive_then Ckpt2 p.second_alive q.second_alive second_is) bytes quiet_there ms at few is;
+        }
 
-    pub lose_mute : PlaysMute at (line_by by (ask.Lose dev)) x y ms
-    lose_mute = record {
-      base = ap (λ (w : Parts P C). w.base) lost_whole;
-      since = ap (λ (w : Parts P C). w.since) lost_whole;
-      bare = lose_line ⊥ (λ t. absurd t);
-      told = λ t. lose_line (Unit {0}) (λ u. t);
-      kept = leaves_same plants p q (Ok tt) lost_copies (ap (λ (w : Parts P C). w.renewals) lost_whole) (alive_then Ckpt1 p.first_alive q.first_alive first_is) (alive_then Ckpt2 p.second_alive q.second_alive second_is);
-      next = mute_next plants copies p q lost_whole (proceeds_of (plants.view x.plant) (plants.view y.plant) lost.goes) (alive_then Ckpt1 p.first_alive q.first_alive first_is)
-          (alive_then Ckpt2 p.second_alive q.second_alive second_is) bytes quiet_there ms at few is;
-      heard = λ rs read. readers_still plants p q (ap (λ (w : Parts P C). w.base) lost_whole) (ap (λ (w : Parts P C). w.since) lost_whole) is.booked rs read
-          (λ t. lost.goes.past x.since is.begun)
-          (λ t m up. subst (λ (b : Book). is_stopped b m ≡ false) (ap (λ (w : Parts P C). w.book) lost_whole) up)
-          (λ t. (els t).wires);
-    }
+    pub lose_heard : (rs : List (Option (List ℕ))) → HaveRead x rs → HaveRead y rs
+    lose_heard rs read =
+        readers_still plants p q (ap (λ (w : Parts P C). w.base) lost_whole) (ap (λ (w : Parts P C). w.since) lost_whole) is.booked rs read
+        (λ t. lost.goes.past x.since is.begun)
+        (λ t m up. subst (λ (b : Book). is_stopped b m ≡ false) (ap (λ (w : Parts P C). w.book) lost_whole) up)
+        (λ t. (els t).wires)

@@ -1,43 +1,115 @@
--- What follows of lines that were played one after another.
-use Rattle.std.proofs.Common.{◌≡◌, ◌≢◌, ◌⊎◌, inl, inr, ℕ, suc, ◌+◌, ◌≤◌, ◌==◌, ◌&&◌, Bool, true, false, if◌then◌else◌, List, [], ◌∷◌, ◌++◌, length, map, drop, append_assoc, append-nil, Option, Some, None, Result, Ok, Err, refl, sym, ◌∙◌, ap, subst, arith, ⊎_elim}
-use Rattle.std.proofs.lemmas.List.{map-append}
-use Rattle.mas_types.specs.declared.ids.Dev.{Dev}
-use Rattle.mas_types.specs.declared.ids.Dev.TheVariants.{Spool}
-use Rattle.mas_types.specs.declared.ids.MemberId.{MemberId}
-use Rattle.mas_types.specs.declared.journals.Batch.{Batch}
-use Rattle.mas_types.specs.declared.journals.Fate.{Fate}
-use Rattle.mas_types.specs.declared.journals.Fate.TheVariants.{Kept, Dropped, Flying}
-use Rattle.mas_types.specs.Ids.{same_member}
-use Rattle.mas_types.specs.Journal.{is_flying}
-use Rattle.script_lang.specs.declared.types.Step.{Step}
-use Rattle.script_lang.specs.declared.types.Ask.{Ask}
+-- The lines of a run one after another, and the copies that they replaced.
+use Rattle.mas_run.proofs.Names.{◌≡◌, ◌≢◌, ◌⊎◌, inl, inr, ℕ, suc, ◌+◌, ◌≤◌, ◌==◌, ◌&&◌, Bool, true, false, if◌then◌else◌, List, [], ◌∷◌, ◌++◌, length, map, drop, append_assoc, append-nil, Option, Some, None, Result, Ok, Err, refl, sym, ◌∙◌, ap, subst, arith, ⊎_elim, not, nat_lt, All, map-append, Dev, Spool, Ckpt1, Ckpt2, MemberId, Batch, Fate, Kept, Dropped, Flying, same_member, nobody, is_flying, Step, Ask, Rose, next as next_count, SameWires, top, Fuse, Console, Disk, View, World, disk_now, given_now, paper_now, AreBatched, IsBatched as StandsAs, NoMore, console_now, NodeNo, Cause, Cut, Ends, Stops, Halt, LostAgain, NotLost, Renewed, Replaced, Saying, Writing, fate_found, Armed, Batched, Scene, with_fate, Said, cause_of, counted, counted_at, is_up, run_goes_on, silent, Outcome, console, fate_then, given_on, history_from, outcomes_if, paper_of, scene_if, serves_line, settled, serves_ask, AreRight, Given, RightIf, ask_with, cut_if, given_first, last_cut, outcomes_with, scene_with, admitted_at, played_at, LineAt, AreHistory, HistoriesIsBatched as IsBatched, settle, settled_at, with_found, CutsAs, EndsBy, LinesIsCutAs as IsCutAs, IsUnsaid, MayLoseCopy, StopsUnsaid, arms_by, cut_in, is_takeover, loses_then, taking, is_replaced, same_device, Proceeds, StaysLost, ArePassed, GoesOn, Here, LeaveVolumes, TakeNone, There, arms_after, here_after, line_of, loses_after, IsNext, Passed, AreVolumesKept, by_order, kept_none, more_then, proceeds_none, proceeds_on, eqb-true, nat_tests, Command, JobFields, Config, is_member, BadCard, read_as, text_of, LockNo, Book, is_holder, is_stopped, try_refusal, same_member_is, Deck, Give, Node, Work, Admission, Frees, Locks, Plays, Refused, Replaces, Resets, TakesOver, admitted, asked, command_admitted, deck_admitted, if_granted, no_member, reset_admitted, resets, tries, Carries, AreSettled, settle_still, settle_both, All-head, All-tail, Renewal, Renewals, with_device, is_of_member, Begins, BeginsAndEnds, RenewsAs, RenewsAt, RenewsBy, RenewsIn}
 use Rattle.script_lang.specs.declared.types.Ask.TheVariants as ask
-use Rattle.spool_plant.specs.Acts.{Rose, next as next_count}
-use Rattle.spool_plant.specs.declared.plant.Fuse.{Fuse}
-use Rattle.spool_plant.specs.declared.plant.Part.TheVariants.{Console}
 use Rattle.spool_plant.specs.declared.plant.Fuse.TheVariants as fuse
-use Rattle.spool_plant.specs.View.{Line, View, World, disk_now, given_now, paper_now}
-use Rattle.member_hand.specs.Cuts.{AreBatched, IsBatched as StandsAs}
-use Rattle.ckpt_copy.specs.Changes.{NoMore}
-use Rattle.member_node.specs.Calls.{console_now}
-use Rattle.member_node.specs.declared.member.NodeNo.{NodeNo}
 use Rattle.member_node.specs.declared.member.NodeNo.TheVariants as no_node
-use Rattle.run_turns.specs.Sights.{Cause, Cut, Ends, Stops}
-use Rattle.run_turns.specs.Pieces.{fate_found}
-use Rattle.run_turns.specs.Scenes.{Armed, Batched, Scene, with_fate}
-use Rattle.run_turns.specs.Steps.{Said, cause_of, counted, counted_at, is_up, run_goes_on, silent}
-use Rattle.run_turns.specs.Runs.{console, fate_then, given_on, history_from, outcomes_if, paper_of, scene_if, serves_line, settled}
-use Rattle.run_turns.specs.Givens.{AreRight, Given, RightIf, ask_with, cut_if, given_first, last_cut, outcomes_with, scene_with}
-use Rattle.mas_run.specs.LinesAt.{admitted_at, played_at}
-use Rattle.mas_run.specs.Histories.{AreHistory, IsBatched}
-use Rattle.member_resets.specs.Settling.{settle, settled_at, with_found}
-use Rattle.mas_run.specs.Lines.{CutsAs, EndsBy, IsCutAs, IsUnsaid, MayLoseCopy, StopsUnsaid, arms_by, cut_in, is_takeover, loses_then, taking}
-use Rattle.run_opening.specs.Lines.{Proceeds}
-use Rattle.mas_run.specs.Passed.{ArePassed, GoesOn, Here, LeaveVolumes, TakeNone, There, arms_after, here_after, line_of, loses_after}
-use Rattle.run_opening.specs.Volumes.{AreVolumesKept}
-use Rattle.mas_run.proofs.ServedLemmas.{line_gave_on}
-use Rattle.run_opening.proofs.VolumeLemmas.{by_order, kept_none, more_then}
-use Rattle.run_opening.proofs.ProceedLemmas.{proceeds_none, proceeds_on}
+use Rattle.mas_types.specs.declared.answers.Closing.TheVariants as closing
+
+and_none : (b : Bool) → (b && false) ≡ false
+and_none true = refl
+and_none false = refl
+
+true_false : true ≡ false → ⊥
+true_false e = absurd (cc)
+
+module _ (since : ℕ) (l : LineAt) (given : List ℕ) (old new : View) where
+  -- ONE THAT ASKS FOR SOMETHING ELSE gives and takes nothing
+
+  abbrev IsSame : Admission → Type 0
+  IsSame a = Carries since l a given old new → SameWires old new
+
+  if_same : (t : Bool) (a b : Admission) → IsSame a → IsSame b → IsSame (if t then a else b)
+  if_same true a b one two = one
+  if_same false a b one two = two
+
+  granted_same : (why : Option LockNo) (a : Admission) → IsSame a → IsSame (if_granted why a)
+  granted_same None a is = is
+  granted_same (Some reason) a is = λ c. c.1
+
+  module _ (config : Config) (b : Book) (by : MemberId) where
+    tries_same : (a : Admission) → IsSame a → IsSame (tries b by a)
+    tries_same a is = granted_same (try_refusal b by false) a is
+
+    deck_same : (text : List (List ℕ)) (said : Result JobFields BadCard) → IsSame (deck_admitted b by text said)
+    deck_same text (Err bad) = λ c. c.1
+    deck_same text (Ok fields) = tries_same (Plays (Deck fields text)) (λ c. c)
+
+    reset_same : (of : MemberId) → IsSame (reset_admitted config b by of)
+    reset_same of = let held_same : (of : MemberId) → IsSame (if is_holder b of then TakesOver of else tries b by (Resets of)) = λ of. if_same (is_holder b of) (TakesOver of) (tries b by (Resets of)) (λ c. c) (tries_same (Resets of) (λ c. c)) in
+        if_same (not (is_member config of)) (Refused by no_member)
+        (if not (is_stopped b of) then Refused by (closing.Up of) else if is_holder b of then TakesOver of else tries b by (Resets of)) (λ c. c.1)
+        (if_same (not (is_stopped b of)) (Refused by (closing.Up of)) (if is_holder b of then TakesOver of else tries b by (Resets of)) (λ c. c.1) (held_same of))
+
+    command_same : (c : Command) (of : Option MemberId) → IsSame (command_admitted config b by c of)
+    command_same c None = tries_same (Plays (Give c)) (λ k. k)
+    command_same c (Some of) = reset_same of
+
+    asked_same : (what : Ask) → ((n : ℕ) → what ≢ ask.Line n) → IsSame (asked config b by what)
+    asked_same (ask.Deck cards) other = deck_same (text_of cards) (read_as config.node cards)
+    asked_same (ask.Command c) other = command_same c (resets c)
+    asked_same (ask.Work n) other = tries_same (Plays (Work n)) (λ c. c)
+    asked_same (ask.Line n) other = absurd (other n refl)
+    asked_same ask.Lock other = tries_same Locks (λ c. c)
+    asked_same ask.Free other = if_same (is_holder b by) Frees (Refused by closing.NotHolder) (λ c. c) (λ c. c.1)
+    asked_same (ask.Replace dev) other = tries_same (Replaces dev) (λ c. c)
+    asked_same _ other = λ c. c
+
+    admitted_same : (what : Ask) → ((n : ℕ) → what ≢ ask.Line n) → IsSame (admitted config b by what)
+    admitted_same what other =
+        if_same (not (is_member config by)) (Refused nobody no_member) (if is_stopped b by then Refused nobody closing.Down else asked config b by what) (λ c. c.1)
+        (if_same (is_stopped b by) (Refused nobody closing.Down) (asked config b by what) (λ c. c.1) (asked_same what other))
+
+  -- ONE THAT SERVES A LINE, by whether it is this line and this member
+
+  module _ (m : MemberId) (line : ℕ) where
+    abbrev Gave : Bool → Type 0
+    Gave serves = given_now new line m.0 ≡ given_now old line m.0 ++ (if serves then given else [])
+
+    still : (serves : Bool) → SameWires old new → (serves ≡ true → given ≡ []) → Gave serves
+    still true same none = same.given line m.0 ∙ sym (append-nil (given_now old line m.0)) ∙ ap (λ (bytes : List ℕ). given_now old line m.0 ++ bytes) (sym (none refl))
+    still false same none = same.given line m.0 ∙ sym (append-nil (given_now old line m.0))
+
+    module _ (n : ℕ) (config : Config) (b : Book) where
+      abbrev IsGave : Admission → Type 0
+      IsGave a = Carries since l a given old new → Gave (same_member l.step.by m && (n == line))
+
+      gave_none : (given ≡ []) × SameWires old new → Gave (same_member l.step.by m && (n == line))
+      gave_none c = still (same_member l.step.by m && (n == line)) c.1 (λ is. c.0)
+
+      served : IsGave (Plays (Node n))
+      served c = by_tests (same_member l.step.by m) (n == line) refl refl where
+        by_tests : (k j : Bool) → same_member l.step.by m ≡ k → (n == line) ≡ j → Gave (k && j)
+        by_tests true true own is =
+            subst (λ (k : MemberId). given_now new line k.0 ≡ given_now old line k.0 ++ given) (same_member_is l.step.by m own)
+            (c.gives.given line (ap (λ (k : ℕ). Some k) (eqb-true n line is)))
+        by_tests true false own is =
+            c.gives.else_given line m.0 (inl (λ same. true_false (sym (own_line same) ∙ is))) ∙ sym (append-nil (given_now old line m.0)) where
+              own_line : Some n ≡ Some line → (n == line) ≡ true
+              own_line same = let e : n ≡ line = cc in grind (arith, nat_tests, e)
+        by_tests false j own is =
+            c.gives.else_given line m.0 (inr (λ same. true_false (sym (own_member same) ∙ own))) ∙ sym (append-nil (given_now old line m.0)) where
+              own_member : m.0 ≡ l.step.by.0 → same_member l.step.by m ≡ true
+              own_member e = grind (arith, nat_tests, e)
+
+      if_gave : (t : Bool) (a c : Admission) → IsGave a → IsGave c → IsGave (if t then a else c)
+      if_gave true a c one two = one
+      if_gave false a c one two = two
+
+      tried_gave : (why : Option LockNo) → IsGave (if_granted why (Plays (Node n)))
+      tried_gave None = served
+      tried_gave (Some reason) = gave_none
+
+      line_gave : IsGave (admitted config b l.step.by (ask.Line n))
+      line_gave =
+          if_gave (not (is_member config l.step.by)) (Refused nobody no_member)
+          (if is_stopped b l.step.by then Refused nobody closing.Down else tries b l.step.by (Plays (Node n))) gave_none
+          (if_gave (is_stopped b l.step.by) (Refused nobody closing.Down) (tries b l.step.by (Plays (Node n))) gave_none (tried_gave (try_refusal b l.step.by false)))
+
+    gave_by : (what : Ask) (config : Config) (b : Book) → Carries since l (admitted config b l.step.by what) given old new → Gave (same_member l.step.by m && serves_ask line what)
+    gave_by (ask.Line n) config b c = line_gave n config b c
+    gave_by another config b c = let other_gave : (what : Ask) → ((n : ℕ) → what ≢ ask.Line n) → serves_ask line what ≡ false → (config : Config) (b : Book) → Carries since l (admitted config b l.step.by what) given old new → Gave (same_member l.step.by m && serves_ask line what) = λ what other none config b c. subst Gave (sym (ap (λ (k : Bool). same_member l.step.by m && k) none ∙ and_none (same_member l.step.by m)))
+        (still false (admitted_same config b l.step.by what other c) (λ e. absurd (true_false (sym e)))) in
+        other_gave another (λ n e. absurd (cc)) refl config b c
 
 -- LINES
 
@@ -46,11 +118,11 @@ pub by_going : (b : Bool) (P : Bool → Type 0) {M E : Type 0} → GoesOn b M E 
 by_going true P x more ends = more x
 by_going false P x more ends = ends x
 
-pub by_going_with : (b : Bool) (P : Bool → Type 0) {M E : Type 0} → GoesOn b M E → (b ≡ true → M → P true) → (b ≡ false → E → P false) → P b
+by_going_with : (b : Bool) (P : Bool → Type 0) {M E : Type 0} → GoesOn b M E → (b ≡ true → M → P true) → (b ≡ false → E → P false) → P b
 by_going_with true P x more ends = more refl x
 by_going_with false P x more ends = ends refl x
 
-pub by_going_right : (b : Bool) (P : Bool → Type 0) {M E R : Type 0} → GoesOn b M E → RightIf b R → (M → R → P true) → (E → P false) → P b
+by_going_right : (b : Bool) (P : Bool → Type 0) {M E R : Type 0} → GoesOn b M E → RightIf b R → (M → R → P true) → (E → P false) → P b
 by_going_right true P x right more ends = more x right
 by_going_right false P x right more ends = ends x
 
@@ -72,61 +144,52 @@ module _ (told : Type 0) where
       (λ m. ap suc (passed_many (here_after h (given_first gs) step there) (drop 1 gs) steps more end m.1) ∙ sym is)
       (λ e. ap suc (sym e.1) ∙ sym is)
 
-  -- THE CONSOLE
+  -- WHAT LINES ADD, one after another, to what is seen of the plant
+
+  module _ {X : Type 0} (seen : View → List X) (own : Step → Outcome → List X) (sum : List Step → List Outcome → List X) (none : (steps : List Step) → sum steps [] ≡ [])
+      (more : (step : Step) (steps : List Step) (o : Outcome) (os : List Outcome) → sum (step ∷ steps) (o ∷ os) ≡ own step o ++ sum steps os)
+      (line : (h : Here) (g : Given) (step : Step) (there : There) → IsNext told h g step there → seen there.view ≡ seen h.view ++ own step (played_at (line_of h g step)).outcome) where
+    passed_adds : (h : Here) (gs : List Given) (steps : List Step) (many : ℕ) (end : There) → ArePassed told h gs steps many end
+        → seen end.view ≡ seen h.view ++ sum steps (outcomes_with h.scene h.number gs steps)
+    passed_adds h gs [] many end p = ap seen p.1 ∙ sym (append-nil (seen h.view)) ∙ ap (λ (xs : List X). seen h.view ++ xs) (sym (none []))
+    passed_adds h gs (step ∷ steps) many end (there, count, is, next, rest) =
+        let p = played_at (line_of h (given_first gs) step) in
+        let os = outcomes_with p.next (h.number + 1) (drop 1 gs) steps in
+        let one = line h (given_first gs) step there next in
+        by_going p.goes_on (λ b. seen end.view ≡ seen h.view ++ sum (step ∷ steps) (p.outcome ∷ outcomes_if b os)) rest
+        (λ k. passed_adds (here_after h (given_first gs) step there) (drop 1 gs) steps count end k.1
+        ∙ ap (λ (xs : List X). xs ++ sum steps os) one ∙ append_assoc (seen h.view) (own step p.outcome) (sum steps os)
+        ∙ ap (λ (xs : List X). seen h.view ++ xs) (sym (more step steps p.outcome os)))
+        (λ e. ap (λ (x : There). seen x.view) e.0 ∙ one
+        ∙ ap (λ (xs : List X). seen h.view ++ xs) (sym (more step steps p.outcome [] ∙ ap (λ (xs : List X). own step p.outcome ++ xs) (none steps) ∙ append-nil (own step p.outcome))))
 
   pub passed_console : (h : Here) (gs : List Given) (steps : List Step) (many : ℕ) (end : There)
       → told → ArePassed told h gs steps many end
       → console_now end.view ≡ console_now h.view ++ map (λ (s : Said). s.line) (console (outcomes_with h.scene h.number gs steps))
-  passed_console h gs [] many end t p = ap console_now p.1 ∙ sym (append-nil (console_now h.view))
-  passed_console h gs (step ∷ steps) many end t (there, more, is, next, rest) =
-      let p = played_at (line_of h (given_first gs) step) in
-      let os = outcomes_with p.next (h.number + 1) (drop 1 gs) steps in
-      by_going p.goes_on (λ b. console_now end.view ≡ console_now h.view ++ map (λ (s : Said). s.line) (p.outcome.said ++ console (outcomes_if b os))) rest
-      (λ m. passed_console (here_after h (given_first gs) step there) (drop 1 gs) steps more end t m.1
-      ∙ ap (λ (ls : List Line). ls ++ map (λ (s : Said). s.line) (console os)) (next.passed.console t)
-      ∙ append_assoc (console_now h.view) (map (λ (s : Said). s.line) p.outcome.said) (map (λ (s : Said). s.line) (console os))
-      ∙ ap (λ (ls : List Line). console_now h.view ++ ls) (sym (map-append (λ (s : Said). s.line) p.outcome.said (console os))))
-      (λ e. ap (λ (x : There). console_now x.view) e.0 ∙ next.passed.console t
-      ∙ ap (λ (ls : List Said). console_now h.view ++ map (λ (s : Said). s.line) ls) (sym (append-nil p.outcome.said)))
+  passed_console h gs steps many end t p =
+      passed_adds console_now (λ (step : Step) (o : Outcome). map (λ (s : Said). s.line) o.said) (λ (ss : List Step) (os : List Outcome). map (λ (s : Said). s.line) (console os)) (λ ss. refl)
+      (λ step ss o os. map-append (λ (s : Said). s.line) o.said (console os)) (λ h g step there next. next.passed.console t) h gs steps many end p
 
-  -- THE LINES TO OTHER NODES
-
+  -- the bytes of a line of a script, where it is the line's own or not
   pub passed_gave : (h : Here) (gs : List Given) (steps : List Step) (many : ℕ) (end : There) (m : MemberId) (line : ℕ)
       → told → ArePassed told h gs steps many end
       → given_now end.view line m.0 ≡ given_now h.view line m.0 ++ given_on m line steps (outcomes_with h.scene h.number gs steps)
-  passed_gave h gs [] many end m line t p = ap (λ (v : View). given_now v line m.0) p.1 ∙ sym (append-nil (given_now h.view line m.0))
-  passed_gave h gs (step ∷ steps) many end m line t (there, more, is, next, rest) =
-      let p = played_at (line_of h (given_first gs) step) in
-      let os = outcomes_with p.next (h.number + 1) (drop 1 gs) steps in
-      let own : List ℕ = if serves_line m line step then p.outcome.given else [] in
-      let gave : given_now there.view line m.0 ≡ given_now h.view line m.0 ++ own = line_gave_on h.since (line_of h (given_first gs) step) h.view there.view m line (next.wires t) in
-      by_going p.goes_on (λ b. given_now end.view line m.0 ≡ given_now h.view line m.0 ++ (own ++ given_on m line steps (outcomes_if b os))) rest
-      (λ k. passed_gave (here_after h (given_first gs) step there) (drop 1 gs) steps more end m line t k.1
-      ∙ ap (λ (bytes : List ℕ). bytes ++ given_on m line steps os) gave
-      ∙ append_assoc (given_now h.view line m.0) own (given_on m line steps os))
-      (λ e. ap (λ (x : There). given_now x.view line m.0) e.0 ∙ gave
-      ∙ ap (λ (bytes : List ℕ). given_now h.view line m.0 ++ bytes) (sym (append-nil own) ∙ ap (λ (bytes : List ℕ). own ++ bytes) (sym (none_on steps))))
+  passed_gave h gs steps many end m line t p = passed_adds (λ (v : View). given_now v line m.0) (λ (step : Step) (o : Outcome). if serves_line m line step then o.given else []) (given_on m line) none_on (λ step ss o os. refl)
+      (λ h g step there next. line_gave_on h.since (line_of h g step) h.view there.view (next.wires t)) h gs steps many end p
     where
       none_on : (steps : List Step) → given_on m line steps [] ≡ []
       none_on [] = refl
       none_on (step ∷ steps) = refl
 
-  -- THE PRINTERS
+      line_gave_on : (since : ℕ) (l : LineAt) (old new : View) → Carries since l (admitted_at l) (played_at l).outcome.given old new
+          → given_now new line m.0 ≡ given_now old line m.0 ++ (if serves_line m line l.step then (played_at l).outcome.given else [])
+      line_gave_on since l old new c = gave_by since l (played_at l).outcome.given old new m line l.step.what l.scene.queue.config l.scene.book c
 
   pub passed_paper : (h : Here) (gs : List Given) (steps : List Step) (many : ℕ) (end : There) (m : MemberId)
       → told → ArePassed told h gs steps many end
       → paper_now end.view m.0 ≡ paper_now h.view m.0 ++ paper_of m steps (outcomes_with h.scene h.number gs steps)
-  passed_paper h gs [] many end m t p = ap (λ (v : View). paper_now v m.0) p.1 ∙ sym (append-nil (paper_now h.view m.0))
-  passed_paper h gs (step ∷ steps) many end m t (there, more, is, next, rest) =
-      let p = played_at (line_of h (given_first gs) step) in
-      let os = outcomes_with p.next (h.number + 1) (drop 1 gs) steps in
-      let own : List Line = if same_member step.by m then p.outcome.printed else [] in
-      by_going p.goes_on (λ b. paper_now end.view m.0 ≡ paper_now h.view m.0 ++ (own ++ paper_of m steps (outcomes_if b os))) rest
-      (λ k. passed_paper (here_after h (given_first gs) step there) (drop 1 gs) steps more end m t k.1
-      ∙ ap (λ (ls : List Line). ls ++ paper_of m steps os) (next.passed.paper t m.0)
-      ∙ append_assoc (paper_now h.view m.0) own (paper_of m steps os))
-      (λ e. ap (λ (x : There). paper_now x.view m.0) e.0 ∙ next.passed.paper t m.0
-      ∙ ap (λ (ls : List Line). paper_now h.view m.0 ++ ls) (sym (append-nil own) ∙ ap (λ (ls : List Line). own ++ ls) (sym (none_on steps))))
+  passed_paper h gs steps many end m t p = passed_adds (λ (v : View). paper_now v m.0) (λ (step : Step) (o : Outcome). if same_member step.by m then o.printed else []) (paper_of m) none_on (λ step ss o os. refl)
+      (λ h g step there next. next.passed.paper t m.0) h gs steps many end p
     where
       none_on : (steps : List Step) → paper_of m steps [] ≡ []
       none_on [] = refl
@@ -149,9 +212,8 @@ module _ (told : Type 0) where
 -- THE JOURNAL
 
 found_is : (f : Fate) (at : ℕ) (b : Batch) → b.fate ≡ Flying → ((with_found f at b).entries ≡ b.entries) × ((with_found f at b).fate ≡ f)
-found_is Kept at b flies = (refl, refl)
-found_is Dropped at b flies = (refl, refl)
 found_is Flying at b flies = (refl, flies)
+found_is _ at b flies = (refl, refl)
 
 pub settled_is : (f g : Fate) (at : ℕ) (b : Batch) → b.fate ≡ g → ((settled_at f at b).entries ≡ b.entries) × ((settled_at f at b).fate ≡ fate_then f g)
 settled_is f Kept at b e = (
@@ -167,16 +229,13 @@ settled_is f Flying at b e = (
   ap (λ (k : Fate). (if is_flying k then with_found f at b else b).fate) e ∙ (found_is f at b e).1,
 )
 
-batched_settled : (found : Fate) (at : ℕ) (x : Batched) (b : Batch) → IsBatched x b → IsBatched (with_fate (fate_then found x.fate) x.entries) (settled_at found at b)
-batched_settled found at x b is =
-    let s = settled_is found b.fate at b refl in
-    record { entries = s.0 ∙ is.entries; fate = s.1 ∙ ap (λ (k : Fate). fate_then found k) is.fate }
-
 history_settled : (found : Fate) (at : ℕ) (xs : List Batched) (bs : List Batch) → AreHistory xs bs → AreHistory (settled found xs) (settle found at bs)
 history_settled found at [] [] are = tt
 history_settled found at [] (b ∷ bs) are = absurd are
 history_settled found at (x ∷ xs) [] are = absurd are
-history_settled found at (x ∷ xs) (b ∷ bs) are = (batched_settled found at x b are.0, history_settled found at xs bs are.1)
+history_settled found at (x ∷ xs) (b ∷ bs) are = let batched_settled : (found : Fate) (at : ℕ) (x : Batched) (b : Batch) → IsBatched x b → IsBatched (with_fate (fate_then found x.fate) x.entries) (settled_at found at b) = λ found at x b is. let s = settled_is found b.fate at b refl in
+    record { entries = s.0 ∙ is.entries; fate = s.1 ∙ ap (λ (k : Fate). fate_then found k) is.fate } in
+    (batched_settled found at x b are.0, history_settled found at xs bs are.1)
 
 stands_as : (f : Fate) (by : MemberId) (x : Batched) (from now : ℕ) (b : Batch) → x.fate ≡ f → StandsAs f by x from now b → IsBatched x b
 stands_as Kept by x from now b e is = record { entries = is.entries; fate = is.kept ∙ sym e }
@@ -228,9 +287,6 @@ abbrev LineEnds : Result (Unit {0}) NodeNo → Option Cut → Type 0
 LineEnds (Ok done) cut = ⊥
 LineEnds (Err e) cut = (cut ≢ None) × (e ≢ no_node.Halted)
 
-true_false : true ≡ false → ⊥
-true_false e = absurd (cc)
-
 ends_cause : (answer : Result (Unit {0}) NodeNo) (by : MemberId) (cut : Cut) (why : Cause) (old new : View) → cut.cause ≡ why → run_goes_on (Some why) ≡ false
     → IsCutAs answer by cut old new → LineEnds answer (Some cut)
 ends_cause answer by cut Stops old new is stops so = absurd (true_false stops)
@@ -257,7 +313,7 @@ ends_cut answer by None old new stops so = absurd (true_false stops)
 ends_cut (Ok done) by (Some cut) old new stops so = ends_cause (Ok done) by cut cut.cause old new refl stops so
 ends_cut (Err e) by (Some cut) old new stops so = ends_cause (Err e) by cut cut.cause old new refl stops so
 
-pub silent_goes : (b : Bool) (S T : Scene) → (if b then silent S else silent T).goes_on ≡ true
+silent_goes : (b : Bool) (S T : Scene) → (if b then silent S else silent T).goes_on ≡ true
 silent_goes true S T = refl
 silent_goes false S T = refl
 
@@ -266,13 +322,7 @@ ends_ask : (S : Scene) (by : MemberId) (at : ℕ) (g : Given) (what : Ask) (answ
 ends_ask S by at g ask.Stop answer old new stops so = absurd (true_false (sym (silent_goes (is_up S by) _ _) ∙ stops))
 ends_ask S by at g (ask.StopIn what n) answer old new stops so = absurd (true_false (sym (silent_goes (is_up S by) _ _) ∙ stops))
 ends_ask S by at g (ask.Lose dev) answer old new stops so = absurd (true_false stops)
-ends_ask S by at g (ask.Deck cards) answer old new stops so = ends_cut answer by g.sight.cut old new stops so
-ends_ask S by at g (ask.Command c) answer old new stops so = ends_cut answer by g.sight.cut old new stops so
-ends_ask S by at g (ask.Work n) answer old new stops so = ends_cut answer by g.sight.cut old new stops so
-ends_ask S by at g ask.Lock answer old new stops so = ends_cut answer by g.sight.cut old new stops so
-ends_ask S by at g ask.Free answer old new stops so = ends_cut answer by g.sight.cut old new stops so
-ends_ask S by at g (ask.Line n) answer old new stops so = ends_cut answer by g.sight.cut old new stops so
-ends_ask S by at g (ask.Replace dev) answer old new stops so = ends_cut answer by g.sight.cut old new stops so
+ends_ask S by at g _ answer old new stops so = ends_cut answer by g.sight.cut old new stops so
 
 ended_last : (r : Result (Unit {0}) NodeNo) (cut : Option Cut) (many lines : ℕ) → many ≡ 1 → LineEnds r cut → Ended r cut many lines
 ended_last (Ok done) cut many lines one ends = absurd ends
@@ -334,13 +384,7 @@ pub arms_ask : (S : Scene) (by : MemberId) (at : ℕ) (g : Given) (what : Ask) (
 arms_ask S by at g ask.Stop m first = arms_stop (is_up S by) m S _ first refl
 arms_ask S by at g (ask.StopIn what n) m first = arms_up (is_up S by) m S S by what n first refl
 arms_ask S by at g (ask.Lose dev) m first = refl
-arms_ask S by at g (ask.Deck cards) m first = arms_counted m by _ S.armed first
-arms_ask S by at g (ask.Command c) m first = arms_counted m by _ S.armed first
-arms_ask S by at g (ask.Work n) m first = arms_counted m by _ S.armed first
-arms_ask S by at g ask.Lock m first = arms_counted m by _ S.armed first
-arms_ask S by at g ask.Free m first = arms_counted m by _ S.armed first
-arms_ask S by at g (ask.Line n) m first = arms_counted m by _ S.armed first
-arms_ask S by at g (ask.Replace dev) m first = arms_counted m by _ S.armed first
+arms_ask S by at g _ m first = arms_counted m by _ S.armed first
 
 pub passed_arms : (told : Type 0) (h : Here) (gs : List Given) (steps : List Step) (many : ℕ) (end : There) (m first : ℕ)
     → h.view.arms m ≡ arms_after m h.scene.armed first → ArePassed told h gs steps many end
@@ -418,3 +462,303 @@ passed_volumes told h gs (step ∷ steps) many end t leave (there, more, is, nex
     (passed_goes told (here_after h g step there) (drop 1 gs) steps more end m.1) one
     (passed_volumes told (here_after h g step there) (drop 1 gs) steps more end t right m.1))
     (λ e. subst (λ (x : There). AreVolumesKept h.view x.view) (sym e.0) one)
+
+-- WHETHER THE RUN GOES ON follows from the answer
+
+abbrev GoesBy : Result (Unit {0}) NodeNo → Bool → Type 0
+GoesBy (Ok done) goes = goes ≡ true
+GoesBy (Err e) goes = goes ≡ false
+
+goes_cut : (answer : Result (Unit {0}) NodeNo) (by : MemberId) (cut : Option Cut) (old new : View) → CutsAs answer by cut old new
+    → GoesBy answer (run_goes_on (cause_of cut))
+goes_cut (Ok done) by None old new so = refl
+goes_cut (Err e) by None old new so = absurd so
+goes_cut (Ok done) by (Some cut) old new so = ap (λ (why : Cause). run_goes_on (Some why)) so.0
+goes_cut (Err e) by (Some cut) old new so = ap (λ (why : Cause). run_goes_on (Some why)) so.0
+
+goes_none : (answer : Result (Unit {0}) NodeNo) (by : MemberId) (goes : Bool) (old new : View) → goes ≡ true → CutsAs answer by None old new → GoesBy answer goes
+goes_none (Ok done) by goes old new is so = is
+goes_none (Err e) by goes old new is so = absurd so
+
+goes_ask : (S : Scene) (by : MemberId) (at : ℕ) (g : Given) (what : Ask) (answer : Result (Unit {0}) NodeNo) (old new : View)
+    → CutsAs answer by (cut_in what g.sight.cut) old new → GoesBy answer (ask_with S by at g what).goes_on
+goes_ask S by at g ask.Stop answer old new so = goes_none answer by _ old new (silent_goes (is_up S by) _ _) so
+goes_ask S by at g (ask.StopIn what n) answer old new so = goes_none answer by _ old new (silent_goes (is_up S by) _ _) so
+goes_ask S by at g (ask.Lose dev) answer old new so = goes_none answer by true old new refl so
+goes_ask S by at g _ answer old new so = goes_cut answer by g.sight.cut old new so
+
+module _ (told : Type 0) (h : Here) (g : Given) (step : Step) (there : There) (next : IsNext told h g step there) where
+  goes_by : GoesBy there.answer (played_at (line_of h g step)).goes_on
+  goes_by = goes_ask h.scene step.by h.number g step.what there.answer h.view there.view next.passed.cut
+
+  -- a line after which others were played
+  pub more_lines : (steps : List Step) (more : ℕ) (end : There) → there.answer ≡ Ok tt → Passed told (here_after h g step there) steps more end
+      → Passed told h (step ∷ steps) (suc more) end
+  more_lines steps more end ok p = record {
+    given = g ∷ p.given;
+    are = (
+      there,
+      more,
+      refl,
+      next,
+      subst (λ (b : Bool). GoesOn b
+          ((there.answer ≡ Ok tt) × ArePassed told (here_after h g step there) p.given steps more end)
+          ((end ≡ there) × (more ≡ 0))) (sym (subst (λ (r : Result (Unit {0}) NodeNo). GoesBy r (played_at (line_of h g step)).goes_on) ok goes_by)) (ok, p.are),
+    );
+  }
+
+  -- a line that ended the run
+  pub last_line : (steps : List Step) (e : NodeNo) → there.answer ≡ Err e → Passed told h (step ∷ steps) 1 there
+  last_line steps e err = record {
+    given = g ∷ [];
+    are = (
+      there,
+      0,
+      refl,
+      next,
+      subst (λ (b : Bool). GoesOn b
+          ((there.answer ≡ Ok tt) × ArePassed told (here_after h g step there) [] steps 0 there)
+          ((there ≡ there) × (◌≡◌ {A = ℕ} 0 0))) (sym (subst (λ (r : Result (Unit {0}) NodeNo). GoesBy r (played_at (line_of h g step)).goes_on) err goes_by)) (refl, refl),
+    );
+  }
+
+-- AFTER AN OPENING that is settled, the journal has the lines' own batches
+
+module _ (told : Type 0) (front : List Batch) (now : ℕ) (settled : AreSettled front now) where
+  abbrev own_here : Here → List Batch → Here
+  own_here h own = record { reads = h.reads; since = h.since; number = h.number; scene = h.scene; batches = own; renewals = h.renewals; view = h.view }
+
+  abbrev own_there : There → List Batch → There
+  own_there x own = record { batches = own; renewals = x.renewals; view = x.view; answer = x.answer }
+
+  pub passed_after : (h : Here) (gs : List Given) (steps : List Step) (many : ℕ) (end : There) (own : List Batch)
+      → h.batches ≡ front ++ own → ArePassed told h gs steps many end
+      → (rest : List Batch) × (end.batches ≡ front ++ rest) × ArePassed told (own_here h own) gs steps many (own_there end rest)
+  passed_after h gs [] many end own is p = (own, p.0 ∙ is, (refl, p.1, p.2, p.3, p.4))
+  passed_after h gs (step ∷ steps) many end own is (there, more, one, next, rest) =
+      let g = given_first gs in
+      let p = played_at (line_of h g step) in
+      let mine : List Batch = settle p.outcome.found next.at own ++ next.own in
+      let now_is : there.batches ≡ front ++ mine =
+      next.batches ∙ ap (λ (bs : List Batch). settle p.outcome.found next.at bs ++ next.own) is
+      ∙ ap (λ (bs : List Batch). bs ++ next.own) (settle_both p.outcome.found next.at front own
+      ∙ ap (λ (bs : List Batch). bs ++ settle p.outcome.found next.at own) (settle_still p.outcome.found next.at front now settled))
+      ∙ append_assoc front (settle p.outcome.found next.at own) next.own in
+      let out = by_going p.goes_on (λ b. (r : List Batch) × (end.batches ≡ front ++ r)
+      × GoesOn b ((there.answer ≡ Ok tt) × ArePassed told (here_after (own_here h own) g step (own_there there mine)) (drop 1 gs) steps more (own_there end r))
+      ((own_there end r ≡ own_there there mine) × (more ≡ 0))) rest
+      (λ m. let i = passed_after (here_after h g step there) (drop 1 gs) steps more end mine now_is m.1 in (i.0, i.1, (m.0, i.2)))
+      (λ e. (mine, ap (λ (x : There). x.batches) e.0 ∙ now_is, (ap (λ (x : There). own_there x mine) e.0, e.1))) in
+      (out.0, out.1, (own_there there mine, more, one, record { own = next.own; passed = next.passed; at = next.at; moment = next.moment; batches = refl; renews = next.renews; wires = next.wires }, out.2))
+
+-- A LINE THAT FINDS NOTHING leaves the journal's batches as they were
+
+either_same : {A : Type 0} (c : Bool) (x : A) → (if c then x else x) ≡ x
+either_same true x = refl
+either_same false x = refl
+
+pub settle_none : (at : ℕ) (bs : List Batch) → settle Flying at bs ≡ bs
+settle_none at [] = refl
+settle_none at (b ∷ bs) =
+    ap (λ (c : Batch). c ∷ settle Flying at bs) (either_same (is_flying b.fate) b)
+    ∙ ap (λ (cs : List Batch). b ∷ cs) (settle_none at bs)
+
+-- BATCHES of a line, by a later moment
+
+stands_later : (f : Fate) (by : MemberId) (x : Batched) (from now later : ℕ) (b : Batch) → now ≤ later → StandsAs f by x from now b → StandsAs f by x from later b
+stands_later Kept by x from now later b le is =
+    record { by_it = is.by_it; entries = is.entries; kept = is.kept; moments = (is.moments.0, is.moments.1, omega (arith, is.moments.2, le)) }
+stands_later Flying by x from now later b le is =
+    record { by_it = is.by_it; entries = is.entries; flies = is.flies; moments = (is.moments.0, omega (arith, is.moments.1, le), is.moments.2) }
+stands_later Dropped by x from now later b le is = absurd is
+
+pub batched_later : (by : MemberId) (from now later : ℕ) (xs : List Batched) (bs : List Batch) → now ≤ later → AreBatched by from now xs bs → AreBatched by from later xs bs
+batched_later by from now later [] [] le are = tt
+batched_later by from now later [] (b ∷ bs) le are = absurd are
+batched_later by from now later (x ∷ xs) [] le are = absurd are
+batched_later by from now later (x ∷ xs) (b ∷ bs) le are = (stands_later x.fate by x from now later b le are.0, batched_later by b.last now later xs bs le are.1)
+
+-- The copies that lines replace, one line after another.
+
+-- A STEP THAT REPLACES NO COPY on a device has no such admission
+
+device_is : (d e : Dev) → (d ≡ e → ⊥) → same_device d e ≡ false
+device_is Ckpt1 Ckpt1 apart = absurd (apart refl)
+device_is Ckpt2 Ckpt2 apart = absurd (apart refl)
+device_is Ckpt1 (Spool n) apart = refl
+device_is Ckpt2 (Spool n) apart = refl
+device_is (Spool n) (Spool m) apart = by_test (same_device (Spool n) (Spool m)) refl where
+  by_test : (is : Bool) → same_device (Spool n) (Spool m) ≡ is → same_device (Spool n) (Spool m) ≡ false
+  by_test false e = e
+  by_test true e = absurd (apart (ap (λ (k : ℕ). Spool k) (eqb-true n m e)))
+device_is _ Ckpt2 apart = refl
+device_is _ Ckpt1 apart = refl
+
+module _ (d : Dev) where
+  if_kept : (t : Bool) (a b : Admission) → is_replaced d a ≡ false → is_replaced d b ≡ false → is_replaced d (if t then a else b) ≡ false
+  if_kept true a b one two = one
+  if_kept false a b one two = two
+
+  granted_kept : (why : Option LockNo) (a : Admission) → is_replaced d a ≡ false → is_replaced d (if_granted why a) ≡ false
+  granted_kept None a is = is
+  granted_kept (Some reason) a is = refl
+
+  module _ (config : Config) (b : Book) (by : MemberId) where
+    deck_kept : (text : List (List ℕ)) (said : Result JobFields BadCard) → is_replaced d (deck_admitted b by text said) ≡ false
+    deck_kept text (Err bad) = refl
+    deck_kept text (Ok fields) = granted_kept (try_refusal b by false) _ refl
+
+    command_kept : (c : Command) (of : Option MemberId) → is_replaced d (command_admitted config b by c of) ≡ false
+    command_kept c None = granted_kept (try_refusal b by false) _ refl
+    command_kept c (Some of) = let reset_kept : (of : MemberId) → is_replaced d (reset_admitted config b by of) ≡ false = λ of. if_kept (not (is_member config of)) _ _ refl
+        (if_kept (not (is_stopped b of)) _ _ refl (if_kept (is_holder b of) _ _ refl (granted_kept (try_refusal b by false) _ refl))) in
+        reset_kept of
+
+    asked_kept : (what : Ask) → what ≢ ask.Replace d → is_replaced d (asked config b by what) ≡ false
+    asked_kept (ask.Deck cards) other = deck_kept (text_of cards) (read_as config.node cards)
+    asked_kept (ask.Command c) other = command_kept c (resets c)
+    asked_kept ask.Free other = if_kept (is_holder b by) _ _ refl refl
+    asked_kept (ask.Replace e) other = granted_kept (try_refusal b by false) _ (device_is d e (λ same. other (ap (λ (k : Dev). ask.Replace k) (sym same))))
+    asked_kept ask.Stop other = refl
+    asked_kept (ask.StopIn fuse n) other = refl
+    asked_kept (ask.Lose dev) other = refl
+    asked_kept _ other = granted_kept (try_refusal b by false) _ refl
+
+    not_replaced : (what : Ask) → what ≢ ask.Replace d → is_replaced d (admitted config b by what) ≡ false
+    not_replaced what other = if_kept (not (is_member config by)) _ _ refl (if_kept (is_stopped b by) _ _ refl (asked_kept what other))
+
+-- OF A LATER VIEW
+
+module _ (dev : Dev) (rs is : Renewals) (old new later : View) (on : new.now ≤ later.now) where
+  begins_later : Begins dev rs is old new → Begins dev rs is old later
+  begins_later b = record { from = b.from; within = (b.within.0, let le = b.within.1 in omega (arith, le, on)); is = b.is }
+
+  ends_later : BeginsAndEnds dev rs is old new → BeginsAndEnds dev rs is old later
+  ends_later b = record { from = b.from; until = b.until; within = (b.within.0, b.within.1, let le = b.within.2 in omega (arith, le, on)); is = b.is }
+
+  by_later : (found : Renewed) → RenewsBy found dev rs is old new → RenewsBy found dev rs is old later
+  by_later Replaced r = ends_later r
+  by_later NotLost r = r
+  by_later LostAgain r = begins_later r
+
+  at_later : (halt : Halt) (found : Renewed) → RenewsAt halt found dev rs is old new → RenewsAt halt found dev rs is old later
+  at_later (Saying n tail) found r = by_later found r
+  at_later _ found r = let some_later : (is ≡ rs) ⊎ (Begins dev rs is old new ⊎ BeginsAndEnds dev rs is old new) → (is ≡ rs) ⊎ (Begins dev rs is old later ⊎ BeginsAndEnds dev rs is old later) = λ r. ⊎_elim inl (λ x. inr (⊎_elim (λ b. inl (begins_later b)) (λ e. inr (ends_later e)) x)) r in
+      some_later r
+
+  in_later : (cut : Option Cut) (found : Renewed) → RenewsIn cut found dev rs is old new → RenewsIn cut found dev rs is old later
+  in_later None found r = by_later found r
+  in_later (Some cut) found r = at_later cut.halt found r
+
+pub renews_later : (a : Admission) (cut : Option Cut) (found : Renewed) (rs is : Renewals) (old new later : View) → new.now ≤ later.now
+    → RenewsAs a cut found rs is old new → RenewsAs a cut found rs is old later
+renews_later (Replaces dev) cut found rs is old new later on r = in_later dev rs is old new later on cut found r
+renews_later _ cut found rs is old new later on r = r
+
+-- where a line was cut because its member was stopped, it is cut as well where the run ended
+pub renews_ended : (a : Admission) (cut : Cut) (found : Renewed) (rs is : Renewals) (old new : View)
+    → RenewsAs a (Some cut) found rs is old new → RenewsAs a (Some (record cut { cause = Ends })) found rs is old new
+renews_ended (Replaces dev) cut found rs is old new r = r
+renews_ended _ cut found rs is old new r = r
+
+-- a line that replaces none leaves the moments as they were
+pub renews_none : (a : Admission) (cut : Option Cut) (found : Renewed) (rs is : Renewals) (old new : View) → ((dev : Dev) → a ≡ Replaces dev → ⊥) → is ≡ rs
+    → RenewsAs a cut found rs is old new
+renews_none (Replaces dev) cut found rs is old new other same = absurd (other dev refl)
+renews_none _ cut found rs is old new other same = same
+
+-- and so does a line that isn't one of a member
+module _ (cut : Option Cut) (found : Renewed) (rs is : Renewals) (old new : View) (same : is ≡ rs) where
+  if_renews : (t : Bool) (a b : Admission) → RenewsAs a cut found rs is old new → RenewsAs b cut found rs is old new → RenewsAs (if t then a else b) cut found rs is old new
+  if_renews true a b one two = one
+  if_renews false a b one two = two
+
+  asked_mute : (config : Config) (b : Book) (by : MemberId) (what : Ask) → is_of_member what ≡ false → RenewsAs (asked config b by what) cut found rs is old new
+  asked_mute config b by ask.Stop mute = same
+  asked_mute config b by (ask.StopIn fuse n) mute = same
+  asked_mute config b by (ask.Lose dev) mute = same
+  asked_mute config b by (ask.Command c) mute = absurd (cc)
+  asked_mute config b by _ mute = absurd (cc)
+
+  pub renews_mute : (config : Config) (b : Book) (by : MemberId) (what : Ask) → is_of_member what ≡ false → RenewsAs (admitted config b by what) cut found rs is old new
+  renews_mute config b by what mute = if_renews (not (is_member config by)) _ _ same (if_renews (is_stopped b by) _ _ same (asked_mute config b by what mute))
+
+-- and so does one that was cut before its first act
+pub renews_unbegun : (a : Admission) (cause : Cause) (found : Renewed) (rs : Renewals) (v : View) → RenewsAs a (Some (record { sittings = 0; halt = Writing 0 None; cause = cause })) found rs rs v v
+renews_unbegun (Replaces dev) cause found rs v = inl refl
+renews_unbegun _ cause found rs v = refl
+
+-- WHAT STAYS of a list, where another copy is replaced
+
+module _ (f : Renewals → List Renewal) (dev : Dev) (keeps : (of : List Renewal) (rs : Renewals) → f (with_device dev of rs) ≡ f rs) (rs is : Renewals) (old new : View) where
+  begun_keeps : (t : Bool) (of : List Renewal) → f (if t then with_device dev of rs else rs) ≡ f rs
+  begun_keeps true of = keeps of rs
+  begun_keeps false of = refl
+
+  begins_keeps : Begins dev rs is old new → f is ≡ f rs
+  begins_keeps b = ap f b.is ∙ begun_keeps (nat_lt b.from top) _
+
+  ends_keeps : BeginsAndEnds dev rs is old new → f is ≡ f rs
+  ends_keeps b = ap f b.is ∙ keeps _ _ ∙ begun_keeps (nat_lt b.from top) _
+
+  by_keeps : (found : Renewed) → RenewsBy found dev rs is old new → f is ≡ f rs
+  by_keeps Replaced r = ends_keeps r
+  by_keeps NotLost r = ap f r
+  by_keeps LostAgain r = begins_keeps r
+
+  at_keeps : (halt : Halt) (found : Renewed) → RenewsAt halt found dev rs is old new → f is ≡ f rs
+  at_keeps (Saying n tail) found r = by_keeps found r
+  at_keeps _ found r = let some_keeps : (is ≡ rs) ⊎ (Begins dev rs is old new ⊎ BeginsAndEnds dev rs is old new) → f is ≡ f rs = λ r. ⊎_elim (λ same. ap f same) (λ x. ⊎_elim begins_keeps ends_keeps x) r in some_keeps r
+
+  in_keeps : (cut : Option Cut) (found : Renewed) → RenewsIn cut found dev rs is old new → f is ≡ f rs
+  in_keeps None found r = by_keeps found r
+  in_keeps (Some cut) found r = at_keeps cut.halt found r
+
+as_keeps : (f : Renewals → List Renewal) (a : Admission) → ((dev : Dev) → a ≡ Replaces dev → (of : List Renewal) (rs : Renewals) → f (with_device dev of rs) ≡ f rs) → (cut : Option Cut) (found : Renewed) (rs is : Renewals) (old new : View)
+    → RenewsAs a cut found rs is old new → f is ≡ f rs
+as_keeps f (Replaces dev) keeps cut found rs is old new r = in_keeps f dev (keeps dev refl) rs is old new cut found r
+as_keeps f _ keeps cut found rs is old new r = ap f r
+
+first_keeps : (dev : Dev) → same_device Ckpt1 dev ≡ false → (of : List Renewal) (rs : Renewals) → (with_device dev of rs).first ≡ rs.first
+first_keeps Ckpt1 other of rs = absurd (true_false other)
+first_keeps _ other of rs = refl
+
+second_keeps : (dev : Dev) → same_device Ckpt2 dev ≡ false → (of : List Renewal) (rs : Renewals) → (with_device dev of rs).second ≡ rs.second
+second_keeps Ckpt2 other of rs = absurd (true_false other)
+second_keeps _ other of rs = refl
+
+-- LINES ONE AFTER ANOTHER, none of which replaces the copy on a device
+
+module _ (told : Type 0) where
+  pub passed_stays : (d : Dev) (h : Here) (gs : List Given) (steps : List Step) (many : ℕ) (end : There) → All (λ (s : Step). s.what ≢ ask.Replace d) steps
+      → ArePassed told h gs steps many end → StaysLost d h.view end.view
+  passed_stays d h gs [] many end none p gone = ap (λ (v : View). v.lost (Disk d)) p.1 ∙ gone
+  passed_stays d h gs (step ∷ steps) many end none (there, more, is, next, rest) gone =
+      let g = given_first gs in
+      let now : there.view.lost (Disk d) ≡ true =
+      next.passed.stays d (not_replaced d h.scene.queue.config h.scene.book step.by step.what (All-head (λ (s : Step). s.what ≢ ask.Replace d) step steps none)) gone in
+      by_going (played_at (line_of h g step)).goes_on (λ b. end.view.lost (Disk d) ≡ true) rest
+      (λ m. passed_stays d (here_after h g step there) (drop 1 gs) steps more end (All-tail (λ (s : Step). s.what ≢ ask.Replace d) step steps none) m.1 now)
+      (λ e. ap (λ (x : There). x.view.lost (Disk d)) e.0 ∙ now)
+
+  passed_keeps : (f : Renewals → List Renewal) (d : Dev) → ((dev : Dev) → same_device d dev ≡ false → (of : List Renewal) (rs : Renewals) → f (with_device dev of rs) ≡ f rs)
+      → (h : Here) (gs : List Given) (steps : List Step) (many : ℕ) (end : There) → All (λ (s : Step). s.what ≢ ask.Replace d) steps
+      → ArePassed told h gs steps many end → f end.renewals ≡ f h.renewals
+  passed_keeps f d keeps h gs [] many end none p = ap f p.4
+  passed_keeps f d keeps h gs (step ∷ steps) many end none (there, more, is, next, rest) =
+      let g = given_first gs in
+      let a = admitted_at (line_of h g step) in
+      let other = not_replaced d h.scene.queue.config h.scene.book step.by step.what (All-head (λ (s : Step). s.what ≢ ask.Replace d) step steps none) in
+      let now : f there.renewals ≡ f h.renewals =
+      as_keeps f a (λ dev same. keeps dev (sym (ap (λ (b : Admission). is_replaced d b) same) ∙ other)) g.sight.cut g.sight.renewed h.renewals there.renewals h.view there.view next.renews in
+      by_going (played_at (line_of h g step)).goes_on (λ b. f end.renewals ≡ f h.renewals) rest
+      (λ m. passed_keeps f d keeps (here_after h g step there) (drop 1 gs) steps more end (All-tail (λ (s : Step). s.what ≢ ask.Replace d) step steps none) m.1 ∙ now)
+      (λ e. ap (λ (x : There). f x.renewals) e.0 ∙ now)
+
+  pub passed_first : (h : Here) (gs : List Given) (steps : List Step) (many : ℕ) (end : There) → All (λ (s : Step). s.what ≢ ask.Replace Ckpt1) steps
+      → ArePassed told h gs steps many end → end.renewals.first ≡ h.renewals.first
+  passed_first h gs steps many end none p = passed_keeps (λ rs. rs.first) Ckpt1 first_keeps h gs steps many end none p
+
+  pub passed_second : (h : Here) (gs : List Given) (steps : List Step) (many : ℕ) (end : There) → All (λ (s : Step). s.what ≢ ask.Replace Ckpt2) steps
+      → ArePassed told h gs steps many end → end.renewals.second ≡ h.renewals.second
+  passed_second h gs steps many end none p = passed_keeps (λ rs. rs.second) Ckpt2 second_keeps h gs steps many end none p

@@ -1,17 +1,7 @@
 -- What is refused before play, and what is answered.
-use Rattle.std.proofs.Common.{◌≡◌, ◌⊎◌, ⊎_elim, ℕ, not, Bool, false, List, [], Result, Err, refl, sym, subst}
-use Rattle.mas_types.specs.declared.answers.Status.{Status}
+use Rattle.mas_run.proofs.Names.{◌≡◌, ⊎_elim, ℕ, Bool, false, List, [], Result, Err, refl, sym, subst, Status, Script, Step, ScriptSaid as Said, View, Rose, refused_sizes, Answers, is_refusal, IsPlayedOut, refusal_of, refusal_before_play, IsSaid, AreLeftAlone, IsStill, TakesNone, IsCaused}
 use Rattle.mas_types.specs.declared.answers.Status.TheVariants as status
 use Rattle.mas_types.specs.Lists.{first_some}
-use Rattle.script_lang.specs.declared.types.Script.{Script}
-use Rattle.script_lang.specs.declared.types.Step.{Step}
-use Rattle.script_lang.specs.Script.{Said}
-use Rattle.spool_plant.specs.View.{View}
-use Rattle.spool_plant.specs.Acts.{Rose}
-use Rattle.run_opening.specs.Refusals.{refused_sizes, Answers, is_refusal, IsPlayedOut, refusal_of}
-use Rattle.mas_run.specs.Refusals.{refusal_before_play, IsSaid}
-use Rattle.mas_run.specs.Statuses.{AreLeftAlone, IsStill, TakesNone}
-use Rattle.run_opening.specs.Statuses.{IsCaused}
 
 -- ANSWERS
 
@@ -26,11 +16,9 @@ ends cold status.NoMemory tells steps before after old new fine source caused st
 ends cold status.SourceFault tells steps before after old new fine source caused still alone = absurd (still.source (source refl))
 ends cold status.BothLost tells steps before after old new fine source caused still alone = absurd (⊎_elim (λ a. alone refl a.0 a.1 a.2) (λ not. not (caused.failed1 refl) (caused.failed2 refl)) still.disks)
 ends cold status.ConsoleFault tells steps before after old new fine source caused still alone = absurd (still.console (caused.console refl))
-ends cold status.Words tells steps before after old new fine source caused still alone = absurd (cc)
-ends cold (status.BadLine line cause) tells steps before after old new fine source caused still alone = absurd (cc)
-ends cold status.TooLong tells steps before after old new fine source caused still alone = absurd (cc)
 ends cold (status.NotFormatted first second) tells steps before after old new fine source caused still alone = fine
 ends cold (status.DeviceSize dev size) tells steps before after old new fine source caused still alone = fine
+ends cold _ tells steps before after old new fine source caused still alone = absurd (cc)
 
 pub err_is : {T : Type 0} (x y : Status) → (let r : Result T Status = Err x in r) ≡ Err y → x ≡ y
 err_is x y e = cc

@@ -1,66 +1,158 @@
 -- A run, from what its lines leave.
-use Rattle.std.proofs.Common.{◌≡◌, ◌≢◌, ◌⊎◌, inl, inr, ⊎_elim, ℕ, ◌≤◌, Bool, true, false, List, [], ◌++◌, length, drop, Result, Ok, Err, refl, sym, ◌∙◌, ap, subst, arith}
-use Rattle.member_node.specs.Calls.{IsLeft}
-use Rattle.member_node.proofs.CourseLemmas.{left}
-use Rattle.mas_types.specs.declared.ids.Dev.TheVariants.{Ckpt1, Ckpt2, Spool}
-use Rattle.mas_types.specs.declared.ids.Dev.{Dev}
-use Rattle.mas_types.specs.declared.journals.Journal.{Journal}
-use Rattle.mas_types.specs.declared.queues.Queue.{Queue}
-use Rattle.mas_types.specs.declared.answers.Status.{Status}
-use Rattle.mas_types.specs.Sound.{IsSound}
-use Rattle.spool_plant.specs.View.{View, World, disk_now}
-use Rattle.spool_plant.specs.declared.plant.Part.TheVariants.{Disk as DiskPart, Console}
-use Rattle.spool_plant.specs.Acts.{Rose}
-use Rattle.ckpt_form.specs.Form.{form_reads}
-use Rattle.ckpt_copy.specs.Changes.{NoMore}
-use Rattle.ckpt_copy.specs.Moments.{goes_none, sides_none}
-use Rattle.duplex_pair.specs.Halves.{SomeAlive, IsBothLost}
-use Rattle.mas_complex.specs.declared.renewals.Renewals.{Renewals}
-use Rattle.mas_complex.specs.Renewals.{is_open, no_renewals}
-use Rattle.mas_complex.specs.declared.renewals.Renewal.{Renewal}
-use Rattle.mas_complex.specs.Headline.{Headline}
-use Rattle.member_node.specs.declared.member.NodeNo.{NodeNo}
-use Rattle.ckpt_copy.specs.declared.copying.Copying.{Ghosts as CopyGhosts}
-use Rattle.ckpt_form.specs.declared.steady.Steady.{Ghosts as SteadyGhosts}
-use Rattle.mas_complex.specs.declared.complex.Complex.{Complex}
-use Rattle.member_node.specs.declared.member.Member.{Member}
+use Rattle.mas_run.proofs.Names.{◌≡◌, ℕ, suc, ◌+◌, ◌<◌, List, [], ◌∷◌, drop, drop-cons, get_or, length, Result, Ok, Err, refl, sym, ◌∙◌, ap, subst, arith, ◌≢◌, ◌⊎◌, inl, inr, ⊎_elim, ◌≤◌, Bool, true, false, ◌++◌, Option, None, append-nil, Step, Ghosts as PlantGhosts, CopyGhosts, Parts, parts_of, NodeNo, journal_of, Scene, scene_of, line_with, Given, outcomes_with, HasPlayedLine, here_at, there_at, PassesLines, Passed, There, Here, LeaveVolumes, ArePassed, IsShown, Shows, IsLeft, left, Ckpt1, Ckpt2, Spool, Dev, Journal, Queue, Status, IsSound, View, World, disk_now, Disk as DiskPart, Console, Rose, form_reads, NoMore, goes_none, sides_none, SomeAlive, IsBothLost, Renewals, is_open, no_renewals, Renewal, Headline, SteadyGhosts, Complex, Member, Script, has_begun, AreAway, IsAway, OneIsGood, HasLost, IsRun, HavePassed, IsPlay, HasSteps, LinesBegun, LinesEnded, NonePassed, ReplacesNone, WerePlayed, starts, stops, EndsAs, AreVolumesKept, AreVolumesKeptUntil, kept_past, kept_then, Batch, kept_all, AreSettled, end_of, meaning_run as run, IsCausedFrom, status_of, drop-append_seam, KeepCopies, LeavesSome, LeavesCopies, Proceeds, StaysLost, Book, none_out, Cut, right_lines, StandsIn}
+use Rattle.mas_run.proofs.PassedLemmas.{last_line, more_lines, passed_after, passed_goes, Ended as EndedBy, passed_arms, passed_console, passed_ended, passed_failed, passed_gave, passed_history, passed_loses, passed_loses_copies, passed_many, passed_paper, passed_right, passed_volumes, passed_first, passed_second, passed_stays}
 use Rattle.run_opening.specs.Openings.{at_end, HasBegunWith, HasNoLines, IsOpenRun}
-use Rattle.script_lang.specs.declared.types.Script.{Script}
-use Rattle.script_lang.specs.declared.types.Step.{Step}
-use Rattle.run_opening.specs.Runs.{has_begun, AreAway, IsAway, OneIsGood}
-use Rattle.mas_run.specs.Runs.{HasLost, IsRun, HavePassed, IsPlay, HasSteps, LinesBegun, LinesEnded, NonePassed, ReplacesNone, WerePlayed, starts, stops}
-use Rattle.run_opening.specs.Volumes.{AreVolumesKept, AreVolumesKeptUntil}
-use Rattle.mas_run.proofs.PaperLemmas.{papers_past}
-use Rattle.run_opening.proofs.VolumeLemmas.{kept_past, kept_then}
-use Rattle.mas_types.specs.declared.journals.Batch.{Batch}
-use Rattle.mas_complex.specs.Journals.{kept_all, AreSettled}
-use Rattle.mas_complex.specs.Meaning.{run}
-use Rattle.std.proofs.lemmas.List.{append-nil}
-use Rattle.run_opening.specs.Statuses.{IsCausedFrom, status_of}
-use Rattle.std.proofs.Math.Seq.{drop-append_seam}
-use Rattle.spool_plant.specs.declared.plant.Plant.{Ghosts as PlantGhosts}
-use Rattle.mas_complex.specs.Parts.{Parts}
-use Rattle.run_turns.specs.Scenes.{scene_of}
-use Rattle.mas_run.specs.Copies.{KeepCopies, LeavesSome, LeavesCopies}
-use Rattle.run_opening.specs.Lines.{Proceeds, StaysLost}
-use Rattle.mas_run.specs.Passed.{Here, LeaveVolumes, Passed, There}
 use Rattle.mas_run.proofs.CopiesLemmas.{alive_on}
-use Rattle.mas_run.proofs.LinesLemmas.{passed_after}
-use Rattle.mas_run.proofs.MemberRunLemmas.{have_passed}
-use Rattle.mas_run.proofs.PassedLemmas.{passed_goes}
+use Rattle.run_opening.proofs.OpeningLemmas.{safe_of}
+use Rattle.mas_run.specs.Papers.{ArePapersKeptUntil}
 use Rattle.mas_types.specs.declared.answers.Status.TheVariants as status
 use Rattle.member_node.specs.declared.member.NodeNo.TheVariants as no_node
-use Rattle.run_opening.proofs.OpeningLemmas.{safe_of}
+
+-- the line of an index, and those after it
+pub line_next : (lines : List Step) (k : ℕ) (line : Step) → k < length lines → line ≡ get_or lines k line → drop k lines ≡ line ∷ drop (k + 1) lines
+line_next lines k line lt is =
+    let e : suc k ≡ k + 1 = omega arith in
+    drop-cons lines k line lt ∙ ap (λ (s : Step). s ∷ drop (suc k) lines) (sym is) ∙ ap (λ (n : ℕ). line ∷ drop n lines) e
+
+module _ {P C : Type 0} (plants : PlantGhosts P) (copies : CopyGhosts C) (told : Type 0) (lines : List Step) (x : Parts P C) where
+  -- so many lines were played: what is played after them, at the scene that the value shows now, is played after the
+  -- first scene
+  pub record OnTheWay (k : ℕ) (y : Parts P C) (S : Scene) : Type 0 where
+    pub scene : Scene
+    pub shown : IsShown plants copies told scene y
+    pub then_all : (many : ℕ) (end : There) → Passed told (here_at plants copies (k + 1) scene (journal_of y) y) (drop k lines) many end
+        → Passed told (here_at plants copies 1 S (journal_of x) x) lines (k + many) end
+
+  abbrev pub AreOnTheWay : ℕ → Parts P C → Type 0
+  AreOnTheWay k y = (S : Scene) → IsShown plants copies told S x → OnTheWay k y S
+
+  -- all of them were played, or these
+  abbrev Ends : ℕ → Parts P C → Result (Unit {0}) NodeNo → Type 0
+  Ends many y result = (S : Scene) → IsShown plants copies told S x
+      → Passed told (here_at plants copies 1 S (journal_of x) x) lines many (there_at plants copies y result)
+
+  pub way_none : AreOnTheWay 0 x
+  way_none S shown = record {
+    scene = S;
+    shown = shown;
+    then_all = λ many end p.
+        let e : many ≡ 0 + many = omega arith in
+        subst (λ (n : ℕ). Passed told (here_at plants copies 1 S (journal_of x) x) lines n end) e p;
+  }
+
+  abbrev pub LineFrom : ℕ → Step → Parts P C → Parts P C → Result (Unit {0}) NodeNo → Type 0
+  LineFrom at line y z result = (S : Scene) → IsShown plants copies told S y → HasPlayedLine plants copies told S at line y z result
+
+  pub way_more : (k : ℕ) (line : Step) (y z : Parts P C) → drop k lines ≡ line ∷ drop (k + 1) lines → z.since ≡ y.since → LineFrom (k + 1) line y z (Ok tt)
+      → AreOnTheWay k y → AreOnTheWay (k + 1) z
+  way_more k line y z is since played way S shown =
+      let w = way S shown in
+      let p = played w.scene w.shown in
+      record {
+        scene = (line_with w.scene (k + 1) p.given line).next;
+        shown = p.shows;
+        then_all = λ many end rest.
+            let e : k + suc many ≡ k + 1 + many = omega arith in
+            let on : Passed told (record (here_at plants copies (k + 1 + 1) (line_with w.scene (k + 1) p.given line).next (journal_of z) z) { since = y.since }) (drop (k + 1) lines) many end =
+            subst (λ (n : ℕ). Passed told (record (here_at plants copies (k + 1 + 1) (line_with w.scene (k + 1) p.given line).next (journal_of z) z) { since = n }) (drop (k + 1) lines) many end) since rest in
+            subst (λ (n : ℕ). Passed told (here_at plants copies 1 S (journal_of x) x) lines n end) e
+            (w.then_all (suc many) end
+            (subst (λ (ls : List Step). Passed told (here_at plants copies (k + 1) w.scene (journal_of y) y) ls (suc many) end) (sym is)
+            (more_lines told (here_at plants copies (k + 1) w.scene (journal_of y) y) p.given line (there_at plants copies z (Ok tt)) p.next (drop (k + 1) lines) many end refl on)));
+      }
+
+  pub way_ends : (k : ℕ) (line : Step) (y z : Parts P C) (e : NodeNo) → drop k lines ≡ line ∷ drop (k + 1) lines → LineFrom (k + 1) line y z (Err e)
+      → AreOnTheWay k y → Ends (k + 1) z (Err e)
+  way_ends k line y z e is played way S shown =
+      let w = way S shown in
+      let p = played w.scene w.shown in
+      w.then_all 1 (there_at plants copies z (Err e))
+      (subst (λ (ls : List Step). Passed told (here_at plants copies (k + 1) w.scene (journal_of y) y) ls 1 (there_at plants copies z (Err e))) (sym is)
+      (last_line told (here_at plants copies (k + 1) w.scene (journal_of y) y) p.given line (there_at plants copies z (Err e)) p.next (drop (k + 1) lines) e refl))
+
+  pub way_done : (k : ℕ) (y : Parts P C) → drop k lines ≡ [] → AreOnTheWay k y → Ends (k + 0) y (Ok tt)
+  way_done k y is way S shown =
+      let w = way S shown in
+      w.then_all 0 (there_at plants copies y (Ok tt))
+      (subst (λ (ls : List Step). Passed told (here_at plants copies (k + 1) w.scene (journal_of y) y) ls 0 (there_at plants copies y (Ok tt))) (sym is)
+      (record { given = []; are = (refl, refl, refl, refl, refl) }))
+
+-- A run, from what its lines leave.
+
+ends_as : (result : Result (Unit {0}) NodeNo) (cut : Option Cut) (many lines : ℕ) → EndedBy result cut many lines → EndsAs (status_of result) cut many lines
+ends_as (Ok done) cut many lines ended = ended
+ends_as (Err no_node.Halted) cut many lines ended = absurd (ended.2 refl)
+ends_as _ cut many lines ended = (ended.0, ended.1)
+
+module _ (told : Type 0) (b : LinesBegun) where
+  abbrev came : ℕ → List Batch → Renewals → View → Result (Unit {0}) NodeNo → LinesEnded
+  came many batches rs view result = record { many = many; batches = batches; renewals = rs; view = view; answer = status_of result }
+
+  have_passed : (given : List Given) (many : ℕ) (batches : List Batch) (rs : Renewals) (view : View) (result : Result (Unit {0}) NodeNo)
+      → ArePassed told (starts b) given b.steps many (stops (came many batches rs view result) result) → HavePassed told b (came many batches rs view result)
+  have_passed given many batches rs view result p =
+      let end = stops (came many batches rs view result) result in
+      record {
+        given = given;
+        result = result;
+        ended = refl;
+        passed = p;
+        did = outcomes_with (scene_of b.from) 1 given b.steps;
+        counted = passed_many told (starts b) given b.steps many end p;
+        did_is = refl;
+        are = λ t. (right_lines (scene_of b.from) 1 given b.steps (passed_right told (starts b) given b.steps many end t p)).0;
+        ends = ends_as result _ many (length b.steps) (passed_ended told (starts b) given b.steps many end p);
+        history = passed_history told (starts b) given b.steps many end [] tt p;
+        said = λ t. passed_console told (starts b) given b.steps many end t p;
+        paper = λ t m. passed_paper told (starts b) given b.steps many end m t p;
+        gave = λ t m line. passed_gave told (starts b) given b.steps many end m line t p;
+        loses = λ t n. passed_loses told n (starts b) given b.steps many end t p;
+        loses_copies = λ t none d. passed_loses_copies told d (starts b) given b.steps many end t none p;
+        arms = λ m. passed_arms told (starts b) given b.steps many end m (b.view.arms m) refl p;
+        volumes = λ t leave. passed_volumes told (starts b) given b.steps many end t leave p;
+        stays = λ d none. passed_stays told d (starts b) given b.steps many end none p;
+        unrenewed1 = λ none. passed_first told (starts b) given b.steps many end none p;
+        unrenewed2 = λ none. passed_second told (starts b) given b.steps many end none p;
+      }
+
+-- AS A RUN HAS THEM, whose journal had these batches before them, and nothing in flight
+
+pub nothing_out : (batches : List Batch) (placed : Bool) (book : Book) (current : Option Batch) → StandsIn batches placed book current → current ≡ None → end_of placed current batches ≡ batches
+nothing_out batches placed book current stands none =
+    none_out batches batches placed current refl (subst (λ (o : Option Batch). StandsIn batches placed book o) none stands) none
+
+module _ {P C : Type 0} {plants : PlantGhosts P} {steadies : SteadyGhosts C} {copies : CopyGhosts C} (x y : Complex P C plants steadies copies) (S : Scene) where
+  -- a scene that the value shows is shown by it as well where content isn't told
+  pub shown_bare : (told : Type 0) → Shows told S x → Shows ⊥ S x
+  shown_bare told shows = record { queue = shows.queue; book = shows.book; flight = shows.flight; counts = λ t. absurd t }
+
+  module _ (told : Type 0) (steps : List Step) (many : ℕ) (result : Result (Unit {0}) NodeNo) (passes : PassesLines told 1 steps many x y result) (shows : Shows told S x) where
+    abbrev ends : There
+    ends = there_at plants copies (parts_of y) result
+
+    -- the console failed in the last line, if it says so
+    pub lines_failed : result ≡ Err no_node.ConsoleFault → Rose ((plants.view x.plant).faults Console) ((plants.view y.plant).faults Console)
+    lines_failed failed =
+        let p = passes S shows in
+        passed_failed told (here_at plants copies 1 S (journal_of (parts_of x)) (parts_of x)) p.given steps many ends p.are failed
+
+    pub lines_passed : (front batches : List Batch) (rs : Renewals) (since : ℕ) → x.since ≡ since → journal_of (parts_of x) ≡ front → x.renewals ≡ rs → batches ≡ journal_of (parts_of y)
+        → Passed told (record { reads = copies.reads; since = since; number = 1; scene = S; batches = front; renewals = rs; view = plants.view x.plant }) steps many (record { batches = batches; renewals = y.renewals; view = plants.view y.plant; answer = result })
+    lines_passed front batches rs since first_at was none is =
+        let begun : Passed told (record { reads = copies.reads; since = since; number = 1; scene = S; batches = journal_of (parts_of x); renewals = x.renewals; view = plants.view x.plant }) steps many ends =
+        subst (λ (n : ℕ). Passed told (record { reads = copies.reads; since = n; number = 1; scene = S; batches = journal_of (parts_of x); renewals = x.renewals; view = plants.view x.plant }) steps many ends) first_at (passes S shows) in
+        let first : Passed told (record { reads = copies.reads; since = since; number = 1; scene = S; batches = front; renewals = x.renewals; view = plants.view x.plant }) steps many ends =
+        subst (λ (bs : List Batch). Passed told (record { reads = copies.reads; since = since; number = 1; scene = S; batches = bs; renewals = x.renewals; view = plants.view x.plant }) steps many ends) was begun in
+        let from : Passed told (record { reads = copies.reads; since = since; number = 1; scene = S; batches = front; renewals = rs; view = plants.view x.plant }) steps many ends =
+        subst (λ (ks : Renewals). Passed told (record { reads = copies.reads; since = since; number = 1; scene = S; batches = front; renewals = ks; view = plants.view x.plant }) steps many ends) none first in
+        subst (λ (bs : List Batch). Passed told (record { reads = copies.reads; since = since; number = 1; scene = S; batches = front; renewals = rs; view = plants.view x.plant }) steps many (record { batches = bs; renewals = y.renewals; view = plants.view y.plant; answer = result })) (sym is) from
 
 -- THE LINES, once they ended
 
 failed_console : (old new : View) (result : Result (Unit {0}) NodeNo) → (result ≡ Err no_node.ConsoleFault → Rose (old.faults Console) (new.faults Console))
     → status_of result ≡ status.ConsoleFault → Rose (old.faults Console) (new.faults Console)
-failed_console old new (Ok done) failed is = absurd (cc)
-failed_console old new (Err no_node.NoMemory) failed is = absurd (cc)
-failed_console old new (Err no_node.BothLost) failed is = absurd (cc)
 failed_console old new (Err no_node.ConsoleFault) failed is = failed refl
-failed_console old new (Err no_node.Halted) failed is = absurd (cc)
+failed_console old new _ failed is = absurd (cc)
 
 -- a copy that counts as lost
 away_by : (alive : Bool) (d : Dev) (rs : List Renewal) (w : View) → (alive ≡ false → is_open rs ≡ false → w.lost (DiskPart d) ≡ true) → alive ≡ false → IsAway d rs w
@@ -74,11 +166,8 @@ module _ {P C : Type 0} (plants : PlantGhosts P) where
   v x = plants.view x.plant
 
   both_lost : (x y : Parts P C) (result : Result (Unit {0}) NodeNo) → status_of result ≡ status.BothLost → LeavesSome plants x y result → IsBothLost y.first_alive y.second_alive
-  both_lost x y (Ok done) is left = absurd (cc)
-  both_lost x y (Err no_node.NoMemory) is left = absurd (cc)
   both_lost x y (Err no_node.BothLost) is left = left
-  both_lost x y (Err no_node.ConsoleFault) is left = absurd (cc)
-  both_lost x y (Err no_node.Halted) is left = absurd (cc)
+  both_lost x y _ is left = absurd (cc)
 
   -- why the run ended, where both copies were lost or the console failed
   pub caused_by_lines : (x y : Parts P C) (result : Result (Unit {0}) NodeNo) → KeepCopies plants x y result
@@ -101,11 +190,8 @@ module _ {P C : Type 0} (plants : PlantGhosts P) where
 
   some_left : (x y : Parts P C) (result : Result (Unit {0}) NodeNo) → status_of result ≢ status.BothLost → LeavesSome plants x y result
       → IsLeft x.first_alive y.first_alive x.second_alive y.second_alive ⊎ HasLost (v x) (v y)
-  some_left x y (Ok done) other left = left
-  some_left x y (Err no_node.NoMemory) other left = left
   some_left x y (Err no_node.BothLost) other left = absurd (other refl)
-  some_left x y (Err no_node.ConsoleFault) other left = left
-  some_left x y (Err no_node.Halted) other left = left
+  some_left x y _ other left = left
 
   -- a good copy is left, unless both count as lost
   pub good_after : (x y : Parts P C) (result : Result (Unit {0}) NodeNo) → LeavesCopies plants x y result → SomeAlive x.first_alive x.second_alive → x.renewals ≡ no_renewals
@@ -127,7 +213,7 @@ module _ (told : Type 0) (b : LinesBegun) (front : List Batch) (now : ℕ) (sett
   abbrev after : ℕ → There → LinesEnded
   after many end = record { many = many; batches = drop (length front) end.batches; renewals = end.renewals; view = end.view; answer = status_of end.answer }
 
-  pub have_lines : (many : ℕ) (end : There) → Passed told from_there b.steps many end → (end.batches ≡ front ++ drop (length front) end.batches) × HavePassed told b (after many end)
+  have_lines : (many : ℕ) (end : There) → Passed told from_there b.steps many end → (end.batches ≡ front ++ drop (length front) end.batches) × HavePassed told b (after many end)
   have_lines many end p =
       let out = passed_after told front now settled from_there p.given b.steps many end [] (sym (append-nil front)) p.are in
       let same : out.0 ≡ drop (length front) end.batches = sym (drop-append_seam front out.0) ∙ ap (λ (bs : List Batch). drop (length front) bs) (sym out.1) in (
@@ -138,7 +224,7 @@ module _ (told : Type 0) (b : LinesBegun) (front : List Batch) (now : ℕ) (sett
 
 -- they begin where nothing was said or printed before them
 module _ (tells : Type 0) (b : LinesBegun) (e : LinesEnded) where
-  pub were_played : HavePassed ⊥ b e → (tells → HavePassed (Unit {0}) b e)
+  were_played : HavePassed ⊥ b e → (tells → HavePassed (Unit {0}) b e)
       → (e.answer ≢ status.BothLost → OneIsGood e.renewals e.view ⊎ HasLost b.view e.view)
       → WerePlayed tells b e b.view.loses b.view
   were_played bare told there = record {
@@ -174,10 +260,6 @@ play_of_lines tells steps base front now journal rs since old new result many se
 
 -- THE LINES OF A RUN
 
--- a device that is lost stays lost in lines of which none replaces it
-lines_stay : (tells : Type 0) (b : LinesBegun) (e : LinesEnded) (was : Dev → ℕ) (old : View) (d : Dev) → WerePlayed tells b e was old → ReplacesNone d b.steps → StaysLost d b.view e.view
-lines_stay tells b e was old d p none is = ⊎_elim (λ (n : NonePassed b e). ap (λ (v : View). v.lost (DiskPart d)) n.still ∙ is) (λ (h : HavePassed ⊥ b e). h.stays d none is) p.bare
-
 -- A RUN from where its lines begin
 
 module _ {P C : Type 0} {plants : PlantGhosts P} {steadies : SteadyGhosts C} {copies : CopyGhosts C} (cold : Bool) (script : Script) (old : View) (x : Complex P C plants steadies copies) (ms : List Member)
@@ -186,13 +268,15 @@ module _ {P C : Type 0} {plants : PlantGhosts P} {steadies : SteadyGhosts C} {co
   abbrev first_line : LinesBegun
   first_line = record { steps = script.steps; from = run x.base (kept_all x.journal.batches); since = x.since; view = at_end x }
 
-  abbrev last_line : LinesEnded
-  last_line = record { many = p.many; batches = p.rest; renewals = p.renewals; view = new; answer = answer }
+  abbrev final_line : LinesEnded
+  final_line = record { many = p.many; batches = p.rest; renewals = p.renewals; view = new; answer = answer }
 
+  -- a device that is lost stays lost in lines of which none replaces it
   stay_lost : (d : Dev) → ReplacesNone d script.steps → StaysLost d (at_end x) new
-  stay_lost d none = lines_stay plants.tells first_line last_line (at_end x).loses (at_end x) d p.played none
+  stay_lost d none = let lines_stay : (tells : Type 0) (b : LinesBegun) (e : LinesEnded) (was : Dev → ℕ) (old : View) (d : Dev) → WerePlayed tells b e was old → ReplacesNone d b.steps → StaysLost d b.view e.view = λ tells b e was old d p none is. ⊎_elim (λ (n : NonePassed b e). ap (λ (v : View). v.lost (DiskPart d)) n.still ∙ is) (λ (h : HavePassed ⊥ b e). h.stays d none is) p.bare in
+      lines_stay plants.tells first_line final_line (at_end x).loses (at_end x) d p.played none
 
-  were_played_since : WerePlayed plants.tells first_line last_line o.first old
+  were_played_since : WerePlayed plants.tells first_line final_line o.first old
   were_played_since = record {
     entered = o.opened.entered;
     lost_before = o.opened.lost_before;
@@ -205,24 +289,26 @@ module _ {P C : Type 0} {plants : PlantGhosts P} {steadies : SteadyGhosts C} {co
         (λ two. inr (subst (λ (n : ℕ). Rose n (new.loses Ckpt2)) (o.opened.lost_before Ckpt2) two)) lost)) (p.played.good ne);
   }
 
+  -- printers' lines that were kept up to a moment are kept up to it as seen later too
   steps_of_lines : HasSteps cold plants.tells script.steps answer x.base journal x.since o.first old new
-  steps_of_lines = record {
-    opening = x.journal.batches;
-    rest = p.rest;
-    batches = p.batches;
-    entry = at_end x;
-    at = (at_end x).now;
-    began = (o.opened.began, goes.later, refl);
-    many = p.many;
-    renewals = p.renewals;
-    played = were_played_since;
-    opened = o.opened.opened answer p.rest p.many;
-    before = λ t. kept_past (at_end x).now old (at_end x) new (let le : (at_end x).now ≤ (at_end x).now = omega arith in le) goes (o.opened.volumes t);
-    dry = λ t. papers_past (at_end x).now old (at_end x) new (let le : (at_end x).now ≤ (at_end x).now = omega arith in le) goes (o.opened.papers t);
-    safe = p.safe;
-    away = p.away;
-    stays = λ d none is. stay_lost d none (o.opened.entered.lost (DiskPart d) is);
-  }
+  steps_of_lines = let papers_past : (until : ℕ) (v0 v1 v2 : View) → until ≤ v1.now → Proceeds v1 v2 → ArePapersKeptUntil until v0 v1 → ArePapersKeptUntil until v0 v2 = λ until v0 v1 v2 le goes kept t from to m. ap (λ (w : World). w.paper m) (goes.past t (omega arith)) ∙ kept t from to m in
+      record {
+        opening = x.journal.batches;
+        rest = p.rest;
+        batches = p.batches;
+        entry = at_end x;
+        at = (at_end x).now;
+        began = (o.opened.began, goes.later, refl);
+        many = p.many;
+        renewals = p.renewals;
+        played = were_played_since;
+        opened = o.opened.opened answer p.rest p.many;
+        before = λ t. kept_past (at_end x).now old (at_end x) new (let le : (at_end x).now ≤ (at_end x).now = omega arith in le) goes (o.opened.volumes t);
+        dry = λ t. papers_past (at_end x).now old (at_end x) new (let le : (at_end x).now ≤ (at_end x).now = omega arith in le) goes (o.opened.papers t);
+        safe = p.safe;
+        away = p.away;
+        stays = λ d none is. stay_lost d none (o.opened.entered.lost (DiskPart d) is);
+      }
 
   pub run_of_lines : IsRun cold plants.tells script answer x.base journal x.since old new
   run_of_lines =

@@ -1,37 +1,668 @@
--- A line whose member had the lock, and played a step or a reset: where the value stands after it, for every answer.
-use Rattle.std.proofs.Common.{◌≡◌, ℕ, ◌+◌, ◌-◌, ◌≤◌, List, length, set, All, Option, Result, Ok, Err, OnOk, subst}
-use Rattle.mas_types.specs.Limits.{steps_most}
-use Rattle.spool_plant.specs.declared.plant.Plant.{Ghosts as PlantGhosts}
-use Rattle.spool_plant.specs.View.{View}
-use Rattle.ckpt_copy.specs.declared.copying.Copying.{Ghosts as CopyGhosts}
-use Rattle.ckpt_copy.specs.Moments.{goes_on}
-use Rattle.ckpt_form.specs.declared.steady.Steady.{Ghosts as SteadyGhosts}
-use Rattle.ckpt_tables.specs.Shape.{page_count}
-use Rattle.mas_complex.specs.declared.complex.Complex.{Complex}
-use Rattle.mas_complex.specs.Locking.{IsOperatorAway}
-use Rattle.mas_complex.specs.Parts.{Parts, parts_of}
-use Rattle.spool_plant.specs.Acts.{Goes}
-use Rattle.member_node.specs.Calls.{console_now}
-use Rattle.member_node.specs.declared.member.Member.{Member}
-use Rattle.member_node.specs.declared.member.NodeNo.{NodeNo}
+-- Where the value stands after a line of a member: after acts on the plant, after a line that was said, and after a step.
+use Rattle.mas_run.proofs.Names.{◌≡◌, ◌≢◌, ◌⊎◌, inl, inr, ⊎_elim, ℕ, zero, suc, ◌+◌, ◌<◌, Bool, true, false, List, [], ◌∷◌, drop, length, take, All, Option, Some, None, refl, sym, subst, arith, ◌≤◌, ◌++◌, ◌∙◌, ap, ◌-◌, set, Result, Ok, Err, OnOk, ◌&&◌, if◌then◌else◌, ◌||◌, is_some, append-nil, All-append, All-cons, All-drop, All-head, All-nil, All-tail, All-take, All-weaker, Closing, MemberId, Batch, Entry, Fate, Dropped, Kept, Queue, run, holder_then, task_most, all_entries, lines_of, sit, Found, Holder, State, Fresh, Told, AreOf, AreBatched, IsBatched, IsBetweenSittings, IsAsideHalt, IsCutIn as IsCutBy, IsOwnPiece, HasCut, Writes, plays_left_of as left_of, play_in, Admission, Denied, Plays, Refused, Replaces, Resets, TakesOver, Unplayed, denied_closing, Left, adds, adds_all, adds_first, batches_cut, begun, cuts_kept_all as kept_all, left_by, none_left, stopped_by, book_cut, Piece, Play, holder_of, once_found, piece_at, pieces_found, pieces_from, pieces_of, replaced_closing, reset_closing, unless_told, after_piece, entered, released_by, spent, Batched, Scene, count_then, with_fate, Begun, Cut, Halt, Sight, Writing, Cause, Stops, Waiting, Ends, IsOfEarlier, StandsIn, AreOfStep, EachSays, closing_of, reply_of, TellNone, Untells, untold_then, left_tells, Dev, Ckpt1, Ckpt2, Page, Config, steps_most, Ghosts as PlantGhosts, Line, View, disk_now, CopyGhosts, page_count, settled_later, Parts, parts_of, batches_left, placed_left, unreserved_in, console_now, Member, IsOpen, IsAtRest, IsSeat, first_half, second_half, HasUntold, queue_of, low_later, IsQuiet, IsAside, Proceeds, AreLarge, AreMembers, IsBetween, IsMemberAt, is_left_held, BetweenLines, LeftBetween, roomy_on, Book, is_holder, is_stopped, IsMember, after_free, beginner, noted, standing, with_holder, after_try, granted, ticked, try_refusal, eqb-true, and_from, length-set, get_or-set_same, length-drop, IsConfig, nobody, is_somebody, IsSound, AreRoomy, AreSettled, in_flight, end_of, with_last, OtherNotesStay, Since, inside_since, piece_since, play_since, play_stops, spent_since, then_since, goes_on, SteadyGhosts, Complex, IsOperatorAway, Goes, NodeNo, MayHold, proceeds_of, nat_tests, Standing, counts_of, journal_of, Release, Inner, Keep, Outer, journal_still, with_last-append, journal_unreserved, settled_unreserved, stands_unreserved}
+use Rattle.step_turns.proofs.Causes.{lines_are_caused}
+use Rattle.step_turns.proofs.Sittings.{lines_are_said_at_the_end}
+use Rattle.ckpt_places.specs.declared.places.Place.{Place}
+use Rattle.member_node.specs.Reads.{IsCalm}
+use Rattle.member_resets.proofs.Entering.{entered_seated}
+use Rattle.member_resets.proofs.Locking.{acts_entered, up_spent}
+use Rattle.mas_types.specs.declared.answers.Closing.TheVariants as closing
+use Rattle.mas_types.specs.declared.commands.Reply.TheVariants as reply
 use Rattle.member_node.specs.declared.member.NodeNo.TheVariants as no_node
-use Rattle.member_steps.specs.Noting.{OtherNotesStay}
-use Rattle.member_sittings.specs.Whole.{IsSeat}
-use Rattle.member_hand.specs.Cuts.{IsBetweenSittings}
-use Rattle.member_hand.specs.Locks.{MayHold}
-use Rattle.member_hand.specs.Plays.{HasCut, Writes, left_of}
-use Rattle.member_hand.specs.Quiet.{IsAside, IsQuiet}
-use Rattle.step_turns.specs.declared.states.Holder.{Holder}
-use Rattle.run_turns.specs.Pieces.{Piece}
-use Rattle.run_turns.specs.Sights.{Cut}
-use Rattle.run_opening.specs.Lines.{Proceeds}
-use Rattle.run_opening.specs.Shows.{BetweenLines, LeftBetween}
-use Rattle.member_hand.specs.Standing.{IsOfEarlier}
-use Rattle.member_resets.proofs.BookLemmas.{Since}
-use Rattle.mas_run.proofs.HaltedLemmas.{step_halted}
-use Rattle.run_opening.proofs.ProceedLemmas.{proceeds_of}
-use Rattle.mas_run.proofs.TaskLemmas.{step_next}
-use Rattle.member_resets.proofs.ToldLemmas.{EachSays}
+use Rattle.run_turns.proofs.Told.{told_or}
+
+-- A SITTING says the lines of a closing as its step is told, and none before
+
+closed_of : (by : MemberId) (at : ℕ) (end : Closing) → AreOfStep by at (lines_of by at end)
+closed_of by at (closing.Reply r) = reply_of by at r
+closed_of by at another = closing_of by at another
+
+sit_of : (Q : Queue) (h : Holder) (s : State) (found : Found) → s ≢ Told → AreOfStep h.by h.step (sit Q h s found).lines
+sit_of Q h s found untold = ⊎_elim
+    (λ told. let c = lines_are_caused Q h s found untold told in subst (AreOfStep h.by h.step) (sym c.2) (closed_of h.by h.step c.0))
+    (λ more. subst (AreOfStep h.by h.step) (sym ((lines_are_said_at_the_end Q h s found).1 more)) tt)
+    (told_or (sit Q h s found).next)
+
+-- THE PIECES OF A TASK
+
+unless_says : (by : MemberId) (at : ℕ) (s : State) (ps : List Piece) → (s ≢ Told → EachSays by at ps) → EachSays by at (unless_told s ps)
+unless_says by at Told ps each = tt
+unless_says by at _ ps each = each (λ e. absurd (cc))
+
+pub from_says : (more : ℕ) (sight : Sight) (count : ℕ) (Q : Queue) (h : Holder) (s : State) → s ≢ Told → EachSays h.by h.step (pieces_from more sight count Q h s)
+from_says zero sight count Q h s untold = tt
+from_says (suc more) sight count Q h s untold =
+    let p = piece_at sight count Q h s in
+    let es = all_entries p.sitting.batches in (
+      sit_of Q h s (sight.finds Q s) untold,
+      unless_says h.by h.step p.sitting.next _
+          (λ next. from_says more sight (count_then h.by es count + length p.printed) (run Q es) (holder_then Q h es) p.sitting.next next),
+    )
+
+-- THE PIECES OF A LINE, as its queue gives them
+
+pub line_says : (S : Scene) (by : MemberId) (at : ℕ) (sight : Sight) (Q : Queue) (a : Admission) → EachSays by at (pieces_of S by at sight Q a)
+line_says S by at sight Q (Refused sayer end) = (closing_of by at end, tt)
+line_says S by at sight Q (Denied why) = (closing_of by at (denied_closing why), tt)
+line_says S by at sight Q (Plays task) = from_says (task_most task) sight (S.counts by) Q (holder_of S by at (Plays task)) (Fresh task) (λ e. absurd (cc))
+line_says S by at sight Q (Resets of) = (closing_of by at (reset_closing of _), tt)
+line_says S by at sight Q (Replaces dev) = (closing_of by at (replaced_closing dev sight.renewed), tt)
+line_says S by at sight Q (TakesOver of) = (closing_of by at (reset_closing of _), tt)
+line_says S by at sight Q Unplayed = tt
+line_says S by at sight Q _ = (closing_of by at (closing.Reply reply.Plain), tt)
+
+once_says : (by : MemberId) (at : ℕ) (flight : Option (List Entry)) (ps : List Piece) → EachSays by at ps → EachSays by at (once_found flight ps)
+once_says by at None ps each = each
+once_says by at (Some es) ps each = tt
+
+pub found_says : (by : MemberId) (at : ℕ) (locked : Bool) (flight : Option (List Entry)) (ps : List Piece) → EachSays by at ps → EachSays by at (pieces_found locked flight ps)
+found_says by at true flight ps each = once_says by at flight ps each
+found_says by at false flight ps each = each
+
+-- THE ENTRIES of batches that a line left
+
+module _ (by : MemberId) (at : ℕ) where
+  abbrev IsOwn : Batched → Type 0
+  IsOwn x = All (λ (e : Entry). e.step ≡ at) x.entries
+
+  own_entries : (es : List Entry) → AreOf by at es → All (λ (e : Entry). e.step ≡ at) es
+  own_entries es of = All-weaker (λ (e : Entry). (e.by ≡ by) × (e.step ≡ at)) (λ (e : Entry). e.step ≡ at) (λ e and_from. and_from.1) es of
+
+  own_kept : (ess : List (List Entry)) → All (AreOf by at) ess → All IsOwn (kept_all ess)
+  own_kept [] of = All-nil IsOwn
+  own_kept (es ∷ ess) of = All-cons IsOwn (with_fate Kept es) (kept_all ess) (own_entries es (All-head (AreOf by at) es ess of)) (own_kept ess (All-tail (AreOf by at) es ess of))
+
+  own_begun : (b : Option Begun) (ess : List (List Entry)) → All (AreOf by at) ess → All IsOwn (begun by b ess)
+  own_begun None ess of = All-nil IsOwn
+  own_begun (Some b) [] of = All-nil IsOwn
+  own_begun (Some b) (es ∷ ess) of =
+      All-cons IsOwn (with_fate b.fate (take b.entries es)) []
+      (All-take (λ (e : Entry). e.step ≡ at) b.entries es (own_entries es (All-head (AreOf by at) es ess of))) (All-nil IsOwn)
+
+  own_cut : (halt : Halt) (ess : List (List Entry)) → All (AreOf by at) ess → All IsOwn (batches_cut by halt ess)
+  own_cut (Writing n b) ess of =
+      All-append IsOwn (kept_all (take n ess)) (begun by b (drop n ess)) (own_kept (take n ess) (All-take (AreOf by at) n ess of))
+      (own_begun b (drop n ess) (All-drop (AreOf by at) n ess of))
+  own_cut _ ess of = own_kept ess of
+
+  module _ (locked : Bool) where
+    own_all : (ps : List Piece) (l : Left) → All IsOwn l.batches → All (IsOwnPiece by at) ps → All IsOwn (adds_all by locked l ps).batches
+    own_all [] l own of = own
+    own_all (p ∷ ps) l own of =
+        own_all ps (adds by locked l p) (All-append IsOwn l.batches (kept_all p.sitting.batches) own (own_kept p.sitting.batches (All-head (IsOwnPiece by at) p ps of)))
+        (All-tail (IsOwnPiece by at) p ps of)
+
+    own_first : (halt : Halt) (ps : List Piece) (l : Left) → All IsOwn l.batches → All (IsOwnPiece by at) ps → All IsOwn (adds_first by locked halt l ps).batches
+    own_first halt [] l own of = own
+    own_first halt (p ∷ ps) l own of =
+        All-append IsOwn l.batches (batches_cut by halt p.sitting.batches) own (own_cut halt p.sitting.batches (All-head (IsOwnPiece by at) p ps of))
+
+  own_left : (cut : Option Cut) (play : Play) (count : ℕ) → All (IsOwnPiece by at) play.pieces → All IsOwn (left_by by cut play count).batches
+  own_left None play count of = own_all play.locked play.pieces (none_left by play.book count) (All-nil IsOwn) of
+  own_left (Some cut) play count of =
+      own_first play.locked cut.halt (drop cut.sittings play.pieces) _
+      (own_all play.locked (take cut.sittings play.pieces) (none_left by play.book count) (All-nil IsOwn) (All-take (IsOwnPiece by at) cut.sittings play.pieces of))
+      (All-drop (IsOwnPiece by at) cut.sittings play.pieces of)
+
+  -- as they stand in the journal
+  its_entries : (f : Fate) (x : Batched) (from now : ℕ) (b : Batch) → IsBatched f by x from now b → b.entries ≡ x.entries
+  its_entries Dropped x from now b is = absurd is
+  its_entries _ x from now b is = is.entries
+
+  earlier_own : (from now : ℕ) (xs : List Batched) (bs : List Batch) → AreBatched by from now xs bs → All IsOwn xs → All (IsOfEarlier (at + 1)) bs
+  earlier_own from now [] [] are own = All-nil (IsOfEarlier (at + 1))
+  earlier_own from now [] (b ∷ bs) are own = absurd are
+  earlier_own from now (x ∷ xs) [] are own = absurd are
+  earlier_own from now (x ∷ xs) (b ∷ bs) are own = let earlier_one : (b : Batch) (es : List Entry) → b.entries ≡ es → All (λ (e : Entry). e.step ≡ at) es → IsOfEarlier (at + 1) b = λ b es is own. subst (λ (fs : List Entry). All (λ (e : Entry). e.step < at + 1) fs) (sym is)
+      (All-weaker (λ (e : Entry). e.step ≡ at) (λ (e : Entry). e.step < at + 1) (λ e same. omega (arith, same)) es own) in
+      All-cons (IsOfEarlier (at + 1)) b bs (earlier_one b x.entries (its_entries x.fate x from now b are.0) (All-head IsOwn x xs own))
+      (earlier_own b.last now xs bs are.1 (All-tail IsOwn x xs own))
+
+  left_earlier : (cut : Option Cut) (play : Play) (count from now : ℕ) (bs : List Batch) → All (IsOwnPiece by at) play.pieces → AreBatched by from now (left_by by cut play count).batches bs
+      → All (IsOfEarlier (at + 1)) bs
+  left_earlier cut play count from now bs of are = earlier_own from now (left_by by cut play count).batches bs are (own_left cut play count of)
+
+-- A line that was said leaves the value between two lines, or at its member's seat, where no later step is told by it.
+
+-- a device of a copy has the size that the pages need
+large_on : {P C : Type 0} (plants : PlantGhosts P) (copies : CopyGhosts C) (x y : Parts P C) → y.base ≡ x.base → ((d : Dev) → (plants.view y.plant).size d ≡ (plants.view x.plant).size d)
+    → AreLarge plants copies x → AreLarge plants copies y
+large_on plants copies x y base size is =
+    let one : (d : Dev) → copies.needs (page_count x.base.config) ≤ (plants.view x.plant).size d → copies.needs (page_count y.base.config) ≤ (plants.view y.plant).size d =
+    λ d le. subst (λ (Q : Queue). copies.needs (page_count Q.config) ≤ (plants.view y.plant).size d) (sym base) (subst (λ (n : ℕ). copies.needs (page_count x.base.config) ≤ n) (sym (size d)) le) in
+    (one Ckpt1 is.0, one Ckpt2 is.1)
+
+-- with another book, and nothing reserved, it is as quiet
+pub quiet_with : {P C : Type 0} (plants : PlantGhosts P) (copies : CopyGhosts C) (x : Parts P C) (c : Book) (o : Option (List Entry)) → o ≡ None → (pages : ℕ) → IsQuiet plants copies x pages
+    → IsQuiet plants copies (record x { book = c; reserved = o }) pages
+quiet_with plants copies x c o none pages q = record {
+  none = q.none;
+  unplaced = q.unplaced;
+  unreserved = none;
+  first = q.first;
+  second = q.second;
+  sound = q.sound;
+  kept = q.kept;
+  begun = q.begun;
+  roomy = q.roomy;
+}
+
+-- The plant went on, and the copies have the bytes that they had; one may count as lost that didn't.
+
+module _ {P C : Type 0} (plants : PlantGhosts P) (copies : CopyGhosts C) (x : Parts P C) (q : P) (is1 is2 : Bool) (found1 found2 : ℕ) (goes : Proceeds (plants.view x.plant) (plants.view q))
+    (alive1 : is1 ≡ true → x.first_alive ≡ true) (alive2 : is2 ≡ true → x.second_alive ≡ true)
+    (bytes1 : plants.tells → (disk_now (plants.view q) Ckpt1).bytes ≡ (disk_now (plants.view x.plant) Ckpt1).bytes)
+    (bytes2 : plants.tells → (disk_now (plants.view q) Ckpt2).bytes ≡ (disk_now (plants.view x.plant) Ckpt2).bytes) where
+  abbrev z : Parts P C
+  z = record x { plant = q; first_alive = is1; second_alive = is2; first_found = found1; second_found = found2 }
+
+  abbrev v : Parts P C → View
+  v w = plants.view w.plant
+
+  -- the copies read as before
+  read1 : plants.tells → (first_half plants copies z).read ≡ (first_half plants copies x).read
+  read1 t = ap (λ (b : List ℕ). copies.reads b) (bytes1 t)
+
+  read2 : plants.tells → (second_half plants copies z).read ≡ (second_half plants copies x).read
+  read2 t = ap (λ (b : List ℕ). copies.reads b) (bytes2 t)
+
+  quiet_spoken : (pages : ℕ) → IsQuiet plants copies x pages → IsQuiet plants copies z pages
+  quiet_spoken pages is = let calm_by : (alive alive' : Bool) (place : Place) (count pages : ℕ) → (alive' ≡ true → alive ≡ true) → IsCalm alive place count pages → IsCalm alive' place count pages = λ alive alive' place count pages was is. record { before = is.before; as_many = λ on. is.as_many (was on) } in
+      let open2 : (config : Config) (n pages : ℕ) → IsOpen plants.tells (second_half plants copies x) config n pages → IsOpen plants.tells (second_half plants copies z) config n pages = λ config n pages is. record {
+        calm = calm_by x.second_alive is2 (second_half plants copies x).place (second_half plants copies x).count pages alive2 is.calm;
+        low = low_later plants.tells x.second_alive is2 config n (second_half plants copies x).read (second_half plants copies z).read alive2 read2 is.low;
+      } in
+      let open1 : (config : Config) (n pages : ℕ) → IsOpen plants.tells (first_half plants copies x) config n pages → IsOpen plants.tells (first_half plants copies z) config n pages = λ config n pages is. record {
+        calm = calm_by x.first_alive is1 (first_half plants copies x).place (first_half plants copies x).count pages alive1 is.calm;
+        low = low_later plants.tells x.first_alive is1 config n (first_half plants copies x).read (first_half plants copies z).read alive1 read1 is.low;
+      } in
+      record {
+        none = is.none;
+        unplaced = is.unplaced;
+        unreserved = is.unreserved;
+        first = open1 x.base.config _ pages is.first;
+        second = open2 x.base.config _ pages is.second;
+        sound = is.sound;
+        kept = settled_later x.batches (v x).now (v z).now is.kept goes.later;
+        begun = let le = is.begun in let on = goes.later in omega (arith, le, on);
+        roomy = λ t. roomy_on (v x) (v z) x.base.config goes (is.roomy t);
+      }
+
+  pub seat_spoken : (m : Member) → IsSeat plants copies x m → IsSeat plants copies z m
+  seat_spoken m is = let rest2 : (pages : List Page) → IsAtRest plants.tells (second_half plants copies x) pages → IsAtRest plants.tells (second_half plants copies z) pages = λ pages is. record { before = is.before; as_many = λ on. is.as_many (alive2 on); reads = λ t on. read2 t ∙ is.reads t (alive2 on) } in
+      let rest1 : (pages : List Page) → IsAtRest plants.tells (first_half plants copies x) pages → IsAtRest plants.tells (first_half plants copies z) pages = λ pages is. record { before = is.before; as_many = λ on. is.as_many (alive1 on); reads = λ t on. read1 t ∙ is.reads t (alive1 on) } in
+      record {
+        still = record {
+          holds = is.still.holds;
+          none = is.still.none;
+          unreserved = is.still.unreserved;
+          unplaced = is.still.unplaced;
+          here = is.still.here;
+          many = is.still.many;
+          config = is.still.config;
+          first = rest1 m.checkpoint.pages is.still.first;
+          second = rest2 m.checkpoint.pages is.still.second;
+          kept = settled_later x.batches (v x).now (v z).now is.still.kept goes.later;
+          begun = let le = is.still.begun in let on = goes.later in omega (arith, le, on);
+          roomy = λ t. roomy_on (v x) (v z) x.base.config goes (is.still.roomy t);
+          noted = is.still.noted;
+        };
+        between = is.between;
+        low = is.low;
+      }
+
+  member_spoken : (at : ℕ) (m : Member) → IsMemberAt plants copies x at m → IsMemberAt plants copies z at m
+  member_spoken at m is = record {
+    id = is.id;
+    up = λ up. record {
+      config = (is.up up).config;
+      many = (is.up up).many;
+      idle = (is.up up).idle;
+      noted = (is.up up).noted;
+      seated = λ holds. seat_spoken m ((is.up up).seated holds);
+    };
+  }
+
+  members_spoken : (at : ℕ) (ms : List Member) → AreMembers plants copies x at ms → AreMembers plants copies z at ms
+  members_spoken at [] are = tt
+  members_spoken at (m ∷ ms) are = (member_spoken at m are.0, members_spoken (at + 1) ms are.1)
+
+  -- entries of earlier lines than one are of earlier lines than a later one
+  -- with lines that tell no step from the next number on
+  pub between_said : (ms : List Member) (at to : ℕ) → at ≤ to → to ≤ steps_most + 1
+      → (plants.tells → (ls : List Line) × (console_now (v z) ≡ console_now (v x) ++ ls)
+      × ((k : ℕ) → to ≤ k → k ≤ steps_most → (es : List Entry) → All (λ (e : Entry). e.step ≡ k) es → Untells es ls))
+      → IsBetween plants copies x ms at → IsBetween plants copies z ms to
+  between_said ms at to on few lines is = let earlier_to : (at to : ℕ) → at ≤ to → (bs : List Batch) → All (IsOfEarlier at) bs → All (IsOfEarlier to) bs = λ at to on bs are. All-weaker (IsOfEarlier at) (IsOfEarlier to) (λ b of. All-weaker (λ (e : Entry). e.step < at) (λ (e : Entry). e.step < to) (λ e less. omega (arith, less, on)) b.entries of) bs are in
+      record {
+        stands = is.stands;
+        settled = settled_later x.batches (v x).now (v z).now is.settled goes.later;
+        quiet = λ free. quiet_spoken (page_count x.base.config) (is.quiet free);
+        unreserved = is.unreserved;
+        members = members_spoken 1 ms is.members;
+        many = is.many;
+        booked = is.booked;
+        held = is.held;
+        config = is.config;
+        sound = is.sound;
+        begun = let le = is.begun in let later = goes.later in omega (arith, le, later);
+        roomy = λ t. roomy_on (v x) (v z) x.base.config goes (is.roomy t);
+        large = large_on plants copies x z refl goes.size is.large;
+        untold = λ by later le small t.
+            let said = lines t in
+            untold_then plants copies x z refl refl is.begun goes.past said.0 (λ u. said.1) by later
+            (said.2 later le small) (is.untold by later (omega (arith, le, on)) small) t;
+        earlier = earlier_to at to on _ is.earlier;
+        few = few;
+      }
+
+  -- a line after which the next one has the next number
+  pub between_spoken : (ms : List Member) (at : ℕ) → at ≤ steps_most → (plants.tells → (ls : List Line) × (console_now (v z) ≡ console_now (v x) ++ ls) × TellNone at ls)
+      → IsBetween plants copies x ms at → IsBetween plants copies z ms (at + 1)
+  between_spoken ms at few lines is =
+      between_said ms at (at + 1) (omega arith) (omega (arith, few)) (λ t. let said = lines t in (said.0, said.1, (λ k le small es of. said.2 k (omega (arith, le)) small es of))) is
+
+-- A line after which its member goes on leaves the value between two lines.
+
+-- batches of earlier lines than one are of earlier lines than the next
+pub earlier_then : (at : ℕ) (bs : List Batch) → All (IsOfEarlier at) bs → All (IsOfEarlier (at + 1)) bs
+earlier_then at bs are =
+    All-weaker (IsOfEarlier at) (IsOfEarlier (at + 1)) (λ b of. All-weaker (λ e. e.step < at) (λ e. e.step < at + 1) (λ e less. omega (arith, less)) b.entries of) bs are
+
+-- and so are more batches after them
+pub earlier_more : (at : ℕ) (bs was more : List Batch) → bs ≡ was ++ more → All (IsOfEarlier at) was → All (IsOfEarlier (at + 1)) more → All (IsOfEarlier (at + 1)) bs
+earlier_more at bs was more is before own =
+    subst (λ (js : List Batch). All (IsOfEarlier (at + 1)) js) (sym is) (All-append (IsOfEarlier (at + 1)) was more (earlier_then at was before) own)
+
+-- without a batch in flight
+pub earlier_now : (at : ℕ) (bs : List Batch) (c : Option Batch) → c ≡ None → All (IsOfEarlier at) (bs ++ in_flight c) → All (IsOfEarlier at) bs
+earlier_now at bs c none are =
+    subst (λ (js : List Batch). All (IsOfEarlier at) js) (ap (λ (o : Option Batch). bs ++ in_flight o) none ∙ append-nil bs) are
+
+module _ {P C : Type 0} (plants : PlantGhosts P) (copies : CopyGhosts C) (x y : Parts P C) (base : y.base ≡ x.base) (since : Since x.book y.book) (by : MemberId)
+    (holder : (y.book.holder ≡ by) ⊎ (y.book.holder ≡ nobody)) (notes : OtherNotesStay by x.had y.had) where
+  -- THE OTHER MEMBERS are as they were: none of them holds the lock, and what they noted stays
+
+  other_holds : (j : ℕ) (k : MemberId) → 1 ≤ j → k ≡ record { 0 = j } → (j ≡ by.0 → ⊥) → is_holder y.book k ≡ true → ⊥
+  other_holds j k some id other holds =
+      let same : y.book.holder.0 ≡ k.0 = eqb-true y.book.holder.0 k.0 holds in
+      let number : k.0 ≡ j = ap (λ (m : MemberId). m.0) id in
+      ⊎_elim (λ is. other (sym number ∙ sym same ∙ ap (λ (m : MemberId). m.0) is))
+      (λ none. let zero_holds : y.book.holder.0 ≡ 0 = ap (λ (m : MemberId). m.0) none in absurd (omega (arith, same, number, some, zero_holds))) holder
+
+  other_after : (j : ℕ) (m : Member) → 1 ≤ j → (j ≡ by.0 → ⊥) → IsMemberAt plants copies x j m → IsMemberAt plants copies y j m
+  other_after j m some other is = record {
+    id = is.id;
+    up = λ up. record {
+      config = ap (λ (Q : Queue). Q.config) base ∙ (is.up (since.up m.id up)).config;
+      many = (is.up (since.up m.id up)).many ∙ ap (λ (Q : Queue). page_count Q.config) (sym base);
+      idle = (is.up (since.up m.id up)).idle;
+      noted = λ t read. notes m.id.0 (λ same. absurd (other (sym (ap (λ (k : MemberId). k.0) is.id) ∙ same))) ∙ (is.up (since.up m.id up)).noted t read;
+      seated = λ holds. absurd (other_holds j m.id some is.id other holds);
+    };
+  }
+
+  rest_after : (j : ℕ) (ms : List Member) → by.0 < j → AreMembers plants copies x j ms → AreMembers plants copies y j ms
+  rest_after j [] later are = tt
+  rest_after j (m ∷ ms) later are = (
+    other_after j m (omega (arith, later)) (λ same. absurd (omega (arith, later, same))) are.0,
+    rest_after (j + 1) ms (omega (arith, later)) are.1,
+  )
+
+  members_after : (n : Member) (j i : ℕ) (ms : List Member) → 1 ≤ j → j + i ≡ by.0 → IsMemberAt plants copies y by.0 n → AreMembers plants copies x j ms
+      → AreMembers plants copies y j (set ms i n)
+  members_after n j zero [] some at its are = tt
+  members_after n j (suc i) [] some at its are = tt
+  members_after n j zero (m ∷ ms) some at its are =
+      let here : by.0 ≡ j = omega (arith, at) in
+      (subst (λ (k : ℕ). IsMemberAt plants copies y k n) here its, rest_after (j + 1) ms (omega (arith, at)) are.1)
+  members_after n j (suc i) (m ∷ ms) some at its are =
+      (other_after j m some (λ same. absurd (omega (arith, at, same))) are.0, members_after n (j + 1) i ms (omega arith) (omega (arith, at)) its are.1)
+
+  -- who holds the lock is the line's member, if anybody does
+  held_within : by.0 ≤ x.base.config.members → y.book.holder.0 ≤ x.base.config.members
+  held_within within = ⊎_elim
+      (λ mine. let same = ap (λ (k : MemberId). k.0) mine in omega (arith, within, same))
+      (λ none. let zero_holds = ap (λ (k : MemberId). k.0) none in omega (arith, zero_holds)) holder
+
+  -- THE LINE'S MEMBER, which took its seat in it and left it, or holds it still
+
+  module _ (n : Member) (aside : IsAside plants copies y n) (room : length n.room ≡ page_count x.base.config) (id : n.id ≡ by)
+      (seat : y.book.holder ≡ by → IsSeat plants copies y n) where
+    stands_none : (c : Option Batch) → c ≡ None → StandsIn y.batches y.placed y.book c
+    stands_none None none = aside.quiet.unplaced
+    stands_none (Some b) none = absurd (cc)
+
+    -- nothing is in flight
+    pub between_after : (ms : List Member) (at : ℕ) → 1 ≤ by.0 → by.0 ≤ x.base.config.members → at ≤ steps_most → IsBetween plants copies x ms at
+        → ((d : Dev) → (plants.view y.plant).size d ≡ (plants.view x.plant).size d) → All (IsOfEarlier (at + 1)) y.batches
+        → ((k : MemberId) (later : ℕ) → at < later → later ≤ steps_most → HasUntold plants copies y k later)
+        → IsBetween plants copies y (set ms (by.0 - 1) n) (at + 1)
+    between_after ms at some within few is size own untold = let earlier_after : (at : ℕ) → All (IsOfEarlier at) y.batches → All (IsOfEarlier at) (y.batches ++ in_flight y.current) = λ at own. subst (λ (bs : List Batch). All (IsOfEarlier at) bs) (sym (ap (λ (c : Option Batch). y.batches ++ in_flight c) aside.quiet.none ∙ append-nil y.batches)) own in
+        let same_room : length n.room ≡ page_count y.base.config = room ∙ ap (λ (Q : Queue). page_count Q.config) (sym base) in
+        let quiet_after : IsQuiet plants copies y (page_count y.base.config) = subst (λ (k : ℕ). IsQuiet plants copies y k) same_room aside.quiet in
+        let its_member : IsMemberAt plants copies y by.0 n = let holds_by : is_holder y.book n.id ≡ true → y.book.holder ≡ by = λ holds. let same : y.book.holder.0 ≡ n.id.0 = eqb-true y.book.holder.0 n.id.0 holds in
+        ap (λ (k : ℕ). let m : MemberId = record { 0 = k } in m) same ∙ id in
+        record {
+          id = id;
+          up = λ up. record { config = aside.config; many = same_room; idle = aside.idle; noted = aside.noted; seated = λ holds. seat (holds_by holds) };
+        } in
+        record {
+          stands = stands_none y.current aside.quiet.none;
+          settled = aside.quiet.kept;
+          quiet = λ free. quiet_after;
+          unreserved = aside.quiet.unreserved;
+          members = members_after n 1 (by.0 - 1) ms (omega arith) (omega (arith, some)) its_member is.members;
+          many = length-set ms (by.0 - 1) n ∙ is.many ∙ ap (λ (Q : Queue). Q.config.members) (sym base);
+          booked = since.many ∙ is.booked ∙ ap (λ (Q : Queue). Q.config.members) (sym base);
+          held = subst (λ (Q : Queue). y.book.holder.0 ≤ Q.config.members) (sym base) (held_within within);
+          config = subst (λ (Q : Queue). IsConfig Q.config) (sym base) is.config;
+          sound = subst IsSound (sym base) is.sound;
+          begun = aside.quiet.begun;
+          roomy = aside.quiet.roomy;
+          large = large_on plants copies x y base size is.large;
+          untold = λ k later le small. untold k later (omega (arith, le)) small;
+          earlier = earlier_after (at + 1) own;
+          few = omega (arith, few);
+        }
+
+  -- THE LINE'S MEMBER was halted in it, and is stopped
+
+  module _ (n : Member) (id : n.id ≡ by) (down : is_stopped y.book by ≡ true) where
+    between_halted : (ms : List Member) (at : ℕ) → 1 ≤ by.0 → by.0 ≤ x.base.config.members → at ≤ steps_most → IsBetween plants copies x ms at → StandsIn y.batches y.placed y.book y.current
+        → AreSettled y.batches (plants.view y.plant).now → (is_left_held y.book ≡ false → IsQuiet plants copies y (page_count y.base.config)) → y.reserved ≡ None
+        → All (IsOfEarlier (at + 1)) (y.batches ++ in_flight y.current) → y.since ≡ x.since → Proceeds (plants.view x.plant) (plants.view y.plant)
+        → ((k : MemberId) (later : ℕ) → at < later → later ≤ steps_most → HasUntold plants copies y k later)
+        → IsBetween plants copies y (set ms (by.0 - 1) n) (at + 1)
+    between_halted ms at some within few is stands settled quiet unreserved own began goes untold = let down_member : IsMemberAt plants copies y by.0 n = let apart : true ≡ false → ⊥ = λ e. absurd (cc) in record { id = id; up = λ up. absurd (apart (sym down ∙ sym (ap (λ (k : MemberId). is_stopped y.book k) id) ∙ up)) } in
+        record {
+          stands = stands;
+          settled = settled;
+          quiet = quiet;
+          unreserved = unreserved;
+          members = members_after n 1 (by.0 - 1) ms (omega arith) (omega (arith, some)) down_member is.members;
+          many = length-set ms (by.0 - 1) n ∙ is.many ∙ ap (λ (Q : Queue). Q.config.members) (sym base);
+          booked = since.many ∙ is.booked ∙ ap (λ (Q : Queue). Q.config.members) (sym base);
+          held = subst (λ (Q : Queue). y.book.holder.0 ≤ Q.config.members) (sym base) (held_within within);
+          config = subst (λ (Q : Queue). IsConfig Q.config) (sym base) is.config;
+          sound = subst IsSound (sym base) is.sound;
+          begun = let le = is.begun in let on = goes.later in omega (arith, le, on, began);
+          roomy = λ t. subst (λ (Q : Queue). AreRoomy (plants.view y.plant) Q.config) (sym base) (roomy_on (plants.view x.plant) (plants.view y.plant) x.base.config goes (is.roomy t));
+          large = large_on plants copies x y base goes.size is.large;
+          untold = λ k later le small. untold k later (omega (arith, le)) small;
+          earlier = own;
+          few = omega (arith, few);
+        }
+
+-- A line whose member had the lock, and played a step or a reset: where the value stands after it, for every answer.
+
+-- of the journal's entries those of a batch in flight come last, and its place has none
+earlier_left : (k : ℕ) (bs : List Batch) (placed : Bool) (b : Book) (o : Option Batch) → StandsIn bs placed b o → All (IsOfEarlier k) (end_of placed o bs)
+    → All (IsOfEarlier k) (bs ++ in_flight o)
+earlier_left k bs placed b None stands are =
+    subst (λ (l : List Batch). All (IsOfEarlier k) l) (ap (λ (p : Bool). end_of p None bs) stands ∙ sym (append-nil bs)) are
+earlier_left k bs placed b (Some c) stands are =
+    let e = stands.0 in
+    let here : All (IsOfEarlier k) (e.before ++ c ∷ []) = subst (λ (l : List Batch). All (IsOfEarlier k) l) (ap (with_last c) e.is ∙ with_last-append c e.before e.place) are in
+    let none : IsOfEarlier k e.place = subst (λ (es : List Entry). All (λ (n : Entry). n.step < k) es) (sym e.free.empty) (All-nil (λ (n : Entry). n.step < k)) in
+    subst (λ (l : List Batch). All (IsOfEarlier k) (l ++ c ∷ [])) (sym e.is) (placed_within e.before e.place none here)
+  where
+    placed_within : (before : List Batch) (place : Batch) → IsOfEarlier k place → All (IsOfEarlier k) (before ++ c ∷ []) → All (IsOfEarlier k) ((before ++ place ∷ []) ++ c ∷ [])
+    placed_within [] place none here = All-cons (IsOfEarlier k) place (c ∷ []) none here
+    placed_within (a ∷ before) place none here =
+        All-cons (IsOfEarlier k) a ((before ++ place ∷ []) ++ c ∷ []) (here 0 a (omega arith))
+        (placed_within before place none (λ i d lt. here (suc i) d (omega (arith, lt))))
+
+-- WHO HOLDS THE LOCK after a line of a member that had it: that member, or nobody
+
+module _ (by : MemberId) where
+  abbrev IsHeldBy : Book → Type 0
+  IsHeldBy b = (b.holder ≡ by) ⊎ (b.holder ≡ nobody)
+
+  held_if : (c : Bool) (b d : Book) → IsHeldBy b → IsHeldBy d → IsHeldBy (if c then b else d)
+  held_if true b d one two = one
+  held_if false b d one two = two
+
+  held_tried : (b : Book) (inner : Bool) → IsHeldBy b → IsHeldBy (after_try b by inner)
+  held_tried b inner held =
+      held_if (is_stopped b by || is_holder b by) b (if is_some (try_refusal b by inner) then ticked b inner else granted (ticked b inner) by) held
+      (held_if (is_some (try_refusal b by inner)) (ticked b inner) (granted (ticked b inner) by) held (inl refl))
+
+  held_freed : (b : Book) (inner : Bool) → IsHeldBy b → IsHeldBy (after_free b by inner)
+  held_freed b inner held =
+      held_if (is_holder b by) (if inner then with_holder b nobody else with_holder (noted b by) nobody) b
+      (held_if inner (with_holder b nobody) (with_holder (noted b by) nobody) (inr refl) (inr refl)) held
+
+  held_released : (r : Release) (b : Book) → IsHeldBy b → IsHeldBy (released_by r b by)
+  held_released Keep b held = held
+  held_released Inner b held = held_freed b true held
+  held_released Outer b held = held_freed b false held
+
+  held_spent : (r : Release) (b : Book) (ess : List (List Entry)) → IsHeldBy b → IsHeldBy (released_by r (spent (entered b by) by ess) by)
+  held_spent r b ess held = held_released r (spent (entered b by) by ess) (held_tried b true held)
+
+  held_adds : (locked : Bool) (l : Left) (p : Piece) → IsHeldBy l.book → IsHeldBy (adds by locked l p).book
+  held_adds locked l p held = held_if locked (after_piece l.book by p) l.book (held_spent p.sitting.release l.book p.sitting.batches held) held
+
+  held_all : (locked : Bool) (ps : List Piece) (l : Left) → IsHeldBy l.book → IsHeldBy (adds_all by locked l ps).book
+  held_all locked [] l held = held
+  held_all locked (p ∷ ps) l held = held_all locked ps (adds by locked l p) (held_adds locked l p held)
+
+  held_cut : (halt : Halt) (b : Book) (p : Piece) → IsHeldBy b → IsHeldBy (book_cut by halt b p)
+  held_cut (Waiting n tail) b p held = held_spent p.sitting.release b p.sitting.batches held
+  held_cut _ b p held = held_tried b true held
+
+  held_begun : (locked : Bool) (halt : Halt) (ps : List Piece) (l : Left) → IsHeldBy l.book → IsHeldBy (adds_first by locked halt l ps).book
+  held_begun locked halt [] l held = held
+  held_begun locked halt (p ∷ ps) l held = held_if locked (book_cut by halt l.book p) l.book (held_cut halt l.book p held) held
+
+  held_cause : (why : Cause) (b : Book) → IsHeldBy b → IsHeldBy (stopped_by by why b)
+  held_cause Stops b held = held
+  held_cause Ends b held = held
+
+  held_left : (cut : Option Cut) (task_play : Play) (task_count : ℕ) → IsHeldBy task_play.book → IsHeldBy (left_by by cut task_play task_count).book
+  held_left None task_play task_count held = held_all task_play.locked task_play.pieces (none_left by task_play.book task_count) held
+  held_left (Some cut) task_play task_count held =
+      let l = adds_all by task_play.locked (none_left by task_play.book task_count) (take cut.sittings task_play.pieces) in
+      held_cause cut.cause (adds_first by task_play.locked cut.halt l (drop cut.sittings task_play.pieces)).book
+      (held_begun task_play.locked cut.halt (drop cut.sittings task_play.pieces) l (held_all task_play.locked (take cut.sittings task_play.pieces) (none_left by task_play.book task_count) held))
+
+-- A STEP that wasn't cut, from a value in which its member has the lock: by a try, or by a takeover
+
+module _ {P C : Type 0} (plants : PlantGhosts P) (copies : CopyGhosts C) (x mid : Parts P C) (h : Holder) (mid_base : mid.base ≡ x.base) (mid_since : mid.since ≡ x.since)
+    (mid_book : Since x.book mid.book) (inside : IsMember mid.book h.by) (held : IsHeldBy h.by mid.book) (mid_earlier : All (IsOfEarlier h.step) mid.batches)
+    (mid_quiet : plants.tells → console_now (plants.view mid.plant) ≡ console_now (plants.view x.plant))
+    (y : Parts P C) (base : y.base ≡ mid.base) (since : y.since ≡ mid.since) (pieces : List Piece) (cut : Option Cut) where
+  abbrev plant_of : Parts P C → View
+  plant_of w = plants.view w.plant
+
+  abbrev HasWrote : Type 0
+  HasWrote = (ps : List Piece) × (c : Option Cut) × EachSays h.by h.step ps × Writes plants copies h.by (left_of plants copies h.by c ps mid) mid y (Ok tt)
+
+  module _ (left : HasCut plants copies h pieces cut mid y (Ok tt)) (goes : Proceeds (plant_of x) (plant_of y)) (told : plants.tells → HasWrote) where
+    step_next : (n : Member) (ms : List Member) → IsAside plants copies y n → length n.room ≡ page_count x.base.config → n.id ≡ h.by
+        → (y.book.holder ≡ h.by → IsSeat plants copies y n) → OtherNotesStay h.by x.had y.had → h.step ≤ steps_most
+        → IsBetween plants copies x ms h.step → IsBetween plants copies y (set ms (h.by.0 - 1) n) (h.step + 1)
+    step_next n ms aside room id seat notes few is = let task_count : ℕ = counts_of mid.printed h.by in
+        let task_play : Play = play_in h.by pieces mid.book (queue_of mid) in let task_book : y.book ≡ (left_by h.by cut task_play task_count).book = left.leaves.book in
+        let task_since : Since x.book y.book = then_since x.book mid.book y.book mid_book (subst (λ (b : Book). Since mid.book b) (sym task_book) (play_since h.by task_play task_count inside cut)) in
+        between_after plants copies x y (base ∙ mid_base) task_since h.by (subst (λ (b : Book). IsHeldBy h.by b) (sym task_book) (held_left h.by cut task_play task_count held))
+        notes n aside room id seat ms h.step inside.0 (let le = inside.1 in let many = mid_book.many in let booked = is.booked in omega (arith, le, many, booked)) few is goes.size
+        (earlier_more h.step y.batches mid.batches left.leaves.more (sym (journal_still y aside.quiet.none aside.quiet.unplaced) ∙ left.leaves.journal) mid_earlier
+        (left_earlier h.by h.step cut task_play task_count (plant_of mid).now (plant_of y).now left.leaves.more left.of left.leaves.batches))
+        (λ k later less small t.
+        let w = told t in
+        let ls = (left_of plants copies h.by w.1 w.0 mid).lines in
+        untold_then plants copies x y (base ∙ mid_base) (since ∙ mid_since) is.begun goes.past ls (λ u. w.3.console ∙ ap (λ (l : List Line). l ++ ls) (mid_quiet u)) k later
+        (left_tells h.by h.step w.1 (play_in h.by w.0 mid.book (queue_of mid)) task_count w.2 later less small)
+        (is.untold k later (omega (arith, less)) small) t)
+
+-- WHAT IS RESERVED, once it is given up
+
+batches_some : (placed : Bool) (c : Batch) (bs : List Batch) → batches_left placed (Some c) bs ≡ bs
+batches_some true c bs = refl
+batches_some false c bs = refl
+
+module _ {P C : Type 0} (y : Parts P C) (unreserved : y.reserved ≡ None) where
+  abbrev with_current : Option Batch → Parts P C
+  with_current o = record y { batches = batches_left y.placed o y.batches; reserved = None; placed = placed_left y.placed o }
+
+  none_reserved : record y { reserved = None } ≡ y
+  none_reserved = ap (λ (r : Option (List Entry)). record y { reserved = r }) (sym unreserved)
+
+  with_none : y.placed ≡ false → with_current None ≡ y
+  with_none unplaced =
+      ap (λ (p : Bool). record y { batches = batches_left p None y.batches; reserved = None; placed = false }) unplaced
+      ∙ ap (λ (p : Bool). record y { reserved = None; placed = p }) (sym unplaced) ∙ none_reserved
+
+  same_left : (b : Book) (o : Option Batch) → y.current ≡ o → StandsIn y.batches y.placed b o → unreserved_in y ≡ y
+  same_left b None is stands = ap with_current is ∙ with_none stands
+  same_left b (Some c) is stands =
+      ap with_current is ∙ ap (λ (bs : List Batch). record y { batches = bs; reserved = None }) (batches_some y.placed c y.batches) ∙ none_reserved
+
+  -- between two lines nothing is
+  pub same_unreserved : (b : Book) → StandsIn y.batches y.placed b y.current → unreserved_in y ≡ y
+  same_unreserved b stands = same_left b y.current refl stands
+
+-- WHO HOLDS THE LOCK where a member was halted in its sitting: that member
+
+module _ (by : MemberId) where
+  up_freed : (b : Book) (inner : Bool) → IsMember b by → is_stopped b by ≡ false → is_stopped (after_free b by inner) by ≡ false
+  up_freed b inner inside up = by_tests (is_holder b by) inner where
+    by_tests : (h i : Bool) → is_stopped (if h then (if i then with_holder b nobody else with_holder (noted b by) nobody) else b) by ≡ false
+    by_tests false i = up
+    by_tests true true = up
+    by_tests true false =
+        let some = inside.0 in
+        let few = inside.1 in
+        ap (λ (s : Standing). s.stopped) (get_or-set_same b.members (by.0 - 1) (record (standing b by) { freed = Some b.tick }) (beginner 0) (omega (arith, some, few))) ∙ up
+
+  up_released : (r : Release) (b : Book) → IsMember b by → is_stopped b by ≡ false → is_stopped (released_by r b by) by ≡ false
+  up_released Keep b inside up = up
+  up_released Inner b inside up = up_freed b true inside up
+  up_released Outer b inside up = up_freed b false inside up
+
+  -- it may go on after each whole piece
+  may_adds : (l : Left) (p : Piece) → MayHold l.book by → MayHold (adds by true l p).book by
+  may_adds l p may =
+      let b = l.book in
+      let ess = p.sitting.batches in
+      let seated = entered_seated b by may.seated in
+      let acts = acts_entered b by may in
+      let spends = spent_since (entered b by) by seated (length (all_entries ess)) in
+      record {
+        some = may.some;
+        few = may.few;
+        seated = inside_since b (after_piece b by p) by (piece_since by b p may.seated) may.seated;
+        up = up_released p.sitting.release (spent (entered b by) by ess) (inside_since (entered b by) (spent (entered b by) by ess) by spends seated)
+            (up_spent (entered b by) by (length (all_entries ess)) may.some seated.1 (acts.up seated.0));
+        free = held_adds by true l p may.free;
+      }
+
+  may_all : (ps : List Piece) (l : Left) → MayHold l.book by → MayHold (adds_all by true l ps).book by
+  may_all [] l may = may
+  may_all (p ∷ ps) l may = may_all ps (adds by true l p) (may_adds l p may)
+
+  -- and has the lock up to the acts that follow a sitting
+  held_first : (halt : Halt) (l : Left) (ps : List Piece) → 0 < length ps → (IsAsideHalt halt → ⊥) → MayHold l.book by → (adds_first by true halt l ps).book.holder ≡ by
+  held_first halt l [] some locked may = absurd (omega (arith, some))
+  held_first (Waiting n tail) l (p ∷ ps) some locked may = absurd (locked tt)
+  held_first _ l (p ∷ ps) some locked may = (acts_entered l.book by may).holds
+
+  halted_holds : (cut : Cut) (pieces : List Piece) (b : Book) (Q : Queue) (count : ℕ) → MayHold b by → cut.cause ≡ Stops → cut.sittings < length pieces → (IsAsideHalt cut.halt → ⊥)
+      → (left_by by (Some cut) (play_in by pieces b Q) count).book.holder ≡ by
+  halted_holds cut pieces b Q count may why there locked = let some_left : (k : ℕ) (ps : List Piece) → k < length ps → 0 < length (drop k ps) = λ k ps there. let e = length-drop k ps in omega (arith, e, there) in
+      let l = adds_all by true (none_left by b count) (take cut.sittings pieces) in
+      ap (λ (cause : Cause). (stopped_by by cause (adds_first by true cut.halt l (drop cut.sittings pieces)).book).holder) why
+      ∙ held_first cut.halt l (drop cut.sittings pieces) (some_left cut.sittings pieces there) locked (may_all (take cut.sittings pieces) (none_left by b count) may)
+
+-- THE VALUE THEN
+
+module _ {P C : Type 0} {plants : PlantGhosts P} {steadies : SteadyGhosts C} {copies : CopyGhosts C} (x : Parts P C) (y : Complex P C plants steadies copies)
+    (base : y.base ≡ x.base) (began : y.since ≡ x.since) (since : Since x.book y.book) (by : MemberId) (some : 1 ≤ by.0) (within : IsMember y.book by) (holder : IsHeldBy by y.book) (down : is_stopped y.book by ≡ true)
+    (goes : Proceeds (plants.view x.plant) (plants.view y.plant)) (away : IsOperatorAway y.book y.reserved y.current)
+    (notes : OtherNotesStay by x.had (parts_of y).had) where
+  abbrev left_part : Parts P C
+  left_part = parts_of y
+
+  pub halted_between : (n : Member) (ms : List Member) (at : ℕ) → at ≤ steps_most → IsBetween plants copies x ms at → n.id ≡ by
+      → ((y.book.holder ≡ by → ⊥) → IsQuiet plants copies left_part (page_count x.base.config)) → All (IsOfEarlier (at + 1)) (journal_of left_part)
+      → ((k : MemberId) (later : ℕ) → at < later → later ≤ steps_most → HasUntold plants copies left_part k later)
+      → LeftBetween y (set ms (by.0 - 1) n) (at + 1)
+  halted_between n ms at few is id quiet own untold = let quiet_unreserved : (pages : ℕ) → IsQuiet plants copies left_part pages → IsQuiet plants copies (unreserved_in left_part) pages = λ pages is. subst (λ (w : Parts P C). IsQuiet plants copies w pages) (sym (ap (λ (o : Option Batch). with_current left_part is.unreserved o) is.none ∙ with_none left_part is.unreserved is.unplaced)) is in
+      let left_held : y.book.holder ≡ by → is_left_held y.book ≡ true = λ mine. let somebody : (by : MemberId) → 1 ≤ by.0 → is_somebody by ≡ true = λ by some. grind (arith, nat_tests, some) in
+      ap (λ (m : MemberId). is_somebody m && is_stopped y.book m) mine ∙ and_from (is_somebody by) (is_stopped y.book by) (somebody by some) down in
+      let stands : StandsIn (unreserved_in left_part).batches (unreserved_in left_part).placed (unreserved_in left_part).book (unreserved_in left_part).current = let holds_or_none : (y.book.holder ≡ by) ⊎ (y.current ≡ None) = ⊎_elim (λ mine. inl mine) (λ none. inr (away none).1) holder in stands_unreserved y by down holds_or_none in
+      let true_false : true ≡ false → ⊥ = λ e. absurd (cc) in
+      between_halted plants copies x (unreserved_in left_part) base since by holder notes n id down ms at some
+      (let le = within.1 in let many = since.many in let booked = is.booked in omega (arith, le, many, booked)) few is stands (settled_unreserved y)
+      (λ free. subst (λ (Q : Queue). IsQuiet plants copies (unreserved_in left_part) (page_count Q.config)) (sym base)
+      (quiet_unreserved (page_count x.base.config) (quiet (λ mine. absurd (true_false (sym (left_held mine) ∙ free))))))
+      refl
+      (earlier_left (at + 1) (unreserved_in left_part).batches (unreserved_in left_part).placed (unreserved_in left_part).book (unreserved_in left_part).current stands (subst (λ (bs : List Batch). All (IsOfEarlier (at + 1)) bs) (sym (journal_unreserved left_part)) own))
+      began goes untold
+
+-- A STEP in which its member was halted, from a value in which it has the lock: by a try, or by a takeover
+
+module _ {P C : Type 0} {plants : PlantGhosts P} {steadies : SteadyGhosts C} {copies : CopyGhosts C} (x mid : Parts P C) (h : Holder) (mid_base : mid.base ≡ x.base) (mid_since : mid.since ≡ x.since)
+    (mid_book : Since x.book mid.book) (may : MayHold mid.book h.by) (mid_earlier : All (IsOfEarlier h.step) mid.batches)
+    (mid_quiet : plants.tells → console_now (plants.view mid.plant) ≡ console_now (plants.view x.plant))
+    (y : Complex P C plants steadies copies) (base : y.base ≡ mid.base) (since : y.since ≡ mid.since) (pieces : List Piece) (cut : Option Cut) where
+  abbrev w : Parts P C
+  w = parts_of y
+
+  abbrev Wrote : Type 0
+  Wrote = (ps : List Piece) × (c : Option Cut) × EachSays h.by h.step ps × Writes plants copies h.by (left_of plants copies h.by c ps mid) mid w (Err no_node.Halted)
+
+  module _ (left : HasCut plants copies h pieces cut mid w (Err no_node.Halted)) (goes : Proceeds (plants.view x.plant) (plants.view w.plant)) (away : IsOperatorAway w.book w.reserved w.current)
+      (quiet : IsBetweenSittings cut → IsQuiet plants copies w (page_count x.base.config)) (told : plants.tells → Wrote) where
+    abbrev play : Play
+    play = play_in h.by pieces mid.book (queue_of mid)
+
+    abbrev count : ℕ
+    count = counts_of mid.printed h.by
+
+    book_after : w.book ≡ (left_by h.by cut play count).book
+    book_after = left.leaves.book
+
+    its_down : is_stopped w.book h.by ≡ true
+    its_down = by_cut cut refl where
+      by_cut : (c : Option Cut) → cut ≡ c → is_stopped w.book h.by ≡ true
+      by_cut None is = absurd (subst (λ (o : Option Cut). IsCutBy {T = Unit {0}} (Err no_node.Halted) pieces o) is left.by_answer)
+      by_cut (Some c) is =
+          let at = subst (λ (o : Option Cut). IsCutBy {T = Unit {0}} (Err no_node.Halted) pieces o) is left.by_answer in
+          ap (λ (b : Book). is_stopped b h.by) book_after ∙ play_stops h.by play count may.seated cut c is at.cause
+
+    aside_or : (halt : Halt) → IsAsideHalt halt ⊎ (IsAsideHalt halt → ⊥)
+    aside_or (Waiting n tail) = inl tt
+    aside_or _ = inr (λ a. a)
+
+    -- one that doesn't hold the lock was halted in acts aside
+    quiet_aside : (w.book.holder ≡ h.by → ⊥) → IsQuiet plants copies w (page_count x.base.config)
+    quiet_aside apart = by_cut cut refl where
+      by_cut : (c : Option Cut) → cut ≡ c → IsQuiet plants copies w (page_count x.base.config)
+      by_cut None is = absurd (subst (λ (o : Option Cut). IsCutBy {T = Unit {0}} (Err no_node.Halted) pieces o) is left.by_answer)
+      by_cut (Some c) is =
+          let at = subst (λ (o : Option Cut). IsCutBy {T = Unit {0}} (Err no_node.Halted) pieces o) is left.by_answer in
+          ⊎_elim (λ aside. quiet (subst IsBetweenSittings (sym is) aside))
+          (λ locked. absurd (apart (ap (λ (b : Book). b.holder) book_after ∙ ap (λ (o : Option Cut). (left_by h.by o play count).book.holder) is
+          ∙ halted_holds h.by c pieces mid.book (queue_of mid) count may at.cause at.there locked)))
+          (aside_or c.halt)
+
+    -- the book before the line has its place
+    step_halted : (n : Member) (ms : List Member) → n.id ≡ h.by → OtherNotesStay h.by x.had w.had → h.step ≤ steps_most → IsBetween plants copies x ms h.step → LeftBetween y (set ms (h.by.0 - 1) n) (h.step + 1)
+    step_halted n ms id notes few is = let before_of : IsMember mid.book h.by → IsMember x.book h.by = λ at. (at.0, let le = at.1 in let many = mid_book.many in omega (arith, le, many)) in
+        let book_since : Since x.book w.book = then_since x.book mid.book w.book mid_book (subst (λ (b : Book). Since mid.book b) (sym book_after) (play_since h.by play count may.seated cut)) in
+        halted_between x y (base ∙ mid_base) (since ∙ mid_since) book_since h.by may.some (inside_since x.book w.book h.by book_since (before_of may.seated))
+        (subst (λ (b : Book). IsHeldBy h.by b) (sym book_after) (held_left h.by cut play count may.free)) its_down goes away notes n ms h.step few is id quiet_aside
+        (earlier_more h.step (journal_of w) mid.batches left.leaves.more left.leaves.journal mid_earlier
+        (left_earlier h.by h.step cut play count (plants.view mid.plant).now (plants.view w.plant).now left.leaves.more left.of left.leaves.batches))
+        (λ k later less small t.
+        let wr = told t in
+        let ls = (left_of plants copies h.by wr.1 wr.0 mid).lines in
+        untold_then plants copies x w (base ∙ mid_base) (since ∙ mid_since) is.begun goes.past ls (λ u. wr.3.console ∙ ap (λ (l : List Line). l ++ ls) (mid_quiet u)) k later
+        (left_tells h.by h.step wr.1 (play_in h.by wr.0 mid.book (queue_of mid)) count wr.2 later less small)
+        (is.untold k later (omega (arith, less)) small) t)
 
 module _ {P C : Type 0} (plants : PlantGhosts P) (copies : CopyGhosts C) where
   -- what it wrote, by its answer
@@ -70,10 +701,9 @@ module _ {P C : Type 0} {plants : PlantGhosts P} {steadies : SteadyGhosts C} {co
     next_by (Err e) left wrote now = tt
 
     module _ (r : Result (Unit {0}) NodeNo) (left : HasCut plants copies h pieces cut t q r) (wrote : plants.tells → HasWritten plants copies h t q r) where
-      pub turned_next : OnOk r (IsNowAside plants copies h q (page_count x.base.config) n) → OnOk r (BetweenLines y (set ms (h.by.0 - 1) n) (h.step + 1))
-      turned_next now = next_by r left wrote now
-
-      pub turned_halted : r ≡ Err no_node.Halted → LeftBetween y (set ms (h.by.0 - 1) n) (h.step + 1)
-      turned_halted e =
-          step_halted p t h t_base t_since t_book may t_earlier t_quiet y base since pieces cut (subst (λ (k : Result (Unit {0}) NodeNo). HasCut plants copies h pieces cut t q k) e left)
-          on away quiet (λ tells. subst (λ (k : Result (Unit {0}) NodeNo). HasWritten plants copies h t q k) e (wrote tells)) n ms id notes few is
+      pub turned : OnOk r (IsNowAside plants copies h q (page_count x.base.config) n) → OnOk r (BetweenLines y (set ms (h.by.0 - 1) n) (h.step + 1)) × (r ≡ Err no_node.Halted → LeftBetween y (set ms (h.by.0 - 1) n) (h.step + 1))
+      turned now = (
+        next_by r left wrote now,
+        λ e. step_halted p t h t_base t_since t_book may t_earlier t_quiet y base since pieces cut (subst (λ (k : Result (Unit {0}) NodeNo). HasCut plants copies h pieces cut t q k) e left)
+            on away quiet (λ tells. subst (λ (k : Result (Unit {0}) NodeNo). HasWritten plants copies h t q k) e (wrote tells)) n ms id notes few is,
+      )

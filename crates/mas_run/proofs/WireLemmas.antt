@@ -1,73 +1,31 @@
 -- Bytes on lines to other nodes: what a line of a script gives and takes, from what its step does.
-use Rattle.std.proofs.Common.{◌≡◌, ◌≢◌, ◌⊎◌, inl, inr, ℕ, zero, suc, ◌+◌, ◌*◌, Bool, true, false, not, if◌then◌else◌, List, [], ◌∷◌, ◌++◌, append-nil, drop, length, take, Option, Some, None, Result, Ok, Err, refl, sym, ◌∙◌, ap, subst, arith}
-use Rattle.std.proofs.Math.Seq.{drop-append_seam}
-use Rattle.mas_types.specs.declared.commands.Command.TheVariants as command
-use Rattle.mas_types.specs.declared.ids.MemberId.{MemberId}
-use Rattle.mas_types.specs.declared.queues.Config.{Config}
-use Rattle.mas_types.specs.declared.queues.Queue.{Queue}
-use Rattle.mas_types.specs.Queue.{is_member}
-use Rattle.mas_types.specs.Run.{run}
-use Rattle.lock_cycle.specs.Books.{Book, is_stopped}
-use Rattle.script_lang.specs.declared.types.Ask.{Ask}
-use Rattle.script_lang.specs.declared.types.Ask.TheVariants as ask
-use Rattle.spool_plant.specs.Acts.{SameWires}
-use Rattle.spool_plant.specs.View.{View, given_now, taken_now}
-use Rattle.spool_plant.specs.declared.plant.Plant.{Ghosts as PlantGhosts}
-use Rattle.mas_complex.specs.Parts.{Parts}
+use Rattle.mas_run.proofs.Names.{◌≡◌, ◌≢◌, ◌⊎◌, inl, inr, ℕ, zero, suc, ◌+◌, ◌*◌, Bool, true, false, not, if◌then◌else◌, List, [], ◌∷◌, ◌++◌, append-nil, drop, length, take, Option, Some, None, Result, Ok, Err, refl, sym, ◌∙◌, ap, subst, arith, ◌-◌, ◌≤◌, ◌<◌, ◌==◌, append_assoc, set, slice_get, drop-append_seam, MemberId, Config, Queue, is_member, run, Book, is_stopped, Ask, SameWires, View, given_now, taken_now, World, Ghosts as PlantGhosts, Parts, Finds, holder_then, sittings_most, all_entries, given_in, reply_to, Acknowledge, Exchange, PrintLines, ReadText, SpoolArrival, SpoolDeck, SpoolOutputs, Found, Holder, Offer, State, Away, Fresh, Task, Deck, Give, Node, Work, Wait, waits_in, GivesOnly, Hears, HearsAtFirst, HearsIn, HearsStep, TakesNothing, line_served, IsElsewhere, NodeNo, wires_then, Admission, Denied, Frees, Locks, Plays, Refused, Replaces, Resets, TakesOver, Unplayed, admitted, asked, Piece, piece_at, pieces_from, unless_told, count_then, Sight, LineAt, is_of_member, Carries, HasHeard, HeardFirst, HeardIn, stream_since, waits_as, Completes, HasRead, AreReaders, reader_place, eqb-true, nat_tests, get_or-set_other, get_or-set_same, length-set, set-get_or, IsLine, same_member, wires_most, same_member_is, ReadsAnyPieces, seated}
 use Rattle.nje_frames.specs.declared.frames.Frame.{Frame}
-use Rattle.nje_frames.specs.Streams.{HasFed, frames_in}
-use Rattle.step_turns.specs.Courses.{Finds, holder_then, sittings_most}
-use Rattle.step_turns.specs.Entries.{all_entries, given_in, reply_to}
+use Rattle.nje_frames.specs.Streams.{HasFed, frames_in, open_end}
 use Rattle.step_turns.specs.Serving.{offered, taken_most}
 use Rattle.step_turns.specs.declared.states.Aside.{Aside}
-use Rattle.step_turns.specs.declared.states.Aside.TheVariants.{Acknowledge, Exchange, PrintLines, ReadText, SpoolArrival, SpoolDeck, SpoolOutputs}
-use Rattle.step_turns.specs.declared.states.Found.{Found}
-use Rattle.step_turns.specs.declared.states.Holder.{Holder}
-use Rattle.step_turns.specs.declared.states.Offer.{Offer}
-use Rattle.step_turns.specs.declared.states.State.{State}
-use Rattle.step_turns.specs.declared.states.State.TheVariants.{Away, Fresh, Rested, Told}
-use Rattle.step_turns.specs.declared.states.Task.{Task}
-use Rattle.step_turns.specs.declared.states.Task.TheVariants.{Deck, Give, Line as Node, Work}
-use Rattle.member_hand.specs.Found.{Wait, waits_in}
-use Rattle.member_hand.specs.Hears.{GivesOnly, Hears, HearsAtFirst, HearsIn, HearsStep, TakesNothing, line_served}
-use Rattle.member_node.specs.declared.member.NodeNo.{NodeNo}
-use Rattle.member_node.proofs.CourseLemmas.{wires_then}
-use Rattle.run_turns.specs.Admissions.{Admission, Denied, Frees, Locks, Plays, Refused, Replaces, Resets, TakesOver, Unplayed, admitted, asked}
-use Rattle.run_turns.specs.Pieces.{Piece, piece_at, pieces_from, unless_told}
-use Rattle.run_turns.specs.Scenes.{count_then}
-use Rattle.run_turns.specs.Sights.{Sight}
-use Rattle.mas_run.specs.LinesAt.{LineAt}
-use Rattle.mas_run.specs.LinesPlayed.{is_of_member}
-use Rattle.mas_run.specs.Wires.{Carries, HasHeard, HeardFirst, HeardIn, stream_since, waits_as}
-use Rattle.run_opening.specs.Wires.{Completes, HasRead}
+use Rattle.std.proofs.lemmas.Option.{get_or_from_slice_get, slice_get-get_or}
+use Rattle.run_opening.proofs.ReaderLemmas.{Readers, place_within}
+use Rattle.mas_types.specs.declared.commands.Command.TheVariants as command
+use Rattle.script_lang.specs.declared.types.Ask.TheVariants as ask
 
 -- NOTHING GIVEN OR TAKEN
 
 pub takes_none : (old new : View) → SameWires old new → TakesNothing old new
 takes_none old new same = record { taken = same.taken; waiting = same.waiting }
 
-gives_none : (by : MemberId) (served : Option ℕ) (given : List ℕ) (old new : View) → given ≡ [] → SameWires old new → GivesOnly by served given old new
-gives_none by served given old new none same = record {
-  given = λ w is. same.given w by.0 ∙ sym (append-nil (given_now old w by.0)) ∙ ap (λ (bytes : List ℕ). given_now old w by.0 ++ bytes) (sym none);
-  else_given = λ w m apart. same.given w m;
-  else_taken = λ w m apart. same.taken w m;
-}
-
 -- where it heard nothing either
 pub carries_none : (since : ℕ) (l : LineAt) (a : Admission) (given : List ℕ) (old new : View) → given ≡ [] → SameWires old new
     → HeardFirst since l.step.by old new l.given.sight.finds (waits_as l a) → Carries since l a given old new
-carries_none since l (Plays (Node line)) given old new none same heard = record { gives = gives_none l.step.by (Some line) given old new none same; hears = heard }
-carries_none since l (Plays (Give c)) given old new none same heard = same
-carries_none since l (Plays (Deck fields text)) given old new none same heard = same
-carries_none since l (Plays (Work n)) given old new none same heard = same
+carries_none since l (Plays (Node line)) given old new none same heard = let gives_none : (by : MemberId) (served : Option ℕ) (given : List ℕ) (old new : View) → given ≡ [] → SameWires old new → GivesOnly by served given old new = λ by served given old new none same. record {
+  given = λ w is. same.given w by.0 ∙ sym (append-nil (given_now old w by.0)) ∙ ap (λ (bytes : List ℕ). given_now old w by.0 ++ bytes) (sym none);
+  else_given = λ w m apart. same.given w m;
+  else_taken = λ w m apart. same.taken w m;
+} in
+    record { gives = gives_none l.step.by (Some line) given old new none same; hears = heard }
 carries_none since l (Refused sayer end) given old new none same heard = (none, same)
 carries_none since l (Denied why) given old new none same heard = (none, same)
-carries_none since l (Resets of) given old new none same heard = same
-carries_none since l (Replaces dev) given old new none same heard = same
-carries_none since l (TakesOver of) given old new none same heard = same
-carries_none since l Locks given old new none same heard = same
-carries_none since l Frees given old new none same heard = same
-carries_none since l Unplayed given old new none same heard = same
+carries_none since l _ given old new none same heard = same
 
 -- a line that isn't one of a member
 module _ (since : ℕ) (l : LineAt) (given : List ℕ) (old new : View) (none : given ≡ []) (same : SameWires old new) where
@@ -79,13 +37,8 @@ module _ (since : ℕ) (l : LineAt) (given : List ℕ) (old new : View) (none : 
   asked_mute config b by ask.Stop mute = same
   asked_mute config b by (ask.StopIn fuse n) mute = same
   asked_mute config b by (ask.Lose dev) mute = same
-  asked_mute config b by (ask.Deck cards) mute = absurd (cc)
   asked_mute config b by (ask.Command c) mute = absurd (cc)
-  asked_mute config b by (ask.Work n) mute = absurd (cc)
-  asked_mute config b by ask.Lock mute = absurd (cc)
-  asked_mute config b by ask.Free mute = absurd (cc)
-  asked_mute config b by (ask.Line n) mute = absurd (cc)
-  asked_mute config b by (ask.Replace dev) mute = absurd (cc)
+  asked_mute config b by _ mute = absurd (cc)
 
   pub mute_carries : (config : Config) (b : Book) (by : MemberId) (what : Ask) → is_of_member what ≡ false → Carries since l (admitted config b by what) given old new
   mute_carries config b by what mute = if_carries (not (is_member config by)) _ _ (none, same) (if_carries (is_stopped b by) _ _ (none, same) (asked_mute config b by what mute))
@@ -93,26 +46,11 @@ module _ (since : ℕ) (l : LineAt) (given : List ℕ) (old new : View) (none : 
 -- a line that serves none
 pub carries_still : (since : ℕ) (l : LineAt) (a : Admission) (given : List ℕ) (old new : View) → ((line : ℕ) → a ≢ Plays (Node line)) → Carries since l a given old new → SameWires old new
 carries_still since l (Plays (Node line)) given old new other c = absurd (other line refl)
-carries_still since l (Plays (Give command)) given old new other c = c
-carries_still since l (Plays (Deck fields text)) given old new other c = c
-carries_still since l (Plays (Work n)) given old new other c = c
 carries_still since l (Refused sayer end) given old new other c = c.1
 carries_still since l (Denied why) given old new other c = c.1
-carries_still since l (Resets of) given old new other c = c
-carries_still since l (Replaces dev) given old new other c = c
-carries_still since l (TakesOver of) given old new other c = c
-carries_still since l Locks given old new other c = c
-carries_still since l Frees given old new other c = c
-carries_still since l Unplayed given old new other c = c
+carries_still since l _ given old new other c = c
 
 -- OTHER ACTS AFTER IT
-
-gives_later : (by : MemberId) (served : Option ℕ) (given : List ℕ) (old mid new : View) → GivesOnly by served given old mid → SameWires mid new → GivesOnly by served given old new
-gives_later by served given old mid new gives same = record {
-  given = λ w is. same.given w by.0 ∙ gives.given w is;
-  else_given = λ w m apart. same.given w m ∙ gives.else_given w m apart;
-  else_taken = λ w m apart. same.taken w m ∙ gives.else_taken w m apart;
-}
 
 nothing_later : (old mid new : View) → TakesNothing old mid → SameWires mid new → TakesNothing old new
 nothing_later old mid new none same = record { taken = λ w m. same.taken w m ∙ none.taken w m; waiting = λ w. same.waiting w ∙ none.waiting w }
@@ -135,28 +73,26 @@ module _ (since : ℕ) (by : MemberId) (old mid new : View) (same : SameWires mi
 
   aside_later : (a : Aside) (found : Found) → HeardIn since by old mid (Away a) found → HeardIn since by old new (Away a) found
   aside_later (Exchange line offer) found h = exchange_later line offer found h
-  aside_later (SpoolDeck n text) found h = nothing_later old mid new h same
-  aside_later (ReadText runs n fields p) found h = nothing_later old mid new h same
-  aside_later (SpoolOutputs n specs p) found h = nothing_later old mid new h same
-  aside_later (PrintLines n i last p) found h = nothing_later old mid new h same
-  aside_later (SpoolArrival number n text s) found h = nothing_later old mid new h same
-  aside_later (Acknowledge number s) found h = nothing_later old mid new h same
+  aside_later _ found h = nothing_later old mid new h same
 
   in_later : (s : State) (found : Found) → HeardIn since by old mid s found → HeardIn since by old new s found
-  in_later (Fresh task) found h = nothing_later old mid new h same
   in_later (Away a) found h = aside_later a found h
-  in_later (Rested p) found h = nothing_later old mid new h same
-  in_later Told found h = nothing_later old mid new h same
+  in_later _ found h = nothing_later old mid new h same
 
-  pub heard_later : (finds : Finds) (ws : List Wait) → HeardFirst since by old mid finds ws → HeardFirst since by old new finds ws
+  heard_later : (finds : Finds) (ws : List Wait) → HeardFirst since by old mid finds ws → HeardFirst since by old new finds ws
   heard_later finds [] h = tt
   heard_later finds (w ∷ ws) h = in_later w.state (finds w.queue w.state) h
 
 pub carries_later : (since : ℕ) (l : LineAt) (a : Admission) (given : List ℕ) (old mid new : View) → SameWires mid new → Carries since l a given old mid → Carries since l a given old new
-carries_later since l (Plays (Node line)) given old mid new same c = record {
-  gives = gives_later l.step.by (Some line) given old mid new c.gives same;
-  hears = heard_later since l.step.by old mid new same l.given.sight.finds (waits_as l (Plays (Node line))) c.hears;
-}
+carries_later since l (Plays (Node line)) given old mid new same c = let gives_later : (by : MemberId) (served : Option ℕ) (given : List ℕ) (old mid new : View) → GivesOnly by served given old mid → SameWires mid new → GivesOnly by served given old new = λ by served given old mid new gives same. record {
+  given = λ w is. same.given w by.0 ∙ gives.given w is;
+  else_given = λ w m apart. same.given w m ∙ gives.else_given w m apart;
+  else_taken = λ w m apart. same.taken w m ∙ gives.else_taken w m apart;
+} in
+    record {
+      gives = gives_later l.step.by (Some line) given old mid new c.gives same;
+      hears = heard_later since l.step.by old mid new same l.given.sight.finds (waits_as l (Plays (Node line))) c.hears;
+    }
 carries_later since l (Plays (Give command)) given old mid new same c = wires_then old mid new c same
 carries_later since l (Plays (Deck fields text)) given old mid new same c = wires_then old mid new c same
 carries_later since l (Plays (Work n)) given old mid new same c = wires_then old mid new c same
@@ -175,14 +111,11 @@ carries_as since l a given other old new same c = subst (λ (bytes : List ℕ). 
 
 -- WHAT A TASK HEARD, by a reader that has read the stream
 
-stream_is : (before taken stream : List ℕ) → taken ≡ before ++ stream → drop (length before) taken ≡ stream
-stream_is before taken stream is = ap (λ (bytes : List ℕ). drop (length before) bytes) is ∙ drop-append_seam before stream
-
-pub some_same : (a b : Option (List ℕ)) → Some a ≡ Some b → a ≡ b
+some_same : (a b : Option (List ℕ)) → Some a ≡ Some b → a ≡ b
 some_same a b same = cc
 
 -- the same is open to a reader
-pub same_rest : (was : Option (List ℕ)) (a b : List ℕ) → was ≡ Some a → was ≡ Some b → a ≡ b
+same_rest : (was : Option (List ℕ)) (a b : List ℕ) → was ≡ Some a → was ≡ Some b → a ≡ b
 same_rest was a b one two = cc
 
 module _ (since : ℕ) (by : MemberId) (old new : View) (was is : Option (List ℕ)) where
@@ -194,7 +127,8 @@ module _ (since : ℕ) (by : MemberId) (old new : View) (was is : Option (List �
     before = (old.world since).taken line by.0
 
     stream : stream_since since old line by ≡ read.stream
-    stream = stream_is before (taken_now old line by.0) read.stream read.since
+    stream = let stream_is : (before taken stream : List ℕ) → taken ≡ before ++ stream → drop (length before) taken ≡ stream = λ before taken stream is. ap (λ (bytes : List ℕ). drop (length before) bytes) is ∙ drop-append_seam before stream in
+        stream_is before (taken_now old line by.0) read.stream read.since
 
     rest : was ≡ Some read.rest
     rest = some_same was (Some read.rest) read.is
@@ -211,7 +145,7 @@ module _ (since : ℕ) (by : MemberId) (old new : View) (was is : Option (List �
         ∙ sym (append-nil (frames_in read.stream)) ∙ ap (λ (fs : List Frame). frames_in read.stream ++ fs) (sym none.1)
         )
 
-  abbrev pub Read : ℕ → Type 0
+  abbrev Read : ℕ → Type 0
   Read line = HasRead ((old.world since).taken line by.0) (taken_now old line by.0) (Some was)
 
   aside_heard : (a : Aside) (found : Found) → ((line : ℕ) (offer : Option Offer) → a ≡ Exchange line offer → Read line) → HearsIn by old new was is (Away a) found
@@ -233,12 +167,10 @@ module _ (since : ℕ) (by : MemberId) (old new : View) (was is : Option (List �
   aside_heard (Acknowledge number s) found read h = h
 
   in_heard : (s : State) (found : Found) → ((line : ℕ) (offer : Option Offer) → s ≡ Away (Exchange line offer) → Read line) → HearsIn by old new was is s found → HeardIn since by old new s found
-  in_heard (Fresh task) found read h = h
   in_heard (Away a) found read h = aside_heard a found (λ line offer same. read line offer (ap (λ (b : Aside). Away b) same)) h
-  in_heard (Rested p) found read h = h
-  in_heard Told found read h = h
+  in_heard _ found read h = h
 
-  pub heard_by : (result : Result (Unit {0}) NodeNo) (finds : Finds) (ws : List Wait)
+  heard_by : (result : Result (Unit {0}) NodeNo) (finds : Finds) (ws : List Wait)
       → ((w : Wait) (more : List Wait) → ws ≡ w ∷ more → (line : ℕ) (offer : Option Offer) → w.state ≡ Away (Exchange line offer) → Read line)
       → HearsAtFirst by old new was is result finds ws → HeardFirst since by old new finds ws
   heard_by (Ok done) finds [] read h = absurd h
@@ -251,12 +183,9 @@ module _ (since : ℕ) (by : MemberId) (old new : View) (was is : Option (List �
 first_wait : (v w : Wait) (rest ws : List Wait) → v ∷ rest ≡ w ∷ ws → v.state ≡ w.state
 first_wait v w rest ws same = let is : v ≡ w = cc in ap (λ (k : Wait). k.state) is
 
-none_some : (w : Wait) (ws : List Wait) → [] ≡ w ∷ ws → ⊥
-none_some w ws e = absurd (cc)
-
 first_state : (more : ℕ) (sight : Sight) (count : ℕ) (Q : Queue) (h : Holder) (line k : ℕ) (w : Wait) (ws : List Wait)
     → waits_in (take k (pieces_from (suc more) sight count Q h (Fresh (Node line)))) Q ≡ w ∷ ws → (offer : Option Offer) × (w.state ≡ Away (Exchange line offer))
-first_state more sight count Q h line zero w ws same = absurd (none_some w ws same)
+first_state more sight count Q h line zero w ws same = let none_some : (w : Wait) (ws : List Wait) → [] ≡ w ∷ ws → ⊥ = λ w ws e. absurd (cc) in absurd (none_some w ws same)
 first_state more sight count Q h line (suc k) w ws same =
     let p = piece_at sight count Q h (Fresh (Node line)) in
     let es = all_entries p.sitting.batches in
@@ -266,13 +195,6 @@ first_state more sight count Q h line (suc k) w ws same =
     let o : Option Offer = offered (run Q (given_in Q h.by h.step (c ∷ []))) line (reply_to Q h.by c) in
     let at : v.state ≡ Away (Exchange line o) = refl in
     (o, sym (first_wait v w (waits_in (take k rest) (run Q es)) ws same) ∙ at)
-
-first_from : (most more : ℕ) (sight : Sight) (count : ℕ) (Q : Queue) (h : Holder) (s : State) (line k : ℕ) (ps : List Piece) → most ≡ suc more → s ≡ Fresh (Node line)
-    → ps ≡ pieces_from most sight count Q h s → (w : Wait) (ws : List Wait) → waits_in (take k ps) Q ≡ w ∷ ws → (offer : Option Offer) × (w.state ≡ Away (Exchange line offer))
-first_from most more sight count Q h s line k ps is state pieces w ws same =
-    first_state more sight count Q h line k w ws
-    (subst (λ (qs : List Piece). waits_in (take k qs) Q ≡ w ∷ ws)
-    (pieces ∙ ap (λ (n : ℕ). pieces_from n sight count Q h s) is ∙ ap (λ (t : State). pieces_from (suc more) sight count Q h t) state) same)
 
 -- A TASK: what its step gave and heard, by a reader that has read the stream of its line
 
@@ -285,19 +207,15 @@ WaitsOnLine task waits = (line : ℕ) → task ≡ Node line → (w : Wait) (mor
 
 pub waits_on : (sight : Sight) (count : ℕ) (Q : Queue) (h : Holder) (task : Task) (ps : List Piece) (k : ℕ) → ps ≡ pieces_from (sittings_most (Fresh task)) sight count Q h (Fresh task)
     → WaitsOnLine task (waits_in (take k ps) Q)
-waits_on sight count Q h task ps k pieces line same w more is =
+waits_on sight count Q h task ps k pieces line same w more is = let first_from : (most more : ℕ) (sight : Sight) (count : ℕ) (Q : Queue) (h : Holder) (s : State) (line k : ℕ) (ps : List Piece) → most ≡ suc more → s ≡ Fresh (Node line) → ps ≡ pieces_from most sight count Q h s → (w : Wait) (ws : List Wait) → waits_in (take k ps) Q ≡ w ∷ ws → (offer : Option Offer) × (w.state ≡ Away (Exchange line offer)) = λ most more sight count Q h s line k ps is state pieces w ws same. first_state more sight count Q h line k w ws
+    (subst (λ (qs : List Piece). waits_in (take k qs) Q ≡ w ∷ ws)
+    (pieces ∙ ap (λ (n : ℕ). pieces_from n sight count Q h s) is ∙ ap (λ (t : State). pieces_from (suc more) sight count Q h t) state) same) in
     let most : sittings_most (Fresh (Node line)) ≡ suc (2 * taken_most + 1) = omega arith in
     first_from (sittings_most (Fresh task)) (2 * taken_most + 1) sight count Q h (Fresh task) line k ps (ap (λ (t : Task). sittings_most (Fresh t)) same ∙ most) (ap (λ (t : Task). Fresh t) same) pieces w more is
 
-exchange_line : (line other : ℕ) (offer more : Option Offer) → Away (Exchange line offer) ≡ Away (Exchange other more) → line ≡ other
-exchange_line line other offer more same = cc
-
-none_served : (w : ℕ) → None ≡ Some w → ⊥
-none_served w e = absurd (cc)
-
 -- nothing was taken, nor given on a line that is none
 same_wires : (by : MemberId) (given : List ℕ) (old new : View) → GivesOnly by None given old new → TakesNothing old new → SameWires old new
-same_wires by given old new gives none = record {
+same_wires by given old new gives none = let none_served : (w : ℕ) → None ≡ Some w → ⊥ = λ w e. absurd (cc) in record {
   waiting = none.waiting;
   taken = none.taken;
   given = λ w m. gives.else_given w m (inl (none_served w));
@@ -310,15 +228,155 @@ module _ {P C : Type 0} (plants : PlantGhosts P) (x : Parts P C) (l : LineAt) (g
   pub task_carries : (task : Task) → GivesOnly l.step.by (line_served (Fresh task)) given old new
       → HearsStep l.step.by old new was is (Fresh task) result l.given.sight.finds waits → waits_as l (Plays task) ≡ waits → ReadsLine plants x l.step.by task was → WaitsOnLine task waits
       → Carries x.since l (Plays task) given old new
-  task_carries (Give c) gives hears same read first = same_wires l.step.by given old new gives hears
-  task_carries (Deck fields text) gives hears same read first = same_wires l.step.by given old new gives hears
   task_carries (Work n) gives hears same read first = same_wires l.step.by given old new gives hears
-  task_carries (Node line) gives hears same read first = record {
-    gives = gives;
-    hears = subst (λ (ws : List Wait). HeardFirst x.since l.step.by old new l.given.sight.finds ws) (sym same)
-        (heard_by x.since l.step.by old new was is result l.given.sight.finds waits
-        (λ w more so other offer at.
-        let on = first line refl w more so in
-        subst (λ (k : ℕ). Read x.since l.step.by old new was is k) (exchange_line line other on.0 offer (sym on.1 ∙ at)) (read line refl))
-        hears);
+  task_carries (Node line) gives hears same read first = let exchange_line : (line other : ℕ) (offer more : Option Offer) → Away (Exchange line offer) ≡ Away (Exchange other more) → line ≡ other = λ line other offer more same. cc in
+      record {
+        gives = gives;
+        hears = subst (λ (ws : List Wait). HeardFirst x.since l.step.by old new l.given.sight.finds ws) (sym same)
+            (heard_by x.since l.step.by old new was is result l.given.sight.finds waits
+            (λ w more so other offer at.
+            let on = first line refl w more so in
+            subst (λ (k : ℕ). Read x.since l.step.by old new was is k) (exchange_line line other on.0 offer (sym on.1 ∙ at)) (read line refl))
+            hears);
+      }
+  task_carries _ gives hears same read first = same_wires l.step.by given old new gives hears
+
+-- ONE READER
+
+-- the frames of two pieces of a stream
+-- it took these bytes more
+read_more : (before taken after : List ℕ) (was is : Option (List ℕ)) (bytes : List ℕ) (frames : List Frame) → ReadsAnyPieces → HasRead before taken (Some was) → after ≡ taken ++ bytes
+    → HasFed was is bytes [] frames ⊎ ((bytes ≡ []) × (frames ≡ []) × (is ≡ was)) → HasRead before after (Some is)
+read_more before taken after was is bytes frames law h more (inl reads) = let two_pieces : ReadsAnyPieces → (s t : List ℕ) → frames_in (s ++ t) ≡ frames_in s ++ frames_in (open_end s ++ t) = λ law s t. ap (λ (u : List ℕ). frames_in (s ++ u)) (sym (append-nil t)) ∙ sym (law (s ∷ t ∷ []))
+    ∙ ap (λ (f : List Frame). frames_in s ++ f) (append-nil (frames_in (open_end s ++ t))) in
+    let rest : reads.rest ≡ h.rest = same_rest was reads.rest h.rest reads.was (some_same was (Some h.rest) h.is) in
+    record {
+      stream = h.stream ++ bytes;
+      since = more ∙ ap (λ (k : List ℕ). k ++ bytes) h.since ∙ append_assoc before h.stream bytes;
+      rest = open_end (h.rest ++ bytes);
+      is = ap (λ (k : Option (List ℕ)). Some k) (reads.now_is ∙ ap (λ (k : List ℕ). Some (open_end (k ++ bytes))) rest);
+      goes_on = λ next.
+          ap frames_in (append_assoc h.stream bytes next) ∙ h.goes_on (bytes ++ next)
+          ∙ ap (λ (k : List ℕ). frames_in h.stream ++ frames_in k) (sym (append_assoc h.rest bytes next))
+          ∙ ap (λ (f : List Frame). frames_in h.stream ++ f) (two_pieces law (h.rest ++ bytes) next)
+          ∙ sym (append_assoc (frames_in h.stream) (frames_in (h.rest ++ bytes)) (frames_in (open_end (h.rest ++ bytes) ++ next)))
+          ∙ ap (λ (f : List Frame). f ++ frames_in (open_end (h.rest ++ bytes) ++ next)) (sym (h.goes_on bytes));
+    }
+read_more before taken after was is bytes frames law h more (inr none) =
+    let same : after ≡ taken = more ∙ ap (λ (k : List ℕ). taken ++ k) none.0 ∙ append-nil taken in
+    subst (λ (k : List ℕ). HasRead before k (Some is)) (sym same) (subst (λ (k : Option (List ℕ)). HasRead before taken (Some k)) (sym none.2) h)
+
+-- what a step took that ended well
+module _ (by : MemberId) (old new : View) (was is : Option (List ℕ)) where
+  hears_first : (n : ℕ) (finds : Finds) (ws : List Wait) → HearsAtFirst by old new was is (Ok tt) finds ws
+      → ((w : Wait) (more : List Wait) → ws ≡ w ∷ more → (offer : Option Offer) × (w.state ≡ Away (Exchange n offer))) → (offer : Option Offer) × (found : Found) × Hears by n offer found was is old new
+  hears_first n finds [] h first = absurd h
+  hears_first n finds (w ∷ ws) h first =
+      let on = first w ws refl in
+      (on.0, finds w.queue w.state, subst (λ (s : State). HearsIn by old new was is s (finds w.queue w.state)) on.1 h)
+
+  pub read_after : (task : Task) (finds : Finds) (waits : List Wait) (before : List ℕ) (n : ℕ) → ReadsAnyPieces → HearsStep by old new was is (Fresh task) (Ok tt) finds waits → WaitsOnLine task waits
+      → task ≡ Node n → HasRead before (taken_now old n by.0) (Some was) → HasRead before (taken_now new n by.0) (Some is)
+  read_after task finds waits before n law hears first same read =
+      let h = hears_first n finds waits (subst (λ (t : Task). HearsStep by old new was is (Fresh t) (Ok tt) finds waits) same hears) (λ w more is_so. first n same w more is_so) in
+      read_more before (taken_now old n by.0) (taken_now new n by.0) was is h.2.bytes h.1.frames law read h.2.taken h.2.read
+
+-- THE LIST OF THEM
+
+pub set_still : (rs : Readers) (j : ℕ) (was is : Option (List ℕ)) → slice_get rs j ≡ Some was → is ≡ was → set rs j is ≡ rs
+set_still rs j was is here same =
+    ap (λ (r : Option (List ℕ)). set rs j r) (same ∙ sym (get_or_from_slice_get rs j was None here)) ∙ set-get_or rs j None
+
+-- THEIR PLACES
+
+-- WHAT THEY HAVE READ, once a line of a script was played
+
+module _ {P C : Type 0} (plants : PlantGhosts P) (x y : Parts P C) (base : y.base ≡ x.base) (since : y.since ≡ x.since) (booked : length x.book.members ≡ x.base.config.members)
+    (rs : Readers) (read : AreReaders plants x rs) (past : plants.tells → (plants.view y.plant).world x.since ≡ (plants.view x.plant).world x.since)
+    (up : plants.tells → (m : MemberId) → is_stopped y.book m ≡ false → is_stopped x.book m ≡ false) where
+  abbrev v : Parts P C → View
+  v z = plants.view z.plant
+
+  abbrev first : Parts P C → ℕ → MemberId → List ℕ
+  first z line m = ((v z).world z.since).taken line m.0
+
+  first_same : plants.tells → (line : ℕ) (m : MemberId) → first y line m ≡ first x line m
+  first_same t line m = ap (λ (n : ℕ). ((v y).world n).taken line m.0) since ∙ ap (λ (w : World). w.taken line m.0) (past t)
+
+  member_same : (m : MemberId) → is_member y.base.config m ≡ true → is_member x.base.config m ≡ true
+  member_same m is = subst (λ (Q : Queue). is_member Q.config m ≡ true) base is
+
+  many_same : wires_most * x.base.config.members ≡ wires_most * y.base.config.members
+  many_same = ap (λ (Q : Queue). wires_most * Q.config.members) (sym base)
+
+  moved : plants.tells → (m : MemberId) (line : ℕ) (r : Option (Option (List ℕ))) → taken_now (v y) line m.0 ≡ taken_now (v x) line m.0
+      → HasRead (first x line m) (taken_now (v x) line m.0) r → HasRead (first y line m) (taken_now (v y) line m.0) r
+  moved t m line r same h =
+      subst (λ (b : List ℕ). HasRead b (taken_now (v y) line m.0) r) (sym (first_same t line m)) (subst (λ (k : List ℕ). HasRead (first x line m) k r) (sym same) h)
+
+  -- nothing was taken
+  pub readers_still : (plants.tells → SameWires (v x) (v y)) → AreReaders plants y rs
+  readers_still same = record {
+    many = read.many ∙ many_same;
+    each = λ t m line member inside is_up. moved t m line (slice_get rs (reader_place m line)) ((same t).taken line m.0) (read.each t m line (member_same m member) inside (up t m is_up));
   }
+
+  -- a member took bytes from a line, and from no other one
+  module _ (by : MemberId) (n : ℕ) (its_line : IsLine n) (its : is_member x.base.config by ≡ true) (is : Option (List ℕ))
+      (else_taken : plants.tells → (w m : ℕ) → IsElsewhere (Some n) by w m → taken_now (v y) w m ≡ taken_now (v x) w m)
+      (own : plants.tells → is_stopped y.book by ≡ false → HasRead (first x n by) (taken_now (v y) n by.0) (Some is)) where
+    abbrev place : ℕ
+    place = reader_place by n
+
+    inside_all : (m : MemberId) (line : ℕ) → is_member x.base.config m ≡ true → IsLine line → reader_place m line < length rs
+    inside_all m line member inside =
+        let seat = seated x.base.config x.book m booked member in
+        let few : m.0 ≤ x.base.config.members = subst (λ (k : ℕ). m.0 ≤ k) booked seat.1 in
+        subst (λ (k : ℕ). reader_place m line < k) (sym read.many) (place_within m line x.base.config.members seat.0 few inside)
+
+    abbrev ReadAt : MemberId → ℕ → Type 0
+    ReadAt m line = HasRead (first y line m) (taken_now (v y) line m.0) (slice_get (set rs place is) (reader_place m line))
+
+    else_now : plants.tells → (m : MemberId) (line : ℕ) → is_member x.base.config m ≡ true → IsLine line → is_stopped y.book m ≡ false → IsElsewhere (Some n) by line m.0
+        → (m.0 ≡ by.0 → line ≡ n → ⊥) → ReadAt m line
+    else_now t m line member inside is_up elsewhere apart = let other_place : (m : MemberId) (line : ℕ) → is_member x.base.config m ≡ true → IsLine line → (m.0 ≡ by.0 → line ≡ n → ⊥) → reader_place m line ≢ place = λ m line member inside apart same. let same_line : (m line other : ℕ) → IsLine line → IsLine other → wires_most * (m - 1) + (line - 1) ≡ wires_most * (m - 1) + (other - 1) → line ≡ other = λ m line other inside within same. omega (arith, inside.0, inside.1, within.0, within.1, same) in
+        let same_number : (m k line other : ℕ) → 1 ≤ m → 1 ≤ k → IsLine line → IsLine other → wires_most * (m - 1) + (line - 1) ≡ wires_most * (k - 1) + (other - 1) → m ≡ k = λ m k line other some more inside within same. omega (arith, some, more, inside.0, inside.1, within.0, within.1, same) in
+        let seat = seated x.base.config x.book m booked member in
+        let mine = seated x.base.config x.book by booked its in
+        let number : m.0 ≡ by.0 = same_number m.0 by.0 line n seat.0 mine.0 inside its_line same in
+        apart number (same_line by.0 line n inside its_line (ap (λ (k : ℕ). wires_most * (k - 1) + (line - 1)) (sym number) ∙ same)) in
+        let get_set_other : (rs : Readers) (j k : ℕ) (r : Option (List ℕ)) → k < length rs → k ≢ j → slice_get (set rs j r) k ≡ slice_get rs k = λ rs j k r less other. let many : length (set rs j r) ≡ length rs = length-set rs j r in
+        slice_get-get_or (set rs j r) k None (omega (arith, less, many)) ∙ ap (λ (q : Option (List ℕ)). Some q) (get_or-set_other rs j k r None other)
+        ∙ sym (slice_get-get_or rs k None less) in
+        subst (λ (r : Option (Option (List ℕ))). HasRead (first y line m) (taken_now (v y) line m.0) r)
+        (sym (get_set_other rs place (reader_place m line) is (inside_all m line member inside) (other_place m line member inside apart)))
+        (moved t m line (slice_get rs (reader_place m line)) (else_taken t line m.0 elsewhere) (read.each t m line member inside (up t m is_up)))
+
+    true_false : true ≡ false → ⊥
+    true_false e = absurd (cc)
+
+    each_now : plants.tells → (m : MemberId) (line : ℕ) → is_member x.base.config m ≡ true → IsLine line → is_stopped y.book m ≡ false → ReadAt m line
+    each_now t m line member inside is_up = by_tests (same_member m by) (line == n) refl refl where
+      by_tests : (k j : Bool) → same_member m by ≡ k → (line == n) ≡ j → ReadAt m line
+      by_tests true true mine here = let own_now : plants.tells → is_stopped y.book by ≡ false → ReadAt by n = λ t is_up. let get_set_own : (rs : Readers) (j : ℕ) (r : Option (List ℕ)) → j < length rs → slice_get (set rs j r) j ≡ Some r = λ rs j r less. let many : length (set rs j r) ≡ length rs = length-set rs j r in
+          slice_get-get_or (set rs j r) j None (omega (arith, less, many)) ∙ ap (λ (k : Option (List ℕ)). Some k) (get_or-set_same rs j r None less) in
+          subst (λ (r : Option (Option (List ℕ))). HasRead (first y n by) (taken_now (v y) n by.0) r) (sym (get_set_own rs place is (inside_all by n its its_line)))
+          (subst (λ (b : List ℕ). HasRead b (taken_now (v y) n by.0) (Some is)) (sym (first_same t n by)) (own t is_up)) in
+          let same : m ≡ by = same_member_is m by mine in
+          subst (λ (q : MemberId). ReadAt q line) (sym same)
+          (subst (λ (q : ℕ). ReadAt by q) (sym (eqb-true line n here)) (own_now t (subst (λ (q : MemberId). is_stopped y.book q ≡ false) same is_up)))
+      by_tests true false mine here = else_now t m line member inside is_up (inl some_apart) (λ number same. true_false (sym (is_here same) ∙ here)) where
+        is_here : line ≡ n → (line == n) ≡ true
+        is_here e = grind (arith, nat_tests, e)
+
+        some_apart : Some n ≢ Some line
+        some_apart e = true_false (sym (is_here (let same : line ≡ n = cc in same)) ∙ here)
+      by_tests false j mine here = else_now t m line member inside is_up (inr not_mine) (λ number same. not_mine number) where
+        not_mine : m.0 ≢ by.0
+        not_mine e = true_false (sym (let is_so : same_member m by ≡ true = grind (arith, nat_tests, e) in is_so) ∙ mine)
+
+    pub readers_served : AreReaders plants y (set rs place is)
+    readers_served = record {
+      many = length-set rs place is ∙ read.many ∙ many_same;
+      each = λ t m line member inside is_up. each_now t m line (member_same m member) inside is_up;
+    }

@@ -2,7 +2,7 @@
 use Rattle.std.specs.Prelude.{ℕ, ◌+◌, ◌^◌}
 use Rattle.step_turns.specs.declared.states.State.TheVariants.{Fresh}
 use Rattle.step_turns.specs.declared.states.Task.TheVariants.{Line}
-use Rattle.member_hand.specs.Quiet.{levels_for}
+use Rattle.member_resets.specs.Quiet.{levels_for}
 
 -- how many levels a line may use: one that serves a line to another node uses most, and a takeover one more
 abbrev pub levels_most : ℕ

@@ -15,6 +15,6 @@ pub mod LinesLeft
 pub mod LinesPlayed
 pub mod Calm
 pub mod Unstopped
-pub mod MuteLines
-pub use Rattle.member_hand.specs.Cuts
+pub mod LinesDone
+pub use Rattle.member_resets.specs.Cuts
 pub use Rattle.member_resets.specs.Settling

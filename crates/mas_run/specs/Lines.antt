@@ -1,5 +1,5 @@
 -- A line of a script as it was played: what it gave, why it was cut, and what it did to the plant.
-use Rattle.std.specs.Prelude.{◌≡◌, ◌≢◌, ◌⊎◌, ℕ, ◌+◌, ◌≤◌, ◌<◌, ◌==◌, ◌&&◌, Bool, true, false, if◌then◌else◌, List, [], ◌++◌, length, map, take, Option, Some, None, Result, Ok, Err}
+use Rattle.std.specs.Prelude.{◌≡◌, ◌≢◌, ◌⊎◌, ℕ, ◌+◌, ◌<◌, ◌==◌, ◌&&◌, Bool, true, false, if◌then◌else◌, List, [], ◌++◌, length, map, take, Option, Some, None, Result, Ok, Err}
 use Rattle.mas_types.specs.declared.ids.Dev.{Dev}
 use Rattle.mas_types.specs.declared.ids.Dev.TheVariants.{Ckpt1, Ckpt2, Spool}
 use Rattle.mas_types.specs.declared.ids.MemberId.{MemberId}
@@ -22,8 +22,8 @@ use Rattle.run_turns.specs.Pieces.{Piece, fate_found}
 use Rattle.run_turns.specs.Steps.{is_up}
 use Rattle.run_turns.specs.Givens.{IsRight, queue_met}
 use Rattle.mas_run.specs.LinesAt.{LineAt, admitted_at, pieces_as, pieces_at, played_at}
-use Rattle.member_hand.specs.Cuts.{AreBatched, AtCut, IsBroken, IsHaltBy, IsTight, whole_pieces}
-use Rattle.member_hand.specs.Found.{AreFoundIn, named_in, waits_in}
+use Rattle.member_resets.specs.Cuts.{AreBatched, AtCut, IsBroken, IsHaltBy, IsTight, whole_pieces}
+use Rattle.member_resets.specs.Found.{AreFoundIn, named_in, waits_in}
 use Rattle.mas_run.specs.Shapes.{IsShaped}
 use Rattle.run_opening.specs.Volumes.{AreVolumesKept}
 use Rattle.run_opening.specs.Lines.{HasStopped, OnlyStops, Proceeds, StaysLost}

@@ -5,7 +5,7 @@ use Rattle.mas_types.specs.declared.ids.Dev.{Dev}
 use Rattle.mas_types.specs.declared.ids.MemberId.{MemberId}
 use Rattle.mas_types.specs.declared.journals.Batch.{Batch}
 use Rattle.mas_types.specs.Closings.{closing_line}
-use Rattle.lock_cycle.specs.Books.{is_stopped}
+use Rattle.lock_cycle.specs.Books.{Book, is_stopped}
 use Rattle.spool_plant.specs.declared.plant.Part.TheVariants.{Console}
 use Rattle.spool_plant.specs.declared.plant.Plant.{Ghosts as PlantGhosts}
 use Rattle.spool_plant.specs.View.{View, paper_now}
@@ -13,6 +13,7 @@ use Rattle.spool_plant.specs.Acts.{Rose}
 use Rattle.ckpt_copy.specs.declared.copying.Copying.{Ghosts as CopyGhosts}
 use Rattle.ckpt_form.specs.declared.steady.Steady.{Ghosts as SteadyGhosts}
 use Rattle.mas_complex.specs.declared.complex.Complex.{Complex}
+use Rattle.mas_complex.specs.declared.renewals.Renewals.{Renewals}
 use Rattle.mas_complex.specs.Paper.{SamePapers, counts_of}
 use Rattle.mas_complex.specs.Parts.{Parts, parts_of}
 use Rattle.member_node.specs.declared.member.NodeNo.{NodeNo}
@@ -22,7 +23,7 @@ use Rattle.member_node.specs.Spares.{Spares, stopped_in}
 use Rattle.member_steps.specs.Saying.{OnConsole}
 use Rattle.member_sittings.specs.Sat.{journal_of}
 use Rattle.script_lang.specs.declared.types.Step.{Step}
-use Rattle.member_hand.specs.Cuts.{AreBatched, AtCut, IsBroken, IsHaltBy, IsTight, cause_by}
+use Rattle.member_resets.specs.Cuts.{AreBatched, AtCut, IsBroken, IsHaltBy, IsTight, cause_by}
 use Rattle.member_lines.specs.Closes.{ActsOnce}
 use Rattle.run_turns.specs.Sights.{Cut}
 use Rattle.run_turns.specs.Cuts.{Left, left_by, whole}
@@ -60,57 +61,82 @@ left_as l a = left_by l.step.by l.given.sight.cut (play_as l a) (l.scene.counts 
 abbrev pub left_at : LineAt → Left
 left_at l = left_as l (admitted_at l)
 
+-- what is seen of the shared value before a line, and after it
+pub record Seen : Type 0 where
+  pub view : View
+  pub since : ℕ
+  pub journal : List Batch
+  pub printed : List ℕ
+  pub renewals : Renewals
+
+module _ (reads : List ℕ → Option (List ℕ)) where
+  -- The line that was admitted so, on the value from before it was tested to after it was played. Where the answer is
+  -- Halted its member is stopped in the book, and nothing was said of that yet.
+  pub record LeavesAs (told : Type 0) (l : LineAt) (a : Admission) (x y : Seen) (after : Book)
+      (result : Result (Unit {0}) NodeNo) : Type 0 where
+    pub goes : Proceeds x.view y.view
+    pub stays : (d : Dev) → is_replaced d a ≡ false → StaysLost d x.view y.view
+    pub arms : (m : ℕ) → y.view.arms m ≡ x.view.arms m
+    pub shaped : told ⊎ IsShapedAs l x.view y.view a
+    pub right : told → ArePiecesOf l.scene l.step.by l.number a l.given
+    pub honest : told → IsHonestAs l a l.given.sight.cut x.view y.view
+    pub stay : told → StaysAs l a l.given.sight.cut x.view y.view
+    pub cut : IsCutBy result (pieces_as l a) l.given.sight.cut
+    pub tight : IfIdle (is_work a) (AtCut (IsTight (ended_as result)) l.given.sight.cut (pieces_as l a))
+    pub broke : told → AtCut (IsBroken (ended_as result)) l.given.sight.cut (pieces_as l a)
+    pub spares : Spares l.step.by.0 (stopped_in result) x.view y.view
+    pub stopped : result ≡ Err no_node.Halted → Rose (x.view.stops l.step.by.0) (y.view.stops l.step.by.0)
+    pub failed : result ≡ Err no_node.ConsoleFault → Rose (x.view.faults Console) (y.view.faults Console)
+    -- the journal, with what was found of a batch in flight, and the book, unless the run ends here
+    pub own : List Batch
+    pub at : ℕ
+    pub moment : (x.view.now ≤ at) × (at ≤ y.view.now)
+    pub journal : y.journal ≡ settle (fate_found a l.given.sight) at x.journal ++ own
+    pub batches : AreBatched l.step.by x.view.now y.view.now (left_as l a).batches own
+    pub book : IfRuns result (after ≡ (left_as l a).book)
+    -- the console, the printers, and the counts of printed lines of members that aren't stopped
+    pub console : told → console_now y.view ≡ console_now x.view ++ (left_as l a).lines
+    pub paper : told → paper_now y.view l.step.by.0 ≡ paper_now x.view l.step.by.0 ++ (left_as l a).printed
+    pub other_papers : told → (m : ℕ) → m ≢ l.step.by.0 → paper_now y.view m ≡ paper_now x.view m
+    pub dry : told → PrintsNone a → SamePapers x.view y.view
+    pub count : told → is_stopped l.scene.book l.step.by ≡ false
+        → OnOk result (counts_of y.printed l.step.by ≡ (left_as l a).count)
+    pub other_counts : told → (m : MemberId) → m ≢ l.step.by → counts_of y.printed m ≡ counts_of x.printed m
+    pub loses : told → LosesAs reads (taking (is_takeover a) (fate_found a l.given.sight)) None x.view y.view
+    pub volumes : told → AdmissionLeaves a → AreVolumesKept x.view y.view
+    -- what it gave and took on a line to another node
+    pub wires : told → Carries x.since l a (left_as l a).given x.view y.view
+
+  -- a line of this number, at this scene
+  pub record LeavesAt (told : Type 0) (S : Scene) (at : ℕ) (step : Step) (x y : Seen) (after : Book)
+      (result : Result (Unit {0}) NodeNo) : Type 0 where
+    pub given : Given
+    pub left : LeavesAs told (record { scene = S; number = at; step = step; given = given })
+        (admitted S.queue.config S.book step.by step.what) x y after result
+    pub renews : RenewsAs (admitted S.queue.config S.book step.by step.what) given.sight.cut given.sight.renewed
+        x.renewals y.renewals x.view y.view
+
 module _ {P C : Type 0} (plants : PlantGhosts P) (copies : CopyGhosts C) where
   abbrev v : Parts P C → View
   v x = plants.view x.plant
 
-  -- The line that was admitted so, on the value from before it was tested to after it was played. Where the answer is
-  -- Halted its member is stopped in the book, and nothing was said of that yet.
-  pub record HasLeftAs (told : Type 0) (l : LineAt) (a : Admission) (x y : Parts P C)
-      (result : Result (Unit {0}) NodeNo) : Type 0 where
-    pub goes : Proceeds (v x) (v y)
-    pub stays : (d : Dev) → is_replaced d a ≡ false → StaysLost d (v x) (v y)
-    pub arms : (m : ℕ) → (v y).arms m ≡ (v x).arms m
-    pub shaped : told ⊎ IsShapedAs l (v x) (v y) a
-    pub right : told → ArePiecesOf l.scene l.step.by l.number a l.given
-    pub honest : told → IsHonestAs l a l.given.sight.cut (v x) (v y)
-    pub stay : told → StaysAs l a l.given.sight.cut (v x) (v y)
-    pub cut : IsCutBy result (pieces_as l a) l.given.sight.cut
-    pub tight : IfIdle (is_work a) (AtCut (IsTight (ended_as result)) l.given.sight.cut (pieces_as l a))
-    pub broke : told → AtCut (IsBroken (ended_as result)) l.given.sight.cut (pieces_as l a)
-    pub spares : Spares l.step.by.0 (stopped_in result) (v x) (v y)
-    pub stopped : result ≡ Err no_node.Halted → Rose ((v x).stops l.step.by.0) ((v y).stops l.step.by.0)
-    pub failed : result ≡ Err no_node.ConsoleFault → Rose ((v x).faults Console) ((v y).faults Console)
-    -- the journal, with what was found of a batch in flight, and the book, unless the run ends here
-    pub own : List Batch
-    pub at : ℕ
-    pub moment : ((v x).now ≤ at) × (at ≤ (v y).now)
-    pub journal : journal_of y ≡ settle (fate_found a l.given.sight) at (journal_of x) ++ own
-    pub batches : AreBatched l.step.by (v x).now (v y).now (left_as l a).batches own
-    pub book : IfRuns result (y.book ≡ (left_as l a).book)
-    -- the console, the printers, and the counts of printed lines of members that aren't stopped
-    pub console : told → console_now (v y) ≡ console_now (v x) ++ (left_as l a).lines
-    pub paper : told → paper_now (v y) l.step.by.0 ≡ paper_now (v x) l.step.by.0 ++ (left_as l a).printed
-    pub other_papers : told → (m : ℕ) → m ≢ l.step.by.0 → paper_now (v y) m ≡ paper_now (v x) m
-    pub dry : told → PrintsNone a → SamePapers (v x) (v y)
-    pub count : told → is_stopped l.scene.book l.step.by ≡ false
-        → OnOk result (counts_of y.printed l.step.by ≡ (left_as l a).count)
-    pub other_counts : told → (m : MemberId) → m ≢ l.step.by → counts_of y.printed m ≡ counts_of x.printed m
-    pub loses : told → LosesAs copies.reads (taking (is_takeover a) (fate_found a l.given.sight)) None (v x) (v y)
-    pub volumes : told → AdmissionLeaves a → AreVolumesKept (v x) (v y)
-    -- what it gave and took on a line to another node
-    pub wires : told → Carries x.since l a (left_as l a).given (v x) (v y)
+  abbrev pub seen_of : Parts P C → Seen
+  seen_of x = record {
+    view = v x;
+    since = x.since;
+    journal = journal_of x;
+    printed = x.printed;
+    renewals = x.renewals;
+  }
+
+  abbrev pub HasLeftAs : Type 0 → LineAt → Admission → Parts P C → Parts P C → Result (Unit {0}) NodeNo → Type 0
+  HasLeftAs told l a x y result = LeavesAs copies.reads told l a (seen_of x) (seen_of y) y.book result
 
   abbrev pub HasLeft : Type 0 → LineAt → Parts P C → Parts P C → Result (Unit {0}) NodeNo → Type 0
   HasLeft told l x y result = HasLeftAs told l (admitted_at l) x y result
 
-  -- a line of this number, at this scene
-  pub record LeftAt (told : Type 0) (S : Scene) (at : ℕ) (step : Step) (x y : Parts P C)
-      (result : Result (Unit {0}) NodeNo) : Type 0 where
-    pub given : Given
-    pub left : HasLeft told (record { scene = S; number = at; step = step; given = given }) x y result
-    pub renews : RenewsAs (admitted S.queue.config S.book step.by step.what) given.sight.cut given.sight.renewed
-        x.renewals y.renewals (v x) (v y)
+  abbrev pub LeftAt : Type 0 → Scene → ℕ → Step → Parts P C → Parts P C → Result (Unit {0}) NodeNo → Type 0
+  LeftAt told S at step x y result = LeavesAt copies.reads told S at step (seen_of x) (seen_of y) y.book result
 
   -- THE OPERATOR SAYS that a member was stopped in its line, or the console failed at that, or there was no memory for
   -- it; nobody is stopped, and no other act is made.

@@ -9,8 +9,8 @@ use Rattle.step_turns.specs.declared.states.Task.{Task}
 use Rattle.run_turns.specs.Admissions.{Admission, Plays, Resets, TakesOver}
 use Rattle.run_turns.specs.Givens.{ArePiecesOf}
 use Rattle.run_turns.specs.Pieces.{Piece, holder_of}
-use Rattle.member_hand.specs.Plays.{IsOwnPiece}
-use Rattle.member_hand.specs.Shapes.{AreShaped}
+use Rattle.member_resets.specs.Plays.{IsOwnPiece}
+use Rattle.member_resets.specs.Shapes.{AreShaped}
 use Rattle.mas_run.specs.LinesAt.{LineAt, admitted_at}
 use Rattle.member_resets.specs.Settling.{IsResetPiece}
 

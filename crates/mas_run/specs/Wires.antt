@@ -14,9 +14,9 @@ use Rattle.step_turns.specs.declared.states.State.{State}
 use Rattle.step_turns.specs.declared.states.State.TheVariants.{Away}
 use Rattle.step_turns.specs.declared.states.Task.{Task}
 use Rattle.step_turns.specs.declared.states.Task.TheVariants.{Line as Node}
-use Rattle.member_hand.specs.Cuts.{whole_pieces}
-use Rattle.member_hand.specs.Found.{Wait, waits_in}
-use Rattle.member_hand.specs.Hears.{GivesOnly, TakesNothing}
+use Rattle.member_resets.specs.Cuts.{whole_pieces}
+use Rattle.member_resets.specs.Found.{Wait, waits_in}
+use Rattle.member_resets.specs.Hears.{GivesOnly, TakesNothing}
 use Rattle.run_turns.specs.Admissions.{Admission, Denied, Plays, Refused}
 use Rattle.run_turns.specs.Givens.{queue_met}
 use Rattle.mas_run.specs.LinesAt.{LineAt, pieces_as}

@@ -1,5 +1,5 @@
 //! A run that has begun: its shared value and its members, and the lines of a script that are played on them.
-ghost use Rattle.std.specs.Prelude.{◌≡◌, ◌≤◌, ◌<◌, ◌+◌, length, true, Err, OnOk, All};
+ghost use Rattle.std.specs.Prelude.{◌≡◌, ◌≤◌, ◌<◌, length, true, Ok, OnOk, All};
 ghost use Rattle.mas_types.specs.Limits.{members_most, steps_most};
 ghost use Rattle.script_lang.specs.declared.types.Ask.TheVariants.{Lose, Stop, StopIn};
 ghost use Rattle.lock_cycle.specs.Books.{IsMember, left_of};
@@ -10,13 +10,12 @@ ghost use Rattle.mas_run.specs.Wires.{task_place};
 use mas_complex::{Complex, Steady};
 use mas_types::limits::WIRES_MOST;
 use mas_types::{Dev, List, MemberId};
-use member_hand::play_task;
 use member_lines::{
     Admission, Closed, admit, arm_line, free_line, lock_line, replace_line, say_denied,
     say_refused, say_stopped, stop_line,
 };
 use member_node::{Member, NodeNo};
-use member_resets::{reset_line, take_line};
+use member_resets::{play_task, reset_line, take_line};
 use nje_frames::{FrameReader, law_of_streams};
 use script_lang::{Ask, Step};
 use spool_plant::{Fuse, Plant};
@@ -80,15 +79,13 @@ fn reader_of(at: usize, task: &Task) -> usize
 
 impl<P: Plant + Drop, C: Steady + Drop> Running<P, C> {
     ghost use Rattle.mas_run.specs.Copies.{CopiesKept};
-    ghost use Rattle.mas_run.specs.LinesLeft.{LineIsLeft};
     ghost use Rattle.member_resets.specs.Settling.{IfRuns};
-    ghost use Rattle.mas_run.specs.LinesPlayed.{PlayedLine, PlayedLines, is_of_member, line_by};
-    ghost use Rattle.mas_run.specs.MuteLines.{PlaysMute};
-    ghost use Rattle.run_opening.specs.Shows.{BetweenLines, LeftBetween};
+    ghost use Rattle.mas_run.specs.LinesDone.{LineDone, LineIsPlayed};
+    ghost use Rattle.mas_run.specs.LinesPlayed.{PlayedLines, is_of_member, line_by};
+    ghost use Rattle.run_opening.specs.Shows.{BetweenLines};
     ghost use Rattle.run_opening.specs.Wires.{HaveRead};
 
-    // A line of a member: it is tested, and then played as it is admitted, or closed. Where its member was halted it is
-    // stopped in the book, nothing was said of that yet, and what it had reserved is still to be given up.
+    // A line of a member: it is tested, and then played as it is admitted, or closed.
     fn play_member(
         &mut self,
         alloc: Global,
@@ -101,15 +98,8 @@ impl<P: Plant + Drop, C: Steady + Drop> Running<P, C> {
         requires few { step ≤ steps_most }
         requires between { BetweenLines self.old.complex self.old.members step }
         requires readers { HaveRead self.old.complex self.old.readers }
-        ensures base { self.new.complex.base ≡ self.old.complex.base }
-        ensures since { self.new.complex.since ≡ self.old.complex.since }
-        ensures bare { LineIsLeft ⊥ step (line_by by asked.now) self.old.complex self.new.complex result }
-        ensures told { P.tells
-            → LineIsLeft (Unit {0}) step (line_by by asked.now) self.old.complex self.new.complex result }
-        ensures copies { CopiesKept self.old.complex self.new.complex result }
-        ensures next { OnOk result (BetweenLines self.new.complex self.new.members (step + 1)) }
-        ensures halted { result ≡ Err NodeNo.Halted → LeftBetween self.new.complex self.new.members (step + 1) }
-        ensures seated { result ≡ Err NodeNo.Halted → IsMember self.old.complex.book by }
+        ensures done { LineDone self.old.complex self.new.complex self.new.members step by asked.now
+            result }
         ensures heard { IfRuns result (HaveRead self.new.complex self.new.readers) }
     {
         if self.complex.level >= LEVEL_MOST {
@@ -172,13 +162,8 @@ impl<P: Plant + Drop, C: Steady + Drop> Running<P, C> {
         requires few { step ≤ steps_most }
         requires between { BetweenLines self.old.complex self.old.members step }
         requires readers { HaveRead self.old.complex self.old.readers }
-        ensures base { self.new.complex.base ≡ self.old.complex.base }
-        ensures since { self.new.complex.since ≡ self.old.complex.since }
-        ensures bare { PlayedLine ⊥ step (line_by by asked.now) self.old.complex self.new.complex result }
-        ensures told { P.tells
-            → PlayedLine (Unit {0}) step (line_by by asked.now) self.old.complex self.new.complex result }
-        ensures copies { CopiesKept self.old.complex self.new.complex result }
-        ensures next { OnOk result (BetweenLines self.new.complex self.new.members (step + 1)) }
+        ensures line { LineIsPlayed self.old.complex self.new.complex self.new.members step
+            (line_by by asked.now) result }
         ensures heard { OnOk result (HaveRead self.new.complex self.new.readers) }
     {
         match self.play_member(alloc, step, by, asked) {
@@ -197,9 +182,10 @@ impl<P: Plant + Drop, C: Steady + Drop> Running<P, C> {
     fn play_stop(&mut self, number: u32, by: MemberId)
         requires few { number ≤ steps_most }
         requires between { BetweenLines self.old.complex self.old.members number }
-        ensures mute { PlaysMute number (line_by by Stop) self.old.complex self.new.complex
-            self.new.members }
-        ensures readers { self.new.readers ≡ self.old.readers }
+        requires readers { HaveRead self.old.complex self.old.readers }
+        ensures line { LineIsPlayed self.old.complex self.new.complex self.new.members number
+            (line_by by Stop) (Ok tt) }
+        ensures heard { HaveRead self.new.complex self.new.readers }
     {
         stop_line(&mut self.complex, by);
     }
@@ -208,9 +194,10 @@ impl<P: Plant + Drop, C: Steady + Drop> Running<P, C> {
     fn play_arm(&mut self, number: u32, by: MemberId, fuse: Fuse, count: u32)
         requires few { number ≤ steps_most }
         requires between { BetweenLines self.old.complex self.old.members number }
-        ensures mute { PlaysMute number (line_by by (StopIn fuse count)) self.old.complex self.new.complex
-            self.new.members }
-        ensures readers { self.new.readers ≡ self.old.readers }
+        requires readers { HaveRead self.old.complex self.old.readers }
+        ensures line { LineIsPlayed self.old.complex self.new.complex self.new.members number
+            (line_by by (StopIn fuse count)) (Ok tt) }
+        ensures heard { HaveRead self.new.complex self.new.readers }
     {
         arm_line(&mut self.complex, by, fuse, count);
     }
@@ -219,9 +206,10 @@ impl<P: Plant + Drop, C: Steady + Drop> Running<P, C> {
     fn play_loss(&mut self, number: u32, by: MemberId, dev: Dev)
         requires few { number ≤ steps_most }
         requires between { BetweenLines self.old.complex self.old.members number }
-        ensures mute { PlaysMute number (line_by by (Lose dev)) self.old.complex self.new.complex
-            self.new.members }
-        ensures readers { self.new.readers ≡ self.old.readers }
+        requires readers { HaveRead self.old.complex self.old.readers }
+        ensures line { LineIsPlayed self.old.complex self.new.complex self.new.members number
+            (line_by by (Lose dev)) (Ok tt) }
+        ensures heard { HaveRead self.new.complex self.new.readers }
     {
         self.complex.lose(dev);
     }
@@ -244,12 +232,8 @@ impl<P: Plant + Drop, C: Steady + Drop> Running<P, C> {
         requires few { number ≤ steps_most }
         requires between { BetweenLines self.old.complex self.old.members number }
         requires readers { HaveRead self.old.complex self.old.readers }
-        ensures base { self.new.complex.base ≡ self.old.complex.base }
-        ensures since { self.new.complex.since ≡ self.old.complex.since }
-        ensures bare { PlayedLine ⊥ number line.now self.old.complex self.new.complex result }
-        ensures told { P.tells → PlayedLine (Unit {0}) number line.now self.old.complex self.new.complex result }
-        ensures copies { CopiesKept self.old.complex self.new.complex result }
-        ensures next { OnOk result (BetweenLines self.new.complex self.new.members (number + 1)) }
+        ensures line { LineIsPlayed self.old.complex self.new.complex self.new.members number line.now
+            result }
         ensures heard { OnOk result (HaveRead self.new.complex self.new.readers) }
     {
         match &line.what {

@@ -1,14 +1,5 @@
-use Rattle.std.proofs.Common.{◌≡◌, refl}
-use Rattle.ckpt_form.specs.Form.{form_reads}
-use Rattle.mas_complex.specs.Headline.{Headline}
-use Rattle.mas_complex.specs.Renewals.{no_renewals}
-use Rattle.mas_complex.specs.Journals.{kept_all}
-use Rattle.mas_complex.specs.Meaning.{run}
-use Rattle.mas_complex.specs.Parts.{parts_of}
-use Rattle.member_sittings.specs.Sat.{journal_of}
-use Rattle.run_turns.specs.Scenes.{Scene, scene_of}
-use Rattle.mas_run.proofs.MemberRunLemmas.{lines_failed, lines_passed, nothing_out, shown_bare}
-use Rattle.mas_run.proofs.RunLemmas.{away_after, caused_by_lines, play_of_lines, good_after}
+use Rattle.mas_run.proofs.Names.{◌≡◌, refl, form_reads, Headline, no_renewals, kept_all, meaning_run as run, parts_of, journal_of, Scene, scene_of}
+use Rattle.mas_run.proofs.RunLemmas.{away_after, caused_by_lines, play_of_lines, good_after, lines_failed, lines_passed, nothing_out, shown_bare}
 use Rattle.mas_run.proofs.play.play_asked.Goals as goal
 
 pub returns-clause-play : goal.returns-clause-play

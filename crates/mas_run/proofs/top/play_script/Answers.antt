@@ -1,14 +1,6 @@
-use Rattle.std.proofs.Common.{◌≡◌, inr, false, List, [], Option, ap, subst}
-use Rattle.mas_types.specs.declared.answers.Status.{Status}
-use Rattle.script_lang.specs.declared.types.Step.{Step}
-use Rattle.run_opening.specs.Refusals.{Answers, is_refusal}
-use Rattle.mas_run.specs.Refusals.{said_by, steps_of}
-use Rattle.mas_run.specs.Statuses.{AreLeftAlone, TakesNone}
-use Rattle.run_opening.specs.Unstarted.{IsNotStarted}
+use Rattle.mas_run.proofs.Names.{◌≡◌, inr, false, List, [], Option, ap, subst, Status, Step, Answers, is_refusal, said_by, steps_of, AreLeftAlone, TakesNone, IsNotStarted, kept_none, not_unplayed}
 use Rattle.mas_run.proofs.AloneLemmas.{not_both}
 use Rattle.mas_run.proofs.RefusalLemmas.{answers_said, ends}
-use Rattle.run_opening.proofs.VolumeLemmas.{kept_none}
-use Rattle.run_opening.proofs.RefusalLemmas.{not_unplayed}
 use Rattle.mas_run.proofs.top.play_script.Goals as goal
 
 pub returns-in-Ok-clause-refused : goal.returns-in-Ok-clause-refused

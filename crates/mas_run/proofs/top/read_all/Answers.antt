@@ -1,10 +1,7 @@
-use Rattle.std.proofs.Common.{◌≡◌, ◌∙◌, Err, refl, sym, ap, subst}
-use Rattle.std.proofs.lemmas.Result.{err_from_is_err_and}
-use Rattle.mas_run.specs.Refusals.{calm, refusal_before_play, said_by}
-use Rattle.mas_run.proofs.OnlyLemmas.{none_read}
+use Rattle.mas_run.proofs.Names.{◌∙◌, Err, sym, ap, err_from_is_err_and, refusals_calm as calm, said_by, said_answers, script_kind, script_source, unread_answers}
+use Rattle.mas_run.proofs.AloneLemmas.{none_read}
 use Rattle.mas_run.proofs.RefusalLemmas.{err_is}
 use Rattle.mas_types.specs.declared.answers.Status.TheVariants as status
-use Rattle.run_opening.proofs.RefusalLemmas.{said_answers, script_kind, script_source, unread_answers}
 use Rattle.mas_run.proofs.top.read_all.Goals as goal
 
 pub returns-in-Ok-clause-only : goal.returns-in-Ok-clause-only

@@ -1,9 +1,6 @@
-use Rattle.std.proofs.Common.{◌≡◌, ◌∙◌, ◌+◌, ℕ, [], drop, drop_of_length-le, Ok, Err, refl, sym, subst, arith}
-use Rattle.std.proofs.lemmas.Result.{err_from_is_err_and}
-use Rattle.script_input.specs.Played.{IsPlayed}
-use Rattle.mas_complex.specs.Parts.{parts_of}
+use Rattle.mas_run.proofs.Names.{◌≡◌, ◌∙◌, ◌+◌, ℕ, [], drop, drop_of_length-le, Ok, Err, refl, sym, subst, arith, err_from_is_err_and, IsPlayed, parts_of}
 use Rattle.mas_run.proofs.CopiesLemmas.{leaves_none, leaves_then}
-use Rattle.mas_run.proofs.WayLemmas.{LineFrom, line_next, way_done, way_ends, way_more, way_none}
+use Rattle.mas_run.proofs.RunLemmas.{LineFrom, line_next, way_done, way_ends, way_more, way_none}
 use Rattle.mas_run.proofs.running.Running.play_lines.Goals as goal
 
 pub loop-line-init : goal.loop-line-init
@@ -45,13 +42,13 @@ loop-line-preserved g c =
     let first = line_next lines k line c.loop-line-test.true c.line-item.is in
     record {
       number = omega (arith, i.number);
-      base = e.base ∙ i.base;
-      since = e.since ∙ i.since;
-      between = e.next;
+      base = e.line.base ∙ i.base;
+      since = e.line.since ∙ i.since;
+      between = e.line.next;
       readers = e.heard;
-      bare = way_more P C ⊥ lines x k line y z first e.since (subst (λ (n : ℕ). LineFrom P C ⊥ lines x n line y z (Ok tt)) number e.bare) i.bare;
-      told = λ t. way_more P C (Unit {0}) lines x k line y z first e.since (subst (λ (n : ℕ). LineFrom P C (Unit {0}) lines x n line y z (Ok tt)) number (e.told t)) (i.told t);
-      copies = leaves_then P x y z (Ok tt) i.copies e.copies;
+      bare = way_more P C ⊥ lines x k line y z first e.line.since (subst (λ (n : ℕ). LineFrom P C ⊥ lines x n line y z (Ok tt)) number e.line.bare) i.bare;
+      told = λ t. way_more P C (Unit {0}) lines x k line y z first e.line.since (subst (λ (n : ℕ). LineFrom P C (Unit {0}) lines x n line y z (Ok tt)) number (e.line.told t)) (i.told t);
+      copies = leaves_then P {T = Unit {0}} x y z (Ok tt) i.copies e.line.kept;
     }
 
 -- a line ended the run
@@ -73,16 +70,16 @@ returns-in_err-play_line-clause-played g c =
     let p = err_from_is_err_and c.from_residual.result c.from_residual.ensures.1 in
     rw (p.1, p.2) (record {
       many = k + 1;
-      bare = way_ends P C ⊥ lines x k line y z why first (subst (λ (n : ℕ). LineFrom P C ⊥ lines x n line y z (Err why)) number e.bare) i.bare;
-      told = λ t. way_ends P C (Unit {0}) lines x k line y z why first (subst (λ (n : ℕ). LineFrom P C (Unit {0}) lines x n line y z (Err why)) number (e.told t)) (i.told t);
+      bare = way_ends P C ⊥ lines x k line y z why first (subst (λ (n : ℕ). LineFrom P C ⊥ lines x n line y z (Err why)) number e.line.bare) i.bare;
+      told = λ t. way_ends P C (Unit {0}) lines x k line y z why first (subst (λ (n : ℕ). LineFrom P C (Unit {0}) lines x n line y z (Err why)) number (e.line.told t)) (i.told t);
     })
 
 pub returns-in_err-play_line-clause-copies : goal.returns-in_err-play_line-clause-copies
 returns-in_err-play_line-clause-copies g c =
     let p = err_from_is_err_and c.from_residual.result c.from_residual.ensures.1 in
     rw (p.1, p.2)
-    (leaves_then g.P.Plant (parts_of c.args.self.now.complex) (parts_of c.loop-line.self.complex) (parts_of c.play_line.new.self.complex) (Err c.in_err-play_line.field-0.0)
-    c.loop-line.invariant.copies c.in_err-play_line.ensures.copies)
+    (leaves_then g.P.Plant {T = Unit {0}} (parts_of c.args.self.now.complex) (parts_of c.loop-line.self.complex) (parts_of c.play_line.new.self.complex) (Err c.in_err-play_line.field-0.0)
+    c.loop-line.invariant.copies c.in_err-play_line.ensures.line.kept)
 
 -- all of them were played
 pub returns-clause-played : goal.returns-clause-played

@@ -1,9 +1,5 @@
-use Rattle.std.proofs.Common.{◌≡◌, ◌+◌, Ok}
-use Rattle.mas_complex.specs.Parts.{parts_of}
-use Rattle.mas_run.specs.Copies.{LeavesCopies}
-use Rattle.run_opening.specs.Shows.{BetweenLines}
-use Rattle.run_opening.specs.Wires.{HaveRead}
-use Rattle.mas_run.proofs.WayLemmas.{AreOnTheWay}
+use Rattle.mas_run.proofs.Names.{◌≡◌, ◌+◌, Ok, parts_of, LeavesCopies, BetweenLines, HaveRead}
+use Rattle.mas_run.proofs.RunLemmas.{AreOnTheWay}
 use Rattle.mas_run.proofs.running.Running.play_lines.Given as goal
 
 abbrev pub invariant-loop-line : goal.invariant-loop-line
