@@ -1,56 +1,41 @@
 -- A text is gone only where it was when the run began.
-use Rattle.std.proofs.Common.{is_some, ◌≡◌, ℕ, ◌<◌, ◌≤◌, ◌==◌, nat_le, not, ◌&&◌, ◌||◌, if◌then◌else◌, Bool, true, false, List, [], ◌∷◌, ◌++◌, map, length, Option, Some, None, All, refl, sym, ◌∙◌, ap, subst, arith}
-use Rattle.std.specs.List.{list_any, find}
-use Rattle.std.specs.Option.{option_map_or}
-use Rattle.std.specs.Coded.{Coded, Coded-set, coded_ℕ, coded_option, code_by}
-use Rattle.std.proofs.Math.Logic.{∥∥₁_elim}
-use Rattle.std.proofs.lemmas.Bool.Decides.{nat_tests}
-use Rattle.std.proofs.lemmas.List.Elements.{All-nil, All-cons, All-weaker, All-push, All-map}
-use Rattle.mas_types.specs.declared.ids.GroupNo.{GroupNo}
-use Rattle.mas_types.specs.declared.ids.JobNo.{JobNo}
-use Rattle.mas_types.specs.declared.ids.MemberId.{MemberId}
-use Rattle.mas_types.specs.declared.jobs.Job.{Job}
+use Rattle.member_acts.proofs.Names.{is_some, ◌≡◌, ℕ, ◌<◌, ◌≤◌, ◌==◌, nat_le, not, ◌&&◌, ◌||◌, if◌then◌else◌, Bool, true, false, List, [], ◌∷◌, ◌++◌, map, length, Option, Some, None, All, refl, sym, ◌∙◌, ap, subst, arith, ◌+◌, list_any, find, option_map_or, Coded, Coded-set, coded_ℕ, coded_option, code_by, ∥∥₁_elim, nat_tests, All-nil, All-cons, All-weaker, All-push, All-map, All-head, All-tail, GroupNo, JobNo, MemberId, Job, Whole, Batch, Entry, Command, Reply, Queue, AreDistinct, IsConfig, jobs_most, is_kept, has_number, has_output, in_hardcopy, in_output, in_purge, is_current_on, is_in, is_member, job_at, knows_node, has_key, is_of, output_at, converted, ended, gathered, made_busy, ended_row, new_output, new_outputs, outputs_at_end, runs, OutNo, OutSpec, Output, in_flight, kept_all, run, AreGivenIn, any_none, find-All, test_cases, brings_job, gone_in, gone_since, gone_with, is_brought, brings_outputs, gone_output_in, gone_output_since}
 use Rattle.mas_types.specs.declared.jobs.JobFields.{JobFields}
-use Rattle.mas_types.specs.declared.jobs.Phase.TheVariants as phase
-use Rattle.mas_types.specs.declared.jobs.Text.TheVariants.{Whole}
-use Rattle.mas_types.specs.declared.journals.Batch.{Batch}
-use Rattle.mas_types.specs.declared.journals.Entry.{Entry}
-use Rattle.mas_types.specs.declared.commands.Command.{Command}
-use Rattle.mas_types.specs.declared.commands.Command.TheVariants as command
 use Rattle.mas_types.specs.declared.commands.Refusal.{Refusal}
-use Rattle.mas_types.specs.declared.commands.Refusal.TheVariants as refusal
-use Rattle.mas_types.specs.declared.commands.Reply.{Reply}
-use Rattle.mas_types.specs.declared.commands.Reply.TheVariants as reply
-use Rattle.mas_types.specs.declared.queues.Queue.{Queue}
-use Rattle.mas_types.specs.Fit.{AreDistinct, IsConfig}
 use Rattle.mas_types.specs.Ids.{is_somebody, nobody, same_member, same_number}
-use Rattle.mas_types.specs.Limits.{jobs_most}
-use Rattle.mas_types.specs.Journal.{is_kept}
 use Rattle.mas_types.specs.Lists.{change_first, first_some, without_first}
 use Rattle.mas_types.specs.Number.{next_number}
-use Rattle.mas_types.specs.Queue.{has_number, has_output, in_hardcopy, in_output, in_purge, is_current_on, is_in, is_member, job_at, knows_node}
 use Rattle.mas_types.specs.Reset.{reset_job}
-use Rattle.mas_types.specs.Row.{refused_where}
+use Rattle.mas_types.specs.Row.{refused_where, none_such, wrong_phase}
 use Rattle.mas_types.specs.Selection.{is_for_convert, is_for_execute}
 use Rattle.mas_types.specs.Step.{row_of, step}
 use Rattle.mas_types.specs.Commands.Input.{begin_row, drop_row, new_job, phase_entered}
-use Rattle.mas_types.specs.Commands.Life.{converted, ended, gathered, made_busy}
 use Rattle.mas_types.specs.Commands.Operator.{cancel_row, cancelled, is_busy, with_class, with_held, with_prio}
 use Rattle.mas_types.specs.Commands.Printing.{outputs_over, output_removed}
-use Rattle.mas_complex.specs.Journals.{in_flight, kept_all}
-use Rattle.mas_complex.specs.Meaning.{run}
+use Rattle.mas_types.specs.Sound.{IsSound}
+use Rattle.mas_types.specs.declared.jobs.Phase.TheVariants as phase
+use Rattle.mas_types.specs.declared.commands.Command.TheVariants as command
+use Rattle.mas_types.specs.declared.commands.Refusal.TheVariants as refusal
+use Rattle.mas_types.specs.declared.commands.Reply.TheVariants as reply
 use Rattle.mas_complex.specs.Replies.{AreReplied, HaveReplies, after_batch}
 use Rattle.mas_complex.proofs.Replied.{replied_front}
+use Rattle.mas_complex.proofs.Papers.{given_kept_all}
 use Rattle.queue_laws.proofs.Configuration.{keeps_configuration}
 use Rattle.queue_laws.proofs.Done.{done-effect, done-refused, where_not}
-use Rattle.queue_laws.proofs.Finds.{any_none, find-All, test_cases}
 use Rattle.queue_laws.proofs.Freed.{AreDistinct-map}
 use Rattle.queue_laws.proofs.NewNumber.{next_number_free}
 use Rattle.queue_laws.proofs.Others.{found_itself, second_none}
 use Rattle.queue_laws.proofs.SoundBegin.{AreDistinct-push}
 use Rattle.queue_laws.proofs.SoundRemove.{All-without_first, AreDistinct-without_first}
 use Rattle.queue_laws.proofs.Soundness.{All-change, AreDistinct-change}
-use Rattle.member_work.specs.Gone.{brings_job, gone_in, gone_since, gone_with, is_brought}
+use Rattle.queue_laws.specs.Marks.{FollowsAt, MayMake}
+use Rattle.queue_laws.specs.Runs.{IsGiven}
+use Rattle.queue_laws.proofs.MarksFollow.{marks_follow}
+use Rattle.queue_laws.proofs.RunLaws.{runs_keep_sound}
+use Rattle.queue_laws.proofs.SoundJobs.{in_phase_of}
+use Rattle.member_work.proofs.UnderWayLemmas.{sound_none}
+use Rattle.paper_laws.proofs.Bools.{find_passes}
+use Rattle.paper_laws.proofs.Runs.{all_given_after}
 
 -- BATCHES
 
@@ -58,17 +43,26 @@ or_parts : (a b c : Bool) → (a || (b || c)) ≡ ((a || b) || c)
 or_parts true b c = refl
 or_parts false b c = refl
 
-any_append : (n : JobNo) (es fs : List Entry) → is_brought n (es ++ fs) ≡ (is_brought n es || is_brought n fs)
-any_append n [] fs = refl
-any_append n (e ∷ es) fs = ap (λ (b : Bool). brings_job n e.command e.reply || b) (any_append n es fs) ∙ or_parts (brings_job n e.command e.reply) (is_brought n es) (is_brought n fs)
+any_append : (brings : Command → Reply → Bool) (es fs : List Entry) → is_brought brings (es ++ fs) ≡ (is_brought brings es || is_brought brings fs)
+any_append brings [] fs = refl
+any_append brings (e ∷ es) fs = ap (λ (b : Bool). brings e.command e.reply || b) (any_append brings es fs) ∙ or_parts (brings e.command e.reply) (is_brought brings es) (is_brought brings fs)
 
--- a job is brought in the kept entries where it is by a kept batch
-pub brought_in : (n : JobNo) (bs : List Batch) → list_any (λ b. is_kept b.fate && is_brought n b.entries) bs ≡ is_brought n (kept_all bs)
-brought_in n [] = refl
-brought_in n (b ∷ bs) =
-    test_cases (is_kept b.fate) (list_any (λ b. is_kept b.fate && is_brought n b.entries) (b ∷ bs) ≡ is_brought n (kept_all (b ∷ bs)))
-    (λ e. rw e (ap (λ (x : Bool). is_brought n b.entries || x) (brought_in n bs) ∙ sym (any_append n b.entries (kept_all bs))))
-    (λ e. rw e (brought_in n bs))
+-- a text is brought in the kept entries where it is by a kept batch
+brought_in : (brings : Command → Reply → Bool) (bs : List Batch) → list_any (λ b. is_kept b.fate && is_brought brings b.entries) bs ≡ is_brought brings (kept_all bs)
+brought_in brings [] = refl
+brought_in brings (b ∷ bs) =
+    test_cases (is_kept b.fate) (list_any (λ b. is_kept b.fate && is_brought brings b.entries) (b ∷ bs) ≡ is_brought brings (kept_all (b ∷ bs)))
+    (λ e. rw e (ap (λ (x : Bool). is_brought brings b.entries || x) (brought_in brings bs) ∙ sym (any_append brings b.entries (kept_all bs))))
+    (λ e. rw e (brought_in brings bs))
+
+pub since_when : (brings : Command → Reply → Bool) (gone : Option GroupNo) (bs slice : List Batch) (b : Bool) → slice ≡ bs → b ≡ list_any (λ b. is_kept b.fate && is_brought brings b.entries) slice → (if is_brought brings (kept_all bs) then None else gone) ≡ (if b then None else gone)
+since_when brings gone bs slice b at is = ap (λ (x : Bool). if x then None else gone) (sym (is ∙ ap (λ (l : List Batch). list_any (λ b. is_kept b.fate && is_brought brings b.entries) l) at ∙ brought_in brings bs))
+
+-- once brought a text is whole
+pub either : {A : Type 0} (Fits : Option GroupNo → A → Type 0) (a b : Bool) (g : Option GroupNo) (x : A) → Fits (if b then None else (if a then None else g)) x → Fits (if a || b then None else g) x
+either Fits true true g x are = are
+either Fits true false g x are = are
+either Fits false b g x are = are
 
 replies_append : (Q : Queue) (es fs : List Entry) → HaveReplies Q es → HaveReplies (run Q es) fs → HaveReplies Q (es ++ fs)
 replies_append Q [] fs one two = two
@@ -202,7 +196,6 @@ module _ (n : JobNo) where
   effect_are : (g : Option GroupNo) (Q : Queue) (m : MemberId) (c : Command) → IsConfig Q.config → first_some (row_of Q m c).refusals ≡ None → Are g Q.jobs
       → Are (if brings_job n c (row_of Q m c).answer then None else g) (row_of Q m c).effect.jobs
   effect_are g Q m (command.Begin fields) config none are = begun_row g Q m fields config none are
-  effect_are g Q m (command.Take want) config none are = are
   effect_are g Q m (command.Drop job) config none are = test_cases (job.0 == 0) (Are g (drop_row Q m job).effect.jobs) (λ e. rw e are) (λ e. rw e (without_one (has_number job) g Q.jobs are))
   effect_are g Q m (command.Enter job text) config none are = entered_at (λ j. record j { text = Whole text; busy = nobody; phase = phase_entered Q.config.node j }) (record { number = λ j. refl; whole = λ j. refl }) g job Q.jobs are
   effect_are g Q m command.TakeConvert config none are = changed (made_busy m) (is_for_convert Q) g Q.jobs (record { number = λ j. refl; text = λ j. refl }) are
@@ -210,8 +203,6 @@ module _ (n : JobNo) where
   effect_are g Q m command.TakeExec config none are = changed (made_busy m) (is_for_execute Q m) g Q.jobs (record { number = λ j. refl; text = λ j. refl }) are
   effect_are g Q m (command.Ended job specs) config none are = changed ended (has_number job) g Q.jobs (record { number = λ j. refl; text = λ j. refl }) are
   effect_are g Q m command.Gather config none are = changed (gathered Q) (is_in in_output) g Q.jobs (record { number = λ j. refl; text = λ j. refl }) are
-  effect_are g Q m command.Pick config none are = are
-  effect_are g Q m (command.Mark job index at) config none are = are
   effect_are g Q m (command.Done job index) config none are = let R = output_removed job index Q in changed (outputs_over R) (has_number job) g Q.jobs (over_mild R) are
   effect_are g Q m command.Purge config none are = without_one (is_in in_purge) g Q.jobs are
   effect_are g Q m (command.Hold job) config none are = changed (with_held true) (has_number job) g Q.jobs (record { number = λ j. refl; text = λ j. refl }) are
@@ -220,53 +211,17 @@ module _ (n : JobNo) where
       test_cases (is_busy (job_at Q job)) (Are g (cancel_row Q m job).effect.jobs) (λ e. rw e (changed cancelled (has_number job) g Q.jobs cancelled_mild are)) (λ e. rw e (changed cancelled (has_number job) g Q.jobs cancelled_mild are))
   effect_are g Q m (command.SetPrio job prio) config none are = changed (with_prio prio) (has_number job) g Q.jobs (record { number = λ j. refl; text = λ j. refl }) are
   effect_are g Q m (command.SetClass job class) config none are = changed (with_class class) (has_number job) g Q.jobs (record { number = λ j. refl; text = λ j. refl }) are
-  effect_are g Q m (command.Out job) config none are = are
   effect_are g Q m (command.CancelOut job index) config none are = let R = output_removed job index Q in changed (outputs_over R) (has_number job) g Q.jobs (over_mild R) are
-  effect_are g Q m (command.SetOut job index class) config none are = are
-  effect_are g Q m (command.Show what) config none are = are
-  effect_are g Q m (command.SetInit classes) config none are = are
-  effect_are g Q m (command.SetPrt classes forms lines) config none are = are
-  effect_are g Q m (command.Back lines) config none are = are
-  effect_are g Q m (command.Forward lines) config none are = are
   effect_are g Q m (command.Reset of_member) config none are = let picks = λ (h : MemberId). same_member h of_member in mapped (λ j. if picks j.busy then reset_job j else j) g Q.jobs (reset_mild picks) are
   effect_are g Q m command.Restart config none are = let picks = is_member Q.config in mapped (λ j. if picks j.busy then reset_job j else j) g Q.jobs (reset_mild picks) are
-  effect_are g Q m (command.Load line) config none are = are
   effect_are g Q m (command.Sent line number) config none are = changed (λ j. record j { phase = phase.Purge }) (is_current_on Q line) g Q.jobs (record { number = λ j. refl; text = λ j. refl }) are
   effect_are g Q m (command.Got line number job text) config none are = entered_at (λ j. record j { text = Whole text; busy = nobody; phase = phase_entered Q.config.node j }) (record { number = λ j. refl; whole = λ j. refl }) g job Q.jobs are
+  effect_are g Q m _ config none are = are
 
   -- a refused command brings no job
   refused_brings : (c : Command) (why : Refusal) → brings_job n c (reply.No why) ≡ false
   refused_brings (command.Begin fields) why = refl
-  refused_brings (command.Enter job text) why = refl
-  refused_brings (command.Got line number job text) why = refl
-  refused_brings (command.Take want) why = refl
-  refused_brings (command.Drop job) why = refl
-  refused_brings command.TakeConvert why = refl
-  refused_brings (command.Converted job) why = refl
-  refused_brings command.TakeExec why = refl
-  refused_brings (command.Ended job specs) why = refl
-  refused_brings command.Gather why = refl
-  refused_brings command.Pick why = refl
-  refused_brings (command.Mark job index at) why = refl
-  refused_brings (command.Done job index) why = refl
-  refused_brings command.Purge why = refl
-  refused_brings (command.Hold job) why = refl
-  refused_brings (command.Release job) why = refl
-  refused_brings (command.Cancel job) why = refl
-  refused_brings (command.SetPrio job prio) why = refl
-  refused_brings (command.SetClass job class) why = refl
-  refused_brings (command.Out job) why = refl
-  refused_brings (command.CancelOut job index) why = refl
-  refused_brings (command.SetOut job index class) why = refl
-  refused_brings (command.Show what) why = refl
-  refused_brings (command.SetInit classes) why = refl
-  refused_brings (command.SetPrt classes forms lines) why = refl
-  refused_brings (command.Back lines) why = refl
-  refused_brings (command.Forward lines) why = refl
-  refused_brings (command.Reset of_member) why = refl
-  refused_brings command.Restart why = refl
-  refused_brings (command.Load line) why = refl
-  refused_brings (command.Sent line number) why = refl
+  refused_brings _ why = refl
 
   abbrev After : Option GroupNo → Command → Queue × Reply → Type 0
   After g c left = Are (if brings_job n c left.1 then None else g) left.0.jobs
@@ -277,18 +232,13 @@ module _ (n : JobNo) where
     by_refusal None e = subst (After g c) (sym (done-effect Q (row_of Q m c) e)) (effect_are g Q m c config e are)
     by_refusal (Some why) e = subst (After g c) (sym (done-refused Q (row_of Q m c) why e)) (subst (λ (b : Bool). Are (if b then None else g) Q.jobs) (sym (refused_brings c why)) are)
 
-  either : (a b : Bool) (g : Option GroupNo) (js : List Job) → Are (if b then None else (if a then None else g)) js → Are (if a || b then None else g) js
-  either true true g js are = are
-  either true false g js are = are
-  either false b g js are = are
-
-  run_are : (g : Option GroupNo) (Q : Queue) (es : List Entry) → HaveReplies Q es → IsConfig Q.config → Are g Q.jobs → Are (if is_brought n es then None else g) (run Q es).jobs
+  run_are : (g : Option GroupNo) (Q : Queue) (es : List Entry) → HaveReplies Q es → IsConfig Q.config → Are g Q.jobs → Are (if is_brought (brings_job n) es then None else g) (run Q es).jobs
   run_are g Q [] have config are = are
   run_are g Q (e ∷ es) have config are =
       let R : Queue = (step Q e.by e.command).0 in
       let b : Bool = brings_job n e.command e.reply in
       let here : Are (if b then None else g) R.jobs = subst (λ (answer : Reply). Are (if brings_job n e.command answer then None else g) R.jobs) (sym have.0) (step_are g Q e.by e.command config are) in
-      either b (is_brought n es) g (run R es).jobs (run_are (if b then None else g) R es have.1 (subst IsConfig (sym (keeps_configuration Q e.by e.command).config) config) here)
+      either Are b (is_brought (brings_job n) es) g (run R es).jobs (run_are (if b then None else g) R es have.1 (subst IsConfig (sym (keeps_configuration Q e.by e.command).config) config) here)
 
   -- each job of that number in the queue with which the run began is the one that is found
   at_first : (Q : Queue) → AreDistinct same Q.jobs → Are (gone_in Q n) Q.jobs
@@ -326,5 +276,117 @@ none_either false (Some x) none is on = absurd (clash (is ∙ ap not on)) where
   clash : true ≡ false → ⊥
   clash e = cc
 
-pub since_when : (n : JobNo) (Q : Queue) (bs slice : List Batch) (b : Bool) → slice ≡ bs → b ≡ list_any (λ b. is_kept b.fate && is_brought n b.entries) slice → gone_since Q (kept_all bs) n ≡ (if b then None else gone_in Q n)
-since_when n Q bs slice b at is = ap (λ (x : Bool). if x then None else gone_in Q n) (sym (is ∙ ap (λ (l : List Batch). list_any (λ b. is_kept b.fate && is_brought n b.entries) l) at ∙ brought_in n bs))
+-- WHICH COMMANDS BRING OUTPUTS
+
+record Brings (n : JobNo) (c : Command) (answer : Reply) : Type 0 where
+  pub job : JobNo
+  pub specs : List OutSpec
+  pub count : ℕ
+  pub is : c ≡ command.Ended job specs
+  pub said : answer ≡ reply.Count count
+  pub of_job : same_number job n ≡ true
+
+brings_true : (n : JobNo) (c : Command) (answer : Reply) → brings_outputs n c answer ≡ true → Brings n c answer
+brings_true n (command.Ended job specs) (reply.Count count) e = record { job = job; specs = specs; count = count; is = refl; said = refl; of_job = e }
+brings_true n (command.Ended job specs) _ e = absurd (cc)
+brings_true n _ answer e = absurd (cc)
+
+module _ (n : JobNo) (i : OutNo) where
+  -- the text of the output, where it is there, is gone with this group
+  abbrev IsAs : Option GroupNo → Option Output → Type 0
+  IsAs g None = Unit {0}
+  IsAs g (Some o) = gone_with o.text ≡ g
+
+  -- ENDED
+
+  not_of : (k : JobNo) (o : Output) → same_number k n ≡ true → is_of k o ≡ false → has_key n i o ≡ false
+  not_of k o same other = grind (arith, nat_tests)
+
+  behind_none : (k : JobNo) (os ps : List Output) → same_number k n ≡ true → list_any (is_of k) os ≡ false → find (has_key n i) (os ++ ps) ≡ find (has_key n i) ps
+  behind_none k [] ps same none = refl
+  behind_none k (o ∷ os) ps same none =
+      test_cases (is_of k o) (find (has_key n i) ((o ∷ os) ++ ps) ≡ find (has_key n i) ps)
+      (λ e. absurd (let some = rw e at none in cc))
+      (λ e. let rest : list_any (is_of k) os ≡ false = rw e at none in rw (not_of k o same e) (behind_none k os ps same rest))
+
+  new_whole : (k : JobNo) (j : ℕ) (specs : List OutSpec) → IsAs None (find (has_key n i) (new_outputs k j specs))
+  new_whole k j [] = tt
+  new_whole k j (s ∷ specs) =
+      test_cases (has_key n i (new_output k j s)) (IsAs None (find (has_key n i) (new_outputs k j (s ∷ specs))))
+      (λ e. rw e refl)
+      (λ e. rw e (new_whole k (j + 1) specs))
+
+  ended_as : (Q : Queue) (m : MemberId) (k : JobNo) (specs : List OutSpec) → IsSound Q → first_some (ended_row Q m k specs).refusals ≡ None → same_number k n ≡ true → IsAs None (output_at (ended_row Q m k specs).effect n i)
+  ended_as Q m k specs sound none same = by_job (job_at Q k) refl where
+    by_job : (found : Option Job) → job_at Q k ≡ found → IsAs None (output_at (ended_row Q m k specs).effect n i)
+    by_job None is = absurd (let there = rw is at none in cc)
+    by_job (Some j) is =
+        let phase : runs j.phase ≡ true = in_phase_of Q k runs (second_none (none_such refusal.NoJob (job_at Q k)) (wrong_phase runs (job_at Q k)) _ none) j is in
+        subst (IsAs None) (sym (behind_none k Q.outputs (new_outputs k 1 (outputs_at_end (job_at Q k) specs)) same (sound_none Q k j sound is phase))) (new_whole k 1 (outputs_at_end (job_at Q k) specs))
+
+  -- ONE COMMAND
+
+  brought : (Q : Queue) (m : MemberId) (c : Command) → IsSound Q → Brings n c (step Q m c).1 → IsAs None (output_at (step Q m c).0 n i)
+  brought Q m c sound b = by_command c b.is b.said where
+    by_command : (c : Command) → c ≡ command.Ended b.job b.specs → (step Q m c).1 ≡ reply.Count b.count → IsAs None (output_at (step Q m c).0 n i)
+    by_command c is said = rw is (by_refusal (first_some (ended_row Q m b.job b.specs).refusals) refl (rw is at said)) where
+      by_refusal : (o : Option Refusal) → first_some (ended_row Q m b.job b.specs).refusals ≡ o → (step Q m (command.Ended b.job b.specs)).1 ≡ reply.Count b.count → IsAs None (output_at (step Q m (command.Ended b.job b.specs)).0 n i)
+      by_refusal None e said = subst (λ (left : Queue × Reply). IsAs None (output_at left.0 n i)) (sym (done-effect Q (ended_row Q m b.job b.specs) e)) (ended_as Q m b.job b.specs sound e b.of_job)
+      by_refusal (Some why) e said = absurd (let other = ap (λ (left : Queue × Reply). left.1) (sym (done-refused Q (ended_row Q m b.job b.specs) why e)) ∙ said in cc)
+
+  -- an output comes only by a command that may make it
+  came : (Q : Queue) (m : MemberId) (c : Command) (o : Output) → output_at Q n i ≡ None → output_at (step Q m c).0 n i ≡ Some o → MayMake c o → brings_outputs n c (step Q m c).1 ≡ false → ⊥
+  came Q m (command.Ended k specs) o was is made not = by_refusal (first_some (ended_row Q m k specs).refusals) refl where
+    keyed : has_key n i o ≡ true
+    keyed = find_passes (has_key n i) (step Q m (command.Ended k specs)).0.outputs o is
+
+    same_of : (o : Output) → has_key n i o ≡ true → is_of k o ≡ true → same_number k n ≡ true
+    same_of o keyed made = grind (arith, nat_tests)
+
+    by_refusal : (r : Option Refusal) → first_some (ended_row Q m k specs).refusals ≡ r → ⊥
+    by_refusal None e =
+        let answer = ap (λ (left : Queue × Reply). left.1) (done-effect Q (ended_row Q m k specs) e) in
+        let no : brings_outputs n (command.Ended k specs) (ended_row Q m k specs).answer ≡ false = subst (λ (r : Reply). brings_outputs n (command.Ended k specs) r ≡ false) answer not in
+        let yes : same_number k n ≡ true = same_of o keyed made in
+        cc
+    by_refusal (Some why) e =
+        let there : output_at Q n i ≡ Some o = ap (λ (left : Queue × Reply). output_at left.0 n i) (sym (done-refused Q (ended_row Q m k specs) why e)) ∙ is in
+        let both : None ≡ Some o = sym was ∙ there in
+        cc
+  came Q m _ o was is made not = absurd made
+
+  step_as : (g : Option GroupNo) (Q : Queue) (m : MemberId) (c : Command) → IsSound Q → IsAs g (output_at Q n i) → IsAs (if brings_outputs n c (step Q m c).1 then None else g) (output_at (step Q m c).0 n i)
+  step_as g Q m c sound was =
+      test_cases (brings_outputs n c (step Q m c).1) (IsAs (if brings_outputs n c (step Q m c).1 then None else g) (output_at (step Q m c).0 n i))
+      (λ e. rw e (brought Q m c sound (brings_true n c (step Q m c).1 e)))
+      (λ e. rw e (stays e (output_at Q n i) (output_at (step Q m c).0 n i) refl refl was (marks_follow Q m c sound n i)))
+    where
+      stays : brings_outputs n c (step Q m c).1 ≡ false → (old new : Option Output) → output_at Q n i ≡ old → output_at (step Q m c).0 n i ≡ new → IsAs g old → FollowsAt m c old new → IsAs g new
+      stays e old None a b was follows = tt
+      stays e None (Some o) a b was follows = absurd (came Q m c o a b follows.made e)
+      stays e (Some x) (Some o) a b was follows = ap gone_with follows.text ∙ was
+
+  -- ALL
+
+  run_as : (g : Option GroupNo) (Q : Queue) (es : List Entry) → HaveReplies Q es → IsSound Q → All (IsGiven Q) es → IsAs g (output_at Q n i) → IsAs (if is_brought (brings_outputs n) es then None else g) (output_at (run Q es) n i)
+  run_as g Q [] have sound given was = was
+  run_as g Q (e ∷ es) have sound given was =
+      let R : Queue = (step Q e.by e.command).0 in
+      let b : Bool = brings_outputs n e.command e.reply in
+      let here : IsAs (if b then None else g) (output_at R n i) = subst (λ (answer : Reply). IsAs (if brings_outputs n e.command answer then None else g) (output_at R n i)) (sym have.0) (step_as g Q e.by e.command sound was) in
+      let later : IsSound R = runs_keep_sound Q (e ∷ []) sound (All-cons (IsGiven Q) e [] (All-head (IsGiven Q) e es given) (All-nil (IsGiven Q))) in
+      either IsAs b (is_brought (brings_outputs n) es) g (output_at (run R es) n i)
+      (run_as (if b then None else g) R es have.1 later (all_given_after Q (e ∷ []) es (All-tail (IsGiven Q) e es given)) here)
+
+  output_first : (Q : Queue) → IsAs (gone_output_in Q n i) (output_at Q n i)
+  output_first Q = by_found (output_at Q n i) where
+    by_found : (o : Option Output) → IsAs (option_map_or (λ x. gone_with x.text) o None) o
+    by_found None = tt
+    by_found (Some o) = refl
+
+pub gone_output_is : (n : JobNo) (i : OutNo) (Q : Queue) (bs : List Batch) (current : Option Batch) → ∥ AreReplied Q (bs ++ in_flight current) ∥₁ → IsSound Q → ∥ AreGivenIn Q bs ∥₁
+    → (o : Output) → output_at (run Q (kept_all bs)) n i ≡ Some o → gone_output_since Q (kept_all bs) n i ≡ gone_with o.text
+gone_output_is n i Q bs current some sound given o found =
+    ∥∥₁_elim some (Coded-set (coded_option coded_group) _ _) (λ are. ∥∥₁_elim given (Coded-set (coded_option coded_group) _ _) (λ each.
+    sym (subst (IsAs n i (gone_output_since Q (kept_all bs) n i)) found
+    (run_as n i (gone_output_in Q n i) Q (kept_all bs) (kept_have Q bs (replied_front Q bs (in_flight current) are)) sound (given_kept_all Q bs each) (output_first n i Q)))))

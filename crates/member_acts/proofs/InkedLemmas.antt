@@ -1,22 +1,8 @@
 -- Lines of an output that are printed one after another.
-use Rattle.std.proofs.Common.{◌≡◌, ◌≢◌, ◌⊎◌, inl, inr, ◌∙◌, ℕ, zero, suc, ◌+◌, ◌-◌, ◌≤◌, ◌<◌, Bool, true, false, List, [], ◌∷◌, ◌++◌, length, map, take, append-nil, append_assoc, None, Some, Result, Ok, Err, slice_get, ap, refl, subst, sym, arith}
-use Rattle.std.proofs.lemmas.List.{get_or-set_other}
-use Rattle.mas_types.specs.declared.ids.JobNo.{JobNo}
-use Rattle.mas_types.specs.declared.ids.MemberId.{MemberId}
-use Rattle.mas_types.specs.declared.ids.OutNo.{OutNo}
+use Rattle.member_acts.proofs.Names.{◌≡◌, ◌≢◌, ◌⊎◌, inl, inr, ◌∙◌, ℕ, zero, suc, ◌+◌, ◌-◌, ◌≤◌, ◌<◌, Bool, true, false, List, [], ◌∷◌, ◌++◌, length, map, take, append-nil, append_assoc, None, Some, Result, Ok, Err, slice_get, ap, refl, subst, sym, arith, get_or-set_other, JobNo, MemberId, OutNo, Act, Done, Failed, ActHalted as Halted, Ghosts as PlantGhosts, Prints, Line, View, paper_now, whole, book_by, counts_of, printed_by, reserved_by, Parts, NodeNo, NoMemory, Halted as HaltedNo, printed_in, HasInked, Inked, IsCountOf, IsInkedTo, inked_of, lines_from, lines_upto}
 use Rattle.mas_types.specs.Printed.{printed_line}
-use Rattle.spool_plant.specs.declared.plant.Act.TheVariants.{Done, Failed, Halted}
-use Rattle.spool_plant.specs.declared.plant.Plant.{Ghosts as PlantGhosts}
-use Rattle.spool_plant.specs.Acts.{Prints}
-use Rattle.spool_plant.specs.View.{Line, View, paper_now}
-use Rattle.mas_complex.specs.Headline.{whole}
-use Rattle.mas_complex.specs.Paper.{counts_of, printed_by}
-use Rattle.mas_complex.specs.Parts.{Parts}
-use Rattle.member_node.specs.declared.member.NodeNo.{NodeNo}
-use Rattle.member_node.specs.declared.member.NodeNo.TheVariants.{NoMemory, Halted as HaltedNo}
 use Rattle.member_steps.specs.Saying.{torn}
 use Rattle.member_steps.proofs.SayLemmas.{said_next}
-use Rattle.member_work.specs.Inked.{HasInked, Inked, IsCountOf, IsInkedTo, inked_of, lines_from, lines_upto}
 
 -- THE LINES
 
@@ -191,3 +177,10 @@ module _ {P C T : Type 0} (plants : PlantGhosts P) (lost : T → Bool) (by : Mem
     counted = subst (λ (l : List ℕ). IsCountOf r (counts_of l by + k.inked.lines) (counts_of z.printed by)) same k.counted;
     other_counts = λ m other. k.other_counts m other ∙ ap (λ (l : List ℕ). counts_of l m) same;
   }
+
+-- THE REST of the shared value, after one line more
+pub one_behind : {P C : Type 0} (by : MemberId) (x y w : Parts P C) (r : Act) → w ≡ printed_in w x → y ≡ record w { plant = y.plant; printed = printed_by by r w.printed; book = book_by by r w.book; reserved = reserved_by by r w.reserved }
+    → y ≡ record x { plant = y.plant; printed = y.printed; book = book_by by r x.book; reserved = reserved_by by r x.reserved }
+one_behind {P} {C} by x y w r before same =
+    same ∙ ap (λ (l : List ℕ). record w { plant = y.plant; printed = l; book = book_by by r w.book; reserved = reserved_by by r w.reserved }) (sym (ap (λ (p : Parts P C). p.printed) same))
+    ∙ ap (λ (p : Parts P C). record p { plant = y.plant; printed = y.printed; book = book_by by r p.book; reserved = reserved_by by r p.reserved }) before

@@ -1,47 +1,15 @@
 -- Reading the groups of a text.
-use Rattle.std.proofs.Common.{◌≡◌, ◌&&◌, ℕ, zero, suc, ◌+◌, ◌*◌, ◌%◌, ◌≤◌, ◌<◌, nat_le, Bool, true, false, List, [], ◌∷◌, ◌++◌, length, Option, Some, None, All, unwrap_or, refl, sym, ap, subst, ◌∙◌, append_assoc, arith}
-use Rattle.std.specs.Prelude.{Result, Ok, Err}
-use Rattle.std.specs.Option.{option_or}
-use Rattle.std.proofs.lemmas.Bool.Decides.{nat_tests}
-use Rattle.std.proofs.lemmas.List.{append-nil}
-use Rattle.std.proofs.lemmas.List.Elements.{All-nil, All-cons, All-append, All-weaker}
-use Rattle.mas_types.specs.declared.ids.Dev.TheVariants.{Spool}
-use Rattle.mas_types.specs.declared.ids.GroupNo.{GroupNo}
+use Rattle.member_acts.proofs.Names.{◌≡◌, ◌&&◌, ℕ, zero, suc, ◌+◌, ◌*◌, ◌%◌, ◌≤◌, ◌<◌, nat_le, Bool, true, false, List, [], ◌∷◌, ◌++◌, length, Option, Some, None, All, unwrap_or, refl, sym, ap, subst, ◌∙◌, append_assoc, arith, Result, Ok, Err, option_or, nat_tests, append-nil, All-nil, All-cons, All-append, All-weaker, Spool, GroupNo, Text, Whole, Gone, Config, is_text_line, line_bytes, page_bytes, line_count, Act, Done, Failed, Disk as DiskPart, View, disk_now, slice, Acts, Goes, ReadBy, Reads, page_of, start_of, volume_of, AreRoomy, IsGroupOf, ReadsGroup, device_of, is_within, page_part, page_start, Spools, bytes_on, lost_now, spools_at, IsThereUnless, AreQuiet, OnVolumes, NodeNo, SpoolStops, none_lost, SparesBut, sparing_then, acts_on, lies_alone, quiet_on, still_roomy, there_by, Read, as_it_is, AddsGroup, AreRecords, IsReadOf, OnlyReads, HasFailed}
 use Rattle.mas_types.specs.declared.ids.Page.{Page}
-use Rattle.mas_types.specs.declared.jobs.Text.{Text}
-use Rattle.mas_types.specs.declared.jobs.Text.TheVariants.{Whole, Gone}
-use Rattle.mas_types.specs.declared.queues.Config.{Config}
-use Rattle.mas_types.specs.Fit.{is_text_line}
-use Rattle.mas_types.specs.Limits.{line_bytes, page_bytes}
-use Rattle.mas_types.specs.Queue.{line_count}
 use Rattle.mas_types.specs.Records.{HoldsNoRecords, is_record, records_in}
-use Rattle.spool_plant.specs.declared.plant.Act.{Act}
-use Rattle.spool_plant.specs.declared.plant.Act.TheVariants.{Done, Failed}
-use Rattle.spool_plant.specs.declared.plant.Part.TheVariants.{Disk as DiskPart}
-use Rattle.spool_plant.specs.View.{View, disk_now, slice}
-use Rattle.spool_plant.specs.Acts.{Acts, Goes, ReadBy, Reads}
 use Rattle.spool_text.specs.Laws.{ReadsWhatIsHeld}
 use Rattle.spool_text.specs.Reading.{AddsRecords}
 use Rattle.spool_volumes.specs.Texts.{Held, all_records, first_gone, gone_or, held, records_on, text_of, text_unless}
-use Rattle.spool_volumes.specs.Volumes.{page_of, start_of, volume_of, AreRoomy}
-use Rattle.mas_complex.specs.Spool.{IsGroupOf, ReadsGroup, device_of, is_within, page_part, page_start}
-use Rattle.mas_complex.specs.Texts.{Spools, bytes_on, lost_now, spools_at, IsThereUnless}
 use Rattle.mas_complex.proofs.Quotients.{few_quotient}
 use Rattle.mas_complex.proofs.Spooled.{each_quiet, read_quiet}
 use Rattle.queue_laws.proofs.SoundEnter.{All-none}
-use Rattle.member_decks.specs.Spooling.{AreQuiet, OnVolumes}
-use Rattle.member_node.specs.declared.member.NodeNo.{NodeNo}
 use Rattle.member_node.specs.declared.member.NodeNo.TheVariants as no
-use Rattle.member_decks.specs.Steps.{SpoolStops}
-use Rattle.member_node.specs.Calls.{none_lost}
-use Rattle.member_node.specs.Spares.{SparesBut}
-use Rattle.member_node.proofs.SpareLemmas.{sparing_then}
-use Rattle.member_decks.proofs.PageLemmas.{acts_on, lies_alone, quiet_on, still_roomy, there_by}
-use Rattle.job_outcome.specs.declared.outcomes.Read.{Read}
 use Rattle.job_outcome.specs.declared.outcomes.Read.TheVariants as read
-use Rattle.member_work.specs.Looks.{as_it_is}
-use Rattle.member_work.specs.Reading.{AddsGroup, AreRecords, IsReadOf, OnlyReads}
-use Rattle.member_work.specs.Rounds.{HasFailed}
 
 -- ONE PAGE
 

@@ -1,62 +1,21 @@
 -- What acts without the lock show of a text.
-use Rattle.std.proofs.Common.{OnOk, Result, Ok, Err, ◌≡◌, ◌∙◌, ℕ, ◌*◌, ◌≤◌, Bool, true, false, List, append-nil, Option, Some, None, ap, refl, sym, subst, arith}
-use Rattle.std.proofs.Math.Logic.{∥∥₁_elim}
-use Rattle.std.specs.Coded.{Coded-set}
-use Rattle.queue_laws.proofs.Finds.{find-All}
-use Rattle.mas_types.specs.declared.ids.GroupNo.{GroupNo}
+use Rattle.member_acts.proofs.Names.{OnOk, Result, Ok, Err, ◌≡◌, ◌∙◌, ℕ, ◌*◌, ◌≤◌, Bool, true, false, List, append-nil, Option, Some, None, ap, refl, sym, subst, arith, ◌⊎◌, inl, inr, zero, suc, ◌+◌, ◌<◌, [], ◌∷◌, ◌++◌, length, map, take, ∥∥₁_elim, Coded-set, find-All, GroupNo, JobNo, MemberId, OutNo, Job, Output, Text, Whole, Gone, Config, Queue, Batch, Entry, Deck, OutputThing, has_key, has_number, job_at, line_count, output_at, printing_at, total, Spool, OutSpec, Closing, Disk as DiskPart, Goes, View, ViewDisk as Disk, Line, disk_now, paper_now, Ghosts as PlantGhosts, AreRoomy, groups_of, kept_all, run, HasTexts, IsThereUnless, lost_now, spools_at, Spools, Parts, whole, counts_of, Read, gone_with, as_it_is, IsChunkOf, IsPrinting, IsToldOutput, MayPrintTo, after_lines, chunk_end, printed_end as printed_by, key_of, limit_most, output_key, still_busy, IsFailedRead, IsReadOf, HasFailed, IsReadAs, IsWhole, coded_read, number_of, AreSpooled, HasInked, Inked, IsInkedTo, inked_of, is_printer_lost, lines_read, torn_line, tells_some, OnVolumes, SpoolCauses, GroupsKept, AreQuiet, IsQuiet, SpoolStops, Found, NodeNo, BothLost, ConsoleFault, NoMemory, Halted, HasOnlyPrinted, HasStayed, HasWritten, IsJobStill, IsOutputStill, finds_of, lines_next, lowest_for, printed_in}
+use Rattle.mas_types.specs.declared.ids.Dev.{Dev}
 use Rattle.mas_types.specs.declared.answers.Closing.TheVariants as closing
-use Rattle.mas_types.specs.declared.ids.JobNo.{JobNo}
-use Rattle.mas_types.specs.declared.ids.MemberId.{MemberId}
-use Rattle.mas_types.specs.declared.ids.OutNo.{OutNo}
-use Rattle.mas_types.specs.declared.jobs.Job.{Job}
-use Rattle.mas_types.specs.declared.jobs.Output.{Output}
-use Rattle.mas_types.specs.declared.jobs.Text.{Text}
-use Rattle.mas_types.specs.declared.jobs.Text.TheVariants.{Whole, Gone}
-use Rattle.mas_types.specs.declared.queues.Config.{Config}
-use Rattle.mas_types.specs.declared.queues.Queue.{Queue}
-use Rattle.mas_types.specs.declared.journals.Batch.{Batch}
-use Rattle.mas_types.specs.declared.journals.Entry.{Entry}
-use Rattle.mas_types.specs.declared.queues.Thing.TheVariants.{Deck, Output as OutputThing}
-use Rattle.mas_types.specs.Queue.{has_key, has_number, job_at, line_count, output_at, printing_at, total}
 use Rattle.lay_bytes.specs.declared.records.JobRec.{JobRec}
 use Rattle.lay_bytes.specs.declared.records.OutRec.{OutRec}
 use Rattle.ckpt_tables.specs.Shape.{HasSpelling}
+use Rattle.ckpt_tables.specs.declared.tables.Tables.{Tables}
 use Rattle.output_queue.specs.Outputs.{AreOutputs, HasOutput}
 use Rattle.queue_telling.specs.Telling.{Tell}
-use Rattle.ckpt_tables.specs.declared.tables.Tables.{Tables}
-use Rattle.mas_types.specs.declared.ids.Dev.TheVariants.{Spool}
-use Rattle.spool_plant.specs.declared.plant.Part.TheVariants.{Disk as DiskPart}
-use Rattle.spool_plant.specs.Acts.{Goes}
-use Rattle.spool_plant.specs.View.{View}
-use Rattle.spool_volumes.specs.Volumes.{AreRoomy}
-use Rattle.track_groups.specs.Places.{groups_of}
 use Rattle.paper_laws.specs.Paper.{busy_in}
-use Rattle.mas_complex.specs.Journals.{kept_all}
-use Rattle.mas_complex.specs.Meaning.{run}
-use Rattle.mas_complex.specs.Texts.{HasTexts, IsThereUnless, lost_now, spools_at}
-use Rattle.job_outcome.specs.declared.outcomes.Read.{Read}
 use Rattle.job_outcome.specs.declared.outcomes.Read.TheVariants as read
-use Rattle.member_work.specs.Gone.{gone_with}
-use Rattle.member_decks.proofs.OpenLemmas.{tells_some}
-use Rattle.member_work.specs.Looks.{as_it_is}
-use Rattle.member_work.specs.Printing.{IsChunkOf, IsPrinting, IsToldOutput, MayPrintTo}
-use Rattle.member_work.specs.Units.{chunk_end, printed_end as printed_by}
-use Rattle.member_work.proofs.PrintedLemmas.{key_of, limit_most, output_key, still_busy}
-use Rattle.step_turns.specs.JobEnds.{printed_end}
-use Rattle.member_work.specs.Reading.{IsFailedRead, IsReadOf}
-use Rattle.member_work.specs.Rounds.{HasFailed, IsReadAs, IsWhole}
 use Rattle.member_work.specs.Steps.{IsTold}
-use Rattle.member_work.proofs.LookingLemmas.{coded_read, number_of}
-use Rattle.mas_types.specs.declared.jobs.OutSpec.{OutSpec}
-use Rattle.spool_plant.specs.declared.plant.Plant.{Ghosts as PlantGhosts}
-use Rattle.mas_complex.specs.Parts.{Parts}
-use Rattle.member_node.specs.declared.member.Member.{Member}
 use Rattle.member_decks.specs.declared.spooling.SpoolError.{SpoolError}
 use Rattle.member_decks.specs.declared.spooling.SpoolError.TheVariants as spool
-use Rattle.member_decks.specs.Spooling.{OnVolumes, SpoolCauses, GroupsKept}
-use Rattle.member_work.specs.Spooled.{AreSpooled}
-use Rattle.member_asides.specs.Asides.{finds_of}
-use Rattle.member_asides.specs.Asides.{HasStayed, HasWritten, IsJobStill, IsOutputStill, lowest_for}
+use Rattle.step_turns.specs.JobEnds.{printed_end}
+use Rattle.member_node.specs.declared.member.Member.{Member}
+use Rattle.member_acts.proofs.InkedLemmas.{inked_stopped, inked_wanting, unprinted_yet}
 
 one_group : (a b : GroupNo) → Some a ≡ Some b → a ≡ b
 one_group a b e = cc
@@ -73,12 +32,10 @@ module _ (told : Type 0) (config : Config) (v w : View) (text : Text) (count : �
   -- a text that stands in these groups, or stood there
   pub text_seen : (Stands : Type 0) (o : Read) → its ≡ groups → line_count text ≡ count → told → IsWhole text → AreRoomy v config → ∥ Stands ∥₁ → (Stands → IsThereUnless (lost_now v) (spools_at v v.now) config.groups text its)
       → Reads o → IsFailedRead config.groups groups o v w → IsReadAs told config.groups text its (Some o) v w
-  text_seen Stands (read.Lines lines) same lines_are tells whole roomy texts there reads failed =
-      λ again. ∥∥₁_elim texts (Coded-set coded_read _ _) (λ stands. reads text lines_are tells roomy (subst (λ (gs : List GroupNo). IsThereUnless (lost_now v) (spools_at v v.now) config.groups text gs) same (there stands)))
-  text_seen Stands (read.Gone group) same lines_are tells whole roomy texts there reads failed =
-      λ again. ∥∥₁_elim texts (Coded-set coded_read _ _) (λ stands. reads text lines_are tells roomy (subst (λ (gs : List GroupNo). IsThereUnless (lost_now v) (spools_at v v.now) config.groups text gs) same (there stands)))
   text_seen Stands (read.Lost volume) same lines_are tells whole roomy texts there reads failed =
       (λ again. whole, subst (λ (gs : List GroupNo). HasFailed config.groups gs volume v w) (sym same) failed)
+  text_seen Stands _ same lines_are tells whole roomy texts there reads failed =
+      λ again. ∥∥₁_elim texts (Coded-set coded_read _ _) (λ stands. reads text lines_are tells roomy (subst (λ (gs : List GroupNo). IsThereUnless (lost_now v) (spools_at v v.now) config.groups text gs) same (there stands)))
 
 -- the text of a job, and its groups, as the member's tables still tell them
 module _ (told : Type 0) (config : Config) (t : Tables) (Q : Queue) (v w : View) (n : JobNo) (r : JobRec) (j : Job) where
@@ -183,8 +140,7 @@ chunk_from t by n i at r last spelled some its is =
 pub printer_lost : (lost : Bool) (o : Read) → printed_by lost o ≡ Some closing.PrinterLost → lost ≡ true
 printer_lost true o is = refl
 printer_lost false (read.Lines lines) is = absurd (cc)
-printer_lost false (read.Gone group) is = absurd (cc)
-printer_lost false (read.Lost volume) is = absurd (cc)
+printer_lost false _ is = absurd (cc)
 
 pub none_refused : (lost printer : Bool) (o : Read) → (printer ≡ false → printed_by lost o ≡ Some closing.PrinterLost → ⊥) → printed_end printer o ≡ None → printed_by lost o ≡ None
 none_refused lost true (read.Lines lines) not none = absurd (cc)
@@ -223,3 +179,127 @@ writes_by plants x y m specs (Err (spool.Lost volume)) acts cause there spares =
   spares = spares;
 }
 writes_by plants x y m specs (Err spool.Halted) acts cause there spares = record { acts = acts; cause = (cause.2, cause.1); finds = tt; spares = spares }
+
+-- PAPER
+
+-- acts on volumes print nothing
+pub papers_now : (told : Type 0) (by : ℕ) (v w : View) → OnVolumes told by v w → told → (m : ℕ) → paper_now w m ≡ paper_now v m
+papers_now told by v w acts t m = acts.papers t w.now acts.goes.later (omega arith) m
+
+-- nor do prints write to any volume
+pub quiet_disks : (old : Spools) (v w : View) → ((d : Dev) → disk_now w d ≡ disk_now v d) → AreQuiet old (spools_at v v.now) → AreQuiet old (spools_at w w.now)
+quiet_disks old v w same quiet n = subst (λ (d : Disk). IsQuiet (old n) d) (sym (same (Spool n))) (quiet n)
+
+abbrev no_lines : List (List ℕ)
+no_lines = []
+
+take_none : (k : ℕ) → take k no_lines ≡ no_lines
+take_none zero = refl
+take_none (suc k) = refl
+
+none_taken : (lines : List (List ℕ)) → take 0 lines ≡ []
+none_taken [] = refl
+none_taken (line ∷ lines) = refl
+
+-- of no lines none stand there, as of any lines
+same_ink : (k : Inked) (lines : List (List ℕ)) → k.lines ≡ 0 → inked_of k [] ≡ inked_of k lines
+same_ink k lines none = ap (λ (ls : List (List ℕ)). map whole ls ++ torn_line k.rest) (take_none k.lines ∙ sym (none_taken lines) ∙ ap (λ (n : ℕ). take n lines) (sym none))
+
+module _ {P C : Type 0} (plants : PlantGhosts P) (by : MemberId) (lines : List (List ℕ)) (x y : Parts P C) where
+  -- the text wasn't read
+  pub inked_unread : {T : Type 0} (names : T → ℕ → Bool) (lost : T → Bool) (e : NodeNo) → SpoolStops names (Err e) by.0 (plants.view x.plant) (plants.view y.plant) → ((m : ℕ) → paper_now (plants.view y.plant) m ≡ paper_now (plants.view x.plant) m) → y.printed ≡ x.printed
+      → HasInked plants lost by lines x y (Err e)
+  inked_unread {T} names lost e stops papers same = by_error e stops where
+    counts : counts_of y.printed by ≡ counts_of x.printed by
+    counts = ap (λ (l : List ℕ). counts_of l by) same
+
+    by_error : (e : NodeNo) → SpoolStops names (Err e) by.0 (plants.view x.plant) (plants.view y.plant) → HasInked plants lost by lines x y (Err e)
+    by_error NoMemory stops = inked_wanting plants by lines lost x y (unprinted_yet plants by lines x y papers same) (omega (arith, counts)) (omega (arith, counts))
+    by_error Halted stops = inked_stopped plants by lines lost x y (unprinted_yet plants by lines x y papers same) (omega (arith, counts)) (omega (arith, counts))
+    by_error BothLost stops = absurd stops
+    by_error ConsoleFault stops = absurd stops
+
+  -- an error, with another answer where there is none
+  pub inked_error : {S T : Type 0} (one : S → Bool) (two : T → Bool) (e : NodeNo) → HasInked plants one by lines x y (Err e) → HasInked plants two by lines x y (Err e)
+  inked_error one two NoMemory k = record { inked = k.inked; paper = k.paper; others = k.others; by_answer = k.by_answer; counted = k.counted; other_counts = k.other_counts }
+  inked_error one two Halted k = record { inked = k.inked; paper = k.paper; others = k.others; by_answer = k.by_answer; counted = k.counted; other_counts = k.other_counts }
+  inked_error one two BothLost k = absurd k.by_answer
+  inked_error one two ConsoleFault k = absurd k.by_answer
+
+  -- the printer was found lost, by one answer as by the other
+  pub inked_found : {S T : Type 0} (one : S → Bool) (two : T → Bool) (s : S) (t : T) → one s ≡ two t → HasInked plants one by lines x y (Ok s) → HasInked plants two by lines x y (Ok t)
+  inked_found one two s t same k = record {
+    inked = k.inked;
+    paper = k.paper;
+    others = k.others;
+    by_answer = subst (λ (b : Bool). IsInkedTo b (length lines) k.inked) same k.by_answer;
+    counted = k.counted;
+    other_counts = k.other_counts;
+  }
+
+  -- where no line was to be printed
+  pub inked_nothing : {T : Type 0} (lost : T → Bool) (e : NodeNo) → HasInked plants lost by [] x y (Err e) → HasInked plants lost by lines x y (Err e)
+  inked_nothing lost NoMemory k = record {
+    inked = k.inked;
+    paper = k.paper ∙ ap (λ (l : List Line). paper_now (plants.view x.plant) by.0 ++ l) (same_ink k.inked lines (let few = k.by_answer.0 in omega (arith, few)));
+    others = k.others;
+    by_answer = (let few = k.by_answer.0 in omega (arith, few), k.by_answer.1);
+    counted = k.counted;
+    other_counts = k.other_counts;
+  }
+  inked_nothing {T} lost Halted k = record {
+    inked = k.inked;
+    paper = k.paper ∙ ap (λ (l : List Line). paper_now (plants.view x.plant) by.0 ++ l) (same_ink k.inked lines (let few = k.by_answer.0 in omega (arith, few)));
+    others = k.others;
+    by_answer = (let few = k.by_answer.0 in omega (arith, few), rest k.by_answer.1);
+    counted = k.counted;
+    other_counts = k.other_counts;
+  } where
+    rest : ((k.inked.rest ≡ None) ⊎ (k.inked.lines < 0)) → ((k.inked.rest ≡ None) ⊎ (k.inked.lines < length lines))
+    rest (inl none) = inl none
+    rest (inr less) = absurd (omega (arith, less))
+  inked_nothing lost BothLost k = absurd k.by_answer
+  inked_nothing lost ConsoleFault k = absurd k.by_answer
+
+-- the lines of the record are those of the output
+pub same_lines : (r : OutRec) (o : Output) (was is last : ℕ) (x : Read) → o.job ≡ r.job → o.index ≡ r.index → o.mark ≡ r.mark → is ≡ was → lines_read r.job r.index (r.mark + is) last x ≡ lines_next was last o x
+same_lines r o was is last x job index mark same =
+    ap (λ (n : JobNo). lines_read n r.index (r.mark + is) last x) (sym job)
+    ∙ ap (λ (i : OutNo). lines_read o.job i (r.mark + is) last x) (sym index)
+    ∙ ap (λ (k : ℕ). lines_read o.job o.index (k + is) last x) (sym mark)
+    ∙ ap (λ (k : ℕ). lines_read o.job o.index (o.mark + k) last x) same
+
+-- an error after the text was read: of the lines of the output some stand there, by how it was read
+pub inked_as_it_is : {P C : Type 0} (plants : PlantGhosts P) (by : MemberId) (told : Type 0) (per : ℕ) (groups : List GroupNo) (v w : View) (o : Output) (was last : ℕ) (x y : Parts P C) (lost : Found → Bool) (e : NodeNo) (a : Read) → told → IsReadAs told per o.text groups (Some a) v w
+    → HasInked plants lost by (lines_next was last o a) x y (Err e) → HasInked plants lost by (lines_next was last o (as_it_is o.text)) x y (Err e)
+inked_as_it_is plants by told per groups v w o was last x y lost e (read.Lines lines) t seen k = subst (λ (b : Read). HasInked plants lost by (lines_next was last o b) x y (Err e)) (seen t) k
+inked_as_it_is plants by told per groups v w o was last x y lost e (read.Gone group) t seen k = subst (λ (b : Read). HasInked plants lost by (lines_next was last o b) x y (Err e)) (seen t) k
+inked_as_it_is plants by told per groups v w o was last x y lost e (read.Lost volume) t seen k = inked_nothing plants by (lines_next was last o (as_it_is o.text)) x y lost e k
+
+-- whether the printer was found lost
+pub same_lost : (printer lost : Bool) (a : Read) (end : Option Closing) → end ≡ printed_by lost a → (printer ≡ true → end ≡ Some closing.PrinterLost) → (printer ≡ false → end ≡ Some closing.PrinterLost → ⊥) → is_printer_lost end ≡ printer
+same_lost true lost a end is found not = ap is_printer_lost (found refl)
+same_lost false true (read.Lines lines) end is found not = absurd (not refl is)
+same_lost false false (read.Lines lines) end is found not = ap is_printer_lost is
+same_lost false lost (read.Gone group) end is found not = ap is_printer_lost is
+same_lost false lost (read.Lost volume) end is found not = ap is_printer_lost is
+
+-- THE REST
+
+module _ {P C : Type 0} (by : MemberId) (x y : Parts P C) where
+  pub only_error : (T : Type 0) (e : NodeNo) → y ≡ printed_in y x → HasOnlyPrinted {T = T} (Err e) by x y
+  only_error T Halted same = inl same
+  only_error T _ same = same
+
+  -- lines were printed
+  pub only_lines : (S T : Type 0) (e : NodeNo) → y ≡ after_lines {T = S} (Err e) by y x → HasOnlyPrinted {T = T} (Err e) by x y
+  only_lines S T Halted same = inr same
+  only_lines S T _ same = same
+
+  -- a text was read
+  pub only_read : y ≡ record x { plant = y.plant } → y ≡ printed_in y x
+  only_read same = same ∙ ap (λ (l : List ℕ). record x { plant = y.plant; printed = l }) (sym (ap (λ (p : Parts P C). p.printed) same))
+
+  -- and then lines were printed
+  pub lines_behind : {T : Type 0} (w : Parts P C) (r : Result T NodeNo) → w ≡ record x { plant = w.plant } → y ≡ after_lines r by y w → y ≡ after_lines r by y x
+  lines_behind w r read same = same ∙ ap (after_lines r by y) read

@@ -1,9 +1,7 @@
 //! Acts of a step of work that want no lock: a job's text is read, its outputs are written, an output's next lines are
 //! printed.
 ghost use Rattle.std.specs.Prelude.{◌≡◌, true, false, Some};
-ghost use Rattle.mas_types.specs.declared.answers.Closing.TheVariants.{PrinterLost};
-ghost use Rattle.mas_complex.specs.Parts.{parts_of};
-ghost use Rattle.member_asides.specs.Asides.{MayPrintLines, MayReadText, MayWriteOutputs, OnlyPrints, PrintsLines, ReadsText, WritesOutputs, deck_found, finds_of, printed_found, read_found};
+ghost use Rattle.member_acts.specs.Names.{PrinterLost, parts_of, MayPrintLines, MayReadText, MayWriteOutputs, OnlyPrints, PrintsLines, ReadsText, WritesOutputs, deck_found, finds_of, printed_found, read_found};
 
 use crate::gone::{gone_deck, gone_output};
 use crate::printing::print_text;

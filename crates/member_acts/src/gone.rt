@@ -2,17 +2,8 @@
 ghost use Rattle.std.specs.Prelude.{◌≡◌, ◌&&◌, None, Some, if◌then◌else◌};
 ghost use Rattle.std.specs.List.{list_any};
 ghost use Rattle.std.specs.Option.{option_copied};
-ghost use Rattle.mas_types.specs.declared.jobs.Job.{Job as JobLem};
-ghost use Rattle.mas_types.specs.declared.jobs.Output.{Output as OutputLem};
-ghost use Rattle.mas_types.specs.Fit.{AreDistinct, IsConfig};
-ghost use Rattle.mas_types.specs.Ids.{same_number};
-ghost use Rattle.mas_types.specs.Journal.{is_kept as is_kept_lem};
-ghost use Rattle.mas_types.specs.Queue.{job_at as job_at_lem, output_at as output_at_lem};
-ghost use Rattle.mas_types.specs.Sound.{IsSound};
-ghost use Rattle.mas_complex.specs.Journals.{kept_all};
-ghost use Rattle.mas_complex.specs.Meaning.{run};
-ghost use Rattle.member_work.specs.Gone.{are_outputs_brought as are_outputs_brought_lem, brings_job as brings_job_lem, brings_outputs as brings_outputs_lem, gone_in as gone_in_lem, gone_output_in as gone_output_in_lem, gone_output_since, gone_since, gone_with as gone_with_lem, is_brought as is_brought_lem, names_job as names_job_lem};
-ghost use Rattle.brief_journal.specs.Brief.{command_of, reply_of};
+ghost use Rattle.member_acts.specs.Names.{Job as JobLem, Output as OutputLem, AreDistinct, IsConfig, same_number, is_kept as is_kept_lem, job_at as job_at_lem, output_at as output_at_lem, IsSound, kept_all, run, brings_job as brings_job_lem, brings_outputs as brings_outputs_lem, gone_in as gone_in_lem, gone_output_in as gone_output_in_lem, gone_output_since, gone_since, gone_with as gone_with_lem, is_brought as is_brought_lem, names_job as names_job_lem, command_of, reply_of};
+ghost use Rattle.member_acts.specs.Brings.{brings_by};
 
 use mas_complex::{
     BriefBatch, BriefCommand, BriefEntry, BriefJob, BriefOutput, BriefQueue, BriefReply, BriefText,
@@ -67,43 +58,69 @@ fn brings_job(job: JobNo, brief: &BriefEntry) -> bool
     }
 }
 
-// One of the entries that these are in brief did.
-fn is_job_brought(job: JobNo, briefs: &[BriefEntry]) -> bool
-    ensures { result ≡ list_any (λ b. brings_job_lem job (command_of b.command) (reply_of b.reply)) briefs.now }
+// The entry brought outputs of the job.
+fn brings_outputs(job: JobNo, brief: &BriefEntry) -> bool
+    ensures { result ≡ brings_outputs_lem job (command_of brief.now.command) (reply_of brief.now.reply) }
 {
-    briefs.iter().any(|brief| brings_job(job, brief))
+    match (&brief.command, &brief.reply) {
+        (BriefCommand::Ended(ended), BriefReply::Count(_)) => ended.0 == job.0,
+        _ => false,
+    }
+}
+
+// What gives a text its lines: that of the job with this number, or those of its outputs.
+#[derive(Clone, Copy)]
+enum Bringing {
+    Job(JobNo),
+    Outputs(JobNo),
+}
+
+fn brings(text: Bringing, brief: &BriefEntry) -> bool
+    ensures { result ≡ brings_by text (command_of brief.now.command) (reply_of brief.now.reply) }
+{
+    match text {
+        Bringing::Job(job) => brings_job(job, brief),
+        Bringing::Outputs(job) => brings_outputs(job, brief),
+    }
+}
+
+// One of the entries that these are in brief did.
+fn is_any_brought(text: Bringing, briefs: &[BriefEntry]) -> bool
+    ensures { result ≡ list_any (λ b. brings_by text (command_of b.command) (reply_of b.reply)) briefs.now }
+{
+    briefs.iter().any(|brief| brings(text, brief))
 }
 
 // One of the batch's entries did.
-fn is_brought(job: JobNo, batch: &BriefBatch) -> bool
-    ensures { result ≡ is_brought_lem job batch.now.entries }
+fn is_brought(text: Bringing, batch: &BriefBatch) -> bool
+    ensures { result ≡ is_brought_lem (brings_by text) batch.now.entries }
 {
-    is_job_brought(job, batch.briefs())
+    is_any_brought(text, batch.briefs())
 }
 
 // One of a kept batch's entries did.
-fn is_brought_by(job: JobNo, batch: &BriefBatch) -> bool
-    ensures { result ≡ (is_kept_lem batch.now.fate && is_brought_lem job batch.now.entries) }
+fn is_brought_by(text: Bringing, batch: &BriefBatch) -> bool
+    ensures { result ≡ (is_kept_lem batch.now.fate && is_brought_lem (brings_by text) batch.now.entries) }
 {
-    matches!(batch.fate(), Fate::Kept) && is_brought(job, batch)
+    matches!(batch.fate(), Fate::Kept) && is_brought(text, batch)
 }
 
-fn is_brought_in(job: JobNo, batches: &[BriefBatch]) -> bool
-    ensures { result ≡ list_any (λ b. is_kept_lem b.fate && is_brought_lem job b.entries) batches.now }
+fn is_brought_in(text: Bringing, batches: &[BriefBatch]) -> bool
+    ensures { result ≡ list_any (λ b. is_kept_lem b.fate && is_brought_lem (brings_by text) b.entries) batches.now }
 {
-    batches.iter().any(|batch| is_brought_by(job, batch))
+    batches.iter().any(|batch| is_brought_by(text, batch))
 }
 
-// The group with which the text was gone, unless one of these batches brought a job of this number. They aren't looked
-// at where it was whole.
-fn unless_brought(job: JobNo, gone: Option<GroupNo>, batches: &[BriefBatch]) -> Option<GroupNo>
-    ensures { result ≡ (if list_any (λ b. is_kept_lem b.fate && is_brought_lem job b.entries) batches.now then None else
-        gone) }
+// The group with which the text was gone, unless one of these batches gave it lines. They aren't looked at where it was
+// whole.
+fn unless_brought(text: Bringing, gone: Option<GroupNo>, batches: &[BriefBatch]) -> Option<GroupNo>
+    ensures { result ≡ (if list_any (λ b. is_kept_lem b.fate && is_brought_lem (brings_by text) b.entries) batches.now
+        then None else gone) }
 {
     if gone.is_none() {
         return None;
     }
-    if is_brought_in(job, batches) {
+    if is_brought_in(text, batches) {
         return None;
     }
     gone
@@ -124,7 +141,7 @@ pub(crate) fn gone_deck<P: Plant + Drop, C: Steady + Drop>(
 {
     kept_replies(complex);
     let batches = complex.journal.batches();
-    unless_brought(job, gone_in(&complex.base, job), batches)
+    unless_brought(Bringing::Job(job), gone_in(&complex.base, job), batches)
 }
 
 fn output_at(queue: &BriefQueue, job: JobNo, index: OutNo) -> Option<&BriefOutput>
@@ -136,45 +153,6 @@ fn output_at(queue: &BriefQueue, job: JobNo, index: OutNo) -> Option<&BriefOutpu
         .find(|it| it.job().0 == job.0 && it.index().0 == index.0)
 }
 
-// The entry brought outputs of the job.
-fn brings_outputs(job: JobNo, brief: &BriefEntry) -> bool
-    ensures { result ≡ brings_outputs_lem job (command_of brief.now.command) (reply_of brief.now.reply) }
-{
-    match (&brief.command, &brief.reply) {
-        (BriefCommand::Ended(ended), BriefReply::Count(_)) => ended.0 == job.0,
-        _ => false,
-    }
-}
-
-// One of the entries that these are in brief did.
-fn is_end_brought(job: JobNo, briefs: &[BriefEntry]) -> bool
-    ensures { result ≡ list_any (λ b. brings_outputs_lem job (command_of b.command) (reply_of b.reply)) briefs.now }
-{
-    briefs.iter().any(|brief| brings_outputs(job, brief))
-}
-
-// One of the batch's entries did.
-fn are_outputs_brought(job: JobNo, batch: &BriefBatch) -> bool
-    ensures { result ≡ are_outputs_brought_lem job batch.now.entries }
-{
-    is_end_brought(job, batch.briefs())
-}
-
-// One of a kept batch's entries did.
-fn are_outputs_brought_by(job: JobNo, batch: &BriefBatch) -> bool
-    ensures { result ≡ (is_kept_lem batch.now.fate && are_outputs_brought_lem job batch.now.entries) }
-{
-    matches!(batch.fate(), Fate::Kept) && are_outputs_brought(job, batch)
-}
-
-fn are_outputs_brought_in(job: JobNo, batches: &[BriefBatch]) -> bool
-    ensures { result ≡ list_any (λ b. is_kept_lem b.fate && are_outputs_brought_lem job b.entries) batches.now }
-{
-    batches
-        .iter()
-        .any(|batch| are_outputs_brought_by(job, batch))
-}
-
 fn gone_output_in(queue: &BriefQueue, job: JobNo, index: OutNo) -> Option<GroupNo>
     ensures { result ≡ gone_output_in_lem queue.now job index }
 {
@@ -182,24 +160,6 @@ fn gone_output_in(queue: &BriefQueue, job: JobNo, index: OutNo) -> Option<GroupN
         Some(found) => gone_with(found.text()),
         None => None,
     }
-}
-
-// The group with which an output's text was gone, unless one of these batches brought outputs of its job.
-fn unless_outputs_brought(
-    job: JobNo,
-    gone: Option<GroupNo>,
-    batches: &[BriefBatch],
-) -> Option<GroupNo>
-    ensures { result ≡ (if list_any (λ b. is_kept_lem b.fate && are_outputs_brought_lem job b.entries) batches.now then
-        None else gone) }
-{
-    if gone.is_none() {
-        return None;
-    }
-    if are_outputs_brought_in(job, batches) {
-        return None;
-    }
-    gone
 }
 
 /// The group with which an output's text is gone, None where it is whole; where content is told, exactly. A text is
@@ -218,5 +178,9 @@ pub(crate) fn gone_output<P: Plant + Drop, C: Steady + Drop>(
     kept_replies(complex);
     complex.kept_given();
     let batches = complex.journal.batches();
-    unless_outputs_brought(job, gone_output_in(&complex.base, job, index), batches)
+    unless_brought(
+        Bringing::Outputs(job),
+        gone_output_in(&complex.base, job, index),
+        batches,
+    )
 }

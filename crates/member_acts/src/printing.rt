@@ -1,17 +1,6 @@
 //! Printing the lines of an output that come next.
-ghost use Rattle.std.specs.Prelude.{◌≡◌, ◌*◌, ◌+◌, ◌≤◌, ℕ, List, length, false, None, Some, IfOk, OnErr};
-ghost use Rattle.mas_types.specs.Limits.{members_most, printer_lines_most};
-ghost use Rattle.spool_plant.specs.Acts.{SameWires};
-ghost use Rattle.lock_cycle.specs.Books.{IsMember, is_stopped};
-ghost use Rattle.mas_complex.specs.Locking.{IsOfOther};
-ghost use Rattle.mas_complex.specs.Paper.{counts_of};
-ghost use Rattle.mas_complex.specs.Past.{values_of};
-ghost use Rattle.member_decks.specs.Steps.{SpoolStops};
-ghost use Rattle.job_outcome.specs.declared.outcomes.Read.TheVariants.{Lines as LinesRead};
-ghost use Rattle.member_work.specs.Inked.{Inks, OtherCountsStay, lines_read, lines_upto};
-ghost use Rattle.member_work.specs.Printing.{IsBeside, IsBookAfterLines, IsLinesPrinted, IsReservedAfterLines, MayPrintTo, SameDisks};
-ghost use Rattle.member_work.specs.Reading.{IsCounted};
-ghost use Rattle.member_work.specs.Rounds.{names_nothing, names_read};
+ghost use Rattle.std.specs.Prelude.{◌≡◌, ◌+◌, ◌≤◌, ℕ, List, length, false, None, Some, IfOk, OnErr};
+ghost use Rattle.member_acts.specs.Names.{members_most, printer_lines_most, SameWires, IsMember, is_stopped, IsOfOther, counts_of, parts_of, SpoolStops, Lines as LinesRead, Inks, OtherCountsStay, lines_read, lines_upto, IsBeside, IsLinesPrinted, MayPrintTo, SameDisks, after_lines, IsCounted, names_nothing, names_read};
 
 use job_outcome::Read;
 use lay_bytes::OutRec;
@@ -41,19 +30,7 @@ fn print_lines<P: Plant + Drop, C: Steady + Drop>(
     requires limit { last ≤ output.now.mark + printer_lines_most }
     requires may { P.tells → MayPrintTo complex.old.base complex.old.journal.batches complex.old.current by
         output.now.job output.now.index output.now.mark last text.now }
-    ensures pair { complex.new.pair ≡ complex.old.pair }
-    ensures base { complex.new.base ≡ complex.old.base }
-    ensures since { complex.new.since ≡ complex.old.since }
-    ensures renewals { complex.new.renewals ≡ complex.old.renewals }
-    ensures had { values_of complex.new.had ≡ values_of complex.old.had }
-    ensures journal { complex.new.journal ≡ complex.old.journal }
-    ensures current { complex.new.current ≡ complex.old.current }
-    ensures placed { complex.new.placed ≡ complex.old.placed }
-    ensures first { complex.new.first ≡ complex.old.first }
-    ensures second { complex.new.second ≡ complex.old.second }
-    ensures level { complex.new.level ≡ complex.old.level }
-    ensures book { IsBookAfterLines result by complex.old.book complex.new.book }
-    ensures reserved { IsReservedAfterLines result by complex.old.reserved complex.new.reserved }
+    ensures frame { parts_of complex.new ≡ after_lines result by (parts_of complex.new) (parts_of complex.old) }
     ensures acts { IsBeside P.tells (P.view complex.old.plant) (P.view complex.new.plant) }
     ensures disks { SameDisks P.tells (P.view complex.old.plant) (P.view complex.new.plant) }
     ensures inks { Inks by (lines_upto output.now.job output.now.index
@@ -100,19 +77,7 @@ pub(crate) fn print_text<P: Plant + Drop, C: Steady + Drop>(
     requires may { P.tells → (lines : List (List ℕ)) → read.now ≡ LinesRead lines
         → MayPrintTo complex.old.base complex.old.journal.batches complex.old.current by output.now.job output.now.index
         output.now.mark last lines }
-    ensures pair { complex.new.pair ≡ complex.old.pair }
-    ensures base { complex.new.base ≡ complex.old.base }
-    ensures since { complex.new.since ≡ complex.old.since }
-    ensures renewals { complex.new.renewals ≡ complex.old.renewals }
-    ensures had { values_of complex.new.had ≡ values_of complex.old.had }
-    ensures journal { complex.new.journal ≡ complex.old.journal }
-    ensures current { complex.new.current ≡ complex.old.current }
-    ensures placed { complex.new.placed ≡ complex.old.placed }
-    ensures first { complex.new.first ≡ complex.old.first }
-    ensures second { complex.new.second ≡ complex.old.second }
-    ensures level { complex.new.level ≡ complex.old.level }
-    ensures book { IsBookAfterLines result by complex.old.book complex.new.book }
-    ensures reserved { IsReservedAfterLines result by complex.old.reserved complex.new.reserved }
+    ensures frame { parts_of complex.new ≡ after_lines result by (parts_of complex.new) (parts_of complex.old) }
     ensures acts { IsBeside P.tells (P.view complex.old.plant) (P.view complex.new.plant) }
     ensures disks { SameDisks P.tells (P.view complex.old.plant) (P.view complex.new.plant) }
     ensures inks { Inks by (lines_read output.now.job output.now.index

@@ -1,22 +1,6 @@
 //! Reading a job's text from the spool volumes.
 ghost use Rattle.std.specs.Prelude.{◌≡◌, ◌≤◌, ◌∷◌, [], ℕ, All, IfOk, None as NoneLem, Ok as OkLem, Option, Some as SomeLem, false, length};
-ghost use Rattle.mas_types.specs.declared.ids.Dev.TheVariants.{Spool};
-ghost use Rattle.mas_types.specs.declared.jobs.Text.{Text};
-ghost use Rattle.mas_types.specs.Limits.{page_bytes, text_lines_most};
-ghost use Rattle.mas_types.specs.Queue.{line_count};
-ghost use Rattle.spool_plant.specs.declared.plant.Part.TheVariants.{Disk as DiskPart};
-ghost use Rattle.spool_volumes.specs.Texts.{text_unless};
-ghost use Rattle.spool_volumes.specs.Volumes.{page_of, volume_of as volume_of_lem, AreRoomy};
-ghost use Rattle.mas_complex.specs.Locking.{IsUp};
-ghost use Rattle.mas_complex.specs.Past.{values_of};
-ghost use Rattle.mas_complex.specs.Spool.{IsGroupOf};
-ghost use Rattle.mas_complex.specs.Texts.{bytes_on, lost_now, spools_at, IsThereUnless};
-ghost use Rattle.member_decks.specs.Spooling.{OnVolumes};
-ghost use Rattle.member_decks.specs.Steps.{SpoolStops, names_volume};
-ghost use Rattle.job_outcome.specs.Outcomes.{IsReadable};
-ghost use Rattle.member_work.specs.Looks.{as_it_is};
-ghost use Rattle.member_work.specs.Reading.{AddsUnless, AreRecords, IsCounted, IsFailedRead, IsReadOf, OnlyReads};
-ghost use Rattle.member_work.specs.Rounds.{HasFailed, names_read};
+ghost use Rattle.member_acts.specs.Names.{Spool, Text, page_bytes, text_lines_most, line_count, Disk as DiskPart, text_unless, page_of, volume_of as volume_of_lem, AreRoomy, IsUp, parts_of, IsGroupOf, bytes_on, lost_now, spools_at, IsThereUnless, OnVolumes, SpoolStops, names_volume, IsReadable, as_it_is, AddsUnless, AreRecords, IsCounted, IsFailedRead, IsReadOf, OnlyReads, HasFailed, names_read};
 
 use job_outcome::Read;
 use mas_complex::{Complex, Steady};
@@ -46,20 +30,7 @@ fn read_page<P: Plant + Drop, C: Steady + Drop>(
     requires up { IsUp complex.old.book by }
     requires some { 1 ≤ complex.old.base.config.groups }
     requires group { IsGroupOf complex.old.base.config group }
-    ensures pair { complex.new.pair ≡ complex.old.pair }
-    ensures base { complex.new.base ≡ complex.old.base }
-    ensures since { complex.new.since ≡ complex.old.since }
-    ensures renewals { complex.new.renewals ≡ complex.old.renewals }
-    ensures book { complex.new.book ≡ complex.old.book }
-    ensures journal { complex.new.journal ≡ complex.old.journal }
-    ensures current { complex.new.current ≡ complex.old.current }
-    ensures reserved { complex.new.reserved ≡ complex.old.reserved }
-    ensures printed { complex.new.printed ≡ complex.old.printed }
-    ensures had { values_of complex.new.had ≡ values_of complex.old.had }
-    ensures placed { complex.new.placed ≡ complex.old.placed }
-    ensures first { complex.new.first ≡ complex.old.first }
-    ensures second { complex.new.second ≡ complex.old.second }
-    ensures level { complex.new.level ≡ complex.old.level }
+    ensures frame { parts_of complex.new ≡ record (parts_of complex.old) { plant = complex.new.plant } }
     ensures acts { OnVolumes P.tells by.0 (P.view complex.old.plant) (P.view complex.new.plant) }
     ensures reads { OnlyReads P.tells (P.view complex.old.plant) (P.view complex.new.plant) }
     ensures there { result ≡ OkLem NoneLem
@@ -97,20 +68,7 @@ fn add_group<P: Plant + Drop, C: Steady + Drop>(
     requires up { IsUp complex.old.book by }
     requires some { 1 ≤ complex.old.base.config.groups }
     requires group { IsGroupOf complex.old.base.config group }
-    ensures pair { complex.new.pair ≡ complex.old.pair }
-    ensures base { complex.new.base ≡ complex.old.base }
-    ensures since { complex.new.since ≡ complex.old.since }
-    ensures renewals { complex.new.renewals ≡ complex.old.renewals }
-    ensures book { complex.new.book ≡ complex.old.book }
-    ensures journal { complex.new.journal ≡ complex.old.journal }
-    ensures current { complex.new.current ≡ complex.old.current }
-    ensures reserved { complex.new.reserved ≡ complex.old.reserved }
-    ensures printed { complex.new.printed ≡ complex.old.printed }
-    ensures had { values_of complex.new.had ≡ values_of complex.old.had }
-    ensures placed { complex.new.placed ≡ complex.old.placed }
-    ensures first { complex.new.first ≡ complex.old.first }
-    ensures second { complex.new.second ≡ complex.old.second }
-    ensures level { complex.new.level ≡ complex.old.level }
+    ensures frame { parts_of complex.new ≡ record (parts_of complex.old) { plant = complex.new.plant } }
     ensures acts { OnVolumes P.tells by.0 (P.view complex.old.plant) (P.view complex.new.plant) }
     ensures reads { OnlyReads P.tells (P.view complex.old.plant) (P.view complex.new.plant) }
     ensures added { IfOk result (AddsUnless P.tells complex.old.base.config group (P.view complex.old.plant)
@@ -166,20 +124,7 @@ pub(crate) fn read_text<P: Plant + Drop, C: Steady + Drop>(
     requires some { 1 ≤ complex.old.base.config.groups }
     requires within { All (IsGroupOf complex.old.base.config) groups.now }
     requires count { count ≤ text_lines_most }
-    ensures pair { complex.new.pair ≡ complex.old.pair }
-    ensures base { complex.new.base ≡ complex.old.base }
-    ensures since { complex.new.since ≡ complex.old.since }
-    ensures renewals { complex.new.renewals ≡ complex.old.renewals }
-    ensures book { complex.new.book ≡ complex.old.book }
-    ensures journal { complex.new.journal ≡ complex.old.journal }
-    ensures current { complex.new.current ≡ complex.old.current }
-    ensures reserved { complex.new.reserved ≡ complex.old.reserved }
-    ensures printed { complex.new.printed ≡ complex.old.printed }
-    ensures had { values_of complex.new.had ≡ values_of complex.old.had }
-    ensures placed { complex.new.placed ≡ complex.old.placed }
-    ensures first { complex.new.first ≡ complex.old.first }
-    ensures second { complex.new.second ≡ complex.old.second }
-    ensures level { complex.new.level ≡ complex.old.level }
+    ensures frame { parts_of complex.new ≡ record (parts_of complex.old) { plant = complex.new.plant } }
     ensures acts { OnVolumes P.tells by.0 (P.view complex.old.plant) (P.view complex.new.plant) }
     ensures reads { OnlyReads P.tells (P.view complex.old.plant) (P.view complex.new.plant) }
     ensures fits { IfOk result IsReadable }

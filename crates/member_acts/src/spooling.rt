@@ -1,16 +1,6 @@
 //! The outputs of a job into a member's groups on the spool volumes.
 ghost use Rattle.std.specs.Prelude.{◌≡◌, ◌≤◌, All, None, drop, length, take, OnOk, Ok};
-ghost use Rattle.mas_types.specs.Fit.{IsOutSpec};
-ghost use Rattle.mas_types.specs.Commands.Life.{groups_of_outputs as groups_of_outputs_lem};
-ghost use Rattle.mas_complex.specs.Journals.{kept_all};
-ghost use Rattle.mas_complex.specs.Locking.{IsUp};
-ghost use Rattle.mas_complex.specs.Meaning.{run};
-ghost use Rattle.mas_complex.specs.Parts.{parts_of};
-ghost use Rattle.mas_complex.specs.Spool.{IsGroupOf, IsHeldBy};
-ghost use Rattle.mas_complex.specs.Texts.{spools_at};
-ghost use Rattle.member_decks.specs.Spooling.{GroupsKept, OnVolumes, Rise, SpoolCauses};
-ghost use Rattle.spool_volumes.specs.Volumes.{AreRoomy};
-ghost use Rattle.member_work.specs.Spooled.{AreSpooled, AreWritten};
+ghost use Rattle.member_acts.specs.Names.{IsOutSpec, groups_of_outputs as groups_of_outputs_lem, kept_all, IsUp, run, parts_of, IsGroupOf, IsHeldBy, spools_at, GroupsKept, OnVolumes, Rise, SpoolCauses, AreRoomy, AreSpooled, AreWritten};
 
 use mas_complex::{Complex, Steady};
 use mas_types::{GroupNo, MemberId, OutSpec};

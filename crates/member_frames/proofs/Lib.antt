@@ -8,4 +8,4 @@ mod Sending
 mod SatLemmas
 mod Arriving
 mod Getting
-pub use Rattle.member_giving.proofs.Resumes
+pub use Rattle.member_giving.proofs.Sat

@@ -19,7 +19,7 @@ use Rattle.step_turns.specs.TurnParts.{Turn}
 use Rattle.member_sittings.specs.declared.ends.SittingEnd.{SittingEnd}
 use Rattle.member_giving.specs.Plays.{HasGiven, Keeps, SparesOthers, Wrote, after_full, full_of, unwritten, wrote_of}
 use Rattle.member_giving.specs.Works.{Outside, Place}
-use Rattle.member_giving.proofs.Gave.{closing_one}
+use Rattle.member_giving.proofs.Given.{closing_one}
 use Rattle.member_giving.proofs.Going.{after_batches, played_fits, played_full, played_full_error, played_part, played_part_error}
 use Rattle.member_giving.proofs.Within.{full_le, unwritten_one}
 use Rattle.member_frames.specs.declared.nexts.Next.{Next}

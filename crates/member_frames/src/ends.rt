@@ -11,11 +11,10 @@ ghost use Rattle.member_frames.specs.Plays.{EndsLine, ServesLine};
 use cmd_report::one_line;
 use mas_complex::{Complex, Steady};
 use mas_types::Closing;
-use member_giving::keep;
+use member_giving::{give_up, keep};
 use member_node::{Member, NodeNo};
 use member_sittings::{SittingEnd, release_of};
 use member_steps::tell_lines;
-use member_work::give_up;
 use spool_plant::Plant;
 use std::alloc::Global;
 use step_turns::{Holder, State};
@@ -44,7 +43,7 @@ pub(crate) fn close_line<P: Plant + Drop, C: Steady + Drop>(
     ensures reached { OnOk result (complex.new.level ≤ complex.old.level + 1) }
 {
     let Ok(lines) = one_line(alloc, holder.by, holder.step, end) else {
-        return Err(give_up(member, alloc, complex));
+        return Err(give_up(member, alloc, complex, holder));
     };
     keep(member, alloc, complex, holder)?;
     tell_lines(member, complex, &lines)?;

@@ -1,17 +1,6 @@
 -- Batches that are written of what is still to come: how they begin, and whose their entries are.
-use Rattle.std.proofs.Common.{◌≡◌, ◌∙◌, ℕ, ◌≤◌, ◌<◌, Bool, true, false, if◌then◌else◌, List, [], ◌∷◌, ◌++◌, length, All, append_assoc, append-nil, ap, refl, sym, subst, arith}
-use Rattle.std.proofs.lemmas.Bool.Decides.{nat_tests}
-use Rattle.std.proofs.lemmas.List.{length-append}
-use Rattle.std.proofs.lemmas.List.Elements.{All-append, All-cons, All-head, All-nil, All-tail}
-use Rattle.mas_types.specs.declared.ids.MemberId.{MemberId}
-use Rattle.mas_types.specs.declared.journals.Entry.{Entry}
-use Rattle.queue_laws.proofs.Finds.{test_cases}
-use Rattle.member_decks.specs.Steps.{AreOf}
+use Rattle.member_giving.proofs.Names.{◌≡◌, ℕ, ◌≤◌, ◌<◌, Bool, true, false, if◌then◌else◌, List, [], ◌∷◌, ◌++◌, length, All, ◌∙◌, append_assoc, append-nil, ap, refl, sym, subst, arith, length-append, nat_tests, All-append, All-cons, All-head, All-nil, All-tail, MemberId, Entry, test_cases, AreOf, StartsAs, batch_of, cut, cut_after, is_full, all_entries, after_full, full_of}
 use Rattle.member_work.specs.Work.{batches_in}
-use Rattle.member_work.proofs.LeavesLemmas.{StartsAs}
-use Rattle.step_turns.specs.Batches.{batch_of, cut, cut_after, is_full}
-use Rattle.step_turns.specs.Entries.{all_entries}
-use Rattle.member_giving.specs.Plays.{after_full, full_of}
 
 -- a batch, where there is something to write
 pub one_batch : (es : List Entry) → batches_in (es ∷ []) ≡ batch_of es

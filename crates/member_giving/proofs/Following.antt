@@ -1,30 +1,11 @@
 -- What follows in a sitting by the next unit.
-use Rattle.std.proofs.Common.{◌≡◌, ℕ, zero, suc, ◌-◌, ◌≤◌, Bool, true, false, Option, Some, None, ap, refl, sym, arith}
-use Rattle.std.specs.Option.{option_map_or}
-use Rattle.mas_types.specs.declared.commands.Command.{Command}
+use Rattle.member_giving.proofs.Names.{◌≡◌, ℕ, zero, suc, ◌-◌, ◌≤◌, Bool, true, false, Option, Some, None, ap, refl, sym, arith, option_map_or, Command, JobNo, MemberId, OutNo, Job, Output, Queue, is_member, job_at, output_at, may_give, unit_of, IsMarkRight, command_of, each_command, is_drop, Holder, Turn, next_unit, no_more, one_command, units_from, IsOfUnit, lines_of, text_of, turn_by, MayBeGiven}
 use Rattle.mas_types.specs.declared.commands.Command.TheVariants as command
-use Rattle.mas_types.specs.declared.ids.JobNo.{JobNo}
-use Rattle.mas_types.specs.declared.ids.MemberId.{MemberId}
-use Rattle.mas_types.specs.declared.ids.OutNo.{OutNo}
-use Rattle.mas_types.specs.declared.jobs.Job.{Job}
-use Rattle.mas_types.specs.declared.jobs.Output.{Output}
-use Rattle.mas_types.specs.declared.queues.Queue.{Queue}
 use Rattle.mas_types.specs.declared.units.Unit as units
 use Rattle.mas_types.specs.declared.units.Unit.TheVariants as unit
 use Rattle.mas_types.specs.Limits.{members_most}
-use Rattle.mas_types.specs.Queue.{is_member, job_at, output_at}
-use Rattle.mas_types.specs.Step.{may_give}
-use Rattle.mas_types.specs.Units.{unit_of}
 use Rattle.queue_commands.specs.Given.{IsGiver, is_plain}
-use Rattle.paper_laws.specs.Counts.{IsMarkRight}
-use Rattle.member_work.specs.Units.{command_of}
-use Rattle.member_work.proofs.UnitStepLemmas.{each_command}
-use Rattle.step_turns.specs.Entries.{is_drop}
-use Rattle.step_turns.specs.declared.states.Holder.{Holder}
-use Rattle.step_turns.specs.Turns.{Turn, next_unit, no_more, one_command, units_from}
 use Rattle.member_giving.specs.declared.nexts.Next.TheVariants as next
-use Rattle.member_giving.specs.Nexts.{IsOfUnit, lines_of, text_of, turn_by}
-use Rattle.member_asides.specs.Ready.{MayBeGiven}
 
 one : {A : Type 0} (a b : A) → Some a ≡ Some b → a ≡ b
 one a b e = cc
@@ -47,29 +28,21 @@ module _ (h : Holder) where
 
     -- a unit of one command
     pub by_command : (u : units.Unit) (c : Command) → command_of u ≡ Some c → Following u ≡ turn_by h (next.Give c) left Q given done
-    by_command (unit.Print n i) c is = absurd (cc)
     by_command (unit.Finish n i) c is = ap (λ (d : Command). one_command h d left (units_from h left) Q given done) (one (command.Done n i) c is)
     by_command unit.Pick c is = ap (λ (d : Command). one_command h d left (units_from h left) Q given done) (one command.Pick c is)
     by_command unit.Purge c is = ap (λ (d : Command). one_command h d left (units_from h left) Q given done) (one command.Purge c is)
     by_command unit.Gather c is = ap (λ (d : Command). one_command h d left (units_from h left) Q given done) (one command.Gather c is)
-    by_command (unit.Run n) c is = absurd (cc)
-    by_command (unit.Convert n) c is = absurd (cc)
     by_command unit.TakeExec c is = ap (λ (d : Command). one_command h d left (units_from h left) Q given done) (one command.TakeExec c is)
     by_command unit.TakeConvert c is = ap (λ (d : Command). one_command h d left (units_from h left) Q given done) (one command.TakeConvert c is)
-    by_command unit.Idle c is = absurd (cc)
+    by_command _ c is = absurd (cc)
 
     -- no unit applies
     pub by_none : (u : units.Unit) → command_of u ≡ None → ((n : JobNo) (i : OutNo) → u ≡ unit.Print n i → ⊥) → ((n : JobNo) → u ≡ unit.Run n → ⊥) → ((n : JobNo) → u ≡ unit.Convert n → ⊥) → Following u ≡ no_more h done
     by_none (unit.Print n i) none prints runs converts = absurd (prints n i refl)
-    by_none (unit.Finish n i) none prints runs converts = absurd (cc)
-    by_none unit.Pick none prints runs converts = absurd (cc)
-    by_none unit.Purge none prints runs converts = absurd (cc)
-    by_none unit.Gather none prints runs converts = absurd (cc)
     by_none (unit.Run n) none prints runs converts = absurd (runs n refl)
     by_none (unit.Convert n) none prints runs converts = absurd (converts n refl)
-    by_none unit.TakeExec none prints runs converts = absurd (cc)
-    by_none unit.TakeConvert none prints runs converts = absurd (cc)
     by_none unit.Idle none prints runs converts = refl
+    by_none _ none prints runs converts = absurd (cc)
 
     -- a unit that reads a text
     text_next : (runs : Bool) (o : Option Job) (n : JobNo) → option_map_or (λ (j : Job). turn_by h (text_of runs (record { done = done; left = left }) (Some j)) left Q given done) o (no_more h done) ≡ turn_by h (text_of runs (record { done = done; left = left }) o) left Q given done

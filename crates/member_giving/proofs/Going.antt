@@ -1,54 +1,16 @@
 -- The rest of a sitting, part by part.
-use Rattle.std.proofs.Common.{◌≡◌, ◌∙◌, inl, inr, ⊎_elim, ℕ, zero, suc, ◌+◌, ◌*◌, ◌≤◌, Bool, true, false, List, [], ◌∷◌, ◌++◌, length, map, take, All, append_assoc, append-nil, Result, Ok, Err, ap, refl, sym, subst, arith}
-use Rattle.std.proofs.lemmas.List.{length-append}
-use Rattle.std.proofs.lemmas.List.Elements.{All-append, All-cons, All-nil}
-use Rattle.std.specs.Prelude.{IfOk}
-use Rattle.mas_types.specs.declared.commands.Command.{Command}
-use Rattle.mas_types.specs.declared.ids.MemberId.{MemberId}
-use Rattle.mas_types.specs.declared.journals.Batch.{Batch}
-use Rattle.mas_types.specs.declared.journals.Entry.{Entry}
-use Rattle.mas_types.specs.declared.queues.Queue.{Queue}
-use Rattle.mas_types.specs.Run.{run}
+use Rattle.member_giving.proofs.Names.{◌≡◌, ℕ, zero, suc, ◌+◌, ◌*◌, ◌≤◌, Bool, true, false, List, [], ◌∷◌, ◌++◌, length, take, All, Result, Ok, Err, IfOk, ◌∙◌, inl, inr, ⊎_elim, map, append_assoc, append-nil, ap, refl, sym, subst, arith, length-append, All-append, All-cons, All-nil, Command, MemberId, Batch, Entry, Queue, run, Line, View, UnitEnd, NodeNo, BothLost, Halted, ConsoleFault, NoMemory, AreAll, HasAll, IsKeptBatch, CopyCauses, AreOf, HasCounted, Breaks, StepCauses, StepTells, counted_ok, counted_on, counted_then, counted_up, notes_none, notes_then, WorkLeaves, keeping_starts, StartsAs, work_then, batch_of, cut, cut_after, sittings_most, all_entries, given_in, released, Holder, State, Rested, Told, Turn, after_part, goes_on, goes_on_by, leaves, says, units_from, entries_append, SittingEnd, MayEndBy, Bounds, Closes, EndsAs, HasGiven, IsWithin, Keeps, Plays, PlaysAs, SparesOthers, Wrote, after_full, bounds, full_of, rests, unwritten, wrote_after, wrote_of, Outside, Place}
 use Rattle.spool_plant.specs.declared.plant.Part.TheVariants.{Console}
 use Rattle.spool_plant.specs.Acts.{Goes}
-use Rattle.spool_plant.specs.View.{Line, View}
 use Rattle.mas_complex.specs.Headline.{whole}
-use Rattle.job_outcome.specs.declared.units.UnitEnd.{UnitEnd}
 use Rattle.job_outcome.specs.declared.units.UnitEnd.TheVariants as ends
-use Rattle.member_node.specs.declared.member.NodeNo.{NodeNo}
-use Rattle.member_node.specs.declared.member.NodeNo.TheVariants.{BothLost, Halted, ConsoleFault, NoMemory}
 use Rattle.member_node.proofs.CourseLemmas.{course_then, only_none, only_on, papers_none, papers_on, rose_later, wires_none, wires_then}
 use Rattle.member_node.specs.Spares.{stopped_in}
 use Rattle.member_node.proofs.SpareLemmas.{spares_then}
-use Rattle.member_decks.specs.Batches.{AreAll, HasAll, IsKeptBatch}
 use Rattle.member_decks.proofs.BatchLemmas.{all_sooner}
-use Rattle.member_decks.specs.Keeping.{CopyCauses}
-use Rattle.member_decks.specs.Steps.{AreOf}
-use Rattle.member_steps.specs.Counting.{HasCounted}
-use Rattle.member_steps.specs.Saying.{Breaks}
-use Rattle.member_steps.specs.Steps.{StepCauses, StepTells}
-use Rattle.member_steps.proofs.CountLemmas.{counted_ok, counted_on, counted_then, counted_up}
-use Rattle.member_steps.proofs.NoteLemmas.{notes_none, notes_then}
 use Rattle.member_decks.proofs.OutcomeLemmas.{left_then}
-use Rattle.member_work.specs.Steps.{WorkLeaves}
-use Rattle.member_work.proofs.KeepingLemmas.{keeping_starts}
-use Rattle.member_work.proofs.LeavesLemmas.{StartsAs, work_then}
-use Rattle.step_turns.specs.Batches.{batch_of, cut, cut_after}
-use Rattle.step_turns.specs.Courses.{sittings_most}
-use Rattle.step_turns.specs.Entries.{all_entries, given_in}
-use Rattle.step_turns.specs.Sittings.{released}
-use Rattle.step_turns.specs.declared.states.Holder.{Holder}
-use Rattle.step_turns.specs.declared.states.State.{State}
-use Rattle.step_turns.specs.declared.states.State.TheVariants.{Rested, Told}
-use Rattle.step_turns.specs.Turns.{Turn, after_part, goes_on, goes_on_by, leaves, says, units_from}
-use Rattle.step_turns.proofs.Given.{entries_append}
-use Rattle.member_sittings.specs.declared.ends.SittingEnd.{SittingEnd}
-use Rattle.member_sittings.specs.Shapes.{MayEndBy}
-use Rattle.member_giving.specs.Plays.{Bounds, Closes, EndsAs, HasGiven, IsWithin, Keeps, Plays, PlaysAs, SparesOthers, Wrote, after_full, bounds, full_of, rests, unwritten, wrote_after, wrote_of}
-use Rattle.member_giving.specs.Works.{Outside, Place}
 use Rattle.member_giving.proofs.Cuts.{batch_entries, cut_end, full_entries, full_first, of_after, of_batch, of_cut, of_full_batches, starts_after, starts_full}
-use Rattle.member_giving.proofs.Ours.{after_its}
-use Rattle.member_giving.proofs.Within.{after_within, goes_within, more_wrote, part_within, pause_within, unwritten_one, wrote_within}
+use Rattle.member_giving.proofs.Within.{TurnWithin, after_within, goes_within, more_wrote, part_wrote, pause_within, unwritten_one}
 
 -- BATCHES THAT ARE KEPT, AND THEN OTHERS OR LINES
 
@@ -63,16 +25,12 @@ all_then by from mid now (es ∷ ess) more (b ∷ bs) cs first then all rest = (
 
 -- the cause of an error before a line
 causes_as : (S T : Type 0) (by : MemberId) (e : NodeNo) (a a' b b' : Bool) (v w : View) → CopyCauses {T = S} (Err e) by.0 a a' b b' v w → StepCauses {T = T} (Err e) by.0 a a' b b' v w
-causes_as S T by NoMemory a a' b b' v w c = c
-causes_as S T by BothLost a a' b b' v w c = c
-causes_as S T by Halted a a' b b' v w c = c
 causes_as S T by ConsoleFault a a' b b' v w c = absurd c
+causes_as S T by _ a a' b b' v w c = c
 
 leaves_as : (S T : Type 0) (by : MemberId) (e : NodeNo) (from now : ℕ) (ess : List (List Entry)) (bs : List Batch) → WorkLeaves {T = S} (Err e) by from now ess bs → WorkLeaves {T = T} (Err e) by from now ess bs
 leaves_as S T by NoMemory from now ess bs l = l
-leaves_as S T by BothLost from now ess bs l = l
-leaves_as S T by Halted from now ess bs l = l
-leaves_as S T by ConsoleFault from now ess bs l = l
+leaves_as S T by _ from now ess bs l = l
 
 module _ {T : Type 0} (told : Type 0) (by : MemberId) where
   -- an error before a line is said
@@ -155,16 +113,12 @@ closes_err {S} {T} told by e lines ess o n k = record { course = k.course; loses
 
   left : (x : NodeNo) → WorkLeaves {T = S} (Err x) by o.view.now n.view.now ess k.rest → WorkLeaves {T = T} (Err x) by o.view.now n.view.now ess k.rest
   left NoMemory c = c
-  left BothLost c = c
-  left ConsoleFault c = c
-  left Halted c = c
+  left _ c = c
 
   said : (x : NodeNo) → StepTells {T = S} (Err x) lines (HasAll by o.view.now n.view.now ess o.batches n.batches) (o.view.world o.view.now).console (n.view.world n.view.now).console
       → StepTells {T = T} (Err x) lines (HasAll by o.view.now n.view.now ess o.batches n.batches) (o.view.world o.view.now).console (n.view.world n.view.now).console
   said NoMemory c = c
-  said BothLost c = c
-  said ConsoleFault c = c
-  said Halted c = c
+  said _ c = c
 
 pub closes_ok : {S T : Type 0} (told : Type 0) (by : MemberId) (s : S) (t : T) (lines : List (List ℕ)) (ess : List (List Entry)) (o n : Outside) → Closes {T = S} told by lines ess o n (Ok s) → Closes {T = T} told by lines ess o n (Ok t)
 closes_ok told by s t lines ess o n k = record { course = k.course; loses = k.loses; cause = k.cause; spares = k.spares; rest = k.rest; batches_are = k.batches_are; journal = k.journal; console = k.console }
@@ -375,8 +329,8 @@ module _ (told : Type 0) (h : Holder) (b : Bounds) (cs : List Command) (e : Unit
   -- out of memory for the part, or a batch couldn't be kept then
   pub part_error : MayEndBy b.found e → done + 1 + left ≤ b.units → 3 * left + 2 + unwritten old.batch ≤ b.most → (why : NodeNo) → HasGiven told h cs e old mid (Err why) → Plays told h b given (wrote_of old.batch whole_part) old mid.outside (Err why)
   part_error may few le why g =
-      played_part_error told h (IsWithin h b) given cs e old mid (λ es. then es e) of (λ es. after_its h e left (run old.queue es) (given + length es) done)
-      (λ es. wrote_within h b.found b.units b.most old.batch (after_part es (then es e)) (3 * left + 1 + 1) (omega (arith, le)) (part_within h b.found (3 * left + 1) b.units es (then es e) (goes_within h b.found e may (3 * left + 1) b.units left (run old.queue es) (given + length es) done few (omega arith))))
+      let w : (es : List Entry) → TurnWithin h b.found (3 * left + 1) b.units (then es e) = λ es. goes_within h b.found e may (3 * left + 1) b.units left (run old.queue es) (given + length es) done few (omega arith) in
+      played_part_error told h (IsWithin h b) given cs e old mid (λ es. then es e) of (λ es. (w es).its) (λ es. part_wrote h b.found b.units b.most old.batch es (then es e) (3 * left + 1) (omega (arith, le)) (w es))
       why g
 
   -- the part was given, and the rest follows
@@ -404,8 +358,8 @@ module _ (told : Type 0) (h : Holder) (b : Bounds) (given : ℕ) where
   full_error {S} why e left done old new may few le of spares keeps {gave} counts =
       let t = goes_on_by h e left (units_from h left) old.queue given done in
       let one = unwritten_one old.batch in
-      played_full_error told h (IsWithin h b) given {S = S} why t old new of (after_its h e left old.queue given done)
-      (after_within h b.found b.units b.most old.batch t (3 * left + 1) (omega (arith, one, le)) (goes_within h b.found e may (3 * left + 1) b.units left old.queue given done few (omega arith))) spares keeps {gave = gave} counts
+      let w = goes_within h b.found e may (3 * left + 1) b.units left old.queue given done few (omega arith) in
+      played_full_error told h (IsWithin h b) given {S = S} why t old new of w.its (after_within h b.found b.units b.most old.batch t (3 * left + 1) (omega (arith, one, le)) w) spares keeps {gave = gave} counts
 
 -- after a unit the next one follows, or the hold is spent
 goes_next : (h : Holder) (left : ℕ) (Q : Queue) (given done : ℕ) → rests h left given ≡ false → goes_on h left (units_from h left) Q given done ≡ units_from h left Q given done

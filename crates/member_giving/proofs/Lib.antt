@@ -1,14 +1,11 @@
 pub mod Cuts
-pub mod Ours
 pub mod Within
 pub mod Going
 pub mod Working
-pub mod Gave
 pub mod Seated
 pub mod Sat
 pub mod Following
-pub mod Readiness
 pub mod Resting
-pub mod Firsts
+pub mod Given
 pub mod Taking
-pub mod Resumes
+pub mod Names

@@ -1,33 +1,76 @@
 -- Where a sitting ends: what is known of its answer.
-use Rattle.std.proofs.Common.{◌≡◌, ◌∙◌, ℕ, zero, suc, ◌+◌, ◌*◌, ◌≤◌, ◌<◌, [], Result, Ok, Err, refl, sym, subst, arith}
-use Rattle.std.specs.Prelude.{IfOk, OnOk}
-use Rattle.mas_types.specs.declared.commands.Command.{Command}
-use Rattle.mas_types.specs.declared.ids.MemberId.{MemberId}
-use Rattle.mas_types.specs.declared.queues.Queue.{Queue}
-use Rattle.ckpt_tables.specs.declared.tables.Tables.{Tables}
-use Rattle.queue_telling.specs.Telling.{Tell}
-use Rattle.spool_plant.specs.declared.plant.Plant.{Ghosts as PlantGhosts}
-use Rattle.ckpt_copy.specs.declared.copying.Copying.{Ghosts as CopyGhosts}
-use Rattle.mas_complex.specs.declared.complex.Complex.{Complex}
-use Rattle.ckpt_form.specs.declared.steady.Steady.{Ghosts as SteadyGhosts}
-use Rattle.member_node.specs.declared.member.Member.{Member}
-use Rattle.member_node.specs.declared.member.NodeNo.{NodeNo}
-use Rattle.member_work.proofs.GivenLemmas.{work_tells}
-use Rattle.step_turns.specs.Courses.{sittings_most}
-use Rattle.step_turns.specs.Laws.{aside_units, units_left}
-use Rattle.step_turns.specs.declared.states.Aside.{Aside}
-use Rattle.step_turns.specs.declared.states.Aside.TheVariants.{Acknowledge, Exchange, PrintLines, ReadText, SpoolArrival, SpoolDeck, SpoolOutputs}
-use Rattle.step_turns.specs.declared.states.Holder.{Holder}
-use Rattle.step_turns.specs.declared.states.Progress.{Progress}
-use Rattle.step_turns.specs.declared.states.State.{State}
-use Rattle.step_turns.specs.declared.states.State.TheVariants.{Away, Told}
-use Rattle.member_giving.specs.Nexts.{IsRightNext, WaitsFor}
-use Rattle.member_sittings.specs.declared.ends.SittingEnd.{SittingEnd}
-use Rattle.member_giving.specs.declared.nexts.Next.{Next}
-use Rattle.member_giving.specs.declared.nexts.Next.TheVariants as next
-use Rattle.member_asides.specs.Ready.{HasFewer, IsReady, IsReadyUnit}
-use Rattle.member_giving.specs.Works.{HasSeat, Sits, SitsIn, Works, queue_here}
+use Rattle.member_giving.proofs.Names.{◌≡◌, ℕ, zero, suc, ◌+◌, ◌*◌, ◌≤◌, ◌<◌, [], Result, Ok, Err, ◌-◌, Bool, true, Option, Some, None, IfOk, OnOk, ◌∙◌, refl, sym, subst, arith, is_some, ap, Command, MemberId, JobNo, OutNo, Queue, job_at, output_at, Job, Output, Tables, Tell, TellSound, PlantGhosts, Ghosts as CopyGhosts, Complex, SteadyGhosts, Member, NodeNo, work_tells, IsUnderWay, sittings_most, aside_units, units_left, Aside, PrintLines, ReadText, Holder, Progress, State, Away, Told, jobends_chunk_end as chunk_end, IsRightNext, WaitsFor, AreLines, IsText, lines_of, text_of, AreFieldsOf, IsOfOutput, Next, Follow, HasSeat, Leaves, MayLeave, Run, Sits, SitsIn, Works, queue_here, queue_kept, run_of, SittingEnd, HasFewer, IsReady, IsReadyUnit, IsReadyFor, tells_some}
+use Rattle.member_work.specs.Printing.{IsPrinting}
 use Rattle.member_giving.proofs.Seated.{sits_works}
+use Rattle.member_giving.proofs.Working.{kept_here}
+use Rattle.member_giving.specs.declared.nexts.Next.TheVariants as next
+
+-- who waits for a text waits for that of a job that is there
+job_there : (runs : Bool) (p : Progress) (o : Option Job) (a : Aside) → text_of runs p o ≡ next.Wait a → is_some o ≡ true
+job_there runs p None a e = absurd (cc)
+job_there runs p (Some j) a e = refl
+
+output_there : (by : MemberId) (p : Progress) (Q : Queue) (o : Option Output) (a : Aside) → lines_of by p Q o ≡ next.Wait a → is_some o ≡ true
+output_there by p Q None a e = absurd (cc)
+output_there by p Q (Some o) a e = refl
+
+pub text_ready : (t : Tables) (by : MemberId) (runs : Bool) (n : JobNo) (p : Progress) (x : Next) → IsText t runs n p x → ((Q : Queue) → Tell t Q → TellSound t → IsUnderWay Q by n) → IsRightNext t by x
+text_ready t by runs n p x text job = let s = tells_some t in by_job (job_at s.0 n) (text.is s.0 s.1) where
+  by_job : (o : Option Job) → x ≡ text_of runs p o → IsRightNext t by x
+  by_job None is = subst (IsRightNext t by) (sym is) tt
+  by_job (Some j) is =
+      let right = subst (AreFieldsOf n) is text.right in
+      subst (IsRightNext t by) (sym is) (
+        right.1,
+        record {
+          there = λ Q told. subst (λ (k : JobNo). is_some (job_at Q k) ≡ true) (sym right.0) (job_there runs p (job_at Q n) (ReadText runs j.number j.fields p) (sym (text.is Q told) ∙ is));
+          under_way = λ Q told sound. subst (λ (k : JobNo). IsUnderWay Q by k) (sym right.0) (job Q told sound);
+        },
+      )
+
+same_chunk : (n m : JobNo) (i j : OutNo) (a b : ℕ) (p : Progress) → next.Wait (PrintLines n i a p) ≡ next.Wait (PrintLines m j b p) → a ≡ b
+same_chunk n m i j a b p e = cc
+
+pub lines_ready : (t : Tables) (by : MemberId) (n : JobNo) (i : OutNo) (p : Progress) (x : Next) → AreLines t by n i p x → ((Q : Queue) → Tell t Q → TellSound t → IsPrinting Q by n i) → IsRightNext t by x
+lines_ready t by n i p x lines printing = let s = tells_some t in by_output s.0 (output_at s.0 n i) (lines.is s.0 s.1) where
+  by_output : (R : Queue) (o : Option Output) → x ≡ lines_of by p R o → IsRightNext t by x
+  by_output R None is = subst (IsRightNext t by) (sym is) tt
+  by_output R (Some o) is =
+      let right = subst (IsOfOutput n i) is lines.right in
+      let named : (Q : Queue) → output_at Q o.job o.index ≡ output_at Q n i = λ Q. ap (λ (k : JobNo). output_at Q k o.index) right.job ∙ ap (output_at Q n) right.output in
+      subst (IsRightNext t by) (sym is) (record {
+        index = right.index;
+        there = λ Q told. ap is_some (named Q) ∙ output_there by p Q (output_at Q n i) (PrintLines o.job o.index (chunk_end R by o) p) (sym (lines.is Q told) ∙ is);
+        printing = λ Q told sound. subst (λ (k : JobNo). IsPrinting Q by k o.index) (sym right.job) (subst (λ (j : OutNo). IsPrinting Q by n j) (sym right.output) (printing Q told sound));
+        chunk = λ Q o' told there. same_chunk o.job o'.job o.index o'.index (chunk_end R by o) (chunk_end Q by o') p (sym is ∙ lines.is Q told ∙ ap (lines_of by p Q) (sym (named Q) ∙ there));
+      })
+
+-- so a step that waits for it is ready
+pub unit_ready : (told : Type 0) (Q : Queue) (t : Tables) (by : MemberId) (a : Aside) → IsReadyUnit t by a → IsReadyFor told Q t by a
+unit_ready told Q t by (ReadText runs n fields p) ready = ready
+unit_ready told Q t by (PrintLines n i last p) ready = ready
+unit_ready told Q t by _ ready = absurd ready
+
+-- THE UNIT THAT WAITS is one of those that may be played
+
+abbrev under_way : Progress → Progress
+under_way p = record { done = p.done; left = p.left - 1 }
+
+one_more : (left : ℕ) → (left ≡ 0 → ⊥) → suc (left - 1) ≡ left
+one_more zero some = absurd (some refl)
+one_more (suc left) some = omega arith
+
+pub text_waits : (t : Tables) (runs : Bool) (n : JobNo) (p : Progress) (x : Next) → (p.left ≡ 0 → ⊥) → IsText t runs n (under_way p) x → WaitsFor p x
+text_waits t runs n p x some text = let s = tells_some t in by_job (job_at s.0 n) (text.is s.0 s.1) where
+  by_job : (o : Option Job) → x ≡ text_of runs (under_way p) o → WaitsFor p x
+  by_job None is = subst (WaitsFor p) (sym is) tt
+  by_job (Some j) is = subst (WaitsFor p) (sym is) (one_more p.left some, refl)
+
+pub lines_wait : (t : Tables) (by : MemberId) (n : JobNo) (i : OutNo) (p : Progress) (x : Next) → (p.left ≡ 0 → ⊥) → AreLines t by n i (under_way p) x → WaitsFor p x
+lines_wait t by n i p x some lines = let s = tells_some t in by_output s.0 (output_at s.0 n i) (lines.is s.0 s.1) where
+  by_output : (R : Queue) (o : Option Output) → x ≡ lines_of by (under_way p) R o → WaitsFor p x
+  by_output R None is = subst (WaitsFor p) (sym is) tt
+  by_output R (Some o) is = subst (WaitsFor p) (sym is) (one_more p.left some, refl)
 
 pub if_ok : {T E : Type 0} (r : Result T E) (A B : T → Type 0) → ((v : T) → A v → B v) → IfOk r A → IfOk r B
 if_ok (Ok v) A B f a = f v a
@@ -61,26 +104,35 @@ module _ {P C : Type 0} {plants : PlantGhosts P} {steadies : SteadyGhosts C} {co
   reached_left y most before (Ok e) s few is level = subst (λ (t : State). y.level + units_left t ≤ most) (sym is) (omega (arith, few, level))
   reached_left y most before (Err why) s few is level = tt
 
--- what is known where it goes on
-module _ (told : Type 0) (Q : Queue) (t' : Tables) (by' : MemberId) (r : Result SittingEnd NodeNo) where
-  pub ready_once : (t : Tables) (by : MemberId) (s : State) → t' ≡ t → by' ≡ by → OnOk r (IsReady told Q t by s) → IfOk r (λ e. e.next ≡ s) → IfOk r (λ e. IsReady told Q t' by' e.next)
-  ready_once t by s same own ready is = by_answer r ready is where
-    by_answer : (r : Result SittingEnd NodeNo) → OnOk r (IsReady told Q t by s) → IfOk r (λ e. e.next ≡ s) → IfOk r (λ e. IsReady told Q t' by' e.next)
-    by_answer (Ok e) ready is = subst (λ (u : State). IsReady told Q t' by' u) (sym is) (subst (λ (b : MemberId). IsReady told Q t' b s) (sym own) (subst (λ (u : Tables). IsReady told Q u by s) (sym same) ready))
-    by_answer (Err why) ready is = tt
+-- WHAT A SITTING LEAVES
 
-  pub ready_left : (t : Tables) (by : MemberId) (s : State) → t' ≡ t → by' ≡ by → IsReady told Q t by s → IfOk r (λ e. e.next ≡ s) → IfOk r (λ e. IsReady told Q t' by' e.next)
-  ready_left t by s same own ready is = ready_once t by s same own (on_each r ready) is where
-    on_each : (r : Result SittingEnd NodeNo) → IsReady told Q t by s → OnOk r (IsReady told Q t by s)
-    on_each (Ok e) ready = ready
-    on_each (Err why) ready = tt
+sits_in : {P C : Type 0} {plants : PlantGhosts P} {steadies : SteadyGhosts C} {copies : CopyGhosts C} (y : Complex P C plants steadies copies) (n : Member) (at : ℕ) (s : State) → (s ≡ Told → ⊥) → Sits y n at → SitsIn s y n at
+sits_in y n at Told waits sits = absurd (waits refl)
+sits_in y n at _ waits sits = sits
 
-  -- where the sitting closed its step nothing has to be known
-  pub ready_told : IfOk r (λ e. e.next ≡ Told) → IfOk r (λ e. IsReady told Q t' by' e.next)
-  ready_told is = by_answer r is where
-    by_answer : (r : Result SittingEnd NodeNo) → IfOk r (λ e. e.next ≡ Told) → IfOk r (λ e. IsReady told Q t' by' e.next)
-    by_answer (Ok e) is = subst (λ (u : State). IsReady told Q t' by' u) (sym is) tt
-    by_answer (Err why) is = tt
+module _ {P C : Type 0} {plants : PlantGhosts P} {steadies : SteadyGhosts C} {copies : CopyGhosts C} (x y : Complex P C plants steadies copies) (m n : Member) (h : Holder) (f : Follow) where
+  -- its step goes on from this state
+  pub leaves_open : (e : SittingEnd) → (e.next ≡ Told → ⊥) → MayLeave x m f e.next → run_of y n ≡ run_of x m → n.checkpoint.tables ≡ m.checkpoint.tables → queue_here y n ≡ queue_here x m → Works y n h → n.batch ≡ [] → y.level ≤ x.level + 1 → Leaves y n h.step f e
+  leaves_open e waits may run tables queue works nothing level =
+      let id : n.id ≡ m.id = ap (λ (r : Run). r.id) run in
+      let Q : queue_kept y ≡ queue_here x m = sym (kept_here y n nothing) ∙ queue in
+      let reached = may.reached in
+      record { again = sits_in y n h.step e.next waits (sits_works y n h works nothing); ready = rw (Q, tables, id) may.ready; fewer = may.fewer; reached = omega (arith, level, reached) }
+
+  -- it closed the step
+  pub leaves_told : (e : SittingEnd) → e.next ≡ Told → HasSeat y n → 0 < f.most → y.level ≤ f.level → Leaves y n h.step f e
+  leaves_told e told seat some level = record {
+    again = subst (λ (s : State). SitsIn s y n h.step) (sym told) seat;
+    ready = subst (λ (s : State). IsReady plants.tells (queue_kept y) n.checkpoint.tables n.id s) (sym told) tt;
+    fewer = subst (HasFewer f.most f.units) (sym told) (record { falls = some; few = omega arith });
+    reached = subst (λ (s : State). y.level + units_left s ≤ f.level) (sym told) (omega (arith, level));
+  }
+
+-- as much may follow, or more
+pub leaves_more : {P C : Type 0} {plants : PlantGhosts P} {steadies : SteadyGhosts C} {copies : CopyGhosts C} (y : Complex P C plants steadies copies) (n : Member) (at : ℕ) (f g : Follow) (r : Result SittingEnd NodeNo) → f.most ≤ g.most → f.units ≤ g.units → f.level ≤ g.level → IfOk r (Leaves y n at f) → IfOk r (Leaves y n at g)
+leaves_more y n at f g r most units level l =
+    if_ok r (Leaves y n at f) (Leaves y n at g) (λ e is. let falls = is.fewer.falls in let few = is.fewer.few in let reached = is.reached in
+    record { again = is.again; ready = is.ready; fewer = record { falls = omega (arith, falls, most); few = omega (arith, few, units) }; reached = omega (arith, reached, level) }) l
 
 -- HOW MANY SITTINGS AND UNITS may follow
 
@@ -97,13 +149,9 @@ module _ (sittings units : ℕ) (r : Result SittingEnd NodeNo) where
 
 -- a unit that waits
 aside_fewer : (t : Tables) (by : MemberId) (a : Aside) → IsReadyUnit t by a → sittings_most (Away a) ≤ 3 * aside_units a
-aside_fewer t by (SpoolDeck n text) ready = absurd ready
 aside_fewer t by (ReadText runs n fields p) ready = omega arith
-aside_fewer t by (SpoolOutputs n specs p) ready = absurd ready
 aside_fewer t by (PrintLines n i last p) ready = omega arith
-aside_fewer t by (Exchange l offer) ready = absurd ready
-aside_fewer t by (SpoolArrival number job cards service) ready = absurd ready
-aside_fewer t by (Acknowledge number service) ready = absurd ready
+aside_fewer t by _ ready = absurd ready
 
 pub waits_fewer : (t : Tables) (by : MemberId) (sittings units : ℕ) (p : Progress) (x : Next) (a : Aside) → IsRightNext t by x → WaitsFor p x → x ≡ next.Wait a → 3 * p.left < sittings → p.done + p.left ≤ units → HasFewer sittings units (Away a)
 waits_fewer t by sittings units p x a right waits is some few =

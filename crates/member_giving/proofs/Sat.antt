@@ -1,49 +1,19 @@
 -- A whole sitting.
-use Rattle.std.proofs.Common.{◌≡◌, ◌∙◌, ⊎_elim, ℕ, ◌+◌, List, [], ◌++◌, length, Result, Ok, Err, ap, refl, subst, arith}
-use Rattle.std.specs.Prelude.{IfOk}
-use Rattle.mas_types.specs.declared.ids.MemberId.{MemberId}
-use Rattle.mas_types.specs.declared.journals.Batch.{Batch}
-use Rattle.mas_types.specs.declared.journals.Entry.{Entry}
-use Rattle.mas_types.specs.declared.queues.Queue.{Queue}
+use Rattle.member_giving.proofs.Names.{◌≡◌, ℕ, ◌+◌, List, [], ◌++◌, length, Result, Ok, Err, ◌≤◌, Bool, true, false, if◌then◌else◌, take, Option, Some, None, IfOk, ◌∙◌, ⊎_elim, ap, refl, subst, arith, ◌||◌, nat_le, sym, nat_tests, MemberId, Batch, Entry, Queue, JobNo, OutNo, Output, OutSpec, groups_of_outputs, is_cancelled, job_at, output_at, Line, PlantGhosts, Ghosts as CopyGhosts, Complex, Spools, SteadyGhosts, Member, NodeNo, BothLost, Halted, ConsoleFault, NoMemory, console_now, StepTells, HasAll, WorkLeaves, IsUnderWay, AreSpooled, cut, sittings_most, all_entries, units_done, units_left, Sitting, released, sitting_of, Aside, PrintLines, ReadText, SpoolOutputs, Found, Holder, State, Away, Turn, turn, SittingEnd, Says, SaysWork, EndsAs, IsWithin, Plays, PlaysAs, Wrote, bounds, wrote_of, Run, outside, place_of, queue_kept, run_of, MayResume, OutputsStand, Tables, Tell, IsMarkRight, may_mark, held_by}
+use Rattle.mas_types.specs.declared.ids.GroupNo.{GroupNo}
+use Rattle.mas_types.specs.declared.queues.Owner.{Owner}
+use Rattle.mas_types.specs.Ids.{is_somebody}
+use Rattle.mas_types.specs.declared.commands.Command.TheVariants as command
 use Rattle.lock_cycle.specs.Books.{Book}
-use Rattle.spool_plant.specs.View.{Line}
-use Rattle.spool_plant.specs.declared.plant.Plant.{Ghosts as PlantGhosts}
-use Rattle.ckpt_copy.specs.declared.copying.Copying.{Ghosts as CopyGhosts}
-use Rattle.mas_complex.specs.declared.complex.Complex.{Complex}
 use Rattle.mas_complex.specs.declared.renewals.Renewals.{Renewals}
-use Rattle.ckpt_form.specs.declared.steady.Steady.{Ghosts as SteadyGhosts}
 use Rattle.mas_complex.specs.Parts.{parts_of}
-use Rattle.mas_complex.specs.Texts.{Spools}
-use Rattle.member_node.specs.declared.member.Member.{Member}
-use Rattle.member_node.specs.declared.member.NodeNo.{NodeNo}
-use Rattle.member_node.specs.declared.member.NodeNo.TheVariants.{BothLost, Halted, ConsoleFault, NoMemory}
-use Rattle.member_node.specs.Calls.{console_now}
-use Rattle.member_steps.specs.Steps.{StepTells}
-use Rattle.member_decks.specs.Batches.{HasAll}
-use Rattle.member_work.specs.Steps.{WorkLeaves}
-use Rattle.step_turns.specs.Batches.{cut}
-use Rattle.step_turns.specs.Courses.{sittings_most}
-use Rattle.step_turns.specs.Entries.{all_entries}
-use Rattle.step_turns.specs.Laws.{units_done, units_left}
-use Rattle.step_turns.specs.Sittings.{Sitting, released, sitting_of}
-use Rattle.step_turns.specs.declared.states.Aside.{Aside}
-use Rattle.step_turns.specs.declared.states.Aside.TheVariants.{Acknowledge, Exchange, PrintLines, ReadText, SpoolArrival, SpoolDeck, SpoolOutputs}
-use Rattle.step_turns.specs.declared.states.Found.{Found}
-use Rattle.step_turns.specs.declared.states.Holder.{Holder}
-use Rattle.step_turns.specs.declared.states.State.{State}
-use Rattle.step_turns.specs.declared.states.State.TheVariants.{Away}
-use Rattle.step_turns.specs.Turns.{Turn, turn}
 use Rattle.step_turns.proofs.Cutting.{cut_entries}
-use Rattle.member_sittings.specs.declared.ends.SittingEnd.{SittingEnd}
-use Rattle.member_sittings.specs.Left.{HasSaid}
-use Rattle.member_sittings.specs.Sat.{HasSat, IsEndOf, IsSat, sat_in}
-use Rattle.member_sittings.specs.Shapes.{Says, SaysWork}
-use Rattle.member_sittings.specs.Tight.{IfNoWork}
-use Rattle.member_sittings.proofs.ReachLemmas.{LeftBy, by_all, by_cut_wanted, by_thirds_halted, by_thirds_lost, said_all, said_broken, said_none, said_some}
-use Rattle.member_giving.specs.Plays.{EndsAs, IsWithin, Plays, PlaysAs, Wrote, bounds, wrote_of}
-use Rattle.member_asides.specs.Ready.{MayResume}
-use Rattle.member_giving.specs.Works.{Run, outside, place_of, queue_kept, run_of}
+use Rattle.member_asides.specs.Left.{HasSaid}
+use Rattle.member_asides.specs.Sat.{HasSat, IsEndOf, IsSat, sat_in}
+use Rattle.member_asides.specs.Tight.{IfNoWork}
+use Rattle.member_asides.proofs.ReachLemmas.{LeftBy, by_all, by_cut_wanted, by_thirds_halted, by_thirds_lost, said_all, said_broken, said_none, said_some}
 use Rattle.member_giving.proofs.Working.{AtWork, none_flies}
+use Rattle.member_asides.specs.Asides.{lowest_for}
 
 -- by the answer: what is left in the journal
 left_by : (r : Result SittingEnd NodeNo) (by : MemberId) (from now : ℕ) (ess : List (List Entry)) (more : List Batch) → WorkLeaves r by from now ess more → LeftBy by from now ess more r
@@ -64,9 +34,7 @@ said_by (Err Halted) A lines was now fault ok tells = ⊎_elim (λ none. said_no
 all_where : (r : Result SittingEnd NodeNo) (by : MemberId) (from now : ℕ) (ess : List (List Entry)) (front batches rest : List Batch) → batches ≡ front ++ rest → WorkLeaves r by from now ess rest → (r ≡ Err ConsoleFault → HasAll by from now ess front batches) × ((e : SittingEnd) → r ≡ Ok e → HasAll by from now ess front batches)
 all_where (Ok e) by from now ess front batches rest are all = (λ is. absurd (cc), λ x is. (rest, are, all))
 all_where (Err ConsoleFault) by from now ess front batches rest are all = (λ is. (rest, are, all), λ x is. absurd (cc))
-all_where (Err NoMemory) by from now ess front batches rest are all = (λ is. absurd (cc), λ x is. absurd (cc))
-all_where (Err BothLost) by from now ess front batches rest are all = (λ is. absurd (cc), λ x is. absurd (cc))
-all_where (Err Halted) by from now ess front batches rest are all = (λ is. absurd (cc), λ x is. absurd (cc))
+all_where _ by from now ess front batches rest are all = (λ is. absurd (cc), λ x is. absurd (cc))
 
 -- a whole sitting, by what it writes
 abbrev pub sitting_as : Holder → Wrote → Sitting
@@ -84,23 +52,17 @@ ends_as h w (Err why) ends = tt
 
 -- a sitting after acts that work waited for plays units
 pub plays_units : (told : Type 0) (Q : Queue) (by : MemberId) (disks : Spools) (counts : MemberId → ℕ) (a : Aside) (found : Found) → MayResume told Q by disks counts a found → (A : Type 0) → IfNoWork (Away a) A
-plays_units told Q by disks counts (SpoolDeck n text) found may A = absurd may
 plays_units told Q by disks counts (ReadText runs n fields p) found may A = tt
 plays_units told Q by disks counts (SpoolOutputs n specs p) found may A = tt
 plays_units told Q by disks counts (PrintLines n i last p) found may A = tt
-plays_units told Q by disks counts (Exchange l offer) found may A = absurd may
-plays_units told Q by disks counts (SpoolArrival number job cards service) found may A = absurd may
-plays_units told Q by disks counts (Acknowledge number service) found may A = absurd may
+plays_units told Q by disks counts _ found may A = absurd may
 
 -- and closes as work does
 pub says_units : (told : Type 0) (Q : Queue) (by : MemberId) (disks : Spools) (counts : MemberId → ℕ) (h : Holder) (a : Aside) (found : Found) → MayResume told Q by disks counts a found → (t : Sitting) → SaysWork h (Away a) found t → Says h (Away a) found t
-says_units told Q by disks counts h (SpoolDeck n text) found may t says = absurd may
 says_units told Q by disks counts h (ReadText runs n fields p) found may t says = says
 says_units told Q by disks counts h (SpoolOutputs n specs p) found may t says = says
 says_units told Q by disks counts h (PrintLines n i last p) found may t says = says
-says_units told Q by disks counts h (Exchange l offer) found may t says = absurd may
-says_units told Q by disks counts h (SpoolArrival number job cards service) found may t says = absurd may
-says_units told Q by disks counts h (Acknowledge number service) found may t says = absurd may
+says_units told Q by disks counts h _ found may t says = absurd may
 
 module _ {P C : Type 0} {plants : PlantGhosts P} {steadies : SteadyGhosts C} {copies : CopyGhosts C} where
   pub frame_of : (x y : Complex P C plants steadies copies) (m n : Member) → run_of y n ≡ run_of x m → parts_of y ≡ sat_in (parts_of y) (parts_of x)
@@ -144,3 +106,28 @@ module _ {P C : Type 0} {plants : PlantGhosts P} {steadies : SteadyGhosts C} {co
     sat = sat_played x y m h (IsWithin h (bounds (sittings_most s) (units_done s + units_left s) found)) w r nothing work p;
     tight = units _;
   }
+
+-- OUTPUTS that were written: a job that was cancelled since has none
+
+by_cancelled : (b : Bool) (disks : Spools) (per : ℕ) (specs : List OutSpec) (groups : List GroupNo) → AreSpooled disks per specs (take (groups_of_outputs specs) groups) → AreSpooled disks per (if b then [] else specs) (take (groups_of_outputs (if b then [] else specs)) groups)
+by_cancelled true disks per specs groups spooled = tt
+by_cancelled false disks per specs groups spooled = spooled
+
+pub outputs_resume : (told : Type 0) (t : Tables) (Q : Queue) (by : MemberId) (disks : Spools) (per : ℕ) (n : JobNo) (specs : List OutSpec) (lost : Option ℕ) → (told → Tell t Q) → (told → IsUnderWay Q by n) → (lost ≡ None → told → AreSpooled disks per specs (lowest_for by t.owners specs)) → OutputsStand told Q by disks per n specs lost
+outputs_resume told t Q by disks per n specs lost tell job spooled = record {
+  job = job;
+  there = λ none again.
+      by_cancelled (is_cancelled (job_at Q n)) disks per specs (held_by by Q.owners) (subst (λ (os : List Owner). AreSpooled disks per specs (lowest_for by os specs)) (sym (tell again).owners) (spooled none again));
+}
+
+-- LINES that were printed may be marked
+
+or_true : (a b : Bool) → b ≡ true → (a || b) ≡ true
+or_true true b is = refl
+or_true false b is = is
+
+pub lines_resume : (Q : Queue) (by : MemberId) (n : JobNo) (i : OutNo) (last printed : ℕ) → is_somebody by ≡ true → ((o : Output) → output_at Q n i ≡ Some o → last ≤ o.mark + printed) → IsMarkRight Q by printed (command.Mark n i last)
+lines_resume Q by n i last printed some counted = (some, by_output (output_at Q n i) refl) where
+  by_output : (found : Option Output) → output_at Q n i ≡ found → may_mark by printed last found ≡ true
+  by_output None is = refl
+  by_output (Some o) is = let le = counted o is in or_true _ (nat_le last (o.mark + printed)) (grind (arith, nat_tests, le))

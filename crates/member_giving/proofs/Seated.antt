@@ -1,29 +1,7 @@
 -- A member at the lock, at the beginning of a sitting and at its end.
-use Rattle.std.proofs.Common.{◌≡◌, ◌∙◌, ℕ, List, [], Result, ap, refl, sym, subst, arith}
-use Rattle.std.proofs.lemmas.List.Elements.{All-nil}
-use Rattle.mas_types.specs.declared.ids.Dev.TheVariants.{Ckpt1, Ckpt2}
-use Rattle.mas_types.specs.declared.ids.MemberId.{MemberId}
-use Rattle.mas_types.specs.declared.journals.Journal.{Journal}
-use Rattle.mas_types.specs.declared.queues.Queue.{Queue}
+use Rattle.member_giving.proofs.Names.{◌≡◌, ℕ, List, [], Result, ◌∙◌, ap, refl, sym, subst, arith, All-nil, Ckpt1, Ckpt2, MemberId, Journal, Queue, disk_now, PlantGhosts, Ghosts as CopyGhosts, Complex, SteadyGhosts, end_of, values_of, Member, NodeNo, HaveSaid, OnConsole, settled_later, had_as, notes_same, still_roomy, between_by, work_back, work_between, work_low, Holder, Closes, SparesOthers, HasBounds, HasSeat, IsLow, Sits, Works, outside}
 use Rattle.mas_types.specs.Sound.{IsSound}
-use Rattle.spool_plant.specs.View.{disk_now}
-use Rattle.spool_plant.specs.declared.plant.Plant.{Ghosts as PlantGhosts}
-use Rattle.ckpt_copy.specs.declared.copying.Copying.{Ghosts as CopyGhosts}
-use Rattle.mas_complex.specs.declared.complex.Complex.{Complex}
-use Rattle.ckpt_form.specs.declared.steady.Steady.{Ghosts as SteadyGhosts}
-use Rattle.mas_complex.specs.Journals.{end_of}
-use Rattle.mas_complex.specs.Past.{values_of}
-use Rattle.member_node.specs.declared.member.Member.{Member}
-use Rattle.member_node.specs.declared.member.NodeNo.{NodeNo}
-use Rattle.member_steps.specs.Saying.{HaveSaid, OnConsole}
-use Rattle.member_steps.proofs.FateLemmas.{settled_later}
-use Rattle.member_steps.proofs.NoteLemmas.{had_as, notes_same}
-use Rattle.member_decks.proofs.PageLemmas.{still_roomy}
 use Rattle.member_work.proofs.SayingLemmas.{closing_said, rests_as}
-use Rattle.member_work.proofs.StateLemmas.{between_by, work_back, work_between, work_low}
-use Rattle.step_turns.specs.declared.states.Holder.{Holder}
-use Rattle.member_giving.specs.Plays.{Closes, SparesOthers}
-use Rattle.member_giving.specs.Works.{HasBounds, HasSeat, IsLow, Sits, Works, outside}
 
 module _ {P C : Type 0} {plants : PlantGhosts P} {steadies : SteadyGhosts C} {copies : CopyGhosts C} where
   -- AT THE BEGINNING

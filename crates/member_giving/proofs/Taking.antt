@@ -1,42 +1,45 @@
 -- The groups for a job's outputs, which are taken or not.
-use Rattle.std.proofs.Common.{◌≡◌, ◌∙◌, ℕ, zero, suc, ◌+◌, ◌*◌, ◌≤◌, Bool, true, false, if◌then◌else◌, List, [], ◌∷◌, ◌++◌, length, None, Result, Ok, Err, append-nil, ap, refl, sym, arith}
-use Rattle.mas_types.specs.declared.commands.Command.{Command}
-use Rattle.mas_types.specs.declared.ids.JobNo.{JobNo}
-use Rattle.mas_types.specs.declared.ids.MemberId.{MemberId}
-use Rattle.mas_types.specs.declared.jobs.OutSpec.{OutSpec}
-use Rattle.mas_types.specs.declared.journals.Entry.{Entry}
-use Rattle.mas_types.specs.declared.queues.Queue.{Queue}
-use Rattle.mas_types.specs.Commands.Life.{groups_of_outputs}
-use Rattle.mas_types.specs.Run.{run}
-use Rattle.queue_laws.proofs.Finds.{test_cases}
-use Rattle.spool_plant.specs.declared.plant.Plant.{Ghosts as PlantGhosts}
-use Rattle.ckpt_copy.specs.declared.copying.Copying.{Ghosts as CopyGhosts}
-use Rattle.mas_complex.specs.declared.complex.Complex.{Complex}
-use Rattle.ckpt_form.specs.declared.steady.Steady.{Ghosts as SteadyGhosts}
-use Rattle.job_outcome.specs.declared.units.UnitEnd.{UnitEnd}
+use Rattle.member_giving.proofs.Names.{◌≡◌, ℕ, zero, suc, ◌+◌, ◌*◌, ◌≤◌, Bool, true, false, if◌then◌else◌, List, [], ◌∷◌, ◌++◌, length, None, Result, Ok, Err, ◌<◌, ◌∙◌, append-nil, ap, refl, sym, arith, Command, JobNo, MemberId, OutSpec, Entry, Queue, groups_of_outputs, run, test_cases, PlantGhosts, Ghosts as CopyGhosts, Complex, SteadyGhosts, UnitEnd, end_by, Member, NodeNo, too_high, IsUnderWay, taken_end, not_refused, queue_is, taken_done, under_way_taken, taken_answered, are_refused, takes, closing_reply, given_in, drop_groups, groups_for_end, taking, Holder, Progress, Away, SpoolOutputs, Turn, after_part, goes_on_by, groups_taken, job_ends, leaves, outputs_stand, units_from, SittingEnd, MayEndBy, Bounds, HasGiven, Plays, bounds, unwritten, wrote_after, wrote_of, Outside, Works, outside, place_of, queue_here, HasRoom, LeavesRoom}
 use Rattle.job_outcome.specs.declared.units.UnitEnd.TheVariants as ends
-use Rattle.job_outcome.specs.Next.{end_by}
-use Rattle.member_node.specs.declared.member.Member.{Member}
-use Rattle.member_node.specs.declared.member.NodeNo.{NodeNo}
-use Rattle.member_work.specs.Steps.{IsUnderWay}
-use Rattle.member_work.specs.Units.{taken_end}
-use Rattle.member_work.proofs.PartLemmas.{not_refused, queue_is, taken_done, under_way_taken}
-use Rattle.member_work.proofs.CauseLemmas.{taken_answered}
-use Rattle.step_turns.specs.Decks.{are_refused, takes}
-use Rattle.step_turns.specs.Entries.{closing_reply, given_in}
-use Rattle.step_turns.specs.JobEnds.{drop_groups, groups_for_end, taking}
-use Rattle.step_turns.specs.declared.states.Holder.{Holder}
-use Rattle.step_turns.specs.declared.states.Progress.{Progress}
-use Rattle.step_turns.specs.declared.states.State.TheVariants.{Away}
-use Rattle.step_turns.specs.declared.states.Aside.TheVariants.{SpoolOutputs}
-use Rattle.step_turns.specs.Turns.{Turn, after_part, goes_on_by, groups_taken, job_ends, leaves, outputs_stand, units_from}
-use Rattle.member_sittings.specs.declared.ends.SittingEnd.{SittingEnd}
-use Rattle.member_giving.specs.Plays.{Bounds, HasGiven, Plays, unwritten, wrote_after, wrote_of}
-use Rattle.member_giving.specs.Works.{Outside, Works, outside, place_of, queue_here}
-use Rattle.member_giving.proofs.Firsts.{first_error, first_then}
-use Rattle.member_giving.proofs.Going.{pause_error, pause_then, plays_as}
+use Rattle.member_giving.proofs.Going.{pause_error, pause_then, plays_as, plays_more, part_error, part_then}
 use Rattle.member_giving.proofs.Within.{answered_by}
 use Rattle.member_giving.proofs.Working.{own_batch}
+
+module _ {P C : Type 0} {plants : PlantGhosts P} {steadies : SteadyGhosts C} {copies : CopyGhosts C} where
+  -- room for the units that may follow
+  pub first_room : (x y : Complex P C plants steadies copies) (n : Member) (left done : ℕ) → done + left < 9999 → x.level + left + 4 < too_high → LeavesRoom x y n → HasRoom y n (left + 3)
+  first_room x y n left done few level room = room (left + 3) (omega (arith, few)) (omega (arith, level))
+
+  -- nothing is given before the sitting ends
+  pub first_ends : (x : Complex P C plants steadies copies) (m : Member) (h : Holder) (b : Bounds) (t whole : Turn) (least fewer : ℕ) (new : Outside) (r : Result SittingEnd NodeNo) → m.batch ≡ [] → (plants.tells → t ≡ whole) → least ≤ b.most + unwritten m.batch → fewer ≤ b.units
+      → Plays plants.tells h (bounds least fewer b.found) 0 (wrote_of m.batch t) (place_of x m) new r → Plays plants.tells h b 0 (wrote_of [] whole) (place_of x m) new r
+  first_ends x m h b t whole least fewer new r nothing same le less p =
+      let none = ap unwritten nothing in
+      plays_as plants.tells h b 0 (wrote_of m.batch t) (wrote_of [] whole) (place_of x m) new r (λ told. ap (λ (es : List Entry). wrote_of es t) nothing ∙ ap (wrote_of []) (same told))
+      (plays_more plants.tells h b 0 least fewer _ (place_of x m) new r (omega (arith, none, le)) less p)
+
+  module _ (x y : Complex P C plants steadies copies) (m n : Member) (h : Holder) (b : Bounds) (w : Works x m h) (nothing : m.batch ≡ []) (cs : List Command) (e : UnitEnd) (left done : ℕ) (whole : Turn) where
+    abbrev all : List Entry
+    all = given_in (queue_here x m) h.by h.step cs
+
+    abbrev first_part : Turn
+    first_part = after_part all (goes_on_by h e left (units_from h left) (run (queue_here x m) all) (0 + length all) done)
+
+    -- out of memory for the first part
+    pub first_error : MayEndBy b.found e → done + 1 + left ≤ b.units → 3 * left + 2 ≤ b.most → (plants.tells → first_part ≡ whole) → (why : NodeNo) → HasGiven plants.tells h cs e (place_of x m) (place_of y n) (Err why) → Plays plants.tells h b 0 (wrote_of [] whole) (place_of x m) (outside y) (Err why)
+    first_error may few le same why g =
+        let none = ap unwritten nothing in
+        plays_as plants.tells h b 0 (wrote_of m.batch first_part) (wrote_of [] whole) (place_of x m) (outside y) (Err why)
+        (λ t. ap (λ (es : List Entry). wrote_of es first_part) nothing ∙ ap (wrote_of []) (same t))
+        (part_error plants.tells h b cs e (place_of x m) (place_of y n) (own_batch x m h w) left 0 done may few (omega (arith, none, le)) why g)
+
+    pub first_then : (plants.tells → first_part ≡ whole) → (end : UnitEnd) (new : Outside) (r : Result SittingEnd NodeNo) → HasGiven plants.tells h cs e (place_of x m) (place_of y n) (Ok end)
+        → Plays plants.tells h b (length n.batch) (wrote_after n.batch (goes_on_by h end left (units_from h left) (queue_here y n) (length n.batch) done)) (place_of y n) new r → Plays plants.tells h b 0 (wrote_of [] whole) (place_of x m) new r
+    first_then same end new r g p =
+        plays_as plants.tells h b 0 (wrote_of m.batch first_part) (wrote_of [] whole) (place_of x m) new r
+        (λ t. ap (λ (es : List Entry). wrote_of es first_part) nothing ∙ ap (wrote_of []) (same t))
+        (part_then plants.tells h b cs e (place_of x m) (place_of y n) (own_batch x m h w) left 0 done end (length n.batch) new r g
+        (let longer = ap (λ (es : List Entry). length es) (g.left ∙ ap (λ (es : List Entry). es ++ g.es) nothing) in omega (arith, longer)) p)
 
 -- where groups are needed the job isn't cancelled, and they are those of its outputs
 pub needs_all : (cancelled : Bool) (specs : List OutSpec) → 1 ≤ groups_of_outputs (if cancelled then [] else specs) → groups_of_outputs (if cancelled then [] else specs) ≡ groups_of_outputs specs

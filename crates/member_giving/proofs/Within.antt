@@ -1,51 +1,19 @@
 -- What a sitting of work may come to on every plant: how many batches, and which lines.
-use Rattle.std.proofs.Common.{◌≡◌, inl, inr, ℕ, zero, suc, ◌+◌, ◌*◌, ◌≤◌, Bool, true, false, List, [], ◌∷◌, ◌++◌, length, Option, Some, None, ap, refl, arith}
-use Rattle.std.specs.Option.{option_map_or}
-use Rattle.std.specs.Prelude.{IfSome}
+use Rattle.member_giving.proofs.Names.{◌≡◌, ℕ, zero, suc, ◌+◌, ◌*◌, ◌≤◌, Bool, true, false, List, [], ◌∷◌, ◌++◌, length, Option, Some, None, All, inl, inr, ap, refl, arith, IfSome, option_map_or, All-cons, All-nil, Command, Reply, JobNo, Job, OutSpec, Output, Entry, Queue, job_at, output_at, run, unit_of, test_cases, UnitEnd, end_by, IsAnswered, reply_answered, cut, cut_after, is_full, sittings_most, are_refused, takes, closing_reply, ending, groups_for_end, printed_end, taking, SpoolOutputs, Found, Holder, Progress, State, Away, Fresh, Rested, Told, Turn, Units, after_part, closes_as, ends_with, gives, goes_on, goes_on_by, groups_taken, is_spent, job_ends, leaves, next_unit, no_more, one_command, prints_output, reads_job, text_read, units_from, MayCloseBy, MayEndBy, MayRefuseBy, SaysAtEnd, WorkLines, IsWithin, MayStopBy, Wrote, after_full, bounds, full_of, unwritten, wrote_after, wrote_of, AreOf, given_of}
 use Rattle.mas_types.specs.declared.answers.Closing.{Closing}
-use Rattle.mas_types.specs.declared.answers.Closing.TheVariants as closing
-use Rattle.mas_types.specs.declared.commands.Command.{Command}
-use Rattle.mas_types.specs.declared.commands.Command.TheVariants as command
-use Rattle.mas_types.specs.declared.commands.Reply.{Reply}
-use Rattle.mas_types.specs.declared.commands.Reply.TheVariants as reply
-use Rattle.mas_types.specs.declared.ids.JobNo.{JobNo}
-use Rattle.mas_types.specs.declared.jobs.Job.{Job}
 use Rattle.mas_types.specs.declared.jobs.JobFields.{JobFields}
-use Rattle.mas_types.specs.declared.jobs.OutSpec.{OutSpec}
-use Rattle.mas_types.specs.declared.jobs.Output.{Output}
-use Rattle.mas_types.specs.declared.journals.Entry.{Entry}
-use Rattle.mas_types.specs.declared.queues.Queue.{Queue}
+use Rattle.mas_types.specs.declared.answers.Closing.TheVariants as closing
+use Rattle.mas_types.specs.declared.commands.Command.TheVariants as command
+use Rattle.mas_types.specs.declared.commands.Reply.TheVariants as reply
 use Rattle.mas_types.specs.declared.units.Unit as work
 use Rattle.mas_types.specs.declared.units.Unit.TheVariants as unit
-use Rattle.mas_types.specs.Queue.{job_at, output_at}
-use Rattle.mas_types.specs.Run.{run}
-use Rattle.mas_types.specs.Units.{unit_of}
-use Rattle.queue_laws.proofs.Finds.{test_cases}
 use Rattle.job_outcome.specs.declared.outcomes.Outcome.{Outcome}
-use Rattle.job_outcome.specs.declared.outcomes.Outcome.TheVariants as outcome
 use Rattle.job_outcome.specs.declared.outcomes.Read.{Read}
-use Rattle.job_outcome.specs.declared.outcomes.Read.TheVariants as read
-use Rattle.job_outcome.specs.declared.units.UnitEnd.{UnitEnd}
-use Rattle.job_outcome.specs.declared.units.UnitEnd.TheVariants as ends
 use Rattle.job_outcome.specs.Meaning.{listed}
-use Rattle.job_outcome.specs.Next.{end_by}
 use Rattle.job_outcome.specs.Outcomes.{converted_as, outcome_of, outcome_of_text}
-use Rattle.member_work.specs.Causes.{IsAnswered}
-use Rattle.member_work.proofs.CauseLemmas.{reply_answered}
-use Rattle.step_turns.specs.Batches.{cut, cut_after, is_full}
-use Rattle.step_turns.specs.Courses.{sittings_most}
-use Rattle.step_turns.specs.Decks.{are_refused, takes}
-use Rattle.step_turns.specs.Entries.{closing_reply}
-use Rattle.step_turns.specs.JobEnds.{ending, groups_for_end, printed_end, taking}
-use Rattle.step_turns.specs.declared.states.Aside.TheVariants.{SpoolOutputs}
-use Rattle.step_turns.specs.declared.states.Found.{Found}
-use Rattle.step_turns.specs.declared.states.Holder.{Holder}
-use Rattle.step_turns.specs.declared.states.Progress.{Progress}
-use Rattle.step_turns.specs.declared.states.State.{State}
-use Rattle.step_turns.specs.declared.states.State.TheVariants.{Away, Fresh, Rested, Told}
-use Rattle.step_turns.specs.Turns.{Turn, Units, after_part, closes_as, ends_with, gives, goes_on, goes_on_by, groups_taken, is_spent, job_ends, leaves, next_unit, no_more, one_command, prints_output, reads_job, text_read, units_from}
-use Rattle.member_sittings.specs.Shapes.{MayCloseBy, MayEndBy, MayRefuseBy, SaysAtEnd, WorkLines}
-use Rattle.member_giving.specs.Plays.{IsWithin, MayStopBy, Wrote, after_full, bounds, full_of, unwritten, wrote_after, wrote_of}
+use Rattle.job_outcome.specs.declared.outcomes.Outcome.TheVariants as outcome
+use Rattle.job_outcome.specs.declared.outcomes.Read.TheVariants as read
+use Rattle.job_outcome.specs.declared.units.UnitEnd.TheVariants as ends
 
 -- HOW MANY BATCHES
 
@@ -102,22 +70,7 @@ answered_by found (ends.Refused end) a = refused end a where
 
   refused : (end : Closing) → IsAnswered (ends.Refused end) → MayEndBy found (ends.Refused end)
   refused (closing.Reply r) a = by_reply r a
-  refused (closing.NoText group) a = absurd a
-  refused (closing.SpoolLost volume) a = absurd a
-  refused closing.PrinterLost a = absurd a
-  refused (closing.DoneUnits n) a = absurd a
-  refused (closing.Busy m) a = absurd a
-  refused (closing.Dormant tick) a = absurd a
-  refused closing.Down a = absurd a
-  refused closing.Stopped a = absurd a
-  refused (closing.Up m) a = absurd a
-  refused (closing.ResetOf m) a = absurd a
-  refused closing.NotHolder a = absurd a
-  refused (closing.BadCard card cause) a = absurd a
-  refused (closing.LineLost line) a = absurd a
-  refused (closing.NotLost copy) a = absurd a
-  refused (closing.CkptLost copy) a = absurd a
-  refused (closing.Line sent got) a = absurd a
+  refused _ a = absurd a
 
 -- by what was found
 
@@ -156,25 +109,26 @@ more_closings units more found end le (inr refused) = inr refused
 -- THE TURN
 
 module _ (h : Holder) (found : Found) where
-  -- what is known of a turn
+  -- what is known of a turn: its parts are of the holder's step, and it comes to so much
   pub record TurnWithin (most units : ℕ) (t : Turn) : Type 0 where
+    pub its : All (AreOf h.by h.step) t.parts
     pub few : length t.parts + sittings_most t.next ≤ most
     pub says : SaysAtEnd t.next (WorkLines h units found) t.lines
 
   closes_within : (most units : ℕ) (end : Closing) → MayCloseBy units found end → TurnWithin most units (closes_as h end)
-  closes_within most units end may = record { few = omega arith; says = (end, refl, may) }
+  closes_within most units end may = record { its = All-nil (AreOf h.by h.step); few = omega arith; says = (end, refl, may) }
 
   done_within : (most units done : ℕ) → done ≤ units → TurnWithin most units (no_more h done)
   done_within most units done le = closes_within most units (closing.DoneUnits done) (inl (done, le, refl))
 
   waits_within : (most units : ℕ) (s : State) → sittings_most s ≤ most → SaysAtEnd s (WorkLines h units found) [] → TurnWithin most units (leaves s)
-  waits_within most units s few says = record { few = omega (arith, few); says = says }
+  waits_within most units s few says = record { its = All-nil (AreOf h.by h.step); few = omega (arith, few); says = says }
 
-  pub part_within : (most units : ℕ) (es : List Entry) (t : Turn) → TurnWithin most units t → TurnWithin (most + 1) units (after_part es t)
-  part_within most units es t w = record { few = let few = w.few in omega (arith, few); says = w.says }
+  part_within : (most units : ℕ) (Q : Queue) (cs : List Command) (t : Turn) → TurnWithin most units t → TurnWithin (most + 1) units (after_part (gives h Q cs) t)
+  part_within most units Q cs t w = record { its = All-cons (AreOf h.by h.step) (gives h Q cs) t.parts (given_of h.by h.step cs Q) w.its; few = let few = w.few in omega (arith, few); says = w.says }
 
   more_within : (most least units : ℕ) (t : Turn) → least ≤ most → TurnWithin least units t → TurnWithin most units t
-  more_within most least units t le w = record { few = let few = w.few in omega (arith, few, le); says = w.says }
+  more_within most least units t le w = record { its = w.its; few = let few = w.few in omega (arith, few, le); says = w.says }
 
   abbrev AllWithin : ℕ → Units → Type 0
   AllWithin left more = (most units : ℕ) (Q : Queue) (given done : ℕ) → done + left ≤ units → 3 * left + 1 ≤ most → TurnWithin most units (more Q given done)
@@ -196,7 +150,7 @@ module _ (h : Holder) (found : Found) where
       let es = gives h Q (c ∷ []) in
       let end = end_by (closing_reply es) in
       let then = by_within end (answered_by found end (reply_answered (closing_reply es))) left more all (3 * left + 1) units (run Q es) (given + length es) done (omega (arith, few)) (omega arith) in
-      more_within most (3 * left + 1 + 1) units (one_command h c left more Q given done) (omega (arith, le)) (part_within (3 * left + 1) units es _ then)
+      more_within most (3 * left + 1 + 1) units (one_command h c left more Q given done) (omega (arith, le)) (part_within (3 * left + 1) units Q (c ∷ []) _ then)
 
   next_within : (u : work.Unit) (left : ℕ) (more : Units) → AllWithin left more → (most units : ℕ) (Q : Queue) (given done : ℕ) → done + suc left ≤ units → 3 * suc left + 1 ≤ most → TurnWithin most units (next_unit h u left more Q given done)
   next_within u left more all most units Q given done few le = by_unit u where
@@ -234,24 +188,25 @@ module _ (h : Holder) (found : Found) where
 
   -- what follows once a job's text was read
   module _ (most units : ℕ) (Q : Queue) (n : JobNo) (p : Progress) (few : p.done + 1 + p.left ≤ units) (le : 3 * p.left + 3 ≤ most) where
-    ends_within : (es : List Entry) → TurnWithin most units (ends_with h es p Q)
-    ends_within es =
+    ends_within : (cs : List Command) → TurnWithin most units (ends_with h (gives h Q cs) p Q)
+    ends_within cs =
+        let es = gives h Q cs in
         let end = end_by (closing_reply es) in
         more_within most (3 * p.left + 1 + 1) units (ends_with h es p Q) (omega (arith, le))
-        (part_within (3 * p.left + 1) units es _ (goes_within end (answered_by found end (reply_answered (closing_reply es))) (3 * p.left + 1) units p.left (run Q es) (0 + length es) p.done few (omega arith)))
+        (part_within (3 * p.left + 1) units Q cs _ (goes_within end (answered_by found end (reply_answered (closing_reply es))) (3 * p.left + 1) units p.left (run Q es) (0 + length es) p.done few (omega arith)))
 
     taken_within : (refused : Bool) (needed : ℕ) (specs : List OutSpec) → TurnWithin most units (groups_taken h refused needed Q n specs p)
-    taken_within true needed specs = ends_within (gives h Q (taking Q h.by needed))
+    taken_within true needed specs = ends_within (taking Q h.by needed)
     taken_within false needed specs =
         more_within most (3 * p.left + 2 + 1) units (groups_taken h false needed Q n specs p) (omega (arith, le))
-        (part_within (3 * p.left + 2) units (gives h Q (takes needed Q h.by needed)) _ (waits_within (3 * p.left + 2) units (Away (SpoolOutputs n specs p)) (omega arith) refl))
+        (part_within (3 * p.left + 2) units Q (takes needed Q h.by needed) _ (waits_within (3 * p.left + 2) units (Away (SpoolOutputs n specs p)) (omega arith) refl))
 
     job_within : (needed : ℕ) (specs : List OutSpec) → TurnWithin most units (job_ends h needed Q n specs p)
-    job_within zero specs = ends_within (gives h Q (ending Q h.by n specs))
+    job_within zero specs = ends_within (ending Q h.by n specs)
     job_within (suc needed) specs = taken_within (are_refused (suc needed) Q h.by (suc needed)) (suc needed) specs
 
     pub text_within : (o : Outcome) → MayStopBy found o → TurnWithin most units (text_read h o Q n p)
-    text_within outcome.Convert may = ends_within (gives h Q (command.Converted n ∷ []))
+    text_within outcome.Convert may = ends_within (command.Converted n ∷ [])
     text_within (outcome.End specs) may = job_within (groups_for_end Q n specs) specs
     text_within (outcome.Stop end) may = closes_within most units end (inr may)
 
@@ -263,6 +218,9 @@ module _ (h : Holder) (found : Found) (units : ℕ) where
 
   pub wrote_within : (most : ℕ) (es : List Entry) (t : Turn) (least : ℕ) → least + unwritten es ≤ most → TurnWithin h found least units t → Within most (wrote_of es t)
   wrote_within most es t least le w = record { few = let few = w.few in let all = cut_few es t.parts in omega (arith, few, all, le); says = w.says }
+
+  pub part_wrote : (most : ℕ) (so_far es : List Entry) (t : Turn) (least : ℕ) → least + 1 + unwritten so_far ≤ most → TurnWithin h found least units t → Within most (wrote_of so_far (after_part es t))
+  part_wrote most so_far es t least le w = record { few = let few = w.few in let all = cut_few so_far (es ∷ t.parts) in omega (arith, few, all, le); says = w.says }
 
   pub after_within : (most : ℕ) (es : List Entry) (t : Turn) (least : ℕ) → least + unwritten es ≤ most → TurnWithin h found least units t → Within most (wrote_after es t)
   after_within most es t least le w = record { few = let few = w.few in let all = after_few es t.parts in omega (arith, few, all, le); says = w.says }
@@ -279,9 +237,7 @@ module _ (h : Holder) (found : Found) (units : ℕ) where
     silent Told goes = absurd (goes refl)
 
   pub pause_within : (most : ℕ) (es part : List Entry) (s : State) → (s ≡ Told → ⊥) → sittings_most s + 1 + unwritten es ≤ most → Within most (wrote_of es (after_part part (leaves s)))
-  pause_within most es part s goes le =
-      let w = leave_within [] s goes in
-      wrote_within most es (after_part part (leaves s)) (sittings_most s + 1) le (part_within h found (sittings_most s) units part (leaves s) (record { few = omega arith; says = w.says }))
+  pause_within most es part s goes le = part_wrote most es part (leaves s) (sittings_most s) le (record { its = All-nil (AreOf h.by h.step); few = omega arith; says = (leave_within [] s goes).says })
 
 -- bounds that leave more
 pub more_wrote : (h : Holder) (found : Found) (most least units fewer : ℕ) (w : Wrote) → least ≤ most → fewer ≤ units → IsWithin h (bounds least fewer found) w → IsWithin h (bounds most units found) w

@@ -1,30 +1,8 @@
 -- A member at work, after a call.
-use Rattle.std.proofs.Common.{◌≡◌, ◌∙◌, ℕ, ◌+◌, ◌≤◌, ◌<◌, List, [], ◌∷◌, ◌++◌, Ok, ap, append-nil, refl, sym, subst, arith}
-use Rattle.mas_types.specs.declared.ids.Dev.TheVariants.{Ckpt1, Ckpt2}
-use Rattle.mas_types.specs.declared.ids.MemberId.{MemberId}
-use Rattle.mas_types.specs.declared.journals.Batch.{Batch}
-use Rattle.mas_types.specs.declared.journals.Entry.{Entry}
-use Rattle.mas_types.specs.declared.queues.Queue.{Queue}
-use Rattle.spool_plant.specs.View.{disk_now}
-use Rattle.spool_plant.specs.declared.plant.Plant.{Ghosts as PlantGhosts}
-use Rattle.ckpt_copy.specs.declared.copying.Copying.{Ghosts as CopyGhosts}
-use Rattle.mas_complex.specs.declared.complex.Complex.{Complex}
-use Rattle.ckpt_form.specs.declared.steady.Steady.{Ghosts as SteadyGhosts}
+use Rattle.member_giving.proofs.Names.{◌≡◌, ℕ, ◌+◌, ◌≤◌, ◌<◌, List, [], ◌++◌, Ok, ◌∙◌, ap, append-nil, refl, sym, subst, arith, Ckpt1, Ckpt2, MemberId, Batch, Entry, Queue, disk_now, PlantGhosts, Ghosts as CopyGhosts, Complex, SteadyGhosts, end_of, kept_all, meaning_run as run, Member, too_high, none_out, HasNotes, AreKeptFrom, AreOf, HasCopy, IsAtWork, IsStepUntold, queue_of_kept, batch_of, Holder, Keeps, HasRoom, IsLow, LeavesRoom, Run, UsesOne, Works, outside, queue_here, queue_kept, run_of}
 use Rattle.mas_complex.specs.Crash.{setting}
-use Rattle.mas_complex.specs.Journals.{end_of, kept_all}
-use Rattle.mas_complex.specs.Meaning.{run}
-use Rattle.member_node.specs.declared.member.Member.{Member}
-use Rattle.member_node.specs.Reads.{too_high}
-use Rattle.member_node.proofs.WriteLemmas.{none_out}
-use Rattle.member_steps.specs.Noting.{HasNotes}
-use Rattle.member_steps.specs.Steps.{AreKeptFrom}
-use Rattle.member_decks.specs.Steps.{AreOf}
-use Rattle.member_work.specs.Steps.{HasCopy, IsAtWork, IsKeeping, IsStepUntold}
-use Rattle.member_work.specs.Work.{batches_in}
 use Rattle.member_work.proofs.KeptLemmas.{kept_from_front}
-use Rattle.member_work.proofs.PartLemmas.{queue_kept as queue_of_kept}
-use Rattle.step_turns.specs.declared.states.Holder.{Holder}
-use Rattle.member_giving.specs.Works.{HasRoom, IsLow, LeavesRoom, Run, UsesOne, Works, queue_here, queue_kept, run_of}
+use Rattle.member_giving.proofs.Cuts.{one_batch}
 
 module _ {P C : Type 0} {plants : PlantGhosts P} {steadies : SteadyGhosts C} {copies : CopyGhosts C} where
   abbrev pub AtWork : Complex P C plants steadies copies → Member → Type 0
@@ -73,27 +51,27 @@ module _ {P C : Type 0} {plants : PlantGhosts P} {steadies : SteadyGhosts C} {co
   none_flies x m w = none_out x.journal.batches x.journal.batches x.placed x.current refl w.unplaced w.none
 
   -- what was given of a step is kept still, after a call that kept all of its batches
-  pub step_on : {T : Type 0} (x y : Complex P C plants steadies copies) (m n : Member) (h : Holder) → Works x m h → n.id ≡ m.id → AtWork y n → (ess : List (List Entry)) (done : T)
-      → IsKeeping {T = T} plants.tells m.id ess x.journal.batches (end_of y.placed y.current y.journal.batches) x.pair.first.alive y.pair.first.alive x.pair.second.alive y.pair.second.alive (plants.view x.plant) (plants.view y.plant) (Ok done)
-      → AreKeptFrom n.id h.step y.journal.batches (plants.view y.plant).now
+  pub step_on : {T : Type 0} (x y : Complex P C plants steadies copies) (m n : Member) (h : Holder) → Works x m h → n.id ≡ m.id → AtWork y n → (ess : List (List Entry)) (done : T) → Keeps plants.tells h.by ess (outside x) (outside y) (Ok done) → AreKeptFrom n.id h.step y.journal.batches (plants.view y.plant).now
   step_on x y m n h w id work ess done keeps =
+      let now = (plants.view x.plant).now in
       subst (λ (i : MemberId). AreKeptFrom i h.step y.journal.batches (plants.view y.plant).now) (sym id)
-      (kept_from_front m.id h.step m.id ess x.journal.batches keeps.rest (end_of y.placed y.current y.journal.batches) y.journal.batches (plants.view x.plant).now (plants.view y.plant).now keeps.course.goes.later w.step keeps.batches_are keeps.journal
-      (none_flies y n work))
+      (kept_from_front m.id h.step h.by ess (outside x).batches keeps.rest (outside y).batches y.journal.batches now (plants.view y.plant).now keeps.course.goes.later
+      (subst (λ (bs : List Batch). AreKeptFrom m.id h.step bs now) (sym (none_flies x m w.work)) w.step) keeps.batches_are keeps.journal (none_flies y n work))
 
   -- the queue of a member with nothing unwritten is that after the kept batches
   pub kept_here : (x : Complex P C plants steadies copies) (m : Member) → m.batch ≡ [] → queue_here x m ≡ queue_kept x
   kept_here x m nothing = ap (λ (es : List Entry). run x.base (kept_all x.journal.batches ++ es)) nothing ∙ ap (run x.base) (append-nil (kept_all x.journal.batches))
 
   -- the queue after what wasn't written was kept
-  pub queue_after : (x y : Complex P C plants steadies copies) (m n : Member) → y.base ≡ x.base → AtWork y n → n.batch ≡ []
-      → IsKeeping {T = Unit {0}} plants.tells m.id (batches_in (m.batch ∷ [])) x.journal.batches (end_of y.placed y.current y.journal.batches) x.pair.first.alive y.pair.first.alive x.pair.second.alive y.pair.second.alive (plants.view x.plant) (plants.view y.plant) (Ok tt)
-      → queue_here y n ≡ queue_here x m
-  queue_after x y m n base w nothing keeps =
+  pub queue_after : (x y : Complex P C plants steadies copies) (m n : Member) (by : MemberId) → y.base ≡ x.base → (outside x).batches ≡ x.journal.batches → (outside y).batches ≡ y.journal.batches → n.batch ≡ [] → Keeps {T = Unit {0}} plants.tells by (batch_of m.batch) (outside x) (outside y) (Ok tt) → queue_here y n ≡ queue_here x m
+  queue_after x y m n by base was is nothing keeps =
+      let o = outside x in
+      let z = outside y in
       kept_here y n nothing
       ∙ ap (λ (q : Queue). run q (kept_all y.journal.batches)) base
-      ∙ ap (λ (bs : List Batch). run x.base (kept_all bs)) (sym (none_flies y n w))
-      ∙ queue_of_kept plants.tells m.id m.batch x.base x.journal.batches (end_of y.placed y.current y.journal.batches) x.pair.first.alive y.pair.first.alive x.pair.second.alive y.pair.second.alive (plants.view x.plant) (plants.view y.plant) keeps
+      ∙ ap (λ (bs : List Batch). run x.base (kept_all bs)) (sym is)
+      ∙ queue_of_kept plants.tells by m.batch x.base o.batches z.batches o.first z.first o.second z.second o.view z.view (subst (λ (ess : List (List Entry)). Keeps {T = Unit {0}} plants.tells by ess o z (Ok tt)) (sym (one_batch m.batch)) keeps)
+      ∙ ap (λ (bs : List Batch). run x.base (kept_all bs ++ m.batch)) was
 
   -- ROOM
 

@@ -3,3 +3,5 @@ pub mod Plays
 pub mod Nexts
 pub use Rattle.member_asides.specs.Asides
 pub use Rattle.member_asides.specs.Ready
+pub use Rattle.member_work.specs.Work
+pub mod Names

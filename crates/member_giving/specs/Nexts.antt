@@ -1,27 +1,16 @@
 -- The next unit of a member's work: its command, or the acts for which it waits.
 use Rattle.std.specs.Prelude.{◌≡◌, ℕ, Bool, Option, Some, None}
-use Rattle.mas_types.specs.declared.commands.Command.{Command}
+use Rattle.member_giving.specs.Names.{Command, MemberId, Queue, job_at, output_at, Tell, command_of, chunk_end, aside_done, aside_units, Holder, Progress, Turn, no_more, one_command, units_from, waits_for, IsReadyUnit}
 use Rattle.mas_types.specs.declared.ids.JobNo.{JobNo}
-use Rattle.mas_types.specs.declared.ids.MemberId.{MemberId}
 use Rattle.mas_types.specs.declared.ids.OutNo.{OutNo}
 use Rattle.mas_types.specs.declared.jobs.Job.{Job}
 use Rattle.mas_types.specs.declared.jobs.Output.{Output}
-use Rattle.mas_types.specs.declared.queues.Queue.{Queue}
 use Rattle.mas_types.specs.declared.units.Unit as units
 use Rattle.mas_types.specs.Fit.{IsFit, IsIndex, IsJobFields}
-use Rattle.mas_types.specs.Queue.{job_at, output_at}
 use Rattle.ckpt_tables.specs.declared.tables.Tables.{Tables}
-use Rattle.queue_telling.specs.Telling.{Tell}
-use Rattle.member_work.specs.Units.{command_of}
-use Rattle.step_turns.specs.JobEnds.{chunk_end}
-use Rattle.step_turns.specs.Laws.{aside_done, aside_units}
-use Rattle.step_turns.specs.declared.states.Holder.{Holder}
-use Rattle.step_turns.specs.declared.states.Progress.{Progress}
 use Rattle.step_turns.specs.declared.states.Aside.TheVariants.{PrintLines, ReadText}
-use Rattle.step_turns.specs.Turns.{Turn, no_more, one_command, units_from, waits_for}
 use Rattle.member_giving.specs.declared.nexts.Next.{Next}
 use Rattle.member_giving.specs.declared.nexts.Next.TheVariants as next
-use Rattle.member_asides.specs.Ready.{IsReadyUnit}
 
 -- what follows, where so many units may follow the next one, so many are done, and so many commands are given in the
 -- sitting

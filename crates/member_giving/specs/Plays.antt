@@ -1,30 +1,17 @@
 -- What a sitting of work does from a place within it: what it writes, the state that it leaves, and its lines.
 use Rattle.std.specs.Prelude.{◌≡◌, ℕ, zero, suc, ◌+◌, ◌≤◌, Bool, false, if◌then◌else◌, List, [], ◌∷◌, ◌++◌, length, All, Result, Ok, Err, IfOk, OnOk}
-use Rattle.mas_types.specs.declared.commands.Command.{Command}
-use Rattle.mas_types.specs.declared.ids.MemberId.{MemberId}
-use Rattle.mas_types.specs.declared.journals.Entry.{Entry}
+use Rattle.member_giving.specs.Names.{Command, MemberId, Entry, SamePapers, HasCounted, OtherNotesStay, AreOf, IsClosing, IsKeeping, batch_of, cut, cut_after, is_full, all_entries, given_in, Holder, State, Turn, is_spent, SittingEnd}
 use Rattle.mas_types.specs.Run.{run}
 use Rattle.spool_plant.specs.Acts.{SameWires}
-use Rattle.mas_complex.specs.Paper.{SamePapers}
 use Rattle.member_node.specs.declared.member.NodeNo.{NodeNo}
 use Rattle.member_node.specs.Calls.{IsOnlyOn}
-use Rattle.member_steps.specs.Counting.{HasCounted}
-use Rattle.member_steps.specs.Noting.{OtherNotesStay}
-use Rattle.member_decks.specs.Steps.{AreOf}
-use Rattle.member_work.specs.Steps.{IsClosing, IsKeeping}
 use Rattle.job_outcome.specs.declared.outcomes.Outcome.{Outcome}
 use Rattle.job_outcome.specs.declared.outcomes.Outcome.TheVariants as outcome
 use Rattle.job_outcome.specs.declared.units.UnitEnd.{UnitEnd}
-use Rattle.step_turns.specs.Batches.{batch_of, cut, cut_after, is_full}
 use Rattle.step_turns.specs.Courses.{sittings_most}
-use Rattle.step_turns.specs.Entries.{all_entries, given_in}
 use Rattle.step_turns.specs.Sittings.{released}
 use Rattle.step_turns.specs.declared.states.Found.{Found}
-use Rattle.step_turns.specs.declared.states.Holder.{Holder}
-use Rattle.step_turns.specs.declared.states.State.{State}
-use Rattle.step_turns.specs.Turns.{Turn, is_spent}
-use Rattle.member_sittings.specs.declared.ends.SittingEnd.{SittingEnd}
-use Rattle.member_sittings.specs.Shapes.{MayRefuseBy, SaysAtEnd, WorkLines}
+use Rattle.member_asides.specs.Shapes.{MayRefuseBy, SaysAtEnd, WorkLines}
 use Rattle.member_giving.specs.Works.{Outside, Place}
 
 -- the batches that it writes, the state that it leaves, and the lines with which the step closes
@@ -75,6 +62,12 @@ pub record SparesOthers (told : Type 0) (by : MemberId) (old new : Outside) : Ty
   pub papers : told → SamePapers old.view new.view
   pub wires : told → SameWires old.view new.view
   pub notes : OtherNotesStay by old.had new.had
+
+-- A sitting that is out of memory: what wasn't written of it is kept, if there is memory for that.
+pub record GivesUp (told : Type 0) (by : MemberId) (es : List Entry) (old new : Outside) (why : NodeNo) : Type 0 where
+  pub keeps : Keeps {T = Unit {0}} told by (batch_of es) old new (Err why)
+  pub counts : HasCounted {T = Unit {0}} by [] old.printed new.printed (Err why)
+  pub spares : SparesOthers told by old new
 
 -- WHAT A SITTING MAY COME TO on every plant
 

@@ -1,13 +1,9 @@
 -- A member at work in a sitting, as whole values: what holds between two of its calls, and what a call changes.
-use Rattle.std.specs.Prelude.{◌≡◌, ℕ, ◌+◌, ◌*◌, ◌≤◌, ◌<◌, ◌^◌, Bool, true, List, ◌++◌}
+use Rattle.std.specs.Prelude.{◌≡◌, ℕ, ◌+◌, ◌*◌, ◌≤◌, ◌<◌, ◌^◌, Bool, true, List, [], ◌++◌}
+use Rattle.member_giving.specs.Names.{MemberId, Entry, Queue, members_most, is_member, HasNotes, AreOf, HasCopy, IsAtWork, IsStepUntold, Holder, Progress, State, units_left, SittingEnd, HasFewer, IsReady}
 use Rattle.mas_types.specs.declared.ids.Dev.TheVariants.{Ckpt1, Ckpt2}
-use Rattle.mas_types.specs.declared.ids.MemberId.{MemberId}
 use Rattle.mas_types.specs.declared.ids.Page.{Page}
 use Rattle.mas_types.specs.declared.journals.Batch.{Batch}
-use Rattle.mas_types.specs.declared.journals.Entry.{Entry}
-use Rattle.mas_types.specs.declared.queues.Queue.{Queue}
-use Rattle.mas_types.specs.Limits.{members_most}
-use Rattle.mas_types.specs.Queue.{is_member}
 use Rattle.mas_types.specs.Sound.{IsSound}
 use Rattle.lock_cycle.specs.Books.{Book, IsMember}
 use Rattle.spool_plant.specs.View.{View, disk_now}
@@ -23,15 +19,9 @@ use Rattle.mas_complex.specs.Meaning.{run}
 use Rattle.mas_complex.specs.Past.{values_of}
 use Rattle.member_node.specs.declared.member.Member.{Member}
 use Rattle.member_node.specs.Reads.{too_high}
-use Rattle.member_steps.specs.Noting.{HasNotes}
 use Rattle.member_steps.specs.Steps.{AreKeptFrom}
-use Rattle.member_decks.specs.Steps.{AreOf}
-use Rattle.member_work.specs.Steps.{HasCopy, IsAtWork, IsStepUntold}
-use Rattle.step_turns.specs.declared.states.Holder.{Holder}
-use Rattle.mas_complex.specs.Parts.{parts_of}
-use Rattle.step_turns.specs.declared.states.State.{State}
-use Rattle.member_sittings.specs.Whole.{IsBounded, IsLeftIn, IsSeat, IsSitting}
-use Rattle.member_asides.specs.Ready.{IsReady}
+use Rattle.mas_complex.specs.Parts.{Parts, parts_of}
+use Rattle.member_asides.specs.Whole.{IsBounded, IsLeftIn, IsSeat, IsSitting, queue_of}
 
 -- what others see of a shared value: what its plant shows, the journal with a batch in flight at its end, which copies
 -- count as alive, how many lines each member has printed, and the pages that each noted
@@ -56,6 +46,28 @@ pub record Run : Type 0 where
   pub renewals : Renewals
   pub book : Book
   pub id : MemberId
+
+-- what may follow a sitting: fewer sittings than so many, so many units at most; and how high its level is at most
+pub record Follow : Type 0 where
+  pub most : ℕ
+  pub units : ℕ
+  pub level : ℕ
+
+abbrev pub follow : ℕ → ℕ → ℕ → Follow
+follow most units level = record { most = most; units = units; level = level }
+
+-- what may follow in a step of this progress after a unit, with so many sittings more than each unit that is left takes
+abbrev pub after_unit : ℕ → ℕ → Progress → Follow
+after_unit more level p = follow (3 * p.left + more) (p.done + p.left + 1) (level + p.left + 2)
+
+-- What a sitting leaves that ended so: its member sits still, where the step waits what it asks is known, and there is
+-- room for what may follow.
+pub record LeavesIn {P C : Type 0} (plants : PlantGhosts P) (copies : CopyGhosts C) (y : Parts P C) (n : Member)
+    (at : ℕ) (f : Follow) (e : SittingEnd) : Type 0 where
+  pub again : IsLeftIn plants copies e.next y n at
+  pub ready : IsReady plants.tells (queue_of y) n.checkpoint.tables n.id e.next
+  pub fewer : HasFewer f.most f.units e.next
+  pub reached : y.level + units_left e.next ≤ f.level
 
 module _ {P C : Type 0} {plants : PlantGhosts P} {steadies : SteadyGhosts C} {copies : CopyGhosts C} where
   abbrev pub outside : Complex P C plants steadies copies → Outside
@@ -133,9 +145,22 @@ module _ {P C : Type 0} {plants : PlantGhosts P} {steadies : SteadyGhosts C} {co
   abbrev pub SitsIn : State → Complex P C plants steadies copies → Member → ℕ → Type 0
   SitsIn s x m at = IsLeftIn plants copies s (parts_of x) m at
 
-  -- what is known where it waits in that state
-  abbrev pub ReadyIn : State → Complex P C plants steadies copies → Member → Type 0
-  ReadyIn s x m = IsReady plants.tells (queue_kept x) m.checkpoint.tables m.id s
-
   abbrev pub HasBounds : Complex P C plants steadies copies → Member → Type 0
   HasBounds x m = IsBounded plants copies (parts_of x) m
+
+  abbrev pub Leaves : Complex P C plants steadies copies → Member → ℕ → Follow → SittingEnd → Type 0
+  Leaves x m at f e = LeavesIn plants copies (parts_of x) m at f e
+
+  -- a state in which the member may leave its step, where so much may follow
+  pub record MayLeave (x : Complex P C plants steadies copies) (m : Member) (f : Follow) (s : State) : Type 0 where
+    pub ready : IsReady plants.tells (queue_here x m) m.checkpoint.tables m.id s
+    pub fewer : HasFewer f.most f.units s
+    pub reached : x.level + 1 + units_left s ≤ f.level
+
+  -- A sitting begins so, with nothing unwritten, after acts for which a unit waited in this progress of its step.
+  pub record IsPaused (x : Complex P C plants steadies copies) (m : Member) (h : Holder) (p : Progress) : Type 0 where
+    pub works : Works x m h
+    pub low : IsLow x m
+    pub nothing : m.batch ≡ []
+    pub level : x.level + p.left + 4 < too_high
+    pub units : p.done + p.left < 9999

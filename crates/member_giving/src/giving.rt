@@ -1,33 +1,15 @@
 //! What a member gives in a sitting of work, and what of it is kept.
 ghost use Rattle.std.specs.Prelude.{◌≡◌, ◌+◌, ◌≤◌, ◌<◌, ◌^◌, ◌∷◌, [], length, take, Ok, OnOk, IfOk};
-ghost use Rattle.mas_types.specs.declared.answers.Closing.TheVariants.{SpoolLost};
-ghost use Rattle.mas_types.specs.Commands.Life.{outputs_at_end};
-ghost use Rattle.mas_types.specs.Owners.{member_count};
-ghost use Rattle.mas_types.specs.Queue.{job_at};
-ghost use Rattle.track_groups.specs.Groups.{held_by};
-ghost use Rattle.paper_laws.specs.Counts.{IsMarkRight, counts_after};
-ghost use Rattle.mas_complex.specs.Paper.{counts_of};
-ghost use Rattle.mas_complex.specs.Texts.{spools_at};
-ghost use Rattle.job_exec.specs.Running.{AreOutputs};
-ghost use Rattle.job_outcome.specs.declared.units.UnitEnd.TheVariants.{Done, Refused};
-ghost use Rattle.job_outcome.specs.Next.{IsNamedEnd, end_by};
-ghost use Rattle.member_steps.specs.Counting.{HasCounted};
-ghost use Rattle.member_work.specs.Causes.{IsAnswered};
-ghost use Rattle.member_work.specs.Spooled.{AreSpooled};
-ghost use Rattle.member_work.specs.Steps.{IsUnderWay};
-ghost use Rattle.member_work.specs.Units.{taken_end};
-ghost use Rattle.step_turns.specs.Batches.{batch_of};
-ghost use Rattle.step_turns.specs.Entries.{all_entries, closing_reply, given_in};
-ghost use Rattle.step_turns.specs.JobEnds.{drop_groups, ending, groups_for_end, taking};
-ghost use Rattle.member_giving.specs.Plays.{HasGiven, Keeps, SparesOthers, after_full, full_of};
-ghost use Rattle.member_asides.specs.Ready.{MayBeGiven};
+ghost use Rattle.member_giving.specs.Names.{SpoolLost, outputs_at_end, member_count, job_at, held_by, IsMarkRight, counts_after, counts_of, spools_at, AreOutputs, Done, Refused, IsNamedEnd, end_by, HasCounted, IsAnswered, AreSpooled, IsUnderWay, taken_end, batch_of, all_entries, closing_reply, given_in, drop_groups, ending, groups_for_end, taking, MayBeGiven};
+ghost use Rattle.member_giving.specs.Plays.{GivesUp, HasGiven, Keeps, SparesOthers, after_full, full_of};
 ghost use Rattle.member_giving.specs.Works.{HasRoom, IsLow, LeavesRoom, UsesOne, Works, outside, place_of, queue_here, queue_kept, run_of};
 
 use job_outcome::UnitEnd;
 use mas_complex::{Complex, Steady};
-use mas_types::{Command, JobNo, List, OutSpec};
+use mas_types::{Closing, Command, JobNo, List, OutSpec};
+use member_decks::keep_batch;
 use member_node::{Member, NodeNo};
-use member_work::{drop_given, end_given, give_command, keep_given, take_given};
+use member_work::{give_back, give_command, give_end, take_for_end};
 use spool_plant::Plant;
 use std::alloc::Global;
 use step_turns::Holder;
@@ -35,7 +17,9 @@ use step_turns::Holder;
 // The entries of a batch.
 const BATCH_MOST: usize = 64;
 
-/// Keeps what the member gave since the last batch, if anything; nothing is said.
+/// Keeps what the member gave since the last batch, if anything, and makes room for the next one; nothing is said.
+/// BothLost comes only where both copies count as lost at the end of the call, Halted only where the member was stopped
+/// in it, and NoMemory only when out of memory.
 pub fn keep<P: Plant + Drop, C: Steady + Drop>(
     member: &mut Member,
     alloc: Global,
@@ -43,7 +27,8 @@ pub fn keep<P: Plant + Drop, C: Steady + Drop>(
     holder: Holder,
 ) -> Result<(), NodeNo>
     requires works { Works complex.old member.old holder }
-    requires room { HasRoom complex.old member.old 1 }
+    requires high { member.old.checkpoint.level + 1 < 2 ^ 63 }
+    requires level { complex.old.level + 1 < 2 ^ 63 }
     ensures run { run_of complex.new member.new ≡ run_of complex.old member.old }
     ensures keeps { Keeps P.tells holder.by (batch_of member.old.batch) (outside complex.old) (outside complex.new)
         result }
@@ -56,8 +41,32 @@ pub fn keep<P: Plant + Drop, C: Steady + Drop>(
     ensures reached { OnOk result (complex.new.level ≤ complex.old.level + 1) }
     ensures counts { HasCounted holder.by member.old.batch complex.old.printed complex.new.printed result }
 {
-    keep_given(member, alloc, complex)?;
+    if member.batch.len() == 0 {
+        return Ok(());
+    }
+    keep_batch(member, alloc, complex)?;
+    member.primary(complex)?;
     Ok(())
+}
+
+/// Ends a sitting that is out of memory: what was given since the last batch is kept, if there is memory for that.
+/// Answers how it ends.
+pub fn give_up<P: Plant + Drop, C: Steady + Drop>(
+    member: &mut Member,
+    alloc: Global,
+    complex: &mut Complex<P, C>,
+    holder: Holder,
+) -> NodeNo
+    requires works { Works complex.old member.old holder }
+    requires high { member.old.checkpoint.level + 1 < 2 ^ 63 }
+    requires level { complex.old.level + 1 < 2 ^ 63 }
+    ensures run { run_of complex.new member.new ≡ run_of complex.old member.old }
+    ensures gives_up { GivesUp P.tells holder.by member.old.batch (outside complex.old) (outside complex.new) result }
+{
+    match keep(member, alloc, complex, holder) {
+        Ok(()) => NodeNo::NoMemory,
+        Err(why) => why,
+    }
 }
 
 /// Keeps what isn't written where that is a full batch.
@@ -115,7 +124,10 @@ pub fn give<P: Plant + Drop, C: Steady + Drop>(
     ensures one { OnOk result (length member.new.batch ≡ length member.old.batch + 1) }
     ensures answered { IfOk result IsAnswered }
 {
-    let end = give_command(member, alloc, complex, holder.step, command)?;
+    complex.kept_texts();
+    let Ok(end) = give_command(member, alloc, holder.step, command) else {
+        return Err(give_up(member, alloc, complex, holder));
+    };
     Ok(end)
 }
 
@@ -144,7 +156,10 @@ pub fn take_groups<P: Plant + Drop, C: Steady + Drop>(
     ensures enough { result ≡ Ok Done → needed ≤ member_count member.new.id member.new.checkpoint.tables.owners }
     ensures answered { IfOk result IsAnswered }
 {
-    let end = take_given(member, alloc, complex, holder.step, needed)?;
+    complex.kept_texts();
+    let Ok(end) = take_for_end(member, alloc, holder.step, needed) else {
+        return Err(give_up(member, alloc, complex, holder));
+    };
     Ok(end)
 }
 
@@ -179,7 +194,10 @@ pub fn end_job<P: Plant + Drop, C: Steady + Drop>(
     ensures reached { OnOk result (complex.new.level ≡ complex.old.level) }
     ensures answered { IfOk result IsAnswered }
 {
-    let end = end_given(member, alloc, complex, holder.step, job, outputs)?;
+    complex.kept_texts();
+    let Ok(end) = give_end(member, alloc, holder.step, job, outputs) else {
+        return Err(give_up(member, alloc, complex, holder));
+    };
     Ok(end)
 }
 
@@ -204,6 +222,10 @@ pub fn free_groups<P: Plant + Drop, C: Steady + Drop>(
     ensures reached { OnOk result (complex.new.level ≡ complex.old.level) }
     ensures lost { IfOk result (λ end. end ≡ Refused (SpoolLost volume)) }
 {
-    let end = drop_given(member, alloc, complex, holder.step, volume)?;
+    complex.kept_texts();
+    let end = UnitEnd::Refused(Closing::SpoolLost(volume));
+    let Ok(end) = give_back(member, alloc, holder.step, end) else {
+        return Err(give_up(member, alloc, complex, holder));
+    };
     Ok(end)
 }

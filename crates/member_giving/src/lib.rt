@@ -5,5 +5,5 @@
 mod giving;
 mod nexts;
 
-pub use giving::{end_job, free_groups, give, keep, keep_full, take_groups};
+pub use giving::{end_job, free_groups, give, give_up, keep, keep_full, take_groups};
 pub use nexts::{Next, next_unit};

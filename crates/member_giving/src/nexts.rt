@@ -1,12 +1,6 @@
 //! The next unit of a member's work.
 ghost use Rattle.std.specs.Prelude.{◌≡◌, ◌-◌, ◌≤◌, ℕ};
-ghost use Rattle.mas_types.specs.declared.queues.Queue.{Queue};
-ghost use Rattle.mas_types.specs.Limits.{members_most};
-ghost use Rattle.ckpt_tables.specs.Shape.{HasSpelling};
-ghost use Rattle.queue_effect.specs.Standing.{AreFit};
-ghost use Rattle.queue_telling.specs.Telling.{Tell};
-ghost use Rattle.step_turns.specs.declared.states.Holder.{Holder as HolderLem};
-ghost use Rattle.step_turns.specs.Turns.{units_from};
+ghost use Rattle.member_giving.specs.Names.{Queue, members_most, HasSpelling, AreFit, Tell, Holder as HolderLem, units_from};
 ghost use Rattle.member_giving.specs.declared.nexts.Next.TheVariants.{Nothing};
 ghost use Rattle.member_giving.specs.Nexts.{AreLines, IsRightNext, IsText, WaitsFor, turn_by};
 

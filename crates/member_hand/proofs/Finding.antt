@@ -49,7 +49,7 @@ use Rattle.member_sittings.specs.Asides.{LiesOnOne, deck_found, lowest_groups}
 use Rattle.member_sittings.specs.Whole.{IsSeat, queue_of}
 use Rattle.member_frames.specs.Asides.{lowest_for, wire_found}
 use Rattle.member_frames.specs.Ready.{OutputsStand}
-use Rattle.member_frames.proofs.Resumes.{lines_resume, outputs_resume}
+use Rattle.member_frames.proofs.Sat.{lines_resume, outputs_resume}
 use Rattle.member_wires.specs.Acts.{IfLost}
 use Rattle.member_wires.specs.Asides.{Exchanged, FindsOffered as WasOffered}
 use Rattle.member_hand.specs.Asides.{ActsAfter}

@@ -46,7 +46,7 @@ use Rattle.run_turns.specs.Sights.{Waiting}
 use Rattle.member_sittings.specs.Left.{torn_line}
 use Rattle.member_sittings.specs.Whole.{queue_of}
 use Rattle.member_frames.specs.Asides.{lines_next}
-use Rattle.member_wires.proofs.Printed.{papers_now}
+use Rattle.member_wires.proofs.Shown.{papers_now}
 use Rattle.member_wires.specs.Acts.{GivenBy, StopsBeside}
 use Rattle.member_wires.specs.Asides.{Exchanged, FindsOffered, GaveBy, HasAnswered, ack_bytes, offered_bytes}
 use Rattle.member_hand.specs.Found.{names_found}

@@ -32,6 +32,7 @@ use Rattle.member_sittings.specs.Sat.{IsSatOn, Sat, Start, begins as rests, resu
 use Rattle.member_sittings.specs.Shapes.{Says}
 use Rattle.member_sittings.specs.Whole.{IsLeftIn, queue_of}
 use Rattle.member_frames.specs.Ready.{HasFewer, IsReady, MayResume}
+use Rattle.member_units.specs.Works.{LeavesIn, follow}
 use Rattle.member_frames.specs.Waits.{MayResumeLine, WaitsOnLine}
 use Rattle.member_hand.specs.Sits.{ComesTo, GoesOn, IsDeckTask, IsFoundRight, IsLineTask, IsServing, IsWork, LeavesStep, WaitsWell, begins}
 use Rattle.member_hand.proofs.StepKinds.{IsExchange}
@@ -121,11 +122,9 @@ module _ {P C : Type 0} (plants : PlantGhosts P) (copies : CopyGhosts C) (x y : 
   work_leaves e work sits ready fewer level =
       record { sits = sits; waits = ready_waits e.next ready; goes = record { falls = fewer.falls; few = fewer.few; level = level; comes = work_comes e.next work ready } }
 
-  pub work_all : (r : Result SittingEnd NodeNo) → IsWork s.state → IfOk r (λ e. IsLeftIn plants copies e.next y n s.holder.step) → IfOk r (λ e. IsReady plants.tells (queue_of y) n.checkpoint.tables n.id e.next)
-      → IfOk r (λ e. HasFewer (sittings_most s.state) (units_done s.state + units_left s.state) e.next) → IfOk r (λ e. y.level + units_left e.next ≤ x.level + units_left s.state + 1)
-      → IfOk r (λ e. LeavesStep plants copies x y n s e)
-  work_all (Ok e) work sits ready fewer level = work_leaves e work sits ready fewer level
-  work_all (Err why) work sits ready fewer level = tt
+  pub work_all : (r : Result SittingEnd NodeNo) → IsWork s.state → IfOk r (LeavesIn plants copies y n s.holder.step (follow (sittings_most s.state) (units_done s.state + units_left s.state) (x.level + units_left s.state + 1))) → IfOk r (λ e. LeavesStep plants copies x y n s e)
+  work_all (Ok e) work l = work_leaves e work l.again l.ready l.fewer l.reached
+  work_all (Err why) work l = tt
 
 -- A LINE
 

@@ -27,4 +27,5 @@ pub mod Going
 pub mod Trying
 pub mod Chaining
 pub use Rattle.member_quiet.proofs.Seated
-pub use Rattle.member_frames.proofs.Resumes
+pub use Rattle.member_frames.proofs.Sat
+pub use Rattle.member_work.proofs.PrintedLemmas

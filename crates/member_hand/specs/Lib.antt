@@ -12,3 +12,4 @@ pub mod Plays
 pub mod Chains
 pub use Rattle.member_quiet.specs.Standing
 pub use Rattle.member_wires.specs.Acts
+pub use Rattle.member_work.specs.Printing

@@ -1,16 +1,8 @@
 -- A deck's text that is spooled without the lock.
-use Rattle.std.proofs.Common.{OnOk, ℕ, zero, suc, List, [], ◌∷◌, take, All, Result, Ok, Err, refl}
-use Rattle.std.proofs.lemmas.List.Elements.{All-nil, All-cons, All-head, All-tail}
-use Rattle.spool_plant.specs.declared.plant.Plant.{Ghosts as PlantGhosts}
-use Rattle.mas_complex.specs.Parts.{Parts}
+use Rattle.member_sittings.proofs.Names.{OnOk, ℕ, zero, suc, List, [], ◌∷◌, take, All, Result, Ok, Err, refl, All-nil, All-cons, All-head, All-tail, PlantGhosts, Parts, AreRoomy, IsThere, spools_at, Member, OnVolumes, SpoolCauses, GroupsKept, HasSpooled, finds_of, lowest_groups}
 use Rattle.mas_types.specs.declared.jobs.Text.TheVariants.{Whole}
-use Rattle.spool_volumes.specs.Volumes.{AreRoomy}
-use Rattle.mas_complex.specs.Texts.{IsThere, spools_at}
-use Rattle.member_node.specs.declared.member.Member.{Member}
 use Rattle.member_decks.specs.declared.spooling.SpoolError.{SpoolError}
 use Rattle.member_decks.specs.declared.spooling.SpoolError.TheVariants as spool
-use Rattle.member_decks.specs.Spooling.{OnVolumes, SpoolCauses, GroupsKept}
-use Rattle.member_sittings.specs.Asides.{HasSpooled, finds_of, lowest_groups}
 
 -- the first of a list are what all of it are
 pub all_take : {A : Type 0} (P : A → Type 0) (n : ℕ) (xs : List A) → All P xs → All P (take n xs)

@@ -1,48 +1,21 @@
 -- What a sitting of one batch did, from the calls that keep the batch and say the lines.
-use Rattle.std.proofs.Common.{◌≡◌, inr, ℕ, ◌≤◌, Bool, List, [], ◌∷◌, ◌++◌, length, None, false, Result, Ok, Err, append-nil, refl, sym, ◌∙◌, ap, subst, arith}
-use Rattle.mas_types.specs.declared.ids.MemberId.{MemberId}
-use Rattle.mas_types.specs.declared.journals.Entry.{Entry}
-use Rattle.spool_plant.specs.View.{View}
-use Rattle.spool_plant.specs.declared.plant.Plant.{Ghosts as PlantGhosts}
-use Rattle.mas_complex.specs.Journals.{begun}
-use Rattle.mas_complex.specs.Parts.{Parts}
-use Rattle.member_node.specs.declared.member.NodeNo.{NodeNo}
-use Rattle.member_node.specs.declared.member.NodeNo.TheVariants.{BothLost, Halted, ConsoleFault, NoMemory}
-use Rattle.member_node.specs.Calls.{console_now}
+use Rattle.member_sittings.proofs.Names.{◌≡◌, inr, ℕ, ◌≤◌, Bool, List, [], ◌∷◌, ◌++◌, length, None, false, Result, Ok, Err, append-nil, refl, sym, ◌∙◌, ap, subst, arith, MemberId, Entry, View, PlantGhosts, begun, Parts, NodeNo, ConsoleFault, NoMemory, console_now, HasKept, spares_none, IsStep, StepCauses, StepLeaves, notes_none, HasAll, CopyCauses, GivesUpLeaves, IsOnCopies, KeepLeaves, all_entries, Sitting, released, Holder, State, SittingEnd, ends_in, HasSaid, said_of, CopiesActed, IsEndOf, IsSatAs, journal_of}
 use Rattle.member_node.specs.Spares.{Spares, stopped_in}
-use Rattle.member_node.specs.Writes.{HasKept}
 use Rattle.member_node.proofs.CourseLemmas.{course_none, only_none, papers_none, wires_none}
-use Rattle.member_node.proofs.SpareLemmas.{spares_none}
 use Rattle.member_steps.specs.Counting.{HasCounted}
-use Rattle.member_steps.specs.Steps.{IsStep, StepCauses, StepLeaves}
 use Rattle.member_steps.specs.Noting.{OtherNotesStay}
 use Rattle.member_steps.proofs.CountLemmas.{counted_error, counted_ok, counted_one, counted_up}
-use Rattle.member_steps.proofs.NoteLemmas.{notes_none}
-use Rattle.member_decks.specs.Batches.{HasAll}
-use Rattle.member_decks.specs.Keeping.{CopyCauses, GivesUpLeaves, IsOnCopies, KeepLeaves}
-use Rattle.step_turns.specs.Entries.{all_entries}
-use Rattle.step_turns.specs.Sittings.{Sitting, released}
-use Rattle.step_turns.specs.declared.states.Holder.{Holder}
 use Rattle.step_turns.specs.declared.states.Release.{Release}
-use Rattle.step_turns.specs.declared.states.State.{State}
-use Rattle.member_sittings.specs.declared.ends.SittingEnd.{SittingEnd}
-use Rattle.member_sittings.specs.Ends.{ends_in}
-use Rattle.member_sittings.specs.Left.{HasSaid, said_of}
-use Rattle.member_sittings.specs.Sat.{CopiesActed, IsEndOf, IsSatAs, journal_of}
 use Rattle.member_sittings.proofs.ReachLemmas.{OneLeft, none_left, one_all, one_given_up, one_kept, one_step, one_unkept, said_answer, said_by, said_none}
 
 -- the causes of an answer are those of a step's
 pub causes_of : (T : Type 0) (e : NodeNo) (by : ℕ) (a a' b b' : Bool) (v w : View) → CopyCauses {T = Unit {0}} (Err e) by a a' b b' v w → StepCauses {T = T} (Err e) by a a' b b' v w
-causes_of T NoMemory by a a' b b' v w cause = cause
-causes_of T BothLost by a a' b b' v w cause = cause
-causes_of T Halted by a a' b b' v w cause = cause
 causes_of T ConsoleFault by a a' b b' v w cause = absurd cause
+causes_of T _ by a a' b b' v w cause = cause
 
 pub no_console : (e : NodeNo) (by : ℕ) (a a' b b' : Bool) (v w : View) → CopyCauses {T = Unit {0}} (Err e) by a a' b b' v w → e ≡ ConsoleFault → ⊥
 no_console ConsoleFault by a a' b b' v w cause is = absurd cause
-no_console NoMemory by a a' b b' v w cause is = absurd (cc)
-no_console BothLost by a a' b b' v w cause is = absurd (cc)
-no_console Halted by a a' b b' v w cause is = absurd (cc)
+no_console _ by a a' b b' v w cause is = absurd (cc)
 
 -- who was stopped, by an answer of another type
 spares_of : (T : Type 0) (e : NodeNo) (by : ℕ) (v w : View) → Spares by (stopped_in {T = Unit {0}} (Err e)) v w → Spares by (stopped_in {T = T} (Err e)) v w
@@ -50,9 +23,7 @@ spares_of T e by v w spares = spares
 
 step_causes : (T : Type 0) (e : NodeNo) (by : ℕ) (a a' b b' : Bool) (v w : View) → StepCauses {T = Unit {0}} (Err e) by a a' b b' v w → StepCauses {T = T} (Err e) by a a' b b' v w
 step_causes T NoMemory by a a' b b' v w cause = cause
-step_causes T BothLost by a a' b b' v w cause = cause
-step_causes T Halted by a a' b b' v w cause = cause
-step_causes T ConsoleFault by a a' b b' v w cause = cause
+step_causes T _ by a a' b b' v w cause = cause
 
 -- acts on the copies, with what was noted
 pub acted : {P C T : Type 0} (plants : PlantGhosts P) (by : MemberId) (x y : Parts P C) (r : Result T NodeNo) → IsOnCopies plants.tells by.0 x.first_alive y.first_alive x.second_alive y.second_alive (plants.view x.plant) (plants.view y.plant) r

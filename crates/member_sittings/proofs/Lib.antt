@@ -4,5 +4,6 @@ pub mod SeatLemmas
 pub mod Staying
 pub mod Telling
 pub mod TurnLemmas
-pub mod OpenLemmas
 pub mod AsideLemmas
+pub use Rattle.member_decks.proofs.FinishLemmas
+pub mod Names

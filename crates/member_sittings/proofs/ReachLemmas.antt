@@ -1,22 +1,8 @@
 -- How far a sitting came, from what its parts left in the journal and on the console.
-use Rattle.std.proofs.Common.{◌≡◌, ◌⊎◌, inl, inr, ⊎_elim, ℕ, suc, ◌≤◌, ◌<◌, Bool, true, false, List, [], ◌∷◌, ◌++◌, length, map, take, Some, None, Result, Ok, Err, append_assoc, append-nil, refl, sym, ◌∙◌, ap, subst, arith}
+use Rattle.member_sittings.proofs.Names.{◌≡◌, ◌⊎◌, inl, inr, ⊎_elim, ℕ, suc, ◌≤◌, ◌<◌, Bool, true, false, List, [], ◌∷◌, ◌++◌, length, map, take, Some, None, Result, Ok, Err, append_assoc, append-nil, refl, sym, ◌∙◌, ap, subst, arith, MemberId, Batch, Entry, ViewLine as Line, begun, fated, NodeNo, BothLost, Halted, ConsoleFault, NoMemory, HasFlying, HasKept, Breaks, torn, StepLeaves, StepTells, AreAll, AreCut, HasAll, IsKeptBatch, OneFlies, GivesUpLeaves, KeepLeaves, batch_of, HasLeft, HasSaid, IsLastBatch, Reach, ReachesBy, StandThere, left_by, reach_all, said_nothing, said_of}
 use Rattle.std.proofs.lemmas.List.{length-append, take_at}
-use Rattle.mas_types.specs.declared.ids.MemberId.{MemberId}
-use Rattle.mas_types.specs.declared.journals.Batch.{Batch}
-use Rattle.mas_types.specs.declared.journals.Entry.{Entry}
 use Rattle.mas_types.specs.declared.journals.Fate.TheVariants.{Kept}
-use Rattle.spool_plant.specs.View.{Line}
 use Rattle.mas_complex.specs.Headline.{whole}
-use Rattle.mas_complex.specs.Journals.{begun, fated}
-use Rattle.member_node.specs.declared.member.NodeNo.{NodeNo}
-use Rattle.member_node.specs.declared.member.NodeNo.TheVariants.{BothLost, Halted, ConsoleFault, NoMemory}
-use Rattle.member_node.specs.Writes.{HasFlying, HasKept}
-use Rattle.member_steps.specs.Saying.{Breaks, torn}
-use Rattle.member_steps.specs.Steps.{StepLeaves, StepTells}
-use Rattle.member_decks.specs.Batches.{AreAll, AreCut, HasAll, IsKeptBatch, OneFlies}
-use Rattle.member_decks.specs.Keeping.{GivesUpLeaves, KeepLeaves}
-use Rattle.step_turns.specs.Batches.{batch_of}
-use Rattle.member_sittings.specs.Left.{HasLeft, HasSaid, IsLastBatch, Reach, ReachesBy, StandThere, left_by, reach_all, said_nothing, said_of}
 use Rattle.member_sittings.specs.Tight.{IsTightBy}
 
 -- A BATCH, AND SOME OF ITS ENTRIES
@@ -141,11 +127,9 @@ pub record LeftBy {T : Type 0} (by : MemberId) (from now : ℕ) (ess : List (Lis
 
 module _ (by : MemberId) (from now : ℕ) (ess : List (List Entry)) (more : List Batch) where
   pub by_all : {T : Type 0} (r : Result T NodeNo) → AreAll by from now ess more → LeftBy by from now ess more r
-  by_all (Ok done) all = record { reach = reach_all ess; left = all_left by from now ess more all; reached = refl }
-  by_all (Err ConsoleFault) all = record { reach = reach_all ess; left = all_left by from now ess more all; reached = refl }
-  by_all (Err NoMemory) all = record { reach = reach_all ess; left = all_left by from now ess more all; reached = refl }
   by_all (Err BothLost) all = record { reach = reach_all ess; left = all_left by from now ess more all; reached = tt }
   by_all (Err Halted) all = record { reach = reach_all ess; left = all_left by from now ess more all; reached = tt }
+  by_all _ all = record { reach = reach_all ess; left = all_left by from now ess more all; reached = refl }
 
   -- out of memory amid a sitting's batches
   pub by_cut_wanted : {T : Type 0} → AreCut by from now ess more → LeftBy {T = T} by from now ess more (Err NoMemory)
@@ -305,6 +289,4 @@ module _ (lines : List (List ℕ)) (was now : List Line) where
 -- what was said, by an answer of another type
 pub said_answer : {T : Type 0} (A : Type 0) (lines : List (List ℕ)) (was now : List Line) (e : NodeNo) → HasSaid {T = Unit {0}} A lines was now (Err e) → HasSaid {T = T} A lines was now (Err e)
 said_answer A lines was now NoMemory s = record { said = s.said; is = s.is; by_answer = s.by_answer; once_kept = s.once_kept }
-said_answer A lines was now BothLost s = record { said = s.said; is = s.is; by_answer = s.by_answer; once_kept = s.once_kept }
-said_answer A lines was now ConsoleFault s = record { said = s.said; is = s.is; by_answer = s.by_answer; once_kept = s.once_kept }
-said_answer A lines was now Halted s = record { said = s.said; is = s.is; by_answer = s.by_answer; once_kept = s.once_kept }
+said_answer A lines was now _ s = record { said = s.said; is = s.is; by_answer = s.by_answer; once_kept = s.once_kept }

@@ -1,10 +1,5 @@
 -- A member that has its seat still.
-use Rattle.std.proofs.Common.{inl, ℕ, Bool, OnOk, Result, Ok, Err}
-use Rattle.spool_plant.specs.View.{View}
-use Rattle.member_node.specs.declared.member.NodeNo.{NodeNo}
-use Rattle.member_node.specs.declared.member.NodeNo.TheVariants.{BothLost, ConsoleFault, Halted, NoMemory}
-use Rattle.member_node.specs.Reads.{IsSettle, ReadCauses}
-use Rattle.member_decks.specs.Keeping.{CopyCauses, IsOnCopies}
+use Rattle.member_sittings.proofs.Names.{inl, ℕ, Bool, OnOk, Result, Ok, Err, View, NodeNo, BothLost, ConsoleFault, Halted, NoMemory, IsSettle, ReadCauses, CopyCauses, IsOnCopies}
 
 -- a settle alone is acts on the copies
 pub settle_copies : (told : Type 0) (by : ℕ) (a a' b b' : Bool) (v w : View) (r : Result (Unit {0}) NodeNo) → IsSettle told by a a' b b' v w r → IsOnCopies told by a a' b b' v w r

@@ -1,36 +1,11 @@
 -- What the machine of steps gives in the sittings of a command and of a deck.
-use Rattle.std.proofs.Common.{◌≡◌, ℕ, ◌≤◌, Bool, true, false, if◌then◌else◌, List, [], ◌∷◌, length, All, Option, None, Some, refl, ◌∙◌, ap, arith}
-use Rattle.std.proofs.lemmas.List.Elements.{All-nil, All-cons}
+use Rattle.member_sittings.proofs.Names.{◌≡◌, ℕ, ◌≤◌, Bool, true, false, if◌then◌else◌, List, [], ◌∷◌, length, All, Option, None, Some, refl, ◌∙◌, ap, arith, All-nil, All-cons, MemberId, Command, Reply, JobFields, Entry, Queue, reply_lines, groups_needed, step, entry_of, reply_to, Opened, are_refused, closing_reply, ends_as, ends_begun, finishing, given_in, lines_by, opening, AreOf, batch_of, cut, is_full, job_begun, job_opened, all_entries, Sitting, released, sit, sitting_of, Found, Holder, State, Away, Fresh, Told, SpoolDeck, deck_found, ends_in}
 use Rattle.mas_types.specs.declared.ids.JobNo.{JobNo}
-use Rattle.mas_types.specs.declared.ids.MemberId.{MemberId}
-use Rattle.mas_types.specs.declared.commands.Command.{Command}
 use Rattle.mas_types.specs.declared.commands.Command.TheVariants as command
-use Rattle.mas_types.specs.declared.commands.Reply.{Reply}
 use Rattle.mas_types.specs.declared.commands.Reply.TheVariants as reply
-use Rattle.mas_types.specs.declared.jobs.JobFields.{JobFields}
-use Rattle.mas_types.specs.declared.journals.Entry.{Entry}
-use Rattle.mas_types.specs.declared.queues.Queue.{Queue}
-use Rattle.mas_types.specs.Closings.{reply_lines}
-use Rattle.mas_types.specs.Owners.{groups_needed}
-use Rattle.mas_complex.specs.Meaning.{step}
-use Rattle.member_steps.specs.Steps.{entry_of, reply_to}
-use Rattle.member_decks.specs.declared.opening.Opened.{Opened}
 use Rattle.member_decks.specs.declared.opening.Opened.TheVariants as opened
-use Rattle.member_decks.specs.Decks.{are_refused, closing_reply, ends_as, ends_begun, finishing, given_in, lines_by, opening}
-use Rattle.member_decks.specs.Steps.{AreOf}
-use Rattle.step_turns.specs.Batches.{batch_of, cut, is_full}
-use Rattle.step_turns.specs.Decks.{job_begun, job_opened}
-use Rattle.step_turns.specs.Entries.{all_entries}
-use Rattle.step_turns.specs.Sittings.{Sitting, released, sit, sitting_of}
-use Rattle.step_turns.specs.declared.states.Found.{Found}
-use Rattle.step_turns.specs.declared.states.Holder.{Holder}
-use Rattle.step_turns.specs.declared.states.State.{State}
-use Rattle.step_turns.specs.declared.states.State.TheVariants.{Away, Fresh, Told}
 use Rattle.step_turns.specs.declared.states.Task.TheVariants.{Deck, Give}
-use Rattle.step_turns.specs.declared.states.Aside.TheVariants.{SpoolDeck}
 use Rattle.step_turns.specs.Turns.{Turn, deck_opens, turn}
-use Rattle.member_sittings.specs.Asides.{deck_found}
-use Rattle.member_sittings.specs.Ends.{ends_in}
 use Rattle.member_sittings.specs.Shapes.{IsShaped}
 use Rattle.member_sittings.proofs.ReachLemmas.{batch_some}
 

@@ -1,36 +1,17 @@
 -- A deck's acts aside: its text goes into groups of the member, without the lock.
 use Rattle.std.specs.Prelude.{◌≡◌, ℕ, ◌≤◌, true, List, take, All, Option, Some, None, Result, Ok, Err, IfOk}
+use Rattle.member_sittings.specs.Names.{MemberId, AreLines, IsJobFields, View, PlantGhosts, AreRoomy, Ghosts as CopyGhosts, HasShape, Complex, SteadyGhosts, IsUp, Parts, parts_of, IsThere, spools_at, Member, NodeNo, IsFoundLost, SpoolStops, names_volume, Found, State, Away, Told, SpoolDeck, nothing_found}
 use Rattle.mas_types.specs.declared.ids.GroupNo.{GroupNo}
-use Rattle.mas_types.specs.declared.ids.MemberId.{MemberId}
 use Rattle.mas_types.specs.declared.jobs.Text.TheVariants.{Whole}
 use Rattle.mas_types.specs.declared.queues.Owner.{Owner}
-use Rattle.mas_types.specs.Fit.{AreLines, IsJobFields}
 use Rattle.mas_types.specs.Owners.{groups_needed, member_count}
 use Rattle.card_reader.specs.declared.decks.Deck.{Deck}
-use Rattle.spool_plant.specs.View.{View}
-use Rattle.spool_plant.specs.declared.plant.Plant.{Ghosts as PlantGhosts}
-use Rattle.spool_volumes.specs.Volumes.{AreRoomy}
 use Rattle.track_groups.specs.Groups.{held_by}
-use Rattle.ckpt_copy.specs.declared.copying.Copying.{Ghosts as CopyGhosts}
-use Rattle.ckpt_tables.specs.Shape.{HasShape}
-use Rattle.mas_complex.specs.declared.complex.Complex.{Complex}
-use Rattle.ckpt_form.specs.declared.steady.Steady.{Ghosts as SteadyGhosts}
-use Rattle.mas_complex.specs.Locking.{IsUp}
-use Rattle.mas_complex.specs.Parts.{Parts, parts_of}
 use Rattle.mas_complex.specs.Spool.{IsHeldBy}
-use Rattle.mas_complex.specs.Texts.{IsThere, spools_at}
-use Rattle.member_node.specs.declared.member.Member.{Member}
-use Rattle.member_node.specs.declared.member.NodeNo.{NodeNo}
 use Rattle.member_node.specs.declared.member.NodeNo.TheVariants as no_node
 use Rattle.member_decks.specs.declared.spooling.SpoolError.{SpoolError}
 use Rattle.member_decks.specs.declared.spooling.SpoolError.TheVariants as spool
 use Rattle.member_decks.specs.Spooling.{OnVolumes, lies_there, GroupsKept}
-use Rattle.member_decks.specs.Steps.{IsFoundLost, SpoolStops, names_volume}
-use Rattle.step_turns.specs.declared.states.Found.{Found}
-use Rattle.step_turns.specs.declared.states.State.{State}
-use Rattle.step_turns.specs.declared.states.State.TheVariants.{Away, Told}
-use Rattle.step_turns.specs.declared.states.Aside.TheVariants.{SpoolDeck}
-use Rattle.step_turns.specs.States.{nothing_found}
 use Rattle.member_sittings.specs.Whole.{queue_of}
 
 -- the lowest groups of a member, as many as a text needs

@@ -1,12 +1,6 @@
 -- How a sitting ends.
 use Rattle.std.specs.Prelude.{ℕ, List, [], ◌∷◌, length, Option}
-use Rattle.mas_types.specs.declared.journals.Entry.{Entry}
-use Rattle.step_turns.specs.Decks.{lines_by}
-use Rattle.step_turns.specs.Entries.{all_entries, closing_reply}
-use Rattle.step_turns.specs.Sittings.{Sitting, released}
-use Rattle.step_turns.specs.declared.states.Holder.{Holder}
-use Rattle.step_turns.specs.declared.states.State.{State}
-use Rattle.step_turns.specs.declared.states.State.TheVariants.{Told}
+use Rattle.member_sittings.specs.Names.{Entry, lines_by, all_entries, closing_reply, Sitting, released, Holder, State, Told}
 
 -- a sitting that ends in this state, with these batches and lines
 abbrev pub ends_in : Holder → List (List Entry) → State → List (List ℕ) → Sitting

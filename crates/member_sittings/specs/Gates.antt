@@ -1,22 +1,8 @@
 -- A member that got the lock, and takes its seat, or has it still.
 use Rattle.std.specs.Prelude.{◌≡◌, ℕ, ◌≤◌, ◌<◌, length, None, Result}
-use Rattle.mas_types.specs.declared.ids.MemberId.{MemberId}
-use Rattle.mas_types.specs.declared.queues.Config.{Config}
-use Rattle.spool_plant.specs.View.{View}
-use Rattle.spool_plant.specs.declared.plant.Plant.{Ghosts as PlantGhosts}
-use Rattle.spool_volumes.specs.Volumes.{AreRoomy}
-use Rattle.ckpt_copy.specs.declared.copying.Copying.{Ghosts as CopyGhosts}
-use Rattle.mas_complex.specs.declared.complex.Complex.{Complex}
-use Rattle.ckpt_form.specs.declared.steady.Steady.{Ghosts as SteadyGhosts}
+use Rattle.member_sittings.specs.Names.{MemberId, Config, View, PlantGhosts, AreRoomy, Ghosts as CopyGhosts, Complex, SteadyGhosts, AreSettled, Parts, parts_of, Member, NodeNo, IsCalm, ReadsLow, too_high, HasHad, IsAtLock, IsToldSound}
 use Rattle.duplex_pair.specs.Halves.{IsBothLost}
 use Rattle.duplex_pair.specs.Outcomes.{least_room}
-use Rattle.mas_complex.specs.Journals.{AreSettled}
-use Rattle.mas_complex.specs.Parts.{Parts, parts_of}
-use Rattle.member_node.specs.declared.member.Member.{Member}
-use Rattle.member_node.specs.declared.member.NodeNo.{NodeNo}
-use Rattle.member_node.specs.Reads.{IsCalm, ReadsLow, too_high}
-use Rattle.member_node.specs.Wanted.{HasHad}
-use Rattle.member_steps.specs.Steps.{IsAtLock, IsToldSound}
 use Rattle.member_sittings.specs.Sat.{CopiesActed}
 use Rattle.member_sittings.specs.Whole.{Half, HoldsLock, IsBounded, IsSeat, first_half, queue_of, second_half}
 

@@ -1,14 +1,7 @@
 -- What a sitting leaves in the journal, as far as it came, and on the console.
 use Rattle.std.specs.Prelude.{◌≡◌, ◌⊎◌, ℕ, ◌+◌, ◌≤◌, ◌<◌, Bool, true, false, List, [], ◌∷◌, ◌++◌, length, map, take, drop, Option, Some, None, Result, Ok, Err}
-use Rattle.mas_types.specs.declared.ids.MemberId.{MemberId}
-use Rattle.mas_types.specs.declared.journals.Batch.{Batch}
-use Rattle.mas_types.specs.declared.journals.Entry.{Entry}
-use Rattle.spool_plant.specs.View.{Line}
+use Rattle.member_sittings.specs.Names.{MemberId, Batch, Entry, ViewLine as Line, NodeNo, BothLost, Halted, ConsoleFault, NoMemory, torn, IsFlyingBatch, IsKeptBatch}
 use Rattle.mas_complex.specs.Headline.{whole}
-use Rattle.member_node.specs.declared.member.NodeNo.{NodeNo}
-use Rattle.member_node.specs.declared.member.NodeNo.TheVariants.{BothLost, Halted, ConsoleFault, NoMemory}
-use Rattle.member_steps.specs.Saying.{torn}
-use Rattle.member_decks.specs.Batches.{IsFlyingBatch, IsKeptBatch}
 use Rattle.step_turns.specs.Batches.{batch_of}
 
 -- THE JOURNAL

@@ -8,3 +8,6 @@ pub mod Asides
 pub mod Gates
 pub use Rattle.member_decks.specs.Spooling
 pub use Rattle.member_decks.specs.Steps
+pub use Rattle.member_node.specs.declared.member.Member
+pub use Rattle.member_node.specs.declared.member.NodeNo
+pub mod Names

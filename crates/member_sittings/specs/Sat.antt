@@ -1,36 +1,14 @@
 -- What a sitting did, for every answer.
 use Rattle.std.specs.Prelude.{◌≡◌, ℕ, ◌+◌, ◌*◌, ◌≤◌, ◌^◌, List, [], ◌++◌, length, All, Result, Err, IfOk}
+use Rattle.member_sittings.specs.Names.{MemberId, Batch, Entry, View, PlantGhosts, Ghosts as CopyGhosts, Complex, SteadyGhosts, begun, end_of, SamePapers, Parts, parts_of, with_copies, Member, NodeNo, StepCauses, HasAll, AreOf, all_entries, Sitting, sit, Found, Holder, State, Away, nothing_found}
 use Rattle.mas_types.specs.declared.ids.Dev.{Dev}
-use Rattle.mas_types.specs.declared.ids.MemberId.{MemberId}
-use Rattle.mas_types.specs.declared.journals.Batch.{Batch}
-use Rattle.mas_types.specs.declared.journals.Entry.{Entry}
 use Rattle.spool_plant.specs.Acts.{SameWires}
-use Rattle.spool_plant.specs.View.{View}
-use Rattle.spool_plant.specs.declared.plant.Plant.{Ghosts as PlantGhosts}
-use Rattle.ckpt_copy.specs.declared.copying.Copying.{Ghosts as CopyGhosts}
-use Rattle.mas_complex.specs.declared.complex.Complex.{Complex}
-use Rattle.ckpt_form.specs.declared.steady.Steady.{Ghosts as SteadyGhosts}
-use Rattle.mas_complex.specs.Journals.{begun, end_of}
-use Rattle.mas_complex.specs.Paper.{SamePapers}
-use Rattle.mas_complex.specs.Parts.{Parts, parts_of, with_copies}
-use Rattle.member_node.specs.declared.member.Member.{Member}
-use Rattle.member_node.specs.declared.member.NodeNo.{NodeNo}
 use Rattle.member_node.specs.Calls.{Course, IsOnlyOn, console_now}
 use Rattle.member_node.specs.Spares.{Spares, stopped_in}
 use Rattle.member_steps.specs.Counting.{HasCounted}
 use Rattle.member_steps.specs.Noting.{OtherNotesStay}
-use Rattle.member_steps.specs.Steps.{StepCauses}
-use Rattle.member_decks.specs.Batches.{HasAll}
 use Rattle.member_decks.specs.Keeping.{GivesUpLeaves, IsOnCopies}
-use Rattle.member_decks.specs.Steps.{AreOf}
-use Rattle.step_turns.specs.Entries.{all_entries}
-use Rattle.step_turns.specs.Sittings.{Sitting, sit}
 use Rattle.step_turns.specs.declared.states.Aside.{Aside}
-use Rattle.step_turns.specs.declared.states.Found.{Found}
-use Rattle.step_turns.specs.declared.states.Holder.{Holder}
-use Rattle.step_turns.specs.declared.states.State.{State}
-use Rattle.step_turns.specs.declared.states.State.TheVariants.{Away}
-use Rattle.step_turns.specs.States.{nothing_found}
 use Rattle.member_sittings.specs.declared.ends.SittingEnd.{SittingEnd}
 use Rattle.member_sittings.specs.Left.{HasLeft, HasSaid, Reach, ReachesBy}
 use Rattle.member_sittings.specs.Shapes.{IsShaped}

@@ -1,27 +1,16 @@
 -- What is known of a sitting on every plant. One that tells nothing may show other replies than those of the table of
 -- commands.
 use Rattle.std.specs.Prelude.{◌≡◌, ◌⊎◌, ℕ, ◌+◌, ◌≤◌, true, List, [], ◌∷◌, length, Option, Some, None}
+use Rattle.member_sittings.specs.Names.{Command, closing_line, reply_lines, entry_with, lines_by, all_entries, Sitting, released, Acknowledge, Exchange, PrintLines, ReadText, SpoolArrival, SpoolDeck, SpoolOutputs, Found, Holder, State, Away, Fresh, Rested, Told, Deck, Give, Line, Work}
 use Rattle.mas_types.specs.declared.answers.Closing.{Closing}
 use Rattle.mas_types.specs.declared.answers.Closing.TheVariants as closing
-use Rattle.mas_types.specs.declared.commands.Command.{Command}
 use Rattle.mas_types.specs.declared.commands.Reply.{Reply}
 use Rattle.mas_types.specs.declared.commands.Reply.TheVariants as reply
-use Rattle.mas_types.specs.Closings.{closing_line, reply_lines}
 use Rattle.job_outcome.specs.declared.outcomes.Read.TheVariants as read
 use Rattle.job_outcome.specs.declared.units.UnitEnd.{UnitEnd}
 use Rattle.job_outcome.specs.declared.units.UnitEnd.TheVariants as ends
-use Rattle.member_steps.specs.Steps.{entry_with}
 use Rattle.step_turns.specs.Courses.{sittings_most}
-use Rattle.step_turns.specs.Decks.{lines_by}
-use Rattle.step_turns.specs.Entries.{all_entries}
 use Rattle.step_turns.specs.Laws.{lines_of, units_done, units_left}
-use Rattle.step_turns.specs.Sittings.{Sitting, released}
-use Rattle.step_turns.specs.declared.states.Aside.TheVariants.{Acknowledge, Exchange, PrintLines, ReadText, SpoolArrival, SpoolDeck, SpoolOutputs}
-use Rattle.step_turns.specs.declared.states.Found.{Found}
-use Rattle.step_turns.specs.declared.states.Holder.{Holder}
-use Rattle.step_turns.specs.declared.states.State.{State}
-use Rattle.step_turns.specs.declared.states.State.TheVariants.{Away, Fresh, Rested, Told}
-use Rattle.step_turns.specs.declared.states.Task.TheVariants.{Deck, Give, Line, Work}
 use Rattle.member_sittings.specs.Ends.{ends_in}
 
 -- HOW WORK MAY CLOSE, by what was found in the acts that it waited for

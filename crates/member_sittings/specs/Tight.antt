@@ -1,12 +1,6 @@
 -- Which batches of a sitting may be kept after an error, where no unit follows another in it.
 use Rattle.std.specs.Prelude.{◌≡◌, ◌≤◌, ◌<◌, true, List, length, Result, Ok, Err}
-use Rattle.mas_types.specs.declared.journals.Entry.{Entry}
-use Rattle.member_node.specs.declared.member.NodeNo.{NodeNo}
-use Rattle.member_node.specs.declared.member.NodeNo.TheVariants.{BothLost, Halted, ConsoleFault, NoMemory}
-use Rattle.step_turns.specs.declared.states.Aside.TheVariants.{Acknowledge, Exchange, PrintLines, ReadText, SpoolArrival, SpoolDeck, SpoolOutputs}
-use Rattle.step_turns.specs.declared.states.State.{State}
-use Rattle.step_turns.specs.declared.states.State.TheVariants.{Away, Fresh, Rested, Told}
-use Rattle.step_turns.specs.declared.states.Task.TheVariants.{Deck, Give, Line, Work}
+use Rattle.member_sittings.specs.Names.{Entry, NodeNo, BothLost, Halted, ConsoleFault, NoMemory, Acknowledge, Exchange, PrintLines, ReadText, SpoolArrival, SpoolDeck, SpoolOutputs, State, Away, Fresh, Rested, Told, Deck, Give, Line, Work}
 use Rattle.member_sittings.specs.Left.{Reach}
 
 -- Out of memory, or where both copies were lost, not all batches are kept. What was done of the next one is kept

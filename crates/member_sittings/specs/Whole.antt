@@ -1,47 +1,23 @@
 -- The shared value and a member that sits at it, as whole values: what holds at the beginning of a sitting, within it,
 -- and at its end.
 use Rattle.std.specs.Prelude.{◌≡◌, ℕ, ◌+◌, ◌≤◌, ◌<◌, ◌^◌, Bool, true, false, List, ◌++◌, length, Option, None}
+use Rattle.member_sittings.specs.Names.{MemberId, Command, Entry, Config, IsFit, View, disk_now, PlantGhosts, Ghosts as CopyGhosts, HasSpelling, AreRoomy, Complex, SteadyGhosts, AreSettled, kept_all, MayAct, MayBegin, Parts, parts_of, HasTexts, lost_now, spools_at, Member, AreLow, orders_after, too_high, HasHad, AreKeptFrom, IsBetween, AreOf, Holder, State, Told}
 use Rattle.mas_types.specs.declared.ids.Dev.TheVariants.{Ckpt1, Ckpt2}
-use Rattle.mas_types.specs.declared.ids.MemberId.{MemberId}
-use Rattle.mas_types.specs.declared.commands.Command.{Command}
-use Rattle.mas_types.specs.declared.journals.Entry.{Entry}
-use Rattle.mas_types.specs.declared.queues.Config.{Config}
 use Rattle.mas_types.specs.declared.queues.Queue.{Queue}
-use Rattle.mas_types.specs.Fit.{IsFit}
 use Rattle.mas_types.specs.Limits.{members_most}
 use Rattle.mas_types.specs.Queue.{is_member}
 use Rattle.mas_types.specs.Step.{may_give}
-use Rattle.spool_plant.specs.View.{View, disk_now}
-use Rattle.spool_plant.specs.declared.plant.Plant.{Ghosts as PlantGhosts}
-use Rattle.ckpt_copy.specs.declared.copying.Copying.{Ghosts as CopyGhosts}
-use Rattle.ckpt_tables.specs.Shape.{HasSpelling}
 use Rattle.lock_cycle.specs.Books.{Book, IsMember}
 use Rattle.paper_laws.specs.Counts.{is_mark}
 use Rattle.member_node.specs.Given.{IsGiver, is_plain}
 use Rattle.member_node.specs.Standing.{AreFit}
 use Rattle.queue_telling.specs.Telling.{TellSound}
-use Rattle.spool_volumes.specs.Volumes.{AreRoomy}
 use Rattle.mas_types.specs.declared.ids.Page.{Page}
-use Rattle.mas_complex.specs.declared.complex.Complex.{Complex}
 use Rattle.ckpt_places.specs.declared.places.Place.{Place}
-use Rattle.ckpt_form.specs.declared.steady.Steady.{Ghosts as SteadyGhosts}
 use Rattle.mas_complex.specs.Crash.{IsUntold, setting}
-use Rattle.mas_complex.specs.Journals.{AreSettled, kept_all}
-use Rattle.mas_complex.specs.Locking.{MayAct}
 use Rattle.mas_complex.specs.Meaning.{run}
-use Rattle.mas_complex.specs.Paper.{MayBegin}
-use Rattle.mas_complex.specs.Parts.{Parts, parts_of}
-use Rattle.mas_complex.specs.Texts.{HasTexts, lost_now, spools_at}
-use Rattle.member_node.specs.declared.member.Member.{Member}
 use Rattle.member_node.specs.Batches.{CanDraw, HasDone}
 use Rattle.member_node.specs.Copies.{RestsAt}
-use Rattle.member_node.specs.Reads.{AreLow, orders_after, too_high}
-use Rattle.member_node.specs.Wanted.{HasHad}
-use Rattle.member_steps.specs.Steps.{AreKeptFrom, IsBetween}
-use Rattle.member_decks.specs.Steps.{AreOf}
-use Rattle.step_turns.specs.declared.states.Holder.{Holder}
-use Rattle.step_turns.specs.declared.states.State.{State}
-use Rattle.step_turns.specs.declared.states.State.TheVariants.{Told}
 
 -- THE LOCK
 

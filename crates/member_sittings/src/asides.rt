@@ -1,6 +1,6 @@
 //! A deck's acts without the lock: its text goes into the groups that were taken for its job.
 ghost use Rattle.std.specs.Prelude.{◌≡◌};
-ghost use Rattle.mas_complex.specs.Parts.{parts_of};
+ghost use Rattle.member_sittings.specs.Names.{parts_of};
 ghost use Rattle.member_sittings.specs.Asides.{MaySpoolDeck, SpoolsDeck, deck_found, finds_of};
 
 use job_outcome::Read;

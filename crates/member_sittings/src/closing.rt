@@ -1,8 +1,6 @@
 //! The end of a sitting: what it gave is kept, and its lines are said where the step closes.
 ghost use Rattle.std.specs.Prelude.{◌≡◌, ◌∷◌, [], IfOk};
-ghost use Rattle.mas_complex.specs.Parts.{parts_of};
-ghost use Rattle.member_steps.specs.Saying.{TellKept};
-ghost use Rattle.step_turns.specs.declared.states.State.TheVariants.{Away, Told};
+ghost use Rattle.member_sittings.specs.Names.{parts_of, TellKept, Away, Told};
 ghost use Rattle.member_sittings.specs.Ends.{ends_in};
 ghost use Rattle.member_sittings.specs.Sat.{CutsOff, SatAs, SitsOn, sat_in};
 ghost use Rattle.member_sittings.specs.Whole.{MayCut, MayKeepBatch};

@@ -1,8 +1,6 @@
 //! The sitting of an operator's command.
 ghost use Rattle.std.specs.Prelude.{◌≡◌, IfOk};
-ghost use Rattle.mas_complex.specs.Parts.{parts_of};
-ghost use Rattle.step_turns.specs.declared.states.State.TheVariants.{Fresh, Told};
-ghost use Rattle.step_turns.specs.declared.states.Task.TheVariants.{Give};
+ghost use Rattle.member_sittings.specs.Names.{parts_of, Fresh, Told, Give};
 ghost use Rattle.member_sittings.specs.Sat.{HasSat, SitsOn, begins, sat_in};
 ghost use Rattle.member_sittings.specs.Whole.{IsGivable, MaySit};
 

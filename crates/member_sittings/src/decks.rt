@@ -1,11 +1,6 @@
 //! The two sittings of a deck's step.
 ghost use Rattle.std.specs.Prelude.{◌≡◌, All, IfOk};
-ghost use Rattle.mas_types.specs.Closings.{IsReplyNamed};
-ghost use Rattle.mas_types.specs.Fit.{AreLines};
-ghost use Rattle.mas_complex.specs.Parts.{parts_of};
-ghost use Rattle.step_turns.specs.declared.states.Task.TheVariants.{Deck as DeckTask};
-ghost use Rattle.step_turns.specs.declared.states.State.TheVariants.{Fresh, Told};
-ghost use Rattle.step_turns.specs.declared.states.Aside.TheVariants.{SpoolDeck};
+ghost use Rattle.member_sittings.specs.Names.{IsReplyNamed, AreLines, parts_of, Deck as DeckTask, Fresh, Told, SpoolDeck};
 ghost use Rattle.member_sittings.specs.Asides.{DeckIsSpooled, IsReadDeck, WaitsRightly, deck_found};
 ghost use Rattle.member_sittings.specs.Ends.{deck_end};
 ghost use Rattle.member_sittings.specs.Sat.{HasSat, SatAs, SitsOn, begins, resumes, sat_in};

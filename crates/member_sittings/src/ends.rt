@@ -1,6 +1,6 @@
 //! How a sitting ends: the step's next state, and what becomes of the lock.
 ghost use Rattle.std.specs.Prelude.{◌≡◌};
-ghost use Rattle.step_turns.specs.Sittings.{released};
+ghost use Rattle.member_sittings.specs.Names.{released};
 
 use step_turns::{Grant, Holder, Release, State};
 

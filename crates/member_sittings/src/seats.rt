@@ -1,7 +1,6 @@
 //! A member that got the lock takes its seat: it takes in what the copies have. One that held it knows what they have.
 ghost use Rattle.std.specs.Prelude.{◌≡◌, ◌<◌, Ok, OnOk};
-ghost use Rattle.mas_complex.specs.Parts.{parts_of};
-ghost use Rattle.member_node.specs.Reads.{too_high};
+ghost use Rattle.member_sittings.specs.Names.{parts_of, too_high};
 ghost use Rattle.member_sittings.specs.Gates.{ActedOnCopies, AreBothLost, HaveRoom, MayKeepSeat, MayTakeSeat, TookSeat};
 ghost use Rattle.member_sittings.specs.Sat.{seated_in};
 

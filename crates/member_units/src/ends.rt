@@ -1,22 +1,14 @@
 //! How a sitting of work ends: what isn't written is kept, and a line is said where the step closes.
-ghost use Rattle.std.specs.Prelude.{◌≡◌, ◌≢◌, ◌+◌, ◌≤◌, ◌∷◌, ℕ, [], OnOk, IfOk};
-ghost use Rattle.mas_types.specs.Closings.{AreMembersNamed, closing_line};
-ghost use Rattle.step_turns.specs.Courses.{sittings_most};
-ghost use Rattle.step_turns.specs.declared.states.Found.{Found};
-ghost use Rattle.step_turns.specs.declared.states.State.TheVariants.{Told};
-ghost use Rattle.step_turns.specs.Turns.{leaves, says};
-ghost use Rattle.member_sittings.specs.Shapes.{MayCloseBy};
-ghost use Rattle.member_giving.specs.Plays.{Plays, bounds, unwritten, wrote_of};
-ghost use Rattle.member_giving.specs.Works.{HasRoom, HasSeat, Works, outside, place_of, queue_here, run_of};
+ghost use Rattle.std.specs.Prelude.{◌≡◌, ◌≢◌, ◌+◌, ◌≤◌, ◌<◌, ◌∷◌, ℕ, [], IfOk};
+ghost use Rattle.member_units.specs.Names.{AreMembersNamed, closing_line, sittings_most, Found, Told, leaves, says, MayCloseBy, Plays, bounds, unwritten, wrote_of, Follow, HasRoom, Leaves, MayLeave, Works, outside, place_of, run_of};
 
 use cmd_report::one_line;
 use mas_complex::{Complex, Steady};
 use mas_types::Closing;
-use member_giving::keep;
+use member_giving::{give_up, keep};
 use member_node::{Member, NodeNo};
 use member_sittings::{SittingEnd, release_of};
 use member_steps::tell_lines;
-use member_work::give_up;
 use spool_plant::Plant;
 use std::alloc::Global;
 use step_turns::{Holder, State};
@@ -37,12 +29,8 @@ pub(crate) fn leave<P: Plant + Drop, C: Steady + Drop>(
     ensures plays { (units : ℕ) (found : Found)
         → Plays P.tells holder (bounds (sittings_most next + unwritten member.old.batch) units found) given
         (wrote_of member.old.batch (leaves next)) (place_of complex.old member.old) (outside complex.new) result }
-    ensures tables { member.new.checkpoint.tables ≡ member.old.checkpoint.tables }
-    ensures next { IfOk result (λ e. e.next ≡ next) }
-    ensures nothing { OnOk result (member.new.batch ≡ []) }
-    ensures works { OnOk result (Works complex.new member.new holder) }
-    ensures queue { OnOk result (queue_here complex.new member.new ≡ queue_here complex.old member.old) }
-    ensures reached { OnOk result (complex.new.level ≤ complex.old.level + 1) }
+    ensures leaves { (f : Follow) → MayLeave complex.old member.old f next
+        → IfOk result (Leaves complex.new member.new holder.step f) }
 {
     keep(member, alloc, complex, holder)?;
     let release = release_of(holder, given, &next);
@@ -71,13 +59,11 @@ pub(crate) fn close<P: Plant + Drop, C: Steady + Drop>(
         → Plays P.tells holder (bounds (unwritten member.old.batch) units found) given
         (wrote_of member.old.batch (says (closing_line holder.by holder.step end.now ∷ [])))
         (place_of complex.old member.old) (outside complex.new) result }
-    ensures told { IfOk result (λ e. e.next ≡ Told) }
-    ensures nothing { OnOk result (member.new.batch ≡ []) }
-    ensures seat { OnOk result (HasSeat complex.new member.new) }
-    ensures reached { OnOk result (complex.new.level ≤ complex.old.level + 1) }
+    ensures leaves { (f : Follow) → 0 < f.most → complex.old.level + 1 ≤ f.level
+        → IfOk result (Leaves complex.new member.new holder.step f) }
 {
     let Ok(lines) = one_line(alloc, holder.by, holder.step, end) else {
-        return Err(give_up(member, alloc, complex));
+        return Err(give_up(member, alloc, complex, holder));
     };
     keep(member, alloc, complex, holder)?;
     tell_lines(member, complex, &lines)?;

@@ -1,33 +1,9 @@
 //! The sittings of a step of work, from each state of the step.
 ghost use Rattle.std.specs.Prelude.{◌≡◌, ◌+◌, ◌*◌, ◌≤◌, ◌<◌, [], None, Some, IfOk, IfSome};
-ghost use Rattle.mas_types.specs.declared.commands.Command.TheVariants.{Mark};
-ghost use Rattle.mas_types.specs.Closings.{AreMembersNamed};
-ghost use Rattle.mas_types.specs.Fit.{IsIndex};
-ghost use Rattle.mas_types.specs.Sound.{IsSound};
-ghost use Rattle.paper_laws.specs.Counts.{IsMarkRight};
-ghost use Rattle.mas_complex.specs.Paper.{counts_of};
-ghost use Rattle.mas_complex.specs.Parts.{parts_of};
-ghost use Rattle.mas_complex.specs.Texts.{spools_at};
-ghost use Rattle.member_node.specs.Reads.{too_high};
-ghost use Rattle.job_exec.specs.Running.{AreOutputs};
-ghost use Rattle.job_outcome.specs.Outcomes.{AreFitOutputs, IsNamedOutcome};
-ghost use Rattle.member_work.specs.Steps.{IsUnderWay};
-ghost use Rattle.step_turns.specs.Courses.{aside_most};
-ghost use Rattle.step_turns.specs.Laws.{aside_done, aside_units, units_left};
-ghost use Rattle.step_turns.specs.declared.states.Found.{Found as FoundLem};
-ghost use Rattle.step_turns.specs.declared.states.State.TheVariants.{Fresh, Rested};
-ghost use Rattle.step_turns.specs.declared.states.Task.TheVariants.{Work as WorkTask};
-ghost use Rattle.step_turns.specs.JobEnds.{groups_for_end as groups_for_end_lem, printed_end as printed_end_lem};
-ghost use Rattle.step_turns.specs.Turns.{aside_turn, job_ends as job_ends_lem, lines_printed as lines_printed_lem, outputs_stand as outputs_stand_lem, text_read as text_read_lem};
-ghost use Rattle.member_sittings.specs.Sat.{HasSat, begins, resumes, sat_in};
-ghost use Rattle.member_sittings.specs.Whole.{MaySit};
-ghost use Rattle.member_sittings.specs.Shapes.{MayRefuseBy};
-ghost use Rattle.member_giving.specs.Plays.{MayStopBy, Plays, bounds, wrote_of};
-ghost use Rattle.member_giving.specs.Ready.{HasFewer, MayResume, OutputsStand};
-ghost use Rattle.member_giving.specs.Works.{IsLow, ReadyIn, SitsIn, Works, outside, place_of, queue_here, queue_kept, run_of};
+ghost use Rattle.member_units.specs.Names.{Mark, AreMembersNamed, IsIndex, IsSound, IsMarkRight, counts_of, parts_of, spools_at, too_high, AreOutputs, AreFitOutputs, IsNamedOutcome, IsUnderWay, aside_most, aside_done, aside_units, Found as FoundLem, Fresh, Rested, Work as WorkTask, groups_for_end as groups_for_end_lem, printed_end as printed_end_lem, aside_turn, job_ends as job_ends_lem, lines_printed as lines_printed_lem, outputs_stand as outputs_stand_lem, text_read as text_read_lem, HasSat, begins, resumes, sat_in, MaySit, MayRefuseBy, MayStopBy, Plays, bounds, wrote_of, MayResume, OutputsStand, IsLow, IsPaused, Leaves, Works, after_unit, follow, outside, place_of, queue_here, queue_kept, run_of};
 
 use crate::ends::{close, leave};
-use crate::units::{begin, go_on_after};
+use crate::units::{begin, go_on};
 use job_outcome::{Outcome, Read, UnitEnd, outcome_of};
 use mas_complex::{Complex, Steady};
 use mas_types::{Closing, Command, JobNo, List, OutNo, OutSpec};
@@ -74,36 +50,28 @@ fn outputs_stand<P: Plant + Drop, C: Steady + Drop>(
     ends: JobEnd,
     lost: Option<u8>,
 ) -> Result<SittingEnd, NodeNo>
-    requires works { Works complex.old member.old holder }
-    requires low { IsLow complex.old member.old }
-    requires nothing { member.old.batch ≡ [] }
+    requires paused { IsPaused complex.old member.old holder ends.progress }
     requires outputs { AreOutputs ends.outputs }
     requires stand { OutputsStand P.tells (queue_kept complex.old) member.old.id
         (spools_at (P.view complex.old.plant) (P.view complex.old.plant).now) (queue_kept complex.old).config.groups
         ends.job ends.outputs lost }
-    requires level { complex.old.level + ends.progress.left + 4 < too_high }
-    requires units { ends.progress.done + ends.progress.left < 9999 }
     ensures run { run_of complex.new member.new ≡ run_of complex.old member.old }
     ensures plays { (found : FoundLem) → IfSome lost (λ volume. found.lost ≡ Some volume)
         → Plays P.tells holder
         (bounds (3 * ends.progress.left + 2) (ends.progress.done + ends.progress.left + 1) found) 0
         (wrote_of [] (outputs_stand_lem holder lost (queue_here complex.old member.old) ends.job ends.outputs
         ends.progress)) (place_of complex.old member.old) (outside complex.new) result }
-    ensures again { IfOk result (λ e. SitsIn e.next complex.new member.new holder.step) }
-    ensures ready { IfOk result (λ e. ReadyIn e.next complex.new member.new) }
-    ensures fewer { IfOk result (λ e.
-        HasFewer (3 * ends.progress.left + 2) (ends.progress.done + ends.progress.left + 1) e.next) }
-    ensures reached { IfOk result (λ e. complex.new.level + units_left e.next
-        ≤ complex.old.level + ends.progress.left + 2) }
+    ensures leaves { IfOk result (Leaves complex.new member.new holder.step
+        (after_unit 2 complex.old.level ends.progress)) }
 {
     match lost {
         Some(volume) => {
             let end = free_groups(member, alloc, complex, holder, volume)?;
-            go_on_after(member, alloc, complex, holder, end, ends.progress)
+            go_on(member, alloc, complex, holder, end, ends.progress)
         }
         None => {
             let end = end_job(member, alloc, complex, holder, ends.job, ends.outputs)?;
-            go_on_after(member, alloc, complex, holder, end, ends.progress)
+            go_on(member, alloc, complex, holder, end, ends.progress)
         }
     }
 }
@@ -116,13 +84,9 @@ fn job_ends<P: Plant + Drop, C: Steady + Drop>(
     holder: Holder,
     ends: JobEnd,
 ) -> Result<SittingEnd, NodeNo>
-    requires works { Works complex.old member.old holder }
-    requires low { IsLow complex.old member.old }
-    requires nothing { member.old.batch ≡ [] }
+    requires paused { IsPaused complex.old member.old holder ends.progress }
     requires outputs { AreOutputs ends.outputs }
     requires under_way { P.tells → IsUnderWay (queue_kept complex.old) member.old.id ends.job }
-    requires level { complex.old.level + ends.progress.left + 4 < too_high }
-    requires units { ends.progress.done + ends.progress.left < 9999 }
     ensures run { run_of complex.new member.new ≡ run_of complex.old member.old }
     ensures plays { (found : FoundLem)
         → Plays P.tells holder
@@ -130,12 +94,8 @@ fn job_ends<P: Plant + Drop, C: Steady + Drop>(
         (wrote_of [] (job_ends_lem holder (groups_for_end_lem (queue_here complex.old member.old) ends.job ends.outputs)
         (queue_here complex.old member.old) ends.job ends.outputs ends.progress)) (place_of complex.old member.old)
         (outside complex.new) result }
-    ensures again { IfOk result (λ e. SitsIn e.next complex.new member.new holder.step) }
-    ensures ready { IfOk result (λ e. ReadyIn e.next complex.new member.new) }
-    ensures fewer { IfOk result (λ e.
-        HasFewer (3 * ends.progress.left + 3) (ends.progress.done + ends.progress.left + 1) e.next) }
-    ensures reached { IfOk result (λ e. complex.new.level + units_left e.next
-        ≤ complex.old.level + ends.progress.left + 2) }
+    ensures leaves { IfOk result (Leaves complex.new member.new holder.step
+        (after_unit 3 complex.old.level ends.progress)) }
 {
     law_of_groups();
     law_of_read_texts();
@@ -153,7 +113,7 @@ fn job_ends<P: Plant + Drop, C: Steady + Drop>(
         });
         return leave(member, alloc, complex, holder, next, given);
     }
-    go_on_after(member, alloc, complex, holder, end, ends.progress)
+    go_on(member, alloc, complex, holder, end, ends.progress)
 }
 
 // Goes on with a job whose text was read.
@@ -165,31 +125,23 @@ fn text_read<P: Plant + Drop, C: Steady + Drop>(
     job: UnderWay,
     outcome: Outcome,
 ) -> Result<SittingEnd, NodeNo>
-    requires works { Works complex.old member.old holder }
-    requires low { IsLow complex.old member.old }
-    requires nothing { member.old.batch ≡ [] }
+    requires paused { IsPaused complex.old member.old holder job.progress }
     requires fits { AreFitOutputs outcome }
     requires named { IsNamedOutcome outcome }
     requires under_way { P.tells → IsUnderWay (queue_kept complex.old) member.old.id job.job }
-    requires level { complex.old.level + job.progress.left + 4 < too_high }
-    requires units { job.progress.done + job.progress.left < 9999 }
     ensures run { run_of complex.new member.new ≡ run_of complex.old member.old }
     ensures plays { (found : FoundLem) → MayStopBy found outcome
         → Plays P.tells holder (bounds (3 * job.progress.left + 3) (job.progress.done + job.progress.left + 1) found) 0
         (wrote_of [] (text_read_lem holder outcome (queue_here complex.old member.old) job.job job.progress))
         (place_of complex.old member.old) (outside complex.new) result }
-    ensures again { IfOk result (λ e. SitsIn e.next complex.new member.new holder.step) }
-    ensures ready { IfOk result (λ e. ReadyIn e.next complex.new member.new) }
-    ensures fewer { IfOk result (λ e.
-        HasFewer (3 * job.progress.left + 3) (job.progress.done + job.progress.left + 1) e.next) }
-    ensures reached { IfOk result (λ e. complex.new.level + units_left e.next
-        ≤ complex.old.level + job.progress.left + 2) }
+    ensures leaves { IfOk result (Leaves complex.new member.new holder.step
+        (after_unit 3 complex.old.level job.progress)) }
 {
     match outcome {
         Outcome::Convert => {
             let command = Command::Converted { job: job.job };
             let end = give(member, alloc, complex, holder, command)?;
-            go_on_after(member, alloc, complex, holder, end, job.progress)
+            go_on(member, alloc, complex, holder, end, job.progress)
         }
         Outcome::Stop(end) => close(member, alloc, complex, holder, &end, 0),
         Outcome::End(outputs) => {
@@ -226,28 +178,20 @@ fn lines_printed<P: Plant + Drop, C: Steady + Drop>(
     lines: Lines,
     end: Option<Closing>,
 ) -> Result<SittingEnd, NodeNo>
-    requires works { Works complex.old member.old holder }
-    requires low { IsLow complex.old member.old }
-    requires nothing { member.old.batch ≡ [] }
+    requires paused { IsPaused complex.old member.old holder lines.progress }
     requires index { IsIndex lines.output.0 }
     requires named { IfSome end AreMembersNamed }
     requires right { end ≡ None → P.tells
         → IsMarkRight (queue_kept complex.old) member.old.id (counts_of complex.old.printed member.old.id)
         (Mark lines.job lines.output lines.last) }
-    requires level { complex.old.level + lines.progress.left + 4 < too_high }
-    requires units { lines.progress.done + lines.progress.left < 9999 }
     ensures run { run_of complex.new member.new ≡ run_of complex.old member.old }
     ensures plays { (found : FoundLem) → IfSome end (MayRefuseBy found)
         → Plays P.tells holder
         (bounds (3 * lines.progress.left + 2) (lines.progress.done + lines.progress.left + 1) found) 0
         (wrote_of [] (lines_printed_lem holder end (queue_here complex.old member.old) lines.job lines.output lines.last
         lines.progress)) (place_of complex.old member.old) (outside complex.new) result }
-    ensures again { IfOk result (λ e. SitsIn e.next complex.new member.new holder.step) }
-    ensures ready { IfOk result (λ e. ReadyIn e.next complex.new member.new) }
-    ensures fewer { IfOk result (λ e.
-        HasFewer (3 * lines.progress.left + 2) (lines.progress.done + lines.progress.left + 1) e.next) }
-    ensures reached { IfOk result (λ e. complex.new.level + units_left e.next
-        ≤ complex.old.level + lines.progress.left + 2) }
+    ensures leaves { IfOk result (Leaves complex.new member.new holder.step
+        (after_unit 2 complex.old.level lines.progress)) }
 {
     match end {
         Some(end) => close(member, alloc, complex, holder, &end, 0),
@@ -258,7 +202,7 @@ fn lines_printed<P: Plant + Drop, C: Steady + Drop>(
                 at: lines.last,
             };
             let end = give(member, alloc, complex, holder, command)?;
-            go_on_after(member, alloc, complex, holder, end, lines.progress)
+            go_on(member, alloc, complex, holder, end, lines.progress)
         }
     }
 }
@@ -284,11 +228,9 @@ fn resume<P: Plant + Drop, C: Steady + Drop>(
     ensures plays { Plays P.tells holder (bounds (aside_most aside) (aside_done aside + aside_units aside) found) 0
         (wrote_of [] (aside_turn holder (queue_here complex.old member.old) aside found))
         (place_of complex.old member.old) (outside complex.new) result }
-    ensures again { IfOk result (λ e. SitsIn e.next complex.new member.new holder.step) }
-    ensures ready { IfOk result (λ e. ReadyIn e.next complex.new member.new) }
-    ensures fewer { IfOk result (λ e. HasFewer (aside_most aside) (aside_done aside + aside_units aside) e.next) }
-    ensures reached { IfOk result (λ e. complex.new.level + units_left e.next
-        ≤ complex.old.level + aside_units aside + 1) }
+    ensures leaves { IfOk result (Leaves complex.new member.new holder.step
+        (follow (aside_most aside) (aside_done aside + aside_units aside)
+        (complex.old.level + aside_units aside + 1))) }
 {
     match aside {
         Aside::SpoolDeck { .. } => unreachable!(),
@@ -362,10 +304,9 @@ pub fn sit_work<P: Plant + Drop, C: Steady + Drop>(
     ensures sat { HasSat (begins holder (Rested progress)) complex.old complex.new result }
     ensures fresh { progress.done ≡ 0
         → HasSat (begins holder (Fresh (WorkTask progress.left))) complex.old complex.new result }
-    ensures again { IfOk result (λ e. SitsIn e.next complex.new member.new holder.step) }
-    ensures waits { IfOk result (λ e. ReadyIn e.next complex.new member.new) }
-    ensures fewer { IfOk result (λ e. HasFewer (3 * progress.left + 1) (progress.done + progress.left) e.next) }
-    ensures reached { IfOk result (λ e. complex.new.level + units_left e.next ≤ complex.old.level + progress.left + 1) }
+    ensures leaves { IfOk result (Leaves complex.new member.new holder.step
+        (follow (3 * progress.left + 1) (progress.done + progress.left)
+        (complex.old.level + progress.left + 1))) }
 {
     begin(member, alloc, complex, holder, progress)
 }
@@ -392,11 +333,9 @@ pub fn resume_work<P: Plant + Drop, C: Steady + Drop>(
     ensures frame { parts_of complex.new ≡ sat_in (parts_of complex.new) (parts_of complex.old) }
     ensures id { member.new.id ≡ member.old.id }
     ensures sat { HasSat (resumes holder aside found) complex.old complex.new result }
-    ensures again { IfOk result (λ e. SitsIn e.next complex.new member.new holder.step) }
-    ensures waits { IfOk result (λ e. ReadyIn e.next complex.new member.new) }
-    ensures fewer { IfOk result (λ e. HasFewer (aside_most aside) (aside_done aside + aside_units aside) e.next) }
-    ensures reached { IfOk result (λ e. complex.new.level + units_left e.next
-        ≤ complex.old.level + aside_units aside + 1) }
+    ensures leaves { IfOk result (Leaves complex.new member.new holder.step
+        (follow (aside_most aside) (aside_done aside + aside_units aside)
+        (complex.old.level + aside_units aside + 1))) }
 {
     resume(member, alloc, complex, holder, aside, found)
 }

@@ -19,7 +19,7 @@ use Rattle.member_node.specs.Spares.{SparesBut}
 use Rattle.member_node.proofs.CourseLemmas.{rose_later}
 use Rattle.member_node.proofs.SpareLemmas.{sparing_more, sparing_none, sparing_then}
 use Rattle.member_decks.specs.Steps.{SpoolStops}
-use Rattle.member_work.specs.Rounds.{IsReadAs, names_read}
+use Rattle.member_acts.specs.Rounds.{IsReadAs, names_read}
 use Rattle.nje_frames.specs.declared.frames.Frame.{Frame}
 use Rattle.step_turns.specs.Serving.{unread}
 use Rattle.step_turns.specs.declared.states.Found.{Found}

@@ -1,4 +1,4 @@
 mod OnLine
 mod Reading
 mod Exchanging
-pub use Rattle.member_acts.proofs.Printed
+pub use Rattle.member_acts.proofs.Shown

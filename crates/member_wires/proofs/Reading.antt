@@ -8,7 +8,7 @@ use Rattle.member_node.specs.declared.member.NodeNo.{NodeNo}
 use Rattle.member_node.specs.declared.member.NodeNo.TheVariants.{BothLost, ConsoleFault, Halted, NoMemory}
 use Rattle.member_node.proofs.SpareLemmas.{sparing_none}
 use Rattle.member_decks.specs.Spooling.{OnVolumes}
-use Rattle.member_work.specs.Reading.{OnlyReads}
+use Rattle.member_acts.specs.Reading.{OnlyReads}
 use Rattle.nje_frames.specs.declared.frames.Frame.{Frame}
 use Rattle.nje_frames.specs.Grammar.{IsFrame}
 use Rattle.nje_frames.specs.Laws.{ReadsNothingElse, StandsIn}

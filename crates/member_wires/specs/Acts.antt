@@ -13,7 +13,7 @@ use Rattle.member_node.specs.declared.member.NodeNo.{NodeNo}
 use Rattle.member_node.specs.declared.member.NodeNo.TheVariants.{BothLost, ConsoleFault, Halted, NoMemory}
 use Rattle.member_node.specs.Calls.{console_now, none_lost}
 use Rattle.member_node.specs.Spares.{SparesBut}
-use Rattle.member_work.specs.Reading.{OnlyReads}
+use Rattle.member_acts.specs.Reading.{OnlyReads}
 use Rattle.nje_frames.specs.declared.frames.Frame.{Frame}
 use Rattle.nje_frames.specs.Grammar.{IsFrame}
 use Rattle.nje_frames.specs.Streams.{HasFed}

@@ -19,8 +19,8 @@ use Rattle.member_node.specs.declared.member.Member.{Member}
 use Rattle.member_node.specs.declared.member.NodeNo.{NodeNo}
 use Rattle.member_node.specs.declared.member.NodeNo.TheVariants.{BothLost, ConsoleFault, Halted, NoMemory}
 use Rattle.member_decks.specs.Steps.{SpoolStops}
-use Rattle.member_work.specs.Reading.{IsFailedRead}
-use Rattle.member_work.specs.Rounds.{IsReadAs, names_read}
+use Rattle.member_acts.specs.Reading.{IsFailedRead}
+use Rattle.member_acts.specs.Rounds.{IsReadAs, names_read}
 use Rattle.nje_frames.specs.declared.frames.Frame.{Frame}
 use Rattle.nje_frames.specs.declared.frames.Frame.TheVariants as frame
 use Rattle.nje_frames.specs.Grammar.{IsFrame, frame_text}

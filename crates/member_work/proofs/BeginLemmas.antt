@@ -1,36 +1,15 @@
 -- Which batches of a work step may begin.
-use Rattle.std.proofs.Common.{◌≡◌, ℕ, Bool, true, false, if◌then◌else◌, List, [], ◌∷◌, ◌++◌, All, Result, Ok, Err, refl, sym, subst}
+use Rattle.member_work.proofs.Names.{◌≡◌, ℕ, Bool, true, false, if◌then◌else◌, List, [], ◌∷◌, ◌++◌, All, Result, Ok, Err, refl, sym, subst, All-nil, All-cons, All-append, Command, Reply, JobNo, MemberId, OutSpec, Batch, Entry, Queue, IsFit, is_member, IsSound, kept_all, run, MayBegin, counts_of, unmarked_begin, entry_with, reply_to, are_refused, given_in, takes, IsPart, drop_groups, ending, taking, is_refusal}
 use Rattle.std.proofs.Math.Logic.{∥∥₁_map}
-use Rattle.std.proofs.lemmas.List.Elements.{All-nil, All-cons, All-append}
-use Rattle.mas_types.specs.declared.commands.Command.{Command}
 use Rattle.mas_types.specs.declared.commands.Command.TheVariants as command
-use Rattle.mas_types.specs.declared.commands.Reply.{Reply}
-use Rattle.mas_types.specs.declared.ids.JobNo.{JobNo}
-use Rattle.mas_types.specs.declared.ids.MemberId.{MemberId}
-use Rattle.mas_types.specs.declared.jobs.OutSpec.{OutSpec}
-use Rattle.mas_types.specs.declared.journals.Batch.{Batch}
-use Rattle.mas_types.specs.declared.journals.Entry.{Entry}
-use Rattle.mas_types.specs.declared.queues.Queue.{Queue}
-use Rattle.mas_types.specs.Fit.{IsFit}
-use Rattle.mas_types.specs.Queue.{is_member}
-use Rattle.mas_types.specs.Sound.{IsSound}
 use Rattle.mas_types.specs.Step.{may_give}
 use Rattle.queue_laws.specs.Runs.{IsGiven}
 use Rattle.job_exec.specs.Running.{AreOutputs}
 use Rattle.paper_laws.specs.Counts.{IsMarkRight, counts_after}
 use Rattle.paper_laws.proofs.Plain.{allowed_push}
-use Rattle.mas_complex.specs.Journals.{kept_all}
-use Rattle.mas_complex.specs.Meaning.{run}
-use Rattle.mas_complex.specs.Paper.{MayBegin, counts_of}
-use Rattle.mas_complex.proofs.Allowed.{unmarked_begin}
 use Rattle.mas_complex.proofs.Replied.{run_append}
-use Rattle.member_steps.specs.Steps.{entry_with, reply_to}
-use Rattle.member_decks.specs.Decks.{are_refused, given_in, takes}
-use Rattle.member_decks.specs.Taking.{IsPart}
 use Rattle.member_decks.proofs.MayLemmas.{IsUnmarked, Unmarked, given_fit, given_unmarked, takes_unmarked}
 use Rattle.member_decks.proofs.PlayLemmas.{all_front}
-use Rattle.member_work.specs.Units.{drop_groups, ending, taking}
-use Rattle.queue_laws.specs.Laws.{is_refusal}
 
 module _ (base : Queue) (by : MemberId) (js : List Batch) (printed : List ℕ) where
   -- commands without a Mark, or the first ones of them

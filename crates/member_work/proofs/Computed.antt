@@ -1,5 +1,5 @@
 -- The worked examples, by computation.
-use Rattle.std.proofs.Common.{refl}
+use Rattle.member_work.proofs.Names.{refl}
 use Rattle.std.specs.Fmt.{digits}
 use Rattle.member_work.specs.Examples.{NullStepIsDone, HoldOfOneIsGivenUp, CopyIsDone, CopyWaits, LostPrinterRefusesTheUnit, LinesFollowTheMark, ErrorIsListed, ScanIsListed, FirstJobIsTaken, BothAreReset, FullSpoolRefusesTheUnit, FullOutputsRefuseTheUnit, LostVolumeRefusesTheUnit, UnreadTextRefusesTheUnit, GoneTextRefusesTheUnit, CancelledJobIsPurged}
 

@@ -1,62 +1,21 @@
 -- Commands of a unit on a member's tables, one after another.
-use Rattle.std.proofs.Common.{◌≡◌, ◌∙◌, ℕ, zero, suc, ◌+◌, ◌-◌, ◌<◌, ◌≤◌, ◌==◌, nat_lt, min, cond, ◌⊎◌, ⊎_elim, take, drop, if◌then◌else◌, Bool, true, false, List, [], ◌∷◌, ◌++◌, length, length-append, None, Some, Result, Ok, Err, refl, ap, subst, sym, arith}
+use Rattle.member_work.proofs.Names.{◌≡◌, ◌∙◌, ℕ, zero, suc, ◌+◌, ◌-◌, ◌<◌, ◌≤◌, ◌==◌, nat_lt, min, cond, ◌⊎◌, ⊎_elim, take, drop, if◌then◌else◌, Bool, true, false, List, [], ◌∷◌, ◌++◌, length, length-append, None, Some, Result, Ok, Err, refl, ap, subst, sym, arith, nat_tests, append-nil, append_assoc, All-contains, All-push, All-weaker, IfOk, slice_get, Command, Reply, Closing, GroupNo, JobNo, OutNo, MemberId, OutSpec, Text, Whole, Entry, Owner, Queue, Thing, groups_of_outputs, outputs_at_end, job_at, held_by, groups_of, free_count, groups_needed, is_free, is_members, member_count, taken, sum-groups, test_cases, Tables, HasSpelling, Tell, TellSound, HoldsOfTexts, OthersLeaveTexts, ToldAreTheirOwn, WasThere, run, step, HasTexts, IsThere, IsThereUnless, Spools, last_reply, entry_of, entry_with, reply_to, are_refused, closing_reply, given_in, left_after, takes, AreOf, IsPart, refused_last, refused_more, refused_none, take_counts, IsNamedEnd, end_by, AreSpooled, drop_groups, ending, taken_end, taking, is_refusal}
 use Rattle.std.proofs.lemmas.Bool.{eq-eqb}
-use Rattle.std.proofs.lemmas.Bool.Decides.{nat_tests}
-use Rattle.std.proofs.lemmas.List.{append-nil, append_assoc}
-use Rattle.std.proofs.lemmas.List.Elements.{All-contains, All-push, All-weaker}
-use Rattle.std.specs.Prelude.{IfOk, slice_get}
-use Rattle.mas_types.specs.declared.commands.Command.{Command}
 use Rattle.mas_types.specs.declared.commands.Command.TheVariants as command
 use Rattle.mas_types.specs.declared.commands.Refusal.TheVariants as refusal
-use Rattle.mas_types.specs.declared.commands.Reply.{Reply}
 use Rattle.mas_types.specs.declared.commands.Reply.TheVariants as reply
-use Rattle.mas_types.specs.declared.answers.Closing.{Closing}
 use Rattle.mas_types.specs.declared.answers.Closing.TheVariants as closing
-use Rattle.mas_types.specs.declared.ids.GroupNo.{GroupNo}
-use Rattle.mas_types.specs.declared.ids.JobNo.{JobNo}
-use Rattle.mas_types.specs.declared.ids.OutNo.{OutNo}
-use Rattle.mas_types.specs.declared.ids.MemberId.{MemberId}
-use Rattle.mas_types.specs.declared.jobs.OutSpec.{OutSpec}
-use Rattle.mas_types.specs.declared.jobs.Text.{Text}
-use Rattle.mas_types.specs.declared.jobs.Text.TheVariants.{Whole}
-use Rattle.mas_types.specs.declared.journals.Entry.{Entry}
-use Rattle.mas_types.specs.declared.queues.Owner.{Owner}
 use Rattle.mas_types.specs.declared.queues.Owner.TheVariants as owner
-use Rattle.mas_types.specs.declared.queues.Queue.{Queue}
-use Rattle.mas_types.specs.declared.queues.Thing.{Thing}
 use Rattle.mas_types.specs.declared.queues.Thing.TheVariants as thing
-use Rattle.mas_types.specs.Commands.Life.{groups_of_outputs, outputs_at_end}
-use Rattle.mas_types.specs.Queue.{job_at}
-use Rattle.track_groups.specs.Groups.{held_by}
-use Rattle.track_groups.specs.Places.{groups_of}
 use Rattle.mas_types.specs.Closings.{IsReplyNamed}
-use Rattle.mas_types.specs.Owners.{free_count, groups_needed, is_free, is_members, member_count, taken}
-use Rattle.queue_effect.proofs.GroupLemmas.{sum-groups}
-use Rattle.queue_laws.proofs.Finds.{test_cases}
-use Rattle.ckpt_tables.specs.declared.tables.Tables.{Tables}
-use Rattle.ckpt_tables.specs.Shape.{HasSpelling}
 use Rattle.queue_effect.specs.Standing.{AreFit}
-use Rattle.queue_telling.specs.Telling.{Tell, TellSound}
-use Rattle.queue_texts.specs.Leaving.{HoldsOfTexts, OthersLeaveTexts, ToldAreTheirOwn, WasThere}
-use Rattle.mas_complex.specs.Meaning.{run, step}
-use Rattle.mas_complex.specs.Texts.{HasTexts, IsThere, IsThereUnless, Spools}
 use Rattle.member_node.specs.declared.member.Member.{Member}
-use Rattle.member_node.specs.Batches.{last_reply}
 use Rattle.member_node.proofs.TextLemmas.{texts_after}
-use Rattle.member_steps.specs.Steps.{entry_of, entry_with, reply_to}
-use Rattle.member_decks.specs.Decks.{are_refused, closing_reply, given_in, left_after, takes}
-use Rattle.member_decks.specs.Steps.{AreOf}
-use Rattle.member_decks.specs.Taking.{IsPart}
 use Rattle.member_decks.proofs.HeldLemmas.{counted}
-use Rattle.member_decks.proofs.TakeLemmas.{refused_last, refused_more, refused_none, take_counts}
 use Rattle.job_outcome.specs.declared.units.UnitEnd.{UnitEnd}
 use Rattle.job_outcome.specs.declared.units.UnitEnd.TheVariants as ends
 use Rattle.job_outcome.specs.Ending.{EndedBringsTexts, IsOfOutput, shares}
-use Rattle.job_outcome.specs.Next.{IsNamedEnd, end_by}
 use Rattle.member_work.specs.Giving.{GivesAt, HasGiven, IsSoundPlain, LeaveWhere, MayEnd}
-use Rattle.member_work.specs.Spooled.{AreSpooled}
-use Rattle.member_work.specs.Units.{drop_groups, ending, taken_end, taking}
-use Rattle.queue_laws.specs.Laws.{is_refusal}
 
 -- WHAT A MEMBER HAS
 
@@ -118,12 +77,8 @@ pub own_more : (by : MemberId) (at : ℕ) (es mid : List Entry) (c : Command) (r
 own_more by at es mid c r is of = subst (AreOf by at) (sym is) (All-push (λ (e : Entry). (e.by ≡ by) × (e.step ≡ at)) es (entry_with by at c r) of (refl, refl))
 
 pub named_end : (r : Reply) → IsReplyNamed r → IsNamedEnd (end_by r)
-named_end reply.Plain named = tt
-named_end (reply.Job n) named = tt
-named_end (reply.Output n i) named = tt
-named_end (reply.Count n) named = tt
-named_end (reply.Shown lines) named = tt
 named_end (reply.No why) named = named
+named_end _ named = tt
 
 -- COMMANDS AT A QUEUE
 
@@ -285,12 +240,8 @@ module _ (Q : Queue) (by : MemberId) where
       (λ e. other (min want (free_count Q.owners)) (rw e refl))
 
   none_left : (missing : ℕ) (r : Reply) → ((n : ℕ) → r ≡ reply.Count n → ⊥) → left_after missing r ≡ None
-  none_left missing reply.Plain other = refl
-  none_left missing (reply.Job n) other = refl
-  none_left missing (reply.Output n i) other = refl
   none_left missing (reply.Count n) other = absurd (other n refl)
-  none_left missing (reply.Shown lines) other = refl
-  none_left missing (reply.No why) other = refl
+  none_left missing _ other = refl
 
   takes_one : (times missing : ℕ) → 1 ≤ times → 1 ≤ missing → left_after missing (step Q by (command.Take missing)).1 ≡ None → takes times Q by missing ≡ command.Take missing ∷ []
   takes_one zero missing some some' is = absurd (omega (arith, some))

@@ -1,9 +1,5 @@
 -- A unit of a job that is run or converted, part by part.
-use Rattle.std.proofs.Common.{◌≡◌, None}
-use Rattle.mas_types.specs.declared.jobs.Text.{Text}
-use Rattle.mas_types.specs.declared.jobs.Text.TheVariants.{Whole, Gone}
-use Rattle.member_work.specs.Gone.{gone_with}
-use Rattle.member_work.specs.Rounds.{IsWhole}
+use Rattle.member_work.proofs.Names.{◌≡◌, None, Text, Whole, Gone, gone_with, IsWhole}
 
 -- A JOB'S TEXT
 

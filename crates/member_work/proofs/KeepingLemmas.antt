@@ -1,29 +1,15 @@
 -- Calls within a work step that keep batches, one after another.
-use Rattle.std.proofs.Common.{◌≡◌, inl, inr, ℕ, ◌≤◌, Bool, List, [], ◌∷◌, ◌++◌, length, Result, Ok, Err, append_assoc, append-nil, refl, sym, ◌∙◌, ap, subst, arith}
-use Rattle.mas_types.specs.declared.ids.MemberId.{MemberId}
-use Rattle.mas_types.specs.declared.journals.Batch.{Batch}
-use Rattle.mas_types.specs.declared.journals.Entry.{Entry}
+use Rattle.member_work.proofs.Names.{◌≡◌, inl, inr, ℕ, ◌≤◌, Bool, List, [], ◌∷◌, ◌++◌, length, Result, Ok, Err, append_assoc, append-nil, refl, sym, ◌∙◌, ap, arith, MemberId, Batch, Entry, View, begun, fated, NodeNo, BothLost, Halted, ConsoleFault, NoMemory, IsSettle, ReadCauses, stopped_in, spares_none, spares_then, IsKeeping, WorkLeaves}
 use Rattle.mas_types.specs.declared.journals.Fate.TheVariants.{Kept}
-use Rattle.spool_plant.specs.View.{View}
-use Rattle.mas_complex.specs.Journals.{begun, fated}
-use Rattle.member_node.specs.declared.member.NodeNo.{NodeNo}
-use Rattle.member_node.specs.declared.member.NodeNo.TheVariants.{BothLost, Halted, ConsoleFault, NoMemory}
-use Rattle.member_node.specs.Reads.{IsSettle, ReadCauses}
-use Rattle.member_node.specs.Spares.{stopped_in}
-use Rattle.member_node.proofs.SpareLemmas.{spares_none, spares_then}
 use Rattle.member_node.proofs.CourseLemmas.{course_none, course_then, rose_later}
 use Rattle.member_decks.specs.Keeping.{CopyCauses, IsOnCopies, KeepLeaves}
 use Rattle.member_decks.proofs.OutcomeLemmas.{kept_batch, left_then, one_flies}
-use Rattle.member_work.specs.Steps.{IsKeeping, WorkLeaves}
-use Rattle.member_work.specs.Work.{batches_in}
 use Rattle.member_work.proofs.LeavesLemmas.{StartsAs, work_none, work_starts, work_then}
 
 -- a call on the copies says nothing
 pub never_console : (T : Type 0) (by : MemberId) (e : NodeNo) (a a' b b' : Bool) (v w : View) → CopyCauses {T = T} (Err e) by.0 a a' b b' v w → e ≡ ConsoleFault → ⊥
 never_console T by ConsoleFault a a' b b' v w cause is = absurd cause
-never_console T by NoMemory a a' b b' v w cause is = absurd (cc)
-never_console T by BothLost a a' b b' v w cause is = absurd (cc)
-never_console T by Halted a a' b b' v w cause is = absurd (cc)
+never_console T by _ a a' b b' v w cause is = absurd (cc)
 
 module _ {T : Type 0} (told : Type 0) (by : MemberId) where
   -- an answer's cause, after another part
@@ -73,9 +59,7 @@ keeping_error {S} {T} told by e ess front batches a a' b b' v w k = record { cou
 
   leaves : (e : NodeNo) → WorkLeaves {T = S} (Err e) by v.now w.now ess k.rest → WorkLeaves {T = T} (Err e) by v.now w.now ess k.rest
   leaves BothLost l = l
-  leaves Halted l = l
-  leaves NoMemory l = l
-  leaves ConsoleFault l = l
+  leaves _ l = l
 
 -- SINGLE CALLS
 
@@ -122,27 +106,17 @@ module _ (told : Type 0) (by : MemberId) (es : List Entry) (some : 1 ≤ length 
 
   pub kept_not : (e : NodeNo) → IsOnCopies {T = Unit {0}} told by.0 a a' b b' v w (Err e) → KeepLeaves {T = Unit {0}} (Err e) front batches (begun v.now by es) w.now → IsKeeping {T = Unit {0}} told by (es ∷ []) front batches a a' b b' v w (Err e)
   kept_not NoMemory acts same = held_not {T = Unit {0}} told by front batches same NoMemory (es ∷ []) a a' b b' v w acts
-  kept_not BothLost acts flies = record {
-    course = acts.course;
-    loses = acts.loses;
-    cause = acts.cause;
-    spares = acts.spares;
-    rest = begun v.now by es ∷ [];
-    batches_are = flies;
-    quiet = λ t. (acts.apart t).console;
-    journal = inr (inl (one_flies by v.now v.now w.now es [] some (omega arith) acts.course.goes.later));
-  }
-  kept_not Halted acts flies = record {
-    course = acts.course;
-    loses = acts.loses;
-    cause = acts.cause;
-    spares = acts.spares;
-    rest = begun v.now by es ∷ [];
-    batches_are = flies;
-    quiet = λ t. (acts.apart t).console;
-    journal = inr (inl (one_flies by v.now v.now w.now es [] some (omega arith) acts.course.goes.later));
-  }
   kept_not ConsoleFault acts never = absurd never
+  kept_not _ acts flies = record {
+    course = acts.course;
+    loses = acts.loses;
+    cause = acts.cause;
+    spares = acts.spares;
+    rest = begun v.now by es ∷ [];
+    batches_are = flies;
+    quiet = λ t. (acts.apart t).console;
+    journal = inr (inl (one_flies by v.now v.now w.now es [] some (omega arith) acts.course.goes.later));
+  }
 
 -- out of memory before a batch that is kept
 pub keeping_error_of : {S T : Type 0} (told : Type 0) (by : MemberId) (ess : List (List Entry)) (front batches : List Batch) (a a' b b' : Bool) (v w : View) (s : S) → IsKeeping {T = S} told by ess front batches a a' b b' v w (Ok s) → IsKeeping {T = T} told by ess front batches a a' b b' v w (Err NoMemory)
@@ -157,12 +131,3 @@ settled told by front batches same a a' b b' v w (Err e) s = held_not {T = Unit 
   causes Halted c = (inl c.0, c.1)
   causes NoMemory c = absurd c
   causes ConsoleFault c = absurd c
-
--- how a batch of at least one entry is kept
-module _ (told : Type 0) (by : MemberId) (es : List Entry) (some : 1 ≤ length es) (front batches : List Batch) (a a' b b' : Bool) (v w : View) where
-  one_in : (l : List Entry) → 1 ≤ length l → batches_in (l ∷ []) ≡ l ∷ []
-  one_in [] some = absurd (omega (arith, some))
-  one_in (e ∷ l) some = refl
-
-  pub kept_not_in : (e : NodeNo) → IsOnCopies {T = Unit {0}} told by.0 a a' b b' v w (Err e) → KeepLeaves {T = Unit {0}} (Err e) front batches (begun v.now by es) w.now → IsKeeping {T = Unit {0}} told by (batches_in (es ∷ [])) front batches a a' b b' v w (Err e)
-  kept_not_in e acts leaves = subst (λ (xs : List (List Entry)). IsKeeping {T = Unit {0}} told by xs front batches a a' b b' v w (Err e)) (sym (one_in es some)) (kept_not told by es some front batches a a' b b' v w e acts leaves)

@@ -1,12 +1,6 @@
 -- Batches that a call kept, after batches that are all kept.
-use Rattle.std.proofs.Common.{◌≡◌, ℕ, ◌≤◌, List, [], ◌∷◌, ◌++◌, subst, sym}
-use Rattle.std.proofs.lemmas.List.Elements.{All-cons, All-nil}
-use Rattle.mas_types.specs.declared.ids.MemberId.{MemberId}
-use Rattle.mas_types.specs.declared.journals.Batch.{Batch}
-use Rattle.mas_types.specs.declared.journals.Entry.{Entry}
-use Rattle.member_steps.specs.Steps.{AreAllKept, AreKeptFrom, IsKeptBy}
+use Rattle.member_work.proofs.Names.{◌≡◌, ℕ, ◌≤◌, List, [], ◌∷◌, ◌++◌, subst, sym, All-cons, All-nil, MemberId, Batch, Entry, AreAllKept, AreKeptFrom, IsKeptBy, AreAll}
 use Rattle.member_steps.proofs.FateLemmas.{all_kept_from, kept_from_append, kept_from_later}
-use Rattle.member_decks.specs.Batches.{AreAll}
 
 abbrev Holds : ℕ → Batch → Type 0
 Holds now b = IsKeptBy now b × (b.first ≤ b.last)

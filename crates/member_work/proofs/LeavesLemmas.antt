@@ -1,13 +1,5 @@
 -- Batches of a work step, by how it ended.
-use Rattle.std.proofs.Common.{◌≡◌, ◌⊎◌, inl, inr, ⊎_elim, ℕ, ◌≤◌, List, [], ◌∷◌, ◌++◌, length, Result, Ok, Err, append_assoc, append-nil, refl, sym, ◌∙◌, ap, subst, arith}
-use Rattle.std.proofs.lemmas.List.{length-append}
-use Rattle.mas_types.specs.declared.ids.MemberId.{MemberId}
-use Rattle.mas_types.specs.declared.journals.Batch.{Batch}
-use Rattle.mas_types.specs.declared.journals.Entry.{Entry}
-use Rattle.member_node.specs.declared.member.NodeNo.{NodeNo}
-use Rattle.member_node.specs.declared.member.NodeNo.TheVariants.{BothLost, Halted, ConsoleFault, NoMemory}
-use Rattle.member_decks.specs.Batches.{AreAll, AreCut, IsFlyingBatch, IsKeptBatch, OneFlies}
-use Rattle.member_work.specs.Steps.{WorkLeaves}
+use Rattle.member_work.proofs.Names.{◌≡◌, ◌⊎◌, inl, inr, ⊎_elim, ℕ, ◌≤◌, List, [], ◌∷◌, ◌++◌, length, Result, Ok, Err, append_assoc, append-nil, refl, sym, ◌∙◌, ap, subst, arith, length-append, MemberId, Batch, Entry, NodeNo, BothLost, Halted, ConsoleFault, NoMemory, AreAll, AreCut, IsFlyingBatch, IsKeptBatch, OneFlies, WorkLeaves}
 
 module _ (by : MemberId) where
   -- BEGUN SOONER
@@ -72,11 +64,9 @@ module _ (by : MemberId) where
   pub work_none : (T : Type 0) (e : NodeNo) (from now : ℕ) (ess : List (List Entry)) → (e ≡ ConsoleFault → ⊥) → WorkLeaves {T = T} (Err e) by from now ess []
   work_none T ConsoleFault from now ess never = absurd (never refl)
   work_none T NoMemory from now [] never = inr tt
-  work_none T NoMemory from now (es ∷ ess) never = inl tt
   work_none T BothLost from now [] never = inr (inr tt)
-  work_none T BothLost from now (es ∷ ess) never = inl tt
   work_none T Halted from now [] never = inr (inr tt)
-  work_none T Halted from now (es ∷ ess) never = inl tt
+  work_none T _ from now (es ∷ ess) never = inl tt
 
 -- BATCHES WITH WHICH OTHERS START: all except the last are the same, and the last has the first entries of its
 -- counterpart

@@ -1,5 +1,4 @@
 pub mod Computed
-pub mod CalmLemmas
 pub mod RoundLemmas
 pub mod CauseLemmas
 pub mod SpoolLemmas
@@ -19,3 +18,4 @@ pub mod UnderWayLemmas
 pub mod JobLemmas
 pub mod PrintedLemmas
 pub mod UnitStepLemmas
+pub mod Names

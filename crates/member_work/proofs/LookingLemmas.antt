@@ -1,35 +1,10 @@
 -- Looking at a job's text.
-use Rattle.std.proofs.Common.{◌≡◌, ℕ, zero, suc, ◌+◌, ◌*◌, ◌≤◌, ◌<◌, Bool, true, List, [], ◌∷◌, length, All, slice_get, Some, refl, sym, ap, subst, ◌∙◌, arith}
-use Rattle.std.specs.Prelude.{find}
+use Rattle.member_work.proofs.Names.{◌≡◌, ℕ, zero, suc, ◌+◌, ◌*◌, ◌≤◌, ◌<◌, Bool, true, List, [], ◌∷◌, length, All, slice_get, Some, refl, sym, ap, subst, ◌∙◌, arith, find, nat_tests, All-nil, All-cons, GroupNo, JobNo, Job, Config, Owner, Queue, Thing, Deck, same_number, has_number, job_at, line_count, find-All, test_cases, JobRec, IfUsed, IsJobRec, Tables, HasSpelling, AreJobs, HasJob, View, groups_where, is_things, groups_of, all_at, Read, IsTold}
 use Rattle.std.specs.Coded.{Coded, coded_list, coded_ℕ, coded×, code_by}
-use Rattle.std.proofs.lemmas.Bool.Decides.{nat_tests}
-use Rattle.std.proofs.lemmas.List.Elements.{All-nil, All-cons}
 use Rattle.std.proofs.lemmas.List.Sorted.{All-permutation}
-use Rattle.mas_types.specs.declared.ids.GroupNo.{GroupNo}
-use Rattle.mas_types.specs.declared.ids.JobNo.{JobNo}
-use Rattle.mas_types.specs.declared.jobs.Job.{Job}
-use Rattle.mas_types.specs.declared.queues.Config.{Config}
-use Rattle.mas_types.specs.declared.queues.Owner.{Owner}
-use Rattle.mas_types.specs.declared.queues.Queue.{Queue}
-use Rattle.mas_types.specs.declared.queues.Thing.{Thing}
-use Rattle.mas_types.specs.declared.queues.Thing.TheVariants.{Deck}
-use Rattle.mas_types.specs.Ids.{same_number}
-use Rattle.mas_types.specs.Queue.{has_number, job_at, line_count}
-use Rattle.queue_laws.proofs.Finds.{find-All, test_cases}
-use Rattle.lay_bytes.specs.declared.records.JobRec.{JobRec}
-use Rattle.lay_bytes.specs.Slots.{IfUsed, IsJobRec}
-use Rattle.ckpt_tables.specs.declared.tables.Tables.{Tables}
-use Rattle.ckpt_tables.specs.Shape.{HasSpelling}
-use Rattle.job_queue.specs.Jobs.{AreJobs, HasJob}
-use Rattle.spool_plant.specs.View.{View}
-use Rattle.track_groups.specs.Groups.{groups_where, is_things}
 use Rattle.track_groups.specs.Laws.{AreItsOwn}
-use Rattle.track_groups.specs.Places.{groups_of}
 use Rattle.mas_complex.specs.Spool.{IsGroupOf}
-use Rattle.member_decks.proofs.PageLemmas.{all_at}
-use Rattle.job_outcome.specs.declared.outcomes.Read.{Read}
 use Rattle.job_outcome.specs.declared.outcomes.Read.TheVariants as read
-use Rattle.member_work.specs.Steps.{IsTold}
 
 -- THE GROUPS OF A TEXT are of the configuration
 
@@ -90,8 +65,7 @@ read_by (suc (suc k)) lines n = read.Lost n
 
 pub read_back : (r : Read) → (let p = read_code r in read_by p.0 p.1.0 p.1.1) ≡ r
 read_back (read.Lines lines) = refl
-read_back (read.Gone group) = refl
-read_back (read.Lost volume) = refl
+read_back _ = refl
 
 abbrev pub coded_read : Coded Read
 coded_read = code_by (ℕ × (List (List ℕ) × ℕ)) (coded× coded_ℕ (coded× (coded_list (coded_list coded_ℕ)) coded_ℕ)) read_code (λ p. read_by p.0 p.1.0 p.1.1) read_back

@@ -1,40 +1,8 @@
 -- The parts of a job's end, one after another.
-use Rattle.std.proofs.Common.{◌≡◌, ◌∙◌, ℕ, zero, suc, ◌-◌, ◌≤◌, ◌==◌, Bool, true, false, if◌then◌else◌, List, [], ◌∷◌, ◌++◌, drop, take, Ok, All, inl, inr, refl, ap, subst, sym, arith}
-use Rattle.std.proofs.lemmas.Bool.Decides.{leb_tells}
-use Rattle.std.proofs.lemmas.List.{append-nil}
-use Rattle.std.proofs.lemmas.List.Elements.{All-nil}
-use Rattle.std.specs.List.{find, list_any}
-use Rattle.mas_types.specs.declared.ids.GroupNo.{GroupNo}
-use Rattle.mas_types.specs.declared.ids.JobNo.{JobNo}
-use Rattle.mas_types.specs.declared.ids.MemberId.{MemberId}
-use Rattle.mas_types.specs.declared.commands.Command.{Command}
+use Rattle.member_work.proofs.Names.{◌≡◌, ◌∙◌, ℕ, zero, suc, ◌-◌, ◌≤◌, ◌==◌, Bool, true, false, if◌then◌else◌, List, [], ◌∷◌, ◌++◌, drop, take, Ok, All, inl, inr, refl, ap, subst, sym, arith, leb_tells, append-nil, All-nil, find, list_any, GroupNo, JobNo, MemberId, Command, Reply, OutSpec, Batch, Entry, Queue, is_cancelled, outputs_at_end, free_count, groups_needed, has_number, is_of, job_at, View, test_cases, HasNeededGroups, ReadsTexts, IsOutSpec, IsSynced, Spools, kept_all, run, step, AreAll, all_entries, are_refused, closing_reply, given_in, take_counts, end_by, AreSpooled, AreWritten, IsKeeping, IsUnderWay, groups_for_end, taken_end, taking, batches_in}
 use Rattle.mas_types.specs.declared.commands.Command.TheVariants as command
-use Rattle.mas_types.specs.declared.commands.Reply.{Reply}
 use Rattle.mas_types.specs.declared.commands.Reply.TheVariants as reply
-use Rattle.mas_types.specs.declared.jobs.OutSpec.{OutSpec}
-use Rattle.mas_types.specs.declared.journals.Batch.{Batch}
-use Rattle.mas_types.specs.declared.journals.Entry.{Entry}
-use Rattle.mas_types.specs.declared.queues.Queue.{Queue}
-use Rattle.mas_types.specs.Commands.Life.{is_cancelled, outputs_at_end}
-use Rattle.mas_types.specs.Owners.{free_count, groups_needed}
-use Rattle.mas_types.specs.Queue.{has_number, is_of, job_at}
-use Rattle.spool_plant.specs.View.{View}
-use Rattle.queue_laws.proofs.Finds.{test_cases}
-use Rattle.spool_text.specs.Laws.{HasNeededGroups}
-use Rattle.spool_volumes.specs.Laws.{ReadsTexts}
-use Rattle.mas_types.specs.Fit.{IsOutSpec}
-use Rattle.mas_complex.specs.Texts.{IsSynced, Spools}
-use Rattle.mas_complex.specs.Journals.{kept_all}
-use Rattle.mas_complex.specs.Meaning.{run, step}
-use Rattle.member_decks.specs.Batches.{AreAll}
-use Rattle.member_decks.specs.Decks.{all_entries, are_refused, closing_reply, given_in}
-use Rattle.member_decks.proofs.TakeLemmas.{take_counts}
 use Rattle.job_outcome.specs.declared.units.UnitEnd.TheVariants as ends
-use Rattle.job_outcome.specs.Next.{end_by}
-use Rattle.member_work.specs.Spooled.{AreSpooled, AreWritten}
-use Rattle.member_work.specs.Steps.{IsKeeping, IsUnderWay}
-use Rattle.member_work.specs.Units.{groups_for_end, taken_end, taking}
-use Rattle.member_work.specs.Work.{batches_in}
 use Rattle.member_work.proofs.GivingLemmas.{all_refused, end_refused, end_some, next_refused, none_free, take_nil, take_not_done, taking_all}
 use Rattle.member_work.proofs.SpoolLemmas.{all_spooled}
 use Rattle.member_work.proofs.WrittenLemmas.{entries_batches, queue_behind}

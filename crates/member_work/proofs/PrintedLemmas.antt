@@ -1,56 +1,14 @@
 -- Printing the lines of an output, act by act.
-use Rattle.std.proofs.Common.{◌≡◌, inl, ℕ, ◌+◌, ◌-◌, ◌*◌, ◌≤◌, ◌<◌, min, true, false, List, ◌++◌, All, Option, None, Some, slice_get, refl, sym, ◌∙◌, ap, subst, arith}
-use Rattle.std.specs.Prelude.{find, Err, Ok, OnErr, Result}
-use Rattle.std.specs.Option.{option_map_or}
-use Rattle.mas_types.specs.declared.answers.Closing.{Closing}
+use Rattle.member_work.proofs.Names.{◌≡◌, inl, ℕ, ◌+◌, ◌-◌, ◌*◌, ◌≤◌, ◌<◌, min, true, false, List, ◌++◌, All, Option, None, Some, slice_get, refl, sym, ◌∙◌, ap, subst, arith, find, Err, Ok, OnErr, Result, option_map_or, Closing, Ckpt1, Ckpt2, GroupNo, JobNo, MemberId, OutNo, Output, Text, Whole, Gone, Batch, Config, Queue, Setting, OutputThing, IsSetting, is_somebody, printer_lines_most, has_key, line_count, output_at, printing_at, prints_at, total, OutRec, IfUsed, IsOutRec, Tables, HasSpelling, Tell, test_cases, Disk as DiskPart, Printer, View, Acts, Goes, Prints, groups_of, MayPrint, limit_of, entries_in, kept_all, run, NodeNo, OnVolumes, tells_some, all_at, Read, gone_with, IsBeside, IsChunkOf, IsLinesPrinted, IsToldOutput, MayPrintTo, HasPrinterFailed, IsReadAs, IsWhole, printed_end}
 use Rattle.mas_types.specs.declared.answers.Closing.TheVariants as closing
-use Rattle.mas_types.specs.declared.ids.Dev.TheVariants.{Ckpt1, Ckpt2}
-use Rattle.mas_types.specs.declared.ids.GroupNo.{GroupNo}
-use Rattle.mas_types.specs.declared.ids.JobNo.{JobNo}
-use Rattle.mas_types.specs.declared.ids.MemberId.{MemberId}
-use Rattle.mas_types.specs.declared.ids.OutNo.{OutNo}
-use Rattle.mas_types.specs.declared.jobs.Output.{Output}
-use Rattle.mas_types.specs.declared.jobs.Text.{Text}
-use Rattle.mas_types.specs.declared.jobs.Text.TheVariants.{Whole, Gone}
-use Rattle.mas_types.specs.declared.journals.Batch.{Batch}
-use Rattle.mas_types.specs.declared.queues.Config.{Config}
-use Rattle.mas_types.specs.declared.queues.Queue.{Queue}
-use Rattle.mas_types.specs.declared.queues.Setting.{Setting}
-use Rattle.mas_types.specs.declared.queues.Thing.TheVariants.{Output as OutputThing}
-use Rattle.mas_types.specs.Fit.{IsSetting}
-use Rattle.mas_types.specs.Ids.{is_somebody}
-use Rattle.mas_types.specs.Limits.{printer_lines_most}
 use Rattle.mas_types.specs.Printed.{printed_line}
-use Rattle.mas_types.specs.Queue.{has_key, line_count, output_at, printing_at, prints_at, total}
-use Rattle.lay_bytes.specs.declared.records.OutRec.{OutRec}
-use Rattle.lay_bytes.specs.Slots.{IfUsed, IsOutRec}
-use Rattle.ckpt_tables.specs.declared.tables.Tables.{Tables}
-use Rattle.ckpt_tables.specs.Shape.{HasSpelling}
 use Rattle.output_queue.specs.Outputs.{AreOutputs, HasOutput}
-use Rattle.queue_telling.specs.Telling.{Tell}
-use Rattle.queue_laws.proofs.Finds.{test_cases}
 use Rattle.spool_plant.specs.declared.plant.Act.{Act}
 use Rattle.spool_plant.specs.declared.plant.Act.TheVariants.{Failed}
-use Rattle.spool_plant.specs.declared.plant.Part.TheVariants.{Disk as DiskPart, Printer}
-use Rattle.spool_plant.specs.View.{View}
-use Rattle.spool_plant.specs.Acts.{Acts, Goes, Prints}
 use Rattle.ckpt_copy.specs.Moments.{goes_none, goes_on}
-use Rattle.track_groups.specs.Places.{groups_of}
-use Rattle.paper_laws.specs.Next.{MayPrint, limit_of}
 use Rattle.paper_laws.specs.Paper.{busy_in}
 use Rattle.paper_laws.proofs.Bools.{find_passes, own_key, same_key_is}
-use Rattle.mas_complex.specs.Journals.{entries_in, kept_all}
-use Rattle.mas_complex.specs.Meaning.{run}
-use Rattle.member_node.specs.declared.member.NodeNo.{NodeNo}
-use Rattle.member_decks.specs.Spooling.{OnVolumes}
-use Rattle.member_decks.proofs.OpenLemmas.{tells_some}
-use Rattle.member_decks.proofs.PageLemmas.{all_at}
-use Rattle.job_outcome.specs.declared.outcomes.Read.{Read}
 use Rattle.job_outcome.specs.declared.outcomes.Read.TheVariants as read
-use Rattle.member_work.specs.Gone.{gone_with}
-use Rattle.member_work.specs.Printing.{IsBeside, IsChunkOf, IsLinesPrinted, IsToldOutput, MayPrintTo}
-use Rattle.member_work.specs.Rounds.{HasPrinterFailed, IsReadAs, IsWhole}
-use Rattle.member_work.specs.Units.{printed_end}
 
 -- ACTS BESIDE THE COPIES
 

@@ -1,15 +1,6 @@
 -- Units one after another: the batches of a step and its line, by the units that are played so far.
-use Rattle.std.proofs.Common.{ℕ, List, Option, Some, None, arith}
-use Rattle.mas_types.specs.declared.ids.Dev.TheVariants.{Spool}
-use Rattle.mas_types.specs.declared.ids.GroupNo.{GroupNo}
-use Rattle.mas_types.specs.declared.ids.MemberId.{MemberId}
-use Rattle.mas_types.specs.declared.jobs.Text.{Text}
-use Rattle.spool_plant.specs.declared.plant.Part.TheVariants.{Disk as DiskPart}
-use Rattle.spool_plant.specs.View.{View}
-use Rattle.spool_plant.specs.Acts.{Goes}
-use Rattle.job_outcome.specs.declared.outcomes.Read.{Read}
+use Rattle.member_work.proofs.Names.{ℕ, List, Option, Some, None, arith, Spool, GroupNo, MemberId, Text, Disk as DiskPart, View, Goes, Read, HasFailed, IsReadAs}
 use Rattle.job_outcome.specs.declared.outcomes.Read.TheVariants as read
-use Rattle.member_work.specs.Rounds.{HasFailed, IsReadAs}
 
 -- OVER A WIDER STRETCH
 

@@ -1,19 +1,9 @@
 -- The line with which a work step closes, with its last batch or without one.
-use Rattle.std.proofs.Common.{◌≡◌, inr, ℕ, Bool, List, [], Option, Result, Ok, Err, append-nil, refl, sym, ◌∙◌}
-use Rattle.mas_types.specs.declared.ids.MemberId.{MemberId}
-use Rattle.mas_types.specs.declared.ids.Page.{Page}
-use Rattle.mas_types.specs.declared.journals.Batch.{Batch}
-use Rattle.spool_plant.specs.View.{View}
+use Rattle.member_work.proofs.Names.{◌≡◌, inr, ℕ, Bool, List, [], Option, Result, Ok, Err, append-nil, refl, sym, ◌∙◌, MemberId, Page, Batch, View, NodeNo, BothLost, Halted, ConsoleFault, NoMemory, console_now, StepCauses, StepTells, HasAll, IsClosing, WorkLeaves}
 use Rattle.ckpt_places.specs.declared.places.Place.{Place}
-use Rattle.member_node.specs.declared.member.NodeNo.{NodeNo}
-use Rattle.member_node.specs.declared.member.NodeNo.TheVariants.{BothLost, Halted, ConsoleFault, NoMemory}
 use Rattle.member_node.specs.Copies.{RestsAt}
-use Rattle.member_node.specs.Calls.{console_now}
 use Rattle.member_steps.specs.Saying.{Adds, HaveSaid, SayCauses}
-use Rattle.member_steps.specs.Steps.{StepCauses, StepTells}
 use Rattle.member_steps.proofs.SayLemmas.{console_course}
-use Rattle.member_decks.specs.Batches.{HasAll}
-use Rattle.member_work.specs.Steps.{IsClosing, WorkLeaves}
 
 -- NOTHING IS UNWRITTEN, and the lines are said
 

@@ -1,32 +1,10 @@
 -- The outputs of a job, one after another, in a member's groups.
-use Rattle.std.proofs.Common.{◌≡◌, ◌≢◌, ◌||◌, ℕ, zero, suc, ◌+◌, ◌≤◌, ◌<◌, ◌==◌, Bool, true, false, List, [], ◌∷◌, ◌++◌, length, take, drop, All, Some, Result, Ok, Err, slice_get, refl, sym, ◌∙◌, ap, subst, arith}
-use Rattle.std.proofs.lemmas.List.{length-drop, length-take-le, take-append-drop}
-use Rattle.std.proofs.lemmas.List.Elements.{All-drop, All-head, All-tail, All-take}
+use Rattle.member_work.proofs.Names.{◌≡◌, ◌≢◌, ◌||◌, ℕ, zero, suc, ◌+◌, ◌≤◌, ◌<◌, ◌==◌, Bool, true, false, List, [], ◌∷◌, ◌++◌, length, take, drop, All, Some, Result, Ok, Err, slice_get, refl, sym, ◌∙◌, ap, subst, arith, length-drop, length-take-le, take-append-drop, All-drop, All-head, All-tail, All-take, GroupNo, OutSpec, groups_of_outputs, IsOutSpec, groups_needed, Disk as DiskPart, Spool, View, Goes, HasNeededGroups, ReadsTexts, volume_of, IsSynced, Spools, sum-groups, none_lost, SparesBut, sparing_then, AreQuiet, Rise, SpoolCauses, StandBelow, lies_there, page_in, text_there, AreSpooled, AreWritten}
 use Rattle.std.proofs.lemmas.List.Folds.{list_any-append}
 use Rattle.std.proofs.lemmas.Option.{slice_get-get_or}
-use Rattle.mas_types.specs.declared.ids.GroupNo.{GroupNo}
-use Rattle.mas_types.specs.declared.jobs.OutSpec.{OutSpec}
-use Rattle.mas_types.specs.Commands.Life.{groups_of_outputs}
-use Rattle.mas_types.specs.Fit.{IsOutSpec}
-use Rattle.mas_types.specs.Owners.{groups_needed}
-use Rattle.spool_plant.specs.declared.plant.Part.TheVariants.{Disk as DiskPart}
-use Rattle.mas_types.specs.declared.ids.Dev.TheVariants.{Spool}
-use Rattle.spool_plant.specs.View.{View}
-use Rattle.spool_plant.specs.Acts.{Goes}
-use Rattle.spool_text.specs.Laws.{HasNeededGroups}
 use Rattle.spool_text.specs.Texts.{packed}
-use Rattle.spool_volumes.specs.Laws.{ReadsTexts}
-use Rattle.spool_volumes.specs.Volumes.{volume_of}
-use Rattle.mas_complex.specs.Texts.{IsSynced, Spools}
-use Rattle.queue_effect.proofs.GroupLemmas.{sum-groups}
 use Rattle.member_decks.specs.declared.spooling.SpoolError.{SpoolError}
 use Rattle.member_decks.specs.declared.spooling.SpoolError.TheVariants.{Lost, Halted as Stopped}
-use Rattle.member_node.specs.Calls.{none_lost}
-use Rattle.member_node.specs.Spares.{SparesBut}
-use Rattle.member_node.proofs.SpareLemmas.{sparing_then}
-use Rattle.member_decks.specs.Spooling.{AreQuiet, Rise, SpoolCauses, StandBelow, lies_there, page_in}
-use Rattle.member_decks.proofs.PageLemmas.{text_there}
-use Rattle.member_work.specs.Spooled.{AreSpooled, AreWritten}
 
 -- SHARES OF GROUPS
 

@@ -1,33 +1,9 @@
 -- A member at work: after what it keeps, reads or gives.
-use Rattle.std.proofs.Common.{◌≡◌, ℕ, ◌+◌, ◌≤◌, Bool, false, List, [], ◌∷◌, length, All, Option, None, Result, Ok, Err, OnOk, refl, sym, ◌∙◌, ap, subst, arith}
-use Rattle.std.proofs.lemmas.List.Elements.{All-nil}
-use Rattle.mas_types.specs.declared.ids.MemberId.{MemberId}
-use Rattle.mas_types.specs.declared.ids.Page.{Page}
-use Rattle.mas_types.specs.declared.journals.Batch.{Batch}
-use Rattle.mas_types.specs.declared.journals.Entry.{Entry}
-use Rattle.mas_types.specs.declared.queues.Queue.{Queue}
-use Rattle.spool_plant.specs.View.{View}
-use Rattle.spool_plant.specs.Acts.{Goes}
-use Rattle.queue_telling.specs.Telling.{Tell}
+use Rattle.member_work.proofs.Names.{◌≡◌, ℕ, ◌+◌, ◌≤◌, Bool, false, List, [], ◌∷◌, length, All, Option, None, refl, sym, ◌∙◌, ap, subst, arith, All-nil, MemberId, Page, Batch, Entry, Queue, View, Goes, Tell, AreSettled, begun, kept_all, run, MayBegin, none_begins, Checkpoint, page_count, CanDraw, console_now, AreLow, orders_after, IsBetween, between_done, can_draw, untold_by, AreRoomy, AreOf, IsAtWork, IsStepUntold, batches_in}
 use Rattle.mas_complex.specs.Crash.{setting}
-use Rattle.mas_complex.specs.Journals.{AreSettled, begun, kept_all}
-use Rattle.mas_complex.specs.Meaning.{run}
-use Rattle.mas_complex.specs.Paper.{MayBegin}
-use Rattle.mas_complex.proofs.Allowed.{none_begins}
-use Rattle.member_node.specs.declared.checkpoint.Checkpoint.{Checkpoint}
-use Rattle.ckpt_tables.specs.Shape.{page_count}
-use Rattle.member_node.specs.Batches.{CanDraw}
-use Rattle.member_node.specs.Calls.{console_now}
 use Rattle.member_node.specs.Drawn.{AreDrawn}
-use Rattle.member_node.specs.Reads.{AreLow, orders_after}
-use Rattle.member_steps.specs.Steps.{IsBetween}
 use Rattle.member_steps.proofs.ReadLemmas.{untold_later}
-use Rattle.member_steps.proofs.StepLemmas.{between_done, can_draw, untold_by}
 pub use Rattle.member_steps.proofs.ReadLemmas.{between_by}
-use Rattle.spool_volumes.specs.Volumes.{AreRoomy}
-use Rattle.member_decks.specs.Steps.{AreOf}
-use Rattle.member_work.specs.Steps.{IsAtWork, IsStepUntold}
-use Rattle.member_work.specs.Work.{batches_in}
 
 -- FROM A MEMBER BETWEEN COMMANDS, with nothing unwritten
 
@@ -82,12 +58,6 @@ pub untold_then : (reads : List ℕ → Option (List ℕ)) (base base' : Queue) 
 untold_then reads base base' since since' m m' at v w one two three le goes same untold es of =
     untold_by reads base base' since since' w w es es one two refl refl
     (untold_later reads base since v w es le goes same (untold es (subst (λ (i : MemberId). AreOf i at es) three of)))
-
--- ANSWERS
-
-pub on_two : {T E A B X : Type 0} (r : Result T E) → (A → B → X) → OnOk r A → OnOk r B → OnOk r X
-on_two (Ok done) f a b = f a b
-on_two (Err why) f a b = tt
 
 -- WHAT IS UNWRITTEN
 

@@ -1,46 +1,20 @@
 -- The job that a member goes on with is in Convert or Execute, and has no output; and the output that it prints.
-use Rattle.std.proofs.Common.{◌≡◌, ◌⊎◌, inl, inr, ⊎_elim, ◌&&◌, ◌||◌, nat_lt, if◌then◌else◌, All, ℕ, Bool, true, false, List, [], ◌∷◌, map, Option, Some, None, refl, sym, ap, subst, ◌∙◌, arith}
-use Rattle.std.specs.Prelude.{unwrap_or}
-use Rattle.std.specs.Option.{option_map, option_map_or}
-use Rattle.std.specs.List.{find, list_any}
-use Rattle.std.proofs.lemmas.Bool.Decides.{nat_tests}
-use Rattle.std.proofs.lemmas.List.Elements.{All-head, All-tail}
-use Rattle.mas_types.specs.declared.ids.JobNo.{JobNo}
-use Rattle.mas_types.specs.declared.ids.MemberId.{MemberId}
-use Rattle.mas_types.specs.declared.ids.OutNo.{OutNo}
-use Rattle.mas_types.specs.declared.jobs.Job.{Job}
-use Rattle.mas_types.specs.declared.jobs.Output.{Output}
+use Rattle.member_work.proofs.Names.{◌≡◌, ◌⊎◌, inl, inr, ⊎_elim, ◌&&◌, ◌||◌, nat_lt, if◌then◌else◌, All, ℕ, Bool, true, false, List, [], ◌∷◌, map, Option, Some, None, refl, sym, ap, subst, ◌∙◌, arith, unwrap_or, option_map, option_map_or, find, list_any, nat_tests, All-head, All-tail, JobNo, MemberId, OutNo, Job, Output, Queue, runs, AreDistinct, IsIndex, is_somebody, same_member, same_number, first_in, has_output, in_convert, in_execute, in_output, in_purge, is_busy_at, is_of, job_at, output_at, printing_at, prints_at, total, IsSound, IsSoundOutput, is_there, may_have_outputs, same_key, find-All, test_cases, JobRec, OutRec, IsOutRec, Tables, HasSpelling, Tell, TellSound, ToldAreTheirOwn, IsPrinting, IsUnderWay}
 use Rattle.mas_types.specs.declared.jobs.Phase.{Phase}
 use Rattle.mas_types.specs.declared.jobs.Phase.TheVariants as phase
-use Rattle.mas_types.specs.declared.queues.Queue.{Queue}
 use Rattle.mas_types.specs.declared.units.Unit as units
 use Rattle.mas_types.specs.declared.units.Unit.TheVariants as unit
-use Rattle.mas_types.specs.Commands.Life.{runs}
-use Rattle.mas_types.specs.Fit.{AreDistinct, IsIndex}
-use Rattle.mas_types.specs.Ids.{is_somebody, same_member, same_number}
 use Rattle.mas_types.specs.Lists.{first_some}
-use Rattle.mas_types.specs.Queue.{first_in, has_output, in_convert, in_execute, in_output, in_purge, is_busy_at, is_of, job_at, output_at, printing_at, prints_at, total}
 use Rattle.mas_types.specs.Selection.{for_convert, for_execute, for_printer}
-use Rattle.mas_types.specs.Sound.{IsSound, IsSoundOutput, is_there, may_have_outputs, same_key}
 use Rattle.mas_types.specs.Units.{print_unit, unit_if, unit_of, working_at}
-use Rattle.queue_laws.proofs.Finds.{find-All, test_cases}
 use Rattle.queue_laws.proofs.Others.{IsFoundIn, IsKeyFoundIn, found_itself, key_found_itself}
 use Rattle.queue_laws.proofs.SoundEnter.{All-none}
-use Rattle.lay_bytes.specs.declared.records.JobRec.{JobRec}
-use Rattle.lay_bytes.specs.declared.records.OutRec.{OutRec}
-use Rattle.lay_bytes.specs.Slots.{IsOutRec}
-use Rattle.ckpt_tables.specs.declared.tables.Tables.{Tables}
 use Rattle.lay_bytes.specs.Used.{used}
-use Rattle.ckpt_tables.specs.Shape.{HasSpelling}
 use Rattle.ckpt_pages.proofs.SlotLists.{all_used}
 use Rattle.queue_slots.specs.Listed.{listed}
 use Rattle.queue_slots.proofs.Rising.{All-in_order}
 use Rattle.job_queue.specs.Jobs as jobs
 use Rattle.output_queue.specs.Outputs as outputs
-use Rattle.queue_telling.specs.Telling.{Tell, TellSound}
-use Rattle.queue_texts.specs.Leaving.{ToldAreTheirOwn}
-use Rattle.member_work.specs.Printing.{IsPrinting}
-use Rattle.member_work.specs.Steps.{IsUnderWay}
 
 -- WHICH UNIT IS NEXT
 
@@ -130,29 +104,17 @@ at_work Q m in_phase j distinct is =
 runs_execute : (p : Phase) → in_execute p ≡ true → runs p ≡ true
 runs_execute phase.Execute e = refl
 runs_execute phase.Convert e = refl
-runs_execute phase.Input e = absurd (cc)
-runs_execute phase.Output e = absurd (cc)
-runs_execute phase.Hardcopy e = absurd (cc)
-runs_execute phase.Purge e = absurd (cc)
-runs_execute phase.Xmit e = absurd (cc)
+runs_execute _ e = absurd (cc)
 
 runs_convert : (p : Phase) → in_convert p ≡ true → runs p ≡ true
 runs_convert phase.Convert e = refl
 runs_convert phase.Execute e = refl
-runs_convert phase.Input e = absurd (cc)
-runs_convert phase.Output e = absurd (cc)
-runs_convert phase.Hardcopy e = absurd (cc)
-runs_convert phase.Purge e = absurd (cc)
-runs_convert phase.Xmit e = absurd (cc)
+runs_convert _ e = absurd (cc)
 
 no_outputs : (p : Phase) → runs p ≡ true → may_have_outputs p ≡ false
 no_outputs phase.Convert h = refl
 no_outputs phase.Execute h = refl
-no_outputs phase.Input h = absurd (cc)
-no_outputs phase.Output h = absurd (cc)
-no_outputs phase.Hardcopy h = absurd (cc)
-no_outputs phase.Purge h = absurd (cc)
-no_outputs phase.Xmit h = absurd (cc)
+no_outputs _ h = absurd (cc)
 
 -- QUEUES THAT THE SAME TABLES TELL
 

@@ -1,16 +1,6 @@
 -- What is written of the parts of units, whatever they are.
-use Rattle.std.proofs.Common.{◌≡◌, ℕ, List, [], ◌∷◌, ◌++◌, append_assoc, refl, sym, ◌∙◌, ap}
-use Rattle.mas_types.specs.declared.ids.MemberId.{MemberId}
-use Rattle.mas_types.specs.declared.journals.Batch.{Batch}
-use Rattle.mas_types.specs.declared.journals.Entry.{Entry}
-use Rattle.mas_types.specs.declared.queues.Queue.{Queue}
-use Rattle.mas_complex.specs.Journals.{kept_all}
-use Rattle.mas_complex.specs.Meaning.{run}
+use Rattle.member_work.proofs.Names.{◌≡◌, ℕ, List, [], ◌∷◌, ◌++◌, append_assoc, refl, sym, ◌∙◌, ap, MemberId, Batch, Entry, Queue, kept_all, run, run_append, AreAll, all_entries, batches_in}
 use Rattle.mas_complex.proofs.Batches.{kept_all_append}
-use Rattle.member_node.proofs.WriteLemmas.{run_append}
-use Rattle.member_decks.specs.Batches.{AreAll}
-use Rattle.member_decks.specs.Decks.{all_entries}
-use Rattle.member_work.specs.Work.{batches_in}
 
 -- THE ENTRIES IN ORDER
 

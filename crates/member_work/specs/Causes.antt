@@ -1,13 +1,9 @@
 -- Why a step of work closes as it does, by what each plant tells: which of its parts are lost, and how often they
 -- failed.
 use Rattle.std.specs.Prelude.{Some}
-use Rattle.mas_types.specs.declared.ids.MemberId.{MemberId}
-use Rattle.mas_types.specs.declared.answers.Closing.{Closing}
+use Rattle.member_work.specs.Names.{MemberId, Closing, View, IsFoundLost, UnitEnd}
 use Rattle.mas_types.specs.declared.answers.Closing.TheVariants as closing
 use Rattle.mas_types.specs.declared.commands.Reply.TheVariants as reply
-use Rattle.spool_plant.specs.View.{View}
-use Rattle.member_decks.specs.Steps.{IsFoundLost}
-use Rattle.job_outcome.specs.declared.units.UnitEnd.{UnitEnd}
 use Rattle.job_outcome.specs.declared.units.UnitEnd.TheVariants as ends
 use Rattle.member_work.specs.Rounds.{HasPrinterFailed}
 
@@ -21,11 +17,6 @@ MayRefuse by closing.PrinterLost old new = HasPrinterFailed by old new
 MayRefuse by _ old new = ⊥
 
 -- WITHIN A STEP
-
--- how a unit may end
-abbrev pub MayEndUnit : MemberId → UnitEnd → View → View → Type 0
-MayEndUnit by (ends.Refused end) old new = MayRefuse by end old new
-MayEndUnit by _ old new = Unit {0}
 
 -- a unit ends as its last command was answered: it is done, or refused with that reply
 abbrev pub IsAnswered : UnitEnd → Type 0

@@ -1,21 +1,13 @@
 -- Worked examples: what a WORK step gives, and how it closes.
 use Rattle.std.specs.Prelude.{◌≡◌, ℕ, true, false, List, [], ◌∷◌, ◌++◌, Some, None, codes}
-use Rattle.mas_types.specs.declared.commands.Command.{Command}
+use Rattle.member_work.specs.Names.{Command, OutNo, OutSpec, Gone, Config, Queue, change_job, change_output, change_setting, run, all_entries}
 use Rattle.mas_types.specs.declared.commands.Command.TheVariants as command
 use Rattle.mas_types.specs.declared.commands.What.TheVariants as what
-use Rattle.mas_types.specs.declared.ids.OutNo.{OutNo}
 use Rattle.mas_types.specs.declared.jobs.JobFields.{JobFields}
-use Rattle.mas_types.specs.declared.jobs.OutSpec.{OutSpec}
-use Rattle.mas_types.specs.declared.jobs.Text.TheVariants.{Gone}
-use Rattle.mas_types.specs.declared.queues.Config.{Config}
-use Rattle.mas_types.specs.declared.queues.Queue.{Queue}
-use Rattle.mas_types.specs.Queue.{change_job, change_output, change_setting}
 use Rattle.mas_types.specs.Shown.{shown}
 use Rattle.mas_types.specs.Starts.{default_config}
 use Rattle.queue_laws.specs.Examples.Small.{member, job, class, name, empty, queue_after, fields_of, deck_of, decks}
 use Rattle.queue_laws.specs.Examples.Work.{may_restart, may_not_restart}
-use Rattle.mas_complex.specs.Meaning.{run}
-use Rattle.member_decks.specs.Decks.{all_entries}
 use Rattle.member_decks.specs.Examples.{commands_of}
 use Rattle.job_outcome.specs.declared.outcomes.Read.TheVariants as read
 use Rattle.member_work.specs.Looks.{Look, calm}

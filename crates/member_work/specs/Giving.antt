@@ -1,25 +1,9 @@
 -- Commands of a unit on a member's tables.
 use Rattle.std.specs.Prelude.{◌≡◌, ℕ, ◌+◌, ◌*◌, ◌≤◌, Bool, false, List, ◌++◌, length, take, Result}
-use Rattle.mas_types.specs.declared.ids.JobNo.{JobNo}
-use Rattle.mas_types.specs.declared.ids.MemberId.{MemberId}
-use Rattle.mas_types.specs.declared.commands.Command.{Command}
-use Rattle.mas_types.specs.declared.jobs.OutSpec.{OutSpec}
-use Rattle.mas_types.specs.declared.journals.Entry.{Entry}
-use Rattle.mas_types.specs.declared.queues.Queue.{Queue}
-use Rattle.mas_types.specs.Commands.Life.{outputs_at_end}
-use Rattle.mas_types.specs.Queue.{job_at}
+use Rattle.member_work.specs.Names.{JobNo, MemberId, Command, OutSpec, Entry, Queue, outputs_at_end, job_at, Tables, HasSpelling, Tell, TellSound, AreFit, run, HasTexts, Spools, HasDone, given_in, AreOf}
 use Rattle.track_groups.specs.Groups.{held_by}
-use Rattle.ckpt_tables.specs.declared.tables.Tables.{Tables}
-use Rattle.ckpt_tables.specs.Shape.{HasSpelling}
-use Rattle.queue_telling.specs.Telling.{Tell, TellSound}
-use Rattle.queue_effect.specs.Standing.{AreFit}
 use Rattle.queue_texts.specs.Leaving.{brings_text}
-use Rattle.mas_complex.specs.Meaning.{run}
-use Rattle.mas_complex.specs.Texts.{HasTexts, Spools}
 use Rattle.member_node.specs.declared.member.Member.{Member}
-use Rattle.member_node.specs.Batches.{HasDone}
-use Rattle.member_decks.specs.Decks.{given_in}
-use Rattle.member_decks.specs.Steps.{AreOf}
 use Rattle.member_decks.specs.Taking.{IsPart}
 use Rattle.member_work.specs.Spooled.{AreSpooled}
 use Rattle.member_work.specs.Steps.{IsUnderWay}

@@ -1,21 +1,11 @@
 -- Whether the text of a job, or of an output, is gone, by the queue with which a run began and the entries that are
 -- kept since.
 use Rattle.std.specs.Prelude.{Bool, false, if◌then◌else◌, List, Option, Some, None}
-use Rattle.std.specs.List.{list_any}
 use Rattle.std.specs.Option.{option_map_or}
-use Rattle.mas_types.specs.declared.ids.GroupNo.{GroupNo}
-use Rattle.mas_types.specs.declared.ids.JobNo.{JobNo}
-use Rattle.mas_types.specs.declared.ids.OutNo.{OutNo}
-use Rattle.mas_types.specs.declared.commands.Command.{Command}
+use Rattle.member_work.specs.Names.{GroupNo, JobNo, OutNo, Command, Reply, Text, Whole, Gone, Entry, Queue, same_number, job_at, output_at}
+use Rattle.std.specs.List.{list_any}
 use Rattle.mas_types.specs.declared.commands.Command.TheVariants as command
-use Rattle.mas_types.specs.declared.commands.Reply.{Reply}
 use Rattle.mas_types.specs.declared.commands.Reply.TheVariants as reply
-use Rattle.mas_types.specs.declared.jobs.Text.{Text}
-use Rattle.mas_types.specs.declared.jobs.Text.TheVariants.{Whole, Gone}
-use Rattle.mas_types.specs.declared.journals.Entry.{Entry}
-use Rattle.mas_types.specs.declared.queues.Queue.{Queue}
-use Rattle.mas_types.specs.Ids.{same_number}
-use Rattle.mas_types.specs.Queue.{job_at, output_at}
 
 -- the group with which a text is gone
 abbrev pub gone_with : Text → Option GroupNo
@@ -37,14 +27,14 @@ brings_job n (command.Enter job text) answer = names_job n answer
 brings_job n (command.Got line number job text) answer = names_job n answer
 brings_job n _ answer = false
 
--- one of the entries brought a job of this number
-abbrev pub is_brought : JobNo → List Entry → Bool
-is_brought n es = list_any (λ e. brings_job n e.command e.reply) es
+-- one of the entries did that
+abbrev pub is_brought : (Command → Reply → Bool) → List Entry → Bool
+is_brought brings es = list_any (λ e. brings e.command e.reply) es
 
 -- the group with which the text is gone of a job that was there at the beginning; None where one of its number was
 -- brought since
 abbrev pub gone_since : Queue → List Entry → JobNo → Option GroupNo
-gone_since base es n = if is_brought n es then None else gone_in base n
+gone_since base es n = if is_brought (brings_job n) es then None else gone_in base n
 
 -- AN OUTPUT'S TEXT
 
@@ -57,11 +47,7 @@ abbrev pub brings_outputs : JobNo → Command → Reply → Bool
 brings_outputs n (command.Ended job specs) (reply.Count count) = same_number job n
 brings_outputs n _ answer = false
 
--- one of the entries brought outputs of this job
-abbrev pub are_outputs_brought : JobNo → List Entry → Bool
-are_outputs_brought n es = list_any (λ e. brings_outputs n e.command e.reply) es
-
 -- the group with which the text is gone of an output that was there at the beginning; None where outputs of its job
 -- were brought since
 abbrev pub gone_output_since : Queue → List Entry → JobNo → OutNo → Option GroupNo
-gone_output_since base es n i = if are_outputs_brought n es then None else gone_output_in base n i
+gone_output_since base es n i = if is_brought (brings_outputs n) es then None else gone_output_in base n i

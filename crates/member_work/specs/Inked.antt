@@ -1,23 +1,14 @@
 -- What stands on paper of the lines of an output that were to be printed, and how many of them are counted.
 use Rattle.std.specs.Prelude.{◌≡◌, ◌≢◌, ◌⊎◌, ℕ, zero, suc, ◌+◌, ◌-◌, ◌≤◌, ◌<◌, Bool, true, false, List, [], ◌∷◌, ◌++◌, length, map, take, Option, None, Some, Result, Ok, Err}
-use Rattle.mas_types.specs.declared.answers.Closing.{Closing}
+use Rattle.member_work.specs.Names.{Closing, JobNo, MemberId, OutNo, Line, paper_now, counts_of, Parts, parts_of, NodeNo, BothLost, Halted, ConsoleFault, NoMemory, Read}
 use Rattle.mas_types.specs.declared.answers.Closing.TheVariants.{PrinterLost}
-use Rattle.mas_types.specs.declared.ids.JobNo.{JobNo}
-use Rattle.mas_types.specs.declared.ids.MemberId.{MemberId}
-use Rattle.mas_types.specs.declared.ids.OutNo.{OutNo}
 use Rattle.mas_types.specs.Printed.{printed_line}
-use Rattle.spool_plant.specs.View.{Line, paper_now}
 use Rattle.spool_plant.specs.declared.plant.Plant.{Ghosts as PlantGhosts}
 use Rattle.ckpt_copy.specs.declared.copying.Copying.{Ghosts as CopyGhosts}
 use Rattle.ckpt_form.specs.declared.steady.Steady.{Ghosts as SteadyGhosts}
 use Rattle.mas_complex.specs.declared.complex.Complex.{Complex}
 use Rattle.mas_complex.specs.Headline.{whole}
-use Rattle.mas_complex.specs.Paper.{counts_of}
-use Rattle.mas_complex.specs.Parts.{Parts, parts_of}
-use Rattle.member_node.specs.declared.member.NodeNo.{NodeNo}
-use Rattle.member_node.specs.declared.member.NodeNo.TheVariants.{BothLost, Halted, ConsoleFault, NoMemory}
 use Rattle.member_steps.specs.Saying.{torn}
-use Rattle.job_outcome.specs.declared.outcomes.Read.{Read}
 use Rattle.job_outcome.specs.declared.outcomes.Read.TheVariants as read
 
 -- LINES OF AN OUTPUT

@@ -11,4 +11,4 @@ pub mod Examples
 pub mod Gone
 pub mod Spooled
 pub mod Giving
-pub mod Ending
+pub mod Names

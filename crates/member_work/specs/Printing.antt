@@ -1,35 +1,10 @@
 -- A unit that prints the next lines of an output, part by part.
-use Rattle.std.specs.Prelude.{◌≡◌, ℕ, ◌+◌, ◌*◌, ◌≤◌, ◌<◌, Bool, true, List, ◌++◌, Option, Some, Result, Ok, Err}
-use Rattle.mas_types.specs.declared.answers.Closing.{Closing}
-use Rattle.mas_types.specs.declared.ids.Dev.{Dev}
-use Rattle.mas_types.specs.declared.ids.Dev.TheVariants.{Ckpt1, Ckpt2}
-use Rattle.mas_types.specs.declared.ids.JobNo.{JobNo}
-use Rattle.mas_types.specs.declared.ids.MemberId.{MemberId}
-use Rattle.mas_types.specs.declared.ids.OutNo.{OutNo}
-use Rattle.mas_types.specs.declared.jobs.Output.{Output}
-use Rattle.mas_types.specs.declared.jobs.Text.TheVariants.{Whole}
-use Rattle.mas_types.specs.declared.journals.Batch.{Batch}
-use Rattle.mas_types.specs.declared.journals.Entry.{Entry}
-use Rattle.mas_types.specs.declared.queues.Queue.{Queue}
-use Rattle.mas_types.specs.Fit.{IsIndex}
-use Rattle.mas_types.specs.Limits.{printer_lines_most, text_lines_most}
-use Rattle.mas_types.specs.Queue.{line_count, output_at, printing_at, total}
+use Rattle.std.specs.Prelude.{◌≡◌, ℕ, ◌+◌, ◌*◌, ◌≤◌, ◌<◌, Bool, true, if◌then◌else◌, List, ◌++◌, Option, Some, Result}
+use Rattle.member_work.specs.Names.{Closing, Dev, Ckpt1, Ckpt2, JobNo, MemberId, OutNo, Output, Whole, Batch, Queue, IsIndex, printer_lines_most, text_lines_most, line_count, output_at, printing_at, total, Tables, Tell, Disk as DiskPart, View, disk_now, Goes, limit_of, entries_in, kept_all, run, Parts, NodeNo, stopped_in, console_now, Read}
 use Rattle.lay_bytes.specs.declared.records.OutRec.{OutRec}
-use Rattle.ckpt_tables.specs.declared.tables.Tables.{Tables}
-use Rattle.queue_telling.specs.Telling.{Tell}
-use Rattle.spool_plant.specs.declared.plant.Part.TheVariants.{Disk as DiskPart}
-use Rattle.spool_plant.specs.View.{View, disk_now}
-use Rattle.spool_plant.specs.Acts.{Goes}
-use Rattle.paper_laws.specs.Next.{limit_of}
 use Rattle.paper_laws.specs.Paper.{busy_in}
-use Rattle.mas_complex.specs.Journals.{entries_in, kept_all}
 use Rattle.mas_complex.specs.Locking.{reserved_after_stop}
-use Rattle.mas_complex.specs.Meaning.{run}
-use Rattle.member_node.specs.declared.member.NodeNo.{NodeNo}
-use Rattle.member_node.specs.declared.member.NodeNo.TheVariants.{BothLost, Halted, ConsoleFault, NoMemory}
-use Rattle.lock_cycle.specs.Books.{Book, after_stop}
-use Rattle.member_node.specs.Calls.{console_now}
-use Rattle.job_outcome.specs.declared.outcomes.Read.{Read}
+use Rattle.lock_cycle.specs.Books.{after_stop}
 use Rattle.member_work.specs.Rounds.{HasPrinterFailed}
 use Rattle.member_work.specs.Units.{chunk_end, printed_end}
 
@@ -46,22 +21,15 @@ pub record IsBeside (told : Type 0) (old new : View) : Type 0 where
   pub second : told → disk_now new Ckpt2 ≡ disk_now old Ckpt2
   pub console : told → console_now new ≡ console_now old
 
--- the book after lines were printed: a member that was stopped in it is stopped there
-abbrev pub IsBookAfterLines : {T : Type 0} → Result T NodeNo → MemberId → Book → Book → Type 0
-IsBookAfterLines (Ok done) by was is = is ≡ was
-IsBookAfterLines (Err Halted) by was is = is ≡ after_stop was by
-IsBookAfterLines (Err NoMemory) by was is = is ≡ was
-IsBookAfterLines (Err BothLost) by was is = is ≡ was
-IsBookAfterLines (Err ConsoleFault) by was is = is ≡ was
-
--- what is reserved after lines were printed: that of a member that was stopped in it is given up
-abbrev pub IsReservedAfterLines : {T : Type 0} → Result T NodeNo → MemberId → Option (List Entry) → Option (List Entry)
-    → Type 0
-IsReservedAfterLines (Ok done) by was is = is ≡ was
-IsReservedAfterLines (Err Halted) by was is = is ≡ reserved_after_stop by was
-IsReservedAfterLines (Err NoMemory) by was is = is ≡ was
-IsReservedAfterLines (Err BothLost) by was is = is ≡ was
-IsReservedAfterLines (Err ConsoleFault) by was is = is ≡ was
+-- After lines were printed the plant and the counts of lines differ. A member that was stopped in it is stopped in the
+-- book, and what it has reserved is given up.
+abbrev pub after_lines : {P C T : Type 0} → Result T NodeNo → MemberId → Parts P C → Parts P C → Parts P C
+after_lines result by is was = record was {
+  plant = is.plant;
+  printed = is.printed;
+  book = if stopped_in result then after_stop was.book by else was.book;
+  reserved = if stopped_in result then reserved_after_stop by was.reserved else was.reserved;
+}
 
 -- each device holds what it held
 abbrev pub SameDisks : Type 0 → View → View → Type 0

@@ -1,19 +1,8 @@
 -- Reading a job's text from the spool volumes.
 use Rattle.std.specs.Prelude.{◌≡◌, ℕ, ◌≤◌, true, false, List, [], ◌∷◌, ◌++◌, length, All, Option, Some, None, unwrap_or}
 use Rattle.std.specs.Option.{option_or}
-use Rattle.mas_types.specs.declared.ids.Dev.TheVariants.{Spool}
-use Rattle.mas_types.specs.declared.ids.GroupNo.{GroupNo}
-use Rattle.mas_types.specs.declared.jobs.Text.{Text}
-use Rattle.mas_types.specs.declared.queues.Config.{Config}
-use Rattle.mas_types.specs.Fit.{is_text_line}
-use Rattle.mas_types.specs.Limits.{line_bytes}
-use Rattle.spool_plant.specs.declared.plant.Part.TheVariants.{Disk as DiskPart}
-use Rattle.spool_plant.specs.View.{View}
+use Rattle.member_work.specs.Names.{Spool, GroupNo, Text, Config, is_text_line, line_bytes, Disk as DiskPart, View, volume_of, AreRoomy, bytes_on, spools_at, AreQuiet, Read}
 use Rattle.spool_volumes.specs.Texts.{gone_or, records_on}
-use Rattle.spool_volumes.specs.Volumes.{volume_of, AreRoomy}
-use Rattle.mas_complex.specs.Texts.{bytes_on, spools_at}
-use Rattle.member_decks.specs.Spooling.{AreQuiet}
-use Rattle.job_outcome.specs.declared.outcomes.Read.{Read}
 use Rattle.job_outcome.specs.declared.outcomes.Read.TheVariants as read
 use Rattle.member_work.specs.Looks.{as_it_is}
 use Rattle.member_work.specs.Rounds.{HasFailed}

@@ -1,12 +1,7 @@
 -- A job's outputs in groups on the spool volumes.
 use Rattle.std.specs.Prelude.{ℕ, List, [], ◌∷◌, drop, take}
-use Rattle.mas_types.specs.declared.ids.GroupNo.{GroupNo}
-use Rattle.mas_types.specs.declared.jobs.OutSpec.{OutSpec}
-use Rattle.mas_types.specs.declared.jobs.Text.TheVariants.{Whole}
-use Rattle.mas_types.specs.Owners.{groups_needed}
+use Rattle.member_work.specs.Names.{GroupNo, OutSpec, Whole, groups_needed, IsThere, Spools, StandBelow}
 use Rattle.spool_text.specs.Texts.{packed}
-use Rattle.mas_complex.specs.Texts.{IsThere, Spools}
-use Rattle.member_decks.specs.Spooling.{StandBelow}
 
 -- the outputs' texts stand in their shares of the groups
 abbrev pub AreSpooled : Spools → ℕ → List OutSpec → List GroupNo → Type 0

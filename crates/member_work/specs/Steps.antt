@@ -1,48 +1,16 @@
 -- A member's WORK step, by its answer.
-use Rattle.std.specs.Prelude.{◌≡◌, ◌⊎◌, ℕ, ◌+◌, ◌*◌, ◌≤◌, Bool, true, false, List, [], ◌∷◌, ◌++◌, length, All, Option, Some, None, Result, Ok, Err, IfOk, OnOk}
-use Rattle.mas_types.specs.declared.ids.Dev.{Dev}
-use Rattle.mas_types.specs.declared.ids.JobNo.{JobNo}
-use Rattle.mas_types.specs.declared.ids.MemberId.{MemberId}
+use Rattle.std.specs.Prelude.{◌≡◌, ◌⊎◌, ℕ, ◌+◌, ◌*◌, ◌≤◌, Bool, true, false, List, [], ◌++◌, length, All, Option, Some, None, Result, Ok, Err}
+use Rattle.member_work.specs.Names.{Dev, JobNo, MemberId, Job, Batch, Entry, Queue, runs as in_phases, IsJobFields, text_lines_most, has_output, job_at, line_count, View, Tables, Tell, TellSound, AreFit, AreSettled, kept_all, run, MayBegin, HasTexts, lost_now, spools_at, NodeNo, BothLost, Halted, ConsoleFault, NoMemory, CanDraw, HasDone, Course, console_now, Spares, stopped_in, StepTells, StepCauses, AreRoomy, AreOf}
 use Rattle.mas_types.specs.declared.ids.Page.{Page}
-use Rattle.mas_types.specs.declared.commands.Command.{Command}
-use Rattle.mas_types.specs.declared.commands.Reply.{Reply}
-use Rattle.mas_types.specs.declared.jobs.Job.{Job}
-use Rattle.mas_types.specs.declared.journals.Batch.{Batch}
-use Rattle.mas_types.specs.declared.journals.Entry.{Entry}
-use Rattle.mas_types.specs.declared.queues.Queue.{Queue}
-use Rattle.mas_types.specs.Commands.Life.{runs as in_phases}
-use Rattle.mas_types.specs.Fit.{IsJobFields}
-use Rattle.mas_types.specs.Limits.{text_lines_most}
-use Rattle.mas_types.specs.Queue.{has_output, job_at, line_count}
-use Rattle.spool_plant.specs.View.{View}
 use Rattle.lay_bytes.specs.declared.records.JobRec.{JobRec}
-use Rattle.ckpt_tables.specs.declared.tables.Tables.{Tables}
-use Rattle.queue_telling.specs.Telling.{Tell, TellSound}
-use Rattle.queue_effect.specs.Standing.{AreFit}
 use Rattle.ckpt_places.specs.declared.places.Place.{Place}
 use Rattle.mas_complex.specs.Crash.{IsUntold, Setting}
-use Rattle.mas_complex.specs.Journals.{AreSettled, kept_all}
-use Rattle.mas_complex.specs.Meaning.{run}
-use Rattle.mas_complex.specs.Paper.{MayBegin}
-use Rattle.mas_complex.specs.Texts.{HasTexts, lost_now, spools_at}
 use Rattle.member_node.specs.declared.checkpoint.Checkpoint.{Checkpoint}
-use Rattle.member_node.specs.declared.member.NodeNo.{NodeNo}
-use Rattle.member_node.specs.declared.member.NodeNo.TheVariants.{BothLost, Halted, ConsoleFault, NoMemory}
-use Rattle.member_node.specs.Batches.{CanDraw, HasDone}
-use Rattle.member_node.specs.Calls.{Course, console_now}
 use Rattle.member_node.specs.Copies.{RestsAt}
 use Rattle.member_node.specs.Drawn.{AreDrawn}
 use Rattle.member_node.specs.Reads.{orders_after}
-use Rattle.member_node.specs.Spares.{Spares, stopped_in}
-use Rattle.member_steps.specs.Steps.{StepTells, entry_with, reply_to, StepCauses}
 use Rattle.member_decks.specs.Batches.{AreAll, AreCut, HasAll, OneFlies}
 use Rattle.member_decks.specs.Keeping.{CopyCauses}
-use Rattle.spool_volumes.specs.Volumes.{AreRoomy}
-use Rattle.member_decks.specs.Steps.{AreOf}
-use Rattle.job_outcome.specs.declared.units.UnitEnd.{UnitEnd}
-use Rattle.job_outcome.specs.declared.units.UnitEnd.TheVariants as ends
-use Rattle.job_outcome.specs.Next.{end_by}
-use Rattle.member_work.specs.Work.{batches_in, left_in, written_in}
 
 -- WHAT ANSWERS LEAVE
 
@@ -128,33 +96,6 @@ pub record IsKeeping {T : Type 0} (told : Type 0) (by : MemberId) (ess : List (L
   pub batches_are : batches ≡ front ++ rest
   pub journal : WorkLeaves result by old.now new.now ess rest
   pub quiet : told → console_now new ≡ console_now old
-
--- what a call keeps of the parts of a unit, after these entries of the batch to come: after an error that the last
--- part follows
-abbrev pub begun_of : Result UnitEnd NodeNo → List Entry → List (List Entry) → List (List Entry)
-begun_of (Ok end) so_far parts = batches_in (written_in so_far parts)
-begun_of (Err why) so_far parts = batches_in (written_in so_far parts ++ left_in so_far parts ∷ [])
-
--- A unit, or a part of one, with these parts and this end, after these entries of the batch to come: those of its
--- parts that are written are kept, and the rest stands in the batch. A unit that doesn't apply has no parts.
-pub record IsPlayed (told : Type 0) (by : MemberId) (at : ℕ) (parts : List (List Entry)) (end : UnitEnd)
-    (so_far is_left : List Entry) (front batches : List Batch) (was1 is1 was2 is2 : Bool) (old new : View)
-    (result : Result UnitEnd NodeNo) : Type 0 where
-  pub of : All (AreOf by at) parts
-  pub few : length parts ≤ 3
-  pub idle : end ≡ ends.Idle → parts ≡ []
-  pub keeps : IsKeeping told by (begun_of result so_far parts) front batches was1 is1 was2 is2 old new result
-  pub left : OnOk result (is_left ≡ left_in so_far parts)
-  pub ends : IfOk result (λ e. e ≡ end)
-
--- A unit of one command, whatever its reply is. Where content is told it is the one that the command has at the queue.
-pub record IsCommanded (told : Type 0) (by : MemberId) (at : ℕ) (c : Command) (Q : Queue) (so_far is_left : List Entry)
-    (front batches : List Batch) (was1 is1 was2 is2 : Bool) (old new : View) (result : Result UnitEnd NodeNo) : Type 0
-  where
-    pub reply : Reply
-    pub is : told → reply ≡ reply_to Q by c
-    pub played : IsPlayed told by at ((entry_with by at c reply ∷ []) ∷ []) (end_by reply) so_far is_left front batches
-        was1 is1 was2 is2 old new result
 
 -- the job with this number is in Convert or Execute, busy at the member, and has no output
 pub record IsUnderWay (Q : Queue) (by : MemberId) (n : JobNo) : Type 0 where

@@ -1,37 +1,17 @@
 -- The units of a member's work, and what each gives: its commands, and how it ends.
 use Rattle.std.specs.Prelude.{ℕ, zero, suc, ◌+◌, min, Bool, true, false, if◌then◌else◌, List, [], ◌∷◌, ◌++◌, Option, Some, None}
 use Rattle.std.specs.Option.{option_map_or}
-use Rattle.mas_types.specs.declared.ids.MemberId.{MemberId}
-use Rattle.mas_types.specs.declared.ids.JobNo.{JobNo}
-use Rattle.mas_types.specs.declared.ids.OutNo.{OutNo}
-use Rattle.mas_types.specs.declared.answers.Closing.{Closing}
+use Rattle.member_work.specs.Names.{MemberId, JobNo, OutNo, Closing, Command, Reply, Job, OutSpec, Output, Entry, Queue, groups_of_outputs, outputs_at_end, no_number, job_at, output_at, total, limit_of, run, entry_of, reply_to, are_refused, closing_reply, given_in, takes, Read, UnitEnd, end_by}
 use Rattle.mas_types.specs.declared.answers.Closing.TheVariants as closing
-use Rattle.mas_types.specs.declared.commands.Command.{Command}
 use Rattle.mas_types.specs.declared.commands.Command.TheVariants as command
-use Rattle.mas_types.specs.declared.commands.Reply.{Reply}
-use Rattle.mas_types.specs.declared.jobs.Job.{Job}
-use Rattle.mas_types.specs.declared.jobs.OutSpec.{OutSpec}
-use Rattle.mas_types.specs.declared.jobs.Output.{Output}
-use Rattle.mas_types.specs.declared.journals.Entry.{Entry}
-use Rattle.mas_types.specs.declared.queues.Queue.{Queue}
 use Rattle.mas_types.specs.declared.units.Unit as units
 use Rattle.mas_types.specs.declared.units.Unit.TheVariants as unit
-use Rattle.mas_types.specs.Commands.Life.{groups_of_outputs, outputs_at_end}
-use Rattle.mas_types.specs.Ids.{no_number}
-use Rattle.mas_types.specs.Queue.{job_at, output_at, total}
 use Rattle.mas_types.specs.Units.{unit_of}
 use Rattle.queue_laws.specs.Laws.{is_refusal}
-use Rattle.paper_laws.specs.Next.{limit_of}
-use Rattle.mas_complex.specs.Meaning.{run}
-use Rattle.member_steps.specs.Steps.{entry_of, reply_to}
-use Rattle.member_decks.specs.Decks.{are_refused, closing_reply, given_in, takes}
 use Rattle.job_outcome.specs.declared.outcomes.Outcome.{Outcome}
 use Rattle.job_outcome.specs.declared.outcomes.Outcome.TheVariants as outcome
-use Rattle.job_outcome.specs.declared.outcomes.Read.{Read}
 use Rattle.job_outcome.specs.declared.outcomes.Read.TheVariants as read
-use Rattle.job_outcome.specs.declared.units.UnitEnd.{UnitEnd}
 use Rattle.job_outcome.specs.declared.units.UnitEnd.TheVariants as ends
-use Rattle.job_outcome.specs.Next.{end_by}
 use Rattle.job_outcome.specs.Outcomes.{outcome_of}
 use Rattle.member_work.specs.Looks.{Look, read_of}
 

@@ -1,15 +1,9 @@
 -- The step WORK n: units one after another, the batches of their commands, and the line with which it closes.
 use Rattle.std.specs.Prelude.{ℕ, zero, suc, ◌+◌, nat_le, Bool, true, false, ◌||◌, if◌then◌else◌, List, [], ◌∷◌, ◌++◌, length, map, filter}
-use Rattle.mas_types.specs.declared.ids.MemberId.{MemberId}
-use Rattle.mas_types.specs.declared.answers.Closing.{Closing}
+use Rattle.member_work.specs.Names.{MemberId, Closing, Entry, Queue, run, all_entries, UnitEnd}
 use Rattle.mas_types.specs.declared.answers.Closing.TheVariants as closing
-use Rattle.mas_types.specs.declared.journals.Entry.{Entry}
-use Rattle.mas_types.specs.declared.queues.Queue.{Queue}
 use Rattle.mas_types.specs.Closings.{closing_line}
 use Rattle.mas_types.specs.Lists.{tail}
-use Rattle.mas_complex.specs.Meaning.{run}
-use Rattle.member_decks.specs.Decks.{all_entries}
-use Rattle.job_outcome.specs.declared.units.UnitEnd.{UnitEnd}
 use Rattle.job_outcome.specs.declared.units.UnitEnd.TheVariants as ends
 use Rattle.member_work.specs.Looks.{Look, first_look}
 use Rattle.member_work.specs.Units.{UnitPlay, next_play}

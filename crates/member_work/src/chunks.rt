@@ -1,10 +1,6 @@
 //! How many lines of an output are printed next.
 ghost use Rattle.std.specs.Prelude.{◌≡◌, ◌*◌, ◌+◌, ◌≤◌, min, None, Some};
-ghost use Rattle.mas_types.specs.declared.queues.Queue.{Queue};
-ghost use Rattle.mas_types.specs.Limits.{printer_lines_most};
-ghost use Rattle.ckpt_tables.specs.Shape.{HasSpelling};
-ghost use Rattle.queue_telling.specs.Telling.{Tell};
-ghost use Rattle.paper_laws.specs.Next.{limit_of};
+ghost use Rattle.member_work.specs.Names.{Queue, printer_lines_most, HasSpelling, Tell, limit_of};
 
 use ckpt_tables::Tables;
 use lay_bytes::OutRec;

@@ -1,21 +1,6 @@
 //! Commands of a unit on a member's tables: the groups for a job's outputs, and Ended.
 ghost use Rattle.std.specs.Prelude.{◌≡◌, ◌+◌, ◌≤◌, ◌<◌, ◌^◌, ◌∷◌, [], false, true, IfOk, Ok, OnErr};
-ghost use Rattle.mas_types.specs.declared.queues.Queue.{Queue};
-ghost use Rattle.mas_types.specs.Commands.Life.{groups_of_outputs as groups_of_outputs_lem, is_cancelled as is_cancelled_lem};
-ghost use Rattle.mas_types.specs.Fit.{IsFit};
-ghost use Rattle.mas_types.specs.Limits.{members_most};
-ghost use Rattle.mas_types.specs.Owners.{member_count};
-ghost use Rattle.mas_types.specs.Queue.{is_member, job_at};
-ghost use Rattle.mas_types.specs.Step.{may_give};
-ghost use Rattle.ckpt_tables.specs.Shape.{HasSpelling};
-ghost use Rattle.job_exec.specs.Running.{AreOutputs};
-ghost use Rattle.queue_effect.specs.Standing.{AreFit};
-ghost use Rattle.queue_commands.specs.Given.{IsGiver};
-ghost use Rattle.queue_telling.specs.Telling.{Tell, TellSound};
-ghost use Rattle.member_steps.specs.Steps.{reply_to};
-ghost use Rattle.member_decks.specs.Decks.{closing_reply, given_in};
-ghost use Rattle.job_outcome.specs.declared.units.UnitEnd.TheVariants.{Done};
-ghost use Rattle.job_outcome.specs.Next.{IsNamedEnd, end_by as end_by_lem};
+ghost use Rattle.member_work.specs.Names.{Queue, groups_of_outputs as groups_of_outputs_lem, is_cancelled as is_cancelled_lem, IsFit, members_most, member_count, is_member, job_at, may_give, HasSpelling, AreOutputs, AreFit, IsGiver, Tell, TellSound, reply_to, closing_reply, given_in, Done, IsNamedEnd, end_by as end_by_lem};
 ghost use Rattle.member_work.specs.Giving.{GivesAt, HasGiven, IsSoundPlain, MayEnd};
 ghost use Rattle.member_work.specs.Units.{drop_groups, ending, groups_for_end as groups_for_end_lem, taken_end, taking};
 
@@ -53,8 +38,8 @@ pub fn groups_for_end(tables: &Tables, job: JobNo, specs: &[OutSpec]) -> u32
     groups_of_outputs(specs)
 }
 
-// Does a command on the member's tables; answers how a unit ends with it. NoMemory leaves the member as it was.
-fn give(
+/// Does a command on the member's tables; answers how a unit ends with it. NoMemory leaves the member as it was.
+pub fn give(
     member: &mut Member,
     alloc: Global,
     step: u32,
@@ -82,7 +67,7 @@ fn give(
 }
 
 /// The member's groups become free, after a command with which a unit ends so. NoMemory leaves the member as it was.
-pub(crate) fn give_back(
+pub fn give_back(
     member: &mut Member,
     alloc: Global,
     step: u32,
@@ -108,7 +93,7 @@ pub(crate) fn give_back(
 
 /// Takes so many groups: a Take gives all of them or all that are free, and then the next is refused. After a refused
 /// Take the member's groups become free. NoMemory leaves the commands that were given before.
-pub(crate) fn take_for_end(
+pub fn take_for_end(
     member: &mut Member,
     alloc: Global,
     step: u32,
@@ -146,7 +131,7 @@ pub(crate) fn take_for_end(
 
 /// Gives Ended with these outputs; after a refused one the member's groups become free. NoMemory leaves the commands
 /// that were given before.
-pub(crate) fn give_end(
+pub fn give_end(
     member: &mut Member,
     alloc: Global,
     step: u32,

@@ -1,7 +1,6 @@
 //! What holds of work steps, and of what is kept of them.
 ghost use Rattle.std.specs.Prelude.{◌++◌};
-ghost use Rattle.mas_complex.specs.Journals.{in_flight};
-ghost use Rattle.mas_complex.specs.Replies.{AreReplied};
+ghost use Rattle.member_work.specs.Names.{in_flight, AreReplied};
 
 use mas_complex::{Complex, Steady};
 use spool_plant::Plant;

@@ -1,7 +1,6 @@
 //! The groups that the outputs of a job need.
 ghost use Rattle.std.specs.Prelude.{◌≡◌, ◌≤◌};
-ghost use Rattle.mas_types.specs.Commands.Life.{groups_of_outputs as groups_of_outputs_lem};
-ghost use Rattle.job_exec.specs.Running.{AreOutputs};
+ghost use Rattle.member_work.specs.Names.{groups_of_outputs as groups_of_outputs_lem, AreOutputs};
 
 use mas_types::OutSpec;
 use spool_text::groups_needed;

@@ -1,24 +1,5 @@
-use Rattle.std.proofs.Common.{◌≡◌, ◌∙◌, List, All, false, true, is_some, ap, refl, subst, sym}
-use Rattle.std.proofs.lemmas.Result.{err_from_is_err_and}
-use Rattle.mas_types.specs.declared.ids.GroupNo.{GroupNo}
-use Rattle.mas_types.specs.declared.queues.Config.{Config}
-use Rattle.mas_types.specs.declared.queues.Queue.{Queue}
-use Rattle.mas_types.specs.declared.queues.Thing.TheVariants.{Deck}
-use Rattle.track_groups.specs.Places.{groups_of}
-use Rattle.mas_complex.specs.Journals.{kept_all}
-use Rattle.mas_complex.specs.Meaning.{run}
-use Rattle.mas_complex.specs.Parts.{parts_of}
-use Rattle.mas_complex.specs.Spool.{IsGroupOf}
-use Rattle.member_node.specs.Spares.{SparesBut}
-use Rattle.member_node.proofs.SpareLemmas.{sparing_none}
-use Rattle.member_work.specs.Rounds.{names_read}
-use Rattle.member_decks.proofs.OpenLemmas.{tells_some}
-use Rattle.member_decks.proofs.PageLemmas.{acts_none, quiet_none}
-use Rattle.mas_complex.specs.Texts.{spools_at}
+use Rattle.member_acts.proofs.Names.{◌≡◌, ◌∙◌, List, All, false, true, is_some, ap, refl, subst, sym, err_from_is_err_and, GroupNo, Config, Queue, Deck, groups_of, kept_all, run, parts_of, IsGroupOf, SparesBut, sparing_none, names_read, tells_some, acts_none, quiet_none, spools_at, groups_within, number_of, told_job, Found, FindsText}
 use Rattle.member_work.proofs.JobLemmas.{whole_text}
-use Rattle.member_work.proofs.LookingLemmas.{groups_within, number_of, told_job}
-use Rattle.step_turns.specs.declared.states.Found.{Found}
-use Rattle.member_asides.specs.Asides.{FindsText}
 use Rattle.member_acts.proofs.Shown.{gone_is, job_seen}
 use Rattle.member_acts.proofs.asides.read_job_text.Goals as goal
 
@@ -81,20 +62,10 @@ returns-in_default-groups_of-clause-reads g c =
     let v = P.view c.args.complex.now.plant in
     record { acts = acts_none P.tells m.id.0 v; reads = λ told. quiet_none (spools_at v v.now); cause = sparing_none m.id.0 v; finds = tt }
 
-pub returns-in_err-read-clause-frame : goal.returns-in_err-read-clause-frame
-returns-in_err-read-clause-frame g c =
-    let e = c.read_text.ensures in
-    rw (e.pair, e.base, e.since, e.renewals, e.book, e.journal, e.current, e.reserved, e.printed, e.placed, e.first, e.second, e.level, e.had) refl
-
 pub returns-in_err-read-clause-reads : goal.returns-in_err-read-clause-reads
 returns-in_err-read-clause-reads g c =
     let p = err_from_is_err_and c.from_residual.result c.from_residual.ensures.1 in
     rw (p.1, p.2) (record { acts = c.read_text.ensures.acts; reads = c.read_text.ensures.reads; cause = c.in_err-read.ensures.cause; finds = tt })
-
-pub returns-clause-frame : goal.returns-clause-frame
-returns-clause-frame g c =
-    let e = c.read_text.ensures in
-    rw (e.pair, e.base, e.since, e.renewals, e.book, e.journal, e.current, e.reserved, e.printed, e.placed, e.first, e.second, e.level, e.had) refl
 
 pub returns-clause-reads : goal.returns-clause-reads
 returns-clause-reads g c =

@@ -1,17 +1,12 @@
-use Rattle.std.proofs.Common.{◌≡◌, ◌∙◌, ◌&&◌, None, Option, if◌then◌else◌, ap, refl, sym}
-use Rattle.std.specs.List.{list_any}
-use Rattle.mas_types.specs.declared.ids.GroupNo.{GroupNo}
-use Rattle.mas_types.specs.Journal.{is_kept}
-use Rattle.mas_complex.specs.Journals.{kept_all}
-use Rattle.member_work.specs.Gone.{gone_since, is_brought}
+use Rattle.member_acts.proofs.Names.{◌≡◌, ◌∙◌, ◌&&◌, None, Option, if◌then◌else◌, ap, refl, sym, list_any, GroupNo, is_kept, kept_all, brings_job, gone_in, gone_since, is_brought}
 use Rattle.member_acts.proofs.GoneLemmas.{gone_deck_is, since_when}
 use Rattle.member_acts.proofs.gone.gone_deck.Goals as goal
 
 pub returns-clause-since : goal.returns-clause-since
 returns-clause-since g c =
     let y = c.args.complex.now in
-    c.unless_brought.ensures ∙ ap (λ (o : Option GroupNo). if list_any (λ b. is_kept b.fate && is_brought c.args.job b.entries) c.batches-batches.result.now then None else o) c.gone_in.ensures
-    ∙ sym (since_when c.args.job y.base y.journal.batches c.batches-batches.result.now _ c.batches-batches.ensures refl)
+    c.unless_brought.ensures ∙ ap (λ (o : Option GroupNo). if list_any (λ b. is_kept b.fate && is_brought (brings_job c.args.job) b.entries) c.batches-batches.result.now then None else o) c.gone_in.ensures
+    ∙ sym (since_when (brings_job c.args.job) (gone_in y.base c.args.job) y.journal.batches c.batches-batches.result.now _ c.batches-batches.ensures refl)
 
 pub returns-clause-gone : goal.returns-clause-gone
 returns-clause-gone g c told j found =

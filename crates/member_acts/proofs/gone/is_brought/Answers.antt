@@ -1,13 +1,10 @@
-use Rattle.std.proofs.Common.{◌∙◌, List, ap}
-use Rattle.std.specs.List.{list_any}
+use Rattle.member_acts.proofs.Names.{◌∙◌, List, ap, list_any, command_of, reply_of, brings_by}
 use Rattle.brief_journal.specs.declared.entries.BriefEntry.{BriefEntry}
-use Rattle.brief_journal.specs.Brief.{command_of, reply_of}
-use Rattle.member_work.specs.Gone.{brings_job}
 use Rattle.member_acts.proofs.BriefLemmas.{any_brought}
 use Rattle.member_acts.proofs.gone.is_brought.Goals as goal
 
 pub returns : goal.returns
 returns c =
-    c.is_job_brought.ensures
-    ∙ ap (λ (bs : List BriefEntry). list_any (λ b. brings_job c.args.job (command_of b.command) (reply_of b.reply)) bs) c.briefs.ensures
-    ∙ any_brought c.args.job c.args.batch.now.entries
+    c.is_any_brought.ensures
+    ∙ ap (λ (bs : List BriefEntry). list_any (λ b. brings_by c.args.text (command_of b.command) (reply_of b.reply)) bs) c.briefs.ensures
+    ∙ any_brought c.args.text c.args.batch.now.entries

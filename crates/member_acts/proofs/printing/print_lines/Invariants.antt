@@ -1,12 +1,4 @@
-use Rattle.std.proofs.Common.{◌≡◌, ◌≤◌, ◌<◌, ◌+◌, false}
-use Rattle.spool_plant.specs.Acts.{SameWires}
-use Rattle.mas_complex.specs.Paper.{counts_of}
-use Rattle.mas_complex.specs.Past.{values_of}
-use Rattle.mas_complex.specs.Parts.{parts_of}
-use Rattle.member_node.specs.Calls.{none_lost}
-use Rattle.member_node.specs.Spares.{SparesBut}
-use Rattle.member_work.specs.Inked.{OtherCountsStay, lines_upto}
-use Rattle.member_work.specs.Printing.{IsBeside, SameDisks}
+use Rattle.member_acts.proofs.Names.{◌≡◌, ◌≤◌, ◌<◌, ◌+◌, false, SameWires, counts_of, parts_of, none_lost, SparesBut, printed_in, OtherCountsStay, lines_upto, IsBeside, SameDisks}
 use Rattle.member_acts.proofs.InkedLemmas.{HavePrinted}
 use Rattle.member_acts.proofs.printing.print_lines.Given as goal
 
@@ -17,19 +9,7 @@ invariant-loop-before g l =
     let x = l.fn.complex in
     let y = l.complex in
     record {
-      pair : y.pair ≡ x.pair;
-      base : y.base ≡ x.base;
-      since : y.since ≡ x.since;
-      renewals : y.renewals ≡ x.renewals;
-      had : values_of y.had ≡ values_of x.had;
-      book : y.book ≡ x.book;
-      journal : y.journal ≡ x.journal;
-      current : y.current ≡ x.current;
-      reserved : y.reserved ≡ x.reserved;
-      placed : y.placed ≡ x.placed;
-      first : y.first ≡ x.first;
-      second : y.second ≡ x.second;
-      level : y.level ≡ x.level;
+      frame : parts_of y ≡ printed_in (parts_of y) (parts_of x);
       acts : IsBeside P.tells (P.view x.plant) (P.view y.plant);
       spares : SparesBut l.by.0 false none_lost (P.view x.plant) (P.view y.plant);
       upto : l.before ≤ l.output.mark + counts_of y.printed l.by;

@@ -1,4 +1,4 @@
-use Rattle.std.proofs.Common.{ap, Ok, Err}
+use Rattle.member_acts.proofs.Names.{ap, Ok, Err}
 use Rattle.member_acts.proofs.ReadLemmas.{adds_lines, adds_none}
 use Rattle.member_acts.proofs.reading.add_group.Goals as goal
 

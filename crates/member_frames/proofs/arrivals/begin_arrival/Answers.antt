@@ -30,7 +30,7 @@ use Rattle.member_sittings.specs.Ends.{deck_end, ends_in}
 use Rattle.member_sittings.specs.Sat.{IsSatOn}
 use Rattle.member_sittings.specs.Whole.{Commanded}
 use Rattle.member_sittings.proofs.KeepLemmas.{sat_given_up}
-use Rattle.member_sittings.proofs.OpenLemmas.{front_is, gives_opened, of_strip, one_some, opened_of, or_one, strip}
+use Rattle.member_sittings.proofs.SeatLemmas.{front_is, gives_opened, of_strip, one_some, opened_of, or_one, strip}
 use Rattle.member_sittings.proofs.TurnLemmas.{all_of_one, opened_alike, with_closed, with_ready}
 use Rattle.member_giving.proofs.Resting.{fewer_left, fewer_told}
 use Rattle.member_frames.proofs.Arriving.{ArrivalTurn, Firsts, arrival_closes, arrival_few, arrival_says, arrival_sits, arrival_waits, ends_next, fewer_away}

@@ -4,15 +4,12 @@ use Rattle.mas_types.specs.Closings.{closing_line}
 use Rattle.mas_types.specs.declared.ids.MemberId.{MemberId}
 use Rattle.member_steps.specs.Saying.{TellKept}
 use Rattle.member_steps.specs.Steps.{AreKeptFrom}
-use Rattle.member_steps.proofs.CountLemmas.{counted_by}
 use Rattle.member_steps.proofs.FateLemmas.{closing_tells}
-use Rattle.member_work.specs.Work.{batches_in}
 use Rattle.step_turns.specs.Batches.{batch_of}
 use Rattle.step_turns.specs.Turns.{says}
 use Rattle.member_giving.specs.Plays.{unwritten, wrote_of}
 use Rattle.member_giving.specs.Works.{outside, place_of}
-use Rattle.member_giving.proofs.Cuts.{of_batch, one_batch, starts_itself}
-use Rattle.member_giving.proofs.Gave.{keeps_as, spares_of}
+use Rattle.member_giving.proofs.Cuts.{of_batch, starts_itself}
 use Rattle.member_giving.proofs.Going.{apart_then, closes_err, closes_ok, played_close, played_error}
 use Rattle.member_giving.proofs.Seated.{closes_said, said_apart, seat_said}
 use Rattle.member_giving.proofs.Working.{own_batch, same_run}
@@ -22,25 +19,16 @@ use Rattle.member_frames.proofs.ends.close_line.Goals as goal
 
 -- OUT OF MEMORY FOR THE LINE
 
-pub give_up-requires-clause-untold : goal.give_up-requires-clause-untold
-give_up-requires-clause-untold g c told = c.requires.works.untold told c.args.member.now.batch c.requires.works.of
-
-pub returns-in_default-clause-run : goal.returns-in_default-clause-run
-returns-in_default-clause-run g c =
-    let k = c.give_up.ensures in
-    same_run c.args.complex.now c.give_up.new.complex c.args.member.now c.give_up.new.member c.args.holder k.base k.since k.renewals k.book k.id
-
 pub returns-in_default-clause-serves : goal.returns-in_default-clause-serves
 returns-in_default-clause-serves g c =
     let x = c.args.complex.now in
     let y = c.give_up.new.complex in
     let m = c.args.member.now in
     let h = c.args.holder in
-    let v = c.requires.works in
+    let up = c.give_up.ensures.gives_up in
     let w = wrote_of m.batch (says (closing_line h.by h.step c.args.end.now ∷ [])) in
-    played_error g.P.Plant.tells h (IsWithinLine h (unwritten m.batch)) c.args.given {S = Unit {0}} c.give_up.result w w (batch_of m.batch) (place_of x m) (outside y) (λ t. refl) (of_batch h.by h.step m.batch (own_batch x m h v)) (line_within h m.batch c.args.end.now c.requires.closes) (starts_itself m.batch)
-    (spares_of x y h.by m.id v.own c.give_up.ensures.apart c.give_up.ensures.notes) (keeps_as x y m h.by (batches_in (m.batch ∷ [])) (batch_of m.batch) (Err c.give_up.result) v.own v.work (one_batch m.batch) c.give_up.ensures.keeps)
-    (counted_by {T = Unit {0}} m.id h.by [] x.printed y.printed (Err c.give_up.result) (sym v.own) c.give_up.ensures.counts)
+    played_error g.P.Plant.tells h (IsWithinLine h (unwritten m.batch)) c.args.given {S = Unit {0}} c.give_up.result w w (batch_of m.batch) (place_of x m) (outside y) (λ t. refl) (of_batch h.by h.step m.batch (own_batch x m h c.requires.works)) (line_within h m.batch c.args.end.now c.requires.closes) (starts_itself m.batch)
+    up.spares up.keeps up.counts
 
 -- THE BATCH COULDN'T BE KEPT
 

@@ -1,56 +1,60 @@
-use Rattle.std.proofs.Common.{Ok, Err}
-use Rattle.std.proofs.lemmas.Result.{err_from_is_err_and}
-use Rattle.mas_types.specs.declared.ids.MemberId.{MemberId}
-use Rattle.mas_types.specs.declared.queues.Queue.{Queue}
-use Rattle.job_outcome.specs.Next.{end_by}
-use Rattle.step_turns.specs.Entries.{closing_reply, given_in}
-use Rattle.step_turns.specs.JobEnds.{ending}
-use Rattle.member_giving.proofs.Gave.{last_given}
-use Rattle.member_giving.proofs.Working.{leaves_room, same_run, step_on, works_on}
+use Rattle.member_giving.proofs.Names.{◌≡◌, true, subst, sym, ◌∙◌, refl, arith, MemberId, Config, Queue, is_member, end_by, tells_some, IsAnswered, ending_unmarked, reply_answered, ending_few, closing_reply, given_in, ending}
+use Rattle.member_giving.proofs.Given.{end_stands, given_done, given_not, room_first, works_first}
+use Rattle.member_giving.proofs.Working.{same_run}
 use Rattle.member_giving.proofs.giving.end_job.Goals as goal
 
-pub returns-in_err-end-clause-run : goal.returns-in_err-end-clause-run
-returns-in_err-end-clause-run g c =
-    let k = c.end_given.ensures in
-    same_run c.args.complex.now c.end_given.new.complex c.args.member.now c.end_given.new.member c.args.holder k.base k.since k.renewals k.book k.id
+pub give_end-requires-clause-member : goal.give_end-requires-clause-member
+give_end-requires-clause-member g c = subst (λ (k : Config). is_member k c.args.member.now.id ≡ true) c.requires.works.work.config c.requires.works.member
 
-pub returns-in_err-end-clause-given : goal.returns-in_err-end-clause-given
-returns-in_err-end-clause-given g c =
-    let q = err_from_is_err_and c.from_residual.result c.from_residual.ensures.1 in
+-- OUT OF MEMORY
+
+pub give_up-requires-clause-works : goal.give_up-requires-clause-works
+give_up-requires-clause-works g c =
     let x = c.args.complex.now in
     let m = c.args.member.now in
+    let n = c.give_end.new.member in
     let h = c.args.holder in
-    let k = c.end_given.ensures in
-    rw (q.1, q.2) (last_given x c.end_given.new.complex m c.end_given.new.member h c.requires.works k.base (Err _) (λ (Q : Queue) (i : MemberId). ending Q i c.args.job c.args.outputs) (λ (Q : Queue) (i : MemberId). end_by (closing_reply (given_in Q i h.step (ending Q i c.args.job c.args.outputs)))) c.requires.nothing tt k.apart c.in_err-end.ensures.counts k.notes.others c.in_err-end.ensures.last)
+    let w = c.requires.works in
+    let has = c.give_end.ensures.has in
+    let gives = c.in_default.ensures.gives in
+    works_first x m n h w has (λ (R : Queue) (i : MemberId). ending R i c.args.job c.args.outputs) _ _ gives c.requires.nothing (λ R. ending_few R m.id c.args.job c.args.outputs) (λ R. ending_unmarked x.base m.id w.member R c.args.job c.args.outputs c.requires.outputs) (end_stands x m h w c.requires.nothing c.args.job c.args.outputs c.requires.under_way c.requires.spooled) c.kept_texts.ensures.kept
 
-pub returns-clause-run : goal.returns-clause-run
-returns-clause-run g c =
-    let k = c.end_given.ensures in
-    same_run c.args.complex.now c.end_given.new.complex c.args.member.now c.end_given.new.member c.args.holder k.base k.since k.renewals k.book k.id
+pub give_up-requires-clause-high : goal.give_up-requires-clause-high
+give_up-requires-clause-high g c = let level = c.give_end.ensures.has.level in let room = c.requires.low.high in omega (arith, level, room)
 
-pub returns-clause-given : goal.returns-clause-given
-returns-clause-given g c =
+pub returns-in_default-clause-run : goal.returns-in_default-clause-run
+returns-in_default-clause-run g c = c.give_up.ensures.run ∙ same_run c.args.complex.now c.args.complex.now c.args.member.now c.give_end.new.member c.args.holder refl refl refl refl c.give_end.ensures.has.id
+
+pub returns-in_default-clause-given : goal.returns-in_default-clause-given
+returns-in_default-clause-given g c =
     let x = c.args.complex.now in
     let m = c.args.member.now in
+    let n = c.give_end.new.member in
     let h = c.args.holder in
-    let k = c.end_given.ensures in
-    last_given x c.end_given.new.complex m c.end_given.new.member h c.requires.works k.base (Ok c.in_ok-end.end) (λ (Q : Queue) (i : MemberId). ending Q i c.args.job c.args.outputs) (λ (Q : Queue) (i : MemberId). end_by (closing_reply (given_in Q i h.step (ending Q i c.args.job c.args.outputs)))) c.requires.nothing c.in_ok-end.ensures.work k.apart c.in_ok-end.ensures.counts k.notes.others c.in_ok-end.ensures.last
+    let w = c.requires.works in
+    let has = c.give_end.ensures.has in
+    let gives = c.in_default.ensures.gives in
+    given_not x m n h w has c.give_up.new.complex c.give_up.new.member c.give_up.result (λ (R : Queue) (i : MemberId). ending R i c.args.job c.args.outputs) _ _ (λ (R : Queue) (i : MemberId). end_by (closing_reply (given_in R i h.step (ending R i c.args.job c.args.outputs)))) gives c.give_up.ensures.gives_up
 
-pub returns-clause-works : goal.returns-clause-works
-returns-clause-works g c =
+-- THE COMMANDS WERE GIVEN
+
+pub returns : goal.returns
+returns g c =
     let x = c.args.complex.now in
-    let y = c.end_given.new.complex in
     let m = c.args.member.now in
-    let n = c.end_given.new.member in
+    let n = c.give_end.new.member in
     let h = c.args.holder in
-    let k = c.end_given.ensures in
-    let o = c.in_ok-end.ensures in
-    works_on x y m n h c.requires.works (same_run x y m n h k.base k.since k.renewals k.book k.id) o.work o.of o.untold (step_on x y m n h c.requires.works k.id o.work _ c.in_ok-end.end o.last.played.keeps) o.copy1 o.copy2 (o.notes.own c.requires.works.noted)
-
-pub returns-clause-room : goal.returns-clause-room
-returns-clause-room g c =
-    let o = c.in_ok-end.ensures in
-    leaves_room c.args.complex.now c.end_given.new.complex c.end_given.new.member o.order o.high o.reached
-
-pub returns-clause-answered : goal.returns-clause-answered
-returns-clause-answered g c = c.in_ok-end.ensures.answered
+    let w = c.requires.works in
+    let has = c.give_end.ensures.has in
+    let gives = c.in-Ok.ensures.gives in
+    record {
+      run = same_run c.args.complex.now c.args.complex.now c.args.member.now c.give_end.new.member c.args.holder refl refl refl refl c.give_end.ensures.has.id;
+      given = given_done x m n h w has (λ (R : Queue) (i : MemberId). ending R i c.args.job c.args.outputs) _ c.in-Ok.end (λ (R : Queue) (i : MemberId). end_by (closing_reply (given_in R i h.step (ending R i c.args.job c.args.outputs)))) gives c.in-Ok.ensures.end;
+      named = c.in-Ok.ensures.named;
+      works = works_first x m n h w has (λ (R : Queue) (i : MemberId). ending R i c.args.job c.args.outputs) _ _ gives c.requires.nothing (λ R. ending_few R m.id c.args.job c.args.outputs) (λ R. ending_unmarked x.base m.id w.member R c.args.job c.args.outputs c.requires.outputs) (end_stands x m h w c.requires.nothing c.args.job c.args.outputs c.requires.under_way c.requires.spooled) c.kept_texts.ensures.kept;
+      room = room_first x m n h w has (λ (R : Queue) (i : MemberId). ending R i c.args.job c.args.outputs) _ _ gives c.requires.nothing (λ R. ending_few R m.id c.args.job c.args.outputs) c.requires.low;
+      reached = refl;
+      answered =
+          let s = tells_some m.checkpoint.tables in
+          subst IsAnswered (sym (c.in-Ok.ensures.end s.0 s.1)) (reply_answered (closing_reply (given_in s.0 m.id c.args.holder.step (ending s.0 m.id c.args.job c.args.outputs))));
+    }

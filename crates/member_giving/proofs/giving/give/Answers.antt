@@ -1,74 +1,59 @@
-use Rattle.std.proofs.Common.{◌∙◌, [], ◌∷◌, Ok, Err, ap, refl, subst, sym}
-use Rattle.std.proofs.lemmas.Result.{err_from_is_err_and}
-use Rattle.mas_types.specs.declared.commands.Reply.{Reply}
-use Rattle.mas_types.specs.declared.ids.MemberId.{MemberId}
-use Rattle.job_outcome.specs.Next.{end_by}
-use Rattle.member_steps.specs.Steps.{entry_with}
-use Rattle.member_work.specs.Causes.{IsAnswered}
-use Rattle.member_work.proofs.CauseLemmas.{reply_answered}
-use Rattle.step_turns.specs.Entries.{closing_reply, given_in, reply_to}
-use Rattle.member_giving.specs.Works.{queue_here}
-use Rattle.member_giving.proofs.Gave.{closing_one, played_given}
-use Rattle.member_giving.proofs.Working.{same_run, step_on, works_on}
+use Rattle.member_giving.proofs.Names.{◌∙◌, ap, subst, sym, arith, refl, [], ◌∷◌, ◌++◌, List, MemberId, Entry, Queue, MayBegin, end_by, Member, tells_some, IsAnswered, more_begins, reply_answered, closing_reply, given_in, reply_to, Works, queue_here}
+use Rattle.member_node.proofs.TextLemmas.{plain_brings}
+use Rattle.member_giving.proofs.Given.{closing_one, given_done, given_not, may_config, one_more, works_given}
+use Rattle.member_giving.proofs.Resting.{tells_here}
+use Rattle.member_giving.proofs.Working.{same_run}
 use Rattle.member_giving.proofs.giving.give.Goals as goal
 
-pub play_command-requires-clause-right : goal.play_command-requires-clause-right
-play_command-requires-clause-right g c told sound = c.requires.right told
+pub give-requires-clause-may : goal.give-requires-clause-may
+give-requires-clause-may g c s = may_config c.args.member.now.checkpoint.tables c.args.complex.now.base s c.requires.works.work.config c.args.member.now.id c.args.command c.requires.may.may
 
-pub returns-in_err-end-clause-run : goal.returns-in_err-end-clause-run
-returns-in_err-end-clause-run g c =
-    let k = c.play_command.ensures in
-    same_run c.args.complex.now c.play_command.new.complex c.args.member.now c.play_command.new.member c.args.holder k.base k.since k.renewals k.book k.id
+-- OUT OF MEMORY
 
-pub returns-in_err-end-clause-given : goal.returns-in_err-end-clause-given
-returns-in_err-end-clause-given g c =
-    let P = g.P.Plant in
-    let x = c.args.complex.now in
+pub give_up-requires-clause-works : goal.give_up-requires-clause-works
+give_up-requires-clause-works g c = subst (λ (i : Member). Works c.args.complex.now i c.args.holder) (sym c.in_default.ensures.err) c.requires.works
+
+pub give_up-requires-clause-high : goal.give_up-requires-clause-high
+give_up-requires-clause-high g c = let level = c.give.ensures.has.level in let room = c.requires.room.high in omega (arith, level, room)
+
+pub returns-in_default-clause-run : goal.returns-in_default-clause-run
+returns-in_default-clause-run g c = c.give_up.ensures.run ∙ same_run c.args.complex.now c.args.complex.now c.args.member.now c.give.new.member c.args.holder refl refl refl refl c.give.ensures.has.id
+
+pub returns-in_default-clause-given : goal.returns-in_default-clause-given
+returns-in_default-clause-given g c =
+    let h = c.args.holder in
+    let d = c.args.command ∷ [] in
+    given_not c.args.complex.now c.args.member.now c.give.new.member h c.requires.works c.give.ensures.has c.give_up.new.complex c.give_up.new.member c.give_up.result (λ (R : Queue) (i : MemberId). d) _ _
+    (λ (R : Queue) (i : MemberId). end_by (closing_reply (given_in R i h.step d))) c.in_default.ensures.gives c.give_up.ensures.gives_up
+
+-- THE COMMAND WAS GIVEN
+
+pub returns : goal.returns
+returns g c =
     let m = c.args.member.now in
     let h = c.args.holder in
-    let w = c.requires.works in
-    let k = c.play_command.ensures in
-    let p = c.in_err-end.ensures.played in
-    let Q = queue_here x m in
-    let q = err_from_is_err_and c.from_residual.result c.from_residual.ensures.1 in
-    rw (q.1, q.2) (played_given x c.play_command.new.complex m c.play_command.new.member h w.own w.work k.base (Err _) (entry_with m.id h.step c.args.command p.reply ∷ []) m.batch (end_by p.reply) (end_by (closing_reply (given_in Q h.by h.step (c.args.command ∷ [])))) (c.args.command ∷ []) refl tt
-    (λ told. ap (λ (i : MemberId). entry_with i h.step c.args.command p.reply ∷ []) (sym w.own) ∙ ap (λ (r : Reply). entry_with h.by h.step c.args.command r ∷ []) (p.is told ∙ ap (λ (i : MemberId). reply_to Q i c.args.command) (sym w.own)))
-    (λ told. ap end_by (p.is told ∙ ap (λ (i : MemberId). reply_to Q i c.args.command) (sym w.own) ∙ sym (closing_one Q h.by h.step c.args.command c.requires.may.closes)))
-    k.apart c.in_err-end.ensures.counts k.notes.others p.played)
-
-pub returns-clause-run : goal.returns-clause-run
-returns-clause-run g c =
-    let k = c.play_command.ensures in
-    same_run c.args.complex.now c.play_command.new.complex c.args.member.now c.play_command.new.member c.args.holder k.base k.since k.renewals k.book k.id
-
-pub returns-clause-given : goal.returns-clause-given
-returns-clause-given g c =
-    let P = g.P.Plant in
-    let x = c.args.complex.now in
-    let m = c.args.member.now in
-    let h = c.args.holder in
-    let w = c.requires.works in
-    let k = c.play_command.ensures in
-    let o = c.in_ok-end.ensures in
-    let p = o.played in
-    let Q = queue_here x m in
-    played_given x c.play_command.new.complex m c.play_command.new.member h w.own w.work k.base (Ok c.in_ok-end.end) (entry_with m.id h.step c.args.command p.reply ∷ []) m.batch (end_by p.reply) (end_by (closing_reply (given_in Q h.by h.step (c.args.command ∷ [])))) (c.args.command ∷ []) refl o.work
-    (λ told. ap (λ (i : MemberId). entry_with i h.step c.args.command p.reply ∷ []) (sym w.own) ∙ ap (λ (r : Reply). entry_with h.by h.step c.args.command r ∷ []) (p.is told ∙ ap (λ (i : MemberId). reply_to Q i c.args.command) (sym w.own)))
-    (λ told. ap end_by (p.is told ∙ ap (λ (i : MemberId). reply_to Q i c.args.command) (sym w.own) ∙ sym (closing_one Q h.by h.step c.args.command c.requires.may.closes)))
-    k.apart o.counts k.notes.others p.played
-
-pub returns-clause-works : goal.returns-clause-works
-returns-clause-works g c =
-    let x = c.args.complex.now in
-    let y = c.play_command.new.complex in
-    let m = c.args.member.now in
-    let n = c.play_command.new.member in
-    let h = c.args.holder in
-    let k = c.play_command.ensures in
-    let o = c.in_ok-end.ensures in
-    works_on x y m n h c.requires.works (same_run x y m n h k.base k.since k.renewals k.book k.id) o.work o.of o.untold (step_on x y m n h c.requires.works k.id o.work _ c.in_ok-end.end o.played.played.keeps) o.copy1 o.copy2 (o.notes.own c.requires.works.noted)
-
-pub returns-clause-answered : goal.returns-clause-answered
-returns-clause-answered g c =
-    let p = c.in_ok-end.ensures.played in
-    subst IsAnswered (sym p.played.ends) (reply_answered p.reply)
+    let d = c.args.command in
+    let s = tells_some m.checkpoint.tables in
+    record {
+      run = same_run c.args.complex.now c.args.complex.now c.args.member.now c.give.new.member c.args.holder refl refl refl refl c.give.ensures.has.id;
+      given = given_done c.args.complex.now m c.give.new.member h c.requires.works c.give.ensures.has (λ (R : Queue) (i : MemberId). d ∷ []) _ c.in-Ok.end (λ (R : Queue) (i : MemberId). end_by (closing_reply (given_in R i h.step (d ∷ [])))) c.in-Ok.ensures.gives
+          (λ R told. c.in-Ok.ensures.end R told ∙ ap end_by (sym (closing_one R m.id h.step d c.requires.may.closes)));
+      named = c.in-Ok.ensures.named;
+      works =
+          let x = c.args.complex.now in
+          let n = c.give.new.member in
+          let w = c.requires.works in
+          let may = c.requires.may in
+          let gives = c.in-Ok.ensures.gives in
+          let one = one_more m n h d s.0 (gives s.0 s.1) in
+          works_given x m n h w c.give.ensures.has (λ (R : Queue) (i : MemberId). d ∷ []) _ _ gives (omega (arith, one, c.requires.few)) (λ t. (w.work.sound t, plain_brings d may.plain)) c.kept_texts.ensures.kept
+          (λ t. let its = gives (queue_here x m) (tells_here x m h w t) in subst (λ (es : List Entry). MayBegin x.base x.journal.batches x.printed es) (sym (its.batch ∙ ap (λ (es : List Entry). m.batch ++ es) its.part)) (more_begins x.base m.id x.journal.batches x.printed m.batch h.step d (reply_to (queue_here x m) m.id d) may.may may.fit (λ sound. c.requires.right t) (w.work.allowed t)));
+      order =
+          let one = one_more m c.give.new.member c.args.holder c.args.command s.0 (c.in-Ok.ensures.gives s.0 s.1) in
+          let order = c.give.ensures.has.order in
+          omega (arith, one, order);
+      high = c.give.ensures.has.level;
+      reached = refl;
+      one = one_more m c.give.new.member c.args.holder c.args.command s.0 (c.in-Ok.ensures.gives s.0 s.1);
+      answered = subst IsAnswered (sym (c.in-Ok.ensures.end s.0 s.1)) (reply_answered (reply_to s.0 m.id c.args.command));
+    }

@@ -1,15 +1,7 @@
-use Rattle.std.proofs.Common.{◌∙◌, ◌+◌, List, Ok, length, ap, refl, subst, sym, arith}
-use Rattle.mas_types.specs.declared.journals.Entry.{Entry}
-use Rattle.member_steps.specs.Counting.{HasCounted}
-use Rattle.member_steps.proofs.CountLemmas.{counted_none}
-use Rattle.member_decks.proofs.OpenLemmas.{on_ok}
-use Rattle.member_work.proofs.KeepingLemmas.{keeping_none}
-use Rattle.step_turns.specs.Entries.{all_entries}
-use Rattle.member_giving.specs.Works.{outside}
+use Rattle.member_giving.proofs.Names.{◌∙◌, ap, refl, subst, sym, arith, ◌+◌, List, Ok, length, Entry, HasCounted, counted_none, on_ok, keeping_none, all_entries, outside, Tables}
 use Rattle.member_giving.proofs.Cuts.{after_all, after_none, batch_entries, full_all, full_none}
 use Rattle.member_giving.proofs.Going.{apart_none}
 use Rattle.member_giving.proofs.Working.{less_room}
-use Rattle.ckpt_tables.specs.declared.tables.Tables.{Tables}
 use Rattle.member_giving.proofs.giving.keep_full.Goals as goal
 
 pub returns-then-len-lt-BATCH_MOST-clause-keeps : goal.returns-then-len-lt-BATCH_MOST-clause-keeps

@@ -1,12 +1,6 @@
-use Rattle.std.proofs.Common.{◌≡◌, ◌∙◌, ℕ, Some, ap, sym}
-use Rattle.mas_types.specs.declared.ids.JobNo.{JobNo}
-use Rattle.mas_types.specs.declared.ids.OutNo.{OutNo}
-use Rattle.mas_types.specs.Queue.{output_at}
-use Rattle.member_work.specs.Units.{chunk_end}
+use Rattle.member_giving.proofs.Names.{◌≡◌, ℕ, Some, ◌∙◌, ap, sym, JobNo, OutNo, output_at, chunk_end, PrintLines, lines_of}
 use Rattle.member_work.proofs.PrintedLemmas.{chunk_of, output_key, told_output}
-use Rattle.step_turns.specs.declared.states.Aside.TheVariants.{PrintLines}
 use Rattle.member_giving.specs.declared.nexts.Next.TheVariants as next
-use Rattle.member_giving.specs.Nexts.{lines_of}
 use Rattle.member_giving.proofs.nexts.next_lines.Goals as goal
 
 pub returns-in-Some : goal.returns-in-Some

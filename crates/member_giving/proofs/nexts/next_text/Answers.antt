@@ -1,10 +1,7 @@
-use Rattle.std.proofs.Common.{◌∙◌, ap, sym}
+use Rattle.member_giving.proofs.Names.{◌∙◌, ap, sym, tells_some, ReadText, text_of}
 use Rattle.lay_bytes.specs.declared.records.JobRec.{JobRec}
-use Rattle.member_decks.proofs.OpenLemmas.{tells_some}
 use Rattle.member_work.proofs.LookingLemmas.{number_of, told_job}
-use Rattle.step_turns.specs.declared.states.Aside.TheVariants.{ReadText}
 use Rattle.member_giving.specs.declared.nexts.Next.TheVariants as next
-use Rattle.member_giving.specs.Nexts.{text_of}
 use Rattle.member_giving.proofs.nexts.next_text.Goals as goal
 
 pub returns-in-Some : goal.returns-in-Some

@@ -1,14 +1,8 @@
-use Rattle.std.proofs.Common.{true, false, ◌≡◌, ◌∙◌, ◌-◌, ap, sym}
+use Rattle.member_giving.proofs.Names.{true, false, ◌≡◌, ◌-◌, ◌∙◌, ap, sym, unit_of, tells_some, command_fits, next_unit as next_unit_lem, units_from, Next, turn_by}
 use Rattle.mas_types.specs.declared.units.Unit as units
-use Rattle.mas_types.specs.Units.{unit_of}
-use Rattle.member_decks.proofs.OpenLemmas.{tells_some}
 use Rattle.member_work.proofs.UnderWayLemmas.{convert_under_way, finish_indexed, print_under_way, run_under_way}
-use Rattle.member_work.proofs.UnitStepLemmas.{command_fits}
-use Rattle.step_turns.specs.Turns.{next_unit as next_unit_lem, units_from}
-use Rattle.member_giving.specs.declared.nexts.Next.{Next}
-use Rattle.member_giving.specs.Nexts.{turn_by}
 use Rattle.member_giving.proofs.Following.{by_command, by_convert, by_none, by_print, by_run, none_left, some_left}
-use Rattle.member_giving.proofs.Readiness.{lines_ready, lines_wait, text_ready, text_waits}
+use Rattle.member_giving.proofs.Resting.{lines_ready, lines_wait, text_ready, text_waits}
 use Rattle.member_giving.proofs.nexts.next_unit.Goals as goal
 
 -- NO UNIT IS LEFT

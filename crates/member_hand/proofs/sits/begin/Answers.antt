@@ -68,4 +68,4 @@ returns-in-Work-clause-again g c =
     let x = parts_of c.args.complex.now in
     let y = parts_of c.sit_work.new.complex in
     let e = c.sit_work.ensures in
-    rw c.in-Work.is (work_all g.P.Plant g.C.Copying x y c.args.member.now c.sit_work.new.member (begins c.args.holder (Work c.in-Work.units)) c.sit_work.result tt e.again e.waits e.fewer e.reached)
+    rw c.in-Work.is (work_all g.P.Plant g.C.Copying x y c.args.member.now c.sit_work.new.member (begins c.args.holder (Work c.in-Work.units)) c.sit_work.result tt e.leaves)

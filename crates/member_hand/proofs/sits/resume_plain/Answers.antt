@@ -39,4 +39,4 @@ returns-in_default-clause-again g c =
     let y = parts_of c.resume_work.new.complex in
     let e = c.resume_work.ensures in
     let may = resume_right g.P.Plant g.C.Copying x c.args.member.now.id c.args.aside c.args.found c.in_default.not-SpoolDeck c.requires.off c.requires.may.right in
-    work_all g.P.Plant g.C.Copying x y c.args.member.now c.resume_work.new.member (resumes c.args.holder c.args.aside c.args.found) c.resume_work.result (resume_works g.P.Plant g.C.Copying x c.args.member.now.id c.args.aside c.args.found may) e.again e.waits e.fewer e.reached
+    work_all g.P.Plant g.C.Copying x y c.args.member.now c.resume_work.new.member (resumes c.args.holder c.args.aside c.args.found) c.resume_work.result (resume_works g.P.Plant g.C.Copying x c.args.member.now.id c.args.aside c.args.found may) e.leaves

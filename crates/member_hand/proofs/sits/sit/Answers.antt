@@ -69,4 +69,4 @@ returns-in-Rested-clause-again g c =
     let e = c.sit_work.ensures in
     subst (λ (s : Start). IfOk c.sit_work.result (λ e. SitsOnFrom c.args.complex.now c.sit_work.new.complex c.sit_work.new.member s e))
     (sym (start_rested at.holder at.state at.found c.in-Rested.progress c.in-Rested.is right))
-    (work_all g.P.Plant g.C.Copying x y c.args.member.now c.sit_work.new.member (rests at.holder (Rested c.in-Rested.progress)) c.sit_work.result tt e.again e.waits e.fewer e.reached)
+    (work_all g.P.Plant g.C.Copying x y c.args.member.now c.sit_work.new.member (rests at.holder (Rested c.in-Rested.progress)) c.sit_work.result tt e.leaves)

@@ -1,20 +1,8 @@
-use Rattle.std.proofs.Common.{◌≡◌, ◌≤◌, ◌∙◌, ℕ, List, All, Result, length, take, ap, subst, sym}
+use Rattle.member_sittings.proofs.Names.{◌≡◌, ◌≤◌, ◌∙◌, ℕ, List, All, Result, length, take, ap, subst, sym, Config, groups_needed, member_count, kept_all, run, parts_of, spools_at, NodeNo, Rise, acts_none, kept_none, sparing_none, Found, HasSpooled, lowest_groups}
 use Rattle.mas_types.specs.declared.ids.GroupNo.{GroupNo}
-use Rattle.mas_types.specs.declared.queues.Config.{Config}
-use Rattle.mas_types.specs.Owners.{groups_needed, member_count}
 use Rattle.track_groups.specs.Groups.{held_by}
-use Rattle.mas_complex.specs.Journals.{kept_all}
-use Rattle.mas_complex.specs.Meaning.{run}
-use Rattle.mas_complex.specs.Parts.{parts_of}
 use Rattle.mas_complex.specs.Spool.{IsGroupOf, IsHeldBy}
-use Rattle.mas_complex.specs.Texts.{spools_at}
-use Rattle.member_node.specs.declared.member.NodeNo.{NodeNo}
-use Rattle.member_decks.specs.Spooling.{Rise}
 use Rattle.member_decks.proofs.HeldLemmas.{all_within, as_many_held, lowest_rise}
-use Rattle.member_decks.proofs.PageLemmas.{acts_none, kept_none}
-use Rattle.member_node.proofs.SpareLemmas.{sparing_none}
-use Rattle.step_turns.specs.declared.states.Found.{Found}
-use Rattle.member_sittings.specs.Asides.{HasSpooled, lowest_groups}
 use Rattle.member_sittings.proofs.AsideLemmas.{all_take, spools_by}
 use Rattle.member_sittings.proofs.asides.spool_deck.Goals as goal
 

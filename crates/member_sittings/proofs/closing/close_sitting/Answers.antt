@@ -1,8 +1,4 @@
-use Rattle.std.proofs.Common.{ap, arith}
-use Rattle.std.proofs.lemmas.Result.{err_from_is_err_and}
-use Rattle.ckpt_tables.specs.declared.tables.Tables.{Tables}
-use Rattle.mas_complex.specs.Parts.{parts_of}
-use Rattle.step_turns.specs.declared.states.State.TheVariants.{Told}
+use Rattle.member_sittings.proofs.Names.{ap, arith, err_from_is_err_and, Tables, parts_of, Told}
 use Rattle.member_sittings.proofs.KeepLemmas.{ends_of, sat_closed, sat_unclosed}
 use Rattle.member_sittings.proofs.SeatLemmas.{Kept, own_batch, seat_kept}
 use Rattle.member_sittings.proofs.closing.close_sitting.Goals as goal

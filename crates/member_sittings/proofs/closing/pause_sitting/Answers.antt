@@ -1,8 +1,4 @@
-use Rattle.std.proofs.Common.{[], ap, refl, arith}
-use Rattle.std.proofs.lemmas.Result.{err_from_is_err_and}
-use Rattle.ckpt_tables.specs.declared.tables.Tables.{Tables}
-use Rattle.mas_complex.specs.Parts.{parts_of}
-use Rattle.step_turns.specs.declared.states.State.TheVariants.{Away}
+use Rattle.member_sittings.proofs.Names.{[], ap, refl, arith, err_from_is_err_and, Tables, parts_of, Away}
 use Rattle.member_sittings.proofs.KeepLemmas.{acted, ends_of, sat_kept, sat_unkept}
 use Rattle.member_sittings.proofs.SeatLemmas.{Kept, own_batch, sits_kept}
 use Rattle.member_sittings.proofs.closing.pause_sitting.Goals as goal

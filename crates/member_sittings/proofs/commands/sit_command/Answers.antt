@@ -1,27 +1,6 @@
-use Rattle.std.proofs.Common.{◌≡◌, ◌∙◌, ◌+◌, ◌<◌, ◌^◌, ℕ, List, [], ◌∷◌, refl, sym, ap, subst, arith}
-use Rattle.std.proofs.Math.Logic.{∥∥₁_map}
-use Rattle.mas_types.specs.declared.ids.MemberId.{MemberId}
-use Rattle.mas_types.specs.declared.journals.Entry.{Entry}
-use Rattle.mas_types.specs.declared.queues.Queue.{Queue}
-use Rattle.mas_types.specs.Closings.{reply_lines}
-use Rattle.ckpt_tables.specs.declared.tables.Tables.{Tables}
-use Rattle.mas_complex.specs.Journals.{kept_all}
-use Rattle.mas_complex.specs.Meaning.{run}
-use Rattle.mas_complex.specs.Parts.{parts_of}
-use Rattle.mas_complex.specs.Texts.{lost_now, spools_at}
-use Rattle.member_node.proofs.WriteLemmas.{none_out}
-use Rattle.member_steps.specs.Steps.{entry_of, entry_with, reply_to}
-use Rattle.member_steps.specs.Saying.{TellKept}
-use Rattle.member_steps.proofs.FateLemmas.{reply_tells}
-use Rattle.member_steps.proofs.StepLemmas.{if_ok, may_alike, some_of_one, step_texts}
-use Rattle.member_decks.proofs.FinishLemmas.{one_of}
-use Rattle.step_turns.specs.declared.states.State.TheVariants.{Told}
-use Rattle.step_turns.specs.States.{nothing_found}
-use Rattle.member_sittings.specs.Ends.{ends_in}
-use Rattle.member_sittings.specs.Sat.{IsSatOn}
-use Rattle.member_sittings.specs.Whole.{Commanded}
+use Rattle.member_sittings.proofs.Names.{◌≡◌, ◌∙◌, ◌<◌, ◌^◌, ℕ, List, [], ◌∷◌, refl, sym, ap, subst, arith, ∥∥₁_map, MemberId, Entry, Queue, reply_lines, Tables, kept_all, run, parts_of, lost_now, spools_at, none_out, entry_of, entry_with, reply_to, TellKept, reply_tells, if_ok, may_alike, some_of_one, step_texts, one_of, Told, nothing_found, ends_in, Commanded}
 use Rattle.member_sittings.proofs.KeepLemmas.{sat_none}
-use Rattle.member_sittings.proofs.SeatLemmas.{gives_one}
+use Rattle.member_sittings.proofs.SeatLemmas.{gives_one, may_keep, sat_on}
 use Rattle.member_sittings.proofs.TurnLemmas.{all_of_one, command_sits}
 use Rattle.member_sittings.proofs.commands.sit_command.Goals as goal
 
@@ -68,22 +47,18 @@ close_sitting-requires-clause-may g c =
       spelling = e.spelling;
       fit = e.fit;
     } in
-    let bounds = c.requires.may.bounds in
-    let high = bounds.high in
-    let reached = bounds.reached in
     record {
       gives = gives_one P C (parts_of x) m n did c.args.holder.step sits c.args.command k.given.0 k.given.2 may.may may.fit may.unmarked e.order k.done
           (λ t. k.sound (b.sound t) (may_alike m.checkpoint.tables x.base (kept_all x.journal.batches) (b.sound t) (b.queue t) m.id c.args.command may.may))
           (λ t. ∥∥₁_map (c.kept_texts.ensures.kept t) (λ has. step_texts c.law_of_texts.ensures.texts c.law_of_texts.ensures.told (lost_now v) (spools_at v v.now) x.base.config.groups x.base x.base x.journal.batches x.journal.batches
           m.checkpoint.tables m.id c.args.holder.step c.args.command n.batch may.plain (b.sound t) (b.queue t) refl refl (k.entry _ (b.queue t)) has));
       some = some_of_one n.batch _ k.given.2;
-      bounds = record { high = subst (λ (i : ℕ). i + 1 < 2 ^ 63) (sym e.level) (omega (arith, high)); reached = omega (arith, reached); first = bounds.first; second = bounds.second };
+      bounds = may_keep g.P.Plant g.C.Copying (parts_of c.args.complex.now) m n e.level c.requires.may.bounds;
       holder = c.requires.may.holder ∙ sym e.id;
     }
 
 pub returns-clause-sat : goal.returns-clause-sat
 returns-clause-sat g c =
-    let P = g.P.Plant in
     let x = c.args.complex.now in
     let m = c.args.member.now in
     let n = c.give.new.member in
@@ -121,12 +96,12 @@ pub returns-clause-again : goal.returns-clause-again
 returns-clause-again g c =
     let x = c.args.complex.now in
     let m = c.args.member.now in
+    let n = c.give.new.member in
     let z = c.close_sitting.new.complex in
     let l = c.close_sitting.new.member in
     let d = c.give.ensures in
     let tables = ap (λ (t : Tables). t.order) c.close_sitting.ensures.tables in
-    if_ok _ (λ e. IsSatOn g.P.Plant g.C.Copying (parts_of x) (parts_of z) m l c.args.holder.step e) c.close_sitting.result
-    (λ e on. record { sits = on.sits; grown = record { order = omega (arith, d.order, tables); high = rw d.level at on.grown.high; reached = on.grown.reached } }) c.close_sitting.ensures.again
+    sat_on g.P.Plant g.C.Copying (parts_of x) m n d.level (parts_of z) l c.args.holder.step c.close_sitting.result (omega (arith, d.order, tables)) c.close_sitting.ensures.again
 
 pub returns-clause-told : goal.returns-clause-told
 returns-clause-told g c = if_ok _ (λ e. e.next ≡ Told) c.close_sitting.result (λ e ends. ends.next) c.close_sitting.ensures.sat.sat.ends

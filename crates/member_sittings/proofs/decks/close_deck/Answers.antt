@@ -1,12 +1,4 @@
-use Rattle.std.proofs.Common.{◌∙◌, ◌<◌, ◌^◌, ℕ, List, [], ◌∷◌, ap, refl, subst, sym, arith}
-use Rattle.mas_types.specs.declared.ids.MemberId.{MemberId}
-use Rattle.mas_complex.specs.Parts.{parts_of}
-use Rattle.member_node.proofs.WriteLemmas.{none_out}
-use Rattle.member_steps.specs.Saying.{TellKept}
-use Rattle.member_decks.specs.Decks.{closing_reply, lines_by}
-use Rattle.step_turns.specs.declared.states.State.TheVariants.{Told}
-use Rattle.member_sittings.specs.Ends.{ends_in}
-use Rattle.member_sittings.specs.Sat.{IsSatAs}
+use Rattle.member_sittings.proofs.Names.{◌∙◌, ◌<◌, ◌^◌, ℕ, List, [], ◌∷◌, ap, refl, subst, sym, arith, MemberId, parts_of, none_out, TellKept, closing_reply, lines_by, Told, ends_in, IsSatAs}
 use Rattle.member_sittings.proofs.KeepLemmas.{sat_none}
 use Rattle.member_sittings.proofs.Telling.{deck_tells}
 use Rattle.member_sittings.proofs.decks.close_deck.Goals as goal

@@ -1,45 +1,80 @@
-use Rattle.std.proofs.Common.{◌≡◌, ◌∙◌, ◌+◌, ◌≤◌, ◌<◌, ◌^◌, ℕ, true, List, [], ◌∷◌, ◌++◌, None, Some, refl, sym, ap, subst, arith}
+use Rattle.member_sittings.proofs.Names.{◌≡◌, ◌∙◌, ◌≤◌, ℕ, true, List, [], ◌∷◌, ◌++◌, None, Result, Ok, refl, sym, ap, subst, arith, MemberId, Entry, Config, Queue, groups_needed, member_count, is_member, Tables, kept_all, run, parts_of, entry_of, if_ok, Opened, Tell, Member, ends_as, given_in, opening, AreOf, LeaveOut, tells_some, closed_of, groups_few, some_given, job_opened, entries_closing_reply as closing_reply, Away, SpoolDeck, nothing_found, HasGroups, WaitsRightly, deck_end, ends_in, Commanded, IsToCut, IsToKeep}
 use Rattle.mas_types.specs.declared.commands.Command.TheVariants.{Begin}
-use Rattle.mas_types.specs.declared.ids.MemberId.{MemberId}
-use Rattle.mas_types.specs.declared.journals.Entry.{Entry}
-use Rattle.mas_types.specs.declared.queues.Config.{Config}
 use Rattle.mas_types.specs.declared.queues.Owner.{Owner}
-use Rattle.mas_types.specs.declared.queues.Queue.{Queue}
-use Rattle.mas_types.specs.Owners.{groups_needed, member_count}
-use Rattle.mas_types.specs.Queue.{is_member}
-use Rattle.ckpt_tables.specs.declared.tables.Tables.{Tables}
-use Rattle.mas_complex.specs.Journals.{kept_all}
-use Rattle.mas_complex.specs.Meaning.{run}
-use Rattle.mas_complex.specs.Parts.{parts_of}
-use Rattle.member_steps.specs.Steps.{entry_of}
-use Rattle.member_steps.proofs.StepLemmas.{if_ok}
-use Rattle.member_decks.specs.Decks.{ends_as, given_in, opening}
-use Rattle.member_decks.specs.Steps.{AreOf}
-use Rattle.member_decks.specs.Taking.{LeaveOut}
 use Rattle.member_decks.proofs.DeckLemmas.{given_of, opened_enough}
-use Rattle.member_decks.proofs.OpenLemmas.{tells_some}
-use Rattle.member_decks.proofs.PlayLemmas.{closed_of, groups_few, some_given}
-use Rattle.step_turns.specs.Decks.{job_opened}
-use Rattle.step_turns.specs.Entries.{closing_reply}
-use Rattle.step_turns.specs.declared.states.State.TheVariants.{Away}
-use Rattle.step_turns.specs.declared.states.Aside.TheVariants.{SpoolDeck}
-use Rattle.step_turns.specs.States.{nothing_found}
-use Rattle.member_sittings.specs.Asides.{HasGroups, WaitsRightly}
-use Rattle.member_sittings.specs.Ends.{deck_end, ends_in}
-use Rattle.member_sittings.specs.Sat.{IsSatOn}
-use Rattle.member_sittings.specs.Whole.{Commanded}
 use Rattle.member_sittings.proofs.KeepLemmas.{sat_given_up}
-use Rattle.member_sittings.proofs.OpenLemmas.{front_is, gives_opened, of_strip, one_some, opened_of, or_one, strip}
-use Rattle.member_sittings.proofs.TurnLemmas.{DeckTurn, FirstPart, all_of_one, deck_closes, deck_sits, deck_waits, opened_alike, opens_shaped, with_closed, with_ready}
+use Rattle.member_sittings.proofs.TurnLemmas.{DeckTurn, FirstPart, all_of_one, deck_closes, deck_sits, deck_waits, opened_alike, opened_with, opens_shaped, with_closed, with_ready}
+use Rattle.member_sittings.proofs.SeatLemmas.{Opens, front_is, gives_opened, may_keep, of_strip, one_some, opened_of, or_one, sat_on, strip}
+use Rattle.member_sittings.proofs.decks.sit_deck.Given as given
 use Rattle.member_sittings.proofs.decks.sit_deck.Goals as goal
+use Rattle.member_sittings.proofs.decks.sit_deck.Goals.{After-open_deck}
+
+-- THE COMMANDS OF THE OPENING, whatever came of them
+
+module _ (g : given.Over) (c : After-open_deck g) where
+  abbrev M : Member
+  M = c.args.member.now
+
+  abbrev N : Member
+  N = c.open_deck.new.member
+
+  abbrev TheQueue : Queue
+  TheQueue = run c.args.complex.now.base (kept_all c.args.complex.now.journal.batches)
+
+  abbrev needed : ℕ
+  needed = groups_needed c.args.deck.text
+
+  groups : c.groups_needed-groups.result ≡ needed
+  groups = c.groups_needed-groups.ensures
+
+  few_needed : c.groups_needed-groups.result ≤ 10000
+  few_needed = let most = groups_few c.args.deck.text c.requires.deck.text in omega (arith, most, groups)
+
+  module _ {T E : Type 0} (r : Result T E) (opens : Opens c.args.holder.step c.args.deck.fields c.groups_needed-groups.result M N r) where
+    -- what was given may be kept, if anything
+    may_cut : IsToCut g.P.Plant g.C.Copying (parts_of c.args.complex.now) N c.args.holder
+    may_cut =
+        let d = c.open_deck.ensures in
+        let did : Commanded M N = record { id = d.id; room = d.room; here = d.here; fresh = d.fresh; level = d.level; levels = d.levels; pages = d.pages; config = d.config; spelling = d.spelling; fit = d.fit } in
+        record {
+          gives = gives_opened g.P.Plant g.C.Copying (parts_of c.args.complex.now) M N c.args.holder.step c.args.deck.fields c.groups_needed-groups.result r c.requires.may.sits did c.requires.deck.fields few_needed opens d.order d.done d.sound
+              c.kept_texts.ensures.kept;
+          bounds = may_keep g.P.Plant g.C.Copying (parts_of c.args.complex.now) M N d.level c.requires.may.bounds;
+          holder = c.requires.may.holder ∙ sym d.id;
+        }
+
+    of_holder : AreOf c.args.holder.by c.args.holder.step N.batch
+    of_holder = subst (λ (i : MemberId). AreOf i c.args.holder.step N.batch) (sym c.requires.may.holder) (opened_of c.args.holder.step c.args.deck.fields c.groups_needed-groups.result M N r opens)
+
+  -- it was opened so
+  module _ {E : Type 0} (o : Opened) (opens : Opens {E = E} c.args.holder.step c.args.deck.fields c.groups_needed-groups.result M N (Ok o))
+      (ends : (q : Queue) → Tell M.checkpoint.tables q → o ≡ ends_as q M.id c.args.deck.fields c.groups_needed-groups.result) where
+    may_keep_it : IsToKeep g.P.Plant g.C.Copying (parts_of c.args.complex.now) N c.args.holder
+    may_keep_it =
+        let may = may_cut (Ok o) opens in
+        let sh = tells_some M.checkpoint.tables in
+        record { gives = may.gives; some = some_given sh.0 M.id c.args.holder.step c.args.deck.fields c.groups_needed-groups.result N.batch (opens sh.0 sh.1).part; bounds = may.bounds; holder = may.holder }
+
+    first_of : (q : Queue) → Tell M.checkpoint.tables q → N.batch ≡ given_in q M.id c.args.holder.step (opening q M.id c.args.deck.fields needed)
+    first_of q tells = subst (λ (k : ℕ). N.batch ≡ given_in q M.id c.args.holder.step (opening q M.id c.args.deck.fields k)) groups (opens q tells).part
+
+    ends_of : (q : Queue) → Tell M.checkpoint.tables q → o ≡ ends_as q M.id c.args.deck.fields needed
+    ends_of q tells = subst (λ (k : ℕ). o ≡ ends_as q M.id c.args.deck.fields k) groups (ends q tells)
+
+    first_told : g.P.Plant.tells → N.batch ≡ FirstPart TheQueue c.args.holder c.args.deck.fields c.args.deck.text nothing_found
+    first_told t = first_of TheQueue (c.requires.may.sits.seat.between.queue t) ∙ ap (λ (i : MemberId). given_in TheQueue i c.args.holder.step (opening TheQueue i c.args.deck.fields needed)) (sym c.requires.may.holder)
+
+    ends_told : g.P.Plant.tells → opened_with (job_opened TheQueue c.args.holder.by c.args.deck.fields needed) ≡ o
+    ends_told t =
+        let ends = ends_of TheQueue (c.requires.may.sits.seat.between.queue t) ∙ ap (λ (i : MemberId). ends_as TheQueue i c.args.deck.fields needed) (sym c.requires.may.holder) in
+        sym (opened_alike TheQueue c.args.holder.by c.args.deck.fields needed) ∙ sym ends
 
 pub open_deck-requires-clause-member : goal.open_deck-requires-clause-member
 open_deck-requires-clause-member g c = let s = c.requires.may.sits.seat.still in subst (λ (k : Config). is_member k c.args.member.now.id ≡ true) s.config s.holds.member
 
 pub open_deck-requires-clause-order : goal.open_deck-requires-clause-order
 open_deck-requires-clause-order g c =
-    let need : ℕ = groups_needed c.args.deck.text in
-    let groups : c.groups_needed-groups.result ≡ need = c.groups_needed-groups.ensures in
+    let groups : c.groups_needed-groups.result ≡ groups_needed c.args.deck.text = c.groups_needed-groups.ensures in
     let few = groups_few c.args.deck.text c.requires.deck.text in
     let order = c.requires.may.bounds.order in
     omega (arith, groups, few, order)
@@ -47,53 +82,32 @@ open_deck-requires-clause-order g c =
 -- OUT OF MEMORY
 
 pub give_up_sitting-requires : goal.give_up_sitting-requires
-give_up_sitting-requires g c =
-    let m = c.args.member.now in
-    let n = c.open_deck.new.member in
-    let d = c.open_deck.ensures in
-    let few = groups_few c.args.deck.text c.requires.deck.text in
-    let groups : c.groups_needed-groups.result ≡ groups_needed c.args.deck.text = c.groups_needed-groups.ensures in
-    let did : Commanded m n = record { id = d.id; room = d.room; here = d.here; fresh = d.fresh; level = d.level; levels = d.levels; pages = d.pages; config = d.config; spelling = d.spelling; fit = d.fit } in
-    let b = c.requires.may.bounds in
-    let high = b.high in
-    let reached = b.reached in
-    record {
-      gives = gives_opened g.P.Plant g.C.Copying (parts_of c.args.complex.now) m n c.args.holder.step c.args.deck.fields c.groups_needed-groups.result _ c.requires.may.sits did c.requires.deck.fields (omega (arith, few, groups))
-          c.in_default.ensures.opening d.order d.done d.sound c.kept_texts.ensures.kept;
-      bounds = record { high = subst (λ (i : ℕ). i + 1 < 2 ^ 63) (sym d.level) (omega (arith, high)); reached = omega (arith, reached); first = b.first; second = b.second };
-      holder = c.requires.may.holder ∙ sym d.id;
-    }
+give_up_sitting-requires g c = may_cut g (goal.at.give_up_sitting-requires g c).After-open_deck _ c.in_default.ensures.opening
 
 pub returns-in_default-clause-sat : goal.returns-in_default-clause-sat
 returns-in_default-clause-sat g c =
-    let P = g.P.Plant in
-    let x = c.args.complex.now in
-    let m = c.args.member.now in
-    let n = c.open_deck.new.member in
+    let w = (goal.at.returns-in_default-clause-sat g c).After-open_deck in
     let h = c.args.holder in
-    let z = c.give_up_sitting.new.complex in
-    let cut = c.give_up_sitting.ensures.cut in
     let fields = c.args.deck.fields in
     let text = c.args.deck.text in
-    let need : ℕ = groups_needed text in
-    let groups : c.groups_needed-groups.result ≡ need = c.groups_needed-groups.ensures in
-    let Q : Queue = run x.base (kept_all x.journal.batches) in
+    let Q : Queue = TheQueue g w in
     let First : List Entry = FirstPart Q h fields text nothing_found in
     let T = DeckTurn Q h fields text nothing_found in
-    let of_m : AreOf m.id h.step n.batch = opened_of h.step fields c.groups_needed-groups.result m n _ c.in_default.ensures.opening in
-    let of : AreOf h.by h.step n.batch = subst (λ (i : MemberId). AreOf i h.step n.batch) (sym c.requires.may.holder) of_m in
+    let m = c.args.member.now in
+    let es = c.open_deck.new.member.batch in
     let e : Entry = entry_of Q h.by h.step (Begin fields) in
-    let rest : List Entry = or_one e (strip n.batch First) in
-    let gave_up = sat_given_up P h.by h refl T.next T.lines (parts_of x) (parts_of z) n.batch rest _ (one_some e (strip n.batch First)) cut.acts cut.leaves cut.counts in
+    let rest : List Entry = or_one e (strip es First) in
+    let cut = c.give_up_sitting.ensures.cut in
+    let gave_up = sat_given_up g.P.Plant h.by h refl T.next T.lines (parts_of c.args.complex.now) (parts_of c.give_up_sitting.new.complex) es rest _ (one_some e (strip es First)) cut.acts cut.leaves cut.counts in
     record {
-      sitting = ends_in h ((n.batch ++ rest) ∷ []) T.next T.lines;
+      sitting = ends_in h ((es ++ rest) ∷ []) T.next T.lines;
       is = λ t.
           let part_m = (c.in_default.ensures.opening Q (c.requires.may.sits.seat.between.queue t)).part in
-          let part_n : LeaveOut n.batch (given_in Q m.id h.step (opening Q m.id fields need)) = subst (λ (k : ℕ). LeaveOut n.batch (given_in Q m.id h.step (opening Q m.id fields k))) groups part_m in
-          let part : LeaveOut n.batch First = subst (λ (i : MemberId). LeaveOut n.batch (given_in Q i h.step (opening Q i fields need))) (sym c.requires.may.holder) part_n in
-          ap (λ (es : List Entry). ends_in h (es ∷ []) T.next T.lines) (front_is n.batch First e part) ∙ sym (deck_sits Q h fields text nothing_found);
-      of = all_of_one h.by h.step (n.batch ++ rest) (of_strip h.by h.step n.batch First e (refl, refl) of (given_of h.by h.step (opening Q h.by fields need) Q));
-      shaped = opens_shaped h fields text nothing_found (job_opened Q h.by fields need) First (n.batch ++ rest);
+          let part_n : LeaveOut es (given_in Q m.id h.step (opening Q m.id fields (needed g w))) = subst (λ (k : ℕ). LeaveOut es (given_in Q m.id h.step (opening Q m.id fields k))) (groups g w) part_m in
+          let part : LeaveOut es First = subst (λ (i : MemberId). LeaveOut es (given_in Q i h.step (opening Q i fields (needed g w)))) (sym c.requires.may.holder) part_n in
+          ap (λ (es : List Entry). ends_in h (es ∷ []) T.next T.lines) (front_is es First e part) ∙ sym (deck_sits Q h fields text nothing_found);
+      of = all_of_one h.by h.step (es ++ rest) (of_strip h.by h.step es First e (refl, refl) (of_holder g w _ c.in_default.ensures.opening) (given_of h.by h.step (opening Q h.by fields (needed g w)) Q));
+      shaped = opens_shaped h fields text nothing_found (job_opened Q h.by fields (needed g w)) First (es ++ rest);
       sat = gave_up.sat;
       tight = gave_up.tight;
     }
@@ -101,51 +115,23 @@ returns-in_default-clause-sat g c =
 -- BEGIN OR A TAKE WAS REFUSED
 
 pub close_deck-requires-clause-may : goal.close_deck-requires-clause-may
-close_deck-requires-clause-may g c =
-    let m = c.args.member.now in
-    let n = c.open_deck.new.member in
-    let d = c.open_deck.ensures in
-    let few = groups_few c.args.deck.text c.requires.deck.text in
-    let groups : c.groups_needed-groups.result ≡ groups_needed c.args.deck.text = c.groups_needed-groups.ensures in
-    let did : Commanded m n = record { id = d.id; room = d.room; here = d.here; fresh = d.fresh; level = d.level; levels = d.levels; pages = d.pages; config = d.config; spelling = d.spelling; fit = d.fit } in
-    let b = c.requires.may.bounds in
-    let high = b.high in
-    let reached = b.reached in
-    let sh = tells_some m.checkpoint.tables in
-    let o = c.in-Ok.ensures.opening sh.0 sh.1 in
-    record {
-      gives = gives_opened g.P.Plant g.C.Copying (parts_of c.args.complex.now) m n c.args.holder.step c.args.deck.fields c.groups_needed-groups.result _ c.requires.may.sits did c.requires.deck.fields (omega (arith, few, groups))
-          c.in-Ok.ensures.opening d.order d.done d.sound c.kept_texts.ensures.kept;
-      some = some_given sh.0 m.id c.args.holder.step c.args.deck.fields c.groups_needed-groups.result n.batch o.part;
-      bounds = record { high = subst (λ (i : ℕ). i + 1 < 2 ^ 63) (sym d.level) (omega (arith, high)); reached = omega (arith, reached); first = b.first; second = b.second };
-      holder = c.requires.may.holder ∙ sym d.id;
-    }
+close_deck-requires-clause-may g c = may_keep_it g (goal.at.close_deck-requires-clause-may g c).After-open_deck c.in-Ok.opened c.in-Ok.ensures.opening c.in-Ok.ensures.opened
 
 pub returns-in_default-opened-clause-sat : goal.returns-in_default-opened-clause-sat
 returns-in_default-opened-clause-sat g c =
-    let x = c.args.complex.now in
-    let m = c.args.member.now in
-    let n = c.open_deck.new.member in
+    let w = (goal.at.returns-in_default-opened-clause-sat g c).After-open_deck in
+    let o = c.in-Ok.opened in
+    let k = c.in-Ok.ensures in
     let h = c.args.holder in
     let fields = c.args.deck.fields in
-    let text = c.args.deck.text in
-    let need : ℕ = groups_needed text in
-    let groups : c.groups_needed-groups.result ≡ need = c.groups_needed-groups.ensures in
-    let Q : Queue = run x.base (kept_all x.journal.batches) in
-    let First : List Entry = FirstPart Q h fields text nothing_found in
-    let of_m : AreOf m.id h.step n.batch = opened_of h.step fields c.groups_needed-groups.result m n _ c.in-Ok.ensures.opening in
+    let es = c.open_deck.new.member.batch in
     record {
-      sitting = deck_end h n.batch None;
+      sitting = deck_end h es None;
       is = λ t.
-          let tells = c.requires.may.sits.seat.between.queue t in
-          let first_m : n.batch ≡ given_in Q m.id h.step (opening Q m.id fields need) = subst (λ (k : ℕ). n.batch ≡ given_in Q m.id h.step (opening Q m.id fields k)) groups (c.in-Ok.ensures.opening Q tells).part in
-          let first : n.batch ≡ First = first_m ∙ ap (λ (i : MemberId). given_in Q i h.step (opening Q i fields need)) (sym c.requires.may.holder) in
-          let ends_m : c.in-Ok.opened ≡ ends_as Q m.id fields need = subst (λ (k : ℕ). c.in-Ok.opened ≡ ends_as Q m.id fields k) groups (c.in-Ok.ensures.opened Q tells) in
-          let ends : ends_as Q h.by fields need ≡ c.in-Ok.opened = sym (ends_m ∙ ap (λ (i : MemberId). ends_as Q i fields need) (sym c.requires.may.holder)) in
-          let closed : job_opened Q h.by fields need ≡ None = with_closed (job_opened Q h.by fields need) (sym (opened_alike Q h.by fields need) ∙ ends ∙ closed_of c.in-Ok.opened c.in_default-opened.not-Ready) in
-          ap (λ (es : List Entry). deck_end h es None) first ∙ sym (deck_closes Q h fields text nothing_found closed);
-      of = all_of_one h.by h.step n.batch (subst (λ (i : MemberId). AreOf i h.step n.batch) (sym c.requires.may.holder) of_m);
-      shaped = record { few = omega arith; release = refl; says = (refl, (closing_reply n.batch, refl)) };
+          let closed = with_closed (job_opened (TheQueue g w) h.by fields (needed g w)) (ends_told g w o k.opening k.opened t ∙ closed_of o c.in_default-opened.not-Ready) in
+          ap (λ (es : List Entry). deck_end h es None) (first_told g w o k.opening k.opened t) ∙ sym (deck_closes (TheQueue g w) h fields c.args.deck.text nothing_found closed);
+      of = all_of_one h.by h.step es (of_holder g w (Ok o) k.opening);
+      shaped = record { few = omega arith; release = refl; says = (refl, (closing_reply es, refl)) };
       sat = c.close_deck.ensures.sat.sat;
       tight = c.close_deck.ensures.sat.tight;
     }
@@ -157,103 +143,56 @@ returns-in_default-opened-clause-waits g c =
 
 pub returns-in_default-opened-clause-again : goal.returns-in_default-opened-clause-again
 returns-in_default-opened-clause-again g c =
-    let x = c.args.complex.now in
-    let m = c.args.member.now in
-    let z = c.close_deck.new.complex in
-    let l = c.close_deck.new.member in
+    let w = (goal.at.returns-in_default-opened-clause-again g c).After-open_deck in
     let d = c.open_deck.ensures in
-    let few = groups_few c.args.deck.text c.requires.deck.text in
-    let groups : c.groups_needed-groups.result ≡ groups_needed c.args.deck.text = c.groups_needed-groups.ensures in
+    let few = few_needed g w in
     let tables = ap (λ (t : Tables). t.order) c.close_deck.ensures.tables in
-    if_ok _ (λ e. IsSatOn g.P.Plant g.C.Copying (parts_of x) (parts_of z) m l c.args.holder.step e) c.close_deck.result
-    (λ e on. record { sits = on.sits; grown = record { order = omega (arith, d.order, few, groups, tables); high = rw d.level at on.grown.high; reached = on.grown.reached } }) c.close_deck.ensures.again
+    sat_on g.P.Plant g.C.Copying (parts_of c.args.complex.now) c.args.member.now c.open_deck.new.member d.level (parts_of c.close_deck.new.complex) c.close_deck.new.member c.args.holder.step c.close_deck.result
+    (omega (arith, d.order, few, tables)) c.close_deck.ensures.again
 
 -- THE GROUPS ARE THERE
 
 pub pause_sitting-requires : goal.pause_sitting-requires
-pause_sitting-requires g c =
-    let m = c.args.member.now in
-    let n = c.open_deck.new.member in
-    let d = c.open_deck.ensures in
-    let few = groups_few c.args.deck.text c.requires.deck.text in
-    let groups : c.groups_needed-groups.result ≡ groups_needed c.args.deck.text = c.groups_needed-groups.ensures in
-    let did : Commanded m n = record { id = d.id; room = d.room; here = d.here; fresh = d.fresh; level = d.level; levels = d.levels; pages = d.pages; config = d.config; spelling = d.spelling; fit = d.fit } in
-    let b = c.requires.may.bounds in
-    let high = b.high in
-    let reached = b.reached in
-    let sh = tells_some m.checkpoint.tables in
-    let o = c.in-Ok.ensures.opening sh.0 sh.1 in
-    record {
-      gives = gives_opened g.P.Plant g.C.Copying (parts_of c.args.complex.now) m n c.args.holder.step c.args.deck.fields c.groups_needed-groups.result _ c.requires.may.sits did c.requires.deck.fields (omega (arith, few, groups))
-          c.in-Ok.ensures.opening d.order d.done d.sound c.kept_texts.ensures.kept;
-      some = some_given sh.0 m.id c.args.holder.step c.args.deck.fields c.groups_needed-groups.result n.batch o.part;
-      bounds = record { high = subst (λ (i : ℕ). i + 1 < 2 ^ 63) (sym d.level) (omega (arith, high)); reached = omega (arith, reached); first = b.first; second = b.second };
-      holder = c.requires.may.holder ∙ sym d.id;
-    }
+pause_sitting-requires g c = may_keep_it g (goal.at.pause_sitting-requires g c).After-open_deck c.in-Ok.opened c.in-Ok.ensures.opening c.in-Ok.ensures.opened
 
-pub returns-clause-sat : goal.returns-clause-sat
-returns-clause-sat g c =
-    let x = c.args.complex.now in
-    let m = c.args.member.now in
-    let n = c.open_deck.new.member in
+pub returns : goal.returns
+returns g c =
+    let w = (goal.at.returns g c).After-open_deck in
+    let o = c.in-Ok.opened in
+    let k = c.in-Ok.ensures in
+    let job = c.in-Ready.job in
     let h = c.args.holder in
     let fields = c.args.deck.fields in
     let text = c.args.deck.text in
-    let job = c.in-Ready.job in
-    let need : ℕ = groups_needed text in
-    let groups : c.groups_needed-groups.result ≡ need = c.groups_needed-groups.ensures in
-    let Q : Queue = run x.base (kept_all x.journal.batches) in
-    let First : List Entry = FirstPart Q h fields text nothing_found in
-    let of_m : AreOf m.id h.step n.batch = opened_of h.step fields c.groups_needed-groups.result m n _ c.in-Ok.ensures.opening in
-    record {
-      sitting = ends_in h (n.batch ∷ []) (Away (SpoolDeck job text)) [];
-      is = λ t.
-          let tells = c.requires.may.sits.seat.between.queue t in
-          let first_m : n.batch ≡ given_in Q m.id h.step (opening Q m.id fields need) = subst (λ (k : ℕ). n.batch ≡ given_in Q m.id h.step (opening Q m.id fields k)) groups (c.in-Ok.ensures.opening Q tells).part in
-          let first : n.batch ≡ First = first_m ∙ ap (λ (i : MemberId). given_in Q i h.step (opening Q i fields need)) (sym c.requires.may.holder) in
-          let ends_m : c.in-Ok.opened ≡ ends_as Q m.id fields need = subst (λ (k : ℕ). c.in-Ok.opened ≡ ends_as Q m.id fields k) groups (c.in-Ok.ensures.opened Q tells) in
-          let ends : ends_as Q h.by fields need ≡ c.in-Ok.opened = sym (ends_m ∙ ap (λ (i : MemberId). ends_as Q i fields need) (sym c.requires.may.holder)) in
-          let ready : job_opened Q h.by fields need ≡ Some job = with_ready (job_opened Q h.by fields need) job (sym (opened_alike Q h.by fields need) ∙ ends ∙ c.in-Ready.is) in
-          ap (λ (es : List Entry). ends_in h (es ∷ []) (Away (SpoolDeck job text)) []) first ∙ sym (deck_waits Q h fields text nothing_found job ready);
-      of = all_of_one h.by h.step n.batch (subst (λ (i : MemberId). AreOf i h.step n.batch) (sym c.requires.may.holder) of_m);
-      shaped = record { few = omega arith; release = refl; says = (refl, refl) };
-      sat = c.pause_sitting.ensures.sat.sat;
-      tight = c.pause_sitting.ensures.sat.tight;
-    }
-
-pub returns-clause-waits : goal.returns-clause-waits
-returns-clause-waits g c =
     let m = c.args.member.now in
-    let n = c.open_deck.new.member in
+    let es = c.open_deck.new.member.batch in
     let l = c.pause_sitting.new.member in
-    let at = c.args.holder.step in
-    let fields = c.args.deck.fields in
-    let text = c.args.deck.text in
     let d = c.open_deck.ensures in
     let e = c.pause_sitting.ensures in
-    let need : ℕ = groups_needed text in
-    let groups : c.groups_needed-groups.result ≡ need = c.groups_needed-groups.ensures in
-    let sh = tells_some m.checkpoint.tables in
-    let o = c.in-Ok.ensures.opening sh.0 sh.1 in
-    let first : n.batch ≡ given_in sh.0 m.id at (opening sh.0 m.id fields need) = subst (λ (i : ℕ). n.batch ≡ given_in sh.0 m.id at (opening sh.0 m.id fields i)) groups o.part in
-    let ends : c.in-Ok.opened ≡ ends_as sh.0 m.id fields need = subst (λ (i : ℕ). c.in-Ok.opened ≡ ends_as sh.0 m.id fields i) groups (c.in-Ok.ensures.opened sh.0 sh.1) in
-    let has = opened_enough m.id at fields need sh.0 c.in-Ready.job (sym ends ∙ c.in-Ready.is) in
-    let owners : (run sh.0 (given_in sh.0 m.id at (opening sh.0 m.id fields need))).owners ≡ l.checkpoint.tables.owners =
-    ap (λ (es : List Entry). (run sh.0 es).owners) (sym first) ∙ o.effect.owners ∙ sym (ap (λ (u : Tables). u.owners) e.tables) in
-    let enough : need ≤ member_count l.id l.checkpoint.tables.owners =
-    subst (λ (i : MemberId). need ≤ member_count i l.checkpoint.tables.owners) (sym (e.id ∙ d.id)) (subst (λ (os : List Owner). need ≤ member_count m.id os) owners has) in
-    let groups_there : HasGroups l text = record { lines = c.requires.deck.text; enough = enough } in
-    if_ok _ (λ e. WaitsRightly l e.next) c.pause_sitting.result (λ e ends. subst (WaitsRightly l) (sym ends.next) groups_there) e.sat.sat.ends
-
-pub returns-clause-again : goal.returns-clause-again
-returns-clause-again g c =
-    let x = c.args.complex.now in
-    let m = c.args.member.now in
-    let z = c.pause_sitting.new.complex in
-    let l = c.pause_sitting.new.member in
-    let d = c.open_deck.ensures in
-    let few = groups_few c.args.deck.text c.requires.deck.text in
-    let groups : c.groups_needed-groups.result ≡ groups_needed c.args.deck.text = c.groups_needed-groups.ensures in
-    let tables = ap (λ (t : Tables). t.order) c.pause_sitting.ensures.tables in
-    if_ok _ (λ e. IsSatOn g.P.Plant g.C.Copying (parts_of x) (parts_of z) m l c.args.holder.step e) c.pause_sitting.result
-    (λ e on. record { sits = on.sits; grown = record { order = omega (arith, d.order, few, groups, tables); high = rw d.level at on.grown.high; reached = on.grown.reached } }) c.pause_sitting.ensures.again
+    record {
+      frame = e.frame;
+      id = e.id ∙ d.id;
+      sat = record {
+        sitting = ends_in h (es ∷ []) (Away (SpoolDeck job text)) [];
+        is = λ t.
+            let ready = with_ready (job_opened (TheQueue g w) h.by fields (needed g w)) job (ends_told g w o k.opening k.opened t ∙ c.in-Ready.is) in
+            ap (λ (es : List Entry). ends_in h (es ∷ []) (Away (SpoolDeck job text)) []) (first_told g w o k.opening k.opened t) ∙ sym (deck_waits (TheQueue g w) h fields text nothing_found job ready);
+        of = all_of_one h.by h.step es (of_holder g w (Ok o) k.opening);
+        shaped = record { few = omega arith; release = refl; says = (refl, refl) };
+        sat = e.sat.sat;
+        tight = e.sat.tight;
+      };
+      again =
+          let few = few_needed g w in
+          let tables = ap (λ (t : Tables). t.order) e.tables in
+          sat_on g.P.Plant g.C.Copying (parts_of c.args.complex.now) m c.open_deck.new.member d.level (parts_of c.pause_sitting.new.complex) l h.step c.pause_sitting.result (omega (arith, d.order, few, tables)) e.again;
+      waits =
+          let sh = tells_some m.checkpoint.tables in
+          let has = opened_enough m.id h.step fields (needed g w) sh.0 job (sym (ends_of g w o k.opening k.opened sh.0 sh.1) ∙ c.in-Ready.is) in
+          let owners : (run sh.0 (given_in sh.0 m.id h.step (opening sh.0 m.id fields (needed g w)))).owners ≡ l.checkpoint.tables.owners =
+          ap (λ (es : List Entry). (run sh.0 es).owners) (sym (first_of g w o k.opening k.opened sh.0 sh.1)) ∙ (k.opening sh.0 sh.1).effect.owners ∙ sym (ap (λ (u : Tables). u.owners) e.tables) in
+          let enough : needed g w ≤ member_count l.id l.checkpoint.tables.owners =
+          subst (λ (i : MemberId). needed g w ≤ member_count i l.checkpoint.tables.owners) (sym (e.id ∙ d.id)) (subst (λ (os : List Owner). needed g w ≤ member_count m.id os) owners has) in
+          let groups_there : HasGroups l text = record { lines = c.requires.deck.text; enough = enough } in
+          if_ok _ (λ e. WaitsRightly l e.next) c.pause_sitting.result (λ e ends. subst (WaitsRightly l) (sym ends.next) groups_there) e.sat.sat.ends;
+    }

@@ -1,31 +1,8 @@
-use Rattle.std.proofs.Common.{◌≡◌, ◌∙◌, ◌+◌, ◌<◌, ◌^◌, ℕ, true, List, [], ◌∷◌, refl, sym, ap, subst, arith}
-use Rattle.std.proofs.Math.Logic.{∥∥₁_map}
-use Rattle.mas_types.specs.declared.commands.Command.{Command}
+use Rattle.member_sittings.proofs.Names.{◌≡◌, ◌∙◌, true, List, [], ◌∷◌, refl, sym, ap, subst, arith, ∥∥₁_map, Command, MemberId, Entry, Config, Queue, IsFit, is_member, may_give, Tables, kept_all, run, parts_of, HasTexts, lost_now, spools_at, none_out, run_append, entry_of, entry_with, if_ok, only_entry, some_of_one, closing_reply, finishing, lines_by, finished_texts, finishing_fit, finishing_giver, finishing_may, finishing_unmarked, one_named, one_of, Told, deck_end, Commanded}
 use Rattle.mas_types.specs.declared.commands.Command.TheVariants as command
-use Rattle.mas_types.specs.declared.ids.MemberId.{MemberId}
-use Rattle.mas_types.specs.declared.journals.Entry.{Entry}
-use Rattle.mas_types.specs.declared.queues.Config.{Config}
-use Rattle.mas_types.specs.declared.queues.Queue.{Queue}
-use Rattle.mas_types.specs.Fit.{IsFit}
-use Rattle.mas_types.specs.Queue.{is_member}
-use Rattle.mas_types.specs.Step.{may_give}
 use Rattle.member_node.specs.Given.{IsGiver}
-use Rattle.ckpt_tables.specs.declared.tables.Tables.{Tables}
-use Rattle.mas_complex.specs.Journals.{kept_all}
-use Rattle.mas_complex.specs.Meaning.{run}
-use Rattle.mas_complex.specs.Parts.{parts_of}
-use Rattle.mas_complex.specs.Texts.{HasTexts, lost_now, spools_at}
-use Rattle.member_node.proofs.WriteLemmas.{none_out, run_append}
-use Rattle.member_steps.specs.Steps.{entry_of, entry_with}
-use Rattle.member_steps.proofs.StepLemmas.{if_ok, only_entry, some_of_one}
-use Rattle.member_decks.specs.Decks.{closing_reply, finishing, lines_by}
-use Rattle.member_decks.proofs.FinishLemmas.{finished_texts, finishing_fit, finishing_giver, finishing_may, finishing_unmarked, one_named, one_of}
-use Rattle.step_turns.specs.declared.states.State.TheVariants.{Told}
-use Rattle.member_sittings.specs.Ends.{deck_end}
-use Rattle.member_sittings.specs.Sat.{IsSatOn}
-use Rattle.member_sittings.specs.Whole.{Commanded}
 use Rattle.member_sittings.proofs.KeepLemmas.{sat_none}
-use Rattle.member_sittings.proofs.SeatLemmas.{gives_one}
+use Rattle.member_sittings.proofs.SeatLemmas.{gives_one, may_keep, sat_on}
 use Rattle.member_sittings.proofs.TurnLemmas.{all_of_one, spooled_sits}
 use Rattle.member_sittings.proofs.decks.sit_spooled.Goals as goal
 
@@ -98,9 +75,6 @@ close_deck-requires-clause-may g c =
       spelling = e.spelling;
       fit = e.fit;
     } in
-    let bounds = c.requires.may.bounds in
-    let high = bounds.high in
-    let reached = bounds.reached in
     record {
       gives = gives_one P C (parts_of x) m n did at sits last p.0 one may (finishing_fit d.lost d.job d.text c.requires.text) (finishing_unmarked d.lost d.job d.text) e.order k.done
           (λ t.
@@ -114,7 +88,7 @@ close_deck-requires-clause-may g c =
           ∥∥₁_map (c.kept_texts.ensures.kept t) (λ has. subst (HasTexts gone disks per) (sym (run_append x.base (kept_all x.journal.batches) n.batch ∙ ap (run Q) named))
           (finished_texts gone disks per Q m.id at own has c.law_of_texts.ensures.texts c.law_of_entered_texts.ensures.enter d.lost d.job d.text (λ none. c.requires.spooled none t))));
       some = some_of_one n.batch (entry_with m.id at last p.0) one;
-      bounds = record { high = subst (λ (i : ℕ). i + 1 < 2 ^ 63) (sym e.level) (omega (arith, high)); reached = omega (arith, reached); first = bounds.first; second = bounds.second };
+      bounds = may_keep g.P.Plant g.C.Copying (parts_of c.args.complex.now) m n e.level c.requires.may.bounds;
       holder = c.requires.may.holder ∙ sym e.id;
     }
 
@@ -128,7 +102,6 @@ close_deck-requires-clause-named g c =
 
 pub returns-clause-sat : goal.returns-clause-sat
 returns-clause-sat g c =
-    let P = g.P.Plant in
     let x = c.args.complex.now in
     let m = c.args.member.now in
     let n = c.do_command.new.self in
@@ -160,12 +133,12 @@ pub returns-clause-again : goal.returns-clause-again
 returns-clause-again g c =
     let x = c.args.complex.now in
     let m = c.args.member.now in
+    let n = c.do_command.new.self in
     let z = c.close_deck.new.complex in
     let l = c.close_deck.new.member in
     let d = c.do_command.ensures in
     let tables = ap (λ (t : Tables). t.order) c.close_deck.ensures.tables in
-    if_ok _ (λ e. IsSatOn g.P.Plant g.C.Copying (parts_of x) (parts_of z) m l c.args.holder.step e) c.close_deck.result
-    (λ e on. record { sits = on.sits; grown = record { order = omega (arith, d.order, tables); high = rw d.level at on.grown.high; reached = on.grown.reached } }) c.close_deck.ensures.again
+    sat_on g.P.Plant g.C.Copying (parts_of x) m n d.level (parts_of z) l c.args.holder.step c.close_deck.result (omega (arith, d.order, tables)) c.close_deck.ensures.again
 
 pub returns-clause-told : goal.returns-clause-told
 returns-clause-told g c = if_ok _ (λ e. e.next ≡ Told) c.close_deck.result (λ e ends. ends.next) c.close_deck.ensures.sat.sat.ends

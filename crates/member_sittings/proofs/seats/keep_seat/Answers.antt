@@ -1,4 +1,4 @@
-use Rattle.mas_complex.specs.Parts.{parts_of}
+use Rattle.member_sittings.proofs.Names.{parts_of}
 use Rattle.member_sittings.proofs.SeatLemmas.{gate_again}
 use Rattle.member_sittings.proofs.seats.keep_seat.Goals as goal
 

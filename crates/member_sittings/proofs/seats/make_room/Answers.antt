@@ -1,11 +1,5 @@
-use Rattle.std.proofs.Common.{length, ap, refl, subst}
-use Rattle.mas_types.specs.declared.queues.Config.{Config}
-use Rattle.member_node.specs.Reads.{AreLow}
-use Rattle.mas_types.specs.declared.journals.Journal.{Journal}
-use Rattle.mas_complex.specs.Parts.{parts_of}
+use Rattle.member_sittings.proofs.Names.{length, ap, refl, subst, Config, AreLow, Journal, parts_of, had_as, notes_same, between_by}
 use Rattle.mas_complex.specs.Past.{values_of}
-use Rattle.member_steps.proofs.NoteLemmas.{had_as, notes_same}
-use Rattle.member_steps.proofs.ReadLemmas.{between_by}
 use Rattle.member_sittings.proofs.SeatLemmas.{Taken, gate_again, taken_seat}
 use Rattle.member_sittings.proofs.Staying.{on_four, settle_copies}
 use Rattle.member_sittings.proofs.seats.make_room.Goals as goal

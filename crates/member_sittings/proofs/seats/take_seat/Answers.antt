@@ -1,7 +1,4 @@
-use Rattle.std.proofs.Common.{ap}
-use Rattle.std.proofs.lemmas.Result.{err_from_is_err_and}
-use Rattle.mas_types.specs.declared.journals.Journal.{Journal}
-use Rattle.mas_complex.specs.Parts.{parts_of}
+use Rattle.member_sittings.proofs.Names.{ap, err_from_is_err_and, Journal, parts_of}
 use Rattle.member_sittings.proofs.SeatLemmas.{Taken, taken_seat}
 use Rattle.member_sittings.proofs.seats.take_seat.Goals as goal
 

@@ -1,33 +1,10 @@
-use Rattle.std.proofs.Common.{◌∙◌, ◌<◌, ◌^◌, ℕ, List, [], ◌∷◌, Ok, Err, ap, refl, subst, sym, arith}
-use Rattle.std.proofs.lemmas.Result.{err_from_is_err_and}
-use Rattle.mas_types.specs.Closings.{closing_line}
-use Rattle.mas_types.specs.declared.ids.MemberId.{MemberId}
+use Rattle.member_units.proofs.Names.{◌∙◌, ◌^◌, List, Ok, Err, ap, refl, subst, sym, arith, ◌<◌, ℕ, [], ◌∷◌, err_from_is_err_and, closing_line, MemberId, batch_of, says, bounds, unwritten, wrote_of, outside, place_of, of_batch, starts_itself, apart_then, closes_err, closes_ok, plays_close, plays_error, closes_said, said_apart, seat_said, close_within, own_batch, same_run, leaves_told}
 use Rattle.member_steps.specs.Saying.{TellKept}
 use Rattle.member_steps.specs.Steps.{AreKeptFrom}
-use Rattle.member_steps.proofs.CountLemmas.{counted_by}
 use Rattle.member_steps.proofs.FateLemmas.{closing_tells}
-use Rattle.member_work.specs.Work.{batches_in}
-use Rattle.step_turns.specs.Batches.{batch_of}
-use Rattle.step_turns.specs.Turns.{says}
-use Rattle.member_giving.specs.Plays.{bounds, unwritten, wrote_of}
-use Rattle.member_giving.specs.Works.{outside, place_of}
-use Rattle.member_giving.proofs.Cuts.{of_batch, one_batch, starts_itself}
-use Rattle.member_giving.proofs.Gave.{keeps_as, spares_of}
-use Rattle.member_giving.proofs.Going.{apart_then, closes_err, closes_ok, plays_close, plays_error}
-use Rattle.member_giving.proofs.Seated.{closes_said, said_apart, seat_said}
-use Rattle.member_giving.proofs.Within.{close_within}
-use Rattle.member_giving.proofs.Working.{own_batch, same_run}
 use Rattle.member_units.proofs.ends.close.Goals as goal
 
 -- OUT OF MEMORY FOR THE LINE
-
-pub give_up-requires-clause-untold : goal.give_up-requires-clause-untold
-give_up-requires-clause-untold g c told = c.requires.works.untold told c.args.member.now.batch c.requires.works.of
-
-pub returns-in_default-clause-run : goal.returns-in_default-clause-run
-returns-in_default-clause-run g c =
-    let k = c.give_up.ensures in
-    same_run c.args.complex.now c.give_up.new.complex c.args.member.now c.give_up.new.member c.args.holder k.base k.since k.renewals k.book k.id
 
 pub returns-in_default-clause-plays : goal.returns-in_default-clause-plays
 returns-in_default-clause-plays g c units found may =
@@ -35,11 +12,10 @@ returns-in_default-clause-plays g c units found may =
     let y = c.give_up.new.complex in
     let m = c.args.member.now in
     let h = c.args.holder in
-    let v = c.requires.works in
+    let up = c.give_up.ensures.gives_up in
     let w = wrote_of m.batch (says (closing_line h.by h.step c.args.end.now ∷ [])) in
-    plays_error g.P.Plant.tells h (bounds (unwritten m.batch) units found) c.args.given {S = Unit {0}} c.give_up.result w w (batch_of m.batch) (place_of x m) (outside y) (λ t. refl) (of_batch h.by h.step m.batch (own_batch x m h v)) (close_within h found units m.batch c.args.end.now may) (starts_itself m.batch)
-    (spares_of x y h.by m.id v.own c.give_up.ensures.apart c.give_up.ensures.notes) (keeps_as x y m h.by (batches_in (m.batch ∷ [])) (batch_of m.batch) (Err c.give_up.result) v.own v.work (one_batch m.batch) c.give_up.ensures.keeps)
-    (counted_by {T = Unit {0}} m.id h.by [] x.printed y.printed (Err c.give_up.result) (sym v.own) c.give_up.ensures.counts)
+    plays_error g.P.Plant.tells h (bounds (unwritten m.batch) units found) c.args.given {S = Unit {0}} c.give_up.result w w (batch_of m.batch) (place_of x m) (outside y) (λ t. refl) (of_batch h.by h.step m.batch (own_batch x m h c.requires.works)) (close_within h found units m.batch c.args.end.now may) (starts_itself m.batch)
+    up.spares up.keeps up.counts
 
 -- THE BATCH COULDN'T BE KEPT
 
@@ -93,33 +69,27 @@ returns-in_err-tell_lines-clause-plays g c units found may =
     rw (q.1, q.2) (plays_close P.tells h (bounds (unwritten m.batch) units found) c.args.given {S = Unit {0}} _ (Err _) lines (place_of x m) (outside y) (outside z) tt (own_batch x m h c.requires.works) (close_within h found units m.batch c.args.end.now may)
     (apart_then P.tells h.by (outside x) (outside y) (outside z) o.keeps.course.goes.later said.course.goes c.keep.ensures.spares (said_apart y z h.by t.said.acts (ap (λ p. p.had) t.frame))) o.keeps o.counts (closes_err P.tells h.by _ lines [] (outside y) (outside z) said) t.printed)
 
-pub returns-clause-run : goal.returns-clause-run
-returns-clause-run g c =
+pub returns : goal.returns
+returns g c =
     let t = c.tell_lines.ensures in
     let n = c.keep.new.member in
-    same_run c.keep.new.complex c.tell_lines.new.complex n n c.args.holder t.base t.since t.renewals t.book refl ∙ c.keep.ensures.run
-
-pub returns-clause-plays : goal.returns-clause-plays
-returns-clause-plays g c units found may =
-    let P = g.P.Plant in
-    let x = c.args.complex.now in
-    let y = c.keep.new.complex in
-    let z = c.tell_lines.new.complex in
-    let m = c.args.member.now in
-    let n = c.keep.new.member in
-    let h = c.args.holder in
-    let t = c.tell_lines.ensures in
     let o = c.in_ok-keep.ensures in
-    let lines = closing_line h.by h.step c.args.end.now ∷ [] in
-    let said = closes_said y z n h o.works t.pair t.journal t.current t.placed lines (Ok _) (rw c.in-Ok.ensures at c.in_ok-tell_lines.ensures.said) in
-    plays_close P.tells h (bounds (unwritten m.batch) units found) c.args.given {S = Unit {0}} _ (Ok _) lines (place_of x m) (outside y) (outside z) (refl, refl, c.release_of-release.ensures) (own_batch x m h c.requires.works) (close_within h found units m.batch c.args.end.now may)
-    (apart_then P.tells h.by (outside x) (outside y) (outside z) o.keeps.course.goes.later said.course.goes c.keep.ensures.spares (said_apart y z h.by t.said.acts (ap (λ p. p.had) t.frame))) o.keeps o.counts (closes_ok P.tells h.by _ _ lines [] (outside y) (outside z) said) t.printed
-
-pub returns-clause-seat : goal.returns-clause-seat
-returns-clause-seat g c =
-    let t = c.tell_lines.ensures in
-    let o = c.in_ok-keep.ensures in
-    seat_said c.keep.new.complex c.tell_lines.new.complex c.keep.new.member c.args.holder o.works t.pair t.journal t.current t.placed o.nothing t.base t.since t.book t.reserved t.first t.second t.level (ap (λ p. p.had) t.frame) t.said.acts
-
-pub returns-clause-reached : goal.returns-clause-reached
-returns-clause-reached g c = rw c.tell_lines.ensures.level c.in_ok-keep.ensures.reached
+    record {
+      run = same_run c.keep.new.complex c.tell_lines.new.complex n n c.args.holder t.base t.since t.renewals t.book refl ∙ c.keep.ensures.run;
+      plays = λ units found may.
+          let P = g.P.Plant in
+          let x = c.args.complex.now in
+          let y = c.keep.new.complex in
+          let z = c.tell_lines.new.complex in
+          let m = c.args.member.now in
+          let h = c.args.holder in
+          let lines = closing_line h.by h.step c.args.end.now ∷ [] in
+          let said = closes_said y z n h o.works t.pair t.journal t.current t.placed lines (Ok _) (rw c.in-Ok.ensures at c.in_ok-tell_lines.ensures.said) in
+          plays_close P.tells h (bounds (unwritten m.batch) units found) c.args.given {S = Unit {0}} _ (Ok _) lines (place_of x m) (outside y) (outside z) (refl, refl, c.release_of-release.ensures) (own_batch x m h c.requires.works) (close_within h found units m.batch c.args.end.now may)
+          (apart_then P.tells h.by (outside x) (outside y) (outside z) o.keeps.course.goes.later said.course.goes c.keep.ensures.spares (said_apart y z h.by t.said.acts (ap (λ p. p.had) t.frame))) o.keeps o.counts (closes_ok P.tells h.by _ _ lines [] (outside y) (outside z) said) t.printed;
+      leaves = λ f some few.
+          let level = t.level in
+          let more = o.reached in
+          leaves_told c.args.complex.now c.tell_lines.new.complex c.args.member.now c.keep.new.member c.args.holder f _ refl
+          (seat_said c.keep.new.complex c.tell_lines.new.complex c.keep.new.member c.args.holder o.works t.pair t.journal t.current t.placed o.nothing t.base t.since t.book t.reserved t.first t.second t.level (ap (λ p. p.had) t.frame) t.said.acts) some (omega (arith, level, more, few));
+    }

@@ -1,14 +1,4 @@
-use Rattle.std.proofs.Common.{[], ap}
-use Rattle.mas_types.specs.declared.queues.Queue.{Queue}
-use Rattle.mas_complex.specs.Paper.{counts_of}
-use Rattle.mas_complex.specs.Texts.{spools_at}
-use Rattle.step_turns.specs.declared.states.State.TheVariants.{Away}
-use Rattle.step_turns.specs.Turns.{aside_turn}
-use Rattle.member_giving.specs.Plays.{wrote_of}
-use Rattle.member_giving.specs.Works.{Run, queue_here, queue_kept}
-use Rattle.member_giving.proofs.Sat.{frame_of, plays_units, sat_of, says_units}
-use Rattle.member_giving.proofs.Seated.{low_bounds, works_sits}
-use Rattle.member_giving.proofs.Working.{kept_here}
+use Rattle.member_units.proofs.Names.{[], ap, Queue, counts_of, spools_at, Away, aside_turn, wrote_of, Run, queue_here, queue_kept, frame_of, plays_units, sat_of, says_units, low_bounds, works_sits, kept_here}
 use Rattle.member_units.proofs.sitting.resume_work.Goals as goal
 
 pub resume-requires-clause-works : goal.resume-requires-clause-works

@@ -1,23 +1,4 @@
-use Rattle.std.proofs.Common.{◌∙◌, inl, ◌+◌, ◌-◌, ◌*◌, [], ◌∷◌, List, Err, length, ap, refl, sym, arith}
-use Rattle.std.proofs.lemmas.List.{length-append}
-use Rattle.std.proofs.lemmas.Result.{err_from_is_err_and}
-use Rattle.mas_types.specs.declared.journals.Entry.{Entry}
-use Rattle.paper_laws.specs.Counts.{counts_after}
-use Rattle.mas_complex.specs.Paper.{counts_of}
-use Rattle.job_outcome.specs.Next.{end_by}
-use Rattle.member_work.proofs.CauseLemmas.{reply_answered}
-use Rattle.step_turns.specs.Courses.{sittings_most}
-use Rattle.step_turns.specs.Entries.{closing_reply, given_in}
-use Rattle.step_turns.specs.declared.states.State.TheVariants.{Away, Told}
-use Rattle.step_turns.specs.Turns.{leaves, no_more, one_command, units_from}
-use Rattle.member_giving.specs.Plays.{bounds, unwritten, wrote_of}
-use Rattle.member_giving.specs.Works.{Run, outside, place_of, queue_here, queue_kept}
-use Rattle.member_giving.proofs.Following.{unit_given, unit_unmarked}
-use Rattle.member_giving.proofs.Going.{part_error, part_then, plays_as, plays_more}
-use Rattle.member_giving.proofs.Readiness.{unit_ready}
-use Rattle.member_giving.proofs.Resting.{again_left, again_told, fewer_left, fewer_than, fewer_told, if_ok, left_some, reached_left, ready_left, ready_told, tells_here, waits_few, waits_fewer}
-use Rattle.member_giving.proofs.Within.{answered_by, unwritten_one}
-use Rattle.member_giving.proofs.Working.{less_room, own_batch, uses_one}
+use Rattle.member_units.proofs.Names.{◌∙◌, inl, ◌-◌, List, ap, refl, sym, arith, ◌+◌, ◌*◌, [], ◌∷◌, length, err_from_is_err_and, Entry, counts_after, counts_of, end_by, reply_answered, sittings_most, closing_reply, given_in, Away, leaves, no_more, units_from, bounds, unwritten, outside, place_of, queue_here, unit_given, unit_unmarked, plays_more, leaves_more, left_some, tells_here, unit_ready, waits_few, waits_fewer, first_ends, first_error, first_then, answered_by, less_room, uses_one}
 use Rattle.member_units.proofs.units.begin.Goals as goal
 
 pub give-requires-clause-room : goal.give-requires-clause-room
@@ -40,23 +21,17 @@ give-requires-clause-right g c told =
 -- what follows is what the queue gives
 pub returns-in_err-end-in-Give-clause-plays : goal.returns-in_err-end-in-Give-clause-plays
 returns-in_err-end-in-Give-clause-plays g c found =
-    let P = g.P.Plant in
     let x = c.args.complex.now in
     let m = c.args.member.now in
     let h = c.args.holder in
     let p = c.args.progress in
     let w = c.requires.works in
-    let Q = queue_here x m in
     let d = c.in-Give.command in
     let q = err_from_is_err_and c.from_residual.result c.from_residual.ensures.1 in
-    let y = c.give.new.complex in
     let some = left_some p.left _ d c.next_unit.ensures.none c.in-Give.is in
-    let one = unwritten_one m.batch in
-    let end = end_by (closing_reply (given_in Q h.by h.step (d ∷ []))) in
-    let b = bounds (3 * p.left + 1) (p.done + p.left) found in
-    rw (q.1, q.2) (plays_as P.tells h b 0 (wrote_of m.batch (one_command h d (p.left - 1) (units_from h (p.left - 1)) Q 0 p.done)) (wrote_of [] (units_from h p.left Q 0 p.done)) (place_of x m) (outside y) (Err _)
-    (λ told. ap (λ (es : List Entry). wrote_of es (one_command h d (p.left - 1) (units_from h (p.left - 1)) Q 0 p.done)) c.requires.nothing ∙ ap (wrote_of []) (sym (c.in-Give.ensures.unit Q h 0 w.own (tells_here x m h w told))))
-    (part_error P.tells h b (d ∷ []) end (place_of x m) (place_of y c.give.new.member) (own_batch x m h w) (p.left - 1) 0 p.done (answered_by found end (reply_answered (closing_reply (given_in Q h.by h.step (d ∷ []))))) (omega (arith, some)) (omega (arith, some, one)) _ c.in_err-end-in-Give.ensures.given))
+    let end = end_by (closing_reply (given_in (queue_here x m) h.by h.step (d ∷ []))) in
+    rw (q.1, q.2) (first_error x c.give.new.complex m c.give.new.member h (bounds (3 * p.left + 1) (p.done + p.left) found) w c.requires.nothing (d ∷ []) end (p.left - 1) p.done (units_from h p.left (queue_here x m) 0 p.done) (answered_by found end (reply_answered (closing_reply (given_in (queue_here x m) h.by h.step (d ∷ []))))) (omega (arith, some)) (omega (arith, some))
+    (λ told. sym (c.in-Give.ensures.unit (queue_here x m) h 0 w.own (tells_here x m h w told))) _ c.in_err-end-in-Give.ensures.given)
 
 pub go_on-requires-clause-room : goal.go_on-requires-clause-room
 go_on-requires-clause-room g c =
@@ -77,30 +52,25 @@ returns-in_ok-end-in-Give-clause-run g c = c.go_on.ensures.run ∙ c.give.ensure
 
 pub returns-in_ok-end-in-Give-clause-plays : goal.returns-in_ok-end-in-Give-clause-plays
 returns-in_ok-end-in-Give-clause-plays g c found =
-    let P = g.P.Plant in
     let x = c.args.complex.now in
     let y = c.give.new.complex in
-    let z = c.go_on.new.complex in
+    let new = outside c.go_on.new.complex in
     let m = c.args.member.now in
-    let n = c.give.new.member in
     let h = c.args.holder in
     let p = c.args.progress in
     let w = c.requires.works in
-    let Q = queue_here x m in
     let d = c.in-Give.command in
     let some = left_some p.left _ d c.next_unit.ensures.none c.in-Give.is in
     let b = bounds (3 * p.left + 1) (p.done + p.left) found in
-    plays_as P.tells h b 0 (wrote_of m.batch (one_command h d (p.left - 1) (units_from h (p.left - 1)) Q 0 p.done)) (wrote_of [] (units_from h p.left Q 0 p.done)) (place_of x m) (outside z) c.go_on.result
-    (λ told. ap (λ (es : List Entry). wrote_of es (one_command h d (p.left - 1) (units_from h (p.left - 1)) Q 0 p.done)) c.requires.nothing ∙ ap (wrote_of []) (sym (c.in-Give.ensures.unit Q h 0 w.own (tells_here x m h w told))))
-    (part_then P.tells h b (d ∷ []) (end_by (closing_reply (given_in Q h.by h.step (d ∷ [])))) (place_of x m) (place_of y n) (own_batch x m h w) (p.left - 1) 0 p.done c.in_ok-end-in-Give.end 1 (outside z) c.go_on.result c.in_ok-end-in-Give.ensures.given
-    (let one = c.in_ok-end-in-Give.ensures.one in let left = ap (λ (es : List Entry). length es) c.in_ok-end-in-Give.ensures.given.left in let both = length-append m.batch c.in_ok-end-in-Give.ensures.given.es in omega (arith, one, left, both))
-    (plays_more P.tells h b 1 (3 * (p.left - 1) + 2) (p.done + (p.left - 1) + 1) _ (place_of y n) (outside z) c.go_on.result (omega (arith, some)) (omega (arith, some)) (c.go_on.ensures.plays found (answered_by found c.in_ok-end-in-Give.end c.in_ok-end-in-Give.ensures.answered))))
+    first_then x y m c.give.new.member h b w c.requires.nothing (d ∷ []) (end_by (closing_reply (given_in (queue_here x m) h.by h.step (d ∷ [])))) (p.left - 1) p.done (units_from h p.left (queue_here x m) 0 p.done)
+    (λ told. sym (c.in-Give.ensures.unit (queue_here x m) h 0 w.own (tells_here x m h w told))) c.in_ok-end-in-Give.end new c.go_on.result c.in_ok-end-in-Give.ensures.given
+    (plays_more g.P.Plant.tells h b _ (3 * (p.left - 1) + 2) (p.done + (p.left - 1) + 1) _ (place_of y c.give.new.member) new c.go_on.result (omega (arith, some)) (omega (arith, some)) (c.go_on.ensures.plays found (answered_by found c.in_ok-end-in-Give.end c.in_ok-end-in-Give.ensures.answered)))
 
-pub returns-in_ok-end-in-Give-clause-reached : goal.returns-in_ok-end-in-Give-clause-reached
-returns-in_ok-end-in-Give-clause-reached g c =
+pub returns-in_ok-end-in-Give-clause-leaves : goal.returns-in_ok-end-in-Give-clause-leaves
+returns-in_ok-end-in-Give-clause-leaves g c =
     let some = left_some c.args.progress.left _ c.in-Give.command c.next_unit.ensures.none c.in-Give.is in
     let same = c.in_ok-end-in-Give.ensures.reached in
-    if_ok c.go_on.result _ _ (λ e le. omega (arith, le, same, some)) c.go_on.ensures.reached
+    leaves_more c.go_on.new.complex c.go_on.new.member c.args.holder.step _ _ c.go_on.result (omega (arith, some)) (omega (arith, some)) (omega (arith, some, same)) c.go_on.ensures.leaves
 
 -- THE SITTING WAITS
 
@@ -113,28 +83,19 @@ returns-in-Wait-clause-plays g c found =
     let m = c.args.member.now in
     let h = c.args.holder in
     let p = c.args.progress in
-    let w = c.requires.works in
-    let Q = queue_here x m in
     let a = Away c.in-Wait.aside in
-    let b = bounds (3 * p.left + 1) (p.done + p.left) found in
-    let one = unwritten_one m.batch in
     let falls = (waits_fewer _ _ (3 * p.left + 1) (p.done + p.left) p _ c.in-Wait.aside c.next_unit.ensures.right c.next_unit.ensures.waits c.in-Wait.is (omega arith) (omega arith)).falls in
-    plays_as g.P.Plant.tells h b 0 (wrote_of m.batch (leaves a)) (wrote_of [] (units_from h p.left Q 0 p.done)) (place_of x m) (outside c.leave.new.complex) c.leave.result
-    (λ told. ap (λ (es : List Entry). wrote_of es (leaves (Away c.in-Wait.aside))) c.requires.nothing ∙ ap (wrote_of []) (sym (c.in-Wait.ensures.unit Q h 0 w.own (tells_here x m h w told))))
-    (plays_more g.P.Plant.tells h b 0 (sittings_most a + unwritten m.batch) (p.done + p.left) _ (place_of x m) (outside c.leave.new.complex) c.leave.result (omega (arith, falls, one)) (omega arith) (c.leave.ensures.plays (p.done + p.left) found))
+    first_ends x m h (bounds (3 * p.left + 1) (p.done + p.left) found) (leaves a) (units_from h p.left (queue_here x m) 0 p.done) (sittings_most a + unwritten m.batch) (p.done + p.left) (outside c.leave.new.complex) c.leave.result c.requires.nothing
+    (λ told. sym (c.in-Wait.ensures.unit (queue_here x m) h 0 c.requires.works.own (tells_here x m h c.requires.works told))) (omega (arith, falls)) (omega arith) (c.leave.ensures.plays (p.done + p.left) found)
 
-pub returns-in-Wait-clause-again : goal.returns-in-Wait-clause-again
-returns-in-Wait-clause-again g c = again_left c.leave.new.complex c.leave.new.member c.args.holder c.leave.result (Away c.in-Wait.aside) (λ s. s) c.leave.ensures.next c.leave.ensures.works c.leave.ensures.nothing
-
-pub returns-in-Wait-clause-ready : goal.returns-in-Wait-clause-ready
-returns-in-Wait-clause-ready g c =
-    let l = c.leave.ensures in
-    let Q = queue_kept c.leave.new.complex in
-    ready_left g.P.Plant.tells Q c.leave.new.member.checkpoint.tables c.leave.new.member.id c.leave.result c.args.member.now.checkpoint.tables c.args.member.now.id (Away c.in-Wait.aside) l.tables (ap (λ (r : Run). r.id) l.run)
-    (unit_ready g.P.Plant.tells Q c.args.member.now.checkpoint.tables c.args.member.now.id c.in-Wait.aside c.in-Wait.ensures.right) l.next
-
-pub returns-in-Wait-clause-reached : goal.returns-in-Wait-clause-reached
-returns-in-Wait-clause-reached g c = reached_left c.leave.new.complex (c.args.complex.now.level + c.args.progress.left + 1) c.args.complex.now.level c.leave.result (Away c.in-Wait.aside) (waits_few c.args.complex.now.level c.args.progress _ c.in-Wait.aside c.next_unit.ensures.waits c.in-Wait.is) c.leave.ensures.next c.leave.ensures.reached
+pub returns-in-Wait-clause-leaves : goal.returns-in-Wait-clause-leaves
+returns-in-Wait-clause-leaves g c =
+    let m = c.args.member.now in
+    c.leave.ensures.leaves _ (record {
+      ready = unit_ready g.P.Plant.tells (queue_here c.args.complex.now m) m.checkpoint.tables m.id c.in-Wait.aside c.in-Wait.ensures.right;
+      fewer = waits_fewer _ _ _ _ c.args.progress _ c.in-Wait.aside c.next_unit.ensures.right c.next_unit.ensures.waits c.in-Wait.is (omega arith) (omega arith);
+      reached = waits_few c.args.complex.now.level c.args.progress _ c.in-Wait.aside c.next_unit.ensures.waits c.in-Wait.is;
+    })
 
 -- NONE APPLIES
 
@@ -147,35 +108,11 @@ returns-in-Nothing-clause-plays g c found =
     let m = c.args.member.now in
     let h = c.args.holder in
     let p = c.args.progress in
-    let w = c.requires.works in
-    let Q = queue_here x m in
-    let b = bounds (3 * p.left + 1) (p.done + p.left) found in
-    let one = unwritten_one m.batch in
-    plays_as g.P.Plant.tells h b 0 (wrote_of m.batch (no_more h p.done)) (wrote_of [] (units_from h p.left Q 0 p.done)) (place_of x m) (outside c.close.new.complex) c.close.result
-    (λ told. ap (λ (es : List Entry). wrote_of es (no_more h p.done)) c.requires.nothing ∙ ap (wrote_of []) (sym (c.in-Nothing.ensures.unit Q h 0 w.own (tells_here x m h w told))))
-    (plays_more g.P.Plant.tells h b 0 (unwritten m.batch) (p.done + p.left) _ (place_of x m) (outside c.close.new.complex) c.close.result (omega (arith, one)) (omega arith) (c.close.ensures.plays (p.done + p.left) found (inl (p.done, omega arith, refl))))
+    first_ends x m h (bounds (3 * p.left + 1) (p.done + p.left) found) (no_more h p.done) (units_from h p.left (queue_here x m) 0 p.done) (unwritten m.batch) (p.done + p.left) (outside c.close.new.complex) c.close.result c.requires.nothing
+    (λ told. sym (c.in-Nothing.ensures.unit (queue_here x m) h 0 c.requires.works.own (tells_here x m h c.requires.works told))) (omega arith) (omega arith) (c.close.ensures.plays (p.done + p.left) found (inl (p.done, omega arith, refl)))
 
-pub returns-in-Nothing-clause-again : goal.returns-in-Nothing-clause-again
-returns-in-Nothing-clause-again g c = again_told c.close.new.complex c.close.new.member c.args.holder.step c.close.result c.close.ensures.told c.close.ensures.seat
-
-pub returns-in-Nothing-clause-ready : goal.returns-in-Nothing-clause-ready
-returns-in-Nothing-clause-ready g c = ready_told g.P.Plant.tells (queue_kept c.close.new.complex) c.close.new.member.checkpoint.tables c.close.new.member.id c.close.result c.close.ensures.told
-
-pub returns-in-Nothing-clause-reached : goal.returns-in-Nothing-clause-reached
-returns-in-Nothing-clause-reached g c = reached_left c.close.new.complex (c.args.complex.now.level + c.args.progress.left + 1) c.args.complex.now.level c.close.result Told (omega arith) c.close.ensures.told c.close.ensures.reached
-
--- HOW MANY MAY FOLLOW
-
-pub returns-in_ok-end-in-Give-clause-fewer : goal.returns-in_ok-end-in-Give-clause-fewer
-returns-in_ok-end-in-Give-clause-fewer g c =
-    let some = left_some c.args.progress.left _ c.in-Give.command c.next_unit.ensures.none c.in-Give.is in
-    fewer_than (3 * c.args.progress.left + 1) (c.args.progress.done + c.args.progress.left) c.go_on.result (3 * (c.args.progress.left - 1) + 2) (c.args.progress.done + (c.args.progress.left - 1) + 1) (omega (arith, some)) (omega (arith, some)) c.go_on.ensures.fewer
-
-pub returns-in-Wait-clause-fewer : goal.returns-in-Wait-clause-fewer
-returns-in-Wait-clause-fewer g c = fewer_left (3 * c.args.progress.left + 1) (c.args.progress.done + c.args.progress.left) c.leave.result (Away c.in-Wait.aside) (waits_fewer _ _ (3 * c.args.progress.left + 1) (c.args.progress.done + c.args.progress.left) c.args.progress _ c.in-Wait.aside c.next_unit.ensures.right c.next_unit.ensures.waits c.in-Wait.is (omega arith) (omega arith)) c.leave.ensures.next
-
-pub returns-in-Nothing-clause-fewer : goal.returns-in-Nothing-clause-fewer
-returns-in-Nothing-clause-fewer g c = fewer_told (3 * c.args.progress.left + 1) (c.args.progress.done + c.args.progress.left) c.close.result (omega arith) c.close.ensures.told
+pub returns-in-Nothing-clause-leaves : goal.returns-in-Nothing-clause-leaves
+returns-in-Nothing-clause-leaves g c = c.close.ensures.leaves _ (omega arith) (omega arith)
 
 -- THE STEP ISN'T TOLD
 

@@ -1,29 +1,16 @@
-use Rattle.std.proofs.Common.{◌∙◌, inl, inr, ◌+◌, ◌*◌, ◌-◌, [], ◌∷◌, List, Err, length, ap, refl, sym, arith}
+use Rattle.member_units.proofs.Names.{◌≡◌, ℕ, ◌+◌, ◌*◌, ◌≤◌, [], ◌∷◌, length, ◌∙◌, inl, inr, ◌-◌, false, List, Result, Err, ap, refl, sym, subst, arith, err_from_is_err_and, Entry, closing_line, counts_after, counts_of, end_by, NodeNo, reply_answered, sittings_most, closing_reply, given_in, Found, Away, goes_on_by, leaves, no_more, units_from, SittingEnd, Plays, bounds, full_of, rests, unwritten, wrote_after, wrote_of, Outside, outside, place_of, queue_here, unit_given, unit_unmarked, closed_after, full_error, on_after, part_error, part_then, plays_as, plays_more, rest_after, left_some, tells_here, unit_ready, waits_few, waits_fewer, answered_by, full_le, unwritten_one, less_room, own_batch}
 use Rattle.std.proofs.lemmas.List.{length-append}
-use Rattle.std.proofs.lemmas.Result.{err_from_is_err_and}
+use Rattle.step_turns.specs.Turns.{Turn}
 use Rattle.mas_types.specs.declared.answers.Closing.TheVariants as closing
-use Rattle.mas_types.specs.declared.journals.Entry.{Entry}
-use Rattle.mas_types.specs.Closings.{closing_line}
-use Rattle.paper_laws.specs.Counts.{counts_after}
-use Rattle.mas_complex.specs.Paper.{counts_of}
-use Rattle.job_outcome.specs.Next.{end_by}
-use Rattle.member_work.proofs.CauseLemmas.{reply_answered}
-use Rattle.step_turns.specs.Courses.{sittings_most}
-use Rattle.step_turns.specs.Entries.{closing_reply, given_in}
-use Rattle.step_turns.specs.declared.states.State.TheVariants.{Away, Rested, Told}
-use Rattle.step_turns.specs.Turns.{leaves, no_more, one_command, units_from}
-use Rattle.member_giving.specs.Plays.{bounds, unwritten, wrote_of}
-use Rattle.member_giving.specs.Works.{Run, outside, place_of, queue_here, queue_kept}
-use Rattle.member_giving.proofs.Following.{unit_given, unit_unmarked}
-use Rattle.member_giving.proofs.Going.{closed_after, full_error, on_after, part_error, part_then, plays_as, plays_more, rest_after}
-use Rattle.member_giving.proofs.Readiness.{unit_ready}
-use Rattle.member_giving.proofs.Resting.{again_left, again_told, fewer_left, fewer_told, left_some, reached_left, ready_left, ready_told, tells_here, waits_few, waits_fewer}
-use Rattle.member_giving.proofs.Within.{answered_by, full_le, unwritten_one}
-use Rattle.member_giving.proofs.Working.{less_room, own_batch}
+use Rattle.step_turns.specs.declared.states.Progress.{Progress}
+use Rattle.member_units.proofs.units.go_on.Given.{Over}
+use Rattle.member_units.proofs.units.go_on.Goals.{In_ok-keep_full}
 use Rattle.member_units.proofs.units.go_on.Goals as goal
 
 pub loop-end-init : goal.loop-end-init
 loop-end-init g c =
+    let is = c.len-given.ensures in
+    let most = c.requires.works.work.few in
     record {
       run = refl;
       works = c.requires.works;
@@ -31,10 +18,15 @@ loop-end-init g c =
       named = c.requires.named;
       units = refl;
       less = omega arith;
-      few = omega arith;
+      few = omega (arith, is, most);
       level = omega arith;
       caused = λ found may. may;
-      then = λ found new r p. p;
+      then = λ found new r.
+          let x = c.args.complex.now in
+          let m = c.args.member.now in
+          let h = c.args.holder in
+          let p = c.args.progress in
+          subst (λ (k : ℕ). Plays g.P.Plant.tells h (bounds (3 * p.left + 2) (p.done + p.left + 1) found) k (wrote_after m.batch (goes_on_by h c.args.end p.left (units_from h p.left) (queue_here x m) k p.done)) (place_of x m) new r) is;
     }
 
 -- THE STEP CLOSES AFTER A UNIT
@@ -55,16 +47,10 @@ returns-in-Idle-clause-plays g c found may =
     i.then found (outside c.close.new.complex) c.close.result (rw c.in-Idle.is (closed_after g.P.Plant.tells h (bounds (3 * p.left + 2) units found) c.loop-end.at.given (closing_line h.by h.step (closing.DoneUnits p.done) ∷ []) (place_of c.loop-end.complex c.loop-end.member) (outside c.close.new.complex) c.close.result
     (unwritten c.loop-end.member.batch) units (omega (arith, one)) (omega arith) (c.close.ensures.plays units found (inl (p.done, omega arith, refl)))))
 
-pub returns-in-Idle-clause-again : goal.returns-in-Idle-clause-again
-returns-in-Idle-clause-again g c = again_told c.close.new.complex c.close.new.member c.args.holder.step c.close.result c.close.ensures.told c.close.ensures.seat
-
-pub returns-in-Idle-clause-ready : goal.returns-in-Idle-clause-ready
-returns-in-Idle-clause-ready g c = ready_told g.P.Plant.tells (queue_kept c.close.new.complex) c.close.new.member.checkpoint.tables c.close.new.member.id c.close.result c.close.ensures.told
-
-pub returns-in-Idle-clause-reached : goal.returns-in-Idle-clause-reached
-returns-in-Idle-clause-reached g c =
+pub returns-in-Idle-clause-leaves : goal.returns-in-Idle-clause-leaves
+returns-in-Idle-clause-leaves g c =
     let level = c.loop-end.invariant.level in
-    reached_left c.close.new.complex (c.args.complex.now.level + c.args.from.progress.left + 2) c.loop-end.complex.level c.close.result Told (omega (arith, level)) c.close.ensures.told c.close.ensures.reached
+    c.close.ensures.leaves _ (omega arith) (omega (arith, level))
 
 pub returns-in-Refused-clause-run : goal.returns-in-Refused-clause-run
 returns-in-Refused-clause-run g c = c.close-in-Refused.ensures.run ∙ c.loop-end.invariant.run
@@ -80,16 +66,10 @@ returns-in-Refused-clause-plays g c found may =
     i.then found (outside c.close-in-Refused.new.complex) c.close-in-Refused.result (rw c.in-Refused.is (closed_after g.P.Plant.tells h (bounds (3 * p.left + 2) units found) c.loop-end.at.given (closing_line h.by h.step c.in-Refused.end ∷ []) (place_of c.loop-end.complex c.loop-end.member) (outside c.close-in-Refused.new.complex) c.close-in-Refused.result
     (unwritten c.loop-end.member.batch) units (omega (arith, one)) (omega arith) (c.close-in-Refused.ensures.plays units found (inr refused))))
 
-pub returns-in-Refused-clause-again : goal.returns-in-Refused-clause-again
-returns-in-Refused-clause-again g c = again_told c.close-in-Refused.new.complex c.close-in-Refused.new.member c.args.holder.step c.close-in-Refused.result c.close-in-Refused.ensures.told c.close-in-Refused.ensures.seat
-
-pub returns-in-Refused-clause-ready : goal.returns-in-Refused-clause-ready
-returns-in-Refused-clause-ready g c = ready_told g.P.Plant.tells (queue_kept c.close-in-Refused.new.complex) c.close-in-Refused.new.member.checkpoint.tables c.close-in-Refused.new.member.id c.close-in-Refused.result c.close-in-Refused.ensures.told
-
-pub returns-in-Refused-clause-reached : goal.returns-in-Refused-clause-reached
-returns-in-Refused-clause-reached g c =
+pub returns-in-Refused-clause-leaves : goal.returns-in-Refused-clause-leaves
+returns-in-Refused-clause-leaves g c =
     let level = c.loop-end.invariant.level in
-    reached_left c.close-in-Refused.new.complex (c.args.complex.now.level + c.args.from.progress.left + 2) c.loop-end.complex.level c.close-in-Refused.result Told (omega (arith, level)) c.close-in-Refused.ensures.told c.close-in-Refused.ensures.reached
+    c.close-in-Refused.ensures.leaves _ (omega arith) (omega (arith, level))
 
 -- A FULL BATCH
 
@@ -108,6 +88,28 @@ returns-in_err-keep_full-clause-plays g c found may =
     let q = err_from_is_err_and c.from_residual.result c.from_residual.ensures.1 in
     let p = c.loop-end.at.progress in
     rw (q.1, q.2) (i.then found (outside c.keep_full.new.complex) (Err _) (full_error g.P.Plant.tells h (bounds (3 * p.left + 2) (p.done + p.left + 1) found) c.loop-end.at.given {S = Unit {0}} _ c.loop-end.end p.left p.done (place_of z n) (outside c.keep_full.new.complex) (i.caused found may) (omega arith) (omega arith) (own_batch z n h i.works) c.keep_full.ensures.spares c.in_err-keep_full.ensures.keeps c.in_err-keep_full.ensures.counts))
+
+-- A FULL BATCH WAS KEPT, and the units that may follow are played
+
+units_follow : (g : Over) (c : In_ok-keep_full g) (found : Found) (least : ℕ) (t : Turn) (new : Outside) (r : Result SittingEnd NodeNo) → rests c.args.holder c.loop-end.at.progress.left c.loop-end.at.given ≡ false
+    → length (full_of c.loop-end.member.batch) + least ≤ 3 * c.loop-end.at.progress.left + 2
+    → (g.P.Plant.tells → units_from c.args.holder c.loop-end.at.progress.left (queue_here c.keep_full.new.complex c.keep_full.new.member) c.loop-end.at.given (c.loop-end.at.progress.done + 1) ≡ t)
+    → Plays g.P.Plant.tells c.args.holder (bounds least (c.loop-end.at.progress.done + c.loop-end.at.progress.left + 1) found) c.loop-end.at.given (wrote_of c.keep_full.new.member.batch t) (place_of c.keep_full.new.complex c.keep_full.new.member) new r
+    → Plays g.P.Plant.tells c.args.holder (bounds (3 * c.args.progress.left + 2) (c.args.progress.done + c.args.progress.left + 1) found) (length c.args.member.now.batch)
+    (wrote_after c.args.member.now.batch (goes_on_by c.args.holder c.args.end c.args.progress.left (units_from c.args.holder c.args.progress.left) (queue_here c.args.complex.now c.args.member.now) (length c.args.member.now.batch) c.args.progress.done)) (place_of c.args.complex.now c.args.member.now) new r
+units_follow g c found least t new r goes le is p =
+    let P = g.P.Plant in
+    let i = c.loop-end.invariant in
+    let h = c.args.holder in
+    let n = c.loop-end.member in
+    let y = c.keep_full.new.complex in
+    let k = c.keep_full.new.member in
+    let o = c.in_ok-keep_full.ensures in
+    let at = c.loop-end.at in
+    let left = at.progress.left in
+    let units = at.progress.done + left + 1 in
+    i.then found new r (on_after P.tells h (bounds (3 * left + 2) units found) at.given left at.progress.done {S = Unit {0}} _ (place_of c.loop-end.complex n) (place_of y k) new r (own_batch c.loop-end.complex n h i.works) o.left c.keep_full.ensures.spares o.keeps o.counts least le c.loop-end.end c.in-Done.is o.queue goes
+    (plays_as P.tells h (bounds least units found) at.given (wrote_of k.batch t) (wrote_of k.batch (units_from h left (queue_here y k) at.given (at.progress.done + 1))) (place_of y k) new r (λ told. ap (wrote_of k.batch) (sym (is told))) p))
 
 -- THE HOLD IS SPENT
 
@@ -133,19 +135,13 @@ returns-then-rests-clause-plays g c found may =
     (rest_after g.P.Plant.tells h (bounds (3 * left + 2) units found) c.loop-end.at.given c.loop-end.at.progress.left c.loop-end.at.progress.done {S = Unit {0}} _ (place_of z n) (place_of y k) (outside c.leave.new.complex) c.leave.result (own_batch z n h i.works) o.left c.keep_full.ensures.spares o.keeps o.counts
     least (full_le n.batch k.batch (3 * left + 1) (3 * left + 2) o.left (omega arith)) c.loop-end.end c.in-Done.is (sym c.rests.ensures ∙ c.if-rests.true) (c.leave.ensures.plays units found))
 
-pub returns-then-rests-clause-again : goal.returns-then-rests-clause-again
-returns-then-rests-clause-again g c = again_left c.leave.new.complex c.leave.new.member c.args.holder c.leave.result _ (λ s. s) c.leave.ensures.next c.leave.ensures.works c.leave.ensures.nothing
-
-pub returns-then-rests-clause-ready : goal.returns-then-rests-clause-ready
-returns-then-rests-clause-ready g c =
-    let l = c.leave.ensures in
-    ready_left g.P.Plant.tells (queue_kept c.leave.new.complex) c.leave.new.member.checkpoint.tables c.leave.new.member.id c.leave.result c.keep_full.new.member.checkpoint.tables c.keep_full.new.member.id _ l.tables (ap (λ (r : Run). r.id) l.run) tt l.next
-
-pub returns-then-rests-clause-reached : goal.returns-then-rests-clause-reached
-returns-then-rests-clause-reached g c =
+pub returns-then-rests-clause-leaves : goal.returns-then-rests-clause-leaves
+returns-then-rests-clause-leaves g c =
     let level = c.loop-end.invariant.level in
     let more = c.in_ok-keep_full.ensures.reached in
-    reached_left c.leave.new.complex (c.args.complex.now.level + c.args.from.progress.left + 2) c.keep_full.new.complex.level c.leave.result (Rested (record { done = c.loop-end.at.progress.done + 1; left = c.loop-end.at.progress.left })) (omega (arith, level, more)) c.leave.ensures.next c.leave.ensures.reached
+    let units = c.loop-end.invariant.units in
+    let less = c.loop-end.invariant.less in
+    c.leave.ensures.leaves _ (record { ready = tt; fewer = record { falls = omega (arith, units, less); few = omega (arith, units) }; reached = omega (arith, level, more) })
 
 -- THE NEXT UNIT GIVES A COMMAND
 
@@ -169,29 +165,21 @@ returns-in_err-end-in-Give-clause-run g c = c.give.ensures.run ∙ c.keep_full.e
 pub returns-in_err-end-in-Give-clause-plays : goal.returns-in_err-end-in-Give-clause-plays
 returns-in_err-end-in-Give-clause-plays g c found may =
     let P = g.P.Plant in
-    let i = c.loop-end.invariant in
     let h = c.args.holder in
-    let z = c.loop-end.complex in
-    let n = c.loop-end.member in
     let y = c.keep_full.new.complex in
     let k = c.keep_full.new.member in
     let o = c.in_ok-keep_full.ensures in
     let at = c.loop-end.at in
     let left = at.progress.left in
-    let Q = queue_here y k in
     let d = c.in-Give.command in
-    let new = outside c.give.new.complex in
     let some = left_some left _ d c.next_unit.ensures.none c.in-Give.is in
-    let units = at.progress.done + left + 1 in
     let least = 3 * left + 1 + unwritten k.batch in
-    let end = end_by (closing_reply (given_in Q h.by h.step (d ∷ []))) in
+    let end = end_by (closing_reply (given_in (queue_here y k) h.by h.step (d ∷ []))) in
     let q = err_from_is_err_and c.from_residual-in_err-end-in-Give.result c.from_residual-in_err-end-in-Give.ensures.1 in
-    rw (q.1, q.2) (i.then found new (Err _)
-    (on_after P.tells h (bounds (3 * left + 2) units found) at.given left at.progress.done {S = Unit {0}} _ (place_of z n) (place_of y k) new (Err _) (own_batch z n h i.works) o.left c.keep_full.ensures.spares o.keeps o.counts least (full_le n.batch k.batch (3 * left + 1) (3 * left + 2) o.left (omega arith)) c.loop-end.end c.in-Done.is o.queue (sym c.rests.ensures ∙ c.if-rests.false)
-    (plays_as P.tells h (bounds least units found) at.given (wrote_of k.batch (one_command h d (left - 1) (units_from h (left - 1)) Q at.given (at.progress.done + 1))) (wrote_of k.batch (units_from h left Q at.given (at.progress.done + 1))) (place_of y k) new (Err _)
-    (λ told. ap (wrote_of k.batch) (sym (c.in-Give.ensures.unit Q h at.given o.works.own (tells_here y k h o.works told))))
-    (part_error P.tells h (bounds least units found) (d ∷ []) end (place_of y k) (place_of c.give.new.complex c.give.new.member) (own_batch y k h o.works) (left - 1) at.given (at.progress.done + 1)
-    (answered_by found end (reply_answered (closing_reply (given_in Q h.by h.step (d ∷ []))))) (omega (arith, some)) (omega (arith, some)) _ c.in_err-end-in-Give.ensures.given))))
+    rw (q.1, q.2) (units_follow g (goal.at.returns-in_err-end-in-Give-clause-plays g c).In_ok-keep_full found least _ (outside c.give.new.complex) (Err _) (sym c.rests.ensures ∙ c.if-rests.false) (full_le c.loop-end.member.batch k.batch (3 * left + 1) (3 * left + 2) o.left (omega arith))
+    (λ told. c.in-Give.ensures.unit (queue_here y k) h at.given o.works.own (tells_here y k h o.works told))
+    (part_error P.tells h (bounds least (at.progress.done + left + 1) found) (d ∷ []) end (place_of y k) (place_of c.give.new.complex c.give.new.member) (own_batch y k h o.works) (left - 1) at.given (at.progress.done + 1)
+    (answered_by found end (reply_answered (closing_reply (given_in (queue_here y k) h.by h.step (d ∷ []))))) (omega (arith, some)) (omega (arith, some)) _ c.in_err-end-in-Give.ensures.given))
 
 pub loop-end-preserved : goal.loop-end-preserved
 loop-end-preserved g c =
@@ -208,7 +196,6 @@ loop-end-preserved g c =
     let e = c.in_ok-end-in-Give.ensures in
     let at = c.loop-end.at in
     let left = at.progress.left in
-    let Q = queue_here y k in
     let d = c.in-Give.command in
     let some = left_some left _ d c.next_unit.ensures.none c.in-Give.is in
     let units = i.units in
@@ -234,15 +221,13 @@ loop-end-preserved g c =
       level = omega (arith, some, level, more, same);
       caused = λ found may. answered_by found _ e.answered;
       then = λ found new r p.
-          let units = at.progress.done + left + 1 in
           let least = 3 * left + 1 + unwritten k.batch in
-          i.then found new r
-          (on_after P.tells h (bounds (3 * left + 2) units found) at.given left at.progress.done {S = Unit {0}} _ (place_of z n) (place_of y k) new r (own_batch z n h i.works) o.left c.keep_full.ensures.spares o.keeps o.counts least (full_le n.batch k.batch (3 * left + 1) (3 * left + 2) o.left (omega arith)) c.loop-end.end c.in-Done.is o.queue (sym c.rests.ensures ∙ c.if-rests.false)
-          (plays_as P.tells h (bounds least units found) at.given (wrote_of k.batch (one_command h d (left - 1) (units_from h (left - 1)) Q at.given (at.progress.done + 1))) (wrote_of k.batch (units_from h left Q at.given (at.progress.done + 1))) (place_of y k) new r
-          (λ told. ap (wrote_of k.batch) (sym (c.in-Give.ensures.unit Q h at.given o.works.own (tells_here y k h o.works told))))
-          (part_then P.tells h (bounds least units found) (d ∷ []) (end_by (closing_reply (given_in Q h.by h.step (d ∷ [])))) (place_of y k) (place_of v l) (own_batch y k h o.works) (left - 1) at.given (at.progress.done + 1) c.in_ok-end-in-Give.end (at.given + 1) new r e.given
+          let b = bounds least (at.progress.done + left + 1) found in
+          units_follow g (goal.at.loop-end-preserved g c).In_ok-keep_full found least _ new r (sym c.rests.ensures ∙ c.if-rests.false) (full_le n.batch k.batch (3 * left + 1) (3 * left + 2) o.left (omega arith))
+          (λ told. c.in-Give.ensures.unit (queue_here y k) h at.given o.works.own (tells_here y k h o.works told))
+          (part_then P.tells h b (d ∷ []) (end_by (closing_reply (given_in (queue_here y k) h.by h.step (d ∷ [])))) (place_of y k) (place_of v l) (own_batch y k h o.works) (left - 1) at.given (at.progress.done + 1) c.in_ok-end-in-Give.end (at.given + 1) new r e.given
           (let one = e.one in let longer = ap (λ (es : List Entry). length es) e.given.left in let both = length-append k.batch e.given.es in omega (arith, one, longer, both))
-          (plays_more P.tells h (bounds least units found) (at.given + 1) (3 * (left - 1) + 2) (at.progress.done + 1 + (left - 1) + 1) _ (place_of v l) new r (omega (arith, some)) (omega (arith, some)) p))));
+          (plays_more P.tells h b (at.given + 1) (3 * (left - 1) + 2) (at.progress.done + 1 + (left - 1) + 1) _ (place_of v l) new r (omega (arith, some)) (omega (arith, some)) p));
     }
 
 -- THE SITTING WAITS
@@ -255,44 +240,30 @@ returns-in-Wait-clause-run g c = c.leave-in-Wait.ensures.run ∙ c.keep_full.ens
 
 pub returns-in-Wait-clause-plays : goal.returns-in-Wait-clause-plays
 returns-in-Wait-clause-plays g c found may =
-    let P = g.P.Plant in
-    let i = c.loop-end.invariant in
-    let h = c.args.holder in
-    let z = c.loop-end.complex in
-    let n = c.loop-end.member in
     let y = c.keep_full.new.complex in
     let k = c.keep_full.new.member in
     let o = c.in_ok-keep_full.ensures in
     let at = c.loop-end.at in
     let left = at.progress.left in
-    let Q = queue_here y k in
-    let new = outside c.leave-in-Wait.new.complex in
-    let units = at.progress.done + left + 1 in
     let a = Away c.in-Wait.aside in
     let falls = (waits_fewer _ _ (3 * left + 1) (at.progress.done + 1 + left) (record { done = at.progress.done + 1; left = left }) _ c.in-Wait.aside c.next_unit.ensures.right c.next_unit.ensures.waits c.in-Wait.is (omega arith) (omega arith)).falls in
-    let least = sittings_most a + unwritten k.batch in
-    i.then found new c.leave-in-Wait.result
-    (on_after P.tells h (bounds (3 * left + 2) units found) at.given left at.progress.done {S = Unit {0}} _ (place_of z n) (place_of y k) new c.leave-in-Wait.result (own_batch z n h i.works) o.left c.keep_full.ensures.spares o.keeps o.counts least (full_le n.batch k.batch (sittings_most a) (3 * left + 2) o.left (omega (arith, falls))) c.loop-end.end c.in-Done.is o.queue (sym c.rests.ensures ∙ c.if-rests.false)
-    (plays_as P.tells h (bounds least units found) at.given (wrote_of k.batch (leaves (Away c.in-Wait.aside))) (wrote_of k.batch (units_from h left Q at.given (at.progress.done + 1))) (place_of y k) new c.leave-in-Wait.result
-    (λ told. ap (wrote_of k.batch) (sym (c.in-Wait.ensures.unit Q h at.given o.works.own (tells_here y k h o.works told)))) (c.leave-in-Wait.ensures.plays units found)))
+    units_follow g (goal.at.returns-in-Wait-clause-plays g c).In_ok-keep_full found (sittings_most a + unwritten k.batch) (leaves a) (outside c.leave-in-Wait.new.complex) c.leave-in-Wait.result (sym c.rests.ensures ∙ c.if-rests.false) (full_le c.loop-end.member.batch k.batch (sittings_most a) (3 * left + 2) o.left (omega (arith, falls)))
+    (λ told. c.in-Wait.ensures.unit (queue_here y k) c.args.holder at.given o.works.own (tells_here y k c.args.holder o.works told)) (c.leave-in-Wait.ensures.plays (at.progress.done + left + 1) found)
 
-pub returns-in-Wait-clause-again : goal.returns-in-Wait-clause-again
-returns-in-Wait-clause-again g c = again_left c.leave-in-Wait.new.complex c.leave-in-Wait.new.member c.args.holder c.leave-in-Wait.result (Away c.in-Wait.aside) (λ s. s) c.leave-in-Wait.ensures.next c.leave-in-Wait.ensures.works c.leave-in-Wait.ensures.nothing
-
-pub returns-in-Wait-clause-ready : goal.returns-in-Wait-clause-ready
-returns-in-Wait-clause-ready g c =
-    let l = c.leave-in-Wait.ensures in
-    let Q = queue_kept c.leave-in-Wait.new.complex in
-    let k = c.keep_full.new.member in
-    ready_left g.P.Plant.tells Q c.leave-in-Wait.new.member.checkpoint.tables c.leave-in-Wait.new.member.id c.leave-in-Wait.result k.checkpoint.tables k.id (Away c.in-Wait.aside) l.tables (ap (λ (r : Run). r.id) l.run)
-    (unit_ready g.P.Plant.tells Q k.checkpoint.tables k.id c.in-Wait.aside c.in-Wait.ensures.right) l.next
-
-pub returns-in-Wait-clause-reached : goal.returns-in-Wait-clause-reached
-returns-in-Wait-clause-reached g c =
+pub returns-in-Wait-clause-leaves : goal.returns-in-Wait-clause-leaves
+returns-in-Wait-clause-leaves g c =
     let level = c.loop-end.invariant.level in
     let more = c.in_ok-keep_full.ensures.reached in
-    let few = waits_few c.keep_full.new.complex.level (record { done = c.loop-end.at.progress.done + 1; left = c.loop-end.at.progress.left }) _ c.in-Wait.aside c.next_unit.ensures.waits c.in-Wait.is in
-    reached_left c.leave-in-Wait.new.complex (c.args.complex.now.level + c.args.from.progress.left + 2) c.keep_full.new.complex.level c.leave-in-Wait.result (Away c.in-Wait.aside) (omega (arith, level, more, few)) c.leave-in-Wait.ensures.next c.leave-in-Wait.ensures.reached
+    let units = c.loop-end.invariant.units in
+    let less = c.loop-end.invariant.less in
+    let k = c.keep_full.new.member in
+    let p : Progress = record { done = c.loop-end.at.progress.done + 1; left = c.loop-end.at.progress.left } in
+    let few = waits_few c.keep_full.new.complex.level p _ c.in-Wait.aside c.next_unit.ensures.waits c.in-Wait.is in
+    c.leave-in-Wait.ensures.leaves _ (record {
+      ready = unit_ready g.P.Plant.tells (queue_here c.keep_full.new.complex k) k.checkpoint.tables k.id c.in-Wait.aside c.in-Wait.ensures.right;
+      fewer = waits_fewer _ _ _ _ p _ c.in-Wait.aside c.next_unit.ensures.right c.next_unit.ensures.waits c.in-Wait.is (omega (arith, units, less)) (omega (arith, units));
+      reached = omega (arith, level, more, few);
+    })
 
 -- NONE APPLIES
 
@@ -304,63 +275,20 @@ returns-in-Nothing-clause-run g c = c.close-in-Nothing.ensures.run ∙ c.keep_fu
 
 pub returns-in-Nothing-clause-plays : goal.returns-in-Nothing-clause-plays
 returns-in-Nothing-clause-plays g c found may =
-    let P = g.P.Plant in
-    let i = c.loop-end.invariant in
-    let h = c.args.holder in
-    let z = c.loop-end.complex in
-    let n = c.loop-end.member in
     let y = c.keep_full.new.complex in
     let k = c.keep_full.new.member in
     let o = c.in_ok-keep_full.ensures in
     let at = c.loop-end.at in
     let left = at.progress.left in
-    let Q = queue_here y k in
-    let new = outside c.close-in-Nothing.new.complex in
-    let units = at.progress.done + left + 1 in
-    let least = unwritten k.batch in
-    let full = full_le n.batch k.batch 0 (3 * left + 2) o.left (omega arith) in
-    i.then found new c.close-in-Nothing.result
-    (on_after P.tells h (bounds (3 * left + 2) units found) at.given left at.progress.done {S = Unit {0}} _ (place_of z n) (place_of y k) new c.close-in-Nothing.result (own_batch z n h i.works) o.left c.keep_full.ensures.spares o.keeps o.counts least (omega (arith, full)) c.loop-end.end c.in-Done.is o.queue (sym c.rests.ensures ∙ c.if-rests.false)
-    (plays_as P.tells h (bounds least units found) at.given (wrote_of k.batch (no_more h (at.progress.done + 1))) (wrote_of k.batch (units_from h left Q at.given (at.progress.done + 1))) (place_of y k) new c.close-in-Nothing.result
-    (λ told. ap (wrote_of k.batch) (sym (c.in-Nothing.ensures.unit Q h at.given o.works.own (tells_here y k h o.works told)))) (c.close-in-Nothing.ensures.plays units found (inl (at.progress.done + 1, omega arith, refl)))))
+    let full = full_le c.loop-end.member.batch k.batch 0 (3 * left + 2) o.left (omega arith) in
+    units_follow g (goal.at.returns-in-Nothing-clause-plays g c).In_ok-keep_full found (unwritten k.batch) (no_more c.args.holder (at.progress.done + 1)) (outside c.close-in-Nothing.new.complex) c.close-in-Nothing.result (sym c.rests.ensures ∙ c.if-rests.false) (omega (arith, full))
+    (λ told. c.in-Nothing.ensures.unit (queue_here y k) c.args.holder at.given o.works.own (tells_here y k c.args.holder o.works told)) (c.close-in-Nothing.ensures.plays (at.progress.done + left + 1) found (inl (at.progress.done + 1, omega arith, refl)))
 
-pub returns-in-Nothing-clause-again : goal.returns-in-Nothing-clause-again
-returns-in-Nothing-clause-again g c = again_told c.close-in-Nothing.new.complex c.close-in-Nothing.new.member c.args.holder.step c.close-in-Nothing.result c.close-in-Nothing.ensures.told c.close-in-Nothing.ensures.seat
-
-pub returns-in-Nothing-clause-ready : goal.returns-in-Nothing-clause-ready
-returns-in-Nothing-clause-ready g c = ready_told g.P.Plant.tells (queue_kept c.close-in-Nothing.new.complex) c.close-in-Nothing.new.member.checkpoint.tables c.close-in-Nothing.new.member.id c.close-in-Nothing.result c.close-in-Nothing.ensures.told
-
-pub returns-in-Nothing-clause-reached : goal.returns-in-Nothing-clause-reached
-returns-in-Nothing-clause-reached g c =
+pub returns-in-Nothing-clause-leaves : goal.returns-in-Nothing-clause-leaves
+returns-in-Nothing-clause-leaves g c =
     let level = c.loop-end.invariant.level in
     let more = c.in_ok-keep_full.ensures.reached in
-    reached_left c.close-in-Nothing.new.complex (c.args.complex.now.level + c.args.from.progress.left + 2) c.keep_full.new.complex.level c.close-in-Nothing.result Told (omega (arith, level, more)) c.close-in-Nothing.ensures.told c.close-in-Nothing.ensures.reached
-
--- HOW MANY MAY FOLLOW
-
-pub returns-in-Idle-clause-fewer : goal.returns-in-Idle-clause-fewer
-returns-in-Idle-clause-fewer g c = fewer_told (3 * c.args.from.progress.left + 2) (c.args.from.progress.done + c.args.from.progress.left + 1) c.close.result (omega arith) c.close.ensures.told
-
-pub returns-in-Refused-clause-fewer : goal.returns-in-Refused-clause-fewer
-returns-in-Refused-clause-fewer g c = fewer_told (3 * c.args.from.progress.left + 2) (c.args.from.progress.done + c.args.from.progress.left + 1) c.close-in-Refused.result (omega arith) c.close-in-Refused.ensures.told
-
-pub returns-in-Nothing-clause-fewer : goal.returns-in-Nothing-clause-fewer
-returns-in-Nothing-clause-fewer g c = fewer_told (3 * c.args.from.progress.left + 2) (c.args.from.progress.done + c.args.from.progress.left + 1) c.close-in-Nothing.result (omega arith) c.close-in-Nothing.ensures.told
-
-pub returns-then-rests-clause-fewer : goal.returns-then-rests-clause-fewer
-returns-then-rests-clause-fewer g c =
-    let units = c.loop-end.invariant.units in
-    let less = c.loop-end.invariant.less in
-    fewer_left (3 * c.args.from.progress.left + 2) (c.args.from.progress.done + c.args.from.progress.left + 1) c.leave.result _ (record { falls = omega (arith, units, less); few = omega (arith, units) }) c.leave.ensures.next
-
-pub returns-in-Wait-clause-fewer : goal.returns-in-Wait-clause-fewer
-returns-in-Wait-clause-fewer g c =
-    let units = c.loop-end.invariant.units in
-    let less = c.loop-end.invariant.less in
-    let at = c.loop-end.at.progress in
-    fewer_left (3 * c.args.from.progress.left + 2) (c.args.from.progress.done + c.args.from.progress.left + 1) c.leave-in-Wait.result (Away c.in-Wait.aside)
-    (waits_fewer _ _ (3 * c.args.from.progress.left + 2) (c.args.from.progress.done + c.args.from.progress.left + 1) (record { done = at.done + 1; left = at.left }) _ c.in-Wait.aside c.next_unit.ensures.right c.next_unit.ensures.waits c.in-Wait.is (omega (arith, units, less)) (omega (arith, units)))
-    c.leave-in-Wait.ensures.next
+    c.close-in-Nothing.ensures.leaves _ (omega arith) (omega (arith, level, more))
 
 -- THE STEP ISN'T TOLD
 

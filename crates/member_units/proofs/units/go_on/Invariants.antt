@@ -1,12 +1,4 @@
-use Rattle.std.proofs.Common.{◌≡◌, ◌+◌, ◌*◌, ◌≤◌, Result}
-use Rattle.job_outcome.specs.Next.{IsNamedEnd}
-use Rattle.member_node.specs.declared.member.NodeNo.{NodeNo}
-use Rattle.step_turns.specs.declared.states.Found.{Found}
-use Rattle.step_turns.specs.Turns.{goes_on_by, units_from}
-use Rattle.member_sittings.specs.declared.ends.SittingEnd.{SittingEnd}
-use Rattle.member_sittings.specs.Shapes.{MayEndBy}
-use Rattle.member_giving.specs.Plays.{Plays, bounds, wrote_after}
-use Rattle.member_giving.specs.Works.{HasRoom, Outside, Works, place_of, queue_here, run_of}
+use Rattle.member_units.proofs.Names.{◌≡◌, ◌+◌, ◌*◌, ◌≤◌, length, Result, IsNamedEnd, NodeNo, Found, goes_on_by, units_from, SittingEnd, MayEndBy, Plays, bounds, wrote_after, HasRoom, Outside, Works, place_of, queue_here, run_of}
 use Rattle.member_units.proofs.units.go_on.Given as goal
 
 abbrev pub decreases-loop-end : goal.decreases-loop-end
@@ -26,12 +18,12 @@ invariant-loop-end g l =
       works : Works z n h;
       room : HasRoom z n (l.at.progress.left + 3);
       named : IsNamedEnd l.end;
-      units : l.at.progress.done + l.at.progress.left ≡ l.fn.from.progress.done + l.fn.from.progress.left;
-      less : l.at.progress.left ≤ l.fn.from.progress.left;
-      few : l.at.given + l.at.progress.left ≤ l.fn.from.given + l.fn.from.progress.left;
-      level : z.level + l.at.progress.left ≤ x.level + l.fn.from.progress.left;
+      units : l.at.progress.done + l.at.progress.left ≡ l.fn.progress.done + l.fn.progress.left;
+      less : l.at.progress.left ≤ l.fn.progress.left;
+      few : l.at.given + l.at.progress.left ≤ 64 + l.fn.progress.left;
+      level : z.level + l.at.progress.left ≤ x.level + l.fn.progress.left;
       caused : (found : Found) → MayEndBy found l.fn.end → MayEndBy found l.end;
       then : (found : Found) (new : Outside) (r : Result SittingEnd NodeNo)
           → Plays P.tells h (bounds (3 * l.at.progress.left + 2) (l.at.progress.done + l.at.progress.left + 1) found) l.at.given (wrote_after n.batch (goes_on_by h l.end l.at.progress.left (units_from h l.at.progress.left) (queue_here z n) l.at.given l.at.progress.done)) (place_of z n) new r
-          → Plays P.tells h (bounds (3 * l.fn.from.progress.left + 2) (l.fn.from.progress.done + l.fn.from.progress.left + 1) found) l.fn.from.given (wrote_after m.batch (goes_on_by h l.fn.end l.fn.from.progress.left (units_from h l.fn.from.progress.left) (queue_here x m) l.fn.from.given l.fn.from.progress.done)) (place_of x m) new r;
+          → Plays P.tells h (bounds (3 * l.fn.progress.left + 2) (l.fn.progress.done + l.fn.progress.left + 1) found) (length m.batch) (wrote_after m.batch (goes_on_by h l.fn.end l.fn.progress.left (units_from h l.fn.progress.left) (queue_here x m) (length m.batch) l.fn.progress.done)) (place_of x m) new r;
     }

@@ -1,10 +1,4 @@
-use Rattle.std.proofs.Common.{◌≡◌, ◌≤◌, ◌∙◌, ℕ, Option, ap, subst}
-use Rattle.std.specs.Prelude.{option_copied}
-use Rattle.std.specs.Option.{option_map_or}
-use Rattle.mas_types.specs.declared.queues.Setting.{Setting}
-use Rattle.mas_types.specs.Limits.{printer_lines_most}
-use Rattle.paper_laws.specs.Next.{limit_of}
-use Rattle.member_decks.proofs.OpenLemmas.{tells_some}
+use Rattle.member_work.proofs.Names.{◌≡◌, ◌≤◌, ◌∙◌, ℕ, Option, ap, subst, option_copied, option_map_or, Setting, printer_lines_most, limit_of, tells_some}
 use Rattle.member_work.proofs.PrintedLemmas.{limit_most}
 use Rattle.member_work.proofs.chunks.limit_at.Goals as goal
 

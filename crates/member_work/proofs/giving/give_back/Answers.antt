@@ -1,8 +1,4 @@
-use Rattle.std.proofs.Common.{◌∙◌, [], ◌∷◌, ap, refl}
-use Rattle.std.proofs.lemmas.Result.{err_from_is_err_and}
-use Rattle.mas_types.specs.declared.queues.Config.{Config}
-use Rattle.mas_types.specs.Queue.{is_member}
-use Rattle.member_work.specs.Units.{drop_groups}
+use Rattle.member_work.proofs.Names.{◌∙◌, [], ◌∷◌, ap, refl, err_from_is_err_and, Config, is_member, drop_groups}
 use Rattle.member_work.proofs.GivingLemmas.{gives_err, gives_ok}
 use Rattle.member_work.proofs.giving.give_back.Goals as goal
 

@@ -1,16 +1,5 @@
-use Rattle.std.proofs.Common.{◌≡◌, ◌∙◌, [], ◌∷◌, ap, subst, sym, arith}
-use Rattle.std.proofs.lemmas.Result.{err_from_is_err_and}
+use Rattle.member_work.proofs.Names.{◌≡◌, ◌∙◌, [], ◌∷◌, ap, subst, sym, arith, err_from_is_err_and, Config, Queue, is_member, Tell, step, if_ok, closing_reply, given_in, tells_some, IsNamedEnd, end_by, drop_groups, ending}
 use Rattle.mas_types.specs.declared.commands.Command.TheVariants as command
-use Rattle.mas_types.specs.declared.queues.Config.{Config}
-use Rattle.mas_types.specs.declared.queues.Queue.{Queue}
-use Rattle.mas_types.specs.Queue.{is_member}
-use Rattle.queue_telling.specs.Telling.{Tell}
-use Rattle.mas_complex.specs.Meaning.{step}
-use Rattle.member_steps.proofs.StepLemmas.{if_ok}
-use Rattle.member_decks.specs.Decks.{closing_reply, given_in}
-use Rattle.member_decks.proofs.OpenLemmas.{tells_some}
-use Rattle.job_outcome.specs.Next.{IsNamedEnd, end_by}
-use Rattle.member_work.specs.Units.{drop_groups, ending}
 use Rattle.member_work.proofs.GivingLemmas.{ending_refused, ending_taken, end_ending, ended_leaves, given_then, gives_as, gives_none, gives_then, gives_texts, one_batch, one_longer, one_told}
 use Rattle.member_work.proofs.giving.give_end.Goals as goal
 
@@ -31,31 +20,26 @@ give_back-requires-clause-order c =
     let order = c.give.ensures.has.order in
     omega (arith, order, longer, c.requires.order)
 
-pub returns-in-Refused-clause-has : goal.returns-in-Refused-clause-has
-returns-in-Refused-clause-has c = given_then c.args.step c.args.member.now c.give.new.member c.give_back.new.member c.give.ensures.has c.give_back.ensures.has
-
-pub returns-in-Refused-clause-gives : goal.returns-in-Refused-clause-gives
-returns-in-Refused-clause-gives c Q told =
+pub returns-in-Refused : goal.returns-in-Refused
+returns-in-Refused c =
     let m = c.args.member.now in
-    let n = c.give.new.member in
-    let c1 = command.Ended c.args.job c.args.specs in
-    let one = c.in_ok-end.ensures.gives Q told in
-    gives_as Q m.id c.args.step (ending Q m.id c.args.job c.args.specs) (c1 ∷ drop_groups ∷ []) _ m c.give_back.new.member _
-    (ending_refused Q m.id c.args.job c.args.specs c.in-Refused.field-0 (sym (c.in_ok-end.ensures.end Q told) ∙ c.in-Refused.is))
-    (gives_then Q m.id c.args.step c1 (drop_groups ∷ []) _ _ _ m n c.give_back.new.member _ _ n.id c.give.ensures.has.id
-    (gives_texts {S = Unit {0}} {F = Unit {0}} Q m.id c.args.step c1 _ _ m n _ tt one (ended_leaves c.law_of_ended_texts.ensures c.law_of_texts.ensures.told m.checkpoint.tables Q m.id c.args.step c.args.job c.args.specs told))
-    (λ disks per h. h) (λ disks per h. c.give.ensures.has.sound h.sound)
-    (c.give_back.ensures.gives (step Q m.id c1).0 (one_told Q m.id c.args.step c1 _ m n _ one)))
-
-pub returns-in-Refused-clause-end : goal.returns-in-Refused-clause-end
-returns-in-Refused-clause-end c =
-    let m = c.args.member.now in
-    if_ok _ (λ e. (Q : Queue) → Tell m.checkpoint.tables Q → e ≡ end_by (closing_reply (given_in Q m.id c.args.step (ending Q m.id c.args.job c.args.specs)))) c.give_back.result
-    (λ e is Q told. is ∙ c.in_ok-end.ensures.end Q told ∙ sym (end_ending Q m.id c.args.step c.args.job c.args.specs))
-    c.give_back.ensures.end
-
-pub returns-in-Refused-clause-named : goal.returns-in-Refused-clause-named
-returns-in-Refused-clause-named c = if_ok _ IsNamedEnd c.give_back.result (λ e is. subst IsNamedEnd (sym is) c.in_ok-end.ensures.named) c.give_back.ensures.end
+    record {
+      has = given_then c.args.step c.args.member.now c.give.new.member c.give_back.new.member c.give.ensures.has c.give_back.ensures.has;
+      gives = λ Q told.
+          let n = c.give.new.member in
+          let c1 = command.Ended c.args.job c.args.specs in
+          let one = c.in_ok-end.ensures.gives Q told in
+          gives_as Q m.id c.args.step (ending Q m.id c.args.job c.args.specs) (c1 ∷ drop_groups ∷ []) _ m c.give_back.new.member _
+          (ending_refused Q m.id c.args.job c.args.specs c.in-Refused.field-0 (sym (c.in_ok-end.ensures.end Q told) ∙ c.in-Refused.is))
+          (gives_then Q m.id c.args.step c1 (drop_groups ∷ []) _ _ _ m n c.give_back.new.member _ _ n.id c.give.ensures.has.id
+          (gives_texts {S = Unit {0}} {F = Unit {0}} Q m.id c.args.step c1 _ _ m n _ tt one (ended_leaves c.law_of_ended_texts.ensures c.law_of_texts.ensures.told m.checkpoint.tables Q m.id c.args.step c.args.job c.args.specs told))
+          (λ disks per h. h) (λ disks per h. c.give.ensures.has.sound h.sound)
+          (c.give_back.ensures.gives (step Q m.id c1).0 (one_told Q m.id c.args.step c1 _ m n _ one)));
+      end = if_ok _ (λ e. (Q : Queue) → Tell m.checkpoint.tables Q → e ≡ end_by (closing_reply (given_in Q m.id c.args.step (ending Q m.id c.args.job c.args.specs)))) c.give_back.result
+          (λ e is Q told. is ∙ c.in_ok-end.ensures.end Q told ∙ sym (end_ending Q m.id c.args.step c.args.job c.args.specs))
+          c.give_back.ensures.end;
+      named = if_ok _ IsNamedEnd c.give_back.result (λ e is. subst IsNamedEnd (sym is) c.in_ok-end.ensures.named) c.give_back.ensures.end;
+    }
 
 pub returns : goal.returns
 returns c =

@@ -1,5 +1,4 @@
-use Rattle.std.proofs.Common.{◌∙◌, Bool, [], if◌then◌else◌, ap, sym}
-use Rattle.mas_types.specs.Commands.Life.{groups_of_outputs}
+use Rattle.member_work.proofs.Names.{◌∙◌, Bool, [], if◌then◌else◌, ap, sym, groups_of_outputs}
 use Rattle.member_work.proofs.giving.groups_for_end.Goals as goal
 
 pub returns-then-is_cancelled-clause-groups : goal.returns-then-is_cancelled-clause-groups

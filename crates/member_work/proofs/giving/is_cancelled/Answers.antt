@@ -1,8 +1,4 @@
-use Rattle.std.proofs.Common.{◌∙◌, List, Option, ap, subst, sym}
-use Rattle.lay_bytes.specs.declared.records.JobRec.{JobRec}
-use Rattle.mas_types.specs.declared.jobs.Job.{Job}
-use Rattle.mas_types.specs.Commands.Life.{is_cancelled as is_cancelled_lem}
-use Rattle.job_queue.specs.Jobs.{AreJobs}
+use Rattle.member_work.proofs.Names.{◌∙◌, List, Option, ap, subst, sym, JobRec, Job, is_cancelled as is_cancelled_lem, AreJobs}
 use Rattle.member_work.proofs.giving.is_cancelled.Goals as goal
 
 pub returns-in-Some : goal.returns-in-Some

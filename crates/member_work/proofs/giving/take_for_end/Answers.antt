@@ -1,20 +1,7 @@
-use Rattle.std.proofs.Common.{◌≡◌, ◌∙◌, ℕ, ◌-◌, ◌<◌, [], ◌∷◌, ap, subst, sym, refl, arith}
-use Rattle.std.proofs.lemmas.Result.{err_from_is_err_and}
+use Rattle.member_work.proofs.Names.{◌≡◌, ◌∙◌, ℕ, ◌-◌, ◌<◌, [], ◌∷◌, ap, subst, sym, refl, arith, err_from_is_err_and, MemberId, Config, Queue, is_member, Tell, TellSound, step, reply_to, if_ok, tells_some, take_counts, IsNamedEnd, end_by, drop_groups, taken_end, taking}
 use Rattle.mas_types.specs.declared.commands.Command.TheVariants as command
 use Rattle.mas_types.specs.declared.commands.Reply.TheVariants as reply
-use Rattle.mas_types.specs.declared.ids.MemberId.{MemberId}
-use Rattle.mas_types.specs.declared.queues.Config.{Config}
-use Rattle.mas_types.specs.declared.queues.Queue.{Queue}
-use Rattle.mas_types.specs.Queue.{is_member}
-use Rattle.queue_telling.specs.Telling.{Tell, TellSound}
-use Rattle.mas_complex.specs.Meaning.{step}
-use Rattle.member_steps.specs.Steps.{reply_to}
-use Rattle.member_steps.proofs.StepLemmas.{if_ok}
-use Rattle.member_decks.proofs.OpenLemmas.{tells_some}
-use Rattle.member_decks.proofs.TakeLemmas.{take_counts}
 use Rattle.job_outcome.specs.declared.units.UnitEnd.TheVariants as ends
-use Rattle.job_outcome.specs.Next.{IsNamedEnd, end_by}
-use Rattle.member_work.specs.Units.{drop_groups, taken_end, taking}
 use Rattle.member_work.proofs.GivingLemmas.{end_all, end_refused, done_is, end_some, given_then, gives_as, gives_none, gives_ok, gives_then, has_told, next_refused, none_free, one_batch, one_longer, one_reply, one_told, some_batch, take_not_done, taking_all, taking_refused, taking_some, wanted_takes}
 use Rattle.member_work.proofs.giving.take_for_end.Goals as goal
 
@@ -77,32 +64,27 @@ returns-in_default c =
 
 -- TAKES THAT GAVE ALL GROUPS
 
-pub returns-then-taken-needed-clause-gives : goal.returns-then-taken-needed-clause-gives
-returns-then-taken-needed-clause-gives c Q told =
+pub returns-then-taken-needed : goal.returns-then-taken-needed
+returns-then-taken-needed c =
     let m = c.args.member.now in
     let n = c.give.new.member in
     let c1 = command.Take c.args.needed in
-    let one = c.in_ok-end.ensures.gives Q told in
-    let got : (step Q m.id c1).1 ≡ reply.Count c.args.needed = one_reply Q m.id c.args.step c1 _ m n _ c.last_reply.result.now one c.last_reply.ensures ∙ c.in-Count.is ∙ ap reply.Count c.if-taken-needed.true in
-    gives_as Q m.id c.args.step (taking Q m.id c.args.needed) (c1 ∷ []) _ m n _ (taking_all Q m.id c.args.step c.args.needed c.requires.needed got) (gives_ok Q m.id c.args.step c1 (c1 ∷ []) _ _ m n _ _ (λ disks per s. (s, refl)) one)
-
-pub returns-then-taken-needed-clause-end : goal.returns-then-taken-needed-clause-end
-returns-then-taken-needed-clause-end c Q told =
-    let m = c.args.member.now in
-    let n = c.give.new.member in
-    let c1 = command.Take c.args.needed in
-    let got : (step Q m.id c1).1 ≡ reply.Count c.args.needed = one_reply Q m.id c.args.step c1 _ m n _ c.last_reply.result.now (c.in_ok-end.ensures.gives Q told) c.last_reply.ensures ∙ c.in-Count.is ∙ ap reply.Count c.if-taken-needed.true in
-    sym (end_all Q m.id c.args.step c.args.needed c.requires.needed got)
-
-pub returns-then-taken-needed-clause-enough : goal.returns-then-taken-needed-clause-enough
-returns-then-taken-needed-clause-enough c done =
-    let m = c.args.member.now in
-    let n = c.give.new.member in
-    let c1 = command.Take c.args.needed in
-    let s = tells_some m.checkpoint.tables in
-    let one = c.in_ok-end.ensures.gives s.0 s.1 in
-    let got : (step s.0 m.id c1).1 ≡ reply.Count c.args.needed = one_reply s.0 m.id c.args.step c1 _ m n _ c.last_reply.result.now one c.last_reply.ensures ∙ c.in-Count.is ∙ ap reply.Count c.if-taken-needed.true in
-    has_told s.0 m.id n.id n.checkpoint.tables c.args.needed c.give.ensures.has.id (one_told s.0 m.id c.args.step c1 _ m n _ one) got
+    record {
+      has = c.give.ensures.has;
+      gives = λ Q told.
+          let one = c.in_ok-end.ensures.gives Q told in
+          let got : (step Q m.id c1).1 ≡ reply.Count c.args.needed = one_reply Q m.id c.args.step c1 _ m n _ c.last_reply.result.now one c.last_reply.ensures ∙ c.in-Count.is ∙ ap reply.Count c.if-taken-needed.true in
+          gives_as Q m.id c.args.step (taking Q m.id c.args.needed) (c1 ∷ []) _ m n _ (taking_all Q m.id c.args.step c.args.needed c.requires.needed got) (gives_ok Q m.id c.args.step c1 (c1 ∷ []) _ _ m n _ _ (λ disks per s. (s, refl)) one);
+      end = λ Q told.
+          let got : (step Q m.id c1).1 ≡ reply.Count c.args.needed = one_reply Q m.id c.args.step c1 _ m n _ c.last_reply.result.now (c.in_ok-end.ensures.gives Q told) c.last_reply.ensures ∙ c.in-Count.is ∙ ap reply.Count c.if-taken-needed.true in
+          sym (end_all Q m.id c.args.step c.args.needed c.requires.needed got);
+      named = tt;
+      enough = λ done.
+          let s = tells_some m.checkpoint.tables in
+          let one = c.in_ok-end.ensures.gives s.0 s.1 in
+          let got : (step s.0 m.id c1).1 ≡ reply.Count c.args.needed = one_reply s.0 m.id c.args.step c1 _ m n _ c.last_reply.result.now one c.last_reply.ensures ∙ c.in-Count.is ∙ ap reply.Count c.if-taken-needed.true in
+          has_told s.0 m.id n.id n.checkpoint.tables c.args.needed c.give.ensures.has.id (one_told s.0 m.id c.args.step c1 _ m n _ one) got;
+    }
 
 -- TAKES THAT GAVE SOME GROUPS
 
@@ -162,64 +144,46 @@ give_back-requires-2-clause-order c =
     let order = c.give-2.ensures.has.order in
     omega (arith, first, order, longer, again, c.requires.order)
 
-pub returns-clause-has : goal.returns-clause-has
-returns-clause-has c =
+pub returns : goal.returns
+returns c =
     let m = c.args.member.now in
     let n = c.give.new.member in
     let o = c.give-2.new.member in
-    given_then c.args.step m n c.give_back-2.new.member c.give.ensures.has (given_then c.args.step n o c.give_back-2.new.member c.give-2.ensures.has c.give_back-2.ensures.has)
-
-pub returns-clause-gives : goal.returns-clause-gives
-returns-clause-gives c Q told =
-    let m = c.args.member.now in
-    let n = c.give.new.member in
-    let o = c.give-2.new.member in
-    let z = c.give_back-2.new.member in
     let c1 = command.Take c.args.needed in
     let second = command.Take (c.args.needed - c.in-Count.taken) in
-    let Q1 : Queue = (step Q m.id c1).0 in
-    let one = c.in_ok-end.ensures.gives Q told in
-    let told1 : Tell n.checkpoint.tables Q1 = one_told Q m.id c.args.step c1 _ m n _ one in
-    let two = c.in_ok-end-2.ensures.gives Q1 told1 in
-    let got : (step Q m.id c1).1 ≡ reply.Count c.in-Count.taken = one_reply Q m.id c.args.step c1 _ m n _ c.last_reply.result.now one c.last_reply.ensures ∙ c.in-Count.is in
-    let counts = take_counts Q m.id c.args.needed c.in-Count.taken c.requires.needed got in
-    let less : c.in-Count.taken < c.args.needed = let le = counts.1 in let apart = c.if-taken-needed.false in omega (arith, le, apart) in
-    gives_as Q m.id c.args.step (taking Q m.id c.args.needed) (c1 ∷ second ∷ drop_groups ∷ []) _ m z _ (taking_some Q m.id c.args.step c.args.needed c.in-Count.taken c.requires.needed got less)
-    (gives_then Q m.id c.args.step c1 (second ∷ drop_groups ∷ []) _ _ (λ disks per. TellSound n.checkpoint.tables) m n z _ _ n.id c.give.ensures.has.id one (λ disks per s. (s, refl)) (λ disks per s. c.give.ensures.has.sound s)
-    (gives_then Q1 n.id c.args.step second (drop_groups ∷ []) _ _ _ n o z _ _ o.id c.give-2.ensures.has.id two (λ disks per s. (s, refl)) (λ disks per s. c.give-2.ensures.has.sound s)
-    (c.give_back-2.ensures.gives (step Q1 n.id second).0 (one_told Q1 n.id c.args.step second _ n o _ two))))
-
-pub returns-clause-end : goal.returns-clause-end
-returns-clause-end c =
-    let m = c.args.member.now in
-    let n = c.give.new.member in
-    let c1 = command.Take c.args.needed in
-    let second = command.Take (c.args.needed - c.in-Count.taken) in
-    if_ok _ (λ e. (Q : Queue) → Tell m.checkpoint.tables Q → e ≡ taken_end Q m.id c.args.step c.args.needed) c.give_back-2.result
-    (λ e is Q told.
-    let Q1 : Queue = (step Q m.id c1).0 in
-    let one = c.in_ok-end.ensures.gives Q told in
-    let got : (step Q m.id c1).1 ≡ reply.Count c.in-Count.taken = one_reply Q m.id c.args.step c1 _ m n _ c.last_reply.result.now one c.last_reply.ensures ∙ c.in-Count.is in
-    let counts = take_counts Q m.id c.args.needed c.in-Count.taken c.requires.needed got in
-    let less : c.in-Count.taken < c.args.needed = let le = counts.1 in let apart = c.if-taken-needed.false in omega (arith, le, apart) in
-    is ∙ c.in_ok-end-2.ensures.end Q1 (one_told Q m.id c.args.step c1 _ m n _ one) ∙ ap (λ (i : MemberId). end_by (reply_to Q1 i second)) c.give.ensures.has.id
-    ∙ sym (end_some Q m.id c.args.step c.args.needed c.in-Count.taken c.requires.needed got less))
-    c.give_back-2.ensures.end
-
-pub returns-clause-named : goal.returns-clause-named
-returns-clause-named c = if_ok _ IsNamedEnd c.give_back-2.result (λ e is. subst IsNamedEnd (sym is) c.in_ok-end-2.ensures.named) c.give_back-2.ensures.end
-
-pub returns-clause-enough : goal.returns-clause-enough
-returns-clause-enough c done =
-    let m = c.args.member.now in
-    let n = c.give.new.member in
-    let c1 = command.Take c.args.needed in
-    let second = command.Take (c.args.needed - c.in-Count.taken) in
-    let s = tells_some m.checkpoint.tables in
-    let Q1 : Queue = (step s.0 m.id c1).0 in
-    let one = c.in_ok-end.ensures.gives s.0 s.1 in
-    let got : (step s.0 m.id c1).1 ≡ reply.Count c.in-Count.taken = one_reply s.0 m.id c.args.step c1 _ m n _ c.last_reply.result.now one c.last_reply.ensures ∙ c.in-Count.is in
-    let counts = take_counts s.0 m.id c.args.needed c.in-Count.taken c.requires.needed got in
-    let less : c.in-Count.taken < c.args.needed = let le = counts.1 in let apart = c.if-taken-needed.false in omega (arith, le, apart) in
-    let none : (k : ℕ) → (step Q1 n.id second).1 ≡ reply.Count k → ⊥ = λ k is. next_refused Q1 n.id (c.args.needed - c.in-Count.taken) k (none_free s.0 m.id c.args.needed c.in-Count.taken got less) is in
-    absurd (take_not_done Q1 n.id (c.args.needed - c.in-Count.taken) none (sym (c.in_ok-end-2.ensures.end Q1 (one_told s.0 m.id c.args.step c1 _ m n _ one)) ∙ sym (done_is c.give_back-2.result _ ends.Done done c.give_back-2.ensures.end)))
+    record {
+      has = given_then c.args.step m n c.give_back-2.new.member c.give.ensures.has (given_then c.args.step n o c.give_back-2.new.member c.give-2.ensures.has c.give_back-2.ensures.has);
+      gives = λ Q told.
+          let z = c.give_back-2.new.member in
+          let Q1 : Queue = (step Q m.id c1).0 in
+          let one = c.in_ok-end.ensures.gives Q told in
+          let told1 : Tell n.checkpoint.tables Q1 = one_told Q m.id c.args.step c1 _ m n _ one in
+          let two = c.in_ok-end-2.ensures.gives Q1 told1 in
+          let got : (step Q m.id c1).1 ≡ reply.Count c.in-Count.taken = one_reply Q m.id c.args.step c1 _ m n _ c.last_reply.result.now one c.last_reply.ensures ∙ c.in-Count.is in
+          let counts = take_counts Q m.id c.args.needed c.in-Count.taken c.requires.needed got in
+          let less : c.in-Count.taken < c.args.needed = let le = counts.1 in let apart = c.if-taken-needed.false in omega (arith, le, apart) in
+          gives_as Q m.id c.args.step (taking Q m.id c.args.needed) (c1 ∷ second ∷ drop_groups ∷ []) _ m z _ (taking_some Q m.id c.args.step c.args.needed c.in-Count.taken c.requires.needed got less)
+          (gives_then Q m.id c.args.step c1 (second ∷ drop_groups ∷ []) _ _ (λ disks per. TellSound n.checkpoint.tables) m n z _ _ n.id c.give.ensures.has.id one (λ disks per s. (s, refl)) (λ disks per s. c.give.ensures.has.sound s)
+          (gives_then Q1 n.id c.args.step second (drop_groups ∷ []) _ _ _ n o z _ _ o.id c.give-2.ensures.has.id two (λ disks per s. (s, refl)) (λ disks per s. c.give-2.ensures.has.sound s)
+          (c.give_back-2.ensures.gives (step Q1 n.id second).0 (one_told Q1 n.id c.args.step second _ n o _ two))));
+      end = if_ok _ (λ e. (Q : Queue) → Tell m.checkpoint.tables Q → e ≡ taken_end Q m.id c.args.step c.args.needed) c.give_back-2.result
+          (λ e is Q told.
+          let Q1 : Queue = (step Q m.id c1).0 in
+          let one = c.in_ok-end.ensures.gives Q told in
+          let got : (step Q m.id c1).1 ≡ reply.Count c.in-Count.taken = one_reply Q m.id c.args.step c1 _ m n _ c.last_reply.result.now one c.last_reply.ensures ∙ c.in-Count.is in
+          let counts = take_counts Q m.id c.args.needed c.in-Count.taken c.requires.needed got in
+          let less : c.in-Count.taken < c.args.needed = let le = counts.1 in let apart = c.if-taken-needed.false in omega (arith, le, apart) in
+          is ∙ c.in_ok-end-2.ensures.end Q1 (one_told Q m.id c.args.step c1 _ m n _ one) ∙ ap (λ (i : MemberId). end_by (reply_to Q1 i second)) c.give.ensures.has.id
+          ∙ sym (end_some Q m.id c.args.step c.args.needed c.in-Count.taken c.requires.needed got less))
+          c.give_back-2.ensures.end;
+      named = if_ok _ IsNamedEnd c.give_back-2.result (λ e is. subst IsNamedEnd (sym is) c.in_ok-end-2.ensures.named) c.give_back-2.ensures.end;
+      enough = λ done.
+          let s = tells_some m.checkpoint.tables in
+          let Q1 : Queue = (step s.0 m.id c1).0 in
+          let one = c.in_ok-end.ensures.gives s.0 s.1 in
+          let got : (step s.0 m.id c1).1 ≡ reply.Count c.in-Count.taken = one_reply s.0 m.id c.args.step c1 _ m n _ c.last_reply.result.now one c.last_reply.ensures ∙ c.in-Count.is in
+          let counts = take_counts s.0 m.id c.args.needed c.in-Count.taken c.requires.needed got in
+          let less : c.in-Count.taken < c.args.needed = let le = counts.1 in let apart = c.if-taken-needed.false in omega (arith, le, apart) in
+          let none : (k : ℕ) → (step Q1 n.id second).1 ≡ reply.Count k → ⊥ = λ k is. next_refused Q1 n.id (c.args.needed - c.in-Count.taken) k (none_free s.0 m.id c.args.needed c.in-Count.taken got less) is in
+          absurd (take_not_done Q1 n.id (c.args.needed - c.in-Count.taken) none (sym (c.in_ok-end-2.ensures.end Q1 (one_told s.0 m.id c.args.step c1 _ m n _ one)) ∙ sym (done_is c.give_back-2.result _ ends.Done done c.give_back-2.ensures.end)));
+    }

@@ -1,7 +1,4 @@
-use Rattle.std.proofs.Common.{◌≤◌, refl, sym, subst, arith}
-use Rattle.std.proofs.lemmas.List.Elements.{All-get_or}
-use Rattle.mas_types.specs.Fit.{IsOutSpec}
-use Rattle.queue_effect.proofs.GroupLemmas.{groups_small, sum_more}
+use Rattle.member_work.proofs.Names.{◌≤◌, refl, sym, subst, arith, All-get_or, IsOutSpec, groups_small, sum_more}
 use Rattle.member_work.proofs.spooling.groups_of_outputs.Goals as goal
 
 pub overflow_add-groups : goal.overflow_add-groups

@@ -1,5 +1,4 @@
-use Rattle.std.proofs.Common.{◌≡◌, ◌≤◌, ◌*◌, take}
-use Rattle.mas_types.specs.Commands.Life.{groups_of_outputs}
+use Rattle.member_work.proofs.Names.{◌≡◌, ◌≤◌, ◌*◌, take, groups_of_outputs}
 use Rattle.member_work.proofs.spooling.groups_of_outputs.Given as goal
 
 -- the groups that the outputs before this one need

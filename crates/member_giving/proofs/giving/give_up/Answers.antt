@@ -1,0 +1,22 @@
+use Rattle.member_giving.proofs.Names.{[], counted_up, keeping_error_of, batch_of, outside}
+use Rattle.member_giving.proofs.giving.give_up.Goals as goal
+
+pub returns-in-Ok-clause-gives_up : goal.returns-in-Ok-clause-gives_up
+returns-in-Ok-clause-gives_up g c =
+    let k = c.keep.ensures in
+    let o = outside c.args.complex.now in
+    let z = outside c.keep.new.complex in
+    let h = c.args.holder in
+    let es = c.args.member.now.batch in
+    record {
+      keeps = keeping_error_of {S = Unit {0}} {T = Unit {0}} g.P.Plant.tells h.by (batch_of es) o.batches z.batches o.first z.first o.second z.second o.view z.view tt c.in-Ok.ensures.keeps;
+      counts = counted_up h.by es [] o.printed z.printed _ _ c.in-Ok.ensures.counts;
+      spares = k.spares;
+    }
+
+pub returns-in-Err-clause-gives_up : goal.returns-in-Err-clause-gives_up
+returns-in-Err-clause-gives_up g c = record {
+  keeps = c.in-Err.ensures.keeps;
+  counts = counted_up c.args.holder.by c.args.member.now.batch [] c.args.complex.now.printed c.keep.new.complex.printed _ _ c.in-Err.ensures.counts;
+  spares = c.keep.ensures.spares;
+}

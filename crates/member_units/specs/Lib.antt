@@ -1,0 +1,2 @@
+pub use Rattle.member_giving.specs.Works
+pub mod Names
