@@ -5,7 +5,7 @@ use Rattle.mas_types.specs.declared.ids.Dev.TheVariants.{Ckpt1, Ckpt2, Spool}
 use Rattle.mas_types.specs.declared.ids.MemberId.{MemberId}
 use Rattle.spool_plant.specs.View.{View}
 use Rattle.duplex_pair.specs.Halves.{IsCkpt}
-use Rattle.duplex_pair.specs.Replacing.{Replaces}
+use Rattle.mas_complex.specs.Replacing.{Replaces}
 use Rattle.gate_facts.specs.declared.marks.Marks.{Marks}
 use Rattle.gate_facts.specs.Values.{Synced}
 use Rattle.ckpt_places.specs.declared.places.Place.TheVariants.{Before}

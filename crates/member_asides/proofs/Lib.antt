@@ -1,1 +1,2 @@
 pub use Rattle.member_sittings.proofs.AsideLemmas
+pub use Rattle.member_sittings.proofs.ReachLemmas

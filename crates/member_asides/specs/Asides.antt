@@ -39,9 +39,9 @@ use Rattle.mas_complex.specs.Paper.{counts_of}
 use Rattle.mas_complex.specs.Parts.{Parts, parts_of}
 use Rattle.mas_complex.specs.Spool.{IsHeldBy}
 use Rattle.mas_complex.specs.Texts.{spools_at}
-use Rattle.member_node.specs.declared.member.Member.{Member}
-use Rattle.member_node.specs.declared.member.NodeNo.{NodeNo}
-use Rattle.member_node.specs.declared.member.NodeNo.TheVariants.{BothLost, Halted, ConsoleFault, NoMemory}
+use Rattle.member_sittings.specs.Member.{Member}
+use Rattle.member_sittings.specs.NodeNo.{NodeNo}
+use Rattle.member_sittings.specs.NodeNo.TheVariants.{BothLost, Halted, ConsoleFault, NoMemory}
 use Rattle.member_sittings.specs.Spooling.{OnVolumes, GroupsKept}
 use Rattle.member_sittings.specs.Steps.{SpoolStops, names_volume}
 use Rattle.member_work.specs.Inked.{HasInked, OtherCountsStay, lines_read}

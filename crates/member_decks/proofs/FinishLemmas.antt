@@ -19,8 +19,8 @@ use Rattle.mas_types.specs.Limits.{members_most}
 use Rattle.mas_types.specs.Step as table
 use Rattle.spool_plant.specs.View.{View}
 use Rattle.member_steps.specs.Leaving.{AreTheirOwn, OthersLeaveTexts}
-use Rattle.queue_texts.specs.Entering.{EnterBringsText, groups_for}
-use Rattle.queue_texts.proofs.BroughtLemmas.{brought_holds}
+use Rattle.member_steps.specs.Entering.{EnterBringsText, groups_for}
+use Rattle.member_steps.proofs.BroughtLemmas.{brought_holds}
 use Rattle.member_steps.specs.Given.{IsGiver}
 use Rattle.mas_complex.specs.Meaning.{run}
 use Rattle.mas_complex.specs.Texts.{HasTexts, IsThere, IsThereUnless, Spools, spools_at}

@@ -17,10 +17,10 @@ use Rattle.spool_plant.specs.declared.plant.Plant.{Ghosts as PlantGhosts}
 use Rattle.spool_plant.specs.View.{View}
 use Rattle.spool_volumes.specs.Volumes.{AreRoomy}
 use Rattle.ckpt_copy.specs.declared.copying.Copying.{Ghosts as CopyGhosts}
-use Rattle.duplex_pair.specs.declared.replacing.ReplaceNo.{ReplaceNo}
-use Rattle.duplex_pair.specs.declared.replacing.ReplaceNo.TheVariants as no
+use Rattle.mas_complex.specs.ReplaceNo.{ReplaceNo}
+use Rattle.mas_complex.specs.ReplaceNo.TheVariants as no
 use Rattle.duplex_pair.specs.Halves.{IsCkpt, pick}
-use Rattle.duplex_pair.specs.Replacing.{Replaces}
+use Rattle.mas_complex.specs.Replacing.{Replaces}
 use Rattle.mas_complex.specs.Journals.{AreSettled}
 use Rattle.mas_complex.specs.Locking.{reserved_after_stop}
 use Rattle.mas_complex.specs.Parts.{Parts, replaced_in}

@@ -5,3 +5,4 @@ pub mod Stops
 pub mod Locks
 pub mod Resets
 pub mod Replaces
+pub use Rattle.member_sittings.specs.Sat

@@ -9,10 +9,10 @@ use Rattle.spool_plant.specs.declared.plant.Plant.{Ghosts as PlantGhosts}
 use Rattle.ckpt_copy.specs.declared.copying.Copying.{Ghosts as CopyGhosts}
 use Rattle.ckpt_form.specs.declared.steady.Steady.{Ghosts as SteadyGhosts}
 use Rattle.ckpt_tables.specs.Shape.{page_count}
-use Rattle.duplex_pair.specs.declared.replacing.ReplaceNo.{ReplaceNo}
-use Rattle.duplex_pair.specs.declared.replacing.ReplaceNo.TheVariants as no
+use Rattle.mas_complex.specs.ReplaceNo.{ReplaceNo}
+use Rattle.mas_complex.specs.ReplaceNo.TheVariants as no
 use Rattle.duplex_pair.specs.Halves.{IsBothLost, IsCkpt, pick}
-use Rattle.duplex_pair.specs.Replacing.{IsFormed, Replaces, replace_stopped}
+use Rattle.mas_complex.specs.Replacing.{IsFormed, Replaces, replace_stopped}
 use Rattle.lock_cycle.specs.Books.{Book}
 use Rattle.mas_complex.specs.declared.complex.Complex.{Complex}
 use Rattle.mas_complex.specs.Elsewhere.{Elsewhere}

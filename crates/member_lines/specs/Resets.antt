@@ -10,7 +10,7 @@ use Rattle.ckpt_form.specs.declared.steady.Steady.{Ghosts as SteadyGhosts}
 use Rattle.mas_complex.specs.declared.complex.Complex.{Complex}
 use Rattle.mas_complex.specs.Parts.{Parts, parts_of}
 use Rattle.member_node.specs.declared.member.NodeNo.{NodeNo}
-use Rattle.member_decks.specs.Steps.{AreOf}
+use Rattle.member_sittings.specs.Steps.{AreOf}
 use Rattle.member_sittings.specs.declared.ends.SittingEnd.{SittingEnd}
 use Rattle.member_steps.specs.Steps.{entry_with}
 use Rattle.member_sittings.specs.Ends.{ends_in}

@@ -16,8 +16,7 @@ ghost use Rattle.member_lines.specs.Earlier.{IsStepKept};
 ghost use Rattle.member_lines.specs.Replaces.{EndsAs, MayRenew, MayReplace, MaySitDown, RenewsAndCloses, ReplacesAndCloses, WasReplaced, found_of, replacing_in};
 
 use crate::closings::{Closed, say_refused, stop_halted};
-use duplex_pair::ReplaceNo;
-use mas_complex::{Complex, Steady};
+use mas_complex::{Complex, ReplaceNo, Steady};
 use mas_types::{Closing, Dev, MemberId, Reply};
 use member_node::{Member, NodeNo};
 use member_sittings::{keep_seat, release_of, take_seat};

@@ -5,10 +5,10 @@ use Rattle.mas_types.specs.Limits.{pages_most}
 use Rattle.ckpt_tables.specs.declared.tables.Tables.{Tables}
 use Rattle.ckpt_pages.specs.Checkpoints.{IsCheckpoint, SpellSome}
 use Rattle.member_node.specs.declared.checkpoint.Checkpoint.{Checkpoint}
-use Rattle.job_select.specs.declared.index.Index.{Index}
-use Rattle.job_select.specs.Behind.{IsBehind}
-use Rattle.job_select.specs.Indexes.{IsOf}
-use Rattle.job_select.proofs.BehindLemmas.{behind_alike}
+use Rattle.queue_indexed.specs.Index.{Index}
+use Rattle.queue_indexed.specs.Behind.{IsBehind}
+use Rattle.queue_indexed.specs.Indexes.{IsOf}
+use Rattle.queue_indexed.proofs.BehindLemmas.{behind_alike}
 use Rattle.page_tables.specs.Bringing.{AreOlder}
 use Rattle.page_tables.proofs.TakeLemmas.{older_than}
 use Rattle.member_node.specs.Drawn.{AreDrawn}

@@ -17,16 +17,16 @@ use Rattle.ckpt_tables.specs.declared.tables.Tables.{Tables}
 use Rattle.ckpt_tables.specs.Shape.{HasSpelling, AreLevels, page_count}
 use Rattle.queue_telling.specs.Orders.{HaveOrders}
 use Rattle.queue_telling.specs.Telling.{Tell, PagesTell}
-use Rattle.queue_commands.specs.Standing.{AreFit, Plays}
+use Rattle.queue_indexed.specs.Standing.{AreFit, Plays}
 use Rattle.mas_complex.specs.Crash.{next_order}
 use Rattle.mas_complex.specs.Meaning.{step, run}
 use Rattle.mas_complex.specs.Replies.{HaveReplies}
 use Rattle.member_node.specs.declared.checkpoint.Checkpoint.{Checkpoint}
 use Rattle.member_node.specs.declared.member.Member.{Member}
 use Rattle.member_node.specs.Batches.{HasDone, last_reply}
-use Rattle.job_select.specs.declared.kept.KeptIndex.{KeptIndex}
-use Rattle.job_select.specs.Behind.{IsKept}
-use Rattle.job_select.proofs.CodedSlots.{of_prop}
+use Rattle.queue_indexed.specs.KeptIndex.{KeptIndex}
+use Rattle.queue_indexed.specs.Behind.{IsKept}
+use Rattle.queue_indexed.proofs.CodedSlots.{of_prop}
 use Rattle.page_marks.specs.declared.marks.Marks.{Marks}
 use Rattle.page_marks.specs.Marks.{is_marked, Touches}
 use Rattle.member_node.specs.Drawn.{AreDrawn, AreUnmarkedDrawn}

@@ -9,7 +9,7 @@ use Rattle.lay_bytes.specs.Slots.{IfUsed, IsJobRec, IsOutRec}
 use Rattle.lay_bytes.specs.Used.{used}
 use Rattle.ckpt_tables.specs.declared.tables.Tables.{Tables}
 use Rattle.ckpt_tables.specs.Shape.{HasSpelling}
-use Rattle.queue_commands.specs.Standing.{AreFit, IsFitJob, IsFitOutput}
+use Rattle.queue_indexed.specs.Standing.{AreFit, IsFitJob, IsFitOutput}
 use Rattle.page_tables.specs.Bringing.{are_orders_low}
 use Rattle.page_tables.specs.Kinds.{is_job_below, is_output_below}
 

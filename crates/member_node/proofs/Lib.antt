@@ -18,7 +18,8 @@ pub mod MirrorLemmas
 pub mod WantedLemmas
 pub mod AgeLemmas
 pub mod HeaderLemmas
-pub use Rattle.queue_commands.proofs.LawLemmas
-pub use Rattle.queue_commands.proofs.OrderLemmas
-pub use Rattle.queue_commands.proofs.SoundTables
-pub use Rattle.queue_commands.proofs.ToldLemmas
+pub use Rattle.queue_indexed.proofs.LawLemmas
+pub use Rattle.queue_indexed.proofs.OrderLemmas
+pub use Rattle.queue_indexed.proofs.SoundTables
+pub use Rattle.queue_indexed.proofs.ToldLemmas
+pub use Rattle.queue_texts.proofs.BroughtLemmas

@@ -9,7 +9,7 @@ use Rattle.ckpt_copy.specs.Moments.{either_way}
 use Rattle.ckpt_copy.specs.Pages.{bytes_of, ArePages}
 use Rattle.ckpt_tables.specs.declared.tables.Tables.{Tables}
 use Rattle.ckpt_tables.specs.Shape.{page_count}
-use Rattle.queue_commands.specs.Laws.{PagesTellAlike}
+use Rattle.queue_indexed.specs.Laws.{PagesTellAlike}
 use Rattle.queue_telling.specs.Orders.{HaveOrders}
 use Rattle.queue_telling.specs.Telling.{Tell, PagesTell}
 use Rattle.mas_complex.specs.Crash.{RaisesOrders, next_order, orders_most}

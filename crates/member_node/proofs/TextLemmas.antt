@@ -11,7 +11,7 @@ use Rattle.mas_types.specs.Step as table
 use Rattle.queue_texts.specs.Leaving.{AreTheirOwn, OthersLeaveTexts, brings_text}
 use Rattle.queue_texts.proofs.LeftLemmas.{left_holds}
 use Rattle.mas_complex.specs.Texts.{Spools, HasTexts, IsSynced, IsThereUnless}
-use Rattle.queue_commands.specs.Given.{is_plain}
+use Rattle.queue_indexed.specs.Given.{is_plain}
 
 -- a plain command brings none
 pub plain_brings : (c : Command) → is_plain c ≡ true → brings_text c ≡ false

@@ -16,7 +16,7 @@ use Rattle.queue_telling.specs.Telling.{Tell, PagesTell, AreToldAlike}
 use Rattle.mas_complex.specs.Crash.{next_order}
 use Rattle.mas_complex.specs.Meaning.{StandFor, run}
 use Rattle.mas_complex.specs.Replies.{HaveReplies}
-use Rattle.queue_commands.specs.Standing.{AreFit}
+use Rattle.queue_indexed.specs.Standing.{AreFit}
 use Rattle.member_node.specs.declared.checkpoint.Checkpoint.{Checkpoint}
 use Rattle.member_node.specs.declared.checkpoint.Draft.{Draft}
 use Rattle.member_node.specs.declared.checkpoint.Draft.TheVariants as draft

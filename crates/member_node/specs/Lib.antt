@@ -9,6 +9,7 @@ pub mod Reads
 pub mod Wanted
 pub mod Mirrors
 pub mod Spares
-pub use Rattle.queue_commands.specs.Given
-pub use Rattle.queue_commands.specs.Standing
+pub use Rattle.queue_indexed.specs.Given
+pub use Rattle.queue_indexed.specs.Standing
 pub use Rattle.queue_texts.specs.Leaving
+pub use Rattle.queue_texts.specs.Entering

@@ -17,7 +17,7 @@ use Rattle.duplex_pair.specs.Halves.{IsBothLost, SomeAlive}
 use Rattle.ckpt_places.specs.declared.places.Place.{Place}
 use Rattle.ckpt_places.specs.declared.places.Place.TheVariants.{Before}
 use Rattle.mas_complex.specs.Meaning.{StandFor}
-use Rattle.queue_commands.specs.Standing.{AreFit}
+use Rattle.queue_indexed.specs.Standing.{AreFit}
 use Rattle.member_node.specs.declared.checkpoint.Checkpoint.{Checkpoint}
 use Rattle.member_node.specs.declared.member.NodeNo.{NodeNo}
 use Rattle.member_node.specs.declared.member.NodeNo.TheVariants.{BothLost, Halted, ConsoleFault, NoMemory}

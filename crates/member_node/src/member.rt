@@ -9,19 +9,18 @@ ghost use Rattle.ckpt_tables.specs.Shape.{HasSpelling};
 ghost use Rattle.mas_types.specs.Step.{may_give};
 ghost use Rattle.queue_telling.specs.Telling.{Tell, TellSound};
 ghost use Rattle.mas_complex.specs.Meaning.{step as step_of};
-ghost use Rattle.queue_commands.specs.Standing.{AreFit, IfRefused};
-ghost use Rattle.queue_commands.specs.Given.{IsGiver};
-ghost use Rattle.job_select.specs.Behind.{IsKept};
+ghost use Rattle.queue_indexed.specs.Standing.{AreFit, IfRefused};
+ghost use Rattle.queue_indexed.specs.Given.{IsGiver};
+ghost use Rattle.queue_indexed.specs.Behind.{IsKept};
 ghost use Rattle.member_node.specs.Drawn.{AreUnmarkedDrawn};
 ghost use Rattle.member_node.specs.Mirrors.{IsMirrorBut};
 ghost use Rattle.page_tables.specs.Bringing.{are_orders_low};
 
 use crate::checkpoint::{Checkpoint, blank};
-use job_select::KeptIndex;
 use mas_types::limits::PAGE_BYTES;
 use mas_types::{Command, Config, Entry, List, MemberId, NoMemory, Page, Reply};
 use page_marks::Marks;
-use queue_indexed::apply_with;
+use queue_indexed::{KeptIndex, apply_with};
 use std::alloc::Global;
 
 /// Why a member's call wasn't done.

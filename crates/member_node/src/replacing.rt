@@ -4,16 +4,15 @@ ghost use Rattle.mas_types.specs.declared.ids.Dev.TheVariants.{Ckpt1, Ckpt2};
 ghost use Rattle.spool_plant.specs.Acts.{Rose};
 ghost use Rattle.spool_plant.specs.View.{disk_now};
 ghost use Rattle.spool_plant.specs.declared.plant.Part.TheVariants.{Disk};
-ghost use Rattle.duplex_pair.specs.declared.replacing.ReplaceNo.TheVariants.{NotLost, BothLost, Failed};
+ghost use Rattle.mas_complex.specs.ReplaceNo.TheVariants.{NotLost, BothLost, Failed};
 ghost use Rattle.duplex_pair.specs.Halves.{IsBothLost, IsCkpt, other, pick};
-ghost use Rattle.duplex_pair.specs.Replacing.{IsFormed, Replaces, replace_stopped};
+ghost use Rattle.mas_complex.specs.Replacing.{IsFormed, Replaces, replace_stopped};
 ghost use Rattle.mas_complex.specs.Elsewhere.{Elsewhere};
 ghost use Rattle.mas_complex.specs.Locking.{MayAct};
 ghost use Rattle.mas_complex.specs.Parts.{parts_of, replaced_in};
 
 use crate::member::Member;
-use duplex_pair::ReplaceNo;
-use mas_complex::{Complex, Steady};
+use mas_complex::{Complex, ReplaceNo, Steady};
 use mas_types::Dev;
 use spool_plant::Plant;
 

@@ -23,8 +23,8 @@ use Rattle.member_sittings.specs.Left.{Said, said_of}
 use Rattle.member_sittings.specs.Sat.{CopiesActed, IsSatAs, Start, begins, journal_of, sat_in, seated_in}
 use Rattle.member_sittings.specs.Whole.{IsSeat, queue_of}
 use Rattle.member_steps.proofs.ReadLemmas.{pages_of_run}
-use Rattle.member_work.proofs.PrintedLemmas.{beside_none}
-use Rattle.member_work.specs.Printing.{IsBeside}
+use Rattle.member_hand.proofs.PrintedLemmas.{beside_none}
+use Rattle.member_hand.specs.Printing.{IsBeside}
 use Rattle.member_hand.proofs.Passages.{passage_of}
 use Rattle.member_hand.specs.Cuts.{AreBatched}
 use Rattle.member_hand.specs.Locks.{IsToLeave, MayHold, left_book}

@@ -1,3 +1,17 @@
 pub mod Settling
 pub mod WhyLost
 pub mod Resetting
+pub use Rattle.member_hand.specs.Acts
+pub use Rattle.member_hand.specs.Cuts
+pub use Rattle.member_hand.specs.Found
+pub use Rattle.member_hand.specs.Hears
+pub use Rattle.member_hand.specs.Locks
+pub use Rattle.member_hand.specs.Plays
+pub use Rattle.member_hand.specs.Quiet
+pub use Rattle.member_hand.specs.Shapes
+pub use Rattle.member_hand.specs.Sits
+pub use Rattle.member_hand.specs.Standing
+pub use Rattle.member_hand.specs.Asides
+pub use Rattle.member_hand.specs.Chains
+pub use Rattle.member_hand.specs.Turns
+pub use Rattle.member_hand.specs.declared.sits.Stand

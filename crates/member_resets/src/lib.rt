@@ -4,4 +4,5 @@
 
 mod resetting;
 
+pub use member_hand::{Stand, act_then, enter, leave, next_holder, nothing_found, play_task, sit};
 pub use resetting::{reset_line, take_line, take_lock};

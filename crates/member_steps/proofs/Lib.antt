@@ -15,3 +15,4 @@ pub use Rattle.member_node.proofs.SpareLemmas
 pub use Rattle.member_node.proofs.TextLemmas
 pub use Rattle.member_node.proofs.ToldLemmas
 pub use Rattle.member_node.proofs.WriteLemmas
+pub use Rattle.member_node.proofs.BroughtLemmas

@@ -13,3 +13,4 @@ pub use Rattle.member_node.specs.Spares
 pub use Rattle.member_node.specs.Standing
 pub use Rattle.member_node.specs.Writes
 pub use Rattle.member_node.specs.declared.member.NodeNo
+pub use Rattle.member_node.specs.Entering

@@ -24,9 +24,9 @@ use Rattle.ckpt_tables.specs.Shape.{HasSpelling, IsRoute, IsLineCount}
 use Rattle.queue_slots.specs.Listed.{listed}
 use Rattle.queue_slots.proofs.Rising.{All-in_order}
 use Rattle.job_queue.specs.Jobs as jobs
-use Rattle.output_queue.specs.Outputs as outputs
+use Rattle.queue_effect.specs.Outputs as outputs
 use Rattle.queue_tables.specs.Laws.{HaveLines, TellTheirQueue}
-use Rattle.queue_telling.specs.Telling.{Tell, TellSound}
+use Rattle.queue_effect.specs.Telling.{Tell, TellSound}
 use Rattle.queue_effect.specs.Standing.{Leaves, Plays, AreFit, IsFitJob, IsFitOutput}
 use Rattle.queue_laws.proofs.Configuration.{keeps_configuration}
 use Rattle.queue_laws.proofs.Done.{done_keeps}

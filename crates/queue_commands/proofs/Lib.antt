@@ -6,3 +6,4 @@ pub use Rattle.queue_effect.proofs.LawLemmas
 pub use Rattle.queue_tables.proofs.OrderLemmas
 pub use Rattle.queue_tables.proofs.SoundTables
 pub use Rattle.queue_tables.proofs.ToldLemmas
+pub use Rattle.queue_effect.proofs.UnitLemmas

@@ -40,7 +40,7 @@ use Rattle.lay_bytes.specs.Limits.{copies_most}
 use Rattle.lay_bytes.specs.Slots.{IsJobRec, IsOutRec, IsNumber, IsOwner}
 use Rattle.ckpt_tables.specs.Shape.{IsRoute, IsLineCount}
 use Rattle.job_queue.specs.Jobs as jobs
-use Rattle.output_queue.specs.Outputs as outputs
+use Rattle.queue_effect.specs.Outputs as outputs
 use Rattle.queue_laws.proofs.Done.{none_first}
 use Rattle.queue_laws.proofs.Finds.{test_cases, find-All}
 use Rattle.queue_laws.proofs.Freed.{All-freed}

@@ -4,4 +4,4 @@
 mod giving;
 
 pub use giving::{give, is_plain};
-pub use queue_effect::Ends;
+pub use queue_effect::{Ends, setting, unit};

@@ -5,3 +5,6 @@ pub mod Spans
 pub mod Standing
 pub mod Working
 pub mod Phases
+pub use Rattle.queue_telling.specs.Orders
+pub use Rattle.queue_telling.specs.Telling
+pub use Rattle.output_queue.specs.Outputs

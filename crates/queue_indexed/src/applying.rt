@@ -6,9 +6,9 @@ ghost use Rattle.mas_types.specs.Step.{may_give, row_of};
 ghost use Rattle.ckpt_tables.specs.Shape.{HasSpelling};
 ghost use Rattle.ckpt_pages.specs.Sound.{AreSound};
 ghost use Rattle.page_marks.specs.Marks.{Touches};
-ghost use Rattle.queue_telling.specs.Orders.{HaveOrders};
-ghost use Rattle.queue_telling.specs.Telling.{TellSound};
-ghost use Rattle.queue_effect.specs.Standing.{AreFit, IfRefused, Plays};
+ghost use Rattle.queue_commands.specs.Orders.{HaveOrders};
+ghost use Rattle.queue_commands.specs.Telling.{TellSound};
+ghost use Rattle.queue_commands.specs.Standing.{AreFit, IfRefused, Plays};
 ghost use Rattle.queue_commands.specs.Given.{IsGiver};
 ghost use Rattle.job_select.specs.Behind.{IsKept};
 

@@ -6,4 +6,5 @@ mod applying;
 mod units;
 
 pub use applying::apply_with;
+pub use job_select::KeptIndex;
 pub use units::{find_unit, unit_with};

@@ -5,7 +5,7 @@ ghost use Rattle.mas_types.specs.Limits.{members_most};
 ghost use Rattle.mas_types.specs.Queue.{first_in, printing_at, in_purge, in_output, in_execute, in_convert};
 ghost use Rattle.mas_types.specs.Selection.{for_convert, for_execute, for_printer};
 ghost use Rattle.mas_types.specs.Units.{unit_of, print_unit as print_unit_lem, working_at};
-ghost use Rattle.queue_telling.specs.Telling.{Tell};
+ghost use Rattle.queue_commands.specs.Telling.{Tell};
 ghost use Rattle.job_select.specs.Behind.{IsKept};
 ghost use Rattle.job_select.specs.Indexes.{IsOf};
 
@@ -13,7 +13,7 @@ use ckpt_tables::Tables;
 use job_select::{Index, KeptIndex};
 use lay_bytes::OutRec;
 use mas_types::{JobNo, MemberId, Unit};
-use queue_effect::{setting, unit};
+use queue_commands::{setting, unit};
 
 /// The next unit of a member, that of `unit`: by the index that is kept with the tables, or by walks over all slots
 /// if it is lost.

@@ -1,7 +1,7 @@
 use Rattle.std.proofs.Common.{◌≡◌, ◌≤◌, ◌∙◌, ℕ, Bool, ap, length, subst, sym}
 use Rattle.ckpt_tables.specs.Shape.{page_count}
 use Rattle.duplex_pair.specs.Halves.{pick}
-use Rattle.duplex_pair.specs.Replacing.{IsFormed, replace_stopped}
+use Rattle.mas_complex.specs.Replacing.{IsFormed, replace_stopped}
 use Rattle.mas_complex.specs.Parts.{parts_of}
 use Rattle.member_node.specs.Reads.{pages_had}
 use Rattle.member_node.proofs.ReplaceLemmas.{on_ok}

@@ -19,7 +19,7 @@ use Rattle.member_steps.specs.Saying.{TellKept}
 use Rattle.member_steps.specs.Steps.{AreKeptFrom, entry_of, entry_with, reply_to}
 use Rattle.member_steps.proofs.FateLemmas.{closing_tells}
 use Rattle.member_steps.proofs.StepLemmas.{if_ok, may_alike, only_entry, some_of_one, step_texts}
-use Rattle.member_decks.proofs.FinishLemmas.{one_of}
+use Rattle.member_sittings.proofs.FinishLemmas.{one_of}
 use Rattle.member_sittings.specs.Ends.{ends_in}
 use Rattle.member_sittings.specs.Sat.{IsSatOn}
 use Rattle.member_sittings.specs.Whole.{Commanded}

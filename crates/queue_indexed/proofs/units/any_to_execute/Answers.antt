@@ -3,8 +3,8 @@ use Rattle.std.specs.Prelude.{is_some, option_copied}
 use Rattle.std.specs.Option.{option_map_or}
 use Rattle.mas_types.specs.declared.queues.Setting.{Setting}
 use Rattle.job_select.specs.Indexes.{for_classes}
-use Rattle.queue_effect.proofs.UnitLemmas.{none_executed}
-use Rattle.queue_indexed.proofs.ToldLemmas.{told}
+use Rattle.queue_commands.proofs.UnitLemmas.{none_executed}
+use Rattle.queue_indexed.proofs.ToldUnits.{told}
 use Rattle.queue_indexed.proofs.units.any_to_execute.Goals as goal
 
 pub returns-in-Some : goal.returns-in-Some

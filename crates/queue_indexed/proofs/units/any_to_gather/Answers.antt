@@ -2,7 +2,7 @@ use Rattle.std.proofs.Common.{ap, ◌∙◌}
 use Rattle.std.specs.Prelude.{is_some}
 use Rattle.mas_types.specs.declared.jobs.Job.{Job}
 use Rattle.mas_types.specs.Queue.{first_in, in_output}
-use Rattle.queue_indexed.proofs.ToldLemmas.{told, is_some-map}
+use Rattle.queue_indexed.proofs.ToldUnits.{told, is_some-map}
 use Rattle.queue_indexed.proofs.units.any_to_gather.Goals as goal
 
 pub returns : goal.returns

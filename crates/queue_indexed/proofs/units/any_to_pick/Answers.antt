@@ -1,7 +1,7 @@
 use Rattle.std.proofs.Common.{ap, sym, ◌∙◌}
 use Rattle.std.specs.Prelude.{is_some, option_copied}
-use Rattle.queue_effect.proofs.UnitLemmas.{none_printed}
-use Rattle.queue_indexed.proofs.ToldLemmas.{told}
+use Rattle.queue_commands.proofs.UnitLemmas.{none_printed}
+use Rattle.queue_indexed.proofs.ToldUnits.{told}
 use Rattle.queue_indexed.proofs.units.any_to_pick.Goals as goal
 
 pub returns-in-Some : goal.returns-in-Some

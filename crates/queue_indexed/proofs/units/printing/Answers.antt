@@ -1,8 +1,8 @@
 use Rattle.std.proofs.Common.{sym, ap, ◌∙◌}
 use Rattle.std.specs.Prelude.{option_map}
 use Rattle.mas_types.specs.Queue.{printing_at}
-use Rattle.output_queue.specs.Outputs.{unordered}
-use Rattle.queue_indexed.proofs.ToldLemmas.{told, prints, prints_none}
+use Rattle.queue_commands.specs.Outputs.{unordered}
+use Rattle.queue_indexed.proofs.ToldUnits.{told, prints, prints_none}
 use Rattle.queue_indexed.proofs.units.printing.Goals as goal
 
 pub returns-in-Some : goal.returns-in-Some

@@ -1,4 +1,4 @@
-use Rattle.queue_indexed.proofs.ToldLemmas.{told}
+use Rattle.queue_indexed.proofs.ToldUnits.{told}
 use Rattle.queue_indexed.proofs.units.running.Goals as goal
 
 pub returns : goal.returns

@@ -4,7 +4,7 @@ use Rattle.mas_types.specs.declared.commands.Reply.{Reply}
 use Rattle.mas_types.specs.declared.journals.Entry.{Entry}
 use Rattle.mas_types.specs.Closings.{IsReplyNamed}
 use Rattle.mas_complex.specs.Meaning.{run}
-use Rattle.queue_commands.specs.Standing.{IfRefused}
+use Rattle.queue_indexed.specs.Standing.{IfRefused}
 use Rattle.member_node.specs.Batches.{HasDone}
 use Rattle.member_node.proofs.FitLemmas.{orders_low}
 use Rattle.member_node.proofs.EntryLemmas.{err_any, given_entry, given_reply, given_tells, member_same, still_unchanged, taken_entry, more_done}

@@ -6,8 +6,8 @@ use Rattle.mas_complex.specs.Journals.{kept_all}
 use Rattle.mas_complex.specs.Meaning.{run}
 use Rattle.ckpt_tables.specs.Pages.{Spell}
 use Rattle.ckpt_pages.proofs.DecodingLemmas.{one_queue, one_value}
-use Rattle.queue_commands.proofs.ToldLemmas.{pages_alike}
-use Rattle.job_select.specs.Behind.{IsKept}
+use Rattle.queue_indexed.proofs.ToldLemmas.{pages_alike}
+use Rattle.queue_indexed.specs.Behind.{IsKept}
 use Rattle.member_node.specs.Mirrors.{IsMirrorBut}
 use Rattle.page_tables.specs.Bringing.{are_orders_low}
 use Rattle.member_node.proofs.EntryLemmas.{err_any, facts_same}

@@ -10,9 +10,9 @@ use Rattle.lay_bytes.specs.declared.records.JobRec.{JobRec}
 use Rattle.lay_bytes.specs.declared.records.OutRec.{OutRec}
 use Rattle.ckpt_tables.specs.declared.tables.Tables.{Tables}
 use Rattle.job_queue.specs.Jobs.{AreJobs}
-use Rattle.output_queue.specs.Outputs.{AreOutputs, rec_of, unordered}
-use Rattle.queue_telling.specs.Telling.{Tell}
-use Rattle.queue_effect.proofs.UnitLemmas.{same_print}
+use Rattle.queue_commands.specs.Outputs.{AreOutputs, rec_of, unordered}
+use Rattle.queue_commands.specs.Telling.{Tell}
+use Rattle.queue_commands.proofs.UnitLemmas.{same_print}
 use Rattle.job_select.specs.declared.index.Index.{Index}
 use Rattle.job_select.specs.Indexes.{IsOf, StandsFor}
 
