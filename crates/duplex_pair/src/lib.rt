@@ -1,7 +1,8 @@
 //! The two copies of the checkpoint, of which one may be lost.
 //!
 //! A copy counts as lost exactly where an act on it failed, or `lose` was called on it, since the pair was made or
-//! since the last `replace` of `pair_replacing` for it was answered Ok. After a failed act a call goes on with the other copy.
+//! since the last `replace` of `pair_replacing` for it was answered Ok. After a failed act a call goes on with the other
+//! copy.
 #![tactic(auto)]
 
 mod errors;

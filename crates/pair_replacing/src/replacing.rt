@@ -103,42 +103,6 @@ fn replace_copy<P: Plant, C: Copying + Drop>(
     Ok(())
 }
 
-fn replace_half<P: Plant, C: Copying + Drop>(
-    pair: &mut Pair<C>,
-    plant: &mut P,
-    by: MemberId,
-    dev: Dev,
-    pages: &[Page],
-) -> Result<(), ReplaceNo>
-    requires ckpt { IsCkpt dev }
-    requires enough { pages_least ≤ length pages.now }
-    requires few { length pages.now ≤ pages_most }
-    requires size { C.needs (length pages.now) ≤ (P.view plant.old).size dev }
-    ensures other { other dev pair.new.first pair.new.second ≡ other dev pair.old.first pair.old.second }
-    ensures err { OnErr result (pick dev pair.new.first pair.new.second ≡ pick dev pair.old.first pair.old.second) }
-    ensures acted { OnErr result (IsErrOf result Failed ⊎ IsErrOf result ReplaceHalted) }
-    ensures replaces { Replaces by.0 dev (replace_stopped result) (P.view plant.old) (P.view plant.new) }
-    ensures failed { IsErrOf result Failed
-        → Rose ((P.view plant.old).faults (Disk dev)) ((P.view plant.new).faults (Disk dev)) }
-    ensures lost { IsErrOf result Failed → (P.view plant.new).lost (Disk dev) ≡ true }
-    ensures last { IsErrOf result ReplaceHalted → (P.view plant.old).now ≢ top }
-    ensures ok { OnOk result (((pick dev pair.new.first pair.new.second).alive ≡ true)
-        × IsFormed C.count C.room C.room_most C.ready (length pages.now) dev (P.view plant.new)
-        (pick dev pair.new.first pair.new.second).copy) }
-    ensures during { P.tells → WhileReplaced dev
-        (IsOrForms C.reads (disk_now (P.view plant.old) dev) (bytes_of pages.now)) (P.view plant.old)
-        (P.view plant.new) }
-    ensures formed { OnOk result (P.tells
-        → C.rests (pick dev pair.new.first pair.new.second).copy (bytes_of pages.now)
-        (disk_now (P.view plant.new) dev)) }
-{
-    match dev {
-        Dev::Ckpt1 => replace_copy(&mut pair.first, plant, by, dev, pages),
-        Dev::Ckpt2 => replace_copy(&mut pair.second, plant, by, dev, pages),
-        Dev::Spool(_) => unreachable!(),
-    }
-}
-
 /// Puts another device in the place of a lost one, and makes a copy of these pages on it: those that the other copy
 /// reads. The copy counts as lost up to an Ok, and as alive from then on; the other copy stays as it is.
 ///
@@ -190,5 +154,9 @@ pub fn replace<P: Plant, C: Copying + Drop>(
     if !pair.first.alive && !pair.second.alive {
         return Err(ReplaceNo::BothLost);
     }
-    replace_half(pair, plant, by, dev, pages)
+    match dev {
+        Dev::Ckpt1 => replace_copy(&mut pair.first, plant, by, dev, pages),
+        Dev::Ckpt2 => replace_copy(&mut pair.second, plant, by, dev, pages),
+        Dev::Spool(_) => unreachable!(),
+    }
 }
