@@ -34,7 +34,7 @@ use Rattle.mas_complex.specs.Meaning.{run}
 use Rattle.mas_complex.specs.Seen.{IsFatedBy}
 use Rattle.mas_complex.proofs.Batches.{kept_all_append}
 use Rattle.mas_complex.proofs.BatchEnds.{with_last-append, without_last-append}
-use Rattle.mas_complex.proofs.Counted.{counts_first, counts_second, counts_both, counts_lost}
+use Rattle.mas_complex.proofs.Counted.{counts_first, counts_second, counts_both, first_lost, second_lost}
 use Rattle.mas_complex.specs.Parts.{Shown, batches_left}
 use Rattle.gate_turns.specs.Seats.{all_seats, has_lock, shows_stopped}
 use Rattle.gate_turns.specs.Words.{lines_by}
@@ -177,20 +177,13 @@ module _ (x c : Shown) (by : MemberId) (stopped told : Bool) (cares : List Bool)
       none s ne (Some b) is = ap (λ z. (if z then b.entries else []) ++ []) (ne_eqb b.by.0 s.0 (λ e. ne (sym e ∙ ap (λ (m : MemberId). m.0) is)))
 
 pub copy_acts_count : CopyActsCount
-copy_acts_count by was is other stopped old new = (counts_first by was is other other stopped old new refl, counts_second by other other was is stopped old new refl)
+copy_acts_count by stopped x y = (counts_first by stopped x y, counts_second by stopped x y)
 
 pub pair_acts_count : PairActsCount
 pair_acts_count = counts_both
 
--- a copy that counts as alive, or as lost
-abbrev alive : Bool → Bool
-alive b = b
-
 pub losses_count : LossesCount
-losses_count by other old new = (
-  counts_lost alive true other false other by old new Ckpt1 tt refl refl refl,
-  counts_lost alive other true other false by old new Ckpt2 tt refl refl refl,
-)
+losses_count by x y = (first_lost by x y, second_lost by x y)
 
 pub calls_may : CallsMayGoBack
 calls_may x c by stopped told cares call mine same flying = calls x c by stopped told cares call mine same flying

@@ -23,7 +23,7 @@ use Rattle.lock_cycle.specs.Books.{Book, IsMember, is_holder, after_try, after_f
 use Rattle.gate_facts.specs.declared.facts.Facts.{Facts}
 use Rattle.gate_facts.specs.Values.{marked_at}
 use Rattle.gate_facts.specs.Memory.{MayGiveBack}
-use Rattle.mas_complex.specs.CallCounts.{KeepsCounts}
+use Rattle.mas_complex.specs.CallCounts.{KeepsCounts, PairState, shown_state}
 use Rattle.mas_complex.specs.Elsewhere.{OnCopies}
 use Rattle.mas_complex.specs.Journals.{kept_all, entries_reserved, begun, fated, with_last, IsPlace, EndsInPlace, HasPlace}
 use Rattle.mas_complex.specs.Meaning.{run, is_telling, Closes}
@@ -165,18 +165,20 @@ with_call x c = record c { reads = x.reads; book = x.book; base = x.base; since 
 
 -- what acts on one copy count, or on both, and what the loss of one that counted as alive
 abbrev pub CopyActsCount : Type 0
-CopyActsCount = (by : ℕ) (was is other stopped : Bool) (old new : View) →
-    (Acted by Ckpt1 was is stopped old new → KeepsCounts by was is other other stopped old new)
-    × (Acted by Ckpt2 was is stopped old new → KeepsCounts by other other was is stopped old new)
+CopyActsCount = (by : ℕ) (stopped : Bool) (x y : PairState) →
+    (y.second ≡ x.second → Acted by Ckpt1 x.first y.first stopped x.view y.view → KeepsCounts by stopped x y)
+    × (y.first ≡ x.first → Acted by Ckpt2 x.second y.second stopped x.view y.view → KeepsCounts by stopped x y)
 
 abbrev pub PairActsCount : Type 0
-PairActsCount = (by : ℕ) (was1 is1 was2 is2 stopped : Bool) (old new : View)
-    → PairActed by was1 is1 was2 is2 stopped old new → KeepsCounts by was1 is1 was2 is2 stopped old new
+PairActsCount = (by : ℕ) (stopped : Bool) (x y : PairState)
+    → PairActed by x.first y.first x.second y.second stopped x.view y.view → KeepsCounts by stopped x y
 
 abbrev pub LossesCount : Type 0
-LossesCount = (by : ℕ) (other : Bool) (old new : View) →
-    (Loses (Disk Ckpt1) old new → KeepsCounts by true false other other false old new)
-    × (Loses (Disk Ckpt2) old new → KeepsCounts by other other true false false old new)
+LossesCount = (by : ℕ) (x y : PairState) →
+    (x.first ≡ true → y.first ≡ false → y.second ≡ x.second → Loses (Disk Ckpt1) x.view y.view
+    → KeepsCounts by false x y)
+    × (x.second ≡ true → y.second ≡ false → y.first ≡ x.first → Loses (Disk Ckpt2) x.view y.view
+    → KeepsCounts by false x y)
 
 -- a batch that a member begins leaves the counts of printed lines of each other member
 abbrev pub BatchesLeaveCounts : Type 0
@@ -187,7 +189,7 @@ BatchesLeaveCounts = (by : MemberId) (entries : List Entry) (printed : List ℕ)
 -- the volumes and of the console, and the counts of printed lines of each other member
 pub record IsCall (by : MemberId) (stopped told : Bool) (x c : Shown) : Type 0 where
   pub holds : x.book.holder ≡ by
-  pub counts : KeepsCounts by.0 x.first_alive c.first_alive x.second_alive c.second_alive stopped x.view c.view
+  pub counts : KeepsCounts by.0 stopped (shown_state x) (shown_state c)
   pub apart : told ≡ true → OnCopies x.view c.view
   pub begun : told ≡ true → HasBegun x
   pub printed : (m : MemberId) → m.0 ≢ by.0 → counts_of c.printed m ≡ counts_of x.printed m

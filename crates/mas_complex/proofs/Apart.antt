@@ -1,20 +1,6 @@
 -- What a call on one copy leaves as it was, said of plain data.
-use Rattle.std.proofs.Common.{◌≡◌, ◌≢◌, ◌==◌, ⊎_elim, ℕ, ◌≤◌, ◌<◌, Bool, true, false, List, refl, sym, subst, ap, ◌∙◌, arith}
-use Rattle.std.proofs.lemmas.Bool.{eqb-true, eqb-false}
-use Rattle.std.proofs.Math.Logic.{∥∥₁_elim, ∥∥₁_map}
-use Rattle.std.specs.Coded.{Coded, Coded-set, coded_list, coded_ℕ, coded_bool, coded×, code_by}
-use Rattle.mas_types.specs.declared.ids.Dev.{Dev}
-use Rattle.mas_types.specs.declared.ids.Dev.TheVariants.{Ckpt1, Ckpt2, Spool}
-use Rattle.spool_plant.specs.declared.plant.Part.TheVariants.{Disk as DiskPart}
-use Rattle.spool_plant.specs.View.{View, World, Disk, Line, Stretch, Throughout, disk_at, disk_now}
-use Rattle.spool_plant.specs.Acts.{Goes, Loses, LosesThere, SameWires}
-use Rattle.ckpt_copy.specs.Moments.{either_way}
-use Rattle.ckpt_copy.specs.Meanwhile.{Meanwhile, SameSides}
-use Rattle.duplex_pair.specs.Halves.{IsCkpt}
-use Rattle.duplex_pair.specs.Both.{BothMeanwhile}
-use Rattle.mas_complex.specs.Elsewhere.{Elsewhere, OnCopies}
+use Rattle.mas_complex.proofs.Names.{◌≡◌, ◌≢◌, ◌==◌, ⊎_elim, ℕ, ◌≤◌, ◌<◌, Bool, true, false, List, refl, sym, subst, ap, ◌∙◌, arith, eqb-true, eqb-false, ∥∥₁_elim, ∥∥₁_map, Coded, Coded-set, coded_list, coded_ℕ, coded_bool, coded×, code_by, Dev, Ckpt1, Ckpt2, Spool, Disk as DiskPart, View, World, ViewDisk as Disk, Line, Stretch, Throughout, disk_at, disk_now, Goes, Loses, LosesThere, SameWires, either_way, Meanwhile, SameSides, IsCkpt, BothMeanwhile, Elsewhere, OnCopies, SamePapers}
 use Rattle.mas_complex.specs.Kept.{OnlyOnCopies}
-use Rattle.mas_complex.specs.Paper.{SamePapers}
 use Rattle.mas_complex.proofs.Papers.{same_papers}
 
 abbrev coded_stretch : Coded Stretch
@@ -72,12 +58,11 @@ module _ (v : ℕ) (old new : View) (there : LosesThere (Spool v) old new) where
   }
 
   pub bytes_lost : (d : Dev) → (disk_now new d).bytes ≡ (disk_now old d).bytes
-  bytes_lost Ckpt1 = ap (λ (x : Disk). x.bytes) (there.only.others Ckpt1 (λ e. absurd (cc)))
-  bytes_lost Ckpt2 = ap (λ (x : Disk). x.bytes) (there.only.others Ckpt2 (λ e. absurd (cc)))
   bytes_lost (Spool n) = by_volume (n == v) refl where
     by_volume : (b : Bool) → (n == v) ≡ b → (disk_now new (Spool n)).bytes ≡ (disk_now old (Spool n)).bytes
     by_volume true e = subst (λ (m : ℕ). (disk_now new (Spool m)).bytes ≡ (disk_now old (Spool m)).bytes) (sym (eqb-true n v e)) there.disk.bytes
     by_volume false e = ap (λ (x : Disk). x.bytes) (there.only.others (Spool n) (λ same. eqb-false n v e (cc same)))
+  bytes_lost another = ap (λ (x : Disk). x.bytes) (there.only.others another (λ e. absurd (cc)))
 
 -- the bytes of the other devices
 pub bytes_else : (dev : Dev) (old new : View) → Goes old new → Elsewhere dev old new → (d : Dev) → d ≢ dev → (disk_now new d).bytes ≡ (disk_now old d).bytes

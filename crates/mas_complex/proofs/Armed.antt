@@ -1,21 +1,10 @@
 -- A stop that is armed changes nothing of which a shared value keeps a fact.
-use Rattle.std.proofs.Common.{◌≡◌, inl, inr, ⊎_elim, ℕ, List, Option, sym, subst, ap}
-use Rattle.mas_types.specs.declared.ids.Dev.{Dev}
-use Rattle.mas_types.specs.declared.ids.MemberId.{MemberId}
-use Rattle.mas_types.specs.declared.journals.Batch.{Batch}
-use Rattle.mas_types.specs.declared.queues.Queue.{Queue}
-use Rattle.lock_cycle.specs.Books.{Book}
-use Rattle.spool_plant.specs.View.{View}
-use Rattle.spool_plant.specs.Acts.{Arms}
-use Rattle.mas_complex.specs.Crash.{Copy, Keeps, Setting}
-use Rattle.mas_complex.specs.Paper.{KeepsPaper, LineAt}
+use Rattle.mas_complex.proofs.Names.{inl, inr, ⊎_elim, ℕ, List, Option, refl, sym, subst, le_refl, ∥∥₁_map, MemberId, Batch, Queue, Book, View, Arms, PlantGhosts, Ghosts as CopyGhosts, SteadyGhosts, Complex, Copy, Keeps, Setting, KeepsPaper, LineAt}
+use Rattle.mas_complex.proofs.Values.{Left, facts, first_of, second_of, setting_of, view_of}
 
 -- the view with these counts of stops that were armed
 abbrev with_arms : View → (ℕ → ℕ) → View
 with_arms v arms = record v { arms = arms }
-
-pub same_sizes : (m : ℕ) (old new : View) → Arms m old new → (d : Dev) → new.size d ≡ old.size d
-same_sizes m old new armed d = ap (λ (v : View). v.size d) armed.same
 
 -- WHAT A CRASH LEAVES
 
@@ -52,9 +41,6 @@ module _ (S : Setting) (js : List Batch) (current : Option Batch) (reached : ℕ
     second_at = k.second_at;
   }
 
-  pub armed_keep : (m : ℕ) (new : View) → Arms m v new → Keeps S js current reached first second v → Keeps S js current reached first second new
-  armed_keep m new armed k = subst (λ (w : View). Keeps S js current reached first second w) (sym armed.same) (keeps_with new.arms k)
-
 -- WHAT STANDS ON PAPER
 
 module _ (base : Queue) (since : ℕ) (js : List Batch) (current : Option Batch) (printed : List ℕ) (book : Book) (v : View) where
@@ -72,5 +58,10 @@ module _ (base : Queue) (since : ℕ) (js : List Batch) (current : Option Batch)
     counted = k.counted;
   }
 
-  pub armed_on_paper : (m : ℕ) (new : View) → Arms m v new → KeepsPaper base since js current printed book v → KeepsPaper base since js current printed book new
-  armed_on_paper m new armed k = subst (λ (w : View). KeepsPaper base since js current printed book w) (sym armed.same) (paper_with new.arms k)
+-- THE SHARED VALUE
+
+pub left_armed : {P C : Type 0} {plants : PlantGhosts P} {steadies : SteadyGhosts C} {copies : CopyGhosts C} (s : Complex P C plants steadies copies) (m : ℕ) (new : View) → Arms m (view_of s) new → Left s new
+left_armed {steadies = steadies} s m new armed = subst (λ (v : View). Left s v) (sym armed.same) (facts s s.pair s.first s.second (with_arms (view_of s) new.arms) (le_refl (view_of s).now)
+    (λ told. ∥∥₁_map (s.kept told) (λ k. keeps_with (setting_of s) s.journal.batches s.current s.level (first_of s) (second_of s) (view_of s) new.arms k)) s.lasting
+    (λ told sound. ∥∥₁_map (s.paper told sound) (λ k. paper_with s.base s.since s.journal.batches s.current s.printed s.book (view_of s) new.arms k))
+    ((λ is. steadies.sizes_fit s.pair.first.copy (view_of s) (with_arms (view_of s) new.arms) (λ d. refl) (s.ready.0 is)), (λ is. steadies.sizes_fit s.pair.second.copy (view_of s) (with_arms (view_of s) new.arms) (λ d. refl) (s.ready.1 is))) s.lost)

@@ -1,8 +1,5 @@
 -- The end of a journal is written.
-use Rattle.std.proofs.Common.{◌≡◌, ℕ, suc, ◌-◌, ◌≤◌, ◌<◌, Bool, true, false, List, [], ◌∷◌, ◌++◌, length, slice_set, Option, Some, None, refl, ap, sym, subst, ◌∙◌, arith, le_trans}
-use Rattle.std.specs.Prelude.{remove}
-use Rattle.mas_types.specs.declared.journals.Batch.{Batch}
-use Rattle.mas_complex.specs.Journals.{journal_most, with_last, without_last, end_of}
+use Rattle.mas_complex.proofs.Names.{◌≡◌, ℕ, suc, ◌-◌, ◌≤◌, ◌<◌, Bool, true, false, List, [], ◌∷◌, ◌++◌, length, slice_set, Option, Some, None, refl, ap, sym, subst, ◌∙◌, arith, le_trans, remove, Batch, journal_most, with_last, without_last, end_of}
 
 set_at : (x b : Batch) (bs : List Batch) → slice_set (b ∷ bs) (length bs) x ≡ with_last x (b ∷ bs)
 set_at x b [] = refl
@@ -21,20 +18,17 @@ last_removed [] some = absurd (omega arith)
 last_removed (b ∷ bs) some = let e : length (b ∷ bs) - 1 ≡ length bs = omega arith in rw e (remove_at b bs)
 
 pub with_last-append : (x : Batch) (bs : List Batch) (b : Batch) → with_last x (bs ++ b ∷ []) ≡ bs ++ x ∷ []
-with_last-append x [] b = refl
-with_last-append x (a ∷ []) b = refl
 with_last-append x (a ∷ next ∷ bs) b = ap (λ (ys : List Batch). a ∷ ys) (with_last-append x (next ∷ bs) b)
+with_last-append x _ b = refl
 
 pub without_last-append : (bs : List Batch) (b : Batch) → without_last (bs ++ b ∷ []) ≡ bs
-without_last-append [] b = refl
-without_last-append (a ∷ []) b = refl
 without_last-append (a ∷ next ∷ bs) b = ap (λ (ys : List Batch). a ∷ ys) (without_last-append (next ∷ bs) b)
+without_last-append _ b = refl
 
 -- a journal with another last batch has as many batches
 pub as_many : (b : Batch) (js : List Batch) → length (with_last b js) ≡ length js
-as_many b [] = refl
-as_many b (a ∷ []) = refl
 as_many b (a ∷ next ∷ js) = ap suc (as_many b (next ∷ js))
+as_many b _ = refl
 
 pub few_with_last : (b : Batch) (js : List Batch) → length js ≤ journal_most → length (with_last b js) ≤ journal_most
 few_with_last b js few = subst (λ (n : ℕ). n ≤ journal_most) (sym (as_many b js)) few

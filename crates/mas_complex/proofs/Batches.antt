@@ -1,14 +1,5 @@
 -- A journal at a moment, as it grows.
-use Rattle.std.proofs.Common.{◌≡◌, ℕ, ◌≤◌, ◌<◌, ◌&&◌, ◌||◌, nat_le, nat_lt, Bool, true, false, if◌then◌else◌, List, [], ◌∷◌, ◌++◌, Option, Some, None, refl, subst, sym, ◌∙◌, ap, arith, append_assoc}
-use Rattle.std.proofs.lemmas.Bool.Decides.{nat_tests}
-use Rattle.std.proofs.lemmas.List.{append-nil}
-use Rattle.mas_types.specs.declared.ids.MemberId.{MemberId}
-use Rattle.mas_types.specs.declared.journals.Batch.{Batch}
-use Rattle.mas_types.specs.declared.journals.Entry.{Entry}
-use Rattle.mas_types.specs.declared.journals.Fate.{Fate}
-use Rattle.mas_types.specs.declared.journals.Fate.TheVariants.{Kept, Flying}
-use Rattle.mas_complex.specs.Journals.{kept, flying, kept_of, flying_of, kept_all, in_flight, entries_in, AreSettled, IsBegun, StepIsKept, has_step, IsPlace}
-use Rattle.mas_types.specs.Journal.{is_kept, is_flying}
+use Rattle.mas_complex.proofs.Names.{◌≡◌, ℕ, ◌≤◌, ◌<◌, ◌&&◌, ◌||◌, nat_le, nat_lt, Bool, true, false, if◌then◌else◌, List, [], ◌∷◌, ◌++◌, Option, Some, None, refl, subst, sym, ◌∙◌, ap, arith, append_assoc, nat_tests, append-nil, MemberId, Batch, Entry, Fate, Kept, Flying, kept, flying, kept_of, flying_of, kept_all, in_flight, entries_in, AreSettled, IsBegun, StepIsKept, has_step, IsPlace, is_kept, is_flying}
 
 pub kept_append : (js ks : List Batch) (t : ℕ) → kept (js ++ ks) t ≡ kept js t ++ kept ks t
 kept_append [] ks t = refl

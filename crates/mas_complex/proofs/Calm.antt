@@ -1,31 +1,11 @@
 -- Calls that act on both copies and leave the journal: a settle, and the read of a page.
-use Rattle.std.proofs.Common.{◌≡◌, ℕ, ◌≤◌, ◌<◌, Bool, true, false, List, ◌++◌, Option, Some, None, Result, Ok, Err, OnOk, IsErrOf, refl, subst, sym, ◌∙◌, arith}
-use Rattle.mas_types.specs.declared.ids.Dev.{Dev}
-use Rattle.mas_types.specs.declared.ids.Dev.TheVariants.{Ckpt1, Ckpt2, Spool}
-use Rattle.mas_types.specs.declared.journals.Batch.{Batch}
-use Rattle.spool_plant.specs.View.{View, Disk, disk_at, disk_now}
-use Rattle.spool_plant.specs.Acts.{top}
-use Rattle.ckpt_copy.specs.Changes.{NoMore}
-use Rattle.ckpt_copy.specs.Reading.{AllRead}
-use Rattle.ckpt_copy.specs.Staying.{no_more_image}
-use Rattle.duplex_pair.specs.declared.errors.PairNo.{PairNo}
-use Rattle.duplex_pair.specs.declared.errors.PairNo.TheVariants.{BothLost, Halted}
-use Rattle.duplex_pair.specs.Halves.{IsGone}
-use Rattle.duplex_pair.specs.Both.{BothMeanwhile, Touched}
-use Rattle.ckpt_places.specs.declared.places.Place.{Place}
-use Rattle.ckpt_places.specs.declared.places.Place.TheVariants.{Before, Put, Opened, Unsure}
-use Rattle.mas_complex.specs.Places.{IsPlaceAfter}
-use Rattle.mas_complex.specs.Journals.{in_flight, kept_all, entries_in}
+use Rattle.mas_complex.proofs.Names.{◌≡◌, ℕ, ◌≤◌, ◌<◌, Bool, true, false, List, ◌++◌, Option, Some, None, Result, Ok, Err, OnOk, IsErrOf, refl, subst, sym, ◌∙◌, arith, ⊎_elim, ◌||◌, or_cases, Dev, Ckpt1, Ckpt2, Spool, Batch, View, ViewDisk as Disk, disk_at, disk_now, top, NoMore, AllRead, no_more_image, PairNo, BothLost, Halted, IsGone, BothMeanwhile, Touched, Place, Before, Put, Opened, Unsure, IsPlaceAfter, in_flight, kept_all, entries_in, is_open, of_device, Setting, ReadsOne, ReadsBy, OnComing, IsAt, IsAway, OneCopy, Copy, CopyAt, Keeps}
+use Rattle.mas_complex.proofs.Basics.{no, some_is}
 use Rattle.mas_complex.proofs.Texting.{stays_same}
-use Rattle.mas_complex.specs.Renewals.{is_open, of_device}
-use Rattle.mas_complex.specs.Crash.{Setting, ReadsOne, ReadsBy, OnComing, IsAt, IsAway, OneCopy, Copy, CopyAt, Keeps}
 use Rattle.mas_complex.proofs.Present.{all_read, not_renewed, away_lost, away_moved, away_same, away_reads, copy_reads}
 use Rattle.mas_complex.proofs.Passing.{passes_of}
 use Rattle.mas_complex.proofs.Moves.{acts_keep}
-use Rattle.mas_complex.proofs.Sides.{calm, no}
-
-some_is : (x y : List ℕ) → Some x ≡ Some y → x ≡ y
-some_is x y e = cc
+use Rattle.mas_complex.proofs.Sides.{calm}
 
 module _ (S : Setting) (js : List Batch) (c : Option Batch) (reached : ℕ) (first second first' second' : Copy) (old new : View) (P Q : Disk → Type 0) where
   pub both_keep : (keeps : Keeps S js c reached first second old) → BothMeanwhile P Q old new
@@ -39,7 +19,7 @@ module _ (S : Setting) (js : List Batch) (c : Option Batch) (reached : ℕ) (fir
       (stays_same S (kept_all js) (entries_in c) old new (λ t lt le n. m.others t (omega arith) le (Spool n) (λ e. absurd (cc)) (λ e. absurd (cc)))) x y
 
 -- a copy before any batch reads the kept pages, at a settle
-module _ (S : Setting) (kept : List ℕ) (coming : Option (List ℕ)) (dev : Dev) (old new : View) (rests rests' : List ℕ → Disk → Type 0) (holds holds' : List ℕ → List ℕ → Disk → Type 0) (place place' : Place) (alive alive' : Bool) (pages : List ℕ)
+module _ (S : Setting) (kept : List ℕ) (coming : Option (List ℕ)) (dev : Dev) (old : View) (rests : List ℕ → Disk → Type 0) (holds : List ℕ → List ℕ → Disk → Type 0) (place : Place) (alive : Bool) (pages : List ℕ)
     (copy : OneCopy S rests holds kept coming place alive (is_open (of_device dev S.renewals)) old.now (disk_now old dev)) (before : alive ≡ true → place ≡ Before)
     (rests_now : (was : List ℕ) (d : Disk) → rests was d → S.reads d.bytes ≡ Some was) (reads : alive ≡ true → S.reads (disk_now old dev).bytes ≡ Some pages) where
   at_rest : alive ≡ true → rests kept (disk_now old dev)
@@ -61,7 +41,7 @@ module _ (S : Setting) (kept : List ℕ) (coming : Option (List ℕ)) (dev : Dev
   pub settle_reads : old.now < top → (d : Disk) → Touched alive (AllRead S.reads pages) (disk_now old dev) d → ReadsBy S (is_open (of_device dev S.renewals)) kept coming d
   settle_reads lt d t = touched_reads lt alive refl d t
 
-  module _ {T : Type 0} (done : Result T PairNo) (stays : alive' ≡ true → alive ≡ true) (le : old.now ≤ new.now) (touched : Touched alive (AllRead S.reads pages) (disk_now old dev) (disk_now new dev))
+  module _ (new : View) (rests' : List ℕ → Disk → Type 0) (holds' : List ℕ → List ℕ → Disk → Type 0) (place' : Place) (alive' : Bool) {T : Type 0} (done : Result T PairNo) (stays : alive' ≡ true → alive ≡ true) (le : old.now ≤ new.now) (touched : Touched alive (AllRead S.reads pages) (disk_now old dev) (disk_now new dev))
       (gone : IsGone dev alive alive' new) {A : Type 0} (settled : OnOk done A) (of : A → alive' ≡ true → rests' pages (disk_now new dev)) (both : IsErrOf done BothLost → alive' ≡ false) (after : IsPlaceAfter done Before place') where
     at_place : (p : Place) → place' ≡ p → IsAt S rests' holds' kept coming p (disk_now new dev) → IsAt S rests' holds' kept coming place' (disk_now new dev)
     at_place p e side = subst (λ (x : Place). IsAt S rests' holds' kept coming x (disk_now new dev)) (sym e) side
@@ -112,3 +92,16 @@ module _ (S : Setting) (was : List ℕ) (coming : Option (List ℕ)) (dev : Dev)
 
     pub read_copy : (alive' ≡ true → alive ≡ true) → old.now ≤ new.now → IsGone dev alive alive' new → OneCopy S rests holds was coming place alive' (is_open (of_device dev S.renewals)) new.now (disk_now new dev)
     read_copy stays le gone = record { at = λ now. stays_side place (copy.at (stays now)); formed = λ now. copy.formed (stays now); gone = λ dead. by_was alive refl gone le dead }
+
+pub stands_of : (S : Setting) (js : List Batch) (c : Option Batch) (reached : ℕ) (first second : Copy) (v : View) → Keeps S js c reached first second v → (pages : List ℕ) → (first.alive || second.alive) ≡ true
+    → (first.alive ≡ true → first.place ≡ Before) → (second.alive ≡ true → second.place ≡ Before)
+    → ((was : List ℕ) (d : Disk) → first.rests was d → S.reads d.bytes ≡ Some was) → ((was : List ℕ) (d : Disk) → second.rests was d → S.reads d.bytes ≡ Some was)
+    → (first.alive ≡ true → S.reads (disk_now v Ckpt1).bytes ≡ Some pages) → (second.alive ≡ true → S.reads (disk_now v Ckpt2).bytes ≡ Some pages)
+    → S.stand (S.run S.base (kept_all js)) pages
+stands_of S js c reached first second v keeps pages some before1 before2 now1 now2 reads1 reads2 =
+    subst (λ (l : List ℕ). S.stand (S.run S.base (kept_all js)) l) same keeps.stands.queue where
+      same : keeps.was ≡ pages
+      same = ⊎_elim
+          (λ is. settle_same S keeps.was keeps.coming Ckpt1 v first.rests first.holds first.place first.alive pages keeps.first_at before1 now1 reads1 is)
+          (λ is. settle_same S keeps.was keeps.coming Ckpt2 v second.rests second.holds second.place second.alive pages keeps.second_at before2 now2 reads2 is)
+          (or_cases first.alive second.alive some)

@@ -1,28 +1,6 @@
 -- The pages that are found on two copies.
-use Rattle.std.proofs.Common.{◌≡◌, ◌||◌, inl, inr, ⊎_elim, ℕ, ◌+◌, Bool, true, false, List, length, Option, Some, refl, sym, ◌∙◌, ap, subst}
-use Rattle.mas_types.specs.declared.ids.Dev.{Dev}
-use Rattle.mas_types.specs.declared.ids.Dev.TheVariants.{Ckpt1, Ckpt2, Spool}
-use Rattle.mas_types.specs.declared.ids.Page.{Page}
-use Rattle.mas_types.specs.declared.queues.Queue.{Queue}
-use Rattle.mas_types.specs.declared.journals.Entry.{Entry}
-use Rattle.ckpt_copy.specs.Pages.{bytes_of, level}
-use Rattle.duplex_pair.specs.Halves.{IsCkpt, other}
-use Rattle.ckpt_places.specs.declared.places.Place.{Place}
-use Rattle.ckpt_places.specs.declared.places.Place.TheVariants.{Before, Opened}
-use Rattle.mas_complex.specs.Places.{IsAtLevel}
-use Rattle.mas_complex.specs.Seen.{OneSeen, Stays, Agrees, IsNextOr, DiffersAtFound}
-
-same_some : (xs ys : List ℕ) → Some xs ≡ Some ys → xs ≡ ys
-same_some xs ys e = cc
-
-clash : (p : Place) → p ≡ Before → p ≡ Opened → ⊥
-clash p a b = cc
-
-pub stays_true : (b alive : Bool) → (b ≡ false → alive ≡ false) → alive ≡ true → b ≡ true
-stays_true true alive f is = refl
-stays_true false alive f is = absurd (no alive is (f refl)) where
-  no : (x : Bool) → x ≡ true → x ≡ false → ⊥
-  no x p q = cc
+use Rattle.mas_complex.proofs.Names.{◌≡◌, ◌||◌, inl, inr, ⊎_elim, ℕ, ◌+◌, Bool, true, false, List, Some, refl, sym, ◌∙◌, ap, subst, arith, Dev, Ckpt1, Ckpt2, Spool, Page, View, disk_now, bytes_of, level, IsCkpt, Half, other, Place, Before, IsAtLevel, Agrees, Chosen, DiffersAtFound, IsNextOr, Looked, OneSeen, Sought, Stays, looked}
+use Rattle.mas_complex.proofs.Basics.{before_opened, some_is}
 
 -- one of the two counts as alive
 pub some_first : (one two : Bool) → one ≡ true → (one || two) ≡ true
@@ -38,24 +16,52 @@ some_beside alive Ckpt1 ckpt one two is = some_second (alive one) (alive two) is
 some_beside alive Ckpt2 ckpt one two is = some_first (alive one) (alive two) is
 some_beside alive (Spool n) ckpt one two is = absurd ckpt
 
-module _ (reads : List ℕ → Option (List ℕ)) (tells : Type 0) (queue : Queue) (flying : List Entry) (reached : ℕ) where
-  at_before : (l : ℕ) (place : Place) → IsAtLevel l reached place → place ≡ Before → l ≡ reached
-  at_before l place at before = ⊎_elim (λ x. x.1) (λ x. absurd (clash place before x.0)) at
+-- a copy that may stay
+module _ {C : Type 0} (count room : C → ℕ) (tells : Type 0) (it : Sought) (h k : Half C) (p q : Place) (same : k ≡ h) (placed : q ≡ p) where
+  at_before : (l : ℕ) (place : Place) → IsAtLevel l it.reached place → place ≡ Before → l ≡ it.reached
+  at_before l place at before = ⊎_elim (λ x. x.1) (λ x. absurd (before_opened place before x.0)) at
 
-  -- a copy that may stay
-  pub agrees_stays : (count room : ℕ) (place : Place) (bytes : List ℕ) (found other : List Page) → length other ≡ count → IsAtLevel (level (bytes_of other)) reached place → (tells → reads bytes ≡ Some (bytes_of other)) → Stays place room found other
-      → Agrees reads tells reached count room place bytes found
-  agrees_stays count room place bytes found other as_many at read stays = record {
-    as_many = stays.0 ∙ as_many;
+  stays_at : (bytes : List ℕ) (found other : List Page) → OneSeen tells it (looked count room h p) other → (tells → it.reads bytes ≡ Some (bytes_of other)) → Stays p (room h.copy) found other → Agrees tells it (looked count room h p) bytes found
+  stays_at bytes found other seen read stays = record {
+    as_many = stays.0 ∙ seen.as_many;
     has = ⊎_elim
-        (λ s. inl (subst (λ (l : ℕ). IsAtLevel l reached place) s.0 at, λ told. read told ∙ ap Some s.1))
-        (λ s. inr (s.0, s.1 ∙ ap (λ (l : ℕ). l + 1) (at_before (level (bytes_of other)) place at s.0), s.2, λ told was is. subst (λ (w : List ℕ). DiffersAtFound w found) (same_some (bytes_of other) was (sym (read told) ∙ is)) s.3))
+        (λ s. inl (subst (λ (l : ℕ). IsAtLevel l it.reached p) s.0 seen.at, λ told. read told ∙ ap Some s.1))
+        (λ s. inr (s.0, s.1 ∙ ap (λ (l : ℕ). l + 1) (at_before (level (bytes_of other)) p seen.at s.0), s.2, λ told was is. subst (λ (w : List ℕ). DiffersAtFound w found) (some_is (bytes_of other) was (sym (read told) ∙ is)) s.3))
         stays.1;
   }
 
-  -- the copy whose pages are found
-  pub agrees_own : (count room : ℕ) (place : Place) (bytes : List ℕ) (found : List Page) → length found ≡ count → IsAtLevel (level (bytes_of found)) reached place → (tells → reads bytes ≡ Some (bytes_of found)) → Agrees reads tells reached count room place bytes found
-  agrees_own count room place bytes found as_many at read = record { as_many = as_many; has = inl (at, read) }
+  pub agrees_stays : (bytes : List ℕ) (found other : List Page) → OneSeen tells it (looked count room h p) other → (tells → it.reads bytes ≡ Some (bytes_of other)) → Stays p (room h.copy) found other → Agrees tells it (looked count room k q) bytes found
+  agrees_stays bytes found other seen read stays =
+      subst (λ (x : Half C). Agrees tells it (looked count room x q) bytes found) (sym same) (subst (λ (x : Place). Agrees tells it (looked count room h x) bytes found) (sym placed) (stays_at bytes found other seen read stays))
 
-  pub next_own : (alive : Bool) (count : ℕ) (place : Place) (found : List Page) → OneSeen queue flying tells reached alive count place found → tells → IsNextOr queue flying reached found
-  next_own alive count place found seen told other = ⊎_elim (λ x. absurd (other x.1)) (λ x. seen.next told x.0) seen.at
+  -- one that is as it was
+  pub seen_again : (found : List Page) → OneSeen tells it (looked count room h p) found → OneSeen tells it (looked count room k q) found
+  seen_again found seen = subst (λ (x : Half C). OneSeen tells it (looked count room x q) found) (sym same) (subst (λ (x : Place). OneSeen tells it (looked count room h x) found) (sym placed) seen)
+
+-- the pages of one copy are found, and the other one agrees
+module _ (tells : Type 0) (it : Sought) (mine : Looked) (v : View) (found : List Page) (seen : OneSeen tells it mine found) where
+  own : (bytes : List ℕ) → (tells → it.reads bytes ≡ Some (bytes_of found)) → Agrees tells it mine bytes found
+  own bytes read = record { as_many = seen.as_many; has = inl (seen.at, read) }
+
+  next_own : tells → IsNextOr it found
+  next_own told other = ⊎_elim (λ x. absurd (other x.1)) (λ x. seen.next told x.0) seen.at
+
+  pub chosen_first : (tells → it.reads (disk_now v Ckpt1).bytes ≡ Some (bytes_of found)) → (theirs : Looked) → (theirs.alive ≡ true → Agrees tells it theirs (disk_now v Ckpt2).bytes found) → Chosen tells it mine theirs v found
+  chosen_first read theirs agrees = record {
+    first = λ is. own (disk_now v Ckpt1).bytes read;
+    second = agrees;
+    one = inl (seen.is_alive, (seen.at, read));
+    next = next_own;
+    some = omega (arith, seen.as_many, seen.some);
+    few = omega (arith, seen.as_many, seen.few);
+  }
+
+  pub chosen_second : (tells → it.reads (disk_now v Ckpt2).bytes ≡ Some (bytes_of found)) → (theirs : Looked) → (theirs.alive ≡ true → Agrees tells it theirs (disk_now v Ckpt1).bytes found) → Chosen tells it theirs mine v found
+  chosen_second read theirs agrees = record {
+    first = agrees;
+    second = λ is. own (disk_now v Ckpt2).bytes read;
+    one = inr (seen.is_alive, (seen.at, read));
+    next = next_own;
+    some = omega (arith, seen.as_many, seen.some);
+    few = omega (arith, seen.as_many, seen.few);
+  }

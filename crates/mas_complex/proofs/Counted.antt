@@ -1,33 +1,15 @@
 -- What is counted over the calls of a recovery.
-use Rattle.std.proofs.Common.{◌≡◌, ◌≢◌, inl, inr, ⊎_elim, ℕ, ◌+◌, ◌≤◌, Bool, true, false, Result, Err, refl, sym, ◌∙◌, ap, subst, arith}
-use Rattle.mas_types.specs.declared.ids.Dev.{Dev}
-use Rattle.mas_types.specs.declared.ids.Dev.TheVariants.{Ckpt1, Ckpt2, Spool}
-use Rattle.spool_plant.specs.declared.plant.Part.TheVariants.{Disk as DiskPart}
-use Rattle.spool_plant.specs.View.{View}
-use Rattle.spool_plant.specs.Acts.{Goes, Loses, next, top}
-use Rattle.ckpt_copy.specs.Moments.{either_way, goes_on, goes_none}
-use Rattle.duplex_pair.specs.declared.errors.LookNo.{LookNo}
+use Rattle.mas_complex.proofs.Names.{◌≡◌, ◌≢◌, inl, inr, ⊎_elim, ℕ, ◌+◌, ◌≤◌, Bool, true, false, Result, Err, refl, sym, ◌∙◌, ap, subst, arith, Dev, Ckpt1, Ckpt2, Spool, Disk as DiskPart, View, Goes, Loses, next, top, either_way, goes_on, goes_none, LookNo, PairNo, BothLost as PairBothLost, Halted as PairHalted, IsCkpt, Ghosts as CopyGhosts, Pair, pick, other, Acted, PairActed, IsErrOf, OnCopies, IsLostOnce, IsLostSo, KeepsCounts, PairState, StandsOrLost}
 use Rattle.duplex_pair.specs.declared.errors.LookNo.TheVariants.{Halted as LookHalted, NoMemory as LookNoMemory}
-use Rattle.duplex_pair.specs.declared.errors.PairNo.{PairNo}
-use Rattle.duplex_pair.specs.declared.errors.PairNo.TheVariants.{BothLost as PairBothLost, Halted as PairHalted}
-use Rattle.duplex_pair.specs.Halves.{IsCkpt, pick, other, Acted}
-use Rattle.duplex_pair.specs.Both.{PairActed}
+use Rattle.duplex_pair.proofs.Chosen.{part12, part21}
+use Rattle.duplex_pair.proofs.Composing.{acted_first, acted_second, ne12, ne21}
 use Rattle.duplex_pair.specs.Outcomes.{look_stopped, pair_stopped}
-use Rattle.std.specs.Prelude.{IsErrOf}
 use Rattle.mas_complex.specs.declared.recover.RecoverNo.{RecoverNo}
 use Rattle.mas_complex.specs.declared.recover.RecoverNo.TheVariants.{BothLost as RecoverBothLost, Halted as RecoverHalted, NoMemory as RecoverNoMemory}
-use Rattle.mas_complex.specs.CallCounts.{IsLostOnce, IsLostSo, KeepsCounts, StandsOrLost}
+use Rattle.mas_complex.proofs.Apart.{on_then}
+use Rattle.mas_complex.proofs.Basics.{no}
 use Rattle.mas_complex.proofs.Leaving.{rose_later, rose_earlier}
 use Rattle.mas_complex.specs.Recovers.{recover_no, recover_no_seen, recover_stopped}
-
-not_both : (b : Bool) → b ≡ true → b ≡ false → ⊥
-not_both b p q = cc
-
-dev12 : Ckpt1 ≢ Ckpt2
-dev12 e = absurd (cc)
-
-dev21 : Ckpt2 ≢ Ckpt1
-dev21 e = absurd (cc)
 
 disk_dev : (d e : Dev) → DiskPart d ≡ DiskPart e → d ≡ e
 disk_dev d e same = cc
@@ -46,15 +28,15 @@ once_then a b c k l m f g (inl x) (inr y) = inr (f y.0, y.1, y.2 ∙ ap (λ (n :
 once_then a b c k l m f g (inr x) (inl y) = inr (x.0, gone c g x.1, y ∙ x.2) where
   gone : (c : Bool) → (c ≡ true → b ≡ true) → b ≡ false → c ≡ false
   gone false h dead = refl
-  gone true h dead = absurd (not_both b (h refl) dead)
-once_then a b c k l m f g (inr x) (inr y) = absurd (not_both b y.0 x.1)
+  gone true h dead = absurd (no b (h refl) dead)
+once_then a b c k l m f g (inr x) (inr y) = absurd (no b y.0 x.1)
 
 rises_once : (was is : Bool) (k l : ℕ) → IsLostOnce was is k l → k ≤ l
 rises_once was is k l (inl same) = omega (arith, same)
 rises_once was is k l (inr more) = omega (arith, more.2)
 
 never_gone : (dev : Dev) (was is : Bool) (old new : View) → is ≡ was → IsLostSo dev was is old new
-never_gone dev was is old new same alive dead = absurd (not_both was alive (sym same ∙ dead))
+never_gone dev was is old new same alive dead = absurd (no was alive (sym same ∙ dead))
 
 gone_then : (dev : Dev) (a b c : Bool) (old mid new : View) → Goes old mid → Goes mid new → IsLostOnce a b (old.loses dev) (mid.loses dev) → IsLostOnce b c (mid.loses dev) (new.loses dev)
     → IsLostSo dev a b old mid → IsLostSo dev b c mid new → IsLostSo dev a c old new
@@ -71,7 +53,7 @@ gone_by dev was is old new counted alive dead = inr (omega (arith, counted))
 
 -- its device as it was
 untouched : (dev : Dev) (was is : Bool) (old new : View) → is ≡ was → new.lost (DiskPart dev) ≡ old.lost (DiskPart dev) → StandsOrLost dev was is old new
-untouched dev was is old new same device = ((λ alive there. device ∙ there), λ alive dead. absurd (not_both was alive (sym same ∙ dead)))
+untouched dev was is old new same device = ((λ alive there. device ∙ there), λ alive dead. absurd (no was alive (sym same ∙ dead)))
 
 untouched_then : (dev : Dev) (a b c : Bool) (old mid new : View) → Goes mid new → (c ≡ true → b ≡ true) → StandsOrLost dev a b old mid → StandsOrLost dev b c mid new → StandsOrLost dev a c old new
 untouched_then dev a b c old mid new late fewer first then = ((λ alive there. then.0 alive (first.0 (fewer alive) there)), λ alive dead. by_mid b first.1 then.1 alive dead) where
@@ -79,15 +61,9 @@ untouched_then dev a b c old mid new late fewer first then = ((λ alive there. t
   by_mid true f h alive dead = h refl dead
   by_mid false f h alive dead = late.lost (DiskPart dev) (f alive refl)
 
-ne12 : DiskPart Ckpt1 ≢ DiskPart Ckpt2
-ne12 e = dev12 (disk_dev Ckpt1 Ckpt2 e)
-
-ne21 : DiskPart Ckpt2 ≢ DiskPart Ckpt1
-ne21 e = dev21 (disk_dev Ckpt2 Ckpt1 e)
-
-pub counts_none : (by : ℕ) (a b : Bool) (v : View) → KeepsCounts by a a b b false v v
-counts_none by a b v = record {
-  goes = goes_none v;
+pub counts_none : (by : ℕ) (x : PairState) → KeepsCounts by false x x
+counts_none by x = record {
+  goes = goes_none x.view;
   alive1 = λ is. is;
   alive2 = λ is. is;
   no_other_stop = λ m why. refl;
@@ -95,138 +71,128 @@ counts_none by a b v = record {
   arms = λ m. refl;
   once1 = inl refl;
   once2 = inl refl;
-  gone1 = never_gone Ckpt1 a a v v refl;
-  gone2 = never_gone Ckpt2 b b v v refl;
-  device1 = untouched Ckpt1 a a v v refl refl;
-  device2 = untouched Ckpt2 b b v v refl refl;
+  gone1 = never_gone Ckpt1 x.first x.first x.view x.view refl;
+  gone2 = never_gone Ckpt2 x.second x.second x.view x.view refl;
+  device1 = untouched Ckpt1 x.first x.first x.view x.view refl refl;
+  device2 = untouched Ckpt2 x.second x.second x.view x.view refl refl;
   else_loses = λ d one two. refl;
   volumes_lost = λ n. refl;
   volumes_faults = λ n. refl;
 }
 
-pub counts_then : (by : ℕ) (a a1 a2 b b1 b2 stopped : Bool) (old mid new : View) → KeepsCounts by a a1 b b1 false old mid → KeepsCounts by a1 a2 b1 b2 stopped mid new → KeepsCounts by a a2 b b2 stopped old new
-counts_then by a a1 a2 b b1 b2 stopped old mid new x y = record {
-  goes = goes_on old mid new x.goes y.goes;
-  alive1 = λ is. x.alive1 (y.alive1 is);
-  alive2 = λ is. x.alive2 (y.alive2 is);
-  no_other_stop = λ m why. y.no_other_stop m why ∙ x.no_other_stop m (inr refl);
-  at_halt = y.at_halt;
-  arms = λ m. y.arms m ∙ x.arms m;
-  once1 = once_then a a1 a2 (old.loses Ckpt1) (mid.loses Ckpt1) (new.loses Ckpt1) x.alive1 y.alive1 x.once1 y.once1;
-  once2 = once_then b b1 b2 (old.loses Ckpt2) (mid.loses Ckpt2) (new.loses Ckpt2) x.alive2 y.alive2 x.once2 y.once2;
-  gone1 = gone_then Ckpt1 a a1 a2 old mid new x.goes y.goes x.once1 y.once1 x.gone1 y.gone1;
-  gone2 = gone_then Ckpt2 b b1 b2 old mid new x.goes y.goes x.once2 y.once2 x.gone2 y.gone2;
-  device1 = untouched_then Ckpt1 a a1 a2 old mid new y.goes y.alive1 x.device1 y.device1;
-  device2 = untouched_then Ckpt2 b b1 b2 old mid new y.goes y.alive2 x.device2 y.device2;
-  else_loses = λ d one two. y.else_loses d one two ∙ x.else_loses d one two;
-  volumes_lost = λ n. y.volumes_lost n ∙ x.volumes_lost n;
-  volumes_faults = λ n. y.volumes_faults n ∙ x.volumes_faults n;
+pub counts_then : (by : ℕ) (stopped : Bool) (x y z : PairState) → KeepsCounts by false x y → KeepsCounts by stopped y z → KeepsCounts by stopped x z
+counts_then by stopped x y z one two = record {
+  goes = goes_on x.view y.view z.view one.goes two.goes;
+  alive1 = λ is. one.alive1 (two.alive1 is);
+  alive2 = λ is. one.alive2 (two.alive2 is);
+  no_other_stop = λ m why. two.no_other_stop m why ∙ one.no_other_stop m (inr refl);
+  at_halt = two.at_halt;
+  arms = λ m. two.arms m ∙ one.arms m;
+  once1 = once_then x.first y.first z.first (x.view.loses Ckpt1) (y.view.loses Ckpt1) (z.view.loses Ckpt1) one.alive1 two.alive1 one.once1 two.once1;
+  once2 = once_then x.second y.second z.second (x.view.loses Ckpt2) (y.view.loses Ckpt2) (z.view.loses Ckpt2) one.alive2 two.alive2 one.once2 two.once2;
+  gone1 = gone_then Ckpt1 x.first y.first z.first x.view y.view z.view one.goes two.goes one.once1 two.once1 one.gone1 two.gone1;
+  gone2 = gone_then Ckpt2 x.second y.second z.second x.view y.view z.view one.goes two.goes one.once2 two.once2 one.gone2 two.gone2;
+  device1 = untouched_then Ckpt1 x.first y.first z.first x.view y.view z.view two.goes two.alive1 one.device1 two.device1;
+  device2 = untouched_then Ckpt2 x.second y.second z.second x.view y.view z.view two.goes two.alive2 one.device2 two.device2;
+  else_loses = λ d first second. two.else_loses d first second ∙ one.else_loses d first second;
+  volumes_lost = λ n. two.volumes_lost n ∙ one.volumes_lost n;
+  volumes_faults = λ n. two.volumes_faults n ∙ one.volumes_faults n;
 }
+
+-- two calls on the copies, one after the other
+pub both_then : {tells : Type 0} {by : ℕ} {stopped : Bool} {x y z : PairState} → KeepsCounts by false x y → (tells → OnCopies x.view y.view) → KeepsCounts by stopped y z → (tells → OnCopies y.view z.view)
+    → KeepsCounts by stopped x z × (tells → OnCopies x.view z.view)
+both_then {by = by} {stopped = stopped} {x = x} {y = y} {z = z} one on two then =
+    (counts_then by stopped x y z one two, λ told. on_then x.view y.view z.view one.goes two.goes (on told) (then told))
 
 -- acts on one copy, or on both
-pub counts_first : (by : ℕ) (a a' b b' stopped : Bool) (old new : View) → b' ≡ b → Acted by Ckpt1 a a' stopped old new → KeepsCounts by a a' b b' stopped old new
-counts_first by a a' b b' stopped old new same acted = record {
-  goes = acted.goes;
-  alive1 = acted.alive;
-  alive2 = λ is. sym same ∙ is;
-  no_other_stop = acted.no_other_stop;
-  at_halt = acted.at_halt;
-  arms = acted.arms;
-  once1 = inl (acted.loses Ckpt1);
-  once2 = inl (acted.loses Ckpt2);
-  gone1 = λ was is. inl (acted.failed was is);
-  gone2 = never_gone Ckpt2 b b' old new same;
-  device1 = ((λ is there. acted.else_lost (DiskPart Ckpt1) (inr (is ∙ sym (acted.alive is))) ∙ there), acted.is_lost);
-  device2 = untouched Ckpt2 b b' old new same (acted.else_lost (DiskPart Ckpt2) (inl ne21));
-  else_loses = λ d one two. acted.loses d;
-  volumes_lost = λ n. acted.else_lost (DiskPart (Spool n)) (inl (volume_apart n Ckpt1 (λ e. absurd (cc))));
-  volumes_faults = λ n. acted.else_faults (DiskPart (Spool n)) (inl (volume_apart n Ckpt1 (λ e. absurd (cc))));
-}
+module _ (by : ℕ) (stopped : Bool) (x y : PairState) where
+  pub counts_both : PairActed by x.first y.first x.second y.second stopped x.view y.view → KeepsCounts by stopped x y
+  counts_both acted = record {
+    goes = acted.goes;
+    alive1 = acted.alive1;
+    alive2 = acted.alive2;
+    no_other_stop = acted.no_other_stop;
+    at_halt = acted.at_halt;
+    arms = acted.arms;
+    once1 = inl (acted.loses Ckpt1);
+    once2 = inl (acted.loses Ckpt2);
+    gone1 = λ was is. inl (acted.failed1 was is);
+    gone2 = λ was is. inl (acted.failed2 was is);
+    device1 = ((λ is there. acted.else_lost (DiskPart Ckpt1) (inr (is ∙ sym (acted.alive1 is))) (inl part12) ∙ there), acted.is_lost1);
+    device2 = ((λ is there. acted.else_lost (DiskPart Ckpt2) (inl part21) (inr (is ∙ sym (acted.alive2 is))) ∙ there), acted.is_lost2);
+    else_loses = λ d one two. acted.loses d;
+    volumes_lost = λ n. acted.else_lost (DiskPart (Spool n)) (inl (volume_apart n Ckpt1 (λ e. absurd (cc)))) (inl (volume_apart n Ckpt2 (λ e. absurd (cc))));
+    volumes_faults = λ n. acted.else_faults (DiskPart (Spool n)) (inl (volume_apart n Ckpt1 (λ e. absurd (cc)))) (inl (volume_apart n Ckpt2 (λ e. absurd (cc))));
+  }
 
-pub counts_second : (by : ℕ) (a a' b b' stopped : Bool) (old new : View) → a' ≡ a → Acted by Ckpt2 b b' stopped old new → KeepsCounts by a a' b b' stopped old new
-counts_second by a a' b b' stopped old new same acted = record {
-  goes = acted.goes;
-  alive1 = λ is. sym same ∙ is;
-  alive2 = acted.alive;
-  no_other_stop = acted.no_other_stop;
-  at_halt = acted.at_halt;
-  arms = acted.arms;
-  once1 = inl (acted.loses Ckpt1);
-  once2 = inl (acted.loses Ckpt2);
-  gone1 = never_gone Ckpt1 a a' old new same;
-  gone2 = λ was is. inl (acted.failed was is);
-  device1 = untouched Ckpt1 a a' old new same (acted.else_lost (DiskPart Ckpt1) (inl ne12));
-  device2 = ((λ is there. acted.else_lost (DiskPart Ckpt2) (inr (is ∙ sym (acted.alive is))) ∙ there), acted.is_lost);
-  else_loses = λ d one two. acted.loses d;
-  volumes_lost = λ n. acted.else_lost (DiskPart (Spool n)) (inl (volume_apart n Ckpt2 (λ e. absurd (cc))));
-  volumes_faults = λ n. acted.else_faults (DiskPart (Spool n)) (inl (volume_apart n Ckpt2 (λ e. absurd (cc))));
-}
+  pub counts_first : y.second ≡ x.second → Acted by Ckpt1 x.first y.first stopped x.view y.view → KeepsCounts by stopped x y
+  counts_first same acted =
+      counts_both (subst (λ (b : Bool). PairActed by x.first y.first x.second b stopped x.view y.view) (sym same) (acted_first by x.view y.view x.first y.first x.second stopped Ckpt1 refl acted))
 
--- on the copy of one device
-pub counts_one : {H : Type 0} (alive : H → Bool) (by : ℕ) (dev : Dev) → IsCkpt dev → (h1 h2 k1 k2 : H) (stopped : Bool) (old new : View) → other dev k1 k2 ≡ other dev h1 h2 → Acted by dev (alive (pick dev h1 h2)) (alive (pick dev k1 k2)) stopped old new
-    → KeepsCounts by (alive h1) (alive k1) (alive h2) (alive k2) stopped old new
-counts_one alive by Ckpt1 ckpt h1 h2 k1 k2 stopped old new same acted = counts_first by (alive h1) (alive k1) (alive h2) (alive k2) stopped old new (ap alive same) acted
-counts_one alive by Ckpt2 ckpt h1 h2 k1 k2 stopped old new same acted = counts_second by (alive h1) (alive k1) (alive h2) (alive k2) stopped old new (ap alive same) acted
-counts_one alive by (Spool n) ckpt h1 h2 k1 k2 stopped old new same acted = absurd ckpt
-
-pub counts_both : (by : ℕ) (a a' b b' stopped : Bool) (old new : View) → PairActed by a a' b b' stopped old new → KeepsCounts by a a' b b' stopped old new
-counts_both by a a' b b' stopped old new acted = record {
-  goes = acted.goes;
-  alive1 = acted.alive1;
-  alive2 = acted.alive2;
-  no_other_stop = acted.no_other_stop;
-  at_halt = acted.at_halt;
-  arms = acted.arms;
-  once1 = inl (acted.loses Ckpt1);
-  once2 = inl (acted.loses Ckpt2);
-  gone1 = λ was is. inl (acted.failed1 was is);
-  gone2 = λ was is. inl (acted.failed2 was is);
-  device1 = ((λ is there. acted.else_lost (DiskPart Ckpt1) (inr (is ∙ sym (acted.alive1 is))) (inl ne12) ∙ there), acted.is_lost1);
-  device2 = ((λ is there. acted.else_lost (DiskPart Ckpt2) (inl ne21) (inr (is ∙ sym (acted.alive2 is))) ∙ there), acted.is_lost2);
-  else_loses = λ d one two. acted.loses d;
-  volumes_lost = λ n. acted.else_lost (DiskPart (Spool n)) (inl (volume_apart n Ckpt1 (λ e. absurd (cc)))) (inl (volume_apart n Ckpt2 (λ e. absurd (cc))));
-  volumes_faults = λ n. acted.else_faults (DiskPart (Spool n)) (inl (volume_apart n Ckpt1 (λ e. absurd (cc)))) (inl (volume_apart n Ckpt2 (λ e. absurd (cc))));
-}
+  pub counts_second : y.first ≡ x.first → Acted by Ckpt2 x.second y.second stopped x.view y.view → KeepsCounts by stopped x y
+  counts_second same acted =
+      counts_both (subst (λ (a : Bool). PairActed by x.first a x.second y.second stopped x.view y.view) (sym same) (acted_second by x.view y.view x.second y.second x.first stopped Ckpt2 refl acted))
 
 -- a copy that counted as alive is lost by a call
-module _ {H : Type 0} (alive : H → Bool) (one two one' two' : H) (by : ℕ) (old new : View) where
-  pub counts_lost : (dev : Dev) → IsCkpt dev → alive (pick dev one two) ≡ true → alive (pick dev one' two') ≡ false → other dev one' two' ≡ other dev one two → Loses (DiskPart dev) old new
-      → KeepsCounts by (alive one) (alive one') (alive two) (alive two') false old new
-  counts_lost Ckpt1 ckpt was dead same loses = record {
+module _ (by : ℕ) (x y : PairState) where
+  pub first_lost : x.first ≡ true → y.first ≡ false → y.second ≡ x.second → Loses (DiskPart Ckpt1) x.view y.view → KeepsCounts by false x y
+  first_lost was dead same loses = record {
     goes = loses.goes;
     alive1 = λ is. was;
-    alive2 = λ is. sym (ap alive same) ∙ is;
+    alive2 = λ is. sym same ∙ is;
     no_other_stop = λ m why. loses.stops m;
     at_halt = λ is. absurd (cc);
     arms = loses.arms;
-    once1 = more (alive one) (alive one') (old.loses Ckpt1) (new.loses Ckpt1) was dead (loses.counted Ckpt1 refl) (loses.small Ckpt1 refl);
-    once2 = inl (loses.else_counted Ckpt2 (λ e. dev21 (disk_dev Ckpt2 Ckpt1 e)));
-    gone1 = gone_by Ckpt1 (alive one) (alive one') old new (loses.counted Ckpt1 refl);
-    gone2 = never_gone Ckpt2 (alive two) (alive two') old new (ap alive same);
-    device1 = ((λ is there. absurd (not_both (alive one') is dead)), λ was is. loses.is_lost);
-    device2 = untouched Ckpt2 (alive two) (alive two') old new (ap alive same) (loses.else_lost (DiskPart Ckpt2) ne21);
+    once1 = more x.first y.first (x.view.loses Ckpt1) (y.view.loses Ckpt1) was dead (loses.counted Ckpt1 refl) (loses.small Ckpt1 refl);
+    once2 = inl (loses.else_counted Ckpt2 (λ e. ne21 (disk_dev Ckpt2 Ckpt1 e)));
+    gone1 = gone_by Ckpt1 x.first y.first x.view y.view (loses.counted Ckpt1 refl);
+    gone2 = never_gone Ckpt2 x.second y.second x.view y.view same;
+    device1 = ((λ is there. absurd (no y.first is dead)), λ was is. loses.is_lost);
+    device2 = untouched Ckpt2 x.second y.second x.view y.view same (loses.else_lost (DiskPart Ckpt2) part21);
     else_loses = λ d first second. loses.else_counted d (λ e. first (disk_dev d Ckpt1 e));
     volumes_lost = λ n. loses.else_lost (DiskPart (Spool n)) (volume_apart n Ckpt1 (λ e. absurd (cc)));
     volumes_faults = λ n. loses.faults (DiskPart (Spool n));
   }
-  counts_lost Ckpt2 ckpt was dead same loses = record {
+
+  pub second_lost : x.second ≡ true → y.second ≡ false → y.first ≡ x.first → Loses (DiskPart Ckpt2) x.view y.view → KeepsCounts by false x y
+  second_lost was dead same loses = record {
     goes = loses.goes;
-    alive1 = λ is. sym (ap alive same) ∙ is;
+    alive1 = λ is. sym same ∙ is;
     alive2 = λ is. was;
     no_other_stop = λ m why. loses.stops m;
     at_halt = λ is. absurd (cc);
     arms = loses.arms;
-    once1 = inl (loses.else_counted Ckpt1 (λ e. dev12 (disk_dev Ckpt1 Ckpt2 e)));
-    once2 = more (alive two) (alive two') (old.loses Ckpt2) (new.loses Ckpt2) was dead (loses.counted Ckpt2 refl) (loses.small Ckpt2 refl);
-    gone1 = never_gone Ckpt1 (alive one) (alive one') old new (ap alive same);
-    gone2 = gone_by Ckpt2 (alive two) (alive two') old new (loses.counted Ckpt2 refl);
-    device1 = untouched Ckpt1 (alive one) (alive one') old new (ap alive same) (loses.else_lost (DiskPart Ckpt1) ne12);
-    device2 = ((λ is there. absurd (not_both (alive two') is dead)), λ was is. loses.is_lost);
+    once1 = inl (loses.else_counted Ckpt1 (λ e. ne12 (disk_dev Ckpt1 Ckpt2 e)));
+    once2 = more x.second y.second (x.view.loses Ckpt2) (y.view.loses Ckpt2) was dead (loses.counted Ckpt2 refl) (loses.small Ckpt2 refl);
+    gone1 = never_gone Ckpt1 x.first y.first x.view y.view same;
+    gone2 = gone_by Ckpt2 x.second y.second x.view y.view (loses.counted Ckpt2 refl);
+    device1 = untouched Ckpt1 x.first y.first x.view y.view same (loses.else_lost (DiskPart Ckpt1) part12);
+    device2 = ((λ is there. absurd (no y.second is dead)), λ was is. loses.is_lost);
     else_loses = λ d first second. loses.else_counted d (λ e. second (disk_dev d Ckpt2 e));
     volumes_lost = λ n. loses.else_lost (DiskPart (Spool n)) (volume_apart n Ckpt2 (λ e. absurd (cc)));
     volumes_faults = λ n. loses.faults (DiskPart (Spool n));
   }
-  counts_lost (Spool n) ckpt was dead same loses = absurd ckpt
+
+-- on the copy of one device
+module _ {C : Type 0} {copies : CopyGhosts C} (by : ℕ) (x y : Pair C copies) (old new : View) where
+  abbrev was : PairState
+  was = record { first = x.first.alive; second = x.second.alive; view = old }
+
+  abbrev is : PairState
+  is = record { first = y.first.alive; second = y.second.alive; view = new }
+
+  pub counts_one : (stopped : Bool) (dev : Dev) → IsCkpt dev → other dev y.first y.second ≡ other dev x.first x.second
+      → Acted by dev (pick dev x.first x.second).alive (pick dev y.first y.second).alive stopped old new → KeepsCounts by stopped was is
+  counts_one stopped Ckpt1 ckpt same acted = counts_first by stopped was is (ap (λ h. h.alive) same) acted
+  counts_one stopped Ckpt2 ckpt same acted = counts_second by stopped was is (ap (λ h. h.alive) same) acted
+  counts_one stopped (Spool n) ckpt same acted = absurd ckpt
+
+  pub counts_lost : (dev : Dev) → IsCkpt dev → (pick dev x.first x.second).alive ≡ true → (pick dev y.first y.second).alive ≡ false → other dev y.first y.second ≡ other dev x.first x.second
+      → Loses (DiskPart dev) old new → KeepsCounts by false was is
+  counts_lost Ckpt1 ckpt up dead same loses = first_lost by was is up dead (ap (λ h. h.alive) same) loses
+  counts_lost Ckpt2 ckpt up dead same loses = second_lost by was is up dead (ap (λ h. h.alive) same) loses
+  counts_lost (Spool n) ckpt up dead same loses = absurd ckpt
 
 -- who was stopped in a call of a recovery was stopped in it
 seen_stopped : (A B : Type 0) (why : LookNo) → recover_stopped {T = A} (Err (recover_no_seen why)) ≡ look_stopped {T = B} (Err why)
@@ -237,12 +203,12 @@ brought_stopped : (A B : Type 0) (why : PairNo) → recover_stopped {T = A} (Err
 brought_stopped A B PairBothLost = refl
 brought_stopped A B PairHalted = refl
 
-module _ {A : Type 0} (B : Type 0) (by : ℕ) (a a' b b' : Bool) (old new : View) (r : Result A RecoverNo) (no : RecoverNo) where
-  pub counts_seen : (why : LookNo) → r ≡ Err no → no ≡ recover_no_seen why → KeepsCounts by a a' b b' (look_stopped {T = B} (Err why)) old new → KeepsCounts by a a' b b' (recover_stopped r) old new
-  counts_seen why is same x = subst (λ (s : Bool). KeepsCounts by a a' b b' s old new) (sym (ap recover_stopped (is ∙ ap Err same) ∙ seen_stopped A B why)) x
+module _ {A : Type 0} (B : Type 0) (by : ℕ) (x y : PairState) (r : Result A RecoverNo) (no : RecoverNo) where
+  pub counts_seen : (why : LookNo) → r ≡ Err no → no ≡ recover_no_seen why → KeepsCounts by (look_stopped {T = B} (Err why)) x y → KeepsCounts by (recover_stopped r) x y
+  counts_seen why is same counts = subst (λ (s : Bool). KeepsCounts by s x y) (sym (ap recover_stopped (is ∙ ap Err same) ∙ seen_stopped A B why)) counts
 
-  pub counts_brought : (why : PairNo) → r ≡ Err no → no ≡ recover_no why → KeepsCounts by a a' b b' (pair_stopped {T = B} (Err why)) old new → KeepsCounts by a a' b b' (recover_stopped r) old new
-  counts_brought why is same x = subst (λ (s : Bool). KeepsCounts by a a' b b' s old new) (sym (ap recover_stopped (is ∙ ap Err same) ∙ brought_stopped A B why)) x
+  pub counts_brought : (why : PairNo) → r ≡ Err no → no ≡ recover_no why → KeepsCounts by (pair_stopped {T = B} (Err why)) x y → KeepsCounts by (recover_stopped r) x y
+  counts_brought why is same counts = subst (λ (s : Bool). KeepsCounts by s x y) (sym (ap recover_stopped (is ∙ ap Err same) ∙ brought_stopped A B why)) counts
 
 -- a pair of which a copy counts as alive isn't lost
 pub not_brought : {T U : Type 0} (r : Result T RecoverNo) (answer : RecoverNo) (why : PairNo) → r ≡ Err answer → answer ≡ recover_no why → (IsErrOf {T = U} (Err why) PairBothLost → ⊥) → IsErrOf r RecoverBothLost → ⊥

@@ -1,42 +1,14 @@
 -- From the invariant of the shared value to its headline.
-use Rattle.std.proofs.Common.{◌≡◌, inl, inr, ⊎_elim, ℕ, ◌+◌, ◌≤◌, ◌<◌, ◌==◌, ◌&&◌, cond, Bool, true, false, List, [], ◌∷◌, ◌++◌, length, filter, All, Contains, Option, Some, None, refl, subst, sym, ◌∙◌, ap, arith}
-use Rattle.std.proofs.lemmas.List.Elements.{All-nil, All-cons}
-use Rattle.mas_types.specs.declared.ids.MemberId.{MemberId}
-use Rattle.mas_types.specs.declared.journals.Batch.{Batch}
-use Rattle.mas_types.specs.declared.journals.Entry.{Entry}
-use Rattle.mas_types.specs.declared.journals.Fate.TheVariants.{Kept}
+use Rattle.mas_complex.proofs.Names.{◌≡◌, inl, inr, ⊎_elim, ℕ, ◌+◌, ◌≤◌, ◌<◌, ◌==◌, ◌&&◌, cond, Bool, true, false, List, [], ◌∷◌, ◌++◌, length, filter, All, Contains, Option, Some, None, refl, subst, sym, ◌∙◌, ap, arith, All-nil, All-cons, MemberId, Batch, Entry, Kept, Queue, kept_at, flying_at, entries_of, is_kept_by, is_flying_at, IsSound, Dev, Ckpt1, Ckpt2, Disk as DiskPart, View, Line, ViewDisk as Disk, disk_at, top, AllRead, either_way, ne_eqb, true≢false, IsLeftOf, spools_at, lost_now, GivesTexts, kept, flying, kept_all, batches_kept, entries_in, in_flight, StepIsKept, has_step, EndsInPlace, HasPlace, end_of, journal_most, with_last, without_last, IsSome, IfSome, level, append-nil, Closes, run, StandFor, Renewals, is_renewed_at, is_open, Setting, setting_with, Stands, IsNext, Alike, Copy, Keeps, IsFound, IsAfter, EachTells, said, found, lost_if, left_at, IsLeft, ReadsBy, ReadsUpTo, PaperKept, AreAlike, AreAlwaysAlike, AreLevelsLow, AreTextsLeft, AreToldKept, FoundFor, Headline, IsAfterKept, IsCrashSafe, whole}
 use Rattle.mas_types.specs.declared.journals.Journal.{Journal}
-use Rattle.mas_types.specs.declared.queues.Queue.{Queue}
-use Rattle.mas_types.specs.Journal.{kept_at, flying_at, entries_of, is_kept_by, is_flying_at}
 use Rattle.mas_types.specs.Closings.{closing_line}
-use Rattle.mas_types.specs.Sound.{IsSound}
-use Rattle.mas_types.specs.declared.ids.Dev.{Dev}
-use Rattle.mas_types.specs.declared.ids.Dev.TheVariants.{Ckpt1, Ckpt2}
-use Rattle.spool_plant.specs.declared.plant.Part.TheVariants.{Disk as DiskPart}
-use Rattle.spool_plant.specs.View.{View, Line, Disk, disk_at}
-use Rattle.spool_plant.specs.Acts.{top}
-use Rattle.ckpt_copy.specs.Reading.{AllRead}
-use Rattle.ckpt_copy.specs.Moments.{either_way}
-use Rattle.std.proofs.lemmas.Bool.{ne_eqb, true≢false}
-use Rattle.spool_volumes.specs.Laws.{IsLeftOf}
-use Rattle.mas_complex.specs.Texts.{spools_at, lost_now, GivesTexts}
 use Rattle.mas_complex.proofs.Spooled.{gives_texts}
-use Rattle.mas_complex.specs.Journals.{kept, flying, kept_all, batches_kept, entries_in, in_flight, StepIsKept, has_step, EndsInPlace, HasPlace, end_of, journal_most, with_last, without_last}
-use Rattle.std.specs.Prelude.{IsSome, IfSome}
-use Rattle.ckpt_copy.specs.Pages.{level}
-use Rattle.std.proofs.lemmas.List.{append-nil}
 use Rattle.mas_complex.proofs.BatchEnds.{with_last-append, without_last-append}
 use Rattle.mas_complex.proofs.Batches.{now_kept, now_flying}
 use Rattle.mas_complex.proofs.Present.{alike_as, alike_found, top_reads}
 use Rattle.mas_complex.proofs.Moves.{unplace_keeps}
 use Rattle.mas_complex.proofs.Rising.{kept_append, less_up, one_up}
-use Rattle.mas_complex.specs.Meaning.{Closes, run, StandFor}
-use Rattle.mas_complex.specs.declared.renewals.Renewals.{Renewals}
-use Rattle.mas_complex.specs.Renewals.{is_renewed_at, is_open}
 use Rattle.mas_complex.proofs.Renewed.{renewed_open}
-use Rattle.mas_complex.specs.Crash.{Setting, setting_with, Stands, IsNext, Alike, Copy, Keeps, IsFound, IsAfter, EachTells, said, found, lost_if, left_at, IsLeft, ReadsBy, ReadsUpTo}
-use Rattle.mas_complex.specs.Paper.{PaperKept}
-use Rattle.mas_complex.specs.Headline.{AreAlike, AreAlwaysAlike, AreLevelsLow, AreTextsLeft, AreToldKept, FoundFor, Headline, IsAfterKept, IsCrashSafe, whole}
 
 pub kept_is : (bs : List Batch) (t : ℕ) → kept bs t ≡ entries_of (filter (is_kept_by t) bs)
 kept_is [] t = refl

@@ -1,32 +1,10 @@
 -- Copies once the batch in flight has its fate, and lines that are said.
-use Rattle.std.proofs.Common.{◌≡◌, inl, inr, ⊎_elim, ℕ, ◌+◌, ◌≤◌, ◌<◌, ◌||◌, Bool, true, false, List, [], ◌∷◌, ◌++◌, if◌then◌else◌, Option, Some, None, IfSome, refl, subst, sym, ◌∙◌, ap, arith, le_refl}
-use Rattle.std.proofs.lemmas.List.{append-nil}
-use Rattle.std.proofs.lemmas.Bool.{or_cases}
-use Rattle.mas_types.specs.declared.ids.Dev.{Dev}
-use Rattle.mas_types.specs.declared.ids.Dev.TheVariants.{Ckpt1, Ckpt2, Spool}
-use Rattle.spool_plant.specs.declared.plant.Act.{Act}
-use Rattle.spool_plant.specs.declared.plant.Act.TheVariants.{Done, Failed, Halted}
-use Rattle.spool_plant.specs.View.{View, Disk, disk_at, disk_now}
-use Rattle.spool_plant.specs.Acts.{Goes, Says, Said, next}
-use Rattle.ckpt_copy.specs.Reading.{AllRead}
-use Rattle.mas_types.specs.declared.ids.MemberId.{MemberId}
-use Rattle.mas_types.specs.declared.journals.Batch.{Batch}
-use Rattle.mas_types.specs.declared.journals.Entry.{Entry}
-use Rattle.mas_types.specs.declared.journals.Fate.TheVariants.{Kept, Dropped}
-use Rattle.ckpt_places.specs.declared.places.Place.{Place}
-use Rattle.ckpt_places.specs.declared.places.Place.TheVariants.{Before, Opened}
-use Rattle.mas_complex.specs.Journals.{kept_all, batches_kept, in_flight, entries_in, StepIsKept}
-use Rattle.mas_complex.proofs.Texting.{stays_same}
-use Rattle.mas_types.specs.Journal.{is_kept, is_flying}
-use Rattle.ckpt_copy.specs.Pages.{level}
-use Rattle.mas_complex.specs.Renewals.{is_open}
-use Rattle.mas_complex.specs.Crash.{Setting, Stands, IsNext, IsNear, IsAway, IsStale, ReadsBy, OnComing, IsAt, OneCopy, Copy, copy_of, Keeps}
+use Rattle.mas_complex.proofs.Names.{◌≡◌, inl, inr, ⊎_elim, ℕ, ◌+◌, ◌≤◌, ◌<◌, ◌||◌, Bool, true, false, List, [], ◌∷◌, ◌++◌, if◌then◌else◌, Option, Some, None, IfSome, refl, subst, sym, ◌∙◌, ap, arith, le_refl, append-nil, or_cases, Ckpt1, Ckpt2, Act, Done, Failed, ActHalted as Halted, View, ViewDisk as Disk, disk_now, Says, Said, next, AllRead, MemberId, Batch, Entry, Kept, Dropped, Place, Before, Opened, kept_all, batches_kept, in_flight, StepIsKept, is_kept, is_flying, level, is_open, Setting, Stands, IsNext, IsNear, IsAway, IsStale, OnComing, IsAt, OneCopy, Copy, copy_of, Keeps}
 use Rattle.mas_complex.proofs.Batches.{kept_all_append}
 use Rattle.mas_complex.proofs.Present.{copy_reads}
 use Rattle.mas_complex.proofs.Rising.{kept_one}
-use Rattle.mas_complex.proofs.Passing.{passes_of}
-use Rattle.mas_complex.proofs.Moves.{Adds, acts_keep, fate_keeps}
-use Rattle.mas_complex.proofs.Sides.{is_higher, moved}
+use Rattle.mas_complex.proofs.Moves.{Adds, fate_keeps}
+use Rattle.mas_complex.proofs.Sides.{is_higher}
 
 pub one_kept : (c : Batch) → c.fate ≡ Kept → kept_all (c ∷ []) ≡ c.entries
 one_kept c fate = ap (λ f. (if is_kept f then c.entries else []) ++ []) fate ∙ append-nil c.entries
@@ -119,14 +97,11 @@ module _ (S : Setting) (js : List Batch) (b c : Batch) (reached : ℕ) (first se
       (after_dropped S second.rests second.holds keeps.was keeps.coming second.place second.alive (is_open S.renewals.second) v.now (disk_now v Ckpt2) two keeps.second_at)
 
 -- a line is said
-module _ (S : Setting) (js : List Batch) (c : Option Batch) (reached : ℕ) (first second : Copy) (old new : View) (line : List ℕ) (act : Act) where
-  at_end : (t : ℕ) → new.now ≡ next old.now → old.now < t → t ≤ new.now → t ≡ new.now
-  at_end t time lt le = omega (arith, time)
-
-  adds_line : new.now ≡ next old.now → Says line old new act → ((m : MemberId) (s : ℕ) → S.closes line m s → StepIsKept (js ++ in_flight c) old.now m s) → Adds S (js ++ in_flight c) old new
+module _ (S : Setting) (js : List Batch) (c : Option Batch) (old new : View) (line : List ℕ) (act : Act) where
+  pub adds_line : new.now ≡ next old.now → Says line old new act → ((m : MemberId) (s : ℕ) → S.closes line m s → StepIsKept (js ++ in_flight c) old.now m s) → Adds S (js ++ in_flight c) old new
   adds_line time says told = by_act act says.console where
     same : (t : ℕ) → old.now < t → t ≤ new.now → (new.world t).console ≡ (new.world new.now).console
-    same t lt le = ap (λ (m : ℕ). (new.world m).console) (at_end t time lt le)
+    same t lt le = let e : t ≡ new.now = omega (arith, time) in ap (λ (m : ℕ). (new.world m).console) e
 
     none : (new.world new.now).console ≡ (old.world old.now).console → Adds S (js ++ in_flight c) old new
     none e = record { same = same; more = []; is = e ∙ sym (append-nil (old.world old.now).console); tells = tt }
@@ -140,28 +115,3 @@ module _ (S : Setting) (js : List Batch) (c : Option Batch) (reached : ℕ) (fir
     by_act Halted (inl e) = none e
     by_act Halted (inr (inl torn)) = record { same = same; more = record { text = torn.0; whole = false } ∷ []; is = torn.1; tells = ((λ is. absurd (cc)), tt) }
     by_act Halted (inr (inr e)) = whole e
-
-  module _ (keeps : Keeps S js c reached first second old)
-      (rests_reads1 : (pages : List ℕ) (d : Disk) → first.rests pages d → AllRead S.reads pages d) (holds_reads1 : (was next : List ℕ) (d : Disk) → first.holds was next d → AllRead S.reads was d)
-      (rests_reads2 : (pages : List ℕ) (d : Disk) → second.rests pages d → AllRead S.reads pages d) (holds_reads2 : (was next : List ℕ) (d : Disk) → second.holds was next d → AllRead S.reads was d) where
-    quiet_keep : Goes old new → new.now ≡ next old.now → ((d : Dev) → disk_now new d ≡ disk_now old d) → Adds S (js ++ in_flight c) old new → Keeps S js c reached first second new
-    quiet_keep goes time disks adds =
-        acts_keep S js c reached first second first second old new keeps (passes_of old new goes) keeps.coming keeps.comes keeps.none keeps.comes_near
-        (λ t lt le below. let e = at_end t time lt le in (
-          subst (λ (m : ℕ). ReadsBy S (is_open S.renewals.first) keeps.was keeps.coming (disk_at new m Ckpt1)) (sym e) (subst (λ (d : Disk). ReadsBy S (is_open S.renewals.first) keeps.was keeps.coming d) (sym (disks Ckpt1))
-              (copy_reads S keeps.was first.rests first.holds rests_reads1 holds_reads1 keeps.coming first.place first.alive old.now (disk_now old Ckpt1) (omega arith) keeps.first_at)),
-          subst (λ (m : ℕ). ReadsBy S (is_open S.renewals.second) keeps.was keeps.coming (disk_at new m Ckpt2)) (sym e) (subst (λ (d : Disk). ReadsBy S (is_open S.renewals.second) keeps.was keeps.coming d) (sym (disks Ckpt2))
-              (copy_reads S keeps.was second.rests second.holds rests_reads2 holds_reads2 keeps.coming second.place second.alive old.now (disk_now old Ckpt2) (omega arith) keeps.second_at)),
-        ))
-        adds
-        (stays_same S (kept_all js) (entries_in c) old new (λ t lt le n. subst (λ (m : ℕ). disk_at new m (Spool n) ≡ disk_now old (Spool n)) (sym (at_end t time lt le)) (disks (Spool n))))
-        (moved S first.rests first.holds keeps.was keeps.coming first.place first.alive old.now new.now (disk_now old Ckpt1) (disk_now new Ckpt1) goes.later (disks Ckpt1) keeps.first_at)
-        (moved S second.rests second.holds keeps.was keeps.coming second.place second.alive old.now new.now (disk_now old Ckpt2) (disk_now new Ckpt2) goes.later (disks Ckpt2) keeps.second_at)
-
-    pub says_keep : Goes old new → new.now ≡ next old.now → Says line old new act → ((m : MemberId) (s : ℕ) → S.closes line m s → StepIsKept (js ++ in_flight c) old.now m s) → Keeps S js c reached first second new
-    says_keep goes time says told = quiet_keep goes time says.disks (adds_line time says told)
-
-    -- an act beside the devices and the console
-    pub prints_keep : Goes old new → new.now ≡ next old.now → ((d : Dev) → disk_now new d ≡ disk_now old d) → (new.world new.now).console ≡ (old.world old.now).console → Keeps S js c reached first second new
-    prints_keep goes time disks console =
-        quiet_keep goes time disks (record { same = λ t lt le. ap (λ (m : ℕ). (new.world m).console) (at_end t time lt le); more = []; is = console ∙ sym (append-nil (old.world old.now).console); tells = tt })

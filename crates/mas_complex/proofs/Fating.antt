@@ -1,15 +1,5 @@
 -- A batch takes its place in the journal.
-use Rattle.std.proofs.Common.{◌≡◌, ℕ, ◌+◌, ◌≤◌, ◌||◌, Bool, true, false, List, [], ◌∷◌, ◌++◌, Option, Some, None, refl, subst, sym, ◌∙◌, ap, arith}
-use Rattle.mas_types.specs.declared.ids.MemberId.{MemberId}
-use Rattle.mas_types.specs.declared.journals.Batch.{Batch}
-use Rattle.mas_types.specs.declared.journals.Entry.{Entry}
-use Rattle.mas_types.specs.declared.journals.Fate.TheVariants.{Kept, Dropped, Flying}
-use Rattle.spool_plant.specs.View.{View, Disk}
-use Rattle.ckpt_copy.specs.Reading.{AllRead}
-use Rattle.ckpt_places.specs.declared.places.Place.TheVariants.{Before, Opened}
-use Rattle.mas_complex.specs.Journals.{kept_all, IsPlace, EndsInPlace, HasPlace, with_last}
-use Rattle.mas_complex.specs.Crash.{Setting, Copy, copy_of, Keeps, IsUntold}
-use Rattle.mas_complex.specs.Texts.{spools_at, lost_now, HasTexts}
+use Rattle.mas_complex.proofs.Names.{◌≡◌, ℕ, ◌+◌, ◌≤◌, ◌||◌, Bool, true, false, List, [], ◌∷◌, ◌++◌, Option, Some, None, refl, subst, sym, ◌∙◌, ap, arith, MemberId, Batch, Entry, Kept, Dropped, Flying, Queue, View, ViewDisk as Disk, AllRead, Before, Opened, kept_all, IsPlace, EndsInPlace, HasPlace, with_last, Setting, Copy, copy_of, Keeps, IsUntold, spools_at, lost_now, HasTexts, StandFor, AreToldAlike}
 use Rattle.mas_complex.proofs.BatchEnds.{with_last-append}
 use Rattle.mas_complex.proofs.Batches.{placed_all}
 use Rattle.mas_complex.proofs.Moves.{unplace_keeps}
@@ -58,3 +48,12 @@ module _ (S : Setting) (reached : ℕ) (first second : Copy) (v : View)
       (same_keeps S reached first second v rests_reads1 holds_reads1 rests_reads2 holds_reads2 p.before b c (without None keeps) flies begins untold fate same_first same_entries last
       (subst (λ (l : List Entry). (pages : List ℕ) → S.stand (S.run S.base l) pages → S.stand (S.run S.base (l ++ b.entries)) pages) all alike)
       (subst (λ (l : List Entry). HasTexts (lost_now v) (spools_at v v.now) S.base.config.groups (S.run S.base (l ++ b.entries))) all has))
+
+pub stand_alike : (Q R : Queue) (pages : List ℕ) → AreToldAlike Q R → StandFor Q pages → StandFor R pages
+stand_alike Q R pages alike stand = let x = stand.tell in record {
+  pages = stand.pages;
+  level = stand.level;
+  sized = stand.sized;
+  joined = stand.joined;
+  tell = record { tables = x.tables; levels = x.levels; fit = x.fit; ages = x.ages; spell = x.spell; orders = x.orders; tell = alike x.tables x.tell };
+}

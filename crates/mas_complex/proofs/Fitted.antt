@@ -1,16 +1,5 @@
 -- Pages that are compared one by one.
-use Rattle.std.proofs.Common.{◌≡◌, inr, All, ℕ, ◌+◌, ◌==◌, ◌&&◌, ◌||◌, Bool, true, false, List, [], ◌∷◌, ◌++◌, length, nat_le, if◌then◌else◌, refl, sym, ◌∙◌, ap, subst, arith}
-use Rattle.std.proofs.lemmas.Bool.{and_right, and_parts, cond-true, eq-eqb, eqb-true, ne_eqb, leb-true}
-use Rattle.std.proofs.lemmas.Slice.Eq.{bytes_eq-Decides}
-use Rattle.std.specs.Str.{bytes_eq}
-use Rattle.mas_types.specs.declared.ids.Page.{Page}
-use Rattle.ckpt_copy.specs.Pages.{bytes_of, level}
-use Rattle.ckpt_tables.specs.Shape.{level_in}
-use Rattle.ckpt_places.specs.declared.places.Place.{Place}
-use Rattle.ckpt_places.specs.declared.places.Place.TheVariants.{Before}
-use Rattle.mas_complex.specs.Fits.{are_same, differ_at, first_page, fits}
-use Rattle.mas_complex.specs.Seen.{Stays}
-use Rattle.mas_types.specs.Limits.{page_bytes}
+use Rattle.mas_complex.proofs.Names.{◌≡◌, inr, All, ℕ, ◌+◌, ◌==◌, ◌&&◌, ◌||◌, Bool, true, false, List, [], ◌∷◌, ◌++◌, length, nat_le, if◌then◌else◌, refl, sym, ◌∙◌, ap, subst, arith, and_right, and_parts, cond-true, eq-eqb, eqb-true, ne_eqb, leb-true, bytes_eq-Decides, bytes_eq, Page, bytes_of, level, level_in, Place, Before, are_same, differ_at, first_page, fits, Stays, page_bytes}
 use Rattle.mas_complex.proofs.Numbered.{found_covers}
 
 pub same_only : (xs ys : List Page) → (length xs ≡ length ys → ⊥) → false ≡ are_same xs ys

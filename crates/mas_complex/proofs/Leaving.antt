@@ -1,23 +1,10 @@
--- Why a copy doesn't count as alive after a recovery.
-use Rattle.std.proofs.Common.{◌≡◌, ◌≢◌, ◌⊎◌, inl, inr, ⊎_elim, ℕ, ◌≤◌, arith, ◌&&◌, ◌==◌, if◌then◌else◌, Bool, true, false, List, Option, Some, None, Result, Ok, Err, IfSome, OnErr, refl, sym, ◌∙◌, subst}
-use Rattle.std.proofs.lemmas.Bool.{eqb-false, and_cases}
-use Rattle.mas_types.specs.declared.ids.Page.{Page}
-use Rattle.mas_types.specs.declared.journals.Entry.{Entry}
-use Rattle.mas_types.specs.declared.queues.Queue.{Queue}
-use Rattle.duplex_pair.specs.Halves.{IsBothLost, SomeAlive}
-use Rattle.ckpt_copy.specs.Pages.{bytes_of, level}
-use Rattle.spool_plant.specs.Acts.{Rose}
-use Rattle.ckpt_places.specs.declared.places.Place.{Place}
-use Rattle.ckpt_places.specs.declared.places.Place.TheVariants.{Before, Put, Opened, Unsure}
-use Rattle.mas_complex.specs.Fits.{fits, can_stay, is_before}
-use Rattle.mas_complex.specs.Places.{IsAtLevel}
-use Rattle.mas_complex.specs.Seen.{IsOneSeen, IsUnfit, WasUnfit, ReadsSeen}
+-- Why a copy doesn't count as alive after a recovery, and devices that stay lost.
+use Rattle.mas_complex.proofs.Names.{if◌then◌else◌, ◌≡◌, ◌≢◌, ◌⊎◌, inl, inr, ⊎_elim, ℕ, ◌≤◌, arith, ◌&&◌, ◌==◌, Bool, true, false, List, Option, Some, None, Result, Ok, Err, IfSome, OnErr, refl, subst, eqb-false, and_cases, Page, Dev, IsBothLost, SomeAlive, Acted, bytes_of, level, Disk, View, Goes, Rose, Place, Before, fits, can_stay, is_before, IsAtLevel, IsOneSeen, IsUnfit, Looked, Sought, WasUnfit, ReadsSeen}
+use Rattle.mas_complex.proofs.Basics.{no}
 
 not_before : (p : Place) → is_before p ≡ false → p ≡ Before → ⊥
 not_before Before e is = absurd (cc)
-not_before Put e is = absurd (cc)
-not_before Opened e is = absurd (cc)
-not_before Unsure e is = absurd (cc)
+not_before _ e is = absurd (cc)
 
 -- pages that don't stay don't fit, or have neither the level found nor the one reached
 pub unfit_of : (reached room : ℕ) (place : Place) (found other : List Page) → IsAtLevel (level (bytes_of other)) reached place → can_stay place room found other ≡ false
@@ -36,6 +23,13 @@ rose_later a b c rose le = omega (arith, rose, le)
 
 pub rose_earlier : (a b c : ℕ) → a ≤ b → Rose b c → Rose a c
 rose_earlier a b c le rose = omega (arith, rose, le)
+
+-- and so do the faults of a device
+pub fault_later : (dev : Dev) (u v w : View) → Rose (u.faults (Disk dev)) (v.faults (Disk dev)) → Goes v w → Rose (u.faults (Disk dev)) (w.faults (Disk dev))
+fault_later dev u v w rose goes = rose_later (u.faults (Disk dev)) (v.faults (Disk dev)) (w.faults (Disk dev)) rose (goes.faults (Disk dev))
+
+pub fault_earlier : (dev : Dev) (u v w : View) → Goes u v → Rose (v.faults (Disk dev)) (w.faults (Disk dev)) → Rose (u.faults (Disk dev)) (w.faults (Disk dev))
+fault_earlier dev u v w goes rose = rose_earlier (u.faults (Disk dev)) (v.faults (Disk dev)) (w.faults (Disk dev)) (goes.faults (Disk dev)) rose
 
 -- Why a copy that counted as alive doesn't any more: an act on it failed while it was looked at or brought up, or its
 -- pages don't fit, with the room that its bytes have.
@@ -59,9 +53,6 @@ pub if_err : {A E X : Type 0} (r : Result A E) → X → OnErr r X
 if_err (Ok a) x = tt
 if_err (Err e) x = x
 
-pub not_dead : (b : Bool) → b ≡ true → b ≡ false → ⊥
-not_dead b is not = absurd (let w = sym is ∙ not in cc)
-
 -- a copy is left where one counts as alive
 pub left_some : (a b : Bool) → SomeAlive a b → IsBothLost a b → ⊥
 left_some true b some both = absurd (let w = both.0 in cc)
@@ -69,6 +60,17 @@ left_some false true some both = absurd (let w = both.1 in cc)
 left_some false false some both = absurd (cc)
 
 -- nothing was seen of a copy that counts as lost
-pub none_seen : (queue : Queue) (flying : List Entry) (tells : Type 0) (reached : ℕ) (alive : Bool) (count : ℕ) (place : Place) (seen : Option (List Page)) → IsOneSeen queue flying tells reached alive count place seen → alive ≡ false → seen ≡ None
-none_seen queue flying tells reached alive count place None is dead = refl
-none_seen queue flying tells reached alive count place (Some pages) is dead = absurd (not_dead alive is.is_alive dead)
+pub none_seen : (tells : Type 0) (it : Sought) (copy : Looked) (seen : Option (List Page)) → IsOneSeen tells it copy seen → copy.alive ≡ false → seen ≡ None
+none_seen tells it copy None is dead = refl
+none_seen tells it copy (Some pages) is dead = absurd (no copy.alive is.is_alive dead)
+
+pub lost_later : {K : Type 0} (dev : Dev) (alive : Bool) (old new : View) → Goes old new → (alive ≡ false → K → old.lost (Disk dev) ≡ true) → alive ≡ false → K → new.lost (Disk dev) ≡ true
+lost_later dev alive old new goes lost dead known = goes.lost (Disk dev) (lost dead known)
+
+pub still_lost : {K : Type 0} (by : ℕ) (dev : Dev) (was is stopped : Bool) (old new : View) → Acted by dev was is stopped old new → (was ≡ false → K → old.lost (Disk dev) ≡ true) → is ≡ false → K → new.lost (Disk dev) ≡ true
+still_lost by dev true is stopped old new acted lost dead known = acted.is_lost refl dead
+still_lost by dev false is stopped old new acted lost dead known = acted.goes.lost (Disk dev) (lost refl known)
+
+pub pair_lost : {K : Type 0} (dev : Dev) (was is : Bool) (old new : View) → Goes old new → (was ≡ true → is ≡ false → new.lost (Disk dev) ≡ true) → (was ≡ false → K → old.lost (Disk dev) ≡ true) → is ≡ false → K → new.lost (Disk dev) ≡ true
+pair_lost dev true is old new goes is_lost lost dead known = is_lost refl dead
+pair_lost dev false is old new goes is_lost lost dead known = goes.lost (Disk dev) (lost refl known)

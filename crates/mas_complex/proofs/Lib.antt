@@ -1,7 +1,7 @@
 pub mod Armed
+pub mod Basics
 pub mod Allowed
 pub mod Batches
-pub mod Lines
 pub mod Renewed
 pub mod Passing
 pub mod Present
@@ -13,7 +13,6 @@ pub mod Fates
 pub mod Making
 pub mod BatchEnds
 pub mod Ending
-pub mod Lost
 pub mod Fating
 pub mod Calm
 pub mod Shows
@@ -23,10 +22,7 @@ pub mod Usable
 pub mod Fitted
 pub mod Numbered
 pub mod Choosing
-pub mod Recovered
-pub mod First
 pub mod Leaving
-pub mod Others
 pub mod Replied
 pub mod Papers
 pub mod PaperLines
@@ -34,11 +30,9 @@ pub mod PaperEnds
 pub mod PaperBooks
 pub mod Spooled
 pub mod Texting
-pub mod ToldAlike
 pub mod SpoolActs
 pub mod Quotients
 pub mod Counted
-pub mod Keeping
 pub mod OnDevice
 pub mod Renewing
 pub mod Frames
@@ -47,3 +41,7 @@ pub mod Short
 pub mod Pasts
 pub mod Noted
 pub mod Briefs
+pub mod Values
+pub mod Calls
+pub mod EndsBatch
+pub mod Names

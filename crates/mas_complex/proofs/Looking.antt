@@ -1,44 +1,15 @@
 -- What a look at a copy tells.
-use Rattle.std.proofs.Common.{◌≡◌, ◌⊎◌, ⊎_elim, ℕ, ◌+◌, ◌≤◌, ◌<◌, Bool, true, false, List, [], ◌∷◌, ◌++◌, length, ap, Option, Some, None, Result, Ok, Err, IfOk, refl, subst, sym, ◌∙◌, arith}
-use Rattle.std.proofs.Math.Logic.{∥∥₁_elim}
-use Rattle.mas_types.specs.declared.ids.Dev.{Dev}
-use Rattle.mas_types.specs.declared.ids.Page.{Page}
-use Rattle.mas_types.specs.declared.journals.Batch.{Batch}
-use Rattle.mas_types.specs.declared.journals.Entry.{Entry}
-use Rattle.mas_complex.specs.Journals.{kept_all, entries_in}
-use Rattle.spool_plant.specs.View.{View, Disk, IsImage, disk_now}
-use Rattle.spool_plant.specs.Acts.{Goes, top}
-use Rattle.spool_plant.specs.declared.plant.Part.TheVariants.{Disk as DiskPart}
-use Rattle.ckpt_copy.specs.Changes.{NoMore}
-use Rattle.ckpt_copy.specs.Reading.{AllRead}
-use Rattle.ckpt_copy.specs.Staying.{no_more_image}
-use Rattle.ckpt_copy.specs.Pages.{bytes_of, level}
-use Rattle.ckpt_copy.specs.Meanwhile.{Meanwhile}
-use Rattle.ckpt_copy.specs.Moments.{meanwhile_weaker, meanwhile_end}
-use Rattle.duplex_pair.specs.declared.errors.Look.{Look}
-use Rattle.duplex_pair.specs.declared.errors.Look.TheVariants.{Lost, Unread, Pages}
-use Rattle.duplex_pair.specs.declared.errors.LookNo.{LookNo}
-use Rattle.duplex_pair.specs.Looks.{WasSeen}
-use Rattle.ckpt_places.specs.declared.places.Place.{Place}
-use Rattle.ckpt_places.specs.declared.places.Place.TheVariants.{Before, Opened, Unsure}
-use Rattle.mas_complex.specs.Places.{IsAtLevel}
-use Rattle.mas_complex.specs.Seen.{IsPlaceSeen}
-use Rattle.mas_complex.specs.Renewals.{is_open, of_device}
-use Rattle.mas_complex.specs.Crash.{Setting, Stands, IsNext, IsOneOf, ReadsOne, ReadsBy, OnComing, IsAt, OneCopy, Copy, Keeps}
+use Rattle.mas_complex.proofs.Names.{◌≡◌, ◌⊎◌, ⊎_elim, ℕ, ◌+◌, ◌≤◌, ◌<◌, Bool, true, false, List, [], ◌∷◌, ◌++◌, length, ap, Option, Some, None, Result, Ok, IfOk, refl, subst, sym, ◌∙◌, arith, ∥∥₁_elim, Dev, Page, Batch, Entry, kept_all, entries_in, View, ViewDisk as Disk, disk_now, Goes, top, Disk as DiskPart, NoMore, AllRead, no_more_image, bytes_of, level, Meanwhile, meanwhile_weaker, meanwhile_end, Look, Pages, LookNo, WasSeen, Place, Opened, Unsure, IsAtLevel, IsPlaceSeen, is_open, of_device, Setting, Stands, IsNext, IsOneOf, ReadsOne, ReadsBy, OnComing, IsAt, OneCopy, Copy, Keeps}
+use Rattle.mas_complex.proofs.Basics.{before_opened}
 use Rattle.mas_complex.proofs.Present.{side_reads, not_renewed, away_lost}
 use Rattle.mas_complex.proofs.Sides.{Went, by_alive}
+use Rattle.mas_complex.proofs.Pasts.{image_now}
 
 -- the bytes themselves are an image
-own_image : (d : Disk) → d.lost ≡ false → IsImage d d.bytes
-own_image d there = record { there = there; size = refl; synced = λ s avoids. refl }
-
-clash : (p : Place) → p ≡ Before → p ≡ Opened → ⊥
-clash p a b = cc
-
 module _ (S : Setting) (was : List ℕ) (coming : Option (List ℕ)) where
   -- pages at rest on a device that isn't lost are the kept ones or those in flight
   pub reads_one : (d : Disk) (pages : List ℕ) → AllRead S.reads pages d → d.lost ≡ false → ReadsOne S was coming d → (pages ≡ was) ⊎ (coming ≡ Some pages)
-  reads_one d pages all there reads = subst (λ (q : Option (List ℕ)). IsOneOf was coming q) (all d.bytes (own_image d there)) (reads d.bytes (own_image d there))
+  reads_one d pages all there reads = subst (λ (q : Option (List ℕ)). IsOneOf was coming q) (all d.bytes (image_now d there)) (reads d.bytes (image_now d there))
 
   module _ (dev : Dev) (old new : View) (rests : List ℕ → Disk → Type 0) (holds : List ℕ → List ℕ → Disk → Type 0) (place place' : Place) (alive alive' : Bool)
       {C : Type 0} (count room : C → ℕ) (room_most : ℕ) (ready : C → View → Type 0) (restsC : C → List ℕ → Disk → Type 0) (holdsC : C → List ℕ → List ℕ → Disk → Type 0) (was_copy copy' : C)
@@ -72,11 +43,9 @@ module _ (S : Setting) (was : List ℕ) (coming : Option (List ℕ)) where
     unsure is e = subst (λ (x : Place). IsAt S (restsC copy') (holdsC copy') was coming x (disk_now new dev)) (sym e) (new_reads is)
 
     by_done : alive ≡ true → (r : Result Look LookNo) → IfOk r (λ look. WasSeen count room room_most ready S.reads restsC tells dev new was_copy copy' alive' look) → IsPlaceSeen r reached place' → IsAt S (restsC copy') (holdsC copy') was coming place' (disk_now new dev)
-    by_done is (Ok Lost) seen found = unsure is found
-    by_done is (Ok Unread) seen found = unsure is found
     by_done is (Ok (Pages pages)) seen found =
         at_found (bytes_of pages) (seen.found told) (reads_one (disk_now new dev) (bytes_of pages) (rests_reads' (bytes_of pages) (disk_now new dev) (seen.found told)) (there seen.there) (new_reads is)) place' found
-    by_done is (Err x) seen found = unsure is found
+    by_done is _ seen found = unsure is found
 
     look_alive : alive ≡ true → Went S was coming dev old new (restsC copy') (holdsC copy') place' alive'
     look_alive is = record {
@@ -92,7 +61,7 @@ module _ (S : Setting) (was : List ℕ) (coming : Option (List ℕ)) where
     look_next pages is opened =
         let l = subst (λ (x : Result Look LookNo). IfOk x (λ look. WasSeen count room room_most ready S.reads restsC tells dev new was_copy copy' alive' look)) is seen in
         let f : IsAtLevel (level (bytes_of pages)) reached place' = subst (λ (x : Result Look LookNo). IsPlaceSeen x reached place') is found in
-        ⊎_elim (λ b. absurd (clash place' b.0 opened)) (λ o. ⊎_elim (λ e. absurd (o.1 (ap level e ∙ stands.at_level))) (λ e. e)
+        ⊎_elim (λ b. absurd (before_opened place' b.0 opened)) (λ o. ⊎_elim (λ e. absurd (o.1 (ap level e ∙ stands.at_level))) (λ e. e)
         (reads_one (disk_now new dev) (bytes_of pages) (rests_reads' (bytes_of pages) (disk_now new dev) (l.found told)) (there l.there) (new_reads (stays l.is_alive)))) f
 
 -- pages in flight have the next level and stand for the queue with the batch, which has an entry
@@ -118,4 +87,4 @@ some_entries (e ∷ es) some = omega arith
 pub reads_in : {renewed : Bool} (S : Setting) (rests : List ℕ → Disk → Type 0) (holds : List ℕ → List ℕ → Disk → Type 0) (was : List ℕ) (coming : Option (List ℕ)) (place : Place) (alive : Bool) (now : ℕ) (d : Disk) → OneCopy S rests holds was coming place alive renewed now d → alive ≡ true
     → ((pages : List ℕ) (d : Disk) → rests pages d → AllRead S.reads pages d) → ((was next : List ℕ) (d : Disk) → holds was next d → AllRead S.reads was d) → d.lost ≡ false → IsOneOf was coming (S.reads d.bytes)
 reads_in S rests holds was coming place alive now d copy is rests_reads holds_reads there =
-    side_reads S was rests holds rests_reads holds_reads coming place d (copy.at is) d.bytes (own_image d there)
+    side_reads S was rests holds rests_reads holds_reads coming place d (copy.at is) d.bytes (image_now d there)

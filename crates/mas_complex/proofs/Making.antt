@@ -1,32 +1,12 @@
 -- How the shared value begins and ends, and a batch that changes no page.
-use Rattle.std.proofs.lemmas.Bool.{true≢false}
-use Rattle.std.proofs.Common.{◌≡◌, ℕ, ◌<◌, Bool, true, false, List, [], ◌∷◌, ◌++◌, length, drop, Option, None, refl, subst, sym, ◌∙◌, ap, arith, le_refl}
-use Rattle.std.proofs.lemmas.List.{append-nil}
-use Rattle.mas_types.specs.declared.ids.Dev.TheVariants.{Ckpt1, Ckpt2, Spool}
-use Rattle.spool_plant.specs.View.{View, Disk, Line, disk_at, disk_now}
-use Rattle.ckpt_copy.specs.Reading.{AllRead}
-use Rattle.mas_types.specs.declared.ids.MemberId.{MemberId}
-use Rattle.mas_types.specs.declared.journals.Batch.{Batch}
-use Rattle.mas_types.specs.declared.journals.Entry.{Entry}
-use Rattle.mas_types.specs.declared.journals.Fate.TheVariants.{Kept, Flying}
-use Rattle.mas_complex.specs.Journals.{kept_all, batches_kept, StepIsKept}
-use Rattle.mas_types.specs.Journal.{is_flying}
-use Rattle.spool_plant.specs.Acts.{top}
-use Rattle.mas_complex.specs.declared.renewals.Renewal.{Renewal}
-use Rattle.mas_complex.specs.Renewals.{is_renewed_at, is_open, AreRenewedBy}
-use Rattle.mas_complex.specs.Crash.{Setting, EachTells, IsUntold, ReadsOne, ReadsBy, Copy, CopyAt, Keeps, BeginsWith, next_order}
+use Rattle.mas_complex.proofs.Names.{true≢false, ◌≡◌, ℕ, ◌<◌, Bool, true, false, List, [], ◌∷◌, ◌++◌, length, drop, Option, None, refl, subst, sym, ◌∙◌, ap, arith, le_refl, ◌⊎◌, ⊎_elim, ◌≤◌, Some, append-nil, not, ◌&&◌, ◌||◌, Ckpt1, Ckpt2, Spool, MemberId, Batch, Entry, Kept, Flying, is_flying, Dev, Queue, View, ViewDisk as Disk, Line, disk_at, disk_now, World, top, Goes, Disk as DiskPart, AllRead, either_way, kept_all, batches_kept, StepIsKept, Renewal, is_renewed_at, is_open, AreRenewedBy, Setting, EachTells, IsUntold, ReadsOne, ReadsBy, Copy, CopyAt, Keeps, BeginsWith, next_order, setting, Stands, OneCopy, IsFound, IsLeft, SomeLeft, SomeGood, found, left_at, spools_at, lost_now, HasTexts, FoundFor, LeavesQueue, Place}
 use Rattle.mas_complex.proofs.Batches.{kept_all_append}
-use Rattle.mas_complex.proofs.Present.{copy_reads, not_renewed}
+use Rattle.mas_complex.proofs.Present.{copy_reads, not_renewed, alike_found, top_reads}
 use Rattle.mas_complex.proofs.Moves.{begins_keep, fate_keeps}
 use Rattle.mas_complex.proofs.Rising.{make_rise, own_near}
 use Rattle.mas_complex.proofs.Fates.{one_kept, no_fewer}
-use Rattle.mas_complex.specs.Texts.{spools_at, lost_now, HasTexts}
 use Rattle.mas_complex.proofs.Texting.{make_texts}
-
--- what is shown as lost is lost
-pub unlost : (lost shown : Bool) → (lost ≡ false → shown ≡ false) → shown ≡ true → lost ≡ true
-unlost true shown there is = refl
-unlost false shown there is = absurd (true≢false (sym is ∙ there refl))
+use Rattle.mas_complex.proofs.Ending.{left_below}
 
 none_said : (closes : List ℕ → MemberId → ℕ → Type 0) (lines : List Line) (P : MemberId → ℕ → Type 0) → EachTells closes (drop (length lines) lines) P
 none_said closes [] P = tt
@@ -105,3 +85,49 @@ module _ (S : Setting) (reached : ℕ) (first second : Copy) (v : View)
           copy_reads S keeps.was second.rests second.holds rests_reads2 holds_reads2 None second.place second.alive v.now (disk_now v Ckpt2) lt y,
         ))
         x y
+
+-- a copy at a moment, as a crash finds it after later acts
+module _ (S : Setting) (was : List ℕ) (coming : Option (List ℕ)) (rests : List ℕ → Disk → Type 0) (holds : List ℕ → List ℕ → Disk → Type 0) (rests_reads : (pages : List ℕ) (d : Disk) → rests pages d → AllRead S.reads pages d) (holds_reads : (was next : List ℕ) (d : Disk) → holds was next d → AllRead S.reads was d)
+    (place : Place) (alive : Bool) (dev : Dev) (v later : View) (most : v.now ≤ top) (goes : Goes v later) (copy : OneCopy S rests holds was coming place alive false v.now (disk_now v dev)) (lost : alive ≡ false → v.lost (DiskPart dev) ≡ true) where
+  same_world : disk_at later v.now dev ≡ disk_now v dev
+  same_world = ap (λ (w : World). w.disk dev) (goes.past v.now (omega arith))
+
+  -- the later view at that moment
+  abbrev again : View
+  again = record v { world = later.world; lost = later.lost }
+
+  first_below : v.now < top → ReadsOne S was coming (left_at later v.now dev)
+  first_below lt = subst (λ (d : Disk). ReadsOne S was coming d) (sym (left_below later v.now dev lt ∙ same_world)) (copy_reads S was rests holds rests_reads holds_reads coming place alive v.now (disk_now v dev) lt copy)
+
+  first_top : v.now ≡ top → ReadsOne S was coming (left_at later v.now dev)
+  first_top last = top_reads S was rests holds rests_reads holds_reads coming place alive dev again last (subst (λ (d : Disk). OneCopy S rests holds was coming place alive false v.now d) (sym same_world) copy) (λ dead known. goes.lost (DiskPart dev) (lost dead))
+
+  pub first_reads : ReadsOne S was coming (left_at later v.now dev)
+  first_reads = ⊎_elim (λ le. first_top (omega (arith, most, le))) (λ lt. first_below lt) (either_way top v.now)
+
+-- a copy of which an image is left is good where none was replaced
+first_good : (l m : Bool) → l ≡ false → ((not l && true) || (not m && true)) ≡ true
+first_good false m e = refl
+first_good true m e = absurd (true≢false e)
+
+second_good : (l m : Bool) → m ≡ false → ((not l && true) || (not m && true)) ≡ true
+second_good false m e = refl
+second_good true false e = refl
+second_good true true e = absurd (true≢false e)
+
+left_good : (d e : Disk) (one two : Option (List ℕ)) → IsLeft d one → IsLeft e two → SomeLeft one two → SomeGood false false d e
+left_good d e (Some one) two left right some = first_good d.lost e.lost left.there
+left_good d e None (Some two) left right some = second_good d.lost e.lost right.there
+left_good d e None None left right some = absurd some
+
+module _ (reads : List ℕ → Option (List ℕ)) (base : Queue) (since : ℕ) where
+  for_base : (q : Option (List ℕ)) → IsFound (setting reads base since) [] q ⊎ IsFound (setting reads base since) [] q → FoundFor base q
+  for_base None after = ⊎_elim (λ h. h) (λ h. h) after
+  for_base (Some pages) after = ⊎_elim (λ h. h) (λ h. h) after
+
+  pub leaves_base : (reached : ℕ) (was : List ℕ) (v later : View) → Stands (setting reads base since) reached [] was → ReadsOne (setting reads base since) was None (left_at later v.now Ckpt1) → ReadsOne (setting reads base since) was None (left_at later v.now Ckpt2) → LeavesQueue reads base v.now later
+  leaves_base reached was v later stands one two x y left right some =
+      for_base (found (setting reads base since) x y)
+      (alike_found (setting reads base since) [] [] v.now (left_at later v.now Ckpt1) (left_at later v.now Ckpt2)
+      (record { reached = reached; was = was; coming = None; stands = stands; comes = tt; none = λ _. refl; first = one; second = two }) x y left right
+      (left_good (left_at later v.now Ckpt1) (left_at later v.now Ckpt2) x y left right some))

@@ -1,26 +1,43 @@
 -- How the shared value goes on: over acts, and over a batch that begins or gets its fate.
-use Rattle.std.proofs.Common.{◌≡◌, ⊎_elim, ℕ, ◌+◌, ◌≤◌, ◌<◌, Bool, false, refl, List, [], ◌∷◌, ◌++◌, length, drop, Option, Some, None, IfSome, subst, sym, ◌∙◌, ap, arith, append_assoc}
-use Rattle.std.proofs.lemmas.List.{append-nil}
-use Rattle.mas_types.specs.declared.ids.Dev.TheVariants.{Ckpt1, Ckpt2}
-use Rattle.spool_plant.specs.View.{View, World, Line, disk_at, disk_now}
-use Rattle.spool_plant.specs.Acts.{top}
+use Rattle.mas_complex.proofs.Names.{◌≡◌, ⊎_elim, ℕ, ◌+◌, ◌≤◌, ◌<◌, Bool, false, refl, List, [], ◌∷◌, ◌++◌, length, drop, Option, Some, None, IfSome, subst, sym, ◌∙◌, ap, arith, append_assoc, zero, suc, append-nil, Ckpt1, Ckpt2, MemberId, Batch, Entry, Flying, is_flying, View, World, Line, disk_at, disk_now, top, kept, flying, kept_all, in_flight, entries_in, batches_kept, AreSettled, StepIsKept, has_step, IsPlace, is_renewed_at, is_open, Setting, Stands, IsNext, IsNear, Alike, CrashAt, EachTells, said, ToldAt, ReadsBy, Copy, CopyAt, Keeps, spools_at, lost_now, HasTexts, either_way}
 use Rattle.mas_complex.proofs.Passing.{Passes}
-use Rattle.ckpt_copy.specs.Moments.{either_way}
-use Rattle.mas_types.specs.declared.ids.MemberId.{MemberId}
-use Rattle.mas_types.specs.declared.journals.Batch.{Batch}
-use Rattle.mas_types.specs.declared.journals.Entry.{Entry}
-use Rattle.mas_types.specs.declared.journals.Fate.TheVariants.{Flying}
-use Rattle.mas_complex.specs.Journals.{kept, flying, kept_all, in_flight, entries_in, batches_kept, AreSettled, StepIsKept, has_step, IsPlace}
-use Rattle.mas_types.specs.Journal.{is_flying}
-use Rattle.mas_complex.specs.Renewals.{is_renewed_at, is_open}
-use Rattle.mas_complex.specs.Crash.{Setting, Stands, IsNext, IsNear, Alike, CrashAt, EachTells, said, ToldAt, ReadsBy, Copy, CopyAt, Keeps}
 use Rattle.mas_complex.proofs.Batches.{now_kept, now_flying, settled_later, settled_push, begun_later, begins_kept, begins_flying, fated_kept, fated_flying, step_later, step_push, step_fate, placed_kept, placed_flying, placed_all, placed_step, unplaced_step, placed_settled, unplaced_settled}
 use Rattle.mas_complex.proofs.Renewed.{renewed_open, renewed_later}
 use Rattle.mas_complex.proofs.Present.{alike_as, alike_none}
 use Rattle.mas_complex.proofs.Rising.{one_up, kept_place, acts_rise, fated_rise, same_rise}
-use Rattle.mas_complex.specs.Texts.{spools_at, lost_now, HasTexts}
 use Rattle.mas_complex.proofs.Texting.{Stays, acts_texts, acts_sunk, begins_texts, fated_texts, same_texts}
-use Rattle.mas_complex.proofs.Lines.{each_map, each_both, each_more, each_less}
+
+module _ (closes : List ℕ → MemberId → ℕ → Type 0) where
+  pub each_map : (lines : List Line) (P Q : MemberId → ℕ → Type 0) → ((m : MemberId) (s : ℕ) → P m s → Q m s) → EachTells closes lines P → EachTells closes lines Q
+  each_map [] P Q so tells = tt
+  each_map (line ∷ lines) P Q so tells = ((λ whole m s is. so m s (tells.0 whole m s is)), each_map lines P Q so tells.1)
+
+  pub each_both : (lines : List Line) (P Q R : MemberId → ℕ → Type 0) → ((m : MemberId) (s : ℕ) → P m s → Q m s → R m s) → EachTells closes lines P → EachTells closes lines Q → EachTells closes lines R
+  each_both [] P Q R so tells also = tt
+  each_both (line ∷ lines) P Q R so tells also = ((λ whole m s is. so m s (tells.0 whole m s is) (also.0 whole m s is)), each_both lines P Q R so tells.1 also.1)
+
+  each_append : (xs ys : List Line) (P : MemberId → ℕ → Type 0) → EachTells closes xs P → EachTells closes ys P → EachTells closes (xs ++ ys) P
+  each_append [] ys P one two = two
+  each_append (x ∷ xs) ys P one two = (one.0, each_append xs ys P one.1 two)
+
+  each_drop : (n : ℕ) (xs : List Line) (P : MemberId → ℕ → Type 0) → EachTells closes xs P → EachTells closes (drop n xs) P
+  each_drop zero xs P tells = tells
+  each_drop (suc n) [] P tells = tt
+  each_drop (suc n) (x ∷ xs) P tells = each_drop n xs P tells.1
+
+  pub each_more : (n : ℕ) (xs ys : List Line) (P : MemberId → ℕ → Type 0) → EachTells closes (drop n xs) P → EachTells closes ys P → EachTells closes (drop n (xs ++ ys)) P
+  each_more zero xs ys P one two = each_append xs ys P one two
+  each_more (suc n) [] ys P one two = each_drop (suc n) ys P two
+  each_more (suc n) (x ∷ xs) ys P one two = each_more n xs ys P one two
+
+  each_front : (xs ys : List Line) (P : MemberId → ℕ → Type 0) → EachTells closes (xs ++ ys) P → EachTells closes xs P
+  each_front [] ys P tells = tt
+  each_front (x ∷ xs) ys P tells = (tells.0, each_front xs ys P tells.1)
+
+  pub each_less : (n : ℕ) (xs ys : List Line) (P : MemberId → ℕ → Type 0) → EachTells closes (drop n (xs ++ ys)) P → EachTells closes (drop n xs) P
+  each_less zero xs ys P tells = each_front xs ys P tells
+  each_less (suc n) [] ys P tells = tt
+  each_less (suc n) (x ∷ xs) ys P tells = each_less n xs ys P tells
 
 abbrev console_at : View → ℕ → List Line
 console_at v t = (v.world t).console

@@ -1,9 +1,5 @@
 -- What a member noted, by the list of what all noted.
-use Rattle.std.proofs.Common.{◌≡◌, ◌≢◌, ℕ, zero, suc, List, [], ◌∷◌, get_or, slice_get, slice_set, Option, Some, unwrap_or, refl, sym, ◌∙◌, ap}
-use Rattle.std.proofs.lemmas.List.{get_or-set_other}
-use Rattle.std.proofs.lemmas.Option.{get_or_from_slice_get, unwrap_or-slice_get}
-use Rattle.mas_types.specs.declared.ids.Page.{Page}
-use Rattle.mas_complex.specs.Past.{HasNoted, noted_by}
+use Rattle.mas_complex.proofs.Names.{◌≡◌, ◌≢◌, ℕ, zero, suc, List, [], ◌∷◌, get_or, slice_get, slice_set, Option, Some, unwrap_or, refl, sym, ◌∙◌, ap, get_or-set_other, get_or_from_slice_get, unwrap_or-slice_get, Page, HasNoted, noted_by}
 
 noted_get : (had : List (List Page)) (m : ℕ) → noted_by had m ≡ get_or had m []
 noted_get [] m = refl
@@ -13,11 +9,6 @@ noted_get (x ∷ had) (suc m) = noted_get had m
 -- another one's note leaves it
 pub noted_beside : (had : List (List Page)) (by m : ℕ) (pages : List Page) → m ≢ by → noted_by (slice_set had by pages) m ≡ noted_by had m
 noted_beside had by m pages ne = noted_get (slice_set had by pages) m ∙ (get_or-set_other had by m pages [] ne ∙ sym (noted_get had m))
-
-pub noted_same : (was is : List (List Page)) (m : ℕ) → slice_get is m ≡ slice_get was m → noted_by is m ≡ noted_by was m
-noted_same was is m e =
-    let none : List Page = [] in
-    noted_get is m ∙ (sym (unwrap_or-slice_get is m none) ∙ (ap (λ (o : Option (List Page)). unwrap_or o none) e ∙ (unwrap_or-slice_get was m none ∙ sym (noted_get was m))))
 
 pub noted_is : (had : List (List Page)) (m : ℕ) (pages : List Page) → HasNoted had m pages → noted_by had m ≡ pages
 noted_is had m pages noted = noted_get had m ∙ get_or_from_slice_get had m pages [] noted

@@ -1,16 +1,6 @@
 -- The numbers of page 0 and of the pages with the found level, and what they cover.
-use Rattle.std.proofs.Common.{◌≡◌, ◌⊎◌, inl, inr, ⊎_elim, ℕ, suc, zero, ◌+◌, ◌*◌, ◌<◌, ◌≤◌, ◌==◌, ◌||◌, Bool, true, false, if◌then◌else◌, List, [], ◌∷◌, ◌++◌, length, take, drop, slice_index, refl, sym, ◌∙◌, ap, subst, add-one, get_or, append-nil, append_assoc, All, Contains, arith}
+use Rattle.mas_complex.proofs.Names.{◌≡◌, ◌⊎◌, inl, inr, ⊎_elim, ℕ, suc, zero, ◌+◌, ◌*◌, ◌<◌, ◌≤◌, ◌==◌, ◌||◌, Bool, true, false, if◌then◌else◌, List, [], ◌∷◌, ◌++◌, length, take, drop, slice_index, refl, sym, ◌∙◌, ap, subst, add-one, get_or, append-nil, append_assoc, All, Contains, arith, bytes_eq, and_parts, bytes_eq-Decides, drop_at, drop-drop, drop_all, take-append-le, take_all, All-nil, All-cons, All-tail, All-head, All-weaker, Contains-append_right, Page, page_bytes, bytes_of, level, page_in, ArePages, Covers, level_in, differ_at, first_page, found_numbers, is_found_at, numbers_from}
 use Rattle.std.specs.List.Sorted.{IsStrictlyIncreasing}
-use Rattle.std.specs.Str.{bytes_eq}
-use Rattle.std.proofs.lemmas.Bool.{and_parts}
-use Rattle.std.proofs.lemmas.Slice.Eq.{bytes_eq-Decides}
-use Rattle.std.proofs.lemmas.List.{drop_at, drop-drop, drop_all, take-append-le, take_all}
-use Rattle.std.proofs.lemmas.List.Elements.{All-nil, All-cons, All-tail, All-head, All-weaker, Contains-append_right}
-use Rattle.mas_types.specs.declared.ids.Page.{Page}
-use Rattle.mas_types.specs.Limits.{page_bytes}
-use Rattle.ckpt_copy.specs.Pages.{bytes_of, level, page_in, ArePages, Covers}
-use Rattle.ckpt_tables.specs.Shape.{level_in}
-use Rattle.mas_complex.specs.Fits.{differ_at, first_page, found_numbers, is_found_at, numbers_from}
 
 -- the numbers from page p on
 numbers_within : (page0 : List ℕ) (reached p : ℕ) (pages : List Page) → All (λ q. (p ≤ q) × (q < p + length pages)) (numbers_from page0 reached p pages)
@@ -117,8 +107,3 @@ pub numbers_more : (page0 : List ℕ) (reached n : ℕ) (pages : List Page) (x :
 numbers_more page0 reached n pages x numbers all here so_far =
     append_assoc numbers (if is_found_at page0 reached n then n ∷ [] else []) (numbers_from page0 reached (n + 1) (drop (n + 1) pages))
     ∙ ap (λ (rest : List ℕ). numbers ++ rest) (sym (ap (numbers_from page0 reached n) here)) ∙ so_far
-
--- no page is left
-pub numbers_all : (page0 : List ℕ) (reached n : ℕ) (pages : List Page) (numbers all : List ℕ) → length pages ≤ n → numbers ++ numbers_from page0 reached n (drop n pages) ≡ all → numbers ≡ all
-numbers_all page0 reached n pages numbers all over so_far =
-    sym (append-nil numbers) ∙ ap (λ (rest : List Page). numbers ++ numbers_from page0 reached n rest) (sym (drop_all n pages over)) ∙ so_far

@@ -1,22 +1,17 @@
 -- What a call on the copy of one device leaves of both.
-use Rattle.std.proofs.Common.{◌≡◌, ℕ, Bool, true, false, List, [], Option, None, IfSome, Result, Ok, Err, IfOk, OnErr, sym, subst}
-use Rattle.mas_types.specs.declared.ids.Dev.{Dev}
-use Rattle.mas_types.specs.declared.ids.Dev.TheVariants.{Ckpt1, Ckpt2, Spool}
-use Rattle.mas_types.specs.declared.journals.Batch.{Batch}
-use Rattle.spool_plant.specs.declared.plant.Part.TheVariants.{Disk as DiskPart}
-use Rattle.spool_plant.specs.View.{View, Disk, disk_now}
-use Rattle.spool_plant.specs.Acts.{Goes}
-use Rattle.ckpt_copy.specs.Reading.{AllRead}
-use Rattle.duplex_pair.specs.Halves.{IsCkpt, pick, other, Acted, IsBothLost}
-use Rattle.duplex_pair.specs.declared.errors.Look.{Look}
-use Rattle.duplex_pair.specs.declared.errors.Look.TheVariants.{Lost, Unread, Pages}
-use Rattle.duplex_pair.specs.declared.errors.LookNo.{LookNo}
-use Rattle.duplex_pair.specs.Looks.{WasSeen}
-use Rattle.ckpt_places.specs.declared.places.Place.{Place}
-use Rattle.mas_complex.specs.Journals.{kept_all, entries_in}
-use Rattle.mas_complex.specs.Crash.{Setting, IsNext, IsNear, CopyAt, Keeps, Copy, copy_of}
-use Rattle.mas_complex.proofs.Sides.{Went, on_first, on_second, no}
-use Rattle.mas_complex.proofs.Lost.{still_lost, lost_later}
+use Rattle.mas_complex.proofs.Names.{◌≡◌, ◌≢◌, ◌≤◌, ◌<◌, ◌++◌, arith, ℕ, Bool, true, false, List, [], Option, None, IfSome, Result, Ok, Err, IfOk, OnErr, sym, subst, Dev, Ckpt1, Ckpt2, Spool, Batch, Disk as DiskPart, View, ViewDisk as Disk, Throughout, disk_at, disk_now, Goes, top, AllRead, IsCkpt, pick, other, IsBothLost, Look, Lost, Unread, Pages, LookNo, WasSeen, Place, kept_all, entries_in, in_flight, is_open, of_device, Setting, ReadsBy, IsNext, IsNear, CopyAt, Keeps, Copy, copy_of}
+use Rattle.mas_complex.proofs.Basics.{no}
+use Rattle.mas_complex.proofs.Moves.{acts_keep}
+use Rattle.mas_complex.proofs.Passing.{Passes}
+use Rattle.mas_complex.proofs.Present.{copy_reads}
+use Rattle.mas_complex.proofs.Sides.{calm, moved}
+use Rattle.mas_complex.proofs.Texting.{stays_same}
+use Rattle.mas_complex.proofs.Leaving.{lost_later}
+
+-- the other device is another one
+pub beside : (dev : Dev) → IsCkpt dev → other dev Ckpt1 Ckpt2 ≢ dev
+beside (Spool n) ckpt e = absurd ckpt
+beside _ ckpt e = absurd (cc)
 
 -- halves of a pair, by what they hold
 module _ {H : Type 0} (rests : H → List ℕ → Disk → Type 0) (holds : H → List ℕ → List ℕ → Disk → Type 0) (alive : H → Bool) where
@@ -38,21 +33,32 @@ module _ {H : Type 0} (rests : H → List ℕ → Disk → Type 0) (holds : H �
   at_other S was coming Ckpt2 ckpt h1 h2 p1 p2 v first second = first
   at_other S was coming (Spool n) ckpt h1 h2 p1 p2 v first second = absurd ckpt
 
-  -- the value keeps what it keeps, where the other copy stays as it is
-  pub on_copy : (S : Setting) (js : List Batch) (c : Option Batch) (reached : ℕ) (dev : Dev) → IsCkpt dev → (h1 h2 k1 k2 : H) (p1 p2 q1 q2 : Place) (old new : View)
-      → other dev k1 k2 ≡ other dev h1 h2 → other dev q1 q2 ≡ other dev p1 p2
-      → ((h : H) (pages : List ℕ) (d : Disk) → rests h pages d → AllRead S.reads pages d) → ((h : H) (was next : List ℕ) (d : Disk) → holds h was next d → AllRead S.reads was d)
-      → (keeps : Keeps S js c reached (side h1 p1) (side h2 p2) old) (coming : Option (List ℕ)) → IsNext S reached (kept_all js) (entries_in c) coming → (entries_in c ≡ [] → coming ≡ None) → IfSome coming (IsNear keeps.first_level keeps.first_order)
-      → CopyAt S keeps.was coming (other dev Ckpt1 Ckpt2) (side (other dev h1 h2) (other dev p1 p2)) old.now (disk_now old (other dev Ckpt1 Ckpt2))
-      → Went S keeps.was coming dev old new (rests (pick dev k1 k2)) (holds (pick dev k1 k2)) (pick dev q1 q2) (alive (pick dev k1 k2))
-      → Keeps S js c reached (side k1 q1) (side k2 q2) new
-  on_copy S js c reached Ckpt1 ckpt h1 h2 k1 k2 p1 p2 q1 q2 old new same at rests_reads holds_reads keeps coming comes none nears there went =
-      on_first S js c reached (side h1 p1) (side h2 p2) (side k1 q1) (side k2 q2) old new keeps coming comes none nears (λ pages d r. rests_reads h2 pages d r) (λ was next d r. holds_reads h2 was next d r) there went
-      (λ x. subst (λ (h : H). CopyAt S keeps.was coming Ckpt2 (side h q2) new.now (disk_now new Ckpt2)) (sym same) (subst (λ (p : Place). CopyAt S keeps.was coming Ckpt2 (side h2 p) new.now (disk_now new Ckpt2)) (sym at) x))
-  on_copy S js c reached Ckpt2 ckpt h1 h2 k1 k2 p1 p2 q1 q2 old new same at rests_reads holds_reads keeps coming comes none nears there went =
-      on_second S js c reached (side h1 p1) (side h2 p2) (side k1 q1) (side k2 q2) old new keeps coming comes none nears (λ pages d r. rests_reads h1 pages d r) (λ was next d r. holds_reads h1 was next d r) there went
-      (λ x. subst (λ (h : H). CopyAt S keeps.was coming Ckpt1 (side h q1) new.now (disk_now new Ckpt1)) (sym same) (subst (λ (p : Place). CopyAt S keeps.was coming Ckpt1 (side h1 p) new.now (disk_now new Ckpt1)) (sym at) x))
-  on_copy S js c reached (Spool n) ckpt h1 h2 k1 k2 p1 p2 q1 q2 old new same at rests_reads holds_reads keeps coming comes none nears there went = absurd ckpt
+  -- what a crash leaves of acts on one device alone: the other copy stays as it is
+  module _ (S : Setting) (js : List Batch) (c : Option Batch) (reached : ℕ) (h1 h2 k1 k2 : H) (p1 p2 q1 q2 : Place) (old new : View) (keeps : Keeps S js c reached (side h1 p1) (side h2 p2) old) (passes : Passes old new)
+      (coming : Option (List ℕ)) (comes : IsNext S reached (kept_all js) (entries_in c) coming) (none : entries_in c ≡ [] → coming ≡ None) (nears : IfSome coming (IsNear keeps.first_level keeps.first_order))
+      (rests_reads : (h : H) (pages : List ℕ) (d : Disk) → rests h pages d → AllRead S.reads pages d) (holds_reads : (h : H) (was next : List ℕ) (d : Disk) → holds h was next d → AllRead S.reads was d) where
+    module _ (dev : Dev) (ckpt : IsCkpt dev) (others : Throughout old.now new.now (λ t. (d : Dev) → d ≢ dev → disk_at new t d ≡ disk_now old d)) (there : CopyAt S keeps.was coming (other dev Ckpt1 Ckpt2) (side (other dev h1 h2) (other dev p1 p2)) old.now (disk_now old (other dev Ckpt1 Ckpt2))) where
+      near_reads : (t : ℕ) → old.now < t → t ≤ new.now → t < top → ReadsBy S (is_open (of_device (other dev Ckpt1 Ckpt2) S.renewals)) keeps.was coming (disk_at new t (other dev Ckpt1 Ckpt2))
+      near_reads t lt le below =
+          subst (λ (d : Disk). ReadsBy S (is_open (of_device (other dev Ckpt1 Ckpt2) S.renewals)) keeps.was coming d) (sym (others t (omega arith) le (other dev Ckpt1 Ckpt2) (beside dev ckpt)))
+          (copy_reads S keeps.was (rests (other dev h1 h2)) (holds (other dev h1 h2)) (λ pages d r. rests_reads (other dev h1 h2) pages d r) (λ was next d r. holds_reads (other dev h1 h2) was next d r) coming (other dev p1 p2) (alive (other dev h1 h2)) old.now (disk_now old (other dev Ckpt1 Ckpt2)) (omega arith) there)
+
+      near_after : other dev k1 k2 ≡ other dev h1 h2 → other dev q1 q2 ≡ other dev p1 p2 → CopyAt S keeps.was coming (other dev Ckpt1 Ckpt2) (side (other dev k1 k2) (other dev q1 q2)) new.now (disk_now new (other dev Ckpt1 Ckpt2))
+      near_after same at =
+          subst (λ (h : H). CopyAt S keeps.was coming (other dev Ckpt1 Ckpt2) (side h (other dev q1 q2)) new.now (disk_now new (other dev Ckpt1 Ckpt2))) (sym same)
+          (subst (λ (p : Place). CopyAt S keeps.was coming (other dev Ckpt1 Ckpt2) (side (other dev h1 h2) p) new.now (disk_now new (other dev Ckpt1 Ckpt2))) (sym at)
+          (moved S (rests (other dev h1 h2)) (holds (other dev h1 h2)) keeps.was coming (other dev p1 p2) (alive (other dev h1 h2)) old.now new.now (disk_now old (other dev Ckpt1 Ckpt2)) (disk_now new (other dev Ckpt1 Ckpt2)) passes.later (others new.now passes.later (omega arith) (other dev Ckpt1 Ckpt2) (beside dev ckpt)) there))
+
+    pub acts_on : (dev : Dev) (ckpt : IsCkpt dev) → other dev k1 k2 ≡ other dev h1 h2 → other dev q1 q2 ≡ other dev p1 p2 → Throughout old.now new.now (λ t. (d : Dev) → d ≢ dev → disk_at new t d ≡ disk_now old d) → Throughout old.now new.now (λ t. (new.world t).console ≡ (old.world old.now).console)
+        → ((t : ℕ) → old.now < t → t ≤ new.now → t < top → ReadsBy S (is_open (of_device dev S.renewals)) keeps.was coming (disk_at new t dev)) → CopyAt S keeps.was coming (other dev Ckpt1 Ckpt2) (side (other dev h1 h2) (other dev p1 p2)) old.now (disk_now old (other dev Ckpt1 Ckpt2))
+        → CopyAt S keeps.was coming dev (side (pick dev k1 k2) (pick dev q1 q2)) new.now (disk_now new dev) → Keeps S js c reached (side k1 q1) (side k2 q2) new
+    acts_on Ckpt1 ckpt same at others console reads there after =
+        acts_keep S js c reached (side h1 p1) (side h2 p2) (side k1 q1) (side k2 q2) old new keeps passes coming comes none nears (λ t lt le below. (reads t lt le below, near_reads Ckpt1 ckpt others there t lt le below))
+        (calm S (js ++ in_flight c) old new console passes.later) (stays_same S (kept_all js) (entries_in c) old new (λ t lt le n. others t (omega arith) le (Spool n) (λ e. absurd (cc)))) after (near_after Ckpt1 ckpt others there same at)
+    acts_on Ckpt2 ckpt same at others console reads there after =
+        acts_keep S js c reached (side h1 p1) (side h2 p2) (side k1 q1) (side k2 q2) old new keeps passes coming comes none nears (λ t lt le below. (near_reads Ckpt2 ckpt others there t lt le below, reads t lt le below))
+        (calm S (js ++ in_flight c) old new console passes.later) (stays_same S (kept_all js) (entries_in c) old new (λ t lt le n. others t (omega arith) le (Spool n) (λ e. absurd (cc)))) (near_after Ckpt2 ckpt others there same at) after
+    acts_on (Spool n) ckpt same at others console reads there after = absurd ckpt
 
 module _ {H : Type 0} (alive : H → Bool) where
   -- each copy that counts as lost, and of which no replacement is open, is lost
@@ -72,16 +78,11 @@ module _ {H : Type 0} (alive : H → Bool) where
   }
   sunk_after (Spool n) ckpt h1 h2 k1 k2 old new goes sunk same first second = absurd ckpt
 
-  sunk_was : {o1 o2 : Bool} (dev : Dev) → IsCkpt dev → (h1 h2 : H) (old : View) → (alive h1 ≡ false → o1 ≡ false → old.lost (DiskPart Ckpt1) ≡ true) → (alive h2 ≡ false → o2 ≡ false → old.lost (DiskPart Ckpt2) ≡ true)
+  pub sunk_was : {o1 o2 : Bool} (dev : Dev) → IsCkpt dev → (h1 h2 : H) (old : View) → (alive h1 ≡ false → o1 ≡ false → old.lost (DiskPart Ckpt1) ≡ true) → (alive h2 ≡ false → o2 ≡ false → old.lost (DiskPart Ckpt2) ≡ true)
       → alive (pick dev h1 h2) ≡ false → pick dev o1 o2 ≡ false → old.lost (DiskPart dev) ≡ true
   sunk_was Ckpt1 ckpt h1 h2 old first second = first
   sunk_was Ckpt2 ckpt h1 h2 old first second = second
   sunk_was (Spool n) ckpt h1 h2 old first second = absurd ckpt
-
-  pub sunk_acted : {o1 o2 : Bool} (by : ℕ) (dev : Dev) → IsCkpt dev → (h1 h2 k1 k2 : H) (stopped : Bool) (old new : View) → Acted by dev (alive (pick dev h1 h2)) (alive (pick dev k1 k2)) stopped old new → other dev k1 k2 ≡ other dev h1 h2
-      → (alive h1 ≡ false → o1 ≡ false → old.lost (DiskPart Ckpt1) ≡ true) → (alive h2 ≡ false → o2 ≡ false → old.lost (DiskPart Ckpt2) ≡ true) → BothSunk o1 o2 k1 k2 new
-  sunk_acted by dev ckpt h1 h2 k1 k2 stopped old new acted same first second =
-      sunk_after dev ckpt h1 h2 k1 k2 old new acted.goes (still_lost by dev (alive (pick dev h1 h2)) (alive (pick dev k1 k2)) stopped old new acted (sunk_was dev ckpt h1 h2 old first second)) same first second
 
   -- each copy that counts as alive passes a test
   pub record BothFit (fits : H → View → Bool) (k1 k2 : H) (new : View) : Type 0 where

@@ -1,16 +1,9 @@
 -- The next order that pages give.
-use Rattle.std.proofs.Common.{◌≡◌, ℕ, ◌≤◌, ◌<◌, ◌^◌, List, [], ◌∷◌, ◌++◌, length, take, drop, get_or, All, refl, sym, subst, ◌∙◌, ap, arith}
-use Rattle.std.specs.Prelude.{◌==◌, false}
+use Rattle.mas_complex.proofs.Names.{◌≡◌, ℕ, ◌≤◌, ◌<◌, ◌^◌, List, [], ◌∷◌, ◌++◌, length, take, drop, get_or, All, refl, sym, subst, ◌∙◌, ap, arith, ◌==◌, false, take-append-le, drop-append-le, length-drop, All-head, Page, page_bytes, bytes_of, HasSpelling}
 use Rattle.std.specs.Int.{w64, from_be_bytes, to_be_bytes}
-use Rattle.std.proofs.lemmas.List.{take-append-le, drop-append-le, length-drop}
-use Rattle.std.proofs.lemmas.List.Elements.{All-head}
 use Rattle.std.proofs.lemmas.Nat.{from_be_bytes-to_be_bytes_8}
-use Rattle.mas_types.specs.declared.ids.Page.{Page}
-use Rattle.mas_types.specs.Limits.{page_bytes}
 use Rattle.lay_bytes.specs.Fields.{piece}
-use Rattle.ckpt_copy.specs.Pages.{bytes_of}
 use Rattle.ckpt_tables.specs.declared.tables.Tables.{Tables}
-use Rattle.ckpt_tables.specs.Shape.{HasSpelling}
 use Rattle.ckpt_tables.specs.Pages.{Spell, page_in}
 use Rattle.mas_complex.specs.Crash.{next_order}
 

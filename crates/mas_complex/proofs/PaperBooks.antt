@@ -1,13 +1,7 @@
 -- Nobody who is stopped in the book is up after a call of it.
-use Rattle.std.proofs.Common.{◌≡◌, ◌≢◌, ℕ, ◌-◌, ◌≤◌, ◌<◌, ◌==◌, ◌||◌, Bool, true, false, if◌then◌else◌, length, subst, sym, ◌∙◌, ap, arith}
-use Rattle.std.specs.Prelude.{is_some, Some, slice_index_or}
-use Rattle.std.proofs.lemmas.Bool.Decides.{nat_tests}
-use Rattle.std.proofs.lemmas.List.{get_or-set_same, get_or-set_other}
-use Rattle.mas_types.specs.declared.ids.MemberId.{MemberId}
-use Rattle.mas_types.specs.Ids.{nobody}
+use Rattle.mas_complex.proofs.Names.{◌≡◌, ◌≢◌, ℕ, ◌-◌, ◌≤◌, ◌<◌, ◌==◌, ◌||◌, Bool, true, false, if◌then◌else◌, length, subst, sym, ◌∙◌, ap, arith, is_some, Some, slice_index_or, get_or-set_same, get_or-set_other, MemberId, nobody, Book, IsMember, beginner, standing, is_stopped, is_holder, left_of, with_standing, with_holder, granted, ticked, try_refusal, after_try, noted, after_free, after_stop, seize_refusal, after_seize, after_spend, test_cases}
 use Rattle.lock_cycle.specs.declared.standings.Standing.{Standing}
-use Rattle.lock_cycle.specs.Books.{Book, IsMember, beginner, standing, is_stopped, is_holder, left_of, with_standing, with_holder, granted, ticked, try_refusal, after_try, noted, after_free, after_stop, seize_refusal, after_seize, after_spend}
-use Rattle.mas_complex.proofs.Papers.{test_cases}
+use Rattle.mas_complex.proofs.Basics.{number_is, apart_is}
 
 module _ (b : Book) (m : MemberId) (s : Standing) (inside : IsMember b m) where
   at_own : (k : MemberId) → k.0 - 1 ≡ m.0 - 1 → standing (with_standing b m s) k ≡ s
@@ -25,13 +19,7 @@ module _ (b : Book) (m : MemberId) (s : Standing) (inside : IsMember b m) where
       (λ e. let same : k.0 - 1 ≡ m.0 - 1 = number_is (k.0 - 1) (m.0 - 1) e in
       let mine : is_stopped b m ≡ false = own (sym (ap (λ (x : Standing). x.stopped) (at_own k same)) ∙ up) in
       subst (λ (n : ℕ). (slice_index_or b.members n (beginner 0)).stopped ≡ false) (sym same) mine)
-      (λ e. sym (ap (λ (x : Standing). x.stopped) (at_other k (λ same. apart (k.0 - 1) (m.0 - 1) e same))) ∙ up)
-    where
-      number_is : (m n : ℕ) → (m == n) ≡ true → m ≡ n
-      number_is m n h = grind (arith, nat_tests)
-
-      apart : (m n : ℕ) → (m == n) ≡ false → m ≡ n → ⊥
-      apart m n h e = grind (arith, nat_tests)
+      (λ e. sym (ap (λ (x : Standing). x.stopped) (at_other k (λ same. apart_is (k.0 - 1) (m.0 - 1) e same))) ∙ up)
 
 pub granted_up : (b : Book) (m : MemberId) → IsMember b m → (k : MemberId) → is_stopped (granted b m) k ≡ false → is_stopped b k ≡ false
 granted_up b m inside k up = standing_up (with_holder b m) m (record (standing b m) { left = b.hold }) inside (λ u. u) k up

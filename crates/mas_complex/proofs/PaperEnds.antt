@@ -1,33 +1,10 @@
 -- What stands on paper where a shared value is made, where a batch gets its fate, and where it hands all out.
-use Rattle.std.proofs.Common.{◌≡◌, ℕ, ◌+◌, ◌≤◌, ◌<◌, ◌⊎◌, inl, inr, Bool, true, false, if◌then◌else◌, List, [], ◌∷◌, ◌++◌, Option, Some, None, All, refl, subst, sym, ◌∙◌, ap, arith, le_refl, append_assoc, length, ◌-◌}
-use Rattle.std.specs.Prelude.{zero, suc, IsSome, replicate}
-use Rattle.std.proofs.lemmas.List.{append-nil}
-use Rattle.std.proofs.lemmas.List.Elements.{All-nil, All-append}
-use Rattle.mas_types.specs.declared.ids.MemberId.{MemberId}
-use Rattle.mas_types.specs.declared.journals.Batch.{Batch}
-use Rattle.mas_types.specs.declared.journals.Entry.{Entry}
-use Rattle.mas_types.specs.declared.journals.Fate.TheVariants.{Kept, Dropped, Flying}
-use Rattle.mas_types.specs.declared.queues.Queue.{Queue}
-use Rattle.mas_types.specs.Journal.{is_flying, is_kept_by}
-use Rattle.mas_types.specs.Ids.{is_somebody}
-use Rattle.mas_types.specs.Limits.{members_most}
-use Rattle.mas_types.specs.Queue.{output_at}
-use Rattle.mas_types.specs.Sound.{IsSound}
-use Rattle.lock_cycle.specs.Books.{Book}
-use Rattle.queue_laws.specs.Runs.{IsGiven}
-use Rattle.spool_plant.specs.View.{View}
-use Rattle.paper_laws.specs.Counts.{Counts, none_printed, AreAllowed, counts_after}
-use Rattle.paper_laws.specs.Paper.{AreLinesOn, mark_of, printed_at}
+use Rattle.mas_complex.proofs.Names.{◌≡◌, ℕ, ◌+◌, ◌≤◌, ◌<◌, ◌⊎◌, inl, inr, Bool, true, false, if◌then◌else◌, List, [], ◌∷◌, ◌++◌, Option, Some, None, All, refl, subst, sym, ◌∙◌, ap, arith, le_refl, append_assoc, length, ◌-◌, zero, suc, IsSome, replicate, append-nil, All-nil, All-append, MemberId, Batch, Entry, Kept, Dropped, Flying, Queue, is_flying, is_kept_by, is_somebody, members_most, output_at, IsSound, Book, IsGiven, View, Counts, none_printed, AreAllowed, counts_after, AreLinesOn, mark_of, printed_at, run, kept, flying, kept_of, kept_all, in_flight, AreSettled, IsBegun, EndsInPlace, HasPlace, with_last, without_last, end_of, IsOnPaper, count_at, counts_of, no_counts, printed_after, AreGivenIn, KeepsPaper, PaperKept, test_cases}
 use Rattle.paper_laws.proofs.Marked.{marks_answer}
-use Rattle.mas_complex.specs.Meaning.{run}
-use Rattle.mas_complex.specs.Journals.{kept, flying, kept_of, kept_all, in_flight, AreSettled, IsBegun, EndsInPlace, HasPlace, with_last, without_last, end_of}
-use Rattle.mas_complex.specs.Paper.{IsOnPaper, count_at, counts_of, no_counts, printed_after, AreGivenIn, KeepsPaper, PaperKept}
 use Rattle.mas_complex.proofs.BatchEnds.{with_last-append, without_last-append}
 use Rattle.mas_complex.proofs.Batches.{settled_push, unplaced_settled, placed_all}
-use Rattle.mas_complex.proofs.Papers.{test_cases, unplace_on_paper, fate_on_paper, begins_on_paper}
-
-one_kept : (c : Batch) → c.fate ≡ Kept → kept_all (c ∷ []) ≡ c.entries
-one_kept c fate = rw fate (append-nil c.entries)
+use Rattle.mas_complex.proofs.Papers.{unplace_on_paper, fate_on_paper, begins_on_paper}
+use Rattle.mas_complex.proofs.Fates.{one_kept}
 
 -- A batch takes its place in the journal with its fate.
 module _ (base : Queue) (since : ℕ) (printed : List ℕ) (book : Book) (v : View) (J : List Batch) (p : EndsInPlace J) (settled : AreSettled J v.now) (c : Batch) where

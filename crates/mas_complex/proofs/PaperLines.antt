@@ -1,52 +1,13 @@
 -- A line more on a printer.
-use Rattle.std.proofs.Common.{◌≡◌, ◌≢◌, ℕ, zero, suc, ◌+◌, ◌-◌, ◌≤◌, ◌<◌, inl, inr, nat_le, ◌==◌, true, false, List, [], ◌∷◌, ◌++◌, length, Option, Some, None, All, refl, subst, sym, ◌∙◌, ap, arith, le_refl, le_trans, length-append}
-use Rattle.std.specs.Prelude.{min, Contains, slice_set}
-use Rattle.std.proofs.lemmas.Bool.Decides.{nat_tests}
-use Rattle.std.proofs.lemmas.List.{append-nil, get_or-set_same, get_or-set_other, length-set}
-use Rattle.std.proofs.lemmas.List.Elements.{All-nil, All-weaker, Contains-append_left, Contains-append_right}
-use Rattle.mas_types.specs.declared.ids.MemberId.{MemberId}
-use Rattle.mas_types.specs.declared.ids.JobNo.{JobNo}
-use Rattle.mas_types.specs.declared.ids.OutNo.{OutNo}
-use Rattle.mas_types.specs.declared.jobs.Text.{Text}
-use Rattle.mas_types.specs.declared.journals.Batch.{Batch}
-use Rattle.mas_types.specs.declared.journals.Entry.{Entry}
-use Rattle.mas_types.specs.declared.queues.Queue.{Queue}
-use Rattle.mas_types.specs.Ids.{same_member, is_somebody}
-use Rattle.mas_types.specs.Printed.{printed_line}
-use Rattle.mas_types.specs.Sound.{IsSound}
-use Rattle.lock_cycle.specs.Books.{Book, is_stopped, after_stop}
-use Rattle.queue_laws.specs.Runs.{IsGiven}
-use Rattle.spool_plant.specs.View.{View, World, Line, paper_now}
-use Rattle.spool_plant.specs.Acts.{Goes, Prints, Said, SamePaper, Rose, next, top}
-use Rattle.spool_plant.specs.declared.plant.Act.{Act}
-use Rattle.spool_plant.specs.declared.plant.Act.TheVariants.{Done, Failed, Halted}
-use Rattle.paper_laws.specs.Counts.{one_more}
-use Rattle.paper_laws.specs.Paper.{AreLinesOn, AreMarksOn}
-use Rattle.paper_laws.specs.Next.{IsNextLine, MayPrint}
-use Rattle.paper_laws.proofs.Commands.{fewer, stays_on, marks_stay_on}
+use Rattle.mas_complex.proofs.Names.{◌≡◌, ◌≢◌, ℕ, zero, suc, ◌+◌, ◌-◌, ◌≤◌, ◌<◌, inl, inr, nat_le, ◌==◌, true, false, List, [], ◌∷◌, ◌++◌, length, Option, Some, None, All, refl, subst, sym, ◌∙◌, ap, arith, le_refl, le_trans, length-append, min, Contains, slice_set, nat_tests, append-nil, get_or-set_same, get_or-set_other, length-set, All-nil, All-weaker, Contains-append_left, Contains-append_right, MemberId, JobNo, OutNo, Text, Batch, Entry, Queue, same_member, is_somebody, printed_line, IsSound, Book, is_stopped, after_stop, IsGiven, View, World, Line, paper_now, Goes, Prints, Said, SamePaper, Rose, next, top, Act, Done, Failed, ActHalted as Halted, one_more, AreLinesOn, AreMarksOn, IsNextLine, MayPrint, fewer, stays_on, marks_stay_on, run, kept, flying, kept_all, in_flight, entries_in, AreSettled, IsBegun, IsOfOther, Papers, IsOnPaper, MarksAt, turned, count_at, LineAt, counts_of, printed_by, book_by, IsOfItsMember, KeepsPaper, test_cases, same_member_is}
 use Rattle.paper_laws.proofs.Printed.{lines_keep}
-use Rattle.mas_complex.specs.Meaning.{run}
-use Rattle.mas_complex.specs.Journals.{kept, flying, kept_all, in_flight, entries_in, AreSettled, IsBegun}
-use Rattle.mas_complex.specs.Locking.{IsOfOther}
-use Rattle.mas_complex.specs.Paper.{Papers, IsOnPaper, MarksAt, turned, count_at, LineAt, counts_of, printed_by, book_by, IsOfItsMember, KeepsPaper}
+use Rattle.mas_complex.proofs.Basics.{is_le, is_lt, number_is, apart_is}
 use Rattle.mas_complex.proofs.Batches.{now_kept}
 use Rattle.mas_complex.proofs.Passing.{passes_of}
-use Rattle.mas_complex.proofs.Papers.{test_cases, have_begun, turned_later, turned_by, turned_from, given_front, given_rest, given_kept_all, given_coming, history_now, count_eq, same_papers, stays_on_paper, count_past, line_past}
-
-abbrev member_of : ℕ → MemberId
-member_of n = record { 0 = n }
-
-same_is : (a b : MemberId) → (a.0 == b.0) ≡ true → a ≡ b
-same_is a b e = ap member_of (number_is a.0 b.0 e)
-  where
-    number_is : (m n : ℕ) → (m == n) ≡ true → m ≡ n
-    number_is m n h = grind (arith, nat_tests)
-
-apart_is : (a b : ℕ) → (a == b) ≡ false → a ≡ b → ⊥
-apart_is a b e same = grind (arith, nat_tests)
+use Rattle.mas_complex.proofs.Papers.{have_begun, turned_later, turned_by, turned_from, given_front, given_rest, given_kept_all, given_coming, history_now, count_eq, same_papers, stays_on_paper, count_past, line_past}
 
 not_same : (a b : MemberId) → (a ≡ b → ⊥) → same_member a b ≡ false
-not_same a b apart = test_cases (a.0 == b.0) (same_member a b ≡ false) (λ e. absurd (apart (same_is a b e))) (λ e. e)
+not_same a b apart = test_cases (a.0 == b.0) (same_member a b ≡ false) (λ e. absurd (apart (same_member_is a b e))) (λ e. e)
 
 pub somebody_is : (m : MemberId) → 0 < m.0 → is_somebody m ≡ true
 somebody_is m some = somebody m.0 some
@@ -73,9 +34,6 @@ more_on p q m l more others n i line text on = record {
       (subst (λ (ls : List Line). Contains ls (record { text = printed_line n i line on.lines; whole = true })) (sym more)
       (Contains-append_left (p m) (l ∷ []) (record { text = printed_line n i line on.lines; whole = true }) (subst (λ (j : ℕ). Contains (p j) (record { text = printed_line n i line on.lines; whole = true })) same has))))
       (λ e. subst (λ (ls : List Line). Contains ls (record { text = printed_line n i line on.lines; whole = true })) (sym (others k (λ same. apart_is k m e same))) has)
-    where
-      number_is : (m n : ℕ) → (m == n) ≡ true → m ≡ n
-      number_is m n h = grind (arith, nat_tests)
 
 -- a printer has no fewer lines later
 pub lines_grow : (base : Queue) (since : ℕ) (J : List Batch) (v : View) (m : MemberId) → ((t : ℕ) → since ≤ t → t < v.now → LineAt base J since v t m) → (n s : ℕ) → since ≤ s → s + n ≤ v.now
@@ -137,12 +95,6 @@ module _ (base : Queue) (since : ℕ) (js : List Batch) (c : Option Batch) (prin
     coming_lines = coming_lines;
     counted = counted;
   } where
-    is_le : (t now : ℕ) → nat_le t now ≡ true → t ≤ now
-    is_le t now e = grind (arith, nat_tests)
-
-    is_lt : (t now : ℕ) → nat_le now t ≡ false → t < now
-    is_lt t now e = grind (arith, nat_tests)
-
     is_new : (t now new : ℕ) → t ≤ new → new ≡ now + 1 → nat_le t now ≡ false → t ≡ new
     is_new t now new a b e = let w : now < t = grind (arith, nat_tests) in omega arith
 
@@ -157,7 +109,7 @@ module _ (base : Queue) (since : ℕ) (js : List Batch) (c : Option Batch) (prin
 
     new_line : (j : MemberId) → LineAt base J since new old.now j
     new_line j = test_cases (j.0 == m.0) (LineAt base J since new old.now j)
-        (λ e. let same : j ≡ m = same_is j m e in
+        (λ e. let same : j ≡ m = same_member_is j m e in
         subst (λ (x : MemberId). LineAt base J since new old.now x) (sym same) (inr (record {
           line = l;
           more = at_new m.0 ∙ more ∙ ap (λ (ls : List Line). ls ++ l ∷ []) (sym (past m.0));
@@ -253,7 +205,7 @@ module _ (base : Queue) (since : ℕ) (js : List Batch) (c : Option Batch) (prin
 
       counts_is : (j : MemberId) → counts_of printed' j ≡ one_more m (counts_of printed) j
       counts_is j = test_cases (same_member j m) (counts_of printed' j ≡ one_more m (counts_of printed) j)
-          (λ e. let same : j ≡ m = same_is j m e in
+          (λ e. let same : j ≡ m = same_member_is j m e in
           subst (λ (x : MemberId). counts_of printed' x ≡ one_more m (counts_of printed) x) (sym same) (get_or-set_same printed m.0 (counts_of printed m + 1) 0 few ∙ sym mine))
           (λ e. get_or-set_other printed m.0 j.0 (counts_of printed m + 1) 0 (λ same. apart_is j.0 m.0 e same) ∙ sym (not_mine j e))
 
@@ -264,7 +216,7 @@ module _ (base : Queue) (since : ℕ) (js : List Batch) (c : Option Batch) (prin
       counted j inside is_up =
           let inside' : j.0 < length printed = subst (λ (n : ℕ). j.0 < n) (length-set printed m.0 (counts_of printed m + 1)) inside in
           test_cases (same_member j m) (counts_of printed' j ≡ count_at J since new new.now j)
-          (λ e. let same : j ≡ m = same_is j m e in
+          (λ e. let same : j ≡ m = same_member_is j m e in
           subst (λ (x : MemberId). counts_of printed' x ≡ count_at J since new new.now x) (sym same)
           (counts_is m ∙ mine ∙ ap (λ (n : ℕ). n + 1) (k.counted m few up) ∙ sym (own_counted l more)))
           (λ e. counts_is j ∙ not_mine j e ∙ k.counted j inside' is_up ∙ sym (other_counted j (others j.0 (λ same. apart_is j.0 m.0 e same))))
@@ -290,9 +242,6 @@ module _ (base : Queue) (since : ℕ) (js : List Batch) (c : Option Batch) (prin
       same_paper is j = test_cases (j == m.0) (paper_now new j ≡ paper_now old j)
           (λ e. let same : j ≡ m.0 = number_is j m.0 e in subst (λ (n : ℕ). paper_now new n ≡ paper_now old n) (sym same) is)
           (λ e. prints.others j (λ same. apart_is j m.0 e same))
-        where
-          number_is : (m n : ℕ) → (m == n) ≡ true → m ≡ n
-          number_is m n h = grind (arith, nat_tests)
 
       one_later : (old.now ≡ top → ⊥) → new.now ≡ old.now + 1
       one_later below = one old.now new.now goes.later time below

@@ -1,40 +1,8 @@
 -- What stands on paper through acts that print nothing, and while the journal grows.
-use Rattle.std.proofs.Common.{◌≡◌, ℕ, zero, suc, ◌+◌, ◌-◌, ◌≤◌, ◌<◌, ◌⊎◌, inl, inr, ◌&&◌, ◌||◌, ◌==◌, nat_le, Bool, true, false, if◌then◌else◌, List, [], ◌∷◌, ◌++◌, length, Option, Some, None, All, refl, subst, sym, ◌∙◌, ap, arith, le_refl, le_trans, append_assoc}
-use Rattle.std.specs.Prelude.{max, Contains, slice_index_or, slice_set}
-use Rattle.std.specs.List.{list_any}
-use Rattle.std.proofs.lemmas.Bool.Decides.{nat_tests}
-use Rattle.std.proofs.lemmas.List.{append-nil, get_or-set_other, length-set, set_past}
-use Rattle.std.proofs.lemmas.List.Elements.{All-nil, All-cons, All-append, All-head, All-tail}
-use Rattle.mas_types.specs.declared.ids.MemberId.{MemberId}
-use Rattle.mas_types.specs.declared.ids.JobNo.{JobNo}
-use Rattle.mas_types.specs.declared.ids.OutNo.{OutNo}
-use Rattle.mas_types.specs.declared.jobs.Text.{Text}
-use Rattle.mas_types.specs.declared.journals.Batch.{Batch}
-use Rattle.mas_types.specs.declared.journals.Entry.{Entry}
-use Rattle.mas_types.specs.declared.journals.Fate.TheVariants.{Flying}
-use Rattle.mas_types.specs.declared.queues.Queue.{Queue}
-use Rattle.mas_types.specs.Journal.{is_kept}
-use Rattle.mas_types.specs.Ids.{same_member}
-use Rattle.mas_types.specs.Printed.{printed_line}
-use Rattle.mas_types.specs.Sound.{IsSound}
-use Rattle.lock_cycle.specs.Books.{Book, is_stopped}
-use Rattle.queue_laws.specs.Runs.{IsGiven}
-use Rattle.spool_plant.specs.View.{View, World, Line}
-use Rattle.spool_plant.specs.Acts.{Goes, SamePaper, next}
+use Rattle.mas_complex.proofs.Names.{◌≡◌, ℕ, zero, suc, ◌+◌, ◌-◌, ◌≤◌, ◌<◌, ◌⊎◌, inl, inr, ◌&&◌, ◌||◌, ◌==◌, nat_le, Bool, true, false, if◌then◌else◌, List, [], ◌∷◌, ◌++◌, length, Option, Some, None, All, refl, subst, sym, ◌∙◌, ap, arith, le_refl, le_trans, append_assoc, max, Contains, slice_index_or, slice_set, list_any, nat_tests, append-nil, get_or-set_other, length-set, set_past, All-nil, All-cons, All-append, All-head, All-tail, MemberId, JobNo, OutNo, Text, Batch, Entry, Flying, Queue, is_kept, same_member, printed_line, IsSound, Book, is_stopped, IsGiven, View, World, Line, Goes, SamePaper, next, Counts, begins_anew, counts_anew, counts_after, AreAllowed, AreLinesOn, AreMarksOn, IsNextLine, same_member_is, test_cases, fewer, stays_on, marks_stay_on, entries_keep, step, run, kept, flying, kept_all, in_flight, entries_in, AreSettled, IsBegun, IsPlace, Papers, IsOnPaper, SamePapers, MarksAt, turned, count_at, LineAt, counts_of, printed_after, AreGivenIn, IsOfItsMember, KeepsPaper}
+use Rattle.mas_complex.proofs.Basics.{apart_is, is_le, is_lt, is_now}
 use Rattle.mas_complex.proofs.Passing.{Passes, passes_of}
-use Rattle.paper_laws.specs.Counts.{Counts, begins_anew, counts_anew, counts_after, AreAllowed}
-use Rattle.paper_laws.specs.Paper.{AreLinesOn, AreMarksOn}
-use Rattle.paper_laws.specs.Next.{IsNextLine}
-use Rattle.paper_laws.proofs.Bools.{same_member_is}
-use Rattle.paper_laws.proofs.Commands.{fewer, stays_on, marks_stay_on, entries_keep}
-use Rattle.mas_complex.specs.Meaning.{step, run}
-use Rattle.mas_complex.specs.Journals.{kept, flying, kept_all, in_flight, entries_in, AreSettled, IsBegun, IsPlace}
-use Rattle.mas_complex.specs.Paper.{Papers, IsOnPaper, SamePapers, MarksAt, turned, count_at, LineAt, counts_of, printed_after, AreGivenIn, IsOfItsMember, KeepsPaper}
 use Rattle.mas_complex.proofs.Batches.{now_kept, now_flying, begins_kept, begins_flying, fated_kept, fated_flying, placed_kept, placed_flying, placed_all, kept_all_append}
-
-pub test_cases : (b : Bool) (P : Type 0) → (b ≡ true → P) → (b ≡ false → P) → P
-test_cases true P at_true at_false = at_true refl
-test_cases false P at_true at_false = at_false refl
 
 -- ENTRIES OF BATCHES
 
@@ -154,11 +122,11 @@ count_eq {a} {b} {c} {d} x y = ap (λ (l : List Line). length l - length c) x �
 pub same_papers : (old new : View) → Goes old new → new.now ≡ next old.now → SamePaper old new → SamePapers old new
 same_papers old new goes time same t from to m =
     test_cases (nat_le t old.now) ((new.world t).paper m ≡ (old.world old.now).paper m)
-    (λ e. let at : t ≡ old.now = is_now t old.now from e in subst (λ (n : ℕ). (new.world n).paper m ≡ (old.world old.now).paper m) (sym at) (ap (λ (w : World). w.paper m) (goes.past old.now (le_refl old.now))))
+    (λ e. let at : t ≡ old.now = at_now t old.now from e in subst (λ (n : ℕ). (new.world n).paper m ≡ (old.world old.now).paper m) (sym at) (ap (λ (w : World). w.paper m) (goes.past old.now (le_refl old.now))))
     (λ e. let at : t ≡ new.now = is_next t old.now new.now to time e in subst (λ (n : ℕ). (new.world n).paper m ≡ (old.world old.now).paper m) (sym at) (same m))
   where
-    is_now : (t now : ℕ) → now ≤ t → nat_le t now ≡ true → t ≡ now
-    is_now t now a b = grind (arith, nat_tests)
+    at_now : (t now : ℕ) → now ≤ t → nat_le t now ≡ true → t ≡ now
+    at_now t now a b = grind (arith, nat_tests)
 
     is_next : (t now new : ℕ) → t ≤ new → new ≡ next now → nat_le t now ≡ false → t ≡ new
     is_next t now new a b c = let w : now < t = grind (arith, nat_tests) in omega arith
@@ -202,14 +170,8 @@ module _ (base : Queue) (since : ℕ) (js : List Batch) (c : Option Batch) (prin
     coming_lines = stays_on (IsOnPaper (old.world old.now).paper) (IsOnPaper (new.world new.now).paper) base (counts_of printed) (kept_all js ++ entries_in c) now_same k.coming_lines;
     counted = λ m few is. k.counted m few (up m is) ∙ sym (count_same m);
   } where
-    is_le : (t now : ℕ) → nat_le t now ≡ true → t ≤ now
-    is_le t now e = grind (arith, nat_tests)
-
     is_ge : (t now : ℕ) → nat_le t now ≡ false → now ≤ t
     is_ge t now e = grind (arith, nat_tests)
-
-    is_lt : (t now : ℕ) → nat_le now t ≡ false → t < now
-    is_lt t now e = grind (arith, nat_tests)
 
     now_same : (n : JobNo) (i : OutNo) (line : ℕ) (text : Text) → IsOnPaper (old.world old.now).paper n i line text → IsOnPaper (new.world new.now).paper n i line text
     now_same = on_same (old.world old.now).paper (new.world new.now).paper (same new.now goes.later (le_refl new.now))
@@ -335,12 +297,6 @@ module _ (base : Queue) (since : ℕ) (js : List Batch) (b c : Batch) (printed :
           history_past : t < c.last → kept ((js ++ c ∷ []) ++ []) t ++ flying ((js ++ c ∷ []) ++ []) t ≡ kept (js ++ b ∷ []) t ++ flying (js ++ b ∷ []) t
           history_past lt = rw (fated_kept js b c t begun.0 lt, fated_flying js b c t begun.0 same_first same_entries lt) refl
 
-          is_now : (t now : ℕ) → t ≤ now → nat_le now t ≡ true → t ≡ now
-          is_now t now a b = grind (arith, nat_tests)
-
-          is_lt : (t now : ℕ) → nat_le now t ≡ false → t < now
-          is_lt t now e = grind (arith, nat_tests)
-
           by : (before after : List Entry) → kept_all (js ++ c ∷ []) ≡ before ++ after → kept (js ++ b ∷ []) t ++ flying (js ++ b ∷ []) t ≡ kept_all js ++ b.entries → ((kept_all (c ∷ []) ≡ b.entries) ⊎ (kept_all (c ∷ []) ≡ []))
               → (rest : List Entry) × (kept (js ++ b ∷ []) t ++ flying (js ++ b ∷ []) t ≡ before ++ rest)
           by before after is was (inl e) = (after, was ∙ sym (kept_all_append js (c ∷ []) ∙ ap (λ (l : List Entry). kept_all js ++ l) e) ∙ is)
@@ -365,12 +321,9 @@ counts_set m by es printed own =
     (λ e. let is : by ≡ m = same_member_is by m e in
     subst (λ (x : MemberId). counts_of (printed_after x es printed) m ≡ counts_after es (counts_of printed) m) (sym is) (own_set m))
     (λ e. test_cases (list_any (begins_anew by) es) (counts_of (printed_after by es printed) m ≡ counts_after es (counts_of printed) m)
-    (λ a. let was : counts_of (printed_after by es printed) m ≡ counts_of printed m = rw a (get_or-set_other printed by.0 m.0 0 0 (λ same. apart by.0 m.0 e (sym same))) in was ∙ sym (others e))
+    (λ a. let was : counts_of (printed_after by es printed) m ≡ counts_of printed m = rw a (get_or-set_other printed by.0 m.0 0 0 (λ same. apart_is by.0 m.0 e (sym same))) in was ∙ sym (others e))
     (λ a. let was : counts_of (printed_after by es printed) m ≡ counts_of printed m = rw a refl in was ∙ sym (others e)))
   where
-    apart : (a b : ℕ) → (a == b) ≡ false → a ≡ b → ⊥
-    apart a b e same = grind (arith, nat_tests)
-
     own_set : (m : MemberId) → counts_of (printed_after m es printed) m ≡ counts_after es (counts_of printed) m
     own_set m = test_cases (list_any (begins_anew m) es) (counts_of (printed_after m es printed) m ≡ counts_after es (counts_of printed) m)
         (λ a. rw a (zero_at printed m.0))
@@ -430,12 +383,6 @@ module _ (base : Queue) (since : ℕ) (js : List Batch) (b : Batch) (printed : L
 
     le_first : b.first ≤ v.now
     le_first = rw first (le_refl v.now)
-
-    is_now : (t now : ℕ) → t ≤ now → nat_le now t ≡ true → t ≡ now
-    is_now t now a b = grind (arith, nat_tests)
-
-    is_lt : (t now : ℕ) → nat_le now t ≡ false → t < now
-    is_lt t now e = grind (arith, nat_tests)
 
     zero_first : (n : ℕ) → 0 ≤ n
     zero_first n = omega arith

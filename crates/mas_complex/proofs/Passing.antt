@@ -1,13 +1,6 @@
 -- What is used of the plant after a call: worlds that are past stay, no member is stopped less often, and a volume that
 -- was lost still is.
-use Rattle.std.proofs.Common.{◌≡◌, ◌≢◌, ℕ, ◌≤◌, Bool, true, ◌∙◌}
-use Rattle.mas_types.specs.declared.ids.Dev.{Dev}
-use Rattle.mas_types.specs.declared.ids.Dev.TheVariants.{Ckpt1, Ckpt2, Spool}
-use Rattle.spool_plant.specs.declared.plant.Part.TheVariants.{Disk as DiskPart}
-use Rattle.spool_plant.specs.View.{View}
-use Rattle.spool_plant.specs.Acts.{Goes}
-use Rattle.duplex_pair.specs.Halves.{IsCkpt}
-use Rattle.pair_replacing.specs.Replacing.{Replaces}
+use Rattle.mas_complex.proofs.Names.{◌≡◌, ◌≢◌, ℕ, ◌≤◌, Bool, true, ◌∙◌, Dev, Ckpt1, Ckpt2, Spool, Disk as DiskPart, View, Goes, IsCkpt, Replaces}
 
 pub record Passes (old new : View) : Type 0 where
   pub later : old.now ≤ new.now
@@ -27,6 +20,5 @@ replaces_passes by dev stopped old new ckpt replaces = record {
   volumes = λ n lost. replaces.else_lost (DiskPart (Spool n)) (other dev ckpt n) ∙ lost;
 } where
   other : (d : Dev) → IsCkpt d → (n : ℕ) → DiskPart (Spool n) ≢ DiskPart d
-  other Ckpt1 ckpt n e = absurd (cc)
-  other Ckpt2 ckpt n e = absurd (cc)
   other (Spool k) ckpt n e = absurd ckpt
+  other _ ckpt n e = absurd (cc)

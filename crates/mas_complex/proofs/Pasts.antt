@@ -1,34 +1,7 @@
 -- Later pages, over several batches, and what calls leave of those that members noted.
-use Rattle.std.proofs.Common.{◌≡◌, ◌≢◌, inl, inr, ⊎_elim, ◌⊎◌, ℕ, zero, suc, ◌+◌, ◌≤◌, ◌<◌, Bool, true, false, List, [], ◌∷◌, length, get_or, slice_set, Option, Some, Result, Ok, Err, OnOk, IsErrOf, refl, sym, ◌∙◌, ap, subst, arith, le_refl, le_trans}
-use Rattle.std.proofs.lemmas.Option.{slice_get_within, slice_get-get_or, get_or_from_slice_get}
-use Rattle.std.proofs.lemmas.List.{get_or-set_same, get_or-set_other, get_or-replicate, length-set, length-replicate}
-use Rattle.std.proofs.lemmas.Bool.{cases_lt}
-use Rattle.mas_types.specs.declared.ids.Dev.{Dev}
-use Rattle.mas_types.specs.declared.ids.Dev.TheVariants.{Ckpt1, Ckpt2, Spool}
-use Rattle.mas_types.specs.declared.ids.Page.{Page}
-use Rattle.mas_types.specs.Limits.{members_most}
-use Rattle.spool_plant.specs.declared.plant.Part.{Part}
-use Rattle.spool_plant.specs.declared.plant.Part.TheVariants.{Disk as DiskPart}
-use Rattle.spool_plant.specs.View.{View, Disk, IsImage, disk_now}
-use Rattle.spool_plant.specs.Acts.{Goes}
-use Rattle.ckpt_copy.specs.Pages.{bytes_of, level, page_in}
-use Rattle.ckpt_copy.specs.Meanwhile.{Meanwhile}
-use Rattle.duplex_pair.specs.Both.{Touched}
-use Rattle.duplex_pair.specs.Halves.{IsCkpt, pick, other}
-use Rattle.duplex_pair.specs.declared.errors.Look.{Look}
-use Rattle.duplex_pair.specs.declared.errors.Look.TheVariants.{Lost, Unread, Pages}
-use Rattle.duplex_pair.specs.declared.errors.LookNo.{LookNo}
-use Rattle.duplex_pair.specs.declared.errors.PairNo.{PairNo}
-use Rattle.duplex_pair.specs.declared.errors.PairNo.TheVariants.{BothLost, Halted}
-use Rattle.ckpt_places.specs.declared.places.Place.{Place}
-use Rattle.ckpt_places.specs.declared.places.Place.TheVariants.{Before, Put, Opened, Unsure}
-use Rattle.mas_complex.specs.Crash.{OnComing}
-use Rattle.mas_complex.specs.Places.{IsPlaceAfter}
-use Rattle.mas_complex.specs.Seen.{IsPlaceSeen}
+use Rattle.mas_complex.proofs.Names.{◌≡◌, ◌≢◌, inl, inr, ⊎_elim, ◌⊎◌, ℕ, zero, suc, ◌+◌, ◌≤◌, ◌<◌, Bool, true, false, List, [], ◌∷◌, length, get_or, slice_set, Option, Some, Result, Ok, Err, OnOk, IsErrOf, refl, sym, ◌∙◌, ap, subst, arith, le_refl, le_trans, slice_get_within, slice_get-get_or, get_or_from_slice_get, get_or-set_same, get_or-set_other, get_or-replicate, length-set, length-replicate, cases_lt, Dev, Ckpt1, Ckpt2, Spool, Page, members_most, Part, Disk as DiskPart, View, ViewDisk as Disk, IsImage, disk_now, Goes, bytes_of, level, page_in, IsCkpt, pick, other, Look, Pages, LookNo, PairNo, BothLost, Halted, Place, Before, Put, Opened, Unsure, OnComing, IsPlaceAfter, IsPlaceSeen, age, nobody_noted, sight_of, AreLater, HasNoted, HasPast, HavePasts, IsLater, IsLeftOrNew, IsNextOf, Sight, values_of}
 use Rattle.mas_complex.specs.declared.noting.Note.{Note}
-use Rattle.mas_complex.specs.Past.{age, nobody_noted, sight_of, AreLater, HasNoted, HasPast, HavePasts, IsLater, IsLeftOrNew, IsNextOf, Sight, values_of}
-use Rattle.mas_complex.proofs.Sides.{no}
-use Rattle.mas_complex.proofs.Renewing.{beside}
+use Rattle.mas_complex.proofs.Basics.{no, some_is}
 
 -- pages are later than themselves
 pub later_self : (count : ℕ) (was : List ℕ) → IsLater count was was
@@ -55,9 +28,6 @@ later_later count a b c ab bc = record {
       let first = ab.each q some few (subst (λ n. n ≤ level a) last.1 low) in
       (last.0 ∙ first.0, last.1 ∙ first.1);
 }
-
-some_same : (x y : List ℕ) → Some x ≡ Some y → x ≡ y
-some_same x y e = cc
 
 before_put : (p : Place) → p ≡ Before → p ≡ Put → ⊥
 before_put p a b = cc
@@ -164,7 +134,7 @@ module _ (count : ℕ) (had : List (List Page)) where
   -- one that reads these pages, with nothing behind its gate
   past_reads : (y : Sight) (pages : List ℕ) → AreLater count had pages → (y.place ≡ Put → ⊥) → ((y.place ≡ Unsure → y.lost ≡ false) → y.read ≡ Some pages) → HasPast count had y
   past_reads y pages later not_put read = record {
-    reads = λ is sure l reads. same_later pages l (some_same pages l (sym (read sure) ∙ reads)) later;
+    reads = λ is sure l reads. same_later pages l (some_is pages l (sym (read sure) ∙ reads)) later;
     waits = λ is put. absurd (not_put put);
   }
 
@@ -179,7 +149,7 @@ module _ (count : ℕ) (had : List (List Page)) where
   pub past_put : (x y : Sight) (was pages : List ℕ) {T : Type 0} (done : Result T PairNo) → HasPast count had x → x.alive ≡ true → x.place ≡ Before → x.read ≡ Some was → AreLater count had pages
       → IsPlaceAfter done Put y.place → (IsErrOf done BothLost → y.alive ≡ false) → (y.lost ≡ false → y.read ≡ Some was) → OnOk done (y.alive ≡ true → (y.read ≡ Some was) × (y.waits ≡ pages)) → HasPast count had y
   past_put x y was pages (Ok t) p is before read later after both halted held = record {
-    reads = λ now sure l reads. same_later was l (some_same was l (sym (held now).0 ∙ reads)) (before_later x was p is before read);
+    reads = λ now sure l reads. same_later was l (some_is was l (sym (held now).0 ∙ reads)) (before_later x was p is before read);
     waits = λ now put. same_later pages y.waits (sym (held now).1) later;
   }
   past_put x y was pages (Err BothLost) p is before read later after both halted held = past_dead y (both refl)
@@ -198,12 +168,12 @@ module _ (count : ℕ) (had : List (List Page)) where
 
     by_done : (done : Result T PairNo) → IsPlaceAfter done Opened y.place → (IsErrOf done BothLost → y.alive ≡ false) → OnOk done (y.alive ≡ true → y.read ≡ Some next) → HasPast count had y
     by_done (Ok t) after both opened = record {
-      reads = λ now sure l reads. same_later next l (some_same next l (sym (opened now) ∙ reads)) later;
+      reads = λ now sure l reads. same_later next l (some_is next l (sym (opened now) ∙ reads)) later;
       waits = λ now put. absurd (opened_put y.place after put);
     }
     by_done (Err BothLost) after both opened = past_dead y (both refl)
     by_done (Err Halted) after both opened = record {
-      reads = λ now sure l reads. ⊎_elim (λ e. same_later was l (some_same was l (sym e ∙ reads)) old) (λ e. same_later next l (some_same next l (sym e ∙ reads)) later) (halted (sure after));
+      reads = λ now sure l reads. ⊎_elim (λ e. same_later was l (some_is was l (sym e ∙ reads)) old) (λ e. same_later next l (some_is next l (sym e ∙ reads)) later) (halted (sure after));
       waits = λ now put. absurd (put_unsure y.place put after);
     }
 
@@ -211,7 +181,7 @@ module _ (count : ℕ) (had : List (List Page)) where
   pub past_settled : (y : Sight) (pages : List ℕ) {T : Type 0} (done : Result T PairNo) → AreLater count had pages
       → IsPlaceAfter done Before y.place → (IsErrOf done BothLost → y.alive ≡ false) → (y.lost ≡ false → y.read ≡ Some pages) → OnOk done (y.alive ≡ true → y.read ≡ Some pages) → HasPast count had y
   past_settled y pages (Ok t) later after both halted settled = record {
-    reads = λ now sure l reads. same_later pages l (some_same pages l (sym (settled now) ∙ reads)) later;
+    reads = λ now sure l reads. same_later pages l (some_is pages l (sym (settled now) ∙ reads)) later;
     waits = λ now put. absurd (before_put y.place after put);
   }
   past_settled y pages (Err BothLost) later after both halted settled = past_dead y (both refl)
@@ -225,16 +195,14 @@ module _ (count : ℕ) (had : List (List Page)) where
     waits = λ is put. absurd (not_put done seen put);
   } where
     not_lost : (r : Result Look LookNo) → ((pages : List Page) → r ≡ Ok (Pages pages) → y.lost ≡ false) → IsPlaceSeen r reached y.place → (y.place ≡ Unsure → y.lost ≡ false) → y.lost ≡ false
-    not_lost (Ok Lost) there seen sure = sure seen
-    not_lost (Ok Unread) there seen sure = sure seen
     not_lost (Ok (Pages pages)) there seen sure = there pages refl
     not_lost (Err e) there seen sure = sure seen
+    not_lost _ there seen sure = sure seen
 
     not_put : (r : Result Look LookNo) → IsPlaceSeen r reached y.place → y.place ≡ Put → ⊥
-    not_put (Ok Lost) seen put = put_unsure y.place put seen
-    not_put (Ok Unread) seen put = put_unsure y.place put seen
     not_put (Ok (Pages pages)) seen put = ⊎_elim (λ b. before_put y.place b.0 put) (λ o. opened_put y.place o.0 put) seen
     not_put (Err e) seen put = put_unsure y.place put seen
+    not_put _ seen put = put_unsure y.place put seen
 
   -- a new one has these pages
   pub past_formed : (y : Sight) (pages : List ℕ) → AreLater count had pages → y.place ≡ Before → y.read ≡ Some pages → HasPast count had y
@@ -245,7 +213,7 @@ module _ (count : ℕ) (had : List (List Page)) where
   past_noted by pages x before read p = record {
     reads = λ is sure l reads m page rest noted.
         ⊎_elim (λ e. subst (λ (k : List Page). IsLater count (bytes_of k) l) (sym e)
-        (subst (λ (k : List ℕ). IsLater count (bytes_of pages) k) (some_same (bytes_of pages) l (sym (read is) ∙ reads)) (later_self count (bytes_of pages))))
+        (subst (λ (k : List ℕ). IsLater count (bytes_of pages) k) (some_is (bytes_of pages) l (sym (read is) ∙ reads)) (later_self count (bytes_of pages))))
         (λ old. p.reads is sure l reads m page rest old)
         (noted_or had by m pages (page ∷ rest) noted);
     waits = λ is put. absurd (before_put x.place (before is) put);
@@ -263,26 +231,17 @@ not_lost old new goes p is = by_lost (old.lost p) refl where
   by_lost true e = absurd (no (new.lost p) (goes.lost p e) is)
   by_lost false e = e
 
-pub touched_is : (b : Bool) (P : Disk → Type 0) (was d : Disk) → b ≡ true → Touched b P was d → P d
-touched_is b P was d is t = subst (λ (x : Bool). Touched x P was d) is t
-
 pub coming_some : {R : Type 0} (n : Option (List ℕ)) (Q : List ℕ → Type 0) → OnComing n Q → ((pages : List ℕ) → Q pages → R) → R
 coming_some (Some pages) Q here so = so pages here
 coming_some _ Q here so = absurd here
 
--- the other device stays
-pub beside_bytes : (dev : Dev) → IsCkpt dev → (P : Disk → Type 0) (old new : View) → Meanwhile dev P old new → (disk_now new (other dev Ckpt1 Ckpt2)).bytes ≡ (disk_now old (other dev Ckpt1 Ckpt2)).bytes
-beside_bytes dev ckpt P old new m = ap (λ (x : Disk). x.bytes) (m.others new.now m.goes.later (omega arith) (other dev Ckpt1 Ckpt2) (beside dev ckpt))
-
 pub part_beside : (dev : Dev) → IsCkpt dev → DiskPart (other dev Ckpt1 Ckpt2) ≢ DiskPart dev
-part_beside Ckpt1 ckpt e = absurd (cc)
-part_beside Ckpt2 ckpt e = absurd (cc)
 part_beside (Spool n) ckpt e = absurd ckpt
+part_beside _ ckpt e = absurd (cc)
 
 pub alive_picked : {H : Type 0} (alive : H → Bool) (dev : Dev) (k1 k2 h1 h2 : H) → alive k1 ≡ alive h1 → alive k2 ≡ alive h2 → alive (pick dev k1 k2) ≡ alive (pick dev h1 h2)
-alive_picked alive Ckpt1 k1 k2 h1 h2 one two = one
 alive_picked alive Ckpt2 k1 k2 h1 h2 one two = two
-alive_picked alive (Spool n) k1 k2 h1 h2 one two = one
+alive_picked alive _ k1 k2 h1 h2 one two = one
 
 module _ {H : Type 0} (alive : H → Bool) (reads : List ℕ → Option (List ℕ)) (behind : H → List ℕ → List ℕ) where
   -- what is seen of a half of the pair

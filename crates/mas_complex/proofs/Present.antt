@@ -1,20 +1,7 @@
 -- The present: what both copies read gives what a start finds.
-use Rattle.std.proofs.Common.{◌≡◌, ◌⊎◌, inl, inr, ⊎_elim, ℕ, ◌+◌, ◌≤◌, ◌<◌, ◌==◌, ◌&&◌, ◌||◌, nat_lt, Bool, true, false, if◌then◌else◌, List, [], ◌++◌, Option, Some, None, refl, subst, sym, ◌∙◌, ap, arith, le_refl}
-use Rattle.std.specs.Prelude.{not}
-use Rattle.std.proofs.lemmas.Bool.{and_from, eq-eqb, true≢false}
-use Rattle.std.proofs.lemmas.Bool.Decides.{nat_tests}
-use Rattle.mas_types.specs.declared.ids.Dev.{Dev}
-use Rattle.spool_plant.specs.declared.plant.Part.TheVariants.{Disk as DiskPart}
-use Rattle.spool_plant.specs.View.{View, Disk, IsImage, disk_now}
-use Rattle.spool_plant.specs.Acts.{top}
-use Rattle.ckpt_copy.specs.Reading.{AllRead, EachReads}
-use Rattle.ckpt_copy.specs.Pages.{level}
-use Rattle.mas_types.specs.declared.journals.Entry.{Entry}
-use Rattle.ckpt_places.specs.declared.places.Place.{Place}
-use Rattle.ckpt_places.specs.declared.places.Place.TheVariants.{Before, Put, Opened, Unsure}
+use Rattle.mas_complex.proofs.Names.{◌≡◌, ◌⊎◌, inl, inr, ⊎_elim, ℕ, ◌+◌, ◌≤◌, ◌<◌, ◌==◌, ◌&&◌, ◌||◌, nat_lt, Bool, true, false, if◌then◌else◌, List, [], ◌++◌, Option, Some, None, refl, subst, sym, ◌∙◌, ap, arith, le_refl, not, and_from, eq-eqb, true≢false, nat_tests, Dev, Disk as DiskPart, View, ViewDisk as Disk, IsImage, disk_now, top, AllRead, EachReads, level, Entry, Place, Before, Put, Opened, Unsure, is_renewed_at, Setting, IsLeft, SomeGood, found, IsFound, Stands, IsNext, IsOneOf, IsStale, ReadsOne, ReadsBy, Alike, OnComing, IsAt, IsAway, OneCopy, lost_if, left_at}
 use Rattle.duplex_pair.specs.Finds.{best}
-use Rattle.mas_complex.specs.Renewals.{is_renewed_at}
-use Rattle.mas_complex.specs.Crash.{Setting, IsLeft, SomeGood, found, IsFound, Stands, IsNext, IsOneOf, IsStale, ReadsOne, ReadsBy, Alike, OnComing, IsAt, IsAway, OneCopy, lost_if, left_at}
+use Rattle.mas_complex.proofs.Basics.{no}
 
 -- of two copies one is good: it isn't lost, and isn't being replaced
 second_good : (m p : Bool) → (not m && not p) ≡ true → (m ≡ false) × (p ≡ false)
@@ -137,9 +124,7 @@ module _ (S : Setting) (was : List ℕ) where
       (each image is)
 
   pub lost_reads : (coming : Option (List ℕ)) (d : Disk) → d.lost ≡ true → ReadsOne S was coming d
-  lost_reads coming d lost image is = absurd (clash d.lost lost is.there) where
-    clash : (b : Bool) → b ≡ true → b ≡ false → ⊥
-    clash b p q = cc
+  lost_reads coming d lost image is = absurd (no d.lost lost is.there)
 
   -- of a lost device anything is said
   pub lost_by : (renewed : Bool) (coming : Option (List ℕ)) (d : Disk) → d.lost ≡ true → ReadsBy S renewed was coming d

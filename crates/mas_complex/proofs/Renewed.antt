@@ -1,10 +1,5 @@
 -- When a copy is being replaced.
-use Rattle.std.proofs.Common.{◌≡◌, ℕ, ◌+◌, ◌≤◌, ◌<◌, ◌&&◌, ◌||◌, Bool, List, [], ◌∷◌, ◌++◌, length, get_or, set, map, take, drop, Option, Some, None, Result, Ok, Err, OnOk, OnErr, refl, sym, ◌∙◌, ap, subst, arith, add-one, append_assoc, drop-cons}
-use Rattle.std.proofs.lemmas.List.{take_more_set, drop-set-lt}
-use Rattle.std.specs.Prelude.{is_none, not}
-use Rattle.std.proofs.lemmas.Bool.{le-leb}
-use Rattle.mas_complex.specs.declared.renewals.Renewal.{Renewal}
-use Rattle.mas_complex.specs.Renewals.{has_ended, is_renewed_at, is_open, HasEndedBy, AreRenewedBy}
+use Rattle.mas_complex.proofs.Names.{◌≡◌, ℕ, ◌+◌, ◌≤◌, ◌<◌, ◌&&◌, ◌||◌, Bool, List, [], ◌∷◌, ◌++◌, length, get_or, set, map, take, drop, Option, Some, None, Result, Ok, Err, OnOk, OnErr, refl, sym, ◌∙◌, ap, subst, arith, add-one, append_assoc, drop-cons, take_more_set, drop-set-lt, is_none, not, le-leb, Renewal, has_ended, is_renewed_at, is_open, HasEndedBy, AreRenewedBy}
 
 -- from now on a renewal that has ended stays so
 ended_now : (until : Option ℕ) (now t : ℕ) → HasEndedBy until now → now ≤ t → not (has_ended until t) ≡ is_none until

@@ -1,41 +1,17 @@
 -- A copy is replaced: the moments at which it isn't good for that, and what the shared value keeps through it.
-use Rattle.std.proofs.Common.{◌≡◌, ◌⊎◌, inl, ⊎_elim, ℕ, ◌+◌, ◌≤◌, ◌<◌, ◌&&◌, ◌||◌, ◌≢◌, nat_le, nat_lt, if◌then◌else◌, Bool, true, false, List, [], ◌∷◌, ◌++◌, length, map, Option, Some, None, Result, Ok, Err, OnOk, OnErr, IsErrOf, refl, sym, ◌∙◌, ap, subst, arith, le_refl}
-use Rattle.std.specs.Prelude.{is_none, not}
-use Rattle.std.proofs.lemmas.Bool.{true≢false}
-use Rattle.std.proofs.lemmas.Bool.Decides.{nat_tests}
-use Rattle.mas_types.specs.declared.ids.Dev.{Dev}
-use Rattle.mas_types.specs.declared.ids.Dev.TheVariants.{Ckpt1, Ckpt2, Spool}
-use Rattle.mas_types.specs.declared.journals.Batch.{Batch}
-use Rattle.mas_types.specs.declared.journals.Entry.{Entry}
-use Rattle.spool_plant.specs.View.{View, Disk, Avoids, IsImage, disk_at, disk_now, slice}
-use Rattle.spool_plant.specs.Acts.{top}
-use Rattle.ckpt_copy.specs.Moments.{either_way}
-use Rattle.ckpt_copy.specs.Reading.{AllRead}
-use Rattle.spool_plant.specs.declared.plant.Part.{Part}
-use Rattle.spool_plant.specs.declared.plant.Part.TheVariants.{Disk as DiskPart}
-use Rattle.duplex_pair.specs.Halves.{IsCkpt, IsBothLost, SameOrLost, pick, other}
+use Rattle.mas_complex.proofs.Names.{◌≡◌, ◌⊎◌, inl, ⊎_elim, ℕ, ◌+◌, ◌≤◌, ◌<◌, ◌&&◌, ◌||◌, ◌≢◌, nat_le, nat_lt, if◌then◌else◌, Bool, true, false, List, [], ◌∷◌, ◌++◌, length, map, Option, Some, None, Result, Ok, Err, OnOk, OnErr, IsErrOf, refl, sym, ◌∙◌, ap, subst, arith, le_refl, is_none, not, true≢false, nat_tests, Dev, Ckpt1, Ckpt2, Spool, Batch, Entry, View, ViewDisk as Disk, Avoids, IsImage, disk_at, disk_now, slice, top, either_way, AllRead, Part, Disk as DiskPart, IsCkpt, IsBothLost, SameOrLost, pick, other, Replaces, WhileReplaced, IsOrForms, replace_stopped, Elsewhere, Parts, replaced_in, with_half, Renewal, Renewals, has_ended, is_renewed_at, is_open, of_device, HasEndedBy, AreRenewedBy, or_at, ended_at, ended_on, begun_on, with_device, kept, flying, kept_all, in_flight, entries_in, Place, Before, Setting, Stands, IsNext, IsStale, ReadsStale, ReadsBy, Alike, CrashAt, IsAt, IsAway, OneCopy, Copy, CopyAt, Keeps, PlantGhosts, Ghosts as CopyGhosts, SteadyGhosts, Half, Complex}
 use Rattle.pair_replacing.specs.declared.replacing.ReplaceNo.{ReplaceNo}
 use Rattle.pair_replacing.specs.declared.replacing.ReplaceNo.TheVariants.{NotLost, BothLost, Failed, Halted, NoMemory}
-use Rattle.pair_replacing.specs.Replacing.{Replaces, WhileReplaced, IsOrForms, replace_stopped}
-use Rattle.mas_complex.specs.Elsewhere.{Elsewhere}
-use Rattle.mas_complex.specs.Parts.{Parts, replaced_in, with_half}
-use Rattle.mas_complex.specs.declared.renewals.Renewal.{Renewal}
-use Rattle.mas_complex.specs.declared.renewals.Renewals.{Renewals}
-use Rattle.mas_complex.specs.Renewals.{has_ended, is_renewed_at, is_open, of_device, HasEndedBy, AreRenewedBy, or_at, ended_at, ended_on, begun_on, with_device}
-use Rattle.mas_complex.specs.Journals.{kept, flying, kept_all, in_flight, entries_in}
-use Rattle.ckpt_places.specs.declared.places.Place.{Place}
-use Rattle.ckpt_places.specs.declared.places.Place.TheVariants.{Before}
-use Rattle.mas_complex.specs.Crash.{Setting, Stands, IsNext, IsStale, ReadsStale, ReadsBy, Alike, CrashAt, IsAt, IsAway, OneCopy, Copy, CopyAt, Keeps}
+use Rattle.mas_complex.proofs.Basics.{no, some_is}
 use Rattle.mas_complex.proofs.Apart.{wires_none, wires_of}
 use Rattle.mas_complex.proofs.Batches.{now_kept, now_flying}
 use Rattle.mas_complex.proofs.Renewed.{renewed_open}
 use Rattle.mas_complex.proofs.Passing.{Passes}
 use Rattle.mas_complex.proofs.Present.{alike_as, all_read, not_renewed, copy_reads}
 use Rattle.mas_complex.proofs.Rising.{one_up}
-use Rattle.mas_complex.proofs.Texting.{stays_same}
-use Rattle.mas_complex.proofs.Moves.{acts_keep}
-use Rattle.mas_complex.proofs.Sides.{calm, moved, no, rests_before}
-use Rattle.mas_complex.proofs.OnDevice.{BothSunk, side, at_copy, at_other}
+use Rattle.mas_complex.proofs.Sides.{rests_before}
+use Rattle.mas_complex.proofs.Values.{KeepsAt, Laws, first_of, second_of, setting_of}
+use Rattle.mas_complex.proofs.OnDevice.{BothSunk, side, at_copy, at_other, acts_on}
 
 -- WHEN A COPY IS BEING REPLACED
 
@@ -225,38 +201,6 @@ module _ (S : Setting) (js : List Batch) (c : Option Batch) (reached : ℕ) (fir
       gone = λ is. away (is_open (of_device dev S.renewals)) refl;
     }
 
-  pub replaces_first : (old.now < top → is_open S.renewals.first ≡ true) → (is_open S.renewals.first ≡ true → (d : Disk) → P d → ReadsStale S keeps.was d) → WhileReplaced Ckpt1 P old new
-      → ((pages : List ℕ) (d : Disk) → second.rests pages d → AllRead S.reads pages d) → ((was next : List ℕ) (d : Disk) → second.holds was next d → AllRead S.reads was d)
-      → Keeps S js c reached gone second new
-  replaces_first began stale m rests_reads holds_reads =
-      acts_keep S js c reached first second gone second old new keeps passes keeps.coming keeps.comes keeps.none keeps.comes_near
-      (λ t lt le below. (
-        stale_at Ckpt1 began stale m t lt le below,
-        subst (λ (d : Disk). ReadsBy S (is_open S.renewals.second) keeps.was keeps.coming d) (sym (m.others t (omega arith) le Ckpt2 (λ e. absurd (cc))))
-            (copy_reads S keeps.was second.rests second.holds rests_reads holds_reads keeps.coming second.place second.alive old.now (disk_now old Ckpt2) (omega arith) keeps.second_at),
-      ))
-      (calm S (js ++ in_flight c) old new m.console passes.later)
-      (stays_same S (kept_all js) (entries_in c) old new (λ t lt le n. m.others t (omega arith) le (Spool n) (λ e. absurd (cc))))
-      (replaced_at Ckpt1 began stale m)
-      (moved S second.rests second.holds keeps.was keeps.coming second.place second.alive old.now new.now (disk_now old Ckpt2) (disk_now new Ckpt2) passes.later
-      (m.others new.now passes.later (le_refl new.now) Ckpt2 (λ e. absurd (cc))) keeps.second_at)
-
-  pub replaces_second : (old.now < top → is_open S.renewals.second ≡ true) → (is_open S.renewals.second ≡ true → (d : Disk) → P d → ReadsStale S keeps.was d) → WhileReplaced Ckpt2 P old new
-      → ((pages : List ℕ) (d : Disk) → first.rests pages d → AllRead S.reads pages d) → ((was next : List ℕ) (d : Disk) → first.holds was next d → AllRead S.reads was d)
-      → Keeps S js c reached first gone new
-  replaces_second began stale m rests_reads holds_reads =
-      acts_keep S js c reached first second first gone old new keeps passes keeps.coming keeps.comes keeps.none keeps.comes_near
-      (λ t lt le below. (
-        subst (λ (d : Disk). ReadsBy S (is_open S.renewals.first) keeps.was keeps.coming d) (sym (m.others t (omega arith) le Ckpt1 (λ e. absurd (cc))))
-            (copy_reads S keeps.was first.rests first.holds rests_reads holds_reads keeps.coming first.place first.alive old.now (disk_now old Ckpt1) (omega arith) keeps.first_at),
-        stale_at Ckpt2 began stale m t lt le below,
-      ))
-      (calm S (js ++ in_flight c) old new m.console passes.later)
-      (stays_same S (kept_all js) (entries_in c) old new (λ t lt le n. m.others t (omega arith) le (Spool n) (λ e. absurd (cc))))
-      (moved S first.rests first.holds keeps.was keeps.coming first.place first.alive old.now new.now (disk_now old Ckpt1) (disk_now new Ckpt1) passes.later
-      (m.others new.now passes.later (le_refl new.now) Ckpt1 (λ e. absurd (cc))) keeps.first_at)
-      (replaced_at Ckpt2 began stale m)
-
 -- HALVES OF A PAIR
 
 -- a copy that counts as lost leaves no image, or stale ones
@@ -272,113 +216,133 @@ copy_with S rs was coming rests holds place alive renewed now d x = record { at 
   by_case false a = a
   by_case true a = a
 
-some_is : (x y : List ℕ) → Some x ≡ Some y → x ≡ y
-some_is x y e = cc
+module _ {P C : Type 0} {plants : PlantGhosts P} {steadies : SteadyGhosts C} {copies : CopyGhosts C} (laws : Laws plants steadies copies) (s : Complex P C plants steadies copies) where
+  abbrev H : Type 0
+  H = Half C
 
-module _ {H : Type 0} (rests : H → List ℕ → Disk → Type 0) (holds : H → List ℕ → List ℕ → Disk → Type 0) (alive : H → Bool) (S : Setting) (js : List Batch) (c : Option Batch) (reached : ℕ) (h1 h2 : H) (p1 p2 : Place)
-    (rests_reads : (h : H) (pages : List ℕ) (d : Disk) → rests h pages d → AllRead S.reads pages d) (holds_reads : (h : H) (was next : List ℕ) (d : Disk) → holds h was next d → AllRead S.reads was d) where
+  abbrev rests : H → List ℕ → Disk → Type 0
+  rests h = copies.rests h.copy
+
+  abbrev holds : H → List ℕ → List ℕ → Disk → Type 0
+  holds h = copies.holds h.copy
+
+  abbrev alive : H → Bool
+  alive h = h.alive
+
+  abbrev S : Setting
+  S = setting_of s
+
+  rests_reads : (h : H) (pages : List ℕ) (d : Disk) → rests h pages d → AllRead S.reads pages d
+  rests_reads h pages d r = laws.rests_reads h.copy pages d r
+
+  holds_reads : (h : H) (was next : List ℕ) (d : Disk) → holds h was next d → AllRead S.reads was d
+  holds_reads h was next d r = laws.holds_reads h.copy was next d r
+
+  rests_now : (h : H) (pages : List ℕ) (d : Disk) → rests h pages d → S.reads d.bytes ≡ Some pages
+  rests_now h pages d r = laws.rests_now h.copy pages d r
+
   -- the pages that the other copy reads are the kept ones
-  pub same_was : (dev : Dev) → IsCkpt dev → (v : View) (keeps : Keeps S js c reached (side rests holds alive h1 p1) (side rests holds alive h2 p2) v) → ((h : H) (pages : List ℕ) (d : Disk) → rests h pages d → S.reads d.bytes ≡ Some pages)
-      → alive (other dev h1 h2) ≡ true → other dev p1 p2 ≡ Before → (pages : List ℕ) → S.reads (disk_now v (other dev Ckpt1 Ckpt2)).bytes ≡ Some pages → pages ≡ keeps.was
-  same_was dev ckpt v keeps rests_now beside before pages reads =
-      let there = at_other rests holds alive S keeps.was keeps.coming dev ckpt h1 h2 p1 p2 v keeps.first_at keeps.second_at in
-      let rest : rests (other dev h1 h2) keeps.was (disk_now v (other dev Ckpt1 Ckpt2))
-      = rests_before S (rests (other dev h1 h2)) (holds (other dev h1 h2)) keeps.was keeps.coming (other dev p1 p2) (alive (other dev h1 h2)) v.now (disk_now v (other dev Ckpt1 Ckpt2)) there (λ _. before) beside in
-      some_is pages keeps.was (sym reads ∙ rests_now (other dev h1 h2) keeps.was (disk_now v (other dev Ckpt1 Ckpt2)) rest)
+  pub same_was : (dev : Dev) → IsCkpt dev → (v : View) (keeps : KeepsAt s v)
+      → alive (other dev s.pair.first s.pair.second) ≡ true → other dev s.first s.second ≡ Before → (pages : List ℕ) → S.reads (disk_now v (other dev Ckpt1 Ckpt2)).bytes ≡ Some pages → pages ≡ keeps.was
+  same_was dev ckpt v keeps beside before pages reads =
+      let there = at_other rests holds alive S keeps.was keeps.coming dev ckpt s.pair.first s.pair.second s.first s.second v keeps.first_at keeps.second_at in
+      let rest : rests (other dev s.pair.first s.pair.second) keeps.was (disk_now v (other dev Ckpt1 Ckpt2))
+      = rests_before S (rests (other dev s.pair.first s.pair.second)) (holds (other dev s.pair.first s.pair.second)) keeps.was keeps.coming (other dev s.first s.second) (alive (other dev s.pair.first s.pair.second)) v.now (disk_now v (other dev Ckpt1 Ckpt2)) there (λ _. before) beside in
+      some_is pages keeps.was (sym reads ∙ rests_now (other dev s.pair.first s.pair.second) keeps.was (disk_now v (other dev Ckpt1 Ckpt2)) rest)
+
+  -- the moments of the copy on one device change, and with them that copy
+  module _ (v : View) (keeps : KeepsAt s v) (list : List Renewal) (by : AreRenewedBy list v.now) (k1 k2 : H) (q1 q2 : Place) where
+    abbrev rs : Dev → Renewals
+    rs dev = with_device dev list S.renewals
+
+    near_with : (dev : Dev) → IsCkpt dev → other dev k1 k2 ≡ other dev s.pair.first s.pair.second → other dev q1 q2 ≡ other dev s.first s.second
+        → OneCopy (with_renewals S (rs dev)) (rests (other dev k1 k2)) (holds (other dev k1 k2)) keeps.was keeps.coming (other dev q1 q2) (alive (other dev k1 k2)) (is_open (of_device (other dev Ckpt1 Ckpt2) S.renewals)) v.now (disk_now v (other dev Ckpt1 Ckpt2))
+    near_with dev ckpt same at =
+        subst (λ (h : H). OneCopy (with_renewals S (rs dev)) (rests h) (holds h) keeps.was keeps.coming (other dev q1 q2) (alive h) (is_open (of_device (other dev Ckpt1 Ckpt2) S.renewals)) v.now (disk_now v (other dev Ckpt1 Ckpt2))) (sym same)
+        (subst (λ (p : Place). OneCopy (with_renewals S (rs dev)) (rests (other dev s.pair.first s.pair.second)) (holds (other dev s.pair.first s.pair.second)) keeps.was keeps.coming p (alive (other dev s.pair.first s.pair.second)) (is_open (of_device (other dev Ckpt1 Ckpt2) S.renewals)) v.now (disk_now v (other dev Ckpt1 Ckpt2))) (sym at)
+        (copy_with S (rs dev) keeps.was keeps.coming (rests (other dev s.pair.first s.pair.second)) (holds (other dev s.pair.first s.pair.second)) (other dev s.first s.second) (alive (other dev s.pair.first s.pair.second)) (is_open (of_device (other dev Ckpt1 Ckpt2) S.renewals)) v.now (disk_now v (other dev Ckpt1 Ckpt2))
+        (at_other rests holds alive S keeps.was keeps.coming dev ckpt s.pair.first s.pair.second s.first s.second v keeps.first_at keeps.second_at)))
+
+    near_reads : (dev : Dev) → IsCkpt dev → v.now < top → ReadsBy S (is_open (of_device (other dev Ckpt1 Ckpt2) S.renewals)) keeps.was keeps.coming (disk_now v (other dev Ckpt1 Ckpt2))
+    near_reads dev ckpt below =
+        copy_reads S keeps.was (rests (other dev s.pair.first s.pair.second)) (holds (other dev s.pair.first s.pair.second)) (λ pages d r. rests_reads (other dev s.pair.first s.pair.second) pages d r) (λ was next d r. holds_reads (other dev s.pair.first s.pair.second) was next d r) keeps.coming (other dev s.first s.second) (alive (other dev s.pair.first s.pair.second)) v.now (disk_now v (other dev Ckpt1 Ckpt2)) below
+        (at_other rests holds alive S keeps.was keeps.coming dev ckpt s.pair.first s.pair.second s.first s.second v keeps.first_at keeps.second_at)
+
+    renewals_on : (dev : Dev) → IsCkpt dev → ((t : ℕ) → t < v.now → is_renewed_at list t ≡ is_renewed_at (of_device dev S.renewals) t) → (v.now < top → ReadsBy S (is_open list) keeps.was keeps.coming (disk_now v dev))
+        → other dev k1 k2 ≡ other dev s.pair.first s.pair.second → other dev q1 q2 ≡ other dev s.first s.second
+        → OneCopy (with_renewals S (rs dev)) (rests (pick dev k1 k2)) (holds (pick dev k1 k2)) keeps.was keeps.coming (pick dev q1 q2) (alive (pick dev k1 k2)) (is_open list) v.now (disk_now v dev)
+        → Keeps (with_renewals S (rs dev)) s.journal.batches s.current s.level (side rests holds alive k1 q1) (side rests holds alive k2 q2) v
+    renewals_on Ckpt1 ckpt before reads same at here =
+        renewals_keep S (rs Ckpt1) s.journal.batches s.current s.level (first_of s) (second_of s) (side rests holds alive k1 q1) (side rests holds alive k2 q2) v keeps by keeps.renewed2 before (λ t lt. refl)
+        (λ below. (reads below, near_reads Ckpt1 ckpt below)) here (near_with Ckpt1 ckpt same at)
+    renewals_on Ckpt2 ckpt before reads same at here =
+        renewals_keep S (rs Ckpt2) s.journal.batches s.current s.level (first_of s) (second_of s) (side rests holds alive k1 q1) (side rests holds alive k2 q2) v keeps keeps.renewed1 by (λ t lt. refl) before
+        (λ below. (near_reads Ckpt2 ckpt below, reads below)) (near_with Ckpt2 ckpt same at) here
+    renewals_on (Spool n) ckpt before reads same at here = absurd ckpt
+
+  renewed_by : (dev : Dev) → IsCkpt dev → (v : View) → KeepsAt s v → AreRenewedBy (of_device dev S.renewals) v.now
+  renewed_by Ckpt1 ckpt v keeps = keeps.renewed1
+  renewed_by Ckpt2 ckpt v keeps = keeps.renewed2
+  renewed_by (Spool n) ckpt v keeps = absurd ckpt
 
   -- a replacement begins
-  module _ (v : View) (keeps : Keeps S js c reached (side rests holds alive h1 p1) (side rests holds alive h2 p2) v) where
-    begun_first : v.now < top → alive h1 ≡ false → Keeps (with_renewals S (record S.renewals { first = S.renewals.first ++ beginning v.now ∷ [] })) js c reached (side rests holds alive h1 p1) (side rests holds alive h2 p2) v
-    begun_first lt dead =
-        let rs : Renewals = record S.renewals { first = S.renewals.first ++ beginning v.now ∷ [] } in
-        let stale : ReadsStale S keeps.was (disk_now v Ckpt1) = away_stale S keeps.was (is_open S.renewals.first) v.now (disk_now v Ckpt1) lt (keeps.first_at.gone dead) in
-        let begun : is_open rs.first ≡ true = is_begun S.renewals.first v.now in
-        renewals_keep S rs js c reached (side rests holds alive h1 p1) (side rests holds alive h2 p2) (side rests holds alive h1 p1) (side rests holds alive h2 p2) v keeps (begun_by S.renewals.first v.now keeps.renewed1) keeps.renewed2
-        (λ t before. before_beginning S.renewals.first v.now t before) (λ t before. refl)
-        (λ below. (
-          subst (λ (b : Bool). ReadsBy S b keeps.was keeps.coming (disk_now v Ckpt1)) (sym begun) stale,
-          copy_reads S keeps.was (rests h2) (holds h2) (λ pages d r. rests_reads h2 pages d r) (λ was next d r. holds_reads h2 was next d r) keeps.coming p2 (alive h2) v.now (disk_now v Ckpt2) below keeps.second_at,
-        ))
-        (record { at = λ is. absurd (no (alive h1) is dead); formed = λ is. absurd (no (alive h1) is dead); gone = λ _. subst (λ (b : Bool). IsAway (with_renewals S rs) keeps.was b v.now (disk_now v Ckpt1)) (sym begun) stale })
-        (copy_with S rs keeps.was keeps.coming (rests h2) (holds h2) p2 (alive h2) (is_open S.renewals.second) v.now (disk_now v Ckpt2) keeps.second_at)
+  pub begun_keep : (v : View) (keeps : KeepsAt s v) (dev : Dev) → IsCkpt dev → alive (pick dev s.pair.first s.pair.second) ≡ false → Keeps (with_renewals S (begun_on dev v.now S.renewals)) s.journal.batches s.current s.level (first_of s) (second_of s) v
+  begun_keep v keeps dev ckpt dead = by_test (nat_lt v.now top) refl where
+    below : nat_lt v.now top ≡ true → v.now < top
+    below e = grind (arith, nat_tests)
 
-    begun_second : v.now < top → alive h2 ≡ false → Keeps (with_renewals S (record S.renewals { second = S.renewals.second ++ beginning v.now ∷ [] })) js c reached (side rests holds alive h1 p1) (side rests holds alive h2 p2) v
-    begun_second lt dead =
-        let rs : Renewals = record S.renewals { second = S.renewals.second ++ beginning v.now ∷ [] } in
-        let stale : ReadsStale S keeps.was (disk_now v Ckpt2) = away_stale S keeps.was (is_open S.renewals.second) v.now (disk_now v Ckpt2) lt (keeps.second_at.gone dead) in
-        let begun : is_open rs.second ≡ true = is_begun S.renewals.second v.now in
-        renewals_keep S rs js c reached (side rests holds alive h1 p1) (side rests holds alive h2 p2) (side rests holds alive h1 p1) (side rests holds alive h2 p2) v keeps keeps.renewed1 (begun_by S.renewals.second v.now keeps.renewed2)
-        (λ t before. refl) (λ t before. before_beginning S.renewals.second v.now t before)
-        (λ below. (
-          copy_reads S keeps.was (rests h1) (holds h1) (λ pages d r. rests_reads h1 pages d r) (λ was next d r. holds_reads h1 was next d r) keeps.coming p1 (alive h1) v.now (disk_now v Ckpt1) below keeps.first_at,
-          subst (λ (b : Bool). ReadsBy S b keeps.was keeps.coming (disk_now v Ckpt2)) (sym begun) stale,
-        ))
-        (copy_with S rs keeps.was keeps.coming (rests h1) (holds h1) p1 (alive h1) (is_open S.renewals.first) v.now (disk_now v Ckpt1) keeps.first_at)
-        (record { at = λ is. absurd (no (alive h2) is dead); formed = λ is. absurd (no (alive h2) is dead); gone = λ _. subst (λ (b : Bool). IsAway (with_renewals S rs) keeps.was b v.now (disk_now v Ckpt2)) (sym begun) stale })
+    begun : is_open (of_device dev S.renewals ++ beginning v.now ∷ []) ≡ true
+    begun = is_begun (of_device dev S.renewals) v.now
 
-    pub begun_keep : (dev : Dev) → IsCkpt dev → alive (pick dev h1 h2) ≡ false → Keeps (with_renewals S (begun_on dev v.now S.renewals)) js c reached (side rests holds alive h1 p1) (side rests holds alive h2 p2) v
-    begun_keep dev ckpt dead = by_test (nat_lt v.now top) refl where
-      below : nat_lt v.now top ≡ true → v.now < top
-      below e = grind (arith, nat_tests)
+    stale : v.now < top → ReadsStale S keeps.was (disk_now v dev)
+    stale lt = away_stale S keeps.was (is_open (of_device dev S.renewals)) v.now (disk_now v dev) lt ((at_copy rests holds alive S keeps.was keeps.coming dev ckpt s.pair.first s.pair.second s.first s.second v keeps.first_at keeps.second_at).gone dead)
 
-      by_dev : (d : Dev) → IsCkpt d → alive (pick d h1 h2) ≡ false → v.now < top → Keeps (with_renewals S (with_device d (of_device d S.renewals ++ beginning v.now ∷ []) S.renewals)) js c reached (side rests holds alive h1 p1) (side rests holds alive h2 p2) v
-      by_dev Ckpt1 ckpt dead lt = begun_first lt dead
-      by_dev Ckpt2 ckpt dead lt = begun_second lt dead
-      by_dev (Spool n) ckpt dead lt = absurd ckpt
-
-      by_test : (b : Bool) → nat_lt v.now top ≡ b
-          → Keeps (with_renewals S (if b then with_device dev (of_device dev S.renewals ++ beginning v.now ∷ []) S.renewals else S.renewals)) js c reached (side rests holds alive h1 p1) (side rests holds alive h2 p2) v
-      by_test true e = by_dev dev ckpt dead (below e)
-      by_test false e = keeps
+    by_test : (b : Bool) → nat_lt v.now top ≡ b
+        → Keeps (with_renewals S (if b then with_device dev (of_device dev S.renewals ++ beginning v.now ∷ []) S.renewals else S.renewals)) s.journal.batches s.current s.level (first_of s) (second_of s) v
+    by_test true e =
+        renewals_on v keeps (of_device dev S.renewals ++ beginning v.now ∷ []) (begun_by (of_device dev S.renewals) v.now (renewed_by dev ckpt v keeps)) s.pair.first s.pair.second s.first s.second dev ckpt (λ t before. before_beginning (of_device dev S.renewals) v.now t before)
+        (λ lt. subst (λ (b : Bool). ReadsBy S b keeps.was keeps.coming (disk_now v dev)) (sym begun) (stale lt)) refl refl
+        (record {
+          at = λ is. absurd (no (alive (pick dev s.pair.first s.pair.second)) is dead);
+          formed = λ is. absurd (no (alive (pick dev s.pair.first s.pair.second)) is dead);
+          gone = λ _. subst (λ (b : Bool). IsAway (with_renewals S (with_device dev (of_device dev S.renewals ++ beginning v.now ∷ []) S.renewals)) keeps.was b v.now (disk_now v dev)) (sym begun) (stale (below e));
+        })
+    by_test false e = keeps
 
   -- the device is replaced, and its copy still counts as lost
-  pub replaced_keep : (dev : Dev) → IsCkpt dev → (old new : View) (P : Disk → Type 0) (keeps : Keeps S js c reached (side rests holds alive h1 p1) (side rests holds alive h2 p2) old) → Passes old new → alive (pick dev h1 h2) ≡ false
+  pub replaced_keep : (dev : Dev) → IsCkpt dev → (old new : View) (P : Disk → Type 0) (keeps : KeepsAt s old) → Passes old new → alive (pick dev s.pair.first s.pair.second) ≡ false
       → (old.now < top → is_open (of_device dev S.renewals) ≡ true) → (is_open (of_device dev S.renewals) ≡ true → (d : Disk) → P d → ReadsStale S keeps.was d) → WhileReplaced dev P old new
-      → Keeps S js c reached (side rests holds alive h1 p1) (side rests holds alive h2 p2) new
-  replaced_keep Ckpt1 ckpt old new P keeps passes dead began stale m =
-      replaces_first S js c reached (side rests holds alive h1 p1) (side rests holds alive h2 p2) (side rests holds alive h1 p1) old new P keeps passes dead began stale m (λ pages d r. rests_reads h2 pages d r) (λ was next d r. holds_reads h2 was next d r)
-  replaced_keep Ckpt2 ckpt old new P keeps passes dead began stale m =
-      replaces_second S js c reached (side rests holds alive h1 p1) (side rests holds alive h2 p2) (side rests holds alive h2 p2) old new P keeps passes dead began stale m (λ pages d r. rests_reads h1 pages d r) (λ was next d r. holds_reads h1 was next d r)
-  replaced_keep (Spool n) ckpt old new P keeps passes dead began stale m = absurd ckpt
+      → KeepsAt s new
+  replaced_keep dev ckpt old new P keeps passes dead began stale m =
+      acts_on rests holds alive S s.journal.batches s.current s.level s.pair.first s.pair.second s.pair.first s.pair.second s.first s.second s.first s.second old new keeps passes keeps.coming keeps.comes keeps.none keeps.comes_near rests_reads holds_reads dev ckpt refl refl m.others m.console
+      (stale_at S s.journal.batches s.current s.level (first_of s) (second_of s) (side rests holds alive (pick dev s.pair.first s.pair.second) (pick dev s.first s.second)) old new P keeps passes dead dev began stale m)
+      (at_other rests holds alive S keeps.was keeps.coming dev ckpt s.pair.first s.pair.second s.first s.second old keeps.first_at keeps.second_at)
+      (replaced_at S s.journal.batches s.current s.level (first_of s) (second_of s) (side rests holds alive (pick dev s.pair.first s.pair.second) (pick dev s.first s.second)) old new P keeps passes dead dev began stale m)
+
+  -- a call that left both copies as they were
+  pub still_keep : (k1 k2 : H) → (k1 ≡ s.pair.first) × (k2 ≡ s.pair.second) → (v : View) → KeepsAt s v → Keeps S s.journal.batches s.current s.level (side rests holds alive k1 s.first) (side rests holds alive k2 s.second) v
+  still_keep k1 k2 same v k =
+      subst (λ (h : H). Keeps S s.journal.batches s.current s.level (side rests holds alive h s.first) (side rests holds alive k2 s.second) v) (sym same.0)
+      (subst (λ (h : H). Keeps S s.journal.batches s.current s.level (first_of s) (side rests holds alive h s.second) v) (sym same.1) k)
 
   -- an image of a copy that is being replaced, before and during the call
-  pub stale_while : (dev : Dev) → IsCkpt dev → (old : View) (keeps : Keeps S js c reached (side rests holds alive h1 p1) (side rests holds alive h2 p2) old) → alive (pick dev h1 h2) ≡ false → (pages : List ℕ) → pages ≡ keeps.was
+  pub stale_while : (dev : Dev) → IsCkpt dev → (old : View) (keeps : KeepsAt s old) → alive (pick dev s.pair.first s.pair.second) ≡ false → (pages : List ℕ) → pages ≡ keeps.was
       → is_open (of_device dev S.renewals) ≡ true → (d : Disk) → IsOrForms S.reads (disk_now old dev) pages d → ReadsStale S keeps.was d
   stale_while dev ckpt old keeps dead pages same is d forms =
-      let there = at_copy rests holds alive S keeps.was keeps.coming dev ckpt h1 h2 p1 p2 old keeps.first_at keeps.second_at in
+      let there = at_copy rests holds alive S keeps.was keeps.coming dev ckpt s.pair.first s.pair.second s.first s.second old keeps.first_at keeps.second_at in
       stale_forms S keeps.was pages same (disk_now old dev) d (subst (λ (b : Bool). IsAway S keeps.was b old.now (disk_now old dev)) is (there.gone dead)) forms
 
   -- the new copy is good from now on
-  pub ended_keep : (dev : Dev) → IsCkpt dev → (k1 k2 : H) (q1 q2 : Place) (v : View) (keeps : Keeps S js c reached (side rests holds alive h1 p1) (side rests holds alive h2 p2) v) → other dev k1 k2 ≡ other dev h1 h2 → other dev q1 q2 ≡ other dev p1 p2
+  pub ended_keep : (dev : Dev) → IsCkpt dev → (k1 k2 : H) (q1 q2 : Place) (v : View) (keeps : KeepsAt s v) → other dev k1 k2 ≡ other dev s.pair.first s.pair.second → other dev q1 q2 ≡ other dev s.first s.second
       → alive (pick dev k1 k2) ≡ true → pick dev q1 q2 ≡ Before → rests (pick dev k1 k2) keeps.was (disk_now v dev)
-      → Keeps (with_renewals S (ended_on dev v.now S.renewals)) js c reached (side rests holds alive k1 q1) (side rests holds alive k2 q2) v
-  ended_keep Ckpt1 ckpt k1 k2 q1 q2 v keeps same at is before rest =
-      let rs : Renewals = record S.renewals { first = map (ended_at v.now) S.renewals.first } in
-      let closed : is_open rs.first ≡ false = none_open S.renewals.first v.now in
-      renewals_keep S rs js c reached (side rests holds alive h1 p1) (side rests holds alive h2 p2) (side rests holds alive k1 q1) (side rests holds alive k2 q2) v keeps (all_ended_by S.renewals.first v.now keeps.renewed1) keeps.renewed2
-      (λ t lt. renewed_before S.renewals.first v.now t lt) (λ t lt. refl)
-      (λ below. (
-        not_renewed S keeps.was (is_open rs.first) keeps.coming (disk_now v Ckpt1) closed (all_read S keeps.was keeps.coming (disk_now v Ckpt1) (rests_reads k1 keeps.was (disk_now v Ckpt1) rest)),
-        copy_reads S keeps.was (rests h2) (holds h2) (λ pages d r. rests_reads h2 pages d r) (λ was next d r. holds_reads h2 was next d r) keeps.coming p2 (alive h2) v.now (disk_now v Ckpt2) below keeps.second_at,
-      ))
-      (record { at = λ _. subst (λ (p : Place). IsAt S (rests k1) (holds k1) keeps.was keeps.coming p (disk_now v Ckpt1)) (sym before) rest; formed = λ _. closed; gone = λ dead. absurd (no (alive k1) is dead) })
-      (subst (λ (h : H). OneCopy (with_renewals S rs) (rests h) (holds h) keeps.was keeps.coming q2 (alive h) (is_open S.renewals.second) v.now (disk_now v Ckpt2)) (sym same)
-      (subst (λ (p : Place). OneCopy (with_renewals S rs) (rests h2) (holds h2) keeps.was keeps.coming p (alive h2) (is_open S.renewals.second) v.now (disk_now v Ckpt2)) (sym at)
-      (copy_with S rs keeps.was keeps.coming (rests h2) (holds h2) p2 (alive h2) (is_open S.renewals.second) v.now (disk_now v Ckpt2) keeps.second_at)))
-  ended_keep Ckpt2 ckpt k1 k2 q1 q2 v keeps same at is before rest =
-      let rs : Renewals = record S.renewals { second = map (ended_at v.now) S.renewals.second } in
-      let closed : is_open rs.second ≡ false = none_open S.renewals.second v.now in
-      renewals_keep S rs js c reached (side rests holds alive h1 p1) (side rests holds alive h2 p2) (side rests holds alive k1 q1) (side rests holds alive k2 q2) v keeps keeps.renewed1 (all_ended_by S.renewals.second v.now keeps.renewed2)
-      (λ t lt. refl) (λ t lt. renewed_before S.renewals.second v.now t lt)
-      (λ below. (
-        copy_reads S keeps.was (rests h1) (holds h1) (λ pages d r. rests_reads h1 pages d r) (λ was next d r. holds_reads h1 was next d r) keeps.coming p1 (alive h1) v.now (disk_now v Ckpt1) below keeps.first_at,
-        not_renewed S keeps.was (is_open rs.second) keeps.coming (disk_now v Ckpt2) closed (all_read S keeps.was keeps.coming (disk_now v Ckpt2) (rests_reads k2 keeps.was (disk_now v Ckpt2) rest)),
-      ))
-      (subst (λ (h : H). OneCopy (with_renewals S rs) (rests h) (holds h) keeps.was keeps.coming q1 (alive h) (is_open S.renewals.first) v.now (disk_now v Ckpt1)) (sym same)
-      (subst (λ (p : Place). OneCopy (with_renewals S rs) (rests h1) (holds h1) keeps.was keeps.coming p (alive h1) (is_open S.renewals.first) v.now (disk_now v Ckpt1)) (sym at)
-      (copy_with S rs keeps.was keeps.coming (rests h1) (holds h1) p1 (alive h1) (is_open S.renewals.first) v.now (disk_now v Ckpt1) keeps.first_at)))
-      (record { at = λ _. subst (λ (p : Place). IsAt S (rests k2) (holds k2) keeps.was keeps.coming p (disk_now v Ckpt2)) (sym before) rest; formed = λ _. closed; gone = λ dead. absurd (no (alive k2) is dead) })
-  ended_keep (Spool n) ckpt k1 k2 q1 q2 v keeps same at is before rest = absurd ckpt
+      → Keeps (with_renewals S (ended_on dev v.now S.renewals)) s.journal.batches s.current s.level (side rests holds alive k1 q1) (side rests holds alive k2 q2) v
+  ended_keep dev ckpt k1 k2 q1 q2 v keeps same at is before rest =
+      let k = pick dev k1 k2 in
+      let rs : Renewals = ended_on dev v.now S.renewals in
+      let closed : is_open (map (ended_at v.now) (of_device dev S.renewals)) ≡ false = none_open (of_device dev S.renewals) v.now in
+      renewals_on v keeps (map (ended_at v.now) (of_device dev S.renewals)) (all_ended_by (of_device dev S.renewals) v.now (renewed_by dev ckpt v keeps)) k1 k2 q1 q2 dev ckpt (λ t lt. renewed_before (of_device dev S.renewals) v.now t lt)
+      (λ below. not_renewed S keeps.was (is_open (map (ended_at v.now) (of_device dev S.renewals))) keeps.coming (disk_now v dev) closed (all_read S keeps.was keeps.coming (disk_now v dev) (rests_reads k keeps.was (disk_now v dev) rest))) same at
+      (record { at = λ _. subst (λ (p : Place). IsAt (with_renewals S rs) (rests k) (holds k) keeps.was keeps.coming p (disk_now v dev)) (sym before) rest; formed = λ _. closed; gone = λ dead. absurd (no (alive k) is dead) })
 
 -- WHICH DEVICES ARE LOST
 
@@ -420,8 +384,7 @@ sunk_replaced alive (Spool n) ckpt h1 h2 old new else_lost gone first second = a
 
 pub pick_open : (dev : Dev) (rs : Renewals) → pick dev (is_open rs.first) (is_open rs.second) ≡ is_open (of_device dev rs)
 pick_open Ckpt1 rs = refl
-pick_open Ckpt2 rs = refl
-pick_open (Spool n) rs = refl
+pick_open _ rs = refl
 
 -- a device whose replacement isn't open failed at the greatest moment
 pub gone_closed : (now : ℕ) (opened gone : Bool) {T : Type 0} (r : Result T ReplaceNo) → now ≤ top → (now < top → opened ≡ true) → IsErrOf r Failed ⊎ IsErrOf r Halted → (IsErrOf r Halted → now ≢ top) → (IsErrOf r Failed → gone ≡ true) → opened ≡ false → gone ≡ true
@@ -436,23 +399,11 @@ same_halves Ckpt1 ckpt h1 h2 k1 k2 one two = (one, two)
 same_halves Ckpt2 ckpt h1 h2 k1 k2 one two = (two, one)
 same_halves (Spool n) ckpt h1 h2 k1 k2 one two = absurd ckpt
 
-pub keeps_same : {H : Type 0} (rests : H → List ℕ → Disk → Type 0) (holds : H → List ℕ → List ℕ → Disk → Type 0) (alive : H → Bool) (S : Setting) (js : List Batch) (c : Option Batch) (reached : ℕ) (h1 h2 k1 k2 : H) (p1 p2 : Place) (v : View) → (k1 ≡ h1) × (k2 ≡ h2)
-    → Keeps S js c reached (side rests holds alive h1 p1) (side rests holds alive h2 p2) v → Keeps S js c reached (side rests holds alive k1 p1) (side rests holds alive k2 p2) v
-keeps_same {H} rests holds alive S js c reached h1 h2 k1 k2 p1 p2 v same k =
-    subst (λ (h : H). Keeps S js c reached (side rests holds alive h p1) (side rests holds alive k2 p2) v) (sym same.0)
-    (subst (λ (h : H). Keeps S js c reached (side rests holds alive h1 p1) (side rests holds alive h p2) v) (sym same.1) k)
-
 -- after Ok both copies count as alive
 pub both_alive : {H : Type 0} (alive : H → Bool) (dev : Dev) → IsCkpt dev → (h1 h2 k1 k2 : H) → alive (pick dev k1 k2) ≡ true → other dev k1 k2 ≡ other dev h1 h2 → alive (other dev h1 h2) ≡ true → (alive k1 ≡ true) × (alive k2 ≡ true)
 both_alive {H} alive Ckpt1 ckpt h1 h2 k1 k2 one same two = (one, subst (λ (h : H). alive h ≡ true) (sym same) two)
 both_alive {H} alive Ckpt2 ckpt h1 h2 k1 k2 one same two = (subst (λ (h : H). alive h ≡ true) (sym same) two, one)
 both_alive alive (Spool n) ckpt h1 h2 k1 k2 one same two = absurd ckpt
-
--- the other device is another one
-pub beside : (dev : Dev) → IsCkpt dev → other dev Ckpt1 Ckpt2 ≢ dev
-beside Ckpt1 ckpt e = absurd (cc)
-beside Ckpt2 ckpt e = absurd (cc)
-beside (Spool n) ckpt e = absurd ckpt
 
 -- what the call leaves of all else
 pub replaced_elsewhere : (dev : Dev) (P : Disk → Type 0) (old new : View) → old.now ≤ new.now → WhileReplaced dev P old new → Elsewhere dev old new
@@ -514,12 +465,10 @@ both_not false false some both = absurd (cc)
 
 -- an error of the acts is one of these
 pub acted_not : {T : Type 0} (r : Result T ReplaceNo) → OnErr r (IsErrOf r Failed ⊎ IsErrOf r Halted) → (IsErrOf r NotLost → ⊥) × (IsErrOf r BothLost → ⊥)
-acted_not (Ok x) acted = (λ is. absurd (cc), λ is. absurd (cc))
-acted_not (Err Failed) acted = (λ is. absurd (cc), λ is. absurd (cc))
-acted_not (Err Halted) acted = (λ is. absurd (cc), λ is. absurd (cc))
 acted_not (Err NotLost) acted = ⊎_elim (λ e. absurd (cc)) (λ e. absurd (cc)) acted
 acted_not (Err BothLost) acted = ⊎_elim (λ e. absurd (cc)) (λ e. absurd (cc)) acted
 acted_not (Err NoMemory) acted = ⊎_elim (λ e. absurd (cc)) (λ e. absurd (cc)) acted
+acted_not _ acted = (λ is. absurd (cc), λ is. absurd (cc))
 
 -- a copy of a pair that is as it was counts as it did
 pub pick_same : {H : Type 0} (alive : H → Bool) (dev : Dev) (b : Bool) (h1 h2 k1 k2 : H) → k1 ≡ h1 → k2 ≡ h2 → alive (pick dev h1 h2) ≡ b → alive (pick dev k1 k2) ≡ b

@@ -1,20 +1,8 @@
 -- The replies of a history, as the journal grows.
-use Rattle.std.proofs.Common.{◌≡◌, if◌then◌else◌, Bool, true, false, List, [], ◌∷◌, ◌++◌, Option, Some, None, refl, subst, sym, ◌∙◌, ap}
-use Rattle.std.specs.Prelude.{IsSome}
-use Rattle.std.proofs.lemmas.List.{append-nil}
-use Rattle.mas_types.specs.declared.queues.Queue.{Queue}
-use Rattle.mas_types.specs.declared.journals.Batch.{Batch}
-use Rattle.mas_types.specs.declared.journals.Entry.{Entry}
-use Rattle.mas_types.specs.Journal.{is_kept}
-use Rattle.mas_complex.specs.Meaning.{step, run}
-use Rattle.mas_complex.specs.Journals.{kept_all, in_flight, IsPlace, EndsInPlace, HasPlace, with_last, without_last, end_of}
-use Rattle.mas_complex.specs.Replies.{HaveReplies, AreReplied, after_batch}
+use Rattle.mas_complex.proofs.Names.{◌≡◌, if◌then◌else◌, Bool, true, false, List, [], ◌∷◌, ◌++◌, Option, Some, None, refl, subst, sym, ◌∙◌, ap, IsSome, append-nil, Queue, Batch, Entry, is_kept, run, kept_all, in_flight, IsPlace, EndsInPlace, HasPlace, with_last, without_last, end_of, HaveReplies, AreReplied, after_batch}
+pub use Rattle.paper_laws.proofs.Runs.{run_append}
 use Rattle.mas_complex.proofs.Batches.{placed_all}
 use Rattle.mas_complex.proofs.BatchEnds.{with_last-append, without_last-append}
-
-pub run_append : (Q : Queue) (xs ys : List Entry) → run Q (xs ++ ys) ≡ run (run Q xs) ys
-run_append Q [] ys = refl
-run_append Q (e ∷ xs) ys = run_append (step Q e.by e.command).0 xs ys
 
 -- the queue after a batch and the kept ones after it
 after_is : (Q : Queue) (b : Batch) (bs : List Batch) → run Q (kept_all (b ∷ bs)) ≡ run (after_batch Q b) (kept_all bs)

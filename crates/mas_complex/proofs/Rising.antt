@@ -1,18 +1,6 @@
 -- How the levels and orders on the copies rise.
-use Rattle.std.proofs.Common.{◌≡◌, inl, inr, ⊎_elim, ℕ, suc, ◌+◌, ◌*◌, ◌≤◌, ◌<◌, Bool, true, false, List, [], ◌∷◌, ◌++◌, length, if◌then◌else◌, Option, Some, None, IfSome, subst, sym, ◌∙◌, ap, arith}
-use Rattle.mas_types.specs.declared.ids.Dev.TheVariants.{Ckpt1, Ckpt2}
-use Rattle.mas_types.specs.declared.journals.Batch.{Batch}
-use Rattle.mas_types.specs.declared.journals.Entry.{Entry}
-use Rattle.mas_types.specs.declared.journals.Fate.TheVariants.{Kept}
-use Rattle.mas_types.specs.Journal.{is_kept}
-use Rattle.spool_plant.specs.View.{View, World, Disk, disk_at}
-use Rattle.spool_plant.specs.Acts.{top}
+use Rattle.mas_complex.proofs.Names.{◌≡◌, inl, inr, ⊎_elim, ℕ, suc, ◌+◌, ◌*◌, ◌≤◌, ◌<◌, Bool, true, false, List, [], ◌∷◌, ◌++◌, length, if◌then◌else◌, Option, Some, None, IfSome, subst, sym, ◌∙◌, ap, arith, Ckpt1, Ckpt2, Batch, Entry, Kept, is_kept, View, World, ViewDisk as Disk, disk_at, top, either_way, level, batches_kept, IsPlace, is_renewed_at, Setting, Stands, IsNext, IsOneOf, ReadsOne, IsNear, RaisesOrders, ReadsAtLevel, ReadsUpTo, Rises, next_order, orders_most}
 use Rattle.mas_complex.proofs.Passing.{Passes}
-use Rattle.ckpt_copy.specs.Moments.{either_way}
-use Rattle.ckpt_copy.specs.Pages.{level}
-use Rattle.mas_complex.specs.Journals.{batches_kept, IsPlace}
-use Rattle.mas_complex.specs.Renewals.{is_renewed_at}
-use Rattle.mas_complex.specs.Crash.{Setting, Stands, IsNext, IsOneOf, ReadsOne, IsNear, RaisesOrders, ReadsAtLevel, ReadsUpTo, Rises, next_order, orders_most}
 
 -- HOW MANY BATCHES ARE KEPT
 

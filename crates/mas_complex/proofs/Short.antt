@@ -1,18 +1,6 @@
 -- Batches are short, so the kept entries can be counted.
-use Rattle.std.proofs.Common.{◌≡◌, ◌+◌, ◌≤◌, min, Bool, true, false, if◌then◌else◌, List, [], ◌∷◌, ◌++◌, length, Option, Some, None, Result, Ok, Err, OnOk, OnErr, sym, ap, subst, ◌∙◌, arith}
-use Rattle.std.proofs.Math.Logic.{∥∥₁_elim}
-use Rattle.std.proofs.lemmas.List.{length-append, append-nil}
+use Rattle.mas_complex.proofs.Names.{◌≡◌, ◌≤◌, min, Bool, true, false, if◌then◌else◌, List, [], ◌∷◌, ◌++◌, length, Option, Some, None, Result, Ok, Err, OnOk, OnErr, sym, ap, subst, ◌∙◌, arith, ◌⊎◌, ∥∥₁_elim, length-append, append-nil, MemberId, Batch, Entry, is_kept, Act, ActHalted as Halted, top, kept_all, entries_reserved, entries_most, journal_most, AreFew, IsPlace, EndsInPlace, HasPlace, with_last, without_last, is_of_member, reserved_after_stop, reserved_by, le_prop, inl, inr, refl}
 use native.Mathlib.Bridge.{le_prop}
-use Rattle.mas_types.specs.declared.ids.MemberId.{MemberId}
-use Rattle.mas_types.specs.declared.journals.Batch.{Batch}
-use Rattle.mas_types.specs.declared.journals.Entry.{Entry}
-use Rattle.mas_types.specs.Journal.{is_kept}
-use Rattle.spool_plant.specs.declared.plant.Act.{Act}
-use Rattle.spool_plant.specs.declared.plant.Act.TheVariants.{Done, Failed, Halted}
-use Rattle.spool_plant.specs.Acts.{top}
-use Rattle.mas_complex.specs.Journals.{kept_all, entries_reserved, entries_most, journal_most, AreFew, IsPlace, EndsInPlace, HasPlace, with_last, without_last}
-use Rattle.mas_complex.specs.Locking.{is_of_member, reserved_after_stop}
-use Rattle.mas_complex.specs.Paper.{reserved_by}
 use Rattle.mas_complex.proofs.Batches.{kept_all_append, placed_all}
 use Rattle.mas_complex.proofs.BatchEnds.{with_last-append, without_last-append, as_many}
 use Rattle.mas_complex.proofs.Fating.{has_ends}
@@ -54,23 +42,26 @@ few_unplaced placed js is has few = ∥∥₁_elim has le_prop (λ h. without (h
       let many = ap length p.is ∙ length-append p.before (p.place ∷ []) in
       subst (λ (l : List Batch). AreFew false l) (sym left) (omega arith)
 
-pub short_after_stop : (by : MemberId) (reserved : Option (List Entry)) → length (entries_reserved reserved) ≤ entries_most → length (entries_reserved (reserved_after_stop by reserved)) ≤ entries_most
-short_after_stop by None short = short
-short_after_stop by (Some es) short = either (is_of_member by es) where
-  either : (z : Bool) → length (entries_reserved (if z then None else Some es)) ≤ entries_most
-  either true = omega arith
-  either false = short
+-- what a stop leaves reserved, and a call that gives the lock up, or not
+pub left_after_stop : (by : MemberId) (reserved : Option (List Entry)) → (reserved_after_stop by reserved ≡ None) ⊎ (reserved_after_stop by reserved ≡ reserved)
+left_after_stop by None = inr refl
+left_after_stop by (Some es) = either (is_of_member by es) where
+  either : (z : Bool) → ((if z then None else Some es) ≡ None) ⊎ ((if z then None else Some es) ≡ Some es)
+  either true = inl refl
+  either false = inr refl
 
--- after a print
-pub short_after_print : (by : MemberId) (done : Act) (reserved : Option (List Entry)) → length (entries_reserved reserved) ≤ entries_most → length (entries_reserved (reserved_by by done reserved)) ≤ entries_most
-short_after_print by Halted reserved short = short_after_stop by reserved short
-short_after_print by Done reserved short = short
-short_after_print by Failed reserved short = short
+pub left_after_free : {T E : Type 0} (r : Result T E) (was is : Option (List Entry)) → OnOk r (is ≡ None) → OnErr r (is ≡ was) → (is ≡ None) ⊎ (is ≡ was)
+left_after_free (Ok x) was is none same = inl none
+left_after_free (Err e) was is none same = inr same
 
--- after the lock was given up, or wasn't
-pub short_after_free : {T E : Type 0} (r : Result T E) (was is : Option (List Entry)) → OnOk r (is ≡ None) → OnErr r (is ≡ was) → length (entries_reserved was) ≤ entries_most → length (entries_reserved is) ≤ entries_most
-short_after_free (Ok x) was is none same short = subst (λ (o : Option (List Entry)). length (entries_reserved o) ≤ entries_most) (sym none) (omega arith)
-short_after_free (Err e) was is none same short = subst (λ (o : Option (List Entry)). length (entries_reserved o) ≤ entries_most) (sym same) short
+pub short_left : (was is : Option (List Entry)) → (is ≡ None) ⊎ (is ≡ was) → length (entries_reserved was) ≤ entries_most → length (entries_reserved is) ≤ entries_most
+short_left was is (inl e) short = subst (λ (r : Option (List Entry)). length (entries_reserved r) ≤ entries_most) (sym e) (omega arith)
+short_left was is (inr e) short = subst (λ (r : Option (List Entry)). length (entries_reserved r) ≤ entries_most) (sym e) short
+
+-- a print
+pub left_after_print : (by : MemberId) (done : Act) (reserved : Option (List Entry)) → (reserved_by by done reserved ≡ None) ⊎ (reserved_by by done reserved ≡ reserved)
+left_after_print by Halted reserved = left_after_stop by reserved
+left_after_print by _ reserved = inr refl
 
 -- so many can be counted
 pub few_counted : (placed : Bool) (js : List Batch) → AreFew placed js → length js ≤ journal_most → min (length (kept_all js)) top ≡ length (kept_all js)

@@ -1,31 +1,8 @@
 -- What one call does to one copy.
-use Rattle.std.proofs.Common.{◌≡◌, ℕ, ◌+◌, ◌≤◌, ◌<◌, Bool, true, false, List, [], ◌++◌, length, Option, Some, None, IfSome, Result, Ok, Err, OnOk, IsErrOf, refl, subst, sym, ◌∙◌, ap, arith}
-use Rattle.std.proofs.lemmas.List.{append-nil}
-use Rattle.std.proofs.lemmas.Bool.{true≢false}
-use Rattle.mas_types.specs.declared.ids.Dev.{Dev}
-use Rattle.mas_types.specs.declared.ids.Dev.TheVariants.{Ckpt1, Ckpt2, Spool}
-use Rattle.spool_plant.specs.View.{View, Disk, Avoids, IsImage, disk_now, slice}
-use Rattle.spool_plant.specs.Acts.{Goes, top}
-use Rattle.ckpt_copy.specs.Reading.{AllRead, EachReads}
-use Rattle.ckpt_copy.specs.Pages.{level, Covers}
-use Rattle.duplex_pair.specs.Both.{Touched}
-use Rattle.ckpt_copy.specs.Meanwhile.{Meanwhile}
-use Rattle.ckpt_copy.specs.Moments.{meanwhile_none, meanwhile_weaker, meanwhile_end}
-use Rattle.duplex_pair.specs.declared.errors.PairNo.{PairNo}
-use Rattle.duplex_pair.specs.declared.errors.PairNo.TheVariants.{BothLost, Halted}
-use Rattle.duplex_pair.specs.Halves.{SameOrLost}
-use Rattle.mas_types.specs.declared.journals.Batch.{Batch}
-use Rattle.mas_types.specs.declared.journals.Entry.{Entry}
-use Rattle.ckpt_places.specs.declared.places.Place.{Place}
-use Rattle.ckpt_places.specs.declared.places.Place.TheVariants.{Before, Put, Opened, Unsure}
-use Rattle.mas_complex.specs.Journals.{kept_all, in_flight, entries_in}
-use Rattle.mas_complex.specs.Renewals.{is_open, of_device}
-use Rattle.mas_complex.specs.Crash.{Setting, IsNext, IsNear, ReadsOne, ReadsBy, OnComing, IsAt, IsAway, OneCopy, Copy, CopyAt, Keeps}
-use Rattle.mas_complex.specs.Places.{IsPlaceAfter, HasNoOther}
+use Rattle.mas_complex.proofs.Names.{◌≡◌, ℕ, ◌+◌, ◌≤◌, ◌<◌, Bool, true, false, List, [], length, Option, Some, None, IfSome, Result, Ok, Err, OnOk, IsErrOf, refl, subst, sym, ◌∙◌, ap, arith, append-nil, true≢false, Dev, View, ViewDisk as Disk, Avoids, IsImage, disk_now, slice, Goes, top, AllRead, EachReads, level, Covers, Touched, Meanwhile, meanwhile_none, meanwhile_weaker, meanwhile_end, PairNo, BothLost, Halted, SameOrLost, Batch, Entry, Place, Before, Put, Opened, Unsure, is_open, of_device, Setting, ReadsOne, ReadsBy, OnComing, IsAt, IsAway, OneCopy, IsPlaceAfter, HasNoOther}
+use Rattle.mas_complex.proofs.Basics.{no, some_is}
 use Rattle.mas_complex.proofs.Present.{all_read, each_reads, not_renewed, away_lost, away_same, away_reads, copy_reads}
-use Rattle.mas_complex.proofs.Texting.{stays_same}
-use Rattle.mas_complex.proofs.Passing.{passes_of}
-use Rattle.mas_complex.proofs.Moves.{Adds, acts_keep}
+use Rattle.mas_complex.proofs.Moves.{Adds}
 
 same_view : (dev : Dev) (P : Disk → Type 0) (old new : View) → new ≡ old → P (disk_now old dev) → Meanwhile dev P old new
 same_view dev P old new e here = subst (λ (v : View). Meanwhile dev P old v) (sym e) (meanwhile_none dev P old here)
@@ -37,9 +14,6 @@ at_place S rests holds was coming p q d e side = subst (λ (x : Place). IsAt S r
 pub rests_before : {renewed : Bool} (S : Setting) (rests : List ℕ → Disk → Type 0) (holds : List ℕ → List ℕ → Disk → Type 0) (was : List ℕ) (coming : Option (List ℕ)) (place : Place) (alive : Bool) (now : ℕ) (d : Disk)
     → OneCopy S rests holds was coming place alive renewed now d → (alive ≡ true → place ≡ Before) → alive ≡ true → rests was d
 rests_before S rests holds was coming place alive now d copy before is = at_place S rests holds was coming place Before d (before is) (copy.at is)
-
-pub no : (b : Bool) → b ≡ true → b ≡ false → ⊥
-no b p q = cc
 
 -- a batch with an entry may have pages in flight
 pub some_coming : (F : List Entry) (coming : Option (List ℕ)) → 1 ≤ length F → F ≡ [] → coming ≡ None
@@ -58,9 +32,6 @@ pub other_coming : {renewed : Bool} (S : Setting) (rests : List ℕ → Disk →
     → ((was next : List ℕ) (d : Disk) → holds was next d → behind d.bytes ≡ next) → ((was : List ℕ) (d : Disk) → rests was d → S.reads d.bytes ≡ Some was)
     → (alive ≡ true → HasNoOther place (behind d.bytes) (S.reads d.bytes) pages) → OneCopy S rests holds was coming place alive renewed now d → OneCopy S rests holds was (Some pages) place alive renewed now d
 other_coming S rests holds was coming pages place alive now d behind shown rests_now same copy = record { at = λ is. by_place place coming (same is) (copy.at is); formed = copy.formed; gone = copy.gone } where
-  some_is : (x y : List ℕ) → Some x ≡ Some y → x ≡ y
-  some_is x y e = cc
-
   put_same : (n : Option (List ℕ)) → behind d.bytes ≡ pages → OnComing n (λ p. holds was p d) → holds was pages d
   put_same None e here = absurd here
   put_same (Some p) e here = subst (λ (l : List ℕ). holds was l d) (sym (shown was p d here) ∙ e) here
@@ -81,16 +52,13 @@ pub other_holds : {renewed : Bool} (S : Setting) (rests : List ℕ → Disk → 
     → alive ≡ true → HasNoOther place (behind d.bytes) (S.reads d.bytes) pages → OneCopy S rests holds was coming place alive renewed now d
     → (P : List ℕ → Type 0) → IfSome coming P → (place ≡ Before → P pages) → P pages
 other_holds S rests holds was coming pages place alive now d behind shown rests_now is same copy P holds_of at_before = by_place place coming refl same (copy.at is) holds_of where
-  some_same : (x y : List ℕ) → Some x ≡ Some y → x ≡ y
-  some_same x y e = cc
-
   put_holds : (n : Option (List ℕ)) → behind d.bytes ≡ pages → OnComing n (λ p. holds was p d) → IfSome n P → P pages
   put_holds None e here of = absurd here
   put_holds (Some p) e here of = subst P (sym (shown was p d here) ∙ e) of
 
   opened_holds : (n : Option (List ℕ)) → S.reads d.bytes ≡ Some pages → OnComing n (λ p. rests p d) → IfSome n P → P pages
   opened_holds None e here of = absurd here
-  opened_holds (Some p) e here of = subst P (some_same p pages (sym (rests_now p d here) ∙ e)) of
+  opened_holds (Some p) e here of = subst P (some_is p pages (sym (rests_now p d here) ∙ e)) of
 
   by_place : (p : Place) (n : Option (List ℕ)) → place ≡ p → HasNoOther p (behind d.bytes) (S.reads d.bytes) pages → IsAt S rests holds was n p d → IfSome n P → P pages
   by_place Before n at e here of = at_before at
@@ -218,41 +186,3 @@ calm S J old new same le = record {
   is = same new.now le (omega arith) ∙ sym (append-nil (old.world old.now).console);
   tells = tt;
 }
-
-module _ (S : Setting) (js : List Batch) (c : Option Batch) (reached : ℕ) (first second first' second' : Copy) (old new : View) (keeps : Keeps S js c reached first second old)
-    (coming : Option (List ℕ)) (comes : IsNext S reached (kept_all js) (entries_in c) coming) (none : entries_in c ≡ [] → coming ≡ None) (nears : IfSome coming (IsNear keeps.first_level keeps.first_order)) where
-  pub on_first : ((pages : List ℕ) (d : Disk) → second.rests pages d → AllRead S.reads pages d) → ((was next : List ℕ) (d : Disk) → second.holds was next d → AllRead S.reads was d)
-      → CopyAt S keeps.was coming Ckpt2 second old.now (disk_now old Ckpt2)
-      → Went S keeps.was coming Ckpt1 old new first'.rests first'.holds first'.place first'.alive
-      → (CopyAt S keeps.was coming Ckpt2 second new.now (disk_now new Ckpt2) → CopyAt S keeps.was coming Ckpt2 second' new.now (disk_now new Ckpt2)) → Keeps S js c reached first' second' new
-  on_first rests_reads holds_reads there went to_second =
-      let m = went.during in
-      acts_keep S js c reached first second first' second' old new keeps (passes_of old new m.goes) coming comes none nears
-      (λ t lt le below. (
-        m.here t (omega arith) le (omega arith),
-        subst (λ (d : Disk). ReadsBy S (is_open S.renewals.second) keeps.was coming d) (sym (m.others t (omega arith) le Ckpt2 (λ e. absurd (cc))))
-            (copy_reads S keeps.was second.rests second.holds rests_reads holds_reads coming second.place second.alive old.now (disk_now old Ckpt2) (omega arith) there),
-      ))
-      (calm S (js ++ in_flight c) old new m.console m.goes.later)
-      (stays_same S (kept_all js) (entries_in c) old new (λ t lt le n. m.others t (omega arith) le (Spool n) (λ e. absurd (cc))))
-      went.after
-      (to_second (moved S second.rests second.holds keeps.was coming second.place second.alive old.now new.now (disk_now old Ckpt2) (disk_now new Ckpt2) m.goes.later
-      (m.others new.now m.goes.later (omega arith) Ckpt2 (λ e. absurd (cc))) there))
-
-  pub on_second : ((pages : List ℕ) (d : Disk) → first.rests pages d → AllRead S.reads pages d) → ((was next : List ℕ) (d : Disk) → first.holds was next d → AllRead S.reads was d)
-      → CopyAt S keeps.was coming Ckpt1 first old.now (disk_now old Ckpt1)
-      → Went S keeps.was coming Ckpt2 old new second'.rests second'.holds second'.place second'.alive
-      → (CopyAt S keeps.was coming Ckpt1 first new.now (disk_now new Ckpt1) → CopyAt S keeps.was coming Ckpt1 first' new.now (disk_now new Ckpt1)) → Keeps S js c reached first' second' new
-  on_second rests_reads holds_reads there went to_first =
-      let m = went.during in
-      acts_keep S js c reached first second first' second' old new keeps (passes_of old new m.goes) coming comes none nears
-      (λ t lt le below. (
-        subst (λ (d : Disk). ReadsBy S (is_open S.renewals.first) keeps.was coming d) (sym (m.others t (omega arith) le Ckpt1 (λ e. absurd (cc))))
-            (copy_reads S keeps.was first.rests first.holds rests_reads holds_reads coming first.place first.alive old.now (disk_now old Ckpt1) (omega arith) there),
-        m.here t (omega arith) le (omega arith),
-      ))
-      (calm S (js ++ in_flight c) old new m.console m.goes.later)
-      (stays_same S (kept_all js) (entries_in c) old new (λ t lt le n. m.others t (omega arith) le (Spool n) (λ e. absurd (cc))))
-      (to_first (moved S first.rests first.holds keeps.was coming first.place first.alive old.now new.now (disk_now old Ckpt1) (disk_now new Ckpt1) m.goes.later
-      (m.others new.now m.goes.later (omega arith) Ckpt1 (λ e. absurd (cc))) there))
-      went.after

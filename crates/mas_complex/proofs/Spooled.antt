@@ -1,36 +1,14 @@
 -- Texts stay where nothing of their groups is written, and are read from what a crash leaves of the volumes.
-use Rattle.std.proofs.Common.{◌≡◌, ◌≢◌, inl, inr, ⊎_elim, ◌⊎◌, ◌||◌, ◌==◌, ℕ, zero, suc, ◌+◌, ◌*◌, ◌/◌, ◌%◌, ◌≤◌, ◌<◌, if◌then◌else◌, Bool, true, false, List, [], ◌∷◌, ◌++◌, length, All, Option, Some, None, option_map, unwrap_or, slice_get, slice_index_or, refl, subst, sym, ◌∙◌, ap, arith}
-use Rattle.std.specs.List.{list_any}
-use Rattle.std.proofs.lemmas.List.Elements.{All-nil, All-cons, All-head, All-tail}
+use Rattle.mas_complex.proofs.Names.{◌≡◌, ◌≢◌, inl, inr, ⊎_elim, ◌⊎◌, ◌||◌, ◌==◌, ℕ, zero, suc, ◌+◌, ◌*◌, ◌/◌, ◌%◌, ◌≤◌, ◌<◌, if◌then◌else◌, Bool, true, false, List, [], ◌∷◌, ◌++◌, length, All, Option, Some, None, option_map, unwrap_or, slice_get, slice_index_or, refl, subst, sym, ◌∙◌, ap, arith, list_any, All-nil, All-cons, All-head, All-tail, MemberId, GroupNo, Text, Queue, page_bytes, line_count, Page, Spool, div-add-mod, true≢false, eqb-true, eqb-false, Act, Done, Failed, ActHalted as Halted, View, ViewDisk as Disk, Stretch, Apart, Avoids, disk_now, slice, Dirtied, DirtiedIn, Untouched, Written, ReadBy, Synced, OnDevice, either_way, AreItsOwn, Volumes, volume_of, start_of, IsLeftOf, IsHeldBy, device_of, is_within, page_start, page_part, WritesGroup, Spools, spools_at, bytes_on, IsSynced, IsThere, IsThereUnless, HasTexts, IsReadUnless, GivesTexts}
 use Rattle.std.proofs.lemmas.List.Sorted.{All-permutation}
-use Rattle.mas_types.specs.declared.ids.MemberId.{MemberId}
-use Rattle.mas_types.specs.declared.ids.GroupNo.{GroupNo}
-use Rattle.mas_types.specs.declared.jobs.Text.{Text}
 use Rattle.mas_types.specs.declared.queues.Owner.{Owner}
 use Rattle.mas_types.specs.declared.queues.Owner.TheVariants as owner
 use Rattle.mas_types.specs.declared.queues.Thing.{Thing}
 use Rattle.mas_types.specs.declared.queues.Thing.TheVariants.{Deck, Output}
-use Rattle.mas_types.specs.declared.queues.Queue.{Queue}
-use Rattle.mas_types.specs.Limits.{page_bytes}
-use Rattle.mas_types.specs.Queue.{line_count}
-use Rattle.mas_types.specs.declared.ids.Page.{Page}
-use Rattle.mas_types.specs.declared.ids.Dev.TheVariants.{Spool}
-use Rattle.std.proofs.Math.Nat.{div-add-mod}
-use Rattle.std.proofs.lemmas.Bool.{true≢false, eqb-true, eqb-false}
-use Rattle.spool_plant.specs.declared.plant.Act.{Act}
-use Rattle.spool_plant.specs.declared.plant.Act.TheVariants.{Done, Failed, Halted}
-use Rattle.spool_plant.specs.View.{View, Disk, Stretch, Apart, Avoids, disk_now, slice}
-use Rattle.spool_plant.specs.Acts.{Dirtied, DirtiedIn, Untouched, Written, ReadBy, Synced, OnDevice}
-use Rattle.ckpt_copy.specs.Moments.{either_way}
 use Rattle.ckpt_copy.specs.Slices.{stretch, slice_apart}
 use Rattle.track_groups.specs.Groups.{is_things, groups_where}
 use Rattle.track_groups.specs.Places.{groups_of}
-use Rattle.track_groups.specs.Laws.{AreItsOwn}
-use Rattle.spool_volumes.specs.Volumes.{Volumes, volume_of, start_of}
 use Rattle.spool_volumes.specs.Texts.{Held, held, records_on, gone_or, first_gone, all_records, text_unless, text_of}
-use Rattle.spool_volumes.specs.Laws.{IsLeftOf}
-use Rattle.mas_complex.specs.Spool.{IsHeldBy, device_of, is_within, page_start, page_part, WritesGroup}
-use Rattle.mas_complex.specs.Texts.{Spools, spools_at, bytes_on, IsSynced, IsThere, IsThereUnless, HasTexts, IsReadUnless, GivesTexts}
 
 -- A TEXT IS WHAT ITS GROUPS HOLD
 

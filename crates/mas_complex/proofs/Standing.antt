@@ -1,34 +1,14 @@
 -- What a shared value keeps of its batches on any plant.
-use Rattle.std.proofs.Common.{◌≡◌, ◌≢◌, ℕ, ◌≤◌, ◌||◌, ◌==◌, Bool, true, false, if◌then◌else◌, List, [], ◌∷◌, ◌++◌, length, Option, Some, None, refl, subst, sym, ◌∙◌, ap, arith}
-use Rattle.std.specs.Prelude.{is_some, not}
-use Rattle.std.proofs.lemmas.Bool.{true≢false, eq-eqb}
-use Rattle.std.proofs.lemmas.Bool.Decides.{nat_tests}
-use Rattle.mas_types.specs.declared.ids.MemberId.{MemberId}
-use Rattle.mas_types.specs.declared.journals.Batch.{Batch}
-use Rattle.mas_types.specs.declared.journals.Entry.{Entry}
-use Rattle.mas_types.specs.declared.journals.Fate.TheVariants.{Kept, Dropped}
-use Rattle.mas_types.specs.declared.queues.Queue.{Queue}
-use Rattle.mas_types.specs.Ids.{nobody, is_somebody, same_member}
-use Rattle.mas_types.specs.Journal.{is_flying}
+use Rattle.mas_complex.proofs.Basics.{stays_true}
+use Rattle.mas_complex.proofs.Names.{◌≡◌, ◌≢◌, ℕ, ◌≤◌, ◌||◌, ◌==◌, Bool, true, false, if◌then◌else◌, List, [], ◌∷◌, ◌++◌, length, Option, Some, None, refl, subst, sym, ◌∙◌, ap, is_some, not, true≢false, eq-eqb, MemberId, Batch, Entry, Kept, Dropped, Queue, nobody, is_somebody, same_member, is_flying, Book, IsMember, is_stopped, is_holder, granted, ticked, try_refusal, after_try, after_free, after_stop, seize_refusal, after_seize, after_spend, is_dormant, wakes, same_member_is, test_cases, View, Act, ActHalted as Halted, AreSettled, EndsInPlace, fated, with_last, without_last, Copy, Keeps, Setting, IsOperatorAway, KeepsPaper, book_by, AreReplied, IsFatedBy}
 use Rattle.lock_cycle.specs.declared.answers.LockNo.{LockNo}
 use Rattle.lock_cycle.specs.declared.answers.LockNo.TheVariants as lock
 use Rattle.lock_cycle.specs.declared.answers.SeizeNo.{SeizeNo}
 use Rattle.lock_cycle.specs.declared.answers.SeizeNo.TheVariants as seized
-use Rattle.lock_cycle.specs.Books.{Book, IsMember, is_stopped, is_holder, granted, ticked, try_refusal, after_try, after_free, after_stop, seize_refusal, after_seize, after_spend, is_dormant, wakes}
-use Rattle.paper_laws.proofs.Bools.{same_member_is}
-use Rattle.spool_plant.specs.View.{View}
-use Rattle.spool_plant.specs.declared.plant.Act.{Act}
-use Rattle.spool_plant.specs.declared.plant.Act.TheVariants.{Done, Failed, Halted}
-use Rattle.mas_complex.specs.Journals.{AreSettled, EndsInPlace, fated, with_last, without_last}
-use Rattle.mas_complex.specs.Crash.{Copy, Keeps, Setting}
-use Rattle.mas_complex.specs.Locking.{IsOperatorAway}
-use Rattle.mas_complex.specs.Paper.{KeepsPaper, book_by}
-use Rattle.mas_complex.specs.Replies.{AreReplied}
-use Rattle.mas_complex.specs.Seen.{IsFatedBy}
 use Rattle.mas_complex.proofs.BatchEnds.{as_many, without_last-append}
 use Rattle.mas_complex.proofs.Moves.{unplace_keeps}
-use Rattle.mas_complex.proofs.PaperBooks.{granted_up, stopped_up, spent_up}
-use Rattle.mas_complex.proofs.Papers.{test_cases, unplace_on_paper}
+use Rattle.mas_complex.proofs.PaperBooks.{freed_up, granted_up, seized_up, spent_up, stopped_up, tried_up}
+use Rattle.mas_complex.proofs.Papers.{unplace_on_paper}
 use Rattle.mas_complex.proofs.Replied.{and_none, ended_replied}
 
 -- EACH BATCH HAS ITS FATE
@@ -39,9 +19,8 @@ settled_with_last b (a ∷ []) now are fate first last = (fate, first, last, tt)
 settled_with_last b (a ∷ next ∷ js) now are fate first last = (are.0, are.1, are.2, settled_with_last b (next ∷ js) now are.3 fate first last)
 
 pub settled_without_last : (js : List Batch) (now : ℕ) → AreSettled js now → AreSettled (without_last js) now
-settled_without_last [] now are = tt
-settled_without_last (a ∷ []) now are = tt
 settled_without_last (a ∷ next ∷ js) now are = (are.0, are.1, are.2, settled_without_last (next ∷ js) now are.3)
+settled_without_last _ now are = tt
 
 -- a batch in flight that gets its fate has its place already
 pub as_many_fated : (found reached now : ℕ) (c : Option Batch) (was is : List Batch) → IsFatedBy found reached now c was is → length is ≡ length was
@@ -60,9 +39,6 @@ owned_none book batch is other = absurd (clash is)
     clash : None ≡ Some batch → ⊥
     clash e = cc
 
-abbrev numbered : ℕ → MemberId
-numbered n = record { 0 = n }
-
 -- the member of a batch, if there is one
 abbrev member_of : MemberId → Option Batch → MemberId
 member_of m None = m
@@ -71,29 +47,24 @@ member_of m (Some b) = b.by
 pub owned_own : (b : Batch) (book : Book) → book.holder ≡ b.by → IsOwned (Some b) book
 owned_own b book holds batch is other = absurd (other (subst (λ (x : Option Batch). member_of book.holder x ≡ book.holder) is (sym holds)))
 
-stop_stays : (was is : Bool) → (is ≡ false → was ≡ false) → was ≡ true → is ≡ true
-stop_stays was true up stopped = refl
-stop_stays was false up stopped = absurd (true≢false (sym stopped ∙ up refl))
-
 -- the same member holds, and nobody who was stopped is up
 owned_stays : (old new : Book) (c : Option Batch) → new.holder ≡ old.holder → ((k : MemberId) → is_stopped new k ≡ false → is_stopped old k ≡ false) → IsOwned c old → IsOwned c new
 owned_stays old new c same up own batch is other =
-    stop_stays (is_stopped old batch.by) (is_stopped new batch.by) (up batch.by) (own batch is (λ e. other (e ∙ sym same)))
+    stays_true (is_stopped new batch.by) (is_stopped old batch.by) (up batch.by) (own batch is (λ e. other (e ∙ sym same)))
 
 module _ (b : Book) (m : MemberId) (c : Option Batch) (inside : IsMember b m) (own : IsOwned c b) where
-  pub owned_stopped : IsOwned c (after_stop b m)
+  owned_stopped : IsOwned c (after_stop b m)
   owned_stopped = owned_stays b (after_stop b m) c refl (λ k up. (stopped_up b m inside k up).1) own
 
-  pub owned_spent : (commands : ℕ) → IsOwned c (after_spend b m commands)
+  owned_spent : (commands : ℕ) → IsOwned c (after_spend b m commands)
   owned_spent commands = owned_stays b (after_spend b m commands) c refl (spent_up b m commands inside) own
 
   pub owned_printed : (done : Act) → IsOwned c (book_by m done b)
   owned_printed Halted = owned_stopped
-  owned_printed Done = own
-  owned_printed Failed = own
+  owned_printed _ = own
 
   -- a try is granted where nobody holds, and nothing is in flight then
-  pub owned_tried : (inner : Bool) (reserved : Option (List Entry)) → IsOperatorAway b reserved c → IsOwned c (after_try b m inner)
+  owned_tried : (inner : Bool) (reserved : Option (List Entry)) → IsOperatorAway b reserved c → IsOwned c (after_try b m inner)
   owned_tried inner reserved away =
       test_cases (is_stopped b m || is_holder b m) (IsOwned c (after_try b m inner))
       (λ e. subst (IsOwned c) (sym (as_before e)) own)
@@ -117,16 +88,13 @@ module _ (b : Book) (m : MemberId) (c : Option Batch) (inside : IsMember b m) (o
       is_not true e = refl
       is_not false e = absurd (true≢false e)
 
-      number_is : (k n : ℕ) → (k == n) ≡ true → k ≡ n
-      number_is k n h = grind (arith, nat_tests)
-
       nobody_holds : (is_stopped b m || is_holder b m) ≡ false → is_some (try_refusal b m inner) ≡ false → b.holder ≡ nobody
       nobody_holds e r =
           let free : is_somebody b.holder ≡ false = not_busy (is_stopped b m) (is_holder b m) (is_somebody b.holder) (Some lock.Down) (Some (lock.Busy b.holder)) (if is_dormant b m inner then Some (lock.Dormant (wakes b m)) else None) e refl r in
-          ap numbered (number_is b.holder.0 0 (is_not (b.holder.0 == 0) free))
+          same_member_is b.holder nobody (is_not (b.holder.0 == 0) free)
 
   -- the member that holds has nothing in flight when it gives the lock up
-  pub owned_freed : (inner : Bool) → (is_holder b m ≡ true → c ≡ None) → IsOwned c (after_free b m inner)
+  owned_freed : (inner : Bool) → (is_holder b m ≡ true → c ≡ None) → IsOwned c (after_free b m inner)
   owned_freed inner none =
       test_cases (is_holder b m) (IsOwned c (after_free b m inner))
       (λ e. subst (λ (x : Option Batch). IsOwned x (after_free b m inner)) (sym (none e)) (owned_none (after_free b m inner)))
@@ -136,11 +104,11 @@ module _ (b : Book) (m : MemberId) (c : Option Batch) (inside : IsMember b m) (o
       as_before e = rw e refl
 
   -- the lock is taken over from a member that is stopped
-  pub owned_seized : (of : MemberId) → IsOwned c (after_seize b m of)
+  owned_seized : (of : MemberId) → IsOwned c (after_seize b m of)
   owned_seized of =
       test_cases (is_some (seize_refusal b of)) (IsOwned c (after_seize b m of))
       (λ r. subst (IsOwned c) (sym (refused r)) own)
-      (λ r. subst (IsOwned c) (sym (taken r)) (λ batch is other. stop_stays (is_stopped b batch.by) (is_stopped (granted b m) batch.by) (granted_up b m inside batch.by) (stopped r batch is)))
+      (λ r. subst (IsOwned c) (sym (taken r)) (λ batch is other. stays_true (is_stopped (granted b m) batch.by) (is_stopped b batch.by) (granted_up b m inside batch.by) (stopped r batch is)))
     where
       refused : is_some (seize_refusal b of) ≡ true → after_seize b m of ≡ b
       refused r = rw r refl
@@ -159,6 +127,31 @@ module _ (b : Book) (m : MemberId) (c : Option Batch) (inside : IsMember b m) (o
           test_cases (same_member batch.by b.holder) (is_stopped b batch.by ≡ true)
           (λ e. subst (λ (k : MemberId). is_stopped b k ≡ true) (sym (same_member_is batch.by b.holder e ∙ same_member_is b.holder of from.1)) from.0)
           (λ e. own batch is (λ same. true≢false (sym (eq-eqb batch.by.0 b.holder.0 (ap (λ (k : MemberId). k.0) same)) ∙ e)))
+
+-- WHAT A CALL LEAVES OF THE BOOK: who was stopped still is, and what is in flight is still somebody's
+
+pub record Booked (c : Option Batch) (book is : Book) : Type 0 where
+  pub up : (k : MemberId) → is_stopped is k ≡ false → is_stopped book k ≡ false
+  pub owned : IsOwned c is
+
+module _ (b : Book) (m : MemberId) (c : Option Batch) (inside : IsMember b m) (own : IsOwned c b) (is : Book) where
+  booked : (after : Book) → is ≡ after → ((k : MemberId) → is_stopped after k ≡ false → is_stopped b k ≡ false) → IsOwned c after → Booked c b is
+  booked after same up owned = record { up = λ k w. up k (subst (λ (x : Book). is_stopped x k ≡ false) same w); owned = subst (IsOwned c) (sym same) owned }
+
+  pub stops : is ≡ after_stop b m → Booked c b is
+  stops same = booked (after_stop b m) same (λ k w. (stopped_up b m inside k w).1) (owned_stopped b m c inside own)
+
+  pub spends : (commands : ℕ) → is ≡ after_spend b m commands → Booked c b is
+  spends commands same = booked (after_spend b m commands) same (spent_up b m commands inside) (owned_spent b m c inside own commands)
+
+  pub tries : (inner : Bool) (reserved : Option (List Entry)) → IsOperatorAway b reserved c → is ≡ after_try b m inner → Booked c b is
+  tries inner reserved away same = booked (after_try b m inner) same (tried_up b m inner inside) (owned_tried b m c inside own inner reserved away)
+
+  pub frees : (inner : Bool) → (is_holder b m ≡ true → c ≡ None) → is ≡ after_free b m inner → Booked c b is
+  frees inner none same = booked (after_free b m inner) same (freed_up b m inner inside) (owned_freed b m c inside own inner none)
+
+  pub seizes : (of : MemberId) → is ≡ after_seize b m of → Booked c b is
+  seizes of same = booked (after_seize b m of) same (seized_up b m of inside) (owned_seized b m c inside own of)
 
 -- THE PLACE OF A BATCH TO COME GOES
 

@@ -1,17 +1,6 @@
 -- The texts of the queue over acts, and over a batch that begins or gets its fate.
-use Rattle.std.proofs.Common.{◌≡◌, ◌⊎◌, inl, ⊎_elim, ℕ, ◌≤◌, ◌<◌, Bool, true, false, List, [], ◌∷◌, ◌++◌, if◌then◌else◌, Option, Some, None, subst, sym, ◌∙◌, ap, arith}
-use Rattle.std.proofs.lemmas.List.{append-nil}
-use Rattle.mas_types.specs.declared.ids.Dev.TheVariants.{Spool}
-use Rattle.mas_types.specs.declared.journals.Batch.{Batch}
-use Rattle.mas_types.specs.declared.journals.Entry.{Entry}
-use Rattle.mas_types.specs.declared.journals.Fate.TheVariants.{Flying}
-use Rattle.mas_types.specs.Journal.{is_kept, is_flying}
-use Rattle.spool_plant.specs.View.{View, World, Disk, disk_at, disk_now}
-use Rattle.ckpt_copy.specs.Moments.{either_way}
+use Rattle.mas_complex.proofs.Names.{◌≡◌, ◌⊎◌, inl, ⊎_elim, ℕ, ◌≤◌, ◌<◌, Bool, true, false, List, [], ◌∷◌, ◌++◌, if◌then◌else◌, Option, Some, None, subst, sym, ◌∙◌, ap, arith, append-nil, Spool, Batch, Entry, Flying, is_kept, is_flying, View, World, ViewDisk as Disk, disk_at, disk_now, either_way, spools_at, lost_now, HasTexts, kept, flying, kept_all, in_flight, entries_in, AreSettled, IsBegun, Setting, TextsAt, KeepsTexts, AreSunk}
 use Rattle.mas_complex.proofs.Passing.{Passes}
-use Rattle.mas_complex.specs.Texts.{spools_at, lost_now, HasTexts}
-use Rattle.mas_complex.specs.Journals.{kept, flying, kept_all, in_flight, entries_in, AreSettled, IsBegun}
-use Rattle.mas_complex.specs.Crash.{Setting, TextsAt, KeepsTexts, AreSunk}
 use Rattle.mas_complex.proofs.Batches.{kept_all_append, now_kept, now_flying, begins_kept, begins_flying, fated_kept, fated_flying, settled_push}
 use Rattle.mas_complex.proofs.Spooled.{texts_same, texts_fewer}
 

@@ -1,28 +1,7 @@
 -- What a look at a copy gave, once its pages were counted: over a plant that tells, they are always as many as the
 -- configuration has.
-use Rattle.std.proofs.Common.{◌≡◌, ◌≢◌, ◌⊎◌, inl, inr, ⊎_elim, ℕ, ◌*◌, ◌==◌, Bool, true, false, if◌then◌else◌, nat_lt, List, [], ◌∷◌, ◌++◌, length, All, Option, Some, None, IfSome, IsSome, refl, sym, ◌∙◌, ap, subst, arith}
-use Rattle.std.proofs.lemmas.Bool.{eqb-false, eqb-true}
-use Rattle.std.proofs.lemmas.List.{length-append}
-use Rattle.std.proofs.lemmas.List.Elements.{All-head, All-tail}
-use Rattle.mas_types.specs.declared.ids.Dev.{Dev}
-use Rattle.mas_types.specs.declared.ids.Page.{Page}
-use Rattle.mas_types.specs.declared.journals.Entry.{Entry}
-use Rattle.mas_types.specs.declared.queues.Queue.{Queue}
-use Rattle.mas_types.specs.Limits.{page_bytes}
+use Rattle.mas_complex.proofs.Names.{if◌then◌else◌, ◌≡◌, ◌≢◌, ◌⊎◌, inl, inr, ⊎_elim, ℕ, ◌*◌, ◌==◌, Bool, true, false, nat_lt, List, [], ◌∷◌, ◌++◌, length, All, Option, Some, None, IfSome, IsSome, refl, sym, ◌∙◌, ap, subst, arith, eqb-false, eqb-true, length-append, All-head, All-tail, Dev, Page, Entry, Queue, page_bytes, Disk as DiskPart, View, ViewDisk as Disk, disk_now, bytes_of, level, AllRead, page_count, Look, Lost, Unread, Pages, WasSeen, Place, Renewals, IsNext, IsOneOf, OneCopy, Stands, setting_with, StandFor, run, IfPages, IsGreater, IsOneSeen, Looked, Sought, usable}
 use Rattle.queue_laws.proofs.RunLaws.{runs_keep_configuration}
-use Rattle.spool_plant.specs.declared.plant.Part.TheVariants.{Disk as DiskPart}
-use Rattle.spool_plant.specs.View.{View, Disk, disk_now}
-use Rattle.ckpt_copy.specs.Pages.{bytes_of, level}
-use Rattle.ckpt_copy.specs.Reading.{AllRead}
-use Rattle.ckpt_tables.specs.Shape.{page_count}
-use Rattle.duplex_pair.specs.declared.errors.Look.{Look}
-use Rattle.duplex_pair.specs.declared.errors.Look.TheVariants.{Lost, Unread, Pages}
-use Rattle.duplex_pair.specs.Looks.{WasSeen}
-use Rattle.ckpt_places.specs.declared.places.Place.{Place}
-use Rattle.mas_complex.specs.declared.renewals.Renewals.{Renewals}
-use Rattle.mas_complex.specs.Crash.{IsNext, IsOneOf, OneCopy, Stands, setting_with}
-use Rattle.mas_complex.specs.Meaning.{StandFor, run}
-use Rattle.mas_complex.specs.Seen.{IfPages, IsGreater, IsOneSeen, usable}
 use Rattle.mas_complex.proofs.Looking.{reads_in}
 
 abbrev IsSized : Page → Type 0
@@ -34,12 +13,11 @@ same_found xs ys e = cc
 -- BY WHAT WAS SEEN
 
 pub used_pages : (many : ℕ) (look : Look) (pages : List Page) → usable many look ≡ Pages pages → (look ≡ Pages pages) × (length pages ≡ many)
-used_pages many Lost pages is = absurd (cc)
-used_pages many Unread pages is = absurd (cc)
 used_pages many (Pages found) pages is = by_test (length found == many) refl is where
   by_test : (b : Bool) → (length found == many) ≡ b → (if b then Pages found else Unread) ≡ Pages pages → (Pages found ≡ Pages pages) × (length pages ≡ many)
   by_test true e same = (same, ap length (sym (same_found found pages same)) ∙ eqb-true (length found) many e)
   by_test false e same = absurd (cc)
+used_pages many _ pages is = absurd (cc)
 
 pub used_lost : (many : ℕ) (look : Look) → usable many look ≡ Lost → look ≡ Lost
 used_lost many Lost is = refl
@@ -62,8 +40,7 @@ module _ {C : Type 0} (count room : C → ℕ) (room_most : ℕ) (ready : C → 
   -- a copy that isn't used counts as alive, and its device isn't lost
   pub unused_there : (look : Look) → usable many look ≡ Unread → Seen look → (alive ≡ true) × (v.lost (DiskPart dev) ≡ false)
   unused_there Lost e seen = absurd (cc)
-  unused_there Unread e seen = (seen.is_alive, seen.there)
-  unused_there (Pages pages) e seen = (seen.is_alive, seen.there)
+  unused_there _ e seen = (seen.is_alive, seen.there)
 
   -- where content is told it reads as none, or as another number of pages
   abbrev pub IsUnused : Option (List ℕ) → Type 0
@@ -120,9 +97,9 @@ module _ (reads : List ℕ → Option (List ℕ)) (base : Queue) (since : ℕ) (
 false_true : false ≡ true → ⊥
 false_true e = absurd (cc)
 
-pub seen_alive : (queue : Queue) (flying : List Entry) (tells : Type 0) (reached : ℕ) (alive : Bool) (count : ℕ) (place : Place) (pages : Option (List Page)) → IsOneSeen queue flying tells reached alive count place pages → IsSome pages → alive ≡ true
-seen_alive queue flying tells reached alive count place None seen some = absurd (false_true some)
-seen_alive queue flying tells reached alive count place (Some pages) seen some = seen.is_alive
+pub seen_alive : (tells : Type 0) (it : Sought) (copy : Looked) (pages : Option (List Page)) → IsOneSeen tells it copy pages → IsSome pages → copy.alive ≡ true
+seen_alive tells it copy None seen some = absurd (false_true some)
+seen_alive tells it copy (Some pages) seen some = seen.is_alive
 
 -- the pages found are some that were seen
 pub found_many : (many : ℕ) (one two : Option (List Page)) (found : List Page) → IfSome one (λ pages. length pages ≡ many) → IfSome two (λ pages. length pages ≡ many) → IsGreater one two found → length found ≡ many

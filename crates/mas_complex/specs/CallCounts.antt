@@ -1,10 +1,7 @@
 -- What a call of a member on the copies leaves of what is counted.
+use Rattle.mas_complex.specs.Names.{Dev, Ckpt1, Ckpt2, Spool, Disk as DiskPart, View, Goes, Rose}
+use Rattle.mas_complex.specs.Parts.{Parts, Shown}
 use Rattle.std.specs.Prelude.{◌≡◌, ◌≢◌, ◌⊎◌, ℕ, ◌+◌, Bool, true, false}
-use Rattle.mas_types.specs.declared.ids.Dev.{Dev}
-use Rattle.mas_types.specs.declared.ids.Dev.TheVariants.{Ckpt1, Ckpt2, Spool}
-use Rattle.spool_plant.specs.declared.plant.Part.TheVariants.{Disk as DiskPart}
-use Rattle.spool_plant.specs.View.{View}
-use Rattle.spool_plant.specs.Acts.{Goes, Rose}
 
 -- the calls that lost a copy's device: as many as before, or one more where the copy counted as alive and doesn't any
 -- more
@@ -22,22 +19,39 @@ StandsOrLost dev was is old new =
     (is ≡ true → old.lost (DiskPart dev) ≡ false → new.lost (DiskPart dev) ≡ false)
     × (was ≡ true → is ≡ false → new.lost (DiskPart dev) ≡ true)
 
+-- which copies count as alive, and what the plant shows
+pub record PairState : Type 0 where
+  pub first : Bool
+  pub second : Bool
+  pub view : View
+
+abbrev pub pair_at : Bool → Bool → View → PairState
+pair_at first second view = record { first = first; second = second; view = view }
+
+-- those of these parts
+abbrev pub pair_state : {P C : Type 0} → (P → View) → Parts P C → PairState
+pair_state view x = record { first = x.first_alive; second = x.second_alive; view = view x.plant }
+
+-- of what is shown
+abbrev pub shown_state : Shown → PairState
+shown_state x = record { first = x.first_alive; second = x.second_alive; view = x.view }
+
 -- Which copies counted as alive before the call and count so after it, and whether the member was stopped in it: nobody
 -- else is stopped, and its stop is the last act; nothing is armed, and no device is lost by a call but that of a copy,
 -- once. Each volume is lost where it was, and no fault of it is counted.
-pub record KeepsCounts (by : ℕ) (was1 is1 was2 is2 stopped : Bool) (old new : View) : Type 0 where
-  pub goes : Goes old new
-  pub alive1 : is1 ≡ true → was1 ≡ true
-  pub alive2 : is2 ≡ true → was2 ≡ true
-  pub no_other_stop : (m : ℕ) → (m ≢ by) ⊎ (stopped ≡ false) → new.stops m ≡ old.stops m
-  pub at_halt : stopped ≡ true → new.halt ≡ new.now
-  pub arms : (m : ℕ) → new.arms m ≡ old.arms m
-  pub once1 : IsLostOnce was1 is1 (old.loses Ckpt1) (new.loses Ckpt1)
-  pub once2 : IsLostOnce was2 is2 (old.loses Ckpt2) (new.loses Ckpt2)
-  pub gone1 : IsLostSo Ckpt1 was1 is1 old new
-  pub gone2 : IsLostSo Ckpt2 was2 is2 old new
-  pub device1 : StandsOrLost Ckpt1 was1 is1 old new
-  pub device2 : StandsOrLost Ckpt2 was2 is2 old new
-  pub else_loses : (d : Dev) → d ≢ Ckpt1 → d ≢ Ckpt2 → new.loses d ≡ old.loses d
-  pub volumes_lost : (n : ℕ) → new.lost (DiskPart (Spool n)) ≡ old.lost (DiskPart (Spool n))
-  pub volumes_faults : (n : ℕ) → new.faults (DiskPart (Spool n)) ≡ old.faults (DiskPart (Spool n))
+pub record KeepsCounts (by : ℕ) (stopped : Bool) (old new : PairState) : Type 0 where
+  pub goes : Goes old.view new.view
+  pub alive1 : new.first ≡ true → old.first ≡ true
+  pub alive2 : new.second ≡ true → old.second ≡ true
+  pub no_other_stop : (m : ℕ) → (m ≢ by) ⊎ (stopped ≡ false) → new.view.stops m ≡ old.view.stops m
+  pub at_halt : stopped ≡ true → new.view.halt ≡ new.view.now
+  pub arms : (m : ℕ) → new.view.arms m ≡ old.view.arms m
+  pub once1 : IsLostOnce old.first new.first (old.view.loses Ckpt1) (new.view.loses Ckpt1)
+  pub once2 : IsLostOnce old.second new.second (old.view.loses Ckpt2) (new.view.loses Ckpt2)
+  pub gone1 : IsLostSo Ckpt1 old.first new.first old.view new.view
+  pub gone2 : IsLostSo Ckpt2 old.second new.second old.view new.view
+  pub device1 : StandsOrLost Ckpt1 old.first new.first old.view new.view
+  pub device2 : StandsOrLost Ckpt2 old.second new.second old.view new.view
+  pub else_loses : (d : Dev) → d ≢ Ckpt1 → d ≢ Ckpt2 → new.view.loses d ≡ old.view.loses d
+  pub volumes_lost : (n : ℕ) → new.view.lost (DiskPart (Spool n)) ≡ old.view.lost (DiskPart (Spool n))
+  pub volumes_faults : (n : ℕ) → new.view.faults (DiskPart (Spool n)) ≡ old.view.faults (DiskPart (Spool n))

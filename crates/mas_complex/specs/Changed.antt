@@ -1,6 +1,6 @@
 -- Which pages a batch changes.
+use Rattle.mas_complex.specs.Names.{page_in}
 use Rattle.std.specs.Prelude.{◌≡◌, ◌≢◌, ◌⊎◌, ℕ, List, All}
-use Rattle.ckpt_copy.specs.Pages.{page_in}
 
 -- each of the numbers is 0 or that of a page that isn't as it was
 abbrev pub NamesOnly : List ℕ → List ℕ → List ℕ → Type 0

@@ -1,8 +1,6 @@
 -- What calls on the copies leave as it was.
+use Rattle.mas_complex.specs.Names.{Dev, View, disk_at, disk_now, Throughout, SameWires}
 use Rattle.std.specs.Prelude.{◌≡◌, ◌≢◌}
-use Rattle.mas_types.specs.declared.ids.Dev.{Dev}
-use Rattle.spool_plant.specs.View.{View, disk_at, disk_now, Throughout}
-use Rattle.spool_plant.specs.Acts.{SameWires}
 use Rattle.mas_complex.specs.Kept.{OnlyOnCopies}
 use Rattle.mas_complex.specs.Paper.{SamePapers}
 

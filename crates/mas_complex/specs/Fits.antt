@@ -1,11 +1,7 @@
 -- Whether a copy's pages fit those that were found.
+use Rattle.mas_complex.specs.Names.{Page, Place, Before, bytes_of, level, level_in}
 use Rattle.std.specs.Prelude.{ℕ, ◌+◌, ◌==◌, ◌&&◌, ◌||◌, nat_le, if◌then◌else◌, Bool, true, false, List, [], ◌∷◌, ◌++◌}
 use Rattle.std.specs.Str.{bytes_eq}
-use Rattle.mas_types.specs.declared.ids.Page.{Page}
-use Rattle.ckpt_places.specs.declared.places.Place.{Place}
-use Rattle.ckpt_places.specs.declared.places.Place.TheVariants.{Before}
-use Rattle.ckpt_copy.specs.Pages.{bytes_of, level}
-use Rattle.ckpt_tables.specs.Shape.{level_in}
 
 -- two copies' pages are equal, page by page
 abbrev pub are_same : List Page → List Page → Bool

@@ -1,21 +1,9 @@
 -- What holds at each moment since a shared value was made, in the words of journal, images and console.
+use Rattle.mas_complex.specs.Names.{Ckpt1, Ckpt2, Spool, MemberId, Kept, Queue, Closing, kept_at, flying_at, IsSound, closing_line, View, ViewDisk as Disk, Line, Throughout, LeavesOnly, disk_at, top, level, best, Volumes}
 use Rattle.std.specs.Prelude.{◌≡◌, ◌⊎◌, ℕ, ◌+◌, ◌≤◌, ◌<◌, ◌||◌, true, false, List, [], ◌++◌, length, drop, Option, Some, None, All, Contains, IfSome}
-use Rattle.mas_types.specs.declared.ids.Dev.TheVariants.{Ckpt1, Ckpt2, Spool}
-use Rattle.mas_types.specs.declared.ids.MemberId.{MemberId}
 use Rattle.mas_types.specs.declared.journals.Journal.{Journal}
-use Rattle.mas_types.specs.declared.journals.Fate.TheVariants.{Kept}
-use Rattle.mas_types.specs.declared.queues.Queue.{Queue}
-use Rattle.mas_types.specs.declared.answers.Closing.{Closing}
-use Rattle.mas_types.specs.Journal.{kept_at, flying_at}
-use Rattle.mas_types.specs.Sound.{IsSound}
-use Rattle.mas_types.specs.Closings.{closing_line}
-use Rattle.spool_plant.specs.View.{View, Disk, Line, Throughout, LeavesOnly, disk_at}
-use Rattle.spool_plant.specs.Acts.{top}
-use Rattle.ckpt_copy.specs.Pages.{level}
-use Rattle.duplex_pair.specs.Finds.{best}
 use Rattle.mas_complex.specs.Meaning.{run, StandFor, is_telling}
 use Rattle.mas_complex.specs.Journals.{batches_kept, has_step, journal_most}
-use Rattle.spool_volumes.specs.Volumes.{Volumes}
 use Rattle.mas_complex.specs.Texts.{lost_now, GivesTexts}
 use Rattle.mas_complex.specs.Paper.{PaperKept}
 use Rattle.mas_complex.specs.declared.renewals.Renewals.{Renewals}

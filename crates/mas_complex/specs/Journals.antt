@@ -1,14 +1,7 @@
 -- What the batches of a journal say of a moment, batch by batch.
+use Rattle.mas_complex.specs.Names.{MemberId, Batch, Entry, Fate, Kept, Dropped, Flying, same_member, is_kept, is_flying, is_kept_by, is_flying_at, top}
 use Rattle.std.specs.Prelude.{◌≡◌, ℕ, ◌+◌, ◌*◌, ◌^◌, ◌≤◌, ◌==◌, ◌&&◌, if◌then◌else◌, Bool, true, false, List, [], ◌∷◌, ◌++◌, length, Option, Some, None}
 use Rattle.std.specs.List.{list_any}
-use Rattle.mas_types.specs.declared.ids.MemberId.{MemberId}
-use Rattle.mas_types.specs.declared.journals.Batch.{Batch}
-use Rattle.mas_types.specs.declared.journals.Entry.{Entry}
-use Rattle.mas_types.specs.declared.journals.Fate.{Fate}
-use Rattle.mas_types.specs.declared.journals.Fate.TheVariants.{Kept, Dropped, Flying}
-use Rattle.mas_types.specs.Ids.{same_member}
-use Rattle.mas_types.specs.Journal.{is_kept, is_flying, is_kept_by, is_flying_at}
-use Rattle.spool_plant.specs.Acts.{top}
 
 -- what a batch adds to the kept entries of a moment, and to those in flight
 abbrev pub kept_of : Batch → ℕ → List Entry

@@ -1,12 +1,6 @@
 -- The pages that both copies have between batches.
+use Rattle.mas_complex.specs.Names.{Dev, Ckpt1, Ckpt2, Queue, View, ViewDisk as Disk, Throughout, disk_at, disk_now, level, Place, Before}
 use Rattle.std.specs.Prelude.{◌≡◌, ◌≢◌, ℕ, Bool, true, List}
-use Rattle.mas_types.specs.declared.ids.Dev.{Dev}
-use Rattle.mas_types.specs.declared.ids.Dev.TheVariants.{Ckpt1, Ckpt2}
-use Rattle.mas_types.specs.declared.queues.Queue.{Queue}
-use Rattle.spool_plant.specs.View.{View, Disk, Throughout, disk_at, disk_now}
-use Rattle.ckpt_copy.specs.Pages.{level}
-use Rattle.ckpt_places.specs.declared.places.Place.{Place}
-use Rattle.ckpt_places.specs.declared.places.Place.TheVariants.{Before}
 use Rattle.mas_complex.specs.Meaning.{StandFor}
 
 -- There are pages of this level, which stand for the queue. A copy that counts as alive and is as before any batch is

@@ -23,3 +23,4 @@ pub mod Settled
 pub use Rattle.ckpt_form.specs.declared.steady.Steady
 pub use Rattle.pair_replacing.specs.Replacing
 pub use Rattle.pair_replacing.specs.declared.replacing.ReplaceNo
+pub mod Names

@@ -1,12 +1,6 @@
 -- Who may act, and what becomes of a reserved batch when its member is stopped.
+use Rattle.mas_complex.specs.Names.{nobody, same_member, MemberId, Batch, Entry, Config, members_most, Book, is_stopped, new_book}
 use Rattle.std.specs.Prelude.{◌≡◌, ◌≢◌, ◌<◌, min, Bool, false, if◌then◌else◌, List, [], ◌∷◌, Option, Some, None}
-use Rattle.mas_types.specs.Ids.{nobody, same_member}
-use Rattle.mas_types.specs.declared.ids.MemberId.{MemberId}
-use Rattle.mas_types.specs.declared.journals.Batch.{Batch}
-use Rattle.mas_types.specs.declared.journals.Entry.{Entry}
-use Rattle.mas_types.specs.declared.queues.Config.{Config}
-use Rattle.mas_types.specs.Limits.{members_most}
-use Rattle.lock_cycle.specs.Books.{Book, is_stopped, new_book}
 
 -- the book of a run with this configuration, in which nobody holds
 abbrev pub book_of : Config → Book

@@ -1,14 +1,7 @@
 -- What the bytes of a copy's pages stand for, and what closing lines tell. What entries do is the table of commands.
+use Rattle.mas_complex.specs.Names.{MemberId, Page, Queue, Closing, page_bytes, closing_line, bytes_of, PagesTell}
 use Rattle.std.specs.Prelude.{◌≡◌, ℕ, Bool, true, false, List, length, All}
-use Rattle.mas_types.specs.declared.ids.MemberId.{MemberId}
-use Rattle.mas_types.specs.declared.ids.Page.{Page}
-use Rattle.mas_types.specs.declared.queues.Queue.{Queue}
-use Rattle.mas_types.specs.declared.answers.Closing.{Closing}
 use Rattle.mas_types.specs.declared.answers.Closing.TheVariants as closing
-use Rattle.mas_types.specs.Limits.{page_bytes}
-use Rattle.mas_types.specs.Closings.{closing_line}
-use Rattle.ckpt_copy.specs.Pages.{bytes_of}
-use Rattle.queue_telling.specs.Telling.{PagesTell}
 pub use Rattle.mas_types.specs.Run.{run, replies}
 pub use Rattle.mas_types.specs.Step.{step}
 

@@ -1,25 +1,11 @@
 -- What stands on the printers at each moment since a shared value was made.
+use Rattle.mas_complex.specs.Names.{MemberId, Text, Whole, Batch, Entry, Queue, IsSound, members_most, Book, is_stopped, after_stop, View, Line, Throughout, Act, Done, ActHalted as Halted, Counts, begins_anew, AreAllowed, AreLinesOn, AreMarksOn, AreMarkedLinesOn, IsNextLine}
 use Rattle.std.specs.Prelude.{◌≡◌, ◌⊎◌, ℕ, ◌+◌, ◌-◌, ◌≤◌, ◌<◌, max, nat_le, ◌&&◌, if◌then◌else◌, true, false, List, [], ◌∷◌, ◌++◌, length, slice_index_or, slice_set, replicate, Option, Some, None, All, Contains}
 use Rattle.std.specs.List.{list_any}
-use Rattle.mas_types.specs.declared.ids.MemberId.{MemberId}
 use Rattle.mas_types.specs.declared.ids.JobNo.{JobNo}
 use Rattle.mas_types.specs.declared.ids.OutNo.{OutNo}
-use Rattle.mas_types.specs.declared.jobs.Text.{Text}
-use Rattle.mas_types.specs.declared.jobs.Text.TheVariants.{Whole}
-use Rattle.mas_types.specs.declared.journals.Batch.{Batch}
-use Rattle.mas_types.specs.declared.journals.Entry.{Entry}
-use Rattle.mas_types.specs.declared.queues.Queue.{Queue}
 use Rattle.mas_types.specs.Printed.{printed_line}
-use Rattle.mas_types.specs.Sound.{IsSound}
-use Rattle.mas_types.specs.Limits.{members_most}
-use Rattle.lock_cycle.specs.Books.{Book, is_stopped, after_stop}
 use Rattle.queue_laws.specs.Runs.{IsGiven}
-use Rattle.spool_plant.specs.View.{View, Line, Throughout}
-use Rattle.spool_plant.specs.declared.plant.Act.{Act}
-use Rattle.spool_plant.specs.declared.plant.Act.TheVariants.{Done, Halted}
-use Rattle.paper_laws.specs.Counts.{Counts, begins_anew, AreAllowed}
-use Rattle.paper_laws.specs.Paper.{AreLinesOn, AreMarksOn, AreMarkedLinesOn}
-use Rattle.paper_laws.specs.Next.{IsNextLine}
 use Rattle.mas_complex.specs.Meaning.{run}
 use Rattle.mas_complex.specs.Locking.{reserved_after_stop}
 use Rattle.mas_complex.specs.Journals.{kept, flying, kept_all, in_flight, entries_in}

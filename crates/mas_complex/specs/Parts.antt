@@ -1,26 +1,13 @@
 -- The parts of a shared value, what of them its facts rest on, and which of them a call changes.
+use Rattle.mas_complex.specs.Names.{Dev, MemberId, Page, Batch, Entry, Queue, View, Fate, Kept, Dropped, pick, other, NotLost, ReplaceNoBothLost as BothLost, Failed, ReplaceNoHalted as Halted, ReplaceNoNoMemory as NoMemory, Book, Place, Before}
 use Rattle.std.specs.Prelude.{ℕ, ◌+◌, Bool, true, false, List, ◌∷◌, ◌++◌, [], Option, Some, None, Result, Ok, Err}
-use Rattle.mas_types.specs.declared.ids.Dev.{Dev}
-use Rattle.mas_types.specs.declared.ids.MemberId.{MemberId}
-use Rattle.mas_types.specs.declared.ids.Page.{Page}
 use Rattle.mas_complex.specs.Past.{values_of}
-use Rattle.mas_types.specs.declared.journals.Batch.{Batch}
-use Rattle.mas_types.specs.declared.journals.Entry.{Entry}
-use Rattle.mas_types.specs.declared.queues.Queue.{Queue}
-use Rattle.spool_plant.specs.View.{View}
 use Rattle.spool_plant.specs.declared.plant.Plant.{Ghosts as PlantGhosts}
 use Rattle.ckpt_copy.specs.declared.copying.Copying.{Ghosts as CopyGhosts}
-use Rattle.mas_types.specs.declared.journals.Fate.{Fate}
-use Rattle.mas_types.specs.declared.journals.Fate.TheVariants.{Kept, Dropped}
-use Rattle.duplex_pair.specs.Halves.{pick, other}
 use Rattle.pair_replacing.specs.declared.replacing.ReplaceNo.{ReplaceNo}
-use Rattle.pair_replacing.specs.declared.replacing.ReplaceNo.TheVariants.{NotLost, BothLost, Failed, Halted, NoMemory}
 use Rattle.mas_complex.specs.Renewals.{begun_on, ended_on}
-use Rattle.lock_cycle.specs.Books.{Book}
 use Rattle.mas_complex.specs.Journals.{begun, fated, with_last, without_last, entries_reserved}
 use Rattle.mas_complex.specs.Paper.{printed_after}
-use Rattle.ckpt_places.specs.declared.places.Place.{Place}
-use Rattle.ckpt_places.specs.declared.places.Place.TheVariants.{Before}
 use Rattle.ckpt_form.specs.declared.steady.Steady.{Ghosts as SteadyGhosts}
 use Rattle.mas_complex.specs.declared.complex.Complex.{Complex}
 use Rattle.mas_complex.specs.declared.renewals.Renewals.{Renewals}

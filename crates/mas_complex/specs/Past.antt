@@ -1,12 +1,7 @@
 -- What a batch leaves of the pages before it, and what members noted of them.
+use Rattle.mas_complex.specs.Names.{Page, members_most, bytes_of, level, page_in, level_in, Place, Put, Unsure}
 use Rattle.std.specs.Prelude.{◌≡◌, ◌≢◌, ◌⊎◌, ℕ, zero, suc, ◌+◌, ◌≤◌, ◌<◌, Bool, true, false, List, [], ◌∷◌, replicate, Option, Some, slice_get}
 use Rattle.mas_complex.specs.declared.noting.Note.{Note}
-use Rattle.mas_types.specs.declared.ids.Page.{Page}
-use Rattle.mas_types.specs.Limits.{members_most}
-use Rattle.ckpt_copy.specs.Pages.{bytes_of, level, page_in}
-use Rattle.ckpt_tables.specs.Shape.{level_in}
-use Rattle.ckpt_places.specs.declared.places.Place.{Place}
-use Rattle.ckpt_places.specs.declared.places.Place.TheVariants.{Put, Unsure}
 
 -- the level that page 0 gives page q
 abbrev pub age : ℕ → List ℕ → ℕ

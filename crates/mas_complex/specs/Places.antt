@@ -1,9 +1,6 @@
 -- How far the batch in flight has come on a copy after a call.
+use Rattle.mas_complex.specs.Names.{PairNo, BothLost, Halted, Place, Before, Put, Opened, Unsure}
 use Rattle.std.specs.Prelude.{◌≡◌, ◌≢◌, ◌⊎◌, ℕ, List, Option, Some, Result, Ok, Err}
-use Rattle.duplex_pair.specs.declared.errors.PairNo.{PairNo}
-use Rattle.duplex_pair.specs.declared.errors.PairNo.TheVariants.{BothLost, Halted}
-use Rattle.ckpt_places.specs.declared.places.Place.{Place}
-use Rattle.ckpt_places.specs.declared.places.Place.TheVariants.{Before, Put, Opened, Unsure}
 pub use Rattle.ckpt_places.specs.Kept.{is_opened, all_open}
 
 abbrev pub IsPlaceAfter : {T : Type 0} → Result T PairNo → Place → Place → Type 0

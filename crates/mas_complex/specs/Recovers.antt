@@ -1,9 +1,6 @@
 -- Why nothing is recovered.
+use Rattle.mas_complex.specs.Names.{PairNo, BothLost as PairBothLost, Halted as PairHalted, LookNo, LookHalted, NoMemory as LookNoMemory}
 use Rattle.std.specs.Prelude.{Bool, true, false, Result, Ok, Err}
-use Rattle.duplex_pair.specs.declared.errors.PairNo.{PairNo}
-use Rattle.duplex_pair.specs.declared.errors.PairNo.TheVariants.{BothLost as PairBothLost, Halted as PairHalted}
-use Rattle.duplex_pair.specs.declared.errors.LookNo.{LookNo}
-use Rattle.duplex_pair.specs.declared.errors.LookNo.TheVariants.{Halted as LookHalted, NoMemory as LookNoMemory}
 use Rattle.mas_complex.specs.declared.recover.RecoverNo.{RecoverNo}
 use Rattle.mas_complex.specs.declared.recover.RecoverNo.TheVariants.{BothLost, Halted, NoMemory}
 

@@ -1,9 +1,6 @@
 -- When a copy that was replaced isn't good yet.
+use Rattle.mas_complex.specs.Names.{Dev, Ckpt1, Ckpt2, Spool, top, pick}
 use Rattle.std.specs.Prelude.{ℕ, ◌≤◌, nat_le, nat_lt, ◌&&◌, ◌||◌, not, if◌then◌else◌, Bool, false, List, [], ◌∷◌, ◌++◌, map, Option, Some, None, is_none}
-use Rattle.mas_types.specs.declared.ids.Dev.{Dev}
-use Rattle.mas_types.specs.declared.ids.Dev.TheVariants.{Ckpt1, Ckpt2, Spool}
-use Rattle.spool_plant.specs.Acts.{top}
-use Rattle.duplex_pair.specs.Halves.{pick}
 use Rattle.mas_complex.specs.declared.renewals.Renewal.{Renewal}
 use Rattle.mas_complex.specs.declared.renewals.Renewals.{Renewals}
 

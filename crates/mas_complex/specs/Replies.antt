@@ -1,9 +1,6 @@
 -- The replies of a history.
+use Rattle.mas_complex.specs.Names.{Queue, Batch, Entry, is_kept}
 use Rattle.std.specs.Prelude.{◌≡◌, if◌then◌else◌, List, [], ◌∷◌}
-use Rattle.mas_types.specs.declared.queues.Queue.{Queue}
-use Rattle.mas_types.specs.declared.journals.Batch.{Batch}
-use Rattle.mas_types.specs.declared.journals.Entry.{Entry}
-use Rattle.mas_types.specs.Journal.{is_kept}
 use Rattle.mas_complex.specs.Meaning.{step, run}
 
 -- each entry has the reply that its command is given at its place

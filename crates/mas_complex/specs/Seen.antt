@@ -1,19 +1,13 @@
 -- How far the batch in flight has come on a copy that was looked at.
-use Rattle.std.specs.Prelude.{◌≡◌, ◌≢◌, ◌⊎◌, ℕ, ◌+◌, ◌≤◌, ◌==◌, nat_lt, if◌then◌else◌, Bool, true, false, List, length, Option, Some, None, IsSome, Result, Ok, Err}
-use Rattle.mas_types.specs.declared.ids.Page.{Page}
-use Rattle.mas_types.specs.declared.journals.Batch.{Batch}
-use Rattle.mas_types.specs.declared.journals.Entry.{Entry}
-use Rattle.mas_types.specs.declared.journals.Fate.TheVariants.{Kept, Dropped}
-use Rattle.mas_types.specs.declared.queues.Queue.{Queue}
-use Rattle.mas_types.specs.Limits.{pages_most}
-use Rattle.ckpt_copy.specs.Pages.{bytes_of, level, Covers}
+use Rattle.mas_complex.specs.Names.{Ckpt1, Ckpt2, Disk as DiskPart, Rose, View, disk_now, Page, Batch, Entry, Kept, Dropped, Queue, pages_most, bytes_of, level, Covers, LookNo, Place, Before, Opened, Unsure}
+use Rattle.std.specs.Prelude.{◌≡◌, ◌≢◌, ◌⊎◌, ℕ, ◌+◌, ◌++◌, ◌≤◌, ◌==◌, nat_lt, if◌then◌else◌, Bool, true, false, List, length, Option, Some, None, IsSome, Result, Ok, Err}
 use Rattle.duplex_pair.specs.declared.errors.Look.{Look}
 use Rattle.duplex_pair.specs.declared.errors.Look.TheVariants.{Lost, Unread, Pages}
-use Rattle.duplex_pair.specs.declared.errors.LookNo.{LookNo}
-use Rattle.mas_complex.specs.Meaning.{StandFor}
-use Rattle.ckpt_places.specs.declared.places.Place.{Place}
-use Rattle.ckpt_places.specs.declared.places.Place.TheVariants.{Before, Opened, Unsure}
-use Rattle.mas_complex.specs.Journals.{with_last, fated}
+use Rattle.duplex_pair.specs.declared.half.Half.{Half}
+use Rattle.mas_complex.specs.CallCounts.{PairState}
+use Rattle.mas_complex.specs.Parts.{Parts}
+use Rattle.mas_complex.specs.Meaning.{StandFor, run}
+use Rattle.mas_complex.specs.Journals.{with_last, fated, entries_in, kept_all}
 use Rattle.mas_complex.specs.Fits.{fits, can_stay, found_numbers}
 use Rattle.mas_complex.specs.Places.{IsAtLevel}
 
@@ -43,22 +37,52 @@ HasNext queue flying reached place Unread = Unit {0}
 HasNext queue flying reached place (Pages pages) = place ≡ Opened → (level (bytes_of pages) ≡ reached + 1)
     × ∥ StandFor queue (bytes_of pages) ∥₁ × (1 ≤ length flying)
 
+-- what copies are read against: what their bytes read as, the queue with the batch in flight, that batch's entries, and
+-- the level reached
+pub record Sought : Type 0 where
+  pub reads : List ℕ → Option (List ℕ)
+  pub queue : Queue
+  pub flying : List Entry
+  pub reached : ℕ
+
+abbrev pub sought : {P C : Type 0} → (List ℕ → Option (List ℕ)) → Parts P C → Sought
+sought reads x = record {
+  reads = reads;
+  queue = run x.base (kept_all x.batches ++ entries_in x.current);
+  flying = entries_in x.current;
+  reached = x.level;
+}
+
+-- a copy that was looked at: whether it counts as alive, how many pages it has and how much room, and how far the batch
+-- in flight has come on it
+pub record Looked : Type 0 where
+  pub alive : Bool
+  pub count : ℕ
+  pub room : ℕ
+  pub place : Place
+
+abbrev pub looked : {C : Type 0} → (C → ℕ) → (C → ℕ) → Half C → Place → Looked
+looked count room half place = record {
+  alive = half.alive;
+  count = count half.copy;
+  room = room half.copy;
+  place = place;
+}
+
 -- A copy that was looked at has these pages, and so many: how far the batch has come on it, and what the pages stand
 -- for where they have it.
-pub record OneSeen (queue : Queue) (flying : List Entry) (tells : Type 0) (reached : ℕ) (alive : Bool) (count : ℕ)
-    (place : Place) (pages : List Page) : Type 0 where
-  pub is_alive : alive ≡ true
-  pub as_many : length pages ≡ count
-  pub few : count ≤ pages_most
-  pub some : 1 ≤ count
-  pub at : IsAtLevel (level (bytes_of pages)) reached place
-  pub next : tells → HasNext queue flying reached place (Pages pages)
+pub record OneSeen (tells : Type 0) (it : Sought) (copy : Looked) (pages : List Page) : Type 0 where
+  pub is_alive : copy.alive ≡ true
+  pub as_many : length pages ≡ copy.count
+  pub few : copy.count ≤ pages_most
+  pub some : 1 ≤ copy.count
+  pub at : IsAtLevel (level (bytes_of pages)) it.reached copy.place
+  pub next : tells → HasNext it.queue it.flying it.reached copy.place (Pages pages)
 
 -- a copy without pages counts as lost
-abbrev pub IsOneSeen : Queue → List Entry → Type 0 → ℕ → Bool → ℕ → Place → Option (List Page) → Type 0
-IsOneSeen queue flying tells reached alive count place None = alive ≡ false
-IsOneSeen queue flying tells reached alive count place (Some pages) = OneSeen queue flying tells reached alive count
-    place pages
+abbrev pub IsOneSeen : Type 0 → Sought → Looked → Option (List Page) → Type 0
+IsOneSeen tells it copy None = copy.alive ≡ false
+IsOneSeen tells it copy (Some pages) = OneSeen tells it copy pages
 
 -- the bytes of a device read as the pages that were seen on it
 abbrev pub ReadsSeen : (List ℕ → Option (List ℕ)) → List ℕ → Option (List Page) → Type 0
@@ -78,35 +102,32 @@ Stays place room found other = (length found ≡ length other)
     × DiffersAtFound (bytes_of other) found))
 
 -- a copy has the pages found
-abbrev pub HasFound : (List ℕ → Option (List ℕ)) → Type 0 → ℕ → Place → List ℕ → List Page → Type 0
-HasFound reads tells reached place bytes found = IsAtLevel (level (bytes_of found)) reached place
-    × (tells → reads bytes ≡ Some (bytes_of found))
+abbrev pub HasFound : Type 0 → Sought → Looked → List ℕ → List Page → Type 0
+HasFound tells it copy bytes found = IsAtLevel (level (bytes_of found)) it.reached copy.place
+    × (tells → it.reads bytes ≡ Some (bytes_of found))
 
 -- a copy lags one batch behind the pages found
-abbrev pub IsBehind : (List ℕ → Option (List ℕ)) → Type 0 → ℕ → ℕ → Place → List ℕ → List Page → Type 0
-IsBehind reads tells reached room place bytes found = (place ≡ Before) × (level (bytes_of found) ≡ reached + 1)
-    × (1 ≤ room) × (tells → (was : List ℕ) → reads bytes ≡ Some was → DiffersAtFound was found)
+abbrev pub IsBehind : Type 0 → Sought → Looked → List ℕ → List Page → Type 0
+IsBehind tells it copy bytes found = (copy.place ≡ Before) × (level (bytes_of found) ≡ it.reached + 1)
+    × (1 ≤ copy.room) × (tells → (was : List ℕ) → it.reads bytes ≡ Some was → DiffersAtFound was found)
 
 -- a copy of so many pages, once pages were found
-pub record Agrees (reads : List ℕ → Option (List ℕ)) (tells : Type 0) (reached count room : ℕ) (place : Place)
-    (bytes : List ℕ) (found : List Page) : Type 0 where
-  pub as_many : length found ≡ count
-  pub has : HasFound reads tells reached place bytes found ⊎ IsBehind reads tells reached room place bytes found
+pub record Agrees (tells : Type 0) (it : Sought) (copy : Looked) (bytes : List ℕ) (found : List Page) : Type 0 where
+  pub as_many : length found ≡ copy.count
+  pub has : HasFound tells it copy bytes found ⊎ IsBehind tells it copy bytes found
 
 -- the pages with the batch in flight, which has an entry, have the next level, and stand for the queue with it
-abbrev pub IsNextOr : Queue → List Entry → ℕ → List Page → Type 0
-IsNextOr queue flying reached found = level (bytes_of found) ≢ reached → (level (bytes_of found) ≡ reached + 1)
-    × ∥ StandFor queue (bytes_of found) ∥₁ × (1 ≤ length flying)
+abbrev pub IsNextOr : Sought → List Page → Type 0
+IsNextOr it found = level (bytes_of found) ≢ it.reached → (level (bytes_of found) ≡ it.reached + 1)
+    × ∥ StandFor it.queue (bytes_of found) ∥₁ × (1 ≤ length it.flying)
 
 -- the pages found on two copies: one that counts as alive has them, and the other agrees
-pub record Chosen (reads : List ℕ → Option (List ℕ)) (tells : Type 0) (queue : Queue) (flying : List Entry)
-    (reached : ℕ) (alive1 : Bool) (count1 room1 : ℕ) (place1 : Place) (bytes1 : List ℕ) (alive2 : Bool)
-    (count2 room2 : ℕ) (place2 : Place) (bytes2 : List ℕ) (found : List Page) : Type 0 where
-  pub first : alive1 ≡ true → Agrees reads tells reached count1 room1 place1 bytes1 found
-  pub second : alive2 ≡ true → Agrees reads tells reached count2 room2 place2 bytes2 found
-  pub one : ((alive1 ≡ true) × HasFound reads tells reached place1 bytes1 found)
-      ⊎ ((alive2 ≡ true) × HasFound reads tells reached place2 bytes2 found)
-  pub next : tells → IsNextOr queue flying reached found
+pub record Chosen (tells : Type 0) (it : Sought) (copy1 copy2 : Looked) (v : View) (found : List Page) : Type 0 where
+  pub first : copy1.alive ≡ true → Agrees tells it copy1 (disk_now v Ckpt1).bytes found
+  pub second : copy2.alive ≡ true → Agrees tells it copy2 (disk_now v Ckpt2).bytes found
+  pub one : ((copy1.alive ≡ true) × HasFound tells it copy1 (disk_now v Ckpt1).bytes found)
+      ⊎ ((copy2.alive ≡ true) × HasFound tells it copy2 (disk_now v Ckpt2).bytes found)
+  pub next : tells → IsNextOr it found
   pub some : 1 ≤ length found
   pub few : length found ≤ pages_most
 
@@ -140,14 +161,15 @@ IsGreater (Some one) (Some two) found = found
 
 -- What a call found that looked at both copies: of the pages that they read as those of greater level, CKPT1's on a
 -- tie. A copy gave pages only where it counted as alive, and then gave none only where an act on it failed.
-pub record IsPicked (reads : List ℕ → Option (List ℕ)) (alive1 alive2 : Bool) (bytes1 bytes2 : List ℕ)
-    (failed1 failed2 : Type 0) (found : List Page) : Type 0 where
+pub record IsPicked (reads : List ℕ → Option (List ℕ)) (old new : PairState) (found : List Page) : Type 0 where
   pub one : Option (List Page)
   pub two : Option (List Page)
-  pub some1 : IsSome one → alive1 ≡ true
-  pub some2 : IsSome two → alive2 ≡ true
-  pub read1 : ReadsSeen reads bytes1 one
-  pub read2 : ReadsSeen reads bytes2 two
-  pub none1 : one ≡ None → alive1 ≡ true → failed1
-  pub none2 : two ≡ None → alive2 ≡ true → failed2
+  pub some1 : IsSome one → old.first ≡ true
+  pub some2 : IsSome two → old.second ≡ true
+  pub read1 : ReadsSeen reads (disk_now old.view Ckpt1).bytes one
+  pub read2 : ReadsSeen reads (disk_now old.view Ckpt2).bytes two
+  pub none1 : one ≡ None → old.first ≡ true
+      → Rose (old.view.faults (DiskPart Ckpt1)) (new.view.faults (DiskPart Ckpt1))
+  pub none2 : two ≡ None → old.second ≡ true
+      → Rose (old.view.faults (DiskPart Ckpt2)) (new.view.faults (DiskPart Ckpt2))
   pub greater : IsGreater one two found

@@ -1,9 +1,9 @@
 -- What a shared value keeps of its batches without truncation has at most one proof.
+use Rattle.mas_complex.specs.Names.{Batch}
 use Rattle.std.specs.Prelude.{ℕ, List, [], ◌∷◌, Option, Some, None}
 use Rattle.std.specs.Coded.{Coded-set, ×_prop, Unit-prop, le_prop}
 use mathlib.Core.Bool.{Bool-set}
 use Rattle.mas_types.specs.contracts.journals.Fate.{the_row}
-use Rattle.mas_types.specs.declared.journals.Batch.{Batch}
 use Rattle.mas_complex.specs.Journals.{AreSettled, IsBegun}
 
 pub settled_prop : (batches : List Batch) (now : ℕ) → IsProp (AreSettled batches now)

@@ -1,18 +1,7 @@
 -- Acts on the spool volumes: where a group's page lies, and which groups a member may write.
+use Rattle.mas_complex.specs.Names.{MemberId, GroupNo, Dev, Spool, Page, Config, Queue, page_bytes, View, Act, Reads, Writes, volume_of, start_of}
 use Rattle.std.specs.Prelude.{◌≡◌, ◌⊎◌, ℕ, ◌+◌, ◌*◌, ◌≤◌, ◌<◌, nat_le, Bool, List, [], Some, slice_get, if◌then◌else◌}
-use Rattle.mas_types.specs.declared.ids.MemberId.{MemberId}
-use Rattle.mas_types.specs.declared.ids.GroupNo.{GroupNo}
-use Rattle.mas_types.specs.declared.ids.Dev.{Dev}
-use Rattle.mas_types.specs.declared.ids.Dev.TheVariants.{Spool}
-use Rattle.mas_types.specs.declared.ids.Page.{Page}
-use Rattle.mas_types.specs.declared.queues.Config.{Config}
 use Rattle.mas_types.specs.declared.queues.Owner.TheVariants as owner
-use Rattle.mas_types.specs.declared.queues.Queue.{Queue}
-use Rattle.mas_types.specs.Limits.{page_bytes}
-use Rattle.spool_plant.specs.View.{View}
-use Rattle.spool_plant.specs.declared.plant.Act.{Act}
-use Rattle.spool_plant.specs.Acts.{Reads, Writes}
-use Rattle.spool_volumes.specs.Volumes.{volume_of, start_of}
 
 -- the volume of the stream of jobs that were offloaded
 abbrev pub stream_volume : ℕ

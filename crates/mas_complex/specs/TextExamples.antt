@@ -1,13 +1,8 @@
 -- Worked examples of texts on the spool volumes.
+use Rattle.mas_complex.specs.Names.{GroupNo, Whole, Gone, Deck, groups_of, volume_of, start_of, text_of}
 use Rattle.std.specs.Prelude.{◌≡◌, ◌==◌, ℕ, true, false, List, [], ◌∷◌, Some, None}
-use Rattle.mas_types.specs.declared.ids.GroupNo.{GroupNo}
-use Rattle.mas_types.specs.declared.jobs.Text.TheVariants.{Whole, Gone}
 use Rattle.mas_types.specs.declared.queues.Owner.{Owner}
 use Rattle.mas_types.specs.declared.queues.Owner.TheVariants as owner
-use Rattle.mas_types.specs.declared.queues.Thing.TheVariants.{Deck}
-use Rattle.track_groups.specs.Places.{groups_of}
-use Rattle.spool_volumes.specs.Volumes.{volume_of, start_of}
-use Rattle.spool_volumes.specs.Texts.{text_of}
 use Rattle.mas_complex.specs.Texts.{lies_on}
 
 abbrev pub group : ℕ → GroupNo

@@ -1,18 +1,8 @@
 -- The texts of a queue's decks and outputs on the spool volumes, and what a crash leaves of them.
+use Rattle.mas_complex.specs.Names.{GroupNo, Spool, Text, Deck, Output, Queue, page_bytes, Disk as DiskPart, View, ViewDisk as Disk, Avoids, disk_at, groups_of, Volumes, volume_of, start_of, records_on, text_of}
 use Rattle.std.specs.Prelude.{◌≡◌, ℕ, Bool, false, List, Some, All}
 use Rattle.std.specs.List.{list_any}
-use Rattle.mas_types.specs.declared.ids.GroupNo.{GroupNo}
-use Rattle.mas_types.specs.declared.ids.Dev.TheVariants.{Spool}
-use Rattle.mas_types.specs.declared.jobs.Text.{Text}
-use Rattle.mas_types.specs.declared.queues.Thing.TheVariants.{Deck, Output}
-use Rattle.mas_types.specs.declared.queues.Queue.{Queue}
-use Rattle.mas_types.specs.Limits.{page_bytes}
 use Rattle.mas_types.specs.Queue.{line_count}
-use Rattle.spool_plant.specs.declared.plant.Part.TheVariants.{Disk as DiskPart}
-use Rattle.spool_plant.specs.View.{View, Disk, Avoids, disk_at}
-use Rattle.track_groups.specs.Places.{groups_of}
-use Rattle.spool_volumes.specs.Volumes.{Volumes, volume_of, start_of}
-use Rattle.spool_volumes.specs.Texts.{records_on, text_of}
 
 -- the spool volumes at a moment, by their numbers
 abbrev pub Spools : Type 0

@@ -1,6 +1,6 @@
 //! Stops that are armed.
+ghost use Rattle.mas_complex.specs.Names.{Arms};
 ghost use Rattle.std.specs.Prelude.{◌≡◌};
-ghost use Rattle.spool_plant.specs.Acts.{Arms};
 ghost use Rattle.mas_complex.specs.Parts.{parts_of};
 
 use crate::complex::Complex;

@@ -1,11 +1,6 @@
 //! A shared value is made, and hands out what it has at its end.
+ghost use Rattle.mas_complex.specs.Names.{Ckpt1, Ckpt2, View, top, Goes, Disk, level, Before as AtBefore};
 ghost use Rattle.std.specs.Prelude.{◌≡◌, ◌≤◌, [], None, true, false};
-ghost use Rattle.mas_types.specs.declared.ids.Dev.TheVariants.{Ckpt1, Ckpt2};
-ghost use Rattle.spool_plant.specs.View.{View};
-ghost use Rattle.spool_plant.specs.Acts.{top, Goes};
-ghost use Rattle.spool_plant.specs.declared.plant.Part.TheVariants.{Disk};
-ghost use Rattle.ckpt_copy.specs.Pages.{level};
-ghost use Rattle.ckpt_places.specs.declared.places.Place.TheVariants.{Before as AtBefore};
 ghost use Rattle.mas_complex.specs.Journals.{end_of};
 ghost use Rattle.mas_complex.specs.Crash.{setting, copy_of, BeginsWith};
 ghost use Rattle.mas_complex.specs.Headline.{Headline, LeavesQueue};

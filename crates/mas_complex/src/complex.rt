@@ -1,21 +1,13 @@
 //! The shared value.
+ghost use Rattle.mas_complex.specs.Names.{Ckpt1, Ckpt2, disk_now, page_count, Disk, level, Batch, is_stopped, IsSound};
 ghost use Rattle.std.specs.Prelude.{◌≡◌, ◌≢◌, ◌≤◌, ◌++◌, length, true, false, Some, IsSome};
-ghost use Rattle.mas_types.specs.declared.ids.Dev.TheVariants.{Ckpt1, Ckpt2};
-ghost use Rattle.spool_plant.specs.View.{disk_now};
-ghost use Rattle.ckpt_tables.specs.Shape.{page_count};
-ghost use Rattle.spool_plant.specs.declared.plant.Part.TheVariants.{Disk};
-ghost use Rattle.ckpt_copy.specs.Pages.{level};
-ghost use Rattle.mas_types.specs.declared.journals.Batch.{Batch};
-ghost use Rattle.lock_cycle.specs.Books.{is_stopped};
-ghost use Rattle.mas_complex.specs.Journals.{entries_in, entries_reserved, in_flight};
-ghost use Rattle.mas_complex.specs.Journals.{entries_most, journal_most, AreFew, AreSettled, HasPlace, IsBegun};
+ghost use Rattle.mas_complex.specs.Journals.{entries_in, entries_reserved, in_flight, entries_most, journal_most, AreFew, AreSettled, HasPlace, IsBegun};
 ghost use Rattle.mas_complex.specs.Settled.{settled_prop, begun_prop};
 ghost use Rattle.mas_complex.specs.Crash.{Keeps, setting_with, copy_of};
 ghost use Rattle.mas_complex.specs.Renewals.{is_open};
 ghost use Rattle.mas_complex.specs.Replies.{AreReplied};
 ghost use Rattle.mas_complex.specs.Paper.{KeepsPaper};
 ghost use Rattle.mas_complex.specs.Past.{HavePasts, sight_of, values_of};
-ghost use Rattle.mas_types.specs.Sound.{IsSound};
 
 use crate::counts::COUNTS;
 use crate::noting::Note;
@@ -101,16 +93,14 @@ pub struct Complex<P: Plant + Drop, C: Steady + Drop> {
         → ∥ KeepsPaper base since journal.batches current printed book (P.view plant) ∥₁ },
 
     /// A copy that counts as alive is ready.
-    ghost first_ready: { pair.first.alive ≡ true → C.fits pair.first.copy (P.view plant) ≡ true },
-
-    ghost second_ready: { pair.second.alive ≡ true → C.fits pair.second.copy (P.view plant) ≡ true },
+    ghost ready: { (pair.first.alive ≡ true → C.fits pair.first.copy (P.view plant) ≡ true)
+        × (pair.second.alive ≡ true → C.fits pair.second.copy (P.view plant) ≡ true) },
 
     /// The device of one that counts as lost is lost, unless its replacement was begun and not ended.
-    ghost first_lost: { pair.first.alive ≡ false → is_open renewals.first ≡ false
-        → (P.view plant).lost (Disk Ckpt1) ≡ true },
-
-    ghost second_lost: { pair.second.alive ≡ false → is_open renewals.second ≡ false
-        → (P.view plant).lost (Disk Ckpt2) ≡ true },
+    ghost lost: { (pair.first.alive ≡ false → is_open renewals.first ≡ false
+        → (P.view plant).lost (Disk Ckpt1) ≡ true)
+        × (pair.second.alive ≡ false → is_open renewals.second ≡ false
+        → (P.view plant).lost (Disk Ckpt2) ≡ true) },
 
     /// Nothing is reserved while a batch is in flight.
     ghost one: { IsSome current → IsSome reserved → ⊥ },
@@ -123,7 +113,7 @@ pub struct Complex<P: Plant + Drop, C: Steady + Drop> {
     ghost place: { ∥ HasPlace placed journal.batches ∥₁ },
 
     /// Each batch of the journal has its fate by now, and one in flight began by now.
-    ghost settled: { AreSettled journal.batches (P.view plant).now } by { settled_prop journal.batches (P.view plant).now },
+    ghost settled: { AreSettled journal.batches (P.view plant).now } by { settled_prop _ (P.view plant).now },
 
     ghost begun: { IsBegun current (P.view plant).now } by { begun_prop current (P.view plant).now },
 

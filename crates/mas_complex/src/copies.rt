@@ -1,17 +1,6 @@
 //! The copies between batches, and lost devices.
+ghost use Rattle.mas_complex.specs.Names.{Dev, Ckpt1, Ckpt2, Spool, disk_now, Loses, LosesThere, Disk, bytes_of, level, page_in, BothLost as PairNoBothLost, IsCkpt, pick, other, IsBothLost, SomeAlive, after_acts, read_acts, PairActed, pair_stopped, Before as AtBefore, page_count};
 ghost use Rattle.std.specs.Prelude.{◌≡◌, ◌<◌, ℕ, List, Some, None, length, true, false, OnOk, OnErr, IsErrOf};
-ghost use Rattle.mas_types.specs.declared.ids.Dev.{Dev};
-ghost use Rattle.mas_types.specs.declared.ids.Dev.TheVariants.{Ckpt1, Ckpt2, Spool};
-ghost use Rattle.spool_plant.specs.View.{disk_now};
-ghost use Rattle.spool_plant.specs.Acts.{Loses, LosesThere};
-ghost use Rattle.spool_plant.specs.declared.plant.Part.TheVariants.{Disk};
-ghost use Rattle.ckpt_copy.specs.Pages.{bytes_of, level, page_in};
-ghost use Rattle.duplex_pair.specs.declared.errors.PairNo.TheVariants.{BothLost as PairNoBothLost};
-ghost use Rattle.duplex_pair.specs.Halves.{IsCkpt, pick, other, IsBothLost, SomeAlive};
-ghost use Rattle.duplex_pair.specs.ActCounts.{after_acts, read_acts};
-ghost use Rattle.duplex_pair.specs.Both.{PairActed};
-ghost use Rattle.duplex_pair.specs.Outcomes.{pair_stopped};
-ghost use Rattle.ckpt_places.specs.declared.places.Place.TheVariants.{Before as AtBefore};
 ghost use Rattle.mas_complex.specs.Journals.{kept_all};
 ghost use Rattle.mas_complex.specs.Meaning.{run};
 ghost use Rattle.mas_complex.specs.Places.{IsPlaceAfter};
@@ -20,7 +9,6 @@ ghost use Rattle.mas_complex.specs.Kept.{HaveKept, OnlyOnCopies};
 ghost use Rattle.mas_complex.specs.Locking.{MayAct};
 ghost use Rattle.mas_complex.specs.Paper.{SamePapers};
 ghost use Rattle.mas_complex.specs.Past.{HavePasts, sight_of, values_of};
-ghost use Rattle.ckpt_tables.specs.Shape.{page_count};
 ghost use Rattle.mas_complex.specs.Parts.{parts_of, with_copies, with_half, with_pair};
 
 use crate::complex::Complex;

@@ -1,8 +1,7 @@
 //! How many lines each member has printed.
+ghost use Rattle.mas_complex.specs.Names.{begins_anew, counts_anew, command_of, entry_of};
 ghost use Rattle.std.specs.Prelude.{◌≡◌, slice_set};
 ghost use Rattle.std.specs.List.{list_any};
-ghost use Rattle.paper_laws.specs.Counts.{begins_anew, counts_anew};
-ghost use Rattle.brief_journal.specs.Brief.{command_of, entry_of};
 ghost use Rattle.mas_complex.specs.Paper.{printed_after};
 
 use brief_journal::{BriefCommand, BriefEntries, BriefEntry};

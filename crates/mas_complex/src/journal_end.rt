@@ -1,6 +1,6 @@
 //! The end of a journal.
+ghost use Rattle.mas_complex.specs.Names.{Dropped};
 ghost use Rattle.std.specs.Prelude.{◌≡◌, ◌++◌, ◌∷◌, [], length, ◌≤◌, OnOk, OnErr};
-ghost use Rattle.mas_types.specs.declared.journals.Fate.TheVariants.{Dropped};
 ghost use Rattle.mas_complex.specs.Journals.{journal_most, with_last, without_last, end_of};
 
 use brief_journal::{BriefBatch, BriefEntries, BriefJournal};

@@ -1,7 +1,6 @@
 //! The lock of the checkpoint, and the number of kept entries.
+ghost use Rattle.mas_complex.specs.Names.{IsMember, is_stopped, is_holder, left_of, try_refusal, after_try, free_refusal, after_free, after_stop, seize_refusal, after_seize, after_spend, top};
 ghost use Rattle.std.specs.Prelude.{◌≡◌, true, false, min, length, Some, None, OnOk, OnErr, IfErr};
-ghost use Rattle.lock_cycle.specs.Books.{IsMember, is_stopped, is_holder, left_of, try_refusal, after_try, free_refusal, after_free, after_stop, seize_refusal, after_seize, after_spend};
-ghost use Rattle.spool_plant.specs.Acts.{top};
 ghost use Rattle.mas_complex.specs.Journals.{kept_all};
 ghost use Rattle.mas_complex.specs.Locking.{IsOperatorAway, MayAct, reserved_after_stop, is_of_member};
 ghost use Rattle.mas_complex.specs.Parts.{parts_of};

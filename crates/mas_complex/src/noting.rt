@@ -1,10 +1,6 @@
 //! The pages that a member has, noted for clauses alone.
+ghost use Rattle.mas_complex.specs.Names.{Ckpt1, Ckpt2, members_most, disk_now, bytes_of, Before as AtBefore};
 ghost use Rattle.std.specs.Prelude.{◌≡◌, ◌+◌, ◌<◌, ℕ, Some, true, slice_set, length};
-ghost use Rattle.mas_types.specs.declared.ids.Dev.TheVariants.{Ckpt1, Ckpt2};
-ghost use Rattle.mas_types.specs.Limits.{members_most};
-ghost use Rattle.spool_plant.specs.View.{disk_now};
-ghost use Rattle.ckpt_copy.specs.Pages.{bytes_of};
-ghost use Rattle.ckpt_places.specs.declared.places.Place.TheVariants.{Before as AtBefore};
 ghost use Rattle.mas_complex.specs.Parts.{parts_of};
 ghost use Rattle.mas_complex.specs.Past.{HasNoted, nobody_noted, values_of};
 

@@ -1,13 +1,6 @@
 //! Lines on paper.
+ghost use Rattle.mas_complex.specs.Names.{members_most, printer_lines_most, IsSound, IsMember, is_stopped, Acts, Prints, Done as ActDone, Printer, MayPrint, AreLinesOn};
 ghost use Rattle.std.specs.Prelude.{◌≡◌, ◌+◌, ◌≤◌, ◌<◌, false, length};
-ghost use Rattle.mas_types.specs.Limits.{members_most, printer_lines_most};
-ghost use Rattle.mas_types.specs.Sound.{IsSound};
-ghost use Rattle.lock_cycle.specs.Books.{IsMember, is_stopped};
-ghost use Rattle.spool_plant.specs.Acts.{Acts, Prints};
-ghost use Rattle.spool_plant.specs.declared.plant.Act.TheVariants.{Done as ActDone};
-ghost use Rattle.spool_plant.specs.declared.plant.Part.TheVariants.{Printer};
-ghost use Rattle.paper_laws.specs.Next.{MayPrint};
-ghost use Rattle.paper_laws.specs.Paper.{AreLinesOn};
 ghost use Rattle.mas_complex.specs.Journals.{entries_in, kept_all};
 ghost use Rattle.mas_complex.specs.Locking.{IsOfOther, IsUp};
 ghost use Rattle.mas_complex.specs.Paper.{AreGivenIn, IsOnPaper, book_by, counts_of, printed_by, reserved_by};

@@ -1,30 +1,16 @@
 //! What became of a batch in flight is found on the copies.
+ghost use Rattle.mas_complex.specs.Names.{Dev, Ckpt1, Ckpt2, IsConfig, page_bytes, pages_most, piece, page_count, disk_now, Goes, Rose, Disk, bytes_of, level, Halted as PairNoHalted, BothLost as PairNoBothLost, IsCkpt, pick, other, Acted, IsBothLost, SomeAlive, pair_stopped, Before as AtBefore, Opened as AtOpened};
 ghost use Rattle.std.specs.Prelude.{◌≡◌, ◌≢◌, ◌⊎◌, ◌+◌, ◌*◌, ◌≤◌, ◌<◌, ◌++◌, [], ◌∷◌, ℕ, List, Option, Some, None, length, true, false, OnOk, OnErr, IfOk, IfSome, IsErrOf, IsSome};
 ghost use Rattle.std.specs.Int.{from_be_bytes, w64};
-ghost use Rattle.mas_types.specs.declared.ids.Dev.{Dev};
-ghost use Rattle.mas_types.specs.declared.ids.Dev.TheVariants.{Ckpt1, Ckpt2};
-ghost use Rattle.mas_types.specs.declared.journals.Batch.{Batch};
-ghost use Rattle.mas_types.specs.Fit.{IsConfig};
-ghost use Rattle.mas_types.specs.Limits.{page_bytes, pages_most};
-ghost use Rattle.lay_bytes.specs.Fields.{piece};
-ghost use Rattle.ckpt_tables.specs.Shape.{page_count};
-ghost use Rattle.spool_plant.specs.View.{View, disk_now};
-ghost use Rattle.spool_plant.specs.Acts.{Goes, Rose};
-ghost use Rattle.spool_plant.specs.declared.plant.Part.TheVariants.{Disk};
-ghost use Rattle.ckpt_copy.specs.Pages.{bytes_of, level};
-ghost use Rattle.duplex_pair.specs.declared.errors.PairNo.TheVariants.{Halted as PairNoHalted, BothLost as PairNoBothLost};
-ghost use Rattle.duplex_pair.specs.Halves.{IsCkpt, pick, other, Acted, IsBothLost, SomeAlive};
-ghost use Rattle.duplex_pair.specs.Outcomes.{pair_stopped};
-ghost use Rattle.ckpt_places.specs.declared.places.Place.TheVariants.{Before as AtBefore, Opened as AtOpened};
 ghost use Rattle.mas_complex.specs.declared.recover.RecoverNo.TheVariants.{BothLost as RecoverNoBothLost, Halted as RecoverNoHalted};
-ghost use Rattle.mas_complex.specs.CallCounts.{KeepsCounts};
+ghost use Rattle.mas_complex.specs.CallCounts.{KeepsCounts, pair_state};
 ghost use Rattle.mas_complex.specs.Elsewhere.{OnCopies};
 ghost use Rattle.mas_complex.specs.Crash.{next_order, order_first, orders_most};
-ghost use Rattle.mas_complex.specs.Journals.{kept_all, entries_in};
+ghost use Rattle.mas_complex.specs.Journals.{kept_all};
 ghost use Rattle.mas_complex.specs.Meaning.{StandFor, run};
 ghost use Rattle.mas_complex.specs.Parts.{parts_of, with_copies, with_copy, with_half, with_pair};
 ghost use Rattle.mas_complex.specs.Places.{IsAtLevel};
-ghost use Rattle.mas_complex.specs.Seen.{IsOneSeen, ReadsSeen, Stays, HasFound, Chosen, DiffersAtFound, IsGreater, IsPicked, IsNextOr, IsFatedBy, IsUnfit, WasUnfit};
+ghost use Rattle.mas_complex.specs.Seen.{IsOneSeen, ReadsSeen, looked, sought, Stays, HasFound, Chosen, DiffersAtFound, IsGreater, IsPicked, IsNextOr, IsFatedBy, IsUnfit, WasUnfit};
 ghost use Rattle.mas_complex.specs.Recovers.{recover_no, recover_no_seen, recover_stopped};
 ghost use Rattle.mas_complex.specs.Fits.{can_stay};
 ghost use Rattle.mas_complex.specs.Locking.{MayAct, IsOfOther};
@@ -128,9 +114,8 @@ impl<P: Plant + Drop, C: Steady + Drop> Complex<P, C> {
         ensures only { (pick dev self.old.pair.first self.old.pair.second).alive ≡ true
             → (pick dev self.new.pair.first self.new.pair.second).alive ≡ false → stays ≡ false }
         ensures goes { Goes (P.view self.old.plant) (P.view self.new.plant) }
-        ensures counts { (by : ℕ) → KeepsCounts by self.old.pair.first.alive self.new.pair.first.alive
-            self.old.pair.second.alive self.new.pair.second.alive false (P.view self.old.plant)
-            (P.view self.new.plant) }
+        ensures counts { (by : ℕ) → KeepsCounts by false (pair_state P.view (parts_of self.old))
+            (pair_state P.view (parts_of self.new)) }
         ensures bytes { P.tells → (d : Dev)
             → (disk_now (P.view self.new.plant) d).bytes ≡ (disk_now (P.view self.old.plant) d).bytes }
         ensures apart { P.tells → OnCopies (P.view self.old.plant) (P.view self.new.plant) }
@@ -142,27 +127,20 @@ impl<P: Plant + Drop, C: Steady + Drop> Complex<P, C> {
 
     // The pages of greater level, those of CKPT1 on a tie. The other copy is lost where it may not stay beside them.
     fn choose(&mut self, first: List<Page>, second: List<Page>) -> List<Page>
-        requires first { IsOneSeen (run self.old.base
-            (kept_all self.old.journal.batches ++ entries_in self.old.current)) (entries_in self.old.current) P.tells
-            self.old.level self.old.pair.first.alive (C.count self.old.pair.first.copy) self.old.first (Some first) }
-        requires second { IsOneSeen (run self.old.base
-            (kept_all self.old.journal.batches ++ entries_in self.old.current)) (entries_in self.old.current) P.tells
-            self.old.level self.old.pair.second.alive (C.count self.old.pair.second.copy) self.old.second
-            (Some second) }
+        requires first { IsOneSeen P.tells (sought C.reads (parts_of self.old))
+            (looked C.count C.room self.old.pair.first self.old.first) (Some first) }
+        requires second { IsOneSeen P.tells (sought C.reads (parts_of self.old))
+            (looked C.count C.room self.old.pair.second self.old.second) (Some second) }
         requires reads1 { P.tells → ReadsSeen C.reads (disk_now (P.view self.old.plant) Ckpt1).bytes (Some first) }
         requires reads2 { P.tells → ReadsSeen C.reads (disk_now (P.view self.old.plant) Ckpt2).bytes (Some second) }
         ensures frame { parts_of self.new ≡ with_pair (parts_of self.new) (parts_of self.old) }
         ensures goes { Goes (P.view self.old.plant) (P.view self.new.plant) }
         ensures apart { P.tells → OnCopies (P.view self.old.plant) (P.view self.new.plant) }
-        ensures counts { (by : ℕ) → KeepsCounts by self.old.pair.first.alive self.new.pair.first.alive
-            self.old.pair.second.alive self.new.pair.second.alive false (P.view self.old.plant)
-            (P.view self.new.plant) }
-        ensures chosen { Chosen C.reads P.tells
-            (run self.old.base (kept_all self.old.journal.batches ++ entries_in self.old.current))
-            (entries_in self.old.current) self.old.level self.new.pair.first.alive (C.count self.new.pair.first.copy)
-            (C.room self.new.pair.first.copy) self.new.first (disk_now (P.view self.new.plant) Ckpt1).bytes
-            self.new.pair.second.alive (C.count self.new.pair.second.copy) (C.room self.new.pair.second.copy)
-            self.new.second (disk_now (P.view self.new.plant) Ckpt2).bytes result }
+        ensures counts { (by : ℕ) → KeepsCounts by false (pair_state P.view (parts_of self.old))
+            (pair_state P.view (parts_of self.new)) }
+        ensures chosen { Chosen P.tells (sought C.reads (parts_of self.old))
+            (looked C.count C.room self.new.pair.first self.new.first)
+            (looked C.count C.room self.new.pair.second self.new.second) (P.view self.new.plant) result }
         ensures copy1 { self.new.pair.first.copy ≡ self.old.pair.first.copy }
         ensures copy2 { self.new.pair.second.copy ≡ self.old.pair.second.copy }
         ensures greater { IsGreater (Some first) (Some second) result }
@@ -195,36 +173,29 @@ impl<P: Plant + Drop, C: Steady + Drop> Complex<P, C> {
     }
 
     // The pages found where a copy has some.
-    #[tactic(auto, using(crate::proofs::Counted::counts_none, crate::proofs::Apart::on_none))]
     fn choose_any(
         &mut self,
         first: Option<List<Page>>,
         second: Option<List<Page>>,
     ) -> Option<List<Page>>
-        requires first { IsOneSeen (run self.old.base
-            (kept_all self.old.journal.batches ++ entries_in self.old.current)) (entries_in self.old.current) P.tells
-            self.old.level self.old.pair.first.alive (C.count self.old.pair.first.copy) self.old.first first }
-        requires second { IsOneSeen (run self.old.base
-            (kept_all self.old.journal.batches ++ entries_in self.old.current)) (entries_in self.old.current) P.tells
-            self.old.level self.old.pair.second.alive (C.count self.old.pair.second.copy) self.old.second second }
+        requires first { IsOneSeen P.tells (sought C.reads (parts_of self.old))
+            (looked C.count C.room self.old.pair.first self.old.first) first }
+        requires second { IsOneSeen P.tells (sought C.reads (parts_of self.old))
+            (looked C.count C.room self.old.pair.second self.old.second) second }
         requires reads1 { P.tells → ReadsSeen C.reads (disk_now (P.view self.old.plant) Ckpt1).bytes first }
         requires reads2 { P.tells → ReadsSeen C.reads (disk_now (P.view self.old.plant) Ckpt2).bytes second }
         ensures frame { parts_of self.new ≡ with_pair (parts_of self.new) (parts_of self.old) }
         ensures goes { Goes (P.view self.old.plant) (P.view self.new.plant) }
         ensures apart { P.tells → OnCopies (P.view self.old.plant) (P.view self.new.plant) }
-        ensures counts { (by : ℕ) → KeepsCounts by self.old.pair.first.alive self.new.pair.first.alive
-            self.old.pair.second.alive self.new.pair.second.alive false (P.view self.old.plant)
-            (P.view self.new.plant) }
+        ensures counts { (by : ℕ) → KeepsCounts by false (pair_state P.view (parts_of self.old))
+            (pair_state P.view (parts_of self.new)) }
         ensures none { result ≡ None → IsBothLost self.new.pair.first.alive self.new.pair.second.alive }
         ensures neither { result ≡ None → (first ≡ None) × (second ≡ None) }
         ensures greater { IfSome result (IsGreater first second) }
         ensures chosen { IfSome result
-            (λ found. Chosen C.reads P.tells
-            (run self.old.base (kept_all self.old.journal.batches ++ entries_in self.old.current))
-            (entries_in self.old.current) self.old.level self.new.pair.first.alive (C.count self.new.pair.first.copy)
-            (C.room self.new.pair.first.copy) self.new.first (disk_now (P.view self.new.plant) Ckpt1).bytes
-            self.new.pair.second.alive (C.count self.new.pair.second.copy) (C.room self.new.pair.second.copy)
-            self.new.second (disk_now (P.view self.new.plant) Ckpt2).bytes found) }
+            (λ found. Chosen P.tells (sought C.reads (parts_of self.old))
+            (looked C.count C.room self.new.pair.first self.new.first)
+            (looked C.count C.room self.new.pair.second self.new.second) (P.view self.new.plant) found) }
         ensures copy1 { self.new.pair.first.copy ≡ self.old.pair.first.copy }
         ensures copy2 { self.new.pair.second.copy ≡ self.old.pair.second.copy }
         ensures alive1 { self.new.pair.first.alive ≡ true → self.old.pair.first.alive ≡ true }
@@ -253,9 +224,7 @@ impl<P: Plant + Drop, C: Steady + Drop> Complex<P, C> {
         requires as_many { length found.now ≡ C.count (pick dev self.old.pair.first self.old.pair.second).copy }
         requires some { 1 ≤ length found.now }
         requires few { length found.now ≤ pages_most }
-        requires next { P.tells → IsNextOr
-            (run self.old.base (kept_all self.old.journal.batches ++ entries_in self.old.current))
-            (entries_in self.old.current) self.old.level found.now }
+        requires next { P.tells → IsNextOr (sought C.reads (parts_of self.old)) found.now }
         requires level { level (bytes_of found.now) ≡ self.old.level + 1 }
         requires differs { P.tells → (was : List ℕ) → C.reads (disk_now (P.view self.old.plant) dev).bytes ≡ Some was
             → DiffersAtFound was found.now }
@@ -287,19 +256,15 @@ impl<P: Plant + Drop, C: Steady + Drop> Complex<P, C> {
     }
 
     // Each copy that counts as alive gets the pages found.
-    #[tactic(auto, using(crate::proofs::Counted::counts_none, crate::proofs::Counted::counts_first, crate::proofs::Counted::counts_second, crate::proofs::Apart::on_none))]
     fn bring(&mut self, by: MemberId, found: &[Page]) -> Result<(), PairNo>
-        requires chosen { Chosen C.reads P.tells
-            (run self.old.base (kept_all self.old.journal.batches ++ entries_in self.old.current))
-            (entries_in self.old.current) self.old.level self.old.pair.first.alive (C.count self.old.pair.first.copy)
-            (C.room self.old.pair.first.copy) self.old.first (disk_now (P.view self.old.plant) Ckpt1).bytes
-            self.old.pair.second.alive (C.count self.old.pair.second.copy) (C.room self.old.pair.second.copy)
-            self.old.second (disk_now (P.view self.old.plant) Ckpt2).bytes found.now }
+        requires chosen { Chosen P.tells (sought C.reads (parts_of self.old))
+            (looked C.count C.room self.old.pair.first self.old.first)
+            (looked C.count C.room self.old.pair.second self.old.second) (P.view self.old.plant) found.now }
         ensures frame { parts_of self.new ≡ with_copies (parts_of self.new) (parts_of self.old) }
         ensures goes { Goes (P.view self.old.plant) (P.view self.new.plant) }
         ensures apart { P.tells → OnCopies (P.view self.old.plant) (P.view self.new.plant) }
-        ensures counts { KeepsCounts by.0 self.old.pair.first.alive self.new.pair.first.alive self.old.pair.second.alive
-            self.new.pair.second.alive (pair_stopped result) (P.view self.old.plant) (P.view self.new.plant) }
+        ensures counts { KeepsCounts by.0 (pair_stopped result) (pair_state P.view (parts_of self.old))
+            (pair_state P.view (parts_of self.new)) }
         ensures halted { IsErrOf result PairNoHalted
             → Rose ((P.view self.old.plant).stops by.0) ((P.view self.new.plant).stops by.0) }
         ensures both { IsErrOf result PairNoBothLost → IsBothLost self.new.pair.first.alive self.new.pair.second.alive }
@@ -307,11 +272,11 @@ impl<P: Plant + Drop, C: Steady + Drop> Complex<P, C> {
         ensures as_many1 { self.new.pair.first.alive ≡ true → length found.now ≡ C.count self.new.pair.first.copy }
         ensures as_many2 { self.new.pair.second.alive ≡ true → length found.now ≡ C.count self.new.pair.second.copy }
         ensures first { OnOk result (self.new.pair.first.alive ≡ true
-            → HasFound C.reads P.tells self.old.level self.new.first (disk_now (P.view self.new.plant) Ckpt1).bytes
-            found.now) }
+            → HasFound P.tells (sought C.reads (parts_of self.old)) (looked C.count C.room self.new.pair.first
+            self.new.first) (disk_now (P.view self.new.plant) Ckpt1).bytes found.now) }
         ensures second { OnOk result (self.new.pair.second.alive ≡ true
-            → HasFound C.reads P.tells self.old.level self.new.second (disk_now (P.view self.new.plant) Ckpt2).bytes
-            found.now) }
+            → HasFound P.tells (sought C.reads (parts_of self.old)) (looked C.count C.room self.new.pair.second
+            self.new.second) (disk_now (P.view self.new.plant) Ckpt2).bytes found.now) }
         ensures not_both { IsErrOf result PairNoBothLost → ⊥ }
         ensures room1 { self.new.pair.first.alive ≡ false → self.old.pair.first.alive ≡ false
             → self.new.pair.first.copy ≡ self.old.pair.first.copy }
@@ -404,8 +369,8 @@ impl<P: Plant + Drop, C: Steady + Drop> Complex<P, C> {
         ensures reserved { self.new.reserved ≡ None }
         ensures goes { Goes (P.view self.old.plant) (P.view self.new.plant) }
         ensures apart { P.tells → OnCopies (P.view self.old.plant) (P.view self.new.plant) }
-        ensures counts { KeepsCounts by.0 self.old.pair.first.alive self.new.pair.first.alive self.old.pair.second.alive
-            self.new.pair.second.alive (recover_stopped result) (P.view self.old.plant) (P.view self.new.plant) }
+        ensures counts { KeepsCounts by.0 (recover_stopped result) (pair_state P.view (parts_of self.old))
+            (pair_state P.view (parts_of self.new)) }
         ensures halted { IsErrOf result RecoverNoHalted
             → Rose ((P.view self.old.plant).stops by.0) ((P.view self.new.plant).stops by.0) }
         ensures both { IsErrOf result RecoverNoBothLost
@@ -437,10 +402,8 @@ impl<P: Plant + Drop, C: Steady + Drop> Complex<P, C> {
         ensures low { IfOk result (λ found. next_order (bytes_of found)
             ≤ order_first + orders_most * length self.new.journal.batches) }
         ensures picked { IfOk result (λ found. P.tells
-            → IsPicked C.reads self.old.pair.first.alive self.old.pair.second.alive
-            (disk_now (P.view self.old.plant) Ckpt1).bytes (disk_now (P.view self.old.plant) Ckpt2).bytes
-            (Rose ((P.view self.old.plant).faults (Disk Ckpt1)) ((P.view self.new.plant).faults (Disk Ckpt1)))
-            (Rose ((P.view self.old.plant).faults (Disk Ckpt2)) ((P.view self.new.plant).faults (Disk Ckpt2))) found) }
+            → IsPicked C.reads (pair_state P.view (parts_of self.old))
+            (pair_state P.view (parts_of self.new)) found) }
         ensures left1 { IfOk result (λ found. P.tells → self.old.pair.first.alive ≡ true
             → self.new.pair.first.alive ≡ false
             → Rose ((P.view self.old.plant).faults (Disk Ckpt1)) ((P.view self.new.plant).faults (Disk Ckpt1))

@@ -1,6 +1,6 @@
 //! When a copy was replaced.
+ghost use Rattle.mas_complex.specs.Names.{IsCkpt};
 ghost use Rattle.std.specs.Prelude.{◌≡◌, ◌++◌, ◌∷◌, [], None, map, OnOk, OnErr};
-ghost use Rattle.duplex_pair.specs.Halves.{IsCkpt};
 ghost use Rattle.mas_complex.specs.Renewals.{no_renewals as none_renewed, begun_on, ended_at, ended_on};
 
 use mas_types::{Dev, List, NoMemory};

@@ -1,15 +1,6 @@
 //! A lost copy is replaced.
+ghost use Rattle.mas_complex.specs.Names.{Ckpt1, Ckpt2, pages_least, pages_most, disk_now, Rose, top, Disk, bytes_of, NotLost, ReplaceNoBothLost as BothLost, Failed, ReplaceNoHalted as Halted, IsCkpt, pick, other, IsBothLost, Replaces, IsFormed, replace_stopped, Before as AtBefore};
 ghost use Rattle.std.specs.Prelude.{◌≡◌, ◌⊎◌, ◌≤◌, ◌<◌, ◌&&◌, not, Some, None, length, true, false, OnOk, OnErr, IsErrOf};
-ghost use Rattle.mas_types.specs.declared.ids.Dev.TheVariants.{Ckpt1, Ckpt2};
-ghost use Rattle.mas_types.specs.Limits.{pages_least, pages_most};
-ghost use Rattle.spool_plant.specs.View.{disk_now};
-ghost use Rattle.spool_plant.specs.Acts.{Rose, top};
-ghost use Rattle.spool_plant.specs.declared.plant.Part.TheVariants.{Disk};
-ghost use Rattle.ckpt_copy.specs.Pages.{bytes_of};
-ghost use Rattle.pair_replacing.specs.declared.replacing.ReplaceNo.TheVariants.{NotLost, BothLost, Failed, Halted};
-ghost use Rattle.duplex_pair.specs.Halves.{IsCkpt, pick, other, IsBothLost};
-ghost use Rattle.pair_replacing.specs.Replacing.{Replaces, IsFormed, replace_stopped};
-ghost use Rattle.ckpt_places.specs.declared.places.Place.TheVariants.{Before as AtBefore};
 ghost use Rattle.mas_complex.specs.Elsewhere.{Elsewhere};
 ghost use Rattle.mas_complex.specs.Locking.{MayAct};
 ghost use Rattle.mas_complex.specs.Parts.{parts_of, replaced_in, with_half};

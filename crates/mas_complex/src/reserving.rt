@@ -1,10 +1,6 @@
 //! A batch to come has its place, and begins.
+ghost use Rattle.mas_complex.specs.Names.{Batch, Entry, Kept as FateKept, AreToldAlike, Before as AtBefore};
 ghost use Rattle.std.specs.Prelude.{◌≡◌, ◌≤◌, ◌^◌, ◌++◌, [], ◌∷◌, List, Some, None, length, true, false, OnOk, OnErr, IsSome, All};
-ghost use Rattle.mas_types.specs.declared.journals.Batch.{Batch};
-ghost use Rattle.mas_types.specs.declared.journals.Entry.{Entry};
-ghost use Rattle.mas_types.specs.declared.journals.Fate.TheVariants.{Kept as FateKept};
-ghost use Rattle.queue_telling.specs.Telling.{AreToldAlike};
-ghost use Rattle.ckpt_places.specs.declared.places.Place.TheVariants.{Before as AtBefore};
 ghost use Rattle.mas_complex.specs.Journals.{kept_all, entries_reserved, begun, fated, IsPlace, with_last, without_last};
 ghost use Rattle.mas_complex.specs.Meaning.{run};
 ghost use Rattle.mas_complex.specs.Crash.{setting, IsUntold};

@@ -1,10 +1,6 @@
 //! Lines on the console.
+ghost use Rattle.mas_complex.specs.Names.{MemberId, Dev, disk_now, Acts, Says, Console};
 ghost use Rattle.std.specs.Prelude.{◌≡◌, ◌++◌, ℕ};
-ghost use Rattle.mas_types.specs.declared.ids.MemberId.{MemberId};
-ghost use Rattle.mas_types.specs.declared.ids.Dev.{Dev};
-ghost use Rattle.spool_plant.specs.View.{disk_now};
-ghost use Rattle.spool_plant.specs.Acts.{Acts, Says};
-ghost use Rattle.spool_plant.specs.declared.plant.Part.TheVariants.{Console};
 ghost use Rattle.mas_complex.specs.Journals.{in_flight, StepIsKept};
 ghost use Rattle.mas_complex.specs.Meaning.{Closes};
 ghost use Rattle.mas_complex.specs.Locking.{IsUp};

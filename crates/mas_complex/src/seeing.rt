@@ -1,22 +1,12 @@
 //! How far a batch in flight has come is seen on each copy.
+ghost use Rattle.mas_complex.specs.Names.{Dev, IsConfig, page_bytes, page_count as page_count_lem, disk_now, Acted, IsCkpt, other, pick, HasRoom, WasSeen, look_stopped, Goes, Rose, Disk, LookHalted as LookNoHalted};
 ghost use Rattle.std.specs.Prelude.{◌≡◌, ◌++◌, All, None, length, true, IfOk, IfSome, IsErrOf, OnErr};
-ghost use Rattle.mas_types.specs.declared.ids.Dev.{Dev};
-ghost use Rattle.mas_types.specs.Fit.{IsConfig};
-ghost use Rattle.mas_types.specs.Limits.{page_bytes};
-ghost use Rattle.ckpt_tables.specs.Shape.{page_count as page_count_lem};
-ghost use Rattle.spool_plant.specs.View.{View, disk_now};
-ghost use Rattle.duplex_pair.specs.Halves.{Acted, IsCkpt, other, pick};
-ghost use Rattle.duplex_pair.specs.Looks.{HasRoom, WasSeen};
-ghost use Rattle.duplex_pair.specs.Outcomes.{look_stopped};
-ghost use Rattle.mas_complex.specs.CallCounts.{KeepsCounts};
+ghost use Rattle.mas_complex.specs.CallCounts.{KeepsCounts, pair_state};
 ghost use Rattle.mas_complex.specs.Elsewhere.{OnCopies};
 ghost use Rattle.mas_complex.specs.Journals.{kept_all, entries_in};
 ghost use Rattle.mas_complex.specs.Meaning.{run};
 ghost use Rattle.mas_complex.specs.Parts.{parts_of, with_copy};
-ghost use Rattle.spool_plant.specs.Acts.{Goes, Rose};
-ghost use Rattle.spool_plant.specs.declared.plant.Part.TheVariants.{Disk};
-ghost use Rattle.duplex_pair.specs.declared.errors.LookNo.TheVariants.{Halted as LookNoHalted};
-ghost use Rattle.mas_complex.specs.Seen.{IfPages, IsPlaceSeen, HasNext, IsOneSeen, ReadsSeen, usable as usable_lem};
+ghost use Rattle.mas_complex.specs.Seen.{IfPages, IsPlaceSeen, HasNext, IsOneSeen, ReadsSeen, looked, sought, usable as usable_lem};
 
 use crate::complex::Complex;
 use crate::places::{place_seen, set_place};
@@ -94,7 +84,6 @@ impl<P: Plant + Drop, C: Steady + Drop> Complex<P, C> {
 
     // The pages of the copy on one device; none of one that counts as lost. One that can't be read, or has other than
     // as many pages as the configuration, is lost.
-    #[tactic(auto, using(crate::proofs::Counted::counts_one))]
     pub(crate) fn see_on(
         &mut self,
         alloc: Global,
@@ -112,11 +101,9 @@ impl<P: Plant + Drop, C: Steady + Drop> Complex<P, C> {
         ensures stands { IsErrOf result LookNoHalted
             → (pick dev self.new.pair.first self.new.pair.second).alive ≡ true }
         ensures seen { IfOk result (λ pages.
-            IsOneSeen (run self.old.base (kept_all self.old.journal.batches ++ entries_in self.old.current))
-            (entries_in self.old.current) P.tells self.old.level
-            (pick dev self.new.pair.first self.new.pair.second).alive
-            (C.count (pick dev self.new.pair.first self.new.pair.second).copy) (pick dev self.new.first self.new.second)
-            pages) }
+            IsOneSeen P.tells (sought C.reads (parts_of self.old))
+            (looked C.count C.room (pick dev self.new.pair.first self.new.pair.second)
+            (pick dev self.new.first self.new.second)) pages) }
         ensures many { IfOk result (λ pages. IfSome pages (λ some. length some ≡ page_count_lem self.old.base.config)) }
         ensures reads { IfOk result (λ pages. P.tells
             → ReadsSeen C.reads (disk_now (P.view self.new.plant) dev).bytes pages) }
@@ -125,8 +112,8 @@ impl<P: Plant + Drop, C: Steady + Drop> Complex<P, C> {
             → Rose ((P.view self.old.plant).faults (Disk dev)) ((P.view self.new.plant).faults (Disk dev))) }
         ensures was_alive { (pick dev self.new.pair.first self.new.pair.second).alive ≡ true
             → (pick dev self.old.pair.first self.old.pair.second).alive ≡ true }
-        ensures counts { KeepsCounts by.0 self.old.pair.first.alive self.new.pair.first.alive self.old.pair.second.alive
-            self.new.pair.second.alive (look_stopped result) (P.view self.old.plant) (P.view self.new.plant) }
+        ensures counts { KeepsCounts by.0 (look_stopped result) (pair_state P.view (parts_of self.old))
+            (pair_state P.view (parts_of self.new)) }
         ensures room { IfOk result (λ pages. P.tells → IfSome pages (λ some.
             C.room (pick dev self.new.pair.first self.new.pair.second).copy
             ≡ C.room_in (disk_now (P.view self.new.plant) dev).bytes)) }

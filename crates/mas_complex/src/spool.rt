@@ -1,17 +1,12 @@
 //! Acts on the spool volumes.
+ghost use Rattle.mas_complex.specs.Names.{page_bytes, Spool, View, Acts, Syncs, Disk, volume_of, start_of};
 ghost use Rattle.std.specs.Prelude.{◌≡◌, ◌≤◌, ◌<◌, ◌*◌, ◌++◌, length, false};
-ghost use Rattle.mas_types.specs.Limits.{page_bytes};
-ghost use Rattle.mas_types.specs.declared.ids.Dev.TheVariants.{Spool};
-ghost use Rattle.spool_plant.specs.View.{View};
-ghost use Rattle.spool_plant.specs.Acts.{Acts, Syncs};
-ghost use Rattle.spool_plant.specs.declared.plant.Part.TheVariants.{Disk};
 ghost use Rattle.mas_complex.specs.Journals.{kept_all, entries_in};
 ghost use Rattle.mas_complex.specs.Locking.{IsUp};
 ghost use Rattle.mas_complex.specs.Meaning.{run};
 ghost use Rattle.mas_complex.specs.Spool.{IsGroupOf, IsVolumeOf, IsHeldBy, device_of, is_within, ReadsGroup, WritesGroup};
 ghost use Rattle.mas_complex.specs.Texts.{HasTexts, lost_now, spools_at};
 ghost use Rattle.mas_complex.specs.TextExamples.{WorkedTexts};
-ghost use Rattle.spool_volumes.specs.Volumes.{volume_of, start_of};
 ghost use Rattle.mas_complex.specs.Parts.{parts_of};
 
 use crate::complex::Complex;

@@ -1,7 +1,6 @@
 //! Bytes on wires.
+ghost use Rattle.mas_complex.specs.Names.{Acts, FitsInto, GivesOn, Takes, act_of, Wire};
 ghost use Rattle.std.specs.Prelude.{◌≡◌, length};
-ghost use Rattle.spool_plant.specs.Acts.{Acts, FitsInto, GivesOn, Takes, act_of};
-ghost use Rattle.spool_plant.specs.declared.plant.Part.TheVariants.{Wire};
 ghost use Rattle.mas_complex.specs.Locking.{IsUp};
 ghost use Rattle.mas_complex.specs.Parts.{parts_of};
 

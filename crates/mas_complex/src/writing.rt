@@ -1,15 +1,6 @@
 //! A batch is written to the copies, and has its fate.
+ghost use Rattle.mas_complex.specs.Names.{Dev, Entry, Ckpt1, Ckpt2, disk_now, top, bytes_of, level, ArePages, Covers, BothLost as PairNoBothLost, IsCkpt, pick, other, IsBothLost, SomeAlive, Acted, pair_stopped, Before as AtBefore, Put as AtPut, Opened as AtOpened, page_count};
 ghost use Rattle.std.specs.Prelude.{◌≡◌, ◌≢◌, ◌+◌, ◌≤◌, ◌<◌, ◌++◌, ℕ, List, Some, None, length, true, false, OnOk, OnErr, IsErrOf, IsSome, All};
-ghost use Rattle.mas_types.specs.declared.ids.Dev.{Dev};
-ghost use Rattle.mas_types.specs.declared.journals.Entry.{Entry};
-ghost use Rattle.mas_types.specs.declared.ids.Dev.TheVariants.{Ckpt1, Ckpt2};
-ghost use Rattle.spool_plant.specs.View.{disk_now};
-ghost use Rattle.spool_plant.specs.Acts.{top};
-ghost use Rattle.ckpt_copy.specs.Pages.{bytes_of, level, ArePages, Covers};
-ghost use Rattle.duplex_pair.specs.declared.errors.PairNo.TheVariants.{BothLost as PairNoBothLost};
-ghost use Rattle.duplex_pair.specs.Halves.{IsCkpt, pick, other, IsBothLost, SomeAlive, Acted};
-ghost use Rattle.duplex_pair.specs.Outcomes.{pair_stopped};
-ghost use Rattle.ckpt_places.specs.declared.places.Place.TheVariants.{Before as AtBefore, Put as AtPut, Opened as AtOpened};
 ghost use Rattle.mas_complex.specs.Journals.{coming, kept_all, entries_in, entries_reserved, begun, IsKeptAt};
 ghost use Rattle.mas_complex.specs.Meaning.{StandFor, run};
 ghost use Rattle.mas_complex.specs.Places.{IsPlaceAfter, HasNoOther, all_open};
@@ -21,7 +12,6 @@ ghost use Rattle.mas_complex.specs.Replies.{HaveReplies};
 ghost use Rattle.mas_complex.specs.Locking.{MayAct, IsOwn};
 ghost use Rattle.mas_complex.specs.Paper.{MayBegin, printed_after};
 ghost use Rattle.mas_complex.specs.Past.{AreLater, IsNextOf, values_of};
-ghost use Rattle.ckpt_tables.specs.Shape.{page_count};
 ghost use Rattle.mas_complex.specs.Parts.{begun_in, dropped_in, kept_in, parts_of, with_copy};
 
 use crate::complex::Complex;

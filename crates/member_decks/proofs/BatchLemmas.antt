@@ -1,9 +1,5 @@
 -- Batches of a step, by how it ended.
-use Rattle.std.proofs.Common.{ℕ, ◌≤◌, List, [], ◌∷◌, arith}
-use Rattle.mas_types.specs.declared.ids.MemberId.{MemberId}
-use Rattle.mas_types.specs.declared.journals.Batch.{Batch}
-use Rattle.mas_types.specs.declared.journals.Entry.{Entry}
-use Rattle.member_decks.specs.Batches.{AreAll, IsKeptBatch}
+use Rattle.member_decks.proofs.Names.{ℕ, ◌≤◌, List, [], ◌∷◌, arith, MemberId, Batch, Entry, AreAll, IsKeptBatch}
 
 module _ (by : MemberId) where
   -- BEGUN SOONER

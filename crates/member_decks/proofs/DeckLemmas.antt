@@ -1,25 +1,9 @@
 -- What a deck's first batch gives, command by command.
-use Rattle.std.proofs.Common.{◌≡◌, ℕ, zero, suc, ◌+◌, ◌-◌, ◌≤◌, ◌<◌, ◌==◌, min, nat_lt, cond, Bool, true, false, if◌then◌else◌, List, [], ◌∷◌, ◌++◌, All, append-nil, refl, sym, ◌∙◌, ap, subst, arith}
-use Rattle.std.proofs.lemmas.Bool.{eq-eqb}
-use Rattle.std.proofs.lemmas.Bool.Decides.{nat_tests}
-use Rattle.std.proofs.lemmas.List.Elements.{All-nil, All-cons}
-use Rattle.mas_types.specs.declared.ids.MemberId.{MemberId}
-use Rattle.mas_types.specs.declared.ids.JobNo.{JobNo}
-use Rattle.mas_types.specs.declared.jobs.JobFields.{JobFields}
-use Rattle.mas_types.specs.declared.commands.Command.{Command}
+use Rattle.member_decks.proofs.Names.{◌≡◌, ℕ, zero, suc, ◌+◌, ◌-◌, ◌≤◌, ◌<◌, ◌==◌, min, nat_lt, cond, Bool, true, false, if◌then◌else◌, List, [], ◌∷◌, ◌++◌, All, append-nil, refl, sym, ◌∙◌, ap, subst, arith, eq-eqb, nat_tests, All-nil, All-cons, MemberId, JobNo, JobFields, Command, Reply, Entry, Owner, Queue, free_count, is_free, is_members, member_count, taken, test_cases, run, step, entry_of, are_refused, behind_begin, ends_as, ends_begun, given_in, opening, takes}
 use Rattle.mas_types.specs.declared.commands.Command.TheVariants as command
-use Rattle.mas_types.specs.declared.commands.Reply.{Reply}
 use Rattle.mas_types.specs.declared.commands.Reply.TheVariants as reply
-use Rattle.mas_types.specs.declared.journals.Entry.{Entry}
-use Rattle.mas_types.specs.declared.queues.Owner.{Owner}
 use Rattle.mas_types.specs.declared.queues.Owner.TheVariants as owner
-use Rattle.mas_types.specs.declared.queues.Queue.{Queue}
-use Rattle.mas_types.specs.Owners.{free_count, is_free, is_members, member_count, taken}
-use Rattle.queue_laws.proofs.Finds.{test_cases}
-use Rattle.mas_complex.specs.Meaning.{run, step}
-use Rattle.member_steps.specs.Steps.{entry_of}
 use Rattle.member_decks.specs.declared.opening.Opened.TheVariants as opened
-use Rattle.member_decks.specs.Decks.{are_refused, behind_begin, ends_as, ends_begun, given_in, opening, takes}
 use Rattle.member_decks.proofs.HeldLemmas.{counted}
 use Rattle.member_decks.proofs.TakeLemmas.{refused_last, refused_more, take_counts, takes_more}
 
@@ -46,20 +30,12 @@ module _ (by : MemberId) (at : ℕ) (fields : JobFields) (groups : ℕ) (Q : Que
 
   -- Begin was refused
   none_behind : (r : Reply) → ((n : JobNo) → r ≡ reply.Job n → ⊥) → behind_begin begun by groups r ≡ []
-  none_behind reply.Plain other = refl
   none_behind (reply.Job n) other = absurd (other n refl)
-  none_behind (reply.Output n i) other = refl
-  none_behind (reply.Count n) other = refl
-  none_behind (reply.Shown lines) other = refl
-  none_behind (reply.No why) other = refl
+  none_behind _ other = refl
 
   ends_closed : (r : Reply) → ((n : JobNo) → r ≡ reply.Job n → ⊥) → ends_begun begun by groups r ≡ opened.Closed
-  ends_closed reply.Plain other = refl
   ends_closed (reply.Job n) other = absurd (other n refl)
-  ends_closed (reply.Output n i) other = refl
-  ends_closed (reply.Count n) other = refl
-  ends_closed (reply.Shown lines) other = refl
-  ends_closed (reply.No why) other = refl
+  ends_closed _ other = refl
 
   pub opening_alone : ((n : JobNo) → (step Q by begin).1 ≡ reply.Job n → ⊥) → given_in Q by at (opening Q by fields groups) ≡ entry_of Q by at begin ∷ []
   opening_alone other = ap (λ (cs : List Command). entry_of Q by at begin ∷ given_in begun by at cs) (none_behind (step Q by begin).1 other)
@@ -92,7 +68,7 @@ module _ (m : MemberId) where
       let free : free_count (o ∷ gs) ≡ 0 + free_count gs = counted is_free o gs false e in
       omega (arith, here, mine, free, more)
 
-  count_taken : (want : ℕ) (gs : List Owner) → member_count m (taken m want gs) ≡ member_count m gs + min want (free_count gs)
+  pub count_taken : (want : ℕ) (gs : List Owner) → member_count m (taken m want gs) ≡ member_count m gs + min want (free_count gs)
   count_taken want [] = omega arith
   count_taken want (owner.Free ∷ gs) =
       let mine : member_count m (owner.Free ∷ gs) ≡ 0 + member_count m gs = counted (is_members m) owner.Free gs false refl in

@@ -1,33 +1,13 @@
 -- The second batch of a deck's step: its job is entered with its text, or dropped.
-use Rattle.std.proofs.Common.{◌≡◌, ℕ, ◌≤◌, Bool, false, List, [], ◌∷◌, All, Option, None, Some, refl, sym, subst, arith}
+use Rattle.member_decks.proofs.Names.{◌≡◌, ℕ, ◌≤◌, Bool, false, List, [], ◌∷◌, All, Option, None, Some, refl, sym, subst, arith, All-nil, All-cons, Spool, JobNo, GroupNo, MemberId, Text, Whole, Entry, Queue, IsReplyNamed, AreLines, IsFit, members_most, View, AreTheirOwn, OthersLeaveTexts, run, HasTexts, IsThere, IsThereUnless, Spools, spools_at, IsOnlyOn, texts_after, is_mark, finishing, given_in}
 use Rattle.std.proofs.Math.Path.{fun_ext}
-use Rattle.std.proofs.lemmas.List.Elements.{All-nil, All-cons}
-use Rattle.mas_types.specs.declared.ids.Dev.TheVariants.{Spool}
-use Rattle.mas_types.specs.declared.ids.JobNo.{JobNo}
-use Rattle.mas_types.specs.declared.ids.GroupNo.{GroupNo}
-use Rattle.mas_types.specs.declared.ids.MemberId.{MemberId}
-use Rattle.mas_types.specs.declared.jobs.Text.{Text}
-use Rattle.mas_types.specs.declared.jobs.Text.TheVariants.{Whole}
 use Rattle.mas_types.specs.declared.commands.Command.TheVariants as command
-use Rattle.mas_types.specs.declared.journals.Entry.{Entry}
-use Rattle.mas_types.specs.declared.queues.Queue.{Queue}
 use Rattle.mas_types.specs.declared.queues.Thing.{Thing}
 use Rattle.mas_types.specs.declared.queues.Thing.TheVariants.{Deck}
-use Rattle.mas_types.specs.Closings.{IsReplyNamed}
-use Rattle.mas_types.specs.Fit.{AreLines, IsFit}
-use Rattle.mas_types.specs.Limits.{members_most}
 use Rattle.mas_types.specs.Step as table
-use Rattle.spool_plant.specs.View.{View}
-use Rattle.member_steps.specs.Leaving.{AreTheirOwn, OthersLeaveTexts}
 use Rattle.member_steps.specs.Entering.{EnterBringsText, groups_for}
 use Rattle.member_steps.proofs.BroughtLemmas.{brought_holds}
 use Rattle.member_steps.specs.Given.{IsGiver}
-use Rattle.mas_complex.specs.Meaning.{run}
-use Rattle.mas_complex.specs.Texts.{HasTexts, IsThere, IsThereUnless, Spools, spools_at}
-use Rattle.member_steps.specs.Calls.{IsOnlyOn}
-use Rattle.member_steps.proofs.TextLemmas.{texts_after}
-use Rattle.paper_laws.specs.Counts.{is_mark}
-use Rattle.member_decks.specs.Decks.{finishing, given_in}
 
 -- WHAT A STEP'S LAST COMMAND ASKS
 

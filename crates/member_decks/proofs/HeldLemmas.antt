@@ -1,21 +1,8 @@
 -- The lowest groups of a member: they rise, they are the member's, and there are as many as are wanted.
-use Rattle.std.proofs.Common.{◌≡◌, ℕ, zero, suc, ◌+◌, ◌*◌, ◌≤◌, ◌<◌, Bool, true, false, cond, List, [], ◌∷◌, length, take, All, Some, slice_get, slice_index_or, refl, sym, ◌∙◌, ap, subst, arith}
-use Rattle.std.specs.List.{count_by}
-use Rattle.std.proofs.lemmas.Bool.Decides.{nat_tests}
-use Rattle.std.proofs.lemmas.List.{length-take-le}
+use Rattle.member_decks.proofs.Names.{◌≡◌, ℕ, zero, suc, ◌+◌, ◌*◌, ◌≤◌, ◌<◌, Bool, true, false, cond, List, [], ◌∷◌, length, take, All, Some, slice_get, slice_index_or, refl, sym, ◌∙◌, ap, subst, arith, count_by, nat_tests, length-take-le, slice_get_within, slice_get-get_or, MemberId, GroupNo, Config, Owner, Queue, is_members, member_count, test_cases, IsGroupOf, IsHeldBy, Rise}
 use Rattle.std.proofs.lemmas.List.Sums.{sum_by-cons}
-use Rattle.std.proofs.lemmas.Option.{slice_get_within, slice_get-get_or}
-use Rattle.mas_types.specs.declared.ids.MemberId.{MemberId}
-use Rattle.mas_types.specs.declared.ids.GroupNo.{GroupNo}
-use Rattle.mas_types.specs.declared.queues.Config.{Config}
-use Rattle.mas_types.specs.declared.queues.Owner.{Owner}
 use Rattle.mas_types.specs.declared.queues.Owner.TheVariants as owner
-use Rattle.mas_types.specs.declared.queues.Queue.{Queue}
-use Rattle.mas_types.specs.Owners.{is_members, member_count}
-use Rattle.queue_laws.proofs.Finds.{test_cases}
 use Rattle.track_groups.specs.Groups.{groups_where, held_by}
-use Rattle.mas_complex.specs.Spool.{IsGroupOf, IsHeldBy}
-use Rattle.member_decks.specs.Spooling.{Rise}
 
 -- a list that begins with a number
 first_least : (at : ℕ) (rest : List GroupNo) (g : GroupNo) → ((k : ℕ) → slice_get rest k ≡ Some g → at + 1 ≤ g.0) → (k : ℕ) → slice_get (record { 0 = at } ∷ rest) k ≡ Some g → at ≤ g.0
@@ -86,10 +73,8 @@ of_front (suc n) (y ∷ xs) zero x here = here
 of_front (suc n) (y ∷ xs) (suc k) x here = of_front n xs k x here
 
 is_members_is : (m : MemberId) (o : Owner) → is_members m o ≡ true → o ≡ owner.Member m
-is_members_is m owner.Free e = absurd (cc)
 is_members_is m (owner.Member h) e = let same : h.0 ≡ m.0 = grind (arith, nat_tests) in ap (λ (v : ℕ). owner.Member (record { 0 = v })) same
-is_members_is m (owner.Deck n p) e = absurd (cc)
-is_members_is m (owner.Output n i p) e = absurd (cc)
+is_members_is m _ e = absurd (cc)
 
 module _ (m : MemberId) (gs : List Owner) (n : ℕ) where
   abbrev lowest : List GroupNo

@@ -1,48 +1,33 @@
 -- A batch that is kept, with nothing said.
-use Rattle.std.proofs.Common.{◌≡◌, inl, inr, ℕ, ◌-◌, ◌≤◌, Bool, List, length, reverse, All, Some, Ok, Err, refl, sym, subst, arith}
-use Rattle.std.specs.List.{find}
-use Rattle.std.proofs.lemmas.List.{get_or-reverse, length-reverse}
-use Rattle.mas_types.specs.declared.journals.Entry.{Entry}
-use Rattle.mas_types.specs.Closings.{IsReplyNamed}
-use Rattle.queue_laws.proofs.Finds.{find-All}
-use Rattle.member_decks.specs.Decks.{closes}
-use Rattle.mas_types.specs.declared.journals.Batch.{Batch}
-use Rattle.spool_plant.specs.View.{View}
-use Rattle.member_steps.specs.NodeNo.{NodeNo}
-use Rattle.member_steps.specs.NodeNo.TheVariants.{BothLost, Halted, ConsoleFault, NoMemory}
+use Rattle.member_decks.proofs.Names.{◌≡◌, inl, inr, ℕ, ◌-◌, ◌≤◌, List, length, reverse, All, Some, Ok, Err, refl, sym, subst, arith, find, get_or-reverse, length-reverse, Entry, IsReplyNamed, find-All, closes, Batch, PairState, NodeNo, BothLost, Halted, ConsoleFault, NoMemory, apart_none, course_none, spares_none, CopyCauses, GivesUpLeaves, IsOnCopies, KeepLeaves}
 use Rattle.member_steps.specs.Writes.{IsWrite}
-use Rattle.member_steps.proofs.CourseLemmas.{apart_none, course_none}
-use Rattle.member_steps.proofs.SpareLemmas.{spares_none}
-use Rattle.member_decks.specs.Keeping.{CopyCauses, GivesUpLeaves, IsOnCopies, KeepLeaves}
 
 -- nothing was done
-pub copies_none : (told : Type 0) (by : ℕ) (a b : Bool) (v : View) → IsOnCopies {T = Unit {0}} told by a a b b v v (Err NoMemory)
-copies_none told by a b v = record {
-  course = course_none a b v;
+pub copies_none : (told : Type 0) (by : ℕ) (x : PairState) → IsOnCopies {T = Unit {0}} told by x x (Err NoMemory)
+copies_none told by x = record {
+  course = course_none x.first x.second x.view;
   loses = λ t d. refl;
   cause = inr (refl, refl);
-  spares = spares_none by v;
-  apart = λ t. apart_none v;
+  spares = spares_none by x.view;
+  apart = λ t. apart_none x.view;
 }
 
-module _ (told : Type 0) (by : ℕ) (b : Batch) (front batches : List Batch) (was1 is1 was2 is2 : Bool) (v0 v1 : View) where
-  pub copies_kept : IsWrite {T = Unit {0}} told by b front batches was1 is1 was2 is2 v0 v1 (Ok tt) → IsOnCopies {T = Unit {0}} told by was1 is1 was2 is2 v0 v1 (Ok tt)
+module _ (told : Type 0) (by : ℕ) (b : Batch) (front batches : List Batch) (x y : PairState) where
+  pub copies_kept : IsWrite {T = Unit {0}} told by b front batches x.first y.first x.second y.second x.view y.view (Ok tt) → IsOnCopies {T = Unit {0}} told by x y (Ok tt)
   copies_kept write = record { course = write.course; loses = λ t d. write.loses d; cause = write.cause; spares = write.spares; apart = write.apart }
 
-  causes : (e : NodeNo) → IsWrite {T = Unit {0}} told by b front batches was1 is1 was2 is2 v0 v1 (Err e) → CopyCauses {T = Unit {0}} (Err e) by was1 is1 was2 is2 v0 v1
-  causes BothLost write = write.cause
-  causes Halted write = write.cause
+  causes : (e : NodeNo) → IsWrite {T = Unit {0}} told by b front batches x.first y.first x.second y.second x.view y.view (Err e) → CopyCauses {T = Unit {0}} (Err e) by x y
   causes ConsoleFault write = absurd write.cause
   causes NoMemory write = absurd write.cause
+  causes _ write = write.cause
 
-  pub copies_unwritten : (e : NodeNo) → IsWrite {T = Unit {0}} told by b front batches was1 is1 was2 is2 v0 v1 (Err e) → IsOnCopies {T = Unit {0}} told by was1 is1 was2 is2 v0 v1 (Err e)
+  pub copies_unwritten : (e : NodeNo) → IsWrite {T = Unit {0}} told by b front batches x.first y.first x.second y.second x.view y.view (Err e) → IsOnCopies {T = Unit {0}} told by x y (Err e)
   copies_unwritten e write = record { course = write.course; loses = λ t d. write.loses d; cause = causes e write; spares = write.spares; apart = write.apart }
 
-  pub keep_unwritten : (e : NodeNo) → IsWrite {T = Unit {0}} told by b front batches was1 is1 was2 is2 v0 v1 (Err e) → KeepLeaves {T = Unit {0}} (Err e) front batches b v1.now
-  keep_unwritten BothLost write = write.journal
-  keep_unwritten Halted write = write.journal
+  pub keep_unwritten : (e : NodeNo) → IsWrite {T = Unit {0}} told by b front batches x.first y.first x.second y.second x.view y.view (Err e) → KeepLeaves {T = Unit {0}} (Err e) front batches b y.view.now
   keep_unwritten ConsoleFault write = absurd write.journal
   keep_unwritten NoMemory write = absurd write.journal
+  keep_unwritten _ write = write.journal
 
 -- OUT OF MEMORY EARLIER IN THE STEP
 
@@ -57,8 +42,8 @@ module _ (front batches : List Batch) (b : Batch) (now : ℕ) (some : 1 ≤ leng
   up_unkept ConsoleFault never = absurd never
 
 -- the acts on the copies of a step that ends out of memory
-pub up_copies : (told : Type 0) (by : ℕ) (a a' b b' : Bool) (v w : View) → IsOnCopies {T = Unit {0}} told by a a' b b' v w (Ok tt) → IsOnCopies {T = Unit {0}} told by a a' b b' v w (Err NoMemory)
-up_copies told by a a' b b' v w acts = record { course = acts.course; loses = acts.loses; cause = acts.cause; spares = acts.spares; apart = acts.apart }
+pub up_copies : (told : Type 0) (by : ℕ) (x y : PairState) → IsOnCopies {T = Unit {0}} told by x y (Ok tt) → IsOnCopies {T = Unit {0}} told by x y (Err NoMemory)
+up_copies told by x y acts = record { course = acts.course; loses = acts.loses; cause = acts.cause; spares = acts.spares; apart = acts.apart }
 
 -- THE REPLY WITH WHICH A STEP CLOSES
 

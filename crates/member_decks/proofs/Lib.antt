@@ -10,3 +10,4 @@ pub mod MayLemmas
 pub mod FinishLemmas
 pub mod KeepLemmas
 pub mod HoldingLemmas
+pub mod Names

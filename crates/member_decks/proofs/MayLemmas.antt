@@ -1,28 +1,11 @@
 -- Which batches of a deck's step may begin: none of their commands is a Mark.
-use Rattle.std.proofs.Common.{◌≡◌, ℕ, zero, suc, Bool, true, false, if◌then◌else◌, List, [], ◌∷◌, All, Option, Some, None, refl, sym, subst}
-use Rattle.std.specs.Option.{option_map_or}
-use Rattle.std.proofs.lemmas.List.Elements.{All-nil, All-cons, All-head, All-tail, All-append}
-use Rattle.mas_types.specs.declared.ids.JobNo.{JobNo}
-use Rattle.mas_types.specs.declared.ids.MemberId.{MemberId}
-use Rattle.mas_types.specs.declared.commands.Command.{Command}
+use Rattle.member_decks.proofs.Names.{◌≡◌, ℕ, zero, suc, Bool, true, false, if◌then◌else◌, List, [], ◌∷◌, All, Option, Some, None, refl, sym, subst, option_map_or, All-nil, All-cons, All-head, All-tail, All-append, JobNo, MemberId, Command, Reply, JobFields, Batch, Entry, Queue, IsFit, IsJobFields, is_mark, step, MayBegin, entry_of, are_refused, behind_begin, given_in, left_after, opening, takes, LeaveOut}
 use Rattle.mas_types.specs.declared.commands.Command.TheVariants as command
-use Rattle.mas_types.specs.declared.commands.Reply.{Reply}
 use Rattle.mas_types.specs.declared.commands.Reply.TheVariants as reply
-use Rattle.mas_types.specs.declared.jobs.JobFields.{JobFields}
-use Rattle.mas_types.specs.declared.journals.Batch.{Batch}
-use Rattle.mas_types.specs.declared.journals.Entry.{Entry}
-use Rattle.mas_types.specs.declared.queues.Queue.{Queue}
-use Rattle.mas_types.specs.Fit.{IsFit, IsJobFields}
 use Rattle.mas_types.specs.Queue.{is_member}
 use Rattle.mas_types.specs.Step.{may_give}
 use Rattle.queue_laws.specs.Runs.{IsGiven}
-use Rattle.paper_laws.specs.Counts.{is_mark}
-use Rattle.mas_complex.specs.Meaning.{step}
-use Rattle.mas_complex.specs.Paper.{MayBegin}
 use Rattle.mas_complex.proofs.Allowed.{unmarked_begin}
-use Rattle.member_steps.specs.Steps.{entry_of}
-use Rattle.member_decks.specs.Decks.{are_refused, behind_begin, given_in, left_after, opening, takes}
-use Rattle.member_decks.specs.Taking.{LeaveOut}
 use Rattle.member_decks.proofs.PlayLemmas.{all_front}
 
 -- the command is within the limits, the member may give it, and it is no Mark

@@ -1,39 +1,18 @@
 -- Pages of a text in their groups.
-use Rattle.std.proofs.Common.{◌≡◌, ◌≢◌, inl, inr, ⊎_elim, ◌||◌, ◌==◌, ℕ, zero, suc, ◌+◌, ◌*◌, ◌%◌, ◌≤◌, ◌<◌, nat_le, Bool, true, false, List, [], ◌∷◌, length, All, Some, Ok, Err, slice_get, slice_index_or, refl, sym, ◌∙◌, ap, subst, arith}
-use Rattle.std.specs.Prelude.{OnOk, Result}
-use Rattle.std.proofs.lemmas.Bool.{eq-eqb}
-use Rattle.std.proofs.lemmas.Option.{get_or_from_slice_get, slice_get_within, slice_get-get_or}
-use Rattle.std.proofs.lemmas.Bool.Decides.{nat_tests}
-use Rattle.mas_types.specs.declared.ids.GroupNo.{GroupNo}
-use Rattle.mas_types.specs.declared.ids.Dev.TheVariants.{Ckpt1, Ckpt2, Spool}
+use Rattle.member_decks.proofs.Names.{◌≡◌, ◌≢◌, inl, inr, ⊎_elim, ◌||◌, ◌==◌, ℕ, zero, suc, ◌+◌, ◌*◌, ◌%◌, ◌≤◌, ◌<◌, nat_le, Bool, true, false, List, [], ◌∷◌, length, All, Some, Ok, Err, slice_get, slice_index_or, refl, sym, ◌∙◌, ap, subst, arith, OnOk, Result, eq-eqb, slice_get_within, slice_get-get_or, nat_tests, GroupNo, Ckpt1, Ckpt2, Spool, Config, Whole, AreLines, page_bytes, groups_needed, Disk as DiskPart, View, disk_now, slice, Acts, Goes, Written, OnDevice, IsGroupOf, device_of, is_within, page_start, page_part, WritesGroup, Spools, spools_at, bytes_on, IsSynced, IsThere, test_cases, none_lost, SparesBut, papers_act, papers_none, papers_on, wires_none, wires_then, sparing_done, sparing_failed, sparing_halted, sparing_then, AreQuiet, GroupsKept, IsGroupKept, OnVolumes, Rise, SpoolCauses, StandBelow, answer_of, lies_there, page_in}
+pub use Rattle.mas_types.proofs.ListLemmas.{All-at as all_at}
 use Rattle.mas_types.specs.declared.ids.Page.{Page}
-use Rattle.mas_types.specs.declared.queues.Config.{Config}
-use Rattle.mas_types.specs.declared.jobs.Text.TheVariants.{Whole}
-use Rattle.mas_types.specs.Fit.{AreLines}
-use Rattle.mas_types.specs.Limits.{page_bytes}
-use Rattle.mas_types.specs.Owners.{groups_needed}
 use Rattle.spool_plant.specs.declared.plant.Act.{Act}
 use Rattle.spool_plant.specs.declared.plant.Act.TheVariants.{Done, Failed, Halted}
-use Rattle.spool_plant.specs.declared.plant.Part.TheVariants.{Disk as DiskPart}
-use Rattle.spool_plant.specs.View.{View, disk_now, slice}
-use Rattle.spool_plant.specs.Acts.{Acts, Goes, Written, OnDevice}
 use Rattle.ckpt_copy.specs.Moments.{either_way, goes_on, goes_none}
 use Rattle.spool_text.specs.Laws.{HasNeededGroups}
 use Rattle.spool_text.specs.Texts.{packed}
 use Rattle.spool_volumes.specs.Laws.{HavePages, ReadsTexts}
 use Rattle.spool_volumes.specs.Volumes.{volume_of, start_of, AreRoomy}
-use Rattle.mas_complex.specs.Spool.{IsGroupOf, device_of, is_within, page_start, page_part, WritesGroup}
-use Rattle.mas_complex.specs.Texts.{Spools, spools_at, bytes_on, IsSynced, IsThere}
-use Rattle.queue_laws.proofs.Finds.{test_cases}
 use Rattle.mas_complex.proofs.Quotients.{few_quotient}
 use Rattle.mas_complex.proofs.Spooled.{spared_other}
-use Rattle.member_steps.specs.Calls.{none_lost}
-use Rattle.member_steps.specs.Spares.{SparesBut}
-use Rattle.member_steps.proofs.CourseLemmas.{papers_act, papers_none, papers_on, wires_none, wires_then}
-use Rattle.member_steps.proofs.SpareLemmas.{sparing_done, sparing_failed, sparing_halted, sparing_then}
 use Rattle.member_decks.specs.declared.spooling.SpoolError.{SpoolError}
 use Rattle.member_decks.specs.declared.spooling.SpoolError.TheVariants.{Lost, Halted as Stopped}
-use Rattle.member_decks.specs.Spooling.{AreQuiet, GroupsKept, IsGroupKept, OnVolumes, Rise, SpoolCauses, StandBelow, answer_of, lies_there, page_in}
 
 -- ACTS
 
@@ -135,8 +114,7 @@ kept_quiet per groups old new quiet h apart = record {
 
 pub on_done : (A : Type 0) (r : Act) (v : ℕ) → (r ≡ Done → A) → OnOk (answer_of r v) A
 on_done A Done v f = f refl
-on_done A Failed v f = tt
-on_done A Halted v f = tt
+on_done A _ v f = tt
 
 -- the cause of an act on a volume on which one of the groups lies
 pub cause_of : (by per v : ℕ) (groups : List GroupNo) (old new : View) (r : Act) → lies_there per v groups ≡ true → Acts by (DiskPart (Spool v)) old new r → SpoolCauses (answer_of r v) by per groups old new
@@ -167,9 +145,6 @@ cause_later by per groups k g old mid new r here goes spares cause = cause_by by
 
 pub lies_alone : (per : ℕ) (g : GroupNo) → lies_there per (volume_of per g) (g ∷ []) ≡ true
 lies_alone per g = rw (eq-eqb (volume_of per g) (volume_of per g) refl) refl
-
-pub all_at : {A : Type 0} (P : A → Type 0) (xs : List A) (k : ℕ) (x : A) → All P xs → slice_get xs k ≡ Some x → P x
-all_at P xs k x all here = subst P (get_or_from_slice_get xs k x x here) (all k x (slice_get_within xs k x here))
 
 pub still_roomy : (config : Config) (old new : View) → Goes old new → AreRoomy old config → AreRoomy new config
 still_roomy config old new goes roomy n some few there =

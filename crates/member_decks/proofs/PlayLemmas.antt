@@ -1,21 +1,8 @@
 -- A deck's step, from part to part.
-use Rattle.std.proofs.Common.{◌≡◌, ℕ, ◌+◌, ◌≤◌, nat_le, List, [], ◌∷◌, ◌++◌, length, All, refl, sym, subst, arith}
-use Rattle.std.proofs.lemmas.List.Elements.{All-nil, All-cons, All-head, All-tail}
-use Rattle.mas_types.specs.declared.ids.JobNo.{JobNo}
-use Rattle.mas_types.specs.declared.ids.MemberId.{MemberId}
-use Rattle.mas_types.specs.declared.commands.Command.{Command}
-use Rattle.mas_types.specs.declared.jobs.JobFields.{JobFields}
-use Rattle.mas_types.specs.declared.journals.Entry.{Entry}
-use Rattle.mas_types.specs.declared.queues.Queue.{Queue}
-use Rattle.mas_types.specs.Fit.{AreLines}
-use Rattle.mas_types.specs.Limits.{page_bytes}
-use Rattle.mas_types.specs.Owners.{groups_after, groups_needed}
-use Rattle.queue_laws.proofs.Finds.{test_cases}
+use Rattle.member_decks.proofs.Names.{◌≡◌, ℕ, ◌+◌, ◌≤◌, nat_le, List, [], ◌∷◌, ◌++◌, length, All, refl, sym, subst, arith, All-nil, All-cons, All-head, All-tail, JobNo, MemberId, Command, JobFields, Entry, Queue, AreLines, page_bytes, groups_after, groups_needed, test_cases, given_in, opening, LeaveOut}
 use Rattle.member_decks.specs.declared.opening.Opened.{Opened}
 use Rattle.member_decks.specs.declared.opening.Opened.TheVariants as opened
-use Rattle.member_decks.specs.Decks.{given_in, opening}
 use Rattle.member_decks.specs.Steps.{AreOf}
-use Rattle.member_decks.specs.Taking.{LeaveOut}
 use Rattle.member_decks.proofs.DeckLemmas.{given_of}
 
 -- a text takes few groups

@@ -1,15 +1,7 @@
 -- What Takes reply, one after another, and their entries.
-use Rattle.std.proofs.Common.{◌≡◌, ℕ, zero, suc, ◌-◌, ◌≤◌, ◌==◌, min, true, false, [], ◌∷◌, None, refl, arith}
-use Rattle.std.proofs.lemmas.Bool.Decides.{nat_tests}
-use Rattle.mas_types.specs.declared.ids.MemberId.{MemberId}
+use Rattle.member_decks.proofs.Names.{◌≡◌, ℕ, zero, suc, ◌-◌, ◌≤◌, ◌==◌, min, true, false, [], ◌∷◌, None, refl, arith, nat_tests, MemberId, Queue, free_count, test_cases, step, entry_of, are_refused, given_in, left_after, takes}
 use Rattle.mas_types.specs.declared.commands.Command.TheVariants as command
 use Rattle.mas_types.specs.declared.commands.Reply.TheVariants as reply
-use Rattle.mas_types.specs.declared.queues.Queue.{Queue}
-use Rattle.mas_types.specs.Owners.{free_count}
-use Rattle.queue_laws.proofs.Finds.{test_cases}
-use Rattle.mas_complex.specs.Meaning.{step}
-use Rattle.member_steps.specs.Steps.{entry_of}
-use Rattle.member_decks.specs.Decks.{are_refused, given_in, left_after, takes}
 
 module _ (Q : Queue) (by : MemberId) where
   -- a Take that isn't refused takes at least one group, and no more than are wanted

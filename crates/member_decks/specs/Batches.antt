@@ -1,10 +1,7 @@
 -- The batches of a step, one after another, in the journal.
-use Rattle.std.specs.Prelude.{◌≡◌, ◌⊎◌, ℕ, ◌≤◌, List, [], ◌∷◌, ◌++◌, length}
-use Rattle.mas_types.specs.declared.ids.MemberId.{MemberId}
-use Rattle.mas_types.specs.declared.journals.Batch.{Batch}
-use Rattle.mas_types.specs.declared.journals.Entry.{Entry}
+use Rattle.member_decks.specs.Names.{MemberId, Batch, Entry, top}
+use Rattle.std.specs.Prelude.{◌≡◌, ℕ, ◌≤◌, List, [], ◌∷◌, ◌++◌, length}
 use Rattle.mas_types.specs.declared.journals.Fate.TheVariants.{Kept, Flying}
-use Rattle.spool_plant.specs.Acts.{top}
 
 -- the member's batch with these entries, begun from a moment on, and kept by now
 pub record IsKeptBatch (by : MemberId) (es : List Entry) (from now : ℕ) (b : Batch) : Type 0 where
@@ -40,19 +37,3 @@ IsFront es all = (1 ≤ length es) × ((rest : List Entry) × (all ≡ es ++ res
 -- the first entries of a batch, but not all
 abbrev pub IsCut : List Entry → List Entry → Type 0
 IsCut es all = (1 ≤ length es) × ((rest : List Entry) × (all ≡ es ++ rest) × (1 ≤ length rest))
-
--- the first batches of a step, but not all, and after them perhaps one with the first entries of the next batch
-abbrev pub AreCut : MemberId → ℕ → ℕ → List (List Entry) → List Batch → Type 0
-AreCut by from now [] bs = ⊥
-AreCut by from now (es ∷ ess) [] = Unit {0}
-AreCut by from now (es ∷ ess) (b ∷ bs) = ((bs ≡ [])
-    × ((cut : List Entry) × IsCut cut es × IsKeptBatch by cut from now b))
-    ⊎ (IsKeptBatch by es from now b × AreCut by b.last now ess bs)
-
--- the first batches of a step, and after them the next one in flight, or a batch with its first entries
-abbrev pub OneFlies : MemberId → ℕ → ℕ → List (List Entry) → List Batch → Type 0
-OneFlies by from now [] bs = ⊥
-OneFlies by from now (es ∷ ess) [] = ⊥
-OneFlies by from now (es ∷ ess) (b ∷ bs) = ((bs ≡ [])
-    × ((cut : List Entry) × IsFront cut es × IsFlyingBatch by cut from now b))
-    ⊎ (IsKeptBatch by es from now b × OneFlies by b.last now ess bs)

@@ -1,22 +1,15 @@
 -- What a deck's step gives: Begin, then Take of what is still missing until the text's groups are there, and then
 -- Enter; or Drop of the job after a refused Take, or where a volume of a group taken for it is lost.
+use Rattle.member_decks.specs.Names.{MemberId, JobFields, Command, Entry, Queue, closing_line, reply_lines, step, run, entry_of}
 use Rattle.std.specs.Prelude.{ℕ, zero, suc, ◌-◌, Bool, true, false, not, if◌then◌else◌, List, [], ◌∷◌, ◌++◌, reverse, Option, Some, None}
 use Rattle.std.specs.List.{find}
 use Rattle.std.specs.Option.{option_map_or}
-use Rattle.mas_types.specs.declared.ids.MemberId.{MemberId}
 use Rattle.mas_types.specs.declared.ids.JobNo.{JobNo}
-use Rattle.mas_types.specs.declared.jobs.JobFields.{JobFields}
-use Rattle.mas_types.specs.declared.commands.Command.{Command}
 use Rattle.mas_types.specs.declared.commands.Command.TheVariants as command
 use Rattle.mas_types.specs.declared.commands.Reply.{Reply}
 use Rattle.mas_types.specs.declared.commands.Reply.TheVariants as reply
 use Rattle.mas_types.specs.declared.answers.Closing.TheVariants as closing
-use Rattle.mas_types.specs.declared.journals.Entry.{Entry}
-use Rattle.mas_types.specs.declared.queues.Queue.{Queue}
-use Rattle.mas_types.specs.Closings.{closing_line, reply_lines}
 use Rattle.mas_types.specs.Owners.{groups_needed}
-use Rattle.mas_complex.specs.Meaning.{step, run}
-use Rattle.member_steps.specs.Steps.{entry_of}
 use Rattle.member_decks.specs.declared.opening.Opened.{Opened}
 use Rattle.member_decks.specs.declared.opening.Opened.TheVariants as opened
 

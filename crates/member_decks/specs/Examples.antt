@@ -1,9 +1,7 @@
 -- Worked examples: what a deck's step gives, and how it closes.
+use Rattle.member_decks.specs.Names.{Entry, Command, Queue}
 use Rattle.std.specs.Prelude.{◌≡◌, List, [], ◌∷◌, Some, None, map, codes}
-use Rattle.mas_types.specs.declared.journals.Entry.{Entry}
-use Rattle.mas_types.specs.declared.commands.Command.{Command}
 use Rattle.mas_types.specs.declared.commands.Command.TheVariants as command
-use Rattle.mas_types.specs.declared.queues.Queue.{Queue}
 use Rattle.mas_types.specs.Starts.{default_config}
 use Rattle.queue_laws.specs.Examples.Small.{member, job, empty, fields_of}
 use Rattle.queue_laws.specs.Examples.Decks.{cards}

@@ -5,3 +5,4 @@ pub mod Steps
 pub mod Keeping
 pub mod Taking
 pub mod Examples
+pub mod Names

@@ -1,21 +1,12 @@
 -- A text that goes into groups on the spool volumes.
+use Rattle.member_decks.specs.Names.{Dev, Ckpt1, Ckpt2, Spool, page_bytes, Disk as DiskPart, View, ViewDisk as Disk, Stretch, Avoids, disk_now, slice, Goes, Rose, SameWires, SamePapers, IsSynced, Spools, none_lost, SparesBut}
 use Rattle.std.specs.Prelude.{◌≡◌, ◌≢◌, ◌⊎◌, ℕ, ◌<◌, ◌==◌, Bool, true, false, List, All, Some, slice_get, Result, Ok, Err}
 use Rattle.std.specs.List.{list_any}
 use Rattle.mas_types.specs.declared.ids.GroupNo.{GroupNo}
-use Rattle.mas_types.specs.declared.ids.Dev.{Dev}
-use Rattle.mas_types.specs.declared.ids.Dev.TheVariants.{Ckpt1, Ckpt2, Spool}
-use Rattle.mas_types.specs.Limits.{page_bytes}
 use Rattle.spool_plant.specs.declared.plant.Act.{Act}
 use Rattle.spool_plant.specs.declared.plant.Act.TheVariants as act
 use Rattle.spool_plant.specs.declared.plant.Part.{Part}
-use Rattle.spool_plant.specs.declared.plant.Part.TheVariants.{Disk as DiskPart}
-use Rattle.spool_plant.specs.View.{View, Disk, Stretch, Avoids, disk_now, slice}
-use Rattle.spool_plant.specs.Acts.{Goes, Rose, SameWires}
 use Rattle.spool_volumes.specs.Volumes.{volume_of, start_of}
-use Rattle.mas_complex.specs.Paper.{SamePapers}
-use Rattle.mas_complex.specs.Texts.{IsSynced, Spools}
-use Rattle.member_steps.specs.Calls.{none_lost}
-use Rattle.member_steps.specs.Spares.{SparesBut}
 use Rattle.member_decks.specs.declared.spooling.SpoolError.{SpoolError}
 use Rattle.member_decks.specs.declared.spooling.SpoolError.TheVariants.{Lost, Halted}
 

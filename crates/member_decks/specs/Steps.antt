@@ -1,15 +1,6 @@
 -- A member's deck step, by its answer.
+use Rattle.member_decks.specs.Names.{Spool, MemberId, Entry, Disk as DiskPart, View, Rose, NodeNo, BothLost, Halted, ConsoleFault, NoMemory, none_lost, SparesBut}
 use Rattle.std.specs.Prelude.{◌≡◌, ℕ, ◌==◌, Bool, true, false, List, All, Option, Some, None, Result, Ok, Err}
-use Rattle.mas_types.specs.declared.ids.Dev.TheVariants.{Spool}
-use Rattle.mas_types.specs.declared.ids.MemberId.{MemberId}
-use Rattle.mas_types.specs.declared.journals.Entry.{Entry}
-use Rattle.spool_plant.specs.declared.plant.Part.TheVariants.{Disk as DiskPart}
-use Rattle.spool_plant.specs.View.{View}
-use Rattle.spool_plant.specs.Acts.{Rose}
-use Rattle.member_steps.specs.NodeNo.{NodeNo}
-use Rattle.member_steps.specs.NodeNo.TheVariants.{BothLost, Halted, ConsoleFault, NoMemory}
-use Rattle.member_steps.specs.Calls.{none_lost}
-use Rattle.member_steps.specs.Spares.{SparesBut}
 
 -- a volume that was found lost: it failed in the step, and is lost
 abbrev pub IsFoundLost : Option ℕ → View → View → Type 0

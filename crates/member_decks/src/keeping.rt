@@ -1,27 +1,12 @@
 //! Batches of a step that are kept, and the lines with which it closes.
+ghost use Rattle.member_decks.specs.Names.{Plain, Ckpt1, Ckpt2, IsReplyNamed, members_most, disk_now, IsUntold, setting, begun, end_of, kept_all, MayAct, run, HasTexts, lost_now, spools_at, TellSound, AreFit, CanDraw, HasDone, RestsAt, HasCounted, KeepsNotes, LeavesNotes, AreAllKept, IsBetween, MayBegin, printed_after};
 ghost use Rattle.std.specs.Prelude.{◌≡◌, ◌+◌, ◌≤◌, ◌<◌, ◌^◌, ◌++◌, [], All, None, Some, Option, length, reverse, true, false, Err, IfOk, OnOk};
 ghost use Rattle.std.specs.List.{find};
 ghost use Rattle.std.specs.Option.{option_copied};
-ghost use Rattle.mas_types.specs.declared.commands.Reply.TheVariants.{Plain};
-ghost use Rattle.mas_types.specs.declared.ids.Dev.TheVariants.{Ckpt1, Ckpt2};
-ghost use Rattle.mas_types.specs.Closings.{IsReplyNamed};
-ghost use Rattle.mas_types.specs.Limits.{members_most};
-ghost use Rattle.spool_plant.specs.View.{disk_now};
-ghost use Rattle.mas_complex.specs.Crash.{IsUntold, setting};
-ghost use Rattle.mas_complex.specs.Journals.{begun, end_of, kept_all};
-ghost use Rattle.mas_complex.specs.Locking.{MayAct};
-ghost use Rattle.mas_complex.specs.Meaning.{run};
-ghost use Rattle.mas_complex.specs.Texts.{HasTexts, lost_now, spools_at};
-ghost use Rattle.queue_telling.specs.Telling.{TellSound};
-ghost use Rattle.member_steps.specs.Standing.{AreFit};
-ghost use Rattle.member_steps.specs.Batches.{CanDraw, HasDone};
-ghost use Rattle.member_steps.specs.Copies.{RestsAt};
-ghost use Rattle.member_steps.specs.Counting.{HasCounted};
-ghost use Rattle.member_steps.specs.Noting.{KeepsNotes, LeavesNotes};
-ghost use Rattle.member_steps.specs.Steps.{AreAllKept, IsBetween};
 ghost use Rattle.member_decks.specs.Decks.{closes as closes_lem, closing_reply, finishing as finishing_lem, lines_by};
+ghost use Rattle.mas_complex.specs.CallCounts.{pair_state};
+ghost use Rattle.mas_complex.specs.Parts.{parts_of};
 ghost use Rattle.member_decks.specs.Keeping.{GivesUpLeaves, IsOnCopies, KeepLeaves};
-ghost use Rattle.mas_complex.specs.Paper.{MayBegin, printed_after};
 
 use cmd_report::{closing, reply_lines};
 use mas_complex::{Complex, Steady};
@@ -135,9 +120,8 @@ pub fn keep_batch<P: Plant + Drop, C: Steady + Drop>(
     ensures room { member.new.room ≡ member.old.room }
     ensures here { member.new.behind ≡ false }
     ensures tables { member.new.checkpoint.tables ≡ member.old.checkpoint.tables }
-    ensures acts { IsOnCopies P.tells member.old.id.0 complex.old.pair.first.alive complex.new.pair.first.alive
-        complex.old.pair.second.alive complex.new.pair.second.alive (P.view complex.old.plant)
-        (P.view complex.new.plant) result }
+    ensures acts { IsOnCopies P.tells member.old.id.0
+        (pair_state P.view (parts_of complex.old)) (pair_state P.view (parts_of complex.new)) result }
     ensures leaves { KeepLeaves result complex.old.journal.batches
         (end_of complex.new.placed complex.new.current complex.new.journal.batches)
         (begun (P.view complex.old.plant).now member.old.id member.old.batch) (P.view complex.new.plant).now }
@@ -207,9 +191,8 @@ pub fn give_up<P: Plant + Drop, C: Steady + Drop>(
     ensures renewals { complex.new.renewals ≡ complex.old.renewals }
     ensures book { complex.new.book ≡ complex.old.book }
     ensures id { member.new.id ≡ member.old.id }
-    ensures acts { IsOnCopies {T = Unit {0}} P.tells member.old.id.0 complex.old.pair.first.alive
-        complex.new.pair.first.alive complex.old.pair.second.alive complex.new.pair.second.alive
-        (P.view complex.old.plant) (P.view complex.new.plant) (Err result) }
+    ensures acts { IsOnCopies {T = Unit {0}} P.tells member.old.id.0
+        (pair_state P.view (parts_of complex.old)) (pair_state P.view (parts_of complex.new)) (Err result) }
     ensures leaves { GivesUpLeaves result complex.old.journal.batches
         (end_of complex.new.placed complex.new.current complex.new.journal.batches)
         (begun (P.view complex.old.plant).now member.old.id member.old.batch) (P.view complex.new.plant).now }

@@ -10,6 +10,8 @@ ghost use Rattle.member_node.specs.Copies.{RestsAt};
 ghost use Rattle.member_node.specs.Reads.{AreLow, IsCalm, ReadsLow, too_high};
 ghost use Rattle.member_steps.specs.Noting.{HasNotes, KeepsNotes};
 ghost use Rattle.member_steps.specs.Steps.{IsAtLock, IsBetween, IsToldSound};
+ghost use Rattle.mas_complex.specs.CallCounts.{pair_state};
+ghost use Rattle.mas_complex.specs.Parts.{parts_of};
 ghost use Rattle.member_decks.specs.Keeping.{IsOnCopies};
 
 use mas_complex::{Complex, Steady};
@@ -56,9 +58,8 @@ pub fn take_hold<P: Plant + Drop, C: Steady + Drop>(
     ensures placed { complex.new.placed ≡ complex.old.placed }
     ensures level { complex.new.level ≡ complex.old.level }
     ensures id { member.new.id ≡ member.old.id }
-    ensures acts { IsOnCopies P.tells member.old.id.0 complex.old.pair.first.alive complex.new.pair.first.alive
-        complex.old.pair.second.alive complex.new.pair.second.alive (P.view complex.old.plant)
-        (P.view complex.new.plant) result }
+    ensures acts { IsOnCopies P.tells member.old.id.0
+        (pair_state P.view (parts_of complex.old)) (pair_state P.view (parts_of complex.new)) result }
     ensures notes { KeepsNotes complex.old complex.new member.old member.new result }
     ensures here { OnOk result (member.new.behind ≡ false) }
     ensures between { OnOk result (IsBetween P.tells complex.new.base complex.new.journal.batches complex.new.current

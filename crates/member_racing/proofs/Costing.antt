@@ -13,7 +13,7 @@ use Rattle.spool_plant.specs.declared.plant.Plant.{Ghosts as PlantGhosts}
 use Rattle.spool_plant.specs.View.{View}
 use Rattle.spool_plant.specs.Acts.{Rose}
 use Rattle.ckpt_copy.specs.declared.copying.Copying.{Ghosts as CopyGhosts}
-use Rattle.mas_complex.specs.CallCounts.{IsLostOnce, KeepsCounts}
+use Rattle.mas_complex.specs.CallCounts.{IsLostOnce, KeepsCounts, PairState, pair_state}
 use Rattle.mas_complex.specs.Locking.{reserved_after_stop}
 use Rattle.mas_complex.specs.Paper.{counts_of}
 use Rattle.mas_complex.specs.Parts.{Parts}
@@ -115,8 +115,8 @@ module _ {P C : Type 0} (plants : PlantGhosts P) where
 once_grows : (was is : Bool) (before after : ℕ) → IsLostOnce was is before after → Grows before after
 once_grows was is before after once = ⊎_elim inl (λ lost. inr (let more = lost.2 in omega (arith, more))) once
 
-module _ (by : ℕ) (a a' b b' stopped : Bool) (old new : View) (counts : KeepsCounts by a a' b b' stopped old new) where
-  counted_passage : Passage a a' b b' old new
+module _ (by : ℕ) (stopped : Bool) (x y : PairState) (counts : KeepsCounts by stopped x y) where
+  counted_passage : Passage x.first y.first x.second y.second x.view y.view
   counted_passage = record {
     goes = counts.goes;
     failed1 = counts.gone1;
@@ -127,12 +127,12 @@ module _ (by : ℕ) (a a' b b' stopped : Bool) (old new : View) (counts : KeepsC
     alive2 = counts.alive2;
     grow = grow;
   } where
-    grow : (d : Dev) → Grows (old.loses d) (new.loses d)
-    grow Ckpt1 = once_grows a a' _ _ counts.once1
-    grow Ckpt2 = once_grows b b' _ _ counts.once2
+    grow : (d : Dev) → Grows (x.view.loses d) (y.view.loses d)
+    grow Ckpt1 = once_grows x.first y.first _ _ counts.once1
+    grow Ckpt2 = once_grows x.second y.second _ _ counts.once2
     grow (Spool n) = inl (counts.else_loses (Spool n) (λ e. absurd (cc)) (λ e. absurd (cc)))
 
-  counted_spares : 1 ≤ by → Spares by stopped old new
+  counted_spares : 1 ≤ by → Spares by stopped x.view y.view
   counted_spares some = record {
     volumes = λ n. counts.else_loses (Spool n) (λ e. absurd (cc)) (λ e. absurd (cc));
     stops = counts.no_other_stop;
@@ -158,7 +158,7 @@ module _ {P C : Type 0} (plants : PlantGhosts P) (copies : CopyGhosts C) where
     passage = passage_of x.first_alive seat.first_alive x.second_alive seat.second_alive (view x) (view seat) took.acts.on.course;
     once = record { first = took.acts.on.course.once1; second = took.acts.on.course.once2 };
     spares = took.acts.on.spares;
-    cause = copy_causes r by.0 x.first_alive seat.first_alive x.second_alive seat.second_alive (view x) (view seat) took.acts.on.cause;
+    cause = copy_causes r by.0 (pair_state plants.view x) (pair_state plants.view seat) took.acts.on.cause;
     notes = took.acts.notes;
     counts = λ m other. ap (λ (q : Parts P C). counts_of q.printed m) took.frame;
   }
@@ -249,9 +249,9 @@ module _ {P C : Type 0} (plants : PlantGhosts P) (copies : CopyGhosts C) where
   module _ (by : MemberId) (some : 1 ≤ by.0) where
     taken_acts : (of : MemberId) (x mid : Parts P C) (found : Fate) → IsTaken plants copies by of x mid found → TurnActs plants by x mid (Ok tt)
     taken_acts of x mid found t = record {
-      passage = counted_passage by.0 x.first_alive mid.first_alive x.second_alive mid.second_alive false (view x) (view mid) t.counts;
+      passage = counted_passage by.0 false (pair_state plants.view x) (pair_state plants.view mid) t.counts;
       once = record { first = t.counts.once1; second = t.counts.once2 };
-      spares = counted_spares by.0 x.first_alive mid.first_alive x.second_alive mid.second_alive false (view x) (view mid) t.counts some;
+      spares = counted_spares by.0 false (pair_state plants.view x) (pair_state plants.view mid) t.counts some;
       cause = inl t.some;
       notes = notes_same by x.had mid.had t.had;
       counts = λ m other. ap (λ (l : List ℕ). counts_of l m) t.printed;
@@ -265,9 +265,9 @@ module _ {P C : Type 0} (plants : PlantGhosts P) (copies : CopyGhosts C) where
 
     untaken_acts : (of : MemberId) (x y : Parts P C) (e : NodeNo) → IsUntaken plants copies by of x y e → TurnActs plants by x y (Err e)
     untaken_acts of x y e u = record {
-      passage = counted_passage by.0 x.first_alive y.first_alive x.second_alive y.second_alive (is_stop e) (view x) (view y) u.counts;
+      passage = counted_passage by.0 (is_stop e) (pair_state plants.view x) (pair_state plants.view y) u.counts;
       once = record { first = u.counts.once1; second = u.counts.once2 };
-      spares = counted_spares by.0 x.first_alive y.first_alive x.second_alive y.second_alive (is_stop e) (view x) (view y) u.counts some;
+      spares = counted_spares by.0 (is_stop e) (pair_state plants.view x) (pair_state plants.view y) u.counts some;
       cause = untaken_cause e x y u.cause u.some;
       notes = notes_same by x.had y.had u.had;
       counts = λ m other. ap (λ (l : List ℕ). counts_of l m) u.printed;

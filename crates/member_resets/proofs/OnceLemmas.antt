@@ -4,7 +4,7 @@ use Rattle.mas_types.specs.declared.ids.Dev.TheVariants.{Ckpt1, Ckpt2}
 use Rattle.mas_types.specs.declared.ids.MemberId.{MemberId}
 use Rattle.spool_plant.specs.declared.plant.Plant.{Ghosts as PlantGhosts}
 use Rattle.spool_plant.specs.View.{View}
-use Rattle.mas_complex.specs.CallCounts.{IsLostOnce, KeepsCounts}
+use Rattle.mas_complex.specs.CallCounts.{IsLostOnce, KeepsCounts, pair_state}
 use Rattle.mas_complex.specs.Parts.{Parts}
 use Rattle.member_node.specs.declared.member.NodeNo.{NodeNo}
 use Rattle.member_node.specs.declared.member.NodeNo.TheVariants as no_node
@@ -32,7 +32,7 @@ module _ {P C : Type 0} (plants : PlantGhosts P) where
   pub course_once : (x y : Parts P C) → Course x.first_alive y.first_alive x.second_alive y.second_alive (v x) (v y) → AreLostOnce plants x y
   course_once x y c = record { first = c.once1; second = c.once2 }
 
-  pub counted_once : (by : ℕ) (stopped : Bool) (x y : Parts P C) → KeepsCounts by x.first_alive y.first_alive x.second_alive y.second_alive stopped (v x) (v y) → AreLostOnce plants x y
+  pub counted_once : (by : ℕ) (stopped : Bool) (x y : Parts P C) → KeepsCounts by stopped (pair_state plants.view x) (pair_state plants.view y) → AreLostOnce plants x y
   counted_once by stopped x y c = record { first = c.once1; second = c.once2 }
 
   pub then_once : (x y z : Parts P C) → (y.first_alive ≡ true → x.first_alive ≡ true) → (z.first_alive ≡ true → y.first_alive ≡ true) → (y.second_alive ≡ true → x.second_alive ≡ true) → (z.second_alive ≡ true → y.second_alive ≡ true)

@@ -20,7 +20,7 @@ use Rattle.ckpt_tables.specs.Shape.{page_count}
 use Rattle.duplex_pair.specs.Halves.{IsBothLost, SomeAlive}
 use Rattle.mas_complex.specs.declared.complex.Complex.{Complex}
 use Rattle.ckpt_places.specs.declared.places.Place.TheVariants.{Before}
-use Rattle.mas_complex.specs.CallCounts.{IsLostOnce, KeepsCounts}
+use Rattle.mas_complex.specs.CallCounts.{IsLostOnce, KeepsCounts, pair_state}
 use Rattle.mas_complex.specs.Elsewhere.{OnCopies}
 use Rattle.mas_complex.specs.Journals.{in_flight}
 use Rattle.mas_complex.specs.Locking.{IsOperatorAway}
@@ -175,7 +175,7 @@ module _ {P C : Type 0} (plants : PlantGhosts P) (copies : CopyGhosts C) where
   -- of their answer. Nobody noted any pages. A member that was stopped in them is stopped in the book, and holds the
   -- lock.
   pub record IsUntaken (by of : MemberId) (x y : Parts P C) (e : NodeNo) : Type 0 where
-    pub counts : KeepsCounts by.0 x.first_alive y.first_alive x.second_alive y.second_alive (is_stop e) (v x) (v y)
+    pub counts : KeepsCounts by.0 (is_stop e) (pair_state plants.view x) (pair_state plants.view y)
     pub apart : plants.tells → OnCopies (v x) (v y)
     pub cause : TakeCauses e by x y
     pub some : CopiesLeft e y
@@ -191,7 +191,7 @@ module _ {P C : Type 0} (plants : PlantGhosts P) (copies : CopyGhosts C) where
   -- level by one. Nobody noted any pages. A copy was lost only where an act on it failed, or it couldn't stay beside
   -- the pages found.
   pub record IsTaken (by of : MemberId) (x y : Parts P C) (found : Fate) : Type 0 where
-    pub counts : KeepsCounts by.0 x.first_alive y.first_alive x.second_alive y.second_alive false (v x) (v y)
+    pub counts : KeepsCounts by.0 false (pair_state plants.view x) (pair_state plants.view y)
     pub apart : plants.tells → OnCopies (v x) (v y)
     pub fated : found ≢ Flying
     pub journal : journal_of y ≡ settle found (v y).now (journal_of x)

@@ -8,7 +8,8 @@ use Rattle.mas_types.specs.declared.ids.MemberId.{MemberId}
 use Rattle.mas_types.specs.declared.journals.Entry.{Entry}
 use Rattle.paper_laws.specs.Counts.{begins_anew, counts_after}
 use Rattle.mas_complex.specs.Paper.{counts_of, printed_after}
-use Rattle.mas_complex.proofs.Papers.{counts_set, test_cases}
+use Rattle.paper_laws.proofs.Bools.{test_cases}
+use Rattle.mas_complex.proofs.Papers.{counts_set}
 use Rattle.member_node.specs.declared.member.NodeNo.{NodeNo}
 use Rattle.member_steps.specs.Counting.{HasCounted}
 

@@ -22,7 +22,7 @@ use Rattle.duplex_pair.specs.Halves.{IsBothLost, SomeAlive}
 use Rattle.mas_complex.specs.declared.complex.Complex.{Complex}
 use Rattle.ckpt_places.specs.declared.places.Place.{Place}
 use Rattle.ckpt_places.specs.declared.places.Place.TheVariants.{Before}
-use Rattle.mas_complex.specs.CallCounts.{KeepsCounts}
+use Rattle.mas_complex.specs.CallCounts.{KeepsCounts, pair_state}
 use Rattle.mas_complex.specs.Crash.{next_order, order_first, orders_most}
 use Rattle.mas_complex.specs.Elsewhere.{OnCopies}
 use Rattle.mas_complex.specs.Journals.{kept_all}
@@ -122,8 +122,7 @@ module _ {P C : Type 0} (plants : PlantGhosts P) where
   -- Acts on the copies alone: nobody but the member was stopped, and it only where the answer says so. No stop was
   -- armed, no volume changed, and nothing was said or printed. No device was lost by a call but that of a copy, once.
   pub record HasActed (by : MemberId) (old new : Parts P C) (result : Result (List Page) TakeNo) : Type 0 where
-    pub counts : KeepsCounts by.0 old.first_alive new.first_alive old.second_alive new.second_alive
-        (is_halted result) (v old) (v new)
+    pub counts : KeepsCounts by.0 (is_halted result) (pair_state plants.view old) (pair_state plants.view new)
     pub apart : plants.tells → OnCopies (v old) (v new)
 
 module _ {P C : Type 0} (plants : PlantGhosts P) (copies : CopyGhosts C) where
@@ -141,9 +140,8 @@ module _ {P C : Type 0} (plants : PlantGhosts P) (copies : CopyGhosts C) where
     pub second : new.second_alive ≡ true → Reads plants.tells copies.reads (copies.count new.second_copy) new.second
         (disk_now (v plants new) Ckpt2) pages
     pub stands : plants.tells → ∥ StandFor (run new.base (kept_all new.batches)) (bytes_of pages) ∥₁
-    pub picked : plants.tells → IsPicked copies.reads old.first_alive old.second_alive
-        (disk_now (v plants old) Ckpt1).bytes (disk_now (v plants old) Ckpt2).bytes (HasFailed1 plants old new)
-        (HasFailed2 plants old new) pages
+    pub picked : plants.tells → IsPicked copies.reads (pair_state plants.view old)
+        (pair_state plants.view new) pages
     pub left1 : plants.tells → old.first_alive ≡ true → new.first_alive ≡ false → HasFailed1 plants old new
         ⊎ WasUnfit copies.reads (disk_now (v plants old) Ckpt1).bytes old.level
         (copies.room_in (disk_now (v plants old) Ckpt1).bytes) pages

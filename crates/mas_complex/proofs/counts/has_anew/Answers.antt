@@ -1,8 +1,4 @@
-use Rattle.std.proofs.Common.{◌∙◌, List, ap}
-use Rattle.std.specs.List.{list_any}
-use Rattle.paper_laws.specs.Counts.{begins_anew}
-use Rattle.brief_journal.specs.declared.entries.BriefEntry.{BriefEntry}
-use Rattle.brief_journal.specs.Brief.{entry_of}
+use Rattle.mas_complex.proofs.Names.{◌∙◌, List, ap, list_any, begins_anew, BriefEntry, entry_of}
 use Rattle.mas_complex.proofs.Briefs.{any_anew}
 use Rattle.mas_complex.proofs.counts.has_anew.Goals as goal
 

@@ -1,5 +1,4 @@
-use Rattle.std.proofs.Common.{rules}
-use Rattle.mas_complex.specs.Fits.{first_page}
+use Rattle.mas_complex.proofs.Names.{rules, first_page}
 use Rattle.mas_complex.proofs.Fitted.{differ_only}
 use Rattle.mas_complex.proofs.fitting.differ_only_at.Goals as goal
 

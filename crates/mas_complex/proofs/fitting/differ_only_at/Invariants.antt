@@ -1,5 +1,4 @@
-use Rattle.std.proofs.Common.{◌≡◌, length, drop}
-use Rattle.mas_complex.specs.Fits.{differ_at, first_page}
+use Rattle.mas_complex.proofs.Names.{◌≡◌, length, drop, differ_at, first_page}
 use Rattle.mas_complex.proofs.fitting.differ_only_at.Given as goal
 
 abbrev pub invariant-loop-page : goal.invariant-loop-page

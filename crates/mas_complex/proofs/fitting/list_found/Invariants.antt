@@ -1,6 +1,4 @@
-use Rattle.std.proofs.Common.{◌≡◌, ◌≤◌, ◌++◌, take, drop}
-use Rattle.ckpt_copy.specs.Pages.{bytes_of, level}
-use Rattle.mas_complex.specs.Fits.{first_page, found_numbers, numbers_from}
+use Rattle.mas_complex.proofs.Names.{◌≡◌, ◌≤◌, ◌++◌, take, drop, bytes_of, level, first_page, found_numbers, numbers_from}
 use Rattle.mas_complex.proofs.fitting.list_found.Given as goal
 
 abbrev pub invariant-loop-page : goal.invariant-loop-page

@@ -1,4 +1,4 @@
-use Rattle.std.proofs.Common.{rules}
+use Rattle.mas_complex.proofs.Names.{rules}
 use Rattle.mas_complex.proofs.Fitted.{same_only}
 use Rattle.mas_complex.proofs.fitting.same_pages.Goals as goal
 

@@ -1,5 +1,4 @@
-use Rattle.std.proofs.Common.{◌≡◌, length, drop}
-use Rattle.mas_complex.specs.Fits.{are_same}
+use Rattle.mas_complex.proofs.Names.{◌≡◌, length, drop, are_same}
 use Rattle.mas_complex.proofs.fitting.same_pages.Given as goal
 
 abbrev pub invariant-loop-page : goal.invariant-loop-page

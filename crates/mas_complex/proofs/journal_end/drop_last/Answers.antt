@@ -1,5 +1,4 @@
-use Rattle.std.proofs.Common.{ℕ, ◌-◌, ◌∙◌, ap, arith}
-use Rattle.std.specs.Prelude.{remove}
+use Rattle.mas_complex.proofs.Names.{ℕ, ◌-◌, ◌∙◌, ap, arith, remove}
 use Rattle.mas_complex.proofs.BatchEnds.{last_removed}
 use Rattle.mas_complex.proofs.journal_end.drop_last.Goals as goal
 

@@ -1,4 +1,4 @@
-use Rattle.std.proofs.Common.{ℕ, ◌-◌, ◌∙◌, slice_set, ap, arith}
+use Rattle.mas_complex.proofs.Names.{ℕ, ◌-◌, ◌∙◌, slice_set, ap, arith}
 use Rattle.mas_complex.proofs.BatchEnds.{last_put}
 use Rattle.mas_complex.proofs.journal_end.set_last.Goals as goal
 

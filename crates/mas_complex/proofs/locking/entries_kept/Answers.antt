@@ -1,8 +1,4 @@
-use Rattle.std.proofs.Common.{◌≡◌, ◌+◌, min, List, [], length, drop, subst, arith}
-use Rattle.std.proofs.lemmas.List.{drop_all}
-use Rattle.mas_types.specs.declared.journals.Batch.{Batch}
-use Rattle.spool_plant.specs.Acts.{top}
-use Rattle.mas_complex.specs.Journals.{kept_all}
+use Rattle.mas_complex.proofs.Names.{◌≡◌, ◌+◌, min, List, [], length, drop, subst, arith, drop_all, Batch, top, kept_all}
 use Rattle.mas_complex.proofs.locking.entries_kept.Goals as goal
 
 pub returns : goal.returns

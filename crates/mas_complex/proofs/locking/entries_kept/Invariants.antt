@@ -1,6 +1,4 @@
-use Rattle.std.proofs.Common.{◌≡◌, ◌+◌, ◌≤◌, min, length, drop}
-use Rattle.spool_plant.specs.Acts.{top}
-use Rattle.mas_complex.specs.Journals.{kept_all}
+use Rattle.mas_complex.proofs.Names.{◌≡◌, ◌+◌, ◌≤◌, min, length, drop, top, kept_all}
 use Rattle.mas_complex.proofs.locking.entries_kept.Given as goal
 
 abbrev pub invariant-loop-batch : goal.invariant-loop-batch

@@ -1,6 +1,4 @@
-use Rattle.std.proofs.Common.{◌≡◌, ◌∙◌, true, List, slice_set, ap, sym, subst}
-use Rattle.mas_types.specs.declared.ids.Page.{Page}
-use Rattle.mas_complex.specs.Past.{HasNoted, values_of}
+use Rattle.mas_complex.proofs.Names.{◌≡◌, ◌∙◌, true, List, slice_set, ap, sym, subst, Page, HasNoted, values_of}
 use Rattle.mas_complex.proofs.Pasts.{noted_here, values_set}
 use Rattle.mas_complex.proofs.noting.put_note.Goals as goal
 

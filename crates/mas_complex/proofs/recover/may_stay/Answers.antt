@@ -1,5 +1,4 @@
-use Rattle.std.proofs.Common.{◌≡◌, sym, ◌∙◌, inl, rules}
-use Rattle.ckpt_places.specs.declared.places.Place.TheVariants.{Before}
+use Rattle.mas_complex.proofs.Names.{◌≡◌, sym, ◌∙◌, inl, rules, Before}
 use Rattle.mas_complex.proofs.Fitted.{fits_below, fits_same, fits_many}
 use Rattle.mas_complex.proofs.recover.may_stay.Goals as goal
 

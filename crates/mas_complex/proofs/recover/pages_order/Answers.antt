@@ -1,4 +1,4 @@
-use Rattle.std.proofs.Common.{[], rules, sym, ◌∙◌}
+use Rattle.mas_complex.proofs.Names.{[], rules, sym, ◌∙◌}
 use Rattle.mas_complex.proofs.Orders.{order_head, order_empty}
 use Rattle.mas_complex.proofs.recover.pages_order.Goals as goal
 

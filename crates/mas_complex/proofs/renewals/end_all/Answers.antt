@@ -1,6 +1,4 @@
-use Rattle.std.proofs.Common.{◌<◌, length, arith}
-use Rattle.mas_complex.specs.declared.renewals.Renewal.{Renewal}
-use Rattle.mas_complex.specs.Renewals.{ended_at}
+use Rattle.mas_complex.proofs.Names.{◌<◌, length, arith, Renewal, ended_at}
 use Rattle.mas_complex.proofs.Renewed.{change_here}
 use Rattle.mas_complex.proofs.renewals.end_all.Goals as goal
 

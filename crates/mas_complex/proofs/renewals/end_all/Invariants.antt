@@ -1,5 +1,4 @@
-use Rattle.std.proofs.Common.{◌≡◌, ◌++◌, map, take, drop}
-use Rattle.mas_complex.specs.Renewals.{ended_at}
+use Rattle.mas_complex.proofs.Names.{◌≡◌, ◌++◌, map, take, drop, ended_at}
 use Rattle.mas_complex.proofs.renewals.end_all.Given as goal
 
 -- those so far have ended

@@ -1,4 +1,4 @@
-use Rattle.std.proofs.Common.{refl}
+use Rattle.member_decks.proofs.Names.{refl}
 use Rattle.std.specs.Fmt.{digits}
 use Rattle.member_decks.specs.Examples.{DeckIsEntered, FullSpoolDropsTheDeck, LostVolumeDropsTheDeck}
 use Rattle.member_decks.proofs.examples.examples_of_deck_steps.Goals as goal

@@ -1,9 +1,4 @@
-use Rattle.std.proofs.Common.{inl, [], refl, arith}
-use Rattle.mas_complex.specs.Journals.{begun, end_of}
-use Rattle.member_steps.proofs.WriteLemmas.{none_out}
-use Rattle.mas_complex.specs.Past.{values_of}
-use Rattle.member_steps.proofs.CountLemmas.{counted_error, counted_up}
-use Rattle.member_steps.proofs.NoteLemmas.{notes_none}
+use Rattle.member_decks.proofs.Names.{inl, [], refl, arith, begun, end_of, none_out, values_of, counted_error, counted_up, notes_none, pair_state, parts_of}
 use Rattle.member_decks.proofs.KeepLemmas.{copies_none, up_copies, up_kept, up_unkept}
 use Rattle.member_decks.proofs.keeping.give_up.Goals as goal
 
@@ -11,7 +6,7 @@ pub returns-then-len-eq0-clause-acts : goal.returns-then-len-eq0-clause-acts
 returns-then-len-eq0-clause-acts g c =
     let P = g.P.Plant in
     let x = c.args.complex.now in
-    copies_none P.tells c.args.member.now.id.0 x.pair.first.alive x.pair.second.alive (P.view x.plant)
+    copies_none P.tells c.args.member.now.id.0 (pair_state P.view (parts_of x))
 
 pub returns-then-len-eq0-clause-leaves : goal.returns-then-len-eq0-clause-leaves
 returns-then-len-eq0-clause-leaves g c =
@@ -23,7 +18,7 @@ returns-in-Ok-clause-acts g c =
     let P = g.P.Plant in
     let x = c.args.complex.now in
     let z = c.keep_batch.new.complex in
-    up_copies P.tells c.args.member.now.id.0 x.pair.first.alive z.pair.first.alive x.pair.second.alive z.pair.second.alive (P.view x.plant) (P.view z.plant) c.in-Ok.ensures.acts
+    up_copies P.tells c.args.member.now.id.0 (pair_state P.view (parts_of x)) (pair_state P.view (parts_of z)) c.in-Ok.ensures.acts
 
 pub returns-in-Ok-clause-leaves : goal.returns-in-Ok-clause-leaves
 returns-in-Ok-clause-leaves g c =

@@ -1,21 +1,7 @@
-use Rattle.std.proofs.Common.{◌≡◌, ◌∙◌, ◌+◌, ◌≤◌, ◌++◌, ℕ, List, [], ◌∷◌, ap, refl, subst, sym, arith}
+use Rattle.member_decks.proofs.Names.{◌≡◌, ◌∙◌, ◌+◌, ◌≤◌, ◌++◌, ℕ, List, [], ◌∷◌, ap, refl, subst, sym, arith, Batch, Kept, Queue, Tables, Tell, TellSound, begun, end_of, entries_reserved, fated, kept_all, run, level_with, none_out, queue_kept, printed_after, values_of, AreAllKept, counted_batch, counted_error, keeps_error, keeps_noted, notes_by, notes_same, notes_set, notes_then, pair_state, parts_of}
 use Rattle.std.proofs.lemmas.Result.{err_from_is_err_and}
-use Rattle.mas_types.specs.declared.journals.Batch.{Batch}
-use Rattle.mas_types.specs.declared.journals.Fate.TheVariants.{Kept}
-use Rattle.mas_types.specs.declared.queues.Queue.{Queue}
-use Rattle.ckpt_tables.specs.declared.tables.Tables.{Tables}
 use Rattle.ckpt_tables.specs.Shape.{page_count}
 use Rattle.queue_telling.specs.Orders.{HaveOrders}
-use Rattle.queue_telling.specs.Telling.{Tell, TellSound}
-use Rattle.mas_complex.specs.Journals.{begun, end_of, entries_reserved, fated, kept_all}
-use Rattle.mas_complex.specs.Meaning.{run}
-use Rattle.member_steps.specs.Batches.{level_with}
-use Rattle.member_steps.proofs.WriteLemmas.{none_out, queue_kept}
-use Rattle.mas_complex.specs.Paper.{printed_after}
-use Rattle.mas_complex.specs.Past.{values_of}
-use Rattle.member_steps.specs.Steps.{AreAllKept}
-use Rattle.member_steps.proofs.CountLemmas.{counted_batch, counted_error}
-use Rattle.member_steps.proofs.NoteLemmas.{keeps_error, keeps_noted, notes_by, notes_same, notes_set, notes_then}
 use Rattle.member_steps.proofs.StepLemmas.{journal_kept, kept_push, level_most, pages_as_many}
 use Rattle.member_decks.proofs.KeepLemmas.{copies_kept, copies_none, copies_unwritten, keep_unwritten}
 use Rattle.member_decks.proofs.keeping.keep_batch.Goals as goal
@@ -24,7 +10,7 @@ pub returns-in_default-clause-acts : goal.returns-in_default-clause-acts
 returns-in_default-clause-acts g c =
     let P = g.P.Plant in
     let x = c.args.complex.now in
-    rw (c.ready.ensures.pair, c.ready.ensures.plant) (copies_none P.tells c.args.member.now.id.0 x.pair.first.alive x.pair.second.alive (P.view x.plant))
+    rw (c.ready.ensures.pair, c.ready.ensures.plant) (copies_none P.tells c.args.member.now.id.0 (pair_state P.view (parts_of x)))
 
 pub returns-in_default-clause-leaves : goal.returns-in_default-clause-leaves
 returns-in_default-clause-leaves g c =
@@ -42,7 +28,7 @@ returns-in_err-write-clause-acts g c =
     let grown = c.in-Ok.ensures.grown c.requires.unplaced in
     let write = rw (e.id, e.plant, e.pair, c.in-Ok.ensures.reserved) at (c.in_err-write.ensures.write x.journal.batches grown.0 grown.1) in
     let p = err_from_is_err_and c.from_residual.result c.from_residual.ensures.1 in
-    rw (p.1, p.2) (copies_unwritten P.tells by.0 (begun (P.view x.plant).now by c.args.member.now.batch) x.journal.batches (end_of z.placed z.current z.journal.batches) x.pair.first.alive z.pair.first.alive x.pair.second.alive z.pair.second.alive (P.view x.plant) (P.view z.plant) _ write)
+    rw (p.1, p.2) (copies_unwritten P.tells by.0 (begun (P.view x.plant).now by c.args.member.now.batch) x.journal.batches (end_of z.placed z.current z.journal.batches) (pair_state P.view (parts_of x)) (pair_state P.view (parts_of z)) _ write)
 
 pub returns-in_err-write-clause-leaves : goal.returns-in_err-write-clause-leaves
 returns-in_err-write-clause-leaves g c =
@@ -54,7 +40,7 @@ returns-in_err-write-clause-leaves g c =
     let grown = c.in-Ok.ensures.grown c.requires.unplaced in
     let write = rw (e.id, e.plant, e.pair, c.in-Ok.ensures.reserved) at (c.in_err-write.ensures.write x.journal.batches grown.0 grown.1) in
     let p = err_from_is_err_and c.from_residual.result c.from_residual.ensures.1 in
-    rw (p.1, p.2) (keep_unwritten P.tells by.0 (begun (P.view x.plant).now by c.args.member.now.batch) x.journal.batches (end_of z.placed z.current z.journal.batches) x.pair.first.alive z.pair.first.alive x.pair.second.alive z.pair.second.alive (P.view x.plant) (P.view z.plant) _ write)
+    rw (p.1, p.2) (keep_unwritten P.tells by.0 (begun (P.view x.plant).now by c.args.member.now.batch) x.journal.batches (end_of z.placed z.current z.journal.batches) (pair_state P.view (parts_of x)) (pair_state P.view (parts_of z)) _ write)
 
 pub ready-requires-clause-done : goal.ready-requires-clause-done
 ready-requires-clause-done g c told = ∣ c.requires.done told ∣₁
@@ -95,15 +81,12 @@ returns-clause-acts g c =
     let by = c.args.member.now.id in
     let grown = c.in-Ok.ensures.grown c.requires.unplaced in
     let write = rw (e.id, e.plant, e.pair, c.in-Ok.ensures.reserved) at (c.in_ok-write.ensures.write x.journal.batches grown.0 grown.1) in
-    copies_kept P.tells by.0 (begun (P.view x.plant).now by c.args.member.now.batch) x.journal.batches (end_of z.placed z.current z.journal.batches) x.pair.first.alive z.pair.first.alive x.pair.second.alive z.pair.second.alive (P.view x.plant) (P.view z.plant) write
+    copies_kept P.tells by.0 (begun (P.view x.plant).now by c.args.member.now.batch) x.journal.batches (end_of z.placed z.current z.journal.batches) (pair_state P.view (parts_of x)) (pair_state P.view (parts_of z)) write
 
 pub returns-clause-leaves : goal.returns-clause-leaves
 returns-clause-leaves g c =
-    let P = g.P.Plant in
     let x = c.args.complex.now in
-    let z = c.write.new.complex in
     let e = c.ready.ensures in
-    let by = c.args.member.now.id in
     let grown = c.in-Ok.ensures.grown c.requires.unplaced in
     let write = rw (e.id, e.plant, e.pair, c.in-Ok.ensures.reserved) at (c.in_ok-write.ensures.write x.journal.batches grown.0 grown.1) in
     write.journal

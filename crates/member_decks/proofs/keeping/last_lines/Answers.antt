@@ -1,7 +1,4 @@
-use Rattle.std.proofs.Common.{◌≡◌, ◌∙◌, reverse, ap, sym}
-use Rattle.std.specs.List.{find}
-use Rattle.std.specs.Option.{option_copied}
-use Rattle.member_decks.specs.Decks.{closes}
+use Rattle.member_decks.proofs.Names.{◌≡◌, ◌∙◌, reverse, ap, sym, find, option_copied, closes}
 use Rattle.member_decks.proofs.KeepLemmas.{closing_named}
 use Rattle.member_decks.proofs.keeping.last_lines.Goals as goal
 

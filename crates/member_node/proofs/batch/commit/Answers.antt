@@ -2,7 +2,7 @@ use Rattle.std.proofs.Common.{◌∙◌, ap}
 use Rattle.mas_types.specs.declared.journals.Journal.{Journal}
 use Rattle.mas_types.specs.declared.journals.Fate.TheVariants.{Kept}
 use Rattle.mas_complex.specs.Journals.{begun, entries_reserved, fated, with_last}
-use Rattle.mas_complex.proofs.Shows.{on_ok}
+use Rattle.duplex_pair.proofs.Mends.{held_then}
 use Rattle.duplex_pair.specs.Outcomes.{pair_stopped}
 use Rattle.duplex_pair.proofs.Composing.{acted_then}
 use Rattle.member_node.proofs.CourseLemmas.{apart_then}
@@ -11,7 +11,7 @@ use Rattle.member_node.proofs.batch.commit.Goals as goal
 pub returns-clause-kept : goal.returns-clause-kept
 returns-clause-kept g c =
     let b = begun (g.P.Plant.view c.args.complex.now.plant).now c.args.by (entries_reserved c.args.complex.now.reserved) in
-    on_ok c.open_both.result c.open_both.ensures.kept (λ kept. kept b c.in_ok-log_both.ensures.flying
+    held_then c.open_both.result c.open_both.ensures.kept (λ kept. kept b c.in_ok-log_both.ensures.flying
     ∙ ap (λ (j : Journal). with_last (fated Kept (g.P.Plant.view c.open_both.new.complex.plant).now b) j.batches) c.in_ok-log_both.ensures.journal)
 
 pub returns-clause-apart : goal.returns-clause-apart

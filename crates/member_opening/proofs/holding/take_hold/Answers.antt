@@ -3,7 +3,9 @@ use Rattle.std.proofs.lemmas.Result.{err_from_is_err_and}
 use Rattle.mas_types.specs.declared.ids.Dev.TheVariants.{Ckpt1, Ckpt2}
 use Rattle.mas_types.specs.declared.ids.Page.{Page}
 use Rattle.spool_plant.specs.View.{disk_now}
+use Rattle.mas_complex.specs.CallCounts.{pair_state}
 use Rattle.mas_complex.specs.Journals.{kept_all}
+use Rattle.mas_complex.specs.Parts.{parts_of}
 use Rattle.mas_complex.specs.Past.{HasNoted, values_of}
 use Rattle.member_steps.proofs.NoteLemmas.{keeps_error, keeps_noted, notes_same, notes_set}
 use Rattle.member_steps.proofs.PageLemmas.{few_pages}
@@ -41,7 +43,7 @@ returns-in_err-read_in-clause-acts g c =
     let y = c.read_in.new.complex in
     let read = c.in_err-read_in.ensures.read in
     let p = err_from_is_err_and c.from_residual.result c.from_residual.ensures.1 in
-    rw (p.1, p.2) (held_not P.tells c.args.member.now.id.0 x.pair.first.alive y.pair.first.alive x.pair.second.alive y.pair.second.alive (P.view x.plant) (P.view y.plant) _
+    rw (p.1, p.2) (held_not P.tells c.args.member.now.id.0 (pair_state P.view (parts_of x)) (pair_state P.view (parts_of y)) _
     (begun_read P.tells c.args.member.now.id.0 _ x.pair.first.alive y.pair.first.alive x.pair.second.alive y.pair.second.alive (P.view x.plant) (P.view y.plant) read.acts read.spares) read.cause)
 
 -- AND ROOM
@@ -67,7 +69,7 @@ returns-clause-acts g c =
     let by = c.args.member.now.id in
     let read = c.in_ok-read_in.ensures.read in
     let settle = rw c.read_in.ensures.id at c.primary.ensures.settle in
-    held_by_settle P.tells by.0 x.pair.first.alive z.pair.first.alive x.pair.second.alive z.pair.second.alive (P.view x.plant) (P.view y.plant) (P.view z.plant) c.primary.result y.pair.first.alive y.pair.second.alive
+    held_by_settle P.tells by.0 (pair_state P.view (parts_of x)) (pair_state P.view (parts_of y)) (pair_state P.view (parts_of z)) c.primary.result
     (begun_settle P.tells by.0 x.pair.first.alive y.pair.first.alive z.pair.first.alive x.pair.second.alive y.pair.second.alive z.pair.second.alive (P.view x.plant) (P.view y.plant) (P.view z.plant) c.primary.result read.acts read.spares settle)
     (begun_read P.tells by.0 false x.pair.first.alive y.pair.first.alive x.pair.second.alive y.pair.second.alive (P.view x.plant) (P.view y.plant) read.acts read.spares) settle
 

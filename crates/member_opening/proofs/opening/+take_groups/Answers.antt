@@ -17,7 +17,7 @@ use Rattle.member_opening.proofs.opening.+take_groups.Goals as goal
 pub returns-then-missing-eq0-clause-taking : goal.returns-then-missing-eq0-clause-taking
 returns-then-missing-eq0-clause-taking t c Q times le told =
     let m = c.args.member.now in
-    taking_none Q m.id c.args.step times c.args.missing (omega arith) m.checkpoint.tables m.batch _ told
+    taking_none Q m.id c.args.step times c.args.missing (omega arith) m _ told
 
 pub returns-then-missing-eq0-clause-all : goal.returns-then-missing-eq0-clause-all
 returns-then-missing-eq0-clause-all t c Q times le told = all_none Q c.args.member.now.id c.args.step times c.args.missing (omega arith)
@@ -27,7 +27,7 @@ returns-in_err-do_command-clause-taking t c Q times le told =
     let m = c.args.member.now in
     let n = c.do_command.new.self in
     let p = err_from_is_err_and c.from_residual.result c.from_residual.ensures.1 in
-    rw (p.1, p.2) (taking_wanted Q m.id c.args.step times c.args.missing m.checkpoint.tables n.checkpoint.tables m.batch n.batch _ (omega arith) le told (ap (λ k. k.checkpoint.tables) c.in_err-do_command.ensures.err) (ap (λ k. k.batch) c.in_err-do_command.ensures.err))
+    rw (p.1, p.2) (taking_wanted Q m.id c.args.step times c.args.missing m n _ (omega arith) le told c.in_err-do_command.ensures.err)
 
 pub overflow_sub-missing : goal.overflow_sub-missing
 overflow_sub-missing t c =
@@ -70,7 +70,7 @@ returns-in-Count-clause-taking t c Q times le told =
     let d = c.in_ok-do_command.ensures in
     let e = entry_of Q m.id c.args.step (command.Take c.args.missing) in
     let got : e.reply ≡ reply.Count c.in-Count.taken = reply_done m.batch n.batch e c.last_reply.result.now (d.entry Q told) c.last_reply.ensures ∙ c.in-Count.is in
-    taking_more Q m.id c.args.step c.args.missing (omega arith) c.in-Count.taken got c.law_of_texts.ensures.texts c.law_of_texts.ensures.told n.id times m.checkpoint.tables n.checkpoint.tables l.checkpoint.tables m.batch n.batch l.batch c.take_groups.result d.id le (d.entry Q told) told
+    taking_more Q m.id c.args.step c.args.missing (omega arith) c.in-Count.taken got c.law_of_texts.ensures.texts c.law_of_texts.ensures.told times m n l c.take_groups.result d.id le (d.entry Q told) told
     (λ s. d.sound s (ap (λ (k : Config). is_member k m.id) s.told.config ∙ c.requires.member)) (λ ts fewer. c.take_groups.ensures.taking _ ts fewer (d.effect Q told))
 
 pub returns-in-Count-clause-all : goal.returns-in-Count-clause-all
@@ -129,7 +129,7 @@ returns-in_default t c =
       level = d.level;
       levels = d.levels;
       pages = d.pages;
-      taking = λ Q times le told. taking_last Q m.id c.args.step c.args.missing (omega arith) (not_count Q told) c.law_of_texts.ensures.texts c.law_of_texts.ensures.told times m.checkpoint.tables n.checkpoint.tables m.batch n.batch _ le (d.entry Q told) told (d.effect Q told);
+      taking = λ Q times le told. taking_last Q m.id c.args.step c.args.missing (omega arith) (not_count Q told) c.law_of_texts.ensures.texts c.law_of_texts.ensures.told times m n _ le (d.entry Q told) told (d.effect Q told);
       all = λ Q times le told. all_last Q m.id c.args.step c.args.missing (omega arith) (not_count Q told) times le;
       named = λ all. named_push m.batch n.batch (entry_of s.0 m.id c.args.step (command.Take c.args.missing)) (d.entry s.0 s.1) (d.named s.0 s.1) all;
       done = d.done;

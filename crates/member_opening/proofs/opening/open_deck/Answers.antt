@@ -83,7 +83,7 @@ returns-in_err-take_groups-clause-opening c Q told =
     let one = only_entry m.batch n.batch e (d.entry Q told) c.requires.nothing in
     let sound : TellSound m.checkpoint.tables → TellSound n.checkpoint.tables = λ s. d.sound s (ap (λ (k : Config). is_member k m.id) s.told.config ∙ c.requires.member) in
     let p = err_from_is_err_and c.from_residual-in_err-take_groups.result c.from_residual-in_err-take_groups.ensures.1 in
-    rw (p.1, p.2) (opening_cut others own m.id c.args.step c.args.fields c.args.groups Q m.checkpoint.tables told c.in-Job.job got n.id d.id n.checkpoint.tables l.checkpoint.tables n.batch l.batch one sound _ (c.in_err-take_groups.ensures.taking Q1 c.args.groups (omega arith) (d.effect Q told)))
+    rw (p.1, p.2) (opening_cut others own m.id c.args.step c.args.fields c.args.groups Q m.checkpoint.tables told c.in-Job.job got n l d.id one sound _ (c.in_err-take_groups.ensures.taking Q1 c.args.groups (omega arith) (d.effect Q told)))
 
 pub returns-in_err-take_groups-clause-named : goal.returns-in_err-take_groups-clause-named
 returns-in_err-take_groups-clause-named c =
@@ -120,7 +120,7 @@ returns-then-branch-clause-opening c Q told =
     let sound : TellSound m.checkpoint.tables → TellSound n.checkpoint.tables = λ s. d.sound s (ap (λ (k : Config). is_member k m.id) s.told.config ∙ c.requires.member) in
     let k = c.in_ok-take_groups.ensures in
     let all = not_is (are_refused c.args.groups Q1 n.id c.args.groups) (sym (k.all Q1 c.args.groups (omega arith) (d.effect Q told)) ∙ c.if-branch.true) in
-    opening_got others own m.id c.args.step c.args.fields c.args.groups Q m.checkpoint.tables told c.in-Job.job got n.id d.id n.checkpoint.tables l.checkpoint.tables n.batch l.batch one sound _ _ all (k.taking Q1 c.args.groups (omega arith) (d.effect Q told))
+    opening_got others own m.id c.args.step c.args.fields c.args.groups Q m.checkpoint.tables told c.in-Job.job got n l d.id one sound _ _ all (k.taking Q1 c.args.groups (omega arith) (d.effect Q told))
 
 pub returns-then-branch-clause-opened : goal.returns-then-branch-clause-opened
 returns-then-branch-clause-opened c Q told =
@@ -172,7 +172,7 @@ returns-in_err-do_command-2-clause-opening c Q told =
     let refused = is_not (are_refused c.args.groups Q1 n.id c.args.groups) (sym (k.all Q1 c.args.groups (omega arith) (d.effect Q told)) ∙ c.if-branch.false) in
     let same = c.in_err-do_command-2.ensures.err in
     let p = err_from_is_err_and c.from_residual-in_err-do_command-2.result c.from_residual-in_err-do_command-2.ensures.1 in
-    rw (p.1, p.2) (opening_undropped others own m.id c.args.step c.args.fields c.args.groups Q m.checkpoint.tables told c.in-Job.job got n.id d.id n.checkpoint.tables l.checkpoint.tables n.batch l.batch one sound _ refused (k.taking Q1 c.args.groups (omega arith) (d.effect Q told)) w.checkpoint.tables w.batch _ (ap (λ k. k.checkpoint.tables) same) (ap (λ k. k.batch) same))
+    rw (p.1, p.2) (opening_undropped others own m.id c.args.step c.args.fields c.args.groups Q m.checkpoint.tables told c.in-Job.job got n l d.id one sound _ refused (k.taking Q1 c.args.groups (omega arith) (d.effect Q told)) w.checkpoint.tables w.batch _ (ap (λ k. k.checkpoint.tables) same) (ap (λ k. k.batch) same))
 
 pub returns-in_err-do_command-2-clause-named : goal.returns-in_err-do_command-2-clause-named
 returns-in_err-do_command-2-clause-named c =
@@ -212,8 +212,8 @@ returns-clause-opening c Q told =
     let refused = is_not (are_refused c.args.groups Q1 n.id c.args.groups) (sym (k.all Q1 c.args.groups (omega arith) (d.effect Q told)) ∙ c.if-branch.false) in
     let takes_so = k.taking Q1 c.args.groups (omega arith) (d.effect Q told) in
     let Q2 : Queue = run Q1 (given_in Q1 m.id c.args.step (takes c.args.groups Q1 m.id c.args.groups)) in
-    let told2 : Tell l.checkpoint.tables Q2 = tells_taken others own m.id c.args.step c.args.fields c.args.groups Q m.checkpoint.tables told c.in-Job.job got n.id d.id n.checkpoint.tables l.checkpoint.tables n.batch l.batch one sound _ refused takes_so in
-    opening_dropped others own m.id c.args.step c.args.fields c.args.groups Q m.checkpoint.tables told c.in-Job.job got n.id d.id n.checkpoint.tables l.checkpoint.tables n.batch l.batch one sound _ refused takes_so w.checkpoint.tables w.batch _ k.sound
+    let told2 : Tell l.checkpoint.tables Q2 = tells_taken others own m.id c.args.step c.args.fields c.args.groups Q m.checkpoint.tables told c.in-Job.job got n l d.id one sound _ refused takes_so in
+    opening_dropped others own m.id c.args.step c.args.fields c.args.groups Q m.checkpoint.tables told c.in-Job.job got n l d.id one sound _ refused takes_so w.checkpoint.tables w.batch _ k.sound
     (subst (λ (i : MemberId). w.batch ≡ l.batch ++ entry_of Q2 i c.args.step (command.Drop c.in-Job.job) ∷ []) (k.id ∙ d.id) (c.in_ok-do_command-2.ensures.entry Q2 told2))
     (subst (λ (i : MemberId). Tell w.checkpoint.tables (step Q2 i (command.Drop c.in-Job.job)).0) (k.id ∙ d.id) (c.in_ok-do_command-2.ensures.effect Q2 told2))
 

@@ -7,7 +7,7 @@ use Rattle.ckpt_copy.specs.Reading.{EachReads}
 use Rattle.duplex_pair.specs.Halves.{SameOrLost}
 use Rattle.duplex_pair.specs.Both.{Touched}
 use Rattle.duplex_pair.proofs.Composing.{both_then}
-use Rattle.mas_complex.proofs.Shows.{on_ok}
+use Rattle.duplex_pair.proofs.Mends.{held_then}
 use Rattle.warm_start.specs.Starting.{IsHeld}
 use Rattle.warm_start.proofs.Starts.{starts_acted, acted_unstopped, gone_on, both_weaker, own_of, own_lags, less_lost, less_held, held_since, held_touched, first_now, one_failed, second_now}
 use Rattle.warm_start.proofs.starting.bring.Goals as goal
@@ -99,7 +99,7 @@ returns-clause-rests1 g c =
     let p = c.lose_unfit.new.pair in
     let mid = view c.lose_unfit.new.plant in
     let F = c.args.start.now.found.pages in
-    on_ok c.mend.result c.mend.ensures.mended1 (λ mended told is.
+    held_then c.mend.result c.mend.ensures.mended1 (λ mended told is.
     let one = own_of C.count C.room C.room_most C.ready C.rests g.P.Plant.tells Ckpt1 mid p.first.copy p.first.alive p.first.found F told p.first.alive c.lose_unfit.ensures.fits1 in
     let two = own_of C.count C.room C.room_most C.ready C.rests g.P.Plant.tells Ckpt2 mid p.second.copy p.second.alive p.second.found F told p.second.alive c.lose_unfit.ensures.fits2 in
     rw c.as_slice.ensures at (mended told is one two
@@ -113,7 +113,7 @@ returns-clause-rests2 g c =
     let p = c.lose_unfit.new.pair in
     let mid = view c.lose_unfit.new.plant in
     let F = c.args.start.now.found.pages in
-    on_ok c.mend.result c.mend.ensures.mended2 (λ mended told is.
+    held_then c.mend.result c.mend.ensures.mended2 (λ mended told is.
     let one = own_of C.count C.room C.room_most C.ready C.rests g.P.Plant.tells Ckpt1 mid p.first.copy p.first.alive p.first.found F told p.first.alive c.lose_unfit.ensures.fits1 in
     let two = own_of C.count C.room C.room_most C.ready C.rests g.P.Plant.tells Ckpt2 mid p.second.copy p.second.alive p.second.found F told p.second.alive c.lose_unfit.ensures.fits2 in
     rw c.as_slice.ensures at (mended told is one two

@@ -1,16 +1,9 @@
-use Rattle.std.proofs.Common.{subst, ℕ, List, sym}
-use Rattle.std.proofs.Math.Logic.{∥∥₁_map}
-use Rattle.mas_complex.specs.Crash.{Setting, setting_with, copy_of}
-use Rattle.std.proofs.Common.{◌≤◌}
+use Rattle.mas_complex.proofs.Names.{subst, ℕ, List, sym, ◌≤◌, Bool, true, ∥∥₁_map, Setting, setting_with, copy_of, in_flight, AreSettled, AreFew, Batch}
 use Rattle.mas_complex.proofs.Fating.{is_place}
 use Rattle.mas_complex.proofs.Batches.{placed_all, placed_settled}
 use Rattle.mas_complex.proofs.Moves.{place_keeps}
-use Rattle.mas_complex.specs.Journals.{in_flight, AreSettled}
 use Rattle.mas_complex.proofs.Replied.{placed_replied}
 use Rattle.mas_complex.proofs.Papers.{place_on_paper}
-use Rattle.mas_types.specs.declared.journals.Batch.{Batch}
-use Rattle.std.proofs.Common.{Bool, true}
-use Rattle.mas_complex.specs.Journals.{AreFew}
 use Rattle.mas_complex.proofs.Short.{few_placed}
 use Rattle.mas_complex.proofs.complex.Complex.add_place.Goals as goal
 

@@ -1,24 +1,8 @@
-use Rattle.std.proofs.Common.{refl, subst, sym, ◌≡◌, ◌∙◌, ap, List, Option, ◌-◌, ◌^◌, All, arith}
-use Rattle.std.proofs.Math.Logic.{∥∥₁_map, ∥∥₁_elim, ∥∥₁_prop, ∥∥₁_map₂}
-use Rattle.mas_complex.specs.Texts.{spools_at, lost_now, HasTexts}
-use Rattle.mas_types.specs.declared.journals.Batch.{Batch}
-use Rattle.mas_types.specs.declared.journals.Entry.{Entry}
-use Rattle.mas_types.specs.declared.journals.Fate.TheVariants.{Flying}
-use Rattle.mas_complex.specs.Journals.{entries_reserved, AreSettled, IsBegun}
-use Rattle.mas_complex.specs.Crash.{Keeps, Setting, setting_with, copy_of}
-use Rattle.mas_complex.specs.Crash.{IsUntold}
+use Rattle.mas_complex.proofs.Names.{refl, subst, sym, ◌≡◌, ◌∙◌, ap, List, Option, ◌-◌, ◌^◌, All, arith, ◌++◌, length, ◌≤◌, ∥∥₁_map, ∥∥₁_elim, ∥∥₁_prop, ∥∥₁_map₂, spools_at, lost_now, HasTexts, Batch, Entry, Flying, entries_reserved, AreSettled, IsBegun, in_flight, kept_all, entries_most, Keeps, Setting, setting_with, copy_of, IsUntold, run, HaveReplies, AreReplied, AreAllowed, KeepsPaper, counts_of}
 use Rattle.mas_complex.proofs.Moves.{begins_keep}
-use Rattle.std.proofs.Common.{◌++◌}
-use Rattle.mas_complex.specs.Journals.{in_flight, kept_all}
-use Rattle.mas_complex.specs.Meaning.{run}
-use Rattle.mas_complex.specs.Replies.{HaveReplies, AreReplied}
 use Rattle.mas_complex.proofs.Replied.{begun_replied}
-use Rattle.paper_laws.specs.Counts.{AreAllowed}
-use Rattle.mas_complex.specs.Paper.{KeepsPaper, counts_of}
 use Rattle.mas_complex.proofs.Papers.{begins_on_paper, counts_fall}
 use Rattle.mas_complex.proofs.Standing.{owned_own}
-use Rattle.std.proofs.Common.{length, ◌≤◌}
-use Rattle.mas_complex.specs.Journals.{entries_most}
 use Rattle.mas_complex.proofs.complex.Complex.begin.Goals as goal
 
 pub invariant_of-self-clause-kept : goal.invariant_of-self-clause-kept

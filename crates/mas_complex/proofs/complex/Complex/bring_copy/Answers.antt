@@ -1,15 +1,7 @@
+use Rattle.mas_complex.proofs.Names.{other, bytes_of, Ckpt1, Ckpt2, values_of, page_count, ∥∥₁_map, ◌∙◌, ap, parts_of}
+use Rattle.mas_complex.proofs.Basics.{before_opened}
 use Rattle.mas_complex.proofs.Pasts.{lasts_beside, opened_unsure, reads_later, seen}
-use Rattle.duplex_pair.specs.Halves.{other}
-use Rattle.ckpt_copy.specs.Pages.{bytes_of}
-use Rattle.mas_types.specs.declared.ids.Dev.TheVariants.{Ckpt1, Ckpt2}
-use Rattle.mas_complex.specs.Past.{values_of}
-use Rattle.ckpt_tables.specs.Shape.{page_count}
-use Rattle.std.proofs.Math.Logic.{∥∥₁_map}
-use Rattle.std.proofs.Common.{◌≡◌, ◌∙◌, ap}
-use Rattle.ckpt_places.specs.declared.places.Place.{Place}
-use Rattle.ckpt_places.specs.declared.places.Place.TheVariants.{Before, Opened}
 use Rattle.mas_complex.proofs.Apart.{bytes_else, on_one, on_then}
-use Rattle.mas_complex.specs.Parts.{parts_of}
 use Rattle.mas_complex.proofs.Frames.{frame_then}
 use Rattle.mas_complex.proofs.Numbered.{are_pages_of}
 use Rattle.mas_complex.proofs.Choosing.{some_beside}
@@ -51,9 +43,7 @@ put_on-requires-clause-changed g c alive = are_pages_of c.args.found.now _ _ c.r
 
 -- the other copy has them already
 pub put_on-requires-clause-orders : goal.put_on-requires-clause-orders
-put_on-requires-clause-orders g c told is before was reads = absurd (clash _ (before c.requires.beside) (c.requires.same told c.requires.beside).0) where
-  clash : (p : Place) → p ≡ Before → p ≡ Opened → ⊥
-  clash p a b = cc
+put_on-requires-clause-orders g c told is before was reads = absurd (before_opened _ (before c.requires.beside) (c.requires.same told c.requires.beside).0)
 
 -- THE OTHER COPY STAYS
 

@@ -1,14 +1,7 @@
-use Rattle.std.proofs.Common.{true, List, Option, None, ◌++◌, subst, sym}
-use Rattle.std.proofs.Math.Logic.{∥∥₁_map₂}
-use Rattle.mas_types.specs.declared.journals.Batch.{Batch}
-use Rattle.mas_complex.specs.Crash.{Setting, setting_with, copy_of}
-use Rattle.mas_complex.specs.Journals.{in_flight, AreSettled}
-use Rattle.mas_complex.specs.Replies.{AreReplied}
+use Rattle.mas_complex.proofs.Names.{true, List, Option, None, ◌++◌, subst, sym, false, ∥∥₁_map₂, Batch, Setting, setting_with, copy_of, in_flight, AreSettled, AreFew, AreReplied}
 use Rattle.mas_complex.proofs.BatchEnds.{few_at_end}
 use Rattle.mas_complex.proofs.Fating.{has_ends}
 use Rattle.mas_complex.proofs.Standing.{settled_without_last, unplaced_keeps, unplaced_on_paper, unplaced_replied}
-use Rattle.std.proofs.Common.{false}
-use Rattle.mas_complex.specs.Journals.{AreFew}
 use Rattle.mas_complex.proofs.Short.{few_unplaced}
 use Rattle.mas_complex.proofs.complex.Complex.drop_place.Goals as goal
 

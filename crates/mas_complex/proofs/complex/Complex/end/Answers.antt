@@ -1,11 +1,6 @@
-use Rattle.std.proofs.Common.{subst, sym, List}
-use Rattle.std.proofs.Math.Logic.{∥∥₁_map, ∥∥₁_elim, ∥∥₁_prop}
-use Rattle.mas_types.specs.declared.journals.Batch.{Batch}
-use Rattle.mas_complex.specs.Crash.{copy_of}
-use Rattle.mas_complex.specs.Headline.{Headline}
+use Rattle.mas_complex.proofs.Names.{subst, sym, List, ∥∥₁_map, ∥∥₁_elim, ∥∥₁_prop, Batch, copy_of, Headline, AreReplied}
 use Rattle.mas_complex.proofs.BatchEnds.{few_at_end}
 use Rattle.mas_complex.proofs.Ending.{ended_headline}
-use Rattle.mas_complex.specs.Replies.{AreReplied}
 use Rattle.mas_complex.proofs.Replied.{ended_replied}
 use Rattle.mas_complex.proofs.PaperEnds.{ended_paper}
 use Rattle.mas_complex.proofs.complex.Complex.end.Goals as goal
@@ -19,7 +14,7 @@ returns-clause-headline g c told =
     let v = g.P.Plant.view s.plant in
     ∥∥₁_elim (s.kept told) ∥∥₁_prop (λ k. ∥∥₁_map s.place (λ has.
     subst (λ (l : List Batch). Headline C.reads s.base s.since (record { batches = l }) s.renewals v) (sym c.finished-journal.ensures)
-    (ended_headline C.reads s.base s.since s.renewals s.level first second v c.moment_of-last.ensures.most s.first_lost s.second_lost
+    (ended_headline C.reads s.base s.since s.renewals s.level first second v c.moment_of-last.ensures.most s.lost.0 s.lost.1
     (λ pages d r. g.met.C.Copying.rests_reads s.pair.first.copy pages d r) (λ was next d r. g.met.C.Copying.holds_reads s.pair.first.copy was next d r) (λ pages d r. g.met.C.Copying.rests_reads s.pair.second.copy pages d r) (λ was next d r. g.met.C.Copying.holds_reads s.pair.second.copy was next d r)
     s.placed s.current s.journal.batches s.place_current has k (few_at_end s.placed s.current s.journal.batches s.few)
     (λ sound. ∥∥₁_map (s.paper told sound) (λ on. ended_paper s.base s.since s.placed s.journal.batches s.current s.printed s.book v s.place_current has sound on)))))

@@ -1,27 +1,10 @@
-use Rattle.std.proofs.Common.{refl, subst, sym, ◌≡◌, ◌∙◌, ap, List, Option, ◌++◌, All, arith}
-use Rattle.std.proofs.Math.Logic.{∥∥₁_map, ∥∥₁_elim, ∥∥₁_prop, ∥∥₁_map₂}
-use Rattle.mas_types.specs.declared.journals.Batch.{Batch}
-use Rattle.mas_types.specs.declared.journals.Entry.{Entry}
-use Rattle.mas_types.specs.declared.journals.Fate.TheVariants.{Kept, Flying}
-use Rattle.mas_complex.specs.Journals.{kept_all, entries_reserved, AreSettled}
-use Rattle.mas_complex.specs.Crash.{Keeps, Setting, setting_with, copy_of}
-use Rattle.mas_complex.specs.Crash.{IsUntold}
-use Rattle.mas_complex.proofs.Fating.{has_ends, same_placed}
-use Rattle.mas_complex.specs.Journals.{in_flight, with_last}
-use Rattle.mas_complex.specs.Meaning.{run}
-use Rattle.mas_complex.specs.Texts.{spools_at, lost_now, HasTexts}
-use Rattle.mas_complex.specs.Replies.{HaveReplies}
+use Rattle.mas_complex.proofs.Names.{refl, subst, sym, ◌≡◌, ◌∙◌, ap, List, Option, ◌++◌, All, arith, false, length, ◌≤◌, ∥∥₁_map, ∥∥₁_elim, ∥∥₁_prop, ∥∥₁_map₂, Batch, Entry, Kept, Flying, kept_all, entries_reserved, AreSettled, in_flight, with_last, entries_most, AreFew, Keeps, Setting, setting_with, copy_of, IsUntold, run, spools_at, lost_now, HasTexts, HaveReplies, AreToldAlike, AreAllowed, KeepsPaper, counts_of}
+use Rattle.mas_complex.proofs.Fating.{has_ends, same_placed, stand_alike}
 use Rattle.mas_complex.proofs.Replied.{and_none, with_replied}
-use Rattle.mas_complex.proofs.ToldAlike.{stand_alike}
-use Rattle.queue_telling.specs.Telling.{AreToldAlike}
-use Rattle.paper_laws.specs.Counts.{AreAllowed}
-use Rattle.mas_complex.specs.Paper.{KeepsPaper, counts_of}
 use Rattle.mas_complex.proofs.Papers.{counts_fall}
 use Rattle.mas_complex.proofs.PaperEnds.{same_on_paper}
 use Rattle.mas_complex.proofs.BatchEnds.{few_with_last}
 use Rattle.mas_complex.proofs.Standing.{settled_with_last}
-use Rattle.std.proofs.Common.{false, length, ◌≤◌}
-use Rattle.mas_complex.specs.Journals.{entries_most, AreFew}
 use Rattle.mas_complex.proofs.Short.{few_last}
 use Rattle.mas_complex.proofs.complex.Complex.keep_same.Goals as goal
 

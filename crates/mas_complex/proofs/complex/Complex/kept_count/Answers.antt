@@ -1,7 +1,4 @@
-use Rattle.std.proofs.Common.{◌≡◌, ◌∙◌, min, List, length, subst}
-use Rattle.mas_types.specs.declared.journals.Batch.{Batch}
-use Rattle.spool_plant.specs.Acts.{top}
-use Rattle.mas_complex.specs.Journals.{kept_all}
+use Rattle.mas_complex.proofs.Names.{◌≡◌, ◌∙◌, min, List, length, subst, Batch, top, kept_all}
 use Rattle.mas_complex.proofs.Short.{few_counted}
 use Rattle.mas_complex.proofs.complex.Complex.kept_count.Goals as goal
 

@@ -1,5 +1,4 @@
-use Rattle.std.proofs.Math.Logic.{∥∥₁_map}
-use Rattle.mas_complex.specs.Journals.{in_flight}
+use Rattle.mas_complex.proofs.Names.{∥∥₁_map, in_flight}
 use Rattle.mas_complex.proofs.Papers.{given_front}
 use Rattle.mas_complex.proofs.complex.Complex.kept_given.Goals as goal
 

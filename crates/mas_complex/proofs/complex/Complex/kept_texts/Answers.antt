@@ -1,5 +1,4 @@
-use Rattle.std.proofs.Math.Logic.{∥∥₁_map}
-use Rattle.mas_complex.specs.Crash.{Setting, setting_with}
+use Rattle.mas_complex.proofs.Names.{∥∥₁_map, Setting, setting_with}
 use Rattle.mas_complex.proofs.Texting.{stand_now, stand_coming}
 use Rattle.mas_complex.proofs.complex.Complex.kept_texts.Goals as goal
 

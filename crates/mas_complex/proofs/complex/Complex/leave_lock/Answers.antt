@@ -1,18 +1,10 @@
-use Rattle.std.proofs.Common.{◌≡◌, true, false, subst, sym}
-use Rattle.std.proofs.Math.Logic.{∥∥₁_map}
-use Rattle.lock_cycle.specs.Books.{Book, is_stopped}
-use Rattle.mas_complex.proofs.Papers.{book_on_paper}
-use Rattle.mas_complex.proofs.PaperBooks.{freed_up}
-use Rattle.mas_complex.proofs.Standing.{IsOwned, owned_freed}
+use Rattle.mas_complex.proofs.Names.{None, true, inl, refl}
+use Rattle.mas_complex.proofs.Standing.{frees}
+use Rattle.mas_complex.proofs.Values.{booked}
 use Rattle.mas_complex.proofs.complex.Complex.leave_lock.Goals as goal
 
-pub invariant_of-self-clause-paper : goal.invariant_of-self-clause-paper
-invariant_of-self-clause-paper g c told sound =
+pub invariant_of-self : goal.invariant_of-self
+invariant_of-self g c =
     let s = c.args.self.now in
-    ∥∥₁_map (s.paper told sound) (λ on. book_on_paper s.base s.since s.journal.batches s.current s.printed s.book c.free-freed.new.self (g.P.Plant.view s.plant)
-    (λ m up. freed_up s.book c.args.by true c.requires.member m (subst (λ (b : Book). is_stopped b m ≡ false) (c.free-freed.ensures.book) up)) on)
-
-pub invariant_of-self-clause-owned : goal.invariant_of-self-clause-owned
-invariant_of-self-clause-owned g c =
-    let s = c.args.self.now in
-    subst (IsOwned s.current) (sym c.free-freed.ensures.book) (owned_freed s.book c.args.by s.current c.requires.member s.owned true (λ holds. c.requires.none))
+    let is = c.free-freed.new.self in
+    booked s is None (frees s.book c.args.by s.current c.requires.member s.owned is true (λ holds. c.requires.none) c.free-freed.ensures.book) (inl refl)

@@ -1,15 +1,7 @@
+use Rattle.mas_complex.proofs.Names.{Parts, values_of, AreLater, Setting, setting_with, page_count, pick, bytes_of, disk_now, ∥∥₁_map₂, ◌≡◌, ◌∙◌, true, ap, sym, subst}
 use Rattle.mas_complex.proofs.Pasts.{alive_picked, all_next, before_later, lasts_at, seen}
 use Rattle.mas_complex.proofs.OnDevice.{at_copy}
 use Rattle.mas_complex.proofs.Sides.{rests_before}
-use Rattle.mas_complex.specs.Parts.{Parts}
-use Rattle.mas_complex.specs.Past.{values_of, AreLater}
-use Rattle.mas_complex.specs.Crash.{Setting, setting_with}
-use Rattle.ckpt_tables.specs.Shape.{page_count}
-use Rattle.duplex_pair.specs.Halves.{pick}
-use Rattle.ckpt_copy.specs.Pages.{bytes_of}
-use Rattle.spool_plant.specs.View.{disk_now}
-use Rattle.std.proofs.Math.Logic.{∥∥₁_map₂}
-use Rattle.std.proofs.Common.{◌≡◌, ◌∙◌, true, ap, sym, subst}
 use Rattle.mas_complex.proofs.complex.Complex.log.Goals as goal
 
 pub put_on-requires-clause-later : goal.put_on-requires-clause-later

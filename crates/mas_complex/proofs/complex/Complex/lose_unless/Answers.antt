@@ -1,7 +1,6 @@
-use Rattle.mas_complex.specs.Past.{values_of}
+use Rattle.mas_complex.proofs.Names.{refl, pair_state, parts_of}
 use Rattle.mas_complex.proofs.Apart.{on_one, on_none}
 use Rattle.mas_complex.proofs.Counted.{counts_none, counts_lost}
-use Rattle.std.proofs.Common.{refl}
 use Rattle.mas_complex.proofs.Frames.{frame_half}
 use Rattle.mas_complex.proofs.complex.Complex.lose_unless.Goals as goal
 
@@ -10,7 +9,7 @@ returns-then-not-stays-clause-counts g c by =
     let P = g.P.Plant in
     let s = c.args.self.now in
     let n = c.lose.new.self in
-    counts_lost (λ h. h.alive) s.pair.first s.pair.second n.pair.first n.pair.second by (P.view s.plant) (P.view n.plant) c.args.dev c.requires.ckpt c.requires.alive (c.lose.ensures.dead c.requires.ckpt) c.lose.ensures.other c.lose.ensures.loses
+    counts_lost by s.pair n.pair (P.view s.plant) (P.view n.plant) c.args.dev c.requires.ckpt c.requires.alive (c.lose.ensures.dead c.requires.ckpt) c.lose.ensures.other c.lose.ensures.loses
 
 pub returns-then-not-stays-clause-apart : goal.returns-then-not-stays-clause-apart
 returns-then-not-stays-clause-apart g c told =
@@ -20,7 +19,7 @@ returns-then-not-stays-clause-apart g c told =
 pub returns-else-not-stays-clause-counts : goal.returns-else-not-stays-clause-counts
 returns-else-not-stays-clause-counts g c by =
     let s = c.args.self.now in
-    counts_none by s.pair.first.alive s.pair.second.alive (g.P.Plant.view s.plant)
+    counts_none by (pair_state g.P.Plant.view (parts_of s))
 
 pub returns-else-not-stays-clause-apart : goal.returns-else-not-stays-clause-apart
 returns-else-not-stays-clause-apart g c told = on_none (g.P.Plant.view c.args.self.now.plant)
@@ -28,5 +27,4 @@ returns-else-not-stays-clause-apart g c told = on_none (g.P.Plant.view c.args.se
 pub returns-else-not-stays-clause-frame : goal.returns-else-not-stays-clause-frame
 returns-else-not-stays-clause-frame g c =
     let s = c.args.self.now in
-    frame_half (λ h. h.copy) (λ h. h.alive) (λ h. h.found) s.book s.base s.since s.journal.batches s.current s.reserved s.printed s.placed s.level s.renewals (values_of s.had) s.plant s.plant s.pair.first s.pair.second s.pair.first s.pair.second s.first s.second
-    c.args.dev c.requires.ckpt refl
+    frame_half s s.plant s.pair c.args.dev c.requires.ckpt refl

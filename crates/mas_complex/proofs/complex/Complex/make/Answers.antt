@@ -1,17 +1,9 @@
+use Rattle.mas_complex.proofs.Names.{None, List, refl, subst, sym, ∥∥₁_map, Before, Setting, setting, copy_of, Disk as DiskPart, disk_now, Ckpt1, Ckpt2, Spool, AreSettled, Batch}
 use Rattle.mas_complex.proofs.Pasts.{nobody_past}
-use Rattle.std.proofs.Common.{None, List, refl, subst, sym}
-use Rattle.std.proofs.Math.Logic.{∥∥₁_map}
-use Rattle.ckpt_places.specs.declared.places.Place.TheVariants.{Before}
-use Rattle.mas_complex.specs.Crash.{Setting, setting, copy_of}
-use Rattle.spool_plant.specs.declared.plant.Part.TheVariants.{Disk as DiskPart}
-use Rattle.spool_plant.specs.View.{disk_now}
-use Rattle.mas_complex.proofs.Making.{make_keeps, unlost}
-use Rattle.mas_complex.proofs.First.{first_reads, leaves_base}
-use Rattle.mas_types.specs.declared.ids.Dev.TheVariants.{Ckpt1, Ckpt2, Spool}
+use Rattle.mas_complex.proofs.Basics.{stays_true}
+use Rattle.mas_complex.proofs.Making.{first_reads, leaves_base, make_keeps}
 use Rattle.mas_complex.proofs.PaperEnds.{makes_paper}
 use Rattle.mas_complex.proofs.Standing.{owned_none}
-use Rattle.mas_complex.specs.Journals.{AreSettled}
-use Rattle.mas_types.specs.declared.journals.Batch.{Batch}
 use Rattle.mas_complex.proofs.complex.Complex.make.Goals as goal
 
 pub invariant_of-result-clause-kept : goal.invariant_of-result-clause-kept
@@ -24,7 +16,7 @@ invariant_of-result-clause-kept g c told =
     let v = g.P.Plant.view s.plant in
     ∥∥₁_map (c.requires.begins told) (λ begins.
     rw (c.new-2.ensures, c.no_renewals.ensures) (make_keeps S s.level first second v (λ pages d r. g.met.C.Copying.rests_reads s.pair.first.copy pages d r) (λ was next d r. g.met.C.Copying.holds_reads s.pair.first.copy was next d r) (λ pages d r. g.met.C.Copying.rests_reads s.pair.second.copy pages d r) (λ was next d r. g.met.C.Copying.holds_reads s.pair.second.copy was next d r) refl refl c.moment_of-since.ensures.now
-    (λ n lost. unlost (v.lost (DiskPart (Spool n))) (disk_now v (Spool n)).lost (g.met.P.Plant.there s.plant told (Spool n)) lost) (rw (c.moment_of-since.ensures.now) begins)))
+    (λ n lost. stays_true (v.lost (DiskPart (Spool n))) (disk_now v (Spool n)).lost (g.met.P.Plant.there s.plant told (Spool n)) lost) (rw (c.moment_of-since.ensures.now) begins)))
 
 pub returns-clause-fresh : goal.returns-clause-fresh
 returns-clause-fresh g c told =
@@ -52,11 +44,8 @@ invariant_of-result-clause-settled g c = subst (λ (l : List Batch). AreSettled 
 pub invariant_of-result-clause-owned : goal.invariant_of-result-clause-owned
 invariant_of-result-clause-owned g c = owned_none c.new_book_of-book.result
 
-pub invariant_of-result-clause-first_lost : goal.invariant_of-result-clause-first_lost
-invariant_of-result-clause-first_lost g c dead known = c.requires.lost1 dead
-
-pub invariant_of-result-clause-second_lost : goal.invariant_of-result-clause-second_lost
-invariant_of-result-clause-second_lost g c dead known = c.requires.lost2 dead
+pub invariant_of-result-clause-lost : goal.invariant_of-result-clause-lost
+invariant_of-result-clause-lost g c = ((λ dead known. c.requires.lost1 dead), (λ dead known. c.requires.lost2 dead))
 
 pub invariant_of-result-clause-lasting : goal.invariant_of-result-clause-lasting
 invariant_of-result-clause-lasting g c told = ∣ nobody_past _ _ _ _ c.none_noted-had.ensures ∣₁

@@ -1,10 +1,5 @@
+use Rattle.mas_complex.proofs.Names.{values_of, page_count, Page, Ckpt1, Ckpt2, ∥∥₁_map, List, sym, subst}
 use Rattle.mas_complex.proofs.Pasts.{Lasts, past_noted, seen}
-use Rattle.mas_complex.specs.Past.{values_of}
-use Rattle.ckpt_tables.specs.Shape.{page_count}
-use Rattle.mas_types.specs.declared.ids.Page.{Page}
-use Rattle.mas_types.specs.declared.ids.Dev.TheVariants.{Ckpt1, Ckpt2}
-use Rattle.std.proofs.Math.Logic.{∥∥₁_map}
-use Rattle.std.proofs.Common.{List, sym, subst}
 use Rattle.mas_complex.proofs.complex.Complex.note_pages.Goals as goal
 
 pub invariant_of-self-clause-lasting : goal.invariant_of-self-clause-lasting

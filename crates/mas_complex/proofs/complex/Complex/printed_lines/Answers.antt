@@ -1,4 +1,4 @@
-use Rattle.std.proofs.Math.Logic.{∥∥₁_map}
+use Rattle.mas_complex.proofs.Names.{∥∥₁_map}
 use Rattle.mas_complex.proofs.complex.Complex.printed_lines.Goals as goal
 
 pub returns-clause-paper : goal.returns-clause-paper

@@ -1,32 +1,89 @@
-use Rattle.std.proofs.Common.{◌≡◌, ◌≤◌, ◌+◌, ◌*◌, ◌||◌, ◌++◌, ◌∙◌, ⊎_elim, ℕ, List, length, Option, true, false, Some, None, IfSome, refl, sym, subst, ap, arith, rules}
-use Rattle.std.proofs.Math.Logic.{∥∥₁_map}
-use Rattle.mas_types.specs.declared.ids.Dev.{Dev}
-use Rattle.mas_types.specs.declared.ids.Dev.TheVariants.{Ckpt1, Ckpt2}
-use Rattle.spool_plant.specs.View.{disk_now}
-use Rattle.spool_plant.specs.Acts.{Rose}
-use Rattle.spool_plant.specs.declared.plant.Part.TheVariants.{Disk}
-use Rattle.mas_types.specs.declared.ids.Page.{Page}
-use Rattle.mas_types.specs.declared.queues.Queue.{Queue}
+use Rattle.mas_complex.proofs.Names.{◌≡◌, ◌≤◌, ◌+◌, ◌*◌, ◌||◌, ◌++◌, ◌∙◌, ⊎_elim, ℕ, List, length, Option, true, false, Some, None, IfSome, refl, sym, subst, ap, rules, ∥∥₁_map, Ckpt1, Ckpt2, disk_now, Goes, Rose, Disk, Page, Queue, page_count, Place, IsAtLevel, OneSeen, IsOneSeen, ReadsSeen, bytes_of, level, goes_on, Setting, Copy, setting_with, copy_of, next_order, order_first, orders_most, err_from_is_err_and, KeepsCounts, OnCopies, pair_state, parts_of, looked, sought}
 use Rattle.mas_types.specs.Fit.{IsConfig}
-use Rattle.ckpt_tables.specs.Shape.{page_count}
-use Rattle.ckpt_places.specs.declared.places.Place.{Place}
-use Rattle.mas_complex.specs.Journals.{kept_all, entries_in}
-use Rattle.mas_complex.specs.Meaning.{run}
-use Rattle.mas_complex.specs.Places.{IsAtLevel}
-use Rattle.mas_complex.specs.Seen.{OneSeen, IsOneSeen, ReadsSeen}
-use Rattle.mas_complex.specs.Recovers.{recover_stopped}
-use Rattle.mas_complex.proofs.Leaving.{left_why, room_seen, rose_later, rose_earlier, if_err, not_dead, left_some, none_seen}
-use Rattle.ckpt_copy.specs.Pages.{bytes_of, level}
-use Rattle.ckpt_copy.specs.Moments.{goes_on}
-use Rattle.mas_complex.specs.Crash.{Setting, Copy, setting_with, copy_of, next_order, order_first, orders_most}
+use Rattle.mas_complex.proofs.Basics.{no}
+use Rattle.mas_complex.proofs.Leaving.{fault_earlier, fault_later, left_why, room_seen, rose_later, rose_earlier, if_err, left_some, none_seen}
 use Rattle.mas_complex.proofs.Standing.{as_many_fated}
 use Rattle.mas_complex.proofs.Choosing.{some_first, some_second}
-use Rattle.mas_complex.proofs.Recovered.{stands_of}
-use Rattle.std.proofs.lemmas.Result.{err_from_is_err_and}
+use Rattle.mas_complex.proofs.Calm.{stands_of}
 use Rattle.mas_complex.proofs.Apart.{on_then}
 use Rattle.mas_complex.proofs.Usable.{found_many, seen_alive}
-use Rattle.mas_complex.proofs.Counted.{counts_then, counts_seen, counts_brought, look_halted, not_brought, was_halted}
+use Rattle.mas_complex.proofs.Counted.{both_then, counts_seen, counts_brought, look_halted, not_brought, was_halted}
+use Rattle.mas_complex.proofs.complex.Complex.recover.Given.{Over}
+use Rattle.mas_complex.proofs.complex.Complex.recover.Goals.{After-bring, After-choose_any}
 use Rattle.mas_complex.proofs.complex.Complex.recover.Goals as goal
+
+-- WHAT THE CALLS LEAVE, one after another
+
+-- both looks and the choice
+chose : (g : Over) (c : After-choose_any g)
+    → KeepsCounts c.args.by.0 false (pair_state g.P.Plant.view (parts_of c.args.self.now)) (pair_state g.P.Plant.view (parts_of c.choose_any.new.self))
+    × (g.P.Plant.tells → OnCopies (g.P.Plant.view c.args.self.now.plant) (g.P.Plant.view c.choose_any.new.self.plant))
+chose g c =
+    let looked = both_then c.in_ok-first.ensures.counts c.see_on.ensures.apart c.in_ok-second.ensures.counts c.see_on-2.ensures.apart in
+    both_then looked.0 looked.1 (c.choose_any.ensures.counts c.args.by.0) c.choose_any.ensures.apart
+
+-- what came after the first look, and after the second
+rest1 : (g : Over) (c : After-bring g) → Goes (g.P.Plant.view c.see_on.new.self.plant) (g.P.Plant.view c.bring.new.self.plant)
+rest1 g c = goes_on _ _ _ (goes_on _ _ _ c.see_on-2.ensures.goes c.choose_any.ensures.goes) c.bring.ensures.goes
+
+rest2 : (g : Over) (c : After-bring g) → Goes (g.P.Plant.view c.see_on-2.new.self.plant) (g.P.Plant.view c.bring.new.self.plant)
+rest2 g c = goes_on _ _ _ c.choose_any.ensures.goes c.bring.ensures.goes
+
+pub returns-in_default-clause-counts : goal.returns-in_default-clause-counts
+returns-in_default-clause-counts g c = (chose g (goal.at.returns-in_default-clause-counts g c).After-choose_any).0
+
+pub returns-in_default-clause-apart : goal.returns-in_default-clause-apart
+returns-in_default-clause-apart g c = (chose g (goal.at.returns-in_default-clause-apart g c).After-choose_any).1
+
+pub returns-then-not-may_follow-clause-counts : goal.returns-then-not-may_follow-clause-counts
+returns-then-not-may_follow-clause-counts g c = (chose g (goal.at.returns-then-not-may_follow-clause-counts g c).After-choose_any).0
+
+pub returns-then-not-may_follow-clause-apart : goal.returns-then-not-may_follow-clause-apart
+returns-then-not-may_follow-clause-apart g c = (chose g (goal.at.returns-then-not-may_follow-clause-apart g c).After-choose_any).1
+
+pub returns-in_err-bring-clause-goes : goal.returns-in_err-bring-clause-goes
+returns-in_err-bring-clause-goes g c = goes_on _ _ _ (chose g (goal.at.returns-in_err-bring-clause-goes g c).After-choose_any).0.goes c.bring.ensures.goes
+
+pub returns-clause-goes : goal.returns-clause-goes
+returns-clause-goes g c = rw (ap (λ p. p.plant) c.give_fate.ensures.frame) (goes_on _ _ _ (chose g (goal.at.returns-clause-goes g c).After-choose_any).0.goes c.bring.ensures.goes)
+
+pub returns-in_err-bring-clause-apart : goal.returns-in_err-bring-clause-apart
+returns-in_err-bring-clause-apart g c told =
+    let before = chose g (goal.at.returns-in_err-bring-clause-apart g c).After-choose_any in
+    on_then _ _ _ before.0.goes c.bring.ensures.goes (before.1 told) (c.bring.ensures.apart told)
+
+pub returns-clause-apart : goal.returns-clause-apart
+returns-clause-apart g c told =
+    let before = chose g (goal.at.returns-clause-apart g c).After-choose_any in
+    rw (ap (λ p. p.plant) c.give_fate.ensures.frame) (on_then _ _ _ before.0.goes c.bring.ensures.goes (before.1 told) (c.bring.ensures.apart told))
+
+pub returns-in_err-bring-clause-counts : goal.returns-in_err-bring-clause-counts
+returns-in_err-bring-clause-counts g c =
+    let P = g.P.Plant in
+    let d = c.choose_any.new.self in
+    let e = c.bring.new.self in
+    let r = c.from_residual-in_err-bring.result in
+    let p = err_from_is_err_and r c.from_residual-in_err-bring.ensures.1 in
+    let before = chose g (goal.at.returns-in_err-bring-clause-counts g c).After-choose_any in
+    (both_then before.0 before.1 (counts_brought (Unit {0}) c.args.by.0 (pair_state P.view (parts_of d)) (pair_state P.view (parts_of e)) r p.0 c.in_err-bring.field-0.0 p.1 p.2 c.in_err-bring.ensures.counts) c.bring.ensures.apart).0
+
+pub returns-clause-counts : goal.returns-clause-counts
+returns-clause-counts g c =
+    let before = chose g (goal.at.returns-clause-counts g c).After-choose_any in
+    rw (ap (λ p. p.first_alive) c.give_fate.ensures.frame, ap (λ p. p.second_alive) c.give_fate.ensures.frame, ap (λ p. p.plant) c.give_fate.ensures.frame)
+    (both_then before.0 before.1 c.in_ok-bring.ensures.counts c.bring.ensures.apart).0
+
+pub returns-in_err-second-clause-counts : goal.returns-in_err-second-clause-counts
+returns-in_err-second-clause-counts g c =
+    let P = g.P.Plant in
+    let a = c.see_on.new.self in
+    let b = c.see_on-2.new.self in
+    let r = c.from_residual-in_err-second.result in
+    let p = err_from_is_err_and r c.from_residual-in_err-second.ensures.1 in
+    (both_then c.in_ok-first.ensures.counts c.see_on.ensures.apart (counts_seen (Option (List Page)) c.args.by.0 (pair_state P.view (parts_of a)) (pair_state P.view (parts_of b)) r p.0 c.in_err-second.field-0.0 p.1 p.2 c.in_err-second.ensures.counts) c.see_on-2.ensures.apart).0
+
+pub returns-in_err-second-clause-apart : goal.returns-in_err-second-clause-apart
+returns-in_err-second-clause-apart g c told = on_then _ _ _ c.see_on.ensures.goes c.see_on-2.ensures.goes (c.see_on.ensures.apart told) (c.see_on-2.ensures.apart told)
 
 pub returns-clause-stands : goal.returns-clause-stands
 returns-clause-stands g c told =
@@ -62,123 +119,79 @@ give_fate-requires-clause-second g c alive =
 pub returns-in_default-clause-both_failed1 : goal.returns-in_default-clause-both_failed1
 returns-in_default-clause-both_failed1 g c both told alive =
     let P = g.P.Plant in
-    let v0 = P.view c.args.self.now.plant in
     let v1 = P.view c.see_on.new.self.plant in
     let v2 = P.view c.see_on-2.new.self.plant in
     let v3 = P.view c.choose_any.new.self.plant in
-    let later = c.see_on-2.ensures.goes.faults (Disk Ckpt1) in
-    let last = c.choose_any.ensures.goes.faults (Disk Ckpt1) in
-    rose_later (v0.faults (Disk Ckpt1)) (v1.faults (Disk Ckpt1)) (v3.faults (Disk Ckpt1)) (c.in_ok-first.ensures.unseen told (c.in_default.ensures.neither (search rules)).0 alive) (omega (arith, later, last))
+    fault_later Ckpt1 (P.view c.args.self.now.plant) v1 v3 (c.in_ok-first.ensures.unseen told (c.in_default.ensures.neither (search rules)).0 alive) (goes_on v1 v2 v3 c.see_on-2.ensures.goes c.choose_any.ensures.goes)
 
 pub returns-in_default-clause-both_failed2 : goal.returns-in_default-clause-both_failed2
 returns-in_default-clause-both_failed2 g c both told alive =
     let P = g.P.Plant in
-    let v0 = P.view c.args.self.now.plant in
     let v1 = P.view c.see_on.new.self.plant in
     let v2 = P.view c.see_on-2.new.self.plant in
     let v3 = P.view c.choose_any.new.self.plant in
-    let before = c.see_on.ensures.goes.faults (Disk Ckpt2) in
-    let last = c.choose_any.ensures.goes.faults (Disk Ckpt2) in
-    let alive1 = ap (λ h. h.alive) c.see_on.ensures.other ∙ alive in
-    rose_earlier (v0.faults (Disk Ckpt2)) (v1.faults (Disk Ckpt2)) (v3.faults (Disk Ckpt2)) before
-    (rose_later (v1.faults (Disk Ckpt2)) (v2.faults (Disk Ckpt2)) (v3.faults (Disk Ckpt2)) (c.in_ok-second.ensures.unseen told (c.in_default.ensures.neither (search rules)).1 alive1) last)
+    fault_earlier Ckpt2 (P.view c.args.self.now.plant) v1 v3 c.see_on.ensures.goes
+    (fault_later Ckpt2 v1 v2 v3 (c.in_ok-second.ensures.unseen told (c.in_default.ensures.neither (search rules)).1 (ap (λ h. h.alive) c.see_on.ensures.other ∙ alive)) c.choose_any.ensures.goes)
 
 pub returns-clause-left1 : goal.returns-clause-left1
 returns-clause-left1 g c told alive dead =
-    let P = g.P.Plant in
+    let path = goal.at.returns-clause-left1 g c in
     let C = g.C.Copying in
     let s = c.args.self.now in
     let a = c.see_on.new.self in
     let b = c.see_on-2.new.self in
-    let d = c.choose_any.new.self in
-    let e = c.bring.new.self in
-    let f = c.give_fate.new.self in
-    let v0 = P.view s.plant in
-    let v1 = P.view a.plant in
-    let v2 = P.view b.plant in
-    let v3 = P.view d.plant in
-    let v4 = P.view e.plant in
-    let v5 = P.view f.plant in
-    let queue : Queue = run s.base (kept_all s.journal.batches ++ entries_in s.current) in
-    let f1 = c.see_on.ensures.goes.faults (Disk Ckpt1) in
-    let f2 = c.see_on-2.ensures.goes.faults (Disk Ckpt1) in
-    let f3 = c.choose_any.ensures.goes.faults (Disk Ckpt1) in
-    let f4 = c.bring.ensures.goes.faults (Disk Ckpt1) in
-    let f5 : v5.faults (Disk Ckpt1) ≡ v4.faults (Disk Ckpt1) = ap (λ p. (P.view p).faults (Disk Ckpt1)) (ap (λ p. p.plant) c.give_fate.ensures.frame) in
-    let dead4 : e.pair.first.alive ≡ false = sym (ap (λ p. p.first_alive) c.give_fate.ensures.frame) ∙ dead in
-    let one : (pages : List Page) → c.in_ok-first.first ≡ Some pages → OneSeen queue (entries_in s.current) g.P.Plant.tells s.level a.pair.first.alive (C.count a.pair.first.copy) a.first pages = λ pages is. subst (λ (o : Option (List Page)). IsOneSeen queue (entries_in s.current) g.P.Plant.tells s.level a.pair.first.alive (C.count a.pair.first.copy) a.first o) is c.in_ok-first.ensures.seen in
-    let unseen : c.in_ok-first.first ≡ None → Rose (v0.faults (Disk Ckpt1)) (v5.faults (Disk Ckpt1)) = λ none. rose_later (v0.faults (Disk Ckpt1)) (v1.faults (Disk Ckpt1)) (v5.faults (Disk Ckpt1)) (c.in_ok-first.ensures.unseen told none alive) (omega (arith, f2, f3, f4, f5)) in
-    let failed : d.pair.first.alive ≡ true → Rose (v0.faults (Disk Ckpt1)) (v5.faults (Disk Ckpt1)) = λ is. rose_earlier (v0.faults (Disk Ckpt1)) (v3.faults (Disk Ckpt1)) (v5.faults (Disk Ckpt1)) (omega (arith, f1, f2, f3)) (rose_later (v3.faults (Disk Ckpt1)) (v4.faults (Disk Ckpt1)) (v5.faults (Disk Ckpt1)) (c.bring.ensures.failed1 is dead4) (omega (arith, f5))) in
-    let read : ReadsSeen C.reads (disk_now v0 Ckpt1).bytes c.in_ok-first.first = subst (λ (l : List ℕ). ReadsSeen C.reads l c.in_ok-first.first) (c.see_on.ensures.bytes told Ckpt1) (c.in_ok-first.ensures.reads told) in
-    let at : (pages : List Page) → c.in_ok-first.first ≡ Some pages → IsAtLevel (level (bytes_of pages)) s.level b.first = λ pages is. subst (λ (p : Place). IsAtLevel (level (bytes_of pages)) s.level p) (sym (ap (λ p. p.first) c.see_on-2.ensures.frame)) (one pages is).at in
-    let room : (pages : List Page) → c.in_ok-first.first ≡ Some pages → C.room b.pair.first.copy ≡ C.room_in (disk_now v0 Ckpt1).bytes = λ pages is.
-    ap (λ h. C.room h.copy) c.see_on-2.ensures.other ∙ (room_seen (C.room a.pair.first.copy) (C.room_in (disk_now v1 Ckpt1).bytes) c.in_ok-first.first (c.in_ok-first.ensures.room told) pages is ∙ ap C.room_in (c.see_on.ensures.bytes told Ckpt1)) in
-    left_why C.reads (disk_now v0 Ckpt1).bytes s.level (C.room b.pair.first.copy) (C.room_in (disk_now v0 Ckpt1).bytes) b.first c.in-Some.found (Rose (v0.faults (Disk Ckpt1)) (v5.faults (Disk Ckpt1))) c.in_ok-first.first d.pair.first.alive unseen failed read at
+    let v0 = g.P.Plant.view s.plant in
+    let v4 = g.P.Plant.view c.bring.new.self.plant in
+    let one : (pages : List Page) → c.in_ok-first.first ≡ Some pages → OneSeen g.P.Plant.tells (sought C.reads (parts_of s)) (looked C.count C.room a.pair.first a.first) pages
+    = λ pages is. subst (λ (o : Option (List Page)). IsOneSeen g.P.Plant.tells (sought C.reads (parts_of s)) (looked C.count C.room a.pair.first a.first) o) is c.in_ok-first.ensures.seen in
+    rw (ap (λ p. p.plant) c.give_fate.ensures.frame)
+    (left_why C.reads (disk_now v0 Ckpt1).bytes s.level (C.room b.pair.first.copy) (C.room_in (disk_now v0 Ckpt1).bytes) b.first c.in-Some.found (Rose (v0.faults (Disk Ckpt1)) (v4.faults (Disk Ckpt1))) c.in_ok-first.first c.choose_any.new.self.pair.first.alive
+    (λ none. fault_later Ckpt1 v0 (g.P.Plant.view a.plant) v4 (c.in_ok-first.ensures.unseen told none alive) (rest1 g path.After-bring))
+    (λ is. fault_earlier Ckpt1 v0 (g.P.Plant.view c.choose_any.new.self.plant) v4 (chose g path.After-choose_any).0.goes (c.bring.ensures.failed1 is (sym (ap (λ p. p.first_alive) c.give_fate.ensures.frame) ∙ dead)))
+    (subst (λ (l : List ℕ). ReadsSeen C.reads l c.in_ok-first.first) (c.see_on.ensures.bytes told Ckpt1) (c.in_ok-first.ensures.reads told))
+    (λ pages is. subst (λ (q : Place). IsAtLevel (level (bytes_of pages)) s.level q) (sym (ap (λ p. p.first) c.see_on-2.ensures.frame)) (one pages is).at)
     (λ pages is not. c.in-Some.ensures.unfit1 (ap (λ h. h.alive) c.see_on-2.ensures.other ∙ (one pages is).is_alive) not)
-    room
+    (λ pages is. ap (λ h. C.room h.copy) c.see_on-2.ensures.other ∙ (room_seen (C.room a.pair.first.copy) (C.room_in (disk_now (g.P.Plant.view a.plant) Ckpt1).bytes) c.in_ok-first.first (c.in_ok-first.ensures.room told) pages is ∙ ap C.room_in (c.see_on.ensures.bytes told Ckpt1))))
 
 pub returns-clause-left2 : goal.returns-clause-left2
 returns-clause-left2 g c told alive dead =
-    let P = g.P.Plant in
+    let path = goal.at.returns-clause-left2 g c in
     let C = g.C.Copying in
     let s = c.args.self.now in
     let a = c.see_on.new.self in
     let b = c.see_on-2.new.self in
-    let d = c.choose_any.new.self in
-    let e = c.bring.new.self in
-    let f = c.give_fate.new.self in
-    let v0 = P.view s.plant in
-    let v1 = P.view a.plant in
-    let v2 = P.view b.plant in
-    let v3 = P.view d.plant in
-    let v4 = P.view e.plant in
-    let v5 = P.view f.plant in
-    let queue : Queue = run s.base (kept_all s.journal.batches ++ entries_in s.current) in
-    let f1 = c.see_on.ensures.goes.faults (Disk Ckpt2) in
-    let f2 = c.see_on-2.ensures.goes.faults (Disk Ckpt2) in
-    let f3 = c.choose_any.ensures.goes.faults (Disk Ckpt2) in
-    let f4 = c.bring.ensures.goes.faults (Disk Ckpt2) in
-    let f5 : v5.faults (Disk Ckpt2) ≡ v4.faults (Disk Ckpt2) = ap (λ p. (P.view p).faults (Disk Ckpt2)) (ap (λ p. p.plant) c.give_fate.ensures.frame) in
-    let dead4 : e.pair.second.alive ≡ false = sym (ap (λ p. p.second_alive) c.give_fate.ensures.frame) ∙ dead in
-    let one : (pages : List Page) → c.in_ok-second.second ≡ Some pages → OneSeen (run a.base (kept_all a.journal.batches ++ entries_in a.current)) (entries_in a.current) g.P.Plant.tells a.level b.pair.second.alive (C.count b.pair.second.copy) b.second pages = λ pages is. subst (λ (o : Option (List Page)). IsOneSeen (run a.base (kept_all a.journal.batches ++ entries_in a.current)) (entries_in a.current) g.P.Plant.tells a.level b.pair.second.alive (C.count b.pair.second.copy) b.second o) is c.in_ok-second.ensures.seen in
-    let alive1 = ap (λ h. h.alive) c.see_on.ensures.other ∙ alive in
-    let unseen : c.in_ok-second.second ≡ None → Rose (v0.faults (Disk Ckpt2)) (v5.faults (Disk Ckpt2)) = λ none. rose_earlier (v0.faults (Disk Ckpt2)) (v1.faults (Disk Ckpt2)) (v5.faults (Disk Ckpt2)) f1 (rose_later (v1.faults (Disk Ckpt2)) (v2.faults (Disk Ckpt2)) (v5.faults (Disk Ckpt2)) (c.in_ok-second.ensures.unseen told none alive1) (omega (arith, f3, f4, f5))) in
-    let failed : d.pair.second.alive ≡ true → Rose (v0.faults (Disk Ckpt2)) (v5.faults (Disk Ckpt2)) = λ is. rose_earlier (v0.faults (Disk Ckpt2)) (v3.faults (Disk Ckpt2)) (v5.faults (Disk Ckpt2)) (omega (arith, f1, f2, f3)) (rose_later (v3.faults (Disk Ckpt2)) (v4.faults (Disk Ckpt2)) (v5.faults (Disk Ckpt2)) (c.bring.ensures.failed2 is dead4) (omega (arith, f5))) in
-    let read : ReadsSeen C.reads (disk_now v0 Ckpt2).bytes c.in_ok-second.second = subst (λ (l : List ℕ). ReadsSeen C.reads l c.in_ok-second.second) (c.see_on-2.ensures.bytes told Ckpt2 ∙ c.see_on.ensures.bytes told Ckpt2) (c.in_ok-second.ensures.reads told) in
-    let at : (pages : List Page) → c.in_ok-second.second ≡ Some pages → IsAtLevel (level (bytes_of pages)) s.level b.second = λ pages is. subst (λ (n : ℕ). IsAtLevel (level (bytes_of pages)) n b.second) (ap (λ p. p.level) c.see_on.ensures.frame) (one pages is).at in
-    let room : (pages : List Page) → c.in_ok-second.second ≡ Some pages → C.room b.pair.second.copy ≡ C.room_in (disk_now v0 Ckpt2).bytes = λ pages is.
-    room_seen (C.room b.pair.second.copy) (C.room_in (disk_now v2 Ckpt2).bytes) c.in_ok-second.second (c.in_ok-second.ensures.room told) pages is ∙ ap C.room_in (c.see_on-2.ensures.bytes told Ckpt2 ∙ c.see_on.ensures.bytes told Ckpt2) in
-    left_why C.reads (disk_now v0 Ckpt2).bytes s.level (C.room b.pair.second.copy) (C.room_in (disk_now v0 Ckpt2).bytes) b.second c.in-Some.found (Rose (v0.faults (Disk Ckpt2)) (v5.faults (Disk Ckpt2))) c.in_ok-second.second d.pair.second.alive unseen failed read at
+    let v0 = g.P.Plant.view s.plant in
+    let v4 = g.P.Plant.view c.bring.new.self.plant in
+    let one : (pages : List Page) → c.in_ok-second.second ≡ Some pages → OneSeen g.P.Plant.tells (sought C.reads (parts_of a)) (looked C.count C.room b.pair.second b.second) pages
+    = λ pages is. subst (λ (o : Option (List Page)). IsOneSeen g.P.Plant.tells (sought C.reads (parts_of a)) (looked C.count C.room b.pair.second b.second) o) is c.in_ok-second.ensures.seen in
+    rw (ap (λ p. p.plant) c.give_fate.ensures.frame)
+    (left_why C.reads (disk_now v0 Ckpt2).bytes s.level (C.room b.pair.second.copy) (C.room_in (disk_now v0 Ckpt2).bytes) b.second c.in-Some.found (Rose (v0.faults (Disk Ckpt2)) (v4.faults (Disk Ckpt2))) c.in_ok-second.second c.choose_any.new.self.pair.second.alive
+    (λ none. fault_earlier Ckpt2 v0 (g.P.Plant.view a.plant) v4 c.see_on.ensures.goes (fault_later Ckpt2 (g.P.Plant.view a.plant) (g.P.Plant.view b.plant) v4 (c.in_ok-second.ensures.unseen told none (ap (λ h. h.alive) c.see_on.ensures.other ∙ alive)) (rest2 g path.After-bring)))
+    (λ is. fault_earlier Ckpt2 v0 (g.P.Plant.view c.choose_any.new.self.plant) v4 (chose g path.After-choose_any).0.goes (c.bring.ensures.failed2 is (sym (ap (λ p. p.second_alive) c.give_fate.ensures.frame) ∙ dead)))
+    (subst (λ (l : List ℕ). ReadsSeen C.reads l c.in_ok-second.second) (c.see_on-2.ensures.bytes told Ckpt2 ∙ c.see_on.ensures.bytes told Ckpt2) (c.in_ok-second.ensures.reads told))
+    (λ pages is. subst (λ (n : ℕ). IsAtLevel (level (bytes_of pages)) n b.second) (ap (λ p. p.level) c.see_on.ensures.frame) (one pages is).at)
     (λ pages is not. c.in-Some.ensures.unfit2 ((one pages is).is_alive) not)
-    room
+    (λ pages is. room_seen (C.room b.pair.second.copy) (C.room_in (disk_now (g.P.Plant.view b.plant) Ckpt2).bytes) c.in_ok-second.second (c.in_ok-second.ensures.room told) pages is ∙ ap C.room_in (c.see_on-2.ensures.bytes told Ckpt2 ∙ c.see_on.ensures.bytes told Ckpt2)))
 
 pub returns-clause-picked : goal.returns-clause-picked
 returns-clause-picked g c told =
-    let P = g.P.Plant in
+    let after = (goal.at.returns-clause-picked g c).After-bring in
     let C = g.C.Copying in
-    let s = c.args.self.now in
-    let a = c.see_on.new.self in
-    let v0 = P.view s.plant in
-    let v1 = P.view a.plant in
-    let v2 = P.view c.see_on-2.new.self.plant in
-    let v5 = P.view c.give_fate.new.self.plant in
-    let e1 = c.see_on.ensures.goes in
-    let e2 = c.see_on-2.ensures.goes in
-    let e3 = c.choose_any.ensures.goes in
-    let e4 = c.bring.ensures.goes in
-    let still : (dev : Dev) → v5.faults (Disk dev) ≡ (P.view c.bring.new.self.plant).faults (Disk dev) = λ dev. ap (λ p. (P.view p).faults (Disk dev)) (ap (λ p. p.plant) c.give_fate.ensures.frame) in
-    record {
+    let v0 = g.P.Plant.view c.args.self.now.plant in
+    let v1 = g.P.Plant.view c.see_on.new.self.plant in
+    let v2 = g.P.Plant.view c.see_on-2.new.self.plant in
+    let v4 = g.P.Plant.view c.bring.new.self.plant in
+    rw (ap (λ p. p.plant) c.give_fate.ensures.frame) (record {
       one = c.in_ok-first.first;
       two = c.in_ok-second.second;
-      some1 = λ some. c.see_on.ensures.was_alive (seen_alive _ _ P.tells _ _ _ _ c.in_ok-first.first c.in_ok-first.ensures.seen some);
-      some2 = λ some. sym (ap (λ h. h.alive) c.see_on.ensures.other) ∙ c.see_on-2.ensures.was_alive (seen_alive _ _ P.tells _ _ _ _ c.in_ok-second.second c.in_ok-second.ensures.seen some);
+      some1 = λ some. c.see_on.ensures.was_alive (seen_alive g.P.Plant.tells _ _ c.in_ok-first.first c.in_ok-first.ensures.seen some);
+      some2 = λ some. sym (ap (λ h. h.alive) c.see_on.ensures.other) ∙ c.see_on-2.ensures.was_alive (seen_alive g.P.Plant.tells _ _ c.in_ok-second.second c.in_ok-second.ensures.seen some);
       read1 = subst (λ (l : List ℕ). ReadsSeen C.reads l c.in_ok-first.first) (c.see_on.ensures.bytes told Ckpt1) (c.in_ok-first.ensures.reads told);
       read2 = subst (λ (l : List ℕ). ReadsSeen C.reads l c.in_ok-second.second) (c.see_on-2.ensures.bytes told Ckpt2 ∙ c.see_on.ensures.bytes told Ckpt2) (c.in_ok-second.ensures.reads told);
-      none1 = λ none alive. rose_later (v0.faults (Disk Ckpt1)) (v1.faults (Disk Ckpt1)) (v5.faults (Disk Ckpt1)) (c.in_ok-first.ensures.unseen told none alive) (omega (arith, e2.faults (Disk Ckpt1), e3.faults (Disk Ckpt1), e4.faults (Disk Ckpt1), still Ckpt1));
-      none2 = λ none alive. rose_earlier (v0.faults (Disk Ckpt2)) (v1.faults (Disk Ckpt2)) (v5.faults (Disk Ckpt2)) (e1.faults (Disk Ckpt2))
-          (rose_later (v1.faults (Disk Ckpt2)) (v2.faults (Disk Ckpt2)) (v5.faults (Disk Ckpt2)) (c.in_ok-second.ensures.unseen told none (ap (λ h. h.alive) c.see_on.ensures.other ∙ alive)) (omega (arith, e3.faults (Disk Ckpt2), e4.faults (Disk Ckpt2), still Ckpt2)));
+      none1 = λ none alive. fault_later Ckpt1 v0 v1 v4 (c.in_ok-first.ensures.unseen told none alive) (rest1 g after);
+      none2 = λ none alive. fault_earlier Ckpt2 v0 v1 v4 c.see_on.ensures.goes (fault_later Ckpt2 v1 v2 v4 (c.in_ok-second.ensures.unseen told none (ap (λ h. h.alive) c.see_on.ensures.other ∙ alive)) (rest2 g after));
       greater = c.in-Some.ensures.greater;
-    }
+    })
 
 -- HOW MANY PAGES
 
@@ -192,35 +205,13 @@ returns-clause-many g c =
     subst (λ (q : Queue). IfSome c.in_ok-second.second (λ pages. length pages ≡ page_count q.config)) same c.in_ok-second.ensures.many in
     found_many (page_count c.args.self.now.base.config) c.in_ok-first.first c.in_ok-second.second c.in-Some.found c.in_ok-first.ensures.many second c.in-Some.ensures.greater
 
--- ONE CALL AFTER ANOTHER
-
-pub returns-in_err-bring-clause-goes : goal.returns-in_err-bring-clause-goes
-returns-in_err-bring-clause-goes g c =
-    let P = g.P.Plant in
-    let old = P.view c.args.self.now.plant in
-    let mid = P.view c.see_on-2.new.self.plant in
-    let chosen = P.view c.choose_any.new.self.plant in
-    goes_on old chosen (P.view c.bring.new.self.plant) (goes_on old mid chosen (goes_on old (P.view c.see_on.new.self.plant) mid c.see_on.ensures.goes c.see_on-2.ensures.goes) c.choose_any.ensures.goes) c.bring.ensures.goes
-
-pub returns-clause-goes : goal.returns-clause-goes
-returns-clause-goes g c =
-    let P = g.P.Plant in
-    let old = P.view c.args.self.now.plant in
-    let mid = P.view c.see_on-2.new.self.plant in
-    let chosen = P.view c.choose_any.new.self.plant in
-    rw (ap (λ p. p.plant) c.give_fate.ensures.frame)
-    (goes_on old chosen (P.view c.bring.new.self.plant) (goes_on old mid chosen (goes_on old (P.view c.see_on.new.self.plant) mid c.see_on.ensures.goes c.see_on-2.ensures.goes) c.choose_any.ensures.goes) c.bring.ensures.goes)
-
 pub returns-in_err-bring-clause-halted : goal.returns-in_err-bring-clause-halted
 returns-in_err-bring-clause-halted g c is =
     let P = g.P.Plant in
     let by = c.args.by.0 in
-    let one = c.see_on.ensures.goes.stops by in
-    let two = c.see_on-2.ensures.goes.stops by in
-    let three = c.choose_any.ensures.goes.stops by in
     let r = c.from_residual-in_err-bring.result in
     let p = err_from_is_err_and r c.from_residual-in_err-bring.ensures.1 in
-    rose_earlier ((P.view c.args.self.now.plant).stops by) ((P.view c.choose_any.new.self.plant).stops by) ((P.view c.bring.new.self.plant).stops by) (omega (arith, one, two, three))
+    rose_earlier ((P.view c.args.self.now.plant).stops by) ((P.view c.choose_any.new.self.plant).stops by) ((P.view c.bring.new.self.plant).stops by) ((chose g (goal.at.returns-in_err-bring-clause-halted g c).After-choose_any).0.goes.stops by)
     (c.in_err-bring.ensures.halted (was_halted r p.0 c.in_err-bring.field-0.0 p.1 p.2 is))
 
 pub returns-in_err-bring-clause-both : goal.returns-in_err-bring-clause-both
@@ -235,104 +226,13 @@ give_fate-requires-clause-first g c alive =
     subst (λ (n : ℕ). IsAtLevel n c.bring.new.self.level c.bring.new.self.first) same
     (subst (λ (n : ℕ). IsAtLevel (level (bytes_of c.as_slice-2.result.now)) n c.bring.new.self.first) (ap (λ p. p.level) (sym c.bring.ensures.frame)) (c.in_ok-bring.ensures.first alive).0)
 
--- WHAT IS COUNTED
-
 pub returns-in_err-first-clause-counts : goal.returns-in_err-first-clause-counts
 returns-in_err-first-clause-counts g c =
     let P = g.P.Plant in
     let s = c.args.self.now in
     let a = c.see_on.new.self in
     let p = err_from_is_err_and c.from_residual.result c.from_residual.ensures.1 in
-    counts_seen (Option (List Page)) c.args.by.0 s.pair.first.alive a.pair.first.alive s.pair.second.alive a.pair.second.alive (P.view s.plant) (P.view a.plant) c.from_residual.result p.0 c.in_err-first.field-0.0 p.1 p.2 c.in_err-first.ensures.counts
-
-pub returns-in_err-second-clause-counts : goal.returns-in_err-second-clause-counts
-returns-in_err-second-clause-counts g c =
-    let P = g.P.Plant in
-    let s = c.args.self.now in
-    let a = c.see_on.new.self in
-    let b = c.see_on-2.new.self in
-    let r = c.from_residual-in_err-second.result in
-    let p = err_from_is_err_and r c.from_residual-in_err-second.ensures.1 in
-    counts_then c.args.by.0 s.pair.first.alive a.pair.first.alive b.pair.first.alive s.pair.second.alive a.pair.second.alive b.pair.second.alive (recover_stopped r) (P.view s.plant) (P.view a.plant) (P.view b.plant) c.in_ok-first.ensures.counts
-    (counts_seen (Option (List Page)) c.args.by.0 a.pair.first.alive b.pair.first.alive a.pair.second.alive b.pair.second.alive (P.view a.plant) (P.view b.plant) r p.0 c.in_err-second.field-0.0 p.1 p.2 c.in_err-second.ensures.counts)
-
-pub returns-in_default-clause-counts : goal.returns-in_default-clause-counts
-returns-in_default-clause-counts g c =
-    let P = g.P.Plant in
-    let s = c.args.self.now in
-    let a = c.see_on.new.self in
-    let b = c.see_on-2.new.self in
-    let d = c.choose_any.new.self in
-    counts_then c.args.by.0 s.pair.first.alive b.pair.first.alive d.pair.first.alive s.pair.second.alive b.pair.second.alive d.pair.second.alive false (P.view s.plant) (P.view b.plant) (P.view d.plant)
-    (counts_then c.args.by.0 s.pair.first.alive a.pair.first.alive b.pair.first.alive s.pair.second.alive a.pair.second.alive b.pair.second.alive false (P.view s.plant) (P.view a.plant) (P.view b.plant) c.in_ok-first.ensures.counts c.in_ok-second.ensures.counts)
-    (c.choose_any.ensures.counts c.args.by.0)
-
-pub returns-in_err-bring-clause-counts : goal.returns-in_err-bring-clause-counts
-returns-in_err-bring-clause-counts g c =
-    let P = g.P.Plant in
-    let s = c.args.self.now in
-    let a = c.see_on.new.self in
-    let b = c.see_on-2.new.self in
-    let d = c.choose_any.new.self in
-    let e = c.bring.new.self in
-    let r = c.from_residual-in_err-bring.result in
-    let p = err_from_is_err_and r c.from_residual-in_err-bring.ensures.1 in
-    counts_then c.args.by.0 s.pair.first.alive d.pair.first.alive e.pair.first.alive s.pair.second.alive d.pair.second.alive e.pair.second.alive (recover_stopped r) (P.view s.plant) (P.view d.plant) (P.view e.plant)
-    (counts_then c.args.by.0 s.pair.first.alive b.pair.first.alive d.pair.first.alive s.pair.second.alive b.pair.second.alive d.pair.second.alive false (P.view s.plant) (P.view b.plant) (P.view d.plant)
-    (counts_then c.args.by.0 s.pair.first.alive a.pair.first.alive b.pair.first.alive s.pair.second.alive a.pair.second.alive b.pair.second.alive false (P.view s.plant) (P.view a.plant) (P.view b.plant) c.in_ok-first.ensures.counts c.in_ok-second.ensures.counts)
-    (c.choose_any.ensures.counts c.args.by.0))
-    (counts_brought (Unit {0}) c.args.by.0 d.pair.first.alive e.pair.first.alive d.pair.second.alive e.pair.second.alive (P.view d.plant) (P.view e.plant) r p.0 c.in_err-bring.field-0.0 p.1 p.2 c.in_err-bring.ensures.counts)
-
-pub returns-clause-counts : goal.returns-clause-counts
-returns-clause-counts g c =
-    let P = g.P.Plant in
-    let s = c.args.self.now in
-    let a = c.see_on.new.self in
-    let b = c.see_on-2.new.self in
-    let d = c.choose_any.new.self in
-    let e = c.bring.new.self in
-    rw (ap (λ p. p.first_alive) c.give_fate.ensures.frame, ap (λ p. p.second_alive) c.give_fate.ensures.frame, ap (λ p. p.plant) c.give_fate.ensures.frame)
-    (counts_then c.args.by.0 s.pair.first.alive d.pair.first.alive e.pair.first.alive s.pair.second.alive d.pair.second.alive e.pair.second.alive false (P.view s.plant) (P.view d.plant) (P.view e.plant)
-    (counts_then c.args.by.0 s.pair.first.alive b.pair.first.alive d.pair.first.alive s.pair.second.alive b.pair.second.alive d.pair.second.alive false (P.view s.plant) (P.view b.plant) (P.view d.plant)
-    (counts_then c.args.by.0 s.pair.first.alive a.pair.first.alive b.pair.first.alive s.pair.second.alive a.pair.second.alive b.pair.second.alive false (P.view s.plant) (P.view a.plant) (P.view b.plant) c.in_ok-first.ensures.counts c.in_ok-second.ensures.counts)
-    (c.choose_any.ensures.counts c.args.by.0))
-    c.in_ok-bring.ensures.counts)
-
--- VOLUMES AND CONSOLE
-
-pub returns-in_err-second-clause-apart : goal.returns-in_err-second-clause-apart
-returns-in_err-second-clause-apart g c told =
-    let P = g.P.Plant in
-    on_then (P.view c.args.self.now.plant) (P.view c.see_on.new.self.plant) (P.view c.see_on-2.new.self.plant) c.see_on.ensures.goes c.see_on-2.ensures.goes (c.see_on.ensures.apart told) (c.see_on-2.ensures.apart told)
-
-pub returns-in_default-clause-apart : goal.returns-in_default-clause-apart
-returns-in_default-clause-apart g c told =
-    let P = g.P.Plant in
-    let old = P.view c.args.self.now.plant in
-    let mid = P.view c.see_on-2.new.self.plant in
-    on_then old mid (P.view c.choose_any.new.self.plant) (goes_on old (P.view c.see_on.new.self.plant) mid c.see_on.ensures.goes c.see_on-2.ensures.goes) c.choose_any.ensures.goes
-    (on_then old (P.view c.see_on.new.self.plant) mid c.see_on.ensures.goes c.see_on-2.ensures.goes (c.see_on.ensures.apart told) (c.see_on-2.ensures.apart told)) (c.choose_any.ensures.apart told)
-
-pub returns-in_err-bring-clause-apart : goal.returns-in_err-bring-clause-apart
-returns-in_err-bring-clause-apart g c told =
-    let P = g.P.Plant in
-    let old = P.view c.args.self.now.plant in
-    let mid = P.view c.see_on-2.new.self.plant in
-    let chosen = P.view c.choose_any.new.self.plant in
-    on_then old chosen (P.view c.bring.new.self.plant) (goes_on old mid chosen (goes_on old (P.view c.see_on.new.self.plant) mid c.see_on.ensures.goes c.see_on-2.ensures.goes) c.choose_any.ensures.goes) c.bring.ensures.goes
-    (on_then old mid chosen (goes_on old (P.view c.see_on.new.self.plant) mid c.see_on.ensures.goes c.see_on-2.ensures.goes) c.choose_any.ensures.goes (on_then old (P.view c.see_on.new.self.plant) mid c.see_on.ensures.goes c.see_on-2.ensures.goes (c.see_on.ensures.apart told) (c.see_on-2.ensures.apart told)) (c.choose_any.ensures.apart told))
-    (c.bring.ensures.apart told)
-
-pub returns-clause-apart : goal.returns-clause-apart
-returns-clause-apart g c told =
-    let P = g.P.Plant in
-    let old = P.view c.args.self.now.plant in
-    let mid = P.view c.see_on-2.new.self.plant in
-    let chosen = P.view c.choose_any.new.self.plant in
-    rw (ap (λ p. p.plant) c.give_fate.ensures.frame)
-    (on_then old chosen (P.view c.bring.new.self.plant) (goes_on old mid chosen (goes_on old (P.view c.see_on.new.self.plant) mid c.see_on.ensures.goes c.see_on-2.ensures.goes) c.choose_any.ensures.goes) c.bring.ensures.goes
-    (on_then old mid chosen (goes_on old (P.view c.see_on.new.self.plant) mid c.see_on.ensures.goes c.see_on-2.ensures.goes) c.choose_any.ensures.goes (on_then old (P.view c.see_on.new.self.plant) mid c.see_on.ensures.goes c.see_on-2.ensures.goes (c.see_on.ensures.apart told) (c.see_on-2.ensures.apart told)) (c.choose_any.ensures.apart told))
-    (c.bring.ensures.apart told))
+    counts_seen (Option (List Page)) c.args.by.0 (pair_state P.view (parts_of s)) (pair_state P.view (parts_of a)) c.from_residual.result p.0 c.in_err-first.field-0.0 p.1 p.2 c.in_err-first.ensures.counts
 
 pub returns-in_err-bring-clause-both_failed1 : goal.returns-in_err-bring-clause-both_failed1
 returns-in_err-bring-clause-both_failed1 g c =
@@ -345,25 +245,6 @@ returns-in_err-bring-clause-both_failed2 g c =
     if_err c.from_residual-in_err-bring.result (λ both told alive. absurd (left_some e.pair.first.alive e.pair.second.alive c.bring.ensures.some both))
 
 -- HOW FAR THE PAGES MAY HAVE COME
-
-pub returns-then-not-may_follow-clause-counts : goal.returns-then-not-may_follow-clause-counts
-returns-then-not-may_follow-clause-counts g c =
-    let P = g.P.Plant in
-    let s = c.args.self.now in
-    let a = c.see_on.new.self in
-    let b = c.see_on-2.new.self in
-    let d = c.choose_any.new.self in
-    counts_then c.args.by.0 s.pair.first.alive b.pair.first.alive d.pair.first.alive s.pair.second.alive b.pair.second.alive d.pair.second.alive false (P.view s.plant) (P.view b.plant) (P.view d.plant)
-    (counts_then c.args.by.0 s.pair.first.alive a.pair.first.alive b.pair.first.alive s.pair.second.alive a.pair.second.alive b.pair.second.alive false (P.view s.plant) (P.view a.plant) (P.view b.plant) c.in_ok-first.ensures.counts c.in_ok-second.ensures.counts)
-    (c.choose_any.ensures.counts c.args.by.0)
-
-pub returns-then-not-may_follow-clause-apart : goal.returns-then-not-may_follow-clause-apart
-returns-then-not-may_follow-clause-apart g c told =
-    let P = g.P.Plant in
-    let old = P.view c.args.self.now.plant in
-    let mid = P.view c.see_on-2.new.self.plant in
-    on_then old mid (P.view c.choose_any.new.self.plant) (goes_on old (P.view c.see_on.new.self.plant) mid c.see_on.ensures.goes c.see_on-2.ensures.goes) c.choose_any.ensures.goes
-    (on_then old (P.view c.see_on.new.self.plant) mid c.see_on.ensures.goes c.see_on-2.ensures.goes (c.see_on.ensures.apart told) (c.see_on-2.ensures.apart told)) (c.choose_any.ensures.apart told)
 
 pub returns-clause-low : goal.returns-clause-low
 returns-clause-low g c =
@@ -396,12 +277,12 @@ returns-in_err-second-clause-one_stands g c is =
 pub returns-in_err-first-clause-both_failed1 : goal.returns-in_err-first-clause-both_failed1
 returns-in_err-first-clause-both_failed1 g c =
     let a = c.see_on.new.self in
-    if_err c.from_residual.result (λ both told alive. absurd (not_dead a.pair.first.alive (ap (λ h. h.alive) c.in_err-first.ensures.same ∙ alive) both.0))
+    if_err c.from_residual.result (λ both told alive. absurd (no a.pair.first.alive (ap (λ h. h.alive) c.in_err-first.ensures.same ∙ alive) both.0))
 
 pub returns-in_err-first-clause-both_failed2 : goal.returns-in_err-first-clause-both_failed2
 returns-in_err-first-clause-both_failed2 g c =
     let a = c.see_on.new.self in
-    if_err c.from_residual.result (λ both told alive. absurd (not_dead a.pair.second.alive (ap (λ h. h.alive) c.see_on.ensures.other ∙ alive) both.1))
+    if_err c.from_residual.result (λ both told alive. absurd (no a.pair.second.alive (ap (λ h. h.alive) c.see_on.ensures.other ∙ alive) both.1))
 
 pub returns-in_err-second-clause-both_failed1 : goal.returns-in_err-second-clause-both_failed1
 returns-in_err-second-clause-both_failed1 g c =
@@ -410,25 +291,24 @@ returns-in_err-second-clause-both_failed1 g c =
     let s = c.args.self.now in
     let a = c.see_on.new.self in
     let b = c.see_on-2.new.self in
-    let queue : Queue = run s.base (kept_all s.journal.batches ++ entries_in s.current) in
     let later = c.see_on-2.ensures.goes.faults (Disk Ckpt1) in
     if_err c.from_residual-in_err-second.result (λ both told alive.
     let dead : a.pair.first.alive ≡ false = sym (ap (λ h. h.alive) c.see_on-2.ensures.other) ∙ both.0 in
-    let none : c.in_ok-first.first ≡ None = none_seen queue (entries_in s.current) P.tells s.level a.pair.first.alive (C.count a.pair.first.copy) a.first c.in_ok-first.first c.in_ok-first.ensures.seen dead in
+    let none : c.in_ok-first.first ≡ None = none_seen P.tells (sought C.reads (parts_of s)) (looked C.count C.room a.pair.first a.first) c.in_ok-first.first c.in_ok-first.ensures.seen dead in
     rose_later ((P.view s.plant).faults (Disk Ckpt1)) ((P.view a.plant).faults (Disk Ckpt1)) ((P.view b.plant).faults (Disk Ckpt1)) (c.in_ok-first.ensures.unseen told none alive) later)
 
 pub returns-in_err-second-clause-both_failed2 : goal.returns-in_err-second-clause-both_failed2
 returns-in_err-second-clause-both_failed2 g c =
     let b = c.see_on-2.new.self in
     if_err c.from_residual-in_err-second.result (λ both told alive.
-    absurd (not_dead b.pair.second.alive (ap (λ h. h.alive) c.in_err-second.ensures.same ∙ (ap (λ h. h.alive) c.see_on.ensures.other ∙ alive)) both.1))
+    absurd (no b.pair.second.alive (ap (λ h. h.alive) c.in_err-second.ensures.same ∙ (ap (λ h. h.alive) c.see_on.ensures.other ∙ alive)) both.1))
 
 pub returns-then-not-may_follow-clause-both_failed1 : goal.returns-then-not-may_follow-clause-both_failed1
 returns-then-not-may_follow-clause-both_failed1 g c both told alive =
     let d = c.choose_any.new.self in
-    absurd (⊎_elim (λ x. not_dead d.pair.first.alive x.0 both.0) (λ x. not_dead d.pair.second.alive x.0 both.1) c.in-Some.ensures.chosen.one)
+    absurd (⊎_elim (λ x. no d.pair.first.alive x.0 both.0) (λ x. no d.pair.second.alive x.0 both.1) c.in-Some.ensures.chosen.one)
 
 pub returns-then-not-may_follow-clause-both_failed2 : goal.returns-then-not-may_follow-clause-both_failed2
 returns-then-not-may_follow-clause-both_failed2 g c both told alive =
     let d = c.choose_any.new.self in
-    absurd (⊎_elim (λ x. not_dead d.pair.first.alive x.0 both.0) (λ x. not_dead d.pair.second.alive x.0 both.1) c.in-Some.ensures.chosen.one)
+    absurd (⊎_elim (λ x. no d.pair.first.alive x.0 both.0) (λ x. no d.pair.second.alive x.0 both.1) c.in-Some.ensures.chosen.one)

@@ -1,10 +1,5 @@
+use Rattle.mas_complex.proofs.Names.{values_of, page_count, Option, None, subst, refl, ∥∥₁_map, Batch, Keeps, Setting, Copy, setting_with, copy_of}
 use Rattle.mas_complex.proofs.Pasts.{lasts_ended, opened_unsure}
-use Rattle.mas_complex.specs.Past.{values_of}
-use Rattle.ckpt_tables.specs.Shape.{page_count}
-use Rattle.std.proofs.Common.{Option, None, subst, refl}
-use Rattle.std.proofs.Math.Logic.{∥∥₁_map}
-use Rattle.mas_types.specs.declared.journals.Batch.{Batch}
-use Rattle.mas_complex.specs.Crash.{Keeps, Setting, Copy, setting_with, copy_of}
 use Rattle.mas_complex.proofs.Fates.{opened_some}
 use Rattle.mas_complex.proofs.complex.Complex.rise.Goals as goal
 

@@ -1,26 +1,34 @@
-use Rattle.mas_complex.specs.Past.{values_of}
-use Rattle.std.proofs.Common.{◌∙◌, false, refl, ap, sym, arith}
-use Rattle.std.proofs.Math.Logic.{∥∥₁_elim}
-use Rattle.spool_plant.specs.View.{disk_now}
-use Rattle.ckpt_copy.specs.Moments.{goes_none}
-use Rattle.ckpt_tables.specs.Shape.{page_count}
-use Rattle.duplex_pair.specs.Halves.{pick}
-use Rattle.mas_complex.specs.Crash.{setting_with}
-use Rattle.mas_complex.specs.Parts.{parts_of}
+use Rattle.mas_complex.proofs.Names.{◌∙◌, false, refl, ap, sym, arith, ∥∥₁_elim, disk_now, goes_none, page_count, pick, setting_with, pair_state, parts_of, KeepsCounts}
 use Rattle.mas_complex.proofs.OnDevice.{at_copy}
-use Rattle.mas_complex.proofs.Frames.{frame_copy, frame_lost}
+use Rattle.mas_complex.proofs.Frames.{frame_lost, frame_on}
 use Rattle.mas_complex.proofs.Apart.{on_none, on_one, on_then}
 use Rattle.mas_complex.proofs.Counted.{counts_none, counts_one, counts_then, counts_lost}
 use Rattle.mas_complex.proofs.Usable.{always_used, unused_reads, unused_there, used_lost, used_pages}
+use Rattle.mas_complex.proofs.complex.Complex.see_on.Given.{Over}
+use Rattle.mas_complex.proofs.complex.Complex.see_on.Goals.{In_ok-look}
 use Rattle.mas_complex.proofs.complex.Complex.see_on.Goals as goal
+
+looked : (g : Over) (c : In_ok-look g) → KeepsCounts c.args.by.0 false (pair_state g.P.Plant.view (parts_of c.args.self.now)) (pair_state g.P.Plant.view (parts_of c.look_on.new.self))
+looked g c =
+    let s = c.args.self.now in
+    let a = c.look_on.new.self in
+    counts_one c.args.by.0 s.pair a.pair (g.P.Plant.view s.plant) (g.P.Plant.view a.plant) false c.args.dev c.requires.ckpt c.look_on.ensures.other c.in_ok-look.ensures.acted
+
+pub returns-in-Pages-clause-counts : goal.returns-in-Pages-clause-counts
+returns-in-Pages-clause-counts g c = looked g (goal.at.returns-in-Pages-clause-counts g c).In_ok-look
+
+pub returns-in-Lost-clause-counts : goal.returns-in-Lost-clause-counts
+returns-in-Lost-clause-counts g c = looked g (goal.at.returns-in-Lost-clause-counts g c).In_ok-look
+
+pub returns-in_err-look-clause-counts : goal.returns-in_err-look-clause-counts
+returns-in_err-look-clause-counts g c = grind (arith, counts_one)
 
 -- A COPY THAT COUNTED AS LOST is passed over
 
 pub returns-then-not-alive-clause-frame : goal.returns-then-not-alive-clause-frame
 returns-then-not-alive-clause-frame g c =
     let s = c.args.self.now in
-    frame_copy (λ h. h.copy) (λ h. h.alive) (λ h. h.found) s.book s.base s.since s.journal.batches s.current s.reserved s.printed s.placed s.level s.renewals (values_of s.had) s.plant s.plant s.pair.first s.pair.second s.pair.first s.pair.second s.first s.second s.first s.second
-    c.args.dev c.requires.ckpt refl refl
+    frame_on s s.plant s.pair s.first s.second c.args.dev c.requires.ckpt refl refl
 
 pub returns-then-not-alive-clause-goes : goal.returns-then-not-alive-clause-goes
 returns-then-not-alive-clause-goes g c = goes_none (g.P.Plant.view c.args.self.now.plant)
@@ -28,7 +36,7 @@ returns-then-not-alive-clause-goes g c = goes_none (g.P.Plant.view c.args.self.n
 pub returns-then-not-alive-clause-counts : goal.returns-then-not-alive-clause-counts
 returns-then-not-alive-clause-counts g c =
     let s = c.args.self.now in
-    counts_none c.args.by.0 s.pair.first.alive s.pair.second.alive (g.P.Plant.view s.plant)
+    counts_none c.args.by.0 (pair_state g.P.Plant.view (parts_of s))
 
 pub returns-then-not-alive-clause-apart : goal.returns-then-not-alive-clause-apart
 returns-then-not-alive-clause-apart g c told = on_none (g.P.Plant.view c.args.self.now.plant)
@@ -105,9 +113,9 @@ returns-in-Unread-clause-counts g c =
     let dev = c.args.dev in
     let alive = (unused_there C.count C.room C.room_most C.ready C.reads C.rests P.tells dev (P.view a.plant) (pick dev s.pair.first s.pair.second).copy (pick dev a.pair.first a.pair.second).copy (pick dev a.pair.first a.pair.second).alive
     c.pages_of-count.result c.in_ok-look.look (sym c.usable.ensures.usable ∙ c.in-Unread.is) c.in_ok-look.ensures.seen).0 in
-    counts_then c.args.by.0 s.pair.first.alive a.pair.first.alive b.pair.first.alive s.pair.second.alive a.pair.second.alive b.pair.second.alive false (P.view s.plant) (P.view a.plant) (P.view b.plant)
-    (counts_one (λ h. h.alive) c.args.by.0 c.args.dev c.requires.ckpt s.pair.first s.pair.second a.pair.first a.pair.second false (P.view s.plant) (P.view a.plant) c.look_on.ensures.other c.in_ok-look.ensures.acted)
-    (counts_lost (λ h. h.alive) a.pair.first a.pair.second b.pair.first b.pair.second c.args.by.0 (P.view a.plant) (P.view b.plant) c.args.dev c.requires.ckpt alive c.lose_copy.ensures.dead c.lose_copy.ensures.other c.lose_copy.ensures.loses)
+    counts_then c.args.by.0 false (pair_state P.view (parts_of s)) (pair_state P.view (parts_of a)) (pair_state P.view (parts_of b))
+    (looked g (goal.at.returns-in-Unread-clause-counts g c).In_ok-look)
+    (counts_lost c.args.by.0 a.pair b.pair (P.view a.plant) (P.view b.plant) c.args.dev c.requires.ckpt alive c.lose_copy.ensures.dead c.lose_copy.ensures.other c.lose_copy.ensures.loses)
 
 pub returns-in-Unread-clause-apart : goal.returns-in-Unread-clause-apart
 returns-in-Unread-clause-apart g c told =

@@ -1,18 +1,10 @@
-use Rattle.std.proofs.Common.{◌≡◌, false, subst, sym}
-use Rattle.std.proofs.Math.Logic.{∥∥₁_map}
-use Rattle.lock_cycle.specs.Books.{Book, is_stopped}
-use Rattle.mas_complex.proofs.Papers.{book_on_paper}
-use Rattle.mas_complex.proofs.PaperBooks.{spent_up}
-use Rattle.mas_complex.proofs.Standing.{IsOwned, owned_spent}
+use Rattle.mas_complex.proofs.Names.{inr, refl}
+use Rattle.mas_complex.proofs.Standing.{spends}
+use Rattle.mas_complex.proofs.Values.{booked}
 use Rattle.mas_complex.proofs.complex.Complex.spend.Goals as goal
 
-pub invariant_of-self-clause-paper : goal.invariant_of-self-clause-paper
-invariant_of-self-clause-paper g c told sound =
+pub invariant_of-self : goal.invariant_of-self
+invariant_of-self g c =
     let s = c.args.self.now in
-    ∥∥₁_map (s.paper told sound) (λ on. book_on_paper s.base s.since s.journal.batches s.current s.printed s.book c.spend.new.self (g.P.Plant.view s.plant)
-    (λ m up. spent_up s.book c.args.by c.args.commands c.requires m (subst (λ (b : Book). is_stopped b m ≡ false) (c.spend.ensures) up)) on)
-
-pub invariant_of-self-clause-owned : goal.invariant_of-self-clause-owned
-invariant_of-self-clause-owned g c =
-    let s = c.args.self.now in
-    subst (IsOwned s.current) (sym c.spend.ensures) (owned_spent s.book c.args.by s.current c.requires s.owned c.args.commands)
+    let is = c.spend.new.self in
+    booked s is s.reserved (spends s.book c.args.by s.current c.requires s.owned is c.args.commands c.spend.ensures) (inr refl)
