@@ -1,9 +1,9 @@
 -- A text is gone only where it was when the run began.
-use Rattle.member_acts.proofs.Names.{is_some, ◌≡◌, ℕ, ◌<◌, ◌≤◌, ◌==◌, nat_le, not, ◌&&◌, ◌||◌, if◌then◌else◌, Bool, true, false, List, [], ◌∷◌, ◌++◌, map, length, Option, Some, None, All, refl, sym, ◌∙◌, ap, subst, arith, ◌+◌, list_any, find, option_map_or, Coded, Coded-set, coded_ℕ, coded_option, code_by, ∥∥₁_elim, nat_tests, All-nil, All-cons, All-weaker, All-push, All-map, All-head, All-tail, GroupNo, JobNo, MemberId, Job, Whole, Batch, Entry, Command, Reply, Queue, AreDistinct, IsConfig, jobs_most, is_kept, has_number, has_output, in_hardcopy, in_output, in_purge, is_current_on, is_in, is_member, job_at, knows_node, has_key, is_of, output_at, converted, ended, gathered, made_busy, ended_row, new_output, new_outputs, outputs_at_end, runs, OutNo, OutSpec, Output, in_flight, kept_all, run, AreGivenIn, any_none, find-All, test_cases, brings_job, gone_in, gone_since, gone_with, is_brought, brings_outputs, gone_output_in, gone_output_since}
+use Rattle.member_acts.proofs.Names.{Text, is_some, ◌<◌, ◌==◌, nat_le, not, ◌||◌, ◌++◌, map, refl, sym, ◌∙◌, ap, subst, arith, ◌≡◌, ℕ, ◌≤◌, ◌&&◌, if◌then◌else◌, Bool, true, false, List, [], ◌∷◌, length, Option, Some, None, All, ◌+◌, list_any, find, Job, AreDistinct, IsConfig, is_kept, job_at, output_at, has_number, has_output, in_hardcopy, in_output, in_purge, is_current_on, is_in, is_member, knows_node, has_key, is_of, Output, kept_all, in_flight, run, brings_job, gone_in, gone_with, is_brought, brings_outputs, gone_output_in, option_map_or, Coded, Coded-set, coded_ℕ, coded_option, code_by, ∥∥₁_elim, nat_tests, All-nil, All-cons, All-weaker, All-push, All-map, All-head, All-tail, GroupNo, JobNo, MemberId, Whole, Batch, Entry, Command, Reply, Queue, jobs_most, OutNo, OutSpec, AreGivenIn, any_none, find-All, test_cases, sound_none, converted, ended, gathered, made_busy, ended_row, new_output, new_outputs, outputs_at_end, runs, list_any-append}
 use Rattle.mas_types.specs.declared.jobs.JobFields.{JobFields}
 use Rattle.mas_types.specs.declared.commands.Refusal.{Refusal}
 use Rattle.mas_types.specs.Ids.{is_somebody, nobody, same_member, same_number}
-use Rattle.mas_types.specs.Lists.{change_first, first_some, without_first}
+use Rattle.mas_types.specs.Lists.{change_first, first_some}
 use Rattle.mas_types.specs.Number.{next_number}
 use Rattle.mas_types.specs.Reset.{reset_job}
 use Rattle.mas_types.specs.Row.{refused_where, none_such, wrong_phase}
@@ -14,45 +14,37 @@ use Rattle.mas_types.specs.Commands.Operator.{cancel_row, cancelled, is_busy, wi
 use Rattle.mas_types.specs.Commands.Printing.{outputs_over, output_removed}
 use Rattle.mas_types.specs.Sound.{IsSound}
 use Rattle.mas_types.specs.declared.jobs.Phase.TheVariants as phase
+use Rattle.mas_types.specs.declared.queues.Thing.{Thing}
+use Rattle.mas_types.specs.declared.queues.Thing.TheVariants as things
+use Rattle.std.specs.Option.{option_map}
+use Rattle.member_acts.specs.Brings.{gone_since, text_at}
 use Rattle.mas_types.specs.declared.commands.Command.TheVariants as command
 use Rattle.mas_types.specs.declared.commands.Refusal.TheVariants as refusal
 use Rattle.mas_types.specs.declared.commands.Reply.TheVariants as reply
 use Rattle.mas_complex.specs.Replies.{AreReplied, HaveReplies, after_batch}
 use Rattle.mas_complex.proofs.Replied.{replied_front}
 use Rattle.mas_complex.proofs.Papers.{given_kept_all}
-use Rattle.queue_laws.proofs.Configuration.{keeps_configuration}
 use Rattle.queue_laws.proofs.Done.{done-effect, done-refused, where_not}
-use Rattle.queue_laws.proofs.Freed.{AreDistinct-map}
 use Rattle.queue_laws.proofs.NewNumber.{next_number_free}
 use Rattle.queue_laws.proofs.Others.{found_itself, second_none}
-use Rattle.queue_laws.proofs.SoundBegin.{AreDistinct-push}
-use Rattle.queue_laws.proofs.SoundRemove.{All-without_first, AreDistinct-without_first}
-use Rattle.queue_laws.proofs.Soundness.{All-change, AreDistinct-change}
+use Rattle.queue_laws.proofs.SoundRemove.{All-without_first}
+use Rattle.queue_laws.proofs.Soundness.{All-change}
 use Rattle.queue_laws.specs.Marks.{FollowsAt, MayMake}
 use Rattle.queue_laws.specs.Runs.{IsGiven}
 use Rattle.queue_laws.proofs.MarksFollow.{marks_follow}
 use Rattle.queue_laws.proofs.RunLaws.{runs_keep_sound}
 use Rattle.queue_laws.proofs.SoundJobs.{in_phase_of}
-use Rattle.member_work.proofs.UnderWayLemmas.{sound_none}
 use Rattle.paper_laws.proofs.Bools.{find_passes}
 use Rattle.paper_laws.proofs.Runs.{all_given_after}
 
 -- BATCHES
-
-or_parts : (a b c : Bool) → (a || (b || c)) ≡ ((a || b) || c)
-or_parts true b c = refl
-or_parts false b c = refl
-
-any_append : (brings : Command → Reply → Bool) (es fs : List Entry) → is_brought brings (es ++ fs) ≡ (is_brought brings es || is_brought brings fs)
-any_append brings [] fs = refl
-any_append brings (e ∷ es) fs = ap (λ (b : Bool). brings e.command e.reply || b) (any_append brings es fs) ∙ or_parts (brings e.command e.reply) (is_brought brings es) (is_brought brings fs)
 
 -- a text is brought in the kept entries where it is by a kept batch
 brought_in : (brings : Command → Reply → Bool) (bs : List Batch) → list_any (λ b. is_kept b.fate && is_brought brings b.entries) bs ≡ is_brought brings (kept_all bs)
 brought_in brings [] = refl
 brought_in brings (b ∷ bs) =
     test_cases (is_kept b.fate) (list_any (λ b. is_kept b.fate && is_brought brings b.entries) (b ∷ bs) ≡ is_brought brings (kept_all (b ∷ bs)))
-    (λ e. rw e (ap (λ (x : Bool). is_brought brings b.entries || x) (brought_in brings bs) ∙ sym (any_append brings b.entries (kept_all bs))))
+    (λ e. rw e (ap (λ (x : Bool). is_brought brings b.entries || x) (brought_in brings bs) ∙ sym (list_any-append (λ (e : Entry). brings e.command e.reply) b.entries (kept_all bs))))
     (λ e. rw e (brought_in brings bs))
 
 pub since_when : (brings : Command → Reply → Bool) (gone : Option GroupNo) (bs slice : List Batch) (b : Bool) → slice ≡ bs → b ≡ list_any (λ b. is_kept b.fate && is_brought brings b.entries) slice → (if is_brought brings (kept_all bs) then None else gone) ≡ (if b then None else gone)
@@ -74,6 +66,29 @@ kept_have Q (b ∷ bs) are = by_fate (is_kept b.fate) (kept_have (after_batch Q 
   by_fate : (c : Bool) → HaveReplies (if c then run Q b.entries else Q) (kept_all bs) → HaveReplies Q ((if c then b.entries else []) ++ kept_all bs)
   by_fate true rest = replies_append Q b.entries (kept_all bs) are.0 rest
   by_fate false rest = rest
+
+abbrev coded_group : Coded GroupNo
+coded_group = code_by ℕ coded_ℕ (λ g. g.0) (λ n. record { 0 = n }) (λ _. refl)
+
+-- What each command keeps that brings no lines, and a command that brings them makes anew.
+module _ (brings : Command → Reply → Bool) (Fits : Option GroupNo → Queue → Type 0) (one : (g : Option GroupNo) (Q : Queue) (m : MemberId) (c : Command) → IsSound Q → Fits g Q → Fits (if brings c (step Q m c).1 then None else g) (step Q m c).0) where
+  run_fits : (g : Option GroupNo) (Q : Queue) (es : List Entry) → HaveReplies Q es → IsSound Q → All (IsGiven Q) es → Fits g Q → Fits (if is_brought brings es then None else g) (run Q es)
+  run_fits g Q [] have sound given fits = fits
+  run_fits g Q (e ∷ es) have sound given fits =
+      let R : Queue = (step Q e.by e.command).0 in
+      let b : Bool = brings e.command e.reply in
+      let here : Fits (if b then None else g) R = subst (λ (answer : Reply). Fits (if brings e.command answer then None else g) R) (sym have.0) (one g Q e.by e.command sound fits) in
+      let later : IsSound R = runs_keep_sound Q (e ∷ []) sound (All-cons (IsGiven Q) e [] (All-head (IsGiven Q) e es given) (All-nil (IsGiven Q))) in
+      either Fits b (is_brought brings es) g (run R es) (run_fits (if b then None else g) R es have.1 later (all_given_after Q (e ∷ []) es (All-tail (IsGiven Q) e es given)) here)
+
+  abbrev Gone : Option GroupNo → List Batch → Option GroupNo
+  Gone g bs = if is_brought brings (kept_all bs) then None else g
+
+  -- so it is at the queue after the kept batches
+  fits_since : (g : Option GroupNo) (Q : Queue) (bs : List Batch) (current : Option Batch) (x : Option GroupNo) → ∥ AreReplied Q (bs ++ in_flight current) ∥₁ → IsSound Q → ∥ AreGivenIn Q bs ∥₁ → Fits g Q → (Fits (Gone g bs) (run Q (kept_all bs)) → Gone g bs ≡ x) → Gone g bs ≡ x
+  fits_since g Q bs current x some sound given first is =
+      ∥∥₁_elim some (Coded-set (coded_option coded_group) _ _) (λ are. ∥∥₁_elim given (Coded-set (coded_option coded_group) _ _) (λ each.
+      is (run_fits g Q (kept_all bs) (kept_have Q bs (replied_front Q bs (in_flight current) are)) sound (given_kept_all Q bs each) first)))
 
 -- A JOB'S TEXT
 
@@ -118,28 +133,17 @@ module _ (n : JobNo) where
   abbrev Is : Option GroupNo → Job → Type 0
   Is g j = has_number n j ≡ true → gone_with j.text ≡ g
 
-  -- the jobs' numbers are different, and the text of each job of this number is gone with this group
-  record Are (g : Option GroupNo) (js : List Job) : Type 0 where
-    pub numbers : AreDistinct same js
-    pub texts : All (Is g) js
+  abbrev Are : Option GroupNo → List Job → Type 0
+  Are g js = All (Is g) js
 
   is_mild : (f : Job → Job) → IsMild f → (g : Option GroupNo) (j : Job) → Is g j → Is g (f j)
   is_mild f mild g j is at_n = ap gone_with (mild.text j) ∙ is (ap (λ (k : JobNo). same_number k n) (sym (mild.number j)) ∙ at_n)
 
   changed : (f : Job → Job) (p : Job → Bool) (g : Option GroupNo) (js : List Job) → IsMild f → Are g js → Are g (change_first p f js)
-  changed f p g js mild are = record {
-    numbers = AreDistinct-change p f same (λ x y. ap (λ (k : JobNo). same_number k y.number) (mild.number x)) (λ x y. ap (λ (k : JobNo). same_number x.number k) (mild.number y)) js are.numbers;
-    texts = All-change p f (Is g) js are.texts (λ j found is. is_mild f mild g j is);
-  }
+  changed f p g js mild are = All-change p f (Is g) js are (λ j found is. is_mild f mild g j is)
 
   mapped : (f : Job → Job) (g : Option GroupNo) (js : List Job) → IsMild f → Are g js → Are g (map f js)
-  mapped f g js mild are = record {
-    numbers = AreDistinct-map f same (λ x y apart. ap (λ (k : JobNo). same_number k (f y).number) (mild.number x) ∙ ap (λ (k : JobNo). same_number x.number k) (mild.number y) ∙ apart) js are.numbers;
-    texts = All-map (Is g) f js (All-weaker (Is g) (λ j. Is g (f j)) (is_mild f mild g) js are.texts);
-  }
-
-  without_one : (p : Job → Bool) (g : Option GroupNo) (js : List Job) → Are g js → Are g (without_first p js)
-  without_one p g js are = record { numbers = AreDistinct-without_first p same js are.numbers; texts = All-without_first p (Is g) js are.texts }
+  mapped f g js mild are = All-map (Is g) f js (All-weaker (Is g) (λ j. Is g (f j)) (is_mild f mild g) js are)
 
   -- BEGIN
 
@@ -147,12 +151,10 @@ module _ (n : JobNo) where
   apart_of j k apart here there = absurd (grind (arith, nat_tests))
 
   begun_at : (g : Option GroupNo) (js : List Job) (x : Job) → x.text ≡ Whole [] → list_any (λ j. same j x) js ≡ false → Are g js → Are (if has_number n x then None else g) (js ++ x ∷ [])
-  begun_at g js x blank new are = record {
-    numbers = AreDistinct-push same js x are.numbers new;
-    texts = test_cases (has_number n x) (All (Is (if has_number n x then None else g)) (js ++ x ∷ []))
-        (λ e. rw e (All-push (Is None) js x (All-weaker (λ j. same j x ≡ false) (Is None) (λ j apart at_n. absurd (apart_of j x apart e at_n)) js (any_none (λ j. same j x) js new)) (λ at_n. ap gone_with blank)))
-        (λ e. rw e (All-push (Is g) js x are.texts (λ at_n. absurd (cc))));
-  }
+  begun_at g js x blank new are =
+      test_cases (has_number n x) (Are (if has_number n x then None else g) (js ++ x ∷ []))
+      (λ e. rw e (All-push (Is None) js x (All-weaker (λ j. same j x ≡ false) (Is None) (λ j apart at_n. absurd (apart_of j x apart e at_n)) js (any_none (λ j. same j x) js new)) (λ at_n. ap gone_with blank)))
+      (λ e. rw e (All-push (Is g) js x are (λ at_n. absurd (cc))))
 
   -- ENTER
 
@@ -173,14 +175,12 @@ module _ (n : JobNo) where
       (All-weaker (λ x. same j x ≡ false) (Is None) (λ x apart at_n. absurd (clash k j x here e apart at_n)) js (any_none (same j) js distinct.0))))
       (λ e. rw e (All-cons (Is None) j (change_first (has_number k) f js) (λ at_n. absurd (other k j here e at_n)) (at_number f enters k here js distinct.1)))
 
-  entered_at : (f : Job → Job) → IsEntering f → (g : Option GroupNo) (k : JobNo) (js : List Job) → Are g js → Are (if same_number k n then None else g) (change_first (has_number k) f js)
-  entered_at f enters g k js are = record {
-    numbers = AreDistinct-change (has_number k) f same (λ x y. ap (λ (l : JobNo). same_number l y.number) (enters.number x)) (λ x y. ap (λ (l : JobNo). same_number x.number l) (enters.number y)) js are.numbers;
-    texts = test_cases (same_number k n) (All (Is (if same_number k n then None else g)) (change_first (has_number k) f js))
-        (λ e. rw e (at_number f enters k e js are.numbers))
-        (λ e. rw e (All-change (has_number k) f (Is g) js are.texts
-        (λ j found is at_n. absurd (another k j e (find-All (Is g) (has_number k) js j are.texts found).1 (ap (λ (l : JobNo). same_number l n) (sym (enters.number j)) ∙ at_n)))));
-  }
+  entered_at : (f : Job → Job) → IsEntering f → (g : Option GroupNo) (k : JobNo) (js : List Job) → AreDistinct same js → Are g js → Are (if same_number k n then None else g) (change_first (has_number k) f js)
+  entered_at f enters g k js distinct are =
+      test_cases (same_number k n) (Are (if same_number k n then None else g) (change_first (has_number k) f js))
+      (λ e. rw e (at_number f enters k e js distinct))
+      (λ e. rw e (All-change (has_number k) f (Is g) js are
+      (λ j found is at_n. absurd (another k j e (find-All (Is g) (has_number k) js j are found).1 (ap (λ (l : JobNo). same_number l n) (sym (enters.number j)) ∙ at_n)))))
 
   -- COMMANDS
 
@@ -193,30 +193,30 @@ module _ (n : JobNo) where
       few : (a b : ℕ) → nat_le a b ≡ false → a ≤ jobs_most → b < 99999
       few a b room most = grind (arith, nat_tests)
 
-  effect_are : (g : Option GroupNo) (Q : Queue) (m : MemberId) (c : Command) → IsConfig Q.config → first_some (row_of Q m c).refusals ≡ None → Are g Q.jobs
+  effect_are : (g : Option GroupNo) (Q : Queue) (m : MemberId) (c : Command) → IsSound Q → first_some (row_of Q m c).refusals ≡ None → Are g Q.jobs
       → Are (if brings_job n c (row_of Q m c).answer then None else g) (row_of Q m c).effect.jobs
-  effect_are g Q m (command.Begin fields) config none are = begun_row g Q m fields config none are
-  effect_are g Q m (command.Drop job) config none are = test_cases (job.0 == 0) (Are g (drop_row Q m job).effect.jobs) (λ e. rw e are) (λ e. rw e (without_one (has_number job) g Q.jobs are))
-  effect_are g Q m (command.Enter job text) config none are = entered_at (λ j. record j { text = Whole text; busy = nobody; phase = phase_entered Q.config.node j }) (record { number = λ j. refl; whole = λ j. refl }) g job Q.jobs are
-  effect_are g Q m command.TakeConvert config none are = changed (made_busy m) (is_for_convert Q) g Q.jobs (record { number = λ j. refl; text = λ j. refl }) are
-  effect_are g Q m (command.Converted job) config none are = changed converted (has_number job) g Q.jobs (record { number = λ j. refl; text = λ j. refl }) are
-  effect_are g Q m command.TakeExec config none are = changed (made_busy m) (is_for_execute Q m) g Q.jobs (record { number = λ j. refl; text = λ j. refl }) are
-  effect_are g Q m (command.Ended job specs) config none are = changed ended (has_number job) g Q.jobs (record { number = λ j. refl; text = λ j. refl }) are
-  effect_are g Q m command.Gather config none are = changed (gathered Q) (is_in in_output) g Q.jobs (record { number = λ j. refl; text = λ j. refl }) are
-  effect_are g Q m (command.Done job index) config none are = let R = output_removed job index Q in changed (outputs_over R) (has_number job) g Q.jobs (over_mild R) are
-  effect_are g Q m command.Purge config none are = without_one (is_in in_purge) g Q.jobs are
-  effect_are g Q m (command.Hold job) config none are = changed (with_held true) (has_number job) g Q.jobs (record { number = λ j. refl; text = λ j. refl }) are
-  effect_are g Q m (command.Release job) config none are = changed (with_held false) (has_number job) g Q.jobs (record { number = λ j. refl; text = λ j. refl }) are
-  effect_are g Q m (command.Cancel job) config none are =
+  effect_are g Q m (command.Begin fields) sound none are = begun_row g Q m fields sound.config none are
+  effect_are g Q m (command.Drop job) sound none are = test_cases (job.0 == 0) (Are g (drop_row Q m job).effect.jobs) (λ e. rw e are) (λ e. rw e (All-without_first (has_number job) (Is g) Q.jobs are))
+  effect_are g Q m (command.Enter job text) sound none are = entered_at (λ j. record j { text = Whole text; busy = nobody; phase = phase_entered Q.config.node j }) (record { number = λ j. refl; whole = λ j. refl }) g job Q.jobs sound.numbers are
+  effect_are g Q m command.TakeConvert sound none are = changed (made_busy m) (is_for_convert Q) g Q.jobs (record { number = λ j. refl; text = λ j. refl }) are
+  effect_are g Q m (command.Converted job) sound none are = changed converted (has_number job) g Q.jobs (record { number = λ j. refl; text = λ j. refl }) are
+  effect_are g Q m command.TakeExec sound none are = changed (made_busy m) (is_for_execute Q m) g Q.jobs (record { number = λ j. refl; text = λ j. refl }) are
+  effect_are g Q m (command.Ended job specs) sound none are = changed ended (has_number job) g Q.jobs (record { number = λ j. refl; text = λ j. refl }) are
+  effect_are g Q m command.Gather sound none are = changed (gathered Q) (is_in in_output) g Q.jobs (record { number = λ j. refl; text = λ j. refl }) are
+  effect_are g Q m (command.Done job index) sound none are = let R = output_removed job index Q in changed (outputs_over R) (has_number job) g Q.jobs (over_mild R) are
+  effect_are g Q m command.Purge sound none are = All-without_first (is_in in_purge) (Is g) Q.jobs are
+  effect_are g Q m (command.Hold job) sound none are = changed (with_held true) (has_number job) g Q.jobs (record { number = λ j. refl; text = λ j. refl }) are
+  effect_are g Q m (command.Release job) sound none are = changed (with_held false) (has_number job) g Q.jobs (record { number = λ j. refl; text = λ j. refl }) are
+  effect_are g Q m (command.Cancel job) sound none are =
       test_cases (is_busy (job_at Q job)) (Are g (cancel_row Q m job).effect.jobs) (λ e. rw e (changed cancelled (has_number job) g Q.jobs cancelled_mild are)) (λ e. rw e (changed cancelled (has_number job) g Q.jobs cancelled_mild are))
-  effect_are g Q m (command.SetPrio job prio) config none are = changed (with_prio prio) (has_number job) g Q.jobs (record { number = λ j. refl; text = λ j. refl }) are
-  effect_are g Q m (command.SetClass job class) config none are = changed (with_class class) (has_number job) g Q.jobs (record { number = λ j. refl; text = λ j. refl }) are
-  effect_are g Q m (command.CancelOut job index) config none are = let R = output_removed job index Q in changed (outputs_over R) (has_number job) g Q.jobs (over_mild R) are
-  effect_are g Q m (command.Reset of_member) config none are = let picks = λ (h : MemberId). same_member h of_member in mapped (λ j. if picks j.busy then reset_job j else j) g Q.jobs (reset_mild picks) are
-  effect_are g Q m command.Restart config none are = let picks = is_member Q.config in mapped (λ j. if picks j.busy then reset_job j else j) g Q.jobs (reset_mild picks) are
-  effect_are g Q m (command.Sent line number) config none are = changed (λ j. record j { phase = phase.Purge }) (is_current_on Q line) g Q.jobs (record { number = λ j. refl; text = λ j. refl }) are
-  effect_are g Q m (command.Got line number job text) config none are = entered_at (λ j. record j { text = Whole text; busy = nobody; phase = phase_entered Q.config.node j }) (record { number = λ j. refl; whole = λ j. refl }) g job Q.jobs are
-  effect_are g Q m _ config none are = are
+  effect_are g Q m (command.SetPrio job prio) sound none are = changed (with_prio prio) (has_number job) g Q.jobs (record { number = λ j. refl; text = λ j. refl }) are
+  effect_are g Q m (command.SetClass job class) sound none are = changed (with_class class) (has_number job) g Q.jobs (record { number = λ j. refl; text = λ j. refl }) are
+  effect_are g Q m (command.CancelOut job index) sound none are = let R = output_removed job index Q in changed (outputs_over R) (has_number job) g Q.jobs (over_mild R) are
+  effect_are g Q m (command.Reset of_member) sound none are = let picks = λ (h : MemberId). same_member h of_member in mapped (λ j. if picks j.busy then reset_job j else j) g Q.jobs (reset_mild picks) are
+  effect_are g Q m command.Restart sound none are = let picks = is_member Q.config in mapped (λ j. if picks j.busy then reset_job j else j) g Q.jobs (reset_mild picks) are
+  effect_are g Q m (command.Sent line number) sound none are = changed (λ j. record j { phase = phase.Purge }) (is_current_on Q line) g Q.jobs (record { number = λ j. refl; text = λ j. refl }) are
+  effect_are g Q m (command.Got line number job text) sound none are = entered_at (λ j. record j { text = Whole text; busy = nobody; phase = phase_entered Q.config.node j }) (record { number = λ j. refl; whole = λ j. refl }) g job Q.jobs sound.numbers are
+  effect_are g Q m _ sound none are = are
 
   -- a refused command brings no job
   refused_brings : (c : Command) (why : Refusal) → brings_job n c (reply.No why) ≡ false
@@ -226,47 +226,24 @@ module _ (n : JobNo) where
   abbrev After : Option GroupNo → Command → Queue × Reply → Type 0
   After g c left = Are (if brings_job n c left.1 then None else g) left.0.jobs
 
-  step_are : (g : Option GroupNo) (Q : Queue) (m : MemberId) (c : Command) → IsConfig Q.config → Are g Q.jobs → After g c (step Q m c)
-  step_are g Q m c config are = by_refusal (first_some (row_of Q m c).refusals) refl where
+  step_are : (g : Option GroupNo) (Q : Queue) (m : MemberId) (c : Command) → IsSound Q → Are g Q.jobs → After g c (step Q m c)
+  step_are g Q m c sound are = by_refusal (first_some (row_of Q m c).refusals) refl where
     by_refusal : (o : Option Refusal) → first_some (row_of Q m c).refusals ≡ o → After g c (step Q m c)
-    by_refusal None e = subst (After g c) (sym (done-effect Q (row_of Q m c) e)) (effect_are g Q m c config e are)
+    by_refusal None e = subst (After g c) (sym (done-effect Q (row_of Q m c) e)) (effect_are g Q m c sound e are)
     by_refusal (Some why) e = subst (After g c) (sym (done-refused Q (row_of Q m c) why e)) (subst (λ (b : Bool). Are (if b then None else g) Q.jobs) (sym (refused_brings c why)) are)
-
-  run_are : (g : Option GroupNo) (Q : Queue) (es : List Entry) → HaveReplies Q es → IsConfig Q.config → Are g Q.jobs → Are (if is_brought (brings_job n) es then None else g) (run Q es).jobs
-  run_are g Q [] have config are = are
-  run_are g Q (e ∷ es) have config are =
-      let R : Queue = (step Q e.by e.command).0 in
-      let b : Bool = brings_job n e.command e.reply in
-      let here : Are (if b then None else g) R.jobs = subst (λ (answer : Reply). Are (if brings_job n e.command answer then None else g) R.jobs) (sym have.0) (step_are g Q e.by e.command config are) in
-      either Are b (is_brought (brings_job n) es) g (run R es).jobs (run_are (if b then None else g) R es have.1 (subst IsConfig (sym (keeps_configuration Q e.by e.command).config) config) here)
 
   -- each job of that number in the queue with which the run began is the one that is found
   at_first : (Q : Queue) → AreDistinct same Q.jobs → Are (gone_in Q n) Q.jobs
-  at_first Q distinct = record {
-    numbers = distinct;
-    texts = All-weaker (λ j. find (has_number j.number) Q.jobs ≡ Some j) (Is (gone_in Q n)) (λ j found at_n. sym (ap (λ (o : Option Job). option_map_or (λ (k : Job). gone_with k.text) o None) (by_number j found at_n))) Q.jobs (found_itself Q.jobs distinct);
-  } where
-    numbered : (j : Job) → has_number n j ≡ true → n ≡ j.number
-    numbered j at_n = ap (λ (k : ℕ). record { 0 = k }) (equal j at_n) where
-      equal : (j : Job) → has_number n j ≡ true → n.0 ≡ j.number.0
-      equal j at_n = grind (arith, nat_tests)
+  at_first Q distinct = All-weaker (λ j. find (has_number j.number) Q.jobs ≡ Some j) (Is (gone_in Q n))
+      (λ j found at_n. sym (ap (λ (o : Option Job). option_map_or (λ (k : Job). gone_with k.text) o None) (by_number j found at_n))) Q.jobs (found_itself Q.jobs distinct)
+    where
+      numbered : (j : Job) → has_number n j ≡ true → n ≡ j.number
+      numbered j at_n = ap (λ (k : ℕ). record { 0 = k }) (equal j at_n) where
+        equal : (j : Job) → has_number n j ≡ true → n.0 ≡ j.number.0
+        equal j at_n = grind (arith, nat_tests)
 
-    by_number : (j : Job) → find (has_number j.number) Q.jobs ≡ Some j → has_number n j ≡ true → job_at Q n ≡ Some j
-    by_number j found at_n = subst (λ (k : JobNo). find (has_number k) Q.jobs ≡ Some j) (sym (numbered j at_n)) found
-
-  gone_as : (Q : Queue) (es : List Entry) → HaveReplies Q es → IsConfig Q.config → AreDistinct same Q.jobs → (j : Job) → job_at (run Q es) n ≡ Some j → gone_since Q es n ≡ gone_with j.text
-  gone_as Q es have config distinct j found =
-      let are = run_are (gone_in Q n) Q es have config (at_first Q distinct) in
-      let here = find-All (Is (gone_since Q es n)) (has_number n) (run Q es).jobs j are.texts found in
-      sym (here.0 here.1)
-
-abbrev pub coded_group : Coded GroupNo
-coded_group = code_by ℕ coded_ℕ (λ g. g.0) (λ n. record { 0 = n }) (λ _. refl)
-
-pub gone_deck_is : (n : JobNo) (Q : Queue) (bs : List Batch) (current : Option Batch) → ∥ AreReplied Q (bs ++ in_flight current) ∥₁ → IsConfig Q.config → AreDistinct (λ a b. same_number a.number b.number) Q.jobs
-    → (j : Job) → job_at (run Q (kept_all bs)) n ≡ Some j → gone_since Q (kept_all bs) n ≡ gone_with j.text
-gone_deck_is n Q bs current some config distinct j found =
-    ∥∥₁_elim some (Coded-set (coded_option coded_group) _ _) (λ are. gone_as n Q (kept_all bs) (kept_have Q bs (replied_front Q bs (in_flight current) are)) config distinct j found)
+      by_number : (j : Job) → find (has_number j.number) Q.jobs ≡ Some j → has_number n j ≡ true → job_at Q n ≡ Some j
+      by_number j found at_n = subst (λ (k : JobNo). find (has_number k) Q.jobs ≡ Some j) (sym (numbered j at_n)) found
 
 -- a text that was whole is so whatever was brought
 pub none_either : {A : Type 0} (b : Bool) (o : Option A) (none : Bool) → is_some o ≡ not none → none ≡ true → None ≡ (if b then None else o)
@@ -366,27 +343,24 @@ module _ (n : JobNo) (i : OutNo) where
       stays e None (Some o) a b was follows = absurd (came Q m c o a b follows.made e)
       stays e (Some x) (Some o) a b was follows = ap gone_with follows.text ∙ was
 
-  -- ALL
-
-  run_as : (g : Option GroupNo) (Q : Queue) (es : List Entry) → HaveReplies Q es → IsSound Q → All (IsGiven Q) es → IsAs g (output_at Q n i) → IsAs (if is_brought (brings_outputs n) es then None else g) (output_at (run Q es) n i)
-  run_as g Q [] have sound given was = was
-  run_as g Q (e ∷ es) have sound given was =
-      let R : Queue = (step Q e.by e.command).0 in
-      let b : Bool = brings_outputs n e.command e.reply in
-      let here : IsAs (if b then None else g) (output_at R n i) = subst (λ (answer : Reply). IsAs (if brings_outputs n e.command answer then None else g) (output_at R n i)) (sym have.0) (step_as g Q e.by e.command sound was) in
-      let later : IsSound R = runs_keep_sound Q (e ∷ []) sound (All-cons (IsGiven Q) e [] (All-head (IsGiven Q) e es given) (All-nil (IsGiven Q))) in
-      either IsAs b (is_brought (brings_outputs n) es) g (output_at (run R es) n i)
-      (run_as (if b then None else g) R es have.1 later (all_given_after Q (e ∷ []) es (All-tail (IsGiven Q) e es given)) here)
-
   output_first : (Q : Queue) → IsAs (gone_output_in Q n i) (output_at Q n i)
   output_first Q = by_found (output_at Q n i) where
     by_found : (o : Option Output) → IsAs (option_map_or (λ x. gone_with x.text) o None) o
     by_found None = tt
     by_found (Some o) = refl
 
-pub gone_output_is : (n : JobNo) (i : OutNo) (Q : Queue) (bs : List Batch) (current : Option Batch) → ∥ AreReplied Q (bs ++ in_flight current) ∥₁ → IsSound Q → ∥ AreGivenIn Q bs ∥₁
-    → (o : Output) → output_at (run Q (kept_all bs)) n i ≡ Some o → gone_output_since Q (kept_all bs) n i ≡ gone_with o.text
-gone_output_is n i Q bs current some sound given o found =
-    ∥∥₁_elim some (Coded-set (coded_option coded_group) _ _) (λ are. ∥∥₁_elim given (Coded-set (coded_option coded_group) _ _) (λ each.
-    sym (subst (IsAs n i (gone_output_since Q (kept_all bs) n i)) found
-    (run_as n i (gone_output_in Q n i) Q (kept_all bs) (kept_have Q bs (replied_front Q bs (in_flight current) are)) sound (given_kept_all Q bs each) (output_first n i Q)))))
+pub gone_is : (text : Thing) (Q : Queue) (bs : List Batch) (current : Option Batch) → ∥ AreReplied Q (bs ++ in_flight current) ∥₁ → IsSound Q → ∥ AreGivenIn Q bs ∥₁ → (t : Text) → text_at text (run Q (kept_all bs)) ≡ Some t → gone_since text Q (kept_all bs) ≡ gone_with t
+gone_is (things.Deck n) Q bs current some sound given t found = by_job (job_at (run Q (kept_all bs)) n) refl found where
+  by_job : (o : Option Job) → job_at (run Q (kept_all bs)) n ≡ o → option_map (λ j. j.text) o ≡ Some t → gone_since (things.Deck n) Q (kept_all bs) ≡ gone_with t
+  by_job None is found = absurd (cc)
+  by_job (Some j) is found =
+      let same : j.text ≡ t = cc in
+      fits_since (brings_job n) (λ g R. Are n g R.jobs) (step_are n) (gone_in Q n) Q bs current (gone_with t) some sound given (at_first n Q sound.numbers)
+      (λ are. let here = find-All (Is n (gone_since (things.Deck n) Q (kept_all bs))) (has_number n) (run Q (kept_all bs)).jobs j are is in sym (here.0 here.1) ∙ ap gone_with same)
+gone_is (things.Output n i) Q bs current some sound given t found = by_output (output_at (run Q (kept_all bs)) n i) refl found where
+  by_output : (o : Option Output) → output_at (run Q (kept_all bs)) n i ≡ o → option_map (λ o. o.text) o ≡ Some t → gone_since (things.Output n i) Q (kept_all bs) ≡ gone_with t
+  by_output None is found = absurd (cc)
+  by_output (Some o) is found =
+      let same : o.text ≡ t = cc in
+      fits_since (brings_outputs n) (λ g R. IsAs n i g (output_at R n i)) (step_as n i) (gone_output_in Q n i) Q bs current (gone_with t) some sound given (output_first n i Q)
+      (λ as_it. sym (subst (IsAs n i (gone_since (things.Output n i) Q (kept_all bs))) is as_it) ∙ ap gone_with same)

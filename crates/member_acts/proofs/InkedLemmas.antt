@@ -1,5 +1,11 @@
 -- Lines of an output that are printed one after another.
-use Rattle.member_acts.proofs.Names.{◌≡◌, ◌≢◌, ◌⊎◌, inl, inr, ◌∙◌, ℕ, zero, suc, ◌+◌, ◌-◌, ◌≤◌, ◌<◌, Bool, true, false, List, [], ◌∷◌, ◌++◌, length, map, take, append-nil, append_assoc, None, Some, Result, Ok, Err, slice_get, ap, refl, subst, sym, arith, get_or-set_other, JobNo, MemberId, OutNo, Act, Done, Failed, ActHalted as Halted, Ghosts as PlantGhosts, Prints, Line, View, paper_now, whole, book_by, counts_of, printed_by, reserved_by, Parts, NodeNo, NoMemory, Halted as HaltedNo, printed_in, HasInked, Inked, IsCountOf, IsInkedTo, inked_of, lines_from, lines_upto}
+use Rattle.member_acts.proofs.Names.{◌≡◌, ℕ, ◌+◌, ◌≤◌, Bool, true, false, List, [], ◌∷◌, length, None, Some, Ok, Result, take, ◌≢◌, ◌⊎◌, inl, inr, ◌∙◌, zero, suc, ◌-◌, ◌<◌, ◌++◌, map, append-nil, append_assoc, Err, slice_get, ap, refl, subst, sym, arith, counts_of, book_by, printed_by, reserved_by, lines_upto, HasInked, Inked, IsCountOf, IsInkedTo, inked_of, lines_from, get_or-set_other, JobNo, MemberId, OutNo, Act, Done, Failed, ActHalted as Halted, Ghosts as PlantGhosts, Prints, Line, View, paper_now, whole, Parts, NodeNo, NoMemory, Halted as HaltedNo, printed_in, Acts, Closing, IsBeside, OtherCountsStay, Printer, Read, SameDisks, SameWires, SparesBut, beside_none, beside_on, beside_print, failed_wider, goes_none, is_printer_lost, lines_lost, lines_printed, lines_read, none_lost, not, print_failed, printed_end, sparing_beside, sparing_done, sparing_halted, sparing_none, sparing_then, unprinted, wires_none, wires_then, Batch, Option, Queue, entries_in, kept_all, output_at, run}
+use Rattle.paper_laws.specs.Paper.{busy_in}
+use Rattle.paper_laws.specs.Next.{MayPrint}
+use Rattle.member_acts.specs.Prints.{HasPrinted, Upto, MayPrintTo}
+use Rattle.mas_types.specs.declared.answers.Closing.TheVariants as closing
+use Rattle.job_outcome.specs.declared.outcomes.Read.TheVariants as read
+use Rattle.member_work.specs.Inked.{IsInkedBy}
 use Rattle.mas_types.specs.Printed.{printed_line}
 use Rattle.member_steps.specs.Saying.{torn}
 use Rattle.member_steps.proofs.SayLemmas.{said_next}
@@ -34,7 +40,7 @@ all_from n i text mark last was is more most upto = by_gap (is - was) refl ∙ s
   by_gap zero none = omega (arith, none, more, upto)
   by_gap (suc gap) some = let few = most (omega (arith, some)) in omega (arith, some, more, few, upto)
 
-none_of : (lines : List (List ℕ)) → take 0 lines ≡ []
+pub none_of : (lines : List (List ℕ)) → take 0 lines ≡ []
 none_of [] = refl
 none_of (line ∷ lines) = refl
 
@@ -95,49 +101,24 @@ module _ {P C : Type 0} (plants : PlantGhosts P) (by : MemberId) (lines : List (
     stands : paper y ≡ paper x ++ inked_of far lines
     stands = so.is ∙ ap (λ (l : List Line). paper x ++ l) (sym (append-nil (map whole (take (count y - count x) lines))))
 
+    inked_by : (r : Result T NodeNo) → IsInkedBy lost r (length lines) far → IsCountOf r (count x + (count y - count x)) (count y) → HasInked plants lost by lines x y r
+    inked_by r by_answer counted = record { inked = far; paper = stands; others = so.others; by_answer = by_answer; counted = counted; other_counts = so.other_counts }
+
     -- all of them
     pub inked_all : (t : T) → lost t ≡ false → count y - count x ≡ length lines → HasInked plants lost by lines x y (Ok t)
-    inked_all t is all = record {
-      inked = far;
-      paper = stands;
-      others = so.others;
-      by_answer = subst (λ (b : Bool). IsInkedTo b (length lines) far) (sym is) (ap (λ (k : ℕ). record { lines = k; rest = None }) all);
-      counted = omega (arith, more);
-      other_counts = so.other_counts;
-    }
+    inked_all t is all = inked_by (Ok t) (subst (λ (b : Bool). IsInkedTo b (length lines) far) (sym is) (ap (λ (k : ℕ). record { lines = k; rest = None }) all)) (omega (arith, more))
 
     -- those before the one at which the printer failed
     pub inked_lost : (t : T) → lost t ≡ true → count y - count x < length lines → HasInked plants lost by lines x y (Ok t)
-    inked_lost t is less = record {
-      inked = far;
-      paper = stands;
-      others = so.others;
-      by_answer = subst (λ (b : Bool). IsInkedTo b (length lines) far) (sym is) (less, refl);
-      counted = omega (arith, more);
-      other_counts = so.other_counts;
-    }
+    inked_lost t is less = inked_by (Ok t) (subst (λ (b : Bool). IsInkedTo b (length lines) far) (sym is) (less, refl)) (omega (arith, more))
 
     -- memory wanted
     pub inked_wanting : count y - count x ≤ length lines → HasInked plants lost by lines x y (Err NoMemory)
-    inked_wanting few = record {
-      inked = far;
-      paper = stands;
-      others = so.others;
-      by_answer = (few, refl);
-      counted = omega (arith, more);
-      other_counts = so.other_counts;
-    }
+    inked_wanting few = inked_by (Err NoMemory) (few, refl) (omega (arith, more))
 
     -- the member was stopped before the next one
     pub inked_stopped : count y - count x ≤ length lines → HasInked plants lost by lines x y (Err HaltedNo)
-    inked_stopped few = record {
-      inked = far;
-      paper = stands;
-      others = so.others;
-      by_answer = (few, inl refl);
-      counted = (omega (arith, more), omega (arith, more));
-      other_counts = so.other_counts;
-    }
+    inked_stopped few = inked_by (Err HaltedNo) (few, inl refl) (omega (arith, more), omega (arith, more))
 
     -- at the next one, which stands there whole, torn, or not at all
     pub inked_halted : (z : Parts P C) (line : List ℕ) → z.printed ≡ y.printed → Prints by.0 line (v y) (v z) Halted → count y - count x < length lines → slice_get lines (count y - count x) ≡ Some line
@@ -184,3 +165,184 @@ pub one_behind : {P C : Type 0} (by : MemberId) (x y w : Parts P C) (r : Act) �
 one_behind {P} {C} by x y w r before same =
     same ∙ ap (λ (l : List ℕ). record w { plant = y.plant; printed = l; book = book_by by r w.book; reserved = reserved_by by r w.reserved }) (sym (ap (λ (p : Parts P C). p.printed) same))
     ∙ ap (λ (p : Parts P C). record p { plant = y.plant; printed = y.printed; book = book_by by r p.book; reserved = reserved_by by r p.reserved }) before
+
+-- THE NEXT LINE MAY BE PRINTED
+
+pub may_print : (base : Queue) (batches : List Batch) (current : Option Batch) (m : MemberId) (u : Upto) (printed before : ℕ) (lines : List (List ℕ)) (bytes : List ℕ) → MayPrintTo base batches current m u lines → u.output.mark + printed ≡ before → before < u.last
+    → bytes ≡ printed_line u.output.job u.output.index (before + 1) lines → MayPrint base (kept_all batches) (entries_in current) m printed bytes
+may_print base batches current m u printed before lines bytes may counted small is = record {
+  next = record {
+    output = may.output;
+    busy = may.busy;
+    lines = lines;
+    text = may.text;
+    is = is ∙ ap (λ (k : ℕ). printed_line u.output.job u.output.index (k + 1) lines) (sym counted ∙ ap (λ (k : ℕ). k + printed) (sym may.mark_is)) ∙ ap (λ (k : JobNo). printed_line k u.output.index (may.output.mark + printed + 1) lines) (sym may.job)
+        ∙ ap (λ (k : OutNo). printed_line may.output.job k (may.output.mark + printed + 1) lines) (sym may.index);
+    below = let same = may.mark_is in let upto = may.upto in omega (arith, same, upto, counted, small);
+    limit = let same = may.mark_is in let limit = may.limit in omega (arith, same, limit, counted, small);
+  };
+  still = subst (λ (k : JobNo). busy_in (output_at (run base (kept_all batches ++ entries_in current)) k may.output.index) m ≡ true) (sym may.job)
+      (subst (λ (k : OutNo). busy_in (output_at (run base (kept_all batches ++ entries_in current)) u.output.job k) m ≡ true) (sym may.index) may.still);
+}
+
+-- THE LINES OF A TEXT up to the last one, except those that were counted before
+
+module _ {P C : Type 0} (plants : PlantGhosts P) (by : MemberId) (u : Upto) (text : List (List ℕ)) (x : Parts P C) where
+  abbrev seen : Parts P C → View
+  seen y = plants.view y.plant
+
+  abbrev pub its : List (List ℕ)
+  its = lines_upto u.output.job u.output.index (u.output.mark + counts_of x.printed by) u.last text
+
+  -- so far they are printed
+  pub record HaveLines (before : ℕ) (y : Parts P C) : Type 0 where
+    pub frame : y ≡ printed_in y x
+    pub acts : IsBeside plants.tells (plants.view x.plant) (plants.view y.plant)
+    pub spares : SparesBut by.0 false none_lost (plants.view x.plant) (plants.view y.plant)
+    pub upto : before ≤ u.output.mark + counts_of y.printed by
+    pub more : counts_of x.printed by ≤ counts_of y.printed by
+    pub most : counts_of x.printed by < counts_of y.printed by → u.output.mark + counts_of y.printed by ≤ u.last
+    pub so : plants.tells → HavePrinted plants by its x y
+    pub disks : SameDisks plants.tells (plants.view x.plant) (plants.view y.plant)
+    pub counts : OtherCountsStay by x.printed y.printed
+    pub wires : plants.tells → SameWires (plants.view x.plant) (plants.view y.plant)
+    pub next : before < u.last → u.output.mark + counts_of y.printed by ≡ before
+
+  pub lines_none : (first : ℕ) → first ≤ u.output.mark + counts_of x.printed by → (first < u.last → u.output.mark + counts_of x.printed by ≡ first) → HaveLines first x
+  lines_none first upto next = record {
+    frame = refl;
+    acts = beside_none plants.tells (seen x);
+    spares = sparing_none by.0 (seen x);
+    upto = upto;
+    more = omega arith;
+    most = λ less. omega (arith, less);
+    so = λ told. printed_none plants by its x;
+    disks = λ told d. refl;
+    counts = λ m other. refl;
+    wires = λ told. wires_none (seen x);
+    next = next;
+  }
+
+  -- THE NEXT ONE
+
+  module _ (before : ℕ) (y : Parts P C) (have : HaveLines before y) where
+    -- none was printed for want of memory
+    pub lines_wanting : before < u.last → HasPrinted plants x y by u (read.Lines text) (Err NoMemory)
+    lines_wanting small = record {
+      acts = have.acts;
+      disks = have.disks;
+      inks = λ told. let less = next_less u.output.job u.output.index text u.output.mark u.last (counts_of x.printed by) (counts_of y.printed by) before have.more (have.next small) small in inked_wanting plants by its is_printer_lost x y (have.so told) have.more (omega (arith, less));
+      printed = tt;
+      counted = tt;
+      cause = have.spares;
+      other_counts = have.counts;
+      wires = have.wires;
+      lines = λ n. refl;
+    }
+
+    -- all are printed
+    pub lines_done : u.last ≤ before → HasPrinted plants x y by u (read.Lines text) (Ok None)
+    lines_done end = record {
+      acts = have.acts;
+      disks = have.disks;
+      inks = λ told. inked_all plants by its is_printer_lost x y (have.so told) have.more None refl
+          (all_from u.output.job u.output.index text u.output.mark u.last (counts_of x.printed by) (counts_of y.printed by) have.more have.most (omega (arith, end, have.upto)));
+      printed = lines_printed by text (seen x) (seen y);
+      counted = λ is. omega (arith, end, have.upto);
+      cause = have.spares;
+      other_counts = have.counts;
+      wires = have.wires;
+      lines = tt;
+    }
+
+    module _ (small : before < u.last) (z : Parts P C) (line : List ℕ) (it : line ≡ printed_line u.output.job u.output.index (before + 1) text) where
+      less : counts_of y.printed by - counts_of x.printed by < length its
+      less = next_less u.output.job u.output.index text u.output.mark u.last (counts_of x.printed by) (counts_of y.printed by) before have.more (have.next small) small
+
+      here : slice_get its (counts_of y.printed by - counts_of x.printed by) ≡ Some line
+      here = next_line u.output.job u.output.index text u.output.mark u.last (counts_of x.printed by) (counts_of y.printed by) before have.more (have.next small) small line it
+
+      -- what a call of the printer leaves
+      abbrev pub Leaves : Act → Type 0
+      Leaves r = z ≡ record y { plant = z.plant; printed = printed_by by r y.printed; book = book_by by r y.book; reserved = reserved_by by r y.reserved }
+
+      module _ (r : Act) (frame : Leaves r) (acts : Acts by.0 (Printer by) (seen y) (seen z) r) (content : plants.tells → Prints by.0 line (seen y) (seen z) r) where
+        beside : IsBeside plants.tells (seen x) (seen z)
+        beside = beside_on plants.tells (seen x) (seen y) (seen z) have.acts (beside_print plants.tells by line (seen y) (seen z) r acts content)
+
+        quiet : SameDisks plants.tells (seen x) (seen z)
+        quiet told d = (content told).disks d ∙ have.disks told d
+
+        still : plants.tells → SameWires (seen x) (seen z)
+        still told = wires_then (seen x) (seen y) (seen z) (have.wires told) (content told).wires
+
+        counts_are : z.printed ≡ printed_by by r y.printed
+        counts_are = ap (λ (p : Parts P C). p.printed) frame
+
+      pub lines_more : Leaves Done → Acts by.0 (Printer by) (seen y) (seen z) Done → (plants.tells → Prints by.0 line (seen y) (seen z) Done) → counts_of z.printed by ≡ counts_of y.printed by + 1 → HaveLines (before + 1) z
+      lines_more frame acts content one =
+          let same = have.next small in
+          let counts = counts_are Done frame acts content in
+          record {
+            frame = one_behind by x z y Done have.frame frame;
+            acts = beside Done frame acts content;
+            spares = sparing_then by.0 false none_lost (seen x) (seen y) (seen z) have.spares (sparing_done by.0 (Printer by) (seen y) (seen z) acts);
+            upto = omega (arith, same, one);
+            more = omega (arith, have.more, one);
+            most = λ less. omega (arith, same, one, small);
+            so = λ told. printed_one plants by its x y z line (have.so told) have.more one counts (content told) less here;
+            disks = quiet Done frame acts content;
+            counts = λ m other. ap (λ (l : List ℕ). counts_of l m) counts ∙ get_or-set_other y.printed by.0 m.0 (counts_of y.printed by + 1) 0 other ∙ have.counts m other;
+            wires = still Done frame acts content;
+            next = λ less. omega (arith, same, one);
+          }
+
+      -- the printer failed at it
+      pub lines_failed : Leaves Failed → Acts by.0 (Printer by) (seen y) (seen z) Failed → (plants.tells → Prints by.0 line (seen y) (seen z) Failed) → HasPrinted plants x z by u (read.Lines text) (Ok (Some closing.PrinterLost))
+      lines_failed frame acts content =
+          let counts = counts_are Failed frame acts content in
+          let as_many : counts_of z.printed by ≡ counts_of y.printed by = ap (λ (l : List ℕ). counts_of l by) counts in
+          record {
+            acts = beside Failed frame acts content;
+            disks = quiet Failed frame acts content;
+            inks = λ told. inked_lost plants by its is_printer_lost x z (printed_failed plants by its x y z line (have.so told) counts (content told)) (omega (arith, have.more, as_many)) (Some closing.PrinterLost) refl (omega (arith, less, as_many));
+            printed = lines_lost by text (seen x) (seen z) (failed_wider by (seen x) (seen y) (seen z) (seen z) have.acts.goes (goes_none (seen z)) (print_failed by (seen y) (seen z) Failed refl acts));
+            counted = λ is. absurd (cc);
+            cause = sparing_then by.0 false none_lost (seen x) (seen y) (seen z) have.spares (sparing_beside by.0 (Printer by) (seen y) (seen z) (λ n same. absurd (cc)) acts);
+            other_counts = λ m other. ap (λ (l : List ℕ). counts_of l m) counts ∙ have.counts m other;
+            wires = still Failed frame acts content;
+            lines = tt;
+          }
+
+      -- the member was stopped at it
+      pub lines_halted : Leaves Halted → Acts by.0 (Printer by) (seen y) (seen z) Halted → (plants.tells → Prints by.0 line (seen y) (seen z) Halted) → HasPrinted plants x z by u (read.Lines text) (Err HaltedNo)
+      lines_halted frame acts content =
+          let counts = counts_are Halted frame acts content in
+          record {
+            acts = beside Halted frame acts content;
+            disks = quiet Halted frame acts content;
+            inks = λ told. inked_halted plants by its is_printer_lost x y (have.so told) have.more z line counts (content told) less here;
+            printed = tt;
+            counted = tt;
+            cause = (sparing_then by.0 true none_lost (seen x) (seen y) (seen z) have.spares (sparing_halted by.0 (Printer by) (seen y) (seen z) acts), let rose = acts.halted refl in let sooner = have.acts.goes.stops by.0 in omega (arith, rose, sooner));
+            other_counts = λ m other. ap (λ (l : List ℕ). counts_of l m) counts ∙ have.counts m other;
+            wires = still Halted frame acts content;
+            lines = λ n. refl;
+          }
+
+-- no lines were read
+pub lines_unread : {P C : Type 0} (plants : PlantGhosts P) (by : MemberId) (u : Upto) (x : Parts P C) (a : Read) (end : Closing) → Some end ≡ printed_end false a → is_printer_lost (Some end) ≡ false → lines_read u.output.job u.output.index (u.output.mark + counts_of x.printed by) u.last a ≡ []
+    → HasPrinted plants x x by u a (Ok (Some end))
+lines_unread plants by u x a end is not none =
+    let v = plants.view x.plant in
+    record {
+      acts = beside_none plants.tells v;
+      disks = λ told d. refl;
+      inks = λ told. subst (λ (ls : List (List ℕ)). HasInked plants is_printer_lost by ls x x (Ok (Some end))) (sym none) (inked_all plants by [] is_printer_lost x x (printed_none plants by [] x) (omega arith) (Some end) not (omega arith));
+      printed = unprinted by a v end is;
+      counted = λ is. absurd (cc);
+      cause = sparing_none by.0 v;
+      other_counts = λ m other. refl;
+      wires = λ told. wires_none v;
+      lines = tt;
+    }

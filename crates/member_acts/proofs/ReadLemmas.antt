@@ -1,5 +1,6 @@
 -- Reading the groups of a text.
-use Rattle.member_acts.proofs.Names.{◌≡◌, ◌&&◌, ℕ, zero, suc, ◌+◌, ◌*◌, ◌%◌, ◌≤◌, ◌<◌, nat_le, Bool, true, false, List, [], ◌∷◌, ◌++◌, length, Option, Some, None, All, unwrap_or, refl, sym, ap, subst, ◌∙◌, append_assoc, arith, Result, Ok, Err, option_or, nat_tests, append-nil, All-nil, All-cons, All-append, All-weaker, Spool, GroupNo, Text, Whole, Gone, Config, is_text_line, line_bytes, page_bytes, line_count, Act, Done, Failed, Disk as DiskPart, View, disk_now, slice, Acts, Goes, ReadBy, Reads, page_of, start_of, volume_of, AreRoomy, IsGroupOf, ReadsGroup, device_of, is_within, page_part, page_start, Spools, bytes_on, lost_now, spools_at, IsThereUnless, AreQuiet, OnVolumes, NodeNo, SpoolStops, none_lost, SparesBut, sparing_then, acts_on, lies_alone, quiet_on, still_roomy, there_by, Read, as_it_is, AddsGroup, AreRecords, IsReadOf, OnlyReads, HasFailed}
+use Rattle.member_acts.proofs.Names.{Ghosts as PlantGhosts, ◌≡◌, ℕ, ◌+◌, ◌≤◌, Bool, true, false, List, [], ◌∷◌, length, Option, Some, None, All, Ok, Result, zero, suc, ◌*◌, ◌%◌, ◌<◌, nat_le, ◌++◌, unwrap_or, refl, sym, ap, subst, ◌∙◌, append_assoc, arith, Err, append-nil, Spool, Text, page_bytes, line_bytes, line_count, Disk as DiskPart, page_of, volume_of, AreRoomy, start_of, IsGroupOf, ReadsGroup, device_of, is_within, page_part, page_start, bytes_on, lost_now, spools_at, IsThereUnless, Spools, AreQuiet, SpoolStops, as_it_is, IsReadOf, HasFailed, option_or, nat_tests, All-nil, All-cons, All-append, All-weaker, GroupNo, Whole, Gone, Config, Act, Done, Failed, View, disk_now, slice, Acts, Goes, ReadBy, Reads, NodeNo, none_lost, SparesBut, sparing_then, acts_on, lies_alone, quiet_on, still_roomy, there_by, Read, both_second, is_text_line, IsFailedRead, MemberId, Parts, act_on, mod_below}
+use Rattle.member_acts.specs.Reads.{HasReadOn, IsPageOf, so_far, AreRecords, AddsGroup}
 use Rattle.mas_types.specs.declared.ids.Page.{Page}
 use Rattle.mas_types.specs.Records.{HoldsNoRecords, is_record, records_in}
 use Rattle.spool_text.specs.Laws.{ReadsWhatIsHeld}
@@ -21,14 +22,9 @@ some_groups volumes (suc groups) n lt = omega arith
 within : (v : View) (config : Config) (g : GroupNo) → IsGroupOf config g → AreRoomy v config → v.lost (DiskPart (device_of config.groups g)) ≡ false → is_within v config.groups g ≡ true
 within v config g is roomy there =
     let some : 1 ≤ config.groups = some_groups config.volumes config.groups g.0 is in
-    let few = few_quotient g.0 config.volumes config.groups some is in
-    let size = roomy (volume_of config.groups g) (omega arith) few there in
-    let below : g.0 % config.groups < config.groups = mod_below g.0 config.groups some in
-    fits (g.0 % config.groups) config.groups (v.size (device_of config.groups g)) below size
+    let size = roomy (volume_of config.groups g) (omega arith) (few_quotient g.0 config.volumes config.groups some is) there in
+    fits (g.0 % config.groups) config.groups (v.size (device_of config.groups g)) (mod_below g.0 config.groups (omega (arith, some))) size
   where
-    mod_below : (n m : ℕ) → 1 ≤ m → n % m < m
-    mod_below n m some = omega (arith, some)
-
     fits : (r per size : ℕ) → r < per → page_bytes * per ≤ size → nat_le (page_bytes * r + page_bytes) size ≡ true
     fits r per size below le = grind (arith, nat_tests, below, le)
 
@@ -49,8 +45,16 @@ quiet_read v at old new into r reads n =
     let quiet = each_quiet v old new (read_quiet at into (disk_now old (Spool v)) (disk_now new (Spool v)) r reads.disk) reads.only n in
     record { bytes = quiet.bytes; synced = quiet.unsynced }
 
-pub quiet_group : (per : ℕ) (g : GroupNo) (v w : View) (page : Page) (r : Act) → ReadsGroup per g v w page r → AreQuiet (spools_at v v.now) (spools_at w w.now)
+quiet_group : (per : ℕ) (g : GroupNo) (v w : View) (page : Page) (r : Act) → ReadsGroup per g v w page r → AreQuiet (spools_at v v.now) (spools_at w w.now)
 quiet_group per g v w page r reads = quiet_read (volume_of per g) (page_start (is_within v per g) (start_of per g)) v w (page_part (is_within v per g) page.0) r reads
+
+-- a group is read alone, whatever comes of it
+pub group_read : {P C : Type 0} (plants : PlantGhosts P) (x y : Parts P C) (by : MemberId) (g : GroupNo) (page : Page) (r : Act) → Acts by.0 (DiskPart (device_of x.base.config.groups g)) (plants.view x.plant) (plants.view y.plant) r
+    → (plants.tells → ReadsGroup x.base.config.groups g (plants.view x.plant) (plants.view y.plant) page r) → HasReadOn plants x y by
+group_read plants x y by g page r acts reads = record {
+  acts = act_on plants.tells by.0 (volume_of x.base.config.groups g) (plants.view x.plant) (plants.view y.plant) r acts (λ t. (reads t).only);
+  reads = λ t. quiet_group x.base.config.groups g (plants.view x.plant) (plants.view y.plant) page r (reads t);
+}
 
 pub failed_read : (by per volume : ℕ) (g : GroupNo) (v w : View) → volume ≡ volume_of per g → Acts by (DiskPart (device_of per g)) v w Failed → HasFailed per (g ∷ []) volume v w
 failed_read by per volume g v w is acts = subst (λ (n : ℕ). HasFailed per (g ∷ []) n v w) (sym is) (record { there = lies_alone per g; lost = acts.is_lost refl; rose = acts.failed refl })
@@ -60,14 +64,10 @@ failed_read by per volume g v w is acts = subst (λ (n : ℕ). HasFailed per (g 
 record_short : (line : List ℕ) → is_record line ≡ true → length line ≤ line_bytes
 record_short line is = grind (arith, nat_tests)
 
-record_text : (a b : Bool) → (a && b) ≡ true → b ≡ true
-record_text true b e = e
-record_text false b e = absurd (cc)
-
 pub records_fit : (lines : List (List ℕ)) → All (λ line. is_record line ≡ true) lines → AreRecords lines
 records_fit lines each = record {
   short = All-weaker (λ line. is_record line ≡ true) (λ line. length line ≤ line_bytes) record_short lines each;
-  text = All-weaker (λ line. is_record line ≡ true) (λ line. is_text_line line ≡ true) (λ line is. record_text (nat_le (length line) line_bytes) (is_text_line line) is) lines each;
+  text = All-weaker (λ line. is_record line ≡ true) (λ line. is_text_line line ≡ true) (λ line is. both_second (nat_le (length line) line_bytes) (is_text_line line) is) lines each;
 }
 
 pub none_fit : AreRecords []
@@ -85,32 +85,34 @@ no_records law page none = by_records (records_in page) refl where
   by_records None is = is
   by_records (Some lines) is = absurd (none lines ((law page lines).0 is))
 
--- the lines of a group that was read are added
-pub adds_lines : (told : Type 0) (config : Config) (g : GroupNo) (v : View) (page : List ℕ) (was is : List (List ℕ)) (gone : Option GroupNo) → ReadsWhatIsHeld → v.lost (DiskPart (Spool (volume_of config.groups g))) ≡ false
-    → (told → AreRoomy v config → page_of (bytes_on (spools_at v v.now)) config.groups g ≡ Some page) → AddsRecords page was is → AddsGroup told config g v was is gone gone
-adds_lines told config g v page was is gone law there read adds = record {
-  records = Some adds.lines;
-  added = adds.is;
-  fits = records_fit adds.lines adds.holds.each;
-  gone_is = or_none gone;
-  there = there;
-  are_held = λ t roomy. ap held (read t roomy) ∙ (law page adds.lines).1 adds.holds;
-} where
-  or_none : (o : Option GroupNo) → o ≡ option_or o None
-  or_none None = refl
-  or_none (Some h) = refl
+module _ {P C : Type 0} (plants : PlantGhosts P) (x : Parts P C) (g : GroupNo) (page : List ℕ) (was is : List (List ℕ)) (law : ReadsWhatIsHeld) (read : IsPageOf plants x g page) where
+  abbrev pub Added : Option GroupNo → Option GroupNo → Type 0
+  Added gone is_gone = AddsGroup plants.tells x.base.config g (plants.view x.plant) (so_far was gone) (so_far is is_gone)
 
--- a group that holds no records adds none, and the text is gone with it
-pub adds_none : (told : Type 0) (config : Config) (g : GroupNo) (v : View) (page : List ℕ) (was is : List (List ℕ)) (gone_before is_gone : Option GroupNo) → ReadsWhatIsHeld → v.lost (DiskPart (Spool (volume_of config.groups g))) ≡ false
-    → (told → AreRoomy v config → page_of (bytes_on (spools_at v v.now)) config.groups g ≡ Some page) → HoldsNoRecords page → is ≡ was → is_gone ≡ option_or gone_before (Some g) → AddsGroup told config g v was is gone_before is_gone
-adds_none told config g v page was is gone_before is_gone law there read none same gone_is = record {
-  records = None;
-  added = same ∙ sym (append-nil was);
-  fits = none_fit;
-  gone_is = gone_is;
-  there = there;
-  are_held = λ t roomy. ap held (read t roomy) ∙ no_records law page none;
-}
+  -- the lines of a group that was read are added
+  pub adds_lines : (gone : Option GroupNo) → AddsRecords page was is → Added gone gone
+  adds_lines gone adds = record {
+    records = Some adds.lines;
+    added = adds.is;
+    fits = records_fit adds.lines adds.holds.each;
+    gone_is = or_none gone;
+    there = read.there;
+    are_held = λ t roomy. ap held (read.page t roomy) ∙ (law page adds.lines).1 adds.holds;
+  } where
+    or_none : (o : Option GroupNo) → o ≡ option_or o None
+    or_none None = refl
+    or_none (Some h) = refl
+
+  -- a group that holds no records adds none, and the text is gone with it
+  pub adds_none : (gone is_gone : Option GroupNo) → HoldsNoRecords page → is ≡ was → is_gone ≡ option_or gone (Some g) → Added gone is_gone
+  adds_none gone is_gone none same gone_is = record {
+    records = None;
+    added = same ∙ sym (append-nil was);
+    fits = none_fit;
+    gone_is = gone_is;
+    there = read.there;
+    are_held = λ t roomy. ap held (read.page t roomy) ∙ no_records law page none;
+  }
 
 -- GROUP BY GROUP
 
@@ -131,60 +133,71 @@ same_records per g old new quiet = ap (λ (bytes : List ℕ). held (Some (slice 
 there_before : (v : ℕ) (old mid : View) → Goes old mid → mid.lost (DiskPart (Spool v)) ≡ false → old.lost (DiskPart (Spool v)) ≡ false
 there_before v old mid goes e = there_by (old.lost (DiskPart (Spool v))) (λ lost. absurd (let gone = goes.lost (DiskPart (Spool v)) lost in cc))
 
--- the groups so far were read: none of them lies on a lost volume, and where content is told these are their records
-pub record HaveRead (told : Type 0) (by : ℕ) (config : Config) (old now : View) (groups : List GroupNo) (lines : List (List ℕ)) (gone : Option GroupNo) : Type 0 where
-  pub acts : OnVolumes told by old now
-  pub spares : SparesBut by false none_lost old now
-  pub reads : OnlyReads told old now
-  pub fits : AreRecords lines
-  pub there : All (λ g. lost_now old (volume_of config.groups g) ≡ false) groups
-  pub lines_are : told → AreRoomy old config → lines ≡ all_records (records_on (bytes_on (spools_at old old.now)) config.groups) groups
-  pub gone_is : told → AreRoomy old config → gone ≡ first_gone (records_on (bytes_on (spools_at old old.now)) config.groups) groups
-
-pub read_more : (told : Type 0) (by : ℕ) (config : Config) (old mid new : View) (groups : List GroupNo) (g : GroupNo) (before lines : List (List ℕ)) (gone_before is_gone : Option GroupNo)
-    → HaveRead told by config old mid groups before gone_before → OnVolumes told by mid new → SparesBut by false none_lost mid new → OnlyReads told mid new → AddsGroup told config g mid before lines gone_before is_gone
-    → HaveRead told by config old new (groups ++ g ∷ []) lines is_gone
-read_more told by config old mid new groups g before lines gone_before is_gone have acts spares reads adds =
-    let P = λ (h : GroupNo). lost_now old (volume_of config.groups h) ≡ false in
-    let R = records_on (bytes_on (spools_at old old.now)) config.groups in
-    let here : told → AreRoomy old config → R g ≡ adds.records
-    = λ t roomy. sym (same_records config.groups g (spools_at old old.now) (spools_at mid mid.now) (have.reads t)) ∙ adds.are_held t (still_roomy config old mid have.acts.goes roomy) in
-    record {
-      acts = acts_on told by old mid new have.acts acts;
-      spares = sparing_then by false none_lost old mid new have.spares spares;
-      reads = λ t. quiet_on (spools_at old old.now) (spools_at mid mid.now) (spools_at new new.now) (have.reads t) (reads t);
-      fits = subst AreRecords (sym adds.added) (both_fit before (unwrap_or adds.records []) have.fits adds.fits);
-      there = All-append P groups (g ∷ []) have.there (All-cons P g [] (there_before (volume_of config.groups g) old mid have.acts.goes adds.there) (All-nil P));
-      lines_are = λ t roomy. adds.added ∙ ap (λ (l : List (List ℕ)). l ++ unwrap_or adds.records []) (have.lines_are t roomy)
-          ∙ ap (λ (r : Option (List (List ℕ))). all_records R groups ++ unwrap_or r []) (sym (here t roomy)) ∙ sym (all_push R groups g);
-      gone_is = λ t roomy. adds.gone_is ∙ ap (λ (o : Option GroupNo). option_or o (gone_or g adds.records None)) (have.gone_is t roomy)
-          ∙ ap (λ (r : Option (List (List ℕ))). option_or (first_gone R groups) (gone_or g r None)) (sym (here t roomy)) ∙ sym (gone_push R groups g);
-    }
-
--- WHAT WAS READ
+never : (text : Text) (volume : ℕ) → read.Lost volume ≡ as_it_is text → ⊥
+never (Whole lines) volume e = cc
+never (Gone group count) volume e = cc
 
 is_read : (per : ℕ) (text : Text) (groups : List GroupNo) (o : Read) (old new : View) → o ≡ as_it_is text → IsReadOf per text groups o old new
 is_read per text groups (read.Lines lines) old new e = e
 is_read per text groups (read.Gone group) old new e = e
-is_read per text groups (read.Lost volume) old new e = absurd (never text e) where
-  never : (text : Text) → read.Lost volume ≡ as_it_is text → ⊥
-  never (Whole lines) e = cc
-  never (Gone group count) e = cc
+is_read per text groups (read.Lost volume) old new e = absurd (never text volume e)
 
--- what was read is the text as it stands there
-pub read_whole : (told : Type 0) (by : ℕ) (config : Config) (old new : View) (groups : List GroupNo) (lines : List (List ℕ)) (gone : Option GroupNo) (count : ℕ) (o : Read) → HaveRead told by config old new groups lines gone
-    → o ≡ as_it_is (text_unless count groups lines gone) → (text : Text) → line_count text ≡ count → told → AreRoomy old config → IsThereUnless (lost_now old) (spools_at old old.now) config.groups text groups → IsReadOf config.groups text groups o old new
-read_whole told by config old new groups lines gone count o have is text counted t roomy stands =
-    let R = records_on (bytes_on (spools_at old old.now)) config.groups in
-    let there = stands (All-none (λ (g : GroupNo). lost_now old (volume_of config.groups g)) groups have.there) in
-    is_read config.groups text groups o old new
-    (is ∙ ap as_it_is (ap (λ (l : List (List ℕ)). text_unless count groups l gone) (have.lines_are t roomy) ∙ ap (λ (g : Option GroupNo). text_unless count groups (all_records R groups) g) (have.gone_is t roomy)
-    ∙ ap (λ (k : ℕ). text_of R k groups) (sym counted) ∙ there.is))
+pub unfailed : (per : ℕ) (text : Text) (groups : List GroupNo) (o : Read) (old new : View) → o ≡ as_it_is text → IsFailedRead per groups o old new
+unfailed per text groups (read.Lost volume) old new e = absurd (never text volume e)
+unfailed per text groups _ old new e = tt
+
+module _ {P C : Type 0} (plants : PlantGhosts P) (by : MemberId) (x : Parts P C) where
+  abbrev seen : Parts P C → View
+  seen y = plants.view y.plant
+
+  -- the records that stand in a group
+  abbrev pub records_at : Held
+  records_at = records_on (bytes_on (spools_at (plants.view x.plant) (plants.view x.plant).now)) x.base.config.groups
+
+  -- the groups so far were read: none of them lies on a lost volume, and where content is told these are their records
+  pub record HaveRead (groups : List GroupNo) (lines : List (List ℕ)) (gone : Option GroupNo) (y : Parts P C) : Type 0 where
+    pub on : HasReadOn plants x y by
+    pub spares : SparesBut by.0 false none_lost (plants.view x.plant) (plants.view y.plant)
+    pub fits : AreRecords lines
+    pub there : All (λ g. lost_now (plants.view x.plant) (volume_of x.base.config.groups g) ≡ false) groups
+    pub lines_are : plants.tells → AreRoomy (plants.view x.plant) x.base.config → lines ≡ all_records records_at groups
+    pub gone_is : plants.tells → AreRoomy (plants.view x.plant) x.base.config → gone ≡ first_gone records_at groups
+
+  pub reads_then : (y z : Parts P C) → HasReadOn plants x y by → HasReadOn plants y z by → HasReadOn plants x z by
+  reads_then y z one two = record {
+    acts = acts_on plants.tells by.0 (seen x) (seen y) (seen z) one.acts two.acts;
+    reads = λ t. quiet_on (spools_at (seen x) (seen x).now) (spools_at (seen y) (seen y).now) (spools_at (seen z) (seen z).now) (one.reads t) (two.reads t);
+  }
+
+  pub read_more : (y z : Parts P C) (groups : List GroupNo) (g : GroupNo) (before lines : List (List ℕ)) (gone is_gone : Option GroupNo) → HaveRead groups before gone y → HasReadOn plants y z by → SparesBut by.0 false none_lost (seen y) (seen z)
+      → AddsGroup plants.tells x.base.config g (seen y) (so_far before gone) (so_far lines is_gone) → HaveRead (groups ++ g ∷ []) lines is_gone z
+  read_more y z groups g before lines gone is_gone have on spares adds =
+      let Alive = λ (h : GroupNo). lost_now (seen x) (volume_of x.base.config.groups h) ≡ false in
+      let here : plants.tells → AreRoomy (seen x) x.base.config → records_at g ≡ adds.records
+      = λ t roomy. sym (same_records x.base.config.groups g (spools_at (seen x) (seen x).now) (spools_at (seen y) (seen y).now) (have.on.reads t)) ∙ adds.are_held t (still_roomy x.base.config (seen x) (seen y) have.on.acts.goes roomy) in
+      record {
+        on = reads_then y z have.on on;
+        spares = sparing_then by.0 false none_lost (seen x) (seen y) (seen z) have.spares spares;
+        fits = subst AreRecords (sym adds.added) (both_fit before (unwrap_or adds.records []) have.fits adds.fits);
+        there = All-append Alive groups (g ∷ []) have.there (All-cons Alive g [] (there_before (volume_of x.base.config.groups g) (seen x) (seen y) have.on.acts.goes adds.there) (All-nil Alive));
+        lines_are = λ t roomy. adds.added ∙ ap (λ (l : List (List ℕ)). l ++ unwrap_or adds.records []) (have.lines_are t roomy)
+            ∙ ap (λ (r : Option (List (List ℕ))). all_records records_at groups ++ unwrap_or r []) (sym (here t roomy)) ∙ sym (all_push records_at groups g);
+        gone_is = λ t roomy. adds.gone_is ∙ ap (λ (o : Option GroupNo). option_or o (gone_or g adds.records None)) (have.gone_is t roomy)
+            ∙ ap (λ (r : Option (List (List ℕ))). option_or (first_gone records_at groups) (gone_or g r None)) (sym (here t roomy)) ∙ sym (gone_push records_at groups g);
+      }
+
+  -- what was read is the text as it stands there
+  pub read_whole : (y : Parts P C) (groups : List GroupNo) (lines : List (List ℕ)) (gone : Option GroupNo) (count : ℕ) (o : Read) → HaveRead groups lines gone y → o ≡ as_it_is (text_unless count groups lines gone)
+      → (text : Text) → line_count text ≡ count → plants.tells → AreRoomy (seen x) x.base.config → IsThereUnless (lost_now (seen x)) (spools_at (seen x) (seen x).now) x.base.config.groups text groups → IsReadOf x.base.config.groups text groups o (seen x) (seen y)
+  read_whole y groups lines gone count o have is text counted t roomy stands =
+      let there = stands (All-none (λ (g : GroupNo). lost_now (seen x) (volume_of x.base.config.groups g)) groups have.there) in
+      is_read x.base.config.groups text groups o (seen x) (seen y)
+      (is ∙ ap as_it_is (ap (λ (l : List (List ℕ)). text_unless count groups l gone) (have.lines_are t roomy) ∙ ap (λ (g : Option GroupNo). text_unless count groups (all_records records_at groups) g) (have.gone_is t roomy)
+      ∙ ap (λ (k : ℕ). text_of records_at k groups) (sym counted) ∙ there.is))
 
 -- a stop after other acts
 pub stops_later : {T : Type 0} (names : T → ℕ → Bool) (by : ℕ) (old mid new : View) (r : Result T NodeNo) → Goes old mid → SparesBut by false none_lost old mid → SpoolStops names r by mid new → SpoolStops names r by old new
 stops_later names by old mid new (Ok done) goes spares stops = sparing_then by false (names done) old mid new spares stops
 stops_later names by old mid new (Err no.NoMemory) goes spares stops = sparing_then by false none_lost old mid new spares stops
 stops_later names by old mid new (Err no.Halted) goes spares stops = (sparing_then by true none_lost old mid new spares stops.0, omega (arith, stops.1, goes.stops by))
-stops_later names by old mid new (Err no.BothLost) goes spares stops = stops
-stops_later names by old mid new (Err no.ConsoleFault) goes spares stops = stops
+stops_later names by old mid new (Err _) goes spares stops = stops

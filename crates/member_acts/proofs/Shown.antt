@@ -1,7 +1,7 @@
 -- What acts without the lock show of a text.
-use Rattle.member_acts.proofs.Names.{OnOk, Result, Ok, Err, ◌≡◌, ◌∙◌, ℕ, ◌*◌, ◌≤◌, Bool, true, false, List, append-nil, Option, Some, None, ap, refl, sym, subst, arith, ◌⊎◌, inl, inr, zero, suc, ◌+◌, ◌<◌, [], ◌∷◌, ◌++◌, length, map, take, ∥∥₁_elim, Coded-set, find-All, GroupNo, JobNo, MemberId, OutNo, Job, Output, Text, Whole, Gone, Config, Queue, Batch, Entry, Deck, OutputThing, has_key, has_number, job_at, line_count, output_at, printing_at, total, Spool, OutSpec, Closing, Disk as DiskPart, Goes, View, ViewDisk as Disk, Line, disk_now, paper_now, Ghosts as PlantGhosts, AreRoomy, groups_of, kept_all, run, HasTexts, IsThereUnless, lost_now, spools_at, Spools, Parts, whole, counts_of, Read, gone_with, as_it_is, IsChunkOf, IsPrinting, IsToldOutput, MayPrintTo, after_lines, chunk_end, printed_end as printed_by, key_of, limit_most, output_key, still_busy, IsFailedRead, IsReadOf, HasFailed, IsReadAs, IsWhole, coded_read, number_of, AreSpooled, HasInked, Inked, IsInkedTo, inked_of, is_printer_lost, lines_read, torn_line, tells_some, OnVolumes, SpoolCauses, GroupsKept, AreQuiet, IsQuiet, SpoolStops, Found, NodeNo, BothLost, ConsoleFault, NoMemory, Halted, HasOnlyPrinted, HasStayed, HasWritten, IsJobStill, IsOutputStill, finds_of, lines_next, lowest_for, printed_in}
+use Rattle.member_acts.proofs.Names.{OnOk, Ok, ◌≡◌, ℕ, ◌≤◌, Bool, true, false, List, Option, Some, None, ◌+◌, [], length, Result, take, Err, ◌∙◌, ◌*◌, append-nil, ap, refl, sym, subst, arith, ◌⊎◌, inl, inr, ◌<◌, ◌++◌, map, Job, Output, Text, job_at, line_count, output_at, has_key, has_number, printing_at, total, Spool, Disk as DiskPart, AreRoomy, kept_all, run, IsThereUnless, lost_now, spools_at, HasTexts, Spools, counts_of, gone_with, as_it_is, after_lines, IsChunkOf, IsPrinting, IsToldOutput, IsFailedRead, IsReadOf, HasFailed, IsReadAs, IsWhole, AreSpooled, lines_read, HasInked, Inked, IsInkedTo, inked_of, is_printer_lost, torn_line, OnVolumes, SpoolCauses, GroupsKept, AreQuiet, IsQuiet, SpoolStops, finds_of, HasOnlyPrinted, HasStayed, HasWritten, IsJobStill, IsOutputStill, lines_next, lowest_for, printed_in, Coded-set, find-All, GroupNo, JobNo, MemberId, OutNo, Whole, Gone, Config, Queue, Batch, Entry, Deck, OutputThing, OutSpec, Goes, View, ViewDisk as Disk, Line, disk_now, paper_now, Ghosts as PlantGhosts, groups_of, Parts, whole, Read, chunk_end, printed_end as printed_by, key_of, limit_most, output_key, still_busy, coded_read, number_of, tells_some, Found, NodeNo, BothLost, ConsoleFault, NoMemory, Halted, slice_get, told_output, ∥∥₁_elim, take-nil}
+use Rattle.member_acts.specs.Prints.{MayPrintTo, upto}
 use Rattle.mas_types.specs.declared.ids.Dev.{Dev}
-use Rattle.mas_types.specs.declared.answers.Closing.TheVariants as closing
 use Rattle.lay_bytes.specs.declared.records.JobRec.{JobRec}
 use Rattle.lay_bytes.specs.declared.records.OutRec.{OutRec}
 use Rattle.ckpt_tables.specs.Shape.{HasSpelling}
@@ -15,7 +15,7 @@ use Rattle.member_decks.specs.declared.spooling.SpoolError.{SpoolError}
 use Rattle.member_decks.specs.declared.spooling.SpoolError.TheVariants as spool
 use Rattle.step_turns.specs.JobEnds.{printed_end}
 use Rattle.member_node.specs.declared.member.Member.{Member}
-use Rattle.member_acts.proofs.InkedLemmas.{inked_stopped, inked_wanting, unprinted_yet}
+use Rattle.member_acts.proofs.InkedLemmas.{none_of, inked_stopped, inked_wanting, unprinted_yet}
 
 one_group : (a b : GroupNo) → Some a ≡ Some b → a ≡ b
 one_group a b e = cc
@@ -49,9 +49,17 @@ module _ (told : Type 0) (config : Config) (t : Tables) (Q : Queue) (v w : View)
       let same = still.groups ∙ ap (groups_of (Deck n)) still.told.owners in
       let had = still.text j found in
       let there : job_at still.was r.number ≡ Some had.0 = ap (job_at still.was) number ∙ had.1 in
-      let its = job.same still.was had.0 still.told there in
-      let lines : line_count j.text ≡ r.cards = ap line_count had.2 ∙ its.2 in
+      let lines : line_count j.text ≡ r.cards = ap line_count had.2 ∙ (job.same still.was had.0 still.told there).2 in
       text_seen told config v w j.text r.cards (groups_of (Deck n) t.owners) (groups_of (Deck n) Q.owners) (HasTexts (lost_now v) (spools_at v v.now) config.groups Q) o same lines tells whole roomy texts (stands_there found) reads failed
+
+-- what the member's tables have of the output with this key
+pub record IsRecordOf (t : Tables) (n : JobNo) (i : OutNo) (r : OutRec) : Type 0 where
+  pub told : IsToldOutput t r
+  pub job : r.job ≡ n
+  pub index : r.index ≡ i
+
+pub record_of : (t : Tables) (n : JobNo) (i : OutNo) (at : ℕ) (r : OutRec) → HasSpelling t → ((os : List Output) → AreOutputs t.outputs os → HasOutput (has_key n i) t.outputs os at r) → slice_get t.outputs at ≡ Some (Some r) → IsRecordOf t n i r
+record_of t n i at r spelled some here = let key = output_key t n i at r some in record { told = told_output t n i at r spelled some here; job = key.0; index = key.1 }
 
 -- as many lines in all
 same_total : (had has : Output) → HasStayed had has → total has ≡ total had
@@ -68,86 +76,81 @@ module _ (told : Type 0) (config : Config) (t : Tables) (Q : Queue) (v w : View)
       subst (λ (gs : List GroupNo). IsThereUnless (lost_now v) (spools_at v v.now) config.groups o.text gs) named there
 
   -- what the record says of it
-  pub output_was : (still : IsOutputStill t by n i Q) → IsToldOutput t r → r.job ≡ n → r.index ≡ i → output_at Q n i ≡ Some o → (o.job ≡ r.job) × (o.index ≡ r.index) × (o.mark ≡ r.mark) × (line_count o.text ≡ r.lines) × (total o ≡ r.lines * r.copies)
-  output_was still rec job index found =
+  pub output_was : (still : IsOutputStill t by n i Q) → IsRecordOf t n i r → output_at Q n i ≡ Some o → (o.job ≡ r.job) × (o.index ≡ r.index) × (o.mark ≡ r.mark) × (line_count o.text ≡ r.lines) × (total o ≡ r.lines * r.copies)
+  output_was still rec found =
       let key = key_of n i Q.outputs o found in
       let had = still.output o found in
-      let same = rec.same still.was had.0 still.told (ap (λ (k : JobNo). output_at still.was k r.index) job ∙ ap (output_at still.was n) index ∙ had.1) in (
-        key.0 ∙ sym job,
-        key.1 ∙ sym index,
+      let same = rec.told.same still.was had.0 still.told (ap (λ (k : JobNo). output_at still.was k r.index) rec.job ∙ ap (output_at still.was n) rec.index ∙ had.1) in (
+        key.0 ∙ sym rec.job,
+        key.1 ∙ sym rec.index,
         had.2.mark ∙ same.2,
         ap line_count had.2.text ∙ same.3,
         same_total had.0 o had.2 ∙ same.4,
       )
 
-  pub output_read : (x : Read) → (still : IsOutputStill t by n i Q) → IsToldOutput t r → r.job ≡ n → r.index ≡ i → output_at Q n i ≡ Some o → told → IsWhole o.text → AreRoomy v config → ∥ HasTexts (lost_now v) (spools_at v v.now) config.groups Q ∥₁
+  pub output_read : (x : Read) → (still : IsOutputStill t by n i Q) → IsRecordOf t n i r → output_at Q n i ≡ Some o → told → IsWhole o.text → AreRoomy v config → ∥ HasTexts (lost_now v) (spools_at v v.now) config.groups Q ∥₁
       → Reads told config v w o.text r.lines (groups_of (OutputThing n i) t.owners) (groups_of (OutputThing n i) Q.owners) x → IsFailedRead config.groups (groups_of (OutputThing n i) t.owners) x v w
       → IsReadAs told config.groups o.text (groups_of (OutputThing n i) Q.owners) (Some x) v w
-  output_read x still rec job index found tells whole roomy texts reads failed =
+  output_read x still rec found tells whole roomy texts reads failed =
       let same = still.groups ∙ ap (groups_of (OutputThing n i)) still.told.owners in
-      let its = output_was still rec job index found in
+      let its = output_was still rec found in
       text_seen told config v w o.text r.lines (groups_of (OutputThing n i) t.owners) (groups_of (OutputThing n i) Q.owners) (HasTexts (lost_now v) (spools_at v v.now) config.groups Q) x same its.3 tells whole roomy texts (output_there found) reads failed
 
 -- its next lines may be printed
-pub may_print_still : (base : Queue) (batches : List Batch) (current : Option Batch) (m : MemberId) (t : Tables) (n : JobNo) (i : OutNo) (r : OutRec) (last : ℕ) (lines : List (List ℕ)) → current ≡ None → (still : IsOutputStill t m n i (run base (kept_all batches))) → IsToldOutput t r → IsChunkOf t m r last
-    → r.job ≡ n → r.index ≡ i → (p : IsPrinting still.was m n i) → (still.busy p.output p.there p.busy).0.text ≡ Whole lines → MayPrintTo base batches current m r.job r.index r.mark last lines
-may_print_still base batches current m t n i r last lines none still rec chunk job index p text =
+pub may_print_still : (base : Queue) (batches : List Batch) (current : Option Batch) (m : MemberId) (t : Tables) (n : JobNo) (i : OutNo) (r : OutRec) (last : ℕ) (lines : List (List ℕ)) → current ≡ None → (still : IsOutputStill t m n i (run base (kept_all batches))) → IsRecordOf t n i r → IsChunkOf t m r last
+    → (p : IsPrinting still.was m n i) → (still.busy p.output p.there p.busy).0.text ≡ Whole lines → MayPrintTo base batches current m (upto r last) lines
+may_print_still base batches current m t n i r last lines none still rec chunk p text =
     let Q : Queue = run base (kept_all batches) in
     let w : Output = p.output in
     let has = still.busy w p.there p.busy in
     let o : Output = has.0 in
     let key = key_of n i Q.outputs o has.1 in
-    let named : (R : Queue) → output_at R r.job r.index ≡ output_at R n i = λ R. ap (λ (k : JobNo). output_at R k r.index) job ∙ ap (output_at R n) index in
+    let named : (R : Queue) → output_at R r.job r.index ≡ output_at R n i = λ R. ap (λ (k : JobNo). output_at R k r.index) rec.job ∙ ap (output_at R n) rec.index in
     let was : output_at still.was r.job r.index ≡ Some w = named still.was ∙ p.there in
     let there : output_at Q r.job r.index ≡ Some o = named Q ∙ has.1 in
     let busy : printing_at Q m ≡ Some o = has.2 in
     let is = chunk.is still.was w still.told was in
-    let same = rec.same still.was w still.told was in
-    let limit = still.limit in
     let mark : o.mark ≡ w.mark = has.3.mark in
     let upto : last ≤ total w = omega (arith, is) in
     record {
       output = o;
       busy = busy;
-      job = key.0 ∙ sym job;
-      index = key.1 ∙ sym index;
-      mark_is = mark ∙ same.2;
+      job = key.0 ∙ sym rec.job;
+      index = key.1 ∙ sym rec.index;
+      mark_is = mark ∙ (rec.told.same still.was w still.told was).2;
       text = text;
       upto = subst (λ (k : ℕ). last ≤ k) (sym (same_total w o has.3)) upto;
-      limit = omega (arith, is, limit, mark);
+      limit = omega (arith, is, still.limit, mark);
       still = rw none (subst (λ (es : List Entry). busy_in (output_at (run base es) r.job r.index) m ≡ true) (sym (append-nil (kept_all batches))) (still_busy Q m r.job r.index o there busy));
     }
 
 -- THE NEXT LINES OF AN OUTPUT
 
 -- the last of an output's next lines, by the record that the member's tables have
-pub chunk_from : (t : Tables) (by : MemberId) (n : JobNo) (i : OutNo) (at : ℕ) (r : OutRec) (last : ℕ) → HasSpelling t → ((os : List Output) → AreOutputs t.outputs os → HasOutput (has_key n i) t.outputs os at r) → IsToldOutput t r
+pub chunk_from : (t : Tables) (by : MemberId) (n : JobNo) (i : OutNo) (at : ℕ) (r : OutRec) (last : ℕ) → HasSpelling t → ((os : List Output) → AreOutputs t.outputs os → HasOutput (has_key n i) t.outputs os at r) → IsRecordOf t n i r
     → ((Q : Queue) (o : Output) → Tell t Q → output_at Q n i ≡ Some o → last ≡ chunk_end Q by o) → IsChunkOf t by r last
 chunk_from t by n i at r last spelled some its is =
     let s = tells_some t in
-    let key = output_key t n i at r some in
-    let named : (Q : Queue) → output_at Q r.job r.index ≡ output_at Q n i = λ Q. ap (λ (k : JobNo). output_at Q k r.index) key.0 ∙ ap (output_at Q n) key.1 in
+    let named : (Q : Queue) → output_at Q r.job r.index ≡ output_at Q n i = λ Q. ap (λ (k : JobNo). output_at Q k r.index) its.job ∙ ap (output_at Q n) its.index in
     let has = some s.0.outputs s.1.outputs in
     let end = is s.0 has.item s.1 has.found in
-    let same = its.same s.0 has.item s.1 (named s.0 ∙ has.found) in
-    let most = limit_most t s.0 by spelled s.1 in
+    let same = its.told.same s.0 has.item s.1 (named s.0 ∙ has.found) in
     record {
-      limit = omega (arith, end, same.2, most);
+      limit = omega (arith, end, same.2, (limit_most t s.0 by spelled s.1));
       total = omega (arith, end, same.4);
       is = λ Q o told found. is Q o told (sym (named Q) ∙ found);
     }
 
-pub printer_lost : (lost : Bool) (o : Read) → printed_by lost o ≡ Some closing.PrinterLost → lost ≡ true
-printer_lost true o is = refl
+-- the printer was found lost, by the end of the unit
+pub printer_lost : (lost : Bool) (a : Read) → is_printer_lost (printed_by lost a) ≡ true → lost ≡ true
+printer_lost true a is = refl
 printer_lost false (read.Lines lines) is = absurd (cc)
 printer_lost false _ is = absurd (cc)
 
-pub none_refused : (lost printer : Bool) (o : Read) → (printer ≡ false → printed_by lost o ≡ Some closing.PrinterLost → ⊥) → printed_end printer o ≡ None → printed_by lost o ≡ None
-none_refused lost true (read.Lines lines) not none = absurd (cc)
-none_refused true false (read.Lines lines) not none = absurd (not refl refl)
-none_refused false false (read.Lines lines) not none = refl
-none_refused lost printer (read.Gone group) not none = absurd (cc)
-none_refused lost printer (read.Lost volume) not none = absurd (cc)
+pub none_refused : (lost : Bool) (a : Read) → printed_end (is_printer_lost (printed_by lost a)) a ≡ None → printed_by lost a ≡ None
+none_refused true (read.Lines lines) none = none
+none_refused false (read.Lines lines) none = refl
+none_refused lost _ none = none
 
 -- a volume that failed before has failed
 pub failed_later : (per : ℕ) (groups : List GroupNo) (o : Read) (old mid new : View) → Goes mid new → IsFailedRead per groups o old mid → IsFailedRead per groups o old new
@@ -190,20 +193,9 @@ papers_now told by v w acts t m = acts.papers t w.now acts.goes.later (omega ari
 pub quiet_disks : (old : Spools) (v w : View) → ((d : Dev) → disk_now w d ≡ disk_now v d) → AreQuiet old (spools_at v v.now) → AreQuiet old (spools_at w w.now)
 quiet_disks old v w same quiet n = subst (λ (d : Disk). IsQuiet (old n) d) (sym (same (Spool n))) (quiet n)
 
-abbrev no_lines : List (List ℕ)
-no_lines = []
-
-take_none : (k : ℕ) → take k no_lines ≡ no_lines
-take_none zero = refl
-take_none (suc k) = refl
-
-none_taken : (lines : List (List ℕ)) → take 0 lines ≡ []
-none_taken [] = refl
-none_taken (line ∷ lines) = refl
-
 -- of no lines none stand there, as of any lines
 same_ink : (k : Inked) (lines : List (List ℕ)) → k.lines ≡ 0 → inked_of k [] ≡ inked_of k lines
-same_ink k lines none = ap (λ (ls : List (List ℕ)). map whole ls ++ torn_line k.rest) (take_none k.lines ∙ sym (none_taken lines) ∙ ap (λ (n : ℕ). take n lines) (sym none))
+same_ink k lines none = ap (λ (ls : List (List ℕ)). map whole ls ++ torn_line k.rest) (take-nil {A = List ℕ} k.lines ∙ sym (none_of lines) ∙ ap (λ (n : ℕ). take n lines) (sym none))
 
 module _ {P C : Type 0} (plants : PlantGhosts P) (by : MemberId) (lines : List (List ℕ)) (x y : Parts P C) where
   -- the text wasn't read
@@ -222,9 +214,7 @@ module _ {P C : Type 0} (plants : PlantGhosts P) (by : MemberId) (lines : List (
   -- an error, with another answer where there is none
   pub inked_error : {S T : Type 0} (one : S → Bool) (two : T → Bool) (e : NodeNo) → HasInked plants one by lines x y (Err e) → HasInked plants two by lines x y (Err e)
   inked_error one two NoMemory k = record { inked = k.inked; paper = k.paper; others = k.others; by_answer = k.by_answer; counted = k.counted; other_counts = k.other_counts }
-  inked_error one two Halted k = record { inked = k.inked; paper = k.paper; others = k.others; by_answer = k.by_answer; counted = k.counted; other_counts = k.other_counts }
-  inked_error one two BothLost k = absurd k.by_answer
-  inked_error one two ConsoleFault k = absurd k.by_answer
+  inked_error one two _ k = record { inked = k.inked; paper = k.paper; others = k.others; by_answer = k.by_answer; counted = k.counted; other_counts = k.other_counts }
 
   -- the printer was found lost, by one answer as by the other
   pub inked_found : {S T : Type 0} (one : S → Bool) (two : T → Bool) (s : S) (t : T) → one s ≡ two t → HasInked plants one by lines x y (Ok s) → HasInked plants two by lines x y (Ok t)
@@ -275,14 +265,6 @@ pub inked_as_it_is : {P C : Type 0} (plants : PlantGhosts P) (by : MemberId) (to
 inked_as_it_is plants by told per groups v w o was last x y lost e (read.Lines lines) t seen k = subst (λ (b : Read). HasInked plants lost by (lines_next was last o b) x y (Err e)) (seen t) k
 inked_as_it_is plants by told per groups v w o was last x y lost e (read.Gone group) t seen k = subst (λ (b : Read). HasInked plants lost by (lines_next was last o b) x y (Err e)) (seen t) k
 inked_as_it_is plants by told per groups v w o was last x y lost e (read.Lost volume) t seen k = inked_nothing plants by (lines_next was last o (as_it_is o.text)) x y lost e k
-
--- whether the printer was found lost
-pub same_lost : (printer lost : Bool) (a : Read) (end : Option Closing) → end ≡ printed_by lost a → (printer ≡ true → end ≡ Some closing.PrinterLost) → (printer ≡ false → end ≡ Some closing.PrinterLost → ⊥) → is_printer_lost end ≡ printer
-same_lost true lost a end is found not = ap is_printer_lost (found refl)
-same_lost false true (read.Lines lines) end is found not = absurd (not refl is)
-same_lost false false (read.Lines lines) end is found not = ap is_printer_lost is
-same_lost false lost (read.Gone group) end is found not = ap is_printer_lost is
-same_lost false lost (read.Lost volume) end is found not = ap is_printer_lost is
 
 -- THE REST
 

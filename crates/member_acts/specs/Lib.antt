@@ -1,4 +1,7 @@
 pub mod Brings
+pub mod Outputs
+pub mod Prints
+pub mod Reads
 pub use Rattle.member_asides.specs.Asides
 pub use Rattle.member_asides.specs.Whole
 pub use Rattle.member_work.specs.Reading

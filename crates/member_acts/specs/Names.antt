@@ -1,6 +1,4 @@
 -- The names that many contracts take, each from where it is declared.
-pub use Rattle.std.specs.List.{list_any}
-pub use Rattle.std.specs.Prelude.{All, Bool, List, None, Ok, OnOk, Option, Some, [], drop, false, if◌then◌else◌, length, take, true, ℕ, ◌&&◌, ◌+◌, ◌∷◌, ◌≡◌, ◌≤◌}
 pub use Rattle.brief_journal.specs.Brief.{command_of, reply_of}
 pub use Rattle.job_outcome.specs.Outcomes.{IsReadable}
 pub use Rattle.job_outcome.specs.declared.outcomes.Read.TheVariants.{Lines}
@@ -9,29 +7,26 @@ pub use Rattle.mas_complex.specs.Journals.{kept_all}
 pub use Rattle.mas_complex.specs.Locking.{IsOfOther, IsUp}
 pub use Rattle.mas_complex.specs.Meaning.{run}
 pub use Rattle.mas_complex.specs.Paper.{counts_of}
-pub use Rattle.mas_complex.specs.Parts.{parts_of}
+pub use Rattle.mas_complex.specs.Parts.{Parts, parts_of}
 pub use Rattle.mas_complex.specs.Spool.{IsGroupOf, IsHeldBy}
 pub use Rattle.mas_complex.specs.Texts.{IsThereUnless, bytes_on, lost_now, spools_at}
-pub use Rattle.mas_types.specs.Commands.Life.{groups_of_outputs}
 pub use Rattle.mas_types.specs.Fit.{AreDistinct, IsConfig, IsOutSpec}
-pub use Rattle.mas_types.specs.Ids.{same_number}
 pub use Rattle.mas_types.specs.Journal.{is_kept}
 pub use Rattle.mas_types.specs.Limits.{members_most, page_bytes, printer_lines_most, text_lines_most}
 pub use Rattle.mas_types.specs.Queue.{job_at, line_count, output_at}
 pub use Rattle.mas_types.specs.Sound.{IsSound}
-pub use Rattle.mas_types.specs.declared.answers.Closing.TheVariants.{PrinterLost}
 pub use Rattle.mas_types.specs.declared.ids.Dev.TheVariants.{Spool}
 pub use Rattle.mas_types.specs.declared.jobs.Job.{Job}
 pub use Rattle.mas_types.specs.declared.jobs.Output.{Output}
 pub use Rattle.mas_types.specs.declared.jobs.Text.{Text}
-pub use Rattle.member_asides.specs.Asides.{MayPrintLines, MayReadText, MayWriteOutputs, OnlyPrints, PrintsLines, ReadsText, WritesOutputs, deck_found, finds_of, printed_found, read_found}
+pub use Rattle.member_asides.specs.Asides.{MayPrintLines, MayReadText, MayWriteOutputs, OnlyPrints, PrintsLines, ReadsText, SteadyGhosts, WritesOutputs, lines_to, printed_found, read_found}
 pub use Rattle.member_decks.specs.Spooling.{GroupsKept, OnVolumes, Rise, SpoolCauses}
 pub use Rattle.member_decks.specs.Steps.{SpoolStops, names_volume}
-pub use Rattle.member_work.specs.Gone.{brings_job, brings_outputs, gone_in, gone_output_in, gone_output_since, gone_since, gone_with, is_brought, names_job}
-pub use Rattle.member_work.specs.Inked.{Inks, OtherCountsStay, lines_read, lines_upto}
+pub use Rattle.member_work.specs.Gone.{brings_job, brings_outputs, gone_in, gone_output_in, gone_with, is_brought, names_job}
+pub use Rattle.member_work.specs.Inked.{HasInked, OtherCountsStay, is_printer_lost, lines_read, lines_upto}
 pub use Rattle.member_work.specs.Looks.{as_it_is}
-pub use Rattle.member_work.specs.Printing.{IsBeside, IsLinesPrinted, MayPrintTo, SameDisks, after_lines}
-pub use Rattle.member_work.specs.Reading.{AddsUnless, AreRecords, IsCounted, IsFailedRead, IsReadOf, OnlyReads}
+pub use Rattle.member_work.specs.Printing.{IsBeside, IsLinesPrinted, SameDisks, after_lines}
+pub use Rattle.member_work.specs.Reading.{IsCounted, IsFailedRead, IsReadOf, OnlyReads}
 pub use Rattle.member_work.specs.Rounds.{HasFailed, names_nothing, names_read}
 pub use Rattle.member_work.specs.Spooled.{AreSpooled, AreWritten}
 pub use Rattle.spool_plant.specs.Acts.{SameWires}

@@ -1,17 +1,17 @@
 //! Acts of a step of work that want no lock: a job's text is read, its outputs are written, an output's next lines are
 //! printed.
-ghost use Rattle.std.specs.Prelude.{◌≡◌, true, false, Some};
-ghost use Rattle.member_acts.specs.Names.{PrinterLost, parts_of, MayPrintLines, MayReadText, MayWriteOutputs, OnlyPrints, PrintsLines, ReadsText, WritesOutputs, deck_found, finds_of, printed_found, read_found};
+ghost use Rattle.member_acts.specs.Names.{parts_of, MayPrintLines, MayReadText, MayWriteOutputs, OnlyPrints, PrintsLines, ReadsText, WritesOutputs, is_printer_lost as is_printer_lost_lem, lines_to, printed_found};
+ghost use Rattle.std.specs.Prelude.{◌≡◌};
 
-use crate::gone::{gone_deck, gone_output};
+use crate::gone::gone_group;
 use crate::printing::print_text;
 use crate::reading::read_text;
 use crate::spooling::write_and_sync;
 use job_outcome::Read;
 use job_queue::find_job;
 use mas_complex::{Complex, Steady};
-use mas_types::{Closing, JobNo, Lines, List, OutNo, OutSpec, Thing};
-use member_decks::SpoolError;
+use mas_types::{Closing, JobNo, List, OutNo, OutSpec, Thing};
+use member_asides::found_by;
 use member_node::{Member, NodeNo};
 use member_work::groups_of_outputs;
 use output_queue::find_output;
@@ -20,51 +20,10 @@ use std::alloc::Global;
 use step_turns::Found;
 use track_groups::{groups_of, held_by, law_of_places};
 
-// What a member found that read a text.
-fn found_read(alloc: Global, read: Read) -> Found
-    ensures { result ≡ read_found read }
+// What a member found that read a text, and perhaps found its printer lost.
+fn found_read(alloc: Global, read: Read, printer: bool) -> Found
+    ensures { result ≡ printed_found read printer }
 {
-    Found {
-        read,
-        lost: None,
-        printer: false,
-        wire: false,
-        frames: List::new(alloc),
-    }
-}
-
-// What a member found that looked only whether a volume is lost.
-fn found_lost(alloc: Global, lost: Option<u8>) -> Found
-    ensures { result ≡ deck_found lost }
-{
-    Found {
-        read: Read::Lines(Lines::new(alloc)),
-        lost,
-        printer: false,
-        wire: false,
-        frames: List::new(alloc),
-    }
-}
-
-// What a member found that wrote texts, by the answer of the acts.
-fn found_by(alloc: Global, written: Result<(), SpoolError>) -> Result<Found, NodeNo>
-    ensures { result ≡ finds_of written }
-{
-    match written {
-        Ok(()) => Ok(found_lost(alloc, None)),
-        Err(SpoolError::Lost(volume)) => Ok(found_lost(alloc, Some(volume))),
-        Err(SpoolError::Halted) => Err(NodeNo::Halted),
-    }
-}
-
-// What a member found that read a text and printed lines of it, unless the unit is refused so.
-fn found_printed(alloc: Global, read: Read, end: Option<Closing>) -> Found
-    ensures read { result.read ≡ read }
-    ensures only { result ≡ printed_found result.read result.printer }
-    ensures printer { result.printer ≡ true → end ≡ Some PrinterLost }
-    ensures not { result.printer ≡ false → end ≡ Some PrinterLost → ⊥ }
-{
-    let printer = matches!(end, Some(Closing::PrinterLost));
     Found {
         read,
         lost: None,
@@ -72,6 +31,13 @@ fn found_printed(alloc: Global, read: Read, end: Option<Closing>) -> Found
         wire: false,
         frames: List::new(alloc),
     }
+}
+
+// The unit is refused since the printer is lost.
+fn is_printer_lost(end: &Option<Closing>) -> bool
+    ensures { result ≡ is_printer_lost_lem end.now }
+{
+    matches!(end, Some(Closing::PrinterLost))
 }
 
 /// Reads the text of a job that is run or converted. It needs no lock: whoever holds it, the book, the copies and the
@@ -88,8 +54,8 @@ pub fn read_job_text<P: Plant + Drop, C: Steady + Drop>(
     ensures frame { parts_of complex.new ≡ record (parts_of complex.old) { plant = complex.new.plant } }
     ensures reads { ReadsText complex.old complex.new member.now job result }
 {
-    if let Some(group) = gone_deck(complex, job) {
-        return Ok(found_read(alloc, Read::Gone(group)));
+    if let Some(group) = gone_group(complex, Thing::Deck(job)) {
+        return Ok(found_read(alloc, Read::Gone(group), false));
     }
     law_of_places();
     complex.kept_texts();
@@ -102,7 +68,7 @@ pub fn read_job_text<P: Plant + Drop, C: Steady + Drop>(
     };
     let groups = groups.as_slice();
     let read = read_text(complex, alloc, member.id, groups, found.item.cards)?;
-    Ok(found_read(alloc, read))
+    Ok(found_read(alloc, read, false))
 }
 
 /// Writes the texts of a job's outputs into the lowest groups of the member, as many as they need, and syncs the
@@ -146,12 +112,13 @@ pub fn print_next_lines<P: Plant + Drop, C: Steady + Drop>(
     output: OutNo,
     last: u32,
 ) -> Result<Found, NodeNo>
-    requires { MayPrintLines complex.old member.now job output last }
+    requires { MayPrintLines complex.old member.now (lines_to job output last) }
     ensures frame { OnlyPrints result member.now.id complex.old complex.new }
-    ensures prints { PrintsLines complex.old complex.new member.now job output last result }
+    ensures prints { PrintsLines complex.old complex.new member.now (lines_to job output last) result }
 {
-    if let Some(group) = gone_output(complex, job, output) {
-        return Ok(found_read(alloc, Read::Gone(group)));
+    let thing = Thing::Output(job, output);
+    if let Some(group) = gone_group(complex, thing) {
+        return Ok(found_read(alloc, Read::Gone(group), false));
     }
     law_of_places();
     complex.kept_texts();
@@ -160,12 +127,12 @@ pub fn print_next_lines<P: Plant + Drop, C: Steady + Drop>(
     let Some(found) = find_output(tables.outputs.as_slice(), job, output) else {
         unreachable!();
     };
-    let thing = Thing::Output(job, output);
     let Ok(groups) = groups_of(alloc, tables.owners.as_slice(), thing) else {
         return Err(NodeNo::NoMemory);
     };
     let groups = groups.as_slice();
     let read = read_text(complex, alloc, by, groups, found.item.lines)?;
     let end = print_text(complex, alloc, by, &found.item, last, &read)?;
-    Ok(found_printed(alloc, read, end))
+    let printer = is_printer_lost(&end);
+    Ok(found_read(alloc, read, printer))
 }

@@ -1,2 +1,3 @@
 pub use Rattle.member_sittings.proofs.AsideLemmas
 pub use Rattle.member_sittings.proofs.ReachLemmas
+pub use Rattle.member_sittings.proofs.SeatLemmas

@@ -33,7 +33,7 @@ use Rattle.job_outcome.specs.declared.outcomes.Read.{Read}
 use Rattle.job_outcome.specs.Outcomes.{IsReadable}
 use Rattle.nje_frames.specs.declared.frames.Frame.{Frame}
 use Rattle.mas_complex.specs.declared.complex.Complex.{Complex}
-use Rattle.ckpt_form.specs.declared.steady.Steady.{Ghosts as SteadyGhosts}
+pub use Rattle.ckpt_form.specs.declared.steady.Steady.{Ghosts as SteadyGhosts}
 use Rattle.mas_complex.specs.Locking.{IsUp, reserved_after_stop}
 use Rattle.mas_complex.specs.Paper.{counts_of}
 use Rattle.mas_complex.specs.Parts.{Parts, parts_of}
@@ -111,6 +111,15 @@ read_by (Err why) text = as_it_is text
 -- the lines of an output up to this one, except so many that the member has printed, by how its text was read
 abbrev pub lines_next : ℕ → ℕ → Output → Read → List (List ℕ)
 lines_next count last o read = lines_read o.job o.index (o.mark + count) last read
+
+-- the lines of the output with this key, up to this one
+pub record LinesTo : Type 0 where
+  pub job : JobNo
+  pub output : OutNo
+  pub last : ℕ
+
+abbrev pub lines_to : JobNo → OutNo → ℕ → LinesTo
+lines_to n i last = record { job = n; output = i; last = last }
 
 -- WHAT ACTS WITHOUT THE LOCK LEAVE ALONE
 
@@ -196,46 +205,46 @@ module _ {P C : Type 0} (plants : PlantGhosts P) where
 
   -- PRINTING THE NEXT LINES OF AN OUTPUT
 
-  pub record MayPrintNext (x : Parts P C) (m : Member) (n : JobNo) (i : OutNo) (last : ℕ) : Type 0 where
+  pub record MayPrintNext (x : Parts P C) (m : Member) (l : LinesTo) : Type 0 where
     pub may : MayAside x m
     pub few : m.id.0 ≤ members_most
     pub some : 1 ≤ m.id.0
     pub seated : IsMember x.book m.id
     pub none : x.current ≡ None
     pub sound : plants.tells → TellSound m.checkpoint.tables
-    pub output : IsOutputReady m.checkpoint.tables m.id n i last
-    pub still : plants.tells → IsOutputStill m.checkpoint.tables m.id n i (queue_of x)
+    pub output : IsOutputReady m.checkpoint.tables m.id l.job l.output l.last
+    pub still : plants.tells → IsOutputStill m.checkpoint.tables m.id l.job l.output (queue_of x)
     pub roomy : plants.tells → AreRoomy (v x) x.base.config
 
   -- How the text was read, and whether the printer was found lost; where the unit isn't refused for it, the lines stand
   -- on paper.
-  pub record FindsLines (x y : Parts P C) (m : Member) (n : JobNo) (i : OutNo) (last : ℕ) (found : Found) : Type 0 where
+  pub record FindsLines (x y : Parts P C) (m : Member) (l : LinesTo) (found : Found) : Type 0 where
     pub only : found ≡ printed_found found.read found.printer
     pub fits : IsReadable found.read
-    pub failed : IsFailedRead x.base.config.groups (groups_of (OutputThing n i) m.checkpoint.tables.owners) found.read
+    pub failed : IsFailedRead x.base.config.groups (groups_of (OutputThing l.job l.output) m.checkpoint.tables.owners) found.read
         (v x) (v y)
-    pub read : plants.tells → AreRoomy (v x) x.base.config → (o : Output) → output_at (queue_of x) n i ≡ Some o
-        → IsReadAs plants.tells x.base.config.groups o.text (groups_of (OutputThing n i) (queue_of x).owners)
+    pub read : plants.tells → AreRoomy (v x) x.base.config → (o : Output) → output_at (queue_of x) l.job l.output ≡ Some o
+        → IsReadAs plants.tells x.base.config.groups o.text (groups_of (OutputThing l.job l.output) (queue_of x).owners)
         (Some found.read) (v x) (v y)
     pub printer : found.printer ≡ true → HasPrinterFailed m.id (v x) (v y)
     pub counted : printed_end found.printer found.read ≡ None → plants.tells → (o : Output)
-        → output_at (queue_of x) n i ≡ Some o
-        → last ≤ o.mark + counts_of y.printed m.id
+        → output_at (queue_of x) l.job l.output ≡ Some o
+        → l.last ≤ o.mark + counts_of y.printed m.id
 
   -- Printing, by its answer: no volume is written, and nothing moves on a line to another node. Of the lines that come
   -- next those stand on the member's printer that the answer says, no other printer has any more, and no other member's
   -- count differs. Halted comes only where the member was stopped.
-  pub record HasPrintedNext (x y : Parts P C) (m : Member) (n : JobNo) (i : OutNo) (last : ℕ)
-      (result : Result Found NodeNo) : Type 0 where
-    pub acts : IsBeside plants.tells (v x) (v y)
-    pub reads : OnlyReads plants.tells (v x) (v y)
-    pub inks : plants.tells → (o : Output) → output_at (queue_of x) n i ≡ Some o
-        → HasInked plants (λ found. found.printer) m.id
-        (lines_next (counts_of x.printed m.id) last o (read_by result o.text)) x y result
-    pub counts : OtherCountsStay m.id x.printed y.printed
-    pub wires : plants.tells → SameWires (v x) (v y)
-    pub cause : SpoolStops (λ found. names_read found.read) result m.id.0 (v x) (v y)
-    pub finds : IfOk result (FindsLines x y m n i last)
+  pub record HasPrintedNext (x y : Parts P C) (m : Member) (l : LinesTo) (result : Result Found NodeNo) : Type 0
+    where
+      pub acts : IsBeside plants.tells (v x) (v y)
+      pub reads : OnlyReads plants.tells (v x) (v y)
+      pub inks : plants.tells → (o : Output) → output_at (queue_of x) l.job l.output ≡ Some o
+          → HasInked plants (λ found. found.printer) m.id
+          (lines_next (counts_of x.printed m.id) l.last o (read_by result o.text)) x y result
+      pub counts : OtherCountsStay m.id x.printed y.printed
+      pub wires : plants.tells → SameWires (v x) (v y)
+      pub cause : SpoolStops (λ found. names_read found.read) result m.id.0 (v x) (v y)
+      pub finds : IfOk result (FindsLines x y m l)
 
 -- OVER THE SHARED VALUE
 
@@ -254,13 +263,13 @@ module _ {P C : Type 0} {plants : PlantGhosts P} {steadies : SteadyGhosts C} {co
       → List OutSpec → Result Found NodeNo → Type 0
   WritesOutputs x y m specs result = HasWritten plants (parts_of x) (parts_of y) m specs result
 
-  abbrev pub MayPrintLines : Complex P C plants steadies copies → Member → JobNo → OutNo → ℕ → Type 0
-  MayPrintLines x m n i last = MayPrintNext plants (parts_of x) m n i last
+  abbrev pub MayPrintLines : Complex P C plants steadies copies → Member → LinesTo → Type 0
+  MayPrintLines x m l = MayPrintNext plants (parts_of x) m l
 
   abbrev pub OnlyPrints : {T : Type 0} → Result T NodeNo → MemberId → Complex P C plants steadies copies
       → Complex P C plants steadies copies → Type 0
   OnlyPrints result by x y = HasOnlyPrinted result by (parts_of x) (parts_of y)
 
-  abbrev pub PrintsLines : Complex P C plants steadies copies → Complex P C plants steadies copies → Member → JobNo
-      → OutNo → ℕ → Result Found NodeNo → Type 0
-  PrintsLines x y m n i last result = HasPrintedNext plants (parts_of x) (parts_of y) m n i last result
+  abbrev pub PrintsLines : Complex P C plants steadies copies → Complex P C plants steadies copies → Member → LinesTo
+      → Result Found NodeNo → Type 0
+  PrintsLines x y m l result = HasPrintedNext plants (parts_of x) (parts_of y) m l result

@@ -1,2 +1,5 @@
-//! What the acts of a step of work may do that want no lock, and what they show: definitions alone.
+//! What the acts of a step of work may do that want no lock, and what they show: definitions, and one
+//! function that is passed on.
 #![tactic(auto)]
+
+pub use member_sittings::found_by;

@@ -38,7 +38,7 @@ use Rattle.member_giving.specs.Plays.{Wrote, wrote_of}
 use Rattle.member_giving.specs.Ready.{HasFewer}
 use Rattle.member_giving.specs.Works.{HasRoom, IsLow, outside, place_of}
 use Rattle.member_giving.proofs.Sat.{sat_played, sits_as, sitting_as}
-use Rattle.member_giving.proofs.Working.{AtWork}
+use Rattle.member_sittings.specs.Whole.{IsStill}
 use Rattle.member_frames.specs.Plays.{IsWithinLine, SatLine, ServesLine, answer_end, ends_or_serves}
 use Rattle.member_frames.specs.Waits.{IsServable, WaitsOnLine}
 use Rattle.member_frames.proofs.Fronts.{serves_any}
@@ -49,7 +49,7 @@ module _ {P C : Type 0} {plants : PlantGhosts P} {steadies : SteadyGhosts C} {co
   line_room x m low k few level = let order = low.order in let high = low.high in record { order = omega (arith, order, few); high = omega (arith, high, few); level = level }
 
   -- the rest of a sitting, from its beginning on
-  pub sat_line : (x y : Complex P C plants steadies copies) (m : Member) (h : Holder) (most : ℕ) (t : Turn) (w : Wrote) (r : Result SittingEnd NodeNo) → m.batch ≡ [] → AtWork x m → (plants.tells → w ≡ wrote_of [] t)
+  pub sat_line : (x y : Complex P C plants steadies copies) (m : Member) (h : Holder) (most : ℕ) (t : Turn) (w : Wrote) (r : Result SittingEnd NodeNo) → m.batch ≡ [] → IsStill plants copies (parts_of x) m → (plants.tells → w ≡ wrote_of [] t)
       → ServesLine plants.tells h most 0 w (place_of x m) (outside y) r → SatLine plants.tells h most t x y r
   sat_line x y m h most t w r nothing work same p = record {
     sitting = sitting_as h p.wrote;

@@ -17,7 +17,7 @@ use Rattle.step_turns.specs.declared.states.Holder.{Holder}
 use Rattle.step_turns.specs.declared.states.Service.{Service}
 use Rattle.step_turns.specs.TurnParts.{Turn}
 use Rattle.member_sittings.specs.declared.ends.SittingEnd.{SittingEnd}
-use Rattle.member_giving.specs.Plays.{HasGiven, Keeps, SparesOthers, Wrote, after_full, full_of, unwritten, wrote_of}
+use Rattle.member_giving.specs.Plays.{HasGiven, Keeps, SparesOthers, Wrote, after_full, full_of, unwritten, wrote_of, unit_part}
 use Rattle.member_giving.specs.Works.{Outside, Place}
 use Rattle.member_giving.proofs.Given.{closing_one}
 use Rattle.member_giving.proofs.Going.{after_batches, played_fits, played_full, played_full_error, played_part, played_part_error}
@@ -60,13 +60,13 @@ module _ (told : Type 0) (h : Holder) (number : ℕ) (s : Service) (old mid : Pl
   Whole new r = ServesLine told h most given (wrote_of old.batch (turn_by h.by h.step (next.Send number s) old.queue given)) old new r
 
   -- out of memory for Sent
-  pub send_error : AreOf h.by h.step old.batch → (why : NodeNo) → HasGiven told h (sent ∷ []) end_as old mid (Err why) → Whole mid.outside (Err why)
+  pub send_error : AreOf h.by h.step old.batch → (why : NodeNo) → HasGiven told h (unit_part (sent ∷ []) end_as) old mid (Err why) → Whole mid.outside (Err why)
   send_error of why g =
       played_part_error told h (IsWithinLine h most) given (sent ∷ []) end_as old mid rest of (λ fs. (turn_serves h s.frames counts (run old.queue fs) (suc given)).of)
       (λ fs. part_within h most old.batch fs (rest fs) (2 * length s.frames + 1) (omega arith) (turn_serves h s.frames counts (run old.queue fs) (suc given)))
       why g
 
-  module _ (end : UnitEnd) (g : HasGiven told h (sent ∷ []) end_as old mid (Ok end)) (one : length mid.batch ≡ length old.batch + 1) (of : AreOf h.by h.step mid.batch) where
+  module _ (end : UnitEnd) (g : HasGiven told h (unit_part (sent ∷ []) end_as) old mid (Ok end)) (one : length mid.batch ≡ length old.batch + 1) (of : AreOf h.by h.step mid.batch) where
     one_more : given + 1 ≡ given + length g.es
     one_more = let longer = ap (λ (l : List Entry). length l) g.left in let both = length-append old.batch g.es in omega (arith, one, longer, both)
 

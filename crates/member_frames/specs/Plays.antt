@@ -25,7 +25,7 @@ use Rattle.member_sittings.specs.declared.ends.SittingEnd.{SittingEnd}
 use Rattle.member_sittings.specs.Sat.{IsSat}
 use Rattle.member_sittings.specs.Shapes.{LineLines, SaysAtEnd}
 use Rattle.member_sittings.specs.Whole.{queue_of}
-use Rattle.member_giving.specs.Plays.{PlaysAs, Wrote}
+use Rattle.member_giving.specs.Plays.{PlaysAs, Wrote, to_play}
 use Rattle.member_giving.specs.Works.{Outside, Place}
 
 -- a step closes so without a reply
@@ -44,7 +44,7 @@ pub record IsWithinLine (h : Holder) (most : ℕ) (w : Wrote) : Type 0 where
 
 -- The rest of a sitting in which so many commands are given, as for work, except for what bounds it.
 abbrev pub ServesLine : Type 0 → Holder → ℕ → ℕ → Wrote → Place → Outside → Result SittingEnd NodeNo → Type 0
-ServesLine told h most given w old new result = PlaysAs told h (IsWithinLine h most) given w old new result
+ServesLine told h most given w old new result = PlaysAs told (IsWithinLine h most) (to_play h given w) old new result
 
 -- A JOB'S FIRST COMMANDS, at the beginning of a sitting
 

@@ -1,11 +1,14 @@
 -- Batches that are written of what is still to come: how they begin, and whose their entries are.
-use Rattle.member_giving.proofs.Names.{◌≡◌, ℕ, ◌≤◌, ◌<◌, Bool, true, false, if◌then◌else◌, List, [], ◌∷◌, ◌++◌, length, All, ◌∙◌, append_assoc, append-nil, ap, refl, sym, subst, arith, length-append, nat_tests, All-append, All-cons, All-head, All-nil, All-tail, MemberId, Entry, test_cases, AreOf, StartsAs, batch_of, cut, cut_after, is_full, all_entries, after_full, full_of}
-use Rattle.member_work.specs.Work.{batches_in}
+use Rattle.member_giving.proofs.Names.{◌≡◌, ℕ, ◌≤◌, ◌<◌, Bool, true, false, if◌then◌else◌, List, [], ◌∷◌, ◌++◌, length, All, ◌∙◌, append_assoc, append-nil, ap, refl, sym, subst, arith, length-append, nat_tests, All-append, All-cons, All-head, All-nil, All-tail, MemberId, Entry, test_cases, AreOf, batch_of, cut, cut_after, is_full, all_entries, after_full, full_of}
+use Rattle.member_giving.proofs.Leaving.{StartsAs}
 
--- a batch, where there is something to write
-pub one_batch : (es : List Entry) → batches_in (es ∷ []) ≡ batch_of es
-one_batch [] = refl
-one_batch (e ∷ es) = refl
+pub some_batch : (es : List Entry) → (length es ≡ 0 → ⊥) → 1 ≤ length es
+some_batch [] not = absurd (not refl)
+some_batch (e ∷ es) not = omega arith
+
+pub none_batch : (es : List Entry) → length es ≡ 0 → es ≡ []
+none_batch [] none = refl
+none_batch (e ∷ es) none = absurd (omega (arith, none))
 
 pub batch_entries : (es : List Entry) → all_entries (batch_of es) ≡ es
 batch_entries [] = refl

@@ -1,22 +1,20 @@
 -- What follows in a sitting by the next unit.
-use Rattle.member_giving.proofs.Names.{◌≡◌, ℕ, zero, suc, ◌-◌, ◌≤◌, Bool, true, false, Option, Some, None, ap, refl, sym, arith, option_map_or, Command, JobNo, MemberId, OutNo, Job, Output, Queue, is_member, job_at, output_at, may_give, unit_of, IsMarkRight, command_of, each_command, is_drop, Holder, Turn, next_unit, no_more, one_command, units_from, IsOfUnit, lines_of, text_of, turn_by, MayBeGiven}
+use Rattle.member_giving.proofs.Names.{◌≡◌, ℕ, zero, suc, ◌-◌, ◌≤◌, Bool, true, false, Option, Some, None, ◌∙◌, ap, refl, sym, arith, option_map_or, Command, JobNo, MemberId, OutNo, Job, Output, Queue, is_member, job_at, output_at, may_give, unit_of, IsMarkRight, command_of, each_command, is_drop, Holder, Turn, next_unit, no_more, units_from, IsOfUnit, lines_of, text_of, turn_by, MayBeGiven}
 use Rattle.mas_types.specs.declared.commands.Command.TheVariants as command
 use Rattle.mas_types.specs.declared.units.Unit as units
 use Rattle.mas_types.specs.declared.units.Unit.TheVariants as unit
+use Rattle.mas_types.specs.Fit.{IsFit}
 use Rattle.mas_types.specs.Limits.{members_most}
 use Rattle.queue_commands.specs.Given.{IsGiver, is_plain}
 use Rattle.member_giving.specs.declared.nexts.Next.TheVariants as next
 
-one : {A : Type 0} (a b : A) → Some a ≡ Some b → a ≡ b
-one a b e = cc
-
 module _ (h : Holder) where
   -- where units are left the next one follows
-  pub some_left : (left : ℕ) (Q : Queue) (given done : ℕ) → (left ≡ 0 → ⊥) → units_from h left Q given done ≡ next_unit h (unit_of Q h.by) (left - 1) (units_from h (left - 1)) Q given done
-  some_left zero Q given done some = absurd (some refl)
-  some_left (suc left) Q given done some =
+  pub some_left : (left : ℕ) (Q : Queue) (given done : ℕ) (u : units.Unit) → (left ≡ 0 → ⊥) → unit_of Q h.by ≡ u → units_from h left Q given done ≡ next_unit h u (left - 1) (units_from h (left - 1)) Q given done
+  some_left zero Q given done u some is = absurd (some refl)
+  some_left (suc left) Q given done u some is =
       let less : left ≡ suc left - 1 = omega arith in
-      ap (λ (k : ℕ). next_unit h (unit_of Q h.by) k (units_from h k) Q given done) less
+      ap (λ (k : ℕ). next_unit h (unit_of Q h.by) k (units_from h k) Q given done) less ∙ ap (λ (x : units.Unit). next_unit h x (suc left - 1) (units_from h (suc left - 1)) Q given done) is
 
   pub none_left : (left : ℕ) (Q : Queue) (given done : ℕ) → left ≡ 0 → units_from h left Q given done ≡ no_more h done
   none_left zero Q given done none = refl
@@ -28,13 +26,7 @@ module _ (h : Holder) where
 
     -- a unit of one command
     pub by_command : (u : units.Unit) (c : Command) → command_of u ≡ Some c → Following u ≡ turn_by h (next.Give c) left Q given done
-    by_command (unit.Finish n i) c is = ap (λ (d : Command). one_command h d left (units_from h left) Q given done) (one (command.Done n i) c is)
-    by_command unit.Pick c is = ap (λ (d : Command). one_command h d left (units_from h left) Q given done) (one command.Pick c is)
-    by_command unit.Purge c is = ap (λ (d : Command). one_command h d left (units_from h left) Q given done) (one command.Purge c is)
-    by_command unit.Gather c is = ap (λ (d : Command). one_command h d left (units_from h left) Q given done) (one command.Gather c is)
-    by_command unit.TakeExec c is = ap (λ (d : Command). one_command h d left (units_from h left) Q given done) (one command.TakeExec c is)
-    by_command unit.TakeConvert c is = ap (λ (d : Command). one_command h d left (units_from h left) Q given done) (one command.TakeConvert c is)
-    by_command _ c is = absurd (cc)
+    by_command = each_command (λ u c. Following u ≡ turn_by h (next.Give c) left Q given done) (λ n i. refl) refl refl refl refl refl
 
     -- no unit applies
     pub by_none : (u : units.Unit) → command_of u ≡ None → ((n : JobNo) (i : OutNo) → u ≡ unit.Print n i → ⊥) → ((n : JobNo) → u ≡ unit.Run n → ⊥) → ((n : JobNo) → u ≡ unit.Convert n → ⊥) → Following u ≡ no_more h done
@@ -64,17 +56,14 @@ module _ (h : Holder) where
 
 -- THE COMMAND OF A UNIT
 
-record Givable (base : Queue) (by : MemberId) (c : Command) : Type 0 where
-  plain : is_plain c ≡ true
-  giver : IsGiver by c
-  may : may_give base by c ≡ true
-  closes : is_drop c ≡ false
-
 pub unit_given : (base : Queue) (by : MemberId) (c : Command) → 1 ≤ by.0 → by.0 ≤ members_most → is_member base.config by ≡ true → IsOfUnit c → MayBeGiven base by c
 unit_given base by c some few member u =
-    let g = each_command (Givable base by) (λ n i. record { plain = refl; giver = (some, few); may = member; closes = refl }) (record { plain = refl; giver = (some, few); may = member; closes = refl }) (record { plain = refl; giver = (some, few); may = member; closes = refl }) (record { plain = refl; giver = (some, few); may = member; closes = refl }) (record { plain = refl; giver = (some, few); may = member; closes = refl }) (record { plain = refl; giver = (some, few); may = member; closes = refl }) u.of c u.is in
-    record { plain = g.plain; fit = u.fit; giver = g.giver; may = g.may; closes = g.closes }
+    let may : IsFit c → MayBeGiven base by c = each_command (λ _ d. IsFit d → MayBeGiven base by d) (λ n i. given (command.Done n i) refl (some, few) member refl) (given command.Pick refl (some, few) member refl) (given command.Purge refl (some, few) member refl) (given command.Gather refl (some, few) member refl) (given command.TakeExec refl (some, few) member refl) (given command.TakeConvert refl (some, few) member refl) u.of c u.is in
+    may u.fit
+  where
+    given : (d : Command) → is_plain d ≡ true → IsGiver by d → may_give base by d ≡ true → is_drop d ≡ false → IsFit d → MayBeGiven base by d
+    given d plain giver may closes fit = record { plain = plain; fit = fit; giver = giver; may = may; closes = closes }
 
 -- a unit's command marks no lines
 pub unit_unmarked : (Q : Queue) (by : MemberId) (count : ℕ) (c : Command) → IsOfUnit c → IsMarkRight Q by count c
-unit_unmarked Q by count c u = each_command (λ (d : Command). IsMarkRight Q by count d) (λ n i. tt) tt tt tt tt tt u.of c u.is
+unit_unmarked Q by count c u = each_command (λ _ d. IsMarkRight Q by count d) (λ n i. tt) tt tt tt tt tt u.of c u.is

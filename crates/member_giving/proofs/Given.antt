@@ -1,15 +1,28 @@
 -- A member that gave commands of a unit on its tables: all of them, or, out of memory, the first ones.
-use Rattle.member_giving.proofs.Names.{◌≡◌, ◌+◌, ◌≤◌, ℕ, List, [], ◌∷◌, ◌++◌, length, Result, Ok, Err, All, take, true, Bool, false, Option, ◌∙◌, length-append, append_assoc, ap, refl, subst, sym, arith, not, All-weaker, Command, JobNo, MemberId, OutSpec, Entry, Queue, outputs_at_end, job_at, may_give, Reply, Batch, Journal, Tell, TellSound, held_by, Tables, View, PlantGhosts, Ghosts as CopyGhosts, SteadyGhosts, Complex, kept_all, begun, end_of, meaning_run as run, MayBegin, values_of, HasTexts, Spools, lost_now, spools_at, Member, NodeNo, Apart, Course, IsSettle, counted_none, counted_up, had_as, notes_by, notes_same, LeavesNotes, AreOf, given_of, tells_some, IsOnCopies, KeepLeaves, UnitEnd, AreSpooled, IsUnderWay, IsKeeping, units_groups_for_end as groups_for_end, part_begins, Tail, all_strip, given_long, part_few, strip, strip_front, whole_is, whole_of, can_still, work_texts, keeping_error, keeping_none, keeping_starts, keeping_then, kept_not as batch_not, kept_ok, settled, StartsAs, none_batch, one_batch_in, batch_of, given_in, closes, closing_reply, entry_of, is_drop, reply_to, Holder, run_append, GivesUp, HasGiven, Keeps, SparesOthers, IsLow, LeavesRoom, Works, outside, place_of, queue_here, queue_kept}
+use Rattle.member_giving.proofs.Names.{◌≡◌, ◌+◌, ◌≤◌, ℕ, List, [], ◌∷◌, ◌++◌, length, Result, Ok, Err, All, take, true, false, ◌∙◌, length-append, append_assoc, ap, refl, subst, sym, arith, not, Command, JobNo, MemberId, OutSpec, Entry, Queue, outputs_at_end, job_at, may_give, Reply, Batch, Tell, TellSound, held_by, Tables, View, PlantGhosts, Ghosts as CopyGhosts, SteadyGhosts, Complex, kept_all, begun, meaning_run as run, MayBegin, values_of, HasTexts, Spools, lost_now, spools_at, Member, NodeNo, Apart, Course, IsSettle, counted_none, counted_up, notes_by, notes_same, LeavesNotes, AreOf, given_of, tells_some, IsOnCopies, KeepLeaves, UnitEnd, AreSpooled, IsUnderWay, IsKeeping, units_groups_for_end as groups_for_end, part_begins, batch_of, given_in, closes, closing_reply, entry_of, is_drop, reply_to, Holder, run_append, GivesUp, HasGiven, SparesOthers, IsLow, LeavesRoom, Works, outside, place_of, queue_here, queue_kept, append-nil, suc, parts_of, drop_groups, unit_part, pair_at}
 use Rattle.std.proofs.Math.Logic.{∥∥₁_map}
 use Rattle.queue_laws.proofs.RunLaws.{give_alike}
 use Rattle.member_node.specs.Drawn.{AreDrawn}
-use Rattle.member_decks.specs.Taking.{LeaveOut}
+use Rattle.member_decks.specs.Taking.{LeaveOut, IsPart}
 use Rattle.member_decks.proofs.MayLemmas.{IsUnmarked}
-use Rattle.member_work.specs.Giving.{GivesAt, HasGiven as Given, MayEnd}
+use Rattle.member_work.specs.Giving.{GivesAt, HasGiven as Given, MayEnd, asked}
+use Rattle.ckpt_tables.specs.Shape.{AreLevels, HasSpelling, page_count}
+use Rattle.mas_types.specs.Limits.{page_bytes}
+use Rattle.mas_types.specs.Step.{step}
+use Rattle.mas_types.specs.declared.commands.Reply.TheVariants as reply
+use Rattle.member_node.specs.Batches.{CanDraw}
+use Rattle.member_node.specs.declared.checkpoint.Checkpoint.{Checkpoint}
+use Rattle.member_node.proofs.AgeLemmas.{aged_as, level_as}
+use Rattle.member_steps.specs.Steps.{entry_with}
+use Rattle.member_asides.specs.Whole.{HasTextsAfter, HasTextsOf}
+use Rattle.member_asides.proofs.ReachLemmas.{batch_some}
+use Rattle.member_asides.proofs.SeatLemmas.{all_strip, front_is, of_strip, or_one, still_commanded, strip, strip_front}
 use Rattle.member_giving.proofs.Going.{apart_none, apart_then}
 use Rattle.member_giving.proofs.Resting.{tells_here}
-use Rattle.member_giving.proofs.Working.{kept_here, leaves_room, same_run, works_on, none_flies}
-use Rattle.member_giving.proofs.Cuts.{one_batch}
+use Rattle.member_giving.proofs.Working.{kept_here, leaves_room, none_flies}
+use Rattle.member_giving.proofs.Cuts.{none_batch}
+use Rattle.member_giving.proofs.Keeping.{keeping_none, keeping_starts, keeping_then, kept_not as batch_not, kept_ok, settled}
+use Rattle.member_giving.proofs.Leaving.{StartsAs}
 
 -- the step may close with the reply to one command that isn't Drop
 closes_with : (r : Reply) (e : Entry) → e.reply ≡ r → is_drop e.command ≡ false → closing_reply (e ∷ []) ≡ r
@@ -33,31 +46,53 @@ module _ {P C : Type 0} {plants : PlantGhosts P} {steadies : SteadyGhosts C} {co
 
   module _ (x y : Complex P C plants steadies copies) (m : Member) (h : Holder) (w : Works x m h) (some : 1 ≤ length m.batch) where
     abbrev OnCopies : Result (Unit {0}) NodeNo → Type 0
-    OnCopies r = IsOnCopies {T = Unit {0}} plants.tells m.id.0 x.pair.first.alive y.pair.first.alive x.pair.second.alive y.pair.second.alive (seen x) (seen y) r
+    OnCopies r = IsOnCopies {T = Unit {0}} plants.tells m.id.0 (pair_at x.pair.first.alive x.pair.second.alive (seen x)) (pair_at y.pair.first.alive y.pair.second.alive (seen y)) r
 
     abbrev Leaves : Result (Unit {0}) NodeNo → Type 0
     Leaves r = KeepLeaves {T = Unit {0}} r x.journal.batches (outside y).batches (begun (seen x).now m.id m.batch) (seen y).now
 
+    leaves_out : (r : Result (Unit {0}) NodeNo) → Leaves r → KeepLeaves {T = Unit {0}} r (outside x).batches (outside y).batches (begun (seen x).now m.id m.batch) (seen y).now
+    leaves_out r leaves = subst (λ (bs : List Batch). KeepLeaves {T = Unit {0}} r bs (outside y).batches (begun (seen x).now m.id m.batch) (seen y).now) (sym (none_flies x m w.still)) leaves
+
     -- its batch, by what others see
-    batch_kept : (z : Complex P C plants steadies copies) (r : Result (Unit {0}) NodeNo) → IsKeeping {T = Unit {0}} plants.tells m.id (m.batch ∷ []) x.journal.batches (outside z).batches x.pair.first.alive z.pair.first.alive x.pair.second.alive z.pair.second.alive (seen x) (seen z) r → Keeps plants.tells h.by (batch_of m.batch) (outside x) (outside z) r
-    batch_kept z r k =
-        subst (λ (i : MemberId). Keeps {T = Unit {0}} plants.tells i (batch_of m.batch) (outside x) (outside z) r) (sym w.own)
-        (subst (λ (bs : List Batch). IsKeeping {T = Unit {0}} plants.tells m.id (batch_of m.batch) bs (outside z).batches x.pair.first.alive z.pair.first.alive x.pair.second.alive z.pair.second.alive (seen x) (seen z) r) (sym (none_flies x m w.work))
-        (subst (λ (ess : List (List Entry)). IsKeeping {T = Unit {0}} plants.tells m.id ess x.journal.batches (outside z).batches x.pair.first.alive z.pair.first.alive x.pair.second.alive z.pair.second.alive (seen x) (seen z) r) (sym (one_batch_in m.batch some) ∙ one_batch m.batch) k))
+    batch_kept : (z : Complex P C plants steadies copies) (r : Result (Unit {0}) NodeNo) → IsKeeping plants.tells m.id (m.batch ∷ []) (outside x) (outside z) r → IsKeeping plants.tells h.by (batch_of m.batch) (outside x) (outside z) r
+    batch_kept z r k = subst (λ (i : MemberId). IsKeeping plants.tells i (batch_of m.batch) (outside x) (outside z) r) (sym w.own) (subst (λ (ess : List (List Entry)). IsKeeping plants.tells m.id ess (outside x) (outside z) r) (sym (batch_some m.batch some)) k)
 
     -- it couldn't be kept
-    pub kept_not : (e : NodeNo) → OnCopies (Err e) → Leaves (Err e) → Keeps {T = Unit {0}} plants.tells h.by (batch_of m.batch) (outside x) (outside y) (Err e)
-    kept_not e acts leaves = batch_kept y (Err e) (batch_not plants.tells m.id m.batch some x.journal.batches (outside y).batches x.pair.first.alive y.pair.first.alive x.pair.second.alive y.pair.second.alive (seen x) (seen y) e acts leaves)
+    pub kept_not : (e : NodeNo) → OnCopies (Err e) → Leaves (Err e) → IsKeeping plants.tells h.by (batch_of m.batch) (outside x) (outside y) (Err e)
+    kept_not e acts leaves = batch_kept y (Err e) (batch_not plants.tells m.id (outside x) (outside y) m.batch some e acts (leaves_out (Err e) leaves))
 
     -- it was kept, and then room was made for the next one
-    pub kept_then : (z : Complex P C plants steadies copies) (n : Member) (r : Result (Unit {0}) NodeNo) → n.id ≡ m.id → OnCopies (Ok tt) → Leaves (Ok tt) → z.journal ≡ y.journal → z.current ≡ y.current → z.placed ≡ y.placed
-        → IsSettle plants.tells n.id.0 y.pair.first.alive z.pair.first.alive y.pair.second.alive z.pair.second.alive (seen y) (seen z) r → Keeps plants.tells h.by (batch_of m.batch) (outside x) (outside z) r
-    kept_then z n r id acts leaves journal current placed settle =
-        let same : (outside z).batches ≡ (outside y).batches = ap (λ (j : Journal). end_of z.placed z.current j.batches) journal ∙ ap (λ (b : Bool). end_of b z.current y.journal.batches) placed ∙ ap (λ (o : Option Batch). end_of y.placed o y.journal.batches) current in
-        batch_kept z r (keeping_then {T = Unit {0}} plants.tells m.id {S = Unit {0}} tt r (m.batch ∷ []) [] x.journal.batches (outside y).batches (outside z).batches x.pair.first.alive y.pair.first.alive z.pair.first.alive x.pair.second.alive y.pair.second.alive z.pair.second.alive (seen x) (seen y) (seen z)
-        (kept_ok plants.tells m.id m.batch some x.journal.batches (outside y).batches x.pair.first.alive y.pair.first.alive x.pair.second.alive y.pair.second.alive (seen x) (seen y) acts leaves)
-        (settled plants.tells m.id (outside y).batches (outside z).batches same y.pair.first.alive z.pair.first.alive y.pair.second.alive z.pair.second.alive (seen y) (seen z) r
-        (subst (λ (i : MemberId). IsSettle plants.tells i.0 y.pair.first.alive z.pair.first.alive y.pair.second.alive z.pair.second.alive (seen y) (seen z) r) id settle)))
+    pub kept_then : (z : Complex P C plants steadies copies) (n : Member) (r : Result (Unit {0}) NodeNo) → n.id ≡ m.id → OnCopies (Ok tt) → Leaves (Ok tt) → (outside z).batches ≡ (outside y).batches
+        → IsSettle plants.tells n.id.0 y.pair.first.alive z.pair.first.alive y.pair.second.alive z.pair.second.alive (seen y) (seen z) r → IsKeeping plants.tells h.by (batch_of m.batch) (outside x) (outside z) r
+    kept_then z n r id acts leaves same settle =
+        batch_kept z r (keeping_then plants.tells m.id r (m.batch ∷ []) [] (outside x) (outside y) (outside z) (kept_ok plants.tells m.id (outside x) (outside y) m.batch some acts (leaves_out (Ok tt) leaves))
+        (settled plants.tells m.id (outside y) (outside z) same r (subst (λ (i : MemberId). IsSettle plants.tells i.0 y.pair.first.alive z.pair.first.alive y.pair.second.alive z.pair.second.alive (seen y) (seen z) r) id settle)))
+
+can_still : (k n : Checkpoint) → CanDraw k → n.pages ≡ k.pages → n.level ≡ k.level → n.levels ≡ k.levels → n.tables.config ≡ k.tables.config → HasSpelling n.tables → CanDraw n
+can_still k n draws pages level levels config spelling = record {
+  leveled = subst (λ (l : ℕ). AreLevels n.tables l n.levels) (sym level) (subst (AreLevels n.tables k.level) (sym levels) (record {
+    count = draws.leveled.count ∙ ap page_count (sym config);
+    first = draws.leveled.first;
+    each = draws.leveled.each;
+    most = draws.leveled.most;
+  }));
+  as_many = ap length pages ∙ draws.as_many ∙ ap page_count (sym config);
+  sized = subst (All (λ page. length page.0 ≡ page_bytes)) (sym pages) draws.sized;
+  spelling = spelling;
+  aged = aged_as k n draws.aged pages levels;
+  at_level = level_as k n draws.at_level pages level;
+}
+
+-- HOW MANY COMMANDS
+
+given_long : (by : MemberId) (at : ℕ) (cs : List Command) (Q : Queue) → length (given_in Q by at cs) ≡ length cs
+given_long by at [] Q = refl
+given_long by at (c ∷ cs) Q = ap suc (given_long by at cs (step Q by c).0)
+
+part_few : {T E : Type 0} (r : Result T E) (gave all : List Entry) → IsPart r gave all → length gave ≤ length all
+part_few (Ok done) gave all part = let same = ap length part in omega (arith, same)
+part_few (Err why) gave all part = let same = ap length part.1 in let long = length-append gave part.0 in omega (arith, same, long)
 
 starts_batch : (es tail : List Entry) → StartsAs (batch_of es) (batch_of (es ++ tail))
 starts_batch [] tail = tt
@@ -72,7 +107,12 @@ module _ {P C : Type 0} {plants : PlantGhosts P} {steadies : SteadyGhosts C} {co
 
   -- the texts of a queue stand on the volumes
   abbrev Stand : Queue → Type 0
-  Stand R = plants.tells → ∥ HasTexts (lost_now v) (spools_at v v.now) x.base.config.groups R ∥₁
+  Stand R = HasTextsOf plants copies (parts_of x) R
+
+  -- those of the member's stand, where those of the kept batches do
+  texts_here : (l : List Entry) → (1 ≤ length l → HasTextsAfter plants copies (parts_of x) l) → Stand (queue_kept x) → HasTextsAfter plants copies (parts_of x) l
+  texts_here [] some has t = subst (λ (es : List Entry). ∥ HasTexts (lost_now v) (spools_at v v.now) x.base.config.groups (run x.base es) ∥₁) (sym (append-nil (kept_all x.journal.batches))) (has t)
+  texts_here (e ∷ l) some has t = some (omega arith) t
 
   -- what was given, and what the batch has of it
   abbrev gave : List Entry
@@ -81,14 +121,14 @@ module _ {P C : Type 0} {plants : PlantGhosts P} {steadies : SteadyGhosts C} {co
   gave_of : AreOf h.by h.step gave
   gave_of = subst (λ (i : MemberId). AreOf i h.step gave) (sym w.own) (all_strip (λ (e : Entry). (e.by ≡ m.id) × (e.step ≡ h.step)) m.batch n.batch (g.own w.of))
 
-  module _ {T E : Type 0} (cs : Queue → MemberId → List Command) (holds : Queue → Spools → ℕ → Type 0) (r : Result T E) (gives : (R : Queue) → Tell m.checkpoint.tables R → GivesAt R m.id h.step (cs R m.id) (holds R) m n r) where
-    abbrev first : GivesAt (tells_some m.checkpoint.tables).0 m.id h.step (cs (tells_some m.checkpoint.tables).0 m.id) (holds (tells_some m.checkpoint.tables).0) m n r
+  module _ {T E : Type 0} (cs : Queue → MemberId → List Command) (holds : Queue → Spools → ℕ → Type 0) (r : Result T E) (gives : (R : Queue) → Tell m.checkpoint.tables R → GivesAt (asked R m.id h.step (cs R m.id)) (holds R) m n r) where
+    abbrev first : GivesAt (asked (tells_some m.checkpoint.tables).0 m.id h.step (cs (tells_some m.checkpoint.tables).0 m.id)) (holds (tells_some m.checkpoint.tables).0) m n r
     first = gives (tells_some m.checkpoint.tables).0 (tells_some m.checkpoint.tables).1
 
-    abbrev one : plants.tells → GivesAt Q m.id h.step (cs Q m.id) (holds Q) m n r
+    abbrev one : plants.tells → GivesAt (asked Q m.id h.step (cs Q m.id)) (holds Q) m n r
     one t = gives Q (tells_here x m h w t)
 
-    gave_is : (R : Queue) → (its : GivesAt R m.id h.step (cs R m.id) (holds R) m n r) → gave ≡ its.gave
+    gave_is : (R : Queue) → (its : GivesAt (asked R m.id h.step (cs R m.id)) (holds R) m n r) → gave ≡ its.gave
     gave_is R its = ap (strip m.batch) its.batch ∙ strip_front m.batch its.gave
 
     batch_is : n.batch ≡ m.batch ++ gave
@@ -107,33 +147,28 @@ module _ {P C : Type 0} {plants : PlantGhosts P} {steadies : SteadyGhosts C} {co
         omega (arith, few, long, both)
 
     pub works_given : length n.batch ≤ 64 → (plants.tells → holds Q (spools_at v v.now) x.base.config.groups) → Stand (queue_kept x) → (plants.tells → MayBegin x.base x.journal.batches x.printed n.batch) → Works x n h
-    works_given few stands kept begins =
-        let k = w.work in
-        let had = values_of x.had in
-        works_on x x m n h w (same_run x x m n h refl refl refl refl g.id) (record {
-          none = k.none;
-          unreserved = k.unreserved;
-          unplaced = k.unplaced;
-          here = g.behind ∙ k.here;
-          many = ap length g.room ∙ k.many ∙ ap length (sym g.pages);
-          own = All-weaker (λ (e : Entry). (e.by ≡ m.id) × (e.step ≡ h.step)) (λ (e : Entry). e.by ≡ n.id) (λ e is. is.0 ∙ sym g.id) n.batch (g.own w.of);
-          few = few;
-          drawn = λ none. let long = g.grows in let no = ap length none in let same : n ≡ m = g.still (omega (arith, no, long)) in
-              subst (λ (i : Member). AreDrawn i.checkpoint.tables i.checkpoint.level i.checkpoint.levels i.checkpoint.pages) (sym same) (k.drawn (none_batch m.batch (omega (arith, no, long))));
-          draws = can_still m.checkpoint n.checkpoint k.draws g.pages g.level g.levels g.config g.spelling;
-          fit = g.fit;
-          config = k.config ∙ sym g.config;
-          same_level = λ t. k.same_level t ∙ sym g.level;
-          done = λ t. g.done (run x.base (kept_all x.journal.batches)) (k.done t);
-          sound = λ t. g.sound (k.sound t);
-          low = λ t. let le = k.low t in let more = g.order in omega (arith, le, more);
-          kept = k.kept;
-          begun = k.begun;
-          roomy = k.roomy;
-          texts = λ t some. ∥∥₁_map (work_texts plants.tells v x.since x.base x.journal.batches x.current x.placed x.level x.reserved x.printed m.id m.batch m.checkpoint m.room m.behind k kept t)
-              (λ has. subst (HasTexts (lost_now v) (spools_at v v.now) x.base.config.groups) (ap (run Q) (sym (gave_is Q (one t))) ∙ sym queue_is) ((one t).texts (lost_now v) (spools_at v v.now) x.base.config.groups (stands t) has));
-          allowed = begins;
-        }) (subst (λ (i : MemberId). AreOf i h.step n.batch) (sym g.id) (g.own w.of)) (rw g.id w.untold) (rw g.id w.step) (rw g.pages w.copy1) (rw g.pages w.copy2) (had_as plants.tells had had m n refl g.id g.fresh g.pages w.noted)
+    works_given few stands kept begins = record {
+      own = w.own ∙ sym g.id;
+      still = still_commanded plants copies (parts_of x) m n (record { id = g.id; room = g.room; here = g.behind ∙ w.still.here; fresh = g.fresh; level = g.level; levels = g.levels; pages = g.pages; config = g.config; spelling = g.spelling; fit = g.fit }) w.still;
+      base_sound = w.base_sound;
+      of = subst (λ (i : MemberId). AreOf i h.step n.batch) (sym g.id) (g.own w.of);
+      few = few;
+      drawn = λ none. let long = g.grows in let no = ap length none in let same : n ≡ m = g.still (omega (arith, no, long)) in
+          subst (λ (i : Member). AreDrawn i.checkpoint.tables i.checkpoint.level i.checkpoint.levels i.checkpoint.pages) (sym same) (w.drawn (none_batch m.batch (omega (arith, no, long))));
+      draws = can_still m.checkpoint n.checkpoint w.draws g.pages g.level g.levels g.config g.spelling;
+      fit = g.fit;
+      same_level = λ t. w.same_level t ∙ sym g.level;
+      done = λ t. g.done (queue_kept x) (w.done t);
+      sound = λ t. g.sound (w.sound t);
+      low = λ t. let le = w.low t in let more = g.order in omega (arith, le, more);
+      texts = λ some t. ∥∥₁_map (texts_here m.batch w.texts kept t)
+          (λ has. subst (HasTexts (lost_now v) (spools_at v v.now) x.base.config.groups) (ap (run Q) (sym (gave_is Q (one t))) ∙ sym queue_is) ((one t).texts (lost_now v) (spools_at v v.now) x.base.config.groups (stands t) has));
+      allowed = begins;
+      untold = rw g.id w.untold;
+      step = rw g.id w.step;
+      first = w.first;
+      second = w.second;
+    }
 
     -- three commands at most, none of them a Mark, where nothing was unwritten
     module _ (nothing : m.batch ≡ []) (most : (R : Queue) → length (cs R m.id) ≤ 3) where
@@ -159,15 +194,15 @@ module _ {P C : Type 0} {plants : PlantGhosts P} {steadies : SteadyGhosts C} {co
   -- WHAT WAS GIVEN
 
   -- all of them
-  pub given_done : {E : Type 0} (cs : Queue → MemberId → List Command) (holds : Queue → Spools → ℕ → Type 0) (end : UnitEnd) (e : Queue → MemberId → UnitEnd) → ((R : Queue) → Tell m.checkpoint.tables R → GivesAt {T = UnitEnd} {E = E} R m.id h.step (cs R m.id) (holds R) m n (Ok end)) → ((R : Queue) → Tell m.checkpoint.tables R → end ≡ e R m.id)
-      → HasGiven plants.tells h (cs Q h.by) (e Q h.by) (place_of x m) (place_of x n) (Ok end)
+  pub given_done : {E : Type 0} (cs : Queue → MemberId → List Command) (holds : Queue → Spools → ℕ → Type 0) (end : UnitEnd) (e : Queue → MemberId → UnitEnd) → ((R : Queue) → Tell m.checkpoint.tables R → GivesAt {T = UnitEnd} {E = E} (asked R m.id h.step (cs R m.id)) (holds R) m n (Ok end)) → ((R : Queue) → Tell m.checkpoint.tables R → end ≡ e R m.id)
+      → HasGiven plants.tells h (unit_part (cs Q h.by) (e Q h.by)) (place_of x m) (place_of x n) (Ok end)
   given_done {E} cs holds end e gives ends =
       let o = outside x in
       record {
         es = gave;
         is = λ t. gave_is {T = UnitEnd} {E = E} cs holds (Ok end) gives Q (gives Q (tells_here x m h w t)) ∙ (gives Q (tells_here x m h w t)).part ∙ ap (λ (i : MemberId). given_in Q i h.step (cs Q i)) (sym w.own);
         of = gave_of;
-        keeps = keeping_none {T = UnitEnd} plants.tells h.by o.batches o.batches refl end o.first o.second o.view;
+        keeps = keeping_none plants.tells h.by o;
         counts = counted_none h.by x.printed x.printed (Ok end) refl;
         left = batch_is {T = UnitEnd} {E = E} cs holds (Ok end) gives;
         queue = queue_is {T = UnitEnd} {E = E} cs holds (Ok end) gives;
@@ -176,20 +211,21 @@ module _ {P C : Type 0} {plants : PlantGhosts P} {steadies : SteadyGhosts C} {co
       }
 
   -- the first ones, which are kept if there is memory for that
-  pub given_not : {T E : Type 0} (y : Complex P C plants steadies copies) (u : Member) (why : NodeNo) (cs : Queue → MemberId → List Command) (holds : Queue → Spools → ℕ → Type 0) (err : E) (e : Queue → MemberId → UnitEnd) → ((R : Queue) → Tell m.checkpoint.tables R → GivesAt {T = T} {E = E} R m.id h.step (cs R m.id) (holds R) m n (Err err))
-      → GivesUp plants.tells h.by n.batch (outside x) (outside y) why → HasGiven plants.tells h (cs Q h.by) (e Q h.by) (place_of x m) (place_of y u) (Err why)
+  pub given_not : {T E : Type 0} (y : Complex P C plants steadies copies) (u : Member) (why : NodeNo) (cs : Queue → MemberId → List Command) (holds : Queue → Spools → ℕ → Type 0) (err : E) (e : Queue → MemberId → UnitEnd) → ((R : Queue) → Tell m.checkpoint.tables R → GivesAt {T = T} {E = E} (asked R m.id h.step (cs R m.id)) (holds R) m n (Err err))
+      → GivesUp plants.tells h.by n.batch (outside x) (outside y) why → HasGiven plants.tells h (unit_part (cs Q h.by) (e Q h.by)) (place_of x m) (place_of y u) (Err why)
   given_not {T} {E} y u why cs holds err e gives up =
       let o = outside x in
       let z = outside y in
       let all : List Entry = given_in Q h.by h.step (cs Q h.by) in
-      let tail : List Entry = Tail h.by h.step gave all in
+      let e1 : Entry = entry_with h.by h.step drop_groups reply.Plain in
+      let tail : List Entry = or_one e1 (strip gave all) in
       record {
         es = gave ++ tail;
-        is = λ t. whole_is h.by h.step gave all (subst (λ (i : MemberId). LeaveOut gave (given_in Q i h.step (cs Q i))) (sym w.own) (subst (λ (es : List Entry). LeaveOut es (given_in Q m.id h.step (cs Q m.id))) (sym (gave_is {T = T} {E = E} cs holds (Err err) gives Q (gives Q (tells_here x m h w t)))) (gives Q (tells_here x m h w t)).part));
-        of = whole_of h.by h.step gave all gave_of (given_of h.by h.step (cs Q h.by) Q);
-        keeps = keeping_starts {T = UnitEnd} plants.tells h.by why (batch_of n.batch) (batch_of (m.batch ++ (gave ++ tail))) o.batches z.batches o.first z.first o.second z.second o.view z.view
+        is = λ t. front_is gave all e1 (subst (λ (i : MemberId). LeaveOut gave (given_in Q i h.step (cs Q i))) (sym w.own) (subst (λ (es : List Entry). LeaveOut es (given_in Q m.id h.step (cs Q m.id))) (sym (gave_is {T = T} {E = E} cs holds (Err err) gives Q (gives Q (tells_here x m h w t)))) (gives Q (tells_here x m h w t)).part));
+        of = of_strip h.by h.step gave all e1 (refl, refl) gave_of (given_of h.by h.step (cs Q h.by) Q);
+        keeps = keeping_starts plants.tells h.by why (batch_of n.batch) (batch_of (m.batch ++ (gave ++ tail))) o z
             (subst (λ (es : List Entry). StartsAs (batch_of n.batch) (batch_of es)) (ap (λ (es : List Entry). es ++ tail) (batch_is {T = T} {E = E} cs holds (Err err) gives) ∙ append_assoc m.batch gave tail) (starts_batch n.batch tail))
-            (keeping_error {S = Unit {0}} {T = UnitEnd} plants.tells h.by why (batch_of n.batch) o.batches z.batches o.first z.first o.second z.second o.view z.view up.keeps);
+            up.keeps;
         counts = counted_up {S = Unit {0}} {T = UnitEnd} h.by [] [] x.printed y.printed (Err why) why up.counts;
         left = tt;
         queue = tt;
@@ -199,7 +235,7 @@ module _ {P C : Type 0} {plants : PlantGhosts P} {steadies : SteadyGhosts C} {co
 
 -- ONE COMMAND
 
-pub one_more : {T E : Type 0} {holds : Spools → ℕ → Type 0} {done : T} (m n : Member) (h : Holder) (c : Command) (R : Queue) → GivesAt {T = T} {E = E} R m.id h.step (c ∷ []) holds m n (Ok done) → length n.batch ≡ length m.batch + 1
+pub one_more : {T E : Type 0} {holds : Spools → ℕ → Type 0} {done : T} (m n : Member) (h : Holder) (c : Command) (R : Queue) → GivesAt {T = T} {E = E} (asked R m.id h.step (c ∷ [])) holds m n (Ok done) → length n.batch ≡ length m.batch + 1
 one_more m n h c R its = ap length (its.batch ∙ ap (λ (es : List Entry). m.batch ++ es) its.part) ∙ length-append m.batch (given_in R m.id h.step (c ∷ []))
 
 -- a command that may be given to the base may be given to what the tables tell
@@ -219,4 +255,4 @@ module _ {P C : Type 0} {plants : PlantGhosts P} {steadies : SteadyGhosts C} {co
   -- so Ended may be given of a job under way
   pub end_stands : (plants.tells → IsUnderWay (queue_kept x) m.id job) → (plants.tells → Stands (queue_kept x)) → plants.tells → MayEnd m.checkpoint.tables (queue_here x m) m.id job specs (spools_at u u.now) x.base.config.groups
   end_stands under_way spooled t =
-      subst (λ (R : Queue). MayEnd m.checkpoint.tables R m.id job specs (spools_at u u.now) x.base.config.groups) (sym (kept_here x m nothing)) (record { sound = w.work.sound t; under_way = under_way t; spooled = spooled t })
+      subst (λ (R : Queue). MayEnd m.checkpoint.tables R m.id job specs (spools_at u u.now) x.base.config.groups) (sym (kept_here x m nothing)) (record { sound = w.sound t; under_way = under_way t; spooled = spooled t })

@@ -8,4 +8,6 @@ pub mod Following
 pub mod Resting
 pub mod Given
 pub mod Taking
+pub mod Leaving
+pub mod Keeping
 pub mod Names

@@ -1,16 +1,17 @@
 -- The names that many proofs take, each from where it is declared.
-pub use Rattle.member_giving.specs.Names.{All, Bool, Err, IfOk, List, None, Ok, OnOk, Option, Result, Some, [], false, if◌then◌else◌, length, suc, take, true, zero, ℕ, ◌*◌, ◌++◌, ◌+◌, ◌-◌, ◌<◌, ◌∷◌, ◌≡◌, ◌≤◌, IsNamedEnd, end_by, Done, Refused, spools_at, outputs_at_end, is_member, job_at, output_at, Command, MemberId, Entry, Queue, HasFewer, IsReady, IsReadyUnit, MayBeGiven, SittingEnd, AreOf, HasCounted, HasNotes, IsAnswered, AreSpooled, HasCopy, IsAtWork, IsKeeping, IsStepUntold, IsUnderWay, command_of, taken_end, IsMarkRight, Tell, batch_of, cut, cut_after, is_full, all_entries, closing_reply, given_in, chunk_end as jobends_chunk_end, drop_groups, ending, groups_for_end, taking, aside_units, units_left, Turn, is_spent, no_more, one_command, units_from, Holder, Progress, State, held_by}
-pub use Rattle.std.proofs.Common.{IfSome, ap, append-nil, append_assoc, arith, inl, inr, is_some, length-append, map, nat_le, not, refl, subst, sym, ⊎_elim, ◌||◌, ◌∙◌}
+pub use Rattle.std.proofs.Common.{All, Bool, Err, IfOk, IfSome, List, None, Ok, OnOk, Option, Result, Some, [], ap, append-nil, append_assoc, arith, false, if◌then◌else◌, inl, inr, is_some, length, length-append, map, nat_le, not, refl, subst, suc, sym, take, true, zero, ℕ, ⊎_elim, ◌*◌, ◌++◌, ◌+◌, ◌-◌, ◌<◌, ◌||◌, ◌∙◌, ◌∷◌, ◌≡◌, ◌≤◌}
 pub use Rattle.std.proofs.lemmas.Bool.Decides.{nat_tests}
 pub use Rattle.std.proofs.lemmas.List.Elements.{All-append, All-cons, All-head, All-nil, All-tail, All-weaker}
 pub use Rattle.std.specs.Option.{option_map_or}
 pub use Rattle.ckpt_copy.specs.declared.copying.Copying.{Ghosts}
 pub use Rattle.ckpt_form.specs.declared.steady.Steady.{Ghosts as SteadyGhosts}
 pub use Rattle.ckpt_tables.specs.declared.tables.Tables.{Tables}
+pub use Rattle.member_giving.specs.Names.{IsNamedEnd, end_by, Done, Refused, spools_at, outputs_at_end, is_member, job_at, output_at, Command, MemberId, Entry, Queue, HasFewer, IsReady, IsReadyUnit, MayBeGiven, SittingEnd, AreOf, HasCounted, IsAnswered, AreSpooled, IsUnderWay, command_of, taken_end, IsMarkRight, Tell, batch_of, cut, cut_after, is_full, all_entries, closing_reply, given_in, chunk_end as jobends_chunk_end, drop_groups, ending, groups_for_end, taking, aside_units, units_left, Turn, is_spent, no_more, one_command, units_from, Holder, Progress, State, held_by}
 pub use Rattle.job_outcome.specs.declared.units.UnitEnd.{UnitEnd}
-pub use Rattle.mas_complex.specs.Journals.{AreSettled, begun, end_of, kept_all}
+pub use Rattle.mas_complex.specs.Journals.{begun, end_of, kept_all}
 pub use Rattle.mas_complex.specs.Meaning.{run as meaning_run}
 pub use Rattle.mas_complex.specs.Paper.{MayBegin}
+pub use Rattle.mas_complex.specs.Parts.{parts_of}
 pub use Rattle.mas_complex.specs.Past.{values_of}
 pub use Rattle.mas_complex.specs.Texts.{HasTexts, Spools, lost_now}
 pub use Rattle.mas_complex.specs.declared.complex.Complex.{Complex}
@@ -34,33 +35,28 @@ pub use Rattle.member_decks.proofs.DeckLemmas.{given_of}
 pub use Rattle.member_decks.proofs.OpenLemmas.{on_ok, tells_some}
 pub use Rattle.member_decks.proofs.PageLemmas.{still_roomy}
 pub use Rattle.member_decks.specs.Batches.{AreAll, HasAll, IsKeptBatch}
+pub use Rattle.mas_complex.specs.CallCounts.{pair_at}
 pub use Rattle.member_decks.specs.Keeping.{CopyCauses, IsOnCopies, KeepLeaves}
 pub use Rattle.member_giving.specs.Nexts.{AreFieldsOf, AreLines, IsOfOutput, IsOfUnit, IsRightNext, IsText, WaitsFor, lines_of, text_of, turn_by}
-pub use Rattle.member_giving.specs.Plays.{Bounds, Closes, EndsAs, GivesUp, HasGiven, IsWithin, Keeps, MayStopBy, Plays, PlaysAs, SparesOthers, Wrote, after_full, bounds, full_of, rests, unwritten, wrote_after, wrote_of}
+pub use Rattle.member_giving.specs.Plays.{Bounds, Closes, EndsAs, GivesUp, HasGiven, IsClosing, IsKeeping, IsWithin, Keeps, LeavesFirst, LeavesLast, MayFly, MayStopBy, Plays, PlaysAs, SparesOthers, WorkLeaves, Wrote, after_full, bounds, closed, ended, full_of, to_play, unit_part, rests, unwritten, wrote_after, wrote_of}
 pub use Rattle.member_giving.specs.Works.{Follow, HasBounds, HasRoom, HasSeat, IsLow, Leaves, LeavesRoom, MayLeave, Outside, Place, Run, Sits, SitsIn, UsesOne, Works, outside, place_of, queue_here, queue_kept, run_of}
 pub use Rattle.member_giving.specs.declared.nexts.Next.{Next}
 pub use Rattle.member_node.proofs.WriteLemmas.{none_out}
 pub use Rattle.member_node.specs.Calls.{Apart, Course, console_now}
-pub use Rattle.member_node.specs.Reads.{IsSettle, orders_after, pages_had, too_high}
+pub use Rattle.member_node.specs.Reads.{IsSettle, pages_had, too_high}
 pub use Rattle.member_node.specs.declared.member.Member.{Member}
 pub use Rattle.member_node.specs.declared.member.NodeNo.{NodeNo}
 pub use Rattle.member_node.specs.declared.member.NodeNo.TheVariants.{BothLost, ConsoleFault, Halted, NoMemory}
 pub use Rattle.member_steps.proofs.CountLemmas.{counted_by, counted_none, counted_ok, counted_on, counted_then, counted_up}
-pub use Rattle.member_steps.proofs.FateLemmas.{settled_later, settled_out}
+pub use Rattle.member_steps.proofs.FateLemmas.{settled_later}
 pub use Rattle.member_steps.proofs.NoteLemmas.{had_as, notes_by, notes_none, notes_same, notes_then}
 pub use Rattle.member_steps.specs.Noting.{LeavesNotes}
 pub use Rattle.member_steps.specs.Saying.{Breaks, HaveSaid, OnConsole}
-pub use Rattle.member_steps.specs.Steps.{AreKeptFrom, StepCauses, StepTells}
+pub use Rattle.member_steps.specs.Steps.{StepCauses, StepTells}
 pub use Rattle.member_work.proofs.BeginLemmas.{dropping_unmarked, ending_unmarked, more_begins, part_begins, taking_unmarked}
 pub use Rattle.member_work.proofs.CauseLemmas.{reply_answered, taken_answered}
-pub use Rattle.member_work.proofs.EndingLemmas.{Tail, all_strip, ending_few, given_long, part_few, strip, strip_front, taking_few, whole_is, whole_of}
-pub use Rattle.member_work.proofs.GivenLemmas.{can_still, work_tells, work_texts}
-pub use Rattle.member_work.proofs.KeepingLemmas.{keeping_error, keeping_error_of, keeping_none, keeping_starts, keeping_then, kept_not, kept_ok, settled}
-pub use Rattle.member_work.proofs.LeavesLemmas.{StartsAs, work_then}
-pub use Rattle.member_work.proofs.PartLemmas.{not_refused, queue_is, queue_kept as queue_of_kept, taken_done, under_way_taken}
-pub use Rattle.member_work.proofs.StateLemmas.{between_by, none_batch, one_batch_in, same_room, some_batch, untold_then, work_back, work_between, work_low, work_order}
+pub use Rattle.member_work.proofs.PartLemmas.{queue_is, under_way_taken}
 pub use Rattle.member_work.proofs.UnitStepLemmas.{command_fits, each_command}
-pub use Rattle.member_work.specs.Steps.{WorkLeaves}
 pub use Rattle.member_work.specs.Units.{chunk_end, groups_for_end as units_groups_for_end}
 pub use Rattle.paper_laws.specs.Counts.{may_mark}
 pub use Rattle.queue_laws.proofs.Finds.{test_cases}

@@ -1,5 +1,5 @@
 -- Where a sitting ends: what is known of its answer.
-use Rattle.member_giving.proofs.Names.{◌≡◌, ℕ, zero, suc, ◌+◌, ◌*◌, ◌≤◌, ◌<◌, [], Result, Ok, Err, ◌-◌, Bool, true, Option, Some, None, IfOk, OnOk, ◌∙◌, refl, sym, subst, arith, is_some, ap, Command, MemberId, JobNo, OutNo, Queue, job_at, output_at, Job, Output, Tables, Tell, TellSound, PlantGhosts, Ghosts as CopyGhosts, Complex, SteadyGhosts, Member, NodeNo, work_tells, IsUnderWay, sittings_most, aside_units, units_left, Aside, PrintLines, ReadText, Holder, Progress, State, Away, Told, jobends_chunk_end as chunk_end, IsRightNext, WaitsFor, AreLines, IsText, lines_of, text_of, AreFieldsOf, IsOfOutput, Next, Follow, HasSeat, Leaves, MayLeave, Run, Sits, SitsIn, Works, queue_here, queue_kept, run_of, SittingEnd, HasFewer, IsReady, IsReadyUnit, IsReadyFor, tells_some}
+use Rattle.member_giving.proofs.Names.{◌≡◌, ℕ, zero, suc, ◌+◌, ◌*◌, ◌≤◌, ◌<◌, [], Result, Ok, Err, ◌-◌, Bool, true, Option, Some, None, IfOk, OnOk, ◌∙◌, refl, sym, subst, arith, is_some, ap, Command, MemberId, JobNo, OutNo, Queue, job_at, output_at, Job, Output, Tables, Tell, TellSound, PlantGhosts, Ghosts as CopyGhosts, Complex, SteadyGhosts, Member, NodeNo, run_append, kept_all, IsUnderWay, sittings_most, aside_units, units_left, Aside, PrintLines, ReadText, Holder, Progress, State, Away, Told, jobends_chunk_end as chunk_end, IsRightNext, WaitsFor, AreLines, IsText, lines_of, text_of, AreFieldsOf, IsOfOutput, Next, Follow, HasSeat, Leaves, MayLeave, Run, Sits, SitsIn, Works, queue_here, queue_kept, run_of, SittingEnd, HasFewer, IsReady, IsReadyUnit, IsReadyFor, tells_some, meaning_run as run}
 use Rattle.member_work.specs.Printing.{IsPrinting}
 use Rattle.member_giving.proofs.Seated.{sits_works}
 use Rattle.member_giving.proofs.Working.{kept_here}
@@ -87,7 +87,7 @@ waits_few level p x a waits is = let same = (subst (WaitsFor p) is waits).0 in o
 
 module _ {P C : Type 0} {plants : PlantGhosts P} {steadies : SteadyGhosts C} {copies : CopyGhosts C} where
   pub tells_here : (x : Complex P C plants steadies copies) (m : Member) (h : Holder) → Works x m h → plants.tells → Tell m.checkpoint.tables (queue_here x m)
-  tells_here x m h w = work_tells plants.tells (plants.view x.plant) x.since x.base x.journal.batches x.current x.placed x.level x.reserved x.printed m.id m.batch m.checkpoint m.room m.behind w.work
+  tells_here x m h w t = subst (Tell m.checkpoint.tables) (sym (run_append x.base (kept_all x.journal.batches) m.batch)) (w.done t).queue
 
   -- the step goes on from this state
   pub again_left : (y : Complex P C plants steadies copies) (n : Member) (h : Holder) (r : Result SittingEnd NodeNo) (s : State) → (Sits y n h.step → SitsIn s y n h.step) → IfOk r (λ e. e.next ≡ s) → OnOk r (Works y n h) → OnOk r (n.batch ≡ []) → IfOk r (λ e. SitsIn e.next y n h.step)
@@ -127,12 +127,6 @@ module _ {P C : Type 0} {plants : PlantGhosts P} {steadies : SteadyGhosts C} {co
     fewer = subst (HasFewer f.most f.units) (sym told) (record { falls = some; few = omega arith });
     reached = subst (λ (s : State). y.level + units_left s ≤ f.level) (sym told) (omega (arith, level));
   }
-
--- as much may follow, or more
-pub leaves_more : {P C : Type 0} {plants : PlantGhosts P} {steadies : SteadyGhosts C} {copies : CopyGhosts C} (y : Complex P C plants steadies copies) (n : Member) (at : ℕ) (f g : Follow) (r : Result SittingEnd NodeNo) → f.most ≤ g.most → f.units ≤ g.units → f.level ≤ g.level → IfOk r (Leaves y n at f) → IfOk r (Leaves y n at g)
-leaves_more y n at f g r most units level l =
-    if_ok r (Leaves y n at f) (Leaves y n at g) (λ e is. let falls = is.fewer.falls in let few = is.fewer.few in let reached = is.reached in
-    record { again = is.again; ready = is.ready; fewer = record { falls = omega (arith, falls, most); few = omega (arith, few, units) }; reached = omega (arith, reached, level) }) l
 
 -- HOW MANY SITTINGS AND UNITS may follow
 

@@ -1,5 +1,5 @@
 -- A whole sitting.
-use Rattle.member_giving.proofs.Names.{◌≡◌, ℕ, ◌+◌, List, [], ◌++◌, length, Result, Ok, Err, ◌≤◌, Bool, true, false, if◌then◌else◌, take, Option, Some, None, IfOk, ◌∙◌, ⊎_elim, ap, refl, subst, arith, ◌||◌, nat_le, sym, nat_tests, MemberId, Batch, Entry, Queue, JobNo, OutNo, Output, OutSpec, groups_of_outputs, is_cancelled, job_at, output_at, Line, PlantGhosts, Ghosts as CopyGhosts, Complex, Spools, SteadyGhosts, Member, NodeNo, BothLost, Halted, ConsoleFault, NoMemory, console_now, StepTells, HasAll, WorkLeaves, IsUnderWay, AreSpooled, cut, sittings_most, all_entries, units_done, units_left, Sitting, released, sitting_of, Aside, PrintLines, ReadText, SpoolOutputs, Found, Holder, State, Away, Turn, turn, SittingEnd, Says, SaysWork, EndsAs, IsWithin, Plays, PlaysAs, Wrote, bounds, wrote_of, Run, outside, place_of, queue_kept, run_of, MayResume, OutputsStand, Tables, Tell, IsMarkRight, may_mark, held_by}
+use Rattle.member_giving.proofs.Names.{◌≡◌, ℕ, ◌+◌, List, [], ◌++◌, length, Result, Ok, Err, ◌≤◌, Bool, true, false, if◌then◌else◌, take, Option, Some, None, IfOk, ◌∙◌, ⊎_elim, ap, refl, subst, arith, ◌||◌, nat_le, sym, nat_tests, MemberId, Batch, Entry, Queue, JobNo, OutNo, Output, OutSpec, groups_of_outputs, is_cancelled, job_at, output_at, Line, PlantGhosts, Ghosts as CopyGhosts, Complex, Spools, SteadyGhosts, Member, NodeNo, BothLost, Halted, ConsoleFault, NoMemory, console_now, StepTells, HasAll, WorkLeaves, IsUnderWay, AreSpooled, cut, sittings_most, all_entries, units_done, units_left, Sitting, released, sitting_of, Aside, PrintLines, ReadText, SpoolOutputs, Found, Holder, State, Away, Turn, turn, SittingEnd, Says, SaysWork, EndsAs, IsWithin, Plays, PlaysAs, Wrote, bounds, wrote_of, Run, outside, place_of, queue_kept, run_of, MayResume, OutputsStand, Tables, Tell, IsMarkRight, may_mark, held_by, LeavesFirst, MayFly, StepCauses, View, ended, to_play, ◌∷◌}
 use Rattle.mas_types.specs.declared.ids.GroupNo.{GroupNo}
 use Rattle.mas_types.specs.declared.queues.Owner.{Owner}
 use Rattle.mas_types.specs.Ids.{is_somebody}
@@ -8,30 +8,57 @@ use Rattle.lock_cycle.specs.Books.{Book}
 use Rattle.mas_complex.specs.declared.renewals.Renewals.{Renewals}
 use Rattle.mas_complex.specs.Parts.{parts_of}
 use Rattle.step_turns.proofs.Cutting.{cut_entries}
-use Rattle.member_asides.specs.Left.{HasSaid}
+use Rattle.member_node.specs.Spares.{Spares, stopped_in}
+use Rattle.member_asides.specs.Left.{HasSaid, IsLastBatch}
 use Rattle.member_asides.specs.Sat.{HasSat, IsEndOf, IsSat, sat_in}
 use Rattle.member_asides.specs.Tight.{IfNoWork}
-use Rattle.member_asides.proofs.ReachLemmas.{LeftBy, by_all, by_cut_wanted, by_thirds_halted, by_thirds_lost, said_all, said_broken, said_none, said_some}
-use Rattle.member_giving.proofs.Working.{AtWork, none_flies}
+use Rattle.member_asides.proofs.ReachLemmas.{LeftBy, Lefts, by_all, next_left, none_left, part_left, said_all, said_broken, said_none, said_some}
+use Rattle.member_asides.specs.Whole.{IsStill}
+use Rattle.member_giving.proofs.Working.{none_flies}
 use Rattle.member_asides.specs.Asides.{lowest_for}
 
+-- what is left in the journal after an error
+first_left : (why : NodeNo) (by : MemberId) (from now : ℕ) (ess : List (List Entry)) (bs : List Batch) → LeavesFirst why by from now ess bs → (flies : Bool) × (why ≡ NoMemory → flies ≡ false) × Lefts flies by from now ess bs
+first_left why by from now ess [] leaves = (false, λ is. refl, record { reach = record { whole = 0; part = 0; flies = false }; flag = refl; left = none_left by from now ess })
+first_left why by from now [] (b ∷ bs) leaves = absurd leaves
+first_left why by from now (es ∷ ess) (b ∷ bs) leaves = ⊎_elim
+    (λ kept. let l = first_left why by b.last now ess bs kept.1 in (l.0, l.1, next_left l.0 by from now es ess b bs kept.0 l.2))
+    (λ last. ⊎_elim
+    (λ cut. (false, λ is. refl, ends false cut.0 cut.1.1.0 cut.1.0 cut.1.1.1 (λ e. cut.1.1.2) last.0 cut.2))
+    (λ flown. (true, λ is. absurd (subst MayFly is flown.0), ends true flown.1 flown.2.1.0 flown.2.0 flown.2.1.1 (λ e. absurd (cc)) last.0 flown.3))
+    last.1)
+    leaves
+  where
+    ends : (flies : Bool) (first rest : List Entry) → 1 ≤ length first → es ≡ first ++ rest → (flies ≡ false → 1 ≤ length rest) → bs ≡ [] → IsLastBatch flies by first from now b → Lefts flies by from now (es ∷ ess) (b ∷ bs)
+    ends flies first rest some is more none last = record {
+      reach = record { whole = 0; part = length first; flies = flies };
+      flag = refl;
+      left = rw (none, is) (part_left flies by from now first rest ess b some more last);
+    }
+
 -- by the answer: what is left in the journal
-left_by : (r : Result SittingEnd NodeNo) (by : MemberId) (from now : ℕ) (ess : List (List Entry)) (more : List Batch) → WorkLeaves r by from now ess more → LeftBy by from now ess more r
+left_by : (r : Result SittingEnd NodeNo) (by : MemberId) (from now : ℕ) (ess : List (List Entry)) (more : List Batch) → WorkLeaves (ended r) by from now ess more → LeftBy by from now ess more r
 left_by (Ok e) by from now ess more all = by_all by from now ess more (Ok e) all
 left_by (Err ConsoleFault) by from now ess more all = by_all by from now ess more (Err ConsoleFault) all
-left_by (Err NoMemory) by from now ess more leaves = ⊎_elim (λ cut. by_cut_wanted by from now ess more cut) (λ all. by_all by from now ess more (Err NoMemory) all) leaves
-left_by (Err BothLost) by from now ess more leaves = by_thirds_lost by from now ess more leaves
-left_by (Err Halted) by from now ess more leaves = by_thirds_halted by from now ess more leaves
+left_by (Err NoMemory) by from now ess more leaves = let l = first_left NoMemory by from now ess more leaves in record { reach = l.2.reach; left = l.2.left; reached = l.2.flag ∙ l.1 refl }
+left_by (Err BothLost) by from now ess more leaves = let l = first_left BothLost by from now ess more leaves in record { reach = l.2.reach; left = l.2.left; reached = tt }
+left_by (Err Halted) by from now ess more leaves = let l = first_left Halted by from now ess more leaves in record { reach = l.2.reach; left = l.2.left; reached = tt }
+
+-- by the answer: its cause, and who was stopped
+cause_by : (r : Result SittingEnd NodeNo) (by : ℕ) (a a' b b' : Bool) (v w : View) → StepCauses (ended r) by a a' b b' v w → Spares by (stopped_in (ended r)) v w → StepCauses r by a a' b b' v w × Spares by (stopped_in r) v w
+cause_by (Ok e) by a a' b b' v w cause spares = (cause, spares)
+cause_by (Err NoMemory) by a a' b b' v w cause spares = (cause, spares)
+cause_by (Err _) by a a' b b' v w cause spares = (cause, spares)
 
 -- by the answer: what was said on the console
-said_by : (r : Result SittingEnd NodeNo) (A : Type 0) (lines : List (List ℕ)) (was now : List Line) → (r ≡ Err ConsoleFault → A) → ((e : SittingEnd) → r ≡ Ok e → A) → StepTells r lines A was now → HasSaid A lines was now r
+said_by : (r : Result SittingEnd NodeNo) (A : Type 0) (lines : List (List ℕ)) (was now : List Line) → (r ≡ Err ConsoleFault → A) → ((e : SittingEnd) → r ≡ Ok e → A) → StepTells (ended r) lines A was now → HasSaid A lines was now r
 said_by (Ok e) A lines was now fault ok tells = said_all lines was now A e (ok e refl) tells
 said_by (Err ConsoleFault) A lines was now fault ok tells = said_some lines was now A tells.0 (fault refl) tells.1 tells.2
 said_by (Err NoMemory) A lines was now fault ok tells = said_none lines was now A NoMemory (λ e. absurd (cc)) tells
 said_by (Err BothLost) A lines was now fault ok tells = said_none lines was now A BothLost (λ e. absurd (cc)) tells
 said_by (Err Halted) A lines was now fault ok tells = ⊎_elim (λ none. said_none lines was now A Halted (λ e. absurd (cc)) none) (λ some. said_broken lines was now A some.1 some.0 some.2 some.3) tells
 
-all_where : (r : Result SittingEnd NodeNo) (by : MemberId) (from now : ℕ) (ess : List (List Entry)) (front batches rest : List Batch) → batches ≡ front ++ rest → WorkLeaves r by from now ess rest → (r ≡ Err ConsoleFault → HasAll by from now ess front batches) × ((e : SittingEnd) → r ≡ Ok e → HasAll by from now ess front batches)
+all_where : (r : Result SittingEnd NodeNo) (by : MemberId) (from now : ℕ) (ess : List (List Entry)) (front batches rest : List Batch) → batches ≡ front ++ rest → WorkLeaves (ended r) by from now ess rest → (r ≡ Err ConsoleFault → HasAll by from now ess front batches) × ((e : SittingEnd) → r ≡ Ok e → HasAll by from now ess front batches)
 all_where (Ok e) by from now ess front batches rest are all = (λ is. absurd (cc), λ x is. (rest, are, all))
 all_where (Err ConsoleFault) by from now ess front batches rest are all = (λ is. (rest, are, all), λ x is. absurd (cc))
 all_where _ by from now ess front batches rest are all = (λ is. absurd (cc), λ x is. absurd (cc))
@@ -75,35 +102,36 @@ module _ {P C : Type 0} {plants : PlantGhosts P} {steadies : SteadyGhosts C} {co
       ∙ ap (λ (rs : Renewals). record (parts_of y) { book = x.book; base = x.base; since = x.since; renewals = rs }) renewals
 
   -- what a sitting played from its beginning on, whatever bounds it
-  pub sat_played : (x y : Complex P C plants steadies copies) (m : Member) (h : Holder) (Fits : Wrote → Type 0) (w : Wrote) (r : Result SittingEnd NodeNo) → m.batch ≡ [] → AtWork x m
-      → (p : PlaysAs plants.tells h Fits 0 w (place_of x m) (outside y) r) → IsSat plants h.by (sitting_as h p.wrote) (parts_of x) (parts_of y) r
-  sat_played x y m h Fits w r nothing work p =
+  pub sat_played : (x y : Complex P C plants steadies copies) (m : Member) (h : Holder) (Fits : Wrote → Type 0) (w : Wrote) (r : Result SittingEnd NodeNo) → m.batch ≡ [] → IsStill plants copies (parts_of x) m
+      → (p : PlaysAs plants.tells Fits (to_play h 0 w) (place_of x m) (outside y) r) → IsSat plants h.by (sitting_as h p.wrote) (parts_of x) (parts_of y) r
+  sat_played x y m h Fits w r nothing still p =
       let c = p.closes in
-      let front = none_flies x m work in
+      let front = none_flies x m still in
       let are = c.batches_are ∙ ap (λ (bs : List Batch). bs ++ c.rest) front in
+      let cause = cause_by r h.by.0 x.pair.first.alive y.pair.first.alive x.pair.second.alive y.pair.second.alive (plants.view x.plant) (plants.view y.plant) c.cause c.spares in
       let left = left_by r h.by (plants.view x.plant).now (plants.view y.plant).now p.wrote.batches c.rest c.journal in
       let all = all_where r h.by (plants.view x.plant).now (plants.view y.plant).now p.wrote.batches x.journal.batches (outside y).batches c.rest are c.journal in
       record {
-        acts = record { course = c.course; loses = c.loses; others = p.spares.others; papers = p.spares.papers; wires = p.spares.wires; spares = c.spares; cause = c.cause; notes = p.spares.notes };
+        acts = record { course = c.course; loses = c.loses; others = p.spares.others; papers = p.spares.papers; wires = p.spares.wires; spares = cause.1; cause = cause.0; notes = p.spares.notes };
         reach = left.reach;
         more = c.rest;
         journal = are;
         left = left.left;
         reached = left.reached;
         console = λ t. said_by r (HasAll h.by (plants.view x.plant).now (plants.view y.plant).now p.wrote.batches x.journal.batches (outside y).batches) p.wrote.lines (console_now (plants.view x.plant)) (console_now (plants.view y.plant)) all.0 all.1
-            (subst (λ (bs : List Batch). StepTells r p.wrote.lines (HasAll h.by (plants.view x.plant).now (plants.view y.plant).now p.wrote.batches bs (outside y).batches) (console_now (plants.view x.plant)) (console_now (plants.view y.plant))) front (c.console t));
+            (subst (λ (bs : List Batch). StepTells (ended r) p.wrote.lines (HasAll h.by (plants.view x.plant).now (plants.view y.plant).now p.wrote.batches bs (outside y).batches) (console_now (plants.view x.plant)) (console_now (plants.view y.plant))) front (c.console t));
         counts = p.counts;
         ends = ends_as h p.wrote r (subst (λ (es : List Entry). IfOk r (EndsAs h 0 es p.wrote)) nothing p.ends);
       }
 
-  pub sat_of : (x y : Complex P C plants steadies copies) (m : Member) (h : Holder) (s : State) (found : Found) (w : Wrote) (r : Result SittingEnd NodeNo) → ((A : Type 0) → IfNoWork s A) → ((t : Sitting) → SaysWork h s found t → Says h s found t) → m.batch ≡ [] → AtWork x m → (plants.tells → w ≡ wrote_of [] (turn h (queue_kept x) s found))
-      → Plays plants.tells h (bounds (sittings_most s) (units_done s + units_left s) found) 0 w (place_of x m) (outside y) r → HasSat (record { holder = h; state = s; found = found }) x y r
-  sat_of x y m h s found w r units says nothing work is p = record {
+  pub sat_of : (x y : Complex P C plants steadies copies) (m : Member) (h : Holder) (s : State) (found : Found) (w : Wrote) (r : Result SittingEnd NodeNo) → ((A : Type 0) → IfNoWork s A) → ((t : Sitting) → SaysWork h s found t → Says h s found t) → m.batch ≡ [] → IsStill plants copies (parts_of x) m → (plants.tells → w ≡ wrote_of [] (turn h (queue_kept x) s found))
+      → Plays plants.tells (bounds (sittings_most s) (units_done s + units_left s) found) (to_play h 0 w) (place_of x m) (outside y) r → HasSat (record { holder = h; state = s; found = found }) x y r
+  sat_of x y m h s found w r units says nothing still is p = record {
     sitting = sitting_as h p.wrote;
     is = λ t. sits_as h (turn h (queue_kept x) s found) p.wrote (p.is t ∙ is t);
     of = p.of;
     shaped = record { few = p.within.few; release = refl; says = says (sitting_as h p.wrote) p.within.says };
-    sat = sat_played x y m h (IsWithin h (bounds (sittings_most s) (units_done s + units_left s) found)) w r nothing work p;
+    sat = sat_played x y m h (IsWithin h (bounds (sittings_most s) (units_done s + units_left s) found)) w r nothing still p;
     tight = units _;
   }
 

@@ -1,31 +1,48 @@
 -- A member at the lock, at the beginning of a sitting and at its end.
-use Rattle.member_giving.proofs.Names.{◌≡◌, ℕ, List, [], Result, ◌∙◌, ap, refl, sym, subst, arith, All-nil, Ckpt1, Ckpt2, MemberId, Journal, Queue, disk_now, PlantGhosts, Ghosts as CopyGhosts, Complex, SteadyGhosts, end_of, values_of, Member, NodeNo, HaveSaid, OnConsole, settled_later, had_as, notes_same, still_roomy, between_by, work_back, work_between, work_low, Holder, Closes, SparesOthers, HasBounds, HasSeat, IsLow, Sits, Works, outside}
+use Rattle.member_giving.proofs.Names.{◌≡◌, ℕ, List, [], Result, ◌∙◌, ap, refl, sym, subst, arith, All-nil, Ckpt1, Ckpt2, MemberId, Journal, Queue, disk_now, PlantGhosts, Ghosts as CopyGhosts, Complex, SteadyGhosts, values_of, Member, NodeNo, HaveSaid, OnConsole, settled_later, had_as, notes_same, still_roomy, Holder, SparesOthers, HasBounds, HasSeat, IsLow, Sits, Works, outside, Entry, MayBegin, Option, Tell, length, parts_of, queue_kept, meaning_run as run, IsClosing, ◌≤◌, closed}
 use Rattle.mas_types.specs.Sound.{IsSound}
-use Rattle.member_work.proofs.SayingLemmas.{closing_said, rests_as}
+use Rattle.mas_types.specs.declared.ids.Page.{Page}
+use Rattle.mas_complex.proofs.Allowed.{none_begins}
+use Rattle.member_steps.proofs.StepLemmas.{between_done, can_draw}
+use Rattle.member_steps.proofs.ReadLemmas.{between_by}
+use Rattle.member_asides.specs.Whole.{Half, IsAtRest, IsGiving, IsRoomy, first_half, second_half}
+use Rattle.member_giving.proofs.Keeping.{closing_said}
+use Rattle.member_giving.proofs.Working.{same_out}
+
+-- a copy that reads as it did
+rests_as : (told : Type 0) (h : Half) (pages : List Page) (read : Option (List ℕ)) → (told → read ≡ h.read) → IsAtRest told h pages → IsAtRest told (record h { read = read }) pages
+rests_as told h pages read same rests = record { before = rests.before; as_many = rests.as_many; reads = λ t on. same t ∙ rests.reads t on }
 
 module _ {P C : Type 0} {plants : PlantGhosts P} {steadies : SteadyGhosts C} {copies : CopyGhosts C} where
   -- AT THE BEGINNING
 
-  pub works_sits : (x : Complex P C plants steadies copies) (m : Member) (h : Holder) → Sits x m h.step → HasBounds x m → h.by ≡ m.id → (plants.tells → IsSound x.base) → Works x m h
-  works_sits x m h s b own sound =
-      let still = s.seat.still in
-      let nothing = s.seat.between.nothing in
+  -- a member that sits, where each copy has room for a batch
+  pub works_seat : (x : Complex P C plants steadies copies) (m : Member) (h : Holder) → Sits x m h.step → IsRoomy (first_half plants copies (parts_of x)) → IsRoomy (second_half plants copies (parts_of x)) → h.by ≡ m.id → (plants.tells → IsSound x.base) → Works x m h
+  works_seat x m h s first second own sound =
+      let b = s.seat.between in
       record {
         own = own;
-        may = still.holds.may;
-        some = still.holds.some;
-        by = still.holds.few;
-        seated = still.holds.seated;
-        member = still.holds.member;
+        still = s.seat.still;
         base_sound = sound;
-        work = work_between plants.tells (plants.view x.plant) x.since x.base x.journal.batches x.current x.placed x.level x.reserved x.printed m.id m.batch m.checkpoint m.room m.behind s.seat.between still.unreserved still.here still.many still.config (λ t. (s.seat.low t).order) still.kept still.begun still.roomy;
-        of = rw nothing (All-nil _);
+        of = rw b.nothing (All-nil _);
+        few = let none = ap length b.nothing in omega (arith, none);
+        drawn = λ nothing. b.drawn;
+        draws = can_draw m.checkpoint m.checkpoint b.drawn refl refl refl refl b.drawn.spelling;
+        fit = b.fit;
+        same_level = b.same_level;
+        done = λ t. between_done plants.tells x.base x.journal.batches x.current x.placed x.level m.batch m.checkpoint b t;
+        sound = b.sound;
+        low = λ t. let le = (s.seat.low t).order in omega (arith, le);
+        texts = λ some. let none = ap length b.nothing in absurd (omega (arith, some, none));
+        allowed = λ t. subst (λ (es : List Entry). MayBegin x.base x.journal.batches x.printed es) (sym b.nothing) (none_begins x.base x.journal.batches x.printed);
         untold = s.untold;
         step = s.step;
-        noted = still.noted;
-        copy1 = record { rests = still.first; room = b.first };
-        copy2 = record { rests = still.second; room = b.second };
+        first = first;
+        second = second;
       }
+
+  pub works_sits : (x : Complex P C plants steadies copies) (m : Member) (h : Holder) → Sits x m h.step → HasBounds x m → h.by ≡ m.id → (plants.tells → IsSound x.base) → Works x m h
+  works_sits x m h s b own sound = works_seat x m h s b.first b.second own sound
 
   pub low_bounds : (x : Complex P C plants steadies copies) (m : Member) → HasBounds x m → IsLow x m
   low_bounds x m b = record { order = b.order; high = b.high }
@@ -35,60 +52,68 @@ module _ {P C : Type 0} {plants : PlantGhosts P} {steadies : SteadyGhosts C} {co
   module _ (x : Complex P C plants steadies copies) (m : Member) (h : Holder) (w : Works x m h) (nothing : m.batch ≡ []) where
     pub seat_works : HasSeat x m
     seat_works = record {
-      still = record {
-        holds = record { may = w.may; some = w.some; few = w.by; seated = w.seated; member = w.member };
-        none = w.work.none;
-        unreserved = w.work.unreserved;
-        unplaced = w.work.unplaced;
-        here = w.work.here;
-        many = w.work.many;
-        config = w.work.config;
-        first = w.copy1.rests;
-        second = w.copy2.rests;
-        noted = w.noted;
-        kept = w.work.kept;
-        begun = w.work.begun;
-        roomy = w.work.roomy;
+      still = w.still;
+      between = record {
+        none = w.still.none;
+        unplaced = w.still.unplaced;
+        same_level = w.same_level;
+        nothing = nothing;
+        drawn = w.drawn nothing;
+        queue = λ t. subst (λ (es : List Entry). Tell m.checkpoint.tables (run (queue_kept x) es)) nothing (w.done t).queue;
+        fit = w.fit;
+        orders = λ t. (w.done t).orders;
+        sound = w.sound;
       };
-      between = work_back plants.tells (plants.view x.plant) x.since x.base x.journal.batches x.current x.placed x.level x.reserved x.printed m.id m.batch m.checkpoint m.room m.behind w.work nothing;
-      low = work_low plants.tells (plants.view x.plant) x.since x.base x.journal.batches x.current x.placed x.level x.reserved x.printed m.id m.batch m.checkpoint m.room m.behind w.work nothing;
+      low = λ t. record { same = sym w.still.config; fit = w.fit; order = let le = w.low t in let none = ap length nothing in omega (arith, le, none) };
     }
 
     pub sits_works : Sits x m h.step
     sits_works = record { seat = seat_works; untold = w.untold; step = w.step }
 
+  -- what a member may keep that gave something
+  pub gives_works : (x : Complex P C plants steadies copies) (m : Member) (h : Holder) → Works x m h → 1 ≤ length m.batch → IsGiving plants copies (parts_of x) m h.step
+  gives_works x m h w some = record {
+    still = w.still;
+    of = w.of;
+    draws = w.draws;
+    fit = w.fit;
+    same_level = w.same_level;
+    done = w.done;
+    sound = w.sound;
+    low = λ t. let le = w.low t in let few = w.few in omega (arith, le, few);
+    texts = w.texts some;
+    allowed = w.allowed;
+    untold = w.untold;
+    step = w.step;
+  }
+
   -- AFTER A LINE
 
   module _ (y z : Complex P C plants steadies copies) (n : Member) (h : Holder) (w : Works y n h) (pair : z.pair ≡ y.pair) (journal : z.journal ≡ y.journal) (current : z.current ≡ y.current) (placed : z.placed ≡ y.placed) where
-    same_end : end_of z.placed z.current z.journal.batches ≡ end_of y.placed y.current y.journal.batches
-    same_end = rw (placed, current, journal) refl
-
-    pub closes_said : (lines : List (List ℕ)) (r : Result (Unit {0}) NodeNo) → HaveSaid plants.tells n.id.0 lines (plants.view y.plant) (plants.view z.plant) r → Closes {T = Unit {0}} plants.tells h.by lines [] (outside y) (outside z) r
-    closes_said lines r said =
-        let one : Closes {T = Unit {0}} plants.tells n.id lines [] (outside y) (outside z) r = rw pair (closing_said plants.tells n.id lines (end_of y.placed y.current y.journal.batches) (end_of z.placed z.current z.journal.batches) same_end y.pair.first.alive y.pair.second.alive (plants.view y.plant) (plants.view z.plant) r said) in
-        subst (λ (i : MemberId). Closes {T = Unit {0}} plants.tells i lines [] (outside y) (outside z) r) (sym w.own) one
+    pub closes_said : (lines : List (List ℕ)) (r : Result (Unit {0}) NodeNo) → HaveSaid plants.tells n.id.0 lines (plants.view y.plant) (plants.view z.plant) r → IsClosing plants.tells h.by (closed [] lines) (outside y) (outside z) r
+    closes_said lines r said = closing_said plants.tells h.by lines (outside y) (outside z) (same_out y z journal current placed) (rw pair refl) (rw pair refl) r (rw w.own said)
 
     pub seat_said : n.batch ≡ [] → z.base ≡ y.base → z.since ≡ y.since → z.book ≡ y.book → z.reserved ≡ y.reserved → z.first ≡ y.first → z.second ≡ y.second → z.level ≡ y.level → values_of z.had ≡ values_of y.had
         → OnConsole plants.tells (plants.view y.plant) (plants.view z.plant) → HasSeat z n
     seat_said nothing base since book reserved first second level had acts = record {
       still = record {
-        holds = rw (book, base) (record { may = w.may; some = w.some; few = w.by; seated = w.seated; member = w.member });
-        none = current ∙ w.work.none;
-        unreserved = reserved ∙ w.work.unreserved;
-        unplaced = placed ∙ w.work.unplaced;
-        here = w.work.here;
-        many = w.work.many;
-        config = ap (λ (q : Queue). q.config) base ∙ w.work.config;
-        first = rw (pair, first) (rests_as plants.tells y.pair.first.alive y.first (copies.count y.pair.first.copy) n.checkpoint.pages (copies.reads (disk_now (plants.view y.plant) Ckpt1).bytes) (copies.reads (disk_now (plants.view z.plant) Ckpt1).bytes) (λ told. ap (λ d. copies.reads d.bytes) (acts.disks told Ckpt1)) w.copy1.rests);
-        second = rw (pair, second) (rests_as plants.tells y.pair.second.alive y.second (copies.count y.pair.second.copy) n.checkpoint.pages (copies.reads (disk_now (plants.view y.plant) Ckpt2).bytes) (copies.reads (disk_now (plants.view z.plant) Ckpt2).bytes) (λ told. ap (λ d. copies.reads d.bytes) (acts.disks told Ckpt2)) w.copy2.rests);
-        noted = had_as plants.tells (values_of y.had) (values_of z.had) n n had refl refl refl w.noted;
-        kept = rw journal (settled_later y.journal.batches (plants.view y.plant).now (plants.view z.plant).now acts.goes.later w.work.kept);
-        begun = rw since (let le = w.work.begun in let later = acts.goes.later in omega (arith, le, later));
-        roomy = λ told. rw base (still_roomy y.base.config (plants.view y.plant) (plants.view z.plant) acts.goes (w.work.roomy told));
+        holds = rw (book, base) w.still.holds;
+        none = current ∙ w.still.none;
+        unreserved = reserved ∙ w.still.unreserved;
+        unplaced = placed ∙ w.still.unplaced;
+        here = w.still.here;
+        many = w.still.many;
+        config = ap (λ (q : Queue). q.config) base ∙ w.still.config;
+        first = rw (pair, first) (rests_as plants.tells (first_half plants copies (parts_of y)) n.checkpoint.pages (copies.reads (disk_now (plants.view z.plant) Ckpt1).bytes) (λ told. ap (λ d. copies.reads d.bytes) (acts.disks told Ckpt1)) w.still.first);
+        second = rw (pair, second) (rests_as plants.tells (second_half plants copies (parts_of y)) n.checkpoint.pages (copies.reads (disk_now (plants.view z.plant) Ckpt2).bytes) (λ told. ap (λ d. copies.reads d.bytes) (acts.disks told Ckpt2)) w.still.second);
+        noted = had_as plants.tells (values_of y.had) (values_of z.had) n n had refl refl refl w.still.noted;
+        kept = rw journal (settled_later y.journal.batches (plants.view y.plant).now (plants.view z.plant).now acts.goes.later w.still.kept);
+        begun = rw since (let le = w.still.begun in let later = acts.goes.later in omega (arith, le, later));
+        roomy = λ told. rw base (still_roomy y.base.config (plants.view y.plant) (plants.view z.plant) acts.goes (w.still.roomy told));
       };
       between = between_by plants.tells y.base z.base y.journal.batches z.journal.batches y.current z.current y.placed z.placed y.level z.level n.batch n.checkpoint base (ap (λ (j : Journal). j.batches) journal) current placed level
-          (work_back plants.tells (plants.view y.plant) y.since y.base y.journal.batches y.current y.placed y.level y.reserved y.printed n.id n.batch n.checkpoint n.room n.behind w.work nothing);
-      low = λ told. rw (base, journal) (work_low plants.tells (plants.view y.plant) y.since y.base y.journal.batches y.current y.placed y.level y.reserved y.printed n.id n.batch n.checkpoint n.room n.behind w.work nothing told);
+          (seat_works y n h w nothing).between;
+      low = λ told. rw (base, journal) ((seat_works y n h w nothing).low told);
     }
 
   pub said_apart : (y z : Complex P C plants steadies copies) (by : MemberId) → OnConsole plants.tells (plants.view y.plant) (plants.view z.plant) → values_of z.had ≡ values_of y.had → SparesOthers plants.tells by (outside y) (outside z)

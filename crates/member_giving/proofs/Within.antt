@@ -59,18 +59,8 @@ full_le es fs x most is le =
 pub answered_by : (found : Found) (e : UnitEnd) → IsAnswered e → MayEndBy found e
 answered_by found ends.Done a = tt
 answered_by found ends.Idle a = tt
-answered_by found (ends.Refused end) a = refused end a where
-  by_reply : (r : Reply) → IsAnswered (ends.Refused (closing.Reply r)) → MayEndBy found (ends.Refused (closing.Reply r))
-  by_reply (reply.No why) a = tt
-  by_reply reply.Plain a = absurd a
-  by_reply (reply.Job n) a = absurd a
-  by_reply (reply.Output n i) a = absurd a
-  by_reply (reply.Count n) a = absurd a
-  by_reply (reply.Shown lines) a = absurd a
-
-  refused : (end : Closing) → IsAnswered (ends.Refused end) → MayEndBy found (ends.Refused end)
-  refused (closing.Reply r) a = by_reply r a
-  refused _ a = absurd a
+answered_by found (ends.Refused (closing.Reply (reply.No why))) a = tt
+answered_by found (ends.Refused _) a = absurd a
 
 -- by what was found
 
@@ -96,10 +86,6 @@ prints_by found = by_read found.printer found.read refl refl where
   by_read lost (read.Lost volume) printer is = inr is
   by_read true (read.Lines lines) printer is = printer
   by_read false (read.Lines lines) printer is = tt
-
-pub lost_by : (lost : Option ℕ) → IfSome lost (λ volume. lost ≡ Some volume)
-lost_by None = tt
-lost_by (Some volume) = refl
 
 -- more units may be done
 more_closings : (units more : ℕ) (found : Found) (end : Closing) → units ≤ more → MayCloseBy units found end → MayCloseBy more found end
@@ -235,9 +221,6 @@ module _ (h : Holder) (found : Found) (units : ℕ) where
     silent (Away aside) goes = refl
     silent (Rested p) goes = refl
     silent Told goes = absurd (goes refl)
-
-  pub pause_within : (most : ℕ) (es part : List Entry) (s : State) → (s ≡ Told → ⊥) → sittings_most s + 1 + unwritten es ≤ most → Within most (wrote_of es (after_part part (leaves s)))
-  pause_within most es part s goes le = part_wrote most es part (leaves s) (sittings_most s) le (record { its = All-nil (AreOf h.by h.step); few = omega arith; says = (leave_within [] s goes).says })
 
 -- bounds that leave more
 pub more_wrote : (h : Holder) (found : Found) (most least units fewer : ℕ) (w : Wrote) → least ≤ most → fewer ≤ units → IsWithin h (bounds least fewer found) w → IsWithin h (bounds most units found) w

@@ -1,62 +1,24 @@
 -- A member at work, after a call.
-use Rattle.member_giving.proofs.Names.{◌≡◌, ℕ, ◌+◌, ◌≤◌, ◌<◌, List, [], ◌++◌, Ok, ◌∙◌, ap, append-nil, refl, sym, subst, arith, Ckpt1, Ckpt2, MemberId, Batch, Entry, Queue, disk_now, PlantGhosts, Ghosts as CopyGhosts, Complex, SteadyGhosts, end_of, kept_all, meaning_run as run, Member, too_high, none_out, HasNotes, AreKeptFrom, AreOf, HasCopy, IsAtWork, IsStepUntold, queue_of_kept, batch_of, Holder, Keeps, HasRoom, IsLow, LeavesRoom, Run, UsesOne, Works, outside, queue_here, queue_kept, run_of}
-use Rattle.mas_complex.specs.Crash.{setting}
-use Rattle.member_work.proofs.KeptLemmas.{kept_from_front}
-use Rattle.member_giving.proofs.Cuts.{one_batch}
+use Rattle.member_giving.proofs.Names.{◌≡◌, ℕ, ◌+◌, ◌≤◌, ◌<◌, List, [], ◌++◌, Ok, ◌∙◌, ap, append-nil, refl, sym, subst, arith, MemberId, Batch, Entry, Queue, PlantGhosts, Ghosts as CopyGhosts, Complex, SteadyGhosts, end_of, kept_all, meaning_run as run, Member, too_high, none_out, parts_of, AreOf, batch_of, Holder, Keeps, HasRoom, IsLow, LeavesRoom, UsesOne, Works, outside, queue_here, queue_kept, run_of}
+use Rattle.mas_complex.proofs.Batches.{kept_all_append}
+use Rattle.member_asides.specs.Whole.{IsStill}
+use Rattle.member_giving.proofs.Cuts.{batch_entries}
+use Rattle.member_giving.proofs.Leaving.{kept_entries}
 
 module _ {P C : Type 0} {plants : PlantGhosts P} {steadies : SteadyGhosts C} {copies : CopyGhosts C} where
-  abbrev pub AtWork : Complex P C plants steadies copies → Member → Type 0
-  AtWork x m = IsAtWork plants.tells (plants.view x.plant) x.since x.base x.journal.batches x.current x.placed x.level x.reserved x.printed m.id m.batch m.checkpoint m.room m.behind
-
-  abbrev pub Untold : Complex P C plants steadies copies → Member → Holder → Type 0
-  Untold x m h = plants.tells → IsStepUntold (setting copies.reads x.base x.since) m.id h.step (plants.view x.plant)
-
-  abbrev pub Copy1 : Complex P C plants steadies copies → Member → Type 0
-  Copy1 x m = HasCopy plants.tells x.pair.first.alive x.first (copies.count x.pair.first.copy) (copies.room x.pair.first.copy) m.checkpoint.pages (copies.reads (disk_now (plants.view x.plant) Ckpt1).bytes)
-
-  abbrev pub Copy2 : Complex P C plants steadies copies → Member → Type 0
-  Copy2 x m = HasCopy plants.tells x.pair.second.alive x.second (copies.count x.pair.second.copy) (copies.room x.pair.second.copy) m.checkpoint.pages (copies.reads (disk_now (plants.view x.plant) Ckpt2).bytes)
-
   module _ (x y : Complex P C plants steadies copies) (m n : Member) (h : Holder) where
     pub same_run : y.base ≡ x.base → y.since ≡ x.since → y.renewals ≡ x.renewals → y.book ≡ x.book → n.id ≡ m.id → run_of y n ≡ run_of x m
     same_run base since renewals book id = rw (base, since, renewals, book, id) refl
 
-    pub works_on : Works x m h → run_of y n ≡ run_of x m → AtWork y n → AreOf n.id h.step n.batch → Untold y n h → AreKeptFrom n.id h.step y.journal.batches (plants.view y.plant).now → Copy1 y n → Copy2 y n → HasNotes y n
-        → Works y n h
-    works_on w same work of untold step copy1 copy2 noted =
-        let base : y.base ≡ x.base = ap (λ (r : Run). r.base) same in
-        let book : y.book ≡ x.book = ap (λ (r : Run). r.book) same in
-        let id : n.id ≡ m.id = ap (λ (r : Run). r.id) same in
-        record {
-          own = w.own ∙ sym id;
-          may = rw (book, id) w.may;
-          some = rw id w.some;
-          by = rw id w.by;
-          seated = rw (book, id) w.seated;
-          member = rw (base, id) w.member;
-          base_sound = λ t. rw base (w.base_sound t);
-          work = work;
-          of = of;
-          untold = untold;
-          step = step;
-          noted = noted;
-          copy1 = copy1;
-          copy2 = copy2;
-        }
-
   -- THE JOURNAL AND THE QUEUE
 
   -- nothing is in flight
-  pub none_flies : (x : Complex P C plants steadies copies) (m : Member) → AtWork x m → end_of x.placed x.current x.journal.batches ≡ x.journal.batches
-  none_flies x m w = none_out x.journal.batches x.journal.batches x.placed x.current refl w.unplaced w.none
+  pub none_flies : (x : Complex P C plants steadies copies) (m : Member) → IsStill plants copies (parts_of x) m → end_of x.placed x.current x.journal.batches ≡ x.journal.batches
+  none_flies x m s = none_out x.journal.batches x.journal.batches x.placed x.current refl s.unplaced s.none
 
-  -- what was given of a step is kept still, after a call that kept all of its batches
-  pub step_on : {T : Type 0} (x y : Complex P C plants steadies copies) (m n : Member) (h : Holder) → Works x m h → n.id ≡ m.id → AtWork y n → (ess : List (List Entry)) (done : T) → Keeps plants.tells h.by ess (outside x) (outside y) (Ok done) → AreKeptFrom n.id h.step y.journal.batches (plants.view y.plant).now
-  step_on x y m n h w id work ess done keeps =
-      let now = (plants.view x.plant).now in
-      subst (λ (i : MemberId). AreKeptFrom i h.step y.journal.batches (plants.view y.plant).now) (sym id)
-      (kept_from_front m.id h.step h.by ess (outside x).batches keeps.rest (outside y).batches y.journal.batches now (plants.view y.plant).now keeps.course.goes.later
-      (subst (λ (bs : List Batch). AreKeptFrom m.id h.step bs now) (sym (none_flies x m w.work)) w.step) keeps.batches_are keeps.journal (none_flies y n work))
+  -- the journal with a batch in flight, after a call that left it
+  pub same_out : (y z : Complex P C plants steadies copies) → z.journal ≡ y.journal → z.current ≡ y.current → z.placed ≡ y.placed → (outside z).batches ≡ (outside y).batches
+  same_out y z journal current placed = rw (placed, current, journal) refl
 
   -- the queue of a member with nothing unwritten is that after the kept batches
   pub kept_here : (x : Complex P C plants steadies copies) (m : Member) → m.batch ≡ [] → queue_here x m ≡ queue_kept x
@@ -70,7 +32,8 @@ module _ {P C : Type 0} {plants : PlantGhosts P} {steadies : SteadyGhosts C} {co
       kept_here y n nothing
       ∙ ap (λ (q : Queue). run q (kept_all y.journal.batches)) base
       ∙ ap (λ (bs : List Batch). run x.base (kept_all bs)) (sym is)
-      ∙ queue_of_kept plants.tells by m.batch x.base o.batches z.batches o.first z.first o.second z.second o.view z.view (subst (λ (ess : List (List Entry)). Keeps {T = Unit {0}} plants.tells by ess o z (Ok tt)) (sym (one_batch m.batch)) keeps)
+      ∙ ap (run x.base) (ap kept_all keeps.closes.batches_are ∙ kept_all_append o.batches keeps.closes.rest
+      ∙ ap (λ (es : List Entry). kept_all o.batches ++ es) (kept_entries by o.view.now z.view.now (batch_of m.batch) keeps.closes.rest keeps.closes.journal ∙ batch_entries m.batch))
       ∙ ap (λ (bs : List Batch). run x.base (kept_all bs ++ m.batch)) was
 
   -- ROOM

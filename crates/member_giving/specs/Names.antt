@@ -1,5 +1,4 @@
 -- The names that many contracts take, each from where it is declared.
-pub use Rattle.std.specs.Prelude.{All, Bool, Err, IfOk, List, None, Ok, OnOk, Option, Result, Some, [], false, if◌then◌else◌, length, suc, take, true, zero, ℕ, ◌*◌, ◌++◌, ◌+◌, ◌-◌, ◌<◌, ◌∷◌, ◌≡◌, ◌≤◌}
 pub use Rattle.ckpt_tables.specs.Shape.{HasSpelling}
 pub use Rattle.job_exec.specs.Running.{AreOutputs}
 pub use Rattle.job_outcome.specs.Next.{IsNamedEnd, end_by}
@@ -19,10 +18,10 @@ pub use Rattle.member_asides.specs.Ready.{HasFewer, IsReady, IsReadyUnit, MayBeG
 pub use Rattle.member_asides.specs.SittingEnd.{SittingEnd}
 pub use Rattle.member_decks.specs.Steps.{AreOf}
 pub use Rattle.member_steps.specs.Counting.{HasCounted}
-pub use Rattle.member_steps.specs.Noting.{HasNotes, OtherNotesStay}
+pub use Rattle.member_steps.specs.Noting.{OtherNotesStay}
 pub use Rattle.member_work.specs.Causes.{IsAnswered}
 pub use Rattle.member_work.specs.Spooled.{AreSpooled}
-pub use Rattle.member_work.specs.Steps.{HasCopy, IsAtWork, IsClosing, IsKeeping, IsStepUntold, IsUnderWay}
+pub use Rattle.member_work.specs.Steps.{IsUnderWay}
 pub use Rattle.member_work.specs.Units.{command_of, taken_end}
 pub use Rattle.paper_laws.specs.Counts.{IsMarkRight, counts_after}
 pub use Rattle.queue_effect.specs.Standing.{AreFit}

@@ -1,6 +1,6 @@
 -- The next unit of a member's work: its command, or the acts for which it waits.
-use Rattle.std.specs.Prelude.{◌≡◌, ℕ, Bool, Option, Some, None}
 use Rattle.member_giving.specs.Names.{Command, MemberId, Queue, job_at, output_at, Tell, command_of, chunk_end, aside_done, aside_units, Holder, Progress, Turn, no_more, one_command, units_from, waits_for, IsReadyUnit}
+use Rattle.std.specs.Prelude.{◌≡◌, ℕ, Bool, Option, Some, None}
 use Rattle.mas_types.specs.declared.ids.JobNo.{JobNo}
 use Rattle.mas_types.specs.declared.ids.OutNo.{OutNo}
 use Rattle.mas_types.specs.declared.jobs.Job.{Job}

@@ -1,27 +1,27 @@
 -- A member at work in a sitting, as whole values: what holds between two of its calls, and what a call changes.
-use Rattle.std.specs.Prelude.{◌≡◌, ℕ, ◌+◌, ◌*◌, ◌≤◌, ◌<◌, ◌^◌, Bool, true, List, [], ◌++◌}
-use Rattle.member_giving.specs.Names.{MemberId, Entry, Queue, members_most, is_member, HasNotes, AreOf, HasCopy, IsAtWork, IsStepUntold, Holder, Progress, State, units_left, SittingEnd, HasFewer, IsReady}
-use Rattle.mas_types.specs.declared.ids.Dev.TheVariants.{Ckpt1, Ckpt2}
+use Rattle.member_giving.specs.Names.{MemberId, Entry, Queue, AreFit, AreOf, Holder, Progress, State, units_left, SittingEnd, HasFewer, IsReady}
+use Rattle.std.specs.Prelude.{◌≡◌, ℕ, ◌+◌, ◌*◌, ◌≤◌, ◌<◌, ◌^◌, Bool, List, [], ◌++◌, length}
 use Rattle.mas_types.specs.declared.ids.Page.{Page}
 use Rattle.mas_types.specs.declared.journals.Batch.{Batch}
 use Rattle.mas_types.specs.Sound.{IsSound}
-use Rattle.lock_cycle.specs.Books.{Book, IsMember}
-use Rattle.spool_plant.specs.View.{View, disk_now}
+use Rattle.lock_cycle.specs.Books.{Book}
+use Rattle.queue_telling.specs.Telling.{TellSound}
+use Rattle.spool_plant.specs.View.{View}
 use Rattle.spool_plant.specs.declared.plant.Plant.{Ghosts as PlantGhosts}
 use Rattle.ckpt_copy.specs.declared.copying.Copying.{Ghosts as CopyGhosts}
 use Rattle.mas_complex.specs.declared.complex.Complex.{Complex}
 use Rattle.mas_complex.specs.declared.renewals.Renewals.{Renewals}
 use Rattle.ckpt_form.specs.declared.steady.Steady.{Ghosts as SteadyGhosts}
-use Rattle.mas_complex.specs.Crash.{setting}
 use Rattle.mas_complex.specs.Journals.{end_of, kept_all}
-use Rattle.mas_complex.specs.Locking.{MayAct}
 use Rattle.mas_complex.specs.Meaning.{run}
+use Rattle.mas_complex.specs.Paper.{MayBegin}
 use Rattle.mas_complex.specs.Past.{values_of}
 use Rattle.member_node.specs.declared.member.Member.{Member}
-use Rattle.member_node.specs.Reads.{too_high}
-use Rattle.member_steps.specs.Steps.{AreKeptFrom}
+use Rattle.member_node.specs.Batches.{CanDraw, HasDone}
+use Rattle.member_node.specs.Drawn.{AreDrawn}
+use Rattle.member_node.specs.Reads.{orders_after, too_high}
 use Rattle.mas_complex.specs.Parts.{Parts, parts_of}
-use Rattle.member_asides.specs.Whole.{IsBounded, IsLeftIn, IsSeat, IsSitting, queue_of}
+use Rattle.member_asides.specs.Whole.{HasStepKept, HasTextsAfter, HasUntold, IsBounded, IsLeftIn, IsRoomy, IsSeat, IsSitting, IsStill, first_half, queue_of, second_half}
 
 -- what others see of a shared value: what its plant shows, the journal with a batch in flight at its end, which copies
 -- count as alive, how many lines each member has printed, and the pages that each noted
@@ -62,12 +62,12 @@ after_unit more level p = follow (3 * p.left + more) (p.done + p.left + 1) (leve
 
 -- What a sitting leaves that ended so: its member sits still, where the step waits what it asks is known, and there is
 -- room for what may follow.
-pub record LeavesIn {P C : Type 0} (plants : PlantGhosts P) (copies : CopyGhosts C) (y : Parts P C) (n : Member)
-    (at : ℕ) (f : Follow) (e : SittingEnd) : Type 0 where
-  pub again : IsLeftIn plants copies e.next y n at
-  pub ready : IsReady plants.tells (queue_of y) n.checkpoint.tables n.id e.next
-  pub fewer : HasFewer f.most f.units e.next
-  pub reached : y.level + units_left e.next ≤ f.level
+module _ {P C : Type 0} (plants : PlantGhosts P) (copies : CopyGhosts C) where
+  pub record LeavesIn (y : Parts P C) (n : Member) (at : ℕ) (f : Follow) (e : SittingEnd) : Type 0 where
+    pub again : IsLeftIn plants copies e.next y n at
+    pub ready : IsReady plants.tells (queue_of y) n.checkpoint.tables n.id e.next
+    pub fewer : HasFewer f.most f.units e.next
+    pub reached : y.level + units_left e.next ≤ f.level
 
 module _ {P C : Type 0} {plants : PlantGhosts P} {steadies : SteadyGhosts C} {copies : CopyGhosts C} where
   abbrev pub outside : Complex P C plants steadies copies → Outside
@@ -94,26 +94,30 @@ module _ {P C : Type 0} {plants : PlantGhosts P} {steadies : SteadyGhosts C} {co
   abbrev pub place_of : Complex P C plants steadies copies → Member → Place
   place_of x m = record { outside = outside x; queue = queue_here x m; batch = m.batch }
 
-  -- The member holds the lock in this step. Its batch has what it gave since the last one was kept, no line tells the
-  -- step, and what it gave of it before is kept. It has the pages that it noted.
+  -- The member holds the lock in this step, and has the pages that it noted. Its batch has what it gave since the last
+  -- one was kept, and may be kept; no line tells the step, and what it gave of it before is kept. Where content is told
+  -- its tables tell the queue that this leaves, and where something is unwritten the texts of that queue stand on the
+  -- volumes, except those with a group on a lost one.
   pub record Works (x : Complex P C plants steadies copies) (m : Member) (h : Holder) : Type 0 where
     pub own : h.by ≡ m.id
-    pub may : MayAct x.book m.id
-    pub some : 1 ≤ m.id.0
-    pub by : m.id.0 ≤ members_most
-    pub seated : IsMember x.book m.id
-    pub member : is_member x.base.config m.id ≡ true
+    pub still : IsStill plants copies (parts_of x) m
     pub base_sound : plants.tells → IsSound x.base
-    pub work : IsAtWork plants.tells (plants.view x.plant) x.since x.base x.journal.batches x.current x.placed x.level
-        x.reserved x.printed m.id m.batch m.checkpoint m.room m.behind
     pub of : AreOf m.id h.step m.batch
-    pub untold : plants.tells → IsStepUntold (setting copies.reads x.base x.since) m.id h.step (plants.view x.plant)
-    pub step : AreKeptFrom m.id h.step x.journal.batches (plants.view x.plant).now
-    pub noted : HasNotes x m
-    pub copy1 : HasCopy plants.tells x.pair.first.alive x.first (copies.count x.pair.first.copy)
-        (copies.room x.pair.first.copy) m.checkpoint.pages (copies.reads (disk_now (plants.view x.plant) Ckpt1).bytes)
-    pub copy2 : HasCopy plants.tells x.pair.second.alive x.second (copies.count x.pair.second.copy)
-        (copies.room x.pair.second.copy) m.checkpoint.pages (copies.reads (disk_now (plants.view x.plant) Ckpt2).bytes)
+    pub few : length m.batch ≤ 64
+    pub drawn : m.batch ≡ [] → AreDrawn m.checkpoint.tables m.checkpoint.level m.checkpoint.levels m.checkpoint.pages
+    pub draws : CanDraw m.checkpoint
+    pub fit : AreFit m.checkpoint.tables
+    pub same_level : plants.tells → x.level ≡ m.checkpoint.level
+    pub done : plants.tells → HasDone (queue_kept x) m.batch m.checkpoint
+    pub sound : plants.tells → TellSound m.checkpoint.tables
+    pub low : plants.tells → m.checkpoint.tables.order
+        ≤ orders_after (length x.journal.batches) + 32 * length m.batch
+    pub texts : 1 ≤ length m.batch → HasTextsAfter plants copies (parts_of x) m.batch
+    pub allowed : plants.tells → MayBegin x.base x.journal.batches x.printed m.batch
+    pub untold : HasUntold plants copies (parts_of x) m.id h.step
+    pub step : HasStepKept plants copies (parts_of x) m.id h.step
+    pub first : IsRoomy (first_half plants copies (parts_of x))
+    pub second : IsRoomy (second_half plants copies (parts_of x))
 
   -- levels and orders leave room for so many commands and batches more
   pub record HasRoom (x : Complex P C plants steadies copies) (m : Member) (k : ℕ) : Type 0 where

@@ -1,7 +1,7 @@
 //! What a member gives in a sitting of work, and what of it is kept.
 ghost use Rattle.std.specs.Prelude.{◌≡◌, ◌+◌, ◌≤◌, ◌<◌, ◌^◌, ◌∷◌, [], length, take, Ok, OnOk, IfOk};
 ghost use Rattle.member_giving.specs.Names.{SpoolLost, outputs_at_end, member_count, job_at, held_by, IsMarkRight, counts_after, counts_of, spools_at, AreOutputs, Done, Refused, IsNamedEnd, end_by, HasCounted, IsAnswered, AreSpooled, IsUnderWay, taken_end, batch_of, all_entries, closing_reply, given_in, drop_groups, ending, groups_for_end, taking, MayBeGiven};
-ghost use Rattle.member_giving.specs.Plays.{GivesUp, HasGiven, Keeps, SparesOthers, after_full, full_of};
+ghost use Rattle.member_giving.specs.Plays.{GivesUp, HasGiven, Keeps, SparesOthers, after_full, full_of, unit_part};
 ghost use Rattle.member_giving.specs.Works.{HasRoom, IsLow, LeavesRoom, UsesOne, Works, outside, place_of, queue_here, queue_kept, run_of};
 
 use job_outcome::UnitEnd;
@@ -113,8 +113,8 @@ pub fn give<P: Plant + Drop, C: Steady + Drop>(
     requires right { P.tells → IsMarkRight (queue_here complex.old member.old) member.old.id
         (counts_after member.old.batch (counts_of complex.old.printed) member.old.id) command }
     ensures run { run_of complex.new member.new ≡ run_of complex.old member.old }
-    ensures given { HasGiven P.tells holder (command ∷ [])
-        (end_by (closing_reply (given_in (queue_here complex.old member.old) holder.by holder.step (command ∷ []))))
+    ensures given { HasGiven P.tells holder (unit_part (command ∷ []) (end_by (closing_reply
+        (given_in (queue_here complex.old member.old) holder.by holder.step (command ∷ [])))))
         (place_of complex.old member.old) (place_of complex.new member.new) result }
     ensures named { IfOk result IsNamedEnd }
     ensures works { OnOk result (Works complex.new member.new holder) }
@@ -146,9 +146,9 @@ pub fn take_groups<P: Plant + Drop, C: Steady + Drop>(
     requires nothing { member.old.batch ≡ [] }
     requires needed { 1 ≤ needed }
     ensures run { run_of complex.new member.new ≡ run_of complex.old member.old }
-    ensures given { HasGiven P.tells holder (taking (queue_here complex.old member.old) holder.by needed)
-        (taken_end (queue_here complex.old member.old) holder.by holder.step needed) (place_of complex.old member.old)
-        (place_of complex.new member.new) result }
+    ensures given { HasGiven P.tells holder (unit_part (taking (queue_here complex.old member.old)
+        holder.by needed) (taken_end (queue_here complex.old member.old) holder.by holder.step
+        needed)) (place_of complex.old member.old) (place_of complex.new member.new) result }
     ensures named { IfOk result IsNamedEnd }
     ensures works { OnOk result (Works complex.new member.new holder) }
     ensures room { OnOk result (LeavesRoom complex.old complex.new member.new) }
@@ -184,10 +184,10 @@ pub fn end_job<P: Plant + Drop, C: Steady + Drop>(
         (take (groups_for_end (queue_kept complex.old) job outputs)
         (held_by member.old.id (queue_kept complex.old).owners)) }
     ensures run { run_of complex.new member.new ≡ run_of complex.old member.old }
-    ensures given { HasGiven P.tells holder (ending (queue_here complex.old member.old) holder.by job outputs)
-        (end_by (closing_reply (given_in (queue_here complex.old member.old) holder.by holder.step
-        (ending (queue_here complex.old member.old) holder.by job outputs)))) (place_of complex.old member.old)
-        (place_of complex.new member.new) result }
+    ensures given { HasGiven P.tells holder (unit_part (ending (queue_here complex.old member.old)
+        holder.by job outputs) (end_by (closing_reply (given_in (queue_here complex.old member.old)
+        holder.by holder.step (ending (queue_here complex.old member.old) holder.by job outputs)))))
+        (place_of complex.old member.old) (place_of complex.new member.new) result }
     ensures named { IfOk result IsNamedEnd }
     ensures works { OnOk result (Works complex.new member.new holder) }
     ensures room { OnOk result (LeavesRoom complex.old complex.new member.new) }
@@ -214,8 +214,8 @@ pub fn free_groups<P: Plant + Drop, C: Steady + Drop>(
     requires level { complex.old.level + 1 < 2 ^ 63 }
     requires nothing { member.old.batch ≡ [] }
     ensures run { run_of complex.new member.new ≡ run_of complex.old member.old }
-    ensures given { HasGiven P.tells holder (drop_groups ∷ []) (Refused (SpoolLost volume))
-        (place_of complex.old member.old) (place_of complex.new member.new) result }
+    ensures given { HasGiven P.tells holder (unit_part (drop_groups ∷ []) (Refused (SpoolLost
+        volume))) (place_of complex.old member.old) (place_of complex.new member.new) result }
     ensures named { IfOk result IsNamedEnd }
     ensures works { OnOk result (Works complex.new member.new holder) }
     ensures room { OnOk result (LeavesRoom complex.old complex.new member.new) }

@@ -17,6 +17,7 @@ use Rattle.member_node.specs.declared.member.NodeNo.TheVariants.{BothLost, Halte
 use Rattle.member_node.specs.Calls.{IsOnlyOn, VolumesStay, console_now, none_lost}
 use Rattle.member_node.proofs.CourseLemmas.{only_on, papers_on, stay_then}
 use Rattle.member_steps.specs.Steps.{StepCauses}
+use Rattle.mas_complex.specs.CallCounts.{pair_at}
 use Rattle.member_decks.specs.Keeping.{CopyCauses}
 use Rattle.member_decks.proofs.OutcomeLemmas.{copy_causes}
 use Rattle.member_sittings.specs.declared.ends.SittingEnd.{SittingEnd}
@@ -134,7 +135,7 @@ module _ {P C : Type 0} (plants : PlantGhosts P) (copies : CopyGhosts C) (s : St
   -- THE SEAT WASN'T TAKEN
 
   module _ (pages : ℕ) (e : NodeNo) (acts : CopiesActed plants {T = Unit {0}} me (taken me x) z (Err e)) where
-    begins_none : (why : NodeNo) → CopyCauses {T = Unit {0}} (Err why) me.0 x.first_alive z.first_alive x.second_alive z.second_alive (v x) (v z) → IsHaltBy why (Writing 0 None)
+    begins_none : (why : NodeNo) → CopyCauses {T = Unit {0}} (Err why) me.0 (pair_at x.first_alive x.second_alive (v x)) (pair_at z.first_alive z.second_alive (v z)) → IsHaltBy why (Writing 0 None)
     begins_none BothLost cause = tt
     begins_none Halted cause = tt
     begins_none NoMemory cause = tt
@@ -153,7 +154,7 @@ module _ {P C : Type 0} (plants : PlantGhosts P) (copies : CopyGhosts C) (s : St
     }
 
     pub unsat_acted : HasActedIn plants copies me x z (Err e)
-    unsat_acted = record { course = passage_of x.first_alive z.first_alive x.second_alive z.second_alive (v x) (v z) acts.on.course; loses = acts.on.loses; spares = acts.on.spares; cause = copy_causes (Err e) me.0 x.first_alive z.first_alive x.second_alive z.second_alive (v x) (v z) acts.on.cause; notes = acts.notes }
+    unsat_acted = record { course = passage_of x.first_alive z.first_alive x.second_alive z.second_alive (v x) (v z) acts.on.course; loses = acts.on.loses; spares = acts.on.spares; cause = copy_causes (Err e) me.0 (pair_at x.first_alive x.second_alive (v x)) (pair_at z.first_alive z.second_alive (v z)) acts.on.cause; notes = acts.notes }
 
     pub unseated : (was : Option (List ℕ)) → HasPlayed plants copies s x (stopped_by e me z) pages was was (Err e)
     unseated was =

@@ -16,7 +16,7 @@ use Rattle.step_turns.specs.declared.states.State.{State}
 use Rattle.step_turns.specs.declared.states.State.TheVariants.{Away}
 use Rattle.step_turns.specs.States.{nothing_found}
 use Rattle.member_sittings.specs.Asides.{HasSpooled, MaySpool}
-use Rattle.member_frames.specs.Asides.{HasOnlyPrinted, HasPrintedNext, HasRead, HasWritten, MayPrintNext, MayRead, MayWrite}
+use Rattle.member_frames.specs.Asides.{HasOnlyPrinted, HasPrintedNext, HasRead, HasWritten, MayPrintNext, MayRead, MayWrite, lines_to}
 use Rattle.member_wires.specs.Asides.{Exchanged, HasAnswered, MayAnswer, MayServe}
 
 module _ {P C : Type 0} (plants : PlantGhosts P) where
@@ -24,7 +24,7 @@ module _ {P C : Type 0} (plants : PlantGhosts P) where
   MayActIn x m (SpoolDeck n text) = MaySpool plants x m text
   MayActIn x m (ReadText runs n fields p) = MayRead plants x m n
   MayActIn x m (SpoolOutputs n specs p) = MayWrite plants x m specs
-  MayActIn x m (PrintLines n i last p) = MayPrintNext plants x m n i last
+  MayActIn x m (PrintLines n i last p) = MayPrintNext plants x m (lines_to n i last)
   MayActIn x m (Exchange l offer) = MayServe plants x m l offer
   MayActIn x m (SpoolArrival number job cards service) = MaySpool plants x m cards
   MayActIn x m (Acknowledge number service) = MayAnswer plants x m service.line
@@ -34,7 +34,7 @@ module _ {P C : Type 0} (plants : PlantGhosts P) where
   ActsIn x y m (SpoolDeck n text) was is r = HasSpooled plants x y m text r
   ActsIn x y m (ReadText runs n fields p) was is r = HasRead plants x y m n r
   ActsIn x y m (SpoolOutputs n specs p) was is r = HasWritten plants x y m specs r
-  ActsIn x y m (PrintLines n i last p) was is r = HasPrintedNext plants x y m n i last r
+  ActsIn x y m (PrintLines n i last p) was is r = HasPrintedNext plants x y m (lines_to n i last) r
   ActsIn x y m (Exchange l offer) was is r = Exchanged plants x y m l offer was is r
   ActsIn x y m (SpoolArrival number job cards service) was is r = HasSpooled plants x y m cards r
   ActsIn x y m (Acknowledge number service) was is r = HasAnswered plants x y m service.line number r

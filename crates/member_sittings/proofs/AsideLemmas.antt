@@ -1,14 +1,8 @@
 -- A deck's text that is spooled without the lock.
-use Rattle.member_sittings.proofs.Names.{OnOk, ℕ, zero, suc, List, [], ◌∷◌, take, All, Result, Ok, Err, refl, All-nil, All-cons, All-head, All-tail, PlantGhosts, Parts, AreRoomy, IsThere, spools_at, Member, OnVolumes, SpoolCauses, GroupsKept, HasSpooled, finds_of, lowest_groups}
+use Rattle.member_sittings.proofs.Names.{OnOk, ℕ, List, Result, Ok, Err, refl, PlantGhosts, Parts, AreRoomy, IsThere, spools_at, Member, OnVolumes, SpoolCauses, GroupsKept, HasSpooled, finds_of, lowest_groups}
 use Rattle.mas_types.specs.declared.jobs.Text.TheVariants.{Whole}
 use Rattle.member_decks.specs.declared.spooling.SpoolError.{SpoolError}
 use Rattle.member_decks.specs.declared.spooling.SpoolError.TheVariants as spool
-
--- the first of a list are what all of it are
-pub all_take : {A : Type 0} (P : A → Type 0) (n : ℕ) (xs : List A) → All P xs → All P (take n xs)
-all_take P zero xs all = All-nil P
-all_take P (suc n) [] all = All-nil P
-all_take P (suc n) (x ∷ xs) all = All-cons P x (take n xs) (All-head P x xs all) (all_take P n xs (All-tail P x xs all))
 
 -- what was found, and why the acts stopped
 pub spools_by : {P C : Type 0} (plants : PlantGhosts P) (x y : Parts P C) (m : Member) (text : List (List ℕ)) (r : Result (Unit {0}) SpoolError) → OnVolumes plants.tells m.id.0 (plants.view x.plant) (plants.view y.plant)

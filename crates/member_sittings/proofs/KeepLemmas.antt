@@ -1,32 +1,29 @@
 -- What a sitting of one batch did, from the calls that keep the batch and say the lines.
-use Rattle.member_sittings.proofs.Names.{◌≡◌, inr, ℕ, ◌≤◌, Bool, List, [], ◌∷◌, ◌++◌, length, None, false, Result, Ok, Err, append-nil, refl, sym, ◌∙◌, ap, subst, arith, MemberId, Entry, View, PlantGhosts, begun, Parts, NodeNo, ConsoleFault, NoMemory, console_now, HasKept, spares_none, IsStep, StepCauses, StepLeaves, notes_none, HasAll, CopyCauses, GivesUpLeaves, IsOnCopies, KeepLeaves, all_entries, Sitting, released, Holder, State, SittingEnd, ends_in, HasSaid, said_of, CopiesActed, IsEndOf, IsSatAs, journal_of}
+use Rattle.member_sittings.proofs.Names.{◌≡◌, ℕ, ◌≤◌, Bool, List, [], ◌∷◌, ◌++◌, length, false, Result, Ok, Err, inr, append-nil, refl, sym, ◌∙◌, ap, subst, arith, MemberId, Entry, View, PlantGhosts, begun, Parts, NodeNo, ConsoleFault, NoMemory, console_now, HasKept, spares_none, IsStep, StepCauses, StepLeaves, notes_none, HasAll, CopyCauses, GivesUpLeaves, IsOnCopies, KeepLeaves, all_entries, Sitting, released, Holder, State, SittingEnd, ends_in, HasSaid, CopiesActed, IsEndOf, IsSatAs, journal_of, IfOk, map, HasActed, pair_at, pair_state}
+use Rattle.mas_complex.specs.Headline.{whole}
 use Rattle.member_node.specs.Spares.{Spares, stopped_in}
 use Rattle.member_node.proofs.CourseLemmas.{course_none, only_none, papers_none, wires_none}
 use Rattle.member_steps.specs.Counting.{HasCounted}
 use Rattle.member_steps.specs.Noting.{OtherNotesStay}
 use Rattle.member_steps.proofs.CountLemmas.{counted_error, counted_ok, counted_one, counted_up}
 use Rattle.step_turns.specs.declared.states.Release.{Release}
-use Rattle.member_sittings.proofs.ReachLemmas.{OneLeft, none_left, one_all, one_given_up, one_kept, one_step, one_unkept, said_answer, said_by, said_none}
+use Rattle.member_sittings.proofs.ReachLemmas.{OneLeft, none_left, one_all, one_given_up, one_kept, one_step, one_unkept, said_answer, said_by, said_none, said_all}
 
 -- the causes of an answer are those of a step's
-pub causes_of : (T : Type 0) (e : NodeNo) (by : ℕ) (a a' b b' : Bool) (v w : View) → CopyCauses {T = Unit {0}} (Err e) by a a' b b' v w → StepCauses {T = T} (Err e) by a a' b b' v w
+pub causes_of : (T : Type 0) (e : NodeNo) (by : ℕ) (a a' b b' : Bool) (v w : View) → CopyCauses {T = Unit {0}} (Err e) by (pair_at a b v) (pair_at a' b' w) → StepCauses {T = T} (Err e) by a a' b b' v w
 causes_of T ConsoleFault by a a' b b' v w cause = absurd cause
 causes_of T _ by a a' b b' v w cause = cause
 
-pub no_console : (e : NodeNo) (by : ℕ) (a a' b b' : Bool) (v w : View) → CopyCauses {T = Unit {0}} (Err e) by a a' b b' v w → e ≡ ConsoleFault → ⊥
+pub no_console : (e : NodeNo) (by : ℕ) (a a' b b' : Bool) (v w : View) → CopyCauses {T = Unit {0}} (Err e) by (pair_at a b v) (pair_at a' b' w) → e ≡ ConsoleFault → ⊥
 no_console ConsoleFault by a a' b b' v w cause is = absurd cause
 no_console _ by a a' b b' v w cause is = absurd (cc)
-
--- who was stopped, by an answer of another type
-spares_of : (T : Type 0) (e : NodeNo) (by : ℕ) (v w : View) → Spares by (stopped_in {T = Unit {0}} (Err e)) v w → Spares by (stopped_in {T = T} (Err e)) v w
-spares_of T e by v w spares = spares
 
 step_causes : (T : Type 0) (e : NodeNo) (by : ℕ) (a a' b b' : Bool) (v w : View) → StepCauses {T = Unit {0}} (Err e) by a a' b b' v w → StepCauses {T = T} (Err e) by a a' b b' v w
 step_causes T NoMemory by a a' b b' v w cause = cause
 step_causes T _ by a a' b b' v w cause = cause
 
 -- acts on the copies, with what was noted
-pub acted : {P C T : Type 0} (plants : PlantGhosts P) (by : MemberId) (x y : Parts P C) (r : Result T NodeNo) → IsOnCopies plants.tells by.0 x.first_alive y.first_alive x.second_alive y.second_alive (plants.view x.plant) (plants.view y.plant) r
+pub acted : {P C T : Type 0} (plants : PlantGhosts P) (by : MemberId) (x y : Parts P C) (r : Result T NodeNo) → IsOnCopies plants.tells by.0 (pair_state plants.view x) (pair_state plants.view y) r
     → OtherNotesStay by x.had y.had → CopiesActed plants by x y r
 acted plants by x y r acts stay = record { on = acts; notes = stay }
 
@@ -40,36 +37,33 @@ module _ {P C : Type 0} (plants : PlantGhosts P) (by : MemberId) (h : Holder) (s
   abbrev Of : List Entry → Sitting
   Of es = ends_in h (es ∷ []) next lines
 
-  -- the member is the holder
-  named : (es : List Entry) (r : Result SittingEnd NodeNo) → IsSatAs plants by (Of es) x y r → IsSatAs plants h.by (Of es) x y r
-  named es r sat = subst (λ (i : MemberId). IsSatAs plants i (Of es) x y r) (sym same) sat
+  -- A sitting of one batch, by its parts. The member is the holder.
+  sat_by : (es : List Entry) (r : Result SittingEnd NodeNo) → HasActed plants by x y r → OneLeft by V.now W.now es x.batches (journal_of y) r → (plants.tells → HasSaid (HasAll by V.now W.now (es ∷ []) x.batches (journal_of y)) lines (console_now V) (console_now W) r)
+      → HasCounted by (all_entries (es ∷ [])) x.printed y.printed r → IfOk r (λ e. IsEndOf (Of es) e) → IsSatAs plants h.by (Of es) x y r
+  sat_by es r acts one console counts ends = subst (λ (i : MemberId). IsSatAs plants i (Of es) x y r) (sym same) (record {
+    sat = record { acts = acts; reach = one.by_it.reach; more = one.more; journal = one.are; left = one.by_it.left; reached = one.by_it.reached; console = console; counts = counts; ends = ends };
+    tight = one.tight;
+  })
+
+  -- acts on the copies alone
+  on_copies : {T : Type 0} {S : Type 0} (s : Result S NodeNo) (r : Result T NodeNo) → CopiesActed plants by x y s → Spares by.0 (stopped_in r) V W → StepCauses r by.0 x.first_alive y.first_alive x.second_alive y.second_alive V W → HasActed plants by x y r
+  on_copies s r acts spares cause = record {
+    course = acts.on.course;
+    loses = acts.on.loses;
+    others = λ t. (acts.on.apart t).others;
+    papers = λ t. (acts.on.apart t).papers;
+    wires = λ t. (acts.on.apart t).wires;
+    spares = spares;
+    cause = cause;
+    notes = acts.notes;
+  }
 
   -- acts on the copies alone, after which a sitting ended with this error
   by_copies : (es : List Entry) (e : NodeNo) → CopiesActed plants {T = Unit {0}} by x y (Err e) → OneLeft {T = SittingEnd} by V.now W.now es x.batches (journal_of y) (Err e)
       → {gave : List Entry} → HasCounted {T = Unit {0}} by gave x.printed y.printed (Err e) → IsSatAs plants h.by (Of es) x y (Err e)
-  by_copies es e acts one {gave} counts = named es (Err e) (record {
-    sat = record {
-      acts = record {
-        course = acts.on.course;
-        loses = acts.on.loses;
-        others = λ t. (acts.on.apart t).others;
-        papers = λ t. (acts.on.apart t).papers;
-        wires = λ t. (acts.on.apart t).wires;
-        spares = spares_of SittingEnd e by.0 V W acts.on.spares;
-        cause = causes_of SittingEnd e by.0 x.first_alive y.first_alive x.second_alive y.second_alive V W acts.on.cause;
-        notes = acts.notes;
-      };
-      reach = one.by_it.reach;
-      more = one.more;
-      journal = one.are;
-      left = one.by_it.left;
-      reached = one.by_it.reached;
-      console = λ t. said_none lines (console_now V) (console_now W) _ e (no_console e by.0 x.first_alive y.first_alive x.second_alive y.second_alive V W acts.on.cause) (acts.on.apart t).console;
-      counts = counted_up by gave (all_entries (es ∷ [])) x.printed y.printed (Err e) e counts;
-      ends = tt;
-    };
-    tight = one.tight;
-  })
+  by_copies es e acts one {gave} counts = sat_by es (Err e) (on_copies {T = SittingEnd} {S = Unit {0}} (Err e) (Err e) acts acts.on.spares (causes_of SittingEnd e by.0 x.first_alive y.first_alive x.second_alive y.second_alive V W acts.on.cause)) one
+      (λ t. said_none lines (console_now V) (console_now W) _ e (no_console e by.0 x.first_alive y.first_alive x.second_alive y.second_alive V W acts.on.cause) (acts.on.apart t).console)
+      (counted_up by gave (all_entries (es ∷ [])) x.printed y.printed (Err e) e counts) tt
 
   -- the batch couldn't be kept
   pub sat_unkept : (es : List Entry) (e : NodeNo) → 1 ≤ length es → CopiesActed plants {T = Unit {0}} by x y (Err e)
@@ -85,38 +79,12 @@ module _ {P C : Type 0} (plants : PlantGhosts P) (by : MemberId) (h : Holder) (s
   pub sat_kept : (es : List Entry) (end : SittingEnd) → 1 ≤ length es → lines ≡ [] → IsEndOf (Of es) end → CopiesActed plants {T = Unit {0}} by x y (Ok tt)
       → HasKept x.batches (journal_of y) (begun V.now by es) W.now → HasCounted {T = Unit {0}} by es x.printed y.printed (Ok tt) → IsSatAs plants h.by (Of es) x y (Ok end)
   sat_kept es end some silent ends acts kept counts =
-      let one : OneLeft by V.now W.now es x.batches (journal_of y) (Ok end) = one_kept by V.now W.now acts.on.course.goes.later es some x.batches (journal_of y) (Ok end) tt kept in
-      named es (Ok end) (record {
-        sat = record {
-          acts = record {
-            course = acts.on.course;
-            loses = acts.on.loses;
-            others = λ t. (acts.on.apart t).others;
-            papers = λ t. (acts.on.apart t).papers;
-            wires = λ t. (acts.on.apart t).wires;
-            spares = acts.on.spares;
-            cause = acts.on.cause;
-            notes = acts.notes;
-          };
-          reach = one.by_it.reach;
-          more = one.more;
-          journal = one.are;
-          left = one.by_it.left;
-          reached = one.by_it.reached;
-          console = λ t. record {
-            said = record { lines = length lines; torn = None };
-            is = (acts.on.apart t).console ∙ sym (append-nil (console_now V)) ∙ silently t;
-            by_answer = refl;
-            once_kept = inr (one_all by V.now W.now acts.on.course.goes.later es some x.batches (journal_of y) kept);
-          };
-          counts = counted_ok by (all_entries (es ∷ [])) x.printed y.printed tt end (counted_one by es x.printed y.printed (Ok tt) counts);
-          ends = ends;
-        };
-        tight = one.tight;
-      })
+      sat_by es (Ok end) (on_copies {T = SittingEnd} {S = Unit {0}} (Ok tt) (Ok end) acts acts.on.spares acts.on.cause) (one_kept by V.now W.now acts.on.course.goes.later es some x.batches (journal_of y) (Ok end) tt kept)
+      (λ t. said_all lines (console_now V) (console_now W) _ end (one_all by V.now W.now acts.on.course.goes.later es some x.batches (journal_of y) kept) ((acts.on.apart t).console ∙ silently))
+      (counted_ok by (all_entries (es ∷ [])) x.printed y.printed tt end (counted_one by es x.printed y.printed (Ok tt) counts)) ends
     where
-      silently : plants.tells → console_now V ++ [] ≡ console_now V ++ said_of (record { lines = length lines; torn = None }) lines
-      silently t = subst (λ (l : List (List ℕ)). console_now V ++ [] ≡ console_now V ++ said_of (record { lines = length l; torn = None }) l) (sym silent) refl
+      silently : console_now V ≡ console_now V ++ map whole lines
+      silently = sym (append-nil (console_now V)) ∙ ap (λ (l : List (List ℕ)). console_now V ++ map whole l) (sym silent)
 
   -- A step's batch and its lines: one answer for both.
   module _ (es : List Entry) (some : 1 ≤ length es) (notes : OtherNotesStay by x.had y.had) where
@@ -133,61 +101,22 @@ module _ {P C : Type 0} (plants : PlantGhosts P) (by : MemberId) (h : Holder) (s
         (λ bad. one_all by V.now W.now step.course.goes.later es some x.batches (journal_of y) (subst (λ (q : Result (Unit {0}) NodeNo). StepLeaves q x.batches (journal_of y) (begun V.now by es) W.now) bad step.journal))
         (step.console t)
 
+    acts_of : {T : Type 0} (s : Result (Unit {0}) NodeNo) (r : Result T NodeNo) → Step s → Spares by.0 (stopped_in r) V W → StepCauses r by.0 x.first_alive y.first_alive x.second_alive y.second_alive V W → HasActed plants by x y r
+    acts_of s r step spares cause = record { course = step.course; loses = step.loses; others = step.others; papers = step.papers; wires = step.wires; spares = spares; cause = cause; notes = notes }
+
     -- the batch or its lines ended with an error
     pub sat_unclosed : (e : NodeNo) → Step (Err e) → HasCounted {T = Unit {0}} by es x.printed y.printed (Err e) → IsSatAs plants h.by (Of es) x y (Err e)
     sat_unclosed e step counts =
-        let one : OneLeft {T = SittingEnd} by V.now W.now es x.batches (journal_of y) (Err e) = one_step by V.now W.now step.course.goes.later es some x.batches (journal_of y) e step.journal in
-        named es (Err e) (record {
-          sat = record {
-            acts = record {
-              course = step.course;
-              loses = step.loses;
-              others = step.others;
-              papers = step.papers;
-              wires = step.wires;
-              spares = spares_of SittingEnd e by.0 V W step.spares;
-              cause = step_causes SittingEnd e by.0 x.first_alive y.first_alive x.second_alive y.second_alive V W step.cause;
-              notes = notes;
-            };
-            reach = one.by_it.reach;
-            more = one.more;
-            journal = one.are;
-            left = one.by_it.left;
-            reached = one.by_it.reached;
-            console = λ t. said_answer All_kept lines (console_now V) (console_now W) e (says (Err e) step t);
-            counts = counted_up by es (all_entries (es ∷ [])) x.printed y.printed (Err e) e counts;
-            ends = tt;
-          };
-          tight = one.tight;
-        })
+        sat_by es (Err e) (acts_of {T = SittingEnd} (Err e) (Err e) step step.spares (step_causes SittingEnd e by.0 x.first_alive y.first_alive x.second_alive y.second_alive V W step.cause))
+        (one_step by V.now W.now step.course.goes.later es some x.batches (journal_of y) e step.journal)
+        (λ t. said_answer All_kept lines (console_now V) (console_now W) e (says (Err e) step t)) (counted_up by es (all_entries (es ∷ [])) x.printed y.printed (Err e) e counts) tt
 
     -- the batch was kept, and its lines are said
     pub sat_closed : (end : SittingEnd) → IsEndOf (Of es) end → Step (Ok tt) → HasCounted {T = Unit {0}} by es x.printed y.printed (Ok tt) → IsSatAs plants h.by (Of es) x y (Ok end)
     sat_closed end ends step counts =
-        let one : OneLeft by V.now W.now es x.batches (journal_of y) (Ok end) = one_kept by V.now W.now step.course.goes.later es some x.batches (journal_of y) (Ok end) tt step.journal in
-        named es (Ok end) (record {
-          sat = record {
-            acts = record {
-              course = step.course;
-              loses = step.loses;
-              others = step.others;
-              papers = step.papers;
-              wires = step.wires;
-              spares = step.spares;
-              cause = step.cause;
-              notes = notes;
-            };
-            reach = one.by_it.reach;
-            more = one.more;
-            journal = one.are;
-            left = one.by_it.left;
-            reached = one.by_it.reached;
-            console = λ t. let said = says (Ok tt) step t in record { said = said.said; is = said.is; by_answer = said.by_answer; once_kept = said.once_kept };
-            counts = counted_ok by (all_entries (es ∷ [])) x.printed y.printed tt end (counted_one by es x.printed y.printed (Ok tt) counts);
-            ends = ends;
-          };
-          tight = one.tight;
-        })
+        sat_by es (Ok end) (acts_of {T = SittingEnd} (Ok tt) (Ok end) step step.spares step.cause) (one_kept by V.now W.now step.course.goes.later es some x.batches (journal_of y) (Ok end) tt step.journal)
+        (λ t. let said = says (Ok tt) step t in record { said = said.said; is = said.is; by_answer = said.by_answer; once_kept = said.once_kept })
+        (counted_ok by (all_entries (es ∷ [])) x.printed y.printed tt end (counted_one by es x.printed y.printed (Ok tt) counts)) ends
 
 -- nothing was done, out of memory
 pub sat_none : {P C : Type 0} (plants : PlantGhosts P) (by : MemberId) (h : Holder) (next : State) (lines : List (List ℕ)) (x : Parts P C) (es : List Entry) → journal_of x ≡ x.batches → IsSatAs plants by (ends_in h (es ∷ []) next lines) x x (Err NoMemory)

@@ -1,10 +1,10 @@
 -- The names that many proofs take, each from where it is declared.
-pub use Rattle.member_sittings.specs.Names.{All, Bool, Err, IfOk, List, None, Ok, OnOk, Option, Result, Some, [], false, length, map, take, true, ℕ, ◌*◌, ◌++◌, ◌+◌, ◌<◌, ◌^◌, ◌∷◌, ◌≡◌, ◌≤◌, ◌⊎◌, AreSettled, begun, kept_all, Parts, parts_of, HasTexts, IsThere, lost_now, spools_at, reply_lines, IsFit, IsJobFields, Command, MemberId, Batch, Entry, Config, HasAll, IsKeptBatch, AreOf, AreLow, orders_after, too_high, Member, NodeNo, BothLost, ConsoleFault, Halted, NoMemory, TellKept, torn, AreKeptFrom, IsBetween, StepCauses, entry_with, ViewLine, View, PlantGhosts, AreRoomy, all_entries, closing_reply as entries_closing_reply, Sitting, released, sit, nothing_found, SpoolDeck, Found, Holder, State, Away, Fresh, Told}
-pub use Rattle.std.proofs.Common.{ap, append-nil, append_assoc, arith, if◌then◌else◌, inl, inr, refl, subst, suc, sym, zero, ⊎_elim, ◌∙◌}
+pub use Rattle.std.proofs.Common.{All, Bool, Err, IfOk, List, None, Ok, OnOk, Option, Result, Some, [], ap, append-nil, append_assoc, arith, false, if◌then◌else◌, inl, inr, length, map, refl, subst, suc, sym, take, true, zero, ℕ, ⊎_elim, ◌*◌, ◌++◌, ◌+◌, ◌<◌, ◌^◌, ◌∙◌, ◌∷◌, ◌≡◌, ◌≤◌, ◌⊎◌}
 pub use Rattle.std.proofs.Math.Logic.{∥∥₁_map}
-pub use Rattle.std.proofs.lemmas.List.Elements.{All-append, All-cons, All-head, All-nil, All-tail, All-weaker}
+pub use Rattle.std.proofs.lemmas.List.Elements.{All-append, All-cons, All-head, All-nil, All-tail, All-take, All-weaker}
 pub use Rattle.std.proofs.lemmas.Result.{err_from_is_err_and}
 pub use Rattle.ckpt_tables.specs.declared.tables.Tables.{Tables}
+pub use Rattle.member_sittings.specs.Names.{AreSettled, begun, kept_all, Parts, parts_of, HasTexts, IsThere, lost_now, spools_at, reply_lines, IsFit, IsJobFields, Command, MemberId, Batch, Entry, Config, HasAll, IsKeptBatch, AreOf, AreLow, orders_after, too_high, Member, NodeNo, BothLost, ConsoleFault, Halted, NoMemory, TellKept, torn, AreKeptFrom, IsBetween, StepCauses, entry_with, ViewLine, View, PlantGhosts, AreRoomy, all_entries, closing_reply as entries_closing_reply, Sitting, released, sit, nothing_found, SpoolDeck, Found, Holder, State, Away, Fresh, Told}
 pub use Rattle.mas_complex.specs.Journals.{fated}
 pub use Rattle.mas_complex.specs.Meaning.{run, step}
 pub use Rattle.mas_types.specs.Owners.{groups_needed, member_count}
@@ -18,11 +18,12 @@ pub use Rattle.member_decks.proofs.FinishLemmas.{finished_texts, finishing_fit, 
 pub use Rattle.member_decks.proofs.OpenLemmas.{tells_some}
 pub use Rattle.member_decks.proofs.PageLemmas.{acts_none, kept_none, still_roomy}
 pub use Rattle.member_decks.proofs.PlayLemmas.{closed_of, groups_few, of_front, of_given, some_given}
-pub use Rattle.member_decks.specs.Batches.{AreAll, AreCut, OneFlies}
+pub use Rattle.member_decks.specs.Batches.{AreAll}
 pub use Rattle.member_decks.specs.Decks.{are_refused, closing_reply, ends_as, ends_begun, finishing, given_in, lines_by, opening}
+pub use Rattle.mas_complex.specs.CallCounts.{PairState, pair_at, pair_state}
 pub use Rattle.member_decks.specs.Keeping.{CopyCauses, GivesUpLeaves, IsOnCopies, KeepLeaves}
 pub use Rattle.member_decks.specs.Spooling.{GroupsKept, OnVolumes, Rise, SpoolCauses}
-pub use Rattle.member_decks.specs.Taking.{IsOpening, IsPart, LeaveOut}
+pub use Rattle.member_decks.specs.Taking.{Gives, IsPart, LeaveOut}
 pub use Rattle.member_decks.specs.declared.opening.Opened.{Opened}
 pub use Rattle.member_node.proofs.SpareLemmas.{spares_none, sparing_none}
 pub use Rattle.member_node.proofs.WriteLemmas.{none_out, run_append}
@@ -32,7 +33,7 @@ pub use Rattle.member_node.specs.Writes.{HasFlying, HasKept}
 pub use Rattle.member_sittings.specs.Asides.{HasGroups, HasSpooled, WaitsRightly, deck_found, finds_of, lowest_groups}
 pub use Rattle.member_sittings.specs.Ends.{deck_end, ends_in}
 pub use Rattle.member_sittings.specs.Left.{HasLeft, HasSaid, IsLastBatch, Reach, ReachesBy, StandThere, left_by, reach_all, said_nothing, said_of}
-pub use Rattle.member_sittings.specs.Sat.{CopiesActed, IsEndOf, IsSatAs, IsSatOn, journal_of}
+pub use Rattle.member_sittings.specs.Sat.{CopiesActed, HasActed, IsEndOf, IsSatAs, IsSatOn, journal_of}
 pub use Rattle.member_sittings.specs.Whole.{Commanded, Half, HasStepKept, HasTextsAfter, HasTextsOf, HasUntold, HoldsLock, IsAtRest, IsBounded, IsGiving, IsRoomy, IsSeat, IsSitting, IsStepUntold, IsStill, IsToCut, IsToKeep, MayKeep, first_half, queue_of, second_half}
 pub use Rattle.member_sittings.specs.declared.ends.SittingEnd.{SittingEnd}
 pub use Rattle.member_steps.proofs.FateLemmas.{closing_tells, kept_from_out, reply_tells, settled_later, settled_out}

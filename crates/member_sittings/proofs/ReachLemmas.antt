@@ -1,6 +1,7 @@
 -- How far a sitting came, from what its parts left in the journal and on the console.
-use Rattle.member_sittings.proofs.Names.{◌≡◌, ◌⊎◌, inl, inr, ⊎_elim, ℕ, suc, ◌≤◌, ◌<◌, Bool, true, false, List, [], ◌∷◌, ◌++◌, length, map, take, Some, None, Result, Ok, Err, append_assoc, append-nil, refl, sym, ◌∙◌, ap, subst, arith, MemberId, Batch, Entry, ViewLine as Line, begun, fated, NodeNo, BothLost, Halted, ConsoleFault, NoMemory, HasFlying, HasKept, Breaks, torn, StepLeaves, StepTells, AreAll, AreCut, HasAll, IsKeptBatch, OneFlies, GivesUpLeaves, KeepLeaves, batch_of, HasLeft, HasSaid, IsLastBatch, Reach, ReachesBy, StandThere, left_by, reach_all, said_nothing, said_of}
+use Rattle.member_sittings.proofs.Names.{◌≡◌, ◌⊎◌, ℕ, ◌≤◌, ◌<◌, Bool, true, false, List, [], ◌∷◌, ◌++◌, length, map, take, Some, None, Result, Ok, Err, inl, inr, ⊎_elim, suc, append_assoc, append-nil, refl, sym, ◌∙◌, ap, subst, arith, MemberId, Batch, Entry, ViewLine as Line, begun, fated, NodeNo, BothLost, Halted, ConsoleFault, NoMemory, HasFlying, HasKept, Breaks, torn, StepLeaves, StepTells, AreAll, HasAll, IsKeptBatch, GivesUpLeaves, KeepLeaves, batch_of, HasLeft, HasSaid, IsLastBatch, Reach, ReachesBy, StandThere, left_by, reach_all, said_nothing, said_of}
 use Rattle.std.proofs.lemmas.List.{length-append, take_at}
+use Rattle.std.proofs.Math.Seq.{take-length}
 use Rattle.mas_types.specs.declared.journals.Fate.TheVariants.{Kept}
 use Rattle.mas_complex.specs.Headline.{whole}
 use Rattle.member_sittings.specs.Tight.{IsTightBy}
@@ -16,13 +17,9 @@ batch_some (e ∷ es) some = refl
 pub part_front : (es rest : List Entry) → 1 ≤ length es → batch_of (take (length es) (es ++ rest)) ≡ es ∷ []
 part_front es rest some = ap batch_of (take_at es rest (length es) refl) ∙ batch_some es some
 
-take_all : {A : Type 0} (xs : List A) → take (length xs) xs ≡ xs
-take_all [] = refl
-take_all (x ∷ xs) = ap (λ l. x ∷ l) (take_all xs)
-
 -- a reach to the end leaves all batches
 pub left_all : (ess : List (List Entry)) → left_by (reach_all ess) ess ≡ ess
-left_all ess = ap (λ (l : List (List Entry)). l ++ []) (take_all ess) ∙ append-nil ess
+left_all ess = ap (λ (l : List (List Entry)). l ++ []) (take-length ess) ∙ append-nil ess
 
 -- BATCHES ONE AFTER ANOTHER
 
@@ -85,38 +82,6 @@ next_left flies by from now es ess b bs kept l = record {
   };
 }
 
-pub cut_left : (by : MemberId) (from now : ℕ) (ess : List (List Entry)) (bs : List Batch) → AreCut by from now ess bs → Lefts false by from now ess bs
-cut_left by from now [] bs cut = absurd cut
-cut_left by from now (es ∷ ess) [] cut = record { reach = record { whole = 0; part = 0; flies = false }; flag = refl; left = none_left by from now (es ∷ ess) }
-cut_left by from now (es ∷ ess) (b ∷ bs) cut = ⊎_elim
-    (λ last.
-    let front : List Entry = last.1.0 in
-    let part = part_left false by from now front last.1.1.1.0 ess b last.1.1.0 (λ e. last.1.1.1.2) last.1.2 in
-    record {
-      reach = record { whole = 0; part = length front; flies = false };
-      flag = refl;
-      left = subst (λ (l : List Batch). HasLeft by from now (es ∷ ess) (record { whole = 0; part = length front; flies = false }) (b ∷ l)) (sym last.0)
-          (subst (λ (l : List Entry). HasLeft by from now (l ∷ ess) (record { whole = 0; part = length front; flies = false }) (b ∷ [])) (sym last.1.1.1.1) part);
-    })
-    (λ more. next_left false by from now es ess b bs more.0 (cut_left by b.last now ess bs more.1))
-    cut
-
-pub flies_left : (by : MemberId) (from now : ℕ) (ess : List (List Entry)) (bs : List Batch) → OneFlies by from now ess bs → Lefts true by from now ess bs
-flies_left by from now [] bs one = absurd one
-flies_left by from now (es ∷ ess) [] one = absurd one
-flies_left by from now (es ∷ ess) (b ∷ bs) one = ⊎_elim
-    (λ last.
-    let front : List Entry = last.1.0 in
-    let part = part_left true by from now front last.1.1.1.0 ess b last.1.1.0 (λ e. absurd (cc)) last.1.2 in
-    record {
-      reach = record { whole = 0; part = length front; flies = true };
-      flag = refl;
-      left = subst (λ (l : List Batch). HasLeft by from now (es ∷ ess) (record { whole = 0; part = length front; flies = true }) (b ∷ l)) (sym last.0)
-          (subst (λ (l : List Entry). HasLeft by from now (l ∷ ess) (record { whole = 0; part = length front; flies = true }) (b ∷ [])) (sym last.1.1.1.1) part);
-    })
-    (λ more. next_left true by from now es ess b bs more.0 (flies_left by b.last now ess bs more.1))
-    one
-
 -- BY THE ANSWER
 
 -- what a sitting left, and by its answer
@@ -127,28 +92,11 @@ pub record LeftBy {T : Type 0} (by : MemberId) (from now : ℕ) (ess : List (Lis
 
 module _ (by : MemberId) (from now : ℕ) (ess : List (List Entry)) (more : List Batch) where
   pub by_all : {T : Type 0} (r : Result T NodeNo) → AreAll by from now ess more → LeftBy by from now ess more r
-  by_all (Err BothLost) all = record { reach = reach_all ess; left = all_left by from now ess more all; reached = tt }
-  by_all (Err Halted) all = record { reach = reach_all ess; left = all_left by from now ess more all; reached = tt }
-  by_all _ all = record { reach = reach_all ess; left = all_left by from now ess more all; reached = refl }
-
-  -- out of memory amid a sitting's batches
-  pub by_cut_wanted : {T : Type 0} → AreCut by from now ess more → LeftBy {T = T} by from now ess more (Err NoMemory)
-  by_cut_wanted cut = let l = cut_left by from now ess more cut in record { reach = l.reach; left = l.left; reached = l.flag }
-
-  abbrev Thirds : Type 0
-  Thirds = AreCut by from now ess more ⊎ OneFlies by from now ess more ⊎ AreAll by from now ess more
-
-  pub by_thirds_lost : {T : Type 0} → Thirds → LeftBy {T = T} by from now ess more (Err BothLost)
-  by_thirds_lost three = ⊎_elim
-      (λ cut. let l = cut_left by from now ess more cut in record { reach = l.reach; left = l.left; reached = tt })
-      (λ two. ⊎_elim (λ one. let l = flies_left by from now ess more one in record { reach = l.reach; left = l.left; reached = tt }) (λ all. by_all (Err BothLost) all) two)
-      three
-
-  pub by_thirds_halted : {T : Type 0} → Thirds → LeftBy {T = T} by from now ess more (Err Halted)
-  by_thirds_halted three = ⊎_elim
-      (λ cut. let l = cut_left by from now ess more cut in record { reach = l.reach; left = l.left; reached = tt })
-      (λ two. ⊎_elim (λ one. let l = flies_left by from now ess more one in record { reach = l.reach; left = l.left; reached = tt }) (λ all. by_all (Err Halted) all) two)
-      three
+  by_all r all = record { reach = reach_all ess; left = all_left by from now ess more all; reached = reached r } where
+    reached : {T : Type 0} (r : Result T NodeNo) → ReachesBy r ess (reach_all ess)
+    reached (Err BothLost) = tt
+    reached (Err Halted) = tt
+    reached _ = refl
 
 -- ONE BATCH
 
@@ -209,18 +157,14 @@ module _ (by : MemberId) (from now : ℕ) (later : from ≤ now) (es : List Entr
   LastAnswer _ = ⊥
 
   pub one_kept : {T : Type 0} (r : Result T NodeNo) → LastAnswer r → HasKept front batches Whole now → OneLeft by from now es front batches r
-  one_kept (Ok done) last k = let all = one_all k in record { more = all.0; are = all.1; by_it = by_all by from now (es ∷ []) all.0 (Ok done) all.2; tight = tt }
-  one_kept (Err ConsoleFault) last k = let all = one_all k in record { more = all.0; are = all.1; by_it = by_all by from now (es ∷ []) all.0 (Err ConsoleFault) all.2; tight = tt }
-  one_kept (Err Halted) last k =
-      let all = one_all k in
-      record {
-        more = all.0;
-        are = all.1;
-        by_it = record { reach = reach_all (es ∷ []); left = all_left by from now (es ∷ []) all.0 all.2; reached = tt };
-        tight = λ part. absurd (omega (arith, part));
-      }
-  one_kept (Err NoMemory) last k = absurd last
-  one_kept (Err BothLost) last k = absurd last
+  unfolding by_all
+  one_kept r last k = let all = one_all k in record { more = all.0; are = all.1; by_it = by_all by from now (es ∷ []) all.0 r all.2; tight = tight r last } where
+    tight : {T : Type 0} (r : Result T NodeNo) → LastAnswer r → IsTightBy r (es ∷ []) (reach_all (es ∷ []))
+    tight (Ok done) last = tt
+    tight (Err ConsoleFault) last = tt
+    tight (Err Halted) last = λ part. absurd (omega (arith, part))
+    tight (Err NoMemory) last = absurd last
+    tight (Err BothLost) last = absurd last
 
   -- a batch with no entries left to come
   alone : {T : Type 0} (r : Result T NodeNo) → OneLeft by from now (es ++ []) front batches r → OneLeft by from now es front batches r
@@ -261,7 +205,7 @@ module _ (lines : List (List ℕ)) (was now : List Line) where
   pub said_all : {T : Type 0} (A : Type 0) (done : T) → A → now ≡ was ++ map whole lines → HasSaid A lines was now (Ok done)
   said_all A done kept is = record {
     said = record { lines = length lines; torn = None };
-    is = whole_said (length lines) (is ∙ ap (λ (l : List (List ℕ)). was ++ map whole l) (sym (take_all lines)));
+    is = whole_said (length lines) (is ∙ ap (λ (l : List (List ℕ)). was ++ map whole l) (sym (take-length lines)));
     by_answer = refl;
     once_kept = inr kept;
   }

@@ -1,5 +1,5 @@
 -- A member at the shared value, within a sitting and after it.
-use Rattle.member_sittings.proofs.Names.{◌≡◌, ℕ, ◌+◌, ◌*◌, ◌^◌, ◌≤◌, ◌<◌, Result, IfOk, true, false, List, [], ◌∷◌, length, All, None, refl, sym, ◌∙◌, ap, subst, arith, ◌++◌, Ok, Err, All-weaker, All-append, All-cons, All-tail, ∥∥₁_map, MemberId, Command, Reply, Batch, Entry, Config, Queue, IsFit, IsJobFields, may_give, JobFields, is_member, View, PlantGhosts, Tables, TellSound, Tell, AreRoomy, AreSettled, begun, kept_all, Parts, HasTexts, lost_now, spools_at, Member, NodeNo, console_now, AreLow, orders_after, too_high, HasKept, run_append, IsBetween, entry_with, had_as, at_lock, calm_rest, low_written, one_batch, told_sound, untold_later, begins_alone, between_done, can_draw, if_ok, kept_from_out, settled_later, settled_out, AreOf, one_of, still_roomy, given_in, opening, IsOpening, IsPart, LeaveOut, tells_some, of_front, of_given, SittingEnd, IsSatOn, journal_of, Commanded, Half, HasStepKept, HasTextsAfter, HasUntold, HoldsLock, IsAtRest, IsBounded, IsGiving, IsRoomy, IsSeat, IsSitting, IsStepUntold, IsStill, MayKeep, first_half, queue_of, second_half, HasTextsOf}
+use Rattle.member_sittings.proofs.Names.{◌≡◌, ℕ, ◌+◌, ◌*◌, ◌^◌, ◌≤◌, ◌<◌, Result, IfOk, true, false, List, [], ◌∷◌, length, All, None, ◌++◌, Ok, Err, refl, sym, ◌∙◌, ap, subst, arith, All-weaker, All-append, All-cons, All-tail, ∥∥₁_map, MemberId, Command, Reply, Batch, Entry, Config, Queue, IsFit, IsJobFields, may_give, JobFields, is_member, View, PlantGhosts, Tables, TellSound, Tell, AreRoomy, AreSettled, begun, kept_all, Parts, HasTexts, lost_now, spools_at, Member, NodeNo, console_now, AreLow, orders_after, too_high, HasKept, run_append, IsBetween, entry_with, had_as, at_lock, calm_rest, low_written, one_batch, told_sound, untold_later, begins_alone, between_done, can_draw, if_ok, kept_from_out, settled_later, settled_out, AreOf, one_of, still_roomy, given_in, opening, Gives, IsPart, LeaveOut, tells_some, of_front, of_given, SittingEnd, IsSatOn, journal_of, Commanded, Half, HasStepKept, HasTextsAfter, HasUntold, HoldsLock, IsAtRest, IsBounded, IsGiving, IsRoomy, IsSeat, IsSitting, IsStepUntold, IsStill, MayKeep, first_half, queue_of, second_half, HasTextsOf}
 use Rattle.mas_types.specs.declared.ids.Page.{Page}
 use Rattle.paper_laws.specs.Counts.{is_mark}
 use Rattle.spool_plant.specs.Acts.{Goes}
@@ -254,11 +254,11 @@ strip [] l = l
 strip (x ∷ xs) [] = []
 strip (x ∷ xs) (y ∷ l) = strip xs l
 
-strip_front : (xs l : List Entry) → strip xs (xs ++ l) ≡ l
+pub strip_front : (xs l : List Entry) → strip xs (xs ++ l) ≡ l
 strip_front [] l = refl
 strip_front (x ∷ xs) l = strip_front xs l
 
-all_strip : (P : Entry → Type 0) (xs l : List Entry) → All P l → All P (strip xs l)
+pub all_strip : (P : Entry → Type 0) (xs l : List Entry) → All P l → All P (strip xs l)
 all_strip P [] l all = all
 all_strip P (x ∷ xs) [] all = all
 all_strip P (x ∷ xs) (y ∷ l) all = all_strip P xs l (All-tail P y l all)
@@ -303,7 +303,7 @@ begins_part base by member js printed at Q fields groups fit es (Ok done) part =
 begins_part base by member js printed at Q fields groups fit es (Err e) part = front_begins base by member js printed at Q fields groups fit es part
 
 abbrev pub Opens : {T E : Type 0} → ℕ → JobFields → ℕ → Member → Member → Result T E → Type 0
-Opens at fields groups m n r = (Q : Queue) → Tell m.checkpoint.tables Q → IsOpening Q m.id at groups fields m.checkpoint.tables n.checkpoint.tables n.batch r
+Opens at fields groups m n r = (Q : Queue) → Tell m.checkpoint.tables Q → Gives Q (given_in Q m.id at (opening Q m.id fields groups)) m.checkpoint.tables n.checkpoint.tables n.batch r
 
 pub opened_of : {T E : Type 0} (at : ℕ) (fields : JobFields) (groups : ℕ) (m n : Member) (r : Result T E) → Opens at fields groups m n r → AreOf m.id at n.batch
 opened_of at fields groups m n r opens = let sh = tells_some m.checkpoint.tables in of_part sh.0 m.id at fields groups n.batch r (opens sh.0 sh.1).part
@@ -313,10 +313,9 @@ module _ {P C : Type 0} (plants : PlantGhosts P) (copies : CopyGhosts C) where
       → HasTextsOf plants copies x (queue_of x) → HasTextsAfter plants copies x n.batch
   opened_texts x at fields groups m n r s opens here t =
       let v = plants.view x.plant in
-      let o = opens (queue_of x) (s.seat.between.queue t) in
       ∥∥₁_map (here t) (λ has.
       subst (HasTexts (lost_now v) (spools_at v v.now) x.base.config.groups) (sym (run_append x.base (kept_all x.batches) n.batch))
-      (o.texts (s.seat.between.sound t) (lost_now v) (spools_at v v.now) x.base.config.groups has))
+      ((opens (queue_of x) (s.seat.between.queue t)).texts (s.seat.between.sound t) (lost_now v) (spools_at v v.now) x.base.config.groups has))
 
   pub gives_opened : {T E : Type 0} (x : Parts P C) (m n : Member) (at : ℕ) (fields : JobFields) (groups : ℕ) (r : Result T E) → IsSitting plants copies x m at → Commanded m n → IsJobFields fields → groups ≤ 10000
       → Opens at fields groups m n r → n.checkpoint.tables.order ≤ m.checkpoint.tables.order + 32 * (groups + 2)

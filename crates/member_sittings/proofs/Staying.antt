@@ -1,10 +1,10 @@
 -- A member that has its seat still.
-use Rattle.member_sittings.proofs.Names.{inl, ℕ, Bool, OnOk, Result, Ok, Err, View, NodeNo, BothLost, ConsoleFault, Halted, NoMemory, IsSettle, ReadCauses, CopyCauses, IsOnCopies}
+use Rattle.member_sittings.proofs.Names.{inl, ℕ, OnOk, Result, Ok, Err, NodeNo, BothLost, ConsoleFault, Halted, NoMemory, IsSettle, ReadCauses, CopyCauses, IsOnCopies, PairState}
 
 -- a settle alone is acts on the copies
-pub settle_copies : (told : Type 0) (by : ℕ) (a a' b b' : Bool) (v w : View) (r : Result (Unit {0}) NodeNo) → IsSettle told by a a' b b' v w r → IsOnCopies told by a a' b b' v w r
-settle_copies told by a a' b b' v w r s = record { course = s.course; loses = λ t d. s.loses d; cause = causes r s.cause; spares = s.spares; apart = s.apart } where
-  causes : (r : Result (Unit {0}) NodeNo) → ReadCauses r by a' b' v w → CopyCauses r by a a' b b' v w
+pub settle_copies : (told : Type 0) (by : ℕ) (x y : PairState) (r : Result (Unit {0}) NodeNo) → IsSettle told by x.first y.first x.second y.second x.view y.view r → IsOnCopies told by x y r
+settle_copies told by x y r s = record { course = s.course; loses = λ t d. s.loses d; cause = causes r s.cause; spares = s.spares; apart = s.apart } where
+  causes : (r : Result (Unit {0}) NodeNo) → ReadCauses r by y.first y.second x.view y.view → CopyCauses r by x y
   causes (Ok done) c = inl c
   causes (Err BothLost) c = c
   causes (Err Halted) c = (inl c.0, c.1)

@@ -1,5 +1,5 @@
 -- What the machine of steps gives in the sittings of a command and of a deck.
-use Rattle.member_sittings.proofs.Names.{◌≡◌, ℕ, ◌≤◌, Bool, true, false, if◌then◌else◌, List, [], ◌∷◌, length, All, Option, None, Some, refl, ◌∙◌, ap, arith, All-nil, All-cons, MemberId, Command, Reply, JobFields, Entry, Queue, reply_lines, groups_needed, step, entry_of, reply_to, Opened, are_refused, closing_reply, ends_as, ends_begun, finishing, given_in, lines_by, opening, AreOf, batch_of, cut, is_full, job_begun, job_opened, all_entries, Sitting, released, sit, sitting_of, Found, Holder, State, Away, Fresh, Told, SpoolDeck, deck_found, ends_in}
+use Rattle.member_sittings.proofs.Names.{◌≡◌, ℕ, ◌≤◌, Bool, true, false, List, [], ◌∷◌, length, All, Option, None, Some, if◌then◌else◌, refl, ◌∙◌, ap, arith, All-nil, All-cons, MemberId, Command, Reply, JobFields, Entry, Queue, reply_lines, groups_needed, step, entry_of, reply_to, Opened, are_refused, closing_reply, ends_as, ends_begun, finishing, given_in, lines_by, opening, AreOf, batch_of, cut, is_full, job_begun, job_opened, all_entries, Sitting, released, sit, sitting_of, Found, Holder, State, Away, Fresh, Told, SpoolDeck, deck_found, ends_in}
 use Rattle.mas_types.specs.declared.ids.JobNo.{JobNo}
 use Rattle.mas_types.specs.declared.commands.Command.TheVariants as command
 use Rattle.mas_types.specs.declared.commands.Reply.TheVariants as reply

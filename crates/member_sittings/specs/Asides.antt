@@ -1,6 +1,6 @@
 -- A deck's acts aside: its text goes into groups of the member, without the lock.
-use Rattle.std.specs.Prelude.{◌≡◌, ℕ, ◌≤◌, true, List, take, All, Option, Some, None, Result, Ok, Err, IfOk}
 use Rattle.member_sittings.specs.Names.{MemberId, AreLines, IsJobFields, View, PlantGhosts, AreRoomy, Ghosts as CopyGhosts, HasShape, Complex, SteadyGhosts, IsUp, Parts, parts_of, IsThere, spools_at, Member, NodeNo, IsFoundLost, SpoolStops, names_volume, Found, State, Away, Told, SpoolDeck, nothing_found}
+use Rattle.std.specs.Prelude.{◌≡◌, ℕ, ◌≤◌, true, List, take, All, Option, Some, None, Result, Ok, Err, IfOk}
 use Rattle.mas_types.specs.declared.ids.GroupNo.{GroupNo}
 use Rattle.mas_types.specs.declared.jobs.Text.TheVariants.{Whole}
 use Rattle.mas_types.specs.declared.queues.Owner.{Owner}

@@ -1,6 +1,6 @@
 -- How a sitting ends.
-use Rattle.std.specs.Prelude.{ℕ, List, [], ◌∷◌, length, Option}
 use Rattle.member_sittings.specs.Names.{Entry, lines_by, all_entries, closing_reply, Sitting, released, Holder, State, Told}
+use Rattle.std.specs.Prelude.{ℕ, List, [], ◌∷◌, length, Option}
 
 -- a sitting that ends in this state, with these batches and lines
 abbrev pub ends_in : Holder → List (List Entry) → State → List (List ℕ) → Sitting

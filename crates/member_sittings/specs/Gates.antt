@@ -1,6 +1,6 @@
 -- A member that got the lock, and takes its seat, or has it still.
-use Rattle.std.specs.Prelude.{◌≡◌, ℕ, ◌≤◌, ◌<◌, length, None, Result}
 use Rattle.member_sittings.specs.Names.{MemberId, Config, View, PlantGhosts, AreRoomy, Ghosts as CopyGhosts, Complex, SteadyGhosts, AreSettled, Parts, parts_of, Member, NodeNo, IsCalm, ReadsLow, too_high, HasHad, IsAtLock, IsToldSound}
+use Rattle.std.specs.Prelude.{◌≡◌, ℕ, ◌≤◌, ◌<◌, length, None, Result}
 use Rattle.duplex_pair.specs.Halves.{IsBothLost}
 use Rattle.duplex_pair.specs.Outcomes.{least_room}
 use Rattle.member_sittings.specs.Sat.{CopiesActed}

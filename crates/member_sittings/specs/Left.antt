@@ -1,6 +1,6 @@
 -- What a sitting leaves in the journal, as far as it came, and on the console.
-use Rattle.std.specs.Prelude.{◌≡◌, ◌⊎◌, ℕ, ◌+◌, ◌≤◌, ◌<◌, Bool, true, false, List, [], ◌∷◌, ◌++◌, length, map, take, drop, Option, Some, None, Result, Ok, Err}
 use Rattle.member_sittings.specs.Names.{MemberId, Batch, Entry, ViewLine as Line, NodeNo, BothLost, Halted, ConsoleFault, NoMemory, torn, IsFlyingBatch, IsKeptBatch}
+use Rattle.std.specs.Prelude.{◌≡◌, ◌⊎◌, ℕ, ◌+◌, ◌≤◌, ◌<◌, Bool, true, false, List, [], ◌∷◌, ◌++◌, length, map, take, drop, Option, Some, None, Result, Ok, Err}
 use Rattle.mas_complex.specs.Headline.{whole}
 use Rattle.step_turns.specs.Batches.{batch_of}
 

@@ -1,5 +1,4 @@
 -- The names that many contracts take, each from where it is declared.
-pub use Rattle.std.specs.Prelude.{All, Bool, Err, IfOk, List, None, Ok, OnOk, Option, Result, Some, [], false, length, map, take, true, ℕ, ◌*◌, ◌++◌, ◌+◌, ◌<◌, ◌^◌, ◌∷◌, ◌≡◌, ◌≤◌, ◌⊎◌}
 pub use Rattle.ckpt_copy.specs.declared.copying.Copying.{Ghosts}
 pub use Rattle.ckpt_form.specs.declared.steady.Steady.{Ghosts as SteadyGhosts}
 pub use Rattle.ckpt_tables.specs.Shape.{HasShape, HasSpelling}

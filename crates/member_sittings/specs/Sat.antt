@@ -1,12 +1,13 @@
 -- What a sitting did, for every answer.
-use Rattle.std.specs.Prelude.{◌≡◌, ℕ, ◌+◌, ◌*◌, ◌≤◌, ◌^◌, List, [], ◌++◌, length, All, Result, Err, IfOk}
 use Rattle.member_sittings.specs.Names.{MemberId, Batch, Entry, View, PlantGhosts, Ghosts as CopyGhosts, Complex, SteadyGhosts, begun, end_of, SamePapers, Parts, parts_of, with_copies, Member, NodeNo, StepCauses, HasAll, AreOf, all_entries, Sitting, sit, Found, Holder, State, Away, nothing_found}
+use Rattle.std.specs.Prelude.{◌≡◌, ℕ, ◌+◌, ◌*◌, ◌≤◌, ◌^◌, List, [], ◌++◌, length, All, Result, Err, IfOk}
 use Rattle.mas_types.specs.declared.ids.Dev.{Dev}
 use Rattle.spool_plant.specs.Acts.{SameWires}
 use Rattle.member_node.specs.Calls.{Course, IsOnlyOn, console_now}
 use Rattle.member_node.specs.Spares.{Spares, stopped_in}
 use Rattle.member_steps.specs.Counting.{HasCounted}
 use Rattle.member_steps.specs.Noting.{OtherNotesStay}
+use Rattle.mas_complex.specs.CallCounts.{pair_state}
 use Rattle.member_decks.specs.Keeping.{GivesUpLeaves, IsOnCopies}
 use Rattle.step_turns.specs.declared.states.Aside.{Aside}
 use Rattle.member_sittings.specs.declared.ends.SittingEnd.{SittingEnd}
@@ -109,8 +110,7 @@ module _ {P C : Type 0} (plants : PlantGhosts P) where
 
   -- acts on the copies alone, which leave what each other member noted
   pub record CopiesActed {T : Type 0} (by : MemberId) (old new : Parts P C) (result : Result T NodeNo) : Type 0 where
-    pub on : IsOnCopies plants.tells by.0 old.first_alive new.first_alive old.second_alive new.second_alive (v old)
-        (v new) result
+    pub on : IsOnCopies plants.tells by.0 (pair_state plants.view old) (pair_state plants.view new) result
     pub notes : OtherNotesStay by old.had new.had
 
   -- Memory wanted in the middle of a sitting: of its next batch these first entries are kept if there was memory for
@@ -121,16 +121,17 @@ module _ {P C : Type 0} (plants : PlantGhosts P) where
     pub leaves : GivesUpLeaves why old.batches (journal_of new) (begun (v old).now by es) (v new).now
 
 -- levels and orders after so many batches
-pub record HasGrown {P C : Type 0} (batches : ℕ) (x y : Parts P C) (m n : Member) : Type 0 where
-  pub order : n.checkpoint.tables.order ≤ m.checkpoint.tables.order + 2 ^ 19 * batches
-  pub high : n.checkpoint.level ≤ m.checkpoint.level + batches
-  pub reached : y.level ≤ x.level + batches
+module _ {P C : Type 0} where
+  pub record HasGrown (batches : ℕ) (x y : Parts P C) (m n : Member) : Type 0 where
+    pub order : n.checkpoint.tables.order ≤ m.checkpoint.tables.order + 2 ^ 19 * batches
+    pub high : n.checkpoint.level ≤ m.checkpoint.level + batches
+    pub reached : y.level ≤ x.level + batches
 
--- A sitting that ended so leaves its member at the shared value; it used the levels and orders of one batch.
-pub record IsSatOn {P C : Type 0} (plants : PlantGhosts P) (copies : CopyGhosts C) (x y : Parts P C) (m n : Member)
-    (at : ℕ) (e : SittingEnd) : Type 0 where
-  pub sits : IsLeftIn plants copies e.next y n at
-  pub grown : HasGrown 1 x y m n
+module _ {P C : Type 0} (plants : PlantGhosts P) (copies : CopyGhosts C) where
+  -- A sitting that ended so leaves its member at the shared value; it used the levels and orders of one batch.
+  pub record IsSatOn (x y : Parts P C) (m n : Member) (at : ℕ) (e : SittingEnd) : Type 0 where
+    pub sits : IsLeftIn plants copies e.next y n at
+    pub grown : HasGrown 1 x y m n
 
 -- OVER THE SHARED VALUE
 

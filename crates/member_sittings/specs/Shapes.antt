@@ -1,7 +1,7 @@
 -- What is known of a sitting on every plant. One that tells nothing may show other replies than those of the table of
 -- commands.
-use Rattle.std.specs.Prelude.{◌≡◌, ◌⊎◌, ℕ, ◌+◌, ◌≤◌, true, List, [], ◌∷◌, length, Option, Some, None}
 use Rattle.member_sittings.specs.Names.{Command, closing_line, reply_lines, entry_with, lines_by, all_entries, Sitting, released, Acknowledge, Exchange, PrintLines, ReadText, SpoolArrival, SpoolDeck, SpoolOutputs, Found, Holder, State, Away, Fresh, Rested, Told, Deck, Give, Line, Work}
+use Rattle.std.specs.Prelude.{◌≡◌, ◌⊎◌, ℕ, ◌+◌, ◌≤◌, true, List, [], ◌∷◌, length, Option, Some, None}
 use Rattle.mas_types.specs.declared.answers.Closing.{Closing}
 use Rattle.mas_types.specs.declared.answers.Closing.TheVariants as closing
 use Rattle.mas_types.specs.declared.commands.Reply.{Reply}

@@ -1,6 +1,6 @@
 -- Which batches of a sitting may be kept after an error, where no unit follows another in it.
-use Rattle.std.specs.Prelude.{◌≡◌, ◌≤◌, ◌<◌, true, List, length, Result, Ok, Err}
 use Rattle.member_sittings.specs.Names.{Entry, NodeNo, BothLost, Halted, ConsoleFault, NoMemory, Acknowledge, Exchange, PrintLines, ReadText, SpoolArrival, SpoolDeck, SpoolOutputs, State, Away, Fresh, Rested, Told, Deck, Give, Line, Work}
+use Rattle.std.specs.Prelude.{◌≡◌, ◌≤◌, ◌<◌, true, List, length, Result, Ok, Err}
 use Rattle.member_sittings.specs.Left.{Reach}
 
 -- Out of memory, or where both copies were lost, not all batches are kept. What was done of the next one is kept

@@ -1,7 +1,7 @@
 -- The shared value and a member that sits at it, as whole values: what holds at the beginning of a sitting, within it,
 -- and at its end.
-use Rattle.std.specs.Prelude.{◌≡◌, ℕ, ◌+◌, ◌≤◌, ◌<◌, ◌^◌, Bool, true, false, List, ◌++◌, length, Option, None}
 use Rattle.member_sittings.specs.Names.{MemberId, Command, Entry, Config, IsFit, View, disk_now, PlantGhosts, Ghosts as CopyGhosts, HasSpelling, AreRoomy, Complex, SteadyGhosts, AreSettled, kept_all, MayAct, MayBegin, Parts, parts_of, HasTexts, lost_now, spools_at, Member, AreLow, orders_after, too_high, HasHad, AreKeptFrom, IsBetween, AreOf, Holder, State, Told}
+use Rattle.std.specs.Prelude.{◌≡◌, ℕ, ◌+◌, ◌≤◌, ◌<◌, ◌^◌, Bool, true, false, List, ◌++◌, length, Option, None}
 use Rattle.mas_types.specs.declared.ids.Dev.TheVariants.{Ckpt1, Ckpt2}
 use Rattle.mas_types.specs.declared.queues.Queue.{Queue}
 use Rattle.mas_types.specs.Limits.{members_most}

@@ -1,6 +1,6 @@
 //! A deck's acts without the lock: its text goes into the groups that were taken for its job.
-ghost use Rattle.std.specs.Prelude.{◌≡◌};
 ghost use Rattle.member_sittings.specs.Names.{parts_of};
+ghost use Rattle.std.specs.Prelude.{◌≡◌};
 ghost use Rattle.member_sittings.specs.Asides.{MaySpoolDeck, SpoolsDeck, deck_found, finds_of};
 
 use job_outcome::Read;
@@ -28,11 +28,11 @@ fn found_lost(alloc: Global, lost: Option<u8>) -> Found
     }
 }
 
-// What a member found that spooled a text, by the answer of the acts.
-fn found_by(alloc: Global, spooled: Result<(), SpoolError>) -> Result<Found, NodeNo>
-    ensures { result ≡ finds_of spooled }
+/// What a member found that wrote texts, by the answer of the acts.
+pub fn found_by(alloc: Global, written: Result<(), SpoolError>) -> Result<Found, NodeNo>
+    ensures { result ≡ finds_of written }
 {
-    match spooled {
+    match written {
         Ok(()) => Ok(found_lost(alloc, None)),
         Err(SpoolError::Lost(volume)) => Ok(found_lost(alloc, Some(volume))),
         Err(SpoolError::Halted) => Err(NodeNo::Halted),

@@ -9,7 +9,7 @@ mod decks;
 mod ends;
 mod seats;
 
-pub use asides::spool_deck;
+pub use asides::{found_by, spool_deck};
 pub use closing::{close_sitting, give_up_sitting, pause_sitting};
 pub use commands::sit_command;
 pub use decks::{SpooledDeck, close_deck, sit_deck, sit_spooled};

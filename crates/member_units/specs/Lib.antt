@@ -1,2 +1,3 @@
 pub use Rattle.member_giving.specs.Works
 pub mod Names
+pub mod Actions

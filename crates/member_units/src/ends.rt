@@ -1,6 +1,6 @@
 //! How a sitting of work ends: what isn't written is kept, and a line is said where the step closes.
 ghost use Rattle.std.specs.Prelude.{◌≡◌, ◌≢◌, ◌+◌, ◌≤◌, ◌<◌, ◌∷◌, ℕ, [], IfOk};
-ghost use Rattle.member_units.specs.Names.{AreMembersNamed, closing_line, sittings_most, Found, Told, leaves, says, MayCloseBy, Plays, bounds, unwritten, wrote_of, Follow, HasRoom, Leaves, MayLeave, Works, outside, place_of, run_of};
+ghost use Rattle.member_units.specs.Names.{AreMembersNamed, closing_line, sittings_most, Found, Told, leaves, says, MayCloseBy, Plays, bounds, unwritten, wrote_of, Follow, HasRoom, Leaves, MayLeave, Works, outside, place_of, run_of, to_play};
 
 use cmd_report::one_line;
 use mas_complex::{Complex, Steady};
@@ -27,8 +27,9 @@ pub(crate) fn leave<P: Plant + Drop, C: Steady + Drop>(
     requires waits { next ≢ Told }
     ensures run { run_of complex.new member.new ≡ run_of complex.old member.old }
     ensures plays { (units : ℕ) (found : Found)
-        → Plays P.tells holder (bounds (sittings_most next + unwritten member.old.batch) units found) given
-        (wrote_of member.old.batch (leaves next)) (place_of complex.old member.old) (outside complex.new) result }
+        → Plays P.tells (bounds (sittings_most next + unwritten member.old.batch) units found)
+        (to_play holder given (wrote_of member.old.batch (leaves next))) (place_of complex.old member.old)
+        (outside complex.new) result }
     ensures leaves { (f : Follow) → MayLeave complex.old member.old f next
         → IfOk result (Leaves complex.new member.new holder.step f) }
 {
@@ -56,8 +57,8 @@ pub(crate) fn close<P: Plant + Drop, C: Steady + Drop>(
     requires named { AreMembersNamed end.now }
     ensures run { run_of complex.new member.new ≡ run_of complex.old member.old }
     ensures plays { (units : ℕ) (found : Found) → MayCloseBy units found end.now
-        → Plays P.tells holder (bounds (unwritten member.old.batch) units found) given
-        (wrote_of member.old.batch (says (closing_line holder.by holder.step end.now ∷ [])))
+        → Plays P.tells (bounds (unwritten member.old.batch) units found)
+        (to_play holder given (wrote_of member.old.batch (says (closing_line holder.by holder.step end.now ∷ []))))
         (place_of complex.old member.old) (outside complex.new) result }
     ensures leaves { (f : Follow) → 0 < f.most → complex.old.level + 1 ≤ f.level
         → IfOk result (Leaves complex.new member.new holder.step f) }

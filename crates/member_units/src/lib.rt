@@ -2,6 +2,7 @@
 //! spent hold, or to the step's end.
 #![tactic(auto)]
 
+mod actions;
 mod ends;
 mod sitting;
 mod units;

@@ -1,135 +1,88 @@
-//! Units of work one after another, within a sitting.
-ghost use Rattle.std.specs.Prelude.{◌≡◌, ◌+◌, ◌*◌, ◌≤◌, ◌<◌, [], length, IfOk};
-ghost use Rattle.member_units.specs.Names.{IsNamedEnd, Found, goes_on_by, units_from, MayEndBy, Plays, bounds, rests as rests_lem, wrote_after, wrote_of, HasRoom, Leaves, Works, after_unit, follow, outside, place_of, queue_here, run_of};
+//! The parts of a sitting of a step of work, one after another.
+ghost use Rattle.std.specs.Prelude.{◌≡◌, ◌+◌, ◌≤◌, ◌<◌, [], Ok, IfOk, OnOk};
+ghost use Rattle.member_units.specs.Names.{IsNamedEnd, Done, Found, HasGiven, MayEndBy, Plays, bounds, to_play, unit_part, wrote_of, Follow, HasRoom, Leaves, Works, outside, place_of, queue_here, run_of};
+ghost use Rattle.member_units.specs.Actions.{IsCaused, IsRoomy, IsTaken, IsUpTo, MayBegin, MayGive, MayLose, UsesPart, action_turn, ahead, commands_of, ends_of, left_of};
 
+use crate::actions::{Action, Part, action_after, waits_then};
 use crate::ends::{close, leave};
 use job_outcome::UnitEnd;
 use mas_complex::{Complex, Steady};
-use mas_types::Closing;
-use member_giving::{Next, give, keep_full, next_unit};
+use member_giving::{end_job, free_groups, give, keep_full, take_groups};
 use member_node::{Member, NodeNo};
 use member_sittings::SittingEnd;
 use spool_plant::Plant;
 use std::alloc::Global;
-use step_turns::{Grant, Holder, Progress, State};
+use step_turns::{Holder, State};
 
-// How far a sitting has come: the units that are done in the step, and how many may still follow; and the commands that
-// are given in the sitting.
-#[derive(Clone, Copy)]
-struct Reached {
-    progress: Progress,
-    given: u64,
-}
-
-// Whether the sitting ends between two units, since the hold is spent; under LOCK that cuts nothing within a step.
-fn rests(holder: Holder, at: Reached) -> bool
-    ensures { result ≡ rests_lem holder at.progress.left at.given }
-{
-    if at.progress.left == 0 {
-        return false;
-    }
-    match holder.grant {
-        Grant::ForStep => holder.hold as u64 <= at.given,
-        Grant::ByLock => false,
-    }
-}
-
-/// Goes on after a unit that ended so, the first of the sitting, whose commands stand in the member's batch: units are
-/// played one after another, as many as may follow at most, until one waits for acts without the lock, the hold is
-/// spent between two units, none applies, or one is refused.
-pub(crate) fn go_on<P: Plant + Drop, C: Steady + Drop>(
+// Gives a part of a unit.
+fn give_part<P: Plant + Drop, C: Steady + Drop>(
     member: &mut Member,
     alloc: Global,
     complex: &mut Complex<P, C>,
     holder: Holder,
-    end: UnitEnd,
-    progress: Progress,
-) -> Result<SittingEnd, NodeNo>
+    part: Part,
+) -> Result<UnitEnd, NodeNo>
     requires works { Works complex.old member.old holder }
-    requires room { HasRoom complex.old member.old (progress.left + 3) }
-    requires named { IsNamedEnd end }
-    requires units { progress.done + progress.left < 9999 }
+    requires room { HasRoom complex.old member.old 1 }
+    requires may { MayGive complex.old member.old part }
     ensures run { run_of complex.new member.new ≡ run_of complex.old member.old }
-    ensures plays { (found : Found) → MayEndBy found end
-        → Plays P.tells holder (bounds (3 * progress.left + 2) (progress.done + progress.left + 1) found)
-        (length member.old.batch)
-        (wrote_after member.old.batch (goes_on_by holder end progress.left (units_from holder progress.left)
-        (queue_here complex.old member.old) (length member.old.batch) progress.done)) (place_of complex.old member.old)
-        (outside complex.new) result }
-    ensures leaves { IfOk result (Leaves complex.new member.new holder.step
-        (after_unit 2 complex.old.level progress)) }
+    ensures given { HasGiven P.tells holder (unit_part (commands_of holder.by (queue_here complex.old member.old) part)
+        (ends_of holder (queue_here complex.old member.old) part)) (place_of complex.old member.old)
+        (place_of complex.new member.new) result }
+    ensures named { IfOk result IsNamedEnd }
+    ensures works { OnOk result (Works complex.new member.new holder) }
+    ensures uses { OnOk result (UsesPart complex.old member.old complex.new member.new) }
+    ensures reached { OnOk result (complex.new.level ≡ complex.old.level) }
+    ensures ends { (found : Found) → MayLose found part → IfOk result (MayEndBy found) }
+    ensures taken { result ≡ Ok Done → IsTaken member.new part }
 {
-    let given = member.batch.len() as u64;
-    let mut end = end;
-    let mut at = Reached { progress, given };
-    loop {
-        match end {
-            UnitEnd::Done => at.progress.done += 1,
-            UnitEnd::Idle => {
-                let end = Closing::DoneUnits(at.progress.done as u32);
-                return close(member, alloc, complex, holder, &end, at.given);
-            }
-            UnitEnd::Refused(end) => {
-                return close(member, alloc, complex, holder, &end, at.given);
-            }
-        }
-        keep_full(member, alloc, complex, holder)?;
-        if rests(holder, at) {
-            let next = State::Rested(at.progress);
-            return leave(member, alloc, complex, holder, next, at.given);
-        }
-        match next_unit(member, at.progress) {
-            Next::Give(command) => {
-                end = give(member, alloc, complex, holder, command)?;
-                at.progress.left -= 1;
-                at.given += 1;
-            }
-            Next::Wait(aside) => {
-                let next = State::Away(aside);
-                return leave(member, alloc, complex, holder, next, at.given);
-            }
-            Next::Nothing => {
-                let end = Closing::DoneUnits(at.progress.done as u32);
-                return close(member, alloc, complex, holder, &end, at.given);
-            }
-        }
+    match part {
+        Part::One(command) => give(member, alloc, complex, holder, command),
+        Part::Groups(needed) => take_groups(member, alloc, complex, holder, needed),
+        Part::Ended(job, outputs) => end_job(member, alloc, complex, holder, job, outputs),
+        Part::Lost(volume) => free_groups(member, alloc, complex, holder, volume),
     }
 }
 
-/// Begins a sitting in which units are played, so many at most, where so many are done.
-pub(crate) fn begin<P: Plant + Drop, C: Steady + Drop>(
+/// Plays a sitting from this action on: one part after another, until one waits for acts without the lock, the hold is
+/// spent between two units, none applies, or one is refused.
+pub(crate) fn play<P: Plant + Drop, C: Steady + Drop>(
     member: &mut Member,
     alloc: Global,
     complex: &mut Complex<P, C>,
     holder: Holder,
-    progress: Progress,
+    action: Action,
 ) -> Result<SittingEnd, NodeNo>
     requires works { Works complex.old member.old holder }
     requires nothing { member.old.batch ≡ [] }
-    requires room { HasRoom complex.old member.old (progress.left + 3) }
-    requires units { progress.done + progress.left ≤ 9999 }
+    requires room { IsRoomy complex.old member.old (left_of action + 3) }
+    requires units { (ahead complex.old.level action).units ≤ 9999 }
+    requires may { MayBegin complex.old member.old action }
     ensures run { run_of complex.new member.new ≡ run_of complex.old member.old }
-    ensures plays { (found : Found)
-        → Plays P.tells holder (bounds (3 * progress.left + 1) (progress.done + progress.left) found) 0
-        (wrote_of [] (units_from holder progress.left (queue_here complex.old member.old) 0 progress.done))
+    ensures plays { (f : Follow) (found : Found) → IsUpTo (ahead complex.old.level action) f
+        → IsCaused f.units found action
+        → Plays P.tells (bounds f.most f.units found)
+        (to_play holder 0 (wrote_of [] (action_turn holder (queue_here complex.old member.old) 0 action)))
         (place_of complex.old member.old) (outside complex.new) result }
-    ensures leaves { IfOk result (Leaves complex.new member.new holder.step
-        (follow (3 * progress.left + 1) (progress.done + progress.left)
-        (complex.old.level + progress.left + 1))) }
+    ensures leaves { (f : Follow) → IsUpTo (ahead complex.old.level action) f
+        → IfOk result (Leaves complex.new member.new holder.step f) }
 {
-    match next_unit(member, progress) {
-        Next::Give(command) => {
-            let end = give(member, alloc, complex, holder, command)?;
-            let progress = Progress {
-                done: progress.done,
-                left: progress.left - 1,
-            };
-            go_on(member, alloc, complex, holder, end, progress)
-        }
-        Next::Wait(aside) => leave(member, alloc, complex, holder, State::Away(aside), 0),
-        Next::Nothing => {
-            let end = Closing::DoneUnits(progress.done as u32);
-            close(member, alloc, complex, holder, &end, 0)
+    let mut action = action;
+    let mut given = 0;
+    loop {
+        match action {
+            Action::Close(end) => return close(member, alloc, complex, holder, &end, given),
+            Action::Wait(next) => return leave(member, alloc, complex, holder, next, given),
+            Action::Give(part, then, progress) => {
+                let before = member.batch.len();
+                let end = give_part(member, alloc, complex, holder, part)?;
+                given += (member.batch.len() - before) as u64;
+                if let Some(aside) = waits_then(&end, then) {
+                    return leave(member, alloc, complex, holder, State::Away(aside), given);
+                }
+                keep_full(member, alloc, complex, holder)?;
+                action = action_after(member, complex, holder, end, progress, given);
+            }
         }
     }
 }

@@ -1,5 +1,5 @@
 -- Which batches of a work step may begin.
-use Rattle.member_work.proofs.Names.{◌≡◌, ℕ, Bool, true, false, if◌then◌else◌, List, [], ◌∷◌, ◌++◌, All, Result, Ok, Err, refl, sym, subst, All-nil, All-cons, All-append, Command, Reply, JobNo, MemberId, OutSpec, Batch, Entry, Queue, IsFit, is_member, IsSound, kept_all, run, MayBegin, counts_of, unmarked_begin, entry_with, reply_to, are_refused, given_in, takes, IsPart, drop_groups, ending, taking, is_refusal}
+use Rattle.member_work.proofs.Names.{◌≡◌, ℕ, Bool, true, false, if◌then◌else◌, List, [], ◌∷◌, ◌++◌, All, Result, Ok, Err, refl, sym, subst, Command, Reply, JobNo, MemberId, OutSpec, Batch, Entry, Queue, IsFit, is_member, kept_all, run, MayBegin, counts_of, reply_to, entry_with, are_refused, given_in, takes, All-nil, All-cons, All-append, IsSound, unmarked_begin, IsPart, drop_groups, ending, taking, is_refusal}
 use Rattle.std.proofs.Math.Logic.{∥∥₁_map}
 use Rattle.mas_types.specs.declared.commands.Command.TheVariants as command
 use Rattle.mas_types.specs.Step.{may_give}

@@ -25,12 +25,8 @@ wider_found (Some volume) old from till new before after f =
     (after.lost (DiskPart (Spool volume)) f.0, let rose = f.1 in omega (arith, rose, before.faults (DiskPart (Spool volume)), after.faults (DiskPart (Spool volume))))
 
 module _ (by : MemberId) (old from till new : View) (before : Goes old from) (after : Goes till new) where
-  wider_reply : (r : Reply) → MayRefuse by (closing.Reply r) from till → MayRefuse by (closing.Reply r) old new
-  wider_reply (reply.No why) c = tt
-  wider_reply _ c = absurd c
-
   pub wider_refusal : (end : Closing) → MayRefuse by end from till → MayRefuse by end old new
-  wider_refusal (closing.Reply r) c = wider_reply r c
+  wider_refusal (closing.Reply (reply.No why)) c = tt
   wider_refusal (closing.NoText group) c = tt
   wider_refusal (closing.SpoolLost volume) c = wider_found (Some volume) old from till new before after c
   wider_refusal closing.PrinterLost c = record { lost = after.lost (Printer by) c.lost; rose = omega (arith, c.rose, before.faults (Printer by), after.faults (Printer by)) }

@@ -1,6 +1,7 @@
 -- Commands of a unit on a member's tables, one after another.
-use Rattle.member_work.proofs.Names.{◌≡◌, ◌∙◌, ℕ, zero, suc, ◌+◌, ◌-◌, ◌<◌, ◌≤◌, ◌==◌, nat_lt, min, cond, ◌⊎◌, ⊎_elim, take, drop, if◌then◌else◌, Bool, true, false, List, [], ◌∷◌, ◌++◌, length, length-append, None, Some, Result, Ok, Err, refl, ap, subst, sym, arith, nat_tests, append-nil, append_assoc, All-contains, All-push, All-weaker, IfOk, slice_get, Command, Reply, Closing, GroupNo, JobNo, OutNo, MemberId, OutSpec, Text, Whole, Entry, Owner, Queue, Thing, groups_of_outputs, outputs_at_end, job_at, held_by, groups_of, free_count, groups_needed, is_free, is_members, member_count, taken, sum-groups, test_cases, Tables, HasSpelling, Tell, TellSound, HoldsOfTexts, OthersLeaveTexts, ToldAreTheirOwn, WasThere, run, step, HasTexts, IsThere, IsThereUnless, Spools, last_reply, entry_of, entry_with, reply_to, are_refused, closing_reply, given_in, left_after, takes, AreOf, IsPart, refused_last, refused_more, refused_none, take_counts, IsNamedEnd, end_by, AreSpooled, drop_groups, ending, taken_end, taking, is_refusal}
+use Rattle.member_work.proofs.Names.{◌≡◌, ℕ, zero, suc, ◌+◌, ◌-◌, ◌<◌, ◌≤◌, ◌==◌, min, ◌⊎◌, take, drop, if◌then◌else◌, Bool, true, false, List, [], ◌∷◌, ◌++◌, length, None, Some, Result, Ok, Err, IfOk, ◌∙◌, nat_lt, ⊎_elim, length-append, refl, ap, subst, sym, arith, append-nil, append_assoc, slice_get, Command, Reply, Closing, GroupNo, JobNo, OutNo, MemberId, OutSpec, Text, Whole, Entry, Queue, groups_of_outputs, outputs_at_end, job_at, groups_needed, member_count, free_count, is_free, taken, Tables, HasSpelling, Tell, TellSound, run, step, HasTexts, IsThere, Spools, IsThereUnless, entry_of, reply_to, entry_with, are_refused, closing_reply, given_in, takes, left_after, AreOf, IsNamedEnd, end_by, nat_tests, All-contains, All-push, All-weaker, Owner, Thing, held_by, groups_of, sum-groups, test_cases, HoldsOfTexts, OthersLeaveTexts, ToldAreTheirOwn, WasThere, last_reply, IsPart, take_counts, AreSpooled, drop_groups, ending, taken_end, taking, is_refusal}
 use Rattle.std.proofs.lemmas.Bool.{eq-eqb}
+use Rattle.std.proofs.lemmas.List.{drop-take, take-take}
 use Rattle.mas_types.specs.declared.commands.Command.TheVariants as command
 use Rattle.mas_types.specs.declared.commands.Refusal.TheVariants as refusal
 use Rattle.mas_types.specs.declared.commands.Reply.TheVariants as reply
@@ -11,11 +12,13 @@ use Rattle.mas_types.specs.Closings.{IsReplyNamed}
 use Rattle.queue_effect.specs.Standing.{AreFit}
 use Rattle.member_node.specs.declared.member.Member.{Member}
 use Rattle.member_node.proofs.TextLemmas.{texts_after}
+use Rattle.member_decks.proofs.DeckLemmas.{count_taken}
 use Rattle.member_decks.proofs.HeldLemmas.{counted}
+use Rattle.member_decks.proofs.OpenLemmas.{last_push}
 use Rattle.job_outcome.specs.declared.units.UnitEnd.{UnitEnd}
 use Rattle.job_outcome.specs.declared.units.UnitEnd.TheVariants as ends
 use Rattle.job_outcome.specs.Ending.{EndedBringsTexts, IsOfOutput, shares}
-use Rattle.member_work.specs.Giving.{GivesAt, HasGiven, IsSoundPlain, LeaveWhere, MayEnd}
+use Rattle.member_work.specs.Giving.{GivesAt, HasGiven, IsSoundPlain, LeaveWhere, MayEnd, asked}
 
 -- WHAT A MEMBER HAS
 
@@ -63,12 +66,6 @@ given_none at m spelling fit = record {
   order = omega arith;
 }
 
--- the last reply is that of the entry that came last
-pub last_push : (es : List Entry) (e : Entry) → last_reply (es ++ e ∷ []) ≡ e.reply
-last_push [] e = refl
-last_push (x ∷ []) e = refl
-last_push (x ∷ y ∷ es) e = last_push (y ∷ es) e
-
 -- one entry more
 pub one_longer : (es mid : List Entry) (e : Entry) → mid ≡ es ++ e ∷ [] → length mid ≡ length es + 1
 one_longer es mid e is = let long = length-append es (e ∷ []) in let same = ap length is in omega (arith, long, same)
@@ -89,10 +86,10 @@ module _ (Q : Queue) (by : MemberId) (at : ℕ) (c : Command) where
   abbrev after : Queue
   after = (step Q by c).0
 
-  pub gives_one : {T E : Type 0} (holds : Spools → ℕ → Type 0) (m n : Member) (x : T) → n.batch ≡ m.batch ++ e ∷ [] → Tell n.checkpoint.tables after → LeaveWhere holds Q (e ∷ []) → GivesAt {E = E} Q by at (c ∷ []) holds m n (Ok x)
+  pub gives_one : {T E : Type 0} (holds : Spools → ℕ → Type 0) (m n : Member) (x : T) → n.batch ≡ m.batch ++ e ∷ [] → Tell n.checkpoint.tables after → LeaveWhere holds Q (e ∷ []) → GivesAt {E = E} (asked Q by at (c ∷ [])) holds m n (Ok x)
   gives_one holds m n x one told texts = record { gave = e ∷ []; batch = one; part = refl; effect = told; texts = texts }
 
-  pub gives_none : {T E : Type 0} (cs : List Command) (holds : Spools → ℕ → Type 0) (m n : Member) (x : E) → n ≡ m → Tell m.checkpoint.tables Q → GivesAt {T = T} Q by at (c ∷ cs) holds m n (Err x)
+  pub gives_none : {T E : Type 0} (cs : List Command) (holds : Spools → ℕ → Type 0) (m n : Member) (x : E) → n ≡ m → Tell m.checkpoint.tables Q → GivesAt {T = T} (asked Q by at (c ∷ cs)) holds m n (Err x)
   gives_none cs holds m n x same told = record {
     gave = [];
     batch = ap (λ (k : Member). k.batch) same ∙ sym (append-nil m.batch);
@@ -106,10 +103,10 @@ module _ (Q : Queue) (by : MemberId) (at : ℕ) (c : Command) where
   part_then cs (Err why) gave part = (part.0, ap (λ (es : List Entry). e ∷ es) part.1, part.2)
 
   pub gives_then : {T E F S : Type 0} (cs : List Command) (holds first rest : Spools → ℕ → Type 0) (m n o : Member) (x : S) (r : Result T E) (by' : MemberId) → by' ≡ by
-      → GivesAt {E = F} Q by at (c ∷ []) first m n (Ok x) → ((disks : Spools) (per : ℕ) → holds disks per → first disks per) → ((disks : Spools) (per : ℕ) → holds disks per → rest disks per)
-      → GivesAt after by' at cs rest n o r → GivesAt Q by at (c ∷ cs) holds m o r
+      → GivesAt {E = F} (asked Q by at (c ∷ [])) first m n (Ok x) → ((disks : Spools) (per : ℕ) → holds disks per → first disks per) → ((disks : Spools) (per : ℕ) → holds disks per → rest disks per)
+      → GivesAt (asked after by' at cs) rest n o r → GivesAt (asked Q by at (c ∷ cs)) holds m o r
   gives_then cs holds first rest m n o x r by' same one to_first to_rest two' =
-      let two = subst (λ (i : MemberId). GivesAt after i at cs rest n o r) same two' in
+      let two = subst (λ (i : MemberId). GivesAt (asked after i at cs) rest n o r) same two' in
       record {
         gave = e ∷ two.gave;
         batch = two.batch ∙ ap (λ (es : List Entry). es ++ two.gave) (one.batch ∙ ap (λ (es : List Entry). m.batch ++ es) one.part) ∙ append_assoc m.batch (e ∷ []) two.gave;
@@ -119,20 +116,20 @@ module _ (Q : Queue) (by : MemberId) (at : ℕ) (c : Command) where
       }
 
   -- the batch and the tables after one
-  pub one_batch : {T E : Type 0} (holds : Spools → ℕ → Type 0) (m n : Member) (x : T) → GivesAt {E = E} Q by at (c ∷ []) holds m n (Ok x) → n.batch ≡ m.batch ++ e ∷ []
+  pub one_batch : {T E : Type 0} (holds : Spools → ℕ → Type 0) (m n : Member) (x : T) → GivesAt {E = E} (asked Q by at (c ∷ [])) holds m n (Ok x) → n.batch ≡ m.batch ++ e ∷ []
   one_batch holds m n x one = one.batch ∙ ap (λ (es : List Entry). m.batch ++ es) one.part
 
-  pub one_told : {T E : Type 0} (holds : Spools → ℕ → Type 0) (m n : Member) (x : T) → GivesAt {E = E} Q by at (c ∷ []) holds m n (Ok x) → Tell n.checkpoint.tables after
+  pub one_told : {T E : Type 0} (holds : Spools → ℕ → Type 0) (m n : Member) (x : T) → GivesAt {E = E} (asked Q by at (c ∷ [])) holds m n (Ok x) → Tell n.checkpoint.tables after
   one_told holds m n x one = subst (λ (es : List Entry). Tell n.checkpoint.tables (run Q es)) one.part one.effect
 
-  pub one_reply : {T E : Type 0} (holds : Spools → ℕ → Type 0) (m n : Member) (x : T) (r : Reply) → GivesAt {E = E} Q by at (c ∷ []) holds m n (Ok x) → r ≡ last_reply n.batch → reply_to Q by c ≡ r
+  pub one_reply : {T E : Type 0} (holds : Spools → ℕ → Type 0) (m n : Member) (x : T) (r : Reply) → GivesAt {E = E} (asked Q by at (c ∷ [])) holds m n (Ok x) → r ≡ last_reply n.batch → reply_to Q by c ≡ r
   one_reply holds m n x r one last = sym (last ∙ ap last_reply (one_batch holds m n x one) ∙ last_push m.batch e)
 
   -- commands that were given, by another answer
-  pub gives_ok : {T E S F : Type 0} (cs : List Command) (holds more : Spools → ℕ → Type 0) (m n : Member) (x : T) (y : S) → ((disks : Spools) (per : ℕ) → more disks per → holds disks per) → GivesAt {E = E} Q by at cs holds m n (Ok x) → GivesAt {E = F} Q by at cs more m n (Ok y)
+  pub gives_ok : {T E S F : Type 0} (cs : List Command) (holds more : Spools → ℕ → Type 0) (m n : Member) (x : T) (y : S) → ((disks : Spools) (per : ℕ) → more disks per → holds disks per) → GivesAt {E = E} (asked Q by at cs) holds m n (Ok x) → GivesAt {E = F} (asked Q by at cs) more m n (Ok y)
   gives_ok cs holds more m n x y to one = record { gave = one.gave; batch = one.batch; part = one.part; effect = one.effect; texts = λ gone disks per h has. one.texts gone disks per (to disks per h) has }
 
-  pub gives_err : {T E S F : Type 0} (cs : List Command) (holds more : Spools → ℕ → Type 0) (m n : Member) (x : E) (y : F) → ((disks : Spools) (per : ℕ) → more disks per → holds disks per) → GivesAt {T = T} Q by at cs holds m n (Err x) → GivesAt {T = S} Q by at cs more m n (Err y)
+  pub gives_err : {T E S F : Type 0} (cs : List Command) (holds more : Spools → ℕ → Type 0) (m n : Member) (x : E) (y : F) → ((disks : Spools) (per : ℕ) → more disks per → holds disks per) → GivesAt {T = T} (asked Q by at cs) holds m n (Err x) → GivesAt {T = S} (asked Q by at cs) more m n (Err y)
   gives_err cs holds more m n x y to one = record { gave = one.gave; batch = one.batch; part = one.part; effect = one.effect; texts = λ gone disks per h has. one.texts gone disks per (to disks per h) has }
 
   -- a command that brings no text
@@ -148,34 +145,6 @@ some_batch es mid e is = subst (λ (l : List Entry). 1 ≤ length l) (sym is) (p
 -- GROUPS
 
 module _ (m : MemberId) where
-  beside : (want : ℕ) (o : Owner) (gs : List Owner) → is_free o ≡ false → member_count m (taken m want gs) ≡ member_count m gs + min want (free_count gs) → member_count m (taken m want (o ∷ gs)) ≡ member_count m (o ∷ gs) + min want (free_count (o ∷ gs))
-  beside want o gs e more =
-      let same : taken m want (o ∷ gs) ≡ o ∷ taken m want gs = rw e refl in
-      let here : member_count m (taken m want (o ∷ gs)) ≡ cond (is_members m o) 1 0 + member_count m (taken m want gs) = ap (member_count m) same ∙ counted (is_members m) o (taken m want gs) (is_members m o) refl in
-      let mine : member_count m (o ∷ gs) ≡ cond (is_members m o) 1 0 + member_count m gs = counted (is_members m) o gs (is_members m o) refl in
-      let free : free_count (o ∷ gs) ≡ 0 + free_count gs = counted is_free o gs false e in
-      omega (arith, here, mine, free, more)
-
-  count_taken : (want : ℕ) (gs : List Owner) → member_count m (taken m want gs) ≡ member_count m gs + min want (free_count gs)
-  count_taken want [] = omega arith
-  count_taken want (owner.Free ∷ gs) =
-      let mine : member_count m (owner.Free ∷ gs) ≡ 0 + member_count m gs = counted (is_members m) owner.Free gs false refl in
-      let free : free_count (owner.Free ∷ gs) ≡ 1 + free_count gs = counted is_free owner.Free gs true refl in
-      test_cases (nat_lt 0 want) (member_count m (taken m want (owner.Free ∷ gs)) ≡ member_count m (owner.Free ∷ gs) + min want (free_count (owner.Free ∷ gs)))
-      (λ e. let some : 0 < want = grind (arith, nat_tests) in
-      let same : taken m want (owner.Free ∷ gs) ≡ owner.Member m ∷ taken m (want - 1) gs = rw e refl in
-      let here : member_count m (taken m want (owner.Free ∷ gs)) ≡ 1 + member_count m (taken m (want - 1) gs) = ap (member_count m) same ∙ counted (is_members m) (owner.Member m) (taken m (want - 1) gs) true (eq-eqb m.0 m.0 refl) in
-      let more = count_taken (want - 1) gs in
-      omega (arith, here, mine, free, more, some))
-      (λ e. let none : want ≡ 0 = grind (arith, nat_tests) in
-      let same : taken m want (owner.Free ∷ gs) ≡ owner.Free ∷ taken m want gs = rw e refl in
-      let here : member_count m (taken m want (owner.Free ∷ gs)) ≡ 0 + member_count m (taken m want gs) = ap (member_count m) same ∙ counted (is_members m) owner.Free (taken m want gs) false refl in
-      let more = count_taken want gs in
-      omega (arith, here, mine, free, more, none))
-  count_taken want (owner.Member h ∷ gs) = beside want (owner.Member h) gs refl (count_taken want gs)
-  count_taken want (owner.Deck n p ∷ gs) = beside want (owner.Deck n p) gs refl (count_taken want gs)
-  count_taken want (owner.Output n i p ∷ gs) = beside want (owner.Output n i p) gs refl (count_taken want gs)
-
   still_busy : (want : ℕ) (o : Owner) (gs : List Owner) → is_free o ≡ false → free_count (taken m want gs) ≡ free_count gs - want → free_count (taken m want (o ∷ gs)) ≡ free_count (o ∷ gs) - want
   still_busy want o gs e more =
       let same : taken m want (o ∷ gs) ≡ o ∷ taken m want gs = rw e refl in
@@ -243,40 +212,38 @@ module _ (Q : Queue) (by : MemberId) where
   none_left missing (reply.Count n) other = absurd (other n refl)
   none_left missing _ other = refl
 
-  takes_one : (times missing : ℕ) → 1 ≤ times → 1 ≤ missing → left_after missing (step Q by (command.Take missing)).1 ≡ None → takes times Q by missing ≡ command.Take missing ∷ []
-  takes_one zero missing some some' is = absurd (omega (arith, some))
-  takes_one (suc times) zero some some' is = absurd (omega (arith, some'))
-  takes_one (suc times) (suc missing) some some' is = rw is refl
+  -- a Take that is refused is the last one
+  take_last : (times missing : ℕ) → 1 ≤ times → 1 ≤ missing → left_after missing (step Q by (command.Take missing)).1 ≡ None → (takes times Q by missing ≡ command.Take missing ∷ []) × (are_refused times Q by missing ≡ true)
+  take_last zero missing some some' is = absurd (omega (arith, some))
+  take_last (suc times) zero some some' is = absurd (omega (arith, some'))
+  take_last (suc times) (suc missing) some some' is = (rw is refl, rw is refl)
 
-  refused_one : (times missing : ℕ) → 1 ≤ times → 1 ≤ missing → left_after missing (step Q by (command.Take missing)).1 ≡ None → are_refused times Q by missing ≡ true
-  refused_one zero missing some some' is = absurd (omega (arith, some))
-  refused_one (suc times) missing some some' is = refused_last Q by times missing some' is
+  take_first : (times missing n : ℕ) → 1 ≤ missing → (step Q by (command.Take missing)).1 ≡ reply.Count n
+      → (takes (suc times) Q by missing ≡ command.Take missing ∷ takes times (step Q by (command.Take missing)).0 by (missing - n)) × (are_refused (suc times) Q by missing ≡ are_refused times (step Q by (command.Take missing)).0 by (missing - n))
+  take_first times zero n some is = absurd (omega (arith, some))
+  take_first times (suc missing) n some is = (rw is refl, rw is refl)
 
-  takes_first : (times missing n : ℕ) → 1 ≤ missing → (step Q by (command.Take missing)).1 ≡ reply.Count n → takes (suc times) Q by missing ≡ command.Take missing ∷ takes times (step Q by (command.Take missing)).0 by (missing - n)
-  takes_first times zero n some is = absurd (omega (arith, some))
-  takes_first times (suc missing) n some is = rw is refl
+  take_none : (times : ℕ) → (takes times Q by 0 ≡ []) × (are_refused times Q by 0 ≡ false)
+  take_none zero = (refl, refl)
+  take_none (suc times) = (refl, refl)
 
-  no_takes : (times : ℕ) → takes times Q by 0 ≡ []
-  no_takes zero = refl
-  no_takes (suc times) = refl
-
-  taking_by : (needed : ℕ) (cs : List Command) (b : Bool) → takes needed Q by needed ≡ cs → are_refused needed Q by needed ≡ b → taking Q by needed ≡ cs ++ (if b then drop_groups ∷ [] else [])
-  taking_by needed cs b is refused = ap (λ (ds : List Command). ds ++ (if are_refused needed Q by needed then drop_groups ∷ [] else [])) is ∙ ap (λ (a : Bool). cs ++ (if a then drop_groups ∷ [] else [])) refused
-
-  ends_by : (at needed : ℕ) (b : Bool) → are_refused needed Q by needed ≡ b → taken_end Q by at needed ≡ (if b then end_by (closing_reply (given_in Q by at (taking Q by needed))) else ends.Done)
-  ends_by at needed b refused = ap (λ (a : Bool). if a then end_by (closing_reply (given_in Q by at (taking Q by needed))) else ends.Done) refused
+  -- Drop after them, and how the unit ends
+  taking_by : (at needed : ℕ) (cs : List Command) (b : Bool) → (takes needed Q by needed ≡ cs) × (are_refused needed Q by needed ≡ b)
+      → (taking Q by needed ≡ cs ++ (if b then drop_groups ∷ [] else [])) × (taken_end Q by at needed ≡ (if b then end_by (closing_reply (given_in Q by at (cs ++ (if b then drop_groups ∷ [] else [])))) else ends.Done))
+  taking_by at needed cs b both =
+      let all : taking Q by needed ≡ cs ++ (if b then drop_groups ∷ [] else []) = ap (λ (ds : List Command). ds ++ (if are_refused needed Q by needed then drop_groups ∷ [] else [])) both.0 ∙ ap (λ (a : Bool). cs ++ (if a then drop_groups ∷ [] else [])) both.1 in
+      (all, ap (λ (a : Bool). if a then end_by (closing_reply (given_in Q by at (taking Q by needed))) else ends.Done) both.1 ∙ ap (λ (ds : List Command). if b then end_by (closing_reply (given_in Q by at ds)) else ends.Done) all)
 
 -- the first Take is refused
 module _ (Q : Queue) (by : MemberId) (at needed : ℕ) (some : 1 ≤ needed) (other : (n : ℕ) → (step Q by (command.Take needed)).1 ≡ reply.Count n → ⊥) where
+  one_refused : (takes needed Q by needed ≡ command.Take needed ∷ []) × (are_refused needed Q by needed ≡ true)
+  one_refused = take_last Q by needed needed some some (none_left Q by needed (step Q by (command.Take needed)).1 other)
+
   pub taking_refused : taking Q by needed ≡ command.Take needed ∷ drop_groups ∷ []
-  taking_refused =
-      let none = none_left Q by needed (step Q by (command.Take needed)).1 other in
-      taking_by Q by needed (command.Take needed ∷ []) true (takes_one Q by needed needed some some none) (refused_one Q by needed needed some some none)
+  taking_refused = (taking_by Q by at needed (command.Take needed ∷ []) true one_refused).0
 
   pub end_refused : taken_end Q by at needed ≡ end_by (reply_to Q by (command.Take needed))
-  end_refused =
-      let none = none_left Q by needed (step Q by (command.Take needed)).1 other in
-      ends_by Q by at needed true (refused_one Q by needed needed some some none) ∙ ap (λ (cs : List Command). end_by (closing_reply (given_in Q by at cs))) taking_refused
+  end_refused = (taking_by Q by at needed (command.Take needed ∷ []) true one_refused).1
 
 -- the first Take takes all groups that are needed
 module _ (Q : Queue) (by : MemberId) (at needed : ℕ) (some : 1 ≤ needed) (got : (step Q by (command.Take needed)).1 ≡ reply.Count needed) where
@@ -284,19 +251,21 @@ module _ (Q : Queue) (by : MemberId) (at needed : ℕ) (some : 1 ≤ needed) (go
   all_of zero is = absurd (omega (arith, is, some))
   all_of (suc n) is =
       let Q1 : Queue = (step Q by (command.Take needed)).0 in
-      let zero_left : needed - needed ≡ 0 = omega arith in (
-        ap (λ (k : ℕ). takes k Q by needed) is ∙ takes_first Q by n needed needed some got ∙ ap (λ (k : ℕ). command.Take needed ∷ takes n Q1 by k) zero_left ∙ ap (λ (cs : List Command). command.Take needed ∷ cs) (no_takes Q1 by n),
-        ap (λ (k : ℕ). are_refused k Q by needed) is ∙ refused_more Q by n needed needed some got ∙ ap (λ (k : ℕ). are_refused n Q1 by k) zero_left ∙ refused_none Q1 by n,
+      let zero_left : needed - needed ≡ 0 = omega arith in
+      let first = take_first Q by n needed needed some got in
+      let none = take_none Q1 by n in (
+        ap (λ (k : ℕ). takes k Q by needed) is ∙ first.0 ∙ ap (λ (k : ℕ). command.Take needed ∷ takes n Q1 by k) zero_left ∙ ap (λ (cs : List Command). command.Take needed ∷ cs) none.0,
+        ap (λ (k : ℕ). are_refused k Q by needed) is ∙ first.1 ∙ ap (λ (k : ℕ). are_refused n Q1 by k) zero_left ∙ none.1,
       )
 
   pub all_refused : are_refused needed Q by needed ≡ false
   all_refused = (all_of needed refl).1
 
   pub taking_all : taking Q by needed ≡ command.Take needed ∷ []
-  taking_all = let both = all_of needed refl in taking_by Q by needed (command.Take needed ∷ []) false both.0 both.1
+  taking_all = (taking_by Q by at needed (command.Take needed ∷ []) false (all_of needed refl)).0
 
   pub end_all : taken_end Q by at needed ≡ ends.Done
-  end_all = ends_by Q by at needed false (all_of needed refl).1
+  end_all = (taking_by Q by at needed (command.Take needed ∷ []) false (all_of needed refl)).1
 
 -- the first Take takes some of the groups, and the next one is refused
 module _ (Q : Queue) (by : MemberId) (at needed n : ℕ) (some : 1 ≤ needed) (got : (step Q by (command.Take needed)).1 ≡ reply.Count n) (less : n < needed) where
@@ -306,35 +275,35 @@ module _ (Q : Queue) (by : MemberId) (at needed n : ℕ) (some : 1 ≤ needed) (
   abbrev second : Command
   second = command.Take (needed - n)
 
-  refused : left_after (needed - n) (step Q1 by second).1 ≡ None
-  refused = none_left Q1 by (needed - n) (step Q1 by second).1 (λ k is. next_refused Q1 by (needed - n) k (none_free Q by needed n got less) is)
-
   both_of : (k : ℕ) → needed ≡ k → (takes needed Q by needed ≡ command.Take needed ∷ second ∷ []) × (are_refused needed Q by needed ≡ true)
   both_of zero is = absurd (omega (arith, is, some))
   both_of (suc k) is =
       let counts = take_counts Q by needed n some got in
-      let more : 1 ≤ k = omega (arith, is, counts.0, less) in
-      let missing : 1 ≤ needed - n = omega (arith, less) in (
-        ap (λ (i : ℕ). takes i Q by needed) is ∙ takes_first Q by k needed n some got ∙ ap (λ (cs : List Command). command.Take needed ∷ cs) (takes_one Q1 by k (needed - n) more missing refused),
-        ap (λ (i : ℕ). are_refused i Q by needed) is ∙ refused_more Q by k needed n some got ∙ refused_one Q1 by k (needed - n) more missing refused,
-      )
+      let first = take_first Q by k needed n some got in
+      let last = take_last Q1 by k (needed - n) (omega (arith, is, counts.0, less)) (omega (arith, less)) (none_left Q1 by (needed - n) (step Q1 by second).1 (λ i is. next_refused Q1 by (needed - n) i (none_free Q by needed n got less) is)) in
+      (ap (λ (i : ℕ). takes i Q by needed) is ∙ first.0 ∙ ap (λ (cs : List Command). command.Take needed ∷ cs) last.0, ap (λ (i : ℕ). are_refused i Q by needed) is ∙ first.1 ∙ last.1)
 
   pub taking_some : taking Q by needed ≡ command.Take needed ∷ second ∷ drop_groups ∷ []
-  taking_some = let both = both_of needed refl in taking_by Q by needed (command.Take needed ∷ second ∷ []) true both.0 both.1
+  taking_some = (taking_by Q by at needed (command.Take needed ∷ second ∷ []) true (both_of needed refl)).0
 
   pub end_some : taken_end Q by at needed ≡ end_by (reply_to Q1 by second)
-  end_some = ends_by Q by at needed true (both_of needed refl).1 ∙ ap (λ (cs : List Command). end_by (closing_reply (given_in Q by at cs))) taking_some
+  end_some = (taking_by Q by at needed (command.Take needed ∷ second ∷ []) true (both_of needed refl)).1
 
 -- commands under another name
-pub gives_as : {T E : Type 0} (Q : Queue) (by : MemberId) (at : ℕ) (cs ds : List Command) (holds : Spools → ℕ → Type 0) (m n : Member) (r : Result T E) → cs ≡ ds → GivesAt Q by at ds holds m n r → GivesAt Q by at cs holds m n r
-gives_as Q by at cs ds holds m n r is one = subst (λ (l : List Command). GivesAt Q by at l holds m n r) (sym is) one
+pub gives_as : {T E : Type 0} (Q : Queue) (by : MemberId) (at : ℕ) (cs ds : List Command) (holds : Spools → ℕ → Type 0) (m n : Member) (r : Result T E) → cs ≡ ds → GivesAt (asked Q by at ds) holds m n r → GivesAt (asked Q by at cs) holds m n r
+gives_as Q by at cs ds holds m n r is one = subst (λ (l : List Command). GivesAt (asked Q by at l) holds m n r) (sym is) one
+
+-- a Take, and the commands after it
+pub takes_on : {F S E : Type 0} (Q : Queue) (m n o : Member) (at want : ℕ) (cs : List Command) (x : S) (r : Result UnitEnd E) → HasGiven at m n → GivesAt {E = F} (asked Q m.id at (command.Take want ∷ [])) (λ disks per. IsSoundPlain m.checkpoint.tables (command.Take want)) m n (Ok x)
+    → GivesAt (asked (step Q m.id (command.Take want)).0 n.id at cs) (λ disks per. TellSound n.checkpoint.tables) n o r → GivesAt (asked Q m.id at (command.Take want ∷ cs)) (λ disks per. TellSound m.checkpoint.tables) m o r
+takes_on {F} Q m n o at want cs x r has one two = gives_then Q m.id at (command.Take want) {F = F} cs _ _ _ m n o x r n.id has.id one (λ disks per s. (s, refl)) (λ disks per s. has.sound s) two
 
 -- out of memory for the first Take
 first_take : (Q : Queue) (by : MemberId) (needed : ℕ) → 1 ≤ needed → (rest : List Command) × (taking Q by needed ≡ command.Take needed ∷ rest)
 first_take Q by zero some = absurd (omega (arith, some))
 first_take Q by (suc needed) some = (_, refl)
 
-pub wanted_takes : {T E : Type 0} (Q : Queue) (by : MemberId) (at needed : ℕ) (m n : Member) (e : E) → 1 ≤ needed → n ≡ m → Tell m.checkpoint.tables Q → GivesAt {T = T} Q by at (taking Q by needed) (λ disks per. TellSound m.checkpoint.tables) m n (Err e)
+pub wanted_takes : {T E : Type 0} (Q : Queue) (by : MemberId) (at needed : ℕ) (m n : Member) (e : E) → 1 ≤ needed → n ≡ m → Tell m.checkpoint.tables Q → GivesAt {T = T} (asked Q by at (taking Q by needed)) (λ disks per. TellSound m.checkpoint.tables) m n (Err e)
 wanted_takes {T} {E} Q by at needed m n e some same told =
     let first = first_take Q by needed some in
     gives_as {T = T} {E = E} Q by at (taking Q by needed) (command.Take needed ∷ first.0) _ m n (Err e) first.1 (gives_none Q by at (command.Take needed) {T = T} {E = E} first.0 _ m n e same told)
@@ -351,22 +320,14 @@ has_told Q by by' t needed same told got =
 pub ending_refused : (Q : Queue) (by : MemberId) (n : JobNo) (specs : List OutSpec) (why : Closing) → end_by (reply_to Q by (command.Ended n specs)) ≡ ends.Refused why → ending Q by n specs ≡ command.Ended n specs ∷ drop_groups ∷ []
 ending_refused Q by n specs why is = by_reply (reply_to Q by (command.Ended n specs)) is where
   by_reply : (r : Reply) → end_by r ≡ ends.Refused why → (command.Ended n specs ∷ (if is_refusal r then drop_groups ∷ [] else [])) ≡ command.Ended n specs ∷ drop_groups ∷ []
-  by_reply reply.Plain is = absurd (cc)
-  by_reply (reply.Job k) is = absurd (cc)
-  by_reply (reply.Output k i) is = absurd (cc)
-  by_reply (reply.Count k) is = absurd (cc)
-  by_reply (reply.Shown lines) is = absurd (cc)
   by_reply (reply.No reason) is = refl
+  by_reply _ is = absurd (cc)
 
 pub ending_taken : (Q : Queue) (by : MemberId) (n : JobNo) (specs : List OutSpec) → ((why : Closing) → end_by (reply_to Q by (command.Ended n specs)) ≡ ends.Refused why → ⊥) → ending Q by n specs ≡ command.Ended n specs ∷ []
 ending_taken Q by n specs never = by_reply (reply_to Q by (command.Ended n specs)) never where
   by_reply : (r : Reply) → ((why : Closing) → end_by r ≡ ends.Refused why → ⊥) → (command.Ended n specs ∷ (if is_refusal r then drop_groups ∷ [] else [])) ≡ command.Ended n specs ∷ []
-  by_reply reply.Plain never = refl
-  by_reply (reply.Job k) never = refl
-  by_reply (reply.Output k i) never = refl
-  by_reply (reply.Count k) never = refl
-  by_reply (reply.Shown lines) never = refl
   by_reply (reply.No reason) never = absurd (never (closing.Reply (reply.No reason)) refl)
+  by_reply _ never = refl
 
 pub end_ending : (Q : Queue) (by : MemberId) (at : ℕ) (n : JobNo) (specs : List OutSpec) → end_by (closing_reply (given_in Q by at (ending Q by n specs))) ≡ end_by (reply_to Q by (command.Ended n specs))
 end_ending Q by at n specs = by_reply (is_refusal (reply_to Q by (command.Ended n specs))) where
@@ -374,26 +335,10 @@ end_ending Q by at n specs = by_reply (is_refusal (reply_to Q by (command.Ended 
   by_reply true = refl
   by_reply false = refl
 
-pub gives_texts : {T E S F : Type 0} (Q : Queue) (by : MemberId) (at : ℕ) (c : Command) (holds more : Spools → ℕ → Type 0) (m n : Member) (x : T) (y : S) → GivesAt {E = E} Q by at (c ∷ []) holds m n (Ok x) → LeaveWhere more Q (entry_of Q by at c ∷ []) → GivesAt {E = F} Q by at (c ∷ []) more m n (Ok y)
+pub gives_texts : {T E S F : Type 0} (Q : Queue) (by : MemberId) (at : ℕ) (c : Command) (holds more : Spools → ℕ → Type 0) (m n : Member) (x : T) (y : S) → GivesAt {E = E} (asked Q by at (c ∷ [])) holds m n (Ok x) → LeaveWhere more Q (entry_of Q by at c ∷ []) → GivesAt {E = F} (asked Q by at (c ∷ [])) more m n (Ok y)
 gives_texts Q by at c holds more m n x y one texts = record { gave = one.gave; batch = one.batch; part = one.part; effect = one.effect; texts = λ gone disks per h has. subst (λ (es : List Entry). HasTexts gone disks per (run Q es)) (sym one.part) (texts gone disks per h has) }
 
 -- shares of the groups that all outputs need
-take_take : {A : Type 0} (n t : ℕ) (xs : List A) → n ≤ t → take n (take t xs) ≡ take n xs
-take_take zero t xs le = refl
-take_take (suc n) zero xs le = absurd (omega (arith, le))
-take_take (suc n) (suc t) [] le = refl
-take_take (suc n) (suc t) (x ∷ xs) le = ap (λ (l : List _). x ∷ l) (take_take n t xs (omega (arith, le)))
-
-pub take_nil : {A : Type 0} (k : ℕ) → take {A = A} k [] ≡ []
-take_nil zero = refl
-take_nil (suc k) = refl
-
-drop_take : {A : Type 0} (n k t : ℕ) (xs : List A) → t ≡ k + n → drop n (take t xs) ≡ take k (drop n xs)
-drop_take zero k t xs is = let same : t ≡ k = omega (arith, is) in ap (λ (i : ℕ). take i xs) same
-drop_take (suc n) k zero xs is = absurd (omega (arith, is))
-drop_take (suc n) k (suc t) [] is = sym (take_nil k)
-drop_take (suc n) k (suc t) (x ∷ xs) is = drop_take n k t xs (omega (arith, is))
-
 share_there : (disks : Spools) (per : ℕ) (specs : List OutSpec) (groups : List GroupNo) (k : ℕ) (spec : OutSpec) (its : List GroupNo) → slice_get specs k ≡ Some spec → slice_get (shares specs groups) k ≡ Some its
     → AreSpooled disks per specs (take (groups_of_outputs specs) groups) → IsThere disks per (Whole spec.text) its
 share_there disks per [] groups k spec its here there are = absurd (cc)
@@ -401,11 +346,12 @@ share_there disks per (s ∷ specs) groups zero spec its here there are =
     let same : s ≡ spec = cc in
     let share : take (groups_needed s.text) groups ≡ its = cc in
     let first : take (groups_needed s.text) (take (groups_of_outputs (s ∷ specs)) groups) ≡ take (groups_needed s.text) groups =
-    take_take (groups_needed s.text) (groups_of_outputs (s ∷ specs)) groups (let sum = sum-groups s specs in omega (arith, sum)) in
+    take-take (groups_needed s.text) (groups_of_outputs (s ∷ specs)) groups (let sum = sum-groups s specs in omega (arith, sum)) in
     subst (λ (x : OutSpec). IsThere disks per (Whole x.text) its) same (subst (IsThere disks per (Whole s.text)) (first ∙ share) are.0)
 share_there disks per (s ∷ specs) groups (suc k) spec its here there are =
+    let all : groups_of_outputs (s ∷ specs) ≡ groups_needed s.text + groups_of_outputs specs = let sum = sum-groups s specs in omega (arith, sum) in
     let rest : drop (groups_needed s.text) (take (groups_of_outputs (s ∷ specs)) groups) ≡ take (groups_of_outputs specs) (drop (groups_needed s.text) groups) =
-    drop_take (groups_needed s.text) (groups_of_outputs specs) (groups_of_outputs (s ∷ specs)) groups (let sum = sum-groups s specs in omega (arith, sum)) in
+    ap (λ (k : ℕ). drop (groups_needed s.text) (take k groups)) all ∙ drop-take (groups_needed s.text) (groups_of_outputs specs) groups in
     share_there disks per specs (drop (groups_needed s.text) groups) k spec its here there (subst (AreSpooled disks per specs) rest are.1)
 
 module _ (P : Thing → Text → List GroupNo → Type 0) (Q : Queue) (h : HoldsOfTexts P Q) where

@@ -1,5 +1,5 @@
 -- Looking at a job's text.
-use Rattle.member_work.proofs.Names.{◌≡◌, ℕ, zero, suc, ◌+◌, ◌*◌, ◌≤◌, ◌<◌, Bool, true, List, [], ◌∷◌, length, All, slice_get, Some, refl, sym, ap, subst, ◌∙◌, arith, find, nat_tests, All-nil, All-cons, GroupNo, JobNo, Job, Config, Owner, Queue, Thing, Deck, same_number, has_number, job_at, line_count, find-All, test_cases, JobRec, IfUsed, IsJobRec, Tables, HasSpelling, AreJobs, HasJob, View, groups_where, is_things, groups_of, all_at, Read, IsTold}
+use Rattle.member_work.proofs.Names.{◌≡◌, ℕ, zero, suc, ◌+◌, ◌*◌, ◌≤◌, ◌<◌, Bool, true, List, [], ◌∷◌, length, All, Some, slice_get, refl, sym, ap, subst, ◌∙◌, arith, find, GroupNo, JobNo, Job, Config, Queue, same_number, job_at, line_count, has_number, Tables, HasSpelling, Read, nat_tests, All-nil, All-cons, Owner, Thing, find-All, test_cases, JobRec, IfUsed, IsJobRec, AreJobs, HasJob, groups_where, is_things, groups_of, all_at, IsTold}
 use Rattle.std.specs.Coded.{Coded, coded_list, coded_ℕ, coded×, code_by}
 use Rattle.std.proofs.lemmas.List.Sorted.{All-permutation}
 use Rattle.track_groups.specs.Laws.{AreItsOwn}
@@ -69,10 +69,3 @@ read_back _ = refl
 
 abbrev pub coded_read : Coded Read
 coded_read = code_by (ℕ × (List (List ℕ) × ℕ)) (coded× coded_ℕ (coded× (coded_list (coded_list coded_ℕ)) coded_ℕ)) read_code (λ p. read_by p.0 p.1.0 p.1.1) read_back
-
-module _ (told : Type 0) (config : Config) (t : Tables) (Q : Queue) (v w : View) (r : JobRec) (j : Job) where
-  abbrev groups : List GroupNo
-  groups = groups_of (Deck r.number) t.owners
-
-  abbrev its : List GroupNo
-  its = groups_of (Deck j.number) Q.owners

@@ -1,56 +1,43 @@
 -- The names that many proofs take, each from where it is declared.
-pub use Rattle.member_work.specs.Names.{All, Bool, Err, IfOk, List, None, Ok, OnErr, Option, Result, Some, [], drop, false, if◌then◌else◌, length, map, min, suc, take, true, unwrap_or, zero, ℕ, ◌*◌, ◌++◌, ◌+◌, ◌-◌, ◌<◌, ◌==◌, ◌||◌, ◌∷◌, ◌≡◌, ◌≢◌, ◌≤◌, ◌⊎◌, option_map_or, HasSpelling, Tables, IsNamedEnd, end_by, Read, AreSettled, entries_in, kept_all, run, MayBegin, counts_of, HasTexts, IsThere, Spools, lost_now, spools_at, groups_of_outputs, is_cancelled, outputs_at_end, runs, IsFit, IsIndex, same_number, printer_lines_most, groups_needed, member_count, has_output, is_member, job_at, line_count, output_at, printing_at, total, Closing, Command, Reply, Ckpt1, Ckpt2, Spool, GroupNo, JobNo, MemberId, OutNo, Job, OutSpec, Output, Text, Gone, Whole, Batch, Entry, Config, Queue, all_entries, are_refused, closing_reply, given_in, takes, AreQuiet, StandBelow, lies_there, AreOf, IsFoundLost, CanDraw, console_now, stopped_in, NodeNo, BothLost, ConsoleFault, Halted, NoMemory, StepCauses, StepTells, entry_of, reply_to, limit_of, Tell, TellSound, Goes, View, Disk, Printer, AreRoomy, volume_of}
-pub use Rattle.std.proofs.Common.{ap, append-nil, append_assoc, arith, cond, find, inl, inr, length-append, nat_lt, option_copied, refl, slice_get, subst, sym, ⊎_elim, ◌&&◌, ◌∙◌}
+pub use Rattle.std.proofs.Common.{All, Bool, Err, IfOk, List, None, Ok, OnErr, Option, Result, Some, [], ap, append-nil, append_assoc, arith, drop, false, find, if◌then◌else◌, inl, inr, length, length-append, map, min, nat_lt, option_copied, refl, slice_get, subst, suc, sym, take, true, unwrap_or, zero, ℕ, ⊎_elim, ◌&&◌, ◌*◌, ◌++◌, ◌+◌, ◌-◌, ◌<◌, ◌==◌, ◌||◌, ◌∙◌, ◌∷◌, ◌≡◌, ◌≢◌, ◌≤◌, ◌⊎◌}
 pub use Rattle.std.proofs.lemmas.Bool.Decides.{leb_tells, nat_tests}
-pub use Rattle.std.proofs.lemmas.List.{length-drop, length-take-le, take-append-drop}
 pub use Rattle.std.proofs.lemmas.List.Elements.{All-append, All-cons, All-contains, All-drop, All-get_or, All-head, All-nil, All-push, All-tail, All-take, All-weaker}
 pub use Rattle.std.proofs.lemmas.Result.{err_from_is_err_and}
 pub use Rattle.std.specs.List.{list_any}
-pub use Rattle.std.specs.Option.{option_map}
-pub use Rattle.ckpt_tables.specs.Shape.{AreLevels, page_count}
+pub use Rattle.std.specs.Option.{option_map, option_map_or}
+pub use Rattle.member_work.specs.Names.{HasSpelling, Tables, IsNamedEnd, end_by, Read, kept_all, run, MayBegin, counts_of, HasTexts, IsThere, Spools, groups_of_outputs, is_cancelled, outputs_at_end, runs, IsFit, IsIndex, same_number, printer_lines_most, groups_needed, member_count, has_output, is_member, job_at, line_count, output_at, printing_at, total, Closing, Command, Reply, Ckpt1, Ckpt2, Spool, GroupNo, JobNo, MemberId, OutNo, Job, OutSpec, Output, Text, Gone, Whole, Batch, Entry, Config, Queue, are_refused, closing_reply, given_in, takes, AreQuiet, StandBelow, lies_there, AreOf, IsFoundLost, NodeNo, entry_of, reply_to, limit_of, Tell, TellSound, Goes, View, Disk, Printer, volume_of}
 pub use Rattle.job_queue.specs.Jobs.{AreJobs, HasJob}
 pub use Rattle.lay_bytes.specs.Slots.{IfUsed, IsJobRec, IsOutRec}
 pub use Rattle.lay_bytes.specs.declared.records.JobRec.{JobRec}
 pub use Rattle.lay_bytes.specs.declared.records.OutRec.{OutRec}
-pub use Rattle.mas_complex.proofs.Allowed.{none_begins, unmarked_begin}
-pub use Rattle.mas_complex.specs.Journals.{begun, fated}
+pub use Rattle.mas_complex.proofs.Allowed.{unmarked_begin}
 pub use Rattle.mas_complex.specs.Meaning.{step}
 pub use Rattle.mas_complex.specs.Texts.{IsSynced, IsThereUnless}
 pub use Rattle.mas_types.specs.Fit.{AreDistinct, IsOutSpec, IsSetting}
 pub use Rattle.mas_types.specs.Ids.{is_somebody, same_member}
-pub use Rattle.mas_types.specs.Limits.{page_bytes}
-pub use Rattle.mas_types.specs.Owners.{free_count, is_free, is_members, taken}
+pub use Rattle.mas_types.specs.Owners.{free_count, is_free, taken}
 pub use Rattle.mas_types.specs.Queue.{first_in, has_key, has_number, in_convert, in_execute, in_output, in_purge, is_busy_at, is_of, prints_at}
 pub use Rattle.mas_types.specs.Sound.{IsSound, IsSoundOutput, is_there, may_have_outputs, same_key}
-pub use Rattle.mas_types.specs.declared.ids.Page.{Page}
 pub use Rattle.mas_types.specs.declared.queues.Owner.{Owner}
 pub use Rattle.mas_types.specs.declared.queues.Setting.{Setting}
 pub use Rattle.mas_types.specs.declared.queues.Thing.{Thing}
-pub use Rattle.mas_types.specs.declared.queues.Thing.TheVariants.{Deck, Output as OutputThing}
 pub use Rattle.member_decks.proofs.OpenLemmas.{tells_some}
 pub use Rattle.member_decks.proofs.PageLemmas.{all_at, text_there}
-pub use Rattle.member_decks.proofs.TakeLemmas.{refused_last, refused_more, refused_none, take_counts}
-pub use Rattle.member_decks.specs.Batches.{AreAll, AreCut, HasAll, IsFlyingBatch, IsKeptBatch, OneFlies}
+pub use Rattle.member_decks.proofs.TakeLemmas.{take_counts}
 pub use Rattle.member_decks.specs.Decks.{left_after}
 pub use Rattle.member_decks.specs.Spooling.{OnVolumes, Rise, SpoolCauses, page_in}
-pub use Rattle.member_decks.specs.Taking.{IsPart, LeaveOut}
-pub use Rattle.member_node.proofs.SpareLemmas.{spares_none, spares_then, sparing_then}
-pub use Rattle.member_node.proofs.WriteLemmas.{run_append}
+pub use Rattle.member_decks.specs.Taking.{IsPart}
+pub use Rattle.member_node.proofs.SpareLemmas.{sparing_then}
 pub use Rattle.member_node.specs.Batches.{last_reply}
 pub use Rattle.member_node.specs.Calls.{none_lost}
-pub use Rattle.member_node.specs.Reads.{AreLow, IsSettle, ReadCauses, orders_after}
 pub use Rattle.member_node.specs.Spares.{SparesBut}
-pub use Rattle.member_node.specs.declared.checkpoint.Checkpoint.{Checkpoint}
-pub use Rattle.member_steps.proofs.StepLemmas.{between_done, can_draw, if_ok, untold_by}
-pub use Rattle.member_steps.specs.Steps.{AreAllKept, AreKeptFrom, IsBetween, IsKeptBy, entry_with}
-pub use Rattle.member_work.specs.Gone.{gone_with}
-pub use Rattle.member_work.specs.Printing.{IsBeside, IsChunkOf, IsLinesPrinted, IsPrinting, IsToldOutput, MayPrintTo}
+pub use Rattle.member_steps.proofs.StepLemmas.{if_ok}
+pub use Rattle.member_steps.specs.Steps.{entry_with}
+pub use Rattle.member_work.specs.Printing.{IsBeside, IsChunkOf, IsLinesPrinted, IsPrinting, IsToldOutput}
 pub use Rattle.member_work.specs.Rounds.{HasFailed, HasPrinterFailed, IsReadAs, IsWhole}
 pub use Rattle.member_work.specs.Spooled.{AreSpooled, AreWritten}
-pub use Rattle.member_work.specs.Steps.{IsAtWork, IsClosing, IsKeeping, IsStepUntold, IsTold, IsUnderWay, WorkLeaves}
+pub use Rattle.member_work.specs.Steps.{IsTold, IsUnderWay}
 pub use Rattle.member_work.specs.Units.{command_of, drop_groups, ending, groups_for_end, printed_end, taken_end, taking}
-pub use Rattle.member_work.specs.Work.{batches_in}
-pub use Rattle.paper_laws.specs.Next.{MayPrint}
 pub use Rattle.queue_effect.proofs.GroupLemmas.{groups_small, sum-groups, sum_more}
 pub use Rattle.queue_laws.proofs.Finds.{find-All, test_cases}
 pub use Rattle.queue_laws.specs.Laws.{is_refusal}

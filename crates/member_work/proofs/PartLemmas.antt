@@ -1,11 +1,11 @@
 -- The parts of a job's end, one after another.
-use Rattle.member_work.proofs.Names.{◌≡◌, ◌∙◌, ℕ, zero, suc, ◌-◌, ◌≤◌, ◌==◌, Bool, true, false, if◌then◌else◌, List, [], ◌∷◌, ◌++◌, drop, take, Ok, All, inl, inr, refl, ap, subst, sym, arith, leb_tells, append-nil, All-nil, find, list_any, GroupNo, JobNo, MemberId, Command, Reply, OutSpec, Batch, Entry, Queue, is_cancelled, outputs_at_end, free_count, groups_needed, has_number, is_of, job_at, View, test_cases, HasNeededGroups, ReadsTexts, IsOutSpec, IsSynced, Spools, kept_all, run, step, AreAll, all_entries, are_refused, closing_reply, given_in, take_counts, end_by, AreSpooled, AreWritten, IsKeeping, IsUnderWay, groups_for_end, taken_end, taking, batches_in}
+use Rattle.member_work.proofs.Names.{◌≡◌, ℕ, ◌-◌, ◌≤◌, ◌==◌, Bool, true, false, if◌then◌else◌, List, [], ◌∷◌, take, All, ◌∙◌, inl, inr, refl, ap, subst, sym, arith, find, GroupNo, JobNo, MemberId, Command, OutSpec, Entry, Queue, is_cancelled, outputs_at_end, groups_needed, free_count, job_at, has_number, is_of, Spools, IsSynced, run, step, are_refused, closing_reply, given_in, end_by, leb_tells, All-nil, list_any, test_cases, HasNeededGroups, ReadsTexts, IsOutSpec, take_counts, AreSpooled, AreWritten, IsUnderWay, groups_for_end, taken_end, taking, min}
+use Rattle.std.proofs.Math.Seq.{drop-nil, take-nil}
 use Rattle.mas_types.specs.declared.commands.Command.TheVariants as command
 use Rattle.mas_types.specs.declared.commands.Reply.TheVariants as reply
 use Rattle.job_outcome.specs.declared.units.UnitEnd.TheVariants as ends
-use Rattle.member_work.proofs.GivingLemmas.{all_refused, end_refused, end_some, next_refused, none_free, take_nil, take_not_done, taking_all}
+use Rattle.member_work.proofs.GivingLemmas.{all_refused, end_refused, end_some, next_refused, none_free, take_not_done, taking_all}
 use Rattle.member_work.proofs.SpoolLemmas.{all_spooled}
-use Rattle.member_work.proofs.WrittenLemmas.{entries_batches, queue_behind}
 
 -- ALL GROUPS WERE TAKEN
 
@@ -25,16 +25,11 @@ module _ (Q : Queue) (by : MemberId) (at needed : ℕ) (some : 1 ≤ needed) (is
   not_count : ((k : ℕ) → (step Q by first).1 ≡ reply.Count k → ⊥) → (step Q by first).1 ≡ reply.Count needed
   not_count other = absurd (take_not_done Q by needed other (sym (end_refused Q by at needed some other) ∙ is))
 
-  by_reply : (r : Reply) → (step Q by first).1 ≡ r → (step Q by first).1 ≡ reply.Count needed
-  by_reply (reply.Count k) got = by_count k got
-  by_reply reply.Plain got = not_count (λ k other. let both : reply.Plain ≡ reply.Count k = sym got ∙ other in cc)
-  by_reply (reply.Job i) got = not_count (λ k other. let both : reply.Job i ≡ reply.Count k = sym got ∙ other in cc)
-  by_reply (reply.Output i j) got = not_count (λ k other. let both : reply.Output i j ≡ reply.Count k = sym got ∙ other in cc)
-  by_reply (reply.Shown lines) got = not_count (λ k other. let both : reply.Shown lines ≡ reply.Count k = sym got ∙ other in cc)
-  by_reply (reply.No why) got = not_count (λ k other. let both : reply.No why ≡ reply.Count k = sym got ∙ other in cc)
-
   taken_got : (step Q by first).1 ≡ reply.Count needed
-  taken_got = by_reply (step Q by first).1 refl
+  taken_got =
+      test_cases (free_count Q.owners == 0) ((step Q by first).1 ≡ reply.Count needed)
+      (λ e. not_count (λ k other. let w = rw e at other in cc))
+      (λ e. by_count (min needed (free_count Q.owners)) (rw e refl))
 
   pub not_refused : are_refused needed Q by needed ≡ false
   not_refused = all_refused Q by at needed some taken_got
@@ -44,40 +39,24 @@ module _ (Q : Queue) (by : MemberId) (at needed : ℕ) (some : 1 ≤ needed) (is
     queue_is = ap (run Q) (one ∙ ap (given_in Q by at) (taking_all Q by at needed some taken_got))
 
 -- a Take leaves jobs and outputs
-take_jobs : (Q : Queue) (by : MemberId) (want : ℕ) → (step Q by (command.Take want)).0.jobs ≡ Q.jobs
-take_jobs Q by want = test_cases (free_count Q.owners == 0) ((step Q by (command.Take want)).0.jobs ≡ Q.jobs) (λ e. rw e refl) (λ e. rw e refl)
-
-take_outputs : (Q : Queue) (by : MemberId) (want : ℕ) → (step Q by (command.Take want)).0.outputs ≡ Q.outputs
-take_outputs Q by want = test_cases (free_count Q.owners == 0) ((step Q by (command.Take want)).0.outputs ≡ Q.outputs) (λ e. rw e refl) (λ e. rw e refl)
+take_leaves : (Q : Queue) (by : MemberId) (want : ℕ) → ((step Q by (command.Take want)).0.jobs ≡ Q.jobs) × ((step Q by (command.Take want)).0.outputs ≡ Q.outputs)
+take_leaves Q by want = test_cases (free_count Q.owners == 0) (((step Q by (command.Take want)).0.jobs ≡ Q.jobs) × ((step Q by (command.Take want)).0.outputs ≡ Q.outputs)) (λ e. (rw e refl, rw e refl)) (λ e. (rw e refl, rw e refl))
 
 pub under_way_taken : (Q R : Queue) (by at : MemberId) (want : ℕ) (n : JobNo) → R ≡ (step Q by (command.Take want)).0 → IsUnderWay Q at n → IsUnderWay R at n
 under_way_taken Q R by at want n same u = record {
   job = u.job;
-  there = ap (λ (S : Queue). find (has_number n) S.jobs) same ∙ ap (find (has_number n)) (take_jobs Q by want) ∙ u.there;
+  there = ap (λ (S : Queue). find (has_number n) S.jobs) same ∙ ap (find (has_number n)) (take_leaves Q by want).0 ∙ u.there;
   busy = u.busy;
   phase = u.phase;
-  none = ap (λ (S : Queue). list_any (is_of n) S.outputs) same ∙ ap (list_any (is_of n)) (take_outputs Q by want) ∙ u.none;
+  none = ap (λ (S : Queue). list_any (is_of n) S.outputs) same ∙ ap (list_any (is_of n)) (take_leaves Q by want).1 ∙ u.none;
 }
 
--- CALLS ONE AFTER ANOTHER
-
--- the journal and the queue once what was given is kept
-module _ (told : Type 0) (by : MemberId) (batch : List Entry) where
-  pub queue_kept : (base : Queue) (front batches : List Batch) (a a' b b' : Bool) (v w : View) → IsKeeping {T = Unit {0}} told by (batches_in (batch ∷ [])) front batches a a' b b' v w (Ok tt) → run base (kept_all batches) ≡ run base (kept_all front ++ batch)
-  queue_kept base front batches a a' b b' v w k =
-      ap (run base) (sym (append-nil (kept_all batches)))
-      ∙ queue_behind base by v.now w.now front k.rest batches (batches_in (batch ∷ [])) batch [] [] k.batches_are k.journal (append-nil (all_entries (batches_in (batch ∷ []))) ∙ entries_batches (batch ∷ []))
-
 -- outputs that need no groups stand in none
-drop_nil : {A : Type 0} (k : ℕ) → drop {A = A} k [] ≡ []
-drop_nil zero = refl
-drop_nil (suc k) = refl
-
 written_nowhere : (disks : Spools) (per : ℕ) (specs : List OutSpec) → AreWritten disks per specs []
 written_nowhere disks per [] = tt
 written_nowhere disks per (s ∷ specs) = (
-  λ k h lt here. absurd (let none = rw (take_nil {A = GroupNo} (groups_needed s.text)) at here in cc),
-  subst (AreWritten disks per specs) (sym (drop_nil {A = GroupNo} (groups_needed s.text))) (written_nowhere disks per specs),
+  λ k h lt here. absurd (let none = rw (take-nil {A = GroupNo} (groups_needed s.text)) at here in cc),
+  subst (AreWritten disks per specs) (sym (drop-nil {A = GroupNo} (groups_needed s.text))) (written_nowhere disks per specs),
 )
 
 pub spooled_nowhere : ReadsTexts → HasNeededGroups → (disks : Spools) (per : ℕ) (Q : Queue) (n : JobNo) (specs : List OutSpec) (groups : List GroupNo) → All IsOutSpec specs → groups_for_end Q n specs ≡ 0 → AreSpooled disks per (outputs_at_end (job_at Q n) specs) (take (groups_for_end Q n specs) groups)
@@ -91,11 +70,3 @@ spooled_nowhere reads needed disks per Q n specs groups fit none =
 
 pub taken_done : (Q : Queue) (by : MemberId) (at needed : ℕ) → are_refused needed Q by needed ≡ false → taken_end Q by at needed ≡ ends.Done
 taken_done Q by at needed all = ap (λ (b : Bool). if b then end_by (closing_reply (given_in Q by at (taking Q by needed))) else ends.Done) all
-
--- nothing was kept
-none_kept : (by : MemberId) (from now : ℕ) (rest : List Batch) → AreAll by from now [] rest → rest ≡ []
-none_kept by from now [] all = refl
-none_kept by from now (b ∷ rest) all = absurd all
-
-pub same_journal : {T : Type 0} (told : Type 0) (by : MemberId) (x : T) (front batches : List Batch) (a a' b b' : Bool) (v w : View) → IsKeeping {T = T} told by [] front batches a a' b b' v w (Ok x) → batches ≡ front
-same_journal told by x front batches a a' b b' v w k = k.batches_are ∙ ap (λ (l : List Batch). front ++ l) (none_kept by v.now w.now k.rest k.journal) ∙ append-nil front

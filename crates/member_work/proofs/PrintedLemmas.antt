@@ -1,7 +1,7 @@
 -- Printing the lines of an output, act by act.
-use Rattle.member_work.proofs.Names.{◌≡◌, inl, ℕ, ◌+◌, ◌-◌, ◌*◌, ◌≤◌, ◌<◌, min, true, false, List, ◌++◌, All, Option, None, Some, slice_get, refl, sym, ◌∙◌, ap, subst, arith, find, Err, Ok, OnErr, Result, option_map_or, Closing, Ckpt1, Ckpt2, GroupNo, JobNo, MemberId, OutNo, Output, Text, Whole, Gone, Batch, Config, Queue, Setting, OutputThing, IsSetting, is_somebody, printer_lines_most, has_key, line_count, output_at, printing_at, prints_at, total, OutRec, IfUsed, IsOutRec, Tables, HasSpelling, Tell, test_cases, Disk as DiskPart, Printer, View, Acts, Goes, Prints, groups_of, MayPrint, limit_of, entries_in, kept_all, run, NodeNo, OnVolumes, tells_some, all_at, Read, gone_with, IsBeside, IsChunkOf, IsLinesPrinted, IsToldOutput, MayPrintTo, HasPrinterFailed, IsReadAs, IsWhole, printed_end}
+use Rattle.member_work.proofs.Names.{◌≡◌, ℕ, ◌+◌, ◌-◌, ◌*◌, ◌≤◌, min, true, false, List, All, Option, None, Some, Err, Ok, OnErr, Result, inl, slice_get, refl, sym, ◌∙◌, ap, subst, arith, find, option_map_or, Closing, Ckpt1, Ckpt2, GroupNo, JobNo, MemberId, OutNo, Output, Text, Whole, Gone, Queue, printer_lines_most, line_count, output_at, printing_at, total, has_key, prints_at, Tables, HasSpelling, Tell, Disk as DiskPart, Printer, View, Goes, Acts, Prints, limit_of, NodeNo, Read, Setting, IsSetting, is_somebody, OutRec, IfUsed, IsOutRec, test_cases, OnVolumes, tells_some, all_at, IsBeside, IsChunkOf, IsLinesPrinted, IsToldOutput, HasPrinterFailed, IsReadAs, IsWhole, printed_end}
+use Rattle.member_work.specs.Gone.{gone_with}
 use Rattle.mas_types.specs.declared.answers.Closing.TheVariants as closing
-use Rattle.mas_types.specs.Printed.{printed_line}
 use Rattle.output_queue.specs.Outputs.{AreOutputs, HasOutput}
 use Rattle.spool_plant.specs.declared.plant.Act.{Act}
 use Rattle.spool_plant.specs.declared.plant.Act.TheVariants.{Failed}
@@ -126,29 +126,7 @@ still_busy Q m n i o there busy =
     (λ e. let found : find (prints_at m) Q.outputs ≡ Some o = rw e at busy in rw there (find_passes (prints_at m) Q.outputs o found))
     (λ e. absurd (let none = rw e at busy in cc))
 
--- the next line of an output may be printed
-pub may_print : (base : Queue) (batches : List Batch) (current : Option Batch) (m : MemberId) (n : JobNo) (i : OutNo) (mark last printed before : ℕ) (lines : List (List ℕ)) (bytes : List ℕ) → MayPrintTo base batches current m n i mark last lines → mark + printed ≡ before → before < last
-    → bytes ≡ printed_line n i (before + 1) lines → MayPrint base (kept_all batches) (entries_in current) m printed bytes
-may_print base batches current m n i mark last printed before lines bytes may counted small is = record {
-  next = record {
-    output = may.output;
-    busy = may.busy;
-    lines = lines;
-    text = may.text;
-    is = is ∙ ap (λ (k : ℕ). printed_line n i (k + 1) lines) (sym counted ∙ ap (λ (k : ℕ). k + printed) (sym may.mark_is)) ∙ ap (λ (k : JobNo). printed_line k i (may.output.mark + printed + 1) lines) (sym may.job)
-        ∙ ap (λ (k : OutNo). printed_line may.output.job k (may.output.mark + printed + 1) lines) (sym may.index);
-    below = let same = may.mark_is in let upto = may.upto in omega (arith, same, upto, counted, small);
-    limit = let same = may.mark_is in let limit = may.limit in omega (arith, same, limit, counted, small);
-  };
-  still = subst (λ (k : JobNo). busy_in (output_at (run base (kept_all batches ++ entries_in current)) k may.output.index) m ≡ true) (sym may.job)
-      (subst (λ (k : OutNo). busy_in (output_at (run base (kept_all batches ++ entries_in current)) n k) m ≡ true) (sym may.index) may.still);
-}
-
 -- WHAT WAS READ
-
-module _ (told : Type 0) (config : Config) (t : Tables) (Q : Queue) (v w : View) (r : OutRec) (o : Output) where
-  abbrev groups : List GroupNo
-  groups = groups_of (OutputThing r.job r.index) t.owners
 
 -- lines that were read are those of a text that is whole
 pub lines_whole : (told : Type 0) (per : ℕ) (text : Text) (groups : List GroupNo) (lines : List (List ℕ)) (v w : View) → told → IsReadAs told per text groups (Some (read.Lines lines)) v w → text ≡ Whole lines
@@ -157,9 +135,9 @@ lines_whole told per (Gone group count) groups lines v w tells seen = absurd (le
 
 -- AN OUTPUT'S LINES ARE PRINTED
 
-pub whole_output : (t : Text) → gone_with t ≡ None → IsWhole t
-whole_output (Whole lines) none = tt
-whole_output (Gone group count) none = absurd (cc)
+pub whole_text : (t : Text) → gone_with t ≡ None → IsWhole t
+whole_text (Whole lines) none = tt
+whole_text (Gone group count) none = absurd (cc)
 
 pub lines_printed : (by : MemberId) (lines : List (List ℕ)) (v w : View) → IsLinesPrinted by (read.Lines lines) v w None
 lines_printed by lines v w = record { lost = false; is = refl; printer = λ lost. absurd (cc) }

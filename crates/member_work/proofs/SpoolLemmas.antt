@@ -1,10 +1,12 @@
 -- The outputs of a job, one after another, in a member's groups.
-use Rattle.member_work.proofs.Names.{◌≡◌, ◌≢◌, ◌||◌, ℕ, zero, suc, ◌+◌, ◌≤◌, ◌<◌, ◌==◌, Bool, true, false, List, [], ◌∷◌, ◌++◌, length, take, drop, All, Some, Result, Ok, Err, slice_get, refl, sym, ◌∙◌, ap, subst, arith, length-drop, length-take-le, take-append-drop, All-drop, All-head, All-tail, All-take, GroupNo, OutSpec, groups_of_outputs, IsOutSpec, groups_needed, Disk as DiskPart, Spool, View, Goes, HasNeededGroups, ReadsTexts, volume_of, IsSynced, Spools, sum-groups, none_lost, SparesBut, sparing_then, AreQuiet, Rise, SpoolCauses, StandBelow, lies_there, page_in, text_there, AreSpooled, AreWritten}
+use Rattle.member_work.proofs.Names.{◌≡◌, ◌≢◌, ℕ, zero, suc, ◌+◌, ◌≤◌, ◌<◌, ◌==◌, true, false, List, [], ◌∷◌, ◌++◌, length, take, drop, All, Some, Result, Ok, Err, slice_get, sym, ◌∙◌, ap, subst, arith, GroupNo, OutSpec, groups_of_outputs, groups_needed, Disk as DiskPart, Spool, View, Goes, volume_of, Spools, IsSynced, AreQuiet, StandBelow, lies_there, Rise, SpoolCauses, page_in, All-drop, All-head, All-tail, All-take, IsOutSpec, HasNeededGroups, ReadsTexts, sum-groups, sparing_then, text_there, AreSpooled, AreWritten, none_lost, SparesBut}
+use Rattle.std.proofs.lemmas.List.{length-drop, length-take-le, take-append-drop}
 use Rattle.std.proofs.lemmas.List.Folds.{list_any-append}
 use Rattle.std.proofs.lemmas.Option.{slice_get-get_or}
 use Rattle.spool_text.specs.Texts.{packed}
 use Rattle.member_decks.specs.declared.spooling.SpoolError.{SpoolError}
 use Rattle.member_decks.specs.declared.spooling.SpoolError.TheVariants.{Lost, Halted as Stopped}
+use Rattle.queue_laws.proofs.HandedOut.{or_left, or_right}
 
 -- SHARES OF GROUPS
 
@@ -52,14 +54,6 @@ pub first_fits : (s : OutSpec) (specs : List OutSpec) (groups : List GroupNo) �
 first_fits s specs groups long = let sum = sum-groups s specs in omega (arith, sum, long)
 
 -- CAUSES
-
-or_left : (a b : Bool) → a ≡ true → (a || b) ≡ true
-or_left true b e = refl
-or_left false b e = absurd (cc)
-
-or_right : (a b : Bool) → b ≡ true → (a || b) ≡ true
-or_right true b e = refl
-or_right false b e = e
 
 lies_by : (per v n : ℕ) (groups : List GroupNo) → lies_there per v (take n groups ++ drop n groups) ≡ true → lies_there per v groups ≡ true
 lies_by per v n groups there = subst (λ (gs : List GroupNo). lies_there per v gs ≡ true) (take-append-drop n groups) there

@@ -1,5 +1,5 @@
 -- The job that a member goes on with is in Convert or Execute, and has no output; and the output that it prints.
-use Rattle.member_work.proofs.Names.{◌≡◌, ◌⊎◌, inl, inr, ⊎_elim, ◌&&◌, ◌||◌, nat_lt, if◌then◌else◌, All, ℕ, Bool, true, false, List, [], ◌∷◌, map, Option, Some, None, refl, sym, ap, subst, ◌∙◌, arith, unwrap_or, option_map, option_map_or, find, list_any, nat_tests, All-head, All-tail, JobNo, MemberId, OutNo, Job, Output, Queue, runs, AreDistinct, IsIndex, is_somebody, same_member, same_number, first_in, has_output, in_convert, in_execute, in_output, in_purge, is_busy_at, is_of, job_at, output_at, printing_at, prints_at, total, IsSound, IsSoundOutput, is_there, may_have_outputs, same_key, find-All, test_cases, JobRec, OutRec, IsOutRec, Tables, HasSpelling, Tell, TellSound, ToldAreTheirOwn, IsPrinting, IsUnderWay}
+use Rattle.member_work.proofs.Names.{◌≡◌, ◌||◌, if◌then◌else◌, All, ℕ, Bool, true, false, List, [], ◌∷◌, map, Option, Some, None, unwrap_or, ◌&&◌, nat_lt, refl, sym, ap, subst, ◌∙◌, arith, find, option_map_or, option_map, JobNo, MemberId, OutNo, Job, Output, Queue, runs, IsIndex, AreDistinct, same_number, is_somebody, same_member, has_output, job_at, output_at, printing_at, total, first_in, in_convert, in_execute, in_output, in_purge, is_busy_at, is_of, prints_at, Tables, HasSpelling, Tell, TellSound, list_any, nat_tests, All-head, All-tail, IsSound, IsSoundOutput, is_there, may_have_outputs, same_key, find-All, test_cases, JobRec, OutRec, IsOutRec, ToldAreTheirOwn, IsPrinting, IsUnderWay}
 use Rattle.mas_types.specs.declared.jobs.Phase.{Phase}
 use Rattle.mas_types.specs.declared.jobs.Phase.TheVariants as phase
 use Rattle.mas_types.specs.declared.units.Unit as units
@@ -7,7 +7,7 @@ use Rattle.mas_types.specs.declared.units.Unit.TheVariants as unit
 use Rattle.mas_types.specs.Lists.{first_some}
 use Rattle.mas_types.specs.Selection.{for_convert, for_execute, for_printer}
 use Rattle.mas_types.specs.Units.{print_unit, unit_if, unit_of, working_at}
-use Rattle.queue_laws.proofs.Others.{IsFoundIn, IsKeyFoundIn, found_itself, key_found_itself}
+use Rattle.queue_laws.proofs.Others.{IsFoundIn, IsKeyFoundIn, found_itself, key_found_itself, both_first}
 use Rattle.queue_laws.proofs.SoundEnter.{All-none}
 use Rattle.lay_bytes.specs.Used.{used}
 use Rattle.ckpt_pages.proofs.SlotLists.{all_used}
@@ -18,70 +18,40 @@ use Rattle.output_queue.specs.Outputs as outputs
 
 -- WHICH UNIT IS NEXT
 
--- the unit of a printer, by whether its output has lines after its mark
-print_or : (b : Bool) (u : units.Unit) (n : JobNo) (i : OutNo) → (if b then unit.Print n i else unit.Finish n i) ≡ u → ((b ≡ true) × (unit.Print n i ≡ u)) ⊎ ((b ≡ false) × (unit.Finish n i ≡ u))
-print_or true u n i is = inl (refl, is)
-print_or false u n i is = inr (refl, is)
-
-no_run : (o : Output) (n : JobNo) → print_unit o ≡ unit.Run n → ⊥
-no_run o n is = ⊎_elim (λ w. let other = w.1 in cc) (λ w. let other = w.1 in cc) (print_or (nat_lt o.mark (total o)) (unit.Run n) o.job o.index is)
-
-no_convert : (o : Output) (n : JobNo) → print_unit o ≡ unit.Convert n → ⊥
-no_convert o n is = ⊎_elim (λ w. let other = w.1 in cc) (λ w. let other = w.1 in cc) (print_or (nat_lt o.mark (total o)) (unit.Convert n) o.job o.index is)
-
-module _ (n : JobNo) (p k : Option Output) (a b r c e f : Option Job) where
+module _ (p k : Option Output) (a b r c e f : Option Job) where
   abbrev chosen : units.Unit
   chosen = unwrap_or (first_some (option_map print_unit p ∷ unit_if unit.Pick k ∷ unit_if unit.Purge a ∷ unit_if unit.Gather b ∷ option_map (λ j. unit.Run j.number) r ∷ option_map (λ j. unit.Convert j.number) c ∷ unit_if unit.TakeExec e ∷ unit_if unit.TakeConvert f ∷ [])) unit.Idle
 
-run_is : (n : JobNo) (p k : Option Output) (a b r c e f : Option Job) → chosen n p k a b r c e f ≡ unit.Run n → (j : Job) × (r ≡ Some j) × (j.number ≡ n)
-run_is n (Some o) k a b r c e f is = absurd (no_run o n is)
-run_is n None (Some x) a b r c e f is = absurd (cc)
-run_is n None None (Some x) b r c e f is = absurd (cc)
-run_is n None None None (Some x) r c e f is = absurd (cc)
-run_is n None None None None (Some j) c e f is = (j, refl, cc)
-run_is n None None None None None (Some x) e f is = absurd (cc)
-run_is n None None None None None None (Some x) f is = absurd (cc)
-run_is n None None None None None None None (Some x) is = absurd (cc)
-run_is n None None None None None None None None is = absurd (cc)
+module _ (Q : Queue) (m : MemberId) where
+  -- what the member has at hand of which this is the unit
+  abbrev IsAtHand : units.Unit → Type 0
+  IsAtHand (unit.Print n i) = (o : Output) × (printing_at Q m ≡ Some o) × (nat_lt o.mark (total o) ≡ true) × (o.job ≡ n) × (o.index ≡ i)
+  IsAtHand (unit.Finish n i) = (o : Output) × (printing_at Q m ≡ Some o) × (o.index ≡ i)
+  IsAtHand (unit.Run n) = (j : Job) × (working_at Q m in_execute ≡ Some j) × (j.number ≡ n)
+  IsAtHand (unit.Convert n) = (j : Job) × (working_at Q m in_convert ≡ Some j) × (j.number ≡ n)
+  IsAtHand _ = Unit {0}
 
-convert_is : (n : JobNo) (p k : Option Output) (a b r c e f : Option Job) → chosen n p k a b r c e f ≡ unit.Convert n → (j : Job) × (c ≡ Some j) × (j.number ≡ n)
-convert_is n (Some o) k a b r c e f is = absurd (no_convert o n is)
-convert_is n None (Some x) a b r c e f is = absurd (cc)
-convert_is n None None (Some x) b r c e f is = absurd (cc)
-convert_is n None None None (Some x) r c e f is = absurd (cc)
-convert_is n None None None None (Some x) c e f is = absurd (cc)
-convert_is n None None None None None (Some j) e f is = (j, refl, cc)
-convert_is n None None None None None None (Some x) f is = absurd (cc)
-convert_is n None None None None None None None (Some x) is = absurd (cc)
-convert_is n None None None None None None None None is = absurd (cc)
+  printed_hand : (o : Output) → printing_at Q m ≡ Some o → (b : Bool) → nat_lt o.mark (total o) ≡ b → IsAtHand (if b then unit.Print o.job o.index else unit.Finish o.job o.index)
+  printed_hand o is true below = (o, is, below, refl, refl)
+  printed_hand o is false below = (o, is, refl)
 
--- the unit of the printer's output
-printer_is : (u : units.Unit) (n : JobNo) (i : OutNo) → (u ≡ unit.Print n i) ⊎ (u ≡ unit.Finish n i) → (p k : Option Output) (a b r c e f : Option Job) → chosen n p k a b r c e f ≡ u → (o : Output) × (p ≡ Some o) × (print_unit o ≡ u)
-printer_is u n i either (Some o) k a b r c e f is = (o, refl, is)
-printer_is u n i either None k a b r c e f is = absurd (⊎_elim (λ w. others k a b r c e f (inl (is ∙ w))) (λ w. others k a b r c e f (inr (is ∙ w))) either) where
-  others : (k : Option Output) (a b r c e f : Option Job) → (chosen n None k a b r c e f ≡ unit.Print n i) ⊎ (chosen n None k a b r c e f ≡ unit.Finish n i) → ⊥
-  others (Some x) a b r c e f w = ⊎_elim (λ is. cc) (λ is. cc) w
-  others None (Some x) b r c e f w = ⊎_elim (λ is. cc) (λ is. cc) w
-  others None None (Some x) r c e f w = ⊎_elim (λ is. cc) (λ is. cc) w
-  others None None None (Some x) c e f w = ⊎_elim (λ is. cc) (λ is. cc) w
-  others None None None None (Some x) e f w = ⊎_elim (λ is. cc) (λ is. cc) w
-  others None None None None None (Some x) f w = ⊎_elim (λ is. cc) (λ is. cc) w
-  others None None None None None None (Some x) w = ⊎_elim (λ is. cc) (λ is. cc) w
-  others None None None None None None None w = ⊎_elim (λ is. cc) (λ is. cc) w
+  chosen_hand : (p k : Option Output) (a b r c e f : Option Job) → printing_at Q m ≡ p → working_at Q m in_execute ≡ r → working_at Q m in_convert ≡ c → IsAtHand (chosen p k a b r c e f)
+  chosen_hand (Some o) k a b r c e f prints runs converts = printed_hand o prints (nat_lt o.mark (total o)) refl
+  chosen_hand None (Some x) a b r c e f prints runs converts = tt
+  chosen_hand None None (Some x) b r c e f prints runs converts = tt
+  chosen_hand None None None (Some x) r c e f prints runs converts = tt
+  chosen_hand None None None None (Some j) c e f prints runs converts = (j, runs, refl)
+  chosen_hand None None None None None (Some j) e f prints runs converts = (j, converts, refl)
+  chosen_hand None None None None None None (Some x) f prints runs converts = tt
+  chosen_hand None None None None None None None (Some x) prints runs converts = tt
+  chosen_hand None None None None None None None None prints runs converts = tt
 
-printing_is : (o : Output) (n : JobNo) (i : OutNo) → print_unit o ≡ unit.Print n i → (nat_lt o.mark (total o) ≡ true) × (o.job ≡ n) × (o.index ≡ i)
-printing_is o n i is = ⊎_elim (λ w. let one = w.1 in (w.0, cc, cc)) (λ w. let other = w.1 in absurd (cc)) (print_or (nat_lt o.mark (total o)) (unit.Print n i) o.job o.index is)
-
-finishing_is : (o : Output) (n : JobNo) (i : OutNo) → print_unit o ≡ unit.Finish n i → o.index ≡ i
-finishing_is o n i is = ⊎_elim (λ w. let other = w.1 in absurd (cc)) (λ w. let one = w.1 in cc) (print_or (nat_lt o.mark (total o)) (unit.Finish n i) o.job o.index is)
+  at_hand : (u : units.Unit) → u ≡ unit_of Q m → IsAtHand u
+  at_hand u is = subst IsAtHand (sym is) (chosen_hand (printing_at Q m) (for_printer Q m) (first_in in_purge Q) (first_in in_output Q) (working_at Q m in_execute) (working_at Q m in_convert) (for_execute Q m) (for_convert Q) refl refl refl)
 
 -- THE JOB AT WORK
 
-both_first : (a b : Bool) → (a && b) ≡ true → a ≡ true
-both_first true b e = refl
-both_first false b e = absurd (cc)
-
-both_second : (a b : Bool) → (a && b) ≡ true → b ≡ true
+pub both_second : (a b : Bool) → (a && b) ≡ true → b ≡ true
 both_second true b e = e
 both_second false b e = absurd (cc)
 
@@ -118,26 +88,20 @@ no_outputs _ h = absurd (cc)
 
 -- QUEUES THAT THE SAME TABLES TELL
 
-module _ {X C : Type 0} (shows : X → C) where
-  any_alike : (test : C → Bool) (xs ys : List X) → map shows xs ≡ map shows ys → list_any (λ x. test (shows x)) xs ≡ list_any (λ x. test (shows x)) ys
-  any_alike test [] [] e = refl
-  any_alike test [] (y ∷ ys) e = absurd (cc)
-  any_alike test (x ∷ xs) [] e = absurd (cc)
-  any_alike test (x ∷ xs) (y ∷ ys) e =
-      let here : shows x ≡ shows y = cc in
-      let rest : map shows xs ≡ map shows ys = cc in
-      ap (λ (c : C). test c || list_any (λ z. test (shows z)) xs) here ∙ ap (λ (b : Bool). test (shows y) || b) (any_alike test xs ys rest)
+module _ {X C : Type 0} (shows : X → C) (test : C → Bool) where
+  any_shown : (xs : List X) → list_any test (map shows xs) ≡ list_any (λ x. test (shows x)) xs
+  any_shown [] = refl
+  any_shown (x ∷ xs) = ap (λ (b : Bool). test (shows x) || b) (any_shown xs)
 
-  found_alike : (test : C → Bool) (xs ys : List X) → map shows xs ≡ map shows ys → option_map shows (find (λ x. test (shows x)) xs) ≡ option_map shows (find (λ x. test (shows x)) ys)
-  found_alike test [] [] e = refl
-  found_alike test [] (y ∷ ys) e = absurd (cc)
-  found_alike test (x ∷ xs) [] e = absurd (cc)
-  found_alike test (x ∷ xs) (y ∷ ys) e =
-      let here : shows x ≡ shows y = cc in
-      let rest : map shows xs ≡ map shows ys = cc in
-      test_cases (test (shows y)) (option_map shows (find (λ z. test (shows z)) (x ∷ xs)) ≡ option_map shows (find (λ z. test (shows z)) (y ∷ ys)))
-      (λ t. let s : test (shows x) ≡ true = ap test here ∙ t in rw (s, t) (ap Some here))
-      (λ t. let s : test (shows x) ≡ false = ap test here ∙ t in rw (s, t) (found_alike test xs ys rest))
+  found_shown : (xs : List X) → find test (map shows xs) ≡ option_map shows (find (λ x. test (shows x)) xs)
+  found_shown [] = refl
+  found_shown (x ∷ xs) = test_cases (test (shows x)) (find test (map shows (x ∷ xs)) ≡ option_map shows (find (λ y. test (shows y)) (x ∷ xs))) (λ t. rw t refl) (λ t. rw t (found_shown xs))
+
+  any_alike : (xs ys : List X) → map shows xs ≡ map shows ys → list_any (λ x. test (shows x)) xs ≡ list_any (λ x. test (shows x)) ys
+  any_alike xs ys e = sym (any_shown xs) ∙ ap (list_any test) e ∙ any_shown ys
+
+  found_alike : (xs ys : List X) → map shows xs ≡ map shows ys → option_map shows (find (λ x. test (shows x)) xs) ≡ option_map shows (find (λ x. test (shows x)) ys)
+  found_alike xs ys e = sym (found_shown xs) ∙ ap (find test) e ∙ found_shown ys
 
 -- A JOB AT WORK HAS NO OUTPUT
 
@@ -185,12 +149,12 @@ under_way t Q m n in_phase j own s told ran is number =
 
 pub run_under_way : (t : Tables) (Q : Queue) (m : MemberId) (n : JobNo) → ToldAreTheirOwn → TellSound t → Tell t Q → unit.Run n ≡ unit_of Q m → IsUnderWay Q m n
 run_under_way t Q m n own s told is =
-    let w = run_is n (printing_at Q m) (for_printer Q m) (first_in in_purge Q) (first_in in_output Q) (working_at Q m in_execute) (working_at Q m in_convert) (for_execute Q m) (for_convert Q) (sym is) in
+    let w = at_hand Q m (unit.Run n) is in
     under_way t Q m n in_execute w.0 own s told runs_execute w.1 w.2
 
 pub convert_under_way : (t : Tables) (Q : Queue) (m : MemberId) (n : JobNo) → ToldAreTheirOwn → TellSound t → Tell t Q → unit.Convert n ≡ unit_of Q m → IsUnderWay Q m n
 convert_under_way t Q m n own s told is =
-    let w = convert_is n (printing_at Q m) (for_printer Q m) (first_in in_purge Q) (first_in in_output Q) (working_at Q m in_execute) (working_at Q m in_convert) (for_execute Q m) (for_convert Q) (sym is) in
+    let w = at_hand Q m (unit.Convert n) is in
     under_way t Q m n in_convert w.0 own s told runs_convert w.1 w.2
 
 -- THE OUTPUT AT THE PRINTER
@@ -203,14 +167,13 @@ printed_there Q m o keys is =
 
 pub print_under_way : (t : Tables) (Q : Queue) (m : MemberId) (n : JobNo) (i : OutNo) → ToldAreTheirOwn → TellSound t → Tell t Q → unit.Print n i ≡ unit_of Q m → IsPrinting Q m n i
 print_under_way t Q m n i own s told is =
-    let w = printer_is (unit.Print n i) n i (inl refl) (printing_at Q m) (for_printer Q m) (first_in in_purge Q) (first_in in_output Q) (working_at Q m in_execute) (working_at Q m in_convert) (for_execute Q m) (for_convert Q) (sym is) in
-    let key = printing_is w.0 n i w.2 in
+    let w = at_hand Q m (unit.Print n i) is in
     let there : output_at Q w.0.job w.0.index ≡ Some w.0 = printed_there Q m w.0 (own t Q s told).keys w.1 in
     record {
       output = w.0;
-      there = subst (λ (k : JobNo). output_at Q k i ≡ Some w.0) key.1 (subst (λ (x : OutNo). output_at Q w.0.job x ≡ Some w.0) key.2 there);
+      there = subst (λ (k : JobNo). output_at Q k i ≡ Some w.0) w.3 (subst (λ (x : OutNo). output_at Q w.0.job x ≡ Some w.0) w.4 there);
       busy = w.1;
-      below = let small = key.0 in grind (arith, nat_tests);
+      below = let small = w.2 in grind (arith, nat_tests);
     }
 
 -- an output that is found has an index that an output may have
@@ -236,5 +199,5 @@ indexed_at t Q m o spelled told is =
 
 pub finish_indexed : (t : Tables) (Q : Queue) (m : MemberId) (n : JobNo) (i : OutNo) → HasSpelling t → Tell t Q → unit.Finish n i ≡ unit_of Q m → IsIndex i.0
 finish_indexed t Q m n i spelled told is =
-    let w = printer_is (unit.Finish n i) n i (inr refl) (printing_at Q m) (for_printer Q m) (first_in in_purge Q) (first_in in_output Q) (working_at Q m in_execute) (working_at Q m in_convert) (for_execute Q m) (for_convert Q) (sym is) in
-    subst (λ (x : OutNo). IsIndex x.0) (finishing_is w.0 n i w.2) (indexed_at t Q m w.0 spelled told w.1)
+    let w = at_hand Q m (unit.Finish n i) is in
+    subst (λ (x : OutNo). IsIndex x.0) w.2 (indexed_at t Q m w.0 spelled told w.1)

@@ -9,21 +9,16 @@ use Rattle.mas_types.specs.declared.units.Unit.TheVariants as unit
 one : {A : Type 0} (a b : A) → Some a ≡ Some b → a ≡ b
 one a b e = cc
 
-pub each_command : (P : Command → Type 0) → ((n : JobNo) (i : OutNo) → P (command.Done n i)) → P command.Pick → P command.Purge → P command.Gather → P command.TakeExec → P command.TakeConvert → (u : units.Unit) (c : Command) → command_of u ≡ Some c → P c
-each_command P done pick purge gather exec convert (unit.Finish n i) c is = subst P (one (command.Done n i) c is) (done n i)
-each_command P done pick purge gather exec convert unit.Pick c is = subst P (one command.Pick c is) pick
-each_command P done pick purge gather exec convert unit.Purge c is = subst P (one command.Purge c is) purge
-each_command P done pick purge gather exec convert unit.Gather c is = subst P (one command.Gather c is) gather
-each_command P done pick purge gather exec convert unit.TakeExec c is = subst P (one command.TakeExec c is) exec
-each_command P done pick purge gather exec convert unit.TakeConvert c is = subst P (one command.TakeConvert c is) convert
+pub each_command : (P : units.Unit → Command → Type 0) → ((n : JobNo) (i : OutNo) → P (unit.Finish n i) (command.Done n i)) → P unit.Pick command.Pick → P unit.Purge command.Purge → P unit.Gather command.Gather → P unit.TakeExec command.TakeExec → P unit.TakeConvert command.TakeConvert
+    → (u : units.Unit) (c : Command) → command_of u ≡ Some c → P u c
+each_command P done pick purge gather exec convert (unit.Finish n i) c is = subst (P (unit.Finish n i)) (one (command.Done n i) c is) (done n i)
+each_command P done pick purge gather exec convert unit.Pick c is = subst (P unit.Pick) (one command.Pick c is) pick
+each_command P done pick purge gather exec convert unit.Purge c is = subst (P unit.Purge) (one command.Purge c is) purge
+each_command P done pick purge gather exec convert unit.Gather c is = subst (P unit.Gather) (one command.Gather c is) gather
+each_command P done pick purge gather exec convert unit.TakeExec c is = subst (P unit.TakeExec) (one command.TakeExec c is) exec
+each_command P done pick purge gather exec convert unit.TakeConvert c is = subst (P unit.TakeConvert) (one command.TakeConvert c is) convert
 each_command P done pick purge gather exec convert _ c is = absurd (cc)
 
 -- a unit's command is within the limits, where that which finishes an output is
 pub command_fits : (u : units.Unit) (c : Command) → command_of u ≡ Some c → ((n : JobNo) (i : OutNo) → u ≡ unit.Finish n i → IsIndex i.0) → IsFit c
-command_fits (unit.Finish n i) c is index = subst IsFit (one (command.Done n i) c is) (index n i refl)
-command_fits unit.Pick c is index = subst IsFit (one command.Pick c is) tt
-command_fits unit.Purge c is index = subst IsFit (one command.Purge c is) tt
-command_fits unit.Gather c is index = subst IsFit (one command.Gather c is) tt
-command_fits unit.TakeExec c is index = subst IsFit (one command.TakeExec c is) tt
-command_fits unit.TakeConvert c is index = subst IsFit (one command.TakeConvert c is) tt
-command_fits _ c is index = absurd (cc)
+command_fits = each_command (λ u c. ((n : JobNo) (i : OutNo) → u ≡ unit.Finish n i → IsIndex i.0) → IsFit c) (λ n i index. index n i refl) (λ _. tt) (λ _. tt) (λ _. tt) (λ _. tt) (λ _. tt)

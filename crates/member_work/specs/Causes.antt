@@ -1,7 +1,7 @@
 -- Why a step of work closes as it does, by what each plant tells: which of its parts are lost, and how often they
 -- failed.
-use Rattle.std.specs.Prelude.{Some}
 use Rattle.member_work.specs.Names.{MemberId, Closing, View, IsFoundLost, UnitEnd}
+use Rattle.std.specs.Prelude.{Some}
 use Rattle.mas_types.specs.declared.answers.Closing.TheVariants as closing
 use Rattle.mas_types.specs.declared.commands.Reply.TheVariants as reply
 use Rattle.job_outcome.specs.declared.units.UnitEnd.TheVariants as ends

@@ -1,6 +1,6 @@
 -- Worked examples: what a WORK step gives, and how it closes.
-use Rattle.std.specs.Prelude.{◌≡◌, ℕ, true, false, List, [], ◌∷◌, ◌++◌, Some, None, codes}
 use Rattle.member_work.specs.Names.{Command, OutNo, OutSpec, Gone, Config, Queue, change_job, change_output, change_setting, run, all_entries}
+use Rattle.std.specs.Prelude.{◌≡◌, ℕ, true, false, List, [], ◌∷◌, ◌++◌, Some, None, codes}
 use Rattle.mas_types.specs.declared.commands.Command.TheVariants as command
 use Rattle.mas_types.specs.declared.commands.What.TheVariants as what
 use Rattle.mas_types.specs.declared.jobs.JobFields.{JobFields}

@@ -1,6 +1,6 @@
 -- Commands of a unit on a member's tables.
-use Rattle.std.specs.Prelude.{◌≡◌, ℕ, ◌+◌, ◌*◌, ◌≤◌, Bool, false, List, ◌++◌, length, take, Result}
 use Rattle.member_work.specs.Names.{JobNo, MemberId, Command, OutSpec, Entry, Queue, outputs_at_end, job_at, Tables, HasSpelling, Tell, TellSound, AreFit, run, HasTexts, Spools, HasDone, given_in, AreOf}
+use Rattle.std.specs.Prelude.{◌≡◌, ℕ, ◌+◌, ◌*◌, ◌≤◌, Bool, false, List, ◌++◌, length, take, Result}
 use Rattle.track_groups.specs.Groups.{held_by}
 use Rattle.queue_texts.specs.Leaving.{brings_text}
 use Rattle.member_node.specs.declared.member.Member.{Member}
@@ -33,14 +33,24 @@ abbrev pub LeaveWhere : (Spools → ℕ → Type 0) → Queue → List Entry →
 LeaveWhere holds Q es = (gone : ℕ → Bool) (disks : Spools) (per : ℕ) → holds disks per → HasTexts gone disks per Q
     → HasTexts gone disks per (run Q es)
 
+-- commands that a member gives in a step, and the queue at which the first one is given
+pub record Asked : Type 0 where
+  pub queue : Queue
+  pub by : MemberId
+  pub at : ℕ
+  pub commands : List Command
+
+abbrev pub asked : Queue → MemberId → ℕ → List Command → Asked
+asked Q by at cs = record { queue = Q; by = by; at = at; commands = cs }
+
 -- These commands, given at a queue that the tables told: all of them, or, out of memory, the first ones.
-pub record GivesAt {T E : Type 0} (Q : Queue) (by : MemberId) (at : ℕ) (cs : List Command) (holds : Spools → ℕ → Type 0)
-    (m n : Member) (result : Result T E) : Type 0 where
+pub record GivesAt {T E : Type 0} (a : Asked) (holds : Spools → ℕ → Type 0) (m n : Member) (result : Result T E)
+    : Type 0 where
   pub gave : List Entry
   pub batch : n.batch ≡ m.batch ++ gave
-  pub part : IsPart result gave (given_in Q by at cs)
-  pub effect : Tell n.checkpoint.tables (run Q gave)
-  pub texts : LeaveWhere holds Q gave
+  pub part : IsPart result gave (given_in a.queue a.by a.at a.commands)
+  pub effect : Tell n.checkpoint.tables (run a.queue gave)
+  pub texts : LeaveWhere holds a.queue gave
 
 -- the command brings no text, and is given to tables of a sound queue
 abbrev pub IsSoundPlain : Tables → Command → Type 0

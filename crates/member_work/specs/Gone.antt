@@ -1,8 +1,8 @@
 -- Whether the text of a job, or of an output, is gone, by the queue with which a run began and the entries that are
 -- kept since.
+use Rattle.member_work.specs.Names.{GroupNo, JobNo, OutNo, Command, Reply, Text, Whole, Gone, Entry, Queue, same_number, job_at, output_at}
 use Rattle.std.specs.Prelude.{Bool, false, if◌then◌else◌, List, Option, Some, None}
 use Rattle.std.specs.Option.{option_map_or}
-use Rattle.member_work.specs.Names.{GroupNo, JobNo, OutNo, Command, Reply, Text, Whole, Gone, Entry, Queue, same_number, job_at, output_at}
 use Rattle.std.specs.List.{list_any}
 use Rattle.mas_types.specs.declared.commands.Command.TheVariants as command
 use Rattle.mas_types.specs.declared.commands.Reply.TheVariants as reply

@@ -1,6 +1,6 @@
 -- What stands on paper of the lines of an output that were to be printed, and how many of them are counted.
-use Rattle.std.specs.Prelude.{◌≡◌, ◌≢◌, ◌⊎◌, ℕ, zero, suc, ◌+◌, ◌-◌, ◌≤◌, ◌<◌, Bool, true, false, List, [], ◌∷◌, ◌++◌, length, map, take, Option, None, Some, Result, Ok, Err}
 use Rattle.member_work.specs.Names.{Closing, JobNo, MemberId, OutNo, Line, paper_now, counts_of, Parts, parts_of, NodeNo, BothLost, Halted, ConsoleFault, NoMemory, Read}
+use Rattle.std.specs.Prelude.{◌≡◌, ◌≢◌, ◌⊎◌, ℕ, zero, suc, ◌+◌, ◌-◌, ◌≤◌, ◌<◌, Bool, true, false, List, [], ◌∷◌, ◌++◌, length, map, take, Option, None, Some, Result, Ok, Err}
 use Rattle.mas_types.specs.declared.answers.Closing.TheVariants.{PrinterLost}
 use Rattle.mas_types.specs.Printed.{printed_line}
 use Rattle.spool_plant.specs.declared.plant.Plant.{Ghosts as PlantGhosts}

@@ -1,6 +1,6 @@
 -- What the spool volumes and the printer give a unit of work.
-use Rattle.std.specs.Prelude.{ℕ, Bool, false, List, [], ◌∷◌, Option, Some, None}
 use Rattle.member_work.specs.Names.{Text, Whole, Gone, Read}
+use Rattle.std.specs.Prelude.{ℕ, Bool, false, List, [], ◌∷◌, Option, Some, None}
 use Rattle.job_outcome.specs.declared.outcomes.Read.TheVariants as read
 
 -- A unit finds the text of a job, or of an output, as the queue has it, or it was read otherwise: a volume was found

@@ -1,8 +1,7 @@
 -- A unit that prints the next lines of an output, part by part.
-use Rattle.std.specs.Prelude.{◌≡◌, ℕ, ◌+◌, ◌*◌, ◌≤◌, ◌<◌, Bool, true, if◌then◌else◌, List, ◌++◌, Option, Some, Result}
-use Rattle.member_work.specs.Names.{Closing, Dev, Ckpt1, Ckpt2, JobNo, MemberId, OutNo, Output, Whole, Batch, Queue, IsIndex, printer_lines_most, text_lines_most, line_count, output_at, printing_at, total, Tables, Tell, Disk as DiskPart, View, disk_now, Goes, limit_of, entries_in, kept_all, run, Parts, NodeNo, stopped_in, console_now, Read}
+use Rattle.member_work.specs.Names.{Closing, Dev, Ckpt1, Ckpt2, JobNo, MemberId, OutNo, Output, Queue, IsIndex, printer_lines_most, text_lines_most, line_count, output_at, printing_at, total, Tables, Tell, Disk as DiskPart, View, disk_now, Goes, Parts, NodeNo, stopped_in, console_now, Read}
+use Rattle.std.specs.Prelude.{◌≡◌, ℕ, ◌+◌, ◌*◌, ◌≤◌, ◌<◌, Bool, true, if◌then◌else◌, Option, Some, Result}
 use Rattle.lay_bytes.specs.declared.records.OutRec.{OutRec}
-use Rattle.paper_laws.specs.Paper.{busy_in}
 use Rattle.mas_complex.specs.Locking.{reserved_after_stop}
 use Rattle.lock_cycle.specs.Books.{after_stop}
 use Rattle.member_work.specs.Rounds.{HasPrinterFailed}
@@ -57,20 +56,6 @@ pub record IsChunkOf (t : Tables) (by : MemberId) (r : OutRec) (last : ℕ) : Ty
   pub limit : last ≤ r.mark + printer_lines_most
   pub total : last ≤ r.lines * r.copies
   pub is : (Q : Queue) (o : Output) → Tell t Q → output_at Q r.job r.index ≡ Some o → last ≡ chunk_end Q by o
-
--- The lines of an output up to this one may be printed: it has this text and mark, and is busy at the member after the
--- kept batches, and with one in flight.
-pub record MayPrintTo (base : Queue) (batches : List Batch) (current : Option Batch) (m : MemberId) (n : JobNo)
-    (i : OutNo) (mark last : ℕ) (lines : List (List ℕ)) : Type 0 where
-  pub output : Output
-  pub busy : printing_at (run base (kept_all batches)) m ≡ Some output
-  pub job : output.job ≡ n
-  pub index : output.index ≡ i
-  pub mark_is : output.mark ≡ mark
-  pub text : output.text ≡ Whole lines
-  pub upto : last ≤ total output
-  pub limit : last ≤ output.mark + limit_of (run base (kept_all batches)) m
-  pub still : busy_in (output_at (run base (kept_all batches ++ entries_in current)) n i) m ≡ true
 
 -- PART BY PART
 

@@ -1,6 +1,6 @@
 -- What the spool volumes and the printer may give a unit.
-use Rattle.std.specs.Prelude.{◌≡◌, ℕ, ◌==◌, Bool, true, false, List, Option, Some, None}
 use Rattle.member_work.specs.Names.{Spool, GroupNo, MemberId, Text, Whole, Gone, Disk as DiskPart, Printer, View, Rose, lies_there, Read}
+use Rattle.std.specs.Prelude.{◌≡◌, ℕ, ◌==◌, Bool, true, false, List, Option, Some, None}
 use Rattle.job_outcome.specs.declared.outcomes.Read.TheVariants as read
 use Rattle.member_work.specs.Looks.{as_it_is}
 

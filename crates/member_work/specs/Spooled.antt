@@ -1,6 +1,6 @@
 -- A job's outputs in groups on the spool volumes.
-use Rattle.std.specs.Prelude.{ℕ, List, [], ◌∷◌, drop, take}
 use Rattle.member_work.specs.Names.{GroupNo, OutSpec, Whole, groups_needed, IsThere, Spools, StandBelow}
+use Rattle.std.specs.Prelude.{ℕ, List, [], ◌∷◌, drop, take}
 use Rattle.spool_text.specs.Texts.{packed}
 
 -- the outputs' texts stand in their shares of the groups

@@ -1,7 +1,7 @@
 -- The units of a member's work, and what each gives: its commands, and how it ends.
+use Rattle.member_work.specs.Names.{MemberId, JobNo, OutNo, Closing, Command, Reply, Job, OutSpec, Output, Entry, Queue, groups_of_outputs, outputs_at_end, no_number, job_at, output_at, total, limit_of, run, entry_of, reply_to, are_refused, closing_reply, given_in, takes, Read, UnitEnd, end_by}
 use Rattle.std.specs.Prelude.{ℕ, zero, suc, ◌+◌, min, Bool, true, false, if◌then◌else◌, List, [], ◌∷◌, ◌++◌, Option, Some, None}
 use Rattle.std.specs.Option.{option_map_or}
-use Rattle.member_work.specs.Names.{MemberId, JobNo, OutNo, Closing, Command, Reply, Job, OutSpec, Output, Entry, Queue, groups_of_outputs, outputs_at_end, no_number, job_at, output_at, total, limit_of, run, entry_of, reply_to, are_refused, closing_reply, given_in, takes, Read, UnitEnd, end_by}
 use Rattle.mas_types.specs.declared.answers.Closing.TheVariants as closing
 use Rattle.mas_types.specs.declared.commands.Command.TheVariants as command
 use Rattle.mas_types.specs.declared.units.Unit as units

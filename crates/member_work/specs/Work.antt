@@ -1,6 +1,6 @@
 -- The step WORK n: units one after another, the batches of their commands, and the line with which it closes.
-use Rattle.std.specs.Prelude.{ℕ, zero, suc, ◌+◌, nat_le, Bool, true, false, ◌||◌, if◌then◌else◌, List, [], ◌∷◌, ◌++◌, length, map, filter}
 use Rattle.member_work.specs.Names.{MemberId, Closing, Entry, Queue, run, all_entries, UnitEnd}
+use Rattle.std.specs.Prelude.{ℕ, zero, suc, ◌+◌, nat_le, Bool, true, false, ◌||◌, if◌then◌else◌, List, [], ◌∷◌, ◌++◌, length, map, filter}
 use Rattle.mas_types.specs.declared.answers.Closing.TheVariants as closing
 use Rattle.mas_types.specs.Closings.{closing_line}
 use Rattle.mas_types.specs.Lists.{tail}

@@ -1,7 +1,7 @@
 //! Commands of a unit on a member's tables: the groups for a job's outputs, and Ended.
-ghost use Rattle.std.specs.Prelude.{◌≡◌, ◌+◌, ◌≤◌, ◌<◌, ◌^◌, ◌∷◌, [], false, true, IfOk, Ok, OnErr};
 ghost use Rattle.member_work.specs.Names.{Queue, groups_of_outputs as groups_of_outputs_lem, is_cancelled as is_cancelled_lem, IsFit, members_most, member_count, is_member, job_at, may_give, HasSpelling, AreOutputs, AreFit, IsGiver, Tell, TellSound, reply_to, closing_reply, given_in, Done, IsNamedEnd, end_by as end_by_lem};
-ghost use Rattle.member_work.specs.Giving.{GivesAt, HasGiven, IsSoundPlain, MayEnd};
+ghost use Rattle.std.specs.Prelude.{◌≡◌, ◌+◌, ◌≤◌, ◌<◌, ◌^◌, ◌∷◌, [], false, true, IfOk, Ok, OnErr};
+ghost use Rattle.member_work.specs.Giving.{GivesAt, HasGiven, IsSoundPlain, MayEnd, asked};
 ghost use Rattle.member_work.specs.Units.{drop_groups, ending, groups_for_end as groups_for_end_lem, taken_end, taking};
 
 use crate::spooling::groups_of_outputs;
@@ -54,8 +54,8 @@ pub fn give(
     requires order { member.old.checkpoint.tables.order + 32 < 2 ^ 63 }
     ensures has { HasGiven step member.old member.new }
     ensures gives { (Q : Queue) → Tell member.old.checkpoint.tables Q
-        → GivesAt Q member.old.id step (command ∷ []) (λ disks per. IsSoundPlain member.old.checkpoint.tables command)
-        member.old member.new result }
+        → GivesAt (asked Q member.old.id step (command ∷ []))
+        (λ disks per. IsSoundPlain member.old.checkpoint.tables command) member.old member.new result }
     ensures end { IfOk result (λ end. (Q : Queue) → Tell member.old.checkpoint.tables Q
         → end ≡ end_by_lem (reply_to Q member.old.id command)) }
     ensures named { IfOk result IsNamedEnd }
@@ -82,7 +82,7 @@ pub fn give_back(
     requires order { member.old.checkpoint.tables.order + 32 < 2 ^ 63 }
     ensures has { HasGiven step member.old member.new }
     ensures gives { (Q : Queue) → Tell member.old.checkpoint.tables Q
-        → GivesAt Q member.old.id step (drop_groups ∷ []) (λ disks per. TellSound member.old.checkpoint.tables)
+        → GivesAt (asked Q member.old.id step (drop_groups ∷ [])) (λ disks per. TellSound member.old.checkpoint.tables)
         member.old member.new result }
     ensures end { IfOk result (λ e. e ≡ end) }
     ensures err { OnErr result (member.new ≡ member.old) }
@@ -109,7 +109,7 @@ pub fn take_for_end(
     requires order { member.old.checkpoint.tables.order + 96 < 2 ^ 63 }
     ensures has { HasGiven step member.old member.new }
     ensures gives { (Q : Queue) → Tell member.old.checkpoint.tables Q
-        → GivesAt Q member.old.id step (taking Q member.old.id needed)
+        → GivesAt (asked Q member.old.id step (taking Q member.old.id needed))
         (λ disks per. TellSound member.old.checkpoint.tables) member.old member.new result }
     ensures end { IfOk result (λ end. (Q : Queue) → Tell member.old.checkpoint.tables Q
         → end ≡ taken_end Q member.old.id step needed) }
@@ -148,7 +148,7 @@ pub fn give_end(
     requires order { member.old.checkpoint.tables.order + 64 < 2 ^ 63 }
     ensures has { HasGiven step member.old member.new }
     ensures gives { (Q : Queue) → Tell member.old.checkpoint.tables Q
-        → GivesAt Q member.old.id step (ending Q member.old.id job specs)
+        → GivesAt (asked Q member.old.id step (ending Q member.old.id job specs))
         (λ disks per. MayEnd member.old.checkpoint.tables Q member.old.id job specs disks per) member.old member.new
         result }
     ensures end { IfOk result (λ end. (Q : Queue) → Tell member.old.checkpoint.tables Q

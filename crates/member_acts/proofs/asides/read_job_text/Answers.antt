@@ -1,15 +1,12 @@
-use Rattle.member_acts.proofs.Names.{◌≡◌, ◌∙◌, List, All, false, true, is_some, ap, refl, subst, sym, err_from_is_err_and, GroupNo, Config, Queue, Deck, groups_of, kept_all, run, parts_of, IsGroupOf, SparesBut, sparing_none, names_read, tells_some, acts_none, quiet_none, spools_at, groups_within, number_of, told_job, Found, FindsText}
-use Rattle.member_work.proofs.JobLemmas.{whole_text}
+use Rattle.std.specs.Option.{option_map}
+use Rattle.member_acts.proofs.Names.{Job, ◌≡◌, List, All, false, true, ◌∙◌, is_some, ap, refl, subst, sym, kept_all, run, parts_of, IsGroupOf, names_read, spools_at, err_from_is_err_and, GroupNo, Config, Queue, Deck, groups_of, SparesBut, sparing_none, tells_some, acts_none, quiet_none, groups_within, number_of, told_job, Found, FindsText, whole_text}
 use Rattle.member_acts.proofs.Shown.{gone_is, job_seen}
 use Rattle.member_acts.proofs.asides.read_job_text.Goals as goal
 
 -- A TEXT THAT WAS GONE
 
-pub gone_deck-requires-clause-numbers : goal.gone_deck-requires-clause-numbers
-gone_deck-requires-clause-numbers g c told = (c.requires.may.sound told).numbers
-
-pub gone_deck-requires-clause-config : goal.gone_deck-requires-clause-config
-gone_deck-requires-clause-config g c told = (c.requires.may.sound told).config
+pub gone_group-requires : goal.gone_group-requires
+gone_group-requires g c = c.requires.may.sound
 
 pub returns-in-Some-clause-reads : goal.returns-in-Some-clause-reads
 returns-in-Some-clause-reads g c =
@@ -17,41 +14,40 @@ returns-in-Some-clause-reads g c =
     let x = c.args.complex.now in
     let m = c.args.member.now in
     let v = P.view x.plant in
-    let n = c.args.job in
     record {
       acts = acts_none P.tells m.id.0 v;
       reads = λ told. quiet_none (spools_at v v.now);
       cause = subst (λ (k : Found). SparesBut m.id.0 false (names_read k.read) v v) (sym c.found_read.ensures) (sparing_none m.id.0 v);
-      finds = subst (λ (f : Found). FindsText P (parts_of x) (parts_of x) m n f) (sym c.found_read.ensures)
-          (record { only = refl; fits = tt; failed = tt; read = λ told roomy j there again. gone_is j.text c.in-Some.group (sym c.in-Some.is ∙ c.gone_deck.ensures.gone told j there) });
+      finds = subst (λ (f : Found). FindsText P (parts_of x) (parts_of x) m c.args.job f) (sym c.found_read.ensures)
+          (record { only = refl; fits = tt; failed = tt; read = λ told roomy j there again. gone_is j.text c.in-Some.group (sym c.in-Some.is ∙ c.gone_group.ensures.gone told j.text (ap (option_map (λ (x : Job). x.text)) there)) });
     }
 
 -- THE RECORD OF THE JOB
 
 pub unreachable-requires : goal.unreachable-requires
 unreachable-requires g c =
-    let t = c.args.member.now.checkpoint.tables in
-    let s = tells_some t in
+    let s = tells_some c.args.member.now.checkpoint.tables in
     let none = rw c.as_slice.ensures at c.in_default-find_job.ensures.none in
-    let job = c.requires.there s.0 s.1 in
-    absurd (let not : false ≡ true = ap is_some (sym (none s.0.jobs s.1.jobs)) ∙ job in cc)
+    absurd (let not : false ≡ true = ap is_some (sym (none s.0.jobs s.1.jobs)) ∙ (c.requires.there s.0 s.1) in cc)
 
-pub read_text-requires-clause-within : goal.read_text-requires-clause-within
-read_text-requires-clause-within g c =
+pub read_text-requires-clause-may : goal.read_text-requires-clause-may
+read_text-requires-clause-may g c =
     let t = c.args.member.now.checkpoint.tables in
-    let x = c.args.complex.now in
     let its = Deck c.args.job in
     let list : c.as_slice-groups.result.now ≡ groups_of its t.owners = c.as_slice-groups.ensures ∙ c.in-Ok.ensures ∙ ap (groups_of its) c.as_slice-2.ensures in
-    subst (λ (l : List GroupNo). All (IsGroupOf x.base.config) l) (sym list)
-    (subst (λ (k : Config). All (IsGroupOf k) (groups_of its t.owners)) (sym c.requires.may.config) (groups_within c.law_of_places.ensures.own its t.owners t.config c.requires.may.spelling.shape.owners))
+    record {
+      up = c.requires.may.up;
+      some = c.requires.may.some;
+      within = subst (λ (l : List GroupNo). All (IsGroupOf c.args.complex.now.base.config) l) (sym list)
+          (subst (λ (k : Config). All (IsGroupOf k) (groups_of its t.owners)) (sym c.requires.may.config) (groups_within c.law_of_places.ensures.own its t.owners t.config c.requires.may.spelling.shape.owners));
+    }
 
 pub read_text-requires-clause-count : goal.read_text-requires-clause-count
 read_text-requires-clause-count g c =
-    let t = c.args.member.now.checkpoint.tables in
     let f = c.in-Some-find_job.found in
     let some = rw c.as_slice.ensures at c.in-Some-find_job.ensures.some in
     let here = rw c.as_slice.ensures at c.in-Some-find_job.ensures.here in
-    (told_job t c.args.job f.at f.item c.requires.may.spelling some here).few
+    (told_job c.args.member.now.checkpoint.tables c.args.job f.at f.item c.requires.may.spelling some here).few
 
 -- THE JOB'S TEXT IS READ
 
@@ -65,7 +61,7 @@ returns-in_default-groups_of-clause-reads g c =
 pub returns-in_err-read-clause-reads : goal.returns-in_err-read-clause-reads
 returns-in_err-read-clause-reads g c =
     let p = err_from_is_err_and c.from_residual.result c.from_residual.ensures.1 in
-    rw (p.1, p.2) (record { acts = c.read_text.ensures.acts; reads = c.read_text.ensures.reads; cause = c.in_err-read.ensures.cause; finds = tt })
+    rw (p.1, p.2) (record { acts = c.read_text.ensures.on.acts; reads = c.read_text.ensures.on.reads; cause = c.in_err-read.ensures.cause; finds = tt })
 
 pub returns-clause-reads : goal.returns-clause-reads
 returns-clause-reads g c =
@@ -85,18 +81,17 @@ returns-clause-reads g c =
     let number : f.item.number ≡ n = sym (ap (λ r. r.number) own.is) ∙ number_of n own.item s.0.jobs own.found in
     let list : c.as_slice-groups.result.now ≡ groups_of its t.owners = c.as_slice-groups.ensures ∙ c.in-Ok.ensures ∙ ap (groups_of its) c.as_slice-2.ensures in
     let Q : Queue = run x.base (kept_all x.journal.batches) in
-    let reads = rw list at c.in_ok-read.ensures.read in
-    let failed = rw list at c.in_ok-read.ensures.failed in
+    let seen = rw list at c.in_ok-read.ensures.text in
     record {
-      acts = c.read_text.ensures.acts;
-      reads = c.read_text.ensures.reads;
+      acts = c.read_text.ensures.on.acts;
+      reads = c.read_text.ensures.on.reads;
       cause = subst (λ (k : Found). SparesBut m.id.0 false (names_read k.read) (P.view x.plant) (P.view y.plant)) (sym c.found_read-2.ensures) c.in_ok-read.ensures.cause;
       finds = subst (λ (k : Found). FindsText P (parts_of x) (parts_of y) m n k) (sym c.found_read-2.ensures)
           (record {
             only = refl;
-            fits = c.in_ok-read.ensures.fits;
-            failed = failed;
+            fits = seen.fits;
+            failed = seen.failed;
             read = λ told roomy j there. job_seen P.tells x.base.config t Q (P.view x.plant) (P.view y.plant) n f.item j c.in_ok-read.read (c.requires.still told) job number there told
-                (whole_text j.text (sym (c.gone_deck.ensures.gone told j there) ∙ c.in_default.is)) roomy (c.kept_texts.ensures.kept told) reads failed;
+                (whole_text j.text (sym (c.gone_group.ensures.gone told j.text (ap (option_map (λ (x : Job). x.text)) there)) ∙ c.in_default.is)) roomy (c.kept_texts.ensures.kept told) seen.text seen.failed;
           });
     }

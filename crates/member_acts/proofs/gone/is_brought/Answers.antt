@@ -1,4 +1,4 @@
-use Rattle.member_acts.proofs.Names.{◌∙◌, List, ap, list_any, command_of, reply_of, brings_by}
+use Rattle.member_acts.proofs.Names.{◌∙◌, ap, List, list_any, command_of, reply_of, brings_by}
 use Rattle.brief_journal.specs.declared.entries.BriefEntry.{BriefEntry}
 use Rattle.member_acts.proofs.BriefLemmas.{any_brought}
 use Rattle.member_acts.proofs.gone.is_brought.Goals as goal

@@ -1,51 +1,21 @@
-use Rattle.member_acts.proofs.Names.{false, [], Some, ap, refl, sym, arith, printed_end, wires_none, sparing_none, parts_of, is_printer_lost, beside_none, if_wrong, unprinted}
+use Rattle.member_acts.proofs.Names.{refl, parts_of}
 use Rattle.mas_types.specs.declared.answers.Closing.TheVariants as closing
-use Rattle.member_acts.proofs.InkedLemmas.{inked_all, printed_none}
+use Rattle.job_outcome.specs.declared.outcomes.Read.TheVariants as read
+use Rattle.member_acts.specs.Prints.{upto}
+use Rattle.member_acts.proofs.InkedLemmas.{lines_unread}
 use Rattle.member_acts.proofs.printing.print_text.Goals as goal
 
-pub returns-in-Gone : goal.returns-in-Gone
-returns-in-Gone g c = record {
-  frame = refl;
-  acts = beside_none g.P.Plant.tells (g.P.Plant.view c.args.complex.now.plant);
-  disks = λ told d. refl;
-  inks =
-      let x = parts_of c.args.complex.now in
-      rw c.in-Gone.is (λ told. inked_all g.P.Plant c.args.by [] is_printer_lost x x (printed_none g.P.Plant c.args.by [] x) (omega arith) (Some (closing.NoText c.in-Gone.group)) refl (omega arith));
-  printed = unprinted c.args.by c.args.read.now (g.P.Plant.view c.args.complex.now.plant) (closing.NoText c.in-Gone.group) (sym (ap (printed_end false) c.in-Gone.is));
-  counted = λ is. absurd (cc);
-  cause = sparing_none c.args.by.0 (g.P.Plant.view c.args.complex.now.plant);
-  other_counts = λ m other. refl;
-  wires = λ told. wires_none (g.P.Plant.view c.args.complex.now.plant);
-  lines = tt;
-}
+pub returns-in-Gone-clause-prints : goal.returns-in-Gone-clause-prints
+returns-in-Gone-clause-prints g c =
+    rw c.in-Gone.is (lines_unread g.P.Plant c.args.by (upto c.args.output.now c.args.last) (parts_of c.args.complex.now) (read.Gone c.in-Gone.group) (closing.NoText c.in-Gone.group) refl refl refl)
 
-pub returns-in-Lost : goal.returns-in-Lost
-returns-in-Lost g c = record {
-  frame = refl;
-  acts = beside_none g.P.Plant.tells (g.P.Plant.view c.args.complex.now.plant);
-  disks = λ told d. refl;
-  inks =
-      let x = parts_of c.args.complex.now in
-      rw c.in-Lost.is (λ told. inked_all g.P.Plant c.args.by [] is_printer_lost x x (printed_none g.P.Plant c.args.by [] x) (omega arith) (Some (closing.SpoolLost c.in-Lost.volume)) refl (omega arith));
-  printed = unprinted c.args.by c.args.read.now (g.P.Plant.view c.args.complex.now.plant) (closing.SpoolLost c.in-Lost.volume) (sym (ap (printed_end false) c.in-Lost.is));
-  counted = λ is. absurd (cc);
-  cause = sparing_none c.args.by.0 (g.P.Plant.view c.args.complex.now.plant);
-  other_counts = λ m other. refl;
-  wires = λ told. wires_none (g.P.Plant.view c.args.complex.now.plant);
-  lines = tt;
-}
+pub returns-in-Lost-clause-prints : goal.returns-in-Lost-clause-prints
+returns-in-Lost-clause-prints g c =
+    let end = closing.SpoolLost c.in-Lost.volume in
+    rw c.in-Lost.is (lines_unread g.P.Plant c.args.by (upto c.args.output.now c.args.last) (parts_of c.args.complex.now) (read.Lost c.in-Lost.volume) end refl refl refl)
 
-pub print_lines-requires-clause-some : goal.print_lines-requires-clause-some
-print_lines-requires-clause-some g c = let long = rw c.in-Lines.is at c.requires.count in omega (arith, long, c.requires.some)
+pub print_lines-requires : goal.print_lines-requires
+print_lines-requires g c = rw c.in-Lines.is at c.requires
 
-pub print_lines-requires-clause-may : goal.print_lines-requires-clause-may
-print_lines-requires-clause-may g c told = c.requires.may told c.in-Lines.text c.in-Lines.is
-
-pub returns-in-Lines-clause-printed : goal.returns-in-Lines-clause-printed
-returns-in-Lines-clause-printed g c = rw c.in-Lines.is c.print_lines.ensures.printed
-
-pub returns-in-Lines-clause-inks : goal.returns-in-Lines-clause-inks
-returns-in-Lines-clause-inks g c = rw c.in-Lines.is c.print_lines.ensures.inks
-
-pub returns-in-Lines-clause-lines : goal.returns-in-Lines-clause-lines
-returns-in-Lines-clause-lines g c = if_wrong c.print_lines.result (λ n. rw c.in-Lines.is refl)
+pub returns-in-Lines-clause-prints : goal.returns-in-Lines-clause-prints
+returns-in-Lines-clause-prints g c = rw c.in-Lines.is c.print_lines.ensures.prints

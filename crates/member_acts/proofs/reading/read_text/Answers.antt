@@ -1,23 +1,31 @@
-use Rattle.member_acts.proofs.Names.{◌∙◌, ap, false, get_or, subst, take, List, take_all, take_more, GroupNo, Parts, sparing_then, acts_on}
-use Rattle.member_acts.proofs.ReadLemmas.{HaveRead, read_more, read_whole}
+use Rattle.member_acts.proofs.Names.{◌∙◌, ap, get_or, subst, take, false, List, [], All-cons, All-get_or, All-nil, IsGroupOf, take_all, take_more, GroupNo, Parts, parts_of, sparing_then}
+use Rattle.member_acts.specs.Reads.{AddsGroup, so_far}
+use Rattle.member_acts.proofs.ReadLemmas.{HaveRead, read_more, read_whole, reads_then, unfailed}
 use Rattle.member_acts.proofs.reading.read_text.Goals as goal
 
 abbrev none : GroupNo
 none = record { 0 = 0 }
 
-pub add_group-requires-clause-up : goal.add_group-requires-clause-up
-add_group-requires-clause-up g c = rw (ap (λ p. p.book) c.loop-group.invariant.frame) c.requires.up
+pub add_group-requires : goal.add_group-requires
+add_group-requires g c =
+    let x = c.args.complex.now in
+    let groups = c.args.groups.now in
+    let k = c.loop-group.group-index in
+    let base = ap (λ p. p.base) c.loop-group.invariant.frame in
+    record {
+      up = rw (ap (λ p. p.book) c.loop-group.invariant.frame) c.requires.may.up;
+      some = rw base c.requires.may.some;
+      within = rw base (All-cons (IsGroupOf x.base.config) (get_or groups k none) [] (All-get_or (IsGroupOf x.base.config) groups k none c.loop-group-test.true c.requires.may.within) (All-nil (IsGroupOf x.base.config)));
+    }
 
-pub add_group-requires-clause-some : goal.add_group-requires-clause-some
-add_group-requires-clause-some g c = rw (ap (λ p. p.base) c.loop-group.invariant.frame) c.requires.some
+pub returns-in_err-volume-clause-on : goal.returns-in_err-volume-clause-on
+returns-in_err-volume-clause-on g c = reads_then g.P.Plant c.args.by (parts_of c.args.complex.now) (parts_of c.loop-group.complex) (parts_of c.add_group.new.complex) c.loop-group.invariant.have.on c.add_group.ensures.on
 
 pub returns-in-Some-clause-frame : goal.returns-in-Some-clause-frame
 returns-in-Some-clause-frame g c = c.add_group.ensures.frame ∙ ap (λ (p : Parts _ _). record p { plant = c.add_group.new.complex.plant }) c.loop-group.invariant.frame
 
-pub returns-in-Some-clause-acts : goal.returns-in-Some-clause-acts
-returns-in-Some-clause-acts g c =
-    let P = g.P.Plant in
-    acts_on P.tells c.args.by.0 (P.view c.args.complex.now.plant) (P.view c.loop-group.complex.plant) (P.view c.add_group.new.complex.plant) c.loop-group.invariant.have.acts c.add_group.ensures.acts
+pub returns-in-Some-clause-on : goal.returns-in-Some-clause-on
+returns-in-Some-clause-on g c = reads_then g.P.Plant c.args.by (parts_of c.args.complex.now) (parts_of c.loop-group.complex) (parts_of c.add_group.new.complex) c.loop-group.invariant.have.on c.add_group.ensures.on
 
 pub returns-in-Some-clause-cause : goal.returns-in-Some-clause-cause
 returns-in-Some-clause-cause g c =
@@ -26,7 +34,6 @@ returns-in-Some-clause-cause g c =
 
 pub loop-group-preserved : goal.loop-group-preserved
 loop-group-preserved g c =
-    let P = g.P.Plant in
     let x = c.args.complex.now in
     let y = c.loop-group.complex in
     let z = c.add_group.new.complex in
@@ -34,21 +41,24 @@ loop-group-preserved g c =
     let e = c.add_group.ensures in
     let groups = c.args.groups.now in
     let k = c.loop-group.group-index in
-    let group = get_or groups k none in
-    let adds = rw (c.in_default.is, ap (λ p. p.base) i.frame) at c.in_ok-volume.ensures.added in
+    let adds : AddsGroup g.P.Plant.tells y.base.config (get_or groups k none) (g.P.Plant.view y.plant) (so_far c.loop-group.lines c.loop-group.gone) (so_far c.add_group.new.lines c.add_group.new.gone) = rw c.in_default.is at c.in_ok-volume.ensures.added in
     let cause = rw c.in_default.is at c.in_ok-volume.ensures.cause in
     record {
       frame = e.frame ∙ ap (λ (p : Parts _ _). record p { plant = z.plant }) i.frame;
       have = rw (take_more groups k none c.loop-group-test.true)
-          (read_more P.tells c.args.by.0 x.base.config (P.view x.plant) (P.view y.plant) (P.view z.plant) (take k groups) group c.loop-group.lines c.add_group.new.lines c.loop-group.gone c.add_group.new.gone i.have e.acts cause e.reads adds);
+          (read_more g.P.Plant c.args.by (parts_of x) (parts_of y) (parts_of z) (take k groups) (get_or groups k none) c.loop-group.lines c.add_group.new.lines c.loop-group.gone c.add_group.new.gone i.have e.on cause (rw (ap (λ p. p.base) i.frame) at adds));
     }
 
-pub returns-clause-read : goal.returns-clause-read
-returns-clause-read g c =
-    let P = g.P.Plant in
-    let x = c.args.complex.now in
-    let y = c.loop-group.complex in
+pub returns-clause-text : goal.returns-clause-text
+returns-clause-text g c =
+    let x = parts_of c.args.complex.now in
+    let y = parts_of c.loop-group.complex in
     let groups = c.args.groups.now in
-    let have : HaveRead P.tells c.args.by.0 x.base.config (P.view x.plant) (P.view y.plant) groups c.loop-group.lines c.loop-group.gone
-    = subst (λ (l : List GroupNo). HaveRead P.tells c.args.by.0 x.base.config (P.view x.plant) (P.view y.plant) l c.loop-group.lines c.loop-group.gone) (take_all c.loop-group.group-index groups c.loop-group-test.false) c.loop-group.invariant.have in
-    read_whole P.tells c.args.by.0 x.base.config (P.view x.plant) (P.view y.plant) groups c.loop-group.lines c.loop-group.gone c.args.count c.ended.result have c.ended.ensures.text
+    let have : HaveRead g.P.Plant c.args.by x groups c.loop-group.lines c.loop-group.gone y
+    = subst (λ (l : List GroupNo). HaveRead g.P.Plant c.args.by x l c.loop-group.lines c.loop-group.gone y) (take_all c.loop-group.group-index groups c.loop-group-test.false) c.loop-group.invariant.have in
+    record {
+      fits = c.ended.ensures.fits;
+      counted = c.ended.ensures.counted;
+      failed = unfailed x.base.config.groups _ groups c.ended.result (g.P.Plant.view x.plant) (g.P.Plant.view y.plant) c.ended.ensures.text;
+      text = read_whole g.P.Plant c.args.by x y groups c.loop-group.lines c.loop-group.gone c.args.count c.ended.result have c.ended.ensures.text;
+    }

@@ -123,7 +123,7 @@ returns-in-Err-BadCard-clause-opens g c =
     let config = (c.requires.may.sits.seat.between.queue told).config in
     card_closes Q h a s refused (subst (λ (k : Config). read_as k.node j.text ≡ Err refused) (sym config) card))
     (sat_more P.tells h (2 * length s.frames + 3) (unwritten m.batch) t x y c.close_line.result (omega (arith, one))
-    (sat_line x y m h (unwritten m.batch) t (wrote_of m.batch t) c.close_line.result nothing w.work (λ told. ap (λ (es : List Entry). wrote_of es t) nothing) (rw c.in-Err-BadCard.field-0-is at c.close_line.ensures.serves))))
+    (sat_line x y m h (unwritten m.batch) t (wrote_of m.batch t) c.close_line.result nothing w.still (λ told. ap (λ (es : List Entry). wrote_of es t) nothing) (rw c.in-Err-BadCard.field-0-is at c.close_line.ensures.serves))))
 
 pub returns-in-Err-BadCard-clause-again : goal.returns-in-Err-BadCard-clause-again
 returns-in-Err-BadCard-clause-again g c = again_told c.close_line.new.complex c.close_line.new.member c.args.holder.step c.close_line.result c.close_line.ensures.told c.close_line.ensures.seat

@@ -10,7 +10,7 @@ use Rattle.step_turns.specs.Turns.{says}
 use Rattle.member_giving.specs.Plays.{unwritten, wrote_of}
 use Rattle.member_giving.specs.Works.{outside, place_of}
 use Rattle.member_giving.proofs.Cuts.{of_batch, starts_itself}
-use Rattle.member_giving.proofs.Going.{apart_then, closes_err, closes_ok, played_close, played_error}
+use Rattle.member_giving.proofs.Going.{apart_then, played_close, played_error}
 use Rattle.member_giving.proofs.Seated.{closes_said, said_apart, seat_said}
 use Rattle.member_giving.proofs.Working.{own_batch, same_run}
 use Rattle.member_frames.specs.Plays.{IsWithinLine}
@@ -44,10 +44,10 @@ returns-in_err-keep-clause-serves g c =
 -- THE LINE
 
 pub tell_lines-requires-clause-up : goal.tell_lines-requires-clause-up
-tell_lines-requires-clause-up g c = c.in_ok-keep.ensures.works.may.up
+tell_lines-requires-clause-up g c = c.in_ok-keep.ensures.works.still.holds.may.up
 
 pub tell_lines-requires-clause-none : goal.tell_lines-requires-clause-none
-tell_lines-requires-clause-none g c = c.in_ok-keep.ensures.works.work.none
+tell_lines-requires-clause-none g c = c.in_ok-keep.ensures.works.still.none
 
 pub tell_lines-requires-clause-kept : goal.tell_lines-requires-clause-kept
 tell_lines-requires-clause-kept g c told =
@@ -80,7 +80,7 @@ returns-in_err-tell_lines-clause-serves g c =
     let q = err_from_is_err_and c.from_residual-in_err-tell_lines.result c.from_residual-in_err-tell_lines.ensures.1 in
     let said = closes_said y z n h o.works t.pair t.journal t.current t.placed lines (Err _) (rw c.in-Ok.ensures at c.in_err-tell_lines.ensures.said) in
     rw (q.1, q.2) (played_close P.tells h (IsWithinLine h (unwritten m.batch)) c.args.given {S = Unit {0}} _ (Err _) lines (place_of x m) (outside y) (outside z) tt (own_batch x m h c.requires.works) (line_within h m.batch c.args.end.now c.requires.closes)
-    (apart_then P.tells h.by (outside x) (outside y) (outside z) o.keeps.course.goes.later said.course.goes c.keep.ensures.spares (said_apart y z h.by t.said.acts (ap (λ p. p.had) t.frame))) o.keeps o.counts (closes_err P.tells h.by _ lines [] (outside y) (outside z) said) t.printed)
+    (apart_then P.tells h.by (outside x) (outside y) (outside z) o.keeps.closes.course.goes.later said.course.goes c.keep.ensures.spares (said_apart y z h.by t.said.acts (ap (λ p. p.had) t.frame))) o.keeps o.counts said t.printed)
 
 pub returns-clause-run : goal.returns-clause-run
 returns-clause-run g c =
@@ -102,7 +102,7 @@ returns-clause-serves g c =
     let lines = closing_line h.by h.step c.args.end.now ∷ [] in
     let said = closes_said y z n h o.works t.pair t.journal t.current t.placed lines (Ok _) (rw c.in-Ok.ensures at c.in_ok-tell_lines.ensures.said) in
     played_close P.tells h (IsWithinLine h (unwritten m.batch)) c.args.given {S = Unit {0}} _ (Ok _) lines (place_of x m) (outside y) (outside z) (refl, refl, c.release_of-release.ensures) (own_batch x m h c.requires.works) (line_within h m.batch c.args.end.now c.requires.closes)
-    (apart_then P.tells h.by (outside x) (outside y) (outside z) o.keeps.course.goes.later said.course.goes c.keep.ensures.spares (said_apart y z h.by t.said.acts (ap (λ p. p.had) t.frame))) o.keeps o.counts (closes_ok P.tells h.by _ _ lines [] (outside y) (outside z) said) t.printed
+    (apart_then P.tells h.by (outside x) (outside y) (outside z) o.keeps.closes.course.goes.later said.course.goes c.keep.ensures.spares (said_apart y z h.by t.said.acts (ap (λ p. p.had) t.frame))) o.keeps o.counts said t.printed
 
 pub returns-clause-seat : goal.returns-clause-seat
 returns-clause-seat g c =

@@ -46,7 +46,7 @@ returns-in-Some-clause-serves g c =
     let one = unwritten_one m.batch in
     let w = works_sits x m h c.requires.may.sits c.requires.may.bounds c.requires.may.holder c.requires.base_sound in
     rw c.in-Some.is (sat_more P.tells h (2 * length c.args.service.frames + 1) (unwritten m.batch) t x y c.close_line.result (omega (arith, one))
-    (sat_line x y m h (unwritten m.batch) t (wrote_of m.batch t) c.close_line.result nothing w.work (λ told. ap (λ (es : List Entry). wrote_of es t) nothing) c.close_line.ensures.serves))
+    (sat_line x y m h (unwritten m.batch) t (wrote_of m.batch t) c.close_line.result nothing w.still (λ told. ap (λ (es : List Entry). wrote_of es t) nothing) c.close_line.ensures.serves))
 
 pub returns-in-Some-clause-again : goal.returns-in-Some-clause-again
 returns-in-Some-clause-again g c = again_told c.close_line.new.complex c.close_line.new.member c.args.holder.step c.close_line.result c.close_line.ensures.told c.close_line.ensures.seat

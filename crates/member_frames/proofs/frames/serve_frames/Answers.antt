@@ -137,7 +137,7 @@ returns-in_default-clause-serves g c =
     let here = kept_here x m nothing in
     let w = works_sits x m h c.requires.may.sits c.requires.may.bounds c.requires.may.holder c.requires.base_sound in
     sat_more P.tells h (2 * length s.frames + 1) (2 * frames_in n + 1) (ends_or_serves h.by h.step None s Q) x y r (omega (arith, few))
-    (sat_line x y m h (2 * frames_in n + 1) (ends_or_serves h.by h.step None s Q) (wrote_of [] (turn_by h.by h.step n (queue_here x m) 0)) r nothing w.work
+    (sat_line x y m h (2 * frames_in n + 1) (ends_or_serves h.by h.step None s Q) (wrote_of [] (turn_by h.by h.step n (queue_here x m) 0)) r nothing w.still
     (λ told. ap (wrote_of []) (
     ap (λ (k : Next). turn_by h.by h.step k (queue_here x m) 0) (c.next_of.ensures.is (queue_here x m) (tells_here x m h w told))
     ∙ sym (serves_as h.by h.step s.frames s (queue_here x m) 0)

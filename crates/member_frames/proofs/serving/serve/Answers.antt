@@ -198,7 +198,7 @@ pub give-requires-clause-may : goal.give-requires-clause-may
 give-requires-clause-may g c =
     let w = c.frames.invariant.works in
     let v = rw c.in-Send.is at c.frames.invariant.servable in
-    record { plain = refl; fit = v.0.line; giver = (w.some, w.by); may = w.member; closes = refl }
+    record { plain = refl; fit = v.0.line; giver = (w.still.holds.some, w.still.holds.few); may = w.still.holds.member; closes = refl }
 
 pub give-requires-clause-right : goal.give-requires-clause-right
 give-requires-clause-right g c told = tt

@@ -5,7 +5,7 @@ use Rattle.member_giving.proofs.Working.{same_run}
 use Rattle.member_giving.proofs.giving.free_groups.Goals as goal
 
 pub give_back-requires-clause-member : goal.give_back-requires-clause-member
-give_back-requires-clause-member g c = subst (λ (k : Config). is_member k c.args.member.now.id ≡ true) c.requires.works.work.config c.requires.works.member
+give_back-requires-clause-member g c = subst (λ (k : Config). is_member k c.args.member.now.id ≡ true) c.requires.works.still.config c.requires.works.still.holds.member
 
 -- OUT OF MEMORY
 
@@ -18,7 +18,7 @@ give_up-requires-clause-works g c =
     let w = c.requires.works in
     let has = c.give_back.ensures.has in
     let gives = c.in_default.ensures.gives in
-    works_first x m n h w has (λ (R : Queue) (i : MemberId). drop_groups ∷ []) _ _ gives c.requires.nothing (λ R. omega arith) (λ R. dropping_unmarked x.base m.id w.member) w.work.sound c.kept_texts.ensures.kept
+    works_first x m n h w has (λ (R : Queue) (i : MemberId). drop_groups ∷ []) _ _ gives c.requires.nothing (λ R. omega arith) (λ R. dropping_unmarked x.base m.id w.still.holds.member) w.sound c.kept_texts.ensures.kept
 
 pub give_up-requires-clause-high : goal.give_up-requires-clause-high
 give_up-requires-clause-high g c = let level = c.give_back.ensures.has.level in let room = c.requires.low.high in omega (arith, level, room)
@@ -52,7 +52,7 @@ returns g c =
       run = same_run c.args.complex.now c.args.complex.now c.args.member.now c.give_back.new.member c.args.holder refl refl refl refl c.give_back.ensures.has.id;
       given = given_done x m n h w has (λ (R : Queue) (i : MemberId). drop_groups ∷ []) _ c.in-Ok.end (λ (R : Queue) (i : MemberId). Refused (SpoolLost c.args.volume)) gives (λ R told. c.in-Ok.ensures.end);
       named = subst IsNamedEnd (sym c.in-Ok.ensures.end) tt;
-      works = works_first x m n h w has (λ (R : Queue) (i : MemberId). drop_groups ∷ []) _ _ gives c.requires.nothing (λ R. omega arith) (λ R. dropping_unmarked x.base m.id w.member) w.work.sound c.kept_texts.ensures.kept;
+      works = works_first x m n h w has (λ (R : Queue) (i : MemberId). drop_groups ∷ []) _ _ gives c.requires.nothing (λ R. omega arith) (λ R. dropping_unmarked x.base m.id w.still.holds.member) w.sound c.kept_texts.ensures.kept;
       room = room_first x m n h w has (λ (R : Queue) (i : MemberId). drop_groups ∷ []) _ _ gives c.requires.nothing (λ R. omega arith) c.requires.low;
       reached = refl;
       lost = c.in-Ok.ensures.end;

@@ -6,7 +6,7 @@ use Rattle.member_giving.proofs.Working.{same_run}
 use Rattle.member_giving.proofs.giving.give.Goals as goal
 
 pub give-requires-clause-may : goal.give-requires-clause-may
-give-requires-clause-may g c s = may_config c.args.member.now.checkpoint.tables c.args.complex.now.base s c.requires.works.work.config c.args.member.now.id c.args.command c.requires.may.may
+give-requires-clause-may g c s = may_config c.args.member.now.checkpoint.tables c.args.complex.now.base s c.requires.works.still.config c.args.member.now.id c.args.command c.requires.may.may
 
 -- OUT OF MEMORY
 
@@ -46,8 +46,8 @@ returns g c =
           let may = c.requires.may in
           let gives = c.in-Ok.ensures.gives in
           let one = one_more m n h d s.0 (gives s.0 s.1) in
-          works_given x m n h w c.give.ensures.has (λ (R : Queue) (i : MemberId). d ∷ []) _ _ gives (omega (arith, one, c.requires.few)) (λ t. (w.work.sound t, plain_brings d may.plain)) c.kept_texts.ensures.kept
-          (λ t. let its = gives (queue_here x m) (tells_here x m h w t) in subst (λ (es : List Entry). MayBegin x.base x.journal.batches x.printed es) (sym (its.batch ∙ ap (λ (es : List Entry). m.batch ++ es) its.part)) (more_begins x.base m.id x.journal.batches x.printed m.batch h.step d (reply_to (queue_here x m) m.id d) may.may may.fit (λ sound. c.requires.right t) (w.work.allowed t)));
+          works_given x m n h w c.give.ensures.has (λ (R : Queue) (i : MemberId). d ∷ []) _ _ gives (omega (arith, one, c.requires.few)) (λ t. (w.sound t, plain_brings d may.plain)) c.kept_texts.ensures.kept
+          (λ t. let its = gives (queue_here x m) (tells_here x m h w t) in subst (λ (es : List Entry). MayBegin x.base x.journal.batches x.printed es) (sym (its.batch ∙ ap (λ (es : List Entry). m.batch ++ es) its.part)) (more_begins x.base m.id x.journal.batches x.printed m.batch h.step d (reply_to (queue_here x m) m.id d) may.may may.fit (λ sound. c.requires.right t) (w.allowed t)));
       order =
           let one = one_more m c.give.new.member c.args.holder c.args.command s.0 (c.in-Ok.ensures.gives s.0 s.1) in
           let order = c.give.ensures.has.order in

@@ -1,4 +1,5 @@
-use Rattle.member_giving.proofs.Names.{[], counted_up, keeping_error_of, batch_of, outside}
+use Rattle.member_giving.proofs.Names.{[], counted_up, batch_of, outside}
+use Rattle.member_giving.proofs.Keeping.{keeping_wanted}
 use Rattle.member_giving.proofs.giving.give_up.Goals as goal
 
 pub returns-in-Ok-clause-gives_up : goal.returns-in-Ok-clause-gives_up
@@ -9,7 +10,7 @@ returns-in-Ok-clause-gives_up g c =
     let h = c.args.holder in
     let es = c.args.member.now.batch in
     record {
-      keeps = keeping_error_of {S = Unit {0}} {T = Unit {0}} g.P.Plant.tells h.by (batch_of es) o.batches z.batches o.first z.first o.second z.second o.view z.view tt c.in-Ok.ensures.keeps;
+      keeps = keeping_wanted g.P.Plant.tells h.by (batch_of es) o z c.in-Ok.ensures.keeps;
       counts = counted_up h.by es [] o.printed z.printed _ _ c.in-Ok.ensures.counts;
       spares = k.spares;
     }

@@ -1,13 +1,14 @@
-use Rattle.member_giving.proofs.Names.{◌∙◌, ap, refl, subst, sym, arith, ◌+◌, List, Ok, length, Entry, HasCounted, counted_none, on_ok, keeping_none, all_entries, outside, Tables}
+use Rattle.member_giving.proofs.Names.{◌∙◌, ap, refl, subst, sym, arith, ◌+◌, List, Ok, length, Entry, HasCounted, counted_none, on_ok, all_entries, outside, Tables}
 use Rattle.member_giving.proofs.Cuts.{after_all, after_none, batch_entries, full_all, full_none}
 use Rattle.member_giving.proofs.Going.{apart_none}
 use Rattle.member_giving.proofs.Working.{less_room}
+use Rattle.member_giving.proofs.Keeping.{keeping_none}
 use Rattle.member_giving.proofs.giving.keep_full.Goals as goal
 
 pub returns-then-len-lt-BATCH_MOST-clause-keeps : goal.returns-then-len-lt-BATCH_MOST-clause-keeps
 returns-then-len-lt-BATCH_MOST-clause-keeps g c =
     let o = outside c.args.complex.now in
-    rw (full_none c.args.member.now.batch (omega arith)) (keeping_none {T = Unit {0}} g.P.Plant.tells c.args.holder.by o.batches o.batches refl tt o.first o.second o.view)
+    rw (full_none c.args.member.now.batch (omega arith)) (keeping_none g.P.Plant.tells c.args.holder.by o)
 
 pub returns-then-len-lt-BATCH_MOST-clause-spares : goal.returns-then-len-lt-BATCH_MOST-clause-spares
 returns-then-len-lt-BATCH_MOST-clause-spares g c = apart_none g.P.Plant.tells c.args.holder.by (outside c.args.complex.now)

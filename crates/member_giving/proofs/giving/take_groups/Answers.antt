@@ -1,10 +1,11 @@
-use Rattle.member_giving.proofs.Names.{◌≡◌, true, Ok, subst, sym, ◌∙◌, refl, arith, ap, MemberId, Config, Queue, is_member, Done, tells_some, IsAnswered, taken_end, taking_unmarked, taken_answered, taking_few, taking}
+use Rattle.member_giving.proofs.Names.{◌≡◌, true, Ok, subst, sym, ◌∙◌, refl, arith, ap, MemberId, Config, Queue, is_member, Done, tells_some, IsAnswered, taken_end, taking_unmarked, taken_answered, taking}
+use Rattle.step_turns.proofs.Takes.{few_taking}
 use Rattle.member_giving.proofs.Given.{given_done, given_not, room_first, works_first}
 use Rattle.member_giving.proofs.Working.{same_run}
 use Rattle.member_giving.proofs.giving.take_groups.Goals as goal
 
 pub take_for_end-requires-clause-member : goal.take_for_end-requires-clause-member
-take_for_end-requires-clause-member g c = subst (λ (k : Config). is_member k c.args.member.now.id ≡ true) c.requires.works.work.config c.requires.works.member
+take_for_end-requires-clause-member g c = subst (λ (k : Config). is_member k c.args.member.now.id ≡ true) c.requires.works.still.config c.requires.works.still.holds.member
 
 -- OUT OF MEMORY
 
@@ -17,7 +18,7 @@ give_up-requires-clause-works g c =
     let w = c.requires.works in
     let has = c.take_for_end.ensures.has in
     let gives = c.in_default.ensures.gives in
-    works_first x m n h w has (λ (R : Queue) (i : MemberId). taking R i c.args.needed) _ _ gives c.requires.nothing (λ R. taking_few R m.id h.step c.args.needed c.requires.needed) (λ R. taking_unmarked x.base m.id w.member R c.args.needed) w.work.sound c.kept_texts.ensures.kept
+    works_first x m n h w has (λ (R : Queue) (i : MemberId). taking R i c.args.needed) _ _ gives c.requires.nothing (λ R. few_taking R m.id c.args.needed) (λ R. taking_unmarked x.base m.id w.still.holds.member R c.args.needed) w.sound c.kept_texts.ensures.kept
 
 pub give_up-requires-clause-high : goal.give_up-requires-clause-high
 give_up-requires-clause-high g c = let level = c.take_for_end.ensures.has.level in let room = c.requires.low.high in omega (arith, level, room)
@@ -51,8 +52,8 @@ returns g c =
       run = same_run c.args.complex.now c.args.complex.now c.args.member.now c.take_for_end.new.member c.args.holder refl refl refl refl c.take_for_end.ensures.has.id;
       given = given_done x m n h w has (λ (R : Queue) (i : MemberId). taking R i c.args.needed) _ c.in-Ok.end (λ (R : Queue) (i : MemberId). taken_end R i h.step c.args.needed) gives c.in-Ok.ensures.end;
       named = c.in-Ok.ensures.named;
-      works = works_first x m n h w has (λ (R : Queue) (i : MemberId). taking R i c.args.needed) _ _ gives c.requires.nothing (λ R. taking_few R m.id h.step c.args.needed c.requires.needed) (λ R. taking_unmarked x.base m.id w.member R c.args.needed) w.work.sound c.kept_texts.ensures.kept;
-      room = room_first x m n h w has (λ (R : Queue) (i : MemberId). taking R i c.args.needed) _ _ gives c.requires.nothing (λ R. taking_few R m.id h.step c.args.needed c.requires.needed) c.requires.low;
+      works = works_first x m n h w has (λ (R : Queue) (i : MemberId). taking R i c.args.needed) _ _ gives c.requires.nothing (λ R. few_taking R m.id c.args.needed) (λ R. taking_unmarked x.base m.id w.still.holds.member R c.args.needed) w.sound c.kept_texts.ensures.kept;
+      room = room_first x m n h w has (λ (R : Queue) (i : MemberId). taking R i c.args.needed) _ _ gives c.requires.nothing (λ R. few_taking R m.id c.args.needed) c.requires.low;
       reached = refl;
       enough = λ done. let same : c.in-Ok.end ≡ Done = cc in c.in-Ok.ensures.enough (ap Ok same);
       answered =

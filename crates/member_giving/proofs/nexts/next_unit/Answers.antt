@@ -1,5 +1,4 @@
-use Rattle.member_giving.proofs.Names.{true, false, ◌≡◌, ◌-◌, ◌∙◌, ap, sym, unit_of, tells_some, command_fits, next_unit as next_unit_lem, units_from, Next, turn_by}
-use Rattle.mas_types.specs.declared.units.Unit as units
+use Rattle.member_giving.proofs.Names.{true, false, ◌-◌, ◌∙◌, ap, sym, unit_of, tells_some, command_fits, Next, turn_by}
 use Rattle.member_work.proofs.UnderWayLemmas.{convert_under_way, finish_indexed, print_under_way, run_under_way}
 use Rattle.member_giving.proofs.Following.{by_command, by_convert, by_none, by_print, by_run, none_left, some_left}
 use Rattle.member_giving.proofs.Resting.{lines_ready, lines_wait, text_ready, text_waits}
@@ -18,11 +17,8 @@ find_unit-next-requires-clause-kept c = c.args.member.now.indexed
 pub returns-in-Some-clause-unit : goal.returns-in-Some-clause-unit
 returns-in-Some-clause-unit c Q h given own told =
     let p = c.args.progress in
-    let u = c.find_unit-next.result in
-    let is : unit_of Q h.by ≡ u = ap (unit_of Q) own ∙ sym (c.find_unit-next.ensures Q told) in
-    some_left h p.left Q given p.done c.if-progress-eq0.false
-    ∙ ap (λ (x : units.Unit). next_unit_lem h x (p.left - 1) (units_from h (p.left - 1)) Q given p.done) is
-    ∙ by_command h (p.left - 1) Q given p.done u c.in-Some.command (sym c.command_of.ensures ∙ c.in-Some.is)
+    some_left h p.left Q given p.done _ c.if-progress-eq0.false (ap (unit_of Q) own ∙ sym (c.find_unit-next.ensures Q told))
+    ∙ by_command h (p.left - 1) Q given p.done c.find_unit-next.result c.in-Some.command (sym c.command_of.ensures ∙ c.in-Some.is)
 
 pub returns-in-Some-clause-right : goal.returns-in-Some-clause-right
 returns-in-Some-clause-right c =
@@ -36,27 +32,21 @@ returns-in-Some-clause-right c =
 pub returns-in-Run-clause-unit : goal.returns-in-Run-clause-unit
 returns-in-Run-clause-unit c Q h given own told =
     let p = c.args.progress in
-    let is : unit_of Q h.by ≡ c.find_unit-next.result = ap (unit_of Q) own ∙ sym (c.find_unit-next.ensures Q told) in
-    some_left h p.left Q given p.done c.if-progress-eq0.false
-    ∙ ap (λ (x : units.Unit). next_unit_lem h x (p.left - 1) (units_from h (p.left - 1)) Q given p.done) (is ∙ c.in-Run.is)
+    some_left h p.left Q given p.done _ c.if-progress-eq0.false (ap (unit_of Q) own ∙ sym (c.find_unit-next.ensures Q told) ∙ c.in-Run.is)
     ∙ by_run h (p.left - 1) Q given p.done c.in-Run.job
     ∙ ap (λ (x : Next). turn_by h x (p.left - 1) Q given p.done) (sym (c.next_text.ensures.is Q told))
 
 pub returns-in-Convert-clause-unit : goal.returns-in-Convert-clause-unit
 returns-in-Convert-clause-unit c Q h given own told =
     let p = c.args.progress in
-    let is : unit_of Q h.by ≡ c.find_unit-next.result = ap (unit_of Q) own ∙ sym (c.find_unit-next.ensures Q told) in
-    some_left h p.left Q given p.done c.if-progress-eq0.false
-    ∙ ap (λ (x : units.Unit). next_unit_lem h x (p.left - 1) (units_from h (p.left - 1)) Q given p.done) (is ∙ c.in-Convert.is)
+    some_left h p.left Q given p.done _ c.if-progress-eq0.false (ap (unit_of Q) own ∙ sym (c.find_unit-next.ensures Q told) ∙ c.in-Convert.is)
     ∙ by_convert h (p.left - 1) Q given p.done c.in-Convert.job
     ∙ ap (λ (x : Next). turn_by h x (p.left - 1) Q given p.done) (sym (c.next_text-in-Convert.ensures.is Q told))
 
 pub returns-in-Print-clause-unit : goal.returns-in-Print-clause-unit
 returns-in-Print-clause-unit c Q h given own told =
     let p = c.args.progress in
-    let is : unit_of Q h.by ≡ c.find_unit-next.result = ap (unit_of Q) own ∙ sym (c.find_unit-next.ensures Q told) in
-    some_left h p.left Q given p.done c.if-progress-eq0.false
-    ∙ ap (λ (x : units.Unit). next_unit_lem h x (p.left - 1) (units_from h (p.left - 1)) Q given p.done) (is ∙ c.in-Print.is)
+    some_left h p.left Q given p.done _ c.if-progress-eq0.false (ap (unit_of Q) own ∙ sym (c.find_unit-next.ensures Q told) ∙ c.in-Print.is)
     ∙ by_print h (p.left - 1) Q given p.done c.args.member.now.id (sym own) c.in-Print.job c.in-Print.output
     ∙ ap (λ (x : Next). turn_by h x (p.left - 1) Q given p.done) (sym (c.next_lines.ensures.is Q told))
 
@@ -80,9 +70,7 @@ returns-in-Print-clause-right c =
 pub returns-in_default-next-clause-unit : goal.returns-in_default-next-clause-unit
 returns-in_default-next-clause-unit c Q h given own told =
     let p = c.args.progress in
-    let is : unit_of Q h.by ≡ c.find_unit-next.result = ap (unit_of Q) own ∙ sym (c.find_unit-next.ensures Q told) in
-    some_left h p.left Q given p.done c.if-progress-eq0.false
-    ∙ ap (λ (x : units.Unit). next_unit_lem h x (p.left - 1) (units_from h (p.left - 1)) Q given p.done) is
+    some_left h p.left Q given p.done _ c.if-progress-eq0.false (ap (unit_of Q) own ∙ sym (c.find_unit-next.ensures Q told))
     ∙ by_none h (p.left - 1) Q given p.done c.find_unit-next.result (sym c.command_of.ensures ∙ c.in_default.is) c.in_default-next.not-Print c.in_default-next.not-Run c.in_default-next.not-Convert
 
 -- WHAT WAITS

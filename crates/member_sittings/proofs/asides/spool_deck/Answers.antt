@@ -1,9 +1,9 @@
-use Rattle.member_sittings.proofs.Names.{◌≡◌, ◌≤◌, ◌∙◌, ℕ, List, All, Result, length, take, ap, subst, sym, Config, groups_needed, member_count, kept_all, run, parts_of, spools_at, NodeNo, Rise, acts_none, kept_none, sparing_none, Found, HasSpooled, lowest_groups}
+use Rattle.member_sittings.proofs.Names.{arith, groups_few, ◌≡◌, ◌≤◌, ℕ, List, All, Result, length, take, ◌∙◌, ap, subst, sym, Config, groups_needed, member_count, kept_all, run, parts_of, spools_at, NodeNo, Rise, acts_none, kept_none, sparing_none, Found, HasSpooled, lowest_groups, All-take}
 use Rattle.mas_types.specs.declared.ids.GroupNo.{GroupNo}
 use Rattle.track_groups.specs.Groups.{held_by}
 use Rattle.mas_complex.specs.Spool.{IsGroupOf, IsHeldBy}
 use Rattle.member_decks.proofs.HeldLemmas.{all_within, as_many_held, lowest_rise}
-use Rattle.member_sittings.proofs.AsideLemmas.{all_take, spools_by}
+use Rattle.member_sittings.proofs.AsideLemmas.{spools_by}
 use Rattle.member_sittings.proofs.asides.spool_deck.Goals as goal
 
 pub slice_bounds-spool_text-end : goal.slice_bounds-spool_text-end
@@ -14,50 +14,39 @@ slice_bounds-spool_text-end g c =
     let enough : need ≤ member_count m.id m.checkpoint.tables.owners = subst (λ (k : ℕ). k ≤ member_count m.id m.checkpoint.tables.owners) (sym c.groups_needed-groups.ensures) c.requires.groups.enough in
     subst (λ (l : List GroupNo). need ≡ length (take need l)) (sym list) (sym (as_many_held m.id m.checkpoint.tables.owners need enough))
 
-pub spool_text-requires-clause-as_many : goal.spool_text-requires-clause-as_many
-spool_text-requires-clause-as_many g c =
+pub spool_text-requires : goal.spool_text-requires
+spool_text-requires g c =
     let m = c.args.member.now in
+    let x = c.args.complex.now in
     let need : ℕ = c.groups_needed-groups.result in
-    let list : c.as_slice-2.result.now ≡ held_by m.id m.checkpoint.tables.owners = c.as_slice-2.ensures ∙ c.in-Ok.ensures ∙ ap (held_by m.id) c.as_slice.ensures in
+    let its : List GroupNo = held_by m.id m.checkpoint.tables.owners in
+    let list : c.as_slice-2.result.now ≡ its = c.as_slice-2.ensures ∙ c.in-Ok.ensures ∙ ap (held_by m.id) c.as_slice.ensures in
     let enough : need ≤ member_count m.id m.checkpoint.tables.owners = subst (λ (k : ℕ). k ≤ member_count m.id m.checkpoint.tables.owners) (sym c.groups_needed-groups.ensures) c.requires.groups.enough in
-    subst (λ (l : List GroupNo). length (take need l) ≡ groups_needed c.args.text.now) (sym list) (as_many_held m.id m.checkpoint.tables.owners need enough ∙ c.groups_needed-groups.ensures)
-
-pub spool_text-requires-clause-rise : goal.spool_text-requires-clause-rise
-spool_text-requires-clause-rise g c =
-    let m = c.args.member.now in
-    let need : ℕ = c.groups_needed-groups.result in
-    let list : c.as_slice-2.result.now ≡ held_by m.id m.checkpoint.tables.owners = c.as_slice-2.ensures ∙ c.in-Ok.ensures ∙ ap (held_by m.id) c.as_slice.ensures in
-    subst (λ (l : List GroupNo). Rise (take need l)) (sym list) (lowest_rise m.id m.checkpoint.tables.owners need)
-
-pub spool_text-requires-clause-within : goal.spool_text-requires-clause-within
-spool_text-requires-clause-within g c =
-    let m = c.args.member.now in
-    let x = c.args.complex.now in
-    let need : ℕ = c.groups_needed-groups.result in
-    let list : c.as_slice-2.result.now ≡ held_by m.id m.checkpoint.tables.owners = c.as_slice-2.ensures ∙ c.in-Ok.ensures ∙ ap (held_by m.id) c.as_slice.ensures in
-    subst (λ (l : List GroupNo). All (IsGroupOf x.base.config) (take need l)) (sym list)
-    (subst (λ (k : Config). All (IsGroupOf k) (take need (held_by m.id m.checkpoint.tables.owners))) (sym c.requires.config) (all_within m.id m.checkpoint.tables.owners need m.checkpoint.tables.config c.requires.shape.owners))
-
-pub spool_text-requires-clause-held : goal.spool_text-requires-clause-held
-spool_text-requires-clause-held g c told =
-    let m = c.args.member.now in
-    let x = c.args.complex.now in
-    let need : ℕ = c.groups_needed-groups.result in
-    let list : c.as_slice-2.result.now ≡ held_by m.id m.checkpoint.tables.owners = c.as_slice-2.ensures ∙ c.in-Ok.ensures ∙ ap (held_by m.id) c.as_slice.ensures in
-    subst (λ (l : List GroupNo). All (λ h. IsHeldBy m.id h (run x.base (kept_all x.journal.batches))) (take need l)) (sym list)
-    (all_take (λ (h : GroupNo). IsHeldBy m.id h (run x.base (kept_all x.journal.batches))) need (held_by m.id m.checkpoint.tables.owners) (c.requires.held told))
+    let many : length (take need c.as_slice-2.result.now) ≡ groups_needed c.args.text.now = subst (λ (l : List GroupNo). length (take need l) ≡ groups_needed c.args.text.now) (sym list) (as_many_held m.id m.checkpoint.tables.owners need enough ∙ c.groups_needed-groups.ensures) in
+    let Held = λ (h : GroupNo). IsHeldBy m.id h (run x.base (kept_all x.journal.batches)) in
+    record {
+      up = c.requires.up;
+      none = c.requires.none;
+      text = c.requires.groups.lines;
+      few = let most = groups_few c.args.text.now c.requires.groups.lines in omega (arith, many, most);
+      as_many = many;
+      rise = subst (λ (l : List GroupNo). Rise (take need l)) (sym list) (lowest_rise m.id m.checkpoint.tables.owners need);
+      some = subst (λ (k : Config). 1 ≤ k.groups) (sym c.requires.config) c.requires.shape.config.groups.0;
+      within = subst (λ (l : List GroupNo). All (IsGroupOf x.base.config) (take need l)) (sym list)
+          (subst (λ (k : Config). All (IsGroupOf k) (take need its)) (sym c.requires.config) (all_within m.id m.checkpoint.tables.owners need m.checkpoint.tables.config c.requires.shape.owners));
+      held = λ told. subst (λ (l : List GroupNo). All Held (take need l)) (sym list) (All-take Held need its (c.requires.held told));
+    }
 
 pub returns-in_default-clause-spools : goal.returns-in_default-clause-spools
 returns-in_default-clause-spools g c =
     let P = g.P.Plant in
     let v = P.view c.args.complex.now.plant in
-    let x = c.args.complex.now in
     let m = c.args.member.now in
     record {
       acts = acts_none P.tells m.id.0 v;
       cause = sparing_none m.id.0 v;
       finds = tt;
-      spares = λ told. kept_none x.base.config.groups (lowest_groups m.id m.checkpoint.tables.owners c.args.text.now) (spools_at v v.now);
+      spares = λ told. kept_none c.args.complex.now.base.config.groups (lowest_groups m.id m.checkpoint.tables.owners c.args.text.now) (spools_at v v.now);
     }
 
 pub returns-clause-spools : goal.returns-clause-spools

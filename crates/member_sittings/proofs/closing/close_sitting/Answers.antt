@@ -25,12 +25,10 @@ returns-in_err-play_batch-clause-sat g c =
 
 pub returns-clause-sat : goal.returns-clause-sat
 returns-clause-sat g c =
-    let P = g.P.Plant in
-    let x = c.args.complex.now in
     let z = c.play_batch.new.complex in
     let m = c.args.member.now in
     let h = c.args.holder in
-    sat_closed P m.id h c.requires.may.holder Told c.args.lines.now (parts_of x) (parts_of z) m.batch c.requires.may.some c.in_ok-play_batch.ensures.notes.others _
+    sat_closed g.P.Plant m.id h c.requires.may.holder Told c.args.lines.now (parts_of c.args.complex.now) (parts_of z) m.batch c.requires.may.some c.in_ok-play_batch.ensures.notes.others _
     (ends_of h m.batch Told c.args.lines.now c.len-given.result c.release_of-release.result c.len-given.ensures c.release_of-release.ensures) c.in_ok-play_batch.ensures.step c.in_ok-play_batch.ensures.counts
 
 pub returns-clause-again : goal.returns-clause-again

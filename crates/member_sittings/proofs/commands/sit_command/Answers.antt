@@ -1,4 +1,4 @@
-use Rattle.member_sittings.proofs.Names.{◌≡◌, ◌∙◌, ◌<◌, ◌^◌, ℕ, List, [], ◌∷◌, refl, sym, ap, subst, arith, ∥∥₁_map, MemberId, Entry, Queue, reply_lines, Tables, kept_all, run, parts_of, lost_now, spools_at, none_out, entry_of, entry_with, reply_to, TellKept, reply_tells, if_ok, may_alike, some_of_one, step_texts, one_of, Told, nothing_found, ends_in, Commanded}
+use Rattle.member_sittings.proofs.Names.{◌≡◌, ◌<◌, ◌^◌, ℕ, List, [], ◌∷◌, ◌∙◌, refl, sym, ap, subst, arith, ∥∥₁_map, MemberId, Entry, Queue, reply_lines, Tables, kept_all, run, parts_of, lost_now, spools_at, none_out, entry_of, entry_with, reply_to, TellKept, reply_tells, if_ok, may_alike, some_of_one, step_texts, one_of, Told, nothing_found, ends_in, Commanded}
 use Rattle.member_sittings.proofs.KeepLemmas.{sat_none}
 use Rattle.member_sittings.proofs.SeatLemmas.{gives_one, may_keep, sat_on}
 use Rattle.member_sittings.proofs.TurnLemmas.{all_of_one, command_sits}
@@ -25,7 +25,6 @@ returns-in_default-clause-sat g c =
 pub close_sitting-requires-clause-may : goal.close_sitting-requires-clause-may
 close_sitting-requires-clause-may g c =
     let P = g.P.Plant in
-    let C = g.C.Copying in
     let x = c.args.complex.now in
     let m = c.args.member.now in
     let n = c.give.new.member in
@@ -48,7 +47,7 @@ close_sitting-requires-clause-may g c =
       fit = e.fit;
     } in
     record {
-      gives = gives_one P C (parts_of x) m n did c.args.holder.step sits c.args.command k.given.0 k.given.2 may.may may.fit may.unmarked e.order k.done
+      gives = gives_one P g.C.Copying (parts_of x) m n did c.args.holder.step sits c.args.command k.given.0 k.given.2 may.may may.fit may.unmarked e.order k.done
           (λ t. k.sound (b.sound t) (may_alike m.checkpoint.tables x.base (kept_all x.journal.batches) (b.sound t) (b.queue t) m.id c.args.command may.may))
           (λ t. ∥∥₁_map (c.kept_texts.ensures.kept t) (λ has. step_texts c.law_of_texts.ensures.texts c.law_of_texts.ensures.told (lost_now v) (spools_at v v.now) x.base.config.groups x.base x.base x.journal.batches x.journal.batches
           m.checkpoint.tables m.id c.args.holder.step c.args.command n.batch may.plain (b.sound t) (b.queue t) refl refl (k.entry _ (b.queue t)) has));
@@ -94,14 +93,13 @@ returns-clause-sat g c =
 
 pub returns-clause-again : goal.returns-clause-again
 returns-clause-again g c =
-    let x = c.args.complex.now in
     let m = c.args.member.now in
     let n = c.give.new.member in
     let z = c.close_sitting.new.complex in
     let l = c.close_sitting.new.member in
     let d = c.give.ensures in
     let tables = ap (λ (t : Tables). t.order) c.close_sitting.ensures.tables in
-    sat_on g.P.Plant g.C.Copying (parts_of x) m n d.level (parts_of z) l c.args.holder.step c.close_sitting.result (omega (arith, d.order, tables)) c.close_sitting.ensures.again
+    sat_on g.P.Plant g.C.Copying (parts_of c.args.complex.now) m n d.level (parts_of z) l c.args.holder.step c.close_sitting.result (omega (arith, d.order, tables)) c.close_sitting.ensures.again
 
 pub returns-clause-told : goal.returns-clause-told
 returns-clause-told g c = if_ok _ (λ e. e.next ≡ Told) c.close_sitting.result (λ e ends. ends.next) c.close_sitting.ensures.sat.sat.ends

@@ -1,4 +1,4 @@
-use Rattle.member_sittings.proofs.Names.{◌∙◌, ◌<◌, ◌^◌, ℕ, List, [], ◌∷◌, ap, refl, subst, sym, arith, MemberId, parts_of, none_out, TellKept, closing_reply, lines_by, Told, ends_in, IsSatAs}
+use Rattle.member_sittings.proofs.Names.{◌∙◌, ap, refl, subst, sym, arith, ◌<◌, ◌^◌, ℕ, List, [], ◌∷◌, MemberId, parts_of, none_out, TellKept, closing_reply, lines_by, Told, ends_in, IsSatAs}
 use Rattle.member_sittings.proofs.KeepLemmas.{sat_none}
 use Rattle.member_sittings.proofs.Telling.{deck_tells}
 use Rattle.member_sittings.proofs.decks.close_deck.Goals as goal
@@ -14,12 +14,11 @@ returns-in_default-clause-sat g c =
 
 pub returns-clause-sat : goal.returns-clause-sat
 returns-clause-sat g c =
-    let x = c.args.complex.now in
     let z = c.close_sitting.new.complex in
     let m = c.args.member.now in
     let h = c.args.holder in
     let lines = c.in-Ok.ensures ∙ ap (λ (i : MemberId). lines_by i h.step c.args.lost (closing_reply m.batch)) (sym c.requires.may.holder) in
-    subst (λ (ls : List (List ℕ)). IsSatAs g.P.Plant h.by (ends_in h (m.batch ∷ []) Told ls) (parts_of x) (parts_of z) c.close_sitting.result) lines c.close_sitting.ensures.sat
+    subst (λ (ls : List (List ℕ)). IsSatAs g.P.Plant h.by (ends_in h (m.batch ∷ []) Told ls) (parts_of c.args.complex.now) (parts_of z) c.close_sitting.result) lines c.close_sitting.ensures.sat
 
 pub close_sitting-requires-clause-kept : goal.close_sitting-requires-clause-kept
 close_sitting-requires-clause-kept g c told =

@@ -1,4 +1,4 @@
-use Rattle.member_sittings.proofs.Names.{◌≡◌, ◌∙◌, ◌≤◌, ℕ, true, List, [], ◌∷◌, ◌++◌, None, Result, Ok, refl, sym, ap, subst, arith, MemberId, Entry, Config, Queue, groups_needed, member_count, is_member, Tables, kept_all, run, parts_of, entry_of, if_ok, Opened, Tell, Member, ends_as, given_in, opening, AreOf, LeaveOut, tells_some, closed_of, groups_few, some_given, job_opened, entries_closing_reply as closing_reply, Away, SpoolDeck, nothing_found, HasGroups, WaitsRightly, deck_end, ends_in, Commanded, IsToCut, IsToKeep}
+use Rattle.member_sittings.proofs.Names.{◌≡◌, ◌≤◌, ℕ, true, List, [], ◌∷◌, ◌++◌, None, Result, Ok, ◌∙◌, refl, sym, ap, subst, arith, MemberId, Entry, Config, Queue, groups_needed, member_count, is_member, Tables, kept_all, run, parts_of, entry_of, if_ok, Opened, Tell, Member, ends_as, given_in, opening, AreOf, LeaveOut, tells_some, closed_of, groups_few, some_given, job_opened, entries_closing_reply as closing_reply, Away, SpoolDeck, nothing_found, HasGroups, WaitsRightly, deck_end, ends_in, Commanded, IsToCut, IsToKeep}
 use Rattle.mas_types.specs.declared.commands.Command.TheVariants.{Begin}
 use Rattle.mas_types.specs.declared.queues.Owner.{Owner}
 use Rattle.member_decks.proofs.DeckLemmas.{given_of, opened_enough}
@@ -75,9 +75,7 @@ open_deck-requires-clause-member g c = let s = c.requires.may.sits.seat.still in
 pub open_deck-requires-clause-order : goal.open_deck-requires-clause-order
 open_deck-requires-clause-order g c =
     let groups : c.groups_needed-groups.result ≡ groups_needed c.args.deck.text = c.groups_needed-groups.ensures in
-    let few = groups_few c.args.deck.text c.requires.deck.text in
-    let order = c.requires.may.bounds.order in
-    omega (arith, groups, few, order)
+    omega (arith, groups, (groups_few c.args.deck.text c.requires.deck.text), c.requires.may.bounds.order)
 
 -- OUT OF MEMORY
 
@@ -143,12 +141,10 @@ returns-in_default-opened-clause-waits g c =
 
 pub returns-in_default-opened-clause-again : goal.returns-in_default-opened-clause-again
 returns-in_default-opened-clause-again g c =
-    let w = (goal.at.returns-in_default-opened-clause-again g c).After-open_deck in
     let d = c.open_deck.ensures in
-    let few = few_needed g w in
     let tables = ap (λ (t : Tables). t.order) c.close_deck.ensures.tables in
     sat_on g.P.Plant g.C.Copying (parts_of c.args.complex.now) c.args.member.now c.open_deck.new.member d.level (parts_of c.close_deck.new.complex) c.close_deck.new.member c.args.holder.step c.close_deck.result
-    (omega (arith, d.order, few, tables)) c.close_deck.ensures.again
+    (omega (arith, d.order, (few_needed g ((goal.at.returns-in_default-opened-clause-again g c).After-open_deck)), tables)) c.close_deck.ensures.again
 
 -- THE GROUPS ARE THERE
 

@@ -1,4 +1,4 @@
-use Rattle.member_sittings.proofs.Names.{◌≡◌, ◌∙◌, true, List, [], ◌∷◌, refl, sym, ap, subst, arith, ∥∥₁_map, Command, MemberId, Entry, Config, Queue, IsFit, is_member, may_give, Tables, kept_all, run, parts_of, HasTexts, lost_now, spools_at, none_out, run_append, entry_of, entry_with, if_ok, only_entry, some_of_one, closing_reply, finishing, lines_by, finished_texts, finishing_fit, finishing_giver, finishing_may, finishing_unmarked, one_named, one_of, Told, deck_end, Commanded}
+use Rattle.member_sittings.proofs.Names.{◌≡◌, true, List, [], ◌∷◌, ◌∙◌, refl, sym, ap, subst, arith, ∥∥₁_map, Command, MemberId, Entry, Config, Queue, IsFit, is_member, may_give, Tables, kept_all, run, parts_of, HasTexts, lost_now, spools_at, none_out, run_append, entry_of, entry_with, if_ok, only_entry, some_of_one, closing_reply, finishing, lines_by, finished_texts, finishing_fit, finishing_giver, finishing_may, finishing_unmarked, one_named, one_of, Told, deck_end, Commanded}
 use Rattle.mas_types.specs.declared.commands.Command.TheVariants as command
 use Rattle.member_node.specs.Given.{IsGiver}
 use Rattle.member_sittings.proofs.KeepLemmas.{sat_none}
@@ -41,7 +41,6 @@ returns-in_default-clause-sat g c =
 pub close_deck-requires-clause-may : goal.close_deck-requires-clause-may
 close_deck-requires-clause-may g c =
     let P = g.P.Plant in
-    let C = g.C.Copying in
     let x = c.args.complex.now in
     let m = c.args.member.now in
     let n = c.do_command.new.self in
@@ -76,7 +75,7 @@ close_deck-requires-clause-may g c =
       fit = e.fit;
     } in
     record {
-      gives = gives_one P C (parts_of x) m n did at sits last p.0 one may (finishing_fit d.lost d.job d.text c.requires.text) (finishing_unmarked d.lost d.job d.text) e.order k.done
+      gives = gives_one P g.C.Copying (parts_of x) m n did at sits last p.0 one may (finishing_fit d.lost d.job d.text c.requires.text) (finishing_unmarked d.lost d.job d.text) e.order k.done
           (λ t.
           let s = b.sound t in
           let drops : may_give s.queue m.id (command.Drop d.job) ≡ true = ap (λ (q : Config). is_member q m.id) s.told.config ∙ of_tables in
@@ -131,14 +130,13 @@ returns-clause-sat g c =
 
 pub returns-clause-again : goal.returns-clause-again
 returns-clause-again g c =
-    let x = c.args.complex.now in
     let m = c.args.member.now in
     let n = c.do_command.new.self in
     let z = c.close_deck.new.complex in
     let l = c.close_deck.new.member in
     let d = c.do_command.ensures in
     let tables = ap (λ (t : Tables). t.order) c.close_deck.ensures.tables in
-    sat_on g.P.Plant g.C.Copying (parts_of x) m n d.level (parts_of z) l c.args.holder.step c.close_deck.result (omega (arith, d.order, tables)) c.close_deck.ensures.again
+    sat_on g.P.Plant g.C.Copying (parts_of c.args.complex.now) m n d.level (parts_of z) l c.args.holder.step c.close_deck.result (omega (arith, d.order, tables)) c.close_deck.ensures.again
 
 pub returns-clause-told : goal.returns-clause-told
 returns-clause-told g c = if_ok _ (λ e. e.next ≡ Told) c.close_deck.result (λ e ends. ends.next) c.close_deck.ensures.sat.sat.ends

@@ -1,4 +1,4 @@
-use Rattle.member_sittings.proofs.Names.{length, ap, refl, subst, Config, AreLow, Journal, parts_of, had_as, notes_same, between_by}
+use Rattle.member_sittings.proofs.Names.{length, ap, refl, subst, Config, AreLow, Journal, parts_of, pair_state, had_as, notes_same, between_by}
 use Rattle.mas_complex.specs.Past.{values_of}
 use Rattle.member_sittings.proofs.SeatLemmas.{Taken, gate_again, taken_seat}
 use Rattle.member_sittings.proofs.Staying.{on_four, settle_copies}
@@ -17,7 +17,7 @@ returns-clause-acts g c =
     let y = c.primary.new.complex in
     let m = c.args.member.now in
     record {
-      on = settle_copies P.tells m.id.0 x.pair.first.alive y.pair.first.alive x.pair.second.alive y.pair.second.alive (P.view x.plant) (P.view y.plant) c.primary.result c.primary.ensures.settle;
+      on = settle_copies P.tells m.id.0 (pair_state P.view (parts_of x)) (pair_state P.view (parts_of y)) c.primary.result c.primary.ensures.settle;
       notes = notes_same m.id (values_of x.had) (values_of y.had) (ap values_of c.primary.ensures.had);
     }
 

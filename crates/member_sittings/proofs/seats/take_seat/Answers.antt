@@ -24,10 +24,9 @@ returns-clause-seat g c =
     let x = c.args.complex.now in
     let y = c.take_hold.new.complex in
     let m = c.args.member.now in
-    let n = c.take_hold.new.member in
     let e = c.take_hold.ensures in
     let k = c.in_ok-take_hold.ensures in
-    let taken : Taken P C (parts_of x) (parts_of y) m n = record {
+    let taken : Taken P C (parts_of x) (parts_of y) m c.take_hold.new.member = record {
       book = e.book;
       base = e.base;
       since = e.since;
@@ -49,4 +48,4 @@ returns-clause-seat g c =
       low = k.low;
       high = k.high;
     } in
-    taken_seat P C (parts_of x) (parts_of y) m n c.requires taken
+    taken_seat P C (parts_of x) (parts_of y) m c.take_hold.new.member c.requires taken

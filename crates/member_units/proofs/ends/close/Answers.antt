@@ -1,4 +1,4 @@
-use Rattle.member_units.proofs.Names.{◌∙◌, ◌^◌, List, Ok, Err, ap, refl, subst, sym, arith, ◌<◌, ℕ, [], ◌∷◌, err_from_is_err_and, closing_line, MemberId, batch_of, says, bounds, unwritten, wrote_of, outside, place_of, of_batch, starts_itself, apart_then, closes_err, closes_ok, plays_close, plays_error, closes_said, said_apart, seat_said, close_within, own_batch, same_run, leaves_told}
+use Rattle.member_units.proofs.Names.{◌∙◌, ◌^◌, List, Ok, Err, ap, refl, subst, sym, arith, ◌<◌, ℕ, [], ◌∷◌, err_from_is_err_and, closing_line, MemberId, batch_of, says, bounds, unwritten, wrote_of, outside, place_of, of_batch, starts_itself, apart_then, plays_close, plays_error, closes_said, said_apart, seat_said, close_within, own_batch, same_run, leaves_told}
 use Rattle.member_steps.specs.Saying.{TellKept}
 use Rattle.member_steps.specs.Steps.{AreKeptFrom}
 use Rattle.member_steps.proofs.FateLemmas.{closing_tells}
@@ -31,10 +31,10 @@ returns-in_err-keep-clause-plays g c units found may =
 -- THE LINE
 
 pub tell_lines-requires-clause-up : goal.tell_lines-requires-clause-up
-tell_lines-requires-clause-up g c = c.in_ok-keep.ensures.works.may.up
+tell_lines-requires-clause-up g c = c.in_ok-keep.ensures.works.still.holds.may.up
 
 pub tell_lines-requires-clause-none : goal.tell_lines-requires-clause-none
-tell_lines-requires-clause-none g c = c.in_ok-keep.ensures.works.work.none
+tell_lines-requires-clause-none g c = c.in_ok-keep.ensures.works.still.none
 
 pub tell_lines-requires-clause-kept : goal.tell_lines-requires-clause-kept
 tell_lines-requires-clause-kept g c told =
@@ -67,7 +67,7 @@ returns-in_err-tell_lines-clause-plays g c units found may =
     let q = err_from_is_err_and c.from_residual-in_err-tell_lines.result c.from_residual-in_err-tell_lines.ensures.1 in
     let said = closes_said y z n h o.works t.pair t.journal t.current t.placed lines (Err _) (rw c.in-Ok.ensures at c.in_err-tell_lines.ensures.said) in
     rw (q.1, q.2) (plays_close P.tells h (bounds (unwritten m.batch) units found) c.args.given {S = Unit {0}} _ (Err _) lines (place_of x m) (outside y) (outside z) tt (own_batch x m h c.requires.works) (close_within h found units m.batch c.args.end.now may)
-    (apart_then P.tells h.by (outside x) (outside y) (outside z) o.keeps.course.goes.later said.course.goes c.keep.ensures.spares (said_apart y z h.by t.said.acts (ap (λ p. p.had) t.frame))) o.keeps o.counts (closes_err P.tells h.by _ lines [] (outside y) (outside z) said) t.printed)
+    (apart_then P.tells h.by (outside x) (outside y) (outside z) o.keeps.closes.course.goes.later said.course.goes c.keep.ensures.spares (said_apart y z h.by t.said.acts (ap (λ p. p.had) t.frame))) o.keeps o.counts said t.printed)
 
 pub returns : goal.returns
 returns g c =
@@ -86,7 +86,7 @@ returns g c =
           let lines = closing_line h.by h.step c.args.end.now ∷ [] in
           let said = closes_said y z n h o.works t.pair t.journal t.current t.placed lines (Ok _) (rw c.in-Ok.ensures at c.in_ok-tell_lines.ensures.said) in
           plays_close P.tells h (bounds (unwritten m.batch) units found) c.args.given {S = Unit {0}} _ (Ok _) lines (place_of x m) (outside y) (outside z) (refl, refl, c.release_of-release.ensures) (own_batch x m h c.requires.works) (close_within h found units m.batch c.args.end.now may)
-          (apart_then P.tells h.by (outside x) (outside y) (outside z) o.keeps.course.goes.later said.course.goes c.keep.ensures.spares (said_apart y z h.by t.said.acts (ap (λ p. p.had) t.frame))) o.keeps o.counts (closes_ok P.tells h.by _ _ lines [] (outside y) (outside z) said) t.printed;
+          (apart_then P.tells h.by (outside x) (outside y) (outside z) o.keeps.closes.course.goes.later said.course.goes c.keep.ensures.spares (said_apart y z h.by t.said.acts (ap (λ p. p.had) t.frame))) o.keeps o.counts said t.printed;
       leaves = λ f some few.
           let level = t.level in
           let more = o.reached in

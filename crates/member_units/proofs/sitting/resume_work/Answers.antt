@@ -1,30 +1,87 @@
-use Rattle.member_units.proofs.Names.{[], ap, Queue, counts_of, spools_at, Away, aside_turn, wrote_of, Run, queue_here, queue_kept, frame_of, plays_units, sat_of, says_units, low_bounds, works_sits, kept_here}
+use Rattle.std.specs.Prelude.{true}
+use Rattle.member_units.proofs.Names.{Err, [], ◌≡◌, ◌+◌, ◌*◌, suc, ap, refl, arith, Queue, Run, Away, Found, counts_of, spools_at, aside_done, aside_most, aside_turn, aside_units, bounds, wrote_of, outside, place_of, queue_here, queue_kept, of_cut, apart_none, frame_of, plays_as, plays_error, plays_units, sat_of, says_units, low_bounds, works_sits, stops_by, text_within, wrote_within, kept_here}
+use Rattle.std.proofs.lemmas.List.Elements.{All-nil}
+use Rattle.job_outcome.specs.Outcomes.{outcome_of}
+use Rattle.member_giving.proofs.Within.{TurnWithin}
+use Rattle.member_node.specs.declared.member.NodeNo.TheVariants.{NoMemory}
+use Rattle.member_sittings.specs.declared.ends.SittingEnd.{SittingEnd}
+use Rattle.member_steps.proofs.CountLemmas.{counted_error}
+use Rattle.member_giving.proofs.Keeping.{keeping_none, keeping_wanted}
+use Rattle.step_turns.specs.declared.states.Aside.{Aside}
+use Rattle.step_turns.specs.declared.states.Aside.TheVariants.{ReadText}
+use Rattle.step_turns.specs.declared.states.Holder.{Holder}
+use Rattle.member_units.specs.Actions.{follow_in, is_text}
+use Rattle.member_units.proofs.Parts.{roomy_low}
 use Rattle.member_units.proofs.sitting.resume_work.Goals as goal
 
-pub resume-requires-clause-works : goal.resume-requires-clause-works
-resume-requires-clause-works g c = works_sits c.args.complex.now c.args.member.now c.args.holder c.requires.sits.sits c.requires.sits.bounds c.requires.sits.holder c.requires.base_sound
+pub action_from-requires : goal.action_from-requires
+action_from-requires g c =
+    let x = c.args.complex.now in
+    let m = c.args.member.now in
+    record {
+      works = works_sits x m c.args.holder c.requires.sits.sits c.requires.sits.bounds c.requires.sits.holder c.requires.base_sound;
+      bare = record { low = low_bounds x m c.requires.sits.bounds; nothing = c.requires.sits.sits.seat.between.nothing };
+      may = c.requires.may;
+    }
 
-pub resume-requires-clause-low : goal.resume-requires-clause-low
-resume-requires-clause-low g c = low_bounds c.args.complex.now c.args.member.now c.requires.sits.bounds
+-- out of memory for what becomes of the text
+unread_within : (h : Holder) (found : Found) (Q : Queue) (a : Aside) → is_text a ≡ true → TurnWithin h found (aside_most a) (aside_done a + aside_units a) (aside_turn h Q a found)
+unread_within h found Q (ReadText runs n fields p) is = text_within h found (3 * p.left + 3) (p.done + suc p.left) Q n p (omega arith) (omega arith) (outcome_of runs fields found.read) (stops_by runs fields found)
+unread_within h found Q _ is = absurd (cc)
 
-pub resume-requires-clause-nothing : goal.resume-requires-clause-nothing
-resume-requires-clause-nothing g c = c.requires.sits.sits.seat.between.nothing
-
-pub returns-clause-frame : goal.returns-clause-frame
-returns-clause-frame g c = frame_of c.args.complex.now c.resume.new.complex c.args.member.now c.resume.new.member c.resume.ensures.run
-
-pub returns-clause-id : goal.returns-clause-id
-returns-clause-id g c = ap (λ (r : Run). r.id) c.resume.ensures.run
-
-pub returns-clause-sat : goal.returns-clause-sat
-returns-clause-sat g c =
+pub returns-in_default-clause-sat : goal.returns-in_default-clause-sat
+returns-in_default-clause-sat g c =
+    let P = g.P.Plant in
     let x = c.args.complex.now in
     let m = c.args.member.now in
     let h = c.args.holder in
     let a = c.args.aside in
     let f = c.args.found in
-    let disks = spools_at (g.P.Plant.view x.plant) (g.P.Plant.view x.plant).now in
+    let o = outside x in
+    let t = aside_turn h (queue_here x m) a f in
+    let disks = spools_at (P.view x.plant) (P.view x.plant).now in
     let nothing = c.requires.sits.sits.seat.between.nothing in
     let w = works_sits x m h c.requires.sits.sits c.requires.sits.bounds c.requires.sits.holder c.requires.base_sound in
-    sat_of x c.resume.new.complex m h (Away a) f (wrote_of [] (aside_turn h (queue_here x m) a f)) c.resume.result (plays_units g.P.Plant.tells (queue_kept x) m.id disks (counts_of x.printed) a f c.requires.may) (says_units g.P.Plant.tells (queue_kept x) m.id disks (counts_of x.printed) h a f c.requires.may) nothing w.work
-    (λ told. ap (λ (Q : Queue). wrote_of [] (aside_turn h Q a f)) (kept_here x m nothing)) c.resume.ensures.plays
+    let units = aside_done a + aside_units a in
+    let within = unread_within h f (queue_here x m) a c.in_default.ensures.text in
+    sat_of x x m h (Away a) f (wrote_of [] t) (Err NoMemory) (plays_units P.tells (queue_kept x) m.id disks (counts_of x.printed) a f c.requires.may) (says_units P.tells (queue_kept x) m.id disks (counts_of x.printed) h a f c.requires.may) nothing w.still
+    (λ told. ap (λ (Q : Queue). wrote_of [] (aside_turn h Q a f)) (kept_here x m nothing))
+    (plays_error P.tells h (bounds (aside_most a) units f) 0 {S = SittingEnd} NoMemory (wrote_of [] t) (wrote_of [] t) [] (place_of x m) o (λ told. refl) (of_cut h.by h.step [] t.parts (All-nil _) within.its) (wrote_within h f units (aside_most a) [] t (aside_most a) (omega arith) within) tt
+    (apart_none P.tells h.by o) (keeping_wanted P.tells h.by [] o o (keeping_none P.tells h.by o)) (counted_error {T = SittingEnd} h.by [] o.printed o.printed NoMemory refl))
+
+-- THE SITTING IS PLAYED
+
+pub play-requires : goal.play-requires
+play-requires g c =
+    let x = c.args.complex.now in
+    let m = c.args.member.now in
+    let first = c.in-Ok.ensures.is in
+    record {
+      works = works_sits x m c.args.holder c.requires.sits.sits c.requires.sits.bounds c.requires.sits.holder c.requires.base_sound;
+      nothing = c.requires.sits.sits.seat.between.nothing;
+      room = roomy_low x m (low_bounds x m c.requires.sits.bounds) _ (omega (arith, c.requires.units, first.upto.level)) (omega (arith, c.requires.level, first.upto.level));
+      units = omega (arith, c.requires.units, first.upto.units);
+      may = first.may;
+    }
+
+pub returns : goal.returns
+returns g c =
+    let P = g.P.Plant in
+    let x = c.args.complex.now in
+    let m = c.args.member.now in
+    let h = c.args.holder in
+    let a = c.args.aside in
+    let f = c.args.found in
+    let disks = spools_at (P.view x.plant) (P.view x.plant).now in
+    let nothing = c.requires.sits.sits.seat.between.nothing in
+    let w = works_sits x m h c.requires.sits.sits c.requires.sits.bounds c.requires.sits.holder c.requires.base_sound in
+    let first = c.in-Ok.ensures.is in
+    let t = aside_turn h (queue_here x m) a f in
+    record {
+      frame = frame_of x c.play.new.complex m c.play.new.member c.play.ensures.run;
+      id = ap (λ (r : Run). r.id) c.play.ensures.run;
+      sat = sat_of x c.play.new.complex m h (Away a) f (wrote_of [] t) c.play.result (plays_units P.tells (queue_kept x) m.id disks (counts_of x.printed) a f c.requires.may) (says_units P.tells (queue_kept x) m.id disks (counts_of x.printed) h a f c.requires.may) nothing w.still
+          (λ told. ap (λ (Q : Queue). wrote_of [] (aside_turn h Q a f)) (kept_here x m nothing))
+          (plays_as P.tells h (bounds (aside_most a) (aside_done a + aside_units a) f) 0 _ (wrote_of [] t) (place_of x m) (outside c.play.new.complex) c.play.result (λ told. ap (wrote_of []) (first.is told)) (c.play.ensures.plays (follow_in x.level (Away a)) f first.upto first.caused));
+      leaves = c.play.ensures.leaves (follow_in x.level (Away a)) first.upto;
+    }

@@ -1,19 +1,28 @@
-use Rattle.member_units.proofs.Names.{◌∙◌, ap, arith, ◌+◌, ◌*◌, [], ℕ, Queue, Fresh, Rested, units_from, bounds, wrote_of, Run, outside, place_of, queue_here, queue_kept, plays_more, frame_of, sat_of, low_bounds, works_sits, kept_here, room_low}
+use Rattle.member_units.proofs.Names.{[], ◌∙◌, ap, arith, ◌+◌, ◌*◌, ℕ, Queue, Fresh, Rested, units_from, bounds, wrote_of, Run, outside, place_of, queue_here, queue_kept, plays_as, plays_more, frame_of, sat_of, low_bounds, works_sits, kept_here}
 use Rattle.step_turns.specs.declared.states.Task.TheVariants.{Work}
 use Rattle.step_turns.specs.States.{nothing_found}
+use Rattle.member_units.specs.Actions.{follow_in}
+use Rattle.member_units.proofs.Parts.{next_up, roomy_low}
 use Rattle.member_units.proofs.sitting.sit_work.Goals as goal
 
-pub begin-requires-clause-works : goal.begin-requires-clause-works
-begin-requires-clause-works g c = works_sits c.args.complex.now c.args.member.now c.args.holder c.requires.sits.sits c.requires.sits.bounds c.requires.sits.holder c.requires.base_sound
+pub action_of-action-requires : goal.action_of-action-requires
+action_of-action-requires g c = record {
+  works = works_sits c.args.complex.now c.args.member.now c.args.holder c.requires.sits.sits c.requires.sits.bounds c.requires.sits.holder c.requires.base_sound;
+  few = rw c.requires.sits.sits.seat.between.nothing (omega arith);
+}
 
-pub begin-requires-clause-nothing : goal.begin-requires-clause-nothing
-begin-requires-clause-nothing g c = c.requires.sits.sits.seat.between.nothing
-
-pub begin-requires-clause-room : goal.begin-requires-clause-room
-begin-requires-clause-room g c =
-    let units = c.requires.units in
-    let level = c.requires.level in
-    room_low c.args.complex.now c.args.member.now (low_bounds c.args.complex.now c.args.member.now c.requires.sits.bounds) (c.args.progress.left + 3) (omega (arith, units)) (omega (arith, level))
+pub play-requires : goal.play-requires
+play-requires g c =
+    let x = c.args.complex.now in
+    let m = c.args.member.now in
+    let next = c.action_of-action.ensures.next in
+    record {
+      works = works_sits x m c.args.holder c.requires.sits.sits c.requires.sits.bounds c.requires.sits.holder c.requires.base_sound;
+      nothing = c.requires.sits.sits.seat.between.nothing;
+      room = roomy_low x m (low_bounds x m c.requires.sits.bounds) _ (omega (arith, c.requires.units, next.left)) (omega (arith, c.requires.level, next.left));
+      units = omega (arith, c.requires.units, next.units);
+      may = next.may;
+    }
 
 pub returns : goal.returns
 returns g c =
@@ -23,13 +32,19 @@ returns g c =
     let p = c.args.progress in
     let nothing = c.requires.sits.sits.seat.between.nothing in
     let w = works_sits x m h c.requires.sits.sits c.requires.sits.bounds c.requires.sits.holder c.requires.base_sound in
+    let new = outside c.play.new.complex in
+    let r = c.play.result in
+    let a = c.action_of-action.ensures in
+    let f = follow_in x.level (Rested p) in
+    let bs = bounds (3 * p.left + 1) (p.done + p.left) nothing_found in
+    let turn = units_from h p.left in
+    let plays = plays_as g.P.Plant.tells h bs 0 _ (wrote_of [] (turn (queue_here x m) 0 p.done)) (place_of x m) new r (λ told. ap (wrote_of []) (a.is told 0)) (c.play.ensures.plays f nothing_found (next_up x m f _ a.next) (a.caused (p.done + p.left) nothing_found (omega arith))) in
     record {
-      frame = frame_of c.args.complex.now c.begin.new.complex c.args.member.now c.begin.new.member c.begin.ensures.run;
-      id = ap (λ (r : Run). r.id) c.begin.ensures.run;
-      sat = sat_of x c.begin.new.complex m h (Rested p) nothing_found (wrote_of [] (units_from h p.left (queue_here x m) 0 p.done)) c.begin.result (λ A. tt) (λ t says. says) nothing w.work
-          (λ told. ap (λ (Q : Queue). wrote_of [] (units_from h p.left Q 0 p.done)) (kept_here x m nothing)) (c.begin.ensures.plays nothing_found);
-      fresh = λ none. sat_of x c.begin.new.complex m h (Fresh (Work p.left)) nothing_found (wrote_of [] (units_from h p.left (queue_here x m) 0 p.done)) c.begin.result (λ A. tt) (λ t says. says) nothing w.work
-          (λ told. ap (λ (Q : Queue). wrote_of [] (units_from h p.left Q 0 p.done)) (kept_here x m nothing) ∙ ap (λ (k : ℕ). wrote_of [] (units_from h p.left (queue_kept x) 0 k)) none)
-          (plays_more g.P.Plant.tells h (bounds (3 * p.left + 1) (0 + p.left) nothing_found) 0 (3 * p.left + 1) (p.done + p.left) _ (place_of x m) (outside c.begin.new.complex) c.begin.result (omega arith) (omega (arith, none)) (c.begin.ensures.plays nothing_found));
-      leaves = c.begin.ensures.leaves;
+      frame = frame_of x c.play.new.complex m c.play.new.member c.play.ensures.run;
+      id = ap (λ (r : Run). r.id) c.play.ensures.run;
+      sat = sat_of x c.play.new.complex m h (Rested p) nothing_found (wrote_of [] (turn (queue_here x m) 0 p.done)) r (λ A. tt) (λ t says. says) nothing w.still (λ told. ap (λ (Q : Queue). wrote_of [] (turn Q 0 p.done)) (kept_here x m nothing)) plays;
+      fresh = λ none. sat_of x c.play.new.complex m h (Fresh (Work p.left)) nothing_found (wrote_of [] (turn (queue_here x m) 0 p.done)) r (λ A. tt) (λ t says. says) nothing w.still
+          (λ told. ap (λ (Q : Queue). wrote_of [] (turn Q 0 p.done)) (kept_here x m nothing) ∙ ap (λ (k : ℕ). wrote_of [] (turn (queue_kept x) 0 k)) none)
+          (plays_more g.P.Plant.tells h (bounds (3 * p.left + 1) (0 + p.left) nothing_found) 0 (3 * p.left + 1) (p.done + p.left) _ (place_of x m) new r (omega arith) (omega (arith, none)) plays);
+      leaves = c.play.ensures.leaves f (next_up x m f _ a.next);
     }

@@ -1,4 +1,4 @@
-use Rattle.member_work.proofs.Names.{◌≡◌, ◌≤◌, ◌∙◌, ℕ, Option, ap, subst, option_copied, option_map_or, Setting, printer_lines_most, limit_of, tells_some}
+use Rattle.member_work.proofs.Names.{◌≡◌, ◌≤◌, ℕ, Option, ◌∙◌, ap, subst, option_copied, option_map_or, printer_lines_most, limit_of, Setting, tells_some}
 use Rattle.member_work.proofs.PrintedLemmas.{limit_most}
 use Rattle.member_work.proofs.chunks.limit_at.Goals as goal
 

@@ -1,5 +1,6 @@
-use Rattle.member_work.proofs.Names.{◌∙◌, [], ap, subst, sym, arith, err_from_is_err_and, IsNamedEnd, end_by, last_reply, entry_of}
-use Rattle.member_work.proofs.GivingLemmas.{given_none, given_still, gives_none, gives_one, last_push, leaves_texts, named_end, one_longer, own_more, some_batch}
+use Rattle.member_work.proofs.Names.{◌∙◌, ap, subst, sym, arith, [], IsNamedEnd, end_by, entry_of, err_from_is_err_and, last_reply}
+use Rattle.member_decks.proofs.OpenLemmas.{last_push}
+use Rattle.member_work.proofs.GivingLemmas.{given_none, given_still, gives_none, gives_one, leaves_texts, named_end, one_longer, own_more, some_batch}
 use Rattle.member_work.proofs.giving.give.Goals as goal
 
 pub returns-in_err-do_command-clause-has : goal.returns-in_err-do_command-clause-has

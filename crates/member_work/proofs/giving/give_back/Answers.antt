@@ -1,4 +1,4 @@
-use Rattle.member_work.proofs.Names.{◌∙◌, [], ◌∷◌, ap, refl, err_from_is_err_and, Config, is_member, drop_groups}
+use Rattle.member_work.proofs.Names.{◌∙◌, ap, refl, [], ◌∷◌, Config, is_member, err_from_is_err_and, drop_groups}
 use Rattle.member_work.proofs.GivingLemmas.{gives_err, gives_ok}
 use Rattle.member_work.proofs.giving.give_back.Goals as goal
 

@@ -1,4 +1,4 @@
-use Rattle.member_work.proofs.Names.{◌≡◌, ◌∙◌, [], ◌∷◌, ap, subst, sym, arith, err_from_is_err_and, Config, Queue, is_member, Tell, step, if_ok, closing_reply, given_in, tells_some, IsNamedEnd, end_by, drop_groups, ending}
+use Rattle.member_work.proofs.Names.{◌≡◌, [], ◌∷◌, ◌∙◌, ap, subst, sym, arith, Config, Queue, is_member, Tell, closing_reply, given_in, IsNamedEnd, end_by, err_from_is_err_and, step, if_ok, tells_some, drop_groups, ending}
 use Rattle.mas_types.specs.declared.commands.Command.TheVariants as command
 use Rattle.member_work.proofs.GivingLemmas.{ending_refused, ending_taken, end_ending, ended_leaves, given_then, gives_as, gives_none, gives_then, gives_texts, one_batch, one_longer, one_told}
 use Rattle.member_work.proofs.giving.give_end.Goals as goal

@@ -1,4 +1,4 @@
-use Rattle.member_work.proofs.Names.{◌∙◌, Bool, [], if◌then◌else◌, ap, sym, groups_of_outputs}
+use Rattle.member_work.proofs.Names.{◌∙◌, ap, sym, Bool, [], if◌then◌else◌, groups_of_outputs}
 use Rattle.member_work.proofs.giving.groups_for_end.Goals as goal
 
 pub returns-then-is_cancelled-clause-groups : goal.returns-then-is_cancelled-clause-groups

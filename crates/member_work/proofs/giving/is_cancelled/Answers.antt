@@ -1,4 +1,4 @@
-use Rattle.member_work.proofs.Names.{◌∙◌, List, Option, ap, subst, sym, JobRec, Job, is_cancelled as is_cancelled_lem, AreJobs}
+use Rattle.member_work.proofs.Names.{◌∙◌, ap, subst, sym, List, Option, Job, is_cancelled as is_cancelled_lem, JobRec, AreJobs}
 use Rattle.member_work.proofs.giving.is_cancelled.Goals as goal
 
 pub returns-in-Some : goal.returns-in-Some

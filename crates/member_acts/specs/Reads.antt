@@ -1,0 +1,100 @@
+-- A text that is read from the spool volumes, group by group.
+use Rattle.member_acts.specs.Names.{Text, line_count, Spool, Disk as DiskPart, page_of, volume_of, AreRoomy, IsUp, Parts, parts_of, IsGroupOf, bytes_on, lost_now, spools_at, IsThereUnless, OnVolumes, IsReadable, IsCounted, IsFailedRead, IsReadOf, OnlyReads, HasFailed, SteadyGhosts}
+use Rattle.std.specs.Prelude.{◌≡◌, ℕ, ◌≤◌, true, false, List, [], ◌∷◌, ◌++◌, length, All, Option, None, Some, unwrap_or}
+use Rattle.std.specs.Option.{option_or}
+use Rattle.spool_volumes.specs.Texts.{gone_or, records_on}
+use Rattle.mas_types.specs.declared.queues.Config.{Config}
+use Rattle.mas_types.specs.Limits.{line_bytes}
+use Rattle.mas_types.specs.Fit.{is_text_line}
+use Rattle.mas_types.specs.declared.ids.GroupNo.{GroupNo}
+use Rattle.mas_types.specs.declared.ids.MemberId.{MemberId}
+use Rattle.spool_plant.specs.View.{View}
+use Rattle.spool_plant.specs.declared.plant.Plant.{Ghosts as PlantGhosts}
+use Rattle.ckpt_copy.specs.declared.copying.Copying.{Ghosts as CopyGhosts}
+use Rattle.job_outcome.specs.declared.outcomes.Read.{Read}
+use Rattle.mas_complex.specs.declared.complex.Complex.{Complex}
+
+-- lines that a group may hold
+pub record AreRecords (lines : List (List ℕ)) : Type 0 where
+  pub short : All (λ line. length line ≤ line_bytes) lines
+  pub text : All (λ line. is_text_line line ≡ true) lines
+
+-- what was read of a text so far: its lines, and the group with which it is gone
+pub record SoFar : Type 0 where
+  pub lines : List (List ℕ)
+  pub gone : Option GroupNo
+
+abbrev pub so_far : List (List ℕ) → Option GroupNo → SoFar
+so_far lines gone = record { lines = lines; gone = gone }
+
+-- A group was read, so its volume wasn't lost: its lines are added, none where it holds no records; then the text is
+-- gone with this group, unless one before it held none. Where content is told these are the records that stand there.
+pub record AddsGroup (told : Type 0) (config : Config) (g : GroupNo) (old : View) (was is : SoFar) : Type 0 where
+  pub records : Option (List (List ℕ))
+  pub added : is.lines ≡ was.lines ++ unwrap_or records []
+  pub fits : AreRecords (unwrap_or records [])
+  pub gone_is : is.gone ≡ option_or was.gone (gone_or g records None)
+  pub there : old.lost (DiskPart (Spool (volume_of config.groups g))) ≡ false
+  pub are_held : told → AreRoomy old config → records_on (bytes_on (spools_at old old.now)) config.groups g ≡ records
+
+module _ {P C : Type 0} (plants : PlantGhosts P) where
+  abbrev v : Parts P C → View
+  v x = plants.view x.plant
+
+  -- a member that isn't stopped may read groups of the configuration
+  pub record IsToRead (x : Parts P C) (by : MemberId) (groups : List GroupNo) : Type 0 where
+    pub up : IsUp x.book by
+    pub some : 1 ≤ x.base.config.groups
+    pub within : All (IsGroupOf x.base.config) groups
+
+  -- acts on the volumes that read alone
+  pub record HasReadOn (x y : Parts P C) (by : MemberId) : Type 0 where
+    pub acts : OnVolumes plants.tells by.0 (v x) (v y)
+    pub reads : OnlyReads plants.tells (v x) (v y)
+
+  -- the page of a group was read, so its volume wasn't lost; where content is told it is the one that stands there
+  pub record IsPageOf (x : Parts P C) (g : GroupNo) (bytes : List ℕ) : Type 0 where
+    pub there : (v x).lost (DiskPart (Spool (volume_of x.base.config.groups g))) ≡ false
+    pub page : plants.tells → AreRoomy (v x) x.base.config
+        → page_of (bytes_on (spools_at (v x) (v x).now)) x.base.config.groups g ≡ Some bytes
+
+  -- or the group's volume was found lost
+  abbrev pub IsPageUnless : Parts P C → Parts P C → GroupNo → List ℕ → Option ℕ → Type 0
+  IsPageUnless x y g page None = IsPageOf x g page
+  IsPageUnless x y g page (Some volume) = HasFailed x.base.config.groups (g ∷ []) volume (v x) (v y)
+
+  -- a group is read, or its volume was found lost
+  abbrev pub IsAddedUnless : Parts P C → Parts P C → GroupNo → SoFar → SoFar → Option ℕ → Type 0
+  IsAddedUnless x y g was is None = AddsGroup plants.tells x.base.config g (v x) was is
+  IsAddedUnless x y g was is (Some volume) = HasFailed x.base.config.groups (g ∷ []) volume (v x) (v y)
+
+  -- A text of so many lines was read. Where content is told it is as it stands in its groups, if none of them lies on a
+  -- volume that was found lost.
+  pub record IsTextOf (x y : Parts P C) (groups : List GroupNo) (count : ℕ) (read : Read) : Type 0 where
+    pub fits : IsReadable read
+    pub counted : IsCounted count read
+    pub failed : IsFailedRead x.base.config.groups groups read (v x) (v y)
+    pub text : (t : Text) → line_count t ≡ count → plants.tells → AreRoomy (v x) x.base.config
+        → IsThereUnless (lost_now (v x)) (spools_at (v x) (v x).now) x.base.config.groups t groups
+        → IsReadOf x.base.config.groups t groups read (v x) (v y)
+
+-- OVER THE SHARED VALUE
+
+module _ {P C : Type 0} {plants : PlantGhosts P} {steadies : SteadyGhosts C} {copies : CopyGhosts C} where
+  abbrev pub MayReadGroups : Complex P C plants steadies copies → MemberId → List GroupNo → Type 0
+  MayReadGroups x by groups = IsToRead plants (parts_of x) by groups
+
+  abbrev pub ReadsOn : Complex P C plants steadies copies → Complex P C plants steadies copies → MemberId → Type 0
+  ReadsOn x y by = HasReadOn plants (parts_of x) (parts_of y) by
+
+  abbrev pub ReadsPage : Complex P C plants steadies copies → Complex P C plants steadies copies → GroupNo → List ℕ
+      → Option ℕ → Type 0
+  ReadsPage x y g page lost = IsPageUnless plants (parts_of x) (parts_of y) g page lost
+
+  abbrev pub Adds : Complex P C plants steadies copies → Complex P C plants steadies copies → GroupNo → SoFar → SoFar
+      → Option ℕ → Type 0
+  Adds x y g was is lost = IsAddedUnless plants (parts_of x) (parts_of y) g was is lost
+
+  abbrev pub ReadsTextOf : Complex P C plants steadies copies → Complex P C plants steadies copies → List GroupNo → ℕ
+      → Read → Type 0
+  ReadsTextOf x y groups count read = IsTextOf plants (parts_of x) (parts_of y) groups count read

@@ -1,0 +1,202 @@
+-- What a member does next in a sitting of a step of work: what it gives, what may follow, and where it may.
+use Rattle.std.specs.Prelude.{[], ◌≡◌, ◌≢◌, ℕ, suc, ◌+◌, ◌*◌, ◌≤◌, ◌<◌, ◌^◌, Bool, true, false, List, ◌∷◌, length, Option, Some, None, take}
+use Rattle.std.specs.Option.{option_map_or}
+use Rattle.member_units.specs.Names.{AreMembersNamed, AreOutputs, Done, Follow, Found, HasRoom, IsLow, IsMarkRight, IsReady, IsUnderWay, MayBeGiven, MayCloseBy, Told, aside_most, counts_of, follow, goes_on_by, groups_for_end, leaves, queue_here, queue_kept, sittings_most, spools_at, units_from}
+use Rattle.job_outcome.specs.declared.units.UnitEnd.{UnitEnd}
+use Rattle.job_outcome.specs.declared.units.UnitEnd.TheVariants as ends
+use Rattle.job_outcome.specs.Next.{end_by}
+use Rattle.mas_types.specs.declared.answers.Closing.TheVariants.{SpoolLost}
+use Rattle.mas_types.specs.declared.commands.Command.{Command}
+use Rattle.mas_types.specs.declared.ids.JobNo.{JobNo}
+use Rattle.mas_types.specs.declared.ids.MemberId.{MemberId}
+use Rattle.mas_types.specs.declared.jobs.OutSpec.{OutSpec}
+use Rattle.mas_types.specs.declared.journals.Entry.{Entry}
+use Rattle.mas_types.specs.declared.queues.Queue.{Queue}
+use Rattle.mas_types.specs.Commands.Life.{groups_of_outputs, outputs_at_end}
+use Rattle.mas_types.specs.Owners.{member_count}
+use Rattle.mas_types.specs.Queue.{job_at}
+use Rattle.mas_types.specs.Run.{run}
+use Rattle.track_groups.specs.Groups.{held_by}
+use Rattle.paper_laws.specs.Counts.{counts_after}
+use Rattle.member_node.specs.declared.member.Member.{Member}
+use Rattle.member_sittings.specs.Names.{Complex, PlantGhosts, SteadyGhosts, Ghosts as CopyGhosts}
+use Rattle.member_sittings.specs.Sat.{Start}
+use Rattle.member_work.specs.Spooled.{AreSpooled}
+use Rattle.member_work.specs.Units.{taken_end}
+use Rattle.step_turns.specs.Entries.{closing_reply, given_in}
+use Rattle.step_turns.specs.JobEnds.{drop_groups, ending, taking}
+use Rattle.step_turns.specs.Laws.{units_done, units_left}
+use Rattle.step_turns.specs.Turns.{Turn, after_part, closes_as, turn, waits_for}
+use Rattle.step_turns.specs.declared.states.Aside.{Aside}
+use Rattle.step_turns.specs.declared.states.Aside.TheVariants.{ReadText, SpoolOutputs}
+use Rattle.step_turns.specs.declared.states.Holder.{Holder}
+use Rattle.step_turns.specs.declared.states.Progress.{Progress}
+use Rattle.step_turns.specs.declared.states.State.{State}
+use Rattle.member_units.specs.declared.actions.Action.{Action}
+use Rattle.member_units.specs.declared.actions.Action.TheVariants as action
+use Rattle.member_units.specs.declared.actions.Part.{Part}
+use Rattle.member_units.specs.declared.actions.Part.TheVariants as part
+
+-- the commands of a part, at a queue
+abbrev pub commands_of : MemberId → Queue → Part → List Command
+commands_of by Q (part.One c) = c ∷ []
+commands_of by Q (part.Groups needed) = taking Q by needed
+commands_of by Q (part.Ended n specs) = ending Q by n specs
+commands_of by Q (part.Lost volume) = drop_groups ∷ []
+
+abbrev pub entries_of : Holder → Queue → Part → List Entry
+entries_of h Q p = given_in Q h.by h.step (commands_of h.by Q p)
+
+-- how it ends
+abbrev pub ends_of : Holder → Queue → Part → UnitEnd
+ends_of h Q (part.One c) = end_by (closing_reply (entries_of h Q (part.One c)))
+ends_of h Q (part.Groups needed) = taken_end Q h.by h.step needed
+ends_of h Q (part.Ended n specs) = end_by (closing_reply (entries_of h Q (part.Ended n specs)))
+ends_of h Q (part.Lost volume) = ends.Refused (SpoolLost volume)
+
+-- the acts for which the step waits then: once it is done
+abbrev pub wait_after : UnitEnd → Option Aside → Option Aside
+wait_after e None = None
+wait_after ends.Done (Some a) = Some a
+wait_after ends.Idle (Some a) = None
+wait_after (ends.Refused end) (Some a) = None
+
+-- the rest of the sitting then, with so many commands given
+abbrev pub rest_turn : Holder → UnitEnd → Option Aside → Progress → Queue → ℕ → Turn
+rest_turn h e then p Q given = option_map_or (waits_for h)
+    (wait_after e then) (goes_on_by h e p.left (units_from h p.left) Q given p.done)
+
+-- the turn of an action, with so many commands given before
+abbrev pub action_turn : Holder → Queue → ℕ → Action → Turn
+action_turn h Q given (action.Close end) = closes_as h end
+action_turn h Q given (action.Wait s) = leaves s
+action_turn h Q given (action.Give p then at) = after_part (entries_of h Q p)
+    (rest_turn h (ends_of h Q p) then at (run Q (entries_of h Q p)) (given + length (entries_of h Q p)))
+
+-- HOW MUCH MAY FOLLOW
+
+-- the sittings and batches after a part
+abbrev pub most_then : Option Aside → Progress → ℕ
+most_then None p = 3 * p.left + 1
+most_then (Some a) p = aside_most a
+
+-- the sittings and batches of an action and after it
+abbrev pub most_of : Action → ℕ
+most_of (action.Close end) = 0
+most_of (action.Wait s) = sittings_most s
+most_of (action.Give p then at) = most_then then at + 1
+
+-- the units that may be played still, with the one under way
+abbrev pub left_of : Action → ℕ
+left_of (action.Close end) = 0
+left_of (action.Wait s) = units_left s
+left_of (action.Give p then at) = suc at.left
+
+-- all units of the step
+abbrev pub units_of : Action → ℕ
+units_of (action.Close end) = 0
+units_of (action.Wait s) = units_done s + units_left s
+units_of (action.Give p then at) = at.done + at.left + 1
+
+-- more sittings than may follow
+abbrev pub above : Action → ℕ
+above (action.Close end) = 1
+above (action.Wait s) = sittings_most s + 1
+above (action.Give p then at) = most_then then at + 1
+
+abbrev pub ahead : ℕ → Action → Follow
+ahead level a = follow (above a) (units_of a) (level + left_of a + 1)
+
+-- what may follow a sitting from this state of a step
+abbrev pub follow_in : ℕ → State → Follow
+follow_in level s = follow (sittings_most s) (units_done s + units_left s) (level + units_left s + 1)
+
+pub record IsUpTo (f g : Follow) : Type 0 where
+  pub most : f.most ≤ g.most
+  pub units : f.units ≤ g.units
+  pub level : f.level ≤ g.level
+
+-- WHAT IT RESTS ON
+
+-- groups are given up only where this volume was found lost
+abbrev pub MayLose : Found → Part → Type 0
+MayLose found (part.Lost volume) = found.lost ≡ Some volume
+MayLose found _ = Unit {0}
+
+-- the step closes as one of so many units may
+abbrev pub IsCaused : ℕ → Found → Action → Type 0
+IsCaused units found (action.Close end) = MayCloseBy units found end
+IsCaused units found (action.Wait s) = Unit {0}
+IsCaused units found (action.Give p then at) = MayLose found p
+
+-- acts in which the text of a job is read
+abbrev pub is_text : Aside → Bool
+is_text (ReadText runs n fields p) = true
+is_text _ = false
+
+-- the member has the groups that it took
+abbrev pub IsTaken : Member → Part → Type 0
+IsTaken m (part.Groups needed) = needed ≤ member_count m.id m.checkpoint.tables.owners
+IsTaken m _ = Unit {0}
+
+module _ {P C : Type 0} {plants : PlantGhosts P} {steadies : SteadyGhosts C} {copies : CopyGhosts C} where
+  -- room for so many commands and batches, and for one command more
+  pub record IsRoomy (x : Complex P C plants steadies copies) (m : Member) (k : ℕ) : Type 0 where
+    pub room : HasRoom x m k
+    pub order : m.checkpoint.tables.order + 32 * (k + 1) < 2 ^ 63
+
+  abbrev pub UsesPart : Complex P C plants steadies copies → Member → Complex P C plants steadies copies → Member
+      → Type 0
+  UsesPart x m y n = (k : ℕ) → k ≤ 20000 → IsRoomy x m k → HasRoom y n k
+
+  -- where a sitting begins, with nothing unwritten
+  pub record IsBare (x : Complex P C plants steadies copies) (m : Member) : Type 0 where
+    pub low : IsLow x m
+    pub nothing : m.batch ≡ []
+
+  -- a member may give a part
+  abbrev pub MayGive : Complex P C plants steadies copies → Member → Part → Type 0
+  MayGive x m (part.One c) = (length m.batch < 64) × MayBeGiven x.base m.id c
+      × (plants.tells → IsMarkRight (queue_here x m) m.id (counts_after m.batch (counts_of x.printed) m.id) c)
+  MayGive x m (part.Groups needed) = IsBare x m × (1 ≤ needed)
+  MayGive x m (part.Ended n specs) = IsBare x m × AreOutputs specs × (plants.tells → IsUnderWay (queue_kept x) m.id n)
+      × (plants.tells → AreSpooled (spools_at (plants.view x.plant) (plants.view x.plant).now) x.base.config.groups
+      (outputs_at_end (job_at (queue_kept x) n) specs)
+      (take (groups_for_end (queue_kept x) n specs) (held_by m.id (queue_kept x).owners)))
+  MayGive x m (part.Lost volume) = IsBare x m
+
+  -- a job that is under way ends with these outputs, whose groups are so many
+  pub record HasOutputs (x : Complex P C plants steadies copies) (m : Member) (a : Aside) (at : Progress)
+      (needed : ℕ) : Type 0 where
+    pub job : JobNo
+    pub specs : List OutSpec
+    pub is : a ≡ SpoolOutputs job specs at
+    pub outputs : AreOutputs specs
+    pub all : needed ≡ groups_of_outputs specs
+    pub under_way : plants.tells → IsUnderWay (queue_here x m) m.id job
+
+  -- what a step may wait for after a part: outputs that are written into the groups that it took
+  abbrev pub MayFollow : Complex P C plants steadies copies → Member → Part → Option Aside → Progress → Type 0
+  MayFollow x m p None at = Unit {0}
+  MayFollow x m (part.Groups needed) (Some a) at = HasOutputs x m a at needed
+  MayFollow x m _ (Some a) at = ⊥
+
+  -- a member may do this
+  abbrev pub MayBegin : Complex P C plants steadies copies → Member → Action → Type 0
+  MayBegin x m (action.Close end) = AreMembersNamed end
+  MayBegin x m (action.Wait s) = (s ≢ Told) × IsReady plants.tells (queue_here x m) m.checkpoint.tables m.id s
+  MayBegin x m (action.Give p then at) = MayGive x m p × MayFollow x m p then at
+
+  -- it may, and this much may follow
+  pub record IsNext (x : Complex P C plants steadies copies) (m : Member) (f : Follow) (a : Action) : Type 0 where
+    pub may : MayBegin x m a
+    pub most : most_of a < f.most
+    pub units : units_of a ≤ f.units
+    pub left : x.level + left_of a + 1 ≤ f.level
+
+  -- The first action of a sitting that begins so. Where content is told its turn is what the queue gives.
+  pub record IsFirst (x : Complex P C plants steadies copies) (m : Member) (s : Start) (a : Action) : Type 0 where
+    pub may : MayBegin x m a
+    pub is : plants.tells → action_turn s.holder (queue_here x m) 0 a ≡ turn s.holder (queue_here x m) s.state s.found
+    pub upto : IsUpTo (ahead x.level a) (follow_in x.level s.state)
+    pub caused : IsCaused (units_done s.state + units_left s.state) s.found a
