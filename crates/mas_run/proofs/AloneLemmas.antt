@@ -1,14 +1,9 @@
 -- Copies that are left alone aren't both lost.
-use Rattle.mas_run.proofs.Names.{◌≡◌, ℕ, ◌+◌, nat_lt, Bool, true, false, not, ◌&&◌, if◌then◌else◌, List, [], ◌∷◌, length, codes, Option, Some, None, Ok, Err, refl, sym, ◌∙◌, ap, subst, ◌≢◌, ◌⊎◌, inl, inr, ⊎_elim, zero, suc, ◌-◌, ◌≤◌, ◌<◌, ◌==◌, nat_le, All, drop, replicate, Result, arith, eq-eqb, ◌||◌, take, slice_index_or, is_some, slice_set, script_bytes, Script, member_in, step_by, step_of, Next, ScriptSaid as Said, and_then, closed, script_next as next, next_config, next_in, next_outside, next_step, next_words, said, said_from, start, with_setup, and_from, cases_eq, All-head, All-tail, Status, Command, Dev, Ckpt1, Ckpt2, MemberId, Page, JobFields, Journal, Config, Queue, is_member, BadCard, read_as as cards_as, text_of, LockNo, Book, beginner, is_holder, is_stopped, try_refusal, after_free, after_seize, after_try, granted, left_of, noted, seize_refusal, standing, ticked, with_holder, with_standing, Ask, Step, IsBy, IsStep, Disk, View, disk_now, Rose, next as next_moment, top, form_reads, form_room, Admission, admitted, asked, command_admitted, deck_admitted, if_granted, reset_admitted, resets, Frees, Refused, TakesOver, Unplayed, tried, Given, RightIf, ask_with, given_first, line_with, outcomes_with, play_with, outcomes_if, Cause, Cut, Ends, Stops, Halt, Waiting, Scene, scene_of, Outcome, is_up, silent, WasLost, NodeNo, CutsAs, cut_in, is_takeover, loses_then, same_device, admitted_at, played_at, ArePassed, Here, TakeNone, There, here_after, line_of, loses_after, has_begun, as_found, begins_at, HavePassed, IsRun, LinesBegun, LinesEnded, starts, stops, AreLeftAlone, CannotStop, IsLeftAlone, TakesNone, resets_in, IsNotStarted, get_or-set_other, Entry, nobody, Standing, all_entries, Release, Inner, Keep, Outer, Left, adds, adds_all, adds_first, adds_part, book_cut, left_by, none_left, stopped_by, Piece, Play, entered, released_by, spent}
-use Rattle.std.specs.List.{list_any}
-use Rattle.script_lang.specs.declared.config.Setup.{Setup}
-use Rattle.script_lang.specs.declared.script.OpenDeck.{OpenDeck}
-use Rattle.script_lang.specs.declared.script.State.{State}
+use Rattle.mas_run.proofs.Names.{◌≡◌, ℕ, ◌+◌, Bool, true, false, not, ◌&&◌, if◌then◌else◌, List, [], ◌∷◌, Option, Some, None, Ok, Err, refl, sym, ◌∙◌, ap, subst, ◌≢◌, ◌⊎◌, inl, inr, ⊎_elim, zero, suc, ◌-◌, ◌≤◌, ◌<◌, ◌==◌, nat_le, All, drop, replicate, Result, arith, eq-eqb, ◌||◌, slice_index_or, is_some, slice_set, Script, and_from, cases_eq, All-head, All-tail, Status, Dev, Ckpt1, Ckpt2, MemberId, Page, Journal, Config, Queue, is_member, Book, beginner, is_holder, is_stopped, try_refusal, after_free, after_seize, after_try, granted, left_of, noted, seize_refusal, standing, ticked, with_holder, with_standing, after_spend, after_stop, Ask, Step, IsBy, IsStep, Disk, View, disk_now, Rose, next as next_moment, top, form_reads, form_room, Admission, admitted, Frees, Refused, TakesOver, Unplayed, tried, Given, RightIf, ask_with, given_first, line_with, outcomes_with, play_with, outcomes_if, Cause, Cut, Ends, Stops, Scene, scene_of, Outcome, is_up, silent, WasLost, NodeNo, CutsAs, cut_in, is_takeover, loses_then, same_device, admitted_at, played_at, ArePassed, Here, TakeNone, There, here_after, line_of, loses_after, has_begun, as_found, begins_at, HavePassed, IsRun, LinesBegun, LinesEnded, starts, stops, AreLeftAlone, CannotStop, IsLeftAlone, TakesNone, resets_in, IsNotStarted, get_or-set_other, nobody, Standing, left_by, Play, no}
 use Rattle.script_lang.specs.declared.types.Run.{Run}
-use Rattle.script_lang.specs.declared.types.ScriptNo.{ScriptNo}
-use Rattle.script_lang.specs.Config.{configured}
-use Rattle.script_lang.specs.Lines.{has_word, is_deck_end, is_empty, is_line, lines_of, words_of}
 use Rattle.script_input.specs.Script.{read_as}
+use Rattle.script_laws.specs.Laws.{ReadsScripts}
+use Rattle.script_laws.specs.Whole.{AreLinesOf, Configured, DeckLines, IsScriptOf, NoLine, Plain, SkippedLine, StepLine}
 use Rattle.std.specs.Str.{bytes_eq}
 use Rattle.std.proofs.lemmas.Slice.Eq.{bytes_eq-Decides}
 use Rattle.ckpt_copy.specs.Pages.{bytes_of, level}
@@ -17,60 +12,26 @@ use Rattle.warm_start.specs.Starting.{Mark, IsFound, IsSeen, IsUnfit, NoneOrFail
 use Rattle.start_choice.specs.Usable.{HaveSize, IsUsable}
 use Rattle.mas_run.proofs.PassedLemmas.{by_going, passed_goes}
 use Rattle.mas_run.proofs.MuteLineLemmas.{same_dev}
-use Rattle.mas_types.specs.declared.answers.LineCause.TheVariants as cause
-use Rattle.script_lang.specs.declared.types.ScriptNo.TheVariants as no
 use Rattle.mas_types.specs.declared.answers.Status.TheVariants as status
 use Rattle.script_lang.specs.declared.types.Ask.TheVariants as ask
+use Rattle.mas_run.proofs.ComesLemmas.{Comes, comes, TakeoverCame}
+use Rattle.mas_run.proofs.BookLemmas.{left_keeps}
 
--- no step was said, and no deck is open
-pub record HasNone (s : State) : Type 0 where
-  pub deck : s.deck ≡ None
-  pub steps : s.script.steps ≡ []
-
-abbrev Keeps : Next → Type 0
-Keeps (Ok s) = HasNone s
-Keeps (Err why) = Unit {0}
-
-keeps_if : (test : Bool) (x y : Next) → Keeps x → Keeps y → Keeps (if test then x else y)
-keeps_if true x y one two = one
-keeps_if false x y one two = two
-
-keeps_setup : (s : State) (setup : Option Setup) → s.script.steps ≡ [] → Keeps (with_setup s setup)
-keeps_setup s None none = tt
-keeps_setup s (Some setup) none = record { deck = refl; steps = none }
+-- A SCRIPT that is read for a run that only formats has no steps: no line of a step may stand in it
 
 module _ (run : Run) (only : run.only ≡ true) where
-  keeps_next : (s : State) (ends : Bool) (line : List ℕ) → HasNone s → Keeps (next run s ends line)
-  keeps_next s ends line none = let keeps_outside : (s : State) (ends : Bool) (line : List ℕ) → HasNone s → Keeps (next_outside run s ends line) = λ s ends line none. let keeps_words : (s : State) (ends : Bool) (words : List (List ℕ)) → s.script.steps ≡ [] → Keeps (next_words run s ends words) = λ s ends words none. let keeps_step : (s : State) (ends : Bool) (words : List (List ℕ)) → Keeps (next_step s ends (step_of run words)) = λ s ends words. subst (λ (b : Bool). Keeps (next_step s ends (if b then Err cause.Only else step_by run words (member_in words)))) (sym only) tt in
-      let keeps_config : (s : State) (words : List (List ℕ)) → s.script.steps ≡ [] → Keeps (next_config run s words) = λ s words none. keeps_if s.seen (Err cause.Late) (if not run.cold && not run.only then Err cause.Warm else with_setup s (configured words)) tt
-      (keeps_if (not run.cold && not run.only) (Err cause.Warm) (with_setup s (configured words)) tt (keeps_setup s (configured words) none)) in
-      keeps_if (has_word words 0 (codes "CONFIG")) (next_config run s words) (next_step s ends (step_of run words)) (keeps_config s words none) (keeps_step s ends words) in
-      keeps_if (not (is_line line)) (Err cause.Text) (if is_empty line then Ok s else next_words run s ends (words_of line)) tt
-      (keeps_if (is_empty line) (Ok s) (next_words run s ends (words_of line)) none (keeps_words s ends (words_of line) none.steps)) in
-      subst (λ (deck : Option OpenDeck). Keeps (next_in run (closed s) deck ends line)) (sym none.deck) (keeps_outside (closed s) ends line (record { deck = refl; steps = none.steps }))
+  none_in : {lines : List (List ℕ)} {steps : List Step} → AreLinesOf run lines steps → steps ≡ []
+  none_in NoLine = refl
+  none_in (SkippedLine line lines steps skipped are) = none_in are
+  none_in (StepLine line lines step steps is deck are) = absurd (no true refl (sym only ∙ is.only))
+  none_in (DeckLines line cards lines m steps is cards_are are) = absurd (no true refl (sym only ∙ is.only))
 
-  no_script : {A : Type 0} (why : ScriptNo) (script : Script) → (let is : Said = Err why in is) ≡ Ok script → A
-  no_script why script e = absurd (cc)
+  none_of : {lines : List (List ℕ)} {script : Script} → IsScriptOf run lines script → script.steps ≡ []
+  none_of (Plain lines steps are) = none_in are
+  none_of (Configured front line lines setup steps skipped config are) = none_in are
 
-  none_then : (number : ℕ) (more : State → Said) (script : Script) → ((t : State) → HasNone t → more t ≡ Ok script → script.steps ≡ []) → (r : Next) → Keeps r → and_then number more r ≡ Ok script → script.steps ≡ []
-  none_then number more script go (Ok t) keeps e = go t keeps e
-  none_then number more script go (Err why) keeps e = no_script (no.BadLine number why) script e
-
-  none_from : (number : ℕ) (s : State) (lines : List (List ℕ)) (script : Script) → HasNone s → said_from run number s lines ≡ Ok script → script.steps ≡ []
-  none_from number s [] script none e = let same_script : (s : State) (script : Script) → (let is : Said = Ok s.script in is) ≡ Ok script → s.script ≡ script = λ s script e. cc in
-      ap (λ (x : Script). x.steps) (sym (same_script s script e)) ∙ none.steps
-  none_from number s (line ∷ lines) script none e = none_then number (λ t. said_from run (number + 1) t lines) script (λ t keeps f. none_from (number + 1) t lines script keeps f)
-      (next run s (list_any is_deck_end lines) line) (keeps_next s (list_any is_deck_end lines) line none) e
-
-  none_said : (bytes : List ℕ) (script : Script) → said run bytes ≡ Ok script → script.steps ≡ []
-  none_said bytes script e = by_length (nat_lt script_bytes (length bytes)) e where
-    by_length : (long : Bool) → (if long then Err no.TooLong else said_from run 1 start (lines_of bytes)) ≡ Ok script → script.steps ≡ []
-    by_length true f = no_script no.TooLong script f
-    by_length false f = none_from 1 start (lines_of bytes) script (record { deck = refl; steps = refl }) f
-
-  -- a script that is read for a run that only formats has no steps
-  pub none_read : (bytes : List ℕ) (script : Script) → read_as run bytes ≡ Ok script → script.steps ≡ []
-  none_read bytes script e = none_said bytes script e
+  pub none_read : ReadsScripts → (bytes : List ℕ) (script : Script) → read_as run bytes ≡ Ok script → script.steps ≡ []
+  none_read reads bytes script e = none_of ((reads run bytes script).0 e).2
 
 -- Copies that are left alone aren't both lost.
 
@@ -129,45 +90,7 @@ module _ (by k : MemberId) where
       if_same (is_holder b by) b (if inner then with_holder b nobody else with_holder (noted b by) nobody) b
       (if_same inner b (with_holder b nobody) (with_holder (noted b by) nobody) refl (set_same b (record (standing b by) { freed = Some b.tick }) refl)) refl
 
-  -- A PIECE
-
-  released_same : (r : Release) (b : Book) → Same b (released_by r b by)
-  released_same Keep b = refl
-  released_same Inner b = freed_same b true
-  released_same Outer b = freed_same b false
-
-  sat_same : (b : Book) (ess : List (List Entry)) (r : Release) → Same b (released_by r (spent (entered b by) by ess) by)
-  sat_same b ess r =
-      same_then b (entered b by) (released_by r (spent (entered b by) by ess) by) (tried_same b true)
-      (same_then (entered b by) (spent (entered b by) by ess) (released_by r (spent (entered b by) by ess) by)
-      (set_same (entered b by) (record (standing (entered b by) by) { left = left_of (entered b by) by - length (all_entries ess) }) refl) (released_same r (spent (entered b by) by ess)))
-
-  cut_same : (halt : Halt) (b : Book) (p : Piece) → Same b (book_cut by halt b p)
-  cut_same (Waiting n tail) b p = sat_same b p.sitting.batches p.sitting.release
-  cut_same _ b p = tried_same b true
-
   -- A LINE
-
-  adds_same : (locked : Bool) (l : Left) (p : Piece) → Same l.book (adds by locked l p).book
-  adds_same true l p = sat_same l.book p.sitting.batches p.sitting.release
-  adds_same false l p = refl
-
-  all_same : (locked : Bool) (l : Left) (ps : List Piece) → Same l.book (adds_all by locked l ps).book
-  all_same locked l [] = refl
-  all_same locked l (p ∷ ps) =
-      same_then l.book (adds by locked l p).book (adds_all by locked (adds by locked l p) ps).book (adds_same locked l p) (all_same locked (adds by locked l p) ps)
-
-  part_same : (locked : Bool) (halt : Halt) (l : Left) (p : Piece) → Same l.book (adds_part by locked halt l p).book
-  part_same true halt l p = cut_same halt l.book p
-  part_same false halt l p = refl
-
-  first_same : (locked : Bool) (halt : Halt) (l : Left) (ps : List Piece) → Same l.book (adds_first by locked halt l ps).book
-  first_same locked halt l [] = refl
-  first_same locked halt l (p ∷ ps) = part_same locked halt l p
-
-  cause_same : (cause : Cause) → (cause ≡ Stops → Apart) → (b : Book) → Same b (stopped_by by cause b)
-  cause_same Stops apart b = other_set (apart refl) b (record (standing b by) { stopped = true })
-  cause_same Ends apart b = refl
 
   admitted_same : (a : Admission) (b : Book) → Same b (tried b by a)
   admitted_same (Refused sayer end) b = refl
@@ -177,13 +100,9 @@ module _ (by k : MemberId) where
   admitted_same _ b = tried_same b false
 
   play_same : (play : Play) (count : ℕ) (cut : Option Cut) → (StopsIn cut → Apart) → Same play.book (left_by by cut play count).book
-  play_same play count None apart = all_same play.locked (none_left by play.book count) play.pieces
-  play_same play count (Some cut) apart =
-      let one = adds_all by play.locked (none_left by play.book count) (take cut.sittings play.pieces) in
-      let two = adds_first by play.locked cut.halt one (drop cut.sittings play.pieces) in
-      same_then play.book two.book (stopped_by by cut.cause two.book)
-      (same_then play.book one.book two.book (all_same play.locked (none_left by play.book count) (take cut.sittings play.pieces)) (first_same play.locked cut.halt one (drop cut.sittings play.pieces)))
-      (cause_same cut.cause apart two.book)
+  play_same play count cut apart = left_keeps by (λ c. Same play.book c) (λ b is. same_then play.book b (after_try b by true) is (tried_same b true)) (λ b inner is. same_then play.book b (after_free b by inner) is (freed_same b inner))
+      (λ b n is. same_then play.book b (after_spend b by n) is (set_same b (record (standing b by) { left = left_of b by - n }) refl))
+      cut (λ k is why b now. same_then play.book b (after_stop b by) now (other_set (apart (subst StopsIn (sym is) why)) b (record (standing b by) { stopped = true }))) play count refl
 
   silent_same : (t : Bool) (S T U : Scene) → Same S.book T.book → Same S.book U.book → Same S.book (if t then silent T else silent U).next.book
   silent_same true S T U one two = one
@@ -193,54 +112,26 @@ module _ (by k : MemberId) where
   line_stops S at g ask.Stop apart = silent_same (is_up S by) S _ S (other_set (apart (inl refl)) S.book (record (standing S.book by) { stopped = true })) refl
   line_stops S at g (ask.StopIn what n) apart = silent_same (is_up S by) S _ S refl refl
   line_stops S at g (ask.Lose dev) apart = refl
-  line_stops S at g another apart = let line_same : (S : Scene) (a : Admission) (g : Given) → (StopsIn g.sight.cut → Apart) → Same S.book (left_by by g.sight.cut (play_with S by a g) (S.counts by)).book = λ S a g apart. same_then S.book (tried S.book by a) (left_by by g.sight.cut (play_with S by a g) (S.counts by)).book (admitted_same a S.book) (play_same (play_with S by a g) (S.counts by) g.sight.cut apart) in
+  line_stops S at g another apart =
+      let line_same : (S : Scene) (a : Admission) (g : Given) → (StopsIn g.sight.cut → Apart) → Same S.book (left_by by g.sight.cut (play_with S by a g) (S.counts by)).book =
+      λ S a g apart. same_then S.book (tried S.book by a) (left_by by g.sight.cut (play_with S by a g) (S.counts by)).book (admitted_same a S.book) (play_same (play_with S by a g) (S.counts by) g.sight.cut apart) in
       line_same S (admitted S.queue.config S.book by another) g (λ stop. apart (inr stop))
 
 -- NO LOCK IS TAKEN OVER where no line resets another member that a line before it may have stopped
 
-if_takes : (t : Bool) (a b : Admission) → is_takeover a ≡ false → (t ≡ false → is_takeover b ≡ false) → is_takeover (if t then a else b) ≡ false
-if_takes true a b one two = one
-if_takes false a b one two = two refl
-
-granted_takes : (why : Option LockNo) (a : Admission) → is_takeover a ≡ false → is_takeover (if_granted why a) ≡ false
-granted_takes None a is = is
-granted_takes (Some reason) a is = refl
-
-true_false : true ≡ false → ⊥
-true_false e = absurd (cc)
-
-not_false : (b : Bool) → not b ≡ false → b ≡ true
-not_false true e = refl
-not_false false e = absurd (true_false e)
-
 module _ (config : Config) (b : Book) (by : MemberId) where
-  command_takes : (c : Command) (of : Option MemberId) → ((k : MemberId) → of ≡ Some k → is_member config k ≡ true → is_stopped b k ≡ false) → is_takeover (command_admitted config b by c of) ≡ false
-  command_takes c None up = granted_takes (try_refusal b by false) _ refl
-  command_takes c (Some of) up = let reset_takes : (of : MemberId) → (is_member config of ≡ true → is_stopped b of ≡ false) → is_takeover (reset_admitted config b by of) ≡ false = λ of up. if_takes (not (is_member config of)) _ _ refl
-      (λ is. if_takes (not (is_stopped b of)) _ _ refl (λ stopped. absurd (true_false (sym (not_false (is_stopped b of) stopped) ∙ up (not_false (is_member config of) is))))) in
-      reset_takes of (up of refl)
-
-  deck_takes : (text : List (List ℕ)) (said : Result JobFields BadCard) → is_takeover (deck_admitted b by text said) ≡ false
-  deck_takes text (Err bad) = refl
-  deck_takes text (Ok fields) = granted_takes (try_refusal b by false) _ refl
-
-  asked_takes : (what : Ask) → ((k : MemberId) → resets_in what ≡ Some k → is_member config k ≡ true → is_stopped b k ≡ false) → is_takeover (asked config b by what) ≡ false
-  asked_takes (ask.Deck cards) up = deck_takes (text_of cards) (cards_as config.node cards)
-  asked_takes (ask.Command c) up = command_takes c (resets c) up
-  asked_takes ask.Free up = if_takes (is_holder b by) _ _ refl (λ e. refl)
-  asked_takes (ask.Lose dev) up = refl
-  asked_takes ask.Stop up = refl
-  asked_takes (ask.StopIn fuse n) up = refl
-  asked_takes _ up = granted_takes (try_refusal b by false) _ refl
+  takes_by : {what : Ask} {a : Admission} → Comes config b by what a → ((k : MemberId) → resets_in what ≡ Some k → is_stopped b by ≡ false → is_member config k ≡ true → is_stopped b k ≡ false) → is_takeover a ≡ false
+  takes_by (TakeoverCame c of up so member down holds) apart = absurd (no true refl (sym down ∙ apart of so up.up member))
+  takes_by _ apart = refl
 
   admitted_takes : (what : Ask) → ((k : MemberId) → resets_in what ≡ Some k → is_stopped b by ≡ false → is_member config k ≡ true → is_stopped b k ≡ false) → is_takeover (admitted config b by what) ≡ false
-  admitted_takes what up = if_takes (not (is_member config by)) _ _ refl (λ is. if_takes (is_stopped b by) _ _ refl (λ free. asked_takes what (λ k resets. up k resets free)))
+  admitted_takes what apart = takes_by (comes config b by what) apart
 
 -- who is a member has a number
 member_some : (config : Config) (k : MemberId) → is_member config k ≡ true → 1 ≤ k.0
 member_some config k is = some k.0 is where
   some : (n : ℕ) → (not (n == 0) && nat_le n config.members) ≡ true → 1 ≤ n
-  some zero e = absurd (true_false (sym e))
+  some zero e = absurd (no true refl (sym e))
   some (suc n) e = omega arith
 
 -- A CUT AND A STOP
@@ -354,13 +245,10 @@ same_as_self (x ∷ xs) = and_from (bytes_eq x.0 x.0) (are_same xs xs) ((bytes_e
 
 -- WHAT A START FINDS WHERE ONE COPY WAS LOST BEFORE: the pages of the other one, which the start doesn't lose
 
-clash : (b : Bool) → b ≡ true → b ≡ false → ⊥
-clash b p q = absurd (cc)
-
 module _ (dev : Dev) (old new : View) (mark : Mark) where
   none_of_lost : (found : List ℕ) (seen : Option (List ℕ)) → IsSeen form_reads dev old new mark seen → seen ≡ Some found → old.lost (Disk dev) ≡ true → ⊥
   none_of_lost found None is same lost = absurd (cc)
-  none_of_lost found (Some bytes) is same lost = clash (old.lost (Disk dev)) lost is.0
+  none_of_lost found (Some bytes) is same lost = no (old.lost (Disk dev)) lost is.0
 
   read_of : (found : List ℕ) (seen : Option (List ℕ)) → IsSeen form_reads dev old new mark seen → seen ≡ Some found → form_reads (disk_now old dev).bytes ≡ Some found
   read_of found None is same = absurd (cc)
@@ -371,7 +259,7 @@ module _ (dev : Dev) (old new : View) (mark : Mark) where
     unfit_seen None (inl gone) unfit = failed gone.failed
     unfit_seen None (inr none) unfit = let e : Some (bytes_of pages) ≡ None = sym read ∙ none in absurd (cc)
     unfit_seen (Some bytes) is unfit = let fits_self : (pages : List Page) (room : ℕ) → fits pages pages room ≡ true = λ pages room. let e : (level (bytes_of pages) == level (bytes_of pages)) ≡ true = eq-eqb (level (bytes_of pages)) (level (bytes_of pages)) refl in rw e (same_as_self pages) in
-        clash (fits pages pages room) (fits_self pages room) (unfit pages (sym is.1 ∙ read) sized usable)
+        no (fits pages pages room) (fits_self pages room) (unfit pages (sym is.1 ∙ read) sized usable)
 
     never_unfit : IsUnfit form_reads dev old new mark room pages → ⊥
     never_unfit u = unfit_seen u.seen u.is u.unfit
@@ -390,9 +278,9 @@ unlost dev steps old new alone same lost = let by_calls : (dev : Dev) (steps : L
 
 -- a copy that was left alone is there for a warm run
 unstarted_alone : (steps : List Step) (old new : View) → AreLeftAlone steps old new → NoneOrFailed old new → ⊥
-unstarted_alone steps old new (inl (one, (inl two))) failed = ⊎_elim (λ both. clash (old.lost (Disk Ckpt1)) both.0 one.there) (λ some. ⊎_elim (λ f. one.failed f.1) (λ f. two.failed f.1) some) failed
-unstarted_alone steps old new (inl (one, (inr lost))) failed = ⊎_elim (λ both. clash (old.lost (Disk Ckpt1)) both.0 one.there) (λ some. ⊎_elim (λ f. one.failed f.1) (λ f. clash (old.lost (Disk Ckpt2)) lost f.0) some) failed
-unstarted_alone steps old new (inr (two, lost)) failed = ⊎_elim (λ both. clash (old.lost (Disk Ckpt2)) both.1 two.there) (λ some. ⊎_elim (λ f. clash (old.lost (Disk Ckpt1)) lost f.0) (λ f. two.failed f.1) some) failed
+unstarted_alone steps old new (inl (one, (inl two))) failed = ⊎_elim (λ both. no (old.lost (Disk Ckpt1)) both.0 one.there) (λ some. ⊎_elim (λ f. one.failed f.1) (λ f. two.failed f.1) some) failed
+unstarted_alone steps old new (inl (one, (inr lost))) failed = ⊎_elim (λ both. no (old.lost (Disk Ckpt1)) both.0 one.there) (λ some. ⊎_elim (λ f. one.failed f.1) (λ f. no (old.lost (Disk Ckpt2)) lost f.0) some) failed
+unstarted_alone steps old new (inr (two, lost)) failed = ⊎_elim (λ both. no (old.lost (Disk Ckpt2)) both.1 two.there) (λ some. ⊎_elim (λ f. no (old.lost (Disk Ckpt1)) lost f.0) (λ f. two.failed f.1) some) failed
 
 -- in a run no call loses a copy that was left alone, except before the first line
 module _ (tells : Type 0) (told : tells) (script : Script) (answer : Status) (base : Queue) (J : Journal) (since : ℕ) (old new : View) (fits : All IsStep script.steps) (takes : TakesNone old new [] script.steps) where
@@ -407,12 +295,16 @@ module _ (tells : Type 0) (told : tells) (script : Script) (answer : Status) (ba
 
   warm_alone : IsRun false tells script answer base J since old new → AreLeftAlone script.steps old new → WasLost Ckpt1 old new → WasLost Ckpt2 old new → ⊥
   warm_alone r (inl (one, (inl two))) lost1 lost2 = ⊎_elim (λ e. unrisen false r Ckpt1 one e lost1) (λ e. unrisen false r Ckpt2 two e lost2) r.queue.one
-  warm_alone r (inl (one, (inr gone))) lost1 lost2 = let found_first : (old new : View) (mark : Mark) (found : List ℕ) → old.lost (Disk Ckpt2) ≡ true → IsFound form_reads old new mark found → form_reads (disk_now old Ckpt1).bytes ≡ Some found = λ old new mark found lost f. ⊎_elim (λ b. read_of Ckpt1 old new mark found f.one f.seen1 b.0) (λ b. absurd (none_of_lost Ckpt2 old new mark found f.two f.seen2 b.0 lost)) f.best in
+  warm_alone r (inl (one, (inr gone))) lost1 lost2 =
+      let found_first : (old new : View) (mark : Mark) (found : List ℕ) → old.lost (Disk Ckpt2) ≡ true → IsFound form_reads old new mark found → form_reads (disk_now old Ckpt1).bytes ≡ Some found =
+      λ old new mark found lost f. ⊎_elim (λ b. read_of Ckpt1 old new mark found f.one f.seen1 b.0) (λ b. absurd (none_of_lost Ckpt2 old new mark found f.two f.seen2 b.0 lost)) f.best in
       let q = r.queue in
       let read = found_first old (as_found r.lost new) (begins_at since r.first) (bytes_of q.pages) gone (q.found told) in
       ⊎_elim (λ e. unrisen false r Ckpt1 one e lost1)
       (λ u. never_unfit Ckpt1 old (as_found r.lost new) (begins_at since r.first) (form_room (disk_now old Ckpt1).bytes) q.pages q.sized (q.tables, q.are) one.failed read u) (q.kept1 told)
-  warm_alone r (inr (two, gone)) lost1 lost2 = let found_second : (old new : View) (mark : Mark) (found : List ℕ) → old.lost (Disk Ckpt1) ≡ true → IsFound form_reads old new mark found → form_reads (disk_now old Ckpt2).bytes ≡ Some found = λ old new mark found lost f. ⊎_elim (λ b. absurd (none_of_lost Ckpt1 old new mark found f.one f.seen1 b.0 lost)) (λ b. read_of Ckpt2 old new mark found f.two f.seen2 b.0) f.best in
+  warm_alone r (inr (two, gone)) lost1 lost2 =
+      let found_second : (old new : View) (mark : Mark) (found : List ℕ) → old.lost (Disk Ckpt1) ≡ true → IsFound form_reads old new mark found → form_reads (disk_now old Ckpt2).bytes ≡ Some found =
+      λ old new mark found lost f. ⊎_elim (λ b. absurd (none_of_lost Ckpt1 old new mark found f.one f.seen1 b.0 lost)) (λ b. read_of Ckpt2 old new mark found f.two f.seen2 b.0) f.best in
       let q = r.queue in
       let read = found_second old (as_found r.lost new) (begins_at since r.first) (bytes_of q.pages) gone (q.found told) in
       ⊎_elim (λ e. unrisen false r Ckpt2 two e lost2)
@@ -424,7 +316,9 @@ module _ (tells : Type 0) (told : tells) (script : Script) (answer : Status) (ba
   not_both cold alone unstarted kept run lost1 lost2 = by_begun cold (has_begun base) unstarted kept run refl where
     by_begun : (c begun : Bool) → (c ≡ false → has_begun base ≡ false → IsNotStarted tells status.BothLost old new) → (c ≡ true → has_begun base ≡ false → (d : Dev) → new.loses d ≡ old.loses d)
         → (has_begun base ≡ true → IsRun c tells script answer base J since old new) → has_begun base ≡ begun → ⊥
-    by_begun true true not keep has e = let cold_alone : IsRun true tells script answer base J since old new → AreLeftAlone script.steps old new → WasLost Ckpt1 old new → WasLost Ckpt2 old new → ⊥ = λ r alone lost1 lost2. ⊎_elim (λ a. unrisen true r Ckpt1 a.0 (r.before Ckpt1) lost1) (λ a. unrisen true r Ckpt2 a.0 (r.before Ckpt2) lost2) alone in
+    by_begun true true not keep has e =
+        let cold_alone : IsRun true tells script answer base J since old new → AreLeftAlone script.steps old new → WasLost Ckpt1 old new → WasLost Ckpt2 old new → ⊥ =
+        λ r alone lost1 lost2. ⊎_elim (λ a. unrisen true r Ckpt1 a.0 (r.before Ckpt1) lost1) (λ a. unrisen true r Ckpt2 a.0 (r.before Ckpt2) lost2) alone in
         cold_alone (has e) alone lost1 lost2
     by_begun false true not keep has e = warm_alone (has e) alone lost1 lost2
     by_begun true false not keep has e = ⊎_elim (λ a. unlost Ckpt1 script.steps old new a.0 (keep refl e Ckpt1) lost1) (λ a. unlost Ckpt2 script.steps old new a.0 (keep refl e Ckpt2) lost2) alone

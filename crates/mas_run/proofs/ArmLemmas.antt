@@ -1,7 +1,8 @@
 -- A line of a member at a scene that the value shows: what is known once it was tested, and what its member may do.
-use Rattle.mas_run.proofs.Names.{inl, inr, ◌≡◌, ℕ, zero, suc, ◌+◌, ◌-◌, true, List, [], ◌∷◌, set, slice_get, slice_set, Option, Some, None, Result, refl, sym, ◌∙◌, ap, subst, arith, ◌⊎◌, ◌<◌, ◌≤◌, ◌++◌, false, length, ◌&&◌, ◌||◌, Bool, if◌then◌else◌, All, is_some, append-nil, MemberId, Batch, Entry, Config, Queue, Book, IsMember, after_try, is_stopped, left_of, beginner, granted, is_dormant, is_holder, standing, ticked, try_refusal, wakes, after_stop, left_of as hold_left, runs_keep_configuration, Ghosts as PlantGhosts, CopyGhosts, SteadyGhosts, Complex, kept_all, in_flight, Parts, parts_of, Member, NodeNo, IsTested, Ask, Admission, admitted, tried, granted_by, Given, is_locked, Scene, HasLeftAs, LeftAt, LineDone, line_by, is_of_member, RenewsAs, AreMembers, IsFlight, IsMemberAt, IsShown, BetweenLines, IsMemberUp, IsBetween, is_left_held, LeftBetween, steps_most, members_most, admission_of, tested_as, earlier_kept, AreKeptFrom, AreEarlier, IsKeptBy, IsPlayed, Grant, Holder, level_most, levels_most, inside_since, tried_since, Since, stopped_now, stopped_since, then_since, get_or-set_same, All-weaker, is_somebody, nobody, units_most, LockNo, Standing, View, Line, page_count, HasStepKept, IsSeat, first_half, second_half, MayHold, IsQuiet, IsSeatedBy, MayGoOn, levels_for, ByLock, ForStep, Fresh, Task, Work, IsOfEarlier, console_now, OtherNotesStay, IsAtGate, IsOpen, MayTakeSeat, journal_of, Proceeds, journal_still, TellNone, untold_then}
+use Rattle.mas_run.proofs.Names.{inl, inr, ◌≡◌, ℕ, zero, suc, ◌+◌, ◌-◌, true, List, [], ◌∷◌, set, slice_get, slice_set, Option, Some, None, Result, refl, sym, ◌∙◌, ap, subst, arith, ◌⊎◌, ◌<◌, ◌≤◌, ◌++◌, false, length, ◌&&◌, ◌||◌, Bool, if◌then◌else◌, All, is_some, append-nil, MemberId, Batch, Entry, Config, Queue, Book, IsMember, after_try, is_stopped, left_of, beginner, granted, is_dormant, is_holder, standing, ticked, try_refusal, wakes, after_stop, left_of as hold_left, runs_keep_configuration, PlantGhosts, Ghosts as CopyGhosts, SteadyGhosts, Complex, kept_all, in_flight, Parts, parts_of, Member, NodeNo, IsTested, Ask, Admission, admitted, tried, granted_by, Given, is_locked, Scene, HasLeftAs, LeftAt, LineDone, line_by, is_of_member, RenewsAs, AreMembers, IsFlight, IsMemberAt, IsShown, BetweenLines, IsMemberUp, IsBetween, is_left_held, LeftBetween, steps_most, members_most, admission_of, tested_as, earlier_kept, AreKeptFrom, AreEarlier, IsKeptBy, IsPlayed, Grant, Holder, level_most, levels_most, inside_since, tried_since, Since, stopped_now, stopped_since, then_since, get_or-set_same, All-weaker, is_somebody, nobody, units_most, LockNo, Standing, View, ViewLine as Line, page_count, HasStepKept, IsSeat, first_half, second_half, MayHold, IsQuiet, IsSeatedBy, MayGoOn, levels_for, ByLock, ForStep, Fresh, Task, Work, IsOfEarlier, console_now, OtherNotesStay, IsAtGate, IsOpen, MayTakeSeat, journal_of, Proceeds, journal_still, TellNone, untold_then, holder_of}
 use Rattle.member_lines.specs.declared.admissions.Admission.{Admission as Admitted}
-use Rattle.mas_run.proofs.KnownLemmas.{HasGot, IsUpMember, IsKnown, holder_is, holder_keeps, inside_of, known}
+use Rattle.mas_run.proofs.KnownLemmas.{IsKnown, inside_of, known}
+use Rattle.mas_run.proofs.ComesLemmas.{HasGot, IsUpMember, holder_is, holder_keeps}
 use Rattle.mas_run.proofs.TurnedLemmas.{quiet_with, earlier_now, earlier_then, halted_between}
 use Rattle.lock_cycle.specs.declared.answers.LockNo.TheVariants as lock
 
@@ -276,6 +277,18 @@ module _ {P C : Type 0} {plants : PlantGhosts P} {steadies : SteadyGhosts C} {co
 
   pub turn_earlier : All (IsOfEarlier at) p.batches
   turn_earlier = earlier_now at p.batches p.current turn_quiet.none turn.arm.is.earlier
+
+  -- who holds the lock in its line
+  abbrev pub turn_holder : Holder
+  turn_holder = record { by = by; step = at; hold = hold_left b by; grant = granted_by x.book by }
+
+  pub its_holder : (h : Holder) → h ≡ record { by = by; step = at; hold = hold_left mid.book by; grant = granted_by x.book by } → h ≡ turn_holder
+  its_holder h same = same ∙ ap (λ (w : Parts P C). let g : Holder = record { by = by; step = at; hold = hold_left w.book by; grant = granted_by x.book by } in g) turn.frame
+
+  pub holder_here : (told : Type 0) (S : Scene) → IsShown plants copies told S p → (c : Admission) → tried x.book by c ≡ b → holder_of S by at c ≡ turn_holder
+  holder_here told S shown c is =
+      ap (λ (k : Book). let g : Holder = record { by = by; step = at; hold = hold_left k by; grant = granted_by S.book by } in g) (tried_here plants copies told S p shown by c b is)
+      ∙ ap (λ (k : Book). let g : Holder = record { by = by; step = at; hold = hold_left b by; grant = granted_by k by } in g) (sym shown.book)
 
   -- it may go on, and take its seat
   pub turn_goes : (task : Task) → IsFewTask task

@@ -1,10 +1,10 @@
 -- A line of a member, once the operator said that its member was stopped, if it was.
-use Rattle.mas_run.proofs.Names.{◌≡◌, ℕ, ◌+◌, ◌≤◌, true, List, Result, Ok, Err, OnOk, sym, ◌∙◌, ap, subst, Bool, false, not, if◌then◌else◌, length, Option, None, refl, ◌≢◌, ◌++◌, arith, inr, zero, suc, ◌==◌, [], ◌∷◌, drop, map, take, append-nil, Some, ⊎_elim, inl, ◌-◌, ◌*◌, ◌<◌, set, slice_get, MemberId, steps_most, wires_most, Book, IsMember, is_stopped, Ghosts as PlantGhosts, CopyGhosts, SteadyGhosts, Complex, Parts, parts_of, unreserved_in, Member, NodeNo, SaysStopped, ActsOnce, failed, Ask, Scene, Batched, count_then, flight_found, queue_found, with_count, CopiesKept, LeavesCopies, LeftAt, HasSaidStop, linesleft_left_at as left_at, HasLeft, IsCutBy, LinesLeftIsCutIn as IsCutIn, StopCauses, LeavesAt, seen_of, LineIsLeft, HasPlayedLine, is_of_member, line_by, BetweenLines, IsBetween, IsShown, IsFlight, LineDone, LineIsPlayed, Config, Queue, nobody, same_member, is_member, runs_keep_configuration, Step, kept_all, AreSettled, seated, Admission, Refused, admitted, asked, no_member, Plays, Resets, TakesOver, tried, left_by, none_left, Left, play_with, Given, ArePiecesOf, IsAskRight, queue_met, Cut, Renewed, Ends, Halt, Sight, LineAt, admitted_at, played_at, pieces_as, pieces_at, Since, none_since, unlocked_book, play_stops, inside_since, admitted_since, line_since, Batch, Fate, View, Line, paper_now, taken_now, SameWires, Rose, counts_of, Renewals, journal_of, queue_of, fate_found, Piece, Play, is_locked, piece_at, pieces_found, pieces_from, sayer_of, unless_told, settle, IfRuns, RenewsAs, Carries, HeardFirst, task_place, Dev, run, Console, Disk, OfFirst, AreBatched, AtCut, IsBroken, IsTight, whole_pieces, AreFoundIn, waits_in, named_in, rose_later, console_now, VolumesStay, holder_then, all_entries, Sitting, Holder, State, Deck, Give, Work, Node, Said, scene_left, CutsAs, IfIdle, IsHonest, IsPassed, IsThere, IsUnsaid, IsWithin, LosesAs, cut_of, is_takeover, is_work, printed_at, taking, IsHonestAs, StaysAs, named_as, Proceeds, IsShapedAs, proceeds_of, proceeds_on, kept_on, nat_tests, same_member_is, StandsIn, journal_unreserved, IsLine, IsElsewhere, ReaderStaysFrom, MayBeAsked, OnConsole, Fresh, Task, AreReaders, HasRead, reader_place}
+use Rattle.mas_run.proofs.Names.{IsWhy, ◌≡◌, ℕ, ◌+◌, ◌≤◌, true, List, Result, Ok, Err, OnOk, sym, ◌∙◌, ap, subst, Bool, false, not, if◌then◌else◌, length, Option, None, refl, ◌≢◌, ◌++◌, arith, inr, zero, suc, ◌==◌, [], ◌∷◌, drop, map, take, Some, ⊎_elim, inl, ◌-◌, ◌*◌, ◌<◌, set, slice_get, MemberId, steps_most, wires_most, Book, IsMember, is_stopped, PlantGhosts, Ghosts as CopyGhosts, SteadyGhosts, Complex, Parts, parts_of, unreserved_in, Member, NodeNo, SaysStopped, ActsOnce, failed, Ask, Scene, Batched, count_then, flight_found, queue_found, with_count, CopiesKept, LeavesCopies, LeftAt, linesleft_left_at as left_at, HasLeft, IsCutBy, LinesLeftIsCutIn as IsCutIn, LeavesAt, seen_of, LineIsLeft, HasPlayedLine, is_of_member, line_by, BetweenLines, IsBetween, IsShown, IsFlight, LineDone, LineIsPlayed, Config, Queue, nobody, same_member, is_member, runs_keep_configuration, Step, kept_all, AreSettled, seated, Admission, Refused, admitted, asked, no_member, Plays, Resets, TakesOver, tried, left_by, none_left, Left, play_with, Given, ArePiecesOf, IsAskRight, queue_met, Cut, Ends, Halt, Sight, LineAt, admitted_at, played_at, pieces_as, pieces_at, Since, none_since, unlocked_book, play_stops, inside_since, admitted_since, line_since, Batch, Fate, View, ViewLine as Line, paper_now, taken_now, Rose, counts_of, Renewals, journal_of, queue_of, fate_found, Piece, Play, is_locked, piece_at, pieces_found, pieces_from, sayer_of, unless_told, settle, IfRuns, RenewsAs, Carries, HeardFirst, task_place, Dev, run, Console, Disk, OfFirst, AreBatched, AtCut, IsBroken, IsTight, whole_pieces, AreFoundIn, waits_in, named_in, rose_later, console_now, VolumesStay, holder_then, all_entries, Sitting, Holder, State, Deck, Give, Work, Line as Node, Said, scene_left, CutsAs, IfIdle, IsHonest, IsPassed, IsThere, IsUnsaid, IsWithin, LosesAs, cut_of, is_takeover, is_work, printed_at, taking, IsHonestAs, StaysAs, named_as, Proceeds, IsShapedAs, proceeds_of, proceeds_on, kept_on, nat_tests, same_member_is, StandsIn, journal_unreserved, IsLine, IsElsewhere, ReaderStaysFrom, MayBeAsked, OnConsole, Fresh, Task, AreReaders, HasRead, reader_place, Cause, HasCause, IsHaltBy, Stops, append_assoc, stopped_lines, stopped_said, no}
 use Rattle.mas_run.proofs.CopiesLemmas.{said_copies, leaves_same, leaves_then}
 use Rattle.mas_run.proofs.MuteLineLemmas.{stopped_next}
 use Rattle.mas_run.proofs.ClosingLemmas.{not_lost}
-use Rattle.mas_run.proofs.LeftLemmas.{stop_said, passed_error, passed_stopped, act_after, loses_on, papers_on, shaped_as_later, finds_later, found_left, given_left, passed_uncut, arms_same, batches_left, if_member, leaves_as, lines_left, loses_none, member_cut, member_stays, printed_here, printed_left, right_of, took, next_left, console_stays, stays_on, on_ok}
-use Rattle.mas_run.proofs.PassedLemmas.{renews_later, renews_ended, batched_later, kept_later, history_own}
+use Rattle.mas_run.proofs.LeftLemmas.{of_member, passed_here, act_after, loses_on, papers_on, shaped_as_later, finds_later, found_left, given_left, arms_same, batches_left, if_member, lines_left, loses_none, printed_here, printed_left, took, next_left, console_stays, stays_on, on_ok}
+use Rattle.mas_run.proofs.PassedLemmas.{renews_later, renews_caused, batched_within, kept_later, history_own}
 use Rattle.mas_run.proofs.WireLemmas.{carries_as, carries_later, readers_served, readers_still, set_still, ReadsLine, carries_still}
 use Rattle.mas_run.proofs.JournalLemmas.{flight_next, queue_then}
 use Rattle.mas_run.proofs.ClosesLemmas.{scene_at, shown_at, if_ok}
@@ -39,10 +39,7 @@ module _ {P C : Type 0} (plants : PlantGhosts P) (copies : CopyGhosts C) (told :
         ∙ shown.counts t m (since.up m up)
         ∙ ap (λ (b : Bool). if b then (left_at l).count else l.scene.counts m) (sym is) where
           other : false ≡ same_member l.step.by l.step.by → ⊥
-          other e = apart (e ∙ own l.step.by.0) where
-            apart : false ≡ true → ⊥
-            apart f = absurd (cc)
-
+          other e = no false (e ∙ own l.step.by.0) refl where
             own : (n : ℕ) → (n == n) ≡ true
             own n = grind (arith, nat_tests)
 
@@ -67,30 +64,27 @@ module _ {P C : Type 0} (plants : PlantGhosts P) (copies : CopyGhosts C) (told :
     (left : HasLeft plants copies told l x y (Err no_node.Halted)) (inside : IsMember l.scene.book l.step.by) where
   stopped_count : told → is_stopped (left_at l).book l.step.by ≡ false → counts_of y.printed l.step.by ≡ (left_at l).count
   stopped_count t up = next_cut l.given.sight.cut refl left.cut where
-    apart : true ≡ false → ⊥
-    apart e = absurd (cc)
-
     next_cut : (c : Option Cut) → l.given.sight.cut ≡ c → IsCutBy {T = Unit {0}} (Err no_node.Halted) (pieces_at l) c → counts_of y.printed l.step.by ≡ (left_at l).count
     next_cut None is so = absurd so
     next_cut (Some cut) is so =
         let play = play_with l.scene l.step.by (admitted_at l) l.given in
         let seated = inside_since l.scene.book play.book l.step.by (admitted_since l.step.by (admitted_at l) l.scene.book inside) inside in
-        absurd (apart (sym (play_stops l.step.by play (l.scene.counts l.step.by) seated l.given.sight.cut cut is so.cause) ∙ up))
+        absurd (no true refl (sym (play_stops l.step.by play (l.scene.counts l.step.by) seated l.given.sight.cut cut is so.cause) ∙ up))
 
 -- the book from before a line of a member on
 left_since : (l : LineAt) → IsMember l.scene.book l.step.by → Since l.scene.book (left_at l).book
 left_since l inside = line_since l.step.by l.scene.book (admitted_at l) (play_with l.scene l.step.by (admitted_at l) l.given) (l.scene.counts l.step.by) l.given.sight.cut refl inside
 
--- THE LINE, cut there because the run ended
+-- THE LINE, cut there for another cause
 
-abbrev ended_cut : Cut → Cut
-ended_cut cut = record cut { cause = Ends }
+abbrev caused : Cause → Cut → Cut
+caused why cut = record cut { cause = why }
 
-abbrev ended_given : Cut → Given → Given
-ended_given cut g = record g { sight = record g.sight { cut = Some (ended_cut cut) } }
+abbrev caused_given : Cause → Cut → Given → Given
+caused_given why cut g = record g { sight = record g.sight { cut = Some (caused why cut) } }
 
-abbrev ended_line : Cut → LineAt → LineAt
-ended_line cut l = record l { given = ended_given cut l.given }
+abbrev caused_line : Cause → Cut → LineAt → LineAt
+caused_line why cut l = record l { given = caused_given why cut l.given }
 
 -- ITS PIECES are the same: where a line was cut tells nothing of what it found
 
@@ -107,23 +101,23 @@ pieces_same (suc more) s c count Q h st =
     ap (λ (ps : List Piece). p ∷ unless_told p.sitting.next ps)
     (pieces_same more s c (count_then h.by es count + length p.printed) (run Q es) (holder_then Q h es) p.sitting.next)
 
-right_same : (S : Scene) (by : MemberId) (at : ℕ) (cut : Cut) (g : Given) (a : Admission) → ArePiecesOf S by at a g → ArePiecesOf S by at a (ended_given cut g)
-right_same S by at cut g (Plays task) is = is ∙ sym (pieces_same _ g.sight (Some (ended_cut cut)) (S.counts by) S.queue _ _)
-right_same S by at cut g _ is = is
+right_same : (S : Scene) (by : MemberId) (at : ℕ) (why : Cause) (cut : Cut) (g : Given) (a : Admission) → ArePiecesOf S by at a g → ArePiecesOf S by at a (caused_given why cut g)
+right_same S by at why cut g (Plays task) is = is ∙ sym (pieces_same _ g.sight (Some (caused why cut)) (S.counts by) S.queue _ _)
+right_same S by at why cut g _ is = is
 
-ask_same : (S : Scene) (by : MemberId) (at : ℕ) (cut : Cut) (g : Given) (what : Ask) → IsAskRight S by at g what → IsAskRight S by at (ended_given cut g) what
-ask_same S by at cut g ask.Stop is = tt
-ask_same S by at cut g (ask.StopIn fuse n) is = tt
-ask_same S by at cut g (ask.Lose dev) is = tt
-ask_same S by at cut g another is = right_same S by at cut g (admitted S.queue.config S.book by another) is
+ask_same : (S : Scene) (by : MemberId) (at : ℕ) (why : Cause) (cut : Cut) (g : Given) (what : Ask) → IsAskRight S by at g what → IsAskRight S by at (caused_given why cut g) what
+ask_same S by at why cut g ask.Stop is = tt
+ask_same S by at why cut g (ask.StopIn fuse n) is = tt
+ask_same S by at why cut g (ask.Lose dev) is = tt
+ask_same S by at why cut g another is = right_same S by at why cut g (admitted S.queue.config S.book by another) is
 
-shaped_same : (cut : Cut) (l : LineAt) (old new : View) (a : Admission) → IsShapedAs l old new a → IsShapedAs (ended_line cut l) old new a
-shaped_same cut l old new (Plays task) is = is
-shaped_same cut l old new (Resets of) is = is
-shaped_same cut l old new (TakesOver of) is = is
-shaped_same cut l old new a is = right_same l.scene l.step.by l.number cut l.given a is
+shaped_same : (why : Cause) (cut : Cut) (l : LineAt) (old new : View) (a : Admission) → IsShapedAs l old new a → IsShapedAs (caused_line why cut l) old new a
+shaped_same why cut l old new (Plays task) is = is
+shaped_same why cut l old new (Resets of) is = is
+shaped_same why cut l old new (TakesOver of) is = is
+shaped_same why cut l old new a is = right_same l.scene l.step.by l.number why cut l.given a is
 
--- WHAT IT LEAVES is the same but for the book, of which nothing is said once the run ended
+-- WHAT IT LEAVES is the same but for the book
 
 -- a play by what was found of a batch in flight
 abbrev play_by : Scene → MemberId → Admission → List Piece → Fate → Play
@@ -136,12 +130,12 @@ play_by S by a ps f = record {
   flight = flight_found f S.flight;
 }
 
-module _ (cut : Cut) (l : LineAt) (is : l.given.sight.cut ≡ Some cut) where
+module _ (why : Cause) (cut : Cut) (l : LineAt) (is : l.given.sight.cut ≡ Some cut) where
   abbrev m : LineAt
-  m = ended_line cut l
+  m = caused_line why cut l
 
   fates : fate_found (admitted_at l) m.given.sight ≡ fate_found (admitted_at l) l.given.sight
-  fates = fate_same (admitted_at l) l.given.sight (Some (ended_cut cut))
+  fates = fate_same (admitted_at l) l.given.sight (Some (caused why cut))
 
   plays : play_with l.scene l.step.by (admitted_at l) m.given ≡ play_with l.scene l.step.by (admitted_at l) l.given
   plays = ap (play_by l.scene l.step.by (admitted_at l) l.given.pieces) fates
@@ -155,16 +149,16 @@ module _ (cut : Cut) (l : LineAt) (is : l.given.sight.cut ≡ Some cut) where
 
   same_left : AreSame (left_at m) (left_at l)
   same_left =
-      subst (λ (p : Play). AreSame (left_so (Some (ended_cut cut)) p) (left_at l)) (sym plays)
-      (subst (λ (c : Option Cut). AreSame (left_so (Some (ended_cut cut)) (play_with l.scene l.step.by (admitted_at l) l.given)) (left_so c (play_with l.scene l.step.by (admitted_at l) l.given))) (sym is) (refl, refl, refl, refl))
+      subst (λ (p : Play). AreSame (left_so (Some (caused why cut)) p) (left_at l)) (sym plays)
+      (subst (λ (c : Option Cut). AreSame (left_so (Some (caused why cut)) (play_with l.scene l.step.by (admitted_at l) l.given)) (left_so c (play_with l.scene l.step.by (admitted_at l) l.given))) (sym is) (refl, refl, refl, refl))
 
   -- of the sitting that was cut this is said as it was
-  at_cut : (P : Halt → Sitting → Type 0) → AtCut P l.given.sight.cut (pieces_at l) → AtCut P (Some (ended_cut cut)) (pieces_at m)
+  at_cut : (P : Halt → Sitting → Type 0) → AtCut P l.given.sight.cut (pieces_at l) → AtCut P (Some (caused why cut)) (pieces_at m)
   at_cut P here =
       subst (λ (p : Play). OfFirst (P cut.halt) (drop cut.sittings p.pieces)) (sym plays)
       (subst (λ (c : Option Cut). AtCut P c (pieces_at l)) is here)
 
-  idle_cut : (works : Bool) (P : Halt → Sitting → Type 0) → IfIdle works (AtCut P l.given.sight.cut (pieces_at l)) → IfIdle works (AtCut P (Some (ended_cut cut)) (pieces_at m))
+  idle_cut : (works : Bool) (P : Halt → Sitting → Type 0) → IfIdle works (AtCut P l.given.sight.cut (pieces_at l)) → IfIdle works (AtCut P (Some (caused why cut)) (pieces_at m))
   idle_cut true P here = tt
   idle_cut false P here = at_cut P here
 
@@ -174,14 +168,14 @@ module _ (cut : Cut) (l : LineAt) (is : l.given.sight.cut ≡ Some cut) where
     honest_same honest = let found_so : Option Cut → Fate → Type 0 = λ c f. let ps = pieces_found (is_locked (admitted_at l)) (flight_found f l.scene.flight) l.given.pieces in
         AreFoundIn l.scene.queue.config.groups l.step.by old new l.given.sight.finds
         (waits_in (take (whole_pieces c ps) ps) (queue_found f l.scene.flight l.scene.queue)) in
-        subst (λ (c : Option Cut). found_so c (fate_found (admitted_at l) m.given.sight)) (sym (member_cut l.step.what (Some (ended_cut cut)) member))
+        subst (λ (c : Option Cut). found_so c (fate_found (admitted_at l) m.given.sight)) (sym ((of_member l member).cut (Some (caused why cut))))
         (subst (found_so (Some cut)) (sym fates)
         (subst (λ (c : Option Cut). found_so c (fate_found (admitted_at l) l.given.sight)) is honest))
 
     stay_same : StaysAs l (admitted_at l) l.given.sight.cut old new → StaysAs m (admitted_at m) (cut_of m) old new
     stay_same stay = let stay_so : Option Cut → Fate → Type 0 = λ c f. let ps = pieces_found (is_locked (admitted_at l)) (flight_found f l.scene.flight) l.given.pieces in
         VolumesStay (named_in l.given.sight.finds (waits_in (take (whole_pieces c ps) ps) (queue_found f l.scene.flight l.scene.queue))) old new in
-        subst (λ (c : Option Cut). stay_so c (fate_found (admitted_at l) m.given.sight)) (sym (member_cut l.step.what (Some (ended_cut cut)) member))
+        subst (λ (c : Option Cut). stay_so c (fate_found (admitted_at l) m.given.sight)) (sym ((of_member l member).cut (Some (caused why cut))))
         (subst (stay_so (Some cut)) (sym fates)
         (subst (λ (c : Option Cut). stay_so c (fate_found (admitted_at l) l.given.sight)) is stay))
 
@@ -199,94 +193,121 @@ module _ (cut : Cut) (l : LineAt) (is : l.given.sight.cut ≡ Some cut) where
     carries_same : Carries since l (admitted_at l) (left_at l).given old new → Carries since m (admitted_at l) (left_at m).given old new
     carries_same c = subst (λ (bytes : List ℕ). Carries since m (admitted_at l) bytes old new) (sym same_left.3) (carries_so (admitted_at l) (left_at l).given c)
 
--- THE LINE as the run ended in it
+-- THE LINE once the operator said that its member was stopped, or the run ended as it couldn't
+
+abbrev cause_said : Result (Unit {0}) NodeNo → Cause
+cause_said (Ok done) = Stops
+cause_said (Err e) = Ends
+
+stop_said : (r : Result (Unit {0}) NodeNo) (by : MemberId) (at : ℕ) → stopped_said r by at ≡ map (λ (s : Said). s.line) (stopped_lines by at (Some (cause_said r)))
+stop_said (Ok done) by at = refl
+stop_said (Err e) by at = refl
 
 unsaid_why : (e : NodeNo) (old new : View) → old.halt ≡ old.now → ActsOnce {T = Unit {0}} (Err e) old new → IsUnsaid e new
 unsaid_why no_node.ConsoleFault old new halt acted = act_after old new halt acted
 unsaid_why no_node.NoMemory old new halt acted = subst (λ (plant_of : View). plant_of.now ≡ plant_of.halt) (sym acted) (sym halt)
 unsaid_why _ old new halt acted = absurd acted
 
-console_failed : {P C : Type 0} (plants : PlantGhosts P) (copies : CopyGhosts C) (x y : Parts P C) (e : NodeNo) → StopCauses plants copies x y (Err e)
-    → e ≡ no_node.ConsoleFault → Rose ((plants.view x.plant).faults Console) ((plants.view y.plant).faults Console)
-console_failed plants copies x y no_node.ConsoleFault cause is = cause
-console_failed plants copies x y no_node.NoMemory cause is = absurd (cc)
-console_failed plants copies x y _ cause is = absurd cause
+cut_said : (r : Result (Unit {0}) NodeNo) (by : MemberId) (cut : Cut) (old mid new : View) → IsHaltBy no_node.Halted cut.halt → Rose (old.stops by.0) (new.stops by.0) → mid.halt ≡ mid.now → ActsOnce r mid new
+    → CutsAs r by (Some (caused (cause_said r) cut)) old new
+cut_said (Ok done) by cut old mid new halt rose last acted = (refl, halt, rose, act_after mid new last acted)
+cut_said (Err e) by cut old mid new halt rose last acted = (refl, inr (record { why = halt; stopped = rose; unsaid = unsaid_why e mid new last acted }))
 
--- a line of some given ones, which found the same of a batch in flight
-abbrev PassedSo : Type 0 → (List ℕ → Option (List ℕ)) → LineAt → List Batch → View → View → NodeNo → Type 0
-PassedSo told reads l own old new e = (g : Given) × (fate_found (admitted_at l) g.sight ≡ fate_found (admitted_at l) l.given.sight)
-    × IsPassed told reads (record l { given = g }) own old new (Err e)
-    × ((rs is : Renewals) (then_is : View) → RenewsAs (admitted_at l) l.given.sight.cut l.given.sight.renewed rs is old then_is → RenewsAs (admitted_at l) g.sight.cut g.sight.renewed rs is old then_is)
-    × ((since : ℕ) (then_is : View) → Carries since l (admitted_at l) (left_at l).given old then_is → Carries since (record l { given = g }) (admitted_at l) (left_at (record l { given = g })).given old then_is)
+why_said : (r : Result (Unit {0}) NodeNo) (by : MemberId) (old new : View) → Rose (old.stops by.0) (new.stops by.0) → IsWhy r by old new no_node.Halted
+why_said (Ok done) by old new rose = refl
+why_said (Err e) by old new rose = inr (refl, rose)
 
-module _ {P C : Type 0} (plants : PlantGhosts P) (copies : CopyGhosts C) (told : Type 0) (tells : told → plants.tells) (l : LineAt) (x y z : Parts P C) (e : NodeNo)
-    (member : is_of_member l.step.what ≡ true) (left : HasLeft plants copies told l x y (Err no_node.Halted))
-    (said : HasSaidStop plants copies l.step.by l.number y z (Err e)) where
-  abbrev plant_of : Parts P C → View
-  plant_of w = plants.view w.plant
+-- a line of some given ones, which found the same of a batch in flight; the very ones where the run goes on
+pub record PassedSo (told : Type 0) (reads : List ℕ → Option (List ℕ)) (l : LineAt) (own : List Batch) (old new : View) (r : Result (Unit {0}) NodeNo) : Type 0 where
+  pub given : Given
+  pub found : fate_found (admitted_at l) given.sight ≡ fate_found (admitted_at l) l.given.sight
+  pub passed : IsPassed told reads (record l { given = given }) own old new r
+  pub renews : (rs is : Renewals) (then_is : View) → RenewsAs (admitted_at l) l.given.sight.cut l.given.sight.renewed rs is old then_is → RenewsAs (admitted_at l) given.sight.cut given.sight.renewed rs is old then_is
+  pub carries : (since : ℕ) (then_is : View) → Carries since l (admitted_at l) (left_at l).given old then_is
+      → Carries since (record l { given = given }) (admitted_at l) (left_at (record l { given = given })).given old then_is
+  pub same : r ≡ Ok tt → given ≡ l.given
+
+module _ {P C : Type 0} {plants : PlantGhosts P} {steadies : SteadyGhosts C} {copies : CopyGhosts C} (told : Type 0) (tells : told → plants.tells) (l : LineAt) (x : Parts P C) (y z : Complex P C plants steadies copies)
+    (r : Result (Unit {0}) NodeNo) (member : is_of_member l.step.what ≡ true) (left : HasLeft plants copies told l x (parts_of y) (Err no_node.Halted)) (says : SaysStopped l.step.by l.number y z r) where
+  abbrev old_seen : View
+  old_seen = plants.view x.plant
+
+  abbrev mid_seen : View
+  mid_seen = plants.view y.plant
+
+  abbrev new_seen : View
+  new_seen = plants.view z.plant
 
   module _ (cut : Cut) (is : l.given.sight.cut ≡ Some cut) where
+    abbrev why : Cause
+    why = cause_said r
+
     abbrev n : LineAt
-    n = ended_line cut l
+    n = caused_line why cut l
 
     here : IsCutIn no_node.Halted (pieces_at l) cut
     here = subst (λ (c : Option Cut). IsCutBy {T = Unit {0}} (Err no_node.Halted) (pieces_at l) c) is left.cut
 
-    -- one answer has one error
-    passed_cut : IsPassed told copies.reads n left.own (plant_of x) (plant_of z) (Err e)
-    passed_cut = let printed_now : (k : ℕ) → printed_at l k ≡ printed_at n k = λ k. ap (λ (ls : List Line). if l.step.by.0 == k then ls else []) (printed_left l member ∙ sym (same_left cut l is).2 ∙ sym (printed_left n member)) in
-        let lines_here : (left_at l).lines ≡ map (λ (s : Said). s.line) (played_at n).outcome.said = sym (same_left cut l is).1 ∙ sym (append-nil (left_at n).lines) ∙ sym (lines_left n member) in
-        let cut_here : Some (ended_cut cut) ≡ cut_of n = sym (member_cut l.step.what (Some (ended_cut cut)) member) in
-        let papers_same : told → (k : ℕ) → paper_now (plant_of z) k ≡ paper_now (plant_of y) k = λ t k. said.acts.papers (tells t) (plant_of z).now said.acts.goes.later (let same : (plant_of z).now ≤ (plant_of z).now = omega arith in same) k in
-        let rose : Rose ((plant_of x).stops l.step.by.0) ((plant_of z).stops l.step.by.0) = subst (λ (n : ℕ). Rose ((plant_of x).stops l.step.by.0) n) (sym (said.stops l.step.by.0)) (left.stopped refl) in
-        let after : Proceeds (plant_of y) (plant_of z) = proceeds_of (plant_of y) (plant_of z) said.acts.goes in
-        let same_error : (d e : NodeNo) (r : Result (Unit {0}) NodeNo) → r ≡ Err d → r ≡ Err e → d ≡ e = λ d e r one two. cc in record {
-          goes = proceeds_on (plant_of x) (plant_of y) (plant_of z) left.goes after;
-          stays = λ d other is. said.acts.goes.lost (Disk d) (left.stays d other is);
+    passed_cut : IsPassed told copies.reads n left.own old_seen new_seen r
+    passed_cut = let same = same_left why cut l is in
+        let printed_now : (k : ℕ) → printed_at l k ≡ printed_at n k = λ k. ap (λ (ls : List Line). if l.step.by.0 == k then ls else []) (printed_left l member ∙ sym same.2 ∙ sym (printed_left n member)) in
+        let more : List Line = map (λ (s : Said). s.line) (stopped_lines l.step.by l.number (Some why)) in
+        let lines_here : (left_at l).lines ++ more ≡ map (λ (s : Said). s.line) (played_at n).outcome.said = ap (λ (ls : List Line). ls ++ more) (sym same.1) ∙ sym (lines_left n member) in
+        let cut_here : Some (caused why cut) ≡ cut_of n = sym ((of_member l member).cut (Some (caused why cut))) in
+        let papers_same : told → (k : ℕ) → paper_now new_seen k ≡ paper_now mid_seen k = λ t k. says.acts.papers (tells t) new_seen.now says.acts.goes.later (let last : new_seen.now ≤ new_seen.now = omega arith in last) k in
+        let stops : (m : ℕ) → new_seen.stops m ≡ mid_seen.stops m = λ m. says.spares.stops m (inr refl) in
+        let rose : Rose (old_seen.stops l.step.by.0) (new_seen.stops l.step.by.0) = subst (λ (n : ℕ). Rose (old_seen.stops l.step.by.0) n) (sym (stops l.step.by.0)) (left.stopped refl) in
+        let after : Proceeds mid_seen new_seen = proceeds_of mid_seen new_seen says.acts.goes in record {
+          goes = proceeds_on old_seen mid_seen new_seen left.goes after;
+          stays = λ d other is. says.acts.goes.lost (Disk d) (left.stays d other is);
           given = record {
-            shaped = ⊎_elim inl (λ s. inr (if_member l.step.what _ (shaped_same cut l (plant_of x) (plant_of z) (admitted_at l)
-                (shaped_as_later (plant_of x) (plant_of y) (plant_of z) after l (admitted_at l) s)))) left.shaped;
-            right = λ t. ask_same l.scene l.step.by l.number cut l.given l.step.what (right_of l.scene l.step.by l.number l.given l.step.what member (left.right t));
+            shaped = ⊎_elim inl (λ s. inr (if_member l.step.what _ (shaped_same why cut l old_seen new_seen (admitted_at l) (shaped_as_later old_seen mid_seen new_seen after l (admitted_at l) s)))) left.shaped;
+            right = λ t. ask_same l.scene l.step.by l.number why cut l.given l.step.what ((of_member l member).right (left.right t));
           };
-          honest = λ t. if_member l.step.what _ (honest_same cut l is member (plant_of x) (plant_of z)
-              (finds_later (plant_of x) (plant_of y) (plant_of z) after l.scene.queue.config.groups l.step.by l.given.sight.finds _ (left.honest t)));
-          stay = λ t. member_stays l.step.what (named_as n (admitted_at n) (cut_of n)) (plant_of x) (plant_of z) member (stay_same cut l is member (plant_of x) (plant_of z)
-              (stays_on (named_as l (admitted_at l) l.given.sight.cut) (plant_of x) (plant_of y) (plant_of z) (left.stay t) (console_stays (plant_of y) (plant_of z) said.acts)));
-          cut = subst (λ (c : Option Cut). CutsAs {T = Unit {0}} (Err e) l.step.by c (plant_of x) (plant_of z)) cut_here
-              (refl, inr (record { why = here.halt; stopped = rose; unsaid = unsaid_why e (plant_of y) (plant_of z) (left.spares.at_halt refl) said.acted }));
-          within = subst (λ (c : Option Cut). IsWithin c (pieces_at n)) cut_here
-              (subst (λ (p : Play). IsThere (ended_cut cut) p.pieces) (sym (plays cut l is)) here.there);
+          honest = λ t. if_member l.step.what _ (honest_same why cut l is member old_seen new_seen (finds_later old_seen mid_seen new_seen after l.scene.queue.config.groups l.step.by l.given.sight.finds _ (left.honest t)));
+          stay = λ t. subst (λ (f : ℕ → Bool). VolumesStay f old_seen new_seen) (sym ((of_member n member).names (named_as n (admitted_at n) (cut_of n)))) (stay_same why cut l is member old_seen new_seen
+              (stays_on (named_as l (admitted_at l) l.given.sight.cut) old_seen mid_seen new_seen (left.stay t) (console_stays mid_seen new_seen says.acts)));
+          cut = subst (λ (c : Option Cut). CutsAs r l.step.by c old_seen new_seen) cut_here (cut_said r l.step.by cut old_seen mid_seen new_seen here.halt rose (left.spares.at_halt refl) says.acted);
+          within = subst (λ (c : Option Cut). IsWithin c (pieces_at n)) cut_here (subst (λ (p : Play). IsThere (caused why cut) p.pieces) (sym (plays why cut l is)) here.there);
           why = no_node.Halted;
-          is_why = inr (refl, rose);
+          is_why = why_said r l.step.by old_seen new_seen rose;
           tight = subst (λ (c : Option Cut). IfIdle (is_work (admitted_at l)) (AtCut (IsTight no_node.Halted) c (pieces_at n))) cut_here
-              (idle_cut cut l is (is_work (admitted_at l)) (IsTight no_node.Halted) left.tight);
-          broke = λ t. subst (λ (c : Option Cut). AtCut (IsBroken no_node.Halted) c (pieces_at n)) cut_here (at_cut cut l is (IsBroken no_node.Halted) (left.broke t));
-          spares = λ k other. said.stops k ∙ left.spares.stops k (inl other);
-          failed = λ so. rose_later ((plant_of x).faults Console) ((plant_of y).faults Console) ((plant_of z).faults Console) (left.goes.faults Console) (console_failed plants copies y z e said.cause (same_error e no_node.ConsoleFault (Err e) refl so));
-          batches = subst (λ (bs : List Batched). AreBatched l.step.by (plant_of x).now (plant_of z).now bs left.own) (sym (batches_left n member ∙ (same_left cut l is).0))
-              (batched_later l.step.by (plant_of x).now (plant_of y).now (plant_of z).now (left_at l).batches left.own said.acts.goes.later left.batches);
-          console = λ t. said.console (tells t) ∙ left.console t ∙ ap (λ (ls : List Line). console_now (plant_of x) ++ ls) lines_here;
-          paper = λ t k. papers_same t k ∙ printed_here plants copies told l x y member left k t ∙ ap (λ (ls : List Line). paper_now (plant_of x) k ++ ls) (printed_now k);
-          dry = λ t none. papers_on (plant_of x) (plant_of y) (plant_of z) left.goes.later after (left.dry t none) (said.acts.papers (tells t));
-          loses = λ t. subst (λ (d : Option Dev). LosesAs copies.reads (took n) d (plant_of x) (plant_of z)) (sym (loses_none n member))
-              (subst (λ (f : Fate). LosesAs copies.reads (taking (is_takeover (admitted_at l)) f) None (plant_of x) (plant_of z)) (sym (fates cut l is))
-              (λ d. loses_on copies.reads (plant_of x) (plant_of y) (plant_of z) said.acts.goes said.acts.loses (took l) d (left.loses t d)));
-          arms = λ k. said.acts.goes.arms k ∙ left.arms k ∙ sym (arms_same plants copies told l x y member left k);
-          volumes = λ t leaves. kept_later (plant_of x) (plant_of y) (plant_of z) left.goes.later after (left.volumes t (leaves_as plants copies told l x y member left l.step.what member leaves))
-              (kept_on (plant_of y) (plant_of z) (said.acts.others (tells t)));
+              (idle_cut why cut l is (is_work (admitted_at l)) (IsTight no_node.Halted) left.tight);
+          broke = λ t. subst (λ (c : Option Cut). AtCut (IsBroken no_node.Halted) c (pieces_at n)) cut_here (at_cut why cut l is (IsBroken no_node.Halted) (left.broke t));
+          spares = λ k other. stops k ∙ left.spares.stops k (inl other);
+          failed = λ so. rose_later (old_seen.faults Console) (mid_seen.faults Console) (new_seen.faults Console) (left.goes.faults Console) (subst (λ (k : Result (Unit {0}) NodeNo). HasCause k 0 mid_seen new_seen) so says.cause);
+          batches = subst (λ (bs : List Batched). AreBatched l.step.by old_seen.now new_seen.now bs left.own) (sym (batches_left n member ∙ same.0))
+              (batched_within l.step.by old_seen.now old_seen.now mid_seen.now new_seen.now (left_at l).batches left.own (omega arith) says.acts.goes.later left.batches);
+          console = λ t. says.console (tells t) ∙ ap (λ (ls : List Line). ls ++ stopped_said r l.step.by l.number) (left.console t)
+              ∙ append_assoc (console_now old_seen) (left_at l).lines (stopped_said r l.step.by l.number)
+              ∙ ap (λ (ls : List Line). console_now old_seen ++ ls) (ap (λ (ls : List Line). (left_at l).lines ++ ls) (stop_said r l.step.by l.number) ∙ lines_here);
+          paper = λ t k. papers_same t k ∙ printed_here plants copies told l x (parts_of y) member left k t ∙ ap (λ (ls : List Line). paper_now old_seen k ++ ls) (printed_now k);
+          dry = λ t none. papers_on old_seen mid_seen new_seen left.goes.later after (left.dry t none) (says.acts.papers (tells t));
+          loses = λ t. subst (λ (d : Option Dev). LosesAs copies.reads (took n) d old_seen new_seen) (sym (loses_none n member))
+              (subst (λ (f : Fate). LosesAs copies.reads (taking (is_takeover (admitted_at l)) f) None old_seen new_seen) (sym (fates why cut l is))
+              (λ d. loses_on copies.reads old_seen mid_seen new_seen says.acts.goes says.acts.loses (took l) d (left.loses t d)));
+          arms = λ k. says.acts.goes.arms k ∙ left.arms k ∙ sym (arms_same plants copies told l x (parts_of y) member left k);
+          volumes = λ t leaves. kept_later old_seen mid_seen new_seen left.goes.later after (left.volumes t ((of_member l member).leaves leaves))
+              (kept_on mid_seen new_seen (says.acts.others (tells t)));
         }
 
-  passed_unsaid : PassedSo told copies.reads l left.own (plant_of x) (plant_of z) e
-  passed_unsaid = by_cut l.given.sight.cut refl left.cut where
-    by_cut : (c : Option Cut) → l.given.sight.cut ≡ c → IsCutBy {T = Unit {0}} (Err no_node.Halted) (pieces_at l) c → PassedSo told copies.reads l left.own (plant_of x) (plant_of z) e
+    given_same : r ≡ Ok tt → caused_given why cut l.given ≡ l.given
+    given_same ok =
+        let whole : Option Cut → Given = λ c. record l.given { sight = record l.given.sight { cut = c } } in
+        ap (λ (k : Result (Unit {0}) NodeNo). whole (Some (caused (cause_said k) cut))) ok ∙ ap (λ (k : Cause). whole (Some (caused k cut))) (sym here.cause) ∙ ap whole (sym is)
+
+  passed_so : PassedSo told copies.reads l left.own old_seen new_seen r
+  passed_so = by_cut l.given.sight.cut refl left.cut where
+    by_cut : (c : Option Cut) → l.given.sight.cut ≡ c → IsCutBy {T = Unit {0}} (Err no_node.Halted) (pieces_at l) c → PassedSo told copies.reads l left.own old_seen new_seen r
     by_cut None is so = absurd so
-    by_cut (Some cut) is so = (
-      ended_given cut l.given,
-      fates cut l is,
-      passed_cut cut is,
-      (λ rs now mid r. renews_ended (admitted_at l) cut l.given.sight.renewed rs now (plant_of x) mid (subst (λ (c : Option Cut). RenewsAs (admitted_at l) c l.given.sight.renewed rs now (plant_of x) mid) is r)),
-      (λ since mid c. carries_same cut l is since (plant_of x) mid c),
-    )
+    by_cut (Some cut) is so = record {
+      given = caused_given (cause_said r) cut l.given;
+      found = fates (cause_said r) cut l is;
+      passed = passed_cut cut is;
+      renews = λ rs now mid k. renews_caused (admitted_at l) cut (cause_said r) l.given.sight.renewed rs now old_seen mid (subst (λ (c : Option Cut). RenewsAs (admitted_at l) c l.given.sight.renewed rs now old_seen mid) is k);
+      carries = λ since mid c. carries_same (cause_said r) cut l is since old_seen mid c;
+      same = given_same cut is;
+    }
 
 module _ {P C : Type 0} (plants : PlantGhosts P) (copies : CopyGhosts C) (told : Type 0) (tells : told → plants.tells) (S : Scene) (at : ℕ) (step : Step)
     (member : is_of_member step.what ≡ true) (x y : Parts P C) (base : y.base ≡ x.base) (shown : IsShown plants copies told S x) (was : Stands plants x) where
@@ -318,71 +339,21 @@ module _ {P C : Type 0} (plants : PlantGhosts P) (copies : CopyGhosts C) (told :
         shows = shows;
       }
 
-  -- it wasn't cut
-  asked_done : Stands plants y → (left : LeftAt plants copies told S at step x y (Ok tt)) → Since S.book (left_at (line_of left.given)).book
-      → HasPlayedLine plants copies told S at step x y (Ok tt)
-  asked_done now at_left since =
-      let l : LineAt = line_of at_left.given in
+  -- nobody was stopped in it
+  asked_here : (r : Result (Unit {0}) NodeNo) → (r ≡ Err no_node.Halted → ⊥) → (at_left : LeftAt plants copies told S at step x y r) → OnOk r (IsShown plants copies told (played_at (line_of at_left.given)).next y)
+      → HasPlayedLine plants copies told S at step x y r
+  asked_here r other at_left shows =
       let left = at_left.left in
-      one_played y at_left.given left.own left.at (Ok tt) (passed_uncut plants copies told l x y member left) left.moment left.journal at_left.renews left.wires
-      (shown_next plants copies told l x y member left base was now shown left.book since (λ t up. left.count t (since.up step.by up)))
-
-  -- the run ended in it, nobody having been stopped
-  asked_error : (e : NodeNo) → e ≢ no_node.Halted → LeftAt plants copies told S at step x y (Err e) → HasPlayedLine plants copies told S at step x y (Err e)
-  asked_error e other at_left =
-      let left = at_left.left in
-      one_played y at_left.given left.own left.at (Err e) (passed_error plants copies told (line_of at_left.given) x y e other member left) left.moment left.journal at_left.renews left.wires tt
-
-  -- ITS MEMBER WAS STOPPED in it
-
-  module _ (z : Parts P C) (frame : z ≡ record y { plant = z.plant }) (at_left : LeftAt plants copies told S at step x y (Err no_node.Halted)) where
-    -- the copies that it replaced
-    abbrev a : Admission
-    a = admitted S.queue.config S.book step.by step.what
-
-    renews_said : (cut : Option Cut) (found : Renewed) → (v y).now ≤ (v z).now → RenewsAs a cut found x.renewals y.renewals (v x) (v y) → RenewsAs a cut found x.renewals z.renewals (v x) (v z)
-    renews_said cut found later r =
-        subst (λ (rs : Renewals). RenewsAs a cut found x.renewals rs (v x) (v z)) (sym (ap (λ (w : Parts P C). w.renewals) frame))
-        (renews_later a cut found x.renewals y.renewals (v x) (v y) (v z) later r)
-
-    wires_said : (l : LineAt) → SameWires (v y) (v z) → Carries x.since l (admitted_at l) (left_at l).given (v x) (v y) → Carries x.since l (admitted_at l) (left_at l).given (v x) (v z)
-    wires_said l same c = carries_later x.since l (admitted_at l) (left_at l).given (v x) (v y) (v z) same c
-
-    moment_said : (v y).now ≤ (v z).now → ((v x).now ≤ at_left.left.at) × (at_left.left.at ≤ (v z).now)
-    moment_said later = (at_left.left.moment.0, let before = at_left.left.moment.1 in omega (arith, later, before))
-
-    shown_said : (T : Scene) → IsShown plants copies told T y → IsShown plants copies told T z
-    shown_said T is = record {
-      queue = ap queue_of frame ∙ is.queue;
-      book = ap (λ (w : Parts P C). w.book) frame ∙ is.book;
-      flight = subst (λ (c : Option Batch). IsFlight T.book T.flight c) (sym (ap (λ (w : Parts P C). w.current) frame)) is.flight;
-      counts = λ t m up. ap (λ (w : Parts P C). counts_of w.printed m) frame ∙ is.counts t m up;
-    }
-
-    asked_stopped : Stands plants y → IsMember S.book step.by → HasSaidStop plants copies step.by at y z (Ok tt) → HasPlayedLine plants copies told S at step x z (Ok tt)
-    asked_stopped now inside said =
-        let g = at_left.given in
-        let left = at_left.left in
-        one_played z g left.own left.at (Ok tt) (passed_stopped plants copies told tells (line_of g) x y z member left said) (moment_said said.acts.goes.later)
-        (ap journal_of frame ∙ left.journal) (renews_said g.sight.cut g.sight.renewed said.acts.goes.later at_left.renews) (λ t. wires_said (line_of g) (said.acts.wires (tells t)) (left.wires t))
-        (shown_said (played_at (line_of g)).next
-        (shown_next plants copies told (line_of g) x y member left base was now shown left.book (left_since (line_of g) inside) (stopped_count plants copies told (line_of g) x y left inside)))
-
-    asked_unsaid : (e : NodeNo) → HasSaidStop plants copies step.by at y z (Err e) → HasPlayedLine plants copies told S at step x z (Err e)
-    asked_unsaid e said =
-        let left = at_left.left in
-        let so : PassedSo told copies.reads (line_of at_left.given) left.own (v x) (v z) e = passed_unsaid plants copies told tells (line_of at_left.given) x y z e member left said in
-        one_played z so.0 left.own left.at (Err e) so.2 (moment_said said.acts.goes.later)
-        (ap journal_of frame ∙ left.journal ∙ ap (λ (f : Fate). settle f left.at (journal_of x) ++ left.own) (sym so.1))
-        (renews_said so.0.sight.cut so.0.sight.renewed said.acts.goes.later (so.3 x.renewals y.renewals (v y) at_left.renews))
-        (λ t. wires_said (line_of so.0) (said.acts.wires (tells t)) (so.4 x.since (v y) (left.wires t))) tt
+      one_played y at_left.given left.own left.at r (passed_here plants copies told (line_of at_left.given) x y r other member left) left.moment left.journal at_left.renews left.wires shows
 
 -- WHO IS NO MEMBER is refused, and the book stays as it was
 
 done_since : (l : LineAt) → length l.scene.book.members ≡ l.scene.queue.config.members → l.given.sight.cut ≡ None → Since l.scene.book (left_at l).book
 done_since l seats uncut = by_member (is_member l.scene.queue.config l.step.by) refl where
   by_member : (m : Bool) → is_member l.scene.queue.config l.step.by ≡ m → Since l.scene.book (left_at l).book
-  by_member false none = let none_book : (l : LineAt) → is_member l.scene.queue.config l.step.by ≡ false → l.given.sight.cut ≡ None → (left_at l).book ≡ l.scene.book = λ l none uncut. let refused_none : (config : Config) (b : Book) (by : MemberId) (what : Ask) → is_member config by ≡ false → admitted config b by what ≡ Refused nobody no_member = λ config b by what none. ap (λ (m : Bool). if not m then Refused nobody no_member else if is_stopped b by then Refused nobody closing.Down else asked config b by what) none in
+  by_member false none =
+      let none_book : (l : LineAt) → is_member l.scene.queue.config l.step.by ≡ false → l.given.sight.cut ≡ None → (left_at l).book ≡ l.scene.book =
+      λ l none uncut. let refused_none : (config : Config) (b : Book) (by : MemberId) (what : Ask) → is_member config by ≡ false → admitted config b by what ≡ Refused nobody no_member = λ config b by what none. ap (λ (m : Bool). if not m then Refused nobody no_member else if is_stopped b by then Refused nobody closing.Down else asked config b by what) none in
       let S = l.scene in
       let by = l.step.by in
       ap (λ (c : Option Cut). (left_by by c (play_with S by (admitted_at l) l.given) (S.counts by)).book) uncut
@@ -416,18 +387,46 @@ module _ {P C : Type 0} (plants : PlantGhosts P) (copies : CopyGhosts C) where
     asked_as : (r : Result (Unit {0}) NodeNo) → (r ≡ Err no_node.Halted → ⊥) → length S.book.members ≡ S.queue.config.members → OnOk r (Stands plants y)
         → LeftAt plants copies told S at step x y r → Played y r
     asked_as (Ok done) other seats now left =
-        asked_done plants copies told tells S at step member x y base shown was now left
-        (done_since (record { scene = S; number = at; step = step; given = left.given }) seats left.left.cut)
-    asked_as (Err e) other seats now left =
-        asked_error plants copies told tells S at step member x y base shown was e (λ is. other (ap (λ (k : NodeNo). Err k) is)) left
+        let l : LineAt = record { scene = S; number = at; step = step; given = left.given } in
+        let since = done_since l seats left.left.cut in
+        asked_here plants copies told tells S at step member x y base shown was (Ok done) other left
+        (shown_next plants copies told l x y member left.left base was now shown left.left.book since (λ t up. left.left.count t (since.up step.by up)))
+    asked_as (Err e) other seats now left = asked_here plants copies told tells S at step member x y base shown was (Err e) other left tt
 
-    -- it was halted, and the operator said so, or couldn't
-    asked_halted : (z : Parts P C) (r : Result (Unit {0}) NodeNo) → Stands plants y → IsMember S.book step.by → LeftAt plants copies told S at step x y (Err no_node.Halted)
-        → HasSaidStop plants copies step.by at y z r → Played z r
-    asked_halted z (Ok done) now inside left said =
-        asked_stopped plants copies told tells S at step member x y base shown was z said.frame left now inside said
-    asked_halted z (Err e) now inside left said =
-        asked_unsaid plants copies told tells S at step member x y base shown was z said.frame left e said
+-- it was halted, and the operator said so, or couldn't
+module _ {P C : Type 0} {plants : PlantGhosts P} {steadies : SteadyGhosts C} {copies : CopyGhosts C} (told : Type 0) (tells : told → plants.tells) (S : Scene) (at : ℕ) (step : Step) (member : is_of_member step.what ≡ true)
+    (x : Parts P C) (mid z : Complex P C plants steadies copies) (base : mid.base ≡ x.base) (shown : IsShown plants copies told S x) (was : Stands plants x) (r : Result (Unit {0}) NodeNo)
+    (frame : parts_of z ≡ record (parts_of mid) { plant = z.plant }) (now : Stands plants (parts_of mid)) (inside : IsMember S.book step.by) (at_left : LeftAt plants copies told S at step x (parts_of mid) (Err no_node.Halted))
+    (says : SaysStopped step.by at mid z r) where
+  abbrev y : Parts P C
+  y = parts_of mid
+
+  abbrev line_at : Given → LineAt
+  line_at g = record { scene = S; number = at; step = step; given = g }
+
+  shown_said : (T : Scene) → IsShown plants copies told T y → IsShown plants copies told T (parts_of z)
+  shown_said T is = record {
+    queue = ap queue_of frame ∙ is.queue;
+    book = ap (λ (w : Parts P C). w.book) frame ∙ is.book;
+    flight = subst (λ (c : Option Batch). IsFlight T.book T.flight c) (sym (ap (λ (w : Parts P C). w.current) frame)) is.flight;
+    counts = λ t m up. ap (λ (w : Parts P C). counts_of w.printed m) frame ∙ is.counts t m up;
+  }
+
+  asked_halted : HasPlayedLine plants copies told S at step x (parts_of z) r
+  asked_halted =
+      let left = at_left.left in
+      let l : LineAt = line_at at_left.given in
+      let so : PassedSo told copies.reads l left.own (plants.view x.plant) (plants.view z.plant) r = passed_so told tells l x mid z r member left says in
+      let a : Admission = admitted S.queue.config S.book step.by step.what in
+      let later : (plants.view mid.plant).now ≤ (plants.view z.plant).now = says.acts.goes.later in
+      one_played plants copies told tells S at step member x y base shown was (parts_of z) so.given left.own left.at r so.passed (left.moment.0, let before = left.moment.1 in omega (arith, later, before))
+      (ap journal_of frame ∙ left.journal ∙ ap (λ (f : Fate). settle f left.at (journal_of x) ++ left.own) (sym so.found))
+      (subst (λ (rs : Renewals). RenewsAs a so.given.sight.cut so.given.sight.renewed x.renewals rs (plants.view x.plant) (plants.view z.plant)) (sym (ap (λ (w : Parts P C). w.renewals) frame))
+      (renews_later a so.given.sight.cut so.given.sight.renewed x.renewals y.renewals (plants.view x.plant) (plants.view mid.plant) (plants.view z.plant) later (so.renews x.renewals y.renewals (plants.view mid.plant) at_left.renews)))
+      (λ t. carries_later x.since (line_at so.given) (admitted_at l) (left_at (line_at so.given)).given (plants.view x.plant) (plants.view mid.plant) (plants.view z.plant) (says.acts.wires (tells t))
+      (so.carries x.since (plants.view mid.plant) (left.wires t)))
+      (if_ok r _ (λ ok. subst (λ (g : Given). IsShown plants copies told (played_at (line_at g)).next (parts_of z)) (sym (so.same ok))
+      (shown_said (played_at l).next (shown_next plants copies told l x y member left base was now shown left.book (left_since l inside) (stopped_count plants copies told l x y left inside)))))
 
 module _ {P C : Type 0} {plants : PlantGhosts P} {steadies : SteadyGhosts C} {copies : CopyGhosts C} (x y : Complex P C plants steadies copies) (ms ns : List Member)
     (at : ℕ) (by : MemberId) (what : Ask) (member : is_of_member what ≡ true) (is : BetweenLines x ms at) where
@@ -463,11 +462,11 @@ module _ {P C : Type 0} {plants : PlantGhosts P} {steadies : SteadyGhosts C} {co
     stopped_as : (told : Type 0) (tells : told → plants.tells) (S : Scene) → IsShown plants copies told S p → LeftAt plants copies told S at (line_by by what) p (parts_of y) (failed no_node.Halted)
         → HasPlayedLine plants copies told S at (line_by by what) p (parts_of z) r
     stopped_as told tells S shown left =
-        asked_halted plants copies told tells S at (line_by by what) member p (parts_of mid) base_mid shown (stands_between plants copies p is) (parts_of z) r
+        asked_halted told tells S at (line_by by what) member p mid z base_mid shown (stands_between plants copies p is) r frame_z
         (stands_between plants copies (parts_of mid) between_mid) (subst (λ (b : Book). IsMember b by) shown.book (done.seated refl))
         (subst (λ (w : Parts P C). LeftAt plants copies told S at (line_by by what) p w (failed no_node.Halted)) (sym frame)
         (subst (λ (bs : List Batch). LeavesAt copies.reads told S at (line_by by what) (seen_of plants copies p) (record (seen_of plants copies (parts_of y)) { journal = bs }) (parts_of y).book (failed no_node.Halted)) (sym (journal_unreserved (parts_of y))) left))
-        (stop_said by at mid z r frame_z says)
+        says
 
     stopped_copies : CopiesKept x z r
     stopped_copies =
@@ -579,15 +578,21 @@ module _ {P C : Type 0} {plants : PlantGhosts P} {steadies : SteadyGhosts C} {co
       task_same : (a b : Task) → Plays a ≡ Plays b → a ≡ b
       task_same a b e = cc
 
-    -- the reader of its line
-    read_on : (n : ℕ) → task ≡ Node n → plants.tells → (k : Result (Unit {0}) NodeNo) → r ≡ k → At k → Since x.book y.book → is_stopped y.book by ≡ false
-        → IfRuns k (HasRead (((plants.view (parts_of x).plant).world x.since).taken n by.0) (taken_now (plants.view q.plant) n by.0) (Some now))
-    read_on n same t (Ok done) is_so a later up =
-        heard t is_so n same
-        (subst (λ (o : Option (Option (List ℕ))). HasRead (((plants.view (parts_of x).plant).world x.since).taken n by.0) (taken_now (plants.view (parts_of x).plant) n by.0) o)
-        (ap (λ (k : Task). slice_get rs (task_place (by.0 - 1) k)) (sym same) ∙ here) (read.each t by n its (on n same) (later.up by up)))
-    read_on n same t (Err no_node.Halted) is_so a later up = let true_false : true ≡ false → ⊥ = λ e. absurd (cc) in absurd (true_false (sym (stops_by a (inside is_so)) ∙ up))
-    read_on n same t _ is_so a later up = tt
+    -- what is known of the reader of its line where the run goes on
+    abbrev Reads : ℕ → Type 0
+    Reads n = is_stopped y.book by ≡ false → HasRead (((plants.view (parts_of x).plant).world x.since).taken n by.0) (taken_now (plants.view q.plant) n by.0) (Some now)
+
+    reads_by : (n : ℕ) → task ≡ Node n → plants.tells → (k : Result (Unit {0}) NodeNo) → r ≡ k → At k → IfRuns k (Since x.book y.book × Reads n)
+    reads_by n same t (Ok done) is_so a =
+        let later : Since x.book y.book = since_by (Ok done) a (λ e. inside (is_so ∙ e)) in (
+          later,
+          λ up. heard t is_so n same
+              (subst (λ (o : Option (Option (List ℕ))). HasRead (((plants.view (parts_of x).plant).world x.since).taken n by.0) (taken_now (plants.view (parts_of x).plant) n by.0) o)
+              (ap (λ (k : Task). slice_get rs (task_place (by.0 - 1) k)) (sym same) ∙ here) (read.each t by n its (on n same) (later.up by up))),
+        )
+    reads_by n same t (Err no_node.Halted) is_so a =
+        (since_by (failed no_node.Halted) a (λ e. inside (is_so ∙ e)), λ up. absurd (no true refl (sym (stops_by a (inside is_so)) ∙ up)))
+    reads_by n same t _ is_so a = tt
 
     -- nothing was taken from another line, or by another member
     elsewhere : (n : ℕ) → task ≡ Node n → plants.tells → (w m : ℕ) → IsElsewhere (Some n) by w m → taken_now (plants.view q.plant) w m ≡ taken_now (plants.view (parts_of x).plant) w m
@@ -599,24 +604,16 @@ module _ {P C : Type 0} {plants : PlantGhosts P} {steadies : SteadyGhosts C} {co
         carries.gives.else_taken
 
     served : (n : ℕ) → task ≡ Node n → IfRuns r (AreReaders plants q (set rs (reader_place by n) now))
-    served n same = by_answer r refl where
-      at_answer : (k : Result (Unit {0}) NodeNo) → r ≡ k → plants.tells → At k
-      at_answer k is_so t = subst At is_so (left t)
-
-      by_answer : (k : Result (Unit {0}) NodeNo) → r ≡ k → IfRuns k (AreReaders plants q (set rs (reader_place by n) now))
-      by_answer (Ok done) is_so =
-          readers_served plants (parts_of x) q base since is.booked rs read past (λ t. (since_by (Ok done) (at_answer (Ok done) is_so t) (λ e. inside (is_so ∙ e))).up) by n (on n same) its now (elsewhere n same)
-          (λ t up. read_on n same t (Ok done) is_so (at_answer (Ok done) is_so t) (since_by (Ok done) (at_answer (Ok done) is_so t) (λ e. inside (is_so ∙ e))) up)
-      by_answer (Err no_node.Halted) is_so =
-          readers_served plants (parts_of x) q base since is.booked rs read past (λ t. (since_by (failed no_node.Halted) (at_answer (failed no_node.Halted) is_so t) (λ e. inside (is_so ∙ e))).up) by n (on n same) its now
-          (elsewhere n same)
-          (λ t up. read_on n same t (failed no_node.Halted) is_so (at_answer (failed no_node.Halted) is_so t) (since_by (failed no_node.Halted) (at_answer (failed no_node.Halted) is_so t) (λ e. inside (is_so ∙ e))) up)
-      by_answer _ is_so = tt
+    served n same =
+        runs_then r plants.tells (Since x.book y.book × Reads n) (AreReaders plants q (set rs (reader_place by n) now)) (λ t. reads_by n same t r refl (left t))
+        (λ known. readers_served plants (parts_of x) q base since is.booked rs read past (λ t. (known t).0.up) by n (on n same) its now (elsewhere n same) (λ t up. (known t).1 up))
 
     pub heard_task : IfRuns r (AreReaders plants q (set rs (task_place (by.0 - 1) task) now))
     heard_task = by_task task refl where
       plainly : (t : Task) → task ≡ t → ((n : ℕ) → t ≢ Node n) → now ≡ was → IfRuns r (AreReaders plants q (set rs (task_place (by.0 - 1) t) now))
-      plainly t same other still = let plain : (t : Task) → Plays t ≡ admitted x.base.config x.book by what → ((n : ℕ) → t ≢ Node n) → slice_get rs (task_place (by.0 - 1) t) ≡ Some was → now ≡ was → IfRuns r (AreReaders plants q (set rs (task_place (by.0 - 1) t) now)) = λ t is_so other there same. if_runs r (AreReaders plants q rs) (AreReaders plants q (set rs (task_place (by.0 - 1) t) now))
+      plainly t same other still =
+          let plain : (t : Task) → Plays t ≡ admitted x.base.config x.book by what → ((n : ℕ) → t ≢ Node n) → slice_get rs (task_place (by.0 - 1) t) ≡ Some was → now ≡ was → IfRuns r (AreReaders plants q (set rs (task_place (by.0 - 1) t) now)) =
+          λ t is_so other there same. if_runs r (AreReaders plants q rs) (AreReaders plants q (set rs (task_place (by.0 - 1) t) now))
           (λ are. subst (λ (k : List (Option (List ℕ))). AreReaders plants q k) (sym (set_still rs (task_place (by.0 - 1) t) was now there same)) are)
           (heard_still (none_node t is_so other)) in
           plain t (ap (λ (k : Task). Plays k) (sym same) ∙ adm) other (subst (λ (k : Task). slice_get rs (task_place (by.0 - 1) k) ≡ Some was) same here) still

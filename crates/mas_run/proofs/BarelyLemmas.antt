@@ -1,5 +1,5 @@
 -- A line for which there was no memory: nothing was done, and the run ends in it.
-use Rattle.mas_run.proofs.Names.{◌≡◌, inl, inr, ℕ, List, Result, Err, refl, sym, ap, subst, ◌⊎◌, ◌≤◌, [], ◌∷◌, ◌++◌, append-nil, All, Option, Some, None, ◌∙◌, arith, Bool, false, MemberId, Ghosts as PlantGhosts, CopyGhosts, SteadyGhosts, Complex, Parts, parts_of, Member, NodeNo, Ask, Admission, admitted, Plays, Refused, Resets, TakesOver, Scene, Batched, Ends, Replaced, Cause, Cut, Halt, Sight, Writing, clear, LeavesCopies, is_takeover, IsThere, LosesAs, is_work, taking, named_as, LeftAt, HasLeftAs, left_as, LineIsLeft, LineDone, line_by, All-cons, All-nil, Entry, Fate, Flying, reply_lines, Step, Line, View, paper_now, Goes, Rose, SameWires, SamePapers, counts_of, AreBatched, ArePart, AtCut, IsBroken, IsHaltBy, IsTight, cause_by, IsFoundAt, Wait, VolumesStay, console_now, none_lost, Spares, is_stop, journal_of, calm, Deck, Give, Work, Node, Left, adds_first, left_by, none_left, ArePiecesOf, queue_met, Piece, Play, fate_found, holder_of, piece_of, pieces_of, settle, IfRuns, reset_piece, LineAt, pieces_as, play_as, AreFewPieces, SaysIn, AreOf, entry_with, Command, nothing_found, Fresh, Told, Task, IsShapedAs, AreVolumesKept, proceeds_of, Disk, goes_none, papers_none, stay_none, wires_none, spares_none, IsOwnPiece, Holder, kept_none, RenewsAs}
+use Rattle.mas_run.proofs.Names.{◌≡◌, inl, inr, ℕ, List, Result, Err, refl, sym, ap, subst, ◌⊎◌, ◌≤◌, [], ◌∷◌, ◌++◌, append-nil, All, Option, Some, None, ◌∙◌, arith, Bool, false, MemberId, PlantGhosts, Ghosts as CopyGhosts, SteadyGhosts, Complex, Parts, parts_of, Member, NodeNo, Ask, Admission, admitted, Plays, Refused, Resets, TakesOver, Scene, Batched, Ends, Replaced, Cause, Cut, Halt, Sight, Writing, clear, LeavesCopies, is_takeover, IsThere, LosesAs, is_work, taking, named_as, LeftAt, HasLeftAs, left_as, LineIsLeft, LineDone, line_by, All-cons, All-nil, Entry, Fate, Flying, reply_lines, Step, ViewLine as Line, View, paper_now, Goes, Rose, SameWires, SamePapers, counts_of, AreBatched, ArePart, AtCut, IsBroken, IsHaltBy, IsTight, cause_by, IsFoundAt, Wait, VolumesStay, console_now, none_lost, Spares, is_stop, journal_of, calm, Give, Left, adds_first, left_by, none_left, ArePiecesOf, queue_met, Piece, Play, fate_found, holder_of, piece_of, pieces_of, settle, IfRuns, reset_piece, LineAt, pieces_as, play_as, AreFewPieces, SaysIn, AreOf, entry_with, Command, nothing_found, Fresh, Told, Task, IsShapedAs, AreVolumesKept, proceeds_of, Disk, goes_none, papers_none, stay_none, wires_none, spares_none, IsOwnPiece, Holder, kept_none, RenewsAs}
 use Rattle.member_node.specs.declared.member.NodeNo.TheVariants as no_node
 use Rattle.mas_run.proofs.CopiesLemmas.{copies_none, leaves_same}
 use Rattle.mas_run.proofs.PassedLemmas.{renews_unbegun, settle_none}
@@ -178,15 +178,9 @@ module _ (S : Scene) (at : ℕ) (step : Step) (cause : Cause) where
       (All-cons (AreOf h.by h.step) _ [] (All-cons (λ e. (e.by ≡ h.by) × (e.step ≡ h.step)) _ [] (refl, refl) (All-nil _)) (All-nil _)) (All-nil _) in
       let h = holder_of S step.by at (Plays (Give c)) in
       record { own = own_command h c; shaped = (reply.Plain, refl) }
-  bare_shaped (Plays (Deck fields text)) old new =
-      let h = holder_of S step.by at (Plays (Deck fields text)) in
-      record { own = All-nil (IsOwnPiece h.by h.step); shaped = none_few h (Deck fields text) old new }
-  bare_shaped (Plays (Work n)) old new =
-      let h = holder_of S step.by at (Plays (Work n)) in
-      record { own = All-nil (IsOwnPiece h.by h.step); shaped = none_few h (Work n) old new }
-  bare_shaped (Plays (Node l)) old new =
-      let h = holder_of S step.by at (Plays (Node l)) in
-      record { own = All-nil (IsOwnPiece h.by h.step); shaped = none_few h (Node l) old new }
+  bare_shaped (Plays another) old new =
+      let h = holder_of S step.by at (Plays another) in
+      record { own = All-nil (IsOwnPiece h.by h.step); shaped = none_few h another old new }
   bare_shaped (Resets of) old new = (reply.Plain, refl)
   bare_shaped (TakesOver of) old new = (reply.Plain, refl)
   bare_shaped _ old new = refl

@@ -28,7 +28,8 @@ whole_cut (Err e) by (Some cut) old new none so = inr (cut, refl, so.0)
 passed_whole : (told : Type 0) (m : ℕ) (h : Here) (gs : List Given) (steps : List Step) (many : ℕ) (end : There)
     → end.view.stops m ≡ 0 → ArePassed told h gs steps many end → AreWhole m h.scene h.number gs steps
 passed_whole told m h gs [] many end none p = tt
-passed_whole told m h gs (step ∷ steps) many end none (there, more, is, next, rest) = let none_after : (told : Type 0) (m : ℕ) (h : Here) (gs : List Given) (steps : List Step) (many : ℕ) (end : There) → end.view.stops m ≡ 0 → ArePassed told h gs steps many end → h.view.stops m ≡ 0 = λ told m h gs steps many end none p. let goes = passed_goes told h gs steps many end p in
+passed_whole told m h gs (step ∷ steps) many end none (there, more, is, next, rest) =
+    let none_after : (told : Type 0) (m : ℕ) (h : Here) (gs : List Given) (steps : List Step) (many : ℕ) (end : There) → end.view.stops m ≡ 0 → ArePassed told h gs steps many end → h.view.stops m ≡ 0 = λ told m h gs steps many end none p. let goes = passed_goes told h gs steps many end p in
     omega (arith, goes.stops m, none) in
     let g = given_first gs in
     let p = played_at (line_of h g step) in
@@ -73,7 +74,8 @@ module _ (per : ℕ) (by : MemberId) (old new : View) (volumes : (n : ℕ) → R
 
   off_calm : (Q : Queue) (s : State) (found : Found) → on_line s ≡ false → IsFoundAt per by old new Q s found → found ≡ calm Q s
   off_calm Q (Away (SpoolDeck n text)) found off is = written_calm _ found is
-  off_calm Q (Away (ReadText runs n fields p)) found off is = let job_calm : (Q : Queue) (n : JobNo) (found : Found) → FindsJob per Q n found old new → found ≡ option_map_or (λ (j : Job). with_text j.text) (job_at Q n) nothing_found = λ Q n found is. is.only ∙ ap read_found (read_calm is.job.text _ found.read is.as_had)
+  off_calm Q (Away (ReadText runs n fields p)) found off is =
+      let job_calm : (Q : Queue) (n : JobNo) (found : Found) → FindsJob per Q n found old new → found ≡ option_map_or (λ (j : Job). with_text j.text) (job_at Q n) nothing_found = λ Q n found is. is.only ∙ ap read_found (read_calm is.job.text _ found.read is.as_had)
       ∙ sym (ap (λ (o : Option Job). option_map_or (λ (j : Job). with_text j.text) o nothing_found) is.there) in
       job_calm Q n found is
   off_calm Q (Away (SpoolOutputs n specs p)) found off is = written_calm _ found is
@@ -243,7 +245,8 @@ module _ (S : Scene) (c : Counts) (armed : List Armed) (by : MemberId) (at : ℕ
   -- what a line with this play leaves
   as_same : (a : Admission) → IsCalmLine S by at sight a → ShowSame (played_as S by at sight a) (played_as T by at (calmed sight) a)
   as_same a calms = let left_so : Play → ℕ → Left = λ play count. left_by by sight.cut play count in
-      let left_same : (a : Admission) → IsCalmLine S by at sight a → bare by (here a).locked (left_so (here a) (S.counts by)) ≡ bare by (here a).locked (left_so (there a) (c by)) = λ a calms. left_bare by (here a).locked sight.cut (here a) (there a) (S.counts by) (c by) refl (ap (λ (p : Play). p.locked) (play_same a)) (ap (λ (p : Play). p.book) (play_same a)) (play_alike a calms) in
+      let left_same : (a : Admission) → IsCalmLine S by at sight a → bare by (here a).locked (left_so (here a) (S.counts by)) ≡ bare by (here a).locked (left_so (there a) (c by)) =
+      λ a calms. left_bare by (here a).locked sight.cut (here a) (there a) (S.counts by) (c by) refl (ap (λ (p : Play). p.locked) (play_same a)) (ap (λ (p : Play). p.book) (play_same a)) (play_alike a calms) in
       let e = left_same a calms in
       let p = played_as S by at sight a in
       let q = played_as T by at (calmed sight) a in

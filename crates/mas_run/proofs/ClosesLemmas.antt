@@ -1,6 +1,6 @@
 -- A line of a member that only closes: it is refused or denied, or the lock is given up.
-use Rattle.mas_run.proofs.Names.{◌≡◌, ℕ, ◌+◌, ◌≤◌, ◌&&◌, ◌++◌, Bool, true, false, if◌then◌else◌, List, [], ◌∷◌, Option, Some, None, Result, Ok, Err, refl, sym, ◌∙◌, ap, subst, arith, ◌<◌, All, ◌⊎◌, ⊎_elim, OnOk, inr, inl, eqb-true, Ckpt1, Ckpt2, MemberId, Batch, Entry, is_somebody, nobody, steps_most, Book, IsMember, after_free, after_stop, is_holder, is_stopped, noted, with_holder, Ghosts as PlantGhosts, DiskView as Disk, Line, View, CopyGhosts, page_count, reserved_after_stop, counts_of, Parts, parts_of, console_now, Member, NodeNo, HasClosed, left_at, stopped_so, Closes, freed_by, left_at as closes_at, IsSayer, queue_of, HoldsLock, IsSeat, Admission, Replaces, tried, Denied, Frees, Refused, denied_closing, is_locked, play_of, Piece, closes_with, Scene, clear, Replaced, AreMembers, IsBetween, IsFlight, IsMemberAt, IsShown, is_left_held, BetweenLines, LeftBetween, StandsIn, IsOfEarlier, Since, freed_since, none_since, stopped_since, inside_since, tried_since, proceeds_of, TellNone, left_tells, in_flight, Dev, SteadyGhosts, Complex, stopped_in, journal_of, Ask, Release, CopiesKept, LineIsLeft, LineDone, line_by, is_of_member, RenewsAs, AreMembersNamed, closing_line, Closing, IsPlayed, Keep, Outer, LockNo, tested_as}
-use Rattle.mas_run.proofs.TurnedLemmas.{found_says, line_says, between_spoken, quiet_with, same_unreserved}
+use Rattle.mas_run.proofs.Names.{◌≡◌, ℕ, ◌+◌, ◌≤◌, ◌&&◌, ◌++◌, Bool, true, false, if◌then◌else◌, List, [], Option, Some, None, Result, Ok, Err, refl, sym, ◌∙◌, ap, subst, arith, ◌⊎◌, ⊎_elim, OnOk, inr, inl, eqb-true, Ckpt1, Ckpt2, MemberId, Batch, Entry, is_somebody, nobody, steps_most, Book, IsMember, after_free, after_stop, is_holder, is_stopped, noted, with_holder, PlantGhosts, DiskView as Disk, ViewLine as Line, View, Ghosts as CopyGhosts, page_count, reserved_after_stop, counts_of, Parts, parts_of, console_now, Member, NodeNo, HasClosed, left_at, stopped_so, Closes, freed_by, left_at as closes_at, IsSayer, queue_of, HoldsLock, IsSeat, Admission, Replaces, tried, Denied, Frees, Refused, denied_closing, is_locked, play_of, Piece, closes_with, Scene, clear, Replaced, IsBetween, IsMemberAt, IsShown, is_left_held, BetweenLines, LeftBetween, StandsIn, Since, freed_since, none_since, stopped_since, inside_since, tried_since, proceeds_of, TellNone, left_tells, Dev, SteadyGhosts, Complex, stopped_in, journal_of, Ask, Release, CopiesKept, LineIsLeft, LineDone, line_by, is_of_member, RenewsAs, AreMembersNamed, closing_line, Closing, IsPlayed, Keep, Outer, LockNo, tested_as, proceeds_none, no}
+use Rattle.mas_run.proofs.TurnedLemmas.{found_says, line_says, member_on, members_on, between_on, between_spoken, quiet_with, same_unreserved}
 use Rattle.mas_run.proofs.ClosingLemmas.{Ending, HasMerelyActed, IsCloser, closing_at, cut_by, denied_closer, frees_closer, refused_closer, closes_left, merely_closed, none_stopped, not_lost}
 use Rattle.mas_run.proofs.CopiesLemmas.{said_copies, leaves_same}
 use Rattle.mas_run.proofs.PassedLemmas.{renews_none}
@@ -9,64 +9,28 @@ use Rattle.mas_run.proofs.KnownLemmas.{busy_named, denied_holder, own_seat, said
 use Rattle.member_node.specs.declared.member.NodeNo.TheVariants as no_node
 use Rattle.mas_types.specs.declared.answers.Closing.TheVariants as closing
 use Rattle.mas_types.specs.declared.commands.Reply.TheVariants as reply
-use Rattle.mas_run.proofs.JournalLemmas.{flown_of}
+use Rattle.mas_run.proofs.JournalLemmas.{flies_so, flown_of}
 
-true_false : true ≡ false → ⊥
-true_false e = absurd (cc)
-
--- THE NEXT NUMBER
+-- A LATER BOOK, whose holder is as before, if it has one
 
 module _ {P C : Type 0} (plants : PlantGhosts P) (copies : CopyGhosts C) where
-  pub between_next : (x : Parts P C) (ms : List Member) (at : ℕ) → at ≤ steps_most → IsBetween plants copies x ms at → IsBetween plants copies x ms (at + 1)
-  between_next x ms at few is = let earlier_later : (at : ℕ) (bs : List Batch) → All (IsOfEarlier at) bs → All (IsOfEarlier (at + 1)) bs = λ at bs are. let entry_later : (at : ℕ) (es : List Entry) → All (λ e. e.step < at) es → All (λ e. e.step < at + 1) es = λ at es are. λ k d lt. let less = are k d lt in omega (arith, less) in
-      λ k d lt. entry_later at _ (are k d lt) in
-      record {
-        stands = is.stands;
-        settled = is.settled;
-        quiet = is.quiet;
-        unreserved = is.unreserved;
-        members = is.members;
-        many = is.many;
-        booked = is.booked;
-        held = is.held;
-        config = is.config;
-        sound = is.sound;
-        begun = is.begun;
-        roomy = is.roomy;
-        large = is.large;
-        untold = λ by later le small. is.untold by later (omega (arith, le)) small;
-        earlier = earlier_later at (x.batches ++ in_flight x.current) is.earlier;
-        few = omega (arith, few);
-      }
-
-  -- A LATER BOOK, with the same holder
-
-  module _ (x : Parts P C) (c : Book) (since : Since x.book c) (holder : c.holder ≡ x.book.holder) where
+  module _ (x : Parts P C) (c : Book) (o : Option (List Entry)) (none : o ≡ None) (since : Since x.book c) (same : (k : MemberId) → 1 ≤ k.0 → is_holder c k ≡ true → c.holder ≡ x.book.holder) where
     abbrev y : Parts P C
-    y = record x { book = c }
+    y = record x { book = c; reserved = o }
 
     still_stopped : (k : MemberId) → is_stopped x.book k ≡ true → is_stopped c k ≡ true
     still_stopped k was = either (is_stopped c k) refl where
       either : (s : Bool) → is_stopped c k ≡ s → is_stopped c k ≡ true
       either true e = e
-      either false e = absurd (true_false (sym was ∙ since.up k e))
+      either false e = absurd (no true refl (sym was ∙ since.up k e))
 
     stands_later : (o : Option Batch) → StandsIn x.batches x.placed x.book o → StandsIn x.batches x.placed c o
     stands_later None stands = stands
     stands_later (Some b) stands = (stands.0, stands.1, still_stopped b.by stands.2)
 
-    -- no stopped member holds now: none did
-    unheld : is_left_held c ≡ false → is_left_held x.book ≡ false
-    unheld none = either (is_somebody x.book.holder) refl where
-      either : (b : Bool) → is_somebody x.book.holder ≡ b → is_left_held x.book ≡ false
-      either false e = ap (λ (t : Bool). t && is_stopped x.book x.book.holder) e
-      either true e =
-          ap (λ (t : Bool). t && is_stopped x.book x.book.holder) e
-          ∙ since.up x.book.holder (sym (ap (λ (k : MemberId). is_somebody k && is_stopped c k) holder ∙ ap (λ (t : Bool). t && is_stopped c x.book.holder) e) ∙ none)
-
     -- who is up now was so before, and sits where it sat
-    lock_later : (k : MemberId) → is_stopped c k ≡ false → HoldsLock x.book x.base.config k → HoldsLock c x.base.config k
-    lock_later k up lock = record {
+    lock_later : (k : MemberId) → is_stopped c k ≡ false → c.holder ≡ x.book.holder → HoldsLock x.book x.base.config k → HoldsLock c x.base.config k
+    lock_later k up holder lock = record {
       may = record { holds = holder ∙ lock.may.holds; up = λ some. up };
       some = lock.some;
       few = lock.few;
@@ -74,12 +38,12 @@ module _ {P C : Type 0} (plants : PlantGhosts P) (copies : CopyGhosts C) where
       member = lock.member;
     }
 
-    seat_later : (m : Member) → is_stopped c m.id ≡ false → IsSeat plants copies x m → IsSeat plants copies y m
-    seat_later m up seat = record {
+    seat_later : (m : Member) → is_stopped c m.id ≡ false → c.holder ≡ x.book.holder → IsSeat plants copies x m → IsSeat plants copies y m
+    seat_later m up holder seat = record {
       still = record {
-        holds = lock_later m.id up seat.still.holds;
+        holds = lock_later m.id up holder seat.still.holds;
         none = seat.still.none;
-        unreserved = seat.still.unreserved;
+        unreserved = none;
         unplaced = seat.still.unplaced;
         here = seat.still.here;
         many = seat.still.many;
@@ -95,41 +59,36 @@ module _ {P C : Type 0} (plants : PlantGhosts P) (copies : CopyGhosts C) where
       low = seat.low;
     }
 
-    member_later : (at : ℕ) (m : Member) → IsMemberAt plants copies x at m → IsMemberAt plants copies y at m
-    member_later at m is = let same_holder : (k : MemberId) → is_holder c k ≡ is_holder x.book k = λ k. ap (λ (h : MemberId). is_holder (record c { holder = h }) k) holder in record {
-      id = is.id;
-      up = λ up. record {
-        config = (is.up (since.up m.id up)).config;
-        many = (is.up (since.up m.id up)).many;
-        idle = (is.up (since.up m.id up)).idle;
-        noted = (is.up (since.up m.id up)).noted;
-        seated = λ holds. seat_later m up ((is.up (since.up m.id up)).seated (sym (same_holder m.id) ∙ holds));
-      };
-    }
+    between_booked : (is_left_held c ≡ false → is_left_held x.book ≡ false) → c.holder.0 ≤ x.base.config.members → (ms : List Member) (at : ℕ) → IsBetween plants copies x ms at → IsBetween plants copies y ms at
+    between_booked unheld within ms at is =
+        let sits : (k : ℕ) (m : Member) → 1 ≤ k → IsMemberAt plants copies x k m → IsMemberAt plants copies y k m = λ k m some its.
+        let holder : is_holder c m.id ≡ true → c.holder ≡ x.book.holder = λ holds. let number : m.id.0 ≡ k = ap (λ (j : MemberId). j.0) its.id in same m.id (omega (arith, some, number)) holds in
+        member_on plants copies x y refl since k m refl
+        (λ was up holds. seat_later m up (holder holds) (was.seated (sym (ap (λ (h : MemberId). is_holder (record c { holder = h }) m.id) (holder holds)) ∙ holds))) its in
+        between_on plants copies x y refl since (proceeds_none (plants.view x.plant)) ms ms at at is (stands_later x.current is.stands) is.settled
+        (λ free. quiet_with plants copies x c o none (page_count x.base.config) (is.quiet (unheld free))) none (members_on plants copies x y refl since 1 1 ms (omega arith) sits is.members) refl within is.begun
+        is.untold is.earlier is.few
 
-    members_later : (at : ℕ) (ms : List Member) → AreMembers plants copies x at ms → AreMembers plants copies y at ms
-    members_later at [] are = tt
-    members_later at (m ∷ ms) are = (member_later at m are.0, members_later (at + 1) ms are.1)
+  module _ (x : Parts P C) (c : Book) (since : Since x.book c) where
+    module _ (holder : c.holder ≡ x.book.holder) where
+      -- no stopped member holds now: none did
+      unheld : is_left_held c ≡ false → is_left_held x.book ≡ false
+      unheld none = either (is_somebody x.book.holder) refl where
+        either : (b : Bool) → is_somebody x.book.holder ≡ b → is_left_held x.book ≡ false
+        either false e = ap (λ (t : Bool). t && is_stopped x.book x.book.holder) e
+        either true e =
+            ap (λ (t : Bool). t && is_stopped x.book x.book.holder) e
+            ∙ since.up x.book.holder (sym (ap (λ (k : MemberId). is_somebody k && is_stopped c k) holder ∙ ap (λ (t : Bool). t && is_stopped c x.book.holder) e) ∙ none)
 
-    pub between_later : (ms : List Member) (at : ℕ) → IsBetween plants copies x ms at → IsBetween plants copies y ms at
-    between_later ms at is = record {
-      stands = stands_later x.current is.stands;
-      settled = is.settled;
-      quiet = λ none. let q = is.quiet (unheld none) in quiet_with plants copies x c x.reserved q.unreserved (page_count x.base.config) q;
-      unreserved = is.unreserved;
-      members = members_later 1 ms is.members;
-      many = is.many;
-      booked = since.many ∙ is.booked;
-      held = let le = is.held in let same = ap (λ (k : MemberId). k.0) holder in omega (arith, le, same);
-      config = is.config;
-      sound = is.sound;
-      begun = is.begun;
-      roomy = is.roomy;
-      large = is.large;
-      untold = is.untold;
-      earlier = is.earlier;
-      few = is.few;
-    }
+      pub between_later : (ms : List Member) (at : ℕ) → IsBetween plants copies x ms at → IsBetween plants copies (record x { book = c }) ms at
+      between_later ms at is =
+          between_booked x c x.reserved is.unreserved since (λ k some holds. holder) unheld (let le = is.held in let same = ap (λ (k : MemberId). k.0) holder in omega (arith, le, same)) ms at is
+
+    -- nobody holds it, once a member that was up gave it up
+    between_freed : c.holder ≡ nobody → (ms : List Member) (at : ℕ) → is_left_held x.book ≡ false → IsBetween plants copies x ms at → IsBetween plants copies (record x { book = c; reserved = None }) ms at
+    between_freed free ms at up is =
+        let nobody_now : c.holder.0 ≡ 0 = ap (λ (k : MemberId). k.0) free in
+        between_booked x c None refl since (λ k some holds. absurd (let held : c.holder.0 ≡ k.0 = eqb-true c.holder.0 k.0 holds in omega (arith, held, some, nobody_now))) (λ left. up) (omega (arith, nobody_now)) ms at is
 
 -- THE SCENE that a value shows
 
@@ -138,10 +97,7 @@ scene_at x = record { queue = queue_of x; book = x.book; flight = flown_of x.cur
 
 pub shown_at : {P C : Type 0} (plants : PlantGhosts P) (copies : CopyGhosts C) (told : Type 0) (x : Parts P C) → StandsIn x.batches x.placed x.book x.current
     → IsShown plants copies told (scene_at x) x
-shown_at plants copies told x stands = record { queue = refl; book = refl; flight = flies x.current stands; counts = λ t m up. refl } where
-  flies : (c : Option Batch) → StandsIn x.batches x.placed x.book c → IsFlight x.book (flown_of c) c
-  flies None is = refl
-  flies (Some b) is = record { batch = b; is = refl; entries = refl; flies = is.1; stopped = is.2 }
+shown_at plants copies told x stands = record { queue = refl; book = refl; flight = flies_so x.batches x.placed x.book x.current stands; counts = λ t m up. refl }
 
 -- WHAT WAS SAID
 
@@ -173,62 +129,6 @@ module _ {P C : Type 0} (plants : PlantGhosts P) (copies : CopyGhosts C) (x : Pa
       subst (λ (w : Parts P C). IsBetween plants copies w ms (at + 1)) (sym frame)
       (subst (λ (o : Option (List Entry)). IsBetween plants copies (record said { book = after_stop b by; reserved = o }) ms (at + 1)) (none_reserved is.unreserved) later)
 
--- THE LOCK IS GIVEN UP: nobody holds it then
-
-module _ {P C : Type 0} (plants : PlantGhosts P) (copies : CopyGhosts C) (x : Parts P C) (c : Book) (since : Since x.book c) (none : c.holder ≡ nobody) where
-  abbrev freed : Parts P C
-  freed = record x { book = c; reserved = None }
-
-  no_holder : (j : ℕ) (k : MemberId) → 1 ≤ j → k ≡ record { 0 = j } → is_holder c k ≡ true → ⊥
-  no_holder j k some id holds =
-      let same : c.holder.0 ≡ k.0 = eqb-true c.holder.0 k.0 holds in
-      let number : k.0 ≡ j = ap (λ (m : MemberId). m.0) id in
-      let zero_holds : c.holder.0 ≡ 0 = ap (λ (m : MemberId). m.0) none in
-      absurd (omega (arith, same, number, some, zero_holds))
-
-  freed_one : (j : ℕ) (m : Member) → 1 ≤ j → IsMemberAt plants copies x j m → IsMemberAt plants copies freed j m
-  freed_one j m some is = record {
-    id = is.id;
-    up = λ up. record {
-      config = (is.up (since.up m.id up)).config;
-      many = (is.up (since.up m.id up)).many;
-      idle = (is.up (since.up m.id up)).idle;
-      noted = (is.up (since.up m.id up)).noted;
-      seated = λ holds. absurd (no_holder j m.id some is.id holds);
-    };
-  }
-
-  freed_all : (j : ℕ) (ms : List Member) → 1 ≤ j → AreMembers plants copies x j ms → AreMembers plants copies freed j ms
-  freed_all j [] some are = tt
-  freed_all j (m ∷ ms) some are = (freed_one j m some are.0, freed_all (j + 1) ms (omega arith) are.1)
-
-  freed_stands : (o : Option Batch) → o ≡ None → x.placed ≡ false → StandsIn x.batches x.placed c o
-  freed_stands None is unplaced = unplaced
-  freed_stands (Some b) is unplaced = absurd (cc)
-
-  -- a member that was up held it
-  between_freed : (ms : List Member) (at : ℕ) → is_left_held x.book ≡ false → IsBetween plants copies x ms at → IsBetween plants copies freed ms at
-  between_freed ms at up is =
-      let q = is.quiet up in
-      record {
-        stands = freed_stands x.current q.none q.unplaced;
-        settled = is.settled;
-        quiet = λ free. quiet_with plants copies x c None refl (page_count x.base.config) q;
-        unreserved = refl;
-        members = freed_all 1 ms (omega arith) is.members;
-        many = is.many;
-        booked = since.many ∙ is.booked;
-        held = let nobody_now = ap (λ (k : MemberId). k.0) none in omega (arith, nobody_now);
-        config = is.config;
-        sound = is.sound;
-        begun = is.begun;
-        roomy = is.roomy;
-        large = is.large;
-        untold = is.untold;
-        earlier = is.earlier;
-        few = is.few;
-      }
-
 -- FREE: its line was said, and then its member gave the lock up
 
 -- while nobody holds it
@@ -256,39 +156,16 @@ module _ {P C : Type 0} (plants : PlantGhosts P) (copies : CopyGhosts C) (x : Pa
 
 -- WHAT STAYS of a value whose member is stopped in the book where it was halted, or gave the lock up
 
-pub record Stays {P C : Type 0} (z w : Parts P C) : Type 0 where
-  pub base : w.base ≡ z.base
-  pub since : w.since ≡ z.since
-  pub renewals : w.renewals ≡ z.renewals
-  pub alive1 : w.first_alive ≡ z.first_alive
-  pub alive2 : w.second_alive ≡ z.second_alive
-  pub journal : journal_of w ≡ journal_of z
-  pub printed : w.printed ≡ z.printed
-  pub had : w.had ≡ z.had
+abbrev pub Stays : {P C : Type 0} → Parts P C → Parts P C → Type 0
+Stays z w = w ≡ record z { plant = w.plant; book = w.book; reserved = w.reserved }
 
-stays_none : {P C : Type 0} (z : Parts P C) → Stays z z
-stays_none z = record { base = refl; since = refl; renewals = refl; alive1 = refl; alive2 = refl; journal = refl; printed = refl; had = refl }
+pub stays_stopped : {P C : Type 0} (by : MemberId) (z : Parts P C) (q : P) (r : Result (Unit {0}) NodeNo) → Stays z (stopped_so r by (record z { plant = q }))
+stays_stopped by z q (Err no_node.Halted) = refl
+stays_stopped by z q _ = refl
 
-pub stays_stopped : {P C : Type 0} (by : MemberId) (z : Parts P C) (r : Result (Unit {0}) NodeNo) → Stays z (stopped_so r by z)
-stays_stopped by z (Err no_node.Halted) = record { base = refl; since = refl; renewals = refl; alive1 = refl; alive2 = refl; journal = refl; printed = refl; had = refl }
-stays_stopped by z _ = stays_none z
-
-stays_freed : {P C : Type 0} (by : MemberId) (z : Parts P C) (r : Result (Unit {0}) NodeNo) → Stays z (freed_by r by z)
-stays_freed by z (Ok done) = record { base = refl; since = refl; renewals = refl; alive1 = refl; alive2 = refl; journal = refl; printed = refl; had = refl }
-stays_freed by z (Err e) = stays_stopped by z (Err e)
-
--- the plant is another then
-stays_on : {P C : Type 0} (x z w : Parts P C) (q : P) → z ≡ record x { plant = q } → Stays z w → Stays x w
-stays_on x z w q is stays = record {
-  base = stays.base ∙ ap (λ (k : Parts _ _). k.base) is;
-  since = stays.since ∙ ap (λ (k : Parts _ _). k.since) is;
-  renewals = stays.renewals ∙ ap (λ (k : Parts _ _). k.renewals) is;
-  alive1 = stays.alive1 ∙ ap (λ (k : Parts _ _). k.first_alive) is;
-  alive2 = stays.alive2 ∙ ap (λ (k : Parts _ _). k.second_alive) is;
-  journal = stays.journal ∙ ap (λ (k : Parts _ _). journal_of k) is;
-  printed = stays.printed ∙ ap (λ (k : Parts _ _). k.printed) is;
-  had = stays.had ∙ ap (λ (k : Parts _ _). k.had) is;
-}
+stays_freed : {P C : Type 0} (by : MemberId) (z : Parts P C) (q : P) (r : Result (Unit {0}) NodeNo) → Stays z (freed_by r by (record z { plant = q }))
+stays_freed by z q (Ok done) = refl
+stays_freed by z q (Err e) = stays_stopped by z q (Err e)
 
 pub if_ok : (r : Result (Unit {0}) NodeNo) (A : Type 0) → (r ≡ Ok tt → A) → OnOk r A
 if_ok (Ok done) A f = f refl
@@ -324,20 +201,21 @@ module _ {P C : Type 0} {plants : PlantGhosts P} {steadies : SteadyGhosts C} {co
 
   seated : r ≡ Err no_node.Halted → IsMember x.book by
   seated e = ⊎_elim
-      (λ nobody_says. absurd (true_false (sym (ap stopped_in e) ∙ none_stopped plants (scene_at p) by at a sayer t q r (closes_at (scene_at p) by at a) here says nobody_says)))
+      (λ nobody_says. absurd (no true refl (sym (ap stopped_in e) ∙ none_stopped plants (scene_at p) by at a sayer t q r (closes_at (scene_at p) by at a) here says nobody_says)))
       seat says
 
   line_done : OnOk r (BetweenLines y ms (at + 1)) → (r ≡ Err no_node.Halted → LeftBetween y ms (at + 1)) → LineDone x y ms at by what r
   line_done next halted = let at_test : Stays t q = subst (λ (z : Parts P C). Stays z q) w.frame stays in
-      let copies_kept : CopiesKept x y r = leaves_same plants p q r (said_copies plants t q r here.acts at_test.alive1 at_test.alive2 (not_lost r sayer.0 (plants.view x.plant) (plants.view y.plant) here.cause)) at_test.renewals (λ is. sym at_test.alive1 ∙ is) (λ is. sym at_test.alive2 ∙ is) in
-      let left : (told : Type 0) → IsTold plants told → LineIsLeft told at (line_by by what) x y r = λ told knows S shown. let unflown : (told : Type 0) (S : Scene) → IsShown plants copies told S p → is_locked a ≡ true → S.flight ≡ None = λ told S shown locked. none_flies plants copies told S p shown (none locked) in
-      let renews_by : (e : Ending) → RenewsAs a (cut_by e) Replaced t.renewals q.renewals (plants.view x.plant) (plants.view y.plant) = λ e. renews_none a (cut_by e) Replaced t.renewals q.renewals (plants.view x.plant) (plants.view y.plant) apart at_test.renewals in
+      let copies_kept : CopiesKept x y r = leaves_same plants p q r (said_copies plants t q r here.acts (ap (λ (k : Parts P C). k.first_alive) at_test) (ap (λ (k : Parts P C). k.second_alive) at_test) (not_lost r sayer.0 (plants.view x.plant) (plants.view y.plant) here.cause)) (ap (λ (k : Parts P C). k.renewals) at_test) (λ is. sym (ap (λ (k : Parts P C). k.first_alive) at_test) ∙ is) (λ is. sym (ap (λ (k : Parts P C). k.second_alive) at_test) ∙ is) in
+      let left : (told : Type 0) → IsTold plants told → LineIsLeft told at (line_by by what) x y r =
+      λ told knows S shown. let unflown : (told : Type 0) (S : Scene) → IsShown plants copies told S p → is_locked a ≡ true → S.flight ≡ None = λ told S shown locked. none_flies plants copies told S p shown (none locked) in
+      let renews_by : (e : Ending) → RenewsAs a (cut_by e) Replaced t.renewals q.renewals (plants.view x.plant) (plants.view y.plant) = λ e. renews_none a (cut_by e) Replaced t.renewals q.renewals (plants.view x.plant) (plants.view y.plant) apart (ap (λ (k : Parts P C). k.renewals) at_test) in
       let merely : (told : Type 0) (S : Scene) (shown : IsShown plants copies told S p) → HasMerelyActed plants by a t q r = λ told S shown. merely_closed plants S by at a sayer t q r (closes_at S by at a) (closed_at told S shown) says in
-      closes_left plants copies S at (line_by by what) a (admitted_here plants copies told S p shown by what a w.adm) Replaced pieces line rel (closer S (unflown told S shown)) t q r at_test.journal at_test.printed
+      closes_left plants copies S at (line_by by what) a (admitted_here plants copies told S p shown by what a w.adm) Replaced pieces line rel (closer S (unflown told S shown)) t q r (ap (λ (k : Parts P C). journal_of k) at_test) (ap (λ (k : Parts P C). k.printed) at_test)
       told (λ o up. if_ok r _ (λ e. shown.counts o by up)) sayer t (λ tells. refl) (closed_at told S shown) (merely told S shown) renews_by knows in
       record {
-        base = at_test.base;
-        since = at_test.since;
+        base = ap (λ (k : Parts P C). k.base) at_test;
+        since = ap (λ (k : Parts P C). k.since) at_test;
         bare = left ⊥ (inl (λ t. t));
         told = λ tells. left (Unit {0}) (inr (tt, tells));
         copies_kept = copies_kept;
@@ -372,15 +250,9 @@ module _ {P C : Type 0} {plants : PlantGhosts P} {steadies : SteadyGhosts C} {co
 
 -- THE THREE ADMISSIONS that only close
 
-false_true : false ≡ true → ⊥
-false_true e = absurd (cc)
-
 -- a value with another plant
 abbrev on_plant : {P C : Type 0} → Parts P C → P → Parts P C
 on_plant z q = record z { plant = q }
-
-stays_by : {P C : Type 0} (mid y : Parts P C) (q : P) (z : Parts P C) → y ≡ z → Stays (on_plant mid q) z → Stays mid y
-stays_by mid y q z is stays = subst (λ (k : Parts _ _). Stays mid k) (sym is) (stays_on mid (on_plant mid q) z q refl stays)
 
 module _ {P C : Type 0} {plants : PlantGhosts P} {steadies : SteadyGhosts C} {copies : CopyGhosts C} {x mid : Complex P C plants steadies copies} {ms : List Member}
     {at : ℕ} {by : MemberId} {what : Ask} where
@@ -392,9 +264,9 @@ module _ {P C : Type 0} {plants : PlantGhosts P} {steadies : SteadyGhosts C} {co
     pub refused_done : is_of_member what ≡ true → IsPlayed (line_by by what) → (y : Complex P C plants steadies copies) (r : Result (Unit {0}) NodeNo) → Closes by at (Refused sayer end) sayer mid y r → parts_of y ≡ stopped_so r by (on_plant (parts_of mid) y.plant)
         → LineDone x y ms at by what r
     refused_done member played y r closed frame_y =
-        said_done w y refl (λ locked. absurd (false_true locked)) (λ dev same. absurd (cc)) sayer (said_by x.base w.is.config x.book by sayer w.known_so.0) r closed
+        said_done w y refl (λ locked. absurd (no false locked refl)) (λ dev same. absurd (cc)) sayer (said_by x.base w.is.config x.book by sayer w.known_so.0) r closed
         (closes_with by at end Keep) (closing_line by at end) Keep (λ S none k. refused_closer S at (line_by by what) k sayer end)
-        (stays_by (parts_of mid) (parts_of y) y.plant _ frame_y (stays_stopped by (on_plant (parts_of mid) y.plant) r))
+        (subst (λ (k : Parts _ _). Stays (parts_of mid) k) (sym frame_y) (stays_stopped by (parts_of mid) y.plant r))
         (λ same. own_seat x.base w.is.config x.book by w.is.booked sayer w.known_so.0 same (some_by by what member played.fits.by))
         (none_since x.book) refl frame_y
 
@@ -411,9 +283,9 @@ module _ {P C : Type 0} {plants : PlantGhosts P} {steadies : SteadyGhosts C} {co
 
     pub denied_done : (y : Complex P C plants steadies copies) (r : Result (Unit {0}) NodeNo) → Closes by at (Denied why) by mid y r → parts_of y ≡ stopped_so r by (on_plant (parts_of mid) y.plant) → LineDone x y ms at by what r
     denied_done y r closed frame_y =
-        said_done w y refl (λ locked. absurd (false_true locked)) (λ dev same. absurd (cc)) by (inr refl) r closed
+        said_done w y refl (λ locked. absurd (no false locked refl)) (λ dev same. absurd (cc)) by (inr refl) r closed
         (closes_with by at (denied_closing why) Keep) (closing_line by at (denied_closing why)) Keep (λ S none k. denied_closer S at (line_by by what) k why)
-        (stays_by (parts_of mid) (parts_of y) y.plant _ frame_y (stays_stopped by (on_plant (parts_of mid) y.plant) r))
+        (subst (λ (k : Parts _ _). Stays (parts_of mid) k) (sym frame_y) (stays_stopped by (parts_of mid) y.plant r))
         (λ same. arm_inside w w.known_so.0) (tried_since x.book by (arm_inside w w.known_so.0) false) (denied_holder x.base w.is.config x.book by why w.known_so.1) frame_y
 
   -- of one that gives it up
@@ -426,5 +298,5 @@ module _ {P C : Type 0} {plants : PlantGhosts P} {steadies : SteadyGhosts C} {co
         let end = closing.Reply reply.Plain in
         freed_done w y refl (λ locked. sym (ap (λ (z : Parts P C). z.current) w.frame) ∙ frees_none) (λ dev same. absurd (cc)) by (inr refl) r closed
         (closes_with by at end Outer) (closing_line by at end) Outer (λ S unflown k. frees_closer S at (line_by by what) k (unflown refl))
-        (stays_by (parts_of mid) (parts_of y) y.plant _ frame_y (stays_freed by (on_plant (parts_of mid) y.plant) r))
+        (subst (λ (k : Parts _ _). Stays (parts_of mid) k) (sym frame_y) (stays_freed by (parts_of mid) y.plant r))
         (λ same. arm_inside w w.known_so.0) refl (arm_inside w w.known_so.0) w.known_so.1 w.known_so.0.up frame_y

@@ -1,5 +1,5 @@
 -- A line that only closes, or that ends before it does: what it leaves, by how it ended.
-use Rattle.mas_run.proofs.Names.{◌≡◌, ◌≢◌, inl, inr, ℕ, ◌+◌, ◌≤◌, false, List, [], ◌∷◌, ◌++◌, take, append-nil, Option, None, Result, Ok, Err, OnOk, refl, sym, ◌∙◌, ap, subst, arith, ◌⊎◌, ⊎_elim, Bool, true, All-cons, All-nil, Closing, Dev, MemberId, Fate, Flying, Queue, closing_line, run, LockNo, Step, is_stopped, Console, Disk, Ghosts as PlantGhosts, Line, View, paper_now, Rose, SameWires, CopyGhosts, SamePapers, counts_of, Parts, AreBatched, AtCut, IsBroken, IsTight, cause_by, whole_pieces, AreFoundIn, IsFoundAt, Wait, waits_in, IsCutAs, at_line, before_line, HasCause, HasClosed, HasClosedBy, left_at as closes_at, VolumesStay, console_now, none_lost, NodeNo, Spares, stopped_in, journal_of, CopiesActed, Release, Keep, Outer, Told, calm, Admission, Denied, Frees, Locks, Refused, denied_closing, admitted, Left, left_by, ArePiecesOf, queue_met, Piece, Play, closes_with, fate_found, once_found, piece_of, play_of, Batched, Scene, Cause, Cut, Ends, Renewed, Replaced, Stops, clear, settle, IfRuns, ended_as, IfIdle, is_replaced, is_work, named_as, Proceeds, StaysLost, LineAt, pieces_as, play_as, HasLeftAs, IsCutBy, left_as, LeftAt, IsShapedAs, AreVolumesKept, HeardFirst, nobody, CopyCauses, IsSeated, IsUnseated, seat_cut, rose_later, stay_then, wires_then, spares_for, spares_then, Member, RenewsAs, proceeds_of, proceeds_on, kept_on}
+use Rattle.mas_run.proofs.Names.{◌≡◌, ◌≢◌, inl, inr, ℕ, ◌+◌, ◌≤◌, false, List, [], ◌∷◌, ◌++◌, take, append-nil, Option, None, Result, Ok, Err, OnOk, refl, sym, ◌∙◌, ap, subst, arith, ◌⊎◌, ⊎_elim, Bool, true, All-cons, All-nil, Closing, Dev, MemberId, Fate, Flying, Queue, closing_line, run, LockNo, Step, is_stopped, Console, Disk, PlantGhosts, ViewLine as Line, View, paper_now, Rose, SameWires, Ghosts as CopyGhosts, SamePapers, counts_of, Parts, AreBatched, AtCut, IsBroken, IsTight, cause_by, whole_pieces, AreFoundIn, IsFoundAt, Wait, waits_in, IsCutAs, at_line, before_line, HasCause, HasClosed, HasClosedBy, left_at as closes_at, VolumesStay, console_now, none_lost, NodeNo, Spares, stopped_in, journal_of, CopiesActed, Release, Keep, Outer, Told, calm, Admission, Denied, Frees, Locks, Refused, denied_closing, admitted, Left, left_by, ArePiecesOf, queue_met, Piece, Play, closes_with, fate_found, once_found, piece_of, play_of, Batched, Scene, Cause, Cut, Ends, Renewed, Replaced, Stops, clear, settle, IfRuns, ended_as, IfIdle, is_replaced, is_work, named_as, Proceeds, StaysLost, LineAt, pieces_as, play_as, HasLeftAs, IsCutBy, left_as, LeftAt, IsShapedAs, AreVolumesKept, HeardFirst, nobody, CopyCauses, IsSeated, IsUnseated, seat_cut, rose_later, stay_then, wires_then, spares_for, spares_then, Member, RenewsAs, proceeds_of, proceeds_on, kept_on, no, pair_at}
 use Rattle.mas_run.proofs.LeftLemmas.{if_idle, stays_any, papers_on, console_stays}
 use Rattle.mas_run.proofs.PassedLemmas.{settle_none, kept_later}
 use Rattle.mas_run.proofs.WireLemmas.{carries_none, takes_none}
@@ -56,7 +56,7 @@ some_end (Err no_node.BothLost) other = absurd (other refl)
 
 -- ITS ONE PIECE
 
-abbrev one : List ℕ → Release → Piece
+abbrev pub one : List ℕ → Release → Piece
 one line r = piece_of (record { batches = []; next = Told; lines = line ∷ []; release = r }) false []
 
 module _ (line : List ℕ) (r : Release) where
@@ -272,11 +272,9 @@ module _ {P C : Type 0} (plants : PlantGhosts P) (S : Scene) (by : MemberId) (at
 
   was_stopped : r ≡ Err no_node.Halted → Rose ((plants.view x.plant).stops by.0) ((plants.view y.plant).stops by.0)
   was_stopped is = ⊎_elim
-      (λ none. absurd (halted (sym (ap (λ (q : Result (Unit {0}) NodeNo). stopped_in q) is) ∙ none_stopped none)))
+      (λ none. absurd (no true refl (sym (ap (λ (q : Result (Unit {0}) NodeNo). stopped_in q) is) ∙ none_stopped none)))
       (λ same. subst (λ (m : MemberId). Rose ((plants.view x.plant).stops m.0) ((plants.view y.plant).stops m.0)) same (subst (λ (q : Result (Unit {0}) NodeNo). HasCause q sayer.0 (plants.view x.plant) (plants.view y.plant)) is closed.cause))
-      says where
-        halted : true ≡ false → ⊥
-        halted e = absurd (cc)
+      says
 
   pub merely_closed : HasMerelyActed plants by a x y r
   merely_closed = let its_own : Spares by.0 (stopped_in r) (plants.view x.plant) (plants.view y.plant) = ⊎_elim
@@ -323,11 +321,12 @@ module _ {P C : Type 0} (plants : PlantGhosts P) (copies : CopyGhosts C) (S : Sc
     -- what it leaves in the words of the calls that close
     pub left_said : (told → plants.tells) → (e : Ending) → Renews x y e → MayEnd r e → HasMerelyActed plants step.by a x y r → IfRuns r (y.book ≡ (closes_so (cut_by e)).book)
         → (told → console_now (w y) ≡ console_now (w x) ++ (closes_so (cut_by e)).lines) → LeftAt plants copies told S at step x y r
-    left_said tells e renews may acted book console = let line_left : (told : Type 0) (e : Ending) (x y : Parts P C) (r : Result (Unit {0}) NodeNo) → Renews x y e → HasLeftAs plants copies told (closing_found found S at step e ps) a x y r → LeftAt plants copies told S at step x y r = λ told e x y r renews left. record {
-      given = (closing_found found S at step e ps).given;
-      renews = subst (λ (b : Admission). RenewsAs b (cut_by e) found x.renewals y.renewals (w x) (w y)) (sym adm) renews;
-      left = subst (λ (b : Admission). HasLeftAs plants copies told (closing_found found S at step e ps) b x y r) (sym adm) left;
-    } in
+    left_said tells e renews may acted book console =
+        let line_left : (told : Type 0) (e : Ending) (x y : Parts P C) (r : Result (Unit {0}) NodeNo) → Renews x y e → HasLeftAs plants copies told (closing_found found S at step e ps) a x y r → LeftAt plants copies told S at step x y r = λ told e x y r renews left. record {
+          given = (closing_found found S at step e ps).given;
+          renews = subst (λ (b : Admission). RenewsAs b (cut_by e) found x.renewals y.renewals (w x) (w y)) (sym adm) renews;
+          left = subst (λ (b : Admission). HasLeftAs plants copies told (closing_found found S at step e ps) b x y r) (sym adm) left;
+        } in
         let left_same : (e : Ending) → left_as (closing_found found S at step e ps) a ≡ closes_so (cut_by e) = λ e. ap (λ (play : Play). left_by step.by (cut_by e) play (S.counts step.by)) (closer e).play in
         line_left told e x y r renews (closed_left plants copies told tells S at step a found e ps line rel x y r (closer e) may acted journal printed
         (subst (λ k. IfRuns r (y.book ≡ k)) (sym (ap (λ k. k.book) (left_same e))) book)
@@ -365,8 +364,8 @@ module _ {P C : Type 0} (plants : PlantGhosts P) (copies : CopyGhosts C) (S : Sc
     arms = acts.on.course.goes.arms;
     spares = subst (λ (k : MemberId). Spares k.0 (stopped_in r) (u x) (u z)) own acts.on.spares;
     stopped = λ is. subst (λ (k : MemberId). Rose ((u x).stops k.0) ((u z).stops k.0)) own
-        (subst (λ (q : Result (Unit {0}) NodeNo). CopyCauses q m.id.0 x.first_alive z.first_alive x.second_alive z.second_alive (u x) (u z)) is acts.on.cause).1;
-    failed = λ is. absurd (subst (λ (q : Result (Unit {0}) NodeNo). CopyCauses q m.id.0 x.first_alive z.first_alive x.second_alive z.second_alive (u x) (u z)) is acts.on.cause);
+        (subst (λ (q : Result (Unit {0}) NodeNo). CopyCauses q m.id.0 (pair_at x.first_alive x.second_alive (u x)) (pair_at z.first_alive z.second_alive (u z))) is acts.on.cause).1;
+    failed = λ is. absurd (subst (λ (q : Result (Unit {0}) NodeNo). CopyCauses q m.id.0 (pair_at x.first_alive x.second_alive (u x)) (pair_at z.first_alive z.second_alive (u z))) is acts.on.cause);
     loses = acts.on.loses;
     papers = λ t. (acts.on.apart t).papers;
     wires = λ t. (acts.on.apart t).wires;
@@ -391,7 +390,7 @@ module _ {P C : Type 0} (plants : PlantGhosts P) (copies : CopyGhosts C) (S : Sc
   }
 
   -- the member had no seat: its line is cut before anything was said
-  seat_end : (e : NodeNo) → CopyCauses {T = Unit {0}} (Err e) m.id.0 x.first_alive y.first_alive x.second_alive y.second_alive (u x) (u y)
+  seat_end : (e : NodeNo) → CopyCauses {T = Unit {0}} (Err e) m.id.0 (pair_at x.first_alive x.second_alive (u x)) (pair_at y.first_alive y.second_alive (u y))
       → (cause : Cause) × MayEnd (Err e) (Unsaid cause) × (seat_cut e ≡ before_line cause)
   seat_end no_node.Halted cause = (Stops, (refl, λ is. absurd (cc)), refl)
   seat_end no_node.ConsoleFault cause = absurd cause

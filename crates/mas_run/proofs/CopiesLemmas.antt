@@ -1,5 +1,5 @@
 -- The copies in lines one after another.
-use Rattle.mas_run.proofs.Names.{◌≡◌, ◌⊎◌, inl, inr, ℕ, Bool, true, false, Result, Ok, Err, refl, sym, ◌∙◌, subst, ⊎_elim, ap, Dev, Ckpt1, Ckpt2, Ghosts as PlantGhosts, View, SomeAlive, Parts, NodeNo, Grows, IsLeft, grow_rose, no, rose_grow, KeepCopies, LeavesCopies, LeavesOne, LeavesSome, ends_both, sides_of, HasLost, proceeds_none, proceeds_of, proceeds_on, OnConsole, StepCauses, HasActedIn, Passage, MemberId, CopyGhosts, is_open, Renewals}
+use Rattle.mas_run.proofs.Names.{◌≡◌, ◌⊎◌, inl, inr, ℕ, Bool, true, false, Result, Ok, Err, refl, sym, ◌∙◌, subst, ⊎_elim, ap, Dev, Ckpt1, Ckpt2, PlantGhosts, View, SomeAlive, Parts, NodeNo, Grows, IsLeft, grow_rose, no, rose_grow, KeepCopies, LeavesCopies, LeavesOne, LeavesSome, ends_both, sides_of, HasLost, proceeds_none, proceeds_of, proceeds_on, OnConsole, StepCauses, HasActedIn, Passage, MemberId, Ghosts as CopyGhosts, is_open, Renewals, Disk, Proceeds}
 use Rattle.member_node.specs.declared.member.NodeNo.TheVariants as no_node
 use Rattle.run_opening.proofs.LossLemmas.{lost_after, lost_before}
 use Rattle.member_decks.proofs.OutcomeLemmas.{left_then}
@@ -42,16 +42,22 @@ module _ {P C : Type 0} (plants : PlantGhosts P) where
   left_by false x y z grow more one two = lefts x y z grow more one two
   left_by true x y z grow more one two = two
 
-  pub copies_none : (x : Parts P C) → KeepCopies plants {T = Unit {0}} x x (Ok tt)
-  copies_none x = record {
-    goes = proceeds_none (v x);
-    failed1 = λ is not. absurd (no x.first_alive is not);
-    failed2 = λ is not. absurd (no x.second_alive is not);
-    there1 = λ is there. there is;
-    there2 = λ is there. there is;
-    grow = λ d. inl refl;
-    left = inl (inr (refl, refl));
+  -- copies that count as before: the device of one that counts as alive is lost if it was
+  pub copies_still : {T : Type 0} (x y : Parts P C) (r : Result T NodeNo) → Proceeds (v x) (v y) → y.first_alive ≡ x.first_alive → y.second_alive ≡ x.second_alive
+      → (x.first_alive ≡ true → (v y).lost (Disk Ckpt1) ≡ (v x).lost (Disk Ckpt1)) → (x.second_alive ≡ true → (v y).lost (Disk Ckpt2) ≡ (v x).lost (Disk Ckpt2))
+      → ((d : Dev) → (v y).loses d ≡ (v x).loses d) → LeavesSome plants x y r → KeepCopies plants x y r
+  copies_still x y r goes one two lost1 lost2 loses left = record {
+    goes = goes;
+    failed1 = λ was gone. absurd (no x.first_alive was (sym one ∙ gone));
+    failed2 = λ was gone. absurd (no x.second_alive was (sym two ∙ gone));
+    there1 = λ is there. let was = sym one ∙ is in lost1 was ∙ there was;
+    there2 = λ is there. let was = sym two ∙ is in lost2 was ∙ there was;
+    grow = λ d. inl (loses d);
+    left = left;
   }
+
+  pub copies_none : (x : Parts P C) → KeepCopies plants {T = Unit {0}} x x (Ok tt)
+  copies_none x = copies_still {T = Unit {0}} x x (Ok tt) (proceeds_none (v x)) refl refl (λ on. refl) (λ on. refl) (λ d. refl) (inl (inr (refl, refl)))
 
   pub copies_then : {T : Type 0} (x y z : Parts P C) (r : Result T NodeNo) → KeepCopies plants {T = Unit {0}} x y (Ok tt) → KeepCopies plants y z r → KeepCopies plants x z r
   copies_then x y z r one two = let grows_on : (x y z : ℕ) → Grows x y → Grows y z → Grows x z = λ x y z one two. ⊎_elim (λ same. ⊎_elim (λ still. inl (still ∙ same)) (λ rose. inr (grow_rose x y z one rose)) two) (λ rose. inr (rose_grow x y z rose two)) one in
@@ -100,15 +106,8 @@ module _ {P C : Type 0} (plants : PlantGhosts P) where
 
   pub said_copies : (x y : Parts P C) (r : Result (Unit {0}) NodeNo) → OnConsole plants.tells (v x) (v y) → y.first_alive ≡ x.first_alive → y.second_alive ≡ x.second_alive
       → (r ≡ Err no_node.BothLost → ⊥) → KeepCopies plants x y r
-  said_copies x y r acts same1 same2 other = record {
-    goes = proceeds_of (v x) (v y) acts.goes;
-    failed1 = λ was not. absurd (no x.first_alive was (sym same1 ∙ not));
-    failed2 = λ was not. absurd (no x.second_alive was (sym same2 ∙ not));
-    there1 = λ is there. acts.lost Ckpt1 ∙ there (sym same1 ∙ is);
-    there2 = λ is there. acts.lost Ckpt2 ∙ there (sym same2 ∙ is);
-    grow = λ d. inl (acts.loses d);
-    left = unlost r x y other same1 same2;
-  }
+  said_copies x y r acts same1 same2 other =
+      copies_still x y r (proceeds_of (v x) (v y) acts.goes) same1 same2 (λ on. acts.lost Ckpt1) (λ on. acts.lost Ckpt2) (λ d. acts.loses d) (unlost r x y other same1 same2)
 
   -- AND WHETHER THEY ARE BEING REPLACED
 

@@ -1,11 +1,11 @@
 -- A line whose member got the lock by a try, and played a task with it or reset a stopped member; and a line that ended
 -- before its first act.
-use Rattle.mas_run.proofs.Names.{◌≡◌, ◌⊎◌, inl, inr, ℕ, ◌≤◌, true, List, [], ◌∷◌, ◌++◌, take, Option, Some, None, Result, Ok, Err, IfErr, OnOk, refl, sym, ◌∙◌, ap, subst, arith, Bool, false, drop, ◌-◌, length, set, ◌≢◌, zero, suc, ◌<◌, MemberId, Batch, Fate, Dropped, Flying, Kept, Queue, Step, is_stopped, Book, after_try, left_of as hold_left, Console, Disk, Ghosts as PlantGhosts, Line, View, paper_now, taken_now, Goes, Rose, SameWires, CopyGhosts, goes_on, goes_none, SamePapers, counts_of, Parts, parts_of, AreBatched, AtCut, IsBatched, IsBroken, IsCutIn, IsTight, whole_pieces, IsBetweenSittings, IsCutIn as IsCutAt, AreFoundIn, Wait, waits_in, named_in, IsFoundAt, HasActedIn, HasCut, HasPlayed, HasToldStep, IfCommand, IfNoPrint, Writes, plays_left_of as left_of, play_in, IsAfterStep, MayPlay, PlaysPlayed as Played, played_in, wires_none, papers_on, rose_later, papers_none, stay_none, stay_then, wires_then, spares_then, spares_none, NodeNo, console_now, VolumesStay, none_lost, Spares, stopped_in, journal_of, sat_begins as begins, queue_of, IsGivable, StepCauses, Holder, Admission, Plays, tried, Resets, admitted, granted_by, TakesOver, Left, left_by, adds, adds_all, adds_first, adds_part, cut_left, none_left, ArePiecesOf, queue_met, Piece, Play, fate_found, holder_of, once_found, pieces_from, task_pieces, reset_closing, reset_pieces, Batched, Scene, flight_found, queue_found, Cut, Halt, Sight, clear, settle, ended_as, IsResetPiece, AdmissionLeaves, IfIdle, LosesAs, PrintsNone, is_takeover, is_work, taking, named_as, Proceeds, LineAt, pieces_as, play_as, HasLeftAs, IsCutBy, left_as, LineIsLeft, IsShapedAs, IsTaskShaped, AreVolumesKept, Carries, waits_as, proceeds_of, task_most, sittings_most, Grant, Fresh, Told, Task, Give, Work, Node, Sitting, kept_none, kept_on, nobody, Config, members_most, SteadyGhosts, page_count, Complex, Member, HearsStep, IsQuiet, MayGoOn, SitsAreFewUnits as AreFewUnits, MayBeAsked, begins as begun, Ask, LineDone, line_by, HasReset, HasResetBy, IsAfterReset, MayReset, HasToldReset, IsShown, EachSays, closing_of, HasRead, ReadsAnyPieces, All-cons, All-nil, Entry, run, all_entries, calm, State, IsOperatorAway}
+use Rattle.mas_run.proofs.Names.{◌≡◌, ◌⊎◌, inl, inr, ℕ, ◌≤◌, true, List, [], ◌∷◌, ◌++◌, take, Option, Some, None, Result, Ok, Err, IfErr, OnOk, refl, sym, ◌∙◌, ap, subst, arith, Bool, false, drop, ◌-◌, length, set, ◌≢◌, zero, suc, ◌<◌, MemberId, Batch, Fate, Flying, Queue, Step, is_stopped, Book, after_try, left_of as hold_left, Console, Disk, PlantGhosts, ViewLine as Line, View, paper_now, taken_now, Goes, Rose, SameWires, Ghosts as CopyGhosts, goes_on, goes_none, SamePapers, counts_of, Parts, parts_of, AreBatched, AtCut, IsBroken, IsCutIn, IsTight, whole_pieces, IsBetweenSittings, IsCutIn as IsCutAt, AreFoundIn, Wait, waits_in, named_in, IsFoundAt, HasActedIn, HasCut, HasPlayed, HasToldStep, IfCommand, IfNoPrint, Writes, plays_left_of as left_of, play_in, IsAfterStep, MayPlay, PlaysPlayed as Played, played_in, wires_none, papers_on, rose_later, papers_none, stay_none, stay_then, wires_then, spares_then, spares_none, NodeNo, console_now, VolumesStay, none_lost, Spares, stopped_in, journal_of, sat_begins as begins, queue_of, IsGivable, StepCauses, Holder, Admission, Plays, tried, Resets, admitted, granted_by, TakesOver, Left, left_by, adds, adds_all, adds_first, adds_part, cut_left, none_left, ArePiecesOf, queue_met, Piece, Play, fate_found, holder_of, once_found, pieces_from, task_pieces, reset_closing, reset_pieces, Batched, Scene, flight_found, queue_found, Cut, Halt, Sight, clear, settle, ended_as, IsResetPiece, AdmissionLeaves, IfIdle, LosesAs, PrintsNone, is_takeover, is_work, taking, named_as, Proceeds, LineAt, pieces_as, play_as, HasLeftAs, IsCutBy, left_as, LineIsLeft, IsShapedAs, IsTaskShaped, AreVolumesKept, Carries, waits_as, proceeds_of, task_most, sittings_most, Grant, Fresh, Told, Task, Give, Work, Line as Node, Sitting, kept_none, kept_on, nobody, Config, members_most, SteadyGhosts, page_count, Complex, Member, HearsStep, IsQuiet, MayGoOn, SitsAreFewUnits as AreFewUnits, MayBeAsked, begins as begun, Ask, LineDone, line_by, HasReset, HasResetBy, IsAfterReset, MayReset, HasToldReset, EachSays, closing_of, HasRead, ReadsAnyPieces, All-cons, All-nil, Entry, run, all_entries, calm, State, IsOperatorAway}
 use Rattle.member_sittings.specs.Tight.{IfNoWork}
-use Rattle.mas_run.proofs.PassedLemmas.{kept_later, settle_none}
+use Rattle.mas_run.proofs.PassedLemmas.{batched_within, kept_later, settle_none}
 use Rattle.mas_run.proofs.LeftLemmas.{loses_on, stays_any, on_ok}
 use Rattle.mas_run.proofs.WireLemmas.{ReadsLine, WaitsOnLine, carries_as, task_carries, waits_on, read_after}
-use Rattle.mas_run.proofs.ArmLemmas.{HasTurn, IsFewTask, admitted_here, left_so, none_flies, same_config, tried_here, turn_earlier, turn_goes, turn_hold, turn_quiet, turn_since, turn_still}
+use Rattle.mas_run.proofs.ArmLemmas.{holder_here, its_holder, turn_holder, HasTurn, IsFewTask, admitted_here, left_so, none_flies, same_config, tried_here, turn_earlier, turn_goes, turn_hold, turn_quiet, turn_since, turn_still}
 use Rattle.mas_run.proofs.CopiesLemmas.{acted_copies, leaves_same}
 use Rattle.mas_run.proofs.TurnedLemmas.{from_says, HasWritten, IsNowAside, turned}
 use Rattle.member_node.specs.declared.member.NodeNo.TheVariants as no_node
@@ -44,21 +44,6 @@ left_three : (by : MemberId) (cut : Option Cut) (play : Play) (Q : Queue) (c : �
     → left_by by cut play c ≡ left_by by cut (three play.pieces play.book play.locked Q) c
 left_three by None play Q c = refl
 left_three by (Some cut) play Q c = refl
-
--- BATCHES that were begun since a moment were so since an earlier one
-
-stands_since : (f : Fate) (by : MemberId) (x : Batched) (early from now : ℕ) (b : Batch) → early ≤ from → IsBatched f by x from now b → IsBatched f by x early now b
-stands_since Kept by x early from now b le is =
-    record { by_it = is.by_it; entries = is.entries; kept = is.kept; moments = (omega (arith, is.moments.0, le), is.moments.1, is.moments.2) }
-stands_since Flying by x early from now b le is =
-    record { by_it = is.by_it; entries = is.entries; flies = is.flies; moments = (omega (arith, is.moments.0, le), is.moments.1, is.moments.2) }
-stands_since Dropped by x early from now b le is = absurd is
-
-batched_since : (by : MemberId) (early from now : ℕ) (xs : List Batched) (bs : List Batch) → early ≤ from → AreBatched by from now xs bs → AreBatched by early now xs bs
-batched_since by early from now [] [] le are = tt
-batched_since by early from now [] (b ∷ bs) le are = absurd are
-batched_since by early from now (x ∷ xs) [] le are = absurd are
-batched_since by early from now (x ∷ xs) (b ∷ bs) le are = (stands_since x.fate by x early from now b le are.0, are.1)
 
 -- WHERE IT WAS CUT, and why
 
@@ -152,7 +137,8 @@ module _ {P C : Type 0} (plants : PlantGhosts P) (copies : CopyGhosts C) (told :
         ∙ sym (left_three by cut q p.queue c) in
         let count_alike : counts_of mid.printed step.by ≡ S.counts step.by → left_mid.count ≡ (left_as l a).count = λ same. ap (λ (k : Left). k.count) (sym (left_same step.by sight.cut (play_as l a) (play_in step.by ps mid.book (queue_of mid)) (counts_of mid.printed step.by) pieces book locked))
         ∙ ap (λ (n : ℕ). (left_by step.by sight.cut (play_as l a) n).count) same in
-        let alike : erased left_mid ≡ erased (left_as l a) = let left_alike : (by : MemberId) (cut : Option Cut) (p q : Play) (c d : ℕ) → p.pieces ≡ q.pieces → p.book ≡ q.book → p.locked ≡ q.locked → erased (left_by by cut p c) ≡ erased (left_by by cut q d) = λ by cut p q c d pieces book locked. left_erased by cut p c d ∙ ap erased (left_same by cut p q d pieces book locked) in
+        let alike : erased left_mid ≡ erased (left_as l a) =
+        let left_alike : (by : MemberId) (cut : Option Cut) (p q : Play) (c d : ℕ) → p.pieces ≡ q.pieces → p.book ≡ q.book → p.locked ≡ q.locked → erased (left_by by cut p c) ≡ erased (left_by by cut q d) = λ by cut p q c d pieces book locked. left_erased by cut p c d ∙ ap erased (left_same by cut p q d pieces book locked) in
         sym (left_alike step.by sight.cut (play_as l a) (play_in step.by ps mid.book (queue_of mid)) (S.counts step.by) (counts_of mid.printed step.by) pieces book locked) in
         let given_alike : left_mid.given ≡ (left_as l a).given = ap (λ (k : Left). k.given) alike in
         let printed_alike : left_mid.printed ≡ (left_as l a).printed = ap (λ (k : Left). k.printed) alike in
@@ -178,7 +164,7 @@ module _ {P C : Type 0} (plants : PlantGhosts P) (copies : CopyGhosts C) (told :
           at = when;
           moment = (comes.moment.0, let le = comes.moment.1 in let more = acts.course.goes.later in omega (arith, le, more));
           journal = cut.leaves.journal ∙ ap (λ (bs : List Batch). bs ++ cut.leaves.more) comes.journal;
-          batches = batched_since step.by (v x).now (v mid).now (v y).now (left_as l a).batches cut.leaves.more comes.goes.later
+          batches = batched_within step.by (v x).now (v mid).now (v y).now (v y).now (left_as l a).batches cut.leaves.more comes.goes.later (omega arith)
               (subst (λ (bs : List Batched). AreBatched step.by (v mid).now (v y).now bs cut.leaves.more) batches_alike cut.leaves.batches);
           book = if_runs result (y.book ≡ (left_as l a).book) (cut.leaves.book ∙ book_alike);
           console = λ t. (written t).console ∙ ap (λ (ls : List Line). ls ++ left_mid.lines) (comes.console t) ∙ ap (λ (ls : List Line). console_now (v x) ++ ls) lines_alike;
@@ -374,20 +360,20 @@ module _ {P C : Type 0} {plants : PlantGhosts P} {steadies : SteadyGhosts C} {co
   t = record p { book = b }
 
   abbrev k : Holder
-  k = record { by = by; step = at; hold = hold_left b by; grant = granted_by x.book by }
+  k = turn_holder turn
 
   abbrev u : Parts P C → View
   u z = plants.view z.plant
 
-  its_holder : h ≡ k
-  its_holder = same ∙ ap (λ (w : Parts P C). let g : Holder = record { by = by; step = at; hold = hold_left w.book by; grant = granted_by x.book by } in g) turn.frame
+  its_so : h ≡ k
+  its_so = its_holder turn h same
 
   still : journal_of t ≡ t.batches
   still = turn_still turn
 
   goes_h : (task : Task) → IsFewTask task → MayGoOn plants copies (parts_of mid) m h (Fresh task)
   goes_h task small =
-      subst (λ (w : Parts P C). MayGoOn plants copies w m h (Fresh task)) (sym turn.frame) (subst (λ (j : Holder). MayGoOn plants copies t m j (Fresh task)) (sym its_holder) (turn_goes turn task small))
+      subst (λ (w : Parts P C). MayGoOn plants copies w m h (Fresh task)) (sym turn.frame) (subst (λ (j : Holder). MayGoOn plants copies t m j (Fresh task)) (sym its_so) (turn_goes turn task small))
 
   -- it may play a task, or reset a member
   pub may_play : (task : Task) → MayBeAsked x.base by task → MayPlay mid m (begun h task)
@@ -404,15 +390,10 @@ module _ {P C : Type 0} {plants : PlantGhosts P} {steadies : SteadyGhosts C} {co
       let base = ap (λ (w : Parts P C). w.base) turn.frame in
       record {
         goes = goes_h (Give (command.Reset of)) tt;
-        holds = ap (λ (w : Parts P C). w.book.holder) turn.frame ∙ turn.got.holds ∙ sym (ap (λ (j : Holder). j.by) its_holder);
+        holds = ap (λ (w : Parts P C). w.book.holder) turn.frame ∙ turn.got.holds ∙ sym (ap (λ (j : Holder). j.by) its_so);
         givable = subst (λ (Q : Queue). IsGivable Q m.id (command.Reset of)) (sym base) (subst (λ (j : MemberId). IsGivable x.base j (command.Reset of)) (sym turn.own) givable);
         few = most;
       }
-
-  holder_here : (told : Type 0) (S : Scene) → IsShown plants copies told S p → (a : Admission) → tried x.book by a ≡ b → holder_of S by at a ≡ k
-  holder_here told S shown a is =
-      ap (λ (c : Book). let g : Holder = record { by = by; step = at; hold = hold_left c by; grant = granted_by S.book by } in g) (tried_here plants copies told S p shown by a b is)
-      ∙ ap (λ (c : Book). let g : Holder = record { by = by; step = at; hold = hold_left b by; grant = granted_by c by } in g) (sym shown.book)
 
   -- where the value stands after it
   module _ (y : Complex P C plants steadies copies) (n : Member) (stays : n.id ≡ m.id) (frame_y : parts_of y ≡ played_in (parts_of y) (parts_of mid)) where
@@ -457,7 +438,7 @@ module _ {P C : Type 0} {plants : PlantGhosts P} {steadies : SteadyGhosts C} {co
         (played : Played mid y m (begun h task) was_read is_read r) (after : OnOk r (IsAfterStep mid y m n (begun h task))) (read : plants.tells → ReadsLine plants p by task was_read) where
       its : HasPlayed plants copies (begun k task) t q (length m.room) was_read is_read r
       its =
-          subst (λ (j : Holder). HasPlayed plants copies (begun j task) t q (length m.room) was_read is_read r) its_holder
+          subst (λ (j : Holder). HasPlayed plants copies (begun j task) t q (length m.room) was_read is_read r) its_so
           (subst (λ (w : Parts P C). HasPlayed plants copies (begun h task) w q (length m.room) was_read is_read r) turn.frame played)
 
       wrote : plants.tells → HasWritten plants copies k t q r
@@ -481,30 +462,30 @@ module _ {P C : Type 0} {plants : PlantGhosts P} {steadies : SteadyGhosts C} {co
       pub plays_done : LineDone x y (set ms (by.0 - 1) n) at by what r
       plays_done = let told : plants.tells → LineIsLeft (Unit {0}) at (line_by by what) x y r = λ tells S shown. (left_so plants copies (Unit {0}) S at by what (Plays task) _ t q r (admitted_here plants copies (Unit {0}) S p shown by what (Plays task) adm) renewals_t
           (plays_told plants copies S at (line_by by what) task t q (length m.room) was_read is_read r (hold_left b by) (granted_by x.book by) (none_flies plants copies (Unit {0}) S p shown (turn_quiet turn).none)
-          (tried_here plants copies (Unit {0}) S p shown by (Plays task) b refl) (holder_here (Unit {0}) S shown (Plays task) refl) still
+          (tried_here plants copies (Unit {0}) S p shown by (Plays task) b refl) (holder_here turn (Unit {0}) S shown (Plays task) refl) still
           shown.queue (ap (λ (c : Config). c.groups) (sym (same_config plants copies (Unit {0}) S p shown)))
           (shown.counts tt by (ap (λ (c : Book). is_stopped c by) (sym shown.book) ∙ turn.got.is_up.up)) its (its.told tells) (read tells) tells)) in
           let bare : LineIsLeft ⊥ at (line_by by what) x y r = λ S shown. (left_so plants copies ⊥ S at by what (Plays task) _ t q r (admitted_here plants copies ⊥ S p shown by what (Plays task) adm) renewals_t
           (plays_bare plants copies S at (line_by by what) task t q (length m.room) was_read is_read r (hold_left b by) (granted_by x.book by) (none_flies plants copies ⊥ S p shown (turn_quiet turn).none)
-          (tried_here plants copies ⊥ S p shown by (Plays task) b refl) (holder_here ⊥ S shown (Plays task) refl) still its)) in
+          (tried_here plants copies ⊥ S p shown by (Plays task) b refl) (holder_here turn ⊥ S shown (Plays task) refl) still its)) in
           turn_done r its.pieces its.cut its.played its.acts its.away its.quiet wrote
-          (on_ok r (IsAfterStep mid y m n (begun h task)) (IsNowAside plants copies k q (page_count x.base.config) n) (λ a. record { aside = a.aside; room = a.room ∙ turn.up.many; seat = λ holds. a.seat (holds ∙ sym (ap (λ (j : Holder). j.by) its_holder)) }) after) bare told
+          (on_ok r (IsAfterStep mid y m n (begun h task)) (IsNowAside plants copies k q (page_count x.base.config) n) (λ a. record { aside = a.aside; room = a.room ∙ turn.up.many; seat = λ holds. a.seat (holds ∙ sym (ap (λ (j : Holder). j.by) its_so)) }) after) bare told
 
     -- A RESET of a stopped member
 
     module _ (of : MemberId) (adm : Resets of ≡ admitted x.base.config x.book by what) (r : Result (Unit {0}) NodeNo)
         (reset : HasReset mid y m h of r) (after : OnOk r (IsAfterReset mid y m n h of)) where
       pub resets_done : LineDone x y (set ms (by.0 - 1) n) at by what r
-      resets_done = let its_reset : HasResetBy plants copies k of t q (length m.room) r = subst (λ (j : Holder). HasResetBy plants copies j of t q (length m.room) r) its_holder
+      resets_done = let its_reset : HasResetBy plants copies k of t q (length m.room) r = subst (λ (j : Holder). HasResetBy plants copies j of t q (length m.room) r) its_so
           (subst (λ (w : Parts P C). HasResetBy plants copies h of w q (length m.room) r) turn.frame reset) in
           let told_reset : plants.tells → LineIsLeft (Unit {0}) at (line_by by what) x y r = λ tells S shown. (left_so plants copies (Unit {0}) S at by what (Resets of) _ t q r (admitted_here plants copies (Unit {0}) S p shown by what (Resets of) adm) renewals_t
           (resets_told plants copies S at (line_by by what) of (length m.room) r (hold_left b by) (granted_by x.book by) t q (none_flies plants copies (Unit {0}) S p shown (turn_quiet turn).none)
-          (tried_here plants copies (Unit {0}) S p shown by (Resets of) b refl) (holder_here (Unit {0}) S shown (Resets of) refl) still its_reset tells shown.queue
+          (tried_here plants copies (Unit {0}) S p shown by (Resets of) b refl) (holder_here turn (Unit {0}) S shown (Resets of) refl) still its_reset tells shown.queue
           (shown.counts tt by (ap (λ (c : Book). is_stopped c by) (sym shown.book) ∙ turn.got.is_up.up)) (its_reset.told tells))) in
           let bare_reset : LineIsLeft ⊥ at (line_by by what) x y r = λ S shown. (left_so plants copies ⊥ S at by what (Resets of) _ t q r (admitted_here plants copies ⊥ S p shown by what (Resets of) adm) renewals_t
           (resets_bare plants copies S at (line_by by what) of (length m.room) r (hold_left b by) (granted_by x.book by) t q (none_flies plants copies ⊥ S p shown (turn_quiet turn).none)
-          (tried_here plants copies ⊥ S p shown by (Resets of) b refl) (holder_here ⊥ S shown (Resets of) refl) still its_reset)) in
+          (tried_here plants copies ⊥ S p shown by (Resets of) b refl) (holder_here turn ⊥ S shown (Resets of) refl) still its_reset)) in
           let wrote_reset : plants.tells → HasWritten plants copies k t q r = λ tells. let so = its_reset.told tells in
           (so.pieces, so.cut, subst (λ (ps : List Piece). EachSays by at ps) (sym so.is) (reset_says (queue_of t) k of), so.writes) in
           turn_done r its_reset.pieces its_reset.cut its_reset.played its_reset.acts its_reset.away its_reset.quiet wrote_reset
-          (on_ok r (IsAfterReset mid y m n h of) (IsNowAside plants copies k q (page_count x.base.config) n) (λ a. record { aside = a.aside; room = a.room ∙ turn.up.many; seat = λ holds. a.seat (holds ∙ sym (ap (λ (j : Holder). j.by) its_holder)) }) after) bare_reset told_reset
+          (on_ok r (IsAfterReset mid y m n h of) (IsNowAside plants copies k q (page_count x.base.config) n) (λ a. record { aside = a.aside; room = a.room ∙ turn.up.many; seat = λ holds. a.seat (holds ∙ sym (ap (λ (j : Holder). j.by) its_so)) }) after) bare_reset told_reset

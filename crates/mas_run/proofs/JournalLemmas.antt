@@ -1,5 +1,5 @@
 -- The journal before and after a line, and what follows of it for the queue and for what is in flight.
-use Rattle.mas_run.proofs.Names.{◌≡◌, ℕ, Bool, false, if◌then◌else◌, List, [], ◌∷◌, ◌++◌, append-nil, Option, Some, None, refl, sym, ◌∙◌, ap, subst, Batch, Entry, Fate, Dropped, Flying, Kept, Queue, is_flying, is_kept, run, Book, with_last-append, kept_all_append, placed_all, unplaced_settled, AreSettled, end_of, in_flight, kept_all, with_last, Batched, flies_as, flight_found, flying_in, kept_in, queue_found, kept_of, fate_then, flight_then, AreHistory, settle, settled_at, IsFlight, StandsIn, settle_both, settle_still, run_append}
+use Rattle.mas_run.proofs.Names.{◌≡◌, ℕ, Bool, true, false, if◌then◌else◌, List, [], ◌∷◌, ◌++◌, append-nil, Option, Some, None, refl, sym, ◌∙◌, ap, subst, Batch, Entry, Fate, Dropped, Flying, Kept, Queue, is_flying, is_kept, run, Book, with_last-append, kept_all_append, placed_all, unplaced_settled, AreSettled, end_of, in_flight, kept_all, with_last, Batched, flies_as, flight_found, flying_in, kept_in, queue_found, kept_of, fate_then, flight_then, AreHistory, settle, settled_at, IsFlight, StandsIn, settle_both, settle_still, run_append}
 use Rattle.mas_run.proofs.PassedLemmas.{settled_is}
 
 -- BATCHES OF A LINE
@@ -26,31 +26,6 @@ queue_next base from front own batches xs is before are =
     ∙ run_append base (kept_all front) (kept_all own)
     ∙ ap (λ (q : Queue). run q (kept_all own)) before
     ∙ ap (run from) (kept_history xs own are)
-
--- WHAT A TAKEOVER FOUND of the batch in flight, which is the last
-
-module _ (b : Batch) (flies : b.fate ≡ Flying) (at : ℕ) where
-  kept_one : (c : Batch) → kept_all (c ∷ []) ≡ (if is_kept c.fate then c.entries else [])
-  kept_one c = append-nil _
-
-  queue_taken : (base from : Queue) (before : List Batch) (now : ℕ) → AreSettled before now → run base (kept_all (before ++ b ∷ [])) ≡ from
-      → (found : Fate) → run base (kept_all (settle found at (before ++ b ∷ []))) ≡ queue_found found (Some b.entries) from
-  queue_taken base from before now settled is found = let kept_found : (found : Fate) → kept_all (settled_at found at b ∷ []) ≡ kept_of found b.entries = λ found. let s = settled_is found Flying at b flies in
-      kept_one (settled_at found at b) ∙ kept_fate (settled_at found at b).fate (settled_at found at b).entries
-      ∙ ap (λ (f : Fate). kept_of f (settled_at found at b).entries) s.1 ∙ ap (kept_of found) s.0 in
-      ap (λ (bs : List Batch). run base (kept_all bs)) (settle_both found at before (b ∷ []) ∙ ap (λ (bs : List Batch). bs ++ settled_at found at b ∷ []) (settle_still found at before now settled))
-      ∙ ap (run base) (kept_all_append before (settled_at found at b ∷ []) ∙ ap (λ (es : List Entry). kept_all before ++ es) (kept_found found))
-      ∙ run_append base (kept_all before) (kept_of found b.entries)
-      ∙ ap (λ (q : Queue). run q (kept_of found b.entries)) (sym first_shown)
-      ∙ found_as found where
-        first_shown : from ≡ run base (kept_all before)
-        first_shown = sym is ∙ ap (run base) (kept_all_append before (b ∷ []) ∙ ap (λ (es : List Entry). kept_all before ++ es) (kept_one b
-            ∙ ap (λ (f : Fate). if is_kept f then b.entries else []) flies) ∙ append-nil (kept_all before))
-
-        found_as : (f : Fate) → run from (kept_of f b.entries) ≡ queue_found f (Some b.entries) from
-        found_as Kept = refl
-        found_as Dropped = refl
-        found_as Flying = refl
 
 -- THE JOURNAL without what is in flight
 
@@ -88,189 +63,135 @@ kept_front : (batches : List Batch) (placed : Bool) (b : Book) (current : Option
 kept_front batches placed b None stands f = f.kept ∙ ap kept_all (sym (append-nil f.before)) ∙ ap kept_all (sym f.journal)
 kept_front batches placed b (Some c) stands f = f.kept ∙ sym (kept_flying c f.before stands.1) ∙ ap kept_all (sym f.journal)
 
-none_some : (c : Batch) → None ≡ Some c → ⊥
-none_some c e = absurd (cc)
-
-some_none : (c : Batch) → Some c ≡ None → ⊥
-some_none c e = absurd (cc)
-
-some_same : (c d : Batch) → Some c ≡ Some d → c.entries ≡ d.entries
-some_same c d e = ap first e where
-  first : Option Batch → List Entry
-  first None = []
-  first (Some a) = a.entries
-
--- THE QUEUE
-
-found_none : (f : Fate) (Q : Queue) → queue_found f None Q ≡ Q
-found_none Kept Q = refl
-found_none _ Q = refl
-
--- what a line finds of the queue: a batch in flight is found out, or is in flight still
-pub queue_met : (base : Queue) (batches : List Batch) (placed : Bool) (b : Book) (current : Option Batch) (now at : ℕ) → StandsIn batches placed b current
-    → AreSettled batches now → (flight : Option (List Entry)) → IsFlight b flight current → (found : Fate)
-    → run base (kept_all (settle found at (end_of placed current batches))) ≡ queue_found found flight (run base (kept_all batches))
-queue_met base batches placed b None now at stands are None none found =
-    let f = front_of batches placed b None stands in
-    ap (λ (bs : List Batch). run base (kept_all (settle found at bs))) (f.journal ∙ append-nil f.before)
-    ∙ ap (λ (bs : List Batch). run base (kept_all bs)) (settle_still found at f.before now (f.settled now are))
-    ∙ ap (run base) (sym f.kept)
-    ∙ sym (found_none found (run base (kept_all batches)))
-queue_met base batches placed b None now at stands are (Some es) flies found = absurd (none_some flies.batch flies.is)
-queue_met base batches placed b (Some c) now at stands are None none found = absurd (some_none c none)
-queue_met base batches placed b (Some c) now at stands are (Some es) flies found =
-    let f = front_of batches placed b (Some c) stands in
-    let entries : c.entries ≡ es = some_same c flies.batch flies.is ∙ flies.entries in
-    ap (λ (bs : List Batch). run base (kept_all (settle found at bs))) f.journal
-    ∙ queue_taken c stands.1 at base (run base (kept_all batches)) f.before now (f.settled now are)
-    (ap (run base) (kept_flying c f.before stands.1 ∙ sym f.kept)) found
-    ∙ ap (λ (xs : List Entry). queue_found found (Some xs) (run base (kept_all batches))) entries
-
--- WHAT IS IN FLIGHT: the last batch in flight of a journal, in which no other is
-
-abbrev one_flying : Batch → Option (List Entry)
-one_flying c = if is_flying c.fate then Some c.entries else None
-
-abbrev last_flying : List Batch → Option (List Entry)
-last_flying [] = None
-last_flying (c ∷ cs) = flight_then (last_flying cs) (one_flying c)
+-- with what was found of a batch in flight
+settled_end : (batches : List Batch) (placed : Bool) (b : Book) (current : Option Batch) (now at : ℕ) (stands : StandsIn batches placed b current) → AreSettled batches now → (found : Fate)
+    → settle found at (end_of placed current batches) ≡ (front_of batches placed b current stands).before ++ settle found at (in_flight current)
+settled_end batches placed b current now at stands are found =
+    let f = front_of batches placed b current stands in
+    ap (settle found at) f.journal ∙ settle_both found at f.before (in_flight current)
+    ∙ ap (λ (bs : List Batch). bs ++ settle found at (in_flight current)) (settle_still found at f.before now (f.settled now are))
 
 abbrev pub flown_of : Option Batch → Option (List Entry)
 flown_of None = None
 flown_of (Some c) = Some c.entries
 
-then_none : (o : Option (List Entry)) → flight_then o None ≡ o
-then_none None = refl
-then_none (Some es) = refl
+flown_is : (b : Book) (flight : Option (List Entry)) (current : Option Batch) → IsFlight b flight current → flown_of current ≡ flight
+flown_is b None current none = ap flown_of none
+flown_is b (Some es) current flies = ap flown_of flies.is ∙ ap (λ (xs : List Entry). Some xs) flies.entries
 
-then_then : (a b c : Option (List Entry)) → flight_then (flight_then a b) c ≡ flight_then a (flight_then b c)
-then_then None b c = refl
-then_then (Some es) b c = refl
+pub flies_so : (batches : List Batch) (placed : Bool) (b : Book) (current : Option Batch) → StandsIn batches placed b current → IsFlight b (flown_of current) current
+flies_so batches placed b None stands = refl
+flies_so batches placed b (Some c) stands = record { batch = c; is = refl; entries = refl; flies = stands.1; stopped = stands.2 }
 
-last_append : (cs ds : List Batch) → last_flying (cs ++ ds) ≡ flight_then (last_flying ds) (last_flying cs)
-last_append [] ds = sym (then_none (last_flying ds))
-last_append (c ∷ cs) ds =
-    ap (λ (o : Option (List Entry)). flight_then o (one_flying c)) (last_append cs ds)
-    ∙ then_then (last_flying ds) (last_flying cs) (one_flying c)
+-- THE QUEUE
 
-last_settled : (cs : List Batch) (now : ℕ) → AreSettled cs now → last_flying cs ≡ None
-last_settled [] now are = refl
-last_settled (c ∷ cs) now are =
-    ap (λ (o : Option (List Entry)). flight_then o (one_flying c)) (last_settled cs now are.3)
-    ∙ ap (λ (t : Bool). if t then Some c.entries else None) are.0
+-- once it was found out what became of a batch in flight
+queue_taken : (batches : List Batch) (placed : Bool) (b : Book) (current : Option Batch) → StandsIn batches placed b current → (found : Fate) (at : ℕ) (Q : Queue)
+    → run Q (kept_all (settle found at (in_flight current))) ≡ queue_found found (flown_of current) Q
+queue_taken batches placed b None stands found at Q = none_found found where
+  none_found : (f : Fate) → Q ≡ queue_found f None Q
+  none_found Kept = refl
+  none_found _ = refl
+queue_taken batches placed b (Some c) stands found at Q =
+    let s = settled_is found Flying at c stands.1 in
+    let d = settled_at found at c in
+    let one : kept_all (d ∷ []) ≡ (if is_kept d.fate then d.entries else []) = append-nil _ in
+    ap (run Q) (one ∙ kept_fate d.fate d.entries ∙ ap (λ (f : Fate). kept_of f d.entries) s.1 ∙ ap (kept_of found) s.0) ∙ found_as found where
+      found_as : (f : Fate) → run Q (kept_of f c.entries) ≡ queue_found f (Some c.entries) Q
+      found_as Kept = refl
+      found_as Dropped = refl
+      found_as Flying = refl
 
-last_current : (batches : List Batch) (placed : Bool) (b : Book) (current : Option Batch) → StandsIn batches placed b current → last_flying (in_flight current) ≡ flown_of current
-last_current batches placed b None stands = refl
-last_current batches placed b (Some c) stands = ap (λ (f : Fate). if is_flying f then Some c.entries else None) stands.1
-
-last_journal : (batches : List Batch) (placed : Bool) (b : Book) (current : Option Batch) (now : ℕ) → StandsIn batches placed b current → AreSettled batches now
-    → last_flying (end_of placed current batches) ≡ flown_of current
-last_journal batches placed b current now stands are =
+-- what a line finds of the queue: a batch in flight is found out, or is in flight still
+pub queue_met : (base : Queue) (batches : List Batch) (placed : Bool) (b : Book) (current : Option Batch) (now at : ℕ) → StandsIn batches placed b current
+    → AreSettled batches now → (flight : Option (List Entry)) → IsFlight b flight current → (found : Fate)
+    → run base (kept_all (settle found at (end_of placed current batches))) ≡ queue_found found flight (run base (kept_all batches))
+queue_met base batches placed b current now at stands are flight flies found =
     let f = front_of batches placed b current stands in
-    ap last_flying f.journal
-    ∙ last_append f.before (in_flight current)
-    ∙ ap (λ (o : Option (List Entry)). flight_then (last_flying (in_flight current)) o) (last_settled f.before now (f.settled now are))
-    ∙ then_none (last_flying (in_flight current))
-    ∙ last_current batches placed b current stands
+    let more = settle found at (in_flight current) in
+    ap (λ (bs : List Batch). run base (kept_all bs)) (settled_end batches placed b current now at stands are found)
+    ∙ ap (run base) (kept_all_append f.before more)
+    ∙ run_append base (kept_all f.before) (kept_all more)
+    ∙ ap (λ (es : List Entry). run (run base es) (kept_all more)) (sym f.kept)
+    ∙ queue_taken batches placed b current stands found at (run base (kept_all batches))
+    ∙ ap (λ (o : Option (List Entry)). queue_found found o (run base (kept_all batches))) (flown_is b flight current flies)
 
-flight_none : (f : Fate) → flight_found f None ≡ None
-flight_none Kept = refl
-flight_none _ = refl
+-- WHAT IS IN FLIGHT: the entries of each batch of a journal that is
+
+abbrev flights : List Batch → List (List Entry)
+flights [] = []
+flights (c ∷ cs) = if is_flying c.fate then c.entries ∷ flights cs else flights cs
+
+abbrev first : List (List Entry) → Option (List Entry)
+first [] = None
+first (es ∷ more) = Some es
+
+flights_append : (cs ds : List Batch) → flights (cs ++ ds) ≡ flights cs ++ flights ds
+flights_append [] ds = refl
+flights_append (c ∷ cs) ds = by_test (is_flying c.fate) (flights_append cs ds) where
+  by_test : (t : Bool) → flights (cs ++ ds) ≡ flights cs ++ flights ds
+      → (if t then c.entries ∷ flights (cs ++ ds) else flights (cs ++ ds)) ≡ (if t then c.entries ∷ flights cs else flights cs) ++ flights ds
+  by_test true more = ap (λ (fs : List (List Entry)). c.entries ∷ fs) more
+  by_test false more = more
+
+flights_settled : (cs : List Batch) (now : ℕ) → AreSettled cs now → flights cs ≡ []
+flights_settled [] now are = refl
+flights_settled (c ∷ cs) now are = ap (λ (t : Bool). if t then c.entries ∷ flights cs else flights cs) are.0 ∙ flights_settled cs now are.3
+
+-- those of what stands after settled batches are those of the whole
+flights_after : (cs before more : List Batch) (now : ℕ) → AreSettled before now → cs ≡ before ++ more → flights cs ≡ flights more
+flights_after cs before more now are is =
+    ap flights is ∙ flights_append before more ∙ ap (λ (fs : List (List Entry)). fs ++ flights more) (flights_settled before now are)
+
+-- none or one is in flight
+few_flights : (batches : List Batch) (placed : Bool) (b : Book) (current : Option Batch) → StandsIn batches placed b current → (d e : List Entry) (more : List (List Entry)) → flights (in_flight current) ≡ d ∷ e ∷ more → ⊥
+few_flights batches placed b None stands d e more is = absurd (cc)
+few_flights batches placed b (Some c) stands d e more is =
+    let one : c.entries ∷ [] ≡ d ∷ e ∷ more = sym (ap (λ (f : Fate). if is_flying f then c.entries ∷ [] else []) stands.1) ∙ is in absurd (cc)
+
+first_flight : (batches : List Batch) (placed : Bool) (b : Book) (current : Option Batch) → StandsIn batches placed b current → first (flights (in_flight current)) ≡ flown_of current
+first_flight batches placed b None stands = refl
+first_flight batches placed b (Some c) stands = ap (λ (f : Fate). first (if is_flying f then c.entries ∷ [] else [])) stands.1
+
+-- so of two parts only one has one
+only_first : (ps qs cs : List (List Entry)) → ((d e : List Entry) (more : List (List Entry)) → cs ≡ d ∷ e ∷ more → ⊥) → cs ≡ ps ++ qs → first cs ≡ flight_then (first qs) (first ps)
+only_first [] qs cs few is = ap first is ∙ none_before (first qs) where
+  none_before : (o : Option (List Entry)) → o ≡ flight_then o None
+  none_before None = refl
+  none_before (Some es) = refl
+only_first (a ∷ ps) [] cs few is = ap first is
+only_first (a ∷ []) (b ∷ qs) cs few is = absurd (few a b qs is)
+only_first (a ∷ c ∷ ps) (b ∷ qs) cs few is = absurd (few a c (ps ++ b ∷ qs) is)
 
 -- a batch that was in flight, once it was found out
-found_flying : (c : Batch) (at : ℕ) (es : List Entry) → c.fate ≡ Flying → c.entries ≡ es → (found : Fate) → one_flying (settled_at found at c) ≡ flight_found found (Some es)
-found_flying c at es flies entries found =
-    let s = settled_is found Flying at c flies in
-    ap (λ (f : Fate). if is_flying f then Some (settled_at found at c).entries else None) s.1
-    ∙ ap (λ (xs : List Entry). if is_flying (fate_then found Flying) then Some xs else None) (s.0 ∙ entries)
+flight_taken : (batches : List Batch) (placed : Bool) (b : Book) (current : Option Batch) → StandsIn batches placed b current → (found : Fate) (at : ℕ)
+    → first (flights (settle found at (in_flight current))) ≡ flight_found found (flown_of current)
+flight_taken batches placed b None stands found at = none_found found where
+  none_found : (f : Fate) → None ≡ flight_found f None
+  none_found Kept = refl
+  none_found _ = refl
+flight_taken batches placed b (Some c) stands found at =
+    let s = settled_is found Flying at c stands.1 in
+    ap (λ (f : Fate). first (if is_flying f then (settled_at found at c).entries ∷ [] else [])) s.1
+    ∙ ap (λ (xs : List Entry). first (if is_flying (fate_then found Flying) then xs ∷ [] else [])) s.0
     ∙ by_fate found where
-      by_fate : (f : Fate) → (if is_flying (fate_then f Flying) then Some es else None) ≡ flight_found f (Some es)
+      by_fate : (f : Fate) → first (if is_flying (fate_then f Flying) then c.entries ∷ [] else []) ≡ flight_found f (Some c.entries)
       by_fate Kept = refl
       by_fate Dropped = refl
       by_fate Flying = refl
 
-flight_met : (batches : List Batch) (placed : Bool) (b : Book) (current : Option Batch) (now at : ℕ) → StandsIn batches placed b current → AreSettled batches now
-    → (flight : Option (List Entry)) → IsFlight b flight current → (found : Fate)
-    → last_flying (settle found at (end_of placed current batches)) ≡ flight_found found flight
-flight_met batches placed b None now at stands are None none found =
-    let f = front_of batches placed b None stands in
-    ap (λ (bs : List Batch). last_flying (settle found at bs)) (f.journal ∙ append-nil f.before)
-    ∙ ap last_flying (settle_still found at f.before now (f.settled now are))
-    ∙ last_settled f.before now (f.settled now are)
-    ∙ sym (flight_none found)
-flight_met batches placed b None now at stands are (Some es) flies found = absurd (none_some flies.batch flies.is)
-flight_met batches placed b (Some c) now at stands are None none found = absurd (some_none c none)
-flight_met batches placed b (Some c) now at stands are (Some es) flies found =
-    let f = front_of batches placed b (Some c) stands in
-    ap (λ (bs : List Batch). last_flying (settle found at bs)) f.journal
-    ∙ ap last_flying (settle_both found at f.before (c ∷ []))
-    ∙ ap (λ (bs : List Batch). last_flying (bs ++ settled_at found at c ∷ [])) (settle_still found at f.before now (f.settled now are))
-    ∙ last_append f.before (settled_at found at c ∷ [])
-    ∙ ap (λ (o : Option (List Entry)). flight_then (one_flying (settled_at found at c)) o) (last_settled f.before now (f.settled now are))
-    ∙ then_none (one_flying (settled_at found at c))
-    ∙ found_flying c at es stands.1 (some_same c flies.batch flies.is ∙ flies.entries) found
-
--- no batch but the last is in flight
-abbrev FliesLast : List Batch → Type 0
-FliesLast (c ∷ d ∷ cs) = (is_flying c.fate ≡ false) × FliesLast (d ∷ cs)
-FliesLast _ = Unit {0}
-
-fly_cons : (c : Batch) (cs : List Batch) → is_flying c.fate ≡ false → FliesLast cs → FliesLast (c ∷ cs)
-fly_cons c [] still last = tt
-fly_cons c (d ∷ cs) still last = (still, last)
-
-fly_tail : (c : Batch) (cs : List Batch) → FliesLast (c ∷ cs) → FliesLast cs
-fly_tail c [] last = tt
-fly_tail c (d ∷ cs) last = last.1
-
-fly_suffix : (cs ds : List Batch) → FliesLast (cs ++ ds) → FliesLast ds
-fly_suffix [] ds last = last
-fly_suffix (c ∷ cs) ds last = fly_suffix cs ds (fly_tail c (cs ++ ds) last)
-
-fly_current : (current : Option Batch) → FliesLast (in_flight current)
-fly_current None = tt
-fly_current (Some c) = tt
-
-fly_journal : (cs : List Batch) (now : ℕ) → AreSettled cs now → (current : Option Batch) → FliesLast (cs ++ in_flight current)
-fly_journal [] now are current = fly_current current
-fly_journal (c ∷ cs) now are current = fly_cons c (cs ++ in_flight current) are.0 (fly_journal cs now are.3 current)
-
-flies_still : (f : Fate) (es : List Entry) (rest : Option (List Entry)) → is_flying f ≡ false → flies_as f es rest ≡ rest
-flies_still Flying es rest still = absurd (cc)
-flies_still _ es rest still = refl
-
-flies_one : (f : Fate) (es : List Entry) → flies_as f es None ≡ (if is_flying f then Some es else None)
-flies_one Kept es = refl
-flies_one _ es = refl
-
-last_own : (xs : List Batched) (cs : List Batch) → AreHistory xs cs → FliesLast cs → last_flying cs ≡ flying_in xs
-last_own [] [] are last = refl
-last_own [] (c ∷ cs) are last = absurd are
-last_own (x ∷ xs) [] are last = absurd are
-last_own (x ∷ []) (c ∷ []) are last =
-    ap (λ (f : Fate). if is_flying f then Some c.entries else None) are.0.fate
-    ∙ ap (λ (es : List Entry). if is_flying x.fate then Some es else None) are.0.entries
-    ∙ sym (flies_one x.fate x.entries)
-last_own (x ∷ y ∷ xs) (c ∷ []) are last = absurd are.1
-last_own (x ∷ xs) (c ∷ d ∷ cs) are last =
-    let still : is_flying x.fate ≡ false = sym (ap is_flying are.0.fate) ∙ last.0 in
-    ap (λ (t : Bool). flight_then (last_flying (d ∷ cs)) (if t then Some c.entries else None)) last.0
-    ∙ then_none (last_flying (d ∷ cs))
-    ∙ last_own xs (d ∷ cs) are.1 last.1
-    ∙ sym (flies_still x.fate x.entries (flying_in xs) still)
-
-is_flight : (batches : List Batch) (placed : Bool) (b : Book) (o : Option (List Entry)) (current : Option Batch) → StandsIn batches placed b current
-    → flown_of current ≡ o → IsFlight b o current
-is_flight batches placed b None None stands is = refl
-is_flight batches placed b (Some es) None stands is = absurd (cc)
-is_flight batches placed b None (Some c) stands is = absurd (cc)
-is_flight batches placed b (Some es) (Some c) stands is =
-    record { batch = c; is = refl; entries = entries_same is; flies = stands.1; stopped = stands.2 } where
-      entries_same : Some c.entries ≡ Some es → c.entries ≡ es
-      entries_same e = ap first e where
-        first : Option (List Entry) → List Entry
-        first None = []
-        first (Some xs) = xs
+flights_own : (xs : List Batched) (cs : List Batch) → AreHistory xs cs → first (flights cs) ≡ flying_in xs
+flights_own [] [] are = refl
+flights_own [] (c ∷ cs) are = absurd are
+flights_own (x ∷ xs) [] are = absurd are
+flights_own (x ∷ xs) (c ∷ cs) are =
+    ap (λ (f : Fate). first (if is_flying f then c.entries ∷ flights cs else flights cs)) are.0.fate
+    ∙ ap (λ (es : List Entry). first (if is_flying x.fate then es ∷ flights cs else flights cs)) are.0.entries
+    ∙ by_fate x.fate (flights_own xs cs are.1) where
+      by_fate : (f : Fate) → first (flights cs) ≡ flying_in xs → first (if is_flying f then x.entries ∷ flights cs else flights cs) ≡ flies_as f x.entries (flying_in xs)
+      by_fate Flying more = refl
+      by_fate Kept more = more
+      by_fate Dropped more = more
 
 -- FROM ONE LINE TO THE NEXT
 
@@ -287,12 +208,17 @@ module _ (base Q : Queue) (was is : List Batch) (placed placed' : Bool) (b b' : 
 
   pub flight_next : IsFlight b' (flight_then (flying_in xs) (flight_found found flight)) current'
   flight_next =
-      let f = front_of is placed' b' current' stands' in
-      let last : FliesLast own = fly_suffix (settle found at (end_of placed current was)) own
-      (subst FliesLast (sym f.journal ∙ journal) (fly_journal f.before settled'.0 (f.settled settled'.0 settled'.1) current')) in
-      is_flight is placed' b' (flight_then (flying_in xs) (flight_found found flight)) current' stands'
-      (sym (last_journal is placed' b' current' settled'.0 stands' settled'.1)
-      ∙ ap last_flying journal
-      ∙ last_append (settle found at (end_of placed current was)) own
-      ∙ ap (λ (o : Option (List Entry)). flight_then (last_flying own) o) (flight_met was placed b current now at stands settled flight flown found)
-      ∙ ap (λ (o : Option (List Entry)). flight_then o (flight_found found flight)) (last_own xs own are last))
+      let f = front_of was placed b current stands in
+      let g = front_of is placed' b' current' stands' in
+      let met = settle found at (end_of placed current was) in
+      let one : flights met ≡ flights (settle found at (in_flight current)) =
+      flights_after met f.before (settle found at (in_flight current)) now (f.settled now settled) (settled_end was placed b current now at stands settled found) in
+      let whole : flights (in_flight current') ≡ flights met ++ flights own =
+      sym (flights_after (end_of placed' current' is) g.before (in_flight current') settled'.0 (g.settled settled'.0 settled'.1) g.journal) ∙ ap flights journal ∙ flights_append met own in
+      subst (λ (o : Option (List Entry)). IsFlight b' o current')
+      (sym (first_flight is placed' b' current' stands')
+      ∙ only_first (flights met) (flights own) (flights (in_flight current')) (few_flights is placed' b' current' stands') whole
+      ∙ ap (λ (o : Option (List Entry)). flight_then o (first (flights met))) (flights_own xs own are)
+      ∙ ap (λ (o : Option (List Entry)). flight_then (flying_in xs) o)
+      (ap first one ∙ flight_taken was placed b current stands found at ∙ ap (λ (o : Option (List Entry)). flight_found found o) (flown_is b flight current flown)))
+      (flies_so is placed' b' current' stands')

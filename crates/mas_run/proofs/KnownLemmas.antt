@@ -1,53 +1,15 @@
 -- What is known of a line by its admission, and of its member.
-use Rattle.mas_run.proofs.Names.{◌≡◌, ◌⊎◌, inl, inr, Bool, true, false, not, ◌||◌, if◌then◌else◌, List, ℕ, Option, Some, None, is_some, Result, Ok, Err, refl, sym, ◌∙◌, ap, subst, ⊎_elim, ◌+◌, ◌≤◌, nat_le, ◌&&◌, length, arith, eqb-true, and_parts, Closing, Command, MemberId, JobFields, Config, nobody, is_somebody, is_member, BadCard, read_as, text_of, job_seen_in, nothing_seen, refused_card, seen_after, LockNo, Book, after_try, granted, is_holder, is_stopped, ticked, try_refusal, IsMember, is_dormant, wakes, Ask, Deck, Give, Node as Line, Work, Admission, Frees, Locks, Plays, Refused, Replaces, Resets, TakesOver, admitted, asked, command_admitted, deck_admitted, if_granted, no_member, resets, tries, Denied, Unplayed, denied_closing, reset_admitted, nat_tests, Dev, Spool, IsCkpt, Queue, AreMembersNamed, IsConfig, IsFit, members_most, is_mark, IsPlayed, IsCopy, IsAsk, IsBy, IsGivable, MayBeAsked, AreFewUnits, IsSayer, is_of_member, line_by}
+use Rattle.mas_run.proofs.Names.{◌≡◌, ◌⊎◌, inl, inr, Bool, true, false, ◌||◌, if◌then◌else◌, ℕ, Option, Some, None, is_some, refl, sym, ◌∙◌, ap, subst, ⊎_elim, ◌+◌, ◌≤◌, nat_le, ◌&&◌, length, arith, and_parts, Command, MemberId, nobody, is_somebody, is_member, job_seen_in, nothing_seen, refused_card, seen_after, LockNo, Book, after_try, granted, is_holder, is_stopped, ticked, try_refusal, IsMember, is_dormant, wakes, Ask, Admission, Frees, Locks, Plays, Refused, Replaces, Resets, TakesOver, admitted, resets, Denied, Unplayed, denied_closing, nat_tests, Dev, Spool, IsCkpt, Queue, AreMembersNamed, IsConfig, IsFit, members_most, is_mark, IsPlayed, IsCopy, IsAsk, IsBy, IsGivable, MayBeAsked, AreFewUnits, IsSayer, is_of_member, line_by}
 use Rattle.mas_types.specs.Step.{may_give}
 use Rattle.card_reader.specs.Statements.{cards_to_end, items_of}
 use Rattle.card_reader.proofs.Fields.{fields_fit, least-ok}
 use Rattle.card_reader.proofs.Refusals.{cards_fit}
 use Rattle.queue_commands.specs.Given.{IsGiver, is_plain}
 use Rattle.script_input.specs.Commands.{is_typed}
-use Rattle.mas_types.specs.declared.answers.Closing.TheVariants as closing
 use Rattle.script_lang.specs.declared.types.Ask.TheVariants as ask
 use Rattle.mas_types.specs.declared.commands.Command.TheVariants as command
 use Rattle.lock_cycle.specs.declared.answers.LockNo.TheVariants as lock
-
--- A TRY of a member that is up, which wasn't refused
-
-pub holder_is : (b : Book) (by : MemberId) → is_holder b by ≡ true → b.holder ≡ by
-holder_is b by holds = ap (λ (k : ℕ). let m : MemberId = record { 0 = k } in m) (eqb-true b.holder.0 by.0 holds)
-
-module _ (b : Book) (by : MemberId) (up : is_stopped b by ≡ false) (none : try_refusal b by false ≡ None) where
-  abbrev tried_as : Bool → Bool → Option LockNo → Book
-  tried_as stopped holds r = if stopped || holds then b else if is_some r then ticked b false else granted (ticked b false) by
-
-  tried_so : (holds : Bool) → is_holder b by ≡ holds → after_try b by false ≡ tried_as false holds None
-  tried_so holds is =
-      ap (λ (s : Bool). tried_as s (is_holder b by) (try_refusal b by false)) up
-      ∙ ap (λ (h : Bool). tried_as false h (try_refusal b by false)) is
-      ∙ ap (λ (r : Option LockNo). tried_as false holds r) none
-
-  -- who holds it already keeps the book
-  pub holder_keeps : is_holder b by ≡ true → after_try b by false ≡ b
-  holder_keeps holds = tried_so true holds
-
-  got_holder : (after_try b by false).holder ≡ by
-  got_holder = by_test (is_holder b by) refl where
-    by_test : (h : Bool) → is_holder b by ≡ h → (after_try b by false).holder ≡ by
-    by_test true holds = ap (λ (c : Book). c.holder) (tried_so true holds) ∙ holder_is b by holds
-    by_test false free = ap (λ (c : Book). c.holder) (tried_so false free)
-
-module _ (config : Config) (b : Book) (by : MemberId) where
-  -- WHO IS UP
-
-  pub record IsUpMember : Type 0 where
-    pub member : is_member config by ≡ true
-    pub up : is_stopped b by ≡ false
-
-  -- who got the lock by a try
-  pub record HasGot : Type 0 where
-    pub is_up : IsUpMember
-    pub none : try_refusal b by false ≡ None
-    pub holds : (after_try b by false).holder ≡ by
+use Rattle.mas_run.proofs.ComesLemmas.{HasGot, holder_is, IsUpMember, Comes, comes, NoMember, SaysNo, StillUp, NotGranted, DeckCame, CommandCame, ResetCame, TakeoverCame, WorkCame, LineCame, LockCame, FreeCame, ReplaceCame, MuteCame}
 
 -- THE LIMITS of a line of a member
 
@@ -151,61 +113,33 @@ module _ (Q : Queue) (config : IsConfig Q.config) (b : Book) (by : MemberId) whe
   IsKnown (Replaces dev) = IsUpMember Q.config b by × IsCkpt dev × HasGot Q.config b by
   IsKnown Unplayed = ⊥
 
-  module _ (up : IsUpMember Q.config b by) where
-    own_refused : (end : Closing) → AreMembersNamed end → IsKnown (Refused by end)
-    own_refused end named = (inr (refl, up), named)
+  -- a reset of a member that is stopped
+  its_down : (c : Command) (of : MemberId) → resets c ≡ Some of → is_member Q.config of ≡ true → is_stopped b of ≡ true → IsFit c → IsDown of
+  its_down c of is member down fit = record { member = member; down = down; givable = λ its. typed_givable Q by (command.Reset of) config its (subst IsFit (reset_of c of is) fit) refl } where
+    reset_of : (c : Command) (of : MemberId) → resets c ≡ Some of → c ≡ command.Reset of
+    reset_of (command.Reset m) of is = let same : m ≡ of = cc in ap (λ (k : MemberId). command.Reset k) same
+    reset_of _ of is = absurd (cc)
 
-    known_tries : (a : Admission) → (HasGot Q.config b by → IsKnown a) → IsKnown (tries b by a)
-    known_tries a known = by_refusal (try_refusal b by false) refl where
-      by_refusal : (r : Option LockNo) → try_refusal b by false ≡ r → IsKnown (if_granted r a)
-      by_refusal None is = known (record { is_up = up; none = is; holds = got_holder b by up.up is })
-      by_refusal (Some why) is = (up, is)
-
-    known_deck : (cards : List (List ℕ)) (r : Result JobFields BadCard) → read_as Q.config.node cards ≡ r → IsKnown (deck_admitted b by (text_of cards) r)
-    known_deck cards (Err bad) is = own_refused (closing.BadCard bad.card bad.cause) tt
-    known_deck cards (Ok fields) is =
-        let none = (least-ok (refused_card 1 (cards_to_end 0 cards + 1) cards) (job_seen_in (seen_after Q.config.node nothing_seen (items_of cards))) fields is).0 in
-        known_tries (Plays (Deck fields (text_of cards)))
-        (λ got. (up, (fields_fit Q.config.node cards fields config.node is, cards_fit (cards_to_end 0 cards) (cards_to_end 0 cards + 1) cards none), got))
-
-    known_reset : (of : MemberId) → IsFit (command.Reset of) → IsKnown (reset_admitted Q.config b by of)
-    known_reset of fit = by_tests (is_member Q.config of) (is_stopped b of) (is_holder b of) refl refl refl where
-      by_tests : (m s h : Bool) → is_member Q.config of ≡ m → is_stopped b of ≡ s → is_holder b of ≡ h
-          → IsKnown (if not m then Refused by no_member else if not s then Refused by (closing.Up of) else if h then TakesOver of else tries b by (Resets of))
-      by_tests false s h none stops holds = own_refused no_member tt
-      by_tests true false h some up holds = own_refused (closing.Up of) (few_of Q config of some)
-      by_tests true true true some down holds = (up, record { member = some; down = down; givable = λ member. typed_givable Q by (command.Reset of) config member fit refl }, holds)
-      by_tests true true false some down holds =
-          known_tries (Resets of) (λ got. (up, record { member = some; down = down; givable = λ member. typed_givable Q by (command.Reset of) config member fit refl }, got))
-
-    known_command : (c : Command) → IsFit c → is_typed c ≡ true → (r : Option MemberId) → resets c ≡ r → IsKnown (command_admitted Q.config b by c r)
-    known_command c fit typed None is = known_tries (Plays (Give c)) (λ got. (up, typed_givable Q by c config up.member fit typed, got))
-    known_command c fit typed (Some of) is = known_reset of (subst IsFit (reset_of c of is) fit) where
-      reset_of : (c : Command) (of : MemberId) → resets c ≡ Some of → c ≡ command.Reset of
-      reset_of (command.Reset m) of is = let same : m ≡ of = cc in ap (λ (k : MemberId). command.Reset k) same
-      reset_of _ of is = absurd (cc)
-
-    known_free : (h : Bool) → is_holder b by ≡ h → IsKnown (if h then Frees else Refused by closing.NotHolder)
-    known_free true holds = (up, holds)
-    known_free false holds = own_refused closing.NotHolder tt
-
-    known_asked : (what : Ask) → is_of_member what ≡ true → IsPlayed (line_by by what) → IsKnown (asked Q.config b by what)
-    known_asked (ask.Deck cards) is played = known_deck cards (read_as Q.config.node cards) refl
-    known_asked (ask.Command c) is played = known_command c played.fits.what played.built (resets c) refl
-    known_asked (ask.Work n) is played = known_tries (Plays (Work n)) (λ got. (up, played.fits.what.1, got))
-    known_asked ask.Lock is played = known_tries Locks (λ got. (up, got))
-    known_asked ask.Free is played = known_free (is_holder b by) refl
-    known_asked (ask.Line n) is played = known_tries (Plays (Line n)) (λ got. (up, played.fits.what, got))
-    known_asked (ask.Replace dev) is played = known_tries (Replaces dev) (λ got. (up, copy_ckpt dev played.fits.what, got))
-    known_asked _ is played = let true_false : true ≡ false → ⊥ = λ e. absurd (cc) in absurd (true_false (sym is))
+  known_by : {what : Ask} {a : Admission} → Comes Q.config b by what a → is_of_member what ≡ true → IsPlayed (line_by by what) → IsKnown a
+  known_by (NoMember end named) is played = (inl refl, named)
+  known_by (SaysNo end up named) is played = (inr (refl, up), named)
+  known_by (StillUp of up member) is played = (inr (refl, up), few_of Q config of member)
+  known_by (NotGranted why up refused) is played = (up, refused)
+  known_by (DeckCame cards fields got read) is played =
+      let none = (least-ok (refused_card 1 (cards_to_end 0 cards + 1) cards) (job_seen_in (seen_after Q.config.node nothing_seen (items_of cards))) fields read).0 in
+      (got.is_up, (fields_fit Q.config.node cards fields config.node read, cards_fit (cards_to_end 0 cards) (cards_to_end 0 cards + 1) cards none), got)
+  known_by (CommandCame c got) is played = (got.is_up, typed_givable Q by c config got.is_up.member played.fits.what played.built, got)
+  known_by (ResetCame c of got so member down) is played = (got.is_up, its_down c of so member down played.fits.what, got)
+  known_by (TakeoverCame c of up so member down holds) is played = (up, its_down c of so member down played.fits.what, holds)
+  known_by (WorkCame n got) is played = (got.is_up, played.fits.what.1, got)
+  known_by (LineCame n got) is played = (got.is_up, played.fits.what, got)
+  known_by (LockCame got) is played = (got.is_up, got)
+  known_by (FreeCame up holds) is played = (up, holds)
+  known_by (ReplaceCame dev got) is played = (got.is_up, copy_ckpt dev played.fits.what, got)
+  known_by (MuteCame mute) is played = absurd (let bad : true ≡ false = sym is ∙ mute in cc)
 
   pub known : (what : Ask) → is_of_member what ≡ true → IsPlayed (line_by by what) → IsKnown (admitted Q.config b by what)
-  known what is played = by_tests (is_member Q.config by) (is_stopped b by) refl refl where
-    by_tests : (m s : Bool) → is_member Q.config by ≡ m → is_stopped b by ≡ s
-        → IsKnown (if not m then Refused nobody no_member else if s then Refused nobody closing.Down else asked Q.config b by what)
-    by_tests false s none stops = (inl refl, tt)
-    by_tests true true some down = (inl refl, tt)
-    by_tests true false some up = known_asked (record { member = some; up = up }) what is played
+  known what is played = known_by (comes Q.config b by what) is played
 
   -- the lock is held by a member that has its number
   pub busy_named : (why : LockNo) → try_refusal b by false ≡ Some why → b.holder.0 ≤ members_most → AreMembersNamed (denied_closing why)
@@ -214,14 +148,10 @@ module _ (Q : Queue) (config : IsConfig Q.config) (b : Book) (by : MemberId) whe
         → (if s then Some lock.Down else if h then None else if t then Some (lock.Busy b.holder) else if d then Some (lock.Dormant (wakes b by)) else None) ≡ Some why
         → AreMembersNamed (denied_closing why)
     by_tests true h t d e = let same : lock.Down ≡ why = cc in subst (λ (w : LockNo). AreMembersNamed (denied_closing w)) same tt
-    by_tests false true t d e = absurd (none e) where
-      none : None ≡ Some why → ⊥
-      none e = absurd (cc)
+    by_tests false true t d e = absurd (cc)
     by_tests false false true d e = let same : lock.Busy b.holder ≡ why = cc in subst (λ (w : LockNo). AreMembersNamed (denied_closing w)) same few
     by_tests false false false true e = let same : lock.Dormant (wakes b by) ≡ why = cc in subst (λ (w : LockNo). AreMembersNamed (denied_closing w)) same tt
-    by_tests false false false false e = absurd (none e) where
-      none : None ≡ Some why → ⊥
-      none e = absurd (cc)
+    by_tests false false false false e = absurd (cc)
 
   -- who says the line of a refusal may
   pub sayer_of : length b.members ≡ Q.config.members → (sayer : MemberId) → IsSaidBy sayer → IsSayer b sayer by
@@ -238,16 +168,9 @@ module _ (Q : Queue) (config : IsConfig Q.config) (b : Book) (by : MemberId) whe
   -- a member that is up isn't the stopped one that holds the lock
   pub not_holder : (of : MemberId) → is_stopped b by ≡ false → is_stopped b of ≡ true → is_holder b of ≡ true → is_holder b by ≡ false
   not_holder of up down holds = by_test (is_holder b by) refl where
-    apart : true ≡ false → ⊥
-    apart e = absurd (cc)
-
     by_test : (h : Bool) → is_holder b by ≡ h → is_holder b by ≡ false
     by_test false free = free
-    by_test true mine =
-        let its : b.holder.0 ≡ by.0 = eqb-true b.holder.0 by.0 mine in
-        let theirs : b.holder.0 ≡ of.0 = eqb-true b.holder.0 of.0 holds in
-        let same : of ≡ by = ap (λ (k : ℕ). let m : MemberId = record { 0 = k } in m) (sym theirs ∙ its) in
-        absurd (apart (sym (ap (λ (m : MemberId). is_stopped b m) (sym same) ∙ down) ∙ up))
+    by_test true mine = absurd (let same = ap (λ (m : MemberId). is_stopped b m) (sym (holder_is b of holds) ∙ holder_is b by mine) in cc)
 
   -- who was refused the lock left it where it was
   pub denied_holder : (why : LockNo) → try_refusal b by false ≡ Some why → (after_try b by false).holder ≡ b.holder
@@ -255,7 +178,5 @@ module _ (Q : Queue) (config : IsConfig Q.config) (b : Book) (by : MemberId) whe
     by_tests : (s h : Bool) (r : Option LockNo) → r ≡ Some why → (if s || h then b else if is_some r then ticked b false else granted (ticked b false) by).holder ≡ b.holder
     by_tests true h r is = refl
     by_tests false true r is = refl
-    by_tests false false None is = absurd (none is) where
-      none : None ≡ Some why → ⊥
-      none e = absurd (cc)
+    by_tests false false None is = absurd (cc)
     by_tests false false (Some other) is = refl

@@ -1,6 +1,5 @@
 -- A line of a member, in the words of a run: by what it left, and once the operator said that its member was stopped.
-use Rattle.mas_run.proofs.Names.{ℕ, Bool, refl, ◌≡◌, ◌≢◌, inl, inr, ◌==◌, ◌&&◌, true, false, if◌then◌else◌, List, [], ◌∷◌, ◌++◌, map, append-nil, Option, None, Result, Ok, sym, ◌∙◌, ap, subst, arith, ⊎_elim, ◌⊎◌, ◌≤◌, append_assoc, Some, Err, ◌+◌, OnOk, Spool, Ckpt1, Ckpt2, View, Line, paper_now, Line as Printed, World, KeepsCounts, VolumesStay, none_lost, console_now, stay_both, stay_more, rose_more, OnConsole, eqb-true, nat_tests, map-append, Fate, Dev, MemberId, Ask, Ghosts as PlantGhosts, CopyGhosts, Parts, parts_of, AreBatched, AtCut, IsBroken, IsTight, cause_by, NodeNo, next, Goes, Rose, Sitting, Cut, Halt, Cause, Ends, Stops, Batched, Scene, Said, cause_of, steps_said_by as said_by, scene_left, stopped_lines, Given, ask_with, play_with, played_with, ArePiecesOf, IsAskRight, LineAt, admitted_at, pieces_at, played_at, fate_found, sayer_of, Piece, admitted, Admission, Plays, AdmissionLeaves, AskLeaves, CutsAs, IfIdle, IfOfMember, IsPassed, IsWithin, LosesAs, arms_by, arms_then, cut_in, cut_of, is_takeover, is_work, printed_at, taking, IsGiven, IsHonest, IsHonestAs, StaysAs, named_as, named_by, names_in, IsNextAct, MayLoseCopy, loses_then, HasLeft, linesleft_left_at as left_at, HasSaidStop, IsCutBy, SaysStop, StopCauses, StopIsSaid, is_of_member, closing_line, Disk, Printer, Wire, SteadyGhosts, Complex, SamePapers, is_stop, stopped_in, HasCause, IsOneAct, SaysStopped, stopped_said, whole, CouldNotStay, IsWhyLost, Proceeds, IsShapedAs, holder_as, IsTaskShaped, proceeds_of, proceeds_on, by_order, kept_on, All-weaker, Closing, GroupNo, Text, Queue, Read, IsFoundLost, HasFailed, HasPrinterFailed, IsReadAs, IsSpoolLost, Finds, units_done, units_left, nothing_found, Found, Offer, Holder, State, Away, Fresh, Rested, Told, Task, Deck, Give, Work, Acknowledge, Exchange, PrintLines, ReadText, AreFoundIn, FindsOffered, IsFoundAt, Wait, AreFewPieces, AreShaped, DeckLinesIn, SaysIn, WorkLinesIn}
-use Rattle.mas_run.proofs.PassedLemmas.{batched_later, kept_later}
+use Rattle.mas_run.proofs.Names.{IsWhy, ℕ, Bool, refl, ◌≡◌, ◌≢◌, inl, inr, ◌==◌, ◌&&◌, true, false, if◌then◌else◌, List, [], ◌∷◌, ◌++◌, map, append-nil, Option, None, Result, Ok, sym, ◌∙◌, ap, subst, arith, ⊎_elim, ◌⊎◌, ◌≤◌, Some, Err, ◌+◌, OnOk, Spool, Ckpt1, Ckpt2, View, ViewLine as Line, paper_now, ViewLine as Printed, World, KeepsCounts, VolumesStay, none_lost, console_now, stay_both, stay_more, rose_more, OnConsole, eqb-true, nat_tests, map-append, Fate, Dev, MemberId, Ask, PlantGhosts, Ghosts as CopyGhosts, Parts, AreBatched, AtCut, IsBroken, IsTight, cause_by, NodeNo, next, Goes, Cut, Cause, Ends, Batched, Scene, Said, cause_of, steps_said_by as said_by, scene_left, stopped_lines, Given, play_with, played_with, ArePiecesOf, IsAskRight, LineAt, admitted_at, pieces_at, played_at, fate_found, sayer_of, Piece, Admission, Plays, AdmissionLeaves, CutsAs, IfIdle, IfOfMember, IsPassed, IsWithin, LosesAs, arms_by, arms_then, cut_in, cut_of, is_takeover, is_work, printed_at, taking, IsGiven, IsHonest, IsHonestAs, StaysAs, named_as, named_by, names_in, IsNextAct, MayLoseCopy, loses_then, HasLeft, linesleft_left_at as left_at, IsCutBy, is_of_member, Disk, Printer, Wire, SamePapers, stopped_in, IsOneAct, CouldNotStay, IsWhyLost, Proceeds, IsShapedAs, holder_as, IsTaskShaped, by_order, All-weaker, Closing, GroupNo, Text, Queue, Read, IsFoundLost, HasFailed, HasPrinterFailed, IsReadAs, IsSpoolLost, Finds, units_done, units_left, nothing_found, Found, Offer, Holder, State, Away, Fresh, Rested, Told, Task, Deck, Give, Work, Acknowledge, Exchange, PrintLines, ReadText, AreFoundIn, FindsOffered, IsFoundAt, Wait, AreFewPieces, AreShaped, DeckLinesIn, SaysIn, WorkLinesIn, ended_as, LeavesVolumes, no, PairState}
 use Rattle.member_resets.specs.Acts.{HasLineFailed}
 use Rattle.member_work.specs.Causes.{MayRefuse}
 use Rattle.member_sittings.specs.Shapes.{SaysAtEnd}
@@ -23,23 +22,13 @@ pub console_stays : {told : Type 0} (old new : View) → OnConsole told old new 
 console_stays old new acts = record { lost = λ n other. acts.lost (Spool n); faults = λ n other. acts.faults (Spool n) }
 
 -- nor does a call on the copies
-pub counted_stays : (by : ℕ) (a a' b b' stopped : Bool) (old new : View) → KeepsCounts by a a' b b' stopped old new → VolumesStay none_lost old new
-counted_stays by a a' b b' stopped old new counts = record { lost = λ n other. counts.volumes_lost n; faults = λ n other. counts.volumes_faults n }
+pub counted_stays : (by : ℕ) (stopped : Bool) (x y : PairState) → KeepsCounts by stopped x y → VolumesStay none_lost x.view y.view
+counted_stays by stopped x y counts = record { lost = λ n other. counts.volumes_lost n; faults = λ n other. counts.volumes_faults n }
 
 -- From what a line of a member leaves to what the run says of it: where its member was stopped the operator says so, or
 -- the run ends.
 
-false_true : false ≡ true → ⊥
-false_true e = absurd (cc)
-
 -- A LINE OF A MEMBER
-
-member_played : (S : Scene) (by : MemberId) (at : ℕ) (g : Given) (what : Ask) → is_of_member what ≡ true
-    → ask_with S by at g what ≡ played_with S by at (admitted S.queue.config S.book by what) g
-member_played S by at g ask.Stop is = absurd (false_true is)
-member_played S by at g (ask.StopIn what n) is = absurd (false_true is)
-member_played S by at g (ask.Lose dev) is = absurd (false_true is)
-member_played S by at g _ is = refl
 
 pub if_member : (what : Ask) (P : Type 0) → P → IfOfMember what P
 if_member ask.Stop P p = tt
@@ -47,30 +36,24 @@ if_member (ask.StopIn what n) P p = tt
 if_member (ask.Lose dev) P p = tt
 if_member _ P p = p
 
-pub member_cut : (what : Ask) (cut : Option Cut) → is_of_member what ≡ true → cut_in what cut ≡ cut
-member_cut ask.Stop cut is = absurd (false_true is)
-member_cut (ask.StopIn what n) cut is = absurd (false_true is)
-member_cut (ask.Lose dev) cut is = absurd (false_true is)
-member_cut _ cut is = refl
+-- what is said of lines of every kind is said of it by its admission
+pub record IsOfMember (l : LineAt) : Type 0 where
+  pub played : played_at l ≡ played_with l.scene l.step.by l.number (admitted_at l) l.given
+  pub cut : (cut : Option Cut) → cut_in l.step.what cut ≡ cut
+  pub arms : arms_by l.scene l.step.by l.step.what ≡ false
+  -- it names the volumes that it found lost, and no others
+  pub names : (found : ℕ → Bool) → names_in l.step.what found ≡ found
+  pub right : ArePiecesOf l.scene l.step.by l.number (admitted_at l) l.given → IsAskRight l.scene l.step.by l.number l.given l.step.what
+  pub leaves : LeavesVolumes l → AdmissionLeaves (admitted_at l)
 
-member_arms : (S : Scene) (by : MemberId) (what : Ask) → is_of_member what ≡ true → arms_by S by what ≡ false
-member_arms S by (ask.StopIn what n) is = absurd (false_true is)
-member_arms S by _ is = refl
+member_line : (S : Scene) (at : ℕ) (g : Given) (by : MemberId) (what : Ask) → is_of_member what ≡ true → IsOfMember (record { scene = S; number = at; step = record { by = by; what = what }; given = g })
+member_line S at g by ask.Stop is = absurd (no false is refl)
+member_line S at g by (ask.StopIn what n) is = absurd (no false is refl)
+member_line S at g by (ask.Lose dev) is = absurd (no false is refl)
+member_line S at g by _ is = record { played = refl; cut = λ cut. refl; arms = refl; names = λ found. refl; right = λ right. right; leaves = λ leaves. leaves }
 
--- it names the volumes that it found lost, and no others
-pub member_stays : (what : Ask) (found : ℕ → Bool) (old new : View) → is_of_member what ≡ true → VolumesStay found old new → VolumesStay (names_in what found) old new
-member_stays ask.Stop found old new is stay = absurd (false_true is)
-member_stays (ask.StopIn what n) found old new is stay = absurd (false_true is)
-member_stays (ask.Lose dev) found old new is stay = absurd (false_true is)
-member_stays _ found old new is stay = stay
-
--- where its pieces are right by its admission they are by what it asks for
-pub right_of : (S : Scene) (by : MemberId) (at : ℕ) (g : Given) (what : Ask) → is_of_member what ≡ true → ArePiecesOf S by at (admitted S.queue.config S.book by what) g
-    → IsAskRight S by at g what
-right_of S by at g ask.Stop is right = absurd (false_true is)
-right_of S by at g (ask.StopIn what n) is right = absurd (false_true is)
-right_of S by at g (ask.Lose dev) is right = absurd (false_true is)
-right_of S by at g _ is right = right
+pub of_member : (l : LineAt) → is_of_member l.step.what ≡ true → IsOfMember l
+of_member l is = member_line l.scene l.number l.given l.step.by l.step.what is
 
 lines_said : (by : MemberId) (ls : List Line) → map (λ (s : Said). s.line) (map (said_by by) ls) ≡ ls
 lines_said by [] = refl
@@ -78,7 +61,7 @@ lines_said by (l ∷ ls) = ap (λ (more : List Line). l ∷ more) (lines_said by
 
 module _ (l : LineAt) (member : is_of_member l.step.what ≡ true) where
   as_member : played_at l ≡ played_with l.scene l.step.by l.number (admitted_at l) l.given
-  as_member = member_played l.scene l.step.by l.number l.given l.step.what member
+  as_member = (of_member l member).played
 
   pub next_left : (played_at l).next ≡ scene_left l.scene l.step.by (play_with l.scene l.step.by (admitted_at l) l.given) (left_at l)
   next_left = ap (λ p. p.next) as_member
@@ -126,34 +109,27 @@ module _ {P C : Type 0} (plants : PlantGhosts P) (copies : CopyGhosts C) (told :
         ∙ ap (λ (ls : List Line). paper_now (plants.view x.plant) m ++ ls) (ap (λ (b : Bool). if b then (played_at l).outcome.printed else []) (sym is))
 
   pub arms_same : (m : ℕ) → arms_then l m ((plants.view x.plant).arms m) ≡ (plants.view x.plant).arms m
-  arms_same m = ap (λ (b : Bool). if b && (l.step.by.0 == m) then next ((plants.view x.plant).arms m) else (plants.view x.plant).arms m) (member_arms l.scene l.step.by l.step.what member)
-
-  -- a line of a member leaves volumes by its admission
-  pub leaves_as : (what : Ask) → is_of_member what ≡ true → AskLeaves (admitted_at l) what → AdmissionLeaves (admitted_at l)
-  leaves_as ask.Stop is leaves = absurd (false_true is)
-  leaves_as (ask.StopIn what n) is leaves = absurd (false_true is)
-  leaves_as (ask.Lose dev) is leaves = absurd (false_true is)
-  leaves_as _ is leaves = leaves
+  arms_same m = ap (λ (b : Bool). if b && (l.step.by.0 == m) then next ((plants.view x.plant).arms m) else (plants.view x.plant).arms m) (of_member l member).arms
 
   -- what it gave, and what it found
   given_of : IsGiven told l (plants.view x.plant) (plants.view y.plant)
   given_of = record {
     shaped = ⊎_elim inl (λ s. inr (if_member l.step.what _ s)) left.shaped;
-    right = λ t. right_of l.scene l.step.by l.number l.given l.step.what member (left.right t);
+    right = λ t. (of_member l member).right (left.right t);
   }
 
   honest_of : told → IsHonest l (plants.view x.plant) (plants.view y.plant)
-  honest_of t = subst (λ (c : Option Cut). IsHonestAs l (admitted_at l) c (plants.view x.plant) (plants.view y.plant)) (sym (member_cut l.step.what l.given.sight.cut member)) (left.honest t)
+  honest_of t = subst (λ (c : Option Cut). IsHonestAs l (admitted_at l) c (plants.view x.plant) (plants.view y.plant)) (sym ((of_member l member).cut l.given.sight.cut)) (left.honest t)
 
   stay_of : told → VolumesStay (named_by l) (plants.view x.plant) (plants.view y.plant)
-  stay_of t = member_stays l.step.what (named_as l (admitted_at l) (cut_of l)) (plants.view x.plant) (plants.view y.plant) member
-      (subst (λ (c : Option Cut). StaysAs l (admitted_at l) c (plants.view x.plant) (plants.view y.plant)) (sym (member_cut l.step.what l.given.sight.cut member)) (left.stay t))
+  stay_of t = subst (λ (f : ℕ → Bool). VolumesStay f (plants.view x.plant) (plants.view y.plant)) (sym ((of_member l member).names (named_as l (admitted_at l) (cut_of l))))
+      (subst (λ (c : Option Cut). StaysAs l (admitted_at l) c (plants.view x.plant) (plants.view y.plant)) (sym ((of_member l member).cut l.given.sight.cut)) (left.stay t))
 
 -- what a line that takes the lock over found of a batch in flight
 abbrev pub took : LineAt → Option Fate
 took l = taking (is_takeover (admitted_at l)) (fate_found (admitted_at l) l.given.sight)
 
--- A LINE THAT WASN'T CUT
+-- BY ITS ANSWER
 
 pub on_ok : (r : Result (Unit {0}) NodeNo) (A B : Type 0) → (A → B) → OnOk r A → OnOk r B
 on_ok (Ok done) A B f a = f a
@@ -162,36 +138,6 @@ on_ok (Err e) A B f a = tt
 pub if_idle : (works : Bool) (P : Type 0) → P → IfIdle works P
 if_idle true P p = tt
 if_idle false P p = p
-
-module _ {P C : Type 0} (plants : PlantGhosts P) (copies : CopyGhosts C) (told : Type 0) (l : LineAt) (x y : Parts P C)
-    (member : is_of_member l.step.what ≡ true) (left : HasLeft plants copies told l x y (Ok tt)) where
-  -- what a cut leaves is said of none
-  pub passed_uncut : IsPassed told copies.reads l left.own (plants.view x.plant) (plants.view y.plant) (Ok tt)
-  passed_uncut = let none_stopped : stopped_lines l.step.by l.number (cause_of l.given.sight.cut) ≡ [] = ap (λ (c : Option Cut). stopped_lines l.step.by l.number (cause_of c)) left.cut in
-      let none_cut : cut_of l ≡ None = member_cut l.step.what l.given.sight.cut member ∙ left.cut in
-      let if_none : (P : Halt → Sitting → Type 0) → AtCut P (cut_of l) (pieces_at l) = λ P. subst (λ (c : Option Cut). AtCut P c (pieces_at l)) (sym none_cut) tt in record {
-        goes = left.goes;
-        stays = left.stays;
-        given = given_of plants copies told l x y member left;
-        honest = λ t. if_member l.step.what _ (honest_of plants copies told l x y member left t);
-        stay = stay_of plants copies told l x y member left;
-        cut = subst (λ (c : Option Cut). CutsAs {T = Unit {0}} (Ok tt) l.step.by c (plants.view x.plant) (plants.view y.plant)) (sym none_cut) (left.spares.stops l.step.by.0 (inr refl));
-        within = subst (λ (c : Option Cut). IsWithin c (pieces_at l)) (sym none_cut) tt;
-        why = no_node.Halted;
-        is_why = refl;
-        tight = if_idle (is_work (admitted_at l)) _ (if_none (IsTight no_node.Halted));
-        broke = λ t. if_none (IsBroken no_node.Halted);
-        spares = λ m other. left.spares.stops m (inl other);
-        failed = λ e. absurd (cc);
-        batches = subst (λ (bs : List Batched). AreBatched l.step.by (plants.view x.plant).now (plants.view y.plant).now bs left.own) (sym (batches_left l member)) left.batches;
-        console = λ t. left.console t ∙ ap (λ (ls : List Line). console_now (plants.view x.plant) ++ ls)
-            (sym (append-nil (left_at l).lines) ∙ ap (λ (ss : List Said). (left_at l).lines ++ map (λ (s : Said). s.line) ss) (sym none_stopped) ∙ sym (lines_left l member));
-        paper = λ t m. printed_here plants copies told l x y member left m t;
-        dry = left.dry;
-        loses = λ t. subst (λ (d : Option Dev). LosesAs copies.reads (took l) d (plants.view x.plant) (plants.view y.plant)) (sym (loses_none l member)) (left.loses t);
-        arms = λ m. left.arms m ∙ sym (arms_same plants copies told l x y member left m);
-        volumes = λ t leaves. left.volumes t (leaves_as plants copies told l x y member left l.step.what member leaves);
-      }
 
 -- A line in which its member was stopped, once the operator has said so.
 
@@ -300,20 +246,11 @@ shaped_as_later old mid new goes l _ is = is
 
 -- THE CUT
 
--- a line that was cut and answers Halted was cut there, and its member is stopped
-cut_stops : (ps : List Piece) (cut : Option Cut) → IsCutBy {T = Unit {0}} (Err no_node.Halted) ps cut → cause_of cut ≡ Some Stops
-cut_stops ps None is = absurd is
-cut_stops ps (Some cut) is = ap (λ (why : Cause). Some why) is.cause
-
--- and it was cut in a piece that was begun
-within_cut : (e : NodeNo) (ps : List Piece) (cut : Option Cut) → IsCutBy {T = Unit {0}} (Err e) ps cut → IsWithin cut ps
-within_cut e ps None is = absurd is
-within_cut e ps (Some cut) is = is.there
-
-cut_as : (by : MemberId) (ps : List Piece) (cut : Option Cut) (old new : View) → IsCutBy {T = Unit {0}} (Err no_node.Halted) ps cut
-    → Rose (old.stops by.0) (new.stops by.0) → IsNextAct new → CutsAs {T = Unit {0}} (Ok tt) by cut old new
-cut_as by ps None old new is rose after = absurd is
-cut_as by ps (Some cut) old new is rose after = (is.cause, is.halt, rose, after)
+-- it was cut in a piece that was begun, if it was
+within_cut : (r : Result (Unit {0}) NodeNo) (ps : List Piece) (cut : Option Cut) → IsCutBy r ps cut → IsWithin cut ps
+within_cut (Ok done) ps cut is = subst (λ (c : Option Cut). IsWithin c ps) (sym is) tt
+within_cut (Err e) ps None is = absurd is
+within_cut (Err e) ps (Some cut) is = is.there
 
 -- one act after that in which the member was stopped
 pub act_after : (mid new : View) → mid.halt ≡ mid.now → IsOneAct mid new → IsNextAct new
@@ -354,123 +291,65 @@ loses_on reads v0 v1 v2 goes same took d (inr may) = inr (may_on took d may) whe
   may_on (Some found) Ckpt2 h = (same Ckpt2 ∙ h.0, goes.lost (Disk Ckpt2) h.1, why_on found Ckpt2 Ckpt1 h.2)
   may_on _ _ h = h
 
-module _ {P C : Type 0} (plants : PlantGhosts P) (copies : CopyGhosts C) (told : Type 0) (tells : told → plants.tells) (l : LineAt) (x y z : Parts P C)
-    (member : is_of_member l.step.what ≡ true) (left : HasLeft plants copies told l x y (Err no_node.Halted))
-    (said : HasSaidStop plants copies l.step.by l.number y z (Ok tt)) where
-  abbrev v : Parts P C → View
-  v w = plants.view w.plant
+-- A LINE IN WHICH NOBODY WAS STOPPED: it was whole, or the run ended in it
 
-  pub passed_stopped : IsPassed told copies.reads l left.own (v x) (v z) (Ok tt)
-  passed_stopped = let stop_line : map (λ (s : Said). s.line) (stopped_lines l.step.by l.number (cause_of l.given.sight.cut)) ≡ whole (closing_line l.step.by l.number closing.Stopped) ∷ [] = ap (λ (c : Option Cause). map (λ (s : Said). s.line) (stopped_lines l.step.by l.number c)) (cut_stops (pieces_at l) l.given.sight.cut left.cut) in
-      let papers_same : told → (m : ℕ) → paper_now (v z) m ≡ paper_now (v y) m = λ t m. said.acts.papers (tells t) (v z).now said.acts.goes.later (let same : (v z).now ≤ (v z).now = omega arith in same) m in
-      let rose : Rose ((v x).stops l.step.by.0) ((v z).stops l.step.by.0) = subst (λ (n : ℕ). Rose ((v x).stops l.step.by.0) n) (sym (said.stops l.step.by.0)) (left.stopped refl) in
-      let same_cut : cut_of l ≡ l.given.sight.cut = member_cut l.step.what l.given.sight.cut member in let after : Proceeds (v y) (v z) = proceeds_of (v y) (v z) said.acts.goes in record {
-        goes = proceeds_on (v x) (v y) (v z) left.goes after;
-        stays = λ d other is. said.acts.goes.lost (Disk d) (left.stays d other is);
-        given = record {
-          shaped = ⊎_elim inl (λ s. inr (if_member l.step.what _ (shaped_as_later (v x) (v y) (v z) after l (admitted_at l) s))) left.shaped;
-          right = λ t. right_of l.scene l.step.by l.number l.given l.step.what member (left.right t);
-        };
-        honest = λ t. if_member l.step.what _ (subst (λ (c : Option Cut). IsHonestAs l (admitted_at l) c (v x) (v z)) (sym same_cut)
-            (finds_later (v x) (v y) (v z) after l.scene.queue.config.groups l.step.by l.given.sight.finds _ (left.honest t)));
-        stay = λ t. member_stays l.step.what (named_as l (admitted_at l) (cut_of l)) (v x) (v z) member (subst (λ (c : Option Cut). StaysAs l (admitted_at l) c (v x) (v z)) (sym same_cut)
-            (stays_on (named_as l (admitted_at l) l.given.sight.cut) (v x) (v y) (v z) (left.stay t) (console_stays (v y) (v z) said.acts)));
-        cut = subst (λ (c : Option Cut). CutsAs {T = Unit {0}} (Ok tt) l.step.by c (v x) (v z)) (sym same_cut) (cut_as l.step.by (pieces_at l) l.given.sight.cut (v x) (v z) left.cut rose
-            (act_after (v y) (v z) (left.spares.at_halt refl) said.acted));
-        within = subst (λ (c : Option Cut). IsWithin c (pieces_at l)) (sym same_cut) (within_cut no_node.Halted (pieces_at l) l.given.sight.cut left.cut);
-        why = no_node.Halted;
-        is_why = refl;
-        tight = subst (λ (c : Option Cut). IfIdle (is_work (admitted_at l)) (AtCut (IsTight no_node.Halted) c (pieces_at l))) (sym same_cut) left.tight;
-        broke = λ t. subst (λ (c : Option Cut). AtCut (IsBroken no_node.Halted) c (pieces_at l)) (sym same_cut) (left.broke t);
-        spares = λ m other. said.stops m ∙ left.spares.stops m (inl other);
-        failed = λ e. absurd (cc);
-        batches = subst (λ (bs : List Batched). AreBatched l.step.by (v x).now (v z).now bs left.own) (sym (batches_left l member))
-            (batched_later l.step.by (v x).now (v y).now (v z).now (left_at l).batches left.own said.acts.goes.later left.batches);
-        console = λ t. said.console (tells t) ∙ ap (λ (ls : List Printed). ls ++ whole (closing_line l.step.by l.number closing.Stopped) ∷ []) (left.console t)
-            ∙ append_assoc (console_now (v x)) (left_at l).lines (whole (closing_line l.step.by l.number closing.Stopped) ∷ [])
-            ∙ ap (λ (ls : List Printed). console_now (v x) ++ ls) (ap (λ (ls : List Printed). (left_at l).lines ++ ls) (sym stop_line) ∙ sym (lines_left l member));
-        paper = λ t m. papers_same t m ∙ printed_here plants copies told l x y member left m t;
-        dry = λ t none. papers_on (v x) (v y) (v z) left.goes.later after (left.dry t none) (said.acts.papers (tells t));
-        loses = λ t. subst (λ (d : Option Dev). LosesAs copies.reads (took l) d (v x) (v z)) (sym (loses_none l member)) (λ d. loses_on copies.reads (v x) (v y) (v z) said.acts.goes said.acts.loses (took l) d (left.loses t d));
-        arms = λ m. said.acts.goes.arms m ∙ left.arms m ∙ sym (arms_same plants copies told l x y member left m);
-        volumes = λ t leaves. kept_later (v x) (v y) (v z) left.goes.later after (left.volumes t (leaves_as plants copies told l x y member left l.step.what member leaves))
-            (kept_on (v y) (v z) (said.acts.others (tells t)));
-      }
+abbrev IsUnhalted : Result (Unit {0}) NodeNo → Type 0
+IsUnhalted r = r ≡ Err no_node.Halted → ⊥
 
--- A LINE IN WHICH THE RUN ENDED, nobody having been stopped
-
-ends_by : (e : NodeNo) → e ≢ no_node.Halted → cause_by e ≡ Ends
+ends_by : (e : NodeNo) → IsUnhalted (Err e) → cause_by e ≡ Ends
 ends_by no_node.Halted other = absurd (other refl)
 ends_by _ other = refl
 
-not_stopped : (e : NodeNo) → e ≢ no_node.Halted → is_stop e ≡ false
-not_stopped no_node.Halted other = absurd (other refl)
+not_stopped : (r : Result (Unit {0}) NodeNo) → IsUnhalted r → stopped_in r ≡ false
+not_stopped (Err no_node.Halted) other = absurd (other refl)
 not_stopped _ other = refl
 
-cut_ends : (e : NodeNo) → e ≢ no_node.Halted → (ps : List Piece) (cut : Option Cut) → IsCutBy {T = Unit {0}} (Err e) ps cut → cause_of cut ≡ Some Ends
-cut_ends e other ps None is = absurd is
-cut_ends e other ps (Some cut) is = ap (λ (why : Cause). Some why) (is.cause ∙ ends_by e other)
+cut_so : (r : Result (Unit {0}) NodeNo) → IsUnhalted r → (by : MemberId) (ps : List Piece) (cut : Option Cut) (old new : View) → IsCutBy r ps cut → new.stops by.0 ≡ old.stops by.0 → CutsAs r by cut old new
+cut_so (Ok done) other by ps cut old new is up = subst (λ (c : Option Cut). CutsAs {T = Unit {0}} (Ok done) by c old new) (sym is) up
+cut_so (Err e) other by ps None old new is up = absurd is
+cut_so (Err e) other by ps (Some cut) old new is up =
+    (is.cause ∙ ends_by e other, inl (record { why = is.halt; other = λ same. other (ap (λ (k : NodeNo). Err k) same); up = up }))
 
-cut_error : (e : NodeNo) → e ≢ no_node.Halted → (by : MemberId) (ps : List Piece) (cut : Option Cut) (old new : View) → IsCutBy {T = Unit {0}} (Err e) ps cut
-    → new.stops by.0 ≡ old.stops by.0 → CutsAs {T = Unit {0}} (Err e) by cut old new
-cut_error e other by ps None old new is up = absurd is
-cut_error e other by ps (Some cut) old new is up = (is.cause ∙ ends_by e other, inl (record { why = is.halt; other = other; up = up }))
+why_so : (r : Result (Unit {0}) NodeNo) (by : MemberId) (old new : View) → new.stops by.0 ≡ old.stops by.0 → IsWhy r by old new (ended_as r)
+why_so (Ok done) by old new up = refl
+why_so (Err e) by old new up = inl (refl, up)
 
-module _ {P C : Type 0} (plants : PlantGhosts P) (copies : CopyGhosts C) (told : Type 0) (l : LineAt) (x y : Parts P C) (e : NodeNo) (other : e ≢ no_node.Halted)
-    (member : is_of_member l.step.what ≡ true) (left : HasLeft plants copies told l x y (Err e)) where
+-- and nobody said that its member was stopped
+none_said : (r : Result (Unit {0}) NodeNo) → IsUnhalted r → (by : MemberId) (at : ℕ) (ps : List Piece) (cut : Option Cut) → IsCutBy r ps cut → stopped_lines by at (cause_of cut) ≡ []
+none_said (Ok done) other by at ps cut is = ap (λ (c : Option Cut). stopped_lines by at (cause_of c)) is
+none_said (Err e) other by at ps None is = absurd is
+none_said (Err e) other by at ps (Some cut) is = ap (λ (why : Cause). stopped_lines by at (Some why)) (is.cause ∙ ends_by e other)
+
+module _ {P C : Type 0} (plants : PlantGhosts P) (copies : CopyGhosts C) (told : Type 0) (l : LineAt) (x y : Parts P C) (r : Result (Unit {0}) NodeNo) (other : IsUnhalted r)
+    (member : is_of_member l.step.what ≡ true) (left : HasLeft plants copies told l x y r) where
   abbrev w : Parts P C → View
   w z = plants.view z.plant
 
-  pub passed_error : IsPassed told copies.reads l left.own (w x) (w y) (Err e)
-  passed_error = let none_said : stopped_lines l.step.by l.number (cause_of l.given.sight.cut) ≡ [] = ap (λ (c : Option Cause). stopped_lines l.step.by l.number c) (cut_ends e other (pieces_at l) l.given.sight.cut left.cut) in
-      let cut_here : cut_of l ≡ l.given.sight.cut = member_cut l.step.what l.given.sight.cut member in record {
+  pub passed_here : IsPassed told copies.reads l left.own (w x) (w y) r
+  passed_here =
+      let cut_here : cut_of l ≡ l.given.sight.cut = (of_member l member).cut l.given.sight.cut in
+      let up : (w y).stops l.step.by.0 ≡ (w x).stops l.step.by.0 = left.spares.stops l.step.by.0 (inr (not_stopped r other)) in
+      record {
         goes = left.goes;
         stays = left.stays;
         given = given_of plants copies told l x y member left;
         honest = λ t. if_member l.step.what _ (honest_of plants copies told l x y member left t);
         stay = stay_of plants copies told l x y member left;
-        cut = subst (λ (c : Option Cut). CutsAs {T = Unit {0}} (Err e) l.step.by c (w x) (w y)) (sym cut_here)
-            (cut_error e other l.step.by (pieces_at l) l.given.sight.cut (w x) (w y) left.cut (left.spares.stops l.step.by.0 (inr (not_stopped e other))));
-        within = subst (λ (c : Option Cut). IsWithin c (pieces_at l)) (sym cut_here) (within_cut e (pieces_at l) l.given.sight.cut left.cut);
-        why = e;
-        is_why = inl (refl, left.spares.stops l.step.by.0 (inr (not_stopped e other)));
-        tight = subst (λ (c : Option Cut). IfIdle (is_work (admitted_at l)) (AtCut (IsTight e) c (pieces_at l))) (sym cut_here) left.tight;
-        broke = λ t. subst (λ (c : Option Cut). AtCut (IsBroken e) c (pieces_at l)) (sym cut_here) (left.broke t);
+        cut = subst (λ (c : Option Cut). CutsAs r l.step.by c (w x) (w y)) (sym cut_here) (cut_so r other l.step.by (pieces_at l) l.given.sight.cut (w x) (w y) left.cut up);
+        within = subst (λ (c : Option Cut). IsWithin c (pieces_at l)) (sym cut_here) (within_cut r (pieces_at l) l.given.sight.cut left.cut);
+        why = ended_as r;
+        is_why = why_so r l.step.by (w x) (w y) up;
+        tight = subst (λ (c : Option Cut). IfIdle (is_work (admitted_at l)) (AtCut (IsTight (ended_as r)) c (pieces_at l))) (sym cut_here) left.tight;
+        broke = λ t. subst (λ (c : Option Cut). AtCut (IsBroken (ended_as r)) c (pieces_at l)) (sym cut_here) (left.broke t);
         spares = λ m differs. left.spares.stops m (inl differs);
         failed = left.failed;
         batches = subst (λ (bs : List Batched). AreBatched l.step.by (w x).now (w y).now bs left.own) (sym (batches_left l member)) left.batches;
         console = λ t. left.console t ∙ ap (λ (ls : List Printed). console_now (w x) ++ ls)
-            (sym (append-nil (left_at l).lines) ∙ ap (λ (ss : List Said). (left_at l).lines ++ map (λ (s : Said). s.line) ss) (sym none_said) ∙ sym (lines_left l member));
+            (sym (append-nil (left_at l).lines) ∙ ap (λ (ss : List Said). (left_at l).lines ++ map (λ (s : Said). s.line) ss) (sym (none_said r other l.step.by l.number (pieces_at l) l.given.sight.cut left.cut))
+            ∙ sym (lines_left l member));
         paper = λ t m. printed_here plants copies told l x y member left m t;
         dry = left.dry;
         loses = λ t. subst (λ (d : Option Dev). LosesAs copies.reads (took l) d (w x) (w y)) (sym (loses_none l member)) (left.loses t);
         arms = λ m. left.arms m ∙ sym (arms_same plants copies told l x y member left m);
-        volumes = λ t leaves. left.volumes t (leaves_as plants copies told l x y member left l.step.what member leaves);
+        volumes = λ t leaves. left.volumes t ((of_member l member).leaves leaves);
       }
-
--- WHAT THE OPERATOR SAYS, in the words of a run
-
-module _ {P C : Type 0} (plants : PlantGhosts P) (copies : CopyGhosts C) where
-  cause_said : (x y : Parts P C) (result : Result (Unit {0}) NodeNo) → HasCause result 0 (plants.view x.plant) (plants.view y.plant) → stopped_in result ≡ false
-      → StopCauses plants copies x y result
-  cause_said x y (Err no_node.ConsoleFault) cause up = cause
-  cause_said x y (Err no_node.BothLost) cause up = cause
-  cause_said x y (Err no_node.Halted) cause up = let not_halted : true ≡ false → ⊥ = λ e. absurd (cc) in absurd (not_halted up)
-  cause_said x y _ cause up = tt
-
-  line_said : (by : MemberId) (at : ℕ) (x y : Parts P C) (result : Result (Unit {0}) NodeNo)
-      → console_now (plants.view y.plant) ≡ console_now (plants.view x.plant) ++ stopped_said result by at → SaysStop plants copies by at x y result
-  line_said by at x y (Ok done) is = is
-  line_said by at x y (Err e) is = is ∙ append-nil (console_now (plants.view x.plant))
-
-module _ {P C : Type 0} {plants : PlantGhosts P} {steadies : SteadyGhosts C} {copies : CopyGhosts C} where
-  pub stop_said : (by : MemberId) (at : ℕ) (x y : Complex P C plants steadies copies) (result : Result (Unit {0}) NodeNo)
-      → parts_of y ≡ record (parts_of x) { plant = y.plant } → SaysStopped by at x y result → StopIsSaid by at x y result
-  stop_said by at x y result frame says = record {
-    frame = frame;
-    acts = says.acts;
-    acted = says.acted;
-    stops = λ m. says.spares.stops m (inr refl);
-    cause = cause_said plants copies (parts_of x) (parts_of y) result says.cause says.unhalted;
-    console = λ t. line_said plants copies by at (parts_of x) (parts_of y) result (says.console t);
-  }

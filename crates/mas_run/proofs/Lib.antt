@@ -8,13 +8,16 @@ pub mod JournalLemmas
 pub mod ClosingLemmas
 pub mod AloneLemmas
 pub mod MuteLineLemmas
+pub mod ComesLemmas
 pub mod KnownLemmas
 pub mod ClosesLemmas
 pub mod ReplacingLemmas
+pub mod BookLemmas
 pub mod TurnedLemmas
 pub mod DoneLemmas
 pub mod BarelyLemmas
-pub mod TakesLemmas
+pub mod SeatLemmas
+mod TakesLemmas
 pub mod AskLemmas
 pub mod ArmLemmas
 pub mod CalmRunLemmas

@@ -1,10 +1,10 @@
 -- A stop of a member, a stop that is armed, and the loss of a device, as lines of a script.
-use Rattle.mas_run.proofs.Names.{◌≡◌, ◌≢◌, ◌⊎◌, inl, inr, ⊎_elim, ℕ, ◌+◌, ◌≤◌, not, Bool, true, false, if◌then◌else◌, List, length, Option, None, Ok, le_refl, refl, sym, ◌∙◌, ap, subst, arith, [], ◌∷◌, Result, Err, append-nil, ◌==◌, ◌&&◌, ◌++◌, map, Some, Dev, Ckpt1, Ckpt2, Spool, MemberId, Entry, Config, Queue, steps_most, is_member, runs_keep_configuration, Book, IsMember, after_stop, is_stopped, Fuse, Disk, Ghosts as PlantGhosts, View, disk_now, DiskView, Line, paper_now, Loses, Rose, SameWires, Arms, next, CopyGhosts, SteadyGhosts, IsCkpt, pick, Complex, Elsewhere, kept_all, reserved_after_stop, Parts, parts_of, with_half, no, papers_none, Grows, console_now, VolumesStay, none_lost, Member, journal_of, queue_of, Scene, Batched, Played, is_up, silent, stop, Said, arm, lose, nothing, KeepCopies, Proceeds, StaysLost, same_device, AskLeaves, CutsAs, IfOfMember, IsWithin, LeavesVolumes, arms_then, cut_in, cut_of, is_work, loses_then, named_by, PlayedLine, line_by, HasPlayedLine, is_of_member, LineIsPlayed, BetweenLines, IsBetween, IsShown, IsFlight, Since, none_since, stopped_since, proceeds_of, HaveRead, closing_line, SaysStopped, stopped_said, NodeNo, TellNone, closing_of, whole_later, eqb-true, nat_tests, Batch, Fate, Flying, Ask, Step, Counts, Part, NoMore, SamePapers, counts_of, AreBatched, AtCut, IsBroken, IsTight, Sitting, Admission, IsAskRight, none_given, LineAt, admitted_at, pieces_at, played_at, Cut, Halt, Replaced, settle, AreVolumesKept, kept_none, no_more}
+use Rattle.mas_run.proofs.Names.{◌≡◌, ◌≢◌, ◌⊎◌, inl, inr, ⊎_elim, ℕ, ◌+◌, ◌≤◌, not, Bool, true, false, if◌then◌else◌, List, length, Option, None, Ok, le_refl, refl, sym, ◌∙◌, ap, subst, arith, [], ◌∷◌, Result, Err, append-nil, ◌==◌, ◌&&◌, ◌++◌, map, Some, Dev, Ckpt1, Ckpt2, Spool, MemberId, Entry, Config, Queue, steps_most, is_member, runs_keep_configuration, Book, IsMember, after_stop, is_stopped, Fuse, Disk, PlantGhosts, View, disk_now, DiskView, ViewLine as Line, paper_now, Loses, Rose, SameWires, Arms, next, Ghosts as CopyGhosts, SteadyGhosts, IsCkpt, pick, Complex, Elsewhere, kept_all, reserved_after_stop, Parts, parts_of, with_half, no, papers_none, Grows, console_now, VolumesStay, none_lost, Member, journal_of, queue_of, Scene, Batched, Played, is_up, silent, stop, Said, arm, lose, nothing, KeepCopies, Proceeds, StaysLost, same_device, AskLeaves, CutsAs, IfOfMember, IsWithin, LeavesVolumes, arms_then, cut_in, cut_of, is_work, loses_then, named_by, PlayedLine, line_by, HasPlayedLine, is_of_member, LineIsPlayed, BetweenLines, IsBetween, IsShown, IsFlight, Since, none_since, stopped_since, proceeds_of, HaveRead, closing_line, SaysStopped, stopped_said, NodeNo, TellNone, closing_of, whole_later, eqb-true, nat_tests, Batch, Fate, Flying, Ask, Step, Counts, Part, NoMore, SamePapers, counts_of, AreBatched, AtCut, IsBroken, IsTight, Sitting, Admission, IsAskRight, none_given, LineAt, admitted_at, pieces_at, played_at, Cut, Halt, Replaced, settle, AreVolumesKept, kept_none, no_more}
 use Rattle.script_lang.specs.declared.types.Ask.TheVariants as ask
 use Rattle.member_lines.specs.Stops.{ArmsIf as ArmsThere, ArmsStop, IsAt, Stops, stopped_at}
 use Rattle.mas_run.proofs.ClosesLemmas.{scene_at, shown_at, between_later}
 use Rattle.mas_run.proofs.KnownLemmas.{inside_of}
-use Rattle.mas_run.proofs.CopiesLemmas.{leaves_same}
+use Rattle.mas_run.proofs.CopiesLemmas.{copies_still, leaves_same}
 use Rattle.mas_run.proofs.WireLemmas.{readers_still, mute_carries}
 use Rattle.mas_types.specs.declared.answers.Closing.TheVariants as closing
 use Rattle.mas_run.proofs.TurnedLemmas.{between_said, between_spoken}
@@ -12,22 +12,19 @@ use Rattle.member_node.specs.declared.member.NodeNo.TheVariants as no_node
 use Rattle.mas_run.proofs.LeftLemmas.{if_idle}
 use Rattle.mas_run.proofs.PassedLemmas.{settle_none, renews_mute}
 
-true_false : true ≡ false → ⊥
-true_false e = absurd (cc)
-
 -- WHAT SUCH A LINE NEEDN'T SAY
 
 unasked : (what : Ask) → is_of_member what ≡ false → (P : Type 0) → IfOfMember what P
 unasked ask.Stop none P = tt
 unasked (ask.StopIn fuse n) none P = tt
 unasked (ask.Lose dev) none P = tt
-unasked _ none P = absurd (true_false none)
+unasked _ none P = absurd (no true refl none)
 
 unfound : (S : Scene) (by : MemberId) (at : ℕ) (what : Ask) → is_of_member what ≡ false → IsAskRight S by at none_given what
 unfound S by at ask.Stop none = tt
 unfound S by at (ask.StopIn fuse n) none = tt
 unfound S by at (ask.Lose dev) none = tt
-unfound S by at _ none = absurd (true_false none)
+unfound S by at _ none = absurd (no true refl none)
 
 uncut : (what : Ask) → cut_in what None ≡ None
 uncut ask.Stop = refl
@@ -39,16 +36,13 @@ none_either false ls none = refl
 
 -- what it does, and what the plant shows then
 pub record IsPlain {P C : Type 0} (plants : PlantGhosts P) (told : Type 0) (l : LineAt) (x y : Parts P C) : Type 0 where
-  pub found : (played_at l).outcome.found ≡ Flying
-  pub batches : (played_at l).outcome.batches ≡ []
-  pub said : (played_at l).outcome.said ≡ []
-  pub printed : (played_at l).outcome.printed ≡ []
+  pub lost : Option Dev
+  pub quiet : (played_at l).outcome ≡ record nothing { loses = lost }
   pub goes : Proceeds (plants.view x.plant) (plants.view y.plant)
   pub stops : (m : ℕ) → (plants.view y.plant).stops m ≡ (plants.view x.plant).stops m
   pub console : told → console_now (plants.view y.plant) ≡ console_now (plants.view x.plant)
   pub paper : told → (m : ℕ) → paper_now (plants.view y.plant) m ≡ paper_now (plants.view x.plant) m
   pub dry : told → SamePapers (plants.view x.plant) (plants.view y.plant)
-  pub given : (played_at l).outcome.given ≡ []
   pub wires : told → SameWires (plants.view x.plant) (plants.view y.plant)
   pub loses : told → (d : Dev) → (plants.view y.plant).loses d ≡ loses_then (played_at l).outcome.loses d ((plants.view x.plant).loses d)
   pub arms : (m : ℕ) → (plants.view y.plant).arms m ≡ arms_then l m ((plants.view x.plant).arms m)
@@ -84,10 +78,10 @@ module _ {P C : Type 0} (plants : PlantGhosts P) (copies : CopyGhosts C) (told :
             broke = λ t. if_uncut (IsBroken no_node.Halted);
             spares = λ m other. plain.stops m;
             failed = λ e. absurd (cc);
-            batches = subst (λ (bs : List Batched). AreBatched step.by (plain_view x).now (plain_view y).now bs []) (sym plain.batches) tt;
-            console = λ t. plain.console t ∙ sym (append-nil (console_now (plain_view x))) ∙ ap (λ (ss : List Said). console_now (plain_view x) ++ map (λ (s : Said). s.line) ss) (sym plain.said);
+            batches = subst (λ (bs : List Batched). AreBatched step.by (plain_view x).now (plain_view y).now bs []) (sym (ap (λ o. o.batches) plain.quiet)) tt;
+            console = λ t. plain.console t ∙ sym (append-nil (console_now (plain_view x))) ∙ ap (λ (ss : List Said). console_now (plain_view x) ++ map (λ (s : Said). s.line) ss) (sym (ap (λ o. o.said) plain.quiet));
             paper = λ t m. plain.paper t m ∙ sym (append-nil (paper_now (plain_view x) m))
-                ∙ ap (λ (ls : List Line). paper_now (plain_view x) m ++ ls) (sym (none_either (step.by.0 == m) (played_at l).outcome.printed plain.printed));
+                ∙ ap (λ (ls : List Line). paper_now (plain_view x) m ++ ls) (sym (none_either (step.by.0 == m) (played_at l).outcome.printed (ap (λ o. o.printed) plain.quiet)));
             dry = λ t so. plain.dry t;
             loses = λ t d. inl (plain.loses t d);
             arms = plain.arms;
@@ -96,9 +90,9 @@ module _ {P C : Type 0} (plants : PlantGhosts P) (copies : CopyGhosts C) (told :
           at = (plain_view x).now;
           moment = (omega arith, plain.goes.later);
           batches = plain.journal ∙ sym (settle_none (plain_view x).now (journal_of x)) ∙ sym (append-nil (settle Flying (plain_view x).now (journal_of x)))
-              ∙ ap (λ (f : Fate). settle f (plain_view x).now (journal_of x) ++ []) (sym plain.found);
+              ∙ ap (λ (f : Fate). settle f (plain_view x).now (journal_of x) ++ []) (sym (ap (λ o. o.found) plain.quiet));
           renews = renews_mute None Replaced x.renewals y.renewals (plain_view x) (plain_view y) plain.renewals S.queue.config S.book step.by step.what none;
-          wires = λ t. mute_carries x.since l (played_at l).outcome.given (plain_view x) (plain_view y) plain.given (plain.wires t) S.queue.config S.book step.by step.what none;
+          wires = λ t. mute_carries x.since l (played_at l).outcome.given (plain_view x) (plain_view y) (ap (λ o. o.given) plain.quiet) (plain.wires t) S.queue.config S.book step.by step.what none;
         };
         shows = shows;
       }
@@ -134,16 +128,13 @@ module _ {P C : Type 0} (plants : PlantGhosts P) (told : Type 0) (l : LineAt) (q
 
   quiet_plain : IsPlain plants told l x y
   quiet_plain = record {
-    found = ap (λ o. o.found) quiet;
-    batches = ap (λ o. o.batches) quiet;
-    said = ap (λ o. o.said) quiet;
-    printed = ap (λ o. o.printed) quiet;
+    lost = None;
+    quiet = quiet;
     goes = subst (λ (w : View). Proceeds old w) (sym armed) (armed_goes old (plants.view y.plant));
     stops = λ m. ap (λ (w : View). w.stops m) armed;
     console = λ t. ap console_now armed;
     paper = λ t m. ap (λ (w : View). paper_now w m) armed;
     dry = λ t. subst (λ (w : View). SamePapers old w) (sym armed) (papers_none old);
-    given = ap (λ o. o.given) quiet;
     wires = λ t. subst (λ (w : View). SameWires old w) (sym armed) (armed_wires old (plants.view y.plant));
     loses = λ t d. ap (λ (w : View). w.loses d) armed ∙ sym (ap (λ o. loses_then o.loses d (old.loses d)) quiet);
     arms = counted;
@@ -162,7 +153,7 @@ flight_since b c since (Some es) current is =
     record { batch = is.batch; is = is.is; entries = is.entries; flies = is.flies; stopped = still (is_stopped c is.batch.by) refl } where
       still : (s : Bool) → is_stopped c is.batch.by ≡ s → is_stopped c is.batch.by ≡ true
       still true e = e
-      still false e = absurd (true_false (sym is.stopped ∙ since.up is.batch.by e))
+      still false e = absurd (no true refl (sym is.stopped ∙ since.up is.batch.by e))
 
 module _ {P C : Type 0} (plants : PlantGhosts P) (copies : CopyGhosts C) (told : Type 0) (S : Scene) (by : MemberId) (x y : Parts P C)
     (shown : IsShown plants copies told S x) (queue : queue_of y ≡ queue_of x) (current : y.current ≡ x.current) (printed : y.printed ≡ x.printed) where
@@ -241,13 +232,13 @@ disk_of (Disk d) = d
 disk_of _ = Ckpt1
 
 pub other_disk : (dev d : Dev) → same_device d dev ≡ false → Disk d ≢ Disk dev
-other_disk dev d other same = absurd (true_false (sym (own_dev dev) ∙ ap (λ (k : Dev). same_device k dev) (sym (ap disk_of same)) ∙ other))
+other_disk dev d other same = absurd (no true refl (sym (own_dev dev) ∙ ap (λ (k : Dev). same_device k dev) (sym (ap disk_of same)) ∙ other))
 
 lost_count : (dev d : Dev) (old new : View) → Loses (Disk dev) old new → new.loses d ≡ loses_then (Some dev) d (old.loses d)
 lost_count dev d old new lost = plain_dev (same_device d dev) refl where
   plain_dev : (is : Bool) → same_device d dev ≡ is → new.loses d ≡ (if same_device d dev then next (old.loses d) else old.loses d)
   plain_dev true is = lost.counted d (ap (λ (e : Dev). Disk e) (same_dev d dev is)) ∙ ap (λ (b : Bool). if b then next (old.loses d) else old.loses d) (sym is)
-  plain_dev false is = lost.else_counted d (λ e. absurd (true_false (sym (own_dev dev) ∙ ap (λ (k : Dev). same_device k dev) (sym (ap disk_of e)) ∙ is)))
+  plain_dev false is = lost.else_counted d (λ e. absurd (no true refl (sym (own_dev dev) ∙ ap (λ (k : Dev). same_device k dev) (sym (ap disk_of e)) ∙ is)))
       ∙ ap (λ (b : Bool). if b then next (old.loses d) else old.loses d) (sym is)
 
 pub kept_elsewhere : (dev : Dev) (old new : View) → ((n : ℕ) → Spool n ≢ dev) → Elsewhere dev old new → AreVolumesKept old new
@@ -266,16 +257,13 @@ module _ {P C : Type 0} (plants : PlantGhosts P) (told : Type 0) (tells : told �
 
   lose_plain : IsPlain plants told d x y
   lose_plain = let plain_part : Parts P C → View = λ z. plants.view z.plant in record {
-    found = refl;
-    batches = refl;
-    said = refl;
-    printed = refl;
+    lost = Some dev;
+    quiet = refl;
     goes = proceeds_of (plain_part x) (plain_part y) lost.goes;
     stops = lost.stops;
     console = λ t. (els (tells t)).console (plain_part y).now lost.goes.later (let same : (plain_part y).now ≤ (plain_part y).now = omega arith in same);
     paper = λ t m. (els (tells t)).papers (plain_part y).now lost.goes.later (let same : (plain_part y).now ≤ (plain_part y).now = omega arith in same) m;
     dry = λ t. (els (tells t)).papers;
-    given = refl;
     wires = λ t. (els (tells t)).wires;
     loses = λ t e. lost_count dev e (plain_part x) (plain_part y) lost;
     arms = lost.arms;
@@ -304,7 +292,9 @@ module _ {P C : Type 0} (plants : PlantGhosts P) (copies : CopyGhosts C) (x y : 
 module _ {P C : Type 0} (plants : PlantGhosts P) (copies : CopyGhosts C) (x y : Parts P C) (frame : y ≡ record x { plant = y.plant })
     (same : plants.view y.plant ≡ record (plants.view x.plant) { arms = (plants.view y.plant).arms }) where
   armed_next : (ms : List Member) (at : ℕ) → at ≤ steps_most → IsBetween plants copies x ms at → IsBetween plants copies y ms (at + 1)
-  armed_next ms at few is = let mute_whole : y ≡ record x { plant = y.plant; first_alive = y.first_alive; second_alive = y.second_alive; first_found = y.first_found; second_found = y.second_found } = subst (λ (w : Parts P C). w ≡ record x { plant = w.plant; first_alive = w.first_alive; second_alive = w.second_alive; first_found = w.first_found; second_found = w.second_found }) (sym frame) refl in
+  armed_next ms at few is =
+      let mute_whole : y ≡ record x { plant = y.plant; first_alive = y.first_alive; second_alive = y.second_alive; first_found = y.first_found; second_found = y.second_found } =
+      subst (λ (w : Parts P C). w ≡ record x { plant = w.plant; first_alive = w.first_alive; second_alive = w.second_alive; first_found = w.first_found; second_found = w.second_found }) (sym frame) refl in
       let alive_same2 : y.second_alive ≡ x.second_alive = ap (λ (w : Parts P C). w.second_alive) frame in let alive_same1 : y.first_alive ≡ x.first_alive = ap (λ (w : Parts P C). w.first_alive) frame in
       mute_next plants copies x y mute_whole (subst (λ (w : View). Proceeds (plants.view x.plant) w) (sym same) (armed_goes (plants.view x.plant) (plants.view y.plant)))
       (λ on. sym alive_same1 ∙ on) (λ on. sym alive_same2 ∙ on) (λ t d. ap (λ (w : View). (disk_now w d).bytes) same) (λ t. ap (λ (w : View). console_now w) same) ms at few is
@@ -331,15 +321,8 @@ module _ {P C : Type 0} (plants : PlantGhosts P) (x y : Parts P C) (one : y.firs
     (same : plants.view y.plant ≡ record (plants.view x.plant) { arms = (plants.view y.plant).arms }) where
   still_copies : KeepCopies plants {T = Unit {0}} x y (Ok tt)
   still_copies =
-      record {
-        goes = subst (λ (u : View). Proceeds (plants.view x.plant) u) (sym same) (armed_goes (plants.view x.plant) (plants.view y.plant));
-        failed1 = λ is gone. absurd (no x.first_alive is (sym one ∙ gone));
-        failed2 = λ is gone. absurd (no x.second_alive is (sym two ∙ gone));
-        there1 = λ is there. ap (λ (u : View). u.lost (Disk Ckpt1)) same ∙ there (sym one ∙ is);
-        there2 = λ is there. ap (λ (u : View). u.lost (Disk Ckpt2)) same ∙ there (sym two ∙ is);
-        grow = λ d. inl (ap (λ (u : View). u.loses d) same);
-        left = inl (inr (one, two));
-      }
+      copies_still plants {T = Unit {0}} x y (Ok tt) (subst (λ (u : View). Proceeds (plants.view x.plant) u) (sym same) (armed_goes (plants.view x.plant) (plants.view y.plant))) one two
+      (λ on. ap (λ (u : View). u.lost (Disk Ckpt1)) same) (λ on. ap (λ (u : View). u.lost (Disk Ckpt2)) same) (λ d. ap (λ (u : View). u.loses d) same) (inl (inr (one, two)))
 
 -- A DEVICE THAT IS LOST
 
@@ -354,7 +337,7 @@ module _ {P C : Type 0} (plants : PlantGhosts P) (dev : Dev) (x y : Parts P C) (
   grows d = by_dev (same_device d dev) refl where
     by_dev : (is : Bool) → same_device d dev ≡ is → Grows ((u x).loses d) ((u y).loses d)
     by_dev true is = inr (rose d (sym (same_dev d dev is)))
-    by_dev false is = inl (lost.else_counted d (λ e. absurd (true_false (sym (own_dev dev) ∙ ap (λ (k : Dev). same_device k dev) (sym (ap disk_of e)) ∙ is))))
+    by_dev false is = inl (lost.else_counted d (λ e. absurd (no true refl (sym (own_dev dev) ∙ ap (λ (k : Dev). same_device k dev) (sym (ap disk_of e)) ∙ is))))
 
 module _ {P C : Type 0} {plants : PlantGhosts P} {steadies : SteadyGhosts C} {copies : CopyGhosts C} (x y : Complex P C plants steadies copies) (ms : List Member) (at : ℕ) (by : MemberId)
     (few : at ≤ steps_most) (is : BetweenLines x ms at) where
@@ -381,7 +364,7 @@ module _ {P C : Type 0} {plants : PlantGhosts P} {steadies : SteadyGhosts C} {co
 
     by_test : (t : Bool) → is_member S.queue.config by ≡ t → is_member S.queue.config by ≡ true
     by_test true e = e
-    by_test false e = absurd (true_false (sym up ∙ ap (λ (t : Bool). if t then not (is_stopped S.book by) else false) e))
+    by_test false e = absurd (no true refl (sym up ∙ ap (λ (t : Bool). if t then not (is_stopped S.book by) else false) e))
 
   -- A LINE THAT LEAVES THE PLANT, but for stops that are armed, and all else but the book
 
@@ -552,8 +535,11 @@ module _ {P C : Type 0} {plants : PlantGhosts P} {steadies : SteadyGhosts C} {co
 
     -- two devices that differ
     lost_copies : KeepCopies plants {T = Unit {0}} p q (Ok tt)
-    lost_copies = let apart_by : (e d : Dev) → IsCkpt d → (IsCkpt e → (pick e y.pair.first y.pair.second).alive ≡ false) → (pick d y.pair.first y.pair.second).alive ≡ true → d ≢ e = λ e d ckpt gone on same. no (pick d y.pair.first y.pair.second).alive on (subst (λ (k : Dev). (pick k y.pair.first y.pair.second).alive ≡ false) (sym same) (gone (subst IsCkpt same ckpt))) in
-        let there_then : (d : Dev) (was now : Bool) → ((dev ≡ d) × (now ≡ false)) ⊎ (now ≡ was) → ((now ≡ true) → d ≢ dev) → now ≡ true → (plants.view x.plant).lost (Disk d) ≡ false → (plants.view y.plant).lost (Disk d) ≡ false = λ d was now so apart on there. lost.else_lost (Disk d) (λ e. apart on (ap disk_of e)) ∙ there in
+    lost_copies =
+        let apart_by : (e d : Dev) → IsCkpt d → (IsCkpt e → (pick e y.pair.first y.pair.second).alive ≡ false) → (pick d y.pair.first y.pair.second).alive ≡ true → d ≢ e =
+        λ e d ckpt gone on same. no (pick d y.pair.first y.pair.second).alive on (subst (λ (k : Dev). (pick k y.pair.first y.pair.second).alive ≡ false) (sym same) (gone (subst IsCkpt same ckpt))) in
+        let there_then : (d : Dev) (was now : Bool) → ((dev ≡ d) × (now ≡ false)) ⊎ (now ≡ was) → ((now ≡ true) → d ≢ dev) → now ≡ true → (plants.view x.plant).lost (Disk d) ≡ false → (plants.view y.plant).lost (Disk d) ≡ false =
+        λ d was now so apart on there. lost.else_lost (Disk d) (λ e. apart on (ap disk_of e)) ∙ there in
         record {
           goes = proceeds_of (plants.view x.plant) (plants.view y.plant) lost.goes;
           failed1 = failed_then Ckpt1 p.first_alive q.first_alive first_is;

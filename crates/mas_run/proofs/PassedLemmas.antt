@@ -1,63 +1,24 @@
 -- The lines of a run one after another, and the copies that they replaced.
-use Rattle.mas_run.proofs.Names.{◌≡◌, ◌≢◌, ◌⊎◌, inl, inr, ℕ, suc, ◌+◌, ◌≤◌, ◌==◌, ◌&&◌, Bool, true, false, if◌then◌else◌, List, [], ◌∷◌, ◌++◌, length, map, drop, append_assoc, append-nil, Option, Some, None, Result, Ok, Err, refl, sym, ◌∙◌, ap, subst, arith, ⊎_elim, not, nat_lt, All, map-append, Dev, Spool, Ckpt1, Ckpt2, MemberId, Batch, Fate, Kept, Dropped, Flying, same_member, nobody, is_flying, Step, Ask, Rose, next as next_count, SameWires, top, Fuse, Console, Disk, View, World, disk_now, given_now, paper_now, AreBatched, IsBatched as StandsAs, NoMore, console_now, NodeNo, Cause, Cut, Ends, Stops, Halt, LostAgain, NotLost, Renewed, Replaced, Saying, Writing, fate_found, Armed, Batched, Scene, with_fate, Said, cause_of, counted, counted_at, is_up, run_goes_on, silent, Outcome, console, fate_then, given_on, history_from, outcomes_if, paper_of, scene_if, serves_line, settled, serves_ask, AreRight, Given, RightIf, ask_with, cut_if, given_first, last_cut, outcomes_with, scene_with, admitted_at, played_at, LineAt, AreHistory, HistoriesIsBatched as IsBatched, settle, settled_at, with_found, CutsAs, EndsBy, LinesIsCutAs as IsCutAs, IsUnsaid, MayLoseCopy, StopsUnsaid, arms_by, cut_in, is_takeover, loses_then, taking, is_replaced, same_device, Proceeds, StaysLost, ArePassed, GoesOn, Here, LeaveVolumes, TakeNone, There, arms_after, here_after, line_of, loses_after, IsNext, Passed, AreVolumesKept, by_order, kept_none, more_then, proceeds_none, proceeds_on, eqb-true, nat_tests, Command, JobFields, Config, is_member, BadCard, read_as, text_of, LockNo, Book, is_holder, is_stopped, try_refusal, same_member_is, Deck, Give, Node, Work, Admission, Frees, Locks, Plays, Refused, Replaces, Resets, TakesOver, admitted, asked, command_admitted, deck_admitted, if_granted, no_member, reset_admitted, resets, tries, Carries, AreSettled, settle_still, settle_both, All-head, All-tail, Renewal, Renewals, with_device, is_of_member, Begins, BeginsAndEnds, RenewsAs, RenewsAt, RenewsBy, RenewsIn}
+use Rattle.mas_run.proofs.Names.{◌≡◌, ◌≢◌, ◌⊎◌, inl, inr, ℕ, suc, ◌+◌, ◌≤◌, ◌==◌, ◌&&◌, Bool, true, false, if◌then◌else◌, List, [], ◌∷◌, ◌++◌, length, map, drop, append_assoc, append-nil, Option, Some, None, Result, Ok, Err, refl, sym, ◌∙◌, ap, subst, arith, ⊎_elim, nat_lt, All, map-append, Dev, Spool, Ckpt1, Ckpt2, MemberId, Batch, Fate, Kept, Dropped, Flying, same_member, is_flying, Step, Ask, Rose, next as next_count, SameWires, top, Fuse, Console, Disk, View, World, disk_now, given_now, paper_now, AreBatched, IsBatched as StandsAs, NoMore, console_now, NodeNo, Cause, Cut, Ends, Stops, Halt, LostAgain, NotLost, Renewed, Replaced, Saying, Writing, fate_found, Armed, Batched, Scene, with_fate, Said, cause_of, counted, counted_at, is_up, run_goes_on, silent, Outcome, console, fate_then, given_on, history_from, outcomes_if, paper_of, scene_if, serves_line, settled, serves_ask, AreRight, Given, RightIf, ask_with, cut_if, given_first, last_cut, outcomes_with, scene_with, admitted_at, played_at, LineAt, AreHistory, HistoriesIsBatched as IsBatched, settle, settled_at, with_found, CutsAs, EndsBy, LinesIsCutAs as IsCutAs, IsUnsaid, MayLoseCopy, StopsUnsaid, arms_by, cut_in, is_takeover, loses_then, taking, is_replaced, same_device, Proceeds, StaysLost, ArePassed, GoesOn, Here, LeaveVolumes, TakeNone, There, arms_after, here_after, line_of, loses_after, IsNext, Passed, AreVolumesKept, by_order, kept_none, more_then, proceeds_none, proceeds_on, eqb-true, nat_tests, Config, Book, same_member_is, Line as Node, Admission, Plays, Replaces, admitted, Carries, AreSettled, settle_still, settle_both, All-head, All-tail, Renewal, Renewals, with_device, is_of_member, Begins, BeginsAndEnds, RenewsAs, RenewsAt, RenewsBy, RenewsIn, IsCkpt, of_device, no}
 use Rattle.script_lang.specs.declared.types.Ask.TheVariants as ask
 use Rattle.spool_plant.specs.declared.plant.Fuse.TheVariants as fuse
 use Rattle.member_node.specs.declared.member.NodeNo.TheVariants as no_node
-use Rattle.mas_types.specs.declared.answers.Closing.TheVariants as closing
+use Rattle.mas_run.proofs.ComesLemmas.{Comes, comes, LineCame, NoMember, SaysNo, StillUp, NotGranted, MuteCame, ReplaceCame}
 
 and_none : (b : Bool) → (b && false) ≡ false
 and_none true = refl
 and_none false = refl
 
-true_false : true ≡ false → ⊥
-true_false e = absurd (cc)
-
 module _ (since : ℕ) (l : LineAt) (given : List ℕ) (old new : View) where
   -- ONE THAT ASKS FOR SOMETHING ELSE gives and takes nothing
 
-  abbrev IsSame : Admission → Type 0
-  IsSame a = Carries since l a given old new → SameWires old new
-
-  if_same : (t : Bool) (a b : Admission) → IsSame a → IsSame b → IsSame (if t then a else b)
-  if_same true a b one two = one
-  if_same false a b one two = two
-
-  granted_same : (why : Option LockNo) (a : Admission) → IsSame a → IsSame (if_granted why a)
-  granted_same None a is = is
-  granted_same (Some reason) a is = λ c. c.1
-
-  module _ (config : Config) (b : Book) (by : MemberId) where
-    tries_same : (a : Admission) → IsSame a → IsSame (tries b by a)
-    tries_same a is = granted_same (try_refusal b by false) a is
-
-    deck_same : (text : List (List ℕ)) (said : Result JobFields BadCard) → IsSame (deck_admitted b by text said)
-    deck_same text (Err bad) = λ c. c.1
-    deck_same text (Ok fields) = tries_same (Plays (Deck fields text)) (λ c. c)
-
-    reset_same : (of : MemberId) → IsSame (reset_admitted config b by of)
-    reset_same of = let held_same : (of : MemberId) → IsSame (if is_holder b of then TakesOver of else tries b by (Resets of)) = λ of. if_same (is_holder b of) (TakesOver of) (tries b by (Resets of)) (λ c. c) (tries_same (Resets of) (λ c. c)) in
-        if_same (not (is_member config of)) (Refused by no_member)
-        (if not (is_stopped b of) then Refused by (closing.Up of) else if is_holder b of then TakesOver of else tries b by (Resets of)) (λ c. c.1)
-        (if_same (not (is_stopped b of)) (Refused by (closing.Up of)) (if is_holder b of then TakesOver of else tries b by (Resets of)) (λ c. c.1) (held_same of))
-
-    command_same : (c : Command) (of : Option MemberId) → IsSame (command_admitted config b by c of)
-    command_same c None = tries_same (Plays (Give c)) (λ k. k)
-    command_same c (Some of) = reset_same of
-
-    asked_same : (what : Ask) → ((n : ℕ) → what ≢ ask.Line n) → IsSame (asked config b by what)
-    asked_same (ask.Deck cards) other = deck_same (text_of cards) (read_as config.node cards)
-    asked_same (ask.Command c) other = command_same c (resets c)
-    asked_same (ask.Work n) other = tries_same (Plays (Work n)) (λ c. c)
-    asked_same (ask.Line n) other = absurd (other n refl)
-    asked_same ask.Lock other = tries_same Locks (λ c. c)
-    asked_same ask.Free other = if_same (is_holder b by) Frees (Refused by closing.NotHolder) (λ c. c) (λ c. c.1)
-    asked_same (ask.Replace dev) other = tries_same (Replaces dev) (λ c. c)
-    asked_same _ other = λ c. c
-
-    admitted_same : (what : Ask) → ((n : ℕ) → what ≢ ask.Line n) → IsSame (admitted config b by what)
-    admitted_same what other =
-        if_same (not (is_member config by)) (Refused nobody no_member) (if is_stopped b by then Refused nobody closing.Down else asked config b by what) (λ c. c.1)
-        (if_same (is_stopped b by) (Refused nobody closing.Down) (asked config b by what) (λ c. c.1) (asked_same what other))
+  same_by : {config : Config} {b : Book} {by : MemberId} {what : Ask} {a : Admission} → Comes config b by what a → ((n : ℕ) → what ≢ ask.Line n) → Carries since l a given old new → SameWires old new
+  same_by (LineCame n got) other c = absurd (other n refl)
+  same_by (NoMember end named) other c = c.1
+  same_by (SaysNo end up named) other c = c.1
+  same_by (StillUp of up member) other c = c.1
+  same_by (NotGranted why up is) other c = c.1
+  same_by _ other c = c
 
   -- ONE THAT SERVES A LINE, by whether it is this line and this member
 
@@ -83,32 +44,25 @@ module _ (since : ℕ) (l : LineAt) (given : List ℕ) (old new : View) where
             subst (λ (k : MemberId). given_now new line k.0 ≡ given_now old line k.0 ++ given) (same_member_is l.step.by m own)
             (c.gives.given line (ap (λ (k : ℕ). Some k) (eqb-true n line is)))
         by_tests true false own is =
-            c.gives.else_given line m.0 (inl (λ same. true_false (sym (own_line same) ∙ is))) ∙ sym (append-nil (given_now old line m.0)) where
+            c.gives.else_given line m.0 (inl (λ same. no true refl (sym (own_line same) ∙ is))) ∙ sym (append-nil (given_now old line m.0)) where
               own_line : Some n ≡ Some line → (n == line) ≡ true
               own_line same = let e : n ≡ line = cc in grind (arith, nat_tests, e)
         by_tests false j own is =
-            c.gives.else_given line m.0 (inr (λ same. true_false (sym (own_member same) ∙ own))) ∙ sym (append-nil (given_now old line m.0)) where
+            c.gives.else_given line m.0 (inr (λ same. no true refl (sym (own_member same) ∙ own))) ∙ sym (append-nil (given_now old line m.0)) where
               own_member : m.0 ≡ l.step.by.0 → same_member l.step.by m ≡ true
               own_member e = grind (arith, nat_tests, e)
 
-      if_gave : (t : Bool) (a c : Admission) → IsGave a → IsGave c → IsGave (if t then a else c)
-      if_gave true a c one two = one
-      if_gave false a c one two = two
-
-      tried_gave : (why : Option LockNo) → IsGave (if_granted why (Plays (Node n)))
-      tried_gave None = served
-      tried_gave (Some reason) = gave_none
-
-      line_gave : IsGave (admitted config b l.step.by (ask.Line n))
-      line_gave =
-          if_gave (not (is_member config l.step.by)) (Refused nobody no_member)
-          (if is_stopped b l.step.by then Refused nobody closing.Down else tries b l.step.by (Plays (Node n))) gave_none
-          (if_gave (is_stopped b l.step.by) (Refused nobody closing.Down) (tries b l.step.by (Plays (Node n))) gave_none (tried_gave (try_refusal b l.step.by false)))
+      line_gave : {a : Admission} → Comes config b l.step.by (ask.Line n) a → IsGave a
+      line_gave (LineCame k got) = served
+      line_gave (MuteCame mute) = absurd (cc)
+      line_gave _ = gave_none
 
     gave_by : (what : Ask) (config : Config) (b : Book) → Carries since l (admitted config b l.step.by what) given old new → Gave (same_member l.step.by m && serves_ask line what)
-    gave_by (ask.Line n) config b c = line_gave n config b c
-    gave_by another config b c = let other_gave : (what : Ask) → ((n : ℕ) → what ≢ ask.Line n) → serves_ask line what ≡ false → (config : Config) (b : Book) → Carries since l (admitted config b l.step.by what) given old new → Gave (same_member l.step.by m && serves_ask line what) = λ what other none config b c. subst Gave (sym (ap (λ (k : Bool). same_member l.step.by m && k) none ∙ and_none (same_member l.step.by m)))
-        (still false (admitted_same config b l.step.by what other c) (λ e. absurd (true_false (sym e)))) in
+    gave_by (ask.Line n) config b c = line_gave n config b (comes config b l.step.by (ask.Line n)) c
+    gave_by another config b c =
+        let other_gave : (what : Ask) → ((n : ℕ) → what ≢ ask.Line n) → serves_ask line what ≡ false → (config : Config) (b : Book) → Carries since l (admitted config b l.step.by what) given old new → Gave (same_member l.step.by m && serves_ask line what) =
+        λ what other none config b c. subst Gave (sym (ap (λ (k : Bool). same_member l.step.by m && k) none ∙ and_none (same_member l.step.by m)))
+        (still false (same_by (comes config b l.step.by what) other c) (λ e. absurd (no true refl (sym e)))) in
         other_gave another (λ n e. absurd (cc)) refl config b c
 
 -- LINES
@@ -289,7 +243,7 @@ LineEnds (Err e) cut = (cut ≢ None) × (e ≢ no_node.Halted)
 
 ends_cause : (answer : Result (Unit {0}) NodeNo) (by : MemberId) (cut : Cut) (why : Cause) (old new : View) → cut.cause ≡ why → run_goes_on (Some why) ≡ false
     → IsCutAs answer by cut old new → LineEnds answer (Some cut)
-ends_cause answer by cut Stops old new is stops so = absurd (true_false stops)
+ends_cause answer by cut Stops old new is stops so = absurd (no true refl stops)
 ends_cause (Ok done) by cut Ends old new is stops so = absurd (clash (sym is ∙ so.0)) where
   clash : Ends ≡ Stops → ⊥
   clash e = absurd (cc)
@@ -309,7 +263,7 @@ ends_cause (Err e) by cut Ends old new is stops so = ((λ none. some none), neve
 
 ends_cut : (answer : Result (Unit {0}) NodeNo) (by : MemberId) (cut : Option Cut) (old new : View) → run_goes_on (cause_of cut) ≡ false
     → CutsAs answer by cut old new → LineEnds answer cut
-ends_cut answer by None old new stops so = absurd (true_false stops)
+ends_cut answer by None old new stops so = absurd (no true refl stops)
 ends_cut (Ok done) by (Some cut) old new stops so = ends_cause (Ok done) by cut cut.cause old new refl stops so
 ends_cut (Err e) by (Some cut) old new stops so = ends_cause (Err e) by cut cut.cause old new refl stops so
 
@@ -319,9 +273,9 @@ silent_goes false S T = refl
 
 ends_ask : (S : Scene) (by : MemberId) (at : ℕ) (g : Given) (what : Ask) (answer : Result (Unit {0}) NodeNo) (old new : View)
     → (ask_with S by at g what).goes_on ≡ false → CutsAs answer by (cut_in what g.sight.cut) old new → LineEnds answer g.sight.cut
-ends_ask S by at g ask.Stop answer old new stops so = absurd (true_false (sym (silent_goes (is_up S by) _ _) ∙ stops))
-ends_ask S by at g (ask.StopIn what n) answer old new stops so = absurd (true_false (sym (silent_goes (is_up S by) _ _) ∙ stops))
-ends_ask S by at g (ask.Lose dev) answer old new stops so = absurd (true_false stops)
+ends_ask S by at g ask.Stop answer old new stops so = absurd (no true refl (sym (silent_goes (is_up S by) _ _) ∙ stops))
+ends_ask S by at g (ask.StopIn what n) answer old new stops so = absurd (no true refl (sym (silent_goes (is_up S by) _ _) ∙ stops))
+ends_ask S by at g (ask.Lose dev) answer old new stops so = absurd (no true refl stops)
 ends_ask S by at g _ answer old new stops so = ends_cut answer by g.sight.cut old new stops so
 
 ended_last : (r : Result (Unit {0}) NodeNo) (cut : Option Cut) (many lines : ℕ) → many ≡ 1 → LineEnds r cut → Ended r cut many lines
@@ -407,7 +361,7 @@ no_volume reads (Some found) n old new h = h
 no_volume reads None n old new h = h
 
 no_copy : (reads : List ℕ → Option (List ℕ)) (b : Bool) (found : Fate) (d : Dev) (old new : View) → b ≡ false → MayLoseCopy reads (taking b found) d old new → ⊥
-no_copy reads true found d old new is h = absurd (true_false is)
+no_copy reads true found d old new is h = absurd (no true refl is)
 no_copy reads false found d old new is h = h
 
 loses_once : {A : Type 0} {B : Type 0} → A ⊎ B → (B → ⊥) → A
@@ -563,26 +517,27 @@ settle_none at (b ∷ bs) =
     ap (λ (c : Batch). c ∷ settle Flying at bs) (either_same (is_flying b.fate) b)
     ∙ ap (λ (cs : List Batch). b ∷ cs) (settle_none at bs)
 
--- BATCHES of a line, by a later moment
+-- BATCHES of a line, since an earlier moment and by a later one
 
-stands_later : (f : Fate) (by : MemberId) (x : Batched) (from now later : ℕ) (b : Batch) → now ≤ later → StandsAs f by x from now b → StandsAs f by x from later b
-stands_later Kept by x from now later b le is =
-    record { by_it = is.by_it; entries = is.entries; kept = is.kept; moments = (is.moments.0, is.moments.1, omega (arith, is.moments.2, le)) }
-stands_later Flying by x from now later b le is =
-    record { by_it = is.by_it; entries = is.entries; flies = is.flies; moments = (is.moments.0, omega (arith, is.moments.1, le), is.moments.2) }
-stands_later Dropped by x from now later b le is = absurd is
+stands_within : (f : Fate) (by : MemberId) (x : Batched) (early from now later : ℕ) (b : Batch) → early ≤ from → now ≤ later → StandsAs f by x from now b → StandsAs f by x early later b
+stands_within Kept by x early from now later b since le is =
+    record { by_it = is.by_it; entries = is.entries; kept = is.kept; moments = (omega (arith, is.moments.0, since), is.moments.1, omega (arith, is.moments.2, le)) }
+stands_within Flying by x early from now later b since le is =
+    record { by_it = is.by_it; entries = is.entries; flies = is.flies; moments = (omega (arith, is.moments.0, since), omega (arith, is.moments.1, le), is.moments.2) }
+stands_within Dropped by x early from now later b since le is = absurd is
 
-pub batched_later : (by : MemberId) (from now later : ℕ) (xs : List Batched) (bs : List Batch) → now ≤ later → AreBatched by from now xs bs → AreBatched by from later xs bs
-batched_later by from now later [] [] le are = tt
-batched_later by from now later [] (b ∷ bs) le are = absurd are
-batched_later by from now later (x ∷ xs) [] le are = absurd are
-batched_later by from now later (x ∷ xs) (b ∷ bs) le are = (stands_later x.fate by x from now later b le are.0, batched_later by b.last now later xs bs le are.1)
+pub batched_within : (by : MemberId) (early from now later : ℕ) (xs : List Batched) (bs : List Batch) → early ≤ from → now ≤ later → AreBatched by from now xs bs → AreBatched by early later xs bs
+batched_within by early from now later [] [] since le are = tt
+batched_within by early from now later [] (b ∷ bs) since le are = absurd are
+batched_within by early from now later (x ∷ xs) [] since le are = absurd are
+batched_within by early from now later (x ∷ xs) (b ∷ bs) since le are =
+    (stands_within x.fate by x early from now later b since le are.0, batched_within by b.last b.last now later xs bs (omega arith) le are.1)
 
 -- The copies that lines replace, one line after another.
 
 -- A STEP THAT REPLACES NO COPY on a device has no such admission
 
-device_is : (d e : Dev) → (d ≡ e → ⊥) → same_device d e ≡ false
+pub device_is : (d e : Dev) → (d ≡ e → ⊥) → same_device d e ≡ false
 device_is Ckpt1 Ckpt1 apart = absurd (apart refl)
 device_is Ckpt2 Ckpt2 apart = absurd (apart refl)
 device_is Ckpt1 (Spool n) apart = refl
@@ -594,38 +549,12 @@ device_is (Spool n) (Spool m) apart = by_test (same_device (Spool n) (Spool m)) 
 device_is _ Ckpt2 apart = refl
 device_is _ Ckpt1 apart = refl
 
-module _ (d : Dev) where
-  if_kept : (t : Bool) (a b : Admission) → is_replaced d a ≡ false → is_replaced d b ≡ false → is_replaced d (if t then a else b) ≡ false
-  if_kept true a b one two = one
-  if_kept false a b one two = two
+kept_by : {config : Config} {b : Book} {by : MemberId} {what : Ask} {a : Admission} (d : Dev) → Comes config b by what a → what ≢ ask.Replace d → is_replaced d a ≡ false
+kept_by d (ReplaceCame e got) other = device_is d e (λ same. other (ap (λ (k : Dev). ask.Replace k) (sym same)))
+kept_by d _ other = refl
 
-  granted_kept : (why : Option LockNo) (a : Admission) → is_replaced d a ≡ false → is_replaced d (if_granted why a) ≡ false
-  granted_kept None a is = is
-  granted_kept (Some reason) a is = refl
-
-  module _ (config : Config) (b : Book) (by : MemberId) where
-    deck_kept : (text : List (List ℕ)) (said : Result JobFields BadCard) → is_replaced d (deck_admitted b by text said) ≡ false
-    deck_kept text (Err bad) = refl
-    deck_kept text (Ok fields) = granted_kept (try_refusal b by false) _ refl
-
-    command_kept : (c : Command) (of : Option MemberId) → is_replaced d (command_admitted config b by c of) ≡ false
-    command_kept c None = granted_kept (try_refusal b by false) _ refl
-    command_kept c (Some of) = let reset_kept : (of : MemberId) → is_replaced d (reset_admitted config b by of) ≡ false = λ of. if_kept (not (is_member config of)) _ _ refl
-        (if_kept (not (is_stopped b of)) _ _ refl (if_kept (is_holder b of) _ _ refl (granted_kept (try_refusal b by false) _ refl))) in
-        reset_kept of
-
-    asked_kept : (what : Ask) → what ≢ ask.Replace d → is_replaced d (asked config b by what) ≡ false
-    asked_kept (ask.Deck cards) other = deck_kept (text_of cards) (read_as config.node cards)
-    asked_kept (ask.Command c) other = command_kept c (resets c)
-    asked_kept ask.Free other = if_kept (is_holder b by) _ _ refl refl
-    asked_kept (ask.Replace e) other = granted_kept (try_refusal b by false) _ (device_is d e (λ same. other (ap (λ (k : Dev). ask.Replace k) (sym same))))
-    asked_kept ask.Stop other = refl
-    asked_kept (ask.StopIn fuse n) other = refl
-    asked_kept (ask.Lose dev) other = refl
-    asked_kept _ other = granted_kept (try_refusal b by false) _ refl
-
-    not_replaced : (what : Ask) → what ≢ ask.Replace d → is_replaced d (admitted config b by what) ≡ false
-    not_replaced what other = if_kept (not (is_member config by)) _ _ refl (if_kept (is_stopped b by) _ _ refl (asked_kept what other))
+not_replaced : (d : Dev) (config : Config) (b : Book) (by : MemberId) (what : Ask) → what ≢ ask.Replace d → is_replaced d (admitted config b by what) ≡ false
+not_replaced d config b by what other = kept_by d (comes config b by what) other
 
 -- OF A LATER VIEW
 
@@ -655,11 +584,11 @@ pub renews_later : (a : Admission) (cut : Option Cut) (found : Renewed) (rs is :
 renews_later (Replaces dev) cut found rs is old new later on r = in_later dev rs is old new later on cut found r
 renews_later _ cut found rs is old new later on r = r
 
--- where a line was cut because its member was stopped, it is cut as well where the run ended
-pub renews_ended : (a : Admission) (cut : Cut) (found : Renewed) (rs is : Renewals) (old new : View)
-    → RenewsAs a (Some cut) found rs is old new → RenewsAs a (Some (record cut { cause = Ends })) found rs is old new
-renews_ended (Replaces dev) cut found rs is old new r = r
-renews_ended _ cut found rs is old new r = r
+-- whyever it was cut
+pub renews_caused : (a : Admission) (cut : Cut) (why : Cause) (found : Renewed) (rs is : Renewals) (old new : View)
+    → RenewsAs a (Some cut) found rs is old new → RenewsAs a (Some (record cut { cause = why })) found rs is old new
+renews_caused (Replaces dev) cut why found rs is old new r = r
+renews_caused _ cut why found rs is old new r = r
 
 -- a line that replaces none leaves the moments as they were
 pub renews_none : (a : Admission) (cut : Option Cut) (found : Renewed) (rs is : Renewals) (old new : View) → ((dev : Dev) → a ≡ Replaces dev → ⊥) → is ≡ rs
@@ -669,63 +598,60 @@ renews_none _ cut found rs is old new other same = same
 
 -- and so does a line that isn't one of a member
 module _ (cut : Option Cut) (found : Renewed) (rs is : Renewals) (old new : View) (same : is ≡ rs) where
-  if_renews : (t : Bool) (a b : Admission) → RenewsAs a cut found rs is old new → RenewsAs b cut found rs is old new → RenewsAs (if t then a else b) cut found rs is old new
-  if_renews true a b one two = one
-  if_renews false a b one two = two
-
-  asked_mute : (config : Config) (b : Book) (by : MemberId) (what : Ask) → is_of_member what ≡ false → RenewsAs (asked config b by what) cut found rs is old new
-  asked_mute config b by ask.Stop mute = same
-  asked_mute config b by (ask.StopIn fuse n) mute = same
-  asked_mute config b by (ask.Lose dev) mute = same
-  asked_mute config b by (ask.Command c) mute = absurd (cc)
-  asked_mute config b by _ mute = absurd (cc)
+  mute_renews : {config : Config} {b : Book} {by : MemberId} {what : Ask} {a : Admission} → Comes config b by what a → is_of_member what ≡ false → RenewsAs a cut found rs is old new
+  mute_renews (ReplaceCame dev got) mute = absurd (cc)
+  mute_renews _ mute = same
 
   pub renews_mute : (config : Config) (b : Book) (by : MemberId) (what : Ask) → is_of_member what ≡ false → RenewsAs (admitted config b by what) cut found rs is old new
-  renews_mute config b by what mute = if_renews (not (is_member config by)) _ _ same (if_renews (is_stopped b by) _ _ same (asked_mute config b by what mute))
+  renews_mute config b by what mute = mute_renews (comes config b by what) mute
 
 -- and so does one that was cut before its first act
 pub renews_unbegun : (a : Admission) (cause : Cause) (found : Renewed) (rs : Renewals) (v : View) → RenewsAs a (Some (record { sittings = 0; halt = Writing 0 None; cause = cause })) found rs rs v v
 renews_unbegun (Replaces dev) cause found rs v = inl refl
 renews_unbegun _ cause found rs v = refl
 
--- WHAT STAYS of a list, where another copy is replaced
+-- WHAT STAYS of the copy on a device, where another is replaced
 
-module _ (f : Renewals → List Renewal) (dev : Dev) (keeps : (of : List Renewal) (rs : Renewals) → f (with_device dev of rs) ≡ f rs) (rs is : Renewals) (old new : View) where
-  begun_keeps : (t : Bool) (of : List Renewal) → f (if t then with_device dev of rs else rs) ≡ f rs
-  begun_keeps true of = keeps of rs
+of_apart : (d dev : Dev) → IsCkpt d → same_device d dev ≡ false → (of : List Renewal) (rs : Renewals) → of_device d (with_device dev of rs) ≡ of_device d rs
+of_apart Ckpt1 Ckpt1 ckpt other of rs = absurd (no true refl other)
+of_apart Ckpt1 Ckpt2 ckpt other of rs = refl
+of_apart Ckpt1 (Spool n) ckpt other of rs = refl
+of_apart Ckpt2 Ckpt1 ckpt other of rs = refl
+of_apart Ckpt2 Ckpt2 ckpt other of rs = absurd (no true refl other)
+of_apart Ckpt2 (Spool n) ckpt other of rs = refl
+of_apart (Spool m) dev ckpt other of rs = absurd ckpt
+
+module _ (d : Dev) (ckpt : IsCkpt d) (dev : Dev) (other : same_device d dev ≡ false) (rs is : Renewals) (old new : View) where
+  begun_keeps : (t : Bool) (of : List Renewal) → of_device d (if t then with_device dev of rs else rs) ≡ of_device d rs
+  begun_keeps true of = of_apart d dev ckpt other of rs
   begun_keeps false of = refl
 
-  begins_keeps : Begins dev rs is old new → f is ≡ f rs
-  begins_keeps b = ap f b.is ∙ begun_keeps (nat_lt b.from top) _
+  begins_keeps : Begins dev rs is old new → of_device d is ≡ of_device d rs
+  begins_keeps b = ap (of_device d) b.is ∙ begun_keeps (nat_lt b.from top) _
 
-  ends_keeps : BeginsAndEnds dev rs is old new → f is ≡ f rs
-  ends_keeps b = ap f b.is ∙ keeps _ _ ∙ begun_keeps (nat_lt b.from top) _
+  ends_keeps : BeginsAndEnds dev rs is old new → of_device d is ≡ of_device d rs
+  ends_keeps b = ap (of_device d) b.is ∙ of_apart d dev ckpt other _ _ ∙ begun_keeps (nat_lt b.from top) _
 
-  by_keeps : (found : Renewed) → RenewsBy found dev rs is old new → f is ≡ f rs
+  pub some_keeps : (is ≡ rs) ⊎ (Begins dev rs is old new ⊎ BeginsAndEnds dev rs is old new) → of_device d is ≡ of_device d rs
+  some_keeps r = ⊎_elim (λ same. ap (of_device d) same) (λ x. ⊎_elim begins_keeps ends_keeps x) r
+
+  by_keeps : (found : Renewed) → RenewsBy found dev rs is old new → of_device d is ≡ of_device d rs
   by_keeps Replaced r = ends_keeps r
-  by_keeps NotLost r = ap f r
+  by_keeps NotLost r = ap (of_device d) r
   by_keeps LostAgain r = begins_keeps r
 
-  at_keeps : (halt : Halt) (found : Renewed) → RenewsAt halt found dev rs is old new → f is ≡ f rs
+  at_keeps : (halt : Halt) (found : Renewed) → RenewsAt halt found dev rs is old new → of_device d is ≡ of_device d rs
   at_keeps (Saying n tail) found r = by_keeps found r
-  at_keeps _ found r = let some_keeps : (is ≡ rs) ⊎ (Begins dev rs is old new ⊎ BeginsAndEnds dev rs is old new) → f is ≡ f rs = λ r. ⊎_elim (λ same. ap f same) (λ x. ⊎_elim begins_keeps ends_keeps x) r in some_keeps r
+  at_keeps _ found r = some_keeps r
 
-  in_keeps : (cut : Option Cut) (found : Renewed) → RenewsIn cut found dev rs is old new → f is ≡ f rs
+  in_keeps : (cut : Option Cut) (found : Renewed) → RenewsIn cut found dev rs is old new → of_device d is ≡ of_device d rs
   in_keeps None found r = by_keeps found r
   in_keeps (Some cut) found r = at_keeps cut.halt found r
 
-as_keeps : (f : Renewals → List Renewal) (a : Admission) → ((dev : Dev) → a ≡ Replaces dev → (of : List Renewal) (rs : Renewals) → f (with_device dev of rs) ≡ f rs) → (cut : Option Cut) (found : Renewed) (rs is : Renewals) (old new : View)
-    → RenewsAs a cut found rs is old new → f is ≡ f rs
-as_keeps f (Replaces dev) keeps cut found rs is old new r = in_keeps f dev (keeps dev refl) rs is old new cut found r
-as_keeps f _ keeps cut found rs is old new r = ap f r
-
-first_keeps : (dev : Dev) → same_device Ckpt1 dev ≡ false → (of : List Renewal) (rs : Renewals) → (with_device dev of rs).first ≡ rs.first
-first_keeps Ckpt1 other of rs = absurd (true_false other)
-first_keeps _ other of rs = refl
-
-second_keeps : (dev : Dev) → same_device Ckpt2 dev ≡ false → (of : List Renewal) (rs : Renewals) → (with_device dev of rs).second ≡ rs.second
-second_keeps Ckpt2 other of rs = absurd (true_false other)
-second_keeps _ other of rs = refl
+as_keeps : (d : Dev) → IsCkpt d → (a : Admission) → is_replaced d a ≡ false → (cut : Option Cut) (found : Renewed) (rs is : Renewals) (old new : View) → RenewsAs a cut found rs is old new
+    → of_device d is ≡ of_device d rs
+as_keeps d ckpt (Replaces dev) other cut found rs is old new r = in_keeps d ckpt dev other rs is old new cut found r
+as_keeps d ckpt _ other cut found rs is old new r = ap (of_device d) r
 
 -- LINES ONE AFTER ANOTHER, none of which replaces the copy on a device
 
@@ -741,24 +667,14 @@ module _ (told : Type 0) where
       (λ m. passed_stays d (here_after h g step there) (drop 1 gs) steps more end (All-tail (λ (s : Step). s.what ≢ ask.Replace d) step steps none) m.1 now)
       (λ e. ap (λ (x : There). x.view.lost (Disk d)) e.0 ∙ now)
 
-  passed_keeps : (f : Renewals → List Renewal) (d : Dev) → ((dev : Dev) → same_device d dev ≡ false → (of : List Renewal) (rs : Renewals) → f (with_device dev of rs) ≡ f rs)
-      → (h : Here) (gs : List Given) (steps : List Step) (many : ℕ) (end : There) → All (λ (s : Step). s.what ≢ ask.Replace d) steps
-      → ArePassed told h gs steps many end → f end.renewals ≡ f h.renewals
-  passed_keeps f d keeps h gs [] many end none p = ap f p.4
-  passed_keeps f d keeps h gs (step ∷ steps) many end none (there, more, is, next, rest) =
+  pub passed_keeps : (d : Dev) → IsCkpt d → (h : Here) (gs : List Given) (steps : List Step) (many : ℕ) (end : There) → All (λ (s : Step). s.what ≢ ask.Replace d) steps
+      → ArePassed told h gs steps many end → of_device d end.renewals ≡ of_device d h.renewals
+  passed_keeps d ckpt h gs [] many end none p = ap (of_device d) p.4
+  passed_keeps d ckpt h gs (step ∷ steps) many end none (there, more, is, next, rest) =
       let g = given_first gs in
-      let a = admitted_at (line_of h g step) in
       let other = not_replaced d h.scene.queue.config h.scene.book step.by step.what (All-head (λ (s : Step). s.what ≢ ask.Replace d) step steps none) in
-      let now : f there.renewals ≡ f h.renewals =
-      as_keeps f a (λ dev same. keeps dev (sym (ap (λ (b : Admission). is_replaced d b) same) ∙ other)) g.sight.cut g.sight.renewed h.renewals there.renewals h.view there.view next.renews in
-      by_going (played_at (line_of h g step)).goes_on (λ b. f end.renewals ≡ f h.renewals) rest
-      (λ m. passed_keeps f d keeps (here_after h g step there) (drop 1 gs) steps more end (All-tail (λ (s : Step). s.what ≢ ask.Replace d) step steps none) m.1 ∙ now)
-      (λ e. ap (λ (x : There). f x.renewals) e.0 ∙ now)
-
-  pub passed_first : (h : Here) (gs : List Given) (steps : List Step) (many : ℕ) (end : There) → All (λ (s : Step). s.what ≢ ask.Replace Ckpt1) steps
-      → ArePassed told h gs steps many end → end.renewals.first ≡ h.renewals.first
-  passed_first h gs steps many end none p = passed_keeps (λ rs. rs.first) Ckpt1 first_keeps h gs steps many end none p
-
-  pub passed_second : (h : Here) (gs : List Given) (steps : List Step) (many : ℕ) (end : There) → All (λ (s : Step). s.what ≢ ask.Replace Ckpt2) steps
-      → ArePassed told h gs steps many end → end.renewals.second ≡ h.renewals.second
-  passed_second h gs steps many end none p = passed_keeps (λ rs. rs.second) Ckpt2 second_keeps h gs steps many end none p
+      let now : of_device d there.renewals ≡ of_device d h.renewals =
+      as_keeps d ckpt (admitted_at (line_of h g step)) other g.sight.cut g.sight.renewed h.renewals there.renewals h.view there.view next.renews in
+      by_going (played_at (line_of h g step)).goes_on (λ b. of_device d end.renewals ≡ of_device d h.renewals) rest
+      (λ m. passed_keeps d ckpt (here_after h g step there) (drop 1 gs) steps more end (All-tail (λ (s : Step). s.what ≢ ask.Replace d) step steps none) m.1 ∙ now)
+      (λ e. ap (λ (x : There). of_device d x.renewals) e.0 ∙ now)

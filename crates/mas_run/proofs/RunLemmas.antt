@@ -1,6 +1,6 @@
 -- A run, from what its lines leave.
-use Rattle.mas_run.proofs.Names.{◌≡◌, ℕ, suc, ◌+◌, ◌<◌, List, [], ◌∷◌, drop, drop-cons, get_or, length, Result, Ok, Err, refl, sym, ◌∙◌, ap, subst, arith, ◌≢◌, ◌⊎◌, inl, inr, ⊎_elim, ◌≤◌, Bool, true, false, ◌++◌, Option, None, append-nil, Step, Ghosts as PlantGhosts, CopyGhosts, Parts, parts_of, NodeNo, journal_of, Scene, scene_of, line_with, Given, outcomes_with, HasPlayedLine, here_at, there_at, PassesLines, Passed, There, Here, LeaveVolumes, ArePassed, IsShown, Shows, IsLeft, left, Ckpt1, Ckpt2, Spool, Dev, Journal, Queue, Status, IsSound, View, World, disk_now, Disk as DiskPart, Console, Rose, form_reads, NoMore, goes_none, sides_none, SomeAlive, IsBothLost, Renewals, is_open, no_renewals, Renewal, Headline, SteadyGhosts, Complex, Member, Script, has_begun, AreAway, IsAway, OneIsGood, HasLost, IsRun, HavePassed, IsPlay, HasSteps, LinesBegun, LinesEnded, NonePassed, ReplacesNone, WerePlayed, starts, stops, EndsAs, AreVolumesKept, AreVolumesKeptUntil, kept_past, kept_then, Batch, kept_all, AreSettled, end_of, meaning_run as run, IsCausedFrom, status_of, drop-append_seam, KeepCopies, LeavesSome, LeavesCopies, Proceeds, StaysLost, Book, none_out, Cut, right_lines, StandsIn}
-use Rattle.mas_run.proofs.PassedLemmas.{last_line, more_lines, passed_after, passed_goes, Ended as EndedBy, passed_arms, passed_console, passed_ended, passed_failed, passed_gave, passed_history, passed_loses, passed_loses_copies, passed_many, passed_paper, passed_right, passed_volumes, passed_first, passed_second, passed_stays}
+use Rattle.mas_run.proofs.Names.{◌≡◌, ℕ, suc, ◌+◌, ◌<◌, List, [], ◌∷◌, drop, drop-cons, get_or, length, Result, Ok, Err, refl, sym, ◌∙◌, ap, subst, arith, ◌≢◌, ◌⊎◌, inl, inr, ⊎_elim, ◌≤◌, Bool, true, false, ◌++◌, Option, None, append-nil, Step, PlantGhosts, Ghosts as CopyGhosts, Parts, parts_of, NodeNo, journal_of, Scene, scene_of, line_with, Given, outcomes_with, HasPlayedLine, here_at, there_at, PassesLines, Passed, There, Here, LeaveVolumes, ArePassed, IsShown, Shows, IsLeft, left, Ckpt1, Ckpt2, Spool, Dev, Journal, Queue, Status, IsSound, View, World, disk_now, Disk as DiskPart, Console, Rose, form_reads, NoMore, goes_none, sides_none, SomeAlive, IsBothLost, Renewals, is_open, no_renewals, Renewal, Headline, SteadyGhosts, Complex, Member, Script, has_begun, AreAway, IsAway, OneIsGood, HasLost, IsRun, HavePassed, IsPlay, HasSteps, LinesBegun, LinesEnded, NonePassed, ReplacesNone, WerePlayed, starts, stops, EndsAs, AreVolumesKept, AreVolumesKeptUntil, kept_past, kept_then, Batch, kept_all, AreSettled, end_of, meaning_run as run, IsCausedFrom, status_of, drop-append_seam, KeepCopies, LeavesSome, LeavesCopies, Proceeds, StaysLost, Book, none_out, Cut, right_lines, StandsIn}
+use Rattle.mas_run.proofs.PassedLemmas.{last_line, more_lines, passed_after, passed_goes, Ended as EndedBy, passed_arms, passed_console, passed_ended, passed_failed, passed_gave, passed_history, passed_loses, passed_loses_copies, passed_many, passed_paper, passed_right, passed_volumes, passed_keeps, passed_stays}
 use Rattle.run_opening.specs.Openings.{at_end, HasBegunWith, HasNoLines, IsOpenRun}
 use Rattle.mas_run.proofs.CopiesLemmas.{alive_on}
 use Rattle.run_opening.proofs.OpeningLemmas.{safe_of}
@@ -111,8 +111,8 @@ module _ (told : Type 0) (b : LinesBegun) where
         arms = λ m. passed_arms told (starts b) given b.steps many end m (b.view.arms m) refl p;
         volumes = λ t leave. passed_volumes told (starts b) given b.steps many end t leave p;
         stays = λ d none. passed_stays told d (starts b) given b.steps many end none p;
-        unrenewed1 = λ none. passed_first told (starts b) given b.steps many end none p;
-        unrenewed2 = λ none. passed_second told (starts b) given b.steps many end none p;
+        unrenewed1 = λ none. passed_keeps told Ckpt1 tt (starts b) given b.steps many end none p;
+        unrenewed2 = λ none. passed_keeps told Ckpt2 tt (starts b) given b.steps many end none p;
       }
 
 -- AS A RUN HAS THEM, whose journal had these batches before them, and nothing in flight
@@ -273,7 +273,9 @@ module _ {P C : Type 0} {plants : PlantGhosts P} {steadies : SteadyGhosts C} {co
 
   -- a device that is lost stays lost in lines of which none replaces it
   stay_lost : (d : Dev) → ReplacesNone d script.steps → StaysLost d (at_end x) new
-  stay_lost d none = let lines_stay : (tells : Type 0) (b : LinesBegun) (e : LinesEnded) (was : Dev → ℕ) (old : View) (d : Dev) → WerePlayed tells b e was old → ReplacesNone d b.steps → StaysLost d b.view e.view = λ tells b e was old d p none is. ⊎_elim (λ (n : NonePassed b e). ap (λ (v : View). v.lost (DiskPart d)) n.still ∙ is) (λ (h : HavePassed ⊥ b e). h.stays d none is) p.bare in
+  stay_lost d none =
+      let lines_stay : (tells : Type 0) (b : LinesBegun) (e : LinesEnded) (was : Dev → ℕ) (old : View) (d : Dev) → WerePlayed tells b e was old → ReplacesNone d b.steps → StaysLost d b.view e.view =
+      λ tells b e was old d p none is. ⊎_elim (λ (n : NonePassed b e). ap (λ (v : View). v.lost (DiskPart d)) n.still ∙ is) (λ (h : HavePassed ⊥ b e). h.stays d none is) p.bare in
       lines_stay plants.tells first_line final_line (at_end x).loses (at_end x) d p.played none
 
   were_played_since : WerePlayed plants.tells first_line final_line o.first old

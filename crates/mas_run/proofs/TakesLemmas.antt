@@ -1,199 +1,23 @@
 -- A line whose member takes the lock of a stopped member over, and resets that.
-use Rattle.mas_run.proofs.Names.{◌≡◌, ⊎_elim, inl, ℕ, ◌+◌, ◌-◌, true, false, List, [], ◌++◌, set, append-nil, None, Result, Ok, Err, sym, ◌∙◌, ap, subst, slice_get, ◌≤◌, length, refl, arith, inr, ◌<◌, Bool, if◌then◌else◌, ◌∷◌, All, Some, OnOk, slice_set, Option, MemberId, closing_line, Page, Book, after_stop, after_try, IsMember, after_seize, is_holder, is_stopped, left_of as hold_left, Ghosts as PlantGhosts, Line, View, DiskView as Disk, CopyGhosts, goes_on, SteadyGhosts, Complex, Parts, parts_of, console_now, Grows, Member, NodeNo, OtherNotesStay, CopyCauses, CopiesActed, journal_of, seated_in, HasClosed, left_at as closes_at, stopped_so, left_at, IsSeated, IsUnseated, SeatsAndCloses, SeatsBy, Ask, Keep, Locks, admitted, TakesOver, granted_by, tried, Piece, closes_with, fate_found, pieces_of, play_of, Play, holder_of, Scene, flight_found, queue_found, clear, Cause, KeepCopies, LeavesSome, Proceeds, LeftAt, LineIsLeft, left_as, LineDone, line_by, IsBetween, IsShown, BetweenLines, IsFlight, IsMemberUp, LeftBetween, proceeds_of, TellNone, left_tells, untold_then, EachSays, All-nil, All-append, All-cons, All-head, All-tail, Ckpt1, Ckpt2, Spool, Queue, steps_most, page_count, IsSeat, queue_of, pages_of_run, beside_none, aside_then, IsAside, IsQuiet, IsOfEarlier, StandsIn, Since, tried_since, inside_since, seized_since, stopped_now, stopped_since, then_since, Dev, Batch, nobody, run, IsLostOnce, KeepsCounts, in_flight, kept_all, end_of, with_last, counts_of, is_stop, Spares, earlier_kept, IsBetweenSittings, cause_by, MayHold, ByLock, ForStep, Holder, Give, adds_first, left_by, none_left, stopped_by, level_most, LineAt, play_as, IfRuns, settle, settled_at, CopiesLeft, HasTakenOver, IsAfterTakeover, IsUntaken, MayTakeAt, TakeCauses, TakesAndResets, TakesBy, taker_at, untaken_book, IsTaken, entered_same, journal_still, settled_entries, played_in, Entry, Fate, Flying, Rose, with_last-append, LosesAs, IsWhyLost, kept_on}
-use Rattle.member_resets.proofs.Passages.{passage_of}
-use Rattle.mas_run.proofs.ArmLemmas.{HasTurn, admitted_here, none_flies, tested_here, IsTold, turn_halted, turn_quiet, few_levels, left_so, done_at, InArm, InPlace}
-use Rattle.mas_run.proofs.ClosesLemmas.{scene_at, shown_at, Stays, if_ok, stays_stopped}
-use Rattle.mas_run.proofs.ClosingLemmas.{Ending, IsCloser, closing_at, locks_closer, not_lost, seated_left, unseated_left}
-use Rattle.mas_run.proofs.CopiesLemmas.{copies_of, copies_then, said_copies, leaves_same, acted_copies}
-use Rattle.mas_run.proofs.TurnedLemmas.{found_says, line_says, between_after, earlier_more, earlier_now, seat_spoken, earlier_then, HasWritten, IsNowAside, turned, halted_between}
-use Rattle.mas_run.proofs.KnownLemmas.{IsUpMember, IsDown, few_of, inside_of, not_holder, some_of}
-use Rattle.mas_run.proofs.BarelyLemmas.{at_first, begun_sight, first_halt, HasBarelyBegun, MayBegin, begins_left}
+use Rattle.mas_run.proofs.Names.{◌≡◌, ⊎_elim, inl, ℕ, ◌+◌, ◌-◌, true, false, List, [], ◌++◌, set, append-nil, None, Result, Ok, Err, sym, ◌∙◌, ap, subst, slice_get, ◌≤◌, length, refl, arith, inr, ◌<◌, Bool, if◌then◌else◌, ◌∷◌, All, Some, OnOk, slice_set, Option, MemberId, Page, Book, after_stop, IsMember, after_seize, is_holder, is_stopped, left_of as hold_left, PlantGhosts, View, Ghosts as CopyGhosts, SteadyGhosts, Complex, Parts, parts_of, console_now, Grows, Member, NodeNo, OtherNotesStay, journal_of, Ask, admitted, TakesOver, granted_by, tried, Piece, holder_of, Scene, queue_found, KeepCopies, LeavesSome, Proceeds, LineIsLeft, left_as, LineDone, line_by, IsBetween, IsShown, BetweenLines, IsFlight, IsMemberUp, LeftBetween, proceeds_of, untold_then, EachSays, All-nil, All-append, All-cons, All-head, All-tail, Ckpt1, Ckpt2, Spool, Queue, steps_most, page_count, queue_of, IsQuiet, IsOfEarlier, StandsIn, Since, inside_since, seized_since, stopped_now, stopped_since, then_since, Dev, Batch, nobody, run, IsLostOnce, KeepsCounts, PairState, pair_state, in_flight, kept_all, end_of, with_last, counts_of, is_stop, Spares, earlier_kept, IsBetweenSittings, cause_by, MayHold, ByLock, ForStep, Holder, Give, stopped_by, level_most, LineAt, play_as, IfRuns, settle, settled_at, CopiesLeft, HasTakenOver, IsAfterTakeover, IsUntaken, MayTakeAt, TakeCauses, TakesAndResets, TakesBy, taker_at, untaken_book, IsTaken, journal_still, settled_entries, played_in, Entry, Fate, Flying, Rose, with_last-append, LosesAs, IsWhyLost, kept_on}
+use Rattle.mas_run.proofs.ArmLemmas.{admitted_here, IsTold, few_levels, left_so, done_at, InArm, InPlace}
+use Rattle.mas_run.proofs.SeatLemmas.{begun_book}
+use Rattle.mas_run.proofs.CopiesLemmas.{copies_then, leaves_same, acted_copies}
+use Rattle.mas_run.proofs.TurnedLemmas.{earlier_then, HasWritten, IsNowAside, turned, halted_between}
+use Rattle.mas_run.proofs.KnownLemmas.{IsDown, few_of, inside_of, not_holder, some_of}
+use Rattle.mas_run.proofs.ComesLemmas.{IsUpMember}
+use Rattle.mas_run.proofs.BarelyLemmas.{begun_sight, HasBarelyBegun, MayBegin, begins_left}
 use Rattle.mas_run.proofs.DoneLemmas.{reset_says, takes_bare, takes_told, ComesTo}
 use Rattle.mas_run.proofs.JournalLemmas.{queue_met}
 use Rattle.member_resets.proofs.TakenOnLemmas.{may_hold, seized_now, up_still}
 use Rattle.mas_run.proofs.LeftLemmas.{counted_stays}
-use Rattle.mas_types.specs.declared.answers.Closing.TheVariants as closing
-use Rattle.mas_types.specs.declared.commands.Reply.TheVariants as reply
 use Rattle.member_node.specs.declared.member.NodeNo.TheVariants as no_node
 use Rattle.mas_types.specs.declared.commands.Command.TheVariants as command
 
-module _ {P C : Type 0} (plants : PlantGhosts P) (copies : CopyGhosts C) (x : Parts P C) (by : MemberId) (inside : IsMember x.book by) (holds : (after_try x.book by false).holder ≡ by)
-    (mid : Parts P C) (entered : mid ≡ seated_in mid (record x { book = after_try x.book by false })) (acts : CopiesActed plants {T = Unit {0}} by (record x { book = after_try x.book by false }) mid (Ok tt))
-    (n : Member) (id : n.id ≡ by) (at_seat : IsSeat plants copies mid n) (S : Scene) (at : ℕ) (y : Parts P C) (closed : HasClosed plants S by at Locks by mid y (Ok tt))
-    (frame : y ≡ record mid { plant = y.plant }) where
-  locks_next : (ms : List Member) → at ≤ steps_most → x.current ≡ None → IsBetween plants copies x ms at → IsBetween plants copies y (set ms (by.0 - 1) n) (at + 1)
-  locks_next ms few calm is = let locks_notes : OtherNotesStay by x.had y.had = λ k other. ap (λ (w : Parts P C). slice_get w.had k) frame ∙ acts.notes k other in
-      let locks_goes : Proceeds (plants.view x.plant) (plants.view y.plant) = proceeds_of (plants.view x.plant) (plants.view y.plant) (goes_on (plants.view x.plant) (plants.view mid.plant) (plants.view y.plant) acts.on.course.goes closed.acts.goes) in
-      let locks_journal : y.batches ≡ x.batches ++ [] = ap (λ (w : Parts P C). w.batches) frame ∙ ap (λ (w : Parts P C). w.batches) entered ∙ sym (append-nil x.batches) in
-      let seat : IsSeat plants copies y n = subst (λ (w : Parts P C). IsSeat plants copies w n) (sym frame)
-      (seat_spoken plants copies mid y.plant mid.first_alive mid.second_alive mid.first_found mid.second_found (proceeds_of (plants.view mid.plant) (plants.view y.plant) closed.acts.goes) (λ on. on) (λ on. on)
-      (λ t. ap (λ (d : Disk). d.bytes) (closed.acts.disks t Ckpt1)) (λ t. ap (λ (d : Disk). d.bytes) (closed.acts.disks t Ckpt2)) n at_seat) in
-      let locks_base : y.base ≡ x.base = ap (λ (w : Parts P C). w.base) frame ∙ ap (λ (w : Parts P C). w.base) entered in
-      let room : length n.room ≡ page_count x.base.config = sym (pages_of_run y.base [] n.checkpoint n.room seat.still.config seat.between.drawn seat.still.many) ∙ ap (λ (Q : Queue). page_count Q.config) locks_base in
-      let aside : IsAside plants copies y n = aside_then plants copies y y n seat refl (beside_none plants.tells (plants.view y.plant)) seat.still.unreserved in
-      let book : y.book ≡ after_try x.book by false = ap (λ (w : Parts P C). w.book) frame ∙ ap (λ (w : Parts P C). w.book) entered in
-      let locks_since : y.since ≡ x.since = ap (λ (w : Parts P C). w.since) frame ∙ ap (λ (w : Parts P C). w.since) entered in
-      between_after plants copies x y locks_base (subst (λ (b : Book). Since x.book b) (sym book) (tried_since x.book by inside false)) by
-      (inl (ap (λ (b : Book). b.holder) book ∙ holds)) locks_notes n aside room id (λ mine. seat) ms at inside.0 (let le = inside.1 in let booked = is.booked in omega (arith, le, booked)) few is locks_goes.size
-      (earlier_more at y.batches x.batches [] locks_journal (earlier_now at x.batches x.current calm is.earlier) (All-nil (IsOfEarlier (at + 1))))
-      (λ k later less small t.
-      let s = closed.console t in
-      let ls = (left_at S by at Locks s.cut).lines in
-      let Q = queue_found (fate_found Locks clear) S.flight S.queue in
-      untold_then plants copies x y locks_base locks_since is.begun locks_goes.past ls (λ u. s.lines ∙ ap (λ (l : List Line). l ++ ls) (acts.on.apart t).console) k later
-      (left_tells by at s.cut (play_of S by at clear Locks) (S.counts by) (found_says by at true (flight_found (fate_found Locks clear) S.flight) (pieces_of S by at clear Q Locks) (line_says S by at clear Q Locks)) later less small)
-      (is.untold k later (omega (arith, less)) small) t)
-
--- ACTS ON THE COPIES ALONE
-
-module _ {P C : Type 0} (plants : PlantGhosts P) where
-  copies_cause : (by : ℕ) (x y : Parts P C) (r : Result (Unit {0}) NodeNo) → CopyCauses r by x.first_alive y.first_alive x.second_alive y.second_alive (plants.view x.plant) (plants.view y.plant) → LeavesSome plants x y r
-  copies_cause by x y (Err no_node.BothLost) cause = cause
-  copies_cause by x y (Err no_node.Halted) cause = inl cause.0
-  copies_cause by x y (Err no_node.ConsoleFault) cause = absurd cause
-  copies_cause by x y _ cause = inl cause
-
-  pub copies_acted : (by : MemberId) (x y : Parts P C) (r : Result (Unit {0}) NodeNo) → CopiesActed plants by x y r → KeepCopies plants x y r
-  copies_acted by x y r acts = copies_of plants x y r (passage_of x.first_alive y.first_alive x.second_alive y.second_alive (plants.view x.plant) (plants.view y.plant) acts.on.course) (copies_cause by.0 x y r acts.on.cause)
-
--- THE LINE
-
-module _ {P C : Type 0} {plants : PlantGhosts P} {steadies : SteadyGhosts C} {copies : CopyGhosts C} {x mid : Complex P C plants steadies copies} {ms : List Member}
-    {at : ℕ} {by : MemberId} {what : Ask} {m : Member} (turn : HasTurn x mid ms at by what Locks m)
-    (y : Complex P C plants steadies copies) (n : Member) (stays : n.id ≡ m.id) (r : Result (Unit {0}) NodeNo) (frame_y : parts_of y ≡ stopped_so r m.id (seated_in (parts_of y) (parts_of mid)))
-    (locks : SeatsAndCloses m n at Locks mid y r) where
-  abbrev tried_parts : Parts P C
-  tried_parts = record (parts_of x) { book = (after_try x.book by false) }
-
-  abbrev q : Parts P C
-  q = parts_of y
-
-  abbrev u : Parts P C → View
-  u z = plants.view z.plant
-
-  calm : x.current ≡ None
-  calm = (turn_quiet turn).none
-
-  frame_t : q ≡ stopped_so r by (seated_in q tried_parts)
-  frame_t =
-      subst (λ (k : MemberId). q ≡ stopped_so r k (seated_in q tried_parts)) turn.own
-      (subst (λ (w : Parts P C). q ≡ stopped_so r m.id (seated_in q w)) turn.frame frame_y)
-
-  same_t : Stays (seated_in q tried_parts) q
-  same_t = subst (λ (w : Parts P C). Stays (seated_in q tried_parts) w) (sym frame_t) (stays_stopped by (seated_in q tried_parts) r)
-
-  journal : journal_of q ≡ journal_of tried_parts
-  journal = same_t.journal
-
-  printed : q.printed ≡ tried_parts.printed
-  printed = same_t.printed
-
-  abbrev pieces : List Piece
-  pieces = closes_with by at (closing.Reply reply.Plain) Keep
-
-  abbrev line : List ℕ
-  line = closing_line by at (closing.Reply reply.Plain)
-
-  closer : (told : Type 0) (S : Scene) → IsShown plants copies told S (parts_of x) → (e : Ending) → IsCloser (closing_at S at (line_by by what) e pieces) Locks line Keep
-  closer told S shown e = locks_closer S at (line_by by what) e (none_flies plants copies told S (parts_of x) shown calm)
-
-  seats_left_by : (told : Type 0) → IsTold plants told → (S : Scene) → IsShown plants copies told S (parts_of x) → (k : Result (Unit {0}) NodeNo) → SeatsBy plants copies S m n at Locks tried_parts q k
-      → LeftAt plants copies told S at (line_by by what) tried_parts q k
-  seats_left_by told knows S shown k seats = by_answer k seats where
-    here_adm : admitted S.queue.config S.book by what ≡ Locks
-    here_adm = admitted_here plants copies told S (parts_of x) shown by what Locks turn.arm.adm
-
-    seated : (j : Result (Unit {0}) NodeNo) → IsSeated plants copies S m n at Locks tried_parts q j → LeftAt plants copies told S at (line_by by what) tried_parts q j
-    seated j is =
-        seated_left plants copies S at (line_by by what) Locks tried_parts q m turn.own here_adm pieces line Keep (closer told S shown) journal printed told knows n j is (λ e. same_t.renewals)
-        (λ o up. if_ok j _ (λ e. shown.counts o by up))
-
-    by_answer : (j : Result (Unit {0}) NodeNo) → SeatsBy plants copies S m n at Locks tried_parts q j → LeftAt plants copies told S at (line_by by what) tried_parts q j
-    by_answer (Ok done) is = seated (Ok done) is
-    by_answer (Err e) is = ⊎_elim
-        (unseated_left plants copies S at (line_by by what) Locks tried_parts q m turn.own here_adm pieces line Keep (closer told S shown) journal printed told knows (λ cause. same_t.renewals) e) (seated (Err e)) is
-
-  -- WHAT WAS DONE, in either case
-
-  abbrev S0 : Scene
-  S0 = scene_at (parts_of x)
-
-  -- of the plant, the copies and the console
-  record Did (k : Result (Unit {0}) NodeNo) : Type 0 where
-    pub kept : KeepCopies plants tried_parts q k
-    pub up1 : q.first_alive ≡ true → tried_parts.first_alive ≡ true
-    pub up2 : q.second_alive ≡ true → tried_parts.second_alive ≡ true
-    pub goes : Proceeds (u (parts_of x)) (u q)
-    pub wrote : plants.tells → (ls : List Line) × (console_now (u q) ≡ console_now (u (parts_of x)) ++ ls) × TellNone at ls
-    pub notes : OtherNotesStay by (parts_of x).had q.had
-
-  -- of the notes, its own alone may differ
-  own_notes : (had : List (List Page)) → OtherNotesStay m.id (parts_of x).had had → OtherNotesStay by (parts_of x).had had
-  own_notes had notes k other = notes k (λ same. absurd (other (same ∙ ap (λ (j : MemberId). j.0) turn.own)))
-
-  did_unseated : (e : NodeNo) → IsUnseated plants copies S0 m at Locks tried_parts q e → Did (Err e)
-  did_unseated e un = record {
-    kept = copies_acted plants m.id tried_parts q (Err e) un.acts;
-    up1 = un.acts.on.course.alive1;
-    up2 = un.acts.on.course.alive2;
-    goes = proceeds_of (u (parts_of x)) (u q) un.acts.on.course.goes;
-    wrote = λ tells. ([], (un.acts.on.apart tells).console ∙ sym (append-nil (console_now (u (parts_of x)))), (λ k less small es of. tt));
-    notes = own_notes q.had un.acts.notes;
-  }
-
-  did_seated : (k_r : Result (Unit {0}) NodeNo) → IsSeated plants copies S0 m n at Locks tried_parts q k_r → Did k_r
-  did_seated k_r seated = let alive2_stopped : (z : Parts P C) (k : Result (Unit {0}) NodeNo) → (stopped_so k m.id z).second_alive ≡ z.second_alive = λ z k. (stays_stopped m.id z k).alive2 in
-      let alive1_stopped : (z : Parts P C) (k : Result (Unit {0}) NodeNo) → (stopped_so k m.id z).first_alive ≡ z.first_alive = λ z k. (stays_stopped m.id z k).alive1 in
-      let w = seated.mid in
-      let c = seated.closed in
-      record {
-        kept = copies_then plants tried_parts w q k_r (copies_acted plants m.id tried_parts w (Ok tt) seated.acts)
-            (said_copies plants w q k_r c.acts (ap (λ (z : Parts P C). z.first_alive) seated.frame ∙ alive1_stopped (record w { plant = q.plant }) k_r)
-            (ap (λ (z : Parts P C). z.second_alive) seated.frame ∙ alive2_stopped (record w { plant = q.plant }) k_r) (not_lost k_r m.id.0 (u w) (u q) c.cause));
-        up1 = λ is. seated.acts.on.course.alive1 (sym (ap (λ (z : Parts P C). z.first_alive) seated.frame ∙ alive1_stopped (record w { plant = q.plant }) k_r) ∙ is);
-        up2 = λ is. seated.acts.on.course.alive2 (sym (ap (λ (z : Parts P C). z.second_alive) seated.frame ∙ alive2_stopped (record w { plant = q.plant }) k_r) ∙ is);
-        goes = proceeds_of (u (parts_of x)) (u q) (goes_on (u (parts_of x)) (u w) (u q) seated.acts.on.course.goes c.acts.goes);
-        wrote = λ tells.
-            let s = c.console tells in
-            let found = queue_found (fate_found Locks clear) S0.flight S0.queue in (
-              (closes_at S0 m.id at Locks s.cut).lines,
-              s.lines ∙ ap (λ (ls : List Line). ls ++ (closes_at S0 m.id at Locks s.cut).lines) (seated.acts.on.apart tells).console,
-              left_tells m.id at s.cut (play_of S0 m.id at clear Locks) (S0.counts m.id) (found_says m.id at true (flight_found (fate_found Locks clear) S0.flight) (pieces_of S0 m.id at clear found Locks) (line_says S0 m.id at clear found Locks)),
-            );
-        notes = λ k other. ap (λ (h : List (List Page)). slice_get h k) (ap (λ (z : Parts P C). z.had) seated.frame ∙ (stays_stopped m.id (record w { plant = q.plant }) k_r).had) ∙ own_notes w.had seated.acts.notes k other;
-      }
-
-  did_by : (k : Result (Unit {0}) NodeNo) → SeatsBy plants copies S0 m n at Locks tried_parts q k → Did k
-  did_by (Ok done) seats = did_seated (Ok done) seats
-  did_by (Err e) seats = ⊎_elim (did_unseated e) (did_seated (Err e)) seats
-
-  -- IT SAID ITS LINE: it has the lock by LOCK
-
-  -- IT WAS HALTED, and is stopped
-
-  pub seats_done : LineDone x y (set ms (by.0 - 1) n) at by what r
-  seats_done = let book_h : r ≡ Err no_node.Halted → y.book ≡ after_stop (after_try x.book by false) by = λ e. ap (λ (z : Parts P C). z.book) (subst (λ (k : Result (Unit {0}) NodeNo). q ≡ stopped_so k by (seated_in q tried_parts)) e frame_t) in
-      let next_ok : IsSeated plants copies S0 m n at Locks tried_parts q (Ok tt) → IsBetween plants copies q (set ms (by.0 - 1) n) (at + 1) = λ seated. locks_next plants copies (parts_of x) by turn.inside turn.got.holds seated.mid seated.entered (subst (λ (k : MemberId). CopiesActed plants {T = Unit {0}} k tried_parts seated.mid (Ok tt)) turn.own seated.acts) n (stays ∙ turn.own)
-      seated.took.seat S0 at q (subst (λ (k : MemberId). HasClosed plants S0 k at Locks k seated.mid q (Ok tt)) turn.own seated.closed) seated.frame ms turn.arm.few calm turn.arm.is in
-      let since_seated : q.since ≡ (parts_of x).since = same_t.since in let base_seated : q.base ≡ (parts_of x).base = same_t.base in
-      let seats_at : (told : Type 0) (S : Scene) → IsShown plants copies told S (parts_of x) → SeatsBy plants copies S m n at Locks tried_parts q r = λ told S shown. subst (λ (w : Parts P C). SeatsBy plants copies S m n at Locks w q r) turn.frame
-      (locks S (tested_here plants copies told S (parts_of x) shown m.id Locks mid.book (ap (λ (k : MemberId). after_try x.book k false) turn.own ∙ sym (ap (λ (w : Parts P C). w.book) turn.frame)) (λ locked. calm))) in
-      let here : SeatsBy plants copies S0 m n at Locks tried_parts q r = seats_at (Unit {0}) S0 (shown_at plants copies (Unit {0}) (parts_of x) turn.arm.is.stands) in let did : Did r = did_by r here in
-      let left : (told : Type 0) → IsTold plants told → LineIsLeft told at (line_by by what) x y r = λ told knows S shown. seats_left_by told knows S shown r (seats_at told S shown) in record {
-        base = base_seated;
-        since = since_seated;
-        bare = left ⊥ (inl (λ t. t));
-        told = λ tells. left (Unit {0}) (inr (tt, tells));
-        copies_kept = leaves_same plants (parts_of x) q r (did.kept) same_t.renewals did.up1 did.up2;
-        next = if_ok r _ (λ e. next_ok (subst (λ (k : Result (Unit {0}) NodeNo). SeatsBy plants copies S0 m n at Locks tried_parts q k) e here));
-        halted = λ e. turn_halted turn y base_seated since_seated (book_h e) journal did.goes did.notes n (stays ∙ turn.own) did.wrote;
-        seated = λ e. turn.inside;
-      }
-
 -- CALLS ON THE COPIES that may lose one, once
 
-module _ (by : ℕ) (a a' b b' stopped : Bool) (old new : View) (counts : KeepsCounts by a a' b b' stopped old new) where
-  counts_spare : (stopped ≡ true → 1 ≤ by) → Spares by stopped old new
+module _ (by : ℕ) (stopped : Bool) (x y : PairState) (counts : KeepsCounts by stopped x y) where
+  counts_spare : (stopped ≡ true → 1 ≤ by) → Spares by stopped x.view y.view
   counts_spare some = record {
     volumes = λ n. counts.else_loses (Spool n) (λ e. absurd (cc)) (λ e. absurd (cc));
     stops = counts.no_other_stop;
@@ -201,8 +25,8 @@ module _ (by : ℕ) (a a' b b' stopped : Bool) (old new : View) (counts : KeepsC
     at_halt = counts.at_halt;
   }
 
-  counts_lose : (reads : List ℕ → Option (List ℕ)) (found : Fate) → (a ≡ true → a' ≡ false → IsWhyLost reads found Ckpt1 Ckpt2 old new)
-      → (b ≡ true → b' ≡ false → IsWhyLost reads found Ckpt2 Ckpt1 old new) → LosesAs reads (Some found) None old new
+  counts_lose : (reads : List ℕ → Option (List ℕ)) (found : Fate) → (x.first ≡ true → y.first ≡ false → IsWhyLost reads found Ckpt1 Ckpt2 x.view y.view)
+      → (x.second ≡ true → y.second ≡ false → IsWhyLost reads found Ckpt2 Ckpt1 x.view y.view) → LosesAs reads (Some found) None x.view y.view
   counts_lose reads found why1 why2 Ckpt1 = ⊎_elim inl (λ once. inr (once.2, counts.device1.1 once.0 once.1, why1 once.0 once.1)) counts.once1
   counts_lose reads found why1 why2 Ckpt2 = ⊎_elim inl (λ once. inr (once.2, counts.device2.1 once.0 once.1, why2 once.0 once.1)) counts.once2
   counts_lose reads found why1 why2 (Spool n) = inl (counts.else_loses (Spool n) (λ e. absurd (cc)) (λ e. absurd (cc)))
@@ -216,15 +40,15 @@ module _ {P C : Type 0} (plants : PlantGhosts P) (copies : CopyGhosts C) (by of 
   comes_taken told tells found x mid taken = record {
     goes = taken.counts.goes;
     moment = (taken.counts.goes.later, omega arith);
-    spares = counts_spare by.0 x.first_alive mid.first_alive x.second_alive mid.second_alive false (plant_of x) (plant_of mid) taken.counts (λ e. some);
+    spares = counts_spare by.0 false (pair_state plants.view x) (pair_state plants.view mid) taken.counts (λ e. some);
     journal = sym (journal_still mid taken.quiet.none taken.quiet.unplaced) ∙ taken.journal;
     printed = taken.printed;
     console = λ t. (taken.apart (tells t)).console;
     papers = λ t. (taken.apart (tells t)).papers;
     wires = λ t. (taken.apart (tells t)).wires;
-    loses = λ t. counts_lose by.0 x.first_alive mid.first_alive x.second_alive mid.second_alive false (plant_of x) (plant_of mid) taken.counts copies.reads found (taken.left1 (tells t)) (taken.left2 (tells t));
+    loses = λ t. counts_lose by.0 false (pair_state plants.view x) (pair_state plants.view mid) taken.counts copies.reads found (taken.left1 (tells t)) (taken.left2 (tells t));
     volumes = λ t. kept_on (plant_of x) (plant_of mid) (taken.apart (tells t)).volumes;
-    stay = counted_stays by.0 x.first_alive mid.first_alive x.second_alive mid.second_alive false (plant_of x) (plant_of mid) taken.counts;
+    stay = counted_stays by.0 false (pair_state plants.view x) (pair_state plants.view mid) taken.counts;
   }
 
   may_begin : (x y : Parts P C) (e : NodeNo) → TakeCauses plants copies e by x y → MayBegin e
@@ -235,14 +59,14 @@ module _ {P C : Type 0} (plants : PlantGhosts P) (copies : CopyGhosts C) (by of 
   barely_untaken x y e un = let caused_stop : (x y : Parts P C) (e : NodeNo) → TakeCauses plants copies e by x y → e ≡ no_node.Halted → Rose ((plant_of x).stops by.0) ((plant_of y).stops by.0) = λ x y e cause is. subst (λ (k : NodeNo). TakeCauses plants copies k by x y) is cause in
       record {
         goes = un.counts.goes;
-        spares = counts_spare by.0 x.first_alive y.first_alive x.second_alive y.second_alive (is_stop e) (plant_of x) (plant_of y) un.counts (λ is. some);
+        spares = counts_spare by.0 (is_stop e) (pair_state plants.view x) (pair_state plants.view y) un.counts (λ is. some);
         stopped = caused_stop x y e un.cause;
-        loses = λ t. counts_lose by.0 x.first_alive y.first_alive x.second_alive y.second_alive (is_stop e) (plant_of x) (plant_of y) un.counts copies.reads Flying (λ was gone. inl refl) (λ was gone. inl refl);
+        loses = λ t. counts_lose by.0 (is_stop e) (pair_state plants.view x) (pair_state plants.view y) un.counts copies.reads Flying (λ was gone. inl refl) (λ was gone. inl refl);
         console = λ t. (un.apart t).console;
         papers = λ t. (un.apart t).papers;
         wires = λ t. (un.apart t).wires;
         volumes = λ t. kept_on (plant_of x) (plant_of y) (un.apart t).volumes;
-        stay = counted_stays by.0 x.first_alive y.first_alive x.second_alive y.second_alive (is_stop e) (plant_of x) (plant_of y) un.counts;
+        stay = counted_stays by.0 (is_stop e) (pair_state plants.view x) (pair_state plants.view y) un.counts;
         journal = un.journal;
         printed = un.printed;
       }
@@ -291,7 +115,7 @@ module _ {P C : Type 0} (plants : PlantGhosts P) where
   abbrev v : Parts P C → View
   v z = plants.view z.plant
 
-  copies_counted : {T : Type 0} (by : ℕ) (stopped : Bool) (x y : Parts P C) (r : Result T NodeNo) → KeepsCounts by x.first_alive y.first_alive x.second_alive y.second_alive stopped (v x) (v y)
+  copies_counted : {T : Type 0} (by : ℕ) (stopped : Bool) (x y : Parts P C) (r : Result T NodeNo) → KeepsCounts by stopped (pair_state plants.view x) (pair_state plants.view y)
       → LeavesSome plants x y r → KeepCopies plants x y r
   copies_counted by stopped x y r counts left = record {
     goes = proceeds_of (v x) (v y) counts.goes;
@@ -306,17 +130,6 @@ module _ {P C : Type 0} (plants : PlantGhosts P) where
     grow Ckpt1 = grows_once x.first_alive y.first_alive _ _ counts.once1
     grow Ckpt2 = grows_once x.second_alive y.second_alive _ _ counts.once2
     grow (Spool n) = inl (counts.else_loses (Spool n) (λ e. absurd (cc)) (λ e. absurd (cc)))
-
--- WHERE A LINE WAS CUT before its first act its member holds the lock that it took
-
-module _ (by : MemberId) (cause : Cause) (play : Play) (count : ℕ) (up : is_stopped play.book by ≡ false) (mine : play.book.holder ≡ by) where
-  first_book : (locked : Bool) (ps : List Piece) → (adds_first by locked first_halt (none_left by play.book count) ps).book ≡ play.book
-  first_book locked [] = refl
-  first_book true (p ∷ ps) = entered_same play.book by up mine
-  first_book false (p ∷ ps) = refl
-
-  pub begun_book : (left_by by (Some (at_first cause)) play count).book ≡ stopped_by by cause play.book
-  begun_book = ap (λ (b : Book). stopped_by by cause b) (first_book play.locked play.pieces)
 
 if_halted : (e : NodeNo) (b c : Book) → (e ≡ no_node.Halted → b ≡ c) → IfRuns {T = Unit {0}} (Err e) (b ≡ c)
 if_halted no_node.Halted b c f = f refl
@@ -379,7 +192,7 @@ module _ {P C : Type 0} {plants : PlantGhosts P} {steadies : SteadyGhosts C} {co
         let l : LineAt = record { scene = S; number = at; step = line_by by what; given = record { sight = begun_sight (cause_by e); pieces = ps } } in
         let play = play_as l (TakesOver of) in
         book_stopped halted
-        ∙ sym (begun_book by (cause_by e) play (S.counts by) (ap (λ (c : Book). is_stopped c by) (book_here told S shown) ∙ b_up) (ap (λ (c : Book). c.holder) (book_here told S shown) ∙ b_mine)
+        ∙ sym (begun_book by play (S.counts by) (ap (λ (c : Book). is_stopped c by) (book_here told S shown) ∙ b_up) (ap (λ (c : Book). c.holder) (book_here told S shown) ∙ b_mine) (cause_by e)
         ∙ ap (λ (k : NodeNo). stopped_by by (cause_by k) play.book) halted ∙ ap (λ (c : Book). after_stop c by) (book_here told S shown)))
 
     halted_none : e ≡ no_node.Halted → LeftBetween y (set ms (by.0 - 1) n) (at + 1)
@@ -399,7 +212,9 @@ module _ {P C : Type 0} {plants : PlantGhosts P} {steadies : SteadyGhosts C} {co
         (is.untold k later (omega (arith, less)) small) tells)
 
     none_done : LineDone x y (set ms (by.0 - 1) n) at by what r_none
-    none_done = let left_none : (told : Type 0) → IsTold plants told → LineIsLeft told at (line_by by what) x y r_none = λ told knows S shown. begins_left plants copies told knows S at by what p (parts_of y) e (TakesOver of) (admitted_here plants copies told S p shown by what (TakesOver of) adm) renewals (may_begin plants copies by of may.some p (parts_of y) e un.cause)
+    none_done =
+        let left_none : (told : Type 0) → IsTold plants told → LineIsLeft told at (line_by by what) x y r_none =
+        λ told knows S shown. begins_left plants copies told knows S at by what p (parts_of y) e (TakesOver of) (admitted_here plants copies told S p shown by what (TakesOver of) adm) renewals (may_begin plants copies by of may.some p (parts_of y) e un.cause)
         (barely_untaken plants copies by of may.some p (parts_of y) e un) (book_none told S shown) in
         let failed_by : NodeNo → Result (Unit {0}) NodeNo = λ e. Err e in let same_answer : (d e : NodeNo) → failed_by d ≡ failed_by e → d ≡ e = λ d e is. cc in record {
           base = base;

@@ -1,5 +1,5 @@
 -- Where the value stands after a line of a member: after acts on the plant, after a line that was said, and after a step.
-use Rattle.mas_run.proofs.Names.{◌≡◌, ◌≢◌, ◌⊎◌, inl, inr, ⊎_elim, ℕ, zero, suc, ◌+◌, ◌<◌, Bool, true, false, List, [], ◌∷◌, drop, length, take, All, Option, Some, None, refl, sym, subst, arith, ◌≤◌, ◌++◌, ◌∙◌, ap, ◌-◌, set, Result, Ok, Err, OnOk, ◌&&◌, if◌then◌else◌, ◌||◌, is_some, append-nil, All-append, All-cons, All-drop, All-head, All-nil, All-tail, All-take, All-weaker, Closing, MemberId, Batch, Entry, Fate, Dropped, Kept, Queue, run, holder_then, task_most, all_entries, lines_of, sit, Found, Holder, State, Fresh, Told, AreOf, AreBatched, IsBatched, IsBetweenSittings, IsAsideHalt, IsCutIn as IsCutBy, IsOwnPiece, HasCut, Writes, plays_left_of as left_of, play_in, Admission, Denied, Plays, Refused, Replaces, Resets, TakesOver, Unplayed, denied_closing, Left, adds, adds_all, adds_first, batches_cut, begun, cuts_kept_all as kept_all, left_by, none_left, stopped_by, book_cut, Piece, Play, holder_of, once_found, piece_at, pieces_found, pieces_from, pieces_of, replaced_closing, reset_closing, unless_told, after_piece, entered, released_by, spent, Batched, Scene, count_then, with_fate, Begun, Cut, Halt, Sight, Writing, Cause, Stops, Waiting, Ends, IsOfEarlier, StandsIn, AreOfStep, EachSays, closing_of, reply_of, TellNone, Untells, untold_then, left_tells, Dev, Ckpt1, Ckpt2, Page, Config, steps_most, Ghosts as PlantGhosts, Line, View, disk_now, CopyGhosts, page_count, settled_later, Parts, parts_of, batches_left, placed_left, unreserved_in, console_now, Member, IsOpen, IsAtRest, IsSeat, first_half, second_half, HasUntold, queue_of, low_later, IsQuiet, IsAside, Proceeds, AreLarge, AreMembers, IsBetween, IsMemberAt, is_left_held, BetweenLines, LeftBetween, roomy_on, Book, is_holder, is_stopped, IsMember, after_free, beginner, noted, standing, with_holder, after_try, granted, ticked, try_refusal, eqb-true, and_from, length-set, get_or-set_same, length-drop, IsConfig, nobody, is_somebody, IsSound, AreRoomy, AreSettled, in_flight, end_of, with_last, OtherNotesStay, Since, inside_since, piece_since, play_since, play_stops, spent_since, then_since, goes_on, SteadyGhosts, Complex, IsOperatorAway, Goes, NodeNo, MayHold, proceeds_of, nat_tests, Standing, counts_of, journal_of, Release, Inner, Keep, Outer, journal_still, with_last-append, journal_unreserved, settled_unreserved, stands_unreserved}
+use Rattle.mas_run.proofs.Names.{◌≡◌, ◌≢◌, ◌⊎◌, inl, inr, ⊎_elim, ℕ, zero, suc, ◌+◌, ◌<◌, Bool, true, false, List, [], ◌∷◌, drop, length, take, All, Option, Some, None, refl, sym, subst, arith, ◌≤◌, ◌++◌, ◌∙◌, ap, ◌-◌, set, Result, Err, OnOk, ◌&&◌, if◌then◌else◌, ◌||◌, is_some, append-nil, All-append, All-cons, All-drop, All-head, All-nil, All-tail, All-take, All-weaker, Closing, MemberId, Batch, Entry, Fate, Dropped, Kept, Queue, run, holder_then, task_most, all_entries, lines_of, sit, Found, Holder, State, Fresh, Told, AreOf, AreBatched, IsBatched, IsBetweenSittings, IsAsideHalt, IsCutIn as IsCutBy, IsOwnPiece, HasCut, Writes, plays_left_of as left_of, play_in, Admission, Denied, Plays, Refused, Replaces, Resets, TakesOver, Unplayed, denied_closing, Left, adds, adds_all, adds_first, batches_cut, begun, cuts_kept_all as kept_all, left_by, none_left, stopped_by, Piece, Play, holder_of, once_found, piece_at, pieces_found, pieces_from, pieces_of, replaced_closing, reset_closing, unless_told, after_piece, entered, released_by, spent, Batched, Scene, count_then, with_fate, Begun, Cut, Halt, Sight, Writing, Cause, Stops, Waiting, IsOfEarlier, StandsIn, AreOfStep, EachSays, closing_of, reply_of, TellNone, Untells, untold_then, left_tells, Dev, Ckpt1, Ckpt2, Page, Config, steps_most, PlantGhosts, ViewLine as Line, View, disk_now, Ghosts as CopyGhosts, page_count, settled_later, Parts, parts_of, batches_left, placed_left, unreserved_in, console_now, Member, IsOpen, IsAtRest, IsSeat, first_half, second_half, HasUntold, queue_of, low_later, IsQuiet, IsAside, Proceeds, AreLarge, AreMembers, IsBetween, IsMemberAt, is_left_held, BetweenLines, LeftBetween, roomy_on, Book, is_holder, is_stopped, IsMember, after_free, beginner, noted, standing, with_holder, after_try, granted, ticked, try_refusal, eqb-true, and_from, length-set, get_or-set_same, length-drop, IsConfig, nobody, is_somebody, IsSound, AreRoomy, AreSettled, in_flight, end_of, with_last, OtherNotesStay, Since, inside_since, piece_since, play_since, play_stops, spent_since, then_since, goes_on, SteadyGhosts, Complex, IsOperatorAway, Goes, NodeNo, MayHold, proceeds_of, nat_tests, Standing, counts_of, journal_of, Release, Inner, Keep, Outer, journal_still, with_last-append, journal_unreserved, settled_unreserved, stands_unreserved, IsMemberUp, none_since, slice_get, no}
 use Rattle.step_turns.proofs.Causes.{lines_are_caused}
 use Rattle.step_turns.proofs.Sittings.{lines_are_said_at_the_end}
 use Rattle.ckpt_places.specs.declared.places.Place.{Place}
@@ -10,6 +10,8 @@ use Rattle.mas_types.specs.declared.answers.Closing.TheVariants as closing
 use Rattle.mas_types.specs.declared.commands.Reply.TheVariants as reply
 use Rattle.member_node.specs.declared.member.NodeNo.TheVariants as no_node
 use Rattle.run_turns.proofs.Told.{told_or}
+use Rattle.mas_run.proofs.BookLemmas.{adds_keeps, left_keeps}
+use Rattle.mas_run.proofs.LeftLemmas.{on_ok}
 
 -- A SITTING says the lines of a closing as its step is told, and none before
 
@@ -147,6 +149,53 @@ quiet_with plants copies x c o none pages q = record {
   roomy = q.roomy;
 }
 
+-- FROM ONE VALUE TO A LATER ONE of a run
+
+module _ {P C : Type 0} (plants : PlantGhosts P) (copies : CopyGhosts C) (x y : Parts P C) (base : y.base ≡ x.base) (since : Since x.book y.book) where
+  -- a member that noted what it had noted is as it was, at its seat if it holds the lock
+  pub member_on : (j : ℕ) (m : Member) → slice_get y.had m.id.0 ≡ slice_get x.had m.id.0
+      → (IsMemberUp plants copies x m → is_stopped y.book m.id ≡ false → is_holder y.book m.id ≡ true → IsSeat plants copies y m) → IsMemberAt plants copies x j m → IsMemberAt plants copies y j m
+  member_on j m had seat is = record {
+    id = is.id;
+    up = λ up. let was = is.up (since.up m.id up) in record {
+      config = ap (λ (Q : Queue). Q.config) base ∙ was.config;
+      many = was.many ∙ ap (λ (Q : Queue). page_count Q.config) (sym base);
+      idle = was.idle;
+      noted = λ t read. had ∙ was.noted t read;
+      seated = λ holds. seat was up holds;
+    };
+  }
+
+  pub members_on : (from j : ℕ) (ms : List Member) → from ≤ j → ((k : ℕ) (m : Member) → from ≤ k → IsMemberAt plants copies x k m → IsMemberAt plants copies y k m)
+      → AreMembers plants copies x j ms → AreMembers plants copies y j ms
+  members_on from j [] le one are = tt
+  members_on from j (m ∷ ms) le one are = (one j m le are.0, members_on from (j + 1) ms (omega (arith, le)) one are.1)
+
+  -- between two lines, by what may differ
+  pub between_on : Proceeds (plants.view x.plant) (plants.view y.plant) → (ms ns : List Member) (at to : ℕ) → IsBetween plants copies x ms at → StandsIn y.batches y.placed y.book y.current
+      → AreSettled y.batches (plants.view y.plant).now → (is_left_held y.book ≡ false → IsQuiet plants copies y (page_count y.base.config)) → y.reserved ≡ None
+      → AreMembers plants copies y 1 ns → length ns ≡ length ms → y.book.holder.0 ≤ x.base.config.members → y.since ≤ (plants.view y.plant).now
+      → ((k : MemberId) (later : ℕ) → to ≤ later → later ≤ steps_most → HasUntold plants copies y k later) → All (IsOfEarlier to) (y.batches ++ in_flight y.current) → to ≤ steps_most + 1
+      → IsBetween plants copies y ns to
+  between_on goes ms ns at to is stands settled quiet unreserved members many held begun untold earlier few = record {
+    stands = stands;
+    settled = settled;
+    quiet = quiet;
+    unreserved = unreserved;
+    members = members;
+    many = many ∙ is.many ∙ ap (λ (Q : Queue). Q.config.members) (sym base);
+    booked = since.many ∙ is.booked ∙ ap (λ (Q : Queue). Q.config.members) (sym base);
+    held = subst (λ (Q : Queue). y.book.holder.0 ≤ Q.config.members) (sym base) held;
+    config = subst (λ (Q : Queue). IsConfig Q.config) (sym base) is.config;
+    sound = subst IsSound (sym base) is.sound;
+    begun = begun;
+    roomy = λ t. subst (λ (Q : Queue). AreRoomy (plants.view y.plant) Q.config) (sym base) (roomy_on (plants.view x.plant) (plants.view y.plant) x.base.config goes (is.roomy t));
+    large = large_on plants copies x y base goes.size is.large;
+    untold = untold;
+    earlier = earlier;
+    few = few;
+  }
+
 -- The plant went on, and the copies have the bytes that they had; one may count as lost that didn't.
 
 module _ {P C : Type 0} (plants : PlantGhosts P) (copies : CopyGhosts C) (x : Parts P C) (q : P) (is1 is2 : Bool) (found1 found2 : ℕ) (goes : Proceeds (plants.view x.plant) (plants.view q))
@@ -167,7 +216,8 @@ module _ {P C : Type 0} (plants : PlantGhosts P) (copies : CopyGhosts C) (x : Pa
   read2 t = ap (λ (b : List ℕ). copies.reads b) (bytes2 t)
 
   quiet_spoken : (pages : ℕ) → IsQuiet plants copies x pages → IsQuiet plants copies z pages
-  quiet_spoken pages is = let calm_by : (alive alive' : Bool) (place : Place) (count pages : ℕ) → (alive' ≡ true → alive ≡ true) → IsCalm alive place count pages → IsCalm alive' place count pages = λ alive alive' place count pages was is. record { before = is.before; as_many = λ on. is.as_many (was on) } in
+  quiet_spoken pages is =
+      let calm_by : (alive alive' : Bool) (place : Place) (count pages : ℕ) → (alive' ≡ true → alive ≡ true) → IsCalm alive place count pages → IsCalm alive' place count pages = λ alive alive' place count pages was is. record { before = is.before; as_many = λ on. is.as_many (was on) } in
       let open2 : (config : Config) (n pages : ℕ) → IsOpen plants.tells (second_half plants copies x) config n pages → IsOpen plants.tells (second_half plants copies z) config n pages = λ config n pages is. record {
         calm = calm_by x.second_alive is2 (second_half plants copies x).place (second_half plants copies x).count pages alive2 is.calm;
         low = low_later plants.tells x.second_alive is2 config n (second_half plants copies x).read (second_half plants copies z).read alive2 read2 is.low;
@@ -189,7 +239,8 @@ module _ {P C : Type 0} (plants : PlantGhosts P) (copies : CopyGhosts C) (x : Pa
       }
 
   pub seat_spoken : (m : Member) → IsSeat plants copies x m → IsSeat plants copies z m
-  seat_spoken m is = let rest2 : (pages : List Page) → IsAtRest plants.tells (second_half plants copies x) pages → IsAtRest plants.tells (second_half plants copies z) pages = λ pages is. record { before = is.before; as_many = λ on. is.as_many (alive2 on); reads = λ t on. read2 t ∙ is.reads t (alive2 on) } in
+  seat_spoken m is =
+      let rest2 : (pages : List Page) → IsAtRest plants.tells (second_half plants copies x) pages → IsAtRest plants.tells (second_half plants copies z) pages = λ pages is. record { before = is.before; as_many = λ on. is.as_many (alive2 on); reads = λ t on. read2 t ∙ is.reads t (alive2 on) } in
       let rest1 : (pages : List Page) → IsAtRest plants.tells (first_half plants copies x) pages → IsAtRest plants.tells (first_half plants copies z) pages = λ pages is. record { before = is.before; as_many = λ on. is.as_many (alive1 on); reads = λ t on. read1 t ∙ is.reads t (alive1 on) } in
       record {
         still = record {
@@ -211,50 +262,23 @@ module _ {P C : Type 0} (plants : PlantGhosts P) (copies : CopyGhosts C) (x : Pa
         low = is.low;
       }
 
-  member_spoken : (at : ℕ) (m : Member) → IsMemberAt plants copies x at m → IsMemberAt plants copies z at m
-  member_spoken at m is = record {
-    id = is.id;
-    up = λ up. record {
-      config = (is.up up).config;
-      many = (is.up up).many;
-      idle = (is.up up).idle;
-      noted = (is.up up).noted;
-      seated = λ holds. seat_spoken m ((is.up up).seated holds);
-    };
-  }
-
-  members_spoken : (at : ℕ) (ms : List Member) → AreMembers plants copies x at ms → AreMembers plants copies z at ms
-  members_spoken at [] are = tt
-  members_spoken at (m ∷ ms) are = (member_spoken at m are.0, members_spoken (at + 1) ms are.1)
-
   -- entries of earlier lines than one are of earlier lines than a later one
   -- with lines that tell no step from the next number on
   pub between_said : (ms : List Member) (at to : ℕ) → at ≤ to → to ≤ steps_most + 1
       → (plants.tells → (ls : List Line) × (console_now (v z) ≡ console_now (v x) ++ ls)
       × ((k : ℕ) → to ≤ k → k ≤ steps_most → (es : List Entry) → All (λ (e : Entry). e.step ≡ k) es → Untells es ls))
       → IsBetween plants copies x ms at → IsBetween plants copies z ms to
-  between_said ms at to on few lines is = let earlier_to : (at to : ℕ) → at ≤ to → (bs : List Batch) → All (IsOfEarlier at) bs → All (IsOfEarlier to) bs = λ at to on bs are. All-weaker (IsOfEarlier at) (IsOfEarlier to) (λ b of. All-weaker (λ (e : Entry). e.step < at) (λ (e : Entry). e.step < to) (λ e less. omega (arith, less, on)) b.entries of) bs are in
-      record {
-        stands = is.stands;
-        settled = settled_later x.batches (v x).now (v z).now is.settled goes.later;
-        quiet = λ free. quiet_spoken (page_count x.base.config) (is.quiet free);
-        unreserved = is.unreserved;
-        members = members_spoken 1 ms is.members;
-        many = is.many;
-        booked = is.booked;
-        held = is.held;
-        config = is.config;
-        sound = is.sound;
-        begun = let le = is.begun in let later = goes.later in omega (arith, le, later);
-        roomy = λ t. roomy_on (v x) (v z) x.base.config goes (is.roomy t);
-        large = large_on plants copies x z refl goes.size is.large;
-        untold = λ by later le small t.
-            let said = lines t in
-            untold_then plants copies x z refl refl is.begun goes.past said.0 (λ u. said.1) by later
-            (said.2 later le small) (is.untold by later (omega (arith, le, on)) small) t;
-        earlier = earlier_to at to on _ is.earlier;
-        few = few;
-      }
+  between_said ms at to on few lines is =
+      let earlier_to : (at to : ℕ) → at ≤ to → (bs : List Batch) → All (IsOfEarlier at) bs → All (IsOfEarlier to) bs =
+      λ at to on bs are. All-weaker (IsOfEarlier at) (IsOfEarlier to) (λ b of. All-weaker (λ (e : Entry). e.step < at) (λ (e : Entry). e.step < to) (λ e less. omega (arith, less, on)) b.entries of) bs are in
+      let same : Since x.book z.book = none_since x.book in
+      between_on plants copies x z refl same goes ms ms at to is is.stands (settled_later x.batches (v x).now (v z).now is.settled goes.later) (λ free. quiet_spoken (page_count x.base.config) (is.quiet free)) is.unreserved
+      (members_on plants copies x z refl same 1 1 ms (omega arith) (λ k m le its. member_on plants copies x z refl same k m refl (λ was up holds. seat_spoken m (was.seated holds)) its) is.members)
+      refl is.held (let le = is.begun in let later = goes.later in omega (arith, le, later))
+      (λ by later le small t.
+      let said = lines t in
+      untold_then plants copies x z refl refl is.begun goes.past said.0 (λ u. said.1) by later (said.2 later le small) (is.untold by later (omega (arith, le, on)) small) t)
+      (earlier_to at to on _ is.earlier) few
 
   -- a line after which the next one has the next number
   pub between_spoken : (ms : List Member) (at : ℕ) → at ≤ steps_most → (plants.tells → (ls : List Line) × (console_now (v z) ≡ console_now (v x) ++ ls) × TellNone at ls)
@@ -291,31 +315,18 @@ module _ {P C : Type 0} (plants : PlantGhosts P) (copies : CopyGhosts C) (x y : 
       (λ none. let zero_holds : y.book.holder.0 ≡ 0 = ap (λ (m : MemberId). m.0) none in absurd (omega (arith, same, number, some, zero_holds))) holder
 
   other_after : (j : ℕ) (m : Member) → 1 ≤ j → (j ≡ by.0 → ⊥) → IsMemberAt plants copies x j m → IsMemberAt plants copies y j m
-  other_after j m some other is = record {
-    id = is.id;
-    up = λ up. record {
-      config = ap (λ (Q : Queue). Q.config) base ∙ (is.up (since.up m.id up)).config;
-      many = (is.up (since.up m.id up)).many ∙ ap (λ (Q : Queue). page_count Q.config) (sym base);
-      idle = (is.up (since.up m.id up)).idle;
-      noted = λ t read. notes m.id.0 (λ same. absurd (other (sym (ap (λ (k : MemberId). k.0) is.id) ∙ same))) ∙ (is.up (since.up m.id up)).noted t read;
-      seated = λ holds. absurd (other_holds j m.id some is.id other holds);
-    };
-  }
-
-  rest_after : (j : ℕ) (ms : List Member) → by.0 < j → AreMembers plants copies x j ms → AreMembers plants copies y j ms
-  rest_after j [] later are = tt
-  rest_after j (m ∷ ms) later are = (
-    other_after j m (omega (arith, later)) (λ same. absurd (omega (arith, later, same))) are.0,
-    rest_after (j + 1) ms (omega (arith, later)) are.1,
-  )
+  other_after j m some other is =
+      member_on plants copies x y base since j m (notes m.id.0 (λ same. absurd (other (sym (ap (λ (k : MemberId). k.0) is.id) ∙ same)))) (λ was up holds. absurd (other_holds j m.id some is.id other holds)) is
 
   members_after : (n : Member) (j i : ℕ) (ms : List Member) → 1 ≤ j → j + i ≡ by.0 → IsMemberAt plants copies y by.0 n → AreMembers plants copies x j ms
       → AreMembers plants copies y j (set ms i n)
   members_after n j zero [] some at its are = tt
   members_after n j (suc i) [] some at its are = tt
   members_after n j zero (m ∷ ms) some at its are =
-      let here : by.0 ≡ j = omega (arith, at) in
-      (subst (λ (k : ℕ). IsMemberAt plants copies y k n) here its, rest_after (j + 1) ms (omega (arith, at)) are.1)
+      let here : by.0 ≡ j = omega (arith, at) in (
+        subst (λ (k : ℕ). IsMemberAt plants copies y k n) here its,
+        members_on plants copies x y base since (by.0 + 1) (j + 1) ms (omega (arith, at)) (λ k o le is. other_after k o (omega (arith, le)) (λ same. absurd (omega (arith, le, same))) is) are.1,
+      )
   members_after n j (suc i) (m ∷ ms) some at its are =
       (other_after j m some (λ same. absurd (omega (arith, at, same))) are.0, members_after n (j + 1) i ms (omega arith) (omega (arith, at)) its are.1)
 
@@ -335,36 +346,21 @@ module _ {P C : Type 0} (plants : PlantGhosts P) (copies : CopyGhosts C) (x y : 
 
     -- nothing is in flight
     pub between_after : (ms : List Member) (at : ℕ) → 1 ≤ by.0 → by.0 ≤ x.base.config.members → at ≤ steps_most → IsBetween plants copies x ms at
-        → ((d : Dev) → (plants.view y.plant).size d ≡ (plants.view x.plant).size d) → All (IsOfEarlier (at + 1)) y.batches
+        → Proceeds (plants.view x.plant) (plants.view y.plant) → All (IsOfEarlier (at + 1)) y.batches
         → ((k : MemberId) (later : ℕ) → at < later → later ≤ steps_most → HasUntold plants copies y k later)
         → IsBetween plants copies y (set ms (by.0 - 1) n) (at + 1)
-    between_after ms at some within few is size own untold = let earlier_after : (at : ℕ) → All (IsOfEarlier at) y.batches → All (IsOfEarlier at) (y.batches ++ in_flight y.current) = λ at own. subst (λ (bs : List Batch). All (IsOfEarlier at) bs) (sym (ap (λ (c : Option Batch). y.batches ++ in_flight c) aside.quiet.none ∙ append-nil y.batches)) own in
+    between_after ms at some within few is goes own untold =
+        let earlier_after : (at : ℕ) → All (IsOfEarlier at) y.batches → All (IsOfEarlier at) (y.batches ++ in_flight y.current) = λ at own. subst (λ (bs : List Batch). All (IsOfEarlier at) bs) (sym (ap (λ (c : Option Batch). y.batches ++ in_flight c) aside.quiet.none ∙ append-nil y.batches)) own in
         let same_room : length n.room ≡ page_count y.base.config = room ∙ ap (λ (Q : Queue). page_count Q.config) (sym base) in
-        let quiet_after : IsQuiet plants copies y (page_count y.base.config) = subst (λ (k : ℕ). IsQuiet plants copies y k) same_room aside.quiet in
         let its_member : IsMemberAt plants copies y by.0 n = let holds_by : is_holder y.book n.id ≡ true → y.book.holder ≡ by = λ holds. let same : y.book.holder.0 ≡ n.id.0 = eqb-true y.book.holder.0 n.id.0 holds in
         ap (λ (k : ℕ). let m : MemberId = record { 0 = k } in m) same ∙ id in
         record {
           id = id;
           up = λ up. record { config = aside.config; many = same_room; idle = aside.idle; noted = aside.noted; seated = λ holds. seat (holds_by holds) };
         } in
-        record {
-          stands = stands_none y.current aside.quiet.none;
-          settled = aside.quiet.kept;
-          quiet = λ free. quiet_after;
-          unreserved = aside.quiet.unreserved;
-          members = members_after n 1 (by.0 - 1) ms (omega arith) (omega (arith, some)) its_member is.members;
-          many = length-set ms (by.0 - 1) n ∙ is.many ∙ ap (λ (Q : Queue). Q.config.members) (sym base);
-          booked = since.many ∙ is.booked ∙ ap (λ (Q : Queue). Q.config.members) (sym base);
-          held = subst (λ (Q : Queue). y.book.holder.0 ≤ Q.config.members) (sym base) (held_within within);
-          config = subst (λ (Q : Queue). IsConfig Q.config) (sym base) is.config;
-          sound = subst IsSound (sym base) is.sound;
-          begun = aside.quiet.begun;
-          roomy = aside.quiet.roomy;
-          large = large_on plants copies x y base size is.large;
-          untold = λ k later le small. untold k later (omega (arith, le)) small;
-          earlier = earlier_after (at + 1) own;
-          few = omega (arith, few);
-        }
+        between_on plants copies x y base since goes ms (set ms (by.0 - 1) n) at (at + 1) is (stands_none y.current aside.quiet.none) aside.quiet.kept
+        (λ free. subst (λ (k : ℕ). IsQuiet plants copies y k) same_room aside.quiet) aside.quiet.unreserved (members_after n 1 (by.0 - 1) ms (omega arith) (omega (arith, some)) its_member is.members)
+        (length-set ms (by.0 - 1) n) (held_within within) aside.quiet.begun (λ k later le small. untold k later (omega (arith, le)) small) (earlier_after (at + 1) own) (omega (arith, few))
 
   -- THE LINE'S MEMBER was halted in it, and is stopped
 
@@ -374,25 +370,10 @@ module _ {P C : Type 0} (plants : PlantGhosts P) (copies : CopyGhosts C) (x y : 
         → All (IsOfEarlier (at + 1)) (y.batches ++ in_flight y.current) → y.since ≡ x.since → Proceeds (plants.view x.plant) (plants.view y.plant)
         → ((k : MemberId) (later : ℕ) → at < later → later ≤ steps_most → HasUntold plants copies y k later)
         → IsBetween plants copies y (set ms (by.0 - 1) n) (at + 1)
-    between_halted ms at some within few is stands settled quiet unreserved own began goes untold = let down_member : IsMemberAt plants copies y by.0 n = let apart : true ≡ false → ⊥ = λ e. absurd (cc) in record { id = id; up = λ up. absurd (apart (sym down ∙ sym (ap (λ (k : MemberId). is_stopped y.book k) id) ∙ up)) } in
-        record {
-          stands = stands;
-          settled = settled;
-          quiet = quiet;
-          unreserved = unreserved;
-          members = members_after n 1 (by.0 - 1) ms (omega arith) (omega (arith, some)) down_member is.members;
-          many = length-set ms (by.0 - 1) n ∙ is.many ∙ ap (λ (Q : Queue). Q.config.members) (sym base);
-          booked = since.many ∙ is.booked ∙ ap (λ (Q : Queue). Q.config.members) (sym base);
-          held = subst (λ (Q : Queue). y.book.holder.0 ≤ Q.config.members) (sym base) (held_within within);
-          config = subst (λ (Q : Queue). IsConfig Q.config) (sym base) is.config;
-          sound = subst IsSound (sym base) is.sound;
-          begun = let le = is.begun in let on = goes.later in omega (arith, le, on, began);
-          roomy = λ t. subst (λ (Q : Queue). AreRoomy (plants.view y.plant) Q.config) (sym base) (roomy_on (plants.view x.plant) (plants.view y.plant) x.base.config goes (is.roomy t));
-          large = large_on plants copies x y base goes.size is.large;
-          untold = λ k later le small. untold k later (omega (arith, le)) small;
-          earlier = own;
-          few = omega (arith, few);
-        }
+    between_halted ms at some within few is stands settled quiet unreserved own began goes untold =
+        let down_member : IsMemberAt plants copies y by.0 n = record { id = id; up = λ up. absurd (no true refl (sym down ∙ sym (ap (λ (k : MemberId). is_stopped y.book k) id) ∙ up)) } in
+        between_on plants copies x y base since goes ms (set ms (by.0 - 1) n) at (at + 1) is stands settled quiet unreserved (members_after n 1 (by.0 - 1) ms (omega arith) (omega (arith, some)) down_member is.members)
+        (length-set ms (by.0 - 1) n) (held_within within) (let le = is.begun in let on = goes.later in omega (arith, le, on, began)) (λ k later le small. untold k later (omega (arith, le)) small) own (omega (arith, few))
 
 -- A line whose member had the lock, and played a step or a reset: where the value stands after it, for every answer.
 
@@ -433,69 +414,11 @@ module _ (by : MemberId) where
       held_if (is_holder b by) (if inner then with_holder b nobody else with_holder (noted b by) nobody) b
       (held_if inner (with_holder b nobody) (with_holder (noted b by) nobody) (inr refl) (inr refl)) held
 
-  held_released : (r : Release) (b : Book) → IsHeldBy b → IsHeldBy (released_by r b by)
-  held_released Keep b held = held
-  held_released Inner b held = held_freed b true held
-  held_released Outer b held = held_freed b false held
-
-  held_spent : (r : Release) (b : Book) (ess : List (List Entry)) → IsHeldBy b → IsHeldBy (released_by r (spent (entered b by) by ess) by)
-  held_spent r b ess held = held_released r (spent (entered b by) by ess) (held_tried b true held)
-
   held_adds : (locked : Bool) (l : Left) (p : Piece) → IsHeldBy l.book → IsHeldBy (adds by locked l p).book
-  held_adds locked l p held = held_if locked (after_piece l.book by p) l.book (held_spent p.sitting.release l.book p.sitting.batches held) held
-
-  held_all : (locked : Bool) (ps : List Piece) (l : Left) → IsHeldBy l.book → IsHeldBy (adds_all by locked l ps).book
-  held_all locked [] l held = held
-  held_all locked (p ∷ ps) l held = held_all locked ps (adds by locked l p) (held_adds locked l p held)
-
-  held_cut : (halt : Halt) (b : Book) (p : Piece) → IsHeldBy b → IsHeldBy (book_cut by halt b p)
-  held_cut (Waiting n tail) b p held = held_spent p.sitting.release b p.sitting.batches held
-  held_cut _ b p held = held_tried b true held
-
-  held_begun : (locked : Bool) (halt : Halt) (ps : List Piece) (l : Left) → IsHeldBy l.book → IsHeldBy (adds_first by locked halt l ps).book
-  held_begun locked halt [] l held = held
-  held_begun locked halt (p ∷ ps) l held = held_if locked (book_cut by halt l.book p) l.book (held_cut halt l.book p held) held
-
-  held_cause : (why : Cause) (b : Book) → IsHeldBy b → IsHeldBy (stopped_by by why b)
-  held_cause Stops b held = held
-  held_cause Ends b held = held
+  held_adds locked l p held = adds_keeps by IsHeldBy (λ b is. held_tried b true is) held_freed (λ b n is. is) locked l p held
 
   held_left : (cut : Option Cut) (task_play : Play) (task_count : ℕ) → IsHeldBy task_play.book → IsHeldBy (left_by by cut task_play task_count).book
-  held_left None task_play task_count held = held_all task_play.locked task_play.pieces (none_left by task_play.book task_count) held
-  held_left (Some cut) task_play task_count held =
-      let l = adds_all by task_play.locked (none_left by task_play.book task_count) (take cut.sittings task_play.pieces) in
-      held_cause cut.cause (adds_first by task_play.locked cut.halt l (drop cut.sittings task_play.pieces)).book
-      (held_begun task_play.locked cut.halt (drop cut.sittings task_play.pieces) l (held_all task_play.locked (take cut.sittings task_play.pieces) (none_left by task_play.book task_count) held))
-
--- A STEP that wasn't cut, from a value in which its member has the lock: by a try, or by a takeover
-
-module _ {P C : Type 0} (plants : PlantGhosts P) (copies : CopyGhosts C) (x mid : Parts P C) (h : Holder) (mid_base : mid.base ≡ x.base) (mid_since : mid.since ≡ x.since)
-    (mid_book : Since x.book mid.book) (inside : IsMember mid.book h.by) (held : IsHeldBy h.by mid.book) (mid_earlier : All (IsOfEarlier h.step) mid.batches)
-    (mid_quiet : plants.tells → console_now (plants.view mid.plant) ≡ console_now (plants.view x.plant))
-    (y : Parts P C) (base : y.base ≡ mid.base) (since : y.since ≡ mid.since) (pieces : List Piece) (cut : Option Cut) where
-  abbrev plant_of : Parts P C → View
-  plant_of w = plants.view w.plant
-
-  abbrev HasWrote : Type 0
-  HasWrote = (ps : List Piece) × (c : Option Cut) × EachSays h.by h.step ps × Writes plants copies h.by (left_of plants copies h.by c ps mid) mid y (Ok tt)
-
-  module _ (left : HasCut plants copies h pieces cut mid y (Ok tt)) (goes : Proceeds (plant_of x) (plant_of y)) (told : plants.tells → HasWrote) where
-    step_next : (n : Member) (ms : List Member) → IsAside plants copies y n → length n.room ≡ page_count x.base.config → n.id ≡ h.by
-        → (y.book.holder ≡ h.by → IsSeat plants copies y n) → OtherNotesStay h.by x.had y.had → h.step ≤ steps_most
-        → IsBetween plants copies x ms h.step → IsBetween plants copies y (set ms (h.by.0 - 1) n) (h.step + 1)
-    step_next n ms aside room id seat notes few is = let task_count : ℕ = counts_of mid.printed h.by in
-        let task_play : Play = play_in h.by pieces mid.book (queue_of mid) in let task_book : y.book ≡ (left_by h.by cut task_play task_count).book = left.leaves.book in
-        let task_since : Since x.book y.book = then_since x.book mid.book y.book mid_book (subst (λ (b : Book). Since mid.book b) (sym task_book) (play_since h.by task_play task_count inside cut)) in
-        between_after plants copies x y (base ∙ mid_base) task_since h.by (subst (λ (b : Book). IsHeldBy h.by b) (sym task_book) (held_left h.by cut task_play task_count held))
-        notes n aside room id seat ms h.step inside.0 (let le = inside.1 in let many = mid_book.many in let booked = is.booked in omega (arith, le, many, booked)) few is goes.size
-        (earlier_more h.step y.batches mid.batches left.leaves.more (sym (journal_still y aside.quiet.none aside.quiet.unplaced) ∙ left.leaves.journal) mid_earlier
-        (left_earlier h.by h.step cut task_play task_count (plant_of mid).now (plant_of y).now left.leaves.more left.of left.leaves.batches))
-        (λ k later less small t.
-        let w = told t in
-        let ls = (left_of plants copies h.by w.1 w.0 mid).lines in
-        untold_then plants copies x y (base ∙ mid_base) (since ∙ mid_since) is.begun goes.past ls (λ u. w.3.console ∙ ap (λ (l : List Line). l ++ ls) (mid_quiet u)) k later
-        (left_tells h.by h.step w.1 (play_in h.by w.0 mid.book (queue_of mid)) task_count w.2 later less small)
-        (is.untold k later (omega (arith, less)) small) t)
+  held_left cut task_play task_count held = left_keeps by IsHeldBy (λ b is. held_tried b true is) held_freed (λ b n is. is) cut (λ k is_cut why b is. is) task_play task_count held
 
 -- WHAT IS RESERVED, once it is given up
 
@@ -589,80 +512,22 @@ module _ {P C : Type 0} {plants : PlantGhosts P} {steadies : SteadyGhosts C} {co
       → ((y.book.holder ≡ by → ⊥) → IsQuiet plants copies left_part (page_count x.base.config)) → All (IsOfEarlier (at + 1)) (journal_of left_part)
       → ((k : MemberId) (later : ℕ) → at < later → later ≤ steps_most → HasUntold plants copies left_part k later)
       → LeftBetween y (set ms (by.0 - 1) n) (at + 1)
-  halted_between n ms at few is id quiet own untold = let quiet_unreserved : (pages : ℕ) → IsQuiet plants copies left_part pages → IsQuiet plants copies (unreserved_in left_part) pages = λ pages is. subst (λ (w : Parts P C). IsQuiet plants copies w pages) (sym (ap (λ (o : Option Batch). with_current left_part is.unreserved o) is.none ∙ with_none left_part is.unreserved is.unplaced)) is in
+  halted_between n ms at few is id quiet own untold =
+      let quiet_unreserved : (pages : ℕ) → IsQuiet plants copies left_part pages → IsQuiet plants copies (unreserved_in left_part) pages =
+      λ pages is. subst (λ (w : Parts P C). IsQuiet plants copies w pages) (sym (ap (λ (o : Option Batch). with_current left_part is.unreserved o) is.none ∙ with_none left_part is.unreserved is.unplaced)) is in
       let left_held : y.book.holder ≡ by → is_left_held y.book ≡ true = λ mine. let somebody : (by : MemberId) → 1 ≤ by.0 → is_somebody by ≡ true = λ by some. grind (arith, nat_tests, some) in
       ap (λ (m : MemberId). is_somebody m && is_stopped y.book m) mine ∙ and_from (is_somebody by) (is_stopped y.book by) (somebody by some) down in
-      let stands : StandsIn (unreserved_in left_part).batches (unreserved_in left_part).placed (unreserved_in left_part).book (unreserved_in left_part).current = let holds_or_none : (y.book.holder ≡ by) ⊎ (y.current ≡ None) = ⊎_elim (λ mine. inl mine) (λ none. inr (away none).1) holder in stands_unreserved y by down holds_or_none in
-      let true_false : true ≡ false → ⊥ = λ e. absurd (cc) in
+      let stands : StandsIn (unreserved_in left_part).batches (unreserved_in left_part).placed (unreserved_in left_part).book (unreserved_in left_part).current =
+      let holds_or_none : (y.book.holder ≡ by) ⊎ (y.current ≡ None) = ⊎_elim (λ mine. inl mine) (λ none. inr (away none).1) holder in stands_unreserved y by down holds_or_none in
       between_halted plants copies x (unreserved_in left_part) base since by holder notes n id down ms at some
       (let le = within.1 in let many = since.many in let booked = is.booked in omega (arith, le, many, booked)) few is stands (settled_unreserved y)
       (λ free. subst (λ (Q : Queue). IsQuiet plants copies (unreserved_in left_part) (page_count Q.config)) (sym base)
-      (quiet_unreserved (page_count x.base.config) (quiet (λ mine. absurd (true_false (sym (left_held mine) ∙ free))))))
+      (quiet_unreserved (page_count x.base.config) (quiet (λ mine. absurd (no true refl (sym (left_held mine) ∙ free))))))
       refl
       (earlier_left (at + 1) (unreserved_in left_part).batches (unreserved_in left_part).placed (unreserved_in left_part).book (unreserved_in left_part).current stands (subst (λ (bs : List Batch). All (IsOfEarlier (at + 1)) bs) (sym (journal_unreserved left_part)) own))
       began goes untold
 
--- A STEP in which its member was halted, from a value in which it has the lock: by a try, or by a takeover
-
-module _ {P C : Type 0} {plants : PlantGhosts P} {steadies : SteadyGhosts C} {copies : CopyGhosts C} (x mid : Parts P C) (h : Holder) (mid_base : mid.base ≡ x.base) (mid_since : mid.since ≡ x.since)
-    (mid_book : Since x.book mid.book) (may : MayHold mid.book h.by) (mid_earlier : All (IsOfEarlier h.step) mid.batches)
-    (mid_quiet : plants.tells → console_now (plants.view mid.plant) ≡ console_now (plants.view x.plant))
-    (y : Complex P C plants steadies copies) (base : y.base ≡ mid.base) (since : y.since ≡ mid.since) (pieces : List Piece) (cut : Option Cut) where
-  abbrev w : Parts P C
-  w = parts_of y
-
-  abbrev Wrote : Type 0
-  Wrote = (ps : List Piece) × (c : Option Cut) × EachSays h.by h.step ps × Writes plants copies h.by (left_of plants copies h.by c ps mid) mid w (Err no_node.Halted)
-
-  module _ (left : HasCut plants copies h pieces cut mid w (Err no_node.Halted)) (goes : Proceeds (plants.view x.plant) (plants.view w.plant)) (away : IsOperatorAway w.book w.reserved w.current)
-      (quiet : IsBetweenSittings cut → IsQuiet plants copies w (page_count x.base.config)) (told : plants.tells → Wrote) where
-    abbrev play : Play
-    play = play_in h.by pieces mid.book (queue_of mid)
-
-    abbrev count : ℕ
-    count = counts_of mid.printed h.by
-
-    book_after : w.book ≡ (left_by h.by cut play count).book
-    book_after = left.leaves.book
-
-    its_down : is_stopped w.book h.by ≡ true
-    its_down = by_cut cut refl where
-      by_cut : (c : Option Cut) → cut ≡ c → is_stopped w.book h.by ≡ true
-      by_cut None is = absurd (subst (λ (o : Option Cut). IsCutBy {T = Unit {0}} (Err no_node.Halted) pieces o) is left.by_answer)
-      by_cut (Some c) is =
-          let at = subst (λ (o : Option Cut). IsCutBy {T = Unit {0}} (Err no_node.Halted) pieces o) is left.by_answer in
-          ap (λ (b : Book). is_stopped b h.by) book_after ∙ play_stops h.by play count may.seated cut c is at.cause
-
-    aside_or : (halt : Halt) → IsAsideHalt halt ⊎ (IsAsideHalt halt → ⊥)
-    aside_or (Waiting n tail) = inl tt
-    aside_or _ = inr (λ a. a)
-
-    -- one that doesn't hold the lock was halted in acts aside
-    quiet_aside : (w.book.holder ≡ h.by → ⊥) → IsQuiet plants copies w (page_count x.base.config)
-    quiet_aside apart = by_cut cut refl where
-      by_cut : (c : Option Cut) → cut ≡ c → IsQuiet plants copies w (page_count x.base.config)
-      by_cut None is = absurd (subst (λ (o : Option Cut). IsCutBy {T = Unit {0}} (Err no_node.Halted) pieces o) is left.by_answer)
-      by_cut (Some c) is =
-          let at = subst (λ (o : Option Cut). IsCutBy {T = Unit {0}} (Err no_node.Halted) pieces o) is left.by_answer in
-          ⊎_elim (λ aside. quiet (subst IsBetweenSittings (sym is) aside))
-          (λ locked. absurd (apart (ap (λ (b : Book). b.holder) book_after ∙ ap (λ (o : Option Cut). (left_by h.by o play count).book.holder) is
-          ∙ halted_holds h.by c pieces mid.book (queue_of mid) count may at.cause at.there locked)))
-          (aside_or c.halt)
-
-    -- the book before the line has its place
-    step_halted : (n : Member) (ms : List Member) → n.id ≡ h.by → OtherNotesStay h.by x.had w.had → h.step ≤ steps_most → IsBetween plants copies x ms h.step → LeftBetween y (set ms (h.by.0 - 1) n) (h.step + 1)
-    step_halted n ms id notes few is = let before_of : IsMember mid.book h.by → IsMember x.book h.by = λ at. (at.0, let le = at.1 in let many = mid_book.many in omega (arith, le, many)) in
-        let book_since : Since x.book w.book = then_since x.book mid.book w.book mid_book (subst (λ (b : Book). Since mid.book b) (sym book_after) (play_since h.by play count may.seated cut)) in
-        halted_between x y (base ∙ mid_base) (since ∙ mid_since) book_since h.by may.some (inside_since x.book w.book h.by book_since (before_of may.seated))
-        (subst (λ (b : Book). IsHeldBy h.by b) (sym book_after) (held_left h.by cut play count may.free)) its_down goes away notes n ms h.step few is id quiet_aside
-        (earlier_more h.step (journal_of w) mid.batches left.leaves.more left.leaves.journal mid_earlier
-        (left_earlier h.by h.step cut play count (plants.view mid.plant).now (plants.view w.plant).now left.leaves.more left.of left.leaves.batches))
-        (λ k later less small t.
-        let wr = told t in
-        let ls = (left_of plants copies h.by wr.1 wr.0 mid).lines in
-        untold_then plants copies x w (base ∙ mid_base) (since ∙ mid_since) is.begun goes.past ls (λ u. wr.3.console ∙ ap (λ (l : List Line). l ++ ls) (mid_quiet u)) k later
-        (left_tells h.by h.step wr.1 (play_in h.by wr.0 mid.book (queue_of mid)) count wr.2 later less small)
-        (is.untold k later (omega (arith, less)) small) t)
+-- A STEP from a value in which its member has the lock: by a try, or by a takeover
 
 module _ {P C : Type 0} (plants : PlantGhosts P) (copies : CopyGhosts C) where
   -- what it wrote, by its answer
@@ -690,20 +555,80 @@ module _ {P C : Type 0} {plants : PlantGhosts P} {steadies : SteadyGhosts C} {co
   abbrev u : Parts P C → View
   u w = plants.view w.plant
 
-  module _ (goes : Goes (u t) (u q)) where
+  module _ (goes : Goes (u t) (u q)) (r : Result (Unit {0}) NodeNo) (left : HasCut plants copies h pieces cut t q r) (wrote : plants.tells → HasWritten plants copies h t q r) where
     on : Proceeds (u p) (u q)
     on = proceeds_of (u p) (u q) (goes_on (u p) (u t) (u q) t_goes goes)
 
-    next_by : (r : Result (Unit {0}) NodeNo) → HasCut plants copies h pieces cut t q r → (plants.tells → HasWritten plants copies h t q r) → OnOk r (IsNowAside plants copies h q (page_count x.base.config) n)
-        → OnOk r (BetweenLines y (set ms (h.by.0 - 1) n) (h.step + 1))
-    next_by (Ok done) left wrote now =
-        step_next plants copies p t h t_base t_since t_book may.seated may.free t_earlier t_quiet q base since pieces cut left on wrote n ms now.aside now.room id now.seat notes few is
-    next_by (Err e) left wrote now = tt
+    abbrev play : Play
+    play = play_in h.by pieces t.book (queue_of t)
 
-    module _ (r : Result (Unit {0}) NodeNo) (left : HasCut plants copies h pieces cut t q r) (wrote : plants.tells → HasWritten plants copies h t q r) where
-      pub turned : OnOk r (IsNowAside plants copies h q (page_count x.base.config) n) → OnOk r (BetweenLines y (set ms (h.by.0 - 1) n) (h.step + 1)) × (r ≡ Err no_node.Halted → LeftBetween y (set ms (h.by.0 - 1) n) (h.step + 1))
-      turned now = (
-        next_by r left wrote now,
-        λ e. step_halted p t h t_base t_since t_book may t_earlier t_quiet y base since pieces cut (subst (λ (k : Result (Unit {0}) NodeNo). HasCut plants copies h pieces cut t q k) e left)
-            on away quiet (λ tells. subst (λ (k : Result (Unit {0}) NodeNo). HasWritten plants copies h t q k) e (wrote tells)) n ms id notes few is,
-      )
+    abbrev count : ℕ
+    count = counts_of t.printed h.by
+
+    its_since : Since p.book q.book
+    its_since = then_since p.book t.book q.book t_book (subst (λ (b : Book). Since t.book b) (sym left.leaves.book) (play_since h.by play count may.seated cut))
+
+    its_held : IsHeldBy h.by q.book
+    its_held = subst (λ (b : Book). IsHeldBy h.by b) (sym left.leaves.book) (held_left h.by cut play count may.free)
+
+    -- the book before the line has its place
+    its_seat : IsMember p.book h.by
+    its_seat = (may.seated.0, let le = may.seated.1 in let many = t_book.many in omega (arith, le, many))
+
+    its_earlier : All (IsOfEarlier (h.step + 1)) (journal_of q)
+    its_earlier =
+        earlier_more h.step (journal_of q) t.batches left.leaves.more left.leaves.journal t_earlier
+        (left_earlier h.by h.step cut play count (u t).now (u q).now left.leaves.more left.of left.leaves.batches)
+
+    its_untold : (k : MemberId) (later : ℕ) → h.step < later → later ≤ steps_most → HasUntold plants copies q k later
+    its_untold k later less small = λ tells.
+        let w = wrote tells in
+        let ls = (left_of plants copies h.by w.1 w.0 t).lines in
+        untold_then plants copies p q (base ∙ t_base) (since ∙ t_since) is.begun on.past ls (λ o. w.3.console ∙ ap (λ (l : List Line). l ++ ls) (t_quiet o)) k later
+        (left_tells h.by h.step w.1 (play_in h.by w.0 t.book (queue_of t)) count w.2 later less small)
+        (is.untold k later (omega (arith, less)) small) tells
+
+    -- IT WASN'T CUT
+
+    step_next : IsNowAside plants copies h q (page_count x.base.config) n → BetweenLines y (set ms (h.by.0 - 1) n) (h.step + 1)
+    step_next now =
+        between_after plants copies p q (base ∙ t_base) its_since h.by its_held notes n now.aside now.room id now.seat ms h.step may.some
+        (let le = its_seat.1 in let booked = is.booked in omega (arith, le, booked)) few is on
+        (subst (λ (bs : List Batch). All (IsOfEarlier (h.step + 1)) bs) (journal_still q now.aside.quiet.none now.aside.quiet.unplaced) its_earlier) its_untold
+
+    -- ITS MEMBER WAS HALTED
+
+    module _ (halted : r ≡ Err no_node.Halted) where
+      abbrev CutThere : Option Cut → Type 0
+      CutThere o = IsCutBy {T = Unit {0}} (Err no_node.Halted) pieces o
+
+      its_cut : (c : Cut) × (cut ≡ Some c) × CutThere (Some c)
+      its_cut = by_cut cut refl where
+        at : CutThere cut
+        at = subst (λ (k : Result (Unit {0}) NodeNo). IsCutBy k pieces cut) halted left.by_answer
+
+        by_cut : (o : Option Cut) → cut ≡ o → (c : Cut) × (cut ≡ Some c) × CutThere (Some c)
+        by_cut None is_so = absurd (subst CutThere is_so at)
+        by_cut (Some c) is_so = (c, is_so, subst CutThere is_so at)
+
+      its_down : is_stopped q.book h.by ≡ true
+      its_down = ap (λ (b : Book). is_stopped b h.by) left.leaves.book ∙ play_stops h.by play count may.seated cut its_cut.0 its_cut.1 its_cut.2.cause
+
+      aside_or : (halt : Halt) → IsAsideHalt halt ⊎ (IsAsideHalt halt → ⊥)
+      aside_or (Waiting n tail) = inl tt
+      aside_or _ = inr (λ a. a)
+
+      -- one that doesn't hold the lock was halted in acts aside
+      quiet_aside : (q.book.holder ≡ h.by → ⊥) → IsQuiet plants copies q (page_count x.base.config)
+      quiet_aside apart = ⊎_elim (λ aside. quiet (subst IsBetweenSittings (sym its_cut.1) aside))
+          (λ locked. absurd (apart (ap (λ (b : Book). b.holder) left.leaves.book ∙ ap (λ (o : Option Cut). (left_by h.by o play count).book.holder) its_cut.1
+          ∙ halted_holds h.by its_cut.0 pieces t.book (queue_of t) count may its_cut.2.cause its_cut.2.there locked)))
+          (aside_or its_cut.0.halt)
+
+      step_halted : LeftBetween y (set ms (h.by.0 - 1) n) (h.step + 1)
+      step_halted =
+          halted_between p y (base ∙ t_base) (since ∙ t_since) its_since h.by may.some (inside_since p.book q.book h.by its_since its_seat) its_held its_down on away notes n ms h.step few is id quiet_aside its_earlier
+          its_untold
+
+    pub turned : OnOk r (IsNowAside plants copies h q (page_count x.base.config) n) → OnOk r (BetweenLines y (set ms (h.by.0 - 1) n) (h.step + 1)) × (r ≡ Err no_node.Halted → LeftBetween y (set ms (h.by.0 - 1) n) (h.step + 1))
+    turned now = (on_ok r (IsNowAside plants copies h q (page_count x.base.config) n) (BetweenLines y (set ms (h.by.0 - 1) n) (h.step + 1)) step_next now, step_halted)

@@ -1,5 +1,5 @@
 -- Bytes on lines to other nodes: what a line of a script gives and takes, from what its step does.
-use Rattle.mas_run.proofs.Names.{◌≡◌, ◌≢◌, ◌⊎◌, inl, inr, ℕ, zero, suc, ◌+◌, ◌*◌, Bool, true, false, not, if◌then◌else◌, List, [], ◌∷◌, ◌++◌, append-nil, drop, length, take, Option, Some, None, Result, Ok, Err, refl, sym, ◌∙◌, ap, subst, arith, ◌-◌, ◌≤◌, ◌<◌, ◌==◌, append_assoc, set, slice_get, drop-append_seam, MemberId, Config, Queue, is_member, run, Book, is_stopped, Ask, SameWires, View, given_now, taken_now, World, Ghosts as PlantGhosts, Parts, Finds, holder_then, sittings_most, all_entries, given_in, reply_to, Acknowledge, Exchange, PrintLines, ReadText, SpoolArrival, SpoolDeck, SpoolOutputs, Found, Holder, Offer, State, Away, Fresh, Task, Deck, Give, Node, Work, Wait, waits_in, GivesOnly, Hears, HearsAtFirst, HearsIn, HearsStep, TakesNothing, line_served, IsElsewhere, NodeNo, wires_then, Admission, Denied, Frees, Locks, Plays, Refused, Replaces, Resets, TakesOver, Unplayed, admitted, asked, Piece, piece_at, pieces_from, unless_told, count_then, Sight, LineAt, is_of_member, Carries, HasHeard, HeardFirst, HeardIn, stream_since, waits_as, Completes, HasRead, AreReaders, reader_place, eqb-true, nat_tests, get_or-set_other, get_or-set_same, length-set, set-get_or, IsLine, same_member, wires_most, same_member_is, ReadsAnyPieces, seated}
+use Rattle.mas_run.proofs.Names.{◌≡◌, ◌≢◌, ◌⊎◌, inl, inr, ℕ, zero, suc, ◌+◌, ◌*◌, Bool, true, false, List, [], ◌∷◌, ◌++◌, append-nil, drop, length, take, Option, Some, None, Result, Ok, Err, refl, sym, ◌∙◌, ap, subst, arith, ◌-◌, ◌≤◌, ◌<◌, ◌==◌, append_assoc, set, slice_get, drop-append_seam, MemberId, Config, Queue, is_member, run, Book, is_stopped, Ask, SameWires, View, given_now, taken_now, World, PlantGhosts, Parts, Finds, holder_then, sittings_most, all_entries, given_in, reply_to, Exchange, Found, Holder, Offer, State, Away, Fresh, Task, Line as Node, Work, Wait, waits_in, GivesOnly, Hears, HearsAtFirst, HearsIn, HearsStep, TakesNothing, line_served, IsElsewhere, NodeNo, wires_then, Admission, Denied, Plays, Refused, admitted, Piece, piece_at, pieces_from, unless_told, count_then, Sight, LineAt, is_of_member, Carries, HasHeard, HeardFirst, HeardIn, stream_since, waits_as, Completes, HasRead, AreReaders, reader_place, eqb-true, nat_tests, get_or-set_other, get_or-set_same, length-set, set-get_or, IsLine, same_member, wires_most, same_member_is, ReadsAnyPieces, seated, no}
 use Rattle.nje_frames.specs.declared.frames.Frame.{Frame}
 use Rattle.nje_frames.specs.Streams.{HasFed, frames_in, open_end}
 use Rattle.step_turns.specs.Serving.{offered, taken_most}
@@ -7,7 +7,7 @@ use Rattle.step_turns.specs.declared.states.Aside.{Aside}
 use Rattle.std.proofs.lemmas.Option.{get_or_from_slice_get, slice_get-get_or}
 use Rattle.run_opening.proofs.ReaderLemmas.{Readers, place_within}
 use Rattle.mas_types.specs.declared.commands.Command.TheVariants as command
-use Rattle.script_lang.specs.declared.types.Ask.TheVariants as ask
+use Rattle.mas_run.proofs.ComesLemmas.{Comes, comes, LineCame, NoMember, SaysNo, StillUp, NotGranted}
 
 -- NOTHING GIVEN OR TAKEN
 
@@ -29,19 +29,16 @@ carries_none since l _ given old new none same heard = same
 
 -- a line that isn't one of a member
 module _ (since : ℕ) (l : LineAt) (given : List ℕ) (old new : View) (none : given ≡ []) (same : SameWires old new) where
-  if_carries : (t : Bool) (a b : Admission) → Carries since l a given old new → Carries since l b given old new → Carries since l (if t then a else b) given old new
-  if_carries true a b one two = one
-  if_carries false a b one two = two
-
-  asked_mute : (config : Config) (b : Book) (by : MemberId) (what : Ask) → is_of_member what ≡ false → Carries since l (asked config b by what) given old new
-  asked_mute config b by ask.Stop mute = same
-  asked_mute config b by (ask.StopIn fuse n) mute = same
-  asked_mute config b by (ask.Lose dev) mute = same
-  asked_mute config b by (ask.Command c) mute = absurd (cc)
-  asked_mute config b by _ mute = absurd (cc)
+  carries_mute : {config : Config} {b : Book} {by : MemberId} {what : Ask} {a : Admission} → Comes config b by what a → is_of_member what ≡ false → Carries since l a given old new
+  carries_mute (LineCame n got) mute = absurd (cc)
+  carries_mute (NoMember end named) mute = (none, same)
+  carries_mute (SaysNo end up named) mute = (none, same)
+  carries_mute (StillUp of up member) mute = (none, same)
+  carries_mute (NotGranted why up is) mute = (none, same)
+  carries_mute _ mute = same
 
   pub mute_carries : (config : Config) (b : Book) (by : MemberId) (what : Ask) → is_of_member what ≡ false → Carries since l (admitted config b by what) given old new
-  mute_carries config b by what mute = if_carries (not (is_member config by)) _ _ (none, same) (if_carries (is_stopped b by) _ _ (none, same) (asked_mute config b by what mute))
+  mute_carries config b by what mute = carries_mute (comes config b by what) mute
 
 -- a line that serves none
 pub carries_still : (since : ℕ) (l : LineAt) (a : Admission) (given : List ℕ) (old new : View) → ((line : ℕ) → a ≢ Plays (Node line)) → Carries since l a given old new → SameWires old new
@@ -84,26 +81,19 @@ module _ (since : ℕ) (by : MemberId) (old mid new : View) (same : SameWires mi
   heard_later finds (w ∷ ws) h = in_later w.state (finds w.queue w.state) h
 
 pub carries_later : (since : ℕ) (l : LineAt) (a : Admission) (given : List ℕ) (old mid new : View) → SameWires mid new → Carries since l a given old mid → Carries since l a given old new
-carries_later since l (Plays (Node line)) given old mid new same c = let gives_later : (by : MemberId) (served : Option ℕ) (given : List ℕ) (old mid new : View) → GivesOnly by served given old mid → SameWires mid new → GivesOnly by served given old new = λ by served given old mid new gives same. record {
-  given = λ w is. same.given w by.0 ∙ gives.given w is;
-  else_given = λ w m apart. same.given w m ∙ gives.else_given w m apart;
-  else_taken = λ w m apart. same.taken w m ∙ gives.else_taken w m apart;
-} in
+carries_later since l (Plays (Node line)) given old mid new same c =
+    let gives_later : (by : MemberId) (served : Option ℕ) (given : List ℕ) (old mid new : View) → GivesOnly by served given old mid → SameWires mid new → GivesOnly by served given old new = λ by served given old mid new gives same. record {
+      given = λ w is. same.given w by.0 ∙ gives.given w is;
+      else_given = λ w m apart. same.given w m ∙ gives.else_given w m apart;
+      else_taken = λ w m apart. same.taken w m ∙ gives.else_taken w m apart;
+    } in
     record {
       gives = gives_later l.step.by (Some line) given old mid new c.gives same;
       hears = heard_later since l.step.by old mid new same l.given.sight.finds (waits_as l (Plays (Node line))) c.hears;
     }
-carries_later since l (Plays (Give command)) given old mid new same c = wires_then old mid new c same
-carries_later since l (Plays (Deck fields text)) given old mid new same c = wires_then old mid new c same
-carries_later since l (Plays (Work n)) given old mid new same c = wires_then old mid new c same
 carries_later since l (Refused sayer end) given old mid new same c = (c.0, wires_then old mid new c.1 same)
 carries_later since l (Denied why) given old mid new same c = (c.0, wires_then old mid new c.1 same)
-carries_later since l (Resets of) given old mid new same c = wires_then old mid new c same
-carries_later since l (Replaces dev) given old mid new same c = wires_then old mid new c same
-carries_later since l (TakesOver of) given old mid new same c = wires_then old mid new c same
-carries_later since l Locks given old mid new same c = wires_then old mid new c same
-carries_later since l Frees given old mid new same c = wires_then old mid new c same
-carries_later since l Unplayed given old mid new same c = wires_then old mid new c same
+carries_later since l _ given old mid new same c = wires_then old mid new c same
 
 -- by what else is known of the bytes
 pub carries_as : (since : ℕ) (l : LineAt) (a : Admission) (given other : List ℕ) (old new : View) → given ≡ other → Carries since l a given old new → Carries since l a other old new
@@ -159,12 +149,7 @@ module _ (since : ℕ) (by : MemberId) (old new : View) (was is : Option (List �
     completes = frames_completed line offer found (read line offer refl) h;
     all = h.all;
   }
-  aside_heard (SpoolDeck n text) found read h = h
-  aside_heard (ReadText runs n fields p) found read h = h
-  aside_heard (SpoolOutputs n specs p) found read h = h
-  aside_heard (PrintLines n i last p) found read h = h
-  aside_heard (SpoolArrival number n text s) found read h = h
-  aside_heard (Acknowledge number s) found read h = h
+  aside_heard _ found read h = h
 
   in_heard : (s : State) (found : Found) → ((line : ℕ) (offer : Option Offer) → s ≡ Away (Exchange line offer) → Read line) → HearsIn by old new was is s found → HeardIn since by old new s found
   in_heard (Away a) found read h = aside_heard a found (λ line offer same. read line offer (ap (λ (b : Aside). Away b) same)) h
@@ -207,7 +192,9 @@ WaitsOnLine task waits = (line : ℕ) → task ≡ Node line → (w : Wait) (mor
 
 pub waits_on : (sight : Sight) (count : ℕ) (Q : Queue) (h : Holder) (task : Task) (ps : List Piece) (k : ℕ) → ps ≡ pieces_from (sittings_most (Fresh task)) sight count Q h (Fresh task)
     → WaitsOnLine task (waits_in (take k ps) Q)
-waits_on sight count Q h task ps k pieces line same w more is = let first_from : (most more : ℕ) (sight : Sight) (count : ℕ) (Q : Queue) (h : Holder) (s : State) (line k : ℕ) (ps : List Piece) → most ≡ suc more → s ≡ Fresh (Node line) → ps ≡ pieces_from most sight count Q h s → (w : Wait) (ws : List Wait) → waits_in (take k ps) Q ≡ w ∷ ws → (offer : Option Offer) × (w.state ≡ Away (Exchange line offer)) = λ most more sight count Q h s line k ps is state pieces w ws same. first_state more sight count Q h line k w ws
+waits_on sight count Q h task ps k pieces line same w more is =
+    let first_from : (most more : ℕ) (sight : Sight) (count : ℕ) (Q : Queue) (h : Holder) (s : State) (line k : ℕ) (ps : List Piece) → most ≡ suc more → s ≡ Fresh (Node line) → ps ≡ pieces_from most sight count Q h s → (w : Wait) (ws : List Wait) → waits_in (take k ps) Q ≡ w ∷ ws → (offer : Option Offer) × (w.state ≡ Away (Exchange line offer)) =
+    λ most more sight count Q h s line k ps is state pieces w ws same. first_state more sight count Q h line k w ws
     (subst (λ (qs : List Piece). waits_in (take k qs) Q ≡ w ∷ ws)
     (pieces ∙ ap (λ (n : ℕ). pieces_from n sight count Q h s) is ∙ ap (λ (t : State). pieces_from (suc more) sight count Q h t) state) same) in
     let most : sittings_most (Fresh (Node line)) ≡ suc (2 * taken_most + 1) = omega arith in
@@ -339,7 +326,9 @@ module _ {P C : Type 0} (plants : PlantGhosts P) (x y : Parts P C) (base : y.bas
 
     else_now : plants.tells → (m : MemberId) (line : ℕ) → is_member x.base.config m ≡ true → IsLine line → is_stopped y.book m ≡ false → IsElsewhere (Some n) by line m.0
         → (m.0 ≡ by.0 → line ≡ n → ⊥) → ReadAt m line
-    else_now t m line member inside is_up elsewhere apart = let other_place : (m : MemberId) (line : ℕ) → is_member x.base.config m ≡ true → IsLine line → (m.0 ≡ by.0 → line ≡ n → ⊥) → reader_place m line ≢ place = λ m line member inside apart same. let same_line : (m line other : ℕ) → IsLine line → IsLine other → wires_most * (m - 1) + (line - 1) ≡ wires_most * (m - 1) + (other - 1) → line ≡ other = λ m line other inside within same. omega (arith, inside.0, inside.1, within.0, within.1, same) in
+    else_now t m line member inside is_up elsewhere apart =
+        let other_place : (m : MemberId) (line : ℕ) → is_member x.base.config m ≡ true → IsLine line → (m.0 ≡ by.0 → line ≡ n → ⊥) → reader_place m line ≢ place =
+        λ m line member inside apart same. let same_line : (m line other : ℕ) → IsLine line → IsLine other → wires_most * (m - 1) + (line - 1) ≡ wires_most * (m - 1) + (other - 1) → line ≡ other = λ m line other inside within same. omega (arith, inside.0, inside.1, within.0, within.1, same) in
         let same_number : (m k line other : ℕ) → 1 ≤ m → 1 ≤ k → IsLine line → IsLine other → wires_most * (m - 1) + (line - 1) ≡ wires_most * (k - 1) + (other - 1) → m ≡ k = λ m k line other some more inside within same. omega (arith, some, more, inside.0, inside.1, within.0, within.1, same) in
         let seat = seated x.base.config x.book m booked member in
         let mine = seated x.base.config x.book by booked its in
@@ -352,28 +341,26 @@ module _ {P C : Type 0} (plants : PlantGhosts P) (x y : Parts P C) (base : y.bas
         (sym (get_set_other rs place (reader_place m line) is (inside_all m line member inside) (other_place m line member inside apart)))
         (moved t m line (slice_get rs (reader_place m line)) (else_taken t line m.0 elsewhere) (read.each t m line member inside (up t m is_up)))
 
-    true_false : true ≡ false → ⊥
-    true_false e = absurd (cc)
-
     each_now : plants.tells → (m : MemberId) (line : ℕ) → is_member x.base.config m ≡ true → IsLine line → is_stopped y.book m ≡ false → ReadAt m line
     each_now t m line member inside is_up = by_tests (same_member m by) (line == n) refl refl where
       by_tests : (k j : Bool) → same_member m by ≡ k → (line == n) ≡ j → ReadAt m line
-      by_tests true true mine here = let own_now : plants.tells → is_stopped y.book by ≡ false → ReadAt by n = λ t is_up. let get_set_own : (rs : Readers) (j : ℕ) (r : Option (List ℕ)) → j < length rs → slice_get (set rs j r) j ≡ Some r = λ rs j r less. let many : length (set rs j r) ≡ length rs = length-set rs j r in
+      by_tests true true mine here =
+          let own_now : plants.tells → is_stopped y.book by ≡ false → ReadAt by n = λ t is_up. let get_set_own : (rs : Readers) (j : ℕ) (r : Option (List ℕ)) → j < length rs → slice_get (set rs j r) j ≡ Some r = λ rs j r less. let many : length (set rs j r) ≡ length rs = length-set rs j r in
           slice_get-get_or (set rs j r) j None (omega (arith, less, many)) ∙ ap (λ (k : Option (List ℕ)). Some k) (get_or-set_same rs j r None less) in
           subst (λ (r : Option (Option (List ℕ))). HasRead (first y n by) (taken_now (v y) n by.0) r) (sym (get_set_own rs place is (inside_all by n its its_line)))
           (subst (λ (b : List ℕ). HasRead b (taken_now (v y) n by.0) (Some is)) (sym (first_same t n by)) (own t is_up)) in
           let same : m ≡ by = same_member_is m by mine in
           subst (λ (q : MemberId). ReadAt q line) (sym same)
           (subst (λ (q : ℕ). ReadAt by q) (sym (eqb-true line n here)) (own_now t (subst (λ (q : MemberId). is_stopped y.book q ≡ false) same is_up)))
-      by_tests true false mine here = else_now t m line member inside is_up (inl some_apart) (λ number same. true_false (sym (is_here same) ∙ here)) where
+      by_tests true false mine here = else_now t m line member inside is_up (inl some_apart) (λ number same. no true refl (sym (is_here same) ∙ here)) where
         is_here : line ≡ n → (line == n) ≡ true
         is_here e = grind (arith, nat_tests, e)
 
         some_apart : Some n ≢ Some line
-        some_apart e = true_false (sym (is_here (let same : line ≡ n = cc in same)) ∙ here)
+        some_apart e = no true refl (sym (is_here (let same : line ≡ n = cc in same)) ∙ here)
       by_tests false j mine here = else_now t m line member inside is_up (inr not_mine) (λ number same. not_mine number) where
         not_mine : m.0 ≢ by.0
-        not_mine e = true_false (sym (let is_so : same_member m by ≡ true = grind (arith, nat_tests, e) in is_so) ∙ mine)
+        not_mine e = no true refl (sym (let is_so : same_member m by ≡ true = grind (arith, nat_tests, e) in is_so) ∙ mine)
 
     pub readers_served : AreReaders plants y (set rs place is)
     readers_served = record {

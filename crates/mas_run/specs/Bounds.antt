@@ -1,7 +1,6 @@
 -- What a line uses at most.
+use Rattle.mas_run.specs.Names.{Fresh, Line}
 use Rattle.std.specs.Prelude.{ℕ, ◌+◌, ◌^◌}
-use Rattle.step_turns.specs.declared.states.State.TheVariants.{Fresh}
-use Rattle.step_turns.specs.declared.states.Task.TheVariants.{Line}
 use Rattle.member_resets.specs.Quiet.{levels_for}
 
 -- how many levels a line may use: one that serves a line to another node uses most, and a takeover one more

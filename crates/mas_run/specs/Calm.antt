@@ -1,18 +1,10 @@
 -- Where neither a volume nor a printer failed, what becomes of a script's lines follows from the script, from where
 -- members were stopped, and from what came over lines to other nodes, alone.
+use Rattle.mas_run.specs.Names.{Spool, Step, Disk, Printer, View, Rose, Finds, sights_of, outcomes_of, Sight}
 use Rattle.std.specs.Prelude.{◌≡◌, ℕ, if◌then◌else◌, List, map, All}
-use Rattle.mas_types.specs.declared.ids.Dev.TheVariants.{Spool}
-use Rattle.script_lang.specs.declared.types.Step.{Step}
-use Rattle.spool_plant.specs.declared.plant.Part.TheVariants.{Disk, Printer}
-use Rattle.spool_plant.specs.View.{View}
-use Rattle.spool_plant.specs.Acts.{Rose}
-use Rattle.step_turns.specs.Courses.{Finds}
 use Rattle.step_turns.specs.Examples.{calm}
 use Rattle.step_turns.specs.Laws.{on_line}
 use Rattle.run_turns.specs.Alone.{shown}
-use Rattle.run_turns.specs.Givens.{sights_of}
-use Rattle.run_turns.specs.Runs.{outcomes_of}
-use Rattle.run_turns.specs.Sights.{Sight}
 use Rattle.mas_run.specs.Runs.{LinesBegun, LinesEnded, HavePassed}
 
 -- what is found where each text is as the queue has it, and nothing is lost; of a step that serves a line to another

@@ -1,22 +1,8 @@
 -- The copies in a line of a script, and in lines one after another.
+use Rattle.mas_run.specs.Names.{Dev, Ckpt1, Ckpt2, Disk, PlantGhosts, View, Ghosts as CopyGhosts, SteadyGhosts, IsBothLost, Complex, Renewals, Parts, parts_of, is_open, NodeNo, Grows, IsLeft, WasLost, Proceeds}
 use Rattle.std.specs.Prelude.{◌≡◌, ◌⊎◌, Bool, true, false, List, Result, Err}
-use Rattle.mas_types.specs.declared.ids.Dev.{Dev}
-use Rattle.mas_types.specs.declared.ids.Dev.TheVariants.{Ckpt1, Ckpt2}
-use Rattle.spool_plant.specs.declared.plant.Part.TheVariants.{Disk}
-use Rattle.spool_plant.specs.declared.plant.Plant.{Ghosts as PlantGhosts}
-use Rattle.spool_plant.specs.View.{View}
-use Rattle.ckpt_copy.specs.declared.copying.Copying.{Ghosts as CopyGhosts}
-use Rattle.ckpt_form.specs.declared.steady.Steady.{Ghosts as SteadyGhosts}
-use Rattle.duplex_pair.specs.Halves.{IsBothLost}
-use Rattle.mas_complex.specs.declared.complex.Complex.{Complex}
 use Rattle.mas_complex.specs.declared.renewals.Renewal.{Renewal}
-use Rattle.mas_complex.specs.declared.renewals.Renewals.{Renewals}
-use Rattle.mas_complex.specs.Parts.{Parts, parts_of}
-use Rattle.mas_complex.specs.Renewals.{is_open}
-use Rattle.member_node.specs.declared.member.NodeNo.{NodeNo}
 use Rattle.member_node.specs.declared.member.NodeNo.TheVariants.{BothLost}
-use Rattle.member_node.specs.Calls.{Grows, IsLeft, WasLost}
-use Rattle.run_opening.specs.Lines.{Proceeds}
 use Rattle.mas_run.specs.Runs.{HasLost}
 
 -- what is known of both copies: what the plant shows, which count as alive, and since when they were replaced

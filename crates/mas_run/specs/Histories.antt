@@ -1,7 +1,6 @@
 -- The journal of a run line by line, and the history that it is.
+use Rattle.mas_run.specs.Names.{Batch, Batched}
 use Rattle.std.specs.Prelude.{◌≡◌, List, [], ◌∷◌}
-use Rattle.mas_types.specs.declared.journals.Batch.{Batch}
-use Rattle.run_turns.specs.Scenes.{Batched}
 
 -- THE HISTORY, batch by batch
 

@@ -18,3 +18,4 @@ pub mod Unstopped
 pub mod LinesDone
 pub use Rattle.member_resets.specs.Cuts
 pub use Rattle.member_resets.specs.Settling
+pub mod Names

@@ -1,32 +1,11 @@
 -- A line of a script as it was played: what it gave, why it was cut, and what it did to the plant.
+use Rattle.mas_run.specs.Names.{Dev, Ckpt1, Ckpt2, Spool, MemberId, Batch, Ask, Console, Disk, ViewLine as Line, View, paper_now, Rose, next, SamePapers, NodeNo, VolumesStay, console_now, none_lost, Deck, Work, Line as Node, Cut, Ends, Stops, Writing, Scene, Admission, Plays, Replaces, TakesOver, Piece, fate_found, is_up, IsRight, queue_met, AreBatched, AtCut, IsBroken, IsHaltBy, IsTight, whole_pieces, AreFoundIn, named_in, waits_in, AreVolumesKept, HasStopped, OnlyStops, Proceeds, StaysLost}
 use Rattle.std.specs.Prelude.{◌≡◌, ◌≢◌, ◌⊎◌, ℕ, ◌+◌, ◌<◌, ◌==◌, ◌&&◌, Bool, true, false, if◌then◌else◌, List, [], ◌++◌, length, map, take, Option, Some, None, Result, Ok, Err}
-use Rattle.mas_types.specs.declared.ids.Dev.{Dev}
-use Rattle.mas_types.specs.declared.ids.Dev.TheVariants.{Ckpt1, Ckpt2, Spool}
-use Rattle.mas_types.specs.declared.ids.MemberId.{MemberId}
-use Rattle.mas_types.specs.declared.journals.Batch.{Batch}
 use Rattle.mas_types.specs.declared.journals.Fate.{Fate}
-use Rattle.script_lang.specs.declared.types.Ask.{Ask}
 use Rattle.script_lang.specs.declared.types.Ask.TheVariants as ask
-use Rattle.spool_plant.specs.declared.plant.Part.TheVariants.{Console, Disk}
-use Rattle.spool_plant.specs.View.{Line, View, paper_now}
-use Rattle.spool_plant.specs.Acts.{Rose, next}
-use Rattle.mas_complex.specs.Paper.{SamePapers}
-use Rattle.member_node.specs.declared.member.NodeNo.{NodeNo}
 use Rattle.member_node.specs.declared.member.NodeNo.TheVariants as no_node
-use Rattle.member_node.specs.Calls.{VolumesStay, console_now, none_lost}
-use Rattle.step_turns.specs.declared.states.Task.TheVariants.{Deck, Work, Line as Node}
-use Rattle.run_turns.specs.Sights.{Cut, Ends, Stops, Writing}
-use Rattle.run_turns.specs.Scenes.{Scene}
-use Rattle.run_turns.specs.Admissions.{Admission, Plays, Replaces, TakesOver}
-use Rattle.run_turns.specs.Pieces.{Piece, fate_found}
-use Rattle.run_turns.specs.Steps.{is_up}
-use Rattle.run_turns.specs.Givens.{IsRight, queue_met}
 use Rattle.mas_run.specs.LinesAt.{LineAt, admitted_at, pieces_as, pieces_at, played_at}
-use Rattle.member_resets.specs.Cuts.{AreBatched, AtCut, IsBroken, IsHaltBy, IsTight, whole_pieces}
-use Rattle.member_resets.specs.Found.{AreFoundIn, named_in, waits_in}
 use Rattle.mas_run.specs.Shapes.{IsShaped}
-use Rattle.run_opening.specs.Volumes.{AreVolumesKept}
-use Rattle.run_opening.specs.Lines.{HasStopped, OnlyStops, Proceeds, StaysLost}
 use Rattle.member_resets.specs.WhyLost.{IsWhyLost}
 
 -- LINES OF MEMBERS: all but stops, stops that are armed, and losses of a device

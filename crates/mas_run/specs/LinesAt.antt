@@ -1,11 +1,6 @@
 -- A line of a script at the scene that it finds, with what it gave.
+use Rattle.mas_run.specs.Names.{Step, Scene, Admission, admitted, Piece, Play, Played, Given, line_with, play_with}
 use Rattle.std.specs.Prelude.{ℕ, List}
-use Rattle.script_lang.specs.declared.types.Step.{Step}
-use Rattle.run_turns.specs.Scenes.{Scene}
-use Rattle.run_turns.specs.Admissions.{Admission, admitted}
-use Rattle.run_turns.specs.Pieces.{Piece, Play}
-use Rattle.run_turns.specs.Steps.{Played}
-use Rattle.run_turns.specs.Givens.{Given, line_with, play_with}
 
 -- a line, the scene that it finds, its number, and what it gave
 pub record LineAt : Type 0 where

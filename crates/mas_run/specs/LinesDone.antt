@@ -1,20 +1,11 @@
 -- What a line of a script leaves of the shared value and its members, for every answer.
+use Rattle.mas_run.specs.Names.{MemberId, IsMember, PlantGhosts, Ghosts as CopyGhosts, SteadyGhosts, Ask, Step, Complex, NodeNo, BetweenLines, LeftBetween}
 use Rattle.std.specs.Prelude.{◌≡◌, ℕ, ◌+◌, List, Result, Err, OnOk}
-use Rattle.mas_types.specs.declared.ids.MemberId.{MemberId}
-use Rattle.lock_cycle.specs.Books.{IsMember}
-use Rattle.spool_plant.specs.declared.plant.Plant.{Ghosts as PlantGhosts}
-use Rattle.ckpt_copy.specs.declared.copying.Copying.{Ghosts as CopyGhosts}
-use Rattle.ckpt_form.specs.declared.steady.Steady.{Ghosts as SteadyGhosts}
-use Rattle.script_lang.specs.declared.types.Ask.{Ask}
-use Rattle.script_lang.specs.declared.types.Step.{Step}
-use Rattle.mas_complex.specs.declared.complex.Complex.{Complex}
 use Rattle.member_node.specs.declared.member.Member.{Member}
-use Rattle.member_node.specs.declared.member.NodeNo.{NodeNo}
 use Rattle.member_node.specs.declared.member.NodeNo.TheVariants as no_node
 use Rattle.mas_run.specs.Copies.{CopiesKept}
 use Rattle.mas_run.specs.LinesLeft.{LineIsLeft}
 use Rattle.mas_run.specs.LinesPlayed.{PlayedLine, line_by}
-use Rattle.run_opening.specs.Shows.{BetweenLines, LeftBetween}
 
 module _ {P C : Type 0} {plants : PlantGhosts P} {steadies : SteadyGhosts C} {copies : CopyGhosts C} where
   -- A line of a member. Where its member was halted it is stopped in the book, nothing was said of that yet, and what

@@ -1,44 +1,13 @@
 -- What a line of a member leaves before the operator says that its member was stopped, if it was.
-use Rattle.std.specs.Prelude.{◌≡◌, ◌≢◌, ◌⊎◌, ℕ, ◌≤◌, false, List, [], ◌∷◌, ◌++◌, Option, Some, None, Result, Ok, Err, OnOk}
-use Rattle.mas_types.specs.declared.answers.Closing.TheVariants as closing
-use Rattle.mas_types.specs.declared.ids.Dev.{Dev}
-use Rattle.mas_types.specs.declared.ids.MemberId.{MemberId}
-use Rattle.mas_types.specs.declared.journals.Batch.{Batch}
-use Rattle.mas_types.specs.Closings.{closing_line}
-use Rattle.lock_cycle.specs.Books.{Book, is_stopped}
-use Rattle.spool_plant.specs.declared.plant.Part.TheVariants.{Console}
-use Rattle.spool_plant.specs.declared.plant.Plant.{Ghosts as PlantGhosts}
-use Rattle.spool_plant.specs.View.{View, paper_now}
-use Rattle.spool_plant.specs.Acts.{Rose}
-use Rattle.ckpt_copy.specs.declared.copying.Copying.{Ghosts as CopyGhosts}
-use Rattle.ckpt_form.specs.declared.steady.Steady.{Ghosts as SteadyGhosts}
-use Rattle.mas_complex.specs.declared.complex.Complex.{Complex}
-use Rattle.mas_complex.specs.declared.renewals.Renewals.{Renewals}
-use Rattle.mas_complex.specs.Paper.{SamePapers, counts_of}
-use Rattle.mas_complex.specs.Parts.{Parts, parts_of}
-use Rattle.member_node.specs.declared.member.NodeNo.{NodeNo}
+use Rattle.mas_run.specs.Names.{Dev, MemberId, Batch, Book, is_stopped, Console, PlantGhosts, View, paper_now, Rose, Ghosts as CopyGhosts, SteadyGhosts, Complex, Renewals, SamePapers, counts_of, Parts, parts_of, NodeNo, console_now, journal_of, Step, AreBatched, AtCut, IsBroken, IsHaltBy, IsTight, cause_by, Cut, Admission, admitted, ArePiecesOf, Given, Piece, fate_found, Scene, settle, IfRuns, ended_as, Proceeds, StaysLost, IsShown, AreVolumesKept}
+use Rattle.std.specs.Prelude.{◌≡◌, ◌≢◌, ◌⊎◌, ℕ, ◌≤◌, false, List, ◌++◌, Option, Some, None, Result, Ok, Err, OnOk}
 use Rattle.member_node.specs.declared.member.NodeNo.TheVariants as no_node
-use Rattle.member_node.specs.Calls.{console_now}
 use Rattle.member_node.specs.Spares.{Spares, stopped_in}
-use Rattle.member_steps.specs.Saying.{OnConsole}
-use Rattle.member_sittings.specs.Sat.{journal_of}
-use Rattle.script_lang.specs.declared.types.Step.{Step}
-use Rattle.member_resets.specs.Cuts.{AreBatched, AtCut, IsBroken, IsHaltBy, IsTight, cause_by}
-use Rattle.member_lines.specs.Closes.{ActsOnce}
-use Rattle.run_turns.specs.Sights.{Cut}
-use Rattle.run_turns.specs.Cuts.{Left, left_by, whole}
-use Rattle.run_turns.specs.Admissions.{Admission, admitted}
-use Rattle.run_turns.specs.Givens.{ArePiecesOf, Given}
+use Rattle.run_turns.specs.Cuts.{Left, left_by}
 use Rattle.mas_run.specs.LinesAt.{LineAt, admitted_at, pieces_as, play_as}
-use Rattle.run_turns.specs.Pieces.{Piece, fate_found}
-use Rattle.run_turns.specs.Scenes.{Scene}
-use Rattle.member_resets.specs.Settling.{settle, IfRuns, ended_as}
 use Rattle.mas_run.specs.Lines.{AdmissionLeaves, IfIdle, IsHonestAs, IsThere, LosesAs, PrintsNone, StaysAs, is_replaced, is_takeover, is_work, taking}
-use Rattle.run_opening.specs.Lines.{Proceeds, StaysLost}
 use Rattle.mas_run.specs.Renewing.{RenewsAs}
 use Rattle.mas_run.specs.Shapes.{IsShapedAs}
-use Rattle.run_opening.specs.Shows.{IsShown}
-use Rattle.run_opening.specs.Volumes.{AreVolumesKept}
 use Rattle.mas_run.specs.Wires.{Carries}
 
 -- WHERE IT WAS CUT, by its answer
@@ -138,28 +107,6 @@ module _ {P C : Type 0} (plants : PlantGhosts P) (copies : CopyGhosts C) where
   abbrev pub LeftAt : Type 0 → Scene → ℕ → Step → Parts P C → Parts P C → Result (Unit {0}) NodeNo → Type 0
   LeftAt told S at step x y result = LeavesAt copies.reads told S at step (seen_of x) (seen_of y) y.book result
 
-  -- THE OPERATOR SAYS that a member was stopped in its line, or the console failed at that, or there was no memory for
-  -- it; nobody is stopped, and no other act is made.
-  abbrev pub SaysStop : MemberId → ℕ → Parts P C → Parts P C → Result (Unit {0}) NodeNo → Type 0
-  SaysStop by at x y (Ok done) = console_now (v y)
-      ≡ console_now (v x) ++ whole (closing_line by at closing.Stopped) ∷ []
-  SaysStop by at x y (Err e) = console_now (v y) ≡ console_now (v x)
-
-  abbrev pub StopCauses : Parts P C → Parts P C → Result (Unit {0}) NodeNo → Type 0
-  StopCauses x y (Ok done) = Unit {0}
-  StopCauses x y (Err no_node.ConsoleFault) = Rose ((v x).faults Console) ((v y).faults Console)
-  StopCauses x y (Err no_node.NoMemory) = Unit {0}
-  StopCauses x y (Err no_node.BothLost) = ⊥
-  StopCauses x y (Err no_node.Halted) = ⊥
-
-  pub record HasSaidStop (by : MemberId) (at : ℕ) (x y : Parts P C) (result : Result (Unit {0}) NodeNo) : Type 0 where
-    pub frame : y ≡ record x { plant = y.plant }
-    pub acts : OnConsole plants.tells (v x) (v y)
-    pub acted : ActsOnce result (v x) (v y)
-    pub stops : (m : ℕ) → (v y).stops m ≡ (v x).stops m
-    pub cause : StopCauses x y result
-    pub console : plants.tells → SaysStop by at x y result
-
 -- OVER THE SHARED VALUE
 
 module _ {P C : Type 0} {plants : PlantGhosts P} {steadies : SteadyGhosts C} {copies : CopyGhosts C} where
@@ -168,7 +115,3 @@ module _ {P C : Type 0} {plants : PlantGhosts P} {steadies : SteadyGhosts C} {co
       → Result (Unit {0}) NodeNo → Type 0
   LineIsLeft told at step x y result = (S : Scene) → IsShown plants copies told S (parts_of x)
       → LeftAt plants copies told S at step (parts_of x) (parts_of y) result
-
-  abbrev pub StopIsSaid : MemberId → ℕ → Complex P C plants steadies copies → Complex P C plants steadies copies
-      → Result (Unit {0}) NodeNo → Type 0
-  StopIsSaid by at x y result = HasSaidStop plants copies by at (parts_of x) (parts_of y) result

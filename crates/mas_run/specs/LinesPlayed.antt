@@ -1,22 +1,8 @@
 -- What a line leaves of the shared value and its members, and what lines do one after another.
+use Rattle.mas_run.specs.Names.{MemberId, Batch, Ask, Step, View, PlantGhosts, Ghosts as CopyGhosts, SteadyGhosts, Complex, Parts, parts_of, NodeNo, journal_of, Scene, Given, line_with, IsShown}
 use Rattle.std.specs.Prelude.{ℕ, Bool, true, false, List, Result, OnOk}
-use Rattle.mas_types.specs.declared.ids.MemberId.{MemberId}
-use Rattle.mas_types.specs.declared.journals.Batch.{Batch}
-use Rattle.script_lang.specs.declared.types.Ask.{Ask}
 use Rattle.script_lang.specs.declared.types.Ask.TheVariants as ask
-use Rattle.script_lang.specs.declared.types.Step.{Step}
-use Rattle.spool_plant.specs.View.{View}
-use Rattle.spool_plant.specs.declared.plant.Plant.{Ghosts as PlantGhosts}
-use Rattle.ckpt_copy.specs.declared.copying.Copying.{Ghosts as CopyGhosts}
-use Rattle.ckpt_form.specs.declared.steady.Steady.{Ghosts as SteadyGhosts}
-use Rattle.mas_complex.specs.declared.complex.Complex.{Complex}
-use Rattle.mas_complex.specs.Parts.{Parts, parts_of}
-use Rattle.member_node.specs.declared.member.NodeNo.{NodeNo}
-use Rattle.member_sittings.specs.Sat.{journal_of}
-use Rattle.run_turns.specs.Scenes.{Scene}
-use Rattle.run_turns.specs.Givens.{Given, line_with}
 use Rattle.mas_run.specs.Passed.{Here, IsNext, Passed, There}
-use Rattle.run_opening.specs.Shows.{IsShown}
 
 -- a line of this member, and whether it is a line of one: all but a stop, one that is armed, and the loss of a device
 abbrev pub line_by : MemberId → Ask → Step

@@ -1,6 +1,6 @@
 -- What a run leaves of the printers.
+use Rattle.mas_run.specs.Names.{View, Throughout, paper_now}
 use Rattle.std.specs.Prelude.{◌≡◌, ℕ}
-use Rattle.spool_plant.specs.View.{View, Throughout, paper_now}
 
 -- at each moment up to this one each printer has the lines that it had
 abbrev pub ArePapersKeptUntil : ℕ → View → View → Type 0

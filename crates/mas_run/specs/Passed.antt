@@ -1,17 +1,7 @@
 -- The lines of a script, played one after another, up to one that ends the run.
+use Rattle.mas_run.specs.Names.{Dev, Batch, Step, next, View, NodeNo, Armed, Scene, Outcome, Given, RightIf, given_first, line_with, settle, Renewals}
 use Rattle.std.specs.Prelude.{◌≡◌, ℕ, suc, ◌+◌, ◌≤◌, ◌==◌, Bool, true, false, if◌then◌else◌, List, [], ◌∷◌, ◌++◌, drop, Option, Result, Ok}
-use Rattle.mas_types.specs.declared.ids.Dev.{Dev}
-use Rattle.mas_types.specs.declared.journals.Batch.{Batch}
-use Rattle.script_lang.specs.declared.types.Step.{Step}
-use Rattle.spool_plant.specs.Acts.{next}
-use Rattle.spool_plant.specs.View.{View}
-use Rattle.member_node.specs.declared.member.NodeNo.{NodeNo}
-use Rattle.run_turns.specs.Scenes.{Armed, Scene}
-use Rattle.run_turns.specs.Steps.{Outcome}
-use Rattle.run_turns.specs.Givens.{Given, RightIf, given_first, line_with}
 use Rattle.mas_run.specs.LinesAt.{LineAt, admitted_at, played_at}
-use Rattle.member_resets.specs.Settling.{settle}
-use Rattle.mas_complex.specs.declared.renewals.Renewals.{Renewals}
 use Rattle.mas_run.specs.Renewing.{RenewsAs}
 use Rattle.mas_run.specs.Lines.{IsPassed, LeavesVolumes, is_takeover, loses_then}
 use Rattle.mas_run.specs.Wires.{Carries}

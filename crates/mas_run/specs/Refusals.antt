@@ -1,13 +1,9 @@
 -- What is refused before anything is played.
+use Rattle.mas_run.specs.Names.{Status, Script, Step, View, refusal_of}
 use Rattle.std.specs.Prelude.{◌≡◌, ℕ, Bool, false, List, [], Option, Ok, Err}
-use Rattle.mas_types.specs.declared.answers.Status.{Status}
 use Rattle.script_lang.specs.declared.types.Run.{Run}
-use Rattle.script_lang.specs.declared.types.Script.{Script}
-use Rattle.script_lang.specs.declared.types.Step.{Step}
 use Rattle.script_lang.specs.Script.{Said}
 use Rattle.script_input.specs.Script.{read_as}
-use Rattle.spool_plant.specs.View.{View}
-use Rattle.run_opening.specs.Refusals.{refusal_of}
 
 -- a run, cold or warm, that isn't a race; where it only formats it takes no steps
 abbrev pub calm : Bool → Bool → Run

@@ -1,11 +1,6 @@
 -- What a line leaves of the moments at which a copy isn't good because it is being replaced.
+use Rattle.mas_run.specs.Names.{Dev, View, Renewals, begun_on, ended_on, Admission, Replaces, Cut, Halt, LostAgain, NotLost, Renewed, Replaced, Saying}
 use Rattle.std.specs.Prelude.{◌≡◌, ◌⊎◌, ℕ, ◌≤◌, Option, Some, None}
-use Rattle.mas_types.specs.declared.ids.Dev.{Dev}
-use Rattle.spool_plant.specs.View.{View}
-use Rattle.mas_complex.specs.declared.renewals.Renewals.{Renewals}
-use Rattle.mas_complex.specs.Renewals.{begun_on, ended_on}
-use Rattle.run_turns.specs.Admissions.{Admission, Replaces}
-use Rattle.run_turns.specs.Sights.{Cut, Halt, LostAgain, NotLost, Renewed, Replaced, Saying}
 
 -- a replacement began in a line
 pub record Begins (dev : Dev) (rs after : Renewals) (old new : View) : Type 0 where

@@ -1,41 +1,16 @@
 -- What a run did.
+use Rattle.mas_run.specs.Names.{Dev, Ckpt1, Ckpt2, Spool, Batch, Status, Script, Disk, View, given_now, paper_now, Goes, Rose, form_reads, kept_all, run, console_now, Renewals, no_renewals, AreVolumesKept, AreVolumesKeptUntil, MemberId, Step, StaysLost, NodeNo, Cut, scene_of, Outcome, console, given_on, history, outcomes_of, paper_of, Given, last_cut, outcomes_with, scene_with, sights_of, status_of, AreAway, AreSidesKept, HasBase, IsFormatted, IsOpened, IsSafe, LosesFirst, OneIsGood, as_found}
 use Rattle.std.specs.Prelude.{◌≡◌, ◌≢◌, ◌⊎◌, ℕ, ◌≤◌, Bool, true, List, [], ◌++◌, length, map, All, Option, None, Result}
-use Rattle.mas_types.specs.declared.ids.Dev.{Dev}
-use Rattle.mas_types.specs.declared.ids.Dev.TheVariants.{Ckpt1, Ckpt2, Spool}
-use Rattle.mas_types.specs.declared.journals.Batch.{Batch}
 use Rattle.mas_types.specs.declared.journals.Journal.{Journal}
-use Rattle.mas_types.specs.declared.answers.Status.{Status}
 use Rattle.mas_types.specs.declared.queues.Queue.{Queue}
-use Rattle.script_lang.specs.declared.types.Script.{Script}
-use Rattle.spool_plant.specs.declared.plant.Part.TheVariants.{Disk}
-use Rattle.spool_plant.specs.View.{View, given_now, paper_now}
-use Rattle.spool_plant.specs.Acts.{Goes, Rose}
-use Rattle.ckpt_form.specs.Form.{form_reads}
 use Rattle.ckpt_copy.specs.Meanwhile.{SameSides}
 use Rattle.mas_types.specs.Sound.{IsSound}
-use Rattle.mas_complex.specs.Journals.{kept_all}
-use Rattle.mas_complex.specs.Meaning.{run}
-use Rattle.member_node.specs.Calls.{console_now}
-use Rattle.mas_complex.specs.declared.renewals.Renewals.{Renewals}
-use Rattle.mas_complex.specs.Renewals.{no_renewals}
 use Rattle.mas_complex.specs.Headline.{LeavesQueue}
 use Rattle.mas_run.specs.Papers.{ArePapersKeptUntil}
-use Rattle.run_opening.specs.Volumes.{AreVolumesKept, AreVolumesKeptUntil}
-use Rattle.mas_types.specs.declared.ids.MemberId.{MemberId}
 use Rattle.script_lang.specs.declared.types.Ask.TheVariants as ask
-use Rattle.script_lang.specs.declared.types.Step.{Step}
-use Rattle.run_opening.specs.Lines.{StaysLost}
-use Rattle.member_node.specs.declared.member.NodeNo.{NodeNo}
-use Rattle.run_turns.specs.Sights.{Cut}
-use Rattle.run_turns.specs.Scenes.{scene_of}
-use Rattle.run_turns.specs.Steps.{Outcome}
-use Rattle.run_turns.specs.Runs.{console, given_on, history, outcomes_of, paper_of}
-use Rattle.run_turns.specs.Givens.{Given, last_cut, outcomes_with, scene_with, sights_of}
 use Rattle.mas_run.specs.Histories.{AreHistory}
 use Rattle.mas_run.specs.Passed.{ArePassed, Here, LeaveVolumes, TakeNone, There, arms_after, loses_after}
-use Rattle.run_opening.specs.Statuses.{status_of}
 use Rattle.mas_types.specs.declared.answers.Status.TheVariants as status
-use Rattle.run_opening.specs.Runs.{AreAway, AreSidesKept, HasBase, IsFormatted, IsOpened, IsSafe, LosesFirst, OneIsGood, as_found}
 
 -- THE COPIES
 

@@ -1,18 +1,12 @@
 -- What is known of a line's pieces whatever the plant tells: where it tells nothing the replies may be others than
 -- those of the table of commands.
+use Rattle.mas_run.specs.Names.{View, Fresh, Task, Admission, Plays, Resets, TakesOver, ArePiecesOf, Piece, holder_of, IsResetPiece}
 use Rattle.std.specs.Prelude.{List, All}
-use Rattle.spool_plant.specs.View.{View}
 use Rattle.step_turns.specs.States.{nothing_found}
 use Rattle.step_turns.specs.declared.states.Holder.{Holder}
-use Rattle.step_turns.specs.declared.states.State.TheVariants.{Fresh}
-use Rattle.step_turns.specs.declared.states.Task.{Task}
-use Rattle.run_turns.specs.Admissions.{Admission, Plays, Resets, TakesOver}
-use Rattle.run_turns.specs.Givens.{ArePiecesOf}
-use Rattle.run_turns.specs.Pieces.{Piece, holder_of}
 use Rattle.member_resets.specs.Plays.{IsOwnPiece}
 use Rattle.member_resets.specs.Shapes.{AreShaped}
 use Rattle.mas_run.specs.LinesAt.{LineAt, admitted_at}
-use Rattle.member_resets.specs.Settling.{IsResetPiece}
 
 -- a task's pieces are its step's, and shaped so from its first state on
 pub record IsTaskShaped (h : Holder) (old new : View) (task : Task) (ps : List Piece) : Type 0 where

@@ -1,16 +1,7 @@
 -- Why a run ends.
+use Rattle.mas_run.specs.Names.{Dev, Ckpt1, Ckpt2, MemberId, Ask, Step, Disk, Console, View, Rose, top, resets, WasLost}
 use Rattle.std.specs.Prelude.{◌≡◌, ◌≢◌, ◌⊎◌, ℕ, ◌<◌, true, false, List, [], ◌∷◌, All, Option, Some, None}
-use Rattle.mas_types.specs.declared.ids.Dev.{Dev}
-use Rattle.mas_types.specs.declared.ids.Dev.TheVariants.{Ckpt1, Ckpt2}
-use Rattle.mas_types.specs.declared.ids.MemberId.{MemberId}
-use Rattle.script_lang.specs.declared.types.Ask.{Ask}
 use Rattle.script_lang.specs.declared.types.Ask.TheVariants as ask
-use Rattle.script_lang.specs.declared.types.Step.{Step}
-use Rattle.spool_plant.specs.declared.plant.Part.TheVariants.{Disk, Console}
-use Rattle.spool_plant.specs.View.{View}
-use Rattle.spool_plant.specs.Acts.{Rose, top}
-use Rattle.run_turns.specs.Admissions.{resets}
-use Rattle.member_node.specs.Calls.{WasLost}
 
 -- a copy that was there, and that was lost by calls less often than can be counted; no act on it failed, and no step
 -- loses it

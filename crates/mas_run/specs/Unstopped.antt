@@ -1,9 +1,6 @@
 -- A run in which a member was not stopped in an act.
+use Rattle.mas_run.specs.Names.{Step, Cut, Ends, Scene, scene_of, Given, RightIf, given_first, line_with}
 use Rattle.std.specs.Prelude.{◌≡◌, ◌⊎◌, ℕ, ◌+◌, List, [], ◌∷◌, drop, Some, None}
-use Rattle.script_lang.specs.declared.types.Step.{Step}
-use Rattle.run_turns.specs.Sights.{Cut, Ends}
-use Rattle.run_turns.specs.Scenes.{Scene, scene_of}
-use Rattle.run_turns.specs.Givens.{Given, RightIf, given_first, line_with}
 use Rattle.mas_run.specs.LinesAt.{LineAt}
 use Rattle.mas_run.specs.Lines.{cut_of}
 use Rattle.mas_run.specs.Runs.{LinesBegun, LinesEnded, HavePassed}

@@ -1,26 +1,14 @@
 -- Lines to other nodes in a run: the bytes that each line of a script gives on one, and those that it takes from it,
 -- with the frames that these complete in the stream that its member took from it in the run.
+use Rattle.mas_run.specs.Names.{MemberId, wires_most, SameWires, View, taken_now, Finds, Away, Task, Line as Node, whole_pieces, Wait, waits_in, Admission, Denied, Plays, Refused, queue_met, Completes}
 use Rattle.std.specs.Prelude.{◌≡◌, ◌≢◌, ◌⊎◌, ℕ, ◌-◌, ◌+◌, ◌*◌, ◌≤◌, List, [], ◌∷◌, ◌++◌, drop, length, take, Option, Some, None}
-use Rattle.mas_types.specs.declared.ids.MemberId.{MemberId}
-use Rattle.mas_types.specs.Limits.{wires_most}
-use Rattle.spool_plant.specs.Acts.{SameWires}
-use Rattle.spool_plant.specs.View.{View, taken_now}
-use Rattle.step_turns.specs.Courses.{Finds}
 use Rattle.step_turns.specs.Serving.{exchange_end, taken_most}
 use Rattle.step_turns.specs.declared.states.Aside.TheVariants.{Exchange}
 use Rattle.step_turns.specs.declared.states.Found.{Found}
 use Rattle.step_turns.specs.declared.states.Offer.{Offer}
 use Rattle.step_turns.specs.declared.states.State.{State}
-use Rattle.step_turns.specs.declared.states.State.TheVariants.{Away}
-use Rattle.step_turns.specs.declared.states.Task.{Task}
-use Rattle.step_turns.specs.declared.states.Task.TheVariants.{Line as Node}
-use Rattle.member_resets.specs.Cuts.{whole_pieces}
-use Rattle.member_resets.specs.Found.{Wait, waits_in}
 use Rattle.member_resets.specs.Hears.{GivesOnly, TakesNothing}
-use Rattle.run_turns.specs.Admissions.{Admission, Denied, Plays, Refused}
-use Rattle.run_turns.specs.Givens.{queue_met}
 use Rattle.mas_run.specs.LinesAt.{LineAt, pieces_as}
-use Rattle.run_opening.specs.Wires.{Completes}
 
 -- THE STREAM
 

@@ -1,21 +1,7 @@
 //! The lines of a script that are played on a run that is open.
+ghost use Rattle.mas_run.specs.Names.{steps_most, Ckpt1, Ckpt2, Dev, Disk, SomeAlive, IsPlayed, no_renewals, kept_all, AreSettled, run as run_of, Grows, IsCausedFrom, is_of_play, scene_of, Proceeds, BetweenLines, Shows, HaveRead};
 ghost use Rattle.std.specs.Prelude.{◌≡◌, ◌≤◌, true, false, length, All};
-ghost use Rattle.mas_types.specs.Limits.{steps_most};
-ghost use Rattle.mas_types.specs.declared.ids.Dev.TheVariants.{Ckpt1, Ckpt2};
-ghost use Rattle.mas_types.specs.declared.ids.Dev.{Dev};
-ghost use Rattle.spool_plant.specs.declared.plant.Part.TheVariants.{Disk};
-ghost use Rattle.duplex_pair.specs.Halves.{SomeAlive};
-ghost use Rattle.script_input.specs.Played.{IsPlayed};
-ghost use Rattle.mas_complex.specs.Renewals.{no_renewals};
-ghost use Rattle.mas_complex.specs.Journals.{kept_all, AreSettled};
-ghost use Rattle.mas_complex.specs.Meaning.{run as run_of};
-ghost use Rattle.member_node.specs.Calls.{Grows};
 ghost use Rattle.mas_run.specs.Runs.{IsPlay};
-ghost use Rattle.run_opening.specs.Statuses.{IsCausedFrom, is_of_play};
-ghost use Rattle.run_turns.specs.Scenes.{scene_of};
-ghost use Rattle.run_opening.specs.Lines.{Proceeds};
-ghost use Rattle.run_opening.specs.Shows.{BetweenLines, Shows};
-ghost use Rattle.run_opening.specs.Wires.{HaveRead};
 
 use crate::running::Running;
 use ckpt_form::CopyForm;

@@ -1,10 +1,6 @@
 //! A run that has begun: its shared value and its members, and the lines of a script that are played on them.
+ghost use Rattle.mas_run.specs.Names.{members_most, steps_most, Lose, Stop, StopIn, IsMember, left_of, granted_by, IsPlayed};
 ghost use Rattle.std.specs.Prelude.{◌≡◌, ◌≤◌, ◌<◌, length, true, Ok, OnOk, All};
-ghost use Rattle.mas_types.specs.Limits.{members_most, steps_most};
-ghost use Rattle.script_lang.specs.declared.types.Ask.TheVariants.{Lose, Stop, StopIn};
-ghost use Rattle.lock_cycle.specs.Books.{IsMember, left_of};
-ghost use Rattle.run_turns.specs.Admissions.{granted_by};
-ghost use Rattle.script_input.specs.Played.{IsPlayed};
 ghost use Rattle.mas_run.specs.Wires.{task_place};
 
 use mas_complex::{Complex, Steady};

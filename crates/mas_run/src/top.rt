@@ -1,34 +1,16 @@
 //! A script that is played.
+ghost use Rattle.mas_run.specs.Names.{CopyState, Dev, Ckpt1, Ckpt2, first_some, Script as ScriptLem, IsScript, IsPlayed, View, Rose, form_needs, page_count, OnlyLookedAtAll, AreRoomy, console_now, IsNotStarted, refused_sizes, Answers, IsPlayedOut, IsTakenFrom, IsTooSmall, is_of_script, has_begun, AreSidesKept, Begins, IsUnbegun, IsCaused, LeavesLost, is_of_text, is_unplayed, AreVolumesKept, Proceeds};
 ghost use Rattle.std.specs.Prelude.{◌≡◌, ◌≢◌, ◌⊎◌, ℕ, ◌≤◌, true, false, [], None, All, IfOk, IfErr, OnOk, IsErrOf, ◌<◌, Err};
-ghost use Rattle.mas_types.specs.declared.answers.CopyState.{CopyState};
-ghost use Rattle.mas_types.specs.declared.ids.Dev.{Dev};
-ghost use Rattle.mas_types.specs.declared.ids.Dev.TheVariants.{Ckpt1, Ckpt2};
-ghost use Rattle.mas_types.specs.Lists.{first_some};
-ghost use Rattle.script_lang.specs.declared.types.Script.{Script as ScriptLem};
-ghost use Rattle.script_laws.specs.Limits.{IsScript};
-ghost use Rattle.script_input.specs.Played.{IsPlayed};
-ghost use Rattle.spool_plant.specs.View.{View};
-ghost use Rattle.spool_plant.specs.Acts.{Rose};
-ghost use Rattle.ckpt_form.specs.Form.{form_needs};
-ghost use Rattle.ckpt_tables.specs.Shape.{page_count};
-ghost use Rattle.warm_start.specs.Starting.{OnlyLookedAtAll};
-ghost use Rattle.spool_volumes.specs.Volumes.{AreRoomy};
-ghost use Rattle.member_node.specs.Calls.{console_now};
-ghost use Rattle.run_opening.specs.Unstarted.{IsNotStarted};
 ghost use Rattle.mas_run.specs.Refusals.{refusal_before_play, said_by, steps_of, IsSaid};
-ghost use Rattle.run_opening.specs.Refusals.{refused_sizes, Answers, IsPlayedOut, IsTakenFrom, IsTooSmall, is_of_script};
-ghost use Rattle.run_opening.specs.Runs.{has_begun, AreSidesKept, Begins, IsUnbegun};
 ghost use Rattle.mas_run.specs.Runs.{IsRun};
-ghost use Rattle.run_opening.specs.Statuses.{IsCaused, LeavesLost, is_of_text, is_unplayed};
 ghost use Rattle.mas_run.specs.Statuses.{IsStill};
-ghost use Rattle.run_opening.specs.Volumes.{AreVolumesKept};
-ghost use Rattle.run_opening.specs.Lines.{Proceeds};
 
 use crate::play::play_asked;
 use mas_types::Status;
 use run_opening::{Ended, open_run, read_text, status_of_script, unbegun};
 use script_input::read_script;
 use script_lang::Script;
+use script_laws::law_of_scripts;
 use spool_plant::{Plant, Source};
 use std::alloc::Global;
 
@@ -51,6 +33,7 @@ fn read_all<S: Source>(
     ensures source { IsErrOf result Status.SourceFault → Rose (S.faults source.old) (S.faults source.new) }
 {
     let bytes = read_text(alloc, source)?;
+    law_of_scripts();
     match read_script(alloc, bytes.as_slice(), cold, only) {
         Ok(script) => Ok(script),
         Err(why) => Err(status_of_script(why)),

@@ -19,7 +19,7 @@ returns-clause-play g c =
     let head : P.tells → ∥ Headline form_reads x.base x.since J y.renewals w ∥₁ = λ t. rw (e.base, e.since, e.plant, d.base, d.since) at (e.headline t) in
     rw (e.status, c.status_of.ensures, e.base, e.since, e.plant, d.base, d.since)
     (play_of_lines P.tells steps x.base x.journal.batches v.now J y.renewals x.since v w r d.played.many c.requires.settled c.requires.between.sound head
-    (away_after P (parts_of x) (parts_of y) r d.copies.devices y.first_lost y.second_lost)
+    (away_after P (parts_of x) (parts_of y) r d.copies.devices y.lost.0 y.lost.1)
     (good_after P (parts_of x) (parts_of y) r d.copies c.requires.some c.requires.unrenewed c.requires.there1 c.requires.there2)
     (lines_passed x y S ⊥ steps d.played.many r d.played.bare (shown_bare x y S (Unit {0}) c.requires.shows) x.journal.batches J.batches no_renewals x.since refl none c.requires.unrenewed e.journal)
     (λ t. lines_passed x y S (Unit {0}) steps d.played.many r (d.played.told t) c.requires.shows x.journal.batches J.batches no_renewals x.since refl none c.requires.unrenewed e.journal))

@@ -5,7 +5,7 @@ use Rattle.mas_types.specs.declared.answers.Status.TheVariants as status
 use Rattle.mas_run.proofs.top.read_all.Goals as goal
 
 pub returns-in-Ok-clause-only : goal.returns-in-Ok-clause-only
-returns-in-Ok-clause-only g c only = none_read (calm c.args.cold c.args.only) only c.as_slice.result.now c.in-Ok.script c.in-Ok.ensures.said
+returns-in-Ok-clause-only g c only = none_read (calm c.args.cold c.args.only) only c.law_of_scripts.ensures c.as_slice.result.now c.in-Ok.script c.in-Ok.ensures.said
 
 pub returns-clause-kind : goal.returns-clause-kind
 returns-clause-kind g c = rw c.status_of_script.ensures (script_kind c.in-Err.why)

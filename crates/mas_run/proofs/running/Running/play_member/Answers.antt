@@ -6,7 +6,8 @@ use Rattle.mas_run.proofs.DoneLemmas.{may_play, may_reset, plays_done, reads_on,
 use Rattle.mas_run.proofs.AskLemmas.{heard_task, on_line, place_inside, reads_line, still_done}
 use Rattle.mas_run.proofs.KnownLemmas.{few_asked, few_by, few_of}
 use Rattle.mas_run.proofs.ReplacingLemmas.{may_replace, replaces_done}
-use Rattle.mas_run.proofs.TakesLemmas.{seats_done, may_take_over, takes_over}
+use Rattle.mas_run.proofs.SeatLemmas.{seats_done}
+use Rattle.mas_run.proofs.TakesLemmas.{may_take_over, takes_over}
 use Rattle.mas_run.proofs.running.Running.play_member.Given.{Over}
 use Rattle.mas_run.proofs.running.Running.play_member.Goals.{In-Ok}
 use Rattle.mas_run.proofs.running.Running.play_member.Goals as goal
@@ -254,7 +255,7 @@ replace_line-requires-clause-may g c =
     let w = arm g (goal.at.replace_line-requires-clause-may g c).In-Ok (Replaces c.in-Replaces.dev) (ap admission_of c.in-Replaces.is) in
     let s = in_place w w.known_so.0 c.saturating_sub-at.result c.saturating_sub-at.ensures c.item_mut-in-Replaces.result.now c.item_mut-in-Replaces.ensures.value in
     let same = holder_same c.admit.new.complex.book c.args.by c.args.step c.holder_of-holder-in-Replaces.result _ _ c.holder_of-holder-in-Replaces.ensures c.grant_of-grant.ensures in
-    may_replace (has_turn w w.known_so.0 w.known_so.2 refl s) c.holder_of-holder-in-Replaces.result same c.in-Replaces.dev w.known_so.1
+    may_replace (has_turn w w.known_so.0 w.known_so.2 refl s) c.holder_of-holder-in-Replaces.result same w.known_so.1
 
 pub replace_line-requires-clause-kept : goal.replace_line-requires-clause-kept
 replace_line-requires-clause-kept g c told =
@@ -272,7 +273,7 @@ returns-in-Replaces g c =
     let same = holder_same c.admit.new.complex.book c.args.by c.args.step c.holder_of-holder-in-Replaces.result _ _ c.holder_of-holder-in-Replaces.ensures c.grant_of-grant.ensures in
     let e = c.replace_line.ensures in
     let done = done_at _ _ c.args.self.now.members _ _ _ _ _ _ s.back
-    (replaces_done (has_turn w w.known_so.0 w.known_so.2 refl s) c.holder_of-holder-in-Replaces.result same c.in-Replaces.dev w.known_so.1 c.replace_line.new.complex c.replace_line.new.member e.id w.adm
+    (replaces_done (has_turn w w.known_so.0 w.known_so.2 refl s) c.holder_of-holder-in-Replaces.result same w.known_so.1 c.replace_line.new.complex c.replace_line.new.member e.id
     c.replace_line.result e.frame e.replaces) in
     record { done = done; heard = still_done w done c.args.self.now.readers c.requires.readers (λ k same. absurd (cc)) }
 
