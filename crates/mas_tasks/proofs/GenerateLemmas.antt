@@ -21,7 +21,7 @@ use Rattle.spool_plant.specs.View.{View, Line}
 use Rattle.spool_plant.specs.Acts.{next, top}
 use Rattle.gen_work.specs.declared.summaries.Summary.{Summary}
 use Rattle.gen_work.specs.Generated.{script_text}
-use Rattle.gen_work.specs.Summaries.{summary_line}
+use Rattle.gen_work.specs.Summaries.{summary_line, summary_of}
 use Rattle.script_lang.specs.declared.types.Script.{Script}
 use Rattle.mas_complex.specs.Headline.{whole}
 use Rattle.mas_complex.specs.Renewals.{no_renewals}
@@ -29,6 +29,7 @@ use Rattle.mas_complex.specs.declared.renewals.Renewal.{Renewal}
 use Rattle.mas_complex.specs.declared.renewals.Renewals.{Renewals}
 use Rattle.mas_complex.proofs.Papers.{same_papers}
 use Rattle.run_opening.specs.Lines.{Proceeds}
+use Rattle.run_opening.specs.Refusals.{is_of_script, IsPlayedOut}
 use Rattle.mas_run.specs.Refusals.{refusal_before_play}
 use Rattle.run_opening.specs.Runs.{has_begun, Begins, IsSafe}
 use Rattle.mas_run.specs.Runs.{IsRun, LinesBegun, LinesEnded, ReplacesNone, WerePlayed}
@@ -37,36 +38,52 @@ use Rattle.member_node.specs.Calls.{console_now}
 use Rattle.run_opening.proofs.ProceedLemmas.{proceeds_none, proceeds_of}
 use Rattle.run_opening.proofs.RefusalLemmas.{free_answer}
 use Rattle.mas_tasks.specs.Generates.{IsGenerated, IsSaid, MaySay, SaysOne, SumsUp, script_source}
-use Rattle.mas_tasks.specs.Plays.{IsPlayed, Sourced}
+use Rattle.mas_tasks.specs.Plays.{IsPlayed}
+use Rattle.mas_tasks.specs.ScriptRuns.{RunEnd, Sourced}
 use Rattle.mas_tasks.proofs.ExtendLemmas.{AreOver, lines_over, safe_on}
 use Rattle.mas_tasks.proofs.PlayLemmas.{not_played}
+use Rattle.mas_tasks.proofs.TaskLemmas.{memory_not_source}
 
 -- what a run is the same as where nothing was done
-pub played_same : (cold only : Bool) (source : Sourced) (tells same other : Type 0) (answer : Status) (base : Queue) (journal : Journal) (since : ℕ) (old new : View)
-    → (is_unplayed answer ≡ true → same → other) → (has_begun base ≡ false → same → other) → IsPlayed cold only source tells same answer base journal since old new
-    → IsPlayed cold only source tells other answer base journal since old new
-played_same cold only source tells same other answer base journal since old new idle begun p = record {
-  refused = p.refused;
-  words = p.words;
-  device = p.device;
-  formatted = p.formatted;
-  unstarted = p.unstarted;
-  faulted = p.faulted;
-  untouched = λ not. ⊎_elim (λ lost. inl lost) (λ rest. inr (⊎_elim (λ s. inl (begun not s)) (λ looked. inr looked) rest)) (p.untouched not);
-  idle = λ not. idle not (p.idle not);
-  unprinted = p.unprinted;
-  volumes = p.volumes;
+abbrev pub as_same : Type 0 → RunEnd → RunEnd
+as_same other r = record r { same = other }
+
+pub played_same : (cold only : Bool) (source : Sourced) (r : RunEnd) (other : Type 0) → (is_unplayed r.answer ≡ true → r.same → other) → (has_begun r.base ≡ false → r.same → other) → IsPlayed cold only source r
+    → IsPlayed cold only source (as_same other r)
+played_same cold only source r other idle begun p = let e = p.every in record {
+  every = record {
+    refused = e.refused;
+    words = e.words;
+    device = e.device;
+    formatted = e.formatted;
+    unstarted = e.unstarted;
+    faulted = e.faulted;
+    untouched = λ not. ⊎_elim (λ lost. inl lost) (λ rest. inr (⊎_elim (λ s. inl (begun not s)) (λ looked. inr looked) rest)) (e.untouched not);
+    idle = λ not. idle not (e.idle not);
+    unprinted = e.unprinted;
+    volumes = e.volumes;
+    loses = e.loses;
+    arms = e.arms;
+    lost = e.lost;
+    room = e.room;
+    roomy = e.roomy;
+    read = e.read;
+    taken = e.taken;
+  };
   formats = p.formats;
-  loses = p.loses;
-  arms = p.arms;
-  lost = p.lost;
-  room = p.room;
-  roomy = p.roomy;
-  read = p.read;
-  taken = p.taken;
   run = p.run;
   complete = p.complete;
 }
+
+-- the run whose end has what another one gave it
+module _ (decks : ℕ) (r : RunEnd) where
+  abbrev pub given : Queue → Journal → ℕ → RunEnd
+  given base journal since = record r { base = base; journal = journal; since = since }
+
+  pub as_given : (base : Queue) (journal : Journal) (since : ℕ) → r.base ≡ base → r.journal ≡ journal → r.since ≡ since → IsGenerated decks (given base journal since) → IsGenerated decks r
+  as_given base journal since bases journals sinces x =
+      subst (λ (b : Queue). IsGenerated decks (given b r.journal r.since)) (sym bases)
+      (subst (λ (j : Journal). IsGenerated decks (given base j r.since)) (sym journals) (subst (λ (s : ℕ). IsGenerated decks (given base journal s)) (sym sinces) x))
 
 -- WHAT IS SAID AT THE END
 
@@ -203,17 +220,19 @@ run_safe tells script base J since s answer ended v0 v1 v2 low run none ends = b
 not_begun : (b : Bool) → b ≡ true → b ≡ false → ⊥
 not_begun b p q = absurd (cc)
 
-pub not_generated : (decks : ℕ) (tells same : Type 0) (base : Queue) (journal : Journal) (since : ℕ) (v : View) → same → base ≡ no_queue
-    → IsGenerated decks tells same status.NoMemory base journal since v v
-not_generated decks tells same base journal since v stays none =
+memory_not_done : (answer : Status) → answer ≡ status.NoMemory → answer ≡ status.Done → ⊥
+memory_not_done answer e f = absurd (cc)
+
+pub not_generated : (decks : ℕ) (r : RunEnd) → r.answer ≡ status.NoMemory → r.base ≡ no_queue → r.same → r.new ≡ r.old → IsGenerated decks r
+not_generated decks r memory none stays view =
     let text = script_text decks in
     record {
       rest = text;
-      ended = status.NoMemory;
-      between = v;
-      played = not_played true false (script_source decks text) tells same status.NoMemory base journal since v v none stays refl
-          (λ told. free_answer true (refusal_before_play true false text v) status.NoMemory (inr refl)) refl (λ f. absurd (cc)) (λ told. (0, omega arith, refl));
-      summed = (refl, refl);
-      safe = λ begun low. absurd (not_begun (has_begun base) begun (ap has_begun none));
-      complete = λ large calm. tt;
+      ended = r.answer;
+      between = r.new;
+      played = not_played true false (script_source decks text) r none stays view (ap is_of_script memory)
+          (λ told. free_answer true (refusal_before_play true false text r.old) r.answer (inr memory)) (λ f. absurd (memory_not_source r.answer memory f)) (λ told. (0, omega arith, refl));
+      summed = not_summed r.tells (summary_line (summary_of r.base r.journal)) r.answer r.new (memory_not_done r.answer memory);
+      safe = λ begun low. absurd (not_begun (has_begun r.base) begun (ap has_begun none));
+      complete = λ large calm. subst (λ (a : Status). IsPlayedOut true a) (sym memory) tt;
     }

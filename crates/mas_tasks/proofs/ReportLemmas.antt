@@ -31,6 +31,7 @@ use Rattle.run_opening.specs.Statuses.{IsCaused, LeavesLost}
 use Rattle.run_opening.specs.Unstarted.{status_of_start}
 use Rattle.mas_tasks.specs.Reports.{ChangesNoDevice, SaysQueue, IsReport}
 use Rattle.mas_tasks.specs.Saying.{Adds, Says as AreSaid}
+use Rattle.mas_tasks.specs.ScriptRuns.{RunEnd}
 use Rattle.mas_tasks.proofs.SayLemmas.{adds_none}
 
 disk_not_console : (d : Dev) → DiskPart d ≢ Console
@@ -174,8 +175,12 @@ module _ (tells : Type 0) (v0 v1 v2 : View) (Q : Queue) (looks : Looks tells v0 
     said_begins (status.DeviceSize dev size) said = absurd said
     said_begins status.NoMemory said = absurd said
 
-    pub said_report : (answer : Status) (journal : Journal) (since : ℕ) → AreSaid tells (report_lines Q) v1 v2 answer → journal.batches ≡ [] → since ≡ v0.now → IsReport tells answer Q journal since v0 v2
-    said_report answer journal since said batches moment = let s = some_said tells (report_lines Q) v1 v2 answer said in record {
+    -- the report, which said these lines
+    abbrev pub reported_end : Type 0 → Status → Journal → ℕ → RunEnd
+    reported_end same answer journal since = record { tells = tells; same = same; answer = answer; base = Q; journal = journal; since = since; old = v0; new = v2 }
+
+    pub said_report : (same : Type 0) (answer : Status) (journal : Journal) (since : ℕ) → AreSaid tells (report_lines Q) v1 v2 answer → journal.batches ≡ [] → since ≡ v0.now → IsReport (reported_end same answer journal since)
+    said_report same answer journal since said batches moment = let s = some_said tells (report_lines Q) v1 v2 answer said in record {
       devices = no_device tells s.0 v0 v1 v2 looks s.1;
       reported = λ begun. record { found = found_on tells s.0 v0 v1 v2 Q s.1 found; batches = batches; moment = moment; said = says_queue answer said };
       unfound = λ none. absurd (no (has_begun Q) (found_begun tells v0 v1 Q found) none);
@@ -192,12 +197,11 @@ start_not_words no_start.BothLost e = absurd (cc)
 start_not_words (no_start.DeviceSize dev size) e = absurd (cc)
 start_not_words no_start.NoMemory e = absurd (cc)
 
-pub none_report : (tells : Type 0) (answer : Status) (why : StartNo) (base : Queue) (journal : Journal) (since : ℕ) (v0 v1 : View) → Looks tells v0 v1 → has_begun base ≡ false → answer ≡ status_of_start why
-    → FindsNone form_reads tells form_needs v0 v1 why → IsReport tells answer base journal since v0 v1
-none_report tells answer why base journal since v0 v1 looks not is cause = record {
-  devices = no_device tells [] v0 v1 v1 looks (adds_none tells v1);
-  reported = λ begun. absurd (no (has_begun base) begun not);
-  unfound = λ none. record { why = why; is = is; cause = cause };
+pub none_report : (r : RunEnd) (v : View) (why : StartNo) → r.new ≡ v → Looks r.tells r.old v → has_begun r.base ≡ false → r.answer ≡ status_of_start why → FindsNone form_reads r.tells form_needs r.old v why → IsReport r
+none_report r v why view looks not is cause = record {
+  devices = subst (ChangesNoDevice r.tells r.old) (sym view) (no_device r.tells [] r.old v v looks (adds_none r.tells v));
+  reported = λ begun. absurd (no (has_begun r.base) begun not);
+  unfound = λ none. record { why = why; is = is; cause = subst (λ (n : View). FindsNone form_reads r.tells form_needs r.old n why) (sym view) cause };
 }
 
 pub none_caused : (tells : Type 0) (why : StartNo) (v0 v1 : View) → FindsNone form_reads tells form_needs v0 v1 why → IsCaused (status_of_start why) v0 v1
@@ -214,11 +218,10 @@ both_gone tells (no_start.DeviceSize dev size) v0 v1 is none = absurd (cc)
 both_gone tells no_start.NoMemory v0 v1 is none = absurd (cc)
 
 -- a report that found no queue
-pub report_lost : (tells : Type 0) (answer : Status) (base : Queue) (journal : Journal) (since : ℕ) (old new : View) → IsReport tells answer base journal since old new → Goes old new
-    → has_begun base ≡ false → LeavesLost answer old new
-report_lost tells answer base journal since old new report goes none = record {
+pub report_lost : (r : RunEnd) → IsReport r → Goes r.old r.new → has_begun r.base ≡ false → LeavesLost r.answer r.old r.new
+report_lost r report goes none = record {
   stays = goes.lost;
-  both = λ e. let un = report.unfound none in both_gone tells un.why old new (sym e ∙ un.is) un.cause;
+  both = λ e. let un = report.unfound none in both_gone r.tells un.why r.old r.new (sym e ∙ un.is) un.cause;
 }
 
 pub none_begins : (why : StartNo) (base : Queue) → base ≡ no_queue → Begins (status_of_start why) base
@@ -257,5 +260,5 @@ looks_none tells v = record {
 }
 
 -- a report that runs out of memory
-pub not_reported : (tells : Type 0) (base : Queue) (journal : Journal) (since : ℕ) (v : View) → base ≡ no_queue → IsReport tells status.NoMemory base journal since v v
-not_reported tells base journal since v is = none_report tells status.NoMemory no_start.NoMemory base journal since v v (looks_none tells v) (ap has_begun is) refl tt
+pub not_reported : (r : RunEnd) → r.answer ≡ status.NoMemory → r.base ≡ no_queue → r.new ≡ r.old → IsReport r
+not_reported r memory none view = none_report r r.old no_start.NoMemory view (looks_none r.tells r.old) (ap has_begun none) memory tt

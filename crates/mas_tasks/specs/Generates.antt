@@ -3,8 +3,6 @@ use Rattle.std.specs.Prelude.{◌≡◌, ◌⊎◌, ℕ, ◌<◌, true, false, L
 use Rattle.mas_types.specs.declared.answers.Status.{Status}
 use Rattle.mas_types.specs.declared.answers.Status.TheVariants as status
 use Rattle.mas_types.specs.declared.ids.Dev.TheVariants.{Ckpt1, Ckpt2}
-use Rattle.mas_types.specs.declared.journals.Journal.{Journal}
-use Rattle.mas_types.specs.declared.queues.Queue.{Queue}
 use Rattle.mas_types.specs.Lists.{first_some}
 use Rattle.spool_plant.specs.declared.plant.Act.{Act}
 use Rattle.spool_plant.specs.declared.plant.Act.TheVariants.{Done, Failed}
@@ -19,12 +17,17 @@ use Rattle.member_node.specs.Calls.{WasLost}
 use Rattle.run_opening.specs.Refusals.{IsPlayedOut, refused_devices}
 use Rattle.run_opening.specs.Runs.{has_begun, IsSafe}
 use Rattle.mas_run.specs.Statuses.{AreLeftAlone}
-use Rattle.mas_tasks.specs.Plays.{IsPlayed, Sourced}
+use Rattle.mas_tasks.specs.Plays.{IsPlayed}
+use Rattle.mas_tasks.specs.ScriptRuns.{RunEnd, Sourced}
 
--- the script of so many decks as a source: it tells what it has left, and never fails
+-- a text in memory as a source: it tells what it has left, and never fails
+abbrev pub text_source : List ℕ → List ℕ → Sourced
+text_source text rest = record
+    { tells = Unit {0}; before = 0; after = 0; left = text; rest = rest }
+
+-- the script of so many decks
 abbrev pub script_source : ℕ → List ℕ → Sourced
-script_source decks rest = record
-    { tells = Unit {0}; before = 0; after = 0; left = script_text decks; rest = rest }
+script_source decks rest = text_source (script_text decks) rest
 
 -- the operator says a line: one act, with this answer
 pub record SaysOne (tells : Type 0) (line : List ℕ) (old new : View) (result : Act) : Type 0 where
@@ -54,20 +57,22 @@ pub record IsUnhindered (tells : Type 0) (old new : View) : Type 0 where
   pub disks : (tells × AreLeftAlone [] old new) ⊎ (WasLost Ckpt1 old new → WasLost Ckpt2 old new → ⊥)
   pub console : Rose (old.faults Console) (new.faults Console) → ⊥
 
--- A cold run of the script of so many decks, on a plant that showed `old` before and `new` after it, and is the same
--- where nothing was done. Its text says just these decks and the work on them (`script_generated`).
-pub record IsGenerated (decks : ℕ) (tells same : Type 0) (answer : Status) (base : Queue) (journal : Journal)
-    (since : ℕ) (old new : View) : Type 0 where
+-- the run when it had played its lines: with this status, on a plant that showed this then
+abbrev pub before_sum : Status → View → RunEnd → RunEnd
+before_sum ended between r = record r { answer = ended; new = between }
+
+-- A cold run of the script of so many decks. Its text says just these decks and the work on them (`script_generated`).
+pub record IsGenerated (decks : ℕ) (r : RunEnd) : Type 0 where
   -- the script was played as any other, up to what the plant showed then, with this status
   pub rest : List ℕ
   pub ended : Status
   pub between : View
-  pub played : IsPlayed true false (script_source decks rest) tells same ended base journal since old between
+  pub played : IsPlayed true false (script_source decks rest) (before_sum ended between r)
   -- and then what it came to was said
-  pub summed : SumsUp tells (summary_line (summary_of base journal)) ended answer between new
+  pub summed : SumsUp r.tells (summary_line (summary_of r.base r.journal)) ended r.answer between r.new
   -- what a run that has begun, and in which no copy was replaced, promises of each moment holds up to its end, below
   -- the greatest moment
-  pub safe : has_begun base ≡ true → new.now < top → IsSafe tells base journal no_renewals since new
+  pub safe : has_begun r.base ≡ true → r.new.now < top → IsSafe r.tells r.base r.journal no_renewals r.since r.new
   -- where the devices are large enough and nothing hinders it, it is played to its end, and the line is said
-  pub complete : first_some (refused_devices (script_generated decks).config old) ≡ None → IsUnhindered tells old new
-      → IsPlayedOut true answer
+  pub complete : first_some (refused_devices (script_generated decks).config r.old) ≡ None
+      → IsUnhindered r.tells r.old r.new → IsPlayedOut true r.answer

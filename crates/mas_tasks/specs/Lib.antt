@@ -2,6 +2,7 @@ pub mod Tasks
 pub mod Saying
 pub mod Reports
 pub mod Checks
+pub mod ScriptRuns
 pub mod Plays
 pub mod ScriptTexts
 pub mod Generates

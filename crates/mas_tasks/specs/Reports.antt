@@ -2,7 +2,6 @@
 use Rattle.std.specs.Prelude.{◌≡◌, ◌≢◌, ◌⊎◌, ℕ, ◌<◌, true, false, List, [], ◌++◌, length, take, map}
 use Rattle.mas_types.specs.declared.ids.Dev.{Dev}
 use Rattle.mas_types.specs.declared.ids.Dev.TheVariants.{Ckpt1, Ckpt2}
-use Rattle.mas_types.specs.declared.journals.Journal.{Journal}
 use Rattle.mas_types.specs.declared.queues.Queue.{Queue}
 use Rattle.mas_types.specs.declared.answers.Status.{Status}
 use Rattle.mas_types.specs.declared.answers.Status.TheVariants as status
@@ -20,6 +19,7 @@ use Rattle.queue_report.specs.Reports.{report_lines}
 use Rattle.run_opening.specs.Runs.{has_begun}
 use Rattle.member_node.specs.Calls.{console_now}
 use Rattle.run_opening.specs.Unstarted.{status_of_start}
+use Rattle.mas_tasks.specs.ScriptRuns.{RunEnd}
 
 -- At each moment no byte of a device has changed, and each printer has the lines that it had; no device is lost but a
 -- copy of the checkpoint on which an act failed.
@@ -50,12 +50,11 @@ SaysQueue tells status.ConsoleFault Q old new = SaysSome tells (report_lines Q) 
 SaysQueue tells _ Q old new = ⊥
 
 -- A report that found a queue: the one that a start would find. Nothing is given to it.
-pub record HasReported (tells : Type 0) (answer : Status) (base : Queue) (journal : Journal) (since : ℕ)
-    (old new : View) : Type 0 where
-  pub found : HasFound form_reads tells form_needs old new base
-  pub batches : journal.batches ≡ []
-  pub moment : since ≡ old.now
-  pub said : SaysQueue tells answer base old new
+pub record HasReported (r : RunEnd) : Type 0 where
+  pub found : HasFound form_reads r.tells form_needs r.old r.new r.base
+  pub batches : r.journal.batches ≡ []
+  pub moment : r.since ≡ r.old.now
+  pub said : SaysQueue r.tells r.answer r.base r.old r.new
 
 -- A report that says nothing, and why: there is no queue to be found, or it ran out of memory.
 pub record ReportsNone (tells : Type 0) (answer : Status) (old new : View) : Type 0 where
@@ -63,9 +62,8 @@ pub record ReportsNone (tells : Type 0) (answer : Status) (old new : View) : Typ
   pub is : answer ≡ status_of_start why
   pub cause : FindsNone form_reads tells form_needs old new why
 
--- A report, on a plant that showed `old` before and `new` after it.
-pub record IsReport (tells : Type 0) (answer : Status) (base : Queue) (journal : Journal) (since : ℕ)
-    (old new : View) : Type 0 where
-  pub devices : ChangesNoDevice tells old new
-  pub reported : has_begun base ≡ true → HasReported tells answer base journal since old new
-  pub unfound : has_begun base ≡ false → ReportsNone tells answer old new
+-- A report.
+pub record IsReport (r : RunEnd) : Type 0 where
+  pub devices : ChangesNoDevice r.tells r.old r.new
+  pub reported : has_begun r.base ≡ true → HasReported r
+  pub unfound : has_begun r.base ≡ false → ReportsNone r.tells r.answer r.old r.new

@@ -7,8 +7,9 @@ ghost use Rattle.run_opening.specs.Statuses.{IsCaused, LeavesLost};
 ghost use Rattle.member_node.specs.Calls.{console_now};
 ghost use Rattle.mas_tasks.specs.Checks.{IsCheckRun};
 ghost use Rattle.mas_tasks.specs.Generates.{IsGenerated};
-ghost use Rattle.mas_tasks.specs.Plays.{IsPlayed, source_of};
+ghost use Rattle.mas_tasks.specs.Plays.{IsPlayed};
 ghost use Rattle.mas_tasks.specs.Reports.{IsReport};
+ghost use Rattle.mas_tasks.specs.ScriptRuns.{run_end, source_of};
 ghost use Rattle.mas_tasks.specs.Tasks.{task_asked};
 
 use crate::generating::play_generated;
@@ -47,20 +48,17 @@ pub fn calm_top<P: Plant + Drop, S: Source>(
 
     // What the words ask for.
     ensures play { (cold : Bool) → task_asked (map string_bytes words.now) ≡ Some (Task.Play cold)
-        → IsPlayed cold false (source_of S.tells (S.faults script.old) (S.faults script.new) (S.left script.old)
-        (S.left script.new)) P.tells (result.plant ≡ plant) result.status result.base result.journal result.since
-        (P.view plant) (P.view result.plant) }
+        → IsPlayed cold false (source_of S.tells S.faults S.left script.old script.new)
+        (run_end P.tells P.view plant result) }
     ensures report { task_asked (map string_bytes words.now) ≡ Some Task.Report → (script.new ≡ script.old)
-        × IsReport P.tells result.status result.base result.journal result.since (P.view plant) (P.view result.plant) }
+        × IsReport (run_end P.tells P.view plant result) }
     ensures format { task_asked (map string_bytes words.now) ≡ Some Task.Format
-        → IsPlayed true true (source_of S.tells (S.faults script.old) (S.faults script.new) (S.left script.old)
-        (S.left script.new)) P.tells (result.plant ≡ plant) result.status result.base result.journal result.since
-        (P.view plant) (P.view result.plant) }
+        → IsPlayed true true (source_of S.tells S.faults S.left script.old script.new)
+        (run_end P.tells P.view plant result) }
     ensures check { task_asked (map string_bytes words.now) ≡ Some Task.Check → (script.new ≡ script.old)
         × (has_begun result.base ≡ false) × IsCheckRun P.tells result.status (P.view plant) (P.view result.plant) }
     ensures generate { (decks : ℕ) → task_asked (map string_bytes words.now) ≡ Some (Task.Generate decks)
-        → (script.new ≡ script.old) × IsGenerated decks P.tells (result.plant ≡ plant) result.status result.base
-        result.journal result.since (P.view plant) (P.view result.plant) }
+        → (script.new ≡ script.old) × IsGenerated decks (run_end P.tells P.view plant result) }
 
     // In every run: why it ends, and whether it has begun, which a check never does. Unless it has begun it changes no
     // byte of a volume, and says nothing but the line of a check.

@@ -9,6 +9,7 @@ ghost use Rattle.run_opening.specs.Statuses.{IsCaused, LeavesLost};
 ghost use Rattle.run_opening.specs.Volumes.{AreVolumesKept};
 ghost use Rattle.member_node.specs.Calls.{console_now};
 ghost use Rattle.mas_tasks.specs.Generates.{IsGenerated, IsSaid, MaySay};
+ghost use Rattle.mas_tasks.specs.ScriptRuns.{run_end};
 
 use gen_work::{generate, summary_line, summary_of};
 use mas_complex::{BriefJournal, BriefQueue};
@@ -128,8 +129,7 @@ fn sum_up<P: Plant + Drop>(
 /// NoMemory also where there is none for the script, and then nothing is done, or for that line.
 pub(crate) fn play_generated<P: Plant + Drop>(alloc: Global, decks: u32, plant: P) -> Ended<P>
     requires { IsDeckCount decks }
-    ensures generated { IsGenerated decks P.tells (result.plant ≡ plant) result.status result.base result.journal
-        result.since (P.view plant) (P.view result.plant) }
+    ensures generated { IsGenerated decks (run_end P.tells P.view plant result) }
     ensures words { result.status ≢ Status.Words }
     ensures cause { IsCaused result.status (P.view plant) (P.view result.plant) }
     ensures begun { Begins result.status result.base }

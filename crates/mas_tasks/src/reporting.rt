@@ -8,6 +8,7 @@ ghost use Rattle.run_opening.specs.Runs.{has_begun, Begins, IsUnbegun};
 ghost use Rattle.run_opening.specs.Statuses.{IsCaused};
 ghost use Rattle.mas_tasks.specs.Reports.{IsReport};
 ghost use Rattle.mas_tasks.specs.Saying.{Says};
+ghost use Rattle.mas_tasks.specs.ScriptRuns.{run_end};
 
 use crate::saying::say_lines;
 use mas_complex::{BriefJournal, BriefQueue};
@@ -56,8 +57,7 @@ fn said<P: Plant + Drop>(
 /// Says the queue that a start would find: the displays of its jobs, outputs, volumes and members, and then `END`. Both
 /// copies are looked at, and none is changed or lost by a call.
 pub(crate) fn report_queue<P: Plant + Drop>(alloc: Global, plant: P) -> Ended<P>
-    ensures report { IsReport P.tells result.status result.base result.journal result.since (P.view plant)
-        (P.view result.plant) }
+    ensures report { IsReport (run_end P.tells P.view plant result) }
     ensures words { result.status ≢ Status.Words }
     ensures cause { IsCaused result.status (P.view plant) (P.view result.plant) }
     ensures begun { Begins result.status result.base }

@@ -1,6 +1,6 @@
 //! The top call.
 ghost use Rattle.std.specs.Prelude.{◌≡◌, Bool, map, string_bytes, None, Some};
-ghost use Rattle.mas_tasks.specs.Plays.{source_of};
+ghost use Rattle.mas_tasks.specs.ScriptRuns.{run_end, source_of};
 ghost use Rattle.mas_top.specs.Raced.{IsRaced};
 ghost use Rattle.mas_tasks.specs.Tasks.{race_asked};
 ghost use Rattle.mas_top.specs.Tops.{DoesCalm};
@@ -29,13 +29,11 @@ pub fn race_top<R: Threads + Wait + Sync, P: Plant + Send + Drop, S: Source, M: 
     meet: &M,
 ) -> Ended<P>
     ensures race { (cold : Bool) → race_asked (map string_bytes words.now) ≡ Some cold
-        → IsRaced cold (source_of S.tells (S.faults script.old) (S.faults script.new) (S.left script.old)
-        (S.left script.new)) P.tells (result.plant ≡ plant) result.status result.base result.journal result.since
-        (P.view plant) (P.view result.plant) }
+        → IsRaced cold (source_of S.tells S.faults S.left script.old script.new)
+        (run_end P.tells P.view plant result) }
     ensures calm { race_asked (map string_bytes words.now) ≡ None → DoesCalm (map string_bytes words.now)
-        (source_of S.tells (S.faults script.old) (S.faults script.new) (S.left script.old) (S.left script.new))
-        P.tells (script.new ≡ script.old) (result.plant ≡ plant) result.status result.base result.journal result.since
-        (P.view plant) (P.view result.plant) }
+        (source_of S.tells S.faults S.left script.old script.new) (script.new ≡ script.old)
+        (run_end P.tells P.view plant result) }
 {
     let read = match read_words(alloc, words) {
         Ok(read) => read,
@@ -56,13 +54,11 @@ pub fn mas_top<R: Threads + Wait + Sync, P: Plant + Send + Drop, S: Source>(
     plant: P,
 ) -> Ended<P>
     ensures race { (cold : Bool) → race_asked (map string_bytes words.now) ≡ Some cold
-        → IsRaced cold (source_of S.tells (S.faults script.old) (S.faults script.new) (S.left script.old)
-        (S.left script.new)) P.tells (result.plant ≡ plant) result.status result.base result.journal result.since
-        (P.view plant) (P.view result.plant) }
+        → IsRaced cold (source_of S.tells S.faults S.left script.old script.new)
+        (run_end P.tells P.view plant result) }
     ensures calm { race_asked (map string_bytes words.now) ≡ None → DoesCalm (map string_bytes words.now)
-        (source_of S.tells (S.faults script.old) (S.faults script.new) (S.left script.old) (S.left script.new))
-        P.tells (script.new ≡ script.old) (result.plant ≡ plant) result.status result.base result.journal result.since
-        (P.view plant) (P.view result.plant) }
+        (source_of S.tells S.faults S.left script.old script.new) (script.new ≡ script.old)
+        (run_end P.tells P.view plant result) }
 {
     race_top(rt, alloc, words, script, plant, &NoMeet)
 }

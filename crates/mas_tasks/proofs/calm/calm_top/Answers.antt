@@ -5,7 +5,8 @@ use Rattle.mas_run.specs.Refusals.{refusal_before_play}
 use Rattle.run_opening.specs.Runs.{has_begun}
 use Rattle.mas_tasks.specs.declared.tasks.Task.TheVariants as task
 use Rattle.mas_tasks.specs.Generates.{IsGenerated}
-use Rattle.mas_tasks.specs.Plays.{IsPlayed, source_of}
+use Rattle.mas_tasks.specs.Plays.{IsPlayed}
+use Rattle.mas_tasks.specs.ScriptRuns.{run_end, source_of}
 use Rattle.mas_tasks.specs.Tasks.{task_asked}
 use Rattle.run_opening.proofs.ProceedLemmas.{proceeds_none, proceeds_of}
 use Rattle.run_opening.proofs.RefusalLemmas.{free_answer}
@@ -32,13 +33,16 @@ pub returns-in-Play-clause-play : goal.returns-in-Play-clause-play
 returns-in-Play-clause-play g c cold is =
     let P = g.P.Plant in
     let S = g.S.Source in
-    let old = P.view c.args.plant in
-    let left = S.left c.args.script.now in
     let r = c.play_script.result in
     let e = c.play_script.ensures in
     let same : c.in-Play.cold ≡ cold = play_same (task_asked (map string_bytes c.args.words.now)) c.in-Play.cold cold (c.in-Ok.ensures ∙ ap Some c.in-Play.is) is in
-    subst (λ (x : Bool). IsPlayed x false (source_of S.tells (S.faults c.args.script.now) (S.faults c.play_script.new.script) left (S.left c.play_script.new.script)) P.tells (r.plant ≡ c.args.plant) r.status r.base r.journal r.since old (P.view r.plant)) same
-    (record { refused = e.refused; words = e.words; device = e.device; formatted = e.formatted; unstarted = e.unstarted; faulted = e.source; untouched = e.untouched; idle = e.idle; unprinted = e.unprinted; volumes = e.volumes; formats = e.formats; loses = e.loses; arms = e.arms; lost = e.lost; room = e.room; roomy = e.roomy; read = e.read; taken = e.taken; run = e.run; complete = e.complete })
+    subst (λ (x : Bool). IsPlayed x false (source_of S.tells S.faults S.left c.args.script.now c.play_script.new.script) (run_end P.tells P.view c.args.plant r)) same
+    (record {
+      every = record { refused = e.refused; words = e.words; device = e.device; formatted = e.formatted; unstarted = e.unstarted; faulted = e.source; untouched = e.untouched; idle = e.idle; unprinted = e.unprinted; volumes = e.volumes; loses = e.loses; arms = e.arms; lost = e.lost; room = e.room; roomy = e.roomy; read = e.read; taken = e.taken };
+      formats = e.formats;
+      run = e.run;
+      complete = e.complete;
+    })
 
 pub returns-in-Play-clause-report : goal.returns-in-Play-clause-report
 returns-in-Play-clause-report g c is = absurd (play_not_report (task_asked (map string_bytes c.args.words.now)) c.in-Play.cold (c.in-Ok.ensures ∙ ap Some c.in-Play.is) is)
@@ -98,7 +102,12 @@ returns-in-Format-clause-report g c is = absurd (report_not_format (task_asked (
 pub returns-in-Format-clause-format : goal.returns-in-Format-clause-format
 returns-in-Format-clause-format g c is =
     let e = c.play_script-in-Format.ensures in
-    record { refused = e.refused; words = e.words; device = e.device; formatted = e.formatted; unstarted = e.unstarted; faulted = e.source; untouched = e.untouched; idle = e.idle; unprinted = e.unprinted; volumes = e.volumes; formats = e.formats; loses = e.loses; arms = e.arms; lost = e.lost; room = e.room; roomy = e.roomy; read = e.read; taken = e.taken; run = e.run; complete = e.complete }
+    record {
+      every = record { refused = e.refused; words = e.words; device = e.device; formatted = e.formatted; unstarted = e.unstarted; faulted = e.source; untouched = e.untouched; idle = e.idle; unprinted = e.unprinted; volumes = e.volumes; loses = e.loses; arms = e.arms; lost = e.lost; room = e.room; roomy = e.roomy; read = e.read; taken = e.taken };
+      formats = e.formats;
+      run = e.run;
+      complete = e.complete;
+    }
 
 pub returns-in-Format-clause-check : goal.returns-in-Format-clause-check
 returns-in-Format-clause-check g c is = absurd (format_not_check (task_asked (map string_bytes c.args.words.now)) (c.in-Ok.ensures ∙ ap Some c.in-Format.is) is)
@@ -197,7 +206,7 @@ returns-in-Generate-clause-generate g c decks is =
     let P = g.P.Plant in
     let r = c.play_generated.result in
     let same : c.in-Generate.decks ≡ decks = generate_same (task_asked (map string_bytes c.args.words.now)) c.in-Generate.decks decks (c.in-Ok.ensures ∙ ap Some c.in-Generate.is) is in
-    (refl, subst (λ (n : ℕ). IsGenerated n P.tells (r.plant ≡ c.args.plant) r.status r.base r.journal r.since (P.view c.args.plant) (P.view r.plant)) same c.play_generated.ensures.generated)
+    (refl, subst (λ (n : ℕ). IsGenerated n (run_end P.tells P.view c.args.plant r)) same c.play_generated.ensures.generated)
 
 -- WORDS THAT AREN'T READ
 
@@ -214,13 +223,11 @@ pub returns-in-Err-clause-play : goal.returns-in-Err-clause-play
 returns-in-Err-clause-play g c cold is =
     let P = g.P.Plant in
     let S = g.S.Source in
-    let old = P.view c.args.plant in
-    let left = S.left c.args.script.now in
     let u = c.unbegun.result in
     let e = c.unbegun.ensures in
     let memory = e.status ∙ c.status_of_no.ensures ∙ some_memory (task_asked (map string_bytes c.args.words.now)) (task.Play cold) c.in-Err.why c.in-Err.ensures is in
-    not_played cold false (source_of S.tells (S.faults c.args.script.now) (S.faults c.args.script.now) left left) P.tells (u.plant ≡ c.args.plant) u.status u.base u.journal u.since old (P.view u.plant) e.unbegun.queue e.plant (ap P.view e.plant)
-    (λ told. free_answer cold (refusal_before_play cold false left old) u.status (inr memory)) (ap is_of_script memory) (λ f. absurd (memory_not_source u.status memory f)) (λ told. (0, omega arith, refl))
+    not_played cold false (source_of S.tells S.faults S.left c.args.script.now c.args.script.now) (run_end P.tells P.view c.args.plant u) e.unbegun.queue e.plant (ap P.view e.plant) (ap is_of_script memory)
+    (λ told. free_answer cold (refusal_before_play cold false (S.left c.args.script.now) (P.view c.args.plant)) u.status (inr memory)) (λ f. absurd (memory_not_source u.status memory f)) (λ told. (0, omega arith, refl))
 
 pub returns-in-Err-clause-report : goal.returns-in-Err-clause-report
 returns-in-Err-clause-report g c is =
@@ -228,19 +235,17 @@ returns-in-Err-clause-report g c is =
     let u = c.unbegun.result in
     let e = c.unbegun.ensures in
     let memory = e.status ∙ c.status_of_no.ensures ∙ some_memory (task_asked (map string_bytes c.args.words.now)) task.Report c.in-Err.why c.in-Err.ensures is in
-    (refl, rw (memory, e.plant) (not_reported P.tells u.base u.journal u.since (P.view c.args.plant) e.unbegun.queue))
+    (refl, not_reported (run_end P.tells P.view c.args.plant u) memory e.unbegun.queue (ap P.view e.plant))
 
 pub returns-in-Err-clause-format : goal.returns-in-Err-clause-format
 returns-in-Err-clause-format g c is =
     let P = g.P.Plant in
     let S = g.S.Source in
-    let old = P.view c.args.plant in
-    let left = S.left c.args.script.now in
     let u = c.unbegun.result in
     let e = c.unbegun.ensures in
     let memory = e.status ∙ c.status_of_no.ensures ∙ some_memory (task_asked (map string_bytes c.args.words.now)) task.Format c.in-Err.why c.in-Err.ensures is in
-    not_played true true (source_of S.tells (S.faults c.args.script.now) (S.faults c.args.script.now) left left) P.tells (u.plant ≡ c.args.plant) u.status u.base u.journal u.since old (P.view u.plant) e.unbegun.queue e.plant (ap P.view e.plant)
-    (λ told. free_answer true (refusal_before_play true true left old) u.status (inr memory)) (ap is_of_script memory) (λ f. absurd (memory_not_source u.status memory f)) (λ told. (0, omega arith, refl))
+    not_played true true (source_of S.tells S.faults S.left c.args.script.now c.args.script.now) (run_end P.tells P.view c.args.plant u) e.unbegun.queue e.plant (ap P.view e.plant) (ap is_of_script memory)
+    (λ told. free_answer true (refusal_before_play true true (S.left c.args.script.now) (P.view c.args.plant)) u.status (inr memory)) (λ f. absurd (memory_not_source u.status memory f)) (λ told. (0, omega arith, refl))
 
 pub returns-in-Err-clause-check : goal.returns-in-Err-clause-check
 returns-in-Err-clause-check g c is =
@@ -255,7 +260,7 @@ returns-in-Err-clause-generate g c decks is =
     let u = c.unbegun.result in
     let e = c.unbegun.ensures in
     let memory = e.status ∙ c.status_of_no.ensures ∙ some_memory (task_asked (map string_bytes c.args.words.now)) (task.Generate decks) c.in-Err.why c.in-Err.ensures is in
-    (refl, rw (memory, e.plant) (not_generated decks P.tells (c.args.plant ≡ c.args.plant) u.base u.journal u.since (P.view c.args.plant) refl e.unbegun.queue))
+    (refl, not_generated decks (run_end P.tells P.view c.args.plant u) memory e.unbegun.queue e.plant (ap P.view e.plant))
 
 pub returns-in-Err-clause-cause : goal.returns-in-Err-clause-cause
 returns-in-Err-clause-cause g c = rw (c.unbegun.ensures.status, c.status_of_no.ensures) (words_caused c.in-Err.why (g.P.Plant.view c.args.plant) (g.P.Plant.view c.unbegun.result.plant))
@@ -273,7 +278,7 @@ pub returns-in-Report-clause-lost : goal.returns-in-Report-clause-lost
 returns-in-Report-clause-lost g c none =
     let P = g.P.Plant in
     let r = c.report_queue.result in
-    report_lost P.tells r.status r.base r.journal r.since (P.view c.args.plant) (P.view r.plant) c.report_queue.ensures.report c.report_queue.ensures.goes none
+    report_lost (run_end P.tells P.view c.args.plant r) c.report_queue.ensures.report c.report_queue.ensures.goes none
 
 pub returns-in-Err-clause-begun : goal.returns-in-Err-clause-begun
 returns-in-Err-clause-begun g c other = rw (c.unbegun.ensures.status, c.status_of_no.ensures) (words_begins c.in-Err.why c.unbegun.result.base c.unbegun.ensures.unbegun.queue)

@@ -7,11 +7,12 @@ use Rattle.run_opening.specs.Runs.{Begins, has_begun}
 use Rattle.run_opening.specs.Statuses.{is_unplayed}
 use Rattle.run_opening.proofs.ProceedLemmas.{proceeds_none, proceeds_on}
 use Rattle.run_opening.proofs.VolumeLemmas.{kept_none}
-use Rattle.mas_tasks.specs.Generates.{SumsUp, script_source}
-use Rattle.mas_tasks.specs.Plays.{IsPlayed, source_of}
+use Rattle.mas_tasks.specs.Generates.{SumsUp, script_source, text_source}
+use Rattle.mas_tasks.specs.Plays.{IsPlayed}
+use Rattle.mas_tasks.specs.ScriptRuns.{RunEnd, run_end}
 use Rattle.mas_tasks.specs.ScriptTexts.{left_of}
 use Rattle.mas_tasks.proofs.CompleteLemmas.{ends_out, generated_renews, refusal_generated, still_generated}
-use Rattle.mas_tasks.proofs.GenerateLemmas.{ends_begins, ends_caused, ends_of, ends_proceeds, ends_words, not_generated, not_summed, played_same, run_safe, whole_safe}
+use Rattle.mas_tasks.proofs.GenerateLemmas.{as_given, ends_begins, ends_caused, ends_of, ends_proceeds, ends_words, not_generated, not_summed, played_same, run_safe, whole_safe}
 use Rattle.mas_tasks.proofs.PlayLemmas.{script_caused, script_lost}
 use Rattle.mas_tasks.proofs.generating.play_generated.Goals as goal
 
@@ -25,7 +26,7 @@ returns-in-Err-clause-generated g c =
     let P = g.P.Plant in
     let u = c.unbegun.result in
     let e = c.unbegun.ensures in
-    rw (e.status, e.plant) (not_generated c.args.decks P.tells (c.args.plant ≡ c.args.plant) u.base u.journal u.since (P.view c.args.plant) refl e.unbegun.queue)
+    not_generated c.args.decks (run_end P.tells P.view c.args.plant u) e.status e.unbegun.queue e.plant (ap P.view e.plant)
 
 pub returns-in-Err-clause-cause : goal.returns-in-Err-clause-cause
 returns-in-Err-clause-cause g c =
@@ -54,18 +55,22 @@ returns-in-Done-clause-generated g c =
     let text = c.in-Ok.text in
     let rest = left_of c.play_script-status.new.script in
     let mid = P.view r.plant in
-    let all : IsPlayed true false (source_of (Unit {0}) 0 0 text rest) P.tells (r.plant ≡ c.args.plant) r.status r.base r.journal r.since old mid =
-    record { refused = e.refused; words = e.words; device = e.device; formatted = e.formatted; unstarted = e.unstarted; faulted = e.source; untouched = e.untouched; idle = e.idle; unprinted = e.unprinted; volumes = e.volumes; formats = e.formats; loses = e.loses; arms = e.arms; lost = e.lost; room = e.room; roomy = e.roomy; read = e.read; taken = e.taken; run = e.run; complete = e.complete } in
-    let played : IsPlayed true false (script_source c.args.decks rest) P.tells (r.plant ≡ c.args.plant) r.status r.base r.journal r.since old mid =
-    subst (λ (left : List ℕ). IsPlayed true false (source_of (Unit {0}) 0 0 left rest) P.tells (r.plant ≡ c.args.plant) r.status r.base r.journal r.since old mid) c.in-Ok.ensures all in
+    let ended : RunEnd = run_end P.tells P.view c.args.plant r in
+    let all : IsPlayed true false (text_source text rest) ended = record {
+      every = record { refused = e.refused; words = e.words; device = e.device; formatted = e.formatted; unstarted = e.unstarted; faulted = e.source; untouched = e.untouched; idle = e.idle; unprinted = e.unprinted; volumes = e.volumes; loses = e.loses; arms = e.arms; lost = e.lost; room = e.room; roomy = e.roomy; read = e.read; taken = e.taken };
+      formats = e.formats;
+      run = e.run;
+      complete = e.complete;
+    } in
+    let played : IsPlayed true false (script_source c.args.decks rest) ended = subst (λ (left : List ℕ). IsPlayed true false (text_source left rest) ended) c.in-Ok.ensures all in
     let line = summary_line (summary_of r.base r.journal) in
     let s = c.sum_up.result in
     let begun : has_begun r.base ≡ true = subst (λ (a : Status). Begins a r.base) c.in-Done.is e.begun in
-    let same = played_same true false (script_source c.args.decks rest) P.tells (r.plant ≡ c.args.plant) (s.plant ≡ c.args.plant) r.status r.base r.journal r.since old mid
+    let same = played_same true false (script_source c.args.decks rest) ended (s.plant ≡ c.args.plant)
     (λ not stays. absurd (no (is_unplayed r.status) not (ap is_unplayed c.in-Done.is))) (λ not stays. absurd (no (has_begun r.base) begun not)) played in
     let summed = subst (λ (a : Status). SumsUp P.tells line a s.status mid (P.view s.plant)) (sym c.in-Done.is) c.sum_up.ensures.summed in
     let ends = ends_of P.tells line s.status mid (P.view s.plant) c.sum_up.ensures.summed in
-    rw (c.sum_up.ensures.base, c.sum_up.ensures.journal, c.sum_up.ensures.since)
+    as_given c.args.decks (run_end P.tells P.view c.args.plant s) r.base r.journal r.since c.sum_up.ensures.base c.sum_up.ensures.journal c.sum_up.ensures.since
     (record {
       rest = rest;
       ended = r.status;
@@ -143,10 +148,14 @@ returns-clause-generated g c =
     let text = c.in-Ok.text in
     let rest = left_of c.play_script-status.new.script in
     let mid = P.view r.plant in
-    let all : IsPlayed true false (source_of (Unit {0}) 0 0 text rest) P.tells (r.plant ≡ c.args.plant) r.status r.base r.journal r.since old mid =
-    record { refused = e.refused; words = e.words; device = e.device; formatted = e.formatted; unstarted = e.unstarted; faulted = e.source; untouched = e.untouched; idle = e.idle; unprinted = e.unprinted; volumes = e.volumes; formats = e.formats; loses = e.loses; arms = e.arms; lost = e.lost; room = e.room; roomy = e.roomy; read = e.read; taken = e.taken; run = e.run; complete = e.complete } in
-    let played : IsPlayed true false (script_source c.args.decks rest) P.tells (r.plant ≡ c.args.plant) r.status r.base r.journal r.since old mid =
-    subst (λ (left : List ℕ). IsPlayed true false (source_of (Unit {0}) 0 0 left rest) P.tells (r.plant ≡ c.args.plant) r.status r.base r.journal r.since old mid) c.in-Ok.ensures all in
+    let ended : RunEnd = run_end P.tells P.view c.args.plant r in
+    let all : IsPlayed true false (text_source text rest) ended = record {
+      every = record { refused = e.refused; words = e.words; device = e.device; formatted = e.formatted; unstarted = e.unstarted; faulted = e.source; untouched = e.untouched; idle = e.idle; unprinted = e.unprinted; volumes = e.volumes; loses = e.loses; arms = e.arms; lost = e.lost; room = e.room; roomy = e.roomy; read = e.read; taken = e.taken };
+      formats = e.formats;
+      run = e.run;
+      complete = e.complete;
+    } in
+    let played : IsPlayed true false (script_source c.args.decks rest) ended = subst (λ (left : List ℕ). IsPlayed true false (text_source left rest) ended) c.in-Ok.ensures all in
     let line = summary_line (summary_of r.base r.journal) in
     record {
       rest = rest;

@@ -1,18 +1,20 @@
-use Rattle.std.proofs.Common.{◌∙◌, List, ℕ, sym, ap, subst}
+use Rattle.std.proofs.Common.{◌≡◌, ◌∙◌, List, ℕ, sym, ap, subst}
 use Rattle.cmd_report.specs.Named.{IsNamed}
+use Rattle.mas_types.specs.declared.queues.Queue.{Queue}
 use Rattle.warm_start.specs.Bare.{bare_deck, bare_print}
 use Rattle.start_choice.specs.declared.choosing.StartNo.TheVariants as no_start
 use Rattle.run_opening.specs.Runs.{has_begun}
+use Rattle.mas_tasks.specs.Reports.{IsReport}
 use Rattle.mas_tasks.specs.Saying.{Says}
+use Rattle.mas_tasks.specs.ScriptRuns.{run_end}
 use Rattle.mas_tasks.proofs.ReportLemmas.{none_report, none_elsewhere, said_report, said_caused, said_goes, said_elsewhere, said_not_words, start_not_words}
 use Rattle.mas_tasks.proofs.reporting.report_queue.Goals as goal
 
 pub returns-in-Err-clause-report : goal.returns-in-Err-clause-report
 returns-in-Err-clause-report g c =
     let P = g.P.Plant in
-    let u = c.unbegun.result in
     let e = c.unbegun.ensures in
-    rw e.plant (none_report P.tells u.status c.in-Err.why u.base u.journal u.since (P.view c.args.plant) (P.view c.found.new.plant) c.in-Err.ensures.looks (ap has_begun e.unbegun.queue) (e.status ∙ c.status_of_start.ensures) c.in-Err.ensures.none)
+    none_report (run_end P.tells P.view c.args.plant c.unbegun.result) (P.view c.found.new.plant) c.in-Err.why (ap P.view e.plant) c.in-Err.ensures.looks (ap has_begun e.unbegun.queue) (e.status ∙ c.status_of_start.ensures) c.in-Err.ensures.none
 
 pub returns-in-Err-clause-words : goal.returns-in-Err-clause-words
 returns-in-Err-clause-words g c = rw (c.unbegun.ensures.status, c.status_of_start.ensures) (start_not_words c.in-Err.why)
@@ -25,9 +27,8 @@ reported-requires g c =
 pub returns-in_default-clause-report : goal.returns-in_default-clause-report
 returns-in_default-clause-report g c =
     let P = g.P.Plant in
-    let u = c.unbegun-in_default.result in
     let e = c.unbegun-in_default.ensures in
-    rw e.plant (none_report P.tells u.status no_start.NoMemory u.base u.journal u.since (P.view c.args.plant) (P.view c.found.new.plant) c.in-Ok.ensures.looks (ap has_begun e.unbegun.queue) e.status tt)
+    none_report (run_end P.tells P.view c.args.plant c.unbegun-in_default.result) (P.view c.found.new.plant) no_start.NoMemory (ap P.view e.plant) c.in-Ok.ensures.looks (ap has_begun e.unbegun.queue) e.status tt
 
 pub returns-in_default-clause-elsewhere : goal.returns-in_default-clause-elsewhere
 returns-in_default-clause-elsewhere g c =
@@ -42,7 +43,8 @@ returns-clause-report g c =
     let v0 = P.view c.args.plant in
     let v1 = P.view c.found.new.plant in
     let says = subst (λ (l : List (List ℕ)). Says P.tells l v1 (P.view r.plant) r.status) c.in-Ok-reported.ensures.lines c.said.ensures.says in
-    rw (c.said.ensures.base ∙ c.in-Ok-reported.ensures.base) (said_report P.tells v0 v1 (P.view r.plant) Q c.in-Ok.ensures.looks c.in-Ok.ensures.queue r.status r.journal r.since says c.said.ensures.journal (c.said.ensures.since ∙ c.now-since.ensures))
+    subst (λ (base : Queue). IsReport (record (run_end P.tells P.view c.args.plant r) { base = base })) (sym (c.said.ensures.base ∙ c.in-Ok-reported.ensures.base))
+    (said_report P.tells v0 v1 (P.view r.plant) Q c.in-Ok.ensures.looks c.in-Ok.ensures.queue (r.plant ≡ c.args.plant) r.status r.journal r.since says c.said.ensures.journal (c.said.ensures.since ∙ c.now-since.ensures))
 
 pub returns-clause-words : goal.returns-clause-words
 returns-clause-words g c =

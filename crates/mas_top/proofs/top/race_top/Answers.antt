@@ -1,6 +1,6 @@
-use Rattle.std.proofs.Common.{◌≡◌, ◌∙◌, Bool, Some, map, refl, sym, subst, arith}
+use Rattle.std.proofs.Common.{◌≡◌, ◌∙◌, Bool, Some, map, refl, sym, ap, subst, arith}
 use Rattle.std.specs.Prelude.{string_bytes}
-use Rattle.mas_tasks.specs.Plays.{source_of}
+use Rattle.mas_tasks.specs.ScriptRuns.{run_end, source_of}
 use Rattle.mas_top.specs.Raced.{IsRaced}
 use Rattle.mas_tasks.specs.Tasks.{race_asked}
 use Rattle.mas_top.proofs.RaceLemmas.{asked_race, not_raced, race_memory, race_none, race_same, words_calm}
@@ -12,23 +12,19 @@ pub returns-in-Err-clause-race : goal.returns-in-Err-clause-race
 returns-in-Err-clause-race g c cold is =
     let P = g.P.Plant in
     let S = g.S.Source in
-    let left = S.left c.args.script.now in
     let u = c.unbegun.result in
     let e = c.unbegun.ensures in
-    let memory = race_memory (map string_bytes c.args.words.now) cold c.in-Err.why c.in-Err.ensures is in
-    rw (e.status, c.status_of_no.ensures, memory, e.plant)
-    (not_raced cold (source_of S.tells (S.faults c.args.script.now) (S.faults c.args.script.now) left left) P.tells (c.args.plant ≡ c.args.plant) u.base u.journal u.since (P.view c.args.plant) e.unbegun refl (λ told. (0, omega arith, refl)))
+    let memory = e.status ∙ c.status_of_no.ensures ∙ race_memory (map string_bytes c.args.words.now) cold c.in-Err.why c.in-Err.ensures is in
+    not_raced cold (source_of S.tells S.faults S.left c.args.script.now c.args.script.now) (run_end P.tells P.view c.args.plant u) memory e.unbegun e.plant (ap P.view e.plant) (λ told. (0, omega arith, refl))
 
 pub returns-in-Err-clause-calm : goal.returns-in-Err-clause-calm
 returns-in-Err-clause-calm g c none =
     let P = g.P.Plant in
     let S = g.S.Source in
-    let left = S.left c.args.script.now in
     let u = c.unbegun.result in
     let e = c.unbegun.ensures in
-    rw (e.status, c.status_of_no.ensures, e.plant)
-    (words_calm (map string_bytes c.args.words.now) (source_of S.tells (S.faults c.args.script.now) (S.faults c.args.script.now) left left) P.tells (c.args.script.now ≡ c.args.script.now) (c.args.plant ≡ c.args.plant) c.in-Err.why
-    u.base u.journal u.since (P.view c.args.plant) c.in-Err.ensures refl refl e.unbegun (λ told. (0, omega arith, refl)))
+    words_calm (map string_bytes c.args.words.now) (source_of S.tells S.faults S.left c.args.script.now c.args.script.now) (c.args.script.now ≡ c.args.script.now) (run_end P.tells P.view c.args.plant u) c.in-Err.why
+    (e.status ∙ c.status_of_no.ensures) c.in-Err.ensures refl e.plant (ap P.view e.plant) e.unbegun (λ told. (0, omega arith, refl))
 
 -- A RACE
 
@@ -41,31 +37,14 @@ returns-in-Some-clause-race g c cold is =
     let e = c.race_script.ensures in
     let asked = asked_race texts c.in-Ok.read c.in-Ok.ensures in
     let same : c.in-Some.cold ≡ cold = race_same (race_asked texts) c.in-Some.cold cold (asked ∙ sym c.in-Some.ensures) is in
-    subst (λ (x : Bool). IsRaced x (source_of S.tells (S.faults c.args.script.now) (S.faults c.race_script.new.script) (S.left c.args.script.now) (S.left c.race_script.new.script)) P.tells (r.plant ≡ c.args.plant) r.status r.base r.journal
-    r.since (P.view c.args.plant) (P.view r.plant)) same
+    subst (λ (x : Bool). IsRaced x (source_of S.tells S.faults S.left c.args.script.now c.race_script.new.script) (run_end P.tells P.view c.args.plant r)) same
     (record {
-      refused = e.refused;
-      words = e.words;
-      device = e.device;
-      formatted = e.formatted;
-      unstarted = e.unstarted;
-      faulted = e.source;
+      every = record { refused = e.refused; words = e.words; device = e.device; formatted = e.formatted; unstarted = e.unstarted; faulted = e.source; untouched = e.untouched; idle = e.idle; unprinted = e.unprinted; volumes = e.volumes; loses = e.loses; arms = e.arms; lost = e.lost; room = e.room; roomy = e.roomy; read = e.read; taken = e.taken };
       cause = e.cause;
       begun = e.begun;
       unbegun = e.unbegun;
-      untouched = e.untouched;
-      idle = e.idle;
       unsaid = e.unsaid;
-      unprinted = e.unprinted;
-      volumes = e.volumes;
       goes = e.goes;
-      loses = e.loses;
-      arms = e.arms;
-      lost = e.lost;
-      room = e.room;
-      roomy = e.roomy;
-      read = e.read;
-      taken = e.taken;
       race = e.race;
       complete = e.complete;
     })
