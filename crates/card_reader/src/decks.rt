@@ -89,10 +89,14 @@ fn refused_card(cards: &Lines, end: usize) -> Option<Refused>
     ensures card { IfSome result (λ refused. refused.card ≤ text_lines_most + 1) }
     ensures few { IfNone result (length cards.now ≤ text_lines_most) }
 {
+    let mut rest = cards.lines_from(0);
     let mut at = 0;
     while at < cards.len() {
+        let Some(line) = rest.next() else {
+            break;
+        };
         let card = at + 1;
-        let cause = if !is_card(cards.line(at)) {
+        let cause = if !is_card(line) {
             CardCause::Text
         } else if card > TEXT_LINES_MOST {
             CardCause::Many
@@ -322,8 +326,11 @@ fn front_of(alloc: Global, cards: &Lines, end: usize) -> Result<Lines, NoMemory>
     ensures { IfOk result (λ text. text ≡ take end cards.now) }
 {
     let mut text = Lines::new(alloc);
-    for at in 0..end {
-        text.push(cards.line(at))?;
+    let mut rest = cards.lines_from(0);
+    for _at in 0..end {
+        if let Some(card) = rest.next() {
+            text.push(card)?;
+        }
     }
     Ok(text)
 }

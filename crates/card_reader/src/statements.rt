@@ -49,10 +49,7 @@ ghost use Rattle.std.specs.List.{starts_with};
 fn append(text: &mut List<u8>, field: &[u8]) -> Result<(), NoMemory>
     ensures { OnOk result (text.new ≡ text.old ++ field.now) }
 {
-    for byte in field {
-        text.push(*byte)?;
-    }
-    Ok(())
+    text.push_all(field)
 }
 
 // Adds the fields that continue a statement from a card on: whether they are whole, and how many
@@ -206,9 +203,12 @@ pub fn data_from(cards: &Lines, from: usize, ending: Ending) -> DataCards
     ensures within { from + result.taken ≤ length cards.now }
     ensures fits { from + result.taken < 2 ^ 64 }
 {
+    let mut rest = cards.lines_from(from);
     let mut at = from;
     while at < cards.len() {
-        let card = cards.line(at);
+        let Some(card) = rest.next() else {
+            break;
+        };
         if ends_before(ending, card) {
             break;
         }

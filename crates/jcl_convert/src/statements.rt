@@ -103,8 +103,11 @@ fn part_of(alloc: Global, text: &Lines, from: usize, end: usize) -> Result<Lines
     ensures { IfOk result (λ part. part ≡ take (end - from) (drop from text.now)) }
 {
     let mut part = Lines::new(alloc);
-    for at in from..end {
-        part.push(text.line(at))?;
+    let mut rest = text.lines_from(from);
+    for _at in from..end {
+        if let Some(line) = rest.next() {
+            part.push(line)?;
+        }
     }
     Ok(part)
 }

@@ -4,7 +4,7 @@ use Rattle.std.proofs.lemmas.Bool.{cases_lt}
 use Rattle.std.proofs.lemmas.Bool.Decides.{nat_tests}
 use Rattle.std.proofs.lemmas.List.{length-append, append-nil, take_at, drop_at, take-append-le, take-append-drop, at_drop_more, take_all}
 use Rattle.std.proofs.lemmas.Nat.{from_be_bytes-to_be_bytes_4}
-use Rattle.mas_types.specs.LineBytes.{length_bytes, line_bytes, lines_bytes, length_size, first_length, first_line, behind_line, HasLine, lines_in, AreShort, AreMarks, with_mark, AreKept}
+use Rattle.mas_types.specs.LineBytes.{length_bytes, line_bytes, lines_bytes, length_size, first_length, first_line, behind_line, HasLine, lines_in, AreShort, AreMarks, with_mark, AreKept, HaveLines}
 
 -- a length is read back
 coded_by : (n : ℕ) (text : List ℕ) (b : Bool) → nat_lt n 255 ≡ b → n < 2 ^ 32 → (length_size (length_bytes n ++ text) ≡ length (length_bytes n)) × (first_length (length_bytes n ++ text) ≡ n)
@@ -212,3 +212,26 @@ first_mark (suc k) mark is = absurd (cc)
 -- no lines, with the mark that needn't be kept
 pub none_kept : AreKept 0 [] (0 ∷ [])
 none_kept = (refl, tt, first_mark, omega arith)
+
+-- the lines from a place on
+pub short_from : (lines : List (List ℕ)) (at : ℕ) → AreShort lines → AreShort (drop at lines)
+short_from lines zero short = short
+short_from [] (suc at) short = short
+short_from (line ∷ lines) (suc at) short = short_from lines at short.1
+
+-- so many lines stand in the bytes of lines
+pub have_lines : (lines : List (List ℕ)) → AreShort lines → HaveLines (length lines) (lines_bytes lines)
+have_lines [] short k less = absurd (omega (arith, less))
+have_lines (line ∷ lines) short zero less = has_line line (lines_bytes lines) short.0
+have_lines (line ∷ lines) short (suc k) less =
+    rw (behind_is line (lines_bytes lines) short.0) (have_lines lines short.1 k (omega (arith, less)))
+
+-- the first of the lines from a place on is the line at that place
+pub next_line : (lines : List (List ℕ)) (at : ℕ) (line : List ℕ) (rest : List (List ℕ)) → drop at lines ≡ line ∷ rest → (slice_get lines at ≡ Some line) × (rest ≡ drop (at + 1) lines) × (at < length lines)
+next_line [] zero line rest is = absurd (cc)
+next_line [] (suc at) line rest is = absurd (cc)
+next_line (first ∷ lines) zero line rest is = (cc, cc, omega arith)
+next_line (first ∷ lines) (suc at) line rest is =
+    let later = next_line lines at line rest is in
+    let more : suc at + 1 ≡ suc (at + 1) = omega arith in
+    rw more (later.0, later.1, omega (arith, later.2))

@@ -2,6 +2,7 @@ pub mod Lends
 pub mod Lists
 pub mod Sorted
 pub mod LineBytes
+pub mod LinesLeft
 pub mod Limits
 pub mod Ids
 pub mod Queue

@@ -60,3 +60,12 @@ with_mark count place marks = if count / 32 == length marks then marks ++ place 
 abbrev pub AreKept : ℕ → List ℕ → List ℕ → Type 0
 AreKept count bytes marks = (bytes ≡ lines_bytes (lines_in count bytes)) × AreShort (lines_in count bytes)
     × AreMarks (lines_in count bytes) marks × (count ≤ 32 * length marks)
+
+-- what stands behind so many lines
+abbrev pub behind_lines : ℕ → List ℕ → List ℕ
+behind_lines zero bytes = bytes
+behind_lines (suc count) bytes = behind_lines count (behind_line bytes)
+
+-- so many lines stand whole in the bytes
+abbrev pub HaveLines : ℕ → List ℕ → Type 0
+HaveLines count bytes = (k : ℕ) → k < count → HasLine (behind_lines k bytes)

@@ -35,11 +35,7 @@ impl<T: Copied + Drop> Copied for List<T> {
 
 impl Copied for Lines {
     fn copy(&self, alloc: Global) -> Result<Self, NoMemory> {
-        let mut copies = Lines::new(alloc);
-        for at in 0..self.len() {
-            copies.push(self.line(at))?;
-        }
-        Ok(copies)
+        self.copied(alloc)
     }
 }
 

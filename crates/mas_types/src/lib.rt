@@ -21,6 +21,7 @@ pub mod starts;
 pub mod statuses;
 pub mod texts;
 pub mod units;
+pub mod walks;
 pub mod words;
 
 pub use answers::{CardCause, Closing, CopyState, FaultKind, JclCause, LineCause, Status, Verdict};
@@ -42,3 +43,4 @@ pub use starts::{default_config, default_setting, empty_queue, no_queue};
 pub use statuses::{status_code, status_line};
 pub use texts::Lines;
 pub use units::Unit;
+pub use walks::LinesFrom;

@@ -17,10 +17,7 @@ use crate::lists::List;
 pub fn push_text(line: &mut List<u8>, text: &[u8]) -> Result<(), NoMemory>
     ensures { OnOk result (line.new ≡ line.old ++ text.now) }
 {
-    for byte in text {
-        line.push(*byte)?;
-    }
-    Ok(())
+    line.push_all(text)
 }
 
 fn last_digit(n: u64) -> u8

@@ -40,15 +40,6 @@ fn zeros(alloc: Global, n: usize) -> Result<Vec<u8>, NoMemory>
     }
 }
 
-fn append(bytes: &mut List<u8>, piece: &[u8]) -> Result<(), NoMemory>
-    ensures { OnOk result (bytes.new ≡ bytes.old ++ piece.now) }
-{
-    for byte in piece {
-        bytes.push(*byte)?;
-    }
-    Ok(())
-}
-
 // Fills the front of a piece, of at most `room` bytes: how many came, none where nothing was left.
 fn next_piece<S: Source>(
     source: &mut S,
@@ -98,7 +89,7 @@ pub fn read_source<S: Source>(alloc: Global, source: &mut S) -> Result<List<u8>,
         if n == 0 {
             return Ok(bytes);
         }
-        append(&mut bytes, &piece[..n])?;
+        bytes.push_all(&piece[..n])?;
     }
     Err(SourceError::TooLong)
 }

@@ -23,6 +23,10 @@ module _ {A : Type 0} where
       let here : get_or xs i x ≡ x = get_or_from_slice_get xs i x x h in
       subst P here (all i x (slice_get_within xs i x h))
 
+  -- what holds of all holds of the first and of those behind it
+  pub All-first : (P : A → Type 0) (x : A) (xs : List A) → All P (x ∷ xs) → P x × All P xs
+  All-first P x xs all = (all 0 x (omega arith), λ i d within. all (suc i) d (omega (arith, within)))
+
 -- the item at a place that is there
 pub slice_get-within : {A : Type 0} (xs : List A) (i : ℕ) → i < length xs → (d : A) → slice_get xs i ≡ Some (unwrap_or (slice_get xs i) d)
 slice_get-within [] i h d = absurd (omega arith)

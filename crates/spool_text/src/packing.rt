@@ -19,8 +19,8 @@ pub fn groups_needed(lines: &Lines) -> u32
 {
     let mut used = 0;
     let mut groups = 1;
-    for at in 0..lines.len() {
-        let size = lines.line(at).len();
+    for line in lines.lines_from(0) {
+        let size = line.len();
         if used + size + 2 <= PAGE_BYTES {
             used += size + 1;
         } else {
@@ -84,8 +84,7 @@ fn put_records(lines: &Lines, first: usize, into: &mut [u8; 4096]) -> usize
     ensures records { take result into.new ≡ records_of (lines_at 0 (drop first lines.now)) }
 {
     let mut used = 0;
-    for at in first..lines.len() {
-        let line = lines.line(at);
+    for line in lines.lines_from(first) {
         if used + line.len() + 2 > PAGE_BYTES {
             break;
         }

@@ -48,3 +48,8 @@ returns-clause-first c =
     let all : 32 * (c.args.at / 32) + c.loop-passed._passed ≡ c.args.at = omega (arith, c.loop-passed-test.false, c.loop-passed.auto) in
     let here = (line_here c.args.self.now c.args.at (rw (← c.self.view_is) short) c.requires).1 in
     rw (c.loop-passed.invariant, all) (slice_get-get_or c.args.self.now c.args.at [] c.requires ∙ ap (λ (line : List ℕ). Some line) (sym here))
+
+pub returns-clause-bytes : goal.returns-clause-bytes
+returns-clause-bytes c =
+    let all : 32 * (c.args.at / 32) + c.loop-passed._passed ≡ c.args.at = omega (arith, c.loop-passed-test.false, c.loop-passed.auto) in
+    c.loop-passed.invariant ∙ ap (λ (n : ℕ). lines_bytes (drop n c.args.self.now)) all
