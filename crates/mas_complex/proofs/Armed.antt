@@ -1,6 +1,6 @@
 -- A stop that is armed changes nothing of which a shared value keeps a fact.
-use Rattle.mas_complex.proofs.Names.{inl, inr, ⊎_elim, ℕ, List, Option, refl, sym, subst, le_refl, ∥∥₁_map, MemberId, Batch, Queue, Book, View, Arms, PlantGhosts, Ghosts as CopyGhosts, SteadyGhosts, Complex, Copy, Keeps, Setting, KeepsPaper, LineAt}
-use Rattle.mas_complex.proofs.Values.{Left, facts, first_of, second_of, setting_of, view_of}
+use Rattle.mas_complex.proofs.Names.{inl, inr, ⊎_elim, ℕ, List, Option, refl, sym, subst, le_refl, ∥∥₁_map, MemberId, Batch, Queue, Book, View, Arms, PlantGhosts, Ghosts as CopyGhosts, SteadyGhosts, Complex, Copy, Keeps, Setting, KeepsPaper, LineAt, Dev}
+use Rattle.mas_complex.proofs.Values.{Left, copies_of, facts, half_of, setting_of, view_of}
 
 -- the view with these counts of stops that were armed
 abbrev with_arms : View → (ℕ → ℕ) → View
@@ -8,14 +8,13 @@ with_arms v arms = record v { arms = arms }
 
 -- WHAT A CRASH LEAVES
 
-module _ (S : Setting) (js : List Batch) (current : Option Batch) (reached : ℕ) (first second : Copy) (v : View) where
-  keeps_with : (arms : ℕ → ℕ) → Keeps S js current reached first second v → Keeps S js current reached first second (with_arms v arms)
+module _ (S : Setting) (js : List Batch) (current : Option Batch) (reached : ℕ) (copies : Dev → Copy) (v : View) where
+  keeps_with : (arms : ℕ → ℕ) → Keeps S js current reached copies v → Keeps S js current reached copies (with_arms v arms)
   keeps_with arms k = record {
     started = k.started;
     settled = k.settled;
     begun = k.begun;
-    renewed1 = k.renewed1;
-    renewed2 = k.renewed2;
+    renewed = k.renewed;
     crash = k.crash;
     told = k.told;
     grows = k.grows;
@@ -23,13 +22,7 @@ module _ (S : Setting) (js : List Batch) (current : Option Batch) (reached : ℕ
     sunk = k.sunk;
     first_level = k.first_level;
     first_order = k.first_order;
-    rises = record {
-      first1 = k.rises.first1;
-      first2 = k.rises.first2;
-      risen = k.rises.risen;
-      most1 = k.rises.most1;
-      most2 = k.rises.most2;
-    };
+    rises = record { first = k.rises.first; risen = k.rises.risen; most = k.rises.most };
     was = k.was;
     coming = k.coming;
     stands = k.stands;
@@ -37,8 +30,7 @@ module _ (S : Setting) (js : List Batch) (current : Option Batch) (reached : ℕ
     none = k.none;
     near = k.near;
     comes_near = k.comes_near;
-    first_at = k.first_at;
-    second_at = k.second_at;
+    at = λ d ckpt. let c = k.at d ckpt in record { at = c.at; formed = c.formed; gone = c.gone };
   }
 
 -- WHAT STANDS ON PAPER
@@ -62,6 +54,6 @@ module _ (base : Queue) (since : ℕ) (js : List Batch) (current : Option Batch)
 
 pub left_armed : {P C : Type 0} {plants : PlantGhosts P} {steadies : SteadyGhosts C} {copies : CopyGhosts C} (s : Complex P C plants steadies copies) (m : ℕ) (new : View) → Arms m (view_of s) new → Left s new
 left_armed {steadies = steadies} s m new armed = subst (λ (v : View). Left s v) (sym armed.same) (facts s s.pair s.first s.second (with_arms (view_of s) new.arms) (le_refl (view_of s).now)
-    (λ told. ∥∥₁_map (s.kept told) (λ k. keeps_with (setting_of s) s.journal.batches s.current s.level (first_of s) (second_of s) (view_of s) new.arms k)) s.lasting
+    (λ told. ∥∥₁_map (s.kept told) (λ k. keeps_with (setting_of s) s.journal.batches s.current s.level (copies_of s) (view_of s) new.arms k)) s.lasting
     (λ told sound. ∥∥₁_map (s.paper told sound) (λ k. paper_with s.base s.since s.journal.batches s.current s.printed s.book (view_of s) new.arms k))
-    ((λ is. steadies.sizes_fit s.pair.first.copy (view_of s) (with_arms (view_of s) new.arms) (λ d. refl) (s.ready.0 is)), (λ is. steadies.sizes_fit s.pair.second.copy (view_of s) (with_arms (view_of s) new.arms) (λ d. refl) (s.ready.1 is))) s.lost)
+    (λ d ckpt is. steadies.sizes_fit (half_of s d).copy (view_of s) (with_arms (view_of s) new.arms) (λ d. refl) (s.ready d ckpt is)) s.lost)

@@ -1,11 +1,11 @@
 -- From the invariant of the shared value to its headline.
-use Rattle.mas_complex.proofs.Names.{◌≡◌, inl, inr, ⊎_elim, ℕ, ◌+◌, ◌≤◌, ◌<◌, ◌==◌, ◌&&◌, cond, Bool, true, false, List, [], ◌∷◌, ◌++◌, length, filter, All, Contains, Option, Some, None, refl, subst, sym, ◌∙◌, ap, arith, All-nil, All-cons, MemberId, Batch, Entry, Kept, Queue, kept_at, flying_at, entries_of, is_kept_by, is_flying_at, IsSound, Dev, Ckpt1, Ckpt2, Disk as DiskPart, View, Line, ViewDisk as Disk, disk_at, top, AllRead, either_way, ne_eqb, true≢false, IsLeftOf, spools_at, lost_now, GivesTexts, kept, flying, kept_all, batches_kept, entries_in, in_flight, StepIsKept, has_step, EndsInPlace, HasPlace, end_of, journal_most, with_last, without_last, IsSome, IfSome, level, append-nil, Closes, run, StandFor, Renewals, is_renewed_at, is_open, Setting, setting_with, Stands, IsNext, Alike, Copy, Keeps, IsFound, IsAfter, EachTells, said, found, lost_if, left_at, IsLeft, ReadsBy, ReadsUpTo, PaperKept, AreAlike, AreAlwaysAlike, AreLevelsLow, AreTextsLeft, AreToldKept, FoundFor, Headline, IsAfterKept, IsCrashSafe, whole}
+use Rattle.mas_complex.proofs.Names.{◌≡◌, inl, inr, ⊎_elim, ℕ, ◌+◌, ◌≤◌, ◌<◌, ◌==◌, ◌&&◌, cond, Bool, true, false, List, [], ◌∷◌, ◌++◌, length, filter, All, Contains, Option, Some, None, refl, subst, sym, ◌∙◌, ap, arith, All-nil, All-cons, MemberId, Batch, Entry, Kept, Queue, kept_at, flying_at, entries_of, is_kept_by, is_flying_at, IsSound, Dev, Ckpt1, Ckpt2, Disk as DiskPart, View, Line, ViewDisk as Disk, disk_at, top, either_way, ne_eqb, true≢false, IsLeftOf, spools_at, lost_now, GivesTexts, kept, flying, kept_all, batches_kept, entries_in, in_flight, StepIsKept, has_step, EndsInPlace, HasPlace, end_of, journal_most, with_last, without_last, IsSome, IfSome, level, append-nil, Closes, run, StandFor, Renewals, is_renewed_at, is_open, Setting, setting_with, Stands, IsNext, Alike, Copy, Keeps, IsFound, IsAfter, EachTells, said, found, lost_if, left_at, IsLeft, ReadsBy, ReadsUpTo, PaperKept, AreAlike, AreAlwaysAlike, AreLevelsLow, AreTextsLeft, AreToldKept, FoundFor, Headline, IsAfterKept, IsCrashSafe, whole, IsCkpt, is_away, of_device}
 use Rattle.mas_types.specs.declared.journals.Journal.{Journal}
 use Rattle.mas_types.specs.Closings.{closing_line}
 use Rattle.mas_complex.proofs.Spooled.{gives_texts}
 use Rattle.mas_complex.proofs.BatchEnds.{with_last-append, without_last-append}
 use Rattle.mas_complex.proofs.Batches.{now_kept, now_flying}
-use Rattle.mas_complex.proofs.Present.{alike_as, alike_found, top_reads}
+use Rattle.mas_complex.proofs.Present.{Reads, alike_as, alike_found, top_reads}
 use Rattle.mas_complex.proofs.Moves.{unplace_keeps}
 use Rattle.mas_complex.proofs.Rising.{kept_append, less_up, one_up}
 use Rattle.mas_complex.proofs.Renewed.{renewed_open}
@@ -59,7 +59,7 @@ pub record Parts (reads : List ℕ → Option (List ℕ)) (base : Queue) (since 
   pub told : AreToldKept J since v
   pub levels : AreLevelsLow reads since J rs v
 
-module _ (reads : List ℕ → Option (List ℕ)) (base : Queue) (since : ℕ) (rs : Renewals) (js : List Batch) (c : Option Batch) (reached : ℕ) (first second : Copy) (v : View) where
+module _ (reads : List ℕ → Option (List ℕ)) (base : Queue) (since : ℕ) (rs : Renewals) (js : List Batch) (c : Option Batch) (reached : ℕ) (copies : Dev → Copy) (v : View) where
   abbrev S : Setting
   S = setting_with reads base since rs
 
@@ -74,37 +74,31 @@ module _ (reads : List ℕ → Option (List ℕ)) (base : Queue) (since : ℕ) (
       (ap (λ (l : List Entry). l ++ flying (js ++ in_flight c) t) (kept_is (js ++ in_flight c) t) ∙ ap (λ (l : List Entry). kept_at (record { batches = js ++ in_flight c }) t ++ l) (flying_is (js ++ in_flight c) t)) q x))
       after
 
-  are_alike : (t : ℕ) → Alike S (kept (js ++ in_flight c) t) (flying (js ++ in_flight c) t) t (left_at v t Ckpt1) (left_at v t Ckpt2) → AreAlike reads base (record { batches = js ++ in_flight c }) rs t (left_at v t Ckpt1) (left_at v t Ckpt2)
-  are_alike t alike = of_same (subst (λ (l : List Entry). Alike S (kept_at (record { batches = js ++ in_flight c }) t) l t (left_at v t Ckpt1) (left_at v t Ckpt2)) (flying_is (js ++ in_flight c) t)
-      (subst (λ (l : List Entry). Alike S l (flying (js ++ in_flight c) t) t (left_at v t Ckpt1) (left_at v t Ckpt2)) (kept_is (js ++ in_flight c) t) alike)) where
+  are_alike : (t : ℕ) → Alike S (kept (js ++ in_flight c) t) (flying (js ++ in_flight c) t) t (left_at v t) → AreAlike reads base (record { batches = js ++ in_flight c }) rs t v
+  are_alike t alike = of_same (alike_as S (kept (js ++ in_flight c) t) (flying (js ++ in_flight c) t) (kept_at (record { batches = js ++ in_flight c }) t) (flying_at (record { batches = js ++ in_flight c }) t) (left_at v t)
+      (sym (kept_is (js ++ in_flight c) t)) (sym (flying_is (js ++ in_flight c) t)) alike) where
         next_of : (l : ℕ) (was : List ℕ) (K F : List Entry) (n : Option (List ℕ)) → Stands S l K was → IsNext S l K F n → IfSome n (λ pages. (level pages ≡ level was + 1) × StandFor (run base (K ++ F)) pages)
         next_of l was K F None stands comes = tt
         next_of l was K F (Some pages) stands comes = (omega (arith, stands.at_level, comes.at_level), comes.queue)
 
-        of_same : Alike S (kept_at (record { batches = js ++ in_flight c }) t) (flying_at (record { batches = js ++ in_flight c }) t) t (left_at v t Ckpt1) (left_at v t Ckpt2) → AreAlike reads base (record { batches = js ++ in_flight c }) rs t (left_at v t Ckpt1) (left_at v t Ckpt2)
+        of_same : Alike S (kept_at (record { batches = js ++ in_flight c }) t) (flying_at (record { batches = js ++ in_flight c }) t) t (left_at v t) → AreAlike reads base (record { batches = js ++ in_flight c }) rs t v
         of_same a = record {
           was = a.was;
           coming = a.coming;
           stands = a.stands.queue;
           comes = next_of a.reached a.was (kept_at (record { batches = js ++ in_flight c }) t) (flying_at (record { batches = js ++ in_flight c }) t) a.coming a.stands a.comes;
           none = a.none;
-          first = a.first;
-          second = a.second;
+          first = a.reads Ckpt1 tt;
+          second = a.reads Ckpt2 tt;
         }
 
-  module _ (keeps : Keeps S js c reached first second v) (most : v.now ≤ top) (lost1 : first.alive ≡ false → is_open rs.first ≡ false → v.lost (DiskPart Ckpt1) ≡ true) (lost2 : second.alive ≡ false → is_open rs.second ≡ false → v.lost (DiskPart Ckpt2) ≡ true)
-      (rests_reads1 : (pages : List ℕ) (d : Disk) → first.rests pages d → AllRead reads pages d) (holds_reads1 : (was next : List ℕ) (d : Disk) → first.holds was next d → AllRead reads was d)
-      (rests_reads2 : (pages : List ℕ) (d : Disk) → second.rests pages d → AllRead reads pages d) (holds_reads2 : (was next : List ℕ) (d : Disk) → second.holds was next d → AllRead reads was d) where
-    first_at_top : v.now ≡ top → ReadsBy S (is_renewed_at rs.first v.now) keeps.was keeps.coming (left_at v v.now Ckpt1)
-    first_at_top last = subst (λ (b : Bool). ReadsBy S b keeps.was keeps.coming (left_at v v.now Ckpt1)) (sym (renewed_open rs.first v.now v.now keeps.renewed1 (omega arith)))
-        (top_reads S keeps.was first.rests first.holds rests_reads1 holds_reads1 keeps.coming first.place first.alive Ckpt1 v last keeps.first_at lost1)
+  module _ (keeps : Keeps S js c reached copies v) (most : v.now ≤ top) (lost : (d : Dev) → IsCkpt d → (copies d).alive ≡ false → is_away S d ≡ false → v.lost (DiskPart d) ≡ true) (laws : (d : Dev) → Reads reads (copies d)) where
+    at_top : v.now ≡ top → (d : Dev) → IsCkpt d → ReadsBy S (is_renewed_at (of_device d rs) v.now) keeps.was keeps.coming (left_at v v.now d)
+    at_top last d ckpt = subst (λ (b : Bool). ReadsBy S b keeps.was keeps.coming (left_at v v.now d)) (sym (renewed_open (of_device d rs) v.now v.now (keeps.renewed d ckpt) (omega arith)))
+        (top_reads S keeps.was (copies d) (laws d) keeps.coming d v (keeps.at d ckpt) last (lost d ckpt))
 
-    second_at_top : v.now ≡ top → ReadsBy S (is_renewed_at rs.second v.now) keeps.was keeps.coming (left_at v v.now Ckpt2)
-    second_at_top last = subst (λ (b : Bool). ReadsBy S b keeps.was keeps.coming (left_at v v.now Ckpt2)) (sym (renewed_open rs.second v.now v.now keeps.renewed2 (omega arith)))
-        (top_reads S keeps.was second.rests second.holds rests_reads2 holds_reads2 keeps.coming second.place second.alive Ckpt2 v last keeps.second_at lost2)
-
-    at_top : v.now ≡ top → Alike S (kept (js ++ in_flight c) v.now) (flying (js ++ in_flight c) v.now) v.now (left_at v v.now Ckpt1) (left_at v v.now Ckpt2)
-    at_top last = alike_as S (kept_all js) (entries_in c) (kept (js ++ in_flight c) v.now) (flying (js ++ in_flight c) v.now) (left_at v v.now Ckpt1) (left_at v v.now Ckpt2)
+    alike_top : v.now ≡ top → Alike S (kept (js ++ in_flight c) v.now) (flying (js ++ in_flight c) v.now) v.now (left_at v v.now)
+    alike_top last = alike_as S (kept_all js) (entries_in c) (kept (js ++ in_flight c) v.now) (flying (js ++ in_flight c) v.now) (left_at v v.now)
         (now_kept js c v.now v.now keeps.settled keeps.begun (omega arith)) (now_flying js c v.now v.now keeps.settled keeps.begun (omega arith))
         (record {
           reached = reached;
@@ -113,47 +107,44 @@ module _ (reads : List ℕ → Option (List ℕ)) (base : Queue) (since : ℕ) (
           stands = keeps.stands;
           comes = keeps.comes;
           none = keeps.none;
-          first = first_at_top last;
-          second = second_at_top last;
+          reads = at_top last;
         })
 
-    at_any : (t : ℕ) → since ≤ t → t ≤ v.now → Alike S (kept (js ++ in_flight c) t) (flying (js ++ in_flight c) t) t (left_at v t Ckpt1) (left_at v t Ckpt2)
+    at_any : (t : ℕ) → since ≤ t → t ≤ v.now → Alike S (kept (js ++ in_flight c) t) (flying (js ++ in_flight c) t) t (left_at v t)
     at_any t from le = ⊎_elim
         (λ h. let last : v.now ≡ top = omega (arith, most, le, h) in let e : v.now ≡ t = omega (arith, most, le, h) in
-        subst (λ (m : ℕ). Alike S (kept (js ++ in_flight c) m) (flying (js ++ in_flight c) m) m (left_at v m Ckpt1) (left_at v m Ckpt2)) e (at_top last))
-        (λ lt. subst (λ (d : Disk). Alike S (kept (js ++ in_flight c) t) (flying (js ++ in_flight c) t) t d (left_at v t Ckpt2)) (sym (left_below v t Ckpt1 lt))
-        (subst (λ (d : Disk). Alike S (kept (js ++ in_flight c) t) (flying (js ++ in_flight c) t) t (disk_at v t Ckpt1) d) (sym (left_below v t Ckpt2 lt)) (keeps.crash t from le lt)))
+        subst (λ (m : ℕ). Alike S (kept (js ++ in_flight c) m) (flying (js ++ in_flight c) m) m (left_at v m)) e (alike_top last))
+        (λ lt. let a = keeps.crash t from le lt in record {
+          reached = a.reached;
+          was = a.was;
+          coming = a.coming;
+          stands = a.stands;
+          comes = a.comes;
+          none = a.none;
+          reads = λ d ckpt. subst (λ (x : Disk). ReadsBy S (is_renewed_at (of_device d rs) t) a.was a.coming x) (sym (left_below v t d lt)) (a.reads d ckpt);
+        })
         (either_way top t)
 
     -- the levels that images of a copy that isn't being replaced have at a moment
-    abbrev UpTo : ℕ → Type 0
-    UpTo t = (is_renewed_at rs.first t ≡ false → ReadsUpTo reads keeps.first_level keeps.first_order (reached + 1) (left_at v t Ckpt1)) × (is_renewed_at rs.second t ≡ false → ReadsUpTo reads keeps.first_level keeps.first_order (reached + 1) (left_at v t Ckpt2))
+    abbrev UpTo : Disk → Type 0
+    UpTo d = ReadsUpTo reads keeps.first_level keeps.first_order (reached + 1) d
 
-    up_to_top : v.now ≡ top → UpTo v.now
-    up_to_top last = (
-      λ is. one_up S reached (kept_all js) (entries_in c) keeps.was keeps.coming keeps.stands keeps.comes keeps.first_level keeps.first_order keeps.near keeps.comes_near (left_at v v.now Ckpt1)
-          (subst (λ (b : Bool). ReadsBy S b keeps.was keeps.coming (left_at v v.now Ckpt1)) is (first_at_top last)),
-      λ is. one_up S reached (kept_all js) (entries_in c) keeps.was keeps.coming keeps.stands keeps.comes keeps.first_level keeps.first_order keeps.near keeps.comes_near (left_at v v.now Ckpt2)
-          (subst (λ (b : Bool). ReadsBy S b keeps.was keeps.coming (left_at v v.now Ckpt2)) is (second_at_top last)),
-    )
-
-    up_to : (t : ℕ) → since ≤ t → t ≤ v.now → UpTo t
-    up_to t from le = ⊎_elim
-        (λ h. let last : v.now ≡ top = omega (arith, most, le, h) in let e : v.now ≡ t = omega (arith, most, le, h) in subst UpTo e (up_to_top last))
-        (λ lt. (
-          λ is. subst (λ (d : Disk). ReadsUpTo reads keeps.first_level keeps.first_order (reached + 1) d) (sym (left_below v t Ckpt1 lt)) (keeps.rises.most1 t from le lt is),
-          λ is. subst (λ (d : Disk). ReadsUpTo reads keeps.first_level keeps.first_order (reached + 1) d) (sym (left_below v t Ckpt2 lt)) (keeps.rises.most2 t from le lt is),
-        ))
+    up_to : (d : Dev) → IsCkpt d → (t : ℕ) → since ≤ t → t ≤ v.now → is_renewed_at (of_device d rs) t ≡ false → UpTo (left_at v t d)
+    up_to d ckpt t from le is = ⊎_elim
+        (λ h. let last : v.now ≡ top = omega (arith, most, le, h) in let e : v.now ≡ t = omega (arith, most, le, h) in
+        subst (λ (m : ℕ). UpTo (left_at v m d)) e (one_up S reached (kept_all js) (entries_in c) keeps.was keeps.coming keeps.stands keeps.comes keeps.first_level keeps.first_order keeps.near keeps.comes_near (left_at v v.now d)
+        (subst (λ (b : Bool). ReadsBy S b keeps.was keeps.coming (left_at v v.now d)) (subst (λ (m : ℕ). is_renewed_at (of_device d rs) m ≡ false) (sym e) is) (at_top last d ckpt))))
+        (λ lt. subst UpTo (sym (left_below v t d lt)) (keeps.rises.most d ckpt t from le lt is))
         (either_way top t)
 
     levels_of : AreLevelsLow reads since (record { batches = js ++ in_flight c }) rs v
     levels_of = record {
       first_level = keeps.first_level;
       first_order = keeps.first_order;
-      first1 = keeps.rises.first1;
-      first2 = keeps.rises.first2;
-      most1 = λ t from le is. less_up reads keeps.first_level keeps.first_order (reached + 1) most_level low (left_at v t Ckpt1) ((up_to t from le).0 is);
-      most2 = λ t from le is. less_up reads keeps.first_level keeps.first_order (reached + 1) most_level low (left_at v t Ckpt2) ((up_to t from le).1 is);
+      first1 = λ lt. keeps.rises.first lt Ckpt1 tt;
+      first2 = λ lt. keeps.rises.first lt Ckpt2 tt;
+      most1 = λ t from le is. less_up reads keeps.first_level keeps.first_order (reached + 1) most_level low (left_at v t Ckpt1) (up_to Ckpt1 tt t from le is);
+      most2 = λ t from le is. less_up reads keeps.first_level keeps.first_order (reached + 1) most_level low (left_at v t Ckpt2) (up_to Ckpt2 tt t from le is);
     } where
       most_level : ℕ
       most_level = keeps.first_level + batches_kept (js ++ in_flight c) + 1
@@ -167,7 +158,7 @@ module _ (reads : List ℕ → Option (List ℕ)) (base : Queue) (since : ℕ) (
     pub headline_of : Parts reads base since (record { batches = js ++ in_flight c }) rs v
     headline_of = record {
       crash = λ t from le good one two left right. after_kept t (found S one two)
-          (alike_found S (kept (js ++ in_flight c) t) (flying (js ++ in_flight c) t) t (left_at v t Ckpt1) (left_at v t Ckpt2) (at_any t from le) one two left right good);
+          (alike_found S (kept (js ++ in_flight c) t) (flying (js ++ in_flight c) t) t (left_at v t) (at_any t from le) one two left right good);
       alike = λ t from le. are_alike t (at_any t from le);
       levels = levels_of;
       texts = λ t from le volumes left.
@@ -185,21 +176,19 @@ module _ (reads : List ℕ → Option (List ℕ)) (base : Queue) (since : ℕ) (
     }
 
 -- the headline of the journal as it is handed out
-module _ (reads : List ℕ → Option (List ℕ)) (base : Queue) (since : ℕ) (rs : Renewals) (reached : ℕ) (first second : Copy) (v : View)
-    (most : v.now ≤ top) (lost1 : first.alive ≡ false → is_open rs.first ≡ false → v.lost (DiskPart Ckpt1) ≡ true) (lost2 : second.alive ≡ false → is_open rs.second ≡ false → v.lost (DiskPart Ckpt2) ≡ true)
-    (rests_reads1 : (pages : List ℕ) (d : Disk) → first.rests pages d → AllRead reads pages d) (holds_reads1 : (was next : List ℕ) (d : Disk) → first.holds was next d → AllRead reads was d)
-    (rests_reads2 : (pages : List ℕ) (d : Disk) → second.rests pages d → AllRead reads pages d) (holds_reads2 : (was next : List ℕ) (d : Disk) → second.holds was next d → AllRead reads was d) where
-  of_batches : (J : List Batch) (c : Option Batch) → Keeps (setting_with reads base since rs) J c reached first second v → Parts reads base since (record { batches = J ++ in_flight c }) rs v
-  of_batches J c keeps = headline_of reads base since rs J c reached first second v keeps most lost1 lost2 rests_reads1 holds_reads1 rests_reads2 holds_reads2
+module _ (reads : List ℕ → Option (List ℕ)) (base : Queue) (since : ℕ) (rs : Renewals) (reached : ℕ) (copies : Dev → Copy) (v : View)
+    (most : v.now ≤ top) (lost : (d : Dev) → IsCkpt d → (copies d).alive ≡ false → is_open (of_device d rs) ≡ false → v.lost (DiskPart d) ≡ true) (laws : (d : Dev) → Reads reads (copies d)) where
+  of_batches : (J : List Batch) (c : Option Batch) → Keeps (setting_with reads base since rs) J c reached copies v → Parts reads base since (record { batches = J ++ in_flight c }) rs v
+  of_batches J c keeps = headline_of reads base since rs J c reached copies v keeps most lost laws
 
-  by_place : (J : List Batch) (c : Option Batch) (p : EndsInPlace J) → Keeps (setting_with reads base since rs) J c reached first second v → Parts reads base since (record { batches = p.before ++ in_flight c }) rs v
+  by_place : (J : List Batch) (c : Option Batch) (p : EndsInPlace J) → Keeps (setting_with reads base since rs) J c reached copies v → Parts reads base since (record { batches = p.before ++ in_flight c }) rs v
   by_place J c p keeps = of_batches p.before c
-      (unplace_keeps (setting_with reads base since rs) p.before p.place c reached first second v p.free (subst (λ (l : List Batch). Keeps (setting_with reads base since rs) l c reached first second v) p.is keeps))
+      (unplace_keeps (setting_with reads base since rs) p.before p.place c reached copies v p.free (subst (λ (l : List Batch). Keeps (setting_with reads base since rs) l c reached copies v) p.is keeps))
 
   as_batches : (J K : List Batch) → J ≡ K → Parts reads base since (record { batches = J }) rs v → Parts reads base since (record { batches = K }) rs v
   as_batches J K e h = subst (λ (l : List Batch). Parts reads base since (record { batches = l }) rs v) e h
 
-  ended_parts : (placed : Bool) (c : Option Batch) (J : List Batch) → (IsSome c → placed ≡ true) → HasPlace placed J → Keeps (setting_with reads base since rs) J c reached first second v
+  ended_parts : (placed : Bool) (c : Option Batch) (J : List Batch) → (IsSome c → placed ≡ true) → HasPlace placed J → Keeps (setting_with reads base since rs) J c reached copies v
       → Parts reads base since (record { batches = end_of placed c J }) rs v
   ended_parts true (Some b) J some p keeps = as_batches (p.before ++ b ∷ []) (with_last b J) (sym (ap (with_last b) p.is ∙ with_last-append b p.before p.place)) (by_place J (Some b) p keeps)
   ended_parts true None J some p keeps = as_batches (p.before ++ []) (without_last J) (append-nil p.before ∙ sym (ap without_last p.is ∙ without_last-append p.before p.place)) (by_place J None p keeps)
@@ -208,7 +197,7 @@ module _ (reads : List ℕ → Option (List ℕ)) (base : Queue) (since : ℕ) (
     clash : false ≡ true → ⊥
     clash e = cc
 
-  pub ended_headline : (placed : Bool) (c : Option Batch) (J : List Batch) → (IsSome c → placed ≡ true) → HasPlace placed J → Keeps (setting_with reads base since rs) J c reached first second v
+  pub ended_headline : (placed : Bool) (c : Option Batch) (J : List Batch) → (IsSome c → placed ≡ true) → HasPlace placed J → Keeps (setting_with reads base since rs) J c reached copies v
       → length (end_of placed c J) ≤ journal_most → (IsSound base → ∥ PaperKept base since (end_of placed c J) v ∥₁) → Headline reads base since (record { batches = end_of placed c J }) rs v
   ended_headline placed c J some p keeps few paper =
       let h : Parts reads base since (record { batches = end_of placed c J }) rs v = ended_parts placed c J some p keeps in

@@ -1,14 +1,15 @@
 -- The batch in flight gets its fate: what the type says after that.
-use Rattle.mas_complex.proofs.Names.{◌++◌, ◌≡◌, ◌≤◌, ◌⊎◌, ⊎_elim, IsSome, List, Option, None, Some, ap, arith, false, length, refl, subst, sym, true, ℕ, ∥∥₁_map, ∥∥₁_map₂, is_flying, Batch, Fate, Dropped, Kept, PlantGhosts, Ghosts as CopyGhosts, SteadyGhosts, Before, Unsure, page_count, Complex, Keeps, EndsInPlace, HasPlace, IsBegun, entries_in, entries_most, in_flight, with_last, KeepsPaper, Parts, parts_of, values_of, AreReplied}
+use Rattle.mas_complex.proofs.Names.{◌++◌, ◌≡◌, ◌≤◌, ◌⊎◌, ⊎_elim, IsSome, List, Option, None, Some, ap, arith, false, length, refl, subst, sym, true, ℕ, ∥∥₁_map, ∥∥₁_map₂, is_flying, Batch, Fate, Dropped, Kept, PlantGhosts, Ghosts as CopyGhosts, SteadyGhosts, Before, Unsure, page_count, Complex, Keeps, EndsInPlace, HasPlace, IsBegun, entries_in, entries_most, in_flight, with_last, KeepsPaper, Parts, parts_of, values_of, AreReplied, IsCkpt, Dev, pick}
 use Rattle.mas_complex.proofs.Basics.{no}
 use Rattle.mas_complex.proofs.BatchEnds.{few_with_last}
 use Rattle.mas_complex.proofs.Fating.{has_ends}
 use Rattle.mas_complex.proofs.PaperEnds.{fated_on_paper}
-use Rattle.mas_complex.proofs.Pasts.{lasts_ended}
+use Rattle.mas_complex.proofs.Each.{pick_same}
+use Rattle.mas_complex.proofs.Pasts.{past_ended}
 use Rattle.mas_complex.proofs.Replied.{fated_replied}
 use Rattle.mas_complex.proofs.Short.{few_last}
 use Rattle.mas_complex.proofs.Standing.{owned_none, settled_with_last}
-use Rattle.mas_complex.proofs.Values.{FactsOf, KeepsOf, first_of, second_of, setting_of, view_of}
+use Rattle.mas_complex.proofs.Values.{FactsOf, KeepsOf, copies_of, half_of, place_of, setting_of, sight_at, view_of}
 
 not_flying : (f : Fate) → (f ≡ Kept) ⊎ (f ≡ Dropped) → is_flying f ≡ false
 not_flying f either = ⊎_elim (λ e. ap is_flying e) (λ e. ap is_flying e) either
@@ -27,8 +28,8 @@ module _ {P C : Type 0} {plants : PlantGhosts P} {steadies : SteadyGhosts C} {co
   begun : IsBegun (Some b) (view_of s).now
   begun = subst (λ (x : Option Batch). IsBegun x (view_of s).now) was s.begun
 
-  pub flies : Keeps (setting_of s) s.journal.batches s.current s.level (first_of s) (second_of s) (view_of s) → Keeps (setting_of s) s.journal.batches (Some b) s.level (first_of s) (second_of s) (view_of s)
-  flies k = subst (λ (x : Option Batch). Keeps (setting_of s) s.journal.batches x s.level (first_of s) (second_of s) (view_of s)) was k
+  pub flies : Keeps (setting_of s) s.journal.batches s.current s.level (copies_of s) (view_of s) → Keeps (setting_of s) s.journal.batches (Some b) s.level (copies_of s) (view_of s)
+  flies k = subst (λ (x : Option Batch). Keeps (setting_of s) s.journal.batches x s.level (copies_of s) (view_of s)) was k
 
   abbrev pub after_end : List Batch → Option Batch → ℕ → Parts P C
   after_end js current level = record (parts_of s) {
@@ -41,10 +42,10 @@ module _ {P C : Type 0} {plants : PlantGhosts P} {steadies : SteadyGhosts C} {co
   }
 
   pub ended : (js : List Batch) (current : Option Batch) (level : ℕ) → js ≡ with_last ended_batch s.journal.batches → current ≡ None → (plants.tells → ∥ KeepsOf plants steadies copies (after_end (with_last ended_batch s.journal.batches) None level) (view_of s) ∥₁)
-      → (s.pair.first.alive ≡ true → s.first ≡ Unsure → ⊥) → (s.pair.second.alive ≡ true → s.second ≡ Unsure → ⊥) → FactsOf plants steadies copies (after_end js current level) (view_of s)
-  ended js current level same none keeps known1 known2 = subst (λ (l : List Batch). FactsOf plants steadies copies (after_end l current level) (view_of s)) (sym same) (subst (λ (x : Option Batch). FactsOf plants steadies copies (after_end (with_last ended_batch s.journal.batches) x level) (view_of s)) (sym none) (record {
+      → ((d : Dev) → IsCkpt d → (half_of s d).alive ≡ true → place_of s d ≡ Unsure → ⊥) → FactsOf plants steadies copies (after_end js current level) (view_of s)
+  ended js current level same none keeps known = subst (λ (l : List Batch). FactsOf plants steadies copies (after_end l current level) (view_of s)) (sym same) (subst (λ (x : Option Batch). FactsOf plants steadies copies (after_end (with_last ended_batch s.journal.batches) x level) (view_of s)) (sym none) (record {
     kept = keeps;
-    lasting = λ told. ∥∥₁_map (s.lasting told) (λ l. lasts_ended (λ h. h.alive) copies.reads (λ h. copies.behind h.copy) (page_count s.base.config) (values_of s.had) s.pair.first s.pair.second s.first s.second (view_of s) known1 known2 l);
+    lasting = λ told. ∥∥₁_map (s.lasting told) (λ l d ckpt. past_ended (page_count s.base.config) (values_of s.had) (sight_at s (half_of s d) (place_of s d) d (view_of s)) (pick d Before Before) (pick_same d Before) (known d ckpt) (l d ckpt));
     replied = λ told. ∥∥₁_map₂ (s.replied told) s.place (λ are has. fated_replied s.base s.journal.batches b ended_batch (ends_in has) (subst (λ (x : Option Batch). AreReplied s.base (s.journal.batches ++ in_flight x)) was are) refl);
     paper = λ told sound. ∥∥₁_map₂ (s.paper told sound) s.place (λ on has. fated_on_paper s.base s.since s.printed s.book (view_of s) s.journal.batches (ends_in has) s.settled ended_batch b
         (subst (λ (x : Option Batch). KeepsPaper s.base s.since s.journal.batches x s.printed s.book (view_of s)) was on) begun refl refl now either);

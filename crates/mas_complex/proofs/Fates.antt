@@ -1,10 +1,11 @@
 -- Copies once the batch in flight has its fate, and lines that are said.
-use Rattle.mas_complex.proofs.Names.{◌≡◌, inl, inr, ⊎_elim, ℕ, ◌+◌, ◌≤◌, ◌<◌, ◌||◌, Bool, true, false, List, [], ◌∷◌, ◌++◌, if◌then◌else◌, Option, Some, None, IfSome, refl, subst, sym, ◌∙◌, ap, arith, le_refl, append-nil, or_cases, Ckpt1, Ckpt2, Act, Done, Failed, ActHalted as Halted, View, ViewDisk as Disk, disk_now, Says, Said, next, AllRead, MemberId, Batch, Entry, Kept, Dropped, Place, Before, Opened, kept_all, batches_kept, in_flight, StepIsKept, is_kept, is_flying, level, is_open, Setting, Stands, IsNext, IsNear, IsAway, IsStale, OnComing, IsAt, OneCopy, Copy, copy_of, Keeps}
+use Rattle.mas_complex.proofs.Names.{◌≡◌, inl, inr, ⊎_elim, ℕ, ◌+◌, ◌≤◌, ◌<◌, ◌||◌, Bool, true, false, List, [], ◌∷◌, ◌++◌, if◌then◌else◌, Option, Some, None, IfSome, refl, subst, sym, ◌∙◌, ap, arith, le_refl, append-nil, Ckpt1, Ckpt2, Act, Done, Failed, ActHalted as Halted, View, ViewDisk as Disk, disk_now, Says, Said, next, MemberId, Batch, Entry, Kept, Dropped, Before, Opened, kept_all, batches_kept, in_flight, StepIsKept, is_kept, is_flying, level, Setting, Stands, IsNext, IsNear, IsAway, IsStale, OnComing, Copy, Keeps, IsCkpt, Dev, CopyAt, is_away, pick, IsAt}
 use Rattle.mas_complex.proofs.Batches.{kept_all_append}
-use Rattle.mas_complex.proofs.Present.{copy_reads}
+use Rattle.mas_complex.proofs.Each.{pick_same, some_of}
+use Rattle.mas_complex.proofs.Present.{Reads, copy_reads}
 use Rattle.mas_complex.proofs.Rising.{kept_one}
 use Rattle.mas_complex.proofs.Moves.{Adds, fate_keeps}
-use Rattle.mas_complex.proofs.Sides.{is_higher}
+use Rattle.mas_complex.proofs.Sides.{at_place, is_higher, rests_before}
 
 pub one_kept : (c : Batch) → c.fate ≡ Kept → kept_all (c ∷ []) ≡ c.entries
 one_kept c fate = ap (λ f. (if is_kept f then c.entries else []) ++ []) fate ∙ append-nil c.entries
@@ -32,69 +33,61 @@ away_up S was pages higher true now d away = λ image is. up (S.reads image) (aw
   up None stale = tt
   up (Some p) stale = inr (⊎_elim (λ same. subst (λ (l : List ℕ). level l < level pages) (sym same) higher) (λ lower. through (level p) (level was) (level pages) lower higher) stale)
 
-module _ (S : Setting) (rests : List ℕ → Disk → Type 0) (holds : List ℕ → List ℕ → Disk → Type 0) (was : List ℕ) (coming : Option (List ℕ)) (place : Place) (alive renewed : Bool) (now : ℕ) (d : Disk) where
-  -- an alive copy that has opened its gate has pages in flight
-  none_opened : OneCopy S rests holds was coming place alive renewed now d → alive ≡ true → place ≡ Opened → coming ≡ None → ⊥
-  none_opened copy is opened none =
-      subst (λ (n : Option (List ℕ)). OnComing n (λ p. rests p d)) none (subst (λ (x : Place). IsAt S rests holds was coming x d) opened (copy.at is))
+-- a copy before any batch
+abbrev pub rested : Dev → Copy → Copy
+rested d c = record c { place = pick d Before Before }
 
-  pub after_kept : (pages : List ℕ) → level was < level pages → coming ≡ Some pages → (alive ≡ true → place ≡ Opened) → OneCopy S rests holds was coming place alive renewed now d → OneCopy S rests holds pages None Before alive renewed now d
-  after_kept pages higher same opened copy = record {
-    at = λ is. subst (λ (n : Option (List ℕ)). OnComing n (λ p. rests p d)) same (subst (λ (x : Place). IsAt S rests holds was coming x d) (opened is) (copy.at is));
+module _ (S : Setting) (was : List ℕ) (coming : Option (List ℕ)) (dev : Dev) (c : Copy) (v : View) (copy : CopyAt S was coming dev c v) where
+  -- an alive copy that has opened its gate has pages in flight
+  opened_at : c.alive ≡ true → c.place ≡ Opened → OnComing coming (λ p. c.rests p (disk_now v dev))
+  opened_at is opened = at_place S was coming c c.place Opened (disk_now v dev) opened (copy.at is)
+
+  pub none_opened : c.alive ≡ true → c.place ≡ Opened → coming ≡ None → ⊥
+  none_opened is opened none = subst (λ (n : Option (List ℕ)). OnComing n (λ p. c.rests p (disk_now v dev))) none (opened_at is opened)
+
+  before_at : (pages : List ℕ) (n : Option (List ℕ)) → c.rests pages (disk_now v dev) → IsAt S (rested dev c) pages n (pick dev Before Before) (disk_now v dev)
+  before_at pages n rest = at_place S pages n (rested dev c) Before (pick dev Before Before) (disk_now v dev) (sym (pick_same dev Before)) rest
+
+  pub after_kept : (pages : List ℕ) → level was < level pages → coming ≡ Some pages → (c.alive ≡ true → c.place ≡ Opened) → CopyAt S pages None dev (rested dev c) v
+  after_kept pages higher same opened = record {
+    at = λ is. before_at pages None (subst (λ (n : Option (List ℕ)). OnComing n (λ p. c.rests p (disk_now v dev))) same (opened_at is (opened is)));
     formed = copy.formed;
-    gone = λ dead. away_up S was pages higher renewed now d (copy.gone dead);
+    gone = λ dead. away_up S was pages higher (is_away S dev) v.now (disk_now v dev) (copy.gone dead);
   }
 
-  pub after_dropped : (alive ≡ true → place ≡ Before) → OneCopy S rests holds was coming place alive renewed now d → OneCopy S rests holds was None Before alive renewed now d
-  after_dropped before copy = record { at = λ is. subst (λ (x : Place). IsAt S rests holds was coming x d) (before is) (copy.at is); formed = copy.formed; gone = copy.gone }
+  pub after_dropped : (c.alive ≡ true → c.place ≡ Before) → CopyAt S was None dev (rested dev c) v
+  after_dropped before = record { at = λ is. before_at was None (rests_before S was coming c dev v copy before is); formed = copy.formed; gone = copy.gone }
 
--- a copy counts as alive, and each that does has opened its gate: so there are pages in flight
-pub opened_some : (S : Setting) (js : List Batch) (c : Option Batch) (reached : ℕ) (first second : Copy) (v : View) → (keeps : Keeps S js c reached first second v) → (first.alive || second.alive) ≡ true
-    → (first.alive ≡ true → first.place ≡ Opened) → (second.alive ≡ true → second.place ≡ Opened) → keeps.coming ≡ None → ⊥
-opened_some S js c reached first second v keeps some one two none = ⊎_elim
-    (λ is. none_opened S first.rests first.holds keeps.was keeps.coming first.place first.alive (is_open S.renewals.first) v.now (disk_now v Ckpt1) keeps.first_at is (one is) none)
-    (λ is. none_opened S second.rests second.holds keeps.was keeps.coming second.place second.alive (is_open S.renewals.second) v.now (disk_now v Ckpt2) keeps.second_at is (two is) none)
-    (or_cases first.alive second.alive some)
-
-module _ (S : Setting) (js : List Batch) (b c : Batch) (reached : ℕ) (first second : Copy) (v : View) (keeps : Keeps S js (Some b) reached first second v)
-    (same_first : c.first ≡ b.first) (same_entries : c.entries ≡ b.entries) (last : c.last ≡ v.now)
-    (rests_reads1 : (pages : List ℕ) (d : Disk) → first.rests pages d → AllRead S.reads pages d) (holds_reads1 : (was next : List ℕ) (d : Disk) → first.holds was next d → AllRead S.reads was d)
-    (rests_reads2 : (pages : List ℕ) (d : Disk) → second.rests pages d → AllRead S.reads pages d) (holds_reads2 : (was next : List ℕ) (d : Disk) → second.holds was next d → AllRead S.reads was d) where
+module _ (S : Setting) (js : List Batch) (b c : Batch) (reached : ℕ) (copies : Dev → Copy) (v : View) (keeps : Keeps S js (Some b) reached copies v)
+    (same_first : c.first ≡ b.first) (same_entries : c.entries ≡ b.entries) (last : c.last ≡ v.now) (laws : (d : Dev) → Reads S.reads (copies d)) where
   -- the kept pages once the batch in flight has its fate, which each alive copy reads
   at_rest : (reached' : ℕ) (pages : List ℕ) → reached ≤ reached' → reached' ≤ reached + batches_kept (c ∷ []) → is_flying c.fate ≡ false → Stands S reached' (kept_all (js ++ c ∷ [])) pages → IsNear keeps.first_level keeps.first_order pages
-      → OneCopy S first.rests first.holds pages None Before first.alive (is_open S.renewals.first) v.now (disk_now v Ckpt1) → OneCopy S second.rests second.holds pages None Before second.alive (is_open S.renewals.second) v.now (disk_now v Ckpt2)
-      → Keeps S (js ++ c ∷ []) None reached' (copy_of first.rests first.holds first.alive Before) (copy_of second.rests second.holds second.alive Before) v
-  at_rest reached' pages least most fated stands near x y =
-      fate_keeps S js b c reached reached' first second (copy_of first.rests first.holds first.alive Before) (copy_of second.rests second.holds second.alive Before) v least most keeps fated same_first same_entries last pages stands near
-      (λ lt. (
-        copy_reads S pages first.rests first.holds rests_reads1 holds_reads1 None Before first.alive v.now (disk_now v Ckpt1) lt x,
-        copy_reads S pages second.rests second.holds rests_reads2 holds_reads2 None Before second.alive v.now (disk_now v Ckpt2) lt y,
-      ))
-      x y
+      → ((d : Dev) → IsCkpt d → CopyAt S pages None d (rested d (copies d)) v) → Keeps S (js ++ c ∷ []) None reached' (λ d. rested d (copies d)) v
+  at_rest reached' pages least most fated stands near at =
+      fate_keeps S js b c reached reached' copies (λ d. rested d (copies d)) v least most keeps fated same_first same_entries last pages stands near
+      (λ lt d ckpt. copy_reads S pages (rested d (copies d)) (record { rest = (laws d).rest; hold = (laws d).hold }) None d v (at d ckpt) lt) at
 
-  pub kept_keeps : c.fate ≡ Kept → (first.alive || second.alive) ≡ true → (first.alive ≡ true → first.place ≡ Opened) → (second.alive ≡ true → second.place ≡ Opened)
-      → Keeps S (js ++ c ∷ []) None (reached + 1) (copy_of first.rests first.holds first.alive Before) (copy_of second.rests second.holds second.alive Before) v
-  kept_keeps fate some one two = by_coming keeps.coming refl keeps.comes keeps.comes_near where
+  pub kept_keeps : c.fate ≡ Kept → ((copies Ckpt1).alive || (copies Ckpt2).alive) ≡ true → ((d : Dev) → IsCkpt d → (copies d).alive ≡ true → (copies d).place ≡ Opened)
+      → Keeps S (js ++ c ∷ []) None (reached + 1) (λ d. rested d (copies d)) v
+  kept_keeps fate some opened = by_coming keeps.coming refl keeps.comes keeps.comes_near where
     all : kept_all (js ++ c ∷ []) ≡ kept_all js ++ b.entries
     all = kept_all_append js (c ∷ []) ∙ ap (λ (l : List Entry). kept_all js ++ l) (one_kept c fate ∙ same_entries)
 
     higher : {pages : List ℕ} → Stands S (reached + 1) (kept_all js ++ b.entries) pages → level keeps.was < level pages
     higher {pages} comes = is_higher (level keeps.was) (level pages) reached keeps.stands.at_level comes.at_level
 
-    by_coming : (n : Option (List ℕ)) → keeps.coming ≡ n → IsNext S reached (kept_all js) b.entries n → IfSome n (IsNear keeps.first_level keeps.first_order) → Keeps S (js ++ c ∷ []) None (reached + 1) (copy_of first.rests first.holds first.alive Before) (copy_of second.rests second.holds second.alive Before) v
-    by_coming None same comes near = absurd (opened_some S js (Some b) reached first second v keeps some one two same)
+    -- a copy counts as alive, and each that does has opened its gate: so there are pages in flight
+    by_coming : (n : Option (List ℕ)) → keeps.coming ≡ n → IsNext S reached (kept_all js) b.entries n → IfSome n (IsNear keeps.first_level keeps.first_order) → Keeps S (js ++ c ∷ []) None (reached + 1) (λ d. rested d (copies d)) v
+    by_coming None same comes near = absurd (some_of (λ d. (copies d).alive) some (λ d ckpt is. none_opened S keeps.was keeps.coming d (copies d) v (keeps.at d ckpt) is (opened d ckpt is) same))
     by_coming (Some pages) same comes near =
         at_rest (reached + 1) pages (one_least reached) (one_most reached (batches_kept (c ∷ [])) (kept_one c fate)) (ap is_flying fate) (subst (λ (l : List Entry). Stands S (reached + 1) l pages) (sym all) comes) near
-        (after_kept S first.rests first.holds keeps.was keeps.coming first.place first.alive (is_open S.renewals.first) v.now (disk_now v Ckpt1) pages (higher comes) same one keeps.first_at)
-        (after_kept S second.rests second.holds keeps.was keeps.coming second.place second.alive (is_open S.renewals.second) v.now (disk_now v Ckpt2) pages (higher comes) same two keeps.second_at)
+        (λ d ckpt. after_kept S keeps.was keeps.coming d (copies d) v (keeps.at d ckpt) pages (higher comes) same (opened d ckpt))
 
-  pub dropped_keeps : c.fate ≡ Dropped → (first.alive ≡ true → first.place ≡ Before) → (second.alive ≡ true → second.place ≡ Before)
-      → Keeps S (js ++ c ∷ []) None reached (copy_of first.rests first.holds first.alive Before) (copy_of second.rests second.holds second.alive Before) v
-  dropped_keeps fate one two =
+  pub dropped_keeps : c.fate ≡ Dropped → ((d : Dev) → IsCkpt d → (copies d).alive ≡ true → (copies d).place ≡ Before) → Keeps S (js ++ c ∷ []) None reached (λ d. rested d (copies d)) v
+  dropped_keeps fate before =
       let all : kept_all (js ++ c ∷ []) ≡ kept_all js = kept_all_append js (c ∷ []) ∙ ap (λ (l : List Entry). kept_all js ++ l) (one_dropped c fate) ∙ append-nil (kept_all js) in
       at_rest reached keeps.was (le_refl reached) (no_fewer reached (batches_kept (c ∷ []))) (ap is_flying fate) (subst (λ (l : List Entry). Stands S reached l keeps.was) (sym all) keeps.stands) keeps.near
-      (after_dropped S first.rests first.holds keeps.was keeps.coming first.place first.alive (is_open S.renewals.first) v.now (disk_now v Ckpt1) one keeps.first_at)
-      (after_dropped S second.rests second.holds keeps.was keeps.coming second.place second.alive (is_open S.renewals.second) v.now (disk_now v Ckpt2) two keeps.second_at)
+      (λ d ckpt. after_dropped S keeps.was keeps.coming d (copies d) v (keeps.at d ckpt) (before d ckpt))
 
 -- a line is said
 module _ (S : Setting) (js : List Batch) (c : Option Batch) (old new : View) (line : List ℕ) (act : Act) where

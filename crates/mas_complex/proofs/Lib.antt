@@ -1,5 +1,6 @@
 pub mod Armed
 pub mod Basics
+pub mod Each
 pub mod Allowed
 pub mod Batches
 pub mod Renewed

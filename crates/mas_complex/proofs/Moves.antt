@@ -1,5 +1,5 @@
 -- How the shared value goes on: over acts, and over a batch that begins or gets its fate.
-use Rattle.mas_complex.proofs.Names.{◌≡◌, ⊎_elim, ℕ, ◌+◌, ◌≤◌, ◌<◌, Bool, false, refl, List, [], ◌∷◌, ◌++◌, length, drop, Option, Some, None, IfSome, subst, sym, ◌∙◌, ap, arith, append_assoc, zero, suc, append-nil, Ckpt1, Ckpt2, MemberId, Batch, Entry, Flying, is_flying, View, World, Line, disk_at, disk_now, top, kept, flying, kept_all, in_flight, entries_in, batches_kept, AreSettled, StepIsKept, has_step, IsPlace, is_renewed_at, is_open, Setting, Stands, IsNext, IsNear, Alike, CrashAt, EachTells, said, ToldAt, ReadsBy, Copy, CopyAt, Keeps, spools_at, lost_now, HasTexts, either_way}
+use Rattle.mas_complex.proofs.Names.{◌≡◌, ⊎_elim, ℕ, ◌+◌, ◌≤◌, ◌<◌, Bool, false, refl, List, [], ◌∷◌, ◌++◌, length, drop, Option, Some, None, IfSome, subst, sym, ◌∙◌, ap, arith, append_assoc, zero, suc, append-nil, MemberId, Batch, Entry, Flying, is_flying, View, World, Line, disk_at, disk_now, top, kept, flying, kept_all, in_flight, entries_in, batches_kept, AreSettled, StepIsKept, has_step, IsPlace, is_renewed_at, Setting, Stands, IsNext, IsNear, Alike, CrashAt, EachTells, said, ToldAt, ReadsBy, Copy, CopyAt, Keeps, spools_at, lost_now, HasTexts, either_way, IsCkpt, Dev, is_away, of_device}
 use Rattle.mas_complex.proofs.Passing.{Passes}
 use Rattle.mas_complex.proofs.Batches.{now_kept, now_flying, settled_later, settled_push, begun_later, begins_kept, begins_flying, fated_kept, fated_flying, step_later, step_push, step_fate, placed_kept, placed_flying, placed_all, placed_step, unplaced_step, placed_settled, unplaced_settled}
 use Rattle.mas_complex.proofs.Renewed.{renewed_open, renewed_later}
@@ -46,7 +46,7 @@ console_at v t = (v.world t).console
 module _ (S : Setting) (J : List Batch) (old new : View) (goes : Passes old new) where
   crash_past : (t : ℕ) → t ≤ old.now → CrashAt S J old t → CrashAt S J new t
   crash_past t le crash =
-      subst (λ (w : World). Alike S (kept J t) (flying J t) t (w.disk Ckpt1) (w.disk Ckpt2)) (sym (goes.past t le)) crash
+      subst (λ (w : World). Alike S (kept J t) (flying J t) t w.disk) (sym (goes.past t le)) crash
 
   said_past : (t : ℕ) → S.since ≤ old.now → t ≤ old.now → said S new t ≡ said S old t
   said_past t from le =
@@ -63,25 +63,24 @@ pub record Adds (S : Setting) (J : List Batch) (old new : View) : Type 0 where
   pub is : (new.world new.now).console ≡ (old.world old.now).console ++ more
   pub tells : EachTells S.closes more (StepIsKept J old.now)
 
-module _ (S : Setting) (js : List Batch) (c : Option Batch) (reached : ℕ) (first second first' second' : Copy) (old new : View) where
-  pub acts_keep : (keeps : Keeps S js c reached first second old) → Passes old new
+module _ (S : Setting) (js : List Batch) (c : Option Batch) (reached : ℕ) (copies copies' : Dev → Copy) (old new : View) where
+  pub acts_keep : (keeps : Keeps S js c reached copies old) → Passes old new
       → (coming : Option (List ℕ)) → IsNext S reached (kept_all js) (entries_in c) coming → (entries_in c ≡ [] → coming ≡ None) → IfSome coming (IsNear keeps.first_level keeps.first_order)
-      → ((t : ℕ) → old.now < t → t ≤ new.now → t < top → ReadsBy S (is_open S.renewals.first) keeps.was coming (disk_at new t Ckpt1) × ReadsBy S (is_open S.renewals.second) keeps.was coming (disk_at new t Ckpt2))
+      → ((d : Dev) → IsCkpt d → (t : ℕ) → old.now < t → t ≤ new.now → t < top → ReadsBy S (is_away S d) keeps.was coming (disk_at new t d))
       → Adds S (js ++ in_flight c) old new
       → Stays S (kept_all js) (entries_in c) old new
-      → CopyAt S keeps.was coming Ckpt1 first' new.now (disk_now new Ckpt1) → CopyAt S keeps.was coming Ckpt2 second' new.now (disk_now new Ckpt2)
-      → Keeps S js c reached first' second' new
-  acts_keep keeps goes coming comes none nears reads adds stays one two = record {
+      → ((d : Dev) → IsCkpt d → CopyAt S keeps.was coming d (copies' d) new)
+      → Keeps S js c reached copies' new
+  acts_keep keeps goes coming comes none nears reads adds stays at = record {
     started = omega (arith, keeps.started, goes.later);
     settled = settled_later js old.now new.now keeps.settled goes.later;
     begun = begun_later c old.now new.now keeps.begun goes.later;
-    renewed1 = renewed_later S.renewals.first old.now new.now goes.later keeps.renewed1;
-    renewed2 = renewed_later S.renewals.second old.now new.now goes.later keeps.renewed2;
+    renewed = λ d ckpt. renewed_later (of_device d S.renewals) old.now new.now goes.later (keeps.renewed d ckpt);
     crash = λ t from le lt. ⊎_elim
         (λ h. crash_past S (js ++ in_flight c) old new goes t h (keeps.crash t from h lt))
-        (λ h. alike_as S (kept_all js) (entries_in c) (kept (js ++ in_flight c) t) (flying (js ++ in_flight c) t) (disk_at new t Ckpt1) (disk_at new t Ckpt2)
+        (λ h. alike_as S (kept_all js) (entries_in c) (kept (js ++ in_flight c) t) (flying (js ++ in_flight c) t) (disk_at new t)
         (now_kept js c old.now t keeps.settled keeps.begun (omega arith)) (now_flying js c old.now t keeps.settled keeps.begun (omega arith))
-        (record { reached = reached; was = keeps.was; coming = coming; stands = keeps.stands; comes = comes; none = none; first = (reads_at t h le lt).0; second = (reads_at t h le lt).1 }))
+        (record { reached = reached; was = keeps.was; coming = coming; stands = keeps.stands; comes = comes; none = none; reads = λ d ckpt. reads_at d ckpt t h le lt }))
         (either_way t old.now);
     told = λ t from le. ⊎_elim
         (λ h. told_past S (js ++ in_flight c) old new goes t keeps.started h (keeps.told t from h))
@@ -99,10 +98,8 @@ module _ (S : Setting) (js : List Batch) (c : Option Batch) (reached : ℕ) (fir
     first_level = keeps.first_level;
     first_order = keeps.first_order;
     rises = acts_rise S keeps.first_level keeps.first_order js reached old new goes keeps.started
-        (λ t h le lt. let both = reads_at t h le lt in (
-          λ is. one_up S reached (kept_all js) (entries_in c) keeps.was coming keeps.stands comes keeps.first_level keeps.first_order keeps.near nears (disk_at new t Ckpt1) (subst (λ (b : Bool). ReadsBy S b keeps.was coming (disk_at new t Ckpt1)) is both.0),
-          λ is. one_up S reached (kept_all js) (entries_in c) keeps.was coming keeps.stands comes keeps.first_level keeps.first_order keeps.near nears (disk_at new t Ckpt2) (subst (λ (b : Bool). ReadsBy S b keeps.was coming (disk_at new t Ckpt2)) is both.1),
-        ))
+        (λ d ckpt t h le lt is. one_up S reached (kept_all js) (entries_in c) keeps.was coming keeps.stands comes keeps.first_level keeps.first_order keeps.near nears (disk_at new t d)
+        (subst (λ (b : Bool). ReadsBy S b keeps.was coming (disk_at new t d)) is (reads_at d ckpt t h le lt)))
         keeps.rises;
     was = keeps.was;
     coming = coming;
@@ -111,14 +108,10 @@ module _ (S : Setting) (js : List Batch) (c : Option Batch) (reached : ℕ) (fir
     none = none;
     near = keeps.near;
     comes_near = nears;
-    first_at = one;
-    second_at = two;
+    at = at;
   } where
-    reads_at : (t : ℕ) → old.now < t → t ≤ new.now → t < top → ReadsBy S (is_renewed_at S.renewals.first t) keeps.was coming (disk_at new t Ckpt1) × ReadsBy S (is_renewed_at S.renewals.second t) keeps.was coming (disk_at new t Ckpt2)
-    reads_at t h le lt = let both = reads t h le lt in (
-      subst (λ (b : Bool). ReadsBy S b keeps.was coming (disk_at new t Ckpt1)) (sym (renewed_open S.renewals.first old.now t keeps.renewed1 (omega (arith, h)))) both.0,
-      subst (λ (b : Bool). ReadsBy S b keeps.was coming (disk_at new t Ckpt2)) (sym (renewed_open S.renewals.second old.now t keeps.renewed2 (omega (arith, h)))) both.1,
-    )
+    reads_at : (d : Dev) → IsCkpt d → (t : ℕ) → old.now < t → t ≤ new.now → t < top → ReadsBy S (is_renewed_at (of_device d S.renewals) t) keeps.was coming (disk_at new t d)
+    reads_at d ckpt t h le lt = subst (λ (b : Bool). ReadsBy S b keeps.was coming (disk_at new t d)) (sym (renewed_open (of_device d S.renewals) old.now t (keeps.renewed d ckpt) (omega (arith, h)))) (reads d ckpt t h le lt)
 
     old_tells : EachTells S.closes (drop (length (old.world S.since).console) ((old.world old.now).console ++ adds.more)) (StepIsKept (js ++ in_flight c) old.now)
     old_tells = each_more S.closes (length (old.world S.since).console) (old.world old.now).console adds.more (StepIsKept (js ++ in_flight c) old.now) (keeps.told old.now keeps.started (omega arith)) adds.tells
@@ -130,17 +123,17 @@ module _ (S : Setting) (js : List Batch) (c : Option Batch) (reached : ℕ) (fir
         (each_map S.closes (drop (length (old.world S.since).console) ((old.world old.now).console ++ adds.more)) (StepIsKept (js ++ in_flight c) old.now) (StepIsKept (js ++ in_flight c) t) (λ m s. step_later (js ++ in_flight c) old.now t m s (omega arith)) old_tells))
 
 -- the journal: a batch begins now, and no line tells an entry of it
-module _ (S : Setting) (js : List Batch) (b : Batch) (reached : ℕ) (first second : Copy) (v : View) where
+module _ (S : Setting) (js : List Batch) (b : Batch) (reached : ℕ) (copies : Dev → Copy) (v : View) where
   pub begins_after : (t : ℕ) → AreSettled js v.now → b.fate ≡ Flying → b.first ≡ v.now → t ≤ v.now → CrashAt S (js ++ []) v t → CrashAt S (js ++ b ∷ []) v t
   begins_after t are fate begun le crash =
       let k : kept (js ++ b ∷ []) t ≡ kept (js ++ []) t = begins_kept js b t fate in
       ⊎_elim
-      (λ here. alike_as S (kept (js ++ []) t) (flying (js ++ b ∷ []) t) (kept (js ++ b ∷ []) t) (flying (js ++ b ∷ []) t) (disk_at v t Ckpt1) (disk_at v t Ckpt2) k refl
-      (alike_none S (kept (js ++ []) t) (flying (js ++ []) t) (flying (js ++ b ∷ []) t) (disk_at v t Ckpt1) (disk_at v t Ckpt2) (now_flying js None v.now t are tt here) crash))
-      (λ before. alike_as S (kept (js ++ []) t) (flying (js ++ []) t) (kept (js ++ b ∷ []) t) (flying (js ++ b ∷ []) t) (disk_at v t Ckpt1) (disk_at v t Ckpt2) k (begins_flying js b t (omega arith)) crash)
+      (λ here. alike_as S (kept (js ++ []) t) (flying (js ++ b ∷ []) t) (kept (js ++ b ∷ []) t) (flying (js ++ b ∷ []) t) (disk_at v t) k refl
+      (alike_none S (kept (js ++ []) t) (flying (js ++ []) t) (flying (js ++ b ∷ []) t) (disk_at v t) (now_flying js None v.now t are tt here) crash))
+      (λ before. alike_as S (kept (js ++ []) t) (flying (js ++ []) t) (kept (js ++ b ∷ []) t) (flying (js ++ b ∷ []) t) (disk_at v t) k (begins_flying js b t (omega arith)) crash)
       (either_way v.now t)
 
-  pub begins_told : (t : ℕ) → Keeps S js None reached first second v → EachTells S.closes (said S v v.now) (λ m s. has_step m s b.entries ≡ false) → S.since ≤ t → t ≤ v.now → ToldAt S (js ++ b ∷ []) v t
+  pub begins_told : (t : ℕ) → Keeps S js None reached copies v → EachTells S.closes (said S v v.now) (λ m s. has_step m s b.entries ≡ false) → S.since ≤ t → t ≤ v.now → ToldAt S (js ++ b ∷ []) v t
   begins_told t keeps untold from le =
       let g = keeps.grows t from le in
       each_both S.closes (said S v t) (StepIsKept (js ++ []) t) (λ m s. has_step m s b.entries ≡ false) (StepIsKept (js ++ b ∷ []) t) (λ m s kept none. step_push js b t m s none kept)
@@ -148,14 +141,13 @@ module _ (S : Setting) (js : List Batch) (b : Batch) (reached : ℕ) (first seco
       (each_less S.closes (length (v.world S.since).console) (v.world t).console g.more (λ m s. has_step m s b.entries ≡ false)
       (subst (λ (l : List Line). EachTells S.closes (drop (length (v.world S.since).console) l) (λ m s. has_step m s b.entries ≡ false)) g.is untold))
 
-  unfoldable pub begins_keep : Keeps S js None reached first second v → b.fate ≡ Flying → b.first ≡ v.now → EachTells S.closes (said S v v.now) (λ m s. has_step m s b.entries ≡ false)
-      → HasTexts (lost_now v) (spools_at v v.now) S.base.config.groups (S.run S.base (kept_all js ++ b.entries)) → Keeps S js (Some b) reached first second v
+  unfoldable pub begins_keep : Keeps S js None reached copies v → b.fate ≡ Flying → b.first ≡ v.now → EachTells S.closes (said S v v.now) (λ m s. has_step m s b.entries ≡ false)
+      → HasTexts (lost_now v) (spools_at v v.now) S.base.config.groups (S.run S.base (kept_all js ++ b.entries)) → Keeps S js (Some b) reached copies v
   begins_keep keeps fate begun untold has = record {
     started = keeps.started;
     settled = keeps.settled;
     begun = (fate, omega (arith, begun));
-    renewed1 = keeps.renewed1;
-    renewed2 = keeps.renewed2;
+    renewed = keeps.renewed;
     crash = λ t from le lt. begins_after t keeps.settled fate begun le (keeps.crash t from le lt);
     told = λ t from le. begins_told t keeps untold from le;
     grows = keeps.grows;
@@ -171,32 +163,30 @@ module _ (S : Setting) (js : List Batch) (b : Batch) (reached : ℕ) (first seco
     none = λ _. refl;
     near = keeps.near;
     comes_near = tt;
-    first_at = subst (λ (n : Option (List ℕ)). CopyAt S keeps.was n Ckpt1 first v.now (disk_now v Ckpt1)) (keeps.none refl) keeps.first_at;
-    second_at = subst (λ (n : Option (List ℕ)). CopyAt S keeps.was n Ckpt2 second v.now (disk_now v Ckpt2)) (keeps.none refl) keeps.second_at;
+    at = λ d ckpt. subst (λ (n : Option (List ℕ)). CopyAt S keeps.was n d (copies d) v) (keeps.none refl) (keeps.at d ckpt);
   }
 
 -- the journal: the batch in flight gets its fate
-module _ (S : Setting) (js : List Batch) (b c : Batch) (reached reached' : ℕ) (first second first' second' : Copy) (v : View) where
+module _ (S : Setting) (js : List Batch) (b c : Batch) (reached reached' : ℕ) (copies copies' : Dev → Copy) (v : View) where
   fated_after : (t : ℕ) → b.fate ≡ Flying → c.first ≡ b.first → c.entries ≡ b.entries → t < c.last → CrashAt S (js ++ b ∷ []) v t → CrashAt S ((js ++ c ∷ []) ++ []) v t
   fated_after t fate same_first same_entries lt crash =
-      alike_as S (kept (js ++ b ∷ []) t) (flying (js ++ b ∷ []) t) (kept ((js ++ c ∷ []) ++ []) t) (flying ((js ++ c ∷ []) ++ []) t) (disk_at v t Ckpt1) (disk_at v t Ckpt2)
+      alike_as S (kept (js ++ b ∷ []) t) (flying (js ++ b ∷ []) t) (kept ((js ++ c ∷ []) ++ []) t) (flying ((js ++ c ∷ []) ++ []) t) (disk_at v t)
       (fated_kept js b c t fate lt) (fated_flying js b c t fate same_first same_entries lt) crash
 
   -- the kept pages once the batch in flight has its fate
-  pub fate_keeps : reached ≤ reached' → reached' ≤ reached + batches_kept (c ∷ []) → (keeps : Keeps S js (Some b) reached first second v) → is_flying c.fate ≡ false → c.first ≡ b.first → c.entries ≡ b.entries → c.last ≡ v.now
+  pub fate_keeps : reached ≤ reached' → reached' ≤ reached + batches_kept (c ∷ []) → (keeps : Keeps S js (Some b) reached copies v) → is_flying c.fate ≡ false → c.first ≡ b.first → c.entries ≡ b.entries → c.last ≡ v.now
       → (was : List ℕ) → Stands S reached' (kept_all (js ++ c ∷ [])) was → IsNear keeps.first_level keeps.first_order was
-      → (v.now < top → ReadsBy S (is_open S.renewals.first) was None (disk_now v Ckpt1) × ReadsBy S (is_open S.renewals.second) was None (disk_now v Ckpt2))
-      → CopyAt S was None Ckpt1 first' v.now (disk_now v Ckpt1) → CopyAt S was None Ckpt2 second' v.now (disk_now v Ckpt2)
-      → Keeps S (js ++ c ∷ []) None reached' first' second' v
-  fate_keeps least most keeps fated same_first same_entries last was stands near reads one two = record {
+      → (v.now < top → (d : Dev) → IsCkpt d → ReadsBy S (is_away S d) was None (disk_now v d))
+      → ((d : Dev) → IsCkpt d → CopyAt S was None d (copies' d) v)
+      → Keeps S (js ++ c ∷ []) None reached' copies' v
+  fate_keeps least most keeps fated same_first same_entries last was stands near reads at = record {
     started = keeps.started;
     settled = settled;
     begun = tt;
-    renewed1 = keeps.renewed1;
-    renewed2 = keeps.renewed2;
+    renewed = keeps.renewed;
     crash = λ t from le lt. ⊎_elim
         (λ here. let e : t ≡ v.now = omega (arith, last) in
-        alike_as S (kept_all (js ++ c ∷ [])) [] (kept ((js ++ c ∷ []) ++ []) t) (flying ((js ++ c ∷ []) ++ []) t) (disk_at v t Ckpt1) (disk_at v t Ckpt2)
+        alike_as S (kept_all (js ++ c ∷ [])) [] (kept ((js ++ c ∷ []) ++ []) t) (flying ((js ++ c ∷ []) ++ []) t) (disk_at v t)
         (now_kept (js ++ c ∷ []) None v.now t settled tt (omega (arith, last))) (now_flying (js ++ c ∷ []) None v.now t settled tt (omega (arith, last)))
         (record {
           reached = reached';
@@ -205,10 +195,8 @@ module _ (S : Setting) (js : List Batch) (b c : Batch) (reached reached' : ℕ) 
           stands = stands;
           comes = tt;
           none = λ _. refl;
-          first = subst (λ (b : Bool). ReadsBy S b was None (disk_at v t Ckpt1)) (sym (renewed_open S.renewals.first v.now t keeps.renewed1 (omega (arith, e))))
-              (subst (λ (m : ℕ). ReadsBy S (is_open S.renewals.first) was None (disk_at v m Ckpt1)) (sym e) (reads (omega (arith, e, lt))).0);
-          second = subst (λ (b : Bool). ReadsBy S b was None (disk_at v t Ckpt2)) (sym (renewed_open S.renewals.second v.now t keeps.renewed2 (omega (arith, e))))
-              (subst (λ (m : ℕ). ReadsBy S (is_open S.renewals.second) was None (disk_at v m Ckpt2)) (sym e) (reads (omega (arith, e, lt))).1);
+          reads = λ d ckpt. subst (λ (b : Bool). ReadsBy S b was None (disk_at v t d)) (sym (renewed_open (of_device d S.renewals) v.now t (keeps.renewed d ckpt) (omega (arith, e))))
+              (subst (λ (m : ℕ). ReadsBy S (is_away S d) was None (disk_at v m d)) (sym e) (reads (omega (arith, e, lt)) d ckpt));
         }))
         (λ before. fated_after t keeps.begun.0 same_first same_entries before (keeps.crash t from le lt))
         (either_way c.last t);
@@ -226,26 +214,24 @@ module _ (S : Setting) (js : List Batch) (b c : Batch) (reached reached' : ℕ) 
     none = λ _. refl;
     near = near;
     comes_near = tt;
-    first_at = one;
-    second_at = two;
+    at = at;
   } where
     settled : AreSettled (js ++ c ∷ []) v.now
     settled = settled_push js c v.now keeps.settled fated (omega (arith, same_first, last, keeps.begun.1)) (omega (arith, last))
 
 -- what is kept of one journal is kept of another that says the same of each moment
-module _ (S : Setting) (js ks : List Batch) (c : Option Batch) (reached : ℕ) (first second : Copy) (v : View) where
-  pub same_keep : Keeps S js c reached first second v → AreSettled ks v.now → ((t : ℕ) → kept (ks ++ in_flight c) t ≡ kept (js ++ in_flight c) t) → ((t : ℕ) → flying (ks ++ in_flight c) t ≡ flying (js ++ in_flight c) t)
+module _ (S : Setting) (js ks : List Batch) (c : Option Batch) (reached : ℕ) (copies : Dev → Copy) (v : View) where
+  pub same_keep : Keeps S js c reached copies v → AreSettled ks v.now → ((t : ℕ) → kept (ks ++ in_flight c) t ≡ kept (js ++ in_flight c) t) → ((t : ℕ) → flying (ks ++ in_flight c) t ≡ flying (js ++ in_flight c) t)
       → ((t : ℕ) (m : MemberId) (s : ℕ) → StepIsKept (js ++ in_flight c) t m s → StepIsKept (ks ++ in_flight c) t m s) → kept_all ks ≡ kept_all js
       → batches_kept ks ≡ batches_kept js
-      → Keeps S ks c reached first second v
+      → Keeps S ks c reached copies v
   same_keep keeps settled same_kept same_flying same_step same_all same_many = record {
     started = keeps.started;
     settled = settled;
     begun = keeps.begun;
-    renewed1 = keeps.renewed1;
-    renewed2 = keeps.renewed2;
+    renewed = keeps.renewed;
     crash = λ t from le lt.
-        alike_as S (kept (js ++ in_flight c) t) (flying (js ++ in_flight c) t) (kept (ks ++ in_flight c) t) (flying (ks ++ in_flight c) t) (disk_at v t Ckpt1) (disk_at v t Ckpt2)
+        alike_as S (kept (js ++ in_flight c) t) (flying (js ++ in_flight c) t) (kept (ks ++ in_flight c) t) (flying (ks ++ in_flight c) t) (disk_at v t)
         (same_kept t) (same_flying t) (keeps.crash t from le lt);
     told = λ t from le. each_map S.closes (said S v t) (StepIsKept (js ++ in_flight c) t) (StepIsKept (ks ++ in_flight c) t) (λ m s. same_step t m s) (keeps.told t from le);
     grows = keeps.grows;
@@ -261,16 +247,40 @@ module _ (S : Setting) (js ks : List Batch) (c : Option Batch) (reached : ℕ) (
     none = keeps.none;
     near = keeps.near;
     comes_near = keeps.comes_near;
-    first_at = keeps.first_at;
-    second_at = keeps.second_at;
+    at = keeps.at;
   }
 
 -- the journal gets the place of a batch to come, or loses it
-module _ (S : Setting) (js : List Batch) (b : Batch) (c : Option Batch) (reached : ℕ) (first second : Copy) (v : View) (place : IsPlace b) where
-  pub place_keeps : b.first ≤ b.last → b.last ≤ v.now → Keeps S js c reached first second v → Keeps S (js ++ b ∷ []) c reached first second v
-  place_keeps ends past keeps = same_keep S js (js ++ b ∷ []) c reached first second v keeps (placed_settled b place js v.now keeps.settled ends past) (placed_kept b place js (in_flight c)) (placed_flying b place js (in_flight c))
+module _ (S : Setting) (js : List Batch) (b : Batch) (c : Option Batch) (reached : ℕ) (copies : Dev → Copy) (v : View) (place : IsPlace b) where
+  pub place_keeps : b.first ≤ b.last → b.last ≤ v.now → Keeps S js c reached copies v → Keeps S (js ++ b ∷ []) c reached copies v
+  place_keeps ends past keeps = same_keep S js (js ++ b ∷ []) c reached copies v keeps (placed_settled b place js v.now keeps.settled ends past) (placed_kept b place js (in_flight c)) (placed_flying b place js (in_flight c))
       (placed_step b place js (in_flight c)) (placed_all b place js) (kept_place b place js)
 
-  pub unplace_keeps : Keeps S (js ++ b ∷ []) c reached first second v → Keeps S js c reached first second v
-  unplace_keeps keeps = same_keep S (js ++ b ∷ []) js c reached first second v keeps (unplaced_settled js b v.now keeps.settled) (λ t. sym (placed_kept b place js (in_flight c) t)) (λ t. sym (placed_flying b place js (in_flight c) t))
+  pub unplace_keeps : Keeps S (js ++ b ∷ []) c reached copies v → Keeps S js c reached copies v
+  unplace_keeps keeps = same_keep S (js ++ b ∷ []) js c reached copies v keeps (unplaced_settled js b v.now keeps.settled) (λ t. sym (placed_kept b place js (in_flight c) t)) (λ t. sym (placed_flying b place js (in_flight c) t))
       (unplaced_step b place js (in_flight c)) (sym (placed_all b place js)) (sym (kept_place b place js))
+
+-- other copies, or other places of them, where they stand
+pub copies_keep : (S : Setting) (js : List Batch) (c : Option Batch) (reached : ℕ) (copies copies' : Dev → Copy) (v : View) → (keeps : Keeps S js c reached copies v) → ((d : Dev) → IsCkpt d → CopyAt S keeps.was keeps.coming d (copies' d) v) → Keeps S js c reached copies' v
+copies_keep S js c reached copies copies' v keeps at = record {
+  started = keeps.started;
+  settled = keeps.settled;
+  begun = keeps.begun;
+  renewed = keeps.renewed;
+  crash = keeps.crash;
+  told = keeps.told;
+  grows = keeps.grows;
+  texts = keeps.texts;
+  sunk = keeps.sunk;
+  first_level = keeps.first_level;
+  first_order = keeps.first_order;
+  rises = keeps.rises;
+  was = keeps.was;
+  coming = keeps.coming;
+  stands = keeps.stands;
+  comes = keeps.comes;
+  none = keeps.none;
+  near = keeps.near;
+  comes_near = keeps.comes_near;
+  at = at;
+}

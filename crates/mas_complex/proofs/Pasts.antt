@@ -1,5 +1,5 @@
 -- Later pages, over several batches, and what calls leave of those that members noted.
-use Rattle.mas_complex.proofs.Names.{◌≡◌, ◌≢◌, inl, inr, ⊎_elim, ◌⊎◌, ℕ, zero, suc, ◌+◌, ◌≤◌, ◌<◌, Bool, true, false, List, [], ◌∷◌, length, get_or, slice_set, Option, Some, Result, Ok, Err, OnOk, IsErrOf, refl, sym, ◌∙◌, ap, subst, arith, le_refl, le_trans, slice_get_within, slice_get-get_or, get_or_from_slice_get, get_or-set_same, get_or-set_other, get_or-replicate, length-set, length-replicate, cases_lt, Dev, Ckpt1, Ckpt2, Spool, Page, members_most, Part, Disk as DiskPart, View, ViewDisk as Disk, IsImage, disk_now, Goes, bytes_of, level, page_in, IsCkpt, pick, other, Look, Pages, LookNo, PairNo, BothLost, Halted, Place, Before, Put, Opened, Unsure, OnComing, IsPlaceAfter, IsPlaceSeen, age, nobody_noted, sight_of, AreLater, HasNoted, HasPast, HavePasts, IsLater, IsLeftOrNew, IsNextOf, Sight, values_of}
+use Rattle.mas_complex.proofs.Names.{◌≡◌, ◌≢◌, inl, inr, ⊎_elim, ◌⊎◌, ℕ, zero, suc, ◌+◌, ◌≤◌, ◌<◌, Bool, true, false, List, [], ◌∷◌, length, get_or, slice_set, Option, Some, Result, Ok, Err, OnOk, IsErrOf, refl, sym, ◌∙◌, ap, subst, arith, le_refl, le_trans, slice_get_within, slice_get-get_or, get_or_from_slice_get, get_or-set_same, get_or-set_other, get_or-replicate, length-set, length-replicate, cases_lt, Dev, Page, members_most, Part, Disk as DiskPart, View, ViewDisk as Disk, IsImage, disk_now, Goes, bytes_of, level, page_in, Look, Pages, LookNo, PairNo, BothLost, Halted, Place, Before, Put, Opened, Unsure, OnComing, IsPlaceAfter, IsPlaceSeen, age, nobody_noted, sight_of, AreLater, HasNoted, HasPast, HavePasts, IsLater, IsLeftOrNew, IsNextOf, Sight, values_of, Half, pick, Ckpt2}
 use Rattle.mas_complex.specs.declared.noting.Note.{Note}
 use Rattle.mas_complex.proofs.Basics.{no, some_is}
 
@@ -58,8 +58,8 @@ none_noted m page pages noted =
     empty_some page pages (sym none ∙ get_or_from_slice_get nobody_noted m (page ∷ pages) empty noted)
 
 -- where nobody noted any pages, nothing is asked
-pub nobody_past : (count : ℕ) (had : List (List Page)) (one two : Sight) → had ≡ nobody_noted → HavePasts count had one two
-nobody_past count had one two none = record { first = past one; second = past two } where
+pub nobody_past : (count : ℕ) (had : List (List Page)) (copies : Dev → Sight) → had ≡ nobody_noted → HavePasts count had copies
+nobody_past count had copies none d ckpt = past (copies d) where
   all : (is : List ℕ) → AreLater count had is
   all is m page pages noted = absurd (none_noted m page pages (subst (λ (l : List (List Page)). HasNoted l m (page ∷ pages)) none noted))
 
@@ -139,10 +139,10 @@ module _ (count : ℕ) (had : List (List Page)) where
   }
 
   -- one at which the batch came to its end
-  pub past_ended : (x : Sight) → (x.alive ≡ true → x.place ≡ Unsure → ⊥) → HasPast count had x → HasPast count had (record x { place = Before })
-  past_ended x known p = record {
+  pub past_ended : (x : Sight) (q : Place) → q ≡ Before → (x.alive ≡ true → x.place ≡ Unsure → ⊥) → HasPast count had x → HasPast count had (record x { place = q })
+  past_ended x q before known p = record {
     reads = λ is sure pages reads. p.reads is (λ unsure. absurd (known is unsure)) pages reads;
-    waits = λ is put. absurd (before_put Before refl put);
+    waits = λ is put. absurd (before_put q before put);
   }
 
   -- the next pages were put behind its gate
@@ -235,68 +235,14 @@ pub coming_some : {R : Type 0} (n : Option (List ℕ)) (Q : List ℕ → Type 0)
 coming_some (Some pages) Q here so = so pages here
 coming_some _ Q here so = absurd here
 
-pub part_beside : (dev : Dev) → IsCkpt dev → DiskPart (other dev Ckpt1 Ckpt2) ≢ DiskPart dev
-part_beside (Spool n) ckpt e = absurd ckpt
-part_beside _ ckpt e = absurd (cc)
+pub alive_picked : {C : Type 0} (dev : Dev) (k1 k2 h1 h2 : Half C) → k1.alive ≡ h1.alive → k2.alive ≡ h2.alive → (pick dev k1 k2).alive ≡ (pick dev h1 h2).alive
+alive_picked Ckpt2 k1 k2 h1 h2 one two = two
+alive_picked _ k1 k2 h1 h2 one two = one
 
-pub alive_picked : {H : Type 0} (alive : H → Bool) (dev : Dev) (k1 k2 h1 h2 : H) → alive k1 ≡ alive h1 → alive k2 ≡ alive h2 → alive (pick dev k1 k2) ≡ alive (pick dev h1 h2)
-alive_picked alive Ckpt2 k1 k2 h1 h2 one two = two
-alive_picked alive _ k1 k2 h1 h2 one two = one
+module _ {C : Type 0} (reads : List ℕ → Option (List ℕ)) (behind : C → List ℕ → List ℕ) (count : ℕ) (had : List (List Page)) (d : Dev) (p : Place) (old new : View) where
+  -- the bytes of its device stay, and it may count as lost now
+  pub past_fallen : (h k : Half C) → (k.alive ≡ true → h.alive ≡ true) → k.copy ≡ h.copy → (new.lost (DiskPart d) ≡ false → old.lost (DiskPart d) ≡ false) → (disk_now new d).bytes ≡ (disk_now old d).bytes → HasPast count had (sight_of reads behind h p d old) → HasPast count had (sight_of reads behind k p d new)
+  past_fallen h k falls same lost bytes x = past_stays count had (sight_of reads behind h p d old) (sight_of reads behind k p d new) falls refl lost (ap reads bytes) (ap (λ (c : C). behind c (disk_now new d).bytes) same ∙ ap (behind h.copy) bytes) x
 
-module _ {H : Type 0} (alive : H → Bool) (reads : List ℕ → Option (List ℕ)) (behind : H → List ℕ → List ℕ) where
-  -- what is seen of a half of the pair
-  abbrev pub seen : H → Place → View → Dev → Sight
-  seen h p v dev = sight_of (alive h) p (v.lost (DiskPart dev)) (reads (disk_now v dev).bytes) (behind h (disk_now v dev).bytes)
-
-  module _ (count : ℕ) (had : List (List Page)) where
-    abbrev pub Lasts : H → H → Place → Place → View → Type 0
-    Lasts h1 h2 p1 p2 v = HavePasts count had (seen h1 p1 v Ckpt1) (seen h2 p2 v Ckpt2)
-
-    still : (dev : Dev) (h : H) (p : Place) (old new : View) → (new.lost (DiskPart dev) ≡ false → old.lost (DiskPart dev) ≡ false) → (disk_now new dev).bytes ≡ (disk_now old dev).bytes → HasPast count had (seen h p old dev) → HasPast count had (seen h p new dev)
-    still dev h p old new lost same x = past_stays count had (seen h p old dev) (seen h p new dev) (λ is. is) refl lost (ap reads same) (ap (behind h) same) x
-
-    -- the copies' devices stay
-    pub lasts_later : (h1 h2 : H) (p1 p2 : Place) (old new : View) → Goes old new → (disk_now new Ckpt1).bytes ≡ (disk_now old Ckpt1).bytes → (disk_now new Ckpt2).bytes ≡ (disk_now old Ckpt2).bytes → Lasts h1 h2 p1 p2 old → Lasts h1 h2 p1 p2 new
-    lasts_later h1 h2 p1 p2 old new goes one two x = record {
-      first = still Ckpt1 h1 p1 old new (not_lost old new goes (DiskPart Ckpt1)) one x.first;
-      second = still Ckpt2 h2 p2 old new (not_lost old new goes (DiskPart Ckpt2)) two x.second;
-    }
-
-    -- their bytes do, and a copy may count as lost now
-    pub lasts_fallen : (h1 h2 k1 k2 : H) (p1 p2 : Place) (old new : View) → Goes old new → (alive k1 ≡ true → alive h1 ≡ true) → (alive k2 ≡ true → alive h2 ≡ true) → ((d : List ℕ) → behind k1 d ≡ behind h1 d) → ((d : List ℕ) → behind k2 d ≡ behind h2 d)
-        → (disk_now new Ckpt1).bytes ≡ (disk_now old Ckpt1).bytes → (disk_now new Ckpt2).bytes ≡ (disk_now old Ckpt2).bytes → Lasts h1 h2 p1 p2 old → Lasts k1 k2 p1 p2 new
-    lasts_fallen h1 h2 k1 k2 p1 p2 old new goes falls1 falls2 same1 same2 one two x = record {
-      first = past_stays count had (seen h1 p1 old Ckpt1) (seen k1 p1 new Ckpt1) falls1 refl (not_lost old new goes (DiskPart Ckpt1)) (ap reads one) (same1 (disk_now new Ckpt1).bytes ∙ ap (behind h1) one) x.first;
-      second = past_stays count had (seen h2 p2 old Ckpt2) (seen k2 p2 new Ckpt2) falls2 refl (not_lost old new goes (DiskPart Ckpt2)) (ap reads two) (same2 (disk_now new Ckpt2).bytes ∙ ap (behind h2) two) x.second;
-    }
-
-    -- a call on the copy of one device
-    pub lasts_on : (dev : Dev) → IsCkpt dev → (h1 h2 k1 k2 : H) (p1 p2 q1 q2 : Place) (old new : View) → (new.lost (DiskPart (other dev Ckpt1 Ckpt2)) ≡ false → old.lost (DiskPart (other dev Ckpt1 Ckpt2)) ≡ false) → other dev k1 k2 ≡ other dev h1 h2 → other dev q1 q2 ≡ other dev p1 p2
-        → (disk_now new (other dev Ckpt1 Ckpt2)).bytes ≡ (disk_now old (other dev Ckpt1 Ckpt2)).bytes → HasPast count had (seen (pick dev k1 k2) (pick dev q1 q2) new dev) → Lasts h1 h2 p1 p2 old → Lasts k1 k2 q1 q2 new
-    lasts_on Ckpt1 ckpt h1 h2 k1 k2 p1 p2 q1 q2 old new lost same at bytes p x = record {
-      first = p;
-      second = subst (λ (k : H). HasPast count had (seen k q2 new Ckpt2)) (sym same) (subst (λ (q : Place). HasPast count had (seen h2 q new Ckpt2)) (sym at) (still Ckpt2 h2 p2 old new lost bytes x.second));
-    }
-    lasts_on Ckpt2 ckpt h1 h2 k1 k2 p1 p2 q1 q2 old new lost same at bytes p x = record {
-      first = subst (λ (k : H). HasPast count had (seen k q1 new Ckpt1)) (sym same) (subst (λ (q : Place). HasPast count had (seen h1 q new Ckpt1)) (sym at) (still Ckpt1 h1 p1 old new lost bytes x.first));
-      second = p;
-    }
-    lasts_on (Spool n) ckpt h1 h2 k1 k2 p1 p2 q1 q2 old new lost same at bytes p x = absurd ckpt
-
-    -- what is known of both is known of the one of a device, and of the other
-    pub lasts_at : (dev : Dev) → IsCkpt dev → (h1 h2 : H) (p1 p2 : Place) (v : View) → Lasts h1 h2 p1 p2 v → HasPast count had (seen (pick dev h1 h2) (pick dev p1 p2) v dev)
-    lasts_at Ckpt1 ckpt h1 h2 p1 p2 v x = x.first
-    lasts_at Ckpt2 ckpt h1 h2 p1 p2 v x = x.second
-    lasts_at (Spool n) ckpt h1 h2 p1 p2 v x = absurd ckpt
-
-    pub lasts_beside : (dev : Dev) → IsCkpt dev → (h1 h2 : H) (p1 p2 : Place) (v : View) → Lasts h1 h2 p1 p2 v → HasPast count had (seen (other dev h1 h2) (other dev p1 p2) v (other dev Ckpt1 Ckpt2))
-    lasts_beside Ckpt1 ckpt h1 h2 p1 p2 v x = x.second
-    lasts_beside Ckpt2 ckpt h1 h2 p1 p2 v x = x.first
-    lasts_beside (Spool n) ckpt h1 h2 p1 p2 v x = absurd ckpt
-
-    -- the batch came to its end on both
-    pub lasts_ended : (h1 h2 : H) (p1 p2 : Place) (v : View) → (alive h1 ≡ true → p1 ≡ Unsure → ⊥) → (alive h2 ≡ true → p2 ≡ Unsure → ⊥) → Lasts h1 h2 p1 p2 v → Lasts h1 h2 Before Before v
-    lasts_ended h1 h2 p1 p2 v known1 known2 x = record {
-      first = past_ended count had (seen h1 p1 v Ckpt1) known1 x.first;
-      second = past_ended count had (seen h2 p2 v Ckpt2) known2 x.second;
-    }
+  pub past_still : (h : Half C) → (new.lost (DiskPart d) ≡ false → old.lost (DiskPart d) ≡ false) → (disk_now new d).bytes ≡ (disk_now old d).bytes → HasPast count had (sight_of reads behind h p d old) → HasPast count had (sight_of reads behind h p d new)
+  past_still h lost bytes x = past_fallen h h (λ is. is) refl lost bytes x

@@ -1,5 +1,5 @@
 -- The present: what both copies read gives what a start finds.
-use Rattle.mas_complex.proofs.Names.{◌≡◌, ◌⊎◌, inl, inr, ⊎_elim, ℕ, ◌+◌, ◌≤◌, ◌<◌, ◌==◌, ◌&&◌, ◌||◌, nat_lt, Bool, true, false, if◌then◌else◌, List, [], ◌++◌, Option, Some, None, refl, subst, sym, ◌∙◌, ap, arith, le_refl, not, and_from, eq-eqb, true≢false, nat_tests, Dev, Disk as DiskPart, View, ViewDisk as Disk, IsImage, disk_now, top, AllRead, EachReads, level, Entry, Place, Before, Put, Opened, Unsure, is_renewed_at, Setting, IsLeft, SomeGood, found, IsFound, Stands, IsNext, IsOneOf, IsStale, ReadsOne, ReadsBy, Alike, OnComing, IsAt, IsAway, OneCopy, lost_if, left_at}
+use Rattle.mas_complex.proofs.Names.{◌≡◌, ◌⊎◌, inl, inr, ⊎_elim, ℕ, ◌+◌, ◌≤◌, ◌<◌, ◌==◌, ◌&&◌, ◌||◌, nat_lt, Bool, true, false, if◌then◌else◌, List, [], ◌++◌, Option, Some, None, refl, subst, sym, ◌∙◌, ap, arith, le_refl, not, and_from, eq-eqb, true≢false, nat_tests, Dev, Disk as DiskPart, View, ViewDisk as Disk, IsImage, disk_now, top, AllRead, EachReads, level, Entry, Place, Before, Put, Opened, Unsure, is_renewed_at, Setting, IsLeft, SomeGood, found, IsFound, Stands, IsNext, IsOneOf, IsStale, ReadsOne, ReadsBy, Alike, OnComing, IsAt, IsAway, lost_if, left_at, Ckpt1, Ckpt2, Copy, CopyAt, is_away, of_device}
 use Rattle.duplex_pair.specs.Finds.{best}
 use Rattle.mas_complex.proofs.Basics.{no}
 
@@ -89,28 +89,32 @@ stands_of S reached K F was coming (Some pages) stands comes (inr e) = inr (next
   next_stands s = s.queue
 
 -- what a start finds of two devices that agree
-pub alike_found : (S : Setting) (K F : List Entry) (t : ℕ) (d e : Disk) → Alike S K F t d e → (one two : Option (List ℕ)) → IsLeft d one → IsLeft e two → SomeGood (is_renewed_at S.renewals.first t) (is_renewed_at S.renewals.second t) d e
-    → IsFound S K (found S one two) ⊎ IsFound S (K ++ F) (found S one two)
-alike_found S K F t d e a one two left right good =
+pub alike_found : (S : Setting) (K F : List Entry) (t : ℕ) (disks : Dev → Disk) → Alike S K F t disks → (one two : Option (List ℕ)) → IsLeft (disks Ckpt1) one → IsLeft (disks Ckpt2) two
+    → SomeGood (is_renewed_at S.renewals.first t) (is_renewed_at S.renewals.second t) (disks Ckpt1) (disks Ckpt2) → IsFound S K (found S one two) ⊎ IsFound S (K ++ F) (found S one two)
+alike_found S K F t disks a one two left right good =
     stands_of S a.reached K F a.was a.coming (found S one two) a.stands a.comes
-    (one_found a.was a.coming (not_lower S a.reached K F a.was a.coming a.stands a.comes) S (is_renewed_at S.renewals.first t) (is_renewed_at S.renewals.second t) d e a.first a.second one two left right good)
+    (one_found a.was a.coming (not_lower S a.reached K F a.was a.coming a.stands a.comes) S (is_renewed_at S.renewals.first t) (is_renewed_at S.renewals.second t) (disks Ckpt1) (disks Ckpt2) (a.reads Ckpt1 tt) (a.reads Ckpt2 tt) one two left right good)
 
 -- devices that agree on entries agree on equal ones
-pub alike_as : {t : ℕ} (S : Setting) (K F G H : List Entry) (d e : Disk) → G ≡ K → H ≡ F → Alike S K F t d e → Alike S G H t d e
-alike_as {t} S K F G H d e k f a = subst (λ (l : List Entry). Alike S l H t d e) (sym k) (subst (λ (l : List Entry). Alike S K l t d e) (sym f) a)
+pub alike_as : {t : ℕ} (S : Setting) (K F G H : List Entry) (disks : Dev → Disk) → G ≡ K → H ≡ F → Alike S K F t disks → Alike S G H t disks
+alike_as {t} S K F G H disks k f a = subst (λ (l : List Entry). Alike S l H t disks) (sym k) (subst (λ (l : List Entry). Alike S K l t disks) (sym f) a)
 
 -- with no entry in flight each image reads as the kept pages, so any entries may come into flight
-pub alike_none : {t : ℕ} (S : Setting) (K F G : List Entry) (d e : Disk) → F ≡ [] → Alike S K F t d e → Alike S K G t d e
-alike_none {t} S K F G d e none a = record {
+pub alike_none : {t : ℕ} (S : Setting) (K F G : List Entry) (disks : Dev → Disk) → F ≡ [] → Alike S K F t disks → Alike S K G t disks
+alike_none {t} S K F G disks none a = record {
   reached = a.reached;
   was = a.was;
   coming = None;
   stands = a.stands;
   comes = tt;
   none = λ _. refl;
-  first = subst (λ (n : Option (List ℕ)). ReadsBy S (is_renewed_at S.renewals.first t) a.was n d) (a.none none) a.first;
-  second = subst (λ (n : Option (List ℕ)). ReadsBy S (is_renewed_at S.renewals.second t) a.was n e) (a.none none) a.second;
+  reads = λ d ckpt. subst (λ (n : Option (List ℕ)). ReadsBy S (is_renewed_at (of_device d S.renewals) t) a.was n (disks d)) (a.none none) (a.reads d ckpt);
 }
+
+-- a copy's laws: what it reads where it rests or holds pages
+pub record Reads (reads : List ℕ → Option (List ℕ)) (c : Copy) : Type 0 where
+  pub rest : (pages : List ℕ) (d : Disk) → c.rests pages d → AllRead reads pages d
+  pub hold : (was next : List ℕ) (d : Disk) → c.holds was next d → AllRead reads was d
 
 -- what a copy at its place reads
 module _ (S : Setting) (was : List ℕ) where
@@ -160,30 +164,32 @@ module _ (S : Setting) (was : List ℕ) where
   away_top false coming now b lost d e gone away = lost_reads coming (lost_if (b && lost) d) (ap (λ (c : Bool). (lost_if c d).lost) (and_from b lost e (gone refl)))
   away_top true coming now b lost d e gone away = less_reads true coming (b && lost) d away
 
-  module _ (rests : List ℕ → Disk → Type 0) (holds : List ℕ → List ℕ → Disk → Type 0)
-      (rests_reads : (pages : List ℕ) (d : Disk) → rests pages d → AllRead S.reads pages d) (holds_reads : (was next : List ℕ) (d : Disk) → holds was next d → AllRead S.reads was d) where
-    put_reads : (coming : Option (List ℕ)) (d : Disk) → OnComing coming (λ pages. holds was pages d) → ReadsOne S was coming d
-    put_reads None d here = absurd here
-    put_reads (Some pages) d here = all_read (Some pages) d (holds_reads was pages d here)
+  module _ (c : Copy) (laws : Reads S.reads c) (coming : Option (List ℕ)) where
+    on_coming : (P : List ℕ → Type 0) (d : Disk) → ((pages : List ℕ) → coming ≡ Some pages → P pages → ReadsOne S was coming d) → OnComing coming P → ReadsOne S was coming d
+    on_coming P d so here = by_coming coming refl here where
+      by_coming : (n : Option (List ℕ)) → coming ≡ n → OnComing n P → ReadsOne S was coming d
+      by_coming None e there = absurd there
+      by_coming (Some pages) e there = so pages e there
 
-    opened_reads : (coming : Option (List ℕ)) (d : Disk) → OnComing coming (λ pages. rests pages d) → ReadsOne S was coming d
-    opened_reads None d here = absurd here
-    opened_reads (Some pages) d here = each_reads (Some pages) d pages refl (λ image is. inr (rests_reads pages d here image is))
+    pub side_reads : (place : Place) (d : Disk) → IsAt S c was coming place d → ReadsOne S was coming d
+    side_reads Before d side = all_read coming d (laws.rest was d side)
+    side_reads Put d side = on_coming (λ pages. c.holds was pages d) d (λ pages e here. all_read coming d (laws.hold was pages d here)) side
+    side_reads Opened d side = on_coming (λ pages. c.rests pages d) d (λ pages e here. each_reads coming d pages e (λ image is. inr (laws.rest pages d here image is))) side
+    side_reads Unsure d side = side
 
-    pub side_reads : (coming : Option (List ℕ)) (place : Place) (d : Disk) → IsAt S rests holds was coming place d → ReadsOne S was coming d
-    side_reads coming Before d side = all_read coming d (rests_reads was d side)
-    side_reads coming Put d side = put_reads coming d side
-    side_reads coming Opened d side = opened_reads coming d side
-    side_reads coming Unsure d side = side
+    module _ (dev : Dev) (v : View) (copy : CopyAt S was coming dev c v) where
+      alive_reads : c.alive ≡ true → ReadsBy S (is_away S dev) was coming (disk_now v dev)
+      alive_reads is = not_renewed (is_away S dev) coming (disk_now v dev) (copy.formed is) (side_reads c.place (disk_now v dev) (copy.at is))
 
-    pub copy_reads : {renewed : Bool} (coming : Option (List ℕ)) (place : Place) (alive : Bool) (now : ℕ) (d : Disk) → now < top → OneCopy S rests holds was coming place alive renewed now d → ReadsBy S renewed was coming d
-    copy_reads {renewed} coming place true now d lt copy = not_renewed renewed coming d (copy.formed refl) (side_reads coming place d (copy.at refl))
-    copy_reads {renewed} coming place false now d lt copy = away_reads renewed coming now d lt (copy.gone refl)
+      pub copy_reads : v.now < top → ReadsBy S (is_away S dev) was coming (disk_now v dev)
+      copy_reads lt = by_alive c.alive refl where
+        by_alive : (b : Bool) → c.alive ≡ b → ReadsBy S (is_away S dev) was coming (disk_now v dev)
+        by_alive true is = alive_reads is
+        by_alive false is = away_reads (is_away S dev) coming v.now (disk_now v dev) lt (copy.gone is)
 
-    -- what a copy reads at the greatest moment
-    pub top_reads : {renewed : Bool} (coming : Option (List ℕ)) (place : Place) (alive : Bool) (dev : Dev) (v : View) → v.now ≡ top → OneCopy S rests holds was coming place alive renewed v.now (disk_now v dev) → (alive ≡ false → renewed ≡ false → v.lost (DiskPart dev) ≡ true)
-        → ReadsBy S renewed was coming (left_at v v.now dev)
-    top_reads {renewed} coming place true dev v last copy lost =
-        less_reads renewed coming ((v.now == top) && v.lost (DiskPart dev)) (disk_now v dev) (not_renewed renewed coming (disk_now v dev) (copy.formed refl) (side_reads coming place (disk_now v dev) (copy.at refl)))
-    top_reads {renewed} coming place false dev v last copy lost =
-        away_top renewed coming v.now (v.now == top) (v.lost (DiskPart dev)) (disk_now v dev) (eq-eqb v.now top last) (lost refl) (copy.gone refl)
+      -- what a copy reads at the greatest moment
+      pub top_reads : v.now ≡ top → (c.alive ≡ false → is_away S dev ≡ false → v.lost (DiskPart dev) ≡ true) → ReadsBy S (is_away S dev) was coming (left_at v v.now dev)
+      top_reads last lost = by_alive c.alive refl where
+        by_alive : (b : Bool) → c.alive ≡ b → ReadsBy S (is_away S dev) was coming (left_at v v.now dev)
+        by_alive true is = less_reads (is_away S dev) coming ((v.now == top) && v.lost (DiskPart dev)) (disk_now v dev) (alive_reads is)
+        by_alive false is = away_top (is_away S dev) coming v.now (v.now == top) (v.lost (DiskPart dev)) (disk_now v dev) (eq-eqb v.now top last) (lost is) (copy.gone is)

@@ -1,5 +1,5 @@
 -- A copy is replaced: the moments at which it isn't good for that, and what the shared value keeps through it.
-use Rattle.mas_complex.proofs.Names.{◌≡◌, ◌⊎◌, inl, ⊎_elim, ℕ, ◌+◌, ◌≤◌, ◌<◌, ◌&&◌, ◌||◌, ◌≢◌, nat_le, nat_lt, if◌then◌else◌, Bool, true, false, List, [], ◌∷◌, ◌++◌, length, map, Option, Some, None, Result, Ok, Err, OnOk, OnErr, IsErrOf, refl, sym, ◌∙◌, ap, subst, arith, le_refl, is_none, not, true≢false, nat_tests, Dev, Ckpt1, Ckpt2, Spool, Batch, Entry, View, ViewDisk as Disk, Avoids, IsImage, disk_at, disk_now, slice, top, either_way, AllRead, Part, Disk as DiskPart, IsCkpt, IsBothLost, SameOrLost, pick, other, Replaces, WhileReplaced, IsOrForms, replace_stopped, Elsewhere, Parts, replaced_in, with_half, Renewal, Renewals, has_ended, is_renewed_at, is_open, of_device, HasEndedBy, AreRenewedBy, or_at, ended_at, ended_on, begun_on, with_device, kept, flying, kept_all, in_flight, entries_in, Place, Before, Setting, Stands, IsNext, IsStale, ReadsStale, ReadsBy, Alike, CrashAt, IsAt, IsAway, OneCopy, Copy, CopyAt, Keeps, PlantGhosts, Ghosts as CopyGhosts, SteadyGhosts, Half, Complex}
+use Rattle.mas_complex.proofs.Names.{◌≡◌, ◌⊎◌, inl, ⊎_elim, ℕ, ◌+◌, ◌≤◌, ◌<◌, ◌&&◌, ◌||◌, ◌≢◌, nat_le, nat_lt, if◌then◌else◌, Bool, true, false, List, [], ◌∷◌, ◌++◌, map, Option, Some, None, Result, Ok, Err, OnOk, OnErr, IsErrOf, refl, sym, ◌∙◌, ap, subst, arith, le_refl, is_none, not, true≢false, nat_tests, Dev, Ckpt1, Ckpt2, Spool, Batch, Entry, View, ViewDisk as Disk, disk_at, disk_now, top, either_way, IsCkpt, IsBothLost, pick, other, Replaces, WhileReplaced, IsOrForms, replace_stopped, Elsewhere, Parts, replaced_in, with_half, Renewal, Renewals, has_ended, is_renewed_at, is_open, of_device, HasEndedBy, AreRenewedBy, or_at, ended_at, ended_on, begun_on, with_device, kept, flying, kept_all, in_flight, entries_in, Before, Setting, Stands, IsNext, IsStale, ReadsStale, ReadsBy, Alike, CrashAt, IsAt, IsAway, Copy, CopyAt, Keeps, PlantGhosts, Ghosts as CopyGhosts, SteadyGhosts, Complex, copy_of, is_away, Half}
 use Rattle.pair_replacing.specs.declared.replacing.ReplaceNo.{ReplaceNo}
 use Rattle.pair_replacing.specs.declared.replacing.ReplaceNo.TheVariants.{NotLost, BothLost, Failed, Halted, NoMemory}
 use Rattle.mas_complex.proofs.Basics.{no, some_is}
@@ -7,11 +7,13 @@ use Rattle.mas_complex.proofs.Apart.{wires_none, wires_of}
 use Rattle.mas_complex.proofs.Batches.{now_kept, now_flying}
 use Rattle.mas_complex.proofs.Renewed.{renewed_open}
 use Rattle.mas_complex.proofs.Passing.{Passes}
-use Rattle.mas_complex.proofs.Present.{alike_as, all_read, not_renewed, copy_reads}
+use Rattle.mas_complex.proofs.Present.{alike_as, all_read, away_reads, copy_reads, not_renewed}
 use Rattle.mas_complex.proofs.Rising.{one_up}
-use Rattle.mas_complex.proofs.Sides.{rests_before}
-use Rattle.mas_complex.proofs.Values.{KeepsAt, Laws, first_of, second_of, setting_of}
-use Rattle.mas_complex.proofs.OnDevice.{BothSunk, side, at_copy, at_other, acts_on}
+use Rattle.mas_complex.proofs.Sides.{at_place, less_image, rests_before}
+use Rattle.mas_complex.proofs.Calls.{Call, at_near, copy_near, copy_there, here, near_dev, near_it, near_place, new, of_both, of_near, old, place_is, there}
+use Rattle.mas_complex.proofs.Each.{beside_ckpt, each_on}
+use Rattle.mas_complex.proofs.Values.{KeepsAt, KeepsOn, copies_of, half_of, place_of, setting_of}
+use Rattle.mas_complex.proofs.OnDevice.{acts_on, near_stays}
 
 -- WHEN A COPY IS BEING REPLACED
 
@@ -79,33 +81,39 @@ module _ (S : Setting) (rs : Renewals) where
   next_with l K F (Some pages) s = stands_with (l + 1) (K ++ F) pages s
 
   -- at a moment at which the same copies are being replaced
-  alike_with : (K F : List Entry) (t : ℕ) (d e : Disk) → is_renewed_at rs.first t ≡ is_renewed_at S.renewals.first t → is_renewed_at rs.second t ≡ is_renewed_at S.renewals.second t → Alike S K F t d e → Alike with_renewals K F t d e
-  alike_with K F t d e same1 same2 a = record {
+  alike_with : (K F : List Entry) (t : ℕ) (disks : Dev → Disk) → ((d : Dev) → IsCkpt d → is_renewed_at (of_device d rs) t ≡ is_renewed_at (of_device d S.renewals) t) → Alike S K F t disks → Alike with_renewals K F t disks
+  alike_with K F t disks same a = record {
     reached = a.reached;
     was = a.was;
     coming = a.coming;
     stands = stands_with a.reached K a.was a.stands;
     comes = next_with a.reached K F a.coming a.comes;
     none = a.none;
-    first = subst (λ (b : Bool). ReadsBy S b a.was a.coming d) (sym same1) a.first;
-    second = subst (λ (b : Bool). ReadsBy S b a.was a.coming e) (sym same2) a.second;
+    reads = λ d ckpt. subst (λ (b : Bool). ReadsBy S b a.was a.coming (disks d)) (sym (same d ckpt)) (a.reads d ckpt);
   }
 
-module _ (S : Setting) (rs : Renewals) (js : List Batch) (c : Option Batch) (reached : ℕ) (first second first' second' : Copy) (v : View) where
-  pub renewals_keep : (keeps : Keeps S js c reached first second v) → AreRenewedBy rs.first v.now → AreRenewedBy rs.second v.now
-      → ((t : ℕ) → t < v.now → is_renewed_at rs.first t ≡ is_renewed_at S.renewals.first t) → ((t : ℕ) → t < v.now → is_renewed_at rs.second t ≡ is_renewed_at S.renewals.second t)
-      → (v.now < top → ReadsBy S (is_open rs.first) keeps.was keeps.coming (disk_now v Ckpt1) × ReadsBy S (is_open rs.second) keeps.was keeps.coming (disk_now v Ckpt2))
-      → CopyAt (with_renewals S rs) keeps.was keeps.coming Ckpt1 first' v.now (disk_now v Ckpt1) → CopyAt (with_renewals S rs) keeps.was keeps.coming Ckpt2 second' v.now (disk_now v Ckpt2)
-      → Keeps (with_renewals S rs) js c reached first' second' v
-  renewals_keep keeps by1 by2 same1 same2 reads one two = record {
+  -- a copy of which a replacement is open just where one was
+  pub copy_with : (was : List ℕ) (coming : Option (List ℕ)) (dev : Dev) (c : Copy) (v : View) → is_open (of_device dev rs) ≡ is_away S dev → CopyAt S was coming dev c v → CopyAt with_renewals was coming dev c v
+  copy_with was coming dev c v same x =
+      record { at = x.at; formed = λ is. same ∙ x.formed is; gone = λ dead. subst (λ (b : Bool). IsAway with_renewals was b v.now (disk_now v dev)) (sym same) (by_case (is_away S dev) (x.gone dead)) } where
+        by_case : (r : Bool) → IsAway S was r v.now (disk_now v dev) → IsAway with_renewals was r v.now (disk_now v dev)
+        by_case false a = a
+        by_case true a = a
+
+module _ (S : Setting) (rs : Renewals) (js : List Batch) (c : Option Batch) (reached : ℕ) (copies copies' : Dev → Copy) (v : View) where
+  pub renewals_keep : (keeps : Keeps S js c reached copies v) → ((d : Dev) → IsCkpt d → AreRenewedBy (of_device d rs) v.now)
+      → ((d : Dev) → IsCkpt d → (t : ℕ) → t < v.now → is_renewed_at (of_device d rs) t ≡ is_renewed_at (of_device d S.renewals) t)
+      → ((d : Dev) → IsCkpt d → v.now < top → ReadsBy S (is_open (of_device d rs)) keeps.was keeps.coming (disk_now v d))
+      → ((d : Dev) → IsCkpt d → CopyAt (with_renewals S rs) keeps.was keeps.coming d (copies' d) v)
+      → Keeps (with_renewals S rs) js c reached copies' v
+  renewals_keep keeps by same reads at = record {
     started = keeps.started;
     settled = keeps.settled;
     begun = keeps.begun;
-    renewed1 = by1;
-    renewed2 = by2;
+    renewed = by;
     crash = λ t from le lt. ⊎_elim
         (λ here. at_now t here le lt)
-        (λ before. alike_with S rs (kept (js ++ in_flight c) t) (flying (js ++ in_flight c) t) t (disk_at v t Ckpt1) (disk_at v t Ckpt2) (same1 t before) (same2 t before) (keeps.crash t from le lt))
+        (λ before. alike_with S rs (kept (js ++ in_flight c) t) (flying (js ++ in_flight c) t) t (disk_at v t) (λ d ckpt. same d ckpt t before) (keeps.crash t from le lt))
         (either_way v.now t);
     told = keeps.told;
     grows = keeps.grows;
@@ -114,18 +122,12 @@ module _ (S : Setting) (rs : Renewals) (js : List Batch) (c : Option Batch) (rea
     first_level = keeps.first_level;
     first_order = keeps.first_order;
     rises = record {
-      first1 = keeps.rises.first1;
-      first2 = keeps.rises.first2;
+      first = keeps.rises.first;
       risen = keeps.rises.risen;
-      most1 = λ t from le lt is. ⊎_elim
-          (λ here. one_up S reached (kept_all js) (entries_in c) keeps.was keeps.coming keeps.stands keeps.comes keeps.first_level keeps.first_order keeps.near keeps.comes_near (disk_at v t Ckpt1)
-          (subst (λ (b : Bool). ReadsBy S b keeps.was keeps.coming (disk_at v t Ckpt1)) is (reads_at t here le lt).0))
-          (λ before. keeps.rises.most1 t from le lt (sym (same1 t before) ∙ is))
-          (either_way v.now t);
-      most2 = λ t from le lt is. ⊎_elim
-          (λ here. one_up S reached (kept_all js) (entries_in c) keeps.was keeps.coming keeps.stands keeps.comes keeps.first_level keeps.first_order keeps.near keeps.comes_near (disk_at v t Ckpt2)
-          (subst (λ (b : Bool). ReadsBy S b keeps.was keeps.coming (disk_at v t Ckpt2)) is (reads_at t here le lt).1))
-          (λ before. keeps.rises.most2 t from le lt (sym (same2 t before) ∙ is))
+      most = λ d ckpt t from le lt is. ⊎_elim
+          (λ here. one_up S reached (kept_all js) (entries_in c) keeps.was keeps.coming keeps.stands keeps.comes keeps.first_level keeps.first_order keeps.near keeps.comes_near (disk_at v t d)
+          (subst (λ (b : Bool). ReadsBy S b keeps.was keeps.coming (disk_at v t d)) is (reads_at d ckpt t here le lt)))
+          (λ before. keeps.rises.most d ckpt t from le lt (sym (same d ckpt t before) ∙ is))
           (either_way v.now t);
     };
     was = keeps.was;
@@ -135,21 +137,17 @@ module _ (S : Setting) (rs : Renewals) (js : List Batch) (c : Option Batch) (rea
     none = keeps.none;
     near = keeps.near;
     comes_near = keeps.comes_near;
-    first_at = one;
-    second_at = two;
+    at = at;
   } where
-    reads_at : (t : ℕ) → v.now ≤ t → t ≤ v.now → t < top → ReadsBy S (is_renewed_at rs.first t) keeps.was keeps.coming (disk_at v t Ckpt1) × ReadsBy S (is_renewed_at rs.second t) keeps.was keeps.coming (disk_at v t Ckpt2)
-    reads_at t here le lt =
+    reads_at : (d : Dev) → IsCkpt d → (t : ℕ) → v.now ≤ t → t ≤ v.now → t < top → ReadsBy S (is_renewed_at (of_device d rs) t) keeps.was keeps.coming (disk_at v t d)
+    reads_at d ckpt t here le lt =
         let e : v.now ≡ t = omega (arith, here, le) in
-        let both = reads (omega (arith, here, le, lt)) in (
-          subst (λ (b : Bool). ReadsBy S b keeps.was keeps.coming (disk_at v t Ckpt1)) (sym (renewed_open rs.first v.now t by1 here)) (subst (λ (m : ℕ). ReadsBy S (is_open rs.first) keeps.was keeps.coming (disk_at v m Ckpt1)) e both.0),
-          subst (λ (b : Bool). ReadsBy S b keeps.was keeps.coming (disk_at v t Ckpt2)) (sym (renewed_open rs.second v.now t by2 here)) (subst (λ (m : ℕ). ReadsBy S (is_open rs.second) keeps.was keeps.coming (disk_at v m Ckpt2)) e both.1),
-        )
+        subst (λ (b : Bool). ReadsBy S b keeps.was keeps.coming (disk_at v t d)) (sym (renewed_open (of_device d rs) v.now t (by d ckpt) here))
+        (subst (λ (m : ℕ). ReadsBy S (is_open (of_device d rs)) keeps.was keeps.coming (disk_at v m d)) e (reads d ckpt (omega (arith, here, le, lt))))
 
     at_now : (t : ℕ) → v.now ≤ t → t ≤ v.now → t < top → CrashAt (with_renewals S rs) (js ++ in_flight c) v t
     at_now t here le lt =
-        let both = reads_at t here le lt in
-        alike_as (with_renewals S rs) (kept_all js) (entries_in c) (kept (js ++ in_flight c) t) (flying (js ++ in_flight c) t) (disk_at v t Ckpt1) (disk_at v t Ckpt2)
+        alike_as (with_renewals S rs) (kept_all js) (entries_in c) (kept (js ++ in_flight c) t) (flying (js ++ in_flight c) t) (disk_at v t)
         (now_kept js c v.now t keeps.settled keeps.begun here) (now_flying js c v.now t keeps.settled keeps.begun here)
         (record {
           reached = reached;
@@ -158,19 +156,10 @@ module _ (S : Setting) (rs : Renewals) (js : List Batch) (c : Option Batch) (rea
           stands = stands_with S rs reached (kept_all js) keeps.was keeps.stands;
           comes = next_with S rs reached (kept_all js) (entries_in c) keeps.coming keeps.comes;
           none = keeps.none;
-          first = both.0;
-          second = both.1;
+          reads = λ d ckpt. reads_at d ckpt t here le lt;
         })
 
 -- THE CALL
-
--- a device as it was, or lost now, has no more images
-less_image : (was disk : Disk) → SameOrLost was disk → (image : List ℕ) → IsImage disk image → IsImage was image
-less_image was disk so image is = record {
-  there = so.there is.there;
-  size = is.size ∙ ap length so.bytes;
-  synced = λ s avoids. is.synced s (subst (λ u. Avoids u s) (sym so.unsynced) avoids) ∙ ap (slice s.from s.len) so.bytes;
-}
 
 -- while a copy is replaced by one of the kept pages, an image of it reads as none, or as pages that were kept by then
 pub stale_forms : (S : Setting) (was pages : List ℕ) → pages ≡ was → (old d : Disk) → ReadsStale S was old → IsOrForms S.reads old pages d → ReadsStale S was d
@@ -179,170 +168,125 @@ stale_forms S was pages same old d stale is = ⊎_elim
     (λ forms image im. ⊎_elim (λ none. subst (IsStale was) (sym none) tt) (λ some. subst (IsStale was) (sym some) (inl same)) (forms image im))
     is
 
--- one device is replaced, and its copy counts as lost
-module _ (S : Setting) (js : List Batch) (c : Option Batch) (reached : ℕ) (first second gone : Copy) (old new : View) (P : Disk → Type 0) (keeps : Keeps S js c reached first second old) (passes : Passes old new) (dead : gone.alive ≡ false) where
-  module _ (dev : Dev) (began : old.now < top → is_open (of_device dev S.renewals) ≡ true) (stale : is_open (of_device dev S.renewals) ≡ true → (d : Disk) → P d → ReadsStale S keeps.was d) (m : WhileReplaced dev P old new) where
-    stale_at : (t : ℕ) → old.now < t → t ≤ new.now → t < top → ReadsBy S (is_open (of_device dev S.renewals)) keeps.was keeps.coming (disk_at new t dev)
-    stale_at t lt le below =
-        let e = began (omega (arith, lt, below)) in
-        subst (λ (b : Bool). ReadsBy S b keeps.was keeps.coming (disk_at new t dev)) (sym e) (stale e (disk_at new t dev) (m.here t (omega (arith, lt)) le))
-
-    away : (b : Bool) → is_open (of_device dev S.renewals) ≡ b → IsAway S keeps.was b new.now (disk_now new dev)
-    away true e = stale e (disk_now new dev) (m.here new.now passes.later (le_refl new.now))
-    away false e = λ lt. ⊎_elim
-        (λ le. absurd (omega (arith, le, lt, passes.later)))
-        (λ below. absurd (true≢false (sym (began below) ∙ e)))
-        (either_way top old.now)
-
-    pub replaced_at : CopyAt S keeps.was keeps.coming dev gone new.now (disk_now new dev)
-    replaced_at = record {
-      at = λ is. absurd (no gone.alive is dead);
-      formed = λ is. absurd (no gone.alive is dead);
-      gone = λ is. away (is_open (of_device dev S.renewals)) refl;
-    }
-
--- HALVES OF A PAIR
-
 -- a copy that counts as lost leaves no image, or stale ones
 away_stale : (S : Setting) (was : List ℕ) (renewed : Bool) (now : ℕ) (d : Disk) → now < top → IsAway S was renewed now d → ReadsStale S was d
 away_stale S was false now d lt away = λ image is. absurd (true≢false (sym (away lt) ∙ is.there))
 away_stale S was true now d lt away = away
 
--- of the other copy the moments are as before
-copy_with : (S : Setting) (rs : Renewals) (was : List ℕ) (coming : Option (List ℕ)) (rests : List ℕ → Disk → Type 0) (holds : List ℕ → List ℕ → Disk → Type 0) (place : Place) (alive renewed : Bool) (now : ℕ) (d : Disk)
-    → OneCopy S rests holds was coming place alive renewed now d → OneCopy (with_renewals S rs) rests holds was coming place alive renewed now d
-copy_with S rs was coming rests holds place alive renewed now d x = record { at = x.at; formed = x.formed; gone = λ dead. by_case renewed (x.gone dead) } where
-  by_case : (r : Bool) → IsAway S was r now d → IsAway (with_renewals S rs) was r now d
-  by_case false a = a
-  by_case true a = a
+-- what the renewals of the copies are, where those of one become this list
+here_with : (dev : Dev) → IsCkpt dev → (l : List Renewal) (rs : Renewals) → of_device dev (with_device dev l rs) ≡ l
+here_with Ckpt1 ckpt l rs = refl
+here_with Ckpt2 ckpt l rs = refl
+here_with (Spool n) ckpt l rs = absurd ckpt
 
-module _ {P C : Type 0} {plants : PlantGhosts P} {steadies : SteadyGhosts C} {copies : CopyGhosts C} (laws : Laws plants steadies copies) (s : Complex P C plants steadies copies) where
-  abbrev H : Type 0
-  H = Half C
+beside_with : (dev : Dev) → IsCkpt dev → (l : List Renewal) (rs : Renewals) → of_device (other dev Ckpt1 Ckpt2) (with_device dev l rs) ≡ of_device (other dev Ckpt1 Ckpt2) rs
+beside_with Ckpt1 ckpt l rs = refl
+beside_with Ckpt2 ckpt l rs = refl
+beside_with (Spool n) ckpt l rs = absurd ckpt
 
-  abbrev rests : H → List ℕ → Disk → Type 0
-  rests h = copies.rests h.copy
-
-  abbrev holds : H → List ℕ → List ℕ → Disk → Type 0
-  holds h = copies.holds h.copy
-
-  abbrev alive : H → Bool
-  alive h = h.alive
+module _ {P C : Type 0} {plants : PlantGhosts P} {steadies : SteadyGhosts C} {copies : CopyGhosts C} (x : Call plants steadies copies) where
+  abbrev s : Complex P C plants steadies copies
+  s = x.was
 
   abbrev S : Setting
   S = setting_of s
 
-  rests_reads : (h : H) (pages : List ℕ) (d : Disk) → rests h pages d → AllRead S.reads pages d
-  rests_reads h pages d r = laws.rests_reads h.copy pages d r
-
-  holds_reads : (h : H) (was next : List ℕ) (d : Disk) → holds h was next d → AllRead S.reads was d
-  holds_reads h was next d r = laws.holds_reads h.copy was next d r
-
-  rests_now : (h : H) (pages : List ℕ) (d : Disk) → rests h pages d → S.reads d.bytes ≡ Some pages
-  rests_now h pages d r = laws.rests_now h.copy pages d r
-
   -- the pages that the other copy reads are the kept ones
-  pub same_was : (dev : Dev) → IsCkpt dev → (v : View) (keeps : KeepsAt s v)
-      → alive (other dev s.pair.first s.pair.second) ≡ true → other dev s.first s.second ≡ Before → (pages : List ℕ) → S.reads (disk_now v (other dev Ckpt1 Ckpt2)).bytes ≡ Some pages → pages ≡ keeps.was
-  same_was dev ckpt v keeps beside before pages reads =
-      let there = at_other rests holds alive S keeps.was keeps.coming dev ckpt s.pair.first s.pair.second s.first s.second v keeps.first_at keeps.second_at in
-      let rest : rests (other dev s.pair.first s.pair.second) keeps.was (disk_now v (other dev Ckpt1 Ckpt2))
-      = rests_before S (rests (other dev s.pair.first s.pair.second)) (holds (other dev s.pair.first s.pair.second)) keeps.was keeps.coming (other dev s.first s.second) (alive (other dev s.pair.first s.pair.second)) v.now (disk_now v (other dev Ckpt1 Ckpt2)) there (λ _. before) beside in
-      some_is pages keeps.was (sym reads ∙ rests_now (other dev s.pair.first s.pair.second) keeps.was (disk_now v (other dev Ckpt1 Ckpt2)) rest)
+  pub same_was : (v : View) (keeps : KeepsAt s v) → (near_it x).alive ≡ true → near_place x ≡ Before → (pages : List ℕ) → S.reads (disk_now v (near_dev x)).bytes ≡ Some pages → pages ≡ keeps.was
+  same_was v keeps beside before pages reads =
+      let there = of_near x (λ d h p. CopyAt S keeps.was keeps.coming d (copy_of copies.rests copies.holds h p) v) keeps.at in
+      some_is pages keeps.was (sym reads ∙ x.laws.rests_now (near_it x).copy keeps.was (disk_now v (near_dev x)) (rests_before S keeps.was keeps.coming (copy_near x) (near_dev x) v there (λ _. before) beside))
 
-  -- the moments of the copy on one device change, and with them that copy
-  module _ (v : View) (keeps : KeepsAt s v) (list : List Renewal) (by : AreRenewedBy list v.now) (k1 k2 : H) (q1 q2 : Place) where
-    abbrev rs : Dev → Renewals
-    rs dev = with_device dev list S.renewals
+  -- the moments of the copy on the device change, and with them that copy
+  module _ (v : View) (keeps : KeepsAt s v) (list : List Renewal) (by : AreRenewedBy list v.now) where
+    abbrev rs : Renewals
+    rs = with_device x.dev list S.renewals
 
-    near_with : (dev : Dev) → IsCkpt dev → other dev k1 k2 ≡ other dev s.pair.first s.pair.second → other dev q1 q2 ≡ other dev s.first s.second
-        → OneCopy (with_renewals S (rs dev)) (rests (other dev k1 k2)) (holds (other dev k1 k2)) keeps.was keeps.coming (other dev q1 q2) (alive (other dev k1 k2)) (is_open (of_device (other dev Ckpt1 Ckpt2) S.renewals)) v.now (disk_now v (other dev Ckpt1 Ckpt2))
-    near_with dev ckpt same at =
-        subst (λ (h : H). OneCopy (with_renewals S (rs dev)) (rests h) (holds h) keeps.was keeps.coming (other dev q1 q2) (alive h) (is_open (of_device (other dev Ckpt1 Ckpt2) S.renewals)) v.now (disk_now v (other dev Ckpt1 Ckpt2))) (sym same)
-        (subst (λ (p : Place). OneCopy (with_renewals S (rs dev)) (rests (other dev s.pair.first s.pair.second)) (holds (other dev s.pair.first s.pair.second)) keeps.was keeps.coming p (alive (other dev s.pair.first s.pair.second)) (is_open (of_device (other dev Ckpt1 Ckpt2) S.renewals)) v.now (disk_now v (other dev Ckpt1 Ckpt2))) (sym at)
-        (copy_with S (rs dev) keeps.was keeps.coming (rests (other dev s.pair.first s.pair.second)) (holds (other dev s.pair.first s.pair.second)) (other dev s.first s.second) (alive (other dev s.pair.first s.pair.second)) (is_open (of_device (other dev Ckpt1 Ckpt2) S.renewals)) v.now (disk_now v (other dev Ckpt1 Ckpt2))
-        (at_other rests holds alive S keeps.was keeps.coming dev ckpt s.pair.first s.pair.second s.first s.second v keeps.first_at keeps.second_at)))
+    of_lists : (P : Dev → List Renewal → Type 0) → P x.dev list → ((d : Dev) → IsCkpt d → P d (of_device d S.renewals)) → (d : Dev) → IsCkpt d → P d (of_device d rs)
+    of_lists P here all = each_on (λ d. P d (of_device d rs)) x.dev x.ckpt (subst (P x.dev) (sym (here_with x.dev x.ckpt list S.renewals)) here)
+        (subst (P (near_dev x)) (sym (beside_with x.dev x.ckpt list S.renewals)) (all (near_dev x) (beside_ckpt x.dev x.ckpt)))
 
-    near_reads : (dev : Dev) → IsCkpt dev → v.now < top → ReadsBy S (is_open (of_device (other dev Ckpt1 Ckpt2) S.renewals)) keeps.was keeps.coming (disk_now v (other dev Ckpt1 Ckpt2))
-    near_reads dev ckpt below =
-        copy_reads S keeps.was (rests (other dev s.pair.first s.pair.second)) (holds (other dev s.pair.first s.pair.second)) (λ pages d r. rests_reads (other dev s.pair.first s.pair.second) pages d r) (λ was next d r. holds_reads (other dev s.pair.first s.pair.second) was next d r) keeps.coming (other dev s.first s.second) (alive (other dev s.pair.first s.pair.second)) v.now (disk_now v (other dev Ckpt1 Ckpt2)) below
-        (at_other rests holds alive S keeps.was keeps.coming dev ckpt s.pair.first s.pair.second s.first s.second v keeps.first_at keeps.second_at)
+    renewals_on : (copies' : Dev → Copy) → ((t : ℕ) → t < v.now → is_renewed_at list t ≡ is_renewed_at (of_device x.dev S.renewals) t) → (v.now < top → ReadsBy S (is_open list) keeps.was keeps.coming (disk_now v x.dev))
+        → ((d : Dev) → IsCkpt d → CopyAt (with_renewals S rs) keeps.was keeps.coming d (copies' d) v) → Keeps (with_renewals S rs) s.journal.batches s.current s.level copies' v
+    renewals_on copies' before reads at = renewals_keep S rs s.journal.batches s.current s.level (copies_of s) copies' v keeps (of_lists (λ d l. AreRenewedBy l v.now) by keeps.renewed)
+        (of_lists (λ d l. (t : ℕ) → t < v.now → is_renewed_at l t ≡ is_renewed_at (of_device d S.renewals) t) before (λ d ckpt t lt. refl))
+        (of_lists (λ d l. v.now < top → ReadsBy S (is_open l) keeps.was keeps.coming (disk_now v d)) reads (λ d ckpt. copy_reads S keeps.was (copies_of s d) (x.laws.reads (half_of s d) (place_of s d)) keeps.coming d v (keeps.at d ckpt))) at
 
-    renewals_on : (dev : Dev) → IsCkpt dev → ((t : ℕ) → t < v.now → is_renewed_at list t ≡ is_renewed_at (of_device dev S.renewals) t) → (v.now < top → ReadsBy S (is_open list) keeps.was keeps.coming (disk_now v dev))
-        → other dev k1 k2 ≡ other dev s.pair.first s.pair.second → other dev q1 q2 ≡ other dev s.first s.second
-        → OneCopy (with_renewals S (rs dev)) (rests (pick dev k1 k2)) (holds (pick dev k1 k2)) keeps.was keeps.coming (pick dev q1 q2) (alive (pick dev k1 k2)) (is_open list) v.now (disk_now v dev)
-        → Keeps (with_renewals S (rs dev)) s.journal.batches s.current s.level (side rests holds alive k1 q1) (side rests holds alive k2 q2) v
-    renewals_on Ckpt1 ckpt before reads same at here =
-        renewals_keep S (rs Ckpt1) s.journal.batches s.current s.level (first_of s) (second_of s) (side rests holds alive k1 q1) (side rests holds alive k2 q2) v keeps by keeps.renewed2 before (λ t lt. refl)
-        (λ below. (reads below, near_reads Ckpt1 ckpt below)) here (near_with Ckpt1 ckpt same at)
-    renewals_on Ckpt2 ckpt before reads same at here =
-        renewals_keep S (rs Ckpt2) s.journal.batches s.current s.level (first_of s) (second_of s) (side rests holds alive k1 q1) (side rests holds alive k2 q2) v keeps keeps.renewed1 by (λ t lt. refl) before
-        (λ below. (near_reads Ckpt2 ckpt below, reads below)) (near_with Ckpt2 ckpt same at) here
-    renewals_on (Spool n) ckpt before reads same at here = absurd ckpt
+    -- the copy on the device, with these moments
+    of_here : (c : Copy) → (c.alive ≡ true → IsAt S c keeps.was keeps.coming c.place (disk_now v x.dev)) → (c.alive ≡ true → is_open list ≡ false) → (c.alive ≡ false → IsAway S keeps.was (is_open list) v.now (disk_now v x.dev)) → CopyAt (with_renewals S rs) keeps.was keeps.coming x.dev c v
+    of_here c at formed gone = let e = ap is_open (here_with x.dev x.ckpt list S.renewals) in record {
+      at = at;
+      formed = λ is. e ∙ formed is;
+      gone = λ dead. subst (λ (b : Bool). IsAway (with_renewals S rs) keeps.was b v.now (disk_now v x.dev)) (sym e) (by_case (is_open list) (gone dead));
+    } where
+      by_case : (r : Bool) → IsAway S keeps.was r v.now (disk_now v x.dev) → IsAway (with_renewals S rs) keeps.was r v.now (disk_now v x.dev)
+      by_case false a = a
+      by_case true a = a
 
-  renewed_by : (dev : Dev) → IsCkpt dev → (v : View) → KeepsAt s v → AreRenewedBy (of_device dev S.renewals) v.now
-  renewed_by Ckpt1 ckpt v keeps = keeps.renewed1
-  renewed_by Ckpt2 ckpt v keeps = keeps.renewed2
-  renewed_by (Spool n) ckpt v keeps = absurd ckpt
+    still_beside : is_open (of_device (near_dev x) rs) ≡ is_away S (near_dev x)
+    still_beside = ap is_open (beside_with x.dev x.ckpt list S.renewals)
 
   -- a replacement begins
-  pub begun_keep : (v : View) (keeps : KeepsAt s v) (dev : Dev) → IsCkpt dev → alive (pick dev s.pair.first s.pair.second) ≡ false → Keeps (with_renewals S (begun_on dev v.now S.renewals)) s.journal.batches s.current s.level (first_of s) (second_of s) v
-  begun_keep v keeps dev ckpt dead = by_test (nat_lt v.now top) refl where
+  pub begun_keep : (v : View) (keeps : KeepsAt s v) → (half_of s x.dev).alive ≡ false → Keeps (with_renewals S (begun_on x.dev v.now S.renewals)) s.journal.batches s.current s.level (copies_of s) v
+  begun_keep v keeps dead = by_test (nat_lt v.now top) refl where
+    list : List Renewal
+    list = of_device x.dev S.renewals ++ beginning v.now ∷ []
+
     below : nat_lt v.now top ≡ true → v.now < top
     below e = grind (arith, nat_tests)
 
-    begun : is_open (of_device dev S.renewals ++ beginning v.now ∷ []) ≡ true
-    begun = is_begun (of_device dev S.renewals) v.now
-
-    stale : v.now < top → ReadsStale S keeps.was (disk_now v dev)
-    stale lt = away_stale S keeps.was (is_open (of_device dev S.renewals)) v.now (disk_now v dev) lt ((at_copy rests holds alive S keeps.was keeps.coming dev ckpt s.pair.first s.pair.second s.first s.second v keeps.first_at keeps.second_at).gone dead)
+    stale : v.now < top → IsAway S keeps.was (is_open list) v.now (disk_now v x.dev)
+    stale lt = subst (λ (b : Bool). IsAway S keeps.was b v.now (disk_now v x.dev)) (sym (is_begun (of_device x.dev S.renewals) v.now)) (away_stale S keeps.was (is_away S x.dev) v.now (disk_now v x.dev) lt ((keeps.at x.dev x.ckpt).gone dead))
 
     by_test : (b : Bool) → nat_lt v.now top ≡ b
-        → Keeps (with_renewals S (if b then with_device dev (of_device dev S.renewals ++ beginning v.now ∷ []) S.renewals else S.renewals)) s.journal.batches s.current s.level (first_of s) (second_of s) v
+        → Keeps (with_renewals S (if b then with_device x.dev (of_device x.dev S.renewals ++ beginning v.now ∷ []) S.renewals else S.renewals)) s.journal.batches s.current s.level (copies_of s) v
     by_test true e =
-        renewals_on v keeps (of_device dev S.renewals ++ beginning v.now ∷ []) (begun_by (of_device dev S.renewals) v.now (renewed_by dev ckpt v keeps)) s.pair.first s.pair.second s.first s.second dev ckpt (λ t before. before_beginning (of_device dev S.renewals) v.now t before)
-        (λ lt. subst (λ (b : Bool). ReadsBy S b keeps.was keeps.coming (disk_now v dev)) (sym begun) (stale lt)) refl refl
-        (record {
-          at = λ is. absurd (no (alive (pick dev s.pair.first s.pair.second)) is dead);
-          formed = λ is. absurd (no (alive (pick dev s.pair.first s.pair.second)) is dead);
-          gone = λ _. subst (λ (b : Bool). IsAway (with_renewals S (with_device dev (of_device dev S.renewals ++ beginning v.now ∷ []) S.renewals)) keeps.was b v.now (disk_now v dev)) (sym begun) (stale (below e));
-        })
+        let by = begun_by (of_device x.dev S.renewals) v.now (keeps.renewed x.dev x.ckpt) in
+        renewals_on v keeps list by (copies_of s) (λ t before. before_beginning (of_device x.dev S.renewals) v.now t before) (λ lt. away_reads S keeps.was (is_open list) keeps.coming v.now (disk_now v x.dev) lt (stale lt))
+        (each_on (λ d. CopyAt (with_renewals S (with_device x.dev list S.renewals)) keeps.was keeps.coming d (copies_of s d) v) x.dev x.ckpt
+        (of_here v keeps list by (copies_of s x.dev) (λ is. absurd (no (half_of s x.dev).alive is dead)) (λ is. absurd (no (half_of s x.dev).alive is dead)) (λ _. stale (below e)))
+        (copy_with S (with_device x.dev list S.renewals) keeps.was keeps.coming (near_dev x) (copies_of s (near_dev x)) v (still_beside v keeps list by) (keeps.at (near_dev x) (beside_ckpt x.dev x.ckpt))))
     by_test false e = keeps
 
   -- the device is replaced, and its copy still counts as lost
-  pub replaced_keep : (dev : Dev) → IsCkpt dev → (old new : View) (P : Disk → Type 0) (keeps : KeepsAt s old) → Passes old new → alive (pick dev s.pair.first s.pair.second) ≡ false
-      → (old.now < top → is_open (of_device dev S.renewals) ≡ true) → (is_open (of_device dev S.renewals) ≡ true → (d : Disk) → P d → ReadsStale S keeps.was d) → WhileReplaced dev P old new
-      → KeepsAt s new
-  replaced_keep dev ckpt old new P keeps passes dead began stale m =
-      acts_on rests holds alive S s.journal.batches s.current s.level s.pair.first s.pair.second s.pair.first s.pair.second s.first s.second s.first s.second old new keeps passes keeps.coming keeps.comes keeps.none keeps.comes_near rests_reads holds_reads dev ckpt refl refl m.others m.console
-      (stale_at S s.journal.batches s.current s.level (first_of s) (second_of s) (side rests holds alive (pick dev s.pair.first s.pair.second) (pick dev s.first s.second)) old new P keeps passes dead dev began stale m)
-      (at_other rests holds alive S keeps.was keeps.coming dev ckpt s.pair.first s.pair.second s.first s.second old keeps.first_at keeps.second_at)
-      (replaced_at S s.journal.batches s.current s.level (first_of s) (second_of s) (side rests holds alive (pick dev s.pair.first s.pair.second) (pick dev s.first s.second)) old new P keeps passes dead dev began stale m)
+  module _ (R : Disk → Type 0) (keeps : KeepsAt s (old x)) (passes : Passes (old x) (new x)) (dead : (there x).alive ≡ false) (began : (old x).now < top → is_away S x.dev ≡ true) (stale : is_away S x.dev ≡ true → (d : Disk) → R d → ReadsStale S keeps.was d) (m : WhileReplaced x.dev R (old x) (new x)) where
+    stale_at : (t : ℕ) → (old x).now < t → t ≤ (new x).now → t < top → ReadsBy S (is_away S x.dev) keeps.was keeps.coming (disk_at (new x) t x.dev)
+    stale_at t lt le below =
+        let e = began (omega (arith, lt, below)) in
+        subst (λ (b : Bool). ReadsBy S b keeps.was keeps.coming (disk_at (new x) t x.dev)) (sym e) (stale e (disk_at (new x) t x.dev) (m.here t (omega (arith, lt)) le))
 
-  -- a call that left both copies as they were
-  pub still_keep : (k1 k2 : H) → (k1 ≡ s.pair.first) × (k2 ≡ s.pair.second) → (v : View) → KeepsAt s v → Keeps S s.journal.batches s.current s.level (side rests holds alive k1 s.first) (side rests holds alive k2 s.second) v
-  still_keep k1 k2 same v k =
-      subst (λ (h : H). Keeps S s.journal.batches s.current s.level (side rests holds alive h s.first) (side rests holds alive k2 s.second) v) (sym same.0)
-      (subst (λ (h : H). Keeps S s.journal.batches s.current s.level (first_of s) (side rests holds alive h s.second) v) (sym same.1) k)
+    away : (b : Bool) → is_away S x.dev ≡ b → IsAway S keeps.was b (new x).now (disk_now (new x) x.dev)
+    away true e = stale e (disk_now (new x) x.dev) (m.here (new x).now passes.later (le_refl (new x).now))
+    away false e = λ lt. ⊎_elim
+        (λ le. absurd (omega (arith, le, lt, passes.later)))
+        (λ below. absurd (true≢false (sym (began below) ∙ e)))
+        (either_way top (old x).now)
+
+    pub replaced_keep : KeepsOn s x.pair x.first x.second (new x)
+    replaced_keep =
+        acts_on S keeps.was keeps.coming x.dev x.ckpt (copy_near x) (old x) (new x) passes m.others (at_near x keeps) (x.laws.reads (near_it x) (near_place x)) s.journal.batches s.current s.level (copies_of s) (λ d. copy_of copies.rests copies.holds (pick d x.pair.first x.pair.second) (pick d x.first x.second))
+        keeps refl keeps.comes keeps.none keeps.comes_near m.console stale_at
+        (of_both x (λ d h p. CopyAt S keeps.was keeps.coming d (copy_of copies.rests copies.holds h p) (new x))
+        (record { at = λ is. absurd (no (there x).alive is dead); formed = λ is. absurd (no (there x).alive is dead); gone = λ _. away (is_away S x.dev) refl })
+        (near_stays S keeps.was keeps.coming x.dev x.ckpt (copy_near x) (old x) (new x) passes m.others (at_near x keeps)))
 
   -- an image of a copy that is being replaced, before and during the call
-  pub stale_while : (dev : Dev) → IsCkpt dev → (old : View) (keeps : KeepsAt s old) → alive (pick dev s.pair.first s.pair.second) ≡ false → (pages : List ℕ) → pages ≡ keeps.was
-      → is_open (of_device dev S.renewals) ≡ true → (d : Disk) → IsOrForms S.reads (disk_now old dev) pages d → ReadsStale S keeps.was d
-  stale_while dev ckpt old keeps dead pages same is d forms =
-      let there = at_copy rests holds alive S keeps.was keeps.coming dev ckpt s.pair.first s.pair.second s.first s.second old keeps.first_at keeps.second_at in
-      stale_forms S keeps.was pages same (disk_now old dev) d (subst (λ (b : Bool). IsAway S keeps.was b old.now (disk_now old dev)) is (there.gone dead)) forms
+  pub stale_while : (keeps : KeepsAt s (old x)) → (here x).alive ≡ false → (pages : List ℕ) → pages ≡ keeps.was → is_away S x.dev ≡ true → (d : Disk) → IsOrForms S.reads (disk_now (old x) x.dev) pages d → ReadsStale S keeps.was d
+  stale_while keeps dead pages same is d forms =
+      stale_forms S keeps.was pages same (disk_now (old x) x.dev) d (subst (λ (b : Bool). IsAway S keeps.was b (old x).now (disk_now (old x) x.dev)) is ((keeps.at x.dev x.ckpt).gone dead)) forms
 
   -- the new copy is good from now on
-  pub ended_keep : (dev : Dev) → IsCkpt dev → (k1 k2 : H) (q1 q2 : Place) (v : View) (keeps : KeepsAt s v) → other dev k1 k2 ≡ other dev s.pair.first s.pair.second → other dev q1 q2 ≡ other dev s.first s.second
-      → alive (pick dev k1 k2) ≡ true → pick dev q1 q2 ≡ Before → rests (pick dev k1 k2) keeps.was (disk_now v dev)
-      → Keeps (with_renewals S (ended_on dev v.now S.renewals)) s.journal.batches s.current s.level (side rests holds alive k1 q1) (side rests holds alive k2 q2) v
-  ended_keep dev ckpt k1 k2 q1 q2 v keeps same at is before rest =
-      let k = pick dev k1 k2 in
-      let rs : Renewals = ended_on dev v.now S.renewals in
-      let closed : is_open (map (ended_at v.now) (of_device dev S.renewals)) ≡ false = none_open (of_device dev S.renewals) v.now in
-      renewals_on v keeps (map (ended_at v.now) (of_device dev S.renewals)) (all_ended_by (of_device dev S.renewals) v.now (renewed_by dev ckpt v keeps)) k1 k2 q1 q2 dev ckpt (λ t lt. renewed_before (of_device dev S.renewals) v.now t lt)
-      (λ below. not_renewed S keeps.was (is_open (map (ended_at v.now) (of_device dev S.renewals))) keeps.coming (disk_now v dev) closed (all_read S keeps.was keeps.coming (disk_now v dev) (rests_reads k keeps.was (disk_now v dev) rest))) same at
-      (record { at = λ _. subst (λ (p : Place). IsAt (with_renewals S rs) (rests k) (holds k) keeps.was keeps.coming p (disk_now v dev)) (sym before) rest; formed = λ _. closed; gone = λ dead. absurd (no (alive k) is dead) })
+  pub ended_keep : (v : View) (keeps : KeepsAt s v) → (there x).alive ≡ true → place_is x ≡ Before → copies.rests (there x).copy keeps.was (disk_now v x.dev)
+      → Keeps (with_renewals S (ended_on x.dev v.now S.renewals)) s.journal.batches s.current s.level (λ d. copy_of copies.rests copies.holds (pick d x.pair.first x.pair.second) (pick d x.first x.second)) v
+  ended_keep v keeps is before rest =
+      let list : List Renewal = map (ended_at v.now) (of_device x.dev S.renewals) in
+      let by = all_ended_by (of_device x.dev S.renewals) v.now (keeps.renewed x.dev x.ckpt) in
+      let closed : is_open list ≡ false = none_open (of_device x.dev S.renewals) v.now in
+      renewals_on v keeps list by _ (λ t lt. renewed_before (of_device x.dev S.renewals) v.now t lt)
+      (λ below. not_renewed S keeps.was (is_open list) keeps.coming (disk_now v x.dev) closed (all_read S keeps.was keeps.coming (disk_now v x.dev) ((x.laws.reads (there x) (place_is x)).rest keeps.was (disk_now v x.dev) rest)))
+      (of_both x (λ d h p. CopyAt (with_renewals S (with_device x.dev list S.renewals)) keeps.was keeps.coming d (copy_of copies.rests copies.holds h p) v)
+      (of_here v keeps list by (copy_there x) (λ _. at_place S keeps.was keeps.coming (copy_there x) Before (place_is x) (disk_now v x.dev) (sym before) rest) (λ _. closed) (λ dead. absurd (no (there x).alive is dead)))
+      (copy_with S (with_device x.dev list S.renewals) keeps.was keeps.coming (near_dev x) (copy_near x) v (still_beside v keeps list by) (of_near x (λ d h p. CopyAt S keeps.was keeps.coming d (copy_of copies.rests copies.holds h p) v) keeps.at)))
 
 -- WHICH DEVICES ARE LOST
 
@@ -375,35 +319,12 @@ begun_open dev ckpt from rs lt = by_test (nat_lt from top) (is_below lt) where
   by_test true e = by_dev dev ckpt
   by_test false e = absurd (true≢false (sym e))
 
--- after a replacement that failed or was stopped
-pub sunk_replaced : {H : Type 0} (alive : H → Bool) {o1 o2 : Bool} (dev : Dev) → IsCkpt dev → (h1 h2 : H) (old new : View) → ((p : Part) → p ≢ DiskPart dev → new.lost p ≡ old.lost p) → (pick dev o1 o2 ≡ false → new.lost (DiskPart dev) ≡ true)
-    → (alive h1 ≡ false → o1 ≡ false → old.lost (DiskPart Ckpt1) ≡ true) → (alive h2 ≡ false → o2 ≡ false → old.lost (DiskPart Ckpt2) ≡ true) → BothSunk alive o1 o2 h1 h2 new
-sunk_replaced alive Ckpt1 ckpt h1 h2 old new else_lost gone first second = record { first = λ dead closed. gone closed; second = λ dead closed. else_lost (DiskPart Ckpt2) (λ e. absurd (cc)) ∙ second dead closed }
-sunk_replaced alive Ckpt2 ckpt h1 h2 old new else_lost gone first second = record { first = λ dead closed. else_lost (DiskPart Ckpt1) (λ e. absurd (cc)) ∙ first dead closed; second = λ dead closed. gone closed }
-sunk_replaced alive (Spool n) ckpt h1 h2 old new else_lost gone first second = absurd ckpt
-
-pub pick_open : (dev : Dev) (rs : Renewals) → pick dev (is_open rs.first) (is_open rs.second) ≡ is_open (of_device dev rs)
-pick_open Ckpt1 rs = refl
-pick_open _ rs = refl
-
 -- a device whose replacement isn't open failed at the greatest moment
 pub gone_closed : (now : ℕ) (opened gone : Bool) {T : Type 0} (r : Result T ReplaceNo) → now ≤ top → (now < top → opened ≡ true) → IsErrOf r Failed ⊎ IsErrOf r Halted → (IsErrOf r Halted → now ≢ top) → (IsErrOf r Failed → gone ≡ true) → opened ≡ false → gone ≡ true
 gone_closed now opened gone r most began acted last lost closed = ⊎_elim
     (λ failed. lost failed)
     (λ halted. absurd (⊎_elim (λ le. last halted (omega (arith, le, most))) (λ below. true≢false (sym (began below) ∙ closed)) (either_way top now)))
     acted
-
--- the halves of a pair that a call left as they were
-pub same_halves : {H : Type 0} (dev : Dev) → IsCkpt dev → (h1 h2 k1 k2 : H) → pick dev k1 k2 ≡ pick dev h1 h2 → other dev k1 k2 ≡ other dev h1 h2 → (k1 ≡ h1) × (k2 ≡ h2)
-same_halves Ckpt1 ckpt h1 h2 k1 k2 one two = (one, two)
-same_halves Ckpt2 ckpt h1 h2 k1 k2 one two = (two, one)
-same_halves (Spool n) ckpt h1 h2 k1 k2 one two = absurd ckpt
-
--- after Ok both copies count as alive
-pub both_alive : {H : Type 0} (alive : H → Bool) (dev : Dev) → IsCkpt dev → (h1 h2 k1 k2 : H) → alive (pick dev k1 k2) ≡ true → other dev k1 k2 ≡ other dev h1 h2 → alive (other dev h1 h2) ≡ true → (alive k1 ≡ true) × (alive k2 ≡ true)
-both_alive {H} alive Ckpt1 ckpt h1 h2 k1 k2 one same two = (one, subst (λ (h : H). alive h ≡ true) (sym same) two)
-both_alive {H} alive Ckpt2 ckpt h1 h2 k1 k2 one same two = (subst (λ (h : H). alive h ≡ true) (sym same) two, one)
-both_alive alive (Spool n) ckpt h1 h2 k1 k2 one same two = absurd ckpt
 
 -- what the call leaves of all else
 pub replaced_elsewhere : (dev : Dev) (P : Disk → Type 0) (old new : View) → old.now ≤ new.now → WhileReplaced dev P old new → Elsewhere dev old new
@@ -470,35 +391,20 @@ acted_not (Err BothLost) acted = ⊎_elim (λ e. absurd (cc)) (λ e. absurd (cc)
 acted_not (Err NoMemory) acted = ⊎_elim (λ e. absurd (cc)) (λ e. absurd (cc)) acted
 acted_not _ acted = (λ is. absurd (cc), λ is. absurd (cc))
 
--- a copy of a pair that is as it was counts as it did
-pub pick_same : {H : Type 0} (alive : H → Bool) (dev : Dev) (b : Bool) (h1 h2 k1 k2 : H) → k1 ≡ h1 → k2 ≡ h2 → alive (pick dev h1 h2) ≡ b → alive (pick dev k1 k2) ≡ b
-pick_same alive dev b h1 h2 k1 k2 one two is = ap (λ h. alive (pick dev h k2)) one ∙ ap (λ h. alive (pick dev h1 h)) two ∙ is
-
-pub other_same : {H : Type 0} (alive : H → Bool) (dev : Dev) (b : Bool) (h1 h2 k1 k2 : H) → k1 ≡ h1 → k2 ≡ h2 → alive (other dev h1 h2) ≡ b → alive (other dev k1 k2) ≡ b
-other_same alive dev b h1 h2 k1 k2 one two is = ap (λ h. alive (other dev h k2)) one ∙ ap (λ h. alive (other dev h1 h)) two ∙ is
-
 -- BEFORE THE FIRST ACT: what the other copy is, where one counts as lost and not both do
-module _ {H : Type 0} (alive : H → Bool) (dev : Dev) (ckpt : IsCkpt dev) (h k : H) where
-  pub other_stands : alive (pick dev h k) ≡ false → (not (alive h) && not (alive k)) ≡ false → alive (other dev h k) ≡ true
-  other_stands dead some = by_dev dev ckpt dead where
-    last : (a b : Bool) → a ≡ false → (not a && not b) ≡ false → b ≡ true
-    last true b e some = absurd (cc)
-    last false true e some = refl
-    last false false e some = absurd (cc)
+pub other_stands : {C : Type 0} (dev : Dev) → IsCkpt dev → (h k : Half C) → (pick dev h k).alive ≡ false → (not h.alive && not k.alive) ≡ false → (other dev h k).alive ≡ true
+other_stands dev ckpt h k dead some = by_dev dev ckpt dead where
+  last : (a b : Bool) → a ≡ false → (not a && not b) ≡ false → b ≡ true
+  last true b e some = absurd (cc)
+  last false true e some = refl
+  last false false e some = absurd (cc)
 
-    first : (a b : Bool) → b ≡ false → (not a && not b) ≡ false → a ≡ true
-    first true b e some = refl
-    first false true e some = absurd (cc)
-    first false false e some = absurd (cc)
+  first : (a b : Bool) → b ≡ false → (not a && not b) ≡ false → a ≡ true
+  first true b e some = refl
+  first false true e some = absurd (cc)
+  first false false e some = absurd (cc)
 
-    by_dev : (d : Dev) → IsCkpt d → alive (pick d h k) ≡ false → alive (other d h k) ≡ true
-    by_dev Ckpt1 c dead = last (alive h) (alive k) dead some
-    by_dev Ckpt2 c dead = first (alive h) (alive k) dead some
-    by_dev (Spool n) c dead = absurd c
-
-  pub fit_other : (fits : H → Bool) → (alive h ≡ true → fits h ≡ true) → (alive k ≡ true → fits k ≡ true) → alive (other dev h k) ≡ true → fits (other dev h k) ≡ true
-  fit_other fits one two = by_dev dev ckpt where
-    by_dev : (d : Dev) → IsCkpt d → alive (other d h k) ≡ true → fits (other d h k) ≡ true
-    by_dev Ckpt1 c is = two is
-    by_dev Ckpt2 c is = one is
-    by_dev (Spool n) c is = absurd c
+  by_dev : (d : Dev) → IsCkpt d → (pick d h k).alive ≡ false → (other d h k).alive ≡ true
+  by_dev Ckpt1 c dead = last h.alive k.alive dead some
+  by_dev Ckpt2 c dead = first h.alive k.alive dead some
+  by_dev (Spool n) c dead = absurd c

@@ -1,5 +1,5 @@
 -- How the levels and orders on the copies rise.
-use Rattle.mas_complex.proofs.Names.{◌≡◌, inl, inr, ⊎_elim, ℕ, suc, ◌+◌, ◌*◌, ◌≤◌, ◌<◌, Bool, true, false, List, [], ◌∷◌, ◌++◌, length, if◌then◌else◌, Option, Some, None, IfSome, subst, sym, ◌∙◌, ap, arith, Ckpt1, Ckpt2, Batch, Entry, Kept, is_kept, View, World, ViewDisk as Disk, disk_at, top, either_way, level, batches_kept, IsPlace, is_renewed_at, Setting, Stands, IsNext, IsOneOf, ReadsOne, IsNear, RaisesOrders, ReadsAtLevel, ReadsUpTo, Rises, next_order, orders_most}
+use Rattle.mas_complex.proofs.Names.{◌≡◌, inl, inr, ⊎_elim, ℕ, suc, ◌+◌, ◌*◌, ◌≤◌, ◌<◌, Bool, true, false, List, [], ◌∷◌, ◌++◌, length, if◌then◌else◌, Option, Some, None, IfSome, subst, sym, ◌∙◌, ap, arith, Batch, Entry, Kept, is_kept, View, World, ViewDisk as Disk, disk_at, top, either_way, level, batches_kept, IsPlace, is_renewed_at, Setting, Stands, IsNext, IsOneOf, ReadsOne, IsNear, RaisesOrders, ReadsAtLevel, ReadsUpTo, Rises, next_order, orders_most, IsCkpt, Dev, of_device}
 use Rattle.mas_complex.proofs.Passing.{Passes}
 
 -- HOW MANY BATCHES ARE KEPT
@@ -101,20 +101,14 @@ less_up reads l order a b le disk up image is pages e = (through (level pages) (
 module _ (S : Setting) (l order : ℕ) where
   -- acts
   pub acts_rise : (js : List Batch) (reached : ℕ) (old new : View) → Passes old new → S.since ≤ old.now
-      → ((t : ℕ) → old.now < t → t ≤ new.now → t < top
-      → (is_renewed_at S.renewals.first t ≡ false → ReadsUpTo S.reads l order (reached + 1) (disk_at new t Ckpt1)) × (is_renewed_at S.renewals.second t ≡ false → ReadsUpTo S.reads l order (reached + 1) (disk_at new t Ckpt2)))
+      → ((d : Dev) → IsCkpt d → (t : ℕ) → old.now < t → t ≤ new.now → t < top → is_renewed_at (of_device d S.renewals) t ≡ false → ReadsUpTo S.reads l order (reached + 1) (disk_at new t d))
       → Rises S js reached l order old → Rises S js reached l order new
   acts_rise js reached old new goes started later r = record {
-    first1 = λ lt. subst (λ (w : World). ReadsAtLevel S.reads l order (w.disk Ckpt1)) (sym (goes.past S.since started)) (r.first1 lt);
-    first2 = λ lt. subst (λ (w : World). ReadsAtLevel S.reads l order (w.disk Ckpt2)) (sym (goes.past S.since started)) (r.first2 lt);
+    first = λ lt d ckpt. subst (λ (w : World). ReadsAtLevel S.reads l order (w.disk d)) (sym (goes.past S.since started)) (r.first lt d ckpt);
     risen = r.risen;
-    most1 = λ t from le lt is. ⊎_elim
-        (λ h. subst (λ (w : World). ReadsUpTo S.reads l order (reached + 1) (w.disk Ckpt1)) (sym (goes.past t h)) (r.most1 t from h lt is))
-        (λ h. (later t h le lt).0 is)
-        (either_way t old.now);
-    most2 = λ t from le lt is. ⊎_elim
-        (λ h. subst (λ (w : World). ReadsUpTo S.reads l order (reached + 1) (w.disk Ckpt2)) (sym (goes.past t h)) (r.most2 t from h lt is))
-        (λ h. (later t h le lt).1 is)
+    most = λ d ckpt t from le lt is. ⊎_elim
+        (λ h. subst (λ (w : World). ReadsUpTo S.reads l order (reached + 1) (w.disk d)) (sym (goes.past t h)) (r.most d ckpt t from h lt is))
+        (λ h. later d ckpt t h le lt is)
         (either_way t old.now);
   }
 
@@ -122,11 +116,9 @@ module _ (S : Setting) (l order : ℕ) where
   pub fated_rise : (js : List Batch) (c : Batch) (reached reached' : ℕ) (v : View) → reached ≤ reached' → reached' ≤ reached + batches_kept (c ∷ [])
       → Rises S js reached l order v → Rises S (js ++ c ∷ []) reached' l order v
   fated_rise js c reached reached' v least most r = record {
-    first1 = r.first1;
-    first2 = r.first2;
+    first = r.first;
     risen = through l (batches_kept js) (batches_kept (c ∷ [])) (batches_kept (js ++ c ∷ [])) r.risen most (kept_append js (c ∷ []));
-    most1 = λ t from le lt is. less_up S.reads l order (reached + 1) (reached' + 1) (one_more least) (disk_at v t Ckpt1) (r.most1 t from le lt is);
-    most2 = λ t from le lt is. less_up S.reads l order (reached + 1) (reached' + 1) (one_more least) (disk_at v t Ckpt2) (r.most2 t from le lt is);
+    most = λ d ckpt t from le lt is. less_up S.reads l order (reached + 1) (reached' + 1) (one_more least) (disk_at v t d) (r.most d ckpt t from le lt is);
   } where
     one_more : reached ≤ reached' → reached + 1 ≤ reached' + 1
     one_more h = omega (arith, h)
@@ -136,13 +128,7 @@ module _ (S : Setting) (l order : ℕ) where
 
   -- another journal with as many kept batches
   pub same_rise : (js ks : List Batch) (reached : ℕ) (v : View) → batches_kept ks ≡ batches_kept js → Rises S js reached l order v → Rises S ks reached l order v
-  same_rise js ks reached v same r = record {
-    first1 = r.first1;
-    first2 = r.first2;
-    risen = subst (λ (n : ℕ). reached ≤ l + n) (sym same) r.risen;
-    most1 = r.most1;
-    most2 = r.most2;
-  }
+  same_rise js ks reached v same r = record { first = r.first; risen = subst (λ (n : ℕ). reached ≤ l + n) (sym same) r.risen; most = r.most }
 
 -- pages are near to their own level and next order
 pub own_near : (reached : ℕ) (was : List ℕ) → level was ≡ reached → IsNear reached (next_order was) was
@@ -153,17 +139,13 @@ own_near reached was at_level = own (level was) (next_order was) at_level
 
 -- at the first moment
 pub make_rise : (S : Setting) (reached : ℕ) (was : List ℕ) (v : View) → S.since ≡ v.now → Stands S reached [] was
-    → (v.now < top → ReadsOne S was None (disk_at v v.now Ckpt1) × ReadsOne S was None (disk_at v v.now Ckpt2)) → Rises S [] reached reached (next_order was) v
+    → (v.now < top → (d : Dev) → IsCkpt d → ReadsOne S was None (disk_at v v.now d)) → Rises S [] reached reached (next_order was) v
 make_rise S reached was v since stands reads = record {
-  first1 = λ lt. subst (λ (m : ℕ). ReadsAtLevel S.reads reached (next_order was) (disk_at v m Ckpt1)) (sym since) (at_kept S reached [] was stands (disk_at v v.now Ckpt1) (reads (now_low lt)).0);
-  first2 = λ lt. subst (λ (m : ℕ). ReadsAtLevel S.reads reached (next_order was) (disk_at v m Ckpt2)) (sym since) (at_kept S reached [] was stands (disk_at v v.now Ckpt2) (reads (now_low lt)).1);
+  first = λ lt d ckpt. subst (λ (m : ℕ). ReadsAtLevel S.reads reached (next_order was) (disk_at v m d)) (sym since) (at_kept S reached [] was stands (disk_at v v.now d) (reads (now_low lt) d ckpt));
   risen = no_more reached;
-  most1 = λ t from le lt is. let e : v.now ≡ t = omega (arith, since, from, le) in
-      subst (λ (m : ℕ). ReadsUpTo S.reads reached (next_order was) (reached + 1) (disk_at v m Ckpt1)) e
-      (one_up S reached [] [] was None stands tt reached (next_order was) (own_near reached was stands.at_level) tt (disk_at v v.now Ckpt1) (reads (omega (arith, e, lt))).0);
-  most2 = λ t from le lt is. let e : v.now ≡ t = omega (arith, since, from, le) in
-      subst (λ (m : ℕ). ReadsUpTo S.reads reached (next_order was) (reached + 1) (disk_at v m Ckpt2)) e
-      (one_up S reached [] [] was None stands tt reached (next_order was) (own_near reached was stands.at_level) tt (disk_at v v.now Ckpt2) (reads (omega (arith, e, lt))).1);
+  most = λ d ckpt t from le lt is. let e : v.now ≡ t = omega (arith, since, from, le) in
+      subst (λ (m : ℕ). ReadsUpTo S.reads reached (next_order was) (reached + 1) (disk_at v m d)) e
+      (one_up S reached [] [] was None stands tt reached (next_order was) (own_near reached was stands.at_level) tt (disk_at v v.now d) (reads (omega (arith, e, lt)) d ckpt));
 } where
   now_low : S.since < top → v.now < top
   now_low lt = omega (arith, since, lt)

@@ -1,25 +1,19 @@
 -- What a copy holds after a call, as the bytes of its device show it.
-use Rattle.mas_complex.proofs.Names.{◌≡◌, ℕ, ◌<◌, Bool, true, List, Option, Some, None, subst, sym, ◌∙◌, ap, arith, Dev, Ckpt1, Ckpt2, Spool, View, ViewDisk as Disk, disk_now, NoMore, level, Covers, Meanwhile, meanwhile_end, IsCkpt, SameOrLost, BothMeanwhile, Place, Before, Put, Setting, OnComing, IsAt, OneCopy}
+use Rattle.mas_complex.proofs.Names.{◌≡◌, ℕ, true, List, Option, Some, None, sym, ◌∙◌, ap, arith, Dev, Ckpt1, Ckpt2, Spool, View, ViewDisk as Disk, disk_now, NoMore, Meanwhile, meanwhile_end, IsCkpt, SameOrLost, BothMeanwhile, Before, Put, Setting, OnComing, Copy, CopyAt}
+use Rattle.mas_complex.proofs.Sides.{at_place, rests_before}
 
-module _ {renewed : Bool} (S : Setting) (rests : List ℕ → Disk → Type 0) (holds : List ℕ → List ℕ → Disk → Type 0) (was : List ℕ) (coming : Option (List ℕ)) (place : Place) (alive : Bool) (now : ℕ) (d d' : Disk)
-    (copy : OneCopy S rests holds was coming place alive renewed now d) (is : alive ≡ true) where
-  side_at : (p : Place) → place ≡ p → IsAt S rests holds was coming p d
-  side_at p e = subst (λ (x : Place). IsAt S rests holds was coming x d) e (copy.at is)
+module _ (S : Setting) (was : List ℕ) (coming : Option (List ℕ)) (dev : Dev) (c : Copy) (v : View) (d' : Disk) (copy : CopyAt S was coming dev c v) (is : c.alive ≡ true) where
+  pub put_shows : c.place ≡ Before → (pages : List ℕ) (behind : List ℕ → List ℕ) (holds' : List ℕ → List ℕ → Disk → Type 0) → (c.rests was (disk_now v dev) → holds' was pages d')
+      → ((was next : List ℕ) (x : Disk) → holds' was next x → behind x.bytes ≡ next) → behind d'.bytes ≡ pages
+  put_shows before pages behind holds' held shown = shown was pages d' (held (rests_before S was coming c dev v copy (λ _. before) is))
 
-  pub put_shows : place ≡ Before → (n : ℕ) (changed pages : List ℕ) → level was < level pages → ((was : List ℕ) → rests was d → Covers n changed was pages)
-      → (holds' : List ℕ → List ℕ → Disk → Type 0) → ((was : List ℕ) → rests was d → level was < level pages → Covers n changed was pages → holds' was pages d')
-      → (behind : List ℕ → List ℕ) → ((was next : List ℕ) (x : Disk) → holds' was next x → behind x.bytes ≡ next) → behind d'.bytes ≡ pages
-  put_shows before n changed pages higher covered holds' held behind shown =
-      let here : rests was d = side_at Before before in
-      shown was pages d' (held was here higher (covered was here))
-
-  pub open_shows : place ≡ Put → (behind : List ℕ → List ℕ) → ((was next : List ℕ) (x : Disk) → holds was next x → behind x.bytes ≡ next)
-      → (rests' : List ℕ → Disk → Type 0) → ((was next : List ℕ) → holds was next d → rests' next d') → ((pages : List ℕ) (x : Disk) → rests' pages x → S.reads x.bytes ≡ Some pages)
-      → S.reads d'.bytes ≡ Some (behind d.bytes)
-  open_shows put behind shown rests' opened rests_now = by_coming coming (side_at Put put) where
-    by_coming : (n : Option (List ℕ)) → OnComing n (λ p. holds was p d) → S.reads d'.bytes ≡ Some (behind d.bytes)
+  pub open_shows : c.place ≡ Put → (behind : List ℕ → List ℕ) → ((was next : List ℕ) (x : Disk) → c.holds was next x → behind x.bytes ≡ next)
+      → (rests' : List ℕ → Disk → Type 0) → ((was next : List ℕ) → c.holds was next (disk_now v dev) → rests' next d') → ((pages : List ℕ) (x : Disk) → rests' pages x → S.reads x.bytes ≡ Some pages)
+      → S.reads d'.bytes ≡ Some (behind (disk_now v dev).bytes)
+  open_shows put behind shown rests' opened rests_now = by_coming coming (at_place S was coming c c.place Put (disk_now v dev) put (copy.at is)) where
+    by_coming : (n : Option (List ℕ)) → OnComing n (λ p. c.holds was p (disk_now v dev)) → S.reads d'.bytes ≡ Some (behind (disk_now v dev).bytes)
     by_coming None here = absurd here
-    by_coming (Some pages) here = rests_now pages d' (opened was pages here) ∙ ap Some (sym (shown was pages d here))
+    by_coming (Some pages) here = rests_now pages d' (opened was pages here) ∙ ap Some (sym (shown was pages (disk_now v dev) here))
 
 module _ (old new : View) where
   -- after a call on one device that leaves its bytes

@@ -1,6 +1,6 @@
 -- What a shared value keeps of its batches on any plant.
 use Rattle.mas_complex.proofs.Basics.{stays_true}
-use Rattle.mas_complex.proofs.Names.{◌≡◌, ◌≢◌, ℕ, ◌≤◌, ◌||◌, ◌==◌, Bool, true, false, if◌then◌else◌, List, [], ◌∷◌, ◌++◌, length, Option, Some, None, refl, subst, sym, ◌∙◌, ap, is_some, not, true≢false, eq-eqb, MemberId, Batch, Entry, Kept, Dropped, Queue, nobody, is_somebody, same_member, is_flying, Book, IsMember, is_stopped, is_holder, granted, ticked, try_refusal, after_try, after_free, after_stop, seize_refusal, after_seize, after_spend, is_dormant, wakes, same_member_is, test_cases, View, Act, ActHalted as Halted, AreSettled, EndsInPlace, fated, with_last, without_last, Copy, Keeps, Setting, IsOperatorAway, KeepsPaper, book_by, AreReplied, IsFatedBy}
+use Rattle.mas_complex.proofs.Names.{◌≡◌, ◌≢◌, ℕ, ◌≤◌, ◌||◌, ◌==◌, Bool, true, false, if◌then◌else◌, List, [], ◌∷◌, ◌++◌, length, Option, Some, None, refl, subst, sym, ◌∙◌, ap, is_some, not, true≢false, eq-eqb, MemberId, Batch, Entry, Kept, Dropped, Queue, nobody, is_somebody, same_member, is_flying, Book, IsMember, is_stopped, is_holder, granted, ticked, try_refusal, after_try, after_free, after_stop, seize_refusal, after_seize, after_spend, is_dormant, wakes, same_member_is, test_cases, View, Act, ActHalted as Halted, AreSettled, EndsInPlace, fated, with_last, without_last, Copy, Keeps, Setting, IsOperatorAway, KeepsPaper, book_by, AreReplied, IsFatedBy, Dev}
 use Rattle.lock_cycle.specs.declared.answers.LockNo.{LockNo}
 use Rattle.lock_cycle.specs.declared.answers.LockNo.TheVariants as lock
 use Rattle.lock_cycle.specs.declared.answers.SeizeNo.{SeizeNo}
@@ -159,10 +159,10 @@ module _ (J : List Batch) (p : EndsInPlace J) where
   without_it : without_last J ≡ p.before
   without_it = ap without_last p.is ∙ without_last-append p.before p.place
 
-  pub unplaced_keeps : (S : Setting) (c : Option Batch) (reached : ℕ) (first second : Copy) (v : View) → Keeps S J c reached first second v → Keeps S (without_last J) c reached first second v
-  unplaced_keeps S c reached first second v keeps =
-      subst (λ (l : List Batch). Keeps S l c reached first second v) (sym without_it)
-      (unplace_keeps S p.before p.place c reached first second v p.free (subst (λ (l : List Batch). Keeps S l c reached first second v) p.is keeps))
+  pub unplaced_keeps : (S : Setting) (c : Option Batch) (reached : ℕ) (copies : Dev → Copy) (v : View) → Keeps S J c reached copies v → Keeps S (without_last J) c reached copies v
+  unplaced_keeps S c reached copies v keeps =
+      subst (λ (l : List Batch). Keeps S l c reached copies v) (sym without_it)
+      (unplace_keeps S p.before p.place c reached copies v p.free (subst (λ (l : List Batch). Keeps S l c reached copies v) p.is keeps))
 
   pub unplaced_on_paper : (base : Queue) (since : ℕ) (c : Option Batch) (printed : List ℕ) (book : Book) (v : View) → KeepsPaper base since J c printed book v → KeepsPaper base since (without_last J) c printed book v
   unplaced_on_paper base since c printed book v on =

@@ -1,8 +1,9 @@
 -- What a look at a copy gave, once its pages were counted: over a plant that tells, they are always as many as the
 -- configuration has.
-use Rattle.mas_complex.proofs.Names.{if◌then◌else◌, ◌≡◌, ◌≢◌, ◌⊎◌, inl, inr, ⊎_elim, ℕ, ◌*◌, ◌==◌, Bool, true, false, nat_lt, List, [], ◌∷◌, ◌++◌, length, All, Option, Some, None, IfSome, IsSome, refl, sym, ◌∙◌, ap, subst, arith, eqb-false, eqb-true, length-append, All-head, All-tail, Dev, Page, Entry, Queue, page_bytes, Disk as DiskPart, View, ViewDisk as Disk, disk_now, bytes_of, level, AllRead, page_count, Look, Lost, Unread, Pages, WasSeen, Place, Renewals, IsNext, IsOneOf, OneCopy, Stands, setting_with, StandFor, run, IfPages, IsGreater, IsOneSeen, Looked, Sought, usable}
+use Rattle.mas_complex.proofs.Names.{if◌then◌else◌, ◌≡◌, ◌≢◌, ◌⊎◌, inl, inr, ⊎_elim, ℕ, ◌*◌, ◌==◌, Bool, true, false, nat_lt, List, [], ◌∷◌, ◌++◌, length, All, Option, Some, None, IfSome, IsSome, refl, sym, ◌∙◌, ap, subst, arith, eqb-false, eqb-true, length-append, All-head, All-tail, Dev, Page, Entry, Queue, page_bytes, Disk as DiskPart, View, ViewDisk as Disk, disk_now, bytes_of, level, page_count, Look, Lost, Unread, Pages, WasSeen, Renewals, IsNext, IsOneOf, Stands, setting_with, StandFor, run, IfPages, IsGreater, IsOneSeen, Looked, Sought, usable, Copy, CopyAt}
 use Rattle.queue_laws.proofs.RunLaws.{runs_keep_configuration}
 use Rattle.mas_complex.proofs.Looking.{reads_in}
+use Rattle.mas_complex.proofs.Present.{Reads}
 
 abbrev IsSized : Page → Type 0
 IsSized page = length page.0 ≡ page_bytes
@@ -86,11 +87,9 @@ module _ (reads : List ℕ → Option (List ℕ)) (base : Queue) (since : ℕ) (
       (λ u. u.3 (one_many u.0 u.2 (subst (λ (p : Option (List ℕ)). IsOneOf was coming p) u.1 one)))
       unused
 
-  pub always_used : {renewed : Bool} (rests : List ℕ → Disk → Type 0) (holds : List ℕ → List ℕ → Disk → Type 0) (place : Place) (alive : Bool) (now : ℕ) (d : Disk) → OneCopy (setting_with reads base since rs) rests holds was coming place alive renewed now d → alive ≡ true
-      → ((pages : List ℕ) (d : Disk) → rests pages d → AllRead reads pages d) → ((was next : List ℕ) (d : Disk) → holds was next d → AllRead reads was d) → d.lost ≡ false
-      → (reads d.bytes ≡ None) ⊎ ((pages : List Page) × (reads d.bytes ≡ Some (bytes_of pages)) × All IsSized pages × (length pages ≢ page_count base.config)) → ⊥
-  always_used rests holds place alive now d copy is rests_reads holds_reads there unused =
-      none_unused (reads d.bytes) (reads_in (setting_with reads base since rs) rests holds was coming place alive now d copy is rests_reads holds_reads there) unused
+  pub always_used : (dev : Dev) (c : Copy) (v : View) → CopyAt (setting_with reads base since rs) was coming dev c v → c.alive ≡ true → Reads reads c → (disk_now v dev).lost ≡ false
+      → (reads (disk_now v dev).bytes ≡ None) ⊎ ((pages : List Page) × (reads (disk_now v dev).bytes ≡ Some (bytes_of pages)) × All IsSized pages × (length pages ≢ page_count base.config)) → ⊥
+  always_used dev c v copy is laws there unused = none_unused (reads (disk_now v dev).bytes) (reads_in (setting_with reads base since rs) was coming dev c v laws copy is there) unused
 
 -- WHAT TWO LOOKS GAVE
 

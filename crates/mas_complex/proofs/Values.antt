@@ -6,14 +6,16 @@ use Rattle.mas_complex.proofs.Standing.{Booked, IsOwned}
 use Rattle.ckpt_copy.specs.contracts.copying.Copying.TheBound as CopyBound
 use Rattle.ckpt_form.specs.contracts.steady.Steady.TheBound as SteadyBound
 use Rattle.spool_plant.specs.contracts.plant.Plant.TheBound as PlantBound
-use Rattle.mas_complex.proofs.Names.{◌≡◌, ◌≢◌, ◌≤◌, ◌<◌, ◌++◌, ◌∙◌, ℕ, List, [], Some, IsSome, true, false, length, ap, arith, subst, sym, ◌⊎◌, append-nil, ∥∥₁_map, ∥∥₁_map₂, IsSound, Dev, Ckpt1, Ckpt2, Spool, Batch, is_stopped, Disk as DiskPart, PlantGhosts, ViewDisk as Disk, View, disk_at, disk_now, World, Goes, OnDevice, SamePaper, next, Ghosts as CopyGhosts, NoMore, AllRead, SteadyGhosts, page_count, Pair, Place, Complex, Copy, Keeps, ReadsBy, Setting, copy_of, setting_with, AreFew, AreSettled, HasPlace, IsBegun, entries_in, entries_most, entries_reserved, in_flight, journal_most, kept_all, Parts, KeepsPaper, SamePapers, HavePasts, sight_of, values_of, is_open, AreReplied, le_refl, Book, Entry, None, Option, inl, inr, parts_of, refl}
+use Rattle.mas_complex.proofs.Names.{◌≡◌, ◌≢◌, ◌≤◌, ◌<◌, ◌++◌, ◌∙◌, ℕ, List, [], Some, IsSome, true, false, length, ap, arith, subst, sym, ◌⊎◌, append-nil, ∥∥₁_map, ∥∥₁_map₂, IsSound, Dev, Spool, Batch, is_stopped, Disk as DiskPart, PlantGhosts, ViewDisk as Disk, View, disk_at, disk_now, World, Goes, OnDevice, SamePaper, next, Ghosts as CopyGhosts, NoMore, SteadyGhosts, page_count, Pair, Place, Complex, Copy, Keeps, ReadsBy, Setting, copy_of, setting_with, AreFew, AreSettled, HasPlace, IsBegun, entries_in, entries_most, entries_reserved, in_flight, journal_most, kept_all, Parts, KeepsPaper, SamePapers, HavePasts, sight_of, values_of, is_open, AreReplied, le_refl, Book, Entry, None, Option, inl, inr, parts_of, refl, IsCkpt, pick, Half, is_away, Sight, of_device, Ckpt1, Ckpt2}
+use Rattle.duplex_pair.specs.Halves.{AreReady}
 use Rattle.mas_complex.proofs.Frames.{parts_with}
 use Rattle.mas_complex.proofs.Batches.{begun_later, settled_later}
 use Rattle.mas_complex.proofs.Moves.{Adds, acts_keep}
 use Rattle.mas_complex.proofs.Papers.{same_papers, stays_on_paper, book_on_paper}
 use Rattle.mas_complex.proofs.Passing.{passes_of}
-use Rattle.mas_complex.proofs.Pasts.{lasts_later}
-use Rattle.mas_complex.proofs.Present.{copy_reads}
+use Rattle.mas_complex.proofs.Each.{volume_beside}
+use Rattle.mas_complex.proofs.Pasts.{not_lost, past_still}
+use Rattle.mas_complex.proofs.Present.{Reads, copy_reads}
 use Rattle.mas_complex.proofs.Sides.{moved}
 use Rattle.mas_complex.proofs.Texting.{Stays, stays_same}
 use Rattle.mas_complex.proofs.Short.{short_left}
@@ -23,10 +25,9 @@ pub record Laws {P C : Type 0} (plants : PlantGhosts P) (steadies : SteadyGhosts
   pub there : (p : P) → plants.tells → (d : Dev) → (plants.view p).lost (DiskPart d) ≡ false → (disk_now (plants.view p) d).lost ≡ false
   pub fit_ready : (x : C) (v : View) → steadies.fits x v ≡ true → copies.ready x v
   pub ready_fit : (x : C) (v : View) → copies.ready x v → steadies.fits x v ≡ true
-  pub rests_reads : (x : C) (pages : List ℕ) (d : Disk) → copies.rests x pages d → AllRead copies.reads pages d
+  pub reads : (h : Half C) (p : Place) → Reads copies.reads (copy_of copies.rests copies.holds h p)
   pub rests_now : (x : C) (pages : List ℕ) (d : Disk) → copies.rests x pages d → copies.reads d.bytes ≡ Some pages
   pub rests_stays : (x : C) (pages : List ℕ) (d e : Disk) → NoMore d e → copies.rests x pages d → copies.rests x pages e
-  pub holds_reads : (x : C) (was next : List ℕ) (d : Disk) → copies.holds x was next d → AllRead copies.reads was d
   pub holds_rests : (x : C) (was next : List ℕ) (d : Disk) → copies.holds x was next d → copies.rests x was d
   pub holds_behind : (x : C) (was next : List ℕ) (d : Disk) → copies.holds x was next d → copies.behind x d.bytes ≡ next
   pub holds_stays : (x : C) (was next : List ℕ) (d e : Disk) → NoMore d e → copies.holds x was next d → copies.holds x was next e
@@ -37,10 +38,9 @@ laws_of w plant steady copy = record {
   there = λ p told d up. plant.there p told d up;
   fit_ready = λ x v fit. steady.fit_ready x v fit;
   ready_fit = λ x v ready. steady.ready_fit x v ready;
-  rests_reads = λ x pages d r. copy.rests_reads x pages d r;
+  reads = λ h p. record { rest = λ pages d r. copy.rests_reads h.copy pages d r; hold = λ was next d r. copy.holds_reads h.copy was next d r };
   rests_now = λ x pages d r. copy.rests_now x pages d r;
   rests_stays = λ x pages d e more r. copy.rests_stays x pages d e more r;
-  holds_reads = λ x was next d r. copy.holds_reads x was next d r;
   holds_rests = λ x was next d r. copy.holds_rests x was next d r;
   holds_behind = λ x was next d r. copy.holds_behind x was next d r;
   holds_stays = λ x was next d e more r. copy.holds_stays x was next d e more r;
@@ -49,24 +49,23 @@ laws_of w plant steady copy = record {
 -- ALL THAT THE TYPE SAYS of these parts, where the plant shows this
 
 module _ {P C : Type 0} (plants : PlantGhosts P) (steadies : SteadyGhosts C) (copies : CopyGhosts C) (x : Parts P C) (v : View) where
+  abbrev half : Dev → Half C
+  half d = pick d (record { copy = x.first_copy; alive = x.first_alive; found = x.first_found }) (record { copy = x.second_copy; alive = x.second_alive; found = x.second_found })
+
   abbrev pub KeepsOf : Type 0
-  KeepsOf =
-      Keeps (setting_with copies.reads x.base x.since x.renewals) x.batches x.current x.level (copy_of (copies.rests x.first_copy) (copies.holds x.first_copy) x.first_alive x.first)
-      (copy_of (copies.rests x.second_copy) (copies.holds x.second_copy) x.second_alive x.second) v
+  KeepsOf = Keeps (setting_with copies.reads x.base x.since x.renewals) x.batches x.current x.level (λ d. copy_of copies.rests copies.holds (half d) (pick d x.first x.second)) v
 
   abbrev pub PastsOf : Type 0
-  PastsOf =
-      HavePasts (page_count x.base.config) x.had (sight_of x.first_alive x.first (v.lost (DiskPart Ckpt1)) (copies.reads (disk_now v Ckpt1).bytes) (copies.behind x.first_copy (disk_now v Ckpt1).bytes))
-      (sight_of x.second_alive x.second (v.lost (DiskPart Ckpt2)) (copies.reads (disk_now v Ckpt2).bytes) (copies.behind x.second_copy (disk_now v Ckpt2).bytes))
+  PastsOf = HavePasts (page_count x.base.config) x.had (λ d. sight_of copies.reads copies.behind (half d) (pick d x.first x.second) d v)
 
   abbrev pub PaperOf : Type 0
   PaperOf = KeepsPaper x.base x.since x.batches x.current x.printed x.book v
 
   abbrev pub ReadyOf : Type 0
-  ReadyOf = (x.first_alive ≡ true → steadies.fits x.first_copy v ≡ true) × (x.second_alive ≡ true → steadies.fits x.second_copy v ≡ true)
+  ReadyOf = (d : Dev) → IsCkpt d → (half d).alive ≡ true → steadies.fits (half d).copy v ≡ true
 
   abbrev pub LostOf : Type 0
-  LostOf = (x.first_alive ≡ false → is_open x.renewals.first ≡ false → v.lost (DiskPart Ckpt1) ≡ true) × (x.second_alive ≡ false → is_open x.renewals.second ≡ false → v.lost (DiskPart Ckpt2) ≡ true)
+  LostOf = (d : Dev) → IsCkpt d → (half d).alive ≡ false → is_open (of_device d x.renewals) ≡ false → v.lost (DiskPart d) ≡ true
 
   abbrev pub FactsOf : Type 0
   FactsOf =
@@ -97,11 +96,18 @@ module _ {P C : Type 0} {plants : PlantGhosts P} {steadies : SteadyGhosts C} {co
   abbrev pub setting_of : Setting
   setting_of = setting_with copies.reads s.base s.since s.renewals
 
-  abbrev pub first_of : Copy
-  first_of = copy_of (copies.rests s.pair.first.copy) (copies.holds s.pair.first.copy) s.pair.first.alive s.first
+  -- the half of the pair on a device, how far the batch in flight has come on it, and the copy at this place
+  abbrev pub half_of : Dev → Half C
+  half_of d = pick d s.pair.first s.pair.second
 
-  abbrev pub second_of : Copy
-  second_of = copy_of (copies.rests s.pair.second.copy) (copies.holds s.pair.second.copy) s.pair.second.alive s.second
+  abbrev pub place_of : Dev → Place
+  place_of d = pick d s.first s.second
+
+  abbrev pub copies_of : Dev → Copy
+  copies_of d = copy_of copies.rests copies.holds (half_of d) (place_of d)
+
+  abbrev pub sight_at : Half C → Place → Dev → View → Sight
+  sight_at h p d v = sight_of copies.reads copies.behind h p d v
 
   -- WITH OTHER COPIES, and where its plant shows another world
   module _ (pair : Pair C copies) (first second : Place) (v : View) where
@@ -167,11 +173,15 @@ module _ {P C : Type 0} {plants : PlantGhosts P} {steadies : SteadyGhosts C} {co
 
   -- copies that stay fit after any acts
   pub ready_after : (v : View) → Goes view_of v → ReadyOn s.pair s.first s.second v
-  ready_after v goes = ((λ is. steadies.stays_fit s.pair.first.copy view_of v goes (s.ready.0 is)), (λ is. steadies.stays_fit s.pair.second.copy view_of v goes (s.ready.1 is)))
+  ready_after v goes d ckpt is = steadies.stays_fit (half_of d).copy view_of v goes (s.ready d ckpt is)
+
+  -- both copies are ready, as the pair asks it
+  pub ready_of : Laws plants steadies copies → AreReady copies.ready s.pair.first.copy s.pair.second.copy s.pair.first.alive s.pair.second.alive view_of
+  ready_of laws = record { first = λ is. laws.fit_ready s.pair.first.copy view_of (s.ready Ckpt1 tt is); second = λ is. laws.fit_ready s.pair.second.copy view_of (s.ready Ckpt2 tt is) }
 
   -- a device that is lost stays so
   pub lost_after : (v : View) → Goes view_of v → LostOn s.pair s.first s.second v
-  lost_after v goes = ((λ dead shut. goes.lost (DiskPart Ckpt1) (s.lost.0 dead shut)), (λ dead shut. goes.lost (DiskPart Ckpt2) (s.lost.1 dead shut)))
+  lost_after v goes d ckpt dead shut = goes.lost (DiskPart d) (s.lost d ckpt dead shut)
 
   -- ANOTHER BOOK, and what is reserved or nothing
   pub booked : (is : Book) (left : Option (List Entry)) → Booked s.current s.book is → (left ≡ None) ⊎ (left ≡ s.reserved) → FactsOf plants steadies copies (record (parts_of s) { book = is; reserved = left }) view_of
@@ -181,8 +191,7 @@ module _ {P C : Type 0} {plants : PlantGhosts P} {steadies : SteadyGhosts C} {co
   module _ (v : View) where
     -- what an act leaves that goes elsewhere than to the copies
     pub record Beside : Type 0 where
-      pub one : disk_now v Ckpt1 ≡ disk_now view_of Ckpt1
-      pub two : disk_now v Ckpt2 ≡ disk_now view_of Ckpt2
+      pub disks : (d : Dev) → IsCkpt d → disk_now v d ≡ disk_now view_of d
       pub adds : Adds setting_of (s.journal.batches ++ in_flight s.current) view_of v
       pub stays : Stays setting_of (kept_all s.journal.batches) (entries_in s.current) view_of v
 
@@ -199,8 +208,7 @@ module _ {P C : Type 0} {plants : PlantGhosts P} {steadies : SteadyGhosts C} {co
   -- an act that leaves each device as it is
   pub beside_devices : ((d : Dev) → disk_now new d ≡ disk_now old d) → Adds (setting_of s) (s.journal.batches ++ in_flight s.current) old new → Beside s new
   beside_devices disks adds = record {
-    one = disks Ckpt1;
-    two = disks Ckpt2;
+    disks = λ d ckpt. disks d;
     adds = adds;
     stays = stays_same (setting_of s) (kept_all s.journal.batches) (entries_in s.current) old new (λ t lt le n. subst (λ (m : ℕ). disk_at new m (Spool n) ≡ disk_now old (Spool n)) (sym (at_end t lt le)) (disks (Spool n)));
   }
@@ -212,8 +220,7 @@ module _ {P C : Type 0} {plants : PlantGhosts P} {steadies : SteadyGhosts C} {co
   -- one on a spool volume
   pub beside_copies : (volume : ℕ) → OnDevice (Spool volume) old new → Stays (setting_of s) (kept_all s.journal.batches) (entries_in s.current) old new → Beside s new
   beside_copies volume only stays = record {
-    one = only.others Ckpt1 (λ e. absurd (cc));
-    two = only.others Ckpt2 (λ e. absurd (cc));
+    disks = λ d ckpt. only.others d (λ e. volume_beside volume d ckpt (sym e));
     adds = none_said only.console;
     stays = stays;
   }
@@ -222,22 +229,14 @@ module _ {P C : Type 0} {plants : PlantGhosts P} {steadies : SteadyGhosts C} {co
     pub beside_keeps : Beside s new → KeepsAt s old → KeepsAt s new
     beside_keeps b k =
         let S = setting_of s in
-        let x = first_of s in
-        let y = second_of s in
-        acts_keep S s.journal.batches s.current s.level x y x y old new k (passes_of old new goes) k.coming k.comes k.none k.comes_near
-        (λ t lt le below. let e = at_end t lt le in (
-          subst (λ (m : ℕ). ReadsBy S (is_open S.renewals.first) k.was k.coming (disk_at new m Ckpt1)) (sym e) (subst (λ (d : Disk). ReadsBy S (is_open S.renewals.first) k.was k.coming d) (sym b.one)
-              (copy_reads S k.was x.rests x.holds (λ pages d r. laws.rests_reads s.pair.first.copy pages d r) (λ was next d r. laws.holds_reads s.pair.first.copy was next d r) k.coming x.place x.alive old.now (disk_now old Ckpt1) (omega arith) k.first_at)),
-          subst (λ (m : ℕ). ReadsBy S (is_open S.renewals.second) k.was k.coming (disk_at new m Ckpt2)) (sym e) (subst (λ (d : Disk). ReadsBy S (is_open S.renewals.second) k.was k.coming d) (sym b.two)
-              (copy_reads S k.was y.rests y.holds (λ pages d r. laws.rests_reads s.pair.second.copy pages d r) (λ was next d r. laws.holds_reads s.pair.second.copy was next d r) k.coming y.place y.alive old.now (disk_now old Ckpt2) (omega arith) k.second_at)),
-        ))
-        b.adds b.stays
-        (moved S x.rests x.holds k.was k.coming x.place x.alive old.now new.now (disk_now old Ckpt1) (disk_now new Ckpt1) goes.later b.one k.first_at)
-        (moved S y.rests y.holds k.was k.coming y.place y.alive old.now new.now (disk_now old Ckpt2) (disk_now new Ckpt2) goes.later b.two k.second_at)
+        acts_keep S s.journal.batches s.current s.level (copies_of s) (copies_of s) old new k (passes_of old new goes) k.coming k.comes k.none k.comes_near
+        (λ d ckpt t lt le below. let e = at_end t lt le in
+        subst (λ (m : ℕ). ReadsBy S (is_away S d) k.was k.coming (disk_at new m d)) (sym e) (subst (λ (x : Disk). ReadsBy S (is_away S d) k.was k.coming x) (sym (b.disks d ckpt))
+        (copy_reads S k.was (copies_of s d) (laws.reads (half_of s d) (place_of s d)) k.coming d old (k.at d ckpt) (omega (arith, lt, below)))))
+        b.adds b.stays (λ d ckpt. moved S k.was k.coming d (copies_of s d) old new goes.later (b.disks d ckpt) (k.at d ckpt))
 
     pub beside_pasts : Beside s new → PastsOn s s.pair s.first s.second old → PastsOn s s.pair s.first s.second new
-    beside_pasts b l =
-        lasts_later (λ h. h.alive) copies.reads (λ h. copies.behind h.copy) (page_count s.base.config) (values_of s.had) s.pair.first s.pair.second s.first s.second old new goes (ap (λ (d : Disk). d.bytes) b.one) (ap (λ (d : Disk). d.bytes) b.two) l
+    beside_pasts b l d ckpt = past_still copies.reads copies.behind (page_count s.base.config) (values_of s.had) d (place_of s d) old new (half_of s d) (not_lost old new goes (DiskPart d)) (ap (λ (x : Disk). x.bytes) (b.disks d ckpt)) (l d ckpt)
 
     pub left_with : (printed : List ℕ) (is : Book) (left : Option (List Entry)) → (plants.tells → Beside s new) → (plants.tells → IsSound s.base → ∥ KeepsPaper s.base s.since s.journal.batches s.current printed is new ∥₁) → IsOwned s.current is → (left ≡ None) ⊎ (left ≡ s.reserved)
         → FactsOf plants steadies copies (record (parts_of s) { printed = printed; book = is; reserved = left }) new

@@ -1,7 +1,8 @@
 -- What a crash leaves of the two copies, and what the console tells.
-use Rattle.mas_complex.specs.Names.{Dev, Ckpt1, Ckpt2, Disk as DiskPart, View, ViewDisk as Disk, Line, IsImage, LeavesOnly, disk_at, disk_now, slice, top, level, Batch, Entry, Place, Before, Put, Opened, Unsure, MemberId, Queue, best}
+use Rattle.mas_complex.specs.Names.{Dev, Disk as DiskPart, View, ViewDisk as Disk, Line, IsImage, LeavesOnly, IsCkpt, disk_at, disk_now, slice, top, level, Batch, Entry, Place, Before, Put, Opened, Unsure, MemberId, Queue, best}
 use Rattle.std.specs.Prelude.{◌≡◌, ◌⊎◌, ℕ, ◌+◌, ◌*◌, ◌^◌, ◌≤◌, ◌<◌, ◌==◌, ◌&&◌, ◌||◌, not, Bool, true, false, List, [], ◌∷◌, ◌++◌, length, drop, Option, Some, None, IfSome}
 use Rattle.std.specs.Int.{from_be_bytes, w64}
+use Rattle.duplex_pair.specs.declared.half.Half.{Half}
 use Rattle.mas_complex.specs.declared.renewals.Renewals.{Renewals}
 use Rattle.mas_complex.specs.Renewals.{is_renewed_at, is_open, of_device, no_renewals, AreRenewedBy}
 use Rattle.mas_complex.specs.Meaning.{StandFor, run, Closes}
@@ -101,22 +102,21 @@ abbrev pub IsNext : Setting → ℕ → List Entry → List Entry → Option (Li
 IsNext S reached K F None = Unit {0}
 IsNext S reached K F (Some pages) = Stands S (reached + 1) (K ++ F) pages
 
--- Two devices agree at a moment: there are pages of the kept entries, and maybe ones in flight, and each image of each
--- device reads as one of these. With no entry in flight each reads as the kept pages. A copy that is being replaced
--- reads as none, or as pages that were kept by then.
-pub record Alike (S : Setting) (K F : List Entry) (t : ℕ) (one two : Disk) : Type 0 where
+-- The devices of the copies agree at a moment: there are pages of the kept entries, and maybe ones in flight, and each
+-- image of each device reads as one of these. With no entry in flight each reads as the kept pages. A copy that is
+-- being replaced reads as none, or as pages that were kept by then.
+pub record Alike (S : Setting) (K F : List Entry) (t : ℕ) (disks : Dev → Disk) : Type 0 where
   pub reached : ℕ
   pub was : List ℕ
   pub coming : Option (List ℕ)
   pub stands : Stands S reached K was
   pub comes : IsNext S reached K F coming
   pub none : F ≡ [] → coming ≡ None
-  pub first : ReadsBy S (is_renewed_at S.renewals.first t) was coming one
-  pub second : ReadsBy S (is_renewed_at S.renewals.second t) was coming two
+  pub reads : (d : Dev) → IsCkpt d → ReadsBy S (is_renewed_at (of_device d S.renewals) t) was coming (disks d)
 
 -- the two copies agree at a moment
 abbrev pub CrashAt : Setting → List Batch → View → ℕ → Type 0
-CrashAt S J v t = Alike S (kept J t) (flying J t) t (disk_at v t Ckpt1) (disk_at v t Ckpt2)
+CrashAt S J v t = Alike S (kept J t) (flying J t) t (disk_at v t)
 
 -- the whole lines tell only steps of which P holds
 abbrev pub EachTells : (List ℕ → MemberId → ℕ → Type 0) → List Line → (MemberId → ℕ → Type 0) → Type 0
@@ -146,40 +146,41 @@ abbrev pub OnComing : Option (List ℕ) → (List ℕ → Type 0) → Type 0
 OnComing None P = ⊥
 OnComing (Some pages) P = P pages
 
--- an alive copy at its place
-abbrev pub IsAt : Setting → (List ℕ → Disk → Type 0) → (List ℕ → List ℕ → Disk → Type 0) → List ℕ → Option (List ℕ)
-    → Place → Disk → Type 0
-IsAt S rests holds was coming Before disk = rests was disk
-IsAt S rests holds was coming Put disk = OnComing coming (λ pages. holds was pages disk)
-IsAt S rests holds was coming Opened disk = OnComing coming (λ pages. rests pages disk)
-IsAt S rests holds was coming Unsure disk = ReadsOne S was coming disk
-
--- the device of a copy that counts as lost is lost, or its replacement was begun and not ended
-abbrev pub IsAway : Setting → List ℕ → Bool → ℕ → Disk → Type 0
-IsAway S was false now disk = now < top → disk.lost ≡ true
-IsAway S was true now disk = ReadsStale S was disk
-
--- a copy, alive or lost, and whether a replacement of it is open
-pub record OneCopy (S : Setting) (rests : List ℕ → Disk → Type 0) (holds : List ℕ → List ℕ → Disk → Type 0)
-    (was : List ℕ) (coming : Option (List ℕ)) (place : Place) (alive renewed : Bool) (now : ℕ) (disk : Disk) : Type 0
-  where
-    pub at : alive ≡ true → IsAt S rests holds was coming place disk
-    pub formed : alive ≡ true → renewed ≡ false
-    pub gone : alive ≡ false → IsAway S was renewed now disk
-
--- a call's own names for the two copies
+-- one of the two copies: when it rests with pages, and when it holds others behind its gate; whether it counts as
+-- alive, and how far the batch in flight has come on it
 pub record Copy : Type 1 where
   pub rests : List ℕ → Disk → Type 0
   pub holds : List ℕ → List ℕ → Disk → Type 0
   pub alive : Bool
   pub place : Place
 
-abbrev pub CopyAt : Setting → List ℕ → Option (List ℕ) → Dev → Copy → ℕ → Disk → Type 0
-CopyAt S was coming dev c now disk =
-    OneCopy S c.rests c.holds was coming c.place c.alive (is_open (of_device dev S.renewals)) now disk
+abbrev pub copy_of : {C : Type 0} → (C → List ℕ → Disk → Type 0) → (C → List ℕ → List ℕ → Disk → Type 0) → Half C
+    → Place → Copy
+copy_of rests holds half place =
+    record { rests = rests half.copy; holds = holds half.copy; alive = half.alive; place = place }
 
-abbrev pub copy_of : (List ℕ → Disk → Type 0) → (List ℕ → List ℕ → Disk → Type 0) → Bool → Place → Copy
-copy_of rests holds alive place = record { rests = rests; holds = holds; alive = alive; place = place }
+-- an alive copy at its place
+abbrev pub IsAt : Setting → Copy → List ℕ → Option (List ℕ) → Place → Disk → Type 0
+IsAt S c was coming Before disk = c.rests was disk
+IsAt S c was coming Put disk = OnComing coming (λ pages. c.holds was pages disk)
+IsAt S c was coming Opened disk = OnComing coming (λ pages. c.rests pages disk)
+IsAt S c was coming Unsure disk = ReadsOne S was coming disk
+
+-- the device of a copy that counts as lost is lost, or its replacement was begun and not ended
+abbrev pub IsAway : Setting → List ℕ → Bool → ℕ → Disk → Type 0
+IsAway S was false now disk = now < top → disk.lost ≡ true
+IsAway S was true now disk = ReadsStale S was disk
+
+-- a replacement of the copy on a device is open
+abbrev pub is_away : Setting → Dev → Bool
+is_away S dev = is_open (of_device dev S.renewals)
+
+-- the copy on a device, alive or lost
+pub record CopyAt (S : Setting) (was : List ℕ) (coming : Option (List ℕ)) (dev : Dev) (c : Copy) (v : View) : Type 0
+  where
+    pub at : c.alive ≡ true → IsAt S c was coming c.place (disk_now v dev)
+    pub formed : c.alive ≡ true → is_away S dev ≡ false
+    pub gone : c.alive ≡ false → IsAway S was (is_away S dev) v.now (disk_now v dev)
 
 abbrev pub setting_with : (List ℕ → Option (List ℕ)) → Queue → ℕ → Renewals → Setting
 setting_with reads base since renewals = record {
@@ -243,23 +244,19 @@ ReadsUpTo reads l order most disk = LeavesOnly disk
 -- many more as batches are kept, and at no moment does a copy read at a level above the one reached and one more, or
 -- with a next order that isn't near. Of a copy that is being replaced it says nothing.
 pub record Rises (S : Setting) (js : List Batch) (reached l order : ℕ) (v : View) : Type 0 where
-  pub first1 : S.since < top → ReadsAtLevel S.reads l order (disk_at v S.since Ckpt1)
-  pub first2 : S.since < top → ReadsAtLevel S.reads l order (disk_at v S.since Ckpt2)
+  pub first : S.since < top → (d : Dev) → IsCkpt d → ReadsAtLevel S.reads l order (disk_at v S.since d)
   pub risen : reached ≤ l + batches_kept js
-  pub most1 : (t : ℕ) → S.since ≤ t → t ≤ v.now → t < top → is_renewed_at S.renewals.first t ≡ false
-      → ReadsUpTo S.reads l order (reached + 1) (disk_at v t Ckpt1)
-  pub most2 : (t : ℕ) → S.since ≤ t → t ≤ v.now → t < top → is_renewed_at S.renewals.second t ≡ false
-      → ReadsUpTo S.reads l order (reached + 1) (disk_at v t Ckpt2)
+  pub most : (d : Dev) → IsCkpt d → (t : ℕ) → S.since ≤ t → t ≤ v.now → t < top
+      → is_renewed_at (of_device d S.renewals) t ≡ false → ReadsUpTo S.reads l order (reached + 1) (disk_at v t d)
 
 -- What the shared value keeps of its past, and of its present below the greatest moment: the pages of the kept entries,
 -- and those in flight, are the same for both copies.
-pub record Keeps (S : Setting) (js : List Batch) (current : Option Batch) (reached : ℕ) (first second : Copy)
+pub record Keeps (S : Setting) (js : List Batch) (current : Option Batch) (reached : ℕ) (copies : Dev → Copy)
     (v : View) : Type 0 where
   pub started : S.since ≤ v.now
   pub settled : AreSettled js v.now
   pub begun : IsBegun current v.now
-  pub renewed1 : AreRenewedBy S.renewals.first v.now
-  pub renewed2 : AreRenewedBy S.renewals.second v.now
+  pub renewed : (d : Dev) → IsCkpt d → AreRenewedBy (of_device d S.renewals) v.now
   pub crash : (t : ℕ) → S.since ≤ t → t ≤ v.now → t < top → CrashAt S (js ++ in_flight current) v t
   pub told : (t : ℕ) → S.since ≤ t → t ≤ v.now → ToldAt S (js ++ in_flight current) v t
   pub grows : (t : ℕ) → S.since ≤ t → t ≤ v.now → Begins (v.world t).console (v.world v.now).console
@@ -275,14 +272,12 @@ pub record Keeps (S : Setting) (js : List Batch) (current : Option Batch) (reach
   pub none : entries_in current ≡ [] → coming ≡ None
   pub near : IsNear first_level first_order was
   pub comes_near : IfSome coming (IsNear first_level first_order)
-  pub first_at : CopyAt S was coming Ckpt1 first v.now (disk_now v Ckpt1)
-  pub second_at : CopyAt S was coming Ckpt2 second v.now (disk_now v Ckpt2)
+  pub at : (d : Dev) → IsCkpt d → CopyAt S was coming d (copies d) v
 
 -- Both copies, before any batch, as a shared value begins with them: there are pages of this level that stand for its
 -- base, and each copy that counts as alive is at rest with these. The texts of the base stand on the spool volumes.
-pub record BeginsWith (S : Setting) (l : ℕ) (first second : Copy) (v : View) : Type 0 where
+pub record BeginsWith (S : Setting) (l : ℕ) (copies : Dev → Copy) (v : View) : Type 0 where
   pub pages : List ℕ
   pub stands : Stands S l [] pages
   pub texts : HasTexts (lost_now v) (spools_at v v.now) S.base.config.groups (S.run S.base [])
-  pub first_at : CopyAt S pages None Ckpt1 first v.now (disk_now v Ckpt1)
-  pub second_at : CopyAt S pages None Ckpt2 second v.now (disk_now v Ckpt2)
+  pub at : (d : Dev) → IsCkpt d → CopyAt S pages None d (copies d) v

@@ -1,5 +1,5 @@
 -- What holds at each moment since a shared value was made, in the words of journal, images and console.
-use Rattle.mas_complex.specs.Names.{Ckpt1, Ckpt2, Spool, MemberId, Kept, Queue, Closing, kept_at, flying_at, IsSound, closing_line, View, ViewDisk as Disk, Line, Throughout, LeavesOnly, disk_at, top, level, best, Volumes}
+use Rattle.mas_complex.specs.Names.{Ckpt1, Ckpt2, Spool, MemberId, Kept, Queue, Closing, kept_at, flying_at, IsSound, closing_line, View, Line, Throughout, LeavesOnly, disk_at, top, level, best, Volumes}
 use Rattle.std.specs.Prelude.{◌≡◌, ◌⊎◌, ℕ, ◌+◌, ◌≤◌, ◌<◌, ◌||◌, true, false, List, [], ◌++◌, length, drop, Option, Some, None, All, Contains, IfSome}
 use Rattle.mas_types.specs.declared.journals.Journal.{Journal}
 use Rattle.mas_complex.specs.Meaning.{run, StandFor, is_telling}
@@ -35,7 +35,7 @@ IsCrashSafe reads base J rs since v = (t : ℕ) → since ≤ t → t ≤ v.now 
 -- no entry is in flight each image reads as the first. Those of a copy that is being replaced read as none, or as
 -- pages that were kept by then.
 pub record AreAlike (reads : List ℕ → Option (List ℕ)) (base : Queue) (J : Journal) (rs : Renewals) (t : ℕ)
-    (one two : Disk) : Type 0
+    (v : View) : Type 0
   where
     pub was : List ℕ
     pub coming : Option (List ℕ)
@@ -43,13 +43,15 @@ pub record AreAlike (reads : List ℕ → Option (List ℕ)) (base : Queue) (J :
     pub comes : IfSome coming (λ pages. (level pages ≡ level was + 1)
         × StandFor (run base (kept_at J t ++ flying_at J t)) pages)
     pub none : flying_at J t ≡ [] → coming ≡ None
-    pub first : LeavesOnly one (λ image. IsReadBy (is_renewed_at rs.first t) was coming (reads image))
-    pub second : LeavesOnly two (λ image. IsReadBy (is_renewed_at rs.second t) was coming (reads image))
+    pub first : LeavesOnly (left_at v t Ckpt1)
+        (λ image. IsReadBy (is_renewed_at rs.first t) was coming (reads image))
+    pub second : LeavesOnly (left_at v t Ckpt2)
+        (λ image. IsReadBy (is_renewed_at rs.second t) was coming (reads image))
 
 -- what the two copies hold is alike at each moment
 abbrev pub AreAlwaysAlike : (List ℕ → Option (List ℕ)) → Queue → Journal → Renewals → ℕ → View → Type 0
 AreAlwaysAlike reads base J rs since v = (t : ℕ) → since ≤ t → t ≤ v.now
-    → AreAlike reads base J rs t (left_at v t Ckpt1) (left_at v t Ckpt2)
+    → AreAlike reads base J rs t v
 
 -- at a moment, for each choice of images of which one is left, the pages that a start finds stand for the queue itself
 abbrev pub LeavesQueue : (List ℕ → Option (List ℕ)) → Queue → ℕ → View → Type 0

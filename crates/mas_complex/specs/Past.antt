@@ -1,6 +1,7 @@
 -- What a batch leaves of the pages before it, and what members noted of them.
-use Rattle.mas_complex.specs.Names.{Page, members_most, bytes_of, level, page_in, level_in, Place, Put, Unsure}
+use Rattle.mas_complex.specs.Names.{Dev, IsCkpt, Disk as DiskPart, View, disk_now, Page, members_most, bytes_of, level, page_in, level_in, Place, Put, Unsure}
 use Rattle.std.specs.Prelude.{◌≡◌, ◌≢◌, ◌⊎◌, ℕ, zero, suc, ◌+◌, ◌≤◌, ◌<◌, Bool, true, false, List, [], ◌∷◌, replicate, Option, Some, slice_get}
+use Rattle.duplex_pair.specs.declared.half.Half.{Half}
 use Rattle.mas_complex.specs.declared.noting.Note.{Note}
 
 -- the level that page 0 gives page q
@@ -59,13 +60,14 @@ pub record Sight : Type 0 where
   pub read : Option (List ℕ)
   pub waits : List ℕ
 
-abbrev pub sight_of : Bool → Place → Bool → Option (List ℕ) → List ℕ → Sight
-sight_of alive place lost read waits = record {
-  alive = alive;
+abbrev pub sight_of : {C : Type 0} → (List ℕ → Option (List ℕ)) → (C → List ℕ → List ℕ) → Half C → Place → Dev → View
+    → Sight
+sight_of reads behind half place dev v = record {
+  alive = half.alive;
   place = place;
-  lost = lost;
-  read = read;
-  waits = waits;
+  lost = v.lost (DiskPart dev);
+  read = reads (disk_now v dev).bytes;
+  waits = behind half.copy (disk_now v dev).bytes;
 }
 
 -- What a copy reads that counts as alive is later than what members noted, and so is what waits behind its gate. Where
@@ -75,7 +77,6 @@ pub record HasPast (count : ℕ) (had : List (List Page)) (copy : Sight) : Type 
       → AreLater count had is
   pub waits : copy.alive ≡ true → copy.place ≡ Put → AreLater count had copy.waits
 
--- both copies
-pub record HavePasts (count : ℕ) (had : List (List Page)) (one two : Sight) : Type 0 where
-  pub first : HasPast count had one
-  pub second : HasPast count had two
+-- of both copies
+abbrev pub HavePasts : ℕ → List (List Page) → (Dev → Sight) → Type 0
+HavePasts count had copies = (d : Dev) → IsCkpt d → HasPast count had (copies d)

@@ -1,5 +1,5 @@
 //! A shared value is made, and hands out what it has at its end.
-ghost use Rattle.mas_complex.specs.Names.{Ckpt1, Ckpt2, View, top, Goes, Disk, level, Before as AtBefore};
+ghost use Rattle.mas_complex.specs.Names.{Ckpt1, Ckpt2, pick, View, top, Goes, Disk, level, Before as AtBefore};
 ghost use Rattle.std.specs.Prelude.{◌≡◌, ◌≤◌, [], None, true, false};
 ghost use Rattle.mas_complex.specs.Journals.{end_of};
 ghost use Rattle.mas_complex.specs.Crash.{setting, copy_of, BeginsWith};
@@ -41,9 +41,7 @@ impl<P: Plant + Drop, C: Steady + Drop> Complex<P, C> {
         requires lost1 { pair.first.alive ≡ false → (P.view plant).lost (Disk Ckpt1) ≡ true }
         requires lost2 { pair.second.alive ≡ false → (P.view plant).lost (Disk Ckpt2) ≡ true }
         requires begins { P.tells → ∥ BeginsWith (setting C.reads base (P.view plant).now) level
-            (copy_of (C.rests pair.first.copy) (C.holds pair.first.copy) pair.first.alive AtBefore)
-            (copy_of (C.rests pair.second.copy) (C.holds pair.second.copy) pair.second.alive AtBefore) (P.view plant)
-            ∥₁ }
+            (λ d. copy_of C.rests C.holds (pick d pair.first pair.second) AtBefore) (P.view plant) ∥₁ }
         ensures plant { result.plant ≡ plant }
         ensures pair { result.pair ≡ pair }
         ensures base { result.base ≡ base }

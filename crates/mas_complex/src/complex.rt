@@ -1,10 +1,10 @@
 //! The shared value.
-ghost use Rattle.mas_complex.specs.Names.{Ckpt1, Ckpt2, disk_now, page_count, Disk, level, Batch, is_stopped, IsSound};
+ghost use Rattle.mas_complex.specs.Names.{Dev, IsCkpt, pick, page_count, Disk, level, Batch, is_stopped, IsSound};
 ghost use Rattle.std.specs.Prelude.{◌≡◌, ◌≢◌, ◌≤◌, ◌++◌, length, true, false, Some, IsSome};
 ghost use Rattle.mas_complex.specs.Journals.{entries_in, entries_reserved, in_flight, entries_most, journal_most, AreFew, AreSettled, HasPlace, IsBegun};
 ghost use Rattle.mas_complex.specs.Settled.{settled_prop, begun_prop};
 ghost use Rattle.mas_complex.specs.Crash.{Keeps, setting_with, copy_of};
-ghost use Rattle.mas_complex.specs.Renewals.{is_open};
+ghost use Rattle.mas_complex.specs.Renewals.{is_open, of_device};
 ghost use Rattle.mas_complex.specs.Replies.{AreReplied};
 ghost use Rattle.mas_complex.specs.Paper.{KeepsPaper};
 ghost use Rattle.mas_complex.specs.Past.{HavePasts, sight_of, values_of};
@@ -73,17 +73,11 @@ pub struct Complex<P: Plant + Drop, C: Steady + Drop> {
 
     /// What a crash leaves and the console tells at each moment since then, and where each copy stands now.
     ghost kept: { P.tells → ∥ Keeps (setting_with C.reads base since renewals) journal.batches current level
-        (copy_of (C.rests pair.first.copy) (C.holds pair.first.copy) pair.first.alive first)
-        (copy_of (C.rests pair.second.copy) (C.holds pair.second.copy) pair.second.alive second) (P.view plant) ∥₁ },
+        (λ d. copy_of C.rests C.holds (pick d pair.first pair.second) (pick d first second)) (P.view plant) ∥₁ },
 
     /// Pages whose level isn't above that of pages that a member noted are as they were then.
     ghost lasting: { P.tells → ∥ HavePasts (page_count base.config) (values_of had)
-        (sight_of pair.first.alive first ((P.view plant).lost (Disk Ckpt1))
-        (C.reads (disk_now (P.view plant) Ckpt1).bytes)
-        (C.behind pair.first.copy (disk_now (P.view plant) Ckpt1).bytes))
-        (sight_of pair.second.alive second ((P.view plant).lost (Disk Ckpt2))
-        (C.reads (disk_now (P.view plant) Ckpt2).bytes)
-        (C.behind pair.second.copy (disk_now (P.view plant) Ckpt2).bytes)) ∥₁ },
+        (λ d. sight_of C.reads C.behind (pick d pair.first pair.second) (pick d first second) d (P.view plant)) ∥₁ },
 
     /// Each entry has the reply that the commands give at its place.
     ghost replied: { P.tells → ∥ AreReplied base (journal.batches ++ in_flight current) ∥₁ },
@@ -93,14 +87,12 @@ pub struct Complex<P: Plant + Drop, C: Steady + Drop> {
         → ∥ KeepsPaper base since journal.batches current printed book (P.view plant) ∥₁ },
 
     /// A copy that counts as alive is ready.
-    ghost ready: { (pair.first.alive ≡ true → C.fits pair.first.copy (P.view plant) ≡ true)
-        × (pair.second.alive ≡ true → C.fits pair.second.copy (P.view plant) ≡ true) },
+    ghost ready: { (d : Dev) → IsCkpt d → (pick d pair.first pair.second).alive ≡ true
+        → C.fits (pick d pair.first pair.second).copy (P.view plant) ≡ true },
 
     /// The device of one that counts as lost is lost, unless its replacement was begun and not ended.
-    ghost lost: { (pair.first.alive ≡ false → is_open renewals.first ≡ false
-        → (P.view plant).lost (Disk Ckpt1) ≡ true)
-        × (pair.second.alive ≡ false → is_open renewals.second ≡ false
-        → (P.view plant).lost (Disk Ckpt2) ≡ true) },
+    ghost lost: { (d : Dev) → IsCkpt d → (pick d pair.first pair.second).alive ≡ false
+        → is_open (of_device d renewals) ≡ false → (P.view plant).lost (Disk d) ≡ true },
 
     /// Nothing is reserved while a batch is in flight.
     ghost one: { IsSome current → IsSome reserved → ⊥ },

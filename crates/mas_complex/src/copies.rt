@@ -5,6 +5,7 @@ ghost use Rattle.mas_complex.specs.Journals.{kept_all};
 ghost use Rattle.mas_complex.specs.Meaning.{run};
 ghost use Rattle.mas_complex.specs.Places.{IsPlaceAfter};
 ghost use Rattle.mas_complex.specs.Elsewhere.{Elsewhere, OnCopies};
+ghost use Rattle.mas_complex.specs.Crash.{copy_of};
 ghost use Rattle.mas_complex.specs.Kept.{HaveKept, OnlyOnCopies};
 ghost use Rattle.mas_complex.specs.Locking.{MayAct};
 ghost use Rattle.mas_complex.specs.Paper.{SamePapers};
@@ -191,15 +192,10 @@ impl<P: Plant + Drop, C: Steady + Drop> Complex<P, C> {
     /// isn't above that of noted ones is as it was then.
     pub fn kept_pages(&self)
         ensures noted { P.tells → ∥ HavePasts (page_count self.now.base.config) (values_of self.now.had)
-            (sight_of self.now.pair.first.alive self.now.first ((P.view self.now.plant).lost (Disk Ckpt1))
-            (C.reads (disk_now (P.view self.now.plant) Ckpt1).bytes)
-            (C.behind self.now.pair.first.copy (disk_now (P.view self.now.plant) Ckpt1).bytes))
-            (sight_of self.now.pair.second.alive self.now.second ((P.view self.now.plant).lost (Disk Ckpt2))
-            (C.reads (disk_now (P.view self.now.plant) Ckpt2).bytes)
-            (C.behind self.now.pair.second.copy (disk_now (P.view self.now.plant) Ckpt2).bytes)) ∥₁ }
+            (λ d. sight_of C.reads C.behind (pick d self.now.pair.first self.now.pair.second)
+            (pick d self.now.first self.now.second) d (P.view self.now.plant)) ∥₁ }
         ensures kept { P.tells → ∥ HaveKept (run self.now.base (kept_all self.now.journal.batches)) self.now.level
-            (C.rests self.now.pair.first.copy) (C.rests self.now.pair.second.copy) self.now.pair.first.alive
-            self.now.pair.second.alive self.now.first self.now.second (disk_now (P.view self.now.plant) Ckpt1)
-            (disk_now (P.view self.now.plant) Ckpt2) ∥₁ }
+            (λ d. copy_of C.rests C.holds (pick d self.now.pair.first self.now.pair.second)
+            (pick d self.now.first self.now.second)) (P.view self.now.plant) ∥₁ }
     {}
 }

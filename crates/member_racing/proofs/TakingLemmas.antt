@@ -27,10 +27,6 @@ use Rattle.member_resets.proofs.Locking.{within_unlocked}
 use Rattle.step_turns.specs.declared.states.Grant.TheVariants.{ForStep}
 use Rattle.step_turns.specs.declared.states.Release.TheVariants.{Inner}
 
--- no line tells a step that isn't kept, where none is said
-pub tells_none : (batches : List Batch) (now : ℕ) → TellKept [] batches now
-tells_none batches now = All-nil (λ (line : List ℕ). (m : MemberId) (s : ℕ) → Closes line m s → StepIsKept batches now m s)
-
 module _ {P C : Type 0} (plants : PlantGhosts P) (copies : CopyGhosts C) (w : Parts P C) (by : MemberId) (n : Member) (id : n.id ≡ by) (seat : IsSeat plants copies w n) where
   abbrev v : Parts P C → View
   v q = plants.view q.plant

@@ -9,9 +9,10 @@ use Rattle.spool_plant.specs.declared.plant.Plant.{Ghosts as PlantGhosts}
 use Rattle.ckpt_copy.specs.declared.copying.Copying.{Ghosts as CopyGhosts}
 use Rattle.ckpt_form.specs.declared.steady.Steady.{Ghosts as SteadyGhosts}
 use Rattle.ckpt_tables.specs.Shape.{page_count}
-use Rattle.duplex_pair.specs.Halves.{IsBothLost, SomeAlive}
+use Rattle.duplex_pair.specs.Halves.{IsBothLost, SomeAlive, pick}
 use Rattle.mas_complex.specs.declared.complex.Complex.{Complex}
 use Rattle.mas_complex.specs.Journals.{kept_all}
+use Rattle.mas_complex.specs.Crash.{copy_of}
 use Rattle.mas_complex.specs.Kept.{HaveKept}
 use Rattle.mas_complex.specs.Meaning.{run}
 use Rattle.mas_complex.specs.Parts.{parts_of}
@@ -34,12 +35,11 @@ one_alive false false is = absurd (cc)
 
 module _ {P C : Type 0} {plants : PlantGhosts P} {steadies : SteadyGhosts C} {copies : CopyGhosts C} (x : Complex P C plants steadies copies) (rest : BetweenTurns x) (some : SomeAlive x.pair.first.alive x.pair.second.alive)
     (sound : plants.tells → IsSound x.base) (reads : (copy : C) (pages : List ℕ) (disk : Disk) → copies.rests copy pages disk → copies.reads disk.bytes ≡ Some pages)
-    (kept : plants.tells → ∥ HaveKept (run x.base (kept_all x.journal.batches)) x.level (copies.rests x.pair.first.copy) (copies.rests x.pair.second.copy) x.pair.first.alive x.pair.second.alive x.first x.second
-    (disk_now (plants.view x.plant) Ckpt1) (disk_now (plants.view x.plant) Ckpt2) ∥₁) where
+    (kept : plants.tells → ∥ HaveKept (run x.base (kept_all x.journal.batches)) x.level (λ d. copy_of copies.rests copies.holds (pick d x.pair.first x.pair.second) (pick d x.first x.second)) (plants.view x.plant) ∥₁) where
   pub quiet_now : x.book.holder ≡ nobody → IsQuiet plants copies (parts_of x) (page_count x.base.config)
   quiet_now none =
       let free = rest.free some none in
       quiet_between plants copies (parts_of x) rest some none
       (λ t. kept_sound x.base x.journal.batches x.current free.none (sound t) (∥∥₁_map (x.paper t (sound t)) (λ k. k.given)))
-      (λ t on. ∥∥₁_map (kept t) (λ k. record { was = k.was; stands = k.queue; is = reads x.pair.first.copy k.was (disk_now (plants.view x.plant) Ckpt1) (k.at_first on free.first.before) }))
-      (λ t on. ∥∥₁_map (kept t) (λ k. record { was = k.was; stands = k.queue; is = reads x.pair.second.copy k.was (disk_now (plants.view x.plant) Ckpt2) (k.at_second on free.second.before) }))
+      (λ t on. ∥∥₁_map (kept t) (λ k. record { was = k.was; stands = k.queue; is = reads x.pair.first.copy k.was (disk_now (plants.view x.plant) Ckpt1) (k.at Ckpt1 tt on free.first.before) }))
+      (λ t on. ∥∥₁_map (kept t) (λ k. record { was = k.was; stands = k.queue; is = reads x.pair.second.copy k.was (disk_now (plants.view x.plant) Ckpt2) (k.at Ckpt2 tt on free.second.before) }))

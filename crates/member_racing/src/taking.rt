@@ -16,11 +16,11 @@ use mas_complex::{Complex, Steady};
 use mas_types::{Command, Lines, MemberId, NoMemory};
 use member_node::{Member, NodeNo};
 use member_resets::{enter, leave, take_lock};
-use member_sittings::{SittingEnd, close_sitting};
+use member_sittings::{SittingEnd, end_sitting};
 use queue_texts::law_of_texts;
 use spool_plant::Plant;
 use std::alloc::Global;
-use step_turns::{Grant, Holder, Release};
+use step_turns::{Grant, Holder, Release, State};
 
 // The sitting that resets a stopped member, and says nothing.
 fn give_reset<P: Plant + Drop, C: Steady + Drop>(
@@ -44,7 +44,7 @@ fn give_reset<P: Plant + Drop, C: Steady + Drop>(
         return Err(NodeNo::NoMemory);
     };
     let lines = Lines::new(alloc);
-    close_sitting(member, alloc, complex, holder, &lines)
+    end_sitting(member, alloc, complex, holder, State::Told, &lines)
 }
 
 /// Takes the lock of a stopped member over, finds out what became of a batch in flight, and resets that member, as the

@@ -14,7 +14,7 @@ use Rattle.lock_cycle.specs.declared.answers.SeizeNo.{SeizeNo}
 use Rattle.lock_cycle.specs.declared.answers.SeizeNo.TheVariants as seized
 use Rattle.lock_cycle.specs.Books.{Book, IsMember, after_seize, after_stop, is_holder, is_stopped, seize_refusal}
 use Rattle.spool_plant.specs.declared.plant.Plant.{Ghosts as PlantGhosts}
-use Rattle.spool_plant.specs.View.{Disk, View, disk_now}
+use Rattle.spool_plant.specs.View.{View, disk_now}
 use Rattle.spool_plant.specs.Acts.{Rose}
 use Rattle.spool_volumes.specs.Volumes.{AreRoomy}
 use Rattle.ckpt_copy.specs.declared.copying.Copying.{Ghosts as CopyGhosts}
@@ -23,14 +23,10 @@ use Rattle.ckpt_tables.specs.Shape.{page_count}
 use Rattle.duplex_pair.specs.Halves.{IsBothLost, SomeAlive}
 use Rattle.mas_complex.proofs.BatchEnds.{with_last-append}
 use Rattle.mas_complex.proofs.Batches.{unplaced_settled}
-use Rattle.mas_complex.specs.Crash.{IsAt, Keeps, OneCopy, Setting, copy_of}
 use Rattle.mas_complex.specs.Journals.{AreSettled, end_of, fated, kept_all, with_last}
 use Rattle.mas_complex.specs.Locking.{IsOfOther}
 use Rattle.mas_complex.specs.Parts.{Parts, ended_at}
-use Rattle.mas_complex.specs.Past.{HasPast, HavePasts, sight_of}
 use Rattle.mas_complex.specs.Seen.{IsGreater, ReadsSeen}
-use Rattle.ckpt_places.specs.declared.places.Place.{Place}
-use Rattle.ckpt_places.specs.declared.places.Place.TheVariants.{Before, Put, Unsure}
 use Rattle.warm_start.specs.declared.takeovers.TakeNo.{TakeNo}
 use Rattle.warm_start.specs.declared.takeovers.TakeNo.TheVariants as take_no
 use Rattle.warm_start.specs.Takeover.{HasActed, HasFailed1, HasFailed2, HasFound, IsRefusedBy, TakesBy, fate_of, placed_then, taken_in}
@@ -47,64 +43,6 @@ use Rattle.member_hand.specs.Standing.{StandsIn}
 use Rattle.member_resets.proofs.BookLemmas.{Since, inside_since, seized_since, stopped_since, then_since}
 use Rattle.member_resets.proofs.SettleLemmas.{settle_both, settle_still}
 use Rattle.member_steps.proofs.LowCopies.{low_found, sound_told}
-
--- A COPY THAT IS LOST may count as before any batch, as each other one does
-
-module _ (S : Setting) (rests : List ℕ → Disk → Type 0) (holds : List ℕ → List ℕ → Disk → Type 0) (was : List ℕ) (coming : Option (List ℕ)) (place : Place) (alive : Bool) (now : ℕ) (disk : Disk) where
-  rested_copy : {renewed : Bool} → (alive ≡ true → place ≡ Before) → OneCopy S rests holds was coming place alive renewed now disk → OneCopy S rests holds was coming Before alive renewed now disk
-  rested_copy before at = record { at = λ on. subst (λ (p : Place). IsAt S rests holds was coming p disk) (before on) (at.at on); formed = at.formed; gone = at.gone }
-
-module _ (S : Setting) (js : List Batch) (c : Option Batch) (reached : ℕ) (rests1 rests2 : List ℕ → Disk → Type 0) (holds1 holds2 : List ℕ → List ℕ → Disk → Type 0) (alive1 alive2 : Bool) (place1 place2 : Place)
-    (v : View) where
-  pub rested_keep : (alive1 ≡ true → place1 ≡ Before) → (alive2 ≡ true → place2 ≡ Before) → Keeps S js c reached (copy_of rests1 holds1 alive1 place1) (copy_of rests2 holds2 alive2 place2) v
-      → Keeps S js c reached (copy_of rests1 holds1 alive1 Before) (copy_of rests2 holds2 alive2 Before) v
-  rested_keep one two k = record {
-    started = k.started;
-    settled = k.settled;
-    begun = k.begun;
-    renewed1 = k.renewed1;
-    renewed2 = k.renewed2;
-    crash = k.crash;
-    told = k.told;
-    grows = k.grows;
-    texts = k.texts;
-    sunk = k.sunk;
-    first_level = k.first_level;
-    first_order = k.first_order;
-    rises = k.rises;
-    was = k.was;
-    coming = k.coming;
-    stands = k.stands;
-    comes = k.comes;
-    none = k.none;
-    near = k.near;
-    comes_near = k.comes_near;
-    first_at = rested_copy S rests1 holds1 k.was k.coming place1 alive1 v.now (disk_now v Ckpt1) one k.first_at;
-    second_at = rested_copy S rests2 holds2 k.was k.coming place2 alive2 v.now (disk_now v Ckpt2) two k.second_at;
-  }
-
--- what is read of a copy that counts as alive stays later than what members noted, since it was before any batch
-
-not_unsure : (place : Place) → place ≡ Before → place ≡ Unsure → ⊥
-not_unsure place before unsure = cc
-
-not_put : (place : Place) → place ≡ Before → place ≡ Put → ⊥
-not_put place before put = cc
-
-rested_past : (count : ℕ) (had : List (List Page)) (alive lost : Bool) (place : Place) (read : Option (List ℕ)) (waits : List ℕ) → (alive ≡ true → place ≡ Before)
-    → HasPast count had (sight_of alive place lost read waits) → HasPast count had (sight_of alive Before lost read waits)
-rested_past count had alive lost place read waits rests past = record {
-  reads = λ on sure. past.reads on (λ unsure. absurd (not_unsure place (rests on) unsure));
-  waits = λ on put. absurd (not_put Before refl put);
-}
-
-pub rested_pasts : (count : ℕ) (had : List (List Page)) (alive1 lost1 alive2 lost2 : Bool) (place1 place2 : Place) (read1 read2 : Option (List ℕ)) (waits1 waits2 : List ℕ) → (alive1 ≡ true → place1 ≡ Before)
-    → (alive2 ≡ true → place2 ≡ Before) → HavePasts count had (sight_of alive1 place1 lost1 read1 waits1) (sight_of alive2 place2 lost2 read2 waits2)
-    → HavePasts count had (sight_of alive1 Before lost1 read1 waits1) (sight_of alive2 Before lost2 read2 waits2)
-rested_pasts count had alive1 lost1 alive2 lost2 place1 place2 read1 read2 waits1 waits2 one two pasts = record {
-  first = rested_past count had alive1 lost1 place1 read1 waits1 one pasts.first;
-  second = rested_past count had alive2 lost2 place2 read2 waits2 two pasts.second;
-}
 
 -- A BATCH IN FLIGHT is of a stopped member
 

@@ -250,8 +250,8 @@ module _ {P C : Type 0} {plants : PlantGhosts P} {steadies : SteadyGhosts C} {co
     away_so : answer ≡ status.BothLost → AreAway no_renewals new
     away_so lost =
         let both = raced.lost (ended_lost plants.tells ended answer J w new ends lost) in (
-          inl (says.goes.lost (Disk Ckpt1) (y.lost.0 both.0 (ap (λ (r : Renewals). is_open r.first) raced.from.renewals))),
-          inl (says.goes.lost (Disk Ckpt2) (y.lost.1 both.1 (ap (λ (r : Renewals). is_open r.second) raced.from.renewals))),
+          inl (says.goes.lost (Disk Ckpt1) (y.lost Ckpt1 tt both.0 (ap (λ (r : Renewals). is_open r.first) raced.from.renewals))),
+          inl (says.goes.lost (Disk Ckpt2) (y.lost Ckpt2 tt both.1 (ap (λ (r : Renewals). is_open r.second) raced.from.renewals))),
         )
 
     pub race_is : IsSafe plants.tells x.base J no_renewals x.since new → IsRaceOf plants.tells steps answer x.base x.journal.batches J x.since v new

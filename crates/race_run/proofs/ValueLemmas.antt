@@ -153,13 +153,13 @@ module _ {P C : Type 0} {plants : PlantGhosts P} {steadies : SteadyGhosts C} {co
     gone_first is = by_alive x.pair.first.alive refl where
       by_alive : (up : Bool) → x.pair.first.alive ≡ up → IsGone Ckpt1 old then_view
       by_alive true was = inr (was_lost Ckpt1 old then_view (from.lost1 was is))
-      by_alive false was = inl (x.lost.0 was (ap (λ (r : Renewals). is_open r.first) unrenewed))
+      by_alive false was = inl (x.lost Ckpt1 tt was (ap (λ (r : Renewals). is_open r.first) unrenewed))
 
     gone_second : y.pair.second.alive ≡ false → IsGone Ckpt2 old then_view
     gone_second is = by_alive x.pair.second.alive refl where
       by_alive : (up : Bool) → x.pair.second.alive ≡ up → IsGone Ckpt2 old then_view
       by_alive true was = inr (was_lost Ckpt2 old then_view (from.lost2 was is))
-      by_alive false was = inl (x.lost.1 was (ap (λ (r : Renewals). is_open r.second) unrenewed))
+      by_alive false was = inl (x.lost Ckpt2 tt was (ap (λ (r : Renewals). is_open r.second) unrenewed))
 
     some_left : (IsGone Ckpt1 old then_view → IsGone Ckpt2 old then_view → ⊥) → SomeAlive y.pair.first.alive y.pair.second.alive
     some_left not_both = by_alive y.pair.first.alive y.pair.second.alive refl refl where

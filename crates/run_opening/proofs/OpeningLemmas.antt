@@ -39,9 +39,7 @@ use Rattle.duplex_pair.specs.Halves.{IsBothLost}
 use Rattle.duplex_pair.specs.declared.errors.PairNo.{PairNo}
 use Rattle.duplex_pair.specs.Outcomes.{pair_stopped}
 use Rattle.duplex_pair.specs.Both.{PairActed}
-use Rattle.ckpt_places.specs.declared.places.Place.TheVariants.{Before}
 use Rattle.mas_complex.specs.declared.renewals.Renewals.{Renewals}
-use Rattle.mas_complex.specs.Crash.{setting, OneCopy}
 use Rattle.mas_complex.specs.Headline.{Headline, AreToldKept}
 use Rattle.run_opening.specs.Runs.{has_begun, IsSafe, ReadsThere, as_found, lost_from}
 use Rattle.run_opening.specs.Statuses.{IsCaused, IsCausedFrom, LeavesLost}
@@ -162,10 +160,6 @@ formed_lost T a b pair_no.BothLost entry new formed both = record { stays = form
 formed_lost T a b pair_no.Halted entry new formed both = let some = formed.not_operator refl in absurd (omega (arith, some))
 
 -- A COPY AS IT WAS FORMED
-
-pub formed_copy : (base : Queue) (now : ℕ) (rests : List ℕ → Disk → Type 0) (holds : List ℕ → List ℕ → Disk → Type 0) (alive : Bool) (disk : Disk) (pages : List ℕ)
-    → (alive ≡ true → rests pages disk) → (alive ≡ false → now < top → disk.lost ≡ true) → OneCopy (setting form_reads base now) rests holds pages None Before alive false now disk
-formed_copy base now rests holds alive disk pages rested gone = record { at = rested; formed = λ _. refl; gone = gone }
 
 -- what the images of a copy read as later
 pub formed_images : (dev : Dev) (rests : List ℕ → Disk → Type 0) (pages : List ℕ) (alive : Bool) (v w : View) → Proceeds v w → ((d : Disk) → rests pages d → AllRead form_reads pages d)

@@ -5,7 +5,7 @@ use Rattle.mas_types.specs.declared.ids.Dev.TheVariants.{Ckpt1, Ckpt2, Spool}
 use Rattle.mas_types.specs.declared.ids.Page.{Page}
 use Rattle.mas_types.specs.declared.queues.Queue.{Queue}
 use Rattle.spool_plant.specs.declared.plant.Part.TheVariants.{Disk as DiskPart}
-use Rattle.spool_plant.specs.View.{View, World, Disk, disk_now}
+use Rattle.spool_plant.specs.View.{View, World, disk_now}
 use Rattle.spool_plant.specs.Acts.{Goes, top}
 use Rattle.ckpt_copy.specs.Pages.{bytes_of}
 use Rattle.ckpt_tables.specs.declared.tables.Tables.{Tables}
@@ -13,8 +13,6 @@ use Rattle.ckpt_pages.specs.Checkpoints.{IsCheckpoint}
 use Rattle.duplex_pair.specs.declared.errors.PairNo.{PairNo}
 use Rattle.duplex_pair.specs.declared.errors.PairNo.TheVariants.{BothLost, Halted}
 use Rattle.duplex_pair.specs.Halves.{IsBothLost, IsGone}
-use Rattle.ckpt_places.specs.declared.places.Place.TheVariants.{Before}
-use Rattle.mas_complex.specs.Crash.{setting, OneCopy}
 use Rattle.ckpt_pages.specs.Sound.{AreSound}
 use Rattle.queue_telling.specs.Telling.{Tell}
 use Rattle.queue_tables.proofs.OrderLemmas.{sound_orders}
@@ -33,11 +31,6 @@ stand_of base pages t sized is sound told = record {
   joined = refl;
   tell = record { tables = t; levels = is.levels; fit = is.fit; ages = is.ages; spell = is.spell; orders = sound_orders t sound; tell = told };
 }
-
--- a copy that rests these pages, or is lost
-pub rested_copy : (reads : List ℕ → Option (List ℕ)) (base : Queue) (now : ℕ) (rests : List ℕ → Disk → Type 0) (holds : List ℕ → List ℕ → Disk → Type 0) (alive : Bool) (disk : Disk) (pages : List ℕ)
-    → (alive ≡ true → rests pages disk) → (alive ≡ false → now < top → disk.lost ≡ true) → OneCopy (setting reads base now) rests holds pages None Before alive false now disk
-rested_copy reads base now rests holds alive disk pages rested gone = record { at = rested; formed = λ _. refl; gone = gone }
 
 -- what was seen still was, where a copy that had gone has gone
 seen_later : (reads : List ℕ → Option (List ℕ)) (dev : Dev) (old mid new : View) (mark mark' : Mark) → (HasGone dev old mid mark → HasGone dev old new mark') → (seen : Option (List ℕ)) → IsSeen reads dev old mid mark seen → IsSeen reads dev old new mark' seen

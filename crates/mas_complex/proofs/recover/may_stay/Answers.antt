@@ -1,4 +1,4 @@
-use Rattle.mas_complex.proofs.Names.{◌≡◌, sym, ◌∙◌, inl, rules, Before}
+use Rattle.mas_complex.proofs.Names.{◌≡◌, sym, ◌∙◌, inl, rules, Before, false, if◌then◌else◌, true}
 use Rattle.mas_complex.proofs.Fitted.{fits_below, fits_same, fits_many}
 use Rattle.mas_complex.proofs.recover.may_stay.Goals as goal
 

@@ -20,7 +20,7 @@ returns-in-Ok-clause-page g c told was one two =
     page_by (λ w. C.rests x.pair.first.copy w (disk_now old Ckpt1)) (λ w. C.rests x.pair.second.copy w (disk_now old Ckpt2)) (C.reads (disk_now old Ckpt1).bytes) (C.reads (disk_now old Ckpt2).bytes)
     (λ w r. g.met.C.Copying.rests_now x.pair.first.copy w (disk_now old Ckpt1) r) (λ w r. g.met.C.Copying.rests_now x.pair.second.copy w (disk_now old Ckpt2) r)
     c.args.page c.read_page.new.into.0 was k.was z.pair.first.alive z.pair.second.alive
-    (λ on. k.at_first (e.acted.alive1 on) c.requires.first) (λ on. k.at_second (e.acted.alive2 on) c.requires.second)
+    (λ on. k.at Ckpt1 tt (e.acted.alive1 on) c.requires.first) (λ on. k.at Ckpt2 tt (e.acted.alive2 on) c.requires.second)
     (λ on. ap C.reads (sym (e.bytes told Ckpt1)) ∙ one told on) (λ on. ap C.reads (sym (e.bytes told Ckpt2)) ∙ two told on)
     (λ w r1 r2. e.read told w r1 r2) (other_alive z.pair.first.alive z.pair.second.alive e.ok))
 

@@ -25,7 +25,7 @@ use Rattle.step_turns.specs.declared.states.Release.TheVariants.{Inner}
 use Rattle.step_turns.specs.declared.states.State.TheVariants.{Told}
 use Rattle.race_turns.specs.Turns.{reset_sitting}
 use Rattle.member_steps.specs.Saying.{TellKept}
-use Rattle.member_racing.proofs.TakingLemmas.{tells_none}
+use Rattle.member_sittings.proofs.Telling.{tells_none}
 use Rattle.member_racing.proofs.taking.give_reset.Goals as goal
 
 pub do_command-requires-clause-order : goal.do_command-requires-clause-order
@@ -48,8 +48,8 @@ returns-in_default-clause-gave g c =
       sat = sat_none P h.by h Told [] (parts_of x) (e ∷ []) (none_out x.journal.batches x.journal.batches x.placed x.current refl b.unplaced b.none);
     }
 
-pub close_sitting-requires-clause-may : goal.close_sitting-requires-clause-may
-close_sitting-requires-clause-may g c =
+pub end_sitting-requires-clause-may : goal.end_sitting-requires-clause-may
+end_sitting-requires-clause-may g c =
     let P = g.P.Plant in
     let C = g.C.Copying in
     let x = c.args.complex.now in
@@ -92,8 +92,8 @@ close_sitting-requires-clause-may g c =
     }
 
 -- nothing is said
-pub close_sitting-requires-clause-kept : goal.close_sitting-requires-clause-kept
-close_sitting-requires-clause-kept g c told =
+pub end_sitting-requires-clause-kept : goal.end_sitting-requires-clause-kept
+end_sitting-requires-clause-kept g c told =
     let x = c.args.complex.now in
     let now = (g.P.Plant.view x.plant).now in
     subst (λ (ls : List (List ℕ)). TellKept ls x.journal.batches now) (sym c.new-lines.ensures) (tells_none x.journal.batches now)
@@ -124,16 +124,16 @@ returns-clause-gave g c =
             ∙ ap (λ (i : MemberId). ends_in h ((entry_with i at d p.0 ∷ []) ∷ []) Told []) (sym c.requires.may.holder),
       );
       own = all_of_one h.by at n.batch (one_of n.batch e h.by at (only_entry m.batch n.batch e p.1 b.nothing) (sym c.requires.may.holder) refl);
-      sat = subst (λ (ls : List (List ℕ)). IsSatAs g.P.Plant h.by (ends_in h (n.batch ∷ []) Told ls) (parts_of x) (parts_of c.close_sitting.new.complex) c.close_sitting.result) c.new-lines.ensures c.close_sitting.ensures.sat;
+      sat = subst (λ (ls : List (List ℕ)). IsSatAs g.P.Plant h.by (ends_in h (n.batch ∷ []) Told ls) (parts_of x) (parts_of c.end_sitting.new.complex) c.end_sitting.result) c.new-lines.ensures c.end_sitting.ensures.sat;
     }
 
 pub returns-clause-again : goal.returns-clause-again
 returns-clause-again g c =
     let x = c.args.complex.now in
     let m = c.args.member.now in
-    let z = c.close_sitting.new.complex in
-    let l = c.close_sitting.new.member in
+    let z = c.end_sitting.new.complex in
+    let l = c.end_sitting.new.member in
     let d = c.do_command.ensures in
-    let tables = ap (λ (t : Tables). t.order) c.close_sitting.ensures.tables in
-    if_ok _ (λ e. IsSatOn g.P.Plant g.C.Copying (parts_of x) (parts_of z) m l c.args.holder.step e) c.close_sitting.result
-    (λ e on. record { sits = on.sits; grown = record { order = omega (arith, d.order, tables); high = rw d.level at on.grown.high; reached = on.grown.reached } }) c.close_sitting.ensures.again
+    let tables = ap (λ (t : Tables). t.order) c.end_sitting.ensures.tables in
+    if_ok _ (λ e. IsSatOn g.P.Plant g.C.Copying (parts_of x) (parts_of z) m l c.args.holder.step e) c.end_sitting.result
+    (λ e on. record { sits = on.sits; grown = record { order = omega (arith, d.order, tables); high = rw d.level at on.grown.high; reached = on.grown.reached } }) c.end_sitting.ensures.again

@@ -1,4 +1,4 @@
-use Rattle.std.proofs.Common.{◌≡◌, ◌∙◌, ℕ, ◌*◌, ◌≤◌, ◌<◌, true, false, List, Option, Err, length, refl, sym, ap, subst, arith}
+use Rattle.std.proofs.Common.{None, ◌≡◌, ◌∙◌, ℕ, ◌*◌, ◌≤◌, true, false, List, Option, Err, length, refl, sym, ap, subst, arith}
 use Rattle.std.proofs.Math.Logic.{∥∥₁_map}
 use Rattle.mas_types.specs.declared.ids.Dev.TheVariants.{Ckpt1, Ckpt2}
 use Rattle.mas_types.specs.declared.answers.Status.{Status}
@@ -9,7 +9,11 @@ use Rattle.mas_types.specs.declared.queues.Queue.{Queue}
 use Rattle.mas_types.specs.Fit.{IsConfig}
 use Rattle.mas_types.specs.Limits.{wires_most}
 use Rattle.mas_types.specs.Starts.{empty_queue}
-use Rattle.duplex_pair.specs.Halves.{SomeAlive}
+use Rattle.ckpt_places.specs.declared.places.Place.TheVariants.{Before}
+use Rattle.duplex_pair.specs.Halves.{SomeAlive, pick}
+use Rattle.mas_complex.specs.Crash.{CopyAt, copy_of, setting}
+use Rattle.mas_complex.proofs.Each.{each}
+use Rattle.mas_complex.proofs.Making.{rested_copy}
 use Rattle.spool_plant.specs.declared.plant.Part.TheVariants.{Disk as DiskPart}
 use Rattle.mas_complex.specs.Past.{noted_by}
 use Rattle.spool_plant.specs.View.{View, World, disk_now}
@@ -44,7 +48,7 @@ use Rattle.run_opening.proofs.EndLemmas.{begins_free, short_ends, small_ends, un
 use Rattle.run_opening.proofs.NotedLemmas.{nobody_noted_by}
 use Rattle.run_opening.proofs.ReaderLemmas.{readers_new}
 use Rattle.run_opening.proofs.ProceedLemmas.{proceeds_of}
-use Rattle.run_opening.proofs.OpeningLemmas.{begun_empty, caused_since, empty_texts, ever_on, formed_copy, formed_images, lost_ever, low_empty, orders_empty, reads_there, sound_base, sound_empty, told_empty, unarmed, unarmed_view}
+use Rattle.run_opening.proofs.OpeningLemmas.{begun_empty, caused_since, empty_texts, ever_on, formed_images, lost_ever, low_empty, orders_empty, reads_there, sound_base, sound_empty, told_empty, unarmed, unarmed_view}
 use Rattle.run_opening.proofs.RoomLemmas.{roomy_on}
 use Rattle.run_opening.proofs.VolumeLemmas.{kept_on}
 use Rattle.std.proofs.lemmas.List.Elements.{All-weaker}
@@ -63,11 +67,13 @@ make-complex-requires-clause-begins g c told =
     let routes = c.args.script.now.routes in
     let told_base : Tell k.tables c.in-Ok.field-0.base = told_empty config routes k.tables c.in-Ok.ensures.tables c.in-Ok.field-0.base c.in-Ok.ensures.base (c.law_of_told_queues.ensures.empty config routes) in
     let stand : StandFor c.in-Ok.field-0.base (bytes_of k.pages) = drawn_stand k.tables k.level k.levels k.pages c.in-Ok.field-0.base c.in-Ok.ensures.drawn (orders_empty config routes k.tables c.in-Ok.ensures.tables) told_base in
-    let first = formed_copy c.in-Ok.field-0.base v.now (form_rests n.first.copy) (form_holds n.first.copy) n.first.alive (disk_now v Ckpt1) (bytes_of k.pages)
+    let base = c.in-Ok.field-0.base in
+    let copies = λ (d : Dev). copy_of form_rests form_holds (pick d n.first n.second) Before in
+    let first = rested_copy (setting form_reads base v.now) Ckpt1 (copies Ckpt1) v (bytes_of k.pages) refl refl
     (λ is. rw c.as_slice.ensures at (f.formed1 told is)) (λ not lt. f.gone1 told c.new-pair.ensures.alive.0 not lt) in
-    let second = formed_copy c.in-Ok.field-0.base v.now (form_rests n.second.copy) (form_holds n.second.copy) n.second.alive (disk_now v Ckpt2) (bytes_of k.pages)
+    let second = rested_copy (setting form_reads base v.now) Ckpt2 (copies Ckpt2) v (bytes_of k.pages) refl refl
     (λ is. rw c.as_slice.ensures at (f.formed2 told is)) (λ not lt. f.gone2 told c.new-pair.ensures.alive.1 not lt) in
-    ∣ record { pages = bytes_of k.pages; stands = record { at_level = drawn_level k.tables k.level k.levels k.pages c.in-Ok.ensures.drawn; queue = stand }; texts = empty_texts c.args.script.now.config c.args.script.now.routes (lost_now v) (spools_at v v.now) c.in-Ok.field-0.base c.in-Ok.ensures.base; first_at = first; second_at = second } ∣₁
+    ∣ record { pages = bytes_of k.pages; stands = record { at_level = drawn_level k.tables k.level k.levels k.pages c.in-Ok.ensures.drawn; queue = stand }; texts = empty_texts c.args.script.now.config c.args.script.now.routes (lost_now v) (spools_at v v.now) c.in-Ok.field-0.base c.in-Ok.ensures.base; at = each (λ d. CopyAt (setting form_reads base v.now) (bytes_of k.pages) None d (copies d) v) first second } ∣₁
 
 pub start-requires-clause-routes : goal.start-requires-clause-routes
 start-requires-clause-routes g c = All-weaker IsScriptRoute IsRoute (λ r is. record { name = is.name; line = is.line }) c.args.script.now.routes c.requires.fits.routes

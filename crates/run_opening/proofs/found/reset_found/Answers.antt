@@ -55,7 +55,7 @@ returns-in_default-clause-ended g c =
     let none : J.batches ≡ [] = e.journal ∙ none_out x.journal.batches x.journal.batches x.placed x.current refl c.requires.unplaced c.requires.none ∙ c.requires.journal in
     rw (e.status, e.base, e.since, e.plant)
     (unreset x J v c.requires.base_sound c.requires.since head {T = Unit {0}} x.pair.first.alive x.pair.second.alive no_node.NoMemory c.requires.some c.requires.there1 c.requires.there2
-    (λ dead. x.lost.0 dead (ap (λ (rs : Renewals). is_open rs.first) c.requires.unrenewed)) (λ dead. x.lost.1 dead (ap (λ (rs : Renewals). is_open rs.second) c.requires.unrenewed))
+    (λ dead. x.lost Ckpt1 tt dead (ap (λ (rs : Renewals). is_open rs.first) c.requires.unrenewed)) (λ dead. x.lost Ckpt2 tt dead (ap (λ (rs : Renewals). is_open rs.second) c.requires.unrenewed))
     (reset_none P.tells J.batches x.pair.first.alive x.pair.first.alive x.pair.second.alive x.pair.second.alive v v (settle_none P.tells x.pair.first.alive x.pair.second.alive v c.requires.some) none))
 
 pub returns-in_default-readers_of-clause-ended : goal.returns-in_default-readers_of-clause-ended
@@ -69,7 +69,7 @@ returns-in_default-readers_of-clause-ended g c =
     let none : J.batches ≡ [] = e.journal ∙ none_out x.journal.batches x.journal.batches x.placed x.current refl c.requires.unplaced c.requires.none ∙ c.requires.journal in
     rw (e.status, e.base, e.since, e.plant)
     (unreset x J v c.requires.base_sound c.requires.since head {T = Unit {0}} x.pair.first.alive x.pair.second.alive no_node.NoMemory c.requires.some c.requires.there1 c.requires.there2
-    (λ dead. x.lost.0 dead (ap (λ (rs : Renewals). is_open rs.first) c.requires.unrenewed)) (λ dead. x.lost.1 dead (ap (λ (rs : Renewals). is_open rs.second) c.requires.unrenewed))
+    (λ dead. x.lost Ckpt1 tt dead (ap (λ (rs : Renewals). is_open rs.first) c.requires.unrenewed)) (λ dead. x.lost Ckpt2 tt dead (ap (λ (rs : Renewals). is_open rs.second) c.requires.unrenewed))
     (reset_none P.tells J.batches x.pair.first.alive x.pair.first.alive x.pair.second.alive x.pair.second.alive v v (settle_none P.tells x.pair.first.alive x.pair.second.alive v c.requires.some) none))
 
 pub returns-in_default-with-clause-ended : goal.returns-in_default-with-clause-ended
@@ -83,7 +83,7 @@ returns-in_default-with-clause-ended g c =
     let none : J.batches ≡ [] = e.journal ∙ none_out x.journal.batches x.journal.batches x.placed x.current refl c.requires.unplaced c.requires.none ∙ c.requires.journal in
     rw (e.status, e.base, e.since, e.plant)
     (unreset x J v c.requires.base_sound c.requires.since head {T = Unit {0}} x.pair.first.alive x.pair.second.alive no_node.NoMemory c.requires.some c.requires.there1 c.requires.there2
-    (λ dead. x.lost.0 dead (ap (λ (rs : Renewals). is_open rs.first) c.requires.unrenewed)) (λ dead. x.lost.1 dead (ap (λ (rs : Renewals). is_open rs.second) c.requires.unrenewed))
+    (λ dead. x.lost Ckpt1 tt dead (ap (λ (rs : Renewals). is_open rs.first) c.requires.unrenewed)) (λ dead. x.lost Ckpt2 tt dead (ap (λ (rs : Renewals). is_open rs.second) c.requires.unrenewed))
     (reset_none P.tells J.batches x.pair.first.alive x.pair.first.alive x.pair.second.alive x.pair.second.alive v v (settle_none P.tells x.pair.first.alive x.pair.second.alive v c.requires.some) none))
 
 -- RESTART
@@ -138,7 +138,7 @@ returns-in-Err-clause-ended g c =
     let head : P.tells → ∥ Headline form_reads x.base x.since J no_renewals w ∥₁ = λ t. rw (e.base, e.since, e.plant, k.base, k.since, k.renewals, c.requires.unrenewed) at (e.headline t) in
     rw (e.status, c.status_of.ensures, e.base, e.since, e.plant, k.base, k.since)
     (unreset x J w c.requires.base_sound c.requires.since head {T = Unit {0}} y.pair.first.alive y.pair.second.alive c.in-Err.why c.requires.some c.requires.there1 c.requires.there2
-    (λ dead. y.lost.0 dead (ap (λ (rs : Renewals). is_open rs.first) (k.renewals ∙ c.requires.unrenewed))) (λ dead. y.lost.1 dead (ap (λ (rs : Renewals). is_open rs.second) (k.renewals ∙ c.requires.unrenewed)))
+    (λ dead. y.lost Ckpt1 tt dead (ap (λ (rs : Renewals). is_open rs.first) (k.renewals ∙ c.requires.unrenewed))) (λ dead. y.lost Ckpt2 tt dead (ap (λ (rs : Renewals). is_open rs.second) (k.renewals ∙ c.requires.unrenewed)))
     (rw e.journal k.reset))
 
 -- A RUN THAT IS OPEN

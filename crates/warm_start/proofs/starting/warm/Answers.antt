@@ -1,11 +1,17 @@
-use Rattle.std.proofs.Common.{◌∙◌, ◌≤◌, false, Bool, inl, inr, ℕ, length, Err, refl, sym, ap, subst}
+use Rattle.std.proofs.Common.{None, ◌∙◌, ◌≤◌, false, Bool, inl, inr, ℕ, length, Err, refl, sym, ap, subst}
+use Rattle.mas_types.specs.declared.ids.Dev.{Dev}
 use Rattle.mas_types.specs.declared.ids.Dev.TheVariants.{Ckpt1, Ckpt2}
+use Rattle.ckpt_places.specs.declared.places.Place.TheVariants.{Before}
+use Rattle.duplex_pair.specs.Halves.{pick}
+use Rattle.mas_complex.specs.Crash.{CopyAt, copy_of, setting}
+use Rattle.mas_complex.proofs.Each.{each}
+use Rattle.mas_complex.proofs.Making.{rested_copy}
 use Rattle.spool_plant.specs.View.{disk_now}
 use Rattle.ckpt_copy.specs.Pages.{bytes_of, level}
 use Rattle.mas_types.specs.declared.queues.Config.{Config}
 use Rattle.mas_complex.specs.Texts.{HasTexts, lost_now, spools_at}
 use Rattle.warm_start.specs.Starting.{IsHeld, OneFailed, Starts}
-use Rattle.warm_start.proofs.Begun.{stand_of, rested_copy, one_called, by_loss, lost_both}
+use Rattle.warm_start.proofs.Begun.{stand_of, one_called, by_loss, lost_both}
 use Rattle.warm_start.proofs.Brought.{brought}
 use Rattle.warm_start.proofs.Prepared.{given_kept, held_all, texts_left}
 use Rattle.warm_start.proofs.Spooling.{roomy_later, steady_first, steady_then}
@@ -62,15 +68,16 @@ make-complex-requires-clause-begins g c told =
     let F = c.in-Ok.ready.start.found in
     let base = c.in-Ok.ready.base in
     let pages = bytes_of F.pages in
-    let first = rested_copy C.reads base v.now (C.rests n.first.copy) (C.holds n.first.copy) n.first.alive (disk_now v Ckpt1) pages
+    let copies = λ (d : Dev). copy_of C.rests C.holds (pick d n.first n.second) Before in
+    let first = rested_copy (setting C.reads base v.now) Ckpt1 (copies Ckpt1) v pages refl refl
     (λ is. c.in-Ok-bring.ensures.rests1 told is) (λ dead lt. c.bring.ensures.gone1 told (c.prepare.ensures.gone1 told) refl dead lt) in
-    let second = rested_copy C.reads base v.now (C.rests n.second.copy) (C.holds n.second.copy) n.second.alive (disk_now v Ckpt2) pages
+    let second = rested_copy (setting C.reads base v.now) Ckpt2 (copies Ckpt2) v pages refl refl
     (λ is. c.in-Ok-bring.ensures.rests2 told is) (λ dead lt. c.bring.ensures.gone2 told (c.prepare.ensures.gone2 told) refl dead lt) in
     let at_level = sym (c.pages_level-level.ensures ∙ ap (λ ps. level (bytes_of ps)) c.as_slice.ensures) in
     let queue = stand_of base F.pages F.tables c.in-Ok.ensures.chosen.sized c.in-Ok.ensures.chosen.usable.0 c.in-Ok.ensures.chosen.usable.1.sound c.in-Ok.ensures.tell in
     let texts = subst (λ (cfg : Config). HasTexts (lost_now v) (spools_at v v.now) cfg.groups base) (sym c.in-Ok.ensures.tell.config)
     (texts_left F.tables.config.groups base (IsHeld C.reads (disk_now mid Ckpt1) pages) (IsHeld C.reads (disk_now mid Ckpt2) pages) mid v (c.bring.ensures.during told) (c.in-Ok.ensures.texts told)) in
-    ∣ record { pages = pages; stands = record { at_level = at_level; queue = queue }; texts = texts; first_at = first; second_at = second } ∣₁
+    ∣ record { pages = pages; stands = record { at_level = at_level; queue = queue }; texts = texts; at = each (λ d. CopyAt (setting C.reads base v.now) pages None d (copies d) v) first second } ∣₁
 
 pub returns-clause-fresh : goal.returns-clause-fresh
 returns-clause-fresh g c told =

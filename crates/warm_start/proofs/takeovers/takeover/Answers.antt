@@ -1,13 +1,16 @@
 use Rattle.std.proofs.Common.{ℕ, List, ap, subst, sym}
+use Rattle.mas_types.specs.declared.ids.Dev.{Dev}
 use Rattle.mas_types.specs.declared.ids.Dev.TheVariants.{Ckpt1, Ckpt2}
 use Rattle.mas_types.specs.declared.queues.Queue.{Queue}
 use Rattle.mas_types.specs.Fit.{IsConfig}
-use Rattle.spool_plant.specs.View.{Disk, disk_now}
+use Rattle.spool_plant.specs.View.{disk_now}
 use Rattle.ckpt_copy.specs.Pages.{bytes_of}
+use Rattle.duplex_pair.specs.Halves.{pick}
+use Rattle.mas_complex.specs.Crash.{Copy, copy_of}
 use Rattle.mas_complex.specs.Journals.{kept_all}
 use Rattle.mas_complex.specs.Meaning.{run}
 use Rattle.mas_complex.specs.Parts.{parts_of}
-use Rattle.warm_start.proofs.Taking.{first_images, found_seized, second_images}
+use Rattle.warm_start.proofs.Taking.{at_images, found_seized}
 use Rattle.warm_start.proofs.takeovers.takeover.Goals as goal
 
 pub returns-in-Ok-clause-tells : goal.returns-in-Ok-clause-tells
@@ -17,11 +20,9 @@ returns-in-Ok-clause-tells g c =
     let s = c.recover.new.self in
     let found = c.in-Ok.ensures in
     let Q : Queue = run s.base (kept_all s.journal.batches) in
-    let one : Disk = disk_now (g.P.Plant.view s.plant) Ckpt1 in
-    let two : Disk = disk_now (g.P.Plant.view s.plant) Ckpt2 in
+    let v = g.P.Plant.view s.plant in
+    let copies : Dev → Copy = λ d. copy_of C.rests C.holds (pick d s.pair.first s.pair.second) (pick d s.first s.second) in
     let pages : List ℕ = bytes_of c.in-Ok.pages in
-    let rests1 = C.rests s.pair.first.copy in
-    let rests2 = C.rests s.pair.second.copy in
     found_seized g.P.Plant C (parts_of c.args.complex.now) (parts_of c.seize.new.self) (parts_of s) _ c.in-Ok.pages c.seize.ensures.frame (record {
       some = found.ok;
       many = found.many;
@@ -31,15 +32,15 @@ returns-in-Ok-clause-tells g c =
         at_rest = found.first alive;
         as_many = found.as_many1 alive;
         now = λ t. found.reads1 t alive;
-        images = λ t. first_images C.reads Q s.level rests1 rests2 s.pair.first.alive s.pair.second.alive s.first s.second one two (c.kept_pages.ensures.kept t) pages
-            (λ was rest. laws.rests_reads s.pair.first.copy was one rest) alive (found.first alive) (found.reads1 t alive);
+        images = λ t. at_images C.reads Q s.level copies v (c.kept_pages.ensures.kept t) pages Ckpt1 tt
+            (λ was rest. laws.rests_reads s.pair.first.copy was (disk_now v Ckpt1) rest) alive (found.first alive) (found.reads1 t alive);
       };
       second = λ alive. record {
         at_rest = found.second alive;
         as_many = found.as_many2 alive;
         now = λ t. found.reads2 t alive;
-        images = λ t. second_images C.reads Q s.level rests1 rests2 s.pair.first.alive s.pair.second.alive s.first s.second one two (c.kept_pages.ensures.kept t) pages
-            (λ was rest. laws.rests_reads s.pair.second.copy was two rest) alive (found.second alive) (found.reads2 t alive);
+        images = λ t. at_images C.reads Q s.level copies v (c.kept_pages.ensures.kept t) pages Ckpt2 tt
+            (λ was rest. laws.rests_reads s.pair.second.copy was (disk_now v Ckpt2) rest) alive (found.second alive) (found.reads2 t alive);
       };
       stands = found.stands;
       picked = found.picked;

@@ -1,22 +1,19 @@
-use Rattle.mas_complex.proofs.Names.{subst, ℕ, List, sym, ◌≤◌, Bool, true, ∥∥₁_map, Setting, setting_with, copy_of, in_flight, AreSettled, AreFew, Batch}
+use Rattle.mas_complex.proofs.Names.{subst, ℕ, List, sym, ◌≤◌, Bool, true, ∥∥₁_map, in_flight, AreSettled, AreFew, Batch}
 use Rattle.mas_complex.proofs.Fating.{is_place}
 use Rattle.mas_complex.proofs.Batches.{placed_all, placed_settled}
 use Rattle.mas_complex.proofs.Moves.{place_keeps}
 use Rattle.mas_complex.proofs.Replied.{placed_replied}
 use Rattle.mas_complex.proofs.Papers.{place_on_paper}
 use Rattle.mas_complex.proofs.Short.{few_placed}
+use Rattle.mas_complex.proofs.Values.{copies_of, setting_of}
 use Rattle.mas_complex.proofs.complex.Complex.add_place.Goals as goal
 
 pub invariant_of-self-2-clause-kept : goal.invariant_of-self-2-clause-kept
 invariant_of-self-2-clause-kept g c told =
     let s = c.args.self.now in
-    let C = g.C.Copying in
-    let S : Setting = setting_with C.reads s.base s.since s.renewals in
-    let first = copy_of (C.rests s.pair.first.copy) (C.holds s.pair.first.copy) s.pair.first.alive s.first in
-    let second = copy_of (C.rests s.pair.second.copy) (C.holds s.pair.second.copy) s.pair.second.alive s.second in
     let old = g.P.Plant.view s.plant in
     let place = is_place c.empty_place-place.result c.now.result (record { 0 = 0 }) c.empty_place-place.ensures in
-    ∥∥₁_map (s.kept told) (λ k. rw (c.in_ok-push_place.ensures.ok) (place_keeps S s.journal.batches c.empty_place-place.result s.current s.level first second old place.0 place.1 (subst (λ (n : ℕ). c.empty_place-place.result.last ≤ n) c.now.ensures place.2) k))
+    ∥∥₁_map (s.kept told) (λ k. rw (c.in_ok-push_place.ensures.ok) (place_keeps (setting_of s) s.journal.batches c.empty_place-place.result s.current s.level (copies_of s) old place.0 place.1 (subst (λ (n : ℕ). c.empty_place-place.result.last ≤ n) c.now.ensures place.2) k))
 
 pub invariant_of-self-2-clause-place : goal.invariant_of-self-2-clause-place
 invariant_of-self-2-clause-place g c =

@@ -1,22 +1,20 @@
-use Rattle.mas_complex.proofs.Names.{refl, subst, sym, ◌≡◌, ◌∙◌, ap, List, Option, ◌-◌, ◌^◌, All, arith, ◌++◌, length, ◌≤◌, ∥∥₁_map, ∥∥₁_elim, ∥∥₁_prop, ∥∥₁_map₂, spools_at, lost_now, HasTexts, Batch, Entry, Flying, entries_reserved, AreSettled, IsBegun, in_flight, kept_all, entries_most, Keeps, Setting, setting_with, copy_of, IsUntold, run, HaveReplies, AreReplied, AreAllowed, KeepsPaper, counts_of}
+use Rattle.mas_complex.proofs.Names.{refl, subst, sym, ◌≡◌, ◌∙◌, ap, List, Option, ◌-◌, ◌^◌, All, arith, ◌++◌, length, ◌≤◌, ∥∥₁_map, ∥∥₁_elim, ∥∥₁_prop, ∥∥₁_map₂, spools_at, lost_now, HasTexts, Batch, Entry, Flying, entries_reserved, AreSettled, IsBegun, in_flight, kept_all, entries_most, Keeps, IsUntold, run, HaveReplies, AreReplied, AreAllowed, KeepsPaper, counts_of}
 use Rattle.mas_complex.proofs.Moves.{begins_keep}
 use Rattle.mas_complex.proofs.Replied.{begun_replied}
 use Rattle.mas_complex.proofs.Papers.{begins_on_paper, counts_fall}
 use Rattle.mas_complex.proofs.Standing.{owned_own}
+use Rattle.mas_complex.proofs.Values.{copies_of, setting_of}
 use Rattle.mas_complex.proofs.complex.Complex.begin.Goals as goal
 
 pub invariant_of-self-clause-kept : goal.invariant_of-self-clause-kept
 invariant_of-self-clause-kept g c told =
     let s = c.args.self.now in
-    let C = g.C.Copying in
-    let S : Setting = setting_with C.reads s.base s.since s.renewals in
-    let first = copy_of (C.rests s.pair.first.copy) (C.holds s.pair.first.copy) s.pair.first.alive s.first in
-    let second = copy_of (C.rests s.pair.second.copy) (C.holds s.pair.second.copy) s.pair.second.alive s.second in
+    let S = setting_of s in
     let old = g.P.Plant.view s.plant in
     let es = c.in-Some.entries in
     let e : entries_reserved s.reserved ≡ es = ap entries_reserved (sym c.take.ensures.value ∙ c.in-Some.is) in
-    ∥∥₁_elim (s.kept told) ∥∥₁_prop (λ k. ∥∥₁_map (c.requires.texts told) (λ has. begins_keep S s.journal.batches (record { first = c.now-first.result; last = 2 ^ 64 - 1; by = c.args.by; fate = Flying; entries = es }) s.level first second old
-    (subst (λ (x : Option Batch). Keeps S s.journal.batches x s.level first second old) c.requires.none k) refl c.now-first.ensures
+    ∥∥₁_elim (s.kept told) ∥∥₁_prop (λ k. ∥∥₁_map (c.requires.texts told) (λ has. begins_keep S s.journal.batches (record { first = c.now-first.result; last = 2 ^ 64 - 1; by = c.args.by; fate = Flying; entries = es }) s.level (copies_of s) old
+    (subst (λ (x : Option Batch). Keeps S s.journal.batches x s.level (copies_of s) old) c.requires.none k) refl c.now-first.ensures
     (subst (λ (l : List Entry). IsUntold S old l) e (c.requires.untold told))
     (subst (λ (l : List Entry). HasTexts (lost_now old) (spools_at old old.now) s.base.config.groups (run s.base (kept_all s.journal.batches ++ l))) e has)))
 

@@ -1,10 +1,12 @@
-use Rattle.mas_complex.proofs.Names.{other, bytes_of, Ckpt1, Ckpt2, values_of, page_count, ∥∥₁_map, ◌∙◌, ap, parts_of}
+use Rattle.mas_complex.proofs.Names.{other, bytes_of, Ckpt1, Ckpt2, values_of, page_count, ∥∥₁_map, ◌∙◌, ap, parts_of, HasPast}
 use Rattle.mas_complex.proofs.Basics.{before_opened}
-use Rattle.mas_complex.proofs.Pasts.{lasts_beside, opened_unsure, reads_later, seen}
+use Rattle.mas_complex.proofs.Pasts.{opened_unsure, reads_later}
 use Rattle.mas_complex.proofs.Apart.{bytes_else, on_one, on_then}
 use Rattle.mas_complex.proofs.Frames.{frame_then}
 use Rattle.mas_complex.proofs.Numbered.{are_pages_of}
 use Rattle.mas_complex.proofs.Choosing.{some_beside}
+use Rattle.mas_complex.proofs.Each.{of_beside}
+use Rattle.mas_complex.proofs.Values.{sight_at}
 use Rattle.mas_complex.proofs.complex.Complex.bring_copy.Goals as goal
 
 pub returns-in_err-put_on-clause-apart : goal.returns-in_err-put_on-clause-apart
@@ -60,9 +62,8 @@ returns-clause-some g c =
 pub put_on-requires-clause-later : goal.put_on-requires-clause-later
 put_on-requires-clause-later g c told =
     let s = c.args.self.now in
-    let C = g.C.Copying in
     let dev = c.args.dev in
     let v = g.P.Plant.view s.plant in
     let same = c.requires.same told c.requires.beside in
-    ∥∥₁_map (s.lasting told) (λ l alive. reads_later (page_count s.base.config) (values_of s.had) (seen (λ h. h.alive) C.reads (λ h. C.behind h.copy) (other dev s.pair.first s.pair.second) (other dev s.first s.second) v (other dev Ckpt1 Ckpt2)) (bytes_of c.args.found.now)
-    (lasts_beside (λ h. h.alive) C.reads (λ h. C.behind h.copy) (page_count s.base.config) (values_of s.had) dev c.requires.ckpt s.pair.first s.pair.second s.first s.second v l) c.requires.beside (λ unsure. absurd (opened_unsure (other dev s.first s.second) same.0 unsure)) same.1)
+    ∥∥₁_map (s.lasting told) (λ l alive. reads_later (page_count s.base.config) (values_of s.had) (sight_at s (other dev s.pair.first s.pair.second) (other dev s.first s.second) (other dev Ckpt1 Ckpt2) v) (bytes_of c.args.found.now)
+    (of_beside (λ d h p. HasPast (page_count s.base.config) (values_of s.had) (sight_at s h p d v)) dev c.requires.ckpt s.pair.first s.pair.second s.first s.second l) c.requires.beside (λ unsure. absurd (opened_unsure (other dev s.first s.second) same.0 unsure)) same.1)

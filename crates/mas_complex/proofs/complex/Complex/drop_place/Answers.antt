@@ -1,19 +1,16 @@
-use Rattle.mas_complex.proofs.Names.{true, List, Option, None, ◌++◌, subst, sym, false, ∥∥₁_map₂, Batch, Setting, setting_with, copy_of, in_flight, AreSettled, AreFew, AreReplied}
+use Rattle.mas_complex.proofs.Names.{true, List, Option, None, ◌++◌, subst, sym, false, ∥∥₁_map₂, Batch, in_flight, AreSettled, AreFew, AreReplied}
 use Rattle.mas_complex.proofs.BatchEnds.{few_at_end}
 use Rattle.mas_complex.proofs.Fating.{has_ends}
 use Rattle.mas_complex.proofs.Standing.{settled_without_last, unplaced_keeps, unplaced_on_paper, unplaced_replied}
 use Rattle.mas_complex.proofs.Short.{few_unplaced}
+use Rattle.mas_complex.proofs.Values.{copies_of, setting_of, view_of}
 use Rattle.mas_complex.proofs.complex.Complex.drop_place.Goals as goal
 
 pub invariant_of-self-clause-kept : goal.invariant_of-self-clause-kept
 invariant_of-self-clause-kept g c told =
     let s = c.args.self.now in
-    let C = g.C.Copying in
-    let S : Setting = setting_with C.reads s.base s.since s.renewals in
-    let first = copy_of (C.rests s.pair.first.copy) (C.holds s.pair.first.copy) s.pair.first.alive s.first in
-    let second = copy_of (C.rests s.pair.second.copy) (C.holds s.pair.second.copy) s.pair.second.alive s.second in
     ∥∥₁_map₂ (s.kept told) s.place (λ k has. rw c.drop_last.ensures
-    (unplaced_keeps s.journal.batches (has_ends s.placed s.journal.batches c.requires.placed has) S s.current s.level first second (g.P.Plant.view s.plant) k))
+    (unplaced_keeps s.journal.batches (has_ends s.placed s.journal.batches c.requires.placed has) (setting_of s) s.current s.level (copies_of s) (view_of s) k))
 
 pub invariant_of-self-clause-replied : goal.invariant_of-self-clause-replied
 invariant_of-self-clause-replied g c told =

@@ -1,4 +1,4 @@
-use Rattle.mas_complex.proofs.Names.{refl, subst, sym, ◌≡◌, ◌∙◌, ap, List, Option, ◌++◌, All, arith, false, length, ◌≤◌, ∥∥₁_map, ∥∥₁_elim, ∥∥₁_prop, ∥∥₁_map₂, Batch, Entry, Kept, Flying, kept_all, entries_reserved, AreSettled, in_flight, with_last, entries_most, AreFew, Keeps, Setting, setting_with, copy_of, IsUntold, run, spools_at, lost_now, HasTexts, HaveReplies, AreToldAlike, AreAllowed, KeepsPaper, counts_of}
+use Rattle.mas_complex.proofs.Names.{refl, subst, sym, ◌≡◌, ◌∙◌, ap, List, Option, ◌++◌, All, arith, false, length, ◌≤◌, ∥∥₁_map, ∥∥₁_elim, ∥∥₁_prop, ∥∥₁_map₂, Batch, Entry, Kept, Flying, kept_all, entries_reserved, AreSettled, in_flight, with_last, entries_most, AreFew, Keeps, IsUntold, run, spools_at, lost_now, HasTexts, HaveReplies, AreToldAlike, AreAllowed, KeepsPaper, counts_of}
 use Rattle.mas_complex.proofs.Fating.{has_ends, same_placed, stand_alike}
 use Rattle.mas_complex.proofs.Replied.{and_none, with_replied}
 use Rattle.mas_complex.proofs.Papers.{counts_fall}
@@ -6,23 +6,21 @@ use Rattle.mas_complex.proofs.PaperEnds.{same_on_paper}
 use Rattle.mas_complex.proofs.BatchEnds.{few_with_last}
 use Rattle.mas_complex.proofs.Standing.{settled_with_last}
 use Rattle.mas_complex.proofs.Short.{few_last}
+use Rattle.mas_complex.proofs.Values.{copies_of, half_of, laws_of, place_of, setting_of}
 use Rattle.mas_complex.proofs.complex.Complex.keep_same.Goals as goal
 
 pub invariant_of-self-clause-kept : goal.invariant_of-self-clause-kept
 invariant_of-self-clause-kept g c told =
     let s = c.args.self.now in
-    let C = g.C.Copying in
-    let S : Setting = setting_with C.reads s.base s.since s.renewals in
-    let first = copy_of (C.rests s.pair.first.copy) (C.holds s.pair.first.copy) s.pair.first.alive s.first in
-    let second = copy_of (C.rests s.pair.second.copy) (C.holds s.pair.second.copy) s.pair.second.alive s.second in
+    let S = setting_of s in
     let old = g.P.Plant.view s.plant in
     let es = c.in-Some.entries in
     let e : entries_reserved s.reserved ≡ es = ap entries_reserved (sym c.take.ensures.value ∙ c.in-Some.is) in
     ∥∥₁_elim (s.kept told) ∥∥₁_prop (λ k. ∥∥₁_elim (c.requires.texts told) ∥∥₁_prop (λ texts. ∥∥₁_elim (c.requires.queue told) ∥∥₁_prop (λ alike. ∥∥₁_map s.place (λ has. rw (c.set_last.ensures, c.requires.none)
-    (same_placed S s.level first second old (λ pages d r. g.met.C.Copying.rests_reads s.pair.first.copy pages d r) (λ was next d r. g.met.C.Copying.holds_reads s.pair.first.copy was next d r) (λ pages d r. g.met.C.Copying.rests_reads s.pair.second.copy pages d r) (λ was next d r. g.met.C.Copying.holds_reads s.pair.second.copy was next d r) s.journal.batches (has_ends s.placed s.journal.batches (s.place_reserved c.requires.reserved) has)
+    (same_placed S s.level (copies_of s) old (λ d. (laws_of g.world g.met.P.Plant g.met.C.Steady g.met.C.Copying).reads (half_of s d) (place_of s d)) s.journal.batches (has_ends s.placed s.journal.batches (s.place_reserved c.requires.reserved) has)
     (record { first = c.now-now.result; last = c.now-now.result; by = c.args.by; fate = Kept; entries = es })
     (record { first = c.now-now.result; last = 0; by = c.args.by; fate = Flying; entries = es })
-    (subst (λ (x : Option Batch). Keeps S s.journal.batches x s.level first second old) c.requires.none k) refl c.now-now.ensures
+    (subst (λ (x : Option Batch). Keeps S s.journal.batches x s.level (copies_of s) old) c.requires.none k) refl c.now-now.ensures
     (subst (λ (l : List Entry). IsUntold S old l) e (c.requires.untold told)) refl refl refl c.now-now.ensures
     (λ pages. stand_alike (S.run S.base (kept_all s.journal.batches)) (S.run S.base (kept_all s.journal.batches ++ es)) pages
     (subst (λ (l : List Entry). AreToldAlike (S.run S.base (kept_all s.journal.batches)) (S.run S.base (kept_all s.journal.batches ++ l))) e alike))

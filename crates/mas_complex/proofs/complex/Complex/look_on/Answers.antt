@@ -1,11 +1,11 @@
-use Rattle.mas_complex.proofs.Names.{◌≡◌, ◌++◌, Result, Ok, Err, IfOk, ap, refl, subst, sym, ∥∥₁_map, ∥∥₁_elim, Coded-set, coded_ℕ, NoMore, bytes_of, Place, page_count, pick, WasSeen, Look, Lost, Unread, Pages, LookNo, disk_now, Disk as DiskPart, kept_all, entries_in, run, Elsewhere, values_of, HasNext, IsPlaceSeen}
+use Rattle.mas_complex.proofs.Names.{◌≡◌, ◌++◌, Result, Ok, Err, IfOk, ap, refl, subst, sym, ∥∥₁_map, ∥∥₁_elim, Coded-set, coded_ℕ, NoMore, bytes_of, Place, page_count, pick, WasSeen, Look, Lost, Unread, Pages, LookNo, disk_now, Disk as DiskPart, kept_all, entries_in, run, Elsewhere, values_of, HasNext, IsPlaceSeen, List, false, true, Page}
 use Rattle.mas_complex.proofs.Apart.{elsewhere_of, on_one}
-use Rattle.mas_complex.proofs.Calls.{Call, at_here, facts_on, frame_of, here, keeps_same, lost_acted, new, old, past_here, place_is, place_was, there}
+use Rattle.mas_complex.proofs.Calls.{Call, copy_here, copy_there, facts_on, frame_of, here, keeps_same, lost_acted, new, old, past_here, place_is, place_was, there}
 use Rattle.mas_complex.proofs.Looking.{look_side, look_next, look_stands, some_entries}
-use Rattle.mas_complex.proofs.OnDevice.{fit_was, seen_fits}
-use Rattle.mas_complex.proofs.Pasts.{not_lost, past_looked, seen}
+use Rattle.mas_complex.proofs.OnDevice.{seen_fits}
+use Rattle.mas_complex.proofs.Pasts.{not_lost, past_looked}
 use Rattle.mas_complex.proofs.Shows.{look_bytes}
-use Rattle.mas_complex.proofs.Values.{KeepsAt, laws_of, setting_of}
+use Rattle.mas_complex.proofs.Values.{KeepsAt, copies_of, laws_of, setting_of, sight_at}
 use Rattle.mas_complex.proofs.complex.Complex.look_on.Given.{Over}
 use Rattle.mas_complex.proofs.complex.Complex.look_on.Goals.{After-set_place}
 use Rattle.mas_complex.proofs.complex.Complex.look_on.Goals as goal
@@ -32,6 +32,15 @@ elsewhere g c told =
     let x = call g c in
     elsewhere_of x.dev (NoMore (disk_now (old x) x.dev)) (old x) (new x) (c.look-done.ensures.during told)
 
+-- what was found on the copy, if pages were
+found : (g : Over) (c : After-set_place g) → g.P.Plant.tells → (pages : List Page) → c.look-done.result ≡ Ok (Pages pages)
+    → ((there (call g c)).alive ≡ true) × ((new (call g c)).lost (DiskPart c.args.dev) ≡ false) × g.C.Copying.rests (there (call g c)).copy (bytes_of pages) (disk_now (new (call g c)) c.args.dev)
+found g c told pages is =
+    let x = call g c in
+    let C = g.C.Copying in
+    let seen = subst (λ (r : Result Look LookNo). IfOk r (λ look. WasSeen C.count C.room C.room_most C.ready C.reads C.rests g.P.Plant.tells x.dev (new x) (here x).copy (there x).copy (there x).alive look)) is c.look-done.ensures.seen in
+    (seen.is_alive, seen.there, seen.found told)
+
 pub invariant_of-self : goal.invariant_of-self
 invariant_of-self g c =
     let x = call g c in
@@ -40,15 +49,14 @@ invariant_of-self g c =
     let same = λ (told : g.P.Plant.tells). look_bytes (old x) (new x) x.dev x.ckpt (e.during told) in
     facts_on x e.acted.goes (elsewhere g c)
     (λ told. ∥∥₁_map (x.was.kept told) (λ k. keeps_same x k
-    (look_side (setting_of x.was) k.was k.coming x.dev (old x) (new x) (C.rests (here x).copy) (C.holds (here x).copy) (place_was x) (place_is x) (here x).alive (there x).alive C.count C.room C.room_most C.ready C.rests C.holds (here x).copy (there x).copy (at_here x k)
-    e.acted.goes e.acted.alive (λ dead. ap g.P.Plant.view (e.idle dead)) (e.gone told) g.P.Plant.tells told (λ l. x.laws.there x.plant told x.dev l) c.look-done.result (e.during told) e.seen x.was.level (kept_all x.was.journal.batches) (entries_in x.was.current) k.stands k.comes (after g c)
-    (λ pages d r. x.laws.rests_reads (here x).copy pages d r) (λ was next d r. x.laws.holds_reads (here x).copy was next d r) (λ pages d r. x.laws.rests_reads (there x).copy pages d r))))
+    (look_side (setting_of x.was) k.was k.coming x.dev (copy_here x) (copy_there x) (old x) (new x) (k.at x.dev x.ckpt) e.acted.alive (x.laws.reads (here x) (place_was x)) (x.laws.reads (there x) (place_is x)) (λ l. x.laws.there x.plant told x.dev l) c.look-done.result (e.during told) (found g c told) x.was.level (kept_all x.was.journal.batches) (entries_in x.was.current) k.stands k.comes (after g c)
+    (λ dead. ap g.P.Plant.view (e.idle dead)) (e.gone told))))
     (λ told. ∥∥₁_map (past_here x told) (λ l.
-    past_looked (page_count x.was.base.config) (values_of x.was.had) (seen (λ h. h.alive) C.reads (λ h. C.behind h.copy) (here x) (place_was x) (old x) x.dev) (seen (λ h. h.alive) C.reads (λ h. C.behind h.copy) (there x) (place_is x) (new x) x.dev) x.was.level c.look-done.result
+    past_looked (page_count x.was.base.config) (values_of x.was.had) (sight_at x.was (here x) (place_was x) x.dev (old x)) (sight_at x.was (there x) (place_is x) x.dev (new x)) x.was.level c.look-done.result
     l e.acted.alive (not_lost (old x) (new x) e.acted.goes (DiskPart x.dev)) (ap C.reads (same told x.dev))
-    (λ pages is. (subst (λ (r : Result Look LookNo). IfOk r (λ look. WasSeen C.count C.room C.room_most C.ready C.reads C.rests g.P.Plant.tells x.dev (new x) (here x).copy (there x).copy (there x).alive look)) is e.seen).there) (after g c)))
-    (λ now. seen_fits (λ h. h.copy) (λ h. h.alive) C.count C.room C.room_most C.ready C.reads C.rests g.P.Plant.tells x.dev (new x) (here x) (there x) c.look-done.result e.seen e.err now (λ y. g.C.Steady.fits y (new x)) (λ y ready. x.laws.ready_fit y (new x) ready)
-    (g.C.Steady.stays_fit (here x).copy (old x) (new x) e.acted.goes (fit_was (λ h. h.alive) (λ h v. g.C.Steady.fits h.copy v) x.dev x.ckpt x.was.pair.first x.was.pair.second (old x) x.was.ready.0 x.was.ready.1 (e.acted.alive now))))
+    (λ pages is. (found g c told pages is).1) (after g c)))
+    (λ now. seen_fits C.count C.room C.room_most C.ready C.reads C.rests g.P.Plant.tells x.dev (new x) (here x) (there x) c.look-done.result e.seen e.err now (λ y. g.C.Steady.fits y (new x)) (λ y ready. x.laws.ready_fit y (new x) ready)
+    (g.C.Steady.stays_fit (here x).copy (old x) (new x) e.acted.goes (x.was.ready x.dev x.ckpt (e.acted.alive now))))
     (lost_acted x c.args.by.0 _ e.acted)
 
 pub returns-clause-frame : goal.returns-clause-frame
@@ -62,15 +70,13 @@ returns-clause-next g c =
       by_result (Ok Unread) is = λ told. tt
       by_result (Err y) is = tt
       by_result (Ok (Pages pages)) is = λ told opened.
-          let x = call g (goal.at.returns-clause-next g c).After-set_place in
+          let w = (goal.at.returns-clause-next g c).After-set_place in
+          let x = call g w in
           let s = x.was in
-          let C = g.C.Copying in
           let e = c.look-done.ensures in
-          let found = λ (k : KeepsAt s (old x)). look_stands (setting_of s) s.journal.batches s.current s.level _ _ (old x) k (bytes_of pages)
-          (look_next (setting_of s) k.was k.coming x.dev (old x) (new x) (C.rests (here x).copy) (C.holds (here x).copy) (place_was x) (place_is x) (here x).alive (there x).alive C.count C.room C.room_most C.ready C.rests C.holds (here x).copy (there x).copy (at_here x k)
-          e.acted.goes e.acted.alive (λ dead. ap g.P.Plant.view (e.idle dead)) (e.gone told) g.P.Plant.tells told (λ l. x.laws.there x.plant told x.dev l) c.look-done.result (e.during told) e.seen s.level (kept_all s.journal.batches) (entries_in s.current) k.stands k.comes (after g (goal.at.returns-clause-next g c).After-set_place)
-          (λ pages d r. x.laws.rests_reads (here x).copy pages d r) (λ was next d r. x.laws.holds_reads (here x).copy was next d r) (λ pages d r. x.laws.rests_reads (there x).copy pages d r) pages is opened) in
-          (∥∥₁_elim (s.kept told) (Coded-set coded_ℕ _ _) (λ k. (found k).0.at_level), ∥∥₁_map (s.kept told) (λ k. (found k).0.queue), some_entries (entries_in s.current) (∥∥₁_map (s.kept told) (λ k. (found k).1)))
+          let next = λ (k : KeepsAt s (old x)). look_stands (setting_of s) s.journal.batches s.current s.level (copies_of s) (old x) k (bytes_of pages)
+          (look_next (setting_of s) k.was k.coming x.dev (copy_here x) (copy_there x) (old x) (new x) (k.at x.dev x.ckpt) e.acted.alive (x.laws.reads (here x) (place_was x)) (x.laws.reads (there x) (place_is x)) (λ l. x.laws.there x.plant told x.dev l) c.look-done.result (e.during told) (found g w told) s.level (kept_all s.journal.batches) (entries_in s.current) k.stands k.comes (after g w) pages is opened) in
+          (∥∥₁_elim (s.kept told) (Coded-set coded_ℕ _ _) (λ k. (next k).0.at_level), ∥∥₁_map (s.kept told) (λ k. (next k).0.queue), some_entries (entries_in s.current) (∥∥₁_map (s.kept told) (λ k. (next k).1)))
 
 pub returns-clause-bytes : goal.returns-clause-bytes
 returns-clause-bytes g c told = look_bytes (g.P.Plant.view c.args.self.now.plant) (g.P.Plant.view c.look-done.new.plant) c.args.dev c.requires.ckpt (c.look-done.ensures.during told)

@@ -1,34 +1,33 @@
-use Rattle.mas_complex.proofs.Names.{None, List, refl, subst, sym, ∥∥₁_map, Before, Setting, setting, copy_of, Disk as DiskPart, disk_now, Ckpt1, Ckpt2, Spool, AreSettled, Batch}
+use Rattle.mas_complex.proofs.Names.{None, List, subst, sym, ∥∥₁_map, Before, setting, copy_of, Disk as DiskPart, disk_now, Spool, AreSettled, Batch, ap, false, true, ◌≡◌, pick, is_open, BeginsWith}
 use Rattle.mas_complex.proofs.Pasts.{nobody_past}
 use Rattle.mas_complex.proofs.Basics.{stays_true}
-use Rattle.mas_complex.proofs.Making.{first_reads, leaves_base, make_keeps}
+use Rattle.mas_complex.proofs.Making.{first_reads, leaves_base, make_keeps, none_yet, placed_copy}
 use Rattle.mas_complex.proofs.PaperEnds.{makes_paper}
 use Rattle.mas_complex.proofs.Standing.{owned_none}
+use Rattle.mas_complex.proofs.Each.{each, pick_same}
+use Rattle.mas_complex.proofs.Values.{laws_of}
 use Rattle.mas_complex.proofs.complex.Complex.make.Goals as goal
 
 pub invariant_of-result-clause-kept : goal.invariant_of-result-clause-kept
 invariant_of-result-clause-kept g c told =
     let s = c.args in
     let C = g.C.Copying in
-    let S : Setting = setting C.reads s.base c.moment_of-since.result in
-    let first = copy_of (C.rests s.pair.first.copy) (C.holds s.pair.first.copy) s.pair.first.alive Before in
-    let second = copy_of (C.rests s.pair.second.copy) (C.holds s.pair.second.copy) s.pair.second.alive Before in
     let v = g.P.Plant.view s.plant in
     ∥∥₁_map (c.requires.begins told) (λ begins.
-    rw (c.new-2.ensures, c.no_renewals.ensures) (make_keeps S s.level first second v (λ pages d r. g.met.C.Copying.rests_reads s.pair.first.copy pages d r) (λ was next d r. g.met.C.Copying.holds_reads s.pair.first.copy was next d r) (λ pages d r. g.met.C.Copying.rests_reads s.pair.second.copy pages d r) (λ was next d r. g.met.C.Copying.holds_reads s.pair.second.copy was next d r) refl refl c.moment_of-since.ensures.now
-    (λ n lost. stays_true (v.lost (DiskPart (Spool n))) (disk_now v (Spool n)).lost (g.met.P.Plant.there s.plant told (Spool n)) lost) (rw (c.moment_of-since.ensures.now) begins)))
+    let b : BeginsWith (setting C.reads s.base c.moment_of-since.result) s.level (λ d. copy_of C.rests C.holds (pick d s.pair.first s.pair.second) Before) v = rw (c.moment_of-since.ensures.now) begins in
+    rw (c.new-2.ensures, c.no_renewals.ensures) (make_keeps (setting C.reads s.base c.moment_of-since.result) s.level (λ d. copy_of C.rests C.holds (pick d s.pair.first s.pair.second) Before) v
+    (λ d. (laws_of g.world g.met.P.Plant g.met.C.Steady g.met.C.Copying).reads (pick d s.pair.first s.pair.second) Before) none_yet c.moment_of-since.ensures.now
+    (λ n lost. stays_true (v.lost (DiskPart (Spool n))) (disk_now v (Spool n)).lost (g.met.P.Plant.there s.plant told (Spool n)) lost) b (λ d. copy_of C.rests C.holds (pick d s.pair.first s.pair.second) (pick d Before Before))
+    (λ d ckpt. placed_copy (setting C.reads s.base c.moment_of-since.result) b.pages None d (copy_of C.rests C.holds (pick d s.pair.first s.pair.second) Before) (pick d Before Before) v (λ _. sym (pick_same d Before)) (b.at d ckpt))))
 
 pub returns-clause-fresh : goal.returns-clause-fresh
 returns-clause-fresh g c told =
     let s = c.args in
     let C = g.C.Copying in
     let v = g.P.Plant.view s.plant in
-    let S : Setting = setting C.reads s.base v.now in
-    let first = copy_of (C.rests s.pair.first.copy) (C.holds s.pair.first.copy) s.pair.first.alive Before in
-    let second = copy_of (C.rests s.pair.second.copy) (C.holds s.pair.second.copy) s.pair.second.alive Before in
     ∥∥₁_map (c.requires.begins told) (λ begins later goes. leaves_base C.reads s.base v.now s.level begins.pages v later begins.stands
-    (first_reads S begins.pages None first.rests first.holds (λ pages d r. g.met.C.Copying.rests_reads s.pair.first.copy pages d r) (λ was next d r. g.met.C.Copying.holds_reads s.pair.first.copy was next d r) Before first.alive Ckpt1 v later c.moment_of-since.ensures.most goes begins.first_at c.requires.lost1)
-    (first_reads S begins.pages None second.rests second.holds (λ pages d r. g.met.C.Copying.rests_reads s.pair.second.copy pages d r) (λ was next d r. g.met.C.Copying.holds_reads s.pair.second.copy was next d r) Before second.alive Ckpt2 v later c.moment_of-since.ensures.most goes begins.second_at c.requires.lost2))
+    (λ d ckpt. first_reads (setting C.reads s.base v.now) begins.pages None d (copy_of C.rests C.holds (pick d s.pair.first s.pair.second) Before) v later ((laws_of g.world g.met.P.Plant g.met.C.Steady g.met.C.Copying).reads (pick d s.pair.first s.pair.second) Before)
+    (ap is_open (none_yet d)) c.moment_of-since.ensures.most goes (begins.at d ckpt) (each (λ d. (pick d s.pair.first s.pair.second).alive ≡ false → v.lost (DiskPart d) ≡ true) c.requires.lost1 c.requires.lost2 d ckpt)))
 
 pub invariant_of-result-clause-replied : goal.invariant_of-result-clause-replied
 invariant_of-result-clause-replied g c told = rw (c.new-2.ensures) (∣ tt ∣₁)
@@ -45,7 +44,12 @@ pub invariant_of-result-clause-owned : goal.invariant_of-result-clause-owned
 invariant_of-result-clause-owned g c = owned_none c.new_book_of-book.result
 
 pub invariant_of-result-clause-lost : goal.invariant_of-result-clause-lost
-invariant_of-result-clause-lost g c = ((λ dead known. c.requires.lost1 dead), (λ dead known. c.requires.lost2 dead))
+invariant_of-result-clause-lost g c d ckpt dead known = each (λ d. (pick d c.args.pair.first c.args.pair.second).alive ≡ false → (g.P.Plant.view c.args.plant).lost (DiskPart d) ≡ true) c.requires.lost1 c.requires.lost2 d ckpt dead
+
+pub invariant_of-result-clause-ready : goal.invariant_of-result-clause-ready
+invariant_of-result-clause-ready g c d ckpt is =
+    g.met.C.Steady.ready_fit (pick d c.args.pair.first c.args.pair.second).copy (g.P.Plant.view c.args.plant)
+    (each (λ d. (pick d c.args.pair.first c.args.pair.second).alive ≡ true → g.C.Copying.ready (pick d c.args.pair.first c.args.pair.second).copy (g.P.Plant.view c.args.plant)) c.requires.ready1 c.requires.ready2 d ckpt is)
 
 pub invariant_of-result-clause-lasting : goal.invariant_of-result-clause-lasting
-invariant_of-result-clause-lasting g c told = ∣ nobody_past _ _ _ _ c.none_noted-had.ensures ∣₁
+invariant_of-result-clause-lasting g c told = ∣ nobody_past _ _ _ c.none_noted-had.ensures ∣₁

@@ -1,17 +1,14 @@
-use Rattle.mas_complex.proofs.Names.{values_of, page_count, Page, Ckpt1, Ckpt2, ∥∥₁_map, List, sym, subst}
-use Rattle.mas_complex.proofs.Pasts.{Lasts, past_noted, seen}
+use Rattle.mas_complex.proofs.Names.{◌≡◌, Some, true, values_of, page_count, Page, Dev, Before, HavePasts, bytes_of, disk_now, ∥∥₁_map, List, sym, subst}
+use Rattle.mas_complex.proofs.Each.{each}
+use Rattle.mas_complex.proofs.Pasts.{past_noted}
+use Rattle.mas_complex.proofs.Values.{half_of, place_of, sight_at, view_of}
 use Rattle.mas_complex.proofs.complex.Complex.note_pages.Goals as goal
 
 pub invariant_of-self-clause-lasting : goal.invariant_of-self-clause-lasting
 invariant_of-self-clause-lasting g c told =
     let s = c.args.self.now in
-    let C = g.C.Copying in
-    let v = g.P.Plant.view s.plant in
-    let by = c.args.by.0 in
     let pages = c.args.pages.now in
-    let count = page_count s.base.config in
-    let had = values_of s.had in
-    ∥∥₁_map (s.lasting told) (λ x. subst (λ (l : List (List Page)). Lasts (λ h. h.alive) C.reads (λ h. C.behind h.copy) count l s.pair.first s.pair.second s.first s.second v) (sym c.put_note.ensures.written) (record {
-      first = past_noted count had by pages (seen (λ h. h.alive) C.reads (λ h. C.behind h.copy) s.pair.first s.first v Ckpt1) c.requires.first (c.requires.reads1 told) x.first;
-      second = past_noted count had by pages (seen (λ h. h.alive) C.reads (λ h. C.behind h.copy) s.pair.second s.second v Ckpt2) c.requires.second (c.requires.reads2 told) x.second;
-    }))
+    let seen = λ (d : Dev). sight_at s (half_of s d) (place_of s d) d (view_of s) in
+    ∥∥₁_map (s.lasting told) (λ x. subst (λ (l : List (List Page)). HavePasts (page_count s.base.config) l seen) (sym c.put_note.ensures.written) (λ d ckpt. past_noted (page_count s.base.config) (values_of s.had) c.args.by.0 pages (seen d)
+    (each (λ d. (half_of s d).alive ≡ true → place_of s d ≡ Before) c.requires.first c.requires.second d ckpt)
+    (each (λ d. (half_of s d).alive ≡ true → g.C.Copying.reads (disk_now (view_of s) d).bytes ≡ Some (bytes_of pages)) (c.requires.reads1 told) (c.requires.reads2 told) d ckpt) (x d ckpt)))

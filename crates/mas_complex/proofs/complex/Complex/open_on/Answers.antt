@@ -1,11 +1,11 @@
-use Rattle.mas_complex.proofs.Names.{◌≡◌, ◌<◌, true, false, IsErrOf, subst, sym, ap, ∥∥₁_map, ∥∥₁_elim, ∥∥₁_map₂, Coded-set, coded_list, coded_ℕ, coded_option, meanwhile_end, EachReads, Place, Opened, page_count, Touched, BothLost, disk_now, top, held_then, touched_is, ReadsBy, IsAt, OnComing, Elsewhere, values_of, IsPlaceAfter}
+use Rattle.mas_complex.proofs.Names.{◌≡◌, ◌<◌, true, false, IsErrOf, subst, sym, ap, ∥∥₁_map, ∥∥₁_elim, ∥∥₁_map₂, Coded-set, coded_list, coded_ℕ, coded_option, meanwhile_end, EachReads, Place, Opened, page_count, Touched, BothLost, disk_now, top, held_then, touched_is, ReadsBy, OnComing, Elsewhere, values_of, IsPlaceAfter, refl, Put, is_away}
 use Rattle.mas_complex.proofs.Apart.{elsewhere_of, elsewhere_is}
-use Rattle.mas_complex.proofs.Calls.{Call, at_here, facts_on, frame_of, here, keeps_same, lost_acted, new, old, past_here, place_is, place_was, renewed, there}
-use Rattle.mas_complex.proofs.OnDevice.{one_dead}
-use Rattle.mas_complex.proofs.Pasts.{coming_some, image_now, past_alive, past_open, seen}
+use Rattle.mas_complex.proofs.Calls.{Call, copy_here, copy_there, facts_on, frame_of, here, keeps_same, lost_acted, new, old, past_here, place_is, place_was, there}
+use Rattle.mas_complex.proofs.Each.{dead_of}
+use Rattle.mas_complex.proofs.Pasts.{coming_some, image_now, past_alive, past_open}
 use Rattle.mas_complex.proofs.Shows.{open_shows}
-use Rattle.mas_complex.proofs.Sides.{Went, open_side}
-use Rattle.mas_complex.proofs.Values.{KeepsAt, laws_of, setting_of}
+use Rattle.mas_complex.proofs.Sides.{Went, at_place, open_side}
+use Rattle.mas_complex.proofs.Values.{KeepsAt, laws_of, setting_of, sight_at}
 use Rattle.mas_complex.proofs.complex.Complex.open_on.Given.{Over}
 use Rattle.mas_complex.proofs.complex.Complex.open_on.Goals.{After-set_place}
 use Rattle.mas_complex.proofs.complex.Complex.open_on.Goals as goal
@@ -28,22 +28,21 @@ after : (g : Over) (c : After-set_place g) → IsPlaceAfter c.open_copy-done.res
 after g c = subst (λ (p : Place). IsPlaceAfter c.open_copy-done.result Opened p) (sym c.set_place.ensures.place) c.place_after-place.ensures
 
 dead : (g : Over) (c : After-set_place g) → IsErrOf c.open_copy-done.result BothLost → (there (call g c)).alive ≡ false
-dead g c both = one_dead (λ h. h.alive) c.args.dev c.requires.ckpt c.open_copy-done.new.self.first c.open_copy-done.new.self.second (c.open_copy-done.ensures.both both)
+dead g c both = dead_of c.args.dev c.requires.ckpt c.open_copy-done.new.self.first c.open_copy-done.new.self.second (c.open_copy-done.ensures.both both)
 
 -- the copy during the call, and after it
 went : (g : Over) (c : After-set_place g) → g.P.Plant.tells → (k : KeepsAt c.args.self.now (old (call g c)))
-    → Went (setting_of c.args.self.now) k.was k.coming c.args.dev (old (call g c)) (new (call g c)) (g.C.Copying.rests (there (call g c)).copy) (g.C.Copying.holds (there (call g c)).copy) (place_is (call g c)) (there (call g c)).alive
+    → Went (setting_of c.args.self.now) k.was k.coming c.args.dev (copy_there (call g c)) (old (call g c)) (new (call g c))
 went g c told k =
     let x = call g c in
-    let C = g.C.Copying in
     let e = c.open_copy-done.ensures in
-    open_side (setting_of x.was) k.was k.coming x.dev (old x) (new x) (C.rests (here x).copy) (C.rests (there x).copy) (C.holds (here x).copy) (C.holds (there x).copy) (place_was x) (place_is x) (here x).alive (there x).alive (at_here x k)
-    e.acted.goes e.acted.alive (λ dead. ap g.P.Plant.view (e.idle dead)) (e.gone told) g.P.Plant.tells told c.requires.place c.open_copy-done.result (e.during told) e.opened (dead g c) (after g c)
+    open_side (setting_of x.was) k.was k.coming x.dev (copy_there x) (old x) (new x) k.coming (copy_here x) (k.at x.dev x.ckpt) e.acted.alive (λ dead. ap g.P.Plant.view (e.idle dead)) (e.gone told) c.open_copy-done.result (dead g c)
+    refl c.requires.place (e.during told) (held_then c.open_copy-done.result e.opened (λ opened. opened told)) (after g c)
 
 elsewhere : (g : Over) (c : After-set_place g) → g.P.Plant.tells → Elsewhere c.args.dev (old (call g c)) (new (call g c))
 elsewhere g c told =
     let x = call g c in
-    elsewhere_is x.dev (old x) (new x) (∥∥₁_map (x.was.kept told) (λ k. elsewhere_of x.dev (λ d. (old x).now < top → ReadsBy (setting_of x.was) (renewed x) k.was k.coming d) (old x) (new x) (went g c told k).during))
+    elsewhere_is x.dev (old x) (new x) (∥∥₁_map (x.was.kept told) (λ k. elsewhere_of x.dev (λ d. (old x).now < top → ReadsBy (setting_of x.was) (is_away (setting_of x.was) x.dev) k.was k.coming d) (old x) (new x) (went g c told k).during))
 
 pub invariant_of-self : goal.invariant_of-self
 invariant_of-self g c =
@@ -54,10 +53,10 @@ invariant_of-self g c =
     let e = c.open_copy-done.ensures in
     facts_on x e.acted.goes (elsewhere g c) (λ told. ∥∥₁_map (x.was.kept told) (λ k. keeps_same x k (went g c told k)))
     (λ told. ∥∥₁_map₂ (x.was.kept told) (past_here x told) (λ k l.
-    let one = seen (λ h. h.alive) C.reads (λ h. C.behind h.copy) (here x) (place_was x) (old x) x.dev in
-    let two = seen (λ h. h.alive) C.reads (λ h. C.behind h.copy) (there x) (place_is x) (new x) x.dev in
+    let one = sight_at x.was (here x) (place_was x) x.dev (old x) in
+    let two = sight_at x.was (there x) (place_is x) x.dev (new x) in
     let coming : (here x).alive ≡ true → OnComing k.coming (λ pages. C.holds h k.was pages (disk_now (old x) x.dev))
-    = λ is. subst (λ (q : Place). IsAt (setting_of x.was) (C.rests h) (C.holds h) k.was k.coming q (disk_now (old x) x.dev)) (c.requires.place is) ((at_here x k).at is) in
+    = λ is. at_place (setting_of x.was) k.was k.coming (copy_here x) (place_was x) Put (disk_now (old x) x.dev) (c.requires.place is) ((k.at x.dev x.ckpt).at is) in
     past_alive (page_count x.was.base.config) (values_of x.was.had) one two e.acted.alive (λ is. coming_some k.coming (λ pages. C.holds h k.was pages (disk_now (old x) x.dev)) (coming is) (λ next holds.
     let m = e.during told k.was next (λ _. holds) in
     past_open (page_count x.was.base.config) (values_of x.was.had) one two k.was next c.open_copy-done.result l
@@ -81,5 +80,5 @@ returns-clause-reads g c =
     let k' = (there x).copy in
     let e = c.open_copy-done.ensures in
     held_then c.open_copy-done.result e.opened (λ opened told now. ∥∥₁_elim (x.was.kept told) (Coded-set (coded_option (coded_list coded_ℕ)) _ _) (λ k.
-    open_shows (setting_of x.was) (C.rests h) (C.holds h) k.was k.coming (place_was x) (here x).alive (old x).now (disk_now (old x) x.dev) (disk_now (new x) x.dev) (at_here x k)
+    open_shows (setting_of x.was) k.was k.coming x.dev (copy_here x) (old x) (disk_now (new x) x.dev) (k.at x.dev x.ckpt)
     (e.acted.alive now) (c.requires.place (e.acted.alive now)) (C.behind h) (λ was next d r. x.laws.holds_behind h was next d r) (C.rests k') (λ was next r. opened told now was next r) (λ pages d r. x.laws.rests_now k' pages d r)))

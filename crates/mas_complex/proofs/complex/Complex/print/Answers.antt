@@ -1,4 +1,4 @@
-use Rattle.mas_complex.proofs.Names.{◌≡◌, ◌⊎◌, ◌+◌, ◌≤◌, ℕ, List, Option, ap, ◌∙◌, arith, subst, sym, get_or-set_same, ∥∥₁_map₂, ∥∥₁_elim, ∥∥₁_prop, Entry, Act, counts_of, printed_by, None}
+use Rattle.mas_complex.proofs.Names.{◌≡◌, ◌⊎◌, ◌+◌, ℕ, List, Option, ap, ◌∙◌, arith, subst, sym, get_or-set_same, ∥∥₁_map₂, ∥∥₁_elim, ∥∥₁_prop, Entry, Act, counts_of, printed_by, None}
 use Rattle.mas_complex.proofs.PaperBooks.{stopped_up}
 use Rattle.mas_complex.proofs.PaperLines.{prints_on_paper, somebody_is}
 use Rattle.mas_complex.proofs.Short.{left_after_print}

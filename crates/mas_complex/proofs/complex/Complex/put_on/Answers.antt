@@ -1,13 +1,13 @@
-use Rattle.mas_complex.proofs.Names.{◌≡◌, true, false, IsErrOf, Some, subst, sym, ap, ∥∥₁_map, ∥∥₁_elim, ∥∥₁_prop, ∥∥₁_map₂, Coded-set, coded_list, coded_ℕ, meanwhile_end, bytes_of, level, AllRead, Place, Before, Put, page_count, Touched, other, BothLost, Ckpt1, Ckpt2, disk_now, held_then, touched_is, IsNear, Elsewhere, entries_in, values_of, IsPlaceAfter, test_cases}
+use Rattle.mas_complex.proofs.Names.{◌≡◌, true, false, IsErrOf, Some, subst, sym, ap, ∥∥₁_map, ∥∥₁_elim, ∥∥₁_prop, ∥∥₁_map₂, Coded-set, coded_list, coded_ℕ, meanwhile_end, bytes_of, level, AllRead, Place, Before, Put, page_count, Touched, other, BothLost, disk_now, held_then, touched_is, IsNear, Elsewhere, entries_in, values_of, IsPlaceAfter, test_cases, refl}
 use Rattle.mas_complex.proofs.Basics.{no}
 use Rattle.mas_complex.proofs.Apart.{elsewhere_of, elsewhere_is}
-use Rattle.mas_complex.proofs.Calls.{Call, at_here, at_near, facts_on, frame_of, here, keeps_on, lost_acted, near_it, new, old, past_here, place_is, place_was, rests_here, there}
-use Rattle.mas_complex.proofs.OnDevice.{one_dead}
-use Rattle.mas_complex.proofs.Pasts.{image_now, past_alive, past_put, seen}
+use Rattle.mas_complex.proofs.Calls.{Call, at_near, copy_here, copy_near, copy_there, facts_on, frame_of, here, keeps_on, lost_acted, near_dev, near_it, new, old, past_here, place_is, place_was, rests_here, there}
+use Rattle.mas_complex.proofs.Each.{dead_of}
+use Rattle.mas_complex.proofs.Pasts.{image_now, past_alive, past_put}
 use Rattle.mas_complex.proofs.Rising.{comes_near}
 use Rattle.mas_complex.proofs.Shows.{put_shows}
 use Rattle.mas_complex.proofs.Sides.{put_side, idles, other_coming, other_holds, some_coming, is_higher, one_level_more}
-use Rattle.mas_complex.proofs.Values.{laws_of, setting_of}
+use Rattle.mas_complex.proofs.Values.{laws_of, setting_of, sight_at}
 use Rattle.mas_complex.proofs.complex.Complex.put_on.Given.{Over}
 use Rattle.mas_complex.proofs.complex.Complex.put_on.Goals.{After-set_place}
 use Rattle.mas_complex.proofs.complex.Complex.put_on.Goals as goal
@@ -42,7 +42,7 @@ invariant_of-self g c =
     let e = c.put-done.ensures in
     let pages = bytes_of c.args.pages.now in
     let after : IsPlaceAfter c.put-done.result Put (place_is x) = subst (λ (p : Place). IsPlaceAfter c.put-done.result Put p) (sym c.set_place.ensures.place) c.place_after-place.ensures in
-    let dead : IsErrOf c.put-done.result BothLost → (there x).alive ≡ false = λ both. one_dead (λ h. h.alive) x.dev x.ckpt x.pair.first x.pair.second (e.both both) in
+    let dead : IsErrOf c.put-done.result BothLost → (there x).alive ≡ false = λ both. dead_of x.dev x.ckpt x.pair.first x.pair.second (e.both both) in
     facts_on x e.acted.goes (elsewhere g c)
     (λ told. ∥∥₁_elim (x.was.kept told) ∥∥₁_prop (λ k. ∥∥₁_map (c.requires.queue told) (λ q.
     let reads : (here x).alive ≡ true → C.reads (disk_now (old x) x.dev).bytes ≡ Some k.was = λ is. x.laws.rests_now h k.was (disk_now (old x) x.dev) (rests_here x k c.requires.place is) in
@@ -50,21 +50,21 @@ invariant_of-self g c =
     = λ is before. comes_near k.first_level k.first_order k.was pages k.near (c.requires.orders told is before k.was (reads is)) (one_level_more (level k.was) (level pages) x.was.level k.stands.at_level (c.requires.level told)) in
     let near : (here x).alive ≡ true → IsNear k.first_level k.first_order pages
     = λ is. test_cases (near_it x).alive (IsNear k.first_level k.first_order pages)
-    (λ beside_is. other_holds S (C.rests o) (C.holds o) k.was k.coming pages (other x.dev x.was.first x.was.second) (near_it x).alive (old x).now (disk_now (old x) (other x.dev Ckpt1 Ckpt2)) (C.behind o) (λ was next d r. x.laws.holds_behind o was next d r) (λ was d r. x.laws.rests_now o was d r)
-    beside_is (c.requires.same told beside_is) (at_near x k) (IsNear k.first_level k.first_order) k.comes_near (λ before. raised is (λ _. before)))
+    (λ beside_is. other_holds S k.was k.coming (copy_near x) (near_dev x) (old x) (at_near x k) (C.behind o) (λ was next d r. x.laws.holds_behind o was next d r) (λ was d r. x.laws.rests_now o was d r) pages
+    beside_is (c.requires.same told beside_is) (IsNear k.first_level k.first_order) k.comes_near (λ before. raised is (λ _. before)))
     (λ dead. raised is (λ beside_is. absurd (no (near_it x).alive beside_is dead))) in
     test_cases (here x).alive _
     (λ is.
     keeps_on x k (Some pages) (record { at_level = c.requires.level told; queue = q }) (some_coming (entries_in x.was.current) (Some pages) (c.requires.some told)) (near is)
-    (other_coming S (C.rests o) (C.holds o) k.was k.coming pages (other x.dev x.was.first x.was.second) (near_it x).alive (old x).now (disk_now (old x) (other x.dev Ckpt1 Ckpt2)) (C.behind o) (λ was next d r. x.laws.holds_behind o was next d r) (λ was d r. x.laws.rests_now o was d r) (c.requires.same told) (at_near x k))
-    (put_side S k.was k.coming x.dev (old x) (new x) (C.rests h) (C.rests k') (C.holds h) (C.holds k') (place_was x) (place_is x) (here x).alive (there x).alive (at_here x k) e.acted.goes e.acted.alive (λ dead. ap g.P.Plant.view (e.idle dead)) (e.gone told) g.P.Plant.tells told c.requires.place c.put-done.result pages
-    (is_higher (level k.was) (level pages) x.was.level k.stands.at_level (c.requires.level told)) (e.during told) (C.count h) c.args.changed.now (λ is was r. c.requires.covered told is was (x.laws.rests_now h was (disk_now (old x) x.dev) r)) e.held dead after))
+    (other_coming S k.was k.coming (copy_near x) (near_dev x) (old x) (at_near x k) (C.behind o) (λ was next d r. x.laws.holds_behind o was next d r) (λ was d r. x.laws.rests_now o was d r) pages (c.requires.same told))
+    (put_side S k.was (Some pages) x.dev (copy_there x) (old x) (new x) k.coming (copy_here x) (k.at x.dev x.ckpt) e.acted.alive (λ dead. ap g.P.Plant.view (e.idle dead)) (e.gone told) c.put-done.result dead pages refl c.requires.place (e.during told)
+    (held_then c.put-done.result e.held (λ held now rest. held told now k.was rest (is_higher (level k.was) (level pages) x.was.level k.stands.at_level (c.requires.level told)) (c.requires.covered told is k.was (x.laws.rests_now h k.was (disk_now (old x) x.dev) rest)))) after))
     (λ dead.
     keeps_on x k k.coming k.comes k.none k.comes_near (at_near x k)
-    (idles S k.was k.coming k.coming x.dev (old x) (new x) (C.rests h) (C.rests k') (C.holds h) (C.holds k') (place_was x) (place_is x) (here x).alive (there x).alive (at_here x k) e.acted.goes e.acted.alive (λ dead. ap g.P.Plant.view (e.idle dead)) (e.gone told) dead)))))
+    (idles S k.was k.coming x.dev (copy_there x) (old x) (new x) k.coming (copy_here x) (k.at x.dev x.ckpt) e.acted.alive (λ dead. ap g.P.Plant.view (e.idle dead)) (e.gone told) dead)))))
     (λ told. ∥∥₁_elim (x.was.kept told) ∥∥₁_prop (λ k. ∥∥₁_map₂ (c.requires.later told) (past_here x told) (λ later l.
-    let one = seen (λ h. h.alive) C.reads (λ h. C.behind h.copy) (here x) (place_was x) (old x) x.dev in
-    let two = seen (λ h. h.alive) C.reads (λ h. C.behind h.copy) (there x) (place_is x) (new x) x.dev in
+    let one = sight_at x.was (here x) (place_was x) x.dev (old x) in
+    let two = sight_at x.was (there x) (place_is x) x.dev (new x) in
     let rests = rests_here x k c.requires.place in
     let m = e.during told k.was rests in
     past_alive (page_count x.was.base.config) (values_of x.was.had) one two e.acted.alive (λ is. past_put (page_count x.was.base.config) (values_of x.was.had) one two k.was pages c.put-done.result l
@@ -91,6 +91,6 @@ returns-clause-behind g c =
     let e = c.put-done.ensures in
     let pages = bytes_of c.args.pages.now in
     held_then c.put-done.result e.held (λ held told now. ∥∥₁_elim (x.was.kept told) (Coded-set (coded_list coded_ℕ) _ _) (λ k.
-    put_shows (setting_of x.was) (C.rests h) (C.holds h) k.was k.coming (place_was x) (here x).alive (old x).now (disk_now (old x) x.dev) (disk_now (new x) x.dev) (at_here x k)
-    (e.acted.alive now) (c.requires.place (e.acted.alive now)) (C.count h) c.args.changed.now pages (is_higher (level k.was) (level pages) x.was.level k.stands.at_level (c.requires.level told))
-    (λ was r. c.requires.covered told (e.acted.alive now) was (x.laws.rests_now h was (disk_now (old x) x.dev) r)) (C.holds k') (λ was r. held told now was r) (C.behind k') (λ was next d r. x.laws.holds_behind k' was next d r)))
+    put_shows (setting_of x.was) k.was k.coming x.dev (copy_here x) (old x) (disk_now (new x) x.dev) (k.at x.dev x.ckpt) (e.acted.alive now) (c.requires.place (e.acted.alive now)) pages (C.behind k') (C.holds k')
+    (λ rest. held told now k.was rest (is_higher (level k.was) (level pages) x.was.level k.stands.at_level (c.requires.level told)) (c.requires.covered told (e.acted.alive now) k.was (x.laws.rests_now h k.was (disk_now (old x) x.dev) rest)))
+    (λ was next d r. x.laws.holds_behind k' was next d r)))

@@ -1,4 +1,4 @@
-use Rattle.mas_complex.proofs.Names.{◌≡◌, ◌≤◌, ◌+◌, ◌*◌, ◌||◌, ◌++◌, ◌∙◌, ⊎_elim, ℕ, List, length, Option, true, false, Some, None, IfSome, refl, sym, subst, ap, rules, ∥∥₁_map, Ckpt1, Ckpt2, disk_now, Goes, Rose, Disk, Page, Queue, page_count, Place, IsAtLevel, OneSeen, IsOneSeen, ReadsSeen, bytes_of, level, goes_on, Setting, Copy, setting_with, copy_of, next_order, order_first, orders_most, err_from_is_err_and, KeepsCounts, OnCopies, pair_state, parts_of, looked, sought}
+use Rattle.mas_complex.proofs.Names.{◌≡◌, ◌≤◌, ◌+◌, ◌*◌, ◌||◌, ◌∙◌, ⊎_elim, ℕ, List, length, Option, true, false, Some, None, IfSome, refl, sym, subst, ap, rules, ∥∥₁_map, Ckpt1, Ckpt2, disk_now, Goes, Rose, Disk, Page, Queue, page_count, Place, IsAtLevel, OneSeen, IsOneSeen, ReadsSeen, bytes_of, level, goes_on, next_order, order_first, orders_most, err_from_is_err_and, KeepsCounts, OnCopies, pair_state, parts_of, looked, sought, if◌then◌else◌, Before, Dev}
 use Rattle.mas_types.specs.Fit.{IsConfig}
 use Rattle.mas_complex.proofs.Basics.{no}
 use Rattle.mas_complex.proofs.Leaving.{fault_earlier, fault_later, left_why, room_seen, rose_later, rose_earlier, if_err, left_some, none_seen}
@@ -8,6 +8,8 @@ use Rattle.mas_complex.proofs.Calm.{stands_of}
 use Rattle.mas_complex.proofs.Apart.{on_then}
 use Rattle.mas_complex.proofs.Usable.{found_many, seen_alive}
 use Rattle.mas_complex.proofs.Counted.{both_then, counts_seen, counts_brought, look_halted, not_brought, was_halted}
+use Rattle.mas_complex.proofs.Each.{each}
+use Rattle.mas_complex.proofs.Values.{copies_of, half_of, place_of, setting_of, view_of}
 use Rattle.mas_complex.proofs.complex.Complex.recover.Given.{Over}
 use Rattle.mas_complex.proofs.complex.Complex.recover.Goals.{After-bring, After-choose_any}
 use Rattle.mas_complex.proofs.complex.Complex.recover.Goals as goal
@@ -88,27 +90,15 @@ returns-in_err-second-clause-apart g c told = on_then _ _ _ c.see_on.ensures.goe
 pub returns-clause-stands : goal.returns-clause-stands
 returns-clause-stands g c told =
     let s = c.give_fate.new.self in
-    let C = g.C.Copying in
-    let S : Setting = setting_with C.reads s.base s.since s.renewals in
-    let first : Copy = copy_of (C.rests s.pair.first.copy) (C.holds s.pair.first.copy) s.pair.first.alive s.first in
-    let second : Copy = copy_of (C.rests s.pair.second.copy) (C.holds s.pair.second.copy) s.pair.second.alive s.second in
-    let v = g.P.Plant.view s.plant in
-    ∥∥₁_map (s.kept told) (λ k. stands_of S s.journal.batches s.current s.level first second v k (bytes_of c.in-Some.found)
-    (subst (λ p. (p.first_alive || p.second_alive) ≡ true) (sym c.give_fate.ensures.frame) c.in_ok-bring.ensures.some) c.give_fate.ensures.first c.give_fate.ensures.second
-    (λ was d r. g.met.C.Copying.rests_now s.pair.first.copy was d r) (λ was d r. g.met.C.Copying.rests_now s.pair.second.copy was d r) reads_first reads_second) where
-      reads_first : c.give_fate.new.self.pair.first.alive ≡ true → g.C.Copying.reads (disk_now (g.P.Plant.view c.give_fate.new.self.plant) Ckpt1).bytes ≡ Some (bytes_of c.in-Some.found)
-      reads_first is =
-          let e = c.give_fate.ensures.frame in
-          let alive = sym (ap (λ p. p.first_alive) e) ∙ is in
-          let read = subst (λ (ps : List Page). g.C.Copying.reads (disk_now (g.P.Plant.view c.bring.new.self.plant) Ckpt1).bytes ≡ Some (bytes_of ps)) c.as_slice-2.ensures ((c.in_ok-bring.ensures.first alive).1 told) in
-          subst (λ p. g.C.Copying.reads (disk_now (g.P.Plant.view p.plant) Ckpt1).bytes ≡ Some (bytes_of c.in-Some.found)) (sym e) read
-
-      reads_second : c.give_fate.new.self.pair.second.alive ≡ true → g.C.Copying.reads (disk_now (g.P.Plant.view c.give_fate.new.self.plant) Ckpt2).bytes ≡ Some (bytes_of c.in-Some.found)
-      reads_second is =
-          let e = c.give_fate.ensures.frame in
-          let alive = sym (ap (λ p. p.second_alive) e) ∙ is in
-          let read = subst (λ (ps : List Page). g.C.Copying.reads (disk_now (g.P.Plant.view c.bring.new.self.plant) Ckpt2).bytes ≡ Some (bytes_of ps)) c.as_slice-2.ensures ((c.in_ok-bring.ensures.second alive).1 told) in
-          subst (λ p. g.C.Copying.reads (disk_now (g.P.Plant.view p.plant) Ckpt2).bytes ≡ Some (bytes_of c.in-Some.found)) (sym e) read
+    let e = c.give_fate.ensures.frame in
+    ∥∥₁_map (s.kept told) (λ k. stands_of (setting_of s) s.journal.batches s.current s.level (copies_of s) (view_of s) k (bytes_of c.in-Some.found)
+    (subst (λ p. (p.first_alive || p.second_alive) ≡ true) (sym e) c.in_ok-bring.ensures.some) (each (λ d. (half_of s d).alive ≡ true → place_of s d ≡ Before) c.give_fate.ensures.first c.give_fate.ensures.second)
+    (λ d was x r. g.met.C.Copying.rests_now (half_of s d).copy was x r)
+    (each (λ d. (half_of s d).alive ≡ true → g.C.Copying.reads (disk_now (view_of s) d).bytes ≡ Some (bytes_of c.in-Some.found))
+    (λ is. read Ckpt1 ((c.in_ok-bring.ensures.first (sym (ap (λ p. p.first_alive) e) ∙ is)).1 told)) (λ is. read Ckpt2 ((c.in_ok-bring.ensures.second (sym (ap (λ p. p.second_alive) e) ∙ is)).1 told)))) where
+      read : (d : Dev) → g.C.Copying.reads (disk_now (g.P.Plant.view c.bring.new.self.plant) d).bytes ≡ Some (bytes_of c.as_slice-2.result.now) → g.C.Copying.reads (disk_now (g.P.Plant.view c.give_fate.new.self.plant) d).bytes ≡ Some (bytes_of c.in-Some.found)
+      read d reads = subst (λ p. g.C.Copying.reads (disk_now (g.P.Plant.view p.plant) d).bytes ≡ Some (bytes_of c.in-Some.found)) (sym c.give_fate.ensures.frame)
+          (subst (λ (ps : List Page). g.C.Copying.reads (disk_now (g.P.Plant.view c.bring.new.self.plant) d).bytes ≡ Some (bytes_of ps)) c.as_slice-2.ensures reads)
 
 pub give_fate-requires-clause-second : goal.give_fate-requires-clause-second
 give_fate-requires-clause-second g c alive =

@@ -1,6 +1,7 @@
-use Rattle.mas_complex.proofs.Names.{◌∙◌, ◌≡◌, ◌<◌, ◌≤◌, length, true, false, Some, Err, ap, sym, subst, rules, err_from_is_err_and, Ckpt1, Ckpt2, pages_least, pages_most, Disk, disk_now, Rose, top, bytes_of, other, Replaces, replace_stopped, Before, Elsewhere, parts_of, is_open, of_device}
+use Rattle.mas_complex.proofs.Names.{◌∙◌, ◌≡◌, ◌<◌, ◌≤◌, length, true, false, Some, Err, ap, sym, subst, rules, err_from_is_err_and, Ckpt1, Ckpt2, pages_least, pages_most, Disk, disk_now, Rose, top, bytes_of, other, Replaces, replace_stopped, Before, Elsewhere, parts_of, is_open, of_device, if◌then◌else◌, pick, Half}
 use Rattle.mas_complex.proofs.Basics.{no}
-use Rattle.mas_complex.proofs.Renewing.{acted_not, begun_open, both_not, elsewhere_none, fit_other, no_memory_frame, no_memory_ok, no_memory_stopped, other_same, other_stands, pick_same, replaced_frame, replaces_none}
+use Rattle.mas_complex.proofs.Renewing.{acted_not, begun_open, both_not, elsewhere_none, no_memory_frame, no_memory_ok, no_memory_stopped, other_stands, replaced_frame, replaces_none}
+use Rattle.mas_complex.proofs.Each.{of_beside}
 use Rattle.mas_complex.proofs.complex.Complex.replace.Goals as goal
 
 -- BEFORE ANY ACT
@@ -82,25 +83,18 @@ pub renew_copy-requires : goal.renew_copy-requires
 renew_copy-requires g c =
     let s = c.args.self.now in
     let ok = c.in_ok-begin_renewal.ensures.ok in
-    let beside = other_stands (λ h. h.alive) c.args.dev c.requires.ckpt s.pair.first s.pair.second (sym c.alive.ensures ∙ c.if-alive.false) (sym c.are_both_lost.ensures ∙ c.if-are_both_lost.false) in
+    let beside = other_stands c.args.dev c.requires.ckpt s.pair.first s.pair.second (sym c.alive.ensures ∙ c.if-alive.false) (sym c.are_both_lost.ensures ∙ c.if-are_both_lost.false) in
     let v = g.P.Plant.view s.plant in
     let h = other c.args.dev s.pair.first s.pair.second in
-    let fit = fit_other (λ h. h.alive) c.args.dev c.requires.ckpt s.pair.first s.pair.second (λ h. g.C.Steady.fits h.copy v) s.ready.0 s.ready.1 beside in
+    let fit = of_beside (λ d h p. h.alive ≡ true → g.C.Steady.fits h.copy v ≡ true) c.args.dev c.requires.ckpt s.pair.first s.pair.second s.first s.second s.ready beside in
     let C = g.C.Copying in
     record {
       ckpt = search rules;
-      dead =
-          let m = c.begin_renewal.new.self in
-          let same = c.begin_renewal.ensures.pair in
-          pick_same (λ h. h.alive) c.args.dev false s.pair.first s.pair.second m.pair.first m.pair.second (ap (λ p. p.first) same) (ap (λ p. p.second) same) (sym c.alive.ensures ∙ c.if-alive.false);
+      dead = ap (λ p. (pick {A = Half _} c.args.dev p.first p.second).alive) c.begin_renewal.ensures.pair ∙ (sym c.alive.ensures ∙ c.if-alive.false);
       most = subst (λ p. (g.P.Plant.view p).now ≤ top) (sym (ap (λ x. x.plant) c.in_ok-begin_renewal.ensures.ok)) c.begin_renewal.ensures.most;
       began = λ lt. subst (λ rs. is_open (of_device c.args.dev rs) ≡ true) (sym (ap (λ x. x.renewals) ok))
           (begun_open c.args.dev c.requires.ckpt (g.P.Plant.view s.plant).now s.renewals (subst (λ p. (g.P.Plant.view p).now < top) (ap (λ x. x.plant) ok) lt));
-      beside =
-          let m = c.begin_renewal.new.self in
-          let same = c.begin_renewal.ensures.pair in
-          other_same (λ h. h.alive) c.args.dev true s.pair.first s.pair.second m.pair.first m.pair.second (ap (λ p. p.first) same) (ap (λ p. p.second) same)
-          (other_stands (λ h. h.alive) c.args.dev c.requires.ckpt s.pair.first s.pair.second (sym c.alive.ensures ∙ c.if-alive.false) (sym c.are_both_lost.ensures ∙ c.if-are_both_lost.false));
+      beside = ap (λ p. (other {A = Half _} c.args.dev p.first p.second).alive) c.begin_renewal.ensures.pair ∙ beside;
       place = subst (λ p. other c.args.dev p.first p.second ≡ Before) (sym ok) (c.requires.place beside);
       enough = subst (λ n. pages_least ≤ n) (sym (c.requires.as_many beside)) (g.met.C.Copying.ready_count h.copy v (g.met.C.Steady.fit_ready h.copy v fit)).0;
       few = subst (λ n. n ≤ pages_most) (sym (c.requires.as_many beside)) (g.met.C.Copying.ready_count h.copy v (g.met.C.Steady.fit_ready h.copy v fit)).1;

@@ -1,23 +1,21 @@
-use Rattle.mas_complex.proofs.Names.{values_of, page_count, Option, None, subst, refl, ∥∥₁_map, Batch, Keeps, Setting, Copy, setting_with, copy_of}
-use Rattle.mas_complex.proofs.Pasts.{lasts_ended, opened_unsure}
-use Rattle.mas_complex.proofs.Fates.{opened_some}
+use Rattle.mas_complex.proofs.Names.{values_of, page_count, Option, None, subst, refl, ∥∥₁_map, Batch, Keeps, Opened, ◌≡◌, true, Before, pick}
+use Rattle.mas_complex.proofs.Each.{each, pick_same, some_of}
+use Rattle.mas_complex.proofs.Pasts.{opened_unsure, past_ended}
+use Rattle.mas_complex.proofs.Fates.{none_opened}
+use Rattle.mas_complex.proofs.Values.{copies_of, half_of, place_of, setting_of, sight_at, view_of}
 use Rattle.mas_complex.proofs.complex.Complex.rise.Goals as goal
 
 -- over a plant that tells there are no pages in flight without a batch
 pub invariant_of-self-clause-kept : goal.invariant_of-self-clause-kept
 invariant_of-self-clause-kept g c told =
     let s = c.args.self.now in
-    let C = g.C.Copying in
-    let S : Setting = setting_with C.reads s.base s.since s.renewals in
-    let first : Copy = copy_of (C.rests s.pair.first.copy) (C.holds s.pair.first.copy) s.pair.first.alive s.first in
-    let second : Copy = copy_of (C.rests s.pair.second.copy) (C.holds s.pair.second.copy) s.pair.second.alive s.second in
-    let v = g.P.Plant.view s.plant in
     ∥∥₁_map (s.kept told) (λ k.
-    let none : Keeps S s.journal.batches None s.level first second v = subst (λ (x : Option Batch). Keeps S s.journal.batches x s.level first second v) c.requires.none k in
-    absurd (opened_some S s.journal.batches None s.level first second v none c.requires.some c.requires.first c.requires.second (none.none refl)))
+    let none : Keeps (setting_of s) s.journal.batches None s.level (copies_of s) (view_of s) = subst (λ (x : Option Batch). Keeps (setting_of s) s.journal.batches x s.level (copies_of s) (view_of s)) c.requires.none k in
+    absurd (some_of (λ d. (half_of s d).alive) c.requires.some (λ d ckpt is. none_opened (setting_of s) none.was none.coming d (copies_of s d) (view_of s) (none.at d ckpt) is
+    (each (λ d. (half_of s d).alive ≡ true → place_of s d ≡ Opened) c.requires.first c.requires.second d ckpt is) (none.none refl))))
 
 pub invariant_of-self-clause-lasting : goal.invariant_of-self-clause-lasting
 invariant_of-self-clause-lasting g c told =
     let s = c.args.self.now in
-    let C = g.C.Copying in
-    ∥∥₁_map (s.lasting told) (λ x. lasts_ended (λ h. h.alive) C.reads (λ h. C.behind h.copy) (page_count s.base.config) (values_of s.had) s.pair.first s.pair.second s.first s.second (g.P.Plant.view s.plant) (λ is unsure. opened_unsure s.first (c.requires.first is) unsure) (λ is unsure. opened_unsure s.second (c.requires.second is) unsure) x)
+    ∥∥₁_map (s.lasting told) (λ x d ckpt. past_ended (page_count s.base.config) (values_of s.had) (sight_at s (half_of s d) (place_of s d) d (view_of s)) (pick d Before Before) (pick_same d Before)
+    (λ is unsure. opened_unsure (place_of s d) (each (λ d. (half_of s d).alive ≡ true → place_of s d ≡ Opened) c.requires.first c.requires.second d ckpt is) unsure) (x d ckpt))

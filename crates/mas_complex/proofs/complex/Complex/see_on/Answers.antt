@@ -1,5 +1,5 @@
-use Rattle.mas_complex.proofs.Names.{◌∙◌, false, refl, ap, sym, arith, ∥∥₁_elim, disk_now, goes_none, page_count, pick, setting_with, pair_state, parts_of, KeepsCounts}
-use Rattle.mas_complex.proofs.OnDevice.{at_copy}
+use Rattle.mas_complex.proofs.Names.{◌∙◌, false, refl, ap, sym, arith, ∥∥₁_elim, disk_now, goes_none, page_count, pick, pair_state, parts_of, KeepsCounts}
+use Rattle.mas_complex.proofs.Values.{copies_of, laws_of, place_of}
 use Rattle.mas_complex.proofs.Frames.{frame_lost, frame_on}
 use Rattle.mas_complex.proofs.Apart.{on_none, on_one, on_then}
 use Rattle.mas_complex.proofs.Counted.{counts_none, counts_one, counts_then, counts_lost}
@@ -99,9 +99,8 @@ returns-in-Unread-clause-unseen g c told none alive =
     let many = c.pages_of-count.ensures ∙ ap (λ q. page_count q.config) (sym base) in
     let there = unused_there C.count C.room C.room_most C.ready C.reads C.rests g.P.Plant.tells dev v was.copy h.copy h.alive c.pages_of-count.result c.in_ok-look.look not c.in_ok-look.ensures.seen in
     let unused = rw many at (unused_reads C.count C.room C.room_most C.ready C.reads C.rests g.P.Plant.tells dev v was.copy h.copy h.alive c.pages_of-count.result (λ pages d r. g.met.C.Copying.rests_now h.copy pages d r) told c.in_ok-look.look not c.usable.ensures.sized c.in_ok-look.ensures.seen) in
-    absurd (∥∥₁_elim (s.kept told) (λ a b. absurd a) (λ k. always_used C.reads s.base s.since s.renewals s.level _ _ k.was k.coming k.stands k.comes (C.rests h.copy) (C.holds h.copy) (pick dev s.first s.second) h.alive v.now (disk_now v dev)
-    (at_copy (λ h. C.rests h.copy) (λ h. C.holds h.copy) (λ h. h.alive) (setting_with C.reads s.base s.since s.renewals) k.was k.coming dev c.requires.ckpt s.pair.first s.pair.second s.first s.second v k.first_at k.second_at) there.0
-    (λ pages d r. g.met.C.Copying.rests_reads h.copy pages d r) (λ was next d r. g.met.C.Copying.holds_reads h.copy was next d r) (g.met.P.Plant.there s.plant told dev there.1) unused))
+    absurd (∥∥₁_elim (s.kept told) (λ a b. absurd a) (λ k. always_used C.reads s.base s.since s.renewals s.level _ _ k.was k.coming k.stands k.comes dev (copies_of s dev) v (k.at dev c.requires.ckpt) there.0
+    ((laws_of g.world g.met.P.Plant g.met.C.Steady g.met.C.Copying).reads h (place_of s dev)) (g.met.P.Plant.there s.plant told dev there.1) unused))
 
 pub returns-in-Unread-clause-counts : goal.returns-in-Unread-clause-counts
 returns-in-Unread-clause-counts g c =

@@ -1,74 +1,100 @@
-use Rattle.mas_complex.proofs.Names.{◌≡◌, true, arith, ∥∥₁_map, ∥∥₁_elim, ∥∥₁_map₂, Coded-set, coded_list, coded_option, coded_ℕ, bytes_of, AllRead, page_count, BothMeanwhile, Touched, Ckpt1, Ckpt2, disk_now, held_then, touched_is, copy_of, SamePapers, values_of}
+use Rattle.mas_complex.proofs.Names.{ℕ, Bool, ViewDisk as Disk, Disk as DiskPart, ◌≡◌, true, arith, ∥∥₁_map, ∥∥₁_elim, ∥∥₁_map₂, Coded-set, coded_list, coded_option, coded_ℕ, bytes_of, AllRead, page_count, BothMeanwhile, Touched, Ckpt1, Ckpt2, disk_now, held_then, touched_is, copy_of, SamePapers, values_of, List, OnOk, Some, false, ◌<◌, Place, Before, IsCkpt, pick, Dev, top, View, IsGone, ReadsBy, is_away, IsPlaceAfter, ◌≤◌, disk_at}
 use Rattle.mas_complex.proofs.Apart.{coded_disk, on_both, on_is, papers_both, papers_is}
 use Rattle.mas_complex.proofs.Calm.{both_keep, settle_copy, settle_reads, settle_rests}
 use Rattle.mas_complex.proofs.Leaving.{pair_lost}
-use Rattle.mas_complex.proofs.Pasts.{before_later, image_now, past_alive, past_settled, seen}
-use Rattle.mas_complex.proofs.Values.{KeepsAt, facts, first_of, paper_after, second_of, setting_of, view_of}
+use Rattle.mas_complex.proofs.Pasts.{before_later, image_now, past_alive, past_settled}
+use Rattle.mas_complex.proofs.Values.{KeepsAt, copies_of, facts, half_of, laws_of, paper_after, place_of, ready_of, setting_of, sight_at, view_of}
+use Rattle.mas_complex.proofs.Each.{dead_of, each}
 use Rattle.mas_complex.proofs.complex.Complex.settle.Given.{Over}
 use Rattle.mas_complex.proofs.complex.Complex.settle.Goals.{After-place_after-self-2}
 use Rattle.mas_complex.proofs.complex.Complex.settle.Goals as goal
 
--- what each copy that counts as alive is at rest with
-rests1 : (g : Over) (c : After-place_after-self-2 g) → g.P.Plant.tells → KeepsAt c.args.self.now (view_of c.args.self.now) → c.args.self.now.pair.first.alive ≡ true
-    → g.C.Copying.rests c.args.self.now.pair.first.copy (bytes_of c.args.pages.now) (disk_now (view_of c.args.self.now) Ckpt1)
-rests1 g c told k = let s = c.args.self.now in settle_rests (setting_of s) k.was k.coming Ckpt1 (view_of s) (first_of s).rests (first_of s).holds s.first s.pair.first.alive (bytes_of c.args.pages.now) k.first_at c.requires.first (λ was d r. g.met.C.Copying.rests_now s.pair.first.copy was d r) (c.requires.reads1 told)
+-- what is asked of each copy
+module _ (g : Over) (c : After-place_after-self-2 g) where
+  -- the copy on a device after the call, and its place
+  abbrev alive_is : Dev → Bool
+  alive_is d = (pick d c.settle-done.new.self.first c.settle-done.new.self.second).alive
 
-rests2 : (g : Over) (c : After-place_after-self-2 g) → g.P.Plant.tells → KeepsAt c.args.self.now (view_of c.args.self.now) → c.args.self.now.pair.second.alive ≡ true
-    → g.C.Copying.rests c.args.self.now.pair.second.copy (bytes_of c.args.pages.now) (disk_now (view_of c.args.self.now) Ckpt2)
-rests2 g c told k = let s = c.args.self.now in settle_rests (setting_of s) k.was k.coming Ckpt2 (view_of s) (second_of s).rests (second_of s).holds s.second s.pair.second.alive (bytes_of c.args.pages.now) k.second_at c.requires.second (λ was d r. g.met.C.Copying.rests_now s.pair.second.copy was d r) (c.requires.reads2 told)
+  abbrev rests_is : Dev → List ℕ → Disk → Type 0
+  rests_is d = g.C.Copying.rests (pick d c.settle-done.new.self.first c.settle-done.new.self.second).copy
 
-during : (g : Over) (c : After-place_after-self-2 g) → g.P.Plant.tells → KeepsAt c.args.self.now (view_of c.args.self.now)
-    → BothMeanwhile (Touched c.args.self.now.pair.first.alive (AllRead g.C.Copying.reads (bytes_of c.args.pages.now)) (disk_now (view_of c.args.self.now) Ckpt1))
-    (Touched c.args.self.now.pair.second.alive (AllRead g.C.Copying.reads (bytes_of c.args.pages.now)) (disk_now (view_of c.args.self.now) Ckpt2)) (view_of c.args.self.now) (g.P.Plant.view c.settle-done.new.plant)
-during g c told k = c.settle-done.ensures.during told (rests1 g c told k) (rests2 g c told k)
+  abbrev place_is : Dev → Place
+  place_is d = pick d c.place_after-self.result c.place_after-self-2.result
+
+  abbrev new : View
+  new = g.P.Plant.view c.settle-done.new.plant
+
+  abbrev pages : List ℕ
+  pages = bytes_of c.args.pages.now
+
+  before : (d : Dev) → IsCkpt d → (half_of c.args.self.now d).alive ≡ true → place_of c.args.self.now d ≡ Before
+  before = each (λ d. (half_of c.args.self.now d).alive ≡ true → place_of c.args.self.now d ≡ Before) c.requires.first c.requires.second
+
+  reads : g.P.Plant.tells → (d : Dev) → IsCkpt d → (half_of c.args.self.now d).alive ≡ true → g.C.Copying.reads (disk_now (view_of c.args.self.now) d).bytes ≡ Some pages
+  reads told = each (λ d. (half_of c.args.self.now d).alive ≡ true → g.C.Copying.reads (disk_now (view_of c.args.self.now) d).bytes ≡ Some pages) (c.requires.reads1 told) (c.requires.reads2 told)
+
+  rests_now : (d : Dev) (was : List ℕ) (x : Disk) → g.C.Copying.rests (half_of c.args.self.now d).copy was x → g.C.Copying.reads x.bytes ≡ Some was
+  rests_now d was x r = g.met.C.Copying.rests_now (half_of c.args.self.now d).copy was x r
+
+  module _ (told : g.P.Plant.tells) (k : KeepsAt c.args.self.now (view_of c.args.self.now)) where
+    reads_at : (d : Dev) → IsCkpt d → (view_of c.args.self.now).now < top → (x : Disk) → Touched (half_of c.args.self.now d).alive (AllRead g.C.Copying.reads pages) (disk_now (view_of c.args.self.now) d) x → ReadsBy (setting_of c.args.self.now) (is_away (setting_of c.args.self.now) d) k.was k.coming x
+    reads_at d ckpt = settle_reads (setting_of c.args.self.now) k.was k.coming d (copies_of c.args.self.now d) (view_of c.args.self.now) pages (k.at d ckpt) (before d ckpt) (rests_now d) (reads told d ckpt)
+
+    -- what each copy that counts as alive is at rest with
+    rests : (d : Dev) → IsCkpt d → (half_of c.args.self.now d).alive ≡ true → g.C.Copying.rests (half_of c.args.self.now d).copy pages (disk_now (view_of c.args.self.now) d)
+    rests d ckpt = settle_rests (setting_of c.args.self.now) k.was k.coming d (copies_of c.args.self.now d) (view_of c.args.self.now) pages (k.at d ckpt) (before d ckpt) (rests_now d) (reads told d ckpt)
+
+    abbrev Touches : Dev → Disk → Type 0
+    Touches d = Touched (half_of c.args.self.now d).alive (AllRead g.C.Copying.reads pages) (disk_now (view_of c.args.self.now) d)
+
+    all : BothMeanwhile (Touches Ckpt1) (Touches Ckpt2) (view_of c.args.self.now) new
+    all = c.settle-done.ensures.during told (rests Ckpt1 tt) (rests Ckpt2 tt)
+
+    touched : (d : Dev) → IsCkpt d → Touches d (disk_now new d)
+    touched = each (λ d. Touches d (disk_now new d)) (all.first new.now all.goes.later (omega arith)) (all.second new.now all.goes.later (omega arith))
+
+    settled : (d : Dev) → IsCkpt d → OnOk c.settle-done.result (alive_is d ≡ true → rests_is d pages (disk_now new d))
+    settled = each (λ d. OnOk c.settle-done.result (alive_is d ≡ true → rests_is d pages (disk_now new d)))
+        (held_then c.settle-done.result c.settle-done.ensures.settled1 (λ a. a told (rests Ckpt1 tt) (rests Ckpt2 tt))) (held_then c.settle-done.result c.settle-done.ensures.settled2 (λ a. a told (rests Ckpt1 tt) (rests Ckpt2 tt)))
+
+    still : (d : Dev) → IsCkpt d → OnOk c.settle-done.result (alive_is d ≡ true → g.C.Copying.reads (disk_now new d).bytes ≡ Some pages)
+    still d ckpt = held_then c.settle-done.result (settled d ckpt) (λ a now. g.met.C.Copying.rests_now (pick d c.settle-done.new.self.first c.settle-done.new.self.second).copy pages (disk_now new d) (a now))
 
 papers : (g : Over) (c : After-place_after-self-2 g) → g.P.Plant.tells → SamePapers (view_of c.args.self.now) (g.P.Plant.view c.settle-done.new.plant)
-papers g c told = papers_is (view_of c.args.self.now) (g.P.Plant.view c.settle-done.new.plant) (∥∥₁_map (c.args.self.now.kept told) (λ k. papers_both _ _ (view_of c.args.self.now) (g.P.Plant.view c.settle-done.new.plant) (during g c told k)))
+papers g c told = papers_is (view_of c.args.self.now) (g.P.Plant.view c.settle-done.new.plant) (∥∥₁_map (c.args.self.now.kept told) (λ k. papers_both _ _ (view_of c.args.self.now) (g.P.Plant.view c.settle-done.new.plant) (all g c told k)))
 
 pub invariant_of-self : goal.invariant_of-self
 invariant_of-self g c =
     let s = c.args.self.now in
     let C = g.C.Copying in
     let old = view_of s in
-    let new = g.P.Plant.view c.settle-done.new.plant in
     let p = c.settle-done.new.self in
     let e = c.settle-done.ensures in
-    let pages = bytes_of c.args.pages.now in
-    facts s p c.place_after-self.result c.place_after-self-2.result new e.acted.goes.later
+    let v = new g c in
+    let alive = each (λ d. (pick d c.settle-done.new.self.first c.settle-done.new.self.second).alive ≡ true → (half_of s d).alive ≡ true) e.acted.alive1 e.acted.alive2 in
+    let after = each (λ d. IsPlaceAfter c.settle-done.result Before (place_is g c d)) c.place_after-self.ensures c.place_after-self-2.ensures in
+    facts s p c.place_after-self.result c.place_after-self-2.result v e.acted.goes.later
     (λ told. ∥∥₁_map (s.kept told) (λ k.
-    let m = during g c told k in
-    both_keep (setting_of s) s.journal.batches s.current s.level (first_of s) (second_of s) (copy_of (C.rests p.first.copy) (C.holds p.first.copy) p.first.alive c.place_after-self.result) (copy_of (C.rests p.second.copy) (C.holds p.second.copy) p.second.alive c.place_after-self-2.result) old new
-    (Touched s.pair.first.alive (AllRead C.reads pages) (disk_now old Ckpt1)) (Touched s.pair.second.alive (AllRead C.reads pages) (disk_now old Ckpt2)) k m
-    (settle_reads (setting_of s) k.was k.coming Ckpt1 old (first_of s).rests (first_of s).holds s.first s.pair.first.alive (bytes_of c.args.pages.now) k.first_at c.requires.first (λ was d r. g.met.C.Copying.rests_now s.pair.first.copy was d r) (c.requires.reads1 told))
-    (settle_reads (setting_of s) k.was k.coming Ckpt2 old (second_of s).rests (second_of s).holds s.second s.pair.second.alive (bytes_of c.args.pages.now) k.second_at c.requires.second (λ was d r. g.met.C.Copying.rests_now s.pair.second.copy was d r) (c.requires.reads2 told))
-    (settle_copy (setting_of s) k.was k.coming Ckpt1 old (first_of s).rests (first_of s).holds s.first s.pair.first.alive (bytes_of c.args.pages.now) k.first_at c.requires.first (λ was d r. g.met.C.Copying.rests_now s.pair.first.copy was d r) (c.requires.reads1 told)
-    new (C.rests p.first.copy) (C.holds p.first.copy) c.place_after-self.result p.first.alive c.settle-done.result e.acted.alive1 m.goes.later (m.first new.now m.goes.later (omega arith)) (e.gone1 told (rests1 g c told k) (rests2 g c told k)) e.settled1 (λ a now. a told (rests1 g c told k) (rests2 g c told k) now) (λ both. (e.both both).0) c.place_after-self.ensures)
-    (settle_copy (setting_of s) k.was k.coming Ckpt2 old (second_of s).rests (second_of s).holds s.second s.pair.second.alive (bytes_of c.args.pages.now) k.second_at c.requires.second (λ was d r. g.met.C.Copying.rests_now s.pair.second.copy was d r) (c.requires.reads2 told)
-    new (C.rests p.second.copy) (C.holds p.second.copy) c.place_after-self-2.result p.second.alive c.settle-done.result e.acted.alive2 m.goes.later (m.second new.now m.goes.later (omega arith)) (e.gone2 told) e.settled2 (λ a now. a told (rests1 g c told k) (rests2 g c told k) now) (λ both. (e.both both).1) c.place_after-self-2.ensures)))
-    (λ told. ∥∥₁_map₂ (s.kept told) (s.lasting told) (λ k l.
+    let m = all g c told k in
+    both_keep (setting_of s) s.journal.batches s.current s.level (copies_of s) (λ d. copy_of C.rests C.holds (pick d c.settle-done.new.self.first c.settle-done.new.self.second) (place_is g c d)) old v (Touches g c told k Ckpt1) (Touches g c told k Ckpt2) k m
+    (each (λ d. (t : ℕ) → old.now ≤ t → t ≤ v.now → old.now < top → ReadsBy (setting_of s) (is_away (setting_of s) d) k.was k.coming (disk_at v t d)) (λ t from le lt. reads_at g c told k Ckpt1 tt lt (disk_at v t Ckpt1) (m.first t from le)) (λ t from le lt. reads_at g c told k Ckpt2 tt lt (disk_at v t Ckpt2) (m.second t from le)))
+    (λ d ckpt. settle_copy (setting_of s) k.was k.coming d (copies_of s d) old (pages g c) (k.at d ckpt) (before g c d ckpt) (rests_now g c d) (reads g c told d ckpt) v (copy_of C.rests C.holds (pick d c.settle-done.new.self.first c.settle-done.new.self.second) (place_is g c d)) c.settle-done.result (alive d ckpt) m.goes.later (touched g c told k d ckpt)
+    (each (λ d. IsGone d (half_of s d).alive (pick d c.settle-done.new.self.first c.settle-done.new.self.second).alive v) (e.gone1 told (rests g c told k Ckpt1 tt) (rests g c told k Ckpt2 tt)) (e.gone2 told) d ckpt) (settled g c told k d ckpt) (λ a now. a now) (λ both. dead_of d ckpt p.first p.second (e.both both)) (after d ckpt))))
+    (λ told. ∥∥₁_map₂ (s.kept told) (s.lasting told) (λ k l d ckpt.
     let count = page_count s.base.config in
     let had = values_of s.had in
-    let x1 = seen (λ h. h.alive) C.reads (λ h. C.behind h.copy) s.pair.first s.first old Ckpt1 in
-    let x2 = seen (λ h. h.alive) C.reads (λ h. C.behind h.copy) s.pair.second s.second old Ckpt2 in
-    let y1 = seen (λ h. h.alive) C.reads (λ h. C.behind h.copy) p.first c.place_after-self.result new Ckpt1 in
-    let y2 = seen (λ h. h.alive) C.reads (λ h. C.behind h.copy) p.second c.place_after-self-2.result new Ckpt2 in
-    let m = during g c told k in
-    record {
-      first = past_alive count had x1 y1 e.acted.alive1 (λ is. past_settled count had y1 pages c.settle-done.result (before_later count had x1 pages l.first is (c.requires.first is) (c.requires.reads1 told is)) c.place_after-self.ensures (λ both. (e.both both).0)
-          (λ up. touched_is s.pair.first.alive (AllRead C.reads pages) (disk_now old Ckpt1) (disk_now new Ckpt1) is (m.first new.now m.goes.later (omega arith)) (disk_now new Ckpt1).bytes (image_now (disk_now new Ckpt1) (g.met.P.Plant.there c.settle-done.new.plant told Ckpt1 up)))
-          (held_then c.settle-done.result e.settled1 (λ settled now. g.met.C.Copying.rests_now p.first.copy pages (disk_now new Ckpt1) (settled told (rests1 g c told k) (rests2 g c told k) now))));
-      second = past_alive count had x2 y2 e.acted.alive2 (λ is. past_settled count had y2 pages c.settle-done.result (before_later count had x2 pages l.second is (c.requires.second is) (c.requires.reads2 told is)) c.place_after-self-2.ensures (λ both. (e.both both).1)
-          (λ up. touched_is s.pair.second.alive (AllRead C.reads pages) (disk_now old Ckpt2) (disk_now new Ckpt2) is (m.second new.now m.goes.later (omega arith)) (disk_now new Ckpt2).bytes (image_now (disk_now new Ckpt2) (g.met.P.Plant.there c.settle-done.new.plant told Ckpt2 up)))
-          (held_then c.settle-done.result e.settled2 (λ settled now. g.met.C.Copying.rests_now p.second.copy pages (disk_now new Ckpt2) (settled told (rests1 g c told k) (rests2 g c told k) now))));
-    }))
-    (paper_after s new e.acted.goes (papers g c))
-    ((λ is. g.met.C.Steady.ready_fit p.first.copy new (e.ready.first is)), (λ is. g.met.C.Steady.ready_fit p.second.copy new (e.ready.second is)))
-    (pair_lost Ckpt1 s.pair.first.alive p.first.alive old new e.acted.goes e.acted.is_lost1 s.lost.0, pair_lost Ckpt2 s.pair.second.alive p.second.alive old new e.acted.goes e.acted.is_lost2 s.lost.1)
+    let x = sight_at s (half_of s d) (place_of s d) d old in
+    let y = sight_at s (pick d c.settle-done.new.self.first c.settle-done.new.self.second) (place_is g c d) d v in
+    past_alive count had x y (alive d ckpt) (λ is. past_settled count had y (pages g c) c.settle-done.result (before_later count had x (pages g c) (l d ckpt) is (before g c d ckpt is) (reads g c told d ckpt is)) (after d ckpt) (λ both. dead_of d ckpt p.first p.second (e.both both))
+    (λ up. touched_is (half_of s d).alive (AllRead C.reads (pages g c)) (disk_now old d) (disk_now v d) is (touched g c told k d ckpt) (disk_now v d).bytes (image_now (disk_now v d) (g.met.P.Plant.there c.settle-done.new.plant told d up))) (still g c told k d ckpt))))
+    (paper_after s v e.acted.goes (papers g c))
+    (λ d ckpt is. g.met.C.Steady.ready_fit (pick d c.settle-done.new.self.first c.settle-done.new.self.second).copy v (each (λ d. (pick d c.settle-done.new.self.first c.settle-done.new.self.second).alive ≡ true → C.ready (pick d c.settle-done.new.self.first c.settle-done.new.self.second).copy v) e.ready.first e.ready.second d ckpt is))
+    (λ d ckpt. pair_lost d (half_of s d).alive (pick d c.settle-done.new.self.first c.settle-done.new.self.second).alive old v e.acted.goes (each (λ d. (half_of s d).alive ≡ true → (pick d c.settle-done.new.self.first c.settle-done.new.self.second).alive ≡ false → v.lost (DiskPart d) ≡ true) e.acted.is_lost1 e.acted.is_lost2 d ckpt) (s.lost d ckpt))
 
 pub returns-clause-apart : goal.returns-clause-apart
 returns-clause-apart g c told =
     let p = (goal.at.returns-clause-apart g c).After-place_after-self-2 in
-    on_is (view_of c.args.self.now) (g.P.Plant.view c.settle-done.new.plant) (∥∥₁_map (c.args.self.now.kept told) (λ k. on_both _ _ (view_of c.args.self.now) (g.P.Plant.view c.settle-done.new.plant) (during g p told k)))
+    on_is (view_of c.args.self.now) (g.P.Plant.view c.settle-done.new.plant) (∥∥₁_map (c.args.self.now.kept told) (λ k. on_both _ _ (view_of c.args.self.now) (g.P.Plant.view c.settle-done.new.plant) (all g p told k)))
 
 pub returns-clause-papers : goal.returns-clause-papers
 returns-clause-papers g c = papers g (goal.at.returns-clause-papers g c).After-place_after-self-2
@@ -76,16 +102,19 @@ returns-clause-papers g c = papers g (goal.at.returns-clause-papers g c).After-p
 pub returns-clause-throughout : goal.returns-clause-throughout
 returns-clause-throughout g c told t from le d one two =
     let p = (goal.at.returns-clause-throughout g c).After-place_after-self-2 in
-    ∥∥₁_elim (c.args.self.now.kept told) (Coded-set coded_disk _ _) (λ k. (during g p told k).others t from le d one two)
+    ∥∥₁_elim (c.args.self.now.kept told) (Coded-set coded_disk _ _) (λ k. (all g p told k).others t from le d one two)
 
 pub returns-clause-still1 : goal.returns-clause-still1
 returns-clause-still1 g c =
-    let p = (goal.at.returns-clause-still1 g c).After-place_after-self-2 in
+    let w = (goal.at.returns-clause-still1 g c).After-place_after-self-2 in
     held_then c.settle-done.result c.settle-done.ensures.settled1 (λ held told now. ∥∥₁_elim (c.args.self.now.kept told) (Coded-set (coded_option (coded_list coded_ℕ)) _ _) (λ k.
-    g.met.C.Copying.rests_now c.settle-done.new.self.first.copy (bytes_of c.args.pages.now) (disk_now (g.P.Plant.view c.settle-done.new.plant) Ckpt1) (held told (rests1 g p told k) (rests2 g p told k) now)))
+    g.met.C.Copying.rests_now c.settle-done.new.self.first.copy (pages g w) (disk_now (new g w) Ckpt1) (held told (rests g w told k Ckpt1 tt) (rests g w told k Ckpt2 tt) now)))
 
 pub returns-clause-still2 : goal.returns-clause-still2
 returns-clause-still2 g c =
-    let p = (goal.at.returns-clause-still2 g c).After-place_after-self-2 in
+    let w = (goal.at.returns-clause-still2 g c).After-place_after-self-2 in
     held_then c.settle-done.result c.settle-done.ensures.settled2 (λ held told now. ∥∥₁_elim (c.args.self.now.kept told) (Coded-set (coded_option (coded_list coded_ℕ)) _ _) (λ k.
-    g.met.C.Copying.rests_now c.settle-done.new.self.second.copy (bytes_of c.args.pages.now) (disk_now (g.P.Plant.view c.settle-done.new.plant) Ckpt2) (held told (rests1 g p told k) (rests2 g p told k) now)))
+    g.met.C.Copying.rests_now c.settle-done.new.self.second.copy (pages g w) (disk_now (new g w) Ckpt2) (held told (rests g w told k Ckpt1 tt) (rests g w told k Ckpt2 tt) now)))
+
+pub settle-done-requires-clause-ready : goal.settle-done-requires-clause-ready
+settle-done-requires-clause-ready g c = ready_of c.args.self.now (laws_of g.world g.met.P.Plant g.met.C.Steady g.met.C.Copying)

@@ -2,6 +2,7 @@ use Rattle.std.proofs.Common.{◌≡◌, ◌∙◌, ℕ, List, false, length, re
 use Rattle.std.proofs.Math.Logic.{∥∥₁_map₂}
 use Rattle.std.proofs.lemmas.Bool.{eqb-true}
 use Rattle.std.proofs.lemmas.Result.{err_from_is_err_and}
+use Rattle.mas_types.specs.declared.ids.Dev.{Dev}
 use Rattle.mas_types.specs.declared.ids.Dev.TheVariants.{Ckpt1, Ckpt2}
 use Rattle.mas_types.specs.declared.ids.Page.{Page}
 use Rattle.ckpt_pages.specs.Checkpoints.{SpellSome}
@@ -16,7 +17,8 @@ use Rattle.ckpt_tables.specs.Pages.{page_in}
 use Rattle.ckpt_tables.specs.Shape.{HasSpelling, page_count}
 use Rattle.page_tables.specs.Bringing.{AreOlder}
 use Rattle.ckpt_pages.specs.Given.{levels_given}
-use Rattle.spool_plant.specs.declared.plant.Part.TheVariants.{Disk}
+use Rattle.duplex_pair.specs.Halves.{pick}
+use Rattle.mas_complex.specs.Crash.{Copy, copy_of}
 use Rattle.mas_complex.specs.Kept.{HaveKept}
 use Rattle.mas_complex.specs.Past.{HavePasts, sight_of, values_of}
 use Rattle.mas_complex.proofs.Pasts.{before_unsure}
@@ -140,15 +142,16 @@ spelled-init g c =
     let after = room_after s.room c.as_mut_slice.result.now room v e.many in
     let one = disk_now (P.view x.plant) Ckpt1 in
     let two = disk_now (P.view x.plant) Ckpt2 in
-    let own : (told : P.tells) (k : HaveKept (run x.base (kept_all x.journal.batches)) x.level (C.rests x.pair.first.copy) (C.rests x.pair.second.copy) x.pair.first.alive x.pair.second.alive x.first x.second one two)
-    (n : HavePasts (page_count x.base.config) (values_of x.had) (sight_of x.pair.first.alive x.first ((P.view x.plant).lost (Disk Ckpt1)) (C.reads one.bytes) (C.behind x.pair.first.copy one.bytes)) (sight_of x.pair.second.alive x.second ((P.view x.plant).lost (Disk Ckpt2)) (C.reads two.bytes) (C.behind x.pair.second.copy two.bytes)))
+    let copies : Dev → Copy = λ d. copy_of C.rests C.holds (pick d x.pair.first x.pair.second) (pick d x.first x.second) in
+    let own : (told : P.tells) (k : HaveKept (run x.base (kept_all x.journal.batches)) x.level copies (P.view x.plant))
+    (n : HavePasts (page_count x.base.config) (values_of x.had) (λ d. sight_of C.reads C.behind (pick d x.pair.first x.pair.second) (pick d x.first x.second) d (P.view x.plant)))
     (w : List ℕ) → ReadsAs P.tells x.pair.first.alive (C.reads one.bytes) w → ReadsAs P.tells x.pair.second.alive (C.reads two.bytes) w → AreUnchanged (length c.as_mut_slice.result.now) c.level-level.result c.as_slice-own.result.now w
     = λ told k n w r1 r2.
     let many : page_count x.base.config ≡ length s.checkpoint.pages = ap page_count (c.requires.same_config told) ∙ sym c.requires.drawn.spelled.count in
     let rooms : page_count x.base.config ≡ length s.room = many ∙ sym c.requires.many in
     let same = own_unchanged c.law_of_levels.ensures.each P.tells told (run x.base (kept_all x.journal.batches)) k.was k.queue x.pair.first.alive x.pair.second.alive c.requires.alive (C.reads one.bytes) (C.reads two.bytes)
-    (λ on. g.met.C.Copying.rests_now x.pair.first.copy k.was one (k.at_first on c.requires.calm1.before)) (λ on. g.met.C.Copying.rests_now x.pair.second.copy k.was two (k.at_second on c.requires.calm2.before))
-    (page_count x.base.config) (values_of x.had) (λ on is read. n.first.reads on (λ unsure. absurd (before_unsure x.first c.requires.calm1.before unsure)) is read) (λ on is read. n.second.reads on (λ unsure. absurd (before_unsure x.second c.requires.calm2.before unsure)) is read)
+    (λ on. g.met.C.Copying.rests_now x.pair.first.copy k.was one (k.at Ckpt1 tt on c.requires.calm1.before)) (λ on. g.met.C.Copying.rests_now x.pair.second.copy k.was two (k.at Ckpt2 tt on c.requires.calm2.before))
+    (page_count x.base.config) (values_of x.had) (λ on is read. (n Ckpt1 tt).reads on (λ unsure. absurd (before_unsure x.first c.requires.calm1.before unsure)) is read) (λ on is read. (n Ckpt2 tt).reads on (λ unsure. absurd (before_unsure x.second c.requires.calm2.before unsure)) is read)
     s.checkpoint c.requires.drawn many (rooms ∙ sym (c.requires.config told)) (omega (arith, rooms, c.requires.some)) s.fresh s.id.0 c.requires.noted w r1 r2 in
     rw (v, c.level-level.ensures, c.as_slice-own.ensures) (subst (λ (n : ℕ). AreUnchanged n (level_had s.fresh s.checkpoint.level) s.checkpoint.pages w) rooms same) in
     record {
@@ -183,7 +186,7 @@ spelled-init g c =
       spares = e.read.spares;
       whole = λ told. ∥∥₁_map₂ (c.kept_pages.ensures.kept told) (c.kept_pages.ensures.noted told) (λ k n. rw (after, e.base, e.journal, e.level)
           (read_whole P.tells (run x.base (kept_all x.journal.batches)) x.level x.pair.first.alive z.pair.first.alive x.pair.second.alive z.pair.second.alive (P.view x.plant) (P.view z.plant) C.reads s.room room e.read.acts told
-          k.was k.at_level k.queue (λ on. g.met.C.Copying.rests_now x.pair.first.copy k.was one (k.at_first on c.requires.calm1.before)) (λ on. g.met.C.Copying.rests_now x.pair.second.copy k.was two (k.at_second on c.requires.calm2.before))
+          k.was k.at_level k.queue (λ on. g.met.C.Copying.rests_now x.pair.first.copy k.was one (k.at Ckpt1 tt on c.requires.calm1.before)) (λ on. g.met.C.Copying.rests_now x.pair.second.copy k.was two (k.at Ckpt2 tt on c.requires.calm2.before))
           (λ w r1 r2. c.requires.page told w r1 r2) (λ w are q from to. (let z : q ≡ 0 = omega (arith, to) in subst (λ (q : ℕ). page_in room q ≡ page_of_bytes q w) (sym z) (e.header ∙ ap (λ (ps : List Page). page_in ps 0) v ∙ are 0 (omega arith) (omega arith))))
           (λ w r1 r2. e.pages told w r1 r2 (subst (ArePagesOf 0 1 w) (sym v) (c.requires.page told w r1 r2)) (own told k n w r1 r2))));
     }
