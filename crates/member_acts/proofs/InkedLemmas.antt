@@ -1,8 +1,8 @@
 -- Lines of an output that are printed one after another.
-use Rattle.member_acts.proofs.Names.{◌≡◌, ℕ, ◌+◌, ◌≤◌, Bool, true, false, List, [], ◌∷◌, length, None, Some, Ok, Result, take, ◌≢◌, ◌⊎◌, inl, inr, ◌∙◌, zero, suc, ◌-◌, ◌<◌, ◌++◌, map, append-nil, append_assoc, Err, slice_get, ap, refl, subst, sym, arith, counts_of, book_by, printed_by, reserved_by, lines_upto, HasInked, Inked, IsCountOf, IsInkedTo, inked_of, lines_from, get_or-set_other, JobNo, MemberId, OutNo, Act, Done, Failed, ActHalted as Halted, Ghosts as PlantGhosts, Prints, Line, View, paper_now, whole, Parts, NodeNo, NoMemory, Halted as HaltedNo, printed_in, Acts, Closing, IsBeside, OtherCountsStay, Printer, Read, SameDisks, SameWires, SparesBut, beside_none, beside_on, beside_print, failed_wider, goes_none, is_printer_lost, lines_lost, lines_printed, lines_read, none_lost, not, print_failed, printed_end, sparing_beside, sparing_done, sparing_halted, sparing_none, sparing_then, unprinted, wires_none, wires_then, Batch, Option, Queue, entries_in, kept_all, output_at, run}
+use Rattle.member_acts.proofs.Names.{◌≡◌, ℕ, ◌+◌, ◌≤◌, Bool, true, false, List, [], ◌∷◌, length, None, Some, Ok, Result, take, ◌≢◌, ◌⊎◌, inl, inr, ◌∙◌, zero, suc, ◌-◌, ◌<◌, ◌++◌, map, append-nil, append_assoc, Err, slice_get, ap, refl, subst, sym, arith, counts_of, book_by, printed_by, reserved_by, lines_upto, HasInked, Inked, IsCountOf, IsInkedTo, inked_of, lines_from, get_or-set_other, JobNo, MemberId, OutNo, Act, Done, Failed, ActHalted as Halted, Ghosts as PlantGhosts, Prints, Line, View, paper_now, whole, Parts, NodeNo, NoMemory, Halted as HaltedNo, printed_in, Acts, Closing, Printer, Read, SparesBut, beside_none, beside_on, beside_print, failed_wider, goes_none, is_printer_lost, lines_lost, lines_printed, lines_read, none_lost, not, print_failed, printed_end, sparing_beside, sparing_done, sparing_halted, sparing_none, sparing_then, unprinted, wires_none, wires_then, Batch, Option, Queue, entries_in, kept_all, output_at, run}
 use Rattle.paper_laws.specs.Paper.{busy_in}
 use Rattle.paper_laws.specs.Next.{MayPrint}
-use Rattle.member_acts.specs.Prints.{HasPrinted, Upto, MayPrintTo}
+use Rattle.member_acts.specs.Prints.{HasActedBeside, HasPrinted, Upto, MayPrintTo}
 use Rattle.mas_types.specs.declared.answers.Closing.TheVariants as closing
 use Rattle.job_outcome.specs.declared.outcomes.Read.TheVariants as read
 use Rattle.member_work.specs.Inked.{IsInkedBy}
@@ -185,6 +185,15 @@ may_print base batches current m u printed before lines bytes may counted small 
       (subst (λ (k : OutNo). busy_in (output_at (run base (kept_all batches ++ entries_in current)) u.output.job k) m ≡ true) (sym may.index) may.still);
 }
 
+-- WHAT IS LEFT ALONE
+
+beside_same : {P C : Type 0} (plants : PlantGhosts P) (by : MemberId) (x : Parts P C) → HasActedBeside plants x x by
+beside_same plants by x = record { acts = beside_none plants.tells (plants.view x.plant); disks = λ told d. refl; other_counts = λ m other. refl; wires = λ told. wires_none (plants.view x.plant) }
+
+others_by : (by : MemberId) (r : Act) (printed : List ℕ) (m : MemberId) → m.0 ≢ by.0 → counts_of (printed_by by r printed) m ≡ counts_of printed m
+others_by by Done printed m other = get_or-set_other printed by.0 m.0 (counts_of printed by + 1) 0 other
+others_by by _ printed m other = refl
+
 -- THE LINES OF A TEXT up to the last one, except those that were counted before
 
 module _ {P C : Type 0} (plants : PlantGhosts P) (by : MemberId) (u : Upto) (text : List (List ℕ)) (x : Parts P C) where
@@ -197,29 +206,23 @@ module _ {P C : Type 0} (plants : PlantGhosts P) (by : MemberId) (u : Upto) (tex
   -- so far they are printed
   pub record HaveLines (before : ℕ) (y : Parts P C) : Type 0 where
     pub frame : y ≡ printed_in y x
-    pub acts : IsBeside plants.tells (plants.view x.plant) (plants.view y.plant)
+    pub beside : HasActedBeside plants x y by
     pub spares : SparesBut by.0 false none_lost (plants.view x.plant) (plants.view y.plant)
     pub upto : before ≤ u.output.mark + counts_of y.printed by
     pub more : counts_of x.printed by ≤ counts_of y.printed by
     pub most : counts_of x.printed by < counts_of y.printed by → u.output.mark + counts_of y.printed by ≤ u.last
     pub so : plants.tells → HavePrinted plants by its x y
-    pub disks : SameDisks plants.tells (plants.view x.plant) (plants.view y.plant)
-    pub counts : OtherCountsStay by x.printed y.printed
-    pub wires : plants.tells → SameWires (plants.view x.plant) (plants.view y.plant)
     pub next : before < u.last → u.output.mark + counts_of y.printed by ≡ before
 
   pub lines_none : (first : ℕ) → first ≤ u.output.mark + counts_of x.printed by → (first < u.last → u.output.mark + counts_of x.printed by ≡ first) → HaveLines first x
   lines_none first upto next = record {
     frame = refl;
-    acts = beside_none plants.tells (seen x);
+    beside = beside_same plants by x;
     spares = sparing_none by.0 (seen x);
     upto = upto;
     more = omega arith;
     most = λ less. omega (arith, less);
     so = λ told. printed_none plants by its x;
-    disks = λ told d. refl;
-    counts = λ m other. refl;
-    wires = λ told. wires_none (seen x);
     next = next;
   }
 
@@ -229,29 +232,25 @@ module _ {P C : Type 0} (plants : PlantGhosts P) (by : MemberId) (u : Upto) (tex
     -- none was printed for want of memory
     pub lines_wanting : before < u.last → HasPrinted plants x y by u (read.Lines text) (Err NoMemory)
     lines_wanting small = record {
-      acts = have.acts;
-      disks = have.disks;
+      frame = have.frame;
+      beside = have.beside;
       inks = λ told. let less = next_less u.output.job u.output.index text u.output.mark u.last (counts_of x.printed by) (counts_of y.printed by) before have.more (have.next small) small in inked_wanting plants by its is_printer_lost x y (have.so told) have.more (omega (arith, less));
       printed = tt;
       counted = tt;
       cause = have.spares;
-      other_counts = have.counts;
-      wires = have.wires;
       lines = λ n. refl;
     }
 
     -- all are printed
     pub lines_done : u.last ≤ before → HasPrinted plants x y by u (read.Lines text) (Ok None)
     lines_done end = record {
-      acts = have.acts;
-      disks = have.disks;
+      frame = have.frame;
+      beside = have.beside;
       inks = λ told. inked_all plants by its is_printer_lost x y (have.so told) have.more None refl
           (all_from u.output.job u.output.index text u.output.mark u.last (counts_of x.printed by) (counts_of y.printed by) have.more have.most (omega (arith, end, have.upto)));
       printed = lines_printed by text (seen x) (seen y);
       counted = λ is. omega (arith, end, have.upto);
       cause = have.spares;
-      other_counts = have.counts;
-      wires = have.wires;
       lines = tt;
     }
 
@@ -267,17 +266,16 @@ module _ {P C : Type 0} (plants : PlantGhosts P) (by : MemberId) (u : Upto) (tex
       Leaves r = z ≡ record y { plant = z.plant; printed = printed_by by r y.printed; book = book_by by r y.book; reserved = reserved_by by r y.reserved }
 
       module _ (r : Act) (frame : Leaves r) (acts : Acts by.0 (Printer by) (seen y) (seen z) r) (content : plants.tells → Prints by.0 line (seen y) (seen z) r) where
-        beside : IsBeside plants.tells (seen x) (seen z)
-        beside = beside_on plants.tells (seen x) (seen y) (seen z) have.acts (beside_print plants.tells by line (seen y) (seen z) r acts content)
-
-        quiet : SameDisks plants.tells (seen x) (seen z)
-        quiet told d = (content told).disks d ∙ have.disks told d
-
-        still : plants.tells → SameWires (seen x) (seen z)
-        still told = wires_then (seen x) (seen y) (seen z) (have.wires told) (content told).wires
-
         counts_are : z.printed ≡ printed_by by r y.printed
         counts_are = ap (λ (p : Parts P C). p.printed) frame
+
+        beside : HasActedBeside plants x z by
+        beside = record {
+          acts = beside_on plants.tells (seen x) (seen y) (seen z) have.beside.acts (beside_print plants.tells by line (seen y) (seen z) r acts content);
+          disks = λ told d. (content told).disks d ∙ have.beside.disks told d;
+          other_counts = λ m other. ap (λ (l : List ℕ). counts_of l m) counts_are ∙ others_by by r y.printed m other ∙ have.beside.other_counts m other;
+          wires = λ told. wires_then (seen x) (seen y) (seen z) (have.beside.wires told) (content told).wires;
+        }
 
       pub lines_more : Leaves Done → Acts by.0 (Printer by) (seen y) (seen z) Done → (plants.tells → Prints by.0 line (seen y) (seen z) Done) → counts_of z.printed by ≡ counts_of y.printed by + 1 → HaveLines (before + 1) z
       lines_more frame acts content one =
@@ -285,15 +283,12 @@ module _ {P C : Type 0} (plants : PlantGhosts P) (by : MemberId) (u : Upto) (tex
           let counts = counts_are Done frame acts content in
           record {
             frame = one_behind by x z y Done have.frame frame;
-            acts = beside Done frame acts content;
+            beside = beside Done frame acts content;
             spares = sparing_then by.0 false none_lost (seen x) (seen y) (seen z) have.spares (sparing_done by.0 (Printer by) (seen y) (seen z) acts);
             upto = omega (arith, same, one);
             more = omega (arith, have.more, one);
             most = λ less. omega (arith, same, one, small);
             so = λ told. printed_one plants by its x y z line (have.so told) have.more one counts (content told) less here;
-            disks = quiet Done frame acts content;
-            counts = λ m other. ap (λ (l : List ℕ). counts_of l m) counts ∙ get_or-set_other y.printed by.0 m.0 (counts_of y.printed by + 1) 0 other ∙ have.counts m other;
-            wires = still Done frame acts content;
             next = λ less. omega (arith, same, one);
           }
 
@@ -303,14 +298,12 @@ module _ {P C : Type 0} (plants : PlantGhosts P) (by : MemberId) (u : Upto) (tex
           let counts = counts_are Failed frame acts content in
           let as_many : counts_of z.printed by ≡ counts_of y.printed by = ap (λ (l : List ℕ). counts_of l by) counts in
           record {
-            acts = beside Failed frame acts content;
-            disks = quiet Failed frame acts content;
+            frame = one_behind by x z y Failed have.frame frame;
+            beside = beside Failed frame acts content;
             inks = λ told. inked_lost plants by its is_printer_lost x z (printed_failed plants by its x y z line (have.so told) counts (content told)) (omega (arith, have.more, as_many)) (Some closing.PrinterLost) refl (omega (arith, less, as_many));
-            printed = lines_lost by text (seen x) (seen z) (failed_wider by (seen x) (seen y) (seen z) (seen z) have.acts.goes (goes_none (seen z)) (print_failed by (seen y) (seen z) Failed refl acts));
+            printed = lines_lost by text (seen x) (seen z) (failed_wider by (seen x) (seen y) (seen z) (seen z) have.beside.acts.goes (goes_none (seen z)) (print_failed by (seen y) (seen z) Failed refl acts));
             counted = λ is. absurd (cc);
             cause = sparing_then by.0 false none_lost (seen x) (seen y) (seen z) have.spares (sparing_beside by.0 (Printer by) (seen y) (seen z) (λ n same. absurd (cc)) acts);
-            other_counts = λ m other. ap (λ (l : List ℕ). counts_of l m) counts ∙ have.counts m other;
-            wires = still Failed frame acts content;
             lines = tt;
           }
 
@@ -319,14 +312,12 @@ module _ {P C : Type 0} (plants : PlantGhosts P) (by : MemberId) (u : Upto) (tex
       lines_halted frame acts content =
           let counts = counts_are Halted frame acts content in
           record {
-            acts = beside Halted frame acts content;
-            disks = quiet Halted frame acts content;
+            frame = one_behind by x z y Halted have.frame frame;
+            beside = beside Halted frame acts content;
             inks = λ told. inked_halted plants by its is_printer_lost x y (have.so told) have.more z line counts (content told) less here;
             printed = tt;
             counted = tt;
-            cause = (sparing_then by.0 true none_lost (seen x) (seen y) (seen z) have.spares (sparing_halted by.0 (Printer by) (seen y) (seen z) acts), let rose = acts.halted refl in let sooner = have.acts.goes.stops by.0 in omega (arith, rose, sooner));
-            other_counts = λ m other. ap (λ (l : List ℕ). counts_of l m) counts ∙ have.counts m other;
-            wires = still Halted frame acts content;
+            cause = (sparing_then by.0 true none_lost (seen x) (seen y) (seen z) have.spares (sparing_halted by.0 (Printer by) (seen y) (seen z) acts), let rose = acts.halted refl in let sooner = have.beside.acts.goes.stops by.0 in omega (arith, rose, sooner));
             lines = λ n. refl;
           }
 
@@ -336,13 +327,11 @@ pub lines_unread : {P C : Type 0} (plants : PlantGhosts P) (by : MemberId) (u : 
 lines_unread plants by u x a end is not none =
     let v = plants.view x.plant in
     record {
-      acts = beside_none plants.tells v;
-      disks = λ told d. refl;
+      frame = refl;
+      beside = beside_same plants by x;
       inks = λ told. subst (λ (ls : List (List ℕ)). HasInked plants is_printer_lost by ls x x (Ok (Some end))) (sym none) (inked_all plants by [] is_printer_lost x x (printed_none plants by [] x) (omega arith) (Some end) not (omega arith));
       printed = unprinted by a v end is;
       counted = λ is. absurd (cc);
       cause = sparing_none by.0 v;
-      other_counts = λ m other. refl;
-      wires = λ told. wires_none v;
       lines = tt;
     }

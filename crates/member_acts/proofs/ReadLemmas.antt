@@ -49,9 +49,10 @@ quiet_group : (per : ℕ) (g : GroupNo) (v w : View) (page : Page) (r : Act) →
 quiet_group per g v w page r reads = quiet_read (volume_of per g) (page_start (is_within v per g) (start_of per g)) v w (page_part (is_within v per g) page.0) r reads
 
 -- a group is read alone, whatever comes of it
-pub group_read : {P C : Type 0} (plants : PlantGhosts P) (x y : Parts P C) (by : MemberId) (g : GroupNo) (page : Page) (r : Act) → Acts by.0 (DiskPart (device_of x.base.config.groups g)) (plants.view x.plant) (plants.view y.plant) r
+pub group_read : {P C : Type 0} (plants : PlantGhosts P) (x y : Parts P C) (by : MemberId) (g : GroupNo) (page : Page) (r : Act) → y ≡ record x { plant = y.plant } → Acts by.0 (DiskPart (device_of x.base.config.groups g)) (plants.view x.plant) (plants.view y.plant) r
     → (plants.tells → ReadsGroup x.base.config.groups g (plants.view x.plant) (plants.view y.plant) page r) → HasReadOn plants x y by
-group_read plants x y by g page r acts reads = record {
+group_read plants x y by g page r frame acts reads = record {
+  frame = frame;
   acts = act_on plants.tells by.0 (volume_of x.base.config.groups g) (plants.view x.plant) (plants.view y.plant) r acts (λ t. (reads t).only);
   reads = λ t. quiet_group x.base.config.groups g (plants.view x.plant) (plants.view y.plant) page r (reads t);
 }
@@ -165,6 +166,7 @@ module _ {P C : Type 0} (plants : PlantGhosts P) (by : MemberId) (x : Parts P C)
 
   pub reads_then : (y z : Parts P C) → HasReadOn plants x y by → HasReadOn plants y z by → HasReadOn plants x z by
   reads_then y z one two = record {
+    frame = two.frame ∙ ap (λ (p : Parts P C). record p { plant = z.plant }) one.frame;
     acts = acts_on plants.tells by.0 (seen x) (seen y) (seen z) one.acts two.acts;
     reads = λ t. quiet_on (spools_at (seen x) (seen x).now) (spools_at (seen y) (seen y).now) (spools_at (seen z) (seen z).now) (one.reads t) (two.reads t);
   }

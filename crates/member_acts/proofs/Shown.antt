@@ -1,5 +1,6 @@
 -- What acts without the lock show of a text.
-use Rattle.member_acts.proofs.Names.{OnOk, Ok, ◌≡◌, ℕ, ◌≤◌, Bool, true, false, List, Option, Some, None, ◌+◌, [], length, Result, take, Err, ◌∙◌, ◌*◌, append-nil, ap, refl, sym, subst, arith, ◌⊎◌, inl, inr, ◌<◌, ◌++◌, map, Job, Output, Text, job_at, line_count, output_at, has_key, has_number, printing_at, total, Spool, Disk as DiskPart, AreRoomy, kept_all, run, IsThereUnless, lost_now, spools_at, HasTexts, Spools, counts_of, gone_with, as_it_is, after_lines, IsChunkOf, IsPrinting, IsToldOutput, IsFailedRead, IsReadOf, HasFailed, IsReadAs, IsWhole, AreSpooled, lines_read, HasInked, Inked, IsInkedTo, inked_of, is_printer_lost, torn_line, OnVolumes, SpoolCauses, GroupsKept, AreQuiet, IsQuiet, SpoolStops, finds_of, HasOnlyPrinted, HasStayed, HasWritten, IsJobStill, IsOutputStill, lines_next, lowest_for, printed_in, Coded-set, find-All, GroupNo, JobNo, MemberId, OutNo, Whole, Gone, Config, Queue, Batch, Entry, Deck, OutputThing, OutSpec, Goes, View, ViewDisk as Disk, Line, disk_now, paper_now, Ghosts as PlantGhosts, groups_of, Parts, whole, Read, chunk_end, printed_end as printed_by, key_of, limit_most, output_key, still_busy, coded_read, number_of, tells_some, Found, NodeNo, BothLost, ConsoleFault, NoMemory, Halted, slice_get, told_output, ∥∥₁_elim, take-nil}
+use Rattle.std.proofs.Common.{⊎_elim}
+use Rattle.member_acts.proofs.Names.{OnOk, Ok, ◌≡◌, ℕ, ◌≤◌, Bool, true, false, List, Option, Some, None, ◌+◌, [], length, Result, take, Err, ◌∙◌, ◌*◌, append-nil, ap, refl, sym, subst, arith, inl, inr, ◌++◌, map, Job, Output, Text, job_at, line_count, output_at, has_key, has_number, printing_at, total, Spool, Disk as DiskPart, AreRoomy, kept_all, run, IsThereUnless, lost_now, spools_at, HasTexts, Spools, counts_of, gone_with, as_it_is, after_lines, IsChunkOf, IsPrinting, IsToldOutput, IsFailedRead, IsReadOf, HasFailed, IsReadAs, IsWhole, AreSpooled, lines_read, HasInked, Inked, IsInkedTo, inked_of, is_printer_lost, torn_line, OnVolumes, SpoolCauses, GroupsKept, AreQuiet, IsQuiet, SpoolStops, finds_of, HasOnlyPrinted, HasStayed, HasWritten, IsJobStill, IsOutputStill, lines_next, lowest_for, printed_in, Coded-set, find-All, GroupNo, JobNo, MemberId, OutNo, Whole, Gone, Config, Queue, Batch, Entry, Deck, OutputThing, OutSpec, Goes, View, ViewDisk as Disk, Line, disk_now, paper_now, Ghosts as PlantGhosts, groups_of, Parts, whole, Read, chunk_end, printed_end as printed_by, key_of, limit_most, output_key, still_busy, coded_read, number_of, tells_some, Found, NodeNo, BothLost, ConsoleFault, NoMemory, Halted, slice_get, told_output, ∥∥₁_elim, take-nil}
 use Rattle.member_acts.specs.Prints.{MayPrintTo, upto}
 use Rattle.mas_types.specs.declared.ids.Dev.{Dev}
 use Rattle.lay_bytes.specs.declared.records.JobRec.{JobRec}
@@ -16,6 +17,7 @@ use Rattle.member_decks.specs.declared.spooling.SpoolError.TheVariants as spool
 use Rattle.step_turns.specs.JobEnds.{printed_end}
 use Rattle.member_node.specs.declared.member.Member.{Member}
 use Rattle.member_acts.proofs.InkedLemmas.{none_of, inked_stopped, inked_wanting, unprinted_yet}
+use Rattle.member_work.specs.Inked.{IsInkedBy}
 
 one_group : (a b : GroupNo) → Some a ≡ Some b → a ≡ b
 one_group a b e = cc
@@ -228,26 +230,19 @@ module _ {P C : Type 0} (plants : PlantGhosts P) (by : MemberId) (lines : List (
   }
 
   -- where no line was to be printed
-  pub inked_nothing : {T : Type 0} (lost : T → Bool) (e : NodeNo) → HasInked plants lost by [] x y (Err e) → HasInked plants lost by lines x y (Err e)
-  inked_nothing lost NoMemory k = record {
+  inked_none : {T : Type 0} (lost : T → Bool) (e : NodeNo) (k : HasInked plants lost by [] x y (Err e)) → k.inked.lines ≡ 0 → IsInkedBy lost (Err e) (length lines) k.inked → HasInked plants lost by lines x y (Err e)
+  inked_none lost e k none answer = record {
     inked = k.inked;
-    paper = k.paper ∙ ap (λ (l : List Line). paper_now (plants.view x.plant) by.0 ++ l) (same_ink k.inked lines (let few = k.by_answer.0 in omega (arith, few)));
+    paper = k.paper ∙ ap (λ (l : List Line). paper_now (plants.view x.plant) by.0 ++ l) (same_ink k.inked lines none);
     others = k.others;
-    by_answer = (let few = k.by_answer.0 in omega (arith, few), k.by_answer.1);
+    by_answer = answer;
     counted = k.counted;
     other_counts = k.other_counts;
   }
-  inked_nothing {T} lost Halted k = record {
-    inked = k.inked;
-    paper = k.paper ∙ ap (λ (l : List Line). paper_now (plants.view x.plant) by.0 ++ l) (same_ink k.inked lines (let few = k.by_answer.0 in omega (arith, few)));
-    others = k.others;
-    by_answer = (let few = k.by_answer.0 in omega (arith, few), rest k.by_answer.1);
-    counted = k.counted;
-    other_counts = k.other_counts;
-  } where
-    rest : ((k.inked.rest ≡ None) ⊎ (k.inked.lines < 0)) → ((k.inked.rest ≡ None) ⊎ (k.inked.lines < length lines))
-    rest (inl none) = inl none
-    rest (inr less) = absurd (omega (arith, less))
+
+  pub inked_nothing : {T : Type 0} (lost : T → Bool) (e : NodeNo) → HasInked plants lost by [] x y (Err e) → HasInked plants lost by lines x y (Err e)
+  inked_nothing lost NoMemory k = let few = k.by_answer.0 in inked_none lost NoMemory k (omega (arith, few)) (omega (arith, few), k.by_answer.1)
+  inked_nothing lost Halted k = let few = k.by_answer.0 in inked_none lost Halted k (omega (arith, few)) (omega (arith, few), ⊎_elim (λ none. inl none) (λ less. absurd (omega (arith, less))) k.by_answer.1)
   inked_nothing lost BothLost k = absurd k.by_answer
   inked_nothing lost ConsoleFault k = absurd k.by_answer
 

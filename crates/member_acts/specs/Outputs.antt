@@ -26,9 +26,11 @@ module _ {P C : Type 0} (plants : PlantGhosts P) where
     pub within : All (IsGroupOf x.base.config) groups
     pub held : plants.tells → All (λ g. IsHeldBy by g (run x.base (kept_all x.batches))) groups
 
-  -- Acts on the volumes of these groups, with the cause of their answer. Each other group is as it was.
+  -- Acts on the volumes of these groups, with the cause of their answer. Each other group is as it was, and so
+  -- is the rest.
   pub record HasActedOn {T : Type 0} (x y : Parts P C) (by : MemberId) (groups : List GroupNo)
       (result : Result T SpoolError) : Type 0 where
+    pub frame : y ≡ record x { plant = y.plant }
     pub acts : OnVolumes plants.tells by.0 (v x) (v y)
     pub cause : SpoolCauses result by.0 x.base.config.groups groups (v x) (v y)
     pub spares : plants.tells → GroupsKept x.base.config.groups groups (spools_at (v x) (v x).now)

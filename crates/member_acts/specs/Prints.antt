@@ -1,5 +1,5 @@
 -- The lines of an output that a member prints next.
-use Rattle.member_acts.specs.Names.{members_most, printer_lines_most, SameWires, IsMember, is_stopped, IsOfOther, counts_of, Parts, parts_of, SpoolStops, Lines, Output, kept_all, run, output_at, HasInked, is_printer_lost, OtherCountsStay, lines_read, IsBeside, IsLinesPrinted, SameDisks, SteadyGhosts, IsCounted, names_nothing, names_read}
+use Rattle.member_acts.specs.Names.{members_most, printer_lines_most, SameWires, IsMember, is_stopped, IsOfOther, counts_of, Parts, parts_of, SpoolStops, Lines, Output, kept_all, run, output_at, HasInked, is_printer_lost, OtherCountsStay, lines_read, IsBeside, IsLinesPrinted, SameDisks, after_lines, SteadyGhosts, IsCounted, names_nothing, names_read}
 use Rattle.std.specs.Prelude.{◌≡◌, ℕ, ◌+◌, ◌≤◌, true, false, List, ◌++◌, Option, None, Some, Result, IfOk, OnErr}
 use Rattle.mas_types.specs.declared.answers.Closing.{Closing}
 use Rattle.mas_types.specs.declared.ids.MemberId.{MemberId}
@@ -57,20 +57,24 @@ module _ {P C : Type 0} (plants : PlantGhosts P) where
     pub may : plants.tells → (lines : List (List ℕ)) → read ≡ Lines lines
         → MayPrintTo x.base x.batches x.current by u lines
 
-  -- Prints, by their answer: None where the lines stand on paper, else how the unit is refused. No volume is written,
-  -- no other printer prints, and nothing moves on a line to another node. Halted comes only where the member was
-  -- stopped, NoMemory only when out of memory: both only where lines were read.
-  pub record HasPrinted (x y : Parts P C) (by : MemberId) (u : Upto) (read : Read)
-      (result : Result (Option Closing) NodeNo) : Type 0 where
+  -- Prints of a member: no volume is written, no other printer prints, and nothing moves on a line to another node.
+  pub record HasActedBeside (x y : Parts P C) (by : MemberId) : Type 0 where
     pub acts : IsBeside plants.tells (v x) (v y)
     pub disks : SameDisks plants.tells (v x) (v y)
+    pub other_counts : OtherCountsStay by x.printed y.printed
+    pub wires : plants.tells → SameWires (v x) (v y)
+
+  -- Prints, by their answer: None where the lines stand on paper, else how the unit is refused. Halted comes only where
+  -- the member was stopped, NoMemory only when out of memory: both only where lines were read.
+  pub record HasPrinted (x y : Parts P C) (by : MemberId) (u : Upto) (read : Read)
+      (result : Result (Option Closing) NodeNo) : Type 0 where
+    pub frame : y ≡ after_lines result by y x
+    pub beside : HasActedBeside x y by
     pub inks : plants.tells → HasInked plants is_printer_lost by
         (lines_read u.output.job u.output.index (u.output.mark + counts_of x.printed by) u.last read) x y result
     pub printed : IfOk result (IsLinesPrinted by read (v x) (v y))
     pub counted : IfOk result (λ end. end ≡ None → u.last ≤ u.output.mark + counts_of y.printed by)
     pub cause : SpoolStops names_nothing result by.0 (v x) (v y)
-    pub other_counts : OtherCountsStay by x.printed y.printed
-    pub wires : plants.tells → SameWires (v x) (v y)
     pub lines : OnErr result ((n : ℕ) → names_read read n ≡ false)
 
 -- OVER THE SHARED VALUE

@@ -47,8 +47,9 @@ module _ {P C : Type 0} (plants : PlantGhosts P) where
     pub some : 1 ≤ x.base.config.groups
     pub within : All (IsGroupOf x.base.config) groups
 
-  -- acts on the volumes that read alone
+  -- acts on the volumes that read alone; the rest is as it was
   pub record HasReadOn (x y : Parts P C) (by : MemberId) : Type 0 where
+    pub frame : y ≡ record x { plant = y.plant }
     pub acts : OnVolumes plants.tells by.0 (v x) (v y)
     pub reads : OnlyReads plants.tells (v x) (v y)
 

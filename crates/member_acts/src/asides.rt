@@ -1,6 +1,6 @@
 //! Acts of a step of work that want no lock: a job's text is read, its outputs are written, an output's next lines are
 //! printed.
-ghost use Rattle.member_acts.specs.Names.{parts_of, MayPrintLines, MayReadText, MayWriteOutputs, OnlyPrints, PrintsLines, ReadsText, WritesOutputs, is_printer_lost as is_printer_lost_lem, lines_to, printed_found};
+ghost use Rattle.member_acts.specs.Names.{parts_of, MayPrintLines, MayReadText, MayWriteOutputs, OnlyPrints, PrintsLines, ReadsText, WritesOutputs, is_printer_lost as is_printer_lost_lem, lines_to};
 ghost use Rattle.std.specs.Prelude.{◌≡◌};
 
 use crate::gone::gone_group;
@@ -10,8 +10,8 @@ use crate::spooling::write_and_sync;
 use job_outcome::Read;
 use job_queue::find_job;
 use mas_complex::{Complex, Steady};
-use mas_types::{Closing, JobNo, List, OutNo, OutSpec, Thing};
-use member_asides::found_by;
+use mas_types::{Closing, JobNo, OutNo, OutSpec, Thing};
+use member_asides::{found_by, found_with};
 use member_node::{Member, NodeNo};
 use member_work::groups_of_outputs;
 use output_queue::find_output;
@@ -19,19 +19,6 @@ use spool_plant::Plant;
 use std::alloc::Global;
 use step_turns::Found;
 use track_groups::{groups_of, held_by, law_of_places};
-
-// What a member found that read a text, and perhaps found its printer lost.
-fn found_read(alloc: Global, read: Read, printer: bool) -> Found
-    ensures { result ≡ printed_found read printer }
-{
-    Found {
-        read,
-        lost: None,
-        printer,
-        wire: false,
-        frames: List::new(alloc),
-    }
-}
 
 // The unit is refused since the printer is lost.
 fn is_printer_lost(end: &Option<Closing>) -> bool
@@ -55,7 +42,7 @@ pub fn read_job_text<P: Plant + Drop, C: Steady + Drop>(
     ensures reads { ReadsText complex.old complex.new member.now job result }
 {
     if let Some(group) = gone_group(complex, Thing::Deck(job)) {
-        return Ok(found_read(alloc, Read::Gone(group), false));
+        return Ok(found_with(alloc, Read::Gone(group), None, false));
     }
     law_of_places();
     complex.kept_texts();
@@ -68,7 +55,7 @@ pub fn read_job_text<P: Plant + Drop, C: Steady + Drop>(
     };
     let groups = groups.as_slice();
     let read = read_text(complex, alloc, member.id, groups, found.item.cards)?;
-    Ok(found_read(alloc, read, false))
+    Ok(found_with(alloc, read, None, false))
 }
 
 /// Writes the texts of a job's outputs into the lowest groups of the member, as many as they need, and syncs the
@@ -118,7 +105,7 @@ pub fn print_next_lines<P: Plant + Drop, C: Steady + Drop>(
 {
     let thing = Thing::Output(job, output);
     if let Some(group) = gone_group(complex, thing) {
-        return Ok(found_read(alloc, Read::Gone(group), false));
+        return Ok(found_with(alloc, Read::Gone(group), None, false));
     }
     law_of_places();
     complex.kept_texts();
@@ -134,5 +121,5 @@ pub fn print_next_lines<P: Plant + Drop, C: Steady + Drop>(
     let read = read_text(complex, alloc, by, groups, found.item.lines)?;
     let end = print_text(complex, alloc, by, &found.item, last, &read)?;
     let printer = is_printer_lost(&end);
-    Ok(found_read(alloc, read, printer))
+    Ok(found_with(alloc, read, None, printer))
 }

@@ -1,6 +1,5 @@
 //! Printing the lines of an output that come next.
-ghost use Rattle.member_acts.specs.Names.{parts_of, Lines as LinesRead, after_lines};
-ghost use Rattle.std.specs.Prelude.{◌≡◌};
+ghost use Rattle.member_acts.specs.Names.{Lines as LinesRead};
 ghost use Rattle.member_acts.specs.Prints.{MayPrint, Prints, upto};
 
 use job_outcome::Read;
@@ -24,8 +23,7 @@ fn print_lines<P: Plant + Drop, C: Steady + Drop>(
     text: &Lines,
 ) -> Result<Option<Closing>, NodeNo>
     requires { MayPrint complex.old by (upto output.now last) (LinesRead text.now) }
-    ensures frame { parts_of complex.new ≡ after_lines result by (parts_of complex.new) (parts_of complex.old) }
-    ensures prints { Prints complex.old complex.new by (upto output.now last) (LinesRead text.now) result }
+    ensures { Prints complex.old complex.new by (upto output.now last) (LinesRead text.now) result }
 {
     let first = output.mark.saturating_add(complex.printed_lines(by));
     for before in first..last {
@@ -53,8 +51,7 @@ pub(crate) fn print_text<P: Plant + Drop, C: Steady + Drop>(
     read: &Read,
 ) -> Result<Option<Closing>, NodeNo>
     requires { MayPrint complex.old by (upto output.now last) read.now }
-    ensures frame { parts_of complex.new ≡ after_lines result by (parts_of complex.new) (parts_of complex.old) }
-    ensures prints { Prints complex.old complex.new by (upto output.now last) read.now result }
+    ensures { Prints complex.old complex.new by (upto output.now last) read.now result }
 {
     match read {
         Read::Gone(group) => Ok(Some(Closing::NoText(*group))),

@@ -1,5 +1,5 @@
 //! Reading a job's text from the spool volumes.
-ghost use Rattle.member_acts.specs.Names.{text_lines_most, text_unless, parts_of, SpoolStops, names_volume, IsReadable, as_it_is, IsCounted, names_read};
+ghost use Rattle.member_acts.specs.Names.{text_lines_most, text_unless, SpoolStops, names_volume, IsReadable, as_it_is, IsCounted, names_read};
 ghost use Rattle.member_acts.specs.Reads.{Adds, AreRecords, MayReadGroups, ReadsOn, ReadsPage, ReadsTextOf, so_far};
 ghost use Rattle.std.specs.Prelude.{◌≡◌, ◌≤◌, ◌∷◌, [], IfOk};
 
@@ -21,7 +21,6 @@ fn read_page<P: Plant + Drop, C: Steady + Drop>(
     into: &mut Page,
 ) -> Result<Option<u8>, NodeNo>
     requires { MayReadGroups complex.old by (group ∷ []) }
-    ensures frame { parts_of complex.new ≡ record (parts_of complex.old) { plant = complex.new.plant } }
     ensures on { ReadsOn complex.old complex.new by }
     ensures cause { SpoolStops names_volume result by.0 (P.view complex.old.plant) (P.view complex.new.plant) }
     ensures page { IfOk result (ReadsPage complex.old complex.new group into.new.0) }
@@ -29,6 +28,7 @@ fn read_page<P: Plant + Drop, C: Steady + Drop>(
     let config = complex.base.config();
     match complex.spool_read(by, group, into) {
         Act::Done => {
+            // Called for what it says: that the page has 4,096 bytes.
             let _bytes = bytes_in(into);
             Ok(None)
         }
@@ -48,7 +48,6 @@ fn add_group<P: Plant + Drop, C: Steady + Drop>(
     gone: &mut Option<GroupNo>,
 ) -> Result<Option<u8>, NodeNo>
     requires { MayReadGroups complex.old by (group ∷ []) }
-    ensures frame { parts_of complex.new ≡ record (parts_of complex.old) { plant = complex.new.plant } }
     ensures on { ReadsOn complex.old complex.new by }
     ensures cause { SpoolStops names_volume result by.0 (P.view complex.old.plant) (P.view complex.new.plant) }
     ensures added { IfOk result (Adds complex.old complex.new group (so_far lines.old gone.old)
@@ -101,7 +100,6 @@ pub(crate) fn read_text<P: Plant + Drop, C: Steady + Drop>(
 ) -> Result<Read, NodeNo>
     requires may { MayReadGroups complex.old by groups.now }
     requires count { count ≤ text_lines_most }
-    ensures frame { parts_of complex.new ≡ record (parts_of complex.old) { plant = complex.new.plant } }
     ensures on { ReadsOn complex.old complex.new by }
     ensures cause { SpoolStops names_read result by.0 (P.view complex.old.plant) (P.view complex.new.plant) }
     ensures text { IfOk result (ReadsTextOf complex.old complex.new groups.now count) }

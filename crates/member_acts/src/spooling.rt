@@ -1,6 +1,6 @@
 //! The outputs of a job into a member's groups on the spool volumes.
-ghost use Rattle.std.specs.Prelude.{◌≡◌, ◌≤◌, OnOk, Ok};
-ghost use Rattle.member_acts.specs.Names.{parts_of, spools_at, AreRoomy, AreSpooled, AreWritten};
+ghost use Rattle.std.specs.Prelude.{◌≤◌, OnOk};
+ghost use Rattle.member_acts.specs.Names.{spools_at, AreRoomy, AreSpooled, AreWritten};
 ghost use Rattle.member_acts.specs.Outputs.{ActsOn, MayWrite};
 
 use mas_complex::{Complex, Steady};
@@ -19,7 +19,6 @@ fn write_outputs<P: Plant + Drop, C: Steady + Drop>(
     specs: &[OutSpec],
 ) -> Result<(), SpoolError>
     requires { MayWrite complex.old by groups.now specs.now }
-    ensures frame { parts_of complex.new ≡ record (parts_of complex.old) { plant = complex.new.plant } }
     ensures on { ActsOn complex.old complex.new by groups.now result }
     ensures stand { OnOk result (P.tells → AreRoomy (P.view complex.old.plant) complex.old.base.config
         → AreWritten (spools_at (P.view complex.new.plant) (P.view complex.new.plant).now)
@@ -43,7 +42,6 @@ pub(crate) fn write_and_sync<P: Plant + Drop, C: Steady + Drop>(
 ) -> Result<(), SpoolError>
     requires may { MayWrite complex.old by groups.now specs.now }
     requires some { 1 ≤ complex.old.base.config.groups }
-    ensures frame { parts_of complex.new ≡ record (parts_of complex.old) { plant = complex.new.plant } }
     ensures on { ActsOn complex.old complex.new by groups.now result }
     ensures there { OnOk result (P.tells → AreRoomy (P.view complex.old.plant) complex.old.base.config
         → AreSpooled (spools_at (P.view complex.new.plant) (P.view complex.new.plant).now)

@@ -53,7 +53,7 @@ use Rattle.member_work.specs.Spooled.{AreSpooled}
 use Rattle.step_turns.specs.JobEnds.{printed_end}
 use Rattle.step_turns.specs.States.{nothing_found}
 use Rattle.step_turns.specs.declared.states.Found.{Found}
-pub use Rattle.member_sittings.specs.Asides.{deck_found, finds_of}
+pub use Rattle.member_sittings.specs.Asides.{deck_found, finds_of, found_as}
 use Rattle.member_sittings.specs.Whole.{queue_of}
 use Rattle.member_asides.specs.Ready.{IsOutputReady}
 

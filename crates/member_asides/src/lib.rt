@@ -1,5 +1,5 @@
-//! What the acts of a step of work may do that want no lock, and what they show: definitions, and one
-//! function that is passed on.
+//! What the acts of a step of work may do that want no lock, and what they show: definitions, and two
+//! functions that are passed on.
 #![tactic(auto)]
 
-pub use member_sittings::found_by;
+pub use member_sittings::{found_by, found_with};

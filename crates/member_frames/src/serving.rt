@@ -12,7 +12,7 @@ use crate::ends::{close_line, leave_line};
 use crate::nexts::{Next, counted, next_of};
 use mas_complex::{Complex, Steady};
 use mas_types::{Closing, Command};
-use member_giving::{give, keep_full};
+use member_giving::{Part, give_part, keep_full};
 use member_node::{Member, NodeNo};
 use member_sittings::SittingEnd;
 use spool_plant::Plant;
@@ -67,8 +67,8 @@ pub(crate) fn serve<P: Plant + Drop, C: Steady + Drop>(
             }
             Next::Send(number, service) => {
                 let line = service.line;
-                let command = Command::Sent { line, number };
-                let end = give(member, alloc, complex, holder, command)?;
+                let part = Part::One(Command::Sent { line, number });
+                let end = give_part(member, alloc, complex, holder, part)?;
                 keep_full(member, alloc, complex, holder)?;
                 next = next_of(&member.checkpoint.tables, counted(service, end));
                 given += 1;

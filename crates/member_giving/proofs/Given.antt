@@ -1,11 +1,11 @@
--- A member that gave commands of a unit on its tables: all of them, or, out of memory, the first ones.
-use Rattle.member_giving.proofs.Names.{◌≡◌, ◌+◌, ◌≤◌, ℕ, List, [], ◌∷◌, ◌++◌, length, Result, Ok, Err, All, take, true, false, ◌∙◌, length-append, append_assoc, ap, refl, subst, sym, arith, not, Command, JobNo, MemberId, OutSpec, Entry, Queue, outputs_at_end, job_at, may_give, Reply, Batch, Tell, TellSound, held_by, Tables, View, PlantGhosts, Ghosts as CopyGhosts, SteadyGhosts, Complex, kept_all, begun, meaning_run as run, MayBegin, values_of, HasTexts, Spools, lost_now, spools_at, Member, NodeNo, Apart, Course, IsSettle, counted_none, counted_up, notes_by, notes_same, LeavesNotes, AreOf, given_of, tells_some, IsOnCopies, KeepLeaves, UnitEnd, AreSpooled, IsUnderWay, IsKeeping, units_groups_for_end as groups_for_end, part_begins, batch_of, given_in, closes, closing_reply, entry_of, is_drop, reply_to, Holder, run_append, GivesUp, HasGiven, SparesOthers, IsLow, LeavesRoom, Works, outside, place_of, queue_here, queue_kept, append-nil, suc, parts_of, drop_groups, unit_part, pair_at}
+-- A member that gave a part of a unit on its tables: all its commands, or, out of memory, the first ones.
+use Rattle.member_giving.proofs.Names.{◌≡◌, ◌+◌, ◌≤◌, ℕ, List, [], ◌∷◌, ◌++◌, length, Result, Ok, Err, All, true, false, ◌∙◌, length-append, append_assoc, ap, refl, subst, sym, arith, not, Command, MemberId, Entry, Queue, Reply, Batch, Tell, View, PlantGhosts, Ghosts as CopyGhosts, SteadyGhosts, Complex, kept_all, begun, meaning_run as run, MayBegin, values_of, HasTexts, Spools, lost_now, spools_at, Member, NodeNo, Apart, Course, IsSettle, counted_none, counted_up, notes_by, notes_same, LeavesNotes, AreOf, given_of, tells_some, IsOnCopies, KeepLeaves, UnitEnd, IsKeeping, part_begins, batch_of, given_in, closes, closing_reply, entry_of, is_drop, reply_to, Holder, run_append, GivesUp, HasGiven, SparesOthers, Works, outside, place_of, queue_here, queue_kept, append-nil, suc, parts_of, drop_groups, unit_part, pair_at, Found, HasRoom, MayEndBy, dropping_unmarked, end_by, ending, ending_unmarked, inl, more_begins, reply_answered, taken_answered, taken_end, taking_unmarked, ◌*◌, ◌<◌}
 use Rattle.std.proofs.Math.Logic.{∥∥₁_map}
 use Rattle.queue_laws.proofs.RunLaws.{give_alike}
 use Rattle.member_node.specs.Drawn.{AreDrawn}
 use Rattle.member_decks.specs.Taking.{LeaveOut, IsPart}
 use Rattle.member_decks.proofs.MayLemmas.{IsUnmarked}
-use Rattle.member_work.specs.Giving.{GivesAt, HasGiven as Given, MayEnd, asked}
+use Rattle.member_work.specs.Giving.{GivesAt, HasGiven as Given, MayEnd, asked, IsSoundPlain}
 use Rattle.ckpt_tables.specs.Shape.{AreLevels, HasSpelling, page_count}
 use Rattle.mas_types.specs.Limits.{page_bytes}
 use Rattle.mas_types.specs.Step.{step}
@@ -19,10 +19,17 @@ use Rattle.member_asides.proofs.ReachLemmas.{batch_some}
 use Rattle.member_asides.proofs.SeatLemmas.{all_strip, front_is, of_strip, or_one, still_commanded, strip, strip_front}
 use Rattle.member_giving.proofs.Going.{apart_none, apart_then}
 use Rattle.member_giving.proofs.Resting.{tells_here}
-use Rattle.member_giving.proofs.Working.{kept_here, leaves_room, none_flies}
+use Rattle.member_giving.proofs.Working.{kept_here, none_flies}
 use Rattle.member_giving.proofs.Cuts.{none_batch}
 use Rattle.member_giving.proofs.Keeping.{keeping_none, keeping_starts, keeping_then, kept_not as batch_not, kept_ok, settled}
 use Rattle.member_giving.proofs.Leaving.{StartsAs}
+use Rattle.member_giving.proofs.Within.{answered_by}
+use Rattle.step_turns.proofs.Takes.{few_ending, few_taking}
+use Rattle.member_node.proofs.TextLemmas.{plain_brings}
+use Rattle.std.proofs.Common.{◌^◌}
+use Rattle.member_giving.specs.declared.parts.Part.{Part}
+use Rattle.member_giving.specs.declared.parts.Part.TheVariants as part
+use Rattle.member_giving.specs.Parts.{IsLonger, IsOwnPart, MayGive, MayLose, PartStands, commands_most, ends_of, commands_of}
 
 -- the step may close with the reply to one command that isn't Drop
 closes_with : (r : Reply) (e : Entry) → e.reply ≡ r → is_drop e.command ≡ false → closing_reply (e ∷ []) ≡ r
@@ -91,12 +98,26 @@ given_long by at [] Q = refl
 given_long by at (c ∷ cs) Q = ap suc (given_long by at cs (step Q by c).0)
 
 part_few : {T E : Type 0} (r : Result T E) (gave all : List Entry) → IsPart r gave all → length gave ≤ length all
-part_few (Ok done) gave all part = let same = ap length part in omega (arith, same)
-part_few (Err why) gave all part = let same = ap length part.1 in let long = length-append gave part.0 in omega (arith, same, long)
+part_few (Ok done) gave all are = let same = ap length are in omega (arith, same)
+part_few (Err why) gave all are = let same = ap length are.1 in let long = length-append gave are.0 in omega (arith, same, long)
 
 starts_batch : (es tail : List Entry) → StartsAs (batch_of es) (batch_of (es ++ tail))
 starts_batch [] tail = tt
 starts_batch (e ∷ es) tail = (omega arith, (tail, refl))
+
+most_commands : (Q : Queue) (by : MemberId) (p : Part) → length (commands_of by Q p) ≤ commands_most p
+most_commands Q by (part.Groups needed) = few_taking Q by needed
+most_commands Q by (part.Ended n specs) = let few = few_ending Q by n specs in omega (arith, few)
+most_commands Q by _ = omega arith
+
+one_more : {T E : Type 0} {holds : Spools → ℕ → Type 0} {done : T} (m n : Member) (h : Holder) (c : Command) (R : Queue) → GivesAt {T = T} {E = E} (asked R m.id h.step (c ∷ [])) holds m n (Ok done) → length n.batch ≡ length m.batch + 1
+one_more m n h c R its = ap length (its.batch ∙ ap (λ (es : List Entry). m.batch ++ es) its.part) ∙ length-append m.batch (given_in R m.id h.step (c ∷ []))
+
+pub part_longer : {T E : Type 0} {done : T} (m n : Member) (h : Holder) (p : Part) (R : Queue) → GivesAt {T = T} {E = E} (asked R m.id h.step (commands_of m.id R p)) (PartStands m.checkpoint.tables R m.id p) m n (Ok done) → IsLonger p m.batch n.batch
+part_longer {T} {E} {done} m n h (part.One c) R its = one_more {T = T} {E = E} {done = done} m n h c R its
+part_longer m n h (part.Groups needed) R its = tt
+part_longer m n h (part.Ended job specs) R its = tt
+part_longer m n h (part.Lost volume) R its = tt
 
 module _ {P C : Type 0} {plants : PlantGhosts P} {steadies : SteadyGhosts C} {copies : CopyGhosts C} (x : Complex P C plants steadies copies) (m n : Member) (h : Holder) (w : Works x m h) (g : Given h.step m n) where
   abbrev Q : Queue
@@ -121,14 +142,15 @@ module _ {P C : Type 0} {plants : PlantGhosts P} {steadies : SteadyGhosts C} {co
   gave_of : AreOf h.by h.step gave
   gave_of = subst (λ (i : MemberId). AreOf i h.step gave) (sym w.own) (all_strip (λ (e : Entry). (e.by ≡ m.id) × (e.step ≡ h.step)) m.batch n.batch (g.own w.of))
 
-  module _ {T E : Type 0} (cs : Queue → MemberId → List Command) (holds : Queue → Spools → ℕ → Type 0) (r : Result T E) (gives : (R : Queue) → Tell m.checkpoint.tables R → GivesAt (asked R m.id h.step (cs R m.id)) (holds R) m n r) where
-    abbrev first : GivesAt (asked (tells_some m.checkpoint.tables).0 m.id h.step (cs (tells_some m.checkpoint.tables).0 m.id)) (holds (tells_some m.checkpoint.tables).0) m n r
+  -- the commands of a part, given at a queue that the tables told
+  module _ {T E : Type 0} (p : Part) (r : Result T E) (gives : (R : Queue) → Tell m.checkpoint.tables R → GivesAt (asked R m.id h.step (commands_of m.id R p)) (PartStands m.checkpoint.tables R m.id p) m n r) where
+    abbrev first : GivesAt (asked (tells_some m.checkpoint.tables).0 m.id h.step (commands_of m.id (tells_some m.checkpoint.tables).0 p)) (PartStands m.checkpoint.tables (tells_some m.checkpoint.tables).0 m.id p) m n r
     first = gives (tells_some m.checkpoint.tables).0 (tells_some m.checkpoint.tables).1
 
-    abbrev one : plants.tells → GivesAt (asked Q m.id h.step (cs Q m.id)) (holds Q) m n r
+    abbrev one : plants.tells → GivesAt (asked Q m.id h.step (commands_of m.id Q p)) (PartStands m.checkpoint.tables Q m.id p) m n r
     one t = gives Q (tells_here x m h w t)
 
-    gave_is : (R : Queue) → (its : GivesAt (asked R m.id h.step (cs R m.id)) (holds R) m n r) → gave ≡ its.gave
+    gave_is : (R : Queue) → (its : GivesAt (asked R m.id h.step (commands_of m.id R p)) (PartStands m.checkpoint.tables R m.id p) m n r) → gave ≡ its.gave
     gave_is R its = ap (strip m.batch) its.batch ∙ strip_front m.batch its.gave
 
     batch_is : n.batch ≡ m.batch ++ gave
@@ -137,16 +159,17 @@ module _ {P C : Type 0} {plants : PlantGhosts P} {steadies : SteadyGhosts C} {co
     queue_is : queue_here x n ≡ run Q gave
     queue_is = ap (λ (es : List Entry). run x.base (kept_all x.journal.batches ++ es)) batch_is ∙ ap (run x.base) (sym (append_assoc (kept_all x.journal.batches) m.batch gave)) ∙ run_append x.base (kept_all x.journal.batches ++ m.batch) gave
 
-    -- THE MEMBER IS AT WORK STILL
-
-    pub gave_few : length n.batch ≤ length m.batch + length (cs (tells_some m.checkpoint.tables).0 m.id)
+    pub gave_few : length n.batch ≤ length m.batch + commands_most p
     gave_few =
         let few = part_few r first.gave _ first.part in
-        let long = given_long m.id h.step (cs (tells_some m.checkpoint.tables).0 m.id) (tells_some m.checkpoint.tables).0 in
+        let long = given_long m.id h.step (commands_of m.id (tells_some m.checkpoint.tables).0 p) (tells_some m.checkpoint.tables).0 in
         let both = ap length first.batch ∙ length-append m.batch first.gave in
-        omega (arith, few, long, both)
+        let most = most_commands (tells_some m.checkpoint.tables).0 m.id p in
+        omega (arith, few, long, both, most)
 
-    pub works_given : length n.batch ≤ 64 → (plants.tells → holds Q (spools_at v v.now) x.base.config.groups) → Stand (queue_kept x) → (plants.tells → MayBegin x.base x.journal.batches x.printed n.batch) → Works x n h
+    -- THE MEMBER IS AT WORK STILL
+
+    works_given : length n.batch ≤ 64 → (plants.tells → PartStands m.checkpoint.tables Q m.id p (spools_at v v.now) x.base.config.groups) → Stand (queue_kept x) → (plants.tells → MayBegin x.base x.journal.batches x.printed n.batch) → Works x n h
     works_given few stands kept begins = record {
       own = w.own ∙ sym g.id;
       still = still_commanded plants copies (parts_of x) m n (record { id = g.id; room = g.room; here = g.behind ∙ w.still.here; fresh = g.fresh; level = g.level; levels = g.levels; pages = g.pages; config = g.config; spelling = g.spelling; fit = g.fit }) w.still;
@@ -171,60 +194,72 @@ module _ {P C : Type 0} {plants : PlantGhosts P} {steadies : SteadyGhosts C} {co
     }
 
     -- three commands at most, none of them a Mark, where nothing was unwritten
-    module _ (nothing : m.batch ≡ []) (most : (R : Queue) → length (cs R m.id) ≤ 3) where
-      pub works_first : ((R : Queue) → All (IsUnmarked x.base m.id) (cs R m.id)) → (plants.tells → holds Q (spools_at v v.now) x.base.config.groups) → Stand (queue_kept x) → Works x n h
-      works_first unmarked stands kept =
-          let few = gave_few in
-          let three = most (tells_some m.checkpoint.tables).0 in
-          let none = ap length nothing in
-          works_given (omega (arith, few, three, none)) stands kept (λ t.
-          subst (λ (es : List Entry). MayBegin x.base x.journal.batches x.printed es) (sym ((one t).batch ∙ ap (λ (es : List Entry). es ++ (one t).gave) nothing)) (part_begins x.base m.id x.journal.batches x.printed r Q h.step (cs Q m.id) (one t).gave (unmarked Q) (one t).part))
+    works_first : m.batch ≡ [] → commands_most p ≤ 3 → All (IsUnmarked x.base m.id) (commands_of m.id Q p) → (plants.tells → PartStands m.checkpoint.tables Q m.id p (spools_at v v.now) x.base.config.groups) → Stand (queue_kept x) → Works x n h
+    works_first nothing three unmarked stands kept =
+        let few = gave_few in
+        let none = ap length nothing in
+        works_given (omega (arith, few, three, none)) stands kept (λ t.
+        subst (λ (es : List Entry). MayBegin x.base x.journal.batches x.printed es) (sym ((one t).batch ∙ ap (λ (es : List Entry). es ++ (one t).gave) nothing)) (part_begins x.base m.id x.journal.batches x.printed r Q h.step (commands_of m.id Q p) (one t).gave unmarked (one t).part))
 
-      pub room_first : IsLow x m → LeavesRoom x x n
-      room_first low =
-          let few = gave_few in
-          let three = most (tells_some m.checkpoint.tables).0 in
-          let none = ap length nothing in
-          let order = g.order in
-          let was = low.order in
-          let level = g.level in
-          let high = low.high in
-          leaves_room x x n (omega (arith, few, three, none, order, was)) (omega (arith, level, high)) refl
+  -- one command, or none of it
+  one_works : {T E : Type 0} (c : Command) (r : Result T E) → MayGive x m (part.One c) → ((R : Queue) → Tell m.checkpoint.tables R → GivesAt (asked R m.id h.step (c ∷ [])) (λ disks per. IsSoundPlain m.checkpoint.tables c) m n r) → Stand (queue_kept x) → Works x n h
+  one_works {T} {E} c (Ok y) may gives kept =
+      let s = tells_some m.checkpoint.tables in
+      let longer = one_more {T = T} {E = E} m n h c s.0 (gives s.0 s.1) in
+      works_given {T = T} {E = E} (part.One c) (Ok y) gives (omega (arith, longer, may.0)) (λ t. (w.sound t, plain_brings c may.1.plain)) kept
+      (λ t. let its = gives Q (tells_here x m h w t) in subst (λ (es : List Entry). MayBegin x.base x.journal.batches x.printed es) (sym (its.batch ∙ ap (λ (es : List Entry). m.batch ++ es) its.part)) (more_begins x.base m.id x.journal.batches x.printed m.batch h.step c (reply_to Q m.id c) may.1.may may.1.fit (λ sound. may.2 t) (w.allowed t)))
+  one_works {T} {E} c (Err e) may gives kept =
+      let s = tells_some m.checkpoint.tables in
+      let its = gives s.0 s.1 in
+      let front : LeaveOut its.gave (given_in s.0 m.id h.step (c ∷ [])) = its.part in
+      let same : 1 ≡ length (its.gave ++ front.0) = ap length front.1 in
+      let long = length-append its.gave front.0 in
+      let all = ap length its.batch ∙ length-append m.batch its.gave in
+      let is : n ≡ m = g.still (omega (arith, same, long, all, front.2)) in
+      subst (λ (i : Member). Works x i h) (sym is) w
+
+  pub part_works : {T E : Type 0} (p : Part) (r : Result T E) → MayGive x m p → ((R : Queue) → Tell m.checkpoint.tables R → GivesAt (asked R m.id h.step (commands_of m.id R p)) (PartStands m.checkpoint.tables R m.id p) m n r) → Stand (queue_kept x) → Works x n h
+  part_works (part.One c) r may gives kept = one_works c r may gives kept
+  part_works (part.Groups needed) r may gives kept = works_first (part.Groups needed) r gives may.0.nothing (omega arith) (taking_unmarked x.base m.id w.still.holds.member Q needed) w.sound kept
+  part_works (part.Ended job specs) r may gives kept =
+      works_first (part.Ended job specs) r gives may.0.nothing (omega arith) (ending_unmarked x.base m.id w.still.holds.member Q job specs may.1)
+      (λ t. subst (λ (R : Queue). MayEnd m.checkpoint.tables R m.id job specs (spools_at v v.now) x.base.config.groups) (sym (kept_here x m may.0.nothing)) (record { sound = w.sound t; under_way = may.2 t; spooled = may.3 t })) kept
+  part_works (part.Lost volume) r may gives kept = works_first (part.Lost volume) r gives may.nothing (omega arith) (dropping_unmarked x.base m.id w.still.holds.member) w.sound kept
 
   -- WHAT WAS GIVEN
 
   -- all of them
-  pub given_done : {E : Type 0} (cs : Queue → MemberId → List Command) (holds : Queue → Spools → ℕ → Type 0) (end : UnitEnd) (e : Queue → MemberId → UnitEnd) → ((R : Queue) → Tell m.checkpoint.tables R → GivesAt {T = UnitEnd} {E = E} (asked R m.id h.step (cs R m.id)) (holds R) m n (Ok end)) → ((R : Queue) → Tell m.checkpoint.tables R → end ≡ e R m.id)
-      → HasGiven plants.tells h (unit_part (cs Q h.by) (e Q h.by)) (place_of x m) (place_of x n) (Ok end)
-  given_done {E} cs holds end e gives ends =
+  pub given_done : {E : Type 0} (p : Part) (end : UnitEnd) → ((R : Queue) → Tell m.checkpoint.tables R → GivesAt {T = UnitEnd} {E = E} (asked R m.id h.step (commands_of m.id R p)) (PartStands m.checkpoint.tables R m.id p) m n (Ok end)) → ((R : Queue) → Tell m.checkpoint.tables R → end ≡ ends_of m.id h.step R p)
+      → HasGiven plants.tells h (unit_part (commands_of h.by Q p) (ends_of h.by h.step Q p)) (place_of x m) (place_of x n) (Ok end)
+  given_done {E} p end gives ends =
       let o = outside x in
       record {
         es = gave;
-        is = λ t. gave_is {T = UnitEnd} {E = E} cs holds (Ok end) gives Q (gives Q (tells_here x m h w t)) ∙ (gives Q (tells_here x m h w t)).part ∙ ap (λ (i : MemberId). given_in Q i h.step (cs Q i)) (sym w.own);
+        is = λ t. gave_is {T = UnitEnd} {E = E} p (Ok end) gives Q (gives Q (tells_here x m h w t)) ∙ (gives Q (tells_here x m h w t)).part ∙ ap (λ (i : MemberId). given_in Q i h.step (commands_of i Q p)) (sym w.own);
         of = gave_of;
         keeps = keeping_none plants.tells h.by o;
         counts = counted_none h.by x.printed x.printed (Ok end) refl;
-        left = batch_is {T = UnitEnd} {E = E} cs holds (Ok end) gives;
-        queue = queue_is {T = UnitEnd} {E = E} cs holds (Ok end) gives;
-        ends = λ t. ends Q (tells_here x m h w t) ∙ ap (e Q) (sym w.own);
+        left = batch_is {T = UnitEnd} {E = E} p (Ok end) gives;
+        queue = queue_is {T = UnitEnd} {E = E} p (Ok end) gives;
+        ends = λ t. ends Q (tells_here x m h w t) ∙ ap (λ (i : MemberId). ends_of i h.step Q p) (sym w.own);
         spares = apart_none plants.tells h.by o;
       }
 
   -- the first ones, which are kept if there is memory for that
-  pub given_not : {T E : Type 0} (y : Complex P C plants steadies copies) (u : Member) (why : NodeNo) (cs : Queue → MemberId → List Command) (holds : Queue → Spools → ℕ → Type 0) (err : E) (e : Queue → MemberId → UnitEnd) → ((R : Queue) → Tell m.checkpoint.tables R → GivesAt {T = T} {E = E} (asked R m.id h.step (cs R m.id)) (holds R) m n (Err err))
-      → GivesUp plants.tells h.by n.batch (outside x) (outside y) why → HasGiven plants.tells h (unit_part (cs Q h.by) (e Q h.by)) (place_of x m) (place_of y u) (Err why)
-  given_not {T} {E} y u why cs holds err e gives up =
+  pub given_not : {T E : Type 0} (y : Complex P C plants steadies copies) (u : Member) (why : NodeNo) (p : Part) (err : E) → ((R : Queue) → Tell m.checkpoint.tables R → GivesAt {T = T} {E = E} (asked R m.id h.step (commands_of m.id R p)) (PartStands m.checkpoint.tables R m.id p) m n (Err err))
+      → GivesUp plants.tells h.by n.batch (outside x) (outside y) why → HasGiven plants.tells h (unit_part (commands_of h.by Q p) (ends_of h.by h.step Q p)) (place_of x m) (place_of y u) (Err why)
+  given_not {T} {E} y u why p err gives up =
       let o = outside x in
       let z = outside y in
-      let all : List Entry = given_in Q h.by h.step (cs Q h.by) in
+      let all : List Entry = given_in Q h.by h.step (commands_of h.by Q p) in
       let e1 : Entry = entry_with h.by h.step drop_groups reply.Plain in
       let tail : List Entry = or_one e1 (strip gave all) in
       record {
         es = gave ++ tail;
-        is = λ t. front_is gave all e1 (subst (λ (i : MemberId). LeaveOut gave (given_in Q i h.step (cs Q i))) (sym w.own) (subst (λ (es : List Entry). LeaveOut es (given_in Q m.id h.step (cs Q m.id))) (sym (gave_is {T = T} {E = E} cs holds (Err err) gives Q (gives Q (tells_here x m h w t)))) (gives Q (tells_here x m h w t)).part));
-        of = of_strip h.by h.step gave all e1 (refl, refl) gave_of (given_of h.by h.step (cs Q h.by) Q);
+        is = λ t. front_is gave all e1 (subst (λ (i : MemberId). LeaveOut gave (given_in Q i h.step (commands_of i Q p))) (sym w.own) (subst (λ (es : List Entry). LeaveOut es (given_in Q m.id h.step (commands_of m.id Q p))) (sym (gave_is {T = T} {E = E} p (Err err) gives Q (gives Q (tells_here x m h w t)))) (gives Q (tells_here x m h w t)).part));
+        of = of_strip h.by h.step gave all e1 (refl, refl) gave_of (given_of h.by h.step (commands_of h.by Q p) Q);
         keeps = keeping_starts plants.tells h.by why (batch_of n.batch) (batch_of (m.batch ++ (gave ++ tail))) o z
-            (subst (λ (es : List Entry). StartsAs (batch_of n.batch) (batch_of es)) (ap (λ (es : List Entry). es ++ tail) (batch_is {T = T} {E = E} cs holds (Err err) gives) ∙ append_assoc m.batch gave tail) (starts_batch n.batch tail))
+            (subst (λ (es : List Entry). StartsAs (batch_of n.batch) (batch_of es)) (ap (λ (es : List Entry). es ++ tail) (batch_is {T = T} {E = E} p (Err err) gives) ∙ append_assoc m.batch gave tail) (starts_batch n.batch tail))
             up.keeps;
         counts = counted_up {S = Unit {0}} {T = UnitEnd} h.by [] [] x.printed y.printed (Err why) why up.counts;
         left = tt;
@@ -233,26 +268,26 @@ module _ {P C : Type 0} {plants : PlantGhosts P} {steadies : SteadyGhosts C} {co
         spares = up.spares;
       }
 
--- ONE COMMAND
+-- WHERE A PART MAY BE GIVEN
 
-pub one_more : {T E : Type 0} {holds : Spools → ℕ → Type 0} {done : T} (m n : Member) (h : Holder) (c : Command) (R : Queue) → GivesAt {T = T} {E = E} (asked R m.id h.step (c ∷ [])) holds m n (Ok done) → length n.batch ≡ length m.batch + 1
-one_more m n h c R its = ap length (its.batch ∙ ap (λ (es : List Entry). m.batch ++ es) its.part) ∙ length-append m.batch (given_in R m.id h.step (c ∷ []))
+module _ {P C : Type 0} {plants : PlantGhosts P} {steadies : SteadyGhosts C} {copies : CopyGhosts C} (x : Complex P C plants steadies copies) (m : Member) (h : Holder) (w : Works x m h) where
+  pub part_low : (p : Part) → HasRoom x m 1 → MayGive x m p → m.checkpoint.tables.order + 32 * commands_most p < 2 ^ 63
+  part_low (part.One c) room may = let order = room.order in omega (arith, order)
+  part_low (part.Lost volume) room may = let order = may.low.order in omega (arith, order)
+  part_low _ room may = let order = may.0.low.order in omega (arith, order)
 
--- a command that may be given to the base may be given to what the tables tell
-pub may_config : (t : Tables) (base : Queue) (s : TellSound t) → base.config ≡ t.config → (by : MemberId) (c : Command) → may_give base by c ≡ true → may_give s.queue by c ≡ true
-may_config t base s same by c may = give_alike base s.queue by c (s.told.config ∙ sym same) may
+  pub part_own : (p : Part) → MayGive x m p → IsOwnPart m p
+  part_own (part.One c) may = record { fit = may.1.fit; giver = may.1.giver; may = λ s. give_alike x.base s.queue m.id c (s.told.config ∙ sym w.still.config) may.1.may; closes = may.1.closes }
+  part_own (part.Lost volume) may = tt
+  part_own _ may = may.1
 
--- THE END OF A JOB
+-- HOW A PART MAY END
 
-module _ {P C : Type 0} {plants : PlantGhosts P} {steadies : SteadyGhosts C} {copies : CopyGhosts C} (x : Complex P C plants steadies copies) (m : Member) (h : Holder) (w : Works x m h) (nothing : m.batch ≡ []) (job : JobNo) (specs : List OutSpec) where
-  abbrev u : View
-  u = plants.view x.plant
+pub ends_may : (found : Found) (by : MemberId) (at : ℕ) (Q : Queue) (p : Part) → MayLose found p → MayEndBy found (ends_of by at Q p)
+ends_may found by at Q (part.One c) may = let r = closing_reply (given_in Q by at (c ∷ [])) in answered_by found (end_by r) (reply_answered r)
+ends_may found by at Q (part.Groups needed) may = answered_by found (taken_end Q by at needed) (taken_answered Q by at needed)
+ends_may found by at Q (part.Ended n specs) may = let r = closing_reply (given_in Q by at (ending Q by n specs)) in answered_by found (end_by r) (reply_answered r)
+ends_may found by at Q (part.Lost volume) may = inl may
 
-  -- the outputs stand in the member's groups
-  abbrev Stands : Queue → Type 0
-  Stands R = AreSpooled (spools_at u u.now) x.base.config.groups (outputs_at_end (job_at R job) specs) (take (groups_for_end R job specs) (held_by m.id R.owners))
-
-  -- so Ended may be given of a job under way
-  pub end_stands : (plants.tells → IsUnderWay (queue_kept x) m.id job) → (plants.tells → Stands (queue_kept x)) → plants.tells → MayEnd m.checkpoint.tables (queue_here x m) m.id job specs (spools_at u u.now) x.base.config.groups
-  end_stands under_way spooled t =
-      subst (λ (R : Queue). MayEnd m.checkpoint.tables R m.id job specs (spools_at u u.now) x.base.config.groups) (sym (kept_here x m nothing)) (record { sound = w.sound t; under_way = under_way t; spooled = spooled t })
+pub ends_by : (found : Found) (by : MemberId) (at : ℕ) (Q : Queue) (p : Part) (end : UnitEnd) → end ≡ ends_of by at Q p → MayLose found p → MayEndBy found end
+ends_by found by at Q p end is may = subst (MayEndBy found) (sym is) (ends_may found by at Q p may)

@@ -35,13 +35,12 @@ tells_still _ lines A was now silent same = same
 module _ (told : Type 0) (by : MemberId) where
   tells_on : (r : Result (Unit {0}) NodeNo) (lines : List (List ℕ)) (A B : Type 0) (was mid now : List Line) → mid ≡ was → (A → B) → StepTells r lines A mid now → StepTells r lines B was now
   tells_on (Ok t) lines A B was mid now same to tells = tells ∙ ap (λ (l : List Line). l ++ map whole lines) same
-  tells_on (Err NoMemory) lines A B was mid now same to tells = tells ∙ same
-  tells_on (Err BothLost) lines A B was mid now same to tells = tells ∙ same
   tells_on (Err ConsoleFault) lines A B was mid now same to tells = (tells.0, tells.1, tells.2 ∙ ap (λ (l : List Line). l ++ map whole (take tells.0 lines)) same)
   tells_on (Err Halted) lines A B was mid now same to tells = ⊎_elim
       (λ none. inl (none ∙ same))
       (λ more. inr (to more.0, more.1, more.2, subst (λ (l : List Line). Breaks more.1 lines l now) same more.3))
       tells
+  tells_on _ lines A B was mid now same to tells = tells ∙ same
 
   -- nothing was said
   pub quiet : (o n : Outside) (ess : List (List Entry)) → IsKeeping told by ess o n (Ok tt) → told → console_now n.view ≡ console_now o.view
@@ -182,10 +181,9 @@ module _ (told : Type 0) (by : MemberId) where
   } where
     causes : (r : Result (Unit {0}) NodeNo) → SayCauses r by.0 o.view n.view → StepCauses r by.0 o.first o.first o.second o.second o.view n.view
     causes (Ok done) cause = inr (refl, refl)
-    causes (Err NoMemory) cause = absurd cause
-    causes (Err BothLost) cause = absurd cause
     causes (Err ConsoleFault) cause = (inr (refl, refl), cause)
     causes (Err Halted) cause = (inr (refl, refl), cause)
+    causes _ cause = absurd cause
 
     leaves : (r : Result (Unit {0}) NodeNo) → WorkLeaves r by o.view.now n.view.now [] []
     leaves (Ok done) = tt
@@ -193,8 +191,7 @@ module _ (told : Type 0) (by : MemberId) where
     leaves (Err _) = tt
 
     tells : (r : Result (Unit {0}) NodeNo) → Adds r lines (console_now o.view) (console_now n.view) → StepTells r lines (HasAll by o.view.now n.view.now [] o.batches n.batches) (console_now o.view) (console_now n.view)
-    tells (Ok done) adds = adds
     tells (Err NoMemory) adds = absurd adds
     tells (Err BothLost) adds = absurd adds
-    tells (Err ConsoleFault) adds = adds
     tells (Err Halted) adds = inr (([], same ∙ sym (append-nil o.batches), tt), adds.0, adds.1, adds.2)
+    tells _ adds = adds

@@ -42,8 +42,7 @@ module _ (by : MemberId) where
   work_next (Ok done) from now es ess b bs k all = (k, all)
   work_next (Err ConsoleFault) from now es ess b bs k all = (k, all)
   work_next (Err NoMemory) from now es ess b bs k leaves = inl (k, leaves)
-  work_next (Err BothLost) from now es ess b bs k leaves = inl (k, leaves)
-  work_next (Err Halted) from now es ess b bs k leaves = inl (k, leaves)
+  work_next _ from now es ess b bs k leaves = inl (k, leaves)
 
   -- what an answer leaves after batches that are all kept
   pub work_then : (r : Result (Unit {0}) NodeNo) (from mid now : ℕ) (ess : List (List Entry)) (bs : List Batch) (more : List (List Entry)) (cs : List Batch) → from ≤ mid → mid ≤ now → AreAll by from mid ess bs → WorkLeaves r by mid now more cs
@@ -109,6 +108,4 @@ module _ (by : MemberId) (now : ℕ) (why : NodeNo) where
 -- what an error leaves of batches with which others start it leaves of those
 pub work_starts : (by : MemberId) (now : ℕ) (why : NodeNo) (from : ℕ) (xs ess : List (List Entry)) (bs : List Batch) → (why ≡ ConsoleFault → ⊥) → StartsAs xs ess → WorkLeaves (Err why) by from now xs bs → WorkLeaves (Err why) by from now ess bs
 work_starts by now ConsoleFault from xs ess bs never starts leaves = absurd (never refl)
-work_starts by now NoMemory from xs ess bs never starts leaves = first_starts by now NoMemory from xs ess bs starts leaves
-work_starts by now BothLost from xs ess bs never starts leaves = first_starts by now BothLost from xs ess bs starts leaves
-work_starts by now Halted from xs ess bs never starts leaves = first_starts by now Halted from xs ess bs starts leaves
+work_starts by now another from xs ess bs never starts leaves = first_starts by now another from xs ess bs starts leaves

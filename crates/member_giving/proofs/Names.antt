@@ -6,7 +6,7 @@ pub use Rattle.std.specs.Option.{option_map_or}
 pub use Rattle.ckpt_copy.specs.declared.copying.Copying.{Ghosts}
 pub use Rattle.ckpt_form.specs.declared.steady.Steady.{Ghosts as SteadyGhosts}
 pub use Rattle.ckpt_tables.specs.declared.tables.Tables.{Tables}
-pub use Rattle.member_giving.specs.Names.{IsNamedEnd, end_by, Done, Refused, spools_at, outputs_at_end, is_member, job_at, output_at, Command, MemberId, Entry, Queue, HasFewer, IsReady, IsReadyUnit, MayBeGiven, SittingEnd, AreOf, HasCounted, IsAnswered, AreSpooled, IsUnderWay, command_of, taken_end, IsMarkRight, Tell, batch_of, cut, cut_after, is_full, all_entries, closing_reply, given_in, chunk_end as jobends_chunk_end, drop_groups, ending, groups_for_end, taking, aside_units, units_left, Turn, is_spent, no_more, one_command, units_from, Holder, Progress, State, held_by}
+pub use Rattle.member_giving.specs.Names.{IsNamedEnd, end_by, Done, Refused, spools_at, is_member, job_at, output_at, Command, MemberId, Entry, Queue, HasFewer, IsReady, IsReadyUnit, MayBeGiven, SittingEnd, AreOf, HasCounted, IsAnswered, AreSpooled, IsUnderWay, command_of, taken_end, IsMarkRight, Tell, batch_of, cut, cut_after, is_full, all_entries, closing_reply, given_in, chunk_end as jobends_chunk_end, drop_groups, ending, groups_for_end, taking, aside_units, units_left, Turn, is_spent, no_more, one_command, units_from, Holder, Progress, State, held_by}
 pub use Rattle.job_outcome.specs.declared.units.UnitEnd.{UnitEnd}
 pub use Rattle.mas_complex.specs.Journals.{begun, end_of, kept_all}
 pub use Rattle.mas_complex.specs.Meaning.{run as meaning_run}
@@ -39,7 +39,7 @@ pub use Rattle.mas_complex.specs.CallCounts.{pair_at}
 pub use Rattle.member_decks.specs.Keeping.{CopyCauses, IsOnCopies, KeepLeaves}
 pub use Rattle.member_giving.specs.Nexts.{AreFieldsOf, AreLines, IsOfOutput, IsOfUnit, IsRightNext, IsText, WaitsFor, lines_of, text_of, turn_by}
 pub use Rattle.member_giving.specs.Plays.{Bounds, Closes, EndsAs, GivesUp, HasGiven, IsClosing, IsKeeping, IsWithin, Keeps, LeavesFirst, LeavesLast, MayFly, MayStopBy, Plays, PlaysAs, SparesOthers, WorkLeaves, Wrote, after_full, bounds, closed, ended, full_of, to_play, unit_part, rests, unwritten, wrote_after, wrote_of}
-pub use Rattle.member_giving.specs.Works.{Follow, HasBounds, HasRoom, HasSeat, IsLow, Leaves, LeavesRoom, MayLeave, Outside, Place, Run, Sits, SitsIn, UsesOne, Works, outside, place_of, queue_here, queue_kept, run_of}
+pub use Rattle.member_giving.specs.Works.{Follow, HasBounds, HasRoom, HasSeat, IsLow, Leaves, MayLeave, Outside, Place, Run, Sits, SitsIn, UsesOne, Works, outside, place_of, queue_here, queue_kept, run_of}
 pub use Rattle.member_giving.specs.declared.nexts.Next.{Next}
 pub use Rattle.member_node.proofs.WriteLemmas.{none_out}
 pub use Rattle.member_node.specs.Calls.{Apart, Course, console_now}
@@ -57,7 +57,7 @@ pub use Rattle.member_work.proofs.BeginLemmas.{dropping_unmarked, ending_unmarke
 pub use Rattle.member_work.proofs.CauseLemmas.{reply_answered, taken_answered}
 pub use Rattle.member_work.proofs.PartLemmas.{queue_is, under_way_taken}
 pub use Rattle.member_work.proofs.UnitStepLemmas.{command_fits, each_command}
-pub use Rattle.member_work.specs.Units.{chunk_end, groups_for_end as units_groups_for_end}
+pub use Rattle.member_work.specs.Units.{chunk_end}
 pub use Rattle.paper_laws.specs.Counts.{may_mark}
 pub use Rattle.queue_laws.proofs.Finds.{test_cases}
 pub use Rattle.queue_telling.specs.Telling.{TellSound}

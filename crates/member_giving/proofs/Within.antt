@@ -1,5 +1,5 @@
 -- What a sitting of work may come to on every plant: how many batches, and which lines.
-use Rattle.member_giving.proofs.Names.{◌≡◌, ℕ, zero, suc, ◌+◌, ◌*◌, ◌≤◌, Bool, true, false, List, [], ◌∷◌, ◌++◌, length, Option, Some, None, All, inl, inr, ap, refl, arith, IfSome, option_map_or, All-cons, All-nil, Command, Reply, JobNo, Job, OutSpec, Output, Entry, Queue, job_at, output_at, run, unit_of, test_cases, UnitEnd, end_by, IsAnswered, reply_answered, cut, cut_after, is_full, sittings_most, are_refused, takes, closing_reply, ending, groups_for_end, printed_end, taking, SpoolOutputs, Found, Holder, Progress, State, Away, Fresh, Rested, Told, Turn, Units, after_part, closes_as, ends_with, gives, goes_on, goes_on_by, groups_taken, is_spent, job_ends, leaves, next_unit, no_more, one_command, prints_output, reads_job, text_read, units_from, MayCloseBy, MayEndBy, MayRefuseBy, SaysAtEnd, WorkLines, IsWithin, MayStopBy, Wrote, after_full, bounds, full_of, unwritten, wrote_after, wrote_of, AreOf, given_of}
+use Rattle.member_giving.proofs.Names.{◌≡◌, ℕ, zero, suc, ◌+◌, ◌*◌, ◌≤◌, Bool, true, false, List, [], ◌∷◌, ◌++◌, length, Option, Some, None, All, inl, inr, ap, refl, arith, IfSome, option_map_or, All-cons, All-nil, Command, JobNo, Job, OutSpec, Output, Entry, Queue, job_at, output_at, run, unit_of, test_cases, UnitEnd, end_by, IsAnswered, reply_answered, cut, cut_after, is_full, sittings_most, are_refused, takes, closing_reply, ending, groups_for_end, printed_end, taking, SpoolOutputs, Found, Holder, Progress, State, Away, Fresh, Rested, Told, Turn, Units, after_part, closes_as, ends_with, gives, goes_on, goes_on_by, groups_taken, is_spent, job_ends, leaves, next_unit, no_more, one_command, prints_output, reads_job, text_read, units_from, MayCloseBy, MayEndBy, MayRefuseBy, SaysAtEnd, WorkLines, IsWithin, MayStopBy, Wrote, after_full, bounds, full_of, unwritten, wrote_after, wrote_of, AreOf, given_of}
 use Rattle.mas_types.specs.declared.answers.Closing.{Closing}
 use Rattle.mas_types.specs.declared.jobs.JobFields.{JobFields}
 use Rattle.mas_types.specs.declared.answers.Closing.TheVariants as closing

@@ -1,5 +1,5 @@
 -- A member at work, after a call.
-use Rattle.member_giving.proofs.Names.{◌≡◌, ℕ, ◌+◌, ◌≤◌, ◌<◌, List, [], ◌++◌, Ok, ◌∙◌, ap, append-nil, refl, sym, subst, arith, MemberId, Batch, Entry, Queue, PlantGhosts, Ghosts as CopyGhosts, Complex, SteadyGhosts, end_of, kept_all, meaning_run as run, Member, too_high, none_out, parts_of, AreOf, batch_of, Holder, Keeps, HasRoom, IsLow, LeavesRoom, UsesOne, Works, outside, queue_here, queue_kept, run_of}
+use Rattle.member_giving.proofs.Names.{◌≡◌, ℕ, ◌+◌, ◌≤◌, ◌<◌, List, [], ◌++◌, Ok, ◌∙◌, ap, append-nil, refl, sym, subst, arith, MemberId, Batch, Entry, Queue, PlantGhosts, Ghosts as CopyGhosts, Complex, SteadyGhosts, end_of, kept_all, meaning_run as run, Member, too_high, none_out, parts_of, AreOf, batch_of, Holder, Keeps, HasRoom, IsLow, UsesOne, Works, outside, queue_here, queue_kept, run_of}
 use Rattle.mas_complex.proofs.Batches.{kept_all_append}
 use Rattle.member_asides.specs.Whole.{IsStill}
 use Rattle.member_giving.proofs.Cuts.{batch_entries}
@@ -44,9 +44,6 @@ module _ {P C : Type 0} {plants : PlantGhosts P} {steadies : SteadyGhosts C} {co
       let b = room.high in
       let c = room.level in
       record { order = omega (arith, order, a); high = omega (arith, high, b); level = omega (arith, level, c) }
-
-  pub leaves_room : (x y : Complex P C plants steadies copies) (n : Member) → n.checkpoint.tables.order ≤ too_high + 96 → n.checkpoint.level < too_high → y.level ≡ x.level → LeavesRoom x y n
-  leaves_room x y n order high same k few room = record { order = omega (arith, order, few); high = omega (arith, high, few); level = omega (arith, same, room) }
 
   pub room_low : (x : Complex P C plants steadies copies) (m : Member) → IsLow x m → (k : ℕ) → k ≤ 20000 → x.level + k < too_high → HasRoom x m k
   room_low x m low k few level = let order = low.order in let high = low.high in record { order = omega (arith, order, few); high = omega (arith, high, few); level = level }

@@ -1,5 +1,6 @@
 pub mod Works
 pub mod Plays
+pub mod Parts
 pub mod Nexts
 pub use Rattle.member_asides.specs.Asides
 pub use Rattle.member_asides.specs.Ready

@@ -15,6 +15,7 @@ pub use Rattle.mas_types.specs.declared.ids.MemberId.{MemberId}
 pub use Rattle.mas_types.specs.declared.journals.Entry.{Entry}
 pub use Rattle.mas_types.specs.declared.queues.Queue.{Queue}
 pub use Rattle.member_asides.specs.Ready.{HasFewer, IsReady, IsReadyUnit, MayBeGiven}
+pub use Rattle.member_asides.specs.Shapes.{MayEndBy}
 pub use Rattle.member_asides.specs.SittingEnd.{SittingEnd}
 pub use Rattle.member_decks.specs.Steps.{AreOf}
 pub use Rattle.member_steps.specs.Counting.{HasCounted}
@@ -31,6 +32,7 @@ pub use Rattle.step_turns.specs.Entries.{all_entries, closing_reply, given_in}
 pub use Rattle.step_turns.specs.JobEnds.{chunk_end, drop_groups, ending, groups_for_end, taking}
 pub use Rattle.step_turns.specs.Laws.{aside_done, aside_units, units_left}
 pub use Rattle.step_turns.specs.Turns.{Turn, is_spent, no_more, one_command, units_from, waits_for}
+pub use Rattle.step_turns.specs.declared.states.Found.{Found}
 pub use Rattle.step_turns.specs.declared.states.Holder.{Holder}
 pub use Rattle.step_turns.specs.declared.states.Progress.{Progress}
 pub use Rattle.step_turns.specs.declared.states.State.{State}

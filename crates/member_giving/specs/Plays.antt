@@ -11,7 +11,6 @@ use Rattle.member_node.specs.Calls.{Course, IsOnlyOn, console_now}
 use Rattle.member_node.specs.Spares.{Spares, stopped_in}
 use Rattle.member_steps.specs.Steps.{StepCauses, StepTells}
 use Rattle.member_decks.specs.Batches.{AreAll, HasAll, IsCut, IsFlyingBatch, IsFront, IsKeptBatch}
-use Rattle.member_decks.specs.Keeping.{CopyCauses}
 use Rattle.job_outcome.specs.declared.outcomes.Outcome.{Outcome}
 use Rattle.job_outcome.specs.declared.outcomes.Outcome.TheVariants as outcome
 use Rattle.job_outcome.specs.declared.units.UnitEnd.{UnitEnd}

@@ -56,10 +56,6 @@ pub record Follow : Type 0 where
 abbrev pub follow : ℕ → ℕ → ℕ → Follow
 follow most units level = record { most = most; units = units; level = level }
 
--- what may follow in a step of this progress after a unit, with so many sittings more than each unit that is left takes
-abbrev pub after_unit : ℕ → ℕ → Progress → Follow
-after_unit more level p = follow (3 * p.left + more) (p.done + p.left + 1) (level + p.left + 2)
-
 -- What a sitting leaves that ended so: its member sits still, where the step waits what it asks is known, and there is
 -- room for what may follow.
 module _ {P C : Type 0} (plants : PlantGhosts P) (copies : CopyGhosts C) where
@@ -129,10 +125,6 @@ module _ {P C : Type 0} {plants : PlantGhosts P} {steadies : SteadyGhosts C} {co
   abbrev pub UsesOne : Complex P C plants steadies copies → Member → Complex P C plants steadies copies → Member
       → Type 0
   UsesOne x m y n = (k : ℕ) → HasRoom x m (k + 1) → HasRoom y n k
-
-  -- a call that leaves room for as many commands and batches as a step may need, where levels do
-  abbrev pub LeavesRoom : Complex P C plants steadies copies → Complex P C plants steadies copies → Member → Type 0
-  LeavesRoom x y n = (k : ℕ) → k ≤ 20000 → x.level + k < too_high → HasRoom y n k
 
   -- levels and orders as they are where a sitting begins
   pub record IsLow (x : Complex P C plants steadies copies) (m : Member) : Type 0 where

@@ -4,6 +4,8 @@
 
 mod giving;
 mod nexts;
+mod parts;
 
-pub use giving::{end_job, free_groups, give, give_up, keep, keep_full, take_groups};
+pub use giving::{give_up, keep, keep_full};
 pub use nexts::{Next, next_unit};
+pub use parts::{Part, give_part};

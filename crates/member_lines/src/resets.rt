@@ -12,11 +12,11 @@ use cmd_report::one_line;
 use mas_complex::{Complex, Steady};
 use mas_types::{Closing, Command, MemberId, Reply};
 use member_node::{Member, NodeNo};
-use member_sittings::{SittingEnd, close_sitting};
+use member_sittings::{SittingEnd, end_sitting};
 use queue_texts::law_of_texts;
 use spool_plant::Plant;
 use std::alloc::Global;
-use step_turns::Holder;
+use step_turns::{Holder, State};
 
 // How a reset closes, by the reply to it: with the name of the member that was reset.
 fn reset_closing(of: MemberId, reply: &Reply) -> Closing
@@ -60,5 +60,5 @@ pub fn sit_reset<P: Plant + Drop, C: Steady + Drop>(
     let Ok(lines) = one_line(alloc, holder.by, holder.step, &end) else {
         return Err(NodeNo::NoMemory);
     };
-    close_sitting(member, alloc, complex, holder, &lines)
+    end_sitting(member, alloc, complex, holder, State::Told, &lines)
 }

@@ -1,13 +1,13 @@
 -- What a sitting of one batch did, from the calls that keep the batch and say the lines.
-use Rattle.member_sittings.proofs.Names.{◌≡◌, ℕ, ◌≤◌, Bool, List, [], ◌∷◌, ◌++◌, length, false, Result, Ok, Err, inr, append-nil, refl, sym, ◌∙◌, ap, subst, arith, MemberId, Entry, View, PlantGhosts, begun, Parts, NodeNo, ConsoleFault, NoMemory, console_now, HasKept, spares_none, IsStep, StepCauses, StepLeaves, notes_none, HasAll, CopyCauses, GivesUpLeaves, IsOnCopies, KeepLeaves, all_entries, Sitting, released, Holder, State, SittingEnd, ends_in, HasSaid, CopiesActed, IsEndOf, IsSatAs, journal_of, IfOk, map, HasActed, pair_at, pair_state}
-use Rattle.mas_complex.specs.Headline.{whole}
+use Rattle.member_sittings.proofs.Names.{◌≡◌, ℕ, ◌≤◌, Bool, List, [], ◌∷◌, ◌++◌, length, false, Result, Ok, Err, inr, append-nil, refl, sym, ◌∙◌, ap, subst, arith, MemberId, Entry, View, PlantGhosts, begun, Parts, NodeNo, ConsoleFault, NoMemory, console_now, HasKept, spares_none, IsStep, StepCauses, StepLeaves, notes_none, HasAll, CopyCauses, GivesUpLeaves, all_entries, Sitting, released, Holder, State, SittingEnd, ends_in, HasSaid, CopiesActed, IsEndOf, IsSatAs, journal_of, IfOk, HasActed, pair_at}
 use Rattle.member_node.specs.Spares.{Spares, stopped_in}
 use Rattle.member_node.proofs.CourseLemmas.{course_none, only_none, papers_none, wires_none}
 use Rattle.member_steps.specs.Counting.{HasCounted}
 use Rattle.member_steps.specs.Noting.{OtherNotesStay}
 use Rattle.member_steps.proofs.CountLemmas.{counted_error, counted_ok, counted_one, counted_up}
 use Rattle.step_turns.specs.declared.states.Release.{Release}
-use Rattle.member_sittings.proofs.ReachLemmas.{OneLeft, none_left, one_all, one_given_up, one_kept, one_step, one_unkept, said_answer, said_by, said_none, said_all}
+use Rattle.member_sittings.proofs.ReachLemmas.{OneLeft, none_left, one_all, one_given_up, one_kept, one_step, said_answer, said_by, said_none}
+use Rattle.member_sittings.specs.Sat.{sat_in}
 
 -- the causes of an answer are those of a step's
 pub causes_of : (T : Type 0) (e : NodeNo) (by : ℕ) (a a' b b' : Bool) (v w : View) → CopyCauses {T = Unit {0}} (Err e) by (pair_at a b v) (pair_at a' b' w) → StepCauses {T = T} (Err e) by a a' b b' v w
@@ -22,10 +22,9 @@ step_causes : (T : Type 0) (e : NodeNo) (by : ℕ) (a a' b b' : Bool) (v w : Vie
 step_causes T NoMemory by a a' b b' v w cause = cause
 step_causes T _ by a a' b b' v w cause = cause
 
--- acts on the copies, with what was noted
-pub acted : {P C T : Type 0} (plants : PlantGhosts P) (by : MemberId) (x y : Parts P C) (r : Result T NodeNo) → IsOnCopies plants.tells by.0 (pair_state plants.view x) (pair_state plants.view y) r
-    → OtherNotesStay by x.had y.had → CopiesActed plants by x y r
-acted plants by x y r acts stay = record { on = acts; notes = stay }
+-- a sitting changes none of these
+pub sat_frame : {P C : Type 0} (x y : Parts P C) → y.book ≡ x.book → y.base ≡ x.base → y.since ≡ x.since → y.renewals ≡ x.renewals → y ≡ sat_in y x
+sat_frame x y book base since renewals = rw (sym book, sym base, sym since, sym renewals) refl
 
 module _ {P C : Type 0} (plants : PlantGhosts P) (by : MemberId) (h : Holder) (same : h.by ≡ by) (next : State) (lines : List (List ℕ)) (x y : Parts P C) where
   abbrev V : View
@@ -65,26 +64,10 @@ module _ {P C : Type 0} (plants : PlantGhosts P) (by : MemberId) (h : Holder) (s
       (λ t. said_none lines (console_now V) (console_now W) _ e (no_console e by.0 x.first_alive y.first_alive x.second_alive y.second_alive V W acts.on.cause) (acts.on.apart t).console)
       (counted_up by gave (all_entries (es ∷ [])) x.printed y.printed (Err e) e counts) tt
 
-  -- the batch couldn't be kept
-  pub sat_unkept : (es : List Entry) (e : NodeNo) → 1 ≤ length es → CopiesActed plants {T = Unit {0}} by x y (Err e)
-      → KeepLeaves {T = Unit {0}} (Err e) x.batches (journal_of y) (begun V.now by es) W.now → HasCounted {T = Unit {0}} by es x.printed y.printed (Err e) → IsSatAs plants h.by (Of es) x y (Err e)
-  sat_unkept es e some acts leaves counts = by_copies es e acts (one_unkept by V.now W.now acts.on.course.goes.later es some x.batches (journal_of y) e leaves) counts
-
   -- out of memory before the batch had all its entries
   pub sat_given_up : (es rest : List Entry) (e : NodeNo) → 1 ≤ length rest → CopiesActed plants {T = Unit {0}} by x y (Err e)
       → GivesUpLeaves e x.batches (journal_of y) (begun V.now by es) W.now → HasCounted {T = Unit {0}} by [] x.printed y.printed (Err e) → IsSatAs plants h.by (Of (es ++ rest)) x y (Err e)
   sat_given_up es rest e more acts leaves counts = by_copies (es ++ rest) e acts (one_given_up by V.now W.now acts.on.course.goes.later es rest x.batches (journal_of y) e more leaves) counts
-
-  -- the batch was kept, and nothing is said
-  pub sat_kept : (es : List Entry) (end : SittingEnd) → 1 ≤ length es → lines ≡ [] → IsEndOf (Of es) end → CopiesActed plants {T = Unit {0}} by x y (Ok tt)
-      → HasKept x.batches (journal_of y) (begun V.now by es) W.now → HasCounted {T = Unit {0}} by es x.printed y.printed (Ok tt) → IsSatAs plants h.by (Of es) x y (Ok end)
-  sat_kept es end some silent ends acts kept counts =
-      sat_by es (Ok end) (on_copies {T = SittingEnd} {S = Unit {0}} (Ok tt) (Ok end) acts acts.on.spares acts.on.cause) (one_kept by V.now W.now acts.on.course.goes.later es some x.batches (journal_of y) (Ok end) tt kept)
-      (λ t. said_all lines (console_now V) (console_now W) _ end (one_all by V.now W.now acts.on.course.goes.later es some x.batches (journal_of y) kept) ((acts.on.apart t).console ∙ silently))
-      (counted_ok by (all_entries (es ∷ [])) x.printed y.printed tt end (counted_one by es x.printed y.printed (Ok tt) counts)) ends
-    where
-      silently : console_now V ≡ console_now V ++ map whole lines
-      silently = sym (append-nil (console_now V)) ∙ ap (λ (l : List (List ℕ)). console_now V ++ map whole l) (sym silent)
 
   -- A step's batch and its lines: one answer for both.
   module _ (es : List Entry) (some : 1 ≤ length es) (notes : OtherNotesStay by x.had y.had) where

@@ -1,7 +1,7 @@
 -- The names that many proofs take, each from where it is declared.
-pub use Rattle.std.proofs.Common.{All, Bool, Err, IfOk, List, None, Ok, OnOk, Option, Result, Some, [], ap, append-nil, append_assoc, arith, false, if◌then◌else◌, inl, inr, length, map, refl, subst, suc, sym, take, true, zero, ℕ, ⊎_elim, ◌*◌, ◌++◌, ◌+◌, ◌<◌, ◌^◌, ◌∙◌, ◌∷◌, ◌≡◌, ◌≤◌, ◌⊎◌}
+pub use Rattle.std.proofs.Common.{All, Bool, Err, IfOk, List, None, Ok, OnOk, Option, Result, Some, [], ap, append-nil, append_assoc, arith, false, if◌then◌else◌, inl, inr, length, map, refl, subst, suc, sym, take, true, ℕ, ⊎_elim, ◌*◌, ◌++◌, ◌+◌, ◌<◌, ◌^◌, ◌∙◌, ◌∷◌, ◌≡◌, ◌≤◌}
 pub use Rattle.std.proofs.Math.Logic.{∥∥₁_map}
-pub use Rattle.std.proofs.lemmas.List.Elements.{All-append, All-cons, All-head, All-nil, All-tail, All-take, All-weaker}
+pub use Rattle.std.proofs.lemmas.List.Elements.{All-append, All-cons, All-nil, All-tail, All-take, All-weaker}
 pub use Rattle.std.proofs.lemmas.Result.{err_from_is_err_and}
 pub use Rattle.ckpt_tables.specs.declared.tables.Tables.{Tables}
 pub use Rattle.member_sittings.specs.Names.{AreSettled, begun, kept_all, Parts, parts_of, HasTexts, IsThere, lost_now, spools_at, reply_lines, IsFit, IsJobFields, Command, MemberId, Batch, Entry, Config, HasAll, IsKeptBatch, AreOf, AreLow, orders_after, too_high, Member, NodeNo, BothLost, ConsoleFault, Halted, NoMemory, TellKept, torn, AreKeptFrom, IsBetween, StepCauses, entry_with, ViewLine, View, PlantGhosts, AreRoomy, all_entries, closing_reply as entries_closing_reply, Sitting, released, sit, nothing_found, SpoolDeck, Found, Holder, State, Away, Fresh, Told}
@@ -21,7 +21,7 @@ pub use Rattle.member_decks.proofs.PlayLemmas.{closed_of, groups_few, of_front, 
 pub use Rattle.member_decks.specs.Batches.{AreAll}
 pub use Rattle.member_decks.specs.Decks.{are_refused, closing_reply, ends_as, ends_begun, finishing, given_in, lines_by, opening}
 pub use Rattle.mas_complex.specs.CallCounts.{PairState, pair_at, pair_state}
-pub use Rattle.member_decks.specs.Keeping.{CopyCauses, GivesUpLeaves, IsOnCopies, KeepLeaves}
+pub use Rattle.member_decks.specs.Keeping.{CopyCauses, GivesUpLeaves, IsOnCopies}
 pub use Rattle.member_decks.specs.Spooling.{GroupsKept, OnVolumes, Rise, SpoolCauses}
 pub use Rattle.member_decks.specs.Taking.{Gives, IsPart, LeaveOut}
 pub use Rattle.member_decks.specs.declared.opening.Opened.{Opened}

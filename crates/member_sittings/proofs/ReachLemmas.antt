@@ -1,5 +1,5 @@
 -- How far a sitting came, from what its parts left in the journal and on the console.
-use Rattle.member_sittings.proofs.Names.{◌≡◌, ◌⊎◌, ℕ, ◌≤◌, ◌<◌, Bool, true, false, List, [], ◌∷◌, ◌++◌, length, map, take, Some, None, Result, Ok, Err, inl, inr, ⊎_elim, suc, append_assoc, append-nil, refl, sym, ◌∙◌, ap, subst, arith, MemberId, Batch, Entry, ViewLine as Line, begun, fated, NodeNo, BothLost, Halted, ConsoleFault, NoMemory, HasFlying, HasKept, Breaks, torn, StepLeaves, StepTells, AreAll, HasAll, IsKeptBatch, GivesUpLeaves, KeepLeaves, batch_of, HasLeft, HasSaid, IsLastBatch, Reach, ReachesBy, StandThere, left_by, reach_all, said_nothing, said_of}
+use Rattle.member_sittings.proofs.Names.{◌≡◌, ℕ, ◌≤◌, ◌<◌, Bool, true, false, List, [], ◌∷◌, ◌++◌, length, map, take, Some, None, Result, Ok, Err, inl, inr, ⊎_elim, suc, append_assoc, append-nil, refl, sym, ◌∙◌, ap, subst, arith, MemberId, Batch, Entry, ViewLine as Line, begun, fated, NodeNo, BothLost, Halted, ConsoleFault, NoMemory, HasFlying, HasKept, Breaks, torn, StepLeaves, StepTells, AreAll, HasAll, IsKeptBatch, GivesUpLeaves, batch_of, HasLeft, HasSaid, IsLastBatch, Reach, ReachesBy, StandThere, left_by, reach_all, said_nothing, said_of}
 use Rattle.std.proofs.lemmas.List.{length-append, take_at}
 use Rattle.std.proofs.Math.Seq.{take-length}
 use Rattle.mas_types.specs.declared.journals.Fate.TheVariants.{Kept}
@@ -169,12 +169,6 @@ module _ (by : MemberId) (from now : ℕ) (later : from ≤ now) (es : List Entr
   -- a batch with no entries left to come
   alone : {T : Type 0} (r : Result T NodeNo) → OneLeft by from now (es ++ []) front batches r → OneLeft by from now es front batches r
   alone r one = subst (λ (l : List Entry). OneLeft by from now l front batches r) (append-nil es) one
-
-  pub one_unkept : {T : Type 0} (e : NodeNo) → KeepLeaves {T = Unit {0}} (Err e) front batches Whole now → OneLeft {T = T} by from now es front batches (Err e)
-  one_unkept NoMemory none = alone (Err NoMemory) (one_none by from now later es [] front batches NoMemory (λ e. absurd (cc)) none)
-  one_unkept BothLost flies = alone (Err BothLost) (one_lost by from now later es [] front batches some flies)
-  one_unkept Halted flies = alone (Err Halted) (one_halted by from now later es [] front batches some flies)
-  one_unkept ConsoleFault never = absurd never
 
   pub one_step : {T : Type 0} (e : NodeNo) → StepLeaves {T = Unit {0}} (Err e) front batches Whole now → OneLeft {T = T} by from now es front batches (Err e)
   one_step NoMemory none = alone (Err NoMemory) (one_none by from now later es [] front batches NoMemory (λ e. absurd (cc)) none)

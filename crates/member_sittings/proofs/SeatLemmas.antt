@@ -1,6 +1,9 @@
 -- A member at the shared value, within a sitting and after it.
-use Rattle.member_sittings.proofs.Names.{◌≡◌, ℕ, ◌+◌, ◌*◌, ◌^◌, ◌≤◌, ◌<◌, Result, IfOk, true, false, List, [], ◌∷◌, length, All, None, ◌++◌, Ok, Err, refl, sym, ◌∙◌, ap, subst, arith, All-weaker, All-append, All-cons, All-tail, ∥∥₁_map, MemberId, Command, Reply, Batch, Entry, Config, Queue, IsFit, IsJobFields, may_give, JobFields, is_member, View, PlantGhosts, Tables, TellSound, Tell, AreRoomy, AreSettled, begun, kept_all, Parts, HasTexts, lost_now, spools_at, Member, NodeNo, console_now, AreLow, orders_after, too_high, HasKept, run_append, IsBetween, entry_with, had_as, at_lock, calm_rest, low_written, one_batch, told_sound, untold_later, begins_alone, between_done, can_draw, if_ok, kept_from_out, settled_later, settled_out, AreOf, one_of, still_roomy, given_in, opening, Gives, IsPart, LeaveOut, tells_some, of_front, of_given, SittingEnd, IsSatOn, journal_of, Commanded, Half, HasStepKept, HasTextsAfter, HasUntold, HoldsLock, IsAtRest, IsBounded, IsGiving, IsRoomy, IsSeat, IsSitting, IsStepUntold, IsStill, MayKeep, first_half, queue_of, second_half, HasTextsOf}
+use Rattle.member_sittings.proofs.Names.{State, Told, Holder, IsToKeep, may_alike, some_of_one, reply_to, map, append-nil, ◌≡◌, ℕ, ◌+◌, ◌*◌, ◌^◌, ◌≤◌, ◌<◌, Result, IfOk, true, false, List, [], ◌∷◌, length, All, None, ◌++◌, Ok, Err, refl, sym, ◌∙◌, ap, subst, arith, All-weaker, All-append, All-cons, All-tail, ∥∥₁_map, MemberId, Command, Reply, Batch, Entry, Config, Queue, IsFit, IsJobFields, may_give, JobFields, is_member, View, PlantGhosts, Tables, TellSound, Tell, AreRoomy, AreSettled, begun, kept_all, Parts, HasTexts, lost_now, spools_at, Member, NodeNo, console_now, AreLow, orders_after, too_high, HasKept, run_append, IsBetween, entry_with, had_as, at_lock, calm_rest, low_written, one_batch, told_sound, untold_later, begins_alone, between_done, can_draw, if_ok, kept_from_out, settled_later, settled_out, AreOf, one_of, still_roomy, given_in, opening, Gives, IsPart, LeaveOut, tells_some, of_front, of_given, SittingEnd, IsSatOn, journal_of, Commanded, Half, HasStepKept, HasTextsAfter, HasUntold, HoldsLock, IsAtRest, IsBounded, IsGiving, IsRoomy, IsSeat, IsSitting, IsStepUntold, IsStill, MayKeep, first_half, queue_of, second_half, HasTextsOf}
 use Rattle.mas_types.specs.declared.ids.Page.{Page}
+use Rattle.mas_complex.specs.Headline.{whole}
+use Rattle.member_sittings.specs.Ends.{IsQuiet}
+use Rattle.member_sittings.specs.Whole.{IsLeftIn, IsToSit}
 use Rattle.paper_laws.specs.Counts.{is_mark}
 use Rattle.spool_plant.specs.Acts.{Goes}
 use Rattle.ckpt_copy.specs.declared.copying.Copying.{Ghosts as CopyGhosts}
@@ -14,6 +17,7 @@ use Rattle.member_node.proofs.EntryLemmas.{nothing_done}
 use Rattle.member_node.specs.Wanted.{HasHad}
 use Rattle.member_decks.proofs.MayLemmas.{front_begins, opening_begins}
 use Rattle.member_sittings.specs.Gates.{HasTakenSeat, IsAtGate, IsOpen}
+use Rattle.member_sittings.specs.Sat.{seated_in}
 
 -- a member that has the lock has it by other names of book, configuration and member too
 holds_same : (b c : Book) (k l : Config) (m n : MemberId) → c ≡ b → l ≡ k → n ≡ m → HoldsLock b k m → HoldsLock c l n
@@ -144,6 +148,11 @@ module _ {P C : Type 0} (plants : PlantGhosts P) (copies : CopyGhosts C) where
     pub sits_kept : (at : ℕ) → IsGiving plants copies x m at → (plants.tells → console_now (view_of y) ≡ console_now (view_of x)) → IsSitting plants copies y n at
     sits_kept at g quiet = record { seat = seat_kept at g; untold = untold_kept at g quiet; step = step_kept at g }
 
+    -- as the sitting left its step, after these lines
+    pub left_kept : (at : ℕ) → IsGiving plants copies x m at → (next : State) (lines : List (List ℕ)) → IsQuiet next lines → (plants.tells → console_now (view_of y) ≡ console_now (view_of x) ++ map whole lines) → IsLeftIn plants copies next y n at
+    left_kept at g Told lines quiet said = seat_kept at g
+    left_kept at g _ lines quiet said = sits_kept at g (λ t. said t ∙ ap (λ (ls : List (List ℕ)). console_now (view_of x) ++ map whole ls) quiet ∙ append-nil (console_now (view_of x)))
+
 -- the batch is the member's
 pub own_batch : (m : MemberId) (at : ℕ) (es : List Entry) → AreOf m at es → All (λ (e : Entry). e.by ≡ m) es
 own_batch m at es of = All-weaker (λ (e : Entry). (e.by ≡ m) × (e.step ≡ at)) (λ (e : Entry). e.by ≡ m) (λ e it. it.0) es of
@@ -180,14 +189,15 @@ module _ {P C : Type 0} (plants : PlantGhosts P) (copies : CopyGhosts C) where
         low = low_written plants.tells h.alive h.place h.count config batches m.checkpoint h.read drawn low rests;
       }
 
+  -- a member that takes its seat changes none of these
+  pub seat_frame : (x y : Parts P C) → y.book ≡ x.book → y.base ≡ x.base → y.since ≡ x.since → y.batches ≡ x.batches → y.current ≡ x.current → y.reserved ≡ x.reserved → y.printed ≡ x.printed
+      → y.placed ≡ x.placed → y.level ≡ x.level → y.renewals ≡ x.renewals → y ≡ seated_in y x
+  seat_frame x y book base since batches current reserved printed placed level renewals =
+      rw (sym book, sym base, sym since, sym batches, sym current, sym reserved, sym printed, sym placed, sym level, sym renewals) refl
+
   -- what reading in leaves
   pub record Taken (x y : Parts P C) (m n : Member) : Type 0 where
-    pub book : y.book ≡ x.book
-    pub base : y.base ≡ x.base
-    pub since : y.since ≡ x.since
-    pub batches : y.batches ≡ x.batches
-    pub reserved : y.reserved ≡ x.reserved
-    pub level : y.level ≡ x.level
+    pub frame : y ≡ seated_in y x
     pub id : n.id ≡ m.id
     pub here : n.behind ≡ false
     pub goes : Goes (plants.view x.plant) (plants.view y.plant)
@@ -205,13 +215,16 @@ module _ {P C : Type 0} (plants : PlantGhosts P) (copies : CopyGhosts C) where
 
   module _ (x y : Parts P C) (m n : Member) (g : IsAtGate plants copies x m) (k : Taken x y m n) where
     base_config : y.base.config ≡ x.base.config
-    base_config = ap (λ (Q : Queue). Q.config) k.base
+    base_config = ap (λ (p : Parts P C). p.base.config) k.frame
+
+    batches : y.batches ≡ x.batches
+    batches = ap (λ (p : Parts P C). p.batches) k.frame
 
     still_taken : IsStill plants copies y n
     still_taken = record {
-      holds = holds_same x.book y.book x.base.config y.base.config m.id n.id k.book base_config k.id g.holds;
+      holds = holds_same x.book y.book x.base.config y.base.config m.id n.id (ap (λ (p : Parts P C). p.book) k.frame) base_config k.id g.holds;
       none = k.between.none;
-      unreserved = k.reserved ∙ g.unreserved;
+      unreserved = ap (λ (p : Parts P C). p.reserved) k.frame ∙ g.unreserved;
       unplaced = k.between.unplaced;
       here = k.here;
       many = k.many;
@@ -219,8 +232,8 @@ module _ {P C : Type 0} (plants : PlantGhosts P) (copies : CopyGhosts C) where
       first = k.first;
       second = k.second;
       noted = k.noted;
-      kept = subst (λ (bs : List Batch). AreSettled bs (plants.view y.plant).now) (sym k.batches) (settled_later x.batches (plants.view x.plant).now (plants.view y.plant).now k.goes.later g.kept);
-      begun = let later = k.goes.later in let begun = g.begun in subst (λ (s : ℕ). s ≤ (plants.view y.plant).now) (sym k.since) (omega (arith, begun, later));
+      kept = subst (λ (bs : List Batch). AreSettled bs (plants.view y.plant).now) (sym batches) (settled_later x.batches (plants.view x.plant).now (plants.view y.plant).now k.goes.later g.kept);
+      begun = let later = k.goes.later in let begun = g.begun in subst (λ (s : ℕ). s ≤ (plants.view y.plant).now) (sym (ap (λ (p : Parts P C). p.since) k.frame)) (omega (arith, begun, later));
       roomy = λ t. subst (AreRoomy (plants.view y.plant)) (sym base_config) (still_roomy x.base.config (plants.view x.plant) (plants.view y.plant) k.goes (g.roomy t));
     }
 
@@ -230,9 +243,9 @@ module _ {P C : Type 0} (plants : PlantGhosts P) (copies : CopyGhosts C) where
         still = still_taken;
         between = k.between;
         low = λ t. subst (λ (c : Config). AreLow c (length y.batches) n.checkpoint.tables) (sym (base_config ∙ g.config))
-            (subst (λ (bs : List Batch). AreLow m.checkpoint.tables.config (length bs) n.checkpoint.tables) (sym k.batches) (k.low t));
+            (subst (λ (bs : List Batch). AreLow m.checkpoint.tables.config (length bs) n.checkpoint.tables) (sym batches) (k.low t));
       };
-      bounds = record { order = k.order; high = k.high; reached = subst (λ (l : ℕ). l < too_high) (sym k.level) g.level; first = k.room1; second = k.room2 };
+      bounds = record { order = k.order; high = k.high; reached = subst (λ (l : ℕ). l < too_high) (sym (ap (λ (p : Parts P C). p.level) k.frame)) g.level; first = k.room1; second = k.room2 };
     }
 
 -- COMMANDS WERE GIVEN, and then kept
@@ -246,6 +259,44 @@ module _ {P C : Type 0} (plants : PlantGhosts P) (copies : CopyGhosts C) (x : Pa
   pub sat_on : (z : Parts P C) (l : Member) (at : ℕ) (r : Result SittingEnd NodeNo) → l.checkpoint.tables.order ≤ m.checkpoint.tables.order + 2 ^ 19 * 1 → IfOk r (IsSatOn plants copies x z n l at) → IfOk r (IsSatOn plants copies x z m l at)
   sat_on z l at r order again =
       if_ok _ (IsSatOn plants copies x z m l at) r (λ e on. record { sits = on.sits; grown = record { order = order; high = rw level at on.grown.high; reached = on.grown.reached } }) again
+
+-- ONE COMMAND
+
+module _ {P C : Type 0} (plants : PlantGhosts P) (copies : CopyGhosts C) (x : Parts P C) (m n : Member) (h : Holder) (c : Command) where
+  abbrev One : Reply → List Entry
+  One r = entry_with m.id h.step c r ∷ []
+
+  abbrev Here : Reply
+  Here = reply_to (queue_of x) m.id c
+
+  -- the only command of a sitting was given on the member's tables
+  pub record HasDoneOne : Type 0 where
+    pub did : Commanded m n
+    pub reply : Reply
+    pub batch : n.batch ≡ One reply
+    pub told : plants.tells → n.batch ≡ One Here
+    pub order : n.checkpoint.tables.order ≤ m.checkpoint.tables.order + 32
+    pub done : (Q : Queue) → HasDone Q m.batch m.checkpoint → HasDone Q n.batch n.checkpoint
+    pub sound : plants.tells → (s : TellSound m.checkpoint.tables) → may_give s.queue m.id c ≡ true → TellSound n.checkpoint.tables
+
+  -- it is one that may be kept alone: the texts stand after it
+  pub record MayDoOne : Type 0 where
+    pub may : may_give x.base m.id c ≡ true
+    pub fit : IsFit c
+    pub unmarked : is_mark c ≡ false
+    pub texts : HasTextsAfter plants copies x (One Here)
+
+  pub keeps_one : IsToSit plants copies x m h → HasDoneOne → MayDoOne → IsToKeep plants copies x n h
+  keeps_one s d may =
+      let b = s.sits.seat.between in
+      record {
+        gives = gives_one plants copies x m n d.did h.step s.sits c d.reply d.batch may.may may.fit may.unmarked d.order d.done
+            (λ t. d.sound t (b.sound t) (may_alike m.checkpoint.tables x.base (kept_all x.batches) (b.sound t) (b.queue t) m.id c may.may))
+            (λ t. subst (HasTextsAfter plants copies x) (sym (d.told t)) may.texts t);
+        some = some_of_one n.batch (entry_with m.id h.step c d.reply) d.batch;
+        bounds = may_keep plants copies x m n d.did.level s.bounds;
+        holder = s.holder ∙ sym d.did.id;
+      }
 
 -- WHAT COMES AFTER THE FIRST ENTRIES OF A LIST
 

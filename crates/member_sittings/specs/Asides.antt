@@ -1,10 +1,11 @@
 -- A deck's acts aside: its text goes into groups of the member, without the lock.
 use Rattle.member_sittings.specs.Names.{MemberId, AreLines, IsJobFields, View, PlantGhosts, AreRoomy, Ghosts as CopyGhosts, HasShape, Complex, SteadyGhosts, IsUp, Parts, parts_of, IsThere, spools_at, Member, NodeNo, IsFoundLost, SpoolStops, names_volume, Found, State, Away, Told, SpoolDeck, nothing_found}
-use Rattle.std.specs.Prelude.{◌≡◌, ℕ, ◌≤◌, true, List, take, All, Option, Some, None, Result, Ok, Err, IfOk}
+use Rattle.std.specs.Prelude.{◌≡◌, ℕ, ◌≤◌, Bool, true, List, take, All, Option, Some, None, Result, Ok, Err, IfOk}
 use Rattle.mas_types.specs.declared.ids.GroupNo.{GroupNo}
 use Rattle.mas_types.specs.declared.jobs.Text.TheVariants.{Whole}
 use Rattle.mas_types.specs.declared.queues.Owner.{Owner}
 use Rattle.mas_types.specs.Owners.{groups_needed, member_count}
+use Rattle.job_outcome.specs.declared.outcomes.Read.{Read}
 use Rattle.card_reader.specs.declared.decks.Deck.{Deck}
 use Rattle.track_groups.specs.Groups.{held_by}
 use Rattle.mas_complex.specs.Spool.{IsHeldBy}
@@ -38,6 +39,10 @@ WaitsRightly m _ = ⊥
 abbrev pub LiesOnOne : ℕ → List GroupNo → Option ℕ → Type 0
 LiesOnOne per groups None = Unit {0}
 LiesOnOne per groups (Some volume) = lies_there per volume groups ≡ true
+
+-- what a member found that read a text, looked whether a volume is lost, and perhaps found its printer lost
+abbrev pub found_as : Read → Option ℕ → Bool → Found
+found_as read lost printer = record nothing_found { read = read; lost = lost; printer = printer }
 
 -- what a member found that looked only whether a volume is lost
 abbrev pub deck_found : Option ℕ → Found

@@ -1,9 +1,9 @@
 -- A member that got the lock, and takes its seat, or has it still.
 use Rattle.member_sittings.specs.Names.{MemberId, Config, View, PlantGhosts, AreRoomy, Ghosts as CopyGhosts, Complex, SteadyGhosts, AreSettled, Parts, parts_of, Member, NodeNo, IsCalm, ReadsLow, too_high, HasHad, IsAtLock, IsToldSound}
-use Rattle.std.specs.Prelude.{◌≡◌, ℕ, ◌≤◌, ◌<◌, length, None, Result}
+use Rattle.std.specs.Prelude.{◌≡◌, ℕ, ◌≤◌, ◌<◌, length, None, Result, OnOk}
 use Rattle.duplex_pair.specs.Halves.{IsBothLost}
 use Rattle.duplex_pair.specs.Outcomes.{least_room}
-use Rattle.member_sittings.specs.Sat.{CopiesActed}
+use Rattle.member_sittings.specs.Sat.{CopiesActed, seated_in}
 use Rattle.member_sittings.specs.Whole.{Half, HoldsLock, IsBounded, IsSeat, first_half, queue_of, second_half}
 
 -- A copy before any batch, which has so many pages where it counts as alive. What it reads is low after so many
@@ -44,6 +44,13 @@ module _ {P C : Type 0} (plants : PlantGhosts P) (copies : CopyGhosts C) where
     pub seat : IsSeat plants copies x m
     pub bounds : IsBounded plants copies x m
 
+  -- A member took its seat, or keeps it, by the answer; the journal, the volumes and the console are as they were.
+  pub record TakesSeat (x y : Parts P C) (m n : Member) (result : Result (Unit {0}) NodeNo) : Type 0 where
+    pub frame : y ≡ seated_in y x
+    pub id : n.id ≡ m.id
+    pub acts : CopiesActed plants m.id x y result
+    pub seat : OnOk result (HasTakenSeat y n)
+
 -- OVER THE SHARED VALUE
 
 module _ {P C : Type 0} {plants : PlantGhosts P} {steadies : SteadyGhosts C} {copies : CopyGhosts C} where
@@ -52,6 +59,10 @@ module _ {P C : Type 0} {plants : PlantGhosts P} {steadies : SteadyGhosts C} {co
 
   abbrev pub MayKeepSeat : Complex P C plants steadies copies → Member → Type 0
   MayKeepSeat x m = IsAtSeat plants copies (parts_of x) m
+
+  abbrev pub Seats : Complex P C plants steadies copies → Complex P C plants steadies copies → Member → Member
+      → Result (Unit {0}) NodeNo → Type 0
+  Seats x y m n result = TakesSeat plants copies (parts_of x) (parts_of y) m n result
 
   abbrev pub TookSeat : Complex P C plants steadies copies → Member → Type 0
   TookSeat x m = HasTakenSeat plants copies (parts_of x) m

@@ -1,5 +1,5 @@
 -- What a sitting did, for every answer.
-use Rattle.member_sittings.specs.Names.{MemberId, Batch, Entry, View, PlantGhosts, Ghosts as CopyGhosts, Complex, SteadyGhosts, begun, end_of, SamePapers, Parts, parts_of, with_copies, Member, NodeNo, StepCauses, HasAll, AreOf, all_entries, Sitting, sit, Found, Holder, State, Away, nothing_found}
+use Rattle.member_sittings.specs.Names.{MemberId, Batch, Entry, View, PlantGhosts, Ghosts as CopyGhosts, Complex, SteadyGhosts, begun, end_of, SamePapers, Parts, parts_of, with_copies, Member, NodeNo, StepCauses, HasAll, AreOf, all_entries, Sitting, sit, Found, Holder, State, Away, Fresh, Told, Deck, nothing_found}
 use Rattle.std.specs.Prelude.{◌≡◌, ℕ, ◌+◌, ◌*◌, ◌≤◌, ◌^◌, List, [], ◌++◌, length, All, Result, Err, IfOk}
 use Rattle.mas_types.specs.declared.ids.Dev.{Dev}
 use Rattle.spool_plant.specs.Acts.{SameWires}
@@ -11,6 +11,8 @@ use Rattle.mas_complex.specs.CallCounts.{pair_state}
 use Rattle.member_decks.specs.Keeping.{GivesUpLeaves, IsOnCopies}
 use Rattle.step_turns.specs.declared.states.Aside.{Aside}
 use Rattle.member_sittings.specs.declared.ends.SittingEnd.{SittingEnd}
+use Rattle.member_sittings.specs.Asides.{WaitsRightly}
+use Rattle.member_sittings.specs.Ends.{Ending, ended}
 use Rattle.member_sittings.specs.Left.{HasLeft, HasSaid, Reach, ReachesBy}
 use Rattle.member_sittings.specs.Shapes.{IsShaped}
 use Rattle.member_sittings.specs.Tight.{IfNoWork, IsTightBy}
@@ -40,6 +42,11 @@ sat_in is was = record is
 -- What a member changes that takes its seat: the plant, the copies, and what was noted.
 abbrev pub seated_in : {P C : Type 0} → Parts P C → Parts P C → Parts P C
 seated_in is was = record (with_copies is was) { had = is.had }
+
+-- where a sitting of a command, or of a deck, leaves its step
+abbrev pub GoesOn : State → Member → State → Type 0
+GoesOn (Fresh (Deck fields text)) m next = WaitsRightly m next
+GoesOn _ m next = next ≡ Told
 
 -- the journal, with a batch in flight at its end
 abbrev pub journal_of : {P C : Type 0} → Parts P C → List Batch
@@ -133,6 +140,29 @@ module _ {P C : Type 0} (plants : PlantGhosts P) (copies : CopyGhosts C) where
     pub sits : IsLeftIn plants copies e.next y n at
     pub grown : HasGrown 1 x y m n
 
+  -- A sitting of a command or of a deck that began so. It leaves its member at the shared value, with the groups for a
+  -- text for which the step waits.
+  pub record SitsFrom (s : Start) (x y : Parts P C) (m n : Member) (result : Result SittingEnd NodeNo) : Type 0 where
+    pub frame : y ≡ sat_in y x
+    pub id : n.id ≡ m.id
+    pub sat : Sat plants s x y result
+    pub again : IfOk result (IsSatOn x y m n s.holder.step)
+    pub goes : IfOk result (λ e. GoesOn s.state n e.next)
+
+  -- a sitting that kept its member's batch, if anything, and ended so
+  pub record EndsAs (e : Ending) (x y : Parts P C) (m n : Member) (result : Result SittingEnd NodeNo) : Type 0 where
+    pub frame : y ≡ sat_in y x
+    pub id : n.id ≡ m.id
+    pub tables : n.checkpoint.tables ≡ m.checkpoint.tables
+    pub sat : IsSatAs plants e.holder.by (ended e m.batch) x y result
+    pub again : IfOk result (IsSatOn x y m n e.holder.step)
+
+  -- a sitting that is out of memory, and keeps what its member gave, if it can
+  pub record EndsShort (by : MemberId) (x y : Parts P C) (m n : Member) (why : NodeNo) : Type 0 where
+    pub frame : y ≡ sat_in y x
+    pub id : n.id ≡ m.id
+    pub cut : HasCut plants by m.batch x y why
+
 -- OVER THE SHARED VALUE
 
 module _ {P C : Type 0} {plants : PlantGhosts P} {steadies : SteadyGhosts C} {copies : CopyGhosts C} where
@@ -140,14 +170,18 @@ module _ {P C : Type 0} {plants : PlantGhosts P} {steadies : SteadyGhosts C} {co
       → Result SittingEnd NodeNo → Type 0
   HasSat s x y result = Sat plants s (parts_of x) (parts_of y) result
 
-  abbrev pub SatAs : MemberId → Sitting → Complex P C plants steadies copies → Complex P C plants steadies copies
-      → Result SittingEnd NodeNo → Type 0
-  SatAs by t x y result = IsSatAs plants by t (parts_of x) (parts_of y) result
-
-  abbrev pub CutsOff : MemberId → List Entry → Complex P C plants steadies copies → Complex P C plants steadies copies
-      → NodeNo → Type 0
-  CutsOff by es x y why = HasCut plants by es (parts_of x) (parts_of y) why
-
   abbrev pub SitsOn : Complex P C plants steadies copies → Complex P C plants steadies copies → Member → Member → ℕ
       → SittingEnd → Type 0
   SitsOn x y m n at e = IsSatOn plants copies (parts_of x) (parts_of y) m n at e
+
+  abbrev pub Sits : Start → Complex P C plants steadies copies → Complex P C plants steadies copies → Member → Member
+      → Result SittingEnd NodeNo → Type 0
+  Sits s x y m n result = SitsFrom plants copies s (parts_of x) (parts_of y) m n result
+
+  abbrev pub EndsSitting : Ending → Complex P C plants steadies copies → Complex P C plants steadies copies → Member
+      → Member → Result SittingEnd NodeNo → Type 0
+  EndsSitting e x y m n result = EndsAs plants copies e (parts_of x) (parts_of y) m n result
+
+  abbrev pub CutsOff : MemberId → Complex P C plants steadies copies → Complex P C plants steadies copies → Member
+      → Member → NodeNo → Type 0
+  CutsOff by x y m n why = EndsShort plants copies by (parts_of x) (parts_of y) m n why

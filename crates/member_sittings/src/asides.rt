@@ -1,7 +1,7 @@
 //! A deck's acts without the lock: its text goes into the groups that were taken for its job.
 ghost use Rattle.member_sittings.specs.Names.{parts_of};
 ghost use Rattle.std.specs.Prelude.{◌≡◌};
-ghost use Rattle.member_sittings.specs.Asides.{MaySpoolDeck, SpoolsDeck, deck_found, finds_of};
+ghost use Rattle.member_sittings.specs.Asides.{MaySpoolDeck, SpoolsDeck, found_as, finds_of};
 
 use job_outcome::Read;
 use mas_complex::{Complex, Steady};
@@ -15,14 +15,14 @@ use std::alloc::Global;
 use step_turns::Found;
 use track_groups::held_by;
 
-// What a member found that looked only whether a volume is lost.
-fn found_lost(alloc: Global, lost: Option<u8>) -> Found
-    ensures { result ≡ deck_found lost }
+/// What a member found that read a text, looked whether a volume is lost, and perhaps found its printer lost.
+pub fn found_with(alloc: Global, read: Read, lost: Option<u8>, printer: bool) -> Found
+    ensures { result ≡ found_as read lost printer }
 {
     Found {
-        read: Read::Lines(Lines::new(alloc)),
+        read,
         lost,
-        printer: false,
+        printer,
         wire: false,
         frames: List::new(alloc),
     }
@@ -32,9 +32,10 @@ fn found_lost(alloc: Global, lost: Option<u8>) -> Found
 pub fn found_by(alloc: Global, written: Result<(), SpoolError>) -> Result<Found, NodeNo>
     ensures { result ≡ finds_of written }
 {
+    let none = Read::Lines(Lines::new(alloc));
     match written {
-        Ok(()) => Ok(found_lost(alloc, None)),
-        Err(SpoolError::Lost(volume)) => Ok(found_lost(alloc, Some(volume))),
+        Ok(()) => Ok(found_with(alloc, none, None, false)),
+        Err(SpoolError::Lost(volume)) => Ok(found_with(alloc, none, Some(volume), false)),
         Err(SpoolError::Halted) => Err(NodeNo::Halted),
     }
 }

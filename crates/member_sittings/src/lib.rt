@@ -4,14 +4,12 @@
 
 mod asides;
 mod closing;
-mod commands;
-mod decks;
 mod ends;
 mod seats;
+mod sittings;
 
-pub use asides::{found_by, spool_deck};
-pub use closing::{close_sitting, give_up_sitting, pause_sitting};
-pub use commands::sit_command;
-pub use decks::{SpooledDeck, close_deck, sit_deck, sit_spooled};
+pub use asides::{found_by, found_with, spool_deck};
+pub use closing::{end_sitting, give_up_sitting, pause_sitting};
 pub use ends::{SittingEnd, release_of};
 pub use seats::{keep_seat, take_seat};
+pub use sittings::{SpooledDeck, close_deck, sit_command, sit_deck, sit_spooled};

@@ -1,8 +1,7 @@
 //! A member that got the lock takes its seat: it takes in what the copies have. One that held it knows what they have.
-ghost use Rattle.std.specs.Prelude.{◌≡◌, ◌<◌, Ok, OnOk};
-ghost use Rattle.member_sittings.specs.Names.{parts_of, too_high};
-ghost use Rattle.member_sittings.specs.Gates.{ActedOnCopies, AreBothLost, HaveRoom, MayKeepSeat, MayTakeSeat, TookSeat};
-ghost use Rattle.member_sittings.specs.Sat.{seated_in};
+ghost use Rattle.std.specs.Prelude.{◌≡◌, ◌<◌, Ok};
+ghost use Rattle.member_sittings.specs.Names.{too_high};
+ghost use Rattle.member_sittings.specs.Gates.{AreBothLost, HaveRoom, MayKeepSeat, MayTakeSeat, Seats};
 
 use mas_complex::{Complex, Steady};
 use member_node::{Member, NodeNo, TOO_HIGH};
@@ -21,10 +20,7 @@ pub fn take_seat<P: Plant + Drop, C: Steady + Drop>(
     complex: &mut Complex<P, C>,
 ) -> Result<(), NodeNo>
     requires { MayTakeSeat complex.old member.old }
-    ensures frame { parts_of complex.new ≡ seated_in (parts_of complex.new) (parts_of complex.old) }
-    ensures id { member.new.id ≡ member.old.id }
-    ensures acts { ActedOnCopies member.old.id complex.old complex.new result }
-    ensures seat { OnOk result (TookSeat complex.new member.new) }
+    ensures { Seats complex.old complex.new member.old member.new result }
 {
     take_hold(member, alloc, complex)?;
     Ok(())
@@ -39,9 +35,7 @@ fn make_room<P: Plant + Drop, C: Steady + Drop>(
     requires may { MayKeepSeat complex.old member.now }
     requires order { member.now.checkpoint.tables.order < too_high }
     requires high { member.now.checkpoint.level < too_high }
-    ensures frame { parts_of complex.new ≡ seated_in (parts_of complex.new) (parts_of complex.old) }
-    ensures acts { ActedOnCopies member.now.id complex.old complex.new result }
-    ensures seat { OnOk result (TookSeat complex.new member.now) }
+    ensures seats { Seats complex.old complex.new member.now member.now result }
     ensures idle { HaveRoom complex.old → complex.new ≡ complex.old }
     ensures lost { AreBothLost complex.old → (result ≡ Ok tt) × (complex.new ≡ complex.old) }
 {
@@ -63,10 +57,7 @@ pub fn keep_seat<P: Plant + Drop, C: Steady + Drop>(
     complex: &mut Complex<P, C>,
 ) -> Result<(), NodeNo>
     requires { MayKeepSeat complex.old member.old }
-    ensures frame { parts_of complex.new ≡ seated_in (parts_of complex.new) (parts_of complex.old) }
-    ensures id { member.new.id ≡ member.old.id }
-    ensures acts { ActedOnCopies member.old.id complex.old complex.new result }
-    ensures seat { OnOk result (TookSeat complex.new member.new) }
+    ensures seats { Seats complex.old complex.new member.old member.new result }
     ensures same { P.tells → member.new ≡ member.old }
     ensures idle { P.tells → HaveRoom complex.old → complex.new ≡ complex.old }
     ensures lost { P.tells → AreBothLost complex.old → (result ≡ Ok tt) × (complex.new ≡ complex.old) }

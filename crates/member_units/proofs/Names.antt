@@ -2,7 +2,6 @@
 pub use Rattle.std.proofs.Common.{Err, List, Ok, Option, Result, ap, arith, inl, inr, refl, subst, suc, sym, take, ◌-◌, ◌^◌, ◌∙◌, false}
 pub use Rattle.member_units.specs.Names.{IfSome, None, Some, [], length, ℕ, ◌*◌, ◌+◌, ◌<◌, ◌∷◌, ◌≡◌, ◌≤◌, counts_of, spools_at, closing_line, MayStopBy, Plays, bounds, unwritten, wrote_after, wrote_of, HasRoom, Works, outside, place_of, queue_here, queue_kept, run_of, MayEndBy, MayRefuseBy, IsMarkRight, sittings_most, groups_for_end, aside_turn, goes_on_by, job_ends, leaves, lines_printed, outputs_stand, says, text_read, units_from, Found, Fresh, Rested, HasGiven, IsLow, IsUnderWay, Follow, MayLeave, aside_done, aside_most, aside_units, too_high, rests}
 pub use Rattle.std.proofs.lemmas.Result.{err_from_is_err_and}
-pub use Rattle.job_outcome.specs.Next.{end_by}
 pub use Rattle.mas_types.specs.Commands.Life.{outputs_at_end}
 pub use Rattle.mas_types.specs.Queue.{job_at}
 pub use Rattle.mas_types.specs.declared.ids.MemberId.{MemberId}
@@ -15,14 +14,12 @@ pub use Rattle.member_giving.proofs.Resting.{leaves_open, leaves_told, left_some
 pub use Rattle.member_giving.proofs.Sat.{frame_of, plays_units, sat_of, says_units}
 pub use Rattle.member_giving.proofs.Seated.{closes_said, low_bounds, said_apart, seat_said, works_sits}
 pub use Rattle.member_giving.proofs.Taking.{ends_none, first_ends, still_under_way}
-pub use Rattle.member_giving.proofs.Within.{answered_by, close_within, full_le, leave_within, prints_by, stops_by, text_within, unwritten_one, wrote_within}
+pub use Rattle.member_giving.proofs.Within.{close_within, full_le, leave_within, prints_by, stops_by, text_within, unwritten_one, wrote_within}
 pub use Rattle.member_giving.proofs.Working.{kept_here, less_room, own_batch, room_low, same_run}
 pub use Rattle.member_giving.specs.Works.{Outside, Run}
 pub use Rattle.member_node.specs.declared.member.NodeNo.{NodeNo}
 pub use Rattle.member_sittings.specs.declared.ends.SittingEnd.{SittingEnd}
-pub use Rattle.member_work.proofs.CauseLemmas.{reply_answered}
 pub use Rattle.paper_laws.specs.Counts.{counts_after}
 pub use Rattle.step_turns.specs.Batches.{batch_of}
-pub use Rattle.step_turns.specs.Entries.{closing_reply}
 pub use Rattle.step_turns.specs.declared.states.State.TheVariants.{Away}
 pub use Rattle.track_groups.specs.Groups.{held_by}

@@ -1,6 +1,6 @@
 -- A part of a sitting, and what follows it.
-use Rattle.member_units.proofs.Names.{[], ◌≡◌, ℕ, ◌+◌, ◌*◌, ◌≤◌, ◌<◌, IsLow, too_high, room_low, List, length, None, Option, Some, Result, Ok, Err, ◌∙◌, inl, refl, sym, subst, ap, arith, Entry, MemberId, Queue, Run, NodeNo, Found, Away, end_by, reply_answered, closing_reply, IsUnderWay, MayEndBy, HasGiven, Plays, unwritten, wrote_after, wrote_of, Follow, MayLeave, Outside, place_of, queue_here, run_of, goes_on_by, leaves, units_from, SittingEnd, plays_as, answered_by, still_under_way, Rested, false, rests, suc}
-use Rattle.std.specs.Prelude.{OnOk, true, zero}
+use Rattle.member_units.proofs.Names.{[], ◌≡◌, ℕ, ◌+◌, ◌*◌, ◌≤◌, ◌<◌, IsLow, too_high, room_low, List, length, None, Option, Some, Result, Ok, Err, ◌∙◌, refl, sym, subst, ap, arith, Entry, MemberId, Queue, Run, NodeNo, Found, Away, IsUnderWay, MayEndBy, HasGiven, Plays, unwritten, wrote_after, wrote_of, Follow, MayLeave, Outside, place_of, queue_here, run_of, goes_on_by, leaves, units_from, SittingEnd, plays_as, still_under_way, Rested, false, rests, suc, HasRoom}
+use Rattle.std.specs.Prelude.{true, zero}
 use Rattle.std.proofs.lemmas.List.Elements.{All-nil}
 use Rattle.mas_types.specs.Owners.{member_count}
 use Rattle.mas_types.specs.Run.{run}
@@ -8,14 +8,15 @@ use Rattle.member_node.specs.declared.member.Member.{Member}
 use Rattle.member_sittings.specs.Names.{Complex, PlantGhosts, SteadyGhosts, Ghosts as CopyGhosts}
 use Rattle.mas_types.specs.declared.ids.JobNo.{JobNo}
 use Rattle.mas_types.specs.declared.jobs.OutSpec.{OutSpec}
-use Rattle.member_work.proofs.CauseLemmas.{taken_answered}
 use Rattle.member_work.proofs.PartLemmas.{not_refused, taken_done}
 use Rattle.member_work.specs.Units.{taken_end}
 use Rattle.queue_laws.proofs.Finds.{test_cases}
 use Rattle.step_turns.specs.Decks.{are_refused}
 use Rattle.step_turns.specs.declared.states.Aside.TheVariants.{SpoolOutputs}
 use Rattle.member_giving.specs.Plays.{Bounds, IsWithin, to_play, unit_part}
-use Rattle.member_giving.specs.Works.{LeavesRoom, Place}
+use Rattle.member_giving.specs.Works.{Place}
+use Rattle.member_giving.specs.Parts.{IsBare, IsTaken, MayGive, MayLose, commands_most, commands_of, ends_of}
+use Rattle.member_giving.proofs.Given.{ends_may}
 use Rattle.member_giving.proofs.Taking.{ends_refused, ends_taken}
 use Rattle.member_giving.proofs.Within.{TurnWithin, goes_within, part_wrote}
 use Rattle.step_turns.specs.Turns.{Turn, after_part, job_ends, waits_for, goes_on}
@@ -28,39 +29,29 @@ use Rattle.job_outcome.specs.declared.units.UnitEnd.TheVariants as ends
 use Rattle.member_decks.specs.Steps.{AreOf}
 use Rattle.member_giving.proofs.Cuts.{cut_end}
 use Rattle.member_giving.proofs.Going.{played_part, played_part_error}
-use Rattle.member_units.specs.Actions.{IsNext, IsRoomy, IsTaken, IsUpTo, MayFollow, MayGive, MayLose, UsesPart, above, action_turn, ahead, commands_of, ends_of, entries_of, most_of, most_then, rest_turn, wait_after, left_of, units_of}
+use Rattle.member_units.specs.Actions.{IsNext, IsRoomy, IsUpTo, MayFollow, above, action_turn, ahead, entries_of, most_of, most_then, rest_turn, wait_after}
 use Rattle.member_units.specs.declared.actions.Action.{Action}
 use Rattle.member_units.specs.declared.actions.Action.TheVariants as action
-use Rattle.member_units.specs.declared.actions.Part.{Part}
-use Rattle.member_units.specs.declared.actions.Part.TheVariants as part
+use Rattle.member_giving.specs.declared.parts.Part.{Part}
+use Rattle.member_giving.specs.declared.parts.Part.TheVariants as part
 
 pub most_above : (a : Action) → most_of a ≤ above a
 most_above (action.Close end) = omega arith
-most_above (action.Wait s) = omega arith
-most_above (action.Give p then at) = omega arith
+most_above _ = omega arith
 
 pub above_most : (a : Action) → above a ≤ most_of a + 1
 above_most (action.Close end) = omega arith
-above_most (action.Wait s) = omega arith
-above_most (action.Give p then at) = omega arith
-
--- how a part may end
-pub ends_may : (found : Found) (h : Holder) (Q : Queue) (p : Part) → MayLose found p → MayEndBy found (ends_of h Q p)
-ends_may found h Q (part.One c) may = let r = closing_reply (entries_of h Q (part.One c)) in answered_by found (end_by r) (reply_answered r)
-ends_may found h Q (part.Groups needed) may = answered_by found (ends_of h Q (part.Groups needed)) (taken_answered Q h.by h.step needed)
-ends_may found h Q (part.Ended n specs) may = let r = closing_reply (entries_of h Q (part.Ended n specs)) in answered_by found (end_by r) (reply_answered r)
-ends_may found h Q (part.Lost volume) may = inl may
+above_most _ = omega arith
 
 -- what follows comes to so much
 pub rest_within : (h : Holder) (found : Found) (units : ℕ) (e : UnitEnd) → MayEndBy found e → (then : Option Aside) (at : Progress) (Q : Queue) (given : ℕ) → at.done + 1 + at.left ≤ units → TurnWithin h found (most_then then at) units (rest_turn h e then at Q given)
 rest_within h found units e may None at Q given few = goes_within h found e may (3 * at.left + 1) units at.left Q given at.done few (omega arith)
 rest_within h found units ends.Done may (Some a) at Q given few = record { its = All-nil (AreOf h.by h.step); few = omega arith; says = refl }
-rest_within h found units ends.Idle may (Some a) at Q given few = let w = goes_within h found ends.Idle may (3 * at.left + 1) units at.left Q given at.done few (omega arith) in record { its = w.its; few = omega arith; says = w.says }
-rest_within h found units (ends.Refused end) may (Some a) at Q given few = let w = goes_within h found (ends.Refused end) may (3 * at.left + 1) units at.left Q given at.done few (omega arith) in record { its = w.its; few = omega arith; says = w.says }
+rest_within h found units another may (Some a) at Q given few = let w = goes_within h found another may (3 * at.left + 1) units at.left Q given at.done few (omega arith) in record { its = w.its; few = omega arith; says = w.says }
 
 module _ (told : Type 0) (h : Holder) (b : Bounds) (p : Part) (then : Option Aside) (at : Progress) (old mid : Place) (given : ℕ) where
   abbrev Gives : Result UnitEnd NodeNo → Type 0
-  Gives r = HasGiven told h (unit_part (commands_of h.by old.queue p) (ends_of h old.queue p)) old mid r
+  Gives r = HasGiven told h (unit_part (commands_of h.by old.queue p) (ends_of h.by h.step old.queue p)) old mid r
 
   abbrev rest : UnitEnd → List Entry → Turn
   rest e es = rest_turn h e then at (run old.queue es) (given + length es)
@@ -69,8 +60,8 @@ module _ (told : Type 0) (h : Holder) (b : Bounds) (p : Part) (then : Option Asi
   pub part_error : AreOf h.by h.step old.batch → MayLose b.found p → at.done + 1 + at.left ≤ b.units → most_then then at + 1 + unwritten old.batch ≤ b.most → (why : NodeNo) → Gives (Err why)
       → Plays told b (to_play h given (wrote_of old.batch (action_turn h old.queue given (action.Give p then at)))) old mid.outside (Err why)
   part_error of may few le why g =
-      let e = ends_of h old.queue p in
-      let w : (es : List Entry) → TurnWithin h b.found (most_then then at) b.units (rest e es) = λ es. rest_within h b.found b.units e (ends_may b.found h old.queue p may) then at (run old.queue es) (given + length es) few in
+      let e = ends_of h.by h.step old.queue p in
+      let w : (es : List Entry) → TurnWithin h b.found (most_then then at) b.units (rest e es) = λ es. rest_within h b.found b.units e (ends_may b.found h.by h.step old.queue p may) then at (run old.queue es) (given + length es) few in
       played_part_error told h (IsWithin h b) given (commands_of h.by old.queue p) e old mid (rest e) of (λ es. (w es).its) (λ es. part_wrote h b.found b.units b.most old.batch es (rest e es) (most_then then at) (omega (arith, le)) (w es)) why g
 
   module _ (end : UnitEnd) (given' : ℕ) (new : Outside) (r : Result SittingEnd NodeNo) (g : Gives (Ok end)) (more : given' ≡ given + length g.es) where
@@ -82,12 +73,12 @@ module _ (told : Type 0) (h : Holder) (b : Bounds) (p : Part) (then : Option Asi
 
     -- it was given, and the rest follows
     part_then : Plays told b (to_play h given' (wrote_after mid.batch (rest_turn h end then at mid.queue given'))) mid new r → Goes
-    part_then q = played_part told h (IsWithin h b) given (commands_of h.by old.queue p) (ends_of h old.queue p) old mid (rest_turn h end then at mid.queue given') (rest (ends_of h old.queue p) (entries_of h old.queue p)) end given' new r g more
+    part_then q = played_part told h (IsWithin h b) given (commands_of h.by old.queue p) (ends_of h.by h.step old.queue p) old mid (rest_turn h end then at mid.queue given') (rest (ends_of h.by h.step old.queue p) (entries_of h old.queue p)) end given' new r g more
         (λ t.
         ap (λ (Q : Queue). rest_turn h end then at Q given') g.queue
         ∙ ap (λ (n : ℕ). rest_turn h end then at (run old.queue g.es) n) more
         ∙ ap (λ (x : UnitEnd). rest x g.es) (g.ends t)
-        ∙ ap (λ (es : List Entry). rest (ends_of h old.queue p) es) (g.is t)) q
+        ∙ ap (λ (es : List Entry). rest (ends_of h.by h.step old.queue p) es) (g.is t)) q
 
     -- further units follow
     pub part_goes : wait_after end then ≡ None → Plays told b (to_play h given' (wrote_after mid.batch (by_answer None))) mid new r → Goes
@@ -102,8 +93,7 @@ module _ (told : Type 0) (h : Holder) (b : Bounds) (p : Part) (then : Option Asi
 pub waited : (e : UnitEnd) (o : Option Aside) (a : Aside) → wait_after e o ≡ Some a → (e ≡ ends.Done) × (o ≡ Some a)
 waited e None a is = absurd (cc)
 waited ends.Done (Some b) a is = (refl, is)
-waited ends.Idle (Some b) a is = absurd (cc)
-waited (ends.Refused end) (Some b) a is = absurd (cc)
+waited _ (Some b) a is = absurd (cc)
 
 pub wait_done : (o : Option Aside) → o ≡ wait_after ends.Done o
 wait_done None = refl
@@ -112,8 +102,7 @@ wait_done (Some a) = refl
 pub wait_not : (e : UnitEnd) (o : Option Aside) → (e ≡ ends.Done → ⊥) → None ≡ wait_after e o
 wait_not e None not = refl
 wait_not ends.Done (Some a) not = absurd (not refl)
-wait_not ends.Idle (Some a) not = refl
-wait_not (ends.Refused end) (Some a) not = refl
+wait_not _ (Some a) not = refl
 
 pub not_some : (o : Option Aside) → ((a : Aside) → o ≡ Some a → ⊥) → o ≡ None
 not_some None not = refl
@@ -125,27 +114,24 @@ up_to a b =
 
 module _ {P C : Type 0} {plants : PlantGhosts P} {steadies : SteadyGhosts C} {copies : CopyGhosts C} where
   -- a part leaves room
-  pub given_uses : (x y : Complex P C plants steadies copies) (m n : Member) (r : Result UnitEnd NodeNo) → OnOk r (n.checkpoint.tables.order ≤ m.checkpoint.tables.order + 32) → OnOk r (n.checkpoint.level ≡ m.checkpoint.level) → OnOk r (y.level ≡ x.level) → OnOk r (UsesPart x m y n)
-  given_uses x y m n (Ok end) order high same = λ k few roomy.
-      record { order = omega (arith, order, roomy.order); high = omega (arith, high, roomy.room.high); level = omega (arith, same, roomy.room.level) }
-  given_uses x y m n (Err why) order high same = tt
+  module _ (x y : Complex P C plants steadies copies) (m n : Member) (high : n.checkpoint.level ≡ m.checkpoint.level) (same : y.level ≡ x.level) (k : ℕ) (few : k ≤ 20000) (roomy : IsRoomy x m k) where
+    bare_uses : IsBare x m → n.checkpoint.tables.order ≤ m.checkpoint.tables.order + 32 * 3 → HasRoom y n k
+    bare_uses bare order = let low = bare.low.order in let level = bare.low.high in record { order = omega (arith, order, low, few); high = omega (arith, high, level, few); level = omega (arith, same, roomy.room.level) }
 
-  pub room_uses : (x y : Complex P C plants steadies copies) (m n : Member) (r : Result UnitEnd NodeNo) → OnOk r (LeavesRoom x y n) → OnOk r (UsesPart x m y n)
-  room_uses x y m n (Ok end) room = λ k few roomy. room k few roomy.room.level
-  room_uses x y m n (Err why) room = tt
+    pub part_uses : (p : Part) → MayGive x m p → n.checkpoint.tables.order ≤ m.checkpoint.tables.order + 32 * commands_most p → HasRoom y n k
+    part_uses (part.One c) may order = record { order = omega (arith, order, roomy.order); high = omega (arith, high, roomy.room.high); level = omega (arith, same, roomy.room.level) }
+    part_uses (part.Lost volume) may order = bare_uses may order
+    part_uses _ may order = bare_uses may.0 order
 
   -- what may follow a part leaves as many sittings as its units
   pub least_then : (x : Complex P C plants steadies copies) (m : Member) (p : Part) (then : Option Aside) (at : Progress) → MayFollow x m p then at → 3 * at.left + 1 ≤ most_then then at
   least_then x m p None at may = omega arith
-  least_then x m (part.One c) (Some a) at may = absurd may
   least_then x m (part.Groups needed) (Some a) at may = rw may.is (omega arith)
-  least_then x m (part.Ended n specs) (Some a) at may = absurd may
-  least_then x m (part.Lost volume) (Some a) at may = absurd may
+  least_then x m _ (Some a) at may = absurd may
 
   -- the step is ready to wait
   pub ready_then : (x y : Complex P C plants steadies copies) (m n : Member) (h : Holder) (p : Part) (a : Aside) (at : Progress) (f : Follow) → MayGive x m p → MayFollow x m p (Some a) at → run_of y n ≡ run_of x m → IsTaken n p
-      → (end : UnitEnd) → end ≡ ends.Done → HasGiven plants.tells h (unit_part (commands_of h.by (queue_here x m) p) (ends_of h (queue_here x m) p)) (place_of x m) (place_of y n) (Ok end) → y.level ≡ x.level → IsUpTo (ahead x.level (action.Give p (Some a) at)) f → MayLeave y n f (Away a)
-  ready_then x y m n h (part.One c) a at f gives may run taken end done g same upto = absurd may
+      → (end : UnitEnd) → end ≡ ends.Done → HasGiven plants.tells h (unit_part (commands_of h.by (queue_here x m) p) (ends_of h.by h.step (queue_here x m) p)) (place_of x m) (place_of y n) (Ok end) → y.level ≡ x.level → IsUpTo (ahead x.level (action.Give p (Some a) at)) f → MayLeave y n f (Away a)
   ready_then x y m n h (part.Groups needed) a at f gives may run taken end done g same upto =
       let id : n.id ≡ m.id = ap (λ (r : Run). r.id) run in
       let b = rw may.is at upto in
@@ -159,8 +145,7 @@ module _ {P C : Type 0} {plants : PlantGhosts P} {steadies : SteadyGhosts C} {co
         fewer = record { falls = omega (arith, b.most); few = omega (arith, b.units) };
         reached = omega (arith, b.level, same);
       })
-  ready_then x y m n h (part.Ended j specs) a at f gives may run taken end done g same upto = absurd may
-  ready_then x y m n h (part.Lost volume) a at f gives may run taken end done g same upto = absurd may
+  ready_then x y m n h _ a at f gives may run taken end done g same upto = absurd may
 
 -- THE GROUPS OF A JOB'S OUTPUTS are taken, or the unit is refused
 pub takes_turn : (h : Holder) (Q : Queue) (n : JobNo) (specs : List OutSpec) (at : Progress) (needed : ℕ) → 1 ≤ needed → action_turn h Q 0 (action.Give (part.Groups needed) (Some (SpoolOutputs n specs at)) at) ≡ job_ends h needed Q n specs at

@@ -1,30 +1,19 @@
 -- What a member does next in a sitting of a step of work: what it gives, what may follow, and where it may.
-use Rattle.std.specs.Prelude.{[], ◌≡◌, ◌≢◌, ℕ, suc, ◌+◌, ◌*◌, ◌≤◌, ◌<◌, ◌^◌, Bool, true, false, List, ◌∷◌, length, Option, Some, None, take}
+use Rattle.std.specs.Prelude.{◌≡◌, ◌≢◌, ℕ, suc, ◌+◌, ◌*◌, ◌≤◌, ◌<◌, ◌^◌, Bool, true, false, List, length, Option, Some, None}
 use Rattle.std.specs.Option.{option_map_or}
-use Rattle.member_units.specs.Names.{AreMembersNamed, AreOutputs, Done, Follow, Found, HasRoom, IsLow, IsMarkRight, IsReady, IsUnderWay, MayBeGiven, MayCloseBy, Told, aside_most, counts_of, follow, goes_on_by, groups_for_end, leaves, queue_here, queue_kept, sittings_most, spools_at, units_from}
+use Rattle.member_units.specs.Names.{AreMembersNamed, AreOutputs, Follow, Found, HasRoom, IsReady, IsUnderWay, MayCloseBy, Told, aside_most, follow, goes_on_by, leaves, queue_here, sittings_most, units_from}
 use Rattle.job_outcome.specs.declared.units.UnitEnd.{UnitEnd}
 use Rattle.job_outcome.specs.declared.units.UnitEnd.TheVariants as ends
-use Rattle.job_outcome.specs.Next.{end_by}
-use Rattle.mas_types.specs.declared.answers.Closing.TheVariants.{SpoolLost}
-use Rattle.mas_types.specs.declared.commands.Command.{Command}
 use Rattle.mas_types.specs.declared.ids.JobNo.{JobNo}
-use Rattle.mas_types.specs.declared.ids.MemberId.{MemberId}
 use Rattle.mas_types.specs.declared.jobs.OutSpec.{OutSpec}
 use Rattle.mas_types.specs.declared.journals.Entry.{Entry}
 use Rattle.mas_types.specs.declared.queues.Queue.{Queue}
-use Rattle.mas_types.specs.Commands.Life.{groups_of_outputs, outputs_at_end}
-use Rattle.mas_types.specs.Owners.{member_count}
-use Rattle.mas_types.specs.Queue.{job_at}
+use Rattle.mas_types.specs.Commands.Life.{groups_of_outputs}
 use Rattle.mas_types.specs.Run.{run}
-use Rattle.track_groups.specs.Groups.{held_by}
-use Rattle.paper_laws.specs.Counts.{counts_after}
 use Rattle.member_node.specs.declared.member.Member.{Member}
 use Rattle.member_sittings.specs.Names.{Complex, PlantGhosts, SteadyGhosts, Ghosts as CopyGhosts}
 use Rattle.member_sittings.specs.Sat.{Start}
-use Rattle.member_work.specs.Spooled.{AreSpooled}
-use Rattle.member_work.specs.Units.{taken_end}
-use Rattle.step_turns.specs.Entries.{closing_reply, given_in}
-use Rattle.step_turns.specs.JobEnds.{drop_groups, ending, taking}
+use Rattle.step_turns.specs.Entries.{given_in}
 use Rattle.step_turns.specs.Laws.{units_done, units_left}
 use Rattle.step_turns.specs.Turns.{Turn, after_part, closes_as, turn, waits_for}
 use Rattle.step_turns.specs.declared.states.Aside.{Aside}
@@ -34,25 +23,13 @@ use Rattle.step_turns.specs.declared.states.Progress.{Progress}
 use Rattle.step_turns.specs.declared.states.State.{State}
 use Rattle.member_units.specs.declared.actions.Action.{Action}
 use Rattle.member_units.specs.declared.actions.Action.TheVariants as action
-use Rattle.member_units.specs.declared.actions.Part.{Part}
-use Rattle.member_units.specs.declared.actions.Part.TheVariants as part
+use Rattle.member_giving.specs.Parts.{MayGive, MayLose, commands_of, ends_of}
+use Rattle.member_giving.specs.declared.parts.Part.{Part}
+use Rattle.member_giving.specs.declared.parts.Part.TheVariants as part
 
--- the commands of a part, at a queue
-abbrev pub commands_of : MemberId → Queue → Part → List Command
-commands_of by Q (part.One c) = c ∷ []
-commands_of by Q (part.Groups needed) = taking Q by needed
-commands_of by Q (part.Ended n specs) = ending Q by n specs
-commands_of by Q (part.Lost volume) = drop_groups ∷ []
-
+-- the entries of a part, at a queue
 abbrev pub entries_of : Holder → Queue → Part → List Entry
 entries_of h Q p = given_in Q h.by h.step (commands_of h.by Q p)
-
--- how it ends
-abbrev pub ends_of : Holder → Queue → Part → UnitEnd
-ends_of h Q (part.One c) = end_by (closing_reply (entries_of h Q (part.One c)))
-ends_of h Q (part.Groups needed) = taken_end Q h.by h.step needed
-ends_of h Q (part.Ended n specs) = end_by (closing_reply (entries_of h Q (part.Ended n specs)))
-ends_of h Q (part.Lost volume) = ends.Refused (SpoolLost volume)
 
 -- the acts for which the step waits then: once it is done
 abbrev pub wait_after : UnitEnd → Option Aside → Option Aside
@@ -71,7 +48,7 @@ abbrev pub action_turn : Holder → Queue → ℕ → Action → Turn
 action_turn h Q given (action.Close end) = closes_as h end
 action_turn h Q given (action.Wait s) = leaves s
 action_turn h Q given (action.Give p then at) = after_part (entries_of h Q p)
-    (rest_turn h (ends_of h Q p) then at (run Q (entries_of h Q p)) (given + length (entries_of h Q p)))
+    (rest_turn h (ends_of h.by h.step Q p) then at (run Q (entries_of h Q p)) (given + length (entries_of h Q p)))
 
 -- HOW MUCH MAY FOLLOW
 
@@ -118,11 +95,6 @@ pub record IsUpTo (f g : Follow) : Type 0 where
 
 -- WHAT IT RESTS ON
 
--- groups are given up only where this volume was found lost
-abbrev pub MayLose : Found → Part → Type 0
-MayLose found (part.Lost volume) = found.lost ≡ Some volume
-MayLose found _ = Unit {0}
-
 -- the step closes as one of so many units may
 abbrev pub IsCaused : ℕ → Found → Action → Type 0
 IsCaused units found (action.Close end) = MayCloseBy units found end
@@ -134,36 +106,11 @@ abbrev pub is_text : Aside → Bool
 is_text (ReadText runs n fields p) = true
 is_text _ = false
 
--- the member has the groups that it took
-abbrev pub IsTaken : Member → Part → Type 0
-IsTaken m (part.Groups needed) = needed ≤ member_count m.id m.checkpoint.tables.owners
-IsTaken m _ = Unit {0}
-
 module _ {P C : Type 0} {plants : PlantGhosts P} {steadies : SteadyGhosts C} {copies : CopyGhosts C} where
   -- room for so many commands and batches, and for one command more
   pub record IsRoomy (x : Complex P C plants steadies copies) (m : Member) (k : ℕ) : Type 0 where
     pub room : HasRoom x m k
     pub order : m.checkpoint.tables.order + 32 * (k + 1) < 2 ^ 63
-
-  abbrev pub UsesPart : Complex P C plants steadies copies → Member → Complex P C plants steadies copies → Member
-      → Type 0
-  UsesPart x m y n = (k : ℕ) → k ≤ 20000 → IsRoomy x m k → HasRoom y n k
-
-  -- where a sitting begins, with nothing unwritten
-  pub record IsBare (x : Complex P C plants steadies copies) (m : Member) : Type 0 where
-    pub low : IsLow x m
-    pub nothing : m.batch ≡ []
-
-  -- a member may give a part
-  abbrev pub MayGive : Complex P C plants steadies copies → Member → Part → Type 0
-  MayGive x m (part.One c) = (length m.batch < 64) × MayBeGiven x.base m.id c
-      × (plants.tells → IsMarkRight (queue_here x m) m.id (counts_after m.batch (counts_of x.printed) m.id) c)
-  MayGive x m (part.Groups needed) = IsBare x m × (1 ≤ needed)
-  MayGive x m (part.Ended n specs) = IsBare x m × AreOutputs specs × (plants.tells → IsUnderWay (queue_kept x) m.id n)
-      × (plants.tells → AreSpooled (spools_at (plants.view x.plant) (plants.view x.plant).now) x.base.config.groups
-      (outputs_at_end (job_at (queue_kept x) n) specs)
-      (take (groups_for_end (queue_kept x) n specs) (held_by m.id (queue_kept x).owners)))
-  MayGive x m (part.Lost volume) = IsBare x m
 
   -- a job that is under way ends with these outputs, whose groups are so many
   pub record HasOutputs (x : Complex P C plants steadies copies) (m : Member) (a : Aside) (at : Progress)

@@ -2,15 +2,14 @@
 pub use Rattle.std.specs.Prelude.{IfSome, None, Some, [], length, ℕ, ◌*◌, ◌+◌, ◌<◌, ◌∷◌, ◌≡◌, ◌≤◌}
 pub use Rattle.job_exec.specs.Running.{AreOutputs}
 pub use Rattle.job_outcome.specs.Next.{IsNamedEnd}
-pub use Rattle.job_outcome.specs.declared.units.UnitEnd.TheVariants.{Done}
 pub use Rattle.job_outcome.specs.Outcomes.{AreFitOutputs, IsNamedOutcome}
 pub use Rattle.mas_complex.specs.Paper.{counts_of}
 pub use Rattle.mas_complex.specs.Parts.{parts_of}
 pub use Rattle.mas_complex.specs.Texts.{spools_at}
 pub use Rattle.mas_types.specs.Closings.{AreMembersNamed, closing_line}
 pub use Rattle.mas_types.specs.Sound.{IsSound}
-pub use Rattle.member_giving.specs.Plays.{HasGiven, MayStopBy, Plays, bounds, rests, unwritten, wrote_after, wrote_of, to_play, unit_part}
-pub use Rattle.member_giving.specs.Ready.{IsReady, MayBeGiven, MayResume}
+pub use Rattle.member_giving.specs.Plays.{HasGiven, MayStopBy, Plays, bounds, rests, unwritten, wrote_after, wrote_of, to_play}
+pub use Rattle.member_giving.specs.Ready.{IsReady, MayResume}
 pub use Rattle.member_giving.specs.Works.{Follow, HasRoom, IsLow, Leaves, MayLeave, Works, follow, outside, place_of, queue_here, queue_kept, run_of}
 pub use Rattle.member_node.specs.Reads.{too_high}
 pub use Rattle.member_sittings.specs.Sat.{HasSat, begins, resumes, sat_in}

@@ -4,12 +4,13 @@ ghost use Rattle.mas_types.specs.declared.jobs.JobFields.{JobFields};
 ghost use Rattle.job_outcome.specs.Outcomes.{outcome_of as outcome_of_lem};
 ghost use Rattle.step_turns.specs.declared.states.Aside.TheVariants.{ReadText};
 ghost use Rattle.member_units.specs.Names.{AreMembersNamed, AreFitOutputs, IsNamedOutcome, IsUnderWay, IsNamedEnd, MayEndBy, counts_of, goes_on_by, units_from, spools_at, Found as FoundLem, Rested, rests as rests_lem, printed_end as printed_end_lem, follow, resumes, MayResume, Works, queue_here, queue_kept};
-ghost use Rattle.member_units.specs.Actions.{IsBare, IsCaused, IsFirst, IsNext, action_turn, follow_in, is_text, wait_after};
+ghost use Rattle.member_giving.specs.Parts.{IsBare};
+ghost use Rattle.member_units.specs.Actions.{IsCaused, IsFirst, IsNext, action_turn, follow_in, is_text, wait_after};
 
 use job_outcome::{Outcome, Read, UnitEnd, outcome_of};
 use mas_complex::{Complex, Steady};
-use mas_types::{Closing, Command, JobNo, List, NoMemory, OutSpec};
-use member_giving::{Next, next_unit};
+use mas_types::{Closing, Command, JobNo, NoMemory};
+use member_giving::{Next, Part, next_unit};
 use member_node::Member;
 use member_work::groups_for_end;
 use spool_plant::Plant;
@@ -17,19 +18,6 @@ use spool_text::law_of_groups;
 use spool_volumes::law_of_read_texts;
 use std::alloc::Global;
 use step_turns::{Aside, Found, Grant, Holder, Progress, State};
-
-/// What a unit gives at once.
-#[derive(Drop)]
-pub(crate) enum Part {
-    /// This command.
-    One(Command),
-    /// Take of so many groups.
-    Groups(u32),
-    /// The end of a job whose outputs stand in the member's groups.
-    Ended(JobNo, List<OutSpec>),
-    /// Drop of the member's groups, since this volume is lost.
-    Lost(u8),
-}
 
 /// What a member does next in a sitting.
 #[derive(Drop)]

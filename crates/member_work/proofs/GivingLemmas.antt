@@ -17,8 +17,9 @@ use Rattle.member_decks.proofs.HeldLemmas.{counted}
 use Rattle.member_decks.proofs.OpenLemmas.{last_push}
 use Rattle.job_outcome.specs.declared.units.UnitEnd.{UnitEnd}
 use Rattle.job_outcome.specs.declared.units.UnitEnd.TheVariants as ends
+use Rattle.member_work.specs.Units.{ended_as}
 use Rattle.job_outcome.specs.Ending.{EndedBringsTexts, IsOfOutput, shares}
-use Rattle.member_work.specs.Giving.{GivesAt, HasGiven, IsSoundPlain, LeaveWhere, MayEnd, asked}
+use Rattle.member_work.specs.Giving.{CanGive, GivesAt, HasGiven, IsSoundPlain, LeaveWhere, MayEnd, asked}
 
 -- WHAT A MEMBER HAS
 
@@ -42,6 +43,9 @@ module _ (at : ℕ) (m n o : Member) where
     sound = λ s. two.sound (one.sound s);
     order = let a = one.order in let b = two.order in omega (arith, a, b);
   }
+
+  pub can_then : HasGiven at m n → CanGive m → CanGive n
+  can_then one can = record { some = rw one.id can.some; by = rw one.id can.by; here = one.behind ∙ can.here; member = rw (one.config, one.id) can.member; spelling = one.spelling; fit = one.fit }
 
   pub given_still : HasGiven at m n → o ≡ n → HasGiven at m o
   given_still one same = subst (λ (x : Member). HasGiven at m x) (sym same) one
@@ -125,7 +129,11 @@ module _ (Q : Queue) (by : MemberId) (at : ℕ) (c : Command) where
   pub one_reply : {T E : Type 0} (holds : Spools → ℕ → Type 0) (m n : Member) (x : T) (r : Reply) → GivesAt {E = E} (asked Q by at (c ∷ [])) holds m n (Ok x) → r ≡ last_reply n.batch → reply_to Q by c ≡ r
   one_reply holds m n x r one last = sym (last ∙ ap last_reply (one_batch holds m n x one) ∙ last_push m.batch e)
 
-  -- commands that were given, by another answer
+  -- commands that were given, by another condition
+  pub gives_by : {T E : Type 0} (cs : List Command) (holds more : Spools → ℕ → Type 0) (m n : Member) (r : Result T E) → ((disks : Spools) (per : ℕ) → more disks per → holds disks per) → GivesAt (asked Q by at cs) holds m n r → GivesAt (asked Q by at cs) more m n r
+  gives_by cs holds more m n r to one = record { gave = one.gave; batch = one.batch; part = one.part; effect = one.effect; texts = λ gone disks per h has. one.texts gone disks per (to disks per h) has }
+
+  -- and by another answer
   pub gives_ok : {T E S F : Type 0} (cs : List Command) (holds more : Spools → ℕ → Type 0) (m n : Member) (x : T) (y : S) → ((disks : Spools) (per : ℕ) → more disks per → holds disks per) → GivesAt {E = E} (asked Q by at cs) holds m n (Ok x) → GivesAt {E = F} (asked Q by at cs) more m n (Ok y)
   gives_ok cs holds more m n x y to one = record { gave = one.gave; batch = one.batch; part = one.part; effect = one.effect; texts = λ gone disks per h has. one.texts gone disks per (to disks per h) has }
 
@@ -195,11 +203,11 @@ module _ (Q : Queue) (by : MemberId) where
       rw e (omega (arith, more, same)))
 
   -- a Take is refused where no group is free
+  pub next_full : (want : ℕ) → free_count Q.owners ≡ 0 → (step Q by (command.Take want)).1 ≡ reply.No refusal.SpoolFull
+  next_full want none = let e : (free_count Q.owners == 0) ≡ true = eq-eqb (free_count Q.owners) 0 none in rw e refl
+
   pub next_refused : (want n : ℕ) → free_count Q.owners ≡ 0 → (step Q by (command.Take want)).1 ≡ reply.Count n → ⊥
-  next_refused want n none is =
-      let e : (free_count Q.owners == 0) ≡ true = eq-eqb (free_count Q.owners) 0 none in
-      let w = rw e at is in
-      cc
+  next_refused want n none is = let both : reply.No refusal.SpoolFull ≡ reply.Count n = sym (next_full want none) ∙ is in absurd (cc)
 
   -- a Take that is refused doesn't end as done
   pub take_not_done : (want : ℕ) → ((n : ℕ) → (step Q by (command.Take want)).1 ≡ reply.Count n → ⊥) → end_by (reply_to Q by (command.Take want)) ≡ ends.Done → ⊥
@@ -283,8 +291,8 @@ module _ (Q : Queue) (by : MemberId) (at needed n : ℕ) (some : 1 ≤ needed) (
       let last = take_last Q1 by k (needed - n) (omega (arith, is, counts.0, less)) (omega (arith, less)) (none_left Q1 by (needed - n) (step Q1 by second).1 (λ i is. next_refused Q1 by (needed - n) i (none_free Q by needed n got less) is)) in
       (ap (λ (i : ℕ). takes i Q by needed) is ∙ first.0 ∙ ap (λ (cs : List Command). command.Take needed ∷ cs) last.0, ap (λ (i : ℕ). are_refused i Q by needed) is ∙ first.1 ∙ last.1)
 
-  pub taking_some : taking Q by needed ≡ command.Take needed ∷ second ∷ drop_groups ∷ []
-  taking_some = (taking_by Q by at needed (command.Take needed ∷ second ∷ []) true (both_of needed refl)).0
+  pub taking_some : taking Q by needed ≡ command.Take needed ∷ ended_as (reply_to Q1 by second) second
+  taking_some = (taking_by Q by at needed (command.Take needed ∷ second ∷ []) true (both_of needed refl)).0 ∙ ap (λ (r : Reply). command.Take needed ∷ ended_as r second) (sym (next_full Q1 by (needed - n) (none_free Q by needed n got less)))
 
   pub end_some : taken_end Q by at needed ≡ end_by (reply_to Q1 by second)
   end_some = (taking_by Q by at needed (command.Take needed ∷ second ∷ []) true (both_of needed refl)).1
@@ -317,17 +325,13 @@ has_told Q by by' t needed same told got =
 
 -- ENDED
 
-pub ending_refused : (Q : Queue) (by : MemberId) (n : JobNo) (specs : List OutSpec) (why : Closing) → end_by (reply_to Q by (command.Ended n specs)) ≡ ends.Refused why → ending Q by n specs ≡ command.Ended n specs ∷ drop_groups ∷ []
-ending_refused Q by n specs why is = by_reply (reply_to Q by (command.Ended n specs)) is where
-  by_reply : (r : Reply) → end_by r ≡ ends.Refused why → (command.Ended n specs ∷ (if is_refusal r then drop_groups ∷ [] else [])) ≡ command.Ended n specs ∷ drop_groups ∷ []
-  by_reply (reply.No reason) is = refl
-  by_reply _ is = absurd (cc)
+pub ended_refused : (r : Reply) (c : Command) (why : Closing) → end_by r ≡ ends.Refused why → ended_as r c ≡ c ∷ drop_groups ∷ []
+ended_refused (reply.No reason) c why is = refl
+ended_refused _ c why is = absurd (cc)
 
-pub ending_taken : (Q : Queue) (by : MemberId) (n : JobNo) (specs : List OutSpec) → ((why : Closing) → end_by (reply_to Q by (command.Ended n specs)) ≡ ends.Refused why → ⊥) → ending Q by n specs ≡ command.Ended n specs ∷ []
-ending_taken Q by n specs never = by_reply (reply_to Q by (command.Ended n specs)) never where
-  by_reply : (r : Reply) → ((why : Closing) → end_by r ≡ ends.Refused why → ⊥) → (command.Ended n specs ∷ (if is_refusal r then drop_groups ∷ [] else [])) ≡ command.Ended n specs ∷ []
-  by_reply (reply.No reason) never = absurd (never (closing.Reply (reply.No reason)) refl)
-  by_reply _ never = refl
+pub ended_taken : (r : Reply) (c : Command) → ((why : Closing) → end_by r ≡ ends.Refused why → ⊥) → ended_as r c ≡ c ∷ []
+ended_taken (reply.No reason) c never = absurd (never (closing.Reply (reply.No reason)) refl)
+ended_taken _ c never = refl
 
 pub end_ending : (Q : Queue) (by : MemberId) (at : ℕ) (n : JobNo) (specs : List OutSpec) → end_by (closing_reply (given_in Q by at (ending Q by n specs))) ≡ end_by (reply_to Q by (command.Ended n specs))
 end_ending Q by at n specs = by_reply (is_refusal (reply_to Q by (command.Ended n specs))) where

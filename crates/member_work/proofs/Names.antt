@@ -1,11 +1,11 @@
 -- The names that many proofs take, each from where it is declared.
-pub use Rattle.std.proofs.Common.{All, Bool, Err, IfOk, List, None, Ok, OnErr, Option, Result, Some, [], ap, append-nil, append_assoc, arith, drop, false, find, if◌then◌else◌, inl, inr, length, length-append, map, min, nat_lt, option_copied, refl, slice_get, subst, suc, sym, take, true, unwrap_or, zero, ℕ, ⊎_elim, ◌&&◌, ◌*◌, ◌++◌, ◌+◌, ◌-◌, ◌<◌, ◌==◌, ◌||◌, ◌∙◌, ◌∷◌, ◌≡◌, ◌≢◌, ◌≤◌, ◌⊎◌}
+pub use Rattle.std.proofs.Common.{All, Bool, Err, IfOk, List, None, Ok, Option, Result, Some, [], ap, append-nil, append_assoc, arith, drop, false, find, if◌then◌else◌, inl, inr, length, length-append, map, min, nat_lt, option_copied, refl, slice_get, subst, suc, sym, take, true, unwrap_or, zero, ℕ, ⊎_elim, ◌&&◌, ◌*◌, ◌++◌, ◌+◌, ◌-◌, ◌<◌, ◌==◌, ◌||◌, ◌∙◌, ◌∷◌, ◌≡◌, ◌≢◌, ◌≤◌, ◌⊎◌}
 pub use Rattle.std.proofs.lemmas.Bool.Decides.{leb_tells, nat_tests}
 pub use Rattle.std.proofs.lemmas.List.Elements.{All-append, All-cons, All-contains, All-drop, All-get_or, All-head, All-nil, All-push, All-tail, All-take, All-weaker}
 pub use Rattle.std.proofs.lemmas.Result.{err_from_is_err_and}
 pub use Rattle.std.specs.List.{list_any}
 pub use Rattle.std.specs.Option.{option_map, option_map_or}
-pub use Rattle.member_work.specs.Names.{HasSpelling, Tables, IsNamedEnd, end_by, Read, kept_all, run, MayBegin, counts_of, HasTexts, IsThere, Spools, groups_of_outputs, is_cancelled, outputs_at_end, runs, IsFit, IsIndex, same_number, printer_lines_most, groups_needed, member_count, has_output, is_member, job_at, line_count, output_at, printing_at, total, Closing, Command, Reply, Ckpt1, Ckpt2, Spool, GroupNo, JobNo, MemberId, OutNo, Job, OutSpec, Output, Text, Gone, Whole, Batch, Entry, Config, Queue, are_refused, closing_reply, given_in, takes, AreQuiet, StandBelow, lies_there, AreOf, IsFoundLost, NodeNo, entry_of, reply_to, limit_of, Tell, TellSound, Goes, View, Disk, Printer, volume_of}
+pub use Rattle.member_work.specs.Names.{HasSpelling, Tables, IsNamedEnd, end_by, Read, kept_all, run, MayBegin, counts_of, HasTexts, IsThere, Spools, groups_of_outputs, is_cancelled, outputs_at_end, runs, IsFit, IsIndex, same_number, printer_lines_most, groups_needed, member_count, has_output, is_member, job_at, line_count, output_at, printing_at, total, Closing, Command, Reply, Ckpt1, Ckpt2, Spool, GroupNo, JobNo, MemberId, OutNo, Job, OutSpec, Output, Text, Gone, Whole, Batch, Entry, Config, Queue, are_refused, closing_reply, given_in, takes, AreQuiet, StandBelow, lies_there, AreOf, IsFoundLost, entry_of, reply_to, limit_of, Tell, TellSound, Goes, View, Disk, Printer, volume_of}
 pub use Rattle.job_queue.specs.Jobs.{AreJobs, HasJob}
 pub use Rattle.lay_bytes.specs.Slots.{IfUsed, IsJobRec, IsOutRec}
 pub use Rattle.lay_bytes.specs.declared.records.JobRec.{JobRec}

@@ -1,5 +1,5 @@
 -- Printing the lines of an output, act by act.
-use Rattle.member_work.proofs.Names.{◌≡◌, ℕ, ◌+◌, ◌-◌, ◌*◌, ◌≤◌, min, true, false, List, All, Option, None, Some, Err, Ok, OnErr, Result, inl, slice_get, refl, sym, ◌∙◌, ap, subst, arith, find, option_map_or, Closing, Ckpt1, Ckpt2, GroupNo, JobNo, MemberId, OutNo, Output, Text, Whole, Gone, Queue, printer_lines_most, line_count, output_at, printing_at, total, has_key, prints_at, Tables, HasSpelling, Tell, Disk as DiskPart, Printer, View, Goes, Acts, Prints, limit_of, NodeNo, Read, Setting, IsSetting, is_somebody, OutRec, IfUsed, IsOutRec, test_cases, OnVolumes, tells_some, all_at, IsBeside, IsChunkOf, IsLinesPrinted, IsToldOutput, HasPrinterFailed, IsReadAs, IsWhole, printed_end}
+use Rattle.member_work.proofs.Names.{◌≡◌, ℕ, ◌+◌, ◌-◌, ◌*◌, ◌≤◌, min, true, false, List, All, Option, None, Some, inl, slice_get, refl, sym, ◌∙◌, ap, subst, arith, find, option_map_or, Closing, Ckpt1, Ckpt2, GroupNo, JobNo, MemberId, OutNo, Output, Text, Whole, Gone, Queue, printer_lines_most, line_count, output_at, printing_at, total, has_key, prints_at, Tables, HasSpelling, Tell, Disk as DiskPart, Printer, View, Goes, Acts, Prints, limit_of, Read, Setting, IsSetting, is_somebody, OutRec, IfUsed, IsOutRec, test_cases, OnVolumes, tells_some, all_at, IsBeside, IsChunkOf, IsLinesPrinted, IsToldOutput, HasPrinterFailed, IsReadAs, IsWhole, printed_end}
 use Rattle.member_work.specs.Gone.{gone_with}
 use Rattle.mas_types.specs.declared.answers.Closing.TheVariants as closing
 use Rattle.output_queue.specs.Outputs.{AreOutputs, HasOutput}
@@ -47,11 +47,6 @@ beside_print told by line old new r acts content = record {
   second = λ t. (content t).disks Ckpt2;
   console = λ t. (content t).console;
 }
-
--- a fact of an error that doesn't speak of it
-pub if_wrong : {T : Type 0} {P : Type 0} (r : Result T NodeNo) → P → OnErr r P
-if_wrong (Ok done) p = tt
-if_wrong (Err e) p = p
 
 -- a printer that failed in a stretch failed in a wider one
 pub failed_wider : (by : MemberId) (old from till new : View) → Goes old from → Goes till new → HasPrinterFailed by from till → HasPrinterFailed by old new

@@ -14,6 +14,5 @@ module _ (told : Type 0) (per : ℕ) (by : MemberId) (at : ℕ) (old from till n
 
   pub wider_read : (text : Text) (groups : List GroupNo) (found : Option Read) → IsReadAs told per text groups found from till → IsReadAs told per text groups found old new
   wider_read text groups None seen = tt
-  wider_read text groups (Some (read.Lines lines)) seen = seen
-  wider_read text groups (Some (read.Gone group)) seen = seen
   wider_read text groups (Some (read.Lost volume)) seen = (seen.0, wider_failed groups volume seen.1)
+  wider_read text groups _ seen = seen

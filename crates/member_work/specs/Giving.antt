@@ -1,6 +1,6 @@
 -- Commands of a unit on a member's tables.
-use Rattle.member_work.specs.Names.{JobNo, MemberId, Command, OutSpec, Entry, Queue, outputs_at_end, job_at, Tables, HasSpelling, Tell, TellSound, AreFit, run, HasTexts, Spools, HasDone, given_in, AreOf}
-use Rattle.std.specs.Prelude.{◌≡◌, ℕ, ◌+◌, ◌*◌, ◌≤◌, Bool, false, List, ◌++◌, length, take, Result}
+use Rattle.member_work.specs.Names.{JobNo, MemberId, Command, OutSpec, Entry, Queue, outputs_at_end, job_at, is_member, members_most, Tables, HasSpelling, Tell, TellSound, AreFit, run, HasTexts, Spools, HasDone, given_in, AreOf}
+use Rattle.std.specs.Prelude.{◌≡◌, ℕ, ◌+◌, ◌*◌, ◌≤◌, Bool, false, true, List, [], ◌∷◌, ◌++◌, length, take, Result}
 use Rattle.track_groups.specs.Groups.{held_by}
 use Rattle.queue_texts.specs.Leaving.{brings_text}
 use Rattle.member_node.specs.declared.member.Member.{Member}
@@ -8,6 +8,15 @@ use Rattle.member_decks.specs.Taking.{IsPart}
 use Rattle.member_work.specs.Spooled.{AreSpooled}
 use Rattle.member_work.specs.Steps.{IsUnderWay}
 use Rattle.member_work.specs.Units.{groups_for_end}
+
+-- A member that may give commands for itself: it is one of the configuration, and knows where its tables stand.
+pub record CanGive (m : Member) : Type 0 where
+  pub some : 1 ≤ m.id.0
+  pub by : m.id.0 ≤ members_most
+  pub here : m.behind ≡ false
+  pub member : is_member m.checkpoint.tables.config m.id ≡ true
+  pub spelling : HasSpelling m.checkpoint.tables
+  pub fit : AreFit m.checkpoint.tables
 
 -- A member before and after commands of a step, whatever their replies are.
 pub record HasGiven (at : ℕ) (m n : Member) : Type 0 where
@@ -51,6 +60,11 @@ pub record GivesAt {T E : Type 0} (a : Asked) (holds : Spools → ℕ → Type 0
   pub part : IsPart result gave (given_in a.queue a.by a.at a.commands)
   pub effect : Tell n.checkpoint.tables (run a.queue gave)
   pub texts : LeaveWhere holds a.queue gave
+
+-- the tables are those of a sound queue, whose texts a command leaves on these volumes
+pub record LeavesTexts (t : Tables) (Q : Queue) (e : Entry) (disks : Spools) (per : ℕ) : Type 0 where
+  pub sound : TellSound t
+  pub leaves : (gone : ℕ → Bool) → HasTexts gone disks per Q → HasTexts gone disks per (run Q (e ∷ []))
 
 -- the command brings no text, and is given to tables of a sound queue
 abbrev pub IsSoundPlain : Tables → Command → Type 0

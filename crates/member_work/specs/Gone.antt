@@ -46,8 +46,3 @@ gone_output_in Q n i = option_map_or (λ o. gone_with o.text) (output_at Q n i) 
 abbrev pub brings_outputs : JobNo → Command → Reply → Bool
 brings_outputs n (command.Ended job specs) (reply.Count count) = same_number job n
 brings_outputs n _ answer = false
-
--- the group with which the text is gone of an output that was there at the beginning; None where outputs of its job
--- were brought since
-abbrev pub gone_output_since : Queue → List Entry → JobNo → OutNo → Option GroupNo
-gone_output_since base es n i = if is_brought (brings_outputs n) es then None else gone_output_in base n i

@@ -1,12 +1,9 @@
 -- What stands on paper of the lines of an output that were to be printed, and how many of them are counted.
-use Rattle.member_work.specs.Names.{Closing, JobNo, MemberId, OutNo, Line, paper_now, counts_of, Parts, parts_of, NodeNo, BothLost, Halted, ConsoleFault, NoMemory, Read}
+use Rattle.member_work.specs.Names.{Closing, JobNo, MemberId, OutNo, Line, paper_now, counts_of, Parts, NodeNo, BothLost, Halted, ConsoleFault, NoMemory, Read}
 use Rattle.std.specs.Prelude.{◌≡◌, ◌≢◌, ◌⊎◌, ℕ, zero, suc, ◌+◌, ◌-◌, ◌≤◌, ◌<◌, Bool, true, false, List, [], ◌∷◌, ◌++◌, length, map, take, Option, None, Some, Result, Ok, Err}
 use Rattle.mas_types.specs.declared.answers.Closing.TheVariants.{PrinterLost}
 use Rattle.mas_types.specs.Printed.{printed_line}
 use Rattle.spool_plant.specs.declared.plant.Plant.{Ghosts as PlantGhosts}
-use Rattle.ckpt_copy.specs.declared.copying.Copying.{Ghosts as CopyGhosts}
-use Rattle.ckpt_form.specs.declared.steady.Steady.{Ghosts as SteadyGhosts}
-use Rattle.mas_complex.specs.declared.complex.Complex.{Complex}
 use Rattle.mas_complex.specs.Headline.{whole}
 use Rattle.member_steps.specs.Saying.{torn}
 use Rattle.job_outcome.specs.declared.outcomes.Read.TheVariants as read
@@ -83,10 +80,3 @@ module _ {P C : Type 0} (plants : PlantGhosts P) where
     pub by_answer : IsInkedBy lost result (length lines) inked
     pub counted : IsCountOf result (counts_of x.printed by + inked.lines) (counts_of y.printed by)
     pub other_counts : OtherCountsStay by x.printed y.printed
-
--- OVER THE SHARED VALUE, of a call that prints lines, and answers how the unit is refused then
-
-module _ {P C : Type 0} {plants : PlantGhosts P} {steadies : SteadyGhosts C} {copies : CopyGhosts C} where
-  abbrev pub Inks : MemberId → List (List ℕ) → Complex P C plants steadies copies → Complex P C plants steadies copies
-      → Result (Option Closing) NodeNo → Type 0
-  Inks by lines x y result = plants.tells → HasInked plants is_printer_lost by lines (parts_of x) (parts_of y) result

@@ -6,10 +6,10 @@ pub use Rattle.job_outcome.specs.Next.{IsNamedEnd, end_by}
 pub use Rattle.job_outcome.specs.declared.outcomes.Read.{Read}
 pub use Rattle.job_outcome.specs.declared.units.UnitEnd.{UnitEnd}
 pub use Rattle.job_outcome.specs.declared.units.UnitEnd.TheVariants.{Done}
-pub use Rattle.mas_complex.specs.Journals.{entries_in, in_flight, kept_all}
+pub use Rattle.mas_complex.specs.Journals.{in_flight, kept_all}
 pub use Rattle.mas_complex.specs.Meaning.{run}
 pub use Rattle.mas_complex.specs.Paper.{MayBegin, counts_of}
-pub use Rattle.mas_complex.specs.Parts.{Parts, parts_of}
+pub use Rattle.mas_complex.specs.Parts.{Parts}
 pub use Rattle.mas_complex.specs.Replies.{AreReplied}
 pub use Rattle.mas_complex.specs.Texts.{HasTexts, IsThere, Spools, spools_at}
 pub use Rattle.mas_types.specs.Commands.Life.{groups_of_outputs, is_cancelled, outputs_at_end, runs}

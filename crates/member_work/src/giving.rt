@@ -1,12 +1,12 @@
-//! Commands of a unit on a member's tables: the groups for a job's outputs, and Ended.
-ghost use Rattle.member_work.specs.Names.{Queue, groups_of_outputs as groups_of_outputs_lem, is_cancelled as is_cancelled_lem, IsFit, members_most, member_count, is_member, job_at, may_give, HasSpelling, AreOutputs, AreFit, IsGiver, Tell, TellSound, reply_to, closing_reply, given_in, Done, IsNamedEnd, end_by as end_by_lem};
+//! Commands of a unit on a member's tables, and the groups for a job's outputs.
+ghost use Rattle.member_work.specs.Names.{Queue, groups_of_outputs as groups_of_outputs_lem, is_cancelled as is_cancelled_lem, IsFit, member_count, job_at, may_give, HasSpelling, AreOutputs, AreFit, IsGiver, Tell, TellSound, entry_of, reply_to, Done, IsNamedEnd, end_by as end_by_lem};
 ghost use Rattle.std.specs.Prelude.{◌≡◌, ◌+◌, ◌≤◌, ◌<◌, ◌^◌, ◌∷◌, [], false, true, IfOk, Ok, OnErr};
-ghost use Rattle.member_work.specs.Giving.{GivesAt, HasGiven, IsSoundPlain, MayEnd, asked};
-ghost use Rattle.member_work.specs.Units.{drop_groups, ending, groups_for_end as groups_for_end_lem, taken_end, taking};
+ghost use Rattle.member_work.specs.Giving.{CanGive, GivesAt, HasGiven, IsSoundPlain, LeavesTexts, asked};
+ghost use Rattle.member_work.specs.Units.{drop_groups, ended_as, groups_for_end as groups_for_end_lem, taken_end, taking};
 
 use crate::spooling::groups_of_outputs;
 use ckpt_tables::Tables;
-use job_outcome::{UnitEnd, end_by, law_of_ended_texts};
+use job_outcome::{UnitEnd, end_by};
 use job_queue::find_job;
 use mas_types::{Command, JobNo, List, NoMemory, OutSpec, Reply};
 use member_node::Member;
@@ -73,12 +73,7 @@ pub fn give_back(
     step: u32,
     end: UnitEnd,
 ) -> Result<UnitEnd, NoMemory>
-    requires some { 1 ≤ member.old.id.0 }
-    requires by { member.old.id.0 ≤ members_most }
-    requires here { member.old.behind ≡ false }
-    requires member { is_member member.old.checkpoint.tables.config member.old.id ≡ true }
-    requires spelling { HasSpelling member.old.checkpoint.tables }
-    requires fit { AreFit member.old.checkpoint.tables }
+    requires can { CanGive member.old }
     requires order { member.old.checkpoint.tables.order + 32 < 2 ^ 63 }
     ensures has { HasGiven step member.old member.new }
     ensures gives { (Q : Queue) → Tell member.old.checkpoint.tables Q
@@ -91,6 +86,35 @@ pub fn give_back(
     Ok(end)
 }
 
+/// Gives a command, and after a refused one the member's groups become free. NoMemory leaves the command, if it was
+/// given before.
+pub fn give_or_drop(
+    member: &mut Member,
+    alloc: Global,
+    step: u32,
+    command: Command,
+) -> Result<UnitEnd, NoMemory>
+    requires can { CanGive member.old }
+    requires command { IsFit command }
+    requires giver { IsGiver member.old.id command }
+    requires may { (s : TellSound member.old.checkpoint.tables) → may_give s.queue member.old.id command ≡ true }
+    requires order { member.old.checkpoint.tables.order + 64 < 2 ^ 63 }
+    ensures has { HasGiven step member.old member.new }
+    ensures gives { (Q : Queue) → Tell member.old.checkpoint.tables Q
+        → GivesAt (asked Q member.old.id step (ended_as (reply_to Q member.old.id command) command))
+        (LeavesTexts member.old.checkpoint.tables Q (entry_of Q member.old.id step command)) member.old member.new
+        result }
+    ensures end { IfOk result (λ end. (Q : Queue) → Tell member.old.checkpoint.tables Q
+        → end ≡ end_by_lem (reply_to Q member.old.id command)) }
+    ensures named { IfOk result IsNamedEnd }
+{
+    let end = give(member, alloc, step, command)?;
+    if let UnitEnd::Refused(_) = &end {
+        return give_back(member, alloc, step, end);
+    }
+    Ok(end)
+}
+
 /// Takes so many groups: a Take gives all of them or all that are free, and then the next is refused. After a refused
 /// Take the member's groups become free. NoMemory leaves the commands that were given before.
 pub fn take_for_end(
@@ -99,12 +123,7 @@ pub fn take_for_end(
     step: u32,
     needed: u32,
 ) -> Result<UnitEnd, NoMemory>
-    requires some { 1 ≤ member.old.id.0 }
-    requires by { member.old.id.0 ≤ members_most }
-    requires here { member.old.behind ≡ false }
-    requires member { is_member member.old.checkpoint.tables.config member.old.id ≡ true }
-    requires spelling { HasSpelling member.old.checkpoint.tables }
-    requires fit { AreFit member.old.checkpoint.tables }
+    requires can { CanGive member.old }
     requires needed { 1 ≤ needed }
     requires order { member.old.checkpoint.tables.order + 96 < 2 ^ 63 }
     ensures has { HasGiven step member.old member.new }
@@ -116,6 +135,7 @@ pub fn take_for_end(
     ensures named { IfOk result IsNamedEnd }
     ensures enough { result ≡ Ok Done → needed ≤ member_count member.new.id member.new.checkpoint.tables.owners }
 {
+    law_of_texts();
     let end = give(member, alloc, step, Command::Take { want: needed })?;
     let Reply::Count(taken) = member.last_reply() else {
         return give_back(member, alloc, step, end);
@@ -125,42 +145,5 @@ pub fn take_for_end(
         return Ok(UnitEnd::Done);
     }
     let want = needed - taken;
-    let end = give(member, alloc, step, Command::Take { want })?;
-    give_back(member, alloc, step, end)
-}
-
-/// Gives Ended with these outputs; after a refused one the member's groups become free. NoMemory leaves the commands
-/// that were given before.
-pub fn give_end(
-    member: &mut Member,
-    alloc: Global,
-    step: u32,
-    job: JobNo,
-    specs: List<OutSpec>,
-) -> Result<UnitEnd, NoMemory>
-    requires some { 1 ≤ member.old.id.0 }
-    requires by { member.old.id.0 ≤ members_most }
-    requires here { member.old.behind ≡ false }
-    requires member { is_member member.old.checkpoint.tables.config member.old.id ≡ true }
-    requires spelling { HasSpelling member.old.checkpoint.tables }
-    requires fit { AreFit member.old.checkpoint.tables }
-    requires outputs { AreOutputs specs }
-    requires order { member.old.checkpoint.tables.order + 64 < 2 ^ 63 }
-    ensures has { HasGiven step member.old member.new }
-    ensures gives { (Q : Queue) → Tell member.old.checkpoint.tables Q
-        → GivesAt (asked Q member.old.id step (ending Q member.old.id job specs))
-        (λ disks per. MayEnd member.old.checkpoint.tables Q member.old.id job specs disks per) member.old member.new
-        result }
-    ensures end { IfOk result (λ end. (Q : Queue) → Tell member.old.checkpoint.tables Q
-        → end ≡ end_by_lem (closing_reply (given_in Q member.old.id step (ending Q member.old.id job specs)))) }
-    ensures named { IfOk result IsNamedEnd }
-{
-    law_of_texts();
-    law_of_ended_texts();
-    let outputs = specs;
-    let end = give(member, alloc, step, Command::Ended { job, outputs })?;
-    if let UnitEnd::Refused(_) = &end {
-        return give_back(member, alloc, step, end);
-    }
-    Ok(end)
+    give_or_drop(member, alloc, step, Command::Take { want })
 }

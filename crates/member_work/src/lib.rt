@@ -10,7 +10,7 @@ mod spooling;
 
 pub use chunks::chunk_end;
 pub use examples::examples_of_work_steps;
-pub use giving::{give as give_command, give_back, give_end, groups_for_end, take_for_end};
+pub use giving::{give as give_command, give_back, give_or_drop, groups_for_end, take_for_end};
 pub use laws::kept_replies;
 pub use playing::command_of;
 pub use spooling::groups_of_outputs;

@@ -29,12 +29,12 @@ returns-in-Some-clause-prints g c =
       acts = beside_none P.tells v;
       reads = λ told. quiet_none (spools_at v v.now);
       inks = λ told o there.
-          subst (λ (f : Found). HasInked P (λ (k : Found). k.printer) m.id (lines_next (counts_of x.printed m.id) c.args.last o f.read) (parts_of x) (parts_of x) (Ok f)) (sym c.found_read.ensures)
+          subst (λ (f : Found). HasInked P (λ (k : Found). k.printer) m.id (lines_next (counts_of x.printed m.id) c.args.last o f.read) (parts_of x) (parts_of x) (Ok f)) (sym c.found_with.ensures)
           (inked_all P m.id [] (λ (k : Found). k.printer) (parts_of x) (parts_of x) (printed_none P m.id [] (parts_of x)) (omega arith) (read_found (read.Gone c.in-Some.group)) refl (omega arith));
       counts = λ k other. refl;
       wires = λ told. wires_none v;
-      cause = subst (λ (k : Found). SparesBut m.id.0 false (names_read k.read) v v) (sym c.found_read.ensures) (sparing_none m.id.0 v);
-      finds = subst (λ (f : Found). FindsLines P (parts_of x) (parts_of x) m (lines_to c.args.job c.args.output c.args.last) f) (sym c.found_read.ensures)
+      cause = subst (λ (k : Found). SparesBut m.id.0 false (names_read k.read) v v) (sym c.found_with.ensures) (sparing_none m.id.0 v);
+      finds = subst (λ (f : Found). FindsLines P (parts_of x) (parts_of x) m (lines_to c.args.job c.args.output c.args.last) f) (sym c.found_with.ensures)
           (record {
             only = refl;
             fits = tt;
@@ -111,8 +111,8 @@ module _ (g : given.Over) (c : In_ok-read g) where
       let x = c.args.complex.now in
       let y = c.read_text.new.complex in
       let same = output_was P.tells x.base.config t Kept (P.view x.plant) (P.view y.plant) c.args.job c.args.output m its o (c.requires.still told) rec there in
-      subst (λ (ls : List (List ℕ)). HasInked P is_printer_lost m ls (parts_of x) z r) (same_lines its o (counts_of x.printed m) (counts_of y.printed m) c.args.last c.in_ok-read.read same.0 same.1 same.2 (ap (λ p. counts_of p.printed m) c.read_text.ensures.frame))
-      (inked_after P is_printer_lost m (lines_read its.job its.index (its.mark + counts_of y.printed m) c.args.last c.in_ok-read.read) (parts_of x) (parts_of y) z r (papers_now P.tells m.0 (P.view x.plant) (P.view y.plant) c.read_text.ensures.on.acts told) (ap (λ p. p.printed) c.read_text.ensures.frame) (printed.inks told))
+      subst (λ (ls : List (List ℕ)). HasInked P is_printer_lost m ls (parts_of x) z r) (same_lines its o (counts_of x.printed m) (counts_of y.printed m) c.args.last c.in_ok-read.read same.0 same.1 same.2 (ap (λ p. counts_of p.printed m) c.read_text.ensures.on.frame))
+      (inked_after P is_printer_lost m (lines_read its.job its.index (its.mark + counts_of y.printed m) c.args.last c.in_ok-read.read) (parts_of x) (parts_of y) z r (papers_now P.tells m.0 (P.view x.plant) (P.view y.plant) c.read_text.ensures.on.acts told) (ap (λ p. p.printed) c.read_text.ensures.on.frame) (printed.inks told))
 
 -- THE OUTPUT'S LINES MAY BE PRINTED
 
@@ -121,7 +121,7 @@ print_text-requires g c =
     let w = (goal.at.print_text-requires g c).In_ok-read in
     let x = c.args.complex.now in
     let m = c.args.member.now.id in
-    let same = c.read_text.ensures.frame in
+    let same = c.read_text.ensures.on.frame in
     record {
       member = subst (λ (k : Book). IsMember k m) (sym (ap (λ p. p.book) same)) c.requires.seated;
       few = c.requires.few;
@@ -168,7 +168,7 @@ returns-in_err-read-clause-frame g c =
     let x = parts_of c.args.complex.now in
     let y = parts_of c.read_text.new.complex in
     let p = err_from_is_err_and c.from_residual.result c.from_residual.ensures.1 in
-    rw (p.1, p.2) (only_error m x y Found c.in_err-read.field-0.0 (only_read m x y c.read_text.ensures.frame))
+    rw (p.1, p.2) (only_error m x y Found c.in_err-read.field-0.0 (only_read m x y c.read_text.ensures.on.frame))
 
 pub returns-in_err-read-clause-prints : goal.returns-in_err-read-clause-prints
 returns-in_err-read-clause-prints g c =
@@ -183,8 +183,8 @@ returns-in_err-read-clause-prints g c =
       reads = c.read_text.ensures.on.reads;
       inks = λ told o there.
           inked_unread P m (lines_next (counts_of x.printed m) c.args.last o (as_it_is o.text)) (parts_of x) (parts_of y) (λ (k : Found). names_read k.read) (λ (k : Found). k.printer) c.in_err-read.field-0.0 c.in_err-read.ensures.cause
-          (papers_now P.tells m.0 (P.view x.plant) (P.view y.plant) acts told) (ap (λ p. p.printed) c.read_text.ensures.frame);
-      counts = λ k other. ap (λ p. counts_of p.printed k) c.read_text.ensures.frame;
+          (papers_now P.tells m.0 (P.view x.plant) (P.view y.plant) acts told) (ap (λ p. p.printed) c.read_text.ensures.on.frame);
+      counts = λ k other. ap (λ p. counts_of p.printed k) c.read_text.ensures.on.frame;
       wires = acts.wires;
       cause = c.in_err-read.ensures.cause;
       finds = tt;
@@ -196,7 +196,7 @@ returns-in_err-end-clause-frame g c =
     let x = parts_of c.args.complex.now in
     let z = parts_of c.print_text.new.complex in
     let p = err_from_is_err_and c.from_residual-in_err-end.result c.from_residual-in_err-end.ensures.1 in
-    rw (p.1, p.2) (only_lines m x z (Option Closing) Found c.in_err-end.field-0.0 (lines_behind m x z {T = Option Closing} (parts_of c.read_text.new.complex) (Err c.in_err-end.field-0.0) c.read_text.ensures.frame c.in_err-end.ensures.frame))
+    rw (p.1, p.2) (only_lines m x z (Option Closing) Found c.in_err-end.field-0.0 (lines_behind m x z {T = Option Closing} (parts_of c.read_text.new.complex) (Err c.in_err-end.field-0.0) c.read_text.ensures.on.frame c.in_err-end.ensures.frame))
 
 pub returns-in_err-end-clause-prints : goal.returns-in_err-end-clause-prints
 returns-in_err-end-clause-prints g c =
@@ -208,26 +208,26 @@ returns-in_err-end-clause-prints g c =
     let w = P.view c.read_text.new.complex.plant in
     let u = P.view z.plant in
     let path = (goal.at.returns-in_err-end-clause-prints g c).In_ok-read in
-    let e = c.in_err-end.ensures.prints in
+    let e = c.in_err-end.ensures in
     let why = c.in_err-end.field-0.0 in
     let on = c.read_text.ensures.on in
     let p = err_from_is_err_and c.from_residual-in_err-end.result c.from_residual-in_err-end.ensures.1 in
     rw (p.1, p.2) (record {
-      acts = beside_on P.tells v w u (beside_volumes P.tells m.0 v w on.acts) e.acts;
-      reads = λ told. quiet_disks (spools_at v v.now) w u (e.disks told) (on.reads told);
+      acts = beside_on P.tells v w u (beside_volumes P.tells m.0 v w on.acts) e.beside.acts;
+      reads = λ told. quiet_disks (spools_at v v.now) w u (e.beside.disks told) (on.reads told);
       inks = λ told o there.
           let a = c.in_ok-read.read in
           let was : ℕ = counts_of x.printed m in
           inked_as_it_is P m P.tells x.base.config.groups (groups_of (OutputThing c.args.job c.args.output) (Kept g path).owners) v w o was c.args.last (parts_of x) (parts_of z) (λ (k : Found). k.printer) why a told (seen g path told o there)
           (inked_error P m (lines_next was c.args.last o a) (parts_of x) (parts_of z) {S = Option Closing} is_printer_lost (λ (k : Found). k.printer) why (inks g path (parts_of z) (Err why) e told o there));
-      counts = λ k other. e.other_counts k other ∙ ap (λ p. counts_of p.printed k) c.read_text.ensures.frame;
-      wires = λ told. wires_then v w u (on.acts.wires told) (e.wires told);
+      counts = λ k other. e.beside.other_counts k other ∙ ap (λ p. counts_of p.printed k) c.read_text.ensures.on.frame;
+      wires = λ told. wires_then v w u (on.acts.wires told) (e.beside.wires told);
       cause = stops_later {T = Option Closing} names_nothing m.0 v w u (Err why) on.acts.goes (sparing_more m.0 false (names_read c.in_ok-read.read) none_lost v w (λ n other. e.lines n) c.in_ok-read.ensures.cause) e.cause;
       finds = tt;
     })
 
 pub returns-clause-frame : goal.returns-clause-frame
-returns-clause-frame g c = lines_behind c.args.member.now.id (parts_of c.args.complex.now) (parts_of c.print_text.new.complex) (parts_of c.read_text.new.complex) (Ok c.in_ok-end.end) c.read_text.ensures.frame c.in_ok-end.ensures.frame
+returns-clause-frame g c = lines_behind c.args.member.now.id (parts_of c.args.complex.now) (parts_of c.print_text.new.complex) (parts_of c.read_text.new.complex) (Ok c.in_ok-end.end) c.read_text.ensures.on.frame c.in_ok-end.ensures.frame
 
 pub returns-clause-prints : goal.returns-clause-prints
 returns-clause-prints g c =
@@ -239,25 +239,25 @@ returns-clause-prints g c =
     let w = P.view c.read_text.new.complex.plant in
     let u = P.view z.plant in
     let path = (goal.at.returns-clause-prints g c).In_ok-read in
-    let e = c.in_ok-end.ensures.prints in
+    let e = c.in_ok-end.ensures in
     let on = c.read_text.ensures.on in
     let a = c.in_ok-read.read in
     let gs : List GroupNo = groups_of (OutputThing c.args.job c.args.output) (t g path).owners in
     let printer : c.is_printer_lost-printer.result ≡ is_printer_lost (printed_end e.printed.lost a) = c.is_printer_lost-printer.ensures ∙ ap is_printer_lost e.printed.is in
     let k = rw (list g path) at c.in_ok-read.ensures.text in
-    subst (λ (f : Found). HasPrintedNext P (parts_of x) (parts_of z) m (lines_to c.args.job c.args.output c.args.last) (Ok f)) (sym c.found_read-2.ensures) (record {
-      acts = beside_on P.tells v w u (beside_volumes P.tells m.id.0 v w on.acts) e.acts;
-      reads = λ told. quiet_disks (spools_at v v.now) w u (e.disks told) (on.reads told);
+    subst (λ (f : Found). HasPrintedNext P (parts_of x) (parts_of z) m (lines_to c.args.job c.args.output c.args.last) (Ok f)) (sym c.found_with-2.ensures) (record {
+      acts = beside_on P.tells v w u (beside_volumes P.tells m.id.0 v w on.acts) e.beside.acts;
+      reads = λ told. quiet_disks (spools_at v v.now) w u (e.beside.disks told) (on.reads told);
       inks = λ told o there. inked_found P m.id (lines_next (counts_of x.printed m.id) c.args.last o a) (parts_of x) (parts_of z) {S = Option Closing} is_printer_lost (λ (f : Found). f.printer) c.in_ok-end.end (printed_found a c.is_printer_lost-printer.result) (sym c.is_printer_lost-printer.ensures)
           (inks g path (parts_of z) (Ok c.in_ok-end.end) e told o there);
-      counts = λ k other. e.other_counts k other ∙ ap (λ p. counts_of p.printed k) c.read_text.ensures.frame;
-      wires = λ told. wires_then v w u (on.acts.wires told) (e.wires told);
+      counts = λ k other. e.beside.other_counts k other ∙ ap (λ p. counts_of p.printed k) c.read_text.ensures.on.frame;
+      wires = λ told. wires_then v w u (on.acts.wires told) (e.beside.wires told);
       cause = sparing_before m.id.0 false (names_read a) v w u c.in_ok-read.ensures.cause e.cause;
       finds = record {
         only = refl;
         fits = k.fits;
-        failed = failed_later x.base.config.groups gs a v w u e.acts.goes k.failed;
-        read = λ told roomy o there. wider_read P.tells x.base.config.groups m.id 0 v v w u (goes_none v) e.acts.goes o.text (groups_of (OutputThing c.args.job c.args.output) (Kept g path).owners) (Some a) (seen g path told o there);
+        failed = failed_later x.base.config.groups gs a v w u e.beside.acts.goes k.failed;
+        read = λ told roomy o there. wider_read P.tells x.base.config.groups m.id 0 v v w u (goes_none v) e.beside.acts.goes o.text (groups_of (OutputThing c.args.job c.args.output) (Kept g path).owners) (Some a) (seen g path told o there);
         printer = λ is. failed_wider m.id v w u u on.acts.goes (goes_none u) (e.printed.printer (printer_lost e.printed.lost a (sym printer ∙ is)));
         counted = λ none told o there.
             let done = e.counted (e.printed.is ∙ none_refused e.printed.lost a (rw printer at none)) in

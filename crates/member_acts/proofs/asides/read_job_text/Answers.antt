@@ -17,8 +17,8 @@ returns-in-Some-clause-reads g c =
     record {
       acts = acts_none P.tells m.id.0 v;
       reads = λ told. quiet_none (spools_at v v.now);
-      cause = subst (λ (k : Found). SparesBut m.id.0 false (names_read k.read) v v) (sym c.found_read.ensures) (sparing_none m.id.0 v);
-      finds = subst (λ (f : Found). FindsText P (parts_of x) (parts_of x) m c.args.job f) (sym c.found_read.ensures)
+      cause = subst (λ (k : Found). SparesBut m.id.0 false (names_read k.read) v v) (sym c.found_with.ensures) (sparing_none m.id.0 v);
+      finds = subst (λ (f : Found). FindsText P (parts_of x) (parts_of x) m c.args.job f) (sym c.found_with.ensures)
           (record { only = refl; fits = tt; failed = tt; read = λ told roomy j there again. gone_is j.text c.in-Some.group (sym c.in-Some.is ∙ c.gone_group.ensures.gone told j.text (ap (option_map (λ (x : Job). x.text)) there)) });
     }
 
@@ -85,8 +85,8 @@ returns-clause-reads g c =
     record {
       acts = c.read_text.ensures.on.acts;
       reads = c.read_text.ensures.on.reads;
-      cause = subst (λ (k : Found). SparesBut m.id.0 false (names_read k.read) (P.view x.plant) (P.view y.plant)) (sym c.found_read-2.ensures) c.in_ok-read.ensures.cause;
-      finds = subst (λ (k : Found). FindsText P (parts_of x) (parts_of y) m n k) (sym c.found_read-2.ensures)
+      cause = subst (λ (k : Found). SparesBut m.id.0 false (names_read k.read) (P.view x.plant) (P.view y.plant)) (sym c.found_with-2.ensures) c.in_ok-read.ensures.cause;
+      finds = subst (λ (k : Found). FindsText P (parts_of x) (parts_of y) m n k) (sym c.found_with-2.ensures)
           (record {
             only = refl;
             fits = seen.fits;

@@ -1,7 +1,7 @@
 use Rattle.member_acts.proofs.Names.{◌≡◌, ◌<◌, ◌∙◌, Option, ap, sym, subst, refl, arith, false, IsMember, is_stopped, Book, kept_all, entries_in, IsOfOther, counts_of, parts_of, Batch}
 use Rattle.paper_laws.specs.Next.{MayPrint}
 use Rattle.member_acts.specs.Prints.{upto}
-use Rattle.member_acts.proofs.InkedLemmas.{one_behind, lines_done, lines_failed, lines_halted, lines_more, lines_none, lines_wanting, may_print}
+use Rattle.member_acts.proofs.InkedLemmas.{lines_done, lines_failed, lines_halted, lines_more, lines_none, lines_wanting, may_print}
 use Rattle.member_acts.proofs.printing.print_lines.Goals as goal
 
 pub loop-before-init : goal.loop-before-init
@@ -39,27 +39,19 @@ loop-before-preserved g c =
 pub returns-in-Failed : goal.returns-in-Failed
 returns-in-Failed g c =
     let e = c.print.ensures in
-    let i = c.loop-before.invariant in
     let failed = c.in-Failed.is in
-    record {
-      frame = rw failed at (one_behind c.args.by (parts_of c.args.complex.now) (parts_of c.print.new.self) (parts_of c.loop-before.complex) c.print.result i.frame e.frame);
-      prints = lines_failed g.P.Plant c.args.by (upto c.args.output.now c.args.last) c.args.text.now (parts_of c.args.complex.now) c.loop-before.before (parts_of c.loop-before.complex) i (omega arith) (parts_of c.print.new.self) c.as_slice.result.now (c.as_slice.ensures ∙ c.in-Ok.ensures)
-          (rw failed at e.frame) (rw failed at e.acts) (rw failed at e.content);
-    }
+    lines_failed g.P.Plant c.args.by (upto c.args.output.now c.args.last) c.args.text.now (parts_of c.args.complex.now) c.loop-before.before (parts_of c.loop-before.complex) c.loop-before.invariant (omega arith) (parts_of c.print.new.self) c.as_slice.result.now (c.as_slice.ensures ∙ c.in-Ok.ensures)
+    (rw failed at e.frame) (rw failed at e.acts) (rw failed at e.content)
 
 pub returns-in-Halted : goal.returns-in-Halted
 returns-in-Halted g c =
     let e = c.print.ensures in
-    let i = c.loop-before.invariant in
     let halted = c.in-Halted.is in
-    record {
-      frame = rw halted at (one_behind c.args.by (parts_of c.args.complex.now) (parts_of c.print.new.self) (parts_of c.loop-before.complex) c.print.result i.frame e.frame);
-      prints = lines_halted g.P.Plant c.args.by (upto c.args.output.now c.args.last) c.args.text.now (parts_of c.args.complex.now) c.loop-before.before (parts_of c.loop-before.complex) i (omega arith) (parts_of c.print.new.self) c.as_slice.result.now (c.as_slice.ensures ∙ c.in-Ok.ensures)
-          (rw halted at e.frame) (rw halted at e.acts) (rw halted at e.content);
-    }
+    lines_halted g.P.Plant c.args.by (upto c.args.output.now c.args.last) c.args.text.now (parts_of c.args.complex.now) c.loop-before.before (parts_of c.loop-before.complex) c.loop-before.invariant (omega arith) (parts_of c.print.new.self) c.as_slice.result.now (c.as_slice.ensures ∙ c.in-Ok.ensures)
+    (rw halted at e.frame) (rw halted at e.acts) (rw halted at e.content)
 
-pub returns-in_default-clause-prints : goal.returns-in_default-clause-prints
-returns-in_default-clause-prints g c = lines_wanting g.P.Plant c.args.by (upto c.args.output.now c.args.last) c.args.text.now (parts_of c.args.complex.now) c.loop-before.before (parts_of c.loop-before.complex) c.loop-before.invariant (omega arith)
+pub returns-in_default : goal.returns-in_default
+returns-in_default g c = lines_wanting g.P.Plant c.args.by (upto c.args.output.now c.args.last) c.args.text.now (parts_of c.args.complex.now) c.loop-before.before (parts_of c.loop-before.complex) c.loop-before.invariant (omega arith)
 
-pub returns-clause-prints : goal.returns-clause-prints
-returns-clause-prints g c = lines_done g.P.Plant c.args.by (upto c.args.output.now c.args.last) c.args.text.now (parts_of c.args.complex.now) c.loop-before.before (parts_of c.loop-before.complex) c.loop-before.invariant (omega arith)
+pub returns : goal.returns
+returns g c = lines_done g.P.Plant c.args.by (upto c.args.output.now c.args.last) c.args.text.now (parts_of c.args.complex.now) c.loop-before.before (parts_of c.loop-before.complex) c.loop-before.invariant (omega arith)

@@ -10,8 +10,7 @@ returns-in-Done g c =
     let per = x.base.config.groups in
     let e = c.in-Done.ensures in
     record {
-      frame = c.spool_read.ensures.frame;
-      on = group_read P (parts_of x) (parts_of y) c.args.by c.args.group c.spool_read.new.into Done e.acts e.content;
+      on = group_read P (parts_of x) (parts_of y) c.args.by c.args.group c.spool_read.new.into Done c.spool_read.ensures.frame e.acts e.content;
       cause = sparing_done c.args.by.0 (DiskPart (Spool (volume_of per c.args.group))) (P.view x.plant) (P.view y.plant) e.acts;
       page = record {
         there = page_alive (P.view x.plant) (P.view y.plant) per c.args.group c.args.by.0 e.acts;
@@ -28,8 +27,7 @@ returns-in-Failed g c =
     let e = c.in-Failed.ensures in
     let lies = rw c.config-config.ensures at c.volume_of.ensures in
     record {
-      frame = c.spool_read.ensures.frame;
-      on = group_read P (parts_of x) (parts_of y) c.args.by c.args.group c.spool_read.new.into Failed e.acts e.content;
+      on = group_read P (parts_of x) (parts_of y) c.args.by c.args.group c.spool_read.new.into Failed c.spool_read.ensures.frame e.acts e.content;
       cause = rw (c.volume_of.ensures, c.config-config.ensures) (sparing_failed c.args.by.0 (volume_of per c.args.group) (P.view x.plant) (P.view y.plant) e.acts);
       page = failed_read c.args.by.0 per _ c.args.group (P.view x.plant) (P.view y.plant) lies e.acts;
     }
@@ -41,8 +39,7 @@ returns-in-Halted g c =
     let y = c.spool_read.new.self in
     let e = c.in-Halted.ensures in
     record {
-      frame = c.spool_read.ensures.frame;
-      on = group_read P (parts_of x) (parts_of y) c.args.by c.args.group c.spool_read.new.into Halted e.acts e.content;
+      on = group_read P (parts_of x) (parts_of y) c.args.by c.args.group c.spool_read.new.into Halted c.spool_read.ensures.frame e.acts e.content;
       cause = (sparing_halted c.args.by.0 (DiskPart (Spool (volume_of x.base.config.groups c.args.group))) (P.view x.plant) (P.view y.plant) e.acts, e.acts.halted refl);
       page = tt;
     }

@@ -15,8 +15,7 @@ returns-in_default g t c =
     let x = c.args.complex.now in
     let v = P.view x.plant in
     record {
-      frame = refl;
-      on = record { acts = acts_none P.tells c.args.by.0 v; cause = sparing_none c.args.by.0 v; spares = λ told. kept_none x.base.config.groups c.args.groups.now (spools_at v v.now) };
+      on = record { frame = refl; acts = acts_none P.tells c.args.by.0 v; cause = sparing_none c.args.by.0 v; spares = λ told. kept_none x.base.config.groups c.args.groups.now (spools_at v v.now) };
       stand = λ told roomy. written_none (spools_at v v.now) x.base.config.groups c.args.specs.now c.args.groups.now (no_items c.args.specs.now c.in_default.ensures.cases);
     }
 
@@ -75,6 +74,7 @@ returns-in_err-write_pages-clause-on g t c =
     let p = err_from_is_err_and c.from_residual.result c.from_residual.ensures.1 in
     let cause = rw front at c.in_err-write_pages.ensures.cause in
     rw (p.1, p.2) (record {
+      frame = e.frame;
       acts = e.acts;
       cause = cause_wider {T = Unit {0}} c.args.by.0 x.base.config.groups (take k gs) gs (P.view x.plant) (P.view x.plant) (P.view y.plant) (Err c.in_err-write_pages.field-0.0) (λ v there. lies_front x.base.config.groups v k gs there) (acts_none P.tells c.args.by.0 (P.view x.plant)).goes (sparing_none c.args.by.0 (P.view x.plant)) cause;
       spares = λ told h none. e.spares told h (subst (All (λ (j : GroupNo). h.0 ≢ j.0)) (sym front) (All-take (λ (j : GroupNo). h.0 ≢ j.0) k gs none));
@@ -124,8 +124,8 @@ returns g t c =
     let w = c.write_outputs.ensures in
     let front : c.split_at.result.0.now ≡ take k gs = c.split_at.ensures.front in
     record {
-      frame = w.frame ∙ ap (λ (p : Parts _ _). record p { plant = z.plant }) e.frame;
       on = record {
+        frame = w.on.frame ∙ ap (λ (p : Parts _ _). record p { plant = z.plant }) e.frame;
         acts = acts_on P.tells c.args.by.0 (P.view x.plant) (P.view y.plant) (P.view z.plant) e.acts w.on.acts;
         cause = cause_wider c.args.by.0 x.base.config.groups (drop k gs) gs (P.view x.plant) (P.view y.plant) (P.view z.plant) c.write_outputs.result (λ v there. lies_behind x.base.config.groups v k gs there) e.acts.goes c.in_ok-write_pages.ensures.cause (rw (base, behind) at w.on.cause);
         spares = λ told h none.

@@ -188,23 +188,17 @@ returns-in-End-clause-reached g c =
 
 -- A JOB HAS LEFT: Sent is given
 
-pub give-requires-clause-room : goal.give-requires-clause-room
-give-requires-clause-room g c = less_room c.frames.complex c.frames.member 1 (frames_in c.frames.next + 1) (omega arith) c.frames.invariant.room
+pub give_part-requires-clause-room : goal.give_part-requires-clause-room
+give_part-requires-clause-room g c = less_room c.frames.complex c.frames.member 1 (frames_in c.frames.next + 1) (omega arith) c.frames.invariant.room
 
-pub give-requires-clause-few : goal.give-requires-clause-few
-give-requires-clause-few g c = c.frames.invariant.few
-
-pub give-requires-clause-may : goal.give-requires-clause-may
-give-requires-clause-may g c =
+pub give_part-requires-clause-may : goal.give_part-requires-clause-may
+give_part-requires-clause-may g c =
     let w = c.frames.invariant.works in
     let v = rw c.in-Send.is at c.frames.invariant.servable in
-    record { plain = refl; fit = v.0.line; giver = (w.still.holds.some, w.still.holds.few); may = w.still.holds.member; closes = refl }
-
-pub give-requires-clause-right : goal.give-requires-clause-right
-give-requires-clause-right g c told = tt
+    (c.frames.invariant.few, record { plain = refl; fit = v.0.line; giver = (w.still.holds.some, w.still.holds.few); may = w.still.holds.member; closes = refl }, λ told. tt)
 
 pub returns-in_err-end-in-Send-clause-run : goal.returns-in_err-end-in-Send-clause-run
-returns-in_err-end-in-Send-clause-run g c = c.give.ensures.run ∙ c.frames.invariant.run
+returns-in_err-end-in-Send-clause-run g c = c.give_part.ensures.run ∙ c.frames.invariant.run
 
 pub returns-in_err-end-in-Send-clause-serves : goal.returns-in_err-end-in-Send-clause-serves
 returns-in_err-end-in-Send-clause-serves g c =
@@ -213,8 +207,8 @@ returns-in_err-end-in-Send-clause-serves g c =
     let z = c.frames.complex in
     let n = c.frames.member in
     let q = err_from_is_err_and c.from_residual.result c.from_residual.ensures.1 in
-    rw (q.1, q.2) (i.then (outside c.give.new.complex) (Err _)
-    (rw c.in-Send.is (send_error g.P.Plant.tells h c.in-Send.number c.in-Send.service (place_of z n) (place_of c.give.new.complex c.give.new.member) c.frames.given (own_batch z n h i.works) _ c.in_err-end-in-Send.ensures.given)))
+    rw (q.1, q.2) (i.then (outside c.give_part.new.complex) (Err _)
+    (rw c.in-Send.is (send_error g.P.Plant.tells h c.in-Send.number c.in-Send.service (place_of z n) (place_of c.give_part.new.complex c.give_part.new.member) c.frames.given (own_batch z n h i.works) _ c.in_err-end-in-Send.ensures.given)))
 
 -- WHAT IS FULL IS KEPT
 
@@ -231,7 +225,7 @@ keep_full-requires-clause-room g c =
     record { order = omega (arith, order, more); high = omega (arith, high, same); level = omega (arith, level, reached) }
 
 pub returns-in_err-keep_full-in-Send-clause-run : goal.returns-in_err-keep_full-in-Send-clause-run
-returns-in_err-keep_full-in-Send-clause-run g c = c.keep_full.ensures.run ∙ c.give.ensures.run ∙ c.frames.invariant.run
+returns-in_err-keep_full-in-Send-clause-run g c = c.keep_full.ensures.run ∙ c.give_part.ensures.run ∙ c.frames.invariant.run
 
 pub returns-in_err-keep_full-in-Send-clause-serves : goal.returns-in_err-keep_full-in-Send-clause-serves
 returns-in_err-keep_full-in-Send-clause-serves g c =
@@ -239,13 +233,13 @@ returns-in_err-keep_full-in-Send-clause-serves g c =
     let h = c.args.holder in
     let z = c.frames.complex in
     let n = c.frames.member in
-    let y = c.give.new.complex in
-    let k = c.give.new.member in
+    let y = c.give_part.new.complex in
+    let k = c.give_part.new.member in
     let e = c.in_ok-end-in-Send.ensures in
     let new = outside c.keep_full.new.complex in
     let q = err_from_is_err_and c.from_residual-in_err-keep_full-in-Send.result c.from_residual-in_err-keep_full-in-Send.ensures.1 in
     rw (q.1, q.2) (i.then new (Err _)
-    (rw c.in-Send.is (send_full_error g.P.Plant.tells h c.in-Send.number c.in-Send.service (place_of z n) (place_of y k) c.frames.given c.in_ok-end-in-Send.end e.given e.one (own_batch y k h e.works) new _ c.keep_full.ensures.spares c.in_err-keep_full-in-Send.ensures.keeps c.in_err-keep_full-in-Send.ensures.counts)))
+    (rw c.in-Send.is (send_full_error g.P.Plant.tells h c.in-Send.number c.in-Send.service (place_of z n) (place_of y k) c.frames.given c.in_ok-end-in-Send.end e.given e.longer (own_batch y k h e.works) new _ c.keep_full.ensures.spares c.in_err-keep_full-in-Send.ensures.keeps c.in_err-keep_full-in-Send.ensures.counts)))
 
 -- THE NEXT FRAME
 
@@ -271,8 +265,8 @@ frames-preserved g c =
     let h = c.args.holder in
     let z = c.frames.complex in
     let n = c.frames.member in
-    let y = c.give.new.complex in
-    let k = c.give.new.member in
+    let y = c.give_part.new.complex in
+    let k = c.give_part.new.member in
     let w = c.keep_full.new.complex in
     let j = c.keep_full.new.member in
     let e = c.in_ok-end-in-Send.ensures in
@@ -301,7 +295,7 @@ frames-preserved g c =
     let reached = i.level in
     let grown = o.reached in
     record {
-      run = c.keep_full.ensures.run ∙ c.give.ensures.run ∙ i.run;
+      run = c.keep_full.ensures.run ∙ c.give_part.ensures.run ∙ i.run;
       works = o.works;
       few = o.few;
       servable = right.servable;
@@ -312,6 +306,6 @@ frames-preserved g c =
       begins = λ none. absurd (omega (arith, none));
       level = omega (arith, reached, same_level, grown);
       then = λ new r p.
-          i.then new r (rw c.in-Send.is (send_then P.tells h c.in-Send.number s (place_of z n) (place_of y k) c.frames.given end e.given e.one (own_batch y k h e.works) (place_of w j) following o.left o.queue
+          i.then new r (rw c.in-Send.is (send_then P.tells h c.in-Send.number s (place_of z n) (place_of y k) c.frames.given end e.given e.longer (own_batch y k h e.works) (place_of w j) following o.left o.queue
           (λ told. c.next_of-next.ensures.is (queue_here w j) (tells_here w j h o.works told) ∙ ap (next_of (queue_here w j)) c.counted.ensures) fewer new r {S = Unit {0}} _ c.keep_full.ensures.spares o.keeps o.counts p));
     }

@@ -34,7 +34,7 @@ returns-in-Give-clause-again g c =
     let y = parts_of c.sit_command.new.complex in
     rw c.in-Give.is (both c.sit_command.result _ _ _
     (λ e on told. told_leaves g.P.Plant g.C.Copying x y c.args.member.now c.sit_command.new.member (begins c.args.holder (Give c.in-Give.command)) e (omega arith) on told)
-    c.sit_command.ensures.again c.sit_command.ensures.told)
+    c.sit_command.ensures.again c.sit_command.ensures.goes)
 
 -- A DECK
 
@@ -50,7 +50,7 @@ returns-in-Deck-clause-again g c =
     let y = parts_of c.sit_deck.new.complex in
     rw c.in-Deck.is (both c.sit_deck.result _ _ _
     (λ e on waits. deck_leaves g.P.Plant g.C.Copying x y c.args.member.now c.sit_deck.new.member (begins c.args.holder (Deck c.in-Deck.fields c.in-Deck.text)) e tt refl refl refl on waits)
-    c.sit_deck.ensures.again c.sit_deck.ensures.waits)
+    c.sit_deck.ensures.again c.sit_deck.ensures.goes)
 
 -- WORK
 

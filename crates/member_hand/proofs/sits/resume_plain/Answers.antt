@@ -25,7 +25,7 @@ returns-in-SpoolDeck-clause-again g c =
     let y = parts_of c.sit_spooled.new.complex in
     rw c.in-SpoolDeck.is (both c.sit_spooled.result _ _ _
     (λ e on told. told_leaves g.P.Plant g.C.Copying x y c.args.member.now c.sit_spooled.new.member (resumes c.args.holder (SpoolDeck c.in-SpoolDeck.job c.in-SpoolDeck.text) c.args.found) e (omega arith) on told)
-    c.sit_spooled.ensures.again c.sit_spooled.ensures.told)
+    c.sit_spooled.ensures.again c.sit_spooled.ensures.goes)
 
 -- WORK
 

@@ -92,8 +92,8 @@ one_line-requires-clause-named g c =
     let said : c.last_reply.result.now ≡ p.0 = c.last_reply.ensures ∙ ap last_reply one in
     subst (λ (z : Closing). AreMembersNamed z) (sym (c.reset_closing-end.ensures ∙ ap (reset_closing c.args.of) said)) (closes_named c.args.of p.0 c.requires.of p.2)
 
-pub close_sitting-requires-clause-may : goal.close_sitting-requires-clause-may
-close_sitting-requires-clause-may g c =
+pub end_sitting-requires-clause-may : goal.end_sitting-requires-clause-may
+end_sitting-requires-clause-may g c =
     let P = g.P.Plant in
     let C = g.C.Copying in
     let x = c.args.complex.now in
@@ -135,8 +135,8 @@ close_sitting-requires-clause-may g c =
       holder = c.requires.may.holder ∙ sym e.id;
     }
 
-pub close_sitting-requires-clause-kept : goal.close_sitting-requires-clause-kept
-close_sitting-requires-clause-kept g c told =
+pub end_sitting-requires-clause-kept : goal.end_sitting-requires-clause-kept
+end_sitting-requires-clause-kept g c told =
     let x = c.args.complex.now in
     let h = c.args.holder in
     let now = (g.P.Plant.view x.plant).now in
@@ -181,16 +181,16 @@ returns-clause-resets g c =
             ∙ ap (λ (ls : List (List ℕ)). ends_in h ((entry_with h.by at d p.0 ∷ []) ∷ []) Told ls) its_line,
       );
       own = all_of_one h.by at n.batch (one_of n.batch e h.by at (only_entry m.batch n.batch e p.1 b.nothing) (sym c.requires.may.holder) refl);
-      sat = c.close_sitting.ensures.sat;
+      sat = c.end_sitting.ensures.sat;
     }
 
 pub returns-clause-again : goal.returns-clause-again
 returns-clause-again g c =
     let x = c.args.complex.now in
     let m = c.args.member.now in
-    let z = c.close_sitting.new.complex in
-    let l = c.close_sitting.new.member in
+    let z = c.end_sitting.new.complex in
+    let l = c.end_sitting.new.member in
     let d = c.do_command.ensures in
-    let tables = ap (λ (t : Tables). t.order) c.close_sitting.ensures.tables in
-    if_ok _ (λ e. IsSatOn g.P.Plant g.C.Copying (parts_of x) (parts_of z) m l c.args.holder.step e) c.close_sitting.result
-    (λ e on. record { sits = on.sits; grown = record { order = omega (arith, d.order, tables); high = rw d.level at on.grown.high; reached = on.grown.reached } }) c.close_sitting.ensures.again
+    let tables = ap (λ (t : Tables). t.order) c.end_sitting.ensures.tables in
+    if_ok _ (λ e. IsSatOn g.P.Plant g.C.Copying (parts_of x) (parts_of z) m l c.args.holder.step e) c.end_sitting.result
+    (λ e on. record { sits = on.sits; grown = record { order = omega (arith, d.order, tables); high = rw d.level at on.grown.high; reached = on.grown.reached } }) c.end_sitting.ensures.again

@@ -1,3 +1,5 @@
+use Rattle.member_sittings.proofs.Names.{parts_of}
+use Rattle.member_sittings.proofs.KeepLemmas.{sat_frame}
 use Rattle.member_sittings.proofs.SeatLemmas.{own_batch}
 use Rattle.member_sittings.proofs.closing.give_up_sitting.Goals as goal
 
@@ -12,5 +14,11 @@ give_up-requires-clause-own g c =
 pub give_up-requires-clause-untold : goal.give_up-requires-clause-untold
 give_up-requires-clause-untold g c told = c.requires.gives.untold told c.args.member.now.batch c.requires.gives.of
 
-pub returns-clause-cut : goal.returns-clause-cut
-returns-clause-cut g c = rw c.requires.holder (record { acts = record { on = c.give_up.ensures.acts; notes = c.give_up.ensures.notes }; counts = c.give_up.ensures.counts; leaves = c.give_up.ensures.leaves })
+pub returns : goal.returns
+returns g c =
+    let e = c.give_up.ensures in
+    record {
+      frame = sat_frame (parts_of c.args.complex.now) (parts_of c.give_up.new.complex) e.book e.base e.since e.renewals;
+      id = e.id;
+      cut = rw c.requires.holder (record { acts = record { on = e.acts; notes = e.notes }; counts = e.counts; leaves = e.leaves });
+    }

@@ -1,9 +1,9 @@
-use Rattle.member_units.proofs.Names.{ℕ, [], ◌≡◌, ◌+◌, ◌-◌, suc, List, length, None, Some, Option, Ok, Err, ◌∙◌, ap, refl, subst, sym, arith, err_from_is_err_and, Entry, Queue, Away, HasRoom, sittings_most, bounds, unwritten, outside, place_of, queue_here, full_error, plays_as, plays_full, plays_more, first_ends, full_le, unwritten_one, less_room, own_batch, wrote_of, goes_on_by, units_from}
+use Rattle.member_units.proofs.Names.{ℕ, ◌≡◌, ◌+◌, ◌-◌, suc, List, length, None, Some, Option, Ok, Err, ◌∙◌, ap, refl, subst, sym, arith, err_from_is_err_and, Entry, Queue, Away, HasRoom, sittings_most, bounds, unwritten, outside, place_of, queue_here, full_error, plays_as, plays_full, plays_more, first_ends, full_le, unwritten_one, less_room, own_batch, wrote_of, goes_on_by, units_from}
 use Rattle.std.proofs.lemmas.List.{length-append}
 use Rattle.step_turns.specs.declared.states.Aside.{Aside}
 use Rattle.member_units.specs.Actions.{IsUpTo, MayFollow, action_turn, ahead, left_of, most_of, most_then, wait_after}
 use Rattle.member_units.specs.declared.actions.Action.TheVariants as action
-use Rattle.member_units.proofs.Parts.{above_most, least_then, most_above, not_some, part_error, part_goes, part_waits, ready_then, up_to, waited}
+use Rattle.member_units.proofs.Parts.{above_most, least_then, most_above, not_some, part_error, part_goes, part_uses, part_waits, ready_then, up_to, waited}
 use Rattle.member_units.proofs.units.play.Given.{Over}
 use Rattle.member_units.proofs.units.play.Goals.{After-len, In_default, In_ok-end-in-Give}
 use Rattle.member_units.proofs.units.play.Goals as goal
@@ -107,7 +107,9 @@ given_more g c =
 room_given : (g : Over) (c : In_ok-end-in-Give g) → HasRoom c.give_part.new.complex c.give_part.new.member (suc c.in-Give.progress.left + 3)
 room_given g c =
     let here = rw c.in-Give.is at c.loop-action.invariant.upto in
-    c.in_ok-end-in-Give.ensures.uses (suc c.in-Give.progress.left + 3) (omega (arith, here.units, c.requires.units)) (rw c.in-Give.is at c.loop-action.invariant.room)
+    let may = rw c.in-Give.is at c.loop-action.invariant.may in
+    let e = c.in_ok-end-in-Give.ensures in
+    part_uses c.loop-action.complex c.give_part.new.complex c.loop-action.member c.give_part.new.member e.high e.reached (suc c.in-Give.progress.left + 3) (omega (arith, here.units, c.requires.units)) (rw c.in-Give.is at c.loop-action.invariant.room) c.in-Give.part may.0 e.order
 
 -- and the step waits
 

@@ -3,7 +3,7 @@ use Rattle.member_work.proofs.GivingLemmas.{gives_err, gives_ok}
 use Rattle.member_work.proofs.giving.give_back.Goals as goal
 
 pub give-requires-clause-may : goal.give-requires-clause-may
-give-requires-clause-may c s = ap (λ (k : Config). is_member k c.args.member.now.id) s.told.config ∙ c.requires.member
+give-requires-clause-may c s = ap (λ (k : Config). is_member k c.args.member.now.id) s.told.config ∙ c.requires.can.member
 
 pub returns-in_err-give-clause-gives : goal.returns-in_err-give-clause-gives
 returns-in_err-give-clause-gives c Q told =

@@ -1,8 +1,9 @@
-use Rattle.member_work.proofs.Names.{◌≡◌, ℕ, ◌+◌, ◌-◌, ◌<◌, length, [], ◌∷◌, ◌∙◌, ap, subst, sym, refl, arith, MemberId, Config, Queue, is_member, Tell, reply_to, IsNamedEnd, end_by, err_from_is_err_and, step, if_ok, tells_some, take_counts, drop_groups, taken_end, taking}
+use Rattle.member_work.proofs.Names.{◌≡◌, ℕ, ◌+◌, ◌-◌, ◌<◌, length, [], ◌∷◌, ◌∙◌, ap, subst, sym, refl, arith, MemberId, Config, Queue, is_member, Tell, reply_to, IsNamedEnd, end_by, err_from_is_err_and, step, if_ok, tells_some, take_counts, drop_groups, taken_end, taking, TellSound}
 use Rattle.mas_types.specs.declared.commands.Command.TheVariants as command
 use Rattle.mas_types.specs.declared.commands.Reply.TheVariants as reply
 use Rattle.job_outcome.specs.declared.units.UnitEnd.TheVariants as ends
-use Rattle.member_work.proofs.GivingLemmas.{end_all, end_refused, done_is, end_some, given_then, gives_as, gives_none, gives_ok, has_told, next_refused, none_free, one_batch, one_longer, one_reply, one_told, take_not_done, takes_on, taking_all, taking_refused, taking_some, wanted_takes}
+use Rattle.member_work.specs.Units.{ended_as}
+use Rattle.member_work.proofs.GivingLemmas.{can_then, leaves_texts, end_all, end_refused, done_is, end_some, given_then, gives_as, gives_by, gives_ok, has_told, next_refused, none_free, one_batch, one_longer, one_reply, one_told, take_not_done, takes_on, taking_all, taking_refused, taking_some, wanted_takes}
 use Rattle.member_work.proofs.giving.take_for_end.Goals as goal
 use Rattle.member_work.proofs.giving.take_for_end.Goals.{In-Count, In_ok-end}
 
@@ -24,7 +25,7 @@ module _ (c : In-Count) where
   less apart = let s = tells_some c.args.member.now.checkpoint.tables in let le = (take_counts s.0 c.args.member.now.id c.args.needed c.in-Count.taken c.requires.needed (got s.0 s.1)).1 in omega (arith, le, apart)
 
 pub give-requires-clause-may : goal.give-requires-clause-may
-give-requires-clause-may c s = ap (λ (k : Config). is_member k c.args.member.now.id) s.told.config ∙ c.requires.member
+give-requires-clause-may c s = ap (λ (k : Config). is_member k c.args.member.now.id) s.told.config ∙ c.requires.can.member
 
 pub returns-in_err-end-clause-gives : goal.returns-in_err-end-clause-gives
 returns-in_err-end-clause-gives c Q told =
@@ -42,15 +43,7 @@ give_back-requires c =
     let h = c.give.ensures.has in
     let more = longer (goal.at.give_back-requires c).In_ok-end in
     let order = h.order in
-    record {
-      some = rw h.id c.requires.some;
-      by = rw h.id c.requires.by;
-      here = h.behind ∙ c.requires.here;
-      member = rw (h.config, h.id) c.requires.member;
-      spelling = h.spelling;
-      fit = h.fit;
-      order = omega (arith, order, more, c.requires.order);
-    }
+    record { can = can_then c.args.step c.args.member.now c.give.new.member c.give.new.member h c.requires.can; order = omega (arith, order, more, c.requires.order) }
 
 pub returns-in_default : goal.returns-in_default
 returns-in_default c =
@@ -94,67 +87,50 @@ returns-then-taken-needed c =
 pub overflow_sub-want : goal.overflow_sub-want
 overflow_sub-want c = let lt = less (goal.at.overflow_sub-want c).In-Count c.if-taken-needed.false in omega (arith, lt)
 
-pub give-requires-2-clause-may : goal.give-requires-2-clause-may
-give-requires-2-clause-may c s =
-    let h = c.give.ensures.has in
-    ap (λ (k : Config). is_member k c.give.new.member.id) s.told.config ∙ rw (h.config, h.id) c.requires.member
+pub give_or_drop-requires-clause-can : goal.give_or_drop-requires-clause-can
+give_or_drop-requires-clause-can c = can_then c.args.step c.args.member.now c.give.new.member c.give.new.member c.give.ensures.has c.requires.can
 
-pub give-requires-2-clause-order : goal.give-requires-2-clause-order
-give-requires-2-clause-order c =
-    let more = longer (goal.at.give-requires-2-clause-order c).In_ok-end in
+pub give_or_drop-requires-clause-may : goal.give_or_drop-requires-clause-may
+give_or_drop-requires-clause-may c s =
+    let h = c.give.ensures.has in
+    ap (λ (k : Config). is_member k c.give.new.member.id) s.told.config ∙ rw (h.config, h.id) c.requires.can.member
+
+pub give_or_drop-requires-clause-order : goal.give_or_drop-requires-clause-order
+give_or_drop-requires-clause-order c =
+    let more = longer (goal.at.give_or_drop-requires-clause-order c).In_ok-end in
     let order = c.give.ensures.has.order in
     omega (arith, order, more, c.requires.order)
-
-pub returns-in_err-end-2-clause-has : goal.returns-in_err-end-2-clause-has
-returns-in_err-end-2-clause-has c = given_then c.args.step c.args.member.now c.give.new.member c.give-2.new.member c.give.ensures.has c.give-2.ensures.has
-
-pub returns-in_err-end-2-clause-gives : goal.returns-in_err-end-2-clause-gives
-returns-in_err-end-2-clause-gives c Q t =
-    let m = c.args.member.now in
-    let n = c.give.new.member in
-    let o = c.give-2.new.member in
-    let second = command.Take (c.args.needed - c.in-Count.taken) in
-    let w = goal.at.returns-in_err-end-2-clause-gives c in
-    let p = err_from_is_err_and c.from_residual-in_err-end-2.result c.from_residual-in_err-end-2.ensures.1 in
-    rw (p.1, p.2)
-    (gives_as Q m.id c.args.step (taking Q m.id c.args.needed) (command.Take c.args.needed ∷ second ∷ drop_groups ∷ []) _ m o _ (taking_some Q m.id c.args.step c.args.needed c.in-Count.taken c.requires.needed (got w.In-Count Q t) (less w.In-Count c.if-taken-needed.false))
-    (takes_on Q m n o c.args.step c.args.needed (second ∷ drop_groups ∷ []) _ _ c.give.ensures.has (c.in_ok-end.ensures.gives Q t)
-    (gives_none _ n.id c.args.step second (drop_groups ∷ []) _ n o _ c.in_err-end-2.ensures.err (told w.In_ok-end Q t))))
-
-pub give_back-requires-2-clause-order : goal.give_back-requires-2-clause-order
-give_back-requires-2-clause-order c =
-    let n = c.give.new.member in
-    let t = tells_some n.checkpoint.tables in
-    let more = longer (goal.at.give_back-requires-2-clause-order c).In_ok-end in
-    let again = one_longer n.batch c.give-2.new.member.batch _ (one_batch t.0 n.id c.args.step (command.Take (c.args.needed - c.in-Count.taken)) _ n c.give-2.new.member _ (c.in_ok-end-2.ensures.gives t.0 t.1)) in
-    let first = c.give.ensures.has.order in
-    let order = c.give-2.ensures.has.order in
-    omega (arith, first, order, more, again, c.requires.order)
 
 pub returns : goal.returns
 returns c =
     let m = c.args.member.now in
     let n = c.give.new.member in
-    let o = c.give-2.new.member in
-    let z = c.give_back-2.new.member in
+    let z = c.give_or_drop.new.member in
     let missing : ℕ = c.args.needed - c.in-Count.taken in
+    let second = command.Take missing in
     let w = goal.at.returns c in
+    let e = c.give_or_drop.ensures in
+    let id = c.give.ensures.has.id in
     let lt = less w.In-Count c.if-taken-needed.false in
     record {
-      has = given_then c.args.step m n z c.give.ensures.has (given_then c.args.step n o z c.give-2.ensures.has c.give_back-2.ensures.has);
+      has = given_then c.args.step m n z c.give.ensures.has e.has;
       gives = λ Q t.
-          let two = c.in_ok-end-2.ensures.gives _ (told w.In_ok-end Q t) in
-          gives_as Q m.id c.args.step (taking Q m.id c.args.needed) (command.Take c.args.needed ∷ command.Take missing ∷ drop_groups ∷ []) _ m z _ (taking_some Q m.id c.args.step c.args.needed c.in-Count.taken c.requires.needed (got w.In-Count Q t) lt)
-          (takes_on Q m n z c.args.step c.args.needed (command.Take missing ∷ drop_groups ∷ []) _ _ c.give.ensures.has (c.in_ok-end.ensures.gives Q t)
-          (takes_on _ n o z c.args.step missing (drop_groups ∷ []) _ _ c.give-2.ensures.has two (c.give_back-2.ensures.gives _ (one_told _ n.id c.args.step (command.Take missing) _ n o _ two))));
-      end = if_ok _ (λ e. (Q : Queue) → Tell m.checkpoint.tables Q → e ≡ taken_end Q m.id c.args.step c.args.needed) c.give_back-2.result
-          (λ e is Q t. is ∙ c.in_ok-end-2.ensures.end _ (told w.In_ok-end Q t) ∙ ap (λ (i : MemberId). end_by (reply_to (step Q m.id (command.Take c.args.needed)).0 i (command.Take missing))) c.give.ensures.has.id
+          let Q1 : Queue = (step Q m.id (command.Take c.args.needed)).0 in
+          let t1 = told w.In_ok-end Q t in
+          let leaves = leaves_texts Q1 n.id c.args.step second c.law_of_texts.ensures.texts c.law_of_texts.ensures.told n.checkpoint.tables t1 in
+          gives_as Q m.id c.args.step (taking Q m.id c.args.needed) (command.Take c.args.needed ∷ ended_as (reply_to Q1 n.id second) second) _ m z _
+          (taking_some Q m.id c.args.step c.args.needed c.in-Count.taken c.requires.needed (got w.In-Count Q t) lt ∙ ap (λ (i : MemberId). command.Take c.args.needed ∷ ended_as (reply_to Q1 i second) second) (sym id))
+          (takes_on Q m n z c.args.step c.args.needed (ended_as (reply_to Q1 n.id second) second) _ _ c.give.ensures.has (c.in_ok-end.ensures.gives Q t)
+          (gives_by Q1 n.id c.args.step second (ended_as (reply_to Q1 n.id second) second) _ (λ disks per. TellSound n.checkpoint.tables) n z _ (λ disks per s. record { sound = s; leaves = λ gone has. leaves gone disks per (s, refl) has }) (e.gives Q1 t1)));
+      end = if_ok _ (λ e. (Q : Queue) → Tell m.checkpoint.tables Q → e ≡ taken_end Q m.id c.args.step c.args.needed) c.give_or_drop.result
+          (λ e is Q t. is _ (told w.In_ok-end Q t) ∙ ap (λ (i : MemberId). end_by (reply_to (step Q m.id (command.Take c.args.needed)).0 i second)) id
           ∙ sym (end_some Q m.id c.args.step c.args.needed c.in-Count.taken c.requires.needed (got w.In-Count Q t) lt))
-          c.give_back-2.ensures.end;
-      named = if_ok _ IsNamedEnd c.give_back-2.result (λ e is. subst IsNamedEnd (sym is) c.in_ok-end-2.ensures.named) c.give_back-2.ensures.end;
+          e.end;
+      named = e.named;
       enough = λ done.
           let s = tells_some m.checkpoint.tables in
           let Q1 : Queue = (step s.0 m.id (command.Take c.args.needed)).0 in
-          let none : (k : ℕ) → (step Q1 n.id (command.Take missing)).1 ≡ reply.Count k → ⊥ = λ k is. next_refused Q1 n.id missing k (none_free s.0 m.id c.args.needed c.in-Count.taken (got w.In-Count s.0 s.1) lt) is in
-          absurd (take_not_done Q1 n.id missing none (sym (c.in_ok-end-2.ensures.end Q1 (told w.In_ok-end s.0 s.1)) ∙ sym (done_is c.give_back-2.result _ ends.Done done c.give_back-2.ensures.end)));
+          let none : (k : ℕ) → (step Q1 n.id second).1 ≡ reply.Count k → ⊥ = λ k is. next_refused Q1 n.id missing k (none_free s.0 m.id c.args.needed c.in-Count.taken (got w.In-Count s.0 s.1) lt) is in
+          let is = done_is c.give_or_drop.result (end_by (reply_to Q1 n.id second)) ends.Done done (if_ok _ (λ e. e ≡ end_by (reply_to Q1 n.id second)) c.give_or_drop.result (λ e is. is Q1 (told w.In_ok-end s.0 s.1)) e.end) in
+          absurd (take_not_done Q1 n.id missing none (sym is));
     }

@@ -1,24 +1,51 @@
-//! The two sittings of a deck's step.
-ghost use Rattle.std.specs.Prelude.{◌≡◌, All, IfOk};
-ghost use Rattle.member_sittings.specs.Names.{IsReplyNamed, AreLines, parts_of, Deck as DeckTask, Fresh, Told, SpoolDeck};
-ghost use Rattle.member_sittings.specs.Asides.{DeckIsSpooled, IsReadDeck, WaitsRightly, deck_found};
-ghost use Rattle.member_sittings.specs.Ends.{deck_end};
-ghost use Rattle.member_sittings.specs.Sat.{HasSat, SatAs, SitsOn, begins, resumes, sat_in};
-ghost use Rattle.member_sittings.specs.Whole.{MayKeepBatch, MaySit};
+//! The sittings of a step that gives a command, and of a deck's.
+ghost use Rattle.std.specs.Prelude.{All};
+ghost use Rattle.member_sittings.specs.Names.{IsReplyNamed, AreLines, Deck as DeckTask, Fresh, Give, SpoolDeck};
+ghost use Rattle.member_sittings.specs.Asides.{DeckIsSpooled, IsReadDeck, deck_found};
+ghost use Rattle.member_sittings.specs.Ends.{deck_ending};
+ghost use Rattle.member_sittings.specs.Sat.{EndsSitting, Sits, begins, resumes};
+ghost use Rattle.member_sittings.specs.Whole.{IsGivable, MayKeepBatch, MaySit};
 
-use crate::closing::{close_sitting, give_up_sitting, pause_sitting};
+use crate::closing::{end_sitting, give_up_sitting, pause_sitting};
 use crate::ends::SittingEnd;
 use card_reader::Deck;
 use mas_complex::{Complex, Steady};
-use mas_types::{JobNo, Lines};
+use mas_types::{Command, JobNo, Lines};
 use member_decks::{Opened, finishing, last_lines};
 use member_node::{Member, NodeNo};
 use member_opening::open_deck;
+use member_steps::give;
 use queue_texts::{law_of_entered_texts, law_of_texts};
 use spool_plant::Plant;
 use spool_text::groups_needed;
 use std::alloc::Global;
-use step_turns::{Aside, Holder};
+use step_turns::{Aside, Holder, State};
+
+/// The only sitting of a step that gives a command: the command is done on the member's tables and kept, and the lines
+/// of its reply are said. All memory is taken before the first write.
+///
+/// NoMemory leaves the journal and the copies as they were. BothLost comes only where both copies count as lost at the
+/// end of the call, Halted only where the member was stopped in it, ConsoleFault only where the console failed. After
+/// an error the member can't go on.
+pub fn sit_command<P: Plant + Drop, C: Steady + Drop>(
+    member: &mut Member,
+    alloc: Global,
+    complex: &mut Complex<P, C>,
+    holder: Holder,
+    command: Command,
+) -> Result<SittingEnd, NodeNo>
+    requires may { MaySit complex.old member.old holder }
+    requires givable { IsGivable complex.old.base member.old.id command }
+    ensures { Sits (begins holder (Fresh (Give command))) complex.old complex.new member.old member.new
+        result }
+{
+    complex.kept_texts();
+    law_of_texts();
+    let Ok(lines) = give(member, alloc, holder.step, command) else {
+        return Err(NodeNo::NoMemory);
+    };
+    end_sitting(member, alloc, complex, holder, State::Told, &lines)
+}
 
 /// Ends a sitting and its deck's step: the member's batch is kept, and the step closes with the reply to its last
 /// command that isn't Drop, or with the volume that was found lost.
@@ -33,16 +60,13 @@ pub fn close_deck<P: Plant + Drop, C: Steady + Drop>(
 ) -> Result<SittingEnd, NodeNo>
     requires may { MayKeepBatch complex.old member.old holder }
     requires named { All (λ e. IsReplyNamed e.reply) member.old.batch }
-    ensures frame { parts_of complex.new ≡ sat_in (parts_of complex.new) (parts_of complex.old) }
-    ensures id { member.new.id ≡ member.old.id }
-    ensures tables { member.new.checkpoint.tables ≡ member.old.checkpoint.tables }
-    ensures sat { SatAs holder.by (deck_end holder member.old.batch lost) complex.old complex.new result }
-    ensures again { IfOk result (SitsOn complex.old complex.new member.old member.new holder.step) }
+    ensures { EndsSitting (deck_ending holder member.old.batch lost) complex.old complex.new
+        member.old member.new result }
 {
     let Ok(lines) = last_lines(member, alloc, holder.step, lost) else {
         return Err(NodeNo::NoMemory);
     };
-    close_sitting(member, alloc, complex, holder, &lines)
+    end_sitting(member, alloc, complex, holder, State::Told, &lines)
 }
 
 /// The first sitting of a deck's step: its job begins and gets the groups that its text needs, and the step waits for
@@ -60,11 +84,8 @@ pub fn sit_deck<P: Plant + Drop, C: Steady + Drop>(
 ) -> Result<SittingEnd, NodeNo>
     requires may { MaySit complex.old member.old holder }
     requires deck { IsReadDeck deck }
-    ensures frame { parts_of complex.new ≡ sat_in (parts_of complex.new) (parts_of complex.old) }
-    ensures id { member.new.id ≡ member.old.id }
-    ensures sat { HasSat (begins holder (Fresh (DeckTask deck.fields deck.text))) complex.old complex.new result }
-    ensures again { IfOk result (SitsOn complex.old complex.new member.old member.new holder.step) }
-    ensures waits { IfOk result (λ e. WaitsRightly member.new e.next) }
+    ensures { Sits (begins holder (Fresh (DeckTask deck.fields deck.text))) complex.old complex.new
+        member.old member.new result }
 {
     complex.kept_texts();
     let groups = groups_needed(&deck.text);
@@ -113,12 +134,8 @@ pub fn sit_spooled<P: Plant + Drop, C: Steady + Drop>(
     requires may { MaySit complex.old member.old holder }
     requires text { AreLines deck.text }
     requires spooled { DeckIsSpooled complex.old member.old.id deck.text deck.lost }
-    ensures frame { parts_of complex.new ≡ sat_in (parts_of complex.new) (parts_of complex.old) }
-    ensures id { member.new.id ≡ member.old.id }
-    ensures sat { HasSat (resumes holder (SpoolDeck deck.job deck.text) (deck_found deck.lost)) complex.old complex.new
-        result }
-    ensures again { IfOk result (SitsOn complex.old complex.new member.old member.new holder.step) }
-    ensures told { IfOk result (λ e. e.next ≡ Told) }
+    ensures { Sits (resumes holder (SpoolDeck deck.job deck.text) (deck_found deck.lost)) complex.old
+        complex.new member.old member.new result }
 {
     complex.kept_texts();
     law_of_texts();

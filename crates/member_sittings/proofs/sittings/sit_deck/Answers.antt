@@ -5,9 +5,9 @@ use Rattle.member_decks.proofs.DeckLemmas.{given_of, opened_enough}
 use Rattle.member_sittings.proofs.KeepLemmas.{sat_given_up}
 use Rattle.member_sittings.proofs.TurnLemmas.{DeckTurn, FirstPart, all_of_one, deck_closes, deck_sits, deck_waits, opened_alike, opened_with, opens_shaped, with_closed, with_ready}
 use Rattle.member_sittings.proofs.SeatLemmas.{Opens, front_is, gives_opened, may_keep, of_strip, one_some, opened_of, or_one, sat_on, strip}
-use Rattle.member_sittings.proofs.decks.sit_deck.Given as given
-use Rattle.member_sittings.proofs.decks.sit_deck.Goals as goal
-use Rattle.member_sittings.proofs.decks.sit_deck.Goals.{After-open_deck}
+use Rattle.member_sittings.proofs.sittings.sit_deck.Given as given
+use Rattle.member_sittings.proofs.sittings.sit_deck.Goals as goal
+use Rattle.member_sittings.proofs.sittings.sit_deck.Goals.{After-open_deck}
 
 -- THE COMMANDS OF THE OPENING, whatever came of them
 
@@ -82,9 +82,9 @@ open_deck-requires-clause-order g c =
 pub give_up_sitting-requires : goal.give_up_sitting-requires
 give_up_sitting-requires g c = may_cut g (goal.at.give_up_sitting-requires g c).After-open_deck _ c.in_default.ensures.opening
 
-pub returns-in_default-clause-sat : goal.returns-in_default-clause-sat
-returns-in_default-clause-sat g c =
-    let w = (goal.at.returns-in_default-clause-sat g c).After-open_deck in
+pub returns-in_default : goal.returns-in_default
+returns-in_default g c =
+    let w = (goal.at.returns-in_default g c).After-open_deck in
     let h = c.args.holder in
     let fields = c.args.deck.fields in
     let text = c.args.deck.text in
@@ -98,16 +98,22 @@ returns-in_default-clause-sat g c =
     let cut = c.give_up_sitting.ensures.cut in
     let gave_up = sat_given_up g.P.Plant h.by h refl T.next T.lines (parts_of c.args.complex.now) (parts_of c.give_up_sitting.new.complex) es rest _ (one_some e (strip es First)) cut.acts cut.leaves cut.counts in
     record {
-      sitting = ends_in h ((es ++ rest) ∷ []) T.next T.lines;
-      is = λ t.
-          let part_m = (c.in_default.ensures.opening Q (c.requires.may.sits.seat.between.queue t)).part in
-          let part_n : LeaveOut es (given_in Q m.id h.step (opening Q m.id fields (needed g w))) = subst (λ (k : ℕ). LeaveOut es (given_in Q m.id h.step (opening Q m.id fields k))) (groups g w) part_m in
-          let part : LeaveOut es First = subst (λ (i : MemberId). LeaveOut es (given_in Q i h.step (opening Q i fields (needed g w)))) (sym c.requires.may.holder) part_n in
-          ap (λ (es : List Entry). ends_in h (es ∷ []) T.next T.lines) (front_is es First e part) ∙ sym (deck_sits Q h fields text nothing_found);
-      of = all_of_one h.by h.step (es ++ rest) (of_strip h.by h.step es First e (refl, refl) (of_holder g w _ c.in_default.ensures.opening) (given_of h.by h.step (opening Q h.by fields (needed g w)) Q));
-      shaped = opens_shaped h fields text nothing_found (job_opened Q h.by fields (needed g w)) First (es ++ rest);
-      sat = gave_up.sat;
-      tight = gave_up.tight;
+      frame = c.give_up_sitting.ensures.frame;
+      id = c.give_up_sitting.ensures.id ∙ c.open_deck.ensures.id;
+      sat = record {
+        sitting = ends_in h ((es ++ rest) ∷ []) T.next T.lines;
+        is = λ t.
+            let part_m = (c.in_default.ensures.opening Q (c.requires.may.sits.seat.between.queue t)).part in
+            let part_n : LeaveOut es (given_in Q m.id h.step (opening Q m.id fields (needed g w))) = subst (λ (k : ℕ). LeaveOut es (given_in Q m.id h.step (opening Q m.id fields k))) (groups g w) part_m in
+            let part : LeaveOut es First = subst (λ (i : MemberId). LeaveOut es (given_in Q i h.step (opening Q i fields (needed g w)))) (sym c.requires.may.holder) part_n in
+            ap (λ (es : List Entry). ends_in h (es ∷ []) T.next T.lines) (front_is es First e part) ∙ sym (deck_sits Q h fields text nothing_found);
+        of = all_of_one h.by h.step (es ++ rest) (of_strip h.by h.step es First e (refl, refl) (of_holder g w _ c.in_default.ensures.opening) (given_of h.by h.step (opening Q h.by fields (needed g w)) Q));
+        shaped = opens_shaped h fields text nothing_found (job_opened Q h.by fields (needed g w)) First (es ++ rest);
+        sat = gave_up.sat;
+        tight = gave_up.tight;
+      };
+      again = tt;
+      goes = tt;
     }
 
 -- BEGIN OR A TAKE WAS REFUSED
@@ -115,36 +121,35 @@ returns-in_default-clause-sat g c =
 pub close_deck-requires-clause-may : goal.close_deck-requires-clause-may
 close_deck-requires-clause-may g c = may_keep_it g (goal.at.close_deck-requires-clause-may g c).After-open_deck c.in-Ok.opened c.in-Ok.ensures.opening c.in-Ok.ensures.opened
 
-pub returns-in_default-opened-clause-sat : goal.returns-in_default-opened-clause-sat
-returns-in_default-opened-clause-sat g c =
-    let w = (goal.at.returns-in_default-opened-clause-sat g c).After-open_deck in
+pub returns-in_default-opened : goal.returns-in_default-opened
+returns-in_default-opened g c =
+    let w = (goal.at.returns-in_default-opened g c).After-open_deck in
     let o = c.in-Ok.opened in
     let k = c.in-Ok.ensures in
     let h = c.args.holder in
     let fields = c.args.deck.fields in
     let es = c.open_deck.new.member.batch in
-    record {
-      sitting = deck_end h es None;
-      is = λ t.
-          let closed = with_closed (job_opened (TheQueue g w) h.by fields (needed g w)) (ends_told g w o k.opening k.opened t ∙ closed_of o c.in_default-opened.not-Ready) in
-          ap (λ (es : List Entry). deck_end h es None) (first_told g w o k.opening k.opened t) ∙ sym (deck_closes (TheQueue g w) h fields c.args.deck.text nothing_found closed);
-      of = all_of_one h.by h.step es (of_holder g w (Ok o) k.opening);
-      shaped = record { few = omega arith; release = refl; says = (refl, (closing_reply es, refl)) };
-      sat = c.close_deck.ensures.sat.sat;
-      tight = c.close_deck.ensures.sat.tight;
-    }
-
-pub returns-in_default-opened-clause-waits : goal.returns-in_default-opened-clause-waits
-returns-in_default-opened-clause-waits g c =
     let l = c.close_deck.new.member in
-    if_ok _ (λ e. WaitsRightly l e.next) c.close_deck.result (λ e ends. subst (WaitsRightly l) (sym ends.next) tt) c.close_deck.ensures.sat.sat.ends
-
-pub returns-in_default-opened-clause-again : goal.returns-in_default-opened-clause-again
-returns-in_default-opened-clause-again g c =
     let d = c.open_deck.ensures in
-    let tables = ap (λ (t : Tables). t.order) c.close_deck.ensures.tables in
-    sat_on g.P.Plant g.C.Copying (parts_of c.args.complex.now) c.args.member.now c.open_deck.new.member d.level (parts_of c.close_deck.new.complex) c.close_deck.new.member c.args.holder.step c.close_deck.result
-    (omega (arith, d.order, (few_needed g ((goal.at.returns-in_default-opened-clause-again g c).After-open_deck)), tables)) c.close_deck.ensures.again
+    let e = c.close_deck.ensures in
+    let few = few_needed g w in
+    let tables = ap (λ (t : Tables). t.order) e.tables in
+    record {
+      frame = e.frame;
+      id = e.id ∙ d.id;
+      sat = record {
+        sitting = deck_end h es None;
+        is = λ t.
+            let closed = with_closed (job_opened (TheQueue g w) h.by fields (needed g w)) (ends_told g w o k.opening k.opened t ∙ closed_of o c.in_default-opened.not-Ready) in
+            ap (λ (es : List Entry). deck_end h es None) (first_told g w o k.opening k.opened t) ∙ sym (deck_closes (TheQueue g w) h fields c.args.deck.text nothing_found closed);
+        of = all_of_one h.by h.step es (of_holder g w (Ok o) k.opening);
+        shaped = record { few = omega arith; release = refl; says = (refl, (closing_reply es, refl)) };
+        sat = e.sat.sat;
+        tight = e.sat.tight;
+      };
+      again = sat_on g.P.Plant g.C.Copying (parts_of c.args.complex.now) c.args.member.now c.open_deck.new.member d.level (parts_of c.close_deck.new.complex) l h.step c.close_deck.result (omega (arith, d.order, few, tables)) e.again;
+      goes = if_ok _ (λ e. WaitsRightly l e.next) c.close_deck.result (λ e ends. subst (WaitsRightly l) (sym ends.next) tt) e.sat.sat.ends;
+    }
 
 -- THE GROUPS ARE THERE
 
@@ -182,7 +187,7 @@ returns g c =
           let few = few_needed g w in
           let tables = ap (λ (t : Tables). t.order) e.tables in
           sat_on g.P.Plant g.C.Copying (parts_of c.args.complex.now) m c.open_deck.new.member d.level (parts_of c.pause_sitting.new.complex) l h.step c.pause_sitting.result (omega (arith, d.order, few, tables)) e.again;
-      waits =
+      goes =
           let sh = tells_some m.checkpoint.tables in
           let has = opened_enough m.id h.step fields (needed g w) sh.0 job (sym (ends_of g w o k.opening k.opened sh.0 sh.1) ∙ c.in-Ready.is) in
           let owners : (run sh.0 (given_in sh.0 m.id h.step (opening sh.0 m.id fields (needed g w)))).owners ≡ l.checkpoint.tables.owners =

@@ -1,0 +1,96 @@
+-- What a unit gives at once: its commands, how the unit ends with them, and where it may give them.
+use Rattle.member_giving.specs.Names.{AreOutputs, AreSpooled, Command, Entry, IsMarkRight, IsUnderWay, MayBeGiven, MemberId, Queue, Refused, SpoolLost, closing_reply, counts_after, counts_of, drop_groups, end_by, ending, given_in, groups_for_end, held_by, job_at, member_count, outputs_at_end, spools_at, taken_end, taking}
+use Rattle.std.specs.Prelude.{[], ◌≡◌, ℕ, ◌+◌, ◌≤◌, ◌<◌, false, true, List, ◌∷◌, length, Some, take}
+use Rattle.job_outcome.specs.declared.units.UnitEnd.{UnitEnd}
+use Rattle.mas_types.specs.Fit.{IsFit}
+use Rattle.mas_types.specs.Step.{may_give}
+use Rattle.ckpt_form.specs.declared.steady.Steady.{Ghosts as SteadyGhosts}
+use Rattle.ckpt_copy.specs.declared.copying.Copying.{Ghosts as CopyGhosts}
+use Rattle.ckpt_tables.specs.declared.tables.Tables.{Tables}
+use Rattle.mas_complex.specs.Texts.{Spools}
+use Rattle.mas_complex.specs.declared.complex.Complex.{Complex}
+use Rattle.member_node.specs.declared.member.Member.{Member}
+use Rattle.member_work.specs.Giving.{IsSoundPlain, MayEnd}
+use Rattle.queue_commands.specs.Given.{IsGiver}
+use Rattle.queue_telling.specs.Telling.{TellSound}
+use Rattle.spool_plant.specs.declared.plant.Plant.{Ghosts as PlantGhosts}
+use Rattle.step_turns.specs.Entries.{is_drop}
+use Rattle.step_turns.specs.declared.states.Found.{Found}
+use Rattle.member_giving.specs.Works.{IsLow, queue_here, queue_kept}
+use Rattle.member_giving.specs.declared.parts.Part.{Part}
+use Rattle.member_giving.specs.declared.parts.Part.TheVariants as part
+
+-- the commands of a part, at a queue
+abbrev pub commands_of : MemberId → Queue → Part → List Command
+commands_of by Q (part.One c) = c ∷ []
+commands_of by Q (part.Groups needed) = taking Q by needed
+commands_of by Q (part.Ended n specs) = ending Q by n specs
+commands_of by Q (part.Lost volume) = drop_groups ∷ []
+
+-- how many there are at most
+abbrev pub commands_most : Part → ℕ
+commands_most (part.One c) = 1
+commands_most _ = 3
+
+-- how the unit ends
+abbrev pub ends_of : MemberId → ℕ → Queue → Part → UnitEnd
+ends_of by at Q (part.One c) = end_by (closing_reply (given_in Q by at (c ∷ [])))
+ends_of by at Q (part.Groups needed) = taken_end Q by at needed
+ends_of by at Q (part.Ended n specs) = end_by (closing_reply (given_in Q by at (ending Q by n specs)))
+ends_of by at Q (part.Lost volume) = Refused (SpoolLost volume)
+
+-- one command is one entry
+abbrev pub IsLonger : Part → List Entry → List Entry → Type 0
+IsLonger (part.One c) es fs = length fs ≡ length es + 1
+IsLonger _ es fs = Unit {0}
+
+-- groups are given up only where this volume was found lost
+abbrev pub MayLose : Found → Part → Type 0
+MayLose found (part.Lost volume) = found.lost ≡ Some volume
+MayLose found _ = Unit {0}
+
+-- the member has the groups that it took
+abbrev pub IsTaken : Member → Part → Type 0
+IsTaken m (part.Groups needed) = needed ≤ member_count m.id m.checkpoint.tables.owners
+IsTaken m _ = Unit {0}
+
+-- ON A MEMBER'S TABLES
+
+-- a command that the member may give by its tables, and with whose reply the step may close
+pub record IsOwnCommand (m : Member) (c : Command) : Type 0 where
+  pub fit : IsFit c
+  pub giver : IsGiver m.id c
+  pub may : (s : TellSound m.checkpoint.tables) → may_give s.queue m.id c ≡ true
+  pub closes : is_drop c ≡ false
+
+abbrev pub IsOwnPart : Member → Part → Type 0
+IsOwnPart m (part.One c) = IsOwnCommand m c
+IsOwnPart m (part.Groups needed) = 1 ≤ needed
+IsOwnPart m (part.Ended n specs) = AreOutputs specs
+IsOwnPart m (part.Lost volume) = Unit {0}
+
+-- where its commands leave the texts of a queue on the volumes
+abbrev pub PartStands : Tables → Queue → MemberId → Part → Spools → ℕ → Type 0
+PartStands t Q by (part.One c) = λ disks per. IsSoundPlain t c
+PartStands t Q by (part.Groups needed) = λ disks per. TellSound t
+PartStands t Q by (part.Ended n specs) = λ disks per. MayEnd t Q by n specs disks per
+PartStands t Q by (part.Lost volume) = λ disks per. TellSound t
+
+-- IN A SITTING
+
+module _ {P C : Type 0} {plants : PlantGhosts P} {steadies : SteadyGhosts C} {copies : CopyGhosts C} where
+  -- where a sitting begins, with nothing unwritten
+  pub record IsBare (x : Complex P C plants steadies copies) (m : Member) : Type 0 where
+    pub low : IsLow x m
+    pub nothing : m.batch ≡ []
+
+  -- a member may give a part
+  abbrev pub MayGive : Complex P C plants steadies copies → Member → Part → Type 0
+  MayGive x m (part.One c) = (length m.batch < 64) × MayBeGiven x.base m.id c
+      × (plants.tells → IsMarkRight (queue_here x m) m.id (counts_after m.batch (counts_of x.printed) m.id) c)
+  MayGive x m (part.Groups needed) = IsBare x m × (1 ≤ needed)
+  MayGive x m (part.Ended n specs) = IsBare x m × AreOutputs specs × (plants.tells → IsUnderWay (queue_kept x) m.id n)
+      × (plants.tells → AreSpooled (spools_at (plants.view x.plant) (plants.view x.plant).now) x.base.config.groups
+      (outputs_at_end (job_at (queue_kept x) n) specs)
+      (take (groups_for_end (queue_kept x) n specs) (held_by m.id (queue_kept x).owners)))
+  MayGive x m (part.Lost volume) = IsBare x m
