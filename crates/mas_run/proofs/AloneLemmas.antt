@@ -12,10 +12,10 @@ use Rattle.warm_start.specs.Starting.{Mark, IsFound, IsSeen, IsUnfit, NoneOrFail
 use Rattle.start_choice.specs.Usable.{HaveSize, IsUsable}
 use Rattle.mas_run.proofs.PassedLemmas.{by_going, passed_goes}
 use Rattle.mas_run.proofs.MuteLineLemmas.{same_dev}
-use Rattle.mas_types.specs.declared.answers.Status.TheVariants as status
-use Rattle.script_lang.specs.declared.types.Ask.TheVariants as ask
 use Rattle.mas_run.proofs.ComesLemmas.{Comes, comes, TakeoverCame}
 use Rattle.mas_run.proofs.BookLemmas.{left_keeps}
+use Rattle.mas_types.specs.declared.answers.Status.TheVariants as status
+use Rattle.script_lang.specs.declared.types.Ask.TheVariants as ask
 
 -- A SCRIPT that is read for a run that only formats has no steps: no line of a step may stand in it
 

@@ -1,9 +1,9 @@
 -- A line of a member at a scene that the value shows: what is known once it was tested, and what its member may do.
-use Rattle.mas_run.proofs.Names.{inl, inr, ◌≡◌, ℕ, zero, suc, ◌+◌, ◌-◌, true, List, [], ◌∷◌, set, slice_get, slice_set, Option, Some, None, Result, refl, sym, ◌∙◌, ap, subst, arith, ◌⊎◌, ◌<◌, ◌≤◌, ◌++◌, false, length, ◌&&◌, ◌||◌, Bool, if◌then◌else◌, All, is_some, append-nil, MemberId, Batch, Entry, Config, Queue, Book, IsMember, after_try, is_stopped, left_of, beginner, granted, is_dormant, is_holder, standing, ticked, try_refusal, wakes, after_stop, left_of as hold_left, runs_keep_configuration, PlantGhosts, Ghosts as CopyGhosts, SteadyGhosts, Complex, kept_all, in_flight, Parts, parts_of, Member, NodeNo, IsTested, Ask, Admission, admitted, tried, granted_by, Given, is_locked, Scene, HasLeftAs, LeftAt, LineDone, line_by, is_of_member, RenewsAs, AreMembers, IsFlight, IsMemberAt, IsShown, BetweenLines, IsMemberUp, IsBetween, is_left_held, LeftBetween, steps_most, members_most, admission_of, tested_as, earlier_kept, AreKeptFrom, AreEarlier, IsKeptBy, IsPlayed, Grant, Holder, level_most, levels_most, inside_since, tried_since, Since, stopped_now, stopped_since, then_since, get_or-set_same, All-weaker, is_somebody, nobody, units_most, LockNo, Standing, View, ViewLine as Line, page_count, HasStepKept, IsSeat, first_half, second_half, MayHold, IsQuiet, IsSeatedBy, MayGoOn, levels_for, ByLock, ForStep, Fresh, Task, Work, IsOfEarlier, console_now, OtherNotesStay, IsAtGate, IsOpen, MayTakeSeat, journal_of, Proceeds, journal_still, TellNone, untold_then, holder_of}
+use Rattle.mas_run.proofs.Names.{inl, inr, ◌≡◌, ℕ, zero, suc, ◌+◌, ◌-◌, true, List, [], ◌∷◌, set, slice_get, slice_set, Option, Some, None, Result, refl, sym, ◌∙◌, ap, subst, arith, ◌⊎◌, ◌<◌, ◌≤◌, ◌++◌, false, length, ◌&&◌, ◌||◌, Bool, if◌then◌else◌, All, is_some, append-nil, MemberId, Batch, Entry, Config, Book, IsMember, after_try, is_stopped, left_of, beginner, granted, is_dormant, is_holder, standing, ticked, try_refusal, wakes, after_stop, left_of as hold_left, runs_keep_configuration, PlantGhosts, Ghosts as CopyGhosts, SteadyGhosts, Complex, kept_all, in_flight, Parts, parts_of, Member, NodeNo, IsTested, Ask, Admission, admitted, tried, granted_by, Given, is_locked, Scene, HasLeftAs, LeftAt, LineDone, line_by, is_of_member, RenewsAs, AreMembers, IsMemberAt, BetweenLines, IsMemberUp, IsBetween, is_left_held, LeftBetween, steps_most, members_most, admission_of, tested_as, earlier_kept, AreKeptFrom, AreEarlier, IsKeptBy, IsPlayed, Grant, Holder, level_most, levels_most, inside_since, tried_since, Since, get_or-set_same, All-weaker, is_somebody, units_most, LockNo, Standing, View, ViewLine as Line, page_count, HasStepKept, IsSeat, first_half, second_half, MayHold, IsQuiet, IsSeatedBy, MayGoOn, levels_for, ByLock, ForStep, Fresh, Task, Work, IsOfEarlier, console_now, OtherNotesStay, IsAtGate, IsOpen, MayTakeSeat, journal_of, Proceeds, journal_still, TellNone, Armed, Counts, flown_of, queue_of, scene_as}
 use Rattle.member_lines.specs.declared.admissions.Admission.{Admission as Admitted}
 use Rattle.mas_run.proofs.KnownLemmas.{IsKnown, inside_of, known}
 use Rattle.mas_run.proofs.ComesLemmas.{HasGot, IsUpMember, holder_is, holder_keeps}
-use Rattle.mas_run.proofs.TurnedLemmas.{quiet_with, earlier_now, earlier_then, halted_between}
+use Rattle.mas_run.proofs.TurnedLemmas.{quiet_with, earlier_now, earlier_then, held_halted}
 use Rattle.lock_cycle.specs.declared.answers.LockNo.TheVariants as lock
 
 -- ITS MEMBER
@@ -17,39 +17,19 @@ module _ {P C : Type 0} (plants : PlantGhosts P) (copies : CopyGhosts C) (x : Pa
       subst (λ (k : ℕ). IsMemberAt plants copies x k m) number (subst (λ (k : Member). IsMemberAt plants copies x j k) same are.0)
   member_at (a ∷ ms) j (suc i) n m is are here = member_at ms (j + 1) i n m (omega (arith, is)) are.1 here
 
--- THE SCENE
+-- THE SCENE that a value shows: its queue has the configuration of its base
 
-unflown_by : (b : Book) (o : Option (List Entry)) (c : Option Batch) → IsFlight b o c → c ≡ None → o ≡ None
-unflown_by b None c is none = refl
-unflown_by b (Some es) c is none = absurd (some_none is.batch (sym is.is ∙ none)) where
-  some_none : (k : Batch) → Some k ≡ None → ⊥
-  some_none k e = absurd (cc)
+pub same_config : {P C : Type 0} (x : Parts P C) → (queue_of x).config ≡ x.base.config
+same_config x = (runs_keep_configuration x.base (kept_all x.batches)).config
 
-module _ {P C : Type 0} (plants : PlantGhosts P) (copies : CopyGhosts C) (told : Type 0) (S : Scene) (x : Parts P C) (shown : IsShown plants copies told S x) where
-  pub same_config : S.queue.config ≡ x.base.config
-  same_config = ap (λ (Q : Queue). Q.config) (sym shown.queue) ∙ (runs_keep_configuration x.base (kept_all x.batches)).config
-
-  pub admitted_here : (by : MemberId) (what : Ask) (a : Admission) → a ≡ admitted x.base.config x.book by what → admitted S.queue.config S.book by what ≡ a
-  admitted_here by what a is =
-      ap (λ (c : Config). admitted c S.book by what) same_config ∙ ap (λ (b : Book). admitted x.base.config b by what) (sym shown.book) ∙ sym is
-
-  pub none_flies : x.current ≡ None → S.flight ≡ None
-  none_flies none = unflown_by S.book S.flight x.current shown.flight none
-
-  pub tried_here : (by : MemberId) (a : Admission) (b : Book) → tried x.book by a ≡ b → tried S.book by a ≡ b
-  tried_here by a b is = ap (λ (c : Book). tried c by a) (sym shown.book) ∙ is
-
-  pub tested_here : (by : MemberId) (a : Admission) (b : Book) → tried x.book by a ≡ b → (is_locked a ≡ true → x.current ≡ None) → IsTested S by a b
-  tested_here by a b is none = record { book = tried_here by a b is; flight = λ locked. none_flies (none locked) }
+-- a line was tested at it that was tested on the value
+pub tested_here : {P C : Type 0} (x : Parts P C) (counts : Counts) (armed : List Armed) (by : MemberId) (a : Admission) (b : Book) → tried x.book by a ≡ b → (is_locked a ≡ true → x.current ≡ None) → IsTested (scene_as x counts armed) by a b
+tested_here x counts armed by a b is none = record { book = is; flight = λ locked. ap flown_of (none locked) }
 
 -- WHETHER CONTENT IS TOLD, of a plant that tells it
 
 abbrev pub IsTold : {P : Type 0} → PlantGhosts P → Type 0 → Type 0
 IsTold plants told = (told → ⊥) ⊎ (told × plants.tells)
-
-pub told_tells : {P : Type 0} (plants : PlantGhosts P) (told : Type 0) → IsTold plants told → told → plants.tells
-told_tells plants told (inl none) t = absurd (none t)
-told_tells plants told (inr known) t = known.1
 
 -- a line of its admission is a line
 pub left_so : {P C : Type 0} (plants : PlantGhosts P) (copies : CopyGhosts C) (told : Type 0) (S : Scene) (at : ℕ) (by : MemberId) (what : Ask) (a : Admission) (g : Given) (x y : Parts P C)
@@ -76,7 +56,7 @@ module _ {P C : Type 0} {plants : PlantGhosts P} {steadies : SteadyGhosts C} {co
     pub few : at ≤ steps_most
     pub below : x.level < level_most
     pub is : BetweenLines x ms at
-    pub adm : a ≡ admitted x.base.config x.book by what
+    pub adm : admitted (queue_of (parts_of x)).config x.book by what ≡ a
     pub known_so : IsKnown x.base is.config x.book by a
     pub frame : parts_of mid ≡ record (parts_of x) { book = tested_as x.book by a }
 
@@ -87,7 +67,7 @@ module _ {P C : Type 0} {plants : PlantGhosts P} {steadies : SteadyGhosts C} {co
     few = few;
     below = below;
     is = is;
-    adm = sym so ∙ adm;
+    adm = ap (λ (c : Config). admitted c x.book by what) (same_config (parts_of x)) ∙ sym adm ∙ so;
     known_so = subst (λ (b : Admission). IsKnown x.base is.config x.book by b) (sym adm ∙ so) (known x.base is.config x.book by what member played);
     frame = frame ∙ ap (λ (b : Admission). record (parts_of x) { book = tested_as x.book by b }) so;
   }
@@ -285,11 +265,6 @@ module _ {P C : Type 0} {plants : PlantGhosts P} {steadies : SteadyGhosts C} {co
   pub its_holder : (h : Holder) → h ≡ record { by = by; step = at; hold = hold_left mid.book by; grant = granted_by x.book by } → h ≡ turn_holder
   its_holder h same = same ∙ ap (λ (w : Parts P C). let g : Holder = record { by = by; step = at; hold = hold_left w.book by; grant = granted_by x.book by } in g) turn.frame
 
-  pub holder_here : (told : Type 0) (S : Scene) → IsShown plants copies told S p → (c : Admission) → tried x.book by c ≡ b → holder_of S by at c ≡ turn_holder
-  holder_here told S shown c is =
-      ap (λ (k : Book). let g : Holder = record { by = by; step = at; hold = hold_left k by; grant = granted_by S.book by } in g) (tried_here plants copies told S p shown by c b is)
-      ∙ ap (λ (k : Book). let g : Holder = record { by = by; step = at; hold = hold_left b by; grant = granted_by k by } in g) (sym shown.book)
-
   -- it may go on, and take its seat
   pub turn_goes : (task : Task) → IsFewTask task
       → MayGoOn plants copies (record p { book = b }) m (record { by = by; step = at; hold = hold_left b by; grant = granted_by x.book by }) (Fresh task)
@@ -328,21 +303,8 @@ module _ {P C : Type 0} {plants : PlantGhosts P} {steadies : SteadyGhosts C} {co
 
   -- IT WAS HALTED with the lock, and gave no batch
 
-  module _ (y : Complex P C plants steadies copies) (base : y.base ≡ x.base) (since : y.since ≡ x.since) (book : y.book ≡ after_stop b by) (journal : journal_of (parts_of y) ≡ journal_of p)
-      (goes : Proceeds (v p) (v (parts_of y))) (notes : OtherNotesStay by p.had (parts_of y).had) (n : Member) (id : n.id ≡ by)
-      (wrote : plants.tells → (ls : List Line) × (console_now (v (parts_of y)) ≡ console_now (v p) ++ ls) × TellNone at ls) where
-    mine : y.book.holder ≡ by
-    mine = ap (λ (c : Book). c.holder) book ∙ turn.got.holds
-
-    pub turn_halted : LeftBetween y (set ms (by.0 - 1) n) (at + 1)
-    turn_halted = let not_none : (c : Book) → c.holder ≡ by → c.holder ≡ nobody → ⊥ = λ c its free. let same = ap (λ (k : MemberId). k.0) (sym its ∙ free) in
-        let some = turn.inside.0 in
-        absurd (omega (arith, same, some)) in
-        halted_between p y base since (subst (λ (c : Book). Since x.book c) (sym book) (then_since x.book b (after_stop b by) turn_since (stopped_since b by turn_inside)))
-        by turn.inside.0 (subst (λ (c : Book). IsMember c by) (sym book) (inside_since b (after_stop b by) by (stopped_since b by turn_inside) turn_inside)) (inl mine)
-        (ap (λ (c : Book). is_stopped c by) book ∙ stopped_now b by turn_inside) goes (λ free. absurd (not_none y.book mine free)) notes n ms at turn.arm.few turn.arm.is id
-        (λ apart. absurd (apart mine))
-        (subst (λ (bs : List Batch). All (IsOfEarlier (at + 1)) bs) (sym (journal ∙ turn_still)) (earlier_then at p.batches turn_earlier))
-        (λ k later less small tells.
-        let w = wrote tells in
-        untold_then plants copies p (parts_of y) base since turn.arm.is.begun goes.past w.0 (λ o. w.1) k later (w.2 later less small) (turn.arm.is.untold k later (omega (arith, less)) small) tells)
+  pub turn_halted : (y : Complex P C plants steadies copies) → y.base ≡ x.base → y.since ≡ x.since → y.book ≡ after_stop b by → journal_of (parts_of y) ≡ journal_of p → Proceeds (v p) (v (parts_of y))
+      → OtherNotesStay by p.had (parts_of y).had → (n : Member) → n.id ≡ by → (plants.tells → (ls : List Line) × (console_now (v (parts_of y)) ≡ console_now (v p) ++ ls) × TellNone at ls) → LeftBetween y (set ms (by.0 - 1) n) (at + 1)
+  turn_halted y base since book journal goes notes n id wrote =
+      held_halted p y base since by turn.inside b turn_since turn.got.holds book goes notes n ms at turn.arm.few turn.arm.is id
+      (subst (λ (bs : List Batch). All (IsOfEarlier (at + 1)) bs) (sym (journal ∙ turn_still)) (earlier_then at p.batches turn_earlier)) wrote

@@ -1,17 +1,16 @@
 -- A line of a member, once the operator said that its member was stopped, if it was.
-use Rattle.mas_run.proofs.Names.{IsWhy, ◌≡◌, ℕ, ◌+◌, ◌≤◌, true, List, Result, Ok, Err, OnOk, sym, ◌∙◌, ap, subst, Bool, false, not, if◌then◌else◌, length, Option, None, refl, ◌≢◌, ◌++◌, arith, inr, zero, suc, ◌==◌, [], ◌∷◌, drop, map, take, Some, ⊎_elim, inl, ◌-◌, ◌*◌, ◌<◌, set, slice_get, MemberId, steps_most, wires_most, Book, IsMember, is_stopped, PlantGhosts, Ghosts as CopyGhosts, SteadyGhosts, Complex, Parts, parts_of, unreserved_in, Member, NodeNo, SaysStopped, ActsOnce, failed, Ask, Scene, Batched, count_then, flight_found, queue_found, with_count, CopiesKept, LeavesCopies, LeftAt, linesleft_left_at as left_at, HasLeft, IsCutBy, LinesLeftIsCutIn as IsCutIn, LeavesAt, seen_of, LineIsLeft, HasPlayedLine, is_of_member, line_by, BetweenLines, IsBetween, IsShown, IsFlight, LineDone, LineIsPlayed, Config, Queue, nobody, same_member, is_member, runs_keep_configuration, Step, kept_all, AreSettled, seated, Admission, Refused, admitted, asked, no_member, Plays, Resets, TakesOver, tried, left_by, none_left, Left, play_with, Given, ArePiecesOf, IsAskRight, queue_met, Cut, Ends, Halt, Sight, LineAt, admitted_at, played_at, pieces_as, pieces_at, Since, none_since, unlocked_book, play_stops, inside_since, admitted_since, line_since, Batch, Fate, View, ViewLine as Line, paper_now, taken_now, Rose, counts_of, Renewals, journal_of, queue_of, fate_found, Piece, Play, is_locked, piece_at, pieces_found, pieces_from, sayer_of, unless_told, settle, IfRuns, RenewsAs, Carries, HeardFirst, task_place, Dev, run, Console, Disk, OfFirst, AreBatched, AtCut, IsBroken, IsTight, whole_pieces, AreFoundIn, waits_in, named_in, rose_later, console_now, VolumesStay, holder_then, all_entries, Sitting, Holder, State, Deck, Give, Work, Line as Node, Said, scene_left, CutsAs, IfIdle, IsHonest, IsPassed, IsThere, IsUnsaid, IsWithin, LosesAs, cut_of, is_takeover, is_work, printed_at, taking, IsHonestAs, StaysAs, named_as, Proceeds, IsShapedAs, proceeds_of, proceeds_on, kept_on, nat_tests, same_member_is, StandsIn, journal_unreserved, IsLine, IsElsewhere, ReaderStaysFrom, MayBeAsked, OnConsole, Fresh, Task, AreReaders, HasRead, reader_place, Cause, HasCause, IsHaltBy, Stops, append_assoc, stopped_lines, stopped_said, no}
+use Rattle.mas_run.proofs.Names.{IsWhy, ◌≡◌, ℕ, ◌+◌, ◌≤◌, true, List, Result, Ok, Err, OnOk, sym, ◌∙◌, ap, subst, Bool, false, not, if◌then◌else◌, length, Option, None, refl, ◌≢◌, ◌++◌, arith, inr, zero, suc, ◌==◌, [], ◌∷◌, map, Some, ⊎_elim, inl, ◌-◌, ◌*◌, ◌<◌, set, slice_get, MemberId, steps_most, wires_most, Book, IsMember, is_stopped, PlantGhosts, Ghosts as CopyGhosts, SteadyGhosts, Complex, Parts, parts_of, unreserved_in, Member, NodeNo, SaysStopped, ActsOnce, failed, Ask, Scene, Batched, count_then, with_count, CopiesKept, LeavesCopies, LeftAt, linesleft_left_at as left_at, HasLeft, IsCutBy, LeavesAt, seen_of, LineIsLeft, HasPlayedLine, is_of_member, line_by, BetweenLines, IsBetween, IsShown, IsFlight, LineDone, LineIsPlayed, Config, Queue, nobody, same_member, is_member, runs_keep_configuration, Step, kept_all, AreSettled, seated, Admission, Refused, admitted, asked, no_member, Plays, Resets, TakesOver, left_by, none_left, play_with, Given, ArePiecesOf, Cut, Ends, Sight, LineAt, admitted_at, played_at, pieces_at, Since, none_since, unlocked_book, play_stops, inside_since, admitted_since, line_since, Batch, Fate, View, ViewLine as Line, paper_now, taken_now, Rose, counts_of, Renewals, journal_of, queue_of, fate_found, Piece, piece_at, pieces_from, unless_told, settle, IfRuns, RenewsAs, Carries, task_place, Dev, run, Console, Disk, AreBatched, AtCut, IsBroken, IsTight, rose_later, console_now, VolumesStay, holder_then, all_entries, Holder, State, Deck, Give, Work, Line as Node, Said, scene_left, CutsAs, IfIdle, IsPassed, IsUnsaid, IsWithin, LosesAs, cut_of, is_work, printed_at, IsHonestAs, StaysAs, named_as, Proceeds, IsShapedAs, proceeds_of, proceeds_on, kept_on, nat_tests, same_member_is, StandsIn, journal_unreserved, IsLine, IsElsewhere, ReaderStaysFrom, MayBeAsked, OnConsole, Fresh, Task, AreReaders, HasRead, reader_place, Cause, HasCause, IsHaltBy, Stops, append_assoc, stopped_lines, stopped_said, no, Entry, flown_of, scene_as}
 use Rattle.mas_run.proofs.CopiesLemmas.{said_copies, leaves_same, leaves_then}
 use Rattle.mas_run.proofs.MuteLineLemmas.{stopped_next}
 use Rattle.mas_run.proofs.ClosingLemmas.{not_lost}
-use Rattle.mas_run.proofs.LeftLemmas.{of_member, passed_here, act_after, loses_on, papers_on, shaped_as_later, finds_later, found_left, given_left, arms_same, batches_left, if_member, lines_left, loses_none, printed_here, printed_left, took, next_left, console_stays, stays_on, on_ok}
+use Rattle.mas_run.proofs.LeftLemmas.{of_member, passed_here, act_after, loses_on, papers_on, shaped_as_later, finds_later, arms_same, if_member, lines_left, printed_here, took, console_stays, stays_on, on_ok}
 use Rattle.mas_run.proofs.PassedLemmas.{renews_later, renews_caused, batched_within, kept_later, history_own}
 use Rattle.mas_run.proofs.WireLemmas.{carries_as, carries_later, readers_served, readers_still, set_still, ReadsLine, carries_still}
-use Rattle.mas_run.proofs.JournalLemmas.{flight_next, queue_then}
+use Rattle.mas_run.proofs.JournalLemmas.{flight_next, queue_then, flown_is}
 use Rattle.mas_run.proofs.ClosesLemmas.{scene_at, shown_at, if_ok}
-use Rattle.mas_run.proofs.ArmLemmas.{admitted_here, InArm}
+use Rattle.mas_run.proofs.ArmLemmas.{InArm}
 use Rattle.member_node.specs.declared.member.NodeNo.TheVariants as no_node
 use Rattle.mas_types.specs.declared.answers.Closing.TheVariants as closing
-use Rattle.script_lang.specs.declared.types.Ask.TheVariants as ask
 
 -- what stands between lines, of the journal and what is in flight
 pub record Stands {P C : Type 0} (plants : PlantGhosts P) (x : Parts P C) : Type 0 where
@@ -55,7 +54,7 @@ module _ {P C : Type 0} (plants : PlantGhosts P) (copies : CopyGhosts C) (told :
       was.stands now.stands was.settled ((next_view y).now, now.settled) l.scene.flight flown shown.queue
       (fate_found (admitted_at l) l.given.sight) left.own (left_at l).batches
       (history_own l.step.by (next_view x).now (next_view y).now (left_at l).batches left.own left.batches) left.journal in
-      subst (λ (S : Scene). IsShown plants copies told S y) (sym (next_left l member))
+      subst (λ (S : Scene). IsShown plants copies told S y) (sym (ap (λ p. p.next) (of_member l member).played))
       (record { queue = queue_now; book = book; flight = flight_now; counts = count_now })
 
 -- A MEMBER THAT WAS STOPPED in its line is stopped in the book, and no count is said of it
@@ -75,22 +74,7 @@ module _ {P C : Type 0} (plants : PlantGhosts P) (copies : CopyGhosts C) (told :
 left_since : (l : LineAt) → IsMember l.scene.book l.step.by → Since l.scene.book (left_at l).book
 left_since l inside = line_since l.step.by l.scene.book (admitted_at l) (play_with l.scene l.step.by (admitted_at l) l.given) (l.scene.counts l.step.by) l.given.sight.cut refl inside
 
--- THE LINE, cut there for another cause
-
-abbrev caused : Cause → Cut → Cut
-caused why cut = record cut { cause = why }
-
-abbrev caused_given : Cause → Cut → Given → Given
-caused_given why cut g = record g { sight = record g.sight { cut = Some (caused why cut) } }
-
-abbrev caused_line : Cause → Cut → LineAt → LineAt
-caused_line why cut l = record l { given = caused_given why cut l.given }
-
--- ITS PIECES are the same: where a line was cut tells nothing of what it found
-
-fate_same : (a : Admission) (s : Sight) (c : Option Cut) → fate_found a (record s { cut = c }) ≡ fate_found a s
-fate_same (TakesOver of) s c = refl
-fate_same _ s c = refl
+-- THE LINE, cut there for another cause: where it was cut tells nothing of what it found
 
 pieces_same : (n : ℕ) (s : Sight) (c : Option Cut) (count : ℕ) (Q : Queue) (h : Holder) (st : State)
     → pieces_from n (record s { cut = c }) count Q h st ≡ pieces_from n s count Q h st
@@ -101,97 +85,23 @@ pieces_same (suc more) s c count Q h st =
     ap (λ (ps : List Piece). p ∷ unless_told p.sitting.next ps)
     (pieces_same more s c (count_then h.by es count + length p.printed) (run Q es) (holder_then Q h es) p.sitting.next)
 
-right_same : (S : Scene) (by : MemberId) (at : ℕ) (why : Cause) (cut : Cut) (g : Given) (a : Admission) → ArePiecesOf S by at a g → ArePiecesOf S by at a (caused_given why cut g)
-right_same S by at why cut g (Plays task) is = is ∙ sym (pieces_same _ g.sight (Some (caused why cut)) (S.counts by) S.queue _ _)
-right_same S by at why cut g _ is = is
+right_same : (S : Scene) (by : MemberId) (at : ℕ) (s : Sight) (ps : List Piece) (c d : Option Cut) (a : Admission) → ArePiecesOf S by at a (record { sight = record s { cut = c }; pieces = ps }) → ArePiecesOf S by at a (record { sight = record s { cut = d }; pieces = ps })
+right_same S by at s ps c d (Plays task) is = is ∙ pieces_same _ s c (S.counts by) S.queue _ _ ∙ sym (pieces_same _ s d (S.counts by) S.queue _ _)
+right_same S by at s ps c d _ is = is
 
-ask_same : (S : Scene) (by : MemberId) (at : ℕ) (why : Cause) (cut : Cut) (g : Given) (what : Ask) → IsAskRight S by at g what → IsAskRight S by at (caused_given why cut g) what
-ask_same S by at why cut g ask.Stop is = tt
-ask_same S by at why cut g (ask.StopIn fuse n) is = tt
-ask_same S by at why cut g (ask.Lose dev) is = tt
-ask_same S by at why cut g another is = right_same S by at why cut g (admitted S.queue.config S.book by another) is
+module _ (S : Scene) (at : ℕ) (step : Step) (s : Sight) (ps : List Piece) (cut : Cut) where
+  abbrev caused : Cause → LineAt
+  caused why = record { scene = S; number = at; step = step; given = record { sight = record s { cut = Some (record cut { cause = why }) }; pieces = ps } }
 
-shaped_same : (why : Cause) (cut : Cut) (l : LineAt) (old new : View) (a : Admission) → IsShapedAs l old new a → IsShapedAs (caused_line why cut l) old new a
-shaped_same why cut l old new (Plays task) is = is
-shaped_same why cut l old new (Resets of) is = is
-shaped_same why cut l old new (TakesOver of) is = is
-shaped_same why cut l old new a is = right_same l.scene l.step.by l.number why cut l.given a is
+  shaped_same : (why other : Cause) (old new : View) (a : Admission) → IsShapedAs (caused why) old new a → IsShapedAs (caused other) old new a
+  shaped_same why other old new (Plays task) is = is
+  shaped_same why other old new (Resets of) is = is
+  shaped_same why other old new (TakesOver of) is = is
+  shaped_same why other old new a is = right_same S step.by at s ps (Some (record cut { cause = why })) (Some (record cut { cause = other })) a is
 
--- WHAT IT LEAVES is the same but for the book
-
--- a play by what was found of a batch in flight
-abbrev play_by : Scene → MemberId → Admission → List Piece → Fate → Play
-play_by S by a ps f = record {
-  sayer = sayer_of by a;
-  pieces = pieces_found (is_locked a) (flight_found f S.flight) ps;
-  book = tried S.book by a;
-  locked = is_locked a;
-  queue = queue_found f S.flight S.queue;
-  flight = flight_found f S.flight;
-}
-
-module _ (why : Cause) (cut : Cut) (l : LineAt) (is : l.given.sight.cut ≡ Some cut) where
-  abbrev m : LineAt
-  m = caused_line why cut l
-
-  fates : fate_found (admitted_at l) m.given.sight ≡ fate_found (admitted_at l) l.given.sight
-  fates = fate_same (admitted_at l) l.given.sight (Some (caused why cut))
-
-  plays : play_with l.scene l.step.by (admitted_at l) m.given ≡ play_with l.scene l.step.by (admitted_at l) l.given
-  plays = ap (play_by l.scene l.step.by (admitted_at l) l.given.pieces) fates
-
-  -- by its cut, and by what was found
-  abbrev left_so : Option Cut → Play → Left
-  left_so c play = left_by l.step.by c play (l.scene.counts l.step.by)
-
-  abbrev AreSame : Left → Left → Type 0
-  AreSame a b = (a.batches ≡ b.batches) × (a.lines ≡ b.lines) × (a.printed ≡ b.printed) × (a.given ≡ b.given)
-
-  same_left : AreSame (left_at m) (left_at l)
-  same_left =
-      subst (λ (p : Play). AreSame (left_so (Some (caused why cut)) p) (left_at l)) (sym plays)
-      (subst (λ (c : Option Cut). AreSame (left_so (Some (caused why cut)) (play_with l.scene l.step.by (admitted_at l) l.given)) (left_so c (play_with l.scene l.step.by (admitted_at l) l.given))) (sym is) (refl, refl, refl, refl))
-
-  -- of the sitting that was cut this is said as it was
-  at_cut : (P : Halt → Sitting → Type 0) → AtCut P l.given.sight.cut (pieces_at l) → AtCut P (Some (caused why cut)) (pieces_at m)
-  at_cut P here =
-      subst (λ (p : Play). OfFirst (P cut.halt) (drop cut.sittings p.pieces)) (sym plays)
-      (subst (λ (c : Option Cut). AtCut P c (pieces_at l)) is here)
-
-  idle_cut : (works : Bool) (P : Halt → Sitting → Type 0) → IfIdle works (AtCut P l.given.sight.cut (pieces_at l)) → IfIdle works (AtCut P (Some (caused why cut)) (pieces_at m))
-  idle_cut true P here = tt
-  idle_cut false P here = at_cut P here
-
-  -- and of what it found
-  module _ (member : is_of_member l.step.what ≡ true) (old new : View) where
-    honest_same : IsHonestAs l (admitted_at l) l.given.sight.cut old new → IsHonest m old new
-    honest_same honest = let found_so : Option Cut → Fate → Type 0 = λ c f. let ps = pieces_found (is_locked (admitted_at l)) (flight_found f l.scene.flight) l.given.pieces in
-        AreFoundIn l.scene.queue.config.groups l.step.by old new l.given.sight.finds
-        (waits_in (take (whole_pieces c ps) ps) (queue_found f l.scene.flight l.scene.queue)) in
-        subst (λ (c : Option Cut). found_so c (fate_found (admitted_at l) m.given.sight)) (sym ((of_member l member).cut (Some (caused why cut))))
-        (subst (found_so (Some cut)) (sym fates)
-        (subst (λ (c : Option Cut). found_so c (fate_found (admitted_at l) l.given.sight)) is honest))
-
-    stay_same : StaysAs l (admitted_at l) l.given.sight.cut old new → StaysAs m (admitted_at m) (cut_of m) old new
-    stay_same stay = let stay_so : Option Cut → Fate → Type 0 = λ c f. let ps = pieces_found (is_locked (admitted_at l)) (flight_found f l.scene.flight) l.given.pieces in
-        VolumesStay (named_in l.given.sight.finds (waits_in (take (whole_pieces c ps) ps) (queue_found f l.scene.flight l.scene.queue))) old new in
-        subst (λ (c : Option Cut). stay_so c (fate_found (admitted_at l) m.given.sight)) (sym ((of_member l member).cut (Some (caused why cut))))
-        (subst (stay_so (Some cut)) (sym fates)
-        (subst (λ (c : Option Cut). stay_so c (fate_found (admitted_at l) l.given.sight)) is stay))
-
-  -- and of the bytes that it gave and took
-  module _ (since : ℕ) (old new : View) where
-    carries_so : (a : Admission) (given : List ℕ) → Carries since l a given old new → Carries since m a given old new
-    carries_so (Plays (Node line)) given c = let heard_so : Option Cut → Admission → Type 0 = λ c a. let ps = pieces_as l a in
-        HeardFirst since l.step.by old new l.given.sight.finds (waits_in (take (whole_pieces c ps) ps) (queue_met l.scene a l.given.sight)) in
-        record {
-          gives = c.gives;
-          hears = subst (λ (k : Option Cut). heard_so k (Plays (Node line))) is c.hears;
-        }
-    carries_so _ given c = c
-
-    carries_same : Carries since l (admitted_at l) (left_at l).given old new → Carries since m (admitted_at l) (left_at m).given old new
-    carries_same c = subst (λ (bytes : List ℕ). Carries since m (admitted_at l) bytes old new) (sym same_left.3) (carries_so (admitted_at l) (left_at l).given c)
+  carries_same : (why other : Cause) (since : ℕ) (old new : View) (a : Admission) (given : List ℕ) → Carries since (caused why) a given old new → Carries since (caused other) a given old new
+  carries_same why other since old new (Plays (Node line)) given c = record { gives = c.gives; hears = c.hears }
+  carries_same why other since old new _ given c = c
 
 -- THE LINE once the operator said that its member was stopped, or the run ended as it couldn't
 
@@ -209,7 +119,7 @@ unsaid_why no_node.NoMemory old new halt acted = subst (λ (plant_of : View). pl
 unsaid_why _ old new halt acted = absurd acted
 
 cut_said : (r : Result (Unit {0}) NodeNo) (by : MemberId) (cut : Cut) (old mid new : View) → IsHaltBy no_node.Halted cut.halt → Rose (old.stops by.0) (new.stops by.0) → mid.halt ≡ mid.now → ActsOnce r mid new
-    → CutsAs r by (Some (caused (cause_said r) cut)) old new
+    → CutsAs r by (Some (record cut { cause = cause_said r })) old new
 cut_said (Ok done) by cut old mid new halt rose last acted = (refl, halt, rose, act_after mid new last acted)
 cut_said (Err e) by cut old mid new halt rose last acted = (refl, inr (record { why = halt; stopped = rose; unsaid = unsaid_why e mid new last acted }))
 
@@ -217,18 +127,9 @@ why_said : (r : Result (Unit {0}) NodeNo) (by : MemberId) (old new : View) → R
 why_said (Ok done) by old new rose = refl
 why_said (Err e) by old new rose = inr (refl, rose)
 
--- a line of some given ones, which found the same of a batch in flight; the very ones where the run goes on
-pub record PassedSo (told : Type 0) (reads : List ℕ → Option (List ℕ)) (l : LineAt) (own : List Batch) (old new : View) (r : Result (Unit {0}) NodeNo) : Type 0 where
-  pub given : Given
-  pub found : fate_found (admitted_at l) given.sight ≡ fate_found (admitted_at l) l.given.sight
-  pub passed : IsPassed told reads (record l { given = given }) own old new r
-  pub renews : (rs is : Renewals) (then_is : View) → RenewsAs (admitted_at l) l.given.sight.cut l.given.sight.renewed rs is old then_is → RenewsAs (admitted_at l) given.sight.cut given.sight.renewed rs is old then_is
-  pub carries : (since : ℕ) (then_is : View) → Carries since l (admitted_at l) (left_at l).given old then_is
-      → Carries since (record l { given = given }) (admitted_at l) (left_at (record l { given = given })).given old then_is
-  pub same : r ≡ Ok tt → given ≡ l.given
-
-module _ {P C : Type 0} {plants : PlantGhosts P} {steadies : SteadyGhosts C} {copies : CopyGhosts C} (told : Type 0) (tells : told → plants.tells) (l : LineAt) (x : Parts P C) (y z : Complex P C plants steadies copies)
-    (r : Result (Unit {0}) NodeNo) (member : is_of_member l.step.what ≡ true) (left : HasLeft plants copies told l x (parts_of y) (Err no_node.Halted)) (says : SaysStopped l.step.by l.number y z r) where
+module _ {P C : Type 0} {plants : PlantGhosts P} {steadies : SteadyGhosts C} {copies : CopyGhosts C} (told : Type 0) (tells : told → plants.tells) (S : Scene) (at : ℕ) (step : Step)
+    (member : is_of_member step.what ≡ true) (s : Sight) (ps : List Piece) (cut : Cut) (x : Parts P C) (y z : Complex P C plants steadies copies) (r : Result (Unit {0}) NodeNo)
+    (left : HasLeft plants copies told (caused S at step s ps cut Stops) x (parts_of y) (Err no_node.Halted)) (says : SaysStopped step.by at y z r) where
   abbrev old_seen : View
   old_seen = plants.view x.plant
 
@@ -238,76 +139,49 @@ module _ {P C : Type 0} {plants : PlantGhosts P} {steadies : SteadyGhosts C} {co
   abbrev new_seen : View
   new_seen = plants.view z.plant
 
-  module _ (cut : Cut) (is : l.given.sight.cut ≡ Some cut) where
-    abbrev why : Cause
-    why = cause_said r
+  abbrev l : LineAt
+  l = caused S at step s ps cut Stops
 
-    abbrev n : LineAt
-    n = caused_line why cut l
+  abbrev n : LineAt
+  n = caused S at step s ps cut (cause_said r)
 
-    here : IsCutIn no_node.Halted (pieces_at l) cut
-    here = subst (λ (c : Option Cut). IsCutBy {T = Unit {0}} (Err no_node.Halted) (pieces_at l) c) is left.cut
-
-    passed_cut : IsPassed told copies.reads n left.own old_seen new_seen r
-    passed_cut = let same = same_left why cut l is in
-        let printed_now : (k : ℕ) → printed_at l k ≡ printed_at n k = λ k. ap (λ (ls : List Line). if l.step.by.0 == k then ls else []) (printed_left l member ∙ sym same.2 ∙ sym (printed_left n member)) in
-        let more : List Line = map (λ (s : Said). s.line) (stopped_lines l.step.by l.number (Some why)) in
-        let lines_here : (left_at l).lines ++ more ≡ map (λ (s : Said). s.line) (played_at n).outcome.said = ap (λ (ls : List Line). ls ++ more) (sym same.1) ∙ sym (lines_left n member) in
-        let cut_here : Some (caused why cut) ≡ cut_of n = sym ((of_member l member).cut (Some (caused why cut))) in
-        let papers_same : told → (k : ℕ) → paper_now new_seen k ≡ paper_now mid_seen k = λ t k. says.acts.papers (tells t) new_seen.now says.acts.goes.later (let last : new_seen.now ≤ new_seen.now = omega arith in last) k in
-        let stops : (m : ℕ) → new_seen.stops m ≡ mid_seen.stops m = λ m. says.spares.stops m (inr refl) in
-        let rose : Rose (old_seen.stops l.step.by.0) (new_seen.stops l.step.by.0) = subst (λ (n : ℕ). Rose (old_seen.stops l.step.by.0) n) (sym (stops l.step.by.0)) (left.stopped refl) in
-        let after : Proceeds mid_seen new_seen = proceeds_of mid_seen new_seen says.acts.goes in record {
-          goes = proceeds_on old_seen mid_seen new_seen left.goes after;
-          stays = λ d other is. says.acts.goes.lost (Disk d) (left.stays d other is);
-          given = record {
-            shaped = ⊎_elim inl (λ s. inr (if_member l.step.what _ (shaped_same why cut l old_seen new_seen (admitted_at l) (shaped_as_later old_seen mid_seen new_seen after l (admitted_at l) s)))) left.shaped;
-            right = λ t. ask_same l.scene l.step.by l.number why cut l.given l.step.what ((of_member l member).right (left.right t));
-          };
-          honest = λ t. if_member l.step.what _ (honest_same why cut l is member old_seen new_seen (finds_later old_seen mid_seen new_seen after l.scene.queue.config.groups l.step.by l.given.sight.finds _ (left.honest t)));
-          stay = λ t. subst (λ (f : ℕ → Bool). VolumesStay f old_seen new_seen) (sym ((of_member n member).names (named_as n (admitted_at n) (cut_of n)))) (stay_same why cut l is member old_seen new_seen
-              (stays_on (named_as l (admitted_at l) l.given.sight.cut) old_seen mid_seen new_seen (left.stay t) (console_stays mid_seen new_seen says.acts)));
-          cut = subst (λ (c : Option Cut). CutsAs r l.step.by c old_seen new_seen) cut_here (cut_said r l.step.by cut old_seen mid_seen new_seen here.halt rose (left.spares.at_halt refl) says.acted);
-          within = subst (λ (c : Option Cut). IsWithin c (pieces_at n)) cut_here (subst (λ (p : Play). IsThere (caused why cut) p.pieces) (sym (plays why cut l is)) here.there);
-          why = no_node.Halted;
-          is_why = why_said r l.step.by old_seen new_seen rose;
-          tight = subst (λ (c : Option Cut). IfIdle (is_work (admitted_at l)) (AtCut (IsTight no_node.Halted) c (pieces_at n))) cut_here
-              (idle_cut why cut l is (is_work (admitted_at l)) (IsTight no_node.Halted) left.tight);
-          broke = λ t. subst (λ (c : Option Cut). AtCut (IsBroken no_node.Halted) c (pieces_at n)) cut_here (at_cut why cut l is (IsBroken no_node.Halted) (left.broke t));
-          spares = λ k other. stops k ∙ left.spares.stops k (inl other);
-          failed = λ so. rose_later (old_seen.faults Console) (mid_seen.faults Console) (new_seen.faults Console) (left.goes.faults Console) (subst (λ (k : Result (Unit {0}) NodeNo). HasCause k 0 mid_seen new_seen) so says.cause);
-          batches = subst (λ (bs : List Batched). AreBatched l.step.by old_seen.now new_seen.now bs left.own) (sym (batches_left n member ∙ same.0))
-              (batched_within l.step.by old_seen.now old_seen.now mid_seen.now new_seen.now (left_at l).batches left.own (omega arith) says.acts.goes.later left.batches);
-          console = λ t. says.console (tells t) ∙ ap (λ (ls : List Line). ls ++ stopped_said r l.step.by l.number) (left.console t)
-              ∙ append_assoc (console_now old_seen) (left_at l).lines (stopped_said r l.step.by l.number)
-              ∙ ap (λ (ls : List Line). console_now old_seen ++ ls) (ap (λ (ls : List Line). (left_at l).lines ++ ls) (stop_said r l.step.by l.number) ∙ lines_here);
-          paper = λ t k. papers_same t k ∙ printed_here plants copies told l x (parts_of y) member left k t ∙ ap (λ (ls : List Line). paper_now old_seen k ++ ls) (printed_now k);
-          dry = λ t none. papers_on old_seen mid_seen new_seen left.goes.later after (left.dry t none) (says.acts.papers (tells t));
-          loses = λ t. subst (λ (d : Option Dev). LosesAs copies.reads (took n) d old_seen new_seen) (sym (loses_none n member))
-              (subst (λ (f : Fate). LosesAs copies.reads (taking (is_takeover (admitted_at l)) f) None old_seen new_seen) (sym (fates why cut l is))
-              (λ d. loses_on copies.reads old_seen mid_seen new_seen says.acts.goes says.acts.loses (took l) d (left.loses t d)));
-          arms = λ k. says.acts.goes.arms k ∙ left.arms k ∙ sym (arms_same plants copies told l x (parts_of y) member left k);
-          volumes = λ t leaves. kept_later old_seen mid_seen new_seen left.goes.later after (left.volumes t ((of_member l member).leaves leaves))
-              (kept_on mid_seen new_seen (says.acts.others (tells t)));
-        }
-
-    given_same : r ≡ Ok tt → caused_given why cut l.given ≡ l.given
-    given_same ok =
-        let whole : Option Cut → Given = λ c. record l.given { sight = record l.given.sight { cut = c } } in
-        ap (λ (k : Result (Unit {0}) NodeNo). whole (Some (caused (cause_said k) cut))) ok ∙ ap (λ (k : Cause). whole (Some (caused k cut))) (sym here.cause) ∙ ap whole (sym is)
-
-  passed_so : PassedSo told copies.reads l left.own old_seen new_seen r
-  passed_so = by_cut l.given.sight.cut refl left.cut where
-    by_cut : (c : Option Cut) → l.given.sight.cut ≡ c → IsCutBy {T = Unit {0}} (Err no_node.Halted) (pieces_at l) c → PassedSo told copies.reads l left.own old_seen new_seen r
-    by_cut None is so = absurd so
-    by_cut (Some cut) is so = record {
-      given = caused_given (cause_said r) cut l.given;
-      found = fates (cause_said r) cut l is;
-      passed = passed_cut cut is;
-      renews = λ rs now mid k. renews_caused (admitted_at l) cut (cause_said r) l.given.sight.renewed rs now old_seen mid (subst (λ (c : Option Cut). RenewsAs (admitted_at l) c l.given.sight.renewed rs now old_seen mid) is k);
-      carries = λ since mid c. carries_same (cause_said r) cut l is since old_seen mid c;
-      same = given_same cut is;
-    }
+  passed_said : IsPassed told copies.reads n left.own old_seen new_seen r
+  passed_said = let printed_now : (k : ℕ) → printed_at l k ≡ printed_at n k = λ k. ap (λ (ls : List Line). if step.by.0 == k then ls else []) (ap (λ p. p.outcome.printed) (of_member l member).played ∙ sym (ap (λ p. p.outcome.printed) (of_member n member).played)) in
+      let lines_here : (left_at l).lines ++ map (λ (s : Said). s.line) (stopped_lines step.by at (Some (cause_said r))) ≡ map (λ (s : Said). s.line) (played_at n).outcome.said = sym (lines_left n member) in
+      let cut_here : Some (record cut { cause = cause_said r }) ≡ cut_of n = sym ((of_member n member).cut (Some (record cut { cause = cause_said r }))) in
+      let papers_same : told → (k : ℕ) → paper_now new_seen k ≡ paper_now mid_seen k = λ t k. says.acts.papers (tells t) new_seen.now says.acts.goes.later (let last : new_seen.now ≤ new_seen.now = omega arith in last) k in
+      let stops : (m : ℕ) → new_seen.stops m ≡ mid_seen.stops m = λ m. says.spares.stops m (inr refl) in
+      let rose : Rose (old_seen.stops step.by.0) (new_seen.stops step.by.0) = subst (λ (n : ℕ). Rose (old_seen.stops step.by.0) n) (sym (stops step.by.0)) (left.stopped refl) in
+      let after : Proceeds mid_seen new_seen = proceeds_of mid_seen new_seen says.acts.goes in record {
+        goes = proceeds_on old_seen mid_seen new_seen left.goes after;
+        stays = λ d other is. says.acts.goes.lost (Disk d) (left.stays d other is);
+        given = record {
+          shaped = ⊎_elim inl (λ shape. inr (if_member step.what _ (shaped_same S at step s ps cut Stops (cause_said r) old_seen new_seen (admitted_at l) (shaped_as_later old_seen mid_seen new_seen after l (admitted_at l) shape)))) left.shaped;
+          right = λ t. (of_member n member).right (right_same S step.by at s ps _ _ (admitted_at l) (left.right t));
+        };
+        honest = λ t. if_member step.what _ (subst (λ (c : Option Cut). IsHonestAs n (admitted_at n) c old_seen new_seen) cut_here (finds_later old_seen mid_seen new_seen after S.queue.config.groups step.by l.given.sight.finds _ (left.honest t)));
+        stay = λ t. subst (λ (f : ℕ → Bool). VolumesStay f old_seen new_seen) (sym ((of_member n member).names (named_as n (admitted_at n) (cut_of n)))) (subst (λ (c : Option Cut). StaysAs n (admitted_at n) c old_seen new_seen) cut_here
+            (stays_on (named_as l (admitted_at l) l.given.sight.cut) old_seen mid_seen new_seen (left.stay t) (console_stays mid_seen new_seen says.acts)));
+        cut = subst (λ (c : Option Cut). CutsAs r step.by c old_seen new_seen) cut_here (cut_said r step.by cut old_seen mid_seen new_seen left.cut.halt rose (left.spares.at_halt refl) says.acted);
+        within = subst (λ (c : Option Cut). IsWithin c (pieces_at n)) cut_here left.cut.there;
+        why = no_node.Halted;
+        is_why = why_said r step.by old_seen new_seen rose;
+        tight = subst (λ (c : Option Cut). IfIdle (is_work (admitted_at l)) (AtCut (IsTight no_node.Halted) c (pieces_at n))) cut_here left.tight;
+        broke = λ t. subst (λ (c : Option Cut). AtCut (IsBroken no_node.Halted) c (pieces_at n)) cut_here (left.broke t);
+        spares = λ k other. stops k ∙ left.spares.stops k (inl other);
+        failed = λ so. rose_later (old_seen.faults Console) (mid_seen.faults Console) (new_seen.faults Console) (left.goes.faults Console) (subst (λ (k : Result (Unit {0}) NodeNo). HasCause k 0 mid_seen new_seen) so says.cause);
+        batches = subst (λ (bs : List Batched). AreBatched step.by old_seen.now new_seen.now bs left.own) (sym (ap (λ p. p.outcome.batches) (of_member n member).played))
+            (batched_within step.by old_seen.now old_seen.now mid_seen.now new_seen.now (left_at l).batches left.own (omega arith) says.acts.goes.later left.batches);
+        console = λ t. says.console (tells t) ∙ ap (λ (ls : List Line). ls ++ stopped_said r step.by at) (left.console t)
+            ∙ append_assoc (console_now old_seen) (left_at l).lines (stopped_said r step.by at)
+            ∙ ap (λ (ls : List Line). console_now old_seen ++ ls) (ap (λ (ls : List Line). (left_at l).lines ++ ls) (stop_said r step.by at) ∙ lines_here);
+        paper = λ t k. papers_same t k ∙ printed_here plants copies told l x (parts_of y) member left k t ∙ ap (λ (ls : List Line). paper_now old_seen k ++ ls) (printed_now k);
+        dry = λ t none. papers_on old_seen mid_seen new_seen left.goes.later after (left.dry t none) (says.acts.papers (tells t));
+        loses = λ t. subst (λ (d : Option Dev). LosesAs copies.reads (took n) d old_seen new_seen) (sym (ap (λ p. p.outcome.loses) (of_member n member).played)) (λ d. loses_on copies.reads old_seen mid_seen new_seen says.acts.goes says.acts.loses (took l) d (left.loses t d));
+        arms = λ k. says.acts.goes.arms k ∙ left.arms k ∙ sym (arms_same plants copies told l x (parts_of y) member left k);
+        volumes = λ t leaves. kept_later old_seen mid_seen new_seen left.goes.later after (left.volumes t ((of_member l member).leaves leaves))
+            (kept_on mid_seen new_seen (says.acts.others (tells t)));
+      }
 
 module _ {P C : Type 0} (plants : PlantGhosts P) (copies : CopyGhosts C) (told : Type 0) (tells : told → plants.tells) (S : Scene) (at : ℕ) (step : Step)
     (member : is_of_member step.what ≡ true) (x y : Parts P C) (base : y.base ≡ x.base) (shown : IsShown plants copies told S x) (was : Stands plants x) where
@@ -332,9 +206,9 @@ module _ {P C : Type 0} (plants : PlantGhosts P) (copies : CopyGhosts C) (told :
           passed = passed;
           at = when;
           moment = moment;
-          batches = journal ∙ ap (λ (f : Fate). settle f when (journal_of x) ++ own) (sym (found_left l member));
+          batches = journal ∙ ap (λ (f : Fate). settle f when (journal_of x) ++ own) (sym (ap (λ p. p.outcome.found) (of_member l member).played));
           renews = renews;
-          wires = λ t. carries_as x.since l (admitted_at l) (left_at l).given (played_at l).outcome.given (v x) (v z) (sym (given_left l member)) (wires t);
+          wires = λ t. carries_as x.since l (admitted_at l) (left_at l).given (played_at l).outcome.given (v x) (v z) (sym (ap (λ p. p.outcome.given) (of_member l member).played)) (wires t);
         };
         shows = shows;
       }
@@ -361,6 +235,18 @@ done_since l seats uncut = by_member (is_member l.scene.queue.config l.step.by) 
       ∙ unlocked_book by (none_left by S.book (S.counts by)) (play_with S by (Refused nobody no_member) l.given).pieces in
       subst (λ (b : Book). Since l.scene.book b) (sym (none_book l none uncut)) (none_since l.scene.book)
   by_member true some = left_since l (seated l.scene.queue.config l.scene.book l.step.by seats some)
+
+-- AT A SCENE that a value shows
+
+module _ {P C : Type 0} {plants : PlantGhosts P} {steadies : SteadyGhosts C} {copies : CopyGhosts C} (told : Type 0) (at : ℕ) (step : Step) (x y : Complex P C plants steadies copies) (r : Result (Unit {0}) NodeNo) where
+  at_shown : LineIsLeft told at step x y r → (S : Scene) → IsShown plants copies told S (parts_of x) → LeftAt plants copies told S at step (parts_of x) (parts_of y) r
+  at_shown line S shown =
+      let p : Parts P C = parts_of x in
+      let scene_is : scene_as p S.counts S.armed ≡ S =
+      ap (λ (Q : Queue). let T : Scene = record S { queue = Q; book = p.book; flight = flown_of p.current } in T) shown.queue ∙ ap (λ (b : Book). let T : Scene = record S { book = b; flight = flown_of p.current } in T) shown.book
+      ∙ ap (λ (f : Option (List Entry)). let T : Scene = record S { flight = f } in T) (flown_is S.book S.flight p.current shown.flight) in
+      subst (λ (T : Scene). LeftAt plants copies told T at step p (parts_of y) r) scene_is
+      (line S.counts S.armed (λ t m up. shown.counts t m (subst (λ (b : Book). is_stopped b m ≡ false) shown.book up)))
 
 -- BETWEEN TWO LINES
 
@@ -412,21 +298,33 @@ module _ {P C : Type 0} {plants : PlantGhosts P} {steadies : SteadyGhosts C} {co
     counts = λ t m up. ap (λ (w : Parts P C). counts_of w.printed m) frame ∙ is.counts t m up;
   }
 
-  asked_halted : HasPlayedLine plants copies told S at step x (parts_of z) r
-  asked_halted =
-      let left = at_left.left in
-      let l : LineAt = line_at at_left.given in
-      let so : PassedSo told copies.reads l left.own (plants.view x.plant) (plants.view z.plant) r = passed_so told tells l x mid z r member left says in
-      let a : Admission = admitted S.queue.config S.book step.by step.what in
+  -- it was cut so, by which its member was stopped
+  halted_so : (s : Sight) (ps : List Piece) (cut : Cut) → (left : HasLeft plants copies told (caused S at step s ps cut Stops) x y (Err no_node.Halted))
+      → RenewsAs (admitted S.queue.config S.book step.by step.what) (Some (record cut { cause = Stops })) s.renewed x.renewals y.renewals (plants.view x.plant) (plants.view y.plant) → HasPlayedLine plants copies told S at step x (parts_of z) r
+  halted_so s ps cut left renews =
+      let l : LineAt = caused S at step s ps cut Stops in
+      let n : LineAt = caused S at step s ps cut (cause_said r) in
       let later : (plants.view mid.plant).now ≤ (plants.view z.plant).now = says.acts.goes.later in
-      one_played plants copies told tells S at step member x y base shown was (parts_of z) so.given left.own left.at r so.passed (left.moment.0, let before = left.moment.1 in omega (arith, later, before))
-      (ap journal_of frame ∙ left.journal ∙ ap (λ (f : Fate). settle f left.at (journal_of x) ++ left.own) (sym so.found))
-      (subst (λ (rs : Renewals). RenewsAs a so.given.sight.cut so.given.sight.renewed x.renewals rs (plants.view x.plant) (plants.view z.plant)) (sym (ap (λ (w : Parts P C). w.renewals) frame))
-      (renews_later a so.given.sight.cut so.given.sight.renewed x.renewals y.renewals (plants.view x.plant) (plants.view mid.plant) (plants.view z.plant) later (so.renews x.renewals y.renewals (plants.view mid.plant) at_left.renews)))
-      (λ t. carries_later x.since (line_at so.given) (admitted_at l) (left_at (line_at so.given)).given (plants.view x.plant) (plants.view mid.plant) (plants.view z.plant) (says.acts.wires (tells t))
-      (so.carries x.since (plants.view mid.plant) (left.wires t)))
-      (if_ok r _ (λ ok. subst (λ (g : Given). IsShown plants copies told (played_at (line_at g)).next (parts_of z)) (sym (so.same ok))
+      one_played plants copies told tells S at step member x y base shown was (parts_of z) n.given left.own left.at r (passed_said told tells S at step member s ps cut x mid z r left says)
+      (left.moment.0, let before = left.moment.1 in omega (arith, later, before)) (ap journal_of frame ∙ left.journal)
+      (subst (λ (rs : Renewals). RenewsAs (admitted_at n) n.given.sight.cut s.renewed x.renewals rs (plants.view x.plant) (plants.view z.plant)) (sym (ap (λ (w : Parts P C). w.renewals) frame))
+      (renews_later (admitted_at n) n.given.sight.cut s.renewed x.renewals y.renewals (plants.view x.plant) (plants.view mid.plant) (plants.view z.plant) later
+      (renews_caused (admitted_at n) (record cut { cause = Stops }) (cause_said r) s.renewed x.renewals y.renewals (plants.view x.plant) (plants.view mid.plant) renews)))
+      (λ t. carries_later x.since n (admitted_at n) (left_at n).given (plants.view x.plant) (plants.view mid.plant) (plants.view z.plant) (says.acts.wires (tells t))
+      (carries_same S at step s ps cut Stops (cause_said r) x.since (plants.view x.plant) (plants.view mid.plant) (admitted_at n) (left_at n).given (left.wires t)))
+      (if_ok r _ (λ ok. subst (λ (k : Result (Unit {0}) NodeNo). IsShown plants copies told (played_at (caused S at step s ps cut (cause_said k))).next (parts_of z)) (sym ok)
       (shown_said (played_at l).next (shown_next plants copies told l x y member left base was now shown left.book (left_since l inside) (stopped_count plants copies told l x y left inside)))))
+
+  asked_halted : HasPlayedLine plants copies told S at step x (parts_of z) r
+  asked_halted = by_cut at_left.given.sight.cut refl at_left.left.cut where
+    by_cut : (c : Option Cut) → at_left.given.sight.cut ≡ c → IsCutBy {T = Unit {0}} (Err no_node.Halted) (pieces_at (line_at at_left.given)) c → HasPlayedLine plants copies told S at step x (parts_of z) r
+    by_cut None is so = absurd so
+    by_cut (Some cut) is so =
+        let g : Given = at_left.given in
+        let there : g.sight.cut ≡ Some (record cut { cause = Stops }) = is ∙ ap (λ (why : Cause). Some (record cut { cause = why })) so.cause in
+        halted_so g.sight g.pieces cut
+        (subst (λ (c : Option Cut). HasLeft plants copies told (line_at (record g { sight = record g.sight { cut = c } })) x y (Err no_node.Halted)) there at_left.left)
+        (subst (λ (c : Option Cut). RenewsAs (admitted S.queue.config S.book step.by step.what) c g.sight.renewed x.renewals y.renewals (plants.view x.plant) (plants.view y.plant)) there at_left.renews)
 
 module _ {P C : Type 0} {plants : PlantGhosts P} {steadies : SteadyGhosts C} {copies : CopyGhosts C} (x y : Complex P C plants steadies copies) (ms ns : List Member)
     (at : ℕ) (by : MemberId) (what : Ask) (member : is_of_member what ≡ true) (is : BetweenLines x ms at) where
@@ -439,8 +337,8 @@ module _ {P C : Type 0} {plants : PlantGhosts P} {steadies : SteadyGhosts C} {co
   played_line r other done = record {
     base = done.base;
     since = done.since;
-    bare = λ S shown. played_as ⊥ (λ t. absurd t) S shown (done.bare S shown);
-    told = λ tells S shown. played_as (Unit {0}) (λ t. tells) S shown (done.told tells S shown);
+    bare = λ S shown. played_as ⊥ (λ t. absurd t) S shown (at_shown ⊥ at (line_by by what) x y r done.bare S shown);
+    told = λ tells S shown. played_as (Unit {0}) (λ t. tells) S shown (at_shown (Unit {0}) at (line_by by what) x y r (done.told tells) S shown);
     kept = done.copies_kept;
     next = done.next;
   } where
@@ -481,8 +379,8 @@ module _ {P C : Type 0} {plants : PlantGhosts P} {steadies : SteadyGhosts C} {co
     stopped_line few = record {
       base = ap (λ (w : Parts P C). w.base) frame_z ∙ base_mid;
       since = ap (λ (w : Parts P C). w.since) frame_z ∙ ap (λ (w : Parts P C). w.since) frame ∙ done.since;
-      bare = λ S shown. stopped_as ⊥ (λ t. absurd t) S shown (done.bare S shown);
-      told = λ tells S shown. stopped_as (Unit {0}) (λ t. tells) S shown (done.told tells S shown);
+      bare = λ S shown. stopped_as ⊥ (λ t. absurd t) S shown (at_shown ⊥ at (line_by by what) x y (failed no_node.Halted) done.bare S shown);
+      told = λ tells S shown. stopped_as (Unit {0}) (λ t. tells) S shown (at_shown (Unit {0}) at (line_by by what) x y (failed no_node.Halted) (done.told tells) S shown);
       kept = stopped_copies;
       next = if_ok r _ (λ e. stopped_next by at mid z r frame_z says ns few between_mid);
     }
@@ -532,7 +430,7 @@ module _ {P C : Type 0} {plants : PlantGhosts P} {steadies : SteadyGhosts C} {co
   At k = LeftAt plants copies (Unit {0}) S at (line_by by what) (parts_of x) q k
 
   left : plants.tells → At r
-  left t = told t S shown
+  left t = told t (counts_of (parts_of x).printed) [] (λ o m up. refl)
 
   abbrev line : Given → LineAt
   line g = record { scene = S; number = at; step = line_by by what; given = g }
@@ -555,26 +453,23 @@ module _ {P C : Type 0} {plants : PlantGhosts P} {steadies : SteadyGhosts C} {co
         let play = play_with S by (admitted_at (line a.given)) a.given in
         play_stops by play (S.counts by) (inside_since x.book play.book by (admitted_since by (admitted_at (line a.given)) x.book seat) seat) a.given.sight.cut c cut so.cause
 
-  same_admission : admitted S.queue.config S.book by what ≡ admitted x.base.config x.book by what
-  same_admission = admitted_here plants copies (Unit {0}) S (parts_of x) shown by what (admitted x.base.config x.book by what) refl
-
   -- A LINE THAT SERVES NONE
 
-  heard_still : ((n : ℕ) → admitted x.base.config x.book by what ≢ Plays (Node n)) → IfRuns r (AreReaders plants q rs)
+  heard_still : ((n : ℕ) → admitted S.queue.config x.book by what ≢ Plays (Node n)) → IfRuns r (AreReaders plants q rs)
   heard_still other =
       runs_then r plants.tells (Since x.book y.book) (AreReaders plants q rs) (λ t. since_by r (left t) inside)
       (λ later. readers_still plants (parts_of x) q base since is.booked rs read past (λ t. (later t).up)
       (λ t. carries_still x.since (line (left t).given) (admitted_at (line (left t).given)) (left_at (line (left t).given)).given (plants.view (parts_of x).plant) (plants.view q.plant)
-      (λ n same. other n (sym same_admission ∙ same)) ((left t).left.wires tt)))
+      other ((left t).left.wires tt)))
 
   -- A TASK
 
-  module _ (task : Task) (adm : Plays task ≡ admitted x.base.config x.book by what) (its : is_member x.base.config by ≡ true) (on : IsOnLine task) (was now : Option (List ℕ))
+  module _ (task : Task) (adm : admitted S.queue.config x.book by what ≡ Plays task) (its : is_member x.base.config by ≡ true) (on : IsOnLine task) (was now : Option (List ℕ))
       (here : slice_get rs (task_place (by.0 - 1) task) ≡ Some was) (stays : ReaderStaysFrom (Fresh task) was now)
       (heard : plants.tells → r ≡ went → (n : ℕ) → task ≡ Node n → HasRead (((plants.view (parts_of x).plant).world x.since).taken n by.0) (taken_now (plants.view (parts_of x).plant) n by.0) (Some was)
       → HasRead (((plants.view (parts_of x).plant).world x.since).taken n by.0) (taken_now (plants.view q.plant) n by.0) (Some now)) where
-    none_node : (t : Task) → Plays t ≡ admitted x.base.config x.book by what → ((n : ℕ) → t ≢ Node n) → (n : ℕ) → admitted x.base.config x.book by what ≢ Plays (Node n)
-    none_node t is_so other n same = other n (task_same t (Node n) (is_so ∙ same)) where
+    none_node : (t : Task) → admitted S.queue.config x.book by what ≡ Plays t → ((n : ℕ) → t ≢ Node n) → (n : ℕ) → admitted S.queue.config x.book by what ≢ Plays (Node n)
+    none_node t is_so other n same = other n (task_same t (Node n) (sym is_so ∙ same)) where
       task_same : (a b : Task) → Plays a ≡ Plays b → a ≡ b
       task_same a b e = cc
 
@@ -598,7 +493,7 @@ module _ {P C : Type 0} {plants : PlantGhosts P} {steadies : SteadyGhosts C} {co
     elsewhere : (n : ℕ) → task ≡ Node n → plants.tells → (w m : ℕ) → IsElsewhere (Some n) by w m → taken_now (plants.view q.plant) w m ≡ taken_now (plants.view (parts_of x).plant) w m
     elsewhere n same t =
         let l = line (left t).given in
-        let serves : admitted_at l ≡ Plays (Node n) = same_admission ∙ sym adm ∙ ap (λ (k : Task). Plays k) same in
+        let serves : admitted_at l ≡ Plays (Node n) = adm ∙ ap (λ (k : Task). Plays k) same in
         let carries : Carries x.since l (Plays (Node n)) (left_at l).given (plants.view (parts_of x).plant) (plants.view q.plant) =
         subst (λ (a : Admission). Carries x.since l a (left_at l).given (plants.view (parts_of x).plant) (plants.view q.plant)) serves ((left t).left.wires tt) in
         carries.gives.else_taken
@@ -612,11 +507,9 @@ module _ {P C : Type 0} {plants : PlantGhosts P} {steadies : SteadyGhosts C} {co
     heard_task = by_task task refl where
       plainly : (t : Task) → task ≡ t → ((n : ℕ) → t ≢ Node n) → now ≡ was → IfRuns r (AreReaders plants q (set rs (task_place (by.0 - 1) t) now))
       plainly t same other still =
-          let plain : (t : Task) → Plays t ≡ admitted x.base.config x.book by what → ((n : ℕ) → t ≢ Node n) → slice_get rs (task_place (by.0 - 1) t) ≡ Some was → now ≡ was → IfRuns r (AreReaders plants q (set rs (task_place (by.0 - 1) t) now)) =
-          λ t is_so other there same. if_runs r (AreReaders plants q rs) (AreReaders plants q (set rs (task_place (by.0 - 1) t) now))
-          (λ are. subst (λ (k : List (Option (List ℕ))). AreReaders plants q k) (sym (set_still rs (task_place (by.0 - 1) t) was now there same)) are)
-          (heard_still (none_node t is_so other)) in
-          plain t (ap (λ (k : Task). Plays k) (sym same) ∙ adm) other (subst (λ (k : Task). slice_get rs (task_place (by.0 - 1) k) ≡ Some was) same here) still
+          if_runs r (AreReaders plants q rs) (AreReaders plants q (set rs (task_place (by.0 - 1) t) now))
+          (λ are. subst (λ (k : List (Option (List ℕ))). AreReaders plants q k) (sym (set_still rs (task_place (by.0 - 1) t) was now (subst (λ (k : Task). slice_get rs (task_place (by.0 - 1) k) ≡ Some was) same here) still)) are)
+          (heard_still (none_node t (adm ∙ ap (λ (k : Task). Plays k) same) other))
 
       by_task : (t : Task) → task ≡ t → IfRuns r (AreReaders plants q (set rs (task_place (by.0 - 1) t) now))
       by_task (Node n) same = served n same
@@ -630,7 +523,7 @@ module _ {P C : Type 0} {plants : PlantGhosts P} {steadies : SteadyGhosts C} {co
     (w : InArm x mid ms at by what a) {y : Complex P C plants steadies copies} {ns : List Member} {r : Result (Unit {0}) NodeNo} (done : LineDone x y ns at by what r)
     (rs : List (Option (List ℕ))) (read : AreReaders plants (parts_of x) rs) where
   pub still_done : ((n : ℕ) → a ≢ Plays (Node n)) → IfRuns r (AreReaders plants (parts_of y) rs)
-  still_done other = heard_still x y ms at by what w.is done.base done.since r done.told done.seated rs read (λ n same. other n (w.adm ∙ same))
+  still_done other = heard_still x y ms at by what w.is done.base done.since r done.told done.seated rs read (λ n same. other n (sym w.adm ∙ same))
 
 -- the reader of a task's line has read what its member took
 pub reads_line : {P C : Type 0} (plants : PlantGhosts P) (x : Parts P C) (by : MemberId) (rs : List (Option (List ℕ))) → AreReaders plants x rs → is_member x.base.config by ≡ true → is_stopped x.book by ≡ false

@@ -93,15 +93,13 @@ module _ (per : ℕ) (by : MemberId) (old new : View) (volumes : (n : ℕ) → R
 
 -- THE SITTINGS are the same in so many pieces, and in the one after them
 
-abbrev Alike : ℕ → List Piece → List Piece → Type 0
-Alike n [] [] = Unit {0}
-Alike n [] (q ∷ qs) = ⊥
-Alike n (p ∷ ps) [] = ⊥
-Alike zero (p ∷ ps) (q ∷ qs) = p.sitting ≡ q.sitting
-Alike (suc n) (p ∷ ps) (q ∷ qs) = (p.sitting ≡ q.sitting) × Alike n ps qs
+data Alike : ℕ → List Piece → List Piece → Type 0 where
+  NoPieces : {n : ℕ} → Alike n [] []
+  LastPiece : (p q : Piece) (ps qs : List Piece) → p.sitting ≡ q.sitting → Alike zero (p ∷ ps) (q ∷ qs)
+  MorePieces : {n : ℕ} (p q : Piece) (ps qs : List Piece) → p.sitting ≡ q.sitting → Alike n ps qs → Alike (suc n) (p ∷ ps) (q ∷ qs)
 
 unless_alike : (n : ℕ) (s : State) (ps qs : List Piece) → (s ≢ Told → Alike n ps qs) → Alike n (unless_told s ps) (unless_told s qs)
-unless_alike n Told ps qs alike = tt
+unless_alike n Told ps qs alike = NoPieces
 unless_alike n _ ps qs alike = alike (λ e. absurd (cc))
 
 unless_same : (s : State) (ps : List Piece) → s ≢ Told → unless_told s ps ≡ ps
@@ -114,23 +112,22 @@ module _ (sight : Sight) where
 
   from_alike : (more n count count' : ℕ) (Q : Queue) (h : Holder) (s : State) → sit Q h s (sight.finds Q s) ≡ sit Q h s (calm_but sight.finds Q s)
       → All IsCalm (waits_in (take n (pieces_from more sight count Q h s)) Q) → Alike n (pieces_from more sight count Q h s) (pieces_from more (calmed sight) count' Q h s)
-  from_alike zero n count count' Q h s same calms = tt
-  from_alike (suc more) zero count count' Q h s same calms = same
+  from_alike zero n count count' Q h s same calms = NoPieces
+  from_alike (suc more) zero count count' Q h s same calms = LastPiece _ _ _ _ same
   from_alike (suc more) (suc n) count count' Q h s same calms =
       let p = piece_at sight count Q h s in
       let t = p.sitting in
       let Q' = run Q (all_entries t.batches) in
       let w : Wait = record { queue = Q'; state = t.next } in
       let rest = pieces_from more sight (count_then h.by (all_entries t.batches) count + length p.printed) Q' (holder_then Q h (all_entries t.batches)) t.next in
-      let q = piece_at (calmed sight) count' Q h s in (
-        same,
-        subst (λ (u : Sitting). Alike n (unless_told t.next rest)
-            (unless_told u.next (pieces_from more (calmed sight) (count_then h.by (all_entries u.batches) count' + length q.printed) (run Q (all_entries u.batches)) (holder_then Q h (all_entries u.batches)) u.next)))
-            same
-            (unless_alike n t.next rest _ (λ untold. from_alike more n _ _ Q' (holder_then Q h (all_entries t.batches)) t.next
-            (ap (λ (f : Found). sit Q' (holder_then Q h (all_entries t.batches)) t.next f) (All-head IsCalm w (waits_in (take n (unless_told t.next rest)) Q') calms))
-            (subst (λ (ps : List Piece). All IsCalm (waits_in (take n ps) Q')) (unless_same t.next rest untold) (All-tail IsCalm w (waits_in (take n (unless_told t.next rest)) Q') calms)))),
-      )
+      let q = piece_at (calmed sight) count' Q h s in
+      MorePieces p q _ _ same
+      (subst (λ (u : Sitting). Alike n (unless_told t.next rest)
+      (unless_told u.next (pieces_from more (calmed sight) (count_then h.by (all_entries u.batches) count' + length q.printed) (run Q (all_entries u.batches)) (holder_then Q h (all_entries u.batches)) u.next)))
+      same
+      (unless_alike n t.next rest _ (λ untold. from_alike more n _ _ Q' (holder_then Q h (all_entries t.batches)) t.next
+      (ap (λ (f : Found). sit Q' (holder_then Q h (all_entries t.batches)) t.next f) (All-head IsCalm w (waits_in (take n (unless_told t.next rest)) Q') calms))
+      (subst (λ (ps : List Piece). All IsCalm (waits_in (take n ps) Q')) (unless_same t.next rest untold) (All-tail IsCalm w (waits_in (take n (unless_told t.next rest)) Q') calms)))))
 
 -- WHAT IS LEFT, but what was printed
 
@@ -142,12 +139,10 @@ module _ (by : MemberId) (locked : Bool) where
   one_bare l m p q e same =
       ap (λ (k : Left). bare (adds by locked k (piece_of p.sitting false []))) e ∙ ap (λ (t : Sitting). bare (adds by locked (bare m) (piece_of t false []))) same
 
-  all_bare : (n : ℕ) (ps qs : List Piece) → length ps ≤ n → Alike n ps qs → (l m : Left) → bare l ≡ bare m → bare (adds_all by locked l ps) ≡ bare (adds_all by locked m qs)
-  all_bare n [] [] few alike l m e = e
-  all_bare n [] (q ∷ qs) few alike l m e = absurd alike
-  all_bare n (p ∷ ps) [] few alike l m e = absurd alike
-  all_bare zero (p ∷ ps) (q ∷ qs) few alike l m e = absurd (omega (arith, few))
-  all_bare (suc n) (p ∷ ps) (q ∷ qs) few alike l m e = all_bare n ps qs (omega (arith, few)) alike.1 (adds by locked l p) (adds by locked m q) (one_bare l m p q e alike.0)
+  all_bare : {n : ℕ} {ps qs : List Piece} → Alike n ps qs → length ps ≤ n → (l m : Left) → bare l ≡ bare m → bare (adds_all by locked l ps) ≡ bare (adds_all by locked m qs)
+  all_bare NoPieces few l m e = e
+  all_bare (LastPiece p q ps qs same) few l m e = absurd (omega (arith, few))
+  all_bare (MorePieces p q ps qs same more) few l m e = all_bare more (omega (arith, few)) (adds by locked l p) (adds by locked m q) (one_bare l m p q e same)
 
   part_bare : (halt : Halt) (l m : Left) (p q : Piece) → bare l ≡ bare m → p.sitting ≡ q.sitting → bare (adds_part by locked halt l p) ≡ bare (adds_part by locked halt m q)
   part_bare (Writing n b) l m p q e same =
@@ -155,33 +150,31 @@ module _ (by : MemberId) (locked : Bool) where
   part_bare another l m p q e same =
       ap (λ (k : Left). bare (adds_part by locked another k (piece_of p.sitting false []))) e ∙ ap (λ (t : Sitting). bare (adds_part by locked another (bare m) (piece_of t false []))) same
 
-  first_bare : (halt : Halt) (n : ℕ) (ps qs : List Piece) → Alike n ps qs → (l m : Left) → bare l ≡ bare m
+  first_bare : (halt : Halt) {n : ℕ} {ps qs : List Piece} → Alike n ps qs → (l m : Left) → bare l ≡ bare m
       → bare (adds_first by locked halt (adds_all by locked l (take n ps)) (drop n ps)) ≡ bare (adds_first by locked halt (adds_all by locked m (take n qs)) (drop n qs))
-  first_bare halt zero [] [] alike l m e = e
-  first_bare halt zero [] (q ∷ qs) alike l m e = absurd alike
-  first_bare halt zero (p ∷ ps) [] alike l m e = absurd alike
-  first_bare halt zero (p ∷ ps) (q ∷ qs) alike l m e = part_bare halt l m p q e alike
-  first_bare halt (suc n) [] [] alike l m e = e
-  first_bare halt (suc n) [] (q ∷ qs) alike l m e = absurd alike
-  first_bare halt (suc n) (p ∷ ps) [] alike l m e = absurd alike
-  first_bare halt (suc n) (p ∷ ps) (q ∷ qs) alike l m e = first_bare halt n ps qs alike.1 (adds by locked l p) (adds by locked m q) (one_bare l m p q e alike.0)
+  first_bare halt {n} NoPieces l m e = none n where
+    none : (k : ℕ) → bare (adds_first by locked halt (adds_all by locked l (take k [])) (drop k [])) ≡ bare (adds_first by locked halt (adds_all by locked m (take k [])) (drop k []))
+    none zero = e
+    none (suc k) = e
+  first_bare halt (LastPiece p q ps qs same) l m e = part_bare halt l m p q e same
+  first_bare halt (MorePieces p q ps qs same more) l m e = first_bare halt more (adds by locked l p) (adds by locked m q) (one_bare l m p q e same)
 
   -- a line's pieces, whole or cut
   left_bare : (cut : Option Cut) (play rest : Play) (count count' : ℕ) → play.locked ≡ locked → rest.locked ≡ locked → rest.book ≡ play.book
       → Alike (whole_pieces cut play.pieces) play.pieces rest.pieces → bare (left_by by cut play count) ≡ bare (left_by by cut rest count')
   left_bare None play rest count count' here there book alike =
       ap (λ (k : Bool). bare (adds_all by k (none_left by play.book count) play.pieces)) here
-      ∙ all_bare (length play.pieces) play.pieces rest.pieces (omega arith) alike (none_left by play.book count) (none_left by rest.book count') (ap (λ b. bare (none_left by b 0)) (sym book))
+      ∙ all_bare alike (omega arith) (none_left by play.book count) (none_left by rest.book count') (ap (λ b. bare (none_left by b 0)) (sym book))
       ∙ sym (ap (λ (k : Bool). bare (adds_all by k (none_left by rest.book count') rest.pieces)) there)
   left_bare (Some cut) play rest count count' here there book alike =
       ap (λ (k : Bool). bare (cut_left by cut.cause (adds_first by k cut.halt (adds_all by k (none_left by play.book count) (take cut.sittings play.pieces)) (drop cut.sittings play.pieces)))) here
-      ∙ ap (λ (l : Left). record l { book = stopped_by by cut.cause l.book }) (first_bare cut.halt cut.sittings play.pieces rest.pieces alike (none_left by play.book count) (none_left by rest.book count') (ap (λ b. bare (none_left by b 0)) (sym book)))
+      ∙ ap (λ (l : Left). record l { book = stopped_by by cut.cause l.book }) (first_bare cut.halt alike (none_left by play.book count) (none_left by rest.book count') (ap (λ b. bare (none_left by b 0)) (sym book)))
       ∙ sym (ap (λ (k : Bool). bare (cut_left by cut.cause (adds_first by k cut.halt (adds_all by k (none_left by rest.book count') (take cut.sittings rest.pieces)) (drop cut.sittings rest.pieces)))) there)
 
 alike_same : (n : ℕ) (ps : List Piece) → Alike n ps ps
-alike_same n [] = tt
-alike_same zero (p ∷ ps) = refl
-alike_same (suc n) (p ∷ ps) = (refl, alike_same n ps)
+alike_same n [] = NoPieces
+alike_same zero (p ∷ ps) = LastPiece p p ps ps refl
+alike_same (suc n) (p ∷ ps) = MorePieces p p ps ps refl (alike_same n ps)
 
 -- the scene with other counts of printed lines, and other prints before stops that are armed
 abbrev but_prints : Scene → Counts → List Armed → Scene
@@ -222,7 +215,7 @@ module _ (S : Scene) (c : Counts) (armed : List Armed) (by : MemberId) (at : ℕ
   found_alike : (locked : Bool) (flight : Option (List Entry)) (n : ℕ) (ps qs : List Piece) (Q : Queue) → (All (IsCalm sight) (waits_in (take n ps) Q) → Alike n ps qs)
       → All (IsCalm sight) (waits_in (take n (pieces_found locked flight ps)) Q) → Alike n (pieces_found locked flight ps) (pieces_found locked flight qs)
   found_alike true None n ps qs Q alike calms = alike calms
-  found_alike true (Some es) n ps qs Q alike calms = tt
+  found_alike true (Some es) n ps qs Q alike calms = NoPieces
   found_alike false flight n ps qs Q alike calms = alike calms
 
   -- A LINE OF A MEMBER

@@ -1,15 +1,15 @@
 -- A line of a member that only closes: it is refused or denied, or the lock is given up.
-use Rattle.mas_run.proofs.Names.{◌≡◌, ℕ, ◌+◌, ◌≤◌, ◌&&◌, ◌++◌, Bool, true, false, if◌then◌else◌, List, [], Option, Some, None, Result, Ok, Err, refl, sym, ◌∙◌, ap, subst, arith, ◌⊎◌, ⊎_elim, OnOk, inr, inl, eqb-true, Ckpt1, Ckpt2, MemberId, Batch, Entry, is_somebody, nobody, steps_most, Book, IsMember, after_free, after_stop, is_holder, is_stopped, noted, with_holder, PlantGhosts, DiskView as Disk, ViewLine as Line, View, Ghosts as CopyGhosts, page_count, reserved_after_stop, counts_of, Parts, parts_of, console_now, Member, NodeNo, HasClosed, left_at, stopped_so, Closes, freed_by, left_at as closes_at, IsSayer, queue_of, HoldsLock, IsSeat, Admission, Replaces, tried, Denied, Frees, Refused, denied_closing, is_locked, play_of, Piece, closes_with, Scene, clear, Replaced, IsBetween, IsMemberAt, IsShown, is_left_held, BetweenLines, LeftBetween, StandsIn, Since, freed_since, none_since, stopped_since, inside_since, tried_since, proceeds_of, TellNone, left_tells, Dev, SteadyGhosts, Complex, stopped_in, journal_of, Ask, Release, CopiesKept, LineIsLeft, LineDone, line_by, is_of_member, RenewsAs, AreMembersNamed, closing_line, Closing, IsPlayed, Keep, Outer, LockNo, tested_as, proceeds_none, no}
+use Rattle.mas_run.proofs.Names.{◌≡◌, ℕ, ◌+◌, ◌≤◌, ◌&&◌, ◌++◌, Bool, true, false, if◌then◌else◌, List, [], Option, Some, None, Result, Ok, Err, refl, sym, ◌∙◌, ap, subst, arith, ◌⊎◌, ⊎_elim, OnOk, inr, inl, eqb-true, Ckpt1, Ckpt2, MemberId, Batch, Entry, is_somebody, nobody, steps_most, Book, IsMember, after_free, after_stop, is_holder, is_stopped, noted, with_holder, PlantGhosts, DiskView as Disk, ViewLine as Line, View, Ghosts as CopyGhosts, page_count, reserved_after_stop, counts_of, Parts, parts_of, console_now, Member, NodeNo, HasClosed, left_at, stopped_so, Closes, freed_by, left_at as closes_at, IsSayer, HoldsLock, IsSeat, Admission, Replaces, tried, Denied, Frees, Refused, denied_closing, is_locked, play_of, Piece, closes_with, Scene, clear, Replaced, IsBetween, IsMemberAt, IsShown, is_left_held, BetweenLines, LeftBetween, StandsIn, Since, freed_since, none_since, stopped_since, inside_since, tried_since, proceeds_of, TellNone, left_tells, Dev, SteadyGhosts, Complex, stopped_in, journal_of, Ask, Release, CopiesKept, LineIsLeft, LineDone, line_by, is_of_member, AreMembersNamed, closing_line, Closing, IsPlayed, Keep, Outer, LockNo, tested_as, proceeds_none, no, Armed, Counts, flown_of, scene_as}
 use Rattle.mas_run.proofs.TurnedLemmas.{found_says, line_says, member_on, members_on, between_on, between_spoken, quiet_with, same_unreserved}
-use Rattle.mas_run.proofs.ClosingLemmas.{Ending, HasMerelyActed, IsCloser, closing_at, cut_by, denied_closer, frees_closer, refused_closer, closes_left, merely_closed, none_stopped, not_lost}
+use Rattle.mas_run.proofs.ClosingLemmas.{Ending, IsCloser, closing_at, cut_by, denied_closer, frees_closer, refused_closer, closes_left, merely_closed, none_stopped, not_lost}
 use Rattle.mas_run.proofs.CopiesLemmas.{said_copies, leaves_same}
 use Rattle.mas_run.proofs.PassedLemmas.{renews_none}
-use Rattle.mas_run.proofs.ArmLemmas.{admitted_here, none_flies, tested_here, IsTold, InArm, arm_book, arm_inside, tried_inside, tested_up}
+use Rattle.mas_run.proofs.ArmLemmas.{tested_here, IsTold, InArm, arm_book, arm_inside, tried_inside, tested_up}
 use Rattle.mas_run.proofs.KnownLemmas.{busy_named, denied_holder, own_seat, said_by, sayer_of, some_by}
+use Rattle.mas_run.proofs.JournalLemmas.{flies_so}
 use Rattle.member_node.specs.declared.member.NodeNo.TheVariants as no_node
 use Rattle.mas_types.specs.declared.answers.Closing.TheVariants as closing
 use Rattle.mas_types.specs.declared.commands.Reply.TheVariants as reply
-use Rattle.mas_run.proofs.JournalLemmas.{flies_so, flown_of}
 
 -- A LATER BOOK, whose holder is as before, if it has one
 
@@ -93,7 +93,7 @@ module _ {P C : Type 0} (plants : PlantGhosts P) (copies : CopyGhosts C) where
 -- THE SCENE that a value shows
 
 abbrev pub scene_at : {P C : Type 0} → Parts P C → Scene
-scene_at x = record { queue = queue_of x; book = x.book; flight = flown_of x.current; counts = counts_of x.printed; armed = [] }
+scene_at x = scene_as x (counts_of x.printed) []
 
 pub shown_at : {P C : Type 0} (plants : PlantGhosts P) (copies : CopyGhosts C) (told : Type 0) (x : Parts P C) → StandsIn x.batches x.placed x.book x.current
     → IsShown plants copies told (scene_at x) x
@@ -191,28 +191,29 @@ module _ {P C : Type 0} {plants : PlantGhosts P} {steadies : SteadyGhosts C} {co
   abbrev q : Parts P C
   q = parts_of y
 
-  closed_at : (told : Type 0) (S : Scene) → IsShown plants copies told S p → HasClosed plants S by at a sayer t q r
-  closed_at told S shown =
-      subst (λ (z : Parts P C). HasClosed plants S by at a sayer z q r) w.frame
-      (closed S (tested_here plants copies told S p shown by a mid.book (book ∙ sym (arm_book w)) none))
+  closed_at : (counts : Counts) (armed : List Armed) → HasClosed plants (scene_as p counts armed) by at a sayer t q r
+  closed_at counts armed =
+      subst (λ (z : Parts P C). HasClosed plants (scene_as p counts armed) by at a sayer z q r) w.frame
+      (closed (scene_as p counts armed) (tested_here p counts armed by a mid.book (book ∙ sym (arm_book w)) none))
 
   here : HasClosed plants (scene_at p) by at a sayer t q r
-  here = closed_at (Unit {0}) (scene_at p) (shown_at plants copies (Unit {0}) p w.is.stands)
+  here = closed_at (counts_of p.printed) []
 
   seated : r ≡ Err no_node.Halted → IsMember x.book by
   seated e = ⊎_elim
-      (λ nobody_says. absurd (no true refl (sym (ap stopped_in e) ∙ none_stopped plants (scene_at p) by at a sayer t q r (closes_at (scene_at p) by at a) here says nobody_says)))
+      (λ nobody_says. absurd (no true refl (sym (ap stopped_in e) ∙ none_stopped plants by a sayer t q r (closes_at (scene_at p) by at a) here says nobody_says)))
       seat says
 
   line_done : OnOk r (BetweenLines y ms (at + 1)) → (r ≡ Err no_node.Halted → LeftBetween y ms (at + 1)) → LineDone x y ms at by what r
   line_done next halted = let at_test : Stays t q = subst (λ (z : Parts P C). Stays z q) w.frame stays in
       let copies_kept : CopiesKept x y r = leaves_same plants p q r (said_copies plants t q r here.acts (ap (λ (k : Parts P C). k.first_alive) at_test) (ap (λ (k : Parts P C). k.second_alive) at_test) (not_lost r sayer.0 (plants.view x.plant) (plants.view y.plant) here.cause)) (ap (λ (k : Parts P C). k.renewals) at_test) (λ is. sym (ap (λ (k : Parts P C). k.first_alive) at_test) ∙ is) (λ is. sym (ap (λ (k : Parts P C). k.second_alive) at_test) ∙ is) in
       let left : (told : Type 0) → IsTold plants told → LineIsLeft told at (line_by by what) x y r =
-      λ told knows S shown. let unflown : (told : Type 0) (S : Scene) → IsShown plants copies told S p → is_locked a ≡ true → S.flight ≡ None = λ told S shown locked. none_flies plants copies told S p shown (none locked) in
-      let renews_by : (e : Ending) → RenewsAs a (cut_by e) Replaced t.renewals q.renewals (plants.view x.plant) (plants.view y.plant) = λ e. renews_none a (cut_by e) Replaced t.renewals q.renewals (plants.view x.plant) (plants.view y.plant) apart (ap (λ (k : Parts P C). k.renewals) at_test) in
-      let merely : (told : Type 0) (S : Scene) (shown : IsShown plants copies told S p) → HasMerelyActed plants by a t q r = λ told S shown. merely_closed plants S by at a sayer t q r (closes_at S by at a) (closed_at told S shown) says in
-      closes_left plants copies S at (line_by by what) a (admitted_here plants copies told S p shown by what a w.adm) Replaced pieces line rel (closer S (unflown told S shown)) t q r (ap (λ (k : Parts P C). journal_of k) at_test) (ap (λ (k : Parts P C). k.printed) at_test)
-      told (λ o up. if_ok r _ (λ e. shown.counts o by up)) sayer t (λ tells. refl) (closed_at told S shown) (merely told S shown) renews_by knows in
+      λ told knows counts armed counted.
+      let S = scene_as p counts armed in
+      let done = closed_at counts armed in
+      closes_left plants copies S at (line_by by what) a w.adm Replaced pieces line rel (closer S (λ locked. ap flown_of (none locked))) t q r (ap (λ (k : Parts P C). journal_of k) at_test) (ap (λ (k : Parts P C). k.printed) at_test)
+      told (λ o up. if_ok r _ (λ e. counted o by up)) sayer t (λ tells. refl) done (merely_closed plants by a sayer t q r (closes_at S by at a) done says) (λ tells. done.acts.loses)
+      (λ e. renews_none a (cut_by e) Replaced t.renewals q.renewals (plants.view x.plant) (plants.view y.plant) apart (ap (λ (k : Parts P C). k.renewals) at_test)) knows in
       record {
         base = ap (λ (k : Parts P C). k.base) at_test;
         since = ap (λ (k : Parts P C). k.since) at_test;

@@ -1,9 +1,10 @@
 -- A line that only closes, or that ends before it does: what it leaves, by how it ended.
-use Rattle.mas_run.proofs.Names.{◌≡◌, ◌≢◌, inl, inr, ℕ, ◌+◌, ◌≤◌, false, List, [], ◌∷◌, ◌++◌, take, append-nil, Option, None, Result, Ok, Err, OnOk, refl, sym, ◌∙◌, ap, subst, arith, ◌⊎◌, ⊎_elim, Bool, true, All-cons, All-nil, Closing, Dev, MemberId, Fate, Flying, Queue, closing_line, run, LockNo, Step, is_stopped, Console, Disk, PlantGhosts, ViewLine as Line, View, paper_now, Rose, SameWires, Ghosts as CopyGhosts, SamePapers, counts_of, Parts, AreBatched, AtCut, IsBroken, IsTight, cause_by, whole_pieces, AreFoundIn, IsFoundAt, Wait, waits_in, IsCutAs, at_line, before_line, HasCause, HasClosed, HasClosedBy, left_at as closes_at, VolumesStay, console_now, none_lost, NodeNo, Spares, stopped_in, journal_of, CopiesActed, Release, Keep, Outer, Told, calm, Admission, Denied, Frees, Locks, Refused, denied_closing, admitted, Left, left_by, ArePiecesOf, queue_met, Piece, Play, closes_with, fate_found, once_found, piece_of, play_of, Batched, Scene, Cause, Cut, Ends, Renewed, Replaced, Stops, clear, settle, IfRuns, ended_as, IfIdle, is_replaced, is_work, named_as, Proceeds, StaysLost, LineAt, pieces_as, play_as, HasLeftAs, IsCutBy, left_as, LeftAt, IsShapedAs, AreVolumesKept, HeardFirst, nobody, CopyCauses, IsSeated, IsUnseated, seat_cut, rose_later, stay_then, wires_then, spares_for, spares_then, Member, RenewsAs, proceeds_of, proceeds_on, kept_on, no, pair_at}
-use Rattle.mas_run.proofs.LeftLemmas.{if_idle, stays_any, papers_on, console_stays}
-use Rattle.mas_run.proofs.PassedLemmas.{settle_none, kept_later}
-use Rattle.mas_run.proofs.WireLemmas.{carries_none, takes_none}
-use Rattle.mas_run.proofs.ArmLemmas.{IsTold, told_tells}
+use Rattle.mas_run.proofs.Names.{◌≡◌, ◌≢◌, inl, inr, ℕ, ◌+◌, false, List, [], ◌∷◌, ◌++◌, take, Option, None, Result, Ok, Err, OnOk, refl, sym, ◌∙◌, ap, subst, arith, ◌⊎◌, ⊎_elim, Bool, true, All-cons, All-nil, Closing, Dev, MemberId, Flying, Queue, closing_line, run, LockNo, Step, is_stopped, Console, Disk, PlantGhosts, ViewLine as Line, View, Rose, SameWires, Ghosts as CopyGhosts, counts_of, Parts, AtCut, IsBroken, IsTight, cause_by, whole_pieces, AreFoundIn, IsFoundAt, Wait, waits_in, IsCutAs, at_line, before_line, HasCause, HasClosedBy, console_now, none_lost, NodeNo, Spares, stopped_in, journal_of, CopiesActed, Release, Keep, Outer, Told, calm, Admission, Denied, Frees, Locks, Refused, denied_closing, admitted, Left, left_by, ArePiecesOf, queue_met, Piece, Play, closes_with, fate_found, once_found, piece_of, play_of, Scene, Cause, Cut, Ends, Renewed, Replaced, Stops, clear, IfRuns, ended_as, IfIdle, is_work, LineAt, pieces_as, play_as, HasLeftAs, IsCutBy, left_as, LeftAt, IsShapedAs, HeardFirst, nobody, CopyCauses, rose_later, stay_then, wires_then, spares_for, spares_then, Member, RenewsAs, proceeds_of, proceeds_on, kept_on, no, pair_at}
+use Rattle.mas_run.proofs.LeftLemmas.{if_idle, papers_on, console_stays}
+use Rattle.mas_run.proofs.PassedLemmas.{kept_later}
+use Rattle.mas_run.proofs.WireLemmas.{takes_none}
+use Rattle.mas_run.proofs.ArmLemmas.{IsTold}
+use Rattle.mas_run.proofs.BarelyLemmas.{HasMerelyActed, IsNothing, quiet_left}
 use Rattle.mas_types.specs.declared.answers.Closing.TheVariants as closing
 use Rattle.mas_types.specs.declared.commands.Reply.TheVariants as reply
 use Rattle.member_node.specs.declared.member.NodeNo.TheVariants as no_node
@@ -67,9 +68,6 @@ module _ (line : List ℕ) (r : Release) where
   module _ (by : MemberId) (play : Play) (count : ℕ) (is : play.pieces ≡ one line r ∷ []) where
     left_so : (e : Ending) → left_by by (cut_by e) play count ≡ left_by by (cut_by e) (so play) count
     left_so e = ap (λ (ps : List Piece). left_by by (cut_by e) (record play { pieces = ps }) count) is
-
-    abbrev IsNothing : Left → Type 0
-    IsNothing l = (l.batches ≡ []) × (l.printed ≡ []) × (l.given ≡ [])
 
     one_nothing : (e : Ending) → IsNothing (left_by by (cut_by e) play count)
     one_nothing e = subst IsNothing (sym (left_so e)) (so_nothing e) where
@@ -144,20 +142,6 @@ pub record IsCloser (l : LineAt) (a : Admission) (line : List ℕ) (r : Release)
   pub found : fate_found a l.given.sight ≡ Flying
   pub play : play_as l a ≡ play_of l.scene l.step.by l.number (record clear { renewed = l.given.sight.renewed }) a
 
--- acts on the copies and the console, in which nothing was given
-pub record HasMerelyActed {P C : Type 0} (plants : PlantGhosts P) (by : MemberId) (a : Admission) (x y : Parts P C) (result : Result (Unit {0}) NodeNo) : Type 0 where
-  pub goes : Proceeds (plants.view x.plant) (plants.view y.plant)
-  pub stays : (d : Dev) → is_replaced d a ≡ false → StaysLost d (plants.view x.plant) (plants.view y.plant)
-  pub arms : (m : ℕ) → (plants.view y.plant).arms m ≡ (plants.view x.plant).arms m
-  pub spares : Spares by.0 (stopped_in result) (plants.view x.plant) (plants.view y.plant)
-  pub stopped : result ≡ Err no_node.Halted → Rose ((plants.view x.plant).stops by.0) ((plants.view y.plant).stops by.0)
-  pub failed : result ≡ Err no_node.ConsoleFault → Rose ((plants.view x.plant).faults Console) ((plants.view y.plant).faults Console)
-  pub loses : plants.tells → (d : Dev) → (plants.view y.plant).loses d ≡ (plants.view x.plant).loses d
-  pub papers : plants.tells → SamePapers (plants.view x.plant) (plants.view y.plant)
-  pub wires : plants.tells → SameWires (plants.view x.plant) (plants.view y.plant)
-  pub volumes : plants.tells → AreVolumesKept (plants.view x.plant) (plants.view y.plant)
-  pub stay : VolumesStay none_lost (plants.view x.plant) (plants.view y.plant)
-
 module _ {P C : Type 0} (plants : PlantGhosts P) (copies : CopyGhosts C) (told : Type 0) (tells : told → plants.tells) (S : Scene) (at : ℕ) (step : Step)
     (a : Admission) (found : Renewed) (e : Ending) (ps : List Piece) (line : List ℕ) (r : Release) (x y : Parts P C) (result : Result (Unit {0}) NodeNo) where
   abbrev v : Parts P C → View
@@ -166,13 +150,10 @@ module _ {P C : Type 0} (plants : PlantGhosts P) (copies : CopyGhosts C) (told :
   abbrev l : LineAt
   l = closing_found found S at step e ps
 
-  module _ (closer : IsCloser l a line r) (may : MayEnd result e) (acted : HasMerelyActed plants step.by a x y result)
+  module _ (closer : IsCloser l a line r) (may : MayEnd result e) (acted : HasMerelyActed plants step.by a x y result) (loses : plants.tells → (d : Dev) → (v y).loses d ≡ (v x).loses d)
       (journal : journal_of y ≡ journal_of x) (printed : y.printed ≡ x.printed)
       (book : IfRuns result (y.book ≡ (left_as l a).book)) (console : told → console_now (v y) ≡ console_now (v x) ++ (left_as l a).lines)
       (counted : told → is_stopped S.book step.by ≡ false → OnOk result (counts_of x.printed step.by ≡ S.counts step.by)) where
-    play : Play
-    play = play_as l a
-
     -- the member's count is as it was
     count_same : (k : Result (Unit {0}) NodeNo) (f : Ending) → MayEnd k f → OnOk k (counts_of x.printed step.by ≡ S.counts step.by)
         → OnOk k (counts_of y.printed step.by ≡ (left_by step.by (cut_by f) (play_as l a) (S.counts step.by)).count)
@@ -182,43 +163,16 @@ module _ {P C : Type 0} (plants : PlantGhosts P) (copies : CopyGhosts C) (told :
     count_same (Ok done) _ so was = absurd so
 
     closed_left : HasLeftAs plants copies told l a x y result
-    closed_left = let found_none : settle (fate_found a l.given.sight) (v x).now (journal_of x) ++ [] ≡ journal_of x = ap (λ (f : Fate). settle f (v x).now (journal_of x) ++ []) closer.found ∙ append-nil (settle Flying (v x).now (journal_of x)) ∙ settle_none (v x).now (journal_of x) in
-        let papers_now : told → (m : ℕ) → paper_now (v y) m ≡ paper_now (v x) m = λ t m. acted.papers (tells t) (v y).now acted.goes.later (let same : (v y).now ≤ (v y).now = omega arith in same) m in
-        let printed_none : (left_as l a).printed ≡ [] = (one_nothing line r step.by (play_as l a) (S.counts step.by) closer.pieces e).1 in
-        let batches_none : (left_as l a).batches ≡ [] = (one_nothing line r step.by (play_as l a) (S.counts step.by) closer.pieces e).0 in record {
-          goes = acted.goes;
-          stays = acted.stays;
-          arms = acted.arms;
-          shaped = inr (closer.shaped (v x) (v y));
-          right = λ t. closer.right;
-          honest = λ t. subst (λ (qs : List Piece). AreFoundIn S.queue.config.groups step.by (v x) (v y) calm (waits_in (take (whole_pieces (cut_by e) qs) qs) (queue_met S a l.given.sight)))
-              (sym closer.pieces) (honest_one line r S.queue.config.groups step.by (v x) (v y) (queue_met S a l.given.sight) e);
-          stay = λ t. stays_any (named_as l a (cut_by e)) (v x) (v y) acted.stay;
-          cut = subst (λ (qs : List Piece). IsCutBy result qs (cut_by e)) (sym closer.pieces) (cut_one line r result e may);
-          tight = subst (λ (qs : List Piece). IfIdle (is_work a) (AtCut (IsTight (ended_as result)) (cut_by e) qs)) (sym closer.pieces)
-              (if_idle (is_work a) _ (tight_one line r (ended_as result) e));
-          broke = λ t. subst (λ (qs : List Piece). AtCut (IsBroken (ended_as result)) (cut_by e) qs) (sym closer.pieces) (broken_one line r result e may);
-          spares = acted.spares;
-          stopped = acted.stopped;
-          failed = acted.failed;
-          own = [];
-          at = (v x).now;
-          moment = (omega arith, acted.goes.later);
-          journal = journal ∙ sym found_none;
-          batches = subst (λ (bs : List Batched). AreBatched step.by (v x).now (v y).now bs []) (sym batches_none) tt;
-          book = book;
-          console = console;
-          paper = λ t. papers_now t step.by.0 ∙ sym (append-nil (paper_now (v x) step.by.0)) ∙ ap (λ (ls : List Line). paper_now (v x) step.by.0 ++ ls) (sym printed_none);
-          other_papers = λ t m other. papers_now t m;
-          dry = λ t none. acted.papers (tells t);
-          count = λ t up. count_same result e may (counted t up);
-          other_counts = λ t m other. ap (λ (p : List ℕ). counts_of p m) printed;
-          loses = λ t d. inl (acted.loses (tells t) d);
-          volumes = λ t leaves. acted.volumes (tells t);
-          wires = λ t. carries_none x.since l a (left_as l a).given (v x) (v y) (one_nothing line r step.by (play_as l a) (S.counts step.by) closer.pieces e).2 (acted.wires (tells t))
-              (subst (λ (qs : List Piece). HeardFirst x.since step.by (v x) (v y) calm (waits_in (take (whole_pieces (cut_by e) qs) qs) (queue_met S a l.given.sight)))
-              (sym closer.pieces) (heard_one line r x.since step.by (v x) (v y) (queue_met S a l.given.sight) e (acted.wires (tells t))));
-        }
+    closed_left =
+        quiet_left plants copies told tells S at step a l.given.sight ps x y result acted (λ t d. inl (loses (tells t) d)) journal printed closer.found
+        (one_nothing line r step.by (play_as l a) (S.counts step.by) closer.pieces e) (inr (closer.shaped (v x) (v y))) (λ t. closer.right)
+        (λ t. subst (λ (qs : List Piece). AreFoundIn S.queue.config.groups step.by (v x) (v y) calm (waits_in (take (whole_pieces (cut_by e) qs) qs) (queue_met S a l.given.sight)))
+        (sym closer.pieces) (honest_one line r S.queue.config.groups step.by (v x) (v y) (queue_met S a l.given.sight) e))
+        (subst (λ (qs : List Piece). IsCutBy result qs (cut_by e)) (sym closer.pieces) (cut_one line r result e may))
+        (subst (λ (qs : List Piece). IfIdle (is_work a) (AtCut (IsTight (ended_as result)) (cut_by e) qs)) (sym closer.pieces) (if_idle (is_work a) _ (tight_one line r (ended_as result) e)))
+        (λ t. subst (λ (qs : List Piece). AtCut (IsBroken (ended_as result)) (cut_by e) qs) (sym closer.pieces) (broken_one line r result e may)) book console (λ t up. count_same result e may (counted t up))
+        (λ t. subst (λ (qs : List Piece). HeardFirst x.since step.by (v x) (v y) calm (waits_in (take (whole_pieces (cut_by e) qs) qs) (queue_met S a l.given.sight)))
+        (sym closer.pieces) (heard_one line r x.since step.by (v x) (v y) (queue_met S a l.given.sight) e (acted.wires (tells t))))
 
 -- THE FOUR ADMISSIONS that only close
 
@@ -264,7 +218,7 @@ by_test false f g = g refl
 pub not_lost : (r : Result (Unit {0}) NodeNo) (m : ℕ) (old new : View) → HasCause r m old new → r ≡ Err no_node.BothLost → ⊥
 not_lost r m old new cause is = subst (λ (q : Result (Unit {0}) NodeNo). HasCause q m old new) is cause
 
-module _ {P C : Type 0} (plants : PlantGhosts P) (S : Scene) (by : MemberId) (at : ℕ) (a : Admission) (sayer : MemberId) (x y : Parts P C) (r : Result (Unit {0}) NodeNo)
+module _ {P C : Type 0} (plants : PlantGhosts P) (by : MemberId) (a : Admission) (sayer : MemberId) (x y : Parts P C) (r : Result (Unit {0}) NodeNo)
     (left : Option Cut → Left) (closed : HasClosedBy plants left sayer x y r) (says : (sayer ≡ nobody) ⊎ (sayer ≡ by)) where
   -- the operator is never stopped
   pub none_stopped : sayer ≡ nobody → stopped_in r ≡ false
@@ -289,7 +243,6 @@ module _ {P C : Type 0} (plants : PlantGhosts P) (S : Scene) (by : MemberId) (at
         spares = its_own;
         stopped = was_stopped;
         failed = λ is. subst (λ (q : Result (Unit {0}) NodeNo). HasCause q sayer.0 (plants.view x.plant) (plants.view y.plant)) is closed.cause;
-        loses = λ t. closed.acts.loses;
         papers = closed.acts.papers;
         wires = closed.acts.wires;
         volumes = λ t. kept_on (plants.view x.plant) (plants.view y.plant) (closed.acts.others t);
@@ -319,25 +272,25 @@ module _ {P C : Type 0} (plants : PlantGhosts P) (copies : CopyGhosts C) (S : Sc
   module _ (x y : Parts P C) (r : Result (Unit {0}) NodeNo) (journal : journal_of y ≡ journal_of x) (printed : y.printed ≡ x.printed) (told : Type 0)
       (counted : told → is_stopped S.book step.by ≡ false → OnOk r (counts_of x.printed step.by ≡ S.counts step.by)) where
     -- what it leaves in the words of the calls that close
-    pub left_said : (told → plants.tells) → (e : Ending) → Renews x y e → MayEnd r e → HasMerelyActed plants step.by a x y r → IfRuns r (y.book ≡ (closes_so (cut_by e)).book)
+    left_said : (told → plants.tells) → (e : Ending) → Renews x y e → MayEnd r e → HasMerelyActed plants step.by a x y r → (plants.tells → (d : Dev) → (w y).loses d ≡ (w x).loses d) → IfRuns r (y.book ≡ (closes_so (cut_by e)).book)
         → (told → console_now (w y) ≡ console_now (w x) ++ (closes_so (cut_by e)).lines) → LeftAt plants copies told S at step x y r
-    left_said tells e renews may acted book console =
+    left_said tells e renews may acted loses book console =
         let line_left : (told : Type 0) (e : Ending) (x y : Parts P C) (r : Result (Unit {0}) NodeNo) → Renews x y e → HasLeftAs plants copies told (closing_found found S at step e ps) a x y r → LeftAt plants copies told S at step x y r = λ told e x y r renews left. record {
           given = (closing_found found S at step e ps).given;
           renews = subst (λ (b : Admission). RenewsAs b (cut_by e) found x.renewals y.renewals (w x) (w y)) (sym adm) renews;
           left = subst (λ (b : Admission). HasLeftAs plants copies told (closing_found found S at step e ps) b x y r) (sym adm) left;
         } in
         let left_same : (e : Ending) → left_as (closing_found found S at step e ps) a ≡ closes_so (cut_by e) = λ e. ap (λ (play : Play). left_by step.by (cut_by e) play (S.counts step.by)) (closer e).play in
-        line_left told e x y r renews (closed_left plants copies told tells S at step a found e ps line rel x y r (closer e) may acted journal printed
+        line_left told e x y r renews (closed_left plants copies told tells S at step a found e ps line rel x y r (closer e) may acted loses journal printed
         (subst (λ k. IfRuns r (y.book ≡ k)) (sym (ap (λ k. k.book) (left_same e))) book)
         (λ t. console t ∙ ap (λ (ls : List Line). console_now (w x) ++ ls) (sym (ap (λ k. k.lines) (left_same e)))) counted)
 
     -- A call that closes the line, by its member or the operator, from a value that shows the same console
 
     module _ (sayer : MemberId) (mid : Parts P C) (before : plants.tells → console_now (w mid) ≡ console_now (w x)) (closed : HasClosedBy plants closes_so sayer mid y r)
-        (acted : HasMerelyActed plants step.by a x y r) (renews : (e : Ending) → Renews x y e) where
+        (acted : HasMerelyActed plants step.by a x y r) (loses : plants.tells → (d : Dev) → (w y).loses d ≡ (w x).loses d) (renews : (e : Ending) → Renews x y e) where
       ends : (told → plants.tells) → (e : Ending) → MayEnd r e → IsCutAs r (cut_by e) → (told → console_now (w y) ≡ console_now (w x) ++ (closes_so (cut_by e)).lines) → LeftAt plants copies told S at step x y r
-      ends tells e may is = left_said tells e (renews e) may acted (if_runs r _ (closed.book (cut_by e) is))
+      ends tells e may is = left_said tells e (renews e) may acted loses (if_runs r _ (closed.book (cut_by e) is))
 
       pub closes_left : IsTold plants told → LeftAt plants copies told S at step x y r
       closes_left (inl none) =
@@ -349,16 +302,14 @@ module _ {P C : Type 0} (plants : PlantGhosts P) (copies : CopyGhosts C) (S : Sc
           ends (λ t. known.1) so.ending so.may (subst (λ (c : Option Cut). IsCutAs r c) so.is stood.is_cut)
           (λ t. stood.lines ∙ ap (λ (ls : List Line). ls ++ (closes_so stood.cut).lines) (before known.1) ∙ ap (λ (c : Option Cut). console_now (w x) ++ (closes_so c).lines) so.is)
 
--- A MEMBER TAKES ITS SEAT, and then closes the line, or couldn't take it
+-- ACTS ON THE COPIES, of a member
 
-module _ {P C : Type 0} (plants : PlantGhosts P) (copies : CopyGhosts C) (S : Scene) (at : ℕ) (step : Step) (a : Admission)
-    (x y : Parts P C) (m : Member) (own : m.id ≡ step.by) where
+module _ {P C : Type 0} (plants : PlantGhosts P) (by : MemberId) (a : Admission) where
   abbrev u : Parts P C → View
   u z = plants.view z.plant
 
-  -- acts on the copies
-  pub copies_merely : (z : Parts P C) (r : Result (Unit {0}) NodeNo) → CopiesActed plants m.id x z r → HasMerelyActed plants step.by a x z r
-  copies_merely z r acts = record {
+  pub copies_merely : (m : Member) → m.id ≡ by → (x z : Parts P C) (r : Result (Unit {0}) NodeNo) → CopiesActed plants m.id x z r → HasMerelyActed plants by a x z r
+  copies_merely m own x z r acts = record {
     goes = proceeds_of (u x) (u z) acts.on.course.goes;
     stays = λ d other. acts.on.course.goes.lost (Disk d);
     arms = acts.on.course.goes.arms;
@@ -366,7 +317,6 @@ module _ {P C : Type 0} (plants : PlantGhosts P) (copies : CopyGhosts C) (S : Sc
     stopped = λ is. subst (λ (k : MemberId). Rose ((u x).stops k.0) ((u z).stops k.0)) own
         (subst (λ (q : Result (Unit {0}) NodeNo). CopyCauses q m.id.0 (pair_at x.first_alive x.second_alive (u x)) (pair_at z.first_alive z.second_alive (u z))) is acts.on.cause).1;
     failed = λ is. absurd (subst (λ (q : Result (Unit {0}) NodeNo). CopyCauses q m.id.0 (pair_at x.first_alive x.second_alive (u x)) (pair_at z.first_alive z.second_alive (u z))) is acts.on.cause);
-    loses = acts.on.loses;
     papers = λ t. (acts.on.apart t).papers;
     wires = λ t. (acts.on.apart t).wires;
     volumes = λ t. kept_on (u x) (u z) (acts.on.apart t).others;
@@ -374,44 +324,16 @@ module _ {P C : Type 0} (plants : PlantGhosts P) (copies : CopyGhosts C) (S : Sc
   }
 
   -- then others
-  pub then_merely : (mid : Parts P C) (r : Result (Unit {0}) NodeNo) → HasMerelyActed plants step.by a x mid (Ok tt) → HasMerelyActed plants step.by a mid y r → HasMerelyActed plants step.by a x y r
-  then_merely mid r one two = record {
+  pub then_merely : (x mid y : Parts P C) (r : Result (Unit {0}) NodeNo) → HasMerelyActed plants by a x mid (Ok tt) → HasMerelyActed plants by a mid y r → HasMerelyActed plants by a x y r
+  then_merely x mid y r one two = record {
     goes = proceeds_on (u x) (u mid) (u y) one.goes two.goes;
     stays = λ d other is. two.stays d other (one.stays d other is);
     arms = λ k. two.arms k ∙ one.arms k;
-    spares = spares_then step.by.0 (stopped_in r) (u x) (u mid) (u y) one.spares two.spares;
-    stopped = λ is. rose_later ((u x).stops step.by.0) ((u mid).stops step.by.0) ((u y).stops step.by.0) (one.goes.stops step.by.0) (two.stopped is);
+    spares = spares_then by.0 (stopped_in r) (u x) (u mid) (u y) one.spares two.spares;
+    stopped = λ is. rose_later ((u x).stops by.0) ((u mid).stops by.0) ((u y).stops by.0) (one.goes.stops by.0) (two.stopped is);
     failed = λ is. rose_later ((u x).faults Console) ((u mid).faults Console) ((u y).faults Console) (one.goes.faults Console) (two.failed is);
-    loses = λ t d. two.loses t d ∙ one.loses t d;
     papers = λ t. papers_on (u x) (u mid) (u y) one.goes.later two.goes (one.papers t) (two.papers t);
     wires = λ t. wires_then (u x) (u mid) (u y) (one.wires t) (two.wires t);
     volumes = λ t. kept_later (u x) (u mid) (u y) one.goes.later two.goes (one.volumes t) (two.volumes t);
     stay = stay_then none_lost (u x) (u mid) (u y) one.stay two.stay;
   }
-
-  -- the member had no seat: its line is cut before anything was said
-  seat_end : (e : NodeNo) → CopyCauses {T = Unit {0}} (Err e) m.id.0 (pair_at x.first_alive x.second_alive (u x)) (pair_at y.first_alive y.second_alive (u y))
-      → (cause : Cause) × MayEnd (Err e) (Unsaid cause) × (seat_cut e ≡ before_line cause)
-  seat_end no_node.Halted cause = (Stops, (refl, λ is. absurd (cc)), refl)
-  seat_end no_node.ConsoleFault cause = absurd cause
-  seat_end _ cause = (Ends, (refl, λ is. absurd (cc)), refl)
-
-  module _ (adm : admitted S.queue.config S.book step.by step.what ≡ a) (ps : List Piece) (line : List ℕ) (rel : Release)
-      (closer : (e : Ending) → IsCloser (closing_at S at step e ps) a line rel) (journal : journal_of y ≡ journal_of x) (printed : y.printed ≡ x.printed) where
-    module _ (told : Type 0) (knows : IsTold plants told) where
-      pub unseated_left : ((cause : Cause) → RenewsAs a (before_line cause) Replaced x.renewals y.renewals (u x) (u y)) → (e : NodeNo) → IsUnseated plants copies S m at a x y e → LeftAt plants copies told S at step x y (Err e)
-      unseated_left renews e un =
-          let k = seat_end e un.acts.on.cause in
-          let none : (closes_at S step.by at a (before_line k.0)).lines ≡ [] =
-          sym (ap (λ (c : Option Cut). (closes_at S step.by at a c).lines) k.2) ∙ sym (ap (λ (by : MemberId). (closes_at S by at a (seat_cut e)).lines) own) ∙ un.lines in
-          left_said plants copies S at step a adm Replaced ps line rel closer x y (Err e) journal printed told (λ t up. tt) (told_tells plants told knows) (Unsaid k.0) (renews k.0) k.1 (copies_merely y (Err e) un.acts)
-          (if_runs (Err e) _ (un.book ∙ ap (λ (by : MemberId). (closes_at S by at a (seat_cut e)).book) own ∙ ap (λ (c : Option Cut). (closes_at S step.by at a c).book) k.2))
-          (λ t. (un.acts.on.apart (told_tells plants told knows t)).console ∙ sym (append-nil (console_now (u x))) ∙ ap (λ (ls : List Line). console_now (u x) ++ ls) (sym none))
-
-      -- it has its seat
-      pub seated_left : (n : Member) (r : Result (Unit {0}) NodeNo) → IsSeated plants copies S m n at a x y r → ((e : Ending) → RenewsAs a (cut_by e) Replaced x.renewals y.renewals (u x) (u y))
-          → (told → is_stopped S.book step.by ≡ false → OnOk r (counts_of x.printed step.by ≡ S.counts step.by)) → LeftAt plants copies told S at step x y r
-      seated_left n r seated renews counted =
-          let closed : HasClosed plants S step.by at a step.by seated.mid y r = subst (λ (k : MemberId). HasClosed plants S k at a k seated.mid y r) own seated.closed in
-          closes_left plants copies S at step a adm Replaced ps line rel closer x y r journal printed told counted step.by seated.mid (λ tells. (seated.acts.on.apart tells).console) closed
-          (then_merely seated.mid r (copies_merely seated.mid (Ok tt) seated.acts) (merely_closed plants S step.by at a step.by seated.mid y r (closes_at S step.by at a) closed (inr refl))) renews knows

@@ -1,8 +1,8 @@
 -- The copies in lines one after another.
 use Rattle.mas_run.proofs.Names.{◌≡◌, ◌⊎◌, inl, inr, ℕ, Bool, true, false, Result, Ok, Err, refl, sym, ◌∙◌, subst, ⊎_elim, ap, Dev, Ckpt1, Ckpt2, PlantGhosts, View, SomeAlive, Parts, NodeNo, Grows, IsLeft, grow_rose, no, rose_grow, KeepCopies, LeavesCopies, LeavesOne, LeavesSome, ends_both, sides_of, HasLost, proceeds_none, proceeds_of, proceeds_on, OnConsole, StepCauses, HasActedIn, Passage, MemberId, Ghosts as CopyGhosts, is_open, Renewals, Disk, Proceeds}
-use Rattle.member_node.specs.declared.member.NodeNo.TheVariants as no_node
 use Rattle.run_opening.proofs.LossLemmas.{lost_after, lost_before}
 use Rattle.member_decks.proofs.OutcomeLemmas.{left_then}
+use Rattle.member_node.specs.declared.member.NodeNo.TheVariants as no_node
 
 by_test : {A : Type 0} (b : Bool) → (b ≡ true → A) → (b ≡ false → A) → A
 by_test true f g = f refl

@@ -1,5 +1,5 @@
 -- The journal before and after a line, and what follows of it for the queue and for what is in flight.
-use Rattle.mas_run.proofs.Names.{◌≡◌, ℕ, Bool, true, false, if◌then◌else◌, List, [], ◌∷◌, ◌++◌, append-nil, Option, Some, None, refl, sym, ◌∙◌, ap, subst, Batch, Entry, Fate, Dropped, Flying, Kept, Queue, is_flying, is_kept, run, Book, with_last-append, kept_all_append, placed_all, unplaced_settled, AreSettled, end_of, in_flight, kept_all, with_last, Batched, flies_as, flight_found, flying_in, kept_in, queue_found, kept_of, fate_then, flight_then, AreHistory, settle, settled_at, IsFlight, StandsIn, settle_both, settle_still, run_append}
+use Rattle.mas_run.proofs.Names.{◌≡◌, ℕ, Bool, true, false, if◌then◌else◌, List, [], ◌∷◌, ◌++◌, append-nil, Option, Some, None, refl, sym, ◌∙◌, ap, subst, Batch, Entry, Fate, Dropped, Flying, Kept, Queue, is_flying, is_kept, run, Book, with_last-append, kept_all_append, placed_all, unplaced_settled, AreSettled, end_of, in_flight, kept_all, with_last, Batched, flies_as, flight_found, flying_in, kept_in, queue_found, kept_of, fate_then, flight_then, AreHistory, settle, settled_at, IsFlight, StandsIn, settle_both, settle_still, run_append, flown_of}
 use Rattle.mas_run.proofs.PassedLemmas.{settled_is}
 
 -- BATCHES OF A LINE
@@ -71,11 +71,7 @@ settled_end batches placed b current now at stands are found =
     ap (settle found at) f.journal ∙ settle_both found at f.before (in_flight current)
     ∙ ap (λ (bs : List Batch). bs ++ settle found at (in_flight current)) (settle_still found at f.before now (f.settled now are))
 
-abbrev pub flown_of : Option Batch → Option (List Entry)
-flown_of None = None
-flown_of (Some c) = Some c.entries
-
-flown_is : (b : Book) (flight : Option (List Entry)) (current : Option Batch) → IsFlight b flight current → flown_of current ≡ flight
+pub flown_is : (b : Book) (flight : Option (List Entry)) (current : Option Batch) → IsFlight b flight current → flown_of current ≡ flight
 flown_is b None current none = ap flown_of none
 flown_is b (Some es) current flies = ap flown_of flies.is ∙ ap (λ (xs : List Entry). Some xs) flies.entries
 

@@ -6,10 +6,10 @@ use Rattle.card_reader.proofs.Fields.{fields_fit, least-ok}
 use Rattle.card_reader.proofs.Refusals.{cards_fit}
 use Rattle.queue_commands.specs.Given.{IsGiver, is_plain}
 use Rattle.script_input.specs.Commands.{is_typed}
+use Rattle.mas_run.proofs.ComesLemmas.{HasGot, holder_is, IsUpMember, Comes, comes, NoMember, SaysNo, StillUp, NotGranted, DeckCame, CommandCame, ResetCame, TakeoverCame, WorkCame, LineCame, LockCame, FreeCame, ReplaceCame, MuteCame}
 use Rattle.script_lang.specs.declared.types.Ask.TheVariants as ask
 use Rattle.mas_types.specs.declared.commands.Command.TheVariants as command
 use Rattle.lock_cycle.specs.declared.answers.LockNo.TheVariants as lock
-use Rattle.mas_run.proofs.ComesLemmas.{HasGot, holder_is, IsUpMember, Comes, comes, NoMember, SaysNo, StillUp, NotGranted, DeckCame, CommandCame, ResetCame, TakeoverCame, WorkCame, LineCame, LockCame, FreeCame, ReplaceCame, MuteCame}
 
 -- THE LIMITS of a line of a member
 

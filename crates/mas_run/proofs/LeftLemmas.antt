@@ -1,5 +1,5 @@
 -- A line of a member, in the words of a run: by what it left, and once the operator said that its member was stopped.
-use Rattle.mas_run.proofs.Names.{IsWhy, ℕ, Bool, refl, ◌≡◌, ◌≢◌, inl, inr, ◌==◌, ◌&&◌, true, false, if◌then◌else◌, List, [], ◌∷◌, ◌++◌, map, append-nil, Option, None, Result, Ok, sym, ◌∙◌, ap, subst, arith, ⊎_elim, ◌⊎◌, ◌≤◌, Some, Err, ◌+◌, OnOk, Spool, Ckpt1, Ckpt2, View, ViewLine as Line, paper_now, ViewLine as Printed, World, KeepsCounts, VolumesStay, none_lost, console_now, stay_both, stay_more, rose_more, OnConsole, eqb-true, nat_tests, map-append, Fate, Dev, MemberId, Ask, PlantGhosts, Ghosts as CopyGhosts, Parts, AreBatched, AtCut, IsBroken, IsTight, cause_by, NodeNo, next, Goes, Cut, Cause, Ends, Batched, Scene, Said, cause_of, steps_said_by as said_by, scene_left, stopped_lines, Given, play_with, played_with, ArePiecesOf, IsAskRight, LineAt, admitted_at, pieces_at, played_at, fate_found, sayer_of, Piece, Admission, Plays, AdmissionLeaves, CutsAs, IfIdle, IfOfMember, IsPassed, IsWithin, LosesAs, arms_by, arms_then, cut_in, cut_of, is_takeover, is_work, printed_at, taking, IsGiven, IsHonest, IsHonestAs, StaysAs, named_as, named_by, names_in, IsNextAct, MayLoseCopy, loses_then, HasLeft, linesleft_left_at as left_at, IsCutBy, is_of_member, Disk, Printer, Wire, SamePapers, stopped_in, IsOneAct, CouldNotStay, IsWhyLost, Proceeds, IsShapedAs, holder_as, IsTaskShaped, by_order, All-weaker, Closing, GroupNo, Text, Queue, Read, IsFoundLost, HasFailed, HasPrinterFailed, IsReadAs, IsSpoolLost, Finds, units_done, units_left, nothing_found, Found, Offer, Holder, State, Away, Fresh, Rested, Told, Task, Deck, Give, Work, Acknowledge, Exchange, PrintLines, ReadText, AreFoundIn, FindsOffered, IsFoundAt, Wait, AreFewPieces, AreShaped, DeckLinesIn, SaysIn, WorkLinesIn, ended_as, LeavesVolumes, no, PairState}
+use Rattle.mas_run.proofs.Names.{IsWhy, ℕ, Bool, refl, ◌≡◌, ◌≢◌, inl, inr, ◌==◌, ◌&&◌, true, false, if◌then◌else◌, List, [], ◌∷◌, ◌++◌, map, append-nil, Option, None, Result, Ok, sym, ◌∙◌, ap, subst, arith, ⊎_elim, ◌⊎◌, ◌≤◌, Some, Err, ◌+◌, OnOk, Spool, Ckpt1, Ckpt2, View, ViewLine as Line, paper_now, ViewLine as Printed, World, KeepsCounts, VolumesStay, none_lost, console_now, stay_both, stay_more, rose_more, OnConsole, eqb-true, nat_tests, map-append, Fate, Dev, MemberId, Ask, PlantGhosts, Ghosts as CopyGhosts, Parts, AreBatched, AtCut, IsBroken, IsTight, cause_by, NodeNo, next, Goes, Cut, Cause, Ends, Batched, Scene, Said, cause_of, steps_said_by as said_by, stopped_lines, Given, played_with, ArePiecesOf, IsAskRight, LineAt, admitted_at, pieces_at, played_at, fate_found, sayer_of, Piece, Admission, Plays, AdmissionLeaves, CutsAs, IfIdle, IfOfMember, IsPassed, IsWithin, LosesAs, arms_by, arms_then, cut_in, cut_of, is_takeover, is_work, printed_at, taking, IsGiven, IsHonest, IsHonestAs, StaysAs, named_as, named_by, names_in, IsNextAct, MayLoseCopy, loses_then, HasLeft, linesleft_left_at as left_at, IsCutBy, is_of_member, Disk, Printer, Wire, SamePapers, stopped_in, IsOneAct, CouldNotStay, IsWhyLost, Proceeds, IsShapedAs, holder_as, IsTaskShaped, by_order, All-weaker, Closing, GroupNo, Text, Queue, Read, IsFoundLost, HasFailed, HasPrinterFailed, IsReadAs, IsSpoolLost, Finds, units_done, units_left, nothing_found, Found, Offer, Holder, State, Away, Fresh, Rested, Told, Task, Deck, Give, Work, Acknowledge, Exchange, PrintLines, ReadText, AreFoundIn, FindsOffered, IsFoundAt, Wait, AreFewPieces, AreShaped, DeckLinesIn, SaysIn, WorkLinesIn, ended_as, LeavesVolumes, no, PairState}
 use Rattle.member_resets.specs.Acts.{HasLineFailed}
 use Rattle.member_work.specs.Causes.{MayRefuse}
 use Rattle.member_sittings.specs.Shapes.{SaysAtEnd}
@@ -60,32 +60,11 @@ lines_said by [] = refl
 lines_said by (l ∷ ls) = ap (λ (more : List Line). l ∷ more) (lines_said by ls)
 
 module _ (l : LineAt) (member : is_of_member l.step.what ≡ true) where
-  as_member : played_at l ≡ played_with l.scene l.step.by l.number (admitted_at l) l.given
-  as_member = (of_member l member).played
-
-  pub next_left : (played_at l).next ≡ scene_left l.scene l.step.by (play_with l.scene l.step.by (admitted_at l) l.given) (left_at l)
-  next_left = ap (λ p. p.next) as_member
-
-  pub found_left : (played_at l).outcome.found ≡ fate_found (admitted_at l) l.given.sight
-  found_left = ap (λ p. p.outcome.found) as_member
-
-  pub batches_left : (played_at l).outcome.batches ≡ (left_at l).batches
-  batches_left = ap (λ p. p.outcome.batches) as_member
-
-  pub printed_left : (played_at l).outcome.printed ≡ (left_at l).printed
-  printed_left = ap (λ p. p.outcome.printed) as_member
-
-  pub given_left : (played_at l).outcome.given ≡ (left_at l).given
-  given_left = ap (λ p. p.outcome.given) as_member
-
-  pub loses_none : (played_at l).outcome.loses ≡ None
-  loses_none = ap (λ p. p.outcome.loses) as_member
-
   -- the lines that are said: those that the line left, and that its member was stopped
   pub lines_left : map (λ (s : Said). s.line) (played_at l).outcome.said
       ≡ (left_at l).lines ++ map (λ (s : Said). s.line) (stopped_lines l.step.by l.number (cause_of l.given.sight.cut))
   lines_left =
-      ap (λ p. map (λ (s : Said). s.line) p.outcome.said) as_member
+      ap (λ p. map (λ (s : Said). s.line) p.outcome.said) (of_member l member).played
       ∙ map-append (λ (s : Said). s.line) (map (said_by (sayer_of l.step.by (admitted_at l))) (left_at l).lines) (stopped_lines l.step.by l.number (cause_of l.given.sight.cut))
       ∙ ap (λ (ls : List Line). ls ++ map (λ (s : Said). s.line) (stopped_lines l.step.by l.number (cause_of l.given.sight.cut)))
       (lines_said (sayer_of l.step.by (admitted_at l)) (left_at l).lines)
@@ -101,7 +80,7 @@ module _ {P C : Type 0} (plants : PlantGhosts P) (copies : CopyGhosts C) (told :
     by_member true is =
         let same : l.step.by.0 ≡ m = eqb-true l.step.by.0 m is in
         subst (λ (k : ℕ). paper_now (plants.view y.plant) k ≡ paper_now (plants.view x.plant) k ++ (left_at l).printed) same (left.paper t)
-        ∙ ap (λ (ls : List Line). paper_now (plants.view x.plant) m ++ ls) (sym (printed_left l member)
+        ∙ ap (λ (ls : List Line). paper_now (plants.view x.plant) m ++ ls) (sym (ap (λ p. p.outcome.printed) (of_member l member).played)
         ∙ ap (λ (b : Bool). if b then (played_at l).outcome.printed else []) (sym is))
     by_member false is =
         let other : m ≢ l.step.by.0 = λ e. absurd (let same : (l.step.by.0 == m) ≡ true = grind (arith, nat_tests, e) in cc) in
@@ -343,13 +322,13 @@ module _ {P C : Type 0} (plants : PlantGhosts P) (copies : CopyGhosts C) (told :
         broke = λ t. subst (λ (c : Option Cut). AtCut (IsBroken (ended_as r)) c (pieces_at l)) (sym cut_here) (left.broke t);
         spares = λ m differs. left.spares.stops m (inl differs);
         failed = left.failed;
-        batches = subst (λ (bs : List Batched). AreBatched l.step.by (w x).now (w y).now bs left.own) (sym (batches_left l member)) left.batches;
+        batches = subst (λ (bs : List Batched). AreBatched l.step.by (w x).now (w y).now bs left.own) (sym (ap (λ p. p.outcome.batches) (of_member l member).played)) left.batches;
         console = λ t. left.console t ∙ ap (λ (ls : List Printed). console_now (w x) ++ ls)
             (sym (append-nil (left_at l).lines) ∙ ap (λ (ss : List Said). (left_at l).lines ++ map (λ (s : Said). s.line) ss) (sym (none_said r other l.step.by l.number (pieces_at l) l.given.sight.cut left.cut))
             ∙ sym (lines_left l member));
         paper = λ t m. printed_here plants copies told l x y member left m t;
         dry = left.dry;
-        loses = λ t. subst (λ (d : Option Dev). LosesAs copies.reads (took l) d (w x) (w y)) (sym (loses_none l member)) (left.loses t);
+        loses = λ t. subst (λ (d : Option Dev). LosesAs copies.reads (took l) d (w x) (w y)) (sym (ap (λ p. p.outcome.loses) (of_member l member).played)) (left.loses t);
         arms = λ m. left.arms m ∙ sym (arms_same plants copies told l x y member left m);
         volumes = λ t leaves. left.volumes t ((of_member l member).leaves leaves);
       }

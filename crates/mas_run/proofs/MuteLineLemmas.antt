@@ -1,16 +1,16 @@
 -- A stop of a member, a stop that is armed, and the loss of a device, as lines of a script.
-use Rattle.mas_run.proofs.Names.{◌≡◌, ◌≢◌, ◌⊎◌, inl, inr, ⊎_elim, ℕ, ◌+◌, ◌≤◌, not, Bool, true, false, if◌then◌else◌, List, length, Option, None, Ok, le_refl, refl, sym, ◌∙◌, ap, subst, arith, [], ◌∷◌, Result, Err, append-nil, ◌==◌, ◌&&◌, ◌++◌, map, Some, Dev, Ckpt1, Ckpt2, Spool, MemberId, Entry, Config, Queue, steps_most, is_member, runs_keep_configuration, Book, IsMember, after_stop, is_stopped, Fuse, Disk, PlantGhosts, View, disk_now, DiskView, ViewLine as Line, paper_now, Loses, Rose, SameWires, Arms, next, Ghosts as CopyGhosts, SteadyGhosts, IsCkpt, pick, Complex, Elsewhere, kept_all, reserved_after_stop, Parts, parts_of, with_half, no, papers_none, Grows, console_now, VolumesStay, none_lost, Member, journal_of, queue_of, Scene, Batched, Played, is_up, silent, stop, Said, arm, lose, nothing, KeepCopies, Proceeds, StaysLost, same_device, AskLeaves, CutsAs, IfOfMember, IsWithin, LeavesVolumes, arms_then, cut_in, cut_of, is_work, loses_then, named_by, PlayedLine, line_by, HasPlayedLine, is_of_member, LineIsPlayed, BetweenLines, IsBetween, IsShown, IsFlight, Since, none_since, stopped_since, proceeds_of, HaveRead, closing_line, SaysStopped, stopped_said, NodeNo, TellNone, closing_of, whole_later, eqb-true, nat_tests, Batch, Fate, Flying, Ask, Step, Counts, Part, NoMore, SamePapers, counts_of, AreBatched, AtCut, IsBroken, IsTight, Sitting, Admission, IsAskRight, none_given, LineAt, admitted_at, pieces_at, played_at, Cut, Halt, Replaced, settle, AreVolumesKept, kept_none, no_more}
-use Rattle.script_lang.specs.declared.types.Ask.TheVariants as ask
-use Rattle.member_lines.specs.Stops.{ArmsIf as ArmsThere, ArmsStop, IsAt, Stops, stopped_at}
+use Rattle.mas_run.proofs.Names.{◌≡◌, ◌≢◌, ◌⊎◌, inl, inr, ⊎_elim, ℕ, ◌+◌, ◌≤◌, not, Bool, true, false, if◌then◌else◌, List, length, Option, None, Ok, le_refl, refl, sym, ◌∙◌, ap, subst, arith, [], ◌∷◌, Result, Err, append-nil, ◌==◌, ◌&&◌, ◌++◌, map, Some, Dev, Ckpt1, Ckpt2, Spool, MemberId, Entry, Config, Queue, steps_most, is_member, runs_keep_configuration, Book, IsMember, after_stop, is_stopped, Fuse, Disk, PlantGhosts, View, disk_now, DiskView, ViewLine as Line, paper_now, Loses, Rose, SameWires, Arms, next, Ghosts as CopyGhosts, SteadyGhosts, IsCkpt, pick, Complex, Elsewhere, kept_all, reserved_after_stop, Parts, parts_of, with_half, no, papers_none, Grows, console_now, VolumesStay, none_lost, Member, journal_of, queue_of, Scene, Batched, Played, is_up, silent, stop, Said, arm, lose, nothing, KeepCopies, Proceeds, StaysLost, same_device, AskLeaves, CutsAs, IfOfMember, IsWithin, LeavesVolumes, arms_then, cut_in, cut_of, is_work, loses_then, named_by, line_by, HasPlayedLine, is_of_member, LineIsPlayed, BetweenLines, IsBetween, IsShown, IsFlight, Since, none_since, stopped_since, proceeds_of, HaveRead, closing_line, SaysStopped, stopped_said, NodeNo, TellNone, closing_of, whole_later, eqb-true, nat_tests, Batch, Fate, Flying, Ask, Step, Counts, Part, NoMore, SamePapers, counts_of, AreBatched, AtCut, IsBroken, IsTight, Sitting, Admission, IsAskRight, none_given, LineAt, admitted_at, pieces_at, played_at, Cut, Halt, Replaced, settle, AreVolumesKept, kept_none, no_more, admitted}
+use Rattle.member_lines.specs.Stops.{ArmsIf as ArmsThere, ArmsStop, IsAt, Stops}
 use Rattle.mas_run.proofs.ClosesLemmas.{scene_at, shown_at, between_later}
 use Rattle.mas_run.proofs.KnownLemmas.{inside_of}
 use Rattle.mas_run.proofs.CopiesLemmas.{copies_still, leaves_same}
 use Rattle.mas_run.proofs.WireLemmas.{readers_still, mute_carries}
-use Rattle.mas_types.specs.declared.answers.Closing.TheVariants as closing
 use Rattle.mas_run.proofs.TurnedLemmas.{between_said, between_spoken}
-use Rattle.member_node.specs.declared.member.NodeNo.TheVariants as no_node
 use Rattle.mas_run.proofs.LeftLemmas.{if_idle}
 use Rattle.mas_run.proofs.PassedLemmas.{settle_none, renews_mute}
+use Rattle.script_lang.specs.declared.types.Ask.TheVariants as ask
+use Rattle.mas_types.specs.declared.answers.Closing.TheVariants as closing
+use Rattle.member_node.specs.declared.member.NodeNo.TheVariants as no_node
 
 -- WHAT SUCH A LINE NEEDN'T SAY
 
@@ -34,68 +34,104 @@ none_either : (b : Bool) (ls : List Line) → ls ≡ [] → (if b then ls else [
 none_either true ls none = none
 none_either false ls none = refl
 
--- what it does, and what the plant shows then
-pub record IsPlain {P C : Type 0} (plants : PlantGhosts P) (told : Type 0) (l : LineAt) (x y : Parts P C) : Type 0 where
-  pub lost : Option Dev
-  pub quiet : (played_at l).outcome ≡ record nothing { loses = lost }
+-- WHAT SUCH A LINE DOES: it may lose a device, and the copy on it; and in a later book who is up was so before
+
+abbrev named_lost : Option Dev → ℕ → Bool
+named_lost None = none_lost
+named_lost (Some dev) = λ volume. same_device (Spool volume) dev
+
+pub record IsMute {P C : Type 0} (plants : PlantGhosts P) (lost : Option Dev) (x y : Parts P C) : Type 0 where
+  pub frame : y ≡ record x { plant = y.plant; book = y.book; first_alive = y.first_alive; second_alive = y.second_alive; first_found = y.first_found; second_found = y.second_found }
+  pub later : Since x.book y.book
+  pub holder : y.book.holder ≡ x.book.holder
   pub goes : Proceeds (plants.view x.plant) (plants.view y.plant)
   pub stops : (m : ℕ) → (plants.view y.plant).stops m ≡ (plants.view x.plant).stops m
-  pub console : told → console_now (plants.view y.plant) ≡ console_now (plants.view x.plant)
-  pub paper : told → (m : ℕ) → paper_now (plants.view y.plant) m ≡ paper_now (plants.view x.plant) m
-  pub dry : told → SamePapers (plants.view x.plant) (plants.view y.plant)
-  pub wires : told → SameWires (plants.view x.plant) (plants.view y.plant)
-  pub loses : told → (d : Dev) → (plants.view y.plant).loses d ≡ loses_then (played_at l).outcome.loses d ((plants.view x.plant).loses d)
-  pub arms : (m : ℕ) → (plants.view y.plant).arms m ≡ arms_then l m ((plants.view x.plant).arms m)
-  pub volumes : told → LeavesVolumes l → AreVolumesKept (plants.view x.plant) (plants.view y.plant)
-  pub journal : journal_of y ≡ journal_of x
-  pub renewals : y.renewals ≡ x.renewals
+  pub loses : (d : Dev) → (plants.view y.plant).loses d ≡ loses_then lost d ((plants.view x.plant).loses d)
   pub stays : (d : Dev) → StaysLost d (plants.view x.plant) (plants.view y.plant)
-  pub stay : VolumesStay (named_by l) (plants.view x.plant) (plants.view y.plant)
+  pub stay : VolumesStay (named_lost lost) (plants.view x.plant) (plants.view y.plant)
+  pub console : plants.tells → console_now (plants.view y.plant) ≡ console_now (plants.view x.plant)
+  pub papers : plants.tells → SamePapers (plants.view x.plant) (plants.view y.plant)
+  pub wires : plants.tells → SameWires (plants.view x.plant) (plants.view y.plant)
+  pub bytes : plants.tells → (d : Dev) → (disk_now (plants.view y.plant) d).bytes ≡ (disk_now (plants.view x.plant) d).bytes
+  pub volumes : plants.tells → ((n : ℕ) → lost ≡ Some (Spool n) → ⊥) → AreVolumesKept (plants.view x.plant) (plants.view y.plant)
+  pub alive1 : y.first_alive ≡ true → x.first_alive ≡ true
+  pub alive2 : y.second_alive ≡ true → x.second_alive ≡ true
+  pub kept : KeepCopies plants {T = Unit {0}} x y (Ok tt)
 
-module _ {P C : Type 0} (plants : PlantGhosts P) (copies : CopyGhosts C) (told : Type 0) (S : Scene) (at : ℕ) (step : Step) (none : is_of_member step.what ≡ false)
-    (x y : Parts P C) where
+module _ {P C : Type 0} (plants : PlantGhosts P) (copies : CopyGhosts C) (told : Type 0) (S : Scene) (at : ℕ) (step : Step) (lost : Option Dev) (x y : Parts P C) where
   abbrev l : LineAt
   l = record { scene = S; number = at; step = step; given = none_given }
 
-  plain_played : IsPlain plants told l x y → IsShown plants copies told (played_at l).next y → HasPlayedLine plants copies told S at step x y (Ok tt)
-  plain_played plain shows = let none_cut : cut_of l ≡ None = uncut step.what in
+  -- at a scene
+  pub record IsMuteAt : Type 0 where
+    pub quiet : (played_at l).outcome ≡ record nothing { loses = lost }
+    pub arms : (m : ℕ) → (plants.view y.plant).arms m ≡ arms_then l m ((plants.view x.plant).arms m)
+    pub named : named_by l ≡ named_lost lost
+    pub leaves : LeavesVolumes l → (n : ℕ) → lost ≡ Some (Spool n) → ⊥
+    pub shows : IsShown plants copies told (played_at l).next y
+
+  mute_played : is_of_member step.what ≡ false → (told → plants.tells) → IsMute plants lost x y → IsMuteAt → HasPlayedLine plants copies told S at step x y (Ok tt)
+  mute_played none tells mute here = let none_cut : cut_of l ≡ None = uncut step.what in
       let if_uncut : (Q : Halt → Sitting → Type 0) → AtCut Q (cut_of l) (pieces_at l) = λ Q. subst (λ (c : Option Cut). AtCut Q c (pieces_at l)) (sym none_cut) tt in
-      let plain_view : Parts P C → View = λ w. plants.view w.plant in record {
+      let old : View = plants.view x.plant in
+      let new : View = plants.view y.plant in record {
         given = none_given;
         next = record {
           own = [];
           passed = record {
-            goes = plain.goes;
-            stays = λ d other. plain.stays d;
+            goes = mute.goes;
+            stays = λ d other. mute.stays d;
             given = record { shaped = inr (unasked step.what none _); right = λ t. unfound S step.by at step.what none };
             honest = λ t. unasked step.what none _;
-            stay = λ t. plain.stay;
-            cut = subst (λ (c : Option Cut). CutsAs {T = Unit {0}} (Ok tt) step.by c (plain_view x) (plain_view y)) (sym none_cut) (plain.stops step.by.0);
+            stay = λ t. subst (λ (f : ℕ → Bool). VolumesStay f old new) (sym here.named) mute.stay;
+            cut = subst (λ (c : Option Cut). CutsAs {T = Unit {0}} (Ok tt) step.by c old new) (sym none_cut) (mute.stops step.by.0);
             within = subst (λ (c : Option Cut). IsWithin c (pieces_at l)) (sym none_cut) tt;
             why = no_node.Halted;
             is_why = refl;
             tight = if_idle (is_work (admitted_at l)) _ (if_uncut (IsTight no_node.Halted));
             broke = λ t. if_uncut (IsBroken no_node.Halted);
-            spares = λ m other. plain.stops m;
+            spares = λ m other. mute.stops m;
             failed = λ e. absurd (cc);
-            batches = subst (λ (bs : List Batched). AreBatched step.by (plain_view x).now (plain_view y).now bs []) (sym (ap (λ o. o.batches) plain.quiet)) tt;
-            console = λ t. plain.console t ∙ sym (append-nil (console_now (plain_view x))) ∙ ap (λ (ss : List Said). console_now (plain_view x) ++ map (λ (s : Said). s.line) ss) (sym (ap (λ o. o.said) plain.quiet));
-            paper = λ t m. plain.paper t m ∙ sym (append-nil (paper_now (plain_view x) m))
-                ∙ ap (λ (ls : List Line). paper_now (plain_view x) m ++ ls) (sym (none_either (step.by.0 == m) (played_at l).outcome.printed (ap (λ o. o.printed) plain.quiet)));
-            dry = λ t so. plain.dry t;
-            loses = λ t d. inl (plain.loses t d);
-            arms = plain.arms;
-            volumes = plain.volumes;
+            batches = subst (λ (bs : List Batched). AreBatched step.by old.now new.now bs []) (sym (ap (λ o. o.batches) here.quiet)) tt;
+            console = λ t. mute.console (tells t) ∙ sym (append-nil (console_now old)) ∙ ap (λ (ss : List Said). console_now old ++ map (λ (s : Said). s.line) ss) (sym (ap (λ o. o.said) here.quiet));
+            paper = λ t m. mute.papers (tells t) new.now mute.goes.later (le_refl new.now) m ∙ sym (append-nil (paper_now old m))
+                ∙ ap (λ (ls : List Line). paper_now old m ++ ls) (sym (none_either (step.by.0 == m) (played_at l).outcome.printed (ap (λ o. o.printed) here.quiet)));
+            dry = λ t so. mute.papers (tells t);
+            loses = λ t d. inl (mute.loses d ∙ sym (ap (λ o. loses_then o.loses d (old.loses d)) here.quiet));
+            arms = here.arms;
+            volumes = λ t leaves. mute.volumes (tells t) (here.leaves leaves);
           };
-          at = (plain_view x).now;
-          moment = (omega arith, plain.goes.later);
-          batches = plain.journal ∙ sym (settle_none (plain_view x).now (journal_of x)) ∙ sym (append-nil (settle Flying (plain_view x).now (journal_of x)))
-              ∙ ap (λ (f : Fate). settle f (plain_view x).now (journal_of x) ++ []) (sym (ap (λ o. o.found) plain.quiet));
-          renews = renews_mute None Replaced x.renewals y.renewals (plain_view x) (plain_view y) plain.renewals S.queue.config S.book step.by step.what none;
-          wires = λ t. mute_carries x.since l (played_at l).outcome.given (plain_view x) (plain_view y) (ap (λ o. o.given) plain.quiet) (plain.wires t) S.queue.config S.book step.by step.what none;
+          at = old.now;
+          moment = (omega arith, mute.goes.later);
+          batches = ap (λ (w : Parts P C). journal_of w) mute.frame ∙ sym (settle_none old.now (journal_of x)) ∙ sym (append-nil (settle Flying old.now (journal_of x)))
+              ∙ ap (λ (f : Fate). settle f old.now (journal_of x) ++ []) (sym (ap (λ o. o.found) here.quiet));
+          renews = renews_mute None Replaced x.renewals y.renewals old new (ap (λ (w : Parts P C). w.renewals) mute.frame) S.queue.config S.book step.by step.what none;
+          wires = λ t. mute_carries x.since l (played_at l).outcome.given old new (ap (λ o. o.given) here.quiet) (mute.wires (tells t)) S.queue.config S.book step.by step.what none;
         };
-        shows = shows;
+        shows = here.shows;
       }
+
+-- as a line of a run
+module _ {P C : Type 0} {plants : PlantGhosts P} {steadies : SteadyGhosts C} {copies : CopyGhosts C} (x y : Complex P C plants steadies copies) (ms : List Member) (at : ℕ) (few : at ≤ steps_most) (is : BetweenLines x ms at)
+    (lost : Option Dev) (mute : IsMute plants lost (parts_of x) (parts_of y)) where
+  mute_line : (step : Step) → is_of_member step.what ≡ false → ((told : Type 0) (S : Scene) → IsShown plants copies told S (parts_of x) → IsMuteAt plants copies told S at step lost (parts_of x) (parts_of y)) → LineIsPlayed x y ms at step (Ok tt)
+  mute_line step none so =
+      let p : Parts P C = parts_of x in
+      let q : Parts P C = parts_of y in record {
+        base = ap (λ (w : Parts P C). w.base) mute.frame;
+        since = ap (λ (w : Parts P C). w.since) mute.frame;
+        bare = λ S shown. mute_played plants copies ⊥ S at step lost p q none (λ t. absurd t) mute (so ⊥ S shown);
+        told = λ tells S shown. mute_played plants copies (Unit {0}) S at step lost p q none (λ t. tells) mute (so (Unit {0}) S shown);
+        kept = leaves_same plants {T = Unit {0}} p q (Ok tt) mute.kept (ap (λ (w : Parts P C). w.renewals) mute.frame) mute.alive1 mute.alive2;
+        next = subst (λ (w : Parts P C). IsBetween plants copies w ms (at + 1)) (sym mute.frame)
+            (between_spoken plants copies (record p { book = q.book }) q.plant q.first_alive q.second_alive q.first_found q.second_found mute.goes mute.alive1 mute.alive2 (λ t. mute.bytes t Ckpt1) (λ t. mute.bytes t Ckpt2) ms at few
+            (λ t. ([], mute.console t ∙ sym (append-nil (console_now (plants.view x.plant))), (λ k less small es of. tt))) (between_later plants copies p q.book mute.later mute.holder ms at is));
+      }
+
+  pub mute_heard : (rs : List (Option (List ℕ))) → HaveRead x rs → HaveRead y rs
+  mute_heard rs read =
+      readers_still plants (parts_of x) (parts_of y) (ap (λ (w : Parts P C). w.base) mute.frame) (ap (λ (w : Parts P C). w.since) mute.frame) is.booked rs read (λ t. mute.goes.past x.since is.begun)
+      (λ t m up. mute.later.up m up) mute.wires
 
 -- A STOP, and one that is armed: by whether its member is up
 
@@ -116,35 +152,32 @@ same_armed old new same = same ∙ ap (λ (a : ℕ → ℕ). record old { arms =
 armed_goes : (old new : View) → Proceeds old (armed_as old new)
 armed_goes old new = record { later = omega arith; past = λ t le. refl; size = λ d. refl; faults = λ p. omega arith; stops = λ m. omega arith; lost = λ p other is. is }
 
-armed_wires : (old new : View) → SameWires old (armed_as old new)
-armed_wires old new = record { waiting = λ k. refl; taken = λ k m. refl; given = λ k m. refl }
-
 -- a line that did nothing to the plant but that
-module _ {P C : Type 0} (plants : PlantGhosts P) (told : Type 0) (l : LineAt) (quiet : (played_at l).outcome ≡ nothing) (named : named_by l ≡ none_lost) (x y : Parts P C)
-    (armed : plants.view y.plant ≡ armed_as (plants.view x.plant) (plants.view y.plant)) (counted : (m : ℕ) → (plants.view y.plant).arms m ≡ arms_then l m ((plants.view x.plant).arms m))
-    (journal : journal_of y ≡ journal_of x) (renewals : y.renewals ≡ x.renewals) where
-  abbrev old : View
-  old = plants.view x.plant
-
-  quiet_plain : IsPlain plants told l x y
-  quiet_plain = record {
-    lost = None;
-    quiet = quiet;
-    goes = subst (λ (w : View). Proceeds old w) (sym armed) (armed_goes old (plants.view y.plant));
-    stops = λ m. ap (λ (w : View). w.stops m) armed;
-    console = λ t. ap console_now armed;
-    paper = λ t m. ap (λ (w : View). paper_now w m) armed;
-    dry = λ t. subst (λ (w : View). SamePapers old w) (sym armed) (papers_none old);
-    wires = λ t. subst (λ (w : View). SameWires old w) (sym armed) (armed_wires old (plants.view y.plant));
-    loses = λ t d. ap (λ (w : View). w.loses d) armed ∙ sym (ap (λ o. loses_then o.loses d (old.loses d)) quiet);
-    arms = counted;
-    volumes = λ t leaves. subst (λ (w : View). AreVolumesKept old w) (sym armed) (kept_none old);
-    journal = journal;
-    renewals = renewals;
-    stays = λ d is. ap (λ (w : View). w.lost (Disk d)) armed ∙ is;
-    stay = subst (λ (f : ℕ → Bool). VolumesStay f old (plants.view y.plant)) (sym named)
-        (subst (λ (w : View). VolumesStay none_lost old w) (sym armed) (record { lost = λ n other. refl; faults = λ n other. refl }));
-  }
+still_mute : {P C : Type 0} (plants : PlantGhosts P) (x y : Parts P C) → y ≡ record x { plant = y.plant; book = y.book } → Since x.book y.book → y.book.holder ≡ x.book.holder
+    → plants.view y.plant ≡ armed_as (plants.view x.plant) (plants.view y.plant) → IsMute plants None x y
+still_mute {P} {C} plants x y frame later holder armed =
+    let old : View = plants.view x.plant in
+    let new : View = plants.view y.plant in
+    let one : y.first_alive ≡ x.first_alive = ap (λ (w : Parts P C). w.first_alive) frame in
+    let two : y.second_alive ≡ x.second_alive = ap (λ (w : Parts P C). w.second_alive) frame in
+    let goes : Proceeds old new = subst (λ (w : View). Proceeds old w) (sym armed) (armed_goes old new) in record {
+      frame = subst (λ (w : Parts P C). w ≡ record x { plant = w.plant; book = w.book; first_alive = w.first_alive; second_alive = w.second_alive; first_found = w.first_found; second_found = w.second_found }) (sym frame) refl;
+      later = later;
+      holder = holder;
+      goes = goes;
+      stops = λ m. ap (λ (w : View). w.stops m) armed;
+      loses = λ d. ap (λ (w : View). w.loses d) armed;
+      stays = λ d is. ap (λ (w : View). w.lost (Disk d)) armed ∙ is;
+      stay = subst (λ (w : View). VolumesStay none_lost old w) (sym armed) (record { lost = λ n other. refl; faults = λ n other. refl });
+      console = λ t. ap console_now armed;
+      papers = λ t. subst (λ (w : View). SamePapers old w) (sym armed) (papers_none old);
+      wires = λ t. subst (λ (w : View). SameWires old w) (sym armed) (record { waiting = λ k. refl; taken = λ k m. refl; given = λ k m. refl });
+      bytes = λ t d. ap (λ (w : View). (disk_now w d).bytes) armed;
+      volumes = λ t none. subst (λ (w : View). AreVolumesKept old w) (sym armed) (kept_none old);
+      alive1 = λ on. sym one ∙ on;
+      alive2 = λ on. sym two ∙ on;
+      kept = copies_still plants {T = Unit {0}} x y (Ok tt) goes one two (λ on. ap (λ (w : View). w.lost (Disk Ckpt1)) armed) (λ on. ap (λ (w : View). w.lost (Disk Ckpt2)) armed) (λ d. ap (λ (w : View). w.loses d) armed) (inl (inr (one, two)));
+    }
 
 -- what flies does so by the book of any later line: its member stays stopped
 flight_since : (b c : Book) → Since b c → (o : Option (List Entry)) (current : Option Batch) → IsFlight b o current → IsFlight c o current
@@ -245,60 +278,6 @@ pub kept_elsewhere : (dev : Dev) (old new : View) → ((n : ℕ) → Spool n ≢
 kept_elsewhere dev old new apart els t from to n =
     subst (NoMore (disk_now old (Spool n))) (sym (els.others t from to (Spool n) (apart n))) (no_more (disk_now old (Spool n)))
 
-module _ {P C : Type 0} (plants : PlantGhosts P) (told : Type 0) (tells : told → plants.tells) (S : Scene) (at : ℕ) (by : MemberId) (dev : Dev) (x y : Parts P C)
-    (lost : Loses (Disk dev) (plants.view x.plant) (plants.view y.plant)) (els : plants.tells → Elsewhere dev (plants.view x.plant) (plants.view y.plant))
-    (journal : journal_of y ≡ journal_of x) (renewals : y.renewals ≡ x.renewals) where
-  abbrev d : LineAt
-  d = record { scene = S; number = at; step = record { by = by; what = ask.Lose dev }; given = none_given }
-
-  leaves_dev : (a : Admission) (e : Dev) → AskLeaves a (ask.Lose e) → (n : ℕ) → Spool n ≢ e
-  leaves_dev a (Spool m) leaves n same = absurd leaves
-  leaves_dev a _ leaves n same = absurd (cc)
-
-  lose_plain : IsPlain plants told d x y
-  lose_plain = let plain_part : Parts P C → View = λ z. plants.view z.plant in record {
-    lost = Some dev;
-    quiet = refl;
-    goes = proceeds_of (plain_part x) (plain_part y) lost.goes;
-    stops = lost.stops;
-    console = λ t. (els (tells t)).console (plain_part y).now lost.goes.later (let same : (plain_part y).now ≤ (plain_part y).now = omega arith in same);
-    paper = λ t m. (els (tells t)).papers (plain_part y).now lost.goes.later (let same : (plain_part y).now ≤ (plain_part y).now = omega arith in same) m;
-    dry = λ t. (els (tells t)).papers;
-    wires = λ t. (els (tells t)).wires;
-    loses = λ t e. lost_count dev e (plain_part x) (plain_part y) lost;
-    arms = lost.arms;
-    volumes = λ t leaves. kept_elsewhere dev (plain_part x) (plain_part y) (leaves_dev (admitted_at d) dev leaves) (els (tells t));
-    journal = journal;
-    renewals = renewals;
-    stays = λ e is. lost.goes.lost (Disk e) is;
-    stay = record { lost = λ n other. lost.else_lost (Disk (Spool n)) (other_disk dev (Spool n) other); faults = λ n other. lost.faults (Disk (Spool n)) };
-  }
-
-module _ {P C : Type 0} (plants : PlantGhosts P) (copies : CopyGhosts C) (x y : Parts P C) where
-  abbrev plant_of : Parts P C → View
-  plant_of w = plants.view w.plant
-
-  mute_next : y ≡ record x { plant = y.plant; first_alive = y.first_alive; second_alive = y.second_alive; first_found = y.first_found; second_found = y.second_found }
-      → Proceeds (plant_of x) (plant_of y) → (y.first_alive ≡ true → x.first_alive ≡ true) → (y.second_alive ≡ true → x.second_alive ≡ true)
-      → (plants.tells → (d : Dev) → (disk_now (plant_of y) d).bytes ≡ (disk_now (plant_of x) d).bytes) → (plants.tells → console_now (plant_of y) ≡ console_now (plant_of x))
-      → (ms : List Member) (at : ℕ) → at ≤ steps_most → IsBetween plants copies x ms at → IsBetween plants copies y ms (at + 1)
-  mute_next frame goes alive1 alive2 bytes quiet ms at few is =
-      subst (λ (w : Parts P C). IsBetween plants copies w ms (at + 1)) (sym frame)
-      (between_spoken plants copies x y.plant y.first_alive y.second_alive y.first_found y.second_found goes alive1 alive2 (λ t. bytes t Ckpt1) (λ t. bytes t Ckpt2) ms at few
-      (λ t. ([], quiet t ∙ sym (append-nil (console_now (plant_of x))), (λ k less small es of. tt))) is)
-
--- STOPS THAT ARE ARMED are all that differs
-
-module _ {P C : Type 0} (plants : PlantGhosts P) (copies : CopyGhosts C) (x y : Parts P C) (frame : y ≡ record x { plant = y.plant })
-    (same : plants.view y.plant ≡ record (plants.view x.plant) { arms = (plants.view y.plant).arms }) where
-  armed_next : (ms : List Member) (at : ℕ) → at ≤ steps_most → IsBetween plants copies x ms at → IsBetween plants copies y ms (at + 1)
-  armed_next ms at few is =
-      let mute_whole : y ≡ record x { plant = y.plant; first_alive = y.first_alive; second_alive = y.second_alive; first_found = y.first_found; second_found = y.second_found } =
-      subst (λ (w : Parts P C). w ≡ record x { plant = w.plant; first_alive = w.first_alive; second_alive = w.second_alive; first_found = w.first_found; second_found = w.second_found }) (sym frame) refl in
-      let alive_same2 : y.second_alive ≡ x.second_alive = ap (λ (w : Parts P C). w.second_alive) frame in let alive_same1 : y.first_alive ≡ x.first_alive = ap (λ (w : Parts P C). w.first_alive) frame in
-      mute_next plants copies x y mute_whole (subst (λ (w : View). Proceeds (plants.view x.plant) w) (sym same) (armed_goes (plants.view x.plant) (plants.view y.plant)))
-      (λ on. sym alive_same1 ∙ on) (λ on. sym alive_same2 ∙ on) (λ t d. ap (λ (w : View). (disk_now w d).bytes) same) (λ t. ap (λ (w : View). console_now w) same) ms at few is
-
 -- THE OPERATOR SAID that a member was stopped in its line, after which the value was between two lines already
 
 stopped_tells : (by : MemberId) (at : ℕ) (r : Result (Unit {0}) NodeNo) → TellNone at (stopped_said r by at)
@@ -314,15 +293,6 @@ module _ {P C : Type 0} {plants : PlantGhosts P} {steadies : SteadyGhosts C} {co
       (between_said plants copies x z.plant x.first_alive x.second_alive x.first_found x.second_found (proceeds_of (plants.view y.plant) (plants.view z.plant) says.acts.goes) (λ on. on) (λ on. on)
       (λ t. ap (λ (d : DiskView). d.bytes) (says.acts.disks t Ckpt1)) (λ t. ap (λ (d : DiskView). d.bytes) (says.acts.disks t Ckpt2)) ms (at + 1) (at + 1) (omega arith) (omega (arith, few))
       (λ t. (stopped_said r by at, says.console t, (λ k le small es of. stopped_tells by at r k (omega (arith, le)) small es of))) is)
-
--- COPIES that are as they were, where nothing of the plant differs but the stops that are armed
-
-module _ {P C : Type 0} (plants : PlantGhosts P) (x y : Parts P C) (one : y.first_alive ≡ x.first_alive) (two : y.second_alive ≡ x.second_alive)
-    (same : plants.view y.plant ≡ record (plants.view x.plant) { arms = (plants.view y.plant).arms }) where
-  still_copies : KeepCopies plants {T = Unit {0}} x y (Ok tt)
-  still_copies =
-      copies_still plants {T = Unit {0}} x y (Ok tt) (subst (λ (u : View). Proceeds (plants.view x.plant) u) (sym same) (armed_goes (plants.view x.plant) (plants.view y.plant))) one two
-      (λ on. ap (λ (u : View). u.lost (Disk Ckpt1)) same) (λ on. ap (λ (u : View). u.lost (Disk Ckpt2)) same) (λ d. ap (λ (u : View). u.loses d) same) (inl (inr (one, two)))
 
 -- A DEVICE THAT IS LOST
 
@@ -366,79 +336,38 @@ module _ {P C : Type 0} {plants : PlantGhosts P} {steadies : SteadyGhosts C} {co
     by_test true e = e
     by_test false e = absurd (no true refl (sym up ∙ ap (λ (t : Bool). if t then not (is_stopped S.book by) else false) e))
 
-  -- A LINE THAT LEAVES THE PLANT, but for stops that are armed, and all else but the book
-
-  module _ (step : Step) (frame : q ≡ record p { plant = q.plant; book = q.book }) (later : Since p.book q.book) (holder : q.book.holder ≡ p.book.holder)
-      (armed : plants.view y.plant ≡ armed_as (plants.view x.plant) (plants.view y.plant)) where
-    quiet_mute : ((told : Type 0) → PlayedLine told at step x y (Ok tt)) → LineIsPlayed x y ms at step (Ok tt)
-    quiet_mute line = record {
-      base = ap (λ (w : Parts P C). w.base) frame;
-      since = ap (λ (w : Parts P C). w.since) frame;
-      bare = line ⊥;
-      told = λ t. line (Unit {0});
-      kept = leaves_same plants {T = Unit {0}} p q (Ok tt) (still_copies plants p q (ap (λ (w : Parts P C). w.first_alive) frame) (ap (λ (w : Parts P C). w.second_alive) frame) armed)
-          (ap (λ (w : Parts P C). w.renewals) frame) (λ is. sym (ap (λ (w : Parts P C). w.first_alive) frame) ∙ is) (λ is. sym (ap (λ (w : Parts P C). w.second_alive) frame) ∙ is);
-      next = armed_next plants copies (record p { book = q.book }) q frame armed ms at few (between_later plants copies p q.book later holder ms at is);
-    }
-
-    quiet_heard : (rs : List (Option (List ℕ))) → HaveRead x rs → HaveRead y rs
-    quiet_heard rs read =
-        readers_still plants p q (ap (λ (w : Parts P C). w.base) frame) (ap (λ (w : Parts P C). w.since) frame) is.booked rs read (λ t. ap (λ (w : View). w.world x.since) armed)
-        (λ t m up. later.up m up) (λ t. subst (λ (w : View). SameWires (plants.view x.plant) w) (sym armed) (armed_wires (plants.view x.plant) (plants.view y.plant)))
-
   -- A STOP OF A MEMBER between its acts
 
   module _ (stops : Stops by x y) where
-    frame_here : q ≡ stopped_at here by p
-    frame_here = stops here (is_at (Unit {0}) here here_shown)
+    -- the plant is as it was
+    booked_mute : (c : Book) (o : Option (List Entry)) → o ≡ None → q ≡ record p { book = c; reserved = o } → Since p.book c → c.holder ≡ p.book.holder → IsMute plants None p q
+    booked_mute c o none frame later holder =
+        let whole : q ≡ record p { book = c } = frame ∙ ap (λ (r : Option (List Entry)). record p { book = c; reserved = r }) (none ∙ sym is.unreserved) in
+        let seen : plants.view y.plant ≡ plants.view x.plant = ap (λ (w : Parts P C). plants.view w.plant) whole in
+        still_mute plants p q (subst (λ (w : Parts P C). w ≡ record p { plant = w.plant; book = w.book }) (sym whole) refl) (subst (λ (b : Book). Since p.book b) (sym (ap (λ (w : Parts P C). w.book) whole)) later)
+        (ap (λ (w : Parts P C). w.book.holder) whole ∙ holder) (same_armed (plants.view x.plant) (plants.view y.plant) seen)
 
-    abbrev stopped_if : Bool → Played
-    stopped_if up = if up then silent (record here { book = after_stop here.book by }) else silent here
-
-    since_if : (up : Bool) → is_up here by ≡ up → Since p.book (stopped_if up).next.book
-    since_if true is_up_here = stopped_since p.book by (inside_up here (is_at (Unit {0}) here here_shown) is_up_here)
-    since_if false down = none_since p.book
-
-    holder_if : (up : Bool) → (stopped_if up).next.book.holder ≡ p.book.holder
-    holder_if true = refl
-    holder_if false = refl
-
-    reserved_if : (up : Bool) (o : Option (List Entry)) → o ≡ None → (if up then reserved_after_stop by o else o) ≡ None
-    reserved_if true o none = ap (λ (r : Option (List Entry)). reserved_after_stop by r) none
-    reserved_if false o none = none
-
-    abbrev book_then : Book
-    book_then = (stop here by).next.book
-
-    whole : q ≡ record p { book = book_then }
-    whole = frame_here ∙ ap (λ (o : Option (List Entry)). record p { book = book_then; reserved = o }) (reserved_if (is_up here by) p.reserved is.unreserved ∙ sym is.unreserved)
-
-    stop_frame : q ≡ record p { plant = q.plant; book = q.book }
-    stop_frame = subst (λ (w : Parts P C). w ≡ record p { plant = w.plant; book = w.book }) (sym whole) refl
-
-    stop_since : Since p.book q.book
-    stop_since = subst (λ (b : Book). Since p.book b) (sym (ap (λ (w : Parts P C). w.book) whole)) (since_if (is_up here by) refl)
-
-    stop_holder : q.book.holder ≡ p.book.holder
-    stop_holder = ap (λ (w : Parts P C). w.book.holder) whole ∙ holder_if (is_up here by)
-
-    stop_seen : plants.view y.plant ≡ plants.view x.plant
-    stop_seen = ap (λ (w : Parts P C). plants.view w.plant) frame_here
-
-    stop_line : (told : Type 0) → PlayedLine told at (line_by by ask.Stop) x y (Ok tt)
-    stop_line told S shown =
-        let frame = stops S (is_at told S shown) in
-        plain_played plants copies told S at (line_by by ask.Stop) refl p q
-        (quiet_plain plants told (record { scene = S; number = at; step = line_by by ask.Stop; given = none_given }) (silent_found (is_up S by) S (record S { book = after_stop S.book by })) refl p q
-        (same_armed (plants.view x.plant) (plants.view y.plant) stop_seen) (λ m. ap (λ (w : View). w.arms m) stop_seen) (ap (λ (w : Parts P C). journal_of w) frame) (ap (λ (w : Parts P C). w.renewals) frame))
-        (stop_shown plants copies told S by p q shown (ap (λ (w : Parts P C). queue_of w) frame) (ap (λ (w : Parts P C). w.current) frame) (ap (λ (w : Parts P C). w.printed) frame)
-        (inside_up S (is_at told S shown)) (ap (λ (w : Parts P C). w.book) frame))
+    stop_none : IsMute plants None p q
+    stop_none = by_up (is_up here by) refl (stops here (is_at (Unit {0}) here here_shown)) where
+      by_up : (up : Bool) → is_up here by ≡ up
+          → q ≡ record p { book = (if up then silent (record here { book = after_stop here.book by }) else silent here).next.book; reserved = if up then reserved_after_stop by p.reserved else p.reserved } → IsMute plants None p q
+      by_up true up frame =
+          booked_mute (after_stop p.book by) (reserved_after_stop by p.reserved) (ap (λ (r : Option (List Entry)). reserved_after_stop by r) is.unreserved) frame (stopped_since p.book by (inside_up here (is_at (Unit {0}) here here_shown) up)) refl
+      by_up false down frame = booked_mute p.book p.reserved is.unreserved frame (none_since p.book) refl
 
     pub stop_mute : LineIsPlayed x y ms at (line_by by ask.Stop) (Ok tt)
-    stop_mute = quiet_mute (line_by by ask.Stop) stop_frame stop_since stop_holder (same_armed (plants.view x.plant) (plants.view y.plant) stop_seen) stop_line
+    stop_mute = mute_line x y ms at few is None stop_none (line_by by ask.Stop) refl (λ told S shown.
+        let frame = stops S (is_at told S shown) in
+        record {
+          quiet = silent_found (is_up S by) S (record S { book = after_stop S.book by });
+          arms = λ m. ap (λ (w : Parts P C). (plants.view w.plant).arms m) frame;
+          named = refl;
+          leaves = λ leaves n e. absurd (cc);
+          shows = stop_shown plants copies told S by p q shown (ap (λ (w : Parts P C). queue_of w) frame) (ap (λ (w : Parts P C). w.current) frame) (ap (λ (w : Parts P C). w.printed) frame) (inside_up S (is_at told S shown)) (ap (λ (w : Parts P C). w.book) frame);
+        })
 
     pub stop_heard : (rs : List (Option (List ℕ))) → HaveRead x rs → HaveRead y rs
-    stop_heard rs read = quiet_heard (line_by by ask.Stop) stop_frame stop_since stop_holder (same_armed (plants.view x.plant) (plants.view y.plant) stop_seen) rs read
+    stop_heard rs read = mute_heard x y ms at few is None stop_none rs read
 
   -- A STOP THAT IS ARMED
 
@@ -450,32 +379,25 @@ module _ {P C : Type 0} {plants : PlantGhosts P} {steadies : SteadyGhosts C} {co
     arms_at : (S : Scene) → IsAt S p → ArmsIf (is_up S by) by.0 (plants.view x.plant) (plants.view y.plant)
     arms_at S at_scene = arms_as (is_up S by) (arms S at_scene)
 
-    same_else : plants.view y.plant ≡ armed_as (plants.view x.plant) (plants.view y.plant)
-    same_else = armed_same (is_up here by) by.0 (plants.view x.plant) (plants.view y.plant) (arms_at here (is_at (Unit {0}) here here_shown))
-
     same_book : q.book ≡ p.book
     same_book = ap (λ (w : Parts P C). w.book) frame
 
-    arm_frame : q ≡ record p { plant = q.plant; book = q.book }
-    arm_frame = frame ∙ ap (λ (b : Book). record p { plant = q.plant; book = b }) (sym same_book)
-
-    arm_since : Since p.book q.book
-    arm_since = subst (λ (b : Book). Since p.book b) (sym same_book) (none_since p.book)
-
-    arm_line : (told : Type 0) → PlayedLine told at (line_by by (ask.StopIn what n)) x y (Ok tt)
-    arm_line told S shown =
-        let T : Scene = record S { armed = S.armed ++ record { member = by; fuse = what; left = n } ∷ [] } in
-        plain_played plants copies told S at (line_by by (ask.StopIn what n)) refl p q
-        (quiet_plain plants told (record { scene = S; number = at; step = line_by by (ask.StopIn what n); given = none_given }) (silent_found (is_up S by) S T) refl p q
-        same_else (armed_grow (is_up S by) by.0 (plants.view x.plant) (plants.view y.plant) (arms_at S (is_at told S shown))) (ap (λ (w : Parts P C). journal_of w) frame) (ap (λ (w : Parts P C). w.renewals) frame))
-        (arm_shown plants copies told S by p q shown (ap (λ (w : Parts P C). queue_of w) frame) (ap (λ (w : Parts P C). w.current) frame) (ap (λ (w : Parts P C). w.printed) frame)
-        what n same_book)
+    arm_none : IsMute plants None p q
+    arm_none =
+        still_mute plants p q (frame ∙ ap (λ (b : Book). record p { plant = q.plant; book = b }) (sym same_book)) (subst (λ (b : Book). Since p.book b) (sym same_book) (none_since p.book)) (ap (λ (b : Book). b.holder) same_book)
+        (armed_same (is_up here by) by.0 (plants.view x.plant) (plants.view y.plant) (arms_at here (is_at (Unit {0}) here here_shown)))
 
     pub arm_mute : LineIsPlayed x y ms at (line_by by (ask.StopIn what n)) (Ok tt)
-    arm_mute = quiet_mute (line_by by (ask.StopIn what n)) arm_frame arm_since (ap (λ (b : Book). b.holder) same_book) same_else arm_line
+    arm_mute = mute_line x y ms at few is None arm_none (line_by by (ask.StopIn what n)) refl (λ told S shown. record {
+      quiet = silent_found (is_up S by) S (record S { armed = S.armed ++ record { member = by; fuse = what; left = n } ∷ [] });
+      arms = armed_grow (is_up S by) by.0 (plants.view x.plant) (plants.view y.plant) (arms_at S (is_at told S shown));
+      named = refl;
+      leaves = λ leaves n e. absurd (cc);
+      shows = arm_shown plants copies told S by p q shown (ap (λ (w : Parts P C). queue_of w) frame) (ap (λ (w : Parts P C). w.current) frame) (ap (λ (w : Parts P C). w.printed) frame) what n same_book;
+    })
 
     pub arm_heard : (rs : List (Option (List ℕ))) → HaveRead x rs → HaveRead y rs
-    arm_heard rs read = quiet_heard (line_by by (ask.StopIn what n)) arm_frame arm_since (ap (λ (b : Book). b.holder) same_book) same_else rs read
+    arm_heard rs read = mute_heard x y ms at few is None arm_none rs read
 
   -- A DEVICE THAT IS LOST, and the copy on it with it
 
@@ -502,6 +424,9 @@ module _ {P C : Type 0} {plants : PlantGhosts P} {steadies : SteadyGhosts C} {co
 
     lost_whole : Whole
     lost_whole = whole_by dev frame copy
+
+    same_book_lost : q.book ≡ p.book
+    same_book_lost = ap (λ (w : Parts P C). w.book) lost_whole
 
     -- which copies count as alive
 
@@ -551,25 +476,38 @@ module _ {P C : Type 0} {plants : PlantGhosts P} {steadies : SteadyGhosts C} {co
               (λ one. ⊎_elim (λ gone. inr (left_then Ckpt2 (inr refl) gone.0)) (λ two. inl (inr (one, two))) second_is) first_is;
         }
 
+    lose_some : IsMute plants (Some dev) p q
+    lose_some = record {
+      frame = lost_whole ∙ ap (λ (b : Book). record p { plant = q.plant; book = b; first_alive = q.first_alive; second_alive = q.second_alive; first_found = q.first_found; second_found = q.second_found }) (sym same_book_lost);
+      later = subst (λ (b : Book). Since p.book b) (sym same_book_lost) (none_since p.book);
+      holder = ap (λ (b : Book). b.holder) same_book_lost;
+      goes = proceeds_of (plants.view x.plant) (plants.view y.plant) lost.goes;
+      stops = lost.stops;
+      loses = λ d. lost_count dev d (plants.view x.plant) (plants.view y.plant) lost;
+      stays = λ d gone. lost.goes.lost (Disk d) gone;
+      stay = record { lost = λ n other. lost.else_lost (Disk (Spool n)) (other_disk dev (Spool n) other); faults = λ n other. lost.faults (Disk (Spool n)) };
+      console = λ t. (els t).console (plants.view y.plant).now lost.goes.later (le_refl (plants.view y.plant).now);
+      papers = λ t. (els t).papers;
+      wires = λ t. (els t).wires;
+      bytes = bytes;
+      volumes = λ t none. kept_elsewhere dev (plants.view x.plant) (plants.view y.plant) (λ n same. none n (ap (λ (d : Dev). Some d) (sym same))) (els t);
+      alive1 = alive_then Ckpt1 p.first_alive q.first_alive first_is;
+      alive2 = alive_then Ckpt2 p.second_alive q.second_alive second_is;
+      kept = lost_copies;
+    }
+
+    leaves_dev : (a : Admission) (e : Dev) → AskLeaves a (ask.Lose e) → (n : ℕ) → Some e ≡ Some (Spool n) → ⊥
+    leaves_dev a (Spool m) leaves n same = absurd leaves
+    leaves_dev a _ leaves n same = absurd (cc)
+
     pub lose_mute : LineIsPlayed x y ms at (line_by by (ask.Lose dev)) (Ok tt)
-    lose_mute = let lose_line : (told : Type 0) → (told → plants.tells) → PlayedLine told at (line_by by (ask.Lose dev)) x y (Ok tt) = λ told tells S shown. plain_played plants copies told S at (line_by by (ask.Lose dev)) refl p q
-        (lose_plain plants told tells S at by dev p q lost els (ap (λ (w : Parts P C). journal_of w) lost_whole) (ap (λ (w : Parts P C). w.renewals) lost_whole))
-        (lose_shown plants copies told S by p q shown (ap (λ (w : Parts P C). queue_of w) lost_whole) (ap (λ (w : Parts P C). w.current) lost_whole) (ap (λ (w : Parts P C). w.printed) lost_whole)
-        dev (ap (λ (w : Parts P C). w.book) lost_whole)) in
-        let quiet_there : plants.tells → console_now (plants.view y.plant) ≡ console_now (plants.view x.plant) = λ t. (els t).console (plants.view y.plant).now lost.goes.later (le_refl (plants.view y.plant).now) in
-        record {
-          base = ap (λ (w : Parts P C). w.base) lost_whole;
-          since = ap (λ (w : Parts P C). w.since) lost_whole;
-          bare = lose_line ⊥ (λ t. absurd t);
-          told = λ t. lose_line (Unit {0}) (λ u. t);
-          kept = leaves_same plants {T = Unit {0}} p q (Ok tt) lost_copies (ap (λ (w : Parts P C). w.renewals) lost_whole) (alive_then Ckpt1 p.first_alive q.first_alive first_is) (alive_then Ckpt2 p.second_alive q.second_alive second_is);
-          next = mute_next plants copies p q lost_whole (proceeds_of (plants.view x.plant) (plants.view y.plant) lost.goes) (alive_then Ckpt1 p.first_alive q.first_alive first_is)
-              (alive_then Ckpt2 p.second_alive q.second_alive second_is) bytes quiet_there ms at few is;
-        }
+    lose_mute = mute_line x y ms at few is (Some dev) lose_some (line_by by (ask.Lose dev)) refl (λ told S shown. record {
+      quiet = refl;
+      arms = lost.arms;
+      named = refl;
+      leaves = leaves_dev (admitted S.queue.config S.book by (ask.Lose dev)) dev;
+      shows = lose_shown plants copies told S by p q shown (ap (λ (w : Parts P C). queue_of w) lost_whole) (ap (λ (w : Parts P C). w.current) lost_whole) (ap (λ (w : Parts P C). w.printed) lost_whole) dev same_book_lost;
+    })
 
     pub lose_heard : (rs : List (Option (List ℕ))) → HaveRead x rs → HaveRead y rs
-    lose_heard rs read =
-        readers_still plants p q (ap (λ (w : Parts P C). w.base) lost_whole) (ap (λ (w : Parts P C). w.since) lost_whole) is.booked rs read
-        (λ t. lost.goes.past x.since is.begun)
-        (λ t m up. subst (λ (b : Book). is_stopped b m ≡ false) (ap (λ (w : Parts P C). w.book) lost_whole) up)
-        (λ t. (els t).wires)
+    lose_heard rs read = mute_heard x y ms at few is (Some dev) lose_some rs read

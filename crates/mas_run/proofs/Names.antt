@@ -32,7 +32,7 @@ pub use Rattle.mas_run.specs.Histories.{AreHistory, IsBatched as HistoriesIsBatc
 pub use Rattle.mas_run.specs.Lines.{AdmissionLeaves, AskLeaves, CutsAs, EndsBy, IfIdle, IfOfMember, IsCutAs as LinesIsCutAs, IsGiven, IsHonest, IsHonestAs, IsNextAct, IsPassed, IsThere, IsUnsaid, IsWhy, IsWithin, LeavesVolumes, LosesAs, MayLoseCopy, PrintsNone, StaysAs, StopsUnsaid, arms_by, arms_then, cut_in, cut_of, is_replaced, is_takeover, is_work, loses_then, named_as, named_by, names_in, printed_at, same_device, taking}
 pub use Rattle.mas_run.specs.LinesAt.{LineAt, admitted_at, pieces_as, pieces_at, play_as, played_at}
 pub use Rattle.mas_run.specs.LinesDone.{LineDone, LineIsPlayed}
-pub use Rattle.mas_run.specs.LinesLeft.{HasLeft, HasLeftAs, IsCutBy, IsCutIn as LinesLeftIsCutIn, LeavesAt, LeftAt, LineIsLeft, left_as, left_at as linesleft_left_at, seen_of}
+pub use Rattle.mas_run.specs.LinesLeft.{AreCounted, flown_of, scene_as, HasLeft, HasLeftAs, IsCutBy, IsCutIn as LinesLeftIsCutIn, LeavesAt, LeftAt, LineIsLeft, left_as, left_at as linesleft_left_at, seen_of}
 pub use Rattle.mas_run.specs.LinesPlayed.{HasPlayedLine, PassesLines, PlayedLine, here_at, is_of_member, line_by, there_at}
 pub use Rattle.mas_run.specs.Passed.{ArePassed, GoesOn, Here, IsNext, LeaveVolumes, Passed, TakeNone, There, arms_after, here_after, line_of, loses_after}
 pub use Rattle.mas_run.specs.Refusals.{IsSaid, calm as refusals_calm, refusal_before_play, said_by, steps_of}

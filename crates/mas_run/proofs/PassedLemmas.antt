@@ -1,9 +1,9 @@
 -- The lines of a run one after another, and the copies that they replaced.
 use Rattle.mas_run.proofs.Names.{◌≡◌, ◌≢◌, ◌⊎◌, inl, inr, ℕ, suc, ◌+◌, ◌≤◌, ◌==◌, ◌&&◌, Bool, true, false, if◌then◌else◌, List, [], ◌∷◌, ◌++◌, length, map, drop, append_assoc, append-nil, Option, Some, None, Result, Ok, Err, refl, sym, ◌∙◌, ap, subst, arith, ⊎_elim, nat_lt, All, map-append, Dev, Spool, Ckpt1, Ckpt2, MemberId, Batch, Fate, Kept, Dropped, Flying, same_member, is_flying, Step, Ask, Rose, next as next_count, SameWires, top, Fuse, Console, Disk, View, World, disk_now, given_now, paper_now, AreBatched, IsBatched as StandsAs, NoMore, console_now, NodeNo, Cause, Cut, Ends, Stops, Halt, LostAgain, NotLost, Renewed, Replaced, Saying, Writing, fate_found, Armed, Batched, Scene, with_fate, Said, cause_of, counted, counted_at, is_up, run_goes_on, silent, Outcome, console, fate_then, given_on, history_from, outcomes_if, paper_of, scene_if, serves_line, settled, serves_ask, AreRight, Given, RightIf, ask_with, cut_if, given_first, last_cut, outcomes_with, scene_with, admitted_at, played_at, LineAt, AreHistory, HistoriesIsBatched as IsBatched, settle, settled_at, with_found, CutsAs, EndsBy, LinesIsCutAs as IsCutAs, IsUnsaid, MayLoseCopy, StopsUnsaid, arms_by, cut_in, is_takeover, loses_then, taking, is_replaced, same_device, Proceeds, StaysLost, ArePassed, GoesOn, Here, LeaveVolumes, TakeNone, There, arms_after, here_after, line_of, loses_after, IsNext, Passed, AreVolumesKept, by_order, kept_none, more_then, proceeds_none, proceeds_on, eqb-true, nat_tests, Config, Book, same_member_is, Line as Node, Admission, Plays, Replaces, admitted, Carries, AreSettled, settle_still, settle_both, All-head, All-tail, Renewal, Renewals, with_device, is_of_member, Begins, BeginsAndEnds, RenewsAs, RenewsAt, RenewsBy, RenewsIn, IsCkpt, of_device, no}
+use Rattle.mas_run.proofs.ComesLemmas.{Comes, comes, LineCame, NoMember, SaysNo, StillUp, NotGranted, MuteCame, ReplaceCame}
 use Rattle.script_lang.specs.declared.types.Ask.TheVariants as ask
 use Rattle.spool_plant.specs.declared.plant.Fuse.TheVariants as fuse
 use Rattle.member_node.specs.declared.member.NodeNo.TheVariants as no_node
-use Rattle.mas_run.proofs.ComesLemmas.{Comes, comes, LineCame, NoMember, SaysNo, StillUp, NotGranted, MuteCame, ReplaceCame}
 
 and_none : (b : Bool) → (b && false) ≡ false
 and_none true = refl

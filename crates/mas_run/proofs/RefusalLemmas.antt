@@ -1,7 +1,7 @@
 -- What is refused before play, and what is answered.
 use Rattle.mas_run.proofs.Names.{◌≡◌, ⊎_elim, ℕ, Bool, false, List, [], Result, Err, refl, sym, subst, Status, Script, Step, ScriptSaid as Said, View, Rose, refused_sizes, Answers, is_refusal, IsPlayedOut, refusal_of, refusal_before_play, IsSaid, AreLeftAlone, IsStill, TakesNone, IsCaused}
-use Rattle.mas_types.specs.declared.answers.Status.TheVariants as status
 use Rattle.mas_types.specs.Lists.{first_some}
+use Rattle.mas_types.specs.declared.answers.Status.TheVariants as status
 
 -- ANSWERS
 

@@ -1,15 +1,16 @@
 -- A line that replaces a copy: its member takes its seat or keeps it, replaces the copy, and says so.
-use Rattle.mas_run.proofs.Names.{◌≡◌, ◌≢◌, ◌⊎◌, inl, inr, ⊎_elim, ℕ, ◌≤◌, Bool, true, false, Some, Result, Ok, Err, IsErrOf, refl, sym, ◌∙◌, ap, subst, arith, ◌||◌, ◌++◌, ◌∷◌, [], List, Option, None, map, ◌+◌, ◌-◌, set, append-nil, slice_get, is_none, Dev, Ckpt1, Ckpt2, Spool, MemberId, Part, Disk, PlantGhosts, View, ViewLine as Line, Ghosts as CopyGhosts, IsBothLost, IsCkpt, SomeAlive, other, pick, begun_on, ended_at, ended_on, is_open, of_device, or_at, Elsewhere, Parts, parts_of, IsLeft, console_now, Member, NodeNo, stopped_in, no as clash, Replaces, granted_by, LostAgain, NotLost, Renewed, Replaced, Cause, Stops, clear, LeavesSome, StaysWhole, LeavesCopies, AreSidesLeft, Sides, ends_both, sides_of, Proceeds, is_copy, Begins, BeginsAndEnds, RenewsBy, RenewsAs, Renewal, Renewals, closing_line, Page, Book, after_stop, after_try, left_of as hold_left, SteadyGhosts, Complex, IsAtSeat, journal_of, OtherNotesStay, IsSeatedBy, HasClosedBy, before_line, stopped_so, failed, Ask, ByLock, ForStep, Grant, Holder, Release, Told, Work, released, play_with, Piece, closes_with, holder_of, once_found, replaced_closing, replaced_pieces, Scene, IfRuns, LineDone, line_by, IsShown, cause_by, same_device}
+use Rattle.mas_run.proofs.Names.{◌≡◌, ◌≢◌, ◌⊎◌, inl, inr, ⊎_elim, ℕ, ◌≤◌, Bool, true, false, Some, Result, Ok, Err, IsErrOf, refl, sym, ◌∙◌, ap, subst, arith, ◌||◌, ◌∷◌, [], List, Option, None, map, ◌-◌, set, slice_get, is_none, Dev, Ckpt1, Ckpt2, Spool, MemberId, Part, Disk, PlantGhosts, View, Ghosts as CopyGhosts, IsBothLost, IsCkpt, SomeAlive, other, pick, begun_on, ended_at, ended_on, is_open, of_device, or_at, Elsewhere, Parts, parts_of, IsLeft, console_now, Member, NodeNo, stopped_in, no as clash, Replaces, granted_by, LostAgain, NotLost, Renewed, Replaced, Cause, LeavesSome, StaysWhole, LeavesCopies, AreSidesLeft, Sides, ends_both, sides_of, Proceeds, is_copy, Begins, BeginsAndEnds, RenewsBy, RenewsAs, Renewal, Renewals, closing_line, Page, Book, after_stop, after_try, left_of as hold_left, SteadyGhosts, Complex, IsAtSeat, journal_of, OtherNotesStay, IsSeatedBy, HasClosedBy, before_line, stopped_so, failed, Ask, ByLock, ForStep, Grant, Holder, Release, Told, Work, released, Piece, closes_with, holder_of, once_found, replaced_closing, Scene, LineDone, line_by, cause_by, same_device, Armed, Batch, Counts, flown_of, scene_as}
 use Rattle.mas_complex.specs.ReplaceNo.{ReplaceNo}
 use Rattle.mas_complex.specs.Replacing.{Replaces as ReplacesDevice, replace_stopped}
 use Rattle.member_lines.specs.Replaces.{HasReplaced, found_of, FollowsBy, HasNoSeat, HasSeat, IsLargeEnough, MayBeAt, MayReplace, ReplacesAndCloses, ReplacesBy, left_found, replacing_in}
-use Rattle.mas_run.proofs.ClosingLemmas.{HasMerelyActed, Ending, IsCloser, MayEnd, Unsaid, closing_found, cut_by, copies_merely, left_said, then_merely}
+use Rattle.mas_run.proofs.ClosingLemmas.{Ending, IsCloser, Unsaid, closing_found, cut_by, copies_merely, then_merely}
 use Rattle.mas_run.proofs.MuteLineLemmas.{kept_elsewhere, other_disk, same_dev}
 use Rattle.mas_run.proofs.PassedLemmas.{device_is, some_keeps}
-use Rattle.mas_run.proofs.ArmLemmas.{holder_here, its_holder, turn_holder, HasTurn, admitted_here, none_flies, tested_here, IsTold, told_tells, may_seat, turn_goes, turn_quiet}
+use Rattle.mas_run.proofs.ArmLemmas.{its_holder, turn_holder, HasTurn, tested_here, IsTold, may_seat, turn_goes, turn_quiet}
 use Rattle.mas_run.proofs.ClosesLemmas.{stays_stopped}
 use Rattle.mas_run.proofs.CopiesLemmas.{copies_still, leaves_same, leaves_then}
-use Rattle.mas_run.proofs.SeatLemmas.{Did, book_unsaid, copies_acted, did_closed, did_done, did_unseated, error_same, lines_unsaid, own_notes, tried_in, went}
+use Rattle.mas_run.proofs.SeatLemmas.{Did, copies_acted, did_closed, did_done, did_unseated, error_same, tried_in, went, did_begun}
+use Rattle.mas_run.proofs.BarelyLemmas.{HasMerelyActed, MayBegin}
 use Rattle.mas_complex.specs.ReplaceNo.TheVariants as no
 use Rattle.member_node.specs.declared.member.NodeNo.TheVariants as no_node
 
@@ -57,7 +58,6 @@ module _ {P C : Type 0} (plants : PlantGhosts P) (by : MemberId) (dev : Dev) (ck
     };
     stopped = λ is. reps.halted (sym same ∙ ap stopped_in is);
     failed = λ is. absurd (other is);
-    loses = λ t d. reps.loses d;
     papers = λ t. (els t).papers;
     wires = λ t. (els t).wires;
     volumes = λ t. kept_elsewhere dev (v x) (v y) (spool_other dev ckpt) (els t);
@@ -220,6 +220,11 @@ closes_up : (answer : Result (Unit {0}) ReplaceNo) (found : Renewed) → found_o
 closes_up (Err no.Halted) found is = absurd (cc)
 closes_up _ found is = refl
 
+-- which never is the console's failure
+open_begins : (e : NodeNo) → e ≢ no_node.ConsoleFault → MayBegin e
+open_begins no_node.ConsoleFault other = other refl
+open_begins _ other = tt
+
 plant_so : {P C : Type 0} (e : NodeNo) (by : MemberId) (z : Parts P C) → (stopped_so (failed e) by z).plant ≡ z.plant
 plant_so no_node.Halted by z = refl
 plant_so _ by z = refl
@@ -228,10 +233,6 @@ plant_so _ by z = refl
 sides_stopped : {P C : Type 0} (plants : PlantGhosts P) (by : MemberId) (z : Parts P C) (e : NodeNo) → sides_of plants z ≡ sides_of plants (stopped_so (failed e) by z)
 sides_stopped plants by z no_node.Halted = refl
 sides_stopped plants by z _ = refl
-
-unsaid_end : (e : NodeNo) → e ≢ no_node.ConsoleFault → MayEnd (failed e) (Unsaid (cause_by e))
-unsaid_end no_node.ConsoleFault other = absurd (other refl)
-unsaid_end _ other = (refl, other)
 
 module _ {P C : Type 0} {plants : PlantGhosts P} {steadies : SteadyGhosts C} {copies : CopyGhosts C} {x mid : Complex P C plants steadies copies} {ms : List Member}
     {at : ℕ} {by : MemberId} {what : Ask} {dev : Dev} {m : Member} (turn : HasTurn x mid ms at by what (Replaces dev) m)
@@ -284,17 +285,15 @@ module _ {P C : Type 0} {plants : PlantGhosts P} {steadies : SteadyGhosts C} {co
   abbrev line : Renewed → List ℕ
   line found = closing_line by at (replaced_closing dev found)
 
-  closer : (told : Type 0) (S : Scene) → IsShown plants copies told S p → (found : Renewed) (e : Ending)
-      → IsCloser (closing_found found S at (line_by by what) e (pieces found)) (Replaces dev) (line found) rel
-  closer told S shown found e =
-      let right : pieces found ≡ replaced_pieces (holder_of S by at (Replaces dev)) dev found = ap (λ (j : Holder). replaced_pieces j dev found) (sym (holder_here turn told S shown (Replaces dev) refl)) in
-      record {
-        pieces = ap (λ f. once_found f (pieces found)) (none_flies plants copies told S p shown calm);
-        shaped = λ old new. right;
-        right = right;
-        found = refl;
-        play = ap (λ (ps : List Piece). play_with S by (Replaces dev) (record { sight = record clear { renewed = found; cut = cut_by e }; pieces = ps })) right;
-      }
+  closer : (counts : Counts) (armed : List Armed) (found : Renewed) (e : Ending)
+      → IsCloser (closing_found found (scene_as p counts armed) at (line_by by what) e (pieces found)) (Replaces dev) (line found) rel
+  closer counts armed found e = record {
+    pieces = ap (λ (c : Option Batch). once_found (flown_of c) (pieces found)) calm;
+    shaped = λ old new. refl;
+    right = refl;
+    found = refl;
+    play = refl;
+  }
 
   -- WHAT IT LEFT
 
@@ -321,13 +320,15 @@ module _ {P C : Type 0} {plants : PlantGhosts P} {steadies : SteadyGhosts C} {co
     since : q.since ≡ p.since
     since = ap (λ (w : Parts P C). w.since) frame_t
 
-    module _ (told : Type 0) (knows : IsTold plants told) (S : Scene) (shown : IsShown plants copies told S p) where
+    module _ (told : Type 0) (knows : IsTold plants told) (counts : Counts) (armed : List Armed) where
+      abbrev S : Scene
+      S = scene_as p counts armed
+
       abbrev DidSo : Result (Unit {0}) NodeNo → Type 0
       DidSo j = Did x y (set ms (by.0 - 1) n) at by what told S j
 
       unseated : (e : NodeNo) → HasNoSeat plants copies S m at dev t q e → DidSo (failed e)
-      unseated e un =
-          did_unseated turn refl refl y n stays base since journal printed told knows S shown (pieces Replaced) (line Replaced) rel (closer told S shown Replaced) (λ cause still. inl still) e un.unseated un.frame
+      unseated e un = did_unseated turn refl refl y n stays base since journal printed told knows counts armed S e un.unseated (λ still. inl still) un.frame
 
       -- IT HAS ITS SEAT, and then was to replace the copy
 
@@ -347,16 +348,19 @@ module _ {P C : Type 0} {plants : PlantGhosts P} {steadies : SteadyGhosts C} {co
         z_notes : OtherNotesStay by p.had z.had
         z_notes j other =
             ap (λ (had : List (List Page)). slice_get had j) (replaced_rest plants copies n dev ckpt s z seat.goes_on.answer seat.goes_on.replaced).2
-            ∙ own_notes turn refl refl y n stays base since journal printed told knows S shown s.had seat.acts.notes j other
+            ∙ subst (λ (k : MemberId). OtherNotesStay k p.had s.had) turn.own seat.acts.notes j other
 
         took : HasMerelyActed plants by (Replaces dev) t s went
-        took = copies_merely plants copies S at (line_by by what) (Replaces dev) t s m turn.own s went seat.acts
+        took = copies_merely plants by (Replaces dev) m turn.own t s went seat.acts
 
         took_copies : LeavesCopies plants t s went
         took_copies = leaves_same plants t s went (copies_acted plants m.id t s went seat.acts) s_renewals seat.acts.on.course.alive1 seat.acts.on.course.alive2
 
         acts_by : ReplacesDevice by.0 dev (replace_stopped seat.goes_on.answer) (u s) (u z)
         acts_by = subst (λ (j : MemberId). ReplacesDevice j.0 dev (replace_stopped seat.goes_on.answer) (u s) (u z)) own_n seat.goes_on.replaced.replaces
+
+        same_loses : plants.tells → (d : Dev) → (u z).loses d ≡ (u t).loses d
+        same_loses tells d = seat.goes_on.replaced.replaces.loses d ∙ seat.acts.on.loses tells d
 
         before : plants.tells → console_now (u z) ≡ console_now (u t)
         before tells = (seat.goes_on.replaced.elsewhere tells).console (u z).now seat.goes_on.replaced.replaces.later (omega arith) ∙ (seat.acts.on.apart tells).console
@@ -382,10 +386,10 @@ module _ {P C : Type 0} {plants : PlantGhosts P} {steadies : SteadyGhosts C} {co
           closes =
               let replaced : HasMerelyActed plants by (Replaces dev) s z went =
               replaced_merely plants by dev ckpt s z (replace_stopped seat.goes_on.answer) acts_by went (sym (closes_up seat.goes_on.answer found is_found)) (λ e. absurd (cc)) seat.goes_on.replaced.elsewhere in
-              did_closed turn refl refl y n stays base since journal printed told knows S shown k_r z found (pieces found) (line found) rel (closer told S shown found)
-              (then_merely plants copies S at (line_by by what) (Replaces dev) t z m turn.own s went took replaced)
+              did_closed turn refl refl y n stays base since journal printed told knows counts armed k_r z found (pieces found) (line found) rel (closer counts armed found)
+              (then_merely plants by (Replaces dev) t s z went took replaced)
               (leaves_then plants t s z went took_copies (replaced_leaves plants copies n dev ckpt s z seat.goes_on.answer went seat.goes_on.replaced (λ e. absurd (cc))))
-              before ((replaced_rest plants copies n dev ckpt s z seat.goes_on.answer seat.goes_on.replaced).0 ∙ ap (λ (w : Parts P C). w.base) seat.entered)
+              same_loses before ((replaced_rest plants copies n dev ckpt s z seat.goes_on.answer seat.goes_on.replaced).0 ∙ ap (λ (w : Parts P C). w.base) seat.entered)
               (sym (ap (λ (w : Parts P C). w.batches) frame_q) ∙ ap (λ (w : Parts P C). w.batches) frame_t) z_book z_notes seat.goes_on.replaced.seat
               (subst (λ (j : MemberId). HasClosedBy plants (left_found S j at dev found) j z q k_r) own_n closed) frame_q renews_ending
 
@@ -399,16 +403,12 @@ module _ {P C : Type 0} {plants : PlantGhosts P} {steadies : SteadyGhosts C} {co
           acted_open : HasMerelyActed plants by (Replaces dev) t q (failed e)
           acted_open = let els_q : plants.tells → Elsewhere dev (u s) (u q) = λ tells. subst (λ (w : P). Elsewhere dev (u s) (plants.view w)) (sym plant_same) (seat.goes_on.replaced.elsewhere tells) in
               let acts_q : ReplacesDevice by.0 dev (replace_stopped seat.goes_on.answer) (u s) (u q) = subst (λ (w : P). ReplacesDevice by.0 dev (replace_stopped seat.goes_on.answer) (u s) (plants.view w)) (sym plant_same) acts_by in
-              then_merely plants copies S at (line_by by what) (Replaces dev) t q m turn.own s (failed e) took
+              then_merely plants by (Replaces dev) t s q (failed e) took
               (replaced_merely plants by dev ckpt s q (replace_stopped seat.goes_on.answer) acts_q (failed e) same_stop (λ is_so. heard (error_same e no_node.ConsoleFault is_so)) els_q)
 
           book_open : e ≡ no_node.Halted → q.book ≡ after_stop b by
           book_open halted =
               ap (λ (w : Parts P C). w.book) frame_q ∙ ap (λ (j : NodeNo). (stopped_so (failed j) n.id z).book) halted ∙ ap (λ (c : Book). after_stop c n.id) z_book ∙ ap (λ (j : MemberId). after_stop b j) own_n
-
-          book_left : (j : NodeNo) → (j ≡ no_node.Halted → q.book ≡ after_stop b by) → IfRuns (failed j) (q.book ≡ (left_found S by at dev Replaced (before_line (cause_by j))).book)
-          book_left no_node.Halted book = book refl ∙ sym (book_unsaid turn refl refl S Replaced told shown Stops)
-          book_left _ book = tt
 
           still_said : plants.tells → console_now (u q) ≡ console_now (u t)
           still_said tells = ap (λ (w : P). console_now (plants.view w)) plant_same ∙ before tells
@@ -420,19 +420,11 @@ module _ {P C : Type 0} {plants : PlantGhosts P} {steadies : SteadyGhosts C} {co
               subst (λ (rs : Renewals). (q.renewals ≡ rs) ⊎ (Begins dev rs q.renewals (u t) (u q) ⊎ BeginsAndEnds dev rs q.renewals (u t) (u q))) s_renewals
               (subst (λ (rs : Renewals). (rs ≡ s.renewals) ⊎ (Begins dev s.renewals rs (u t) (u q) ⊎ BeginsAndEnds dev s.renewals rs (u t) (u q))) (sym renewals_e)
               (renews_some plants copies n dev ckpt s z (u t) (u q) took.goes.later to seat.goes_on.answer seat.goes_on.replaced)) in
-              record {
-                left = λ counted. left_said plants copies S at (line_by by what) (Replaces dev) (admitted_here plants copies told S p shown by what (Replaces dev) turn.arm.adm) Replaced (pieces Replaced) (line Replaced) rel (closer told S shown Replaced) t q (failed e) journal printed
-                    told (λ o up. tt) (told_tells plants told knows) (Unsaid (cause_by e)) (renews_open (cause_by e)) (unsaid_end e heard) acted_open (book_left e book_open)
-                    (λ o. still_said (told_tells plants told knows o) ∙ sym (append-nil (console_now (u t))) ∙ ap (λ (ls : List Line). console_now (u t) ++ ls) (sym (lines_unsaid turn refl refl S Replaced (cause_by e))));
-                kept = leaves_then plants t s q (failed e) took_copies
-                    (subst (λ (w : Parts P C). LeavesCopies plants s w (failed e)) (sym frame_q)
-                    (subst (λ (k : Sides). AreSidesLeft (ends_both (failed e)) (sides_of plants s) k) (sides_stopped plants n.id z e) (replaced_leaves plants copies n dev ckpt s z seat.goes_on.answer (failed e) seat.goes_on.replaced (λ is_so. both (error_same e no_node.BothLost is_so)))));
-                goes = acted_open.goes;
-                wrote = λ tells. ([], still_said tells ∙ sym (append-nil (console_now (u t))), (λ j less small es of. tt));
-                next = tt;
-                book = λ halted. book_open (error_same e no_node.Halted halted);
-                notes = λ j other. ap (λ (had : List (List Page)). slice_get had j) (ap (λ (w : Parts P C). w.had) frame_q ∙ ap (λ (w : Parts P C). w.had) (stays_stopped n.id z z.plant (failed e))) ∙ z_notes j other;
-              }
+              did_begun turn refl refl y n stays base since journal printed told knows counts armed e (open_begins e heard) acted_open (λ tells d. ap (λ (w : P). (plants.view w).loses d) plant_same ∙ same_loses tells d) still_said (renews_open (cause_by e))
+              (leaves_then plants t s q (failed e) took_copies
+              (subst (λ (w : Parts P C). LeavesCopies plants s w (failed e)) (sym frame_q)
+              (subst (λ (k : Sides). AreSidesLeft (ends_both (failed e)) (sides_of plants s) k) (sides_stopped plants n.id z e) (replaced_leaves plants copies n dev ckpt s z seat.goes_on.answer (failed e) seat.goes_on.replaced (λ is_so. both (error_same e no_node.BothLost is_so))))))
+              book_open (λ j other. ap (λ (had : List (List Page)). slice_get had j) (ap (λ (w : Parts P C). w.had) frame_q ∙ ap (λ (w : Parts P C). w.had) (stays_stopped n.id z z.plant (failed e))) ∙ z_notes j other)
 
         opens : (e : NodeNo) → k_r ≡ failed e → q ≡ stopped_so k_r n.id z → stopped_in (failed e) ≡ replace_stopped seat.goes_on.answer → e ≢ no_node.ConsoleFault
             → (e ≡ no_node.BothLost → IsBothLost z.first_alive z.second_alive) → DidSo k_r
@@ -460,14 +452,13 @@ module _ {P C : Type 0} {plants : PlantGhosts P} {steadies : SteadyGhosts C} {co
       did_so (Ok done) left = did_seated (Ok done) left
       did_so (Err e) left = ⊎_elim (unseated e) (did_seated (Err e)) left
 
-    did : (told : Type 0) → IsTold plants told → (S : Scene) → IsShown plants copies told S p → Did x y (set ms (by.0 - 1) n) at by what told S r
-    did told knows S shown =
-        let here : holder_of S m.id h.step (Replaces dev) ≡ h =
-        ap (λ (j : MemberId). holder_of S j h.step (Replaces dev)) turn.own ∙ ap (λ (j : Holder). holder_of S by j.step (Replaces dev)) (its_holder turn h same) ∙ holder_here turn told S shown (Replaces dev) refl
-        ∙ sym (its_holder turn h same) in
-        let tested = tested_here plants copies told S p shown m.id (Replaces dev) mid.book (ap (λ (j : MemberId). after_try x.book j false) turn.own ∙ sym (ap (λ (w : Parts P C). w.book) turn.frame)) (λ locked. calm) in
-        did_so told knows S shown r (subst (λ (j : Holder). ReplacesBy plants copies S m n j.step dev t q r) (its_holder turn h same)
-        (subst (λ (w : Parts P C). ReplacesBy plants copies S m n h.step dev w q r) turn.frame (replaces S (record { tested = tested; holder = here }))))
+      did : DidSo r
+      did =
+          let here : holder_of S m.id h.step (Replaces dev) ≡ h =
+          ap (λ (j : MemberId). holder_of S j h.step (Replaces dev)) turn.own ∙ ap (λ (j : Holder). holder_of S by j.step (Replaces dev)) (its_holder turn h same) ∙ sym (its_holder turn h same) in
+          let tested = tested_here p counts armed m.id (Replaces dev) mid.book (ap (λ (j : MemberId). after_try x.book j false) turn.own ∙ sym (ap (λ (w : Parts P C). w.book) turn.frame)) (λ locked. calm) in
+          did_so r (subst (λ (j : Holder). ReplacesBy plants copies S m n j.step dev t q r) (its_holder turn h same)
+          (subst (λ (w : Parts P C). ReplacesBy plants copies S m n h.step dev w q r) turn.frame (replaces S (record { tested = tested; holder = here }))))
 
     -- THE LINE
 

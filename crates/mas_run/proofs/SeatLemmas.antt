@@ -1,11 +1,11 @@
 -- A line whose member takes its seat or keeps it, and then says its line: it keeps the lock, or it replaced a copy before.
-use Rattle.mas_run.proofs.Names.{Admission, All-nil, Ask, BetweenLines, Book, Bool, Cause, Ckpt1, Ckpt2, Complex, CopiesActed, CopyCauses, Cut, DiskView, Entry, Err, Halt, HasClosed, HasClosedBy, HoldsLock, Inner, IsAside, IsAsideHalt, IsCutAs, IsOfEarlier, IsSeat, IsSeated, IsShown, IsUnseated, Keep, KeepCopies, LeavesCopies, LeavesSome, Left, LeftAt, ViewLine as Line, LineDone, LineIsLeft, List, Locks, Member, MemberId, NodeNo, None, Ok, OnOk, Option, OtherNotesStay, Outer, Page, Parts, Piece, PlantGhosts, Play, Proceeds, Queue, Release, Renewed, RenewsAs, Replaced, Result, Saying, Scene, SeatsAndCloses, SeatsBy, Since, Some, Standing, SteadyGhosts, Stops, TellNone, View, Waiting, [], adds_first, admitted, after_free, after_spend, after_stop, after_try, ap, append-nil, arith, aside_then, asided, at_line, before_line, beginner, beside_none, clear, closes_with, closing_line, console_now, counts_of, entered, entered_same, eq-eqb, failed, false, freed_since, inl, inr, is_holder, is_locked, is_stopped, journal_of, left_by, left_tells, length, line_by, nobody, none_left, noted, page_count, pages_of_run, parts_of, play_of, proceeds_of, proceeds_on, refl, released_by, reserved_after_stop, seat_then, seated_in, set, set-get_or, slice_get, spent, standing, stopped_by, stopped_so, subst, sym, then_since, tried, true, untold_then, with_holder, with_standing, ℕ, ⊎_elim, ◌++◌, ◌+◌, ◌-◌, ◌∙◌, ◌∷◌, ◌≡◌, ◌⊎◌, Ghosts as CopyGhosts, left_of as hold_left, if◌then◌else◌, pair_state}
+use Rattle.mas_run.proofs.Names.{Admission, All-nil, Ask, BetweenLines, Book, Bool, Cause, Ckpt1, Ckpt2, Complex, CopiesActed, CopyCauses, Cut, DiskView, Entry, Err, HasClosed, HasClosedBy, HoldsLock, Inner, IsAside, IsCutAs, IsOfEarlier, IsSeat, IsSeated, IsUnseated, Keep, KeepCopies, LeavesCopies, LeavesSome, Left, LeftAt, ViewLine as Line, LineDone, LineIsLeft, List, Locks, Member, MemberId, NodeNo, None, Ok, OnOk, Option, OtherNotesStay, Outer, Parts, Piece, PlantGhosts, Play, Proceeds, Queue, Release, Renewed, RenewsAs, Replaced, Result, Scene, SeatsAndCloses, SeatsBy, Since, Standing, SteadyGhosts, Stops, TellNone, View, [], after_free, after_spend, after_stop, after_try, ap, append-nil, arith, aside_then, asided, at_line, before_line, beginner, beside_none, clear, closes_with, closing_line, console_now, counts_of, entered, entered_same, eq-eqb, failed, false, freed_since, inl, inr, is_holder, is_locked, is_stopped, journal_of, left_by, left_tells, length, line_by, nobody, noted, page_count, pages_of_run, parts_of, play_of, proceeds_of, proceeds_on, refl, released_by, reserved_after_stop, seat_then, seated_in, set, set-get_or, slice_get, spent, standing, stopped_by, stopped_so, subst, sym, then_since, tried, true, untold_then, with_holder, with_standing, ℕ, ⊎_elim, ◌++◌, ◌+◌, ◌-◌, ◌∙◌, ◌∷◌, ◌≡◌, ◌⊎◌, Ghosts as CopyGhosts, left_of as hold_left, if◌then◌else◌, pair_state, Armed, Counts, Dev, cause_by, flown_of, play_as, scene_as}
 use Rattle.member_resets.proofs.Passages.{passage_of}
-use Rattle.mas_run.proofs.ArmLemmas.{HasTurn, IsTold, admitted_here, none_flies, tested_here, tested_up, tried_here, turn_earlier, turn_halted, turn_inside, turn_quiet, turn_since}
+use Rattle.mas_run.proofs.ArmLemmas.{HasTurn, IsTold, tested_here, tested_up, turn_earlier, turn_halted, turn_inside, turn_quiet, turn_since}
 use Rattle.mas_run.proofs.TurnedLemmas.{between_after, earlier_more, found_says, line_says, seat_spoken}
-use Rattle.mas_run.proofs.BarelyLemmas.{at_first, begun_none, first_halt}
-use Rattle.mas_run.proofs.ClosesLemmas.{Stays, if_ok, scene_at, shown_at, stays_stopped}
-use Rattle.mas_run.proofs.ClosingLemmas.{Ending, HasMerelyActed, IsCloser, Whole, closes_left, closing_at, closing_found, copies_merely, cut_by, locks_closer, merely_closed, not_lost, one, then_merely, unseated_left}
+use Rattle.mas_run.proofs.BarelyLemmas.{HasMerelyActed, MayBegin, begins_left, begun_book, begun_sight, said_book}
+use Rattle.mas_run.proofs.ClosesLemmas.{Stays, if_ok, scene_at, stays_stopped}
+use Rattle.mas_run.proofs.ClosingLemmas.{Ending, IsCloser, Whole, closes_left, closing_found, copies_merely, cut_by, locks_closer, merely_closed, not_lost, one, then_merely}
 use Rattle.mas_run.proofs.CopiesLemmas.{copies_of, leaves_same, leaves_then, said_copies}
 use Rattle.member_node.specs.declared.member.NodeNo.TheVariants as no_node
 use Rattle.mas_types.specs.declared.answers.Closing.TheVariants as closing
@@ -26,25 +26,13 @@ module _ {P C : Type 0} (plants : PlantGhosts P) where
   copies_cause by x y (Err no_node.ConsoleFault) cause = absurd cause
   copies_cause by x y _ cause = inl cause
 
+  -- which never end as the console fails
+  pub copies_begin : (by : ℕ) (x y : Parts P C) (e : NodeNo) → CopyCauses {T = Unit {0}} (Err e) by (pair_state plants.view x) (pair_state plants.view y) → MayBegin e
+  copies_begin by x y no_node.ConsoleFault cause = cause
+  copies_begin by x y _ cause = tt
+
   pub copies_acted : (by : MemberId) (x y : Parts P C) (r : Result (Unit {0}) NodeNo) → CopiesActed plants by x y r → KeepCopies plants x y r
   copies_acted by x y r acts = copies_of plants x y r (passage_of x.first_alive y.first_alive x.second_alive y.second_alive (plants.view x.plant) (plants.view y.plant) acts.on.course) (copies_cause by.0 x y r acts.on.cause)
-
--- THE BOOK of a line that was cut in its sitting: its member holds the lock that it took
-
-module _ (by : MemberId) (play : Play) (count : ℕ) (up : is_stopped play.book by ≡ false) (mine : play.book.holder ≡ by) where
-  inside_book : (halt : Halt) → (IsAsideHalt halt → ⊥) → (locked : Bool) (ps : List Piece) → (adds_first by locked halt (none_left by play.book count) ps).book ≡ play.book
-  inside_book halt inside locked [] = refl
-  inside_book halt inside false (p ∷ ps) = refl
-  inside_book (Waiting n tail) inside true (p ∷ ps) = absurd (inside tt)
-  inside_book _ inside true (p ∷ ps) = entered_same play.book by up mine
-
-  -- before its first act
-  pub begun_book : (cause : Cause) → (left_by by (Some (at_first cause)) play count).book ≡ stopped_by by cause play.book
-  begun_book cause = ap (λ (b : Book). stopped_by by cause b) (inside_book first_halt (λ none. none) play.locked play.pieces)
-
-  -- at its line
-  said_book : (n : ℕ) (tail : Option (List ℕ)) (cause : Cause) → (left_by by (at_line n tail cause) play count).book ≡ stopped_by by cause play.book
-  said_book n tail cause = ap (λ (b : Book). stopped_by by cause b) (inside_book (Saying n tail) (λ none. none) play.locked play.pieces)
 
 -- a lock that is left
 freed_holder : (b : Book) (by : MemberId) (inner : Bool) → is_holder b by ≡ true → (after_free b by inner).holder ≡ nobody
@@ -87,50 +75,39 @@ module _ {P C : Type 0} {plants : PlantGhosts P} {steadies : SteadyGhosts C} {co
   abbrev u : Parts P C → View
   u z = plants.view z.plant
 
+  tried_up : is_stopped (tried x.book by a) by ≡ false
+  tried_up = ap (λ (c : Book). is_stopped c by) tries ∙ tested_up x.book by turn.inside turn.got.is_up.up
+
+  tried_mine : (tried x.book by a).holder ≡ by
+  tried_mine = ap (λ (c : Book). c.holder) tries ∙ turn.got.holds
+
   -- ITS PIECE, by what it found of a copy
 
-  module _ (S : Scene) (found : Renewed) where
+  module _ (counts : Counts) (armed : List Armed) (found : Renewed) where
     abbrev play : Play
-    play = play_of S by at (record clear { renewed = found }) a
+    play = play_of (scene_as p counts armed) by at (record clear { renewed = found }) a
 
     abbrev left_cut : Option Cut → Left
-    left_cut cut = left_by by cut play (S.counts by)
+    left_cut cut = left_by by cut play (counts by)
 
     says : (cut : Option Cut) → TellNone at (left_cut cut).lines
-    says cut = left_tells by at cut play (S.counts by) (found_says by at (is_locked a) _ _ (line_says S by at (record clear { renewed = found }) _ a))
+    says cut = left_tells by at cut play (counts by) (found_says by at (is_locked a) _ _ (line_says (scene_as p counts armed) by at (record clear { renewed = found }) _ a))
 
-    -- before its line
-    pub lines_unsaid : (cause : Cause) → (left_cut (before_line cause)).lines ≡ []
-    lines_unsaid cause = (begun_none by cause play (S.counts by)).1
+    -- at its line
+    book_said : (n : ℕ) (tail : Option (List ℕ)) (cause : Cause) → (left_cut (at_line n tail cause)).book ≡ stopped_by by cause b
+    book_said n tail cause = said_book by play (counts by) tried_up tried_mine n tail cause ∙ ap (λ (c : Book). stopped_by by cause c) tries
 
-    module _ (told : Type 0) (shown : IsShown plants copies told S p) where
-      play_book : play.book ≡ b
-      play_book = tried_here plants copies told S p shown by a b tries
-
-      play_up : is_stopped play.book by ≡ false
-      play_up = ap (λ (c : Book). is_stopped c by) play_book ∙ tested_up x.book by turn.inside turn.got.is_up.up
-
-      play_mine : play.book.holder ≡ by
-      play_mine = ap (λ (c : Book). c.holder) play_book ∙ turn.got.holds
-
-      pub book_unsaid : (cause : Cause) → (left_cut (before_line cause)).book ≡ stopped_by by cause b
-      book_unsaid cause = begun_book by play (S.counts by) play_up play_mine cause ∙ ap (λ (c : Book). stopped_by by cause c) play_book
-
-      -- at it
-      book_said : (n : ℕ) (tail : Option (List ℕ)) (cause : Cause) → (left_cut (at_line n tail cause)).book ≡ stopped_by by cause b
-      book_said n tail cause = said_book by play (S.counts by) play_up play_mine n tail cause ∙ ap (λ (c : Book). stopped_by by cause c) play_book
-
-      -- and after it
-      book_whole : (line : List ℕ) (rel : Release) → play.pieces ≡ one line rel ∷ [] → (left_cut None).book ≡ released_by rel b by
-      book_whole line rel is =
-          let whole : hold_left b by - 0 ≡ hold_left b by = omega arith in
-          let spent_none : after_spend b by 0 ≡ b = ap (λ (n : ℕ). with_standing b by (record (standing b by) { left = n })) whole
-          ∙ ap (λ (members : List Standing). record b { members = members }) (set-get_or b.members (by.0 - 1) (beginner 0)) in
-          ap (λ (ps : List Piece). (left_by by None (record play { pieces = ps }) (S.counts by)).book) is
-          ∙ ap (λ (k : Bool). (left_by by None (record play { pieces = one line rel ∷ []; locked = k }) (S.counts by)).book) locked
-          ∙ ap (λ (c : Book). released_by rel (spent (entered c by) by []) by) play_book
-          ∙ ap (λ (c : Book). released_by rel (after_spend c by 0) by) (entered_same b by (tested_up x.book by turn.inside turn.got.is_up.up) turn.got.holds)
-          ∙ ap (λ (c : Book). released_by rel c by) spent_none
+    -- and after it
+    book_whole : (line : List ℕ) (rel : Release) → play.pieces ≡ one line rel ∷ [] → (left_cut None).book ≡ released_by rel b by
+    book_whole line rel is =
+        let whole : hold_left b by - 0 ≡ hold_left b by = omega arith in
+        let spent_none : after_spend b by 0 ≡ b = ap (λ (n : ℕ). with_standing b by (record (standing b by) { left = n })) whole
+        ∙ ap (λ (members : List Standing). record b { members = members }) (set-get_or b.members (by.0 - 1) (beginner 0)) in
+        ap (λ (ps : List Piece). (left_by by None (record play { pieces = ps }) (counts by)).book) is
+        ∙ ap (λ (k : Bool). (left_by by None (record play { pieces = one line rel ∷ []; locked = k }) (counts by)).book) locked
+        ∙ ap (λ (c : Book). released_by rel (spent (entered c by) by []) by) tries
+        ∙ ap (λ (c : Book). released_by rel (after_spend c by 0) by) (entered_same b by (tested_up x.book by turn.inside turn.got.is_up.up) turn.got.holds)
+        ∙ ap (λ (c : Book). released_by rel c by) spent_none
 
   -- WHAT IT LEFT
 
@@ -146,10 +123,10 @@ module _ {P C : Type 0} {plants : PlantGhosts P} {steadies : SteadyGhosts C} {co
     own_n = stays ∙ turn.own
 
     -- its line, by what it did at each scene
-    pub did_done : (r : Result (Unit {0}) NodeNo) → ((told : Type 0) → IsTold plants told → (S : Scene) → IsShown plants copies told S p → Did x y ns at by what told S r) → LineDone x y ns at by what r
+    pub did_done : (r : Result (Unit {0}) NodeNo) → ((told : Type 0) → IsTold plants told → (counts : Counts) (armed : List Armed) → Did x y ns at by what told (scene_as p counts armed) r) → LineDone x y ns at by what r
     did_done r did =
-        let here : Did x y ns at by what ⊥ (scene_at p) r = did ⊥ (inl (λ t. t)) (scene_at p) (shown_at plants copies ⊥ p turn.arm.is.stands) in
-        let left : (told : Type 0) → IsTold plants told → LineIsLeft told at (line_by by what) x y r = λ told knows S shown. (did told knows S shown).left (λ o up. if_ok r _ (λ e. shown.counts o by up)) in
+        let here : Did x y ns at by what ⊥ (scene_at p) r = did ⊥ (inl (λ t. t)) (counts_of p.printed) [] in
+        let left : (told : Type 0) → IsTold plants told → LineIsLeft told at (line_by by what) x y r = λ told knows counts armed counted. (did told knows counts armed).left (λ o up. if_ok r _ (λ e. counted o by up)) in
         record {
           base = base;
           since = since;
@@ -161,44 +138,48 @@ module _ {P C : Type 0} {plants : PlantGhosts P} {steadies : SteadyGhosts C} {co
           seated = λ e. turn.inside;
         }
 
-    module _ (told : Type 0) (knows : IsTold plants told) (S : Scene) (shown : IsShown plants copies told S p) where
+    module _ (told : Type 0) (knows : IsTold plants told) (counts : Counts) (armed : List Armed) where
       abbrev DidSo : Result (Unit {0}) NodeNo → Type 0
-      DidSo r = Did x y ns at by what told S r
+      DidSo r = Did x y ns at by what told (scene_as p counts armed) r
 
-      admitted_so : admitted S.queue.config S.book by what ≡ a
-      admitted_so = admitted_here plants copies told S p shown by what a turn.arm.adm
+      -- ITS ACTS ENDED BEFORE ITS LINE
 
-      -- of the notes, its own alone may differ
-      pub own_notes : (had : List (List Page)) → OtherNotesStay m.id p.had had → OtherNotesStay by p.had had
-      own_notes had notes j other = notes j (λ same. absurd (other (same ∙ ap (λ (k : MemberId). k.0) turn.own)))
-
-      -- IT HAD NO SEAT, and nothing was said
-
-      pub did_unseated : (pieces : List Piece) (line : List ℕ) (rel : Release) → ((e : Ending) → IsCloser (closing_at S at (line_by by what) e pieces) a line rel)
-          → ((cause : Cause) → q.renewals ≡ t.renewals → RenewsAs a (before_line cause) Replaced t.renewals q.renewals (u t) (u q)) → (e : NodeNo) → IsUnseated plants copies S m at a t q e
-          → q ≡ stopped_so (failed e) m.id (seated_in q t) → DidSo (failed e)
-      did_unseated pieces line rel closer renews e un frame =
-          let same : q.renewals ≡ t.renewals = ap (λ (w : Parts P C). w.renewals) frame ∙ ap (λ (w : Parts P C). w.renewals) (stays_stopped m.id (seated_in q t) (seated_in q t).plant (failed e)) in
+      pub did_begun : (e : NodeNo) → MayBegin e → HasMerelyActed plants by a t q (failed e) → (plants.tells → (d : Dev) → (u q).loses d ≡ (u t).loses d) → (plants.tells → console_now (u q) ≡ console_now (u t))
+          → RenewsAs a (before_line (cause_by e)) Replaced t.renewals q.renewals (u t) (u q) → LeavesCopies plants t q (failed e) → (e ≡ no_node.Halted → q.book ≡ after_stop b by) → OtherNotesStay by p.had q.had → DidSo (failed e)
+      did_begun e may acted loses console renews kept book notes =
           record {
-            left = λ counted. unseated_left plants copies S at (line_by by what) a t q m turn.own admitted_so pieces line rel closer journal printed told knows (λ cause. renews cause same) e un;
-            kept = leaves_same plants t q (failed e) (copies_acted plants m.id t q (failed e) un.acts) same un.acts.on.course.alive1 un.acts.on.course.alive2;
-            goes = proceeds_of (u t) (u q) un.acts.on.course.goes;
-            wrote = λ tells. ([], (un.acts.on.apart tells).console ∙ sym (append-nil (console_now (u t))), (λ j less small es of. tt));
+            left = λ counted. begins_left plants copies told (scene_as p counts armed) at by what t q e a turn.arm.adm renews may
+                (record { acted = acted; loses = λ tells d. inl (loses tells d); console = console; journal = journal; printed = printed })
+                (λ ps. begun_book by (play_as (record { scene = scene_as p counts armed; number = at; step = line_by by what; given = record { sight = begun_sight (cause_by e); pieces = ps } }) a) (counts by) tried_up tried_mine e q.book
+                (λ halted. book halted ∙ ap (λ (c : Book). after_stop c by) (sym tries))) knows;
+            kept = kept;
+            goes = acted.goes;
+            wrote = λ tells. ([], console tells ∙ sym (append-nil (console_now (u t))), (λ j less small es of. tt));
             next = tt;
-            book = λ halted. ap (λ (w : Parts P C). w.book) frame ∙ ap (λ (j : NodeNo). (stopped_so (failed j) m.id (seated_in q t)).book) (error_same e no_node.Halted halted) ∙ ap (λ (j : MemberId). after_stop b j) turn.own;
-            notes = own_notes q.had un.acts.notes;
+            book = λ halted. book (error_same e no_node.Halted halted);
+            notes = notes;
           }
+
+      -- it had no seat
+      pub did_unseated : (S : Scene) (e : NodeNo) → IsUnseated plants copies S m at a t q e → (q.renewals ≡ t.renewals → RenewsAs a (before_line (cause_by e)) Replaced t.renewals q.renewals (u t) (u q))
+          → q ≡ stopped_so (failed e) m.id (seated_in q t) → DidSo (failed e)
+      did_unseated S e un renews frame =
+          let same : q.renewals ≡ t.renewals = ap (λ (w : Parts P C). w.renewals) frame ∙ ap (λ (w : Parts P C). w.renewals) (stays_stopped m.id (seated_in q t) (seated_in q t).plant (failed e)) in
+          did_begun e (copies_begin plants m.id.0 t q e un.acts.on.cause) (copies_merely plants by a m turn.own t q (failed e) un.acts) un.acts.on.loses (λ tells. (un.acts.on.apart tells).console) (renews same)
+          (leaves_same plants t q (failed e) (copies_acted plants m.id t q (failed e) un.acts) same un.acts.on.course.alive1 un.acts.on.course.alive2)
+          (λ halted. ap (λ (w : Parts P C). w.book) frame ∙ ap (λ (j : NodeNo). (stopped_so (failed j) m.id (seated_in q t)).book) halted ∙ ap (λ (j : MemberId). after_stop b j) turn.own)
+          (subst (λ (j : MemberId). OtherNotesStay j p.had q.had) turn.own un.acts.notes)
 
       -- IT HAS ITS SEAT, after acts that said nothing, and its line was said
 
       module _ (r : Result (Unit {0}) NodeNo) (z : Parts P C) (found : Renewed) (pieces : List Piece) (line : List ℕ) (rel : Release)
-          (closer : (e : Ending) → IsCloser (closing_found found S at (line_by by what) e pieces) a line rel) (took : HasMerelyActed plants by a t z went) (leaves : LeavesCopies plants t z went)
-          (before : plants.tells → console_now (u z) ≡ console_now (u t)) (z_base : z.base ≡ x.base) (z_batches : z.batches ≡ p.batches) (z_book : z.book ≡ b) (z_notes : OtherNotesStay by p.had z.had) (seat : IsSeat plants copies z n)
-          (closed : HasClosedBy plants (left_cut S found) by z q r) (frame : q ≡ record z { plant = q.plant; book = q.book }) where
+          (closer : (e : Ending) → IsCloser (closing_found found (scene_as p counts armed) at (line_by by what) e pieces) a line rel) (took : HasMerelyActed plants by a t z went) (leaves : LeavesCopies plants t z went)
+          (same_loses : plants.tells → (d : Dev) → (u z).loses d ≡ (u t).loses d) (before : plants.tells → console_now (u z) ≡ console_now (u t)) (z_base : z.base ≡ x.base) (z_batches : z.batches ≡ p.batches) (z_book : z.book ≡ b) (z_notes : OtherNotesStay by p.had z.had) (seat : IsSeat plants copies z n)
+          (closed : HasClosedBy plants (left_cut counts armed found) by z q r) (frame : q ≡ record z { plant = q.plant; book = q.book }) where
         wrote : plants.tells → (ls : List Line) × (console_now (u q) ≡ console_now (u t) ++ ls) × TellNone at ls
         wrote tells =
             let stood = closed.console tells in
-            ((left_cut S found stood.cut).lines, stood.lines ∙ ap (λ (ls : List Line). ls ++ (left_cut S found stood.cut).lines) (before tells), says S found stood.cut)
+            ((left_cut counts armed found stood.cut).lines, stood.lines ∙ ap (λ (ls : List Line). ls ++ (left_cut counts armed found stood.cut).lines) (before tells), says counts armed found stood.cut)
 
         goes_q : Proceeds (u t) (u q)
         goes_q = proceeds_on (u t) (u z) (u q) took.goes (proceeds_of (u z) (u q) closed.acts.goes)
@@ -248,8 +229,8 @@ module _ {P C : Type 0} {plants : PlantGhosts P} {steadies : SteadyGhosts C} {co
           closed_next =
               let room_q : length n.room ≡ page_count x.base.config = sym (pages_of_run zz.base [] n.checkpoint n.room seat_zz.still.config seat_zz.between.drawn seat_zz.still.many) ∙ ap (λ (Q : Queue). page_count Q.config) z_base in
               let aside_q : IsAside plants copies q n = aside_then plants copies zz q n seat_zz as_aside (beside_none plants.tells (u q)) unreserved_q in
-              let whole : (play S found).pieces ≡ one line rel ∷ [] = sym (ap (λ (k : Play). k.pieces) (closer Whole).play) ∙ (closer Whole).pieces in
-              let book_q : q.book ≡ released_by rel b by = closed.book None (subst (λ (j : Result (Unit {0}) NodeNo). IsCutAs j None) (sym went_on) refl) ∙ book_whole S found told shown line rel whole in
+              let whole : (play counts armed found).pieces ≡ one line rel ∷ [] = sym (ap (λ (k : Play). k.pieces) (closer Whole).play) ∙ (closer Whole).pieces in
+              let book_q : q.book ≡ released_by rel b by = closed.book None (subst (λ (j : Result (Unit {0}) NodeNo). IsCutAs j None) (sym went_on) refl) ∙ book_whole counts armed found line rel whole in
               let held = held_by rel book_q in
               between_after plants copies p q base held.1 by held.0 notes n aside_q room_q own_n held.2 ms at turn.inside.0 (let le = turn.inside.1 in let booked = turn.arm.is.booked in omega (arith, le, booked)) turn.arm.few turn.arm.is goes_q
               (earlier_more at q.batches p.batches [] (ap (λ (w : Parts P C). w.batches) frame ∙ z_batches ∙ sym (append-nil p.batches)) (turn_earlier turn) (All-nil (IsOfEarlier (at + 1))))
@@ -259,18 +240,19 @@ module _ {P C : Type 0} {plants : PlantGhosts P} {steadies : SteadyGhosts C} {co
 
         pub did_closed : ((e : Ending) → RenewsAs a (cut_by e) found t.renewals q.renewals (u t) (u q)) → DidSo r
         did_closed renews =
-            let acted : HasMerelyActed plants by a t q r = then_merely plants copies S at (line_by by what) a t q m turn.own z r took (merely_closed plants S by at a by z q r (left_cut S found) closed (inr refl)) in
+            let acted : HasMerelyActed plants by a t q r = then_merely plants by a t z q r took (merely_closed plants by a by z q r (left_cut counts armed found) closed (inr refl)) in
             let one_same : q.first_alive ≡ z.first_alive = ap (λ (w : Parts P C). w.first_alive) frame in
             let two_same : q.second_alive ≡ z.second_alive = ap (λ (w : Parts P C). w.second_alive) frame in
             record {
-              left = λ counted. closes_left plants copies S at (line_by by what) a admitted_so found pieces line rel closer t q r journal printed told counted by z before closed acted renews knows;
+              left = λ counted. closes_left plants copies (scene_as p counts armed) at (line_by by what) a turn.arm.adm found pieces line rel closer t q r journal printed told counted by z before closed acted
+                  (λ tells d. closed.acts.loses d ∙ same_loses tells d) renews knows;
               kept = leaves_then plants t z q r leaves
                   (leaves_same plants z q r (said_copies plants z q r closed.acts one_same two_same (not_lost r by.0 (u z) (u q) closed.cause)) (ap (λ (w : Parts P C). w.renewals) frame) (λ is. sym one_same ∙ is) (λ is. sym two_same ∙ is));
               goes = goes_q;
               wrote = wrote;
               next = if_ok r _ closed_next;
               book = λ halted. closed.book (at_line 0 None Stops)
-                  (subst (λ (j : Result (Unit {0}) NodeNo). IsCutAs j (at_line 0 None Stops)) (sym halted) (record { lines = 0; tail = None; few = omega arith; is = refl })) ∙ book_said S found told shown 0 None Stops;
+                  (subst (λ (j : Result (Unit {0}) NodeNo). IsCutAs j (at_line 0 None Stops)) (sym halted) (record { lines = 0; tail = None; few = omega arith; is = refl })) ∙ book_said counts armed found 0 None Stops;
               notes = notes;
             }
 
@@ -303,39 +285,34 @@ module _ {P C : Type 0} {plants : PlantGhosts P} {steadies : SteadyGhosts C} {co
   printed : there.printed ≡ here.printed
   printed = ap (λ (w : Parts P C). w.printed) same_t
 
-  locks_did : (told : Type 0) → IsTold plants told → (S : Scene) → IsShown plants copies told S (parts_of x) → Did x y (set ms (by.0 - 1) n) at by what told S r
-  locks_did told knows S shown = by_answer r frame_t seats where
+  module _ (told : Type 0) (knows : IsTold plants told) (counts : Counts) (armed : List Armed) where
+    abbrev S : Scene
+    S = scene_as (parts_of x) counts armed
+
     calm : x.current ≡ None
     calm = (turn_quiet turn).none
 
     seats : SeatsBy plants copies S m n at Locks here there r
     seats = subst (λ (w : Parts P C). SeatsBy plants copies S m n at Locks w there r) turn.frame
-        (locks S (tested_here plants copies told S (parts_of x) shown m.id Locks mid.book (ap (λ (k : MemberId). after_try x.book k false) turn.own ∙ sym (ap (λ (w : Parts P C). w.book) turn.frame)) (λ locked. calm)))
-
-    pieces : List Piece
-    pieces = closes_with by at (closing.Reply reply.Plain) Keep
-
-    line : List ℕ
-    line = closing_line by at (closing.Reply reply.Plain)
-
-    closer : (e : Ending) → IsCloser (closing_at S at (line_by by what) e pieces) Locks line Keep
-    closer e = locks_closer S at (line_by by what) e (none_flies plants copies told S (parts_of x) shown calm)
+        (locks S (tested_here (parts_of x) counts armed m.id Locks mid.book (ap (λ (k : MemberId). after_try x.book k false) turn.own ∙ sym (ap (λ (w : Parts P C). w.book) turn.frame)) (λ locked. calm)))
 
     seated : (k : Result (Unit {0}) NodeNo) → IsSeated plants copies S m n at Locks here there k → Did x y (set ms (by.0 - 1) n) at by what told S k
     seated k is =
         let z = is.mid in
         let unreserved : z.reserved ≡ None = ap (λ (w : Parts P C). w.reserved) is.entered ∙ turn.arm.is.unreserved in
-        did_closed turn refl refl y n stays base since journal printed told knows S shown k z Replaced pieces line Keep closer
-        (copies_merely plants copies S at (line_by by what) Locks here z m turn.own z went is.acts)
+        did_closed turn refl refl y n stays base since journal printed told knows counts armed k z Replaced (closes_with by at (closing.Reply reply.Plain) Keep) (closing_line by at (closing.Reply reply.Plain)) Keep
+        (λ e. locks_closer S at (line_by by what) e (ap flown_of calm)) (copies_merely plants by Locks m turn.own here z went is.acts)
         (leaves_same plants here z went (copies_acted plants m.id here z went is.acts) (ap (λ (w : Parts P C). w.renewals) is.entered) is.acts.on.course.alive1 is.acts.on.course.alive2)
-        (λ tells. (is.acts.on.apart tells).console) (ap (λ (w : Parts P C). w.base) is.entered) (ap (λ (w : Parts P C). w.batches) is.entered) (ap (λ (w : Parts P C). w.book) is.entered)
-        (own_notes turn refl refl y n stays base since journal printed told knows S shown z.had is.acts.notes) is.took.seat
+        is.acts.on.loses (λ tells. (is.acts.on.apart tells).console) (ap (λ (w : Parts P C). w.base) is.entered) (ap (λ (w : Parts P C). w.batches) is.entered) (ap (λ (w : Parts P C). w.book) is.entered)
+        (subst (λ (j : MemberId). OtherNotesStay j here.had z.had) turn.own is.acts.notes) is.took.seat
         (subst (λ (j : MemberId). HasClosed plants S j at Locks j z there k) turn.own is.closed) (stopped_frame k m.id z there is.frame unreserved) (λ e. ap (λ (w : Parts P C). w.renewals) same_t)
 
     by_answer : (k : Result (Unit {0}) NodeNo) → there ≡ stopped_so k m.id (seated_in there here) → SeatsBy plants copies S m n at Locks here there k → Did x y (set ms (by.0 - 1) n) at by what told S k
     by_answer (Ok done) frame is = seated (Ok done) is
-    by_answer (Err e) frame is = ⊎_elim
-        (λ un. did_unseated turn refl refl y n stays base since journal printed told knows S shown pieces line Keep closer (λ cause same. same) e un frame) (seated (Err e)) is
+    by_answer (Err e) frame is = ⊎_elim (λ un. did_unseated turn refl refl y n stays base since journal printed told knows counts armed S e un (λ same. same) frame) (seated (Err e)) is
+
+    locks_did : Did x y (set ms (by.0 - 1) n) at by what told S r
+    locks_did = by_answer r frame_t seats
 
   pub seats_done : LineDone x y (set ms (by.0 - 1) n) at by what r
   seats_done = did_done turn refl refl y n stays base since journal printed r locks_did

@@ -1,16 +1,16 @@
 -- A line whose member takes the lock of a stopped member over, and resets that.
-use Rattle.mas_run.proofs.Names.{◌≡◌, ⊎_elim, inl, ℕ, ◌+◌, ◌-◌, true, false, List, [], ◌++◌, set, append-nil, None, Result, Ok, Err, sym, ◌∙◌, ap, subst, slice_get, ◌≤◌, length, refl, arith, inr, ◌<◌, Bool, if◌then◌else◌, ◌∷◌, All, Some, OnOk, slice_set, Option, MemberId, Page, Book, after_stop, IsMember, after_seize, is_holder, is_stopped, left_of as hold_left, PlantGhosts, View, Ghosts as CopyGhosts, SteadyGhosts, Complex, Parts, parts_of, console_now, Grows, Member, NodeNo, OtherNotesStay, journal_of, Ask, admitted, TakesOver, granted_by, tried, Piece, holder_of, Scene, queue_found, KeepCopies, LeavesSome, Proceeds, LineIsLeft, left_as, LineDone, line_by, IsBetween, IsShown, BetweenLines, IsFlight, IsMemberUp, LeftBetween, proceeds_of, untold_then, EachSays, All-nil, All-append, All-cons, All-head, All-tail, Ckpt1, Ckpt2, Spool, Queue, steps_most, page_count, queue_of, IsQuiet, IsOfEarlier, StandsIn, Since, inside_since, seized_since, stopped_now, stopped_since, then_since, Dev, Batch, nobody, run, IsLostOnce, KeepsCounts, PairState, pair_state, in_flight, kept_all, end_of, with_last, counts_of, is_stop, Spares, earlier_kept, IsBetweenSittings, cause_by, MayHold, ByLock, ForStep, Holder, Give, stopped_by, level_most, LineAt, play_as, IfRuns, settle, settled_at, CopiesLeft, HasTakenOver, IsAfterTakeover, IsUntaken, MayTakeAt, TakeCauses, TakesAndResets, TakesBy, taker_at, untaken_book, IsTaken, journal_still, settled_entries, played_in, Entry, Fate, Flying, Rose, with_last-append, LosesAs, IsWhyLost, kept_on}
-use Rattle.mas_run.proofs.ArmLemmas.{admitted_here, IsTold, few_levels, left_so, done_at, InArm, InPlace}
-use Rattle.mas_run.proofs.SeatLemmas.{begun_book}
+use Rattle.mas_run.proofs.Names.{◌≡◌, ⊎_elim, inl, ℕ, ◌+◌, ◌-◌, true, false, List, [], ◌++◌, set, append-nil, None, Result, Ok, Err, sym, ◌∙◌, ap, subst, slice_get, ◌≤◌, length, refl, arith, inr, ◌<◌, Bool, if◌then◌else◌, ◌∷◌, All, Some, OnOk, slice_set, Option, MemberId, Page, Book, after_stop, IsMember, after_seize, is_holder, left_of as hold_left, PlantGhosts, View, Ghosts as CopyGhosts, SteadyGhosts, Complex, Parts, parts_of, console_now, Grows, Member, NodeNo, OtherNotesStay, journal_of, Ask, admitted, TakesOver, granted_by, Piece, holder_of, queue_found, KeepCopies, LeavesSome, LineIsLeft, LineDone, line_by, IsBetween, BetweenLines, IsMemberUp, LeftBetween, proceeds_of, EachSays, All-nil, All-append, All-cons, All-head, All-tail, Ckpt1, Ckpt2, Spool, Queue, steps_most, page_count, queue_of, IsQuiet, IsOfEarlier, StandsIn, Since, seized_since, Dev, Batch, run, IsLostOnce, KeepsCounts, PairState, pair_state, in_flight, kept_all, end_of, with_last, counts_of, is_stop, Spares, earlier_kept, IsBetweenSittings, cause_by, MayHold, ByLock, ForStep, Holder, Give, level_most, play_as, settle, settled_at, CopiesLeft, HasTakenOver, IsAfterTakeover, IsUntaken, MayTakeAt, TakeCauses, TakesAndResets, TakesBy, taker_at, untaken_book, IsTaken, journal_still, settled_entries, played_in, Entry, Fate, Flying, Rose, with_last-append, LosesAs, IsWhyLost, kept_on, Disk, IsResetPiece, clear, flight_found, flown_of, once_found, reset_pieces, scene_as, wires_then, ◌≢◌}
+use Rattle.mas_run.proofs.ArmLemmas.{IsTold, few_levels, left_so, done_at, InArm, InPlace}
 use Rattle.mas_run.proofs.CopiesLemmas.{copies_then, leaves_same, acted_copies}
-use Rattle.mas_run.proofs.TurnedLemmas.{earlier_then, HasWritten, IsNowAside, turned, halted_between}
+use Rattle.mas_run.proofs.TurnedLemmas.{earlier_then, HasWritten, IsNowAside, turned, held_halted}
 use Rattle.mas_run.proofs.KnownLemmas.{IsDown, few_of, inside_of, not_holder, some_of}
 use Rattle.mas_run.proofs.ComesLemmas.{IsUpMember}
-use Rattle.mas_run.proofs.BarelyLemmas.{begun_sight, HasBarelyBegun, MayBegin, begins_left}
-use Rattle.mas_run.proofs.DoneLemmas.{reset_says, takes_bare, takes_told, ComesTo}
-use Rattle.mas_run.proofs.JournalLemmas.{queue_met}
+use Rattle.mas_run.proofs.BarelyLemmas.{begun_sight, HasBarelyBegun, MayBegin, begins_left, begun_book}
+use Rattle.mas_run.proofs.DoneLemmas.{reset_says, ComesTo, reset_honest, stepped_left}
+use Rattle.mas_run.proofs.JournalLemmas.{queue_met, flies_so}
 use Rattle.member_resets.proofs.TakenOnLemmas.{may_hold, seized_now, up_still}
-use Rattle.mas_run.proofs.LeftLemmas.{counted_stays}
+use Rattle.mas_run.proofs.LeftLemmas.{counted_stays, stays_any}
+use Rattle.mas_run.proofs.ClosesLemmas.{scene_at}
 use Rattle.member_node.specs.declared.member.NodeNo.TheVariants as no_node
 use Rattle.mas_types.specs.declared.commands.Command.TheVariants as command
 
@@ -55,21 +55,30 @@ module _ {P C : Type 0} (plants : PlantGhosts P) (copies : CopyGhosts C) (by of 
   may_begin x y no_node.ConsoleFault cause = cause
   may_begin x y _ cause = tt
 
-  barely_untaken : (x y : Parts P C) (e : NodeNo) → IsUntaken plants copies by of x y e → HasBarelyBegun plants copies.reads by true x y e
-  barely_untaken x y e un = let caused_stop : (x y : Parts P C) (e : NodeNo) → TakeCauses plants copies e by x y → e ≡ no_node.Halted → Rose ((plant_of x).stops by.0) ((plant_of y).stops by.0) = λ x y e cause is. subst (λ (k : NodeNo). TakeCauses plants copies k by x y) is cause in
-      record {
-        goes = un.counts.goes;
-        spares = counts_spare by.0 (is_stop e) (pair_state plants.view x) (pair_state plants.view y) un.counts (λ is. some);
-        stopped = caused_stop x y e un.cause;
-        loses = λ t. counts_lose by.0 (is_stop e) (pair_state plants.view x) (pair_state plants.view y) un.counts copies.reads Flying (λ was gone. inl refl) (λ was gone. inl refl);
-        console = λ t. (un.apart t).console;
-        papers = λ t. (un.apart t).papers;
-        wires = λ t. (un.apart t).wires;
-        volumes = λ t. kept_on (plant_of x) (plant_of y) (un.apart t).volumes;
-        stay = counted_stays by.0 (is_stop e) (pair_state plants.view x) (pair_state plants.view y) un.counts;
-        journal = un.journal;
-        printed = un.printed;
-      }
+  barely_untaken : (x y : Parts P C) (e : NodeNo) → IsUntaken plants copies by of x y e → HasBarelyBegun plants copies.reads by (TakesOver of) x y e
+  barely_untaken x y e un = record {
+    acted = record {
+      goes = proceeds_of (plant_of x) (plant_of y) un.counts.goes;
+      stays = λ d other. un.counts.goes.lost (Disk d);
+      arms = un.counts.goes.arms;
+      spares = counts_spare by.0 (is_stop e) (pair_state plants.view x) (pair_state plants.view y) un.counts (λ is. some);
+      stopped = λ is. caused_stop e (same_error e no_node.Halted is) un.cause;
+      failed = λ is. absurd (subst (λ (k : NodeNo). TakeCauses plants copies k by x y) (same_error e no_node.ConsoleFault is) un.cause);
+      papers = λ t. (un.apart t).papers;
+      wires = λ t. (un.apart t).wires;
+      volumes = λ t. kept_on (plant_of x) (plant_of y) (un.apart t).volumes;
+      stay = counted_stays by.0 (is_stop e) (pair_state plants.view x) (pair_state plants.view y) un.counts;
+    };
+    loses = λ t. counts_lose by.0 (is_stop e) (pair_state plants.view x) (pair_state plants.view y) un.counts copies.reads Flying (λ was gone. inl refl) (λ was gone. inl refl);
+    console = λ t. (un.apart t).console;
+    journal = un.journal;
+    printed = un.printed;
+  } where
+    caused_stop : (k : NodeNo) → k ≡ no_node.Halted → TakeCauses plants copies k by x y → Rose ((plant_of x).stops by.0) ((plant_of y).stops by.0)
+    caused_stop k is cause = subst (λ (j : NodeNo). TakeCauses plants copies j by x y) is cause
+
+    same_error : (d e : NodeNo) → (let r : Result (Unit {0}) NodeNo = Err d in r) ≡ Err e → d ≡ e
+    same_error d e is = cc
 
 -- BATCHES OF EARLIER LINES
 
@@ -131,10 +140,6 @@ module _ {P C : Type 0} (plants : PlantGhosts P) where
     grow Ckpt2 = grows_once x.second_alive y.second_alive _ _ counts.once2
     grow (Spool n) = inl (counts.else_loses (Spool n) (λ e. absurd (cc)) (λ e. absurd (cc)))
 
-if_halted : (e : NodeNo) (b c : Book) → (e ≡ no_node.Halted → b ≡ c) → IfRuns {T = Unit {0}} (Err e) (b ≡ c)
-if_halted no_node.Halted b c f = f refl
-if_halted _ b c f = tt
-
 -- a takeover that left no copy answers so
 taken_leaves : {P C : Type 0} (plants : PlantGhosts P) (copies : CopyGhosts C) (by : MemberId) (x y : Parts P C) (e : NodeNo) → TakeCauses plants copies e by x y → CopiesLeft plants copies e y
     → LeavesSome plants {T = Unit {0}} x y (Err e)
@@ -145,7 +150,7 @@ taken_leaves plants copies by x y _ cause left = inl (inl left)
 module _ {P C : Type 0} {plants : PlantGhosts P} {steadies : SteadyGhosts C} {copies : CopyGhosts C} (x mid y : Complex P C plants steadies copies) (ms : List Member)
     (at : ℕ) (what : Ask) (few : at ≤ steps_most) (is : BetweenLines x ms at) (frame : parts_of mid ≡ parts_of x) (m : Member) (inside : IsMember x.book m.id)
     (up : IsMemberUp plants copies (parts_of x) m) (of : MemberId) (may : MayTakeAt plants copies (parts_of x) m at of) (free : is_holder x.book m.id ≡ false)
-    (adm : TakesOver of ≡ admitted x.base.config x.book m.id what) (n : Member) (stays : n.id ≡ m.id) (frame_y : parts_of y ≡ played_in (parts_of y) (parts_of mid)) where
+    (adm : admitted (queue_of (parts_of x)).config x.book m.id what ≡ TakesOver of) (n : Member) (stays : n.id ≡ m.id) (frame_y : parts_of y ≡ played_in (parts_of y) (parts_of mid)) where
   abbrev by : MemberId
   by = m.id
 
@@ -173,9 +178,6 @@ module _ {P C : Type 0} {plants : PlantGhosts P} {steadies : SteadyGhosts C} {co
   seized : Since x.book b
   seized = seized_since x.book by may.seated of
 
-  book_here : (told : Type 0) (S : Scene) → IsShown plants copies told S p → tried S.book by (TakesOver of) ≡ b
-  book_here told S shown = ap (λ (c : Book). after_seize c by of) (sym shown.book)
-
   -- NOTHING WAS FOUND OUT of a batch in flight
 
   module _ (e : NodeNo) (un : IsUntaken plants copies by of p (parts_of y) e) where
@@ -185,37 +187,20 @@ module _ {P C : Type 0} {plants : PlantGhosts P} {steadies : SteadyGhosts C} {co
     book_stopped : e ≡ no_node.Halted → (parts_of y).book ≡ after_stop b by
     book_stopped halted = un.book ∙ ap (λ (k : NodeNo). untaken_book k by of x.book) halted
 
-    book_none : (told : Type 0) (S : Scene) → IsShown plants copies told S p → (ps : List Piece)
-        → IfRuns r_none (y.book ≡ (left_as (record { scene = S; number = at; step = line_by by what; given = record { sight = begun_sight (cause_by e); pieces = ps } }) (TakesOver of)).book)
-    book_none told S shown ps = let b_up : is_stopped b by ≡ false = up_still x.book by of may.of_stopped may.of_holds may.up may.seated in if_halted e _ _
-        (λ halted.
-        let l : LineAt = record { scene = S; number = at; step = line_by by what; given = record { sight = begun_sight (cause_by e); pieces = ps } } in
-        let play = play_as l (TakesOver of) in
-        book_stopped halted
-        ∙ sym (begun_book by play (S.counts by) (ap (λ (c : Book). is_stopped c by) (book_here told S shown) ∙ b_up) (ap (λ (c : Book). c.holder) (book_here told S shown) ∙ b_mine) (cause_by e)
-        ∙ ap (λ (k : NodeNo). stopped_by by (cause_by k) play.book) halted ∙ ap (λ (c : Book). after_stop c by) (book_here told S shown)))
-
     halted_none : e ≡ no_node.Halted → LeftBetween y (set ms (by.0 - 1) n) (at + 1)
-    halted_none halted = let not_free : (c : Book) → c.holder ≡ by → c.holder ≡ nobody → ⊥ = λ c its none. let same = ap (λ (k : MemberId). k.0) (sym its ∙ none) in
-        let some = may.some in
-        absurd (omega (arith, same, some)) in
-        let goes_none : Proceeds (plants.view p.plant) (plants.view (parts_of y).plant) = proceeds_of (plants.view p.plant) (plants.view (parts_of y).plant) un.counts.goes in
-        let book_h : y.book ≡ after_stop b by = book_stopped halted in
-        let inside_b = inside_since x.book b by seized may.seated in
-        let mine : y.book.holder ≡ by = ap (λ (c : Book). c.holder) book_h ∙ b_mine in
-        halted_between p y base since (subst (λ (c : Book). Since x.book c) (sym book_h) (then_since x.book b (after_stop b by) seized (stopped_since b by inside_b)))
-        by may.some (subst (λ (c : Book). IsMember c by) (sym book_h) (inside_since b (after_stop b by) by (stopped_since b by inside_b) inside_b)) (inl mine) (ap (λ (c : Book). is_stopped c by) book_h ∙ stopped_now b by inside_b) goes_none (λ none. absurd (not_free y.book mine none)) (λ j other. ap (λ (h : List (List Page)). slice_get h j) un.had) n ms at few is stays
-        (λ apart. absurd (apart mine))
+    halted_none halted =
+        held_halted p y base since by may.seated b seized b_mine (book_stopped halted) (proceeds_of (plants.view p.plant) (plants.view y.plant) un.counts.goes) (λ j other. ap (λ (h : List (List Page)). slice_get h j) un.had)
+        n ms at few is stays
         (earlier_then at (journal_of (parts_of y)) (subst (λ (bs : List Batch). All (IsOfEarlier at) bs) (sym un.journal) (earlier_journal at p.batches p.placed p.book p.current is.stands is.earlier)))
-        (λ k later less small tells.
-        untold_then plants copies p (parts_of y) base since is.begun goes_none.past [] (λ o. (un.apart o).console ∙ sym (append-nil (console_now (plants.view p.plant)))) k later (λ es of. tt)
-        (is.untold k later (omega (arith, less)) small) tells)
+        (λ tells. ([], (un.apart tells).console ∙ sym (append-nil (console_now (plants.view p.plant))), (λ k less small es of. tt)))
 
     none_done : LineDone x y (set ms (by.0 - 1) n) at by what r_none
     none_done =
         let left_none : (told : Type 0) → IsTold plants told → LineIsLeft told at (line_by by what) x y r_none =
-        λ told knows S shown. begins_left plants copies told knows S at by what p (parts_of y) e (TakesOver of) (admitted_here plants copies told S p shown by what (TakesOver of) adm) renewals (may_begin plants copies by of may.some p (parts_of y) e un.cause)
-        (barely_untaken plants copies by of may.some p (parts_of y) e un) (book_none told S shown) in
+        λ told knows counts armed counted. begins_left plants copies told (scene_as p counts armed) at by what p (parts_of y) e (TakesOver of) adm renewals (may_begin plants copies by of may.some p (parts_of y) e un.cause)
+        (barely_untaken plants copies by of may.some p (parts_of y) e un)
+        (λ ps. begun_book by (play_as (record { scene = scene_as p counts armed; number = at; step = line_by by what; given = record { sight = begun_sight (cause_by e); pieces = ps } }) (TakesOver of)) (counts by)
+        (up_still x.book by of may.of_stopped may.of_holds may.up may.seated) b_mine e y.book book_stopped) knows in
         let failed_by : NodeNo → Result (Unit {0}) NodeNo = λ e. Err e in let same_answer : (d e : NodeNo) → failed_by d ≡ failed_by e → d ≡ e = λ d e is. cc in record {
           base = base;
           since = since;
@@ -246,21 +231,47 @@ module _ {P C : Type 0} {plants : PlantGhosts P} {steadies : SteadyGhosts C} {co
     now_of (Err e) a = tt
 
     -- it didn't hold the lock before
-    holder_here : (told : Type 0) (S : Scene) → IsShown plants copies told S p → holder_of S by at (TakesOver of) ≡ k
-    holder_here told S shown =
-        ap (λ (c : Book). let g : Holder = record { by = by; step = at; hold = hold_left c by; grant = granted_by S.book by } in g) (book_here told S shown ∙ sym takes.taken.book)
-        ∙ ap (λ (c : Book). let g : Holder = record { by = by; step = at; hold = hold_left t.book by; grant = granted_by c by } in g) (sym shown.book)
+    holder_here : holder_of (scene_at p) by at (TakesOver of) ≡ k
+    holder_here =
+        ap (λ (c : Book). let g : Holder = record { by = by; step = at; hold = hold_left c by; grant = granted_by x.book by } in g) (sym takes.taken.book)
         ∙ ap (λ (h : Bool). let g : Holder = record { by = by; step = at; hold = hold_left t.book by; grant = if h then ByLock else ForStep } in g) free
 
-    told : plants.tells → LineIsLeft (Unit {0}) at (line_by by what) x y r
-    told tells S shown = let queue_t : (told : Type 0) (S : Scene) (shown : IsShown plants copies told S p) → queue_of t ≡ queue_found takes.found S.flight S.queue = λ told S shown. ap (λ (Q : Queue). run Q (kept_all t.batches)) takes.base
+    -- nothing is in flight any more
+    unflown : (ps : List Piece) → once_found (flight_found takes.found (flown_of p.current)) ps ≡ ps
+    unflown ps = ap (λ (f : Option (List Entry)). once_found f ps) (none takes.found (flown_of p.current) takes.taken.fated) where
+      none : (f : Fate) (flight : Option (List Entry)) → f ≢ Flying → flight_found f flight ≡ None
+      none Flying flight other = absurd (other refl)
+      none _ flight other = refl
+
+    queue_t : queue_of t ≡ queue_found takes.found (flown_of p.current) (queue_of p)
+    queue_t =
+        ap (λ (Q : Queue). run Q (kept_all t.batches)) takes.base
         ∙ ap (λ (bs : List Batch). run x.base (kept_all bs)) (sym (journal_still t takes.taken.quiet.none takes.taken.quiet.unplaced) ∙ takes.taken.journal)
-        ∙ queue_met x.base p.batches p.placed x.book p.current (plants.view p.plant).now (plants.view t.plant).now is.stands is.settled S.flight (subst (λ (c : Book). IsFlight c S.flight p.current) (sym shown.book) shown.flight) takes.found
-        ∙ ap (λ (Q : Queue). queue_found takes.found S.flight Q) shown.queue in
-        left_so plants copies (Unit {0}) S at by what (TakesOver of) _ p (parts_of y) r (admitted_here plants copies (Unit {0}) S p shown by what (TakesOver of) adm) renewals
-        (takes_told plants copies S at (line_by by what) of (length m.room) r (hold_left t.book by) ForStep takes.found (plants.view t.plant).now takes.taken.fated p t (parts_of y) (book_here (Unit {0}) S shown ∙ sym takes.taken.book)
-        (holder_here (Unit {0}) S shown) takes.reset tells (comes_taken plants copies by of may.some (Unit {0}) (λ o. tells) takes.found p t takes.taken) (queue_t (Unit {0}) S shown)
-        (ap (λ (l : List ℕ). counts_of l by) takes.taken.printed ∙ shown.counts tt by (ap (λ (c : Book). is_stopped c by) (sym shown.book) ∙ may.up)) (takes.reset.told tells))
+        ∙ queue_met x.base p.batches p.placed x.book p.current (plants.view p.plant).now (plants.view t.plant).now is.stands is.settled (flown_of p.current) (flies_so p.batches p.placed x.book p.current is.stands) takes.found
+
+    left : (told : Type 0) → IsTold plants told → LineIsLeft told at (line_by by what) x y r
+    left told (inl none) counts armed counted =
+        left_so plants copies told (scene_as p counts armed) at by what (TakesOver of) _ p (parts_of y) r adm renewals
+        (stepped_left plants copies told (λ o. absurd (none o)) (scene_as p counts armed) k what (TakesOver of) (record clear { cut = takes.reset.cut; flight = takes.found }) takes.reset.pieces p t (parts_of y) r
+        (unflown takes.reset.pieces) (sym takes.taken.book) refl (plants.view t.plant).now (comes_taken plants copies by of may.some told (λ o. absurd (none o)) takes.found p t takes.taken) takes.reset.played takes.reset.acts
+        (inr (subst (λ (j : Holder). IsResetPiece j of takes.reset.pieces) (sym holder_here) takes.reset.shaped)) takes.reset.tight (λ o. absurd (none o)))
+    left told (inr known) counts armed counted =
+        let so = takes.reset.told known.1 in
+        let Q : Queue = queue_found takes.found (flown_of p.current) (queue_of p) in
+        left_so plants copies told (scene_as p counts armed) at by what (TakesOver of) _ p (parts_of y) r adm renewals
+        (stepped_left plants copies told (λ o. known.1) (scene_as p counts armed) k what (TakesOver of) (record clear { cut = so.cut; flight = takes.found }) so.pieces p t (parts_of y) r
+        (unflown so.pieces) (sym takes.taken.book) refl (plants.view t.plant).now (comes_taken plants copies by of may.some told (λ o. known.1) takes.found p t takes.taken) so.left takes.reset.acts (inl known.0) so.tight
+        (λ o. record {
+          right = so.is ∙ ap (λ (R : Queue). reset_pieces R k of) queue_t ∙ ap (λ (j : Holder). reset_pieces Q j of) (sym holder_here);
+          honest = reset_honest (queue_of p).config.groups by (plants.view p.plant) (plants.view y.plant) (queue_of t) k of so.pieces r so.cut Q so.is so.left.by_answer;
+          stay = stays_any _ (plants.view t.plant) (plants.view y.plant) takes.reset.volumes;
+          broke = so.broke;
+          dry = λ none. takes.reset.papers known.1;
+          volumes = λ leaves. kept_on (plants.view t.plant) (plants.view y.plant) (takes.reset.others known.1);
+          count = λ up. ap (λ (l : List ℕ). counts_of l by) takes.taken.printed ∙ counted known.0 by up;
+          writes = so.writes;
+          wires = wires_then (plants.view p.plant) (plants.view t.plant) (plants.view y.plant) (takes.taken.apart known.1).wires (takes.reset.wires known.1);
+        }))
 
     notes : OtherNotesStay by p.had (parts_of y).had
     notes j other = takes.reset.acts.notes j other ∙ ap (λ (h : List (List Page)). slice_get h j) takes.taken.had
@@ -269,9 +280,6 @@ module _ {P C : Type 0} {plants : PlantGhosts P} {steadies : SteadyGhosts C} {co
     takes_done = let earlier : All (IsOfEarlier at) t.batches = earlier_taken plants copies p t by of at takes.found takes.taken is.stands is.earlier in
         let on_copies : KeepCopies plants p (parts_of y) r = copies_then plants p t (parts_of y) r (copies_counted plants {T = Unit {0}} by.0 false p t (Ok tt) takes.taken.counts (inl (inl takes.taken.some)))
         (acted_copies plants copies by t (parts_of y) r takes.reset.acts) in
-        let bare : LineIsLeft ⊥ at (line_by by what) x y r = λ S shown. left_so plants copies ⊥ S at by what (TakesOver of) _ p (parts_of y) r (admitted_here plants copies ⊥ S p shown by what (TakesOver of) adm) renewals
-        (takes_bare plants copies S at (line_by by what) of (length m.room) r (hold_left t.book by) ForStep takes.found (plants.view t.plant).now takes.taken.fated p t (parts_of y) (book_here ⊥ S shown ∙ sym takes.taken.book)
-        (holder_here ⊥ S shown) takes.reset (comes_taken plants copies by of may.some ⊥ (λ o. absurd o) takes.found p t takes.taken)) in
         let quiet_all : IsBetweenSittings takes.reset.cut → IsQuiet plants copies (parts_of y) (page_count x.base.config) = λ between. subst (λ (pages : ℕ). IsQuiet plants copies (parts_of y) pages) up.many (takes.reset.quiet between) in
         let since_t : y.since ≡ t.since = since ∙ sym takes.since in
         let base_t : y.base ≡ t.base = base ∙ sym takes.base in let t_since : Since x.book t.book = subst (λ (c : Book). Since x.book c) (sym takes.taken.book) seized in
@@ -280,8 +288,8 @@ module _ {P C : Type 0} {plants : PlantGhosts P} {steadies : SteadyGhosts C} {co
         takes.reset.pieces takes.reset.cut takes.reset.away quiet_all notes takes.reset.acts.course.goes r takes.reset.played wrote (now_of r after) in record {
           base = base;
           since = since;
-          bare = bare;
-          told = told;
+          bare = left ⊥ (inl (λ o. o));
+          told = λ tells. left (Unit {0}) (inr (tt, tells));
           copies_kept = leaves_same plants p (parts_of y) r on_copies renewals (λ is. takes.taken.counts.alive1 (takes.reset.acts.course.alive1 is)) (λ is. takes.taken.counts.alive2 (takes.reset.acts.course.alive2 is));
           next = both.0;
           halted = both.1;
@@ -342,4 +350,4 @@ module _ {P C : Type 0} {plants : PlantGhosts P} {steadies : SteadyGhosts C} {co
       done_at x y ms n at by what r i s.back (subst (λ (k : MemberId). LineDone x y (set ms (k.0 - 1) n) at k what r) s.own
       (took_done x mid y ms at what w.few w.is w.frame m (subst (λ (k : MemberId). IsMember x.book k) (sym s.own) s.inside) s.up of may_here
       (subst (λ (k : MemberId). is_holder x.book k ≡ false) (sym s.own) (not_holder x.base w.is.config x.book by of w.known_so.0.up w.known_so.1.down w.known_so.2))
-      (subst (λ (k : MemberId). TakesOver of ≡ admitted x.base.config x.book k what) (sym s.own) w.adm) n id frame_y r taken after))
+      (subst (λ (k : MemberId). admitted (queue_of (parts_of x)).config x.book k what ≡ TakesOver of) (sym s.own) w.adm) n id frame_y r taken after))

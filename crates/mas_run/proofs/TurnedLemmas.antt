@@ -1,17 +1,17 @@
 -- Where the value stands after a line of a member: after acts on the plant, after a line that was said, and after a step.
-use Rattle.mas_run.proofs.Names.{◌≡◌, ◌≢◌, ◌⊎◌, inl, inr, ⊎_elim, ℕ, zero, suc, ◌+◌, ◌<◌, Bool, true, false, List, [], ◌∷◌, drop, length, take, All, Option, Some, None, refl, sym, subst, arith, ◌≤◌, ◌++◌, ◌∙◌, ap, ◌-◌, set, Result, Err, OnOk, ◌&&◌, if◌then◌else◌, ◌||◌, is_some, append-nil, All-append, All-cons, All-drop, All-head, All-nil, All-tail, All-take, All-weaker, Closing, MemberId, Batch, Entry, Fate, Dropped, Kept, Queue, run, holder_then, task_most, all_entries, lines_of, sit, Found, Holder, State, Fresh, Told, AreOf, AreBatched, IsBatched, IsBetweenSittings, IsAsideHalt, IsCutIn as IsCutBy, IsOwnPiece, HasCut, Writes, plays_left_of as left_of, play_in, Admission, Denied, Plays, Refused, Replaces, Resets, TakesOver, Unplayed, denied_closing, Left, adds, adds_all, adds_first, batches_cut, begun, cuts_kept_all as kept_all, left_by, none_left, stopped_by, Piece, Play, holder_of, once_found, piece_at, pieces_found, pieces_from, pieces_of, replaced_closing, reset_closing, unless_told, after_piece, entered, released_by, spent, Batched, Scene, count_then, with_fate, Begun, Cut, Halt, Sight, Writing, Cause, Stops, Waiting, IsOfEarlier, StandsIn, AreOfStep, EachSays, closing_of, reply_of, TellNone, Untells, untold_then, left_tells, Dev, Ckpt1, Ckpt2, Page, Config, steps_most, PlantGhosts, ViewLine as Line, View, disk_now, Ghosts as CopyGhosts, page_count, settled_later, Parts, parts_of, batches_left, placed_left, unreserved_in, console_now, Member, IsOpen, IsAtRest, IsSeat, first_half, second_half, HasUntold, queue_of, low_later, IsQuiet, IsAside, Proceeds, AreLarge, AreMembers, IsBetween, IsMemberAt, is_left_held, BetweenLines, LeftBetween, roomy_on, Book, is_holder, is_stopped, IsMember, after_free, beginner, noted, standing, with_holder, after_try, granted, ticked, try_refusal, eqb-true, and_from, length-set, get_or-set_same, length-drop, IsConfig, nobody, is_somebody, IsSound, AreRoomy, AreSettled, in_flight, end_of, with_last, OtherNotesStay, Since, inside_since, piece_since, play_since, play_stops, spent_since, then_since, goes_on, SteadyGhosts, Complex, IsOperatorAway, Goes, NodeNo, MayHold, proceeds_of, nat_tests, Standing, counts_of, journal_of, Release, Inner, Keep, Outer, journal_still, with_last-append, journal_unreserved, settled_unreserved, stands_unreserved, IsMemberUp, none_since, slice_get, no}
+use Rattle.mas_run.proofs.Names.{◌≡◌, ◌≢◌, ◌⊎◌, inl, inr, ⊎_elim, ℕ, zero, suc, ◌+◌, ◌<◌, Bool, true, false, List, [], ◌∷◌, drop, length, take, All, Option, Some, None, refl, sym, subst, arith, ◌≤◌, ◌++◌, ◌∙◌, ap, ◌-◌, set, Result, Err, OnOk, ◌&&◌, if◌then◌else◌, ◌||◌, is_some, append-nil, All-append, All-cons, All-drop, All-head, All-nil, All-tail, All-take, All-weaker, Closing, MemberId, Batch, Entry, Fate, Dropped, Kept, Queue, run, holder_then, task_most, all_entries, lines_of, sit, Found, Holder, State, Fresh, Told, AreOf, AreBatched, IsBatched, IsBetweenSittings, IsAsideHalt, IsCutIn as IsCutBy, IsOwnPiece, HasCut, Writes, plays_left_of as left_of, play_in, Admission, Denied, Plays, Refused, Replaces, Resets, TakesOver, Unplayed, denied_closing, Left, adds, adds_all, adds_first, batches_cut, begun, cuts_kept_all as kept_all, left_by, none_left, stopped_by, Piece, Play, holder_of, once_found, piece_at, pieces_found, pieces_from, pieces_of, replaced_closing, reset_closing, unless_told, after_piece, entered, released_by, spent, Batched, Scene, count_then, with_fate, Begun, Cut, Halt, Sight, Writing, Cause, Stops, Waiting, IsOfEarlier, StandsIn, AreOfStep, EachSays, closing_of, reply_of, TellNone, Untells, untold_then, left_tells, Dev, Ckpt1, Ckpt2, Page, Config, steps_most, PlantGhosts, ViewLine as Line, View, disk_now, Ghosts as CopyGhosts, page_count, settled_later, Parts, parts_of, batches_left, placed_left, unreserved_in, console_now, Member, IsOpen, IsAtRest, IsSeat, first_half, second_half, HasUntold, queue_of, low_later, IsQuiet, IsAside, Proceeds, AreLarge, AreMembers, IsBetween, IsMemberAt, is_left_held, BetweenLines, LeftBetween, roomy_on, Book, is_holder, is_stopped, IsMember, after_free, beginner, noted, standing, with_holder, after_try, granted, ticked, try_refusal, eqb-true, and_from, length-set, get_or-set_same, length-drop, IsConfig, nobody, is_somebody, IsSound, AreRoomy, AreSettled, in_flight, end_of, with_last, OtherNotesStay, Since, inside_since, piece_since, play_since, play_stops, spent_since, then_since, goes_on, SteadyGhosts, Complex, IsOperatorAway, Goes, NodeNo, MayHold, proceeds_of, nat_tests, Standing, counts_of, journal_of, Release, Inner, Keep, Outer, journal_still, with_last-append, journal_unreserved, settled_unreserved, stands_unreserved, IsMemberUp, none_since, slice_get, no, after_stop, stopped_now, stopped_since}
 use Rattle.step_turns.proofs.Causes.{lines_are_caused}
 use Rattle.step_turns.proofs.Sittings.{lines_are_said_at_the_end}
 use Rattle.ckpt_places.specs.declared.places.Place.{Place}
 use Rattle.member_node.specs.Reads.{IsCalm}
 use Rattle.member_resets.proofs.Entering.{entered_seated}
 use Rattle.member_resets.proofs.Locking.{acts_entered, up_spent}
-use Rattle.mas_types.specs.declared.answers.Closing.TheVariants as closing
-use Rattle.mas_types.specs.declared.commands.Reply.TheVariants as reply
-use Rattle.member_node.specs.declared.member.NodeNo.TheVariants as no_node
 use Rattle.run_turns.proofs.Told.{told_or}
 use Rattle.mas_run.proofs.BookLemmas.{adds_keeps, left_keeps}
 use Rattle.mas_run.proofs.LeftLemmas.{on_ok}
+use Rattle.mas_types.specs.declared.answers.Closing.TheVariants as closing
+use Rattle.mas_types.specs.declared.commands.Reply.TheVariants as reply
+use Rattle.member_node.specs.declared.member.NodeNo.TheVariants as no_node
 
 -- A SITTING says the lines of a closing as its step is told, and none before
 
@@ -526,6 +526,25 @@ module _ {P C : Type 0} {plants : PlantGhosts P} {steadies : SteadyGhosts C} {co
       refl
       (earlier_left (at + 1) (unreserved_in left_part).batches (unreserved_in left_part).placed (unreserved_in left_part).book (unreserved_in left_part).current stands (subst (λ (bs : List Batch). All (IsOfEarlier (at + 1)) bs) (sym (journal_unreserved left_part)) own))
       began goes untold
+
+-- WHO HOLDS THE LOCK was halted, and gave no batch: from this book on it is stopped
+
+module _ {P C : Type 0} {plants : PlantGhosts P} {steadies : SteadyGhosts C} {copies : CopyGhosts C} (x : Parts P C) (y : Complex P C plants steadies copies)
+    (base : y.base ≡ x.base) (began : y.since ≡ x.since) (by : MemberId) (inside : IsMember x.book by) (b : Book) (later : Since x.book b) (mine : b.holder ≡ by) (book : y.book ≡ after_stop b by)
+    (goes : Proceeds (plants.view x.plant) (plants.view y.plant)) (notes : OtherNotesStay by x.had (parts_of y).had) where
+  pub held_halted : (n : Member) (ms : List Member) (at : ℕ) → at ≤ steps_most → IsBetween plants copies x ms at → n.id ≡ by → All (IsOfEarlier (at + 1)) (journal_of (parts_of y))
+      → (plants.tells → (ls : List Line) × (console_now (plants.view y.plant) ≡ console_now (plants.view x.plant) ++ ls) × TellNone at ls) → LeftBetween y (set ms (by.0 - 1) n) (at + 1)
+  held_halted n ms at few is id own wrote =
+      let seat : IsMember b by = inside_since x.book b by later inside in
+      let stops : Since b (after_stop b by) = stopped_since b by seat in
+      let held : y.book.holder ≡ by = ap (λ (c : Book). c.holder) book ∙ mine in
+      let not_free : y.book.holder ≡ nobody → ⊥ = λ free. let zero_by = ap (λ (k : MemberId). k.0) (sym held ∙ free) in let some = inside.0 in absurd (omega (arith, zero_by, some)) in
+      halted_between x y base began (subst (λ (c : Book). Since x.book c) (sym book) (then_since x.book b (after_stop b by) later stops)) by inside.0
+      (subst (λ (c : Book). IsMember c by) (sym book) (inside_since b (after_stop b by) by stops seat)) (inl held) (ap (λ (c : Book). is_stopped c by) book ∙ stopped_now b by seat) goes
+      (λ free. absurd (not_free free)) notes n ms at few is id (λ apart. absurd (apart held)) own
+      (λ k later_on less small tells.
+      let w = wrote tells in
+      untold_then plants copies x (parts_of y) base began is.begun goes.past w.0 (λ o. w.1) k later_on (w.2 later_on less small) (is.untold k later_on (omega (arith, less)) small) tells)
 
 -- A STEP from a value in which its member has the lock: by a try, or by a takeover
 

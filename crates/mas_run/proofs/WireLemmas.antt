@@ -6,8 +6,8 @@ use Rattle.step_turns.specs.Serving.{offered, taken_most}
 use Rattle.step_turns.specs.declared.states.Aside.{Aside}
 use Rattle.std.proofs.lemmas.Option.{get_or_from_slice_get, slice_get-get_or}
 use Rattle.run_opening.proofs.ReaderLemmas.{Readers, place_within}
-use Rattle.mas_types.specs.declared.commands.Command.TheVariants as command
 use Rattle.mas_run.proofs.ComesLemmas.{Comes, comes, LineCame, NoMember, SaysNo, StillUp, NotGranted}
+use Rattle.mas_types.specs.declared.commands.Command.TheVariants as command
 
 -- NOTHING GIVEN OR TAKEN
 

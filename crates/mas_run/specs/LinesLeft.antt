@@ -1,9 +1,12 @@
 -- What a line of a member leaves before the operator says that its member was stopped, if it was.
-use Rattle.mas_run.specs.Names.{Dev, MemberId, Batch, Book, is_stopped, Console, PlantGhosts, View, paper_now, Rose, Ghosts as CopyGhosts, SteadyGhosts, Complex, Renewals, SamePapers, counts_of, Parts, parts_of, NodeNo, console_now, journal_of, Step, AreBatched, AtCut, IsBroken, IsHaltBy, IsTight, cause_by, Cut, Admission, admitted, ArePiecesOf, Given, Piece, fate_found, Scene, settle, IfRuns, ended_as, Proceeds, StaysLost, IsShown, AreVolumesKept}
+use Rattle.mas_run.specs.Names.{Armed, Dev, MemberId, Batch, Book, is_stopped, Console, PlantGhosts, View, paper_now, Rose, Ghosts as CopyGhosts, SteadyGhosts, Complex, Renewals, SamePapers, counts_of, Parts, parts_of, NodeNo, console_now, journal_of, Step, AreBatched, AtCut, IsBroken, IsHaltBy, IsTight, cause_by, Cut, Admission, admitted, ArePiecesOf, Given, Piece, fate_found, Scene, settle, IfRuns, ended_as, Proceeds, StaysLost, AreVolumesKept}
 use Rattle.std.specs.Prelude.{◌≡◌, ◌≢◌, ◌⊎◌, ℕ, ◌≤◌, false, List, ◌++◌, Option, Some, None, Result, Ok, Err, OnOk}
 use Rattle.member_node.specs.declared.member.NodeNo.TheVariants as no_node
 use Rattle.member_node.specs.Spares.{Spares, stopped_in}
 use Rattle.run_turns.specs.Cuts.{Left, left_by}
+use Rattle.mas_types.specs.declared.journals.Entry.{Entry}
+use Rattle.paper_laws.specs.Counts.{Counts}
+use Rattle.member_sittings.specs.Whole.{queue_of}
 use Rattle.mas_run.specs.LinesAt.{LineAt, admitted_at, pieces_as, play_as}
 use Rattle.mas_run.specs.Lines.{AdmissionLeaves, IfIdle, IsHonestAs, IsThere, LosesAs, PrintsNone, StaysAs, is_replaced, is_takeover, is_work, taking}
 use Rattle.mas_run.specs.Renewing.{RenewsAs}
@@ -107,11 +110,32 @@ module _ {P C : Type 0} (plants : PlantGhosts P) (copies : CopyGhosts C) where
   abbrev pub LeftAt : Type 0 → Scene → ℕ → Step → Parts P C → Parts P C → Result (Unit {0}) NodeNo → Type 0
   LeftAt told S at step x y result = LeavesAt copies.reads told S at step (seen_of x) (seen_of y) y.book result
 
+-- THE SCENE that a value shows
+
+-- what is in flight of a batch, if one is
+abbrev pub flown_of : Option Batch → Option (List Entry)
+flown_of None = None
+flown_of (Some c) = Some c.entries
+
+-- where members printed so many lines, and these stops are armed
+abbrev pub scene_as : {P C : Type 0} → Parts P C → Counts → List Armed → Scene
+scene_as x counts armed = record {
+  queue = queue_of x;
+  book = x.book;
+  flight = flown_of x.current;
+  counts = counts;
+  armed = armed;
+}
+
+-- who isn't stopped printed so many
+abbrev pub AreCounted : {P C : Type 0} → Parts P C → Counts → Type 0
+AreCounted x counts = (m : MemberId) → is_stopped x.book m ≡ false → counts_of x.printed m ≡ counts m
+
 -- OVER THE SHARED VALUE
 
 module _ {P C : Type 0} {plants : PlantGhosts P} {steadies : SteadyGhosts C} {copies : CopyGhosts C} where
   -- a line of this number, at each scene that the value shows before it is tested
   abbrev pub LineIsLeft : Type 0 → ℕ → Step → Complex P C plants steadies copies → Complex P C plants steadies copies
       → Result (Unit {0}) NodeNo → Type 0
-  LineIsLeft told at step x y result = (S : Scene) → IsShown plants copies told S (parts_of x)
-      → LeftAt plants copies told S at step (parts_of x) (parts_of y) result
+  LineIsLeft told at step x y result = (counts : Counts) (armed : List Armed) → (told → AreCounted (parts_of x) counts)
+      → LeftAt plants copies told (scene_as (parts_of x) counts armed) at step (parts_of x) (parts_of y) result

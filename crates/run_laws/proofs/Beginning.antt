@@ -163,7 +163,7 @@ never_small config old new goes large (Spool n) size is =
 module _ (spells : SpellsOneAtMost) (configs : RunsKeepConfiguration) (sounds : RunsKeepSound) (l order since : ℕ) (base : Queue) (J : Journal) (rs : Renewals) (t : ℕ) (last old : View)
     (left : IsLeftBy t last old) (sound : IsSound base) (given : AreGivenIn base J.batches)
     (bound1 : is_renewed_at rs.first t ≡ false → AreBounded l order since (left_at last t Ckpt1)) (bound2 : is_renewed_at rs.second t ≡ false → AreBounded l order since (left_at last t Ckpt2))
-    (alike : AreAlike form_reads base J rs t (left_at last t Ckpt1) (left_at last t Ckpt2)) where
+    (alike : AreAlike form_reads base J rs t last) where
   kept_given : All (IsGiven base) (kept_at J t)
   kept_given = all_given base (is_kept_by t) J.batches given
 
@@ -296,7 +296,7 @@ hinders spells configs sounds first_tells next_tells told also cold script answe
     stays d = (ended.lost e).stays (DiskPart d)
 
     -- what clashes with copies that agree isn't so
-    never : (A : Type 0) → (AreGivenIn base J.batches → AreAlike form_reads base J was.steps.renewals t (left_at last t Ckpt1) (left_at last t Ckpt2) → A → ⊥) → A → ⊥
+    never : (A : Type 0) → (AreGivenIn base J.batches → AreAlike form_reads base J was.steps.renewals t last → A → ⊥) → A → ⊥
     never A clash a =
         ∥∥₁_elim (was.steps.safe.alike told) (λ x y. absurd x) (λ (alike : AreAlwaysAlike form_reads base J was.steps.renewals since last).
         ∥∥₁_elim (was.steps.safe.paper told) (λ x y. absurd x) (λ (paper : PaperKept base since J.batches last). clash paper.given (alike t ge le) a))

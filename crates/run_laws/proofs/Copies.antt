@@ -85,7 +85,7 @@ none_of reads dev old new mark found (Some bytes) seen is = (seen.0, seen.1 ∙ 
 
 -- The pages found are the kept ones or those in flight: a copy that was being replaced has older ones only beside a
 -- good one, whose pages are of a greater level then
-module _ (reads : List ℕ → Option (List ℕ)) (base : Queue) (J : Journal) (rs : Renewals) (t : ℕ) (last old : View) (found : List ℕ) (alike : AreAlike reads base J rs t (left_at last t Ckpt1) (left_at last t Ckpt2)) where
+module _ (reads : List ℕ → Option (List ℕ)) (base : Queue) (J : Journal) (rs : Renewals) (t : ℕ) (last old : View) (found : List ℕ) (alike : AreAlike reads base J rs t last) where
   pub stand_by : (found ≡ alike.was) ⊎ (alike.coming ≡ Some found) → StandFor (run base (kept_at J t)) found ⊎ StandFor (run base (kept_at J t ++ flying_at J t)) found
   stand_by which =
       ⊎_elim

@@ -177,9 +177,12 @@ holder_of S by at a =
     record { by = by; step = at; hold = left_of (tried S.book by a) by; grant = granted_by S.book by }
 
 -- what was found of a batch in flight: anything only by a takeover
+abbrev pub fate_by : Admission → Fate → Fate
+fate_by (TakesOver of) found = found
+fate_by _ found = Flying
+
 abbrev pub fate_found : Admission → Sight → Fate
-fate_found (TakesOver of) sight = sight.flight
-fate_found _ sight = Flying
+fate_found a sight = fate_by a sight.flight
 
 abbrev pub sayer_of : MemberId → Admission → MemberId
 sayer_of by (Refused sayer end) = sayer

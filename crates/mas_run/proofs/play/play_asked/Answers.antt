@@ -1,4 +1,4 @@
-use Rattle.mas_run.proofs.Names.{◌≡◌, refl, form_reads, Headline, no_renewals, kept_all, meaning_run as run, parts_of, journal_of, Scene, scene_of}
+use Rattle.mas_run.proofs.Names.{◌≡◌, refl, Ckpt1, Ckpt2, form_reads, Headline, no_renewals, kept_all, meaning_run as run, parts_of, journal_of, Scene, scene_of}
 use Rattle.mas_run.proofs.RunLemmas.{away_after, caused_by_lines, play_of_lines, good_after, lines_failed, lines_passed, nothing_out, shown_bare}
 use Rattle.mas_run.proofs.play.play_asked.Goals as goal
 
@@ -19,7 +19,7 @@ returns-clause-play g c =
     let head : P.tells → ∥ Headline form_reads x.base x.since J y.renewals w ∥₁ = λ t. rw (e.base, e.since, e.plant, d.base, d.since) at (e.headline t) in
     rw (e.status, c.status_of.ensures, e.base, e.since, e.plant, d.base, d.since)
     (play_of_lines P.tells steps x.base x.journal.batches v.now J y.renewals x.since v w r d.played.many c.requires.settled c.requires.between.sound head
-    (away_after P (parts_of x) (parts_of y) r d.copies.devices y.lost.0 y.lost.1)
+    (away_after P (parts_of x) (parts_of y) r d.copies.devices (y.lost Ckpt1 tt) (y.lost Ckpt2 tt))
     (good_after P (parts_of x) (parts_of y) r d.copies c.requires.some c.requires.unrenewed c.requires.there1 c.requires.there2)
     (lines_passed x y S ⊥ steps d.played.many r d.played.bare (shown_bare x y S (Unit {0}) c.requires.shows) x.journal.batches J.batches no_renewals x.since refl none c.requires.unrenewed e.journal)
     (λ t. lines_passed x y S (Unit {0}) steps d.played.many r (d.played.told t) c.requires.shows x.journal.batches J.batches no_renewals x.since refl none c.requires.unrenewed e.journal))
