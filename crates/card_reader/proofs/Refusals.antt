@@ -1,5 +1,6 @@
 -- Cards that are refused as such.
 use Rattle.std.proofs.Common.{◌≡◌, ◌∙◌, ap, ℕ, ◌+◌, ◌<◌, ◌≤◌, Bool, true, false, not, ◌&&◌, nat_le, nat_lt, if◌then◌else◌, Option, Some, None, List, [], ◌∷◌, length, take, drop, refl, arith}
+use Rattle.std.proofs.lemmas.Bool.{not_from_false as not_true, not_from_true as not_false}
 use Rattle.std.specs.Prelude.{All}
 use Rattle.std.specs.List.{slice_get}
 use Rattle.std.proofs.lemmas.Bool.Decides.{nat_tests}
@@ -11,14 +12,6 @@ use Rattle.mas_types.specs.Limits.{card_bytes, line_bytes, text_lines_most}
 use Rattle.card_reader.specs.declared.decks.Refused.{Refused}
 use Rattle.card_reader.specs.Decks.{bad, is_card, refused_card}
 use Rattle.card_reader.proofs.Fronts.{rest_from, if_yes, if_no}
-
-not_false : (v : Bool) → v ≡ true → not v ≡ false
-not_false true e = refl
-not_false false e = absurd (cc)
-
-not_true : (v : Bool) → v ≡ false → not v ≡ true
-not_true true e = absurd (cc)
-not_true false e = refl
 
 -- of some cards, the one at a place
 module _ (cards : List (List ℕ)) (last at : ℕ) (card : List ℕ) (here : slice_get cards at ≡ Some card) where

@@ -1,7 +1,7 @@
 -- What is read of a device with nothing unsynced stands on it.
 use Rattle.std.proofs.Common.{◌≡◌, ⊎_elim, ℕ, zero, suc, ◌+◌, ◌*◌, ◌≤◌, ◌<◌, ◌==◌, ◌&&◌, nat_le, nat_lt, Bool, true, false, if◌then◌else◌, Some, None, List, [], ◌∷◌, ◌++◌, length, slice_index, slice_index_or, get_or, take, drop, All, Option, IfSome, length-append, length-drop, refl, sym, ◌∙◌, ap, subst, arith}
 use Rattle.std.proofs.lemmas.Bool.Decides.{nat_tests}
-use Rattle.std.proofs.lemmas.Bool.{and_parts, and_from, cases_lt, leb-true}
+use Rattle.std.proofs.lemmas.Bool.{and_from, and_parts, cases_lt, eqb-true as eq_from, leb-true, ltb-true as lt_from}
 use Rattle.std.proofs.lemmas.List.{take_all, drop_at, drop-append-le, take-append-le, length-take-le}
 use Rattle.mas_types.specs.Limits.{page_bytes, pages_least, pages_most}
 use Rattle.spool_plant.specs.View.{Disk, IsImage, Avoids, slice}
@@ -284,13 +284,6 @@ slot_unread n s first read bytes lt gate at_block is none = up_to n bytes s slot
     by_test : (b : Bool) → are_listed n bytes s ≡ b → are_listed n bytes (suc s) ≡ false
     by_test true before = ap (λ (b : Bool). b && (if is_open (gate_of s) bytes then is_directory n (block (directory_block n s) bytes) else true)) before ∙ missing
     by_test false before = ap (λ (b : Bool). b && (if is_open (gate_of s) bytes then is_directory n (block (directory_block n s) bytes) else true)) before
-
--- a directory lists pages out of n, at most as many
-lt_from : (a b : ℕ) → nat_lt a b ≡ true → a < b
-lt_from a b is = grind (arith, nat_tests)
-
-eq_from : (a b : ℕ) → (a == b) ≡ true → a ≡ b
-eq_from a b is = grind (arith, nat_tests)
 
 ascend_below : (n last : ℕ) (numbers : List ℕ) → ascend n last numbers ≡ true → (k : ℕ) (d : ℕ) → k < length numbers → slice_index_or numbers k d < n
 ascend_below n last [] all k d lt = absurd (omega (arith, lt))

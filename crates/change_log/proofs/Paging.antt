@@ -2,7 +2,7 @@
 use Rattle.std.proofs.Common.{◌≡◌, ⊎_elim, inr, ℕ, zero, suc, ◌+◌, ◌*◌, ◌≤◌, ◌<◌, ◌==◌, ◌&&◌, nat_lt, Bool, true, false, List, [], ◌∷◌, ◌++◌, length, take, drop, get_or, length-append, length-drop, append_assoc, drop-cons, refl, sym, ◌∙◌, ap, subst, arith}
 use Rattle.std.proofs.lemmas.List.{drop_at, drop-append-le, take-append-le, take_all, take_more, length-take-le}
 use Rattle.std.proofs.lemmas.Bool.Decides.{nat_tests}
-use Rattle.std.proofs.lemmas.Bool.{and_parts, and_from}
+use Rattle.std.proofs.lemmas.Bool.{and_from, and_parts, eqb-true as equal, lt-ltb as not_less, ltb-true as less}
 use Rattle.mas_types.specs.Limits.{page_bytes}
 use Rattle.mas_types.specs.declared.ids.Page.{Page}
 use Rattle.spool_plant.specs.View.{Disk, slice}
@@ -71,15 +71,6 @@ blocks_put first count at F bytes old new place size is spreads put before k lt 
 
     now : block (first + count) new.bytes ≡ F count
     now = subst (λ (m : ℕ). slice m page_bytes new.bytes ≡ bytes) place (subst (λ (n : ℕ). slice at n new.bytes ≡ bytes) size put) ∙ is
-
-less : (a b : ℕ) → nat_lt a b ≡ true → a < b
-less a b is = grind (arith, nat_tests)
-
-not_less : (a b : ℕ) → a < b → nat_lt a b ≡ true
-not_less a b lt = grind (arith, nat_tests)
-
-equal : (a b : ℕ) → (a == b) ≡ true → a ≡ b
-equal a b is = grind (arith, nat_tests)
 
 -- the page is the next of those that changed
 pub next_hit : (count many number i : ℕ) → (nat_lt count many && (number == i)) ≡ true → (count < many) × (number ≡ i)

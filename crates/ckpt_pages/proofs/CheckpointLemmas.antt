@@ -3,7 +3,7 @@ use Rattle.std.proofs.Common.{◌≡◌, ℕ, zero, suc, ◌+◌, ◌-◌, ◌*�
 use Rattle.std.specs.Prelude.{◌==◌, nat_lt, codes, slice_get}
 use Rattle.std.specs.List.{slice_index}
 use Rattle.std.specs.Int.{w64, to_be_bytes}
-use Rattle.std.proofs.lemmas.Bool.{cases_lt}
+use Rattle.std.proofs.lemmas.Bool.{cases_lt, lt-ltb as is_below}
 use Rattle.std.proofs.lemmas.Bool.Decides.{nat_tests}
 use Rattle.std.proofs.lemmas.List.{length-replicate}
 use Rattle.std.proofs.lemmas.List.Elements.{All-replicate, All-nil}
@@ -107,9 +107,6 @@ made_header h node members lines routes jobs outputs owners pages is =
 
 not_page : (p k : ℕ) → k < p → (p == k) ≡ false
 not_page p k lt = grind (arith, nat_tests)
-
-is_below : (p n : ℕ) → p < n → nat_lt p n ≡ true
-is_below p n lt = grind (arith, nat_tests)
 
 not_below : (p n : ℕ) → n ≤ p → nat_lt p n ≡ false
 not_below p n le = grind (arith, nat_tests)

@@ -1,7 +1,7 @@
 -- Sound tables stand for sound queues.
 use Rattle.std.proofs.Common.{◌≡◌, ℕ, ◌*◌, ◌<◌, ◌==◌, nat_le, nat_lt, Bool, true, false, not, ◌&&◌, ◌||◌, List, [], ◌∷◌, length, Option, Some, None, refl, ◌∙◌, ⊎_elim, arith}
 use Rattle.std.specs.List.{list_any, All}
-use Rattle.std.proofs.lemmas.Bool.{or_parts, and_cases, and_right, not-false, ltb-false, lt-ltb}
+use Rattle.std.proofs.lemmas.Bool.{and_cases, and_left, and_right, lt-ltb, ltb-false, not-false, or_parts}
 use Rattle.std.proofs.lemmas.Bool.Decides.{nat_tests}
 use Rattle.mas_types.specs.declared.ids.MemberId.{MemberId}
 use Rattle.mas_types.specs.declared.ids.JobNo.{JobNo}
@@ -80,10 +80,6 @@ there_first n test (j ∷ js) d h =
   where
     other : (a b n : ℕ) → (a == n) ≡ true → (a == b) ≡ false → (b == n) ≡ false
     other a b n h g = grind (arith, nat_tests)
-
-    and_left : (a b : Bool) → a ≡ false → (a && b) ≡ false
-    and_left false b h = refl
-    and_left true b h = absurd (cc)
 
     none_else : (j : Job) (js : List Job) → same_number j.number n ≡ true → list_any (λ b. same_number j.number b.number) js ≡ false → list_any (λ j. same_number j.number n && test j) js ≡ false
     none_else j js e h =

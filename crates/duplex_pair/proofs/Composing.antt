@@ -1,5 +1,6 @@
 -- How calls on the two copies make a call on the pair.
-use Rattle.std.proofs.Common.{◌≡◌, ◌≢◌, ◌⊎◌, ◌||◌, inl, inr, ⊎_elim, ℕ, ◌≤◌, Bool, true, false, List, Option, refl, sym, ◌∙◌, ap, subst, arith}
+use Rattle.std.proofs.Common.{◌≡◌, ◌≢◌, ◌⊎◌, inl, inr, ⊎_elim, ℕ, ◌≤◌, Bool, true, false, List, Option, refl, sym, ◌∙◌, ap, subst, arith}
+use Rattle.std.proofs.lemmas.Bool.{or_left, or_right}
 use Rattle.mas_types.specs.declared.ids.Dev.{Dev}
 use Rattle.mas_types.specs.declared.ids.Dev.TheVariants.{Ckpt1, Ckpt2}
 use Rattle.spool_plant.specs.declared.plant.Part.{Part}
@@ -28,14 +29,6 @@ between true true z p q e = refl
 between true false z p q e = p e
 between false true z p q e = sym (q refl)
 between false false z p q e = refl
-
-or_left : (x y : Bool) → x ≡ true → (x || y) ≡ true
-or_left true y is = refl
-or_left false y is = absurd (cc)
-
-or_right : (x y : Bool) → y ≡ true → (x || y) ≡ true
-or_right true y is = refl
-or_right false y is = is
 
 module _ (by : ℕ) (old new : View) (a a' b : Bool) (stopped : Bool) where
   pub acted_first : (dev : Dev) → dev ≡ Ckpt1 → Acted by dev a a' stopped old new → PairActed by a a' b b stopped old new

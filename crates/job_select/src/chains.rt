@@ -9,10 +9,28 @@ use std::alloc::Global;
 /// The slots in each chain, by the chain's number. A chain in which none stands isn't there.
 pub type Chains = IndexMap<u32, Vec<u16>>;
 
+// Where there are no more chains than these, to look at one after another is faster than to look one up.
+const FEW: usize = 8;
+
+/// The slots in a chain, where chains are looked at one after another.
+fn slots_among(chains: &Chains, chain: u32) -> &[u16]
+    ensures { result.now ≡ slots_of chains.now chain }
+{
+    for (number, slots) in chains.iter() {
+        if *number == chain {
+            return slots;
+        }
+    }
+    &[]
+}
+
 /// The slots in a chain.
 pub fn slots_in(chains: &Chains, chain: u32) -> &[u16]
     ensures { result.now ≡ slots_of chains.now chain }
 {
+    if chains.len() <= FEW {
+        return slots_among(chains, chain);
+    }
     match chains.get(&chain) {
         Some(slots) => slots,
         None => &[],

@@ -1,11 +1,11 @@
 -- Slots: what is read is spelled so, and what is spelled so is read.
 use Rattle.std.proofs.Common.{◌≡◌, ℕ, zero, suc, ◌+◌, ◌-◌, ◌^◌, ◌≤◌, ◌<◌, Bool, true, false, List, [], ◌∷◌, ◌++◌, length, get_or, drop, replicate, Option, Some, None, refl, sym, ap, subst, ◌∙◌, arith, inl, inr}
+pub use Rattle.std.proofs.lemmas.Bool.{eqb-true as same_from_eq}
 use Rattle.std.specs.Prelude.{◌==◌, ◌&&◌}
 use Rattle.std.specs.List.{concat, slice_index}
 use Rattle.std.specs.Int.{w16, w32, w64, from_be_bytes, to_be_bytes}
 use Rattle.std.proofs.lemmas.Bool.{cases_eq}
 use Rattle.std.proofs.lemmas.List.{get_or-take, get_or-drop, length-append, length-drop, drop_all, append-nil}
-use Rattle.std.proofs.lemmas.Bool.Decides.{nat_tests}
 use Rattle.std.proofs.lemmas.Nat.{from_be_bytes-to_be_bytes_2, from_be_bytes-to_be_bytes_4, from_be_bytes-to_be_bytes_8}
 use Rattle.mas_types.specs.declared.jobs.Phase.{Phase}
 use Rattle.mas_types.specs.declared.jobs.Phase.TheVariants as phase
@@ -35,9 +35,6 @@ holds_below (suc k) test h n lt =
       | inl e ↦ rw e p.0
       | inr ne ↦ holds_below k test p.1 n (omega arith)
     ]
-
-pub same_from_eq : (a b : ℕ) → (a == b) ≡ true → a ≡ b
-same_from_eq a b h = grind (arith, nat_tests)
 
 -- ---- fields
 

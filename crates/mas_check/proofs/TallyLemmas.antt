@@ -1,5 +1,6 @@
 -- What groups come to, one after another.
 use Rattle.std.proofs.Common.{◌≡◌, ℕ, ◌+◌, ◌≤◌, ◌==◌, nat_eq, nat_lt, Bool, true, false, not, ◌&&◌, ◌||◌, if◌then◌else◌, List, [], ◌∷◌, ◌++◌, Result, Ok, Err, refl, sym, ap, ◌∙◌, subst, arith}
+use Rattle.std.proofs.lemmas.Bool.{and_parts as both_true}
 use Rattle.std.specs.Prelude.{max, is_some, unwrap_or, OnOk}
 use Rattle.std.specs.List.{list_any}
 use Rattle.std.proofs.lemmas.Bool.Decides.{nat_tests}
@@ -73,11 +74,6 @@ eq_both a b = grind (arith, nat_tests)
 
 eq_is : (a b : ℕ) → nat_eq a b ≡ true → a ≡ b
 eq_is a b h = grind (arith, nat_tests)
-
-both_true : (a b : Bool) → (a && b) ≡ true → (a ≡ true) × (b ≡ true)
-both_true true true h = (refl, refl)
-both_true true false h = absurd (cc)
-both_true false b h = absurd (cc)
 
 -- the tally of a text, where its group may have been counted in
 one_more : (o g : Owner) (groups : List Group) (x : Group) (new old at : Tally) (b : Bool) → new ≡ (if b then with_group at (place_of x.owner) (unwrap_or x.records 0) else old) → b ≡ same_text o x.owner → (b ≡ true → at ≡ old)

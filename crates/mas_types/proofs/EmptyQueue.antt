@@ -2,7 +2,7 @@
 use Rattle.std.proofs.Common.{◌≡◌, ℕ, zero, suc, ◌*◌, ◌≤◌, Bool, true, false, not, List, [], ◌∷◌, length, replicate, refl, arith}
 use Rattle.std.specs.List.{All, list_all, list_any}
 use Rattle.std.specs.Prelude.{◌&&◌, codes}
-use Rattle.std.proofs.lemmas.Bool.{and_parts}
+use Rattle.std.proofs.lemmas.Bool.{and_parts, not-true as not_true}
 use Rattle.std.proofs.lemmas.List.{length-replicate}
 use Rattle.std.proofs.lemmas.List.Elements.{All-cons, All-nil, All-replicate}
 use Rattle.mas_types.specs.declared.ids.Class.{Class}
@@ -21,10 +21,6 @@ use Rattle.mas_types.specs.Starts.{all_classes, default_config, default_setting,
 abbrev are_distinct : {A : Type 0} → (A → A → Bool) → List A → Bool
 are_distinct same [] = true
 are_distinct same (x ∷ xs) = not (list_any (same x) xs) && are_distinct same xs
-
-not_true : (b : Bool) → not b ≡ true → b ≡ false
-not_true true h = absurd cc
-not_true false h = refl
 
 distinct_from : {A : Type 0} (same : A → A → Bool) (xs : List A) → are_distinct same xs ≡ true → AreDistinct same xs
 distinct_from same [] h = tt

@@ -1,5 +1,6 @@
 -- Tests, and lists of which each item has a property.
-use Rattle.std.proofs.Common.{◌≡◌, ℕ, zero, suc, ◌⊎◌, inl, inr, Bool, true, false, not, ◌&&◌, ◌||◌, ◌==◌, List, [], ◌∷◌, ◌++◌, Some, slice_get, refl, sym, subst, arith}
+use Rattle.std.proofs.Common.{◌≡◌, ℕ, zero, suc, ◌⊎◌, inl, inr, Bool, true, false, ◌&&◌, ◌||◌, ◌==◌, List, [], ◌∷◌, ◌++◌, Some, slice_get, refl, sym, subst, arith}
+pub use Rattle.std.proofs.lemmas.Bool.{and_from as and_both, eqb-false as other_number, eqb-true as same_number, not-true as not_true, or_parts as neither}
 use Rattle.std.specs.List.{AllByRecursion}
 use Rattle.std.proofs.lemmas.Bool.Decides.{nat_tests}
 
@@ -15,21 +16,9 @@ pub and_right : (p q : Bool) → (p && q) ≡ true → q ≡ true
 and_right true q h = h
 and_right false q h = absurd (cc)
 
-pub and_both : (p q : Bool) → p ≡ true → q ≡ true → (p && q) ≡ true
-and_both true q h k = k
-and_both false q h k = absurd (cc)
-
 pub or_cases : (p q : Bool) → (p || q) ≡ true → (p ≡ true) ⊎ (q ≡ true)
 or_cases true q h = inl refl
 or_cases false q h = inr h
-
-pub neither : (p q : Bool) → (p || q) ≡ false → (p ≡ false) × (q ≡ false)
-neither true q h = absurd (cc)
-neither false q h = (refl, h)
-
-pub not_true : (p : Bool) → not p ≡ true → p ≡ false
-not_true true h = absurd (cc)
-not_true false h = refl
 
 pub both_ways : (p : Bool) {P : Type 0} → p ≡ true → p ≡ false → P
 both_ways true h k = absurd (cc)
@@ -38,12 +27,6 @@ both_ways false h k = absurd (cc)
 pub true_or_false : (b : Bool) → (b ≡ false) ⊎ (b ≡ true)
 true_or_false true = inr refl
 true_or_false false = inl refl
-
-pub same_number : (m n : ℕ) → (m == n) ≡ true → m ≡ n
-same_number m n h = grind (arith, nat_tests)
-
-pub other_number : (m n : ℕ) → (m == n) ≡ false → m ≡ n → ⊥
-other_number m n h same = grind (arith, nat_tests)
 
 pub is_itself : (n : ℕ) → (n == n) ≡ true
 is_itself n = grind (arith, nat_tests)

@@ -1,7 +1,7 @@
 -- How far a text goes on in a place.
 use Rattle.std.proofs.Common.{◌≡◌, ◌∙◌, sym, ap, subst, inl, inr, ℕ, suc, ◌+◌, ◌-◌, ◌*◌, ◌≤◌, ◌<◌, ◌⊎◌, Bool, true, false, not, nat_le, nat_lt, ◌&&◌, ◌||◌, ◌==◌, List, [], ◌∷◌, ◌++◌, length, take, drop, get_or, refl, append_assoc, arith}
 use Rattle.std.specs.List.{list_all, list_any}
-use Rattle.std.proofs.lemmas.Bool.{leb-true, ltb-true, eqb-true, le-leb, lt-ltb, eq-eqb, ne_eqb, and_parts, and_from, and_left, or_cases, or_left, or_right, or_parts, cases_lt, not-true, false_from_ne_true, both_ways}
+use Rattle.std.proofs.lemmas.Bool.{and_from, and_left, and_parts, and_right as false_right, both_ways, cases_lt, eq-eqb, eqb-true, false_from_ne_true, le-leb, leb-true, lt-ltb, ltb-true, ne_eqb, not-true, or_cases, or_left, or_parts, or_right}
 use Rattle.std.proofs.lemmas.List.{append-nil, length-append, take_more, drop_more}
 use Rattle.std.proofs.lemmas.List.Folds.{list_all-append, list_any-append}
 use Rattle.std.proofs.lemmas.Slice.Eq.{bytes_eq-Decides}
@@ -289,13 +289,7 @@ ends_at (place.Number r) d b h e =
 ends_at place.Class d b h e = and_left _ _ (too_long d b (stands_some place.Class d h))
 ends_at place.Classes d b h e =
     and_left _ _ (false_right (nat_le (length (d ++ b ∷ [])) 36) (list_all is_class_byte (d ++ b ∷ [])) (last_fails is_class_byte d b (class_is_name b) e))
-  where
-    false_right : (x y : Bool) → y ≡ false → (x && y) ≡ false
-    false_right x y h = grind arith
 ends_at place.Name d b h e = false_right (nat_le (length (d ++ b ∷ [])) 8) (list_all is_name_byte (d ++ b ∷ [])) (last_fails is_name_byte d b (λ t. t) e)
-  where
-    false_right : (x y : Bool) → y ≡ false → (x && y) ≡ false
-    false_right x y h = grind arith
 ends_at place.Member d b h e = and_left _ _ (too_long d b (stands_some place.Member d h))
 
 -- REACHING

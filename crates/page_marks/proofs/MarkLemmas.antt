@@ -1,5 +1,6 @@
 -- Which pages are drawn alike after one part of tables was changed.
 use Rattle.std.proofs.Common.{◌≡◌, ◌≢◌, ◌⊎◌, ⊎_elim, inl, inr, ℕ, ◌+◌, ◌-◌, ◌*◌, ◌<◌, ◌≤◌, ◌||◌, ◌&&◌, if◌then◌else◌, Bool, true, false, zero, suc, List, [], ◌∷◌, length, take, drop, nat_lt, nat_le, slice_set, slice_index_or, Option, refl, sym, ◌∙◌, ap, arith}
+use Rattle.std.proofs.lemmas.Bool.{and_from as both, or_left, or_parts as or_none}
 use Rattle.std.specs.Prelude.{◌==◌}
 use Rattle.std.proofs.lemmas.Bool.Decides.{nat_tests}
 use Rattle.std.proofs.lemmas.List.{drop_all, drop-drop, drop-take, take-take, get_or-set_other, get_or-set_same, take-set-le, drop-set-lt, drop-set-add}
@@ -128,18 +129,6 @@ module _ (m : List Bool) (t : Tables) where
   }
 
 -- ALL PAGES OF A KIND CHANGED, over marks that are those from before and those of the kind
-
-or_none : (a b : Bool) → (a || b) ≡ false → (a ≡ false) × (b ≡ false)
-or_none true b is = absurd (cc)
-or_none false b is = (refl, is)
-
-or_left : (a b : Bool) → a ≡ true → (a || b) ≡ true
-or_left true b is = refl
-or_left false b is = absurd (cc)
-
-both : (a b : Bool) → a ≡ true → b ≡ true → (a && b) ≡ true
-both true b one two = two
-both false b one two = absurd (cc)
 
 beyond : (m : List Bool) (p : ℕ) → length m ≤ p → is_marked m p ≡ false
 beyond [] p over = refl

@@ -1,6 +1,7 @@
 -- Slots that are read one after another.
 use Rattle.std.proofs.Common.{◌≡◌, ℕ, ◌+◌, ◌-◌, ◌*◌, ◌≤◌, ◌<◌, true, List, [], ◌∷◌, length, get_or, take, drop, slice_set, refl, sym, ap, subst, ◌∙◌, Option, None, Some, Result, Ok, Err, false, All, arith}
-use Rattle.std.specs.Prelude.{nat_lt, not, is_some, IfSome, Bool}
+use Rattle.std.proofs.lemmas.Bool.{lt-ltb, ltb-true as lt}
+use Rattle.std.specs.Prelude.{not, is_some, IfSome, Bool}
 use Rattle.std.specs.List.{list_all}
 use Rattle.std.proofs.lemmas.Bool.Decides.{nat_tests}
 use Rattle.std.proofs.lemmas.List.{length-drop, length-set, take_all, take_more_set}
@@ -21,30 +22,18 @@ use Rattle.page_tables.specs.Bringing.{AreOrdersBelow, are_orders_low}
 pub job_under : (order : ℕ) (job : Option JobRec) → IfUsed IsJobRec job → is_job_below order job ≡ true → IfUsed (IsJobUnder order) job
 job_under order None fit is = tt
 job_under order (Some j) fit is = record { fit = fit; below = lt j.order order is }
-  where
-    lt : (a b : ℕ) → nat_lt a b ≡ true → a < b
-    lt a b is = grind (arith, nat_tests)
 
 pub output_under : (order : ℕ) (output : Option OutRec) → IfUsed IsOutRec output → is_output_below order output ≡ true → IfUsed (IsOutputUnder order) output
 output_under order None fit is = tt
 output_under order (Some o) fit is = record { fit = fit; below = lt o.order order is }
-  where
-    lt : (a b : ℕ) → nat_lt a b ≡ true → a < b
-    lt a b is = grind (arith, nat_tests)
 
 pub under_job : (order : ℕ) (job : Option JobRec) → IfUsed (IsJobUnder order) job → is_job_below order job ≡ true
 under_job order None h = refl
-under_job order (Some j) h = lt j.order order h.below
-  where
-    lt : (a b : ℕ) → a < b → nat_lt a b ≡ true
-    lt a b is = grind (arith, nat_tests)
+under_job order (Some j) h = lt-ltb j.order order h.below
 
 pub under_output : (order : ℕ) (output : Option OutRec) → IfUsed (IsOutputUnder order) output → is_output_below order output ≡ true
 under_output order None h = refl
-under_output order (Some o) h = lt o.order order h.below
-  where
-    lt : (a b : ℕ) → a < b → nat_lt a b ≡ true
-    lt a b is = grind (arith, nat_tests)
+under_output order (Some o) h = lt-ltb o.order order h.below
 
 -- WHAT A CALL FOUND
 

@@ -1,5 +1,7 @@
 -- Tests, and lists cut in two.
-use Rattle.std.proofs.Common.{◌≡◌, ℕ, ◌⊎◌, inl, inr, Bool, true, false, ◌&&◌, ◌||◌, ◌==◌, List, [], ◌∷◌, ◌++◌, find, Some, refl, ap}
+use Rattle.std.proofs.Common.{◌≡◌, ℕ, ◌⊎◌, inl, inr, Bool, true, false, ◌&&◌, ◌==◌, List, [], ◌∷◌, ◌++◌, find, Some, refl, ap}
+use Rattle.std.proofs.lemmas.Bool.{eqb-true as numbers}
+pub use Rattle.std.proofs.lemmas.Bool.{or_parts as neither}
 use Rattle.std.proofs.lemmas.Bool.Decides.{nat_tests}
 use Rattle.std.proofs.Common.{arith}
 use Rattle.mas_types.specs.declared.ids.MemberId.{MemberId}
@@ -17,18 +19,11 @@ pub both_ways : (p : Bool) {P : Type 0} → p ≡ true → p ≡ false → P
 both_ways true h k = absurd (cc)
 both_ways false h k = absurd (cc)
 
-pub neither : (p q : Bool) → (p || q) ≡ false → (p ≡ false) × (q ≡ false)
-neither true q h = absurd (cc)
-neither false q h = (refl, h)
-
 abbrev member_of : ℕ → MemberId
 member_of n = record { 0 = n }
 
 pub same_member_is : (a b : MemberId) → same_member a b ≡ true → a ≡ b
 same_member_is a b h = ap member_of (numbers a.0 b.0 h)
-  where
-    numbers : (m n : ℕ) → (m == n) ≡ true → m ≡ n
-    numbers m n h = grind (arith, nat_tests)
 
 abbrev number_of : ℕ → JobNo
 number_of n = record { 0 = n }

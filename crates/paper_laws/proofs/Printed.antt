@@ -1,5 +1,6 @@
 -- A line more on paper.
-use Rattle.std.proofs.Common.{◌≡◌, ℕ, ◌+◌, ◌≤◌, ◌⊎◌, inl, inr, Bool, true, false, ◌&&◌, ◌||◌, ◌==◌, nat_le, List, [], ◌∷◌, ◌++◌, find, All, Option, Some, None, refl, ap, sym, ◌∙◌, subst, arith, le_refl, le_trans}
+use Rattle.std.proofs.Common.{◌≡◌, ℕ, ◌+◌, ◌≤◌, ◌⊎◌, inl, inr, true, false, ◌&&◌, ◌==◌, nat_le, List, [], ◌∷◌, ◌++◌, find, All, Option, Some, None, refl, ap, sym, ◌∙◌, subst, arith, le_refl, le_trans}
+use Rattle.std.proofs.lemmas.Bool.{or_left, or_right}
 use Rattle.std.specs.List.{list_any}
 use Rattle.std.proofs.lemmas.Bool.Decides.{nat_tests}
 use Rattle.std.proofs.lemmas.List.Elements.{All-head, All-tail, All-weaker}
@@ -87,14 +88,6 @@ one_printer m n i (x ∷ xs) a o some distinct found here busy =
     (λ k. let second : x ≡ o = (let w = rw k at here in cc) in both_ways (prints_at m x) (subst (λ (y : Output). same_member y.busy m ≡ true) (sym second) busy) e)
     (λ k. one_printer m n i xs a o some distinct.1 (rw e at found) (rw k at here) busy))
   where
-    or_left : (p q : Bool) → p ≡ true → (p || q) ≡ true
-    or_left true q h = refl
-    or_left false q h = absurd (cc)
-
-    or_right : (p q : Bool) → q ≡ true → (p || q) ≡ true
-    or_right true q h = refl
-    or_right false q h = h
-
     later : (x : Output) → x.busy ≡ m → (ys : List Output) → find (has_key n i) ys ≡ Some o → list_any (same_printer x) ys ≡ true
     later x at_m [] h = absurd (cc)
     later x at_m (y ∷ ys) h =

@@ -1,5 +1,6 @@
 -- Whether any job is in a phase.
-use Rattle.std.proofs.Common.{◌≡◌, ℕ, ◌+◌, ◌<◌, Bool, true, false, ◌&&◌, ◌||◌, List, length, Option, Some, None, slice_get, get_or, refl, sym, ◌∙◌, arith}
+use Rattle.std.proofs.Common.{◌≡◌, ℕ, ◌+◌, ◌<◌, Bool, false, ◌&&◌, ◌||◌, List, length, Option, Some, None, get_or, refl, sym, ◌∙◌, arith}
+use Rattle.std.proofs.lemmas.Bool.{or_parts as either_false}
 use Rattle.std.specs.Prelude.{find, nat_lt, option_map}
 use Rattle.std.proofs.lemmas.Bool.Decides.{nat_tests}
 use Rattle.std.proofs.lemmas.Option.{get_or_from_slice_get, slice_get_within}
@@ -21,10 +22,6 @@ use Rattle.queue_slots.proofs.Alike.{find_none-alike}
 use Rattle.std.specs.List.{All}
 use Rattle.job_queue.specs.Jobs.{AreJobs, in_phase, order_of, unordered, rec_of}
 use Rattle.queue_effect.specs.Phases.{Tells, stands_in}
-
-either_false : (a b : Bool) → (a || b) ≡ false → (a ≡ false) × (b ≡ false)
-either_false true b h = absurd (cc)
-either_false false b h = (refl, h)
 
 -- one more slot
 pub tells_more : (phase : Phase) (slots : List (Option JobRec)) (k : ℕ) (before now : Bool) → now ≡ (stands_in phase (get_or slots k None) || before) → k < length slots → Tells phase slots k before → Tells phase slots (k + 1) now

@@ -1,8 +1,9 @@
 -- What holds of groups that are handed out.
 use Rattle.std.proofs.Common.{◌≡◌, ℕ, zero, suc, ◌+◌, ◌<◌, ◌≤◌, Bool, true, false, cond, ◌&&◌, ◌||◌, ◌==◌, List, [], ◌∷◌, length, refl, ap, sym, ◌∙◌, subst, arith}
+pub use Rattle.std.proofs.lemmas.Bool.{or_left, or_parts as or_false, or_right}
 use Rattle.std.specs.Prelude.{unwrap_or, if◌then◌else◌}
 use Rattle.std.specs.List.{list_any, All, count_by}
-use Rattle.std.proofs.lemmas.Bool.{eq-eqb}
+use Rattle.std.proofs.lemmas.Bool.{eq-eqb, or_parts as or_false}
 use Rattle.std.proofs.lemmas.Bool.Decides.{nat_tests}
 use Rattle.std.proofs.lemmas.List.Sums.{sum_by-cons}
 use Rattle.std.proofs.lemmas.List.Elements.{All-cons, All-head, All-tail, All-nil, All-weaker}
@@ -41,18 +42,6 @@ or_assoc false b c = refl
 or_none : (a : Bool) → (a || false) ≡ a
 or_none true = refl
 or_none false = refl
-
-pub or_false : (a b : Bool) → (a || b) ≡ false → (a ≡ false) × (b ≡ false)
-or_false false b h = (refl, h)
-or_false true b h = absurd (cc)
-
-pub or_left : (a b : Bool) → a ≡ true → (a || b) ≡ true
-or_left true b h = refl
-or_left false b h = absurd (cc)
-
-pub or_right : (a b : Bool) → b ≡ true → (a || b) ≡ true
-or_right true b h = refl
-or_right false b h = h
 
 and_none : (a : Bool) → (a && false) ≡ false
 and_none true = refl
@@ -112,10 +101,6 @@ module _ (m : MemberId) where
       (λ e. rw (e, head_fails t free new none_new) (none-handed t free (tail new) gs parts.1 (tail_fails t new none_new)))
       (λ e. rw (e, parts.0) (none-handed t free new gs parts.1 none_new))
     where
-      or_false : (a b : Bool) → (a || b) ≡ false → (a ≡ false) × (b ≡ false)
-      or_false false b h = (refl, h)
-      or_false true b h = absurd (cc)
-
       head_fails : (t : Owner → Bool) → t owner.Free ≡ false → (new : List Owner) → list_any t new ≡ false → t (unwrap_or (head new) owner.Free) ≡ false
       head_fails t free [] h = free
       head_fails t free (x ∷ xs) h = (or_false (t x) (list_any t xs) h).0

@@ -26,3 +26,4 @@ pub mod Computed
 pub mod Chosen
 pub mod Replies
 pub mod RunLaws
+pub mod FreeGroups

@@ -1,5 +1,6 @@
 -- The number of a new job is one that no job has.
-use Rattle.std.proofs.Common.{◌≡◌, ℕ, zero, suc, ◌+◌, ◌<◌, ◌≤◌, Bool, true, false, ◌||◌, ◌==◌, List, [], ◌∷◌, length, refl, ◌∙◌, inl, inr, ◌⊎◌, lit<, arith}
+use Rattle.std.proofs.Common.{◌≡◌, ℕ, zero, suc, ◌+◌, ◌<◌, ◌≤◌, Bool, true, false, ◌==◌, List, [], ◌∷◌, length, refl, ◌∙◌, inl, inr, ◌⊎◌, lit<, arith}
+use Rattle.std.proofs.lemmas.Bool.{or_parts as or_false}
 use Rattle.std.specs.List.{list_any, All}
 use Rattle.std.proofs.lemmas.Bool.Decides.{leb_tells, nat_tests}
 use Rattle.std.proofs.lemmas.List.Elements.{All-cons, All-head, All-tail, All-nil}
@@ -83,10 +84,6 @@ length-without_first p (j ∷ js) h =
 
 taken_apart : (c d : ℕ) → (c == d) ≡ false → (j : Job) → (j.number.0 == d) ≡ true → (j.number.0 == c) ≡ false
 taken_apart c d apart j h = grind (arith, nat_tests)
-
-or_false : (a b : Bool) → (a || b) ≡ false → (a ≡ false) × (b ≡ false)
-or_false false b h = (refl, h)
-or_false true b h = absurd (cc)
 
 rest_taken : (c : ℕ) (cs : List ℕ) (js : List Job) → list_any (λ d. c == d) cs ≡ false → All (λ d. is_number_used js d ≡ true) cs → All (λ d. is_number_used (without_first (λ j. j.number.0 == c) js) d ≡ true) cs
 rest_taken c [] js apart all = All-nil (λ d. is_number_used (without_first (λ j. j.number.0 == c) js) d ≡ true)

@@ -1,5 +1,6 @@
 -- Every command keeps the sound parts.
-use Rattle.std.proofs.Common.{◌≡◌, Bool, true, false, not, [], None, refl, arith}
+use Rattle.std.proofs.Common.{◌≡◌, true, false, not, [], None, refl, arith}
+use Rattle.std.proofs.lemmas.Bool.{not-false as not_false}
 use Rattle.std.proofs.lemmas.Bool.Decides.{nat_tests}
 use Rattle.mas_types.specs.declared.ids.MemberId.{MemberId}
 use Rattle.mas_types.specs.declared.queues.Queue.{Queue}
@@ -40,10 +41,6 @@ reset_at Q of_member s none =
     let right : not (is_member Q.config of_member) ≡ false = where_not (not (is_member Q.config of_member)) refusal.NoMember (none_first _ _ none).0 in
     let member : is_member Q.config of_member ≡ true = not_false (is_member Q.config of_member) right in
     reset_sound (λ h. same_member h of_member) (λ k nobody. never_nobody of_member k (both_first (is_somebody of_member) _ member) nobody) Q s
-  where
-    not_false : (b : Bool) → not b ≡ false → b ≡ true
-    not_false true h = refl
-    not_false false h = absurd (cc)
 
 effect_sound : (Q : Queue) (m : MemberId) → IsSound Q → (c : Command) → may_give Q m c ≡ true → IsFit c → first_some (row_of Q m c).refusals ≡ None → IsSound (row_of Q m c).effect
 effect_sound Q m s (command.Begin fields) y fit n = begin_sound Q m fields s y n

@@ -1,5 +1,6 @@
 -- Begin keeps the sound parts.
 use Rattle.std.proofs.Common.{◌≡◌, ℕ, ◌<◌, ◌≤◌, Bool, true, false, not, ◌||◌, nat_le, List, [], ◌∷◌, ◌++◌, length, Option, Some, None, refl, ◌∙◌, arith, length-append, inl, inr}
+use Rattle.std.proofs.lemmas.Bool.{or_parts}
 use Rattle.std.specs.Option.{option_map_or}
 use Rattle.std.specs.List.{find, list_any}
 use Rattle.std.proofs.lemmas.Bool.Decides.{leb_tells}
@@ -41,10 +42,6 @@ AreDistinct-push same (y ∷ ys) x d new =
     let parts = or_parts (same y x) (list_any (λ y. same y x) ys) new in
     (any-append (same y) ys (x ∷ []) ∙ none_or (list_any (same y) ys) (same y x) d.0 parts.0, AreDistinct-push same ys x d.1 parts.1)
   where
-    or_parts : (a b : Bool) → (a || b) ≡ false → (a ≡ false) × (b ≡ false)
-    or_parts false b h = (refl, h)
-    or_parts true b h = absurd (cc)
-
     none_or : (a b : Bool) → a ≡ false → b ≡ false → (a || (b || false)) ≡ false
     none_or a b ha hb = rw (ha, hb) refl
 

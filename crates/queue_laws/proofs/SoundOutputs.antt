@@ -1,5 +1,6 @@
 -- The commands that change one output keep the sound parts.
-use Rattle.std.proofs.Common.{◌≡◌, ℕ, ◌+◌, ◌-◌, ◌≤◌, min, Bool, true, false, ◌&&◌, ◌||◌, List, [], ◌∷◌, map, Option, Some, None, refl, ap, ◌∙◌, inl, inr, arith}
+use Rattle.std.proofs.Common.{◌≡◌, ℕ, ◌+◌, ◌-◌, ◌≤◌, min, Bool, true, false, ◌&&◌, List, [], ◌∷◌, map, Option, Some, None, refl, ap, ◌∙◌, inl, inr, arith}
+use Rattle.std.proofs.lemmas.Bool.{or_parts as or_false}
 use Rattle.std.specs.Prelude.{option_map, if◌then◌else◌, is_some}
 use Rattle.std.specs.List.{find, list_any, All}
 use Rattle.std.proofs.lemmas.Bool.Decides.{nat_tests}
@@ -124,10 +125,6 @@ pub forward_sound : (Q : Queue) (m : MemberId) (lines : ℕ) → IsSound Q → I
 forward_sound Q m lines sound = marked_sound Q (prints_at m) (λ o. min (o.mark + lines) (total o)) sound (λ o was. omega arith)
 
 -- PICK
-
-or_false : (a b : Bool) → (a || b) ≡ false → (a ≡ false) × (b ≡ false)
-or_false false b h = (refl, h)
-or_false true b h = absurd (cc)
 
 and_false : (a : Bool) → (a && false) ≡ false
 and_false true = refl

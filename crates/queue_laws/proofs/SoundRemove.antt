@@ -1,5 +1,6 @@
 -- What goes leaves the sound parts: a job, an output, all outputs of a job.
-use Rattle.std.proofs.Common.{◌≡◌, ℕ, zero, suc, ◌≤◌, Bool, true, false, not, ◌&&◌, ◌||◌, nat_eq, ◌==◌, List, [], ◌∷◌, length, refl, ◌∙◌, subst, arith}
+use Rattle.std.proofs.Common.{◌≡◌, ℕ, zero, suc, ◌≤◌, Bool, true, false, not, ◌&&◌, nat_eq, ◌==◌, List, [], ◌∷◌, length, refl, ◌∙◌, subst, arith}
+use Rattle.std.proofs.lemmas.Bool.{or_parts as or_false}
 use Rattle.std.specs.Prelude.{is_some}
 use Rattle.std.specs.Option.{option_map_or}
 use Rattle.std.specs.List.{find, filter, list_any, All}
@@ -29,10 +30,6 @@ use Rattle.queue_laws.proofs.Owned.{is_any_output_of, freed-of_any}
 use Rattle.queue_laws.proofs.Freed.{any-freed, All-freed, places-freed}
 
 -- TESTS
-
-or_false : (a b : Bool) → (a || b) ≡ false → (a ≡ false) × (b ≡ false)
-or_false false b h = (refl, h)
-or_false true b h = absurd (cc)
 
 pub number_other : (n : JobNo) (y z : Job) → has_number n y ≡ true → same_number y.number z.number ≡ false → has_number n z ≡ false
 number_other n y z h apart = grind (arith, nat_tests)

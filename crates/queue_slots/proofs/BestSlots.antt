@@ -1,8 +1,9 @@
 -- The best of the slots, as a walk over them finds it.
 use Rattle.std.proofs.Common.{◌≡◌, ℕ, ◌+◌, ◌<◌, ◌≤◌, Bool, true, false, ◌&&◌, ◌||◌, ◌==◌, List, [], ◌∷◌, length, Option, Some, None, slice_get, refl, sym, subst, ◌∙◌, arith}
+pub use Rattle.std.proofs.lemmas.Bool.{and_from as and_true, and_parts as both_true}
 use Rattle.std.specs.Prelude.{nat_lt, find, filter, IfSome, IfNone}
 use Rattle.std.specs.List.{All}
-use Rattle.std.proofs.lemmas.Bool.{eq-eqb}
+use Rattle.std.proofs.lemmas.Bool.{eq-eqb, or_parts as either_false}
 use Rattle.std.proofs.lemmas.Bool.Decides.{nat_tests}
 use Rattle.std.proofs.lemmas.Option.{slice_get_within}
 use Rattle.std.proofs.lemmas.List.Elements.{All-head, All-tail}
@@ -15,18 +16,6 @@ use Rattle.queue_slots.specs.Best.{goes_before, better, better_slot, found_in, f
 use Rattle.queue_slots.proofs.Cases.{test_cases}
 use Rattle.queue_slots.proofs.Rising.{All-in_order}
 use Rattle.queue_slots.proofs.FirstSlots.{All-used, stands_first}
-
-pub both_true : (a b : Bool) → (a && b) ≡ true → (a ≡ true) × (b ≡ true)
-both_true true b h = (refl, h)
-both_true false b h = absurd (cc)
-
-pub and_true : (a b : Bool) → a ≡ true → b ≡ true → (a && b) ≡ true
-and_true true b x y = y
-and_true false b x y = absurd (cc)
-
-either_false : (a b : Bool) → (a || b) ≡ false → (a ≡ false) × (b ≡ false)
-either_false true b h = absurd (cc)
-either_false false b h = (refl, h)
 
 -- where the test picks nothing of the list
 pub find-All_false : {X : Type 0} (p : X → Bool) (xs : List X) → All (λ x. p x ≡ false) xs → find p xs ≡ None

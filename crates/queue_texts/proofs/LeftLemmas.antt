@@ -1,5 +1,6 @@
 -- A command that brings no text leaves the texts with their groups.
 use Rattle.std.proofs.Common.{◌≡◌, ◌⊎◌, inl, inr, ⊎_elim, ℕ, ◌+◌, ◌==◌, ◌<◌, nat_le, nat_lt, min, ◌-◌, not, ◌&&◌, ◌||◌, if◌then◌else◌, Bool, true, false, List, [], ◌∷◌, length, Option, Some, None, All, Contains, refl, sym, subst, arith}
+use Rattle.std.proofs.lemmas.Bool.{not-true as not_of}
 use Rattle.std.specs.List.{list_any, find, filter}
 use Rattle.std.proofs.lemmas.Bool.Decides.{nat_tests}
 use Rattle.std.proofs.lemmas.List.Elements.{All-head, All-tail, All-weaker, All-push, All-map, All-filter, All-contains, All-contains_itself, filter_passes}
@@ -310,10 +311,6 @@ module _ (P : Thing → Text → List GroupNo → Type 0) where
             (λ o apart. groups-freed (is_of_any (filter (is_of n) Q.outputs)) (Output o.job o.index) Q.owners (any_spares_output n o.job o.index Q.outputs (not_of (is_of n o) apart))) os (filter_passes (λ o. not (is_of n o)) Q.outputs))
             (All-filter (λ o. not (is_of n o)) (O Q.owners) Q.outputs h.outputs);
       }
-    where
-      not_of : (b : Bool) → not b ≡ true → b ≡ false
-      not_of true e = absurd (cc)
-      not_of false e = refl
 
   cancel_left : (Q : Queue) (m : MemberId) (n : JobNo) → HoldsOfTexts P Q → HoldsOfTexts P (cancel_row Q m n).effect
   cancel_left Q m n h = test_cases (is_busy (job_at Q n)) (HoldsOfTexts P (cancel_row Q m n).effect)

@@ -2,7 +2,7 @@
 use Rattle.std.proofs.Common.{◌≡◌, ◌∙◌, ap, ℕ, ◌-◌, ◌*◌, ◌≤◌, ◌==◌, nat_le, Bool, true, false, not, ◌&&◌, List, [], ◌∷◌, ◌++◌, length, take, get_or, refl, append_assoc, arith, length-append}
 use Rattle.std.specs.List.{All, list_all, slice_split}
 use Rattle.std.specs.Str.Lines.{strip_carriage_return}
-use Rattle.std.proofs.lemmas.Bool.{cond-false}
+use Rattle.std.proofs.lemmas.Bool.{and_parts as both_true, cond-false}
 use Rattle.std.proofs.lemmas.Bool.Decides.{nat_tests}
 use Rattle.std.proofs.lemmas.List.Splits.{slice_split_at}
 use Rattle.std.proofs.lemmas.List.Sums.{AllPass-from_list_all}
@@ -11,10 +11,6 @@ use Rattle.script_lang.specs.Lines.{is_deck_end, is_line, is_line_end, lines_of}
 use Rattle.script_lang.proofs.Parts.{lines-first}
 use Rattle.script_laws.specs.Whole.{is_card}
 use Rattle.gen_work.specs.Generated.{line_text, lines_text}
-
-both_true : (a b : Bool) → (a && b) ≡ true → (a ≡ true) × (b ≡ true)
-both_true true b e = (refl, e)
-both_true false b e = absurd (cc)
 
 no_end : (b : ℕ) → is_text_byte b ≡ true → is_line_end b ≡ false
 no_end b text = grind (arith, nat_tests)

@@ -1,5 +1,6 @@
 -- What the acts of a step find, as looks of its units.
-use Rattle.std.proofs.Common.{◌≡◌, ℕ, zero, suc, ◌+◌, ◌==◌, Bool, true, false, ◌&&◌, List, [], ◌∷◌, length, drop, Option, Some, None, refl, sym, ap, ◌∙◌, add-one, arith}
+use Rattle.std.proofs.Common.{◌≡◌, ℕ, zero, suc, ◌+◌, ◌==◌, Bool, true, false, List, [], ◌∷◌, length, drop, Option, Some, None, refl, sym, ap, ◌∙◌, add-one, arith}
+use Rattle.std.proofs.lemmas.Bool.{and_parts as both}
 use Rattle.std.proofs.lemmas.Bool.Decides.{nat_tests}
 use Rattle.std.specs.Option.{option_map_or}
 use Rattle.mas_types.specs.declared.ids.JobNo.{JobNo}
@@ -36,10 +37,6 @@ use Rattle.step_laws.proofs.Work.{Agrees, reading, rounds_at}
 
 numbered : (Q : Queue) (n : JobNo) (j : Job) → job_at Q n ≡ Some j → j.number ≡ n
 numbered Q n j is = ap (λ (k : ℕ). (let m : JobNo = record { 0 = k } in m)) (number_is Q n j is)
-
-both : (a b : Bool) → (a && b) ≡ true → (a ≡ true) × (b ≡ true)
-both true b e = (refl, e)
-both false b e = absurd (cc)
 
 keyed : (Q : Queue) (n : JobNo) (i : OutNo) (o : Output) → output_at Q n i ≡ Some o → (o.job ≡ n) × (o.index ≡ i)
 keyed Q n i o is =

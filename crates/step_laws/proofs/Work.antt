@@ -204,7 +204,7 @@ module _ (finds : Finds) (h : Holder) (for_step : h.grant ≡ ForStep) (look : �
 
     taken_works : (refused : Bool) (n : ℕ) (Q : Queue) (m : JobNo) (specs : List OutSpec) (needed : ℕ) (lost : Option ℕ) → 3 * left + 2 ≤ n → Q.config.hold ≡ h.hold
         → (finds (taken_queue Q h.by h.step needed) (Away (SpoolOutputs m specs (progress left done)))).lost ≡ lost
-        → finishes finds h n Q [] (groups_taken h refused needed Q m specs (progress left done)) ≡ Plays Q [] 0 (taken refused lost Q h.by h.step m specs needed)
+        → finishes finds h n Q [] (groups_taken h refused needed Q m specs (progress left done)) ≡ Plays Q [] 0 (taken refused Q h.by h.step needed (λ R. spooled lost R h.by h.step m specs))
     taken_works true n Q m specs needed lost few whole same =
         let es = given_in Q h.by h.step (taking Q h.by needed) in
         whole_part_works left may n 0 done [] es Q (end_by (closing_reply es)) (not_idle (closing_reply es)) (omega (arith, few)) whole
@@ -212,7 +212,7 @@ module _ (finds : Finds) (h : Holder) (for_step : h.grant ≡ ForStep) (look : �
 
     end_works : (needed n : ℕ) (Q : Queue) (m : JobNo) (specs : List OutSpec) (lost : Option ℕ) → 3 * left + 2 ≤ n → Q.config.hold ≡ h.hold
         → (finds (taken_queue Q h.by h.step needed) (Away (SpoolOutputs m specs (progress left done)))).lost ≡ lost
-        → finishes finds h n Q [] (job_ends h needed Q m specs (progress left done)) ≡ Plays Q [] 0 (ended_with needed lost Q h.by h.step m specs)
+        → finishes finds h n Q [] (job_ends h needed Q m specs (progress left done)) ≡ Plays Q [] 0 (ended_with needed lost Q h.by h.step (λ l R. spooled l R h.by h.step m specs))
     end_works zero n Q m specs lost few whole same = spooled_works None n Q m specs (omega (arith, few)) whole
     end_works (suc needed) n Q m specs lost few whole same = taken_works (are_refused (suc needed) Q h.by (suc needed)) n Q m specs (suc needed) lost few whole same
 
@@ -231,17 +231,17 @@ module _ (finds : Finds) (h : Holder) (for_step : h.grant ≡ ForStep) (look : �
     outcome_works (outcome.Stop end) n Q m lost few whole same = stopped_works n Q end (rounds_at left (done + 1) Q)
 
     marked_works : (end : Option Closing) (n : ℕ) (Q : Queue) (m : JobNo) (i : OutNo) (last : ℕ) → 3 * left + 1 ≤ n → Q.config.hold ≡ h.hold
-        → finishes finds h n Q [] (lines_printed h end Q m i last (progress left done)) ≡ Plays Q [] 0 (mark_play Q h.by h.step m i last end)
+        → finishes finds h n Q [] (lines_printed h end Q m i last (progress left done)) ≡ Plays Q [] 0 (mark_play Q h.by h.step (command.Mark m i last) end)
     marked_works None n Q m i last few whole =
         last_part_works left may n 0 done [] (given_in Q h.by h.step (command.Mark m i last ∷ [])) Q (end_by (reply_to Q h.by (command.Mark m i last))) (not_idle (reply_to Q h.by (command.Mark m i last))) few whole
     marked_works (Some end) n Q m i last few whole = stopped_works n Q end (rounds_at left (done + 1) Q)
 
     -- each has a part
-    taken_played : (refused : Bool) (lost : Option ℕ) (Q : Queue) (m : JobNo) (specs : List OutSpec) (needed : ℕ) → IsPlayed (taken refused lost Q h.by h.step m specs needed)
+    taken_played : (refused : Bool) (lost : Option ℕ) (Q : Queue) (m : JobNo) (specs : List OutSpec) (needed : ℕ) → IsPlayed (taken refused Q h.by h.step needed (λ R. spooled lost R h.by h.step m specs))
     taken_played true lost Q m specs needed = (omega arith, not_idle (closing_reply (given_in Q h.by h.step (taking Q h.by needed))))
     taken_played false lost Q m specs needed = (omega arith, (spooled_played lost (taken_queue Q h.by h.step needed) m specs).1)
 
-    ended_played : (needed : ℕ) (lost : Option ℕ) (Q : Queue) (m : JobNo) (specs : List OutSpec) → IsPlayed (ended_with needed lost Q h.by h.step m specs)
+    ended_played : (needed : ℕ) (lost : Option ℕ) (Q : Queue) (m : JobNo) (specs : List OutSpec) → IsPlayed (ended_with needed lost Q h.by h.step (λ l R. spooled l R h.by h.step m specs))
     ended_played zero lost Q m specs = spooled_played None Q m specs
     ended_played (suc needed) lost Q m specs = taken_played (are_refused (suc needed) Q h.by (suc needed)) lost Q m specs (suc needed)
 
@@ -250,7 +250,7 @@ module _ (finds : Finds) (h : Holder) (for_step : h.grant ≡ ForStep) (look : �
     outcome_played (outcome.End specs) lost Q m = ended_played (groups_for_end Q m specs) lost Q m specs
     outcome_played (outcome.Stop end) lost Q m = (omega arith, refused_not_idle end)
 
-    mark_played : (end : Option Closing) (Q : Queue) (m : JobNo) (i : OutNo) (last : ℕ) → IsPlayed (mark_play Q h.by h.step m i last end)
+    mark_played : (end : Option Closing) (Q : Queue) (m : JobNo) (i : OutNo) (last : ℕ) → IsPlayed (mark_play Q h.by h.step (command.Mark m i last) end)
     mark_played None Q m i last = (omega arith, not_idle (reply_to Q h.by (command.Mark m i last)))
     mark_played (Some end) Q m i last = (omega arith, refused_not_idle end)
 
@@ -289,7 +289,7 @@ module _ (finds : Finds) (h : Holder) (for_step : h.grant ≡ ForStep) (look : �
           let end = printed_end (look left done Q).printer (read_of (look left done Q).read o.text) in
           let same = agrees.prints left done Q m i o of is in
           let f = finds Q (Away (PrintLines o.job o.index last (progress left done))) in
-          waits_works n given so_far Q (PrintLines o.job o.index last (progress left done)) (mark_play Q h.by h.step o.job o.index last end) whole (mark_played end Q o.job o.index last)
+          waits_works n given so_far Q (PrintLines o.job o.index last (progress left done)) (mark_play Q h.by h.step (command.Mark o.job o.index last) end) whole (mark_played end Q o.job o.index last)
           (ap (λ (found : Read). finishes finds h n Q [] (lines_printed h (printed_end f.printer found) Q o.job o.index last (progress left done))) same.0
           ∙ ap (λ (lost : Bool). finishes finds h n Q [] (lines_printed h (printed_end lost (read_of (look left done Q).read o.text)) Q o.job o.index last (progress left done))) same.1
           ∙ marked_works end n Q o.job o.index last (omega (arith, few)) whole)

@@ -1,5 +1,6 @@
 -- The groups of a text, one owner after another, and in the order of their places.
 use Rattle.std.proofs.Common.{◌≡◌, ◌∙◌, ℕ, suc, ◌+◌, nat_eq, nat_le, Bool, true, false, ◌&&◌, if◌then◌else◌, List, [], ◌∷◌, ◌++◌, length, map, Some, None, Result, Ok, Err, cond, refl, sym, ap, subst, arith}
+use Rattle.std.proofs.lemmas.Bool.{and_parts as both_true}
 use Rattle.std.specs.Prelude.{Option, OnOk, IfOk, unwrap_or}
 use Rattle.std.specs.HashMap.{HashMap, get, Updates}
 use Rattle.std.proofs.lemmas.Bool.Decides.{nat_tests}
@@ -69,11 +70,6 @@ and_true false = refl
 and_false : (b : Bool) → (b && false) ≡ false
 and_false true = refl
 and_false false = refl
-
-both_true : (a b : Bool) → (a && b) ≡ true → (a ≡ true) × (b ≡ true)
-both_true true true h = (refl, refl)
-both_true true false h = absurd (cc)
-both_true false b h = absurd (cc)
 
 -- keys that are the same
 key_is : (a b : ℕ × ℕ) → same_key a b ≡ true → a ≡ b
