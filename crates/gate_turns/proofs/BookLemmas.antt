@@ -2,7 +2,7 @@
 use Rattle.std.proofs.Common.{◌≡◌, ◌≢◌, ℕ, zero, suc, ◌-◌, ◌<◌, Bool, true, false, List, [], ◌∷◌, refl, sym, ap, ◌∙◌, arith}
 use Rattle.std.specs.Prelude.{not, ◌==◌, ◌&&◌, ◌||◌, if◌then◌else◌, slice_index_or, slice_set, Option, Some, None, is_some}
 use Rattle.std.proofs.lemmas.Grind.{common_steps}
-use Rattle.std.proofs.lemmas.Bool.{ne_eqb, eqb-true, eq-eqb}
+use Rattle.std.proofs.lemmas.Bool.{and_parts as both, eq-eqb, eqb-true, ne_eqb}
 use Rattle.mas_types.specs.declared.ids.MemberId.{MemberId}
 use Rattle.mas_types.specs.Ids.{nobody, is_somebody, same_member}
 use Rattle.lock_cycle.specs.declared.standings.Standing.{Standing}
@@ -60,11 +60,6 @@ not_nobody b k none = elim (is_somebody k) as (λ z. is_somebody k ≡ z → (z 
   | true ↦ λ e. ne_eqb b.holder.0 k.0 (λ same. let pos : 0 < k.0 = (somebody k).0 e in absurd (omega arith))
   | false ↦ λ e. refl
 ] refl
-
-both : (p q : Bool) → (p && q) ≡ true → (p ≡ true) × (q ≡ true)
-both true true e = (refl, refl)
-both true false e = absurd (true_false false e refl)
-both false q e = absurd (true_false false e refl)
 
 pub holder_is : (b : Book) (k : MemberId) → has_lock b k ≡ true → b.holder.0 ≡ k.0
 holder_is b k has = eqb-true b.holder.0 k.0 (both (is_somebody k) (same_member b.holder k) has).1

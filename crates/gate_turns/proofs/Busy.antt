@@ -19,7 +19,7 @@ use Rattle.paper_laws.proofs.Runs.{all_given_after}
 use Rattle.gate_facts.proofs.Lists.{true_false, not_true}
 use Rattle.gate_facts.specs.Values.{stopped_of}
 use Rattle.mas_complex.specs.Meaning.{run, step}
-use Rattle.mas_complex.proofs.Replied.{run_append}
+use Rattle.mas_complex.proofs.Batches.{run_append}
 use Rattle.gate_turns.specs.Laws.{Passes}
 use Rattle.gate_turns.specs.Busy.{Stays, BusyStays, ResetsShownStopped, BusyIsKnown}
 use Rattle.gate_turns.proofs.LeftGroups.{left_run}

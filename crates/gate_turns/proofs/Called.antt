@@ -32,8 +32,7 @@ use Rattle.mas_complex.specs.Journals.{kept_all, in_flight, coming, fated, with_
 use Rattle.mas_complex.specs.Locking.{IsOwn}
 use Rattle.mas_complex.specs.Meaning.{run}
 use Rattle.mas_complex.specs.Seen.{IsFatedBy}
-use Rattle.mas_complex.proofs.Batches.{kept_all_append}
-use Rattle.mas_complex.proofs.BatchEnds.{with_last-append, without_last-append}
+use Rattle.mas_complex.proofs.Batches.{kept_all_append, with_last-append, without_last-append}
 use Rattle.mas_complex.proofs.Counted.{counts_first, counts_second, counts_both, first_lost, second_lost}
 use Rattle.mas_complex.specs.Parts.{Shown, batches_left}
 use Rattle.gate_turns.specs.Seats.{all_seats, has_lock, shows_stopped}
@@ -45,7 +44,7 @@ use Rattle.gate_turns.specs.Shared.{begun_by, said_of, pages_had, groups_of, des
 use Rattle.gate_turns.specs.Laws.{HasBegun, with_call, IsCall, LeavesGroups, CopyActsCount, PairActsCount, LossesCount, CallsMayGoBack, PutsMayGoBack, OpensMayGoBack, IsOfStopped, BatchLeavesGroups, RecoversMayGoBack, with_reserved, HasGrown, ReservesMayGoBack, GivesUpMayGoBack}
 use Rattle.gate_turns.proofs.Acted.{at_map, whole_texts}
 use Rattle.gate_turns.proofs.BookLemmas.{holder_is}
-use Rattle.gate_turns.proofs.EntrySet.{entries_set}
+use Rattle.mas_complex.proofs.Basics.{entries_set}
 use Rattle.gate_turns.proofs.KeptSame.{begun_append, kept_more, own_each, same_groups}
 use Rattle.gate_turns.proofs.Seats.{each_seat, seat_at}
 
@@ -119,8 +118,8 @@ module _ (x c : Shown) (by : MemberId) (stopped told : Bool) (cares : List Bool)
       (λ n. (apart refl).volumes c.view.now call.counts.goes.later (omega arith) (Spool n) (λ e. absurd (cc)) (λ e. absurd (cc))) (same refl))
 
   once : (d : ℕ) → LostOnce (marks_of y) (marks_of x) d
-  once zero = once_lost x.first_alive c.first_alive (x.view.loses Ckpt1) (c.view.loses Ckpt1) call.counts.once1
-  once (suc zero) = once_lost x.second_alive c.second_alive (x.view.loses Ckpt2) (c.view.loses Ckpt2) call.counts.once2
+  once zero = once_lost x.first_alive c.first_alive (x.view.loses Ckpt1) (c.view.loses Ckpt1) call.counts.first.once
+  once (suc zero) = once_lost x.second_alive c.second_alive (x.view.loses Ckpt2) (c.view.loses Ckpt2) call.counts.second.once
   once (suc (suc d)) = inl (at_map (λ a b. a ≡ b) (λ n. c.view.loses (Spool n)) (λ n. x.view.loses (Spool n)) 0 refl (λ n. call.counts.else_loses (Spool n) (λ e. absurd (cc)) (λ e. absurd (cc))) (down_from volumes_most) d)
 
   later : Later [] (marks_of y) (marks_of x)
@@ -130,7 +129,7 @@ module _ (x c : Shown) (by : MemberId) (stopped told : Bool) (cares : List Bool)
     own_stops = λ m e. true_false (marked_at [] m) e refl;
     stops = λ k. at_map (λ a b. b ≤ a) (λ (m : MemberId). c.view.stops m.0) (λ (m : MemberId). x.view.stops m.0) 0 (omega arith) (λ m. call.counts.goes.stops m.0) all_seats k;
     faults = λ k. at_map (λ a b. b ≤ a) c.view.faults x.view.faults 0 (omega arith) call.counts.goes.faults parts k;
-    lost = lost_more x.first_alive c.first_alive x.second_alive c.second_alive call.counts.alive1 call.counts.alive2;
+    lost = lost_more x.first_alive c.first_alive x.second_alive c.second_alive call.counts.first.alive call.counts.second.alive;
     own_loses = λ op d. true_false (marked_at [] 0) op refl;
     loses = λ d. once_again (marks_of y) (marks_of x) d (once d);
   }

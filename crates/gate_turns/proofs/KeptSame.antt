@@ -21,13 +21,12 @@ use Rattle.gate_facts.proofs.Values.{synced_refl, later_refl}
 use Rattle.spool_plant.specs.View.{disk_now}
 use Rattle.mas_complex.specs.Journals.{kept_all, in_flight, begun, fated, with_last, EndsInPlace}
 use Rattle.mas_complex.specs.Meaning.{run}
-use Rattle.mas_complex.proofs.Batches.{kept_all_append}
-use Rattle.mas_complex.proofs.BatchEnds.{with_last-append}
+use Rattle.mas_complex.proofs.Batches.{kept_all_append, with_last-append}
 use Rattle.gate_turns.specs.Seats.{has_lock}
 use Rattle.gate_turns.specs.Desks.{no_hold, groups_on}
 use Rattle.gate_turns.specs.Shared.{begun_by, pages_had, groups_of, desk_in, marks_of, facts_of}
 use Rattle.gate_turns.specs.Laws.{with_kept, KeepsMayGoBack}
-use Rattle.gate_turns.proofs.EntrySet.{entries_set}
+use Rattle.mas_complex.proofs.Basics.{entries_set}
 use Rattle.gate_turns.proofs.Counts.{batches_leave}
 use Rattle.gate_turns.proofs.Seats.{each_seat}
 use Rattle.gate_turns.proofs.BookLemmas.{holder_is}

@@ -18,7 +18,7 @@ use Rattle.queue_laws.proofs.OwnersFollow.{owners_follow}
 use Rattle.gate_facts.proofs.Lists.{true_false}
 use Rattle.mas_complex.specs.Journals.{kept_all}
 use Rattle.mas_complex.specs.Meaning.{step, run}
-use Rattle.mas_complex.proofs.Replied.{run_append}
+use Rattle.mas_complex.proofs.Batches.{run_append}
 use Rattle.gate_turns.specs.Desks.{groups_from}
 use Rattle.gate_turns.specs.Laws.{Passes, PassingLeavesGroups}
 

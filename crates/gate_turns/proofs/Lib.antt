@@ -8,7 +8,6 @@ pub mod Counts
 pub mod Showing
 pub mod TellLemmas
 pub mod SpoolActed
-pub mod EntrySet
 pub mod KeptSame
 pub mod Called
 pub mod LeftGroups

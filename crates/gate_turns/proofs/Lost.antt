@@ -1,7 +1,8 @@
 -- What the loss of a device leaves, and a stop that is armed.
 use Rattle.std.proofs.Common.{◌≡◌, ◌≢◌, ◌⊎◌, inl, inr, ⊎_elim, ℕ, zero, suc, ◌+◌, ◌<◌, ◌≤◌, Bool, true, false, List, [], refl, sym, ap, subst, ◌∙◌, arith}
+use Rattle.std.proofs.lemmas.Bool.{not-true as not_true_is}
 use Rattle.std.proofs.lemmas.List.{append-nil}
-use Rattle.std.specs.Prelude.{if◌then◌else◌, not, length, map, drop, Option}
+use Rattle.std.specs.Prelude.{if◌then◌else◌, length, map, drop, Option}
 use Rattle.std.specs.List.{list_any}
 use mathlib.Core.Logic.{dite}
 use native.Mathlib.Decide.{ℕ_discrete}
@@ -102,14 +103,6 @@ history_lost dev told x view loss = record {
 }
 
 -- PAGES
-
-not_true_is : (b : Bool) → not b ≡ true → b ≡ false
-not_true_is true e = true_false false e refl
-not_true_is false e = refl
-
-not_false_is : (b : Bool) → not b ≡ false → b ≡ true
-not_false_is true e = refl
-not_false_is false e = true_false true refl e
 
 -- a copy that counts as lost isn't read
 without_first : (reads : List ℕ → Option (List ℕ)) (reached : ℕ) (b : Bool) (d e : Disks) → (d Ckpt2).bytes ≡ (e Ckpt2).bytes → kept_pages reads reached false b d ≡ kept_pages reads reached false b e

@@ -1,9 +1,10 @@
 -- A value on whose spool a member acted may be given back.
 use Rattle.std.proofs.Common.{◌≡◌, ◌≢◌, inl, inr, ⊎_elim, ◌⊎◌, ◌||◌, ◌==◌, ℕ, zero, suc, ◌+◌, ◌*◌, ◌/◌, ◌%◌, ◌≤◌, ◌<◌, nat_le, if◌then◌else◌, Bool, true, false, List, [], ◌∷◌, length, Option, Some, slice_get, refl, subst, sym, ◌∙◌, ap, arith}
+use Rattle.std.proofs.lemmas.Option.{same_Some as some_is}
 use Rattle.std.specs.Prelude.{not, map, filter, drop}
 use Rattle.std.specs.List.{list_any}
 use Rattle.std.proofs.Math.Nat.{div-add-mod}
-use Rattle.std.proofs.lemmas.Bool.{eqb-true, eqb-false, ne_eqb, leb-true, le-leb}
+use Rattle.std.proofs.lemmas.Bool.{eqb-false, eqb-true, le-leb, leb-true, ne_eqb, not-false as not_met, or_parts as neither, or_right as second, true_from_ne_false as not_false}
 use Rattle.mas_types.specs.declared.ids.MemberId.{MemberId}
 use Rattle.mas_types.specs.declared.ids.GroupNo.{GroupNo}
 use Rattle.mas_types.specs.declared.ids.Page.{Page}
@@ -40,14 +41,6 @@ either : (p q : Bool) → (p || q) ≡ true → (p ≡ true) ⊎ (q ≡ true)
 either true q e = inl refl
 either false q e = inr e
 
-neither : (p q : Bool) → (p || q) ≡ false → (p ≡ false) × (q ≡ false)
-neither true q e = true_false true refl e
-neither false q e = (refl, e)
-
-not_met : (p : Bool) → not p ≡ false → p ≡ true
-not_met true e = refl
-not_met false e = true_false true refl e
-
 apart_of : (r s : Stretch) → meets r s ≡ false → Apart r s
 apart_of r s e = ⊎_elim
     (λ t. inl (leb-true (r.from + r.len) s.from t))
@@ -58,10 +51,7 @@ of_apart : (r s : Stretch) → Apart r s → meets r s ≡ false
 of_apart r s a = ⊎_elim
     (λ le. ap (λ z. not (z || nat_le (s.from + s.len) r.from)) (le-leb (r.from + r.len) s.from le))
     (λ le. ap not (second (nat_le (r.from + r.len) s.from) (nat_le (s.from + s.len) r.from) (le-leb (s.from + s.len) r.from le)))
-    a where
-      second : (p q : Bool) → q ≡ true → (p || q) ≡ true
-      second true q e = refl
-      second false q e = e
+    a
 
 avoids_of : (u : List Stretch) (s : Stretch) → list_any (λ r. meets r s) u ≡ false → Avoids u s
 avoids_of [] s e = tt
@@ -89,10 +79,7 @@ module _ (per : ℕ) (old new : View) where
         (λ i. record { 0 = spared.page i }),
         (λ unsynced. not_false (is_unsynced (disk_now old (device_of per g)) (page_stretch per g))
             (λ calm. true_false (is_unsynced (disk_now new (device_of per g)) (page_stretch per g)) unsynced ((unsynced_is new per g).1 (spared.synced ((unsynced_is old per g).0 calm))))),
-      ) where
-        not_false : (b : Bool) → (b ≡ false → ⊥) → b ≡ true
-        not_false true f = refl
-        not_false false f = absurd (f refl)
+      )
 
   calm_groups : (m : MemberId) (at : ℕ) (gs : List Owner) → ((i : ℕ) (o : Owner) → slice_get gs i ≡ Some o → is_members m o ≡ true → IsSpared (at + i))
       → SyncedGroups (map (group_on (disk_now new) per) (groups_from m at gs)) (map (group_on (disk_now old) per) (groups_from m at gs))
@@ -222,9 +209,6 @@ not_theirs by k o ne is mine = true_false (is_members k o) mine (ap (is_members 
 
 pub writes_may : WritesMayGoBack
 writes_may x view by group bytes result told cares acts writes long held begun mine = acted x view by (DiskPart (device_of x.base.config.groups group)) result acts told cares mine (spares told writes held begun) where
-  some_is : (a b : Owner) → Some a ≡ Some b → a ≡ b
-  some_is a b e = cc e
-
   spares : (told : Bool) → (told ≡ true → WritesGroup x.base.config.groups group x.view view bytes result) → (told ≡ true → IsHeldBy by group (run x.base (kept_all x.batches))) → (told ≡ true → HasBegun x) → Spares told x view by.0
   spares false writes held begun = no_content x view by.0
   spares true writes held begun = on_spool x view (volume_of x.base.config.groups group) acts.goes (begun refl) (writes refl).only by.0

@@ -3,7 +3,7 @@ use Rattle.std.proofs.Common.{◌≡◌, ℕ, zero, suc, ◌+◌, ◌-◌, ◌*�
 use Rattle.std.specs.Prelude.{not, codes, drop, slice_index_or}
 use Rattle.std.specs.List.{list_all, list_any}
 use Rattle.std.specs.Str.{bytes_eq}
-use Rattle.std.proofs.lemmas.Bool.{eq-eqb, ne_eqb, leb-true, le-leb, and_from}
+use Rattle.std.proofs.lemmas.Bool.{and_from, and_parts as both, eq-eqb, le-leb, leb-true, ne_eqb, not-true as not_it}
 use Rattle.std.proofs.lemmas.Fmt.{decimal_by_steps}
 use Rattle.std.proofs.lemmas.List.Folds.{list_all-append, list_any_at}
 use Rattle.std.proofs.lemmas.Slice.Eq.{bytes_eq-Decides}
@@ -33,15 +33,6 @@ use Rattle.gate_turns.specs.Told.{number_at_word, member_in, job_in, output_in, 
 -- the byte doesn't stand in the text
 abbrev lacks : ℕ → List ℕ → Bool
 lacks by text = list_all (λ b. not (b == by)) text
-
-both : (p q : Bool) → (p && q) ≡ true → (p ≡ true) × (q ≡ true)
-both true true e = (refl, refl)
-both true false e = absurd (let f : false ≡ true = e in cc)
-both false q e = absurd (let f : false ≡ true = e in cc)
-
-not_it : (p : Bool) → not p ≡ true → p ≡ false
-not_it true e = absurd (let f : false ≡ true = e in cc)
-not_it false e = refl
 
 pub part_one : (by : ℕ) (w rest : List ℕ) → lacks by w ≡ true → parted_by by (w ++ by ∷ rest) ≡ w ∷ parted_by by rest
 part_one by [] rest l = ap (λ z. if z then [] ∷ parted_by by rest else with_first by (parted_by by rest)) (eq-eqb by by refl)

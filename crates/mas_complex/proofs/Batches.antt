@@ -1,5 +1,10 @@
 -- A journal at a moment, as it grows.
-use Rattle.mas_complex.proofs.Names.{◌≡◌, ℕ, ◌≤◌, ◌<◌, ◌&&◌, ◌||◌, nat_le, nat_lt, Bool, true, false, if◌then◌else◌, List, [], ◌∷◌, ◌++◌, Option, Some, None, refl, subst, sym, ◌∙◌, ap, arith, append_assoc, nat_tests, append-nil, MemberId, Batch, Entry, Fate, Kept, Flying, kept, flying, kept_of, flying_of, kept_all, in_flight, entries_in, AreSettled, IsBegun, StepIsKept, has_step, IsPlace, is_kept, is_flying}
+pub use Rattle.paper_laws.proofs.Runs.{run_append}
+use Rattle.mas_complex.proofs.Names.{◌≡◌, ℕ, ◌≤◌, ◌<◌, ◌&&◌, ◌||◌, nat_le, nat_lt, Bool, true, false, if◌then◌else◌, List, [], ◌∷◌, ◌++◌, Option, Some, None, refl, subst, sym, ◌∙◌, ap, arith, append_assoc, nat_tests, append-nil, MemberId, Batch, Entry, Fate, Kept, Flying, kept, flying, kept_of, flying_of, kept_all, in_flight, entries_in, AreSettled, IsBegun, StepIsKept, has_step, IsPlace, is_kept, is_flying, suc, ◌-◌, length, slice_set, le_trans, remove, journal_most, with_last, without_last, end_of, Dropped, Queue, EndsInPlace, HasPlace, StandFor, AreToldAlike, le_prop, length-append, IsSome, All, All-nil, ∥∥₁_elim, IsGiven, AreGivenIn, past_batches, min, Result, Ok, Err, OnOk, OnErr, ◌⊎◌, Act, ActHalted as Halted, top, entries_reserved, entries_most, AreFew, is_of_member, reserved_after_stop, reserved_by, inl, inr, run, HaveReplies, AreReplied, after_batch, All-cons, is_mark, MayBegin, counts_of, map, slice_get, list_any, same_member, begins_anew, counts_anew, BriefEntry, brief_command, brief_of, command_of, entry_of}
+use Rattle.mas_complex.proofs.Basics.{entries_set}
+use Rattle.paper_laws.proofs.Plain.{plain_allowed}
+use Rattle.mas_types.specs.declared.commands.Command.{Command}
+use Rattle.mas_types.specs.declared.commands.Command.TheVariants as command
 
 pub kept_append : (js ks : List Batch) (t : ℕ) → kept (js ++ ks) t ≡ kept js t ++ kept ks t
 kept_append [] ks t = refl
@@ -24,10 +29,6 @@ and_false false = refl
 or_true : (c : Bool) → (c || true) ≡ true
 or_true true = refl
 or_true false = refl
-
-or_false : (c : Bool) → (c || false) ≡ c
-or_false true = refl
-or_false false = refl
 
 -- settled batches at any later moment
 pub settled_kept : (js : List Batch) (now t : ℕ) → AreSettled js now → now ≤ t → kept js t ≡ kept_all js
@@ -135,50 +136,16 @@ pub step_push : (js : List Batch) (b : Batch) (t : ℕ) (m : MemberId) (s : ℕ)
 step_push [] b t m s none kept = ((λ has. absurd (cc)), tt)
 step_push (a ∷ js) b t m s none kept = (kept.0, step_push js b t m s none kept.1)
 
-not_kept : (f : Fate) → f ≡ Flying → f ≡ Kept → ⊥
-not_kept f fly kept = cc
-
 pub step_fate : (js : List Batch) (b c : Batch) (t : ℕ) (m : MemberId) (s : ℕ) → b.fate ≡ Flying → c.entries ≡ b.entries → StepIsKept (js ++ b ∷ []) t m s → StepIsKept ((js ++ c ∷ []) ++ []) t m s
 step_fate [] b c t m s fate entries kept =
-    ((λ has. absurd (not_kept b.fate fate (kept.0 (subst (λ (l : List Entry). has_step m s l ≡ true) entries has)).0)), tt)
+    ((λ has. let k = kept.0 (subst (λ (l : List Entry). has_step m s l ≡ true) entries has) in absurd (cc k.0)), tt)
 step_fate (a ∷ js) b c t m s fate entries kept = (kept.0, step_fate js b c t m s fate entries kept.1)
 
 -- the place of a batch to come adds nothing
 module _ (b : Batch) (place : IsPlace b) where
-  place_kept : (t : ℕ) → kept_of b t ≡ []
-  place_kept t = ap (λ f. if is_kept f && nat_le b.last t then b.entries else []) place.dropped
-
-  place_flying : (t : ℕ) → flying_of b t ≡ []
-  place_flying t = ap (λ (l : List Entry). if nat_le b.first t && (nat_lt t b.last || is_flying b.fate) then l else []) place.empty ∙ either (nat_le b.first t && (nat_lt t b.last || is_flying b.fate)) where
-    either : (c : Bool) → (if c then [] else []) ≡ (let none : List Entry = [] in none)
-    either true = refl
-    either false = refl
-
-  pub placed_kept : (js ks : List Batch) (t : ℕ) → kept ((js ++ b ∷ []) ++ ks) t ≡ kept (js ++ ks) t
-  placed_kept js ks t =
-      kept_append (js ++ b ∷ []) ks t
-      ∙ ap (λ (l : List Entry). l ++ kept ks t) (kept_append js (b ∷ []) t ∙ ap (λ (l : List Entry). kept js t ++ (l ++ [])) (place_kept t) ∙ append-nil (kept js t))
-      ∙ sym (kept_append js ks t)
-
-  pub placed_flying : (js ks : List Batch) (t : ℕ) → flying ((js ++ b ∷ []) ++ ks) t ≡ flying (js ++ ks) t
-  placed_flying js ks t =
-      flying_append (js ++ b ∷ []) ks t
-      ∙ ap (λ (l : List Entry). l ++ flying ks t) (flying_append js (b ∷ []) t ∙ ap (λ (l : List Entry). flying js t ++ (l ++ [])) (place_flying t) ∙ append-nil (flying js t))
-      ∙ sym (flying_append js ks t)
-
   pub placed_all : (js : List Batch) → kept_all (js ++ b ∷ []) ≡ kept_all js
   placed_all js =
       kept_all_append js (b ∷ []) ∙ ap (λ f. kept_all js ++ ((if is_kept f then b.entries else []) ++ [])) place.dropped ∙ append-nil (kept_all js)
-
-  pub placed_step : (js ks : List Batch) (t : ℕ) (m : MemberId) (s : ℕ) → StepIsKept (js ++ ks) t m s → StepIsKept ((js ++ b ∷ []) ++ ks) t m s
-  placed_step [] ks t m s kept = ((λ has. absurd (empty (subst (λ (l : List Entry). has_step m s l ≡ true) place.empty has))), kept) where
-    empty : has_step m s [] ≡ true → ⊥
-    empty e = cc
-  placed_step (a ∷ js) ks t m s kept = (kept.0, placed_step js ks t m s kept.1)
-
-  pub unplaced_step : (js ks : List Batch) (t : ℕ) (m : MemberId) (s : ℕ) → StepIsKept ((js ++ b ∷ []) ++ ks) t m s → StepIsKept (js ++ ks) t m s
-  unplaced_step [] ks t m s kept = kept.1
-  unplaced_step (a ∷ js) ks t m s kept = (kept.0, unplaced_step js ks t m s kept.1)
 
   pub placed_settled : (js : List Batch) (now : ℕ) → AreSettled js now → b.first ≤ b.last → b.last ≤ now → AreSettled (js ++ b ∷ []) now
   placed_settled js now are ends past = settled_push js b now are (ap is_flying place.dropped) ends past
@@ -186,3 +153,248 @@ module _ (b : Batch) (place : IsPlace b) where
 pub unplaced_settled : (js : List Batch) (b : Batch) (now : ℕ) → AreSettled (js ++ b ∷ []) now → AreSettled js now
 unplaced_settled [] b now are = tt
 unplaced_settled (a ∷ js) b now are = (are.0, are.1, are.2, unplaced_settled js b now are.3)
+
+-- The end of a journal is written.
+
+set_at : (x b : Batch) (bs : List Batch) → slice_set (b ∷ bs) (length bs) x ≡ with_last x (b ∷ bs)
+set_at x b [] = refl
+set_at x b (next ∷ bs) = ap (λ (ys : List Batch). b ∷ ys) (set_at x next bs)
+
+pub last_put : (x : Batch) (bs : List Batch) → 0 < length bs → slice_set bs (length bs - 1) x ≡ with_last x bs
+last_put x [] some = absurd (omega arith)
+last_put x (b ∷ bs) some = let e : length (b ∷ bs) - 1 ≡ length bs = omega arith in rw e (set_at x b bs)
+
+remove_at : (b : Batch) (bs : List Batch) → remove (b ∷ bs) (length bs) ≡ without_last (b ∷ bs)
+remove_at b [] = refl
+remove_at b (next ∷ bs) = ap (λ (ys : List Batch). b ∷ ys) (remove_at next bs)
+
+pub last_removed : (bs : List Batch) → 0 < length bs → remove bs (length bs - 1) ≡ without_last bs
+last_removed [] some = absurd (omega arith)
+last_removed (b ∷ bs) some = let e : length (b ∷ bs) - 1 ≡ length bs = omega arith in rw e (remove_at b bs)
+
+pub with_last-append : (x : Batch) (bs : List Batch) (b : Batch) → with_last x (bs ++ b ∷ []) ≡ bs ++ x ∷ []
+with_last-append x (a ∷ next ∷ bs) b = ap (λ (ys : List Batch). a ∷ ys) (with_last-append x (next ∷ bs) b)
+with_last-append x _ b = refl
+
+pub without_last-append : (bs : List Batch) (b : Batch) → without_last (bs ++ b ∷ []) ≡ bs
+without_last-append (a ∷ next ∷ bs) b = ap (λ (ys : List Batch). a ∷ ys) (without_last-append (next ∷ bs) b)
+without_last-append _ b = refl
+
+-- a journal with another last batch has as many batches
+pub as_many : (b : Batch) (js : List Batch) → length (with_last b js) ≡ length js
+as_many b (a ∷ next ∷ js) = ap suc (as_many b (next ∷ js))
+as_many b _ = refl
+
+pub few_with_last : (b : Batch) (js : List Batch) → length js ≤ journal_most → length (with_last b js) ≤ journal_most
+few_with_last b js few = subst (λ (n : ℕ). n ≤ journal_most) (sym (as_many b js)) few
+
+-- nor has a journal more at its end
+pub few_at_end : (placed : Bool) (c : Option Batch) (js : List Batch) → length js ≤ journal_most → length (end_of placed c js) ≤ journal_most
+few_at_end placed (Some b) js few = few_with_last b js few
+few_at_end false None js few = few
+few_at_end true None js few = le_trans (fewer js) few
+  where
+    fewer : (l : List Batch) → length (without_last l) ≤ length l
+    fewer [] = omega arith
+    fewer (a ∷ []) = omega arith
+    fewer (a ∷ next ∷ l) = let le = fewer (next ∷ l) in omega (arith, le)
+
+-- A batch takes its place in the journal.
+
+pub has_ends : (placed : Bool) (J : List Batch) → placed ≡ true → HasPlace placed J → EndsInPlace J
+has_ends true J e has = has
+has_ends false J e has = absurd (cc)
+
+pub is_place : (b : Batch) (now : ℕ) (by : MemberId) → b ≡ record { first = now; last = now; by = by; fate = Dropped; entries = [] } → IsPlace b × (b.first ≤ b.last) × (b.last ≤ now)
+is_place b now by e = subst (λ (x : Batch). IsPlace x × (x.first ≤ x.last) × (x.last ≤ now)) (sym e) (record { empty = refl; dropped = refl }, omega arith, omega arith)
+
+pub stand_alike : (Q R : Queue) (pages : List ℕ) → AreToldAlike Q R → StandFor Q pages → StandFor R pages
+stand_alike Q R pages alike stand = let x = stand.tell in record {
+  pages = stand.pages;
+  level = stand.level;
+  sized = stand.sized;
+  joined = stand.joined;
+  tell = record { tables = x.tables; levels = x.levels; fit = x.fit; ages = x.ages; spell = x.spell; orders = x.orders; tell = alike x.tables x.tell };
+}
+
+-- The batches that have their fates, without the place of one to come.
+
+-- a batch takes the last place
+pub takes_place : (c : Batch) (J : List Batch) → 0 < length J → without_last J ++ c ∷ [] ≡ with_last c J
+takes_place c [] some = absurd (omega arith)
+takes_place c (a ∷ []) some = refl
+takes_place c (a ∷ next ∷ J) some = ap (λ (l : List Batch). a ∷ l) (takes_place c (next ∷ J) (omega arith))
+
+some_placed : (J : List Batch) → EndsInPlace J → 0 < length J
+some_placed J p = let e : length J ≡ length (p.before ++ p.place ∷ []) = ap length p.is in omega (arith, e, length-append p.before (p.place ∷ []))
+
+pub fated_past : (c : Batch) (placed : Bool) (J : List Batch) → placed ≡ true → ∥ HasPlace placed J ∥₁ → past_batches placed J ++ c ∷ [] ≡ with_last c J
+fated_past c true J is has = takes_place c J (∥∥₁_elim has le_prop (some_placed J))
+fated_past c false J is has = absurd (cc)
+
+-- the place adds no entry, and its own is given
+before_it : (J : List Batch) (p : EndsInPlace J) → without_last J ≡ p.before
+before_it J p = ap without_last p.is ∙ without_last-append p.before p.place
+
+pub past_kept : (placed : Bool) (J : List Batch) → ∥ HasPlace placed J ∥₁ → kept_all (past_batches placed J) ≡ kept_all J
+past_kept false J has = refl
+past_kept true J has = ∥∥₁_elim has (entries_set _ _) (λ p. ap kept_all (before_it J p) ∙ sym (ap kept_all p.is ∙ placed_all p.place p.free p.before))
+
+given_last : (base : Queue) (js : List Batch) (b : Batch) → b.entries ≡ [] → AreGivenIn base js → AreGivenIn base (js ++ b ∷ [])
+given_last base [] b none are = (subst (λ (es : List Entry). All (IsGiven base) es) (sym none) (All-nil (IsGiven base)), tt)
+given_last base (a ∷ js) b none are = (are.0, given_last base js b none are.1)
+
+pub past_given : (base : Queue) (placed : Bool) (J : List Batch) → HasPlace placed J → AreGivenIn base (past_batches placed J) → AreGivenIn base J
+past_given base false J has are = are
+past_given base true J p are = subst (AreGivenIn base) (sym p.is) (given_last base p.before p.place p.free.empty (subst (AreGivenIn base) (before_it J p) are))
+
+-- what is said of each batch is said of those without it
+pub past_step : (placed : Bool) (J ks : List Batch) (t : ℕ) (m : MemberId) (s : ℕ) → StepIsKept (J ++ ks) t m s → StepIsKept (past_batches placed J ++ ks) t m s
+past_step false J ks t m s all = all
+past_step true J ks t m s all = without J all where
+  without : (l : List Batch) → StepIsKept (l ++ ks) t m s → StepIsKept (without_last l ++ ks) t m s
+  without [] all = all
+  without (a ∷ []) all = all.1
+  without (a ∷ next ∷ l) all = (all.0, without (next ∷ l) all.1)
+
+-- the journal as it is handed out
+pub end_is : (placed : Bool) (c : Option Batch) (J : List Batch) → (IsSome c → placed ≡ true) → ∥ HasPlace placed J ∥₁ → past_batches placed J ++ in_flight c ≡ end_of placed c J
+end_is true (Some b) J some has = fated_past b true J refl has
+end_is true None J some has = append-nil (without_last J)
+end_is false None J some has = append-nil J
+end_is false (Some b) J some has = let clash : false ≡ true = some refl in absurd (cc)
+
+-- Batches are short, so the kept entries can be counted.
+
+-- a journal that ends in a place has the entries kept before it
+before_place : (js : List Batch) (p : EndsInPlace js) → kept_all js ≡ kept_all p.before
+before_place js p = ap kept_all p.is ∙ placed_all p.place p.free p.before
+
+pub few_placed : (js : List Batch) (b : Batch) → IsPlace b → AreFew false js → AreFew true (js ++ b ∷ [])
+few_placed js b place few =
+    let kept = ap length (placed_all b place js) in
+    let many = length-append js (b ∷ []) in
+    omega arith
+
+few_at_last : (b : Batch) (js : List Batch) → EndsInPlace js → length b.entries ≤ entries_most → AreFew true js → AreFew false (with_last b js)
+few_at_last b js p short few =
+    let was = ap length (before_place js p) in
+    let is = ap length (ap (λ (l : List Batch). kept_all (with_last b l)) p.is ∙ (ap kept_all (with_last-append b p.before p.place) ∙ kept_all_append p.before (b ∷ []))) in
+    let long = length-append (kept_all p.before) (kept_all (b ∷ [])) in
+    let one = at_most (is_kept b.fate) b.entries in
+    let many = as_many b js in
+    omega arith
+  where
+    at_most : (z : Bool) (es : List Entry) → length ((if z then es else []) ++ []) ≤ length es
+    at_most true es = let e = ap length (append-nil es) in omega arith
+    at_most false es = omega arith
+
+-- the batch that takes the place at the end
+pub few_last : (b : Batch) (placed : Bool) (js : List Batch) → placed ≡ true → ∥ HasPlace placed js ∥₁ → length b.entries ≤ entries_most → AreFew placed js → AreFew false (with_last b js)
+few_last b placed js is has short few = ∥∥₁_elim has le_prop (λ h. few_at_last b js (has_ends placed js is h) short (subst (λ (z : Bool). AreFew z js) is few))
+
+-- without the place at the end
+pub few_unplaced : (placed : Bool) (js : List Batch) → placed ≡ true → ∥ HasPlace placed js ∥₁ → AreFew placed js → AreFew false (without_last js)
+few_unplaced placed js is has few = ∥∥₁_elim has le_prop (λ h. without (has_ends placed js is h) (subst (λ (z : Bool). AreFew z js) is few)) where
+  without : EndsInPlace js → AreFew true js → AreFew false (without_last js)
+  without p few =
+      let was = ap length (before_place js p) in
+      let left = ap (λ (l : List Batch). without_last l) p.is ∙ without_last-append p.before p.place in
+      let many = ap length p.is ∙ length-append p.before (p.place ∷ []) in
+      subst (λ (l : List Batch). AreFew false l) (sym left) (omega arith)
+
+-- what a stop leaves reserved, and a call that gives the lock up, or not
+pub left_after_stop : (by : MemberId) (reserved : Option (List Entry)) → (reserved_after_stop by reserved ≡ None) ⊎ (reserved_after_stop by reserved ≡ reserved)
+left_after_stop by None = inr refl
+left_after_stop by (Some es) = either (is_of_member by es) where
+  either : (z : Bool) → ((if z then None else Some es) ≡ None) ⊎ ((if z then None else Some es) ≡ Some es)
+  either true = inl refl
+  either false = inr refl
+
+pub left_after_free : {T E : Type 0} (r : Result T E) (was is : Option (List Entry)) → OnOk r (is ≡ None) → OnErr r (is ≡ was) → (is ≡ None) ⊎ (is ≡ was)
+left_after_free (Ok x) was is none same = inl none
+left_after_free (Err e) was is none same = inr same
+
+pub short_left : (was is : Option (List Entry)) → (is ≡ None) ⊎ (is ≡ was) → length (entries_reserved was) ≤ entries_most → length (entries_reserved is) ≤ entries_most
+short_left was is (inl e) short = subst (λ (r : Option (List Entry)). length (entries_reserved r) ≤ entries_most) (sym e) (omega arith)
+short_left was is (inr e) short = subst (λ (r : Option (List Entry)). length (entries_reserved r) ≤ entries_most) (sym e) short
+
+-- a print
+pub left_after_print : (by : MemberId) (done : Act) (reserved : Option (List Entry)) → (reserved_by by done reserved ≡ None) ⊎ (reserved_by by done reserved ≡ reserved)
+left_after_print by Halted reserved = left_after_stop by reserved
+left_after_print by _ reserved = inr refl
+
+-- so many can be counted
+pub few_counted : (placed : Bool) (js : List Batch) → AreFew placed js → length js ≤ journal_most → min (length (kept_all js)) top ≡ length (kept_all js)
+few_counted placed js few many = omega (arith, few, many)
+
+-- The replies of a history, as the journal grows.
+
+-- the queue after a batch and the kept ones after it
+after_is : (Q : Queue) (b : Batch) (bs : List Batch) → run Q (kept_all (b ∷ bs)) ≡ run (after_batch Q b) (kept_all bs)
+after_is Q b bs = by_fate (is_kept b.fate) where
+  by_fate : (c : Bool) → run Q ((if c then b.entries else []) ++ kept_all bs) ≡ run (if c then run Q b.entries else Q) (kept_all bs)
+  by_fate true = run_append Q b.entries (kept_all bs)
+  by_fate false = refl
+
+pub replied_front : (Q : Queue) (xs ys : List Batch) → AreReplied Q (xs ++ ys) → AreReplied Q xs
+replied_front Q [] ys are = tt
+replied_front Q (b ∷ xs) ys are = (are.0, replied_front (after_batch Q b) xs ys are.1)
+
+pub replied_rest : (Q : Queue) (xs ys : List Batch) → AreReplied Q (xs ++ ys) → AreReplied (run Q (kept_all xs)) ys
+replied_rest Q [] ys are = are
+replied_rest Q (b ∷ xs) ys are = subst (λ (R : Queue). AreReplied R ys) (sym (after_is Q b xs)) (replied_rest (after_batch Q b) xs ys are.1)
+
+pub replied_both : (Q : Queue) (xs ys : List Batch) → AreReplied Q xs → AreReplied (run Q (kept_all xs)) ys → AreReplied Q (xs ++ ys)
+replied_both Q [] ys front rest = rest
+replied_both Q (b ∷ xs) ys front rest = (front.0, replied_both (after_batch Q b) xs ys front.1 (subst (λ (R : Queue). AreReplied R ys) (after_is Q b xs) rest))
+
+-- the replies of a journal after which nothing is in flight
+and_none : (Q : Queue) (js : List Batch) → AreReplied Q js → AreReplied Q (js ++ [])
+and_none Q js are = subst (λ (l : List Batch). AreReplied Q l) (sym (append-nil js)) are
+
+-- a batch begins
+pub begun_replied : (Q : Queue) (js : List Batch) (b : Batch) → AreReplied Q (js ++ []) → HaveReplies (run Q (kept_all js)) b.entries → AreReplied Q (js ++ b ∷ [])
+begun_replied Q js b are have = replied_both Q js (b ∷ []) (replied_front Q js [] are) (have, tt)
+
+-- the batch in flight gets its fate
+pub fated_replied : (Q : Queue) (js : List Batch) (b c : Batch) → AreReplied Q (js ++ b ∷ []) → c.entries ≡ b.entries → AreReplied Q ((js ++ c ∷ []) ++ [])
+fated_replied Q js b c are same =
+    and_none Q (js ++ c ∷ []) (replied_both Q js (c ∷ []) (replied_front Q js (b ∷ []) are) (subst (λ (es : List Entry). HaveReplies (run Q (kept_all js)) es) (sym same) (replied_rest Q js (b ∷ []) are).0, tt))
+
+-- Which batches may begin.
+
+module _ (base : Queue) (js : List Batch) (printed : List ℕ) where
+  -- entries without a Mark
+  pub unmarked_begin : (es : List Entry) → All (IsGiven base) es → All (λ e. is_mark e.command ≡ false) es → MayBegin base js printed es
+  unmarked_begin es given unmarked sound = ∣ plain_allowed base (run base (kept_all js)) (counts_of printed) es given unmarked ∣₁
+
+  pub none_begins : MayBegin base js printed []
+  none_begins sound = ∣ tt ∣₁
+
+  pub one_begins : (e : Entry) → IsGiven base e → is_mark e.command ≡ false → MayBegin base js printed (e ∷ [])
+  one_begins e given unmarked = unmarked_begin (e ∷ []) (All-cons (IsGiven base) e [] given (All-nil (IsGiven base))) (All-cons (λ x. is_mark x.command ≡ false) e [] unmarked (All-nil (λ x. is_mark x.command ≡ false)))
+
+-- What is read of entries in brief is what is read of the entries.
+
+anew : (c : Command) → counts_anew (command_of (brief_command c)) ≡ counts_anew c
+anew (command.Begin fields) = refl
+anew _ = refl
+
+pub any_anew : (by : MemberId) (es : List Entry)
+    → list_any (λ b. begins_anew by (entry_of b)) (map brief_of es) ≡ list_any (begins_anew by) es
+any_anew by [] = refl
+any_anew by (e ∷ es) =
+    ap (λ (v : Bool). same_member e.by by && v || list_any (λ b. begins_anew by (entry_of b)) (map brief_of es)) (anew e.command)
+    ∙ ap (λ (v : Bool). begins_anew by e || v) (any_anew by es)
+
+pub first_is : (by : MemberId) (es : List Entry) (b : BriefEntry) → slice_get (map brief_of es) 0 ≡ Some b
+    → is_of_member by es ≡ same_member b.by by
+first_is by [] b e = absurd (cc)
+first_is by (x ∷ es) b e =
+    let same : brief_of x ≡ b = cc in
+    ap (λ (y : BriefEntry). same_member y.by by) same
+
+pub first_none : (by : MemberId) (es : List Entry) → slice_get (map brief_of es) 0 ≡ None → is_of_member by es ≡ false
+first_none by [] e = refl
+first_none by (x ∷ es) e = absurd (cc)

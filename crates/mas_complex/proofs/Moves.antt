@@ -1,11 +1,9 @@
 -- How the shared value goes on: over acts, and over a batch that begins or gets its fate.
-use Rattle.mas_complex.proofs.Names.{◌≡◌, ⊎_elim, ℕ, ◌+◌, ◌≤◌, ◌<◌, Bool, false, refl, List, [], ◌∷◌, ◌++◌, length, drop, Option, Some, None, IfSome, subst, sym, ◌∙◌, ap, arith, append_assoc, zero, suc, append-nil, MemberId, Batch, Entry, Flying, is_flying, View, World, Line, disk_at, disk_now, top, kept, flying, kept_all, in_flight, entries_in, batches_kept, AreSettled, StepIsKept, has_step, IsPlace, is_renewed_at, Setting, Stands, IsNext, IsNear, Alike, CrashAt, EachTells, said, ToldAt, ReadsBy, Copy, CopyAt, Keeps, spools_at, lost_now, HasTexts, either_way, IsCkpt, Dev, is_away, of_device}
-use Rattle.mas_complex.proofs.Passing.{Passes}
-use Rattle.mas_complex.proofs.Batches.{now_kept, now_flying, settled_later, settled_push, begun_later, begins_kept, begins_flying, fated_kept, fated_flying, step_later, step_push, step_fate, placed_kept, placed_flying, placed_all, placed_step, unplaced_step, placed_settled, unplaced_settled}
-use Rattle.mas_complex.proofs.Renewed.{renewed_open, renewed_later}
-use Rattle.mas_complex.proofs.Present.{alike_as, alike_none}
-use Rattle.mas_complex.proofs.Rising.{one_up, kept_place, acts_rise, fated_rise, same_rise}
-use Rattle.mas_complex.proofs.Texting.{Stays, acts_texts, acts_sunk, begins_texts, fated_texts, same_texts}
+use Rattle.mas_complex.proofs.Names.{◌≡◌, ⊎_elim, ℕ, ◌+◌, ◌≤◌, ◌<◌, Bool, false, refl, List, [], ◌∷◌, ◌++◌, length, drop, Option, Some, None, subst, sym, ◌∙◌, ap, arith, append_assoc, zero, suc, append-nil, MemberId, Batch, Flying, is_flying, View, World, Line, disk_at, disk_now, top, kept, flying, kept_all, in_flight, entries_in, batches_kept, AreSettled, StepIsKept, has_step, is_renewed_at, Setting, Alike, CrashAt, EachTells, said, ToldAt, ReadsBy, Copy, CopyAt, Keeps, spools_at, lost_now, HasTexts, either_way, IsCkpt, Dev, is_away, of_device, Entry, Versions, IsBegun, ViewDisk as Disk}
+use Rattle.mas_complex.proofs.Basics.{Passes}
+use Rattle.mas_complex.proofs.Batches.{now_kept, now_flying, settled_later, settled_push, begun_later, begins_kept, begins_flying, fated_kept, fated_flying, step_later, step_push, step_fate}
+use Rattle.mas_complex.proofs.Present.{renewed_open, renewed_later, alike_as, alike_none, one_up, acts_rise, fated_rise}
+use Rattle.mas_complex.proofs.Spooled.{Stays, acts_texts, acts_sunk, begins_texts, fated_texts}
 
 module _ (closes : List ℕ → MemberId → ℕ → Type 0) where
   pub each_map : (lines : List Line) (P Q : MemberId → ℕ → Type 0) → ((m : MemberId) (s : ℕ) → P m s → Q m s) → EachTells closes lines P → EachTells closes lines Q
@@ -63,24 +61,33 @@ pub record Adds (S : Setting) (J : List Batch) (old new : View) : Type 0 where
   pub is : (new.world new.now).console ≡ (old.world old.now).console ++ more
   pub tells : EachTells S.closes more (StepIsKept J old.now)
 
+-- pages with none in flight, once a batch is
+abbrev pub none_flying : {S : Setting} {reached l order : ℕ} {K : List Entry} → Versions S reached K [] l order → (F : List Entry) → Versions S reached K F l order
+none_flying p F = record { was = p.was; coming = None; stands = p.stands; comes = tt; none = λ _. refl; near = p.near; comes_near = tt }
+
+-- devices that read so from now on agree on the journal
+pub alike_now : {l order reached : ℕ} (S : Setting) (js : List Batch) (c : Option Batch) (now t : ℕ) (disks : Dev → Disk) (p : Versions S reached (kept_all js) (entries_in c) l order) → AreSettled js now → IsBegun c now → now ≤ t
+    → ((d : Dev) → IsCkpt d → ReadsBy S (is_renewed_at (of_device d S.renewals) t) p.was p.coming (disks d)) → Alike S (kept (js ++ in_flight c) t) (flying (js ++ in_flight c) t) t disks
+alike_now {reached = reached} S js c now t disks p settled begun le reads =
+    alike_as S (kept_all js) (entries_in c) (kept (js ++ in_flight c) t) (flying (js ++ in_flight c) t) disks (now_kept js c now t settled begun le) (now_flying js c now t settled begun le)
+    (record { reached = reached; was = p.was; coming = p.coming; stands = p.stands; comes = p.comes; none = p.none; reads = reads })
+
 module _ (S : Setting) (js : List Batch) (c : Option Batch) (reached : ℕ) (copies copies' : Dev → Copy) (old new : View) where
   pub acts_keep : (keeps : Keeps S js c reached copies old) → Passes old new
-      → (coming : Option (List ℕ)) → IsNext S reached (kept_all js) (entries_in c) coming → (entries_in c ≡ [] → coming ≡ None) → IfSome coming (IsNear keeps.first_level keeps.first_order)
-      → ((d : Dev) → IsCkpt d → (t : ℕ) → old.now < t → t ≤ new.now → t < top → ReadsBy S (is_away S d) keeps.was coming (disk_at new t d))
+      → (p : Versions S reached (kept_all js) (entries_in c) keeps.first_level keeps.first_order)
+      → ((d : Dev) → IsCkpt d → (t : ℕ) → old.now < t → t ≤ new.now → t < top → ReadsBy S (is_away S d) p.was p.coming (disk_at new t d))
       → Adds S (js ++ in_flight c) old new
       → Stays S (kept_all js) (entries_in c) old new
-      → ((d : Dev) → IsCkpt d → CopyAt S keeps.was coming d (copies' d) new)
+      → ((d : Dev) → IsCkpt d → CopyAt S p.was p.coming d (copies' d) new)
       → Keeps S js c reached copies' new
-  acts_keep keeps goes coming comes none nears reads adds stays at = record {
+  acts_keep keeps goes p reads adds stays at = record {
     started = omega (arith, keeps.started, goes.later);
     settled = settled_later js old.now new.now keeps.settled goes.later;
     begun = begun_later c old.now new.now keeps.begun goes.later;
     renewed = λ d ckpt. renewed_later (of_device d S.renewals) old.now new.now goes.later (keeps.renewed d ckpt);
     crash = λ t from le lt. ⊎_elim
         (λ h. crash_past S (js ++ in_flight c) old new goes t h (keeps.crash t from h lt))
-        (λ h. alike_as S (kept_all js) (entries_in c) (kept (js ++ in_flight c) t) (flying (js ++ in_flight c) t) (disk_at new t)
-        (now_kept js c old.now t keeps.settled keeps.begun (omega arith)) (now_flying js c old.now t keeps.settled keeps.begun (omega arith))
-        (record { reached = reached; was = keeps.was; coming = coming; stands = keeps.stands; comes = comes; none = none; reads = λ d ckpt. reads_at d ckpt t h le lt }))
+        (λ h. alike_now S js c old.now t (disk_at new t) p keeps.settled keeps.begun (omega arith) (λ d ckpt. reads_at d ckpt t h le lt))
         (either_way t old.now);
     told = λ t from le. ⊎_elim
         (λ h. told_past S (js ++ in_flight c) old new goes t keeps.started h (keeps.told t from h))
@@ -98,20 +105,13 @@ module _ (S : Setting) (js : List Batch) (c : Option Batch) (reached : ℕ) (cop
     first_level = keeps.first_level;
     first_order = keeps.first_order;
     rises = acts_rise S keeps.first_level keeps.first_order js reached old new goes keeps.started
-        (λ d ckpt t h le lt is. one_up S reached (kept_all js) (entries_in c) keeps.was coming keeps.stands comes keeps.first_level keeps.first_order keeps.near nears (disk_at new t d)
-        (subst (λ (b : Bool). ReadsBy S b keeps.was coming (disk_at new t d)) is (reads_at d ckpt t h le lt)))
+        (λ d ckpt t h le lt is. one_up p (disk_at new t d) (subst (λ (b : Bool). ReadsBy S b p.was p.coming (disk_at new t d)) is (reads_at d ckpt t h le lt)))
         keeps.rises;
-    was = keeps.was;
-    coming = coming;
-    stands = keeps.stands;
-    comes = comes;
-    none = none;
-    near = keeps.near;
-    comes_near = nears;
+    pages = p;
     at = at;
   } where
-    reads_at : (d : Dev) → IsCkpt d → (t : ℕ) → old.now < t → t ≤ new.now → t < top → ReadsBy S (is_renewed_at (of_device d S.renewals) t) keeps.was coming (disk_at new t d)
-    reads_at d ckpt t h le lt = subst (λ (b : Bool). ReadsBy S b keeps.was coming (disk_at new t d)) (sym (renewed_open (of_device d S.renewals) old.now t (keeps.renewed d ckpt) (omega (arith, h)))) (reads d ckpt t h le lt)
+    reads_at : (d : Dev) → IsCkpt d → (t : ℕ) → old.now < t → t ≤ new.now → t < top → ReadsBy S (is_renewed_at (of_device d S.renewals) t) p.was p.coming (disk_at new t d)
+    reads_at d ckpt t h le lt = subst (λ (b : Bool). ReadsBy S b p.was p.coming (disk_at new t d)) (sym (renewed_open (of_device d S.renewals) old.now t (keeps.renewed d ckpt) (omega (arith, h)))) (reads d ckpt t h le lt)
 
     old_tells : EachTells S.closes (drop (length (old.world S.since).console) ((old.world old.now).console ++ adds.more)) (StepIsKept (js ++ in_flight c) old.now)
     old_tells = each_more S.closes (length (old.world S.since).console) (old.world old.now).console adds.more (StepIsKept (js ++ in_flight c) old.now) (keeps.told old.now keeps.started (omega arith)) adds.tells
@@ -156,14 +156,8 @@ module _ (S : Setting) (js : List Batch) (b : Batch) (reached : ℕ) (copies : D
     first_level = keeps.first_level;
     first_order = keeps.first_order;
     rises = keeps.rises;
-    was = keeps.was;
-    coming = None;
-    stands = keeps.stands;
-    comes = tt;
-    none = λ _. refl;
-    near = keeps.near;
-    comes_near = tt;
-    at = λ d ckpt. subst (λ (n : Option (List ℕ)). CopyAt S keeps.was n d (copies d) v) (keeps.none refl) (keeps.at d ckpt);
+    pages = none_flying keeps.pages b.entries;
+    at = λ d ckpt. subst (λ (n : Option (List ℕ)). CopyAt S keeps.pages.was n d (copies d) v) (keeps.pages.none refl) (keeps.at d ckpt);
   }
 
 -- the journal: the batch in flight gets its fate
@@ -175,29 +169,18 @@ module _ (S : Setting) (js : List Batch) (b c : Batch) (reached reached' : ℕ) 
 
   -- the kept pages once the batch in flight has its fate
   pub fate_keeps : reached ≤ reached' → reached' ≤ reached + batches_kept (c ∷ []) → (keeps : Keeps S js (Some b) reached copies v) → is_flying c.fate ≡ false → c.first ≡ b.first → c.entries ≡ b.entries → c.last ≡ v.now
-      → (was : List ℕ) → Stands S reached' (kept_all (js ++ c ∷ [])) was → IsNear keeps.first_level keeps.first_order was
-      → (v.now < top → (d : Dev) → IsCkpt d → ReadsBy S (is_away S d) was None (disk_now v d))
-      → ((d : Dev) → IsCkpt d → CopyAt S was None d (copies' d) v)
+      → (p : Versions S reached' (kept_all (js ++ c ∷ [])) [] keeps.first_level keeps.first_order) → (v.now < top → (d : Dev) → IsCkpt d → ReadsBy S (is_away S d) p.was p.coming (disk_now v d))
+      → ((d : Dev) → IsCkpt d → CopyAt S p.was p.coming d (copies' d) v)
       → Keeps S (js ++ c ∷ []) None reached' copies' v
-  fate_keeps least most keeps fated same_first same_entries last was stands near reads at = record {
+  fate_keeps least most keeps fated same_first same_entries last p reads at = record {
     started = keeps.started;
     settled = settled;
     begun = tt;
     renewed = keeps.renewed;
     crash = λ t from le lt. ⊎_elim
-        (λ here. let e : t ≡ v.now = omega (arith, last) in
-        alike_as S (kept_all (js ++ c ∷ [])) [] (kept ((js ++ c ∷ []) ++ []) t) (flying ((js ++ c ∷ []) ++ []) t) (disk_at v t)
-        (now_kept (js ++ c ∷ []) None v.now t settled tt (omega (arith, last))) (now_flying (js ++ c ∷ []) None v.now t settled tt (omega (arith, last)))
-        (record {
-          reached = reached';
-          was = was;
-          coming = None;
-          stands = stands;
-          comes = tt;
-          none = λ _. refl;
-          reads = λ d ckpt. subst (λ (b : Bool). ReadsBy S b was None (disk_at v t d)) (sym (renewed_open (of_device d S.renewals) v.now t (keeps.renewed d ckpt) (omega (arith, e))))
-              (subst (λ (m : ℕ). ReadsBy S (is_away S d) was None (disk_at v m d)) (sym e) (reads (omega (arith, e, lt)) d ckpt));
-        }))
+        (λ here. let e : t ≡ v.now = omega (arith, last) in alike_now S (js ++ c ∷ []) None v.now t (disk_at v t) p settled tt (omega (arith, last))
+        (λ d ckpt. subst (λ (b : Bool). ReadsBy S b p.was p.coming (disk_at v t d)) (sym (renewed_open (of_device d S.renewals) v.now t (keeps.renewed d ckpt) (omega (arith, e))))
+        (subst (λ (m : ℕ). ReadsBy S (is_away S d) p.was p.coming (disk_at v m d)) (sym e) (reads (omega (arith, e, lt)) d ckpt))))
         (λ before. fated_after t keeps.begun.0 same_first same_entries before (keeps.crash t from le lt))
         (either_way c.last t);
     told = λ t from le. each_map S.closes (said S v t) (StepIsKept (js ++ b ∷ []) t) (StepIsKept ((js ++ c ∷ []) ++ []) t) (λ m s. step_fate js b c t m s keeps.begun.0 same_entries) (keeps.told t from le);
@@ -207,61 +190,14 @@ module _ (S : Setting) (js : List Batch) (b c : Batch) (reached reached' : ℕ) 
     first_level = keeps.first_level;
     first_order = keeps.first_order;
     rises = fated_rise S keeps.first_level keeps.first_order js c reached reached' v least most keeps.rises;
-    was = was;
-    coming = None;
-    stands = stands;
-    comes = tt;
-    none = λ _. refl;
-    near = near;
-    comes_near = tt;
+    pages = p;
     at = at;
   } where
     settled : AreSettled (js ++ c ∷ []) v.now
     settled = settled_push js c v.now keeps.settled fated (omega (arith, same_first, last, keeps.begun.1)) (omega (arith, last))
 
--- what is kept of one journal is kept of another that says the same of each moment
-module _ (S : Setting) (js ks : List Batch) (c : Option Batch) (reached : ℕ) (copies : Dev → Copy) (v : View) where
-  pub same_keep : Keeps S js c reached copies v → AreSettled ks v.now → ((t : ℕ) → kept (ks ++ in_flight c) t ≡ kept (js ++ in_flight c) t) → ((t : ℕ) → flying (ks ++ in_flight c) t ≡ flying (js ++ in_flight c) t)
-      → ((t : ℕ) (m : MemberId) (s : ℕ) → StepIsKept (js ++ in_flight c) t m s → StepIsKept (ks ++ in_flight c) t m s) → kept_all ks ≡ kept_all js
-      → batches_kept ks ≡ batches_kept js
-      → Keeps S ks c reached copies v
-  same_keep keeps settled same_kept same_flying same_step same_all same_many = record {
-    started = keeps.started;
-    settled = settled;
-    begun = keeps.begun;
-    renewed = keeps.renewed;
-    crash = λ t from le lt.
-        alike_as S (kept (js ++ in_flight c) t) (flying (js ++ in_flight c) t) (kept (ks ++ in_flight c) t) (flying (ks ++ in_flight c) t) (disk_at v t)
-        (same_kept t) (same_flying t) (keeps.crash t from le lt);
-    told = λ t from le. each_map S.closes (said S v t) (StepIsKept (js ++ in_flight c) t) (StepIsKept (ks ++ in_flight c) t) (λ m s. same_step t m s) (keeps.told t from le);
-    grows = keeps.grows;
-    texts = same_texts S (js ++ in_flight c) (ks ++ in_flight c) v same_kept same_flying keeps.texts;
-    sunk = keeps.sunk;
-    first_level = keeps.first_level;
-    first_order = keeps.first_order;
-    rises = same_rise S keeps.first_level keeps.first_order js ks reached v same_many keeps.rises;
-    was = keeps.was;
-    coming = keeps.coming;
-    stands = subst (λ (l : List Entry). Stands S reached l keeps.was) (sym same_all) keeps.stands;
-    comes = subst (λ (l : List Entry). IsNext S reached l (entries_in c) keeps.coming) (sym same_all) keeps.comes;
-    none = keeps.none;
-    near = keeps.near;
-    comes_near = keeps.comes_near;
-    at = keeps.at;
-  }
-
--- the journal gets the place of a batch to come, or loses it
-module _ (S : Setting) (js : List Batch) (b : Batch) (c : Option Batch) (reached : ℕ) (copies : Dev → Copy) (v : View) (place : IsPlace b) where
-  pub place_keeps : b.first ≤ b.last → b.last ≤ v.now → Keeps S js c reached copies v → Keeps S (js ++ b ∷ []) c reached copies v
-  place_keeps ends past keeps = same_keep S js (js ++ b ∷ []) c reached copies v keeps (placed_settled b place js v.now keeps.settled ends past) (placed_kept b place js (in_flight c)) (placed_flying b place js (in_flight c))
-      (placed_step b place js (in_flight c)) (placed_all b place js) (kept_place b place js)
-
-  pub unplace_keeps : Keeps S (js ++ b ∷ []) c reached copies v → Keeps S js c reached copies v
-  unplace_keeps keeps = same_keep S (js ++ b ∷ []) js c reached copies v keeps (unplaced_settled js b v.now keeps.settled) (λ t. sym (placed_kept b place js (in_flight c) t)) (λ t. sym (placed_flying b place js (in_flight c) t))
-      (unplaced_step b place js (in_flight c)) (sym (placed_all b place js)) (sym (kept_place b place js))
-
 -- other copies, or other places of them, where they stand
-pub copies_keep : (S : Setting) (js : List Batch) (c : Option Batch) (reached : ℕ) (copies copies' : Dev → Copy) (v : View) → (keeps : Keeps S js c reached copies v) → ((d : Dev) → IsCkpt d → CopyAt S keeps.was keeps.coming d (copies' d) v) → Keeps S js c reached copies' v
+pub copies_keep : (S : Setting) (js : List Batch) (c : Option Batch) (reached : ℕ) (copies copies' : Dev → Copy) (v : View) → (keeps : Keeps S js c reached copies v) → ((d : Dev) → IsCkpt d → CopyAt S keeps.pages.was keeps.pages.coming d (copies' d) v) → Keeps S js c reached copies' v
 copies_keep S js c reached copies copies' v keeps at = record {
   started = keeps.started;
   settled = keeps.settled;
@@ -275,12 +211,6 @@ copies_keep S js c reached copies copies' v keeps at = record {
   first_level = keeps.first_level;
   first_order = keeps.first_order;
   rises = keeps.rises;
-  was = keeps.was;
-  coming = keeps.coming;
-  stands = keeps.stands;
-  comes = keeps.comes;
-  none = keeps.none;
-  near = keeps.near;
-  comes_near = keeps.comes_near;
+  pages = keeps.pages;
   at = at;
 }

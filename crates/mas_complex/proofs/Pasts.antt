@@ -1,7 +1,7 @@
 -- Later pages, over several batches, and what calls leave of those that members noted.
 use Rattle.mas_complex.proofs.Names.{◌≡◌, ◌≢◌, inl, inr, ⊎_elim, ◌⊎◌, ℕ, zero, suc, ◌+◌, ◌≤◌, ◌<◌, Bool, true, false, List, [], ◌∷◌, length, get_or, slice_set, Option, Some, Result, Ok, Err, OnOk, IsErrOf, refl, sym, ◌∙◌, ap, subst, arith, le_refl, le_trans, slice_get_within, slice_get-get_or, get_or_from_slice_get, get_or-set_same, get_or-set_other, get_or-replicate, length-set, length-replicate, cases_lt, Dev, Page, members_most, Part, Disk as DiskPart, View, ViewDisk as Disk, IsImage, disk_now, Goes, bytes_of, level, page_in, Look, Pages, LookNo, PairNo, BothLost, Halted, Place, Before, Put, Opened, Unsure, OnComing, IsPlaceAfter, IsPlaceSeen, age, nobody_noted, sight_of, AreLater, HasNoted, HasPast, HavePasts, IsLater, IsLeftOrNew, IsNextOf, Sight, values_of, Half, pick, Ckpt2}
-use Rattle.mas_complex.specs.declared.noting.Note.{Note}
 use Rattle.mas_complex.proofs.Basics.{no, some_is}
+use Rattle.mas_complex.specs.declared.noting.Note.{Note}
 
 -- pages are later than themselves
 pub later_self : (count : ℕ) (was : List ℕ) → IsLater count was was
@@ -29,25 +29,13 @@ later_later count a b c ab bc = record {
       (last.0 ∙ first.0, last.1 ∙ first.1);
 }
 
-before_put : (p : Place) → p ≡ Before → p ≡ Put → ⊥
-before_put p a b = cc
-
 pub before_unsure : (p : Place) → p ≡ Before → p ≡ Unsure → ⊥
 before_unsure p a b = cc
-
-put_unsure : (p : Place) → p ≡ Put → p ≡ Unsure → ⊥
-put_unsure p a b = cc
-
-opened_put : (p : Place) → p ≡ Opened → p ≡ Put → ⊥
-opened_put p a b = cc
 
 pub opened_unsure : (p : Place) → p ≡ Opened → p ≡ Unsure → ⊥
 opened_unsure p a b = cc
 
 -- WHAT IS NOTED
-
-empty_some : (page : Page) (pages : List Page) → [] ≡ page ∷ pages → ⊥
-empty_some page pages e = cc
 
 none_noted : (m : ℕ) (page : Page) (pages : List Page) → HasNoted nobody_noted m (page ∷ pages) → ⊥
 none_noted m page pages noted =
@@ -55,7 +43,8 @@ none_noted m page pages noted =
     let within : m < length nobody_noted = slice_get_within nobody_noted m (page ∷ pages) noted in
     let many : length nobody_noted ≡ members_most + 1 = length-replicate (members_most + 1) empty in
     let none : get_or nobody_noted m empty ≡ empty = get_or-replicate (members_most + 1) m empty empty (omega (arith, within, many)) in
-    empty_some page pages (sym none ∙ get_or_from_slice_get nobody_noted m (page ∷ pages) empty noted)
+    let e : empty ≡ page ∷ pages = sym none ∙ get_or_from_slice_get nobody_noted m (page ∷ pages) empty noted in
+    absurd (cc e)
 
 -- where nobody noted any pages, nothing is asked
 pub nobody_past : (count : ℕ) (had : List (List Page)) (copies : Dev → Sight) → had ≡ nobody_noted → HavePasts count had copies
@@ -106,10 +95,7 @@ module _ (count : ℕ) (had : List (List Page)) where
   same_later : (l k : List ℕ) → l ≡ k → AreLater count had l → AreLater count had k
   same_later l k e are = subst (λ (x : List ℕ). AreLater count had x) e are
 
-  -- what a copy reads that isn't unsure
-  pub reads_later : (x : Sight) (pages : List ℕ) → HasPast count had x → x.alive ≡ true → (x.place ≡ Unsure → x.lost ≡ false) → x.read ≡ Some pages → AreLater count had pages
-  reads_later x pages p is sure read = p.reads is sure pages read
-
+  -- what a copy reads at which the batch hasn't come
   pub before_later : (x : Sight) (pages : List ℕ) → HasPast count had x → x.alive ≡ true → x.place ≡ Before → x.read ≡ Some pages → AreLater count had pages
   before_later x pages p is before read = p.reads is (λ unsure. absurd (before_unsure x.place before unsure)) pages read
 
@@ -142,7 +128,7 @@ module _ (count : ℕ) (had : List (List Page)) where
   pub past_ended : (x : Sight) (q : Place) → q ≡ Before → (x.alive ≡ true → x.place ≡ Unsure → ⊥) → HasPast count had x → HasPast count had (record x { place = q })
   past_ended x q before known p = record {
     reads = λ is sure pages reads. p.reads is (λ unsure. absurd (known is unsure)) pages reads;
-    waits = λ is put. absurd (before_put q before put);
+    waits = λ is put. absurd (cc);
   }
 
   -- the next pages were put behind its gate
@@ -154,7 +140,7 @@ module _ (count : ℕ) (had : List (List Page)) where
   }
   past_put x y was pages (Err BothLost) p is before read later after both halted held = past_dead y (both refl)
   past_put x y was pages (Err Halted) p is before read later after both halted held =
-      past_reads y was (before_later x was p is before read) (λ put. put_unsure y.place put after) (λ sure. halted (sure after))
+      past_reads y was (before_later x was p is before read) (λ put. absurd (cc)) (λ sure. halted (sure after))
 
   -- its gate was opened
   pub past_open : (x y : Sight) (was next : List ℕ) {T : Type 0} (done : Result T PairNo) → HasPast count had x → x.alive ≡ true → x.place ≡ Put → x.read ≡ Some was → x.waits ≡ next
@@ -164,17 +150,17 @@ module _ (count : ℕ) (had : List (List Page)) where
     later = same_later x.waits next waits (p.waits is put)
 
     old : AreLater count had was
-    old = p.reads is (λ unsure. absurd (put_unsure x.place put unsure)) was read
+    old = p.reads is (λ unsure. absurd (cc)) was read
 
     by_done : (done : Result T PairNo) → IsPlaceAfter done Opened y.place → (IsErrOf done BothLost → y.alive ≡ false) → OnOk done (y.alive ≡ true → y.read ≡ Some next) → HasPast count had y
     by_done (Ok t) after both opened = record {
       reads = λ now sure l reads. same_later next l (some_is next l (sym (opened now) ∙ reads)) later;
-      waits = λ now put. absurd (opened_put y.place after put);
+      waits = λ now put. absurd (cc);
     }
     by_done (Err BothLost) after both opened = past_dead y (both refl)
     by_done (Err Halted) after both opened = record {
       reads = λ now sure l reads. ⊎_elim (λ e. same_later was l (some_is was l (sym e ∙ reads)) old) (λ e. same_later next l (some_is next l (sym e ∙ reads)) later) (halted (sure after));
-      waits = λ now put. absurd (put_unsure y.place put after);
+      waits = λ now put. absurd (cc);
     }
 
   -- it was settled
@@ -182,10 +168,10 @@ module _ (count : ℕ) (had : List (List Page)) where
       → IsPlaceAfter done Before y.place → (IsErrOf done BothLost → y.alive ≡ false) → (y.lost ≡ false → y.read ≡ Some pages) → OnOk done (y.alive ≡ true → y.read ≡ Some pages) → HasPast count had y
   past_settled y pages (Ok t) later after both halted settled = record {
     reads = λ now sure l reads. same_later pages l (some_is pages l (sym (settled now) ∙ reads)) later;
-    waits = λ now put. absurd (before_put y.place after put);
+    waits = λ now put. absurd (cc);
   }
   past_settled y pages (Err BothLost) later after both halted settled = past_dead y (both refl)
-  past_settled y pages (Err Halted) later after both halted settled = past_reads y pages later (λ put. put_unsure y.place put after) (λ sure. halted (sure after))
+  past_settled y pages (Err Halted) later after both halted settled = past_reads y pages later (λ put. absurd (cc)) (λ sure. halted (sure after))
 
   -- it was looked at
   pub past_looked : (x y : Sight) (reached : ℕ) (done : Result Look LookNo) → HasPast count had x → (y.alive ≡ true → x.alive ≡ true) → (y.lost ≡ false → x.lost ≡ false) → y.read ≡ x.read
@@ -200,13 +186,12 @@ module _ (count : ℕ) (had : List (List Page)) where
     not_lost _ there seen sure = sure seen
 
     not_put : (r : Result Look LookNo) → IsPlaceSeen r reached y.place → y.place ≡ Put → ⊥
-    not_put (Ok (Pages pages)) seen put = ⊎_elim (λ b. before_put y.place b.0 put) (λ o. opened_put y.place o.0 put) seen
-    not_put (Err e) seen put = put_unsure y.place put seen
-    not_put _ seen put = put_unsure y.place put seen
+    not_put (Ok (Pages pages)) seen put = ⊎_elim (λ b. absurd (cc b.0)) (λ o. absurd (cc o.0)) seen
+    not_put _ seen put = absurd (cc)
 
   -- a new one has these pages
   pub past_formed : (y : Sight) (pages : List ℕ) → AreLater count had pages → y.place ≡ Before → y.read ≡ Some pages → HasPast count had y
-  past_formed y pages later before read = past_reads y pages later (λ put. before_put y.place before put) (λ sure. read)
+  past_formed y pages later before read = past_reads y pages later (λ put. absurd (cc)) (λ sure. read)
 
   -- A member notes pages that the copy reads.
   pub past_noted : (by : ℕ) (pages : List Page) (x : Sight) → (x.alive ≡ true → x.place ≡ Before) → (x.alive ≡ true → x.read ≡ Some (bytes_of pages)) → HasPast count had x → HasPast count (slice_set had by pages) x
@@ -216,7 +201,7 @@ module _ (count : ℕ) (had : List (List Page)) where
         (subst (λ (k : List ℕ). IsLater count (bytes_of pages) k) (some_is (bytes_of pages) l (sym (read is) ∙ reads)) (later_self count (bytes_of pages))))
         (λ old. p.reads is sure l reads m page rest old)
         (noted_or had by m pages (page ∷ rest) noted);
-    waits = λ is put. absurd (before_put x.place (before is) put);
+    waits = λ is put. absurd (cc (before is, put));
   }
 
 -- DEVICES

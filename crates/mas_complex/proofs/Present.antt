@@ -1,7 +1,7 @@
 -- The present: what both copies read gives what a start finds.
-use Rattle.mas_complex.proofs.Names.{◌≡◌, ◌⊎◌, inl, inr, ⊎_elim, ℕ, ◌+◌, ◌≤◌, ◌<◌, ◌==◌, ◌&&◌, ◌||◌, nat_lt, Bool, true, false, if◌then◌else◌, List, [], ◌++◌, Option, Some, None, refl, subst, sym, ◌∙◌, ap, arith, le_refl, not, and_from, eq-eqb, true≢false, nat_tests, Dev, Disk as DiskPart, View, ViewDisk as Disk, IsImage, disk_now, top, AllRead, EachReads, level, Entry, Place, Before, Put, Opened, Unsure, is_renewed_at, Setting, IsLeft, SomeGood, found, IsFound, Stands, IsNext, IsOneOf, IsStale, ReadsOne, ReadsBy, Alike, OnComing, IsAt, IsAway, lost_if, left_at, Ckpt1, Ckpt2, Copy, CopyAt, is_away, of_device}
+use Rattle.mas_complex.proofs.Names.{◌≡◌, ◌⊎◌, inl, inr, ⊎_elim, ℕ, ◌+◌, ◌≤◌, ◌<◌, ◌==◌, ◌&&◌, ◌||◌, nat_lt, Bool, true, false, if◌then◌else◌, List, [], ◌++◌, Option, Some, None, refl, subst, sym, ◌∙◌, ap, arith, le_refl, not, and_from, eq-eqb, true≢false, nat_tests, Dev, Disk as DiskPart, View, ViewDisk as Disk, IsImage, disk_now, top, AllRead, EachReads, level, Entry, Place, Before, Put, Opened, Unsure, is_renewed_at, Setting, IsLeft, SomeGood, found, IsFound, Stands, IsNext, IsOneOf, IsStale, ReadsOne, ReadsBy, Alike, OnComing, IsAt, IsAway, lost_if, left_at, Ckpt1, Ckpt2, Copy, CopyAt, is_away, of_device, ◌∷◌, length, get_or, set, map, take, drop, Result, Ok, Err, OnOk, OnErr, add-one, append_assoc, drop-cons, take_more_set, drop-set-lt, is_none, le-leb, Renewal, has_ended, is_open, HasEndedBy, AreRenewedBy, suc, ◌*◌, IfSome, Batch, Kept, is_kept, World, disk_at, either_way, batches_kept, IsNear, RaisesOrders, ReadsAtLevel, ReadsUpTo, Rises, next_order, orders_most, IsCkpt, Versions}
+use Rattle.mas_complex.proofs.Basics.{no, Passes}
 use Rattle.duplex_pair.specs.Finds.{best}
-use Rattle.mas_complex.proofs.Basics.{no}
 
 -- of two copies one is good: it isn't lost, and isn't being replaced
 second_good : (m p : Bool) → (not m && not p) ≡ true → (m ≡ false) × (p ≡ false)
@@ -73,20 +73,15 @@ module _ (was : List ℕ) (coming : Option (List ℕ)) where
 -- the kept pages and those in flight have no lower level than the kept ones
 not_lower : (S : Setting) (reached : ℕ) (K F : List Entry) (was : List ℕ) (coming : Option (List ℕ)) → Stands S reached K was → IsNext S reached K F coming → (pages : List ℕ) → IsOneOf was coming (Some pages) → level was ≤ level pages
 not_lower S reached K F was coming stands comes pages (inl e) = subst (λ (p : List ℕ). level was ≤ level p) (sym e) (le_refl (level was))
-not_lower S reached K F was coming stands comes pages (inr e) = above (level was) (level pages) stands.at_level (at_next (subst (λ (n : Option (List ℕ)). IsNext S reached K F n) e comes)) where
-  above : (a b : ℕ) → a ≡ reached → b ≡ reached + 1 → a ≤ b
-  above a b x y = omega (arith, x, y)
-
-  at_next : Stands S (reached + 1) (K ++ F) pages → level pages ≡ reached + 1
-  at_next s = s.at_level
+not_lower S reached K F was coming stands comes pages (inr e) =
+    let s : Stands S (reached + 1) (K ++ F) pages = subst (λ (n : Option (List ℕ)). IsNext S reached K F n) e comes in omega (arith, stands.at_level, s.at_level)
 
 -- the kept pages or those in flight stand for the queue after the kept entries, or with those in flight
 stands_of : (S : Setting) (reached : ℕ) (K F : List Entry) (was : List ℕ) (coming q : Option (List ℕ)) → Stands S reached K was → IsNext S reached K F coming → IsOneOf was coming q → IsFound S K q ⊎ IsFound S (K ++ F) q
 stands_of S reached K F was coming None stands comes is = absurd is
 stands_of S reached K F was coming (Some pages) stands comes (inl e) = inl (subst (λ (p : List ℕ). S.stand (S.run S.base K) p) (sym e) stands.queue)
-stands_of S reached K F was coming (Some pages) stands comes (inr e) = inr (next_stands (subst (λ (n : Option (List ℕ)). IsNext S reached K F n) e comes)) where
-  next_stands : Stands S (reached + 1) (K ++ F) pages → S.stand (S.run S.base (K ++ F)) pages
-  next_stands s = s.queue
+stands_of S reached K F was coming (Some pages) stands comes (inr e) =
+    let s : Stands S (reached + 1) (K ++ F) pages = subst (λ (n : Option (List ℕ)). IsNext S reached K F n) e comes in inr s.queue
 
 -- what a start finds of two devices that agree
 pub alike_found : (S : Setting) (K F : List Entry) (t : ℕ) (disks : Dev → Disk) → Alike S K F t disks → (one two : Option (List ℕ)) → IsLeft (disks Ckpt1) one → IsLeft (disks Ckpt2) two
@@ -193,3 +188,161 @@ module _ (S : Setting) (was : List ℕ) where
         by_alive : (b : Bool) → c.alive ≡ b → ReadsBy S (is_away S dev) was coming (left_at v v.now dev)
         by_alive true is = less_reads (is_away S dev) coming ((v.now == top) && v.lost (DiskPart dev)) (disk_now v dev) (alive_reads is)
         by_alive false is = away_top (is_away S dev) coming v.now (v.now == top) (v.lost (DiskPart dev)) (disk_now v dev) (eq-eqb v.now top last) (lost is) (copy.gone is)
+
+-- When a copy is being replaced.
+
+-- from now on a renewal that has ended stays so
+ended_now : (until : Option ℕ) (now t : ℕ) → HasEndedBy until now → now ≤ t → not (has_ended until t) ≡ is_none until
+ended_now None now t by le = refl
+ended_now (Some u) now t by le = ap not (le-leb u t (omega (arith, by, le)))
+
+-- from now on a copy is being replaced just where a renewal of it is open
+pub renewed_open : (rs : List Renewal) (now t : ℕ) → AreRenewedBy rs now → now ≤ t → is_renewed_at rs t ≡ is_open rs
+renewed_open [] now t by le = refl
+renewed_open (r ∷ rs) now t by le =
+    ap (λ (b : Bool). (b && not (has_ended r.until t)) || is_renewed_at rs t) (le-leb r.from t (omega (arith, by.0, le)))
+    ∙ ap (λ (b : Bool). b || is_renewed_at rs t) (ended_now r.until now t by.1 le)
+    ∙ ap (λ (b : Bool). is_none r.until || b) (renewed_open rs now t by.2 le)
+
+ended_later : (until : Option ℕ) (now later : ℕ) → now ≤ later → HasEndedBy until now → HasEndedBy until later
+ended_later None now later le by = tt
+ended_later (Some u) now later le by = omega (arith, by, le)
+
+pub renewed_later : (rs : List Renewal) (now later : ℕ) → now ≤ later → AreRenewedBy rs now → AreRenewedBy rs later
+renewed_later [] now later le by = tt
+renewed_later (r ∷ rs) now later le by = (omega (arith, by.0, le), ended_later r.until now later le by.1, renewed_later rs now later le by.2)
+
+-- what holds of both lists that a call may leave
+pub on_either : {X T E : Type 0} (P : X → Type 0) (is good bad : X) (r : Result T E) → OnOk r (is ≡ good) → OnErr r (is ≡ bad) → P good → P bad → P is
+on_either P is good bad (Ok x) ok err one two = subst P (sym ok) one
+on_either P is good bad (Err x) ok err one two = subst P (sym err) two
+
+pub ok_then : {X Y T E : Type 0} (r : Result T E) → OnOk r X → (X → Y) → OnOk r Y
+ok_then (Ok x) h f = f h
+ok_then (Err e) h f = tt
+
+pub err_then : {X Y T E : Type 0} (r : Result T E) → OnErr r X → (X → Y) → OnErr r Y
+err_then (Ok x) h f = tt
+err_then (Err e) h f = f h
+
+-- a loop that changes each item of a list: those before i are so already
+module _ {A : Type 0} (zs : List A) (i : ℕ) (inside : i < length zs) where
+  drop_here : (d : A) → drop i zs ≡ get_or zs i d ∷ drop (i + 1) zs
+  drop_here d = rw (drop-cons zs i d inside, add-one) refl
+
+  write_more : (v : A) (ys : List A) → take (i + 1) (set zs i v) ++ ys ≡ take i zs ++ (v ∷ ys)
+  write_more v ys = rw (take_more_set zs i v inside) (append_assoc (take i zs) (v ∷ []) ys)
+
+  drop_more : (v : A) → drop (i + 1) (set zs i v) ≡ drop (i + 1) zs
+  drop_more v = drop-set-lt (i + 1) zs i v (omega arith)
+
+  pub change_here : (f : A → A) (all : List A) (v d : A) → take i zs ++ map f (drop i zs) ≡ all → v ≡ f (get_or zs i d) → take (i + 1) (set zs i v) ++ map f (drop (i + 1) (set zs i v)) ≡ all
+  change_here f all v d so_far is =
+      let so = rw (drop_here d) at so_far in
+      rw (drop_more v, write_more v (map f (drop (i + 1) zs)), is) so
+
+-- How the levels and orders on the copies rise.
+
+-- HOW MANY BATCHES ARE KEPT
+
+pub kept_append : (js ks : List Batch) → batches_kept (js ++ ks) ≡ batches_kept js + batches_kept ks
+kept_append [] ks = omega arith
+kept_append (b ∷ js) ks = let e = kept_append js ks in omega (arith, e)
+
+-- no more are kept than there are
+pub kept_fewer : (js : List Batch) → batches_kept js ≤ length js
+kept_fewer [] = omega arith
+kept_fewer (b ∷ js) = by_fate (is_kept b.fate) (kept_fewer js)
+  where
+    by_fate : (k : Bool) → batches_kept js ≤ length js → (if k then 1 else 0) + batches_kept js ≤ suc (length js)
+    by_fate true le = omega (arith, le)
+    by_fate false le = omega (arith, le)
+
+pub kept_one : (c : Batch) → c.fate ≡ Kept → batches_kept (c ∷ []) ≡ 1
+kept_one c fate = ap (λ f. (if is_kept f then 1 else 0) + 0) fate
+
+-- LEVELS AND ORDERS
+
+-- the kept pages or those in flight have at most the next level
+level_of : (S : Setting) (reached : ℕ) (K F : List Entry) (was : List ℕ) (coming : Option (List ℕ)) (pages : List ℕ) → Stands S reached K was → IsNext S reached K F coming → IsOneOf was coming (Some pages) → level pages ≤ reached + 1
+level_of S reached K F was coming pages stands comes (inl e) = subst (λ (p : List ℕ). level p ≤ reached + 1) (sym e) (omega (arith, stands.at_level))
+level_of S reached K F was coming pages stands comes (inr e) =
+    let s : Stands S (reached + 1) (K ++ F) pages = subst (λ (n : Option (List ℕ)). IsNext S reached K F n) e comes in omega (arith, s.at_level)
+
+-- both are near, so the one is that an image reads as
+near_of : (l order : ℕ) (was : List ℕ) (coming : Option (List ℕ)) (pages : List ℕ) → IsNear l order was → IfSome coming (IsNear l order) → IsOneOf was coming (Some pages) → IsNear l order pages
+near_of l order was coming pages near comes (inl e) = subst (IsNear l order) (sym e) near
+near_of l order was coming pages near comes (inr e) = subst (λ (n : Option (List ℕ)). IfSome n (IsNear l order)) e comes
+
+-- pages a level higher, which raise the orders of near ones, are near
+raised_near : (l order a b m n : ℕ) → m + orders_most * l ≤ order + orders_most * a → n ≤ m + orders_most → b ≡ a + 1 → n + orders_most * l ≤ order + orders_most * b
+raised_near l order a b m n near raised next = omega (arith, near, raised, next)
+
+pub comes_near : (l order : ℕ) (was pages : List ℕ) → IsNear l order was → RaisesOrders was pages → level pages ≡ level was + 1 → IsNear l order pages
+comes_near l order was pages near raised next = raised_near l order (level was) (level pages) (next_order was) (next_order pages) near raised next
+
+pub one_up : {S : Setting} {reached : ℕ} {K F : List Entry} {l order : ℕ} (p : Versions S reached K F l order) (disk : Disk) → ReadsOne S p.was p.coming disk → ReadsUpTo S.reads l order (reached + 1) disk
+one_up {S} {reached} {K} {F} {l} {order} p disk reads image is pages e =
+    let one : IsOneOf p.was p.coming (Some pages) = subst (λ (q : Option (List ℕ)). IsOneOf p.was p.coming q) e (reads image is) in
+    (level_of S reached K F p.was p.coming pages p.stands p.comes one, near_of l order p.was p.coming pages p.near p.comes_near one)
+
+-- with none in flight they have the level reached
+none_coming : (was pages : List ℕ) → IsOneOf was None (Some pages) → pages ≡ was
+none_coming was pages (inl e) = e
+none_coming was pages (inr e) = absurd (cc e)
+
+at_kept : (S : Setting) (reached : ℕ) (K : List Entry) (was : List ℕ) → Stands S reached K was → (disk : Disk) → ReadsOne S was None disk → ReadsAtLevel S.reads reached (next_order was) disk
+at_kept S reached K was stands disk reads image is pages e =
+    let same : pages ≡ was = none_coming was pages (subst (λ (q : Option (List ℕ)). IsOneOf was None q) e (reads image is)) in
+    (ap level same ∙ stands.at_level, ap next_order same)
+
+-- a greater bound
+pub less_up : (reads : List ℕ → Option (List ℕ)) (l order a b : ℕ) → a ≤ b → (disk : Disk) → ReadsUpTo reads l order a disk → ReadsUpTo reads l order b disk
+less_up reads l order a b le disk up image is pages e = let low = up image is pages e in (omega (arith, low.0, le), low.1)
+
+-- WHAT THE SHARED VALUE KEEPS
+
+module _ (S : Setting) (l order : ℕ) where
+  -- acts
+  pub acts_rise : (js : List Batch) (reached : ℕ) (old new : View) → Passes old new → S.since ≤ old.now
+      → ((d : Dev) → IsCkpt d → (t : ℕ) → old.now < t → t ≤ new.now → t < top → is_renewed_at (of_device d S.renewals) t ≡ false → ReadsUpTo S.reads l order (reached + 1) (disk_at new t d))
+      → Rises S js reached l order old → Rises S js reached l order new
+  acts_rise js reached old new goes started later r = record {
+    first = λ lt d ckpt. subst (λ (w : World). ReadsAtLevel S.reads l order (w.disk d)) (sym (goes.past S.since started)) (r.first lt d ckpt);
+    risen = r.risen;
+    most = λ d ckpt t from le lt is. ⊎_elim
+        (λ h. subst (λ (w : World). ReadsUpTo S.reads l order (reached + 1) (w.disk d)) (sym (goes.past t h)) (r.most d ckpt t from h lt is))
+        (λ h. later d ckpt t h le lt is)
+        (either_way t old.now);
+  }
+
+  -- a batch gets its fate, and the level has risen by one at most, where it is kept
+  pub fated_rise : (js : List Batch) (c : Batch) (reached reached' : ℕ) (v : View) → reached ≤ reached' → reached' ≤ reached + batches_kept (c ∷ [])
+      → Rises S js reached l order v → Rises S (js ++ c ∷ []) reached' l order v
+  fated_rise js c reached reached' v least most r = record {
+    first = r.first;
+    risen = omega (arith, r.risen, most, kept_append js (c ∷ []));
+    most = λ d ckpt t from le lt is. less_up S.reads l order (reached + 1) (reached' + 1) (omega (arith, least)) (disk_at v t d) (r.most d ckpt t from le lt is);
+  }
+
+-- pages are near to their own level and next order
+pub own_near : (reached : ℕ) (was : List ℕ) → level was ≡ reached → IsNear reached (next_order was) was
+own_near reached was at_level = own (level was) (next_order was) at_level
+  where
+    own : (a n : ℕ) → a ≡ reached → n + orders_most * reached ≤ n + orders_most * a
+    own a n e = omega (arith, e)
+
+-- with none in flight
+abbrev pub only_pages : (S : Setting) (reached : ℕ) (K : List Entry) (was : List ℕ) → Stands S reached K was → Versions S reached K [] reached (next_order was)
+only_pages S reached K was stands = record { was = was; coming = None; stands = stands; comes = tt; none = λ _. refl; near = own_near reached was stands.at_level; comes_near = tt }
+
+-- at the first moment
+pub make_rise : (S : Setting) (reached : ℕ) (was : List ℕ) (v : View) → S.since ≡ v.now → Stands S reached [] was
+    → (v.now < top → (d : Dev) → IsCkpt d → ReadsOne S was None (disk_at v v.now d)) → Rises S [] reached reached (next_order was) v
+make_rise S reached was v since stands reads = record {
+  first = λ lt d ckpt. subst (λ (m : ℕ). ReadsAtLevel S.reads reached (next_order was) (disk_at v m d)) (sym since) (at_kept S reached [] was stands (disk_at v v.now d) (reads (omega (arith, since, lt)) d ckpt));
+  risen = omega arith;
+  most = λ d ckpt t from le lt is. let e : v.now ≡ t = omega (arith, since, from, le) in
+      subst (λ (m : ℕ). ReadsUpTo S.reads reached (next_order was) (reached + 1) (disk_at v m d)) e
+      (one_up (only_pages S reached [] was stands) (disk_at v v.now d) (reads (omega (arith, e, lt)) d ckpt));
+}

@@ -1,19 +1,14 @@
 -- A copy is replaced: the moments at which it isn't good for that, and what the shared value keeps through it.
-use Rattle.mas_complex.proofs.Names.{◌≡◌, ◌⊎◌, inl, ⊎_elim, ℕ, ◌+◌, ◌≤◌, ◌<◌, ◌&&◌, ◌||◌, ◌≢◌, nat_le, nat_lt, if◌then◌else◌, Bool, true, false, List, [], ◌∷◌, ◌++◌, map, Option, Some, None, Result, Ok, Err, OnOk, OnErr, IsErrOf, refl, sym, ◌∙◌, ap, subst, arith, le_refl, is_none, not, true≢false, nat_tests, Dev, Ckpt1, Ckpt2, Spool, Batch, Entry, View, ViewDisk as Disk, disk_at, disk_now, top, either_way, IsCkpt, IsBothLost, pick, other, Replaces, WhileReplaced, IsOrForms, replace_stopped, Elsewhere, Parts, replaced_in, with_half, Renewal, Renewals, has_ended, is_renewed_at, is_open, of_device, HasEndedBy, AreRenewedBy, or_at, ended_at, ended_on, begun_on, with_device, kept, flying, kept_all, in_flight, entries_in, Before, Setting, Stands, IsNext, IsStale, ReadsStale, ReadsBy, Alike, CrashAt, IsAt, IsAway, Copy, CopyAt, Keeps, PlantGhosts, Ghosts as CopyGhosts, SteadyGhosts, Complex, copy_of, is_away, Half}
+use Rattle.mas_complex.proofs.Names.{◌≡◌, ◌⊎◌, inl, ⊎_elim, ℕ, ◌+◌, ◌≤◌, ◌<◌, ◌&&◌, ◌||◌, ◌≢◌, nat_le, nat_lt, if◌then◌else◌, Bool, true, false, List, [], ◌∷◌, ◌++◌, map, Option, Some, None, Result, Ok, Err, OnOk, OnErr, IsErrOf, refl, sym, ◌∙◌, ap, subst, arith, le_refl, is_none, not, true≢false, nat_tests, Dev, Ckpt1, Ckpt2, Spool, Batch, Entry, View, ViewDisk as Disk, disk_at, disk_now, top, either_way, IsCkpt, IsBothLost, pick, other, Replaces, WhileReplaced, IsOrForms, replace_stopped, Elsewhere, Parts, replaced_in, with_half, Renewal, Renewals, has_ended, is_renewed_at, is_open, of_device, HasEndedBy, AreRenewedBy, or_at, ended_at, ended_on, begun_on, with_device, kept, flying, in_flight, Before, Setting, Stands, IsNext, IsStale, ReadsStale, ReadsBy, Alike, CrashAt, IsAt, IsAway, Copy, CopyAt, Keeps, PlantGhosts, Ghosts as CopyGhosts, SteadyGhosts, Complex, copy_of, is_away, Half, Versions, World, and_cases, inr}
+use Rattle.mas_complex.proofs.Basics.{no, some_is, Passes, beside_ckpt, each_on, still_none}
+use Rattle.mas_complex.proofs.Counted.{wires_none, wires_of}
+use Rattle.mas_complex.proofs.Present.{renewed_open, all_read, away_reads, copy_reads, not_renewed, one_up}
+use Rattle.mas_complex.proofs.Moves.{alike_now}
+use Rattle.mas_complex.proofs.Sides.{at_place, less_image, rests_before, acts_on, near_stays}
+use Rattle.mas_complex.proofs.Values.{Call, at_near, copy_near, copy_there, here, near_dev, near_it, near_place, new, of_both, of_near, old, place_is, there, KeepsAt, KeepsOn, copies_of, half_of, past_of, place_of, setting_of}
 use Rattle.pair_replacing.specs.declared.replacing.ReplaceNo.{ReplaceNo}
 use Rattle.pair_replacing.specs.declared.replacing.ReplaceNo.TheVariants.{NotLost, BothLost, Failed, Halted, NoMemory}
-use Rattle.mas_complex.proofs.Basics.{no, some_is}
-use Rattle.mas_complex.proofs.Apart.{wires_none, wires_of}
-use Rattle.mas_complex.proofs.Batches.{now_kept, now_flying}
-use Rattle.mas_complex.proofs.Renewed.{renewed_open}
-use Rattle.mas_complex.proofs.Passing.{Passes}
-use Rattle.mas_complex.proofs.Present.{alike_as, all_read, away_reads, copy_reads, not_renewed}
-use Rattle.mas_complex.proofs.Rising.{one_up}
-use Rattle.mas_complex.proofs.Sides.{at_place, less_image, rests_before}
-use Rattle.mas_complex.proofs.Calls.{Call, at_near, copy_near, copy_there, here, near_dev, near_it, near_place, new, of_both, of_near, old, place_is, there}
-use Rattle.mas_complex.proofs.Each.{beside_ckpt, each_on}
-use Rattle.mas_complex.proofs.Values.{KeepsAt, KeepsOn, copies_of, half_of, place_of, setting_of}
-use Rattle.mas_complex.proofs.OnDevice.{acts_on, near_stays}
+use Rattle.std.proofs.lemmas.Bool.{or_right as or_true, not-false as is_not}
 
 -- WHEN A COPY IS BEING REPLACED
 
@@ -55,10 +50,6 @@ pub before_beginning : (rs : List Renewal) (from t : ℕ) → t < from → is_re
 before_beginning [] from t lt = ap (λ (b : Bool). (b && true) || false) (not_le from t lt)
 before_beginning (r ∷ rs) from t lt = ap (λ (b : Bool). (nat_le r.from t && not (has_ended r.until t)) || b) (before_beginning rs from t lt)
 
-or_true : (b c : Bool) → c ≡ true → (b || c) ≡ true
-or_true true c e = refl
-or_true false c e = e
-
 pub is_begun : (rs : List Renewal) (from : ℕ) → is_open (rs ++ beginning from ∷ []) ≡ true
 is_begun [] from = refl
 is_begun (r ∷ rs) from = or_true (is_none r.until) (is_open (rs ++ beginning from ∷ [])) (is_begun rs from)
@@ -79,6 +70,9 @@ module _ (S : Setting) (rs : Renewals) where
   next_with : (l : ℕ) (K F : List Entry) (n : Option (List ℕ)) → IsNext S l K F n → IsNext with_renewals l K F n
   next_with l K F None s = tt
   next_with l K F (Some pages) s = stands_with (l + 1) (K ++ F) pages s
+
+  abbrev pages_with : {reached l order : ℕ} {K F : List Entry} → Versions S reached K F l order → Versions with_renewals reached K F l order
+  pages_with {reached} {l} {order} {K} {F} p = record { was = p.was; coming = p.coming; stands = stands_with reached K p.was p.stands; comes = next_with reached K F p.coming p.comes; none = p.none; near = p.near; comes_near = p.comes_near }
 
   -- at a moment at which the same copies are being replaced
   alike_with : (K F : List Entry) (t : ℕ) (disks : Dev → Disk) → ((d : Dev) → IsCkpt d → is_renewed_at (of_device d rs) t ≡ is_renewed_at (of_device d S.renewals) t) → Alike S K F t disks → Alike with_renewals K F t disks
@@ -103,8 +97,8 @@ module _ (S : Setting) (rs : Renewals) where
 module _ (S : Setting) (rs : Renewals) (js : List Batch) (c : Option Batch) (reached : ℕ) (copies copies' : Dev → Copy) (v : View) where
   pub renewals_keep : (keeps : Keeps S js c reached copies v) → ((d : Dev) → IsCkpt d → AreRenewedBy (of_device d rs) v.now)
       → ((d : Dev) → IsCkpt d → (t : ℕ) → t < v.now → is_renewed_at (of_device d rs) t ≡ is_renewed_at (of_device d S.renewals) t)
-      → ((d : Dev) → IsCkpt d → v.now < top → ReadsBy S (is_open (of_device d rs)) keeps.was keeps.coming (disk_now v d))
-      → ((d : Dev) → IsCkpt d → CopyAt (with_renewals S rs) keeps.was keeps.coming d (copies' d) v)
+      → ((d : Dev) → IsCkpt d → v.now < top → ReadsBy S (is_open (of_device d rs)) keeps.pages.was keeps.pages.coming (disk_now v d))
+      → ((d : Dev) → IsCkpt d → CopyAt (with_renewals S rs) keeps.pages.was keeps.pages.coming d (copies' d) v)
       → Keeps (with_renewals S rs) js c reached copies' v
   renewals_keep keeps by same reads at = record {
     started = keeps.started;
@@ -125,39 +119,21 @@ module _ (S : Setting) (rs : Renewals) (js : List Batch) (c : Option Batch) (rea
       first = keeps.rises.first;
       risen = keeps.rises.risen;
       most = λ d ckpt t from le lt is. ⊎_elim
-          (λ here. one_up S reached (kept_all js) (entries_in c) keeps.was keeps.coming keeps.stands keeps.comes keeps.first_level keeps.first_order keeps.near keeps.comes_near (disk_at v t d)
-          (subst (λ (b : Bool). ReadsBy S b keeps.was keeps.coming (disk_at v t d)) is (reads_at d ckpt t here le lt)))
+          (λ here. one_up keeps.pages (disk_at v t d) (subst (λ (b : Bool). ReadsBy S b keeps.pages.was keeps.pages.coming (disk_at v t d)) is (reads_at d ckpt t here le lt)))
           (λ before. keeps.rises.most d ckpt t from le lt (sym (same d ckpt t before) ∙ is))
           (either_way v.now t);
     };
-    was = keeps.was;
-    coming = keeps.coming;
-    stands = stands_with S rs reached (kept_all js) keeps.was keeps.stands;
-    comes = next_with S rs reached (kept_all js) (entries_in c) keeps.coming keeps.comes;
-    none = keeps.none;
-    near = keeps.near;
-    comes_near = keeps.comes_near;
+    pages = pages_with S rs keeps.pages;
     at = at;
   } where
-    reads_at : (d : Dev) → IsCkpt d → (t : ℕ) → v.now ≤ t → t ≤ v.now → t < top → ReadsBy S (is_renewed_at (of_device d rs) t) keeps.was keeps.coming (disk_at v t d)
+    reads_at : (d : Dev) → IsCkpt d → (t : ℕ) → v.now ≤ t → t ≤ v.now → t < top → ReadsBy S (is_renewed_at (of_device d rs) t) keeps.pages.was keeps.pages.coming (disk_at v t d)
     reads_at d ckpt t here le lt =
         let e : v.now ≡ t = omega (arith, here, le) in
-        subst (λ (b : Bool). ReadsBy S b keeps.was keeps.coming (disk_at v t d)) (sym (renewed_open (of_device d rs) v.now t (by d ckpt) here))
-        (subst (λ (m : ℕ). ReadsBy S (is_open (of_device d rs)) keeps.was keeps.coming (disk_at v m d)) e (reads d ckpt (omega (arith, here, le, lt))))
+        subst (λ (b : Bool). ReadsBy S b keeps.pages.was keeps.pages.coming (disk_at v t d)) (sym (renewed_open (of_device d rs) v.now t (by d ckpt) here))
+        (subst (λ (m : ℕ). ReadsBy S (is_open (of_device d rs)) keeps.pages.was keeps.pages.coming (disk_at v m d)) e (reads d ckpt (omega (arith, here, le, lt))))
 
     at_now : (t : ℕ) → v.now ≤ t → t ≤ v.now → t < top → CrashAt (with_renewals S rs) (js ++ in_flight c) v t
-    at_now t here le lt =
-        alike_as (with_renewals S rs) (kept_all js) (entries_in c) (kept (js ++ in_flight c) t) (flying (js ++ in_flight c) t) (disk_at v t)
-        (now_kept js c v.now t keeps.settled keeps.begun here) (now_flying js c v.now t keeps.settled keeps.begun here)
-        (record {
-          reached = reached;
-          was = keeps.was;
-          coming = keeps.coming;
-          stands = stands_with S rs reached (kept_all js) keeps.was keeps.stands;
-          comes = next_with S rs reached (kept_all js) (entries_in c) keeps.coming keeps.comes;
-          none = keeps.none;
-          reads = λ d ckpt. reads_at d ckpt t here le lt;
-        })
+    at_now t here le lt = alike_now (with_renewals S rs) js c v.now t (disk_at v t) (pages_with S rs keeps.pages) keeps.settled keeps.begun here (λ d ckpt. reads_at d ckpt t here le lt)
 
 -- THE CALL
 
@@ -192,10 +168,10 @@ module _ {P C : Type 0} {plants : PlantGhosts P} {steadies : SteadyGhosts C} {co
   S = setting_of s
 
   -- the pages that the other copy reads are the kept ones
-  pub same_was : (v : View) (keeps : KeepsAt s v) → (near_it x).alive ≡ true → near_place x ≡ Before → (pages : List ℕ) → S.reads (disk_now v (near_dev x)).bytes ≡ Some pages → pages ≡ keeps.was
+  pub same_was : (v : View) (keeps : KeepsAt s v) → (near_it x).alive ≡ true → near_place x ≡ Before → (pages : List ℕ) → S.reads (disk_now v (near_dev x)).bytes ≡ Some pages → pages ≡ keeps.pages.was
   same_was v keeps beside before pages reads =
-      let there = of_near x (λ d h p. CopyAt S keeps.was keeps.coming d (copy_of copies.rests copies.holds h p) v) keeps.at in
-      some_is pages keeps.was (sym reads ∙ x.laws.rests_now (near_it x).copy keeps.was (disk_now v (near_dev x)) (rests_before S keeps.was keeps.coming (copy_near x) (near_dev x) v there (λ _. before) beside))
+      let there = of_near x (λ d h p. CopyAt S keeps.pages.was keeps.pages.coming d (copy_of copies.rests copies.holds h p) v) keeps.at in
+      some_is pages keeps.pages.was (sym reads ∙ x.laws.rests_now (near_it x).copy keeps.pages.was (disk_now v (near_dev x)) (rests_before S keeps.pages.was keeps.pages.coming (copy_near x) (near_dev x) v there (λ _. before) beside))
 
   -- the moments of the copy on the device change, and with them that copy
   module _ (v : View) (keeps : KeepsAt s v) (list : List Renewal) (by : AreRenewedBy list v.now) where
@@ -206,20 +182,20 @@ module _ {P C : Type 0} {plants : PlantGhosts P} {steadies : SteadyGhosts C} {co
     of_lists P here all = each_on (λ d. P d (of_device d rs)) x.dev x.ckpt (subst (P x.dev) (sym (here_with x.dev x.ckpt list S.renewals)) here)
         (subst (P (near_dev x)) (sym (beside_with x.dev x.ckpt list S.renewals)) (all (near_dev x) (beside_ckpt x.dev x.ckpt)))
 
-    renewals_on : (copies' : Dev → Copy) → ((t : ℕ) → t < v.now → is_renewed_at list t ≡ is_renewed_at (of_device x.dev S.renewals) t) → (v.now < top → ReadsBy S (is_open list) keeps.was keeps.coming (disk_now v x.dev))
-        → ((d : Dev) → IsCkpt d → CopyAt (with_renewals S rs) keeps.was keeps.coming d (copies' d) v) → Keeps (with_renewals S rs) s.journal.batches s.current s.level copies' v
-    renewals_on copies' before reads at = renewals_keep S rs s.journal.batches s.current s.level (copies_of s) copies' v keeps (of_lists (λ d l. AreRenewedBy l v.now) by keeps.renewed)
+    renewals_on : (copies' : Dev → Copy) → ((t : ℕ) → t < v.now → is_renewed_at list t ≡ is_renewed_at (of_device x.dev S.renewals) t) → (v.now < top → ReadsBy S (is_open list) keeps.pages.was keeps.pages.coming (disk_now v x.dev))
+        → ((d : Dev) → IsCkpt d → CopyAt (with_renewals S rs) keeps.pages.was keeps.pages.coming d (copies' d) v) → Keeps (with_renewals S rs) (past_of s) s.current s.level copies' v
+    renewals_on copies' before reads at = renewals_keep S rs (past_of s) s.current s.level (copies_of s) copies' v keeps (of_lists (λ d l. AreRenewedBy l v.now) by keeps.renewed)
         (of_lists (λ d l. (t : ℕ) → t < v.now → is_renewed_at l t ≡ is_renewed_at (of_device d S.renewals) t) before (λ d ckpt t lt. refl))
-        (of_lists (λ d l. v.now < top → ReadsBy S (is_open l) keeps.was keeps.coming (disk_now v d)) reads (λ d ckpt. copy_reads S keeps.was (copies_of s d) (x.laws.reads (half_of s d) (place_of s d)) keeps.coming d v (keeps.at d ckpt))) at
+        (of_lists (λ d l. v.now < top → ReadsBy S (is_open l) keeps.pages.was keeps.pages.coming (disk_now v d)) reads (λ d ckpt. copy_reads S keeps.pages.was (copies_of s d) (x.laws.reads (half_of s d) (place_of s d)) keeps.pages.coming d v (keeps.at d ckpt))) at
 
     -- the copy on the device, with these moments
-    of_here : (c : Copy) → (c.alive ≡ true → IsAt S c keeps.was keeps.coming c.place (disk_now v x.dev)) → (c.alive ≡ true → is_open list ≡ false) → (c.alive ≡ false → IsAway S keeps.was (is_open list) v.now (disk_now v x.dev)) → CopyAt (with_renewals S rs) keeps.was keeps.coming x.dev c v
+    of_here : (c : Copy) → (c.alive ≡ true → IsAt S c keeps.pages.was keeps.pages.coming c.place (disk_now v x.dev)) → (c.alive ≡ true → is_open list ≡ false) → (c.alive ≡ false → IsAway S keeps.pages.was (is_open list) v.now (disk_now v x.dev)) → CopyAt (with_renewals S rs) keeps.pages.was keeps.pages.coming x.dev c v
     of_here c at formed gone = let e = ap is_open (here_with x.dev x.ckpt list S.renewals) in record {
       at = at;
       formed = λ is. e ∙ formed is;
-      gone = λ dead. subst (λ (b : Bool). IsAway (with_renewals S rs) keeps.was b v.now (disk_now v x.dev)) (sym e) (by_case (is_open list) (gone dead));
+      gone = λ dead. subst (λ (b : Bool). IsAway (with_renewals S rs) keeps.pages.was b v.now (disk_now v x.dev)) (sym e) (by_case (is_open list) (gone dead));
     } where
-      by_case : (r : Bool) → IsAway S keeps.was r v.now (disk_now v x.dev) → IsAway (with_renewals S rs) keeps.was r v.now (disk_now v x.dev)
+      by_case : (r : Bool) → IsAway S keeps.pages.was r v.now (disk_now v x.dev) → IsAway (with_renewals S rs) keeps.pages.was r v.now (disk_now v x.dev)
       by_case false a = a
       by_case true a = a
 
@@ -227,7 +203,7 @@ module _ {P C : Type 0} {plants : PlantGhosts P} {steadies : SteadyGhosts C} {co
     still_beside = ap is_open (beside_with x.dev x.ckpt list S.renewals)
 
   -- a replacement begins
-  pub begun_keep : (v : View) (keeps : KeepsAt s v) → (half_of s x.dev).alive ≡ false → Keeps (with_renewals S (begun_on x.dev v.now S.renewals)) s.journal.batches s.current s.level (copies_of s) v
+  pub begun_keep : (v : View) (keeps : KeepsAt s v) → (half_of s x.dev).alive ≡ false → Keeps (with_renewals S (begun_on x.dev v.now S.renewals)) (past_of s) s.current s.level (copies_of s) v
   begun_keep v keeps dead = by_test (nat_lt v.now top) refl where
     list : List Renewal
     list = of_device x.dev S.renewals ++ beginning v.now ∷ []
@@ -235,27 +211,27 @@ module _ {P C : Type 0} {plants : PlantGhosts P} {steadies : SteadyGhosts C} {co
     below : nat_lt v.now top ≡ true → v.now < top
     below e = grind (arith, nat_tests)
 
-    stale : v.now < top → IsAway S keeps.was (is_open list) v.now (disk_now v x.dev)
-    stale lt = subst (λ (b : Bool). IsAway S keeps.was b v.now (disk_now v x.dev)) (sym (is_begun (of_device x.dev S.renewals) v.now)) (away_stale S keeps.was (is_away S x.dev) v.now (disk_now v x.dev) lt ((keeps.at x.dev x.ckpt).gone dead))
+    stale : v.now < top → IsAway S keeps.pages.was (is_open list) v.now (disk_now v x.dev)
+    stale lt = subst (λ (b : Bool). IsAway S keeps.pages.was b v.now (disk_now v x.dev)) (sym (is_begun (of_device x.dev S.renewals) v.now)) (away_stale S keeps.pages.was (is_away S x.dev) v.now (disk_now v x.dev) lt ((keeps.at x.dev x.ckpt).gone dead))
 
     by_test : (b : Bool) → nat_lt v.now top ≡ b
-        → Keeps (with_renewals S (if b then with_device x.dev (of_device x.dev S.renewals ++ beginning v.now ∷ []) S.renewals else S.renewals)) s.journal.batches s.current s.level (copies_of s) v
+        → Keeps (with_renewals S (if b then with_device x.dev (of_device x.dev S.renewals ++ beginning v.now ∷ []) S.renewals else S.renewals)) (past_of s) s.current s.level (copies_of s) v
     by_test true e =
         let by = begun_by (of_device x.dev S.renewals) v.now (keeps.renewed x.dev x.ckpt) in
-        renewals_on v keeps list by (copies_of s) (λ t before. before_beginning (of_device x.dev S.renewals) v.now t before) (λ lt. away_reads S keeps.was (is_open list) keeps.coming v.now (disk_now v x.dev) lt (stale lt))
-        (each_on (λ d. CopyAt (with_renewals S (with_device x.dev list S.renewals)) keeps.was keeps.coming d (copies_of s d) v) x.dev x.ckpt
+        renewals_on v keeps list by (copies_of s) (λ t before. before_beginning (of_device x.dev S.renewals) v.now t before) (λ lt. away_reads S keeps.pages.was (is_open list) keeps.pages.coming v.now (disk_now v x.dev) lt (stale lt))
+        (each_on (λ d. CopyAt (with_renewals S (with_device x.dev list S.renewals)) keeps.pages.was keeps.pages.coming d (copies_of s d) v) x.dev x.ckpt
         (of_here v keeps list by (copies_of s x.dev) (λ is. absurd (no (half_of s x.dev).alive is dead)) (λ is. absurd (no (half_of s x.dev).alive is dead)) (λ _. stale (below e)))
-        (copy_with S (with_device x.dev list S.renewals) keeps.was keeps.coming (near_dev x) (copies_of s (near_dev x)) v (still_beside v keeps list by) (keeps.at (near_dev x) (beside_ckpt x.dev x.ckpt))))
+        (copy_with S (with_device x.dev list S.renewals) keeps.pages.was keeps.pages.coming (near_dev x) (copies_of s (near_dev x)) v (still_beside v keeps list by) (keeps.at (near_dev x) (beside_ckpt x.dev x.ckpt))))
     by_test false e = keeps
 
   -- the device is replaced, and its copy still counts as lost
-  module _ (R : Disk → Type 0) (keeps : KeepsAt s (old x)) (passes : Passes (old x) (new x)) (dead : (there x).alive ≡ false) (began : (old x).now < top → is_away S x.dev ≡ true) (stale : is_away S x.dev ≡ true → (d : Disk) → R d → ReadsStale S keeps.was d) (m : WhileReplaced x.dev R (old x) (new x)) where
-    stale_at : (t : ℕ) → (old x).now < t → t ≤ (new x).now → t < top → ReadsBy S (is_away S x.dev) keeps.was keeps.coming (disk_at (new x) t x.dev)
+  module _ (R : Disk → Type 0) (keeps : KeepsAt s (old x)) (passes : Passes (old x) (new x)) (dead : (there x).alive ≡ false) (began : (old x).now < top → is_away S x.dev ≡ true) (stale : is_away S x.dev ≡ true → (d : Disk) → R d → ReadsStale S keeps.pages.was d) (m : WhileReplaced x.dev R (old x) (new x)) where
+    stale_at : (t : ℕ) → (old x).now < t → t ≤ (new x).now → t < top → ReadsBy S (is_away S x.dev) keeps.pages.was keeps.pages.coming (disk_at (new x) t x.dev)
     stale_at t lt le below =
         let e = began (omega (arith, lt, below)) in
-        subst (λ (b : Bool). ReadsBy S b keeps.was keeps.coming (disk_at (new x) t x.dev)) (sym e) (stale e (disk_at (new x) t x.dev) (m.here t (omega (arith, lt)) le))
+        subst (λ (b : Bool). ReadsBy S b keeps.pages.was keeps.pages.coming (disk_at (new x) t x.dev)) (sym e) (stale e (disk_at (new x) t x.dev) (m.here t (omega (arith, lt)) le))
 
-    away : (b : Bool) → is_away S x.dev ≡ b → IsAway S keeps.was b (new x).now (disk_now (new x) x.dev)
+    away : (b : Bool) → is_away S x.dev ≡ b → IsAway S keeps.pages.was b (new x).now (disk_now (new x) x.dev)
     away true e = stale e (disk_now (new x) x.dev) (m.here (new x).now passes.later (le_refl (new x).now))
     away false e = λ lt. ⊎_elim
         (λ le. absurd (omega (arith, le, lt, passes.later)))
@@ -264,59 +240,51 @@ module _ {P C : Type 0} {plants : PlantGhosts P} {steadies : SteadyGhosts C} {co
 
     pub replaced_keep : KeepsOn s x.pair x.first x.second (new x)
     replaced_keep =
-        acts_on S keeps.was keeps.coming x.dev x.ckpt (copy_near x) (old x) (new x) passes m.others (at_near x keeps) (x.laws.reads (near_it x) (near_place x)) s.journal.batches s.current s.level (copies_of s) (λ d. copy_of copies.rests copies.holds (pick d x.pair.first x.pair.second) (pick d x.first x.second))
-        keeps refl keeps.comes keeps.none keeps.comes_near m.console stale_at
-        (of_both x (λ d h p. CopyAt S keeps.was keeps.coming d (copy_of copies.rests copies.holds h p) (new x))
+        acts_on S keeps.pages.was keeps.pages.coming x.dev x.ckpt (copy_near x) (old x) (new x) passes m.others (at_near x keeps) (x.laws.reads (near_it x) (near_place x)) (past_of s) s.current s.level (copies_of s) (λ d. copy_of copies.rests copies.holds (pick d x.pair.first x.pair.second) (pick d x.first x.second))
+        keeps keeps.pages refl refl m.console stale_at
+        (of_both x (λ d h p. CopyAt S keeps.pages.was keeps.pages.coming d (copy_of copies.rests copies.holds h p) (new x))
         (record { at = λ is. absurd (no (there x).alive is dead); formed = λ is. absurd (no (there x).alive is dead); gone = λ _. away (is_away S x.dev) refl })
-        (near_stays S keeps.was keeps.coming x.dev x.ckpt (copy_near x) (old x) (new x) passes m.others (at_near x keeps)))
+        (near_stays S keeps.pages.was keeps.pages.coming x.dev x.ckpt (copy_near x) (old x) (new x) passes m.others (at_near x keeps)))
 
   -- an image of a copy that is being replaced, before and during the call
-  pub stale_while : (keeps : KeepsAt s (old x)) → (here x).alive ≡ false → (pages : List ℕ) → pages ≡ keeps.was → is_away S x.dev ≡ true → (d : Disk) → IsOrForms S.reads (disk_now (old x) x.dev) pages d → ReadsStale S keeps.was d
+  pub stale_while : (keeps : KeepsAt s (old x)) → (here x).alive ≡ false → (pages : List ℕ) → pages ≡ keeps.pages.was → is_away S x.dev ≡ true → (d : Disk) → IsOrForms S.reads (disk_now (old x) x.dev) pages d → ReadsStale S keeps.pages.was d
   stale_while keeps dead pages same is d forms =
-      stale_forms S keeps.was pages same (disk_now (old x) x.dev) d (subst (λ (b : Bool). IsAway S keeps.was b (old x).now (disk_now (old x) x.dev)) is ((keeps.at x.dev x.ckpt).gone dead)) forms
+      stale_forms S keeps.pages.was pages same (disk_now (old x) x.dev) d (subst (λ (b : Bool). IsAway S keeps.pages.was b (old x).now (disk_now (old x) x.dev)) is ((keeps.at x.dev x.ckpt).gone dead)) forms
 
   -- the new copy is good from now on
-  pub ended_keep : (v : View) (keeps : KeepsAt s v) → (there x).alive ≡ true → place_is x ≡ Before → copies.rests (there x).copy keeps.was (disk_now v x.dev)
-      → Keeps (with_renewals S (ended_on x.dev v.now S.renewals)) s.journal.batches s.current s.level (λ d. copy_of copies.rests copies.holds (pick d x.pair.first x.pair.second) (pick d x.first x.second)) v
+  pub ended_keep : (v : View) (keeps : KeepsAt s v) → (there x).alive ≡ true → place_is x ≡ Before → copies.rests (there x).copy keeps.pages.was (disk_now v x.dev)
+      → Keeps (with_renewals S (ended_on x.dev v.now S.renewals)) (past_of s) s.current s.level (λ d. copy_of copies.rests copies.holds (pick d x.pair.first x.pair.second) (pick d x.first x.second)) v
   ended_keep v keeps is before rest =
       let list : List Renewal = map (ended_at v.now) (of_device x.dev S.renewals) in
       let by = all_ended_by (of_device x.dev S.renewals) v.now (keeps.renewed x.dev x.ckpt) in
       let closed : is_open list ≡ false = none_open (of_device x.dev S.renewals) v.now in
       renewals_on v keeps list by _ (λ t lt. renewed_before (of_device x.dev S.renewals) v.now t lt)
-      (λ below. not_renewed S keeps.was (is_open list) keeps.coming (disk_now v x.dev) closed (all_read S keeps.was keeps.coming (disk_now v x.dev) ((x.laws.reads (there x) (place_is x)).rest keeps.was (disk_now v x.dev) rest)))
-      (of_both x (λ d h p. CopyAt (with_renewals S (with_device x.dev list S.renewals)) keeps.was keeps.coming d (copy_of copies.rests copies.holds h p) v)
-      (of_here v keeps list by (copy_there x) (λ _. at_place S keeps.was keeps.coming (copy_there x) Before (place_is x) (disk_now v x.dev) (sym before) rest) (λ _. closed) (λ dead. absurd (no (there x).alive is dead)))
-      (copy_with S (with_device x.dev list S.renewals) keeps.was keeps.coming (near_dev x) (copy_near x) v (still_beside v keeps list by) (of_near x (λ d h p. CopyAt S keeps.was keeps.coming d (copy_of copies.rests copies.holds h p) v) keeps.at)))
+      (λ below. not_renewed S keeps.pages.was (is_open list) keeps.pages.coming (disk_now v x.dev) closed (all_read S keeps.pages.was keeps.pages.coming (disk_now v x.dev) ((x.laws.reads (there x) (place_is x)).rest keeps.pages.was (disk_now v x.dev) rest)))
+      (of_both x (λ d h p. CopyAt (with_renewals S (with_device x.dev list S.renewals)) keeps.pages.was keeps.pages.coming d (copy_of copies.rests copies.holds h p) v)
+      (of_here v keeps list by (copy_there x) (λ _. at_place S keeps.pages.was keeps.pages.coming (copy_there x) Before (place_is x) (disk_now v x.dev) (sym before) rest) (λ _. closed) (λ dead. absurd (no (there x).alive is dead)))
+      (copy_with S (with_device x.dev list S.renewals) keeps.pages.was keeps.pages.coming (near_dev x) (copy_near x) v (still_beside v keeps list by) (of_near x (λ d h p. CopyAt S keeps.pages.was keeps.pages.coming d (copy_of copies.rests copies.holds h p) v) keeps.at)))
 
 -- WHICH DEVICES ARE LOST
 
 -- a replacement that begins is open
 pub still_closed : (dev d : Dev) → IsCkpt dev → IsCkpt d → (from : ℕ) (rs : Renewals) → is_open (of_device d (begun_on dev from rs)) ≡ false → is_open (of_device d rs) ≡ false
 still_closed dev d ckpt is from rs = by_test (nat_lt from top) where
-  by_dev : (e f : Dev) → IsCkpt e → IsCkpt f → is_open (of_device f (with_device e (of_device e rs ++ beginning from ∷ []) rs)) ≡ false → is_open (of_device f rs) ≡ false
-  by_dev Ckpt1 Ckpt1 a b closed = absurd (true≢false (sym (is_begun rs.first from) ∙ closed))
-  by_dev Ckpt1 Ckpt2 a b closed = closed
-  by_dev Ckpt2 Ckpt1 a b closed = closed
-  by_dev Ckpt2 Ckpt2 a b closed = absurd (true≢false (sym (is_begun rs.second from) ∙ closed))
-  by_dev (Spool n) f a b closed = absurd a
-  by_dev e (Spool n) a b closed = absurd b
+  list : List Renewal
+  list = of_device dev rs ++ beginning from ∷ []
 
-  by_test : (b : Bool) → is_open (of_device d (if b then with_device dev (of_device dev rs ++ beginning from ∷ []) rs else rs)) ≡ false → is_open (of_device d rs) ≡ false
-  by_test true closed = by_dev dev d ckpt is closed
-  by_test false closed = closed
+  by_test : (b : Bool) → is_open (of_device d (if b then with_device dev list rs else rs)) ≡ false → is_open (of_device d rs) ≡ false
+  by_test true = each_on (λ e. is_open (of_device e (with_device dev list rs)) ≡ false → is_open (of_device e rs) ≡ false) dev ckpt
+      (λ closed. absurd (true≢false (sym (ap is_open (here_with dev ckpt list rs) ∙ is_begun (of_device dev rs) from) ∙ closed)))
+      (λ closed. sym (ap is_open (beside_with dev ckpt list rs)) ∙ closed) d is
+  by_test false = λ closed. closed
 
 pub begun_open : (dev : Dev) → IsCkpt dev → (from : ℕ) (rs : Renewals) → from < top → is_open (of_device dev (begun_on dev from rs)) ≡ true
 begun_open dev ckpt from rs lt = by_test (nat_lt from top) (is_below lt) where
   is_below : from < top → nat_lt from top ≡ true
   is_below lt = grind (arith, nat_tests)
 
-  by_dev : (d : Dev) → IsCkpt d → is_open (of_device d (with_device d (of_device d rs ++ beginning from ∷ []) rs)) ≡ true
-  by_dev Ckpt1 a = is_begun rs.first from
-  by_dev Ckpt2 a = is_begun rs.second from
-  by_dev (Spool n) a = absurd a
-
   by_test : (b : Bool) → b ≡ true → is_open (of_device dev (if b then with_device dev (of_device dev rs ++ beginning from ∷ []) rs else rs)) ≡ true
-  by_test true e = by_dev dev ckpt
+  by_test true e = ap is_open (here_with dev ckpt (of_device dev rs ++ beginning from ∷ []) rs) ∙ is_begun (of_device dev rs) from
   by_test false e = absurd (true≢false (sym e))
 
 -- a device whose replacement isn't open failed at the greatest moment
@@ -333,9 +301,9 @@ replaced_elsewhere dev P old new later m = record { others = m.others; console =
 -- before any act
 pub elsewhere_none : (dev : Dev) (v : View) → Elsewhere dev v v
 elsewhere_none dev v = record {
-  others = λ t from le d ne. let e : t ≡ v.now = omega (arith, from, le) in ap (λ (m : ℕ). disk_at v m d) e;
-  console = λ t from le. let e : t ≡ v.now = omega (arith, from, le) in ap (λ (m : ℕ). (v.world m).console) e;
-  papers = λ t from le k. let e : t ≡ v.now = omega (arith, from, le) in ap (λ (m : ℕ). (v.world m).paper k) e;
+  others = λ t from le d ne. still_none (λ (w : World). w.disk d) v t from le;
+  console = still_none (λ (w : World). w.console) v;
+  papers = λ t from le k. still_none (λ (w : World). w.paper k) v t from le;
   wires = wires_none v;
 }
 
@@ -365,24 +333,10 @@ replaced_frame {P} {C} dev from now is mid was (Ok x) begun ok err acted =
     subst (λ (m : Parts P C). is ≡ record (with_half dev is m) { first = pick dev Before m.first; second = other dev Before m.second; renewals = ended_on dev now m.renewals }) begun ok
 replaced_frame {P} {C} dev from now is mid was (Err Failed) begun ok err acted = subst (λ (m : Parts P C). is ≡ record m { plant = is.plant }) begun err
 replaced_frame {P} {C} dev from now is mid was (Err Halted) begun ok err acted = subst (λ (m : Parts P C). is ≡ record m { plant = is.plant }) begun err
-replaced_frame dev from now is mid was (Err NotLost) begun ok err acted = ⊎_elim (λ e. absurd (cc)) (λ e. absurd (cc)) acted
-replaced_frame dev from now is mid was (Err BothLost) begun ok err acted = ⊎_elim (λ e. absurd (cc)) (λ e. absurd (cc)) acted
-replaced_frame dev from now is mid was (Err NoMemory) begun ok err acted = ⊎_elim (λ e. absurd (cc)) (λ e. absurd (cc)) acted
-
--- out of memory, before any act
-pub no_memory_frame : {P C T : Type 0} (dev : Dev) (from now : ℕ) (is was : Parts P C) (r : Result T ReplaceNo) → r ≡ Err NoMemory → is ≡ was → is ≡ replaced_in r dev from now is was
-no_memory_frame {P} {C} {T} dev from now is was r none same = subst (λ (x : Result T ReplaceNo). is ≡ replaced_in x dev from now is was) (sym none) same
-
-pub no_memory_stopped : {T : Type 0} (r : Result T ReplaceNo) → r ≡ Err NoMemory → replace_stopped r ≡ false
-no_memory_stopped {T} r none = ap (λ (x : Result T ReplaceNo). replace_stopped x) none
-
-pub no_memory_ok : {T : Type 0} (X : Type 0) (r : Result T ReplaceNo) → r ≡ Err NoMemory → OnOk r X
-no_memory_ok {T} X r none = subst (λ (x : Result T ReplaceNo). OnOk x X) (sym none) tt
+replaced_frame dev from now is mid was _ begun ok err acted = ⊎_elim (λ e. absurd (cc)) (λ e. absurd (cc)) acted
 
 pub both_not : (a b : Bool) → (not a && not b) ≡ false → IsBothLost a b → ⊥
-both_not true b some both = let e = both.0 in absurd (cc)
-both_not false true some both = let e = both.1 in absurd (cc)
-both_not false false some both = absurd (cc)
+both_not a b some both = let e = rw (both.0, both.1) at some in absurd (cc e)
 
 -- an error of the acts is one of these
 pub acted_not : {T : Type 0} (r : Result T ReplaceNo) → OnErr r (IsErrOf r Failed ⊎ IsErrOf r Halted) → (IsErrOf r NotLost → ⊥) × (IsErrOf r BothLost → ⊥)
@@ -393,18 +347,11 @@ acted_not _ acted = (λ is. absurd (cc), λ is. absurd (cc))
 
 -- BEFORE THE FIRST ACT: what the other copy is, where one counts as lost and not both do
 pub other_stands : {C : Type 0} (dev : Dev) → IsCkpt dev → (h k : Half C) → (pick dev h k).alive ≡ false → (not h.alive && not k.alive) ≡ false → (other dev h k).alive ≡ true
-other_stands dev ckpt h k dead some = by_dev dev ckpt dead where
-  last : (a b : Bool) → a ≡ false → (not a && not b) ≡ false → b ≡ true
-  last true b e some = absurd (cc)
-  last false true e some = refl
-  last false false e some = absurd (cc)
-
-  first : (a b : Bool) → b ≡ false → (not a && not b) ≡ false → a ≡ true
-  first true b e some = refl
-  first false true e some = absurd (cc)
-  first false false e some = absurd (cc)
+other_stands {C} dev ckpt h k dead some = by_dev dev ckpt dead where
+  one : (h.alive ≡ true) ⊎ (k.alive ≡ true)
+  one = ⊎_elim (λ e. inl (is_not h.alive e)) (λ e. inr (is_not k.alive e)) (and_cases (not h.alive) (not k.alive) some)
 
   by_dev : (d : Dev) → IsCkpt d → (pick d h k).alive ≡ false → (other d h k).alive ≡ true
-  by_dev Ckpt1 c dead = last h.alive k.alive dead some
-  by_dev Ckpt2 c dead = first h.alive k.alive dead some
+  by_dev Ckpt1 c dead = ⊎_elim (λ is. absurd (no h.alive is dead)) (λ is. is) one
+  by_dev Ckpt2 c dead = ⊎_elim (λ is. is) (λ is. absurd (no k.alive is dead)) one
   by_dev (Spool n) c dead = absurd c

@@ -199,13 +199,13 @@ setting reads base since = setting_with reads base since no_renewals
 
 -- The texts that stand on the spool volumes at a moment: those of the queue after the kept entries, and those of the
 -- queue with the entries in flight, except texts with a group on a volume that is lost now.
-pub record TextsAt (S : Setting) (J : List Batch) (v : View) (t : ℕ) : Type 0 where
-  pub after_kept : HasTexts (lost_now v) (spools_at v t) S.base.config.groups (S.run S.base (kept J t))
-  pub after_coming : HasTexts (lost_now v) (spools_at v t) S.base.config.groups (S.run S.base (kept J t ++ flying J t))
+pub record TextsAt (S : Setting) (K F : List Entry) (v : View) (t : ℕ) : Type 0 where
+  pub after_kept : HasTexts (lost_now v) (spools_at v t) S.base.config.groups (S.run S.base K)
+  pub after_coming : HasTexts (lost_now v) (spools_at v t) S.base.config.groups (S.run S.base (K ++ F))
 
 -- the texts stand on the spool volumes at each moment
 abbrev pub KeepsTexts : Setting → List Batch → View → Type 0
-KeepsTexts S J v = (t : ℕ) → S.since ≤ t → t ≤ v.now → TextsAt S J v t
+KeepsTexts S J v = (t : ℕ) → S.since ≤ t → t ≤ v.now → TextsAt S (kept J t) (flying J t) v t
 
 -- a volume that the world shows as lost is lost now
 abbrev pub AreSunk : Setting → View → Type 0
@@ -249,6 +249,17 @@ pub record Rises (S : Setting) (js : List Batch) (reached l order : ℕ) (v : Vi
   pub most : (d : Dev) → IsCkpt d → (t : ℕ) → S.since ≤ t → t ≤ v.now → t < top
       → is_renewed_at (of_device d S.renewals) t ≡ false → ReadsUpTo S.reads l order (reached + 1) (disk_at v t d)
 
+-- The pages of the kept entries, of the level reached, and those of the entries in flight, if there are any. Both are
+-- near to the first level and order.
+pub record Versions (S : Setting) (reached : ℕ) (K F : List Entry) (l order : ℕ) : Type 0 where
+  pub was : List ℕ
+  pub coming : Option (List ℕ)
+  pub stands : Stands S reached K was
+  pub comes : IsNext S reached K F coming
+  pub none : F ≡ [] → coming ≡ None
+  pub near : IsNear l order was
+  pub comes_near : IfSome coming (IsNear l order)
+
 -- What the shared value keeps of its past, and of its present below the greatest moment: the pages of the kept entries,
 -- and those in flight, are the same for both copies.
 pub record Keeps (S : Setting) (js : List Batch) (current : Option Batch) (reached : ℕ) (copies : Dev → Copy)
@@ -265,14 +276,8 @@ pub record Keeps (S : Setting) (js : List Batch) (current : Option Batch) (reach
   pub first_level : ℕ
   pub first_order : ℕ
   pub rises : Rises S js reached first_level first_order v
-  pub was : List ℕ
-  pub coming : Option (List ℕ)
-  pub stands : Stands S reached (kept_all js) was
-  pub comes : IsNext S reached (kept_all js) (entries_in current) coming
-  pub none : entries_in current ≡ [] → coming ≡ None
-  pub near : IsNear first_level first_order was
-  pub comes_near : IfSome coming (IsNear first_level first_order)
-  pub at : (d : Dev) → IsCkpt d → CopyAt S was coming d (copies d) v
+  pub pages : Versions S reached (kept_all js) (entries_in current) first_level first_order
+  pub at : (d : Dev) → IsCkpt d → CopyAt S pages.was pages.coming d (copies d) v
 
 -- Both copies, before any batch, as a shared value begins with them: there are pages of this level that stand for its
 -- base, and each copy that counts as alive is at rest with these. The texts of the base stand on the spool volumes.

@@ -1,6 +1,7 @@
 -- What calls on the copies leave as it was.
 use Rattle.mas_complex.specs.Names.{Dev, View, disk_at, disk_now, Throughout, SameWires}
-use Rattle.std.specs.Prelude.{◌≡◌, ◌≢◌}
+use Rattle.std.specs.Prelude.{◌≡◌, ◌≢◌, ℕ, Bool}
+use Rattle.mas_complex.specs.CallCounts.{KeepsCounts, PairState}
 use Rattle.mas_complex.specs.Kept.{OnlyOnCopies}
 use Rattle.mas_complex.specs.Paper.{SamePapers}
 
@@ -18,3 +19,8 @@ pub record OnCopies (old new : View) : Type 0 where
   pub console : (new.world new.now).console ≡ (old.world old.now).console
   pub papers : SamePapers old new
   pub wires : SameWires old new
+
+-- What calls of a member on both copies leave: of what is counted, and of all else.
+pub record OnPair (tells : Type 0) (by : ℕ) (stopped : Bool) (old new : PairState) : Type 0 where
+  pub counts : KeepsCounts by stopped old new
+  pub apart : tells → OnCopies old.view new.view

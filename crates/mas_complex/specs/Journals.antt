@@ -122,6 +122,11 @@ without_last [] = []
 without_last (a ∷ []) = []
 without_last (a ∷ next ∷ bs) = a ∷ without_last (next ∷ bs)
 
+-- the batches that have their fates, without the place of one to come
+abbrev pub past_batches : Bool → List Batch → List Batch
+past_batches true batches = without_last batches
+past_batches false batches = batches
+
 -- the batches at the end: the batch in flight stands last, or an unused place goes
 abbrev pub end_of : Bool → Option Batch → List Batch → List Batch
 end_of placed (Some b) batches = with_last b batches

@@ -19,6 +19,7 @@ pub mod Kept
 pub mod Past
 pub mod Paper
 pub mod Parts
+pub mod Begins
 pub mod Settled
 pub use Rattle.ckpt_form.specs.declared.steady.Steady
 pub use Rattle.pair_replacing.specs.Replacing

@@ -105,17 +105,21 @@ abbrev pub IsOfItsMember : Option Batch → Type 0
 IsOfItsMember None = Unit {0}
 IsOfItsMember (Some b) = All (λ e. e.by ≡ b.by) b.entries
 
-pub record KeepsPaper (base : Queue) (since : ℕ) (js : List Batch) (current : Option Batch) (printed : List ℕ)
-    (book : Book) (v : View) : Type 0 where
+-- the counts of printed lines, and the book that says who is stopped
+abbrev pub Counting : Type 0
+Counting = List ℕ × Book
+
+pub record KeepsPaper (base : Queue) (since : ℕ) (js : List Batch) (current : Option Batch) (counting : Counting)
+    (v : View) : Type 0 where
   pub given : AreGivenIn base (js ++ in_flight current)
   pub own : IsOfItsMember current
   pub marks : (t : ℕ) → since ≤ t → t ≤ v.now → MarksAt base (js ++ in_flight current) v t
   pub lines : (t : ℕ) → since ≤ t → t < v.now → (m : MemberId) → LineAt base (js ++ in_flight current) since v t m
-  pub kept_lines : AreLinesOn (IsOnPaper (v.world v.now).paper) base (counts_of printed) (kept_all js)
-  pub coming_lines : AreLinesOn (IsOnPaper (v.world v.now).paper) base (counts_of printed)
+  pub kept_lines : AreLinesOn (IsOnPaper (v.world v.now).paper) base (counts_of counting.0) (kept_all js)
+  pub coming_lines : AreLinesOn (IsOnPaper (v.world v.now).paper) base (counts_of counting.0)
       (kept_all js ++ entries_in current)
-  pub counted : (m : MemberId) → m.0 < length printed → is_stopped book m ≡ false
-      → counts_of printed m ≡ count_at (js ++ in_flight current) since v v.now m
+  pub counted : (m : MemberId) → m.0 < length counting.0 → is_stopped counting.1 m ≡ false
+      → counts_of counting.0 m ≡ count_at (js ++ in_flight current) since v v.now m
 
 -- WHAT IT HANDS OUT
 

@@ -4,6 +4,7 @@ use Rattle.std.specs.Prelude.{ℕ, ◌+◌, Bool, true, false, List, ◌∷◌, 
 use Rattle.mas_complex.specs.Past.{values_of}
 use Rattle.spool_plant.specs.declared.plant.Plant.{Ghosts as PlantGhosts}
 use Rattle.ckpt_copy.specs.declared.copying.Copying.{Ghosts as CopyGhosts}
+use Rattle.duplex_pair.specs.declared.half.Half.{Half}
 use Rattle.pair_replacing.specs.declared.replacing.ReplaceNo.{ReplaceNo}
 use Rattle.mas_complex.specs.Renewals.{begun_on, ended_on}
 use Rattle.mas_complex.specs.Journals.{begun, fated, with_last, without_last, entries_reserved}
@@ -98,6 +99,19 @@ module _ {P C : Type 0} {plants : PlantGhosts P} {steadies : SteadyGhosts C} {co
     renewals = x.renewals;
     had = values_of x.had;
   }
+
+  -- the copy on a device and how far a batch has come on it, and the same of the other copy
+  abbrev pub half_on : Dev → Complex P C plants steadies copies → Half C
+  half_on dev x = pick dev x.pair.first x.pair.second
+
+  abbrev pub place_on : Dev → Complex P C plants steadies copies → Place
+  place_on dev x = pick dev x.first x.second
+
+  abbrev pub half_beside : Dev → Complex P C plants steadies copies → Half C
+  half_beside dev x = other dev x.pair.first x.pair.second
+
+  abbrev pub place_beside : Dev → Complex P C plants steadies copies → Place
+  place_beside dev x = other dev x.first x.second
 
   abbrev pub shown_of : Complex P C plants steadies copies → Shown
   shown_of x = shows copies.reads plants.view (parts_of x)

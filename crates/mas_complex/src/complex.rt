@@ -1,7 +1,7 @@
 //! The shared value.
 ghost use Rattle.mas_complex.specs.Names.{Dev, IsCkpt, pick, page_count, Disk, level, Batch, is_stopped, IsSound};
 ghost use Rattle.std.specs.Prelude.{◌≡◌, ◌≢◌, ◌≤◌, ◌++◌, length, true, false, Some, IsSome};
-ghost use Rattle.mas_complex.specs.Journals.{entries_in, entries_reserved, in_flight, entries_most, journal_most, AreFew, AreSettled, HasPlace, IsBegun};
+ghost use Rattle.mas_complex.specs.Journals.{entries_in, entries_reserved, in_flight, entries_most, journal_most, AreFew, AreSettled, HasPlace, IsBegun, past_batches};
 ghost use Rattle.mas_complex.specs.Settled.{settled_prop, begun_prop};
 ghost use Rattle.mas_complex.specs.Crash.{Keeps, setting_with, copy_of};
 ghost use Rattle.mas_complex.specs.Renewals.{is_open, of_device};
@@ -72,19 +72,20 @@ pub struct Complex<P: Plant + Drop, C: Steady + Drop> {
     pub had: [Note; COUNTS],
 
     /// What a crash leaves and the console tells at each moment since then, and where each copy stands now.
-    ghost kept: { P.tells → ∥ Keeps (setting_with C.reads base since renewals) journal.batches current level
-        (λ d. copy_of C.rests C.holds (pick d pair.first pair.second) (pick d first second)) (P.view plant) ∥₁ },
+    ghost kept: { P.tells → ∥ Keeps (setting_with C.reads base since renewals)
+        (past_batches placed journal.batches) current level (λ d. copy_of C.rests C.holds
+        (pick d pair.first pair.second) (pick d first second)) (P.view plant) ∥₁ },
 
     /// Pages whose level isn't above that of pages that a member noted are as they were then.
     ghost lasting: { P.tells → ∥ HavePasts (page_count base.config) (values_of had)
         (λ d. sight_of C.reads C.behind (pick d pair.first pair.second) (pick d first second) d (P.view plant)) ∥₁ },
 
     /// Each entry has the reply that the commands give at its place.
-    ghost replied: { P.tells → ∥ AreReplied base (journal.batches ++ in_flight current) ∥₁ },
+    ghost replied: { P.tells → ∥ AreReplied base (past_batches placed journal.batches ++ in_flight current) ∥₁ },
 
     /// What stands on paper at each moment since then, where the base has the sound parts.
     ghost paper: { P.tells → IsSound base
-        → ∥ KeepsPaper base since journal.batches current printed book (P.view plant) ∥₁ },
+        → ∥ KeepsPaper base since (past_batches placed journal.batches) current (printed, book) (P.view plant) ∥₁ },
 
     /// A copy that counts as alive is ready.
     ghost ready: { (d : Dev) → IsCkpt d → (pick d pair.first pair.second).alive ≡ true

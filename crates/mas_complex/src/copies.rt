@@ -1,8 +1,6 @@
 //! The copies between batches, and lost devices.
-ghost use Rattle.mas_complex.specs.Names.{Dev, Ckpt1, Ckpt2, Spool, disk_now, Loses, LosesThere, Disk, bytes_of, level, page_in, BothLost as PairNoBothLost, IsCkpt, pick, other, IsBothLost, SomeAlive, after_acts, read_acts, PairActed, pair_stopped, Before as AtBefore, page_count};
+ghost use Rattle.mas_complex.specs.Names.{Dev, Ckpt1, Ckpt2, Spool, disk_now, Loses, LosesThere, Disk, bytes_of, level, page_in, BothLost as PairNoBothLost, IsCkpt, other, IsBothLost, SomeAlive, pair_stopped, Before as AtBefore, page_count};
 ghost use Rattle.std.specs.Prelude.{◌≡◌, ◌<◌, ℕ, List, Some, None, length, true, false, OnOk, OnErr, IsErrOf};
-ghost use Rattle.mas_complex.specs.Journals.{kept_all};
-ghost use Rattle.mas_complex.specs.Meaning.{run};
 ghost use Rattle.mas_complex.specs.Places.{IsPlaceAfter};
 ghost use Rattle.mas_complex.specs.Elsewhere.{Elsewhere, OnCopies};
 ghost use Rattle.mas_complex.specs.Crash.{copy_of};
@@ -10,7 +8,9 @@ ghost use Rattle.mas_complex.specs.Kept.{HaveKept, OnlyOnCopies};
 ghost use Rattle.mas_complex.specs.Locking.{MayAct};
 ghost use Rattle.mas_complex.specs.Paper.{SamePapers};
 ghost use Rattle.mas_complex.specs.Past.{HavePasts, sight_of, values_of};
-ghost use Rattle.mas_complex.specs.Parts.{parts_of, with_copies, with_half, with_pair};
+ghost use Rattle.mas_complex.specs.Parts.{half_beside, half_on, parts_of, place_on, with_copies, with_half, with_pair};
+ghost use Rattle.mas_complex.specs.Begins.{kept_queue};
+ghost use Rattle.mas_complex.specs.CallCounts.{ActedOn, TookReadActs, pair_of};
 
 use crate::complex::Complex;
 use crate::places::place_after;
@@ -25,12 +25,10 @@ impl<P: Plant + Drop, C: Steady + Drop> Complex<P, C> {
     pub(crate) fn lose_copy(&mut self, dev: Dev)
         requires ckpt { IsCkpt dev }
         ensures frame { parts_of self.new ≡ with_half dev (parts_of self.new) (parts_of self.old) }
-        ensures other { other dev self.new.pair.first self.new.pair.second
-            ≡ other dev self.old.pair.first self.old.pair.second }
+        ensures other { half_beside dev self.new ≡ half_beside dev self.old }
         ensures had { self.new.had ≡ self.old.had }
-        ensures dead { (pick dev self.new.pair.first self.new.pair.second).alive ≡ false }
-        ensures copy { (pick dev self.new.pair.first self.new.pair.second).copy
-            ≡ (pick dev self.old.pair.first self.old.pair.second).copy }
+        ensures dead { (half_on dev self.new).alive ≡ false }
+        ensures copy { (half_on dev self.new).copy ≡ (half_on dev self.old).copy }
         ensures loses { Loses (Disk dev) (P.view self.old.plant) (P.view self.new.plant) }
         ensures elsewhere { P.tells → Elsewhere dev (P.view self.old.plant) (P.view self.new.plant) }
         ensures bytes { P.tells → (d : Dev)
@@ -68,12 +66,10 @@ impl<P: Plant + Drop, C: Steady + Drop> Complex<P, C> {
         ensures second { self.new.second ≡ self.old.second }
         ensures had { self.new.had ≡ self.old.had }
         ensures level { self.new.level ≡ self.old.level }
-        ensures dead { IsCkpt dev → (pick dev self.new.pair.first self.new.pair.second).alive ≡ false }
+        ensures dead { IsCkpt dev → (half_on dev self.new).alive ≡ false }
         ensures volume { (n : ℕ) → dev ≡ Spool n → self.new.pair ≡ self.old.pair }
-        ensures copy { (pick dev self.new.pair.first self.new.pair.second).copy
-            ≡ (pick dev self.old.pair.first self.old.pair.second).copy }
-        ensures other { other dev self.new.pair.first self.new.pair.second
-            ≡ other dev self.old.pair.first self.old.pair.second }
+        ensures copy { (half_on dev self.new).copy ≡ (half_on dev self.old).copy }
+        ensures other { half_beside dev self.new ≡ half_beside dev self.old }
         ensures loses { Loses (Disk dev) (P.view self.old.plant) (P.view self.new.plant) }
         ensures there { P.tells → (n : ℕ) → dev ≡ Spool n
             → LosesThere (Spool n) (P.view self.old.plant) (P.view self.new.plant) }
@@ -124,8 +120,7 @@ impl<P: Plant + Drop, C: Steady + Drop> Complex<P, C> {
             → C.reads (disk_now (P.view self.new.plant) Ckpt1).bytes ≡ Some (bytes_of pages.now)) }
         ensures still2 { OnOk result (P.tells → self.new.pair.second.alive ≡ true
             → C.reads (disk_now (P.view self.new.plant) Ckpt2).bytes ≡ Some (bytes_of pages.now)) }
-        ensures acted { PairActed by.0 self.old.pair.first.alive self.new.pair.first.alive self.old.pair.second.alive
-            self.new.pair.second.alive (pair_stopped result) (P.view self.old.plant) (P.view self.new.plant) }
+        ensures acted { ActedOn by.0 (pair_stopped result) (pair_of self.old) (pair_of self.new) }
         ensures apart { P.tells → OnCopies (P.view self.old.plant) (P.view self.new.plant) }
         ensures throughout { P.tells → OnlyOnCopies (P.view self.old.plant) (P.view self.new.plant) }
         ensures papers { P.tells → SamePapers (P.view self.old.plant) (P.view self.new.plant) }
@@ -171,11 +166,8 @@ impl<P: Plant + Drop, C: Steady + Drop> Complex<P, C> {
             → (self.new.pair.first.alive ≡ false
             → C.rests self.old.pair.second.copy was (disk_now (P.view self.old.plant) Ckpt2))
             → into.new.0 ≡ page_in page was) }
-        ensures acted { PairActed by.0 self.old.pair.first.alive self.new.pair.first.alive self.old.pair.second.alive
-            self.new.pair.second.alive (pair_stopped result) (P.view self.old.plant) (P.view self.new.plant) }
-        ensures acts { (P.view self.new.plant).now ≡ after_acts (read_acts self.old.pair.first.alive
-            self.new.pair.first.alive self.old.pair.second.alive self.new.pair.second.alive)
-            (P.view self.old.plant).now }
+        ensures acted { ActedOn by.0 (pair_stopped result) (pair_of self.old) (pair_of self.new) }
+        ensures acts { TookReadActs (pair_of self.old) (pair_of self.new) }
         ensures apart { P.tells → OnCopies (P.view self.old.plant) (P.view self.new.plant) }
         ensures throughout { P.tells → OnlyOnCopies (P.view self.old.plant) (P.view self.new.plant) }
         ensures papers { P.tells → SamePapers (P.view self.old.plant) (P.view self.new.plant) }
@@ -192,10 +184,8 @@ impl<P: Plant + Drop, C: Steady + Drop> Complex<P, C> {
     /// isn't above that of noted ones is as it was then.
     pub fn kept_pages(&self)
         ensures noted { P.tells → ∥ HavePasts (page_count self.now.base.config) (values_of self.now.had)
-            (λ d. sight_of C.reads C.behind (pick d self.now.pair.first self.now.pair.second)
-            (pick d self.now.first self.now.second) d (P.view self.now.plant)) ∥₁ }
-        ensures kept { P.tells → ∥ HaveKept (run self.now.base (kept_all self.now.journal.batches)) self.now.level
-            (λ d. copy_of C.rests C.holds (pick d self.now.pair.first self.now.pair.second)
-            (pick d self.now.first self.now.second)) (P.view self.now.plant) ∥₁ }
+            (λ d. sight_of C.reads C.behind (half_on d self.now) (place_on d self.now) d (P.view self.now.plant)) ∥₁ }
+        ensures kept { P.tells → ∥ HaveKept (kept_queue self.now) self.now.level (λ d. copy_of C.rests C.holds
+            (half_on d self.now) (place_on d self.now)) (P.view self.now.plant) ∥₁ }
     {}
 }

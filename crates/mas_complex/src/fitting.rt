@@ -1,6 +1,6 @@
 //! Whether the pages of two copies fit each other.
 ghost use Rattle.mas_complex.specs.Names.{pages_most};
-ghost use Rattle.std.specs.Prelude.{◌≡◌, ◌+◌, ◌≤◌, ◌<◌, ◌++◌, [], ◌∷◌, if◌then◌else◌, length, take, get_or};
+ghost use Rattle.std.specs.Prelude.{◌≡◌, ◌+◌, ◌≤◌, ◌<◌, ◌++◌, [], ◌∷◌, if◌then◌else◌, length, take};
 ghost use Rattle.mas_complex.specs.Fits.{are_same, differ_at, first_page, found_numbers, fits as fits_spec};
 
 use ckpt_tables::level_of;

@@ -26,7 +26,7 @@ fn entries_kept(batches: &[BriefBatch]) -> u64
 }
 
 // The first of the entries is this member's.
-#[tactic(auto, using(crate::proofs::Briefs::first_is, crate::proofs::Briefs::first_none))]
+#[tactic(auto, using(crate::proofs::Batches::first_is, crate::proofs::Batches::first_none))]
 fn is_of(entries: &BriefEntries, by: MemberId) -> bool
     ensures { result ≡ is_of_member by entries.now }
 {

@@ -1,6 +1,6 @@
 //! The pages that a member has, noted for clauses alone.
 ghost use Rattle.mas_complex.specs.Names.{Ckpt1, Ckpt2, members_most, disk_now, bytes_of, Before as AtBefore};
-ghost use Rattle.std.specs.Prelude.{◌≡◌, ◌+◌, ◌<◌, ℕ, Some, true, slice_set, length};
+ghost use Rattle.std.specs.Prelude.{◌≡◌, ◌+◌, ◌<◌, Some, true, slice_set, length};
 ghost use Rattle.mas_complex.specs.Parts.{parts_of};
 ghost use Rattle.mas_complex.specs.Past.{HasNoted, nobody_noted, values_of};
 

@@ -1,6 +1,6 @@
 //! How far a batch has come on a copy.
 ghost use Rattle.mas_complex.specs.Names.{IsCkpt, other, pick};
-ghost use Rattle.std.specs.Prelude.{◌≡◌, true};
+ghost use Rattle.std.specs.Prelude.{◌≡◌};
 ghost use Rattle.mas_complex.specs.Places.{IsPlaceAfter, IsAtLevel};
 ghost use Rattle.mas_complex.specs.Seen.{IsPlaceSeen};
 

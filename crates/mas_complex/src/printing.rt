@@ -2,7 +2,7 @@
 ghost use Rattle.mas_complex.specs.Names.{members_most, printer_lines_most, IsSound, IsMember, is_stopped, Acts, Prints, Done as ActDone, Printer, MayPrint, AreLinesOn};
 ghost use Rattle.std.specs.Prelude.{◌≡◌, ◌+◌, ◌≤◌, ◌<◌, false, length};
 ghost use Rattle.mas_complex.specs.Journals.{entries_in, kept_all};
-ghost use Rattle.mas_complex.specs.Locking.{IsOfOther, IsUp};
+ghost use Rattle.mas_complex.specs.Locking.{IsOfOther};
 ghost use Rattle.mas_complex.specs.Paper.{AreGivenIn, IsOnPaper, book_by, counts_of, printed_by, reserved_by};
 ghost use Rattle.mas_complex.specs.Parts.{parts_of};
 

@@ -1,19 +1,19 @@
 //! What became of a batch in flight is found on the copies.
-ghost use Rattle.mas_complex.specs.Names.{Dev, Ckpt1, Ckpt2, IsConfig, page_bytes, pages_most, piece, page_count, disk_now, Goes, Rose, Disk, bytes_of, level, Halted as PairNoHalted, BothLost as PairNoBothLost, IsCkpt, pick, other, Acted, IsBothLost, SomeAlive, pair_stopped, Before as AtBefore, Opened as AtOpened};
-ghost use Rattle.std.specs.Prelude.{◌≡◌, ◌≢◌, ◌⊎◌, ◌+◌, ◌*◌, ◌≤◌, ◌<◌, ◌++◌, [], ◌∷◌, ℕ, List, Option, Some, None, length, true, false, OnOk, OnErr, IfOk, IfSome, IsErrOf, IsSome};
+ghost use Rattle.mas_complex.specs.Names.{Dev, Ckpt1, Ckpt2, IsConfig, page_bytes, pages_most, piece, page_count, disk_now, Rose, Disk, bytes_of, level, Halted as PairNoHalted, BothLost as PairNoBothLost, IsCkpt, other, Acted, IsBothLost, SomeAlive, pair_stopped, Before as AtBefore, Opened as AtOpened};
+ghost use Rattle.std.specs.Prelude.{◌≡◌, ◌≢◌, ◌⊎◌, ◌+◌, ◌*◌, ◌≤◌, ◌<◌, ℕ, List, Option, Some, None, length, true, false, OnOk, OnErr, IfOk, IfSome, IsErrOf, IsSome};
 ghost use Rattle.std.specs.Int.{from_be_bytes, w64};
 ghost use Rattle.mas_complex.specs.declared.recover.RecoverNo.TheVariants.{BothLost as RecoverNoBothLost, Halted as RecoverNoHalted};
-ghost use Rattle.mas_complex.specs.CallCounts.{KeepsCounts, pair_state};
-ghost use Rattle.mas_complex.specs.Elsewhere.{OnCopies};
+ghost use Rattle.mas_complex.specs.CallCounts.{pair_of};
+ghost use Rattle.mas_complex.specs.Elsewhere.{OnCopies, OnPair};
 ghost use Rattle.mas_complex.specs.Crash.{next_order, order_first, orders_most};
-ghost use Rattle.mas_complex.specs.Journals.{kept_all};
 ghost use Rattle.mas_complex.specs.Meaning.{StandFor, run};
-ghost use Rattle.mas_complex.specs.Parts.{parts_of, with_copies, with_copy, with_half, with_pair};
+ghost use Rattle.mas_complex.specs.Parts.{half_beside, half_on, parts_of, place_beside, place_on, with_copies, with_copy, with_half, with_pair};
 ghost use Rattle.mas_complex.specs.Places.{IsAtLevel};
 ghost use Rattle.mas_complex.specs.Seen.{IsOneSeen, ReadsSeen, looked, sought, Stays, HasFound, Chosen, DiffersAtFound, IsGreater, IsPicked, IsNextOr, IsFatedBy, IsUnfit, WasUnfit};
 ghost use Rattle.mas_complex.specs.Recovers.{recover_no, recover_no_seen, recover_stopped};
 ghost use Rattle.mas_complex.specs.Fits.{can_stay};
 ghost use Rattle.mas_complex.specs.Locking.{MayAct, IsOfOther};
+ghost use Rattle.mas_complex.specs.Begins.{kept_queue};
 
 use crate::complex::Complex;
 use crate::fitting::{NUMBERS, fits, list_found};
@@ -85,7 +85,7 @@ fn pages_order(pages: &[Page]) -> u64
 
 // A copy with these pages, which isn't lost, stays beside those found: it has them, or is one batch behind and has
 // room.
-#[tactic(auto, using(crate::proofs::Fitted::fits_many))]
+#[tactic(auto, using(crate::proofs::Found::fits_many))]
 fn may_stay(place: Place, room: u8, found: &[Page], other: &[Page]) -> bool
     requires few { length found.now ≤ pages_most }
     ensures stays { result ≡ true → Stays place room found.now other.now }
@@ -100,25 +100,19 @@ fn may_stay(place: Place, room: u8, found: &[Page], other: &[Page]) -> bool
 }
 
 impl<P: Plant + Drop, C: Steady + Drop> Complex<P, C> {
+    #[tactic(auto, using(crate::proofs::Counted::pair_none))]
     fn lose_unless(&mut self, dev: Dev, stays: bool)
         requires ckpt { IsCkpt dev }
-        requires alive { (pick dev self.old.pair.first self.old.pair.second).alive ≡ true }
+        requires alive { (half_on dev self.old).alive ≡ true }
         ensures frame { parts_of self.new ≡ with_half dev (parts_of self.new) (parts_of self.old) }
-        ensures other { other dev self.new.pair.first self.new.pair.second
-            ≡ other dev self.old.pair.first self.old.pair.second }
-        ensures lost { stays ≡ false → (pick dev self.new.pair.first self.new.pair.second).alive ≡ false }
-        ensures stays { stays ≡ true → pick dev self.new.pair.first self.new.pair.second
-            ≡ pick dev self.old.pair.first self.old.pair.second }
-        ensures copy { (pick dev self.new.pair.first self.new.pair.second).copy
-            ≡ (pick dev self.old.pair.first self.old.pair.second).copy }
-        ensures only { (pick dev self.old.pair.first self.old.pair.second).alive ≡ true
-            → (pick dev self.new.pair.first self.new.pair.second).alive ≡ false → stays ≡ false }
-        ensures goes { Goes (P.view self.old.plant) (P.view self.new.plant) }
-        ensures counts { (by : ℕ) → KeepsCounts by false (pair_state P.view (parts_of self.old))
-            (pair_state P.view (parts_of self.new)) }
+        ensures other { half_beside dev self.new ≡ half_beside dev self.old }
+        ensures lost { stays ≡ false → (half_on dev self.new).alive ≡ false }
+        ensures stays { stays ≡ true → half_on dev self.new ≡ half_on dev self.old }
+        ensures copy { (half_on dev self.new).copy ≡ (half_on dev self.old).copy }
+        ensures only { (half_on dev self.old).alive ≡ true → (half_on dev self.new).alive ≡ false → stays ≡ false }
+        ensures leaves { (by : ℕ) → OnPair P.tells by false (pair_of self.old) (pair_of self.new) }
         ensures bytes { P.tells → (d : Dev)
             → (disk_now (P.view self.new.plant) d).bytes ≡ (disk_now (P.view self.old.plant) d).bytes }
-        ensures apart { P.tells → OnCopies (P.view self.old.plant) (P.view self.new.plant) }
     {
         if !stays {
             self.lose(dev);
@@ -134,10 +128,7 @@ impl<P: Plant + Drop, C: Steady + Drop> Complex<P, C> {
         requires reads1 { P.tells → ReadsSeen C.reads (disk_now (P.view self.old.plant) Ckpt1).bytes (Some first) }
         requires reads2 { P.tells → ReadsSeen C.reads (disk_now (P.view self.old.plant) Ckpt2).bytes (Some second) }
         ensures frame { parts_of self.new ≡ with_pair (parts_of self.new) (parts_of self.old) }
-        ensures goes { Goes (P.view self.old.plant) (P.view self.new.plant) }
-        ensures apart { P.tells → OnCopies (P.view self.old.plant) (P.view self.new.plant) }
-        ensures counts { (by : ℕ) → KeepsCounts by false (pair_state P.view (parts_of self.old))
-            (pair_state P.view (parts_of self.new)) }
+        ensures leaves { (by : ℕ) → OnPair P.tells by false (pair_of self.old) (pair_of self.new) }
         ensures chosen { Chosen P.tells (sought C.reads (parts_of self.old))
             (looked C.count C.room self.new.pair.first self.new.first)
             (looked C.count C.room self.new.pair.second self.new.second) (P.view self.new.plant) result }
@@ -173,6 +164,7 @@ impl<P: Plant + Drop, C: Steady + Drop> Complex<P, C> {
     }
 
     // The pages found where a copy has some.
+    #[tactic(auto, using(crate::proofs::Counted::pair_none))]
     fn choose_any(
         &mut self,
         first: Option<List<Page>>,
@@ -185,10 +177,7 @@ impl<P: Plant + Drop, C: Steady + Drop> Complex<P, C> {
         requires reads1 { P.tells → ReadsSeen C.reads (disk_now (P.view self.old.plant) Ckpt1).bytes first }
         requires reads2 { P.tells → ReadsSeen C.reads (disk_now (P.view self.old.plant) Ckpt2).bytes second }
         ensures frame { parts_of self.new ≡ with_pair (parts_of self.new) (parts_of self.old) }
-        ensures goes { Goes (P.view self.old.plant) (P.view self.new.plant) }
-        ensures apart { P.tells → OnCopies (P.view self.old.plant) (P.view self.new.plant) }
-        ensures counts { (by : ℕ) → KeepsCounts by false (pair_state P.view (parts_of self.old))
-            (pair_state P.view (parts_of self.new)) }
+        ensures leaves { (by : ℕ) → OnPair P.tells by false (pair_of self.old) (pair_of self.new) }
         ensures none { result ≡ None → IsBothLost self.new.pair.first.alive self.new.pair.second.alive }
         ensures neither { result ≡ None → (first ≡ None) × (second ≡ None) }
         ensures greater { IfSome result (IsGreater first second) }
@@ -217,31 +206,27 @@ impl<P: Plant + Drop, C: Steady + Drop> Complex<P, C> {
     // One copy, which is one batch behind these pages, gets those of them that have the level found.
     fn bring_copy(&mut self, by: MemberId, dev: Dev, found: &[Page]) -> Result<(), PairNo>
         requires ckpt { IsCkpt dev }
-        requires alive { (pick dev self.old.pair.first self.old.pair.second).alive ≡ true }
-        requires beside { (other dev self.old.pair.first self.old.pair.second).alive ≡ true }
-        requires place { pick dev self.old.first self.old.second ≡ AtBefore }
-        requires room { 1 ≤ C.room (pick dev self.old.pair.first self.old.pair.second).copy }
-        requires as_many { length found.now ≡ C.count (pick dev self.old.pair.first self.old.pair.second).copy }
+        requires alive { (half_on dev self.old).alive ≡ true }
+        requires beside { (half_beside dev self.old).alive ≡ true }
+        requires place { place_on dev self.old ≡ AtBefore }
+        requires room { 1 ≤ C.room (half_on dev self.old).copy }
+        requires as_many { length found.now ≡ C.count (half_on dev self.old).copy }
         requires some { 1 ≤ length found.now }
         requires few { length found.now ≤ pages_most }
         requires next { P.tells → IsNextOr (sought C.reads (parts_of self.old)) found.now }
         requires level { level (bytes_of found.now) ≡ self.old.level + 1 }
         requires differs { P.tells → (was : List ℕ) → C.reads (disk_now (P.view self.old.plant) dev).bytes ≡ Some was
             → DiffersAtFound was found.now }
-        requires same { P.tells → (other dev self.old.pair.first self.old.pair.second).alive ≡ true
-            → (other dev self.old.first self.old.second ≡ AtOpened)
+        requires same { P.tells → (half_beside dev self.old).alive ≡ true → (place_beside dev self.old ≡ AtOpened)
             × (C.reads (disk_now (P.view self.old.plant) (other dev Ckpt1 Ckpt2)).bytes ≡ Some (bytes_of found.now)) }
         ensures frame { parts_of self.new ≡ with_copy dev (parts_of self.new) (parts_of self.old) }
-        ensures acted { Acted by.0 dev (pick dev self.old.pair.first self.old.pair.second).alive
-            (pick dev self.new.pair.first self.new.pair.second).alive (pair_stopped result) (P.view self.old.plant)
-            (P.view self.new.plant) }
-        ensures other_place { other dev self.new.first self.new.second ≡ other dev self.old.first self.old.second }
-        ensures other { other dev self.new.pair.first self.new.pair.second
-            ≡ other dev self.old.pair.first self.old.pair.second }
-        ensures count { C.count (pick dev self.new.pair.first self.new.pair.second).copy
-            ≡ C.count (pick dev self.old.pair.first self.old.pair.second).copy }
-        ensures place { OnOk result (pick dev self.new.first self.new.second ≡ AtOpened) }
-        ensures reads { OnOk result (P.tells → (pick dev self.new.pair.first self.new.pair.second).alive ≡ true
+        ensures acted { Acted by.0 dev (half_on dev self.old).alive (half_on dev self.new).alive (pair_stopped result)
+            (P.view self.old.plant) (P.view self.new.plant) }
+        ensures other_place { place_beside dev self.new ≡ place_beside dev self.old }
+        ensures other { half_beside dev self.new ≡ half_beside dev self.old }
+        ensures count { C.count (half_on dev self.new).copy ≡ C.count (half_on dev self.old).copy }
+        ensures place { OnOk result (place_on dev self.new ≡ AtOpened) }
+        ensures reads { OnOk result (P.tells → (half_on dev self.new).alive ≡ true
             → C.reads (disk_now (P.view self.new.plant) dev).bytes ≡ Some (bytes_of found.now)) }
         ensures others { P.tells → (d : Dev) → d ≢ dev
             → (disk_now (P.view self.new.plant) d).bytes ≡ (disk_now (P.view self.old.plant) d).bytes }
@@ -256,15 +241,13 @@ impl<P: Plant + Drop, C: Steady + Drop> Complex<P, C> {
     }
 
     // Each copy that counts as alive gets the pages found.
+    #[tactic(auto, using(crate::proofs::Counted::pair_none))]
     fn bring(&mut self, by: MemberId, found: &[Page]) -> Result<(), PairNo>
         requires chosen { Chosen P.tells (sought C.reads (parts_of self.old))
             (looked C.count C.room self.old.pair.first self.old.first)
             (looked C.count C.room self.old.pair.second self.old.second) (P.view self.old.plant) found.now }
         ensures frame { parts_of self.new ≡ with_copies (parts_of self.new) (parts_of self.old) }
-        ensures goes { Goes (P.view self.old.plant) (P.view self.new.plant) }
-        ensures apart { P.tells → OnCopies (P.view self.old.plant) (P.view self.new.plant) }
-        ensures counts { KeepsCounts by.0 (pair_stopped result) (pair_state P.view (parts_of self.old))
-            (pair_state P.view (parts_of self.new)) }
+        ensures leaves { OnPair P.tells by.0 (pair_stopped result) (pair_of self.old) (pair_of self.new) }
         ensures halted { IsErrOf result PairNoHalted
             → Rose ((P.view self.old.plant).stops by.0) ((P.view self.new.plant).stops by.0) }
         ensures both { IsErrOf result PairNoBothLost → IsBothLost self.new.pair.first.alive self.new.pair.second.alive }
@@ -367,10 +350,7 @@ impl<P: Plant + Drop, C: Steady + Drop> Complex<P, C> {
         ensures printed { self.new.printed ≡ self.old.printed }
         ensures book { self.new.book ≡ self.old.book }
         ensures reserved { self.new.reserved ≡ None }
-        ensures goes { Goes (P.view self.old.plant) (P.view self.new.plant) }
-        ensures apart { P.tells → OnCopies (P.view self.old.plant) (P.view self.new.plant) }
-        ensures counts { KeepsCounts by.0 (recover_stopped result) (pair_state P.view (parts_of self.old))
-            (pair_state P.view (parts_of self.new)) }
+        ensures leaves { OnPair P.tells by.0 (recover_stopped result) (pair_of self.old) (pair_of self.new) }
         ensures halted { IsErrOf result RecoverNoHalted
             → Rose ((P.view self.old.plant).stops by.0) ((P.view self.new.plant).stops by.0) }
         ensures both { IsErrOf result RecoverNoBothLost
@@ -395,15 +375,13 @@ impl<P: Plant + Drop, C: Steady + Drop> Complex<P, C> {
             → C.reads (disk_now (P.view self.new.plant) Ckpt1).bytes ≡ Some (bytes_of found)) }
         ensures reads2 { IfOk result (λ found. P.tells → self.new.pair.second.alive ≡ true
             → C.reads (disk_now (P.view self.new.plant) Ckpt2).bytes ≡ Some (bytes_of found)) }
-        ensures stands { IfOk result (λ found. P.tells
-            → ∥ StandFor (run self.new.base (kept_all self.new.journal.batches)) (bytes_of found) ∥₁) }
+        ensures stands { IfOk result (λ found. P.tells → ∥ StandFor (kept_queue self.new) (bytes_of found) ∥₁) }
         ensures many { IfOk result (λ found. length found ≡ page_count self.old.base.config) }
         ensures near { IfOk result (λ found. level (bytes_of found) ≤ self.old.level + 1) }
         ensures low { IfOk result (λ found. next_order (bytes_of found)
             ≤ order_first + orders_most * length self.new.journal.batches) }
         ensures picked { IfOk result (λ found. P.tells
-            → IsPicked C.reads (pair_state P.view (parts_of self.old))
-            (pair_state P.view (parts_of self.new)) found) }
+            → IsPicked C.reads (pair_of self.old) (pair_of self.new) found) }
         ensures left1 { IfOk result (λ found. P.tells → self.old.pair.first.alive ≡ true
             → self.new.pair.first.alive ≡ false
             → Rose ((P.view self.old.plant).faults (Disk Ckpt1)) ((P.view self.new.plant).faults (Disk Ckpt1))
@@ -414,12 +392,9 @@ impl<P: Plant + Drop, C: Steady + Drop> Complex<P, C> {
             → Rose ((P.view self.old.plant).faults (Disk Ckpt2)) ((P.view self.new.plant).faults (Disk Ckpt2))
             ⊎ WasUnfit C.reads (disk_now (P.view self.old.plant) Ckpt2).bytes self.old.level
             (C.room_in (disk_now (P.view self.old.plant) Ckpt2).bytes) found) }
-        ensures both_failed1 { OnErr result (IsBothLost self.new.pair.first.alive self.new.pair.second.alive
-            → P.tells → self.old.pair.first.alive ≡ true
-            → Rose ((P.view self.old.plant).faults (Disk Ckpt1)) ((P.view self.new.plant).faults (Disk Ckpt1))) }
-        ensures both_failed2 { OnErr result (IsBothLost self.new.pair.first.alive self.new.pair.second.alive
-            → P.tells → self.old.pair.second.alive ≡ true
-            → Rose ((P.view self.old.plant).faults (Disk Ckpt2)) ((P.view self.new.plant).faults (Disk Ckpt2))) }
+        ensures both_failed { OnErr result (IsBothLost self.new.pair.first.alive self.new.pair.second.alive
+            → P.tells → (d : Dev) → IsCkpt d → (half_on d self.old).alive ≡ true
+            → Rose ((P.view self.old.plant).faults (Disk d)) ((P.view self.new.plant).faults (Disk d))) }
         ensures frame { OnOk result (parts_of self.new ≡ record (with_copies (parts_of self.new) (parts_of self.old)) {
           batches = self.new.journal.batches;
           current = None;

@@ -3,7 +3,7 @@ ghost use Rattle.mas_complex.specs.Names.{Ckpt1, Ckpt2, pages_least, pages_most,
 ghost use Rattle.std.specs.Prelude.{◌≡◌, ◌⊎◌, ◌≤◌, ◌<◌, ◌&&◌, not, Some, None, length, true, false, OnOk, OnErr, IsErrOf};
 ghost use Rattle.mas_complex.specs.Elsewhere.{Elsewhere};
 ghost use Rattle.mas_complex.specs.Locking.{MayAct};
-ghost use Rattle.mas_complex.specs.Parts.{parts_of, replaced_in, with_half};
+ghost use Rattle.mas_complex.specs.Parts.{half_beside, half_on, parts_of, place_beside, replaced_in, with_half};
 ghost use Rattle.mas_complex.specs.Renewals.{begun_on, ended_on, is_open, of_device};
 
 use crate::complex::Complex;
@@ -26,7 +26,7 @@ impl<P: Plant + Drop, C: Steady + Drop> Complex<P, C> {
     // From now on the copy on a device, which counts as lost, is being replaced.
     fn begin_renewal(&mut self, dev: Dev) -> Result<(), NoMemory>
         requires ckpt { IsCkpt dev }
-        requires dead { (pick dev self.old.pair.first self.old.pair.second).alive ≡ false }
+        requires dead { (half_on dev self.old).alive ≡ false }
         ensures pair { self.new.pair ≡ self.old.pair }
         ensures ok { OnOk result (parts_of self.new ≡ record (parts_of self.old)
             { renewals = begun_on dev (P.view self.old.plant).now self.old.renewals }) }
@@ -41,11 +41,11 @@ impl<P: Plant + Drop, C: Steady + Drop> Complex<P, C> {
     // copy reads, which is as before any batch.
     fn renew_copy(&mut self, by: MemberId, dev: Dev, pages: &[Page]) -> Result<(), ReplaceNo>
         requires ckpt { IsCkpt dev }
-        requires dead { (pick dev self.old.pair.first self.old.pair.second).alive ≡ false }
+        requires dead { (half_on dev self.old).alive ≡ false }
         requires most { (P.view self.old.plant).now ≤ top }
         requires began { (P.view self.old.plant).now < top → is_open (of_device dev self.old.renewals) ≡ true }
-        requires beside { (other dev self.old.pair.first self.old.pair.second).alive ≡ true }
-        requires place { other dev self.old.first self.old.second ≡ AtBefore }
+        requires beside { (half_beside dev self.old).alive ≡ true }
+        requires place { place_beside dev self.old ≡ AtBefore }
         requires enough { pages_least ≤ length pages.now }
         requires few { length pages.now ≤ pages_most }
         requires size { C.needs (length pages.now) ≤ (P.view self.old.plant).size dev }
@@ -57,16 +57,15 @@ impl<P: Plant + Drop, C: Steady + Drop> Complex<P, C> {
           renewals = ended_on dev (P.view self.new.plant).now self.old.renewals;
         }) }
         ensures err { OnErr result (parts_of self.new ≡ record (parts_of self.old) { plant = self.new.plant }) }
-        ensures other { other dev self.new.pair.first self.new.pair.second
-            ≡ other dev self.old.pair.first self.old.pair.second }
+        ensures other { half_beside dev self.new ≡ half_beside dev self.old }
         ensures acted { OnErr result (IsErrOf result Failed ⊎ IsErrOf result Halted) }
         ensures replaces { Replaces by.0 dev (replace_stopped result) (P.view self.old.plant) (P.view self.new.plant) }
         ensures failed { IsErrOf result Failed
             → Rose ((P.view self.old.plant).faults (Disk dev)) ((P.view self.new.plant).faults (Disk dev)) }
         ensures lost { IsErrOf result Failed → (P.view self.new.plant).lost (Disk dev) ≡ true }
-        ensures formed { OnOk result (((pick dev self.new.pair.first self.new.pair.second).alive ≡ true)
+        ensures formed { OnOk result (((half_on dev self.new).alive ≡ true)
             × IsFormed C.count C.room C.room_most C.ready (length pages.now) dev (P.view self.new.plant)
-            (pick dev self.new.pair.first self.new.pair.second).copy) }
+            (half_on dev self.new).copy) }
         ensures reads { OnOk result (P.tells
             → C.reads (disk_now (P.view self.new.plant) dev).bytes ≡ Some (bytes_of pages.now)) }
         ensures elsewhere { P.tells → Elsewhere dev (P.view self.old.plant) (P.view self.new.plant) }
@@ -88,32 +87,31 @@ impl<P: Plant + Drop, C: Steady + Drop> Complex<P, C> {
     /// NotLost comes exactly where the copy counts as alive, and BothLost exactly where neither does; NoMemory before
     /// the first act. Nothing is changed then. Failed comes only where the device's faults rose, and it is lost then;
     /// Halted only where the member was stopped in it.
+    #[tactic(auto, using(crate::proofs::Renewing::replaces_none, crate::proofs::Renewing::elsewhere_none))]
     pub fn replace(&mut self, by: MemberId, dev: Dev, pages: &[Page]) -> Result<(), ReplaceNo>
         requires may { MayAct self.old.book by }
         requires ckpt { IsCkpt dev }
         requires none { self.old.current ≡ None }
-        requires place { (other dev self.old.pair.first self.old.pair.second).alive ≡ true
-            → other dev self.old.first self.old.second ≡ AtBefore }
-        requires as_many { (other dev self.old.pair.first self.old.pair.second).alive ≡ true
-            → length pages.now ≡ C.count (other dev self.old.pair.first self.old.pair.second).copy }
+        requires place { (half_beside dev self.old).alive ≡ true → place_beside dev self.old ≡ AtBefore }
+        requires as_many { (half_beside dev self.old).alive ≡ true
+            → length pages.now ≡ C.count (half_beside dev self.old).copy }
         requires size { C.needs (length pages.now) ≤ (P.view self.old.plant).size dev }
-        requires reads { P.tells → (other dev self.old.pair.first self.old.pair.second).alive ≡ true
-            → C.reads (disk_now (P.view self.old.plant) (other dev Ckpt1 Ckpt2)).bytes ≡ Some (bytes_of pages.now) }
+        requires reads { P.tells → (half_beside dev self.old).alive ≡ true → C.reads (disk_now (P.view self.old.plant)
+            (other dev Ckpt1 Ckpt2)).bytes ≡ Some (bytes_of pages.now) }
         ensures frame { parts_of self.new ≡ replaced_in result dev (P.view self.old.plant).now
             (P.view self.new.plant).now (parts_of self.new) (parts_of self.old) }
-        ensures other { other dev self.new.pair.first self.new.pair.second
-            ≡ other dev self.old.pair.first self.old.pair.second }
-        ensures alive { (pick dev self.old.pair.first self.old.pair.second).alive ≡ true → IsErrOf result NotLost }
-        ensures not_lost { IsErrOf result NotLost → (pick dev self.old.pair.first self.old.pair.second).alive ≡ true }
+        ensures other { half_beside dev self.new ≡ half_beside dev self.old }
+        ensures alive { (half_on dev self.old).alive ≡ true → IsErrOf result NotLost }
+        ensures not_lost { IsErrOf result NotLost → (half_on dev self.old).alive ≡ true }
         ensures dead { IsBothLost self.old.pair.first.alive self.old.pair.second.alive → IsErrOf result BothLost }
         ensures both { IsErrOf result BothLost → IsBothLost self.old.pair.first.alive self.old.pair.second.alive }
         ensures replaces { Replaces by.0 dev (replace_stopped result) (P.view self.old.plant) (P.view self.new.plant) }
         ensures failed { IsErrOf result Failed
             → Rose ((P.view self.old.plant).faults (Disk dev)) ((P.view self.new.plant).faults (Disk dev)) }
         ensures lost { IsErrOf result Failed → (P.view self.new.plant).lost (Disk dev) ≡ true }
-        ensures formed { OnOk result (((pick dev self.new.pair.first self.new.pair.second).alive ≡ true)
+        ensures formed { OnOk result (((half_on dev self.new).alive ≡ true)
             × IsFormed C.count C.room C.room_most C.ready (length pages.now) dev (P.view self.new.plant)
-            (pick dev self.new.pair.first self.new.pair.second).copy) }
+            (half_on dev self.new).copy) }
         ensures reads { OnOk result (P.tells
             → C.reads (disk_now (P.view self.new.plant) dev).bytes ≡ Some (bytes_of pages.now)) }
         ensures elsewhere { P.tells → Elsewhere dev (P.view self.old.plant) (P.view self.new.plant) }

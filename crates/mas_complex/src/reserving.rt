@@ -2,13 +2,10 @@
 ghost use Rattle.mas_complex.specs.Names.{Batch, Entry, Kept as FateKept, AreToldAlike, Before as AtBefore};
 ghost use Rattle.std.specs.Prelude.{◌≡◌, ◌≤◌, ◌^◌, ◌++◌, [], ◌∷◌, List, Some, None, length, true, false, OnOk, OnErr, IsSome, All};
 ghost use Rattle.mas_complex.specs.Journals.{kept_all, entries_reserved, begun, fated, IsPlace, with_last, without_last};
-ghost use Rattle.mas_complex.specs.Meaning.{run};
-ghost use Rattle.mas_complex.specs.Crash.{setting, IsUntold};
-ghost use Rattle.mas_complex.specs.Texts.{HasTexts, spools_at, lost_now};
-ghost use Rattle.mas_complex.specs.Replies.{HaveReplies};
 ghost use Rattle.mas_complex.specs.Locking.{MayAct};
-ghost use Rattle.mas_complex.specs.Paper.{MayBegin, printed_after};
+ghost use Rattle.mas_complex.specs.Paper.{printed_after};
 ghost use Rattle.mas_complex.specs.Parts.{begun_in, kept_same_in, parts_of, placed_at, reserved_in, unreserved_in};
+ghost use Rattle.mas_complex.specs.Begins.{HasRepliesOf, HasTextsWith, IsUntoldOf, MayBeginOf, kept_queue, queue_with};
 
 use crate::complex::Complex;
 use crate::counts::count_anew;
@@ -114,18 +111,13 @@ impl<P: Plant + Drop, C: Steady + Drop> Complex<P, C> {
     fn begin(&mut self, by: MemberId)
         requires may { MayAct self.old.book by }
         requires none { self.old.current ≡ None }
-        requires replied { P.tells → ∥ HaveReplies (run self.old.base (kept_all self.old.journal.batches))
-            (entries_reserved self.old.reserved) ∥₁ }
+        requires replied { P.tells → HasRepliesOf self.old (entries_reserved self.old.reserved) }
         requires own { All (λ e. e.by ≡ by) (entries_reserved self.old.reserved) }
-        requires allowed { P.tells → MayBegin self.old.base self.old.journal.batches self.old.printed
-            (entries_reserved self.old.reserved) }
+        requires allowed { P.tells → MayBeginOf self.old (entries_reserved self.old.reserved) }
         requires first { self.old.pair.first.alive ≡ true → self.old.first ≡ AtBefore }
         requires second { self.old.pair.second.alive ≡ true → self.old.second ≡ AtBefore }
-        requires untold { P.tells → IsUntold (setting C.reads self.old.base self.old.since) (P.view self.old.plant)
-            (entries_reserved self.old.reserved) }
-        requires texts { P.tells → ∥ HasTexts (lost_now (P.view self.old.plant))
-            (spools_at (P.view self.old.plant) (P.view self.old.plant).now) self.old.base.config.groups
-            (run self.old.base (kept_all self.old.journal.batches ++ entries_reserved self.old.reserved)) ∥₁ }
+        requires untold { P.tells → IsUntoldOf self.old (entries_reserved self.old.reserved) }
+        requires texts { P.tells → HasTextsWith self.old (entries_reserved self.old.reserved) }
         ensures { parts_of self.new ≡ begun_in (P.view self.old.plant).now by (parts_of self.old) }
     {
         let first = self.plant.now();
@@ -147,18 +139,13 @@ impl<P: Plant + Drop, C: Steady + Drop> Complex<P, C> {
         requires first { self.old.current ≡ None → self.old.pair.first.alive ≡ true → self.old.first ≡ AtBefore }
         requires second { self.old.current ≡ None → self.old.pair.second.alive ≡ true → self.old.second ≡ AtBefore }
         requires replied { P.tells → self.old.current ≡ None
-            → ∥ HaveReplies (run self.old.base (kept_all self.old.journal.batches)) (entries_reserved self.old.reserved)
-            ∥₁ }
+            → HasRepliesOf self.old (entries_reserved self.old.reserved) }
         requires own { self.old.current ≡ None → All (λ e. e.by ≡ by) (entries_reserved self.old.reserved) }
         requires allowed { P.tells → self.old.current ≡ None
-            → MayBegin self.old.base self.old.journal.batches self.old.printed (entries_reserved self.old.reserved) }
-        requires untold { P.tells → self.old.current ≡ None
-            → IsUntold (setting C.reads self.old.base self.old.since) (P.view self.old.plant)
+            → MayBeginOf self.old (entries_reserved self.old.reserved) }
+        requires untold { P.tells → self.old.current ≡ None → IsUntoldOf self.old (entries_reserved self.old.reserved) }
+        requires texts { P.tells → self.old.current ≡ None → HasTextsWith self.old
             (entries_reserved self.old.reserved) }
-        requires texts { P.tells → self.old.current ≡ None
-            → ∥ HasTexts (lost_now (P.view self.old.plant))
-            (spools_at (P.view self.old.plant) (P.view self.old.plant).now) self.old.base.config.groups
-            (run self.old.base (kept_all self.old.journal.batches ++ entries_reserved self.old.reserved)) ∥₁ }
         ensures { parts_of self.new ≡ begun_in (P.view self.old.plant).now by (parts_of self.old) }
     {
         if self.current.is_some() {
@@ -175,19 +162,14 @@ impl<P: Plant + Drop, C: Steady + Drop> Complex<P, C> {
         requires own { All (λ e. e.by ≡ by) (entries_reserved self.old.reserved) }
         requires none { self.old.current ≡ None }
         requires reserved { IsSome self.old.reserved }
-        requires replied { P.tells → ∥ HaveReplies (run self.old.base (kept_all self.old.journal.batches))
-            (entries_reserved self.old.reserved) ∥₁ }
-        requires allowed { P.tells → MayBegin self.old.base self.old.journal.batches self.old.printed
-            (entries_reserved self.old.reserved) }
+        requires replied { P.tells → HasRepliesOf self.old (entries_reserved self.old.reserved) }
+        requires allowed { P.tells → MayBeginOf self.old (entries_reserved self.old.reserved) }
         requires first { self.old.pair.first.alive ≡ true → self.old.first ≡ AtBefore }
         requires second { self.old.pair.second.alive ≡ true → self.old.second ≡ AtBefore }
-        requires untold { P.tells → IsUntold (setting C.reads self.old.base self.old.since) (P.view self.old.plant)
-            (entries_reserved self.old.reserved) }
-        requires texts { P.tells → ∥ HasTexts (lost_now (P.view self.old.plant))
-            (spools_at (P.view self.old.plant) (P.view self.old.plant).now) self.old.base.config.groups
-            (run self.old.base (kept_all self.old.journal.batches ++ entries_reserved self.old.reserved)) ∥₁ }
-        requires queue { P.tells → ∥ AreToldAlike (run self.old.base (kept_all self.old.journal.batches))
-            (run self.old.base (kept_all self.old.journal.batches ++ entries_reserved self.old.reserved)) ∥₁ }
+        requires untold { P.tells → IsUntoldOf self.old (entries_reserved self.old.reserved) }
+        requires texts { P.tells → HasTextsWith self.old (entries_reserved self.old.reserved) }
+        requires queue { P.tells → ∥ AreToldAlike (kept_queue self.old) (queue_with self.old
+            (entries_reserved self.old.reserved)) ∥₁ }
         ensures plant { self.new.plant ≡ self.old.plant }
         ensures pair { self.new.pair ≡ self.old.pair }
         ensures base { self.new.base ≡ self.old.base }

@@ -1,12 +1,12 @@
 //! How far a batch in flight has come is seen on each copy.
-ghost use Rattle.mas_complex.specs.Names.{Dev, IsConfig, page_bytes, page_count as page_count_lem, disk_now, Acted, IsCkpt, other, pick, HasRoom, WasSeen, look_stopped, Goes, Rose, Disk, LookHalted as LookNoHalted};
-ghost use Rattle.std.specs.Prelude.{◌≡◌, ◌++◌, All, None, length, true, IfOk, IfSome, IsErrOf, OnErr};
-ghost use Rattle.mas_complex.specs.CallCounts.{KeepsCounts, pair_state};
-ghost use Rattle.mas_complex.specs.Elsewhere.{OnCopies};
-ghost use Rattle.mas_complex.specs.Journals.{kept_all, entries_in};
-ghost use Rattle.mas_complex.specs.Meaning.{run};
-ghost use Rattle.mas_complex.specs.Parts.{parts_of, with_copy};
+ghost use Rattle.mas_complex.specs.Names.{Dev, IsConfig, page_bytes, page_count as page_count_lem, disk_now, Acted, IsCkpt, other, HasRoom, WasSeen, look_stopped, Rose, Disk, LookHalted as LookNoHalted};
+ghost use Rattle.std.specs.Prelude.{◌≡◌, All, None, length, true, IfOk, IfSome, IsErrOf, OnErr};
+ghost use Rattle.mas_complex.specs.CallCounts.{pair_of};
+ghost use Rattle.mas_complex.specs.Elsewhere.{OnCopies, OnPair};
+ghost use Rattle.mas_complex.specs.Journals.{entries_in};
+ghost use Rattle.mas_complex.specs.Parts.{half_beside, half_on, parts_of, place_beside, place_on, with_copy};
 ghost use Rattle.mas_complex.specs.Seen.{IfPages, IsPlaceSeen, HasNext, IsOneSeen, ReadsSeen, looked, sought, usable as usable_lem};
+ghost use Rattle.mas_complex.specs.Begins.{queue_with};
 
 use crate::complex::Complex;
 use crate::places::{place_seen, set_place};
@@ -50,28 +50,21 @@ impl<P: Plant + Drop, C: Steady + Drop> Complex<P, C> {
     // How far the batch in flight has come on the copy of one device, which counts as alive.
     fn look_on(&mut self, alloc: Global, by: MemberId, dev: Dev) -> Result<Look, LookNo>
         requires ckpt { IsCkpt dev }
-        requires alive { (pick dev self.old.pair.first self.old.pair.second).alive ≡ true }
+        requires alive { (half_on dev self.old).alive ≡ true }
         ensures frame { parts_of self.new ≡ with_copy dev (parts_of self.new) (parts_of self.old) }
-        ensures other { other dev self.new.pair.first self.new.pair.second
-            ≡ other dev self.old.pair.first self.old.pair.second }
-        ensures other_place { other dev self.new.first self.new.second ≡ other dev self.old.first self.old.second }
-        ensures acted { Acted by.0 dev (pick dev self.old.pair.first self.old.pair.second).alive
-            (pick dev self.new.pair.first self.new.pair.second).alive (look_stopped result) (P.view self.old.plant)
-            (P.view self.new.plant) }
-        ensures place { IsPlaceSeen result self.old.level (pick dev self.new.first self.new.second) }
-        ensures seen { IfOk result (λ look.
-            WasSeen C.count C.room C.room_most C.ready C.reads C.rests P.tells dev (P.view self.new.plant)
-            (pick dev self.old.pair.first self.old.pair.second).copy
-            (pick dev self.new.pair.first self.new.pair.second).copy
-            (pick dev self.new.pair.first self.new.pair.second).alive look) }
-        ensures next { IfOk result (λ look. P.tells
-            → HasNext (run self.old.base (kept_all self.old.journal.batches ++ entries_in self.old.current))
-            (entries_in self.old.current) self.old.level (pick dev self.new.first self.new.second) look) }
-        ensures room { IfOk result (λ look. P.tells
-            → HasRoom C.room C.room_in (pick dev self.new.pair.first self.new.pair.second).copy look
+        ensures other { half_beside dev self.new ≡ half_beside dev self.old }
+        ensures other_place { place_beside dev self.new ≡ place_beside dev self.old }
+        ensures acted { Acted by.0 dev (half_on dev self.old).alive (half_on dev self.new).alive (look_stopped result)
+            (P.view self.old.plant) (P.view self.new.plant) }
+        ensures place { IsPlaceSeen result self.old.level (place_on dev self.new) }
+        ensures seen { IfOk result (λ look. WasSeen C.count C.room C.room_most C.ready C.reads C.rests P.tells dev
+            (P.view self.new.plant) (half_on dev self.old).copy (half_on dev self.new).copy
+            (half_on dev self.new).alive look) }
+        ensures next { IfOk result (λ look. P.tells → HasNext (queue_with self.old (entries_in self.old.current))
+            (entries_in self.old.current) self.old.level (place_on dev self.new) look) }
+        ensures room { IfOk result (λ look. P.tells → HasRoom C.room C.room_in (half_on dev self.new).copy look
             (disk_now (P.view self.new.plant) dev).bytes) }
-        ensures same { OnErr result (pick dev self.new.pair.first self.new.pair.second
-            ≡ pick dev self.old.pair.first self.old.pair.second) }
+        ensures same { OnErr result (half_on dev self.new ≡ half_on dev self.old) }
         ensures bytes { P.tells → (d : Dev)
             → (disk_now (P.view self.new.plant) d).bytes ≡ (disk_now (P.view self.old.plant) d).bytes }
         ensures apart { P.tells → OnCopies (P.view self.old.plant) (P.view self.new.plant) }
@@ -84,6 +77,7 @@ impl<P: Plant + Drop, C: Steady + Drop> Complex<P, C> {
 
     // The pages of the copy on one device; none of one that counts as lost. One that can't be read, or has other than
     // as many pages as the configuration, is lost.
+    #[tactic(auto, using(crate::proofs::Counted::pair_none))]
     pub(crate) fn see_on(
         &mut self,
         alloc: Global,
@@ -93,35 +87,24 @@ impl<P: Plant + Drop, C: Steady + Drop> Complex<P, C> {
         requires ckpt { IsCkpt dev }
         requires config { IsConfig self.old.base.config }
         ensures frame { parts_of self.new ≡ with_copy dev (parts_of self.new) (parts_of self.old) }
-        ensures other { other dev self.new.pair.first self.new.pair.second
-            ≡ other dev self.old.pair.first self.old.pair.second }
-        ensures goes { Goes (P.view self.old.plant) (P.view self.new.plant) }
+        ensures other { half_beside dev self.new ≡ half_beside dev self.old }
         ensures halted { IsErrOf result LookNoHalted
             → Rose ((P.view self.old.plant).stops by.0) ((P.view self.new.plant).stops by.0) }
-        ensures stands { IsErrOf result LookNoHalted
-            → (pick dev self.new.pair.first self.new.pair.second).alive ≡ true }
-        ensures seen { IfOk result (λ pages.
-            IsOneSeen P.tells (sought C.reads (parts_of self.old))
-            (looked C.count C.room (pick dev self.new.pair.first self.new.pair.second)
-            (pick dev self.new.first self.new.second)) pages) }
+        ensures stands { IsErrOf result LookNoHalted → (half_on dev self.new).alive ≡ true }
+        ensures seen { IfOk result (λ pages. IsOneSeen P.tells (sought C.reads (parts_of self.old))
+            (looked C.count C.room (half_on dev self.new) (place_on dev self.new)) pages) }
         ensures many { IfOk result (λ pages. IfSome pages (λ some. length some ≡ page_count_lem self.old.base.config)) }
         ensures reads { IfOk result (λ pages. P.tells
             → ReadsSeen C.reads (disk_now (P.view self.new.plant) dev).bytes pages) }
-        ensures unseen { IfOk result (λ pages. P.tells → pages ≡ None
-            → (pick dev self.old.pair.first self.old.pair.second).alive ≡ true
+        ensures unseen { IfOk result (λ pages. P.tells → pages ≡ None → (half_on dev self.old).alive ≡ true
             → Rose ((P.view self.old.plant).faults (Disk dev)) ((P.view self.new.plant).faults (Disk dev))) }
-        ensures was_alive { (pick dev self.new.pair.first self.new.pair.second).alive ≡ true
-            → (pick dev self.old.pair.first self.old.pair.second).alive ≡ true }
-        ensures counts { KeepsCounts by.0 (look_stopped result) (pair_state P.view (parts_of self.old))
-            (pair_state P.view (parts_of self.new)) }
-        ensures room { IfOk result (λ pages. P.tells → IfSome pages (λ some.
-            C.room (pick dev self.new.pair.first self.new.pair.second).copy
-            ≡ C.room_in (disk_now (P.view self.new.plant) dev).bytes)) }
-        ensures same { OnErr result (pick dev self.new.pair.first self.new.pair.second
-            ≡ pick dev self.old.pair.first self.old.pair.second) }
+        ensures was_alive { (half_on dev self.new).alive ≡ true → (half_on dev self.old).alive ≡ true }
+        ensures leaves { OnPair P.tells by.0 (look_stopped result) (pair_of self.old) (pair_of self.new) }
+        ensures room { IfOk result (λ pages. P.tells → IfSome pages (λ some. C.room
+            (half_on dev self.new).copy ≡ C.room_in (disk_now (P.view self.new.plant) dev).bytes)) }
+        ensures same { OnErr result (half_on dev self.new ≡ half_on dev self.old) }
         ensures bytes { P.tells → (d : Dev)
             → (disk_now (P.view self.new.plant) d).bytes ≡ (disk_now (P.view self.old.plant) d).bytes }
-        ensures apart { P.tells → OnCopies (P.view self.old.plant) (P.view self.new.plant) }
     {
         if !self.pair.alive(dev) {
             return Ok(None);

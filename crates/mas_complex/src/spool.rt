@@ -1,13 +1,13 @@
 //! Acts on the spool volumes.
-ghost use Rattle.mas_complex.specs.Names.{page_bytes, Spool, View, Acts, Syncs, Disk, volume_of, start_of};
-ghost use Rattle.std.specs.Prelude.{◌≡◌, ◌≤◌, ◌<◌, ◌*◌, ◌++◌, length, false};
-ghost use Rattle.mas_complex.specs.Journals.{kept_all, entries_in};
+ghost use Rattle.mas_complex.specs.Names.{page_bytes, Spool, Acts, Syncs, Disk, volume_of, start_of};
+ghost use Rattle.std.specs.Prelude.{◌≡◌, ◌≤◌, ◌<◌, ◌*◌, length, false};
+ghost use Rattle.mas_complex.specs.Journals.{entries_in};
 ghost use Rattle.mas_complex.specs.Locking.{IsUp};
-ghost use Rattle.mas_complex.specs.Meaning.{run};
 ghost use Rattle.mas_complex.specs.Spool.{IsGroupOf, IsVolumeOf, IsHeldBy, device_of, is_within, ReadsGroup, WritesGroup};
 ghost use Rattle.mas_complex.specs.Texts.{HasTexts, lost_now, spools_at};
 ghost use Rattle.mas_complex.specs.TextExamples.{WorkedTexts};
 ghost use Rattle.mas_complex.specs.Parts.{parts_of};
+ghost use Rattle.mas_complex.specs.Begins.{kept_queue, queue_with};
 
 use crate::complex::Complex;
 use brief_queue::BriefQueue;
@@ -171,9 +171,8 @@ impl<P: Plant + Drop, C: Steady + Drop> Complex<P, C> {
     pub fn spool_write(&mut self, by: MemberId, group: GroupNo, bytes: &Page) -> Act
         requires up { IsUp self.old.book by }
         requires group { IsGroupOf self.old.base.config group }
-        requires kept { P.tells → IsHeldBy by group (run self.old.base (kept_all self.old.journal.batches)) }
-        requires flying { P.tells → IsHeldBy by group
-            (run self.old.base (kept_all self.old.journal.batches ++ entries_in self.old.current)) }
+        requires kept { P.tells → IsHeldBy by group (kept_queue self.old) }
+        requires flying { P.tells → IsHeldBy by group (queue_with self.old (entries_in self.old.current)) }
         ensures pair { self.new.pair ≡ self.old.pair }
         ensures base { self.new.base ≡ self.old.base }
         ensures since { self.new.since ≡ self.old.since }
@@ -228,11 +227,10 @@ impl<P: Plant + Drop, C: Steady + Drop> Complex<P, C> {
     /// The texts of the queue after the kept batches stand on the spool volumes, all of them synced, except those with
     /// a group on a volume that is lost; and so do those of the queue with the batch in flight.
     pub fn kept_texts(&self)
-        ensures kept { P.tells → ∥ HasTexts (lost_now (P.view self.now.plant))
-            (spools_at (P.view self.now.plant) (P.view self.now.plant).now) self.now.base.config.groups
-            (run self.now.base (kept_all self.now.journal.batches)) ∥₁ }
-        ensures coming { P.tells → ∥ HasTexts (lost_now (P.view self.now.plant))
-            (spools_at (P.view self.now.plant) (P.view self.now.plant).now) self.now.base.config.groups
-            (run self.now.base (kept_all self.now.journal.batches ++ entries_in self.now.current)) ∥₁ }
+        ensures kept { P.tells → ∥ HasTexts (lost_now (P.view self.now.plant)) (spools_at (P.view self.now.plant)
+            (P.view self.now.plant).now) self.now.base.config.groups (kept_queue self.now) ∥₁ }
+        ensures coming { P.tells → ∥ HasTexts (lost_now (P.view self.now.plant)) (spools_at (P.view self.now.plant)
+            (P.view self.now.plant).now) self.now.base.config.groups (queue_with self.now
+            (entries_in self.now.current)) ∥₁ }
     {}
 }

@@ -1,18 +1,17 @@
 //! A batch is written to the copies, and has its fate.
-ghost use Rattle.mas_complex.specs.Names.{Dev, Entry, Ckpt1, Ckpt2, disk_now, top, bytes_of, level, ArePages, Covers, BothLost as PairNoBothLost, IsCkpt, pick, other, IsBothLost, SomeAlive, Acted, pair_stopped, Before as AtBefore, Put as AtPut, Opened as AtOpened, page_count};
+ghost use Rattle.mas_complex.specs.Names.{Dev, Entry, Ckpt1, Ckpt2, disk_now, top, bytes_of, level, ArePages, Covers, BothLost as PairNoBothLost, IsCkpt, other, IsBothLost, SomeAlive, Acted, pair_stopped, Before as AtBefore, Put as AtPut, Opened as AtOpened, page_count};
 ghost use Rattle.std.specs.Prelude.{◌≡◌, ◌≢◌, ◌+◌, ◌≤◌, ◌<◌, ◌++◌, ℕ, List, Some, None, length, true, false, OnOk, OnErr, IsErrOf, IsSome, All};
 ghost use Rattle.mas_complex.specs.Journals.{coming, kept_all, entries_in, entries_reserved, begun, IsKeptAt};
 ghost use Rattle.mas_complex.specs.Meaning.{StandFor, run};
 ghost use Rattle.mas_complex.specs.Places.{IsPlaceAfter, HasNoOther, all_open};
-ghost use Rattle.mas_complex.specs.Crash.{setting, IsUntold, RaisesOrders};
+ghost use Rattle.mas_complex.specs.Crash.{RaisesOrders};
 ghost use Rattle.mas_complex.specs.Elsewhere.{Elsewhere};
 ghost use Rattle.mas_complex.specs.Changed.{NamesOnly};
-ghost use Rattle.mas_complex.specs.Texts.{HasTexts, spools_at, lost_now};
-ghost use Rattle.mas_complex.specs.Replies.{HaveReplies};
 ghost use Rattle.mas_complex.specs.Locking.{MayAct, IsOwn};
-ghost use Rattle.mas_complex.specs.Paper.{MayBegin, printed_after};
+ghost use Rattle.mas_complex.specs.Paper.{printed_after};
 ghost use Rattle.mas_complex.specs.Past.{AreLater, IsNextOf, values_of};
-ghost use Rattle.mas_complex.specs.Parts.{begun_in, dropped_in, kept_in, parts_of, with_copy};
+ghost use Rattle.mas_complex.specs.Parts.{begun_in, dropped_in, half_beside, half_on, kept_in, parts_of, place_beside, place_on, with_copy};
+ghost use Rattle.mas_complex.specs.Begins.{HasRepliesOf, HasTextsWith, IsUntoldOf, MayBeginOf, queue_with};
 
 use crate::complex::Complex;
 use crate::journal_end::end_last;
@@ -33,53 +32,41 @@ impl<P: Plant + Drop, C: Steady + Drop> Complex<P, C> {
         changed: &[u16],
     ) -> Result<(), PairNo>
         requires ckpt { IsCkpt dev }
-        requires place { (pick dev self.old.pair.first self.old.pair.second).alive ≡ true
-            → pick dev self.old.first self.old.second ≡ AtBefore }
-        requires room { (pick dev self.old.pair.first self.old.pair.second).alive ≡ true
-            → 1 ≤ C.room (pick dev self.old.pair.first self.old.pair.second).copy }
-        requires as_many { (pick dev self.old.pair.first self.old.pair.second).alive ≡ true
-            → length pages.now ≡ C.count (pick dev self.old.pair.first self.old.pair.second).copy }
-        requires changed { (pick dev self.old.pair.first self.old.pair.second).alive ≡ true
-            → ArePages (C.count (pick dev self.old.pair.first self.old.pair.second).copy) changed.now }
-        requires covered { P.tells → (pick dev self.old.pair.first self.old.pair.second).alive ≡ true → (was : List ℕ)
+        requires place { (half_on dev self.old).alive ≡ true → place_on dev self.old ≡ AtBefore }
+        requires room { (half_on dev self.old).alive ≡ true → 1 ≤ C.room (half_on dev self.old).copy }
+        requires as_many { (half_on dev self.old).alive ≡ true
+            → length pages.now ≡ C.count (half_on dev self.old).copy }
+        requires changed { (half_on dev self.old).alive ≡ true → ArePages (C.count (half_on dev self.old).copy)
+            changed.now }
+        requires covered { P.tells → (half_on dev self.old).alive ≡ true → (was : List ℕ)
             → C.reads (disk_now (P.view self.old.plant) dev).bytes ≡ Some was
-            → Covers (C.count (pick dev self.old.pair.first self.old.pair.second).copy) changed.now was
-            (bytes_of pages.now) }
+            → Covers (C.count (half_on dev self.old).copy) changed.now was (bytes_of pages.now) }
         requires level { P.tells → level (bytes_of pages.now) ≡ self.old.level + 1 }
-        requires later { P.tells → ∥ ((pick dev self.old.pair.first self.old.pair.second).alive ≡ true
-            → AreLater (page_count self.old.base.config) (values_of self.old.had) (bytes_of pages.now)) ∥₁ }
-        requires orders { P.tells → (pick dev self.old.pair.first self.old.pair.second).alive ≡ true
-            → ((other dev self.old.pair.first self.old.pair.second).alive ≡ true
-            → other dev self.old.first self.old.second ≡ AtBefore) → (was : List ℕ)
-            → C.reads (disk_now (P.view self.old.plant) dev).bytes ≡ Some was
-            → RaisesOrders was (bytes_of pages.now) }
-        requires queue { P.tells → ∥ StandFor
-            (run self.old.base (kept_all self.old.journal.batches ++ entries_in self.old.current)) (bytes_of pages.now)
+        requires later { P.tells → ∥ ((half_on dev self.old).alive ≡ true → AreLater (page_count self.old.base.config)
+            (values_of self.old.had) (bytes_of pages.now)) ∥₁ }
+        requires orders { P.tells → (half_on dev self.old).alive ≡ true → ((half_beside dev self.old).alive ≡ true
+            → place_beside dev self.old ≡ AtBefore) → (was : List ℕ)
+            → C.reads (disk_now (P.view self.old.plant) dev).bytes ≡ Some was → RaisesOrders was (bytes_of pages.now) }
+        requires queue { P.tells → ∥ StandFor (queue_with self.old (entries_in self.old.current)) (bytes_of pages.now)
             ∥₁ }
         requires some { P.tells → 1 ≤ length (entries_in self.old.current) }
-        requires same { P.tells → (other dev self.old.pair.first self.old.pair.second).alive ≡ true
-            → HasNoOther (other dev self.old.first self.old.second)
-            (C.behind (other dev self.old.pair.first self.old.pair.second).copy
-            (disk_now (P.view self.old.plant) (other dev Ckpt1 Ckpt2)).bytes)
-            (C.reads (disk_now (P.view self.old.plant) (other dev Ckpt1 Ckpt2)).bytes) (bytes_of pages.now) }
+        requires same { P.tells → (half_beside dev self.old).alive ≡ true → HasNoOther (place_beside dev self.old)
+            (C.behind (half_beside dev self.old).copy (disk_now (P.view self.old.plant)
+            (other dev Ckpt1 Ckpt2)).bytes) (C.reads (disk_now (P.view self.old.plant) (other dev Ckpt1 Ckpt2)).bytes)
+            (bytes_of pages.now) }
         ensures frame { parts_of self.new ≡ with_copy dev (parts_of self.new) (parts_of self.old) }
-        ensures place { IsPlaceAfter result AtPut (pick dev self.new.first self.new.second) }
-        ensures other_place { other dev self.new.first self.new.second ≡ other dev self.old.first self.old.second }
-        ensures other { other dev self.new.pair.first self.new.pair.second
-            ≡ other dev self.old.pair.first self.old.pair.second }
-        ensures count { C.count (pick dev self.new.pair.first self.new.pair.second).copy
-            ≡ C.count (pick dev self.old.pair.first self.old.pair.second).copy }
-        ensures room { C.room (pick dev self.new.pair.first self.new.pair.second).copy
-            ≡ C.room (pick dev self.old.pair.first self.old.pair.second).copy }
-        ensures acted { Acted by.0 dev (pick dev self.old.pair.first self.old.pair.second).alive
-            (pick dev self.new.pair.first self.new.pair.second).alive (pair_stopped result) (P.view self.old.plant)
-            (P.view self.new.plant) }
+        ensures place { IsPlaceAfter result AtPut (place_on dev self.new) }
+        ensures other_place { place_beside dev self.new ≡ place_beside dev self.old }
+        ensures other { half_beside dev self.new ≡ half_beside dev self.old }
+        ensures count { C.count (half_on dev self.new).copy ≡ C.count (half_on dev self.old).copy }
+        ensures room { C.room (half_on dev self.new).copy ≡ C.room (half_on dev self.old).copy }
+        ensures acted { Acted by.0 dev (half_on dev self.old).alive (half_on dev self.new).alive (pair_stopped result)
+            (P.view self.old.plant) (P.view self.new.plant) }
         ensures both { IsErrOf result PairNoBothLost → IsBothLost self.new.pair.first.alive self.new.pair.second.alive }
         ensures ok { OnOk result (SomeAlive self.new.pair.first.alive self.new.pair.second.alive) }
         ensures elsewhere { P.tells → Elsewhere dev (P.view self.old.plant) (P.view self.new.plant) }
-        ensures behind { OnOk result (P.tells → (pick dev self.new.pair.first self.new.pair.second).alive ≡ true
-            → C.behind (pick dev self.new.pair.first self.new.pair.second).copy
-            (disk_now (P.view self.new.plant) dev).bytes ≡ bytes_of pages.now) }
+        ensures behind { OnOk result (P.tells → (half_on dev self.new).alive ≡ true
+            → C.behind (half_on dev self.new).copy (disk_now (P.view self.new.plant) dev).bytes ≡ bytes_of pages.now) }
     {
         let done = self.pair.put(&mut self.plant, by, dev, pages, changed);
         let place = place_after(&done, Place::Put);
@@ -90,29 +77,22 @@ impl<P: Plant + Drop, C: Steady + Drop> Complex<P, C> {
     // The gate before the pages that wait on one copy.
     pub(crate) fn open_on(&mut self, by: MemberId, dev: Dev) -> Result<(), PairNo>
         requires ckpt { IsCkpt dev }
-        requires place { (pick dev self.old.pair.first self.old.pair.second).alive ≡ true
-            → pick dev self.old.first self.old.second ≡ AtPut }
-        requires room { (pick dev self.old.pair.first self.old.pair.second).alive ≡ true
-            → 1 ≤ C.room (pick dev self.old.pair.first self.old.pair.second).copy }
+        requires place { (half_on dev self.old).alive ≡ true → place_on dev self.old ≡ AtPut }
+        requires room { (half_on dev self.old).alive ≡ true → 1 ≤ C.room (half_on dev self.old).copy }
         ensures frame { parts_of self.new ≡ with_copy dev (parts_of self.new) (parts_of self.old) }
-        ensures place { IsPlaceAfter result AtOpened (pick dev self.new.first self.new.second) }
-        ensures other_place { other dev self.new.first self.new.second ≡ other dev self.old.first self.old.second }
-        ensures other { other dev self.new.pair.first self.new.pair.second
-            ≡ other dev self.old.pair.first self.old.pair.second }
-        ensures count { C.count (pick dev self.new.pair.first self.new.pair.second).copy
-            ≡ C.count (pick dev self.old.pair.first self.old.pair.second).copy }
-        ensures room { OnOk result ((pick dev self.new.pair.first self.new.pair.second).alive ≡ true
-            → C.room (pick dev self.new.pair.first self.new.pair.second).copy
-            ≡ C.room_after (C.room (pick dev self.old.pair.first self.old.pair.second).copy)) }
-        ensures acted { Acted by.0 dev (pick dev self.old.pair.first self.old.pair.second).alive
-            (pick dev self.new.pair.first self.new.pair.second).alive (pair_stopped result) (P.view self.old.plant)
-            (P.view self.new.plant) }
+        ensures place { IsPlaceAfter result AtOpened (place_on dev self.new) }
+        ensures other_place { place_beside dev self.new ≡ place_beside dev self.old }
+        ensures other { half_beside dev self.new ≡ half_beside dev self.old }
+        ensures count { C.count (half_on dev self.new).copy ≡ C.count (half_on dev self.old).copy }
+        ensures room { OnOk result ((half_on dev self.new).alive ≡ true
+            → C.room (half_on dev self.new).copy ≡ C.room_after (C.room (half_on dev self.old).copy)) }
+        ensures acted { Acted by.0 dev (half_on dev self.old).alive (half_on dev self.new).alive (pair_stopped result)
+            (P.view self.old.plant) (P.view self.new.plant) }
         ensures both { IsErrOf result PairNoBothLost → IsBothLost self.new.pair.first.alive self.new.pair.second.alive }
         ensures ok { OnOk result (SomeAlive self.new.pair.first.alive self.new.pair.second.alive) }
         ensures elsewhere { P.tells → Elsewhere dev (P.view self.old.plant) (P.view self.new.plant) }
-        ensures reads { OnOk result (P.tells → (pick dev self.new.pair.first self.new.pair.second).alive ≡ true
-            → C.reads (disk_now (P.view self.new.plant) dev).bytes
-            ≡ Some (C.behind (pick dev self.old.pair.first self.old.pair.second).copy
+        ensures reads { OnOk result (P.tells → (half_on dev self.new).alive ≡ true
+            → C.reads (disk_now (P.view self.new.plant) dev).bytes ≡ Some (C.behind (half_on dev self.old).copy
             (disk_now (P.view self.old.plant) dev).bytes)) }
     {
         let done = self.pair.open_copy(&mut self.plant, by, dev);
@@ -147,53 +127,42 @@ impl<P: Plant + Drop, C: Steady + Drop> Complex<P, C> {
         requires own { self.old.current ≡ None → All (λ e. e.by ≡ by) (entries_reserved self.old.reserved) }
         requires own_flying { IsOwn self.old.current by }
         requires ckpt { IsCkpt dev }
-        requires place { (pick dev self.old.pair.first self.old.pair.second).alive ≡ true
-            → pick dev self.old.first self.old.second ≡ AtBefore }
-        requires room { (pick dev self.old.pair.first self.old.pair.second).alive ≡ true
-            → 1 ≤ C.room (pick dev self.old.pair.first self.old.pair.second).copy }
-        requires as_many { (pick dev self.old.pair.first self.old.pair.second).alive ≡ true
-            → length pages.now ≡ C.count (pick dev self.old.pair.first self.old.pair.second).copy }
-        requires changed { (pick dev self.old.pair.first self.old.pair.second).alive ≡ true
-            → ArePages (C.count (pick dev self.old.pair.first self.old.pair.second).copy) changed.now }
-        requires covered { P.tells → (pick dev self.old.pair.first self.old.pair.second).alive ≡ true → (was : List ℕ)
+        requires place { (half_on dev self.old).alive ≡ true → place_on dev self.old ≡ AtBefore }
+        requires room { (half_on dev self.old).alive ≡ true → 1 ≤ C.room (half_on dev self.old).copy }
+        requires as_many { (half_on dev self.old).alive ≡ true
+            → length pages.now ≡ C.count (half_on dev self.old).copy }
+        requires changed { (half_on dev self.old).alive ≡ true → ArePages (C.count (half_on dev self.old).copy)
+            changed.now }
+        requires covered { P.tells → (half_on dev self.old).alive ≡ true → (was : List ℕ)
             → C.reads (disk_now (P.view self.old.plant) dev).bytes ≡ Some was
-            → Covers (C.count (pick dev self.old.pair.first self.old.pair.second).copy) changed.now was
-            (bytes_of pages.now) }
-        requires exact { P.tells → (pick dev self.old.pair.first self.old.pair.second).alive ≡ true → (was : List ℕ)
+            → Covers (C.count (half_on dev self.old).copy) changed.now was (bytes_of pages.now) }
+        requires exact { P.tells → (half_on dev self.old).alive ≡ true → (was : List ℕ)
             → C.reads (disk_now (P.view self.old.plant) dev).bytes ≡ Some was
             → NamesOnly changed.now was (bytes_of pages.now) }
         requires level { P.tells → level (bytes_of pages.now) ≡ self.old.level + 1 }
-        requires leveled { P.tells → (pick dev self.old.pair.first self.old.pair.second).alive ≡ true → (was : List ℕ)
+        requires leveled { P.tells → (half_on dev self.old).alive ≡ true → (was : List ℕ)
             → C.reads (disk_now (P.view self.old.plant) dev).bytes ≡ Some was
             → IsNextOf (page_count self.old.base.config) was (bytes_of pages.now) }
-        requires orders { P.tells → (pick dev self.old.pair.first self.old.pair.second).alive ≡ true
-            → ((other dev self.old.pair.first self.old.pair.second).alive ≡ true
-            → other dev self.old.first self.old.second ≡ AtBefore) → (was : List ℕ)
-            → C.reads (disk_now (P.view self.old.plant) dev).bytes ≡ Some was
-            → RaisesOrders was (bytes_of pages.now) }
+        requires orders { P.tells → (half_on dev self.old).alive ≡ true → ((half_beside dev self.old).alive ≡ true
+            → place_beside dev self.old ≡ AtBefore) → (was : List ℕ)
+            → C.reads (disk_now (P.view self.old.plant) dev).bytes ≡ Some was → RaisesOrders was (bytes_of pages.now) }
         requires first { self.old.current ≡ None → self.old.pair.first.alive ≡ true → self.old.first ≡ AtBefore }
         requires second { self.old.current ≡ None → self.old.pair.second.alive ≡ true → self.old.second ≡ AtBefore }
-        requires untold { P.tells → self.old.current ≡ None
-            → IsUntold (setting C.reads self.old.base self.old.since) (P.view self.old.plant)
+        requires untold { P.tells → self.old.current ≡ None → IsUntoldOf self.old (entries_reserved self.old.reserved) }
+        requires texts { P.tells → self.old.current ≡ None → HasTextsWith self.old
             (entries_reserved self.old.reserved) }
-        requires texts { P.tells → self.old.current ≡ None
-            → ∥ HasTexts (lost_now (P.view self.old.plant))
-            (spools_at (P.view self.old.plant) (P.view self.old.plant).now) self.old.base.config.groups
-            (run self.old.base (kept_all self.old.journal.batches ++ entries_reserved self.old.reserved)) ∥₁ }
         requires queue { P.tells → ∥ StandFor
             (run self.old.base (kept_all self.old.journal.batches ++ coming self.old.current self.old.reserved))
             (bytes_of pages.now) ∥₁ }
         requires some { 1 ≤ length (coming self.old.current self.old.reserved) }
         requires replied { P.tells → self.old.current ≡ None
-            → ∥ HaveReplies (run self.old.base (kept_all self.old.journal.batches)) (entries_reserved self.old.reserved)
-            ∥₁ }
+            → HasRepliesOf self.old (entries_reserved self.old.reserved) }
         requires allowed { P.tells → self.old.current ≡ None
-            → MayBegin self.old.base self.old.journal.batches self.old.printed (entries_reserved self.old.reserved) }
-        requires same { P.tells → (other dev self.old.pair.first self.old.pair.second).alive ≡ true
-            → HasNoOther (other dev self.old.first self.old.second)
-            (C.behind (other dev self.old.pair.first self.old.pair.second).copy
-            (disk_now (P.view self.old.plant) (other dev Ckpt1 Ckpt2)).bytes)
-            (C.reads (disk_now (P.view self.old.plant) (other dev Ckpt1 Ckpt2)).bytes) (bytes_of pages.now) }
+            → MayBeginOf self.old (entries_reserved self.old.reserved) }
+        requires same { P.tells → (half_beside dev self.old).alive ≡ true → HasNoOther (place_beside dev self.old)
+            (C.behind (half_beside dev self.old).copy (disk_now (P.view self.old.plant)
+            (other dev Ckpt1 Ckpt2)).bytes) (C.reads (disk_now (P.view self.old.plant) (other dev Ckpt1 Ckpt2)).bytes)
+            (bytes_of pages.now) }
         ensures base { self.new.base ≡ self.old.base }
         ensures since { self.new.since ≡ self.old.since }
         ensures renewals { self.new.renewals ≡ self.old.renewals }
@@ -207,25 +176,20 @@ impl<P: Plant + Drop, C: Steady + Drop> Complex<P, C> {
             → self.new.current ≡ Some (begun (P.view self.old.plant).now by entries) }
         ensures stays { IsSome self.old.current → self.new.current ≡ self.old.current }
         ensures unreserved { self.new.reserved ≡ None }
-        ensures place { IsPlaceAfter result AtPut (pick dev self.new.first self.new.second) }
-        ensures other_place { other dev self.new.first self.new.second ≡ other dev self.old.first self.old.second }
-        ensures other { other dev self.new.pair.first self.new.pair.second
-            ≡ other dev self.old.pair.first self.old.pair.second }
-        ensures count { C.count (pick dev self.new.pair.first self.new.pair.second).copy
-            ≡ C.count (pick dev self.old.pair.first self.old.pair.second).copy }
-        ensures room { C.room (pick dev self.new.pair.first self.new.pair.second).copy
-            ≡ C.room (pick dev self.old.pair.first self.old.pair.second).copy }
-        ensures acted { Acted by.0 dev (pick dev self.old.pair.first self.old.pair.second).alive
-            (pick dev self.new.pair.first self.new.pair.second).alive (pair_stopped result) (P.view self.old.plant)
-            (P.view self.new.plant) }
+        ensures place { IsPlaceAfter result AtPut (place_on dev self.new) }
+        ensures other_place { place_beside dev self.new ≡ place_beside dev self.old }
+        ensures other { half_beside dev self.new ≡ half_beside dev self.old }
+        ensures count { C.count (half_on dev self.new).copy ≡ C.count (half_on dev self.old).copy }
+        ensures room { C.room (half_on dev self.new).copy ≡ C.room (half_on dev self.old).copy }
+        ensures acted { Acted by.0 dev (half_on dev self.old).alive (half_on dev self.new).alive (pair_stopped result)
+            (P.view self.old.plant) (P.view self.new.plant) }
         ensures both { IsErrOf result PairNoBothLost → IsBothLost self.new.pair.first.alive self.new.pair.second.alive }
         ensures ok { OnOk result (SomeAlive self.new.pair.first.alive self.new.pair.second.alive) }
         ensures others { P.tells → (d : Dev) → d ≢ dev
             → (disk_now (P.view self.new.plant) d).bytes ≡ (disk_now (P.view self.old.plant) d).bytes }
         ensures elsewhere { P.tells → Elsewhere dev (P.view self.old.plant) (P.view self.new.plant) }
-        ensures behind { OnOk result (P.tells → (pick dev self.new.pair.first self.new.pair.second).alive ≡ true
-            → C.behind (pick dev self.new.pair.first self.new.pair.second).copy
-            (disk_now (P.view self.new.plant) dev).bytes ≡ bytes_of pages.now) }
+        ensures behind { OnOk result (P.tells → (half_on dev self.new).alive ≡ true
+            → C.behind (half_on dev self.new).copy (disk_now (P.view self.new.plant) dev).bytes ≡ bytes_of pages.now) }
         ensures frame { parts_of self.new
             ≡ with_copy dev (parts_of self.new) (begun_in (P.view self.old.plant).now by (parts_of self.old)) }
     {
@@ -255,10 +219,8 @@ impl<P: Plant + Drop, C: Steady + Drop> Complex<P, C> {
         requires may { MayAct self.old.book by }
         requires own_flying { IsOwn self.old.current by }
         requires ckpt { IsCkpt dev }
-        requires place { (pick dev self.old.pair.first self.old.pair.second).alive ≡ true
-            → pick dev self.old.first self.old.second ≡ AtPut }
-        requires room { (pick dev self.old.pair.first self.old.pair.second).alive ≡ true
-            → 1 ≤ C.room (pick dev self.old.pair.first self.old.pair.second).copy }
+        requires place { (half_on dev self.old).alive ≡ true → place_on dev self.old ≡ AtPut }
+        requires room { (half_on dev self.old).alive ≡ true → 1 ≤ C.room (half_on dev self.old).copy }
         requires current { IsSome self.old.current }
         requires level { self.old.level < top }
         ensures base { self.new.base ≡ self.old.base }
@@ -267,54 +229,43 @@ impl<P: Plant + Drop, C: Steady + Drop> Complex<P, C> {
         ensures printed { self.new.printed ≡ self.old.printed }
         ensures book { self.new.book ≡ self.old.book }
         ensures reserved { self.new.reserved ≡ self.old.reserved }
-        ensures other { other dev self.new.pair.first self.new.pair.second
-            ≡ other dev self.old.pair.first self.old.pair.second }
-        ensures count { C.count (pick dev self.new.pair.first self.new.pair.second).copy
-            ≡ C.count (pick dev self.old.pair.first self.old.pair.second).copy }
-        ensures room { OnOk result ((pick dev self.new.pair.first self.new.pair.second).alive ≡ true
-            → C.room (pick dev self.new.pair.first self.new.pair.second).copy
-            ≡ C.room_after (C.room (pick dev self.old.pair.first self.old.pair.second).copy)) }
-        ensures acted { Acted by.0 dev (pick dev self.old.pair.first self.old.pair.second).alive
-            (pick dev self.new.pair.first self.new.pair.second).alive (pair_stopped result) (P.view self.old.plant)
-            (P.view self.new.plant) }
+        ensures other { half_beside dev self.new ≡ half_beside dev self.old }
+        ensures count { C.count (half_on dev self.new).copy ≡ C.count (half_on dev self.old).copy }
+        ensures room { OnOk result ((half_on dev self.new).alive ≡ true
+            → C.room (half_on dev self.new).copy ≡ C.room_after (C.room (half_on dev self.old).copy)) }
+        ensures acted { Acted by.0 dev (half_on dev self.old).alive (half_on dev self.new).alive (pair_stopped result)
+            (P.view self.old.plant) (P.view self.new.plant) }
         ensures both { IsErrOf result PairNoBothLost → IsBothLost self.new.pair.first.alive self.new.pair.second.alive }
         ensures ok { OnOk result (SomeAlive self.new.pair.first.alive self.new.pair.second.alive) }
         ensures others { P.tells → (d : Dev) → d ≢ dev
             → (disk_now (P.view self.new.plant) d).bytes ≡ (disk_now (P.view self.old.plant) d).bytes }
         ensures elsewhere { P.tells → Elsewhere dev (P.view self.old.plant) (P.view self.new.plant) }
-        ensures reads { OnOk result (P.tells → (pick dev self.new.pair.first self.new.pair.second).alive ≡ true
-            → C.reads (disk_now (P.view self.new.plant) dev).bytes
-            ≡ Some (C.behind (pick dev self.old.pair.first self.old.pair.second).copy
+        ensures reads { OnOk result (P.tells → (half_on dev self.new).alive ≡ true
+            → C.reads (disk_now (P.view self.new.plant) dev).bytes ≡ Some (C.behind (half_on dev self.old).copy
             (disk_now (P.view self.old.plant) dev).bytes)) }
-        ensures kept { OnOk result (((other dev self.new.pair.first self.new.pair.second).alive ≡ true
-            → other dev self.old.first self.old.second ≡ AtOpened)
+        ensures kept { OnOk result (((half_beside dev self.new).alive ≡ true → place_beside dev self.old ≡ AtOpened)
             → IsKeptAt self.old.current (P.view self.new.plant).now self.old.journal.batches self.new.journal.batches
             × (self.new.current ≡ None) × (self.new.level ≡ self.old.level + 1) × (self.new.first ≡ AtBefore)
             × (self.new.second ≡ AtBefore)) }
-        ensures flying { OnOk result ((other dev self.new.pair.first self.new.pair.second).alive ≡ true
-            → other dev self.old.first self.old.second ≢ AtOpened → (self.new.journal ≡ self.old.journal)
-            × (self.new.current ≡ self.old.current) × (self.new.level ≡ self.old.level)
-            × (pick dev self.new.first self.new.second ≡ AtOpened)
-            × (other dev self.new.first self.new.second ≡ other dev self.old.first self.old.second)) }
+        ensures flying { OnOk result ((half_beside dev self.new).alive ≡ true → place_beside dev self.old ≢ AtOpened
+            → (self.new.journal ≡ self.old.journal) × (self.new.current ≡ self.old.current)
+            × (self.new.level ≡ self.old.level) × (place_on dev self.new ≡ AtOpened)
+            × (place_beside dev self.new ≡ place_beside dev self.old)) }
         ensures err { OnErr result ((self.new.journal ≡ self.old.journal) × (self.new.current ≡ self.old.current)
             × (self.new.level ≡ self.old.level)) }
-        ensures unplaced { OnOk result
-            (((other dev self.new.pair.first self.new.pair.second).alive ≡ true
-            → other dev self.old.first self.old.second ≡ AtOpened) → self.new.placed ≡ false) }
-        ensures still_placed { OnOk result
-            ((other dev self.new.pair.first self.new.pair.second).alive ≡ true
-            → other dev self.old.first self.old.second ≢ AtOpened → self.new.placed ≡ self.old.placed) }
+        ensures unplaced { OnOk result (((half_beside dev self.new).alive ≡ true
+            → place_beside dev self.old ≡ AtOpened) → self.new.placed ≡ false) }
+        ensures still_placed { OnOk result ((half_beside dev self.new).alive ≡ true
+            → place_beside dev self.old ≢ AtOpened → self.new.placed ≡ self.old.placed) }
         ensures err_placed { OnErr result (self.new.placed ≡ self.old.placed) }
-        ensures frame { OnOk result (((other dev self.new.pair.first self.new.pair.second).alive ≡ true
-            → other dev self.old.first self.old.second ≡ AtOpened)
-            → parts_of self.new ≡ kept_in (P.view self.new.plant).now
-            (with_copy dev (parts_of self.new) (parts_of self.old))) }
-        ensures frame_flying { OnOk result
-            ((other dev self.new.pair.first self.new.pair.second).alive ≡ true
-            → other dev self.old.first self.old.second ≢ AtOpened
-            → parts_of self.new ≡ with_copy dev (parts_of self.new) (parts_of self.old)) }
+        ensures frame { OnOk result (((half_beside dev self.new).alive ≡ true → place_beside dev self.old ≡ AtOpened)
+            → parts_of self.new ≡ kept_in (P.view self.new.plant).now (with_copy dev (parts_of self.new)
+            (parts_of self.old))) }
+        ensures frame_flying { OnOk result ((half_beside dev self.new).alive ≡ true
+            → place_beside dev self.old ≢ AtOpened → parts_of self.new ≡ with_copy dev (parts_of self.new)
+            (parts_of self.old)) }
         ensures frame_err { OnErr result (parts_of self.new ≡ with_copy dev (parts_of self.new) (parts_of self.old)) }
-        ensures err_place { OnErr result (IsPlaceAfter result AtOpened (pick dev self.new.first self.new.second)) }
+        ensures err_place { OnErr result (IsPlaceAfter result AtOpened (place_on dev self.new)) }
     {
         self.open_on(by, dev)?;
         if self.all_opened() {

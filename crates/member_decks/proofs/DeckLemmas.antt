@@ -82,8 +82,7 @@ module _ (m : MemberId) where
       (λ e. let none : want ≡ 0 = grind (arith, nat_tests) in
       let same : taken m want (owner.Free ∷ gs) ≡ owner.Free ∷ taken m want gs = rw e refl in
       let here : member_count m (taken m want (owner.Free ∷ gs)) ≡ 0 + member_count m (taken m want gs) = ap (member_count m) same ∙ counted (is_members m) owner.Free (taken m want gs) false refl in
-      let more = count_taken want gs in
-      omega (arith, here, mine, free, more, none))
+      omega (arith, here, mine, free, (count_taken want gs), none))
   count_taken want (owner.Member h ∷ gs) = beside want (owner.Member h) gs refl (count_taken want gs)
   count_taken want (owner.Deck n p ∷ gs) = beside want (owner.Deck n p) gs refl (count_taken want gs)
   count_taken want (owner.Output n i p ∷ gs) = beside want (owner.Output n i p) gs refl (count_taken want gs)
@@ -118,11 +117,7 @@ module _ (m : MemberId) where
 
       by_reply : (r : Reply) → (step Q m (command.Begin fields)).1 ≡ r → Has
       by_reply (reply.Job k) got = test_cases (are_refused groups first m groups) Has (λ refused. not_closed (ends_dropped m at fields groups Q k got refused)) (λ all. all_taken all k got)
-      by_reply reply.Plain got = not_closed (ends_alone m at fields groups Q (λ k other. absurd (let both : reply.Plain ≡ reply.Job k = sym got ∙ other in cc)))
-      by_reply (reply.Output k i) got = not_closed (ends_alone m at fields groups Q (λ j other. absurd (let both : reply.Output k i ≡ reply.Job j = sym got ∙ other in cc)))
-      by_reply (reply.Count k) got = not_closed (ends_alone m at fields groups Q (λ j other. absurd (let both : reply.Count k ≡ reply.Job j = sym got ∙ other in cc)))
-      by_reply (reply.Shown lines) got = not_closed (ends_alone m at fields groups Q (λ j other. absurd (let both : reply.Shown lines ≡ reply.Job j = sym got ∙ other in cc)))
-      by_reply (reply.No why) got = not_closed (ends_alone m at fields groups Q (λ j other. absurd (let both : reply.No why ≡ reply.Job j = sym got ∙ other in cc)))
+      by_reply _ got = not_closed (ends_alone m at fields groups Q (λ k other. absurd (cc (sym got ∙ other))))
 
       pub opened_enough : groups ≤ member_count m (run Q (given_in Q m at (opening Q m fields groups))).owners
       opened_enough = by_reply (step Q m (command.Begin fields)).1 refl

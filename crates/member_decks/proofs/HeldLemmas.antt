@@ -47,7 +47,7 @@ module _ (test : Owner → Bool) where
   picked_first at o gs g rest e later zero here = let same : at ≡ g.0 = cc in record { place = 0; owner_there = o; number = omega (arith, same); there = refl; picks = e }
   picked_first at o gs g rest e later (suc k) here = picked_later at o gs g (later k here)
 
-  where_picked : (at : ℕ) (gs : List Owner) (k : ℕ) (g : GroupNo) → slice_get (groups_where test at gs) k ≡ Some g → Picked at gs g
+  pub where_picked : (at : ℕ) (gs : List Owner) (k : ℕ) (g : GroupNo) → slice_get (groups_where test at gs) k ≡ Some g → Picked at gs g
   where_picked at [] k g here = absurd (cc)
   where_picked at (o ∷ gs) k g here =
       test_cases (test o) (Picked at (o ∷ gs) g)
@@ -66,7 +66,7 @@ module _ (test : Owner → Bool) where
   length-where at (o ∷ gs) = with_test at o gs (test o) refl ∙ ap (λ (n : ℕ). cond (test o) 1 0 + n) (length-where (at + 1) gs) ∙ sym (counted o gs (test o) refl)
 
 -- the first ones of a list
-of_front : {A : Type 0} (n : ℕ) (xs : List A) (k : ℕ) (x : A) → slice_get (take n xs) k ≡ Some x → slice_get xs k ≡ Some x
+pub of_front : {A : Type 0} (n : ℕ) (xs : List A) (k : ℕ) (x : A) → slice_get (take n xs) k ≡ Some x → slice_get xs k ≡ Some x
 of_front zero xs k x here = absurd (cc)
 of_front (suc n) [] k x here = absurd (cc)
 of_front (suc n) (y ∷ xs) zero x here = here

@@ -14,6 +14,6 @@ held_not told by x y e acts cause = record { course = acts.course; loses = acts.
 
 -- the reads of the copies and the settle after them, by the settle's answer
 pub held_by_settle : (told : Type 0) (by : ℕ) (x y z : PairState) (r : Result (Unit {0}) NodeNo) → HasBegun told by (stopped_in r) x.first z.first x.second z.second x.view z.view → HasBegun told by false x.first y.first x.second y.second x.view y.view
-    → IsSettle told by y.first z.first y.second z.second y.view z.view r → IsOnCopies told by x z r
+    → IsSettle told by y z r → IsOnCopies told by x z r
 held_by_settle told by x y z (Ok done) acts read settle = record { course = acts.course; loses = acts.loses; cause = inl settle.cause; spares = acts.spares; apart = acts.apart }
 held_by_settle told by x y z (Err e) acts read settle = held_not told by x z e acts (cause_settle by z.first z.second x.view y.view z.view e read.course.goes settle.cause)

@@ -5,7 +5,7 @@ use Rattle.mas_types.specs.declared.commands.Reply.TheVariants as reply
 use Rattle.mas_types.specs.Queue.{is_member}
 use Rattle.mas_types.specs.Step.{may_give}
 use Rattle.queue_laws.specs.Runs.{IsGiven}
-use Rattle.mas_complex.proofs.Allowed.{unmarked_begin}
+use Rattle.mas_complex.proofs.Batches.{unmarked_begin}
 use Rattle.member_decks.proofs.PlayLemmas.{all_front}
 
 -- the command is within the limits, the member may give it, and it is no Mark
@@ -25,8 +25,7 @@ module _ (base : Queue) (by : MemberId) where
   pub given_unmarked : (at : ℕ) (cs : List Command) (Q : Queue) → All (IsUnmarked base by) cs → All Unmarked (given_in Q by at cs)
   given_unmarked at [] Q all = All-nil Unmarked
   given_unmarked at (c ∷ cs) Q all =
-      let here = All-head (IsUnmarked base by) c cs all in
-      All-cons Unmarked (entry_of Q by at c) (given_in (step Q by c).0 by at cs) here.2 (given_unmarked at cs (step Q by c).0 (All-tail (IsUnmarked base by) c cs all))
+      All-cons Unmarked (entry_of Q by at c) (given_in (step Q by c).0 by at cs) (All-head (IsUnmarked base by) c cs all).2 (given_unmarked at cs (step Q by c).0 (All-tail (IsUnmarked base by) c cs all))
 
   module _ (member : is_member base.config by ≡ true) where
     pub takes_unmarked : (times : ℕ) (Q : Queue) (missing : ℕ) → All (IsUnmarked base by) (takes times Q by missing)

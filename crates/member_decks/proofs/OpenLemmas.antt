@@ -10,6 +10,7 @@ use Rattle.ckpt_pages.specs.QueueOf.{queue_of}
 use Rattle.member_steps.proofs.ToldLemmas.{tell_given}
 use Rattle.member_decks.proofs.DeckLemmas.{given_append, opening_alone}
 use Rattle.member_decks.proofs.TakeLemmas.{refused_last, refused_more, refused_none, take_counts, takes_last, takes_more, takes_none}
+pub use Rattle.std.proofs.lemmas.Bool.{not-false as is_not, not-true as not_is}
 
 -- TABLES
 
@@ -63,8 +64,7 @@ module _ (Q : Queue) (by : MemberId) (at missing : ℕ) (some : 1 ≤ missing) w
         → ((ts : ℕ) → missing - n ≤ ts → GivesOn Q1 (given_in Q1 by at (takes ts Q1 by (missing - n))) y z r) → GivesOn Q (given_in Q by at (takes times Q by missing)) x z r
     more_by others own zero x y z r le one told sound rest = absurd (omega (arith, some, le))
     more_by others own (suc times) x y z r le one told sound rest =
-        let counts = take_counts Q by missing n some got in
-        let behind = rest times (omega (arith, le, counts.0)) in
+        let behind = rest times (omega (arith, le, (take_counts Q by missing n some got).0)) in
         let gives = behind.gives in
         record {
           gave = e ∷ behind.gave;
@@ -84,8 +84,7 @@ module _ (Q : Queue) (by : MemberId) (at missing : ℕ) (some : 1 ≤ missing) w
     pub all_more : (all : Bool) (by' : MemberId) (times : ℕ) → by' ≡ by → missing ≤ times → ((ts : ℕ) → missing - n ≤ ts → all ≡ not (are_refused ts Q1 by' (missing - n))) → all ≡ not (are_refused times Q by missing)
     all_more all by' zero same le rest = absurd (omega (arith, some, le))
     all_more all by' (suc times) same le rest =
-        let counts = take_counts Q by missing n some got in
-        rest times (omega (arith, le, counts.0)) ∙ ap (λ (m : MemberId). not (are_refused times Q1 m (missing - n))) same ∙ ap not (sym (refused_more Q by times missing n some got))
+        rest times (omega (arith, le, (take_counts Q by missing n some got).0)) ∙ ap (λ (m : MemberId). not (are_refused times Q1 m (missing - n))) same ∙ ap not (sym (refused_more Q by times missing n some got))
 
   -- a Take that is refused
   module _ (not_count : (n : ℕ) → (step Q by (command.Take missing)).1 ≡ reply.Count n → ⊥) where
@@ -129,14 +128,6 @@ taking_wanted {T} {E} Q by at times missing x y e some le told same = subst (λ 
 
 pub only_named : (batch mid : List Entry) (e : Entry) → mid ≡ batch ++ e ∷ [] → batch ≡ [] → IsReplyNamed e.reply → All (λ (f : Entry). IsReplyNamed f.reply) mid
 only_named batch mid e is none named = named_push batch mid e is named (subst (All (λ (f : Entry). IsReplyNamed f.reply)) (sym none) (All-nil (λ (f : Entry). IsReplyNamed f.reply)))
-
-pub not_is : (b : Bool) → not b ≡ true → b ≡ false
-not_is true is = absurd (cc)
-not_is false is = refl
-
-pub is_not : (b : Bool) → not b ≡ false → b ≡ true
-is_not true is = refl
-is_not false is = absurd (cc)
 
 -- a deck that is begun from these tables
 module _ (others : OthersLeaveTexts) (own : ToldAreTheirOwn) (by : MemberId) (at : ℕ) (fields : JobFields) (groups : ℕ) (Q : Queue) (t : Tables) (told : Tell t Q) where

@@ -9,10 +9,11 @@ use Rattle.spool_text.specs.Laws.{HasNeededGroups}
 use Rattle.spool_text.specs.Texts.{packed}
 use Rattle.spool_volumes.specs.Laws.{HavePages, ReadsTexts}
 use Rattle.spool_volumes.specs.Volumes.{volume_of, start_of, AreRoomy}
-use Rattle.mas_complex.proofs.Quotients.{few_quotient}
+use Rattle.mas_complex.proofs.Basics.{few_quotient}
 use Rattle.mas_complex.proofs.Spooled.{spared_other}
 use Rattle.member_decks.specs.declared.spooling.SpoolError.{SpoolError}
 use Rattle.member_decks.specs.declared.spooling.SpoolError.TheVariants.{Lost, Halted as Stopped}
+pub use Rattle.std.proofs.lemmas.Bool.{false_from_ne_true as there_by}
 
 -- ACTS
 
@@ -61,9 +62,6 @@ act_on told by v old new r acts only = record {
 
 -- ONE PAGE
 
-pub there_by : (b : Bool) → (b ≡ true → ⊥) → b ≡ false
-there_by b never = test_cases b (b ≡ false) (λ e. absurd (never e)) (λ e. e)
-
 some_groups : (volumes groups n : ℕ) → n < volumes * groups → 1 ≤ groups
 some_groups volumes zero n lt = absurd (omega (arith, lt))
 some_groups volumes (suc groups) n lt = omega arith
@@ -72,8 +70,7 @@ some_groups volumes (suc groups) n lt = omega arith
 within : (v : View) (config : Config) (g : GroupNo) → IsGroupOf config g → AreRoomy v config → v.lost (DiskPart (device_of config.groups g)) ≡ false → is_within v config.groups g ≡ true
 within v config g is roomy there =
     let some : 1 ≤ config.groups = some_groups config.volumes config.groups g.0 is in
-    let few = few_quotient g.0 config.volumes config.groups some is in
-    let size = roomy (volume_of config.groups g) (omega arith) few there in
+    let size = roomy (volume_of config.groups g) (omega arith) (few_quotient g.0 config.volumes config.groups some is) there in
     let below : g.0 % config.groups < config.groups = mod_below g.0 config.groups some in
     fits (g.0 % config.groups) config.groups (v.size (device_of config.groups g)) below size
   where
@@ -88,8 +85,7 @@ pub stands : (v w : View) (config : Config) (g : GroupNo) (bytes : Page) (by : �
     → Acts by (DiskPart (device_of config.groups g)) v w Done → WritesGroup config.groups g v w bytes Done → page_in (spools_at w w.now) config.groups g ≡ bytes.0
 stands v w config g bytes by long is roomy acts writes =
     let alive = there_by (v.lost (DiskPart (device_of config.groups g))) (λ lost. acts.stays_lost lost refl) in
-    let wide = within v config g is roomy alive in
-    let written = subst (λ (b : Bool). Written (page_start b (start_of config.groups g)) (page_part b bytes.0) (disk_now v (device_of config.groups g)) (disk_now w (device_of config.groups g)) Done) wide writes.disk in
+    let written = subst (λ (b : Bool). Written (page_start b (start_of config.groups g)) (page_part b bytes.0) (disk_now v (device_of config.groups g)) (disk_now w (device_of config.groups g)) Done) (within v config g is roomy alive) writes.disk in
     subst (λ (n : ℕ). slice (start_of config.groups g) n (disk_now w (device_of config.groups g)).bytes ≡ bytes.0) long written.1
 
 pub spares : (v w : View) (per : ℕ) (g h : GroupNo) (bytes : Page) (r : Act) → length bytes.0 ≡ page_bytes → WritesGroup per g v w bytes r → h.0 ≢ g.0 → IsGroupKept per h (spools_at v v.now) (spools_at w w.now)

@@ -18,7 +18,7 @@ CopyCauses (Err ConsoleFault) by old new = ⊥
 -- they were, and no copy is lost by a call.
 pub record IsOnCopies {T : Type 0} (told : Type 0) (by : ℕ) (old new : PairState) (result : Result T NodeNo) : Type 0
   where
-    pub course : Course old.first new.first old.second new.second old.view new.view
+    pub course : Course old new
     pub loses : told → (d : Dev) → new.view.loses d ≡ old.view.loses d
     pub cause : CopyCauses result by old new
     pub spares : Spares by (stopped_in result) old.view new.view

@@ -18,7 +18,7 @@ pub use Rattle.mas_types.specs.declared.journals.Entry.{Entry}
 pub use Rattle.mas_types.specs.declared.queues.Queue.{Queue}
 pub use Rattle.member_steps.specs.Batches.{CanDraw, HasDone}
 pub use Rattle.member_steps.specs.Calls.{Apart, Course, IsLeft, none_lost}
-pub use Rattle.member_steps.specs.Copies.{RestsAt}
+pub use Rattle.member_steps.specs.Copies.{IsAtRest, first_of, second_of}
 pub use Rattle.member_steps.specs.Counting.{HasCounted}
 pub use Rattle.member_steps.specs.NodeNo.{NodeNo}
 pub use Rattle.member_steps.specs.NodeNo.TheVariants.{BothLost, ConsoleFault, Halted, NoMemory}

@@ -1,11 +1,12 @@
 //! Batches of a step that are kept, and the lines with which it closes.
-ghost use Rattle.member_decks.specs.Names.{Plain, Ckpt1, Ckpt2, IsReplyNamed, members_most, disk_now, IsUntold, setting, begun, end_of, kept_all, MayAct, run, HasTexts, lost_now, spools_at, TellSound, AreFit, CanDraw, HasDone, RestsAt, HasCounted, KeepsNotes, LeavesNotes, AreAllKept, IsBetween, MayBegin, printed_after};
-ghost use Rattle.std.specs.Prelude.{◌≡◌, ◌+◌, ◌≤◌, ◌<◌, ◌^◌, ◌++◌, [], All, None, Some, Option, length, reverse, true, false, Err, IfOk, OnOk};
+ghost use Rattle.member_decks.specs.Names.{Plain, IsReplyNamed, members_most, begun, end_of, MayAct, TellSound, AreFit, CanDraw, HasDone, IsAtRest, first_of, second_of, HasCounted, KeepsNotes, LeavesNotes, AreAllKept, IsBetween, printed_after};
+ghost use Rattle.std.specs.Prelude.{◌≡◌, ◌+◌, ◌≤◌, ◌<◌, ◌^◌, [], All, None, Some, Option, length, reverse, true, false, Err, IfOk, OnOk};
 ghost use Rattle.std.specs.List.{find};
 ghost use Rattle.std.specs.Option.{option_copied};
 ghost use Rattle.member_decks.specs.Decks.{closes as closes_lem, closing_reply, finishing as finishing_lem, lines_by};
-ghost use Rattle.mas_complex.specs.CallCounts.{pair_state};
+ghost use Rattle.mas_complex.specs.CallCounts.{pair_of};
 ghost use Rattle.mas_complex.specs.Parts.{parts_of};
+ghost use Rattle.mas_complex.specs.Begins.{HasTextsWith, IsUntoldOf, MayBeginOf, kept_queue};
 ghost use Rattle.member_decks.specs.Keeping.{GivesUpLeaves, IsOnCopies, KeepLeaves};
 
 use cmd_report::{closing, reply_lines};
@@ -92,22 +93,13 @@ pub fn keep_batch<P: Plant + Drop, C: Steady + Drop>(
     requires draws { CanDraw member.old.checkpoint }
     requires fit { AreFit member.old.checkpoint.tables }
     requires same_level { P.tells → complex.old.level ≡ member.old.checkpoint.level }
-    requires done { P.tells → HasDone (run complex.old.base (kept_all complex.old.journal.batches)) member.old.batch
-        member.old.checkpoint }
+    requires done { P.tells → HasDone (kept_queue complex.old) member.old.batch member.old.checkpoint }
     requires small { complex.old.level + 1 < 2 ^ 63 }
-    requires rests1 { RestsAt P.tells complex.old.pair.first.alive complex.old.first
-        (C.count complex.old.pair.first.copy) member.old.checkpoint.pages
-        (C.reads (disk_now (P.view complex.old.plant) Ckpt1).bytes) }
-    requires rests2 { RestsAt P.tells complex.old.pair.second.alive complex.old.second
-        (C.count complex.old.pair.second.copy) member.old.checkpoint.pages
-        (C.reads (disk_now (P.view complex.old.plant) Ckpt2).bytes) }
-    requires untold { P.tells → IsUntold (setting C.reads complex.old.base complex.old.since) (P.view complex.old.plant)
-        member.old.batch }
-    requires allowed { P.tells → MayBegin complex.old.base complex.old.journal.batches complex.old.printed
-        member.old.batch }
-    requires texts { P.tells → ∥ HasTexts (lost_now (P.view complex.old.plant))
-        (spools_at (P.view complex.old.plant) (P.view complex.old.plant).now) complex.old.base.config.groups
-        (run complex.old.base (kept_all complex.old.journal.batches ++ member.old.batch)) ∥₁ }
+    requires rests1 { IsAtRest P.tells (first_of complex.old) member.old.checkpoint.pages }
+    requires rests2 { IsAtRest P.tells (second_of complex.old) member.old.checkpoint.pages }
+    requires untold { P.tells → IsUntoldOf complex.old member.old.batch }
+    requires allowed { P.tells → MayBeginOf complex.old member.old.batch }
+    requires texts { P.tells → HasTextsWith complex.old member.old.batch }
     requires sound { P.tells → TellSound member.old.checkpoint.tables }
     requires level { member.old.checkpoint.level + 1 < 2 ^ 63 }
     requires room1 { complex.old.pair.first.alive ≡ true → 1 ≤ C.room complex.old.pair.first.copy }
@@ -120,22 +112,16 @@ pub fn keep_batch<P: Plant + Drop, C: Steady + Drop>(
     ensures room { member.new.room ≡ member.old.room }
     ensures here { member.new.behind ≡ false }
     ensures tables { member.new.checkpoint.tables ≡ member.old.checkpoint.tables }
-    ensures acts { IsOnCopies P.tells member.old.id.0
-        (pair_state P.view (parts_of complex.old)) (pair_state P.view (parts_of complex.new)) result }
+    ensures acts { IsOnCopies P.tells member.old.id.0 (pair_of complex.old) (pair_of complex.new) result }
     ensures leaves { KeepLeaves result complex.old.journal.batches
         (end_of complex.new.placed complex.new.current complex.new.journal.batches)
         (begun (P.view complex.old.plant).now member.old.id member.old.batch) (P.view complex.new.plant).now }
     ensures printed { OnOk result (complex.new.printed
         ≡ printed_after member.old.id member.old.batch complex.old.printed) }
     ensures unreserved { OnOk result (complex.new.reserved ≡ None) }
-    ensures between { OnOk result (IsBetween P.tells complex.new.base complex.new.journal.batches complex.new.current
-        complex.new.placed complex.new.level member.new.batch member.new.checkpoint) }
-    ensures rests1 { OnOk result (RestsAt P.tells complex.new.pair.first.alive complex.new.first
-        (C.count complex.new.pair.first.copy) member.new.checkpoint.pages
-        (C.reads (disk_now (P.view complex.new.plant) Ckpt1).bytes)) }
-    ensures rests2 { OnOk result (RestsAt P.tells complex.new.pair.second.alive complex.new.second
-        (C.count complex.new.pair.second.copy) member.new.checkpoint.pages
-        (C.reads (disk_now (P.view complex.new.plant) Ckpt2).bytes)) }
+    ensures between { OnOk result (IsBetween P.tells (parts_of complex.new) member.new.batch member.new.checkpoint) }
+    ensures rests1 { OnOk result (IsAtRest P.tells (first_of complex.new) member.new.checkpoint.pages) }
+    ensures rests2 { OnOk result (IsAtRest P.tells (second_of complex.new) member.new.checkpoint.pages) }
     ensures kept { OnOk result (AreAllKept complex.old.journal.batches (P.view complex.old.plant).now
         → AreAllKept complex.new.journal.batches (P.view complex.new.plant).now) }
     ensures level { OnOk result (member.new.checkpoint.level ≤ member.old.checkpoint.level + 1) }
@@ -166,22 +152,13 @@ pub fn give_up<P: Plant + Drop, C: Steady + Drop>(
     requires draws { CanDraw member.old.checkpoint }
     requires fit { AreFit member.old.checkpoint.tables }
     requires same_level { P.tells → complex.old.level ≡ member.old.checkpoint.level }
-    requires done { P.tells → HasDone (run complex.old.base (kept_all complex.old.journal.batches)) member.old.batch
-        member.old.checkpoint }
+    requires done { P.tells → HasDone (kept_queue complex.old) member.old.batch member.old.checkpoint }
     requires small { complex.old.level + 1 < 2 ^ 63 }
-    requires rests1 { RestsAt P.tells complex.old.pair.first.alive complex.old.first
-        (C.count complex.old.pair.first.copy) member.old.checkpoint.pages
-        (C.reads (disk_now (P.view complex.old.plant) Ckpt1).bytes) }
-    requires rests2 { RestsAt P.tells complex.old.pair.second.alive complex.old.second
-        (C.count complex.old.pair.second.copy) member.old.checkpoint.pages
-        (C.reads (disk_now (P.view complex.old.plant) Ckpt2).bytes) }
-    requires untold { P.tells → IsUntold (setting C.reads complex.old.base complex.old.since) (P.view complex.old.plant)
-        member.old.batch }
-    requires allowed { P.tells → MayBegin complex.old.base complex.old.journal.batches complex.old.printed
-        member.old.batch }
-    requires texts { P.tells → ∥ HasTexts (lost_now (P.view complex.old.plant))
-        (spools_at (P.view complex.old.plant) (P.view complex.old.plant).now) complex.old.base.config.groups
-        (run complex.old.base (kept_all complex.old.journal.batches ++ member.old.batch)) ∥₁ }
+    requires rests1 { IsAtRest P.tells (first_of complex.old) member.old.checkpoint.pages }
+    requires rests2 { IsAtRest P.tells (second_of complex.old) member.old.checkpoint.pages }
+    requires untold { P.tells → IsUntoldOf complex.old member.old.batch }
+    requires allowed { P.tells → MayBeginOf complex.old member.old.batch }
+    requires texts { P.tells → HasTextsWith complex.old member.old.batch }
     requires sound { P.tells → TellSound member.old.checkpoint.tables }
     requires level { member.old.checkpoint.level + 1 < 2 ^ 63 }
     requires room1 { complex.old.pair.first.alive ≡ true → 1 ≤ C.room complex.old.pair.first.copy }
@@ -192,7 +169,7 @@ pub fn give_up<P: Plant + Drop, C: Steady + Drop>(
     ensures book { complex.new.book ≡ complex.old.book }
     ensures id { member.new.id ≡ member.old.id }
     ensures acts { IsOnCopies {T = Unit {0}} P.tells member.old.id.0
-        (pair_state P.view (parts_of complex.old)) (pair_state P.view (parts_of complex.new)) (Err result) }
+        (pair_of complex.old) (pair_of complex.new) (Err result) }
     ensures leaves { GivesUpLeaves result complex.old.journal.batches
         (end_of complex.new.placed complex.new.current complex.new.journal.batches)
         (begun (P.view complex.old.plant).now member.old.id member.old.batch) (P.view complex.new.plant).now }

@@ -10,7 +10,7 @@ use Rattle.spool_plant.specs.View.{View, World, disk_at}
 use Rattle.spool_plant.specs.Acts.{Goes, Acts, Loses, Says, SamePaper, SameWires, Rose, next, top}
 use Rattle.ckpt_copy.specs.Moments.{either_way, goes_on, goes_none}
 use Rattle.duplex_pair.specs.Both.{PairActed}
-use Rattle.mas_complex.specs.CallCounts.{IsLostOnce}
+use Rattle.mas_complex.specs.CallCounts.{IsLostOnce, pair_at}
 use Rattle.mas_complex.specs.Elsewhere.{Elsewhere, OnCopies}
 use Rattle.mas_complex.specs.Paper.{SamePapers}
 use Rattle.member_node.specs.Calls.{Apart, Course, Grows, IsOnlyOn, VolumesStay, WasLost, none_lost}
@@ -54,7 +54,7 @@ stay_more few but v w fewer x = record { lost = λ n other. x.lost n (fewer n ot
 pub stay_act : (by : ℕ) (part : Part) (but : ℕ → Bool) (v w : View) (result : Act) → ((n : ℕ) → but n ≡ false → (DiskPart (Spool n) ≢ part) ⊎ (result ≢ Failed)) → Acts by part v w result → VolumesStay but v w
 stay_act by part but v w result other act = record { lost = λ n is. act.else_lost (DiskPart (Spool n)) (other n is); faults = λ n is. act.else_faults (DiskPart (Spool n)) (other n is) }
 
-pub course_of : (by : ℕ) (a a' b b' stopped : Bool) (old new : View) → PairActed by a a' b b' stopped old new → Course a a' b b' old new
+pub course_of : (by : ℕ) (a a' b b' stopped : Bool) (old new : View) → PairActed by a a' b b' stopped old new → Course (pair_at a b old) (pair_at a' b' new)
 course_of by a a' b b' stopped old new acted = record {
   goes = acted.goes;
   failed1 = λ was not. inl (acted.failed1 was not);
@@ -72,7 +72,7 @@ course_of by a a' b b' stopped old new acted = record {
   };
 }
 
-pub course_none : (a b : Bool) (v : View) → Course a a b b v v
+pub course_none : (a b : Bool) (v : View) → Course (pair_at a b v) (pair_at a b v)
 course_none a b v = record {
   goes = goes_none v;
   failed1 = λ is not. absurd (no a is not);
@@ -145,7 +145,7 @@ loses_grow2 old new x Ckpt2 = inr (rose_next (old.loses Ckpt2) (new.loses Ckpt2)
 loses_grow2 old new x (Spool n) = inl (x.else_counted (Spool n) (volume_apart2 n))
 
 -- a call that lost CKPT1, or CKPT2, whose copy counted as alive
-pub course_lost1 : (a a' b b' : Bool) (old new : View) → a ≡ true → a' ≡ false → b' ≡ b → Loses (DiskPart Ckpt1) old new → Course a a' b b' old new
+pub course_lost1 : (a a' b b' : Bool) (old new : View) → a ≡ true → a' ≡ false → b' ≡ b → Loses (DiskPart Ckpt1) old new → Course (pair_at a b old) (pair_at a' b' new)
 course_lost1 a a' b b' old new was dead same x = record {
   goes = x.goes;
   failed1 = λ is not. inr (rose_next (old.loses Ckpt1) (new.loses Ckpt1) (x.counted Ckpt1 refl));
@@ -160,7 +160,7 @@ course_lost1 a a' b b' old new was dead same x = record {
   volumes = record { lost = λ n other. x.else_lost (DiskPart (Spool n)) (volume_apart1 n); faults = λ n other. x.faults (DiskPart (Spool n)) };
 }
 
-pub course_lost2 : (a a' b b' : Bool) (old new : View) → b ≡ true → b' ≡ false → a' ≡ a → Loses (DiskPart Ckpt2) old new → Course a a' b b' old new
+pub course_lost2 : (a a' b b' : Bool) (old new : View) → b ≡ true → b' ≡ false → a' ≡ a → Loses (DiskPart Ckpt2) old new → Course (pair_at a b old) (pair_at a' b' new)
 course_lost2 a a' b b' old new was dead same x = record {
   goes = x.goes;
   failed1 = λ is not. absurd (no a is (sym same ∙ not));
@@ -181,7 +181,7 @@ pub either_alive : {A : Type 0} (x : Bool) → (x ≡ true → A) → (x ≡ fal
 either_alive true f g = f refl
 either_alive false f g = g refl
 
-pub course_then : (a a' a'' b b' b'' : Bool) (v0 v1 v2 : View) → Course a a' b b' v0 v1 → Course a' a'' b' b'' v1 v2 → Course a a'' b b'' v0 v2
+pub course_then : (a a' a'' b b' b'' : Bool) (v0 v1 v2 : View) → Course (pair_at a b v0) (pair_at a' b' v1) → Course (pair_at a' b' v1) (pair_at a'' b'' v2) → Course (pair_at a b v0) (pair_at a'' b'' v2)
 course_then a a' a'' b b' b'' v0 v1 v2 x y = record {
   goes = goes_on v0 v1 v2 x.goes y.goes;
   failed1 = λ was not. either_alive a'

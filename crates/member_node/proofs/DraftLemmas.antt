@@ -1,5 +1,6 @@
 -- Pages that are the same as those that were drawn again.
-use Rattle.std.proofs.Common.{◌≡◌, ℕ, suc, zero, ◌<◌, ◌&&◌, Bool, true, false, List, [], ◌∷◌, length, refl, sym, ◌∙◌, arith, All}
+use Rattle.std.proofs.Common.{◌≡◌, ℕ, suc, zero, ◌<◌, true, false, List, [], ◌∷◌, length, refl, sym, ◌∙◌, arith, All}
+use Rattle.std.proofs.lemmas.Bool.{and_parts as and_both}
 use Rattle.std.specs.Str.{bytes_eq}
 use Rattle.std.proofs.lemmas.Slice.Eq.{bytes_eq-Decides}
 use Rattle.mas_types.specs.declared.ids.Page.{Page}
@@ -9,10 +10,6 @@ use Rattle.ckpt_tables.specs.Shape.{HasSpelling, AreLevels}
 use Rattle.ckpt_tables.specs.Pages.{page_in, Spell}
 use Rattle.mas_complex.specs.Fits.{are_same}
 use Rattle.member_node.specs.Drawn.{AreDrawn}
-
-and_both : (a b : Bool) → (a && b) ≡ true → (a ≡ true) × (b ≡ true)
-and_both true b e = (refl, e)
-and_both false b e = absurd (cc)
 
 pub same_length : (xs ys : List Page) → are_same xs ys ≡ true → length xs ≡ length ys
 same_length [] [] e = refl

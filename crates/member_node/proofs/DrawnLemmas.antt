@@ -28,7 +28,7 @@ use Rattle.queue_telling.specs.Orders.{HaveOrders}
 use Rattle.queue_telling.specs.Telling.{Tell, PagesTell}
 use Rattle.mas_complex.specs.Crash.{next_order}
 use Rattle.mas_complex.specs.Meaning.{StandFor}
-use Rattle.mas_complex.proofs.Orders.{order_spelled}
+use Rattle.mas_complex.proofs.Found.{order_spelled}
 use Rattle.mas_complex.specs.Changed.{NamesOnly}
 use Rattle.member_node.specs.Drawn.{AreDrawn, raised}
 

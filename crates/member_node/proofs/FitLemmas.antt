@@ -1,7 +1,7 @@
 -- Orders that are below the next one.
-use Rattle.std.proofs.Common.{◌≡◌, ℕ, ◌<◌, ◌&&◌, nat_lt, Bool, true, false, List, [], ◌∷◌, Option, Some, None, refl, arith, All}
+use Rattle.std.proofs.Common.{◌≡◌, ℕ, nat_lt, Bool, true, false, List, [], ◌∷◌, Option, Some, None, refl, All}
+use Rattle.std.proofs.lemmas.Bool.{and_from as true_both, and_parts as both_true, lt-ltb as is_below, ltb-true as below}
 use Rattle.std.specs.List.{list_all}
-use Rattle.std.proofs.lemmas.Bool.Decides.{nat_tests}
 use Rattle.std.proofs.lemmas.List.Elements.{All-nil, All-cons, All-head, All-tail}
 use Rattle.lay_bytes.specs.declared.records.JobRec.{JobRec}
 use Rattle.lay_bytes.specs.declared.records.OutRec.{OutRec}
@@ -15,20 +15,6 @@ use Rattle.page_tables.specs.Kinds.{is_job_below, is_output_below}
 
 pub not_both : (b : Bool) → b ≡ false → b ≡ true → ⊥
 not_both b p q = cc
-
-both_true : (a b : Bool) → (a && b) ≡ true → (a ≡ true) × (b ≡ true)
-both_true true b is = (refl, is)
-both_true false b is = absurd (cc)
-
-true_both : (a b : Bool) → a ≡ true → b ≡ true → (a && b) ≡ true
-true_both true b one two = two
-true_both false b one two = absurd (cc)
-
-below : (a b : ℕ) → nat_lt a b ≡ true → a < b
-below a b is = grind (arith, nat_tests, is)
-
-is_below : (a b : ℕ) → a < b → nat_lt a b ≡ true
-is_below a b lt = grind (arith, nat_tests, lt)
 
 pub jobs_fit : (order : ℕ) (slots : List (Option JobRec)) → list_all (is_job_below order) slots ≡ true → All (IfUsed IsJobRec) slots → All (IsFitJob order) (used slots)
 jobs_fit order [] is recs = All-nil (IsFitJob order)

@@ -31,10 +31,11 @@ use Rattle.duplex_pair.specs.Halves.{SomeAlive}
 use Rattle.duplex_pair.proofs.ActCounting.{acts_then}
 use Rattle.mas_complex.specs.Elsewhere.{OnCopies}
 use Rattle.member_node.specs.Reads.{AreLow, ArePagesOf, HasRead, IsRead, IsReadIn, IsReadWhole, IsUpTo, MayGoOn, ReadCauses, ReadInCauses, ReadsAs, ReadsLow, StandAt, TookActs, copies_alive, orders_after, too_high}
-use Rattle.member_node.specs.Copies.{RestsAt}
+use Rattle.member_node.specs.Copies.{Reading, RestsAt}
 use Rattle.member_node.specs.Spares.{Spares, is_stop}
 use Rattle.ckpt_places.specs.declared.places.Place.{Place}
 use Rattle.mas_complex.specs.Journals.{journal_most}
+use Rattle.mas_complex.specs.CallCounts.{pair_at}
 use Rattle.member_node.proofs.CourseLemmas.{no as not_both, rose_later, apart_none, apart_on, apart_then, course_none, course_of, course_then}
 use Rattle.member_node.proofs.DrawnLemmas.{drawn_level, page_joined}
 use Rattle.member_node.proofs.SpareLemmas.{spares_for, spares_none, spares_then}
@@ -226,7 +227,7 @@ first_page_of room slice into was same some is =
 
 -- what a loop over pages keeps: it began with the room as it was, at the first page
 pub record IsReadTo (told : Type 0) (by : ℕ) (was1 is1 was2 is2 : Bool) (old new : View) (reads : List ℕ → Option (List ℕ)) (first page : ℕ) (room now : List Page) : Type 0 where
-  pub acts : HasRead told was1 is1 was2 is2 old new
+  pub acts : HasRead told (pair_at was1 was2 old) (pair_at is1 is2 new)
   pub spares : Spares by false old new
   pub loses : (d : Dev) → new.loses d ≡ old.loses d
   pub many : length now ≡ length room
@@ -234,11 +235,11 @@ pub record IsReadTo (told : Type 0) (by : ℕ) (was1 is1 was2 is2 : Bool) (old n
   pub pages : told → (was : List ℕ) → ReadsAs told was1 (reads (disk_now old Ckpt1).bytes) was → ReadsAs told was2 (reads (disk_now old Ckpt2).bytes) was → ArePagesOf first page was now
   pub some : (page ≡ first) ⊎ SomeAlive is1 is2
 
-pub read_none : (told : Type 0) (a b : Bool) (v : View) → HasRead told a a b b v v
+pub read_none : (told : Type 0) (a b : Bool) (v : View) → HasRead told (pair_at a b v) (pair_at a b v)
 read_none told a b v = record { course = course_none a b v; loses = λ t d. refl; apart = λ t. apart_none v; bytes = λ t d. refl }
 
 -- one read of both copies
-pub read_acted : (told : Type 0) (by : ℕ) (a a' b b' stopped : Bool) (old new : View) → PairActed by a a' b b' stopped old new → (told → OnCopies old new) → (told → (d : Dev) → (disk_now new d).bytes ≡ (disk_now old d).bytes) → HasRead told a a' b b' old new
+pub read_acted : (told : Type 0) (by : ℕ) (a a' b b' stopped : Bool) (old new : View) → PairActed by a a' b b' stopped old new → (told → OnCopies old new) → (told → (d : Dev) → (disk_now new d).bytes ≡ (disk_now old d).bytes) → HasRead told (pair_at a b old) (pair_at a' b' new)
 read_acted told by a a' b b' stopped old new acted on bytes = record {
   course = course_of by a a' b b' stopped old new acted;
   loses = λ t d. acted.loses d;
@@ -246,7 +247,7 @@ read_acted told by a a' b b' stopped old new acted on bytes = record {
   bytes = bytes;
 }
 
-pub read_then : (told : Type 0) (a a' a'' b b' b'' : Bool) (v0 v1 v2 : View) → HasRead told a a' b b' v0 v1 → HasRead told a' a'' b' b'' v1 v2 → HasRead told a a'' b b'' v0 v2
+pub read_then : (told : Type 0) (a a' a'' b b' b'' : Bool) (v0 v1 v2 : View) → HasRead told (pair_at a b v0) (pair_at a' b' v1) → HasRead told (pair_at a' b' v1) (pair_at a'' b'' v2) → HasRead told (pair_at a b v0) (pair_at a'' b'' v2)
 read_then told a a' a'' b b' b'' v0 v1 v2 x y = record {
   course = course_then a a' a'' b b' b'' v0 v1 v2 x.course y.course;
   loses = λ t d. y.loses t d ∙ x.loses t d;
@@ -255,7 +256,7 @@ read_then told a a' a'' b b' b'' v0 v1 v2 x y = record {
 }
 
 -- page 0 was read, and so many pages after it
-pub acts_both : (n many : ℕ) (a a' a'' b b' b'' : Bool) (v0 v1 v2 : View) (told : Type 0) → HasRead told a a' b b' v0 v1 → HasRead told a' a'' b' b'' v1 v2 → n ≡ many → TookActs 1 a a' b b' v0 v1 → TookActs n a' a'' b' b'' v1 v2 → TookActs (1 + many) a a'' b b'' v0 v2
+pub acts_both : (n many : ℕ) (a a' a'' b b' b'' : Bool) (v0 v1 v2 : View) (told : Type 0) → HasRead told (pair_at a b v0) (pair_at a' b' v1) → HasRead told (pair_at a' b' v1) (pair_at a'' b'' v2) → n ≡ many → TookActs 1 (pair_at a b v0) (pair_at a' b' v1) → TookActs n (pair_at a' b' v1) (pair_at a'' b'' v2) → TookActs (1 + many) (pair_at a b v0) (pair_at a'' b'' v2)
 acts_both n many a a' a'' b b' b'' v0 v1 v2 told x y same one rest =
     acts_then 1 n a a' a'' b b' b'' v0.now v1.now v2.now x.course.alive1 y.course.alive1 x.course.alive2 y.course.alive2 one rest ∙ ap (λ (k : ℕ). after_acts ((1 + k) + copies_failed a a'' b b'') v0.now) same
 
@@ -264,7 +265,7 @@ pub reads_earlier : (told : Type 0) (alive alive' : Bool) (read read' : Option (
 reads_earlier told alive alive' read read' was alives same reads t on = same t ∙ reads t (alives on)
 
 -- the copies read the same by their bytes after calls that only read
-pub reads_kept : (told : Type 0) (a a' b b' : Bool) (old new : View) (reads : List ℕ → Option (List ℕ)) (was : List ℕ) → HasRead told a a' b b' old new
+pub reads_kept : (told : Type 0) (a a' b b' : Bool) (old new : View) (reads : List ℕ → Option (List ℕ)) (was : List ℕ) → HasRead told (pair_at a b old) (pair_at a' b' new)
     → (ReadsAs told a (reads (disk_now old Ckpt1).bytes) was → ReadsAs told a' (reads (disk_now new Ckpt1).bytes) was)
     × (ReadsAs told b (reads (disk_now old Ckpt2).bytes) was → ReadsAs told b' (reads (disk_now new Ckpt2).bytes) was)
 reads_kept told a a' b b' old new reads was acts = (
@@ -286,11 +287,11 @@ read_start told by a b v reads first room = record {
 
 -- one page more was read
 pub read_more : (told : Type 0) (by : ℕ) (a a' a'' b b' b'' : Bool) (v0 v1 v2 : View) (reads : List ℕ → Option (List ℕ)) (first page : ℕ) (room now : List Page) (into : Page)
-    → IsReadTo told by a a' b b' v0 v1 reads first page room now → first ≤ page → page < length now → HasRead told a' a'' b' b'' v1 v2 → Spares by false v1 v2 → ((d : Dev) → v2.loses d ≡ v1.loses d) → SomeAlive a'' b''
+    → IsReadTo told by a a' b b' v0 v1 reads first page room now → first ≤ page → page < length now → HasRead told (pair_at a' b' v1) (pair_at a'' b'' v2) → Spares by false v1 v2 → ((d : Dev) → v2.loses d ≡ v1.loses d) → SomeAlive a'' b''
     → (told → (was : List ℕ) → ReadsAs told a'' (reads (disk_now v2 Ckpt1).bytes) was → ReadsAs told b'' (reads (disk_now v2 Ckpt2).bytes) was → into.0 ≡ page_of_bytes page was)
     → IsReadTo told by a a'' b b'' v0 v2 reads first (page + 1) room (slice_set now page into)
 read_more told by a a' a'' b b' b'' v0 v1 v2 reads first page room now into x le lt acts spares loses some is =
-    let all : HasRead told a a'' b b'' v0 v2 = read_then told a a' a'' b b' b'' v0 v1 v2 x.acts acts in
+    let all : HasRead told (pair_at a b v0) (pair_at a'' b'' v2) = read_then told a a' a'' b b' b'' v0 v1 v2 x.acts acts in
     record {
       acts = all;
       spares = spares_then by false v0 v1 v2 x.spares spares;
@@ -306,12 +307,12 @@ read_more told by a a' a'' b b' b'' v0 v1 v2 reads first page room now into x le
 -- BOTH READS
 
 -- page 0 stood there, and the pages after it were read
-pub read_whole : (told : Type 0) (Q : Queue) (reached : ℕ) (a a' b b' : Bool) (v0 v1 : View) (reads : List ℕ → Option (List ℕ)) (room now : List Page) → HasRead told a a' b b' v0 v1 → told
+pub read_whole : (told : Type 0) (Q : Queue) (reached : ℕ) (a a' b b' : Bool) (v0 v1 : View) (reads : List ℕ → Option (List ℕ)) (room now : List Page) → HasRead told (pair_at a b v0) (pair_at a' b' v1) → told
     → (was : List ℕ) → level was ≡ reached → StandFor Q was → (a ≡ true → reads (disk_now v0 Ckpt1).bytes ≡ Some was) → (b ≡ true → reads (disk_now v0 Ckpt2).bytes ≡ Some was)
     → ((w : List ℕ) → ReadsAs told a (reads (disk_now v0 Ckpt1).bytes) w → ReadsAs told b (reads (disk_now v0 Ckpt2).bytes) w → ArePagesOf 0 1 w room)
     → ((w : List ℕ) → ArePagesOf 0 1 w room → ArePagesOf 0 1 w now)
     → ((w : List ℕ) → ReadsAs told a (reads (disk_now v0 Ckpt1).bytes) w → ReadsAs told b (reads (disk_now v0 Ckpt2).bytes) w → ArePagesOf 1 (length now) w now)
-    → IsReadWhole Q reached a' b' (reads (disk_now v1 Ckpt1).bytes) (reads (disk_now v1 Ckpt2).bytes) now
+    → IsReadWhole Q reached (a', reads (disk_now v1 Ckpt1).bytes) (b', reads (disk_now v1 Ckpt2).bytes) now
 read_whole told Q reached a a' b b' v0 v1 reads room now acts t was at queue one two page before rest =
     let k = reads_kept told a a' b b' v0 v1 reads was acts in
     record {
@@ -327,14 +328,14 @@ read_whole told Q reached a a' b b' v0 v1 reads room now acts t was at queue one
       from_both w ps x y (suc q) from to = y (suc q) (omega arith) to
 
 -- what has no page that is no spelling spells tables, and else nothing is told
-pub whole_spells : (Q : Queue) (reached : ℕ) (alive1 alive2 : Bool) (read1 read2 : Option (List ℕ)) (room : List Page) → page_count Q.config ≡ length room → IsReadWhole Q reached alive1 alive2 read1 read2 room → SpellSome room
-whole_spells Q reached alive1 alive2 read1 read2 room many w = room_spells Q w.was w.queue room many w.pages
+pub whole_spells : (Q : Queue) (reached : ℕ) (one two : Reading) (room : List Page) → page_count Q.config ≡ length room → IsReadWhole Q reached one two room → SpellSome room
+whole_spells Q reached one two room many w = room_spells Q w.was w.queue room many w.pages
 
-pub whole_stands : (Q : Queue) (reached : ℕ) (alive1 alive2 : Bool) (read1 read2 : Option (List ℕ)) (room : List Page) → page_count Q.config ≡ length room → IsReadWhole Q reached alive1 alive2 read1 read2 room → StandAt Q reached room
-whole_stands Q reached alive1 alive2 read1 read2 room many w = room_stands Q w.was w.queue room many w.pages reached w.at_level
+pub whole_stands : (Q : Queue) (reached : ℕ) (one two : Reading) (room : List Page) → page_count Q.config ≡ length room → IsReadWhole Q reached one two room → StandAt Q reached room
+whole_stands Q reached one two room many w = room_stands Q w.was w.queue room many w.pages reached w.at_level
 
-pub whole_bytes : (Q : Queue) (reached : ℕ) (alive1 alive2 : Bool) (read1 read2 : Option (List ℕ)) (room : List Page) → page_count Q.config ≡ length room → (w : IsReadWhole Q reached alive1 alive2 read1 read2 room) → bytes_of room ≡ w.was
-whole_bytes Q reached alive1 alive2 read1 read2 room many w = room_bytes Q w.was w.queue room many w.pages
+pub whole_bytes : (Q : Queue) (reached : ℕ) (one two : Reading) (room : List Page) → page_count Q.config ≡ length room → (w : IsReadWhole Q reached one two room) → bytes_of room ≡ w.was
+whole_bytes Q reached one two room many w = room_bytes Q w.was w.queue room many w.pages
 
 -- the answer of a read that comes after others
 pub cause_later : {T : Type 0} (r : Result T NodeNo) (by : ℕ) (is1 is2 : Bool) (v0 v1 v2 : View) → v0.stops by ≤ v1.stops by → ReadCauses r by is1 is2 v1 v2 → ReadCauses r by is1 is2 v0 v2
@@ -358,11 +359,11 @@ cause_in T U node.ConsoleFault by is1 is2 v0 v1 cause = cause
 cause_in T U node.NoMemory by is1 is2 v0 v1 cause = absurd cause
 
 -- the same error, whatever the answer would have been
-pub error_as : (T U : Type 0) (told : Type 0) (by : ℕ) (a a' b b' : Bool) (v0 v1 : View) (e : NodeNo) → IsRead {T = T} told by a a' b b' v0 v1 (Err e) → IsRead {T = U} told by a a' b b' v0 v1 (Err e)
+pub error_as : (T U : Type 0) (told : Type 0) (by : ℕ) (a a' b b' : Bool) (v0 v1 : View) (e : NodeNo) → IsRead {T = T} told by (pair_at a b v0) (pair_at a' b' v1) (Err e) → IsRead {T = U} told by (pair_at a b v0) (pair_at a' b' v1) (Err e)
 error_as T U told by a a' b b' v0 v1 e x = record { acts = x.acts; cause = cause_as T U e by a' b' v0 v1 x.cause; spares = x.spares }
 
 -- an error after other reads
-pub error_later : (T U : Type 0) (told : Type 0) (by : ℕ) (a a' a'' b b' b'' : Bool) (v0 v1 v2 : View) (e : NodeNo) → HasRead told a a' b b' v0 v1 → Spares by false v0 v1 → IsRead {T = T} told by a' a'' b' b'' v1 v2 (Err e) → IsRead {T = U} told by a a'' b b'' v0 v2 (Err e)
+pub error_later : (T U : Type 0) (told : Type 0) (by : ℕ) (a a' a'' b b' b'' : Bool) (v0 v1 v2 : View) (e : NodeNo) → HasRead told (pair_at a b v0) (pair_at a' b' v1) → Spares by false v0 v1 → IsRead {T = T} told by (pair_at a' b' v1) (pair_at a'' b'' v2) (Err e) → IsRead {T = U} told by (pair_at a b v0) (pair_at a'' b'' v2) (Err e)
 error_later T U told by a a' a'' b b' b'' v0 v1 v2 e x spares y = record {
   acts = read_then told a a' a'' b b' b'' v0 v1 v2 x y.acts;
   cause = cause_as T U e by a'' b'' v0 v2 (cause_later {T = T} (Err e) by a'' b'' v0 v1 v2 (x.course.goes.stops by) y.cause);
@@ -370,29 +371,29 @@ error_later T U told by a a' a'' b b' b'' v0 v1 v2 e x spares y = record {
 }
 
 -- the last copy was lost after other reads
-pub lost_later_read : (U : Type 0) (told : Type 0) (by : ℕ) (a a' a'' b b' b'' : Bool) (v0 v1 v2 : View) (e : NodeNo) → HasRead told a a' b b' v0 v1 → Spares by false v0 v1 → e ≡ node.BothLost → IsRead {T = Unit {0}} told 0 a' a'' b' b'' v1 v2 (Err e) → IsRead {T = U} told by a a'' b b'' v0 v2 (Err e)
+pub lost_later_read : (U : Type 0) (told : Type 0) (by : ℕ) (a a' a'' b b' b'' : Bool) (v0 v1 v2 : View) (e : NodeNo) → HasRead told (pair_at a b v0) (pair_at a' b' v1) → Spares by false v0 v1 → e ≡ node.BothLost → IsRead {T = Unit {0}} told 0 (pair_at a' b' v1) (pair_at a'' b'' v2) (Err e) → IsRead {T = U} told by (pair_at a b v0) (pair_at a'' b'' v2) (Err e)
 lost_later_read U told by a a' a'' b b' b'' v0 v1 v2 node.BothLost x spares is y = record { acts = read_then told a a' a'' b b' b'' v0 v1 v2 x y.acts; cause = y.cause; spares = spares_then by false v0 v1 v2 spares (spares_for by 0 v1 v2 y.spares) }
 lost_later_read U told by a a' a'' b b' b'' v0 v1 v2 node.Halted x spares is y = absurd (cc)
 lost_later_read U told by a a' a'' b b' b'' v0 v1 v2 node.ConsoleFault x spares is y = absurd (cc)
 lost_later_read U told by a a' a'' b b' b'' v0 v1 v2 node.NoMemory x spares is y = absurd (cc)
 
 -- an error of the first reads, where the tables are brought up too
-pub in_first : (told : Type 0) (by : ℕ) (a a' b b' : Bool) (v0 v1 : View) (e : NodeNo) → IsRead {T = Unit {0}} told by a a' b b' v0 v1 (Err e) → IsReadIn {T = Unit {0}} told by a a' b b' v0 v1 (Err e)
+pub in_first : (told : Type 0) (by : ℕ) (a a' b b' : Bool) (v0 v1 : View) (e : NodeNo) → IsRead {T = Unit {0}} told by (pair_at a b v0) (pair_at a' b' v1) (Err e) → IsReadIn {T = Unit {0}} told by (pair_at a b v0) (pair_at a' b' v1) (Err e)
 in_first told by a a' b b' v0 v1 e y = record { acts = y.acts; cause = cause_in (Unit {0}) (Unit {0}) e by a' b' v0 v1 y.cause; spares = y.spares }
 
 -- an error after other reads
-pub in_error : (T U : Type 0) (told : Type 0) (by : ℕ) (a a' a'' b b' b'' : Bool) (v0 v1 v2 : View) (e : NodeNo) → HasRead told a a' b b' v0 v1 → Spares by false v0 v1 → IsRead {T = T} told by a' a'' b' b'' v1 v2 (Err e) → IsReadIn {T = U} told by a a'' b b'' v0 v2 (Err e)
+pub in_error : (T U : Type 0) (told : Type 0) (by : ℕ) (a a' a'' b b' b'' : Bool) (v0 v1 v2 : View) (e : NodeNo) → HasRead told (pair_at a b v0) (pair_at a' b' v1) → Spares by false v0 v1 → IsRead {T = T} told by (pair_at a' b' v1) (pair_at a'' b'' v2) (Err e) → IsReadIn {T = U} told by (pair_at a b v0) (pair_at a'' b'' v2) (Err e)
 in_error T U told by a a' a'' b b' b'' v0 v1 v2 e x spares y =
-    let z : IsRead {T = U} told by a a'' b b'' v0 v2 (Err e) = error_later T U told by a a' a'' b b' b'' v0 v1 v2 e x spares y in
+    let z : IsRead {T = U} told by (pair_at a b v0) (pair_at a'' b'' v2) (Err e) = error_later T U told by a a' a'' b b' b'' v0 v1 v2 e x spares y in
     record { acts = z.acts; cause = cause_in U U e by a'' b'' v0 v2 z.cause; spares = z.spares }
 
-pub in_lost : (U : Type 0) (told : Type 0) (by : ℕ) (a a' a'' b b' b'' : Bool) (v0 v1 v2 : View) (e : NodeNo) → HasRead told a a' b b' v0 v1 → Spares by false v0 v1 → e ≡ node.BothLost → IsRead {T = Unit {0}} told 0 a' a'' b' b'' v1 v2 (Err e) → IsReadIn {T = U} told by a a'' b b'' v0 v2 (Err e)
+pub in_lost : (U : Type 0) (told : Type 0) (by : ℕ) (a a' a'' b b' b'' : Bool) (v0 v1 v2 : View) (e : NodeNo) → HasRead told (pair_at a b v0) (pair_at a' b' v1) → Spares by false v0 v1 → e ≡ node.BothLost → IsRead {T = Unit {0}} told 0 (pair_at a' b' v1) (pair_at a'' b'' v2) (Err e) → IsReadIn {T = U} told by (pair_at a b v0) (pair_at a'' b'' v2) (Err e)
 in_lost U told by a a' a'' b b' b'' v0 v1 v2 e x spares is y =
-    let z : IsRead {T = U} told by a a'' b b'' v0 v2 (Err e) = lost_later_read U told by a a' a'' b b' b'' v0 v1 v2 e x spares is y in
+    let z : IsRead {T = U} told by (pair_at a b v0) (pair_at a'' b'' v2) (Err e) = lost_later_read U told by a a' a'' b b' b'' v0 v1 v2 e x spares is y in
     record { acts = z.acts; cause = cause_in U U e by a'' b'' v0 v2 z.cause; spares = z.spares }
 
-pub in_memory : (U : Type 0) (told : Type 0) (by : ℕ) (a a' b b' : Bool) (v0 v1 : View) (e : NodeNo) → e ≡ node.NoMemory → HasRead told a a' b b' v0 v1 → Spares by false v0 v1 → SomeAlive a' b' → IsReadIn {T = U} told by a a' b b' v0 v1 (Err e)
-in_memory U told by a a' b b' v0 v1 e is x spares some = subst (λ (n : NodeNo). IsReadIn {T = U} told by a a' b b' v0 v1 (Err n)) (sym is) (record { acts = x; cause = some; spares = spares })
+pub in_memory : (U : Type 0) (told : Type 0) (by : ℕ) (a a' b b' : Bool) (v0 v1 : View) (e : NodeNo) → e ≡ node.NoMemory → HasRead told (pair_at a b v0) (pair_at a' b' v1) → Spares by false v0 v1 → SomeAlive a' b' → IsReadIn {T = U} told by (pair_at a b v0) (pair_at a' b' v1) (Err e)
+in_memory U told by a a' b b' v0 v1 e is x spares some = subst (λ (n : NodeNo). IsReadIn {T = U} told by (pair_at a b v0) (pair_at a' b' v1) (Err n)) (sym is) (record { acts = x; cause = some; spares = spares })
 
 -- A COPY IS LOST BY A MEMBER
 
@@ -441,7 +442,7 @@ low_goes config batches reached pages t orders levels at low = record {
   le_lt a b c x y = omega (arith, x, y)
 
 -- tables that some copy has which counts as alive are low
-pub low_of : (told : Type 0) (config : Config) (batches : ℕ) (a a' b b' : Bool) (v0 v1 : View) (reads : List ℕ → Option (List ℕ)) (room : List Page) (t : Tables) → HasRead told a a' b b' v0 v1 → told → SomeAlive a' b' → All (λ page. length page.0 ≡ page_bytes) room → IsCheckpoint room t
+pub low_of : (told : Type 0) (config : Config) (batches : ℕ) (a a' b b' : Bool) (v0 v1 : View) (reads : List ℕ → Option (List ℕ)) (room : List Page) (t : Tables) → HasRead told (pair_at a b v0) (pair_at a' b' v1) → told → SomeAlive a' b' → All (λ page. length page.0 ≡ page_bytes) room → IsCheckpoint room t
     → (a' ≡ true → reads (disk_now v1 Ckpt1).bytes ≡ Some (bytes_of room)) → (b' ≡ true → reads (disk_now v1 Ckpt2).bytes ≡ Some (bytes_of room))
     → ReadsLow told a config batches (reads (disk_now v0 Ckpt1).bytes) → ReadsLow told b config batches (reads (disk_now v0 Ckpt2).bytes) → AreLow config batches t
 low_of told config batches a true b b' v0 v1 reads room t acts u some sized is one two low1 low2 =

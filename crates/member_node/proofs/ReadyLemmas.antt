@@ -1,5 +1,6 @@
 -- A draft of a member's pages.
 use Rattle.std.proofs.Common.{◌≡◌, ⊎_elim, ℕ, ◌+◌, ◌*◌, ◌≤◌, ◌<◌, ◌^◌, Bool, true, List, length, Option, Some, sym, ◌∙◌, ap, subst, arith, All}
+use Rattle.std.proofs.lemmas.Option.{same_Some as some_same}
 use Rattle.std.proofs.Math.Logic.{∥∥₁_elim}
 use Rattle.mas_types.specs.declared.ids.Page.{Page}
 use Rattle.mas_types.specs.Limits.{page_bytes, pages_most}
@@ -67,7 +68,7 @@ ready_raises Q entries k n done few same drawn =
 
 -- a copy that rests at the old pages may be given the new ones
 pub ready_copy : (d : Draft) (X told : Type 0) (alive : Bool) (place : Place) (count room was is : ℕ) (old new : List Page) (read : Option (List ℕ)) → RestsAt told alive place count old read → (alive ≡ true → (X → ⊥) → 1 ≤ room) → length new ≡ length old
-    → IsSameWhere d X → IsRedrawn d was old is new → (told → RaisesOrders (bytes_of old) (bytes_of new)) → IsDraftFor d told alive count room new read
+    → IsSameWhere d X → IsRedrawn d was old is new → (told → RaisesOrders (bytes_of old) (bytes_of new)) → IsDraftFor d told (alive, read) count room new
 ready_copy draft.Same X told alive place count room was is old new read rests some many same drawn raises =
     ((λ on. many ∙ rests.as_many on), (λ t on. rests.reads t on ∙ ap (λ (ps : List Page). Some (bytes_of ps)) (sym drawn.1)))
 ready_copy (draft.Changed numbers) X told alive place count room was is old new read rests some many anew drawn raises = record {
@@ -78,9 +79,7 @@ ready_copy (draft.Changed numbers) X told alive place count room was is old new 
   exact = λ t on before reads. names_read numbers before (bytes_of old) (bytes_of new) read drawn.exact (rests.reads t on) reads;
   leveled = λ t on before reads. subst (λ (n : ℕ). IsNextOf n before (bytes_of new)) (many ∙ rests.as_many on) (subst (λ (w : List ℕ). IsNextOf (length new) w (bytes_of new)) (some_same (bytes_of old) before (sym (rests.reads t on) ∙ reads)) drawn.leveled);
   orders = λ t on before reads. subst (λ (w : List ℕ). RaisesOrders w (bytes_of new)) (some_same (bytes_of old) before (sym (rests.reads t on) ∙ reads)) (raises t);
-} where
-  some_same : (x y : List ℕ) → Some x ≡ Some y → x ≡ y
-  some_same x y e = cc
+}
 
 -- Pages that the room has, and that a draft doesn't change.
 pub ready_mirror : (d : Draft) (k n : Checkpoint) (room : List Page) (marks : List Bool) → length marks ≡ pages_most → All (λ page. length page.0 ≡ page_bytes) k.pages → All (λ page. length page.0 ≡ page_bytes) n.pages → length n.pages ≡ length k.pages

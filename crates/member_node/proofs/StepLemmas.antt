@@ -8,9 +8,10 @@ use Rattle.spool_plant.specs.View.{View}
 use Rattle.duplex_pair.specs.Halves.{IsBothLost, SomeAlive}
 use Rattle.duplex_pair.specs.Both.{PairActed}
 use Rattle.mas_complex.specs.Journals.{begun, entries_reserved, fated, with_last, end_of}
+use Rattle.mas_complex.specs.CallCounts.{pair_at}
 use Rattle.member_node.specs.declared.member.NodeNo.TheVariants.{BothLost, Halted}
 use Rattle.member_node.specs.Calls.{Apart}
-use Rattle.member_node.specs.Writes.{IsWrite}
+use Rattle.member_node.specs.Writes.{IsWrite, journal_at}
 use Rattle.member_node.proofs.CourseLemmas.{apart_none, course_none, course_of}
 use Rattle.member_node.proofs.SpareLemmas.{spares_none, spares_pair}
 use Rattle.member_node.proofs.WriteLemmas.{kept_out, flying_out}
@@ -23,7 +24,7 @@ reserved_is (Some es) some = refl
 module _ (T : Type 0) (told : Type 0) (by : MemberId) (es : List Entry) (front was batches : List Batch) (place : Batch) (one : was ≡ front ++ place ∷ []) (placed : Bool) (current : Option Batch) (a b : Bool) (v0 : View) where
   -- no page changed
   pub write_same : batches ≡ with_last (fated Kept v0.now (begun v0.now by es)) was → placed ≡ false → current ≡ None → (done : T)
-      → IsWrite told by.0 (begun v0.now by es) front (end_of placed current batches) a a b b v0 v0 (Ok done)
+      → IsWrite told by.0 (begun v0.now by es) (journal_at front (pair_at a b v0)) (journal_at (end_of placed current batches) (pair_at a b v0)) (Ok done)
   write_same is unplaced none done = record {
     course = course_none a b v0;
     loses = λ d. refl;
@@ -35,7 +36,7 @@ module _ (T : Type 0) (told : Type 0) (by : MemberId) (es : List Entry) (front w
 
   module _ (a' b' : Bool) (v1 : View) (apart : told → Apart v0 v1) where
     pub write_done : PairActed by.0 a a' b b' false v0 v1 → SomeAlive a' b' → batches ≡ with_last (fated Kept v1.now (begun v0.now by es)) was → placed ≡ false → current ≡ None → (done : T)
-        → IsWrite told by.0 (begun v0.now by es) front (end_of placed current batches) a a' b b' v0 v1 (Ok done)
+        → IsWrite told by.0 (begun v0.now by es) (journal_at front (pair_at a b v0)) (journal_at (end_of placed current batches) (pair_at a' b' v1)) (Ok done)
     write_done acted some is unplaced none done = record {
       course = course_of by.0 a a' b b' false v0 v1 acted;
       loses = acted.loses;
@@ -46,7 +47,7 @@ module _ (T : Type 0) (told : Type 0) (by : MemberId) (es : List Entry) (front w
     }
 
     pub write_lost : PairActed by.0 a a' b b' false v0 v1 → IsBothLost a' b' → batches ≡ was → current ≡ Some (begun v0.now by es)
-        → IsWrite {T = T} told by.0 (begun v0.now by es) front (end_of placed current batches) a a' b b' v0 v1 (Err BothLost)
+        → IsWrite {T = T} told by.0 (begun v0.now by es) (journal_at front (pair_at a b v0)) (journal_at (end_of placed current batches) (pair_at a' b' v1)) (Err BothLost)
     write_lost acted both is flies = record {
       course = course_of by.0 a a' b b' false v0 v1 acted;
       loses = acted.loses;
@@ -57,7 +58,7 @@ module _ (T : Type 0) (told : Type 0) (by : MemberId) (es : List Entry) (front w
     }
 
     pub write_stopped : PairActed by.0 a a' b b' true v0 v1 → batches ≡ was → current ≡ Some (begun v0.now by es)
-        → IsWrite {T = T} told by.0 (begun v0.now by es) front (end_of placed current batches) a a' b b' v0 v1 (Err Halted)
+        → IsWrite {T = T} told by.0 (begun v0.now by es) (journal_at front (pair_at a b v0)) (journal_at (end_of placed current batches) (pair_at a' b' v1)) (Err Halted)
     write_stopped acted is flies = record {
       course = course_of by.0 a a' b b' true v0 v1 acted;
       loses = acted.loses;

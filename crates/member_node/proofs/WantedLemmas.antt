@@ -1,5 +1,6 @@
 -- The pages that a member wants, read one after another.
 use Rattle.std.proofs.Common.{◌≡◌, ℕ, zero, suc, ◌+◌, ◌^◌, ◌≤◌, ◌<◌, nat_lt, Bool, true, false, if◌then◌else◌, List, [], ◌∷◌, ◌++◌, length, get_or, slice_index, slice_set, Option, Some, refl, sym, ◌∙◌, ap, subst, arith, All}
+use Rattle.std.proofs.lemmas.Option.{same_Some as some_same}
 use Rattle.std.proofs.lemmas.List.{length-append, length-set}
 use Rattle.std.proofs.lemmas.List.Elements.{All-from_get_or, All-get_or}
 use Rattle.std.proofs.lemmas.Bool.{ltb-false}
@@ -17,6 +18,7 @@ use Rattle.duplex_pair.specs.Halves.{SomeAlive}
 use Rattle.duplex_pair.proofs.ActCounting.{acts_then, no_acts}
 use Rattle.mas_complex.specs.Meaning.{StandFor}
 use Rattle.mas_complex.specs.Past.{age, AreLater, HasNoted, IsLater}
+use Rattle.mas_complex.specs.CallCounts.{pair_at}
 use Rattle.member_node.specs.declared.checkpoint.Checkpoint.{Checkpoint}
 use Rattle.member_node.specs.Drawn.{AreDrawn}
 use Rattle.member_node.specs.Reads.{ArePagesOf, HasRead, ReadsAs, TookActs}
@@ -66,10 +68,10 @@ wanted_more l page0 n some =
 -- What a loop over the pages keeps: it began with the room as it was, at page 1. Each newer page before this one was
 -- read, so many of them, and each other page is as it was.
 pub record IsReadAbove (told : Type 0) (by : ℕ) (was1 is1 was2 is2 : Bool) (old new : View) (reads : List ℕ → Option (List ℕ)) (l page count : ℕ) (room now : List Page) : Type 0 where
-  pub acts : HasRead told was1 is1 was2 is2 old new
+  pub acts : HasRead told (pair_at was1 was2 old) (pair_at is1 is2 new)
   pub spares : Spares by false old new
   pub loses : (d : Dev) → new.loses d ≡ old.loses d
-  pub took : TookActs count was1 is1 was2 is2 old new
+  pub took : TookActs count (pair_at was1 was2 old) (pair_at is1 is2 new)
   pub some : SomeAlive is1 is2
   pub many : length now ≡ length room
   pub within : page ≤ length now
@@ -131,11 +133,11 @@ page_comes l page false now room into was is stays read same header unchanged =
 -- one page more
 pub above_next : (told : Type 0) (by : ℕ) (a a' a'' b b' b'' : Bool) (v0 v1 v2 : View) (reads : List ℕ → Option (List ℕ)) (l page count n : ℕ) (newer : Bool) (room now : List Page) (into : Page)
     → IsReadAbove told by a a' b b' v0 v1 reads l page count room now → 1 ≤ page → page < length now → newer ≡ nat_lt l (level_in (page_in now 0) page) → n ≡ one_if newer
-    → HasRead told a' a'' b' b'' v1 v2 → Spares by false v1 v2 → ((d : Dev) → v2.loses d ≡ v1.loses d) → TookActs n a' a'' b' b'' v1 v2 → SomeAlive a'' b'' → (newer ≡ false → into.0 ≡ page_in now page)
+    → HasRead told (pair_at a' b' v1) (pair_at a'' b'' v2) → Spares by false v1 v2 → ((d : Dev) → v2.loses d ≡ v1.loses d) → TookActs n (pair_at a' b' v1) (pair_at a'' b'' v2) → SomeAlive a'' b'' → (newer ≡ false → into.0 ≡ page_in now page)
     → (newer ≡ true → told → (was : List ℕ) → ReadsAs told a'' (reads (disk_now v2 Ckpt1).bytes) was → ReadsAs told b'' (reads (disk_now v2 Ckpt2).bytes) was → into.0 ≡ page_of_bytes page was)
     → IsReadAbove told by a a'' b b'' v0 v2 reads l (page + 1) (count + n) room (slice_set now page into)
 above_next told by a a' a'' b b' b'' v0 v1 v2 reads l page count n newer room now into x first lt is one acts spares loses took some stays read =
-    let all : HasRead told a a'' b b'' v0 v2 = read_then told a a' a'' b b' b'' v0 v1 v2 x.acts acts in
+    let all : HasRead told (pair_at a b v0) (pair_at a'' b'' v2) = read_then told a a' a'' b b' b'' v0 v1 v2 x.acts acts in
     let page0 : List ℕ = page_in room 0 in
     record {
       acts = all;
@@ -199,9 +201,6 @@ unchanged_own gives told Q was stand k drawn count many config some false had m 
           let past : IsLater count (bytes_of k.pages) was = subst (λ (x : List Page). IsLater count (bytes_of x) was) (sym e) (later m p ps (subst (λ (x : List Page). HasNoted had m x) e n)) in
           let here = past.each q from to (subst (λ (n : ℕ). age q was ≤ n) (sym (drawn_level k.tables k.level k.levels k.pages drawn)) low) in
           sym (page_joined k.pages q drawn.sized (omega (arith, to, many))) ∙ sym here.0
-
-some_same : (x y : List ℕ) → Some x ≡ Some y → x ≡ y
-some_same x y e = cc
 
 -- The same of what is read of any copy that counts as alive.
 pub own_unchanged : GivesLevels → (told : Type 0) → told → (Q : Queue) (kept : List ℕ) → StandFor Q kept → (a b : Bool) → SomeAlive a b → (read1 read2 : Option (List ℕ)) → (a ≡ true → read1 ≡ Some kept) → (b ≡ true → read2 ≡ Some kept)

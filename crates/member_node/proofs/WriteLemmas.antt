@@ -1,5 +1,6 @@
 -- A batch that is written to both copies.
 use Rattle.std.proofs.Common.{◌≡◌, ℕ, ◌++◌, Bool, false, List, [], ◌∷◌, Option, Some, None, refl, sym, ◌∙◌, ap, subst, append-nil}
+use Rattle.std.proofs.lemmas.Option.{same_Some as some_same}
 use Rattle.mas_types.specs.declared.journals.Batch.{Batch}
 use Rattle.mas_types.specs.declared.journals.Entry.{Entry}
 use Rattle.mas_types.specs.declared.queues.Queue.{Queue}
@@ -8,22 +9,17 @@ use Rattle.mas_types.specs.declared.journals.Fate.TheVariants.{Kept}
 use Rattle.mas_complex.specs.Changed.{NamesOnly}
 use Rattle.mas_complex.specs.Meaning.{step, run}
 use Rattle.mas_complex.specs.Journals.{with_last, end_of, fated, kept_all}
-use Rattle.mas_complex.proofs.BatchEnds.{with_last-append}
-use Rattle.mas_complex.proofs.Batches.{kept_all_append}
+use Rattle.mas_complex.proofs.Batches.{with_last-append, kept_all_append}
 
 -- numbers that cover what differs from the pages that a copy reads
 pub covers_read : (count n : ℕ) (numbers was before pages : List ℕ) (read : Option (List ℕ)) → count ≡ n → Covers n numbers before pages → read ≡ Some before → read ≡ Some was → Covers count numbers was pages
 covers_read count n numbers was before pages read many covers is reads =
     let same : before ≡ was = some_same before was (sym is ∙ reads) in
-    subst (λ (m : ℕ). Covers m numbers was pages) (sym many) (subst (λ (w : List ℕ). Covers n numbers w pages) same covers) where
-      some_same : (x y : List ℕ) → Some x ≡ Some y → x ≡ y
-      some_same x y e = cc
+    subst (λ (m : ℕ). Covers m numbers was pages) (sym many) (subst (λ (w : List ℕ). Covers n numbers w pages) same covers)
 
 -- numbers that name only what differs from the pages that a copy reads
 pub names_read : (numbers was before pages : List ℕ) (read : Option (List ℕ)) → NamesOnly numbers before pages → read ≡ Some before → read ≡ Some was → NamesOnly numbers was pages
-names_read numbers was before pages read names is reads = subst (λ (w : List ℕ). NamesOnly numbers w pages) (some_same before was (sym is ∙ reads)) names where
-  some_same : (x y : List ℕ) → Some x ≡ Some y → x ≡ y
-  some_same x y e = cc
+names_read numbers was before pages read names is reads = subst (λ (w : List ℕ). NamesOnly numbers w pages) (some_same before was (sym is ∙ reads)) names
 
 -- the journal with one batch more, as it is handed out
 pub kept_out : (front was batches : List Batch) (place b : Batch) (placed : Bool) (current : Option Batch) → was ≡ front ++ place ∷ [] → batches ≡ with_last b was → placed ≡ false → current ≡ None

@@ -6,7 +6,7 @@ use Rattle.spool_plant.specs.declared.plant.Part.TheVariants.{Disk}
 use Rattle.spool_plant.specs.View.{View, Line, disk_at, disk_now, Throughout}
 use Rattle.spool_plant.specs.Acts.{Goes, Rose, SameWires}
 use Rattle.duplex_pair.specs.Halves.{SomeAlive}
-use Rattle.mas_complex.specs.CallCounts.{IsLostOnce}
+use Rattle.mas_complex.specs.CallCounts.{IsLostOnce, PairState}
 use Rattle.mas_complex.specs.Paper.{SamePapers}
 
 -- what stands on the console now
@@ -47,18 +47,17 @@ pub record VolumesStay (but : ℕ → Bool) (old new : View) : Type 0 where
 abbrev pub none_lost : ℕ → Bool
 none_lost n = false
 
--- Acts of a run on its copies, of which these counted as alive before and count so after. A copy is lost exactly where
--- its device failed or was lost by a call, once, and one that counts as alive isn't lost if it wasn't before. The
--- volumes stay as they are.
-pub record Course (was1 is1 was2 is2 : Bool) (old new : View) : Type 0 where
-  pub goes : Goes old new
-  pub failed1 : was1 ≡ true → is1 ≡ false → WasLost Ckpt1 old new
-  pub failed2 : was2 ≡ true → is2 ≡ false → WasLost Ckpt2 old new
-  pub there1 : is1 ≡ true → old.lost (Disk Ckpt1) ≡ false → new.lost (Disk Ckpt1) ≡ false
-  pub there2 : is2 ≡ true → old.lost (Disk Ckpt2) ≡ false → new.lost (Disk Ckpt2) ≡ false
-  pub alive1 : is1 ≡ true → was1 ≡ true
-  pub alive2 : is2 ≡ true → was2 ≡ true
-  pub grow : (d : Dev) → Grows (old.loses d) (new.loses d)
-  pub once1 : IsLostOnce was1 is1 (old.loses Ckpt1) (new.loses Ckpt1)
-  pub once2 : IsLostOnce was2 is2 (old.loses Ckpt2) (new.loses Ckpt2)
-  pub volumes : VolumesStay none_lost old new
+-- Acts of a run on its copies. A copy is lost exactly where its device failed or was lost by a call, once, and one that
+-- counts as alive isn't lost if it wasn't before. The volumes stay as they are.
+pub record Course (old new : PairState) : Type 0 where
+  pub goes : Goes old.view new.view
+  pub failed1 : old.first ≡ true → new.first ≡ false → WasLost Ckpt1 old.view new.view
+  pub failed2 : old.second ≡ true → new.second ≡ false → WasLost Ckpt2 old.view new.view
+  pub there1 : new.first ≡ true → old.view.lost (Disk Ckpt1) ≡ false → new.view.lost (Disk Ckpt1) ≡ false
+  pub there2 : new.second ≡ true → old.view.lost (Disk Ckpt2) ≡ false → new.view.lost (Disk Ckpt2) ≡ false
+  pub alive1 : new.first ≡ true → old.first ≡ true
+  pub alive2 : new.second ≡ true → old.second ≡ true
+  pub grow : (d : Dev) → Grows (old.view.loses d) (new.view.loses d)
+  pub once1 : IsLostOnce old.first new.first (old.view.loses Ckpt1) (new.view.loses Ckpt1)
+  pub once2 : IsLostOnce old.second new.second (old.view.loses Ckpt2) (new.view.loses Ckpt2)
+  pub volumes : VolumesStay none_lost old.view new.view

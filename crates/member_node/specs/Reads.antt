@@ -16,12 +16,14 @@ use Rattle.duplex_pair.specs.ActCounts.{after_acts, copies_failed}
 use Rattle.duplex_pair.specs.Halves.{IsBothLost, SomeAlive}
 use Rattle.ckpt_places.specs.declared.places.Place.{Place}
 use Rattle.ckpt_places.specs.declared.places.Place.TheVariants.{Before}
+use Rattle.mas_complex.specs.CallCounts.{PairState}
 use Rattle.mas_complex.specs.Meaning.{StandFor}
 use Rattle.queue_indexed.specs.Standing.{AreFit}
 use Rattle.member_node.specs.declared.checkpoint.Checkpoint.{Checkpoint}
 use Rattle.member_node.specs.declared.member.NodeNo.{NodeNo}
 use Rattle.member_node.specs.declared.member.NodeNo.TheVariants.{BothLost, Halted, ConsoleFault, NoMemory}
 use Rattle.member_node.specs.Calls.{Apart, Course}
+use Rattle.member_node.specs.Copies.{Half, Reading}
 use Rattle.member_node.specs.Drawn.{AreDrawn}
 use Rattle.member_node.specs.Spares.{Spares, stopped_in}
 
@@ -36,9 +38,15 @@ pub record IsCalm (alive : Bool) (place : Place) (count pages : ℕ) : Type 0 wh
   pub before : place ≡ Before
   pub as_many : alive ≡ true → pages ≡ count
 
+abbrev pub IsCalmOf : Half → ℕ → Type 0
+IsCalmOf h pages = IsCalm h.alive h.place h.count pages
+
 -- what a copy reads, where it counts as alive and content is told
 abbrev pub ReadsAs : Type 0 → Bool → Option (List ℕ) → List ℕ → Type 0
 ReadsAs tells alive read was = tells → alive ≡ true → read ≡ Some was
+
+abbrev pub ReadsOf : Type 0 → Half → List ℕ → Type 0
+ReadsOf tells h was = ReadsAs tells h.alive h.read was
 
 -- from one page on up to another, each page has the bytes that it has in these pages
 abbrev pub ArePagesOf : ℕ → ℕ → List ℕ → List Page → Type 0
@@ -50,13 +58,12 @@ pub record StandAt (Q : Queue) (reached : ℕ) (pages : List Page) : Type 0 wher
   pub queue : StandFor Q (bytes_of pages)
 
 -- All pages were read of what each copy reads, and stand for the queue.
-pub record IsReadWhole (Q : Queue) (reached : ℕ) (alive1 alive2 : Bool) (read1 read2 : Option (List ℕ))
-    (room : List Page) : Type 0 where
+pub record IsReadWhole (Q : Queue) (reached : ℕ) (one two : Reading) (room : List Page) : Type 0 where
   pub was : List ℕ
   pub at_level : level was ≡ reached
   pub queue : StandFor Q was
-  pub first : alive1 ≡ true → read1 ≡ Some was
-  pub second : alive2 ≡ true → read2 ≡ Some was
+  pub first : one.0 ≡ true → one.1 ≡ Some was
+  pub second : two.0 ≡ true → two.1 ≡ Some was
   pub pages : ArePagesOf 0 (length room) was room
 
 -- A READ
@@ -70,23 +77,23 @@ ReadCauses (Err ConsoleFault) by is1 is2 old new = ⊥
 ReadCauses (Err NoMemory) by is1 is2 old new = ⊥
 
 -- Calls on the copies that made so many acts, and one more for each copy that failed in them.
-abbrev pub TookActs : ℕ → Bool → Bool → Bool → Bool → View → View → Type 0
-TookActs count was1 is1 was2 is2 old new = new.now ≡ after_acts (count + copies_failed was1 is1 was2 is2) old.now
+abbrev pub TookActs : ℕ → PairState → PairState → Type 0
+TookActs count old new = new.view.now
+    ≡ after_acts (count + copies_failed old.first new.first old.second new.second) old.view.now
 
--- Reads of the copies, of which these counted as alive before and count so after: they leave all bytes, the volumes and
--- the console. Where content is told no copy is lost but by its device.
-pub record HasRead (told : Type 0) (was1 is1 was2 is2 : Bool) (old new : View) : Type 0 where
-  pub course : Course was1 is1 was2 is2 old new
-  pub loses : told → (d : Dev) → new.loses d ≡ old.loses d
-  pub apart : told → Apart old new
-  pub bytes : told → (d : Dev) → (disk_now new d).bytes ≡ (disk_now old d).bytes
+-- Reads of the copies: they leave all bytes, the volumes and the console. Where content is told no copy is lost but by
+-- its device.
+pub record HasRead (told : Type 0) (old new : PairState) : Type 0 where
+  pub course : Course old new
+  pub loses : told → (d : Dev) → new.view.loses d ≡ old.view.loses d
+  pub apart : told → Apart old.view new.view
+  pub bytes : told → (d : Dev) → (disk_now new.view d).bytes ≡ (disk_now old.view d).bytes
 
 -- calls that only read, by their answer
-pub record IsRead {T : Type 0} (told : Type 0) (by : ℕ) (was1 is1 was2 is2 : Bool) (old new : View)
-    (result : Result T NodeNo) : Type 0 where
-  pub acts : HasRead told was1 is1 was2 is2 old new
-  pub cause : ReadCauses result by is1 is2 old new
-  pub spares : Spares by (stopped_in result) old new
+pub record IsRead {T : Type 0} (told : Type 0) (by : ℕ) (old new : PairState) (result : Result T NodeNo) : Type 0 where
+  pub acts : HasRead told old new
+  pub cause : ReadCauses result by new.first new.second old.view new.view
+  pub spares : Spares by (stopped_in result) old.view new.view
 
 -- The cause of an answer where the tables are brought up too, for which memory is needed.
 abbrev pub ReadInCauses : {T : Type 0} → Result T NodeNo → ℕ → Bool → Bool → View → View → Type 0
@@ -96,20 +103,20 @@ ReadInCauses (Err BothLost) by is1 is2 old new = IsBothLost is1 is2
 ReadInCauses (Err Halted) by is1 is2 old new = SomeAlive is1 is2 × Rose (old.stops by) (new.stops by)
 ReadInCauses (Err ConsoleFault) by is1 is2 old new = ⊥
 
-pub record IsReadIn {T : Type 0} (told : Type 0) (by : ℕ) (was1 is1 was2 is2 : Bool) (old new : View)
-    (result : Result T NodeNo) : Type 0 where
-  pub acts : HasRead told was1 is1 was2 is2 old new
-  pub cause : ReadInCauses result by is1 is2 old new
-  pub spares : Spares by (stopped_in result) old new
+pub record IsReadIn {T : Type 0} (told : Type 0) (by : ℕ) (old new : PairState) (result : Result T NodeNo) : Type 0
+  where
+    pub acts : HasRead told old new
+    pub cause : ReadInCauses result by new.first new.second old.view new.view
+    pub spares : Spares by (stopped_in result) old.view new.view
 
 -- A settle, or nothing: the volumes and the console are as they were.
-pub record IsSettle {T : Type 0} (told : Type 0) (by : ℕ) (was1 is1 was2 is2 : Bool) (old new : View)
-    (result : Result T NodeNo) : Type 0 where
-  pub course : Course was1 is1 was2 is2 old new
-  pub cause : ReadCauses result by is1 is2 old new
-  pub spares : Spares by (stopped_in result) old new
-  pub loses : (d : Dev) → new.loses d ≡ old.loses d
-  pub apart : told → Apart old new
+pub record IsSettle {T : Type 0} (told : Type 0) (by : ℕ) (old new : PairState) (result : Result T NodeNo) : Type 0
+  where
+    pub course : Course old new
+    pub cause : ReadCauses result by new.first new.second old.view new.view
+    pub spares : Spares by (stopped_in result) old.view new.view
+    pub loses : (d : Dev) → new.view.loses d ≡ old.view.loses d
+    pub apart : told → Apart old.view new.view
 
 -- THE MEMBER
 
@@ -158,3 +165,6 @@ abbrev pub ReadsLow : Type 0 → Bool → Config → ℕ → Option (List ℕ) �
 ReadsLow tells alive config batches read =
     tells → alive ≡ true → (pages : List Page) (t : Tables) → All (λ page. length page.0 ≡ page_bytes) pages
     → read ≡ Some (bytes_of pages) → IsCheckpoint pages t → AreLow config batches t
+
+abbrev pub IsLowOf : Type 0 → Half → Config → ℕ → Type 0
+IsLowOf tells h config batches = ReadsLow tells h.alive config batches h.read

@@ -7,6 +7,7 @@ use Rattle.spool_plant.specs.View.{View}
 use Rattle.spool_plant.specs.Acts.{Rose}
 use Rattle.duplex_pair.specs.Halves.{IsBothLost}
 use Rattle.mas_complex.specs.Journals.{fated}
+use Rattle.mas_complex.specs.CallCounts.{PairState}
 use Rattle.member_node.specs.declared.member.NodeNo.{NodeNo}
 use Rattle.member_node.specs.declared.member.NodeNo.TheVariants.{BothLost, Halted, ConsoleFault, NoMemory}
 use Rattle.member_node.specs.Calls.{Apart, Course, IsLeft}
@@ -29,19 +30,28 @@ WriteLeaves (Err ConsoleFault) front batches b now = ⊥
 WriteLeaves (Err NoMemory) front batches b now = ⊥
 
 -- the cause of an answer, and which copies count as alive after it
-abbrev pub WriteCauses : {T : Type 0} → Result T NodeNo → ℕ → Bool → Bool → Bool → Bool → View → View → Type 0
-WriteCauses (Ok done) by was1 is1 was2 is2 old new = IsLeft was1 is1 was2 is2
-WriteCauses (Err BothLost) by was1 is1 was2 is2 old new = IsBothLost is1 is2
-WriteCauses (Err Halted) by was1 is1 was2 is2 old new = IsLeft was1 is1 was2 is2 × Rose (old.stops by) (new.stops by)
-WriteCauses (Err ConsoleFault) by was1 is1 was2 is2 old new = ⊥
-WriteCauses (Err NoMemory) by was1 is1 was2 is2 old new = ⊥
+abbrev pub WriteCauses : {T : Type 0} → Result T NodeNo → ℕ → PairState → PairState → Type 0
+WriteCauses (Ok done) by old new = IsLeft old.first new.first old.second new.second
+WriteCauses (Err BothLost) by old new = IsBothLost new.first new.second
+WriteCauses (Err Halted) by old new = IsLeft old.first new.first old.second new.second
+    × Rose (old.view.stops by) (new.view.stops by)
+WriteCauses (Err ConsoleFault) by old new = ⊥
+WriteCauses (Err NoMemory) by old new = ⊥
 
--- A member's batch is written, over a journal with these batches before it.
-pub record IsWrite {T : Type 0} (told : Type 0) (by : ℕ) (b : Batch) (front batches : List Batch)
-    (was1 is1 was2 is2 : Bool) (old new : View) (result : Result T NodeNo) : Type 0 where
-  pub course : Course was1 is1 was2 is2 old new
-  pub loses : (d : Dev) → new.loses d ≡ old.loses d
-  pub cause : WriteCauses result by was1 is1 was2 is2 old new
-  pub spares : Spares by (stopped_in result) old new
-  pub journal : WriteLeaves result front batches b new.now
-  pub apart : told → Apart old new
+-- the batches of a journal, which copies count as alive, and what the plant shows
+pub record JournalState : Type 0 where
+  pub batches : List Batch
+  pub pair : PairState
+
+abbrev pub journal_at : List Batch → PairState → JournalState
+journal_at batches pair = record { batches = batches; pair = pair }
+
+-- A member's batch is written, after the batches of a journal.
+pub record IsWrite {T : Type 0} (told : Type 0) (by : ℕ) (b : Batch) (old new : JournalState)
+    (result : Result T NodeNo) : Type 0 where
+  pub course : Course old.pair new.pair
+  pub loses : (d : Dev) → new.pair.view.loses d ≡ old.pair.view.loses d
+  pub cause : WriteCauses result by old.pair new.pair
+  pub spares : Spares by (stopped_in result) old.pair.view new.pair.view
+  pub journal : WriteLeaves result old.batches new.batches b new.pair.view.now
+  pub apart : told → Apart old.pair.view new.pair.view

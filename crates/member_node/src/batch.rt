@@ -1,5 +1,5 @@
 //! A batch, written to both copies and kept.
-ghost use Rattle.std.specs.Prelude.{◌≡◌, ◌+◌, ◌≤◌, ◌<◌, ◌++◌, ℕ, List, None, Some, All, length, true, false, OnOk, OnErr, IsErrOf, IsSome};
+ghost use Rattle.std.specs.Prelude.{◌≡◌, ◌+◌, ◌≤◌, ◌<◌, None, Some, All, length, true, false, OnOk, OnErr, IsErrOf, IsSome};
 ghost use Rattle.mas_types.specs.declared.ids.Dev.TheVariants.{Ckpt1, Ckpt2};
 ghost use Rattle.mas_types.specs.declared.journals.Batch.{Batch};
 ghost use Rattle.mas_types.specs.declared.journals.Fate.TheVariants.{Kept};
@@ -8,20 +8,21 @@ ghost use Rattle.spool_plant.specs.Acts.{top};
 ghost use Rattle.ckpt_copy.specs.Pages.{bytes_of, level, ArePages, Covers};
 ghost use Rattle.duplex_pair.specs.declared.errors.PairNo.TheVariants.{BothLost as PairNoBothLost};
 ghost use Rattle.duplex_pair.specs.Halves.{IsBothLost, SomeAlive};
-ghost use Rattle.duplex_pair.specs.Both.{PairActed};
 ghost use Rattle.duplex_pair.specs.Outcomes.{pair_stopped};
 ghost use Rattle.ckpt_places.specs.declared.places.Place.TheVariants.{Before as AtBefore, Put as AtPut};
-ghost use Rattle.mas_complex.specs.Crash.{IsUntold, RaisesOrders, setting};
+ghost use Rattle.mas_complex.specs.Crash.{RaisesOrders};
 ghost use Rattle.mas_complex.specs.Changed.{NamesOnly};
-ghost use Rattle.mas_complex.specs.Replies.{HaveReplies};
 ghost use Rattle.mas_complex.specs.Locking.{MayAct, IsOwn};
-ghost use Rattle.mas_complex.specs.Journals.{begun, entries_reserved, fated, kept_all, with_last};
-ghost use Rattle.mas_complex.specs.Meaning.{StandFor, run};
-ghost use Rattle.mas_complex.specs.Texts.{HasTexts, lost_now, spools_at};
+ghost use Rattle.mas_complex.specs.Journals.{begun, entries_reserved, fated, with_last};
+ghost use Rattle.mas_complex.specs.Meaning.{StandFor};
 ghost use Rattle.member_node.specs.Calls.{Apart};
-ghost use Rattle.mas_complex.specs.Paper.{MayBegin, printed_after};
+ghost use Rattle.mas_complex.specs.Paper.{printed_after};
 ghost use Rattle.mas_complex.specs.Past.{IsNextOf, values_of};
+ghost use Rattle.mas_complex.specs.Begins.{HasRepliesOf, HasTextsWith, IsUntoldOf, MayBeginOf, queue_with};
 ghost use Rattle.ckpt_tables.specs.Shape.{page_count};
+ghost use Rattle.member_node.specs.Copies.{OnRead, HasRoomFor, first_of, second_of};
+ghost use Rattle.member_node.specs.Reads.{ReadsOf};
+ghost use Rattle.mas_complex.specs.CallCounts.{ActedOn, pair_of};
 
 use duplex_pair::PairNo;
 use mas_complex::{Complex, Steady};
@@ -40,8 +41,7 @@ fn log_both<P: Plant + Drop, C: Steady + Drop>(
     requires none { complex.old.current ≡ None }
     requires reserved { IsSome complex.old.reserved }
     requires some { 1 ≤ length (entries_reserved complex.old.reserved) }
-    requires replied { P.tells → ∥ HaveReplies (run complex.old.base (kept_all complex.old.journal.batches))
-        (entries_reserved complex.old.reserved) ∥₁ }
+    requires replied { P.tells → HasRepliesOf complex.old (entries_reserved complex.old.reserved) }
     requires first { complex.old.pair.first.alive ≡ true → complex.old.first ≡ AtBefore }
     requires second { complex.old.pair.second.alive ≡ true → complex.old.second ≡ AtBefore }
     requires room1 { complex.old.pair.first.alive ≡ true → 1 ≤ C.room complex.old.pair.first.copy }
@@ -52,41 +52,24 @@ fn log_both<P: Plant + Drop, C: Steady + Drop>(
         → ArePages (C.count complex.old.pair.first.copy) changed.now }
     requires changed2 { complex.old.pair.second.alive ≡ true
         → ArePages (C.count complex.old.pair.second.copy) changed.now }
-    requires covered1 { P.tells → complex.old.pair.first.alive ≡ true → (was : List ℕ)
-        → C.reads (disk_now (P.view complex.old.plant) Ckpt1).bytes ≡ Some was
-        → Covers (C.count complex.old.pair.first.copy) changed.now was (bytes_of pages.now) }
-    requires exact1 { P.tells → complex.old.pair.first.alive ≡ true → (was : List ℕ)
-        → C.reads (disk_now (P.view complex.old.plant) Ckpt1).bytes ≡ Some was
-        → NamesOnly changed.now was (bytes_of pages.now) }
-    requires leveled1 { P.tells → complex.old.pair.first.alive ≡ true → (was : List ℕ)
-        → C.reads (disk_now (P.view complex.old.plant) Ckpt1).bytes ≡ Some was
-        → IsNextOf (page_count complex.old.base.config) was (bytes_of pages.now) }
-    requires orders1 { P.tells → complex.old.pair.first.alive ≡ true → (was : List ℕ)
-        → C.reads (disk_now (P.view complex.old.plant) Ckpt1).bytes ≡ Some was
-        → RaisesOrders was (bytes_of pages.now) }
-    requires covered2 { P.tells → complex.old.pair.second.alive ≡ true → (was : List ℕ)
-        → C.reads (disk_now (P.view complex.old.plant) Ckpt2).bytes ≡ Some was
-        → Covers (C.count complex.old.pair.second.copy) changed.now was (bytes_of pages.now) }
-    requires exact2 { P.tells → complex.old.pair.second.alive ≡ true → (was : List ℕ)
-        → C.reads (disk_now (P.view complex.old.plant) Ckpt2).bytes ≡ Some was
-        → NamesOnly changed.now was (bytes_of pages.now) }
-    requires leveled2 { P.tells → complex.old.pair.second.alive ≡ true → (was : List ℕ)
-        → C.reads (disk_now (P.view complex.old.plant) Ckpt2).bytes ≡ Some was
-        → IsNextOf (page_count complex.old.base.config) was (bytes_of pages.now) }
-    requires orders2 { P.tells → complex.old.pair.second.alive ≡ true → (was : List ℕ)
-        → C.reads (disk_now (P.view complex.old.plant) Ckpt2).bytes ≡ Some was
-        → RaisesOrders was (bytes_of pages.now) }
+    requires covered1 { OnRead P.tells (first_of complex.old) (λ was. Covers (C.count complex.old.pair.first.copy)
+        changed.now was (bytes_of pages.now)) }
+    requires exact1 { OnRead P.tells (first_of complex.old) (λ was. NamesOnly changed.now was (bytes_of pages.now)) }
+    requires leveled1 { OnRead P.tells (first_of complex.old) (λ was. IsNextOf (page_count complex.old.base.config)
+        was (bytes_of pages.now)) }
+    requires orders1 { OnRead P.tells (first_of complex.old) (λ was. RaisesOrders was (bytes_of pages.now)) }
+    requires covered2 { OnRead P.tells (second_of complex.old) (λ was. Covers (C.count complex.old.pair.second.copy)
+        changed.now was (bytes_of pages.now)) }
+    requires exact2 { OnRead P.tells (second_of complex.old) (λ was. NamesOnly changed.now was (bytes_of pages.now)) }
+    requires leveled2 { OnRead P.tells (second_of complex.old) (λ was. IsNextOf (page_count complex.old.base.config)
+        was (bytes_of pages.now)) }
+    requires orders2 { OnRead P.tells (second_of complex.old) (λ was. RaisesOrders was (bytes_of pages.now)) }
     requires level { P.tells → level (bytes_of pages.now) ≡ complex.old.level + 1 }
-    requires untold { P.tells → IsUntold (setting C.reads complex.old.base complex.old.since) (P.view complex.old.plant)
-        (entries_reserved complex.old.reserved) }
-    requires allowed { P.tells → MayBegin complex.old.base complex.old.journal.batches complex.old.printed
-        (entries_reserved complex.old.reserved) }
-    requires queue { P.tells → ∥ StandFor
-        (run complex.old.base (kept_all complex.old.journal.batches ++ entries_reserved complex.old.reserved))
+    requires untold { P.tells → IsUntoldOf complex.old (entries_reserved complex.old.reserved) }
+    requires allowed { P.tells → MayBeginOf complex.old (entries_reserved complex.old.reserved) }
+    requires queue { P.tells → ∥ StandFor (queue_with complex.old (entries_reserved complex.old.reserved))
         (bytes_of pages.now) ∥₁ }
-    requires texts { P.tells → ∥ HasTexts (lost_now (P.view complex.old.plant))
-        (spools_at (P.view complex.old.plant) (P.view complex.old.plant).now) complex.old.base.config.groups
-        (run complex.old.base (kept_all complex.old.journal.batches ++ entries_reserved complex.old.reserved)) ∥₁ }
+    requires texts { P.tells → HasTextsWith complex.old (entries_reserved complex.old.reserved) }
     ensures base { complex.new.base ≡ complex.old.base }
     ensures printed { complex.new.printed
         ≡ printed_after by (entries_reserved complex.old.reserved) complex.old.printed }
@@ -110,9 +93,7 @@ fn log_both<P: Plant + Drop, C: Steady + Drop>(
         ≡ bytes_of pages.now) }
     ensures room1 { C.room complex.new.pair.first.copy ≡ C.room complex.old.pair.first.copy }
     ensures room2 { C.room complex.new.pair.second.copy ≡ C.room complex.old.pair.second.copy }
-    ensures acted { PairActed by.0 complex.old.pair.first.alive complex.new.pair.first.alive
-        complex.old.pair.second.alive complex.new.pair.second.alive (pair_stopped result) (P.view complex.old.plant)
-        (P.view complex.new.plant) }
+    ensures acted { ActedOn by.0 (pair_stopped result) (pair_of complex.old) (pair_of complex.new) }
     ensures apart { P.tells → Apart (P.view complex.old.plant) (P.view complex.new.plant) }
     ensures both { IsErrOf result PairNoBothLost
         → IsBothLost complex.new.pair.first.alive complex.new.pair.second.alive }
@@ -151,10 +132,8 @@ fn open_both<P: Plant + Drop, C: Steady + Drop>(
     ensures places { OnOk result ((complex.new.first ≡ AtBefore) × (complex.new.second ≡ AtBefore)) }
     ensures count1 { C.count complex.new.pair.first.copy ≡ C.count complex.old.pair.first.copy }
     ensures count2 { C.count complex.new.pair.second.copy ≡ C.count complex.old.pair.second.copy }
-    ensures room1 { OnOk result (complex.new.pair.first.alive ≡ true
-        → C.room complex.new.pair.first.copy ≡ C.room_after (C.room complex.old.pair.first.copy)) }
-    ensures room2 { OnOk result (complex.new.pair.second.alive ≡ true
-        → C.room complex.new.pair.second.copy ≡ C.room_after (C.room complex.old.pair.second.copy)) }
+    ensures room1 { OnOk result (HasRoomFor (first_of complex.new) (C.room_after (first_of complex.old).room)) }
+    ensures room2 { OnOk result (HasRoomFor (second_of complex.new) (C.room_after (second_of complex.old).room)) }
     ensures reads1 { OnOk result (P.tells → complex.new.pair.first.alive ≡ true
         → C.reads (disk_now (P.view complex.new.plant) Ckpt1).bytes
         ≡ Some (C.behind complex.old.pair.first.copy (disk_now (P.view complex.old.plant) Ckpt1).bytes)) }
@@ -165,9 +144,7 @@ fn open_both<P: Plant + Drop, C: Steady + Drop>(
     ensures journal { OnErr result (complex.new.journal ≡ complex.old.journal) }
     ensures placed { OnErr result (complex.new.placed ≡ complex.old.placed) }
     ensures flying { OnErr result (complex.new.current ≡ complex.old.current) }
-    ensures acted { PairActed by.0 complex.old.pair.first.alive complex.new.pair.first.alive
-        complex.old.pair.second.alive complex.new.pair.second.alive (pair_stopped result) (P.view complex.old.plant)
-        (P.view complex.new.plant) }
+    ensures acted { ActedOn by.0 (pair_stopped result) (pair_of complex.old) (pair_of complex.new) }
     ensures apart { P.tells → Apart (P.view complex.old.plant) (P.view complex.new.plant) }
     ensures both { IsErrOf result PairNoBothLost
         → IsBothLost complex.new.pair.first.alive complex.new.pair.second.alive }
@@ -192,8 +169,7 @@ pub(crate) fn commit<P: Plant + Drop, C: Steady + Drop>(
     requires none { complex.old.current ≡ None }
     requires reserved { IsSome complex.old.reserved }
     requires some { 1 ≤ length (entries_reserved complex.old.reserved) }
-    requires replied { P.tells → ∥ HaveReplies (run complex.old.base (kept_all complex.old.journal.batches))
-        (entries_reserved complex.old.reserved) ∥₁ }
+    requires replied { P.tells → HasRepliesOf complex.old (entries_reserved complex.old.reserved) }
     requires first { complex.old.pair.first.alive ≡ true → complex.old.first ≡ AtBefore }
     requires second { complex.old.pair.second.alive ≡ true → complex.old.second ≡ AtBefore }
     requires room1 { complex.old.pair.first.alive ≡ true → 1 ≤ C.room complex.old.pair.first.copy }
@@ -204,42 +180,25 @@ pub(crate) fn commit<P: Plant + Drop, C: Steady + Drop>(
         → ArePages (C.count complex.old.pair.first.copy) changed.now }
     requires changed2 { complex.old.pair.second.alive ≡ true
         → ArePages (C.count complex.old.pair.second.copy) changed.now }
-    requires covered1 { P.tells → complex.old.pair.first.alive ≡ true → (was : List ℕ)
-        → C.reads (disk_now (P.view complex.old.plant) Ckpt1).bytes ≡ Some was
-        → Covers (C.count complex.old.pair.first.copy) changed.now was (bytes_of pages.now) }
-    requires exact1 { P.tells → complex.old.pair.first.alive ≡ true → (was : List ℕ)
-        → C.reads (disk_now (P.view complex.old.plant) Ckpt1).bytes ≡ Some was
-        → NamesOnly changed.now was (bytes_of pages.now) }
-    requires leveled1 { P.tells → complex.old.pair.first.alive ≡ true → (was : List ℕ)
-        → C.reads (disk_now (P.view complex.old.plant) Ckpt1).bytes ≡ Some was
-        → IsNextOf (page_count complex.old.base.config) was (bytes_of pages.now) }
-    requires orders1 { P.tells → complex.old.pair.first.alive ≡ true → (was : List ℕ)
-        → C.reads (disk_now (P.view complex.old.plant) Ckpt1).bytes ≡ Some was
-        → RaisesOrders was (bytes_of pages.now) }
-    requires covered2 { P.tells → complex.old.pair.second.alive ≡ true → (was : List ℕ)
-        → C.reads (disk_now (P.view complex.old.plant) Ckpt2).bytes ≡ Some was
-        → Covers (C.count complex.old.pair.second.copy) changed.now was (bytes_of pages.now) }
-    requires exact2 { P.tells → complex.old.pair.second.alive ≡ true → (was : List ℕ)
-        → C.reads (disk_now (P.view complex.old.plant) Ckpt2).bytes ≡ Some was
-        → NamesOnly changed.now was (bytes_of pages.now) }
-    requires leveled2 { P.tells → complex.old.pair.second.alive ≡ true → (was : List ℕ)
-        → C.reads (disk_now (P.view complex.old.plant) Ckpt2).bytes ≡ Some was
-        → IsNextOf (page_count complex.old.base.config) was (bytes_of pages.now) }
-    requires orders2 { P.tells → complex.old.pair.second.alive ≡ true → (was : List ℕ)
-        → C.reads (disk_now (P.view complex.old.plant) Ckpt2).bytes ≡ Some was
-        → RaisesOrders was (bytes_of pages.now) }
+    requires covered1 { OnRead P.tells (first_of complex.old) (λ was. Covers (C.count complex.old.pair.first.copy)
+        changed.now was (bytes_of pages.now)) }
+    requires exact1 { OnRead P.tells (first_of complex.old) (λ was. NamesOnly changed.now was (bytes_of pages.now)) }
+    requires leveled1 { OnRead P.tells (first_of complex.old) (λ was. IsNextOf (page_count complex.old.base.config)
+        was (bytes_of pages.now)) }
+    requires orders1 { OnRead P.tells (first_of complex.old) (λ was. RaisesOrders was (bytes_of pages.now)) }
+    requires covered2 { OnRead P.tells (second_of complex.old) (λ was. Covers (C.count complex.old.pair.second.copy)
+        changed.now was (bytes_of pages.now)) }
+    requires exact2 { OnRead P.tells (second_of complex.old) (λ was. NamesOnly changed.now was (bytes_of pages.now)) }
+    requires leveled2 { OnRead P.tells (second_of complex.old) (λ was. IsNextOf (page_count complex.old.base.config)
+        was (bytes_of pages.now)) }
+    requires orders2 { OnRead P.tells (second_of complex.old) (λ was. RaisesOrders was (bytes_of pages.now)) }
     requires level { P.tells → level (bytes_of pages.now) ≡ complex.old.level + 1 }
     requires small { complex.old.level < top }
-    requires untold { P.tells → IsUntold (setting C.reads complex.old.base complex.old.since) (P.view complex.old.plant)
-        (entries_reserved complex.old.reserved) }
-    requires allowed { P.tells → MayBegin complex.old.base complex.old.journal.batches complex.old.printed
-        (entries_reserved complex.old.reserved) }
-    requires queue { P.tells → ∥ StandFor
-        (run complex.old.base (kept_all complex.old.journal.batches ++ entries_reserved complex.old.reserved))
+    requires untold { P.tells → IsUntoldOf complex.old (entries_reserved complex.old.reserved) }
+    requires allowed { P.tells → MayBeginOf complex.old (entries_reserved complex.old.reserved) }
+    requires queue { P.tells → ∥ StandFor (queue_with complex.old (entries_reserved complex.old.reserved))
         (bytes_of pages.now) ∥₁ }
-    requires texts { P.tells → ∥ HasTexts (lost_now (P.view complex.old.plant))
-        (spools_at (P.view complex.old.plant) (P.view complex.old.plant).now) complex.old.base.config.groups
-        (run complex.old.base (kept_all complex.old.journal.batches ++ entries_reserved complex.old.reserved)) ∥₁ }
+    requires texts { P.tells → HasTextsWith complex.old (entries_reserved complex.old.reserved) }
     ensures base { complex.new.base ≡ complex.old.base }
     ensures printed { complex.new.printed
         ≡ printed_after by (entries_reserved complex.old.reserved) complex.old.printed }
@@ -257,22 +216,16 @@ pub(crate) fn commit<P: Plant + Drop, C: Steady + Drop>(
     ensures places { OnOk result ((complex.new.first ≡ AtBefore) × (complex.new.second ≡ AtBefore)) }
     ensures count1 { C.count complex.new.pair.first.copy ≡ C.count complex.old.pair.first.copy }
     ensures count2 { C.count complex.new.pair.second.copy ≡ C.count complex.old.pair.second.copy }
-    ensures room1 { OnOk result (complex.new.pair.first.alive ≡ true
-        → C.room complex.new.pair.first.copy ≡ C.room_after (C.room complex.old.pair.first.copy)) }
-    ensures room2 { OnOk result (complex.new.pair.second.alive ≡ true
-        → C.room complex.new.pair.second.copy ≡ C.room_after (C.room complex.old.pair.second.copy)) }
-    ensures reads1 { OnOk result (P.tells → complex.new.pair.first.alive ≡ true
-        → C.reads (disk_now (P.view complex.new.plant) Ckpt1).bytes ≡ Some (bytes_of pages.now)) }
-    ensures reads2 { OnOk result (P.tells → complex.new.pair.second.alive ≡ true
-        → C.reads (disk_now (P.view complex.new.plant) Ckpt2).bytes ≡ Some (bytes_of pages.now)) }
+    ensures room1 { OnOk result (HasRoomFor (first_of complex.new) (C.room_after (first_of complex.old).room)) }
+    ensures room2 { OnOk result (HasRoomFor (second_of complex.new) (C.room_after (second_of complex.old).room)) }
+    ensures reads1 { OnOk result (ReadsOf P.tells (first_of complex.new) (bytes_of pages.now)) }
+    ensures reads2 { OnOk result (ReadsOf P.tells (second_of complex.new) (bytes_of pages.now)) }
     ensures none { OnOk result (complex.new.current ≡ None) }
     ensures journal { OnErr result (complex.new.journal ≡ complex.old.journal) }
     ensures placed { OnErr result (complex.new.placed ≡ complex.old.placed) }
     ensures flying { OnErr result (complex.new.current
         ≡ Some (begun (P.view complex.old.plant).now by (entries_reserved complex.old.reserved))) }
-    ensures acted { PairActed by.0 complex.old.pair.first.alive complex.new.pair.first.alive
-        complex.old.pair.second.alive complex.new.pair.second.alive (pair_stopped result) (P.view complex.old.plant)
-        (P.view complex.new.plant) }
+    ensures acted { ActedOn by.0 (pair_stopped result) (pair_of complex.old) (pair_of complex.new) }
     ensures apart { P.tells → Apart (P.view complex.old.plant) (P.view complex.new.plant) }
     ensures both { IsErrOf result PairNoBothLost
         → IsBothLost complex.new.pair.first.alive complex.new.pair.second.alive }

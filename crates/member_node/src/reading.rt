@@ -4,17 +4,16 @@ ghost use Rattle.std.specs.List.{list_all};
 ghost use Rattle.mas_types.specs.declared.ids.Dev.{Dev};
 ghost use Rattle.mas_types.specs.declared.ids.Dev.TheVariants.{Ckpt1, Ckpt2};
 ghost use Rattle.mas_types.specs.Limits.{members_most, page_bytes, pages_most};
-ghost use Rattle.spool_plant.specs.View.{disk_now};
 ghost use Rattle.ckpt_copy.specs.Pages.{bytes_of, level, page_in};
 ghost use Rattle.ckpt_tables.specs.declared.tables.Tables.{Tables as TablesLem};
 ghost use Rattle.ckpt_pages.specs.Checkpoints.{IsCheckpoint, SpellSome};
 ghost use Rattle.ckpt_tables.specs.Shape.{HasShape, HasSpelling, page_count};
-ghost use Rattle.duplex_pair.specs.ActCounts.{after_acts, read_acts};
 ghost use Rattle.duplex_pair.specs.Halves.{SomeAlive};
 ghost use Rattle.duplex_pair.specs.Outcomes.{least_room};
-ghost use Rattle.mas_complex.specs.Journals.{kept_all};
 ghost use Rattle.mas_complex.specs.Locking.{MayAct};
 ghost use Rattle.mas_complex.specs.Meaning.{run};
+ghost use Rattle.mas_complex.specs.CallCounts.{pair_of, TookReadActs};
+ghost use Rattle.mas_complex.specs.Begins.{kept_queue};
 ghost use Rattle.member_node.specs.declared.member.NodeNo.TheVariants as no_node;
 ghost use Rattle.queue_telling.specs.Orders.{HaveOrders};
 ghost use Rattle.queue_telling.specs.Telling.{Tell};
@@ -28,7 +27,8 @@ ghost use Rattle.ckpt_pages.specs.Given.{levels_given};
 ghost use Rattle.ckpt_tables.specs.Pages.{page_in as page_of_list};
 ghost use Rattle.page_tables.specs.Bringing.{AreOlder, are_orders_low};
 ghost use Rattle.page_tables.specs.Kinds.{is_job_below, is_output_below};
-ghost use Rattle.member_node.specs.Reads.{ArePagesOf, IsCalm, IsRead, IsReadWhole, MayGoOn, ReadsAs, StandAt, TookActs, copies_alive};
+ghost use Rattle.member_node.specs.Copies.{first_of, reading_of, second_of};
+ghost use Rattle.member_node.specs.Reads.{ArePagesOf, IsCalmOf, IsRead, IsReadWhole, MayGoOn, ReadsOf, StandAt, TookActs, copies_alive};
 
 use crate::marking::mark_if;
 use crate::member::{Member, NodeNo};
@@ -73,17 +73,11 @@ fn read_one<P: Plant + Drop, C: Steady + Drop>(
     ensures level { complex.new.level ≡ complex.old.level }
     ensures copy1 { complex.new.pair.first.copy ≡ complex.old.pair.first.copy }
     ensures copy2 { complex.new.pair.second.copy ≡ complex.old.pair.second.copy }
-    ensures read { IsRead P.tells by.0 complex.old.pair.first.alive complex.new.pair.first.alive
-        complex.old.pair.second.alive complex.new.pair.second.alive (P.view complex.old.plant)
-        (P.view complex.new.plant) result }
+    ensures read { IsRead P.tells by.0 (pair_of complex.old) (pair_of complex.new) result }
     ensures loses { (d : Dev) → (P.view complex.new.plant).loses d ≡ (P.view complex.old.plant).loses d }
-    ensures acts { (P.view complex.new.plant).now ≡ after_acts (read_acts complex.old.pair.first.alive
-        complex.new.pair.first.alive complex.old.pair.second.alive complex.new.pair.second.alive)
-        (P.view complex.old.plant).now }
-    ensures page { OnOk result (P.tells → (was : List ℕ)
-        → ReadsAs P.tells complex.new.pair.first.alive (C.reads (disk_now (P.view complex.new.plant) Ckpt1).bytes) was
-        → ReadsAs P.tells complex.new.pair.second.alive (C.reads (disk_now (P.view complex.new.plant) Ckpt2).bytes) was
-        → into.new.0 ≡ page_in page was) }
+    ensures acts { TookReadActs (pair_of complex.old) (pair_of complex.new) }
+    ensures page { OnOk result (P.tells → (was : List ℕ) → ReadsOf P.tells (first_of complex.new) was
+        → ReadsOf P.tells (second_of complex.new) was → into.new.0 ≡ page_in page was) }
 {
     complex.kept_pages();
     match complex.read_page(by, page, into) {
@@ -101,10 +95,8 @@ fn read_from<P: Plant + Drop, C: Steady + Drop>(
     first: usize,
 ) -> Result<(), NodeNo>
     requires may { MayAct complex.old.book by }
-    requires calm1 { IsCalm complex.old.pair.first.alive complex.old.first (C.count complex.old.pair.first.copy)
-        (length room.old) }
-    requires calm2 { IsCalm complex.old.pair.second.alive complex.old.second (C.count complex.old.pair.second.copy)
-        (length room.old) }
+    requires calm1 { IsCalmOf (first_of complex.old) (length room.old) }
+    requires calm2 { IsCalmOf (second_of complex.old) (length room.old) }
     requires some { first < length room.old }
     requires few { length room.old ≤ pages_most }
     ensures base { complex.new.base ≡ complex.old.base }
@@ -124,14 +116,10 @@ fn read_from<P: Plant + Drop, C: Steady + Drop>(
     ensures copy2 { complex.new.pair.second.copy ≡ complex.old.pair.second.copy }
     ensures as_many { length room.new ≡ length room.old }
     ensures before { (was : List ℕ) → ArePagesOf 0 first was room.old → ArePagesOf 0 first was room.new }
-    ensures read { IsRead P.tells by.0 complex.old.pair.first.alive complex.new.pair.first.alive
-        complex.old.pair.second.alive complex.new.pair.second.alive (P.view complex.old.plant)
-        (P.view complex.new.plant) result }
+    ensures read { IsRead P.tells by.0 (pair_of complex.old) (pair_of complex.new) result }
     ensures loses { (d : Dev) → (P.view complex.new.plant).loses d ≡ (P.view complex.old.plant).loses d }
-    ensures pages { OnOk result (P.tells → (was : List ℕ)
-        → ReadsAs P.tells complex.old.pair.first.alive (C.reads (disk_now (P.view complex.old.plant) Ckpt1).bytes) was
-        → ReadsAs P.tells complex.old.pair.second.alive (C.reads (disk_now (P.view complex.old.plant) Ckpt2).bytes) was
-        → ArePagesOf first (length room.new) was room.new) }
+    ensures pages { OnOk result (P.tells → (was : List ℕ) → ReadsOf P.tells (first_of complex.old) was
+        → ReadsOf P.tells (second_of complex.old) was → ArePagesOf first (length room.new) was room.new) }
 {
     for page in first..room.len() {
         read_one(complex, by, page as u16, &mut room[page])?;
@@ -171,17 +159,12 @@ fn read_newer<P: Plant + Drop, C: Steady + Drop>(
     ensures copy2 { complex.new.pair.second.copy ≡ complex.old.pair.second.copy }
     ensures count { IfOk result (λ count. count ≡ one_if newer) }
     ensures stays { newer ≡ false → into.new ≡ into.old }
-    ensures read { IsRead P.tells by.0 complex.old.pair.first.alive complex.new.pair.first.alive
-        complex.old.pair.second.alive complex.new.pair.second.alive (P.view complex.old.plant)
-        (P.view complex.new.plant) result }
+    ensures read { IsRead P.tells by.0 (pair_of complex.old) (pair_of complex.new) result }
     ensures loses { (d : Dev) → (P.view complex.new.plant).loses d ≡ (P.view complex.old.plant).loses d }
     ensures acts { IfOk result (λ count.
-        TookActs count complex.old.pair.first.alive complex.new.pair.first.alive complex.old.pair.second.alive
-        complex.new.pair.second.alive (P.view complex.old.plant) (P.view complex.new.plant)) }
-    ensures page { OnOk result (newer ≡ true → P.tells → (was : List ℕ)
-        → ReadsAs P.tells complex.new.pair.first.alive (C.reads (disk_now (P.view complex.new.plant) Ckpt1).bytes) was
-        → ReadsAs P.tells complex.new.pair.second.alive (C.reads (disk_now (P.view complex.new.plant) Ckpt2).bytes) was
-        → into.new.0 ≡ page_in page was) }
+        TookActs count (pair_of complex.old) (pair_of complex.new)) }
+    ensures page { OnOk result (newer ≡ true → P.tells → (was : List ℕ) → ReadsOf P.tells (first_of complex.new) was
+        → ReadsOf P.tells (second_of complex.new) was → into.new.0 ≡ page_in page was) }
 {
     if !newer {
         return Ok(0);
@@ -201,10 +184,8 @@ fn read_above<P: Plant + Drop, C: Steady + Drop>(
     differ: &mut Marks,
 ) -> Result<u32, NodeNo>
     requires may { MayAct complex.old.book by }
-    requires calm1 { IsCalm complex.old.pair.first.alive complex.old.first (C.count complex.old.pair.first.copy)
-        (length room.old) }
-    requires calm2 { IsCalm complex.old.pair.second.alive complex.old.second (C.count complex.old.pair.second.copy)
-        (length room.old) }
+    requires calm1 { IsCalmOf (first_of complex.old) (length room.old) }
+    requires calm2 { IsCalmOf (second_of complex.old) (length room.old) }
     requires some { 2 ≤ length room.old }
     requires few { length room.old ≤ pages_most }
     requires alive { SomeAlive complex.old.pair.first.alive complex.old.pair.second.alive }
@@ -229,18 +210,13 @@ fn read_above<P: Plant + Drop, C: Steady + Drop>(
     ensures differ { OnOk result ((q : ℕ) → is_marked differ.new.pages q ≡ false
         → page_of_list room.new q ≡ page_of_list room.old q) }
     ensures count { IfOk result (λ count. count ≡ length (wanted level (levels_given room.new))) }
-    ensures read { IsRead P.tells by.0 complex.old.pair.first.alive complex.new.pair.first.alive
-        complex.old.pair.second.alive complex.new.pair.second.alive (P.view complex.old.plant)
-        (P.view complex.new.plant) result }
+    ensures read { IsRead P.tells by.0 (pair_of complex.old) (pair_of complex.new) result }
     ensures loses { (d : Dev) → (P.view complex.new.plant).loses d ≡ (P.view complex.old.plant).loses d }
     ensures acts { IfOk result (λ count.
-        TookActs count complex.old.pair.first.alive complex.new.pair.first.alive complex.old.pair.second.alive
-        complex.new.pair.second.alive (P.view complex.old.plant) (P.view complex.new.plant)) }
-    ensures pages { OnOk result (P.tells → (was : List ℕ)
-        → ReadsAs P.tells complex.old.pair.first.alive (C.reads (disk_now (P.view complex.old.plant) Ckpt1).bytes) was
-        → ReadsAs P.tells complex.old.pair.second.alive (C.reads (disk_now (P.view complex.old.plant) Ckpt2).bytes) was
-        → ArePagesOf 0 1 was room.old → AreUnchanged (length room.old) level room.old was
-        → ArePagesOf 1 (length room.new) was room.new) }
+        TookActs count (pair_of complex.old) (pair_of complex.new)) }
+    ensures pages { OnOk result (P.tells → (was : List ℕ) → ReadsOf P.tells (first_of complex.old) was
+        → ReadsOf P.tells (second_of complex.old) was → ArePagesOf 0 1 was room.old
+        → AreUnchanged (length room.old) level room.old was → ArePagesOf 1 (length room.new) was room.new) }
 {
     let mut count = 0;
     for page in 1..room.len() {
@@ -306,10 +282,8 @@ fn read_wanted<P: Plant + Drop, C: Steady + Drop>(
     differ: &mut Marks,
 ) -> Result<u32, NodeNo>
     requires may { MayAct complex.old.book by }
-    requires calm1 { IsCalm complex.old.pair.first.alive complex.old.first (C.count complex.old.pair.first.copy)
-        (length room.old) }
-    requires calm2 { IsCalm complex.old.pair.second.alive complex.old.second (C.count complex.old.pair.second.copy)
-        (length room.old) }
+    requires calm1 { IsCalmOf (first_of complex.old) (length room.old) }
+    requires calm2 { IsCalmOf (second_of complex.old) (length room.old) }
     requires some { 2 ≤ length room.old }
     requires few { length room.old ≤ pages_most }
     requires as_many { length own.now ≡ length room.old }
@@ -336,18 +310,13 @@ fn read_wanted<P: Plant + Drop, C: Steady + Drop>(
     ensures none { IfOk result (λ count. count ≡ 0 → IsMirror room.new own.now) }
     ensures differ { OnOk result (IsMirrorBut differ.new.pages room.new own.now) }
     ensures count { IfOk result (λ count. count ≡ length (wanted level (levels_given room.new))) }
-    ensures read { IsRead P.tells by.0 complex.old.pair.first.alive complex.new.pair.first.alive
-        complex.old.pair.second.alive complex.new.pair.second.alive (P.view complex.old.plant)
-        (P.view complex.new.plant) result }
+    ensures read { IsRead P.tells by.0 (pair_of complex.old) (pair_of complex.new) result }
     ensures loses { (d : Dev) → (P.view complex.new.plant).loses d ≡ (P.view complex.old.plant).loses d }
     ensures acts { IfOk result (λ count.
-        TookActs count complex.old.pair.first.alive complex.new.pair.first.alive complex.old.pair.second.alive
-        complex.new.pair.second.alive (P.view complex.old.plant) (P.view complex.new.plant)) }
-    ensures pages { OnOk result (P.tells → (was : List ℕ)
-        → ReadsAs P.tells complex.old.pair.first.alive (C.reads (disk_now (P.view complex.old.plant) Ckpt1).bytes) was
-        → ReadsAs P.tells complex.old.pair.second.alive (C.reads (disk_now (P.view complex.old.plant) Ckpt2).bytes) was
-        → ArePagesOf 0 1 was room.old → AreUnchanged (length room.old) level own.now was
-        → ArePagesOf 1 (length room.new) was room.new) }
+        TookActs count (pair_of complex.old) (pair_of complex.new)) }
+    ensures pages { OnOk result (P.tells → (was : List ℕ) → ReadsOf P.tells (first_of complex.old) was
+        → ReadsOf P.tells (second_of complex.old) was → ArePagesOf 0 1 was room.old
+        → AreUnchanged (length room.old) level own.now was → ArePagesOf 1 (length room.new) was room.new) }
 {
     mirror(room, own, differ);
     if is_own_header(room, own, level) {
@@ -376,8 +345,7 @@ fn lose_source<P: Plant + Drop, C: Steady + Drop>(complex: &mut Complex<P, C>)
     ensures copy2 { complex.new.pair.second.copy ≡ complex.old.pair.second.copy }
     ensures lost { copies_alive complex.new.pair.first.alive complex.new.pair.second.alive
         < copies_alive complex.old.pair.first.alive complex.old.pair.second.alive }
-    ensures course { Course complex.old.pair.first.alive complex.new.pair.first.alive complex.old.pair.second.alive
-        complex.new.pair.second.alive (P.view complex.old.plant) (P.view complex.new.plant) }
+    ensures course { Course (pair_of complex.old) (pair_of complex.new) }
     ensures spares { Spares 0 false (P.view complex.old.plant) (P.view complex.new.plant) }
 {
     if complex.pair.first.alive {
@@ -408,9 +376,7 @@ fn lose_read<P: Plant + Drop, C: Steady + Drop>(complex: &mut Complex<P, C>) -> 
     ensures copy2 { complex.new.pair.second.copy ≡ complex.old.pair.second.copy }
     ensures lost { copies_alive complex.new.pair.first.alive complex.new.pair.second.alive
         < copies_alive complex.old.pair.first.alive complex.old.pair.second.alive }
-    ensures read { IsRead P.tells 0 complex.old.pair.first.alive complex.new.pair.first.alive
-        complex.old.pair.second.alive complex.new.pair.second.alive (P.view complex.old.plant)
-        (P.view complex.new.plant) result }
+    ensures read { IsRead P.tells 0 (pair_of complex.old) (pair_of complex.new) result }
     ensures only { IfErr result (λ e. e ≡ no_node.BothLost) }
     ensures untold { P.tells → ⊥ }
 {
@@ -467,20 +433,14 @@ fn are_spelled<P: Plant + Drop, C: Steady + Drop>(
     requires own { alike ≡ true → SpellSome room.now }
     requires spelling { HasSpelling tables.now }
     requires older { AreOlder tables.now room.now differ.now.pages }
-    requires config { P.tells → page_count (run complex.now.base (kept_all complex.now.journal.batches)).config
-        ≡ length room.now }
-    requires read { P.tells → ∥ IsReadWhole (run complex.now.base (kept_all complex.now.journal.batches))
-        complex.now.level complex.now.pair.first.alive complex.now.pair.second.alive
-        (C.reads (disk_now (P.view complex.now.plant) Ckpt1).bytes)
-        (C.reads (disk_now (P.view complex.now.plant) Ckpt2).bytes) room.now ∥₁ }
+    requires config { P.tells → page_count (kept_queue complex.now).config ≡ length room.now }
+    requires read { P.tells → ∥ IsReadWhole (kept_queue complex.now) complex.now.level
+        (reading_of (first_of complex.now)) (reading_of (second_of complex.now)) room.now ∥₁ }
     ensures good { result ≡ true → SpellSome room.now }
     ensures bad { result ≡ false → P.tells → ⊥ }
-    ensures reads1 { ReadsAs P.tells complex.now.pair.first.alive
-        (C.reads (disk_now (P.view complex.now.plant) Ckpt1).bytes) (bytes_of room.now) }
-    ensures reads2 { ReadsAs P.tells complex.now.pair.second.alive
-        (C.reads (disk_now (P.view complex.now.plant) Ckpt2).bytes) (bytes_of room.now) }
-    ensures stand { P.tells → ∥ StandAt (run complex.now.base (kept_all complex.now.journal.batches)) complex.now.level
-        room.now ∥₁ }
+    ensures reads1 { ReadsOf P.tells (first_of complex.now) (bytes_of room.now) }
+    ensures reads2 { ReadsOf P.tells (second_of complex.now) (bytes_of room.now) }
+    ensures stand { P.tells → ∥ StandAt (kept_queue complex.now) complex.now.level room.now ∥₁ }
 {
     spells(room, alike, tables, differ)
 }
@@ -564,9 +524,9 @@ fn may_stay(pages: &[Page], tables: &Tables, fresh: bool) -> bool
 }
 
 impl Member {
-    ghost use Rattle.member_node.specs.Copies.{RestsAt};
+    ghost use Rattle.member_node.specs.Copies.{IsAtRest};
     ghost use Rattle.member_node.specs.Drawn.{AreAsDrawn, AreDrawn};
-    ghost use Rattle.member_node.specs.Reads.{IsReadIn, IsSettle, IsUpTo, MayComeUp, ReadsLow, pages_had, too_high};
+    ghost use Rattle.member_node.specs.Reads.{IsLowOf, IsReadIn, IsSettle, IsUpTo, MayComeUp, pages_had, too_high};
     ghost use Rattle.member_node.specs.Wanted.{HasHad, level_had};
     ghost use Rattle.mas_complex.specs.Past.{HasNoted, values_of};
 
@@ -581,10 +541,8 @@ impl Member {
     ) -> Result<(), NodeNo>
         requires may { MayAct complex.old.book self.old.id }
         requires some { 1 ≤ length self.old.room }
-        requires calm1 { IsCalm complex.old.pair.first.alive complex.old.first (C.count complex.old.pair.first.copy)
-            (length self.old.room) }
-        requires calm2 { IsCalm complex.old.pair.second.alive complex.old.second (C.count complex.old.pair.second.copy)
-            (length self.old.room) }
+        requires calm1 { IsCalmOf (first_of complex.old) (length self.old.room) }
+        requires calm2 { IsCalmOf (second_of complex.old) (length self.old.room) }
         ensures base { complex.new.base ≡ complex.old.base }
         ensures printed { complex.new.printed ≡ complex.old.printed }
         ensures since { complex.new.since ≡ complex.old.since }
@@ -606,17 +564,11 @@ impl Member {
         ensures as_many { length self.new.room ≡ length self.old.room }
         ensures behind { self.new.behind ≡ false }
         ensures fresh { self.new.fresh ≡ self.old.fresh }
-        ensures read { IsRead P.tells self.old.id.0 complex.old.pair.first.alive complex.new.pair.first.alive
-            complex.old.pair.second.alive complex.new.pair.second.alive (P.view complex.old.plant)
-            (P.view complex.new.plant) result }
+        ensures read { IsRead P.tells self.old.id.0 (pair_of complex.old) (pair_of complex.new) result }
         ensures loses { (d : Dev) → (P.view complex.new.plant).loses d ≡ (P.view complex.old.plant).loses d }
-        ensures acts { (P.view complex.new.plant).now ≡ after_acts (read_acts complex.old.pair.first.alive
-            complex.new.pair.first.alive complex.old.pair.second.alive complex.new.pair.second.alive)
-            (P.view complex.old.plant).now }
-        ensures page { OnOk result (P.tells → (was : List ℕ)
-            → ReadsAs P.tells complex.new.pair.first.alive (C.reads (disk_now (P.view complex.new.plant) Ckpt1).bytes)
-            was → ReadsAs P.tells complex.new.pair.second.alive
-            (C.reads (disk_now (P.view complex.new.plant) Ckpt2).bytes) was → ArePagesOf 0 1 was self.new.room) }
+        ensures acts { TookReadActs (pair_of complex.old) (pair_of complex.new) }
+        ensures page { OnOk result (P.tells → (was : List ℕ) → ReadsOf P.tells (first_of complex.new) was
+            → ReadsOf P.tells (second_of complex.new) was → ArePagesOf 0 1 was self.new.room) }
     {
         self.behind = false;
         let room = self.room.as_mut_slice();
@@ -643,21 +595,16 @@ impl Member {
         requires may { MayAct complex.old.book self.old.id }
         requires some { 2 ≤ length self.old.room }
         requires few { length self.old.room ≤ pages_most }
-        requires calm1 { IsCalm complex.old.pair.first.alive complex.old.first (C.count complex.old.pair.first.copy)
-            (length self.old.room) }
-        requires calm2 { IsCalm complex.old.pair.second.alive complex.old.second (C.count complex.old.pair.second.copy)
-            (length self.old.room) }
-        requires config { P.tells → page_count (run complex.old.base (kept_all complex.old.journal.batches)).config
-            ≡ length self.old.room }
+        requires calm1 { IsCalmOf (first_of complex.old) (length self.old.room) }
+        requires calm2 { IsCalmOf (second_of complex.old) (length self.old.room) }
+        requires config { P.tells → page_count (kept_queue complex.old).config ≡ length self.old.room }
         requires many { length self.old.room ≡ length self.old.checkpoint.pages }
         requires same_config { P.tells → complex.old.base.config ≡ self.old.checkpoint.tables.config }
         requires alive { SomeAlive complex.old.pair.first.alive complex.old.pair.second.alive }
         requires noted { HasHad P.tells self.old.fresh (values_of complex.old.had) self.old.id.0
             self.old.checkpoint.pages }
-        requires page { P.tells → (was : List ℕ)
-            → ReadsAs P.tells complex.old.pair.first.alive (C.reads (disk_now (P.view complex.old.plant) Ckpt1).bytes)
-            was → ReadsAs P.tells complex.old.pair.second.alive
-            (C.reads (disk_now (P.view complex.old.plant) Ckpt2).bytes) was → ArePagesOf 0 1 was self.old.room }
+        requires page { P.tells → (was : List ℕ) → ReadsOf P.tells (first_of complex.old) was
+            → ReadsOf P.tells (second_of complex.old) was → ArePagesOf 0 1 was self.old.room }
         ensures base { complex.new.base ≡ complex.old.base }
         ensures printed { complex.new.printed ≡ complex.old.printed }
         ensures since { complex.new.since ≡ complex.old.since }
@@ -677,9 +624,7 @@ impl Member {
         ensures checkpoint { self.new.checkpoint ≡ self.old.checkpoint }
         ensures batch { self.new.batch ≡ self.old.batch }
         ensures as_many { length self.new.room ≡ length self.old.room }
-        ensures read { IsRead P.tells self.old.id.0 complex.old.pair.first.alive complex.new.pair.first.alive
-            complex.old.pair.second.alive complex.new.pair.second.alive (P.view complex.old.plant)
-            (P.view complex.new.plant) result }
+        ensures read { IsRead P.tells self.old.id.0 (pair_of complex.old) (pair_of complex.new) result }
         ensures err { OnErr result (self.new.behind ≡ false) }
         ensures count { IfOk result (λ count. P.tells → count
             ≡ length (wanted (level_had self.old.fresh self.old.checkpoint.level) (levels_given self.new.room))) }
@@ -687,18 +632,11 @@ impl Member {
         ensures behind { OnOk result (self.new.behind ≡ true) }
         ensures spelled { OnOk result (SpellSome self.new.room) }
         ensures acts { IfOk result (λ count. P.tells
-            → TookActs count complex.old.pair.first.alive complex.new.pair.first.alive complex.old.pair.second.alive
-            complex.new.pair.second.alive (P.view complex.old.plant) (P.view complex.new.plant)) }
+            → TookActs count (pair_of complex.old) (pair_of complex.new)) }
         ensures alike { OnOk result (alike.new ≡ true → self.new.room ≡ self.new.checkpoint.pages) }
-        ensures rests1 { OnOk result (RestsAt P.tells complex.new.pair.first.alive complex.new.first
-            (C.count complex.new.pair.first.copy) self.new.room
-            (C.reads (disk_now (P.view complex.new.plant) Ckpt1).bytes)) }
-        ensures rests2 { OnOk result (RestsAt P.tells complex.new.pair.second.alive complex.new.second
-            (C.count complex.new.pair.second.copy) self.new.room
-            (C.reads (disk_now (P.view complex.new.plant) Ckpt2).bytes)) }
-        ensures stand { OnOk result (P.tells
-            → ∥ StandAt (run complex.new.base (kept_all complex.new.journal.batches)) complex.new.level self.new.room
-            ∥₁) }
+        ensures rests1 { OnOk result (IsAtRest P.tells (first_of complex.new) self.new.room) }
+        ensures rests2 { OnOk result (IsAtRest P.tells (second_of complex.new) self.new.room) }
+        ensures stand { OnOk result (P.tells → ∥ StandAt (kept_queue complex.new) complex.new.level self.new.room ∥₁) }
     {
         let by = self.id;
         let level = self.level();
@@ -765,12 +703,10 @@ impl Member {
     ) -> Result<(), NodeNo>
         requires may { MayAct complex.old.book self.now.id }
         requires none { complex.old.current ≡ None }
-        requires rests1 { RestsAt P.tells complex.old.pair.first.alive complex.old.first
-            (C.count complex.old.pair.first.copy) (pages_had self.now.behind self.now.room self.now.checkpoint.pages)
-            (C.reads (disk_now (P.view complex.old.plant) Ckpt1).bytes) }
-        requires rests2 { RestsAt P.tells complex.old.pair.second.alive complex.old.second
-            (C.count complex.old.pair.second.copy) (pages_had self.now.behind self.now.room self.now.checkpoint.pages)
-            (C.reads (disk_now (P.view complex.old.plant) Ckpt2).bytes) }
+        requires rests1 { IsAtRest P.tells (first_of complex.old) (pages_had self.now.behind self.now.room
+            self.now.checkpoint.pages) }
+        requires rests2 { IsAtRest P.tells (second_of complex.old) (pages_had self.now.behind self.now.room
+            self.now.checkpoint.pages) }
         ensures base { complex.new.base ≡ complex.old.base }
         ensures printed { complex.new.printed ≡ complex.old.printed }
         ensures since { complex.new.since ≡ complex.old.since }
@@ -784,17 +720,13 @@ impl Member {
         ensures level { complex.new.level ≡ complex.old.level }
         ensures idle { 1 ≤ least_room complex.old.pair.first.alive complex.old.pair.second.alive
             (C.room complex.old.pair.first.copy) (C.room complex.old.pair.second.copy) → complex.new ≡ complex.old }
-        ensures rests1 { OnOk result (RestsAt P.tells complex.new.pair.first.alive complex.new.first
-            (C.count complex.new.pair.first.copy) (pages_had self.now.behind self.now.room self.now.checkpoint.pages)
-            (C.reads (disk_now (P.view complex.new.plant) Ckpt1).bytes)) }
-        ensures rests2 { OnOk result (RestsAt P.tells complex.new.pair.second.alive complex.new.second
-            (C.count complex.new.pair.second.copy) (pages_had self.now.behind self.now.room self.now.checkpoint.pages)
-            (C.reads (disk_now (P.view complex.new.plant) Ckpt2).bytes)) }
+        ensures rests1 { OnOk result (IsAtRest P.tells (first_of complex.new) (pages_had self.now.behind self.now.room
+            self.now.checkpoint.pages)) }
+        ensures rests2 { OnOk result (IsAtRest P.tells (second_of complex.new)
+            (pages_had self.now.behind self.now.room self.now.checkpoint.pages)) }
         ensures room1 { OnOk result (complex.new.pair.first.alive ≡ true → 1 ≤ C.room complex.new.pair.first.copy) }
         ensures room2 { OnOk result (complex.new.pair.second.alive ≡ true → 1 ≤ C.room complex.new.pair.second.copy) }
-        ensures settle { IsSettle P.tells self.now.id.0 complex.old.pair.first.alive complex.new.pair.first.alive
-            complex.old.pair.second.alive complex.new.pair.second.alive (P.view complex.old.plant)
-            (P.view complex.new.plant) result }
+        ensures settle { IsSettle P.tells self.now.id.0 (pair_of complex.old) (pair_of complex.new) result }
         ensures operator { IsErrOf result no_node.Halted → 0 < self.now.id.0 }
     {
         if complex.pair.room() > 0 {
@@ -908,16 +840,13 @@ impl Member {
         requires many { length self.old.room ≡ length self.old.checkpoint.pages }
         requires some { 2 ≤ length self.old.room }
         requires few { length self.old.room ≤ pages_most }
-        requires calm1 { IsCalm complex.old.pair.first.alive complex.old.first (C.count complex.old.pair.first.copy)
-            (length self.old.room) }
-        requires calm2 { IsCalm complex.old.pair.second.alive complex.old.second (C.count complex.old.pair.second.copy)
-            (length self.old.room) }
-        requires config { P.tells → page_count (run complex.old.base (kept_all complex.old.journal.batches)).config
-            ≡ length self.old.room }
-        requires low1 { ReadsLow P.tells complex.old.pair.first.alive self.old.checkpoint.tables.config
-            (length complex.old.journal.batches) (C.reads (disk_now (P.view complex.old.plant) Ckpt1).bytes) }
-        requires low2 { ReadsLow P.tells complex.old.pair.second.alive self.old.checkpoint.tables.config
-            (length complex.old.journal.batches) (C.reads (disk_now (P.view complex.old.plant) Ckpt2).bytes) }
+        requires calm1 { IsCalmOf (first_of complex.old) (length self.old.room) }
+        requires calm2 { IsCalmOf (second_of complex.old) (length self.old.room) }
+        requires config { P.tells → page_count (kept_queue complex.old).config ≡ length self.old.room }
+        requires low1 { IsLowOf P.tells (first_of complex.old) self.old.checkpoint.tables.config
+            (length complex.old.journal.batches) }
+        requires low2 { IsLowOf P.tells (second_of complex.old) self.old.checkpoint.tables.config
+            (length complex.old.journal.batches) }
         requires level { complex.old.level < too_high }
         requires same_config { P.tells → complex.old.base.config ≡ self.old.checkpoint.tables.config }
         requires noted { HasHad P.tells self.old.fresh (values_of complex.old.had) self.old.id.0
@@ -938,14 +867,10 @@ impl Member {
         ensures copy2 { complex.new.pair.second.copy ≡ complex.old.pair.second.copy }
         ensures id { self.new.id ≡ self.old.id }
         ensures batch { self.new.batch ≡ self.old.batch }
-        ensures read { IsReadIn P.tells self.old.id.0 complex.old.pair.first.alive complex.new.pair.first.alive
-            complex.old.pair.second.alive complex.new.pair.second.alive (P.view complex.old.plant)
-            (P.view complex.new.plant) result }
+        ensures read { IsReadIn P.tells self.old.id.0 (pair_of complex.old) (pair_of complex.new) result }
         ensures acts { OnOk result (P.tells → TookActs
             (1 + length (wanted (level_had self.old.fresh self.old.checkpoint.level)
-            (levels_given self.new.checkpoint.pages)))
-            complex.old.pair.first.alive complex.new.pair.first.alive complex.old.pair.second.alive
-            complex.new.pair.second.alive (P.view complex.old.plant) (P.view complex.new.plant)) }
+            (levels_given self.new.checkpoint.pages))) (pair_of complex.old) (pair_of complex.new)) }
         ensures here { OnOk result (self.new.behind ≡ false) }
         ensures own { OnOk result ((self.new.fresh ≡ false)
             × HasNoted (values_of complex.new.had) self.new.id.0 self.new.checkpoint.pages) }
@@ -957,14 +882,9 @@ impl Member {
         ensures many { OnOk result (length self.new.room ≡ length self.new.checkpoint.pages) }
         ensures up { OnOk result (IsUpTo self.old.checkpoint.tables.config self.new.checkpoint.pages
             self.new.checkpoint) }
-        ensures rests1 { OnOk result (RestsAt P.tells complex.new.pair.first.alive complex.new.first
-            (C.count complex.new.pair.first.copy) self.new.checkpoint.pages
-            (C.reads (disk_now (P.view complex.new.plant) Ckpt1).bytes)) }
-        ensures rests2 { OnOk result (RestsAt P.tells complex.new.pair.second.alive complex.new.second
-            (C.count complex.new.pair.second.copy) self.new.checkpoint.pages
-            (C.reads (disk_now (P.view complex.new.plant) Ckpt2).bytes)) }
-        ensures told { OnOk result (P.tells
-            → ∥ Tell self.new.checkpoint.tables (run complex.new.base (kept_all complex.new.journal.batches)) ∥₁) }
+        ensures rests1 { OnOk result (IsAtRest P.tells (first_of complex.new) self.new.checkpoint.pages) }
+        ensures rests2 { OnOk result (IsAtRest P.tells (second_of complex.new) self.new.checkpoint.pages) }
+        ensures told { OnOk result (P.tells → ∥ Tell self.new.checkpoint.tables (kept_queue complex.new) ∥₁) }
         ensures ordered { OnOk result (P.tells → ∥ HaveOrders self.new.checkpoint.tables ∥₁) }
         ensures same_level { OnOk result (P.tells → complex.new.level ≡ self.new.checkpoint.level) }
     {
@@ -989,12 +909,9 @@ impl Member {
         requires may { MayAct complex.old.book self.old.id }
         requires some { 2 ≤ length self.old.room }
         requires few { length self.old.room ≤ pages_most }
-        requires calm1 { IsCalm complex.old.pair.first.alive complex.old.first (C.count complex.old.pair.first.copy)
-            (length self.old.room) }
-        requires calm2 { IsCalm complex.old.pair.second.alive complex.old.second (C.count complex.old.pair.second.copy)
-            (length self.old.room) }
-        requires config { P.tells → page_count (run complex.old.base (kept_all complex.old.journal.batches)).config
-            ≡ length self.old.room }
+        requires calm1 { IsCalmOf (first_of complex.old) (length self.old.room) }
+        requires calm2 { IsCalmOf (second_of complex.old) (length self.old.room) }
+        requires config { P.tells → page_count (kept_queue complex.old).config ≡ length self.old.room }
         requires many { length self.old.room ≡ length self.old.checkpoint.pages }
         requires same_config { P.tells → complex.old.base.config ≡ self.old.checkpoint.tables.config }
         requires noted { HasHad P.tells self.old.fresh (values_of complex.old.had) self.old.id.0
@@ -1018,26 +935,17 @@ impl Member {
         ensures checkpoint { self.new.checkpoint ≡ self.old.checkpoint }
         ensures batch { self.new.batch ≡ self.old.batch }
         ensures as_many { length self.new.room ≡ length self.old.room }
-        ensures read { IsRead P.tells self.old.id.0 complex.old.pair.first.alive complex.new.pair.first.alive
-            complex.old.pair.second.alive complex.new.pair.second.alive (P.view complex.old.plant)
-            (P.view complex.new.plant) result }
+        ensures read { IsRead P.tells self.old.id.0 (pair_of complex.old) (pair_of complex.new) result }
         ensures behind { OnOk result (self.new.behind ≡ true) }
         ensures fresh { self.new.fresh ≡ self.old.fresh }
         ensures spelled { OnOk result (SpellSome self.new.room) }
         ensures acts { OnOk result (P.tells → TookActs
             (1 + length (wanted (level_had self.old.fresh self.old.checkpoint.level) (levels_given self.new.room)))
-            complex.old.pair.first.alive complex.new.pair.first.alive complex.old.pair.second.alive
-            complex.new.pair.second.alive (P.view complex.old.plant) (P.view complex.new.plant)) }
+            (pair_of complex.old) (pair_of complex.new)) }
         ensures alike { OnOk result (alike.new ≡ true → self.new.room ≡ self.new.checkpoint.pages) }
-        ensures rests1 { OnOk result (RestsAt P.tells complex.new.pair.first.alive complex.new.first
-            (C.count complex.new.pair.first.copy) self.new.room
-            (C.reads (disk_now (P.view complex.new.plant) Ckpt1).bytes)) }
-        ensures rests2 { OnOk result (RestsAt P.tells complex.new.pair.second.alive complex.new.second
-            (C.count complex.new.pair.second.copy) self.new.room
-            (C.reads (disk_now (P.view complex.new.plant) Ckpt2).bytes)) }
-        ensures stand { OnOk result (P.tells
-            → ∥ StandAt (run complex.new.base (kept_all complex.new.journal.batches)) complex.new.level self.new.room
-            ∥₁) }
+        ensures rests1 { OnOk result (IsAtRest P.tells (first_of complex.new) self.new.room) }
+        ensures rests2 { OnOk result (IsAtRest P.tells (second_of complex.new) self.new.room) }
+        ensures stand { OnOk result (P.tells → ∥ StandAt (kept_queue complex.new) complex.new.level self.new.room ∥₁) }
     {
         self.first_read(complex)?;
         self.second_read(complex, alike)?;

@@ -1,8 +1,6 @@
 //! How a member replaces a lost copy.
 ghost use Rattle.std.specs.Prelude.{◌≡◌, ◌≤◌, None, length, true, IsErrOf, OnOk};
-ghost use Rattle.mas_types.specs.declared.ids.Dev.TheVariants.{Ckpt1, Ckpt2};
 ghost use Rattle.spool_plant.specs.Acts.{Rose};
-ghost use Rattle.spool_plant.specs.View.{disk_now};
 ghost use Rattle.spool_plant.specs.declared.plant.Part.TheVariants.{Disk};
 ghost use Rattle.mas_complex.specs.ReplaceNo.TheVariants.{NotLost, BothLost, Failed};
 ghost use Rattle.duplex_pair.specs.Halves.{IsBothLost, IsCkpt, other, pick};
@@ -17,7 +15,7 @@ use mas_types::Dev;
 use spool_plant::Plant;
 
 impl Member {
-    ghost use Rattle.member_node.specs.Copies.{RestsAt};
+    ghost use Rattle.member_node.specs.Copies.{IsAtRest, first_of, second_of};
     ghost use Rattle.member_node.specs.Reads.{pages_had};
 
     /// Replaces the lost copy on a device by one of the pages that the member read last, or has. It holds the lock, and
@@ -35,12 +33,10 @@ impl Member {
         requires may { MayAct complex.old.book self.now.id }
         requires ckpt { IsCkpt dev }
         requires none { complex.old.current ≡ None }
-        requires rests1 { RestsAt P.tells complex.old.pair.first.alive complex.old.first
-            (C.count complex.old.pair.first.copy) (pages_had self.now.behind self.now.room self.now.checkpoint.pages)
-            (C.reads (disk_now (P.view complex.old.plant) Ckpt1).bytes) }
-        requires rests2 { RestsAt P.tells complex.old.pair.second.alive complex.old.second
-            (C.count complex.old.pair.second.copy) (pages_had self.now.behind self.now.room self.now.checkpoint.pages)
-            (C.reads (disk_now (P.view complex.old.plant) Ckpt2).bytes) }
+        requires rests1 { IsAtRest P.tells (first_of complex.old) (pages_had self.now.behind self.now.room
+            self.now.checkpoint.pages) }
+        requires rests2 { IsAtRest P.tells (second_of complex.old) (pages_had self.now.behind self.now.room
+            self.now.checkpoint.pages) }
         requires size { C.needs (length (pages_had self.now.behind self.now.room self.now.checkpoint.pages))
             ≤ (P.view complex.old.plant).size dev }
         ensures frame { parts_of complex.new ≡ replaced_in result dev (P.view complex.old.plant).now
@@ -64,12 +60,10 @@ impl Member {
             × IsFormed C.count C.room C.room_most C.ready
             (length (pages_had self.now.behind self.now.room self.now.checkpoint.pages)) dev
             (P.view complex.new.plant) (pick dev complex.new.pair.first complex.new.pair.second).copy) }
-        ensures rests1 { RestsAt P.tells complex.new.pair.first.alive complex.new.first
-            (C.count complex.new.pair.first.copy) (pages_had self.now.behind self.now.room self.now.checkpoint.pages)
-            (C.reads (disk_now (P.view complex.new.plant) Ckpt1).bytes) }
-        ensures rests2 { RestsAt P.tells complex.new.pair.second.alive complex.new.second
-            (C.count complex.new.pair.second.copy) (pages_had self.now.behind self.now.room self.now.checkpoint.pages)
-            (C.reads (disk_now (P.view complex.new.plant) Ckpt2).bytes) }
+        ensures rests1 { IsAtRest P.tells (first_of complex.new) (pages_had self.now.behind self.now.room
+            self.now.checkpoint.pages) }
+        ensures rests2 { IsAtRest P.tells (second_of complex.new) (pages_had self.now.behind self.now.room
+            self.now.checkpoint.pages) }
         ensures elsewhere { P.tells → Elsewhere dev (P.view complex.old.plant) (P.view complex.new.plant) }
     {
         complex.replace(self.id, dev, self.pages())

@@ -1,7 +1,6 @@
 //! How a member's batch is written.
 ghost use Rattle.std.specs.Prelude.{◌≡◌, ◌⊎◌, ◌+◌, ◌≤◌, ◌<◌, ◌^◌, ◌++◌, [], ◌∷◌, ℕ, List, Some, None, All, length, true, false, IfOk, OnOk, OnErr, IsErrOf, IsSome, slice_set};
 ghost use Rattle.mas_types.specs.declared.ids.Dev.{Dev};
-ghost use Rattle.mas_types.specs.declared.ids.Dev.TheVariants.{Ckpt1, Ckpt2};
 ghost use Rattle.mas_types.specs.declared.ids.MemberId.{MemberId};
 ghost use Rattle.mas_types.specs.Limits.{members_most};
 ghost use Rattle.ckpt_tables.specs.Shape.{page_count};
@@ -11,16 +10,15 @@ ghost use Rattle.spool_plant.specs.declared.plant.Part.TheVariants.{Console};
 ghost use Rattle.spool_plant.specs.View.{disk_now};
 ghost use Rattle.spool_plant.specs.Acts.{Acts, Says};
 ghost use Rattle.ckpt_places.specs.declared.places.Place.TheVariants.{Before as AtBefore};
-ghost use Rattle.mas_complex.specs.Crash.{IsUntold, setting};
 ghost use Rattle.mas_complex.specs.Journals.{begun, end_of, entries_reserved, fated, in_flight, kept_all, with_last, StepIsKept};
 ghost use Rattle.mas_complex.specs.Locking.{MayAct, IsUp};
-ghost use Rattle.mas_complex.specs.Meaning.{Closes, run};
+ghost use Rattle.mas_complex.specs.Meaning.{Closes};
 ghost use Rattle.mas_complex.specs.Parts.{parts_of};
-ghost use Rattle.mas_complex.specs.Texts.{HasTexts, lost_now, spools_at};
-ghost use Rattle.mas_complex.specs.Replies.{HaveReplies};
 ghost use Rattle.member_node.specs.declared.member.NodeNo.TheVariants.{Halted};
-ghost use Rattle.mas_complex.specs.Paper.{MayBegin, printed_after};
+ghost use Rattle.mas_complex.specs.Paper.{printed_after};
 ghost use Rattle.mas_complex.specs.Past.{HasNoted, values_of};
+ghost use Rattle.mas_complex.specs.CallCounts.{pair_of};
+ghost use Rattle.mas_complex.specs.Begins.{HasRepliesOf, HasTextsWith, IsUntoldOf, MayBeginOf, kept_queue};
 
 use crate::batch::commit;
 use crate::checkpoint::{Draft, draft_of, is_spelling, redraw};
@@ -35,10 +33,10 @@ use std::alloc::Global;
 
 impl Member {
     ghost use Rattle.member_node.specs.Batches.{CanDraw, DrawsAnew, HasDone, IsDraftOf, level_with};
-    ghost use Rattle.member_node.specs.Copies.{IsDraftFor, RestsAt, room_with};
+    ghost use Rattle.member_node.specs.Copies.{HasRoomFor, IsAtRest, IsDraftOn, first_of, room_with, second_of};
     ghost use Rattle.member_node.specs.Drawn.{AreDrawn};
     ghost use Rattle.member_node.specs.Lines.{said_as, IsAnswerOfSay};
-    ghost use Rattle.member_node.specs.Writes.{IsWrite};
+    ghost use Rattle.member_node.specs.Writes.{IsWrite, journal_at};
 
     /// Whether the write of its batch changes a page. Only pages are drawn that commands may have changed.
     pub fn draws_anew(&self) -> bool
@@ -68,14 +66,9 @@ impl Member {
         requires here { self.old.behind ≡ false }
         requires draws { CanDraw self.old.checkpoint }
         requires level { P.tells → complex.old.level ≡ self.old.checkpoint.level }
-        requires done { P.tells → ∥ HasDone (run complex.old.base (kept_all complex.old.journal.batches)) self.old.batch
-            self.old.checkpoint ∥₁ }
-        requires rests1 { RestsAt P.tells complex.old.pair.first.alive complex.old.first
-            (C.count complex.old.pair.first.copy) self.old.checkpoint.pages
-            (C.reads (disk_now (P.view complex.old.plant) Ckpt1).bytes) }
-        requires rests2 { RestsAt P.tells complex.old.pair.second.alive complex.old.second
-            (C.count complex.old.pair.second.copy) self.old.checkpoint.pages
-            (C.reads (disk_now (P.view complex.old.plant) Ckpt2).bytes) }
+        requires done { P.tells → ∥ HasDone (kept_queue complex.old) self.old.batch self.old.checkpoint ∥₁ }
+        requires rests1 { IsAtRest P.tells (first_of complex.old) self.old.checkpoint.pages }
+        requires rests2 { IsAtRest P.tells (second_of complex.old) self.old.checkpoint.pages }
         requires room1 { complex.old.pair.first.alive ≡ true → DrawsAnew self.old.checkpoint
             → 1 ≤ C.room complex.old.pair.first.copy }
         requires room2 { complex.old.pair.second.alive ≡ true → DrawsAnew self.old.checkpoint
@@ -111,17 +104,12 @@ impl Member {
         ensures drawn { OnOk result (AreDrawn self.new.checkpoint.tables self.new.checkpoint.level
             self.new.checkpoint.levels self.new.checkpoint.pages) }
         ensures level { IfOk result (λ draft. self.new.checkpoint.level ≡ level_with draft self.old.checkpoint.level) }
-        ensures draft { IfOk result (λ draft. P.tells
-            → ∥ IsDraftOf draft P.tells (run complex.old.base (kept_all complex.old.journal.batches)) self.old.batch
-            complex.old.level self.new.checkpoint.pages ∥₁) }
-        ensures draft1 { IfOk result (λ draft.
-            IsDraftFor draft P.tells complex.old.pair.first.alive (C.count complex.old.pair.first.copy)
-            (C.room complex.old.pair.first.copy) self.new.checkpoint.pages
-            (C.reads (disk_now (P.view complex.old.plant) Ckpt1).bytes)) }
-        ensures draft2 { IfOk result (λ draft.
-            IsDraftFor draft P.tells complex.old.pair.second.alive (C.count complex.old.pair.second.copy)
-            (C.room complex.old.pair.second.copy) self.new.checkpoint.pages
-            (C.reads (disk_now (P.view complex.old.plant) Ckpt2).bytes)) }
+        ensures draft { IfOk result (λ draft. P.tells → ∥ IsDraftOf draft P.tells (kept_queue complex.old)
+            self.old.batch complex.old.level self.new.checkpoint.pages ∥₁) }
+        ensures draft1 { IfOk result (λ draft. IsDraftOn draft P.tells (first_of complex.old)
+            self.new.checkpoint.pages) }
+        ensures draft2 { IfOk result (λ draft. IsDraftOn draft P.tells (second_of complex.old)
+            self.new.checkpoint.pages) }
     {
         let own = &self.checkpoint;
         let draft = draft_of(
@@ -162,26 +150,16 @@ impl Member {
         requires reserved { IsSome complex.old.reserved }
         requires some { 1 ≤ length (entries_reserved complex.old.reserved) }
         requires small { complex.old.level + 1 < 2 ^ 63 }
-        requires replied { P.tells → ∥ HaveReplies (run complex.old.base (kept_all complex.old.journal.batches))
-            (entries_reserved complex.old.reserved) ∥₁ }
+        requires replied { P.tells → HasRepliesOf complex.old (entries_reserved complex.old.reserved) }
         requires first { complex.old.first ≡ AtBefore }
         requires second { complex.old.second ≡ AtBefore }
-        requires untold { P.tells → IsUntold (setting C.reads complex.old.base complex.old.since)
-            (P.view complex.old.plant) (entries_reserved complex.old.reserved) }
-        requires allowed { P.tells → MayBegin complex.old.base complex.old.journal.batches complex.old.printed
-            (entries_reserved complex.old.reserved) }
-        requires texts { P.tells → ∥ HasTexts (lost_now (P.view complex.old.plant))
-            (spools_at (P.view complex.old.plant) (P.view complex.old.plant).now) complex.old.base.config.groups
-            (run complex.old.base (kept_all complex.old.journal.batches ++ entries_reserved complex.old.reserved)) ∥₁ }
-        requires draft { P.tells → ∥ IsDraftOf draft.now P.tells
-            (run complex.old.base (kept_all complex.old.journal.batches)) (entries_reserved complex.old.reserved)
-            complex.old.level self.now.checkpoint.pages ∥₁ }
-        requires draft1 { IsDraftFor draft.now P.tells complex.old.pair.first.alive
-            (C.count complex.old.pair.first.copy) (C.room complex.old.pair.first.copy) self.now.checkpoint.pages
-            (C.reads (disk_now (P.view complex.old.plant) Ckpt1).bytes) }
-        requires draft2 { IsDraftFor draft.now P.tells complex.old.pair.second.alive
-            (C.count complex.old.pair.second.copy) (C.room complex.old.pair.second.copy) self.now.checkpoint.pages
-            (C.reads (disk_now (P.view complex.old.plant) Ckpt2).bytes) }
+        requires untold { P.tells → IsUntoldOf complex.old (entries_reserved complex.old.reserved) }
+        requires allowed { P.tells → MayBeginOf complex.old (entries_reserved complex.old.reserved) }
+        requires texts { P.tells → HasTextsWith complex.old (entries_reserved complex.old.reserved) }
+        requires draft { P.tells → ∥ IsDraftOf draft.now P.tells (kept_queue complex.old)
+            (entries_reserved complex.old.reserved) complex.old.level self.now.checkpoint.pages ∥₁ }
+        requires draft1 { IsDraftOn draft.now P.tells (first_of complex.old) self.now.checkpoint.pages }
+        requires draft2 { IsDraftOn draft.now P.tells (second_of complex.old) self.now.checkpoint.pages }
         ensures base { complex.new.base ≡ complex.old.base }
         ensures printed { complex.new.printed
             ≡ printed_after self.now.id (entries_reserved complex.old.reserved) complex.old.printed }
@@ -200,28 +178,22 @@ impl Member {
             ≡ slice_set (values_of complex.old.had) self.now.id.0 self.now.checkpoint.pages) }
         ensures noted_err { OnErr result (values_of complex.new.had ≡ values_of complex.old.had) }
         ensures level { OnOk result (complex.new.level ≡ level_with draft.now complex.old.level) }
-        ensures rests1 { OnOk result (RestsAt P.tells complex.new.pair.first.alive complex.new.first
-            (C.count complex.new.pair.first.copy) self.now.checkpoint.pages
-            (C.reads (disk_now (P.view complex.new.plant) Ckpt1).bytes)) }
-        ensures rests2 { OnOk result (RestsAt P.tells complex.new.pair.second.alive complex.new.second
-            (C.count complex.new.pair.second.copy) self.now.checkpoint.pages
-            (C.reads (disk_now (P.view complex.new.plant) Ckpt2).bytes)) }
-        ensures room1 { OnOk result (complex.new.pair.first.alive ≡ true
-            → C.room complex.new.pair.first.copy
-            ≡ room_with draft.now C.room_after (C.room complex.old.pair.first.copy)) }
-        ensures room2 { OnOk result (complex.new.pair.second.alive ≡ true
-            → C.room complex.new.pair.second.copy
-            ≡ room_with draft.now C.room_after (C.room complex.old.pair.second.copy)) }
+        ensures rests1 { OnOk result (IsAtRest P.tells (first_of complex.new) self.now.checkpoint.pages) }
+        ensures rests2 { OnOk result (IsAtRest P.tells (second_of complex.new) self.now.checkpoint.pages) }
+        ensures room1 { OnOk result (HasRoomFor (first_of complex.new) (room_with draft.now C.room_after
+            (first_of complex.old).room)) }
+        ensures room2 { OnOk result (HasRoomFor (second_of complex.new) (room_with draft.now C.room_after
+            (second_of complex.old).room)) }
         ensures flying { OnErr result ((complex.new.journal ≡ complex.old.journal)
             × (complex.new.placed ≡ complex.old.placed)
             × (complex.new.current ≡ Some (begun (P.view complex.old.plant).now self.now.id
             (entries_reserved complex.old.reserved)))) }
         ensures write { (front : List Batch) (place : Batch) → complex.old.journal.batches ≡ front ++ place ∷ []
             → IsWrite P.tells self.now.id.0
-            (begun (P.view complex.old.plant).now self.now.id (entries_reserved complex.old.reserved)) front
-            (end_of complex.new.placed complex.new.current complex.new.journal.batches) complex.old.pair.first.alive
-            complex.new.pair.first.alive complex.old.pair.second.alive complex.new.pair.second.alive
-            (P.view complex.old.plant) (P.view complex.new.plant) result }
+            (begun (P.view complex.old.plant).now self.now.id (entries_reserved complex.old.reserved))
+            (journal_at front (pair_of complex.old))
+            (journal_at (end_of complex.new.placed complex.new.current complex.new.journal.batches)
+            (pair_of complex.new)) result }
         ensures operator { IsErrOf result Halted → 0 < self.now.id.0 }
     {
         self.put(complex, draft)?;
@@ -242,26 +214,16 @@ impl Member {
         requires reserved { IsSome complex.old.reserved }
         requires some { 1 ≤ length (entries_reserved complex.old.reserved) }
         requires small { complex.old.level + 1 < 2 ^ 63 }
-        requires replied { P.tells → ∥ HaveReplies (run complex.old.base (kept_all complex.old.journal.batches))
-            (entries_reserved complex.old.reserved) ∥₁ }
+        requires replied { P.tells → HasRepliesOf complex.old (entries_reserved complex.old.reserved) }
         requires first { complex.old.first ≡ AtBefore }
         requires second { complex.old.second ≡ AtBefore }
-        requires untold { P.tells → IsUntold (setting C.reads complex.old.base complex.old.since)
-            (P.view complex.old.plant) (entries_reserved complex.old.reserved) }
-        requires allowed { P.tells → MayBegin complex.old.base complex.old.journal.batches complex.old.printed
-            (entries_reserved complex.old.reserved) }
-        requires texts { P.tells → ∥ HasTexts (lost_now (P.view complex.old.plant))
-            (spools_at (P.view complex.old.plant) (P.view complex.old.plant).now) complex.old.base.config.groups
-            (run complex.old.base (kept_all complex.old.journal.batches ++ entries_reserved complex.old.reserved)) ∥₁ }
-        requires draft { P.tells → ∥ IsDraftOf draft.now P.tells
-            (run complex.old.base (kept_all complex.old.journal.batches)) (entries_reserved complex.old.reserved)
-            complex.old.level self.now.checkpoint.pages ∥₁ }
-        requires draft1 { IsDraftFor draft.now P.tells complex.old.pair.first.alive
-            (C.count complex.old.pair.first.copy) (C.room complex.old.pair.first.copy) self.now.checkpoint.pages
-            (C.reads (disk_now (P.view complex.old.plant) Ckpt1).bytes) }
-        requires draft2 { IsDraftFor draft.now P.tells complex.old.pair.second.alive
-            (C.count complex.old.pair.second.copy) (C.room complex.old.pair.second.copy) self.now.checkpoint.pages
-            (C.reads (disk_now (P.view complex.old.plant) Ckpt2).bytes) }
+        requires untold { P.tells → IsUntoldOf complex.old (entries_reserved complex.old.reserved) }
+        requires allowed { P.tells → MayBeginOf complex.old (entries_reserved complex.old.reserved) }
+        requires texts { P.tells → HasTextsWith complex.old (entries_reserved complex.old.reserved) }
+        requires draft { P.tells → ∥ IsDraftOf draft.now P.tells (kept_queue complex.old)
+            (entries_reserved complex.old.reserved) complex.old.level self.now.checkpoint.pages ∥₁ }
+        requires draft1 { IsDraftOn draft.now P.tells (first_of complex.old) self.now.checkpoint.pages }
+        requires draft2 { IsDraftOn draft.now P.tells (second_of complex.old) self.now.checkpoint.pages }
         ensures base { complex.new.base ≡ complex.old.base }
         ensures printed { complex.new.printed
             ≡ printed_after self.now.id (entries_reserved complex.old.reserved) complex.old.printed }
@@ -277,28 +239,22 @@ impl Member {
         ensures none { OnOk result (complex.new.current ≡ None) }
         ensures had { values_of complex.new.had ≡ values_of complex.old.had }
         ensures level { OnOk result (complex.new.level ≡ level_with draft.now complex.old.level) }
-        ensures rests1 { OnOk result (RestsAt P.tells complex.new.pair.first.alive complex.new.first
-            (C.count complex.new.pair.first.copy) self.now.checkpoint.pages
-            (C.reads (disk_now (P.view complex.new.plant) Ckpt1).bytes)) }
-        ensures rests2 { OnOk result (RestsAt P.tells complex.new.pair.second.alive complex.new.second
-            (C.count complex.new.pair.second.copy) self.now.checkpoint.pages
-            (C.reads (disk_now (P.view complex.new.plant) Ckpt2).bytes)) }
-        ensures room1 { OnOk result (complex.new.pair.first.alive ≡ true
-            → C.room complex.new.pair.first.copy
-            ≡ room_with draft.now C.room_after (C.room complex.old.pair.first.copy)) }
-        ensures room2 { OnOk result (complex.new.pair.second.alive ≡ true
-            → C.room complex.new.pair.second.copy
-            ≡ room_with draft.now C.room_after (C.room complex.old.pair.second.copy)) }
+        ensures rests1 { OnOk result (IsAtRest P.tells (first_of complex.new) self.now.checkpoint.pages) }
+        ensures rests2 { OnOk result (IsAtRest P.tells (second_of complex.new) self.now.checkpoint.pages) }
+        ensures room1 { OnOk result (HasRoomFor (first_of complex.new) (room_with draft.now C.room_after
+            (first_of complex.old).room)) }
+        ensures room2 { OnOk result (HasRoomFor (second_of complex.new) (room_with draft.now C.room_after
+            (second_of complex.old).room)) }
         ensures flying { OnErr result ((complex.new.journal ≡ complex.old.journal)
             × (complex.new.placed ≡ complex.old.placed)
             × (complex.new.current ≡ Some (begun (P.view complex.old.plant).now self.now.id
             (entries_reserved complex.old.reserved)))) }
         ensures write { (front : List Batch) (place : Batch) → complex.old.journal.batches ≡ front ++ place ∷ []
             → IsWrite P.tells self.now.id.0
-            (begun (P.view complex.old.plant).now self.now.id (entries_reserved complex.old.reserved)) front
-            (end_of complex.new.placed complex.new.current complex.new.journal.batches) complex.old.pair.first.alive
-            complex.new.pair.first.alive complex.old.pair.second.alive complex.new.pair.second.alive
-            (P.view complex.old.plant) (P.view complex.new.plant) result }
+            (begun (P.view complex.old.plant).now self.now.id (entries_reserved complex.old.reserved))
+            (journal_at front (pair_of complex.old))
+            (journal_at (end_of complex.new.placed complex.new.current complex.new.journal.batches)
+            (pair_of complex.new)) result }
         ensures operator { IsErrOf result Halted → 0 < self.now.id.0 }
     {
         match draft {

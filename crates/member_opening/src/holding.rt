@@ -1,17 +1,14 @@
 //! A member that got the lock takes in what the copies have.
 ghost use Rattle.std.specs.Prelude.{◌≡◌, ◌≤◌, ◌<◌, length, true, false, OnOk};
-ghost use Rattle.mas_types.specs.declared.ids.Dev.TheVariants.{Ckpt1, Ckpt2};
 ghost use Rattle.mas_types.specs.Limits.{members_most};
-ghost use Rattle.spool_plant.specs.View.{disk_now};
-ghost use Rattle.mas_complex.specs.Journals.{kept_all};
 ghost use Rattle.mas_complex.specs.Locking.{MayAct};
-ghost use Rattle.mas_complex.specs.Meaning.{run};
-ghost use Rattle.member_node.specs.Copies.{RestsAt};
-ghost use Rattle.member_node.specs.Reads.{AreLow, IsCalm, ReadsLow, too_high};
+ghost use Rattle.member_node.specs.Copies.{IsAtRest, first_of, second_of};
+ghost use Rattle.member_node.specs.Reads.{AreLow, IsCalmOf, IsLowOf, too_high};
 ghost use Rattle.member_steps.specs.Noting.{HasNotes, KeepsNotes};
 ghost use Rattle.member_steps.specs.Steps.{IsAtLock, IsBetween, IsToldSound};
-ghost use Rattle.mas_complex.specs.CallCounts.{pair_state};
+ghost use Rattle.mas_complex.specs.CallCounts.{pair_of};
 ghost use Rattle.mas_complex.specs.Parts.{parts_of};
+ghost use Rattle.mas_complex.specs.Begins.{kept_queue};
 ghost use Rattle.member_decks.specs.Keeping.{IsOnCopies};
 
 use mas_complex::{Complex, Steady};
@@ -35,15 +32,13 @@ pub fn take_hold<P: Plant + Drop, C: Steady + Drop>(
     requires may { MayAct complex.old.book member.old.id }
     requires at_lock { IsAtLock complex.old.current complex.old.placed member.old.batch member.old.checkpoint
         member.old.room }
-    requires calm1 { IsCalm complex.old.pair.first.alive complex.old.first (C.count complex.old.pair.first.copy)
-        (length member.old.room) }
-    requires calm2 { IsCalm complex.old.pair.second.alive complex.old.second (C.count complex.old.pair.second.copy)
-        (length member.old.room) }
-    requires low1 { ReadsLow P.tells complex.old.pair.first.alive member.old.checkpoint.tables.config
-        (length complex.old.journal.batches) (C.reads (disk_now (P.view complex.old.plant) Ckpt1).bytes) }
-    requires low2 { ReadsLow P.tells complex.old.pair.second.alive member.old.checkpoint.tables.config
-        (length complex.old.journal.batches) (C.reads (disk_now (P.view complex.old.plant) Ckpt2).bytes) }
-    requires sound { P.tells → IsToldSound (run complex.old.base (kept_all complex.old.journal.batches)) }
+    requires calm1 { IsCalmOf (first_of complex.old) (length member.old.room) }
+    requires calm2 { IsCalmOf (second_of complex.old) (length member.old.room) }
+    requires low1 { IsLowOf P.tells (first_of complex.old) member.old.checkpoint.tables.config
+        (length complex.old.journal.batches) }
+    requires low2 { IsLowOf P.tells (second_of complex.old) member.old.checkpoint.tables.config
+        (length complex.old.journal.batches) }
+    requires sound { P.tells → IsToldSound (kept_queue complex.old) }
     requires config { complex.old.base.config ≡ member.old.checkpoint.tables.config }
     requires level { complex.old.level < too_high }
     requires noted { HasNotes complex.old member.old }
@@ -58,18 +53,12 @@ pub fn take_hold<P: Plant + Drop, C: Steady + Drop>(
     ensures placed { complex.new.placed ≡ complex.old.placed }
     ensures level { complex.new.level ≡ complex.old.level }
     ensures id { member.new.id ≡ member.old.id }
-    ensures acts { IsOnCopies P.tells member.old.id.0
-        (pair_state P.view (parts_of complex.old)) (pair_state P.view (parts_of complex.new)) result }
+    ensures acts { IsOnCopies P.tells member.old.id.0 (pair_of complex.old) (pair_of complex.new) result }
     ensures notes { KeepsNotes complex.old complex.new member.old member.new result }
     ensures here { OnOk result (member.new.behind ≡ false) }
-    ensures between { OnOk result (IsBetween P.tells complex.new.base complex.new.journal.batches complex.new.current
-        complex.new.placed complex.new.level member.new.batch member.new.checkpoint) }
-    ensures rests1 { OnOk result (RestsAt P.tells complex.new.pair.first.alive complex.new.first
-        (C.count complex.new.pair.first.copy) member.new.checkpoint.pages
-        (C.reads (disk_now (P.view complex.new.plant) Ckpt1).bytes)) }
-    ensures rests2 { OnOk result (RestsAt P.tells complex.new.pair.second.alive complex.new.second
-        (C.count complex.new.pair.second.copy) member.new.checkpoint.pages
-        (C.reads (disk_now (P.view complex.new.plant) Ckpt2).bytes)) }
+    ensures between { OnOk result (IsBetween P.tells (parts_of complex.new) member.new.batch member.new.checkpoint) }
+    ensures rests1 { OnOk result (IsAtRest P.tells (first_of complex.new) member.new.checkpoint.pages) }
+    ensures rests2 { OnOk result (IsAtRest P.tells (second_of complex.new) member.new.checkpoint.pages) }
     ensures room1 { OnOk result (complex.new.pair.first.alive ≡ true → 1 ≤ C.room complex.new.pair.first.copy) }
     ensures room2 { OnOk result (complex.new.pair.second.alive ≡ true → 1 ≤ C.room complex.new.pair.second.copy) }
     ensures many { OnOk result (length member.new.room ≡ length member.new.checkpoint.pages) }

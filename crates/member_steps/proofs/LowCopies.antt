@@ -1,5 +1,6 @@
 -- The queue after the kept batches has the sound parts, and copies that stand for it read as low tables of it.
 use Rattle.std.proofs.Common.{◌≡◌, ℕ, ◌+◌, ◌*◌, ◌≤◌, Bool, true, false, if◌then◌else◌, List, [], ◌∷◌, ◌++◌, append-nil, length, All, Option, Some, None, sym, ◌∙◌, ap, subst}
+use Rattle.std.proofs.lemmas.Option.{same_Some as some_same}
 use Rattle.std.proofs.Math.Logic.{∥∥₁_map}
 use Rattle.std.proofs.lemmas.List.Elements.{All-append, All-nil}
 use Rattle.mas_types.specs.declared.ids.Page.{Page}
@@ -21,7 +22,7 @@ use Rattle.queue_telling.specs.Telling.{Tell}
 use Rattle.member_node.proofs.OrderLemmas.{orders_are}
 use Rattle.member_node.proofs.SoundTables.{told_are_sound}
 use Rattle.member_node.proofs.LawLemmas.{sound_fit}
-use Rattle.mas_complex.proofs.Orders.{order_spelled}
+use Rattle.mas_complex.proofs.Found.{order_spelled}
 use Rattle.mas_complex.specs.Crash.{next_order, order_first, orders_most}
 use Rattle.mas_complex.specs.Journals.{in_flight, kept_all}
 use Rattle.mas_complex.specs.Meaning.{StandFor}
@@ -70,9 +71,6 @@ module _ (Q : Queue) (found : List ℕ) (s : StandFor Q found) (pages : List Pag
 
   spelled_orders : HaveOrders u
   spelled_orders = subst HaveOrders tables_are s.tell.orders
-
-some_same : (a b : List ℕ) → Some a ≡ Some b → a ≡ b
-some_same a b e = cc
 
 pub low_found : (told : Type 0) (alive : Bool) (base : Queue) (es : List Entry) (n : ℕ) (found : List ℕ) (read : Option (List ℕ)) → (told → IsSound (run base es)) → (told → ∥ StandFor (run base es) found ∥₁)
     → next_order found ≤ order_first + orders_most * n → (told → alive ≡ true → read ≡ Some found) → ReadsLow told alive base.config n read

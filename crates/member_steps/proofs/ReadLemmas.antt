@@ -24,6 +24,8 @@ use Rattle.ckpt_places.specs.declared.places.Place.{Place}
 use Rattle.mas_complex.specs.Crash.{EachTells, IsUntold, setting}
 use Rattle.mas_complex.specs.Journals.{end_of, fated, has_step, kept_all}
 use Rattle.mas_complex.specs.Meaning.{Closes, run}
+use Rattle.mas_complex.specs.CallCounts.{pair_at}
+use Rattle.mas_complex.specs.Parts.{Parts}
 use Rattle.member_node.specs.declared.checkpoint.Checkpoint.{Checkpoint}
 use Rattle.member_node.specs.declared.member.NodeNo.{NodeNo}
 use Rattle.member_node.specs.declared.member.NodeNo.TheVariants.{BothLost, Halted, ConsoleFault, NoMemory}
@@ -45,15 +47,15 @@ use Rattle.member_steps.proofs.Codes.{tell_is}
 
 -- reads and a settle: nothing but the copies changed, and where content is told none was lost by a call
 pub record HasBegun (told : Type 0) (by : ℕ) (stopped was1 is1 was2 is2 : Bool) (old new : View) : Type 0 where
-  pub course : Course was1 is1 was2 is2 old new
+  pub course : Course (pair_at was1 was2 old) (pair_at is1 is2 new)
   pub spares : Spares by stopped old new
   pub loses : told → (d : Dev) → new.loses d ≡ old.loses d
   pub apart : told → Apart old new
 
-pub begun_read : (told : Type 0) (by : ℕ) (stopped was1 is1 was2 is2 : Bool) (old new : View) → HasRead told was1 is1 was2 is2 old new → Spares by stopped old new → HasBegun told by stopped was1 is1 was2 is2 old new
+pub begun_read : (told : Type 0) (by : ℕ) (stopped was1 is1 was2 is2 : Bool) (old new : View) → HasRead told (pair_at was1 was2 old) (pair_at is1 is2 new) → Spares by stopped old new → HasBegun told by stopped was1 is1 was2 is2 old new
 begun_read told by stopped was1 is1 was2 is2 old new read spares = record { course = read.course; spares = spares; loses = read.loses; apart = read.apart }
 
-pub begun_settle : {T : Type 0} (told : Type 0) (by : ℕ) (was1 mid1 is1 was2 mid2 is2 : Bool) (v0 v1 v2 : View) (r : Result T NodeNo) → HasRead told was1 mid1 was2 mid2 v0 v1 → Spares by false v0 v1 → IsSettle told by mid1 is1 mid2 is2 v1 v2 r → HasBegun told by (stopped_in r) was1 is1 was2 is2 v0 v2
+pub begun_settle : {T : Type 0} (told : Type 0) (by : ℕ) (was1 mid1 is1 was2 mid2 is2 : Bool) (v0 v1 v2 : View) (r : Result T NodeNo) → HasRead told (pair_at was1 was2 v0) (pair_at mid1 mid2 v1) → Spares by false v0 v1 → IsSettle told by (pair_at mid1 mid2 v1) (pair_at is1 is2 v2) r → HasBegun told by (stopped_in r) was1 is1 was2 is2 v0 v2
 begun_settle told by was1 mid1 is1 was2 mid2 is2 v0 v1 v2 r read spares settle = record {
   course = course_then was1 mid1 is1 was2 mid2 is2 v0 v1 v2 read.course settle.course;
   spares = spares_then by (stopped_in r) v0 v1 v2 spares settle.spares;
@@ -108,9 +110,8 @@ low_written told alive place count config batches k read drawn low rests t = low
 
 -- AT THE LOCK AGAIN, after a step
 
-pub at_lock : (tells : Type 0) (base : Queue) (batches : List Batch) (current : Option Batch) (placed : Bool) (level : ℕ) (batch : List Entry) (k : Checkpoint) (room : List Page) → IsBetween tells base batches current placed level batch k → length room ≡ length k.pages
-    → IsAtLock current placed batch k room
-at_lock tells base batches current placed level batch k room between many = record {
+pub at_lock : {P C : Type 0} (tells : Type 0) (x : Parts P C) (batch : List Entry) (k : Checkpoint) (room : List Page) → IsBetween tells x batch k → length room ≡ length k.pages → IsAtLock x.current x.placed batch k room
+at_lock tells x batch k room between many = record {
   none = between.none;
   unplaced = between.unplaced;
   nothing = between.nothing;
@@ -129,18 +130,18 @@ one_batch front batches placed current b now unplaced none kept =
 -- IN THE STEP
 
 -- a member that is at the lock, and has read
-pub between_read : (tells : Type 0) (base : Queue) (batches : List Batch) (current : Option Batch) (placed : Bool) (level : ℕ) (batch : List Entry) (k : Checkpoint) (config : Config) → current ≡ None → placed ≡ false → batch ≡ [] → IsUpTo config k.pages k
-    → (tells → ∥ Tell k.tables (run base (kept_all batches)) ∥₁) → (tells → ∥ HaveOrders k.tables ∥₁) → (tells → level ≡ k.level) → (tells → IsToldSound (run base (kept_all batches))) → IsBetween tells base batches current placed level batch k
-between_read tells base batches current placed level batch k config none unplaced nothing up told ordered at sound = record {
+pub between_read : {P C : Type 0} (tells : Type 0) (x : Parts P C) (batch : List Entry) (k : Checkpoint) (config : Config) → x.current ≡ None → x.placed ≡ false → batch ≡ [] → IsUpTo config k.pages k
+    → (tells → ∥ Tell k.tables (run x.base (kept_all x.batches)) ∥₁) → (tells → ∥ HaveOrders k.tables ∥₁) → (tells → x.level ≡ k.level) → (tells → IsToldSound (run x.base (kept_all x.batches))) → IsBetween tells x batch k
+between_read tells x batch k config none unplaced nothing up told ordered at sound = record {
   none = none;
   unplaced = unplaced;
   same_level = at;
   nothing = nothing;
   drawn = up.drawn;
-  queue = λ t. tell_is k.tables (run base (kept_all batches)) (told t);
+  queue = λ t. tell_is k.tables (run x.base (kept_all x.batches)) (told t);
   fit = up.may.fit;
   orders = λ t. orders_are k.tables (ordered t);
-  sound = λ t. sound t k.tables (tell_is k.tables (run base (kept_all batches)) (told t));
+  sound = λ t. sound t k.tables (tell_is k.tables (run x.base (kept_all x.batches)) (told t));
 }
 
 -- a member's pages are as many as the configuration of a run has
@@ -151,15 +152,14 @@ pub level_low : (config : Config) (k : Checkpoint) → IsUpTo config k.pages k �
 level_low config k up = subst (λ (l : ℕ). l < too_high) (drawn_level k.tables k.level k.levels k.pages up.drawn) up.may.low_level
 
 -- a member between commands, by other names
-pub between_by : (told : Type 0) (base base' : Queue) (batches batches' : List Batch) (current current' : Option Batch) (placed placed' : Bool) (level level' : ℕ) (batch : List Entry) (k : Checkpoint) → base' ≡ base → batches' ≡ batches → current' ≡ current → placed' ≡ placed → level' ≡ level
-    → IsBetween told base batches current placed level batch k → IsBetween told base' batches' current' placed' level' batch k
-between_by told base base' batches batches' current current' placed placed' level level' batch k one two three four five b = record {
+pub between_by : {P C : Type 0} (told : Type 0) (x y : Parts P C) (batch : List Entry) (k : Checkpoint) → y.base ≡ x.base → y.batches ≡ x.batches → y.current ≡ x.current → y.placed ≡ x.placed → y.level ≡ x.level → IsBetween told x batch k → IsBetween told y batch k
+between_by told x y batch k one two three four five b = record {
   none = three ∙ b.none;
   unplaced = four ∙ b.unplaced;
   same_level = λ t. five ∙ b.same_level t;
   nothing = b.nothing;
   drawn = b.drawn;
-  queue = λ t. subst (Tell k.tables) (sym (ap (λ (q : Queue). run q (kept_all batches')) one ∙ ap (λ (bs : List Batch). run base (kept_all bs)) two)) (b.queue t);
+  queue = λ t. subst (Tell k.tables) (sym (ap (λ (q : Queue). run q (kept_all y.batches)) one ∙ ap (λ (bs : List Batch). run x.base (kept_all bs)) two)) (b.queue t);
   fit = b.fit;
   orders = b.orders;
   sound = b.sound;

@@ -11,6 +11,7 @@ use Rattle.spool_plant.specs.Acts.{Acts, Says, Said}
 use Rattle.ckpt_copy.specs.Moments.{goes_on, goes_none}
 use Rattle.mas_complex.specs.Headline.{whole}
 use Rattle.mas_complex.specs.Parts.{Parts}
+use Rattle.mas_complex.specs.CallCounts.{pair_at}
 use Rattle.member_node.specs.declared.member.NodeNo.{NodeNo}
 use Rattle.member_node.specs.declared.member.NodeNo.TheVariants.{BothLost, Halted, ConsoleFault, NoMemory}
 use Rattle.member_node.specs.Calls.{Course, console_now}
@@ -45,7 +46,7 @@ console_on told by line v0 v1 v2 said x act says = record {
 }
 
 -- no copy is lost by acts on the console
-pub console_course : (told : Type 0) (a b : Bool) (v1 v2 : View) → OnConsole told v1 v2 → Course a a b b v1 v2
+pub console_course : (told : Type 0) (a b : Bool) (v1 v2 : View) → OnConsole told v1 v2 → Course (pair_at a b v1) (pair_at a b v2)
 console_course told a b v1 v2 x = record {
   goes = x.goes;
   failed1 = λ is not. absurd (no a is not);

@@ -26,8 +26,9 @@ use Rattle.mas_complex.specs.Headline.{whole}
 use Rattle.mas_complex.specs.Journals.{StepIsKept, fated, in_flight, kept_all, with_last}
 use Rattle.mas_complex.specs.Meaning.{run}
 use Rattle.mas_complex.specs.Paper.{MayBegin}
-use Rattle.mas_complex.proofs.Allowed.{one_begins}
-use Rattle.mas_complex.proofs.BatchEnds.{with_last-append}
+use Rattle.mas_complex.proofs.Batches.{one_begins, with_last-append}
+use Rattle.mas_complex.specs.CallCounts.{pair_at}
+use Rattle.mas_complex.specs.Parts.{Parts}
 use Rattle.member_node.specs.declared.checkpoint.Checkpoint.{Checkpoint}
 use Rattle.member_node.specs.declared.checkpoint.Draft.{Draft}
 use Rattle.member_node.specs.declared.checkpoint.Draft.TheVariants as draft
@@ -36,7 +37,7 @@ use Rattle.member_node.specs.declared.member.NodeNo.TheVariants.{BothLost, Halte
 use Rattle.member_node.specs.Batches.{CanDraw, HasDone, level_with}
 use Rattle.member_node.specs.Calls.{console_now}
 use Rattle.member_node.specs.Drawn.{AreDrawn}
-use Rattle.member_node.specs.Writes.{HasKept, IsWrite}
+use Rattle.member_node.specs.Writes.{HasKept, IsWrite, journal_at}
 use Rattle.member_node.proofs.DrawnLemmas.{drawn_level}
 use Rattle.member_node.proofs.AgeLemmas.{aged_as, drawn_aged, level_as}
 use Rattle.member_node.proofs.CourseLemmas.{course_none, course_then, only_none, only_on, papers_none, papers_on, rose_later, wires_none, wires_then}
@@ -50,9 +51,12 @@ use Rattle.member_steps.proofs.SayLemmas.{console_course}
 
 -- THE STEP
 
-module _ (told : Type 0) (by : ℕ) (lines : List (List ℕ)) (b : Batch) (front batches : List Batch) where
+module _ (told : Type 0) (lines : List (List ℕ)) (b : Batch) (front batches : List Batch) where
+  abbrev by : ℕ
+  by = b.by.0
+
   -- nothing was done
-  pub step_unplayed : (is1 is2 : Bool) (v : View) → batches ≡ front → IsStep {T = Unit {0}} told by lines b front batches is1 is1 is2 is2 v v (Err NoMemory)
+  pub step_unplayed : (is1 is2 : Bool) (v : View) → batches ≡ front → IsStep {T = Unit {0}} told lines b (journal_at front (pair_at is1 is2 v)) (journal_at batches (pair_at is1 is2 v)) (Err NoMemory)
   step_unplayed is1 is2 v none = record {
     course = course_none is1 is2 v;
     loses = λ t d. refl;
@@ -67,7 +71,7 @@ module _ (told : Type 0) (by : ℕ) (lines : List (List ℕ)) (b : Batch) (front
 
   module _ (was1 is1 was2 is2 : Bool) (v0 v1 : View) where
     -- the batch wasn't kept
-    pub step_unwritten : (e : NodeNo) → IsWrite {T = Unit {0}} told by b front batches was1 is1 was2 is2 v0 v1 (Err e) → IsStep {T = Unit {0}} told by lines b front batches was1 is1 was2 is2 v0 v1 (Err e)
+    pub step_unwritten : (e : NodeNo) → IsWrite {T = Unit {0}} told by b (journal_at front (pair_at was1 was2 v0)) (journal_at batches (pair_at is1 is2 v1)) (Err e) → IsStep {T = Unit {0}} told lines b (journal_at front (pair_at was1 was2 v0)) (journal_at batches (pair_at is1 is2 v1)) (Err e)
     step_unwritten ConsoleFault write = absurd write.cause
     step_unwritten NoMemory write = absurd write.cause
     step_unwritten BothLost write = record {
@@ -94,14 +98,14 @@ module _ (told : Type 0) (by : ℕ) (lines : List (List ℕ)) (b : Batch) (front
     }
 
     -- the batch was kept, and its lines were said
-    module _ (write : IsWrite {T = Unit {0}} told by b front batches was1 is1 was2 is2 v0 v1 (Ok tt)) (v2 : View) where
+    module _ (write : IsWrite {T = Unit {0}} told by b (journal_at front (pair_at was1 was2 v0)) (journal_at batches (pair_at is1 is2 v1)) (Ok tt)) (v2 : View) where
       kept_then : v1.now ≤ v2.now → HasKept front batches b v2.now
       kept_then later = let k : HasKept front batches b v1.now = write.journal in (k.0, k.1, omega (arith, k.2, later), k.3)
 
       console_then : told → (n : ℕ) → console_now v2 ≡ console_now v1 ++ map whole (take n lines) → console_now v2 ≡ console_now v0 ++ map whole (take n lines)
       console_then t n is = is ∙ ap (λ (l : List Line). l ++ map whole (take n lines)) (write.apart t).console
 
-      pub step_told : (r : Result (Unit {0}) NodeNo) → HaveSaid told by lines v1 v2 r → IsStep told by lines b front batches was1 is1 was2 is2 v0 v2 r
+      pub step_told : (r : Result (Unit {0}) NodeNo) → HaveSaid told by lines v1 v2 r → IsStep told lines b (journal_at front (pair_at was1 was2 v0)) (journal_at batches (pair_at is1 is2 v2)) r
       step_told (Err BothLost) said = absurd said.cause
       step_told (Err NoMemory) said = absurd said.cause
       step_told (Ok done) said = record {
@@ -141,11 +145,10 @@ module _ (told : Type 0) (by : ℕ) (lines : List (List ℕ)) (b : Batch) (front
 -- BEFORE AND AFTER A STEP
 
 -- nothing is done yet
-pub between_done : (tells : Type 0) (base : Queue) (batches : List Batch) (current : Option Batch) (placed : Bool) (level : ℕ) (batch : List Entry) (k : Checkpoint) → IsBetween tells base batches current placed level batch k → tells
-    → HasDone (run base (kept_all batches)) batch k
-between_done tells base batches current placed level batch k between told =
-    subst (λ (es : List Entry). HasDone (run base (kept_all batches)) es k) (sym between.nothing)
-    (nothing_done (run base (kept_all batches)) k between.drawn between.fit (between.orders told) (between.queue told))
+pub between_done : {P C : Type 0} (tells : Type 0) (x : Parts P C) (batch : List Entry) (k : Checkpoint) → IsBetween tells x batch k → tells → HasDone (run x.base (kept_all x.batches)) batch k
+between_done tells x batch k between told =
+    subst (λ (es : List Entry). HasDone (run x.base (kept_all x.batches)) es k) (sym between.nothing)
+    (nothing_done (run x.base (kept_all x.batches)) k between.drawn between.fit (between.orders told) (between.queue told))
 
 -- a batch that had no entry has the one that came
 pub only_entry : (was is : List Entry) (e : Entry) → is ≡ was ++ e ∷ [] → was ≡ [] → is ≡ e ∷ []
@@ -201,20 +204,30 @@ pub some_of_one : (es : List Entry) (e : Entry) → es ≡ e ∷ [] → 1 ≤ le
 some_of_one es e is = subst (λ (l : List Entry). 1 ≤ length l) (sym is) (omega arith)
 
 -- tables that a command changed can be drawn as before
-pub can_draw : (k n : Checkpoint) → AreDrawn k.tables k.level k.levels k.pages → n.pages ≡ k.pages → n.level ≡ k.level → n.levels ≡ k.levels → n.tables.config ≡ k.tables.config → HasSpelling n.tables → CanDraw n
-can_draw k n drawn pages level levels config spelling = record {
+pub can_still : (k n : Checkpoint) → CanDraw k → n.pages ≡ k.pages → n.level ≡ k.level → n.levels ≡ k.levels → n.tables.config ≡ k.tables.config → HasSpelling n.tables → CanDraw n
+can_still k n draws pages level levels config spelling = record {
   leveled = subst (λ (l : ℕ). AreLevels n.tables l n.levels) (sym level) (subst (AreLevels n.tables k.level) (sym levels) (record {
-    count = drawn.leveled.count ∙ ap page_count (sym config);
-    first = drawn.leveled.first;
-    each = drawn.leveled.each;
-    most = drawn.leveled.most;
+    count = draws.leveled.count ∙ ap page_count (sym config);
+    first = draws.leveled.first;
+    each = draws.leveled.each;
+    most = draws.leveled.most;
   }));
-  as_many = ap length pages ∙ drawn.spelled.count ∙ ap page_count (sym config);
-  sized = subst (All (λ page. length page.0 ≡ page_bytes)) (sym pages) drawn.sized;
+  as_many = ap length pages ∙ draws.as_many ∙ ap page_count (sym config);
+  sized = subst (All (λ page. length page.0 ≡ page_bytes)) (sym pages) draws.sized;
   spelling = spelling;
-  aged = aged_as k n (drawn_aged k.tables k.level k.levels k.pages drawn) pages levels;
-  at_level = level_as k n (drawn_level k.tables k.level k.levels k.pages drawn) pages level;
+  aged = aged_as k n draws.aged pages levels;
+  at_level = level_as k n draws.at_level pages level;
 }
+
+pub can_draw : (k n : Checkpoint) → AreDrawn k.tables k.level k.levels k.pages → n.pages ≡ k.pages → n.level ≡ k.level → n.levels ≡ k.levels → n.tables.config ≡ k.tables.config → HasSpelling n.tables → CanDraw n
+can_draw k n drawn = can_still k n (record {
+  leveled = drawn.leveled;
+  as_many = drawn.spelled.count;
+  sized = drawn.sized;
+  spelling = drawn.spelling;
+  aged = drawn_aged k.tables k.level k.levels k.pages drawn;
+  at_level = drawn_level k.tables k.level k.levels k.pages drawn;
+})
 
 -- tables that tell a run's queue with more entries have as many pages as its configuration says
 pub pages_as_many : (base : Queue) (es more : List Entry) (t : Tables) → Tell t (run (run base es) more) → page_count base.config ≡ page_count t.config

@@ -21,6 +21,8 @@ use Rattle.mas_complex.specs.Headline.{whole}
 use Rattle.mas_complex.specs.Journals.{kept_all}
 use Rattle.mas_complex.specs.Meaning.{step, run}
 use Rattle.mas_complex.specs.Paper.{SamePapers}
+use Rattle.mas_complex.specs.Parts.{Parts}
+use Rattle.mas_complex.specs.CallCounts.{PairState}
 use Rattle.member_node.specs.declared.checkpoint.Checkpoint.{Checkpoint}
 use Rattle.member_node.specs.declared.member.NodeNo.{NodeNo}
 use Rattle.member_node.specs.declared.member.NodeNo.TheVariants.{BothLost, Halted, ConsoleFault, NoMemory}
@@ -28,7 +30,7 @@ use Rattle.member_node.specs.Calls.{Course, IsLeft, IsOnlyOn, console_now}
 use Rattle.member_node.specs.Drawn.{AreDrawn}
 use Rattle.member_node.specs.Spares.{Spares, stopped_in}
 use Rattle.mas_types.specs.Closings.{reply_lines}
-use Rattle.member_node.specs.Writes.{HasKept, HasFlying}
+use Rattle.member_node.specs.Writes.{HasKept, HasFlying, JournalState}
 use Rattle.member_steps.specs.Saying.{Breaks}
 
 -- WHAT A STEP GIVES
@@ -63,17 +65,17 @@ IsToldSound Q = (t : Tables) → Tell t Q → TellSound t
 
 -- A member in a step, which knows the copies: no batch is in flight or has its place, and where content is told its
 -- checkpoint tells the queue after the kept batches, which has the sound parts, and its tables have no order twice.
-pub record IsBetween (tells : Type 0) (base : Queue) (batches : List Batch) (current : Option Batch) (placed : Bool)
-    (level : ℕ) (batch : List Entry) (k : Checkpoint) : Type 0 where
-  pub none : current ≡ None
-  pub unplaced : placed ≡ false
-  pub same_level : tells → level ≡ k.level
-  pub nothing : batch ≡ []
-  pub drawn : AreDrawn k.tables k.level k.levels k.pages
-  pub queue : tells → Tell k.tables (run base (kept_all batches))
-  pub fit : AreFit k.tables
-  pub orders : tells → HaveOrders k.tables
-  pub sound : tells → TellSound k.tables
+pub record IsBetween {P C : Type 0} (tells : Type 0) (x : Parts P C) (batch : List Entry) (k : Checkpoint) : Type 0
+  where
+    pub none : x.current ≡ None
+    pub unplaced : x.placed ≡ false
+    pub same_level : tells → x.level ≡ k.level
+    pub nothing : batch ≡ []
+    pub drawn : AreDrawn k.tables k.level k.levels k.pages
+    pub queue : tells → Tell k.tables (run x.base (kept_all x.batches))
+    pub fit : AreFit k.tables
+    pub orders : tells → HaveOrders k.tables
+    pub sound : tells → TellSound k.tables
 
 -- the batch is kept by now
 abbrev pub IsKeptBy : ℕ → Batch → Type 0
@@ -104,13 +106,14 @@ IsGiven by at c lines batch = (r : Reply) × (lines ≡ reply_lines by at r) × 
 -- WHAT A STEP LEAVES
 
 -- the cause of an answer, and which copies count as alive after it
-abbrev pub StepCauses : {T : Type 0} → Result T NodeNo → ℕ → Bool → Bool → Bool → Bool → View → View → Type 0
-StepCauses (Ok done) by was1 is1 was2 is2 old new = IsLeft was1 is1 was2 is2
-StepCauses (Err NoMemory) by was1 is1 was2 is2 old new = IsLeft was1 is1 was2 is2
-StepCauses (Err BothLost) by was1 is1 was2 is2 old new = IsBothLost is1 is2
-StepCauses (Err ConsoleFault) by was1 is1 was2 is2 old new = IsLeft was1 is1 was2 is2
-    × Rose (old.faults Console) (new.faults Console)
-StepCauses (Err Halted) by was1 is1 was2 is2 old new = IsLeft was1 is1 was2 is2 × Rose (old.stops by) (new.stops by)
+abbrev pub StepCauses : {T : Type 0} → Result T NodeNo → ℕ → PairState → PairState → Type 0
+StepCauses (Ok done) by old new = IsLeft old.first new.first old.second new.second
+StepCauses (Err NoMemory) by old new = IsLeft old.first new.first old.second new.second
+StepCauses (Err BothLost) by old new = IsBothLost new.first new.second
+StepCauses (Err ConsoleFault) by old new = IsLeft old.first new.first old.second new.second
+    × Rose (old.view.faults Console) (new.view.faults Console)
+StepCauses (Err Halted) by old new = IsLeft old.first new.first old.second new.second
+    × Rose (old.view.stops by) (new.view.stops by)
 
 -- The batch is kept where all lines are said, or where the console failed at one. Where both copies were lost it is in
 -- flight, or isn't begun; where the member was stopped it is either of these.
@@ -130,16 +133,17 @@ StepTells (Err BothLost) lines kept was now = now ≡ was
 StepTells (Err ConsoleFault) lines kept was now = (n : ℕ) × (n < length lines) × (now ≡ was ++ map whole (take n lines))
 StepTells (Err Halted) lines kept was now = (now ≡ was) ⊎ (kept × (n : ℕ) × (n < length lines) × Breaks n lines was now)
 
--- A step whose commands are this batch, and which closes with these lines, over a journal with these batches before it.
--- Nothing is printed in it, and nothing moves on the wires.
-pub record IsStep {T : Type 0} (told : Type 0) (by : ℕ) (lines : List (List ℕ)) (b : Batch) (front batches : List Batch)
-    (was1 is1 was2 is2 : Bool) (old new : View) (result : Result T NodeNo) : Type 0 where
-  pub course : Course was1 is1 was2 is2 old new
-  pub loses : told → (d : Dev) → new.loses d ≡ old.loses d
-  pub cause : StepCauses result by was1 is1 was2 is2 old new
-  pub spares : Spares by (stopped_in result) old new
-  pub journal : StepLeaves result front batches b new.now
-  pub others : told → IsOnlyOn old new
-  pub papers : told → SamePapers old new
-  pub wires : told → SameWires old new
-  pub console : told → StepTells result lines (HasKept front batches b new.now) (console_now old) (console_now new)
+-- A step whose commands are this batch, and which closes with these lines, after the batches of a journal. Nothing is
+-- printed in it, and nothing moves on the wires.
+pub record IsStep {T : Type 0} (told : Type 0) (lines : List (List ℕ)) (b : Batch) (old new : JournalState)
+    (result : Result T NodeNo) : Type 0 where
+  pub course : Course old.pair new.pair
+  pub loses : told → (d : Dev) → new.pair.view.loses d ≡ old.pair.view.loses d
+  pub cause : StepCauses result b.by.0 old.pair new.pair
+  pub spares : Spares b.by.0 (stopped_in result) old.pair.view new.pair.view
+  pub journal : StepLeaves result old.batches new.batches b new.pair.view.now
+  pub others : told → IsOnlyOn old.pair.view new.pair.view
+  pub papers : told → SamePapers old.pair.view new.pair.view
+  pub wires : told → SameWires old.pair.view new.pair.view
+  pub console : told → StepTells result lines (HasKept old.batches new.batches b new.pair.view.now)
+      (console_now old.pair.view) (console_now new.pair.view)

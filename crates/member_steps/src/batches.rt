@@ -1,22 +1,21 @@
 //! A step whose commands are done: they are written, and its lines are said.
-ghost use Rattle.std.specs.Prelude.{◌≡◌, ◌+◌, ◌≤◌, ◌<◌, ◌^◌, ◌++◌, All, None, length, true, false, OnOk};
-ghost use Rattle.mas_types.specs.declared.ids.Dev.TheVariants.{Ckpt1, Ckpt2};
+ghost use Rattle.std.specs.Prelude.{◌≡◌, ◌+◌, ◌≤◌, ◌<◌, ◌^◌, All, None, length, true, false, OnOk};
 ghost use Rattle.mas_types.specs.Limits.{members_most};
-ghost use Rattle.spool_plant.specs.View.{disk_now};
-ghost use Rattle.mas_complex.specs.Crash.{IsUntold, setting};
-ghost use Rattle.mas_complex.specs.Journals.{begun, end_of, kept_all};
+ghost use Rattle.mas_complex.specs.Journals.{begun, end_of};
 ghost use Rattle.mas_complex.specs.Locking.{MayAct};
-ghost use Rattle.mas_complex.specs.Meaning.{run};
-ghost use Rattle.mas_complex.specs.Texts.{HasTexts, lost_now, spools_at};
 ghost use Rattle.queue_telling.specs.Telling.{TellSound};
 ghost use Rattle.member_node.specs.Standing.{AreFit};
 ghost use Rattle.member_node.specs.Batches.{CanDraw, HasDone};
-ghost use Rattle.member_node.specs.Copies.{RestsAt};
+ghost use Rattle.member_node.specs.Copies.{IsAtRest, first_of, second_of};
 ghost use Rattle.member_steps.specs.Counting.{HasCounted};
 ghost use Rattle.member_steps.specs.Noting.{KeepsNotes};
 ghost use Rattle.member_steps.specs.Saying.{TellKept};
 ghost use Rattle.member_steps.specs.Steps.{AreAllKept, IsBetween, IsStep};
-ghost use Rattle.mas_complex.specs.Paper.{MayBegin, printed_after};
+ghost use Rattle.mas_complex.specs.Paper.{printed_after};
+ghost use Rattle.mas_complex.specs.CallCounts.{pair_of};
+ghost use Rattle.mas_complex.specs.Parts.{parts_of};
+ghost use Rattle.mas_complex.specs.Begins.{HasTextsWith, IsUntoldOf, MayBeginOf, kept_queue};
+ghost use Rattle.member_node.specs.Writes.{journal_at};
 
 use crate::telling::tell_lines;
 use mas_complex::{Complex, Steady};
@@ -48,24 +47,15 @@ pub fn play_batch<P: Plant + Drop, C: Steady + Drop>(
     requires draws { CanDraw member.old.checkpoint }
     requires fit { AreFit member.old.checkpoint.tables }
     requires same_level { P.tells → complex.old.level ≡ member.old.checkpoint.level }
-    requires done { P.tells → HasDone (run complex.old.base (kept_all complex.old.journal.batches)) member.old.batch
-        member.old.checkpoint }
+    requires done { P.tells → HasDone (kept_queue complex.old) member.old.batch member.old.checkpoint }
     requires small { complex.old.level + 1 < 2 ^ 63 }
-    requires rests1 { RestsAt P.tells complex.old.pair.first.alive complex.old.first
-        (C.count complex.old.pair.first.copy) member.old.checkpoint.pages
-        (C.reads (disk_now (P.view complex.old.plant) Ckpt1).bytes) }
-    requires rests2 { RestsAt P.tells complex.old.pair.second.alive complex.old.second
-        (C.count complex.old.pair.second.copy) member.old.checkpoint.pages
-        (C.reads (disk_now (P.view complex.old.plant) Ckpt2).bytes) }
+    requires rests1 { IsAtRest P.tells (first_of complex.old) member.old.checkpoint.pages }
+    requires rests2 { IsAtRest P.tells (second_of complex.old) member.old.checkpoint.pages }
     requires sound { P.tells → TellSound member.old.checkpoint.tables }
-    requires texts { P.tells → ∥ HasTexts (lost_now (P.view complex.old.plant))
-        (spools_at (P.view complex.old.plant) (P.view complex.old.plant).now) complex.old.base.config.groups
-        (run complex.old.base (kept_all complex.old.journal.batches ++ member.old.batch)) ∥₁ }
+    requires texts { P.tells → HasTextsWith complex.old member.old.batch }
     requires kept { P.tells → TellKept lines.now complex.old.journal.batches (P.view complex.old.plant).now }
-    requires untold { P.tells → IsUntold (setting C.reads complex.old.base complex.old.since) (P.view complex.old.plant)
-        member.old.batch }
-    requires allowed { P.tells → MayBegin complex.old.base complex.old.journal.batches complex.old.printed
-        member.old.batch }
+    requires untold { P.tells → IsUntoldOf complex.old member.old.batch }
+    requires allowed { P.tells → MayBeginOf complex.old member.old.batch }
     requires level { member.old.checkpoint.level + 1 < 2 ^ 63 }
     requires room1 { complex.old.pair.first.alive ≡ true → 1 ≤ C.room complex.old.pair.first.copy }
     requires room2 { complex.old.pair.second.alive ≡ true → 1 ≤ C.room complex.old.pair.second.copy }
@@ -77,22 +67,17 @@ pub fn play_batch<P: Plant + Drop, C: Steady + Drop>(
     ensures room { member.new.room ≡ member.old.room }
     ensures behind { member.new.behind ≡ false }
     ensures tables { member.new.checkpoint.tables ≡ member.old.checkpoint.tables }
-    ensures step { IsStep P.tells member.old.id.0 lines.now
-        (begun (P.view complex.old.plant).now member.old.id member.old.batch) complex.old.journal.batches
-        (end_of complex.new.placed complex.new.current complex.new.journal.batches) complex.old.pair.first.alive
-        complex.new.pair.first.alive complex.old.pair.second.alive complex.new.pair.second.alive
-        (P.view complex.old.plant) (P.view complex.new.plant) result }
+    ensures step { IsStep P.tells lines.now
+        (begun (P.view complex.old.plant).now member.old.id member.old.batch)
+        (journal_at complex.old.journal.batches (pair_of complex.old))
+        (journal_at (end_of complex.new.placed complex.new.current complex.new.journal.batches) (pair_of complex.new))
+        result }
     ensures printed { OnOk result (complex.new.printed
         ≡ printed_after member.old.id member.old.batch complex.old.printed) }
     ensures unreserved { OnOk result (complex.new.reserved ≡ None) }
-    ensures between { OnOk result (IsBetween P.tells complex.new.base complex.new.journal.batches complex.new.current
-        complex.new.placed complex.new.level member.new.batch member.new.checkpoint) }
-    ensures rests1 { OnOk result (RestsAt P.tells complex.new.pair.first.alive complex.new.first
-        (C.count complex.new.pair.first.copy) member.new.checkpoint.pages
-        (C.reads (disk_now (P.view complex.new.plant) Ckpt1).bytes)) }
-    ensures rests2 { OnOk result (RestsAt P.tells complex.new.pair.second.alive complex.new.second
-        (C.count complex.new.pair.second.copy) member.new.checkpoint.pages
-        (C.reads (disk_now (P.view complex.new.plant) Ckpt2).bytes)) }
+    ensures between { OnOk result (IsBetween P.tells (parts_of complex.new) member.new.batch member.new.checkpoint) }
+    ensures rests1 { OnOk result (IsAtRest P.tells (first_of complex.new) member.new.checkpoint.pages) }
+    ensures rests2 { OnOk result (IsAtRest P.tells (second_of complex.new) member.new.checkpoint.pages) }
     ensures kept { OnOk result (AreAllKept complex.old.journal.batches (P.view complex.old.plant).now
         → AreAllKept complex.new.journal.batches (P.view complex.new.plant).now) }
     ensures level { OnOk result (member.new.checkpoint.level ≤ member.old.checkpoint.level + 1) }

@@ -1,5 +1,6 @@
 -- What a start makes of the same pages.
-use Rattle.std.proofs.Common.{◌≡◌, ◌&&◌, ◌≤◌, Bool, true, false, List, [], ◌∷◌, length, refl, sym, subst}
+use Rattle.std.proofs.Common.{◌≡◌, ◌≤◌, true, List, [], ◌∷◌, length, refl, sym, subst}
+use Rattle.std.proofs.lemmas.Bool.{and_parts as and_both}
 use Rattle.std.specs.Str.{bytes_eq}
 use Rattle.std.proofs.lemmas.Slice.Eq.{bytes_eq-Decides}
 use Rattle.mas_types.specs.declared.ids.Page.{Page}
@@ -13,10 +14,6 @@ use Rattle.start_choice.specs.declared.choosing.Judged.{Judged}
 use Rattle.start_choice.specs.declared.choosing.Judged.TheVariants.{Good, Bad}
 use Rattle.start_choice.specs.Usable.{AreOf}
 use Rattle.start_choice.specs.Choosing.{IsJudged, IsSomeJudged, HasFew, IsFew}
-
-and_both : (a b : Bool) → (a && b) ≡ true → (a ≡ true) × (b ≡ true)
-and_both true b e = (refl, e)
-and_both false b e = absurd (cc)
 
 -- pages that are equal, page by page, are the same
 pub same_is : (xs ys : List Page) → are_same xs ys ≡ true → xs ≡ ys

@@ -1,5 +1,6 @@
 -- What a look found is found again.
 use Rattle.std.proofs.Common.{◌≡◌, ⊎_elim, ℕ, List, Option, Some, None, sym, ◌∙◌, ap, subst, arith}
+use Rattle.std.proofs.lemmas.Option.{same_Some as some_is}
 use Rattle.mas_types.specs.declared.ids.Dev.{Dev}
 use Rattle.mas_types.specs.declared.ids.Dev.TheVariants.{Ckpt1, Ckpt2}
 use Rattle.mas_types.specs.declared.ids.Page.{Page}
@@ -14,9 +15,6 @@ use Rattle.warm_start.specs.Starting.{IsSeen, IsBest, mark_of}
 use Rattle.warm_start.specs.Inspecting.{AreFoundAgain}
 use Rattle.warm_start.proofs.Seeing.{same_pages}
 use Rattle.warm_start.proofs.Starts.{first_now, second_now}
-
-some_is : (x y : List ℕ) → Some x ≡ Some y → x ≡ y
-some_is x y e = cc
 
 -- where no act failed, what was seen of a copy is what its bytes read as
 seen_is : (reads : List ℕ → Option (List ℕ)) (dev : Dev) (old new : View) → (Rose (old.faults (DiskPart dev)) (new.faults (DiskPart dev)) → ⊥) → (seen : Option (List ℕ)) → IsSeen reads dev old new (mark_of new) seen → seen ≡ reads (disk_now old dev).bytes

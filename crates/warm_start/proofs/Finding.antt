@@ -1,6 +1,7 @@
 -- Which copy counts, and what becomes of the other one.
 use Rattle.std.proofs.Common.{◌≡◌, ◌⊎◌, inl, inr, ℕ, ◌+◌, ◌*◌, ◌<◌, ◌≤◌, nat_le, ◌==◌, ◌&&◌, not, if◌then◌else◌, Bool, true, false, List, length, Option, Some, Result, Ok, Err, IfOk, IfErr, refl, sym, ◌∙◌, subst, arith}
-use Rattle.std.proofs.lemmas.Bool.{and_parts}
+use Rattle.std.proofs.lemmas.Option.{same_Some as some_is}
+use Rattle.std.proofs.lemmas.Bool.{and_parts, not-false as not_false, not-true as not_true}
 use Rattle.std.proofs.lemmas.Bool.Decides.{nat_tests}
 use Rattle.mas_types.specs.declared.ids.Dev.{Dev}
 use Rattle.mas_types.specs.declared.ids.Dev.TheVariants.{Ckpt1, Ckpt2, Spool}
@@ -15,7 +16,7 @@ use Rattle.spool_plant.specs.View.{View, Disk, disk_now}
 use Rattle.ckpt_copy.specs.Pages.{bytes_of, level}
 use Rattle.duplex_pair.specs.Both.{PairActed}
 use Rattle.mas_complex.specs.Fits.{fits, differ_at, first_page}
-use Rattle.mas_complex.proofs.Fitted.{fits_many, fits_same}
+use Rattle.mas_complex.proofs.Found.{fits_many, fits_same}
 use Rattle.start_choice.specs.declared.choosing.Good.{Good as GoodPages}
 use Rattle.start_choice.specs.declared.choosing.Judged.{Judged}
 use Rattle.start_choice.specs.declared.choosing.Judged.TheVariants.{Good, Bad}
@@ -28,17 +29,6 @@ use Rattle.warm_start.specs.Judging.{Has, HasRoomBy}
 use Rattle.warm_start.specs.Inspecting.{HasState, FindsNone}
 use Rattle.warm_start.specs.Starting.{IsFound, mark_of, Fitting, Chosen, IsCauseOf, IsSmall, IsSmallAt, IsSmallVolumeAt, IsState}
 use Rattle.warm_start.proofs.Seeing.{Judges, Seeing, state_of, same_pages}
-
-some_is : (x y : List ℕ) → Some x ≡ Some y → x ≡ y
-some_is x y e = cc
-
-not_false : (b : Bool) → not b ≡ false → b ≡ true
-not_false true e = refl
-not_false false e = absurd (cc)
-
-not_true : (b : Bool) → not b ≡ true → b ≡ false
-not_true true e = absurd (cc)
-not_true false e = refl
 
 -- whatever pages were seen, they are those that don't fit
 unfit_of : (found own pages : List Page) (room : ℕ) (seen : Option (List ℕ)) → seen ≡ Some (bytes_of own) → HaveSize own → not (fits found own room) ≡ true → seen ≡ Some (bytes_of pages) → HaveSize pages → fits found pages room ≡ false

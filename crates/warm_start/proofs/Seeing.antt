@@ -1,5 +1,6 @@
 -- What was seen of a copy, and how it was judged.
 use Rattle.std.proofs.Common.{◌≡◌, inl, inr, ℕ, Bool, true, false, List, [], ◌∷◌, ◌++◌, length, take, drop, Option, Some, None, refl, sym, ◌∙◌, ap, subst, arith}
+use Rattle.std.proofs.lemmas.Option.{same_Some as some_is}
 use Rattle.std.proofs.lemmas.List.{take-append-le, take_all, drop_at, length-append}
 use Rattle.std.proofs.lemmas.List.Elements.{All-head, All-tail}
 use Rattle.mas_types.specs.declared.ids.Dev.{Dev}
@@ -126,9 +127,6 @@ module _ {C : Type 0} (count room : C → ℕ) (room_most : ℕ) (ready : C → 
     pub seen : Option (List ℕ)
     pub is : IsSeen reads dev old new (mark_of new) seen
     pub as_judged : SeenAs j seen
-
-  some_is : (x y : List ℕ) → Some x ≡ Some y → x ≡ y
-  some_is x y e = cc
 
   false_later : (a b : Bool) → (a ≡ true → b ≡ true) → b ≡ false → a ≡ false
   false_later true b f e = absurd (cc (f refl))

@@ -38,7 +38,7 @@ use Rattle.spool_volumes.proofs.LookLemmas.{looks_then, still}
 use Rattle.job_queue.specs.Jobs as jobs
 use Rattle.output_queue.specs.Outputs as outputs
 use Rattle.mas_complex.specs.Texts.{lost_now, spools_at, bytes_on, IsThereUnless, IsReadUnless, HasTexts}
-use Rattle.mas_complex.proofs.Quotients.{few_quotient}
+use Rattle.mas_complex.proofs.Basics.{few_quotient}
 use Rattle.mas_complex.proofs.Spooled.{same_text}
 use Rattle.warm_start.specs.Spooled.{IsGiven, AreGiven}
 

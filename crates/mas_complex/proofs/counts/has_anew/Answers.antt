@@ -1,5 +1,4 @@
-use Rattle.mas_complex.proofs.Names.{◌∙◌, List, ap, list_any, begins_anew, BriefEntry, entry_of}
-use Rattle.mas_complex.proofs.Briefs.{any_anew}
+use Rattle.mas_complex.proofs.Answering.{◌∙◌, List, ap, list_any, begins_anew, BriefEntry, entry_of, any_anew}
 use Rattle.mas_complex.proofs.counts.has_anew.Goals as goal
 
 pub returns : goal.returns

@@ -1,5 +1,4 @@
-use Rattle.mas_complex.proofs.Names.{rules, first_page}
-use Rattle.mas_complex.proofs.Fitted.{differ_only}
+use Rattle.mas_complex.proofs.Answering.{rules, first_page, differ_only}
 use Rattle.mas_complex.proofs.fitting.differ_only_at.Goals as goal
 
 pub returns-then-found-other : goal.returns-then-found-other

@@ -1,4 +1,4 @@
-use Rattle.mas_complex.proofs.Names.{◌≡◌, length, drop, differ_at, first_page}
+use Rattle.mas_complex.proofs.Answering.{◌≡◌, length, drop, differ_at, first_page}
 use Rattle.mas_complex.proofs.fitting.differ_only_at.Given as goal
 
 abbrev pub invariant-loop-page : goal.invariant-loop-page

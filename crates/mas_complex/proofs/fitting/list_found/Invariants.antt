@@ -1,4 +1,4 @@
-use Rattle.mas_complex.proofs.Names.{◌≡◌, ◌≤◌, ◌++◌, take, drop, bytes_of, level, first_page, found_numbers, numbers_from}
+use Rattle.mas_complex.proofs.Answering.{◌≡◌, ◌≤◌, ◌++◌, take, drop, bytes_of, level, first_page, found_numbers, numbers_from}
 use Rattle.mas_complex.proofs.fitting.list_found.Given as goal
 
 abbrev pub invariant-loop-page : goal.invariant-loop-page

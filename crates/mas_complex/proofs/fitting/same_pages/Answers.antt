@@ -1,5 +1,4 @@
-use Rattle.mas_complex.proofs.Names.{rules}
-use Rattle.mas_complex.proofs.Fitted.{same_only}
+use Rattle.mas_complex.proofs.Answering.{rules, same_only}
 use Rattle.mas_complex.proofs.fitting.same_pages.Goals as goal
 
 pub returns-then-found-other : goal.returns-then-found-other

@@ -1,4 +1,4 @@
-use Rattle.mas_complex.proofs.Names.{◌≡◌, length, drop, are_same}
+use Rattle.mas_complex.proofs.Answering.{◌≡◌, length, drop, are_same}
 use Rattle.mas_complex.proofs.fitting.same_pages.Given as goal
 
 abbrev pub invariant-loop-page : goal.invariant-loop-page

@@ -1,5 +1,4 @@
-use Rattle.mas_complex.proofs.Names.{ℕ, ◌-◌, ◌∙◌, ap, arith, remove}
-use Rattle.mas_complex.proofs.BatchEnds.{last_removed}
+use Rattle.mas_complex.proofs.Answering.{ℕ, ◌-◌, ◌∙◌, ap, arith, remove, last_removed}
 use Rattle.mas_complex.proofs.journal_end.drop_last.Goals as goal
 
 pub returns-then-count-gt0 : goal.returns-then-count-gt0

@@ -1,5 +1,4 @@
-use Rattle.mas_complex.proofs.Names.{ℕ, ◌-◌, ◌∙◌, slice_set, ap, arith}
-use Rattle.mas_complex.proofs.BatchEnds.{last_put}
+use Rattle.mas_complex.proofs.Answering.{ℕ, ◌-◌, ◌∙◌, slice_set, ap, arith, last_put}
 use Rattle.mas_complex.proofs.journal_end.set_last.Goals as goal
 
 pub returns-then-count-gt0 : goal.returns-then-count-gt0

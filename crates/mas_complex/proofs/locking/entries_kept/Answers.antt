@@ -1,4 +1,4 @@
-use Rattle.mas_complex.proofs.Names.{◌≡◌, ◌+◌, min, List, [], length, drop, subst, arith, drop_all, Batch, top, kept_all, false}
+use Rattle.mas_complex.proofs.Answering.{◌≡◌, ◌+◌, min, List, [], length, drop, subst, arith, drop_all, Batch, top, kept_all, false}
 use Rattle.mas_complex.proofs.locking.entries_kept.Goals as goal
 
 pub returns : goal.returns

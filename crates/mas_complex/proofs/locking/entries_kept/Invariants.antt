@@ -1,4 +1,4 @@
-use Rattle.mas_complex.proofs.Names.{◌≡◌, ◌+◌, ◌≤◌, min, length, drop, top, kept_all}
+use Rattle.mas_complex.proofs.Answering.{◌≡◌, ◌+◌, ◌≤◌, min, length, drop, top, kept_all}
 use Rattle.mas_complex.proofs.locking.entries_kept.Given as goal
 
 abbrev pub invariant-loop-batch : goal.invariant-loop-batch

@@ -1,5 +1,4 @@
-use Rattle.mas_complex.proofs.Names.{◌≡◌, ◌∙◌, true, List, slice_set, ap, sym, subst, Page, HasNoted, values_of}
-use Rattle.mas_complex.proofs.Pasts.{noted_here, values_set}
+use Rattle.mas_complex.proofs.Answering.{◌≡◌, ◌∙◌, true, List, slice_set, ap, sym, subst, Page, HasNoted, values_of, noted_here, values_set}
 use Rattle.mas_complex.proofs.noting.put_note.Goals as goal
 
 pub returns-clause-written : goal.returns-clause-written

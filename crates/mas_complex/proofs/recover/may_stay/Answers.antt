@@ -1,5 +1,4 @@
-use Rattle.mas_complex.proofs.Names.{◌≡◌, sym, ◌∙◌, inl, rules, Before, false, if◌then◌else◌, true}
-use Rattle.mas_complex.proofs.Fitted.{fits_below, fits_same, fits_many}
+use Rattle.mas_complex.proofs.Answering.{◌≡◌, sym, ◌∙◌, inl, rules, Before, false, if◌then◌else◌, true, fits_below, fits_same, fits_many}
 use Rattle.mas_complex.proofs.recover.may_stay.Goals as goal
 
 pub returns-then-pages_level-clause-stays : goal.returns-then-pages_level-clause-stays

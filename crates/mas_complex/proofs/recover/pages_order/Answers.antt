@@ -1,5 +1,4 @@
-use Rattle.mas_complex.proofs.Names.{[], rules, sym, ◌∙◌, false, if◌then◌else◌}
-use Rattle.mas_complex.proofs.Orders.{order_head, order_empty}
+use Rattle.mas_complex.proofs.Answering.{[], rules, sym, ◌∙◌, false, if◌then◌else◌, order_head, order_empty}
 use Rattle.mas_complex.proofs.recover.pages_order.Goals as goal
 
 pub returns-then-is_empty : goal.returns-then-is_empty

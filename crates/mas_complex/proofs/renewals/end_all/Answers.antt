@@ -1,5 +1,4 @@
-use Rattle.mas_complex.proofs.Names.{◌<◌, length, arith, Renewal, ended_at}
-use Rattle.mas_complex.proofs.Renewed.{change_here}
+use Rattle.mas_complex.proofs.Answering.{◌<◌, length, arith, Renewal, ended_at, change_here}
 use Rattle.mas_complex.proofs.renewals.end_all.Goals as goal
 
 pub loop-renewal-preserved : goal.loop-renewal-preserved

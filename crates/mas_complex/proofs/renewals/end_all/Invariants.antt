@@ -1,4 +1,4 @@
-use Rattle.mas_complex.proofs.Names.{◌≡◌, ◌++◌, map, take, drop, ended_at}
+use Rattle.mas_complex.proofs.Answering.{◌≡◌, ◌++◌, map, take, drop, ended_at}
 use Rattle.mas_complex.proofs.renewals.end_all.Given as goal
 
 -- those so far have ended

@@ -1,4 +1,4 @@
-use Rattle.mas_complex.proofs.Quotients.{few_quotient}
+use Rattle.mas_complex.proofs.Answering.{few_quotient}
 use Rattle.mas_complex.proofs.spool.read_place.Goals as goal
 
 pub device-dev-requires-clause-placed : goal.device-dev-requires-clause-placed

@@ -4,9 +4,7 @@ use Rattle.member_decks.proofs.keeping.give_up.Goals as goal
 
 pub returns-then-len-eq0-clause-acts : goal.returns-then-len-eq0-clause-acts
 returns-then-len-eq0-clause-acts g c =
-    let P = g.P.Plant in
-    let x = c.args.complex.now in
-    copies_none P.tells c.args.member.now.id.0 (pair_state P.view (parts_of x))
+    copies_none g.P.Plant.tells c.args.member.now.id.0 (pair_state g.P.Plant.view (parts_of c.args.complex.now))
 
 pub returns-then-len-eq0-clause-leaves : goal.returns-then-len-eq0-clause-leaves
 returns-then-len-eq0-clause-leaves g c =
@@ -16,23 +14,19 @@ returns-then-len-eq0-clause-leaves g c =
 pub returns-in-Ok-clause-acts : goal.returns-in-Ok-clause-acts
 returns-in-Ok-clause-acts g c =
     let P = g.P.Plant in
-    let x = c.args.complex.now in
-    let z = c.keep_batch.new.complex in
-    up_copies P.tells c.args.member.now.id.0 (pair_state P.view (parts_of x)) (pair_state P.view (parts_of z)) c.in-Ok.ensures.acts
+    up_copies P.tells c.args.member.now.id.0 (pair_state P.view (parts_of c.args.complex.now)) (pair_state P.view (parts_of c.keep_batch.new.complex)) c.in-Ok.ensures.acts
 
 pub returns-in-Ok-clause-leaves : goal.returns-in-Ok-clause-leaves
 returns-in-Ok-clause-leaves g c =
-    let P = g.P.Plant in
     let x = c.args.complex.now in
     let z = c.keep_batch.new.complex in
-    up_kept x.journal.batches (end_of z.placed z.current z.journal.batches) (begun (P.view x.plant).now c.args.member.now.id c.args.member.now.batch) (P.view z.plant).now (omega arith) c.in-Ok.ensures.leaves
+    up_kept x.journal.batches (end_of z.placed z.current z.journal.batches) (begun (g.P.Plant.view x.plant).now c.args.member.now.id c.args.member.now.batch) (g.P.Plant.view z.plant).now (omega arith) c.in-Ok.ensures.leaves
 
 pub returns-in-Err-clause-leaves : goal.returns-in-Err-clause-leaves
 returns-in-Err-clause-leaves g c =
-    let P = g.P.Plant in
     let x = c.args.complex.now in
     let z = c.keep_batch.new.complex in
-    up_unkept x.journal.batches (end_of z.placed z.current z.journal.batches) (begun (P.view x.plant).now c.args.member.now.id c.args.member.now.batch) (P.view z.plant).now (omega arith) c.in-Err.no c.in-Err.ensures.leaves
+    up_unkept x.journal.batches (end_of z.placed z.current z.journal.batches) (begun (g.P.Plant.view x.plant).now c.args.member.now.id c.args.member.now.batch) (g.P.Plant.view z.plant).now (omega arith) c.in-Err.no c.in-Err.ensures.leaves
 
 -- THE COUNTS OF PRINTED LINES
 

@@ -8,9 +8,7 @@ use Rattle.member_decks.proofs.keeping.keep_batch.Goals as goal
 
 pub returns-in_default-clause-acts : goal.returns-in_default-clause-acts
 returns-in_default-clause-acts g c =
-    let P = g.P.Plant in
-    let x = c.args.complex.now in
-    rw (c.ready.ensures.pair, c.ready.ensures.plant) (copies_none P.tells c.args.member.now.id.0 (pair_state P.view (parts_of x)))
+    rw (c.ready.ensures.pair, c.ready.ensures.plant) (copies_none g.P.Plant.tells c.args.member.now.id.0 (pair_state g.P.Plant.view (parts_of c.args.complex.now)))
 
 pub returns-in_default-clause-leaves : goal.returns-in_default-clause-leaves
 returns-in_default-clause-leaves g c =
@@ -85,10 +83,9 @@ returns-clause-acts g c =
 
 pub returns-clause-leaves : goal.returns-clause-leaves
 returns-clause-leaves g c =
-    let x = c.args.complex.now in
     let e = c.ready.ensures in
     let grown = c.in-Ok.ensures.grown c.requires.unplaced in
-    let write = rw (e.id, e.plant, e.pair, c.in-Ok.ensures.reserved) at (c.in_ok-write.ensures.write x.journal.batches grown.0 grown.1) in
+    let write = rw (e.id, e.plant, e.pair, c.in-Ok.ensures.reserved) at (c.in_ok-write.ensures.write c.args.complex.now.journal.batches grown.0 grown.1) in
     write.journal
 
 pub returns-clause-printed : goal.returns-clause-printed
@@ -102,7 +99,6 @@ returns-clause-between g c =
     let x = c.args.complex.now in
     let y = c.ready.new.complex in
     let z = c.write.new.complex in
-    let n = c.ready.new.self.checkpoint in
     let e = c.ready.ensures in
     let k = c.in_ok-write.ensures in
     let Q : Queue = run x.base (kept_all x.journal.batches) in
@@ -116,7 +112,7 @@ returns-clause-between g c =
       same_level = λ told. k.level ∙ ap (level_with c.in-Ok.draft) (e.same_level ∙ c.requires.same_level told) ∙ sym c.in-Ok.ensures.level;
       nothing = c.in-Ok.ensures.empty;
       drawn = c.in-Ok.ensures.drawn;
-      queue = λ told. subst (Tell n.tables) (queue_kept x.base z.base Q (run Q c.args.member.now.batch) x.journal.batches z.journal.batches (P.view z.plant).now b c.args.member.now.batch
+      queue = λ told. subst (Tell c.ready.new.self.checkpoint.tables) (queue_kept x.base z.base Q (run Q c.args.member.now.batch) x.journal.batches z.journal.batches (P.view z.plant).now b c.args.member.now.batch
           (k.base ∙ e.base) refl journal (ap entries_reserved c.in-Ok.ensures.reserved) refl) (subst (λ (u : Tables). Tell u (run Q c.args.member.now.batch)) (sym e.tables) (c.requires.done told).queue);
       fit = rw e.tables c.requires.fit;
       orders = λ told. subst HaveOrders (sym e.tables) (c.requires.done told).orders;
@@ -129,14 +125,13 @@ returns-clause-kept g c =
     let x = c.args.complex.now in
     let y = c.ready.new.complex in
     let z = c.write.new.complex in
-    let e = c.ready.ensures in
     let grown = c.in-Ok.ensures.grown c.requires.unplaced in
     let b : Batch = begun (P.view y.plant).now c.ready.new.self.id (entries_reserved y.reserved) in
     let journal : z.journal.batches ≡ x.journal.batches ++ fated Kept (P.view z.plant).now b ∷ [] =
     journal_kept x.journal.batches y.journal.batches z.journal.batches grown.0 (fated Kept (P.view z.plant).now b) grown.1 c.in_ok-write.ensures.kept in
     let later : (P.view y.plant).now ≤ (P.view z.plant).now = (c.in_ok-write.ensures.write x.journal.batches grown.0 grown.1).course.goes.later in
     λ all. subst (λ (bs : List Batch). AreAllKept bs (P.view z.plant).now) (sym journal)
-    (kept_push x.journal.batches (P.view x.plant).now (P.view z.plant).now b (omega (arith, later, ap (λ p. (P.view p).now) e.plant)) later all)
+    (kept_push x.journal.batches (P.view x.plant).now (P.view z.plant).now b (omega (arith, later, ap (λ p. (P.view p).now) c.ready.ensures.plant)) later all)
 
 pub returns-clause-level : goal.returns-clause-level
 returns-clause-level g c =
@@ -152,9 +147,8 @@ returns-clause-reached g c =
 
 pub returns-in_default-clause-counts : goal.returns-in_default-clause-counts
 returns-in_default-clause-counts g c =
-    let x = c.args.complex.now in
     let m = c.args.member.now in
-    counted_error m.id m.batch x.printed c.ready.new.complex.printed _ c.ready.ensures.printed
+    counted_error m.id m.batch c.args.complex.now.printed c.ready.new.complex.printed _ c.ready.ensures.printed
 
 pub returns-in_err-write-clause-counts : goal.returns-in_err-write-clause-counts
 returns-in_err-write-clause-counts g c =
@@ -199,6 +193,5 @@ returns-clause-notes g c =
     let m = c.args.member.now in
     let n = c.ready.new.self in
     let k = c.in_ok-write.ensures in
-    let written = notes_by n.id m.id (values_of y.had) (values_of z.had) c.ready.ensures.id (notes_set n.id (values_of y.had) (values_of z.had) n.checkpoint.pages k.noted) in
     keeps_noted g.P.Plant.tells (values_of x.had) (values_of z.had) m n _ k.own (λ read. c.in-Ok.ensures.fresh ∙ read)
-    (notes_then m.id (values_of x.had) (values_of y.had) (values_of z.had) (notes_same m.id (values_of x.had) (values_of y.had) c.ready.ensures.had) written)
+    (notes_then m.id (values_of x.had) (values_of y.had) (values_of z.had) (notes_same m.id (values_of x.had) (values_of y.had) c.ready.ensures.had) (notes_by n.id m.id (values_of y.had) (values_of z.had) c.ready.ensures.id (notes_set n.id (values_of y.had) (values_of z.had) n.checkpoint.pages k.noted)))

@@ -15,7 +15,7 @@ returns-clause-bad g c not told =
     let x = c.args.complex.now in
     let v = P.view x.plant in
     ∥∥₁_elim (c.requires.read told) (λ a b. absurd a) (λ w. c.spells.ensures.bad not
-    (whole_spells (run x.base (kept_all x.journal.batches)) x.level x.pair.first.alive x.pair.second.alive (C.reads (disk_now v Ckpt1).bytes) (C.reads (disk_now v Ckpt2).bytes) c.args.room.now (c.requires.config told) w))
+    (whole_spells (run x.base (kept_all x.journal.batches)) x.level (x.pair.first.alive, C.reads (disk_now v Ckpt1).bytes) (x.pair.second.alive, C.reads (disk_now v Ckpt2).bytes) c.args.room.now (c.requires.config told) w))
 
 pub returns-clause-reads1 : goal.returns-clause-reads1
 returns-clause-reads1 g c told on =
@@ -24,7 +24,7 @@ returns-clause-reads1 g c told on =
     let x = c.args.complex.now in
     let v = P.view x.plant in
     ∥∥₁_elim (c.requires.read told) (Coded-set (coded_option (coded_list coded_ℕ)) _ _) (λ w. w.first on
-    ∙ ap Some (sym (whole_bytes (run x.base (kept_all x.journal.batches)) x.level x.pair.first.alive x.pair.second.alive (C.reads (disk_now v Ckpt1).bytes) (C.reads (disk_now v Ckpt2).bytes) c.args.room.now (c.requires.config told) w)))
+    ∙ ap Some (sym (whole_bytes (run x.base (kept_all x.journal.batches)) x.level (x.pair.first.alive, C.reads (disk_now v Ckpt1).bytes) (x.pair.second.alive, C.reads (disk_now v Ckpt2).bytes) c.args.room.now (c.requires.config told) w)))
 
 pub returns-clause-reads2 : goal.returns-clause-reads2
 returns-clause-reads2 g c told on =
@@ -33,7 +33,7 @@ returns-clause-reads2 g c told on =
     let x = c.args.complex.now in
     let v = P.view x.plant in
     ∥∥₁_elim (c.requires.read told) (Coded-set (coded_option (coded_list coded_ℕ)) _ _) (λ w. w.second on
-    ∙ ap Some (sym (whole_bytes (run x.base (kept_all x.journal.batches)) x.level x.pair.first.alive x.pair.second.alive (C.reads (disk_now v Ckpt1).bytes) (C.reads (disk_now v Ckpt2).bytes) c.args.room.now (c.requires.config told) w)))
+    ∙ ap Some (sym (whole_bytes (run x.base (kept_all x.journal.batches)) x.level (x.pair.first.alive, C.reads (disk_now v Ckpt1).bytes) (x.pair.second.alive, C.reads (disk_now v Ckpt2).bytes) c.args.room.now (c.requires.config told) w)))
 
 pub returns-clause-stand : goal.returns-clause-stand
 returns-clause-stand g c told =
@@ -41,4 +41,4 @@ returns-clause-stand g c told =
     let C = g.C.Copying in
     let x = c.args.complex.now in
     let v = P.view x.plant in
-    ∥∥₁_map (c.requires.read told) (λ w. whole_stands (run x.base (kept_all x.journal.batches)) x.level x.pair.first.alive x.pair.second.alive (C.reads (disk_now v Ckpt1).bytes) (C.reads (disk_now v Ckpt2).bytes) c.args.room.now (c.requires.config told) w)
+    ∥∥₁_map (c.requires.read told) (λ w. whole_stands (run x.base (kept_all x.journal.batches)) x.level (x.pair.first.alive, C.reads (disk_now v Ckpt1).bytes) (x.pair.second.alive, C.reads (disk_now v Ckpt2).bytes) c.args.room.now (c.requires.config told) w)

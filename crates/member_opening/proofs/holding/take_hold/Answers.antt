@@ -2,6 +2,7 @@ use Rattle.std.proofs.Common.{◌≡◌, ◌∙◌, false, List, length, ap, sub
 use Rattle.std.proofs.lemmas.Result.{err_from_is_err_and}
 use Rattle.mas_types.specs.declared.ids.Dev.TheVariants.{Ckpt1, Ckpt2}
 use Rattle.mas_types.specs.declared.ids.Page.{Page}
+use Rattle.mas_types.specs.declared.journals.Journal.{Journal}
 use Rattle.spool_plant.specs.View.{disk_now}
 use Rattle.mas_complex.specs.CallCounts.{pair_state}
 use Rattle.mas_complex.specs.Journals.{kept_all}
@@ -9,7 +10,7 @@ use Rattle.mas_complex.specs.Parts.{parts_of}
 use Rattle.mas_complex.specs.Past.{HasNoted, values_of}
 use Rattle.member_steps.proofs.NoteLemmas.{keeps_error, keeps_noted, notes_same, notes_set}
 use Rattle.member_steps.proofs.PageLemmas.{few_pages}
-use Rattle.member_steps.proofs.ReadLemmas.{begun_read, begun_settle, between_read, level_low, low_later, low_read, pages_of_run}
+use Rattle.member_steps.proofs.ReadLemmas.{begun_read, begun_settle, between_by, between_read, level_low, low_later, low_read, pages_of_run}
 use Rattle.member_steps.proofs.StepLemmas.{ok_of}
 use Rattle.member_decks.proofs.HoldingLemmas.{held_by_settle, held_not}
 use Rattle.member_decks.proofs.OpenLemmas.{on_ok}
@@ -85,8 +86,8 @@ returns-clause-between g c =
     let s = c.primary.ensures in
     let k = c.in_ok-read_in.ensures in
     let a = c.requires.at_lock in
-    ok_of c.primary.result (rw (s.base, s.journal, s.current, s.placed, s.level)
-    (between_read P.tells y.base y.journal.batches y.current y.placed y.level m.batch m.checkpoint c.args.member.now.checkpoint.tables.config (r.current ∙ a.none) (r.placed ∙ a.unplaced) (r.batch ∙ a.nothing) k.up
+    ok_of c.primary.result (between_by P.tells (parts_of y) (parts_of c.primary.new.complex) m.batch m.checkpoint s.base (ap (λ (j : Journal). j.batches) s.journal) s.current s.placed s.level
+    (between_read P.tells (parts_of y) m.batch m.checkpoint c.args.member.now.checkpoint.tables.config (r.current ∙ a.none) (r.placed ∙ a.unplaced) (r.batch ∙ a.nothing) k.up
     k.told k.ordered k.same_level (λ told. rw (r.base, r.journal) (c.requires.sound told))))
 
 pub returns-clause-rests1 : goal.returns-clause-rests1

@@ -30,7 +30,7 @@ returns-in_default-clause-step g c =
     let x = c.args.complex.now in
     let e = c.in_default.ensures.err in
     rw (c.ready.ensures.pair, c.ready.ensures.plant, c.ready.ensures.current, e.0, e.2)
-    (step_unplayed P.tells c.args.member.now.id.0 c.args.lines.now (begun (P.view x.plant).now c.args.member.now.id c.args.member.now.batch) x.journal.batches (end_of x.placed x.current x.journal.batches)
+    (step_unplayed P.tells c.args.lines.now (begun (P.view x.plant).now c.args.member.now.id c.args.member.now.batch) x.journal.batches (end_of x.placed x.current x.journal.batches)
     x.pair.first.alive x.pair.second.alive (P.view x.plant) (none_out x.journal.batches x.journal.batches x.placed x.current refl c.requires.unplaced c.requires.none))
 
 pub returns-in_err-write-clause-step : goal.returns-in_err-write-clause-step
@@ -44,7 +44,7 @@ returns-in_err-write-clause-step g c =
     let grown = c.in-Ok.ensures.grown c.requires.unplaced in
     let write = rw (e.id, e.plant, e.pair, c.in-Ok.ensures.reserved) at (c.in_err-write.ensures.write x.journal.batches grown.0 grown.1) in
     let p = err_from_is_err_and c.from_residual.result c.from_residual.ensures.1 in
-    rw (p.1, p.2) (step_unwritten P.tells by.0 c.args.lines.now (begun (P.view x.plant).now by c.args.member.now.batch)
+    rw (p.1, p.2) (step_unwritten P.tells c.args.lines.now (begun (P.view x.plant).now by c.args.member.now.batch)
     x.journal.batches (end_of z.placed z.current z.journal.batches) x.pair.first.alive z.pair.first.alive x.pair.second.alive z.pair.second.alive (P.view x.plant) (P.view z.plant) _ write)
 
 pub ready-requires-clause-done : goal.ready-requires-clause-done
@@ -108,7 +108,7 @@ returns-clause-step g c =
     let write = rw (e.id, e.plant, e.pair, c.in-Ok.ensures.reserved) at (c.in_ok-write.ensures.write x.journal.batches grown.0 grown.1) in
     let said = rw e.id at t.said in
     rw (t.placed, t.current, t.journal, t.pair)
-    (step_told P.tells by.0 c.args.lines.now (begun (P.view x.plant).now by c.args.member.now.batch)
+    (step_told P.tells c.args.lines.now (begun (P.view x.plant).now by c.args.member.now.batch)
     x.journal.batches (end_of z.placed z.current z.journal.batches) x.pair.first.alive z.pair.first.alive x.pair.second.alive z.pair.second.alive (P.view x.plant) (P.view z.plant) write (P.view w.plant) c.tell_lines.result said)
 
 pub returns-clause-printed : goal.returns-clause-printed

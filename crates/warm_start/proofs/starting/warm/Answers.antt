@@ -4,8 +4,8 @@ use Rattle.mas_types.specs.declared.ids.Dev.TheVariants.{Ckpt1, Ckpt2}
 use Rattle.ckpt_places.specs.declared.places.Place.TheVariants.{Before}
 use Rattle.duplex_pair.specs.Halves.{pick}
 use Rattle.mas_complex.specs.Crash.{CopyAt, copy_of, setting}
-use Rattle.mas_complex.proofs.Each.{each}
-use Rattle.mas_complex.proofs.Making.{rested_copy}
+use Rattle.mas_complex.proofs.Basics.{each}
+use Rattle.mas_complex.proofs.Fates.{rested_copy}
 use Rattle.spool_plant.specs.View.{disk_now}
 use Rattle.ckpt_copy.specs.Pages.{bytes_of, level}
 use Rattle.mas_types.specs.declared.queues.Config.{Config}

@@ -1,19 +1,14 @@
-use Rattle.mas_complex.proofs.Names.{subst, ℕ, List, sym, ◌≤◌, Bool, true, ∥∥₁_map, in_flight, AreSettled, AreFew, Batch}
-use Rattle.mas_complex.proofs.Fating.{is_place}
-use Rattle.mas_complex.proofs.Batches.{placed_all, placed_settled}
-use Rattle.mas_complex.proofs.Moves.{place_keeps}
-use Rattle.mas_complex.proofs.Replied.{placed_replied}
-use Rattle.mas_complex.proofs.Papers.{place_on_paper}
-use Rattle.mas_complex.proofs.Short.{few_placed}
-use Rattle.mas_complex.proofs.Values.{copies_of, setting_of}
+use Rattle.mas_complex.proofs.Answering.{subst, ℕ, List, sym, ◌≤◌, Bool, true, AreSettled, AreFew, Batch, ap, ◌∙◌, ◌≡◌, past_batches, without_last, without_last-append, is_place, placed_all, placed_settled, few_placed}
+use Rattle.mas_complex.proofs.complex.Complex.add_place.Given.{Over}
+use Rattle.mas_complex.proofs.complex.Complex.add_place.Goals.{In_ok-push_place}
 use Rattle.mas_complex.proofs.complex.Complex.add_place.Goals as goal
 
+-- the batches that have their fates are as before
+still : (g : Over) (c : In_ok-push_place g) → past_batches true c.push_place.new.journal.batches ≡ past_batches c.args.self.now.placed c.args.self.now.journal.batches
+still g c = ap without_last c.in_ok-push_place.ensures.ok ∙ without_last-append c.args.self.now.journal.batches c.empty_place-place.result ∙ ap (λ (z : Bool). past_batches z c.args.self.now.journal.batches) (sym c.requires.none)
+
 pub invariant_of-self-2-clause-kept : goal.invariant_of-self-2-clause-kept
-invariant_of-self-2-clause-kept g c told =
-    let s = c.args.self.now in
-    let old = g.P.Plant.view s.plant in
-    let place = is_place c.empty_place-place.result c.now.result (record { 0 = 0 }) c.empty_place-place.ensures in
-    ∥∥₁_map (s.kept told) (λ k. rw (c.in_ok-push_place.ensures.ok) (place_keeps (setting_of s) s.journal.batches c.empty_place-place.result s.current s.level (copies_of s) old place.0 place.1 (subst (λ (n : ℕ). c.empty_place-place.result.last ≤ n) c.now.ensures place.2) k))
+invariant_of-self-2-clause-kept g c = rw (still g (goal.at.invariant_of-self-2-clause-kept g c).In_ok-push_place) c.args.self.now.kept
 
 pub invariant_of-self-2-clause-place : goal.invariant_of-self-2-clause-place
 invariant_of-self-2-clause-place g c =
@@ -26,10 +21,7 @@ returns-clause-kept g c =
     rw (c.in_ok-push_place.ensures.ok) (placed_all c.empty_place-place.result place.0 c.args.self.now.journal.batches)
 
 pub invariant_of-self-2-clause-replied : goal.invariant_of-self-2-clause-replied
-invariant_of-self-2-clause-replied g c told =
-    let s = c.args.self.now in
-    let place = is_place c.empty_place-place.result c.now.result (record { 0 = 0 }) c.empty_place-place.ensures in
-    ∥∥₁_map (s.replied told) (λ are. rw (c.in_ok-push_place.ensures.ok) (placed_replied s.base s.journal.batches (in_flight s.current) c.empty_place-place.result place.0 are))
+invariant_of-self-2-clause-replied g c = rw (still g (goal.at.invariant_of-self-2-clause-replied g c).In_ok-push_place) c.args.self.now.replied
 
 pub returns-clause-grown : goal.returns-clause-grown
 returns-clause-grown g c =
@@ -37,10 +29,7 @@ returns-clause-grown g c =
     (c.empty_place-place.result, c.in_ok-push_place.ensures.ok, place.0)
 
 pub invariant_of-self-2-clause-paper : goal.invariant_of-self-2-clause-paper
-invariant_of-self-2-clause-paper g c told sound =
-    let s = c.args.self.now in
-    let place = is_place c.empty_place-place.result c.now.result (record { 0 = 0 }) c.empty_place-place.ensures in
-    ∥∥₁_map (s.paper told sound) (λ on. rw (c.in_ok-push_place.ensures.ok) (place_on_paper s.base s.since s.journal.batches c.empty_place-place.result s.current s.printed s.book (g.P.Plant.view s.plant) place.0 on))
+invariant_of-self-2-clause-paper g c = rw (still g (goal.at.invariant_of-self-2-clause-paper g c).In_ok-push_place) c.args.self.now.paper
 
 pub invariant_of-self-2-clause-settled : goal.invariant_of-self-2-clause-settled
 invariant_of-self-2-clause-settled g c =

@@ -1,4 +1,4 @@
-use Rattle.mas_complex.proofs.Armed.{left_armed}
+use Rattle.mas_complex.proofs.Answering.{left_armed}
 use Rattle.mas_complex.proofs.complex.Complex.arm.Goals as goal
 
 pub invariant_of-self : goal.invariant_of-self

@@ -1,6 +1,4 @@
-use Rattle.mas_complex.proofs.Names.{◌≡◌, ◌∙◌, true, ap, rules, Ckpt1, Ckpt2, disk_now, Stays, looked, sought, parts_of}
-use Rattle.mas_complex.proofs.Basics.{stays_true}
-use Rattle.mas_complex.proofs.Choosing.{agrees_stays, chosen_first, chosen_second, seen_again}
+use Rattle.mas_complex.proofs.Answering.{◌≡◌, ◌∙◌, true, ap, rules, Ckpt1, Ckpt2, disk_now, Stays, looked, sought, parts_of, stays_true, agrees_stays, chosen_first, chosen_second, seen_again}
 use Rattle.mas_complex.proofs.complex.Complex.choose.Goals as goal
 
 pub returns-then-pages_level-clause-chosen : goal.returns-then-pages_level-clause-chosen

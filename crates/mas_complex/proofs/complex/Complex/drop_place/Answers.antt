@@ -1,29 +1,20 @@
-use Rattle.mas_complex.proofs.Names.{true, List, Option, None, ◌++◌, subst, sym, false, ∥∥₁_map₂, Batch, in_flight, AreSettled, AreFew, AreReplied}
-use Rattle.mas_complex.proofs.BatchEnds.{few_at_end}
-use Rattle.mas_complex.proofs.Fating.{has_ends}
-use Rattle.mas_complex.proofs.Standing.{settled_without_last, unplaced_keeps, unplaced_on_paper, unplaced_replied}
-use Rattle.mas_complex.proofs.Short.{few_unplaced}
-use Rattle.mas_complex.proofs.Values.{copies_of, setting_of, view_of}
+use Rattle.mas_complex.proofs.Answering.{true, List, None, subst, sym, false, Batch, AreSettled, AreFew, Bool, ap, ◌∙◌, ◌≡◌, past_batches, few_at_end, settled_without_last, few_unplaced}
+use Rattle.mas_complex.proofs.complex.Complex.drop_place.Given.{Over}
+use Rattle.mas_complex.proofs.complex.Complex.drop_place.Goals.{After-drop_last}
 use Rattle.mas_complex.proofs.complex.Complex.drop_place.Goals as goal
 
+-- the batches that have their fates are as before
+still : (g : Over) (c : After-drop_last g) → c.drop_last.new.journal.batches ≡ past_batches c.args.self.now.placed c.args.self.now.journal.batches
+still g c = c.drop_last.ensures ∙ ap (λ (z : Bool). past_batches z c.args.self.now.journal.batches) (sym c.requires.placed)
+
 pub invariant_of-self-clause-kept : goal.invariant_of-self-clause-kept
-invariant_of-self-clause-kept g c told =
-    let s = c.args.self.now in
-    ∥∥₁_map₂ (s.kept told) s.place (λ k has. rw c.drop_last.ensures
-    (unplaced_keeps s.journal.batches (has_ends s.placed s.journal.batches c.requires.placed has) (setting_of s) s.current s.level (copies_of s) (view_of s) k))
+invariant_of-self-clause-kept g c = rw (still g (goal.at.invariant_of-self-clause-kept g c).After-drop_last) c.args.self.now.kept
 
 pub invariant_of-self-clause-replied : goal.invariant_of-self-clause-replied
-invariant_of-self-clause-replied g c told =
-    let s = c.args.self.now in
-    ∥∥₁_map₂ (s.replied told) s.place (λ are has. rw (c.drop_last.ensures, c.requires.none)
-    (unplaced_replied s.journal.batches (has_ends s.placed s.journal.batches c.requires.placed has) s.base
-    (subst (λ (x : Option Batch). AreReplied s.base (s.journal.batches ++ in_flight x)) c.requires.none are)))
+invariant_of-self-clause-replied g c = rw (still g (goal.at.invariant_of-self-clause-replied g c).After-drop_last) c.args.self.now.replied
 
 pub invariant_of-self-clause-paper : goal.invariant_of-self-clause-paper
-invariant_of-self-clause-paper g c told sound =
-    let s = c.args.self.now in
-    ∥∥₁_map₂ (s.paper told sound) s.place (λ on has. rw c.drop_last.ensures
-    (unplaced_on_paper s.journal.batches (has_ends s.placed s.journal.batches c.requires.placed has) s.base s.since s.current s.printed s.book (g.P.Plant.view s.plant) on))
+invariant_of-self-clause-paper g c = rw (still g (goal.at.invariant_of-self-clause-paper g c).After-drop_last) c.args.self.now.paper
 
 pub invariant_of-self-clause-settled : goal.invariant_of-self-clause-settled
 invariant_of-self-clause-settled g c =

@@ -1,6 +1,4 @@
-use Rattle.mas_complex.proofs.Short.{left_after_free}
-use Rattle.mas_complex.proofs.Standing.{frees}
-use Rattle.mas_complex.proofs.Values.{booked}
+use Rattle.mas_complex.proofs.Answering.{left_after_free, frees, booked}
 use Rattle.mas_complex.proofs.complex.Complex.free.Goals as goal
 
 pub invariant_of-self : goal.invariant_of-self

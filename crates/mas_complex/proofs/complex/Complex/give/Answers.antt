@@ -1,4 +1,4 @@
-use Rattle.mas_complex.proofs.Values.{beside_all, laws_of, left_by}
+use Rattle.mas_complex.proofs.Answering.{beside_all, laws_of, left_by}
 use Rattle.mas_complex.proofs.complex.Complex.give.Goals as goal
 
 pub invariant_of-self : goal.invariant_of-self

@@ -1,5 +1,4 @@
-use Rattle.mas_complex.proofs.Names.{◌≡◌, ◌∙◌, min, List, length, subst, Batch, top, kept_all}
-use Rattle.mas_complex.proofs.Short.{few_counted}
+use Rattle.mas_complex.proofs.Answering.{◌≡◌, ◌∙◌, min, List, length, subst, Batch, top, kept_all, few_counted}
 use Rattle.mas_complex.proofs.complex.Complex.kept_count.Goals as goal
 
 pub returns : goal.returns

@@ -1,6 +1,4 @@
-use Rattle.mas_complex.proofs.Names.{None, true, inl, refl}
-use Rattle.mas_complex.proofs.Standing.{frees}
-use Rattle.mas_complex.proofs.Values.{booked}
+use Rattle.mas_complex.proofs.Answering.{None, true, inl, refl, frees, booked}
 use Rattle.mas_complex.proofs.complex.Complex.leave_lock.Goals as goal
 
 pub invariant_of-self : goal.invariant_of-self

@@ -1,11 +1,4 @@
-use Rattle.mas_complex.proofs.Names.{◌≡◌, ◌++◌, Result, Ok, Err, IfOk, ap, refl, subst, sym, ∥∥₁_map, ∥∥₁_elim, Coded-set, coded_ℕ, NoMore, bytes_of, Place, page_count, pick, WasSeen, Look, Lost, Unread, Pages, LookNo, disk_now, Disk as DiskPart, kept_all, entries_in, run, Elsewhere, values_of, HasNext, IsPlaceSeen, List, false, true, Page}
-use Rattle.mas_complex.proofs.Apart.{elsewhere_of, on_one}
-use Rattle.mas_complex.proofs.Calls.{Call, copy_here, copy_there, facts_on, frame_of, here, keeps_same, lost_acted, new, old, past_here, place_is, place_was, there}
-use Rattle.mas_complex.proofs.Looking.{look_side, look_next, look_stands, some_entries}
-use Rattle.mas_complex.proofs.OnDevice.{seen_fits}
-use Rattle.mas_complex.proofs.Pasts.{not_lost, past_looked}
-use Rattle.mas_complex.proofs.Shows.{look_bytes}
-use Rattle.mas_complex.proofs.Values.{KeepsAt, copies_of, laws_of, setting_of, sight_at}
+use Rattle.mas_complex.proofs.Answering.{◌≡◌, ◌++◌, Result, Ok, Err, IfOk, ap, refl, subst, sym, ∥∥₁_map, ∥∥₁_elim, Coded-set, coded_ℕ, NoMore, bytes_of, Place, page_count, pick, WasSeen, Look, Lost, Unread, Pages, LookNo, disk_now, Disk as DiskPart, kept_all, entries_in, run, Elsewhere, values_of, HasNext, IsPlaceSeen, List, false, true, Page, Entry, StandFor, elsewhere_of, on_one, Call, copy_here, copy_there, facts_on, frame_of, here, keeps_same, lost_acted, new, old, past_here, place_is, place_was, there, look_side, look_next, look_stands, some_entries, seen_fits, not_lost, past_looked, look_bytes, KeepsAt, copies_of, kept_past, laws_of, past_of, setting_of, sight_at}
 use Rattle.mas_complex.proofs.complex.Complex.look_on.Given.{Over}
 use Rattle.mas_complex.proofs.complex.Complex.look_on.Goals.{After-set_place}
 use Rattle.mas_complex.proofs.complex.Complex.look_on.Goals as goal
@@ -49,7 +42,7 @@ invariant_of-self g c =
     let same = λ (told : g.P.Plant.tells). look_bytes (old x) (new x) x.dev x.ckpt (e.during told) in
     facts_on x e.acted.goes (elsewhere g c)
     (λ told. ∥∥₁_map (x.was.kept told) (λ k. keeps_same x k
-    (look_side (setting_of x.was) k.was k.coming x.dev (copy_here x) (copy_there x) (old x) (new x) (k.at x.dev x.ckpt) e.acted.alive (x.laws.reads (here x) (place_was x)) (x.laws.reads (there x) (place_is x)) (λ l. x.laws.there x.plant told x.dev l) c.look-done.result (e.during told) (found g c told) x.was.level (kept_all x.was.journal.batches) (entries_in x.was.current) k.stands k.comes (after g c)
+    (look_side (setting_of x.was) k.pages.was k.pages.coming x.dev (copy_here x) (copy_there x) (old x) (new x) (k.at x.dev x.ckpt) e.acted.alive (x.laws.reads (here x) (place_was x)) (x.laws.reads (there x) (place_is x)) (λ l. x.laws.there x.plant told x.dev l) c.look-done.result (e.during told) (found g c told) x.was.level (kept_all (past_of x.was)) (entries_in x.was.current) k.pages.stands k.pages.comes (after g c)
     (λ dead. ap g.P.Plant.view (e.idle dead)) (e.gone told))))
     (λ told. ∥∥₁_map (past_here x told) (λ l.
     past_looked (page_count x.was.base.config) (values_of x.was.had) (sight_at x.was (here x) (place_was x) x.dev (old x)) (sight_at x.was (there x) (place_is x) x.dev (new x)) x.was.level c.look-done.result
@@ -74,9 +67,9 @@ returns-clause-next g c =
           let x = call g w in
           let s = x.was in
           let e = c.look-done.ensures in
-          let next = λ (k : KeepsAt s (old x)). look_stands (setting_of s) s.journal.batches s.current s.level (copies_of s) (old x) k (bytes_of pages)
-          (look_next (setting_of s) k.was k.coming x.dev (copy_here x) (copy_there x) (old x) (new x) (k.at x.dev x.ckpt) e.acted.alive (x.laws.reads (here x) (place_was x)) (x.laws.reads (there x) (place_is x)) (λ l. x.laws.there x.plant told x.dev l) c.look-done.result (e.during told) (found g w told) s.level (kept_all s.journal.batches) (entries_in s.current) k.stands k.comes (after g w) pages is opened) in
-          (∥∥₁_elim (s.kept told) (Coded-set coded_ℕ _ _) (λ k. (next k).0.at_level), ∥∥₁_map (s.kept told) (λ k. (next k).0.queue), some_entries (entries_in s.current) (∥∥₁_map (s.kept told) (λ k. (next k).1)))
+          let next = λ (k : KeepsAt s (old x)). look_stands (setting_of s) (past_of s) s.current s.level (copies_of s) (old x) k (bytes_of pages)
+          (look_next (setting_of s) k.pages.was k.pages.coming x.dev (copy_here x) (copy_there x) (old x) (new x) (k.at x.dev x.ckpt) e.acted.alive (x.laws.reads (here x) (place_was x)) (x.laws.reads (there x) (place_is x)) (λ l. x.laws.there x.plant told x.dev l) c.look-done.result (e.during told) (found g w told) s.level (kept_all (past_of s)) (entries_in s.current) k.pages.stands k.pages.comes (after g w) pages is opened) in
+          (∥∥₁_elim (s.kept told) (Coded-set coded_ℕ _ _) (λ k. (next k).0.at_level), ∥∥₁_map (s.kept told) (λ k. subst (λ (K : List Entry). StandFor (run s.base (K ++ entries_in s.current)) (bytes_of pages)) (kept_past s) (next k).0.queue), some_entries (entries_in s.current) (∥∥₁_map (s.kept told) (λ k. (next k).1)))
 
 pub returns-clause-bytes : goal.returns-clause-bytes
 returns-clause-bytes g c told = look_bytes (g.P.Plant.view c.args.self.now.plant) (g.P.Plant.view c.look-done.new.plant) c.args.dev c.requires.ckpt (c.look-done.ensures.during told)

@@ -1,6 +1,4 @@
-use Rattle.mas_complex.proofs.Apart.{bytes_lost, elsewhere_lost}
-use Rattle.mas_complex.proofs.SpoolActs.{beside_lost}
-use Rattle.mas_complex.proofs.Values.{laws_of, left_by}
+use Rattle.mas_complex.proofs.Answering.{bytes_lost, elsewhere_lost, beside_lost, laws_of, left_by}
 use Rattle.mas_complex.proofs.complex.Complex.lose_volume.Goals as goal
 
 pub invariant_of-self : goal.invariant_of-self

@@ -1,11 +1,4 @@
-use Rattle.mas_complex.proofs.Names.{None, List, subst, sym, ∥∥₁_map, Before, setting, copy_of, Disk as DiskPart, disk_now, Spool, AreSettled, Batch, ap, false, true, ◌≡◌, pick, is_open, BeginsWith}
-use Rattle.mas_complex.proofs.Pasts.{nobody_past}
-use Rattle.mas_complex.proofs.Basics.{stays_true}
-use Rattle.mas_complex.proofs.Making.{first_reads, leaves_base, make_keeps, none_yet, placed_copy}
-use Rattle.mas_complex.proofs.PaperEnds.{makes_paper}
-use Rattle.mas_complex.proofs.Standing.{owned_none}
-use Rattle.mas_complex.proofs.Each.{each, pick_same}
-use Rattle.mas_complex.proofs.Values.{laws_of}
+use Rattle.mas_complex.proofs.Answering.{None, List, subst, sym, ∥∥₁_map, Before, setting, copy_of, Disk as DiskPart, disk_now, Spool, AreSettled, Batch, ap, false, true, ◌≡◌, pick, is_open, BeginsWith, nobody_past, stays_true, first_reads, leaves_base, make_keeps, none_yet, placed_copy, makes_paper, owned_none, each, pick_same, laws_of}
 use Rattle.mas_complex.proofs.complex.Complex.make.Goals as goal
 
 pub invariant_of-result-clause-kept : goal.invariant_of-result-clause-kept
@@ -34,8 +27,7 @@ invariant_of-result-clause-replied g c told = rw (c.new-2.ensures) (∣ tt ∣�
 
 pub invariant_of-result-clause-paper : goal.invariant_of-result-clause-paper
 invariant_of-result-clause-paper g c told sound =
-    let s = c.args in
-    rw (c.new-2.ensures) (∣ makes_paper s.base c.moment_of-since.result c.new_book_of-book.result (g.P.Plant.view s.plant) c.moment_of-since.ensures.now ∣₁)
+    rw (c.new-2.ensures) (∣ makes_paper c.args.base c.moment_of-since.result c.new_book_of-book.result (g.P.Plant.view c.args.plant) c.moment_of-since.ensures.now ∣₁)
 
 pub invariant_of-result-clause-settled : goal.invariant_of-result-clause-settled
 invariant_of-result-clause-settled g c = subst (λ (l : List Batch). AreSettled l (g.P.Plant.view c.args.plant).now) (sym c.new-2.ensures) tt

@@ -1,7 +1,4 @@
-use Rattle.mas_complex.proofs.Names.{◌≡◌, Some, true, values_of, page_count, Page, Dev, Before, HavePasts, bytes_of, disk_now, ∥∥₁_map, List, sym, subst}
-use Rattle.mas_complex.proofs.Each.{each}
-use Rattle.mas_complex.proofs.Pasts.{past_noted}
-use Rattle.mas_complex.proofs.Values.{half_of, place_of, sight_at, view_of}
+use Rattle.mas_complex.proofs.Answering.{◌≡◌, Some, true, values_of, page_count, Page, Dev, Before, HavePasts, bytes_of, disk_now, ∥∥₁_map, List, sym, subst, each, past_noted, half_of, place_of, sight_at, view_of}
 use Rattle.mas_complex.proofs.complex.Complex.note_pages.Goals as goal
 
 pub invariant_of-self-clause-lasting : goal.invariant_of-self-clause-lasting

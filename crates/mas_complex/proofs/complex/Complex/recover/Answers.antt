@@ -1,15 +1,5 @@
-use Rattle.mas_complex.proofs.Names.{◌≡◌, ◌≤◌, ◌+◌, ◌*◌, ◌||◌, ◌∙◌, ⊎_elim, ℕ, List, length, Option, true, false, Some, None, IfSome, refl, sym, subst, ap, rules, ∥∥₁_map, Ckpt1, Ckpt2, disk_now, Goes, Rose, Disk, Page, Queue, page_count, Place, IsAtLevel, OneSeen, IsOneSeen, ReadsSeen, bytes_of, level, goes_on, next_order, order_first, orders_most, err_from_is_err_and, KeepsCounts, OnCopies, pair_state, parts_of, looked, sought, if◌then◌else◌, Before, Dev}
+use Rattle.mas_complex.proofs.Answering.{◌≡◌, ◌≤◌, ◌+◌, ◌*◌, ◌||◌, ◌∙◌, ⊎_elim, ℕ, List, length, Option, true, false, Some, IfSome, refl, sym, subst, ap, rules, ∥∥₁_map, Ckpt1, Ckpt2, disk_now, Goes, Rose, Disk, Page, Queue, page_count, Place, IsAtLevel, OneSeen, IsOneSeen, ReadsSeen, bytes_of, level, goes_on, next_order, order_first, orders_most, err_from_is_err_and, pair_state, parts_of, looked, sought, if◌then◌else◌, Before, Dev, Entry, StandFor, run, no, fault_earlier, fault_later, left_why, room_seen, rose_earlier, if_err, left_some, none_seen, as_many_fated, some_first, some_second, stands_of, found_many, seen_alive, look_halted, not_brought, was_halted, each, copies_of, half_of, kept_past, past_of, place_of, setting_of, view_of, pair_then, pair_seen, pair_brought, OnPair, Complex, View}
 use Rattle.mas_types.specs.Fit.{IsConfig}
-use Rattle.mas_complex.proofs.Basics.{no}
-use Rattle.mas_complex.proofs.Leaving.{fault_earlier, fault_later, left_why, room_seen, rose_later, rose_earlier, if_err, left_some, none_seen}
-use Rattle.mas_complex.proofs.Standing.{as_many_fated}
-use Rattle.mas_complex.proofs.Choosing.{some_first, some_second}
-use Rattle.mas_complex.proofs.Calm.{stands_of}
-use Rattle.mas_complex.proofs.Apart.{on_then}
-use Rattle.mas_complex.proofs.Usable.{found_many, seen_alive}
-use Rattle.mas_complex.proofs.Counted.{both_then, counts_seen, counts_brought, look_halted, not_brought, was_halted}
-use Rattle.mas_complex.proofs.Each.{each}
-use Rattle.mas_complex.proofs.Values.{copies_of, half_of, place_of, setting_of, view_of}
 use Rattle.mas_complex.proofs.complex.Complex.recover.Given.{Over}
 use Rattle.mas_complex.proofs.complex.Complex.recover.Goals.{After-bring, After-choose_any}
 use Rattle.mas_complex.proofs.complex.Complex.recover.Goals as goal
@@ -17,85 +7,51 @@ use Rattle.mas_complex.proofs.complex.Complex.recover.Goals as goal
 -- WHAT THE CALLS LEAVE, one after another
 
 -- both looks and the choice
-chose : (g : Over) (c : After-choose_any g)
-    → KeepsCounts c.args.by.0 false (pair_state g.P.Plant.view (parts_of c.args.self.now)) (pair_state g.P.Plant.view (parts_of c.choose_any.new.self))
-    × (g.P.Plant.tells → OnCopies (g.P.Plant.view c.args.self.now.plant) (g.P.Plant.view c.choose_any.new.self.plant))
-chose g c =
-    let looked = both_then c.in_ok-first.ensures.counts c.see_on.ensures.apart c.in_ok-second.ensures.counts c.see_on-2.ensures.apart in
-    both_then looked.0 looked.1 (c.choose_any.ensures.counts c.args.by.0) c.choose_any.ensures.apart
+chose : (g : Over) (c : After-choose_any g) → OnPair g.P.Plant.tells c.args.by.0 false (pair_state g.P.Plant.view (parts_of c.args.self.now)) (pair_state g.P.Plant.view (parts_of c.choose_any.new.self))
+chose g c = pair_then (pair_then c.in_ok-first.ensures.leaves c.in_ok-second.ensures.leaves) (c.choose_any.ensures.leaves c.args.by.0)
 
--- what came after the first look, and after the second
-rest1 : (g : Over) (c : After-bring g) → Goes (g.P.Plant.view c.see_on.new.self.plant) (g.P.Plant.view c.bring.new.self.plant)
-rest1 g c = goes_on _ _ _ (goes_on _ _ _ c.see_on-2.ensures.goes c.choose_any.ensures.goes) c.bring.ensures.goes
-
+-- what came after the second look, and after the first
 rest2 : (g : Over) (c : After-bring g) → Goes (g.P.Plant.view c.see_on-2.new.self.plant) (g.P.Plant.view c.bring.new.self.plant)
-rest2 g c = goes_on _ _ _ c.choose_any.ensures.goes c.bring.ensures.goes
+rest2 g c = goes_on _ _ _ (c.choose_any.ensures.leaves c.args.by.0).counts.goes c.bring.ensures.leaves.counts.goes
 
-pub returns-in_default-clause-counts : goal.returns-in_default-clause-counts
-returns-in_default-clause-counts g c = (chose g (goal.at.returns-in_default-clause-counts g c).After-choose_any).0
+rest1 : (g : Over) (c : After-bring g) → Goes (g.P.Plant.view c.see_on.new.self.plant) (g.P.Plant.view c.bring.new.self.plant)
+rest1 g c = goes_on _ _ _ c.see_on-2.ensures.leaves.counts.goes (rest2 g c)
 
-pub returns-in_default-clause-apart : goal.returns-in_default-clause-apart
-returns-in_default-clause-apart g c = (chose g (goal.at.returns-in_default-clause-apart g c).After-choose_any).1
+pub returns-in_default-clause-leaves : goal.returns-in_default-clause-leaves
+returns-in_default-clause-leaves g c = chose g (goal.at.returns-in_default-clause-leaves g c).After-choose_any
 
-pub returns-then-not-may_follow-clause-counts : goal.returns-then-not-may_follow-clause-counts
-returns-then-not-may_follow-clause-counts g c = (chose g (goal.at.returns-then-not-may_follow-clause-counts g c).After-choose_any).0
+pub returns-then-not-may_follow-clause-leaves : goal.returns-then-not-may_follow-clause-leaves
+returns-then-not-may_follow-clause-leaves g c = chose g (goal.at.returns-then-not-may_follow-clause-leaves g c).After-choose_any
 
-pub returns-then-not-may_follow-clause-apart : goal.returns-then-not-may_follow-clause-apart
-returns-then-not-may_follow-clause-apart g c = (chose g (goal.at.returns-then-not-may_follow-clause-apart g c).After-choose_any).1
+pub returns-in_err-bring-clause-leaves : goal.returns-in_err-bring-clause-leaves
+returns-in_err-bring-clause-leaves g c =
+    let p = err_from_is_err_and c.from_residual-in_err-bring.result c.from_residual-in_err-bring.ensures.1 in
+    pair_then (chose g (goal.at.returns-in_err-bring-clause-leaves g c).After-choose_any) (pair_brought (Unit {0}) c.in_err-bring.field-0.0 p.1 p.2 c.in_err-bring.ensures.leaves)
 
-pub returns-in_err-bring-clause-goes : goal.returns-in_err-bring-clause-goes
-returns-in_err-bring-clause-goes g c = goes_on _ _ _ (chose g (goal.at.returns-in_err-bring-clause-goes g c).After-choose_any).0.goes c.bring.ensures.goes
-
-pub returns-clause-goes : goal.returns-clause-goes
-returns-clause-goes g c = rw (ap (λ p. p.plant) c.give_fate.ensures.frame) (goes_on _ _ _ (chose g (goal.at.returns-clause-goes g c).After-choose_any).0.goes c.bring.ensures.goes)
-
-pub returns-in_err-bring-clause-apart : goal.returns-in_err-bring-clause-apart
-returns-in_err-bring-clause-apart g c told =
-    let before = chose g (goal.at.returns-in_err-bring-clause-apart g c).After-choose_any in
-    on_then _ _ _ before.0.goes c.bring.ensures.goes (before.1 told) (c.bring.ensures.apart told)
-
-pub returns-clause-apart : goal.returns-clause-apart
-returns-clause-apart g c told =
-    let before = chose g (goal.at.returns-clause-apart g c).After-choose_any in
-    rw (ap (λ p. p.plant) c.give_fate.ensures.frame) (on_then _ _ _ before.0.goes c.bring.ensures.goes (before.1 told) (c.bring.ensures.apart told))
-
-pub returns-in_err-bring-clause-counts : goal.returns-in_err-bring-clause-counts
-returns-in_err-bring-clause-counts g c =
-    let P = g.P.Plant in
-    let d = c.choose_any.new.self in
-    let e = c.bring.new.self in
-    let r = c.from_residual-in_err-bring.result in
-    let p = err_from_is_err_and r c.from_residual-in_err-bring.ensures.1 in
-    let before = chose g (goal.at.returns-in_err-bring-clause-counts g c).After-choose_any in
-    (both_then before.0 before.1 (counts_brought (Unit {0}) c.args.by.0 (pair_state P.view (parts_of d)) (pair_state P.view (parts_of e)) r p.0 c.in_err-bring.field-0.0 p.1 p.2 c.in_err-bring.ensures.counts) c.bring.ensures.apart).0
-
-pub returns-clause-counts : goal.returns-clause-counts
-returns-clause-counts g c =
-    let before = chose g (goal.at.returns-clause-counts g c).After-choose_any in
+pub returns-clause-leaves : goal.returns-clause-leaves
+returns-clause-leaves g c =
     rw (ap (λ p. p.first_alive) c.give_fate.ensures.frame, ap (λ p. p.second_alive) c.give_fate.ensures.frame, ap (λ p. p.plant) c.give_fate.ensures.frame)
-    (both_then before.0 before.1 c.in_ok-bring.ensures.counts c.bring.ensures.apart).0
+    (pair_then (chose g (goal.at.returns-clause-leaves g c).After-choose_any) c.in_ok-bring.ensures.leaves)
 
-pub returns-in_err-second-clause-counts : goal.returns-in_err-second-clause-counts
-returns-in_err-second-clause-counts g c =
-    let P = g.P.Plant in
-    let a = c.see_on.new.self in
-    let b = c.see_on-2.new.self in
-    let r = c.from_residual-in_err-second.result in
-    let p = err_from_is_err_and r c.from_residual-in_err-second.ensures.1 in
-    (both_then c.in_ok-first.ensures.counts c.see_on.ensures.apart (counts_seen (Option (List Page)) c.args.by.0 (pair_state P.view (parts_of a)) (pair_state P.view (parts_of b)) r p.0 c.in_err-second.field-0.0 p.1 p.2 c.in_err-second.ensures.counts) c.see_on-2.ensures.apart).0
+pub returns-in_err-second-clause-leaves : goal.returns-in_err-second-clause-leaves
+returns-in_err-second-clause-leaves g c =
+    let p = err_from_is_err_and c.from_residual-in_err-second.result c.from_residual-in_err-second.ensures.1 in
+    pair_then c.in_ok-first.ensures.leaves (pair_seen (Option (List Page)) c.in_err-second.field-0.0 p.1 p.2 c.in_err-second.ensures.leaves)
 
-pub returns-in_err-second-clause-apart : goal.returns-in_err-second-clause-apart
-returns-in_err-second-clause-apart g c told = on_then _ _ _ c.see_on.ensures.goes c.see_on-2.ensures.goes (c.see_on.ensures.apart told) (c.see_on-2.ensures.apart told)
+pub returns-in_err-first-clause-leaves : goal.returns-in_err-first-clause-leaves
+returns-in_err-first-clause-leaves g c =
+    let p = err_from_is_err_and c.from_residual.result c.from_residual.ensures.1 in
+    pair_seen (Option (List Page)) c.in_err-first.field-0.0 p.1 p.2 c.in_err-first.ensures.leaves
 
 pub returns-clause-stands : goal.returns-clause-stands
 returns-clause-stands g c told =
     let s = c.give_fate.new.self in
     let e = c.give_fate.ensures.frame in
-    ∥∥₁_map (s.kept told) (λ k. stands_of (setting_of s) s.journal.batches s.current s.level (copies_of s) (view_of s) k (bytes_of c.in-Some.found)
+    ∥∥₁_map (s.kept told) (λ k. subst (λ (K : List Entry). StandFor (run s.base K) (bytes_of c.in-Some.found)) (kept_past s) (stands_of (setting_of s) (past_of s) s.current s.level (copies_of s) (view_of s) k (bytes_of c.in-Some.found)
     (subst (λ p. (p.first_alive || p.second_alive) ≡ true) (sym e) c.in_ok-bring.ensures.some) (each (λ d. (half_of s d).alive ≡ true → place_of s d ≡ Before) c.give_fate.ensures.first c.give_fate.ensures.second)
     (λ d was x r. g.met.C.Copying.rests_now (half_of s d).copy was x r)
     (each (λ d. (half_of s d).alive ≡ true → g.C.Copying.reads (disk_now (view_of s) d).bytes ≡ Some (bytes_of c.in-Some.found))
-    (λ is. read Ckpt1 ((c.in_ok-bring.ensures.first (sym (ap (λ p. p.first_alive) e) ∙ is)).1 told)) (λ is. read Ckpt2 ((c.in_ok-bring.ensures.second (sym (ap (λ p. p.second_alive) e) ∙ is)).1 told)))) where
+    (λ is. read Ckpt1 ((c.in_ok-bring.ensures.first (sym (ap (λ p. p.first_alive) e) ∙ is)).1 told)) (λ is. read Ckpt2 ((c.in_ok-bring.ensures.second (sym (ap (λ p. p.second_alive) e) ∙ is)).1 told))))) where
       read : (d : Dev) → g.C.Copying.reads (disk_now (g.P.Plant.view c.bring.new.self.plant) d).bytes ≡ Some (bytes_of c.as_slice-2.result.now) → g.C.Copying.reads (disk_now (g.P.Plant.view c.give_fate.new.self.plant) d).bytes ≡ Some (bytes_of c.in-Some.found)
       read d reads = subst (λ p. g.C.Copying.reads (disk_now (g.P.Plant.view p.plant) d).bytes ≡ Some (bytes_of c.in-Some.found)) (sym c.give_fate.ensures.frame)
           (subst (λ (ps : List Page). g.C.Copying.reads (disk_now (g.P.Plant.view c.bring.new.self.plant) d).bytes ≡ Some (bytes_of ps)) c.as_slice-2.ensures reads)
@@ -106,22 +62,22 @@ give_fate-requires-clause-second g c alive =
     subst (λ (n : ℕ). IsAtLevel n c.bring.new.self.level c.bring.new.self.second) same
     (subst (λ (n : ℕ). IsAtLevel (level (bytes_of c.as_slice-2.result.now)) n c.bring.new.self.second) (ap (λ p. p.level) (sym c.bring.ensures.frame)) (c.in_ok-bring.ensures.second alive).0)
 
-pub returns-in_default-clause-both_failed1 : goal.returns-in_default-clause-both_failed1
-returns-in_default-clause-both_failed1 g c both told alive =
-    let P = g.P.Plant in
-    let v1 = P.view c.see_on.new.self.plant in
-    let v2 = P.view c.see_on-2.new.self.plant in
-    let v3 = P.view c.choose_any.new.self.plant in
-    fault_later Ckpt1 (P.view c.args.self.now.plant) v1 v3 (c.in_ok-first.ensures.unseen told (c.in_default.ensures.neither (search rules)).0 alive) (goes_on v1 v2 v3 c.see_on-2.ensures.goes c.choose_any.ensures.goes)
+-- a copy failed that counted as alive before the call
+abbrev Failed : (g : Over) → View → View → Complex _ _ g.P.Plant g.C.Steady g.C.Copying → Dev → Type 0
+Failed g old new s d = (half_of s d).alive ≡ true → Rose (old.faults (Disk d)) (new.faults (Disk d))
 
-pub returns-in_default-clause-both_failed2 : goal.returns-in_default-clause-both_failed2
-returns-in_default-clause-both_failed2 g c both told alive =
+pub returns-in_default-clause-both_failed : goal.returns-in_default-clause-both_failed
+returns-in_default-clause-both_failed g c both told =
     let P = g.P.Plant in
+    let s = c.args.self.now in
     let v1 = P.view c.see_on.new.self.plant in
     let v2 = P.view c.see_on-2.new.self.plant in
     let v3 = P.view c.choose_any.new.self.plant in
-    fault_earlier Ckpt2 (P.view c.args.self.now.plant) v1 v3 c.see_on.ensures.goes
-    (fault_later Ckpt2 v1 v2 v3 (c.in_ok-second.ensures.unseen told (c.in_default.ensures.neither (search rules)).1 (ap (λ h. h.alive) c.see_on.ensures.other ∙ alive)) c.choose_any.ensures.goes)
+    let last = (c.choose_any.ensures.leaves c.args.by.0).counts.goes in
+    let neither = c.in_default.ensures.neither (search rules) in
+    each (Failed g (P.view s.plant) v3 s)
+    (λ alive. fault_later Ckpt1 (P.view s.plant) v1 v3 (c.in_ok-first.ensures.unseen told neither.0 alive) (goes_on v1 v2 v3 c.see_on-2.ensures.leaves.counts.goes last))
+    (λ alive. fault_earlier Ckpt2 (P.view s.plant) v1 v3 c.see_on.ensures.leaves.counts.goes (fault_later Ckpt2 v1 v2 v3 (c.in_ok-second.ensures.unseen told neither.1 (ap (λ h. h.alive) c.see_on.ensures.other ∙ alive)) last))
 
 pub returns-clause-left1 : goal.returns-clause-left1
 returns-clause-left1 g c told alive dead =
@@ -137,7 +93,7 @@ returns-clause-left1 g c told alive dead =
     rw (ap (λ p. p.plant) c.give_fate.ensures.frame)
     (left_why C.reads (disk_now v0 Ckpt1).bytes s.level (C.room b.pair.first.copy) (C.room_in (disk_now v0 Ckpt1).bytes) b.first c.in-Some.found (Rose (v0.faults (Disk Ckpt1)) (v4.faults (Disk Ckpt1))) c.in_ok-first.first c.choose_any.new.self.pair.first.alive
     (λ none. fault_later Ckpt1 v0 (g.P.Plant.view a.plant) v4 (c.in_ok-first.ensures.unseen told none alive) (rest1 g path.After-bring))
-    (λ is. fault_earlier Ckpt1 v0 (g.P.Plant.view c.choose_any.new.self.plant) v4 (chose g path.After-choose_any).0.goes (c.bring.ensures.failed1 is (sym (ap (λ p. p.first_alive) c.give_fate.ensures.frame) ∙ dead)))
+    (λ is. fault_earlier Ckpt1 v0 (g.P.Plant.view c.choose_any.new.self.plant) v4 (chose g path.After-choose_any).counts.goes (c.bring.ensures.failed1 is (sym (ap (λ p. p.first_alive) c.give_fate.ensures.frame) ∙ dead)))
     (subst (λ (l : List ℕ). ReadsSeen C.reads l c.in_ok-first.first) (c.see_on.ensures.bytes told Ckpt1) (c.in_ok-first.ensures.reads told))
     (λ pages is. subst (λ (q : Place). IsAtLevel (level (bytes_of pages)) s.level q) (sym (ap (λ p. p.first) c.see_on-2.ensures.frame)) (one pages is).at)
     (λ pages is not. c.in-Some.ensures.unfit1 (ap (λ h. h.alive) c.see_on-2.ensures.other ∙ (one pages is).is_alive) not)
@@ -156,8 +112,8 @@ returns-clause-left2 g c told alive dead =
     = λ pages is. subst (λ (o : Option (List Page)). IsOneSeen g.P.Plant.tells (sought C.reads (parts_of a)) (looked C.count C.room b.pair.second b.second) o) is c.in_ok-second.ensures.seen in
     rw (ap (λ p. p.plant) c.give_fate.ensures.frame)
     (left_why C.reads (disk_now v0 Ckpt2).bytes s.level (C.room b.pair.second.copy) (C.room_in (disk_now v0 Ckpt2).bytes) b.second c.in-Some.found (Rose (v0.faults (Disk Ckpt2)) (v4.faults (Disk Ckpt2))) c.in_ok-second.second c.choose_any.new.self.pair.second.alive
-    (λ none. fault_earlier Ckpt2 v0 (g.P.Plant.view a.plant) v4 c.see_on.ensures.goes (fault_later Ckpt2 (g.P.Plant.view a.plant) (g.P.Plant.view b.plant) v4 (c.in_ok-second.ensures.unseen told none (ap (λ h. h.alive) c.see_on.ensures.other ∙ alive)) (rest2 g path.After-bring)))
-    (λ is. fault_earlier Ckpt2 v0 (g.P.Plant.view c.choose_any.new.self.plant) v4 (chose g path.After-choose_any).0.goes (c.bring.ensures.failed2 is (sym (ap (λ p. p.second_alive) c.give_fate.ensures.frame) ∙ dead)))
+    (λ none. fault_earlier Ckpt2 v0 (g.P.Plant.view a.plant) v4 c.see_on.ensures.leaves.counts.goes (fault_later Ckpt2 (g.P.Plant.view a.plant) (g.P.Plant.view b.plant) v4 (c.in_ok-second.ensures.unseen told none (ap (λ h. h.alive) c.see_on.ensures.other ∙ alive)) (rest2 g path.After-bring)))
+    (λ is. fault_earlier Ckpt2 v0 (g.P.Plant.view c.choose_any.new.self.plant) v4 (chose g path.After-choose_any).counts.goes (c.bring.ensures.failed2 is (sym (ap (λ p. p.second_alive) c.give_fate.ensures.frame) ∙ dead)))
     (subst (λ (l : List ℕ). ReadsSeen C.reads l c.in_ok-second.second) (c.see_on-2.ensures.bytes told Ckpt2 ∙ c.see_on.ensures.bytes told Ckpt2) (c.in_ok-second.ensures.reads told))
     (λ pages is. subst (λ (n : ℕ). IsAtLevel (level (bytes_of pages)) n b.second) (ap (λ p. p.level) c.see_on.ensures.frame) (one pages is).at)
     (λ pages is not. c.in-Some.ensures.unfit2 ((one pages is).is_alive) not)
@@ -169,7 +125,6 @@ returns-clause-picked g c told =
     let C = g.C.Copying in
     let v0 = g.P.Plant.view c.args.self.now.plant in
     let v1 = g.P.Plant.view c.see_on.new.self.plant in
-    let v2 = g.P.Plant.view c.see_on-2.new.self.plant in
     let v4 = g.P.Plant.view c.bring.new.self.plant in
     rw (ap (λ p. p.plant) c.give_fate.ensures.frame) (record {
       one = c.in_ok-first.first;
@@ -179,7 +134,7 @@ returns-clause-picked g c told =
       read1 = subst (λ (l : List ℕ). ReadsSeen C.reads l c.in_ok-first.first) (c.see_on.ensures.bytes told Ckpt1) (c.in_ok-first.ensures.reads told);
       read2 = subst (λ (l : List ℕ). ReadsSeen C.reads l c.in_ok-second.second) (c.see_on-2.ensures.bytes told Ckpt2 ∙ c.see_on.ensures.bytes told Ckpt2) (c.in_ok-second.ensures.reads told);
       none1 = λ none alive. fault_later Ckpt1 v0 v1 v4 (c.in_ok-first.ensures.unseen told none alive) (rest1 g after);
-      none2 = λ none alive. fault_earlier Ckpt2 v0 v1 v4 c.see_on.ensures.goes (fault_later Ckpt2 v1 v2 v4 (c.in_ok-second.ensures.unseen told none (ap (λ h. h.alive) c.see_on.ensures.other ∙ alive)) (rest2 g after));
+      none2 = λ none alive. fault_earlier Ckpt2 v0 v1 v4 c.see_on.ensures.leaves.counts.goes (fault_later Ckpt2 v1 (g.P.Plant.view c.see_on-2.new.self.plant) v4 (c.in_ok-second.ensures.unseen told none (ap (λ h. h.alive) c.see_on.ensures.other ∙ alive)) (rest2 g after));
       greater = c.in-Some.ensures.greater;
     })
 
@@ -201,7 +156,7 @@ returns-in_err-bring-clause-halted g c is =
     let by = c.args.by.0 in
     let r = c.from_residual-in_err-bring.result in
     let p = err_from_is_err_and r c.from_residual-in_err-bring.ensures.1 in
-    rose_earlier ((P.view c.args.self.now.plant).stops by) ((P.view c.choose_any.new.self.plant).stops by) ((P.view c.bring.new.self.plant).stops by) ((chose g (goal.at.returns-in_err-bring-clause-halted g c).After-choose_any).0.goes.stops by)
+    rose_earlier ((P.view c.args.self.now.plant).stops by) ((P.view c.choose_any.new.self.plant).stops by) ((P.view c.bring.new.self.plant).stops by) ((chose g (goal.at.returns-in_err-bring-clause-halted g c).After-choose_any).counts.goes.stops by)
     (c.in_err-bring.ensures.halted (was_halted r p.0 c.in_err-bring.field-0.0 p.1 p.2 is))
 
 pub returns-in_err-bring-clause-both : goal.returns-in_err-bring-clause-both
@@ -216,23 +171,10 @@ give_fate-requires-clause-first g c alive =
     subst (λ (n : ℕ). IsAtLevel n c.bring.new.self.level c.bring.new.self.first) same
     (subst (λ (n : ℕ). IsAtLevel (level (bytes_of c.as_slice-2.result.now)) n c.bring.new.self.first) (ap (λ p. p.level) (sym c.bring.ensures.frame)) (c.in_ok-bring.ensures.first alive).0)
 
-pub returns-in_err-first-clause-counts : goal.returns-in_err-first-clause-counts
-returns-in_err-first-clause-counts g c =
-    let P = g.P.Plant in
-    let s = c.args.self.now in
-    let a = c.see_on.new.self in
-    let p = err_from_is_err_and c.from_residual.result c.from_residual.ensures.1 in
-    counts_seen (Option (List Page)) c.args.by.0 (pair_state P.view (parts_of s)) (pair_state P.view (parts_of a)) c.from_residual.result p.0 c.in_err-first.field-0.0 p.1 p.2 c.in_err-first.ensures.counts
-
-pub returns-in_err-bring-clause-both_failed1 : goal.returns-in_err-bring-clause-both_failed1
-returns-in_err-bring-clause-both_failed1 g c =
+pub returns-in_err-bring-clause-both_failed : goal.returns-in_err-bring-clause-both_failed
+returns-in_err-bring-clause-both_failed g c =
     let e = c.bring.new.self in
-    if_err c.from_residual-in_err-bring.result (λ both told alive. absurd (left_some e.pair.first.alive e.pair.second.alive c.bring.ensures.some both))
-
-pub returns-in_err-bring-clause-both_failed2 : goal.returns-in_err-bring-clause-both_failed2
-returns-in_err-bring-clause-both_failed2 g c =
-    let e = c.bring.new.self in
-    if_err c.from_residual-in_err-bring.result (λ both told alive. absurd (left_some e.pair.first.alive e.pair.second.alive c.bring.ensures.some both))
+    if_err c.from_residual-in_err-bring.result (λ both told. absurd (left_some e.pair.first.alive e.pair.second.alive c.bring.ensures.some both))
 
 -- HOW FAR THE PAGES MAY HAVE COME
 
@@ -264,41 +206,27 @@ returns-in_err-second-clause-one_stands g c is =
 
 -- BOTH COPIES ARE LOST AFTER AN ERROR: a look that ended in it left its copy
 
-pub returns-in_err-first-clause-both_failed1 : goal.returns-in_err-first-clause-both_failed1
-returns-in_err-first-clause-both_failed1 g c =
+pub returns-in_err-first-clause-both_failed : goal.returns-in_err-first-clause-both_failed
+returns-in_err-first-clause-both_failed g c =
+    let s = c.args.self.now in
     let a = c.see_on.new.self in
-    if_err c.from_residual.result (λ both told alive. absurd (no a.pair.first.alive (ap (λ h. h.alive) c.in_err-first.ensures.same ∙ alive) both.0))
+    if_err c.from_residual.result (λ both told. each (Failed g (view_of s) (view_of a) s)
+    (λ alive. absurd (no a.pair.first.alive (ap (λ h. h.alive) c.in_err-first.ensures.same ∙ alive) both.0))
+    (λ alive. absurd (no a.pair.second.alive (ap (λ h. h.alive) c.see_on.ensures.other ∙ alive) both.1)))
 
-pub returns-in_err-first-clause-both_failed2 : goal.returns-in_err-first-clause-both_failed2
-returns-in_err-first-clause-both_failed2 g c =
-    let a = c.see_on.new.self in
-    if_err c.from_residual.result (λ both told alive. absurd (no a.pair.second.alive (ap (λ h. h.alive) c.see_on.ensures.other ∙ alive) both.1))
-
-pub returns-in_err-second-clause-both_failed1 : goal.returns-in_err-second-clause-both_failed1
-returns-in_err-second-clause-both_failed1 g c =
-    let P = g.P.Plant in
+pub returns-in_err-second-clause-both_failed : goal.returns-in_err-second-clause-both_failed
+returns-in_err-second-clause-both_failed g c =
     let C = g.C.Copying in
     let s = c.args.self.now in
     let a = c.see_on.new.self in
     let b = c.see_on-2.new.self in
-    let later = c.see_on-2.ensures.goes.faults (Disk Ckpt1) in
-    if_err c.from_residual-in_err-second.result (λ both told alive.
-    let dead : a.pair.first.alive ≡ false = sym (ap (λ h. h.alive) c.see_on-2.ensures.other) ∙ both.0 in
-    let none : c.in_ok-first.first ≡ None = none_seen P.tells (sought C.reads (parts_of s)) (looked C.count C.room a.pair.first a.first) c.in_ok-first.first c.in_ok-first.ensures.seen dead in
-    rose_later ((P.view s.plant).faults (Disk Ckpt1)) ((P.view a.plant).faults (Disk Ckpt1)) ((P.view b.plant).faults (Disk Ckpt1)) (c.in_ok-first.ensures.unseen told none alive) later)
+    if_err c.from_residual-in_err-second.result (λ both told. each (Failed g (view_of s) (view_of b) s)
+    (λ alive. fault_later Ckpt1 (view_of s) (view_of a) (view_of b)
+    (c.in_ok-first.ensures.unseen told (none_seen g.P.Plant.tells (sought C.reads (parts_of s)) (looked C.count C.room a.pair.first a.first) c.in_ok-first.first c.in_ok-first.ensures.seen (sym (ap (λ h. h.alive) c.see_on-2.ensures.other) ∙ both.0)) alive)
+    c.see_on-2.ensures.leaves.counts.goes)
+    (λ alive. absurd (no b.pair.second.alive (ap (λ h. h.alive) c.in_err-second.ensures.same ∙ (ap (λ h. h.alive) c.see_on.ensures.other ∙ alive)) both.1)))
 
-pub returns-in_err-second-clause-both_failed2 : goal.returns-in_err-second-clause-both_failed2
-returns-in_err-second-clause-both_failed2 g c =
-    let b = c.see_on-2.new.self in
-    if_err c.from_residual-in_err-second.result (λ both told alive.
-    absurd (no b.pair.second.alive (ap (λ h. h.alive) c.in_err-second.ensures.same ∙ (ap (λ h. h.alive) c.see_on.ensures.other ∙ alive)) both.1))
-
-pub returns-then-not-may_follow-clause-both_failed1 : goal.returns-then-not-may_follow-clause-both_failed1
-returns-then-not-may_follow-clause-both_failed1 g c both told alive =
-    let d = c.choose_any.new.self in
-    absurd (⊎_elim (λ x. no d.pair.first.alive x.0 both.0) (λ x. no d.pair.second.alive x.0 both.1) c.in-Some.ensures.chosen.one)
-
-pub returns-then-not-may_follow-clause-both_failed2 : goal.returns-then-not-may_follow-clause-both_failed2
-returns-then-not-may_follow-clause-both_failed2 g c both told alive =
+pub returns-then-not-may_follow-clause-both_failed : goal.returns-then-not-may_follow-clause-both_failed
+returns-then-not-may_follow-clause-both_failed g c both told =
     let d = c.choose_any.new.self in
     absurd (⊎_elim (λ x. no d.pair.first.alive x.0 both.0) (λ x. no d.pair.second.alive x.0 both.1) c.in-Some.ensures.chosen.one)

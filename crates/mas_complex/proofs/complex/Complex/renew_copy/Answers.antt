@@ -1,13 +1,4 @@
-use Rattle.mas_complex.proofs.Names.{◌≡◌, ◌∙◌, List, ℕ, Some, ap, le_refl, refl, subst, sym, ∥∥₁_map, ∥∥₁_map₂, bytes_of, Place, page_count, other, Ckpt1, Ckpt2, IsSound, IsOrForms, ViewDisk as Disk, disk_now, Disk as DiskPart, Elsewhere, values_of, is_open, of_device, false, true, Pair, ReadsStale, is_away}
-use Rattle.mas_complex.proofs.Batches.{settled_later, begun_later}
-use Rattle.mas_complex.proofs.Calls.{Call, lost_on, near_dev, near_it, near_place, new, of_both, old, past_near, pasts_on, place_is, ready_on, there}
-use Rattle.mas_complex.proofs.Each.{beside, part_beside}
-use Rattle.mas_complex.proofs.Papers.{passes_on_paper}
-use Rattle.mas_complex.proofs.Passing.{Passes, replaces_passes}
-use Rattle.mas_complex.proofs.Pasts.{before_later, past_dead, past_formed}
-use Rattle.mas_complex.proofs.Renewing.{ended_keep, gone_closed, replaced_elsewhere, replaced_keep, same_was, stale_while}
-use Rattle.mas_complex.proofs.Basics.{no}
-use Rattle.mas_complex.proofs.Values.{KeepsAt, PaperOn, facts, laws_of, setting_of, sight_at}
+use Rattle.mas_complex.proofs.Answering.{◌≡◌, ◌∙◌, List, ℕ, Some, ap, le_refl, refl, subst, sym, ∥∥₁_map, ∥∥₁_map₂, bytes_of, Place, page_count, other, Ckpt1, Ckpt2, IsSound, IsOrForms, ViewDisk as Disk, disk_now, Disk as DiskPart, Elsewhere, values_of, is_open, of_device, false, true, Pair, ReadsStale, is_away, settled_later, begun_later, Call, lost_on, near_dev, near_it, near_place, new, of_both, old, past_near, pasts_on, place_is, ready_on, there, beside, part_beside, passes_on_paper, Passes, replaces_passes, before_later, past_dead, past_formed, ended_keep, gone_closed, replaced_elsewhere, replaced_keep, same_was, stale_while, no, KeepsAt, PaperOn, facts, laws_of, past_of, setting_of, sight_at, facts_with, inr}
 use Rattle.mas_complex.proofs.complex.Complex.renew_copy.Given.{Over}
 use Rattle.mas_complex.proofs.complex.Complex.renew_copy.Goals.{After-replace}
 use Rattle.mas_complex.proofs.complex.Complex.renew_copy.Goals as goal
@@ -45,7 +36,7 @@ passes : (g : Over) (c : After-replace g) → Passes (old (still g c)) (new (sti
 passes g c = replaces_passes c.args.by.0 c.args.dev _ (old (still g c)) (new (still g c)) c.requires.ckpt c.replace.ensures.replaces
 
 -- an image of the copy that is being replaced
-stale : (g : Over) (c : After-replace g) → g.P.Plant.tells → (k : KeepsAt c.args.self.now (old (still g c))) → is_away (setting_of c.args.self.now) c.args.dev ≡ true → (d : Disk) → IsOrForms g.C.Copying.reads (disk_now (old (still g c)) c.args.dev) (bytes_of c.args.pages.now) d → ReadsStale (setting_of c.args.self.now) k.was d
+stale : (g : Over) (c : After-replace g) → g.P.Plant.tells → (k : KeepsAt c.args.self.now (old (still g c))) → is_away (setting_of c.args.self.now) c.args.dev ≡ true → (d : Disk) → IsOrForms g.C.Copying.reads (disk_now (old (still g c)) c.args.dev) (bytes_of c.args.pages.now) d → ReadsStale (setting_of c.args.self.now) k.pages.was d
 stale g c told k is d forms =
     let x = still g c in
     stale_while x k c.requires.dead (bytes_of c.args.pages.now) (same_was x (old x) k c.requires.beside c.requires.place (bytes_of c.args.pages.now) (c.requires.reads told)) is d forms
@@ -54,7 +45,7 @@ paper : (g : Over) (c : After-replace g) → g.P.Plant.tells → IsSound c.args.
 paper g c told sound =
     let x = still g c in
     let s = x.was in
-    ∥∥₁_map₂ (s.kept told) (s.paper told sound) (λ k on. passes_on_paper s.base s.since s.journal.batches s.current s.printed s.book s.book (old x) (new x) k.started k.settled k.begun (passes g c) (elsewhere g c told).papers (λ m up. up) on)
+    ∥∥₁_map₂ (s.kept told) (s.paper told sound) (λ k on. passes_on_paper s.base s.since (past_of s) s.current s.printed s.book s.book (old x) (new x) k.started k.settled k.begun (passes g c) (elsewhere g c told).papers (λ m up. up) on)
 
 other_lost : (g : Over) (c : After-replace g) → (new (still g c)).lost (DiskPart (other c.args.dev Ckpt1 Ckpt2)) ≡ false → (old (still g c)).lost (DiskPart (other c.args.dev Ckpt1 Ckpt2)) ≡ false
 other_lost g c up = sym (c.replace.ensures.replaces.else_lost (DiskPart (other c.args.dev Ckpt1 Ckpt2)) (part_beside c.args.dev c.requires.ckpt)) ∙ up
@@ -88,33 +79,20 @@ invariant_of-self-2 g c =
     let e = c.replace.ensures in
     let ok = c.in_ok-replace.ensures in
     let pages = bytes_of c.args.pages.now in
-    record {
-      kept = λ told. ∥∥₁_map (s.kept told) (λ k.
-          let mid = replaced_keep y (IsOrForms C.reads (disk_now (old y) y.dev) (bytes_of c.args.pages.now)) k (passes g d) c.requires.dead c.requires.began (stale g d told k) (e.during told) in
-          let reads : C.reads (disk_now (new x) (near_dev x)).bytes ≡ Some pages = ap (λ (y : Disk). C.reads y.bytes) ((elsewhere g d told).others (new x).now e.replaces.later (le_refl (new x).now) (near_dev x) (beside x.dev x.ckpt)) ∙ c.requires.reads told in
-          let now = same_was x (new x) mid c.requires.beside c.requires.place pages reads in
-          rw (c.end_on.ensures, c.now-until.ensures)
-          (ended_keep x (new x) mid ok.ok.0 c.set_place.ensures.place (subst (λ (l : List ℕ). C.rests (there x).copy l (disk_now (new x) x.dev)) now (ok.formed told))));
-      lasting = pasts_on x (other_lost g d) (elsewhere g d) e.replaces.later (λ told. ∥∥₁_map (past_near x told) (λ l.
-          past_formed (page_count s.base.config) (values_of s.had) (sight_at s (there x) (place_is x) x.dev (new x)) pages
-          (before_later (page_count s.base.config) (values_of s.had) (sight_at s (near_it x) (near_place x) (near_dev x) (old x)) pages l c.requires.beside c.requires.place (c.requires.reads told))
-          c.set_place.ensures.place (x.laws.rests_now (there x).copy pages (disk_now (new x) x.dev) (ok.formed told))));
-      replied = s.replied;
-      paper = paper g d;
-      ready = ready_on x e.replaces.size (λ now. x.laws.ready_fit (there x).copy (new x) ok.ok.1.is_ready);
-      lost = of_both x (λ d h p. h.alive ≡ false → is_open (of_device d c.end_on.new.renewals) ≡ false → (new x).lost (DiskPart d) ≡ true) (λ dead. absurd (no _ ok.ok.0 dead)) (λ dead. absurd (no _ c.requires.beside dead));
-      one = s.one;
-      place_reserved = s.place_reserved;
-      place_current = s.place_current;
-      place = s.place;
-      settled = settled_later s.journal.batches (old x).now (new x).now s.settled e.replaces.later;
-      begun = begun_later s.current (old x).now (new x).now s.begun e.replaces.later;
-      owned = s.owned;
-      few = s.few;
-      short = s.short;
-      short_reserved = s.short_reserved;
-      counted = s.counted;
-    }
+    facts_with s x.pair x.first x.second (new x) s.printed s.book s.reserved c.end_on.new.renewals e.replaces.later
+    (λ told. ∥∥₁_map (s.kept told) (λ k.
+    let mid = replaced_keep y (IsOrForms C.reads (disk_now (old y) y.dev) (bytes_of c.args.pages.now)) k (passes g d) c.requires.dead c.requires.began (stale g d told k) (e.during told) in
+    let reads : C.reads (disk_now (new x) (near_dev x)).bytes ≡ Some pages = ap (λ (y : Disk). C.reads y.bytes) ((elsewhere g d told).others (new x).now e.replaces.later (le_refl (new x).now) (near_dev x) (beside x.dev x.ckpt)) ∙ c.requires.reads told in
+    let now = same_was x (new x) mid c.requires.beside c.requires.place pages reads in
+    rw (c.end_on.ensures, c.now-until.ensures)
+    (ended_keep x (new x) mid ok.ok.0 c.set_place.ensures.place (subst (λ (l : List ℕ). C.rests (there x).copy l (disk_now (new x) x.dev)) now (ok.formed told)))))
+    (pasts_on x (other_lost g d) (elsewhere g d) e.replaces.later (λ told. ∥∥₁_map (past_near x told) (λ l.
+    past_formed (page_count s.base.config) (values_of s.had) (sight_at s (there x) (place_is x) x.dev (new x)) pages
+    (before_later (page_count s.base.config) (values_of s.had) (sight_at s (near_it x) (near_place x) (near_dev x) (old x)) pages l c.requires.beside c.requires.place (c.requires.reads told))
+    c.set_place.ensures.place (x.laws.rests_now (there x).copy pages (disk_now (new x) x.dev) (ok.formed told)))))
+    (paper g d) (ready_on x e.replaces.size (λ now. x.laws.ready_fit (there x).copy (new x) ok.ok.1.is_ready))
+    (of_both x (λ d h p. h.alive ≡ false → is_open (of_device d c.end_on.new.renewals) ≡ false → (new x).lost (DiskPart d) ≡ true) (λ dead. absurd (no _ ok.ok.0 dead)) (λ dead. absurd (no _ c.requires.beside dead)))
+    s.owned (inr refl)
 
 pub returns-clause-reads : goal.returns-clause-reads
 returns-clause-reads g c told = g.met.C.Copying.rests_now _ (bytes_of c.args.pages.now) (disk_now (g.P.Plant.view c.replace.new.plant) c.args.dev) (c.in_ok-replace.ensures.formed told)

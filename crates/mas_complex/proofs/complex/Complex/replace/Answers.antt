@@ -1,22 +1,6 @@
-use Rattle.mas_complex.proofs.Names.{◌∙◌, ◌≡◌, ◌<◌, ◌≤◌, length, true, false, Some, Err, ap, sym, subst, rules, err_from_is_err_and, Ckpt1, Ckpt2, pages_least, pages_most, Disk, disk_now, Rose, top, bytes_of, other, Replaces, replace_stopped, Before, Elsewhere, parts_of, is_open, of_device, if◌then◌else◌, pick, Half}
-use Rattle.mas_complex.proofs.Basics.{no}
-use Rattle.mas_complex.proofs.Renewing.{acted_not, begun_open, both_not, elsewhere_none, no_memory_frame, no_memory_ok, no_memory_stopped, other_stands, replaced_frame, replaces_none}
-use Rattle.mas_complex.proofs.Each.{of_beside}
+use Rattle.mas_complex.proofs.Answering.{◌∙◌, ◌≡◌, ◌<◌, ◌≤◌, length, true, false, Some, Err, ap, sym, subst, rules, err_from_is_err_and, Ckpt1, Ckpt2, pages_least, pages_most, Disk, disk_now, Rose, top, bytes_of, other, Replaces, replace_stopped, Before, Elsewhere, parts_of, is_open, of_device, if◌then◌else◌, pick, Half, no, acted_not, begun_open, both_not, elsewhere_none, other_stands, replaced_frame, replaces_none, of_beside}
+use Rattle.pair_replacing.specs.declared.replacing.ReplaceNo.TheVariants.{NoMemory}
 use Rattle.mas_complex.proofs.complex.Complex.replace.Goals as goal
-
--- BEFORE ANY ACT
-
-pub returns-then-alive-clause-replaces : goal.returns-then-alive-clause-replaces
-returns-then-alive-clause-replaces g c = replaces_none c.args.by.0 c.args.dev (g.P.Plant.view c.args.self.now.plant)
-
-pub returns-then-alive-clause-elsewhere : goal.returns-then-alive-clause-elsewhere
-returns-then-alive-clause-elsewhere g c told = elsewhere_none c.args.dev (g.P.Plant.view c.args.self.now.plant)
-
-pub returns-then-are_both_lost-clause-replaces : goal.returns-then-are_both_lost-clause-replaces
-returns-then-are_both_lost-clause-replaces g c = replaces_none c.args.by.0 c.args.dev (g.P.Plant.view c.args.self.now.plant)
-
-pub returns-then-are_both_lost-clause-elsewhere : goal.returns-then-are_both_lost-clause-elsewhere
-returns-then-are_both_lost-clause-elsewhere g c told = elsewhere_none c.args.dev (g.P.Plant.view c.args.self.now.plant)
 
 -- OUT OF MEMORY, before any act too
 
@@ -24,33 +8,23 @@ pub returns-in_err-begin_renewal : goal.returns-in_err-begin_renewal
 returns-in_err-begin_renewal g c =
     let P = g.P.Plant in
     let s = c.args.self.now in
-    let r = c.from_residual.result in
-    let p = err_from_is_err_and r c.from_residual.ensures.1 in
+    let p = err_from_is_err_and c.from_residual.result c.from_residual.ensures.1 in
+    let none : c.from_residual.result ≡ Err NoMemory = p.1 ∙ ap Err p.2 in
     let dev = c.args.dev in
     let still = ap (λ x. x.plant) c.in_err-begin_renewal.ensures.err in
     record {
-      frame =
-          let m = c.begin_renewal.new.self in
-          no_memory_frame c.args.dev (P.view s.plant).now (P.view m.plant).now (parts_of m) (parts_of s) r (p.1 ∙ ap Err p.2) c.in_err-begin_renewal.ensures.err;
+      frame = rw none c.in_err-begin_renewal.ensures.err;
       other = ap (λ p. other c.args.dev p.first p.second) c.begin_renewal.ensures.pair;
       alive = λ is. absurd (no _ is (sym c.alive.ensures ∙ c.if-alive.false));
-      not_lost = λ is.
-          let e = sym is ∙ (p.1 ∙ ap Err p.2) in
-          absurd (cc);
+      not_lost = λ is. absurd (cc (sym is ∙ none));
       dead = λ both. absurd (both_not s.pair.first.alive s.pair.second.alive (sym c.are_both_lost.ensures ∙ c.if-are_both_lost.false) both);
-      both = λ is.
-          let e = sym is ∙ (p.1 ∙ ap Err p.2) in
-          absurd (cc);
-      replaces = subst (λ b. Replaces c.args.by.0 dev b (P.view s.plant) (P.view c.begin_renewal.new.self.plant)) (sym (no_memory_stopped r (p.1 ∙ ap Err p.2)))
+      both = λ is. absurd (cc (sym is ∙ none));
+      replaces = subst (λ b. Replaces c.args.by.0 dev b (P.view s.plant) (P.view c.begin_renewal.new.self.plant)) (sym (ap replace_stopped none))
           (subst (λ q. Replaces c.args.by.0 dev false (P.view s.plant) (P.view q)) (sym still) (replaces_none c.args.by.0 dev (P.view s.plant)));
-      failed = λ is.
-          let e = sym is ∙ (p.1 ∙ ap Err p.2) in
-          absurd (cc);
-      lost = λ is.
-          let e = sym is ∙ (p.1 ∙ ap Err p.2) in
-          absurd (cc);
-      formed = no_memory_ok _ r (p.1 ∙ ap Err p.2);
-      reads = no_memory_ok _ r (p.1 ∙ ap Err p.2);
+      failed = λ is. absurd (cc (sym is ∙ none));
+      lost = λ is. absurd (cc (sym is ∙ none));
+      formed = rw none tt;
+      reads = rw none tt;
       elsewhere = λ told. subst (λ q. Elsewhere dev (P.view s.plant) (P.view q)) (sym still) (elsewhere_none dev (P.view s.plant));
     }
 

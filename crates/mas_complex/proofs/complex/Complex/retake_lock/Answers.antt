@@ -1,6 +1,4 @@
-use Rattle.mas_complex.proofs.Names.{true, inr, refl}
-use Rattle.mas_complex.proofs.Standing.{tries}
-use Rattle.mas_complex.proofs.Values.{booked}
+use Rattle.mas_complex.proofs.Answering.{true, inr, refl, tries, booked}
 use Rattle.mas_complex.proofs.complex.Complex.retake_lock.Goals as goal
 
 pub invariant_of-self : goal.invariant_of-self

@@ -1,27 +1,24 @@
-use Rattle.mas_complex.proofs.Names.{◌∙◌, false, refl, ap, sym, arith, ∥∥₁_elim, disk_now, goes_none, page_count, pick, pair_state, parts_of, KeepsCounts}
-use Rattle.mas_complex.proofs.Values.{copies_of, laws_of, place_of}
-use Rattle.mas_complex.proofs.Frames.{frame_lost, frame_on}
-use Rattle.mas_complex.proofs.Apart.{on_none, on_one, on_then}
-use Rattle.mas_complex.proofs.Counted.{counts_none, counts_one, counts_then, counts_lost}
-use Rattle.mas_complex.proofs.Usable.{always_used, unused_reads, unused_there, used_lost, used_pages}
+use Rattle.mas_complex.proofs.Answering.{◌∙◌, false, refl, ap, sym, arith, ∥∥₁_elim, disk_now, page_count, pick, pair_state, parts_of, copies_of, laws_of, place_of, frame_lost, frame_on, on_one, counts_one, counts_lost, always_used, unused_reads, unused_there, used_lost, used_pages, pair_then, OnPair}
 use Rattle.mas_complex.proofs.complex.Complex.see_on.Given.{Over}
 use Rattle.mas_complex.proofs.complex.Complex.see_on.Goals.{In_ok-look}
 use Rattle.mas_complex.proofs.complex.Complex.see_on.Goals as goal
 
-looked : (g : Over) (c : In_ok-look g) → KeepsCounts c.args.by.0 false (pair_state g.P.Plant.view (parts_of c.args.self.now)) (pair_state g.P.Plant.view (parts_of c.look_on.new.self))
+looked : (g : Over) (c : In_ok-look g) → OnPair g.P.Plant.tells c.args.by.0 false (pair_state g.P.Plant.view (parts_of c.args.self.now)) (pair_state g.P.Plant.view (parts_of c.look_on.new.self))
 looked g c =
     let s = c.args.self.now in
-    let a = c.look_on.new.self in
-    counts_one c.args.by.0 s.pair a.pair (g.P.Plant.view s.plant) (g.P.Plant.view a.plant) false c.args.dev c.requires.ckpt c.look_on.ensures.other c.in_ok-look.ensures.acted
+    let a = c.look_on.new.self in record {
+      counts = counts_one c.args.by.0 s.pair a.pair (g.P.Plant.view s.plant) (g.P.Plant.view a.plant) false c.args.dev c.requires.ckpt c.look_on.ensures.other c.in_ok-look.ensures.acted;
+      apart = c.look_on.ensures.apart;
+    }
 
-pub returns-in-Pages-clause-counts : goal.returns-in-Pages-clause-counts
-returns-in-Pages-clause-counts g c = looked g (goal.at.returns-in-Pages-clause-counts g c).In_ok-look
+pub returns-in-Pages-clause-leaves : goal.returns-in-Pages-clause-leaves
+returns-in-Pages-clause-leaves g c = looked g (goal.at.returns-in-Pages-clause-leaves g c).In_ok-look
 
-pub returns-in-Lost-clause-counts : goal.returns-in-Lost-clause-counts
-returns-in-Lost-clause-counts g c = looked g (goal.at.returns-in-Lost-clause-counts g c).In_ok-look
+pub returns-in-Lost-clause-leaves : goal.returns-in-Lost-clause-leaves
+returns-in-Lost-clause-leaves g c = looked g (goal.at.returns-in-Lost-clause-leaves g c).In_ok-look
 
-pub returns-in_err-look-clause-counts : goal.returns-in_err-look-clause-counts
-returns-in_err-look-clause-counts g c = grind (arith, counts_one)
+pub returns-in_err-look-clause-leaves : goal.returns-in_err-look-clause-leaves
+returns-in_err-look-clause-leaves g c = record { counts = grind (arith, counts_one); apart = c.look_on.ensures.apart }
 
 -- A COPY THAT COUNTED AS LOST is passed over
 
@@ -30,26 +27,14 @@ returns-then-not-alive-clause-frame g c =
     let s = c.args.self.now in
     frame_on s s.plant s.pair s.first s.second c.args.dev c.requires.ckpt refl refl
 
-pub returns-then-not-alive-clause-goes : goal.returns-then-not-alive-clause-goes
-returns-then-not-alive-clause-goes g c = goes_none (g.P.Plant.view c.args.self.now.plant)
-
-pub returns-then-not-alive-clause-counts : goal.returns-then-not-alive-clause-counts
-returns-then-not-alive-clause-counts g c =
-    let s = c.args.self.now in
-    counts_none c.args.by.0 (pair_state g.P.Plant.view (parts_of s))
-
-pub returns-then-not-alive-clause-apart : goal.returns-then-not-alive-clause-apart
-returns-then-not-alive-clause-apart g c told = on_none (g.P.Plant.view c.args.self.now.plant)
-
 -- PAGES, as many as the configuration has
 
 pub returns-in-Pages-clause-seen : goal.returns-in-Pages-clause-seen
 returns-in-Pages-clause-seen g c =
     let s = c.look_on.new.self in
-    let dev = c.args.dev in
     let look = used_pages c.pages_of-count.result c.in_ok-look.look c.in-Pages.pages (sym c.usable.ensures.usable ∙ c.in-Pages.is) in
     let seen = rw look.0 at c.in_ok-look.ensures.seen in
-    let count = g.met.C.Copying.ready_count (pick dev s.pair.first s.pair.second).copy (g.P.Plant.view s.plant) seen.is_ready in
+    let count = g.met.C.Copying.ready_count (pick c.args.dev s.pair.first s.pair.second).copy (g.P.Plant.view s.plant) seen.is_ready in
     record {
       is_alive = seen.is_alive;
       as_many = sym seen.as_many;
@@ -66,15 +51,12 @@ returns-in-Pages-clause-many g c =
 pub returns-in-Pages-clause-reads : goal.returns-in-Pages-clause-reads
 returns-in-Pages-clause-reads g c told =
     let s = c.look_on.new.self in
-    let dev = c.args.dev in
-    let look = used_pages c.pages_of-count.result c.in_ok-look.look c.in-Pages.pages (sym c.usable.ensures.usable ∙ c.in-Pages.is) in
-    let seen = rw look.0 at c.in_ok-look.ensures.seen in
-    g.met.C.Copying.rests_now (pick dev s.pair.first s.pair.second).copy _ (disk_now (g.P.Plant.view s.plant) dev) (seen.found told)
+    let seen = rw (used_pages c.pages_of-count.result c.in_ok-look.look c.in-Pages.pages (sym c.usable.ensures.usable ∙ c.in-Pages.is)).0 at c.in_ok-look.ensures.seen in
+    g.met.C.Copying.rests_now (pick c.args.dev s.pair.first s.pair.second).copy _ (disk_now (g.P.Plant.view s.plant) c.args.dev) (seen.found told)
 
 pub returns-in-Pages-clause-room : goal.returns-in-Pages-clause-room
 returns-in-Pages-clause-room g c told =
-    let look = used_pages c.pages_of-count.result c.in_ok-look.look c.in-Pages.pages (sym c.usable.ensures.usable ∙ c.in-Pages.is) in
-    rw look.0 at (c.in_ok-look.ensures.room told)
+    rw (used_pages c.pages_of-count.result c.in_ok-look.look c.in-Pages.pages (sym c.usable.ensures.usable ∙ c.in-Pages.is)).0 at (c.in_ok-look.ensures.room told)
 
 -- A COPY THAT COUNTS AS LOST
 
@@ -99,28 +81,24 @@ returns-in-Unread-clause-unseen g c told none alive =
     let many = c.pages_of-count.ensures ∙ ap (λ q. page_count q.config) (sym base) in
     let there = unused_there C.count C.room C.room_most C.ready C.reads C.rests g.P.Plant.tells dev v was.copy h.copy h.alive c.pages_of-count.result c.in_ok-look.look not c.in_ok-look.ensures.seen in
     let unused = rw many at (unused_reads C.count C.room C.room_most C.ready C.reads C.rests g.P.Plant.tells dev v was.copy h.copy h.alive c.pages_of-count.result (λ pages d r. g.met.C.Copying.rests_now h.copy pages d r) told c.in_ok-look.look not c.usable.ensures.sized c.in_ok-look.ensures.seen) in
-    absurd (∥∥₁_elim (s.kept told) (λ a b. absurd a) (λ k. always_used C.reads s.base s.since s.renewals s.level _ _ k.was k.coming k.stands k.comes dev (copies_of s dev) v (k.at dev c.requires.ckpt) there.0
+    absurd (∥∥₁_elim (s.kept told) (λ a b. absurd a) (λ k. always_used C.reads s.base s.since s.renewals s.level _ _ k.pages.was k.pages.coming k.pages.stands k.pages.comes dev (copies_of s dev) v (k.at dev c.requires.ckpt) there.0
     ((laws_of g.world g.met.P.Plant g.met.C.Steady g.met.C.Copying).reads h (place_of s dev)) (g.met.P.Plant.there s.plant told dev there.1) unused))
 
-pub returns-in-Unread-clause-counts : goal.returns-in-Unread-clause-counts
-returns-in-Unread-clause-counts g c =
+pub returns-in-Unread-clause-leaves : goal.returns-in-Unread-clause-leaves
+returns-in-Unread-clause-leaves g c =
     let P = g.P.Plant in
     let s = c.args.self.now in
     let a = c.look_on.new.self in
     let b = c.lose_copy.new.self in
+    let e = c.lose_copy.ensures in
     let C = g.C.Copying in
     let dev = c.args.dev in
     let alive = (unused_there C.count C.room C.room_most C.ready C.reads C.rests P.tells dev (P.view a.plant) (pick dev s.pair.first s.pair.second).copy (pick dev a.pair.first a.pair.second).copy (pick dev a.pair.first a.pair.second).alive
     c.pages_of-count.result c.in_ok-look.look (sym c.usable.ensures.usable ∙ c.in-Unread.is) c.in_ok-look.ensures.seen).0 in
-    counts_then c.args.by.0 false (pair_state P.view (parts_of s)) (pair_state P.view (parts_of a)) (pair_state P.view (parts_of b))
-    (looked g (goal.at.returns-in-Unread-clause-counts g c).In_ok-look)
-    (counts_lost c.args.by.0 a.pair b.pair (P.view a.plant) (P.view b.plant) c.args.dev c.requires.ckpt alive c.lose_copy.ensures.dead c.lose_copy.ensures.other c.lose_copy.ensures.loses)
-
-pub returns-in-Unread-clause-apart : goal.returns-in-Unread-clause-apart
-returns-in-Unread-clause-apart g c told =
-    let P = g.P.Plant in
-    on_then (P.view c.args.self.now.plant) (P.view c.look_on.new.self.plant) (P.view c.lose_copy.new.self.plant) c.look_on.ensures.acted.goes c.lose_copy.ensures.loses.goes (c.look_on.ensures.apart told)
-    (on_one c.args.dev c.requires.ckpt (P.view c.look_on.new.self.plant) (P.view c.lose_copy.new.self.plant) c.lose_copy.ensures.loses.goes (c.lose_copy.ensures.elsewhere told))
+    pair_then (looked g (goal.at.returns-in-Unread-clause-leaves g c).In_ok-look) (record {
+      counts = counts_lost c.args.by.0 a.pair b.pair (P.view a.plant) (P.view b.plant) dev c.requires.ckpt alive e.dead e.other e.loses;
+      apart = λ told. on_one dev c.requires.ckpt (P.view a.plant) (P.view b.plant) e.loses.goes (e.elsewhere told);
+    })
 
 pub returns-in-Unread-clause-frame : goal.returns-in-Unread-clause-frame
 returns-in-Unread-clause-frame g c =

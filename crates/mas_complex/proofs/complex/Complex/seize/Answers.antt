@@ -1,6 +1,4 @@
-use Rattle.mas_complex.proofs.Names.{inr, refl}
-use Rattle.mas_complex.proofs.Standing.{seizes}
-use Rattle.mas_complex.proofs.Values.{booked}
+use Rattle.mas_complex.proofs.Answering.{inr, refl, seizes, booked}
 use Rattle.mas_complex.proofs.complex.Complex.seize.Goals as goal
 
 pub invariant_of-self : goal.invariant_of-self

@@ -1,10 +1,4 @@
-use Rattle.mas_complex.proofs.Names.{ℕ, Bool, ViewDisk as Disk, Disk as DiskPart, ◌≡◌, true, arith, ∥∥₁_map, ∥∥₁_elim, ∥∥₁_map₂, Coded-set, coded_list, coded_option, coded_ℕ, bytes_of, AllRead, page_count, BothMeanwhile, Touched, Ckpt1, Ckpt2, disk_now, held_then, touched_is, copy_of, SamePapers, values_of, List, OnOk, Some, false, ◌<◌, Place, Before, IsCkpt, pick, Dev, top, View, IsGone, ReadsBy, is_away, IsPlaceAfter, ◌≤◌, disk_at}
-use Rattle.mas_complex.proofs.Apart.{coded_disk, on_both, on_is, papers_both, papers_is}
-use Rattle.mas_complex.proofs.Calm.{both_keep, settle_copy, settle_reads, settle_rests}
-use Rattle.mas_complex.proofs.Leaving.{pair_lost}
-use Rattle.mas_complex.proofs.Pasts.{before_later, image_now, past_alive, past_settled}
-use Rattle.mas_complex.proofs.Values.{KeepsAt, copies_of, facts, half_of, laws_of, paper_after, place_of, ready_of, setting_of, sight_at, view_of}
-use Rattle.mas_complex.proofs.Each.{dead_of, each}
+use Rattle.mas_complex.proofs.Answering.{ℕ, Bool, ViewDisk as Disk, Disk as DiskPart, ◌≡◌, true, arith, ∥∥₁_map, ∥∥₁_elim, ∥∥₁_map₂, Coded-set, coded_list, coded_option, coded_ℕ, bytes_of, AllRead, page_count, BothMeanwhile, Touched, Ckpt1, Ckpt2, disk_now, held_then, touched_is, copy_of, SamePapers, values_of, List, OnOk, Some, false, ◌<◌, Place, Before, IsCkpt, pick, Dev, top, View, IsGone, ReadsBy, is_away, IsPlaceAfter, ◌≤◌, disk_at, coded_disk, on_both, on_is, papers_both, papers_is, both_keep, settle_copy, settle_reads, settle_rests, pair_lost, before_later, image_now, past_alive, past_settled, KeepsAt, copies_of, facts, half_of, laws_of, paper_after, past_of, place_of, ready_of, setting_of, sight_at, view_of, dead_of, each}
 use Rattle.mas_complex.proofs.complex.Complex.settle.Given.{Over}
 use Rattle.mas_complex.proofs.complex.Complex.settle.Goals.{After-place_after-self-2}
 use Rattle.mas_complex.proofs.complex.Complex.settle.Goals as goal
@@ -37,12 +31,12 @@ module _ (g : Over) (c : After-place_after-self-2 g) where
   rests_now d was x r = g.met.C.Copying.rests_now (half_of c.args.self.now d).copy was x r
 
   module _ (told : g.P.Plant.tells) (k : KeepsAt c.args.self.now (view_of c.args.self.now)) where
-    reads_at : (d : Dev) → IsCkpt d → (view_of c.args.self.now).now < top → (x : Disk) → Touched (half_of c.args.self.now d).alive (AllRead g.C.Copying.reads pages) (disk_now (view_of c.args.self.now) d) x → ReadsBy (setting_of c.args.self.now) (is_away (setting_of c.args.self.now) d) k.was k.coming x
-    reads_at d ckpt = settle_reads (setting_of c.args.self.now) k.was k.coming d (copies_of c.args.self.now d) (view_of c.args.self.now) pages (k.at d ckpt) (before d ckpt) (rests_now d) (reads told d ckpt)
+    reads_at : (d : Dev) → IsCkpt d → (view_of c.args.self.now).now < top → (x : Disk) → Touched (half_of c.args.self.now d).alive (AllRead g.C.Copying.reads pages) (disk_now (view_of c.args.self.now) d) x → ReadsBy (setting_of c.args.self.now) (is_away (setting_of c.args.self.now) d) k.pages.was k.pages.coming x
+    reads_at d ckpt = settle_reads (setting_of c.args.self.now) k.pages.was k.pages.coming d (copies_of c.args.self.now d) (view_of c.args.self.now) pages (k.at d ckpt) (before d ckpt) (rests_now d) (reads told d ckpt)
 
     -- what each copy that counts as alive is at rest with
     rests : (d : Dev) → IsCkpt d → (half_of c.args.self.now d).alive ≡ true → g.C.Copying.rests (half_of c.args.self.now d).copy pages (disk_now (view_of c.args.self.now) d)
-    rests d ckpt = settle_rests (setting_of c.args.self.now) k.was k.coming d (copies_of c.args.self.now d) (view_of c.args.self.now) pages (k.at d ckpt) (before d ckpt) (rests_now d) (reads told d ckpt)
+    rests d ckpt = settle_rests (setting_of c.args.self.now) k.pages.was k.pages.coming d (copies_of c.args.self.now d) (view_of c.args.self.now) pages (k.at d ckpt) (before d ckpt) (rests_now d) (reads told d ckpt)
 
     abbrev Touches : Dev → Disk → Type 0
     Touches d = Touched (half_of c.args.self.now d).alive (AllRead g.C.Copying.reads pages) (disk_now (view_of c.args.self.now) d)
@@ -76,9 +70,9 @@ invariant_of-self g c =
     facts s p c.place_after-self.result c.place_after-self-2.result v e.acted.goes.later
     (λ told. ∥∥₁_map (s.kept told) (λ k.
     let m = all g c told k in
-    both_keep (setting_of s) s.journal.batches s.current s.level (copies_of s) (λ d. copy_of C.rests C.holds (pick d c.settle-done.new.self.first c.settle-done.new.self.second) (place_is g c d)) old v (Touches g c told k Ckpt1) (Touches g c told k Ckpt2) k m
-    (each (λ d. (t : ℕ) → old.now ≤ t → t ≤ v.now → old.now < top → ReadsBy (setting_of s) (is_away (setting_of s) d) k.was k.coming (disk_at v t d)) (λ t from le lt. reads_at g c told k Ckpt1 tt lt (disk_at v t Ckpt1) (m.first t from le)) (λ t from le lt. reads_at g c told k Ckpt2 tt lt (disk_at v t Ckpt2) (m.second t from le)))
-    (λ d ckpt. settle_copy (setting_of s) k.was k.coming d (copies_of s d) old (pages g c) (k.at d ckpt) (before g c d ckpt) (rests_now g c d) (reads g c told d ckpt) v (copy_of C.rests C.holds (pick d c.settle-done.new.self.first c.settle-done.new.self.second) (place_is g c d)) c.settle-done.result (alive d ckpt) m.goes.later (touched g c told k d ckpt)
+    both_keep (setting_of s) (past_of s) s.current s.level (copies_of s) (λ d. copy_of C.rests C.holds (pick d c.settle-done.new.self.first c.settle-done.new.self.second) (place_is g c d)) old v (Touches g c told k Ckpt1) (Touches g c told k Ckpt2) k m
+    (each (λ d. (t : ℕ) → old.now ≤ t → t ≤ v.now → old.now < top → ReadsBy (setting_of s) (is_away (setting_of s) d) k.pages.was k.pages.coming (disk_at v t d)) (λ t from le lt. reads_at g c told k Ckpt1 tt lt (disk_at v t Ckpt1) (m.first t from le)) (λ t from le lt. reads_at g c told k Ckpt2 tt lt (disk_at v t Ckpt2) (m.second t from le)))
+    (λ d ckpt. settle_copy (setting_of s) k.pages.was k.pages.coming d (copies_of s d) old (pages g c) (k.at d ckpt) (before g c d ckpt) (rests_now g c d) (reads g c told d ckpt) v (copy_of C.rests C.holds (pick d c.settle-done.new.self.first c.settle-done.new.self.second) (place_is g c d)) c.settle-done.result (alive d ckpt) m.goes.later (touched g c told k d ckpt)
     (each (λ d. IsGone d (half_of s d).alive (pick d c.settle-done.new.self.first c.settle-done.new.self.second).alive v) (e.gone1 told (rests g c told k Ckpt1 tt) (rests g c told k Ckpt2 tt)) (e.gone2 told) d ckpt) (settled g c told k d ckpt) (λ a now. a now) (λ both. dead_of d ckpt p.first p.second (e.both both)) (after d ckpt))))
     (λ told. ∥∥₁_map₂ (s.kept told) (s.lasting told) (λ k l d ckpt.
     let count = page_count s.base.config in
@@ -93,16 +87,14 @@ invariant_of-self g c =
 
 pub returns-clause-apart : goal.returns-clause-apart
 returns-clause-apart g c told =
-    let p = (goal.at.returns-clause-apart g c).After-place_after-self-2 in
-    on_is (view_of c.args.self.now) (g.P.Plant.view c.settle-done.new.plant) (∥∥₁_map (c.args.self.now.kept told) (λ k. on_both _ _ (view_of c.args.self.now) (g.P.Plant.view c.settle-done.new.plant) (all g p told k)))
+    on_is (view_of c.args.self.now) (g.P.Plant.view c.settle-done.new.plant) (∥∥₁_map (c.args.self.now.kept told) (λ k. on_both _ _ (view_of c.args.self.now) (g.P.Plant.view c.settle-done.new.plant) (all g ((goal.at.returns-clause-apart g c).After-place_after-self-2) told k)))
 
 pub returns-clause-papers : goal.returns-clause-papers
 returns-clause-papers g c = papers g (goal.at.returns-clause-papers g c).After-place_after-self-2
 
 pub returns-clause-throughout : goal.returns-clause-throughout
 returns-clause-throughout g c told t from le d one two =
-    let p = (goal.at.returns-clause-throughout g c).After-place_after-self-2 in
-    ∥∥₁_elim (c.args.self.now.kept told) (Coded-set coded_disk _ _) (λ k. (all g p told k).others t from le d one two)
+    ∥∥₁_elim (c.args.self.now.kept told) (Coded-set coded_disk _ _) (λ k. (all g ((goal.at.returns-clause-throughout g c).After-place_after-self-2) told k).others t from le d one two)
 
 pub returns-clause-still1 : goal.returns-clause-still1
 returns-clause-still1 g c =

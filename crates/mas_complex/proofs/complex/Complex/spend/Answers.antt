@@ -1,6 +1,4 @@
-use Rattle.mas_complex.proofs.Names.{inr, refl}
-use Rattle.mas_complex.proofs.Standing.{spends}
-use Rattle.mas_complex.proofs.Values.{booked}
+use Rattle.mas_complex.proofs.Answering.{inr, refl, spends, booked}
 use Rattle.mas_complex.proofs.complex.Complex.spend.Goals as goal
 
 pub invariant_of-self : goal.invariant_of-self

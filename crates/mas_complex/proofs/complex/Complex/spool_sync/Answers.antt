@@ -1,5 +1,4 @@
-use Rattle.mas_complex.proofs.SpoolActs.{beside_sync}
-use Rattle.mas_complex.proofs.Values.{laws_of, left_by}
+use Rattle.mas_complex.proofs.Answering.{beside_sync, laws_of, left_by}
 use Rattle.mas_complex.proofs.complex.Complex.spool_sync.Goals as goal
 
 pub invariant_of-self : goal.invariant_of-self

@@ -6,6 +6,7 @@ use Rattle.std.specs.Coded.{Coded-set, coded_ℕ}
 use Rattle.mas_types.specs.declared.ids.Page.{Page}
 use Rattle.mas_complex.specs.Journals.{kept_all}
 use Rattle.mas_complex.specs.Meaning.{run}
+use Rattle.mas_complex.specs.CallCounts.{pair_of}
 use Rattle.ckpt_pages.specs.Given.{levels_given}
 use Rattle.ckpt_pages.proofs.DecodingLemmas.{one_value}
 use Rattle.member_node.specs.declared.checkpoint.Checkpoint.{Checkpoint}
@@ -54,7 +55,7 @@ loop-complex-preserved g c =
     let l = c.in_ok-lose_read.ensures in
     let e = c.in_ok-read_all-2.ensures in
     let same : c.is_caught_up.new.self ≡ c.loop-complex.self = (c.in_ok-is_caught_up.ensures.refused c.if-not-branch.true).0 in
-    let lost : HasRead P.tells x.pair.first.alive y.pair.first.alive x.pair.second.alive y.pair.second.alive (P.view x.plant) (P.view y.plant)
+    let lost : HasRead P.tells (pair_of x) (pair_of y)
     = read_then P.tells x.pair.first.alive z.pair.first.alive y.pair.first.alive x.pair.second.alive z.pair.second.alive y.pair.second.alive (P.view x.plant) (P.view z.plant) (P.view y.plant) i.acts l.read.acts in
     let spared : Spares c.args.self.now.id.0 false (P.view x.plant) (P.view y.plant)
     = spares_then c.args.self.now.id.0 false (P.view x.plant) (P.view z.plant) (P.view y.plant) i.spares (spares_for c.args.self.now.id.0 0 (P.view z.plant) (P.view y.plant) l.read.spares) in
@@ -128,7 +129,7 @@ returns-in_err-read_all-2-clause-read g c =
     let i = c.loop-complex.invariant in
     let l = c.in_ok-lose_read.ensures in
     let e = c.in_err-read_all-2.ensures in
-    let lost : HasRead P.tells x.pair.first.alive y.pair.first.alive x.pair.second.alive y.pair.second.alive (P.view x.plant) (P.view y.plant)
+    let lost : HasRead P.tells (pair_of x) (pair_of y)
     = read_then P.tells x.pair.first.alive z.pair.first.alive y.pair.first.alive x.pair.second.alive z.pair.second.alive y.pair.second.alive (P.view x.plant) (P.view z.plant) (P.view y.plant) i.acts l.read.acts in
     let spared : Spares c.args.self.now.id.0 false (P.view x.plant) (P.view y.plant)
     = spares_then c.args.self.now.id.0 false (P.view x.plant) (P.view z.plant) (P.view y.plant) i.spares (spares_for c.args.self.now.id.0 0 (P.view z.plant) (P.view y.plant) l.read.spares) in
@@ -252,7 +253,7 @@ returns-clause-acts g c told =
     let up = c.in_ok-is_caught_up.ensures.up c.if-not-branch.false i.behind in
     let e = c.note_pages.ensures.frame in
     rw (ap (λ p. p.first_alive) e, ap (λ p. p.second_alive) e, ap (λ p. p.plant) e)
-    (subst (λ (pages : List Page). TookActs (1 + length (wanted (level_had s.fresh s.checkpoint.level) (levels_given pages))) x.pair.first.alive z.pair.first.alive x.pair.second.alive z.pair.second.alive (P.view x.plant) (P.view z.plant)) (sym up.has) (i.took told))
+    (subst (λ (pages : List Page). TookActs (1 + length (wanted (level_had s.fresh s.checkpoint.level) (levels_given pages))) (pair_of x) (pair_of z)) (sym up.has) (i.took told))
 
 pub returns-clause-own : goal.returns-clause-own
 returns-clause-own g c = (c.in_ok-is_caught_up.ensures.fresh c.if-not-branch.false c.loop-complex.invariant.behind, c.note_pages.ensures.noted)

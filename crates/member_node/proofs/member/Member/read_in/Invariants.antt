@@ -6,6 +6,7 @@ use Rattle.ckpt_pages.specs.Given.{levels_given}
 use Rattle.duplex_pair.specs.Halves.{SomeAlive}
 use Rattle.mas_complex.specs.Journals.{kept_all}
 use Rattle.mas_complex.specs.Meaning.{run}
+use Rattle.mas_complex.specs.CallCounts.{pair_of}
 use Rattle.member_node.specs.Copies.{RestsAt}
 use Rattle.member_node.specs.Reads.{HasRead, StandAt, TookActs, copies_alive}
 use Rattle.member_node.specs.Spares.{Spares}
@@ -45,11 +46,11 @@ invariant-loop-complex g l =
       fresh : l.self.fresh ≡ l.fn.self.fresh;
       as_many : length l.self.room ≡ length l.fn.self.room;
       some : SomeAlive z.pair.first.alive z.pair.second.alive;
-      acts : HasRead P.tells x.pair.first.alive z.pair.first.alive x.pair.second.alive z.pair.second.alive (P.view x.plant) (P.view z.plant);
+      acts : HasRead P.tells (pair_of x) (pair_of z);
       spares : Spares l.fn.self.id.0 false (P.view x.plant) (P.view z.plant);
       spelled : SpellSome l.self.room;
       alike : l.alike ≡ true → l.self.room ≡ l.self.checkpoint.pages;
-      took : P.tells → TookActs (1 + length (wanted (level_had l.fn.self.fresh l.fn.self.checkpoint.level) (levels_given l.self.room))) x.pair.first.alive z.pair.first.alive x.pair.second.alive z.pair.second.alive (P.view x.plant) (P.view z.plant);
+      took : P.tells → TookActs (1 + length (wanted (level_had l.fn.self.fresh l.fn.self.checkpoint.level) (levels_given l.self.room))) (pair_of x) (pair_of z);
       rests1 : RestsAt P.tells z.pair.first.alive z.first (C.count z.pair.first.copy) l.self.room (C.reads (disk_now (P.view z.plant) Ckpt1).bytes);
       rests2 : RestsAt P.tells z.pair.second.alive z.second (C.count z.pair.second.copy) l.self.room (C.reads (disk_now (P.view z.plant) Ckpt2).bytes);
       stand : P.tells → ∥ StandAt (run z.base (kept_all z.journal.batches)) z.level l.self.room ∥₁;

@@ -22,6 +22,7 @@ use Rattle.mas_complex.specs.Crash.{Copy, copy_of}
 use Rattle.mas_complex.specs.Kept.{HaveKept}
 use Rattle.mas_complex.specs.Past.{HavePasts, sight_of, values_of}
 use Rattle.mas_complex.proofs.Pasts.{before_unsure}
+use Rattle.mas_complex.specs.CallCounts.{pair_of}
 use Rattle.member_node.proofs.HeaderLemmas.{own_low}
 use Rattle.member_node.proofs.MirrorLemmas.{mirror_all}
 use Rattle.member_node.proofs.WantedLemmas.{own_unchanged}
@@ -204,7 +205,7 @@ spelled-preserved g c =
     let v = c.as_mut_slice-room.ensures.value in
     let room = c.read_from.new.room in
     let after = room_after c.spelled.self.room c.as_mut_slice-room.result.now room v e.as_many in
-    let lost : HasRead P.tells x.pair.first.alive y.pair.first.alive x.pair.second.alive y.pair.second.alive (P.view x.plant) (P.view y.plant)
+    let lost : HasRead P.tells (pair_of x) (pair_of y)
     = read_then P.tells x.pair.first.alive z.pair.first.alive y.pair.first.alive x.pair.second.alive z.pair.second.alive y.pair.second.alive (P.view x.plant) (P.view z.plant) (P.view y.plant) i.acts l.read.acts in
     let spared : Spares c.args.self.now.id.0 false (P.view x.plant) (P.view y.plant)
     = spares_then c.args.self.now.id.0 false (P.view x.plant) (P.view z.plant) (P.view y.plant) i.spares (spares_for c.args.self.now.id.0 0 (P.view z.plant) (P.view y.plant) l.read.spares) in
@@ -261,7 +262,7 @@ returns-in_err-read_from-clause-read g c =
     let i = c.spelled.invariant in
     let l = c.in_ok-lose_read.ensures in
     let e = c.in_err-read_from.ensures in
-    let lost : HasRead P.tells x.pair.first.alive y.pair.first.alive x.pair.second.alive y.pair.second.alive (P.view x.plant) (P.view y.plant)
+    let lost : HasRead P.tells (pair_of x) (pair_of y)
     = read_then P.tells x.pair.first.alive z.pair.first.alive y.pair.first.alive x.pair.second.alive z.pair.second.alive y.pair.second.alive (P.view x.plant) (P.view z.plant) (P.view y.plant) i.acts l.read.acts in
     let spared : Spares c.args.self.now.id.0 false (P.view x.plant) (P.view y.plant)
     = spares_then c.args.self.now.id.0 false (P.view x.plant) (P.view z.plant) (P.view y.plant) i.spares (spares_for c.args.self.now.id.0 0 (P.view z.plant) (P.view y.plant) l.read.spares) in

@@ -5,6 +5,7 @@ use Rattle.spool_plant.specs.View.{disk_now}
 use Rattle.duplex_pair.specs.Halves.{SomeAlive}
 use Rattle.mas_complex.specs.Journals.{kept_all}
 use Rattle.mas_complex.specs.Meaning.{run}
+use Rattle.mas_complex.specs.CallCounts.{pair_of}
 use Rattle.member_node.specs.Mirrors.{IsMirrorBut}
 use Rattle.member_node.specs.Reads.{HasRead, IsReadWhole, TookActs, copies_alive}
 use Rattle.member_node.specs.Spares.{Spares}
@@ -44,13 +45,13 @@ invariant-spelled g l =
       behind : l.self.behind ≡ false;
       fresh : l.self.fresh ≡ l.fn.self.fresh;
       count : P.tells → l.count ≡ length (wanted (level_had l.fn.self.fresh l.fn.self.checkpoint.level) (levels_given l.self.room));
-      took : P.tells → TookActs l.count x.pair.first.alive z.pair.first.alive x.pair.second.alive z.pair.second.alive (P.view x.plant) (P.view z.plant);
+      took : P.tells → TookActs l.count (pair_of x) (pair_of z);
       alike : l.alike ≡ true → l.self.room ≡ l.fn.self.checkpoint.pages;
       mirrored : IsMirrorBut l.differ.pages l.self.room l.fn.self.checkpoint.pages;
       all : l.self.differ.pages ≡ replicate pages_most true;
       as_many : length l.self.room ≡ length l.fn.self.room;
       some : SomeAlive z.pair.first.alive z.pair.second.alive;
-      acts : HasRead P.tells x.pair.first.alive z.pair.first.alive x.pair.second.alive z.pair.second.alive (P.view x.plant) (P.view z.plant);
+      acts : HasRead P.tells (pair_of x) (pair_of z);
       spares : Spares l.fn.self.id.0 false (P.view x.plant) (P.view z.plant);
-      whole : P.tells → ∥ IsReadWhole (run z.base (kept_all z.journal.batches)) z.level z.pair.first.alive z.pair.second.alive (C.reads (disk_now (P.view z.plant) Ckpt1).bytes) (C.reads (disk_now (P.view z.plant) Ckpt2).bytes) l.self.room ∥₁;
+      whole : P.tells → ∥ IsReadWhole (run z.base (kept_all z.journal.batches)) z.level (z.pair.first.alive, C.reads (disk_now (P.view z.plant) Ckpt1).bytes) (z.pair.second.alive, C.reads (disk_now (P.view z.plant) Ckpt2).bytes) l.self.room ∥₁;
     }

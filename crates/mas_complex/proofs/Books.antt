@@ -1,15 +1,68 @@
--- What a shared value keeps of its batches on any plant.
-use Rattle.mas_complex.proofs.Basics.{stays_true}
-use Rattle.mas_complex.proofs.Names.{◌≡◌, ◌≢◌, ℕ, ◌≤◌, ◌||◌, ◌==◌, Bool, true, false, if◌then◌else◌, List, [], ◌∷◌, ◌++◌, length, Option, Some, None, refl, subst, sym, ◌∙◌, ap, is_some, not, true≢false, eq-eqb, MemberId, Batch, Entry, Kept, Dropped, Queue, nobody, is_somebody, same_member, is_flying, Book, IsMember, is_stopped, is_holder, granted, ticked, try_refusal, after_try, after_free, after_stop, seize_refusal, after_seize, after_spend, is_dormant, wakes, same_member_is, test_cases, View, Act, ActHalted as Halted, AreSettled, EndsInPlace, fated, with_last, without_last, Copy, Keeps, Setting, IsOperatorAway, KeepsPaper, book_by, AreReplied, IsFatedBy, Dev}
+-- Nobody who is stopped in the book is up after a call of it.
+use Rattle.mas_complex.proofs.Names.{◌≡◌, ◌≢◌, ℕ, ◌-◌, ◌≤◌, ◌<◌, ◌==◌, ◌||◌, Bool, true, false, if◌then◌else◌, length, subst, sym, ◌∙◌, ap, arith, is_some, Some, slice_index_or, get_or-set_same, get_or-set_other, MemberId, nobody, Book, IsMember, beginner, standing, is_stopped, is_holder, left_of, with_standing, with_holder, granted, ticked, try_refusal, after_try, noted, after_free, after_stop, seize_refusal, after_seize, after_spend, test_cases, List, [], ◌∷◌, Option, None, refl, not, true≢false, eq-eqb, Batch, Entry, Kept, Dropped, is_somebody, same_member, is_flying, is_dormant, wakes, same_member_is, Act, ActHalted as Halted, AreSettled, fated, with_last, without_last, IsOperatorAway, book_by, IsFatedBy, past_batches}
+use Rattle.mas_complex.proofs.Basics.{number_is, apart_is, stays_true}
+use Rattle.mas_complex.proofs.Batches.{as_many}
+use Rattle.lock_cycle.specs.declared.standings.Standing.{Standing}
 use Rattle.lock_cycle.specs.declared.answers.LockNo.{LockNo}
-use Rattle.lock_cycle.specs.declared.answers.LockNo.TheVariants as lock
 use Rattle.lock_cycle.specs.declared.answers.SeizeNo.{SeizeNo}
+use Rattle.std.proofs.lemmas.Bool.{not-false as is_not}
+use Rattle.lock_cycle.specs.declared.answers.LockNo.TheVariants as lock
 use Rattle.lock_cycle.specs.declared.answers.SeizeNo.TheVariants as seized
-use Rattle.mas_complex.proofs.BatchEnds.{as_many, without_last-append}
-use Rattle.mas_complex.proofs.Moves.{unplace_keeps}
-use Rattle.mas_complex.proofs.PaperBooks.{freed_up, granted_up, seized_up, spent_up, stopped_up, tried_up}
-use Rattle.mas_complex.proofs.Papers.{unplace_on_paper}
-use Rattle.mas_complex.proofs.Replied.{and_none, ended_replied}
+
+module _ (b : Book) (m : MemberId) (s : Standing) (inside : IsMember b m) where
+  at_own : (k : MemberId) → k.0 - 1 ≡ m.0 - 1 → standing (with_standing b m s) k ≡ s
+  at_own k same = rw same (get_or-set_same b.members (m.0 - 1) s (beginner 0) (omega (arith, inside.0, inside.1)))
+
+  at_other : (k : MemberId) → k.0 - 1 ≢ m.0 - 1 → standing (with_standing b m s) k ≡ standing b k
+  at_other k apart = get_or-set_other b.members (m.0 - 1) (k.0 - 1) s (beginner 0) apart
+
+  pub standing_up : (s.stopped ≡ false → is_stopped b m ≡ false) → (k : MemberId) → is_stopped (with_standing b m s) k ≡ false → is_stopped b k ≡ false
+  standing_up own k up =
+      test_cases ((k.0 - 1) == (m.0 - 1)) (is_stopped b k ≡ false)
+      (λ e. let same : k.0 - 1 ≡ m.0 - 1 = number_is (k.0 - 1) (m.0 - 1) e in
+      let mine : is_stopped b m ≡ false = own (sym (ap (λ (x : Standing). x.stopped) (at_own k same)) ∙ up) in
+      subst (λ (n : ℕ). (slice_index_or b.members n (beginner 0)).stopped ≡ false) (sym same) mine)
+      (λ e. sym (ap (λ (x : Standing). x.stopped) (at_other k (λ same. apart_is (k.0 - 1) (m.0 - 1) e same))) ∙ up)
+
+pub granted_up : (b : Book) (m : MemberId) → IsMember b m → (k : MemberId) → is_stopped (granted b m) k ≡ false → is_stopped b k ≡ false
+granted_up b m inside k up = standing_up (with_holder b m) m (record (standing b m) { left = b.hold }) inside (λ u. u) k up
+
+pub tried_up : (b : Book) (m : MemberId) (inner : Bool) → IsMember b m → (k : MemberId) → is_stopped (after_try b m inner) k ≡ false → is_stopped b k ≡ false
+tried_up b m inner inside k up =
+    test_cases (is_stopped b m || is_holder b m) (is_stopped b k ≡ false)
+    (λ e. let w = rw e at up in w)
+    (λ e. test_cases (is_some (try_refusal b m inner)) (is_stopped b k ≡ false)
+    (λ r. let w = rw (e, r) at up in w)
+    (λ r. granted_up (ticked b inner) m inside k (let w = rw (e, r) at up in w)))
+
+pub freed_up : (b : Book) (m : MemberId) (inner : Bool) → IsMember b m → (k : MemberId) → is_stopped (after_free b m inner) k ≡ false → is_stopped b k ≡ false
+freed_up b m inner inside k up =
+    test_cases (is_holder b m) (is_stopped b k ≡ false)
+    (λ e. by inner (let w = rw e at up in w))
+    (λ e. let w = rw e at up in w)
+  where
+    by : (i : Bool) → is_stopped (if i then with_holder b nobody else with_holder (noted b m) nobody) k ≡ false → is_stopped b k ≡ false
+    by true u = u
+    by false u = standing_up b m (record (standing b m) { freed = Some b.tick }) inside (λ w. w) k u
+
+pub stopped_up : (b : Book) (m : MemberId) → IsMember b m → (k : MemberId) → is_stopped (after_stop b m) k ≡ false → (k.0 ≢ m.0) × (is_stopped b k ≡ false)
+stopped_up b m inside k up = (apart, standing_up b m (record (standing b m) { stopped = true }) inside (λ e. absurd (cc)) k up)
+  where
+    apart : k.0 ≡ m.0 → ⊥
+    apart same =
+        let at : standing (after_stop b m) k ≡ record (standing b m) { stopped = true } = at_own b m (record (standing b m) { stopped = true }) inside k (ap (λ (n : ℕ). n - 1) same) in
+        true≢false (sym (ap (λ (x : Standing). x.stopped) at) ∙ up)
+
+pub seized_up : (b : Book) (m of : MemberId) → IsMember b m → (k : MemberId) → is_stopped (after_seize b m of) k ≡ false → is_stopped b k ≡ false
+seized_up b m of inside k up =
+    test_cases (is_some (seize_refusal b of)) (is_stopped b k ≡ false)
+    (λ e. let w = rw e at up in w)
+    (λ e. granted_up b m inside k (let w = rw e at up in w))
+
+pub spent_up : (b : Book) (m : MemberId) (commands : ℕ) → IsMember b m → (k : MemberId) → is_stopped (after_spend b m commands) k ≡ false → is_stopped b k ≡ false
+spent_up b m commands inside k up = standing_up b m (record (standing b m) { left = left_of b m - commands }) inside (λ u. u) k up
+
+-- What a shared value keeps of its batches on any plant.
 
 -- EACH BATCH HAS ITS FATE
 
@@ -21,6 +74,10 @@ settled_with_last b (a ∷ next ∷ js) now are fate first last = (are.0, are.1,
 pub settled_without_last : (js : List Batch) (now : ℕ) → AreSettled js now → AreSettled (without_last js) now
 settled_without_last (a ∷ next ∷ js) now are = (are.0, are.1, are.2, settled_without_last (next ∷ js) now are.3)
 settled_without_last _ now are = tt
+
+pub settled_past : (placed : Bool) (js : List Batch) (now : ℕ) → AreSettled js now → AreSettled (past_batches placed js) now
+settled_past true js now are = settled_without_last js now are
+settled_past false js now are = are
 
 -- a batch in flight that gets its fate has its place already
 pub as_many_fated : (found reached now : ℕ) (c : Option Batch) (was is : List Batch) → IsFatedBy found reached now c was is → length is ≡ length was
@@ -34,10 +91,7 @@ abbrev pub IsOwned : Option Batch → Book → Type 0
 IsOwned c book = (batch : Batch) → c ≡ Some batch → batch.by ≢ book.holder → is_stopped book batch.by ≡ true
 
 pub owned_none : (book : Book) → IsOwned None book
-owned_none book batch is other = absurd (clash is)
-  where
-    clash : None ≡ Some batch → ⊥
-    clash e = cc
+owned_none book batch is other = absurd (cc)
 
 -- the member of a batch, if there is one
 abbrev member_of : MemberId → Option Batch → MemberId
@@ -67,26 +121,16 @@ module _ (b : Book) (m : MemberId) (c : Option Batch) (inside : IsMember b m) (o
   owned_tried : (inner : Bool) (reserved : Option (List Entry)) → IsOperatorAway b reserved c → IsOwned c (after_try b m inner)
   owned_tried inner reserved away =
       test_cases (is_stopped b m || is_holder b m) (IsOwned c (after_try b m inner))
-      (λ e. subst (IsOwned c) (sym (as_before e)) own)
+      (λ e. rw e own)
       (λ e. test_cases (is_some (try_refusal b m inner)) (IsOwned c (after_try b m inner))
-      (λ r. subst (IsOwned c) (sym (refused e r)) (owned_stays b (ticked b inner) c refl (λ k up. up) own))
+      (λ r. rw (e, r) (owned_stays b (ticked b inner) c refl (λ k up. up) own))
       (λ r. subst (λ (x : Option Batch). IsOwned x (after_try b m inner)) (sym (away (nobody_holds e r)).1) (owned_none (after_try b m inner))))
     where
-      as_before : (is_stopped b m || is_holder b m) ≡ true → after_try b m inner ≡ b
-      as_before e = rw e refl
-
-      refused : (is_stopped b m || is_holder b m) ≡ false → is_some (try_refusal b m inner) ≡ true → after_try b m inner ≡ ticked b inner
-      refused e r = rw (e, r) refl
-
       not_busy : (stopped holds busy : Bool) (down held rest : Option LockNo) → (stopped || holds) ≡ false → is_some held ≡ true → is_some (if stopped then down else if holds then None else if busy then held else rest) ≡ false → busy ≡ false
       not_busy true holds busy down held rest e some none = absurd (true≢false e)
       not_busy false true busy down held rest e some none = absurd (true≢false e)
       not_busy false false true down held rest e some none = absurd (true≢false (sym some ∙ none))
       not_busy false false false down held rest e some none = refl
-
-      is_not : (x : Bool) → not x ≡ false → x ≡ true
-      is_not true e = refl
-      is_not false e = absurd (true≢false e)
 
       nobody_holds : (is_stopped b m || is_holder b m) ≡ false → is_some (try_refusal b m inner) ≡ false → b.holder ≡ nobody
       nobody_holds e r =
@@ -98,24 +142,15 @@ module _ (b : Book) (m : MemberId) (c : Option Batch) (inside : IsMember b m) (o
   owned_freed inner none =
       test_cases (is_holder b m) (IsOwned c (after_free b m inner))
       (λ e. subst (λ (x : Option Batch). IsOwned x (after_free b m inner)) (sym (none e)) (owned_none (after_free b m inner)))
-      (λ e. subst (IsOwned c) (sym (as_before e)) own)
-    where
-      as_before : is_holder b m ≡ false → after_free b m inner ≡ b
-      as_before e = rw e refl
+      (λ e. rw e own)
 
   -- the lock is taken over from a member that is stopped
   owned_seized : (of : MemberId) → IsOwned c (after_seize b m of)
   owned_seized of =
       test_cases (is_some (seize_refusal b of)) (IsOwned c (after_seize b m of))
-      (λ r. subst (IsOwned c) (sym (refused r)) own)
-      (λ r. subst (IsOwned c) (sym (taken r)) (λ batch is other. stays_true (is_stopped (granted b m) batch.by) (is_stopped b batch.by) (granted_up b m inside batch.by) (stopped r batch is)))
+      (λ r. rw r own)
+      (λ r. rw r (λ batch is other. stays_true (is_stopped (granted b m) batch.by) (is_stopped b batch.by) (granted_up b m inside batch.by) (stopped r batch is)))
     where
-      refused : is_some (seize_refusal b of) ≡ true → after_seize b m of ≡ b
-      refused r = rw r refl
-
-      taken : is_some (seize_refusal b of) ≡ false → after_seize b m of ≡ granted b m
-      taken r = rw r refl
-
       of_whom : (is_down holds : Bool) (up other : Option SeizeNo) → is_some up ≡ true → is_some other ≡ true → is_some (if not is_down then up else if holds then None else other) ≡ false → (is_down ≡ true) × (holds ≡ true)
       of_whom true true up other one two r = (refl, refl)
       of_whom true false up other one two r = absurd (true≢false (sym two ∙ r))
@@ -152,22 +187,3 @@ module _ (b : Book) (m : MemberId) (c : Option Batch) (inside : IsMember b m) (o
 
   pub seizes : (of : MemberId) → is ≡ after_seize b m of → Booked c b is
   seizes of same = booked (after_seize b m of) same (seized_up b m of inside) (owned_seized b m c inside own of)
-
--- THE PLACE OF A BATCH TO COME GOES
-
-module _ (J : List Batch) (p : EndsInPlace J) where
-  without_it : without_last J ≡ p.before
-  without_it = ap without_last p.is ∙ without_last-append p.before p.place
-
-  pub unplaced_keeps : (S : Setting) (c : Option Batch) (reached : ℕ) (copies : Dev → Copy) (v : View) → Keeps S J c reached copies v → Keeps S (without_last J) c reached copies v
-  unplaced_keeps S c reached copies v keeps =
-      subst (λ (l : List Batch). Keeps S l c reached copies v) (sym without_it)
-      (unplace_keeps S p.before p.place c reached copies v p.free (subst (λ (l : List Batch). Keeps S l c reached copies v) p.is keeps))
-
-  pub unplaced_on_paper : (base : Queue) (since : ℕ) (c : Option Batch) (printed : List ℕ) (book : Book) (v : View) → KeepsPaper base since J c printed book v → KeepsPaper base since (without_last J) c printed book v
-  unplaced_on_paper base since c printed book v on =
-      subst (λ (l : List Batch). KeepsPaper base since l c printed book v) (sym without_it)
-      (unplace_on_paper base since p.before p.place c printed book v p.free (subst (λ (l : List Batch). KeepsPaper base since l c printed book v) p.is on))
-
-  pub unplaced_replied : (base : Queue) → AreReplied base (J ++ []) → AreReplied base (without_last J ++ [])
-  unplaced_replied base are = and_none base (without_last J) (ended_replied base true None J (λ some. refl) p are)
