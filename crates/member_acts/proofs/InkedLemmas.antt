@@ -1,9 +1,7 @@
 -- Lines of an output that are printed one after another.
-use Rattle.member_acts.proofs.Names.{◌≡◌, ℕ, ◌+◌, ◌≤◌, Bool, true, false, List, [], ◌∷◌, length, None, Some, Ok, Result, take, ◌≢◌, ◌⊎◌, inl, inr, ◌∙◌, zero, suc, ◌-◌, ◌<◌, ◌++◌, map, append-nil, append_assoc, Err, slice_get, ap, refl, subst, sym, arith, counts_of, book_by, printed_by, reserved_by, lines_upto, HasInked, Inked, IsCountOf, IsInkedTo, inked_of, lines_from, get_or-set_other, JobNo, MemberId, OutNo, Act, Done, Failed, ActHalted as Halted, Ghosts as PlantGhosts, Prints, Line, View, paper_now, whole, Parts, NodeNo, NoMemory, Halted as HaltedNo, printed_in, Acts, Closing, Printer, Read, SparesBut, beside_none, beside_on, beside_print, failed_wider, goes_none, is_printer_lost, lines_lost, lines_printed, lines_read, none_lost, not, print_failed, printed_end, sparing_beside, sparing_done, sparing_halted, sparing_none, sparing_then, unprinted, wires_none, wires_then, Batch, Option, Queue, entries_in, kept_all, output_at, run}
-use Rattle.paper_laws.specs.Paper.{busy_in}
+use Rattle.member_acts.proofs.Names.{◌≡◌, ℕ, ◌+◌, ◌≤◌, Bool, true, false, List, [], ◌∷◌, length, None, Some, Ok, Result, take, ◌≢◌, ◌⊎◌, inl, inr, ◌∙◌, zero, suc, ◌-◌, ◌<◌, ◌++◌, map, append-nil, append_assoc, Err, slice_get, ap, refl, subst, sym, arith, counts_of, book_by, printed_by, reserved_by, lines_upto, HasInked, Inked, IsCountOf, inked_of, lines_from, get_or-set_other, JobNo, MemberId, OutNo, Act, Done, Failed, ActHalted as Halted, Ghosts as PlantGhosts, Prints, Line, View, paper_now, whole, Parts, NodeNo, NoMemory, Halted as HaltedNo, printed_in, Acts, Printer, Read, SparesBut, beside_none, beside_on, beside_print, failed_wider, goes_none, none_lost, not, print_failed, sparing_beside, sparing_done, sparing_halted, sparing_none, sparing_then, wires_none, wires_then, Batch, Option, Queue, entries_in, kept_all}
 use Rattle.paper_laws.specs.Next.{MayPrint}
 use Rattle.member_acts.specs.Prints.{HasActedBeside, HasPrinted, Upto, MayPrintTo}
-use Rattle.mas_types.specs.declared.answers.Closing.TheVariants as closing
 use Rattle.job_outcome.specs.declared.outcomes.Read.TheVariants as read
 use Rattle.member_work.specs.Inked.{IsInkedBy}
 use Rattle.mas_types.specs.Printed.{printed_line}
@@ -61,7 +59,6 @@ module _ {P C : Type 0} (plants : PlantGhosts P) (by : MemberId) (lines : List (
     pub is : paper_now (plants.view y.plant) by.0 ≡ paper_now (plants.view x.plant) by.0
         ++ map whole (take (counts_of y.printed by - counts_of x.printed by) lines)
     pub others : (m : ℕ) → m ≢ by.0 → paper_now (plants.view y.plant) m ≡ paper_now (plants.view x.plant) m
-    pub other_counts : (m : MemberId) → m.0 ≢ by.0 → counts_of y.printed m ≡ counts_of x.printed m
 
   -- where nothing was printed
   pub unprinted_yet : (x y : Parts P C) → ((m : ℕ) → paper_now (v y) m ≡ paper_now (v x) m) → y.printed ≡ x.printed → HavePrinted x y
@@ -71,19 +68,17 @@ module _ {P C : Type 0} (plants : PlantGhosts P) (by : MemberId) (lines : List (
       record {
         is = papers by.0 ∙ sym (append-nil (paper x)) ∙ ap (λ (l : List Line). paper x ++ l) (sym nothing);
         others = λ m other. papers m;
-        other_counts = λ m other. ap (λ (l : List ℕ). counts_of l m) same;
       }
 
   pub printed_none : (x : Parts P C) → HavePrinted x x
   printed_none x = unprinted_yet x x (λ m. refl) refl
 
   -- one more of them
-  pub printed_one : (x y z : Parts P C) (line : List ℕ) → HavePrinted x y → count x ≤ count y → count z ≡ count y + 1 → z.printed ≡ printed_by by Done y.printed → Prints by.0 line (v y) (v z) Done
+  pub printed_one : (x y z : Parts P C) (line : List ℕ) → HavePrinted x y → count x ≤ count y → count z ≡ count y + 1 → Prints by.0 line (v y) (v z) Done
       → count y - count x < length lines → slice_get lines (count y - count x) ≡ Some line → HavePrinted x z
-  printed_one x y z line so more one counted prints less here = record {
+  printed_one x y z line so more one prints less here = record {
     is = said_next lines (count y - count x) (count z - count x) line (paper x) (paper y) (paper z) less here (omega (arith, more, one)) so.is prints.paper;
     others = λ m other. prints.others m other ∙ so.others m other;
-    other_counts = λ m other. ap (λ (l : List ℕ). counts_of l m) counted ∙ get_or-set_other y.printed by.0 m.0 (count y + 1) 0 other ∙ so.other_counts m other;
   }
 
   -- one at which the printer failed doesn't stand there
@@ -91,53 +86,36 @@ module _ {P C : Type 0} (plants : PlantGhosts P) (by : MemberId) (lines : List (
   printed_failed x y z line so same prints = record {
     is = prints.paper ∙ so.is ∙ ap (λ (l : List ℕ). paper x ++ map whole (take (counts_of l by - count x) lines)) (sym same);
     others = λ m other. prints.others m other ∙ so.others m other;
-    other_counts = λ m other. ap (λ (l : List ℕ). counts_of l m) same ∙ so.other_counts m other;
   }
 
-  module _ {T : Type 0} (lost : T → Bool) (x y : Parts P C) (so : HavePrinted x y) (more : count x ≤ count y) where
+  module _ (x y : Parts P C) (so : HavePrinted x y) (more : count x ≤ count y) where
     abbrev far : Inked
     far = record { lines = count y - count x; rest = None }
 
     stands : paper y ≡ paper x ++ inked_of far lines
     stands = so.is ∙ ap (λ (l : List Line). paper x ++ l) (sym (append-nil (map whole (take (count y - count x) lines))))
 
-    inked_by : (r : Result T NodeNo) → IsInkedBy lost r (length lines) far → IsCountOf r (count x + (count y - count x)) (count y) → HasInked plants lost by lines x y r
-    inked_by r by_answer counted = record { inked = far; paper = stands; others = so.others; by_answer = by_answer; counted = counted; other_counts = so.other_counts }
+    -- by the answer: all of them, or those before one that couldn't be printed
+    pub inked_by : (r : Result Bool NodeNo) → IsInkedBy r (length lines) far → IsCountOf r (count x + (count y - count x)) (count y) → HasInked plants by lines x y r
+    inked_by r by_answer counted = record { inked = far; paper = stands; others = so.others; by_answer = by_answer; counted = counted }
 
-    -- all of them
-    pub inked_all : (t : T) → lost t ≡ false → count y - count x ≡ length lines → HasInked plants lost by lines x y (Ok t)
-    inked_all t is all = inked_by (Ok t) (subst (λ (b : Bool). IsInkedTo b (length lines) far) (sym is) (ap (λ (k : ℕ). record { lines = k; rest = None }) all)) (omega (arith, more))
-
-    -- those before the one at which the printer failed
-    pub inked_lost : (t : T) → lost t ≡ true → count y - count x < length lines → HasInked plants lost by lines x y (Ok t)
-    inked_lost t is less = inked_by (Ok t) (subst (λ (b : Bool). IsInkedTo b (length lines) far) (sym is) (less, refl)) (omega (arith, more))
-
-    -- memory wanted
-    pub inked_wanting : count y - count x ≤ length lines → HasInked plants lost by lines x y (Err NoMemory)
-    inked_wanting few = inked_by (Err NoMemory) (few, refl) (omega (arith, more))
-
-    -- the member was stopped before the next one
-    pub inked_stopped : count y - count x ≤ length lines → HasInked plants lost by lines x y (Err HaltedNo)
-    inked_stopped few = inked_by (Err HaltedNo) (few, inl refl) (omega (arith, more), omega (arith, more))
-
-    -- at the next one, which stands there whole, torn, or not at all
+    -- stopped at the next one, which stands there whole, torn, or not at all
     pub inked_halted : (z : Parts P C) (line : List ℕ) → z.printed ≡ y.printed → Prints by.0 line (v y) (v z) Halted → count y - count x < length lines → slice_get lines (count y - count x) ≡ Some line
-        → HasInked plants lost by lines x z (Err HaltedNo)
+        → HasInked plants by lines x z (Err HaltedNo)
     inked_halted z line same prints less here = by_paper prints.paper where
       counts : count z ≡ count y
       counts = ap (λ (l : List ℕ). counts_of l by) same
 
-      left : (k : Inked) → count y - count x ≤ k.lines → k.lines ≤ count y - count x + 1 → k.lines ≤ length lines → ((k.rest ≡ None) ⊎ (k.lines < length lines)) → paper z ≡ paper x ++ inked_of k lines → HasInked plants lost by lines x z (Err HaltedNo)
+      left : (k : Inked) → count y - count x ≤ k.lines → k.lines ≤ count y - count x + 1 → k.lines ≤ length lines → ((k.rest ≡ None) ⊎ (k.lines < length lines)) → paper z ≡ paper x ++ inked_of k lines → HasInked plants by lines x z (Err HaltedNo)
       left k from upto few rest is = record {
         inked = k;
         paper = is;
         others = λ m other. prints.others m other ∙ so.others m other;
         by_answer = (few, rest);
         counted = (omega (arith, more, counts, from), omega (arith, more, counts, upto));
-        other_counts = λ m other. ap (λ (l : List ℕ). counts_of l m) same ∙ so.other_counts m other;
       }
 
-      by_paper : ((paper z ≡ paper y) ⊎ ((text : List ℕ) × (paper z ≡ paper y ++ torn text ∷ [])) ⊎ (paper z ≡ paper y ++ whole line ∷ [])) → HasInked plants lost by lines x z (Err HaltedNo)
+      by_paper : ((paper z ≡ paper y) ⊎ ((text : List ℕ) × (paper z ≡ paper y ++ torn text ∷ [])) ⊎ (paper z ≡ paper y ++ whole line ∷ [])) → HasInked plants by lines x z (Err HaltedNo)
       by_paper (inl none) = left far (omega arith) (omega arith) (omega (arith, less)) (inl refl) (none ∙ stands)
       by_paper (inr (inl part)) = left (record { lines = count y - count x; rest = Some part.0 }) (omega arith) (omega arith) (omega (arith, less)) (inr less)
           (part.1 ∙ ap (λ (l : List Line). l ++ torn part.0 ∷ []) so.is ∙ append_assoc (paper x) (map whole (take (count y - count x) lines)) (torn part.0 ∷ []))
@@ -147,16 +125,15 @@ module _ {P C : Type 0} (plants : PlantGhosts P) (by : MemberId) (lines : List (
 
 -- CALLS ONE AFTER ANOTHER
 
-module _ {P C T : Type 0} (plants : PlantGhosts P) (lost : T → Bool) (by : MemberId) (lines : List (List ℕ)) where
+module _ {P C : Type 0} (plants : PlantGhosts P) (by : MemberId) (lines : List (List ℕ)) where
   -- nothing was printed before
-  pub inked_after : (x y z : Parts P C) (r : Result T NodeNo) → ((m : ℕ) → paper_now (plants.view y.plant) m ≡ paper_now (plants.view x.plant) m) → y.printed ≡ x.printed → HasInked plants lost by lines y z r → HasInked plants lost by lines x z r
+  pub inked_after : (x y z : Parts P C) (r : Result Bool NodeNo) → ((m : ℕ) → paper_now (plants.view y.plant) m ≡ paper_now (plants.view x.plant) m) → y.printed ≡ x.printed → HasInked plants by lines y z r → HasInked plants by lines x z r
   inked_after x y z r papers same k = record {
     inked = k.inked;
     paper = k.paper ∙ ap (λ (l : List Line). l ++ inked_of k.inked lines) (papers by.0);
     others = λ m other. k.others m other ∙ papers m;
     by_answer = k.by_answer;
     counted = subst (λ (l : List ℕ). IsCountOf r (counts_of l by + k.inked.lines) (counts_of z.printed by)) same k.counted;
-    other_counts = λ m other. k.other_counts m other ∙ ap (λ (l : List ℕ). counts_of l m) same;
   }
 
 -- THE REST of the shared value, after one line more
@@ -176,13 +153,11 @@ may_print base batches current m u printed before lines bytes may counted small 
     busy = may.busy;
     lines = lines;
     text = may.text;
-    is = is ∙ ap (λ (k : ℕ). printed_line u.output.job u.output.index (k + 1) lines) (sym counted ∙ ap (λ (k : ℕ). k + printed) (sym may.mark_is)) ∙ ap (λ (k : JobNo). printed_line k u.output.index (may.output.mark + printed + 1) lines) (sym may.job)
-        ∙ ap (λ (k : OutNo). printed_line may.output.job k (may.output.mark + printed + 1) lines) (sym may.index);
+    is = rw (may.job, may.index, may.mark_is, counted) is;
     below = let same = may.mark_is in let upto = may.upto in omega (arith, same, upto, counted, small);
     limit = let same = may.mark_is in let limit = may.limit in omega (arith, same, limit, counted, small);
   };
-  still = subst (λ (k : JobNo). busy_in (output_at (run base (kept_all batches ++ entries_in current)) k may.output.index) m ≡ true) (sym may.job)
-      (subst (λ (k : OutNo). busy_in (output_at (run base (kept_all batches ++ entries_in current)) u.output.job k) m ≡ true) (sym may.index) may.still);
+  still = rw (may.job, may.index) may.still;
 }
 
 -- WHAT IS LEFT ALONE
@@ -234,21 +209,21 @@ module _ {P C : Type 0} (plants : PlantGhosts P) (by : MemberId) (u : Upto) (tex
     lines_wanting small = record {
       frame = have.frame;
       beside = have.beside;
-      inks = λ told. let less = next_less u.output.job u.output.index text u.output.mark u.last (counts_of x.printed by) (counts_of y.printed by) before have.more (have.next small) small in inked_wanting plants by its is_printer_lost x y (have.so told) have.more (omega (arith, less));
-      printed = tt;
+      inks = λ told. let less = next_less u.output.job u.output.index text u.output.mark u.last (counts_of x.printed by) (counts_of y.printed by) before have.more (have.next small) small in inked_by plants by its x y (have.so told) have.more (Err NoMemory) (omega (arith, less), refl) (omega (arith, have.more));
+      failed = tt;
       counted = tt;
       cause = have.spares;
       lines = λ n. refl;
     }
 
     -- all are printed
-    pub lines_done : u.last ≤ before → HasPrinted plants x y by u (read.Lines text) (Ok None)
+    pub lines_done : u.last ≤ before → HasPrinted plants x y by u (read.Lines text) (Ok false)
     lines_done end = record {
       frame = have.frame;
       beside = have.beside;
-      inks = λ told. inked_all plants by its is_printer_lost x y (have.so told) have.more None refl
-          (all_from u.output.job u.output.index text u.output.mark u.last (counts_of x.printed by) (counts_of y.printed by) have.more have.most (omega (arith, end, have.upto)));
-      printed = lines_printed by text (seen x) (seen y);
+      inks = λ told. inked_by plants by its x y (have.so told) have.more (Ok false)
+          (ap (λ (k : ℕ). record { lines = k; rest = None }) (all_from u.output.job u.output.index text u.output.mark u.last (counts_of x.printed by) (counts_of y.printed by) have.more have.most (omega (arith, end, have.upto)))) (omega (arith, have.more));
+      failed = λ is. absurd (cc);
       counted = λ is. omega (arith, end, have.upto);
       cause = have.spares;
       lines = tt;
@@ -280,7 +255,6 @@ module _ {P C : Type 0} (plants : PlantGhosts P) (by : MemberId) (u : Upto) (tex
       pub lines_more : Leaves Done → Acts by.0 (Printer by) (seen y) (seen z) Done → (plants.tells → Prints by.0 line (seen y) (seen z) Done) → counts_of z.printed by ≡ counts_of y.printed by + 1 → HaveLines (before + 1) z
       lines_more frame acts content one =
           let same = have.next small in
-          let counts = counts_are Done frame acts content in
           record {
             frame = one_behind by x z y Done have.frame frame;
             beside = beside Done frame acts content;
@@ -288,20 +262,20 @@ module _ {P C : Type 0} (plants : PlantGhosts P) (by : MemberId) (u : Upto) (tex
             upto = omega (arith, same, one);
             more = omega (arith, have.more, one);
             most = λ less. omega (arith, same, one, small);
-            so = λ told. printed_one plants by its x y z line (have.so told) have.more one counts (content told) less here;
+            so = λ told. printed_one plants by its x y z line (have.so told) have.more one (content told) less here;
             next = λ less. omega (arith, same, one);
           }
 
       -- the printer failed at it
-      pub lines_failed : Leaves Failed → Acts by.0 (Printer by) (seen y) (seen z) Failed → (plants.tells → Prints by.0 line (seen y) (seen z) Failed) → HasPrinted plants x z by u (read.Lines text) (Ok (Some closing.PrinterLost))
+      pub lines_failed : Leaves Failed → Acts by.0 (Printer by) (seen y) (seen z) Failed → (plants.tells → Prints by.0 line (seen y) (seen z) Failed) → HasPrinted plants x z by u (read.Lines text) (Ok true)
       lines_failed frame acts content =
           let counts = counts_are Failed frame acts content in
           let as_many : counts_of z.printed by ≡ counts_of y.printed by = ap (λ (l : List ℕ). counts_of l by) counts in
           record {
             frame = one_behind by x z y Failed have.frame frame;
             beside = beside Failed frame acts content;
-            inks = λ told. inked_lost plants by its is_printer_lost x z (printed_failed plants by its x y z line (have.so told) counts (content told)) (omega (arith, have.more, as_many)) (Some closing.PrinterLost) refl (omega (arith, less, as_many));
-            printed = lines_lost by text (seen x) (seen z) (failed_wider by (seen x) (seen y) (seen z) (seen z) have.beside.acts.goes (goes_none (seen z)) (print_failed by (seen y) (seen z) Failed refl acts));
+            inks = λ told. let more : counts_of x.printed by ≤ counts_of z.printed by = omega (arith, have.more, as_many) in inked_by plants by its x z (printed_failed plants by its x y z line (have.so told) counts (content told)) more (Ok true) (omega (arith, less, as_many), refl) (omega (arith, more));
+            failed = λ is. failed_wider by (seen x) (seen y) (seen z) (seen z) have.beside.acts.goes (goes_none (seen z)) (print_failed by (seen y) (seen z) Failed refl acts);
             counted = λ is. absurd (cc);
             cause = sparing_then by.0 false none_lost (seen x) (seen y) (seen z) have.spares (sparing_beside by.0 (Printer by) (seen y) (seen z) (λ n same. absurd (cc)) acts);
             lines = tt;
@@ -314,24 +288,28 @@ module _ {P C : Type 0} (plants : PlantGhosts P) (by : MemberId) (u : Upto) (tex
           record {
             frame = one_behind by x z y Halted have.frame frame;
             beside = beside Halted frame acts content;
-            inks = λ told. inked_halted plants by its is_printer_lost x y (have.so told) have.more z line counts (content told) less here;
-            printed = tt;
+            inks = λ told. inked_halted plants by its x y (have.so told) have.more z line counts (content told) less here;
+            failed = tt;
             counted = tt;
             cause = (sparing_then by.0 true none_lost (seen x) (seen y) (seen z) have.spares (sparing_halted by.0 (Printer by) (seen y) (seen z) acts), let rose = acts.halted refl in let sooner = have.beside.acts.goes.stops by.0 in omega (arith, rose, sooner));
             lines = λ n. refl;
           }
 
+-- of no lines all stand there
+pub inked_none : {P C : Type 0} (plants : PlantGhosts P) (by : MemberId) (x : Parts P C) → HasInked plants by [] x x (Ok false)
+inked_none plants by x =
+    let none : counts_of x.printed by - counts_of x.printed by ≡ 0 = omega arith in
+    inked_by plants by [] x x (printed_none plants by [] x) (omega arith) (Ok false) (ap (λ (k : ℕ). record { lines = k; rest = None }) none) (omega arith)
+
 -- no lines were read
-pub lines_unread : {P C : Type 0} (plants : PlantGhosts P) (by : MemberId) (u : Upto) (x : Parts P C) (a : Read) (end : Closing) → Some end ≡ printed_end false a → is_printer_lost (Some end) ≡ false → lines_read u.output.job u.output.index (u.output.mark + counts_of x.printed by) u.last a ≡ []
-    → HasPrinted plants x x by u a (Ok (Some end))
-lines_unread plants by u x a end is not none =
-    let v = plants.view x.plant in
-    record {
-      frame = refl;
-      beside = beside_same plants by x;
-      inks = λ told. subst (λ (ls : List (List ℕ)). HasInked plants is_printer_lost by ls x x (Ok (Some end))) (sym none) (inked_all plants by [] is_printer_lost x x (printed_none plants by [] x) (omega arith) (Some end) not (omega arith));
-      printed = unprinted by a v end is;
-      counted = λ is. absurd (cc);
-      cause = sparing_none by.0 v;
-      lines = tt;
-    }
+pub lines_unread : {P C : Type 0} (plants : PlantGhosts P) (by : MemberId) (u : Upto) (x : Parts P C) (a : Read) → ((lines : List (List ℕ)) → a ≡ read.Lines lines → ⊥) → HasPrinted plants x x by u a (Ok false)
+lines_unread plants by u x (read.Lines lines) not = absurd (not lines refl)
+lines_unread plants by u x _ not = record {
+  frame = refl;
+  beside = beside_same plants by x;
+  inks = λ told. inked_none plants by x;
+  failed = λ is. absurd (cc);
+  counted = λ is. absurd (cc);
+  cause = sparing_none by.0 (plants.view x.plant);
+  lines = tt;
+}

@@ -1,12 +1,12 @@
 -- Reading the groups of a text.
-use Rattle.member_acts.proofs.Names.{Ghosts as PlantGhosts, ◌≡◌, ℕ, ◌+◌, ◌≤◌, Bool, true, false, List, [], ◌∷◌, length, Option, Some, None, All, Ok, Result, zero, suc, ◌*◌, ◌%◌, ◌<◌, nat_le, ◌++◌, unwrap_or, refl, sym, ap, subst, ◌∙◌, append_assoc, arith, Err, append-nil, Spool, Text, page_bytes, line_bytes, line_count, Disk as DiskPart, page_of, volume_of, AreRoomy, start_of, IsGroupOf, ReadsGroup, device_of, is_within, page_part, page_start, bytes_on, lost_now, spools_at, IsThereUnless, Spools, AreQuiet, SpoolStops, as_it_is, IsReadOf, HasFailed, option_or, nat_tests, All-nil, All-cons, All-append, All-weaker, GroupNo, Whole, Gone, Config, Act, Done, Failed, View, disk_now, slice, Acts, Goes, ReadBy, Reads, NodeNo, none_lost, SparesBut, sparing_then, acts_on, lies_alone, quiet_on, still_roomy, there_by, Read, both_second, is_text_line, IsFailedRead, MemberId, Parts, act_on, mod_below}
-use Rattle.member_acts.specs.Reads.{HasReadOn, IsPageOf, so_far, AreRecords, AddsGroup}
+use Rattle.member_acts.proofs.Names.{Ghosts as PlantGhosts, ◌≡◌, ℕ, ◌+◌, ◌≤◌, Bool, true, false, List, [], ◌∷◌, length, Option, Some, None, All, Ok, Result, zero, suc, ◌*◌, ◌%◌, ◌<◌, nat_le, ◌++◌, unwrap_or, refl, sym, ap, subst, ◌∙◌, append_assoc, arith, Err, append-nil, Spool, Text, page_bytes, line_bytes, line_count, Disk as DiskPart, page_of, volume_of, AreRoomy, start_of, IsGroupOf, ReadsGroup, device_of, is_within, page_part, page_start, bytes_on, lost_now, spools_at, IsThereUnless, Spools, AreQuiet, SpoolStops, as_it_is, IsReadOf, HasFailed, option_or, nat_tests, All-nil, All-cons, All-append, All-weaker, GroupNo, Whole, Gone, Config, Act, Done, Failed, View, disk_now, slice, Acts, Goes, ReadBy, NodeNo, none_lost, SparesBut, sparing_done, sparing_then, acts_on, lies_alone, quiet_on, still_roomy, there_by, Read, both_second, is_text_line, IsFailedRead, All-head, MemberId, Parts, act_on, mod_below}
+use Rattle.member_acts.specs.Reads.{HasReadOn, so_far, AreRecords, AddsGroup}
 use Rattle.mas_types.specs.declared.ids.Page.{Page}
 use Rattle.mas_types.specs.Records.{HoldsNoRecords, is_record, records_in}
 use Rattle.spool_text.specs.Laws.{ReadsWhatIsHeld}
 use Rattle.spool_text.specs.Reading.{AddsRecords}
 use Rattle.spool_volumes.specs.Texts.{Held, all_records, first_gone, gone_or, held, records_on, text_of, text_unless}
-use Rattle.mas_complex.proofs.Quotients.{few_quotient}
+use Rattle.mas_complex.proofs.Basics.{few_quotient}
 use Rattle.mas_complex.proofs.Spooled.{each_quiet, read_quiet}
 use Rattle.queue_laws.proofs.SoundEnter.{All-none}
 use Rattle.member_node.specs.declared.member.NodeNo.TheVariants as no
@@ -28,25 +28,15 @@ within v config g is roomy there =
     fits : (r per size : ℕ) → r < per → page_bytes * per ≤ size → nat_le (page_bytes * r + page_bytes) size ≡ true
     fits r per size below le = grind (arith, nat_tests, below, le)
 
--- a page that was read is the one that stands there
-pub page_read : (v w : View) (config : Config) (g : GroupNo) (page : Page) (by : ℕ) → length page.0 ≡ page_bytes → IsGroupOf config g → AreRoomy v config
-    → Acts by (DiskPart (device_of config.groups g)) v w Done → ReadsGroup config.groups g v w page Done → page_of (bytes_on (spools_at v v.now)) config.groups g ≡ Some page.0
-page_read v w config g page by long is roomy acts reads =
-    let dev = device_of config.groups g in
-    let alive = there_by (v.lost (DiskPart dev)) (λ lost. acts.stays_lost lost refl) in
-    let read : ReadBy (start_of config.groups g) page.0 (disk_now v dev) (disk_now w dev) Done = subst (λ (b : Bool). ReadBy (page_start b (start_of config.groups g)) (page_part b page.0) (disk_now v dev) (disk_now w dev) Done) (within v config g is roomy alive) reads.disk in
-    ap Some (sym (subst (λ (n : ℕ). page.0 ≡ slice (start_of config.groups g) n (disk_now v dev).bytes) long read.1))
-
-pub page_alive : (v w : View) (per : ℕ) (g : GroupNo) (by : ℕ) → Acts by (DiskPart (device_of per g)) v w Done → v.lost (DiskPart (device_of per g)) ≡ false
-page_alive v w per g by acts = there_by (v.lost (DiskPart (device_of per g))) (λ lost. acts.stays_lost lost refl)
-
-quiet_read : (v at : ℕ) (old new : View) (into : List ℕ) (r : Act) → Reads (Spool v) at old new into r → AreQuiet (spools_at old old.now) (spools_at new new.now)
-quiet_read v at old new into r reads n =
-    let quiet = each_quiet v old new (read_quiet at into (disk_now old (Spool v)) (disk_now new (Spool v)) r reads.disk) reads.only n in
-    record { bytes = quiet.bytes; synced = quiet.unsynced }
+-- the page of a group was read, so its volume wasn't lost; where content is told it is the one that stands there
+pub record IsPageOf {P C : Type 0} (plants : PlantGhosts P) (x : Parts P C) (g : GroupNo) (bytes : List ℕ) : Type 0 where
+  pub there : (plants.view x.plant).lost (DiskPart (device_of x.base.config.groups g)) ≡ false
+  pub page : plants.tells → AreRoomy (plants.view x.plant) x.base.config → page_of (bytes_on (spools_at (plants.view x.plant) (plants.view x.plant).now)) x.base.config.groups g ≡ Some bytes
 
 quiet_group : (per : ℕ) (g : GroupNo) (v w : View) (page : Page) (r : Act) → ReadsGroup per g v w page r → AreQuiet (spools_at v v.now) (spools_at w w.now)
-quiet_group per g v w page r reads = quiet_read (volume_of per g) (page_start (is_within v per g) (start_of per g)) v w (page_part (is_within v per g) page.0) r reads
+quiet_group per g v w page r reads n =
+    let quiet = each_quiet (volume_of per g) v w (read_quiet (page_start (is_within v per g) (start_of per g)) (page_part (is_within v per g) page.0) (disk_now v (device_of per g)) (disk_now w (device_of per g)) r reads.disk) reads.only n in
+    record { bytes = quiet.bytes; synced = quiet.unsynced }
 
 -- a group is read alone, whatever comes of it
 pub group_read : {P C : Type 0} (plants : PlantGhosts P) (x y : Parts P C) (by : MemberId) (g : GroupNo) (page : Page) (r : Act) → y ≡ record x { plant = y.plant } → Acts by.0 (DiskPart (device_of x.base.config.groups g)) (plants.view x.plant) (plants.view y.plant) r
@@ -56,6 +46,31 @@ group_read plants x y by g page r frame acts reads = record {
   acts = act_on plants.tells by.0 (volume_of x.base.config.groups g) (plants.view x.plant) (plants.view y.plant) r acts (λ t. (reads t).only);
   reads = λ t. quiet_group x.base.config.groups g (plants.view x.plant) (plants.view y.plant) page r (reads t);
 }
+
+-- it was read: its volume wasn't lost, and where content is told its page is the one that stands there
+pub record IsGroupRead {P C : Type 0} (plants : PlantGhosts P) (x y : Parts P C) (by : MemberId) (g : GroupNo) (bytes : List ℕ) : Type 0 where
+  pub on : HasReadOn plants x y by
+  pub spares : SparesBut by.0 false none_lost (plants.view x.plant) (plants.view y.plant)
+  pub page : IsPageOf plants x g bytes
+
+pub group_done : {P C : Type 0} (plants : PlantGhosts P) (x y : Parts P C) (by : MemberId) (g : GroupNo) (page : Page) → length page.0 ≡ page_bytes → All (IsGroupOf x.base.config) (g ∷ []) → y ≡ record x { plant = y.plant } → Acts by.0 (DiskPart (device_of x.base.config.groups g)) (plants.view x.plant) (plants.view y.plant) Done
+    → (plants.tells → ReadsGroup x.base.config.groups g (plants.view x.plant) (plants.view y.plant) page Done) → IsGroupRead plants x y by g page.0
+group_done plants x y by g page long is frame acts reads =
+    let v = plants.view x.plant in
+    let w = plants.view y.plant in
+    let config = x.base.config in
+    let dev = device_of config.groups g in
+    let alive = there_by (v.lost (DiskPart dev)) (λ lost. acts.stays_lost lost refl) in
+    record {
+      on = group_read plants x y by g page Done frame acts reads;
+      spares = sparing_done by.0 (DiskPart dev) v w acts;
+      page = record {
+        there = alive;
+        page = λ t roomy.
+            let read : ReadBy (start_of config.groups g) page.0 (disk_now v dev) (disk_now w dev) Done = subst (λ (b : Bool). ReadBy (page_start b (start_of config.groups g)) (page_part b page.0) (disk_now v dev) (disk_now w dev) Done) (within v config g (All-head (IsGroupOf config) g [] is) roomy alive) (reads t).disk in
+            ap Some (sym (subst (λ (n : ℕ). page.0 ≡ slice (start_of config.groups g) n (disk_now v dev).bytes) long read.1));
+      };
+    }
 
 pub failed_read : (by per volume : ℕ) (g : GroupNo) (v w : View) → volume ≡ volume_of per g → Acts by (DiskPart (device_of per g)) v w Failed → HasFailed per (g ∷ []) volume v w
 failed_read by per volume g v w is acts = subst (λ (n : ℕ). HasFailed per (g ∷ []) n v w) (sym is) (record { there = lies_alone per g; lost = acts.is_lost refl; rose = acts.failed refl })
@@ -134,18 +149,14 @@ same_records per g old new quiet = ap (λ (bytes : List ℕ). held (Some (slice 
 there_before : (v : ℕ) (old mid : View) → Goes old mid → mid.lost (DiskPart (Spool v)) ≡ false → old.lost (DiskPart (Spool v)) ≡ false
 there_before v old mid goes e = there_by (old.lost (DiskPart (Spool v))) (λ lost. absurd (let gone = goes.lost (DiskPart (Spool v)) lost in cc))
 
-never : (text : Text) (volume : ℕ) → read.Lost volume ≡ as_it_is text → ⊥
-never (Whole lines) volume e = cc
-never (Gone group count) volume e = cc
+-- a text as it is was read, without a failure
+pub record IsReadWell (per : ℕ) (groups : List GroupNo) (old new : View) (text : Text) : Type 0 where
+  pub is : IsReadOf per text groups (as_it_is text) old new
+  pub failed : IsFailedRead per groups (as_it_is text) old new
 
-is_read : (per : ℕ) (text : Text) (groups : List GroupNo) (o : Read) (old new : View) → o ≡ as_it_is text → IsReadOf per text groups o old new
-is_read per text groups (read.Lines lines) old new e = e
-is_read per text groups (read.Gone group) old new e = e
-is_read per text groups (read.Lost volume) old new e = absurd (never text volume e)
-
-pub unfailed : (per : ℕ) (text : Text) (groups : List GroupNo) (o : Read) (old new : View) → o ≡ as_it_is text → IsFailedRead per groups o old new
-unfailed per text groups (read.Lost volume) old new e = absurd (never text volume e)
-unfailed per text groups _ old new e = tt
+pub read_well : (per : ℕ) (groups : List GroupNo) (old new : View) (text : Text) → IsReadWell per groups old new text
+read_well per groups old new (Whole lines) = record { is = refl; failed = tt }
+read_well per groups old new (Gone group count) = record { is = refl; failed = tt }
 
 module _ {P C : Type 0} (plants : PlantGhosts P) (by : MemberId) (x : Parts P C) where
   abbrev seen : Parts P C → View
@@ -182,10 +193,8 @@ module _ {P C : Type 0} (plants : PlantGhosts P) (by : MemberId) (x : Parts P C)
         spares = sparing_then by.0 false none_lost (seen x) (seen y) (seen z) have.spares spares;
         fits = subst AreRecords (sym adds.added) (both_fit before (unwrap_or adds.records []) have.fits adds.fits);
         there = All-append Alive groups (g ∷ []) have.there (All-cons Alive g [] (there_before (volume_of x.base.config.groups g) (seen x) (seen y) have.on.acts.goes adds.there) (All-nil Alive));
-        lines_are = λ t roomy. adds.added ∙ ap (λ (l : List (List ℕ)). l ++ unwrap_or adds.records []) (have.lines_are t roomy)
-            ∙ ap (λ (r : Option (List (List ℕ))). all_records records_at groups ++ unwrap_or r []) (sym (here t roomy)) ∙ sym (all_push records_at groups g);
-        gone_is = λ t roomy. adds.gone_is ∙ ap (λ (o : Option GroupNo). option_or o (gone_or g adds.records None)) (have.gone_is t roomy)
-            ∙ ap (λ (r : Option (List (List ℕ))). option_or (first_gone records_at groups) (gone_or g r None)) (sym (here t roomy)) ∙ sym (gone_push records_at groups g);
+        lines_are = λ t roomy. rw (all_push records_at groups g, here t roomy, sym (have.lines_are t roomy)) adds.added;
+        gone_is = λ t roomy. rw (gone_push records_at groups g, here t roomy, sym (have.gone_is t roomy)) adds.gone_is;
       }
 
   -- what was read is the text as it stands there
@@ -193,9 +202,9 @@ module _ {P C : Type 0} (plants : PlantGhosts P) (by : MemberId) (x : Parts P C)
       → (text : Text) → line_count text ≡ count → plants.tells → AreRoomy (seen x) x.base.config → IsThereUnless (lost_now (seen x)) (spools_at (seen x) (seen x).now) x.base.config.groups text groups → IsReadOf x.base.config.groups text groups o (seen x) (seen y)
   read_whole y groups lines gone count o have is text counted t roomy stands =
       let there = stands (All-none (λ (g : GroupNo). lost_now (seen x) (volume_of x.base.config.groups g)) groups have.there) in
-      is_read x.base.config.groups text groups o (seen x) (seen y)
-      (is ∙ ap as_it_is (ap (λ (l : List (List ℕ)). text_unless count groups l gone) (have.lines_are t roomy) ∙ ap (λ (g : Option GroupNo). text_unless count groups (all_records records_at groups) g) (have.gone_is t roomy)
-      ∙ ap (λ (k : ℕ). text_of records_at k groups) (sym counted) ∙ there.is))
+      let whole = is ∙ ap as_it_is (ap (λ (l : List (List ℕ)). text_unless count groups l gone) (have.lines_are t roomy) ∙ ap (λ (g : Option GroupNo). text_unless count groups (all_records records_at groups) g) (have.gone_is t roomy)
+      ∙ ap (λ (k : ℕ). text_of records_at k groups) (sym counted) ∙ there.is) in
+      subst (λ (r : Read). IsReadOf x.base.config.groups text groups r (seen x) (seen y)) (sym whole) (read_well x.base.config.groups groups (seen x) (seen y) text).is
 
 -- a stop after other acts
 pub stops_later : {T : Type 0} (names : T → ℕ → Bool) (by : ℕ) (old mid new : View) (r : Result T NodeNo) → Goes old mid → SparesBut by false none_lost old mid → SpoolStops names r by mid new → SpoolStops names r by old new

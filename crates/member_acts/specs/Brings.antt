@@ -1,29 +1,24 @@
--- The text of a job or of an output, and what gave it its lines.
-use Rattle.member_acts.specs.Names.{Text, job_at, output_at, brings_job, brings_outputs, gone_in, gone_output_in, is_brought}
-use Rattle.std.specs.Prelude.{Bool, List, Option, None, if◌then◌else◌}
-use Rattle.std.specs.Option.{option_map}
-use Rattle.mas_types.specs.declared.commands.Command.{Command}
-use Rattle.mas_types.specs.declared.commands.Reply.{Reply}
+-- Whether the text of a job, or of an output, is gone since a run began.
+use Rattle.member_acts.specs.Names.{Text, brings_by, gone_at, is_brought, Parts, SteadyGhosts, gone_with, kept_all, parts_of, run, text_at}
+use Rattle.std.specs.Prelude.{◌≡◌, List, Option, None, Some, if◌then◌else◌}
 use Rattle.mas_types.specs.declared.ids.GroupNo.{GroupNo}
 use Rattle.mas_types.specs.declared.journals.Entry.{Entry}
 use Rattle.mas_types.specs.declared.queues.Queue.{Queue}
 use Rattle.mas_types.specs.declared.queues.Thing.{Thing}
-use Rattle.mas_types.specs.declared.queues.Thing.TheVariants.{Deck, Output}
-
--- the text itself
-abbrev pub text_at : Thing → Queue → Option Text
-text_at (Deck n) Q = option_map (λ j. j.text) (job_at Q n)
-text_at (Output n i) Q = option_map (λ o. o.text) (output_at Q n i)
-
--- the group with which it is gone
-abbrev pub gone_at : Thing → Queue → Option GroupNo
-gone_at (Deck n) Q = gone_in Q n
-gone_at (Output n i) Q = gone_output_in Q n i
-
-abbrev pub brings_by : Thing → Command → Reply → Bool
-brings_by (Deck n) c answer = brings_job n c answer
-brings_by (Output n i) c answer = brings_outputs n c answer
+use Rattle.ckpt_copy.specs.declared.copying.Copying.{Ghosts as CopyGhosts}
+use Rattle.mas_complex.specs.declared.complex.Complex.{Complex}
+use Rattle.spool_plant.specs.declared.plant.Plant.{Ghosts as PlantGhosts}
 
 -- the group with which it is gone after these entries, if it was at the beginning
 abbrev pub gone_since : Thing → Queue → List Entry → Option GroupNo
 gone_since thing base es = if is_brought (brings_by thing) es then None else gone_at thing base
+
+-- so it is; where content is told, exactly
+pub record IsGoneIn {P C : Type 0} (plants : PlantGhosts P) (x : Parts P C) (text : Thing) (gone : Option GroupNo) :
+    Type 0 where
+  pub since : gone ≡ gone_since text x.base (kept_all x.batches)
+  pub gone_is : plants.tells → (t : Text) → text_at text (run x.base (kept_all x.batches)) ≡ Some t → gone ≡ gone_with t
+
+module _ {P C : Type 0} {plants : PlantGhosts P} {steadies : SteadyGhosts C} {copies : CopyGhosts C} where
+  abbrev pub IsGoneSince : Complex P C plants steadies copies → Thing → Option GroupNo → Type 0
+  IsGoneSince x text gone = IsGoneIn plants (parts_of x) text gone

@@ -1,7 +1,6 @@
 -- The lines of an output that a member prints next.
-use Rattle.member_acts.specs.Names.{members_most, printer_lines_most, SameWires, IsMember, is_stopped, IsOfOther, counts_of, Parts, parts_of, SpoolStops, Lines, Output, kept_all, run, output_at, HasInked, is_printer_lost, OtherCountsStay, lines_read, IsBeside, IsLinesPrinted, SameDisks, after_lines, SteadyGhosts, IsCounted, names_nothing, names_read}
-use Rattle.std.specs.Prelude.{◌≡◌, ℕ, ◌+◌, ◌≤◌, true, false, List, ◌++◌, Option, None, Some, Result, IfOk, OnErr}
-use Rattle.mas_types.specs.declared.answers.Closing.{Closing}
+use Rattle.member_acts.specs.Names.{members_most, printer_lines_most, SameWires, IsMember, is_stopped, IsOfOther, counts_of, Parts, parts_of, SpoolStops, Lines, Output, kept_all, run, output_at, HasInked, OtherCountsStay, lines_read, IsBeside, SameDisks, after_lines, SteadyGhosts, IsCounted, names_nothing, names_read}
+use Rattle.std.specs.Prelude.{◌≡◌, ℕ, ◌+◌, ◌≤◌, Bool, true, false, List, ◌++◌, Option, None, Some, Result, IfOk, OnErr}
 use Rattle.mas_types.specs.declared.ids.MemberId.{MemberId}
 use Rattle.mas_types.specs.declared.jobs.Text.TheVariants.{Whole}
 use Rattle.mas_types.specs.declared.journals.Batch.{Batch}
@@ -17,6 +16,8 @@ use Rattle.ckpt_copy.specs.declared.copying.Copying.{Ghosts as CopyGhosts}
 use Rattle.job_outcome.specs.declared.outcomes.Read.{Read}
 use Rattle.mas_complex.specs.declared.complex.Complex.{Complex}
 use Rattle.member_node.specs.declared.member.NodeNo.{NodeNo}
+use Rattle.member_work.specs.Rounds.{HasPrinterFailed}
+use Rattle.step_turns.specs.JobEnds.{printed_end}
 
 -- an output, and the last of its lines that are printed
 pub record Upto : Type 0 where
@@ -64,16 +65,17 @@ module _ {P C : Type 0} (plants : PlantGhosts P) where
     pub other_counts : OtherCountsStay by x.printed y.printed
     pub wires : plants.tells → SameWires (v x) (v y)
 
-  -- Prints, by their answer: None where the lines stand on paper, else how the unit is refused. Halted comes only where
-  -- the member was stopped, NoMemory only when out of memory: both only where lines were read.
-  pub record HasPrinted (x y : Parts P C) (by : MemberId) (u : Upto) (read : Read)
-      (result : Result (Option Closing) NodeNo) : Type 0 where
+  -- Prints, by their answer, which says whether the printer was found lost: then it failed. Where the unit isn't refused
+  -- for it, or for how the text was read, the lines stand on paper. Halted comes only where the member was stopped,
+  -- NoMemory only when out of memory: both only where lines were read.
+  pub record HasPrinted (x y : Parts P C) (by : MemberId) (u : Upto) (read : Read) (result : Result Bool NodeNo) :
+      Type 0 where
     pub frame : y ≡ after_lines result by y x
     pub beside : HasActedBeside x y by
-    pub inks : plants.tells → HasInked plants is_printer_lost by
+    pub inks : plants.tells → HasInked plants by
         (lines_read u.output.job u.output.index (u.output.mark + counts_of x.printed by) u.last read) x y result
-    pub printed : IfOk result (IsLinesPrinted by read (v x) (v y))
-    pub counted : IfOk result (λ end. end ≡ None → u.last ≤ u.output.mark + counts_of y.printed by)
+    pub failed : IfOk result (λ lost. lost ≡ true → HasPrinterFailed by (v x) (v y))
+    pub counted : IfOk result (λ lost. printed_end lost read ≡ None → u.last ≤ u.output.mark + counts_of y.printed by)
     pub cause : SpoolStops names_nothing result by.0 (v x) (v y)
     pub lines : OnErr result ((n : ℕ) → names_read read n ≡ false)
 
@@ -84,5 +86,5 @@ module _ {P C : Type 0} {plants : PlantGhosts P} {steadies : SteadyGhosts C} {co
   MayPrint x by u read = IsToPrint plants (parts_of x) by u read
 
   abbrev pub Prints : Complex P C plants steadies copies → Complex P C plants steadies copies → MemberId → Upto → Read
-      → Result (Option Closing) NodeNo → Type 0
+      → Result Bool NodeNo → Type 0
   Prints x y by u read result = HasPrinted plants (parts_of x) (parts_of y) by u read result

@@ -1,6 +1,7 @@
 -- A text that is read from the spool volumes, group by group.
-use Rattle.member_acts.specs.Names.{Text, line_count, Spool, Disk as DiskPart, page_of, volume_of, AreRoomy, IsUp, Parts, parts_of, IsGroupOf, bytes_on, lost_now, spools_at, IsThereUnless, OnVolumes, IsReadable, IsCounted, IsFailedRead, IsReadOf, OnlyReads, HasFailed, SteadyGhosts}
-use Rattle.std.specs.Prelude.{◌≡◌, ℕ, ◌≤◌, true, false, List, [], ◌∷◌, ◌++◌, length, All, Option, None, Some, unwrap_or}
+use Rattle.member_node.specs.declared.member.NodeNo.{NodeNo}
+use Rattle.member_acts.specs.Names.{SpoolStops, names_volume, Text, line_count, Spool, Disk as DiskPart, volume_of, AreRoomy, IsUp, Parts, parts_of, IsGroupOf, bytes_on, lost_now, spools_at, IsThereUnless, OnVolumes, IsReadable, IsCounted, IsFailedRead, IsReadOf, OnlyReads, HasFailed, SteadyGhosts}
+use Rattle.std.specs.Prelude.{◌≡◌, ℕ, ◌≤◌, true, false, List, [], ◌∷◌, ◌++◌, length, All, Option, None, Some, Result, IfOk, unwrap_or}
 use Rattle.std.specs.Option.{option_or}
 use Rattle.spool_volumes.specs.Texts.{gone_or, records_on}
 use Rattle.mas_types.specs.declared.queues.Config.{Config}
@@ -11,6 +12,13 @@ use Rattle.mas_types.specs.declared.ids.MemberId.{MemberId}
 use Rattle.spool_plant.specs.View.{View}
 use Rattle.spool_plant.specs.declared.plant.Plant.{Ghosts as PlantGhosts}
 use Rattle.ckpt_copy.specs.declared.copying.Copying.{Ghosts as CopyGhosts}
+use Rattle.mas_types.specs.declared.queues.Thing.{Thing}
+use Rattle.member_asides.specs.Asides.{MayAside}
+use Rattle.member_asides.specs.Whole.{queue_of}
+use Rattle.queue_gone.specs.Gone.{text_at}
+use Rattle.member_node.specs.declared.member.Member.{Member}
+use Rattle.member_work.specs.Rounds.{IsReadAs, names_read}
+use Rattle.track_groups.specs.Places.{groups_of}
 use Rattle.job_outcome.specs.declared.outcomes.Read.{Read}
 use Rattle.mas_complex.specs.declared.complex.Complex.{Complex}
 
@@ -26,6 +34,15 @@ pub record SoFar : Type 0 where
 
 abbrev pub so_far : List (List ℕ) → Option GroupNo → SoFar
 so_far lines gone = record { lines = lines; gone = gone }
+
+-- a group that is added to it
+pub record Adding : Type 0 where
+  pub group : GroupNo
+  pub was : SoFar
+  pub is : SoFar
+
+abbrev pub adding : GroupNo → SoFar → SoFar → Adding
+adding group was is = record { group = group; was = was; is = is }
 
 -- A group was read, so its volume wasn't lost: its lines are added, none where it holds no records; then the text is
 -- gone with this group, unless one before it held none. Where content is told these are the records that stand there.
@@ -53,21 +70,17 @@ module _ {P C : Type 0} (plants : PlantGhosts P) where
     pub acts : OnVolumes plants.tells by.0 (v x) (v y)
     pub reads : OnlyReads plants.tells (v x) (v y)
 
-  -- the page of a group was read, so its volume wasn't lost; where content is told it is the one that stands there
-  pub record IsPageOf (x : Parts P C) (g : GroupNo) (bytes : List ℕ) : Type 0 where
-    pub there : (v x).lost (DiskPart (Spool (volume_of x.base.config.groups g))) ≡ false
-    pub page : plants.tells → AreRoomy (v x) x.base.config
-        → page_of (bytes_on (spools_at (v x) (v x).now)) x.base.config.groups g ≡ Some bytes
-
-  -- or the group's volume was found lost
-  abbrev pub IsPageUnless : Parts P C → Parts P C → GroupNo → List ℕ → Option ℕ → Type 0
-  IsPageUnless x y g page None = IsPageOf x g page
-  IsPageUnless x y g page (Some volume) = HasFailed x.base.config.groups (g ∷ []) volume (v x) (v y)
-
   -- a group is read, or its volume was found lost
-  abbrev pub IsAddedUnless : Parts P C → Parts P C → GroupNo → SoFar → SoFar → Option ℕ → Type 0
-  IsAddedUnless x y g was is None = AddsGroup plants.tells x.base.config g (v x) was is
-  IsAddedUnless x y g was is (Some volume) = HasFailed x.base.config.groups (g ∷ []) volume (v x) (v y)
+  abbrev pub IsAddedUnless : Parts P C → Parts P C → Adding → Option ℕ → Type 0
+  IsAddedUnless x y a None = AddsGroup plants.tells x.base.config a.group (v x) a.was a.is
+  IsAddedUnless x y a (Some volume) = HasFailed x.base.config.groups (a.group ∷ []) volume (v x) (v y)
+
+  -- a group is read alone, by the answer
+  pub record HasAdded (x y : Parts P C) (by : MemberId) (a : Adding) (result : Result (Option ℕ) NodeNo) : Type 0
+    where
+      pub on : HasReadOn x y by
+      pub cause : SpoolStops names_volume result by.0 (v x) (v y)
+      pub added : IfOk result (IsAddedUnless x y a)
 
   -- A text of so many lines was read. Where content is told it is as it stands in its groups, if none of them lies on a
   -- volume that was found lost.
@@ -79,22 +92,41 @@ module _ {P C : Type 0} (plants : PlantGhosts P) where
         → IsThereUnless (lost_now (v x)) (spools_at (v x) (v x).now) x.base.config.groups t groups
         → IsReadOf x.base.config.groups t groups read (v x) (v y)
 
+  -- How the text of a job or of an output was read whose groups the member's tables tell. Where content is told it is
+  -- as the queue has it, if this has the groups still, and so many lines.
+  pub record IsReadThing (x y : Parts P C) (m : Member) (thing : Thing) (count : ℕ) (read : Read) : Type 0 where
+    pub fits : IsReadable read
+    pub counted : IsCounted count read
+    pub failed : IsFailedRead x.base.config.groups (groups_of thing m.checkpoint.tables.owners) read (v x) (v y)
+    pub seen : plants.tells → AreRoomy (v x) x.base.config → (text : Text) → text_at thing (queue_of x) ≡ Some text
+        → line_count text ≡ count → groups_of thing (queue_of x).owners ≡ groups_of thing m.checkpoint.tables.owners
+        → IsReadAs plants.tells x.base.config.groups (text, groups_of thing (queue_of x).owners) (Some read) (v x) (v y)
+
+  pub record HasReadThing (x y : Parts P C) (m : Member) (thing : Thing) (count : ℕ) (result : Result Read NodeNo) :
+      Type 0 where
+    pub on : HasReadOn x y m.id
+    pub cause : SpoolStops names_read result m.id.0 (v x) (v y)
+    pub read : IfOk result (IsReadThing x y m thing count)
+
 -- OVER THE SHARED VALUE
 
 module _ {P C : Type 0} {plants : PlantGhosts P} {steadies : SteadyGhosts C} {copies : CopyGhosts C} where
   abbrev pub MayReadGroups : Complex P C plants steadies copies → MemberId → List GroupNo → Type 0
   MayReadGroups x by groups = IsToRead plants (parts_of x) by groups
 
+  abbrev pub MayReadThing : Complex P C plants steadies copies → Member → Type 0
+  MayReadThing x m = MayAside plants (parts_of x) m
+
+  abbrev pub ReadsThing : Complex P C plants steadies copies → Complex P C plants steadies copies → Member → Thing → ℕ
+      → Result Read NodeNo → Type 0
+  ReadsThing x y m thing count result = HasReadThing plants (parts_of x) (parts_of y) m thing count result
+
   abbrev pub ReadsOn : Complex P C plants steadies copies → Complex P C plants steadies copies → MemberId → Type 0
   ReadsOn x y by = HasReadOn plants (parts_of x) (parts_of y) by
 
-  abbrev pub ReadsPage : Complex P C plants steadies copies → Complex P C plants steadies copies → GroupNo → List ℕ
-      → Option ℕ → Type 0
-  ReadsPage x y g page lost = IsPageUnless plants (parts_of x) (parts_of y) g page lost
-
-  abbrev pub Adds : Complex P C plants steadies copies → Complex P C plants steadies copies → GroupNo → SoFar → SoFar
-      → Option ℕ → Type 0
-  Adds x y g was is lost = IsAddedUnless plants (parts_of x) (parts_of y) g was is lost
+  abbrev pub Adds : Complex P C plants steadies copies → Complex P C plants steadies copies → MemberId → Adding
+      → Result (Option ℕ) NodeNo → Type 0
+  Adds x y by a result = HasAdded plants (parts_of x) (parts_of y) by a result
 
   abbrev pub ReadsTextOf : Complex P C plants steadies copies → Complex P C plants steadies copies → List GroupNo → ℕ
       → Read → Type 0

@@ -1,16 +1,13 @@
 //! Acts of a step of work that want no lock: a job's text is read, its outputs are written, an output's next lines are
 //! printed.
-ghost use Rattle.member_acts.specs.Names.{parts_of, MayPrintLines, MayReadText, MayWriteOutputs, OnlyPrints, PrintsLines, ReadsText, WritesOutputs, is_printer_lost as is_printer_lost_lem, lines_to};
-ghost use Rattle.std.specs.Prelude.{◌≡◌};
+ghost use Rattle.member_acts.specs.Names.{MayPrintLines, MayReadText, MayWriteOutputs, PrintsLines, ReadsText, WritesOutputs, lines_to};
 
-use crate::gone::gone_group;
 use crate::printing::print_text;
-use crate::reading::read_text;
+use crate::reading::read_thing;
 use crate::spooling::write_and_sync;
-use job_outcome::Read;
 use job_queue::find_job;
 use mas_complex::{Complex, Steady};
-use mas_types::{Closing, JobNo, OutNo, OutSpec, Thing};
+use mas_types::{JobNo, OutNo, OutSpec, Thing};
 use member_asides::{found_by, found_with};
 use member_node::{Member, NodeNo};
 use member_work::groups_of_outputs;
@@ -18,14 +15,7 @@ use output_queue::find_output;
 use spool_plant::Plant;
 use std::alloc::Global;
 use step_turns::Found;
-use track_groups::{groups_of, held_by, law_of_places};
-
-// The unit is refused since the printer is lost.
-fn is_printer_lost(end: &Option<Closing>) -> bool
-    ensures { result ≡ is_printer_lost_lem end.now }
-{
-    matches!(end, Some(Closing::PrinterLost))
-}
+use track_groups::held_by;
 
 /// Reads the text of a job that is run or converted. It needs no lock: whoever holds it, the book, the copies and the
 /// journal are as they were. A text that was gone when the run began isn't read. Answers how it was read.
@@ -38,23 +28,12 @@ pub fn read_job_text<P: Plant + Drop, C: Steady + Drop>(
     job: JobNo,
 ) -> Result<Found, NodeNo>
     requires { MayReadText complex.old member.now job }
-    ensures frame { parts_of complex.new ≡ record (parts_of complex.old) { plant = complex.new.plant } }
-    ensures reads { ReadsText complex.old complex.new member.now job result }
+    ensures { ReadsText complex.old complex.new member.now job result }
 {
-    if let Some(group) = gone_group(complex, Thing::Deck(job)) {
-        return Ok(found_with(alloc, Read::Gone(group), None, false));
-    }
-    law_of_places();
-    complex.kept_texts();
-    let tables = &member.checkpoint.tables;
-    let Some(found) = find_job(tables.jobs.as_slice(), job) else {
+    let Some(found) = find_job(member.checkpoint.tables.jobs.as_slice(), job) else {
         unreachable!();
     };
-    let Ok(groups) = groups_of(alloc, tables.owners.as_slice(), Thing::Deck(job)) else {
-        return Err(NodeNo::NoMemory);
-    };
-    let groups = groups.as_slice();
-    let read = read_text(complex, alloc, member.id, groups, found.item.cards)?;
+    let read = read_thing(member, alloc, complex, Thing::Deck(job), found.item.cards)?;
     Ok(found_with(alloc, read, None, false))
 }
 
@@ -70,8 +49,7 @@ pub fn write_outputs<P: Plant + Drop, C: Steady + Drop>(
     outputs: &[OutSpec],
 ) -> Result<Found, NodeNo>
     requires { MayWriteOutputs complex.old member.now outputs.now }
-    ensures frame { parts_of complex.new ≡ record (parts_of complex.old) { plant = complex.new.plant } }
-    ensures writes { WritesOutputs complex.old complex.new member.now outputs.now result }
+    ensures { WritesOutputs complex.old complex.new member.now outputs.now result }
 {
     let by = member.id;
     let Ok(held) = held_by(alloc, member.checkpoint.tables.owners.as_slice(), by) else {
@@ -100,26 +78,13 @@ pub fn print_next_lines<P: Plant + Drop, C: Steady + Drop>(
     last: u32,
 ) -> Result<Found, NodeNo>
     requires { MayPrintLines complex.old member.now (lines_to job output last) }
-    ensures frame { OnlyPrints result member.now.id complex.old complex.new }
-    ensures prints { PrintsLines complex.old complex.new member.now (lines_to job output last) result }
+    ensures { PrintsLines complex.old complex.new member.now (lines_to job output last) result }
 {
-    let thing = Thing::Output(job, output);
-    if let Some(group) = gone_group(complex, thing) {
-        return Ok(found_with(alloc, Read::Gone(group), None, false));
-    }
-    law_of_places();
-    complex.kept_texts();
-    let tables = &member.checkpoint.tables;
-    let by = member.id;
-    let Some(found) = find_output(tables.outputs.as_slice(), job, output) else {
+    let Some(found) = find_output(member.checkpoint.tables.outputs.as_slice(), job, output) else {
         unreachable!();
     };
-    let Ok(groups) = groups_of(alloc, tables.owners.as_slice(), thing) else {
-        return Err(NodeNo::NoMemory);
-    };
-    let groups = groups.as_slice();
-    let read = read_text(complex, alloc, by, groups, found.item.lines)?;
-    let end = print_text(complex, alloc, by, &found.item, last, &read)?;
-    let printer = is_printer_lost(&end);
+    let thing = Thing::Output(job, output);
+    let read = read_thing(member, alloc, complex, thing, found.item.lines)?;
+    let printer = print_text(complex, alloc, member.id, &found.item, last, &read)?;
     Ok(found_with(alloc, read, None, printer))
 }

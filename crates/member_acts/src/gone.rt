@@ -1,9 +1,9 @@
 //! Whether the text of a job, or of an output, is gone.
-ghost use Rattle.member_acts.specs.Names.{Text, is_kept as is_kept_lem, job_at as job_at_lem, output_at as output_at_lem, IsSound, kept_all, run, gone_with as gone_with_lem, is_brought as is_brought_lem, command_of, reply_of};
-ghost use Rattle.std.specs.Prelude.{◌≡◌, ◌&&◌, None, Some, if◌then◌else◌};
+ghost use Rattle.member_acts.specs.Names.{is_kept as is_kept_lem, job_at as job_at_lem, output_at as output_at_lem, IsSound, gone_at as gone_at_lem, gone_with as gone_with_lem, is_brought as is_brought_lem, brings_by, command_of, reply_of};
+ghost use Rattle.std.specs.Prelude.{◌≡◌, ◌&&◌};
 ghost use Rattle.std.specs.List.{list_any};
 ghost use Rattle.std.specs.Option.{option_copied};
-ghost use Rattle.member_acts.specs.Brings.{brings_by, gone_at as gone_at_lem, gone_since, text_at};
+ghost use Rattle.member_acts.specs.Brings.{IsGoneSince};
 
 use mas_complex::{
     BriefBatch, BriefCommand, BriefEntry, BriefJob, BriefOutput, BriefQueue, BriefReply, BriefText,
@@ -16,10 +16,8 @@ use spool_plant::Plant;
 fn gone_with(text: &BriefText) -> Option<GroupNo>
     ensures { result ≡ gone_with_lem text.now }
 {
-    match text.what_is_gone() {
-        Some((group, _)) => Some(group),
-        None => None,
-    }
+    let (group, _) = text.what_is_gone()?;
+    Some(group)
 }
 
 fn job_at(queue: &BriefQueue, job: JobNo) -> Option<&BriefJob>
@@ -42,14 +40,8 @@ fn gone_at(queue: &BriefQueue, text: Thing) -> Option<GroupNo>
     ensures { result ≡ gone_at_lem text queue.now }
 {
     match text {
-        Thing::Deck(job) => match job_at(queue, job) {
-            Some(found) => gone_with(found.text()),
-            None => None,
-        },
-        Thing::Output(job, index) => match output_at(queue, job, index) {
-            Some(found) => gone_with(found.text()),
-            None => None,
-        },
+        Thing::Deck(job) => gone_with(job_at(queue, job)?.text()),
+        Thing::Output(job, index) => gone_with(output_at(queue, job, index)?.text()),
     }
 }
 
@@ -71,66 +63,37 @@ fn brings(text: Thing, brief: &BriefEntry) -> bool
     }
 }
 
-// One of the entries that these are in brief did.
-fn is_any_brought(text: Thing, briefs: &[BriefEntry]) -> bool
-    ensures { result ≡ list_any (λ b. brings_by text (command_of b.command) (reply_of b.reply)) briefs.now }
-{
-    briefs.iter().any(|brief| brings(text, brief))
-}
-
 // One of the batch's entries did.
 fn is_brought(text: Thing, batch: &BriefBatch) -> bool
     ensures { result ≡ is_brought_lem (brings_by text) batch.now.entries }
 {
-    is_any_brought(text, batch.briefs())
+    batch.briefs().iter().any(|brief| brings(text, brief))
 }
 
-// One of a kept batch's entries did.
-fn is_brought_by(text: Thing, batch: &BriefBatch) -> bool
-    ensures { result ≡ (is_kept_lem batch.now.fate && is_brought_lem (brings_by text) batch.now.entries) }
-{
-    matches!(batch.fate(), Fate::Kept) && is_brought(text, batch)
-}
-
+// One of the entries of the kept batches did.
 fn is_brought_in(text: Thing, batches: &[BriefBatch]) -> bool
     ensures { result ≡ list_any (λ b. is_kept_lem b.fate && is_brought_lem (brings_by text) b.entries) batches.now }
 {
-    batches.iter().any(|batch| is_brought_by(text, batch))
-}
-
-// The group with which the text was gone, unless one of these batches gave it lines. They aren't looked at where it was
-// whole.
-fn unless_brought(text: Thing, gone: Option<GroupNo>, batches: &[BriefBatch]) -> Option<GroupNo>
-    ensures { result ≡ (if list_any (λ b. is_kept_lem b.fate && is_brought_lem (brings_by text) b.entries) batches.now
-        then None else gone) }
-{
-    if gone.is_none() {
-        return None;
-    }
-    if is_brought_in(text, batches) {
-        return None;
-    }
-    gone
+    batches.iter().any(|batch| matches!(batch.fate(), Fate::Kept) && is_brought(text, batch))
 }
 
 /// The group with which the text of a job, or of an output, is gone, None where it is whole; where content is told,
 /// exactly. A text is gone only where it was when the run began: so this is the base's, unless a job of this number was
-/// begun or entered since, or outputs of the job were brought.
+/// begun or entered since, or outputs of the job were brought. The batches aren't looked at where it was whole.
 pub(crate) fn gone_group<P: Plant + Drop, C: Steady + Drop>(
     complex: &Complex<P, C>,
     text: Thing,
 ) -> Option<GroupNo>
     requires { P.tells → IsSound complex.now.base }
-    ensures since { result ≡ gone_since text complex.now.base (kept_all complex.now.journal.batches) }
-    ensures gone { P.tells → (t : Text)
-        → text_at text (run complex.now.base (kept_all complex.now.journal.batches)) ≡ Some t
-        → result ≡ gone_with_lem t }
+    ensures { IsGoneSince complex.now text result }
 {
     kept_replies(complex);
     complex.kept_given();
-    unless_brought(
-        text,
-        gone_at(&complex.base, text),
-        complex.journal.batches(),
-    )
+    let Some(gone) = gone_at(&complex.base, text) else {
+        return None;
+    };
+    if is_brought_in(text, complex.journal.batches()) {
+        return None;
+    }
+    Some(gone)
 }

@@ -1,7 +1,5 @@
 //! The outputs of a job into a member's groups on the spool volumes.
-ghost use Rattle.std.specs.Prelude.{◌≤◌, OnOk};
-ghost use Rattle.member_acts.specs.Names.{spools_at, AreRoomy, AreSpooled, AreWritten};
-ghost use Rattle.member_acts.specs.Outputs.{ActsOn, MayWrite};
+ghost use Rattle.member_acts.specs.Outputs.{MayWrite, SpoolsEach, WritesEach, into};
 
 use mas_complex::{Complex, Steady};
 use mas_types::{GroupNo, MemberId, OutSpec};
@@ -19,10 +17,7 @@ fn write_outputs<P: Plant + Drop, C: Steady + Drop>(
     specs: &[OutSpec],
 ) -> Result<(), SpoolError>
     requires { MayWrite complex.old by groups.now specs.now }
-    ensures on { ActsOn complex.old complex.new by groups.now result }
-    ensures stand { OnOk result (P.tells → AreRoomy (P.view complex.old.plant) complex.old.base.config
-        → AreWritten (spools_at (P.view complex.new.plant) (P.view complex.new.plant).now)
-        complex.old.base.config.groups specs.now groups.now) }
+    ensures { WritesEach complex.old complex.new by (into groups.now specs.now) result }
 {
     let Some((spec, rest)) = specs.split_first() else {
         return Ok(());
@@ -40,12 +35,8 @@ pub(crate) fn write_and_sync<P: Plant + Drop, C: Steady + Drop>(
     groups: &[GroupNo],
     specs: &[OutSpec],
 ) -> Result<(), SpoolError>
-    requires may { MayWrite complex.old by groups.now specs.now }
-    requires some { 1 ≤ complex.old.base.config.groups }
-    ensures on { ActsOn complex.old complex.new by groups.now result }
-    ensures there { OnOk result (P.tells → AreRoomy (P.view complex.old.plant) complex.old.base.config
-        → AreSpooled (spools_at (P.view complex.new.plant) (P.view complex.new.plant).now)
-        complex.old.base.config.groups specs.now groups.now) }
+    requires { MayWrite complex.old by groups.now specs.now }
+    ensures { SpoolsEach complex.old complex.new by (into groups.now specs.now) result }
 {
     write_outputs(complex, by, groups, specs)?;
     sync_volumes(complex, by, groups)?;

@@ -38,21 +38,21 @@ use Rattle.mas_complex.specs.Locking.{IsUp, reserved_after_stop}
 use Rattle.mas_complex.specs.Paper.{counts_of}
 use Rattle.mas_complex.specs.Parts.{Parts, parts_of}
 use Rattle.mas_complex.specs.Spool.{IsHeldBy}
-use Rattle.mas_complex.specs.Texts.{spools_at}
 use Rattle.member_sittings.specs.Member.{Member}
 use Rattle.member_sittings.specs.NodeNo.{NodeNo}
 use Rattle.member_sittings.specs.NodeNo.TheVariants.{BothLost, Halted, ConsoleFault, NoMemory}
-use Rattle.member_sittings.specs.Spooling.{OnVolumes, GroupsKept}
-use Rattle.member_sittings.specs.Steps.{SpoolStops, names_volume}
+use Rattle.member_sittings.specs.Spooling.{OnVolumes}
+use Rattle.member_sittings.specs.Steps.{SpoolStops}
 use Rattle.member_work.specs.Inked.{HasInked, OtherCountsStay, lines_read}
 use Rattle.member_work.specs.Looks.{as_it_is}
 use Rattle.member_work.specs.Printing.{IsBeside}
 use Rattle.member_work.specs.Reading.{IsFailedRead, OnlyReads}
-use Rattle.member_work.specs.Rounds.{HasPrinterFailed, IsReadAs, IsSpoolLost, names_read}
+use Rattle.member_work.specs.Rounds.{HasPrinterFailed, IsReadAs, names_read}
 use Rattle.member_work.specs.Spooled.{AreSpooled}
 use Rattle.step_turns.specs.JobEnds.{printed_end}
 use Rattle.step_turns.specs.States.{nothing_found}
 use Rattle.step_turns.specs.declared.states.Found.{Found}
+use Rattle.member_sittings.specs.Asides.{HasPlaced}
 pub use Rattle.member_sittings.specs.Asides.{deck_found, finds_of, found_as}
 use Rattle.member_sittings.specs.Whole.{queue_of}
 use Rattle.member_asides.specs.Ready.{IsOutputReady}
@@ -107,6 +107,11 @@ lowest_for by owners specs = take (groups_of_outputs specs) (held_by by owners)
 abbrev pub read_by : Result Found NodeNo → Text → Read
 read_by (Ok found) text = found.read
 read_by (Err why) text = as_it_is text
+
+-- whether the printer was found lost
+abbrev pub printer_by : Result Found NodeNo → Result Bool NodeNo
+printer_by (Ok found) = Ok found.printer
+printer_by (Err why) = Err why
 
 -- the lines of an output up to this one, except so many that the member has printed, by how its text was read
 abbrev pub lines_next : ℕ → ℕ → Output → Read → List (List ℕ)
@@ -167,12 +172,13 @@ module _ {P C : Type 0} (plants : PlantGhosts P) where
     pub failed : IsFailedRead x.base.config.groups (groups_of (Deck n) m.checkpoint.tables.owners) found.read (v x)
         (v y)
     pub read : plants.tells → AreRoomy (v x) x.base.config → (j : Job) → job_at (queue_of x) n ≡ Some j
-        → IsReadAs plants.tells x.base.config.groups j.text (groups_of (Deck n) (queue_of x).owners) (Some found.read)
+        → IsReadAs plants.tells x.base.config.groups (j.text, groups_of (Deck n) (queue_of x).owners) (Some found.read)
         (v x) (v y)
 
   -- Reading, by its answer: no volume is written, and each stays as it is that isn't found lost. Halted comes only
   -- where the member was stopped.
   pub record HasRead (x y : Parts P C) (m : Member) (n : JobNo) (result : Result Found NodeNo) : Type 0 where
+    pub frame : y ≡ record x { plant = y.plant }
     pub acts : OnVolumes plants.tells m.id.0 (v x) (v y)
     pub reads : OnlyReads plants.tells (v x) (v y)
     pub cause : SpoolStops (λ found. names_read found.read) result m.id.0 (v x) (v y)
@@ -187,21 +193,10 @@ module _ {P C : Type 0} (plants : PlantGhosts P) where
     pub enough : groups_of_outputs specs ≤ member_count m.id m.checkpoint.tables.owners
     pub held : plants.tells → All (λ g. IsHeldBy m.id g (queue_of x)) (held_by m.id m.checkpoint.tables.owners)
 
-  -- A volume that was found lost failed in the acts, and one of the groups lies on it; else the texts stand in these,
-  -- all of it synced.
-  pub record FindsPlace (x y : Parts P C) (groups : List GroupNo) (specs : List OutSpec) (found : Found) : Type 0 where
-    pub only : found ≡ deck_found found.lost
-    pub lost : IsSpoolLost x.base.config.groups groups found.lost (v x) (v y)
-    pub there : found.lost ≡ None → plants.tells → AreRoomy (v x) x.base.config
-        → AreSpooled (spools_at (v y) (v y).now) x.base.config.groups specs groups
-
-  pub record HasWritten (x y : Parts P C) (m : Member) (specs : List OutSpec) (result : Result Found NodeNo) : Type 0
-    where
-      pub acts : OnVolumes plants.tells m.id.0 (v x) (v y)
-      pub cause : SpoolStops (λ found. names_volume found.lost) result m.id.0 (v x) (v y)
-      pub finds : IfOk result (FindsPlace x y (lowest_for m.id m.checkpoint.tables.owners specs) specs)
-      pub spares : plants.tells → GroupsKept x.base.config.groups (lowest_for m.id m.checkpoint.tables.owners specs)
-          (spools_at (v x) (v x).now) (spools_at (v y) (v y).now)
+  -- the texts of a job's outputs were written into the lowest groups of the member
+  abbrev pub HasWritten : Parts P C → Parts P C → Member → List OutSpec → Result Found NodeNo → Type 0
+  HasWritten x y m specs result = HasPlaced plants x y m.id (lowest_for m.id m.checkpoint.tables.owners specs)
+      (λ disks per. AreSpooled disks per specs (lowest_for m.id m.checkpoint.tables.owners specs)) result
 
   -- PRINTING THE NEXT LINES OF AN OUTPUT
 
@@ -224,7 +219,7 @@ module _ {P C : Type 0} (plants : PlantGhosts P) where
     pub failed : IsFailedRead x.base.config.groups (groups_of (OutputThing l.job l.output) m.checkpoint.tables.owners) found.read
         (v x) (v y)
     pub read : plants.tells → AreRoomy (v x) x.base.config → (o : Output) → output_at (queue_of x) l.job l.output ≡ Some o
-        → IsReadAs plants.tells x.base.config.groups o.text (groups_of (OutputThing l.job l.output) (queue_of x).owners)
+        → IsReadAs plants.tells x.base.config.groups (o.text, groups_of (OutputThing l.job l.output) (queue_of x).owners)
         (Some found.read) (v x) (v y)
     pub printer : found.printer ≡ true → HasPrinterFailed m.id (v x) (v y)
     pub counted : printed_end found.printer found.read ≡ None → plants.tells → (o : Output)
@@ -236,11 +231,12 @@ module _ {P C : Type 0} (plants : PlantGhosts P) where
   -- count differs. Halted comes only where the member was stopped.
   pub record HasPrintedNext (x y : Parts P C) (m : Member) (l : LinesTo) (result : Result Found NodeNo) : Type 0
     where
+      pub frame : HasOnlyPrinted result m.id x y
       pub acts : IsBeside plants.tells (v x) (v y)
       pub reads : OnlyReads plants.tells (v x) (v y)
       pub inks : plants.tells → (o : Output) → output_at (queue_of x) l.job l.output ≡ Some o
-          → HasInked plants (λ found. found.printer) m.id
-          (lines_next (counts_of x.printed m.id) l.last o (read_by result o.text)) x y result
+          → HasInked plants m.id (lines_next (counts_of x.printed m.id) l.last o (read_by result o.text)) x y
+          (printer_by result)
       pub counts : OtherCountsStay m.id x.printed y.printed
       pub wires : plants.tells → SameWires (v x) (v y)
       pub cause : SpoolStops (λ found. names_read found.read) result m.id.0 (v x) (v y)
@@ -265,10 +261,6 @@ module _ {P C : Type 0} {plants : PlantGhosts P} {steadies : SteadyGhosts C} {co
 
   abbrev pub MayPrintLines : Complex P C plants steadies copies → Member → LinesTo → Type 0
   MayPrintLines x m l = MayPrintNext plants (parts_of x) m l
-
-  abbrev pub OnlyPrints : {T : Type 0} → Result T NodeNo → MemberId → Complex P C plants steadies copies
-      → Complex P C plants steadies copies → Type 0
-  OnlyPrints result by x y = HasOnlyPrinted result by (parts_of x) (parts_of y)
 
   abbrev pub PrintsLines : Complex P C plants steadies copies → Complex P C plants steadies copies → Member → LinesTo
       → Result Found NodeNo → Type 0

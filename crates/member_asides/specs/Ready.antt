@@ -1,6 +1,6 @@
 -- What holds where a sitting of work leaves a step that waits for acts, and what has to hold where it goes on after
 -- them.
-use Rattle.std.specs.Prelude.{◌≡◌, ℕ, ◌+◌, ◌≤◌, ◌<◌, is_some, true, false, List, take, None, Option, Some}
+use Rattle.std.specs.Prelude.{◌≡◌, ℕ, ◌+◌, ◌≤◌, ◌<◌, is_some, true, false, List, take, None, Some}
 use Rattle.mas_types.specs.declared.commands.Command.{Command}
 use Rattle.mas_types.specs.declared.commands.Command.TheVariants as command
 use Rattle.mas_types.specs.declared.ids.JobNo.{JobNo}
@@ -19,7 +19,15 @@ use Rattle.track_groups.specs.Groups.{held_by}
 use Rattle.queue_commands.specs.Given.{IsGiver, is_plain}
 use Rattle.queue_telling.specs.Telling.{Tell, TellSound}
 use Rattle.paper_laws.specs.Counts.{IsMarkRight}
-use Rattle.mas_complex.specs.Texts.{Spools}
+use Rattle.spool_plant.specs.View.{View}
+use Rattle.spool_plant.specs.declared.plant.Plant.{Ghosts as PlantGhosts}
+use Rattle.ckpt_copy.specs.declared.copying.Copying.{Ghosts as CopyGhosts}
+use Rattle.ckpt_form.specs.declared.steady.Steady.{Ghosts as SteadyGhosts}
+use Rattle.mas_complex.specs.declared.complex.Complex.{Complex}
+use Rattle.mas_complex.specs.Paper.{counts_of}
+use Rattle.mas_complex.specs.Parts.{Parts, parts_of}
+use Rattle.mas_complex.specs.Texts.{Spools, spools_at}
+use Rattle.member_sittings.specs.Whole.{queue_of}
 use Rattle.job_exec.specs.Running.{AreOutputs}
 use Rattle.job_outcome.specs.Outcomes.{IsReadable}
 use Rattle.member_work.specs.Printing.{IsPrinting}
@@ -102,23 +110,31 @@ pub record HasFewer (sittings units : ℕ) (s : State) : Type 0 where
 
 -- WHERE A STEP GOES ON, by what was found
 
--- the job's outputs stand in the lowest groups of the member, unless a volume of theirs was found lost
-pub record OutputsStand (told : Type 0) (Q : Queue) (by : MemberId) (disks : Spools) (per : ℕ) (n : JobNo)
-    (specs : List OutSpec) (lost : Option ℕ) : Type 0 where
-  pub job : told → IsUnderWay Q by n
-  pub there : lost ≡ None → told
-      → AreSpooled disks per (outputs_at_end (job_at Q n) specs) (take (groups_for_end Q n specs) (held_by by Q.owners))
+-- the outputs of a job stand in the lowest groups of the member; one that was cancelled since has none
+abbrev pub AreStanding : Spools → Queue → MemberId → JobNo → List OutSpec → Type 0
+AreStanding disks Q by n specs = AreSpooled disks Q.config.groups (outputs_at_end (job_at Q n) specs)
+    (take (groups_for_end Q n specs) (held_by by Q.owners))
 
--- A step may go on with a job that is under way at the member still, whose text was read, or whose outputs stand there;
--- or with an output whose lines stand on paper, unless one couldn't be printed.
-abbrev pub MayResume : Type 0 → Queue → MemberId → Spools → (MemberId → ℕ) → Aside → Found → Type 0
-MayResume told Q by disks counts (SpoolDeck n text) found = ⊥
-MayResume told Q by disks counts (ReadText runs n fields p) found = IsJobFields fields × IsReadable found.read
-    × (told → IsUnderWay Q by n)
-MayResume told Q by disks counts (SpoolOutputs n specs p) found = AreOutputs specs
-    × OutputsStand told Q by disks Q.config.groups n specs found.lost
-MayResume told Q by disks counts (PrintLines n i last p) found = IsIndex i.0
-    × (printed_end found.printer found.read ≡ None → told → IsMarkRight Q by (counts by) (command.Mark n i last))
-MayResume told Q by disks counts (Exchange l offer) found = ⊥
-MayResume told Q by disks counts (SpoolArrival number n text s) found = ⊥
-MayResume told Q by disks counts (Acknowledge number s) found = ⊥
+module _ {P C : Type 0} (plants : PlantGhosts P) where
+  abbrev v : Parts P C → View
+  v x = plants.view x.plant
+
+  -- A step may go on with a job that is under way at the member still, whose text was read, or whose outputs stand
+  -- there, unless a volume of theirs was found lost; or with an output whose lines stand on paper, unless one couldn't
+  -- be printed.
+  abbrev pub IsToResume : Parts P C → MemberId → Aside → Found → Type 0
+  IsToResume x by (SpoolDeck n text) found = ⊥
+  IsToResume x by (ReadText runs n fields p) found = IsJobFields fields × IsReadable found.read
+      × (plants.tells → IsUnderWay (queue_of x) by n)
+  IsToResume x by (SpoolOutputs n specs p) found = AreOutputs specs × (plants.tells → IsUnderWay (queue_of x) by n)
+      × (found.lost ≡ None → plants.tells → AreStanding (spools_at (v x) (v x).now) (queue_of x) by n specs)
+  IsToResume x by (PrintLines n i last p) found = IsIndex i.0
+      × (printed_end found.printer found.read ≡ None → plants.tells
+      → IsMarkRight (queue_of x) by (counts_of x.printed by) (command.Mark n i last))
+  IsToResume x by (Exchange l offer) found = ⊥
+  IsToResume x by (SpoolArrival number n text s) found = ⊥
+  IsToResume x by (Acknowledge number s) found = ⊥
+
+module _ {P C : Type 0} {plants : PlantGhosts P} {steadies : SteadyGhosts C} {copies : CopyGhosts C} where
+  abbrev pub MayResume : Complex P C plants steadies copies → MemberId → Aside → Found → Type 0
+  MayResume x by aside found = IsToResume plants (parts_of x) by aside found

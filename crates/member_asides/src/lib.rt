@@ -2,4 +2,4 @@
 //! functions that are passed on.
 #![tactic(auto)]
 
-pub use member_sittings::{found_by, found_with};
+pub use member_sittings::{SittingEnd, found_by, found_with, release_of};

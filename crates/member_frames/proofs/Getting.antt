@@ -32,7 +32,7 @@ use Rattle.ckpt_copy.specs.declared.copying.Copying.{Ghosts as CopyGhosts}
 use Rattle.mas_complex.specs.Paper.{MayBegin}
 use Rattle.mas_complex.specs.Parts.{Parts}
 use Rattle.mas_complex.specs.Texts.{HasTexts, IsThere, IsThereUnless, Spools}
-use Rattle.mas_complex.proofs.Allowed.{unmarked_begin}
+use Rattle.mas_complex.proofs.Batches.{unmarked_begin}
 use Rattle.member_node.specs.declared.member.Member.{Member}
 use Rattle.member_node.specs.declared.member.NodeNo.{NodeNo}
 use Rattle.member_node.specs.Batches.{HasDone}
@@ -196,5 +196,5 @@ module _ {P C : Type 0} (plants : PlantGhosts P) (copies : CopyGhosts C) where
       → ((Q : Queue) → HasDone Q m.batch m.checkpoint → HasDone Q n.batch n.checkpoint) → (plants.tells → TellSound n.checkpoint.tables) → HasTextsAfter plants copies x n.batch → IsGiving plants copies x n at
   gives_two x m n did at s c d p q batch may may2 fit fit2 plain plain2 order done sound texts =
       gives_commanded plants copies x m n did at s (two_of m.id at n.batch (entry_with m.id at c p) (entry_with m.id at d q) batch (refl, refl) (refl, refl)) (omega (arith, order))
-      (λ t. done (queue_of x) (between_done plants.tells x.base x.batches x.current x.placed x.level m.batch m.checkpoint s.seat.between t))
+      (λ t. done (queue_of x) (between_done plants.tells x m.batch m.checkpoint s.seat.between t))
       sound texts (λ t. two_begin x.base x.batches x.printed m.id at c d p q n.batch batch may may2 fit fit2 plain plain2)

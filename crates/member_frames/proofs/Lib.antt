@@ -1,5 +1,6 @@
 mod Loaded
 mod Bounded
+mod Answered
 mod Idle
 mod Offering
 mod Fronts

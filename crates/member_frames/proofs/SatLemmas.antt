@@ -34,7 +34,7 @@ use Rattle.member_sittings.specs.Sat.{HasSat, resumes}
 use Rattle.member_sittings.specs.Shapes.{Says, SaysLine}
 use Rattle.member_sittings.specs.Tight.{IfNoWork}
 use Rattle.member_sittings.specs.Whole.{queue_of}
-use Rattle.member_giving.specs.Plays.{Wrote, wrote_of}
+use Rattle.member_giving.specs.Plays.{Wrote, wrote_of, to_play}
 use Rattle.member_giving.specs.Ready.{HasFewer}
 use Rattle.member_giving.specs.Works.{HasRoom, IsLow, outside, place_of}
 use Rattle.member_giving.proofs.Sat.{sat_played, sits_as, sitting_as}
@@ -50,7 +50,7 @@ module _ {P C : Type 0} {plants : PlantGhosts P} {steadies : SteadyGhosts C} {co
 
   -- the rest of a sitting, from its beginning on
   pub sat_line : (x y : Complex P C plants steadies copies) (m : Member) (h : Holder) (most : ℕ) (t : Turn) (w : Wrote) (r : Result SittingEnd NodeNo) → m.batch ≡ [] → IsStill plants copies (parts_of x) m → (plants.tells → w ≡ wrote_of [] t)
-      → ServesLine plants.tells h most 0 w (place_of x m) (outside y) r → SatLine plants.tells h most t x y r
+      → ServesLine plants.tells most (to_play h 0 w) (place_of x m) (outside y) r → SatLine plants.tells h most t x y r
   sat_line x y m h most t w r nothing work same p = record {
     sitting = sitting_as h p.wrote;
     is = λ told. sits_as h t p.wrote (p.is told ∙ same told);

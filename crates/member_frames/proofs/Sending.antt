@@ -17,7 +17,7 @@ use Rattle.step_turns.specs.declared.states.Holder.{Holder}
 use Rattle.step_turns.specs.declared.states.Service.{Service}
 use Rattle.step_turns.specs.TurnParts.{Turn}
 use Rattle.member_sittings.specs.declared.ends.SittingEnd.{SittingEnd}
-use Rattle.member_giving.specs.Plays.{HasGiven, Keeps, SparesOthers, Wrote, after_full, full_of, unwritten, wrote_of, unit_part}
+use Rattle.member_giving.specs.Plays.{HasGiven, Keeps, SparesOthers, Wrote, after_full, full_of, unwritten, wrote_of, unit_part, to_play}
 use Rattle.member_giving.specs.Works.{Outside, Place}
 use Rattle.member_giving.proofs.Given.{closing_one}
 use Rattle.member_giving.proofs.Going.{after_batches, played_fits, played_full, played_full_error, played_part, played_part_error}
@@ -33,7 +33,7 @@ use Rattle.member_frames.proofs.TurnLemmas.{after_within, part_within, turn_serv
 pub line_more : (h : Holder) (most least : ℕ) (w : Wrote) → least ≤ most → IsWithinLine h least w → IsWithinLine h most w
 line_more h most least w le v = record { few = let few = v.few in omega (arith, few, le); says = v.says }
 
-pub serves_more : (told : Type 0) (h : Holder) (most least given : ℕ) (w : Wrote) (old : Place) (new : Outside) (r : Result SittingEnd NodeNo) → least ≤ most → ServesLine told h least given w old new r → ServesLine told h most given w old new r
+pub serves_more : (told : Type 0) (h : Holder) (most least given : ℕ) (w : Wrote) (old : Place) (new : Outside) (r : Result SittingEnd NodeNo) → least ≤ most → ServesLine told least (to_play h given w) old new r → ServesLine told most (to_play h given w) old new r
 serves_more told h most least given w old new r le p = played_fits told h (IsWithinLine h most) given (IsWithinLine h least) w old new r (λ x v. line_more h most least x le v) p
 
 module _ (told : Type 0) (h : Holder) (number : ℕ) (s : Service) (old mid : Place) (given : ℕ) where
@@ -57,7 +57,7 @@ module _ (told : Type 0) (h : Holder) (number : ℕ) (s : Service) (old mid : Pl
   most = 2 * suc (length s.frames) + 1 + unwritten old.batch
 
   abbrev Whole : Outside → Result SittingEnd NodeNo → Type 0
-  Whole new r = ServesLine told h most given (wrote_of old.batch (turn_by h.by h.step (next.Send number s) old.queue given)) old new r
+  Whole new r = ServesLine told most (to_play h given (wrote_of old.batch (turn_by h.by h.step (next.Send number s) old.queue given))) old new r
 
   -- out of memory for Sent
   pub send_error : AreOf h.by h.step old.batch → (why : NodeNo) → HasGiven told h (unit_part (sent ∷ []) end_as) old mid (Err why) → Whole mid.outside (Err why)
@@ -104,7 +104,7 @@ module _ (told : Type 0) (h : Holder) (number : ℕ) (s : Service) (old mid : Pl
 
       -- the next frame follows
       pub send_then : (new : Outside) (r : Result SittingEnd NodeNo) {S : Type 0} (done : S) → SparesOthers told h.by mid.outside after.outside → Keeps {T = S} told h.by (full_of mid.batch) mid.outside after.outside (Ok done)
-          → HasCounted {T = S} h.by (all_entries (full_of mid.batch)) mid.outside.printed after.outside.printed (Ok done) → ServesLine told h least (given + 1) (wrote_of after.batch t) after new r → Whole new r
+          → HasCounted {T = S} h.by (all_entries (full_of mid.batch)) mid.outside.printed after.outside.printed (Ok done) → ServesLine told least (to_play h (given + 1) (wrote_of after.batch t)) after new r → Whole new r
       send_then new r {S} done spares keeps counted p =
           played_part told h (IsWithinLine h most) given (sent ∷ []) end_as old mid t (rest es) end (given + 1) new r g one_more follows
           (played_full told h (IsWithinLine h most) (given + 1) {S = S} done t (IsWithinLine h least) mid after new r fits of left spares keeps counted p)

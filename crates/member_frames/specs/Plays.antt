@@ -25,7 +25,7 @@ use Rattle.member_sittings.specs.declared.ends.SittingEnd.{SittingEnd}
 use Rattle.member_sittings.specs.Sat.{IsSat}
 use Rattle.member_sittings.specs.Shapes.{LineLines, SaysAtEnd}
 use Rattle.member_sittings.specs.Whole.{queue_of}
-use Rattle.member_giving.specs.Plays.{PlaysAs, Wrote, to_play}
+use Rattle.member_giving.specs.Plays.{PlaysAs, ToPlay, Wrote}
 use Rattle.member_giving.specs.Works.{Outside, Place}
 
 -- a step closes so without a reply
@@ -42,9 +42,9 @@ pub record IsWithinLine (h : Holder) (most : ℕ) (w : Wrote) : Type 0 where
   pub few : length w.batches + sittings_most w.next ≤ most
   pub says : SaysAtEnd w.next (LineLines h) w.lines
 
--- The rest of a sitting in which so many commands are given, as for work, except for what bounds it.
-abbrev pub ServesLine : Type 0 → Holder → ℕ → ℕ → Wrote → Place → Outside → Result SittingEnd NodeNo → Type 0
-ServesLine told h most given w old new result = PlaysAs told (IsWithinLine h most) (to_play h given w) old new result
+-- The rest of a sitting, as for work, except for what bounds it.
+abbrev pub ServesLine : Type 0 → ℕ → ToPlay → Place → Outside → Result SittingEnd NodeNo → Type 0
+ServesLine told most rest old new result = PlaysAs told (IsWithinLine rest.holder most) rest old new result
 
 -- A JOB'S FIRST COMMANDS, at the beginning of a sitting
 

@@ -16,11 +16,11 @@ ghost use Rattle.member_frames.specs.Arriving.{BeginsArrival, IsJobFrame};
 ghost use Rattle.member_frames.specs.Plays.{OpensArrival};
 ghost use Rattle.member_frames.specs.Waits.{HasFrameMore, IsServable, WaitsOnLine};
 
-use crate::ends::close_line;
 use card_reader::{DeckNo, read_deck};
 use mas_complex::{Complex, Steady};
 use mas_types::{Closing, Command, JobFields, JobNo, Lines, List, Reply};
 use member_decks::Opened;
+use member_giving::close_step;
 use member_node::{Member, NodeNo};
 use member_opening::open_deck;
 use member_sittings::{
@@ -155,7 +155,7 @@ pub(crate) fn open_arrival<P: Plant + Drop, C: Steady + Drop>(
         }
         Err(DeckNo::BadCard { card, cause }) => {
             let end = Closing::BadCard(card, cause);
-            close_line(member, alloc, complex, holder, &end, 0)
+            close_step(member, alloc, complex, holder, &end, 0)
         }
         Err(DeckNo::NoMemory) => Err(NodeNo::NoMemory),
     }

@@ -16,12 +16,12 @@ ghost use Rattle.member_frames.specs.Plays.{EndsLine, EndsOrServes, answer_end a
 ghost use Rattle.member_frames.specs.Waits.{IsServable, MayResumeLine, WaitsOnLine};
 
 use crate::arrivals::{Stored, heard, open_arrival, sit_arrival};
-use crate::ends::close_line;
 use crate::nexts::{Next, next_of, take_first};
 use crate::serving::serve;
 use job_outcome::Read;
 use mas_complex::{Complex, Steady};
 use mas_types::Closing;
+use member_giving::close_step;
 use member_node::{Member, NodeNo};
 use member_sittings::SittingEnd;
 use spool_plant::Plant;
@@ -134,7 +134,7 @@ fn end_or_serve<P: Plant + Drop, C: Steady + Drop>(
         ≤ complex.old.level + 2 * length service.frames + 1) }
 {
     match end {
-        Some(end) => close_line(member, alloc, complex, holder, &end, 0),
+        Some(end) => close_step(member, alloc, complex, holder, &end, 0),
         None => serve_frames(member, alloc, complex, holder, service),
     }
 }

@@ -3,7 +3,6 @@
 #![tactic(auto)]
 
 mod arrivals;
-mod ends;
 mod frames;
 mod loading;
 mod nexts;

@@ -2,10 +2,6 @@
 use Rattle.member_giving.proofs.Names.{◌≡◌, ℕ, ◌≤◌, ◌<◌, Bool, true, false, if◌then◌else◌, List, [], ◌∷◌, ◌++◌, length, All, ◌∙◌, append_assoc, append-nil, ap, refl, sym, subst, arith, length-append, nat_tests, All-append, All-cons, All-head, All-nil, All-tail, MemberId, Entry, test_cases, AreOf, batch_of, cut, cut_after, is_full, all_entries, after_full, full_of}
 use Rattle.member_giving.proofs.Leaving.{StartsAs}
 
-pub some_batch : (es : List Entry) → (length es ≡ 0 → ⊥) → 1 ≤ length es
-some_batch [] not = absurd (not refl)
-some_batch (e ∷ es) not = omega arith
-
 pub none_batch : (es : List Entry) → length es ≡ 0 → es ≡ []
 none_batch [] none = refl
 none_batch (e ∷ es) none = absurd (omega (arith, none))
@@ -27,23 +23,17 @@ cut_end es =
 
 -- FULL OR NOT
 
-pub not_full : (es : List Entry) → length es < 64 → is_full es ≡ false
-not_full es few = grind (arith, nat_tests)
+pub full_none : (es : List Entry) → length es < 64 → (full_of es ≡ []) × (after_full es ≡ es)
+full_none es few = let no : is_full es ≡ false = grind (arith, nat_tests) in (ap (λ (b : Bool). if b then es ∷ [] else []) no, ap (λ (b : Bool). if b then [] else es) no)
 
-pub now_full : (es : List Entry) → 64 ≤ length es → is_full es ≡ true
-now_full es many = grind (arith, nat_tests)
+pub full_all : (es : List Entry) → 64 ≤ length es → (full_of es ≡ batch_of es) × (after_full es ≡ [])
+full_all es many = let all : is_full es ≡ true = grind (arith, nat_tests) in (ap (λ (b : Bool). if b then es ∷ [] else []) all ∙ full_batch es all, ap (λ (b : Bool). if b then [] else es) all)
 
-pub full_none : (es : List Entry) → length es < 64 → full_of es ≡ []
-full_none es few = ap (λ (b : Bool). if b then es ∷ [] else []) (not_full es few)
-
-pub after_none : (es : List Entry) → length es < 64 → after_full es ≡ es
-after_none es few = ap (λ (b : Bool). if b then [] else es) (not_full es few)
-
-pub full_all : (es : List Entry) → 64 ≤ length es → full_of es ≡ batch_of es
-full_all es many = ap (λ (b : Bool). if b then es ∷ [] else []) (now_full es many) ∙ full_batch es (now_full es many)
-
-pub after_all : (es : List Entry) → 64 ≤ length es → after_full es ≡ []
-after_all es many = ap (λ (b : Bool). if b then [] else es) (now_full es many)
+pub after_few : (es : List Entry) → length (after_full es) < 64
+after_few es =
+    test_cases (is_full es) (length (after_full es) < 64)
+    (λ full. rw full (omega arith))
+    (λ few. let less : length es < 64 = grind (arith, nat_tests) in rw few less)
 
 -- HOW THEY BEGIN: the first has these entries, and perhaps more after them
 
@@ -84,11 +74,6 @@ starts_full (e ∷ es) parts =
     test_cases (is_full (e ∷ es)) (StartsAs (full_of (e ∷ es)) (cut_after (e ∷ es) (λ unwritten. cut unwritten parts)))
     (λ full. rw full (omega arith, ([], sym (append-nil (e ∷ es)))))
     (λ few. rw few tt)
-
--- a batch begins itself
-pub starts_itself : (es : List Entry) → StartsAs (batch_of es) (batch_of es)
-starts_itself [] = tt
-starts_itself (e ∷ es) = (omega arith, ([], sym (append-nil (e ∷ es))))
 
 -- entries are cut into what is full first, and then the rest
 pub full_first : (es : List Entry) (parts : List (List Entry)) → cut_after es (λ unwritten. cut unwritten parts) ≡ full_of es ++ cut (after_full es) parts

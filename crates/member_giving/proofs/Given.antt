@@ -1,35 +1,27 @@
 -- A member that gave a part of a unit on its tables: all its commands, or, out of memory, the first ones.
-use Rattle.member_giving.proofs.Names.{◌≡◌, ◌+◌, ◌≤◌, ℕ, List, [], ◌∷◌, ◌++◌, length, Result, Ok, Err, All, true, false, ◌∙◌, length-append, append_assoc, ap, refl, subst, sym, arith, not, Command, MemberId, Entry, Queue, Reply, Batch, Tell, View, PlantGhosts, Ghosts as CopyGhosts, SteadyGhosts, Complex, kept_all, begun, meaning_run as run, MayBegin, values_of, HasTexts, Spools, lost_now, spools_at, Member, NodeNo, Apart, Course, IsSettle, counted_none, counted_up, notes_by, notes_same, LeavesNotes, AreOf, given_of, tells_some, IsOnCopies, KeepLeaves, UnitEnd, IsKeeping, part_begins, batch_of, given_in, closes, closing_reply, entry_of, is_drop, reply_to, Holder, run_append, GivesUp, HasGiven, SparesOthers, Works, outside, place_of, queue_here, queue_kept, append-nil, suc, parts_of, drop_groups, unit_part, pair_at, Found, HasRoom, MayEndBy, dropping_unmarked, end_by, ending, ending_unmarked, inl, more_begins, reply_answered, taken_answered, taken_end, taking_unmarked, ◌*◌, ◌<◌}
+use Rattle.member_giving.proofs.Names.{◌≡◌, ◌+◌, ◌≤◌, ℕ, List, [], ◌∷◌, ◌++◌, length, Result, Ok, Err, All, true, false, ◌∙◌, length-append, append_assoc, ap, refl, subst, sym, arith, not, Command, MemberId, Entry, Queue, Reply, Batch, Tell, View, PlantGhosts, Ghosts as CopyGhosts, SteadyGhosts, Complex, kept_all, begun, meaning_run as run, MayBegin, values_of, HasTexts, lost_now, spools_at, Member, NodeNo, Apart, Course, IsSettle, counted_none, counted_up, notes_by, notes_same, LeavesNotes, AreOf, given_of, tells_some, IsOnCopies, KeepLeaves, UnitEnd, IsKeeping, part_begins, batch_of, given_in, closes, closing_reply, entry_of, is_drop, reply_to, Holder, run_append, GivesUp, HasGiven, SparesOthers, Works, outside, place_of, queue_here, queue_kept, append-nil, parts_of, drop_groups, unit_part, pair_at, Found, HasRoom, MayEndBy, dropping_unmarked, end_by, ending, ending_unmarked, inl, more_begins, taking_unmarked, ◌*◌, ◌<◌, Bool, IfOk, are_refused, taking, HasCounted, Keeps, all_entries, HasTextsAfter, HasTextsOf, pair_of, entry_with, batch_some, All-drop, GivesAs, GivesAt, MayEnd, asked, step, front_is, of_strip, or_one, still_commanded, strip, HasKept, to_keep, given_length, one_more, has_groups, ◌^◌, can_still, if◌then◌else◌}
 use Rattle.std.proofs.Math.Logic.{∥∥₁_map}
+use Rattle.std.proofs.lemmas.List.{drop_at}
 use Rattle.queue_laws.proofs.RunLaws.{give_alike}
 use Rattle.member_node.specs.Drawn.{AreDrawn}
 use Rattle.member_decks.specs.Taking.{LeaveOut, IsPart}
 use Rattle.member_decks.proofs.MayLemmas.{IsUnmarked}
-use Rattle.member_work.specs.Giving.{GivesAt, HasGiven as Given, MayEnd, asked, IsSoundPlain}
-use Rattle.ckpt_tables.specs.Shape.{AreLevels, HasSpelling, page_count}
-use Rattle.mas_types.specs.Limits.{page_bytes}
-use Rattle.mas_types.specs.Step.{step}
 use Rattle.mas_types.specs.declared.commands.Reply.TheVariants as reply
-use Rattle.member_node.specs.Batches.{CanDraw}
-use Rattle.member_node.specs.declared.checkpoint.Checkpoint.{Checkpoint}
-use Rattle.member_node.proofs.AgeLemmas.{aged_as, level_as}
-use Rattle.member_steps.specs.Steps.{entry_with}
-use Rattle.member_asides.specs.Whole.{HasTextsAfter, HasTextsOf}
-use Rattle.member_asides.proofs.ReachLemmas.{batch_some}
-use Rattle.member_asides.proofs.SeatLemmas.{all_strip, front_is, of_strip, or_one, still_commanded, strip, strip_front}
 use Rattle.member_giving.proofs.Going.{apart_none, apart_then}
 use Rattle.member_giving.proofs.Resting.{tells_here}
-use Rattle.member_giving.proofs.Working.{kept_here, none_flies}
+use Rattle.member_giving.proofs.Working.{kept_here, less_room, none_flies}
 use Rattle.member_giving.proofs.Cuts.{none_batch}
 use Rattle.member_giving.proofs.Keeping.{keeping_none, keeping_starts, keeping_then, kept_not as batch_not, kept_ok, settled}
 use Rattle.member_giving.proofs.Leaving.{StartsAs}
-use Rattle.member_giving.proofs.Within.{answered_by}
+use Rattle.member_giving.proofs.Within.{reply_ends}
+use Rattle.job_outcome.specs.declared.units.UnitEnd.TheVariants as ends
+use Rattle.mas_types.specs.declared.ids.NoMemory.{NoMemory as OutOfMemory}
+use Rattle.mas_types.specs.Owners.{member_count}
 use Rattle.step_turns.proofs.Takes.{few_ending, few_taking}
 use Rattle.member_node.proofs.TextLemmas.{plain_brings}
-use Rattle.std.proofs.Common.{◌^◌}
 use Rattle.member_giving.specs.declared.parts.Part.{Part}
 use Rattle.member_giving.specs.declared.parts.Part.TheVariants as part
-use Rattle.member_giving.specs.Parts.{IsLonger, IsOwnPart, MayGive, MayLose, PartStands, commands_most, ends_of, commands_of}
+use Rattle.member_giving.specs.Parts.{IsLonger, IsOwnPart, IsTaken, MayGive, gives_part, MayLose, PartStands, commands_most, ends_of, commands_of}
 
 -- the step may close with the reply to one command that isn't Drop
 closes_with : (r : Reply) (e : Entry) → e.reply ≡ r → is_drop e.command ≡ false → closing_reply (e ∷ []) ≡ r
@@ -45,11 +37,28 @@ module _ {P C : Type 0} {plants : PlantGhosts P} {steadies : SteadyGhosts C} {co
   pub spares_of : (x y : Complex P C plants steadies copies) (by own : MemberId) → by ≡ own → (plants.tells → Apart (seen x) (seen y)) → LeavesNotes own x y → SparesOthers plants.tells by (outside x) (outside y)
   spares_of x y by own same apart notes = record { others = λ t. (apart t).others; papers = λ t. (apart t).papers; wires = λ t. (apart t).wires; notes = notes_by own by (values_of x.had) (values_of y.had) (sym same) notes }
 
-  pub spares_then : (x y z : Complex P C plants steadies copies) (by own : MemberId) → by ≡ own → Course x.pair.first.alive y.pair.first.alive x.pair.second.alive y.pair.second.alive (seen x) (seen y) → (plants.tells → Apart (seen x) (seen y))
-      → Course y.pair.first.alive z.pair.first.alive y.pair.second.alive z.pair.second.alive (seen y) (seen z) → (plants.tells → Apart (seen y) (seen z)) → LeavesNotes own x y → z.had ≡ y.had → SparesOthers plants.tells by (outside x) (outside z)
+  pub spares_then : (x y z : Complex P C plants steadies copies) (by own : MemberId) → by ≡ own → Course (pair_of x) (pair_of y) → (plants.tells → Apart (seen x) (seen y))
+      → Course (pair_of y) (pair_of z) → (plants.tells → Apart (seen y) (seen z)) → LeavesNotes own x y → z.had ≡ y.had → SparesOthers plants.tells by (outside x) (outside z)
   spares_then x y z by own same one apart1 two apart2 notes had =
       apart_then plants.tells by (outside x) (outside y) (outside z) one.goes.later two.goes (spares_of x y by own same apart1 notes)
       (spares_of y z by own same apart2 (notes_same own (values_of y.had) (values_of z.had) (ap values_of had)))
+
+  -- nothing is to be kept
+  pub kept_none : (x : Complex P C plants steadies copies) (m : Member) (h : Holder) → Works x m h → (ess : List (List Entry)) (left : List Entry) → ess ≡ [] → m.batch ≡ left → HasKept (to_keep h ess left) x m x m (Ok tt)
+  kept_none x m h w ess left none same =
+      let o = outside x in
+      record {
+        run = refl;
+        keeps = subst (λ (l : List (List Entry)). Keeps {T = Unit {0}} plants.tells h.by l o o (Ok tt)) (sym none) (keeping_none plants.tells h.by o);
+        spares = apart_none plants.tells h.by o;
+        tables = refl;
+        left = same;
+        works = w;
+        queue = refl;
+        uses = λ k room. less_room x m k (k + 1) (omega arith) room;
+        reached = omega arith;
+        counts = subst (λ (l : List (List Entry)). HasCounted {T = Unit {0}} h.by (all_entries l) x.printed x.printed (Ok tt)) (sym none) (counted_none h.by x.printed x.printed (Ok tt) refl);
+      }
 
   module _ (x y : Complex P C plants steadies copies) (m : Member) (h : Holder) (w : Works x m h) (some : 1 ≤ length m.batch) where
     abbrev OnCopies : Result (Unit {0}) NodeNo → Type 0
@@ -71,31 +80,12 @@ module _ {P C : Type 0} {plants : PlantGhosts P} {steadies : SteadyGhosts C} {co
 
     -- it was kept, and then room was made for the next one
     pub kept_then : (z : Complex P C plants steadies copies) (n : Member) (r : Result (Unit {0}) NodeNo) → n.id ≡ m.id → OnCopies (Ok tt) → Leaves (Ok tt) → (outside z).batches ≡ (outside y).batches
-        → IsSettle plants.tells n.id.0 y.pair.first.alive z.pair.first.alive y.pair.second.alive z.pair.second.alive (seen y) (seen z) r → IsKeeping plants.tells h.by (batch_of m.batch) (outside x) (outside z) r
+        → IsSettle plants.tells n.id.0 (pair_of y) (pair_of z) r → IsKeeping plants.tells h.by (batch_of m.batch) (outside x) (outside z) r
     kept_then z n r id acts leaves same settle =
         batch_kept z r (keeping_then plants.tells m.id r (m.batch ∷ []) [] (outside x) (outside y) (outside z) (kept_ok plants.tells m.id (outside x) (outside y) m.batch some acts (leaves_out (Ok tt) leaves))
-        (settled plants.tells m.id (outside y) (outside z) same r (subst (λ (i : MemberId). IsSettle plants.tells i.0 y.pair.first.alive z.pair.first.alive y.pair.second.alive z.pair.second.alive (seen y) (seen z) r) id settle)))
-
-can_still : (k n : Checkpoint) → CanDraw k → n.pages ≡ k.pages → n.level ≡ k.level → n.levels ≡ k.levels → n.tables.config ≡ k.tables.config → HasSpelling n.tables → CanDraw n
-can_still k n draws pages level levels config spelling = record {
-  leveled = subst (λ (l : ℕ). AreLevels n.tables l n.levels) (sym level) (subst (AreLevels n.tables k.level) (sym levels) (record {
-    count = draws.leveled.count ∙ ap page_count (sym config);
-    first = draws.leveled.first;
-    each = draws.leveled.each;
-    most = draws.leveled.most;
-  }));
-  as_many = ap length pages ∙ draws.as_many ∙ ap page_count (sym config);
-  sized = subst (All (λ page. length page.0 ≡ page_bytes)) (sym pages) draws.sized;
-  spelling = spelling;
-  aged = aged_as k n draws.aged pages levels;
-  at_level = level_as k n draws.at_level pages level;
-}
+        (settled plants.tells m.id (outside y) (outside z) same r (subst (λ (i : MemberId). IsSettle plants.tells i.0 (pair_of y) (pair_of z) r) id settle)))
 
 -- HOW MANY COMMANDS
-
-given_long : (by : MemberId) (at : ℕ) (cs : List Command) (Q : Queue) → length (given_in Q by at cs) ≡ length cs
-given_long by at [] Q = refl
-given_long by at (c ∷ cs) Q = ap suc (given_long by at cs (step Q by c).0)
 
 part_few : {T E : Type 0} (r : Result T E) (gave all : List Entry) → IsPart r gave all → length gave ≤ length all
 part_few (Ok done) gave all are = let same = ap length are in omega (arith, same)
@@ -110,16 +100,22 @@ most_commands Q by (part.Groups needed) = few_taking Q by needed
 most_commands Q by (part.Ended n specs) = let few = few_ending Q by n specs in omega (arith, few)
 most_commands Q by _ = omega arith
 
-one_more : {T E : Type 0} {holds : Spools → ℕ → Type 0} {done : T} (m n : Member) (h : Holder) (c : Command) (R : Queue) → GivesAt {T = T} {E = E} (asked R m.id h.step (c ∷ [])) holds m n (Ok done) → length n.batch ≡ length m.batch + 1
-one_more m n h c R its = ap length (its.batch ∙ ap (λ (es : List Entry). m.batch ++ es) its.part) ∙ length-append m.batch (given_in R m.id h.step (c ∷ []))
+abbrev pub Does : Holder → Part → Member → Member → Result UnitEnd OutOfMemory → Type 0
+Does h p m n r = GivesAs (gives_part h.step m.id p) (λ Q. PartStands m.checkpoint.tables Q m.id p) m n r
 
-pub part_longer : {T E : Type 0} {done : T} (m n : Member) (h : Holder) (p : Part) (R : Queue) → GivesAt {T = T} {E = E} (asked R m.id h.step (commands_of m.id R p)) (PartStands m.checkpoint.tables R m.id p) m n (Ok done) → IsLonger p m.batch n.batch
-part_longer {T} {E} {done} m n h (part.One c) R its = one_more {T = T} {E = E} {done = done} m n h c R its
-part_longer m n h (part.Groups needed) R its = tt
-part_longer m n h (part.Ended job specs) R its = tt
-part_longer m n h (part.Lost volume) R its = tt
+pub part_longer : (m n : Member) (h : Holder) (p : Part) (end : UnitEnd) → Does h p m n (Ok end) → IsLonger p m.batch n.batch
+part_longer m n h (part.One c) end does = one_more h.step c _ m n end does.gives
+part_longer m n h _ end does = tt
 
-module _ {P C : Type 0} {plants : PlantGhosts P} {steadies : SteadyGhosts C} {copies : CopyGhosts C} (x : Complex P C plants steadies copies) (m n : Member) (h : Holder) (w : Works x m h) (g : Given h.step m n) where
+-- the member has the groups that it took
+pub part_taken : (m n : Member) (h : Holder) (p : Part) (end : UnitEnd) → Does h p m n (Ok end) → IsOwnPart m p → end ≡ ends.Done → IsTaken n p
+part_taken m n h (part.Groups needed) end does some done =
+    let s = tells_some m.checkpoint.tables in
+    let g = does.gives s.0 s.1 in
+    subst (λ (i : MemberId). needed ≤ member_count i n.checkpoint.tables.owners) (sym does.has.id) (has_groups s.0 m.id h.step needed some (sym (does.end s.0 s.1) ∙ done) g.gave g.part n.checkpoint.tables g.effect)
+part_taken m n h _ end does some done = tt
+
+module _ {P C : Type 0} {plants : PlantGhosts P} {steadies : SteadyGhosts C} {copies : CopyGhosts C} (x : Complex P C plants steadies copies) (m n : Member) (h : Holder) (w : Works x m h) (p : Part) (r : Result UnitEnd OutOfMemory) (does : Does h p m n r) where
   abbrev Q : Queue
   Q = queue_here x m
 
@@ -140,126 +136,101 @@ module _ {P C : Type 0} {plants : PlantGhosts P} {steadies : SteadyGhosts C} {co
   gave = strip m.batch n.batch
 
   gave_of : AreOf h.by h.step gave
-  gave_of = subst (λ (i : MemberId). AreOf i h.step gave) (sym w.own) (all_strip (λ (e : Entry). (e.by ≡ m.id) × (e.step ≡ h.step)) m.batch n.batch (g.own w.of))
+  gave_of = subst (λ (i : MemberId). AreOf i h.step gave) (sym w.own) (All-drop (λ (e : Entry). (e.by ≡ m.id) × (e.step ≡ h.step)) (length m.batch) n.batch (does.has.own w.of))
 
-  -- the commands of a part, given at a queue that the tables told
-  module _ {T E : Type 0} (p : Part) (r : Result T E) (gives : (R : Queue) → Tell m.checkpoint.tables R → GivesAt (asked R m.id h.step (commands_of m.id R p)) (PartStands m.checkpoint.tables R m.id p) m n r) where
-    abbrev first : GivesAt (asked (tells_some m.checkpoint.tables).0 m.id h.step (commands_of m.id (tells_some m.checkpoint.tables).0 p)) (PartStands m.checkpoint.tables (tells_some m.checkpoint.tables).0 m.id p) m n r
-    first = gives (tells_some m.checkpoint.tables).0 (tells_some m.checkpoint.tables).1
+  -- given at a queue that the tables told
+  abbrev At : Queue → Type 0
+  At R = GivesAt (asked R m.id h.step (commands_of m.id R p)) (PartStands m.checkpoint.tables R m.id p) m n r
 
-    abbrev one : plants.tells → GivesAt (asked Q m.id h.step (commands_of m.id Q p)) (PartStands m.checkpoint.tables Q m.id p) m n r
-    one t = gives Q (tells_here x m h w t)
+  abbrev first : At (tells_some m.checkpoint.tables).0
+  first = does.gives (tells_some m.checkpoint.tables).0 (tells_some m.checkpoint.tables).1
 
-    gave_is : (R : Queue) → (its : GivesAt (asked R m.id h.step (commands_of m.id R p)) (PartStands m.checkpoint.tables R m.id p) m n r) → gave ≡ its.gave
-    gave_is R its = ap (strip m.batch) its.batch ∙ strip_front m.batch its.gave
+  abbrev one : plants.tells → At Q
+  one t = does.gives Q (tells_here x m h w t)
 
-    batch_is : n.batch ≡ m.batch ++ gave
-    batch_is = first.batch ∙ ap (λ (es : List Entry). m.batch ++ es) (sym (gave_is _ first))
+  gave_is : (R : Queue) → (its : At R) → gave ≡ its.gave
+  gave_is R its = ap (strip m.batch) its.batch ∙ drop_at m.batch its.gave (length m.batch) refl
 
-    queue_is : queue_here x n ≡ run Q gave
-    queue_is = ap (λ (es : List Entry). run x.base (kept_all x.journal.batches ++ es)) batch_is ∙ ap (run x.base) (sym (append_assoc (kept_all x.journal.batches) m.batch gave)) ∙ run_append x.base (kept_all x.journal.batches ++ m.batch) gave
+  batch_is : n.batch ≡ m.batch ++ gave
+  batch_is = first.batch ∙ ap (λ (es : List Entry). m.batch ++ es) (sym (gave_is _ first))
 
-    pub gave_few : length n.batch ≤ length m.batch + commands_most p
-    gave_few =
-        let few = part_few r first.gave _ first.part in
-        let long = given_long m.id h.step (commands_of m.id (tells_some m.checkpoint.tables).0 p) (tells_some m.checkpoint.tables).0 in
-        let both = ap length first.batch ∙ length-append m.batch first.gave in
-        let most = most_commands (tells_some m.checkpoint.tables).0 m.id p in
-        omega (arith, few, long, both, most)
+  queue_is : queue_here x n ≡ run Q gave
+  queue_is = ap (λ (es : List Entry). run x.base (kept_all x.journal.batches ++ es)) batch_is ∙ ap (run x.base) (sym (append_assoc (kept_all x.journal.batches) m.batch gave)) ∙ run_append x.base (kept_all x.journal.batches ++ m.batch) gave
 
-    -- THE MEMBER IS AT WORK STILL
+  pub gave_few : length n.batch ≤ length m.batch + commands_most p
+  gave_few =
+      let R = (tells_some m.checkpoint.tables).0 in
+      let few = part_few r first.gave _ first.part in
+      let long = given_length m.id h.step R (commands_of m.id R p) in
+      let both = ap length first.batch ∙ length-append m.batch first.gave in
+      let most = most_commands R m.id p in
+      omega (arith, few, long, both, most)
 
-    works_given : length n.batch ≤ 64 → (plants.tells → PartStands m.checkpoint.tables Q m.id p (spools_at v v.now) x.base.config.groups) → Stand (queue_kept x) → (plants.tells → MayBegin x.base x.journal.batches x.printed n.batch) → Works x n h
-    works_given few stands kept begins = record {
-      own = w.own ∙ sym g.id;
-      still = still_commanded plants copies (parts_of x) m n (record { id = g.id; room = g.room; here = g.behind ∙ w.still.here; fresh = g.fresh; level = g.level; levels = g.levels; pages = g.pages; config = g.config; spelling = g.spelling; fit = g.fit }) w.still;
-      base_sound = w.base_sound;
-      of = subst (λ (i : MemberId). AreOf i h.step n.batch) (sym g.id) (g.own w.of);
-      few = few;
-      drawn = λ none. let long = g.grows in let no = ap length none in let same : n ≡ m = g.still (omega (arith, no, long)) in
-          subst (λ (i : Member). AreDrawn i.checkpoint.tables i.checkpoint.level i.checkpoint.levels i.checkpoint.pages) (sym same) (w.drawn (none_batch m.batch (omega (arith, no, long))));
-      draws = can_still m.checkpoint n.checkpoint w.draws g.pages g.level g.levels g.config g.spelling;
-      fit = g.fit;
-      same_level = λ t. w.same_level t ∙ sym g.level;
-      done = λ t. g.done (queue_kept x) (w.done t);
-      sound = λ t. g.sound (w.sound t);
-      low = λ t. let le = w.low t in let more = g.order in omega (arith, le, more);
-      texts = λ some t. ∥∥₁_map (texts_here m.batch w.texts kept t)
-          (λ has. subst (HasTexts (lost_now v) (spools_at v v.now) x.base.config.groups) (ap (run Q) (sym (gave_is Q (one t))) ∙ sym queue_is) ((one t).texts (lost_now v) (spools_at v v.now) x.base.config.groups (stands t) has));
-      allowed = begins;
-      untold = rw g.id w.untold;
-      step = rw g.id w.step;
-      first = w.first;
-      second = w.second;
-    }
+  -- THE MEMBER IS AT WORK STILL
 
-    -- three commands at most, none of them a Mark, where nothing was unwritten
-    works_first : m.batch ≡ [] → commands_most p ≤ 3 → All (IsUnmarked x.base m.id) (commands_of m.id Q p) → (plants.tells → PartStands m.checkpoint.tables Q m.id p (spools_at v v.now) x.base.config.groups) → Stand (queue_kept x) → Works x n h
-    works_first nothing three unmarked stands kept =
-        let few = gave_few in
-        let none = ap length nothing in
-        works_given (omega (arith, few, three, none)) stands kept (λ t.
-        subst (λ (es : List Entry). MayBegin x.base x.journal.batches x.printed es) (sym ((one t).batch ∙ ap (λ (es : List Entry). es ++ (one t).gave) nothing)) (part_begins x.base m.id x.journal.batches x.printed r Q h.step (commands_of m.id Q p) (one t).gave unmarked (one t).part))
-
-  -- one command, or none of it
-  one_works : {T E : Type 0} (c : Command) (r : Result T E) → MayGive x m (part.One c) → ((R : Queue) → Tell m.checkpoint.tables R → GivesAt (asked R m.id h.step (c ∷ [])) (λ disks per. IsSoundPlain m.checkpoint.tables c) m n r) → Stand (queue_kept x) → Works x n h
-  one_works {T} {E} c (Ok y) may gives kept =
-      let s = tells_some m.checkpoint.tables in
-      let longer = one_more {T = T} {E = E} m n h c s.0 (gives s.0 s.1) in
-      works_given {T = T} {E = E} (part.One c) (Ok y) gives (omega (arith, longer, may.0)) (λ t. (w.sound t, plain_brings c may.1.plain)) kept
-      (λ t. let its = gives Q (tells_here x m h w t) in subst (λ (es : List Entry). MayBegin x.base x.journal.batches x.printed es) (sym (its.batch ∙ ap (λ (es : List Entry). m.batch ++ es) its.part)) (more_begins x.base m.id x.journal.batches x.printed m.batch h.step c (reply_to Q m.id c) may.1.may may.1.fit (λ sound. may.2 t) (w.allowed t)))
-  one_works {T} {E} c (Err e) may gives kept =
-      let s = tells_some m.checkpoint.tables in
-      let its = gives s.0 s.1 in
-      let front : LeaveOut its.gave (given_in s.0 m.id h.step (c ∷ [])) = its.part in
-      let same : 1 ≡ length (its.gave ++ front.0) = ap length front.1 in
-      let long = length-append its.gave front.0 in
-      let all = ap length its.batch ∙ length-append m.batch its.gave in
-      let is : n ≡ m = g.still (omega (arith, same, long, all, front.2)) in
-      subst (λ (i : Member). Works x i h) (sym is) w
-
-  pub part_works : {T E : Type 0} (p : Part) (r : Result T E) → MayGive x m p → ((R : Queue) → Tell m.checkpoint.tables R → GivesAt (asked R m.id h.step (commands_of m.id R p)) (PartStands m.checkpoint.tables R m.id p) m n r) → Stand (queue_kept x) → Works x n h
-  part_works (part.One c) r may gives kept = one_works c r may gives kept
-  part_works (part.Groups needed) r may gives kept = works_first (part.Groups needed) r gives may.0.nothing (omega arith) (taking_unmarked x.base m.id w.still.holds.member Q needed) w.sound kept
-  part_works (part.Ended job specs) r may gives kept =
-      works_first (part.Ended job specs) r gives may.0.nothing (omega arith) (ending_unmarked x.base m.id w.still.holds.member Q job specs may.1)
-      (λ t. subst (λ (R : Queue). MayEnd m.checkpoint.tables R m.id job specs (spools_at v v.now) x.base.config.groups) (sym (kept_here x m may.0.nothing)) (record { sound = w.sound t; under_way = may.2 t; spooled = may.3 t })) kept
-  part_works (part.Lost volume) r may gives kept = works_first (part.Lost volume) r gives may.nothing (omega arith) (dropping_unmarked x.base m.id w.still.holds.member) w.sound kept
-
-  -- WHAT WAS GIVEN
-
-  -- all of them
-  pub given_done : {E : Type 0} (p : Part) (end : UnitEnd) → ((R : Queue) → Tell m.checkpoint.tables R → GivesAt {T = UnitEnd} {E = E} (asked R m.id h.step (commands_of m.id R p)) (PartStands m.checkpoint.tables R m.id p) m n (Ok end)) → ((R : Queue) → Tell m.checkpoint.tables R → end ≡ ends_of m.id h.step R p)
-      → HasGiven plants.tells h (unit_part (commands_of h.by Q p) (ends_of h.by h.step Q p)) (place_of x m) (place_of x n) (Ok end)
-  given_done {E} p end gives ends =
-      let o = outside x in
+  works_given : length n.batch ≤ 64 → (plants.tells → PartStands m.checkpoint.tables Q m.id p (spools_at v v.now) x.base.config.groups) → Stand (queue_kept x) → (plants.tells → MayBegin x.base x.journal.batches x.printed n.batch) → Works x n h
+  works_given few stands kept begins =
+      let g = does.has in
       record {
-        es = gave;
-        is = λ t. gave_is {T = UnitEnd} {E = E} p (Ok end) gives Q (gives Q (tells_here x m h w t)) ∙ (gives Q (tells_here x m h w t)).part ∙ ap (λ (i : MemberId). given_in Q i h.step (commands_of i Q p)) (sym w.own);
-        of = gave_of;
-        keeps = keeping_none plants.tells h.by o;
-        counts = counted_none h.by x.printed x.printed (Ok end) refl;
-        left = batch_is {T = UnitEnd} {E = E} p (Ok end) gives;
-        queue = queue_is {T = UnitEnd} {E = E} p (Ok end) gives;
-        ends = λ t. ends Q (tells_here x m h w t) ∙ ap (λ (i : MemberId). ends_of i h.step Q p) (sym w.own);
-        spares = apart_none plants.tells h.by o;
+        own = w.own ∙ sym g.id;
+        still = still_commanded plants copies (parts_of x) m n (record { id = g.id; room = g.room; here = g.behind ∙ w.still.here; fresh = g.fresh; level = g.level; levels = g.levels; pages = g.pages; config = g.config; spelling = g.spelling; fit = g.fit }) w.still;
+        base_sound = w.base_sound;
+        of = subst (λ (i : MemberId). AreOf i h.step n.batch) (sym g.id) (g.own w.of);
+        few = few;
+        drawn = λ none. let long = g.grows in let no = ap length none in let same : n ≡ m = g.still (omega (arith, no, long)) in
+            subst (λ (i : Member). AreDrawn i.checkpoint.tables i.checkpoint.level i.checkpoint.levels i.checkpoint.pages) (sym same) (w.drawn (none_batch m.batch (omega (arith, no, long))));
+        draws = can_still m.checkpoint n.checkpoint w.draws g.pages g.level g.levels g.config g.spelling;
+        fit = g.fit;
+        same_level = λ t. w.same_level t ∙ sym g.level;
+        done = λ t. g.done (queue_kept x) (w.done t);
+        sound = λ t. g.sound (w.sound t);
+        low = λ t. let le = w.low t in let more = g.order in omega (arith, le, more);
+        texts = λ some t. ∥∥₁_map (texts_here m.batch w.texts kept t)
+            (λ has. subst (HasTexts (lost_now v) (spools_at v v.now) x.base.config.groups) (ap (run Q) (sym (gave_is Q (one t))) ∙ sym queue_is) ((one t).texts (lost_now v) (spools_at v v.now) x.base.config.groups (stands t) has));
+        allowed = begins;
+        untold = rw g.id w.untold;
+        step = rw g.id w.step;
+        first = w.first;
+        second = w.second;
       }
 
-  -- the first ones, which are kept if there is memory for that
-  pub given_not : {T E : Type 0} (y : Complex P C plants steadies copies) (u : Member) (why : NodeNo) (p : Part) (err : E) → ((R : Queue) → Tell m.checkpoint.tables R → GivesAt {T = T} {E = E} (asked R m.id h.step (commands_of m.id R p)) (PartStands m.checkpoint.tables R m.id p) m n (Err err))
-      → GivesUp plants.tells h.by n.batch (outside x) (outside y) why → HasGiven plants.tells h (unit_part (commands_of h.by Q p) (ends_of h.by h.step Q p)) (place_of x m) (place_of y u) (Err why)
-  given_not {T} {E} y u why p err gives up =
-      let o = outside x in
-      let z = outside y in
+  -- three commands at most, none of them a Mark, where nothing was unwritten
+  works_first : m.batch ≡ [] → commands_most p ≤ 3 → All (IsUnmarked x.base m.id) (commands_of m.id Q p) → (plants.tells → PartStands m.checkpoint.tables Q m.id p (spools_at v v.now) x.base.config.groups) → Stand (queue_kept x) → Works x n h
+  works_first nothing three unmarked stands kept =
+      let few = gave_few in
+      let none = ap length nothing in
+      works_given (omega (arith, few, three, none)) stands kept (λ t.
+      subst (λ (es : List Entry). MayBegin x.base x.journal.batches x.printed es) (sym ((one t).batch ∙ ap (λ (es : List Entry). es ++ (one t).gave) nothing)) (part_begins x.base m.id x.journal.batches x.printed r Q h.step (commands_of m.id Q p) (one t).gave unmarked (one t).part))
+
+  -- WHAT WAS GIVEN, or the first ones of it, which are kept if there is memory for that
+
+  abbrev Gave : Complex P C plants steadies copies → Member → Result UnitEnd NodeNo → Type 0
+  Gave y u a = HasGiven plants.tells h (unit_part (commands_of h.by Q p) (ends_of h.by h.step Q p)) (place_of x m) (place_of y u) a
+
+  pub given_done : (end : UnitEnd) → r ≡ Ok end → Gave x n (Ok end)
+  given_done end ok = record {
+    es = gave;
+    is = λ t. gave_is Q (one t) ∙ subst (λ (a : Result UnitEnd OutOfMemory). IsPart a (one t).gave (given_in Q m.id h.step (commands_of m.id Q p))) ok (one t).part ∙ ap (λ (i : MemberId). given_in Q i h.step (commands_of i Q p)) (sym w.own);
+    of = gave_of;
+    keeps = keeping_none plants.tells h.by (outside x);
+    counts = counted_none h.by x.printed x.printed (Ok end) refl;
+    left = batch_is;
+    queue = queue_is;
+    ends = λ t. subst (λ (a : Result UnitEnd OutOfMemory). IfOk a (λ e. (R : Queue) → Tell m.checkpoint.tables R → e ≡ ends_of m.id h.step R p)) ok does.end Q (tells_here x m h w t) ∙ ap (λ (i : MemberId). ends_of i h.step Q p) (sym w.own);
+    spares = apart_none plants.tells h.by (outside x);
+  }
+
+  pub given_not : (y : Complex P C plants steadies copies) (u : Member) (why : NodeNo) (err : OutOfMemory) → r ≡ Err err → GivesUp plants.tells h.by n.batch (outside x) (outside y) why → Gave y u (Err why)
+  given_not y u why err is up =
       let all : List Entry = given_in Q h.by h.step (commands_of h.by Q p) in
       let e1 : Entry = entry_with h.by h.step drop_groups reply.Plain in
       let tail : List Entry = or_one e1 (strip gave all) in
       record {
         es = gave ++ tail;
-        is = λ t. front_is gave all e1 (subst (λ (i : MemberId). LeaveOut gave (given_in Q i h.step (commands_of i Q p))) (sym w.own) (subst (λ (es : List Entry). LeaveOut es (given_in Q m.id h.step (commands_of m.id Q p))) (sym (gave_is {T = T} {E = E} p (Err err) gives Q (gives Q (tells_here x m h w t)))) (gives Q (tells_here x m h w t)).part));
+        is = λ t. front_is gave all e1 (subst (λ (i : MemberId). LeaveOut gave (given_in Q i h.step (commands_of i Q p))) (sym w.own) (subst (λ (es : List Entry). LeaveOut es (given_in Q m.id h.step (commands_of m.id Q p))) (sym (gave_is Q (one t))) (subst (λ (a : Result UnitEnd OutOfMemory). IsPart a (one t).gave (given_in Q m.id h.step (commands_of m.id Q p))) is (one t).part)));
         of = of_strip h.by h.step gave all e1 (refl, refl) gave_of (given_of h.by h.step (commands_of h.by Q p) Q);
-        keeps = keeping_starts plants.tells h.by why (batch_of n.batch) (batch_of (m.batch ++ (gave ++ tail))) o z
-            (subst (λ (es : List Entry). StartsAs (batch_of n.batch) (batch_of es)) (ap (λ (es : List Entry). es ++ tail) (batch_is {T = T} {E = E} p (Err err) gives) ∙ append_assoc m.batch gave tail) (starts_batch n.batch tail))
+        keeps = keeping_starts plants.tells h.by why (batch_of n.batch) (batch_of (m.batch ++ (gave ++ tail))) (outside x) (outside y)
+            (subst (λ (es : List Entry). StartsAs (batch_of n.batch) (batch_of es)) (ap (λ (es : List Entry). es ++ tail) batch_is ∙ append_assoc m.batch gave tail) (starts_batch n.batch tail))
             up.keeps;
         counts = counted_up {S = Unit {0}} {T = UnitEnd} h.by [] [] x.printed y.printed (Err why) why up.counts;
         left = tt;
@@ -267,6 +238,30 @@ module _ {P C : Type 0} {plants : PlantGhosts P} {steadies : SteadyGhosts C} {co
         ends = tt;
         spares = up.spares;
       }
+
+module _ {P C : Type 0} {plants : PlantGhosts P} {steadies : SteadyGhosts C} {copies : CopyGhosts C} (x : Complex P C plants steadies copies) (m n : Member) (h : Holder) (w : Works x m h) where
+  -- one command, or none of it
+  one_works : (c : Command) (r : Result UnitEnd OutOfMemory) → MayGive x m (part.One c) → Does h (part.One c) m n r → HasTextsOf plants copies (parts_of x) (queue_kept x) → Works x n h
+  one_works c (Ok end) may does kept =
+      let longer = one_more h.step c _ m n end does.gives in
+      works_given x m n h w (part.One c) (Ok end) does (omega (arith, longer, may.0)) (λ t. (w.sound t, plain_brings c may.1.plain)) kept
+      (λ t. let its = does.gives (queue_here x m) (tells_here x m h w t) in subst (λ (es : List Entry). MayBegin x.base x.journal.batches x.printed es) (sym (its.batch ∙ ap (λ (es : List Entry). m.batch ++ es) its.part)) (more_begins x.base m.id x.journal.batches x.printed m.batch h.step c (reply_to (queue_here x m) m.id c) may.1.may may.1.fit (λ sound. may.2 t) (w.allowed t)))
+  one_works c (Err e) may does kept =
+      let s = tells_some m.checkpoint.tables in
+      let its = does.gives s.0 s.1 in
+      let front : LeaveOut its.gave (given_in s.0 m.id h.step (c ∷ [])) = its.part in
+      let same : 1 ≡ length (its.gave ++ front.0) = ap length front.1 in
+      let long = length-append its.gave front.0 in
+      let all = ap length its.batch ∙ length-append m.batch its.gave in
+      subst (λ (i : Member). Works x i h) (sym (does.has.still (omega (arith, same, long, all, front.2)))) w
+
+  pub part_works : (p : Part) (r : Result UnitEnd OutOfMemory) → MayGive x m p → Does h p m n r → HasTextsOf plants copies (parts_of x) (queue_kept x) → Works x n h
+  part_works (part.One c) r may does kept = one_works c r may does kept
+  part_works (part.Groups needed) r may does kept = works_first x m n h w (part.Groups needed) r does may.0.nothing (omega arith) (taking_unmarked x.base m.id w.still.holds.member (queue_here x m) needed) w.sound kept
+  part_works (part.Ended job specs) r may does kept =
+      works_first x m n h w (part.Ended job specs) r does may.0.nothing (omega arith) (ending_unmarked x.base m.id w.still.holds.member (queue_here x m) job specs may.1)
+      (λ t. (w.sound t, subst (λ (R : Queue). MayEnd R m.id job specs (spools_at (plants.view x.plant) (plants.view x.plant).now) x.base.config.groups) (sym (kept_here x m may.0.nothing)) (record { under_way = may.2 t; spooled = may.3 t }))) kept
+  part_works (part.Lost volume) r may does kept = works_first x m n h w (part.Lost volume) r does may.nothing (omega arith) (dropping_unmarked x.base m.id w.still.holds.member) w.sound kept
 
 -- WHERE A PART MAY BE GIVEN
 
@@ -277,16 +272,19 @@ module _ {P C : Type 0} {plants : PlantGhosts P} {steadies : SteadyGhosts C} {co
   part_low _ room may = let order = may.0.low.order in omega (arith, order)
 
   pub part_own : (p : Part) → MayGive x m p → IsOwnPart m p
-  part_own (part.One c) may = record { fit = may.1.fit; giver = may.1.giver; may = λ s. give_alike x.base s.queue m.id c (s.told.config ∙ sym w.still.config) may.1.may; closes = may.1.closes }
+  part_own (part.One c) may = (record { fit = may.1.fit; giver = may.1.giver; may = λ s. give_alike x.base s.queue m.id c (s.told.config ∙ sym w.still.config) may.1.may }, may.1.closes)
   part_own (part.Lost volume) may = tt
   part_own _ may = may.1
 
 -- HOW A PART MAY END
 
 pub ends_may : (found : Found) (by : MemberId) (at : ℕ) (Q : Queue) (p : Part) → MayLose found p → MayEndBy found (ends_of by at Q p)
-ends_may found by at Q (part.One c) may = let r = closing_reply (given_in Q by at (c ∷ [])) in answered_by found (end_by r) (reply_answered r)
-ends_may found by at Q (part.Groups needed) may = answered_by found (taken_end Q by at needed) (taken_answered Q by at needed)
-ends_may found by at Q (part.Ended n specs) may = let r = closing_reply (given_in Q by at (ending Q by n specs)) in answered_by found (end_by r) (reply_answered r)
+ends_may found by at Q (part.One c) may = reply_ends found (closing_reply (given_in Q by at (c ∷ [])))
+ends_may found by at Q (part.Groups needed) may = by_refused (are_refused needed Q by needed) where
+  by_refused : (b : Bool) → MayEndBy found (if b then end_by (closing_reply (given_in Q by at (taking Q by needed))) else ends.Done)
+  by_refused true = reply_ends found (closing_reply (given_in Q by at (taking Q by needed)))
+  by_refused false = tt
+ends_may found by at Q (part.Ended n specs) may = reply_ends found (closing_reply (given_in Q by at (ending Q by n specs)))
 ends_may found by at Q (part.Lost volume) may = inl may
 
 pub ends_by : (found : Found) (by : MemberId) (at : ℕ) (Q : Queue) (p : Part) (end : UnitEnd) → end ≡ ends_of by at Q p → MayLose found p → MayEndBy found end

@@ -1,8 +1,7 @@
 -- The rest of a sitting, part by part.
-use Rattle.member_giving.proofs.Names.{◌≡◌, ℕ, zero, suc, ◌+◌, ◌*◌, ◌≤◌, true, false, List, [], ◌∷◌, ◌++◌, length, All, Result, Ok, Err, IfOk, ◌∙◌, append-nil, ap, refl, sym, subst, arith, length-append, All-append, All-cons, Command, MemberId, Entry, Queue, UnitEnd, NodeNo, AreOf, HasCounted, counted_ok, counted_on, counted_then, counted_up, notes_none, notes_then, batch_of, cut, cut_after, all_entries, given_in, released, Holder, State, Rested, Told, Turn, after_part, goes_on, goes_on_by, leaves, says, units_from, entries_append, SittingEnd, MayEndBy, Bounds, Closes, EndsAs, HasGiven, IsWithin, Keeps, Plays, PlaysAs, SparesOthers, Wrote, after_full, bounds, full_of, rests, unwritten, wrote_after, wrote_of, Outside, Place, ended, to_play, unit_part, closed, IsClosing}
+use Rattle.member_giving.proofs.Names.{◌≡◌, ℕ, ◌+◌, ◌*◌, ◌≤◌, List, [], ◌∷◌, ◌++◌, length, All, Result, Ok, Err, IfOk, ◌∙◌, append-nil, ap, refl, sym, subst, arith, length-append, All-append, All-cons, Command, MemberId, Entry, UnitEnd, NodeNo, AreOf, HasCounted, counted_ok, counted_on, counted_then, counted_up, notes_none, notes_then, batch_of, cut, cut_after, all_entries, given_in, released, Holder, State, Told, Turn, after_part, goes_on_by, leaves, says, units_from, entries_append, SittingEnd, MayEndBy, Bounds, Closes, EndsAs, HasGiven, IsWithin, Keeps, Plays, PlaysAs, PlaysOut, SparesOthers, Wrote, after_full, bounds, full_of, unwritten, wrote_after, wrote_of, Outside, Place, ended, to_play, unit_part, closed, IsClosing, only_none, only_on, papers_none, papers_on, wires_none, wires_then}
 use Rattle.spool_plant.specs.Acts.{Goes}
 use Rattle.job_outcome.specs.declared.units.UnitEnd.TheVariants as ends
-use Rattle.member_node.proofs.CourseLemmas.{only_none, only_on, papers_none, papers_on, wires_none, wires_then}
 use Rattle.member_giving.proofs.Cuts.{batch_entries, full_entries, full_first, of_after, of_batch, of_cut, of_full_batches, starts_after, starts_full}
 use Rattle.member_giving.proofs.Within.{after_within, goes_within, more_wrote, unwritten_one}
 use Rattle.member_giving.proofs.Keeping.{closes_error, closes_then}
@@ -27,7 +26,7 @@ abbrev pub after_batches : List (List Entry) → Wrote → Wrote
 after_batches first w = record { batches = first ++ w.batches; next = w.next; lines = w.lines }
 
 -- the counts, by the entries another way
-counted_as : {T : Type 0} {by : MemberId} (es fs : List Entry) (was now : List ℕ) → es ≡ fs → (r : Result T NodeNo) → HasCounted by fs was now r → HasCounted by es was now r
+pub counted_as : {T : Type 0} {by : MemberId} (es fs : List Entry) (was now : List ℕ) → es ≡ fs → (r : Result T NodeNo) → HasCounted by fs was now r → HasCounted by es was now r
 counted_as {T} {by} es fs was now same r c = subst (λ (l : List Entry). HasCounted {T = T} by l was now r) (sym same) c
 
 module _ (told : Type 0) (h : Holder) (Fits : Wrote → Type 0) (given : ℕ) where
@@ -51,7 +50,7 @@ module _ (told : Type 0) (h : Holder) (Fits : Wrote → Type 0) (given : ℕ) wh
 
   -- the sitting ends in a state of the step
   pub played_leave : {S : Type 0} (s : S) (e : SittingEnd) (next : State) (old : Place) (new : Outside) → e.next ≡ next → e.given ≡ given → e.release ≡ released h.grant h.hold e.given e.next → AreOf h.by h.step old.batch → Fits (wrote_of old.batch (leaves next)) → SparesOthers told h.by old.outside new
-      → Keeps {T = S} told h.by (batch_of old.batch) old.outside new (Ok s) → HasCounted {T = S} h.by old.batch old.outside.printed new.printed (Ok s) → PlaysAs told Fits (to_play h given (wrote_of old.batch (leaves next))) old new (Ok e)
+      → Keeps {T = S} told h.by (batch_of old.batch) old.outside new (Ok s) → HasCounted {T = S} h.by (all_entries (batch_of old.batch)) old.outside.printed new.printed (Ok s) → PlaysAs told Fits (to_play h given (wrote_of old.batch (leaves next))) old new (Ok e)
   played_leave {S} s e next old new is_next is_given is_released of within spares keeps counts = record {
     wrote = wrote_of old.batch (leaves next);
     is = λ t. refl;
@@ -59,7 +58,7 @@ module _ (told : Type 0) (h : Holder) (Fits : Wrote → Type 0) (given : ℕ) wh
     within = within;
     ends = (is_next, ap (λ (n : ℕ). n + length old.batch) is_given ∙ ap (λ (es : List Entry). given + length es) (sym (batch_entries old.batch)), is_released);
     closes = keeps.closes;
-    counts = counted_as (all_entries (batch_of old.batch)) old.batch old.outside.printed new.printed (batch_entries old.batch) (Ok e) (counted_ok h.by old.batch old.outside.printed new.printed s e counts);
+    counts = counted_ok h.by (all_entries (batch_of old.batch)) old.outside.printed new.printed s e counts;
     spares = spares;
   }
 
@@ -68,7 +67,7 @@ module _ (told : Type 0) (h : Holder) (Fits : Wrote → Type 0) (given : ℕ) wh
 
   -- the step closes
   pub played_close : {S : Type 0} (s : S) (r : Result SittingEnd NodeNo) (lines : List (List ℕ)) (old : Place) (mid new : Outside) → IfOk r ToldThen → AreOf h.by h.step old.batch → Fits (wrote_of old.batch (says lines)) → SparesOthers told h.by old.outside new
-      → Keeps {T = S} told h.by (batch_of old.batch) old.outside mid (Ok s) → HasCounted {T = S} h.by old.batch old.outside.printed mid.printed (Ok s) → Closes told h.by (wrote_of [] (says lines)) mid new r → new.printed ≡ mid.printed → PlaysAs told Fits (to_play h given (wrote_of old.batch (says lines))) old new r
+      → Keeps {T = S} told h.by (batch_of old.batch) old.outside mid (Ok s) → HasCounted {T = S} h.by (all_entries (batch_of old.batch)) old.outside.printed mid.printed (Ok s) → Closes told h.by (wrote_of [] (says lines)) mid new r → new.printed ≡ mid.printed → PlaysAs told Fits (to_play h given (wrote_of old.batch (says lines))) old new r
   played_close {S} s r lines old mid new ends of within spares keeps counts closes still = record {
     wrote = wrote_of old.batch (says lines);
     is = λ t. refl;
@@ -76,7 +75,7 @@ module _ (told : Type 0) (h : Holder) (Fits : Wrote → Type 0) (given : ℕ) wh
     within = within;
     ends = if_ok r ends;
     closes = subst (λ (ess : List (List Entry)). IsClosing told h.by (closed ess lines) old.outside new (ended r)) (append-nil (batch_of old.batch)) (closes_then told h.by (ended r) (batch_of old.batch) [] lines old.outside mid new keeps closes);
-    counts = counted_as (all_entries (batch_of old.batch)) old.batch old.outside.printed new.printed (batch_entries old.batch) r (counted_on h.by old.batch old.outside.printed mid.printed new.printed s r still counts);
+    counts = counted_on h.by (all_entries (batch_of old.batch)) old.outside.printed mid.printed new.printed s r still counts;
     spares = spares;
   } where
     if_ok : (r : Result SittingEnd NodeNo) → IfOk r ToldThen → IfOk r (EndsAs h given old.batch (wrote_of old.batch (says lines)))
@@ -86,6 +85,9 @@ module _ (told : Type 0) (h : Holder) (Fits : Wrote → Type 0) (given : ℕ) wh
   -- what fits otherwise fits so
   pub played_fits : (Rest : Wrote → Type 0) (w : Wrote) (old : Place) (new : Outside) (r : Result SittingEnd NodeNo) → ((x : Wrote) → Rest x → Fits x) → PlaysAs told Rest (to_play h given w) old new r → PlaysAs told Fits (to_play h given w) old new r
   played_fits Rest w old new r to p = record { wrote = p.wrote; is = p.is; of = p.of; within = to p.wrote p.within; ends = p.ends; closes = p.closes; counts = p.counts; spares = p.spares }
+
+  pub played_out : (w : Wrote) (old : Place) (new : Outside) (r : Result SittingEnd NodeNo) → Fits w → PlaysOut told (to_play h given w) old new r → PlaysAs told Fits (to_play h given w) old new r
+  played_out w old new r fits p = played_fits (λ x. x ≡ w) w old new r (λ x is. subst Fits (sym is) fits) p
 
   -- a full batch couldn't be kept
   pub played_full_error : {S : Type 0} (why : NodeNo) (t : Turn) (old : Place) (new : Outside) → AreOf h.by h.step old.batch → All (AreOf h.by h.step) t.parts → Fits (wrote_after old.batch t) → SparesOthers told h.by old.outside new
@@ -169,22 +171,6 @@ module _ (told : Type 0) (h : Holder) (Fits : Wrote → Type 0) (given : ℕ) (c
 -- THE REST OF A SITTING OF WORK
 
 module _ (told : Type 0) (h : Holder) (b : Bounds) (given : ℕ) where
-  -- the same, within bounds
-  pub plays_as : (w w' : Wrote) (old : Place) (new : Outside) (r : Result SittingEnd NodeNo) → (told → w ≡ w') → Plays told b (to_play h given w) old new r → Plays told b (to_play h given w') old new r
-  plays_as = played_as told h (IsWithin h b) given
-
-  pub plays_error : {S : Type 0} (why : NodeNo) (w w' : Wrote) (xs : List (List Entry)) (old : Place) (new : Outside) → (told → w' ≡ w) → All (AreOf h.by h.step) w'.batches → IsWithin h b w' → StartsAs xs w'.batches
-      → SparesOthers told h.by old.outside new → Keeps {T = S} told h.by xs old.outside new (Err why) → {gave : List Entry} → HasCounted {T = S} h.by gave old.outside.printed new.printed (Err why) → Plays told b (to_play h given w) old new (Err why)
-  plays_error {S} why w w' xs old new is of within starts spares keeps {gave} counts = played_error told h (IsWithin h b) given {S = S} why w w' xs old new is of within starts spares keeps {gave = gave} counts
-
-  pub plays_leave : {S : Type 0} (s : S) (e : SittingEnd) (next : State) (old : Place) (new : Outside) → e.next ≡ next → e.given ≡ given → e.release ≡ released h.grant h.hold e.given e.next → AreOf h.by h.step old.batch → IsWithin h b (wrote_of old.batch (leaves next)) → SparesOthers told h.by old.outside new
-      → Keeps {T = S} told h.by (batch_of old.batch) old.outside new (Ok s) → HasCounted {T = S} h.by old.batch old.outside.printed new.printed (Ok s) → Plays told b (to_play h given (wrote_of old.batch (leaves next))) old new (Ok e)
-  plays_leave {S} = played_leave told h (IsWithin h b) given {S = S}
-
-  pub plays_close : {S : Type 0} (s : S) (r : Result SittingEnd NodeNo) (lines : List (List ℕ)) (old : Place) (mid new : Outside) → IfOk r (ToldThen told h (IsWithin h b) given) → AreOf h.by h.step old.batch → IsWithin h b (wrote_of old.batch (says lines)) → SparesOthers told h.by old.outside new
-      → Keeps {T = S} told h.by (batch_of old.batch) old.outside mid (Ok s) → HasCounted {T = S} h.by old.batch old.outside.printed mid.printed (Ok s) → Closes told h.by (wrote_of [] (says lines)) mid new r → new.printed ≡ mid.printed → Plays told b (to_play h given (wrote_of old.batch (says lines))) old new r
-  plays_close {S} = played_close told h (IsWithin h b) given {S = S}
-
   -- as much and more may come
   pub plays_more : (least fewer : ℕ) (w : Wrote) (old : Place) (new : Outside) (r : Result SittingEnd NodeNo) → least ≤ b.most → fewer ≤ b.units → Plays told (bounds least fewer b.found) (to_play h given w) old new r → Plays told b (to_play h given w) old new r
   plays_more least fewer w old new r le less p = record { wrote = p.wrote; is = p.is; of = p.of; within = more_wrote h b.found b.most least b.units fewer p.wrote le less p.within; ends = p.ends; closes = p.closes; counts = p.counts; spares = p.spares }
@@ -197,10 +183,7 @@ module _ (told : Type 0) (h : Holder) (b : Bounds) (given : ℕ) where
       (λ w within. record { few = let few = within.few in let both = length-append (full_of old.batch) w.batches in omega (arith, few, both, le); says = within.says })
       of left spares keeps counts p
 
--- AFTER A UNIT
-
-module _ (told : Type 0) (h : Holder) (b : Bounds) (given : ℕ) where
-  -- a full batch couldn't be kept
+  -- a full batch couldn't be kept after a unit
   pub full_error : {S : Type 0} (why : NodeNo) (e : UnitEnd) (left done : ℕ) (old : Place) (new : Outside) → MayEndBy b.found e → done + 1 + left ≤ b.units → 3 * left + 2 ≤ b.most → AreOf h.by h.step old.batch → SparesOthers told h.by old.outside new → Keeps {T = S} told h.by (full_of old.batch) old.outside new (Err why) → {gave : List Entry} → HasCounted {T = S} h.by gave old.outside.printed new.printed (Err why)
       → Plays told b (to_play h given (wrote_after old.batch (goes_on_by h e left (units_from h left) old.queue given done))) old new (Err why)
   full_error {S} why e left done old new may few le of spares keeps {gave} counts =
@@ -208,12 +191,3 @@ module _ (told : Type 0) (h : Holder) (b : Bounds) (given : ℕ) where
       let one = unwritten_one old.batch in
       let w = goes_within h b.found e may (3 * left + 1) b.units left old.queue given done few (omega arith) in
       played_full_error told h (IsWithin h b) given {S = S} why t old new of w.its (after_within h b.found b.units b.most old.batch t (3 * left + 1) (omega (arith, one, le)) w) spares keeps {gave = gave} counts
-
--- after a unit the next one follows, or the hold is spent
-pub goes_next : (h : Holder) (left : ℕ) (Q : Queue) (given done : ℕ) → rests h left given ≡ false → goes_on h left (units_from h left) Q given done ≡ units_from h left Q given done
-goes_next h zero Q given done not = refl
-goes_next h (suc left) Q given done not = rw not refl
-
-pub goes_rest : (h : Holder) (left : ℕ) (Q : Queue) (given done : ℕ) → rests h left given ≡ true → goes_on h left (units_from h left) Q given done ≡ leaves (Rested (record { done = done; left = left }))
-goes_rest h zero Q given done spent = absurd (cc)
-goes_rest h (suc left) Q given done spent = rw spent refl

@@ -1,15 +1,11 @@
 -- Calls within a sitting that keep batches, one after another, and then others or lines.
-use Rattle.member_giving.proofs.Names.{◌≡◌, ℕ, ◌≤◌, List, [], ◌∷◌, ◌++◌, length, map, take, Result, Ok, Err, inl, inr, ⊎_elim, append_assoc, append-nil, refl, sym, ◌∙◌, ap, subst, arith, MemberId, Batch, Entry, Line, NodeNo, BothLost, Halted, ConsoleFault, NoMemory, begun, HasAll, CopyCauses, IsOnCopies, KeepLeaves, IsSettle, HaveSaid, Breaks, StepCauses, StepTells, console_now, Outside, IsClosing, IsKeeping, LeavesFirst, MayFly, WorkLeaves, closed, AreAll, pair_at}
+use Rattle.member_giving.proofs.Names.{◌≡◌, ℕ, ◌≤◌, List, [], ◌∷◌, ◌++◌, length, map, take, Result, Ok, Err, inl, inr, ⊎_elim, append_assoc, append-nil, refl, sym, ◌∙◌, ap, subst, arith, MemberId, Batch, Entry, Line, NodeNo, BothLost, Halted, ConsoleFault, NoMemory, begun, HasAll, CopyCauses, IsOnCopies, KeepLeaves, IsSettle, HaveSaid, Breaks, StepCauses, StepTells, console_now, Outside, IsClosing, IsKeeping, LeavesFirst, MayFly, WorkLeaves, closed, AreAll, pair_at, Course, pair_seen, course_none, course_then, fated, stopped_in, Adds, SayCauses}
 use Rattle.mas_types.specs.declared.journals.Fate.TheVariants.{Kept}
 use Rattle.mas_complex.specs.Headline.{whole}
-use Rattle.mas_complex.specs.Journals.{fated}
-use Rattle.member_node.specs.Reads.{ReadCauses}
-use Rattle.member_node.specs.Spares.{stopped_in}
-use Rattle.member_node.proofs.CourseLemmas.{course_none, course_then}
 use Rattle.member_node.proofs.SpareLemmas.{spares_none, spares_then}
-use Rattle.member_steps.specs.Saying.{Adds, SayCauses}
 use Rattle.member_steps.proofs.SayLemmas.{console_course}
 use Rattle.member_decks.proofs.OutcomeLemmas.{causes_then, copy_causes, flying_batch, kept_batch}
+use Rattle.member_asides.proofs.Staying.{settle_copies}
 use Rattle.member_giving.proofs.Leaving.{StartsAs, first_all, work_none, work_starts, work_then}
 
 -- the console doesn't fail
@@ -17,7 +13,7 @@ abbrev Silent : NodeNo → Type 0
 Silent e = ◌≡◌ {A = Result (Unit {0}) NodeNo} (Err e) (Err ConsoleFault) → ⊥
 
 -- a call on the copies says nothing
-never_console : (by : ℕ) (e : NodeNo) (o n : Outside) → CopyCauses {T = Unit {0}} (Err e) by (pair_at o.first o.second o.view) (pair_at n.first n.second n.view) → Silent e
+never_console : (by : ℕ) (e : NodeNo) (o n : Outside) → CopyCauses {T = Unit {0}} (Err e) by (pair_seen o) (pair_seen n) → Silent e
 never_console by ConsoleFault o n cause is = absurd cause
 never_console by _ o n cause is = absurd (cc)
 
@@ -108,7 +104,7 @@ module _ (told : Type 0) (by : MemberId) where
 
   module _ (o n : Outside) where
     abbrev OnCopies : Result (Unit {0}) NodeNo → Type 0
-    OnCopies r = IsOnCopies {T = Unit {0}} told by.0 (pair_at o.first o.second o.view) (pair_at n.first n.second n.view) r
+    OnCopies r = IsOnCopies {T = Unit {0}} told by.0 (pair_seen o) (pair_seen n) r
 
     -- acts on the copies
     held_ok : (ess : List (List Entry)) (rest : List Batch) → n.batches ≡ o.batches ++ rest → AreAll by o.view.now n.view.now ess rest → OnCopies (Ok tt) → IsKeeping told by ess o n (Ok tt)
@@ -124,7 +120,7 @@ module _ (told : Type 0) (by : MemberId) where
           closes = record {
             course = acts.course;
             loses = acts.loses;
-            cause = copy_causes (Err e) by.0 (pair_at o.first o.second o.view) (pair_at n.first n.second n.view) acts.cause;
+            cause = copy_causes (Err e) by.0 (pair_seen o) (pair_seen n) acts.cause;
             spares = acts.spares;
             rest = rest;
             batches_are = are;
@@ -156,34 +152,35 @@ module _ (told : Type 0) (by : MemberId) where
       kept_not Halted acts flies = held_not Halted (es ∷ []) (begun o.view.now by es ∷ []) flies (in_flight Halted tt acts.course.goes.later) acts
 
     -- room is made
-    pub settled : n.batches ≡ o.batches → (r : Result (Unit {0}) NodeNo) → IsSettle told by.0 o.first n.first o.second n.second o.view n.view r → IsKeeping told by [] o n r
-    settled same (Ok done) s = held_ok [] [] (same ∙ sym (append-nil o.batches)) tt (record { course = s.course; loses = λ t d. s.loses d; cause = inl s.cause; spares = s.spares; apart = s.apart })
-    settled same (Err e) s = none_begun e [] same (record { course = s.course; loses = λ t d. s.loses d; cause = causes e s.cause; spares = s.spares; apart = s.apart }) where
-      causes : (e : NodeNo) → ReadCauses {T = Unit {0}} (Err e) by.0 n.first n.second o.view n.view → CopyCauses {T = Unit {0}} (Err e) by.0 (pair_at o.first o.second o.view) (pair_at n.first n.second n.view)
-      causes BothLost c = c
-      causes Halted c = (inl c.0, c.1)
-      causes NoMemory c = absurd c
-      causes ConsoleFault c = absurd c
+    pub settled : n.batches ≡ o.batches → (r : Result (Unit {0}) NodeNo) → IsSettle told by.0 (pair_seen o) (pair_seen n) r → IsKeeping told by [] o n r
+    settled same (Ok done) s = held_ok [] [] (same ∙ sym (append-nil o.batches)) tt (settle_copies told by.0 (pair_seen o) (pair_seen n) (Ok done) s)
+    settled same (Err e) s = none_begun e [] same (settle_copies told by.0 (pair_seen o) (pair_seen n) (Err e) s)
 
   -- AND THEN LINES
 
   -- nothing is unwritten, and the lines are said
   pub closing_said : (lines : List (List ℕ)) (o n : Outside) → n.batches ≡ o.batches → n.first ≡ o.first → n.second ≡ o.second → (r : Result (Unit {0}) NodeNo) → HaveSaid told by.0 lines o.view n.view r → IsClosing told by (closed [] lines) o n r
   closing_said lines o n same first second r said = record {
-    course = rw (first, second) (console_course told o.first o.second o.view n.view said.acts);
+    course = on_course;
     loses = λ t d. said.acts.loses d;
-    cause = rw (first, second) (causes r said.cause);
+    cause = caused;
     spares = said.spares;
     rest = [];
     batches_are = same ∙ sym (append-nil o.batches);
     journal = leaves r;
     console = λ t. tells r (said.console t);
   } where
-    causes : (r : Result (Unit {0}) NodeNo) → SayCauses r by.0 o.view n.view → StepCauses r by.0 o.first o.first o.second o.second o.view n.view
+    on_course : Course (pair_at o.first o.second o.view) (pair_at n.first n.second n.view)
+    on_course = rw (first, second) (console_course told o.first o.second o.view n.view said.acts)
+
+    causes : (r : Result (Unit {0}) NodeNo) → SayCauses r by.0 o.view n.view → StepCauses r by.0 (pair_seen o) (pair_at o.first o.second n.view)
     causes (Ok done) cause = inr (refl, refl)
     causes (Err ConsoleFault) cause = (inr (refl, refl), cause)
     causes (Err Halted) cause = (inr (refl, refl), cause)
     causes _ cause = absurd cause
+
+    caused : StepCauses r by.0 (pair_at o.first o.second o.view) (pair_at n.first n.second n.view)
+    caused = rw (first, second) (causes r said.cause)
 
     leaves : (r : Result (Unit {0}) NodeNo) → WorkLeaves r by o.view.now n.view.now [] []
     leaves (Ok done) = tt

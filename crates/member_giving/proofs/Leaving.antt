@@ -1,5 +1,5 @@
 -- Batches that a call leaves in the journal, by how it ended.
-use Rattle.member_giving.proofs.Names.{◌≡◌, ℕ, ◌≤◌, List, [], ◌∷◌, ◌++◌, length, Result, Ok, Err, inl, inr, ⊎_elim, append_assoc, append-nil, refl, sym, ◌∙◌, ap, subst, arith, length-append, MemberId, Batch, Entry, NodeNo, BothLost, Halted, ConsoleFault, NoMemory, AreAll, IsKeptBatch, LeavesFirst, LeavesLast, WorkLeaves, all_entries, kept_all}
+use Rattle.member_giving.proofs.Names.{◌≡◌, ℕ, ◌≤◌, List, [], ◌∷◌, ◌++◌, length, Result, Ok, Err, inl, inr, ⊎_elim, append_assoc, append-nil, refl, sym, ◌∙◌, ap, subst, arith, length-append, MemberId, Batch, Entry, NodeNo, ConsoleFault, AreAll, IsKeptBatch, LeavesFirst, LeavesLast, WorkLeaves, all_entries, kept_all}
 use Rattle.member_decks.proofs.BatchLemmas.{all_sooner}
 
 module _ (by : MemberId) where
@@ -33,16 +33,13 @@ module _ (by : MemberId) where
   work_sooner : (r : Result (Unit {0}) NodeNo) (sooner from now : ℕ) (ess : List (List Entry)) (bs : List Batch) → sooner ≤ from → WorkLeaves r by from now ess bs → WorkLeaves r by sooner now ess bs
   work_sooner (Ok done) sooner from now ess bs le all = all_sooner by sooner from now ess bs le all
   work_sooner (Err ConsoleFault) sooner from now ess bs le all = all_sooner by sooner from now ess bs le all
-  work_sooner (Err NoMemory) sooner from now ess bs le leaves = first_sooner NoMemory sooner from now ess bs le leaves
-  work_sooner (Err BothLost) sooner from now ess bs le leaves = first_sooner BothLost sooner from now ess bs le leaves
-  work_sooner (Err Halted) sooner from now ess bs le leaves = first_sooner Halted sooner from now ess bs le leaves
+  work_sooner (Err why) sooner from now ess bs le leaves = first_sooner why sooner from now ess bs le leaves
 
   -- what an answer leaves after a batch that is kept
   work_next : (r : Result (Unit {0}) NodeNo) (from now : ℕ) (es : List Entry) (ess : List (List Entry)) (b : Batch) (bs : List Batch) → IsKeptBatch by es from now b → WorkLeaves r by b.last now ess bs → WorkLeaves r by from now (es ∷ ess) (b ∷ bs)
   work_next (Ok done) from now es ess b bs k all = (k, all)
   work_next (Err ConsoleFault) from now es ess b bs k all = (k, all)
-  work_next (Err NoMemory) from now es ess b bs k leaves = inl (k, leaves)
-  work_next _ from now es ess b bs k leaves = inl (k, leaves)
+  work_next (Err _) from now es ess b bs k leaves = inl (k, leaves)
 
   -- what an answer leaves after batches that are all kept
   pub work_then : (r : Result (Unit {0}) NodeNo) (from mid now : ℕ) (ess : List (List Entry)) (bs : List Batch) (more : List (List Entry)) (cs : List Batch) → from ≤ mid → mid ≤ now → AreAll by from mid ess bs → WorkLeaves r by mid now more cs
@@ -65,17 +62,13 @@ module _ (by : MemberId) where
   first_all why from now [] (b ∷ bs) all = absurd all
   first_all why from now (es ∷ ess) (b ∷ bs) all = inl (all.0, first_all why b.last now ess bs all.1)
 
--- BATCHES WITH WHICH OTHERS START: all except the last are the same, and the last has the first entries of its
--- counterpart
-
-abbrev pub starts_with : List Entry → List (List Entry) → List (List Entry) → Type 0
-starts_with x [] xs = ⊥
-starts_with x (e ∷ ess) [] = (1 ≤ length x) × ((m : List Entry) × (e ≡ x ++ m))
-starts_with x (e ∷ ess) (y ∷ xs) = (e ≡ x) × starts_with y ess xs
+-- NO BATCH, OR ONE, WITH WHICH OTHERS START: it has the first entries of the first of them
 
 abbrev pub StartsAs : List (List Entry) → List (List Entry) → Type 0
 StartsAs [] ess = Unit {0}
-StartsAs (x ∷ xs) ess = starts_with x ess xs
+StartsAs (x ∷ xs) [] = ⊥
+StartsAs (x ∷ []) (e ∷ ess) = (1 ≤ length x) × ((m : List Entry) × (e ≡ x ++ m))
+StartsAs (x ∷ y ∷ xs) (e ∷ ess) = ⊥
 
 module _ (by : MemberId) (now : ℕ) (why : NodeNo) where
   -- the last batch, of one that has more entries
@@ -100,10 +93,7 @@ module _ (by : MemberId) (now : ℕ) (why : NodeNo) where
       (λ kept. whole_first from x starts.1.0 e ess b bs starts.0 starts.1.1 kept.0 kept.1)
       (λ last. inr (last.0, last_longer from x starts.1.0 e b starts.1.1 last.1))
       leaves
-  first_starts from (x ∷ y ∷ xs) (e ∷ ess) (b ∷ bs) starts leaves = ⊎_elim
-      (λ kept. inl (subst (λ (es : List Entry). IsKeptBatch by es from now b) (sym starts.0) kept.0, first_starts b.last (y ∷ xs) ess bs starts.1 kept.1))
-      (λ last. inr (last.0, subst (λ (es : List Entry). LeavesLast why by es from now b) (sym starts.0) last.1))
-      leaves
+  first_starts from (x ∷ y ∷ xs) (e ∷ ess) (b ∷ bs) starts leaves = absurd starts
 
 -- what an error leaves of batches with which others start it leaves of those
 pub work_starts : (by : MemberId) (now : ℕ) (why : NodeNo) (from : ℕ) (xs ess : List (List Entry)) (bs : List Batch) → (why ≡ ConsoleFault → ⊥) → StartsAs xs ess → WorkLeaves (Err why) by from now xs bs → WorkLeaves (Err why) by from now ess bs

@@ -4,7 +4,6 @@ pub mod Going
 pub mod Working
 pub mod Seated
 pub mod Sat
-pub mod Following
 pub mod Resting
 pub mod Given
 pub mod Taking

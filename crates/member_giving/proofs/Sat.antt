@@ -1,21 +1,18 @@
 -- A whole sitting.
-use Rattle.member_giving.proofs.Names.{◌≡◌, ℕ, ◌+◌, List, [], ◌++◌, length, Result, Ok, Err, ◌≤◌, Bool, true, false, if◌then◌else◌, take, Option, Some, None, IfOk, ◌∙◌, ⊎_elim, ap, refl, subst, arith, ◌||◌, nat_le, sym, nat_tests, MemberId, Batch, Entry, Queue, JobNo, OutNo, Output, OutSpec, groups_of_outputs, is_cancelled, job_at, output_at, Line, PlantGhosts, Ghosts as CopyGhosts, Complex, Spools, SteadyGhosts, Member, NodeNo, BothLost, Halted, ConsoleFault, NoMemory, console_now, StepTells, HasAll, WorkLeaves, IsUnderWay, AreSpooled, cut, sittings_most, all_entries, units_done, units_left, Sitting, released, sitting_of, Aside, PrintLines, ReadText, SpoolOutputs, Found, Holder, State, Away, Turn, turn, SittingEnd, Says, SaysWork, EndsAs, IsWithin, Plays, PlaysAs, Wrote, bounds, wrote_of, Run, outside, place_of, queue_kept, run_of, MayResume, OutputsStand, Tables, Tell, IsMarkRight, may_mark, held_by, LeavesFirst, MayFly, StepCauses, View, ended, to_play, ◌∷◌}
+use Rattle.member_giving.proofs.Names.{◌≡◌, ℕ, ◌+◌, List, [], ◌++◌, length, Result, Ok, Err, ◌≤◌, Bool, true, false, if◌then◌else◌, take, Option, Some, None, IfOk, ◌∙◌, ⊎_elim, ap, refl, subst, arith, nat_le, sym, nat_tests, MemberId, Batch, Entry, Queue, JobNo, OutNo, Output, OutSpec, groups_of_outputs, is_cancelled, job_at, output_at, PlantGhosts, Ghosts as CopyGhosts, Complex, Spools, SteadyGhosts, Member, NodeNo, ConsoleFault, NoMemory, console_now, HasAll, WorkLeaves, AreSpooled, cut, sittings_most, all_entries, units_done, units_left, Sitting, released, sitting_of, Aside, PrintLines, ReadText, SpoolOutputs, Found, Holder, State, Away, Turn, turn, SittingEnd, Says, SaysWork, EndsAs, IsWithin, Plays, PlaysAs, Wrote, bounds, wrote_of, Run, outside, place_of, queue_kept, run_of, IsToResume, AreStanding, Tables, Tell, IsMarkRight, may_mark, held_by, LeavesFirst, MayFly, ended, to_play, ◌∷◌, IsStill, Spares, stopped_in, parts_of, Parts, pair_of, StepCauses, StepTells, IsWhere, LeftBy, Lefts, bare, by_all, cause_by, next_left, none_left, part_left, said_by}
 use Rattle.mas_types.specs.declared.ids.GroupNo.{GroupNo}
 use Rattle.mas_types.specs.declared.queues.Owner.{Owner}
 use Rattle.mas_types.specs.Ids.{is_somebody}
 use Rattle.mas_types.specs.declared.commands.Command.TheVariants as command
 use Rattle.lock_cycle.specs.Books.{Book}
 use Rattle.mas_complex.specs.declared.renewals.Renewals.{Renewals}
-use Rattle.mas_complex.specs.Parts.{parts_of}
 use Rattle.step_turns.proofs.Cutting.{cut_entries}
-use Rattle.member_node.specs.Spares.{Spares, stopped_in}
-use Rattle.member_asides.specs.Left.{HasSaid, IsLastBatch}
+use Rattle.member_asides.specs.Left.{IsLastBatch}
 use Rattle.member_asides.specs.Sat.{HasSat, IsEndOf, IsSat, sat_in}
 use Rattle.member_asides.specs.Tight.{IfNoWork}
-use Rattle.member_asides.proofs.ReachLemmas.{LeftBy, Lefts, by_all, next_left, none_left, part_left, said_all, said_broken, said_none, said_some}
-use Rattle.member_asides.specs.Whole.{IsStill}
 use Rattle.member_giving.proofs.Working.{none_flies}
 use Rattle.member_asides.specs.Asides.{lowest_for}
+use Rattle.std.proofs.lemmas.Bool.{or_right as or_true}
 
 -- what is left in the journal after an error
 first_left : (why : NodeNo) (by : MemberId) (from now : ℕ) (ess : List (List Entry)) (bs : List Batch) → LeavesFirst why by from now ess bs → (flies : Bool) × (why ≡ NoMemory → flies ≡ false) × Lefts flies by from now ess bs
@@ -41,27 +38,17 @@ left_by : (r : Result SittingEnd NodeNo) (by : MemberId) (from now : ℕ) (ess :
 left_by (Ok e) by from now ess more all = by_all by from now ess more (Ok e) all
 left_by (Err ConsoleFault) by from now ess more all = by_all by from now ess more (Err ConsoleFault) all
 left_by (Err NoMemory) by from now ess more leaves = let l = first_left NoMemory by from now ess more leaves in record { reach = l.2.reach; left = l.2.left; reached = l.2.flag ∙ l.1 refl }
-left_by (Err BothLost) by from now ess more leaves = let l = first_left BothLost by from now ess more leaves in record { reach = l.2.reach; left = l.2.left; reached = tt }
-left_by (Err Halted) by from now ess more leaves = let l = first_left Halted by from now ess more leaves in record { reach = l.2.reach; left = l.2.left; reached = tt }
+left_by (Err why) by from now ess more leaves = let l = first_left why by from now ess more leaves in record { reach = l.2.reach; left = l.2.left; reached = tt }
 
--- by the answer: its cause, and who was stopped
-cause_by : (r : Result SittingEnd NodeNo) (by : ℕ) (a a' b b' : Bool) (v w : View) → StepCauses (ended r) by a a' b b' v w → Spares by (stopped_in (ended r)) v w → StepCauses r by a a' b b' v w × Spares by (stopped_in r) v w
-cause_by (Ok e) by a a' b b' v w cause spares = (cause, spares)
-cause_by (Err NoMemory) by a a' b b' v w cause spares = (cause, spares)
-cause_by (Err _) by a a' b b' v w cause spares = (cause, spares)
+all_where : (r : Result SittingEnd NodeNo) (by : MemberId) (from now : ℕ) (ess : List (List Entry)) (front batches rest : List Batch) → batches ≡ front ++ rest → WorkLeaves (ended r) by from now ess rest → IsWhere r (HasAll by from now ess front batches)
+all_where (Ok e) by from now ess front batches rest are all = (rest, are, all)
+all_where (Err ConsoleFault) by from now ess front batches rest are all = (rest, are, all)
+all_where (Err _) by from now ess front batches rest are all = tt
 
--- by the answer: what was said on the console
-said_by : (r : Result SittingEnd NodeNo) (A : Type 0) (lines : List (List ℕ)) (was now : List Line) → (r ≡ Err ConsoleFault → A) → ((e : SittingEnd) → r ≡ Ok e → A) → StepTells (ended r) lines A was now → HasSaid A lines was now r
-said_by (Ok e) A lines was now fault ok tells = said_all lines was now A e (ok e refl) tells
-said_by (Err ConsoleFault) A lines was now fault ok tells = said_some lines was now A tells.0 (fault refl) tells.1 tells.2
-said_by (Err NoMemory) A lines was now fault ok tells = said_none lines was now A NoMemory (λ e. absurd (cc)) tells
-said_by (Err BothLost) A lines was now fault ok tells = said_none lines was now A BothLost (λ e. absurd (cc)) tells
-said_by (Err Halted) A lines was now fault ok tells = ⊎_elim (λ none. said_none lines was now A Halted (λ e. absurd (cc)) none) (λ some. said_broken lines was now A some.1 some.0 some.2 some.3) tells
-
-all_where : (r : Result SittingEnd NodeNo) (by : MemberId) (from now : ℕ) (ess : List (List Entry)) (front batches rest : List Batch) → batches ≡ front ++ rest → WorkLeaves (ended r) by from now ess rest → (r ≡ Err ConsoleFault → HasAll by from now ess front batches) × ((e : SittingEnd) → r ≡ Ok e → HasAll by from now ess front batches)
-all_where (Ok e) by from now ess front batches rest are all = (λ is. absurd (cc), λ x is. (rest, are, all))
-all_where (Err ConsoleFault) by from now ess front batches rest are all = (λ is. (rest, are, all), λ x is. absurd (cc))
-all_where _ by from now ess front batches rest are all = (λ is. absurd (cc), λ x is. absurd (cc))
+-- the same answer, named by those who end a sitting
+as_bare : (A : Result (Unit {0}) NodeNo → Type 0) (r : Result SittingEnd NodeNo) → A (ended r) → A (bare r)
+as_bare A (Ok e) a = a
+as_bare A (Err e) a = a
 
 -- a whole sitting, by what it writes
 abbrev pub sitting_as : Holder → Wrote → Sitting
@@ -78,18 +65,18 @@ ends_as h w (Ok e) ends =
 ends_as h w (Err why) ends = tt
 
 -- a sitting after acts that work waited for plays units
-pub plays_units : (told : Type 0) (Q : Queue) (by : MemberId) (disks : Spools) (counts : MemberId → ℕ) (a : Aside) (found : Found) → MayResume told Q by disks counts a found → (A : Type 0) → IfNoWork (Away a) A
-plays_units told Q by disks counts (ReadText runs n fields p) found may A = tt
-plays_units told Q by disks counts (SpoolOutputs n specs p) found may A = tt
-plays_units told Q by disks counts (PrintLines n i last p) found may A = tt
-plays_units told Q by disks counts _ found may A = absurd may
+pub plays_units : {P C : Type 0} (plants : PlantGhosts P) (x : Parts P C) (by : MemberId) (a : Aside) (found : Found) → IsToResume plants x by a found → (A : Type 0) → IfNoWork (Away a) A
+plays_units plants x by (ReadText runs n fields p) found may A = tt
+plays_units plants x by (SpoolOutputs n specs p) found may A = tt
+plays_units plants x by (PrintLines n i last p) found may A = tt
+plays_units plants x by _ found may A = absurd may
 
 -- and closes as work does
-pub says_units : (told : Type 0) (Q : Queue) (by : MemberId) (disks : Spools) (counts : MemberId → ℕ) (h : Holder) (a : Aside) (found : Found) → MayResume told Q by disks counts a found → (t : Sitting) → SaysWork h (Away a) found t → Says h (Away a) found t
-says_units told Q by disks counts h (ReadText runs n fields p) found may t says = says
-says_units told Q by disks counts h (SpoolOutputs n specs p) found may t says = says
-says_units told Q by disks counts h (PrintLines n i last p) found may t says = says
-says_units told Q by disks counts h _ found may t says = absurd may
+pub says_units : {P C : Type 0} (plants : PlantGhosts P) (x : Parts P C) (by : MemberId) (h : Holder) (a : Aside) (found : Found) → IsToResume plants x by a found → (t : Sitting) → SaysWork h (Away a) found t → Says h (Away a) found t
+says_units plants x by h (ReadText runs n fields p) found may t says = says
+says_units plants x by h (SpoolOutputs n specs p) found may t says = says
+says_units plants x by h (PrintLines n i last p) found may t says = says
+says_units plants x by h _ found may t says = absurd may
 
 module _ {P C : Type 0} {plants : PlantGhosts P} {steadies : SteadyGhosts C} {copies : CopyGhosts C} where
   pub frame_of : (x y : Complex P C plants steadies copies) (m n : Member) → run_of y n ≡ run_of x m → parts_of y ≡ sat_in (parts_of y) (parts_of x)
@@ -108,9 +95,11 @@ module _ {P C : Type 0} {plants : PlantGhosts P} {steadies : SteadyGhosts C} {co
       let c = p.closes in
       let front = none_flies x m still in
       let are = c.batches_are ∙ ap (λ (bs : List Batch). bs ++ c.rest) front in
-      let cause = cause_by r h.by.0 x.pair.first.alive y.pair.first.alive x.pair.second.alive y.pair.second.alive (plants.view x.plant) (plants.view y.plant) c.cause c.spares in
-      let left = left_by r h.by (plants.view x.plant).now (plants.view y.plant).now p.wrote.batches c.rest c.journal in
-      let all = all_where r h.by (plants.view x.plant).now (plants.view y.plant).now p.wrote.batches x.journal.batches (outside y).batches c.rest are c.journal in
+      let v = plants.view x.plant in
+      let u = plants.view y.plant in
+      let cause = cause_by r h.by.0 (pair_of x) (pair_of y) (as_bare (λ q. StepCauses q h.by.0 (pair_of x) (pair_of y)) r c.cause) (as_bare (λ q. Spares h.by.0 (stopped_in q) v u) r c.spares) in
+      let left = left_by r h.by v.now u.now p.wrote.batches c.rest c.journal in
+      let all = all_where r h.by v.now u.now p.wrote.batches x.journal.batches (outside y).batches c.rest are c.journal in
       record {
         acts = record { course = c.course; loses = c.loses; others = p.spares.others; papers = p.spares.papers; wires = p.spares.wires; spares = cause.1; cause = cause.0; notes = p.spares.notes };
         reach = left.reach;
@@ -118,8 +107,9 @@ module _ {P C : Type 0} {plants : PlantGhosts P} {steadies : SteadyGhosts C} {co
         journal = are;
         left = left.left;
         reached = left.reached;
-        console = λ t. said_by r (HasAll h.by (plants.view x.plant).now (plants.view y.plant).now p.wrote.batches x.journal.batches (outside y).batches) p.wrote.lines (console_now (plants.view x.plant)) (console_now (plants.view y.plant)) all.0 all.1
-            (subst (λ (bs : List Batch). StepTells (ended r) p.wrote.lines (HasAll h.by (plants.view x.plant).now (plants.view y.plant).now p.wrote.batches bs (outside y).batches) (console_now (plants.view x.plant)) (console_now (plants.view y.plant))) front (c.console t));
+        console = λ t. said_by p.wrote.lines (console_now v) (console_now u) (HasAll h.by v.now u.now p.wrote.batches (outside x).batches (outside y).batches) (HasAll h.by v.now u.now p.wrote.batches x.journal.batches (outside y).batches) r
+            (λ has. subst (λ (bs : List Batch). HasAll h.by v.now u.now p.wrote.batches bs (outside y).batches) front has) all
+            (as_bare (λ q. StepTells q p.wrote.lines (HasAll h.by v.now u.now p.wrote.batches (outside x).batches (outside y).batches) (console_now v) (console_now u)) r (c.console t));
         counts = p.counts;
         ends = ends_as h p.wrote r (subst (λ (es : List Entry). IfOk r (EndsAs h 0 es p.wrote)) nothing p.ends);
       }
@@ -141,18 +131,11 @@ by_cancelled : (b : Bool) (disks : Spools) (per : ℕ) (specs : List OutSpec) (g
 by_cancelled true disks per specs groups spooled = tt
 by_cancelled false disks per specs groups spooled = spooled
 
-pub outputs_resume : (told : Type 0) (t : Tables) (Q : Queue) (by : MemberId) (disks : Spools) (per : ℕ) (n : JobNo) (specs : List OutSpec) (lost : Option ℕ) → (told → Tell t Q) → (told → IsUnderWay Q by n) → (lost ≡ None → told → AreSpooled disks per specs (lowest_for by t.owners specs)) → OutputsStand told Q by disks per n specs lost
-outputs_resume told t Q by disks per n specs lost tell job spooled = record {
-  job = job;
-  there = λ none again.
-      by_cancelled (is_cancelled (job_at Q n)) disks per specs (held_by by Q.owners) (subst (λ (os : List Owner). AreSpooled disks per specs (lowest_for by os specs)) (sym (tell again).owners) (spooled none again));
-}
+pub outputs_stand : (t : Tables) (Q : Queue) (by : MemberId) (disks : Spools) (n : JobNo) (specs : List OutSpec) → Tell t Q → AreSpooled disks Q.config.groups specs (lowest_for by t.owners specs) → AreStanding disks Q by n specs
+outputs_stand t Q by disks n specs tell spooled =
+    by_cancelled (is_cancelled (job_at Q n)) disks Q.config.groups specs (held_by by Q.owners) (subst (λ (os : List Owner). AreSpooled disks Q.config.groups specs (lowest_for by os specs)) (sym tell.owners) spooled)
 
 -- LINES that were printed may be marked
-
-or_true : (a b : Bool) → b ≡ true → (a || b) ≡ true
-or_true true b is = refl
-or_true false b is = is
 
 pub lines_resume : (Q : Queue) (by : MemberId) (n : JobNo) (i : OutNo) (last printed : ℕ) → is_somebody by ≡ true → ((o : Output) → output_at Q n i ≡ Some o → last ≤ o.mark + printed) → IsMarkRight Q by printed (command.Mark n i last)
 lines_resume Q by n i last printed some counted = (some, by_output (output_at Q n i) refl) where

@@ -1,11 +1,8 @@
 -- A member at the lock, at the beginning of a sitting and at its end.
-use Rattle.member_giving.proofs.Names.{◌≡◌, ℕ, List, [], Result, ◌∙◌, ap, refl, sym, subst, arith, All-nil, Ckpt1, Ckpt2, MemberId, Journal, Queue, disk_now, PlantGhosts, Ghosts as CopyGhosts, Complex, SteadyGhosts, values_of, Member, NodeNo, HaveSaid, OnConsole, settled_later, had_as, notes_same, still_roomy, Holder, SparesOthers, HasBounds, HasSeat, IsLow, Sits, Works, outside, Entry, MayBegin, Option, Tell, length, parts_of, queue_kept, meaning_run as run, IsClosing, ◌≤◌, closed}
+use Rattle.member_giving.proofs.Names.{◌≡◌, ℕ, List, [], Result, ◌∙◌, ap, refl, sym, subst, arith, All-nil, Ckpt1, Ckpt2, MemberId, Journal, Queue, disk_now, PlantGhosts, Ghosts as CopyGhosts, Complex, SteadyGhosts, values_of, Member, NodeNo, HaveSaid, OnConsole, settled_later, had_as, notes_same, still_roomy, Holder, SparesOthers, HasBounds, HasSeat, IsLow, Sits, Works, outside, Entry, MayBegin, Option, Tell, length, parts_of, queue_kept, meaning_run as run, IsClosing, ◌≤◌, closed, Half, IsAtRest, IsGiving, IsRoomy, first_half, second_half, between_done, can_draw, between_by}
 use Rattle.mas_types.specs.Sound.{IsSound}
 use Rattle.mas_types.specs.declared.ids.Page.{Page}
-use Rattle.mas_complex.proofs.Allowed.{none_begins}
-use Rattle.member_steps.proofs.StepLemmas.{between_done, can_draw}
-use Rattle.member_steps.proofs.ReadLemmas.{between_by}
-use Rattle.member_asides.specs.Whole.{Half, IsAtRest, IsGiving, IsRoomy, first_half, second_half}
+use Rattle.mas_complex.proofs.Batches.{none_begins}
 use Rattle.member_giving.proofs.Keeping.{closing_said}
 use Rattle.member_giving.proofs.Working.{same_out}
 
@@ -30,7 +27,7 @@ module _ {P C : Type 0} {plants : PlantGhosts P} {steadies : SteadyGhosts C} {co
         draws = can_draw m.checkpoint m.checkpoint b.drawn refl refl refl refl b.drawn.spelling;
         fit = b.fit;
         same_level = b.same_level;
-        done = λ t. between_done plants.tells x.base x.journal.batches x.current x.placed x.level m.batch m.checkpoint b t;
+        done = λ t. between_done plants.tells (parts_of x) m.batch m.checkpoint b t;
         sound = b.sound;
         low = λ t. let le = (s.seat.low t).order in omega (arith, le);
         texts = λ some. let none = ap length b.nothing in absurd (omega (arith, some, none));
@@ -111,7 +108,7 @@ module _ {P C : Type 0} {plants : PlantGhosts P} {steadies : SteadyGhosts C} {co
         begun = rw since (let le = w.still.begun in let later = acts.goes.later in omega (arith, le, later));
         roomy = λ told. rw base (still_roomy y.base.config (plants.view y.plant) (plants.view z.plant) acts.goes (w.still.roomy told));
       };
-      between = between_by plants.tells y.base z.base y.journal.batches z.journal.batches y.current z.current y.placed z.placed y.level z.level n.batch n.checkpoint base (ap (λ (j : Journal). j.batches) journal) current placed level
+      between = between_by plants.tells (parts_of y) (parts_of z) n.batch n.checkpoint base (ap (λ (j : Journal). j.batches) journal) current placed level
           (seat_works y n h w nothing).between;
       low = λ told. rw (base, journal) ((seat_works y n h w nothing).low told);
     }

@@ -1,7 +1,7 @@
 -- The groups for a job's outputs, which are taken or not.
-use Rattle.member_giving.proofs.Names.{◌≡◌, ℕ, zero, suc, ◌+◌, ◌≤◌, Bool, true, false, if◌then◌else◌, List, [], ◌∷◌, ◌++◌, length, None, Result, Ok, ◌∙◌, append-nil, ap, refl, sym, arith, Command, JobNo, MemberId, OutSpec, Entry, Queue, run, PlantGhosts, Ghosts as CopyGhosts, Complex, SteadyGhosts, UnitEnd, end_by, Member, NodeNo, IsUnderWay, taken_end, queue_is, under_way_taken, are_refused, takes, closing_reply, given_in, drop_groups, taking, Holder, Progress, Away, SpoolOutputs, Turn, after_part, goes_on_by, groups_taken, job_ends, leaves, outputs_stand, units_from, SittingEnd, Bounds, HasGiven, Plays, bounds, unwritten, wrote_of, Outside, place_of, queue_here, to_play, unit_part}
+use Rattle.member_giving.proofs.Names.{◌≡◌, ℕ, zero, suc, ◌+◌, ◌≤◌, Bool, true, false, if◌then◌else◌, List, [], ◌∷◌, ◌++◌, length, None, Result, Ok, ◌∙◌, append-nil, ap, refl, sym, arith, Command, JobNo, MemberId, OutSpec, Entry, Queue, run, PlantGhosts, Ghosts as CopyGhosts, Complex, SteadyGhosts, UnitEnd, end_by, Member, NodeNo, IsUnderWay, taken_end, queue_is, under_way_taken, are_refused, takes, closing_reply, given_in, drop_groups, taking, Holder, Progress, Away, SpoolOutputs, Turn, after_part, goes_on_by, groups_taken, job_ends, leaves, outputs_stand, units_from, SittingEnd, Bounds, HasGiven, Plays, bounds, unwritten, wrote_of, Outside, place_of, queue_here, to_play, unit_part, IsWithin}
 use Rattle.job_outcome.specs.declared.units.UnitEnd.TheVariants as ends
-use Rattle.member_giving.proofs.Going.{plays_as, plays_more}
+use Rattle.member_giving.proofs.Going.{played_as, plays_more}
 
 module _ {P C : Type 0} {plants : PlantGhosts P} {steadies : SteadyGhosts C} {copies : CopyGhosts C} where
   -- nothing is given before the sitting ends
@@ -9,7 +9,7 @@ module _ {P C : Type 0} {plants : PlantGhosts P} {steadies : SteadyGhosts C} {co
       → Plays plants.tells (bounds least fewer b.found) (to_play h 0 (wrote_of m.batch t)) (place_of x m) new r → Plays plants.tells b (to_play h 0 (wrote_of [] whole)) (place_of x m) new r
   first_ends x m h b t whole least fewer new r nothing same le less p =
       let none = ap unwritten nothing in
-      plays_as plants.tells h b 0 (wrote_of m.batch t) (wrote_of [] whole) (place_of x m) new r (λ told. ap (λ (es : List Entry). wrote_of es t) nothing ∙ ap (wrote_of []) (same told))
+      played_as plants.tells h (IsWithin h b) 0 (wrote_of m.batch t) (wrote_of [] whole) (place_of x m) new r (λ told. ap (λ (es : List Entry). wrote_of es t) nothing ∙ ap (wrote_of []) (same told))
       (plays_more plants.tells h b 0 least fewer _ (place_of x m) new r (omega (arith, none, le)) less p)
 
 module _ (h : Holder) (Q : Queue) (n : JobNo) (specs : List OutSpec) (p : Progress) where

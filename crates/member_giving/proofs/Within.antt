@@ -1,5 +1,5 @@
 -- What a sitting of work may come to on every plant: how many batches, and which lines.
-use Rattle.member_giving.proofs.Names.{◌≡◌, ℕ, zero, suc, ◌+◌, ◌*◌, ◌≤◌, Bool, true, false, List, [], ◌∷◌, ◌++◌, length, Option, Some, None, All, inl, inr, ap, refl, arith, IfSome, option_map_or, All-cons, All-nil, Command, JobNo, Job, OutSpec, Output, Entry, Queue, job_at, output_at, run, unit_of, test_cases, UnitEnd, end_by, IsAnswered, reply_answered, cut, cut_after, is_full, sittings_most, are_refused, takes, closing_reply, ending, groups_for_end, printed_end, taking, SpoolOutputs, Found, Holder, Progress, State, Away, Fresh, Rested, Told, Turn, Units, after_part, closes_as, ends_with, gives, goes_on, goes_on_by, groups_taken, is_spent, job_ends, leaves, next_unit, no_more, one_command, prints_output, reads_job, text_read, units_from, MayCloseBy, MayEndBy, MayRefuseBy, SaysAtEnd, WorkLines, IsWithin, MayStopBy, Wrote, after_full, bounds, full_of, unwritten, wrote_after, wrote_of, AreOf, given_of}
+use Rattle.member_giving.proofs.Names.{◌≡◌, ℕ, zero, suc, ◌+◌, ◌*◌, ◌≤◌, Bool, true, false, List, [], ◌∷◌, ◌++◌, length, Option, Some, None, All, inl, inr, ap, refl, arith, IfSome, option_map_or, All-cons, All-nil, Command, JobNo, Job, OutSpec, Output, Entry, Queue, job_at, output_at, run, unit_of, test_cases, UnitEnd, end_by, cut, cut_after, is_full, sittings_most, are_refused, takes, closing_reply, ending, groups_for_end, printed_end, taking, SpoolOutputs, Found, Holder, Progress, State, Away, Fresh, Rested, Told, Turn, Units, after_part, closes_as, ends_with, gives, goes_on, goes_on_by, groups_taken, is_spent, job_ends, leaves, next_unit, no_more, one_command, prints_output, reads_job, text_read, units_from, MayCloseBy, MayEndBy, MayRefuseBy, SaysAtEnd, WorkLines, IsWithin, MayStopBy, Wrote, after_full, bounds, full_of, unwritten, wrote_after, wrote_of, AreOf, given_of, Reply, last_part}
 use Rattle.mas_types.specs.declared.answers.Closing.{Closing}
 use Rattle.mas_types.specs.declared.jobs.JobFields.{JobFields}
 use Rattle.mas_types.specs.declared.answers.Closing.TheVariants as closing
@@ -10,7 +10,7 @@ use Rattle.mas_types.specs.declared.units.Unit.TheVariants as unit
 use Rattle.job_outcome.specs.declared.outcomes.Outcome.{Outcome}
 use Rattle.job_outcome.specs.declared.outcomes.Read.{Read}
 use Rattle.job_outcome.specs.Meaning.{listed}
-use Rattle.job_outcome.specs.Outcomes.{converted_as, outcome_of, outcome_of_text}
+use Rattle.job_outcome.specs.Outcomes.{converted_as, outcome_of}
 use Rattle.job_outcome.specs.declared.outcomes.Outcome.TheVariants as outcome
 use Rattle.job_outcome.specs.declared.outcomes.Read.TheVariants as read
 use Rattle.job_outcome.specs.declared.units.UnitEnd.TheVariants as ends
@@ -56,28 +56,24 @@ full_le es fs x most is le =
 
 -- HOW IT MAY CLOSE
 
-pub answered_by : (found : Found) (e : UnitEnd) → IsAnswered e → MayEndBy found e
-answered_by found ends.Done a = tt
-answered_by found ends.Idle a = tt
-answered_by found (ends.Refused (closing.Reply (reply.No why))) a = tt
-answered_by found (ends.Refused _) a = absurd a
+-- as its last command was answered
+pub reply_ends : (found : Found) (r : Reply) → MayEndBy found (end_by r)
+reply_ends found reply.Plain = tt
+reply_ends found _ = tt
 
 -- by what was found
 
 pub stops_by : (runs : Bool) (fields : JobFields) (found : Found) → MayStopBy found (outcome_of runs fields found.read)
-stops_by runs fields found = by_read found.read refl where
+stops_by runs fields found = by_read runs found.read refl where
   listed_as : (line : Option (List ℕ)) → MayStopBy found (converted_as fields line)
   listed_as None = tt
   listed_as (Some line) = tt
 
-  by_text : (runs : Bool) (text : List (List ℕ)) → MayStopBy found (outcome_of_text runs fields text)
-  by_text true text = tt
-  by_text false text = listed_as (listed fields text)
-
-  by_read : (r : Read) → found.read ≡ r → MayStopBy found (outcome_of runs fields r)
-  by_read (read.Lines text) is = by_text runs text
-  by_read (read.Gone group) is = is
-  by_read (read.Lost volume) is = inr is
+  by_read : (runs : Bool) (r : Read) → found.read ≡ r → MayStopBy found (outcome_of runs fields r)
+  by_read true (read.Lines text) is = tt
+  by_read false (read.Lines text) is = listed_as (listed fields text)
+  by_read runs (read.Gone group) is = is
+  by_read runs (read.Lost volume) is = inr is
 
 pub prints_by : (found : Found) → IfSome (printed_end found.printer found.read) (MayRefuseBy found)
 prints_by found = by_read found.printer found.read refl refl where
@@ -131,17 +127,20 @@ module _ (h : Holder) (found : Found) where
   by_within ends.Idle may left more all most units Q given done few le = done_within most units done (omega (arith, few))
   by_within (ends.Refused end) may left more all most units Q given done few le = closes_within most units end (inr may)
 
-  one_within : (c : Command) (left : ℕ) (more : Units) → AllWithin left more → (most units : ℕ) (Q : Queue) (given done : ℕ) → done + suc left ≤ units → 3 * suc left + 1 ≤ most → TurnWithin most units (one_command h c left more Q given done)
-  one_within c left more all most units Q given done few le =
-      let es = gives h Q (c ∷ []) in
-      let end = end_by (closing_reply es) in
-      let then = by_within end (answered_by found end (reply_answered (closing_reply es))) left more all (3 * left + 1) units (run Q es) (given + length es) done (omega (arith, few)) (omega arith) in
-      more_within most (3 * left + 1 + 1) units (one_command h c left more Q given done) (omega (arith, le)) (part_within (3 * left + 1) units Q (c ∷ []) _ then)
+  last_within : (cs : List Command) (left : ℕ) (more : Units) → AllWithin left more → (most units : ℕ) (Q : Queue) (given done : ℕ) → done + suc left ≤ units → 3 * left + 2 ≤ most → TurnWithin most units (last_part h (gives h Q cs) left more Q given done)
+  last_within cs left more all most units Q given done few le =
+      let es = gives h Q cs in
+      let r = closing_reply es in
+      more_within most (3 * left + 1 + 1) units (last_part h es left more Q given done) (omega (arith, le))
+      (part_within (3 * left + 1) units Q cs _ (by_within (end_by r) (reply_ends found r) left more all (3 * left + 1) units (run Q es) (given + length es) done (omega (arith, few)) (omega arith)))
 
   next_within : (u : work.Unit) (left : ℕ) (more : Units) → AllWithin left more → (most units : ℕ) (Q : Queue) (given done : ℕ) → done + suc left ≤ units → 3 * suc left + 1 ≤ most → TurnWithin most units (next_unit h u left more Q given done)
   next_within u left more all most units Q given done few le = by_unit u where
     none : TurnWithin most units (no_more h done)
     none = done_within most units done (omega (arith, few))
+
+    one : (c : Command) → TurnWithin most units (one_command h c left more Q given done)
+    one c = last_within (c ∷ []) left more all most units Q given done few (omega (arith, le))
 
     job : (runs : Bool) (o : Option Job) → TurnWithin most units (option_map_or (reads_job h runs left done) o (no_more h done))
     job runs None = none
@@ -153,14 +152,14 @@ module _ (h : Holder) (found : Found) where
 
     by_unit : (u : work.Unit) → TurnWithin most units (next_unit h u left more Q given done)
     by_unit (unit.Print n i) = output (output_at Q n i)
-    by_unit (unit.Finish n i) = one_within (command.Done n i) left more all most units Q given done few le
-    by_unit unit.Pick = one_within command.Pick left more all most units Q given done few le
-    by_unit unit.Purge = one_within command.Purge left more all most units Q given done few le
-    by_unit unit.Gather = one_within command.Gather left more all most units Q given done few le
+    by_unit (unit.Finish n i) = one (command.Done n i)
+    by_unit unit.Pick = one command.Pick
+    by_unit unit.Purge = one command.Purge
+    by_unit unit.Gather = one command.Gather
     by_unit (unit.Run n) = job true (job_at Q n)
     by_unit (unit.Convert n) = job false (job_at Q n)
-    by_unit unit.TakeExec = one_within command.TakeExec left more all most units Q given done few le
-    by_unit unit.TakeConvert = one_within command.TakeConvert left more all most units Q given done few le
+    by_unit unit.TakeExec = one command.TakeExec
+    by_unit unit.TakeConvert = one command.TakeConvert
     by_unit unit.Idle = none
 
   -- units one after another
@@ -175,11 +174,7 @@ module _ (h : Holder) (found : Found) where
   -- what follows once a job's text was read
   module _ (most units : ℕ) (Q : Queue) (n : JobNo) (p : Progress) (few : p.done + 1 + p.left ≤ units) (le : 3 * p.left + 3 ≤ most) where
     ends_within : (cs : List Command) → TurnWithin most units (ends_with h (gives h Q cs) p Q)
-    ends_within cs =
-        let es = gives h Q cs in
-        let end = end_by (closing_reply es) in
-        more_within most (3 * p.left + 1 + 1) units (ends_with h es p Q) (omega (arith, le))
-        (part_within (3 * p.left + 1) units Q cs _ (goes_within end (answered_by found end (reply_answered (closing_reply es))) (3 * p.left + 1) units p.left (run Q es) (0 + length es) p.done few (omega arith)))
+    ends_within cs = last_within cs p.left (units_from h p.left) (units_within p.left) most units Q 0 p.done (omega (arith, few)) (omega (arith, le))
 
     taken_within : (refused : Bool) (needed : ℕ) (specs : List OutSpec) → TurnWithin most units (groups_taken h refused needed Q n specs p)
     taken_within true needed specs = ends_within (taking Q h.by needed)
@@ -211,11 +206,11 @@ module _ (h : Holder) (found : Found) (units : ℕ) where
   pub after_within : (most : ℕ) (es : List Entry) (t : Turn) (least : ℕ) → least + unwritten es ≤ most → TurnWithin h found least units t → Within most (wrote_after es t)
   after_within most es t least le w = record { few = let few = w.few in let all = after_few es t.parts in omega (arith, few, all, le); says = w.says }
 
-  pub close_within : (es : List Entry) (end : Closing) → MayCloseBy units found end → Within (unwritten es) (wrote_of es (closes_as h end))
-  close_within es end may = record { few = omega arith; says = (end, refl, may) }
+  pub close_within : (es : List Entry) (end : Closing) → MayCloseBy units found end → (most : ℕ) → unwritten es ≤ most → Within most (wrote_of es (closes_as h end))
+  close_within es end may most le = record { few = omega (arith, le); says = (end, refl, may) }
 
-  pub leave_within : (es : List Entry) (s : State) → (s ≡ Told → ⊥) → Within (sittings_most s + unwritten es) (wrote_of es (leaves s))
-  leave_within es s goes = record { few = omega arith; says = silent s goes } where
+  pub leave_within : (es : List Entry) (s : State) → (s ≡ Told → ⊥) → (most : ℕ) → sittings_most s + unwritten es ≤ most → Within most (wrote_of es (leaves s))
+  leave_within es s goes most le = record { few = omega (arith, le); says = silent s goes } where
     silent : (s : State) → (s ≡ Told → ⊥) → SaysAtEnd s (WorkLines h units found) []
     silent (Fresh task) goes = refl
     silent (Away aside) goes = refl

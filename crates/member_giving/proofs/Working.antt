@@ -1,7 +1,6 @@
 -- A member at work, after a call.
-use Rattle.member_giving.proofs.Names.{◌≡◌, ℕ, ◌+◌, ◌≤◌, ◌<◌, List, [], ◌++◌, Ok, ◌∙◌, ap, append-nil, refl, sym, subst, arith, MemberId, Batch, Entry, Queue, PlantGhosts, Ghosts as CopyGhosts, Complex, SteadyGhosts, end_of, kept_all, meaning_run as run, Member, too_high, none_out, parts_of, AreOf, batch_of, Holder, Keeps, HasRoom, IsLow, UsesOne, Works, outside, queue_here, queue_kept, run_of}
+use Rattle.member_giving.proofs.Names.{◌≡◌, ℕ, ◌+◌, ◌≤◌, ◌<◌, List, [], ◌++◌, Ok, ◌∙◌, ap, append-nil, refl, sym, subst, arith, MemberId, Batch, Entry, Queue, PlantGhosts, Ghosts as CopyGhosts, Complex, SteadyGhosts, end_of, kept_all, meaning_run as run, Member, too_high, none_out, parts_of, AreOf, batch_of, Holder, Keeps, HasRoom, IsLow, UsesOne, Works, outside, queue_here, queue_kept, run_of, IsStill}
 use Rattle.mas_complex.proofs.Batches.{kept_all_append}
-use Rattle.member_asides.specs.Whole.{IsStill}
 use Rattle.member_giving.proofs.Cuts.{batch_entries}
 use Rattle.member_giving.proofs.Leaving.{kept_entries}
 

@@ -18,7 +18,7 @@ use Rattle.step_turns.specs.Courses.{sittings_most}
 use Rattle.step_turns.specs.Sittings.{released}
 use Rattle.step_turns.specs.declared.states.Found.{Found}
 use Rattle.member_asides.specs.Shapes.{MayRefuseBy, SaysAtEnd, WorkLines}
-use Rattle.member_giving.specs.Works.{Outside, Place}
+use Rattle.member_giving.specs.Works.{Outside, Place, pair_seen}
 
 -- the batches that it writes, the state that it leaves, and the lines with which the step closes
 pub record Wrote : Type 0 where
@@ -95,9 +95,9 @@ closed ess lines = record { batches = ess; lines = lines }
 -- the step closes with these lines once batches with these entries are kept, one after another
 pub record IsClosing (told : Type 0) (by : MemberId) (w : Closed) (old new : Outside)
     (result : Result (Unit {0}) NodeNo) : Type 0 where
-  pub course : Course old.first new.first old.second new.second old.view new.view
+  pub course : Course (pair_seen old) (pair_seen new)
   pub loses : told → (d : Dev) → new.view.loses d ≡ old.view.loses d
-  pub cause : StepCauses result by.0 old.first new.first old.second new.second old.view new.view
+  pub cause : StepCauses result by.0 (pair_seen old) (pair_seen new)
   pub spares : Spares by.0 (stopped_in result) old.view new.view
   pub rest : List Batch
   pub batches_are : new.batches ≡ old.batches ++ rest
@@ -183,6 +183,10 @@ pub record PlaysAs (told : Type 0) (Fits : Wrote → Type 0) (rest : ToPlay) (ol
   pub closes : Closes told rest.holder.by wrote old.outside new result
   pub counts : HasCounted rest.holder.by (all_entries wrote.batches) old.outside.printed new.printed result
   pub spares : SparesOthers told rest.holder.by old.outside new
+
+-- the rest of a sitting, which writes this whether content is told or not
+abbrev pub PlaysOut : Type 0 → ToPlay → Place → Outside → Result SittingEnd NodeNo → Type 0
+PlaysOut told rest old new result = PlaysAs told (λ w. w ≡ rest.wrote) rest old new result
 
 -- the rest of a sitting of work, within bounds
 abbrev pub Plays : Type 0 → Bounds → ToPlay → Place → Outside → Result SittingEnd NodeNo → Type 0

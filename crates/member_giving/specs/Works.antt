@@ -12,6 +12,7 @@ use Rattle.ckpt_copy.specs.declared.copying.Copying.{Ghosts as CopyGhosts}
 use Rattle.mas_complex.specs.declared.complex.Complex.{Complex}
 use Rattle.mas_complex.specs.declared.renewals.Renewals.{Renewals}
 use Rattle.ckpt_form.specs.declared.steady.Steady.{Ghosts as SteadyGhosts}
+use Rattle.mas_complex.specs.CallCounts.{PairState, pair_at}
 use Rattle.mas_complex.specs.Journals.{end_of, kept_all}
 use Rattle.mas_complex.specs.Meaning.{run}
 use Rattle.mas_complex.specs.Paper.{MayBegin}
@@ -32,6 +33,10 @@ pub record Outside : Type 0 where
   pub second : Bool
   pub printed : List ℕ
   pub had : List (List Page)
+
+-- of its two copies
+abbrev pub pair_seen : Outside → PairState
+pair_seen o = pair_at o.first o.second o.view
 
 -- where a member stands in its sitting: at this queue, with these entries that aren't written yet
 pub record Place : Type 0 where

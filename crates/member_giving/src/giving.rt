@@ -1,8 +1,9 @@
 //! What a member gives in a sitting of work, and what of it is kept.
-ghost use Rattle.std.specs.Prelude.{◌≡◌, ◌+◌, ◌≤◌, ◌<◌, ◌^◌, [], length, OnOk};
-ghost use Rattle.member_giving.specs.Names.{HasCounted, batch_of, all_entries};
-ghost use Rattle.member_giving.specs.Plays.{GivesUp, Keeps, SparesOthers, after_full, full_of};
-ghost use Rattle.member_giving.specs.Works.{HasRoom, UsesOne, Works, outside, queue_here, run_of};
+ghost use Rattle.std.specs.Prelude.{◌≡◌, ◌+◌, ◌<◌, ◌^◌, []};
+ghost use Rattle.member_giving.specs.Kept.{HasKept, to_keep};
+ghost use Rattle.member_giving.specs.Names.{batch_of};
+ghost use Rattle.member_giving.specs.Plays.{GivesUp, after_full, full_of};
+ghost use Rattle.member_giving.specs.Works.{HasRoom, Works, outside, run_of};
 
 use mas_complex::{Complex, Steady};
 use member_decks::keep_batch;
@@ -26,17 +27,8 @@ pub fn keep<P: Plant + Drop, C: Steady + Drop>(
     requires works { Works complex.old member.old holder }
     requires high { member.old.checkpoint.level + 1 < 2 ^ 63 }
     requires level { complex.old.level + 1 < 2 ^ 63 }
-    ensures run { run_of complex.new member.new ≡ run_of complex.old member.old }
-    ensures keeps { Keeps P.tells holder.by (batch_of member.old.batch) (outside complex.old) (outside complex.new)
+    ensures { HasKept (to_keep holder (batch_of member.old.batch) []) complex.old member.old complex.new member.new
         result }
-    ensures spares { SparesOthers P.tells holder.by (outside complex.old) (outside complex.new) }
-    ensures tables { member.new.checkpoint.tables ≡ member.old.checkpoint.tables }
-    ensures nothing { OnOk result (member.new.batch ≡ []) }
-    ensures works { OnOk result (Works complex.new member.new holder) }
-    ensures queue { OnOk result (queue_here complex.new member.new ≡ queue_here complex.old member.old) }
-    ensures uses { OnOk result (UsesOne complex.old member.old complex.new member.new) }
-    ensures reached { OnOk result (complex.new.level ≤ complex.old.level + 1) }
-    ensures counts { HasCounted holder.by member.old.batch complex.old.printed complex.new.printed result }
 {
     if member.batch.len() == 0 {
         return Ok(());
@@ -66,7 +58,7 @@ pub fn give_up<P: Plant + Drop, C: Steady + Drop>(
     }
 }
 
-/// Keeps what isn't written where that is a full batch.
+/// Keeps what isn't written where that is a full batch, with the errors of [`keep`]; else it does nothing.
 pub fn keep_full<P: Plant + Drop, C: Steady + Drop>(
     member: &mut Member,
     alloc: Global,
@@ -75,19 +67,8 @@ pub fn keep_full<P: Plant + Drop, C: Steady + Drop>(
 ) -> Result<(), NodeNo>
     requires works { Works complex.old member.old holder }
     requires room { HasRoom complex.old member.old 1 }
-    ensures run { run_of complex.new member.new ≡ run_of complex.old member.old }
-    ensures keeps { Keeps P.tells holder.by (full_of member.old.batch) (outside complex.old) (outside complex.new)
-        result }
-    ensures spares { SparesOthers P.tells holder.by (outside complex.old) (outside complex.new) }
-    ensures left { OnOk result (member.new.batch ≡ after_full member.old.batch) }
-    ensures few { OnOk result (length member.new.batch < 64) }
-    ensures works { OnOk result (Works complex.new member.new holder) }
-    ensures queue { OnOk result (queue_here complex.new member.new ≡ queue_here complex.old member.old) }
-    ensures order { OnOk result (member.new.checkpoint.tables.order ≡ member.old.checkpoint.tables.order) }
-    ensures uses { OnOk result (UsesOne complex.old member.old complex.new member.new) }
-    ensures reached { OnOk result (complex.new.level ≤ complex.old.level + 1) }
-    ensures counts { HasCounted holder.by (all_entries (full_of member.old.batch)) complex.old.printed
-        complex.new.printed result }
+    ensures { HasKept (to_keep holder (full_of member.old.batch) (after_full member.old.batch)) complex.old member.old
+        complex.new member.new result }
 {
     if member.batch.len() < BATCH_MOST {
         return Ok(());

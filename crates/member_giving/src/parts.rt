@@ -1,10 +1,9 @@
 //! What a unit gives at once.
-ghost use Rattle.std.specs.Prelude.{◌≡◌, ◌+◌, ◌*◌, ◌≤◌, ◌<◌, ◌^◌, Ok, OnOk, IfOk};
-ghost use Rattle.member_giving.specs.Names.{Queue, Tell, Found, MayEndBy, Done, IsNamedEnd};
-ghost use Rattle.member_giving.specs.Parts.{IsLonger, IsOwnPart, IsTaken, MayGive, MayLose, PartStands, commands_most, commands_of, ends_of};
-ghost use Rattle.member_giving.specs.Plays.{HasGiven, unit_part};
-ghost use Rattle.member_giving.specs.Works.{HasRoom, Works, place_of, queue_here, run_of};
-ghost use Rattle.member_work.specs.Giving.{CanGive, GivesAt, HasGiven as Given, asked};
+ghost use Rattle.std.specs.Prelude.{◌+◌, ◌*◌, ◌<◌, ◌^◌, IfOk};
+ghost use Rattle.member_giving.specs.Names.{IsNamedEnd};
+ghost use Rattle.member_giving.specs.Parts.{GavePart, IsOwnPart, MayGive, PartStands, commands_most, gives_part, to_give};
+ghost use Rattle.member_giving.specs.Works.{HasRoom, Works};
+ghost use Rattle.member_work.specs.Giving.{CanGive, GivesAs};
 
 use crate::giving::give_up;
 use job_outcome::{UnitEnd, law_of_ended_texts};
@@ -37,14 +36,9 @@ fn do_part(member: &mut Member, alloc: Global, step: u32, part: Part) -> Result<
     requires can { CanGive member.old }
     requires order { member.old.checkpoint.tables.order + 32 * commands_most part < 2 ^ 63 }
     requires own { IsOwnPart member.old part }
-    ensures has { Given step member.old member.new }
-    ensures gives { (Q : Queue) → Tell member.old.checkpoint.tables Q
-        → GivesAt (asked Q member.old.id step (commands_of member.old.id Q part))
-        (PartStands member.old.checkpoint.tables Q member.old.id part) member.old member.new result }
-    ensures end { IfOk result (λ end. (Q : Queue) → Tell member.old.checkpoint.tables Q
-        → end ≡ ends_of member.old.id step Q part) }
+    ensures does { GivesAs (gives_part step member.old.id part)
+        (λ Q. PartStands member.old.checkpoint.tables Q member.old.id part) member.old member.new result }
     ensures named { IfOk result IsNamedEnd }
-    ensures taken { result ≡ Ok Done → IsTaken member.new part }
 {
     law_of_texts();
     law_of_ended_texts();
@@ -63,6 +57,8 @@ fn do_part(member: &mut Member, alloc: Global, step: u32, part: Part) -> Result<
 }
 
 /// Gives a part of a unit. What is more than one command is given only where nothing is unwritten.
+/// It answers whether the part is done or refused. NoMemory comes when out of memory, and what was given before is kept
+/// then, if there is memory for that; BothLost and Halted come as [`give_up`] answers them.
 pub fn give_part<P: Plant + Drop, C: Steady + Drop>(
     member: &mut Member,
     alloc: Global,
@@ -73,19 +69,7 @@ pub fn give_part<P: Plant + Drop, C: Steady + Drop>(
     requires works { Works complex.old member.old holder }
     requires room { HasRoom complex.old member.old 1 }
     requires may { MayGive complex.old member.old part }
-    ensures run { run_of complex.new member.new ≡ run_of complex.old member.old }
-    ensures given { HasGiven P.tells holder (unit_part (commands_of holder.by (queue_here complex.old member.old) part)
-        (ends_of holder.by holder.step (queue_here complex.old member.old) part)) (place_of complex.old member.old)
-        (place_of complex.new member.new) result }
-    ensures named { IfOk result IsNamedEnd }
-    ensures works { OnOk result (Works complex.new member.new holder) }
-    ensures order { OnOk result (member.new.checkpoint.tables.order
-        ≤ member.old.checkpoint.tables.order + 32 * commands_most part) }
-    ensures high { OnOk result (member.new.checkpoint.level ≡ member.old.checkpoint.level) }
-    ensures reached { OnOk result (complex.new.level ≡ complex.old.level) }
-    ensures longer { OnOk result (IsLonger part member.old.batch member.new.batch) }
-    ensures ends { (found : Found) → MayLose found part → IfOk result (MayEndBy found) }
-    ensures taken { result ≡ Ok Done → IsTaken member.new part }
+    ensures { GavePart (to_give holder part) complex.old member.old complex.new member.new result }
 {
     complex.kept_texts();
     let Ok(end) = do_part(member, alloc, holder.step, part) else {

@@ -1,10 +1,11 @@
 -- How far a sitting came, from what its parts left in the journal and on the console.
-use Rattle.member_sittings.proofs.Names.{◌≡◌, ℕ, ◌≤◌, ◌<◌, Bool, true, false, List, [], ◌∷◌, ◌++◌, length, map, take, Some, None, Result, Ok, Err, inl, inr, ⊎_elim, suc, append_assoc, append-nil, refl, sym, ◌∙◌, ap, subst, arith, MemberId, Batch, Entry, ViewLine as Line, begun, fated, NodeNo, BothLost, Halted, ConsoleFault, NoMemory, HasFlying, HasKept, Breaks, torn, StepLeaves, StepTells, AreAll, HasAll, IsKeptBatch, GivesUpLeaves, batch_of, HasLeft, HasSaid, IsLastBatch, Reach, ReachesBy, StandThere, left_by, reach_all, said_nothing, said_of}
+use Rattle.member_sittings.proofs.Names.{◌≡◌, ℕ, ◌≤◌, ◌<◌, Bool, true, false, List, [], ◌∷◌, ◌++◌, length, map, take, Some, None, Result, Ok, Err, inl, inr, ⊎_elim, suc, append_assoc, append-nil, refl, sym, ◌∙◌, ap, subst, arith, MemberId, Batch, Entry, ViewLine as Line, begun, fated, NodeNo, BothLost, Halted, ConsoleFault, NoMemory, HasFlying, HasKept, Breaks, torn, StepLeaves, StepTells, AreAll, HasAll, IsKeptBatch, GivesUpLeaves, batch_of, HasLeft, HasSaid, IsLastBatch, Reach, ReachesBy, StandThere, left_by, reach_all, said_nothing, said_of, SittingEnd, StepCauses, PairState}
 use Rattle.std.proofs.lemmas.List.{length-append, take_at}
 use Rattle.std.proofs.Math.Seq.{take-length}
 use Rattle.mas_types.specs.declared.journals.Fate.TheVariants.{Kept}
 use Rattle.mas_complex.specs.Headline.{whole}
 use Rattle.member_sittings.specs.Tight.{IsTightBy}
+use Rattle.member_node.specs.Spares.{Spares, stopped_in}
 
 -- A BATCH, AND SOME OF ITS ENTRIES
 
@@ -23,12 +24,9 @@ left_all ess = ap (λ (l : List (List Entry)). l ++ []) (take-length ess) ∙ ap
 
 -- BATCHES ONE AFTER ANOTHER
 
-stand_flag : (flies : Bool) (by : MemberId) (es : List Entry) (from now : ℕ) (b : Batch) → flies ≡ false → IsKeptBatch by es from now b → IsLastBatch flies by es from now b
-stand_flag flies by es from now b is kept = subst (λ (f : Bool). IsLastBatch f by es from now b) (sym is) kept
-
 -- a kept batch, and others after it
 pub stand_next : (flies : Bool) (by : MemberId) (from now : ℕ) (es : List Entry) (ess : List (List Entry)) (b : Batch) (bs : List Batch) → IsKeptBatch by es from now b → StandThere flies by b.last now ess bs → StandThere flies by from now (es ∷ ess) (b ∷ bs)
-stand_next flies by from now es [] b [] kept rest = (refl, stand_flag flies by es from now b rest kept)
+stand_next flies by from now es [] b [] kept rest = (refl, subst (λ (f : Bool). IsLastBatch f by es from now b) (sym rest) kept)
 stand_next flies by from now es [] b (c ∷ bs) kept rest = absurd rest
 stand_next flies by from now es (next ∷ ess) b bs kept rest = (kept, rest)
 
@@ -54,7 +52,10 @@ all_left by from now ess bs all = record {
 }
 
 -- nothing was begun
-pub none_left : (by : MemberId) (from now : ℕ) (ess : List (List Entry)) → HasLeft by from now ess (record { whole = 0; part = 0; flies = false }) []
+abbrev pub no_reach : Reach
+no_reach = record { whole = 0; part = 0; flies = false }
+
+pub none_left : (by : MemberId) (from now : ℕ) (ess : List (List Entry)) → HasLeft by from now ess no_reach []
 none_left by from now ess = record { within = omega arith; flying = λ e. absurd (cc); fits = omega arith; cut = λ e some. absurd (omega (arith, some)); stand = refl }
 
 -- some entries of the first batch stand in the journal alone, not all where they are kept
@@ -82,6 +83,23 @@ next_left flies by from now es ess b bs kept l = record {
   };
 }
 
+-- the answer of the calls that keep a batch, by the sitting's
+abbrev pub bare : Result SittingEnd NodeNo → Result (Unit {0}) NodeNo
+bare (Ok e) = Ok tt
+bare (Err e) = Err e
+
+-- by the answer: its cause, and who was stopped
+pub cause_by : (r : Result SittingEnd NodeNo) (by : ℕ) (x y : PairState) → StepCauses (bare r) by x y → Spares by (stopped_in (bare r)) x.view y.view → StepCauses r by x y × Spares by (stopped_in r) x.view y.view
+cause_by (Ok e) by x y cause spares = (cause, spares)
+cause_by (Err NoMemory) by x y cause spares = (cause, spares)
+cause_by (Err _) by x y cause spares = (cause, spares)
+
+-- what holds where the batch is kept for sure
+abbrev pub IsWhere : Result SittingEnd NodeNo → Type 0 → Type 0
+IsWhere (Ok end) A = A
+IsWhere (Err ConsoleFault) A = A
+IsWhere _ A = Unit {0}
+
 -- BY THE ANSWER
 
 -- what a sitting left, and by its answer
@@ -107,39 +125,41 @@ pub record OneLeft {T : Type 0} (by : MemberId) (from now : ℕ) (all : List Ent
   pub by_it : LeftBy by from now (all ∷ []) more result
   pub tight : IsTightBy result (all ∷ []) by_it.reach
 
+-- so many entries of it
+abbrev Far : ℕ → Bool → Reach
+Far part flies = record { whole = 0; part = part; flies = flies }
+
+-- nothing was begun
+nothing : {T : Type 0} (by : MemberId) (from now : ℕ) (all : List Entry) (front batches : List Batch) (r : Result T NodeNo) → ReachesBy r (all ∷ []) no_reach → IsTightBy r (all ∷ []) no_reach → batches ≡ front → OneLeft by from now all front batches r
+nothing by from now all front batches r reached tight none = record { more = []; are = none ∙ sym (append-nil front); by_it = record { reach = no_reach; left = none_left by from now (all ∷ []); reached = reached }; tight = tight }
+
 module _ (by : MemberId) (from now : ℕ) (later : from ≤ now) (es rest : List Entry) (front batches : List Batch) where
   abbrev Cut : Batch
   Cut = begun from by es
 
-  -- nothing was begun
-  pub one_none : {T : Type 0} (e : NodeNo) → (e ≡ ConsoleFault → ⊥) → batches ≡ front → OneLeft {T = T} by from now (es ++ rest) front batches (Err e)
-  one_none NoMemory never none = record { more = []; are = none ∙ sym (append-nil front); by_it = record { reach = record { whole = 0; part = 0; flies = false }; left = none_left by from now ((es ++ rest) ∷ []); reached = refl }; tight = omega arith }
-  one_none BothLost never none = record { more = []; are = none ∙ sym (append-nil front); by_it = record { reach = record { whole = 0; part = 0; flies = false }; left = none_left by from now ((es ++ rest) ∷ []); reached = tt }; tight = (omega arith, λ part. absurd (omega (arith, part))) }
-  one_none Halted never none = record { more = []; are = none ∙ sym (append-nil front); by_it = record { reach = record { whole = 0; part = 0; flies = false }; left = none_left by from now ((es ++ rest) ∷ []); reached = tt }; tight = λ part. absurd (omega (arith, part)) }
-  one_none ConsoleFault never none = absurd (never refl)
-
-  flown : IsLastBatch true by es from now Cut
-  flown = record { by_it = refl; entries = refl; flies = refl; moments = (omega arith, later, refl) }
-
-  kept : (k : HasKept front batches Cut now) → IsLastBatch false by es from now (fated Kept k.0 Cut)
-  kept k = record { by_it = refl; entries = refl; kept = refl; moments = (omega arith, k.1, k.2) }
-
   -- the first entries of a batch are in flight
-  pub one_lost : {T : Type 0} → 1 ≤ length es → HasFlying front batches Cut → OneLeft {T = T} by from now (es ++ rest) front batches (Err BothLost)
-  one_lost some flies = record { more = Cut ∷ []; are = flies; by_it = record { reach = record { whole = 0; part = length es; flies = true }; left = part_left true by from now es rest [] Cut some (λ e. absurd (cc)) flown; reached = tt }; tight = (omega arith, λ part. refl) }
-
-  pub one_halted : {T : Type 0} → 1 ≤ length es → HasFlying front batches Cut → OneLeft {T = T} by from now (es ++ rest) front batches (Err Halted)
-  one_halted some flies = record { more = Cut ∷ []; are = flies; by_it = record { reach = record { whole = 0; part = length es; flies = true }; left = part_left true by from now es rest [] Cut some (λ e. absurd (cc)) flown; reached = tt }; tight = λ part. refl }
+  flying : {T : Type 0} (r : Result T NodeNo) → ReachesBy r ((es ++ rest) ∷ []) (Far (length es) true) → IsTightBy r ((es ++ rest) ∷ []) (Far (length es) true) → 1 ≤ length es → HasFlying front batches Cut → OneLeft by from now (es ++ rest) front batches r
+  flying r reached tight some flies = record {
+    more = Cut ∷ [];
+    are = flies;
+    by_it = record { reach = Far (length es) true; left = part_left true by from now es rest [] Cut some (λ e. absurd (cc)) (record { by_it = refl; entries = refl; flies = refl; moments = (omega arith, later, refl) }); reached = reached };
+    tight = tight;
+  }
 
   -- out of memory after the first entries of a batch, which are kept
-  pub one_wanted : {T : Type 0} → 1 ≤ length es → 1 ≤ length rest → HasKept front batches Cut now → OneLeft {T = T} by from now (es ++ rest) front batches (Err NoMemory)
-  one_wanted some more k = record { more = fated Kept k.0 Cut ∷ []; are = k.3; by_it = record { reach = record { whole = 0; part = length es; flies = false }; left = part_left false by from now es rest [] (fated Kept k.0 Cut) some (λ e. more) (kept k); reached = refl }; tight = omega arith }
+  wanted : {T : Type 0} → 1 ≤ length es → 1 ≤ length rest → HasKept front batches Cut now → OneLeft {T = T} by from now (es ++ rest) front batches (Err NoMemory)
+  wanted some more k = record {
+    more = fated Kept k.0 Cut ∷ [];
+    are = k.3;
+    by_it = record { reach = Far (length es) false; left = part_left false by from now es rest [] (fated Kept k.0 Cut) some (λ e. more) (record { by_it = refl; entries = refl; kept = refl; moments = (omega arith, k.1, k.2) }); reached = refl };
+    tight = omega arith;
+  }
 
   -- a step that was out of memory in its first batch
   pub one_given_up : {T : Type 0} (e : NodeNo) → 1 ≤ length rest → GivesUpLeaves e front batches Cut now → OneLeft {T = T} by from now (es ++ rest) front batches (Err e)
-  one_given_up NoMemory more leaves = ⊎_elim (λ none. one_none NoMemory (λ e. absurd (cc)) none) (λ k. one_wanted k.0 more k.1) leaves
-  one_given_up BothLost more leaves = one_lost leaves.0 leaves.1
-  one_given_up Halted more leaves = one_halted leaves.0 leaves.1
+  one_given_up NoMemory more leaves = ⊎_elim (λ none. nothing by from now (es ++ rest) front batches (Err NoMemory) refl (omega arith) none) (λ k. wanted k.0 more k.1) leaves
+  one_given_up BothLost more leaves = flying (Err BothLost) tt (omega arith, λ part. refl) leaves.0 leaves.1
+  one_given_up Halted more leaves = flying (Err Halted) tt (λ part. refl) leaves.0 leaves.1
   one_given_up ConsoleFault more leaves = absurd leaves
 
 -- the whole batch
@@ -150,37 +170,29 @@ module _ (by : MemberId) (from now : ℕ) (later : from ≤ now) (es : List Entr
   pub one_all : HasKept front batches Whole now → HasAll by from now (es ∷ []) front batches
   one_all k = (fated Kept k.0 Whole ∷ [], k.3, (record { by_it = refl; entries = refl; kept = refl; moments = (omega arith, k.1, k.2) }, tt))
 
-  abbrev LastAnswer : {T : Type 0} → Result T NodeNo → Type 0
-  LastAnswer (Ok done) = Unit {0}
-  LastAnswer (Err ConsoleFault) = Unit {0}
-  LastAnswer (Err Halted) = Unit {0}
-  LastAnswer _ = ⊥
-
-  pub one_kept : {T : Type 0} (r : Result T NodeNo) → LastAnswer r → HasKept front batches Whole now → OneLeft by from now es front batches r
+  one_kept : {T : Type 0} (r : Result T NodeNo) → IsTightBy r (es ∷ []) (reach_all (es ∷ [])) → HasKept front batches Whole now → OneLeft by from now es front batches r
   unfolding by_all
-  one_kept r last k = let all = one_all k in record { more = all.0; are = all.1; by_it = by_all by from now (es ∷ []) all.0 r all.2; tight = tight r last } where
-    tight : {T : Type 0} (r : Result T NodeNo) → LastAnswer r → IsTightBy r (es ∷ []) (reach_all (es ∷ []))
-    tight (Ok done) last = tt
-    tight (Err ConsoleFault) last = tt
-    tight (Err Halted) last = λ part. absurd (omega (arith, part))
-    tight (Err NoMemory) last = absurd last
-    tight (Err BothLost) last = absurd last
+  one_kept r tight k = let all = one_all k in record { more = all.0; are = all.1; by_it = by_all by from now (es ∷ []) all.0 r all.2; tight = tight }
 
-  -- a batch with no entries left to come
-  alone : {T : Type 0} (r : Result T NodeNo) → OneLeft by from now (es ++ []) front batches r → OneLeft by from now es front batches r
-  alone r one = subst (λ (l : List Entry). OneLeft by from now l front batches r) (append-nil es) one
+  -- a batch with no entries left to come is in flight
+  flown : {T : Type 0} (r : Result T NodeNo) → ReachesBy r ((es ++ []) ∷ []) (Far (length es) true) → IsTightBy r ((es ++ []) ∷ []) (Far (length es) true) → HasFlying front batches Whole → OneLeft by from now es front batches r
+  flown r reached tight flies = subst (λ (l : List Entry). OneLeft by from now l front batches r) (append-nil es) (flying by from now later es [] front batches r reached tight some flies)
 
-  pub one_step : {T : Type 0} (e : NodeNo) → StepLeaves {T = Unit {0}} (Err e) front batches Whole now → OneLeft {T = T} by from now es front batches (Err e)
-  one_step NoMemory none = alone (Err NoMemory) (one_none by from now later es [] front batches NoMemory (λ e. absurd (cc)) none)
-  one_step ConsoleFault k = one_kept (Err ConsoleFault) tt k
-  one_step BothLost leaves = ⊎_elim
-      (λ none. alone (Err BothLost) (one_none by from now later es [] front batches BothLost (λ e. absurd (cc)) none))
-      (λ flies. alone (Err BothLost) (one_lost by from now later es [] front batches some flies))
+  pub one_step : (r : Result SittingEnd NodeNo) → StepLeaves (bare r) front batches Whole now → OneLeft by from now es front batches r
+  one_step (Ok end) k = one_kept (Ok end) tt k
+  one_step (Err NoMemory) none = nothing by from now es front batches (Err NoMemory) refl (omega arith) none
+  one_step (Err ConsoleFault) k = one_kept (Err ConsoleFault) tt k
+  one_step (Err BothLost) leaves = ⊎_elim (λ none. nothing by from now es front batches (Err BothLost) tt (omega arith, λ part. absurd (omega (arith, part))) none) (λ flies. flown (Err BothLost) tt (omega arith, λ part. refl) flies) leaves
+  one_step (Err Halted) leaves = ⊎_elim
+      (λ none. nothing by from now es front batches (Err Halted) tt (λ part. absurd (omega (arith, part))) none)
+      (λ two. ⊎_elim (λ flies. flown (Err Halted) tt (λ part. refl) flies) (λ k. one_kept (Err Halted) (λ part. absurd (omega (arith, part))) k) two)
       leaves
-  one_step Halted leaves = ⊎_elim
-      (λ none. alone (Err Halted) (one_none by from now later es [] front batches Halted (λ e. absurd (cc)) none))
-      (λ two. ⊎_elim (λ flies. alone (Err Halted) (one_halted by from now later es [] front batches some flies)) (λ k. one_kept (Err Halted) tt k) two)
-      leaves
+
+  -- it is kept where all lines are said, or the console failed
+  pub kept_by : (r : Result SittingEnd NodeNo) → StepLeaves (bare r) front batches Whole now → IsWhere r (HasAll by from now (es ∷ []) front batches)
+  kept_by (Ok end) k = one_all k
+  kept_by (Err ConsoleFault) k = one_all k
+  kept_by (Err _) leaves = tt
 
 -- ON THE CONSOLE
 
@@ -217,14 +229,9 @@ module _ (lines : List (List ℕ)) (was now : List Line) where
       breaks
 
   -- what was said of a step's lines
-  pub said_by : (A B : Type 0) (r : Result (Unit {0}) NodeNo) → (A → B) → (r ≡ Ok tt → B) → (r ≡ Err ConsoleFault → B) → StepTells r lines A was now → HasSaid B lines was now r
-  said_by A B (Ok done) f ok fault tells = said_all B done (ok refl) tells
-  said_by A B (Err ConsoleFault) f ok fault tells = said_some B tells.0 (fault refl) tells.1 tells.2
-  said_by A B (Err NoMemory) f ok fault tells = said_none B NoMemory (λ e. absurd (cc)) tells
-  said_by A B (Err BothLost) f ok fault tells = said_none B BothLost (λ e. absurd (cc)) tells
-  said_by A B (Err Halted) f ok fault tells = ⊎_elim (λ none. said_none B Halted (λ e. absurd (cc)) none) (λ some. said_broken B some.1 (f some.0) some.2 some.3) tells
-
--- what was said, by an answer of another type
-pub said_answer : {T : Type 0} (A : Type 0) (lines : List (List ℕ)) (was now : List Line) (e : NodeNo) → HasSaid {T = Unit {0}} A lines was now (Err e) → HasSaid {T = T} A lines was now (Err e)
-said_answer A lines was now NoMemory s = record { said = s.said; is = s.is; by_answer = s.by_answer; once_kept = s.once_kept }
-said_answer A lines was now _ s = record { said = s.said; is = s.is; by_answer = s.by_answer; once_kept = s.once_kept }
+  pub said_by : (A B : Type 0) (r : Result SittingEnd NodeNo) → (A → B) → IsWhere r B → StepTells (bare r) lines A was now → HasSaid B lines was now r
+  said_by A B (Ok end) f kept tells = said_all B end kept tells
+  said_by A B (Err ConsoleFault) f kept tells = said_some B tells.0 kept tells.1 tells.2
+  said_by A B (Err NoMemory) f kept tells = said_none B NoMemory (λ e. absurd (cc)) tells
+  said_by A B (Err BothLost) f kept tells = said_none B BothLost (λ e. absurd (cc)) tells
+  said_by A B (Err Halted) f kept tells = ⊎_elim (λ none. said_none B Halted (λ e. absurd (cc)) none) (λ some. said_broken B some.1 (f some.0) some.2 some.3) tells

@@ -1,5 +1,8 @@
 -- A member at the shared value, within a sitting and after it.
-use Rattle.member_sittings.proofs.Names.{State, Told, Holder, IsToKeep, may_alike, some_of_one, reply_to, map, append-nil, ◌≡◌, ℕ, ◌+◌, ◌*◌, ◌^◌, ◌≤◌, ◌<◌, Result, IfOk, true, false, List, [], ◌∷◌, length, All, None, ◌++◌, Ok, Err, refl, sym, ◌∙◌, ap, subst, arith, All-weaker, All-append, All-cons, All-tail, ∥∥₁_map, MemberId, Command, Reply, Batch, Entry, Config, Queue, IsFit, IsJobFields, may_give, JobFields, is_member, View, PlantGhosts, Tables, TellSound, Tell, AreRoomy, AreSettled, begun, kept_all, Parts, HasTexts, lost_now, spools_at, Member, NodeNo, console_now, AreLow, orders_after, too_high, HasKept, run_append, IsBetween, entry_with, had_as, at_lock, calm_rest, low_written, one_batch, told_sound, untold_later, begins_alone, between_done, can_draw, if_ok, kept_from_out, settled_later, settled_out, AreOf, one_of, still_roomy, given_in, opening, Gives, IsPart, LeaveOut, tells_some, of_front, of_given, SittingEnd, IsSatOn, journal_of, Commanded, Half, HasStepKept, HasTextsAfter, HasUntold, HoldsLock, IsAtRest, IsBounded, IsGiving, IsRoomy, IsSeat, IsSitting, IsStepUntold, IsStill, MayKeep, first_half, queue_of, second_half, HasTextsOf}
+use Rattle.member_sittings.proofs.Names.{State, Told, Holder, IsToKeep, may_alike, some_of_one, reply_to, map, append-nil, ◌≡◌, ℕ, ◌+◌, ◌*◌, ◌^◌, ◌≤◌, ◌<◌, Result, IfOk, true, false, List, [], ◌∷◌, length, All, None, ◌++◌, Ok, Err, refl, sym, ◌∙◌, ap, subst, arith, All-weaker, All-append, All-cons, ∥∥₁_map, MemberId, Command, Reply, Batch, Entry, Config, Queue, IsFit, IsJobFields, may_give, JobFields, is_member, View, PlantGhosts, Tables, TellSound, Tell, AreRoomy, AreSettled, begun, kept_all, Parts, HasTexts, lost_now, spools_at, Member, NodeNo, console_now, AreLow, orders_after, too_high, HasKept, run_append, IsBetween, entry_with, had_as, at_lock, calm_rest, low_written, one_batch, told_sound, untold_later, begins_alone, between_done, can_draw, if_ok, kept_from_out, settled_later, settled_out, AreOf, one_of, still_roomy, given_in, opening, Gives, IsPart, LeaveOut, tells_some, of_front, of_given, SittingEnd, IsSatOn, journal_of, Commanded, Half, HasStepKept, HasTextsAfter, HasUntold, IsAtRest, IsBounded, IsGiving, IsRoomy, IsSeat, IsSitting, IsStepUntold, IsStill, MayKeep, first_half, queue_of, second_half, HasTextsOf, IsToCut, some_given}
+use Rattle.std.specs.Prelude.{drop}
+use Rattle.std.proofs.lemmas.List.{drop_at}
+use Rattle.std.proofs.lemmas.List.Elements.{All-drop}
 use Rattle.mas_types.specs.declared.ids.Page.{Page}
 use Rattle.mas_complex.specs.Headline.{whole}
 use Rattle.member_sittings.specs.Ends.{IsQuiet}
@@ -8,7 +11,6 @@ use Rattle.paper_laws.specs.Counts.{is_mark}
 use Rattle.spool_plant.specs.Acts.{Goes}
 use Rattle.ckpt_copy.specs.declared.copying.Copying.{Ghosts as CopyGhosts}
 use Rattle.ckpt_tables.specs.Shape.{page_count}
-use Rattle.lock_cycle.specs.Books.{Book}
 use Rattle.mas_complex.specs.Crash.{IsUntold, setting}
 use Rattle.mas_complex.specs.Paper.{MayBegin}
 use Rattle.member_node.specs.Batches.{HasDone}
@@ -19,11 +21,6 @@ use Rattle.member_decks.proofs.MayLemmas.{front_begins, opening_begins}
 use Rattle.member_sittings.specs.Gates.{HasTakenSeat, IsAtGate, IsOpen}
 use Rattle.member_sittings.specs.Sat.{seated_in}
 
--- a member that has the lock has it by other names of book, configuration and member too
-holds_same : (b c : Book) (k l : Config) (m n : MemberId) → c ≡ b → l ≡ k → n ≡ m → HoldsLock b k m → HoldsLock c l n
-holds_same b c k l m n one two three holds =
-    subst (λ (d : Book). HoldsLock d l n) (sym one) (subst (λ (e : Config). HoldsLock b e n) (sym two) (subst (λ (i : MemberId). HoldsLock b k i) (sym three) holds))
-
 module _ {P C : Type 0} (plants : PlantGhosts P) (copies : CopyGhosts C) where
   abbrev view_of : Parts P C → View
   view_of x = plants.view x.plant
@@ -33,7 +30,7 @@ module _ {P C : Type 0} (plants : PlantGhosts P) (copies : CopyGhosts C) where
   module _ (x : Parts P C) (m n : Member) (did : Commanded m n) where
     pub still_commanded : IsStill plants copies x m → IsStill plants copies x n
     still_commanded s = record {
-      holds = holds_same x.book x.book x.base.config x.base.config m.id n.id refl refl did.id s.holds;
+      holds = rw did.id s.holds;
       none = s.none;
       unreserved = s.unreserved;
       unplaced = s.unplaced;
@@ -70,15 +67,6 @@ module _ {P C : Type 0} (plants : PlantGhosts P) (copies : CopyGhosts C) where
       step = subst (λ (i : MemberId). HasStepKept plants copies x i at) (sym did.id) s.step;
     }
 
-  -- one command alone, which is no Mark
-  pub gives_one : (x : Parts P C) (m n : Member) → Commanded m n → (at : ℕ) → IsSitting plants copies x m at → (c : Command) (r : Reply) → n.batch ≡ entry_with m.id at c r ∷ []
-      → may_give x.base m.id c ≡ true → IsFit c → is_mark c ≡ false → n.checkpoint.tables.order ≤ m.checkpoint.tables.order + 32
-      → ((Q : Queue) → HasDone Q m.batch m.checkpoint → HasDone Q n.batch n.checkpoint) → (plants.tells → TellSound n.checkpoint.tables) → HasTextsAfter plants copies x n.batch → IsGiving plants copies x n at
-  gives_one x m n did at s c r batch may fit unmarked order done sound texts =
-      gives_commanded x m n did at s (one_of n.batch (entry_with m.id at c r) m.id at batch refl refl) (omega (arith, order))
-      (λ t. done (queue_of x) (between_done plants.tells x.base x.batches x.current x.placed x.level m.batch m.checkpoint s.seat.between t))
-      sound texts (λ t. begins_alone x.base x.batches x.printed m.id at c r n.batch batch may fit unmarked)
-
   -- the tables tell the queue, with nothing done
   pub seat_done : (x : Parts P C) (m : Member) → IsSeat plants copies x m → plants.tells → HasDone (queue_of x) [] m.checkpoint
   seat_done x m s t = let b = s.between in nothing_done (queue_of x) m.checkpoint b.drawn b.fit (b.orders t) (b.queue t)
@@ -95,7 +83,7 @@ module _ {P C : Type 0} (plants : PlantGhosts P) (copies : CopyGhosts C) where
     pub here : n.behind ≡ false
     pub tables : n.checkpoint.tables ≡ m.checkpoint.tables
     pub unreserved : y.reserved ≡ None
-    pub between : IsBetween plants.tells y.base y.batches y.current y.placed y.level n.batch n.checkpoint
+    pub between : IsBetween plants.tells y n.batch n.checkpoint
     pub first : IsAtRest plants.tells (first_half plants copies y) n.checkpoint.pages
     pub second : IsAtRest plants.tells (second_half plants copies y) n.checkpoint.pages
     pub noted : HasHad plants.tells n.fresh y.had n.id.0 n.checkpoint.pages
@@ -108,7 +96,7 @@ module _ {P C : Type 0} (plants : PlantGhosts P) (copies : CopyGhosts C) where
 
     pub still_kept : (at : ℕ) → IsGiving plants copies x m at → IsStill plants copies y n
     still_kept at g = record {
-      holds = holds_same x.book y.book x.base.config y.base.config m.id n.id k.book same_config k.id g.still.holds;
+      holds = rw (k.book, same_config, k.id) g.still.holds;
       none = k.between.none;
       unreserved = k.unreserved;
       unplaced = k.between.unplaced;
@@ -127,8 +115,7 @@ module _ {P C : Type 0} (plants : PlantGhosts P) (copies : CopyGhosts C) where
     low_kept at g t = record {
       same = sym (same_config ∙ g.still.config ∙ sym (ap (λ (u : Tables). u.config) k.tables));
       fit = k.between.fit;
-      order = subst (λ (i : ℕ). n.checkpoint.tables.order ≤ orders_after i) (sym (one_batch x.batches y.batches y.placed y.current (begun (view_of x).now m.id m.batch) (view_of y).now k.between.unplaced k.between.none k.leaves))
-          (subst (λ (u : Tables). u.order ≤ orders_after (length x.batches + 1)) (sym k.tables) (g.low t));
+      order = rw (one_batch x.batches y.batches y.placed y.current (begun (view_of x).now m.id m.batch) (view_of y).now k.between.unplaced k.between.none k.leaves, k.tables) (g.low t);
     }
 
     pub seat_kept : (at : ℕ) → IsGiving plants copies x m at → IsSeat plants copies y n
@@ -169,7 +156,7 @@ module _ {P C : Type 0} (plants : PlantGhosts P) (copies : CopyGhosts C) where
       let low : plants.tells → AreLow config (length x.batches) m.checkpoint.tables = λ told. subst (λ (k : Config). AreLow k (length x.batches) m.checkpoint.tables) t.config (s.low told) in
       record {
         holds = t.holds;
-        at_lock = at_lock plants.tells x.base x.batches x.current x.placed x.level m.batch m.checkpoint m.room b t.many;
+        at_lock = at_lock plants.tells x m.batch m.checkpoint m.room b t.many;
         unreserved = t.unreserved;
         first = open_of (first_half plants copies x) config (length x.batches) m low b.drawn t.many t.first;
         second = open_of (second_half plants copies x) config (length x.batches) m low b.drawn t.many t.second;
@@ -201,7 +188,7 @@ module _ {P C : Type 0} (plants : PlantGhosts P) (copies : CopyGhosts C) where
     pub id : n.id ≡ m.id
     pub here : n.behind ≡ false
     pub goes : Goes (plants.view x.plant) (plants.view y.plant)
-    pub between : IsBetween plants.tells y.base y.batches y.current y.placed y.level n.batch n.checkpoint
+    pub between : IsBetween plants.tells y n.batch n.checkpoint
     pub first : IsAtRest plants.tells (first_half plants copies y) n.checkpoint.pages
     pub second : IsAtRest plants.tells (second_half plants copies y) n.checkpoint.pages
     pub noted : HasHad plants.tells n.fresh y.had n.id.0 n.checkpoint.pages
@@ -222,7 +209,7 @@ module _ {P C : Type 0} (plants : PlantGhosts P) (copies : CopyGhosts C) where
 
     still_taken : IsStill plants copies y n
     still_taken = record {
-      holds = holds_same x.book y.book x.base.config y.base.config m.id n.id (ap (λ (p : Parts P C). p.book) k.frame) base_config k.id g.holds;
+      holds = rw (ap (λ (p : Parts P C). p.book) k.frame, base_config, k.id) g.holds;
       none = k.between.none;
       unreserved = ap (λ (p : Parts P C). p.reserved) k.frame ∙ g.unreserved;
       unplaced = k.between.unplaced;
@@ -242,8 +229,7 @@ module _ {P C : Type 0} (plants : PlantGhosts P) (copies : CopyGhosts C) where
       seat = record {
         still = still_taken;
         between = k.between;
-        low = λ t. subst (λ (c : Config). AreLow c (length y.batches) n.checkpoint.tables) (sym (base_config ∙ g.config))
-            (subst (λ (bs : List Batch). AreLow m.checkpoint.tables.config (length bs) n.checkpoint.tables) (sym batches) (k.low t));
+        low = λ t. rw (base_config ∙ g.config, batches) (k.low t);
       };
       bounds = record { order = k.order; high = k.high; reached = subst (λ (l : ℕ). l < too_high) (sym (ap (λ (p : Parts P C). p.level) k.frame)) g.level; first = k.room1; second = k.room2 };
     }
@@ -290,9 +276,11 @@ module _ {P C : Type 0} (plants : PlantGhosts P) (copies : CopyGhosts C) (x : Pa
   keeps_one s d may =
       let b = s.sits.seat.between in
       record {
-        gives = gives_one plants copies x m n d.did h.step s.sits c d.reply d.batch may.may may.fit may.unmarked d.order d.done
+        gives = gives_commanded plants copies x m n d.did h.step s.sits (one_of n.batch (entry_with m.id h.step c d.reply) m.id h.step d.batch refl refl) (let order = d.order in omega (arith, order))
+            (λ t. d.done (queue_of x) (between_done plants.tells x m.batch m.checkpoint b t))
             (λ t. d.sound t (b.sound t) (may_alike m.checkpoint.tables x.base (kept_all x.batches) (b.sound t) (b.queue t) m.id c may.may))
-            (λ t. subst (HasTextsAfter plants copies x) (sym (d.told t)) may.texts t);
+            (λ t. subst (HasTextsAfter plants copies x) (sym (d.told t)) may.texts t)
+            (λ t. begins_alone x.base x.batches x.printed m.id h.step c d.reply n.batch d.batch may.may may.fit may.unmarked);
         some = some_of_one n.batch (entry_with m.id h.step c d.reply) d.batch;
         bounds = may_keep plants copies x m n d.did.level s.bounds;
         holder = s.holder ∙ sym d.did.id;
@@ -301,18 +289,7 @@ module _ {P C : Type 0} (plants : PlantGhosts P) (copies : CopyGhosts C) (x : Pa
 -- WHAT COMES AFTER THE FIRST ENTRIES OF A LIST
 
 abbrev pub strip : List Entry → List Entry → List Entry
-strip [] l = l
-strip (x ∷ xs) [] = []
-strip (x ∷ xs) (y ∷ l) = strip xs l
-
-pub strip_front : (xs l : List Entry) → strip xs (xs ++ l) ≡ l
-strip_front [] l = refl
-strip_front (x ∷ xs) l = strip_front xs l
-
-pub all_strip : (P : Entry → Type 0) (xs l : List Entry) → All P l → All P (strip xs l)
-all_strip P [] l all = all
-all_strip P (x ∷ xs) [] all = all
-all_strip P (x ∷ xs) (y ∷ l) all = all_strip P xs l (All-tail P y l all)
+strip xs l = drop (length xs) l
 
 -- these entries, or this one where there are none
 abbrev pub or_one : Entry → List Entry → List Entry
@@ -334,13 +311,13 @@ one_all P e (x ∷ l) one all = all
 -- the first entries of a list, and what comes after them, are the whole list
 pub front_is : (es all : List Entry) (e : Entry) → LeaveOut es all → es ++ or_one e (strip es all) ≡ all
 front_is es all e part =
-    let rest = ap (strip es) part.1 ∙ strip_front es part.0 in
+    let rest = ap (strip es) part.1 ∙ drop_at es part.0 (length es) refl in
     ap (λ (l : List Entry). es ++ or_one e l) rest ∙ ap (λ (l : List Entry). es ++ l) (one_same e part.0 part.2) ∙ sym part.1
 
 pub of_strip : (by : MemberId) (at : ℕ) (es all : List Entry) (e : Entry) → (e.by ≡ by) × (e.step ≡ at) → AreOf by at es → AreOf by at all → AreOf by at (es ++ or_one e (strip es all))
 of_strip by at es all e its here there =
     let P = λ (e : Entry). (e.by ≡ by) × (e.step ≡ at) in
-    All-append P es (or_one e (strip es all)) here (one_all P e (strip es all) its (all_strip P es all there))
+    All-append P es (or_one e (strip es all)) here (one_all P e (strip es all) its (All-drop P (length es) all there))
 
 -- WHAT WAS GIVEN
 
@@ -368,14 +345,22 @@ module _ {P C : Type 0} (plants : PlantGhosts P) (copies : CopyGhosts C) where
       subst (HasTexts (lost_now v) (spools_at v v.now) x.base.config.groups) (sym (run_append x.base (kept_all x.batches) n.batch))
       ((opens (queue_of x) (s.seat.between.queue t)).texts (s.seat.between.sound t) (lost_now v) (spools_at v v.now) x.base.config.groups has))
 
-  pub gives_opened : {T E : Type 0} (x : Parts P C) (m n : Member) (at : ℕ) (fields : JobFields) (groups : ℕ) (r : Result T E) → IsSitting plants copies x m at → Commanded m n → IsJobFields fields → groups ≤ 10000
-      → Opens at fields groups m n r → n.checkpoint.tables.order ≤ m.checkpoint.tables.order + 32 * (groups + 2)
-      → ((Q : Queue) → HasDone Q [] m.checkpoint → HasDone Q n.batch n.checkpoint) → (TellSound m.checkpoint.tables → TellSound n.checkpoint.tables) → HasTextsOf plants copies x (queue_of x)
-      → IsGiving plants copies x n at
-  gives_opened x m n at fields groups r s did fit few opens order done sound here =
+  -- what came of it may be kept, if anything
+  pub cuts_opened : {T E : Type 0} (x : Parts P C) (m n : Member) (h : Holder) (fields : JobFields) (groups : ℕ) (r : Result T E) → IsToSit plants copies x m h → Commanded m n → IsJobFields fields → groups ≤ 10000 → Opens h.step fields groups m n r
+      → n.checkpoint.tables.order ≤ m.checkpoint.tables.order + 32 * (groups + 2) → ((Q : Queue) → HasDone Q [] m.checkpoint → HasDone Q n.batch n.checkpoint) → (TellSound m.checkpoint.tables → TellSound n.checkpoint.tables)
+      → HasTextsOf plants copies x (queue_of x) → IsToCut plants copies x n h
+  cuts_opened x m n h fields groups r s did fit few opens order done sound here =
       let sh = tells_some m.checkpoint.tables in
-      gives_commanded plants copies x m n did at s (opened_of at fields groups m n r opens) (omega (arith, order, few))
-      (λ t. done (queue_of x) (seat_done plants copies x m s.seat t))
-      (λ t. sound (s.seat.between.sound t))
-      (opened_texts x at fields groups m n r s opens here)
-      (λ t. begins_part x.base m.id s.seat.still.holds.member x.batches x.printed at sh.0 fields groups fit n.batch r (opens sh.0 sh.1).part)
+      let seat = s.sits.seat in
+      record {
+        gives = gives_commanded plants copies x m n did h.step s.sits (opened_of h.step fields groups m n r opens) (omega (arith, order, few)) (λ t. done (queue_of x) (seat_done plants copies x m seat t)) (λ t. sound (seat.between.sound t)) (opened_texts x h.step fields groups m n r s.sits opens here)
+            (λ t. begins_part x.base m.id seat.still.holds.member x.batches x.printed h.step sh.0 fields groups fit n.batch r (opens sh.0 sh.1).part);
+        bounds = may_keep plants copies x m n did.level s.bounds;
+        holder = s.holder ∙ sym did.id;
+      }
+
+  -- which is something, unless memory was out
+  pub keeps_opened : {T E : Type 0} (x : Parts P C) (m n : Member) (h : Holder) (fields : JobFields) (groups : ℕ) (o : T) → Opens {E = E} h.step fields groups m n (Ok o) → IsToCut plants copies x n h → IsToKeep plants copies x n h
+  keeps_opened x m n h fields groups o opens cut =
+      let sh = tells_some m.checkpoint.tables in
+      record { gives = cut.gives; some = some_given sh.0 m.id h.step fields groups n.batch (opens sh.0 sh.1).part; bounds = cut.bounds; holder = cut.holder }

@@ -2,7 +2,7 @@
 use Rattle.member_sittings.proofs.Names.{inl, ℕ, OnOk, Result, Ok, Err, NodeNo, BothLost, ConsoleFault, Halted, NoMemory, IsSettle, ReadCauses, CopyCauses, IsOnCopies, PairState}
 
 -- a settle alone is acts on the copies
-pub settle_copies : (told : Type 0) (by : ℕ) (x y : PairState) (r : Result (Unit {0}) NodeNo) → IsSettle told by x.first y.first x.second y.second x.view y.view r → IsOnCopies told by x y r
+pub settle_copies : (told : Type 0) (by : ℕ) (x y : PairState) (r : Result (Unit {0}) NodeNo) → IsSettle told by x y r → IsOnCopies told by x y r
 settle_copies told by x y r s = record { course = s.course; loses = λ t d. s.loses d; cause = causes r s.cause; spares = s.spares; apart = s.apart } where
   causes : (r : Result (Unit {0}) NodeNo) → ReadCauses r by y.first y.second x.view y.view → CopyCauses r by x y
   causes (Ok done) c = inl c

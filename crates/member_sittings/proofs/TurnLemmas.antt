@@ -1,5 +1,5 @@
 -- What the machine of steps gives in the sittings of a command and of a deck.
-use Rattle.member_sittings.proofs.Names.{◌≡◌, ℕ, ◌≤◌, Bool, true, false, List, [], ◌∷◌, length, All, Option, None, Some, if◌then◌else◌, refl, ◌∙◌, ap, arith, All-nil, All-cons, MemberId, Command, Reply, JobFields, Entry, Queue, reply_lines, groups_needed, step, entry_of, reply_to, Opened, are_refused, closing_reply, ends_as, ends_begun, finishing, given_in, lines_by, opening, AreOf, batch_of, cut, is_full, job_begun, job_opened, all_entries, Sitting, released, sit, sitting_of, Found, Holder, State, Away, Fresh, Told, SpoolDeck, deck_found, ends_in}
+use Rattle.member_sittings.proofs.Names.{◌≡◌, ℕ, ◌≤◌, Bool, true, false, List, [], ◌∷◌, length, All, Option, None, Some, if◌then◌else◌, refl, ◌∙◌, ap, arith, All-nil, All-cons, MemberId, Command, Reply, JobFields, Entry, Queue, reply_lines, groups_needed, step, entry_of, reply_to, Opened, are_refused, closing_reply, ends_as, ends_begun, finishing, given_in, lines_by, opening, AreOf, batch_of, cut, is_full, job_begun, job_opened, all_entries, Sitting, released, sit, sitting_of, Found, Holder, State, Away, Fresh, Told, SpoolDeck, deck_found, ends_in, Err, IsSeat, Member, NoMemory, NodeNo, Parts, PlantGhosts, Result, SittingEnd, if_ok, none_out, queue_of, subst, sym, ◌+◌, ◌^◌, Tables}
 use Rattle.mas_types.specs.declared.ids.JobNo.{JobNo}
 use Rattle.mas_types.specs.declared.commands.Command.TheVariants as command
 use Rattle.mas_types.specs.declared.commands.Reply.TheVariants as reply
@@ -8,6 +8,12 @@ use Rattle.step_turns.specs.declared.states.Task.TheVariants.{Deck, Give}
 use Rattle.step_turns.specs.Turns.{Turn, deck_opens, turn}
 use Rattle.member_sittings.specs.Shapes.{IsShaped}
 use Rattle.member_sittings.proofs.ReachLemmas.{batch_some}
+use Rattle.ckpt_copy.specs.declared.copying.Copying.{Ghosts as CopyGhosts}
+use Rattle.member_sittings.proofs.KeepLemmas.{sat_none}
+use Rattle.member_sittings.proofs.SeatLemmas.{sat_on}
+use Rattle.member_sittings.specs.Ends.{ended, ending}
+use Rattle.member_sittings.specs.Sat.{EndsAs, GoesOn, SitsFrom, Start}
+use Rattle.member_sittings.specs.Tight.{IfNoWork}
 
 -- A SITTING OF ONE PART
 
@@ -81,17 +87,9 @@ module _ (Q : Queue) (h : Holder) (fields : JobFields) (text : List (List ℕ)) 
   pub first_some : 1 ≤ length FirstPart
   first_some = omega arith
 
-  pub deck_sits : sit Q h (Fresh (Deck fields text)) found ≡ ends_in h (FirstPart ∷ []) DeckTurn.next DeckTurn.lines
-  deck_sits = sit_one h DeckTurn FirstPart (parts_are (job_opened Q h.by fields Groups)) first_some
-
-  abbrev as_opened : Option JobNo → Sitting
-  as_opened o = sitting_of h (deck_opens h o FirstPart text)
-
-  pub deck_closes : job_opened Q h.by fields Groups ≡ None → sit Q h (Fresh (Deck fields text)) found ≡ ends_in h (FirstPart ∷ []) Told (reply_lines h.by h.step (closing_reply FirstPart))
-  deck_closes none = ap as_opened none ∙ sit_one h (deck_opens h None FirstPart text) FirstPart refl first_some
-
-  pub deck_waits : (n : JobNo) → job_opened Q h.by fields Groups ≡ Some n → sit Q h (Fresh (Deck fields text)) found ≡ ends_in h (FirstPart ∷ []) (Away (SpoolDeck n text)) []
-  deck_waits n one = ap as_opened one ∙ sit_one h (deck_opens h (Some n) FirstPart text) FirstPart refl first_some
+  -- its sitting, by the job that has its groups
+  pub deck_sits : (o : Option JobNo) → job_opened Q h.by fields Groups ≡ o → sit Q h (Fresh (Deck fields text)) found ≡ ends_in h (FirstPart ∷ []) (deck_opens h o FirstPart text).next (deck_opens h o FirstPart text).lines
+  deck_sits o is = ap (λ (o : Option JobNo). sitting_of h (deck_opens h o FirstPart text)) is ∙ sit_one h (deck_opens h o FirstPart text) FirstPart (parts_are o) first_some
 
 -- however it ends, the first sitting of a deck has the shape of one; its only batch may have other entries
 pub opens_shaped : (h : Holder) (fields : JobFields) (text : List (List ℕ)) (found : Found) (o : Option JobNo) (first es : List Entry)
@@ -109,3 +107,29 @@ spooled_sits Q h n text lost = refl
 
 pub all_of_one : (by : MemberId) (at : ℕ) (es : List Entry) → AreOf by at es → All (λ (l : List Entry). AreOf by at l) (es ∷ [])
 all_of_one by at es of = All-cons (λ (l : List Entry). AreOf by at l) es [] of (All-nil (λ (l : List Entry). AreOf by at l))
+
+-- A SITTING that gave commands, and then kept them and ended so
+
+module _ {P C : Type 0} (plants : PlantGhosts P) (copies : CopyGhosts C) (s : Start) (next : State) (lines : List (List ℕ)) where
+  abbrev Ends : List Entry → Sitting
+  Ends es = ended (ending s.holder next lines) es
+
+  pub sits_by : (x z : Parts P C) (m n l : Member) (r : Result SittingEnd NodeNo) → n.id ≡ m.id → n.checkpoint.level ≡ m.checkpoint.level → n.checkpoint.tables.order ≤ m.checkpoint.tables.order + 2 ^ 19 → EndsAs plants copies (ending s.holder next lines) x z n l r
+      → (plants.tells → Ends n.batch ≡ sit (queue_of x) s.holder s.state s.found) → AreOf s.holder.by s.holder.step n.batch → IsShaped s.holder s.state s.found (Ends n.batch) → ((A : Type 0) → A → IfNoWork s.state A) → GoesOn s.state l next
+      → SitsFrom plants copies s x z m l r
+  sits_by x z m n l r id level order ends is of shaped tight goes =
+      let tables = ap (λ (t : Tables). t.order) ends.tables in
+      record {
+        frame = ends.frame;
+        id = ends.id ∙ id;
+        sat = record { sitting = Ends n.batch; is = is; of = all_of_one s.holder.by s.holder.step n.batch of; shaped = shaped; sat = ends.sat.sat; tight = tight _ ends.sat.tight };
+        again = sat_on plants copies x m n level z l s.holder.step r (omega (arith, order, tables)) ends.again;
+        goes = if_ok _ (λ e. GoesOn s.state l e.next) r (λ e end. subst (GoesOn s.state l) (sym end.next) goes) ends.sat.sat.ends;
+      }
+
+  -- nothing was done, out of memory
+  pub sits_none : (x : Parts P C) (m n : Member) (es : List Entry) → n.id ≡ m.id → IsSeat plants copies x m → (plants.tells → Ends es ≡ sit (queue_of x) s.holder s.state s.found) → AreOf s.holder.by s.holder.step es → IsShaped s.holder s.state s.found (Ends es) → ((A : Type 0) → A → IfNoWork s.state A)
+      → SitsFrom plants copies s x x m n (Err NoMemory)
+  sits_none x m n es id seat is of shaped tight =
+      let none = sat_none plants s.holder.by s.holder next lines x es (none_out x.batches x.batches x.placed x.current refl seat.between.unplaced seat.between.none) in
+      record { frame = refl; id = id; sat = record { sitting = Ends es; is = is; of = all_of_one s.holder.by s.holder.step es of; shaped = shaped; sat = none.sat; tight = tight _ none.tight }; again = tt; goes = tt }

@@ -9,6 +9,7 @@ use Rattle.job_outcome.specs.declared.outcomes.Read.{Read}
 use Rattle.card_reader.specs.declared.decks.Deck.{Deck}
 use Rattle.track_groups.specs.Groups.{held_by}
 use Rattle.mas_complex.specs.Spool.{IsHeldBy}
+use Rattle.mas_complex.specs.Texts.{Spools}
 use Rattle.member_node.specs.declared.member.NodeNo.TheVariants as no_node
 use Rattle.member_decks.specs.declared.spooling.SpoolError.{SpoolError}
 use Rattle.member_decks.specs.declared.spooling.SpoolError.TheVariants as spool
@@ -74,24 +75,31 @@ module _ {P C : Type 0} (plants : PlantGhosts P) where
       lost ≡ None → plants.tells → IsThere (spools_at (v x) (v x).now) x.base.config.groups (Whole text)
       (lowest_groups by (queue_of x).owners text)
 
-  -- What was found: a volume that failed in the acts, is lost, and has one of the groups; else the text stands in
-  -- these, all of it synced.
-  pub record FindsDeck (x y : Parts P C) (groups : List GroupNo) (text : List (List ℕ)) (found : Found) : Type 0 where
+  -- What was found: a volume that failed in the acts, is lost, and has one of the groups; else what was written stands
+  -- so in these, all of it synced.
+  pub record FindsPlaced (x y : Parts P C) (groups : List GroupNo) (Stands : Spools → ℕ → Type 0) (found : Found) :
+      Type 0 where
     pub only : found ≡ deck_found found.lost
     pub lost : IsFoundLost found.lost (v x) (v y)
     pub lies : LiesOnOne x.base.config.groups groups found.lost
     pub there : found.lost ≡ None → plants.tells → AreRoomy (v x) x.base.config
-        → IsThere (spools_at (v y) (v y).now) x.base.config.groups (Whole text) groups
+        → Stands (spools_at (v y) (v y).now) x.base.config.groups
 
-  -- Acts aside for a deck, by their answer: on the volumes alone, of which each stays as it is that isn't found lost.
-  -- Halted comes only where the member was stopped.
-  pub record HasSpooled (x y : Parts P C) (m : Member) (text : List (List ℕ)) (result : Result Found NodeNo) : Type 0
-    where
-      pub acts : OnVolumes plants.tells m.id.0 (v x) (v y)
-      pub cause : SpoolStops (λ found. names_volume found.lost) result m.id.0 (v x) (v y)
-      pub finds : IfOk result (λ found. FindsDeck x y (lowest_groups m.id m.checkpoint.tables.owners text) text found)
-      pub spares : plants.tells → GroupsKept x.base.config.groups (lowest_groups m.id m.checkpoint.tables.owners text)
-          (spools_at (v x) (v x).now) (spools_at (v y) (v y).now)
+  -- Acts aside of a member that writes into these groups, by their answer: on the volumes alone, of which each stays as
+  -- it is that isn't found lost. Halted comes only where the member was stopped.
+  pub record HasPlaced (x y : Parts P C) (by : MemberId) (groups : List GroupNo) (Stands : Spools → ℕ → Type 0)
+      (result : Result Found NodeNo) : Type 0 where
+    pub frame : y ≡ record x { plant = y.plant }
+    pub acts : OnVolumes plants.tells by.0 (v x) (v y)
+    pub cause : SpoolStops (λ found. names_volume found.lost) result by.0 (v x) (v y)
+    pub finds : IfOk result (FindsPlaced x y groups Stands)
+    pub spares : plants.tells → GroupsKept x.base.config.groups groups (spools_at (v x) (v x).now)
+        (spools_at (v y) (v y).now)
+
+  -- a deck's text was written into the lowest groups of the member
+  abbrev pub HasSpooled : Parts P C → Parts P C → Member → List (List ℕ) → Result Found NodeNo → Type 0
+  HasSpooled x y m text result = HasPlaced x y m.id (lowest_groups m.id m.checkpoint.tables.owners text)
+      (λ disks per. IsThere disks per (Whole text) (lowest_groups m.id m.checkpoint.tables.owners text)) result
 
 -- OVER THE SHARED VALUE
 

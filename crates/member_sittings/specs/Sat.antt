@@ -1,5 +1,5 @@
 -- What a sitting did, for every answer.
-use Rattle.member_sittings.specs.Names.{MemberId, Batch, Entry, View, PlantGhosts, Ghosts as CopyGhosts, Complex, SteadyGhosts, begun, end_of, SamePapers, Parts, parts_of, with_copies, Member, NodeNo, StepCauses, HasAll, AreOf, all_entries, Sitting, sit, Found, Holder, State, Away, Fresh, Told, Deck, nothing_found}
+use Rattle.member_sittings.specs.Names.{TellKept, MemberId, Batch, Entry, View, PlantGhosts, Ghosts as CopyGhosts, Complex, SteadyGhosts, begun, end_of, SamePapers, Parts, parts_of, with_copies, Member, NodeNo, StepCauses, HasAll, AreOf, all_entries, Sitting, sit, Found, Holder, State, Away, Fresh, Told, Deck, nothing_found}
 use Rattle.std.specs.Prelude.{◌≡◌, ℕ, ◌+◌, ◌*◌, ◌≤◌, ◌^◌, List, [], ◌++◌, length, All, Result, Err, IfOk}
 use Rattle.mas_types.specs.declared.ids.Dev.{Dev}
 use Rattle.spool_plant.specs.Acts.{SameWires}
@@ -12,11 +12,11 @@ use Rattle.member_decks.specs.Keeping.{GivesUpLeaves, IsOnCopies}
 use Rattle.step_turns.specs.declared.states.Aside.{Aside}
 use Rattle.member_sittings.specs.declared.ends.SittingEnd.{SittingEnd}
 use Rattle.member_sittings.specs.Asides.{WaitsRightly}
-use Rattle.member_sittings.specs.Ends.{Ending, ended}
+use Rattle.member_sittings.specs.Ends.{Ending, IsQuiet, ended}
 use Rattle.member_sittings.specs.Left.{HasLeft, HasSaid, Reach, ReachesBy}
 use Rattle.member_sittings.specs.Shapes.{IsShaped}
 use Rattle.member_sittings.specs.Tight.{IfNoWork, IsTightBy}
-use Rattle.member_sittings.specs.Whole.{IsLeftIn, queue_of}
+use Rattle.member_sittings.specs.Whole.{IsLeftIn, IsToKeep, queue_of}
 
 -- What a sitting begins with: its member, which holds the lock, the step's state, and what was found in the acts that
 -- this waited for.
@@ -66,13 +66,13 @@ module _ {P C : Type 0} (plants : PlantGhosts P) where
   -- changes, nothing moves on a line to another node, and no copy is lost by a call. The member is stopped only where
   -- the answer is Halted. What each other member noted stays.
   pub record HasActed {T : Type 0} (by : MemberId) (old new : Parts P C) (result : Result T NodeNo) : Type 0 where
-    pub course : Course old.first_alive new.first_alive old.second_alive new.second_alive (v old) (v new)
+    pub course : Course (pair_state plants.view old) (pair_state plants.view new)
     pub loses : plants.tells → (d : Dev) → (v new).loses d ≡ (v old).loses d
     pub others : plants.tells → IsOnlyOn (v old) (v new)
     pub papers : plants.tells → SamePapers (v old) (v new)
     pub wires : plants.tells → SameWires (v old) (v new)
     pub spares : Spares by.0 (stopped_in result) (v old) (v new)
-    pub cause : StepCauses result by.0 old.first_alive new.first_alive old.second_alive new.second_alive (v old) (v new)
+    pub cause : StepCauses result by.0 (pair_state plants.view old) (pair_state plants.view new)
     pub notes : OtherNotesStay by old.had new.had
 
   -- the batches are kept, one after another, since the sitting began
@@ -149,6 +149,13 @@ module _ {P C : Type 0} (plants : PlantGhosts P) (copies : CopyGhosts C) where
     pub again : IfOk result (IsSatOn x y m n s.holder.step)
     pub goes : IfOk result (λ e. GoesOn s.state n e.next)
 
+  -- A member may keep its batch and end its sitting so. What the lines tell is kept already, as far as it was given in
+  -- earlier sittings.
+  pub record IsToEnd (e : Ending) (x : Parts P C) (m : Member) : Type 0 where
+    pub may : IsToKeep plants copies x m e.holder
+    pub kept : plants.tells → TellKept e.lines x.batches (plants.view x.plant).now
+    pub quiet : IsQuiet e.next e.lines
+
   -- a sitting that kept its member's batch, if anything, and ended so
   pub record EndsAs (e : Ending) (x y : Parts P C) (m n : Member) (result : Result SittingEnd NodeNo) : Type 0 where
     pub frame : y ≡ sat_in y x
@@ -177,6 +184,9 @@ module _ {P C : Type 0} {plants : PlantGhosts P} {steadies : SteadyGhosts C} {co
   abbrev pub Sits : Start → Complex P C plants steadies copies → Complex P C plants steadies copies → Member → Member
       → Result SittingEnd NodeNo → Type 0
   Sits s x y m n result = SitsFrom plants copies s (parts_of x) (parts_of y) m n result
+
+  abbrev pub MayEnd : Ending → Complex P C plants steadies copies → Member → Type 0
+  MayEnd e x m = IsToEnd plants copies e (parts_of x) m
 
   abbrev pub EndsSitting : Ending → Complex P C plants steadies copies → Complex P C plants steadies copies → Member
       → Member → Result SittingEnd NodeNo → Type 0

@@ -1,7 +1,7 @@
 -- The shared value and a member that sits at it, as whole values: what holds at the beginning of a sitting, within it,
 -- and at its end.
 use Rattle.member_sittings.specs.Names.{MemberId, Command, Entry, Config, IsFit, View, disk_now, PlantGhosts, Ghosts as CopyGhosts, HasSpelling, AreRoomy, Complex, SteadyGhosts, AreSettled, kept_all, MayAct, MayBegin, Parts, parts_of, HasTexts, lost_now, spools_at, Member, AreLow, orders_after, too_high, HasHad, AreKeptFrom, IsBetween, AreOf, Holder, State, Told}
-use Rattle.std.specs.Prelude.{◌≡◌, ℕ, ◌+◌, ◌≤◌, ◌<◌, ◌^◌, Bool, true, false, List, ◌++◌, length, Option, None}
+use Rattle.std.specs.Prelude.{◌≡◌, ℕ, ◌+◌, ◌≤◌, ◌<◌, ◌^◌, true, false, List, ◌++◌, length, Option, None}
 use Rattle.mas_types.specs.declared.ids.Dev.TheVariants.{Ckpt1, Ckpt2}
 use Rattle.mas_types.specs.declared.queues.Queue.{Queue}
 use Rattle.mas_types.specs.Limits.{members_most}
@@ -12,12 +12,10 @@ use Rattle.paper_laws.specs.Counts.{is_mark}
 use Rattle.member_node.specs.Given.{IsGiver, is_plain}
 use Rattle.member_node.specs.Standing.{AreFit}
 use Rattle.queue_telling.specs.Telling.{TellSound}
-use Rattle.mas_types.specs.declared.ids.Page.{Page}
-use Rattle.ckpt_places.specs.declared.places.Place.{Place}
 use Rattle.mas_complex.specs.Crash.{IsUntold, setting}
 use Rattle.mas_complex.specs.Meaning.{run}
 use Rattle.member_node.specs.Batches.{CanDraw, HasDone}
-use Rattle.member_node.specs.Copies.{RestsAt}
+pub use Rattle.member_node.specs.Copies.{Half, IsAtRest, IsRoomy}
 
 -- THE LOCK
 
@@ -28,25 +26,6 @@ pub record HoldsLock (b : Book) (config : Config) (m : MemberId) : Type 0 where
   pub few : m.0 ≤ members_most
   pub seated : IsMember b m
   pub member : is_member config m ≡ true
-
--- THE COPIES
-
--- a copy: whether it counts as alive, how far a batch has come on it, its pages, its room for batches, and what it
--- reads
-pub record Half : Type 0 where
-  pub alive : Bool
-  pub place : Place
-  pub count : ℕ
-  pub room : ℕ
-  pub read : Option (List ℕ)
-
--- the copy has these pages
-abbrev pub IsAtRest : Type 0 → Half → List Page → Type 0
-IsAtRest tells h pages = RestsAt tells h.alive h.place h.count pages h.read
-
--- the copy has room for a batch, if it counts as alive
-abbrev pub IsRoomy : Half → Type 0
-IsRoomy h = h.alive ≡ true → 1 ≤ h.room
 
 -- no line on the console tells a step of the member
 abbrev pub IsStepUntold : (List ℕ → Option (List ℕ)) → View → Queue → ℕ → MemberId → ℕ → Type 0
@@ -135,7 +114,7 @@ module _ {P C : Type 0} (plants : PlantGhosts P) (copies : CopyGhosts C) where
   -- after the kept batches.
   pub record IsSeat (x : Parts P C) (m : Member) : Type 0 where
     pub still : IsStill x m
-    pub between : IsBetween plants.tells x.base x.batches x.current x.placed x.level m.batch m.checkpoint
+    pub between : IsBetween plants.tells x m.batch m.checkpoint
     pub low : plants.tells → AreLow x.base.config (length x.batches) m.checkpoint.tables
 
   -- the member is between commands, no line tells this step of it, and what it gave of it is kept

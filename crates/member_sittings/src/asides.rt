@@ -1,5 +1,4 @@
 //! A deck's acts without the lock: its text goes into the groups that were taken for its job.
-ghost use Rattle.member_sittings.specs.Names.{parts_of};
 ghost use Rattle.std.specs.Prelude.{◌≡◌};
 ghost use Rattle.member_sittings.specs.Asides.{MaySpoolDeck, SpoolsDeck, found_as, finds_of};
 
@@ -52,8 +51,7 @@ pub fn spool_deck<P: Plant + Drop, C: Steady + Drop>(
     text: &Lines,
 ) -> Result<Found, NodeNo>
     requires { MaySpoolDeck complex.old member.now text.now }
-    ensures frame { parts_of complex.new ≡ record (parts_of complex.old) { plant = complex.new.plant } }
-    ensures spools { SpoolsDeck complex.old complex.new member.now text.now result }
+    ensures { SpoolsDeck complex.old complex.new member.now text.now result }
 {
     let by = member.id;
     let Ok(held) = held_by(alloc, member.checkpoint.tables.owners.as_slice(), by) else {

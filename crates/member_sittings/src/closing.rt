@@ -1,8 +1,8 @@
 //! The end of a sitting: what it gave is kept, and its lines are said where the step closes.
 ghost use Rattle.std.specs.Prelude.{[]};
-ghost use Rattle.member_sittings.specs.Names.{TellKept, Away};
-ghost use Rattle.member_sittings.specs.Ends.{IsQuiet, ending};
-ghost use Rattle.member_sittings.specs.Sat.{CutsOff, EndsSitting};
+ghost use Rattle.member_sittings.specs.Names.{Away};
+ghost use Rattle.member_sittings.specs.Ends.{ending};
+ghost use Rattle.member_sittings.specs.Sat.{CutsOff, EndsSitting, MayEnd};
 ghost use Rattle.member_sittings.specs.Whole.{MayCut, MayKeepBatch};
 
 use crate::ends::{SittingEnd, release_of};
@@ -28,9 +28,7 @@ pub fn end_sitting<P: Plant + Drop, C: Steady + Drop>(
     next: State,
     lines: &Lines,
 ) -> Result<SittingEnd, NodeNo>
-    requires may { MayKeepBatch complex.old member.old holder }
-    requires kept { P.tells → TellKept lines.now complex.old.journal.batches (P.view complex.old.plant).now }
-    requires quiet { IsQuiet next lines.now }
+    requires { MayEnd (ending holder next lines.now) complex.old member.old }
     ensures { EndsSitting (ending holder next lines.now) complex.old complex.new member.old member.new
         result }
 {

@@ -1,6 +1,5 @@
 //! A member that got the lock takes its seat: it takes in what the copies have. One that held it knows what they have.
-ghost use Rattle.std.specs.Prelude.{◌≡◌, ◌<◌, Ok};
-ghost use Rattle.member_sittings.specs.Names.{too_high};
+ghost use Rattle.std.specs.Prelude.{◌≡◌, Ok};
 ghost use Rattle.member_sittings.specs.Gates.{AreBothLost, HaveRoom, MayKeepSeat, MayTakeSeat, Seats};
 
 use mas_complex::{Complex, Steady};
@@ -26,25 +25,6 @@ pub fn take_seat<P: Plant + Drop, C: Steady + Drop>(
     Ok(())
 }
 
-// Room for a batch is made, by a member at its seat, whose orders and level aren't too high. Where both copies are lost
-// nothing is done.
-fn make_room<P: Plant + Drop, C: Steady + Drop>(
-    member: &Member,
-    complex: &mut Complex<P, C>,
-) -> Result<(), NodeNo>
-    requires may { MayKeepSeat complex.old member.now }
-    requires order { member.now.checkpoint.tables.order < too_high }
-    requires high { member.now.checkpoint.level < too_high }
-    ensures seats { Seats complex.old complex.new member.now member.now result }
-    ensures idle { HaveRoom complex.old → complex.new ≡ complex.old }
-    ensures lost { AreBothLost complex.old → (result ≡ Ok tt) × (complex.new ≡ complex.old) }
-{
-    if !complex.pair.first.alive && !complex.pair.second.alive {
-        return Ok(());
-    }
-    member.primary(complex)
-}
-
 /// What a member does that holds the lock since an earlier sitting, and sits again: it makes room for a batch. It knows
 /// what the copies have, since nobody else could write. So where content is told it reads nothing, and where both
 /// copies have room, or both are lost, nothing is done at all. Elsewhere it reads them anew only if its orders or its
@@ -62,11 +42,11 @@ pub fn keep_seat<P: Plant + Drop, C: Steady + Drop>(
     ensures idle { P.tells → HaveRoom complex.old → complex.new ≡ complex.old }
     ensures lost { P.tells → AreBothLost complex.old → (result ≡ Ok tt) × (complex.new ≡ complex.old) }
 {
-    if member.checkpoint.tables.order >= TOO_HIGH {
+    if member.checkpoint.tables.order >= TOO_HIGH || member.checkpoint.level >= TOO_HIGH {
         return take_seat(member, alloc, complex);
     }
-    if member.checkpoint.level >= TOO_HIGH {
-        return take_seat(member, alloc, complex);
+    if !complex.pair.first.alive && !complex.pair.second.alive {
+        return Ok(());
     }
-    make_room(member, complex)
+    member.primary(complex)
 }

@@ -1,35 +1,16 @@
 -- A part of a sitting, and what follows it.
-use Rattle.member_units.proofs.Names.{[], ◌≡◌, ℕ, ◌+◌, ◌*◌, ◌≤◌, ◌<◌, IsLow, too_high, room_low, List, length, None, Option, Some, Result, Ok, Err, ◌∙◌, refl, sym, subst, ap, arith, Entry, MemberId, Queue, Run, NodeNo, Found, Away, IsUnderWay, MayEndBy, HasGiven, Plays, unwritten, wrote_after, wrote_of, Follow, MayLeave, Outside, place_of, queue_here, run_of, goes_on_by, leaves, units_from, SittingEnd, plays_as, still_under_way, Rested, false, rests, suc, HasRoom}
-use Rattle.std.specs.Prelude.{true, zero}
-use Rattle.std.proofs.lemmas.List.Elements.{All-nil}
+use Rattle.member_units.proofs.Names.{[], ◌≡◌, ℕ, ◌+◌, ◌*◌, ◌≤◌, ◌<◌, IsLow, too_high, room_low, List, length, None, Option, Some, Result, Ok, Err, ◌∙◌, refl, sym, subst, ap, arith, Entry, MemberId, Queue, Run, NodeNo, Found, Away, IsUnderWay, MayEndBy, HasGiven, Plays, unwritten, wrote_after, wrote_of, Follow, MayLeave, Outside, place_of, queue_here, run_of, goes_on_by, leaves, units_from, SittingEnd, played_as, still_under_way, Rested, false, rests, suc, HasRoom, All-nil, Member, Complex, PlantGhosts, SteadyGhosts, CopyGhosts, JobNo, not_refused, taken_done, taken_end, SpoolOutputs, Bounds, IsWithin, to_play, unit_part, Place, ends_refused, ends_taken, TurnWithin, goes_within, part_wrote, Aside, Holder, Progress, option_map_or, cut_end, played_part, played_part_error, IsNext, IsRoomy, IsUpTo, MayFollow, above, action_turn, ahead, entries_of, most_of, most_then, rest_turn, wait_after, AreSpooled, groups_for_end, held_by, job_at, kept_all, outputs_at_end, queue_kept, runs_keep_configuration, spools_at, take, Config, AreOutputs, true, zero}
 use Rattle.mas_types.specs.Owners.{member_count}
 use Rattle.mas_types.specs.Run.{run}
-use Rattle.member_node.specs.declared.member.Member.{Member}
-use Rattle.member_sittings.specs.Names.{Complex, PlantGhosts, SteadyGhosts, Ghosts as CopyGhosts}
-use Rattle.mas_types.specs.declared.ids.JobNo.{JobNo}
 use Rattle.mas_types.specs.declared.jobs.OutSpec.{OutSpec}
-use Rattle.member_work.proofs.PartLemmas.{not_refused, taken_done}
-use Rattle.member_work.specs.Units.{taken_end}
 use Rattle.queue_laws.proofs.Finds.{test_cases}
 use Rattle.step_turns.specs.Decks.{are_refused}
-use Rattle.step_turns.specs.declared.states.Aside.TheVariants.{SpoolOutputs}
-use Rattle.member_giving.specs.Plays.{Bounds, IsWithin, to_play, unit_part}
-use Rattle.member_giving.specs.Works.{Place}
 use Rattle.member_giving.specs.Parts.{IsBare, IsTaken, MayGive, MayLose, commands_most, commands_of, ends_of}
 use Rattle.member_giving.proofs.Given.{ends_may}
-use Rattle.member_giving.proofs.Taking.{ends_refused, ends_taken}
-use Rattle.member_giving.proofs.Within.{TurnWithin, goes_within, part_wrote}
 use Rattle.step_turns.specs.Turns.{Turn, after_part, job_ends, waits_for, goes_on}
-use Rattle.step_turns.specs.declared.states.Aside.{Aside}
-use Rattle.step_turns.specs.declared.states.Holder.{Holder}
-use Rattle.step_turns.specs.declared.states.Progress.{Progress}
 use Rattle.job_outcome.specs.declared.units.UnitEnd.{UnitEnd}
-use Rattle.std.specs.Option.{option_map_or}
 use Rattle.job_outcome.specs.declared.units.UnitEnd.TheVariants as ends
 use Rattle.member_decks.specs.Steps.{AreOf}
-use Rattle.member_giving.proofs.Cuts.{cut_end}
-use Rattle.member_giving.proofs.Going.{played_part, played_part_error}
-use Rattle.member_units.specs.Actions.{IsNext, IsRoomy, IsUpTo, MayFollow, above, action_turn, ahead, entries_of, most_of, most_then, rest_turn, wait_after}
 use Rattle.member_units.specs.declared.actions.Action.{Action}
 use Rattle.member_units.specs.declared.actions.Action.TheVariants as action
 use Rattle.member_giving.specs.declared.parts.Part.{Part}
@@ -82,11 +63,11 @@ module _ (told : Type 0) (h : Holder) (b : Bounds) (p : Part) (then : Option Asi
 
     -- further units follow
     pub part_goes : wait_after end then ≡ None → Plays told b (to_play h given' (wrote_after mid.batch (by_answer None))) mid new r → Goes
-    part_goes none q = part_then (plays_as told h b given' (wrote_after mid.batch (by_answer None)) (wrote_after mid.batch (by_answer (wait_after end then))) mid new r (λ t. ap (λ (o : Option Aside). wrote_after mid.batch (by_answer o)) (sym none)) q)
+    part_goes none q = part_then (played_as told h (IsWithin h b) given' (wrote_after mid.batch (by_answer None)) (wrote_after mid.batch (by_answer (wait_after end then))) mid new r (λ t. ap (λ (o : Option Aside). wrote_after mid.batch (by_answer o)) (sym none)) q)
 
     -- the step waits
     pub part_waits : (a : Aside) → wait_after end then ≡ Some a → Plays told b (to_play h given' (wrote_of mid.batch (leaves (Away a)))) mid new r → Goes
-    part_waits a some q = part_then (plays_as told h b given' (wrote_of mid.batch (leaves (Away a))) (wrote_after mid.batch (by_answer (wait_after end then))) mid new r
+    part_waits a some q = part_then (played_as told h (IsWithin h b) given' (wrote_of mid.batch (leaves (Away a))) (wrote_after mid.batch (by_answer (wait_after end then))) mid new r
         (λ t. ap (λ (bs : List (List Entry)). record { batches = bs; next = Away a; lines = [] }) (sym (cut_end mid.batch)) ∙ ap (λ (o : Option Aside). wrote_after mid.batch (by_answer o)) (sym some)) q)
 
 -- the acts that it waits for come after a part that is done
@@ -146,6 +127,11 @@ module _ {P C : Type 0} {plants : PlantGhosts P} {steadies : SteadyGhosts C} {co
         reached = omega (arith, b.level, same);
       })
   ready_then x y m n h _ a at f gives may run taken end done g same upto = absurd may
+
+  -- a job ends whose outputs stand in the lowest groups of the member
+  pub ended_may : (x : Complex P C plants steadies copies) (m : Member) (n : JobNo) (specs : List OutSpec) → IsBare x m → AreOutputs specs → (plants.tells → IsUnderWay (queue_kept x) m.id n)
+      → (plants.tells → AreSpooled (spools_at (plants.view x.plant) (plants.view x.plant).now) (queue_kept x).config.groups (outputs_at_end (job_at (queue_kept x) n) specs) (take (groups_for_end (queue_kept x) n specs) (held_by m.id (queue_kept x).owners))) → MayGive x m (part.Ended n specs)
+  ended_may x m n specs bare outputs under_way spooled = (bare, outputs, under_way, λ told. subst (λ (k : Config). AreSpooled (spools_at (plants.view x.plant) (plants.view x.plant).now) k.groups (outputs_at_end (job_at (queue_kept x) n) specs) (take (groups_for_end (queue_kept x) n specs) (held_by m.id (queue_kept x).owners))) (runs_keep_configuration x.base (kept_all x.journal.batches)).config (spooled told))
 
 -- THE GROUPS OF A JOB'S OUTPUTS are taken, or the unit is refused
 pub takes_turn : (h : Holder) (Q : Queue) (n : JobNo) (specs : List OutSpec) (at : Progress) (needed : ℕ) → 1 ≤ needed → action_turn h Q 0 (action.Give (part.Groups needed) (Some (SpoolOutputs n specs at)) at) ≡ job_ends h needed Q n specs at

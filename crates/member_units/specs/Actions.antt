@@ -1,7 +1,8 @@
 -- What a member does next in a sitting of a step of work: what it gives, what may follow, and where it may.
-use Rattle.std.specs.Prelude.{◌≡◌, ◌≢◌, ℕ, suc, ◌+◌, ◌*◌, ◌≤◌, ◌<◌, ◌^◌, Bool, true, false, List, length, Option, Some, None}
+use Rattle.std.specs.Prelude.{◌≡◌, ◌≢◌, ℕ, suc, ◌+◌, ◌*◌, ◌≤◌, ◌<◌, ◌^◌, Bool, true, false, List, [], length, Option, Some, None, Result, IfOk}
 use Rattle.std.specs.Option.{option_map_or}
-use Rattle.member_units.specs.Names.{AreMembersNamed, AreOutputs, Follow, Found, HasRoom, IsReady, IsUnderWay, MayCloseBy, Told, aside_most, follow, goes_on_by, leaves, queue_here, sittings_most, units_from}
+use Rattle.member_units.specs.Names.{AreFitOutputs, AreMembersNamed, AreOutputs, Follow, Found, Fresh, HasRoom, HasSat, IsBare, IsNamedOutcome, IsReady, IsUnderWay, Leaves, MayCloseBy, MayEndBy, MayResume, Plays, Rested, Told, Work, Works, aside_most, begins, bounds, follow, goes_on_by, leaves, outside, parts_of, place_of, queue_here, queue_kept, run_of, sat_in, sittings_most, to_play, units_from, wrote_of}
+use Rattle.job_outcome.specs.declared.outcomes.Outcome.{Outcome}
 use Rattle.job_outcome.specs.declared.units.UnitEnd.{UnitEnd}
 use Rattle.job_outcome.specs.declared.units.UnitEnd.TheVariants as ends
 use Rattle.mas_types.specs.declared.ids.JobNo.{JobNo}
@@ -11,6 +12,8 @@ use Rattle.mas_types.specs.declared.queues.Queue.{Queue}
 use Rattle.mas_types.specs.Commands.Life.{groups_of_outputs}
 use Rattle.mas_types.specs.Run.{run}
 use Rattle.member_node.specs.declared.member.Member.{Member}
+use Rattle.member_node.specs.declared.member.NodeNo.{NodeNo}
+use Rattle.member_sittings.specs.declared.ends.SittingEnd.{SittingEnd}
 use Rattle.member_sittings.specs.Names.{Complex, PlantGhosts, SteadyGhosts, Ghosts as CopyGhosts}
 use Rattle.member_sittings.specs.Sat.{Start}
 use Rattle.step_turns.specs.Entries.{given_in}
@@ -93,6 +96,15 @@ pub record IsUpTo (f g : Follow) : Type 0 where
   pub units : f.units ≤ g.units
   pub level : f.level ≤ g.level
 
+-- a unit that ended so in this progress of its step, after so many commands of the sitting
+pub record UnitDone : Type 0 where
+  pub end : UnitEnd
+  pub progress : Progress
+  pub given : ℕ
+
+abbrev pub unit_done : UnitEnd → Progress → ℕ → UnitDone
+unit_done e p given = record { end = e; progress = p; given = given }
+
 -- WHAT IT RESTS ON
 
 -- the step closes as one of so many units may
@@ -141,9 +153,83 @@ module _ {P C : Type 0} {plants : PlantGhosts P} {steadies : SteadyGhosts C} {co
     pub units : units_of a ≤ f.units
     pub left : x.level + left_of a + 1 ≤ f.level
 
+  -- The action where the step goes on in this progress. Where content is told its turn is that of the units that follow.
+  pub record GoesOn (x : Complex P C plants steadies copies) (m : Member) (h : Holder) (p : Progress) (a : Action)
+      : Type 0 where
+    pub is : plants.tells → (given : ℕ) → action_turn h (queue_here x m) given a
+        ≡ units_from h p.left (queue_here x m) given p.done
+    pub next : IsNext x m (follow_in x.level (Rested p)) a
+    pub caused : (units : ℕ) (found : Found) → p.done + p.left ≤ units → IsCaused units found a
+
+  -- the action after a unit
+  pub record GoesAfter (x : Complex P C plants steadies copies) (m : Member) (h : Holder) (d : UnitDone) (a : Action)
+      : Type 0 where
+    pub is : plants.tells → action_turn h (queue_here x m) d.given a ≡ goes_on_by h d.end d.progress.left
+        (units_from h d.progress.left) (queue_here x m) d.given d.progress.done
+    pub next : IsNext x m (follow (3 * d.progress.left + 2) (d.progress.done + d.progress.left + 1)
+        (x.level + d.progress.left + 1)) a
+    pub caused : (units : ℕ) (found : Found) → d.progress.done + d.progress.left + 1 ≤ units → MayEndBy found d.end
+        → IsCaused units found a
+
   -- The first action of a sitting that begins so. Where content is told its turn is what the queue gives.
   pub record IsFirst (x : Complex P C plants steadies copies) (m : Member) (s : Start) (a : Action) : Type 0 where
     pub may : MayBegin x m a
     pub is : plants.tells → action_turn s.holder (queue_here x m) 0 a ≡ turn s.holder (queue_here x m) s.state s.found
     pub upto : IsUpTo (ahead x.level a) (follow_in x.level s.state)
     pub caused : IsCaused (units_done s.state + units_left s.state) s.found a
+
+  -- a sitting begins after acts for which a unit waited, by what was found in them
+  pub record MayGoOn (x : Complex P C plants steadies copies) (m : Member) (h : Holder) (a : Aside) (found : Found)
+      : Type 0 where
+    pub works : Works x m h
+    pub bare : IsBare x m
+    pub may : MayResume x m.id a found
+
+  -- and after the text of a job was read, which goes on so
+  pub record IsRead (x : Complex P C plants steadies copies) (m : Member) (h : Holder) (o : Outcome) (n : JobNo)
+      : Type 0 where
+    pub works : Works x m h
+    pub bare : IsBare x m
+    pub fits : AreFitOutputs o
+    pub named : IsNamedOutcome o
+    pub under_way : plants.tells → IsUnderWay (queue_kept x) m.id n
+
+-- A SITTING
+
+-- what the member of a sitting does first
+pub record ToDo : Type 0 where
+  pub holder : Holder
+  pub action : Action
+
+abbrev pub to_do : Holder → Action → ToDo
+to_do h a = record { holder = h; action = a }
+
+module _ {P C : Type 0} {plants : PlantGhosts P} {steadies : SteadyGhosts C} {copies : CopyGhosts C} where
+  -- it may be played from this action on, with nothing unwritten
+  pub record MayPlay (x : Complex P C plants steadies copies) (m : Member) (h : Holder) (a : Action) : Type 0 where
+    pub works : Works x m h
+    pub nothing : m.batch ≡ []
+    pub room : IsRoomy x m (left_of a + 3)
+    pub units : (ahead x.level a).units ≤ 9999
+    pub may : MayBegin x m a
+
+  -- it was played from this action on, within what may follow
+  pub record HasPlayed (d : ToDo) (x : Complex P C plants steadies copies) (m : Member)
+      (y : Complex P C plants steadies copies) (n : Member) (result : Result SittingEnd NodeNo) : Type 0 where
+    pub run : run_of y n ≡ run_of x m
+    pub plays : (f : Follow) (found : Found) → IsUpTo (ahead x.level d.action) f → IsCaused f.units found d.action
+        → Plays plants.tells (bounds f.most f.units found)
+        (to_play d.holder 0 (wrote_of [] (action_turn d.holder (queue_here x m) 0 d.action))) (place_of x m) (outside y)
+        result
+    pub leaves : (f : Follow) → IsUpTo (ahead x.level d.action) f → IfOk result (Leaves y n d.holder.step f)
+
+  -- It was played from a state of its step, and leaves what may follow. A step that has done no unit is at its
+  -- beginning.
+  pub record HasWorked (s : Start) (x : Complex P C plants steadies copies) (m : Member)
+      (y : Complex P C plants steadies copies) (n : Member) (result : Result SittingEnd NodeNo) : Type 0 where
+    pub frame : parts_of y ≡ sat_in (parts_of y) (parts_of x)
+    pub id : n.id ≡ m.id
+    pub sat : HasSat s x y result
+    pub fresh : (p : Progress) → s.state ≡ Rested p → p.done ≡ 0
+        → HasSat (begins s.holder (Fresh (Work p.left))) x y result
+    pub leaves : IfOk result (Leaves y n s.holder.step (follow_in x.level s.state))

@@ -1,21 +1,17 @@
 //! What a member does next in a sitting of a step of work: with the next unit, or with one that waited for acts.
-ghost use Rattle.std.specs.Prelude.{◌≡◌, ◌+◌, ◌*◌, ◌≤◌, ◌<◌, ℕ, Bool, length, true, IfOk, IfSome, OnErr};
-ghost use Rattle.mas_types.specs.declared.jobs.JobFields.{JobFields};
-ghost use Rattle.job_outcome.specs.Outcomes.{outcome_of as outcome_of_lem};
-ghost use Rattle.step_turns.specs.declared.states.Aside.TheVariants.{ReadText};
-ghost use Rattle.member_units.specs.Names.{AreMembersNamed, AreFitOutputs, IsNamedOutcome, IsUnderWay, IsNamedEnd, MayEndBy, counts_of, goes_on_by, units_from, spools_at, Found as FoundLem, Rested, rests as rests_lem, printed_end as printed_end_lem, follow, resumes, MayResume, Works, queue_here, queue_kept};
-ghost use Rattle.member_giving.specs.Parts.{IsBare};
-ghost use Rattle.member_units.specs.Actions.{IsCaused, IsFirst, IsNext, action_turn, follow_in, is_text, wait_after};
+ghost use Rattle.std.specs.Prelude.{◌≡◌, ◌+◌, ◌<◌, Bool, length, true, IfOk, IfSome, OnErr};
+ghost use Rattle.member_units.specs.Names.{JobFields, ReadText, outcome_of as outcome_of_lem, AreMembersNamed, IsNamedEnd, Found as FoundLem, rests as rests_lem, printed_end as printed_end_lem, resumes, Works};
+ghost use Rattle.member_units.specs.Actions.{GoesAfter, GoesOn, IsFirst, IsRead, MayGoOn, is_text, unit_done, wait_after};
 
+use crate::nexts::aside_of;
 use job_outcome::{Outcome, Read, UnitEnd, outcome_of};
 use mas_complex::{Complex, Steady};
 use mas_types::{Closing, Command, JobNo, NoMemory};
-use member_giving::{Next, Part, next_unit};
+use member_giving::Part;
 use member_node::Member;
-use member_work::groups_for_end;
+use member_work::{command_of, groups_for_end};
+use queue_indexed::find_unit;
 use spool_plant::Plant;
-use spool_text::law_of_groups;
-use spool_volumes::law_of_read_texts;
 use std::alloc::Global;
 use step_turns::{Aside, Found, Grant, Holder, Progress, State};
 
@@ -54,7 +50,8 @@ fn rests(holder: Holder, left: u16, given: u64) -> bool
     }
 }
 
-/// The next unit, where so many units are done and so many may still be played.
+/// The next unit, where so many units are done and so many may still be played: the first that applies, from the
+/// printer's on.
 pub(crate) fn action_of<P: Plant + Drop, C: Steady + Drop>(
     member: &Member,
     complex: &Complex<P, C>,
@@ -63,20 +60,20 @@ pub(crate) fn action_of<P: Plant + Drop, C: Steady + Drop>(
 ) -> Action
     requires works { Works complex.now member.now holder }
     requires few { length member.now.batch < 64 }
-    ensures is { P.tells → (given : ℕ) → action_turn holder (queue_here complex.now member.now) given result
-        ≡ units_from holder progress.left (queue_here complex.now member.now) given progress.done }
-    ensures next { IsNext complex.now member.now (follow_in complex.now.level (Rested progress)) result }
-    ensures caused { (units : ℕ) (found : FoundLem) → progress.done + progress.left ≤ units
-        → IsCaused units found result }
+    ensures { GoesOn complex.now member.now holder progress result }
 {
-    match next_unit(member, progress) {
-        Next::Give(command) => {
-            let done = progress.done;
-            let left = progress.left - 1;
-            Action::Give(Part::One(command), None, Progress { done, left })
-        }
-        Next::Wait(aside) => Action::Wait(State::Away(aside)),
-        Next::Nothing => Action::Close(Closing::DoneUnits(progress.done as u32)),
+    let done = progress.done;
+    if progress.left == 0 {
+        return Action::Close(Closing::DoneUnits(done as u32));
+    }
+    let left = progress.left - 1;
+    let next = find_unit(&member.checkpoint.tables, &member.kept, member.id);
+    if let Some(command) = command_of(next) {
+        return Action::Give(Part::One(command), None, Progress { done, left });
+    }
+    match aside_of(member, next, Progress { done, left }) {
+        Some(aside) => Action::Wait(State::Away(aside)),
+        None => Action::Close(Closing::DoneUnits(done as u32)),
     }
 }
 
@@ -94,13 +91,7 @@ pub(crate) fn action_after<P: Plant + Drop, C: Steady + Drop>(
     requires few { length member.now.batch < 64 }
     requires named { IsNamedEnd end }
     requires units { progress.done + progress.left < 9999 }
-    ensures is { P.tells → action_turn holder (queue_here complex.now member.now) given result
-        ≡ goes_on_by holder end progress.left (units_from holder progress.left) (queue_here complex.now member.now)
-        given progress.done }
-    ensures next { IsNext complex.now member.now (follow (3 * progress.left + 2) (progress.done + progress.left + 1)
-        (complex.now.level + progress.left + 1)) result }
-    ensures caused { (units : ℕ) (found : FoundLem) → progress.done + progress.left + 1 ≤ units → MayEndBy found end
-        → IsCaused units found result }
+    ensures { GoesAfter complex.now member.now holder (unit_done end progress given) result }
 {
     let done = progress.done + 1;
     let left = progress.left;
@@ -140,16 +131,10 @@ fn action_by<P: Plant + Drop, C: Steady + Drop>(
     job: JobNo,
     progress: Progress,
 ) -> Action
-    requires works { Works complex.now member.now holder }
-    requires bare { IsBare complex.now member.now }
-    requires fits { AreFitOutputs outcome }
-    requires named { IsNamedOutcome outcome }
-    requires under_way { P.tells → IsUnderWay (queue_kept complex.now) member.now.id job }
+    requires { IsRead complex.now member.now holder outcome job }
     ensures { (runs : Bool) (fields : JobFields) (found : FoundLem) → outcome ≡ outcome_of_lem runs fields found.read
         → IsFirst complex.now member.now (resumes holder (ReadText runs job fields progress) found) result }
 {
-    law_of_groups();
-    law_of_read_texts();
     match outcome {
         Outcome::Convert => { Action::Give(Part::One(Command::Converted { job }), None, progress) }
         Outcome::Stop(end) => Action::Close(end),
@@ -178,11 +163,7 @@ pub(crate) fn action_from<P: Plant + Drop, C: Steady + Drop>(
     aside: Aside,
     found: &Found,
 ) -> Result<Action, NoMemory>
-    requires works { Works complex.now member.now holder }
-    requires bare { IsBare complex.now member.now }
-    requires may { MayResume P.tells (queue_kept complex.now) member.now.id
-        (spools_at (P.view complex.now.plant) (P.view complex.now.plant).now) (counts_of complex.now.printed) aside
-        found.now }
+    requires { MayGoOn complex.now member.now holder aside found.now }
     ensures is { IfOk result (IsFirst complex.now member.now (resumes holder aside found.now)) }
     ensures text { OnErr result (is_text aside ≡ true) }
 {
@@ -217,9 +198,7 @@ pub(crate) fn action_from<P: Plant + Drop, C: Steady + Drop>(
                 Ok(Action::Give(Part::One(Command::Mark { job, index, at }), None, progress))
             }
         },
-        Aside::SpoolDeck { .. } => unreachable!(),
-        Aside::Exchange { .. } => unreachable!(),
-        Aside::SpoolArrival { .. } => unreachable!(),
-        Aside::Acknowledge { .. } => unreachable!(),
+        Aside::SpoolDeck { .. } | Aside::Exchange { .. } => unreachable!(),
+        Aside::SpoolArrival { .. } | Aside::Acknowledge { .. } => unreachable!(),
     }
 }

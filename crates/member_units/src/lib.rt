@@ -3,7 +3,7 @@
 #![tactic(auto)]
 
 mod actions;
-mod ends;
+mod nexts;
 mod sitting;
 mod units;
 

@@ -1,6 +1,7 @@
 //! The sittings of a step of work, from each state of the step.
-ghost use Rattle.std.specs.Prelude.{◌≡◌, ◌+◌, ◌*◌, ◌≤◌, ◌<◌, IfOk};
-ghost use Rattle.member_units.specs.Names.{IsSound, counts_of, parts_of, spools_at, too_high, aside_most, aside_done, aside_units, Fresh, Rested, Work as WorkTask, HasSat, begins, resumes, sat_in, MaySit, MayResume, Leaves, follow, queue_kept};
+ghost use Rattle.std.specs.Prelude.{◌+◌, ◌≤◌, ◌<◌};
+ghost use Rattle.member_units.specs.Names.{IsSound, too_high, aside_done, aside_units, Rested, begins, resumes, MaySit, MayResume};
+ghost use Rattle.member_units.specs.Actions.{HasWorked};
 
 use crate::actions::{action_from, action_of};
 use crate::units::play;
@@ -31,14 +32,7 @@ pub fn sit_work<P: Plant + Drop, C: Steady + Drop>(
     requires base_sound { P.tells → IsSound complex.old.base }
     requires level { complex.old.level + progress.left + 3 < too_high }
     requires units { progress.done + progress.left ≤ 9999 }
-    ensures frame { parts_of complex.new ≡ sat_in (parts_of complex.new) (parts_of complex.old) }
-    ensures id { member.new.id ≡ member.old.id }
-    ensures sat { HasSat (begins holder (Rested progress)) complex.old complex.new result }
-    ensures fresh { progress.done ≡ 0
-        → HasSat (begins holder (Fresh (WorkTask progress.left))) complex.old complex.new result }
-    ensures leaves { IfOk result (Leaves complex.new member.new holder.step
-        (follow (3 * progress.left + 1) (progress.done + progress.left)
-        (complex.old.level + progress.left + 1))) }
+    ensures { HasWorked (begins holder (Rested progress)) complex.old member.old complex.new member.new result }
 {
     let action = action_of(member, complex, holder, progress);
     play(member, alloc, complex, holder, action)
@@ -58,17 +52,10 @@ pub fn resume_work<P: Plant + Drop, C: Steady + Drop>(
 ) -> Result<SittingEnd, NodeNo>
     requires sits { MaySit complex.old member.old holder }
     requires base_sound { P.tells → IsSound complex.old.base }
-    requires may { MayResume P.tells (queue_kept complex.old) member.old.id
-        (spools_at (P.view complex.old.plant) (P.view complex.old.plant).now) (counts_of complex.old.printed) aside
-        found }
+    requires may { MayResume complex.old member.old.id aside found }
     requires level { complex.old.level + aside_units aside + 3 < too_high }
     requires units { aside_done aside + aside_units aside ≤ 9999 }
-    ensures frame { parts_of complex.new ≡ sat_in (parts_of complex.new) (parts_of complex.old) }
-    ensures id { member.new.id ≡ member.old.id }
-    ensures sat { HasSat (resumes holder aside found) complex.old complex.new result }
-    ensures leaves { IfOk result (Leaves complex.new member.new holder.step
-        (follow (aside_most aside) (aside_done aside + aside_units aside)
-        (complex.old.level + aside_units aside + 1))) }
+    ensures { HasWorked (resumes holder aside found) complex.old member.old complex.new member.new result }
 {
     let Ok(action) = action_from(member, alloc, complex, holder, aside, &found) else {
         return Err(NodeNo::NoMemory);

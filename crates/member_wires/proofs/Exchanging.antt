@@ -230,7 +230,7 @@ module _ {P C : Type 0} (plants : PlantGhosts P) (x y : Parts P C) (m : Member) 
     read_spares = lines_spare text m.id.0 V Z (subst (λ (t : Read). SparesBut m.id.0 false (names_read t) V Z) same r.cause)
 
     pub offered_there : FindsOffered plants x y m (Some o) (read.Lines text)
-    offered_there = (tt, λ t roomy j there. subst (λ (k : Read). IsReadAs plants.tells x.base.config.groups j.text (groups_of (Deck o.job) (queue_of x).owners) (Some k) V Z) same (r.finds.read t roomy j there))
+    offered_there = (tt, λ t roomy j there. subst (λ (k : Read). IsReadAs plants.tells x.base.config.groups (j.text, groups_of (Deck o.job) (queue_of x).owners) (Some k) V Z) same (r.finds.read t roomy j there))
 
     pub frame_err : (e : NodeNo) → GivesBytes plants.tells (end_of m l) (job_bytes o text) Z W (Err e) → Exchanged plants x y m l (Some o) was is (Err e)
     frame_err e g = record {

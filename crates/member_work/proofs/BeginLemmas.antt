@@ -1,13 +1,12 @@
 -- Which batches of a work step may begin.
-use Rattle.member_work.proofs.Names.{◌≡◌, ℕ, Bool, true, false, if◌then◌else◌, List, [], ◌∷◌, ◌++◌, All, Result, Ok, Err, refl, sym, subst, Command, Reply, JobNo, MemberId, OutSpec, Batch, Entry, Queue, IsFit, is_member, kept_all, run, MayBegin, counts_of, reply_to, entry_with, are_refused, given_in, takes, All-nil, All-cons, All-append, IsSound, unmarked_begin, IsPart, drop_groups, ending, taking, is_refusal}
-use Rattle.std.proofs.Math.Logic.{∥∥₁_map}
+use Rattle.member_work.proofs.Names.{◌≡◌, ℕ, Bool, true, false, if◌then◌else◌, List, [], ◌∷◌, ◌++◌, All, Result, Ok, Err, refl, sym, subst, Command, Reply, JobNo, MemberId, OutSpec, Batch, Entry, Queue, IsFit, is_member, kept_all, run, MayBegin, counts_of, reply_to, entry_with, are_refused, given_in, takes, All-nil, All-cons, All-append, IsSound, unmarked_begin, IsPart, drop_groups, ending, taking, is_refusal, ∥∥₁_map}
 use Rattle.mas_types.specs.declared.commands.Command.TheVariants as command
 use Rattle.mas_types.specs.Step.{may_give}
 use Rattle.queue_laws.specs.Runs.{IsGiven}
 use Rattle.job_exec.specs.Running.{AreOutputs}
 use Rattle.paper_laws.specs.Counts.{IsMarkRight, counts_after}
 use Rattle.paper_laws.proofs.Plain.{allowed_push}
-use Rattle.mas_complex.proofs.Replied.{run_append}
+use Rattle.mas_complex.proofs.Batches.{run_append}
 use Rattle.member_decks.proofs.MayLemmas.{IsUnmarked, Unmarked, given_fit, given_unmarked, takes_unmarked}
 use Rattle.member_decks.proofs.PlayLemmas.{all_front}
 

@@ -1,5 +1,5 @@
 -- Looking at a job's text.
-use Rattle.member_work.proofs.Names.{◌≡◌, ℕ, zero, suc, ◌+◌, ◌*◌, ◌≤◌, ◌<◌, Bool, true, List, [], ◌∷◌, length, All, Some, slice_get, refl, sym, ap, subst, ◌∙◌, arith, find, GroupNo, JobNo, Job, Config, Queue, same_number, job_at, line_count, has_number, Tables, HasSpelling, Read, nat_tests, All-nil, All-cons, Owner, Thing, find-All, test_cases, JobRec, IfUsed, IsJobRec, AreJobs, HasJob, groups_where, is_things, groups_of, all_at, IsTold}
+use Rattle.member_work.proofs.Names.{◌≡◌, ℕ, zero, suc, ◌*◌, List, [], length, All, Some, slice_get, refl, sym, ap, ◌∙◌, arith, find, JobNo, Job, Config, Queue, job_at, line_count, has_number, Tables, HasSpelling, Read, Owner, Thing, JobRec, IfUsed, IsJobRec, AreJobs, HasJob, groups_where, is_things, groups_of, all_at, IsTold, eqb-true, where_picked, same_Some, slice_get-get_or, slice_get_within, find_passes, slice_index_or}
 use Rattle.std.specs.Coded.{Coded, coded_list, coded_ℕ, coded×, code_by}
 use Rattle.std.proofs.lemmas.List.Sorted.{All-permutation}
 use Rattle.track_groups.specs.Laws.{AreItsOwn}
@@ -8,25 +8,18 @@ use Rattle.job_outcome.specs.declared.outcomes.Read.TheVariants as read
 
 -- THE GROUPS OF A TEXT are of the configuration
 
-where_below : (test : Owner → Bool) (most at : ℕ) (gs : List Owner) → at + length gs ≤ most → All (λ g. g.0 < most) (groups_where test at gs)
-where_below test most at [] few = All-nil (λ g. g.0 < most)
-where_below test most at (o ∷ gs) few =
-    test_cases (test o) (All (λ g. g.0 < most) (groups_where test at (o ∷ gs)))
-    (λ e. rw e (All-cons (λ (g : GroupNo). g.0 < most) (record { 0 = at }) (groups_where test (at + 1) gs) (omega arith) (where_below test most (at + 1) gs (omega arith))))
-    (λ e. rw e (where_below test most (at + 1) gs (omega arith)))
-
 pub groups_within : AreItsOwn → (t : Thing) (gs : List Owner) (config : Config) → length gs ≡ config.volumes * config.groups → All (IsGroupOf config) (groups_of t gs)
 groups_within own t gs config long =
-    All-permutation (IsGroupOf config) (groups_where (is_things t) 0 gs) (groups_of t gs) (own t gs)
-    (subst (λ (most : ℕ). All (λ g. g.0 < most) (groups_where (is_things t) 0 gs)) long (where_below (is_things t) (length gs) 0 gs (omega arith)))
+    let all = groups_where (is_things t) 0 gs in
+    All-permutation (IsGroupOf config) all (groups_of t gs) (own t gs)
+    (λ k d lt. let found = where_picked (is_things t) 0 gs k (slice_index_or all k d) (slice_get-get_or all k d lt) in
+    let inside = slice_get_within gs found.place found.owner_there found.there in
+    omega (arith, found.number, inside, long))
 
 -- THE RECORD OF A JOB
 
-pub same_numbers : (a b : JobNo) → same_number a b ≡ true → a ≡ b
-same_numbers a b e = let same : a.0 ≡ b.0 = grind (arith, nat_tests) in ap (λ (v : ℕ). record { 0 = v }) same
-
 pub number_of : (n : JobNo) (x : Job) (js : List Job) → find (has_number n) js ≡ Some x → x.number ≡ n
-number_of n x js e = same_numbers x.number n (find-All (λ (y : Job). Unit {0}) (has_number n) js x (λ k d lt. tt) e).1
+number_of n x js e = ap (λ (v : ℕ). let m : JobNo = record { 0 = v } in m) (eqb-true x.number.0 n.0 (find_passes (has_number n) js x e))
 
 pub told_job : (t : Tables) (n : JobNo) (at : ℕ) (r : JobRec) → HasSpelling t → ((js : List Job) → AreJobs t.jobs js → HasJob (has_number n) t.jobs js at r) → slice_get t.jobs at ≡ Some (Some r) → IsTold t r
 told_job t n at r spelled some here = record {
@@ -40,16 +33,11 @@ told_job t n at r spelled some here = record {
   alike : (Q : Queue) (j : Job) → HasJob (has_number n) t.jobs Q.jobs at r → job_at Q r.number ≡ Some j → (j.number ≡ r.number) × (j.fields ≡ r.fields) × (line_count j.text ≡ r.cards)
   alike Q j has found =
       let number : has.item.number ≡ r.number = ap (λ (x : JobRec). x.number) has.is in
-      let item : find (has_number n) Q.jobs ≡ Some has.item = has.found in
-      let its : has.item.number ≡ n = number_of n has.item Q.jobs item in
-      let same : j ≡ has.item = one (sym found ∙ ap (λ (k : JobNo). job_at Q k) (sym number ∙ its) ∙ item) in (
+      let same : j ≡ has.item = same_Some j has.item (sym found ∙ ap (λ (k : JobNo). job_at Q k) (sym number ∙ number_of n has.item Q.jobs has.found) ∙ has.found) in (
         ap (λ (x : Job). x.number) same ∙ number,
         ap (λ (x : Job). x.fields) same ∙ ap (λ (x : JobRec). x.fields) has.is,
         ap (λ (x : Job). line_count x.text) same ∙ ap (λ (x : JobRec). x.cards) has.is,
       )
-    where
-      one : Some j ≡ Some has.item → j ≡ has.item
-      one e = cc
 
 -- WHAT WAS READ
 

@@ -1,13 +1,12 @@
 -- Printing the lines of an output, act by act.
-use Rattle.member_work.proofs.Names.{◌≡◌, ℕ, ◌+◌, ◌-◌, ◌*◌, ◌≤◌, min, true, false, List, All, Option, None, Some, inl, slice_get, refl, sym, ◌∙◌, ap, subst, arith, find, option_map_or, Closing, Ckpt1, Ckpt2, GroupNo, JobNo, MemberId, OutNo, Output, Text, Whole, Gone, Queue, printer_lines_most, line_count, output_at, printing_at, total, has_key, prints_at, Tables, HasSpelling, Tell, Disk as DiskPart, Printer, View, Goes, Acts, Prints, limit_of, Read, Setting, IsSetting, is_somebody, OutRec, IfUsed, IsOutRec, test_cases, OnVolumes, tells_some, all_at, IsBeside, IsChunkOf, IsLinesPrinted, IsToldOutput, HasPrinterFailed, IsReadAs, IsWhole, printed_end}
-use Rattle.member_work.specs.Gone.{gone_with}
-use Rattle.mas_types.specs.declared.answers.Closing.TheVariants as closing
+use Rattle.member_work.proofs.Names.{◌≡◌, ℕ, ◌+◌, ◌-◌, ◌*◌, ◌≤◌, min, true, List, All, Option, None, Some, inl, slice_get, refl, sym, ◌∙◌, ap, subst, arith, find, option_map_or, Ckpt1, Ckpt2, GroupNo, JobNo, MemberId, OutNo, Output, Text, Whole, Gone, Queue, printer_lines_most, line_count, output_at, printing_at, total, has_key, prints_at, Tables, HasSpelling, Tell, Disk as DiskPart, Printer, View, Goes, Acts, Prints, limit_of, Setting, IsSetting, is_somebody, OutRec, IfUsed, IsOutRec, test_cases, OnVolumes, tells_some, all_at, IsBeside, IsChunkOf, IsToldOutput, HasPrinterFailed, IsReadAs, IsWhole, one_output, find_passes, own_key, same_key_is}
+use Rattle.queue_gone.specs.Gone.{gone_with}
 use Rattle.output_queue.specs.Outputs.{AreOutputs, HasOutput}
 use Rattle.spool_plant.specs.declared.plant.Act.{Act}
 use Rattle.spool_plant.specs.declared.plant.Act.TheVariants.{Failed}
 use Rattle.ckpt_copy.specs.Moments.{goes_none, goes_on}
 use Rattle.paper_laws.specs.Paper.{busy_in}
-use Rattle.paper_laws.proofs.Bools.{find_passes, own_key, same_key_is}
+use Rattle.member_work.proofs.UnderWayLemmas.{found_busy}
 use Rattle.job_outcome.specs.declared.outcomes.Read.TheVariants as read
 
 -- ACTS BESIDE THE COPIES
@@ -59,9 +58,6 @@ print_failed by old new r is acts = record { lost = acts.is_lost is; rose = acts
 
 pub key_of : (n : JobNo) (i : OutNo) (os : List Output) (o : Output) → find (has_key n i) os ≡ Some o → (o.job ≡ n) × (o.index ≡ i)
 key_of n i os o found = same_key_is n o.job i o.index o (find_passes (has_key n i) os o found) (own_key o)
-
-one_output : (a b : Output) → Some a ≡ Some b → a ≡ b
-one_output a b e = cc
 
 pub told_output : (t : Tables) (n : JobNo) (i : OutNo) (at : ℕ) (r : OutRec) → HasSpelling t → ((os : List Output) → AreOutputs t.outputs os → HasOutput (has_key n i) t.outputs os at r) → slice_get t.outputs at ≡ Some (Some r) → IsToldOutput t r
 told_output t n i at r spelled some here = record {
@@ -116,15 +112,12 @@ chunk_of t by r last output limit upto is = record {
 }
 
 pub still_busy : (Q : Queue) (m : MemberId) (n : JobNo) (i : OutNo) (o : Output) → output_at Q n i ≡ Some o → printing_at Q m ≡ Some o → busy_in (output_at Q n i) m ≡ true
-still_busy Q m n i o there busy =
-    test_cases (is_somebody m) (busy_in (output_at Q n i) m ≡ true)
-    (λ e. let found : find (prints_at m) Q.outputs ≡ Some o = rw e at busy in rw there (find_passes (prints_at m) Q.outputs o found))
-    (λ e. absurd (let none = rw e at busy in cc))
+still_busy Q m n i o there busy = rw there (find_passes (prints_at m) Q.outputs o (found_busy (is_somebody m) _ o busy))
 
 -- WHAT WAS READ
 
 -- lines that were read are those of a text that is whole
-pub lines_whole : (told : Type 0) (per : ℕ) (text : Text) (groups : List GroupNo) (lines : List (List ℕ)) (v w : View) → told → IsReadAs told per text groups (Some (read.Lines lines)) v w → text ≡ Whole lines
+pub lines_whole : (told : Type 0) (per : ℕ) (text : Text) (groups : List GroupNo) (lines : List (List ℕ)) (v w : View) → told → IsReadAs told per (text, groups) (Some (read.Lines lines)) v w → text ≡ Whole lines
 lines_whole told per (Whole ls) groups lines v w tells seen = let same = seen tells in let equal : lines ≡ ls = cc in ap Whole (sym equal)
 lines_whole told per (Gone group count) groups lines v w tells seen = absurd (let same = seen tells in cc)
 
@@ -133,12 +126,3 @@ lines_whole told per (Gone group count) groups lines v w tells seen = absurd (le
 pub whole_text : (t : Text) → gone_with t ≡ None → IsWhole t
 whole_text (Whole lines) none = tt
 whole_text (Gone group count) none = absurd (cc)
-
-pub lines_printed : (by : MemberId) (lines : List (List ℕ)) (v w : View) → IsLinesPrinted by (read.Lines lines) v w None
-lines_printed by lines v w = record { lost = false; is = refl; printer = λ lost. absurd (cc) }
-
-pub lines_lost : (by : MemberId) (lines : List (List ℕ)) (v w : View) → HasPrinterFailed by v w → IsLinesPrinted by (read.Lines lines) v w (Some closing.PrinterLost)
-lines_lost by lines v w failed = record { lost = true; is = refl; printer = λ lost. failed }
-
-pub unprinted : (by : MemberId) (x : Read) (v : View) (end : Closing) → Some end ≡ printed_end false x → IsLinesPrinted by x v v (Some end)
-unprinted by x v end is = record { lost = false; is = is; printer = λ lost. absurd (cc) }

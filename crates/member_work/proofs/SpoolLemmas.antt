@@ -1,8 +1,6 @@
 -- The outputs of a job, one after another, in a member's groups.
-use Rattle.member_work.proofs.Names.{◌≡◌, ◌≢◌, ℕ, zero, suc, ◌+◌, ◌≤◌, ◌<◌, ◌==◌, true, false, List, [], ◌∷◌, ◌++◌, length, take, drop, All, Some, Result, Ok, Err, slice_get, sym, ◌∙◌, ap, subst, arith, GroupNo, OutSpec, groups_of_outputs, groups_needed, Disk as DiskPart, Spool, View, Goes, volume_of, Spools, IsSynced, AreQuiet, StandBelow, lies_there, Rise, SpoolCauses, page_in, All-drop, All-head, All-tail, All-take, IsOutSpec, HasNeededGroups, ReadsTexts, sum-groups, sparing_then, text_there, AreSpooled, AreWritten, none_lost, SparesBut}
-use Rattle.std.proofs.lemmas.List.{length-drop, length-take-le, take-append-drop}
+use Rattle.member_work.proofs.Names.{◌≡◌, ◌≢◌, ℕ, zero, suc, ◌+◌, ◌≤◌, ◌==◌, true, false, List, [], ◌∷◌, ◌++◌, length, take, drop, All, Some, Result, Ok, Err, slice_get, sym, ◌∙◌, ap, subst, arith, GroupNo, OutSpec, groups_of_outputs, groups_needed, Disk as DiskPart, Spool, View, Goes, volume_of, Spools, IsSynced, AreQuiet, StandBelow, lies_there, Rise, SpoolCauses, page_in, All-drop, All-head, All-tail, All-take, IsOutSpec, HasNeededGroups, ReadsTexts, sum-groups, sparing_then, text_there, AreSpooled, AreWritten, none_lost, SparesBut, length-drop, length-take, length-take-le, take-append-drop, of_front, slice_get-get_or, slice_get_within}
 use Rattle.std.proofs.lemmas.List.Folds.{list_any-append}
-use Rattle.std.proofs.lemmas.Option.{slice_get-get_or}
 use Rattle.spool_text.specs.Texts.{packed}
 use Rattle.member_decks.specs.declared.spooling.SpoolError.{SpoolError}
 use Rattle.member_decks.specs.declared.spooling.SpoolError.TheVariants.{Lost, Halted as Stopped}
@@ -10,25 +8,13 @@ use Rattle.queue_laws.proofs.HandedOut.{or_left, or_right}
 
 -- SHARES OF GROUPS
 
-get_front : {A : Type 0} (n : ℕ) (xs : List A) (k : ℕ) (x : A) → slice_get (take n xs) k ≡ Some x → slice_get xs k ≡ Some x
-get_front zero xs k x here = absurd (cc)
-get_front (suc n) [] k x here = absurd (cc)
-get_front (suc n) (y ∷ xs) zero x here = here
-get_front (suc n) (y ∷ xs) (suc k) x here = get_front n xs k x here
-
-front_below : {A : Type 0} (n : ℕ) (xs : List A) (k : ℕ) (x : A) → slice_get (take n xs) k ≡ Some x → k < n
-front_below zero xs k x here = absurd (cc)
-front_below (suc n) [] k x here = absurd (cc)
-front_below (suc n) (y ∷ xs) zero x here = omega arith
-front_below (suc n) (y ∷ xs) (suc k) x here = let lt = front_below n xs k x here in omega (arith, lt)
-
 get_behind : {A : Type 0} (n : ℕ) (xs : List A) (k : ℕ) (x : A) → slice_get (drop n xs) k ≡ Some x → slice_get xs (n + k) ≡ Some x
 get_behind zero xs k x here = let same : k ≡ zero + k = omega arith in subst (λ (i : ℕ). slice_get xs i ≡ Some x) same here
 get_behind (suc n) [] k x here = absurd (cc)
 get_behind (suc n) (y ∷ xs) k x here = let same : suc (n + k) ≡ suc n + k = omega arith in subst (λ (i : ℕ). slice_get (y ∷ xs) i ≡ Some x) same (get_behind n xs k x here)
 
 pub rise_front : (n : ℕ) (groups : List GroupNo) → Rise groups → Rise (take n groups)
-rise_front n groups rise i j g h less at_i at_j = rise i j g h less (get_front n groups i g at_i) (get_front n groups j h at_j)
+rise_front n groups rise i j g h less at_i at_j = rise i j g h less (of_front n groups i g at_i) (of_front n groups j h at_j)
 
 pub rise_behind : (n : ℕ) (groups : List GroupNo) → Rise groups → Rise (drop n groups)
 rise_behind n groups rise i j g h less at_i at_j = rise (n + i) (n + j) g h (omega (arith, less)) (get_behind n groups i g at_i) (get_behind n groups j h at_j)
@@ -37,7 +23,9 @@ rise_behind n groups rise i j g h less at_i at_j = rise (n + i) (n + j) g h (ome
 apart : (n : ℕ) (groups : List GroupNo) (k : ℕ) (h : GroupNo) → Rise groups → slice_get (take n groups) k ≡ Some h → All (λ (g : GroupNo). h.0 ≢ g.0) (drop n groups)
 apart n groups k h rise here j d lt same =
     let behind = slice_get-get_or (drop n groups) j d lt in
-    let less = rise k (n + j) h _ (let below = front_below n groups k h here in omega (arith, below)) (get_front n groups k h here) (get_behind n groups j _ behind) in
+    let below = slice_get_within (take n groups) k h here in
+    let long = length-take n groups in
+    let less = rise k (n + j) h _ (omega (arith, below, long)) (of_front n groups k h here) (get_behind n groups j _ behind) in
     absurd (omega (arith, less, same))
 
 -- lengths

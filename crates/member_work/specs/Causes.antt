@@ -1,6 +1,6 @@
 -- Why a step of work closes as it does, by what each plant tells: which of its parts are lost, and how often they
 -- failed.
-use Rattle.member_work.specs.Names.{MemberId, Closing, View, IsFoundLost, UnitEnd}
+use Rattle.member_work.specs.Names.{MemberId, Closing, View, IsFoundLost}
 use Rattle.std.specs.Prelude.{Some}
 use Rattle.mas_types.specs.declared.answers.Closing.TheVariants as closing
 use Rattle.mas_types.specs.declared.commands.Reply.TheVariants as reply
@@ -15,12 +15,3 @@ MayRefuse by (closing.NoText group) old new = Unit {0}
 MayRefuse by (closing.SpoolLost volume) old new = IsFoundLost (Some volume) old new
 MayRefuse by closing.PrinterLost old new = HasPrinterFailed by old new
 MayRefuse by _ old new = ⊥
-
--- WITHIN A STEP
-
--- a unit ends as its last command was answered: it is done, or refused with that reply
-abbrev pub IsAnswered : UnitEnd → Type 0
-IsAnswered ends.Done = Unit {0}
-IsAnswered ends.Idle = Unit {0}
-IsAnswered (ends.Refused (closing.Reply (reply.No why))) = Unit {0}
-IsAnswered (ends.Refused end) = ⊥

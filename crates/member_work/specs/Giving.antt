@@ -1,13 +1,14 @@
 -- Commands of a unit on a member's tables.
-use Rattle.member_work.specs.Names.{JobNo, MemberId, Command, OutSpec, Entry, Queue, outputs_at_end, job_at, is_member, members_most, Tables, HasSpelling, Tell, TellSound, AreFit, run, HasTexts, Spools, HasDone, given_in, AreOf}
-use Rattle.std.specs.Prelude.{◌≡◌, ℕ, ◌+◌, ◌*◌, ◌≤◌, Bool, false, true, List, [], ◌∷◌, ◌++◌, length, take, Result}
+use Rattle.member_work.specs.Names.{JobNo, MemberId, Command, OutSpec, Entry, Queue, outputs_at_end, job_at, is_member, members_most, Tables, HasSpelling, Tell, TellSound, AreFit, run, HasTexts, Spools, HasDone, given_in, AreOf, IsFit, IsGiver, UnitEnd, end_by, may_give, reply_to}
+use Rattle.std.specs.Prelude.{◌≡◌, ℕ, ◌+◌, ◌*◌, ◌≤◌, ◌<◌, ◌^◌, Bool, false, true, List, [], ◌∷◌, ◌++◌, length, take, Result, IfOk}
+use Rattle.mas_types.specs.declared.ids.NoMemory.{NoMemory}
 use Rattle.track_groups.specs.Groups.{held_by}
 use Rattle.queue_texts.specs.Leaving.{brings_text}
 use Rattle.member_node.specs.declared.member.Member.{Member}
 use Rattle.member_decks.specs.Taking.{IsPart}
 use Rattle.member_work.specs.Spooled.{AreSpooled}
 use Rattle.member_work.specs.Steps.{IsUnderWay}
-use Rattle.member_work.specs.Units.{groups_for_end}
+use Rattle.member_work.specs.Units.{groups_for_end, drop_groups, ended_as, taken_end, taking}
 
 -- A member that may give commands for itself: it is one of the configuration, and knows where its tables stand.
 pub record CanGive (m : Member) : Type 0 where
@@ -42,6 +43,20 @@ abbrev pub LeaveWhere : (Spools → ℕ → Type 0) → Queue → List Entry →
 LeaveWhere holds Q es = (gone : ℕ → Bool) (disks : Spools) (per : ℕ) → holds disks per → HasTexts gone disks per Q
     → HasTexts gone disks per (run Q es)
 
+-- what a command asks of a member that gives it, by its tables
+pub record IsOwn (m : Member) (c : Command) : Type 0 where
+  pub fit : IsFit c
+  pub giver : IsGiver m.id c
+  pub may : (s : TellSound m.checkpoint.tables) → may_give s.queue m.id c ≡ true
+
+-- a member may give this command
+pub record MayGiveOne (m : Member) (c : Command) : Type 0 where
+  pub here : m.behind ≡ false
+  pub own : IsOwn m c
+  pub spelling : HasSpelling m.checkpoint.tables
+  pub fit : AreFit m.checkpoint.tables
+  pub order : m.checkpoint.tables.order + 32 < 2 ^ 63
+
 -- commands that a member gives in a step, and the queue at which the first one is given
 pub record Asked : Type 0 where
   pub queue : Queue
@@ -53,13 +68,40 @@ abbrev pub asked : Queue → MemberId → ℕ → List Command → Asked
 asked Q by at cs = record { queue = Q; by = by; at = at; commands = cs }
 
 -- These commands, given at a queue that the tables told: all of them, or, out of memory, the first ones.
-pub record GivesAt {T E : Type 0} (a : Asked) (holds : Spools → ℕ → Type 0) (m n : Member) (result : Result T E)
+pub record GivesAt (a : Asked) (holds : Spools → ℕ → Type 0) (m n : Member) (result : Result UnitEnd NoMemory)
     : Type 0 where
   pub gave : List Entry
   pub batch : n.batch ≡ m.batch ++ gave
   pub part : IsPart result gave (given_in a.queue a.by a.at a.commands)
   pub effect : Tell n.checkpoint.tables (run a.queue gave)
   pub texts : LeaveWhere holds a.queue gave
+
+-- what a member gives in a step, by the queue: its commands, and how a unit ends with them
+pub record Giving : Type 0 where
+  pub at : ℕ
+  pub commands : Queue → List Command
+  pub ends : Queue → UnitEnd
+
+-- one command; one with Drop after it where it was refused; Drop alone, after which a unit ends so; and Take of groups
+abbrev pub gives_one : ℕ → MemberId → Command → Giving
+gives_one at by c = record { at = at; commands = λ Q. c ∷ []; ends = λ Q. end_by (reply_to Q by c) }
+
+abbrev pub gives_or_drops : ℕ → MemberId → Command → Giving
+gives_or_drops at by c = record { at = at; commands = λ Q. ended_as (reply_to Q by c) c; ends = λ Q. end_by (reply_to Q by c) }
+
+abbrev pub gives_back : ℕ → UnitEnd → Giving
+gives_back at end = record { at = at; commands = λ Q. drop_groups ∷ []; ends = λ Q. end }
+
+abbrev pub gives_takes : ℕ → MemberId → ℕ → Giving
+gives_takes at by needed = record { at = at; commands = λ Q. taking Q by needed; ends = λ Q. taken_end Q by at needed }
+
+-- At each queue that the tables tell these are given, which leave its texts on volumes where this holds; and the unit
+-- ends so, unless memory is out.
+pub record GivesAs (g : Giving) (holds : Queue → Spools → ℕ → Type 0) (m n : Member)
+    (result : Result UnitEnd NoMemory) : Type 0 where
+  pub has : HasGiven g.at m n
+  pub gives : (Q : Queue) → Tell m.checkpoint.tables Q → GivesAt (asked Q m.id g.at (g.commands Q)) (holds Q) m n result
+  pub end : IfOk result (λ end. (Q : Queue) → Tell m.checkpoint.tables Q → end ≡ g.ends Q)
 
 -- the tables are those of a sound queue, whose texts a command leaves on these volumes
 pub record LeavesTexts (t : Tables) (Q : Queue) (e : Entry) (disks : Spools) (per : ℕ) : Type 0 where
@@ -70,11 +112,9 @@ pub record LeavesTexts (t : Tables) (Q : Queue) (e : Entry) (disks : Spools) (pe
 abbrev pub IsSoundPlain : Tables → Command → Type 0
 IsSoundPlain t c = TellSound t × (brings_text c ≡ false)
 
--- the tables are those of a sound queue, in which the job may end, and its outputs stand in the lowest groups of the
--- member
-pub record MayEnd (t : Tables) (Q : Queue) (by : MemberId) (n : JobNo) (specs : List OutSpec) (disks : Spools)
-    (per : ℕ) : Type 0 where
-  pub sound : TellSound t
+-- the job may end, and its outputs stand in the lowest groups of the member
+pub record MayEnd (Q : Queue) (by : MemberId) (n : JobNo) (specs : List OutSpec) (disks : Spools) (per : ℕ)
+    : Type 0 where
   pub under_way : IsUnderWay Q by n
   pub spooled : AreSpooled disks per (outputs_at_end (job_at Q n) specs)
       (take (groups_for_end Q n specs) (held_by by Q.owners))

@@ -1,7 +1,6 @@
 -- What stands on paper of the lines of an output that were to be printed, and how many of them are counted.
-use Rattle.member_work.specs.Names.{Closing, JobNo, MemberId, OutNo, Line, paper_now, counts_of, Parts, NodeNo, BothLost, Halted, ConsoleFault, NoMemory, Read}
+use Rattle.member_work.specs.Names.{JobNo, MemberId, OutNo, Line, paper_now, counts_of, Parts, NodeNo, BothLost, Halted, ConsoleFault, NoMemory, Read}
 use Rattle.std.specs.Prelude.{◌≡◌, ◌≢◌, ◌⊎◌, ℕ, zero, suc, ◌+◌, ◌-◌, ◌≤◌, ◌<◌, Bool, true, false, List, [], ◌∷◌, ◌++◌, length, map, take, Option, None, Some, Result, Ok, Err}
-use Rattle.mas_types.specs.declared.answers.Closing.TheVariants.{PrinterLost}
 use Rattle.mas_types.specs.Printed.{printed_line}
 use Rattle.spool_plant.specs.declared.plant.Plant.{Ghosts as PlantGhosts}
 use Rattle.mas_complex.specs.Headline.{whole}
@@ -46,12 +45,12 @@ IsInkedTo true many k = (k.lines < many) × (k.rest ≡ None)
 
 -- By the answer, which says whether the printer was found lost. A member that was stopped leaves one of them torn,
 -- perhaps.
-abbrev pub IsInkedBy : {T : Type 0} → (T → Bool) → Result T NodeNo → ℕ → Inked → Type 0
-IsInkedBy lost (Ok end) many k = IsInkedTo (lost end) many k
-IsInkedBy lost (Err NoMemory) many k = (k.lines ≤ many) × (k.rest ≡ None)
-IsInkedBy lost (Err Halted) many k = (k.lines ≤ many) × ((k.rest ≡ None) ⊎ (k.lines < many))
-IsInkedBy lost (Err BothLost) many k = ⊥
-IsInkedBy lost (Err ConsoleFault) many k = ⊥
+abbrev pub IsInkedBy : Result Bool NodeNo → ℕ → Inked → Type 0
+IsInkedBy (Ok lost) many k = IsInkedTo lost many k
+IsInkedBy (Err NoMemory) many k = (k.lines ≤ many) × (k.rest ≡ None)
+IsInkedBy (Err Halted) many k = (k.lines ≤ many) × ((k.rest ≡ None) ⊎ (k.lines < many))
+IsInkedBy (Err BothLost) many k = ⊥
+IsInkedBy (Err ConsoleFault) many k = ⊥
 
 -- each whole line is counted, except one at which the member was stopped
 abbrev pub IsCountOf : {T : Type 0} → Result T NodeNo → ℕ → ℕ → Type 0
@@ -61,22 +60,17 @@ IsCountOf (Err Halted) inked count = (count ≤ inked) × (inked ≤ count + 1)
 IsCountOf (Err BothLost) inked count = count ≡ inked
 IsCountOf (Err ConsoleFault) inked count = count ≡ inked
 
--- the printer was found lost
-abbrev pub is_printer_lost : Option Closing → Bool
-is_printer_lost (Some PrinterLost) = true
-is_printer_lost _ = false
-
 -- no other member's count of printed lines differs
 abbrev pub OtherCountsStay : MemberId → List ℕ → List ℕ → Type 0
 OtherCountsStay by old new = (m : MemberId) → m.0 ≢ by.0 → counts_of new m ≡ counts_of old m
 
 module _ {P C : Type 0} (plants : PlantGhosts P) where
-  -- Of these lines some stand on the member's printer now, by the answer. Nobody else printed anything.
-  pub record HasInked {T : Type 0} (lost : T → Bool) (by : MemberId) (lines : List (List ℕ)) (x y : Parts P C)
-      (result : Result T NodeNo) : Type 0 where
-    pub inked : Inked
-    pub paper : paper_now (plants.view y.plant) by.0 ≡ paper_now (plants.view x.plant) by.0 ++ inked_of inked lines
-    pub others : (m : ℕ) → m ≢ by.0 → paper_now (plants.view y.plant) m ≡ paper_now (plants.view x.plant) m
-    pub by_answer : IsInkedBy lost result (length lines) inked
-    pub counted : IsCountOf result (counts_of x.printed by + inked.lines) (counts_of y.printed by)
-    pub other_counts : OtherCountsStay by x.printed y.printed
+  -- Of these lines some stand on the member's printer now, by the answer, which says whether that was found lost.
+  -- Nobody else printed anything.
+  pub record HasInked (by : MemberId) (lines : List (List ℕ)) (x y : Parts P C) (result : Result Bool NodeNo) : Type 0
+    where
+      pub inked : Inked
+      pub paper : paper_now (plants.view y.plant) by.0 ≡ paper_now (plants.view x.plant) by.0 ++ inked_of inked lines
+      pub others : (m : ℕ) → m ≢ by.0 → paper_now (plants.view y.plant) m ≡ paper_now (plants.view x.plant) m
+      pub by_answer : IsInkedBy result (length lines) inked
+      pub counted : IsCountOf result (counts_of x.printed by + inked.lines) (counts_of y.printed by)

@@ -8,7 +8,7 @@ pub mod Steps
 pub mod Printing
 pub mod Inked
 pub mod Examples
-pub mod Gone
+pub use Rattle.queue_gone.specs.Gone
 pub mod Spooled
 pub mod Giving
 pub mod Names

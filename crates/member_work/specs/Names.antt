@@ -5,7 +5,6 @@ pub use Rattle.job_exec.specs.Running.{AreOutputs}
 pub use Rattle.job_outcome.specs.Next.{IsNamedEnd, end_by}
 pub use Rattle.job_outcome.specs.declared.outcomes.Read.{Read}
 pub use Rattle.job_outcome.specs.declared.units.UnitEnd.{UnitEnd}
-pub use Rattle.job_outcome.specs.declared.units.UnitEnd.TheVariants.{Done}
 pub use Rattle.mas_complex.specs.Journals.{in_flight, kept_all}
 pub use Rattle.mas_complex.specs.Meaning.{run}
 pub use Rattle.mas_complex.specs.Paper.{MayBegin, counts_of}

@@ -1,11 +1,10 @@
 -- A unit that prints the next lines of an output, part by part.
-use Rattle.member_work.specs.Names.{Closing, Dev, Ckpt1, Ckpt2, JobNo, MemberId, OutNo, Output, Queue, IsIndex, printer_lines_most, text_lines_most, line_count, output_at, printing_at, total, Tables, Tell, Disk as DiskPart, View, disk_now, Goes, Parts, NodeNo, stopped_in, console_now, Read}
-use Rattle.std.specs.Prelude.{◌≡◌, ℕ, ◌+◌, ◌*◌, ◌≤◌, ◌<◌, Bool, true, if◌then◌else◌, Option, Some, Result}
+use Rattle.member_work.specs.Names.{Dev, Ckpt1, Ckpt2, JobNo, MemberId, OutNo, Output, Queue, IsIndex, printer_lines_most, text_lines_most, line_count, output_at, printing_at, total, Tables, Tell, Disk as DiskPart, View, disk_now, Goes, Parts, NodeNo, stopped_in, console_now}
+use Rattle.std.specs.Prelude.{◌≡◌, ℕ, ◌+◌, ◌*◌, ◌≤◌, ◌<◌, if◌then◌else◌, Some, Result}
 use Rattle.lay_bytes.specs.declared.records.OutRec.{OutRec}
 use Rattle.mas_complex.specs.Locking.{reserved_after_stop}
 use Rattle.lock_cycle.specs.Books.{after_stop}
-use Rattle.member_work.specs.Rounds.{HasPrinterFailed}
-use Rattle.member_work.specs.Units.{chunk_end, printed_end}
+use Rattle.member_work.specs.Units.{chunk_end}
 
 -- ACTS ON THE PRINTER AND THE VOLUMES
 
@@ -56,11 +55,3 @@ pub record IsChunkOf (t : Tables) (by : MemberId) (r : OutRec) (last : ℕ) : Ty
   pub limit : last ≤ r.mark + printer_lines_most
   pub total : last ≤ r.lines * r.copies
   pub is : (Q : Queue) (o : Output) → Tell t Q → output_at Q r.job r.index ≡ Some o → last ≡ chunk_end Q by o
-
--- PART BY PART
-
--- What was made of a text that was read, once its lines were printed: the printer was found lost, or not.
-pub record IsLinesPrinted (by : MemberId) (read : Read) (old new : View) (end : Option Closing) : Type 0 where
-  pub lost : Bool
-  pub is : end ≡ printed_end lost read
-  pub printer : lost ≡ true → HasPrinterFailed by old new

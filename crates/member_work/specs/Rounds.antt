@@ -24,14 +24,18 @@ abbrev pub IsWhole : Text → Type 0
 IsWhole (Whole lines) = Unit {0}
 IsWhole (Gone group count) = ⊥
 
--- How a text was read that stands in these groups. Where content is told it is as the queue has it, unless a volume was
--- found lost; no volume is found lost at a text that is gone.
-abbrev pub IsReadAs : Type 0 → ℕ → Text → List GroupNo → Option Read → View → View → Type 0
-IsReadAs told per text groups None old new = Unit {0}
-IsReadAs told per text groups (Some (read.Lines lines)) old new = told → read.Lines lines ≡ as_it_is text
-IsReadAs told per text groups (Some (read.Gone group)) old new = told → read.Gone group ≡ as_it_is text
-IsReadAs told per text groups (Some (read.Lost volume)) old new = (told → IsWhole text)
-    × HasFailed per groups volume old new
+-- a text, and the groups in which it stands
+abbrev pub PlacedText : Type 0
+PlacedText = Text × List GroupNo
+
+-- How a text was read. Where content is told it is as the queue has it, unless a volume was found lost; no volume is
+-- found lost at a text that is gone.
+abbrev pub IsReadAs : Type 0 → ℕ → PlacedText → Option Read → View → View → Type 0
+IsReadAs told per text None old new = Unit {0}
+IsReadAs told per text (Some (read.Lines lines)) old new = told → read.Lines lines ≡ as_it_is text.0
+IsReadAs told per text (Some (read.Gone group)) old new = told → read.Gone group ≡ as_it_is text.0
+IsReadAs told per text (Some (read.Lost volume)) old new = (told → IsWhole text.0)
+    × HasFailed per text.1 volume old new
 
 -- a volume that was found lost in a call that writes into these groups: one of them lies on it
 abbrev pub IsSpoolLost : ℕ → List GroupNo → Option ℕ → View → View → Type 0

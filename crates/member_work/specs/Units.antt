@@ -84,20 +84,21 @@ taken_end Q by at needed = if are_refused needed Q by needed then end_by
     (closing_reply (given_in Q by at (taking Q by needed))) else ends.Done
 
 -- once the groups are taken, or one Take was refused
-abbrev pub taken : Bool → Option ℕ → Queue → MemberId → ℕ → JobNo → List OutSpec → ℕ → UnitPlay
-taken true lost Q by at n specs needed = last_part (given_in Q by at (taking Q by needed))
-taken false lost Q by at n specs needed = behind_acts (given_in Q by at (takes needed Q by needed))
-    (spooled lost (taken_queue Q by at needed) by at n specs)
+abbrev pub taken : Bool → Queue → MemberId → ℕ → ℕ → (Queue → UnitPlay) → UnitPlay
+taken true Q by at needed rest = last_part (given_in Q by at (taking Q by needed))
+taken false Q by at needed rest = behind_acts (given_in Q by at (takes needed Q by needed))
+    (rest (taken_queue Q by at needed))
 
-abbrev pub ended_with : ℕ → Option ℕ → Queue → MemberId → ℕ → JobNo → List OutSpec → UnitPlay
-ended_with zero lost Q by at n specs = spooled None Q by at n specs
-ended_with (suc needed) lost Q by at n specs = taken (are_refused (suc needed) Q by (suc needed)) lost Q by at n specs
-    (suc needed)
+abbrev pub ended_with : ℕ → Option ℕ → Queue → MemberId → ℕ → (Option ℕ → Queue → UnitPlay) → UnitPlay
+ended_with zero lost Q by at rest = rest None Q
+ended_with (suc needed) lost Q by at rest = taken (are_refused (suc needed) Q by (suc needed)) Q by at (suc needed)
+    (rest lost)
 
 -- Take of the groups that are needed, as often as needed; the outputs are written; Ended. After a refused Take or
 -- Ended, or where a volume of one of the groups was found lost, Drop of the member's groups.
 abbrev pub job_ended : Option ℕ → Queue → MemberId → ℕ → JobNo → List OutSpec → UnitPlay
-job_ended lost Q by at n specs = ended_with (groups_for_end Q n specs) lost Q by at n specs
+job_ended lost Q by at n specs = ended_with (groups_for_end Q n specs) lost Q by at
+    (λ l R. spooled l R by at n specs)
 
 -- RUN AND CONVERT
 
@@ -128,14 +129,15 @@ printed_end lost (read.Lost volume) = Some (closing.SpoolLost volume)
 printed_end true (read.Lines lines) = Some closing.PrinterLost
 printed_end false (read.Lines lines) = None
 
--- the lines up to this one are marked, where they stand on paper
-abbrev pub mark_play : Queue → MemberId → ℕ → JobNo → OutNo → ℕ → Option Closing → UnitPlay
-mark_play Q by at n i last None = one_command Q by at (command.Mark n i last)
-mark_play Q by at n i last (Some end) = refused_with end
+-- the lines up to one are marked with this command, where they stand on paper
+abbrev pub mark_play : Queue → MemberId → ℕ → Command → Option Closing → UnitPlay
+mark_play Q by at c None = one_command Q by at c
+mark_play Q by at c (Some end) = refused_with end
 
 abbrev pub output_play : Queue → MemberId → ℕ → Look → Output → UnitPlay
 output_play Q by at look o = behind_acts []
-    (mark_play Q by at o.job o.index (chunk_end Q by o) (printed_end look.printer (read_of look.read o.text)))
+    (mark_play Q by at (command.Mark o.job o.index (chunk_end Q by o))
+    (printed_end look.printer (read_of look.read o.text)))
 
 -- the unit of the output with this key
 abbrev pub print_play : Queue → MemberId → ℕ → Look → JobNo → OutNo → UnitPlay

@@ -1,8 +1,8 @@
 //! Commands of a unit on a member's tables, and the groups for a job's outputs.
-ghost use Rattle.member_work.specs.Names.{Queue, groups_of_outputs as groups_of_outputs_lem, is_cancelled as is_cancelled_lem, IsFit, member_count, job_at, may_give, HasSpelling, AreOutputs, AreFit, IsGiver, Tell, TellSound, entry_of, reply_to, Done, IsNamedEnd, end_by as end_by_lem};
-ghost use Rattle.std.specs.Prelude.{◌≡◌, ◌+◌, ◌≤◌, ◌<◌, ◌^◌, ◌∷◌, [], false, true, IfOk, Ok, OnErr};
-ghost use Rattle.member_work.specs.Giving.{CanGive, GivesAt, HasGiven, IsSoundPlain, LeavesTexts, asked};
-ghost use Rattle.member_work.specs.Units.{drop_groups, ended_as, groups_for_end as groups_for_end_lem, taken_end, taking};
+ghost use Rattle.member_work.specs.Names.{Queue, groups_of_outputs as groups_of_outputs_lem, is_cancelled as is_cancelled_lem, job_at, AreOutputs, Tell, TellSound, entry_of, IsNamedEnd};
+ghost use Rattle.std.specs.Prelude.{◌≡◌, ◌+◌, ◌≤◌, ◌<◌, ◌^◌, IfOk, OnErr};
+ghost use Rattle.member_work.specs.Giving.{CanGive, GivesAs, IsOwn, IsSoundPlain, LeavesTexts, MayGiveOne, gives_back, gives_one, gives_or_drops, gives_takes};
+ghost use Rattle.member_work.specs.Units.{groups_for_end as groups_for_end_lem};
 
 use crate::spooling::groups_of_outputs;
 use ckpt_tables::Tables;
@@ -45,19 +45,9 @@ pub fn give(
     step: u32,
     command: Command,
 ) -> Result<UnitEnd, NoMemory>
-    requires here { member.old.behind ≡ false }
-    requires command { IsFit command }
-    requires giver { IsGiver member.old.id command }
-    requires may { (s : TellSound member.old.checkpoint.tables) → may_give s.queue member.old.id command ≡ true }
-    requires spelling { HasSpelling member.old.checkpoint.tables }
-    requires fit { AreFit member.old.checkpoint.tables }
-    requires order { member.old.checkpoint.tables.order + 32 < 2 ^ 63 }
-    ensures has { HasGiven step member.old member.new }
-    ensures gives { (Q : Queue) → Tell member.old.checkpoint.tables Q
-        → GivesAt (asked Q member.old.id step (command ∷ []))
-        (λ disks per. IsSoundPlain member.old.checkpoint.tables command) member.old member.new result }
-    ensures end { IfOk result (λ end. (Q : Queue) → Tell member.old.checkpoint.tables Q
-        → end ≡ end_by_lem (reply_to Q member.old.id command)) }
+    requires { MayGiveOne member.old command }
+    ensures does { GivesAs (gives_one step member.old.id command)
+        (λ Q disks per. IsSoundPlain member.old.checkpoint.tables command) member.old member.new result }
     ensures named { IfOk result IsNamedEnd }
     ensures err { OnErr result (member.new ≡ member.old) }
 {
@@ -75,11 +65,8 @@ pub fn give_back(
 ) -> Result<UnitEnd, NoMemory>
     requires can { CanGive member.old }
     requires order { member.old.checkpoint.tables.order + 32 < 2 ^ 63 }
-    ensures has { HasGiven step member.old member.new }
-    ensures gives { (Q : Queue) → Tell member.old.checkpoint.tables Q
-        → GivesAt (asked Q member.old.id step (drop_groups ∷ [])) (λ disks per. TellSound member.old.checkpoint.tables)
+    ensures does { GivesAs (gives_back step end) (λ Q disks per. TellSound member.old.checkpoint.tables)
         member.old member.new result }
-    ensures end { IfOk result (λ e. e ≡ end) }
     ensures err { OnErr result (member.new ≡ member.old) }
 {
     give(member, alloc, step, Command::Drop { job: NO_JOB })?;
@@ -95,17 +82,11 @@ pub fn give_or_drop(
     command: Command,
 ) -> Result<UnitEnd, NoMemory>
     requires can { CanGive member.old }
-    requires command { IsFit command }
-    requires giver { IsGiver member.old.id command }
-    requires may { (s : TellSound member.old.checkpoint.tables) → may_give s.queue member.old.id command ≡ true }
+    requires own { IsOwn member.old command }
     requires order { member.old.checkpoint.tables.order + 64 < 2 ^ 63 }
-    ensures has { HasGiven step member.old member.new }
-    ensures gives { (Q : Queue) → Tell member.old.checkpoint.tables Q
-        → GivesAt (asked Q member.old.id step (ended_as (reply_to Q member.old.id command) command))
-        (LeavesTexts member.old.checkpoint.tables Q (entry_of Q member.old.id step command)) member.old member.new
+    ensures does { GivesAs (gives_or_drops step member.old.id command)
+        (λ Q. LeavesTexts member.old.checkpoint.tables Q (entry_of Q member.old.id step command)) member.old member.new
         result }
-    ensures end { IfOk result (λ end. (Q : Queue) → Tell member.old.checkpoint.tables Q
-        → end ≡ end_by_lem (reply_to Q member.old.id command)) }
     ensures named { IfOk result IsNamedEnd }
 {
     let end = give(member, alloc, step, command)?;
@@ -126,14 +107,9 @@ pub fn take_for_end(
     requires can { CanGive member.old }
     requires needed { 1 ≤ needed }
     requires order { member.old.checkpoint.tables.order + 96 < 2 ^ 63 }
-    ensures has { HasGiven step member.old member.new }
-    ensures gives { (Q : Queue) → Tell member.old.checkpoint.tables Q
-        → GivesAt (asked Q member.old.id step (taking Q member.old.id needed))
-        (λ disks per. TellSound member.old.checkpoint.tables) member.old member.new result }
-    ensures end { IfOk result (λ end. (Q : Queue) → Tell member.old.checkpoint.tables Q
-        → end ≡ taken_end Q member.old.id step needed) }
+    ensures does { GivesAs (gives_takes step member.old.id needed)
+        (λ Q disks per. TellSound member.old.checkpoint.tables) member.old member.new result }
     ensures named { IfOk result IsNamedEnd }
-    ensures enough { result ≡ Ok Done → needed ≤ member_count member.new.id member.new.checkpoint.tables.owners }
 {
     law_of_texts();
     let end = give(member, alloc, step, Command::Take { want: needed })?;

@@ -1,6 +1,7 @@
-use Rattle.member_acts.proofs.Names.{ap, get_or, subst, take, false, List, [], All-cons, All-get_or, All-nil, IsGroupOf, take_all, take_more, GroupNo, parts_of, sparing_then}
+use Rattle.spool_volumes.specs.Texts.{text_unless}
+use Rattle.member_acts.proofs.Names.{IsFailedRead, Read, sym, ap, get_or, subst, take, false, List, [], All-cons, All-get_or, All-nil, IsGroupOf, take_all, take_more, GroupNo, parts_of, sparing_then}
 use Rattle.member_acts.specs.Reads.{AddsGroup, so_far}
-use Rattle.member_acts.proofs.ReadLemmas.{HaveRead, read_more, read_whole, reads_then, unfailed}
+use Rattle.member_acts.proofs.ReadLemmas.{HaveRead, read_more, read_well, read_whole, reads_then}
 use Rattle.member_acts.proofs.reading.read_text.Goals as goal
 
 abbrev none : GroupNo
@@ -53,6 +54,7 @@ returns-clause-text g c =
     record {
       fits = c.ended.ensures.fits;
       counted = c.ended.ensures.counted;
-      failed = unfailed x.base.config.groups _ groups c.ended.result (g.P.Plant.view x.plant) (g.P.Plant.view y.plant) c.ended.ensures.text;
+      failed = subst (λ (r : Read). IsFailedRead x.base.config.groups groups r (g.P.Plant.view x.plant) (g.P.Plant.view y.plant)) (sym c.ended.ensures.text)
+          (read_well x.base.config.groups groups (g.P.Plant.view x.plant) (g.P.Plant.view y.plant) (text_unless c.args.count groups c.loop-group.lines c.loop-group.gone)).failed;
       text = read_whole g.P.Plant c.args.by x y groups c.loop-group.lines c.loop-group.gone c.args.count c.ended.result have c.ended.ensures.text;
     }

@@ -62,8 +62,8 @@ write_pages-requires g t c =
       held = λ told. subst (All Held) (sym front) (All-take Held k gs (c.requires.held told));
     }
 
-pub returns-in_err-write_pages-clause-on : goal.returns-in_err-write_pages-clause-on
-returns-in_err-write_pages-clause-on g t c =
+pub returns-in_err-write_pages : goal.returns-in_err-write_pages
+returns-in_err-write_pages g t c =
     let P = g.P.Plant in
     let x = c.args.complex.now in
     let gs : List GroupNo = c.args.groups.now in
@@ -74,10 +74,13 @@ returns-in_err-write_pages-clause-on g t c =
     let p = err_from_is_err_and c.from_residual.result c.from_residual.ensures.1 in
     let cause = rw front at c.in_err-write_pages.ensures.cause in
     rw (p.1, p.2) (record {
-      frame = e.frame;
-      acts = e.acts;
-      cause = cause_wider {T = Unit {0}} c.args.by.0 x.base.config.groups (take k gs) gs (P.view x.plant) (P.view x.plant) (P.view y.plant) (Err c.in_err-write_pages.field-0.0) (λ v there. lies_front x.base.config.groups v k gs there) (acts_none P.tells c.args.by.0 (P.view x.plant)).goes (sparing_none c.args.by.0 (P.view x.plant)) cause;
-      spares = λ told h none. e.spares told h (subst (All (λ (j : GroupNo). h.0 ≢ j.0)) (sym front) (All-take (λ (j : GroupNo). h.0 ≢ j.0) k gs none));
+      on = record {
+        frame = e.frame;
+        acts = e.acts;
+        cause = cause_wider {T = Unit {0}} c.args.by.0 x.base.config.groups (take k gs) gs (P.view x.plant) (P.view x.plant) (P.view y.plant) (Err c.in_err-write_pages.field-0.0) (λ v there. lies_front x.base.config.groups v k gs there) (acts_none P.tells c.args.by.0 (P.view x.plant)).goes (sparing_none c.args.by.0 (P.view x.plant)) cause;
+        spares = λ told h none. e.spares told h (subst (All (λ (j : GroupNo). h.0 ≢ j.0)) (sym front) (All-take (λ (j : GroupNo). h.0 ≢ j.0) k gs none));
+      };
+      stand = tt;
     })
 
 -- THE OTHER OUTPUTS
@@ -102,6 +105,7 @@ write_outputs-requires g t c κs lives =
     let may : IsToWrite g.P.Plant (parts_of y) c.args.by c.split_at.result.1.now rest = record {
       up = rw book c.requires.up;
       none = current ∙ c.requires.none;
+      some = rw base c.requires.some;
       outputs = All-tail IsOutSpec s rest (fit g t w);
       as_many = ap (λ (l : List GroupNo). length l) behind ∙ ap (λ (i : ℕ). length (drop i gs)) n ∙ behind_long s rest gs (long g t w);
       rise = subst Rise (sym behind) (rise_behind k gs c.requires.rise);

@@ -1,4 +1,4 @@
-use Rattle.std.proofs.Common.{◌≡◌, ◌∙◌, ◌+◌, ◌*◌, ◌≤◌, ◌<◌, ◌^◌, ℕ, true, List, [], ◌∷◌, ◌++◌, length, None, Some, refl, sym, ap, subst, arith}
+use Rattle.std.proofs.Common.{◌≡◌, ◌∙◌, ◌+◌, ◌*◌, ◌≤◌, ℕ, true, List, [], ◌∷◌, ◌++◌, length, None, Some, refl, sym, ap, subst, arith}
 use Rattle.mas_types.specs.declared.answers.Closing.TheVariants as closing
 use Rattle.mas_types.specs.declared.commands.Command.TheVariants.{Begin}
 use Rattle.mas_types.specs.declared.ids.MemberId.{MemberId}
@@ -19,7 +19,7 @@ use Rattle.member_decks.specs.Steps.{AreOf}
 use Rattle.member_decks.specs.Taking.{LeaveOut}
 use Rattle.member_decks.proofs.DeckLemmas.{given_of, opened_enough}
 use Rattle.member_decks.proofs.OpenLemmas.{tells_some}
-use Rattle.member_decks.proofs.PlayLemmas.{closed_of, groups_few, some_given}
+use Rattle.member_decks.proofs.PlayLemmas.{closed_of, groups_few}
 use Rattle.step_turns.specs.Decks.{job_opened}
 use Rattle.step_turns.specs.Entries.{closing_reply}
 use Rattle.step_turns.specs.declared.states.State.TheVariants.{Away, Told}
@@ -28,11 +28,10 @@ use Rattle.step_turns.specs.declared.states.State.{State}
 use Rattle.member_sittings.specs.Asides.{HasGroups}
 use Rattle.member_sittings.specs.Ends.{deck_end, ends_in}
 use Rattle.member_sittings.specs.Sat.{IsSatOn}
-use Rattle.member_sittings.specs.Whole.{Commanded}
 use Rattle.member_sittings.proofs.KeepLemmas.{sat_given_up}
-use Rattle.member_sittings.proofs.SeatLemmas.{front_is, gives_opened, of_strip, one_some, opened_of, or_one, strip}
+use Rattle.member_sittings.proofs.SeatLemmas.{cuts_opened, front_is, keeps_opened, of_strip, one_some, opened_of, or_one, strip}
 use Rattle.member_sittings.proofs.TurnLemmas.{all_of_one, opened_alike, with_closed, with_ready}
-use Rattle.member_giving.proofs.Resting.{fewer_left, fewer_told}
+use Rattle.member_frames.proofs.Answered.{fewer_left, fewer_told}
 use Rattle.member_frames.proofs.Arriving.{ArrivalTurn, Firsts, arrival_closes, arrival_few, arrival_says, arrival_sits, arrival_waits, ends_next, fewer_away}
 use Rattle.member_frames.proofs.SatLemmas.{waits_left}
 use Rattle.member_frames.proofs.arrivals.begin_arrival.Goals as goal
@@ -52,21 +51,15 @@ open_deck-requires-clause-order g c =
 
 pub give_up_sitting-requires : goal.give_up_sitting-requires
 give_up_sitting-requires g c =
+    let x = parts_of c.args.complex.now in
     let m = c.args.member.now in
     let n = c.open_deck.new.member in
     let d = c.open_deck.ensures in
+    let h = c.args.holder in
+    let fields = c.args.read.fields in
     let few = groups_few c.args.read.text c.requires.text in
     let groups : c.groups_needed-groups.result ≡ groups_needed c.args.read.text = c.groups_needed-groups.ensures in
-    let did : Commanded m n = record { id = d.id; room = d.room; here = d.here; fresh = d.fresh; level = d.level; levels = d.levels; pages = d.pages; config = d.config; spelling = d.spelling; fit = d.fit } in
-    let b = c.requires.may.bounds in
-    let high = b.high in
-    let reached = b.reached in
-    record {
-      gives = gives_opened g.P.Plant g.C.Copying (parts_of c.args.complex.now) m n c.args.holder.step c.args.read.fields c.groups_needed-groups.result _ c.requires.may.sits did c.requires.fields (omega (arith, few, groups))
-          c.in_default.ensures.opening d.order d.done d.sound c.kept_texts.ensures.kept;
-      bounds = record { high = subst (λ (i : ℕ). i + 1 < 2 ^ 63) (sym d.level) (omega (arith, high)); reached = omega (arith, reached); first = b.first; second = b.second };
-      holder = c.requires.may.holder ∙ sym d.id;
-    }
+    cuts_opened g.P.Plant g.C.Copying x m n h fields c.groups_needed-groups.result _ c.requires.may (record { id = d.id; room = d.room; here = d.here; fresh = d.fresh; level = d.level; levels = d.levels; pages = d.pages; config = d.config; spelling = d.spelling; fit = d.fit }) c.requires.fields (omega (arith, few, groups)) c.in_default.ensures.opening d.order d.done d.sound c.kept_texts.ensures.kept
 
 pub returns-in_default-clause-begins : goal.returns-in_default-clause-begins
 returns-in_default-clause-begins g c =
@@ -107,24 +100,16 @@ returns-in_default-clause-begins g c =
 
 pub close_deck-requires-clause-may : goal.close_deck-requires-clause-may
 close_deck-requires-clause-may g c =
+    let x = parts_of c.args.complex.now in
     let m = c.args.member.now in
     let n = c.open_deck.new.member in
     let d = c.open_deck.ensures in
+    let h = c.args.holder in
+    let fields = c.args.read.fields in
     let few = groups_few c.args.read.text c.requires.text in
     let groups : c.groups_needed-groups.result ≡ groups_needed c.args.read.text = c.groups_needed-groups.ensures in
-    let did : Commanded m n = record { id = d.id; room = d.room; here = d.here; fresh = d.fresh; level = d.level; levels = d.levels; pages = d.pages; config = d.config; spelling = d.spelling; fit = d.fit } in
-    let b = c.requires.may.bounds in
-    let high = b.high in
-    let reached = b.reached in
-    let sh = tells_some m.checkpoint.tables in
-    let o = c.in-Ok.ensures.opening sh.0 sh.1 in
-    record {
-      gives = gives_opened g.P.Plant g.C.Copying (parts_of c.args.complex.now) m n c.args.holder.step c.args.read.fields c.groups_needed-groups.result _ c.requires.may.sits did c.requires.fields (omega (arith, few, groups))
-          c.in-Ok.ensures.opening d.order d.done d.sound c.kept_texts.ensures.kept;
-      some = some_given sh.0 m.id c.args.holder.step c.args.read.fields c.groups_needed-groups.result n.batch o.part;
-      bounds = record { high = subst (λ (i : ℕ). i + 1 < 2 ^ 63) (sym d.level) (omega (arith, high)); reached = omega (arith, reached); first = b.first; second = b.second };
-      holder = c.requires.may.holder ∙ sym d.id;
-    }
+    keeps_opened g.P.Plant g.C.Copying x m n h fields c.groups_needed-groups.result _ c.in-Ok.ensures.opening
+    (cuts_opened g.P.Plant g.C.Copying x m n h fields c.groups_needed-groups.result _ c.requires.may (record { id = d.id; room = d.room; here = d.here; fresh = d.fresh; level = d.level; levels = d.levels; pages = d.pages; config = d.config; spelling = d.spelling; fit = d.fit }) c.requires.fields (omega (arith, few, groups)) c.in-Ok.ensures.opening d.order d.done d.sound c.kept_texts.ensures.kept)
 
 pub returns-in_default-opened-clause-begins : goal.returns-in_default-opened-clause-begins
 returns-in_default-opened-clause-begins g c =
@@ -186,24 +171,16 @@ returns-in_default-opened-clause-fewer g c =
 
 pub pause_sitting-requires : goal.pause_sitting-requires
 pause_sitting-requires g c =
+    let x = parts_of c.args.complex.now in
     let m = c.args.member.now in
     let n = c.open_deck.new.member in
     let d = c.open_deck.ensures in
+    let h = c.args.holder in
+    let fields = c.args.read.fields in
     let few = groups_few c.args.read.text c.requires.text in
     let groups : c.groups_needed-groups.result ≡ groups_needed c.args.read.text = c.groups_needed-groups.ensures in
-    let did : Commanded m n = record { id = d.id; room = d.room; here = d.here; fresh = d.fresh; level = d.level; levels = d.levels; pages = d.pages; config = d.config; spelling = d.spelling; fit = d.fit } in
-    let b = c.requires.may.bounds in
-    let high = b.high in
-    let reached = b.reached in
-    let sh = tells_some m.checkpoint.tables in
-    let o = c.in-Ok.ensures.opening sh.0 sh.1 in
-    record {
-      gives = gives_opened g.P.Plant g.C.Copying (parts_of c.args.complex.now) m n c.args.holder.step c.args.read.fields c.groups_needed-groups.result _ c.requires.may.sits did c.requires.fields (omega (arith, few, groups))
-          c.in-Ok.ensures.opening d.order d.done d.sound c.kept_texts.ensures.kept;
-      some = some_given sh.0 m.id c.args.holder.step c.args.read.fields c.groups_needed-groups.result n.batch o.part;
-      bounds = record { high = subst (λ (i : ℕ). i + 1 < 2 ^ 63) (sym d.level) (omega (arith, high)); reached = omega (arith, reached); first = b.first; second = b.second };
-      holder = c.requires.may.holder ∙ sym d.id;
-    }
+    keeps_opened g.P.Plant g.C.Copying x m n h fields c.groups_needed-groups.result _ c.in-Ok.ensures.opening
+    (cuts_opened g.P.Plant g.C.Copying x m n h fields c.groups_needed-groups.result _ c.requires.may (record { id = d.id; room = d.room; here = d.here; fresh = d.fresh; level = d.level; levels = d.levels; pages = d.pages; config = d.config; spelling = d.spelling; fit = d.fit }) c.requires.fields (omega (arith, few, groups)) c.in-Ok.ensures.opening d.order d.done d.sound c.kept_texts.ensures.kept)
 
 pub returns-clause-begins : goal.returns-clause-begins
 returns-clause-begins g c =

@@ -20,7 +20,7 @@ use Rattle.member_node.specs.declared.member.Member.{Member}
 use Rattle.member_node.proofs.TextLemmas.{texts_after}
 use Rattle.member_node.proofs.WriteLemmas.{none_out, run_append}
 use Rattle.member_steps.specs.Steps.{entry_of, entry_with, reply_to}
-use Rattle.member_steps.proofs.StepLemmas.{if_ok, only_entry, some_of_one}
+use Rattle.member_steps.proofs.StepLemmas.{if_ok, only_entry}
 use Rattle.member_decks.specs.Decks.{closing_reply, given_in}
 use Rattle.member_decks.proofs.FinishLemmas.{one_of}
 use Rattle.member_decks.proofs.OpenLemmas.{reply_done}
@@ -32,11 +32,11 @@ use Rattle.step_turns.specs.declared.states.State.TheVariants.{Away, Told}
 use Rattle.member_sittings.specs.Asides.{deck_found}
 use Rattle.member_sittings.specs.Ends.{deck_end, ends_in}
 use Rattle.member_sittings.specs.Sat.{HasCut, IsSatOn}
-use Rattle.member_sittings.specs.Whole.{Commanded, IsToCut}
+use Rattle.member_sittings.specs.Whole.{Commanded, IsToCut, queue_of}
 use Rattle.member_sittings.proofs.KeepLemmas.{sat_given_up}
-use Rattle.member_sittings.proofs.SeatLemmas.{gives_one}
+use Rattle.member_sittings.proofs.SeatLemmas.{keeps_one}
 use Rattle.member_sittings.proofs.TurnLemmas.{all_of_one}
-use Rattle.member_giving.proofs.Resting.{fewer_left, fewer_told}
+use Rattle.member_frames.proofs.Answered.{fewer_left, fewer_told}
 use Rattle.member_frames.proofs.Arriving.{ends_next}
 use Rattle.member_frames.proofs.Getting.{arrival_got, arrival_refused, away_shaped, drop_closes, gives_two, got_fewer, got_of, got_servable, got_shaped, got_texts, is_refused, not_refused, of_more, told_shaped, two_entries, two_named, two_of}
 use Rattle.member_frames.proofs.Idle.{sat_nothing}
@@ -91,52 +91,41 @@ do_command-requires-in-No-clause-order g c =
 pub give_up_sitting-requires : goal.give_up_sitting-requires
 give_up_sitting-requires g c =
     let P = g.P.Plant in
-    let C = g.C.Copying in
-    let x = c.args.complex.now in
+    let x = parts_of c.args.complex.now in
     let m = c.args.member.now in
     let n = c.do_command.new.self in
     let e = c.do_command.ensures in
     let k = c.in-Ok.ensures in
     let d = c.args.stored in
     let got : Command = command.Got c.args.service.line d.number d.job d.text in
-    let at = c.args.holder.step in
+    let h = c.args.holder in
     let sits = c.requires.may.sits in
     let b = sits.seat.between in
     let v = P.view x.plant in
-    let Q : Queue = run x.base (kept_all x.journal.batches) in
+    let Q : Queue = queue_of x in
     let gone = lost_now v in
     let disks = spools_at v v.now in
     let per = x.base.config.groups in
     let p = k.pushed in
-    let one : n.batch ≡ entry_with m.id at got p.0 ∷ [] = only_entry m.batch n.batch (entry_with m.id at got p.0) p.1 b.nothing in
-    let member : is_member x.base.config m.id ≡ true = sits.seat.still.holds.member in
-    let did : Commanded m n = record {
-      id = e.id;
-      room = e.room;
-      here = e.behind ∙ sits.seat.still.here;
-      fresh = e.fresh;
-      level = e.level;
-      levels = e.levels;
-      pages = e.pages;
-      config = e.config;
-      spelling = e.spelling;
-      fit = e.fit;
-    } in
-    let bounds = c.requires.may.bounds in
-    let high = bounds.high in
-    let reached = bounds.reached in
-    subst (λ (k : Member). IsToCut P C (parts_of x) k c.args.holder) (sym c.in_default-do_command.ensures.err) (record {
-      gives = gives_one P C (parts_of x) m n did at sits got p.0 one member (c.requires.servable.line, c.requires.text) refl e.order k.done
-          (λ t. let s = b.sound t in k.sound s (ap (λ q. is_member q m.id) s.told.config ∙ ap (λ q. is_member q m.id) (sym sits.seat.still.config) ∙ member))
-          (λ t.
-          let tells = b.queue t in
-          let own = c.law_of_texts.ensures.told m.checkpoint.tables Q (b.sound t) tells in
-          let named : n.batch ≡ entry_of Q m.id at got ∷ [] = only_entry m.batch n.batch (entry_of Q m.id at got) (k.entry Q tells) b.nothing in
-          ∥∥₁_map (c.kept_texts.ensures.kept t) (λ has. subst (HasTexts gone disks per) (sym (run_append x.base (kept_all x.journal.batches) n.batch ∙ ap (run Q) named))
-          (got_texts gone disks per Q m.id own has c.law_of_entered_texts.ensures.got c.args.service.line d.number d.job d.text (c.requires.spooled refl t))));
-      bounds = record { high = subst (λ (i : ℕ). i + 1 < 2 ^ 63) (sym e.level) (omega (arith, high)); reached = omega (arith, reached); first = bounds.first; second = bounds.second };
-      holder = c.requires.may.holder ∙ sym e.id;
+    let kept = keeps_one P g.C.Copying x m n h got c.requires.may
+    (record {
+      did = record { id = e.id; room = e.room; here = e.behind ∙ sits.seat.still.here; fresh = e.fresh; level = e.level; levels = e.levels; pages = e.pages; config = e.config; spelling = e.spelling; fit = e.fit };
+      reply = p.0;
+      batch = only_entry m.batch n.batch (entry_with m.id h.step got p.0) p.1 b.nothing;
+      told = λ t. only_entry m.batch n.batch (entry_of Q m.id h.step got) (k.entry Q (b.queue t)) b.nothing;
+      order = e.order;
+      done = k.done;
+      sound = λ t. k.sound;
     })
+    (record {
+      may = sits.seat.still.holds.member;
+      fit = (c.requires.servable.line, c.requires.text);
+      unmarked = refl;
+      texts = λ t.
+          let own = c.law_of_texts.ensures.told m.checkpoint.tables Q (b.sound t) (b.queue t) in
+          ∥∥₁_map (c.kept_texts.ensures.kept t) (λ has. subst (HasTexts gone disks per) (sym (run_append x.base (kept_all x.batches) (entry_of Q m.id h.step got ∷ []))) (got_texts gone disks per Q m.id own has c.law_of_entered_texts.ensures.got c.args.service.line d.number d.job d.text (c.requires.spooled refl t)));
+    }) in
+    subst (λ (k : Member). IsToCut P g.C.Copying x k h) (sym c.in_default-do_command.ensures.err) (record { gives = kept.gives; bounds = kept.bounds; holder = kept.holder })
 
 pub returns-in_default-do_command-clause-sat : goal.returns-in_default-do_command-clause-sat
 returns-in_default-do_command-clause-sat g c =
@@ -334,53 +323,41 @@ overflow_add-got g c = let few = c.requires.servable.few in omega (arith, few)
 pub pause_sitting-requires : goal.pause_sitting-requires
 pause_sitting-requires g c =
     let P = g.P.Plant in
-    let C = g.C.Copying in
-    let x = c.args.complex.now in
+    let x = parts_of c.args.complex.now in
     let m = c.args.member.now in
     let n = c.do_command.new.self in
     let e = c.do_command.ensures in
     let k = c.in-Ok.ensures in
     let d = c.args.stored in
     let got : Command = command.Got c.args.service.line d.number d.job d.text in
-    let at = c.args.holder.step in
+    let h = c.args.holder in
     let sits = c.requires.may.sits in
     let b = sits.seat.between in
     let v = P.view x.plant in
-    let Q : Queue = run x.base (kept_all x.journal.batches) in
+    let Q : Queue = queue_of x in
     let gone = lost_now v in
     let disks = spools_at v v.now in
     let per = x.base.config.groups in
     let p = k.pushed in
-    let one : n.batch ≡ entry_with m.id at got p.0 ∷ [] = only_entry m.batch n.batch (entry_with m.id at got p.0) p.1 b.nothing in
-    let member : is_member x.base.config m.id ≡ true = sits.seat.still.holds.member in
-    let did : Commanded m n = record {
-      id = e.id;
-      room = e.room;
-      here = e.behind ∙ sits.seat.still.here;
-      fresh = e.fresh;
-      level = e.level;
-      levels = e.levels;
-      pages = e.pages;
-      config = e.config;
-      spelling = e.spelling;
-      fit = e.fit;
-    } in
-    let bounds = c.requires.may.bounds in
-    let high = bounds.high in
-    let reached = bounds.reached in
-    record {
-      gives = gives_one P C (parts_of x) m n did at sits got p.0 one member (c.requires.servable.line, c.requires.text) refl e.order k.done
-          (λ t. let s = b.sound t in k.sound s (ap (λ q. is_member q m.id) s.told.config ∙ ap (λ q. is_member q m.id) (sym sits.seat.still.config) ∙ member))
-          (λ t.
-          let tells = b.queue t in
-          let own = c.law_of_texts.ensures.told m.checkpoint.tables Q (b.sound t) tells in
-          let named : n.batch ≡ entry_of Q m.id at got ∷ [] = only_entry m.batch n.batch (entry_of Q m.id at got) (k.entry Q tells) b.nothing in
-          ∥∥₁_map (c.kept_texts.ensures.kept t) (λ has. subst (HasTexts gone disks per) (sym (run_append x.base (kept_all x.journal.batches) n.batch ∙ ap (run Q) named))
-          (got_texts gone disks per Q m.id own has c.law_of_entered_texts.ensures.got c.args.service.line d.number d.job d.text (c.requires.spooled refl t))));
-      some = some_of_one n.batch (entry_with m.id at got p.0) one;
-      bounds = record { high = subst (λ (i : ℕ). i + 1 < 2 ^ 63) (sym e.level) (omega (arith, high)); reached = omega (arith, reached); first = bounds.first; second = bounds.second };
-      holder = c.requires.may.holder ∙ sym e.id;
-    }
+    let kept = keeps_one P g.C.Copying x m n h got c.requires.may
+    (record {
+      did = record { id = e.id; room = e.room; here = e.behind ∙ sits.seat.still.here; fresh = e.fresh; level = e.level; levels = e.levels; pages = e.pages; config = e.config; spelling = e.spelling; fit = e.fit };
+      reply = p.0;
+      batch = only_entry m.batch n.batch (entry_with m.id h.step got p.0) p.1 b.nothing;
+      told = λ t. only_entry m.batch n.batch (entry_of Q m.id h.step got) (k.entry Q (b.queue t)) b.nothing;
+      order = e.order;
+      done = k.done;
+      sound = λ t. k.sound;
+    })
+    (record {
+      may = sits.seat.still.holds.member;
+      fit = (c.requires.servable.line, c.requires.text);
+      unmarked = refl;
+      texts = λ t.
+          let own = c.law_of_texts.ensures.told m.checkpoint.tables Q (b.sound t) (b.queue t) in
+          ∥∥₁_map (c.kept_texts.ensures.kept t) (λ has. subst (HasTexts gone disks per) (sym (run_append x.base (kept_all x.batches) (entry_of Q m.id h.step got ∷ []))) (got_texts gone disks per Q m.id own has c.law_of_entered_texts.ensures.got c.args.service.line d.number d.job d.text (c.requires.spooled refl t)));
+    }) in
+    kept
 
 pub returns-clause-sat : goal.returns-clause-sat
 returns-clause-sat g c =

@@ -21,8 +21,8 @@ use Rattle.step_turns.specs.declared.states.State.TheVariants.{Told}
 use Rattle.step_turns.specs.TurnParts.{says}
 use Rattle.member_sittings.specs.declared.ends.SittingEnd.{SittingEnd}
 use Rattle.member_giving.specs.Plays.{unwritten, wrote_of}
-use Rattle.member_giving.specs.Works.{Run, SitsIn}
-use Rattle.member_giving.proofs.Resting.{again_told, fewer_told}
+use Rattle.member_giving.specs.Works.{Run, SitsIn, outside, place_of}
+use Rattle.member_frames.proofs.Answered.{again_told, fewer_told}
 use Rattle.member_giving.proofs.Sat.{frame_of}
 use Rattle.member_giving.proofs.Seated.{low_bounds, works_sits}
 use Rattle.member_giving.proofs.Within.{unwritten_one}
@@ -33,6 +33,7 @@ use Rattle.member_frames.proofs.Arriving.{card_closes, cards_open, reads_line}
 use Rattle.member_frames.proofs.Idle.{sat_nothing}
 use Rattle.member_frames.proofs.SatLemmas.{line_room, sat_as, sat_line, sat_more, waits_left}
 use Rattle.member_frames.proofs.arrivals.open_arrival.Goals as goal
+use Rattle.member_frames.proofs.Bounded.{closes_line}
 
 -- THE FRAME
 
@@ -87,25 +88,25 @@ on_any : (r : Result SittingEnd NodeNo) (A : Type 0) → OnOk r A → IfOk r (λ
 on_any (Ok e) A a = a
 on_any (Err why) A a = tt
 
-pub close_line-requires-clause-works : goal.close_line-requires-clause-works
-close_line-requires-clause-works g c = works_sits c.args.complex.now c.args.member.now c.args.holder c.requires.may.sits c.requires.may.bounds c.requires.may.holder c.requires.base_sound
+pub close_step-requires-clause-works : goal.close_step-requires-clause-works
+close_step-requires-clause-works g c = works_sits c.args.complex.now c.args.member.now c.args.holder c.requires.may.sits c.requires.may.bounds c.requires.may.holder c.requires.base_sound
 
-pub close_line-requires-clause-room : goal.close_line-requires-clause-room
-close_line-requires-clause-room g c =
+pub close_step-requires-clause-room : goal.close_step-requires-clause-room
+close_step-requires-clause-room g c =
     let level = c.requires.level in
     line_room c.args.complex.now c.args.member.now (low_bounds c.args.complex.now c.args.member.now c.requires.may.bounds) 1 (omega arith) (omega (arith, level))
 
 pub returns-in-Err-BadCard-clause-frame : goal.returns-in-Err-BadCard-clause-frame
-returns-in-Err-BadCard-clause-frame g c = frame_of c.args.complex.now c.close_line.new.complex c.args.member.now c.close_line.new.member c.close_line.ensures.run
+returns-in-Err-BadCard-clause-frame g c = frame_of c.args.complex.now c.close_step.new.complex c.args.member.now c.close_step.new.member c.close_step.ensures.run
 
 pub returns-in-Err-BadCard-clause-id : goal.returns-in-Err-BadCard-clause-id
-returns-in-Err-BadCard-clause-id g c = ap (λ (r : Run). r.id) c.close_line.ensures.run
+returns-in-Err-BadCard-clause-id g c = ap (λ (r : Run). r.id) c.close_step.ensures.run
 
 pub returns-in-Err-BadCard-clause-opens : goal.returns-in-Err-BadCard-clause-opens
 returns-in-Err-BadCard-clause-opens g c =
     let P = g.P.Plant in
     let x = c.args.complex.now in
-    let y = c.close_line.new.complex in
+    let y = c.close_step.new.complex in
     let m = c.args.member.now in
     let h = c.args.holder in
     let s = c.args.service in
@@ -118,27 +119,27 @@ returns-in-Err-BadCard-clause-opens g c =
     let one = unwritten_one m.batch in
     let w = works_sits x m h c.requires.may.sits c.requires.may.bounds c.requires.may.holder c.requires.base_sound in
     let card = rw c.in-Err-BadCard.field-0-is at c.in-Err-BadCard.ensures.bad_card in
-    rw c.in-Job.is (sat_as P.tells h (2 * length s.frames + 3) t (begins h.by h.step 0 a s Q) x y c.close_line.result
+    rw c.in-Job.is (sat_as P.tells h (2 * length s.frames + 3) t (begins h.by h.step 0 a s Q) x y c.close_step.result
     (λ told.
     let config = (c.requires.may.sits.seat.between.queue told).config in
     card_closes Q h a s refused (subst (λ (k : Config). read_as k.node j.text ≡ Err refused) (sym config) card))
-    (sat_more P.tells h (2 * length s.frames + 3) (unwritten m.batch) t x y c.close_line.result (omega (arith, one))
-    (sat_line x y m h (unwritten m.batch) t (wrote_of m.batch t) c.close_line.result nothing w.still (λ told. ap (λ (es : List Entry). wrote_of es t) nothing) (rw c.in-Err-BadCard.field-0-is at c.close_line.ensures.serves))))
+    (sat_more P.tells h (2 * length s.frames + 3) (unwritten m.batch) t x y c.close_step.result (omega (arith, one))
+    (sat_line x y m h (unwritten m.batch) t (wrote_of m.batch t) c.close_step.result nothing w.still (λ told. ap (λ (es : List Entry). wrote_of es t) nothing) (closes_line P.tells h 0 m.batch (place_of x m) (outside y) c.close_step.result (closing.BadCard refused.card refused.cause) tt (rw c.in-Err-BadCard.field-0-is at c.close_step.ensures.played)))))
 
 pub returns-in-Err-BadCard-clause-again : goal.returns-in-Err-BadCard-clause-again
-returns-in-Err-BadCard-clause-again g c = again_told c.close_line.new.complex c.close_line.new.member c.args.holder.step c.close_line.result c.close_line.ensures.told c.close_line.ensures.seat
+returns-in-Err-BadCard-clause-again g c = again_told c.close_step.new.complex c.close_step.new.member c.args.holder.step c.close_step.result c.close_step.ensures.told c.close_step.ensures.seat
 
 pub returns-in-Err-BadCard-clause-waits : goal.returns-in-Err-BadCard-clause-waits
-returns-in-Err-BadCard-clause-waits g c = waits_left g.P.Plant.tells c.close_line.new.member c.close_line.result Told tt c.close_line.ensures.told
+returns-in-Err-BadCard-clause-waits g c = waits_left g.P.Plant.tells c.close_step.new.member c.close_step.result Told tt c.close_step.ensures.told
 
 pub returns-in-Err-BadCard-clause-fewer : goal.returns-in-Err-BadCard-clause-fewer
-returns-in-Err-BadCard-clause-fewer g c = let n = length c.args.service.frames in fewer_told (2 * n + 3) (2 * n + 2) c.close_line.result (omega arith) c.close_line.ensures.told
+returns-in-Err-BadCard-clause-fewer g c = let n = length c.args.service.frames in fewer_told (2 * n + 3) (2 * n + 2) c.close_step.result (omega arith) c.close_step.ensures.told
 
 pub returns-in-Err-BadCard-clause-reached : goal.returns-in-Err-BadCard-clause-reached
 returns-in-Err-BadCard-clause-reached g c =
     let x = c.args.complex.now in
-    let z = c.close_line.new.complex in
-    on_any c.close_line.result (z.level ≤ x.level + 1) c.close_line.ensures.reached
+    let z = c.close_step.new.complex in
+    on_any c.close_step.result (z.level ≤ x.level + 1) c.close_step.ensures.reached
 
 -- OUT OF MEMORY
 

@@ -1,7 +1,7 @@
 use Rattle.std.proofs.Common.{◌+◌, ◌*◌, ℕ, length, arith}
 use Rattle.mas_complex.specs.Parts.{parts_of}
 use Rattle.step_turns.specs.declared.states.State.TheVariants.{Told}
-use Rattle.member_giving.proofs.Resting.{fewer_told}
+use Rattle.member_frames.proofs.Answered.{fewer_told}
 use Rattle.member_frames.proofs.Getting.{lost_sat}
 use Rattle.member_frames.proofs.SatLemmas.{waits_left}
 use Rattle.member_frames.proofs.arrivals.sit_arrival.Goals as goal

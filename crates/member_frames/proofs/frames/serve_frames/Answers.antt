@@ -5,7 +5,8 @@ use Rattle.step_turns.specs.declared.states.Service.{Service}
 use Rattle.step_turns.specs.TurnParts.{Turn}
 use Rattle.member_giving.specs.Plays.{wrote_of}
 use Rattle.member_giving.specs.Works.{Run, queue_here, queue_kept}
-use Rattle.member_giving.proofs.Resting.{fewer_than, if_ok, tells_here}
+use Rattle.member_frames.proofs.Answered.{fewer_than, if_ok}
+use Rattle.member_giving.proofs.Resting.{tells_here}
 use Rattle.member_giving.proofs.Sat.{frame_of}
 use Rattle.member_giving.proofs.Seated.{low_bounds, works_sits}
 use Rattle.member_giving.proofs.Working.{kept_here}

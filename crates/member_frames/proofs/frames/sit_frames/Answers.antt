@@ -9,7 +9,7 @@ use Rattle.step_turns.specs.declared.states.Found.{Found}
 use Rattle.step_turns.specs.declared.states.State.TheVariants.{Away}
 use Rattle.member_sittings.specs.Sat.{HasSat, resumes}
 use Rattle.member_giving.specs.Works.{queue_kept}
-use Rattle.member_giving.proofs.Resting.{fewer_than, if_ok}
+use Rattle.member_frames.proofs.Answered.{fewer_than, if_ok}
 use Rattle.member_frames.specs.Plays.{ends_or_serves}
 use Rattle.member_frames.proofs.SatLemmas.{acknowledged_as, exchanged_as, grown_by, heard_few, heard_servable, sat_more, sat_state}
 use Rattle.member_frames.proofs.frames.sit_frames.Goals as goal

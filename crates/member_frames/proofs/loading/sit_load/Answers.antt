@@ -1,11 +1,10 @@
-use Rattle.std.proofs.Common.{◌≡◌, ◌∙◌, ◌+◌, ◌<◌, ◌^◌, ℕ, true, List, [], ◌∷◌, Option, refl, sym, ap, subst, arith}
+use Rattle.std.proofs.Common.{◌≡◌, ◌∙◌, List, [], ◌∷◌, Option, refl, sym, ap, subst, arith}
 use Rattle.std.proofs.Math.Logic.{∥∥₁_map}
 use Rattle.mas_types.specs.declared.commands.Command.{Command}
 use Rattle.mas_types.specs.declared.commands.Command.TheVariants as command
 use Rattle.mas_types.specs.declared.ids.MemberId.{MemberId}
 use Rattle.mas_types.specs.declared.journals.Entry.{Entry}
 use Rattle.mas_types.specs.declared.queues.Queue.{Queue}
-use Rattle.mas_types.specs.Queue.{is_member}
 use Rattle.ckpt_tables.specs.declared.tables.Tables.{Tables}
 use Rattle.mas_complex.specs.Journals.{kept_all}
 use Rattle.mas_complex.specs.Meaning.{run}
@@ -14,7 +13,7 @@ use Rattle.mas_complex.specs.Texts.{HasTexts, lost_now, spools_at}
 use Rattle.member_node.proofs.TextLemmas.{texts_after}
 use Rattle.member_node.proofs.WriteLemmas.{none_out, run_append}
 use Rattle.member_steps.specs.Steps.{entry_of, entry_with}
-use Rattle.member_steps.proofs.StepLemmas.{if_ok, only_entry, some_of_one}
+use Rattle.member_steps.proofs.StepLemmas.{if_ok, only_entry}
 use Rattle.member_decks.proofs.FinishLemmas.{one_of}
 use Rattle.member_decks.proofs.OpenLemmas.{reply_done}
 use Rattle.step_turns.specs.Entries.{reply_to}
@@ -24,14 +23,14 @@ use Rattle.step_turns.specs.declared.states.State.TheVariants.{Away}
 use Rattle.step_turns.specs.declared.states.Aside.TheVariants.{Exchange}
 use Rattle.member_sittings.specs.Ends.{ends_in}
 use Rattle.member_sittings.specs.Sat.{IsEndOf, IsSatOn}
-use Rattle.member_sittings.specs.Whole.{Commanded}
 use Rattle.member_sittings.proofs.KeepLemmas.{sat_none}
-use Rattle.member_sittings.proofs.SeatLemmas.{gives_one}
+use Rattle.member_sittings.proofs.SeatLemmas.{keeps_one}
 use Rattle.member_sittings.proofs.TurnLemmas.{all_of_one}
-use Rattle.member_giving.proofs.Resting.{if_ok as if_answered}
+use Rattle.member_frames.proofs.Answered.{if_ok as if_answered}
 use Rattle.member_frames.specs.Waits.{IsOfferThere}
 use Rattle.member_frames.proofs.Loaded.{load_sits}
 use Rattle.member_frames.proofs.SatLemmas.{waits_left}
+use Rattle.member_sittings.specs.Whole.{queue_of}
 use Rattle.member_frames.proofs.loading.sit_load.Goals as goal
 
 pub do_command-requires-clause-command : goal.do_command-requires-clause-command
@@ -66,53 +65,40 @@ returns-in_default-clause-sat g c =
 pub pause_sitting-requires : goal.pause_sitting-requires
 pause_sitting-requires g c =
     let P = g.P.Plant in
-    let C = g.C.Copying in
-    let x = c.args.complex.now in
+    let x = parts_of c.args.complex.now in
     let m = c.args.member.now in
     let n = c.do_command.new.self in
     let e = c.do_command.ensures in
     let k = c.in-Ok.ensures in
-    let l = c.args.line in
-    let load : Command = command.Load l in
-    let at = c.args.holder.step in
+    let load : Command = command.Load c.args.line in
+    let h = c.args.holder in
     let sits = c.requires.may.sits in
     let b = sits.seat.between in
     let v = P.view x.plant in
-    let Q : Queue = run x.base (kept_all x.journal.batches) in
+    let Q : Queue = queue_of x in
     let gone = lost_now v in
     let disks = spools_at v v.now in
     let per = x.base.config.groups in
     let p = k.pushed in
-    let one : n.batch ≡ entry_with m.id at load p.0 ∷ [] = only_entry m.batch n.batch (entry_with m.id at load p.0) p.1 b.nothing in
-    let member : is_member x.base.config m.id ≡ true = sits.seat.still.holds.member in
-    let did : Commanded m n = record {
-      id = e.id;
-      room = e.room;
-      here = e.behind ∙ sits.seat.still.here;
-      fresh = e.fresh;
-      level = e.level;
-      levels = e.levels;
-      pages = e.pages;
-      config = e.config;
-      spelling = e.spelling;
-      fit = e.fit;
-    } in
-    let bounds = c.requires.may.bounds in
-    let high = bounds.high in
-    let reached = bounds.reached in
-    record {
-      gives = gives_one P C (parts_of x) m n did at sits load p.0 one member c.requires.line refl e.order k.done
-          (λ t. let s = b.sound t in k.sound s (ap (λ q. is_member q m.id) s.told.config ∙ ap (λ q. is_member q m.id) (sym sits.seat.still.config) ∙ member))
-          (λ t.
-          let tells = b.queue t in
-          let own = c.law_of_texts.ensures.told m.checkpoint.tables Q (b.sound t) tells in
-          let named : n.batch ≡ entry_of Q m.id at load ∷ [] = only_entry m.batch n.batch (entry_of Q m.id at load) (k.entry Q tells) b.nothing in
-          ∥∥₁_map (c.kept_texts.ensures.kept t) (λ has. subst (HasTexts gone disks per) (sym (run_append x.base (kept_all x.journal.batches) n.batch ∙ ap (run Q) named))
-          (texts_after c.law_of_texts.ensures.texts gone disks per Q m.id load refl own has)));
-      some = some_of_one n.batch (entry_with m.id at load p.0) one;
-      bounds = record { high = subst (λ (i : ℕ). i + 1 < 2 ^ 63) (sym e.level) (omega (arith, high)); reached = omega (arith, reached); first = bounds.first; second = bounds.second };
-      holder = c.requires.may.holder ∙ sym e.id;
-    }
+    let kept = keeps_one P g.C.Copying x m n h load c.requires.may
+    (record {
+      did = record { id = e.id; room = e.room; here = e.behind ∙ sits.seat.still.here; fresh = e.fresh; level = e.level; levels = e.levels; pages = e.pages; config = e.config; spelling = e.spelling; fit = e.fit };
+      reply = p.0;
+      batch = only_entry m.batch n.batch (entry_with m.id h.step load p.0) p.1 b.nothing;
+      told = λ t. only_entry m.batch n.batch (entry_of Q m.id h.step load) (k.entry Q (b.queue t)) b.nothing;
+      order = e.order;
+      done = k.done;
+      sound = λ t. k.sound;
+    })
+    (record {
+      may = sits.seat.still.holds.member;
+      fit = c.requires.line;
+      unmarked = refl;
+      texts = λ t.
+          let own = c.law_of_texts.ensures.told m.checkpoint.tables Q (b.sound t) (b.queue t) in
+          ∥∥₁_map (c.kept_texts.ensures.kept t) (λ has. subst (HasTexts gone disks per) (sym (run_append x.base (kept_all x.batches) (entry_of Q m.id h.step load ∷ []))) (texts_after c.law_of_texts.ensures.texts gone disks per Q m.id load refl own has));
+    }) in
+    kept
 
 pub returns-clause-sat : goal.returns-clause-sat
 returns-clause-sat g c =

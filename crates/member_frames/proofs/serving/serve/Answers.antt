@@ -7,8 +7,11 @@ use Rattle.step_turns.specs.declared.states.State.TheVariants.{Away, Told}
 use Rattle.step_turns.specs.TurnParts.{leaves}
 use Rattle.member_giving.specs.Plays.{unwritten, wrote_of}
 use Rattle.member_giving.specs.Works.{outside, place_of, queue_here}
+use Rattle.ckpt_tables.specs.declared.tables.Tables.{Tables}
+use Rattle.member_giving.proofs.Cuts.{after_few}
 use Rattle.member_giving.proofs.Going.{played_as}
-use Rattle.member_giving.proofs.Resting.{again_left, again_told, fewer_left, fewer_told, reached_left, tells_here}
+use Rattle.member_frames.proofs.Answered.{again_left, again_told, fewer_left, fewer_told, reached_left}
+use Rattle.member_giving.proofs.Resting.{tells_here}
 use Rattle.member_giving.proofs.Working.{less_room, own_batch}
 use Rattle.member_frames.specs.declared.nexts.Next.TheVariants as next
 use Rattle.member_frames.specs.Nexts.{frames_in, next_of, turn_by}
@@ -18,6 +21,8 @@ use Rattle.member_frames.proofs.Fronts.{begin_waits, counted_frames, counted_ser
 use Rattle.member_frames.proofs.Sending.{send_error, send_full_error, send_then, serves_more}
 use Rattle.member_frames.proofs.SatLemmas.{waits_left}
 use Rattle.member_frames.proofs.serving.serve.Goals as goal
+use Rattle.member_frames.proofs.Bounded.{closes_line, leaves_line}
+use Rattle.mas_types.specs.declared.answers.Closing.TheVariants as closing
 
 pub frames-init : goal.frames-init
 frames-init g c =
@@ -48,14 +53,11 @@ frames-init g c =
 
 -- A JOB BEGINS: it waits for the next sitting
 
-pub leave_line-requires-clause-room : goal.leave_line-requires-clause-room
-leave_line-requires-clause-room g c = less_room c.frames.complex c.frames.member 1 (frames_in c.frames.next + 1) (omega arith) c.frames.invariant.room
-
-pub leave_line-requires-clause-waits : goal.leave_line-requires-clause-waits
-leave_line-requires-clause-waits g c told = absurd (cc)
+pub leave_step-requires-clause-room : goal.leave_step-requires-clause-room
+leave_step-requires-clause-room g c = less_room c.frames.complex c.frames.member 1 (frames_in c.frames.next + 1) (omega arith) c.frames.invariant.room
 
 pub returns-in-Begin-clause-run : goal.returns-in-Begin-clause-run
-returns-in-Begin-clause-run g c = c.leave_line.ensures.run ∙ c.frames.invariant.run
+returns-in-Begin-clause-run g c = c.leave_step.ensures.run ∙ c.frames.invariant.run
 
 pub returns-in-Begin-clause-serves : goal.returns-in-Begin-clause-serves
 returns-in-Begin-clause-serves g c =
@@ -67,22 +69,22 @@ returns-in-Begin-clause-serves g c =
     let s = c.in-Begin.service in
     let given = c.frames.given in
     let Q = queue_here z n in
-    let new = outside c.leave_line.new.complex in
+    let new = outside c.leave_step.new.complex in
     let v = rw c.in-Begin.is at i.servable in
     let job = v.1 in
     let some = some_given given (rw c.in-Begin.is at i.begins) in
     let a = Away (Acknowledge None s) in
-    i.then new c.leave_line.result
-    (rw c.in-Begin.is (played_as P.tells h (IsWithinLine h (2 * length s.frames + 1 + unwritten n.batch)) given (wrote_of n.batch (leaves a)) (wrote_of n.batch (turn_by h.by h.step (next.Begin s) Q given)) (place_of z n) new c.leave_line.result
-    (λ t. ap (wrote_of n.batch) (sym (begin_waits h.by h.step s.frames s Q given job some))) c.leave_line.ensures.serves))
+    i.then new c.leave_step.result
+    (rw c.in-Begin.is (played_as P.tells h (IsWithinLine h (2 * length s.frames + 1 + unwritten n.batch)) given (wrote_of n.batch (leaves a)) (wrote_of n.batch (turn_by h.by h.step (next.Begin s) Q given)) (place_of z n) new c.leave_step.result
+    (λ t. ap (wrote_of n.batch) (sym (begin_waits h.by h.step s.frames s Q given job some))) (leaves_line P.tells h given n.batch (place_of z n) new c.leave_step.result a (λ told. absurd (cc)) c.leave_step.ensures.played)))
 
 pub returns-in-Begin-clause-again : goal.returns-in-Begin-clause-again
-returns-in-Begin-clause-again g c = again_left c.leave_line.new.complex c.leave_line.new.member c.args.holder c.leave_line.result _ (λ s. s) c.leave_line.ensures.next c.leave_line.ensures.works c.leave_line.ensures.nothing
+returns-in-Begin-clause-again g c = again_left c.leave_step.new.complex c.leave_step.new.member c.args.holder c.leave_step.result _ (λ s. s) c.leave_step.ensures.next c.leave_step.ensures.works c.leave_step.ensures.nothing
 
 pub returns-in-Begin-clause-waits : goal.returns-in-Begin-clause-waits
 returns-in-Begin-clause-waits g c =
     let v = rw c.in-Begin.is at c.frames.invariant.servable in
-    waits_left g.P.Plant.tells c.leave_line.new.member c.leave_line.result (Away (Acknowledge None c.in-Begin.service)) v.0 c.leave_line.ensures.next
+    waits_left g.P.Plant.tells c.leave_step.new.member c.leave_step.result (Away (Acknowledge None c.in-Begin.service)) v.0 c.leave_step.ensures.next
 
 pub returns-in-Begin-clause-fewer : goal.returns-in-Begin-clause-fewer
 returns-in-Begin-clause-fewer g c =
@@ -90,25 +92,22 @@ returns-in-Begin-clause-fewer g c =
     let n = frames_in c.args.first in
     let left = rw c.in-Begin.is at i.left in
     let some = some_given c.frames.given (rw c.in-Begin.is at i.begins) in
-    fewer_left (2 * n + 1) (2 * n) c.leave_line.result (Away (Acknowledge None c.in-Begin.service)) (record { falls = omega (arith, left, some); few = omega (arith, left) }) c.leave_line.ensures.next
+    fewer_left (2 * n + 1) (2 * n) c.leave_step.result (Away (Acknowledge None c.in-Begin.service)) (record { falls = omega (arith, left, some); few = omega (arith, left) }) c.leave_step.ensures.next
 
 pub returns-in-Begin-clause-reached : goal.returns-in-Begin-clause-reached
 returns-in-Begin-clause-reached g c =
     let i = c.frames.invariant in
     let left = rw c.in-Begin.is at i.left in
     let level = i.level in
-    reached_left c.leave_line.new.complex (c.args.complex.now.level + 2 * frames_in c.args.first + 1) c.frames.complex.level c.leave_line.result (Away (Acknowledge None c.in-Begin.service)) (omega (arith, left, level)) c.leave_line.ensures.next c.leave_line.ensures.reached
+    reached_left c.leave_step.new.complex (c.args.complex.now.level + 2 * frames_in c.args.first + 1) c.frames.complex.level c.leave_step.result (Away (Acknowledge None c.in-Begin.service)) (omega (arith, left, level)) c.leave_step.ensures.next c.leave_step.ensures.reached
 
 -- A JOB IS ACKNOWLEDGED AGAIN
 
-pub leave_line-requires-in-Again-clause-room : goal.leave_line-requires-in-Again-clause-room
-leave_line-requires-in-Again-clause-room g c = less_room c.frames.complex c.frames.member 1 (frames_in c.frames.next + 1) (omega arith) c.frames.invariant.room
-
-pub leave_line-requires-in-Again-clause-waits : goal.leave_line-requires-in-Again-clause-waits
-leave_line-requires-in-Again-clause-waits g c told = absurd (cc)
+pub leave_step-requires-in-Again-clause-room : goal.leave_step-requires-in-Again-clause-room
+leave_step-requires-in-Again-clause-room g c = less_room c.frames.complex c.frames.member 1 (frames_in c.frames.next + 1) (omega arith) c.frames.invariant.room
 
 pub returns-in-Again-clause-run : goal.returns-in-Again-clause-run
-returns-in-Again-clause-run g c = c.leave_line-in-Again.ensures.run ∙ c.frames.invariant.run
+returns-in-Again-clause-run g c = c.leave_step-in-Again.ensures.run ∙ c.frames.invariant.run
 
 pub returns-in-Again-clause-serves : goal.returns-in-Again-clause-serves
 returns-in-Again-clause-serves g c =
@@ -119,27 +118,27 @@ returns-in-Again-clause-serves g c =
     let n = c.frames.member in
     let s = c.in-Again.service in
     let k = c.in-Again.number in
-    let l = c.leave_line-in-Again in
+    let l = c.leave_step-in-Again in
     let new = outside l.new.complex in
     i.then new l.result
-    (rw c.in-Again.is (serves_more P.tells h (2 * suc (length s.frames) + 1 + unwritten n.batch) (2 * length s.frames + 1 + unwritten n.batch) c.frames.given (wrote_of n.batch (leaves (Away (Acknowledge (Some k) s)))) (place_of z n) new l.result (omega arith) l.ensures.serves))
+    (rw c.in-Again.is (serves_more P.tells h (2 * suc (length s.frames) + 1 + unwritten n.batch) (2 * length s.frames + 1 + unwritten n.batch) c.frames.given (wrote_of n.batch (leaves (Away (Acknowledge (Some k) s)))) (place_of z n) new l.result (omega arith) (leaves_line P.tells h c.frames.given n.batch (place_of z n) new l.result (Away (Acknowledge (Some k) s)) (λ told. absurd (cc)) l.ensures.played)))
 
 pub returns-in-Again-clause-again : goal.returns-in-Again-clause-again
 returns-in-Again-clause-again g c =
-    let l = c.leave_line-in-Again in
+    let l = c.leave_step-in-Again in
     again_left l.new.complex l.new.member c.args.holder l.result _ (λ s. s) l.ensures.next l.ensures.works l.ensures.nothing
 
 pub returns-in-Again-clause-waits : goal.returns-in-Again-clause-waits
 returns-in-Again-clause-waits g c =
     let v = rw c.in-Again.is at c.frames.invariant.servable in
-    let l = c.leave_line-in-Again in
+    let l = c.leave_step-in-Again in
     waits_left g.P.Plant.tells l.new.member l.result (Away (Acknowledge (Some c.in-Again.number) c.in-Again.service)) v.0 l.ensures.next
 
 pub returns-in-Again-clause-fewer : goal.returns-in-Again-clause-fewer
 returns-in-Again-clause-fewer g c =
     let n = frames_in c.args.first in
     let left = rw c.in-Again.is at c.frames.invariant.left in
-    let l = c.leave_line-in-Again in
+    let l = c.leave_step-in-Again in
     fewer_left (2 * n + 1) (2 * n) l.result (Away (Acknowledge (Some c.in-Again.number) c.in-Again.service)) (record { falls = omega (arith, left); few = omega (arith, left) }) l.ensures.next
 
 pub returns-in-Again-clause-reached : goal.returns-in-Again-clause-reached
@@ -147,16 +146,16 @@ returns-in-Again-clause-reached g c =
     let i = c.frames.invariant in
     let left = rw c.in-Again.is at i.left in
     let level = i.level in
-    let l = c.leave_line-in-Again in
+    let l = c.leave_step-in-Again in
     reached_left l.new.complex (c.args.complex.now.level + 2 * frames_in c.args.first + 1) c.frames.complex.level l.result (Away (Acknowledge (Some c.in-Again.number) c.in-Again.service)) (omega (arith, left, level)) l.ensures.next l.ensures.reached
 
 -- NO FRAME IS LEFT
 
-pub close_line-requires-clause-room : goal.close_line-requires-clause-room
-close_line-requires-clause-room g c = less_room c.frames.complex c.frames.member 1 (frames_in c.frames.next + 1) (omega arith) c.frames.invariant.room
+pub close_step-requires-clause-room : goal.close_step-requires-clause-room
+close_step-requires-clause-room g c = less_room c.frames.complex c.frames.member 1 (frames_in c.frames.next + 1) (omega arith) c.frames.invariant.room
 
 pub returns-in-End-clause-run : goal.returns-in-End-clause-run
-returns-in-End-clause-run g c = c.close_line.ensures.run ∙ c.frames.invariant.run
+returns-in-End-clause-run g c = c.close_step.ensures.run ∙ c.frames.invariant.run
 
 pub returns-in-End-clause-serves : goal.returns-in-End-clause-serves
 returns-in-End-clause-serves g c =
@@ -166,25 +165,25 @@ returns-in-End-clause-serves g c =
     let z = c.frames.complex in
     let n = c.frames.member in
     let s = c.in-End.service in
-    let new = outside c.close_line.new.complex in
-    i.then new c.close_line.result
-    (rw c.in-End.is (serves_more P.tells h (2 * length s.frames + 1 + unwritten n.batch) (unwritten n.batch) c.frames.given (wrote_of n.batch (turn_by h.by h.step (next.End s) (queue_here z n) c.frames.given)) (place_of z n) new c.close_line.result (omega arith) c.close_line.ensures.serves))
+    let new = outside c.close_step.new.complex in
+    i.then new c.close_step.result
+    (rw c.in-End.is (serves_more P.tells h (2 * length s.frames + 1 + unwritten n.batch) (unwritten n.batch) c.frames.given (wrote_of n.batch (turn_by h.by h.step (next.End s) (queue_here z n) c.frames.given)) (place_of z n) new c.close_step.result (omega arith) (closes_line P.tells h c.frames.given n.batch (place_of z n) new c.close_step.result (closing.Line s.sent s.got) tt c.close_step.ensures.played)))
 
 pub returns-in-End-clause-again : goal.returns-in-End-clause-again
-returns-in-End-clause-again g c = again_told c.close_line.new.complex c.close_line.new.member c.args.holder.step c.close_line.result c.close_line.ensures.told c.close_line.ensures.seat
+returns-in-End-clause-again g c = again_told c.close_step.new.complex c.close_step.new.member c.args.holder.step c.close_step.result c.close_step.ensures.told c.close_step.ensures.seat
 
 pub returns-in-End-clause-waits : goal.returns-in-End-clause-waits
-returns-in-End-clause-waits g c = waits_left g.P.Plant.tells c.close_line.new.member c.close_line.result Told tt c.close_line.ensures.told
+returns-in-End-clause-waits g c = waits_left g.P.Plant.tells c.close_step.new.member c.close_step.result Told tt c.close_step.ensures.told
 
 pub returns-in-End-clause-fewer : goal.returns-in-End-clause-fewer
-returns-in-End-clause-fewer g c = let n = frames_in c.args.first in fewer_told (2 * n + 1) (2 * n) c.close_line.result (omega arith) c.close_line.ensures.told
+returns-in-End-clause-fewer g c = let n = frames_in c.args.first in fewer_told (2 * n + 1) (2 * n) c.close_step.result (omega arith) c.close_step.ensures.told
 
 pub returns-in-End-clause-reached : goal.returns-in-End-clause-reached
 returns-in-End-clause-reached g c =
     let i = c.frames.invariant in
     let left = i.left in
     let level = i.level in
-    reached_left c.close_line.new.complex (c.args.complex.now.level + 2 * frames_in c.args.first + 1) c.frames.complex.level c.close_line.result Told (omega (arith, left, level)) c.close_line.ensures.told c.close_line.ensures.reached
+    reached_left c.close_step.new.complex (c.args.complex.now.level + 2 * frames_in c.args.first + 1) c.frames.complex.level c.close_step.result Told (omega (arith, left, level)) c.close_step.ensures.told c.close_step.ensures.reached
 
 -- A JOB HAS LEFT: Sent is given
 
@@ -289,7 +288,7 @@ frames-preserved g c =
     let high = room.high in
     let level = room.level in
     let kept = o.uses (length s.frames + 1) (record { order = omega (arith, order, more); high = omega (arith, high, same_high); level = omega (arith, level, same_level) }) in
-    let kept_order = o.order in
+    let kept_order = ap (λ (t : Tables). t.order) o.tables in
     let kept_high = kept.high in
     let kept_level = kept.level in
     let reached = i.level in
@@ -297,7 +296,7 @@ frames-preserved g c =
     record {
       run = c.keep_full.ensures.run ∙ c.give_part.ensures.run ∙ i.run;
       works = o.works;
-      few = o.few;
+      few = let few = after_few k.batch in let same = ap (λ (es : List Entry). length es) o.left in omega (arith, few, same);
       servable = right.servable;
       room = record { order = omega (arith, order, more, kept_order, fewer); high = omega (arith, kept_high, fewer); level = omega (arith, kept_level, fewer) };
       order = omega (arith, order, more, kept_order, fewer);

@@ -2,7 +2,7 @@ use Rattle.std.proofs.Common.{◌≡◌, ◌+◌, ◌*◌, ◌≤◌, ◌<◌, �
 use Rattle.member_node.specs.declared.member.NodeNo.{NodeNo}
 use Rattle.step_turns.specs.Serving.{taken_most}
 use Rattle.member_sittings.specs.declared.ends.SittingEnd.{SittingEnd}
-use Rattle.member_giving.specs.Plays.{unwritten, wrote_of}
+use Rattle.member_giving.specs.Plays.{unwritten, wrote_of, to_play}
 use Rattle.member_giving.specs.Works.{HasRoom, Outside, Works, place_of, queue_here, run_of}
 use Rattle.member_frames.specs.Nexts.{IsNoBegin, IsServableNext, frames_in, turn_by}
 use Rattle.member_frames.specs.Plays.{ServesLine}
@@ -32,6 +32,6 @@ invariant-frames g l =
       begins : l.given ≡ 0 → IsNoBegin l.next;
       level : z.level ≤ x.level + l.given;
       then : (new : Outside) (r : Result SittingEnd NodeNo)
-          → ServesLine P.tells h (2 * frames_in l.next + 1 + unwritten n.batch) l.given (wrote_of n.batch (turn_by h.by h.step l.next (queue_here z n) l.given)) (place_of z n) new r
-          → ServesLine P.tells h (2 * frames_in l.fn.first + 1) 0 (wrote_of [] (turn_by h.by h.step l.fn.first (queue_here x m) 0)) (place_of x m) new r;
+          → ServesLine P.tells (2 * frames_in l.next + 1 + unwritten n.batch) (to_play h l.given (wrote_of n.batch (turn_by h.by h.step l.next (queue_here z n) l.given))) (place_of z n) new r
+          → ServesLine P.tells (2 * frames_in l.fn.first + 1) (to_play h 0 (wrote_of [] (turn_by h.by h.step l.fn.first (queue_here x m) 0))) (place_of x m) new r;
     }

@@ -1,44 +1,26 @@
-use Rattle.member_giving.proofs.Names.{◌≡◌, ◌+◌, Bool, List, Ok, Err, ◌∙◌, ap, refl, subst, sym, arith, Ckpt1, Ckpt2, Entry, Journal, Tables, disk_now, values_of, pages_had, none_out, HasCounted, counted_by, counted_none, counted_on, batch_of, Keeps, outside, All-weaker, parts_of}
-use Rattle.std.proofs.lemmas.Result.{err_from_is_err_and}
+use Rattle.member_giving.proofs.Names.{all_entries, ◌≡◌, Bool, Ok, Err, ◌∙◌, ap, refl, subst, sym, arith, Ckpt1, Ckpt2, Entry, Journal, Tables, disk_now, values_of, pages_had, none_out, counted_by, counted_on, batch_of, outside, All-weaker, parts_of, [], between_by, Kept, sits_kept, err_from_is_err_and, length, ◌≤◌}
 use Rattle.ckpt_copy.specs.Moments.{goes_on}
 use Rattle.member_node.specs.Copies.{RestsAt}
-use Rattle.member_steps.proofs.ReadLemmas.{between_by}
-use Rattle.member_asides.proofs.SeatLemmas.{Kept, sits_kept}
-use Rattle.member_giving.proofs.Given.{kept_not, kept_then, spares_of, spares_then}
-use Rattle.member_giving.proofs.Going.{apart_none}
-use Rattle.member_giving.proofs.Working.{less_room, none_flies, queue_after, same_run, uses_one, same_out}
-use Rattle.member_giving.proofs.Cuts.{none_batch, some_batch}
-use Rattle.member_giving.proofs.Keeping.{keeping_none, quiet}
+use Rattle.member_giving.proofs.Given.{kept_none, kept_not, kept_then, spares_of, spares_then}
+use Rattle.member_giving.proofs.Going.{counted_as}
+use Rattle.member_giving.proofs.Working.{none_flies, queue_after, same_run, uses_one, same_out}
+use Rattle.member_giving.proofs.Cuts.{batch_entries, none_batch}
+use Rattle.member_giving.proofs.Keeping.{quiet}
 use Rattle.member_giving.proofs.Seated.{gives_works, works_seat}
 use Rattle.member_giving.proofs.giving.keep.Goals as goal
 
 -- NOTHING WAS GIVEN
 
-pub returns-then-len-eq0-clause-keeps : goal.returns-then-len-eq0-clause-keeps
-returns-then-len-eq0-clause-keeps g c =
-    let o = outside c.args.complex.now in
-    let h = c.args.holder in
-    subst (λ (es : List Entry). Keeps {T = Unit {0}} g.P.Plant.tells h.by (batch_of es) o o (Ok tt)) (sym (none_batch c.args.member.now.batch (omega arith))) (keeping_none g.P.Plant.tells h.by o)
-
-pub returns-then-len-eq0-clause-spares : goal.returns-then-len-eq0-clause-spares
-returns-then-len-eq0-clause-spares g c = apart_none g.P.Plant.tells c.args.holder.by (outside c.args.complex.now)
-
-pub returns-then-len-eq0-clause-nothing : goal.returns-then-len-eq0-clause-nothing
-returns-then-len-eq0-clause-nothing g c = none_batch c.args.member.now.batch (omega arith)
-
-pub returns-then-len-eq0-clause-uses : goal.returns-then-len-eq0-clause-uses
-returns-then-len-eq0-clause-uses g c k room = less_room c.args.complex.now c.args.member.now k (k + 1) (omega arith) room
-
-pub returns-then-len-eq0-clause-counts : goal.returns-then-len-eq0-clause-counts
-returns-then-len-eq0-clause-counts g c =
-    let printed = c.args.complex.now.printed in
-    let by = c.args.holder.by in
-    subst (λ (es : List Entry). HasCounted {T = Unit {0}} by es printed printed (Ok tt)) (sym (none_batch c.args.member.now.batch (omega arith))) (counted_none by printed printed (Ok tt) refl)
+pub returns-then-len-eq0 : goal.returns-then-len-eq0
+returns-then-len-eq0 g c =
+    let m = c.args.member.now in
+    let none = none_batch m.batch (omega arith) in
+    kept_none c.args.complex.now m c.args.holder c.requires.works (batch_of m.batch) [] (ap batch_of none) none
 
 -- THE BATCH
 
 pub keep_batch-requires-clause-some : goal.keep_batch-requires-clause-some
-keep_batch-requires-clause-some g c = some_batch c.args.member.now.batch (omega arith)
+keep_batch-requires-clause-some g c = omega arith
 
 pub keep_batch-requires-clause-by : goal.keep_batch-requires-clause-by
 keep_batch-requires-clause-by g c = c.requires.works.still.holds.few
@@ -50,28 +32,30 @@ pub keep_batch-requires-clause-untold : goal.keep_batch-requires-clause-untold
 keep_batch-requires-clause-untold g c told = c.requires.works.untold told c.args.member.now.batch c.requires.works.of
 
 pub keep_batch-requires-clause-texts : goal.keep_batch-requires-clause-texts
-keep_batch-requires-clause-texts g c told = c.requires.works.texts (some_batch c.args.member.now.batch (omega arith)) told
+keep_batch-requires-clause-texts g c told = c.requires.works.texts (omega arith) told
 
-pub returns-in_err-keep_batch-clause-run : goal.returns-in_err-keep_batch-clause-run
-returns-in_err-keep_batch-clause-run g c =
+pub returns-in_err-keep_batch : goal.returns-in_err-keep_batch
+returns-in_err-keep_batch g c =
+    let x = c.args.complex.now in
+    let y = c.keep_batch.new.complex in
+    let m = c.args.member.now in
+    let h = c.args.holder in
+    let w = c.requires.works in
     let k = c.keep_batch.ensures in
-    same_run c.args.complex.now c.keep_batch.new.complex c.args.member.now c.keep_batch.new.member c.args.holder k.base k.since k.renewals k.book k.id
-
-pub returns-in_err-keep_batch-clause-keeps : goal.returns-in_err-keep_batch-clause-keeps
-returns-in_err-keep_batch-clause-keeps g c =
-    let m = c.args.member.now in
-    let q = err_from_is_err_and c.from_residual.result c.from_residual.ensures.1 in
     let e = c.in_err-keep_batch.ensures in
-    rw (q.1, q.2) (kept_not c.args.complex.now c.keep_batch.new.complex m c.args.holder c.requires.works (some_batch m.batch (omega arith)) _ e.acts e.leaves)
-
-pub returns-in_err-keep_batch-clause-spares : goal.returns-in_err-keep_batch-clause-spares
-returns-in_err-keep_batch-clause-spares g c = spares_of c.args.complex.now c.keep_batch.new.complex c.args.holder.by c.args.member.now.id c.requires.works.own c.keep_batch.ensures.acts.apart c.keep_batch.ensures.notes.others
-
-pub returns-in_err-keep_batch-clause-counts : goal.returns-in_err-keep_batch-clause-counts
-returns-in_err-keep_batch-clause-counts g c =
-    let m = c.args.member.now in
     let q = err_from_is_err_and c.from_residual.result c.from_residual.ensures.1 in
-    rw (q.1, q.2) (counted_by m.id c.args.holder.by m.batch c.args.complex.now.printed c.keep_batch.new.complex.printed (Err _) (sym c.requires.works.own) c.in_err-keep_batch.ensures.counts)
+    rw (q.1, q.2) (record {
+      run = same_run x y m c.keep_batch.new.member h k.base k.since k.renewals k.book k.id;
+      keeps = kept_not x y m h w (omega arith) _ e.acts e.leaves;
+      spares = spares_of x y h.by m.id w.own k.acts.apart k.notes.others;
+      tables = k.tables;
+      left = tt;
+      works = tt;
+      queue = tt;
+      uses = tt;
+      reached = tt;
+      counts = counted_as (all_entries (batch_of m.batch)) m.batch x.printed y.printed (batch_entries m.batch) (Err _) (counted_by m.id h.by m.batch x.printed y.printed (Err _) (sym w.own) e.counts);
+    })
 
 -- ROOM FOR THE NEXT ONE
 
@@ -83,32 +67,31 @@ primary-requires g c = record {
   rests2 = rw c.keep_batch.ensures.here c.in_ok-keep_batch.ensures.rests2;
 }
 
-pub returns-in_err-primary-clause-run : goal.returns-in_err-primary-clause-run
-returns-in_err-primary-clause-run g c =
-    let k = c.keep_batch.ensures in
-    let p = c.primary.ensures in
-    let n = c.keep_batch.new.member in
-    same_run c.keep_batch.new.complex c.primary.new.complex n n c.args.holder p.base p.since p.renewals p.book refl
-    ∙ same_run c.args.complex.now c.keep_batch.new.complex c.args.member.now n c.args.holder k.base k.since k.renewals k.book k.id
-
-pub returns-in_err-primary-clause-keeps : goal.returns-in_err-primary-clause-keeps
-returns-in_err-primary-clause-keeps g c =
-    let m = c.args.member.now in
-    let p = c.primary.ensures in
-    let o = c.in_ok-keep_batch.ensures in
-    let q = err_from_is_err_and c.from_residual-in_err-primary.result c.from_residual-in_err-primary.ensures.1 in
-    rw (q.1, q.2) (kept_then c.args.complex.now c.keep_batch.new.complex m c.args.holder c.requires.works (some_batch m.batch (omega arith)) c.primary.new.complex c.keep_batch.new.member (Err _) c.keep_batch.ensures.id o.acts o.leaves (same_out c.keep_batch.new.complex c.primary.new.complex p.journal p.current p.placed) c.in_err-primary.ensures.settle)
-
-pub returns-in_err-primary-clause-spares : goal.returns-in_err-primary-clause-spares
-returns-in_err-primary-clause-spares g c = spares_then c.args.complex.now c.keep_batch.new.complex c.primary.new.complex c.args.holder.by c.args.member.now.id c.requires.works.own c.keep_batch.ensures.acts.course c.keep_batch.ensures.acts.apart c.primary.ensures.settle.course c.primary.ensures.settle.apart c.keep_batch.ensures.notes.others c.primary.ensures.had
-
-pub returns-in_err-primary-clause-counts : goal.returns-in_err-primary-clause-counts
-returns-in_err-primary-clause-counts g c =
-    let m = c.args.member.now in
+pub returns-in_err-primary : goal.returns-in_err-primary
+returns-in_err-primary g c =
     let x = c.args.complex.now in
     let y = c.keep_batch.new.complex in
     let z = c.primary.new.complex in
-    counted_by m.id c.args.holder.by m.batch x.printed z.printed _ (sym c.requires.works.own) (counted_on m.id m.batch x.printed y.printed z.printed _ _ c.primary.ensures.printed c.in_ok-keep_batch.ensures.counts)
+    let m = c.args.member.now in
+    let n = c.keep_batch.new.member in
+    let h = c.args.holder in
+    let w = c.requires.works in
+    let k = c.keep_batch.ensures in
+    let p = c.primary.ensures in
+    let o = c.in_ok-keep_batch.ensures in
+    let q = err_from_is_err_and c.from_residual-in_err-primary.result c.from_residual-in_err-primary.ensures.1 in
+    rw (q.1, q.2) (record {
+      run = same_run y z n n h p.base p.since p.renewals p.book refl ∙ same_run x y m n h k.base k.since k.renewals k.book k.id;
+      keeps = kept_then x y m h w (omega arith) z n (Err _) k.id o.acts o.leaves (same_out y z p.journal p.current p.placed) c.in_err-primary.ensures.settle;
+      spares = spares_then x y z h.by m.id w.own k.acts.course k.acts.apart p.settle.course p.settle.apart k.notes.others p.had;
+      tables = k.tables;
+      left = tt;
+      works = tt;
+      queue = tt;
+      uses = tt;
+      reached = tt;
+      counts = counted_as (all_entries (batch_of m.batch)) m.batch x.printed z.printed (batch_entries m.batch) (Err _) (counted_by m.id h.by m.batch x.printed z.printed (Err _) (sym w.own) (counted_on m.id m.batch x.printed y.printed z.printed _ _ p.printed o.counts));
+    })
 
 pub returns : goal.returns
 returns g c =
@@ -124,17 +107,17 @@ returns g c =
     record {
       run = same_run c.keep_batch.new.complex c.primary.new.complex n n c.args.holder p.base p.since p.renewals p.book refl
           ∙ same_run c.args.complex.now c.keep_batch.new.complex c.args.member.now n c.args.holder k.base k.since k.renewals k.book k.id;
-      keeps = kept_then c.args.complex.now c.keep_batch.new.complex m c.args.holder c.requires.works (some_batch m.batch (omega arith)) c.primary.new.complex c.keep_batch.new.member (Ok _) c.keep_batch.ensures.id o.acts o.leaves (same_out y z p.journal p.current p.placed) c.in_ok-primary.ensures.settle;
+      keeps = kept_then c.args.complex.now c.keep_batch.new.complex m c.args.holder c.requires.works (omega arith) c.primary.new.complex c.keep_batch.new.member (Ok _) c.keep_batch.ensures.id o.acts o.leaves (same_out y z p.journal p.current p.placed) c.in_ok-primary.ensures.settle;
       spares = spares_then c.args.complex.now c.keep_batch.new.complex c.primary.new.complex c.args.holder.by c.args.member.now.id c.requires.works.own c.keep_batch.ensures.acts.course c.keep_batch.ensures.acts.apart c.primary.ensures.settle.course c.primary.ensures.settle.apart c.keep_batch.ensures.notes.others c.primary.ensures.had;
       tables = k.tables;
-      nothing = c.in_ok-keep_batch.ensures.between.nothing;
+      left = c.in_ok-keep_batch.ensures.between.nothing;
       works =
           let P = g.P.Plant in
           let C = g.C.Copying in
           let h = c.args.holder in
           let e = c.in_ok-primary.ensures in
           let b = o.between in
-          let some = some_batch m.batch (omega arith) in
+          let some : 1 ≤ length m.batch = omega arith in
           let out = same_out y z p.journal p.current p.placed in
           let later = p.settle.course.goes.later in
           let keeps = kept_then x y m h w some z n (Ok tt) k.id o.acts o.leaves out e.settle in
@@ -147,7 +130,7 @@ returns g c =
             here = k.here;
             tables = k.tables;
             unreserved = p.reserved ∙ o.unreserved;
-            between = between_by P.tells y.base z.base y.journal.batches z.journal.batches y.current z.current y.placed z.placed y.level z.level n.batch n.checkpoint p.base (ap (λ (j : Journal). j.batches) p.journal) p.current p.placed p.level b;
+            between = between_by P.tells (parts_of y) (parts_of z) n.batch n.checkpoint p.base (ap (λ (j : Journal). j.batches) p.journal) p.current p.placed p.level b;
             first = subst (λ (behind : Bool). RestsAt P.tells z.pair.first.alive z.first (C.count z.pair.first.copy) (pages_had behind n.room n.checkpoint.pages) (C.reads (disk_now (P.view z.plant) Ckpt1).bytes)) k.here e.rests1;
             second = subst (λ (behind : Bool). RestsAt P.tells z.pair.second.alive z.second (C.count z.pair.second.copy) (pages_had behind n.room n.checkpoint.pages) (C.reads (disk_now (P.view z.plant) Ckpt2).bytes)) k.here e.rests2;
             noted = rw (ap values_of p.had) (o.notes.own w.still.noted);
@@ -156,7 +139,7 @@ returns g c =
           } in
           works_seat z n h (sits_kept P C (parts_of x) (parts_of z) m n kept h.step (gives_works x m h w some) (quiet P.tells h.by (outside x) (outside z) (batch_of m.batch) keeps)) e.room1 e.room2 (w.own ∙ sym k.id) (λ told. rw (p.base ∙ k.base) (w.base_sound told));
       queue =
-          let keeps = kept_then x y m c.args.holder w (some_batch m.batch (omega arith)) z n (Ok tt) k.id o.acts o.leaves (same_out y z p.journal p.current p.placed) c.in_ok-primary.ensures.settle in
+          let keeps = kept_then x y m c.args.holder w (omega arith) z n (Ok tt) k.id o.acts o.leaves (same_out y z p.journal p.current p.placed) c.in_ok-primary.ensures.settle in
           queue_after x z m n c.args.holder.by (p.base ∙ k.base) (none_flies x m w.still) (none_out z.journal.batches z.journal.batches z.placed z.current refl (p.placed ∙ o.between.unplaced) (p.current ∙ o.between.none)) o.between.nothing keeps;
       uses =
           let same = ap (λ (t : Tables). t.order) c.keep_batch.ensures.tables in
@@ -164,5 +147,5 @@ returns g c =
           let reached = o.reached in
           uses_one c.args.complex.now c.primary.new.complex c.args.member.now c.keep_batch.new.member (omega (arith, same)) o.level (omega (arith, level, reached));
       reached = rw p.level o.reached;
-      counts = counted_by m.id c.args.holder.by m.batch x.printed z.printed _ (sym c.requires.works.own) (counted_on m.id m.batch x.printed y.printed z.printed _ _ c.primary.ensures.printed c.in_ok-keep_batch.ensures.counts);
+      counts = counted_as (all_entries (batch_of m.batch)) m.batch x.printed z.printed (batch_entries m.batch) _ (counted_by m.id c.args.holder.by m.batch x.printed z.printed _ (sym w.own) (counted_on m.id m.batch x.printed y.printed z.printed _ _ p.printed o.counts));
     }

@@ -1,9 +1,10 @@
-use Rattle.member_sittings.proofs.Names.{arith, groups_few, ◌≡◌, ◌≤◌, ℕ, List, All, Result, length, take, ◌∙◌, ap, subst, sym, Config, groups_needed, member_count, kept_all, run, parts_of, spools_at, NodeNo, Rise, acts_none, kept_none, sparing_none, Found, HasSpooled, lowest_groups, All-take}
+use Rattle.member_sittings.proofs.Names.{arith, groups_few, ◌≡◌, ◌≤◌, ℕ, List, All, Result, length, take, ◌∙◌, ap, subst, sym, Config, groups_needed, member_count, kept_all, run, parts_of, spools_at, NodeNo, Rise, acts_none, kept_none, sparing_none, Found, HasSpooled, IsThere, lowest_groups, All-take, refl}
 use Rattle.mas_types.specs.declared.ids.GroupNo.{GroupNo}
 use Rattle.track_groups.specs.Groups.{held_by}
 use Rattle.mas_complex.specs.Spool.{IsGroupOf, IsHeldBy}
 use Rattle.member_decks.proofs.HeldLemmas.{all_within, as_many_held, lowest_rise}
-use Rattle.member_sittings.proofs.AsideLemmas.{spools_by}
+use Rattle.mas_types.specs.declared.jobs.Text.TheVariants.{Whole}
+use Rattle.member_sittings.proofs.AsideLemmas.{places_by}
 use Rattle.member_sittings.proofs.asides.spool_deck.Goals as goal
 
 pub slice_bounds-spool_text-end : goal.slice_bounds-spool_text-end
@@ -37,20 +38,21 @@ spool_text-requires g c =
       held = λ told. subst (λ (l : List GroupNo). All Held (take need l)) (sym list) (All-take Held need its (c.requires.held told));
     }
 
-pub returns-in_default-clause-spools : goal.returns-in_default-clause-spools
-returns-in_default-clause-spools g c =
+pub returns-in_default : goal.returns-in_default
+returns-in_default g c =
     let P = g.P.Plant in
     let v = P.view c.args.complex.now.plant in
     let m = c.args.member.now in
     record {
+      frame = refl;
       acts = acts_none P.tells m.id.0 v;
       cause = sparing_none m.id.0 v;
       finds = tt;
       spares = λ told. kept_none c.args.complex.now.base.config.groups (lowest_groups m.id m.checkpoint.tables.owners c.args.text.now) (spools_at v v.now);
     }
 
-pub returns-clause-spools : goal.returns-clause-spools
-returns-clause-spools g c =
+pub returns : goal.returns
+returns g c =
     let P = g.P.Plant in
     let x = c.args.complex.now in
     let y = c.spool_text.new.complex in
@@ -61,4 +63,4 @@ returns-clause-spools g c =
     let there = rw (list, c.groups_needed-groups.ensures) at c.spool_text.ensures.there in
     let spares = rw (list, c.groups_needed-groups.ensures) at c.spool_text.ensures.spares in
     subst (λ (r : Result Found NodeNo). HasSpooled P (parts_of x) (parts_of y) m text r) (sym c.found_by.ensures)
-    (spools_by P (parts_of x) (parts_of y) m text c.spool_text.result c.spool_text.ensures.acts cause there spares)
+    (places_by P (parts_of x) (parts_of y) m.id (lowest_groups m.id m.checkpoint.tables.owners text) (λ disks per. IsThere disks per (Whole text) (lowest_groups m.id m.checkpoint.tables.owners text)) c.spool_text.result c.spool_text.ensures.frame c.spool_text.ensures.acts cause there spares)

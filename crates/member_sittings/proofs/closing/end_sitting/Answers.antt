@@ -1,5 +1,5 @@
-use Rattle.member_sittings.proofs.Names.{ap, arith, err_from_is_err_and, Tables, parts_of}
-use Rattle.member_sittings.proofs.KeepLemmas.{ends_of, sat_closed, sat_frame, sat_unclosed}
+use Rattle.member_sittings.proofs.Names.{ap, arith, err_from_is_err_and, Tables, parts_of, Err, Ok}
+use Rattle.member_sittings.proofs.KeepLemmas.{ends_of, sat_frame, sat_step}
 use Rattle.member_sittings.proofs.SeatLemmas.{Kept, left_kept, own_batch}
 use Rattle.member_sittings.proofs.closing.end_sitting.Goals as goal
 
@@ -25,7 +25,7 @@ returns-in_err-play_batch g c =
       frame = sat_frame x z e.book e.base e.since e.renewals;
       id = e.id;
       tables = e.tables;
-      sat = sat_unclosed g.P.Plant m.id c.args.holder c.requires.may.holder c.args.next c.args.lines.now x z m.batch c.requires.may.some c.in_err-play_batch.ensures.notes.others _ c.in_err-play_batch.ensures.step c.in_err-play_batch.ensures.counts;
+      sat = sat_step g.P.Plant m.id c.args.holder c.requires.may.holder c.args.next c.args.lines.now x z m.batch c.requires.may.some c.in_err-play_batch.ensures.notes.others (Err _) tt c.in_err-play_batch.ensures.step c.in_err-play_batch.ensures.counts;
       again = tt;
     })
 
@@ -62,7 +62,7 @@ returns g c =
       frame = sat_frame x z e.book e.base e.since e.renewals;
       id = e.id;
       tables = e.tables;
-      sat = sat_closed P m.id h c.requires.may.holder c.args.next lines x z m.batch c.requires.may.some k.notes.others _
+      sat = sat_step P m.id h c.requires.may.holder c.args.next lines x z m.batch c.requires.may.some k.notes.others (Ok _)
           (ends_of h m.batch c.args.next lines c.len-given.result c.release_of-release.result c.len-given.ensures c.release_of-release.ensures) k.step k.counts;
       again = record { sits = left_kept P C x z m n kept h.step c.requires.may.gives c.args.next lines c.requires.quiet k.step.console; grown = record { order = omega (arith, tables); high = k.level; reached = k.reached } };
     }

@@ -4,11 +4,11 @@ use Rattle.member_sittings.specs.Ends.{ending}
 use Rattle.member_sittings.specs.Sat.{EndsAs}
 use Rattle.member_sittings.proofs.closing.pause_sitting.Goals as goal
 
-pub end_sitting-requires-clause-kept : goal.end_sitting-requires-clause-kept
-end_sitting-requires-clause-kept g c told =
-    let x = c.args.complex.now in
+pub end_sitting-requires : goal.end_sitting-requires
+end_sitting-requires g c =
+    let x = parts_of c.args.complex.now in
     let now = (g.P.Plant.view x.plant).now in
-    subst (λ (ls : List (List ℕ)). TellKept ls x.journal.batches now) (sym c.new-lines.ensures) (tells_none x.journal.batches now)
+    record { may = c.requires; kept = λ told. subst (λ (ls : List (List ℕ)). TellKept ls x.batches now) (sym c.new-lines.ensures) (tells_none x.batches now); quiet = c.new-lines.ensures }
 
 pub returns : goal.returns
 returns g c =

@@ -28,11 +28,14 @@ returns g c =
     let lines = c.in-Ok.ensures ∙ ap (λ (i : MemberId). lines_by i h.step c.args.lost (closing_reply m.batch)) (sym c.requires.may.holder) in
     subst (λ (ls : List (List ℕ)). EndsAs g.P.Plant g.C.Copying (ending h Told ls) x z m c.end_sitting.new.member c.end_sitting.result) lines c.end_sitting.ensures
 
-pub end_sitting-requires-clause-kept : goal.end_sitting-requires-clause-kept
-end_sitting-requires-clause-kept g c told =
-    let x = c.args.complex.now in
+pub end_sitting-requires : goal.end_sitting-requires
+end_sitting-requires g c =
+    let x = parts_of c.args.complex.now in
     let m = c.args.member.now in
     let now = (g.P.Plant.view x.plant).now in
     let small : c.args.holder.step < 2 ^ 64 = omega arith in
-    subst (λ (ls : List (List ℕ)). TellKept ls x.journal.batches now) (sym c.in-Ok.ensures)
-    (deck_tells m.id c.args.holder.step small x.journal.batches now c.requires.may.gives.step c.args.lost (closing_reply m.batch))
+    record {
+      may = c.requires.may;
+      kept = λ told. subst (λ (ls : List (List ℕ)). TellKept ls x.batches now) (sym c.in-Ok.ensures) (deck_tells m.id c.args.holder.step small x.batches now c.requires.may.gives.step c.args.lost (closing_reply m.batch));
+      quiet = tt;
+    }

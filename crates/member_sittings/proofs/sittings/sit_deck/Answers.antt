@@ -1,11 +1,13 @@
-use Rattle.member_sittings.proofs.Names.{◌≡◌, ◌≤◌, ℕ, true, List, [], ◌∷◌, ◌++◌, None, Result, Ok, ◌∙◌, refl, sym, ap, subst, arith, MemberId, Entry, Config, Queue, groups_needed, member_count, is_member, Tables, kept_all, run, parts_of, entry_of, if_ok, Opened, Tell, Member, ends_as, given_in, opening, AreOf, LeaveOut, tells_some, closed_of, groups_few, some_given, job_opened, entries_closing_reply as closing_reply, Away, SpoolDeck, nothing_found, HasGroups, WaitsRightly, deck_end, ends_in, Commanded, IsToCut, IsToKeep}
+use Rattle.member_sittings.proofs.Names.{◌≡◌, ◌≤◌, ℕ, true, List, [], ◌∷◌, ◌++◌, None, Some, Result, Ok, ◌∙◌, refl, sym, ap, subst, arith, MemberId, Entry, Config, Queue, groups_needed, member_count, is_member, Tables, kept_all, run, parts_of, entry_of, Opened, Tell, Member, ends_as, given_in, opening, AreOf, LeaveOut, tells_some, closed_of, groups_few, job_opened, entries_closing_reply as closing_reply, Away, SpoolDeck, nothing_found, HasGroups, deck_end, ends_in, IsToCut, IsToKeep, Fresh, Told, lines_by}
 use Rattle.mas_types.specs.declared.commands.Command.TheVariants.{Begin}
 use Rattle.mas_types.specs.declared.queues.Owner.{Owner}
 use Rattle.member_decks.proofs.DeckLemmas.{given_of, opened_enough}
 use Rattle.member_sittings.proofs.KeepLemmas.{sat_given_up}
-use Rattle.member_sittings.proofs.TurnLemmas.{DeckTurn, FirstPart, all_of_one, deck_closes, deck_sits, deck_waits, opened_alike, opened_with, opens_shaped, with_closed, with_ready}
-use Rattle.member_sittings.proofs.SeatLemmas.{Opens, front_is, gives_opened, may_keep, of_strip, one_some, opened_of, or_one, sat_on, strip}
+use Rattle.member_sittings.proofs.TurnLemmas.{sits_by, DeckTurn, FirstPart, all_of_one, deck_sits, opened_alike, opened_with, opens_shaped, with_closed, with_ready}
+use Rattle.member_sittings.proofs.SeatLemmas.{Opens, cuts_opened, front_is, keeps_opened, of_strip, one_some, opened_of, or_one, strip}
+use Rattle.step_turns.specs.declared.states.Task.TheVariants.{Deck as DeckTask}
 use Rattle.member_sittings.proofs.sittings.sit_deck.Given as given
+use Rattle.member_sittings.specs.Sat.{begins}
 use Rattle.member_sittings.proofs.sittings.sit_deck.Goals as goal
 use Rattle.member_sittings.proofs.sittings.sit_deck.Goals.{After-open_deck}
 
@@ -35,13 +37,7 @@ module _ (g : given.Over) (c : After-open_deck g) where
     may_cut : IsToCut g.P.Plant g.C.Copying (parts_of c.args.complex.now) N c.args.holder
     may_cut =
         let d = c.open_deck.ensures in
-        let did : Commanded M N = record { id = d.id; room = d.room; here = d.here; fresh = d.fresh; level = d.level; levels = d.levels; pages = d.pages; config = d.config; spelling = d.spelling; fit = d.fit } in
-        record {
-          gives = gives_opened g.P.Plant g.C.Copying (parts_of c.args.complex.now) M N c.args.holder.step c.args.deck.fields c.groups_needed-groups.result r c.requires.may.sits did c.requires.deck.fields few_needed opens d.order d.done d.sound
-              c.kept_texts.ensures.kept;
-          bounds = may_keep g.P.Plant g.C.Copying (parts_of c.args.complex.now) M N d.level c.requires.may.bounds;
-          holder = c.requires.may.holder ∙ sym d.id;
-        }
+        cuts_opened g.P.Plant g.C.Copying (parts_of c.args.complex.now) M N c.args.holder c.args.deck.fields c.groups_needed-groups.result r c.requires.may (record { id = d.id; room = d.room; here = d.here; fresh = d.fresh; level = d.level; levels = d.levels; pages = d.pages; config = d.config; spelling = d.spelling; fit = d.fit }) c.requires.deck.fields few_needed opens d.order d.done d.sound c.kept_texts.ensures.kept
 
     of_holder : AreOf c.args.holder.by c.args.holder.step N.batch
     of_holder = subst (λ (i : MemberId). AreOf i c.args.holder.step N.batch) (sym c.requires.may.holder) (opened_of c.args.holder.step c.args.deck.fields c.groups_needed-groups.result M N r opens)
@@ -50,10 +46,7 @@ module _ (g : given.Over) (c : After-open_deck g) where
   module _ {E : Type 0} (o : Opened) (opens : Opens {E = E} c.args.holder.step c.args.deck.fields c.groups_needed-groups.result M N (Ok o))
       (ends : (q : Queue) → Tell M.checkpoint.tables q → o ≡ ends_as q M.id c.args.deck.fields c.groups_needed-groups.result) where
     may_keep_it : IsToKeep g.P.Plant g.C.Copying (parts_of c.args.complex.now) N c.args.holder
-    may_keep_it =
-        let may = may_cut (Ok o) opens in
-        let sh = tells_some M.checkpoint.tables in
-        record { gives = may.gives; some = some_given sh.0 M.id c.args.holder.step c.args.deck.fields c.groups_needed-groups.result N.batch (opens sh.0 sh.1).part; bounds = may.bounds; holder = may.holder }
+    may_keep_it = keeps_opened g.P.Plant g.C.Copying (parts_of c.args.complex.now) M N c.args.holder c.args.deck.fields c.groups_needed-groups.result o opens (may_cut (Ok o) opens)
 
     first_of : (q : Queue) → Tell M.checkpoint.tables q → N.batch ≡ given_in q M.id c.args.holder.step (opening q M.id c.args.deck.fields needed)
     first_of q tells = subst (λ (k : ℕ). N.batch ≡ given_in q M.id c.args.holder.step (opening q M.id c.args.deck.fields k)) groups (opens q tells).part
@@ -106,7 +99,7 @@ returns-in_default g c =
             let part_m = (c.in_default.ensures.opening Q (c.requires.may.sits.seat.between.queue t)).part in
             let part_n : LeaveOut es (given_in Q m.id h.step (opening Q m.id fields (needed g w))) = subst (λ (k : ℕ). LeaveOut es (given_in Q m.id h.step (opening Q m.id fields k))) (groups g w) part_m in
             let part : LeaveOut es First = subst (λ (i : MemberId). LeaveOut es (given_in Q i h.step (opening Q i fields (needed g w)))) (sym c.requires.may.holder) part_n in
-            ap (λ (es : List Entry). ends_in h (es ∷ []) T.next T.lines) (front_is es First e part) ∙ sym (deck_sits Q h fields text nothing_found);
+            ap (λ (es : List Entry). ends_in h (es ∷ []) T.next T.lines) (front_is es First e part) ∙ sym (deck_sits Q h fields text nothing_found (job_opened Q h.by fields (needed g w)) refl);
         of = all_of_one h.by h.step (es ++ rest) (of_strip h.by h.step es First e (refl, refl) (of_holder g w _ c.in_default.ensures.opening) (given_of h.by h.step (opening Q h.by fields (needed g w)) Q));
         shaped = opens_shaped h fields text nothing_found (job_opened Q h.by fields (needed g w)) First (es ++ rest);
         sat = gave_up.sat;
@@ -128,28 +121,15 @@ returns-in_default-opened g c =
     let k = c.in-Ok.ensures in
     let h = c.args.holder in
     let fields = c.args.deck.fields in
-    let es = c.open_deck.new.member.batch in
-    let l = c.close_deck.new.member in
+    let text = c.args.deck.text in
+    let n = c.open_deck.new.member in
     let d = c.open_deck.ensures in
-    let e = c.close_deck.ensures in
     let few = few_needed g w in
-    let tables = ap (λ (t : Tables). t.order) e.tables in
-    record {
-      frame = e.frame;
-      id = e.id ∙ d.id;
-      sat = record {
-        sitting = deck_end h es None;
-        is = λ t.
-            let closed = with_closed (job_opened (TheQueue g w) h.by fields (needed g w)) (ends_told g w o k.opening k.opened t ∙ closed_of o c.in_default-opened.not-Ready) in
-            ap (λ (es : List Entry). deck_end h es None) (first_told g w o k.opening k.opened t) ∙ sym (deck_closes (TheQueue g w) h fields c.args.deck.text nothing_found closed);
-        of = all_of_one h.by h.step es (of_holder g w (Ok o) k.opening);
-        shaped = record { few = omega arith; release = refl; says = (refl, (closing_reply es, refl)) };
-        sat = e.sat.sat;
-        tight = e.sat.tight;
-      };
-      again = sat_on g.P.Plant g.C.Copying (parts_of c.args.complex.now) c.args.member.now c.open_deck.new.member d.level (parts_of c.close_deck.new.complex) l h.step c.close_deck.result (omega (arith, d.order, few, tables)) e.again;
-      goes = if_ok _ (λ e. WaitsRightly l e.next) c.close_deck.result (λ e ends. subst (WaitsRightly l) (sym ends.next) tt) e.sat.sat.ends;
-    }
+    sits_by g.P.Plant g.C.Copying (begins h (Fresh (DeckTask fields text))) Told (lines_by h.by h.step None (closing_reply n.batch)) (parts_of c.args.complex.now) (parts_of c.close_deck.new.complex) c.args.member.now n c.close_deck.new.member c.close_deck.result d.id d.level (omega (arith, d.order, few)) c.close_deck.ensures
+    (λ t.
+    let closed = with_closed (job_opened (TheQueue g w) h.by fields (needed g w)) (ends_told g w o k.opening k.opened t ∙ closed_of o c.in_default-opened.not-Ready) in
+    ap (λ (es : List Entry). deck_end h es None) (first_told g w o k.opening k.opened t) ∙ sym (deck_sits (TheQueue g w) h fields text nothing_found None closed))
+    (of_holder g w (Ok o) k.opening) (record { few = omega arith; release = refl; says = (refl, (closing_reply n.batch, refl)) }) (λ A a. a) tt
 
 -- THE GROUPS ARE THERE
 
@@ -166,34 +146,20 @@ returns g c =
     let fields = c.args.deck.fields in
     let text = c.args.deck.text in
     let m = c.args.member.now in
-    let es = c.open_deck.new.member.batch in
+    let n = c.open_deck.new.member in
     let l = c.pause_sitting.new.member in
     let d = c.open_deck.ensures in
     let e = c.pause_sitting.ensures in
-    record {
-      frame = e.frame;
-      id = e.id ∙ d.id;
-      sat = record {
-        sitting = ends_in h (es ∷ []) (Away (SpoolDeck job text)) [];
-        is = λ t.
-            let ready = with_ready (job_opened (TheQueue g w) h.by fields (needed g w)) job (ends_told g w o k.opening k.opened t ∙ c.in-Ready.is) in
-            ap (λ (es : List Entry). ends_in h (es ∷ []) (Away (SpoolDeck job text)) []) (first_told g w o k.opening k.opened t) ∙ sym (deck_waits (TheQueue g w) h fields text nothing_found job ready);
-        of = all_of_one h.by h.step es (of_holder g w (Ok o) k.opening);
-        shaped = record { few = omega arith; release = refl; says = (refl, refl) };
-        sat = e.sat.sat;
-        tight = e.sat.tight;
-      };
-      again =
-          let few = few_needed g w in
-          let tables = ap (λ (t : Tables). t.order) e.tables in
-          sat_on g.P.Plant g.C.Copying (parts_of c.args.complex.now) m c.open_deck.new.member d.level (parts_of c.pause_sitting.new.complex) l h.step c.pause_sitting.result (omega (arith, d.order, few, tables)) e.again;
-      goes =
-          let sh = tells_some m.checkpoint.tables in
-          let has = opened_enough m.id h.step fields (needed g w) sh.0 job (sym (ends_of g w o k.opening k.opened sh.0 sh.1) ∙ c.in-Ready.is) in
-          let owners : (run sh.0 (given_in sh.0 m.id h.step (opening sh.0 m.id fields (needed g w)))).owners ≡ l.checkpoint.tables.owners =
-          ap (λ (es : List Entry). (run sh.0 es).owners) (sym (first_of g w o k.opening k.opened sh.0 sh.1)) ∙ (k.opening sh.0 sh.1).effect.owners ∙ sym (ap (λ (u : Tables). u.owners) e.tables) in
-          let enough : needed g w ≤ member_count l.id l.checkpoint.tables.owners =
-          subst (λ (i : MemberId). needed g w ≤ member_count i l.checkpoint.tables.owners) (sym (e.id ∙ d.id)) (subst (λ (os : List Owner). needed g w ≤ member_count m.id os) owners has) in
-          let groups_there : HasGroups l text = record { lines = c.requires.deck.text; enough = enough } in
-          if_ok _ (λ e. WaitsRightly l e.next) c.pause_sitting.result (λ e ends. subst (WaitsRightly l) (sym ends.next) groups_there) e.sat.sat.ends;
-    }
+    let few = few_needed g w in
+    let sh = tells_some m.checkpoint.tables in
+    let has = opened_enough m.id h.step fields (needed g w) sh.0 job (sym (ends_of g w o k.opening k.opened sh.0 sh.1) ∙ c.in-Ready.is) in
+    let owners : (run sh.0 (given_in sh.0 m.id h.step (opening sh.0 m.id fields (needed g w)))).owners ≡ l.checkpoint.tables.owners =
+    ap (λ (es : List Entry). (run sh.0 es).owners) (sym (first_of g w o k.opening k.opened sh.0 sh.1)) ∙ (k.opening sh.0 sh.1).effect.owners ∙ sym (ap (λ (u : Tables). u.owners) e.tables) in
+    let enough : needed g w ≤ member_count l.id l.checkpoint.tables.owners =
+    subst (λ (i : MemberId). needed g w ≤ member_count i l.checkpoint.tables.owners) (sym (e.id ∙ d.id)) (subst (λ (os : List Owner). needed g w ≤ member_count m.id os) owners has) in
+    let groups_there : HasGroups l text = record { lines = c.requires.deck.text; enough = enough } in
+    sits_by g.P.Plant g.C.Copying (begins h (Fresh (DeckTask fields text))) (Away (SpoolDeck job text)) [] (parts_of c.args.complex.now) (parts_of c.pause_sitting.new.complex) m n l c.pause_sitting.result d.id d.level (omega (arith, d.order, few)) e
+    (λ t.
+    let ready = with_ready (job_opened (TheQueue g w) h.by fields (needed g w)) job (ends_told g w o k.opening k.opened t ∙ c.in-Ready.is) in
+    ap (λ (es : List Entry). ends_in h (es ∷ []) (Away (SpoolDeck job text)) []) (first_told g w o k.opening k.opened t) ∙ sym (deck_sits (TheQueue g w) h fields text nothing_found (Some job) ready))
+    (of_holder g w (Ok o) k.opening) (record { few = omega arith; release = refl; says = (refl, refl) }) (λ A a. a) groups_there

@@ -1,8 +1,8 @@
-use Rattle.member_sittings.proofs.Names.{◌≡◌, List, [], ◌∷◌, ◌∙◌, refl, sym, ap, subst, arith, ∥∥₁_map, Command, MemberId, Entry, Queue, IsFit, may_give, Tables, kept_all, parts_of, HasTexts, lost_now, spools_at, none_out, run_append, entry_of, entry_with, if_ok, only_entry, closing_reply, finishing, lines_by, finished_texts, finishing_fit, finishing_giver, finishing_may, finishing_unmarked, one_named, one_of, Told, deck_end, queue_of}
+use Rattle.member_sittings.proofs.Names.{◌≡◌, List, [], ◌∷◌, ◌∙◌, refl, sym, ap, subst, arith, ∥∥₁_map, Command, MemberId, Entry, Queue, IsFit, may_give, kept_all, parts_of, HasTexts, lost_now, spools_at, run_append, entry_of, entry_with, only_entry, closing_reply, finishing, lines_by, finished_texts, finishing_fit, finishing_giver, finishing_may, finishing_unmarked, one_named, one_of, Told, deck_end, queue_of, SpoolDeck, deck_found}
 use Rattle.member_node.specs.Given.{IsGiver}
-use Rattle.member_sittings.proofs.KeepLemmas.{sat_none}
-use Rattle.member_sittings.proofs.SeatLemmas.{keeps_one, sat_on}
-use Rattle.member_sittings.proofs.TurnLemmas.{all_of_one, spooled_sits}
+use Rattle.member_sittings.proofs.SeatLemmas.{keeps_one}
+use Rattle.member_sittings.proofs.TurnLemmas.{sits_none, sits_by, spooled_sits}
+use Rattle.member_sittings.specs.Sat.{resumes}
 use Rattle.member_sittings.proofs.sittings.sit_spooled.Goals as goal
 
 pub do_command-requires-clause-command : goal.do_command-requires-clause-command
@@ -20,28 +20,14 @@ do_command-requires-clause-order g c = let order = c.requires.may.bounds.order i
 
 pub returns-in_default : goal.returns-in_default
 returns-in_default g c =
-    let P = g.P.Plant in
-    let x = c.args.complex.now in
+    let x = parts_of c.args.complex.now in
+    let m = c.args.member.now in
     let h = c.args.holder in
     let d = c.args.deck in
-    let b = c.requires.may.sits.seat.between in
-    let Q : Queue = queue_of (parts_of x) in
+    let Q : Queue = queue_of x in
     let e : Entry = entry_of Q h.by h.step (finishing d.lost d.job d.text) in
-    let none = sat_none P h.by h Told (lines_by h.by h.step d.lost (closing_reply (e ∷ []))) (parts_of x) (e ∷ []) (none_out x.journal.batches x.journal.batches x.placed x.current refl b.unplaced b.none) in
-    record {
-      frame = refl;
-      id = c.do_command.ensures.id;
-      sat = record {
-        sitting = deck_end h (e ∷ []) d.lost;
-        is = λ t. sym (spooled_sits Q h d.job d.text d.lost);
-        of = all_of_one h.by h.step (e ∷ []) (one_of (e ∷ []) e h.by h.step refl refl refl);
-        shaped = record { few = omega arith; release = refl; says = (refl, (closing_reply (e ∷ []), refl)) };
-        sat = none.sat;
-        tight = none.tight;
-      };
-      again = tt;
-      goes = tt;
-    }
+    sits_none g.P.Plant g.C.Copying (resumes h (SpoolDeck d.job d.text) (deck_found d.lost)) Told (lines_by h.by h.step d.lost (closing_reply (e ∷ []))) x m c.do_command.new.self (e ∷ []) c.do_command.ensures.id c.requires.may.sits.seat
+    (λ t. sym (spooled_sits Q h d.job d.text d.lost)) (one_of (e ∷ []) e h.by h.step refl refl refl) (record { few = omega arith; release = refl; says = (refl, (closing_reply (e ∷ []), refl)) }) (λ A a. a)
 
 pub close_deck-requires-clause-may : goal.close_deck-requires-clause-may
 close_deck-requires-clause-may g c =
@@ -100,23 +86,12 @@ returns g c =
     let b = c.requires.may.sits.seat.between in
     let p = k.pushed in
     let e = entry_with m.id at c.finishing-command.result p.0 in
-    let ends = c.close_deck.ensures in
-    let tables = ap (λ (t : Tables). t.order) ends.tables in
-    record {
-      frame = ends.frame;
-      id = ends.id ∙ c.do_command.ensures.id;
-      sat = record {
-        sitting = deck_end h n.batch d.lost;
-        is = λ t.
-            let named : n.batch ≡ entry_of Q m.id at last ∷ [] = only_entry m.batch n.batch (entry_of Q m.id at c.finishing-command.result) (k.entry Q (b.queue t)) b.nothing ∙ ap (λ (q : Command). entry_of Q m.id at q ∷ []) c.finishing-command.ensures in
-            ap (λ (es : List Entry). deck_end h es d.lost) named
-            ∙ ap (λ (i : MemberId). deck_end h (entry_of Q i at last ∷ []) d.lost) (sym c.requires.may.holder)
-            ∙ sym (spooled_sits Q h d.job d.text d.lost);
-        of = all_of_one h.by at n.batch (one_of n.batch e h.by at (only_entry m.batch n.batch e p.1 b.nothing) (sym c.requires.may.holder) refl);
-        shaped = record { few = omega arith; release = refl; says = (refl, (closing_reply n.batch, refl)) };
-        sat = ends.sat.sat;
-        tight = ends.sat.tight;
-      };
-      again = sat_on g.P.Plant g.C.Copying x m n c.do_command.ensures.level (parts_of c.close_deck.new.complex) c.close_deck.new.member at c.close_deck.result (omega (arith, c.do_command.ensures.order, tables)) ends.again;
-      goes = if_ok _ (λ e. e.next ≡ Told) c.close_deck.result (λ e ends. ends.next) ends.sat.sat.ends;
-    }
+    sits_by g.P.Plant g.C.Copying (resumes h (SpoolDeck d.job d.text) (deck_found d.lost)) Told (lines_by h.by at d.lost (closing_reply n.batch)) x (parts_of c.close_deck.new.complex) m n c.close_deck.new.member c.close_deck.result
+    c.do_command.ensures.id c.do_command.ensures.level (omega (arith, c.do_command.ensures.order)) c.close_deck.ensures
+    (λ t.
+    let named : n.batch ≡ entry_of Q m.id at last ∷ [] = only_entry m.batch n.batch (entry_of Q m.id at c.finishing-command.result) (k.entry Q (b.queue t)) b.nothing ∙ ap (λ (q : Command). entry_of Q m.id at q ∷ []) c.finishing-command.ensures in
+    ap (λ (es : List Entry). deck_end h es d.lost) named
+    ∙ ap (λ (i : MemberId). deck_end h (entry_of Q i at last ∷ []) d.lost) (sym c.requires.may.holder)
+    ∙ sym (spooled_sits Q h d.job d.text d.lost))
+    (one_of n.batch e h.by at (only_entry m.batch n.batch e p.1 b.nothing) (sym c.requires.may.holder) refl)
+    (record { few = omega arith; release = refl; says = (refl, (closing_reply n.batch, refl)) }) (λ A a. a) refl

@@ -1,14 +1,7 @@
-use Rattle.member_units.proofs.Names.{◌≡◌, ◌≤◌, ◌∙◌, ap, inr, refl, sym, subst, arith, length, take, List, Entry, Queue, MayStopBy, held_by, groups_for_end, job_at, job_ends as job_ends_lem, outputs_at_end, text_read as text_read_lem, spools_at, queue_here, queue_kept, tells_here, ends_none, stops_by, kept_here}
+use Rattle.member_units.proofs.Names.{◌≡◌, ◌≤◌, ◌∙◌, ap, inr, refl, sym, subst, arith, length, take, List, Entry, Queue, MayStopBy, held_by, groups_for_end, job_at, job_ends as job_ends_lem, outputs_at_end, text_read as text_read_lem, queue_here, queue_kept, tells_here, ends_none, stops_by, kept_here, spooled_nowhere, Tell}
 use Rattle.job_outcome.specs.declared.outcomes.Outcome.{Outcome}
-use Rattle.mas_complex.specs.Journals.{kept_all}
-use Rattle.mas_types.specs.declared.commands.Command.TheVariants as command
-use Rattle.mas_types.specs.declared.queues.Config.{Config}
-use Rattle.member_work.specs.Spooled.{AreSpooled}
 use Rattle.member_work.specs.Steps.{IsUnderWay}
-use Rattle.member_work.proofs.PartLemmas.{spooled_nowhere}
-use Rattle.queue_laws.proofs.RunLaws.{runs_keep_configuration}
-use Rattle.queue_telling.specs.Telling.{Tell}
-use Rattle.member_units.proofs.Parts.{takes_turn}
+use Rattle.member_units.proofs.Parts.{ended_may, takes_turn}
 use Rattle.member_units.proofs.actions.action_by.Goals as goal
 
 pub returns-in-Convert : goal.returns-in-Convert
@@ -47,23 +40,12 @@ returns-then-needed-eq0 g c runs fields found read =
     let p = c.args.progress in
     let R = queue_kept x in
     let Q = queue_here x m in
-    let outputs = rw c.in-End.is at c.requires.fits in
-    let disks = spools_at (P.view x.plant) (P.view x.plant).now in
     let none : P.tells → groups_for_end R n specs ≡ 0 = λ told.
     let tell : Tell m.checkpoint.tables R = subst (Tell m.checkpoint.tables) (kept_here x m c.requires.bare.nothing) (tells_here x m h c.requires.works told) in
     let is = rw c.as_slice.ensures at (c.groups_for_end-needed.ensures.groups R tell) in
     sym is ∙ c.if-needed-eq0.true in
     record {
-      may = (
-        (
-          c.requires.bare,
-          outputs,
-          c.requires.under_way,
-          λ told. subst (λ (k : Config). AreSpooled disks k.groups (outputs_at_end (job_at R n) specs) (take (groups_for_end R n specs) (held_by m.id R.owners))) (runs_keep_configuration x.base (kept_all x.journal.batches)).config
-              (spooled_nowhere c.law_of_read_texts.ensures c.law_of_groups.ensures.count disks R.config.groups R n specs (held_by m.id R.owners) outputs.each (none told)),
-        ),
-        tt,
-      );
+      may = (ended_may x m n specs c.requires.bare (rw c.in-End.is at c.requires.fits) c.requires.under_way (λ told. spooled_nowhere _ _ (outputs_at_end (job_at R n) specs) (take (groups_for_end R n specs) (held_by m.id R.owners)) (none told)), tt);
       is = λ told.
           let is = ap (λ (q : Queue). groups_for_end q n specs) (kept_here x m c.requires.bare.nothing) ∙ none told in
           sym (ends_none h Q n specs p (groups_for_end Q n specs) is) ∙ ap (λ (o : Outcome). text_read_lem h o Q n p) (sym c.in-End.is ∙ read);

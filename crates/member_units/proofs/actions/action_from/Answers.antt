@@ -1,25 +1,8 @@
-use Rattle.member_units.proofs.Names.{err_from_is_err_and, ◌∙◌, ap, inr, refl, sym, subst, arith, length, take, List, Entry, Option, IfSome, Queue, IsMarkRight, MayRefuseBy, counts_after, counts_of, held_by, groups_for_end, job_at, lines_printed as lines_printed_lem, outputs_at_end, outputs_stand as outputs_stand_lem, spools_at, queue_here, queue_kept, prints_by, kept_here}
-use Rattle.mas_complex.specs.Journals.{kept_all}
+use Rattle.member_units.proofs.Names.{err_from_is_err_and, ◌∙◌, ap, inr, refl, sym, subst, arith, length, List, Entry, Option, IfSome, Queue, IsMarkRight, MayRefuseBy, counts_after, counts_of, lines_printed as lines_printed_lem, outputs_stand as outputs_stand_lem, queue_here, prints_by, kept_here}
 use Rattle.mas_types.specs.declared.answers.Closing.{Closing}
 use Rattle.mas_types.specs.declared.commands.Command.TheVariants as command
-use Rattle.mas_types.specs.declared.queues.Config.{Config}
-use Rattle.member_work.specs.Spooled.{AreSpooled}
-use Rattle.queue_laws.proofs.RunLaws.{runs_keep_configuration}
+use Rattle.member_units.proofs.Parts.{ended_may}
 use Rattle.member_units.proofs.actions.action_from.Goals as goal
-
--- NO DECK, AND NO LINE TO ANOTHER NODE
-
-pub unreachable-requires : goal.unreachable-requires
-unreachable-requires g c = rw c.in-SpoolDeck.is at c.requires.may
-
-pub unreachable-requires-in-Exchange : goal.unreachable-requires-in-Exchange
-unreachable-requires-in-Exchange g c = rw c.in-Exchange.is at c.requires.may
-
-pub unreachable-requires-in-SpoolArrival : goal.unreachable-requires-in-SpoolArrival
-unreachable-requires-in-SpoolArrival g c = rw c.in-SpoolArrival.is at c.requires.may
-
-pub unreachable-requires-in-Acknowledge : goal.unreachable-requires-in-Acknowledge
-unreachable-requires-in-Acknowledge g c = rw c.in-Acknowledge.is at c.requires.may
 
 -- A JOB'S TEXT
 
@@ -32,8 +15,10 @@ outcome_of-requires-clause-text g c = (rw c.in-ReadText.is at c.requires.may).1
 pub returns-in_err-outcome-in-ReadText-clause-text : goal.returns-in_err-outcome-in-ReadText-clause-text
 returns-in_err-outcome-in-ReadText-clause-text g c = let q = err_from_is_err_and c.from_residual.result c.from_residual.ensures.1 in rw (q.1, c.in-ReadText.is) refl
 
-pub action_by-requires-clause-under_way : goal.action_by-requires-clause-under_way
-action_by-requires-clause-under_way g c = (rw c.in-ReadText.is at c.requires.may).2
+pub action_by-requires : goal.action_by-requires
+action_by-requires g c =
+    let o = c.in_ok-outcome-in-ReadText.ensures in
+    record { works = c.requires.works; bare = c.requires.bare; fits = o.fits; named = o.named; under_way = (rw c.in-ReadText.is at c.requires.may).2 }
 
 pub returns-in_ok-outcome-in-ReadText-clause-is : goal.returns-in_ok-outcome-in-ReadText-clause-is
 returns-in_ok-outcome-in-ReadText-clause-is g c = rw c.in-ReadText.is (c.action_by.ensures c.in-ReadText.runs c.in-ReadText.fields c.args.found.now c.in_ok-outcome-in-ReadText.ensures.outcome)
@@ -54,20 +39,10 @@ pub returns-in-None-clause-is : goal.returns-in-None-clause-is
 returns-in-None-clause-is g c =
     let x = c.args.complex.now in
     let m = c.args.member.now in
-    let R = queue_kept x in
-    let disks = spools_at (g.P.Plant.view x.plant) (g.P.Plant.view x.plant).now in
     let o = c.in-SpoolOutputs in
     let may = rw o.is at c.requires.may in
     rw o.is (record {
-      may = (
-        (
-          c.requires.bare,
-          may.0,
-          may.1.job,
-          λ told. subst (λ (k : Config). AreSpooled disks k.groups (outputs_at_end (job_at R o.job) o.outputs) (take (groups_for_end R o.job o.outputs) (held_by m.id R.owners))) (runs_keep_configuration x.base (kept_all x.journal.batches)).config (may.1.there c.in-None.is told),
-        ),
-        tt,
-      );
+      may = (ended_may x m o.job o.outputs c.requires.bare may.0 may.1 (may.2 c.in-None.is), tt);
       is = λ told. ap (λ lost. outputs_stand_lem c.args.holder lost (queue_here x m) o.job o.outputs o.progress) (sym c.in-None.is);
       upto = record { most = omega arith; units = omega arith; level = omega arith };
       caused = tt;

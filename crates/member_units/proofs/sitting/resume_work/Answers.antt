@@ -1,17 +1,11 @@
 use Rattle.std.specs.Prelude.{true}
-use Rattle.member_units.proofs.Names.{Err, [], ◌≡◌, ◌+◌, ◌*◌, suc, ap, refl, arith, Queue, Run, Away, Found, counts_of, spools_at, aside_done, aside_most, aside_turn, aside_units, bounds, wrote_of, outside, place_of, queue_here, queue_kept, of_cut, apart_none, frame_of, plays_as, plays_error, plays_units, sat_of, says_units, low_bounds, works_sits, stops_by, text_within, wrote_within, kept_here}
-use Rattle.std.proofs.lemmas.List.Elements.{All-nil}
+use Rattle.member_units.proofs.Names.{Err, [], ◌≡◌, ◌+◌, ◌*◌, suc, ap, refl, arith, Queue, Run, Away, Found, aside_done, aside_most, aside_turn, aside_units, bounds, wrote_of, outside, place_of, queue_here, of_cut, apart_none, frame_of, played_as, plays_units, sat_of, says_units, low_bounds, works_sits, stops_by, text_within, wrote_within, kept_here, All-nil, ReadText, IsWithin, TurnWithin, Aside, Holder, played_error, follow_in, is_text, SittingEnd}
 use Rattle.job_outcome.specs.Outcomes.{outcome_of}
-use Rattle.member_giving.proofs.Within.{TurnWithin}
 use Rattle.member_node.specs.declared.member.NodeNo.TheVariants.{NoMemory}
-use Rattle.member_sittings.specs.declared.ends.SittingEnd.{SittingEnd}
 use Rattle.member_steps.proofs.CountLemmas.{counted_error}
 use Rattle.member_giving.proofs.Keeping.{keeping_none, keeping_wanted}
-use Rattle.step_turns.specs.declared.states.Aside.{Aside}
-use Rattle.step_turns.specs.declared.states.Aside.TheVariants.{ReadText}
-use Rattle.step_turns.specs.declared.states.Holder.{Holder}
-use Rattle.member_units.specs.Actions.{follow_in, is_text}
 use Rattle.member_units.proofs.Parts.{roomy_low}
+use Rattle.mas_complex.specs.Parts.{parts_of}
 use Rattle.member_units.proofs.sitting.resume_work.Goals as goal
 
 pub action_from-requires : goal.action_from-requires
@@ -29,8 +23,8 @@ unread_within : (h : Holder) (found : Found) (Q : Queue) (a : Aside) → is_text
 unread_within h found Q (ReadText runs n fields p) is = text_within h found (3 * p.left + 3) (p.done + suc p.left) Q n p (omega arith) (omega arith) (outcome_of runs fields found.read) (stops_by runs fields found)
 unread_within h found Q _ is = absurd (cc)
 
-pub returns-in_default-clause-sat : goal.returns-in_default-clause-sat
-returns-in_default-clause-sat g c =
+pub returns-in_default : goal.returns-in_default
+returns-in_default g c =
     let P = g.P.Plant in
     let x = c.args.complex.now in
     let m = c.args.member.now in
@@ -39,15 +33,20 @@ returns-in_default-clause-sat g c =
     let f = c.args.found in
     let o = outside x in
     let t = aside_turn h (queue_here x m) a f in
-    let disks = spools_at (P.view x.plant) (P.view x.plant).now in
     let nothing = c.requires.sits.sits.seat.between.nothing in
     let w = works_sits x m h c.requires.sits.sits c.requires.sits.bounds c.requires.sits.holder c.requires.base_sound in
     let units = aside_done a + aside_units a in
     let within = unread_within h f (queue_here x m) a c.in_default.ensures.text in
-    sat_of x x m h (Away a) f (wrote_of [] t) (Err NoMemory) (plays_units P.tells (queue_kept x) m.id disks (counts_of x.printed) a f c.requires.may) (says_units P.tells (queue_kept x) m.id disks (counts_of x.printed) h a f c.requires.may) nothing w.still
-    (λ told. ap (λ (Q : Queue). wrote_of [] (aside_turn h Q a f)) (kept_here x m nothing))
-    (plays_error P.tells h (bounds (aside_most a) units f) 0 {S = SittingEnd} NoMemory (wrote_of [] t) (wrote_of [] t) [] (place_of x m) o (λ told. refl) (of_cut h.by h.step [] t.parts (All-nil _) within.its) (wrote_within h f units (aside_most a) [] t (aside_most a) (omega arith) within) tt
-    (apart_none P.tells h.by o) (keeping_wanted P.tells h.by [] o o (keeping_none P.tells h.by o)) (counted_error {T = SittingEnd} h.by [] o.printed o.printed NoMemory refl))
+    record {
+      frame = frame_of x x m m refl;
+      id = refl;
+      sat = sat_of x x m h (Away a) f (wrote_of [] t) (Err NoMemory) (plays_units P (parts_of x) m.id a f c.requires.may) (says_units P (parts_of x) m.id h a f c.requires.may) nothing w.still
+          (λ told. ap (λ (Q : Queue). wrote_of [] (aside_turn h Q a f)) (kept_here x m nothing))
+          (played_error P.tells h (IsWithin h (bounds (aside_most a) units f)) 0 {S = SittingEnd} NoMemory (wrote_of [] t) (wrote_of [] t) [] (place_of x m) o (λ told. refl) (of_cut h.by h.step [] t.parts (All-nil _) within.its) (wrote_within h f units (aside_most a) [] t (aside_most a) (omega arith) within) tt
+          (apart_none P.tells h.by o) (keeping_wanted P.tells h.by [] o o (keeping_none P.tells h.by o)) (counted_error {T = SittingEnd} h.by [] o.printed o.printed NoMemory refl));
+      fresh = λ p same none. absurd (cc);
+      leaves = tt;
+    }
 
 -- THE SITTING IS PLAYED
 
@@ -72,7 +71,6 @@ returns g c =
     let h = c.args.holder in
     let a = c.args.aside in
     let f = c.args.found in
-    let disks = spools_at (P.view x.plant) (P.view x.plant).now in
     let nothing = c.requires.sits.sits.seat.between.nothing in
     let w = works_sits x m h c.requires.sits.sits c.requires.sits.bounds c.requires.sits.holder c.requires.base_sound in
     let first = c.in-Ok.ensures.is in
@@ -80,8 +78,9 @@ returns g c =
     record {
       frame = frame_of x c.play.new.complex m c.play.new.member c.play.ensures.run;
       id = ap (λ (r : Run). r.id) c.play.ensures.run;
-      sat = sat_of x c.play.new.complex m h (Away a) f (wrote_of [] t) c.play.result (plays_units P.tells (queue_kept x) m.id disks (counts_of x.printed) a f c.requires.may) (says_units P.tells (queue_kept x) m.id disks (counts_of x.printed) h a f c.requires.may) nothing w.still
+      sat = sat_of x c.play.new.complex m h (Away a) f (wrote_of [] t) c.play.result (plays_units P (parts_of x) m.id a f c.requires.may) (says_units P (parts_of x) m.id h a f c.requires.may) nothing w.still
           (λ told. ap (λ (Q : Queue). wrote_of [] (aside_turn h Q a f)) (kept_here x m nothing))
-          (plays_as P.tells h (bounds (aside_most a) (aside_done a + aside_units a) f) 0 _ (wrote_of [] t) (place_of x m) (outside c.play.new.complex) c.play.result (λ told. ap (wrote_of []) (first.is told)) (c.play.ensures.plays (follow_in x.level (Away a)) f first.upto first.caused));
+          (played_as P.tells h (IsWithin h (bounds (aside_most a) (aside_done a + aside_units a) f)) 0 _ (wrote_of [] t) (place_of x m) (outside c.play.new.complex) c.play.result (λ told. ap (wrote_of []) (first.is told)) (c.play.ensures.plays (follow_in x.level (Away a)) f first.upto first.caused));
+      fresh = λ p same none. absurd (cc);
       leaves = c.play.ensures.leaves (follow_in x.level (Away a)) first.upto;
     }

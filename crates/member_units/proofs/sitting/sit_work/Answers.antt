@@ -1,7 +1,9 @@
-use Rattle.member_units.proofs.Names.{[], ◌∙◌, ap, arith, ◌+◌, ◌*◌, ℕ, Queue, Fresh, Rested, units_from, bounds, wrote_of, Run, outside, place_of, queue_here, queue_kept, plays_as, plays_more, frame_of, sat_of, low_bounds, works_sits, kept_here}
+use Rattle.member_units.proofs.Names.{[], subst, ◌∙◌, ap, arith, ◌+◌, ◌*◌, ℕ, Queue, Fresh, Rested, units_from, bounds, wrote_of, Run, outside, place_of, queue_here, queue_kept, played_as, plays_more, frame_of, sat_of, low_bounds, works_sits, kept_here, follow_in, IsWithin}
 use Rattle.step_turns.specs.declared.states.Task.TheVariants.{Work}
+use Rattle.step_turns.specs.Laws.{units_done, units_left}
 use Rattle.step_turns.specs.States.{nothing_found}
-use Rattle.member_units.specs.Actions.{follow_in}
+use Rattle.step_turns.specs.declared.states.State.{State}
+use Rattle.member_sittings.specs.Sat.{HasSat, begins}
 use Rattle.member_units.proofs.Parts.{next_up, roomy_low}
 use Rattle.member_units.proofs.sitting.sit_work.Goals as goal
 
@@ -38,13 +40,17 @@ returns g c =
     let f = follow_in x.level (Rested p) in
     let bs = bounds (3 * p.left + 1) (p.done + p.left) nothing_found in
     let turn = units_from h p.left in
-    let plays = plays_as g.P.Plant.tells h bs 0 _ (wrote_of [] (turn (queue_here x m) 0 p.done)) (place_of x m) new r (λ told. ap (wrote_of []) (a.is told 0)) (c.play.ensures.plays f nothing_found (next_up x m f _ a.next) (a.caused (p.done + p.left) nothing_found (omega arith))) in
+    let plays = played_as g.P.Plant.tells h (IsWithin h bs) 0 _ (wrote_of [] (turn (queue_here x m) 0 p.done)) (place_of x m) new r (λ told. ap (wrote_of []) (a.is told 0)) (c.play.ensures.plays f nothing_found (next_up x m f _ a.next) (a.caused (p.done + p.left) nothing_found (omega arith))) in
     record {
       frame = frame_of x c.play.new.complex m c.play.new.member c.play.ensures.run;
       id = ap (λ (r : Run). r.id) c.play.ensures.run;
       sat = sat_of x c.play.new.complex m h (Rested p) nothing_found (wrote_of [] (turn (queue_here x m) 0 p.done)) r (λ A. tt) (λ t says. says) nothing w.still (λ told. ap (λ (Q : Queue). wrote_of [] (turn Q 0 p.done)) (kept_here x m nothing)) plays;
-      fresh = λ none. sat_of x c.play.new.complex m h (Fresh (Work p.left)) nothing_found (wrote_of [] (turn (queue_here x m) 0 p.done)) r (λ A. tt) (λ t says. says) nothing w.still
-          (λ told. ap (λ (Q : Queue). wrote_of [] (turn Q 0 p.done)) (kept_here x m nothing) ∙ ap (λ (k : ℕ). wrote_of [] (turn (queue_kept x) 0 k)) none)
-          (plays_more g.P.Plant.tells h (bounds (3 * p.left + 1) (0 + p.left) nothing_found) 0 (3 * p.left + 1) (p.done + p.left) _ (place_of x m) new r (omega arith) (omega (arith, none)) plays);
+      fresh = λ q same none.
+          let done = ap (λ (s : State). units_done s) same ∙ none in
+          let left = ap (λ (s : State). units_left s) same in
+          subst (λ (k : ℕ). HasSat (begins h (Fresh (Work k))) x c.play.new.complex r) left
+          (sat_of x c.play.new.complex m h (Fresh (Work p.left)) nothing_found (wrote_of [] (turn (queue_here x m) 0 p.done)) r (λ A. tt) (λ t says. says) nothing w.still
+          (λ told. ap (λ (Q : Queue). wrote_of [] (turn Q 0 p.done)) (kept_here x m nothing) ∙ ap (λ (k : ℕ). wrote_of [] (turn (queue_kept x) 0 k)) done)
+          (plays_more g.P.Plant.tells h (bounds (3 * p.left + 1) (0 + p.left) nothing_found) 0 (3 * p.left + 1) (p.done + p.left) _ (place_of x m) new r (omega arith) (omega (arith, done)) plays));
       leaves = c.play.ensures.leaves f (next_up x m f _ a.next);
     }

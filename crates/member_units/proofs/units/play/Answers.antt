@@ -1,18 +1,19 @@
-use Rattle.member_units.proofs.Names.{ℕ, ◌≡◌, ◌+◌, ◌-◌, suc, List, length, None, Some, Option, Ok, Err, ◌∙◌, ap, refl, subst, sym, arith, err_from_is_err_and, Entry, Queue, Away, HasRoom, sittings_most, bounds, unwritten, outside, place_of, queue_here, full_error, plays_as, plays_full, plays_more, first_ends, full_le, unwritten_one, less_room, own_batch, wrote_of, goes_on_by, units_from}
+use Rattle.member_units.proofs.Names.{ℕ, ◌≡◌, ◌+◌, ◌-◌, suc, List, length, None, Some, Option, Ok, Err, ◌∙◌, ap, refl, subst, sym, arith, err_from_is_err_and, Entry, Queue, Away, HasRoom, sittings_most, bounds, unwritten, outside, place_of, queue_here, full_error, played_as, plays_full, first_ends, full_le, unwritten_one, less_room, own_batch, wrote_of, goes_on_by, units_from, close_within, leave_within, leaves, IsWithin, Aside, after_few, played_out, IsUpTo, MayFollow, action_turn, ahead, left_of, most_of, most_then, wait_after, open_left, told_left}
 use Rattle.std.proofs.lemmas.List.{length-append}
-use Rattle.step_turns.specs.declared.states.Aside.{Aside}
-use Rattle.member_units.specs.Actions.{IsUpTo, MayFollow, action_turn, ahead, left_of, most_of, most_then, wait_after}
 use Rattle.member_units.specs.declared.actions.Action.TheVariants as action
 use Rattle.member_units.proofs.Parts.{above_most, least_then, most_above, not_some, part_error, part_goes, part_uses, part_waits, ready_then, up_to, waited}
 use Rattle.member_units.proofs.units.play.Given.{Over}
 use Rattle.member_units.proofs.units.play.Goals.{After-len, In_default, In_ok-end-in-Give}
 use Rattle.member_units.proofs.units.play.Goals as goal
+use Rattle.member_giving.proofs.Names.{Tables}
+use Rattle.step_turns.specs.Turns.{closes_as}
 
 pub loop-action-init : goal.loop-action-init
 loop-action-init g c = record {
   run = refl;
   works = c.requires.works;
   room = c.requires.room;
+  one = less_room c.args.complex.now c.args.member.now 1 _ (omega arith) c.requires.room.room;
   may = c.requires.may;
   few = omega arith;
   upto = record { most = omega arith; units = omega arith; level = omega arith };
@@ -26,52 +27,51 @@ loop-action-init g c = record {
 
 -- THE STEP CLOSES
 
-pub close-requires-clause-room : goal.close-requires-clause-room
-close-requires-clause-room g c = less_room c.loop-action.complex c.loop-action.member 1 _ (omega arith) c.loop-action.invariant.room.room
-
-pub close-requires-clause-named : goal.close-requires-clause-named
-close-requires-clause-named g c = rw c.in-Close.is at c.loop-action.invariant.may
+pub close_step-requires-clause-named : goal.close_step-requires-clause-named
+close_step-requires-clause-named g c = rw c.in-Close.is at c.loop-action.invariant.may
 
 pub returns-in-Close : goal.returns-in-Close
 returns-in-Close g c =
     let i = c.loop-action.invariant in
     record {
-      run = c.close.ensures.run ∙ i.run;
+      run = c.close_step.ensures.run ∙ i.run;
       plays = λ f found upto caused.
-          let then = rw c.in-Close.is at (i.then f found upto caused (outside c.close.new.complex) c.close.result) in
+          let then = rw c.in-Close.is at (i.then f found upto caused (outside c.close_step.new.complex) c.close_step.result) in
           let may = rw c.in-Close.is at (i.caused f found upto caused) in
           let n = c.loop-action.member in
-          then (plays_more g.P.Plant.tells c.args.holder (bounds (0 + unwritten n.batch) f.units found) c.loop-action.given (unwritten n.batch) f.units _ (place_of c.loop-action.complex n) (outside c.close.new.complex) c.close.result (omega arith) (omega arith) (c.close.ensures.plays f.units found may));
+          let h = c.args.holder in
+          let e = c.in-Close.end in
+          then (played_out g.P.Plant.tells h (IsWithin h (bounds (0 + unwritten n.batch) f.units found)) c.loop-action.given (wrote_of n.batch (closes_as h e)) (place_of c.loop-action.complex n) (outside c.close_step.new.complex) c.close_step.result (close_within h found f.units n.batch e may (0 + unwritten n.batch) (omega arith)) c.close_step.ensures.played);
       leaves = λ f upto.
           let here = rw c.in-Close.is at i.upto in
-          c.close.ensures.leaves f (omega (arith, here.most, upto.most)) (omega (arith, here.level, upto.level));
+          let e = c.close_step.ensures in
+          told_left c.loop-action.complex c.close_step.new.complex c.loop-action.member c.close_step.new.member c.args.holder f c.close_step.result (omega (arith, here.most, upto.most)) (omega (arith, here.level, upto.level)) e.told e.seat e.reached;
     }
 
 -- THE STEP WAITS
-
-pub leave-requires-clause-waits : goal.leave-requires-clause-waits
-leave-requires-clause-waits g c = (rw c.in-Wait.is at c.loop-action.invariant.may).0
-
-pub leave-requires-clause-room : goal.leave-requires-clause-room
-leave-requires-clause-room g c = less_room c.loop-action.complex c.loop-action.member 1 _ (omega arith) c.loop-action.invariant.room.room
 
 pub returns-in-Wait : goal.returns-in-Wait
 returns-in-Wait g c =
     let i = c.loop-action.invariant in
     record {
-      run = c.leave.ensures.run ∙ i.run;
+      run = c.leave_step.ensures.run ∙ i.run;
       plays = λ f found upto caused.
-          let then = rw c.in-Wait.is at (i.then f found upto caused (outside c.leave.new.complex) c.leave.result) in
-          then (c.leave.ensures.plays f.units found);
+          let then = rw c.in-Wait.is at (i.then f found upto caused (outside c.leave_step.new.complex) c.leave_step.result) in
+          let h = c.args.holder in
+          let n = c.loop-action.member in
+          let s = c.in-Wait.next in
+          let most = sittings_most s + unwritten n.batch in
+          then (played_out g.P.Plant.tells h (IsWithin h (bounds most f.units found)) c.loop-action.given (wrote_of n.batch (leaves s)) (place_of c.loop-action.complex n) (outside c.leave_step.new.complex) c.leave_step.result (leave_within h found f.units n.batch s (rw c.in-Wait.is at i.may).0 most (omega arith)) c.leave_step.ensures.played);
       leaves = λ f upto.
           let here = rw c.in-Wait.is at i.upto in
-          c.leave.ensures.leaves f (record { ready = (rw c.in-Wait.is at i.may).1; fewer = record { falls = omega (arith, here.most, upto.most); few = omega (arith, here.units, upto.units) }; reached = omega (arith, here.level, upto.level) });
+          let may = rw c.in-Wait.is at i.may in
+          let e = c.leave_step.ensures in
+          open_left c.loop-action.complex c.leave_step.new.complex c.loop-action.member c.leave_step.new.member c.args.holder f c.leave_step.result c.in-Wait.next may.0
+          (record { ready = may.1; fewer = record { falls = omega (arith, here.most, upto.most); few = omega (arith, here.units, upto.units) }; reached = omega (arith, here.level, upto.level) })
+          e.run e.tables e.next e.queue e.works e.nothing e.reached;
     }
 
 -- A PART IS GIVEN
-
-pub give_part-requires-clause-room : goal.give_part-requires-clause-room
-give_part-requires-clause-room g c = less_room c.loop-action.complex c.loop-action.member 1 _ (omega arith) c.loop-action.invariant.room.room
 
 pub give_part-requires-clause-may : goal.give_part-requires-clause-may
 give_part-requires-clause-may g c = (rw c.in-Give.is at c.loop-action.invariant.may).0
@@ -113,11 +113,8 @@ room_given g c =
 
 -- and the step waits
 
-pub leave-requires-in-Some-clause-room : goal.leave-requires-in-Some-clause-room
-leave-requires-in-Some-clause-room g c = less_room c.give_part.new.complex c.give_part.new.member 1 _ (omega arith) (room_given g (goal.at.leave-requires-in-Some-clause-room g c).In_ok-end-in-Give)
-
-pub leave-requires-in-Some-clause-waits : goal.leave-requires-in-Some-clause-waits
-leave-requires-in-Some-clause-waits g c told = absurd (cc)
+pub leave_step-requires-in-Some-clause-room : goal.leave_step-requires-in-Some-clause-room
+leave_step-requires-in-Some-clause-room g c = less_room c.give_part.new.complex c.give_part.new.member 1 _ (omega arith) (room_given g (goal.at.leave_step-requires-in-Some-clause-room g c).In_ok-end-in-Give)
 
 pub returns-in-Some : goal.returns-in-Some
 returns-in-Some g c =
@@ -135,19 +132,22 @@ returns-in-Some g c =
     let is = waited e.end o.then a some in
     let may = rw o.is at i.may in
     record {
-      run = c.leave-in-Some.ensures.run ∙ c.give_part.ensures.run ∙ i.run;
+      run = c.leave_step-in-Some.ensures.run ∙ c.give_part.ensures.run ∙ i.run;
       plays = λ f found upto caused.
-          let new = outside c.leave-in-Some.new.complex in
-          let r = c.leave-in-Some.result in
+          let new = outside c.leave_step-in-Some.new.complex in
+          let r = c.leave_step-in-Some.result in
           let then = rw o.is at (i.then f found upto caused new r) in
           let b = bounds (most_then o.then o.progress + 1 + unwritten n.batch) f.units found in
           let most = ap (λ (x : Option Aside). most_then x o.progress) is.1 in
           let one = unwritten_one l.batch in
           then (part_waits P.tells h b o.part o.then o.progress (place_of z n) (place_of v l) c.loop-action.given e.end _ new r e.ensures.given (given_more g (goal.at.returns-in-Some g c).After-len) a some
-          (plays_more P.tells h b _ (sittings_most (Away a) + unwritten l.batch) f.units _ (place_of v l) new r (omega (arith, most, one)) (omega arith) (c.leave-in-Some.ensures.plays f.units found)));
+          (played_out P.tells h (IsWithin h b) _ (wrote_of l.batch (leaves (Away a))) (place_of v l) new r (leave_within h found f.units l.batch (Away a) (λ told. absurd (cc)) b.most (omega (arith, most, one))) c.leave_step-in-Some.ensures.played));
       leaves = λ f upto.
           let here : IsUpTo (ahead z.level (action.Give o.part (Some a) o.progress)) f = subst (λ (x : Option Aside). IsUpTo (ahead z.level (action.Give o.part x o.progress)) f) is.1 (up_to (rw o.is at i.upto) upto) in
-          c.leave-in-Some.ensures.leaves f (ready_then z v n l h o.part a o.progress f may.0 (subst (λ (x : Option Aside). MayFollow z n o.part x o.progress) is.1 may.1) c.give_part.ensures.run (e.ensures.taken (ap Ok is.0)) e.end is.0 e.ensures.given e.ensures.reached here);
+          let w = c.leave_step-in-Some.ensures in
+          open_left v c.leave_step-in-Some.new.complex l c.leave_step-in-Some.new.member h f c.leave_step-in-Some.result (Away a) (λ told. absurd (cc))
+          (ready_then z v n l h o.part a o.progress f may.0 (subst (λ (x : Option Aside). MayFollow z n o.part x o.progress) is.1 may.1) c.give_part.ensures.run (e.ensures.taken (ap Ok is.0)) e.end is.0 e.ensures.given e.ensures.reached here)
+          w.run w.tables w.next w.queue w.works w.nothing w.reached;
     }
 
 -- A FULL BATCH IS KEPT, and further units follow
@@ -186,6 +186,9 @@ returns-in_err-keep_full-in-Give g c =
       leaves = λ f upto. tt;
     })
 
+pub action_after-action-requires-clause-few : goal.action_after-action-requires-clause-few
+action_after-action-requires-clause-few g c = let few = after_few c.give_part.new.member.batch in let left = ap (λ (es : List Entry). length es) c.in_ok-keep_full-in-Give.ensures.left in omega (arith, few, left)
+
 pub action_after-action-requires-clause-units : goal.action_after-action-requires-clause-units
 action_after-action-requires-clause-units g c =
     let here = rw c.in-Give.is at c.loop-action.invariant.upto in
@@ -217,7 +220,8 @@ loop-action-preserved g c =
     record {
       run = c.keep_full.ensures.run ∙ c.give_part.ensures.run ∙ i.run;
       works = full.works;
-      room = record { room = less_room y k (left_of a + 3) (o.progress.left + 3) (omega (arith, left)) kept; order = let order = room.order in let as_before = full.order in omega (arith, order, as_before, left) };
+      one = less_room y k 1 (o.progress.left + 3) (omega arith) kept;
+      room = record { room = less_room y k (left_of a + 3) (o.progress.left + 3) (omega (arith, left)) kept; order = let order = room.order in let as_before = ap (λ (t : Tables). t.order) full.tables in omega (arith, order, as_before, left) };
       may = after.next.may;
       few = let few = rw o.is at i.few in omega (arith, few, e.ensures.works.few, left, c.len.ensures);
       upto = record { most = omega (arith, above_most a, after.next.most, least, here.most); units = omega (arith, after.next.units, here.units); level = omega (arith, left, full.reached, e.ensures.reached, here.level) };
@@ -230,5 +234,5 @@ loop-action-preserved g c =
           let given = given_now g at.After-len in
           then (part_goes P.tells h b o.part o.then o.progress (place_of z n) (place_of v l) c.loop-action.given e.end given new r e.ensures.given (given_more g at.After-len) (none_then g at.In_default)
           (plays_full P.tells h b given {S = Unit {0}} _ (goes (queue_here v l) given o.progress.done) (place_of v l) (place_of y k) new r (most_of a + unwritten k.batch) (full_le l.batch k.batch (most_of a) _ full.left (omega (arith, after.next.most, least))) (own_batch v l h e.ensures.works) full.left c.keep_full.ensures.spares full.keeps full.counts
-          (plays_as P.tells h (bounds (most_of a + unwritten k.batch) f.units found) given (wrote_of k.batch (action_turn h (queue_here y k) given a)) (wrote_of k.batch (goes (queue_here v l) given o.progress.done)) (place_of y k) new r (λ told. ap (wrote_of k.batch) (after.is told ∙ ap (λ (Q : Queue). goes Q given o.progress.done) full.queue)) p)));
+          (played_as P.tells h (IsWithin h (bounds (most_of a + unwritten k.batch) f.units found)) given (wrote_of k.batch (action_turn h (queue_here y k) given a)) (wrote_of k.batch (goes (queue_here v l) given o.progress.done)) (place_of y k) new r (λ told. ap (wrote_of k.batch) (after.is told ∙ ap (λ (Q : Queue). goes Q given o.progress.done) full.queue)) p)));
     }

@@ -1,6 +1,4 @@
-use Rattle.member_units.proofs.Names.{[], ◌≡◌, ◌+◌, ◌*◌, ◌≤◌, Result, NodeNo, Found, SittingEnd, Plays, bounds, unwritten, wrote_of, Follow, Outside, Works, place_of, queue_here, run_of}
-use Rattle.member_giving.specs.Plays.{to_play}
-use Rattle.member_units.specs.Actions.{IsCaused, IsRoomy, IsUpTo, MayBegin, action_turn, ahead, left_of, most_of}
+use Rattle.member_units.proofs.Names.{[], ◌≡◌, ◌+◌, ◌*◌, ◌≤◌, Result, NodeNo, Found, SittingEnd, Plays, bounds, unwritten, wrote_of, Follow, Outside, Works, place_of, queue_here, run_of, to_play, IsCaused, IsRoomy, IsUpTo, MayBegin, action_turn, ahead, left_of, most_of, HasRoom}
 use Rattle.member_units.proofs.units.play.Given as goal
 
 abbrev pub decreases-loop-action : goal.decreases-loop-action
@@ -19,6 +17,7 @@ invariant-loop-action g l =
       run : run_of z n ≡ run_of x m;
       works : Works z n h;
       room : IsRoomy z n (left_of l.action + 3);
+      one : HasRoom z n 1;
       may : MayBegin z n l.action;
       few : l.given + 64 * left_of l.action ≤ 64 * left_of l.fn.action;
       upto : IsUpTo (ahead z.level l.action) (ahead x.level l.fn.action);

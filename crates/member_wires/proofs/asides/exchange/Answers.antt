@@ -37,7 +37,7 @@ returns-in_err-read-clause-exchanges g c =
     let z = c.read_job_text.new.complex in
     let was = c.args.reader.now in
     let p = err_from_is_err_and c.from_residual.result c.from_residual.ensures.1 in
-    rw (p.1, p.2, c.in-Some.is) (text_err P (parts_of x) (parts_of z) c.args.member.now c.args.line was was c.in-Some.offer _ c.in_err-read.ensures.reads)
+    rw (p.1, p.2, c.in-Some.is) (text_err P (parts_of x) (parts_of z) c.args.member.now c.args.line was was c.in-Some.offer _ c.in_err-read.ensures)
 
 pub returns-in_default-read-clause-exchanges : goal.returns-in_default-read-clause-exchanges
 returns-in_default-read-clause-exchanges g c =
@@ -48,7 +48,7 @@ returns-in_default-read-clause-exchanges g c =
     let l = c.args.line in
     let was = c.args.reader.now in
     rw c.in-Some.is (subst (λ (f : Found). Exchanged P (parts_of x) (parts_of z) m l (Some c.in-Some.offer) was was (Ok f)) (sym c.found_on.ensures)
-    (text_cut P (parts_of x) (parts_of z) m l was was c.in-Some.offer _ c.in_ok-read.ensures.reads c.in_default-read.not-Lines refl))
+    (text_cut P (parts_of x) (parts_of z) m l was was c.in-Some.offer _ c.in_ok-read.ensures c.in_default-read.not-Lines refl))
 
 -- THE FRAME
 
@@ -70,7 +70,7 @@ returns-in_err-text-clause-exchanges g c =
     let was = c.args.reader.now in
     let p = err_from_is_err_and c.from_residual-in_err-text.result c.from_residual-in_err-text.ensures.1 in
     rw (p.1, p.2, c.in-Some.is)
-    (frame_err P (parts_of x) (parts_of w) c.args.member.now c.args.line was was (parts_of z) c.in-Some.offer _ c.in-Lines.text c.in_ok-read.ensures.reads c.in-Lines.is _ c.in_err-text.ensures.gives)
+    (frame_err P (parts_of x) (parts_of w) c.args.member.now c.args.line was was (parts_of z) c.in-Some.offer _ c.in-Lines.text c.in_ok-read.ensures c.in-Lines.is _ c.in_err-text.ensures.gives)
 
 pub returns-then-lost-clause-frame : goal.returns-then-lost-clause-frame
 returns-then-lost-clause-frame g c =
@@ -92,7 +92,7 @@ returns-then-lost-clause-exchanges g c =
     let gives = subst (λ (b : Bool). GivesBytes P.tells (end_of m l) (job_bytes o text) (P.view z.plant) (P.view w.plant) (Ok b)) c.if-lost.true c.in_ok-text.ensures.gives in
     let is = c.found_on-then-lost.ensures ∙ ap (λ (t : List (List ℕ)). wire_found (read.Lines t) true []) c.in_ok-text.ensures.text in
     rw c.in-Some.is (subst (λ (f : Found). Exchanged P (parts_of x) (parts_of w) m l (Some o) was was (Ok f)) (sym is)
-    (frame_lost P (parts_of x) (parts_of w) m l was was (parts_of z) o _ text c.in_ok-read.ensures.reads c.in-Lines.is gives refl))
+    (frame_lost P (parts_of x) (parts_of w) m l was was (parts_of z) o _ text c.in_ok-read.ensures c.in-Lines.is gives refl))
 
 -- TAKING
 
@@ -129,5 +129,5 @@ returns-clause-exchanges g c =
     let gives = subst (λ (b : Bool). GivesBytes P.tells (end_of m l) (job_bytes o text) (P.view z.plant) (P.view w.plant) (Ok b)) c.if-lost.false c.in_ok-text.ensures.gives in
     let hears = subst (λ (t : List (List ℕ)). IsFoundHeard P.tells (end_of m l) (P.view w.plant) (P.view y.plant) was is (read.Lines t) r) c.in_ok-text.ensures.text c.take_from-2.ensures.hears in
     rw c.in-Some.is (heard_ends P (parts_of x) (parts_of y) m l was is (Some o) text (P.view w.plant)
-    (frame_given P (parts_of x) (parts_of y) m l was is (parts_of z) o _ text c.in_ok-read.ensures.reads c.in-Lines.is (P.view w.plant) gives)
-    (offered_there P (parts_of x) (parts_of y) m l was is (parts_of z) o _ text c.in_ok-read.ensures.reads c.in-Lines.is) refl r hears)
+    (frame_given P (parts_of x) (parts_of y) m l was is (parts_of z) o _ text c.in_ok-read.ensures c.in-Lines.is (P.view w.plant) gives)
+    (offered_there P (parts_of x) (parts_of y) m l was is (parts_of z) o _ text c.in_ok-read.ensures c.in-Lines.is) refl r hears)

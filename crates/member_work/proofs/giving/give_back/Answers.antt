@@ -1,17 +1,21 @@
-use Rattle.member_work.proofs.Names.{◌∙◌, ap, refl, [], ◌∷◌, Config, is_member, err_from_is_err_and, drop_groups}
-use Rattle.member_work.proofs.GivingLemmas.{gives_err, gives_ok}
+use Rattle.member_work.proofs.Names.{◌∙◌, ap, refl, [], ◌∷◌, Config, is_member, err_from_is_err_and, drop_groups, asked}
+use Rattle.member_work.proofs.GivingLemmas.{gives_by}
 use Rattle.member_work.proofs.giving.give_back.Goals as goal
 
-pub give-requires-clause-may : goal.give-requires-clause-may
-give-requires-clause-may c s = ap (λ (k : Config). is_member k c.args.member.now.id) s.told.config ∙ c.requires.can.member
+pub give-requires : goal.give-requires
+give-requires c =
+    let can = c.requires.can in
+    record { here = can.here; own = record { fit = tt; giver = (can.some, can.by); may = λ s. ap (λ (k : Config). is_member k c.args.member.now.id) s.told.config ∙ can.member }; spelling = can.spelling; fit = can.fit; order = c.requires.order }
 
-pub returns-in_err-give-clause-gives : goal.returns-in_err-give-clause-gives
-returns-in_err-give-clause-gives c Q told =
+pub returns-in_err-give-clause-does : goal.returns-in_err-give-clause-does
+returns-in_err-give-clause-does c =
     let m = c.args.member.now in
+    let d = c.in_err-give.ensures.does in
     let p = err_from_is_err_and c.from_residual.result c.from_residual.ensures.1 in
-    rw (p.1, p.2) (gives_err Q m.id c.args.step drop_groups (drop_groups ∷ []) _ _ m c.give.new.member _ _ (λ disks per s. (s, refl)) (c.in_err-give.ensures.gives Q told))
+    rw (p.1, p.2) (record { has = d.has; gives = λ Q told. gives_by (asked Q m.id c.args.step (drop_groups ∷ [])) _ _ m c.give.new.member _ _ (λ gave all part. part) (λ disks per s. (s, refl)) (d.gives Q told); end = tt })
 
-pub returns-clause-gives : goal.returns-clause-gives
-returns-clause-gives c Q told =
+pub returns-clause-does : goal.returns-clause-does
+returns-clause-does c =
     let m = c.args.member.now in
-    gives_ok Q m.id c.args.step drop_groups (drop_groups ∷ []) _ _ m c.give.new.member _ _ (λ disks per s. (s, refl)) (c.in_ok-give.ensures.gives Q told)
+    let d = c.in_ok-give.ensures.does in
+    record { has = d.has; gives = λ Q told. gives_by (asked Q m.id c.args.step (drop_groups ∷ [])) _ _ m c.give.new.member _ _ (λ gave all part. part) (λ disks per s. (s, refl)) (d.gives Q told); end = λ Q told. refl }
