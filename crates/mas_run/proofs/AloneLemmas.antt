@@ -1,5 +1,5 @@
 -- Copies that are left alone aren't both lost.
-use Rattle.mas_run.proofs.Names.{◌≡◌, ℕ, ◌+◌, Bool, true, false, not, ◌&&◌, if◌then◌else◌, List, [], ◌∷◌, Option, Some, None, Ok, Err, refl, sym, ◌∙◌, ap, subst, ◌≢◌, ◌⊎◌, inl, inr, ⊎_elim, zero, suc, ◌-◌, ◌≤◌, ◌<◌, ◌==◌, nat_le, All, drop, replicate, Result, arith, eq-eqb, ◌||◌, slice_index_or, is_some, slice_set, Script, and_from, cases_eq, All-head, All-tail, Status, Dev, Ckpt1, Ckpt2, MemberId, Page, Journal, Config, Queue, is_member, Book, beginner, is_holder, is_stopped, try_refusal, after_free, after_seize, after_try, granted, left_of, noted, seize_refusal, standing, ticked, with_holder, with_standing, after_spend, after_stop, Ask, Step, IsBy, IsStep, Disk, View, disk_now, Rose, next as next_moment, top, form_reads, form_room, Admission, admitted, Frees, Refused, TakesOver, Unplayed, tried, Given, RightIf, ask_with, given_first, line_with, outcomes_with, play_with, outcomes_if, Cause, Cut, Ends, Stops, Scene, scene_of, Outcome, is_up, silent, WasLost, NodeNo, CutsAs, cut_in, is_takeover, loses_then, same_device, admitted_at, played_at, ArePassed, Here, TakeNone, There, here_after, line_of, loses_after, has_begun, as_found, begins_at, HavePassed, IsRun, LinesBegun, LinesEnded, starts, stops, AreLeftAlone, CannotStop, IsLeftAlone, TakesNone, resets_in, IsNotStarted, get_or-set_other, nobody, Standing, left_by, Play, no}
+use Rattle.mas_run.proofs.Names.{◌≡◌, ℕ, ◌+◌, Bool, true, false, not, ◌&&◌, if◌then◌else◌, List, [], ◌∷◌, Option, Some, None, Ok, Err, refl, sym, ◌∙◌, ap, subst, ◌≢◌, ◌⊎◌, inl, inr, ⊎_elim, zero, suc, ◌-◌, ◌≤◌, ◌<◌, ◌==◌, nat_le, All, drop, replicate, Result, arith, eq-eqb, ◌||◌, slice_index_or, is_some, slice_set, Script, and_from, cases_eq, All-head, All-tail, Status, Dev, Ckpt1, Ckpt2, MemberId, Page, Journal, Config, Queue, is_member, Book, beginner, is_holder, is_stopped, try_refusal, after_free, after_seize, after_try, granted, left_of, noted, seize_refusal, standing, ticked, with_holder, with_standing, after_spend, after_stop, Ask, Step, IsBy, IsStep, Disk, View, disk_now, Rose, next as next_moment, top, form_reads, form_room, Admission, admitted, tried, Given, RightIf, ask_with, given_first, line_with, outcomes_with, play_with, outcomes_if, Cause, Cut, Ends, Stops, Scene, scene_of, Outcome, is_up, silent, WasLost, NodeNo, CutsAs, cut_in, is_takeover, loses_then, same_device, admitted_at, played_at, ArePassed, Here, TakeNone, There, here_after, line_of, loses_after, has_begun, as_found, begins_at, HavePassed, IsRun, LinesBegun, LinesEnded, starts, stops, AreLeftAlone, CannotStop, IsLeftAlone, TakesNone, resets_in, IsNotStarted, get_or-set_other, nobody, Standing, left_by, Play, no, CallsKeep, left_keeps, tried_keeps, Comes, TakeoverCame, comes}
 use Rattle.script_lang.specs.declared.types.Run.{Run}
 use Rattle.script_input.specs.Script.{read_as}
 use Rattle.script_laws.specs.Laws.{ReadsScripts}
@@ -12,8 +12,6 @@ use Rattle.warm_start.specs.Starting.{Mark, IsFound, IsSeen, IsUnfit, NoneOrFail
 use Rattle.start_choice.specs.Usable.{HaveSize, IsUsable}
 use Rattle.mas_run.proofs.PassedLemmas.{by_going, passed_goes}
 use Rattle.mas_run.proofs.MuteLineLemmas.{same_dev}
-use Rattle.mas_run.proofs.ComesLemmas.{Comes, comes, TakeoverCame}
-use Rattle.mas_run.proofs.BookLemmas.{left_keeps}
 use Rattle.mas_types.specs.declared.answers.Status.TheVariants as status
 use Rattle.script_lang.specs.declared.types.Ask.TheVariants as ask
 
@@ -92,17 +90,18 @@ module _ (by k : MemberId) where
 
   -- A LINE
 
-  admitted_same : (a : Admission) (b : Book) → Same b (tried b by a)
-  admitted_same (Refused sayer end) b = refl
-  admitted_same (TakesOver of) b = let seized_same : (b : Book) (of : MemberId) → Same b (after_seize b by of) = λ b of. if_same (is_some (seize_refusal b of)) b b (granted b by) refl (granted_same b) in seized_same b of
-  admitted_same Frees b = refl
-  admitted_same Unplayed b = refl
-  admitted_same _ b = tried_same b false
+  -- they keep how it was
+  calls_same : (b : Book) → CallsKeep by (λ (c : Book). Same b c)
+  calls_same b = record {
+    tries = λ c inner is. same_then b c (after_try c by inner) is (tried_same c inner);
+    seizes = λ c of is. same_then b c (after_seize c by of) is (if_same (is_some (seize_refusal c of)) c c (granted c by) refl (granted_same c));
+    frees = λ c inner is. same_then b c (after_free c by inner) is (freed_same c inner);
+    spends = λ c n is. same_then b c (after_spend c by n) is (set_same c (record (standing c by) { left = left_of c by - n }) refl);
+  }
 
   play_same : (play : Play) (count : ℕ) (cut : Option Cut) → (StopsIn cut → Apart) → Same play.book (left_by by cut play count).book
-  play_same play count cut apart = left_keeps by (λ c. Same play.book c) (λ b is. same_then play.book b (after_try b by true) is (tried_same b true)) (λ b inner is. same_then play.book b (after_free b by inner) is (freed_same b inner))
-      (λ b n is. same_then play.book b (after_spend b by n) is (set_same b (record (standing b by) { left = left_of b by - n }) refl))
-      cut (λ k is why b now. same_then play.book b (after_stop b by) now (other_set (apart (subst StopsIn (sym is) why)) b (record (standing b by) { stopped = true }))) play count refl
+  play_same play count cut apart = left_keeps by (λ (c : Book). Same play.book c) (calls_same play.book) cut
+      (λ k is why b now. same_then play.book b (after_stop b by) now (other_set (apart (subst StopsIn (sym is) why)) b (record (standing b by) { stopped = true }))) play count refl
 
   silent_same : (t : Bool) (S T U : Scene) → Same S.book T.book → Same S.book U.book → Same S.book (if t then silent T else silent U).next.book
   silent_same true S T U one two = one
@@ -114,7 +113,7 @@ module _ (by k : MemberId) where
   line_stops S at g (ask.Lose dev) apart = refl
   line_stops S at g another apart =
       let line_same : (S : Scene) (a : Admission) (g : Given) → (StopsIn g.sight.cut → Apart) → Same S.book (left_by by g.sight.cut (play_with S by a g) (S.counts by)).book =
-      λ S a g apart. same_then S.book (tried S.book by a) (left_by by g.sight.cut (play_with S by a g) (S.counts by)).book (admitted_same a S.book) (play_same (play_with S by a g) (S.counts by) g.sight.cut apart) in
+      λ S a g apart. same_then S.book (tried S.book by a) (left_by by g.sight.cut (play_with S by a g) (S.counts by)).book (tried_keeps by (λ (c : Book). Same S.book c) (calls_same S.book) a S.book refl) (play_same (play_with S by a g) (S.counts by) g.sight.cut apart) in
       line_same S (admitted S.queue.config S.book by another) g (λ stop. apart (inr stop))
 
 -- NO LOCK IS TAKEN OVER where no line resets another member that a line before it may have stopped

@@ -1,8 +1,7 @@
 -- A line of a member at a scene that the value shows: what is known once it was tested, and what its member may do.
-use Rattle.mas_run.proofs.Names.{inl, inr, ◌≡◌, ℕ, zero, suc, ◌+◌, ◌-◌, true, List, [], ◌∷◌, set, slice_get, slice_set, Option, Some, None, Result, refl, sym, ◌∙◌, ap, subst, arith, ◌⊎◌, ◌<◌, ◌≤◌, ◌++◌, false, length, ◌&&◌, ◌||◌, Bool, if◌then◌else◌, All, is_some, append-nil, MemberId, Batch, Entry, Config, Book, IsMember, after_try, is_stopped, left_of, beginner, granted, is_dormant, is_holder, standing, ticked, try_refusal, wakes, after_stop, left_of as hold_left, runs_keep_configuration, PlantGhosts, Ghosts as CopyGhosts, SteadyGhosts, Complex, kept_all, in_flight, Parts, parts_of, Member, NodeNo, IsTested, Ask, Admission, admitted, tried, granted_by, Given, is_locked, Scene, HasLeftAs, LeftAt, LineDone, line_by, is_of_member, RenewsAs, AreMembers, IsMemberAt, BetweenLines, IsMemberUp, IsBetween, is_left_held, LeftBetween, steps_most, members_most, admission_of, tested_as, earlier_kept, AreKeptFrom, AreEarlier, IsKeptBy, IsPlayed, Grant, Holder, level_most, levels_most, inside_since, tried_since, Since, get_or-set_same, All-weaker, is_somebody, units_most, LockNo, Standing, View, ViewLine as Line, page_count, HasStepKept, IsSeat, first_half, second_half, MayHold, IsQuiet, IsSeatedBy, MayGoOn, levels_for, ByLock, ForStep, Fresh, Task, Work, IsOfEarlier, console_now, OtherNotesStay, IsAtGate, IsOpen, MayTakeSeat, journal_of, Proceeds, journal_still, TellNone, Armed, Counts, flown_of, queue_of, scene_as}
+use Rattle.mas_run.proofs.Names.{inl, inr, ◌≡◌, ℕ, zero, suc, ◌+◌, ◌-◌, true, List, [], ◌∷◌, set, slice_get, slice_set, Option, Some, None, Result, refl, sym, ◌∙◌, ap, subst, arith, ◌⊎◌, ◌<◌, ◌≤◌, ◌++◌, false, length, ◌&&◌, ◌||◌, Bool, if◌then◌else◌, All, is_some, append-nil, MemberId, Batch, Entry, Config, Book, IsMember, after_try, is_stopped, left_of, beginner, granted, is_dormant, is_holder, standing, ticked, try_refusal, wakes, after_stop, left_of as hold_left, runs_keep_configuration, PlantGhosts, Ghosts as CopyGhosts, SteadyGhosts, Complex, kept_all, in_flight, Parts, parts_of, Member, NodeNo, IsTested, Ask, Admission, admitted, tried, granted_by, Given, is_locked, Scene, HasLeftAs, LeftAt, LineDone, line_by, is_of_member, RenewsAs, AreMembers, IsMemberAt, BetweenLines, IsMemberUp, IsBetween, is_left_held, LeftBetween, steps_most, members_most, admission_of, tested_as, earlier_kept, AreKeptFrom, AreEarlier, IsKeptBy, IsPlayed, Grant, Holder, level_most, levels_most, inside_since, tried_since, Since, get_or-set_same, All-weaker, is_somebody, units_most, LockNo, Standing, View, ViewLine as Line, page_count, HasStepKept, IsSeat, first_half, second_half, MayHold, IsQuiet, IsSeatedBy, MayGoOn, levels_for, ByLock, ForStep, Fresh, Task, Work, IsOfEarlier, console_now, OtherNotesStay, IsAtGate, IsOpen, MayTakeSeat, journal_of, Proceeds, journal_still, TellNone, Armed, Counts, flown_of, queue_of, scene_as, copies_at, HasGot, IsUp, holder_is, holder_keeps, inside_of}
 use Rattle.member_lines.specs.declared.admissions.Admission.{Admission as Admitted}
-use Rattle.mas_run.proofs.KnownLemmas.{IsKnown, inside_of, known}
-use Rattle.mas_run.proofs.ComesLemmas.{HasGot, IsUpMember, holder_is, holder_keeps}
+use Rattle.mas_run.proofs.KnownLemmas.{IsKnown, known}
 use Rattle.mas_run.proofs.TurnedLemmas.{quiet_with, earlier_now, earlier_then, held_halted}
 use Rattle.lock_cycle.specs.declared.answers.LockNo.TheVariants as lock
 
@@ -33,12 +32,12 @@ IsTold plants told = (told → ⊥) ⊎ (told × plants.tells)
 
 -- a line of its admission is a line
 pub left_so : {P C : Type 0} (plants : PlantGhosts P) (copies : CopyGhosts C) (told : Type 0) (S : Scene) (at : ℕ) (by : MemberId) (what : Ask) (a : Admission) (g : Given) (x y : Parts P C)
-    (r : Result (Unit {0}) NodeNo) → admitted S.queue.config S.book by what ≡ a → RenewsAs a g.sight.cut g.sight.renewed x.renewals y.renewals (plants.view x.plant) (plants.view y.plant)
+    (r : Result (Unit {0}) NodeNo) → admitted S.queue.config S.book by what ≡ a → RenewsAs a g.sight.cut g.sight.renewed (copies_at plants x) (copies_at plants y)
     → HasLeftAs plants copies told (record { scene = S; number = at; step = line_by by what; given = g }) a x y r → LeftAt plants copies told S at (line_by by what) x y r
 left_so plants copies told S at by what a g x y r adm renews left = record {
   given = g;
   left = subst (λ (b : Admission). HasLeftAs plants copies told (record { scene = S; number = at; step = line_by by what; given = g }) b x y r) (sym adm) left;
-  renews = subst (λ (b : Admission). RenewsAs b g.sight.cut g.sight.renewed x.renewals y.renewals (plants.view x.plant) (plants.view y.plant)) (sym adm) renews;
+  renews = subst (λ (b : Admission). RenewsAs b g.sight.cut g.sight.renewed (copies_at plants x) (copies_at plants y)) (sym adm) renews;
 }
 
 -- the member at a place of the list is now another
@@ -103,9 +102,9 @@ module _ {P C : Type 0} {plants : PlantGhosts P} {steadies : SteadyGhosts C} {co
   pub own_kept : (m : Member) → m.id ≡ by → AreKeptFrom m.id at (mid.journal.batches ++ in_flight mid.current) (plants.view mid.plant).now
   own_kept m own = subst (λ (k : MemberId). AreKeptFrom k at (mid.journal.batches ++ in_flight mid.current) (plants.view mid.plant).now) (sym own) arm_kept
 
-  module _ (its : IsUpMember x.base.config x.book by) where
+  module _ (its : IsUp x.base.config x.book by) where
     pub arm_inside : IsMember x.book by
-    arm_inside = inside_of x.base x.book by w.is.booked its.member
+    arm_inside = inside_of x.base.config by its.member x.book w.is.booked
 
     pub tried_inside : tested_as x.book by a ≡ after_try x.book by false → IsMember mid.book by
     tried_inside tried =

@@ -1,5 +1,5 @@
 -- A line of a member, once the operator said that its member was stopped, if it was.
-use Rattle.mas_run.proofs.Names.{IsWhy, ◌≡◌, ℕ, ◌+◌, ◌≤◌, true, List, Result, Ok, Err, OnOk, sym, ◌∙◌, ap, subst, Bool, false, not, if◌then◌else◌, length, Option, None, refl, ◌≢◌, ◌++◌, arith, inr, zero, suc, ◌==◌, [], ◌∷◌, map, Some, ⊎_elim, inl, ◌-◌, ◌*◌, ◌<◌, set, slice_get, MemberId, steps_most, wires_most, Book, IsMember, is_stopped, PlantGhosts, Ghosts as CopyGhosts, SteadyGhosts, Complex, Parts, parts_of, unreserved_in, Member, NodeNo, SaysStopped, ActsOnce, failed, Ask, Scene, Batched, count_then, with_count, CopiesKept, LeavesCopies, LeftAt, linesleft_left_at as left_at, HasLeft, IsCutBy, LeavesAt, seen_of, LineIsLeft, HasPlayedLine, is_of_member, line_by, BetweenLines, IsBetween, IsShown, IsFlight, LineDone, LineIsPlayed, Config, Queue, nobody, same_member, is_member, runs_keep_configuration, Step, kept_all, AreSettled, seated, Admission, Refused, admitted, asked, no_member, Plays, Resets, TakesOver, left_by, none_left, play_with, Given, ArePiecesOf, Cut, Ends, Sight, LineAt, admitted_at, played_at, pieces_at, Since, none_since, unlocked_book, play_stops, inside_since, admitted_since, line_since, Batch, Fate, View, ViewLine as Line, paper_now, taken_now, Rose, counts_of, Renewals, journal_of, queue_of, fate_found, Piece, piece_at, pieces_from, unless_told, settle, IfRuns, RenewsAs, Carries, task_place, Dev, run, Console, Disk, AreBatched, AtCut, IsBroken, IsTight, rose_later, console_now, VolumesStay, holder_then, all_entries, Holder, State, Deck, Give, Work, Line as Node, Said, scene_left, CutsAs, IfIdle, IsPassed, IsUnsaid, IsWithin, LosesAs, cut_of, is_work, printed_at, IsHonestAs, StaysAs, named_as, Proceeds, IsShapedAs, proceeds_of, proceeds_on, kept_on, nat_tests, same_member_is, StandsIn, journal_unreserved, IsLine, IsElsewhere, ReaderStaysFrom, MayBeAsked, OnConsole, Fresh, Task, AreReaders, HasRead, reader_place, Cause, HasCause, IsHaltBy, Stops, append_assoc, stopped_lines, stopped_said, no, Entry, flown_of, scene_as}
+use Rattle.mas_run.proofs.Names.{IsWhy, ◌≡◌, ℕ, ◌+◌, ◌≤◌, true, List, Result, Ok, Err, OnOk, sym, ◌∙◌, ap, subst, Bool, false, not, if◌then◌else◌, length, Option, None, refl, ◌≢◌, ◌++◌, arith, inr, zero, suc, ◌==◌, [], ◌∷◌, map, Some, ⊎_elim, inl, ◌-◌, ◌*◌, ◌<◌, set, slice_get, MemberId, steps_most, wires_most, Book, IsMember, is_stopped, PlantGhosts, Ghosts as CopyGhosts, SteadyGhosts, Complex, Parts, parts_of, unreserved_in, Member, NodeNo, SaysStopped, ActsOnce, failed, Ask, Scene, Batched, count_then, with_count, CopiesKept, LeavesCopies, LeftAt, linesleft_left_at as left_at, HasLeft, IsCutBy, LeavesAt, seen_of, LineIsLeft, HasPlayedLine, is_of_member, line_by, BetweenLines, IsBetween, IsShown, IsFlight, LineDone, LineIsPlayed, Config, Queue, nobody, same_member, is_member, runs_keep_configuration, Step, kept_all, AreSettled, seated, Admission, Refused, admitted, asked, no_member, Plays, Resets, TakesOver, left_by, none_left, play_with, Given, ArePiecesOf, Cut, Ends, Sight, LineAt, admitted_at, played_at, pieces_at, Since, none_since, unlocked_book, play_stops, inside_since, admitted_since, line_since, Batch, Fate, View, ViewLine as Line, paper_now, taken_now, Rose, counts_of, Renewals, journal_of, queue_of, fate_found, Piece, piece_at, pieces_from, unless_told, settle, IfRuns, RenewsAs, Carries, task_place, Dev, run, Console, Disk, AreBatched, AtCut, IsBroken, IsTight, rose_later, console_now, VolumesStay, holder_then, all_entries, Holder, State, Deck, Give, Work, Line as Node, Said, scene_left, CutsAs, IfIdle, IsPassed, IsUnsaid, IsWithin, LosesAs, cut_of, is_work, printed_at, IsHonestAs, StaysAs, named_as, Proceeds, IsShapedAs, proceeds_of, proceeds_on, kept_on, nat_tests, same_member_is, StandsIn, journal_unreserved, IsLine, IsElsewhere, ReaderStaysFrom, MayBeAsked, OnConsole, Fresh, Task, AreReaders, HasRead, reader_place, Cause, HasCause, IsHaltBy, Stops, append_assoc, stopped_lines, stopped_said, no, Entry, flown_of, scene_as, copies_at}
 use Rattle.mas_run.proofs.CopiesLemmas.{said_copies, leaves_same, leaves_then}
 use Rattle.mas_run.proofs.MuteLineLemmas.{stopped_next}
 use Rattle.mas_run.proofs.ClosingLemmas.{not_lost}
@@ -145,7 +145,7 @@ module _ {P C : Type 0} {plants : PlantGhosts P} {steadies : SteadyGhosts C} {co
   abbrev n : LineAt
   n = caused S at step s ps cut (cause_said r)
 
-  passed_said : IsPassed told copies.reads n left.own old_seen new_seen r
+  passed_said : IsPassed told n left.own old_seen new_seen r
   passed_said = let printed_now : (k : ℕ) → printed_at l k ≡ printed_at n k = λ k. ap (λ (ls : List Line). if step.by.0 == k then ls else []) (ap (λ p. p.outcome.printed) (of_member l member).played ∙ sym (ap (λ p. p.outcome.printed) (of_member n member).played)) in
       let lines_here : (left_at l).lines ++ map (λ (s : Said). s.line) (stopped_lines step.by at (Some (cause_said r))) ≡ map (λ (s : Said). s.line) (played_at n).outcome.said = sym (lines_left n member) in
       let cut_here : Some (record cut { cause = cause_said r }) ≡ cut_of n = sym ((of_member n member).cut (Some (record cut { cause = cause_said r }))) in
@@ -156,10 +156,10 @@ module _ {P C : Type 0} {plants : PlantGhosts P} {steadies : SteadyGhosts C} {co
         goes = proceeds_on old_seen mid_seen new_seen left.goes after;
         stays = λ d other is. says.acts.goes.lost (Disk d) (left.stays d other is);
         given = record {
-          shaped = ⊎_elim inl (λ shape. inr (if_member step.what _ (shaped_same S at step s ps cut Stops (cause_said r) old_seen new_seen (admitted_at l) (shaped_as_later old_seen mid_seen new_seen after l (admitted_at l) shape)))) left.shaped;
+          shaped = ⊎_elim inl (λ shape. inr (if_member step.what _ (shaped_same S at step s ps cut Stops (cause_said r) old_seen new_seen (admitted_at l) (shaped_as_later old_seen mid_seen new_seen says.acts.goes l (admitted_at l) shape)))) left.shaped;
           right = λ t. (of_member n member).right (right_same S step.by at s ps _ _ (admitted_at l) (left.right t));
         };
-        honest = λ t. if_member step.what _ (subst (λ (c : Option Cut). IsHonestAs n (admitted_at n) c old_seen new_seen) cut_here (finds_later old_seen mid_seen new_seen after S.queue.config.groups step.by l.given.sight.finds _ (left.honest t)));
+        honest = λ t. if_member step.what _ (subst (λ (c : Option Cut). IsHonestAs n (admitted_at n) c old_seen new_seen) cut_here (finds_later old_seen mid_seen new_seen says.acts.goes S.queue.config.groups step.by l.given.sight.finds _ (left.honest t)));
         stay = λ t. subst (λ (f : ℕ → Bool). VolumesStay f old_seen new_seen) (sym ((of_member n member).names (named_as n (admitted_at n) (cut_of n)))) (subst (λ (c : Option Cut). StaysAs n (admitted_at n) c old_seen new_seen) cut_here
             (stays_on (named_as l (admitted_at l) l.given.sight.cut) old_seen mid_seen new_seen (left.stay t) (console_stays mid_seen new_seen says.acts)));
         cut = subst (λ (c : Option Cut). CutsAs r step.by c old_seen new_seen) cut_here (cut_said r step.by cut old_seen mid_seen new_seen left.cut.halt rose (left.spares.at_halt refl) says.acted);
@@ -177,7 +177,6 @@ module _ {P C : Type 0} {plants : PlantGhosts P} {steadies : SteadyGhosts C} {co
             ∙ ap (λ (ls : List Line). console_now old_seen ++ ls) (ap (λ (ls : List Line). (left_at l).lines ++ ls) (stop_said r step.by at) ∙ lines_here);
         paper = λ t k. papers_same t k ∙ printed_here plants copies told l x (parts_of y) member left k t ∙ ap (λ (ls : List Line). paper_now old_seen k ++ ls) (printed_now k);
         dry = λ t none. papers_on old_seen mid_seen new_seen left.goes.later after (left.dry t none) (says.acts.papers (tells t));
-        loses = λ t. subst (λ (d : Option Dev). LosesAs copies.reads (took n) d old_seen new_seen) (sym (ap (λ p. p.outcome.loses) (of_member n member).played)) (λ d. loses_on copies.reads old_seen mid_seen new_seen says.acts.goes says.acts.loses (took l) d (left.loses t d));
         arms = λ k. says.acts.goes.arms k ∙ left.arms k ∙ sym (arms_same plants copies told l x (parts_of y) member left k);
         volumes = λ t leaves. kept_later old_seen mid_seen new_seen left.goes.later after (left.volumes t ((of_member l member).leaves leaves))
             (kept_on mid_seen new_seen (says.acts.others (tells t)));
@@ -192,12 +191,12 @@ module _ {P C : Type 0} (plants : PlantGhosts P) (copies : CopyGhosts C) (told :
   line_of g = record { scene = S; number = at; step = step; given = g }
 
   -- the line, whatever it gave, in the words of a run
-  one_played : (z : Parts P C) (g : Given) (own : List Batch) (when : ℕ) (r : Result (Unit {0}) NodeNo) → IsPassed told copies.reads (line_of g) own (v x) (v z) r → ((v x).now ≤ when) × (when ≤ (v z).now)
+  one_played : (z : Parts P C) (g : Given) (own : List Batch) (when : ℕ) (r : Result (Unit {0}) NodeNo) → IsPassed told (line_of g) own (v x) (v z) r → ((v x).now ≤ when) × (when ≤ (v z).now)
       → journal_of z ≡ settle (fate_found (admitted_at (line_of g)) g.sight) when (journal_of x) ++ own
-      → RenewsAs (admitted_at (line_of g)) g.sight.cut g.sight.renewed x.renewals z.renewals (v x) (v z)
+      → (told → LosesAs copies.reads (took (line_of g)) None (v x) (v z)) → RenewsAs (admitted_at (line_of g)) g.sight.cut g.sight.renewed (copies_at plants x) (copies_at plants z)
       → (told → Carries x.since (line_of g) (admitted_at (line_of g)) (left_at (line_of g)).given (v x) (v z))
       → OnOk r (IsShown plants copies told (played_at (line_of g)).next z) → HasPlayedLine plants copies told S at step x z r
-  one_played z g own when r passed moment journal renews wires shows =
+  one_played z g own when r passed moment journal loses renews wires shows =
       let l : LineAt = line_of g in
       record {
         given = g;
@@ -207,6 +206,7 @@ module _ {P C : Type 0} (plants : PlantGhosts P) (copies : CopyGhosts C) (told :
           at = when;
           moment = moment;
           batches = journal ∙ ap (λ (f : Fate). settle f when (journal_of x) ++ own) (sym (ap (λ p. p.outcome.found) (of_member l member).played));
+          loses = λ t. subst (λ (d : Option Dev). LosesAs copies.reads (took l) d (v x) (v z)) (sym (ap (λ p. p.outcome.loses) (of_member l member).played)) (loses t);
           renews = renews;
           wires = λ t. carries_as x.since l (admitted_at l) (left_at l).given (played_at l).outcome.given (v x) (v z) (sym (ap (λ p. p.outcome.given) (of_member l member).played)) (wires t);
         };
@@ -218,7 +218,7 @@ module _ {P C : Type 0} (plants : PlantGhosts P) (copies : CopyGhosts C) (told :
       → HasPlayedLine plants copies told S at step x y r
   asked_here r other at_left shows =
       let left = at_left.left in
-      one_played y at_left.given left.own left.at r (passed_here plants copies told (line_of at_left.given) x y r other member left) left.moment left.journal at_left.renews left.wires shows
+      one_played y at_left.given left.own left.at r (passed_here plants copies told (line_of at_left.given) x y r other member left) left.moment left.journal left.loses at_left.renews left.wires shows
 
 -- WHO IS NO MEMBER is refused, and the book stays as it was
 
@@ -300,16 +300,17 @@ module _ {P C : Type 0} {plants : PlantGhosts P} {steadies : SteadyGhosts C} {co
 
   -- it was cut so, by which its member was stopped
   halted_so : (s : Sight) (ps : List Piece) (cut : Cut) → (left : HasLeft plants copies told (caused S at step s ps cut Stops) x y (Err no_node.Halted))
-      → RenewsAs (admitted S.queue.config S.book step.by step.what) (Some (record cut { cause = Stops })) s.renewed x.renewals y.renewals (plants.view x.plant) (plants.view y.plant) → HasPlayedLine plants copies told S at step x (parts_of z) r
+      → RenewsAs (admitted S.queue.config S.book step.by step.what) (Some (record cut { cause = Stops })) s.renewed (copies_at plants x) (copies_at plants y) → HasPlayedLine plants copies told S at step x (parts_of z) r
   halted_so s ps cut left renews =
       let l : LineAt = caused S at step s ps cut Stops in
       let n : LineAt = caused S at step s ps cut (cause_said r) in
       let later : (plants.view mid.plant).now ≤ (plants.view z.plant).now = says.acts.goes.later in
       one_played plants copies told tells S at step member x y base shown was (parts_of z) n.given left.own left.at r (passed_said told tells S at step member s ps cut x mid z r left says)
       (left.moment.0, let before = left.moment.1 in omega (arith, later, before)) (ap journal_of frame ∙ left.journal)
-      (subst (λ (rs : Renewals). RenewsAs (admitted_at n) n.given.sight.cut s.renewed x.renewals rs (plants.view x.plant) (plants.view z.plant)) (sym (ap (λ (w : Parts P C). w.renewals) frame))
-      (renews_later (admitted_at n) n.given.sight.cut s.renewed x.renewals y.renewals (plants.view x.plant) (plants.view mid.plant) (plants.view z.plant) later
-      (renews_caused (admitted_at n) (record cut { cause = Stops }) (cause_said r) s.renewed x.renewals y.renewals (plants.view x.plant) (plants.view mid.plant) renews)))
+      (λ t d. loses_on copies.reads (plants.view x.plant) (plants.view mid.plant) (plants.view z.plant) says.acts.goes says.acts.loses (took l) d (left.loses t d))
+      (subst (λ (rs : Renewals). RenewsAs (admitted_at n) n.given.sight.cut s.renewed (copies_at plants x) (record { renewals = rs; view = plants.view z.plant })) (sym (ap (λ (w : Parts P C). w.renewals) frame))
+      (renews_later (admitted_at n) n.given.sight.cut s.renewed (copies_at plants x) (copies_at plants y) (plants.view z.plant) later
+      (renews_caused (admitted_at n) (record cut { cause = Stops }) (cause_said r) s.renewed (copies_at plants x) (copies_at plants y) renews)))
       (λ t. carries_later x.since n (admitted_at n) (left_at n).given (plants.view x.plant) (plants.view mid.plant) (plants.view z.plant) (says.acts.wires (tells t))
       (carries_same S at step s ps cut Stops (cause_said r) x.since (plants.view x.plant) (plants.view mid.plant) (admitted_at n) (left_at n).given (left.wires t)))
       (if_ok r _ (λ ok. subst (λ (k : Result (Unit {0}) NodeNo). IsShown plants copies told (played_at (caused S at step s ps cut (cause_said k))).next (parts_of z)) (sym ok)
@@ -324,7 +325,7 @@ module _ {P C : Type 0} {plants : PlantGhosts P} {steadies : SteadyGhosts C} {co
         let there : g.sight.cut ≡ Some (record cut { cause = Stops }) = is ∙ ap (λ (why : Cause). Some (record cut { cause = why })) so.cause in
         halted_so g.sight g.pieces cut
         (subst (λ (c : Option Cut). HasLeft plants copies told (line_at (record g { sight = record g.sight { cut = c } })) x y (Err no_node.Halted)) there at_left.left)
-        (subst (λ (c : Option Cut). RenewsAs (admitted S.queue.config S.book step.by step.what) c g.sight.renewed x.renewals y.renewals (plants.view x.plant) (plants.view y.plant)) there at_left.renews)
+        (subst (λ (c : Option Cut). RenewsAs (admitted S.queue.config S.book step.by step.what) c g.sight.renewed (copies_at plants x) (copies_at plants y)) there at_left.renews)
 
 module _ {P C : Type 0} {plants : PlantGhosts P} {steadies : SteadyGhosts C} {copies : CopyGhosts C} (x y : Complex P C plants steadies copies) (ms ns : List Member)
     (at : ℕ) (by : MemberId) (what : Ask) (member : is_of_member what ≡ true) (is : BetweenLines x ms at) where

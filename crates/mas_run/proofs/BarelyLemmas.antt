@@ -1,5 +1,5 @@
 -- A line for which there was no memory: nothing was done, and the run ends in it.
-use Rattle.mas_run.proofs.Names.{◌≡◌, inl, inr, ℕ, List, Result, Err, refl, sym, ap, subst, ◌⊎◌, [], ◌∷◌, ◌++◌, append-nil, All, Option, Some, None, ◌∙◌, arith, Bool, false, MemberId, PlantGhosts, Ghosts as CopyGhosts, SteadyGhosts, Complex, Parts, parts_of, Member, NodeNo, Ask, Admission, admitted, Plays, Refused, Resets, TakesOver, Scene, Batched, Ends, Replaced, Cause, Cut, Halt, Sight, Writing, clear, LeavesCopies, is_takeover, IsThere, LosesAs, is_work, taking, named_as, LeftAt, HasLeftAs, left_as, LineIsLeft, LineDone, line_by, All-cons, All-nil, Entry, Fate, Flying, reply_lines, Step, ViewLine as Line, View, paper_now, Rose, SameWires, SamePapers, counts_of, AreBatched, ArePart, AtCut, IsBroken, IsHaltBy, IsTight, cause_by, IsFoundAt, Wait, VolumesStay, console_now, none_lost, Spares, journal_of, calm, Give, Left, adds_first, left_by, none_left, ArePiecesOf, queue_met, Piece, Play, fate_found, holder_of, piece_of, pieces_of, settle, IfRuns, reset_piece, LineAt, pieces_as, play_as, AreFewPieces, SaysIn, AreOf, entry_with, Command, nothing_found, Fresh, Told, Task, IsShapedAs, AreVolumesKept, papers_none, stay_none, wires_none, spares_none, IsOwnPiece, Holder, kept_none, RenewsAs, Book, Console, Dev, HeardFirst, IfIdle, IsAsideHalt, IsCutBy, IsHonestAs, OnOk, Proceeds, Saying, StaysLost, Waiting, after_stop, at_line, ended_as, entered_same, is_replaced, is_stopped, le_refl, proceeds_none, queue_of, scene_as, stopped_by, stopped_in, true, waits_as}
+use Rattle.mas_run.proofs.Names.{◌≡◌, inl, inr, ℕ, List, Result, Err, refl, sym, ap, subst, ◌⊎◌, [], ◌∷◌, ◌++◌, append-nil, All, Option, Some, None, ◌∙◌, arith, Bool, false, MemberId, PlantGhosts, Ghosts as CopyGhosts, SteadyGhosts, Complex, Parts, parts_of, Member, NodeNo, Ask, Admission, admitted, Plays, Refused, Resets, TakesOver, Scene, Batched, Ends, Replaced, Cause, Cut, Halt, Sight, Writing, clear, LeavesCopies, is_takeover, IsThere, LosesAs, is_work, taking, named_as, LeftAt, HasLeftAs, left_as, LineIsLeft, LineDone, line_by, All-cons, All-nil, Entry, Fate, Flying, reply_lines, Step, ViewLine as Line, View, paper_now, Rose, SameWires, SamePapers, counts_of, AreBatched, ArePart, AtCut, IsBroken, IsHaltBy, IsTight, cause_by, IsFoundAt, Wait, VolumesStay, console_now, none_lost, Spares, journal_of, calm, Give, Left, adds_first, left_by, none_left, ArePiecesOf, queue_met, Piece, Play, fate_found, holder_of, piece_of, pieces_of, settle, IfRuns, reset_piece, LineAt, pieces_as, play_as, AreFewPieces, SaysIn, AreOf, entry_with, Command, nothing_found, Fresh, Told, Task, IsShapedAs, AreVolumesKept, papers_none, stay_none, wires_none, spares_none, IsOwnPiece, Holder, kept_none, RenewsAs, Book, Console, Dev, HeardFirst, IfIdle, IsAsideHalt, IsCutBy, IsHonestAs, OnOk, Proceeds, Saying, StaysLost, Waiting, after_stop, at_line, ended_as, entered_same, is_replaced, is_stopped, le_refl, proceeds_none, queue_of, scene_as, stopped_by, stopped_in, true, waits_as, copies_at}
 use Rattle.mas_run.proofs.CopiesLemmas.{copies_none, leaves_same}
 use Rattle.mas_run.proofs.PassedLemmas.{renews_unbegun, settle_none}
 use Rattle.mas_run.proofs.ArmLemmas.{left_so, IsTold}
@@ -219,7 +219,7 @@ module _ (S : Scene) (at : ℕ) (step : Step) (cause : Cause) where
 
 -- by the pieces that the queue gives, where content is told
 module _ {P C : Type 0} (plants : PlantGhosts P) (copies : CopyGhosts C) (told : Type 0) (S : Scene) (at : ℕ) (by : MemberId) (what : Ask) (x y : Parts P C) (e : NodeNo) (a : Admission)
-    (adm : admitted S.queue.config S.book by what ≡ a) (renews : RenewsAs a (begun_sight (cause_by e)).cut (begun_sight (cause_by e)).renewed x.renewals y.renewals (plants.view x.plant) (plants.view y.plant))
+    (adm : admitted S.queue.config S.book by what ≡ a) (renews : RenewsAs a (begun_sight (cause_by e)).cut (begun_sight (cause_by e)).renewed (copies_at plants x) (copies_at plants y))
     (may : MayBegin e) (begun : HasBarelyBegun plants copies.reads by a x y e)
     (book : (ps : List Piece) → IfRuns {T = Unit {0}} (Err e) (y.book ≡ (left_as (record { scene = S; number = at; step = line_by by what; given = record { sight = begun_sight (cause_by e); pieces = ps } }) a).book)) where
   pub begins_left : IsTold plants told → LeftAt plants copies told S at (line_by by what) x y (Err e)
@@ -264,7 +264,7 @@ module _ {P C : Type 0} {plants : PlantGhosts P} {steadies : SteadyGhosts C} {co
       let a : Admission = admitted (queue_of p).config x.book by what in
       let short_left : (told : Type 0) → IsTold plants told → LineIsLeft told at (line_by by what) x y short = λ told knows counts armed counted.
       subst (λ (w : Parts P C). LeftAt plants copies told (scene_as p counts armed) at (line_by by what) p w short) (sym frame)
-      (begins_left plants copies told (scene_as p counts armed) at by what p p no_node.NoMemory a refl (renews_unbegun a Ends Replaced p.renewals (plants.view x.plant)) tt (barely_none plants by a p) (λ ps. tt) knows) in
+      (begins_left plants copies told (scene_as p counts armed) at by what p p no_node.NoMemory a refl (renews_unbegun a Ends Replaced (copies_at plants p)) tt (barely_none plants by a p) (λ ps. tt) knows) in
       let not_halted : short ≡ Err no_node.Halted → ⊥ = λ e. absurd (cc) in record {
         base = ap (λ (w : Parts P C). w.base) frame;
         since = ap (λ (w : Parts P C). w.since) frame;

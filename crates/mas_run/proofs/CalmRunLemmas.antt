@@ -54,7 +54,7 @@ same_text (Gone group count) = refl
 
 module _ (per : ℕ) (by : MemberId) (old new : View) (volumes : (n : ℕ) → Rose (old.faults (Disk (Spool n))) (new.faults (Disk (Spool n))) → ⊥)
     (printer : Rose (old.faults (Printer by)) (new.faults (Printer by)) → ⊥) where
-  read_calm : (text : Text) (groups : List GroupNo) (r : Read) → IsReadAs (Unit {0}) per text groups (Some r) old new → r ≡ text_of text
+  read_calm : (text : Text) (groups : List GroupNo) (r : Read) → IsReadAs (Unit {0}) per (text, groups) (Some r) old new → r ≡ text_of text
   read_calm text groups (read.Lost volume) is = absurd (volumes volume is.1.rose)
   read_calm text groups _ is = is tt ∙ same_text text
 

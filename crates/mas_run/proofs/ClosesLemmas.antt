@@ -1,11 +1,11 @@
 -- A line of a member that only closes: it is refused or denied, or the lock is given up.
-use Rattle.mas_run.proofs.Names.{◌≡◌, ℕ, ◌+◌, ◌≤◌, ◌&&◌, ◌++◌, Bool, true, false, if◌then◌else◌, List, [], Option, Some, None, Result, Ok, Err, refl, sym, ◌∙◌, ap, subst, arith, ◌⊎◌, ⊎_elim, OnOk, inr, inl, eqb-true, Ckpt1, Ckpt2, MemberId, Batch, Entry, is_somebody, nobody, steps_most, Book, IsMember, after_free, after_stop, is_holder, is_stopped, noted, with_holder, PlantGhosts, DiskView as Disk, ViewLine as Line, View, Ghosts as CopyGhosts, page_count, reserved_after_stop, counts_of, Parts, parts_of, console_now, Member, NodeNo, HasClosed, left_at, stopped_so, Closes, freed_by, left_at as closes_at, IsSayer, HoldsLock, IsSeat, Admission, Replaces, tried, Denied, Frees, Refused, denied_closing, is_locked, play_of, Piece, closes_with, Scene, clear, Replaced, IsBetween, IsMemberAt, IsShown, is_left_held, BetweenLines, LeftBetween, StandsIn, Since, freed_since, none_since, stopped_since, inside_since, tried_since, proceeds_of, TellNone, left_tells, Dev, SteadyGhosts, Complex, stopped_in, journal_of, Ask, Release, CopiesKept, LineIsLeft, LineDone, line_by, is_of_member, AreMembersNamed, closing_line, Closing, IsPlayed, Keep, Outer, LockNo, tested_as, proceeds_none, no, Armed, Counts, flown_of, scene_as}
+use Rattle.mas_run.proofs.Names.{◌≡◌, ℕ, ◌+◌, ◌≤◌, ◌&&◌, ◌++◌, Bool, true, false, if◌then◌else◌, List, [], Option, None, Result, Ok, Err, refl, sym, ◌∙◌, ap, subst, arith, ◌⊎◌, ⊎_elim, OnOk, inr, inl, eqb-true, Ckpt1, Ckpt2, MemberId, Entry, is_somebody, nobody, steps_most, Book, IsMember, after_free, after_stop, is_holder, is_stopped, noted, with_holder, PlantGhosts, DiskView as Disk, ViewLine as Line, View, Ghosts as CopyGhosts, page_count, reserved_after_stop, counts_of, Parts, parts_of, console_now, Member, NodeNo, HasClosed, left_at, stopped_so, Closes, freed_by, left_at as closes_at, IsSayer, HoldsLock, IsSeat, Admission, Replaces, tried, Denied, Frees, Refused, denied_closing, is_locked, play_of, Piece, closes_with, Scene, clear, Replaced, IsBetween, IsMemberAt, IsShown, is_left_held, BetweenLines, LeftBetween, StandsIn, Since, freed_since, none_since, stopped_since, inside_since, tried_since, proceeds_of, TellNone, left_tells, Dev, SteadyGhosts, Complex, stopped_in, journal_of, Ask, Release, CopiesKept, LineIsLeft, LineDone, line_by, is_of_member, AreMembersNamed, closing_line, Closing, IsPlayed, Keep, Outer, LockNo, tested_as, proceeds_none, no, Armed, Counts, flown_of, scene_as, copies_at, denied_holder, stands_later, between_by}
 use Rattle.mas_run.proofs.TurnedLemmas.{found_says, line_says, member_on, members_on, between_on, between_spoken, quiet_with, same_unreserved}
 use Rattle.mas_run.proofs.ClosingLemmas.{Ending, IsCloser, closing_at, cut_by, denied_closer, frees_closer, refused_closer, closes_left, merely_closed, none_stopped, not_lost}
 use Rattle.mas_run.proofs.CopiesLemmas.{said_copies, leaves_same}
 use Rattle.mas_run.proofs.PassedLemmas.{renews_none}
 use Rattle.mas_run.proofs.ArmLemmas.{tested_here, IsTold, InArm, arm_book, arm_inside, tried_inside, tested_up}
-use Rattle.mas_run.proofs.KnownLemmas.{busy_named, denied_holder, own_seat, said_by, sayer_of, some_by}
+use Rattle.mas_run.proofs.KnownLemmas.{busy_named, own_seat, said_by, sayer_of, some_by}
 use Rattle.mas_run.proofs.JournalLemmas.{flies_so}
 use Rattle.member_node.specs.declared.member.NodeNo.TheVariants as no_node
 use Rattle.mas_types.specs.declared.answers.Closing.TheVariants as closing
@@ -17,16 +17,6 @@ module _ {P C : Type 0} (plants : PlantGhosts P) (copies : CopyGhosts C) where
   module _ (x : Parts P C) (c : Book) (o : Option (List Entry)) (none : o ≡ None) (since : Since x.book c) (same : (k : MemberId) → 1 ≤ k.0 → is_holder c k ≡ true → c.holder ≡ x.book.holder) where
     abbrev y : Parts P C
     y = record x { book = c; reserved = o }
-
-    still_stopped : (k : MemberId) → is_stopped x.book k ≡ true → is_stopped c k ≡ true
-    still_stopped k was = either (is_stopped c k) refl where
-      either : (s : Bool) → is_stopped c k ≡ s → is_stopped c k ≡ true
-      either true e = e
-      either false e = absurd (no true refl (sym was ∙ since.up k e))
-
-    stands_later : (o : Option Batch) → StandsIn x.batches x.placed x.book o → StandsIn x.batches x.placed c o
-    stands_later None stands = stands
-    stands_later (Some b) stands = (stands.0, stands.1, still_stopped b.by stands.2)
 
     -- who is up now was so before, and sits where it sat
     lock_later : (k : MemberId) → is_stopped c k ≡ false → c.holder ≡ x.book.holder → HoldsLock x.book x.base.config k → HoldsLock c x.base.config k
@@ -55,7 +45,7 @@ module _ {P C : Type 0} (plants : PlantGhosts P) (copies : CopyGhosts C) where
         roomy = seat.still.roomy;
         noted = seat.still.noted;
       };
-      between = seat.between;
+      between = between_by plants.tells x y m.batch m.checkpoint refl refl refl refl refl seat.between;
       low = seat.low;
     }
 
@@ -65,7 +55,7 @@ module _ {P C : Type 0} (plants : PlantGhosts P) (copies : CopyGhosts C) where
         let holder : is_holder c m.id ≡ true → c.holder ≡ x.book.holder = λ holds. let number : m.id.0 ≡ k = ap (λ (j : MemberId). j.0) its.id in same m.id (omega (arith, some, number)) holds in
         member_on plants copies x y refl since k m refl
         (λ was up holds. seat_later m up (holder holds) (was.seated (sym (ap (λ (h : MemberId). is_holder (record c { holder = h }) m.id) (holder holds)) ∙ holds))) its in
-        between_on plants copies x y refl since (proceeds_none (plants.view x.plant)) ms ms at at is (stands_later x.current is.stands) is.settled
+        between_on plants copies x y refl since (proceeds_none (plants.view x.plant)) ms ms at at is (stands_later x.batches x.placed x.book c since x.current is.stands) is.settled
         (λ free. quiet_with plants copies x c o none (page_count x.base.config) (is.quiet (unheld free))) none (members_on plants copies x y refl since 1 1 ms (omega arith) sits is.members) refl within is.begun
         is.untold is.earlier is.few
 
@@ -213,7 +203,7 @@ module _ {P C : Type 0} {plants : PlantGhosts P} {steadies : SteadyGhosts C} {co
       let done = closed_at counts armed in
       closes_left plants copies S at (line_by by what) a w.adm Replaced pieces line rel (closer S (λ locked. ap flown_of (none locked))) t q r (ap (λ (k : Parts P C). journal_of k) at_test) (ap (λ (k : Parts P C). k.printed) at_test)
       told (λ o up. if_ok r _ (λ e. counted o by up)) sayer t (λ tells. refl) done (merely_closed plants by a sayer t q r (closes_at S by at a) done says) (λ tells. done.acts.loses)
-      (λ e. renews_none a (cut_by e) Replaced t.renewals q.renewals (plants.view x.plant) (plants.view y.plant) apart (ap (λ (k : Parts P C). k.renewals) at_test)) knows in
+      (λ e. renews_none a (cut_by e) Replaced (copies_at plants t) (copies_at plants q) apart (ap (λ (k : Parts P C). k.renewals) at_test)) knows in
       record {
         base = ap (λ (k : Parts P C). k.base) at_test;
         since = ap (λ (k : Parts P C). k.since) at_test;
@@ -287,7 +277,7 @@ module _ {P C : Type 0} {plants : PlantGhosts P} {steadies : SteadyGhosts C} {co
         said_done w y refl (λ locked. absurd (no false locked refl)) (λ dev same. absurd (cc)) by (inr refl) r closed
         (closes_with by at (denied_closing why) Keep) (closing_line by at (denied_closing why)) Keep (λ S none k. denied_closer S at (line_by by what) k why)
         (subst (λ (k : Parts _ _). Stays (parts_of mid) k) (sym frame_y) (stays_stopped by (parts_of mid) y.plant r))
-        (λ same. arm_inside w w.known_so.0) (tried_since x.book by (arm_inside w w.known_so.0) false) (denied_holder x.base w.is.config x.book by why w.known_so.1) frame_y
+        (λ same. arm_inside w w.known_so.0) (tried_since x.book by (arm_inside w w.known_so.0) false) (denied_holder x.book by why w.known_so.1) frame_y
 
   -- of one that gives it up
   module _ (w : InArm x mid ms at by what Frees) where

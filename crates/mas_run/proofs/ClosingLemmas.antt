@@ -1,8 +1,8 @@
 -- A line that only closes, or that ends before it does: what it leaves, by how it ended.
-use Rattle.mas_run.proofs.Names.{◌≡◌, ◌≢◌, inl, inr, ℕ, ◌+◌, false, List, [], ◌∷◌, ◌++◌, take, Option, None, Result, Ok, Err, OnOk, refl, sym, ◌∙◌, ap, subst, arith, ◌⊎◌, ⊎_elim, Bool, true, All-cons, All-nil, Closing, Dev, MemberId, Flying, Queue, closing_line, run, LockNo, Step, is_stopped, Console, Disk, PlantGhosts, ViewLine as Line, View, Rose, SameWires, Ghosts as CopyGhosts, counts_of, Parts, AtCut, IsBroken, IsTight, cause_by, whole_pieces, AreFoundIn, IsFoundAt, Wait, waits_in, IsCutAs, at_line, before_line, HasCause, HasClosedBy, console_now, none_lost, NodeNo, Spares, stopped_in, journal_of, CopiesActed, Release, Keep, Outer, Told, calm, Admission, Denied, Frees, Locks, Refused, denied_closing, admitted, Left, left_by, ArePiecesOf, queue_met, Piece, Play, closes_with, fate_found, once_found, piece_of, play_of, Scene, Cause, Cut, Ends, Renewed, Replaced, Stops, clear, IfRuns, ended_as, IfIdle, is_work, LineAt, pieces_as, play_as, HasLeftAs, IsCutBy, left_as, LeftAt, IsShapedAs, HeardFirst, nobody, CopyCauses, rose_later, stay_then, wires_then, spares_for, spares_then, Member, RenewsAs, proceeds_of, proceeds_on, kept_on, no, pair_at}
+use Rattle.mas_run.proofs.Names.{◌≡◌, ◌≢◌, inl, inr, ℕ, ◌+◌, false, List, [], ◌∷◌, ◌++◌, take, Option, None, Result, Ok, Err, OnOk, refl, sym, ◌∙◌, ap, subst, arith, ◌⊎◌, ⊎_elim, Bool, true, All-cons, All-nil, Closing, Dev, MemberId, Flying, Queue, closing_line, run, LockNo, Step, is_stopped, Console, Disk, PlantGhosts, ViewLine as Line, View, Rose, SameWires, Ghosts as CopyGhosts, counts_of, Parts, AtCut, IsBroken, IsTight, cause_by, whole_pieces, AreFoundIn, IsFoundAt, Wait, waits_in, IsCutAs, at_line, before_line, HasCause, HasClosedBy, console_now, none_lost, NodeNo, Spares, stopped_in, journal_of, CopiesActed, Release, Keep, Outer, Told, calm, Admission, Denied, Frees, Locks, Refused, denied_closing, admitted, Left, left_by, ArePiecesOf, queue_met, Piece, Play, closes_with, fate_found, once_found, piece_of, play_of, Scene, Cause, Cut, Ends, Renewed, Replaced, Stops, clear, IfRuns, ended_as, IfIdle, is_work, LineAt, pieces_as, play_as, HasLeftAs, IsCutBy, left_as, LeftAt, IsShapedAs, HeardFirst, nobody, CopyCauses, rose_later, stay_then, wires_then, spares_for, spares_then, Member, RenewsAs, proceeds_of, proceeds_on, kept_on, no, pair_at, copies_at}
 use Rattle.mas_run.proofs.LeftLemmas.{if_idle, papers_on, console_stays}
 use Rattle.mas_run.proofs.PassedLemmas.{kept_later}
-use Rattle.mas_run.proofs.WireLemmas.{takes_none}
+use Rattle.member_resets.proofs.Wiring.{takes_still}
 use Rattle.mas_run.proofs.ArmLemmas.{IsTold}
 use Rattle.mas_run.proofs.BarelyLemmas.{HasMerelyActed, IsNothing, quiet_left}
 use Rattle.mas_types.specs.declared.answers.Closing.TheVariants as closing
@@ -120,7 +120,7 @@ module _ (line : List ℕ) (r : Release) where
 -- and heard nothing
 heard_one : (line : List ℕ) (r : Release) (since : ℕ) (by : MemberId) (old new : View) (Q : Queue) (e : Ending) → SameWires old new
     → HeardFirst since by old new calm (waits_in (take (whole_pieces (cut_by e) (one line r ∷ [])) (one line r ∷ [])) Q)
-heard_one line r since by old new Q Whole same = takes_none old new same
+heard_one line r since by old new Q Whole same = takes_still old new same
 heard_one line r since by old new Q _ same = tt
 
 -- WHAT IT LEAVES
@@ -267,7 +267,7 @@ module _ {P C : Type 0} (plants : PlantGhosts P) (copies : CopyGhosts C) (S : Sc
   closes_so cut = left_by step.by cut (play_of S step.by at (record clear { renewed = found }) a) (S.counts step.by)
 
   abbrev Renews : Parts P C → Parts P C → Ending → Type 0
-  Renews x y e = RenewsAs a (cut_by e) found x.renewals y.renewals (w x) (w y)
+  Renews x y e = RenewsAs a (cut_by e) found (copies_at plants x) (copies_at plants y)
 
   module _ (x y : Parts P C) (r : Result (Unit {0}) NodeNo) (journal : journal_of y ≡ journal_of x) (printed : y.printed ≡ x.printed) (told : Type 0)
       (counted : told → is_stopped S.book step.by ≡ false → OnOk r (counts_of x.printed step.by ≡ S.counts step.by)) where
@@ -277,7 +277,7 @@ module _ {P C : Type 0} (plants : PlantGhosts P) (copies : CopyGhosts C) (S : Sc
     left_said tells e renews may acted loses book console =
         let line_left : (told : Type 0) (e : Ending) (x y : Parts P C) (r : Result (Unit {0}) NodeNo) → Renews x y e → HasLeftAs plants copies told (closing_found found S at step e ps) a x y r → LeftAt plants copies told S at step x y r = λ told e x y r renews left. record {
           given = (closing_found found S at step e ps).given;
-          renews = subst (λ (b : Admission). RenewsAs b (cut_by e) found x.renewals y.renewals (w x) (w y)) (sym adm) renews;
+          renews = subst (λ (b : Admission). RenewsAs b (cut_by e) found (copies_at plants x) (copies_at plants y)) (sym adm) renews;
           left = subst (λ (b : Admission). HasLeftAs plants copies told (closing_found found S at step e ps) b x y r) (sym adm) left;
         } in
         let left_same : (e : Ending) → left_as (closing_found found S at step e ps) a ≡ closes_so (cut_by e) = λ e. ap (λ (play : Play). left_by step.by (cut_by e) play (S.counts step.by)) (closer e).play in

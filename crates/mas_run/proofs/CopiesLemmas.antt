@@ -3,6 +3,7 @@ use Rattle.mas_run.proofs.Names.{◌≡◌, ◌⊎◌, inl, inr, ℕ, Bool, true
 use Rattle.run_opening.proofs.LossLemmas.{lost_after, lost_before}
 use Rattle.member_decks.proofs.OutcomeLemmas.{left_then}
 use Rattle.member_node.specs.declared.member.NodeNo.TheVariants as no_node
+use Rattle.mas_complex.specs.CallCounts.{pair_at}
 
 by_test : {A : Type 0} (b : Bool) → (b ≡ true → A) → (b ≡ false → A) → A
 by_test true f g = f refl
@@ -89,7 +90,7 @@ module _ {P C : Type 0} (plants : PlantGhosts P) where
   }
 
   -- a step, by the cause of its answer
-  step_leaves : (by : ℕ) (x y : Parts P C) (r : Result (Unit {0}) NodeNo) → StepCauses r by x.first_alive y.first_alive x.second_alive y.second_alive (v x) (v y)
+  step_leaves : (by : ℕ) (x y : Parts P C) (r : Result (Unit {0}) NodeNo) → StepCauses r by (pair_at x.first_alive x.second_alive (v x)) (pair_at y.first_alive y.second_alive (v y))
       → LeavesSome plants x y r
   step_leaves by x y (Err no_node.BothLost) cause = cause
   step_leaves by x y (Err no_node.ConsoleFault) cause = inl cause.0

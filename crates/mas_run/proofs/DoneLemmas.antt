@@ -11,6 +11,7 @@ use Rattle.mas_run.proofs.TurnedLemmas.{from_says, HasWritten, IsNowAside, turne
 use Rattle.mas_run.proofs.ClosingLemmas.{if_runs}
 use Rattle.member_node.specs.declared.member.NodeNo.TheVariants as no_node
 use Rattle.mas_types.specs.declared.commands.Command.TheVariants as command
+use Rattle.mas_complex.specs.CallCounts.{pair_at}
 
 -- without the count
 abbrev erased : Left → Left
@@ -52,12 +53,12 @@ cut_there (Ok done) ps cut is = is
 cut_there (Err e) ps None is = absurd is
 cut_there (Err e) ps (Some cut) is = record { there = inl is.there; halt = is.halt; cause = is.cause }
 
-module _ (by : ℕ) (a a' b b' : Bool) (old new : View) (r : Result (Unit {0}) NodeNo) (cause : StepCauses r by a a' b b' old new) where
+module _ (by : ℕ) (a a' b b' : Bool) (old new : View) (r : Result (Unit {0}) NodeNo) (cause : StepCauses r by (pair_at a b old) (pair_at a' b' new)) where
   cause_stops : r ≡ Err no_node.Halted → Rose (old.stops by) (new.stops by)
-  cause_stops is = (subst (λ (q : Result (Unit {0}) NodeNo). StepCauses q by a a' b b' old new) is cause).1
+  cause_stops is = (subst (λ (q : Result (Unit {0}) NodeNo). StepCauses q by (pair_at a b old) (pair_at a' b' new)) is cause).1
 
   cause_fails : r ≡ Err no_node.ConsoleFault → Rose (old.faults Console) (new.faults Console)
-  cause_fails is = (subst (λ (q : Result (Unit {0}) NodeNo). StepCauses q by a a' b b' old new) is cause).1
+  cause_fails is = (subst (λ (q : Result (Unit {0}) NodeNo). StepCauses q by (pair_at a b old) (pair_at a' b' new)) is cause).1
 
 -- BEFORE THE STEP: nothing, or a takeover, which found this of a batch in flight at a moment
 

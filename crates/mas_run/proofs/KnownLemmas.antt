@@ -1,12 +1,11 @@
 -- What is known of a line by its admission, and of its member.
-use Rattle.mas_run.proofs.Names.{◌≡◌, ◌⊎◌, inl, inr, Bool, true, false, ◌||◌, if◌then◌else◌, ℕ, Option, Some, None, is_some, refl, sym, ◌∙◌, ap, subst, ⊎_elim, ◌+◌, ◌≤◌, nat_le, ◌&&◌, length, arith, and_parts, Command, MemberId, nobody, is_somebody, is_member, job_seen_in, nothing_seen, refused_card, seen_after, LockNo, Book, after_try, granted, is_holder, is_stopped, ticked, try_refusal, IsMember, is_dormant, wakes, Ask, Admission, Frees, Locks, Plays, Refused, Replaces, Resets, TakesOver, admitted, resets, Denied, Unplayed, denied_closing, nat_tests, Dev, Spool, IsCkpt, Queue, AreMembersNamed, IsConfig, IsFit, members_most, is_mark, IsPlayed, IsCopy, IsAsk, IsBy, IsGivable, MayBeAsked, AreFewUnits, IsSayer, is_of_member, line_by}
+use Rattle.mas_run.proofs.Names.{◌≡◌, ◌⊎◌, inl, inr, Bool, true, false, if◌then◌else◌, Some, None, refl, sym, ◌∙◌, ap, subst, ⊎_elim, ◌+◌, ◌≤◌, length, arith, Command, MemberId, nobody, is_somebody, is_member, job_seen_in, nothing_seen, refused_card, seen_after, LockNo, Book, is_holder, is_stopped, try_refusal, IsMember, is_dormant, wakes, Ask, Admission, Frees, Locks, Plays, Refused, Replaces, Resets, TakesOver, admitted, resets, Denied, Unplayed, denied_closing, Dev, Spool, IsCkpt, Queue, AreMembersNamed, IsConfig, IsFit, members_most, is_mark, IsPlayed, IsCopy, IsAsk, IsBy, IsGivable, MayBeAsked, AreFewUnits, IsSayer, is_of_member, line_by, ArmCame, Comes, CommandCame, DeckCame, FreeCame, HasGot, IsUp, LineCame, LockCame, LossCame, NoMember, NotGranted, ReplaceCame, ResetCame, SaysNo, StillUp, StopCame, TakeoverCame, WorkCame, comes, few_of, holder_is, inside_of, some_of}
 use Rattle.mas_types.specs.Step.{may_give}
 use Rattle.card_reader.specs.Statements.{cards_to_end, items_of}
 use Rattle.card_reader.proofs.Fields.{fields_fit, least-ok}
 use Rattle.card_reader.proofs.Refusals.{cards_fit}
 use Rattle.queue_commands.specs.Given.{IsGiver, is_plain}
 use Rattle.script_input.specs.Commands.{is_typed}
-use Rattle.mas_run.proofs.ComesLemmas.{HasGot, holder_is, IsUpMember, Comes, comes, NoMember, SaysNo, StillUp, NotGranted, DeckCame, CommandCame, ResetCame, TakeoverCame, WorkCame, LineCame, LockCame, FreeCame, ReplaceCame, MuteCame}
 use Rattle.script_lang.specs.declared.types.Ask.TheVariants as ask
 use Rattle.mas_types.specs.declared.commands.Command.TheVariants as command
 use Rattle.lock_cycle.specs.declared.answers.LockNo.TheVariants as lock
@@ -24,34 +23,6 @@ some_by by _ is some = some.0
 pub few_asked : (what : Ask) → IsAsk what → AreFewUnits what
 few_asked (ask.Work n) is = is.1
 few_asked _ is = tt
-
--- A MEMBER of the configuration
-
-and_left : (a b : Bool) → (a && b) ≡ true → a ≡ true
-and_left true b is = refl
-and_left false b is = absurd (cc)
-
-pub few_of : (Q : Queue) → IsConfig Q.config → (m : MemberId) → is_member Q.config m ≡ true → m.0 ≤ members_most
-few_of Q config m is =
-    let within : nat_le m.0 Q.config.members ≡ true = (and_parts (is_somebody m) (nat_le m.0 Q.config.members) is).1 in
-    let le : m.0 ≤ Q.config.members = grind (arith, nat_tests) in
-    let most = config.members.1 in
-    omega (arith, le, most)
-
-pub some_of : (Q : Queue) (m : MemberId) → is_member Q.config m ≡ true → 1 ≤ m.0
-some_of Q m is = by_number m.0 (and_left (is_somebody m) (nat_le m.0 Q.config.members) is) where
-  by_number : (n : ℕ) → is_somebody (record { 0 = n }) ≡ true → 1 ≤ n
-  by_number n some = grind (arith, nat_tests, some)
-
--- in whose book each member of the configuration has its place
-pub inside_of : (Q : Queue) (b : Book) (m : MemberId) → length b.members ≡ Q.config.members → is_member Q.config m ≡ true → IsMember b m
-inside_of Q b m booked is =
-    let within : nat_le m.0 Q.config.members ≡ true = (and_parts (is_somebody m) (nat_le m.0 Q.config.members) is).1 in
-    let le : m.0 ≤ Q.config.members = grind (arith, nat_tests) in
-    let some = some_of Q m is in (
-      omega (arith, some),
-      omega (arith, le, booked),
-    )
 
 -- A COMMAND that a script may give
 
@@ -79,7 +50,7 @@ typed_givable : (Q : Queue) (by : MemberId) (c : Command) → IsConfig Q.config 
 typed_givable Q by c config member fit is = record {
   plain = typed_plain c is;
   fit = fit;
-  giver = typed_giver by c is (some_of Q by member, few_of Q config by member);
+  giver = typed_giver by c is (some_of Q.config by member, few_of Q.config by member config);
   may = typed_may Q by c is member;
   unmarked = typed_unmarked c is;
 }
@@ -100,17 +71,17 @@ module _ (Q : Queue) (config : IsConfig Q.config) (b : Book) (by : MemberId) whe
     pub givable : is_member Q.config by ≡ true → IsGivable Q by (command.Reset of)
 
   abbrev IsSaidBy : MemberId → Type 0
-  IsSaidBy sayer = (sayer ≡ nobody) ⊎ ((sayer ≡ by) × IsUpMember Q.config b by)
+  IsSaidBy sayer = (sayer ≡ nobody) ⊎ ((sayer ≡ by) × IsUp Q.config b by)
 
   abbrev pub IsKnown : Admission → Type 0
   IsKnown (Refused sayer end) = IsSaidBy sayer × AreMembersNamed end
-  IsKnown (Denied why) = IsUpMember Q.config b by × (try_refusal b by false ≡ Some why)
-  IsKnown (Plays task) = IsUpMember Q.config b by × MayBeAsked Q by task × HasGot Q.config b by
-  IsKnown (Resets of) = IsUpMember Q.config b by × IsDown of × HasGot Q.config b by
-  IsKnown (TakesOver of) = IsUpMember Q.config b by × IsDown of × (is_holder b of ≡ true)
-  IsKnown Locks = IsUpMember Q.config b by × HasGot Q.config b by
-  IsKnown Frees = IsUpMember Q.config b by × (is_holder b by ≡ true)
-  IsKnown (Replaces dev) = IsUpMember Q.config b by × IsCkpt dev × HasGot Q.config b by
+  IsKnown (Denied why) = IsUp Q.config b by × (try_refusal b by false ≡ Some why)
+  IsKnown (Plays task) = IsUp Q.config b by × MayBeAsked Q by task × HasGot Q.config b by
+  IsKnown (Resets of) = IsUp Q.config b by × IsDown of × HasGot Q.config b by
+  IsKnown (TakesOver of) = IsUp Q.config b by × IsDown of × (is_holder b of ≡ true)
+  IsKnown Locks = IsUp Q.config b by × HasGot Q.config b by
+  IsKnown Frees = IsUp Q.config b by × (is_holder b by ≡ true)
+  IsKnown (Replaces dev) = IsUp Q.config b by × IsCkpt dev × HasGot Q.config b by
   IsKnown Unplayed = ⊥
 
   -- a reset of a member that is stopped
@@ -123,12 +94,12 @@ module _ (Q : Queue) (config : IsConfig Q.config) (b : Book) (by : MemberId) whe
   known_by : {what : Ask} {a : Admission} → Comes Q.config b by what a → is_of_member what ≡ true → IsPlayed (line_by by what) → IsKnown a
   known_by (NoMember end named) is played = (inl refl, named)
   known_by (SaysNo end up named) is played = (inr (refl, up), named)
-  known_by (StillUp of up member) is played = (inr (refl, up), few_of Q config of member)
+  known_by (StillUp of up member) is played = (inr (refl, up), few_of Q.config of member config)
   known_by (NotGranted why up refused) is played = (up, refused)
   known_by (DeckCame cards fields got read) is played =
       let none = (least-ok (refused_card 1 (cards_to_end 0 cards + 1) cards) (job_seen_in (seen_after Q.config.node nothing_seen (items_of cards))) fields read).0 in
       (got.is_up, (fields_fit Q.config.node cards fields config.node read, cards_fit (cards_to_end 0 cards) (cards_to_end 0 cards + 1) cards none), got)
-  known_by (CommandCame c got) is played = (got.is_up, typed_givable Q by c config got.is_up.member played.fits.what played.built, got)
+  known_by (CommandCame c got none) is played = (got.is_up, typed_givable Q by c config got.is_up.member played.fits.what played.built, got)
   known_by (ResetCame c of got so member down) is played = (got.is_up, its_down c of so member down played.fits.what, got)
   known_by (TakeoverCame c of up so member down holds) is played = (up, its_down c of so member down played.fits.what, holds)
   known_by (WorkCame n got) is played = (got.is_up, played.fits.what.1, got)
@@ -136,7 +107,9 @@ module _ (Q : Queue) (config : IsConfig Q.config) (b : Book) (by : MemberId) whe
   known_by (LockCame got) is played = (got.is_up, got)
   known_by (FreeCame up holds) is played = (up, holds)
   known_by (ReplaceCame dev got) is played = (got.is_up, copy_ckpt dev played.fits.what, got)
-  known_by (MuteCame mute) is played = absurd (let bad : true ≡ false = sym is ∙ mute in cc)
+  known_by StopCame is played = absurd (cc)
+  known_by (ArmCame fuse n) is played = absurd (cc)
+  known_by (LossCame dev) is played = absurd (cc)
 
   pub known : (what : Ask) → is_of_member what ≡ true → IsPlayed (line_by by what) → IsKnown (admitted Q.config b by what)
   known what is played = known_by (comes Q.config b by what) is played
@@ -155,7 +128,7 @@ module _ (Q : Queue) (config : IsConfig Q.config) (b : Book) (by : MemberId) whe
 
   -- who says the line of a refusal may
   pub sayer_of : length b.members ≡ Q.config.members → (sayer : MemberId) → IsSaidBy sayer → IsSayer b sayer by
-  sayer_of booked sayer says = ⊎_elim inl (λ own. inr (own.0, inside_of Q b by booked own.1.member, own.1.up)) says
+  sayer_of booked sayer says = ⊎_elim inl (λ own. inr (own.0, inside_of Q.config by own.1.member b booked, own.1.up)) says
 
   pub said_by : (sayer : MemberId) → IsSaidBy sayer → (sayer ≡ nobody) ⊎ (sayer ≡ by)
   said_by sayer says = ⊎_elim inl (λ own. inr own.0) says
@@ -163,7 +136,7 @@ module _ (Q : Queue) (config : IsConfig Q.config) (b : Book) (by : MemberId) whe
   pub own_seat : length b.members ≡ Q.config.members → (sayer : MemberId) → IsSaidBy sayer → sayer ≡ by → 1 ≤ by.0 → IsMember b by
   own_seat booked sayer says same some = ⊎_elim
       (λ none. let zero_says = ap (λ (m : MemberId). m.0) (sym same ∙ none) in absurd (omega (arith, zero_says, some)))
-      (λ own. inside_of Q b by booked own.1.member) says
+      (λ own. inside_of Q.config by own.1.member b booked) says
 
   -- a member that is up isn't the stopped one that holds the lock
   pub not_holder : (of : MemberId) → is_stopped b by ≡ false → is_stopped b of ≡ true → is_holder b of ≡ true → is_holder b by ≡ false
@@ -171,12 +144,3 @@ module _ (Q : Queue) (config : IsConfig Q.config) (b : Book) (by : MemberId) whe
     by_test : (h : Bool) → is_holder b by ≡ h → is_holder b by ≡ false
     by_test false free = free
     by_test true mine = absurd (let same = ap (λ (m : MemberId). is_stopped b m) (sym (holder_is b of holds) ∙ holder_is b by mine) in cc)
-
-  -- who was refused the lock left it where it was
-  pub denied_holder : (why : LockNo) → try_refusal b by false ≡ Some why → (after_try b by false).holder ≡ b.holder
-  denied_holder why refused = by_tests (is_stopped b by) (is_holder b by) (try_refusal b by false) refused where
-    by_tests : (s h : Bool) (r : Option LockNo) → r ≡ Some why → (if s || h then b else if is_some r then ticked b false else granted (ticked b false) by).holder ≡ b.holder
-    by_tests true h r is = refl
-    by_tests false true r is = refl
-    by_tests false false None is = absurd (cc)
-    by_tests false false (Some other) is = refl

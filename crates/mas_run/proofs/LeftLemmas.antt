@@ -1,13 +1,10 @@
 -- A line of a member, in the words of a run: by what it left, and once the operator said that its member was stopped.
-use Rattle.mas_run.proofs.Names.{IsWhy, ℕ, Bool, refl, ◌≡◌, ◌≢◌, inl, inr, ◌==◌, ◌&&◌, true, false, if◌then◌else◌, List, [], ◌∷◌, ◌++◌, map, append-nil, Option, None, Result, Ok, sym, ◌∙◌, ap, subst, arith, ⊎_elim, ◌⊎◌, ◌≤◌, Some, Err, ◌+◌, OnOk, Spool, Ckpt1, Ckpt2, View, ViewLine as Line, paper_now, ViewLine as Printed, World, KeepsCounts, VolumesStay, none_lost, console_now, stay_both, stay_more, rose_more, OnConsole, eqb-true, nat_tests, map-append, Fate, Dev, MemberId, Ask, PlantGhosts, Ghosts as CopyGhosts, Parts, AreBatched, AtCut, IsBroken, IsTight, cause_by, NodeNo, next, Goes, Cut, Cause, Ends, Batched, Scene, Said, cause_of, steps_said_by as said_by, stopped_lines, Given, played_with, ArePiecesOf, IsAskRight, LineAt, admitted_at, pieces_at, played_at, fate_found, sayer_of, Piece, Admission, Plays, AdmissionLeaves, CutsAs, IfIdle, IfOfMember, IsPassed, IsWithin, LosesAs, arms_by, arms_then, cut_in, cut_of, is_takeover, is_work, printed_at, taking, IsGiven, IsHonest, IsHonestAs, StaysAs, named_as, named_by, names_in, IsNextAct, MayLoseCopy, loses_then, HasLeft, linesleft_left_at as left_at, IsCutBy, is_of_member, Disk, Printer, Wire, SamePapers, stopped_in, IsOneAct, CouldNotStay, IsWhyLost, Proceeds, IsShapedAs, holder_as, IsTaskShaped, by_order, All-weaker, Closing, GroupNo, Text, Queue, Read, IsFoundLost, HasFailed, HasPrinterFailed, IsReadAs, IsSpoolLost, Finds, units_done, units_left, nothing_found, Found, Offer, Holder, State, Away, Fresh, Rested, Told, Task, Deck, Give, Work, Acknowledge, Exchange, PrintLines, ReadText, AreFoundIn, FindsOffered, IsFoundAt, Wait, AreFewPieces, AreShaped, DeckLinesIn, SaysIn, WorkLinesIn, ended_as, LeavesVolumes, no, PairState}
-use Rattle.member_resets.specs.Acts.{HasLineFailed}
-use Rattle.member_work.specs.Causes.{MayRefuse}
+use Rattle.mas_run.proofs.Names.{IsWhy, ℕ, Bool, refl, ◌≡◌, ◌≢◌, inl, inr, ◌==◌, ◌&&◌, true, false, if◌then◌else◌, List, [], ◌∷◌, ◌++◌, map, append-nil, Option, None, Result, Ok, sym, ◌∙◌, ap, subst, arith, ⊎_elim, ◌⊎◌, ◌≤◌, Some, Err, ◌+◌, OnOk, Spool, Ckpt1, Ckpt2, View, ViewLine as Line, paper_now, ViewLine as Printed, World, KeepsCounts, VolumesStay, none_lost, console_now, stay_both, stay_more, OnConsole, eqb-true, nat_tests, map-append, Fate, Dev, MemberId, Ask, PlantGhosts, Ghosts as CopyGhosts, Parts, AreBatched, AtCut, IsBroken, IsTight, cause_by, NodeNo, next, Goes, Cut, Cause, Ends, Batched, Scene, Said, cause_of, steps_said_by as said_by, stopped_lines, Given, played_with, ArePiecesOf, IsAskRight, LineAt, admitted_at, pieces_at, played_at, fate_found, sayer_of, Piece, Admission, Plays, AdmissionLeaves, CutsAs, IfIdle, IfOfMember, IsPassed, IsWithin, arms_by, arms_then, cut_in, cut_of, is_takeover, is_work, printed_at, taking, IsGiven, IsHonest, IsHonestAs, StaysAs, named_as, named_by, names_in, IsNextAct, MayLoseCopy, loses_then, HasLeft, linesleft_left_at as left_at, IsCutBy, is_of_member, Disk, SamePapers, stopped_in, IsOneAct, CouldNotStay, IsWhyLost, Proceeds, IsShapedAs, holder_as, IsTaskShaped, by_order, All-weaker, Finds, units_done, units_left, nothing_found, Holder, State, Fresh, Told, Task, Deck, Give, Work, AreFoundIn, IsFoundAt, Wait, AreFewPieces, AreShaped, DeckLinesIn, SaysIn, WorkLinesIn, ended_as, LeavesVolumes, no, PairState, goes_none}
+use Rattle.member_resets.proofs.Following.{found_in}
+use Rattle.member_work.proofs.CauseLemmas.{wider_found, wider_refusal}
 use Rattle.member_sittings.specs.Shapes.{SaysAtEnd}
 use Rattle.script_lang.specs.declared.types.Ask.TheVariants as ask
 use Rattle.member_node.specs.declared.member.NodeNo.TheVariants as no_node
-use Rattle.mas_types.specs.declared.answers.Closing.TheVariants as closing
-use Rattle.mas_types.specs.declared.commands.Reply.TheVariants as reply
-use Rattle.job_outcome.specs.declared.outcomes.Read.TheVariants as read
 
 -- where none is lost none but these is
 pub stays_any : (but : ℕ → Bool) (old new : View) → VolumesStay none_lost old new → VolumesStay but old new
@@ -120,77 +117,11 @@ if_idle false P p = p
 
 -- A line in which its member was stopped, once the operator has said so.
 
-module _ (old mid new : View) (goes : Proceeds mid new) where
-  failed_later : (per : ℕ) (groups : List GroupNo) (volume : ℕ) → HasFailed per groups volume old mid → HasFailed per groups volume old new
-  failed_later per groups volume failed = record {
-    there = failed.there;
-    lost = goes.lost (Disk (Spool volume)) refl failed.lost;
-    rose = rose_more (old.faults (Disk (Spool volume))) (mid.faults (Disk (Spool volume))) (new.faults (Disk (Spool volume))) failed.rose (goes.faults (Disk (Spool volume)));
-  }
-
-  printer_later : (by : MemberId) → HasPrinterFailed by old mid → HasPrinterFailed by old new
-  printer_later by failed = record {
-    lost = goes.lost (Printer by) refl failed.lost;
-    rose = rose_more (old.faults (Printer by)) (mid.faults (Printer by)) (new.faults (Printer by)) failed.rose (goes.faults (Printer by));
-  }
-
-  line_later : (l : ℕ) → HasLineFailed l old mid → HasLineFailed l old new
-  line_later l failed = record {
-    lost = goes.lost (Wire l) refl failed.lost;
-    rose = rose_more (old.faults (Wire l)) (mid.faults (Wire l)) (new.faults (Wire l)) failed.rose (goes.faults (Wire l));
-  }
-
-  read_later : (told : Type 0) (per : ℕ) (text : Text) (groups : List GroupNo) (r : Read) → IsReadAs told per text groups (Some r) old mid → IsReadAs told per text groups (Some r) old new
-  read_later told per text groups (read.Lost volume) is = (is.0, failed_later per groups volume is.1)
-  read_later told per text groups _ is = is
-
-  spooled_later : (per : ℕ) (groups : List GroupNo) (lost : Option ℕ) → IsSpoolLost per groups lost old mid → IsSpoolLost per groups lost old new
-  spooled_later per groups None is = tt
-  spooled_later per groups (Some volume) is = failed_later per groups volume is
-
-  offered_later : (per : ℕ) (Q : Queue) (offer : Option Offer) (r : Read) → FindsOffered per Q offer r old mid → FindsOffered per Q offer r old new
-  offered_later per Q None r is = is
-  offered_later per Q (Some o) r is = (is.0, is.1, read_later (Unit {0}) per is.0.text _ r is.2)
-
-  found_later : (per : ℕ) (by : MemberId) (Q : Queue) (s : State) (found : Found) → IsFoundAt per by old mid Q s found → IsFoundAt per by old new Q s found
-  found_later per by Q (Away (ReadText runs n fields p)) found is =
-      record { only = is.only; job = is.job; there = is.there; as_had = read_later (Unit {0}) per is.job.text _ found.read is.as_had }
-  found_later per by Q (Away (PrintLines n i last p)) found is =
-      record {
-        only = is.only;
-        lost = λ lost. printer_later by (is.lost lost);
-        output = is.output;
-        there = is.there;
-        as_had = read_later (Unit {0}) per is.output.text _ found.read is.as_had;
-      }
-  found_later per by Q (Away (Exchange l offer)) found is =
-      record { only = is.only; text = offered_later per Q offer found.read is.text; lost = λ lost. line_later l (is.lost lost); frames = is.frames }
-  found_later per by Q (Away (Acknowledge number service)) found is = record { only = is.only; lost = λ lost. line_later service.line (is.lost lost) }
-  found_later per by Q (Fresh task) found is = is
-  found_later per by Q (Rested p) found is = is
-  found_later per by Q Told found is = is
-  found_later per by Q _ found is = record { only = is.only; lost = spooled_later per _ found.lost is.lost }
-
+module _ (old mid new : View) (goes : Goes mid new) where
   pub finds_later : (per : ℕ) (by : MemberId) (finds : Finds) (ws : List Wait) → AreFoundIn per by old mid finds ws → AreFoundIn per by old new finds ws
   finds_later per by finds ws are =
       All-weaker (λ (w : Wait). IsFoundAt per by old mid w.queue w.state (finds w.queue w.state)) (λ (w : Wait). IsFoundAt per by old new w.queue w.state (finds w.queue w.state))
-      (λ w is. found_later per by w.queue w.state (finds w.queue w.state) is) ws are
-
-  -- AND HOW A STEP CLOSES
-
-  lost_later : (lost : Option ℕ) → IsFoundLost lost old mid → IsFoundLost lost old new
-  lost_later None is = tt
-  lost_later (Some volume) is = (
-    goes.lost (Disk (Spool volume)) refl is.0,
-    rose_more (old.faults (Disk (Spool volume))) (mid.faults (Disk (Spool volume))) (new.faults (Disk (Spool volume))) is.1 (goes.faults (Disk (Spool volume))),
-  )
-
-  refuse_later : (by : MemberId) (end : Closing) → MayRefuse by end old mid → MayRefuse by end old new
-  refuse_later by (closing.Reply (reply.No why)) may = tt
-  refuse_later by (closing.NoText group) may = tt
-  refuse_later by (closing.SpoolLost volume) may = lost_later (Some volume) may
-  refuse_later by closing.PrinterLost may = printer_later by may
-  refuse_later by _ may = absurd may
+      (λ w is. found_in per old old mid new (goes_none old) goes by w.queue w.state (finds w.queue w.state) is) ws are
 
   -- lines that are said at a step's end alone
   at_end : (next : State) (F G : List (List ℕ) → Type 0) → ((ls : List (List ℕ)) → F ls → G ls) → (ls : List (List ℕ)) → SaysAtEnd next F ls → SaysAtEnd next G ls
@@ -198,11 +129,13 @@ module _ (old mid new : View) (goes : Proceeds mid new) where
   at_end _ F G f ls says = says
 
   says_later : (h : Holder) (task : Task) (p : Piece) → SaysIn h (Fresh task) nothing_found old mid p.sitting → SaysIn h (Fresh task) nothing_found old new p.sitting
-  says_later h (Deck fields text) p says = let deck_later : (h : Holder) (found : Found) (ls : List (List ℕ)) → DeckLinesIn h found old mid ls → DeckLinesIn h found old new ls = λ h found ls d. (d.0, d.1, d.2, ⊎_elim inl (λ failed. inr (lost_later d.0 failed)) d.3) in
-      at_end p.sitting.next (DeckLinesIn h nothing_found old mid) (DeckLinesIn h nothing_found old new) (deck_later h nothing_found) p.sitting.lines says
-  says_later h (Work n) p says = let work_later : (h : Holder) (units : ℕ) (found : Found) (ls : List (List ℕ)) → WorkLinesIn h units found old mid ls → WorkLinesIn h units found old new ls = λ h units found ls w. (w.0, w.1, ⊎_elim inl (λ refused. inr (refuse_later h.by w.0 refused)) w.2) in
+  says_later h (Deck fields text) p says =
+      at_end p.sitting.next (DeckLinesIn h nothing_found old mid) (DeckLinesIn h nothing_found old new)
+      (λ ls d. (d.0, d.1, d.2, ⊎_elim inl (λ failed. inr (wider_found d.0 old old mid new (goes_none old) goes failed)) d.3)) p.sitting.lines says
+  says_later h (Work n) p says =
       let units = units_done (Fresh (Work n)) + units_left (Fresh (Work n)) in
-      at_end p.sitting.next (WorkLinesIn h units nothing_found old mid) (WorkLinesIn h units nothing_found old new) (work_later h units nothing_found) p.sitting.lines says
+      at_end p.sitting.next (WorkLinesIn h units nothing_found old mid) (WorkLinesIn h units nothing_found old new)
+      (λ ls w. (w.0, w.1, ⊎_elim inl (λ refused. inr (wider_refusal h.by old old mid new (goes_none old) goes w.0 refused)) w.2)) p.sitting.lines says
   says_later h _ p says = says
 
   shape_later : (h : Holder) (task : Task) (ps : List Piece) → AreShaped h (Fresh task) nothing_found old mid ps → AreShaped h (Fresh task) nothing_found old new ps
@@ -219,7 +152,7 @@ module _ (old mid new : View) (goes : Proceeds mid new) where
 
 -- SHAPES, of a later view
 
-pub shaped_as_later : (old mid new : View) (goes : Proceeds mid new) (l : LineAt) (a : Admission) → IsShapedAs l old mid a → IsShapedAs l old new a
+pub shaped_as_later : (old mid new : View) (goes : Goes mid new) (l : LineAt) (a : Admission) → IsShapedAs l old mid a → IsShapedAs l old new a
 shaped_as_later old mid new goes l (Plays task) is = task_later old mid new goes (holder_as l (Plays task)) task l.given.pieces is
 shaped_as_later old mid new goes l _ is = is
 
@@ -304,7 +237,7 @@ module _ {P C : Type 0} (plants : PlantGhosts P) (copies : CopyGhosts C) (told :
   abbrev w : Parts P C → View
   w z = plants.view z.plant
 
-  pub passed_here : IsPassed told copies.reads l left.own (w x) (w y) r
+  pub passed_here : IsPassed told l left.own (w x) (w y) r
   passed_here =
       let cut_here : cut_of l ≡ l.given.sight.cut = (of_member l member).cut l.given.sight.cut in
       let up : (w y).stops l.step.by.0 ≡ (w x).stops l.step.by.0 = left.spares.stops l.step.by.0 (inr (not_stopped r other)) in
@@ -328,7 +261,6 @@ module _ {P C : Type 0} (plants : PlantGhosts P) (copies : CopyGhosts C) (told :
             ∙ sym (lines_left l member));
         paper = λ t m. printed_here plants copies told l x y member left m t;
         dry = left.dry;
-        loses = λ t. subst (λ (d : Option Dev). LosesAs copies.reads (took l) d (w x) (w y)) (sym (ap (λ p. p.outcome.loses) (of_member l member).played)) (left.loses t);
         arms = λ m. left.arms m ∙ sym (arms_same plants copies told l x y member left m);
         volumes = λ t leaves. left.volumes t ((of_member l member).leaves leaves);
       }

@@ -8,11 +8,9 @@ pub mod JournalLemmas
 pub mod ClosingLemmas
 pub mod AloneLemmas
 pub mod MuteLineLemmas
-pub mod ComesLemmas
 pub mod KnownLemmas
 pub mod ClosesLemmas
 pub mod ReplacingLemmas
-pub mod BookLemmas
 pub mod TurnedLemmas
 pub mod DoneLemmas
 pub mod BarelyLemmas

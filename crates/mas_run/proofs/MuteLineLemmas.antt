@@ -1,8 +1,7 @@
 -- A stop of a member, a stop that is armed, and the loss of a device, as lines of a script.
-use Rattle.mas_run.proofs.Names.{◌≡◌, ◌≢◌, ◌⊎◌, inl, inr, ⊎_elim, ℕ, ◌+◌, ◌≤◌, not, Bool, true, false, if◌then◌else◌, List, length, Option, None, Ok, le_refl, refl, sym, ◌∙◌, ap, subst, arith, [], ◌∷◌, Result, Err, append-nil, ◌==◌, ◌&&◌, ◌++◌, map, Some, Dev, Ckpt1, Ckpt2, Spool, MemberId, Entry, Config, Queue, steps_most, is_member, runs_keep_configuration, Book, IsMember, after_stop, is_stopped, Fuse, Disk, PlantGhosts, View, disk_now, DiskView, ViewLine as Line, paper_now, Loses, Rose, SameWires, Arms, next, Ghosts as CopyGhosts, SteadyGhosts, IsCkpt, pick, Complex, Elsewhere, kept_all, reserved_after_stop, Parts, parts_of, with_half, no, papers_none, Grows, console_now, VolumesStay, none_lost, Member, journal_of, queue_of, Scene, Batched, Played, is_up, silent, stop, Said, arm, lose, nothing, KeepCopies, Proceeds, StaysLost, same_device, AskLeaves, CutsAs, IfOfMember, IsWithin, LeavesVolumes, arms_then, cut_in, cut_of, is_work, loses_then, named_by, line_by, HasPlayedLine, is_of_member, LineIsPlayed, BetweenLines, IsBetween, IsShown, IsFlight, Since, none_since, stopped_since, proceeds_of, HaveRead, closing_line, SaysStopped, stopped_said, NodeNo, TellNone, closing_of, whole_later, eqb-true, nat_tests, Batch, Fate, Flying, Ask, Step, Counts, Part, NoMore, SamePapers, counts_of, AreBatched, AtCut, IsBroken, IsTight, Sitting, Admission, IsAskRight, none_given, LineAt, admitted_at, pieces_at, played_at, Cut, Halt, Replaced, settle, AreVolumesKept, kept_none, no_more, admitted}
+use Rattle.mas_run.proofs.Names.{◌≡◌, ◌≢◌, ◌⊎◌, inl, inr, ⊎_elim, ℕ, ◌+◌, ◌≤◌, not, Bool, true, false, if◌then◌else◌, List, length, Option, None, Ok, le_refl, refl, sym, ◌∙◌, ap, subst, arith, [], ◌∷◌, Result, Err, append-nil, ◌==◌, ◌&&◌, ◌++◌, map, Some, Dev, Ckpt1, Ckpt2, Spool, MemberId, Entry, Config, Queue, steps_most, is_member, runs_keep_configuration, Book, IsMember, after_stop, is_stopped, Fuse, Disk, PlantGhosts, View, disk_now, DiskView, ViewLine as Line, paper_now, Loses, Rose, SameWires, Arms, next, Ghosts as CopyGhosts, SteadyGhosts, IsCkpt, pick, Complex, Elsewhere, kept_all, reserved_after_stop, Parts, parts_of, with_half, no, papers_none, Grows, console_now, VolumesStay, none_lost, Member, journal_of, queue_of, Scene, Batched, Played, is_up, silent, stop, Said, arm, lose, nothing, KeepCopies, Proceeds, StaysLost, same_device, AskLeaves, CutsAs, IfOfMember, IsWithin, LeavesVolumes, arms_then, cut_in, cut_of, is_work, loses_then, named_by, line_by, HasPlayedLine, is_of_member, LineIsPlayed, BetweenLines, IsBetween, IsShown, IsFlight, Since, none_since, stopped_since, proceeds_of, HaveRead, closing_line, SaysStopped, stopped_said, NodeNo, TellNone, closing_of, whole_later, eqb-true, nat_tests, Batch, Fate, Flying, Ask, Step, Counts, Part, NoMore, SamePapers, counts_of, AreBatched, AtCut, IsBroken, IsTight, Sitting, Admission, IsAskRight, none_given, LineAt, admitted_at, pieces_at, played_at, Cut, Halt, Replaced, settle, AreVolumesKept, kept_none, no_more, admitted, copies_at, comes, inside_of}
 use Rattle.member_lines.specs.Stops.{ArmsIf as ArmsThere, ArmsStop, IsAt, Stops}
 use Rattle.mas_run.proofs.ClosesLemmas.{scene_at, shown_at, between_later}
-use Rattle.mas_run.proofs.KnownLemmas.{inside_of}
 use Rattle.mas_run.proofs.CopiesLemmas.{copies_still, leaves_same}
 use Rattle.mas_run.proofs.WireLemmas.{readers_still, mute_carries}
 use Rattle.mas_run.proofs.TurnedLemmas.{between_said, between_spoken}
@@ -97,7 +96,6 @@ module _ {P C : Type 0} (plants : PlantGhosts P) (copies : CopyGhosts C) (told :
             paper = λ t m. mute.papers (tells t) new.now mute.goes.later (le_refl new.now) m ∙ sym (append-nil (paper_now old m))
                 ∙ ap (λ (ls : List Line). paper_now old m ++ ls) (sym (none_either (step.by.0 == m) (played_at l).outcome.printed (ap (λ o. o.printed) here.quiet)));
             dry = λ t so. mute.papers (tells t);
-            loses = λ t d. inl (mute.loses d ∙ sym (ap (λ o. loses_then o.loses d (old.loses d)) here.quiet));
             arms = here.arms;
             volumes = λ t leaves. mute.volumes (tells t) (here.leaves leaves);
           };
@@ -105,7 +103,8 @@ module _ {P C : Type 0} (plants : PlantGhosts P) (copies : CopyGhosts C) (told :
           moment = (omega arith, mute.goes.later);
           batches = ap (λ (w : Parts P C). journal_of w) mute.frame ∙ sym (settle_none old.now (journal_of x)) ∙ sym (append-nil (settle Flying old.now (journal_of x)))
               ∙ ap (λ (f : Fate). settle f old.now (journal_of x) ++ []) (sym (ap (λ o. o.found) here.quiet));
-          renews = renews_mute None Replaced x.renewals y.renewals old new (ap (λ (w : Parts P C). w.renewals) mute.frame) S.queue.config S.book step.by step.what none;
+          loses = λ t d. inl (mute.loses d ∙ sym (ap (λ o. loses_then o.loses d (old.loses d)) here.quiet));
+          renews = renews_mute None Replaced (copies_at plants x) (copies_at plants y) (ap (λ (w : Parts P C). w.renewals) mute.frame) (comes S.queue.config S.book step.by step.what) none;
           wires = λ t. mute_carries x.since l (played_at l).outcome.given old new (ap (λ o. o.given) here.quiet) (mute.wires (tells t)) S.queue.config S.book step.by step.what none;
         };
         shows = here.shows;
@@ -328,7 +327,7 @@ module _ {P C : Type 0} {plants : PlantGhosts P} {steadies : SteadyGhosts C} {co
 
   -- a member that is up has its place in the book
   inside_up : (S : Scene) → IsAt S p → is_up S by ≡ true → IsMember S.book by
-  inside_up S at_scene up = inside_of S.queue S.book by booked (by_test (is_member S.queue.config by) refl) where
+  inside_up S at_scene up = inside_of S.queue.config by (by_test (is_member S.queue.config by) refl) S.book booked where
     booked : length S.book.members ≡ S.queue.config.members
     booked = ap (λ (b : Book). length b.members) at_scene.book ∙ is.booked ∙ ap (λ (c : Config). c.members) (sym at_scene.config)
 

@@ -16,8 +16,7 @@ pub use Rattle.job_outcome.specs.declared.outcomes.Read.{Read}
 pub use Rattle.lock_cycle.specs.Books.{after_free, after_seize, after_spend, after_stop, after_try, beginner, granted, is_dormant, is_holder, noted, seize_refusal, standing, ticked, try_refusal, wakes, with_holder, with_standing}
 pub use Rattle.lock_cycle.specs.declared.answers.LockNo.{LockNo}
 pub use Rattle.lock_cycle.specs.declared.standings.Standing.{Standing}
-pub use Rattle.mas_complex.proofs.BatchEnds.{with_last-append}
-pub use Rattle.mas_complex.proofs.Batches.{kept_all_append, placed_all, settled_later, unplaced_settled}
+pub use Rattle.mas_complex.proofs.Batches.{with_last-append, kept_all_append, placed_all, settled_later, unplaced_settled}
 pub use Rattle.mas_complex.specs.CallCounts.{IsLostOnce, KeepsCounts, PairState, pair_at, pair_state}
 pub use Rattle.mas_complex.specs.Elsewhere.{Elsewhere}
 pub use Rattle.mas_complex.specs.Headline.{Headline}
@@ -36,11 +35,11 @@ pub use Rattle.mas_run.specs.LinesLeft.{AreCounted, flown_of, scene_as, HasLeft,
 pub use Rattle.mas_run.specs.LinesPlayed.{HasPlayedLine, PassesLines, PlayedLine, here_at, is_of_member, line_by, there_at}
 pub use Rattle.mas_run.specs.Passed.{ArePassed, GoesOn, Here, IsNext, LeaveVolumes, Passed, TakeNone, There, arms_after, here_after, line_of, loses_after}
 pub use Rattle.mas_run.specs.Refusals.{IsSaid, calm as refusals_calm, refusal_before_play, said_by, steps_of}
-pub use Rattle.mas_run.specs.Renewing.{Begins, BeginsAndEnds, RenewsAs, RenewsAt, RenewsBy, RenewsIn}
+pub use Rattle.mas_run.specs.Renewing.{Begins, BeginsAndEnds, CopiesAt, RenewsAs, RenewsBy, copies_at, known_by}
 pub use Rattle.mas_run.specs.Runs.{EndsAs, HasLost, HasSteps, HavePassed, IsPlay, IsRun, LinesBegun, LinesEnded, NonePassed, ReplacesNone, WerePlayed, starts, stops}
 pub use Rattle.mas_run.specs.Shapes.{IsShapedAs, IsTaskShaped, holder_as}
 pub use Rattle.mas_run.specs.Statuses.{AreLeftAlone, CannotStop, IsLeftAlone, IsStill, TakesNone, resets_in}
-pub use Rattle.mas_run.specs.Wires.{Carries, HasHeard, HeardFirst, HeardIn, stream_since, task_place, waits_as}
+pub use Rattle.mas_run.specs.Wires.{Carries, HeardFirst, HeardIn, stream_since, task_place, waits_as}
 pub use Rattle.mas_types.specs.Closings.{AreMembersNamed, closing_line, reply_lines}
 pub use Rattle.mas_types.specs.Fit.{IsConfig, IsFit, IsLine}
 pub use Rattle.mas_types.specs.Ids.{is_somebody, nobody, same_member}
@@ -71,7 +70,7 @@ pub use Rattle.member_node.proofs.WriteLemmas.{none_out, run_append}
 pub use Rattle.member_node.specs.Spares.{Spares, is_stop, stopped_in}
 pub use Rattle.member_node.specs.declared.member.Member.{Member}
 pub use Rattle.member_resets.proofs.Acting.{aside_then, asided, seat_then}
-pub use Rattle.member_resets.proofs.BookLemmas.{Since, admitted_since, freed_since, inside_since, line_since, none_since, piece_since, play_since, play_stops, seized_since, spent_since, stopped_now, stopped_since, then_since, tried_since, unlocked_book}
+pub use Rattle.member_resets.proofs.BookLemmas.{Since, admitted_since, freed_since, inside_since, line_since, none_since, piece_since, play_since, play_stops, seized_since, spent_since, stands_later, stopped_now, stopped_since, then_since, tried_since, unlocked_book}
 pub use Rattle.member_resets.proofs.Flights.{journal_unreserved, settled_unreserved, stands_unreserved}
 pub use Rattle.member_resets.proofs.ResetCutLemmas.{entered_same}
 pub use Rattle.member_resets.proofs.Seated.{seated}
@@ -79,7 +78,7 @@ pub use Rattle.member_resets.proofs.SettleLemmas.{journal_still, settle_both, se
 pub use Rattle.member_resets.proofs.ToldLemmas.{AreOfStep, EachSays, TellNone, Untells, closing_of, left_tells, reply_of, untold_then, whole_later}
 pub use Rattle.member_resets.specs.Cuts.{ArePart, IsAsideHalt, IsBatched, IsBetweenSittings, IsCutBy as IsCutIn, OfFirst}
 pub use Rattle.member_resets.specs.Found.{FindsJob, FindsOffered, FindsOutput, FindsWritten, IsFoundAt, printed_found, read_found}
-pub use Rattle.member_resets.specs.Hears.{GivesOnly, Hears, HearsAtFirst, HearsIn, HearsStep, IsElsewhere, ReaderStaysFrom, TakesNothing, line_served}
+pub use Rattle.member_resets.specs.Hears.{GivesOnly, HasTaken, Hears, HearsAtFirst, HearsIn, HearsStep, IsElsewhere, ReaderStaysFrom, TakesNothing, line_served}
 pub use Rattle.member_resets.specs.Locks.{MayHold}
 pub use Rattle.member_resets.specs.Plays.{HasActedIn, HasCut, HasPlayed, HasToldStep, IfCommand, IfNoPrint, IsAfterStep, IsOwnPiece, MayPlay, Passage, Played as PlaysPlayed, Writes, left_of as plays_left_of, play_in, played_in}
 pub use Rattle.member_resets.specs.Quiet.{IsAside, IsQuiet, IsSeatedBy, MayGoOn, levels_for}
@@ -92,7 +91,7 @@ pub use Rattle.member_resets.specs.WhyLost.{CouldNotStay, IsWhyLost}
 pub use Rattle.member_sittings.specs.Gates.{IsAtGate, IsAtSeat, IsOpen, MayTakeSeat}
 pub use Rattle.member_sittings.specs.Sat.{CopiesActed, begins as sat_begins, seated_in}
 pub use Rattle.member_sittings.specs.Whole.{HasStepKept, HasUntold, HoldsLock, IsAtRest, IsGivable, IsSeat, first_half, queue_of, second_half}
-pub use Rattle.member_steps.proofs.ReadLemmas.{low_later, pages_of_run}
+pub use Rattle.member_steps.proofs.ReadLemmas.{between_by, low_later, pages_of_run}
 pub use Rattle.member_steps.specs.Noting.{OtherNotesStay}
 pub use Rattle.member_steps.specs.Saying.{OnConsole}
 pub use Rattle.member_steps.specs.Steps.{AreEarlier, AreKeptFrom, IsKeptBy, StepCauses, entry_with}
@@ -111,10 +110,13 @@ pub use Rattle.run_opening.specs.Refusals.{is_refusal}
 pub use Rattle.run_opening.specs.Runs.{IsAway, begins_at}
 pub use Rattle.run_opening.specs.Shows.{AreLarge, AreMembers, IsBetween, IsFlight, IsMemberAt, IsMemberUp, is_left_held}
 pub use Rattle.run_opening.specs.Wires.{AreReaders, HasRead, reader_place}
+pub use Rattle.run_turns.proofs.Comes.{ArmCame, Comes, CommandCame, DeckCame, FreeCame, HasGot, LineCame, LockCame, LossCame, NoMember, NotGranted, ReplaceCame, ResetCame, SaysNo, StillUp, StopCame, TakeoverCame, WorkCame, comes, denied_holder, few_of, holder_is, holder_keeps, inside_of, some_of}
 pub use Rattle.run_turns.proofs.Givens.{ask_right, right_lines}
+pub use Rattle.run_turns.proofs.Keeping.{CallsKeep, adds_keeps, batches_are, left_keeps, tried_keeps}
 pub use Rattle.run_turns.specs.Admissions.{Frees, Locks, Unplayed, asked, command_admitted, deck_admitted, denied_closing, if_granted, no_member, reset_admitted, tried, tries}
 pub use Rattle.run_turns.specs.Cuts.{Left, adds, adds_all, adds_first, adds_part, batches_cut, begun, book_cut, cut_left, kept_all as cuts_kept_all, left_by, none_left, stopped_by}
 pub use Rattle.run_turns.specs.Givens.{AreRight, IsAskRight, ask_with, cut_if, flight_met, none_given, played_with}
+pub use Rattle.run_turns.specs.Laws.{IsUp}
 pub use Rattle.run_turns.specs.Pieces.{after_piece, closes_with, entered, is_locked, once_found, piece_at, piece_of, pieces_found, pieces_from, pieces_of, play_of, released_by, replaced_closing, replaced_pieces, reset_closing, reset_pieces, sayer_of, spent, task_pieces, unless_told}
 pub use Rattle.run_turns.specs.Runs.{fate_then, history_from, outcomes_from, outcomes_if, scene_if, serves_ask, serves_line, settled}
 pub use Rattle.run_turns.specs.Scenes.{count_then, flies_as, flight_found, flying_in, kept_in, kept_of, queue_found, with_count, with_fate}

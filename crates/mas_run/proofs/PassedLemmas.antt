@@ -1,6 +1,5 @@
 -- The lines of a run one after another, and the copies that they replaced.
-use Rattle.mas_run.proofs.Names.{◌≡◌, ◌≢◌, ◌⊎◌, inl, inr, ℕ, suc, ◌+◌, ◌≤◌, ◌==◌, ◌&&◌, Bool, true, false, if◌then◌else◌, List, [], ◌∷◌, ◌++◌, length, map, drop, append_assoc, append-nil, Option, Some, None, Result, Ok, Err, refl, sym, ◌∙◌, ap, subst, arith, ⊎_elim, nat_lt, All, map-append, Dev, Spool, Ckpt1, Ckpt2, MemberId, Batch, Fate, Kept, Dropped, Flying, same_member, is_flying, Step, Ask, Rose, next as next_count, SameWires, top, Fuse, Console, Disk, View, World, disk_now, given_now, paper_now, AreBatched, IsBatched as StandsAs, NoMore, console_now, NodeNo, Cause, Cut, Ends, Stops, Halt, LostAgain, NotLost, Renewed, Replaced, Saying, Writing, fate_found, Armed, Batched, Scene, with_fate, Said, cause_of, counted, counted_at, is_up, run_goes_on, silent, Outcome, console, fate_then, given_on, history_from, outcomes_if, paper_of, scene_if, serves_line, settled, serves_ask, AreRight, Given, RightIf, ask_with, cut_if, given_first, last_cut, outcomes_with, scene_with, admitted_at, played_at, LineAt, AreHistory, HistoriesIsBatched as IsBatched, settle, settled_at, with_found, CutsAs, EndsBy, LinesIsCutAs as IsCutAs, IsUnsaid, MayLoseCopy, StopsUnsaid, arms_by, cut_in, is_takeover, loses_then, taking, is_replaced, same_device, Proceeds, StaysLost, ArePassed, GoesOn, Here, LeaveVolumes, TakeNone, There, arms_after, here_after, line_of, loses_after, IsNext, Passed, AreVolumesKept, by_order, kept_none, more_then, proceeds_none, proceeds_on, eqb-true, nat_tests, Config, Book, same_member_is, Line as Node, Admission, Plays, Replaces, admitted, Carries, AreSettled, settle_still, settle_both, All-head, All-tail, Renewal, Renewals, with_device, is_of_member, Begins, BeginsAndEnds, RenewsAs, RenewsAt, RenewsBy, RenewsIn, IsCkpt, of_device, no}
-use Rattle.mas_run.proofs.ComesLemmas.{Comes, comes, LineCame, NoMember, SaysNo, StillUp, NotGranted, MuteCame, ReplaceCame}
+use Rattle.mas_run.proofs.Names.{◌≡◌, ◌≢◌, ◌⊎◌, inl, inr, ℕ, suc, ◌+◌, ◌≤◌, ◌==◌, ◌&&◌, Bool, true, false, if◌then◌else◌, List, [], ◌∷◌, ◌++◌, length, map, drop, append_assoc, append-nil, Option, Some, None, Result, Ok, Err, refl, sym, ◌∙◌, ap, subst, arith, ⊎_elim, nat_lt, All, map-append, Dev, Spool, Ckpt1, Ckpt2, MemberId, Batch, Fate, Kept, Dropped, Flying, same_member, is_flying, Step, Ask, Rose, next as next_count, SameWires, top, Fuse, Console, Disk, View, World, disk_now, given_now, paper_now, AreBatched, IsBatched as StandsAs, NoMore, console_now, NodeNo, Cause, Cut, Ends, Stops, LostAgain, NotLost, Renewed, Replaced, Writing, fate_found, Armed, Batched, Scene, with_fate, Said, cause_of, counted, counted_at, is_up, run_goes_on, silent, Outcome, console, fate_then, given_on, history_from, outcomes_if, paper_of, scene_if, serves_line, settled, serves_ask, AreRight, Given, RightIf, ask_with, cut_if, given_first, last_cut, outcomes_with, scene_with, admitted_at, played_at, LineAt, AreHistory, HistoriesIsBatched as IsBatched, settle, settled_at, with_found, CutsAs, EndsBy, LinesIsCutAs as IsCutAs, IsUnsaid, MayLoseCopy, StopsUnsaid, arms_by, cut_in, is_takeover, loses_then, taking, is_replaced, same_device, Proceeds, StaysLost, ArePassed, GoesOn, Here, LeaveVolumes, TakeNone, There, arms_after, here_after, line_of, loses_after, IsNext, Passed, AreVolumesKept, by_order, kept_none, more_then, proceeds_none, proceeds_on, eqb-true, nat_tests, Config, Book, same_member_is, Line as Node, Admission, Plays, Replaces, admitted, Carries, AreSettled, settle_still, settle_both, All-head, All-tail, Renewal, Renewals, with_device, is_of_member, Begins, BeginsAndEnds, RenewsAs, RenewsBy, IsCkpt, of_device, no, CopiesAt, known_by, Comes, LineCame, NoMember, NotGranted, ReplaceCame, SaysNo, StillUp, comes}
 use Rattle.script_lang.specs.declared.types.Ask.TheVariants as ask
 use Rattle.spool_plant.specs.declared.plant.Fuse.TheVariants as fuse
 use Rattle.member_node.specs.declared.member.NodeNo.TheVariants as no_node
@@ -54,7 +53,6 @@ module _ (since : ℕ) (l : LineAt) (given : List ℕ) (old new : View) where
 
       line_gave : {a : Admission} → Comes config b l.step.by (ask.Line n) a → IsGave a
       line_gave (LineCame k got) = served
-      line_gave (MuteCame mute) = absurd (cc)
       line_gave _ = gave_none
 
     gave_by : (what : Ask) (config : Config) (b : Book) → Carries since l (admitted config b l.step.by what) given old new → Gave (same_member l.step.by m && serves_ask line what)
@@ -377,7 +375,7 @@ passed_loses told n h gs (step ∷ steps) many end t (there, more, is, next, res
     let p = played_at (line_of h g step) in
     let os = outcomes_with p.next (h.number + 1) (drop 1 gs) steps in
     let one : there.view.loses (Spool n) ≡ loses_then p.outcome.loses (Spool n) (h.view.loses (Spool n)) =
-    loses_once (next.passed.loses t (Spool n)) (no_volume h.reads (taking (is_takeover (admitted_at (line_of h g step))) (fate_found (admitted_at (line_of h g step)) g.sight)) n h.view there.view) in
+    loses_once (next.loses t (Spool n)) (no_volume h.reads (taking (is_takeover (admitted_at (line_of h g step))) (fate_found (admitted_at (line_of h g step)) g.sight)) n h.view there.view) in
     by_going p.goes_on (λ b. end.view.loses (Spool n) ≡ loses_after (Spool n) (outcomes_if b os) (loses_then p.outcome.loses (Spool n) (h.view.loses (Spool n)))) rest
     (λ m. passed_loses told n (here_after h g step there) (drop 1 gs) steps more end t m.1 ∙ ap (loses_after (Spool n) os) one)
     (λ e. ap (λ (x : There). x.view.loses (Spool n)) e.0 ∙ one)
@@ -391,7 +389,7 @@ passed_loses_copies told d h gs (step ∷ steps) many end t none (there, more, i
     let p = played_at (line_of h g step) in
     let os = outcomes_with p.next (h.number + 1) (drop 1 gs) steps in
     let one : there.view.loses d ≡ loses_then p.outcome.loses d (h.view.loses d) =
-    loses_once (next.passed.loses t d) (no_copy h.reads (is_takeover (admitted_at (line_of h g step))) (fate_found (admitted_at (line_of h g step)) g.sight) d h.view there.view none.0) in
+    loses_once (next.loses t d) (no_copy h.reads (is_takeover (admitted_at (line_of h g step))) (fate_found (admitted_at (line_of h g step)) g.sight) d h.view there.view none.0) in
     by_going_right p.goes_on (λ b. end.view.loses d ≡ loses_after d (outcomes_if b os) (loses_then p.outcome.loses d (h.view.loses d))) rest none.1
     (λ m right. passed_loses_copies told d (here_after h g step there) (drop 1 gs) steps more end t right m.1 ∙ ap (loses_after d os) one)
     (λ e. ap (λ (x : There). x.view.loses d) e.0 ∙ one)
@@ -503,7 +501,7 @@ module _ (told : Type 0) (front : List Batch) (now : ℕ) (settled : AreSettled 
       ((own_there end r ≡ own_there there mine) × (more ≡ 0))) rest
       (λ m. let i = passed_after (here_after h g step there) (drop 1 gs) steps more end mine now_is m.1 in (i.0, i.1, (m.0, i.2)))
       (λ e. (mine, ap (λ (x : There). x.batches) e.0 ∙ now_is, (ap (λ (x : There). own_there x mine) e.0, e.1))) in
-      (out.0, out.1, (own_there there mine, more, one, record { own = next.own; passed = next.passed; at = next.at; moment = next.moment; batches = refl; renews = next.renews; wires = next.wires }, out.2))
+      (out.0, out.1, (own_there there mine, more, one, record { own = next.own; passed = next.passed; at = next.at; moment = next.moment; batches = refl; loses = next.loses; renews = next.renews; wires = next.wires }, out.2))
 
 -- A LINE THAT FINDS NOTHING leaves the journal's batches as they were
 
@@ -558,57 +556,43 @@ not_replaced d config b by what other = kept_by d (comes config b by what) other
 
 -- OF A LATER VIEW
 
-module _ (dev : Dev) (rs is : Renewals) (old new later : View) (on : new.now ≤ later.now) where
-  begins_later : Begins dev rs is old new → Begins dev rs is old later
+module _ (dev : Dev) (x y : CopiesAt) (later : View) (on : y.view.now ≤ later.now) where
+  begins_later : Begins dev x y → Begins dev x (record y { view = later })
   begins_later b = record { from = b.from; within = (b.within.0, let le = b.within.1 in omega (arith, le, on)); is = b.is }
 
-  ends_later : BeginsAndEnds dev rs is old new → BeginsAndEnds dev rs is old later
+  ends_later : BeginsAndEnds dev x y → BeginsAndEnds dev x (record y { view = later })
   ends_later b = record { from = b.from; until = b.until; within = (b.within.0, b.within.1, let le = b.within.2 in omega (arith, le, on)); is = b.is }
 
-  by_later : (found : Renewed) → RenewsBy found dev rs is old new → RenewsBy found dev rs is old later
-  by_later Replaced r = ends_later r
-  by_later NotLost r = r
-  by_later LostAgain r = begins_later r
+  by_later : (known : Option Renewed) → RenewsBy known dev x y → RenewsBy known dev x (record y { view = later })
+  by_later (Some Replaced) r = ends_later r
+  by_later (Some NotLost) r = r
+  by_later (Some LostAgain) r = begins_later r
+  by_later None r = ⊎_elim inl (λ some. inr (⊎_elim (λ b. inl (begins_later b)) (λ e. inr (ends_later e)) some)) r
 
-  at_later : (halt : Halt) (found : Renewed) → RenewsAt halt found dev rs is old new → RenewsAt halt found dev rs is old later
-  at_later (Saying n tail) found r = by_later found r
-  at_later _ found r = let some_later : (is ≡ rs) ⊎ (Begins dev rs is old new ⊎ BeginsAndEnds dev rs is old new) → (is ≡ rs) ⊎ (Begins dev rs is old later ⊎ BeginsAndEnds dev rs is old later) = λ r. ⊎_elim inl (λ x. inr (⊎_elim (λ b. inl (begins_later b)) (λ e. inr (ends_later e)) x)) r in
-      some_later r
-
-  in_later : (cut : Option Cut) (found : Renewed) → RenewsIn cut found dev rs is old new → RenewsIn cut found dev rs is old later
-  in_later None found r = by_later found r
-  in_later (Some cut) found r = at_later cut.halt found r
-
-pub renews_later : (a : Admission) (cut : Option Cut) (found : Renewed) (rs is : Renewals) (old new later : View) → new.now ≤ later.now
-    → RenewsAs a cut found rs is old new → RenewsAs a cut found rs is old later
-renews_later (Replaces dev) cut found rs is old new later on r = in_later dev rs is old new later on cut found r
-renews_later _ cut found rs is old new later on r = r
+pub renews_later : (a : Admission) (cut : Option Cut) (found : Renewed) (x y : CopiesAt) (later : View) → y.view.now ≤ later.now → RenewsAs a cut found x y → RenewsAs a cut found x (record y { view = later })
+renews_later (Replaces dev) cut found x y later on r = by_later dev x y later on (known_by cut found) r
+renews_later _ cut found x y later on r = r
 
 -- whyever it was cut
-pub renews_caused : (a : Admission) (cut : Cut) (why : Cause) (found : Renewed) (rs is : Renewals) (old new : View)
-    → RenewsAs a (Some cut) found rs is old new → RenewsAs a (Some (record cut { cause = why })) found rs is old new
-renews_caused (Replaces dev) cut why found rs is old new r = r
-renews_caused _ cut why found rs is old new r = r
+pub renews_caused : (a : Admission) (cut : Cut) (why : Cause) (found : Renewed) (x y : CopiesAt) → RenewsAs a (Some cut) found x y → RenewsAs a (Some (record cut { cause = why })) found x y
+renews_caused (Replaces dev) cut why found x y r = r
+renews_caused _ cut why found x y r = r
 
 -- a line that replaces none leaves the moments as they were
-pub renews_none : (a : Admission) (cut : Option Cut) (found : Renewed) (rs is : Renewals) (old new : View) → ((dev : Dev) → a ≡ Replaces dev → ⊥) → is ≡ rs
-    → RenewsAs a cut found rs is old new
-renews_none (Replaces dev) cut found rs is old new other same = absurd (other dev refl)
-renews_none _ cut found rs is old new other same = same
+pub renews_none : (a : Admission) (cut : Option Cut) (found : Renewed) (x y : CopiesAt) → ((dev : Dev) → a ≡ Replaces dev → ⊥) → y.renewals ≡ x.renewals → RenewsAs a cut found x y
+renews_none (Replaces dev) cut found x y other same = absurd (other dev refl)
+renews_none _ cut found x y other same = same
 
 -- and so does a line that isn't one of a member
-module _ (cut : Option Cut) (found : Renewed) (rs is : Renewals) (old new : View) (same : is ≡ rs) where
-  mute_renews : {config : Config} {b : Book} {by : MemberId} {what : Ask} {a : Admission} → Comes config b by what a → is_of_member what ≡ false → RenewsAs a cut found rs is old new
-  mute_renews (ReplaceCame dev got) mute = absurd (cc)
-  mute_renews _ mute = same
-
-  pub renews_mute : (config : Config) (b : Book) (by : MemberId) (what : Ask) → is_of_member what ≡ false → RenewsAs (admitted config b by what) cut found rs is old new
-  renews_mute config b by what mute = mute_renews (comes config b by what) mute
+pub renews_mute : {config : Config} {b : Book} {by : MemberId} {what : Ask} {a : Admission} (cut : Option Cut) (found : Renewed) (x y : CopiesAt) → y.renewals ≡ x.renewals → Comes config b by what a → is_of_member what ≡ false
+    → RenewsAs a cut found x y
+renews_mute cut found x y same (ReplaceCame dev got) mute = absurd (cc)
+renews_mute cut found x y same _ mute = same
 
 -- and so does one that was cut before its first act
-pub renews_unbegun : (a : Admission) (cause : Cause) (found : Renewed) (rs : Renewals) (v : View) → RenewsAs a (Some (record { sittings = 0; halt = Writing 0 None; cause = cause })) found rs rs v v
-renews_unbegun (Replaces dev) cause found rs v = inl refl
-renews_unbegun _ cause found rs v = refl
+pub renews_unbegun : (a : Admission) (cause : Cause) (found : Renewed) (x : CopiesAt) → RenewsAs a (Some (record { sittings = 0; halt = Writing 0 None; cause = cause })) found x x
+renews_unbegun (Replaces dev) cause found x = inl refl
+renews_unbegun _ cause found x = refl
 
 -- WHAT STAYS of the copy on a device, where another is replaced
 
@@ -621,37 +605,26 @@ of_apart Ckpt2 Ckpt2 ckpt other of rs = absurd (no true refl other)
 of_apart Ckpt2 (Spool n) ckpt other of rs = refl
 of_apart (Spool m) dev ckpt other of rs = absurd ckpt
 
-module _ (d : Dev) (ckpt : IsCkpt d) (dev : Dev) (other : same_device d dev ≡ false) (rs is : Renewals) (old new : View) where
-  begun_keeps : (t : Bool) (of : List Renewal) → of_device d (if t then with_device dev of rs else rs) ≡ of_device d rs
-  begun_keeps true of = of_apart d dev ckpt other of rs
+module _ (d : Dev) (ckpt : IsCkpt d) (dev : Dev) (other : same_device d dev ≡ false) (x y : CopiesAt) where
+  begun_keeps : (t : Bool) (of : List Renewal) → of_device d (if t then with_device dev of x.renewals else x.renewals) ≡ of_device d x.renewals
+  begun_keeps true of = of_apart d dev ckpt other of x.renewals
   begun_keeps false of = refl
 
-  begins_keeps : Begins dev rs is old new → of_device d is ≡ of_device d rs
+  begins_keeps : Begins dev x y → of_device d y.renewals ≡ of_device d x.renewals
   begins_keeps b = ap (of_device d) b.is ∙ begun_keeps (nat_lt b.from top) _
 
-  ends_keeps : BeginsAndEnds dev rs is old new → of_device d is ≡ of_device d rs
+  ends_keeps : BeginsAndEnds dev x y → of_device d y.renewals ≡ of_device d x.renewals
   ends_keeps b = ap (of_device d) b.is ∙ of_apart d dev ckpt other _ _ ∙ begun_keeps (nat_lt b.from top) _
 
-  pub some_keeps : (is ≡ rs) ⊎ (Begins dev rs is old new ⊎ BeginsAndEnds dev rs is old new) → of_device d is ≡ of_device d rs
-  some_keeps r = ⊎_elim (λ same. ap (of_device d) same) (λ x. ⊎_elim begins_keeps ends_keeps x) r
+  pub by_keeps : (known : Option Renewed) → RenewsBy known dev x y → of_device d y.renewals ≡ of_device d x.renewals
+  by_keeps (Some Replaced) r = ends_keeps r
+  by_keeps (Some NotLost) r = ap (of_device d) r
+  by_keeps (Some LostAgain) r = begins_keeps r
+  by_keeps None r = ⊎_elim (λ same. ap (of_device d) same) (λ some. ⊎_elim begins_keeps ends_keeps some) r
 
-  by_keeps : (found : Renewed) → RenewsBy found dev rs is old new → of_device d is ≡ of_device d rs
-  by_keeps Replaced r = ends_keeps r
-  by_keeps NotLost r = ap (of_device d) r
-  by_keeps LostAgain r = begins_keeps r
-
-  at_keeps : (halt : Halt) (found : Renewed) → RenewsAt halt found dev rs is old new → of_device d is ≡ of_device d rs
-  at_keeps (Saying n tail) found r = by_keeps found r
-  at_keeps _ found r = some_keeps r
-
-  in_keeps : (cut : Option Cut) (found : Renewed) → RenewsIn cut found dev rs is old new → of_device d is ≡ of_device d rs
-  in_keeps None found r = by_keeps found r
-  in_keeps (Some cut) found r = at_keeps cut.halt found r
-
-as_keeps : (d : Dev) → IsCkpt d → (a : Admission) → is_replaced d a ≡ false → (cut : Option Cut) (found : Renewed) (rs is : Renewals) (old new : View) → RenewsAs a cut found rs is old new
-    → of_device d is ≡ of_device d rs
-as_keeps d ckpt (Replaces dev) other cut found rs is old new r = in_keeps d ckpt dev other rs is old new cut found r
-as_keeps d ckpt _ other cut found rs is old new r = ap (of_device d) r
+as_keeps : (d : Dev) → IsCkpt d → (a : Admission) → is_replaced d a ≡ false → (cut : Option Cut) (found : Renewed) (x y : CopiesAt) → RenewsAs a cut found x y → of_device d y.renewals ≡ of_device d x.renewals
+as_keeps d ckpt (Replaces dev) other cut found x y r = by_keeps d ckpt dev other x y (known_by cut found) r
+as_keeps d ckpt _ other cut found x y r = ap (of_device d) r
 
 -- LINES ONE AFTER ANOTHER, none of which replaces the copy on a device
 
@@ -674,7 +647,7 @@ module _ (told : Type 0) where
       let g = given_first gs in
       let other = not_replaced d h.scene.queue.config h.scene.book step.by step.what (All-head (λ (s : Step). s.what ≢ ask.Replace d) step steps none) in
       let now : of_device d there.renewals ≡ of_device d h.renewals =
-      as_keeps d ckpt (admitted_at (line_of h g step)) other g.sight.cut g.sight.renewed h.renewals there.renewals h.view there.view next.renews in
+      as_keeps d ckpt (admitted_at (line_of h g step)) other g.sight.cut g.sight.renewed _ _ next.renews in
       by_going (played_at (line_of h g step)).goes_on (λ b. of_device d end.renewals ≡ of_device d h.renewals) rest
       (λ m. passed_keeps d ckpt (here_after h g step there) (drop 1 gs) steps more end (All-tail (λ (s : Step). s.what ≢ ask.Replace d) step steps none) m.1 ∙ now)
       (λ e. ap (λ (x : There). of_device d x.renewals) e.0 ∙ now)

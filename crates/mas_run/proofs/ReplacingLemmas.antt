@@ -1,16 +1,17 @@
 -- A line that replaces a copy: its member takes its seat or keeps it, replaces the copy, and says so.
-use Rattle.mas_run.proofs.Names.{◌≡◌, ◌≢◌, ◌⊎◌, inl, inr, ⊎_elim, ℕ, ◌≤◌, Bool, true, false, Some, Result, Ok, Err, IsErrOf, refl, sym, ◌∙◌, ap, subst, arith, ◌||◌, ◌∷◌, [], List, Option, None, map, ◌-◌, set, slice_get, is_none, Dev, Ckpt1, Ckpt2, Spool, MemberId, Part, Disk, PlantGhosts, View, Ghosts as CopyGhosts, IsBothLost, IsCkpt, SomeAlive, other, pick, begun_on, ended_at, ended_on, is_open, of_device, or_at, Elsewhere, Parts, parts_of, IsLeft, console_now, Member, NodeNo, stopped_in, no as clash, Replaces, granted_by, LostAgain, NotLost, Renewed, Replaced, Cause, LeavesSome, StaysWhole, LeavesCopies, AreSidesLeft, Sides, ends_both, sides_of, Proceeds, is_copy, Begins, BeginsAndEnds, RenewsBy, RenewsAs, Renewal, Renewals, closing_line, Page, Book, after_stop, after_try, left_of as hold_left, SteadyGhosts, Complex, IsAtSeat, journal_of, OtherNotesStay, IsSeatedBy, HasClosedBy, before_line, stopped_so, failed, Ask, ByLock, ForStep, Grant, Holder, Release, Told, Work, released, Piece, closes_with, holder_of, once_found, replaced_closing, Scene, LineDone, line_by, cause_by, same_device, Armed, Batch, Counts, flown_of, scene_as}
+use Rattle.mas_run.proofs.Names.{◌≡◌, ◌≢◌, inl, inr, ⊎_elim, ℕ, ◌≤◌, Bool, true, false, Some, Result, Ok, Err, IsErrOf, refl, sym, ◌∙◌, ap, subst, arith, List, Option, None, ◌-◌, set, slice_get, Dev, Ckpt1, Ckpt2, Spool, MemberId, Part, Disk, PlantGhosts, View, Ghosts as CopyGhosts, IsBothLost, IsCkpt, SomeAlive, other, pick, begun_on, ended_on, is_open, of_device, Elsewhere, Parts, parts_of, IsLeft, console_now, Member, NodeNo, stopped_in, no as clash, Replaces, granted_by, LostAgain, NotLost, Renewed, Replaced, LeavesSome, StaysWhole, LeavesCopies, AreSidesLeft, Sides, ends_both, sides_of, Proceeds, is_copy, RenewsBy, RenewsAs, Renewals, closing_line, Page, Book, after_stop, after_try, left_of as hold_left, SteadyGhosts, Complex, IsAtSeat, journal_of, OtherNotesStay, IsSeatedBy, HasClosedBy, stopped_so, failed, Ask, ByLock, ForStep, Grant, Holder, Release, Told, Work, released, Piece, closes_with, holder_of, once_found, replaced_closing, Scene, LineDone, line_by, same_device, Armed, Batch, Counts, flown_of, scene_as, copies_at}
 use Rattle.mas_complex.specs.ReplaceNo.{ReplaceNo}
 use Rattle.mas_complex.specs.Replacing.{Replaces as ReplacesDevice, replace_stopped}
 use Rattle.member_lines.specs.Replaces.{HasReplaced, found_of, FollowsBy, HasNoSeat, HasSeat, IsLargeEnough, MayBeAt, MayReplace, ReplacesAndCloses, ReplacesBy, left_found, replacing_in}
 use Rattle.mas_run.proofs.ClosingLemmas.{Ending, IsCloser, Unsaid, closing_found, cut_by, copies_merely, then_merely}
 use Rattle.mas_run.proofs.MuteLineLemmas.{kept_elsewhere, other_disk, same_dev}
-use Rattle.mas_run.proofs.PassedLemmas.{device_is, some_keeps}
+use Rattle.mas_run.proofs.PassedLemmas.{device_is, by_keeps}
 use Rattle.mas_run.proofs.ArmLemmas.{its_holder, turn_holder, HasTurn, tested_here, IsTold, may_seat, turn_goes, turn_quiet}
 use Rattle.mas_run.proofs.ClosesLemmas.{stays_stopped}
 use Rattle.mas_run.proofs.CopiesLemmas.{copies_still, leaves_same, leaves_then}
 use Rattle.mas_run.proofs.SeatLemmas.{Did, copies_acted, did_closed, did_done, did_unseated, error_same, tried_in, went, did_begun}
 use Rattle.mas_run.proofs.BarelyLemmas.{HasMerelyActed, MayBegin}
+use Rattle.mas_complex.proofs.Renewing.{none_open}
 use Rattle.mas_complex.specs.ReplaceNo.TheVariants as no
 use Rattle.member_node.specs.declared.member.NodeNo.TheVariants as no_node
 
@@ -87,17 +88,9 @@ pick_apart Ckpt2 Ckpt2 ckpt its apart a b c e one two = absurd (clash true refl 
 pick_apart (Spool n) dev ckpt its apart a b c e one two = absurd ckpt
 pick_apart _ (Spool n) ckpt its apart a b c e one two = absurd its
 
-ended_one : (now : ℕ) (until : Option ℕ) → is_none (or_at now until) ≡ false
-ended_one now None = refl
-ended_one now (Some until) = refl
-
-ended_closed : (now : ℕ) (rs : List Renewal) → is_open (map (ended_at now) rs) ≡ false
-ended_closed now [] = refl
-ended_closed now (r ∷ rs) = ap (λ (b : Bool). b || is_open (map (ended_at now) rs)) (ended_one now r.until) ∙ ended_closed now rs
-
 ended_whole : (d : Dev) → IsCkpt d → (now : ℕ) (rs : Renewals) → is_open (of_device d (ended_on d now rs)) ≡ false
-ended_whole Ckpt1 ckpt now rs = ended_closed now rs.first
-ended_whole Ckpt2 ckpt now rs = ended_closed now rs.second
+ended_whole Ckpt1 ckpt now rs = none_open rs.first now
+ended_whole Ckpt2 ckpt now rs = none_open rs.second now
 ended_whole (Spool n) ckpt now rs = absurd ckpt
 
 module _ {P C : Type 0} (plants : PlantGhosts P) (copies : CopyGhosts C) (n : Member) (dev : Dev) (ckpt : IsCkpt dev) (x y : Parts P C) where
@@ -109,29 +102,22 @@ module _ {P C : Type 0} (plants : PlantGhosts P) (copies : CopyGhosts C) (n : Me
 
   -- the moments: a line of which these are a part began before them, and ended after
   module _ (old new : View) (from : old.now ≤ (plants.view x.plant).now) (to : (plants.view y.plant).now ≤ new.now) where
-    begins_in : (answer : Result (Unit {0}) ReplaceNo) → HasReplaced plants copies n dev x y answer → y.renewals ≡ begun_on dev (plants.view x.plant).now x.renewals → Begins dev x.renewals y.renewals old new
-    begins_in answer h is = record { from = (plants.view x.plant).now; within = (from, let later = h.replaces.later in omega (arith, later, to)); is = is }
+    abbrev RenewsIn : Option Renewed → Type 0
+    RenewsIn known = RenewsBy known dev (record { renewals = x.renewals; view = old }) (record { renewals = y.renewals; view = new })
 
-    ends_in : HasReplaced plants copies n dev x y ok → BeginsAndEnds dev x.renewals y.renewals old new
-    ends_in h = record { from = (plants.view x.plant).now; until = (plants.view y.plant).now; within = (from, h.replaces.later, to); is = ap (λ (w : Parts P C). w.renewals) h.frame }
+    -- of a line that closes by what was found, and of one that doesn't close
+    renews_in : (answer : Result (Unit {0}) ReplaceNo) → HasReplaced plants copies n dev x y answer → RenewsIn (found_of answer)
+    renews_in (Ok done) h = record { from = (plants.view x.plant).now; until = (plants.view y.plant).now; within = (from, h.replaces.later, to); is = ap (λ (w : Parts P C). w.renewals) h.frame }
+    renews_in (Err no.NotLost) h = ap (λ (w : Parts P C). w.renewals) h.frame
+    renews_in (Err no.Failed) h = record { from = (plants.view x.plant).now; within = (from, let later = h.replaces.later in omega (arith, later, to)); is = ap (λ (w : Parts P C). w.renewals) h.frame }
+    renews_in (Err no.Halted) h = inr (inl (record { from = (plants.view x.plant).now; within = (from, let later = h.replaces.later in omega (arith, later, to)); is = ap (λ (w : Parts P C). w.renewals) h.frame }))
+    renews_in _ h = inl (ap (λ (w : Parts P C). w.renewals) h.frame)
 
-    -- of a line that closes by what was found
-    renews_found : (answer : Result (Unit {0}) ReplaceNo) (found : Renewed) → found_of answer ≡ Some found → HasReplaced plants copies n dev x y answer → RenewsBy found dev x.renewals y.renewals old new
-    renews_found (Ok done) Replaced is h = ends_in h
-    renews_found (Err no.NotLost) NotLost is h = ap (λ (w : Parts P C). w.renewals) h.frame
-    renews_found (Err no.Failed) LostAgain is h = begins_in (Err no.Failed) h (ap (λ (w : Parts P C). w.renewals) h.frame)
-    renews_found (Err no.BothLost) found is h = absurd (cc)
-    renews_found _ _ is h = absurd (cc)
-
-    -- of one that doesn't close
-    abbrev RenewsSome : Type 0
-    RenewsSome = (y.renewals ≡ x.renewals) ⊎ (Begins dev x.renewals y.renewals old new ⊎ BeginsAndEnds dev x.renewals y.renewals old new)
-
-    renews_some : (answer : Result (Unit {0}) ReplaceNo) → HasReplaced plants copies n dev x y answer → RenewsSome
-    renews_some (Ok done) h = inr (inr (ends_in h))
-    renews_some (Err no.Failed) h = inr (inl (begins_in (Err no.Failed) h (ap (λ (w : Parts P C). w.renewals) h.frame)))
-    renews_some (Err no.Halted) h = inr (inl (begins_in (Err no.Halted) h (ap (λ (w : Parts P C). w.renewals) h.frame)))
-    renews_some _ h = inl (ap (λ (w : Parts P C). w.renewals) h.frame)
+    renews_some : (known : Option Renewed) → RenewsIn known → RenewsIn None
+    renews_some (Some Replaced) r = inr (inr r)
+    renews_some (Some NotLost) r = inl r
+    renews_some (Some LostAgain) r = inr (inl r)
+    renews_some None r = r
 
   -- THE COPIES
 
@@ -154,8 +140,7 @@ module _ {P C : Type 0} (plants : PlantGhosts P) (copies : CopyGhosts C) (n : Me
       there = λ now there. let was = sym same ∙ now in h.replaces.else_lost (Disk d) (other_disk dev d (apart was)) ∙ there was;
       whole = λ now before.
           let was = sym same ∙ now in
-          ap is_open (some_keeps d is_ckpt dev (apart was) x.renewals y.renewals (plants.view x.plant) (plants.view y.plant)
-          (renews_some (plants.view x.plant) (plants.view y.plant) (omega arith) (omega arith) answer h)) ∙ before was;
+          ap is_open (by_keeps d is_ckpt dev (apart was) (copies_at plants x) (copies_at plants y) (found_of answer) (renews_in (plants.view x.plant) (plants.view y.plant) (omega arith) (omega arith) answer h)) ∙ before was;
     }
 
     leaves_so : ((d : Dev) → IsCkpt d → IsSoOn d) → (r : Result (Unit {0}) NodeNo) → LeavesSome plants x y r → LeavesCopies plants x y r
@@ -368,19 +353,17 @@ module _ {P C : Type 0} {plants : PlantGhosts P} {steadies : SteadyGhosts C} {co
         -- IT CLOSED
 
         module _ (found : Renewed) (is_found : found_of seat.goes_on.answer ≡ Some found) (closed : HasClosedBy plants (left_found S n.id at dev found) n.id z q k_r) (frame_q : q ≡ record z { plant = q.plant; book = q.book }) where
-          found_so : RenewsBy found dev t.renewals q.renewals (u t) (u q)
-          found_so =
-              subst (λ (rs : Renewals). RenewsBy found dev rs q.renewals (u t) (u q)) s_renewals
-              (subst (λ (rs : Renewals). RenewsBy found dev s.renewals rs (u t) (u q)) (sym (ap (λ (w : Parts P C). w.renewals) frame_q))
-              (renews_found plants copies n dev ckpt s z (u t) (u q) took.goes.later closed.acts.goes.later seat.goes_on.answer found is_found seat.goes_on.replaced))
+          found_so : (known : Option Renewed) → RenewsBy known dev (record { renewals = s.renewals; view = u t }) (record { renewals = z.renewals; view = u q }) → RenewsBy known dev (copies_at plants t) (copies_at plants q)
+          found_so known r =
+              subst (λ (rs : Renewals). RenewsBy known dev (record { renewals = rs; view = u t }) (copies_at plants q)) s_renewals
+              (subst (λ (rs : Renewals). RenewsBy known dev (record { renewals = s.renewals; view = u t }) (record { renewals = rs; view = u q })) (sym (ap (λ (w : Parts P C). w.renewals) frame_q)) r)
 
-          renews_ending : (e : Ending) → RenewsAs (Replaces dev) (cut_by e) found t.renewals q.renewals (u t) (u q)
-          renews_ending (Unsaid cause) = some_so found found_so where
-            some_so : (f : Renewed) → RenewsBy f dev t.renewals q.renewals (u t) (u q) → (q.renewals ≡ t.renewals) ⊎ (Begins dev t.renewals q.renewals (u t) (u q) ⊎ BeginsAndEnds dev t.renewals q.renewals (u t) (u q))
-            some_so Replaced one = inr (inr one)
-            some_so NotLost one = inl one
-            some_so LostAgain one = inr (inl one)
-          renews_ending _ = found_so
+          renews_ending : (e : Ending) → RenewsAs (Replaces dev) (cut_by e) found (copies_at plants t) (copies_at plants q)
+          renews_ending e = by_ending e (subst (λ (k : Option Renewed). RenewsBy k dev (record { renewals = s.renewals; view = u t }) (record { renewals = z.renewals; view = u q })) is_found
+              (renews_in plants copies n dev ckpt s z (u t) (u q) took.goes.later closed.acts.goes.later seat.goes_on.answer seat.goes_on.replaced)) where
+                by_ending : (f : Ending) → RenewsBy (Some found) dev (record { renewals = s.renewals; view = u t }) (record { renewals = z.renewals; view = u q }) → RenewsAs (Replaces dev) (cut_by f) found (copies_at plants t) (copies_at plants q)
+                by_ending (Unsaid cause) r = found_so None (renews_some plants copies n dev ckpt s z (u t) (u q) took.goes.later closed.acts.goes.later (Some found) r)
+                by_ending _ r = found_so (Some found) r
 
           closes : DidSo k_r
           closes =
@@ -415,12 +398,13 @@ module _ {P C : Type 0} {plants : PlantGhosts P} {steadies : SteadyGhosts C} {co
 
           did_open : DidSo (failed e)
           did_open =
-              let renews_open : (cause : Cause) → RenewsAs (Replaces dev) (before_line cause) Replaced t.renewals q.renewals (u t) (u q) = λ cause. let renewals_e : q.renewals ≡ z.renewals = ap (λ (w : Parts P C). w.renewals) frame_q ∙ ap (λ (w : Parts P C). w.renewals) (stays_stopped n.id z z.plant (failed e)) in
+              let renews_open : RenewsBy None dev (copies_at plants t) (copies_at plants q) =
+              let renewals_e : q.renewals ≡ z.renewals = ap (λ (w : Parts P C). w.renewals) frame_q ∙ ap (λ (w : Parts P C). w.renewals) (stays_stopped n.id z z.plant (failed e)) in
               let to : (u z).now ≤ (u q).now = subst (λ (w : P). (u z).now ≤ (plants.view w).now) (sym plant_same) (omega arith) in
-              subst (λ (rs : Renewals). (q.renewals ≡ rs) ⊎ (Begins dev rs q.renewals (u t) (u q) ⊎ BeginsAndEnds dev rs q.renewals (u t) (u q))) s_renewals
-              (subst (λ (rs : Renewals). (rs ≡ s.renewals) ⊎ (Begins dev s.renewals rs (u t) (u q) ⊎ BeginsAndEnds dev s.renewals rs (u t) (u q))) (sym renewals_e)
-              (renews_some plants copies n dev ckpt s z (u t) (u q) took.goes.later to seat.goes_on.answer seat.goes_on.replaced)) in
-              did_begun turn refl refl y n stays base since journal printed told knows counts armed e (open_begins e heard) acted_open (λ tells d. ap (λ (w : P). (plants.view w).loses d) plant_same ∙ same_loses tells d) still_said (renews_open (cause_by e))
+              subst (λ (rs : Renewals). RenewsBy None dev (record { renewals = rs; view = u t }) (copies_at plants q)) s_renewals
+              (subst (λ (rs : Renewals). RenewsBy None dev (record { renewals = s.renewals; view = u t }) (record { renewals = rs; view = u q })) (sym renewals_e)
+              (renews_some plants copies n dev ckpt s z (u t) (u q) took.goes.later to (found_of seat.goes_on.answer) (renews_in plants copies n dev ckpt s z (u t) (u q) took.goes.later to seat.goes_on.answer seat.goes_on.replaced))) in
+              did_begun turn refl refl y n stays base since journal printed told knows counts armed e (open_begins e heard) acted_open (λ tells d. ap (λ (w : P). (plants.view w).loses d) plant_same ∙ same_loses tells d) still_said renews_open
               (leaves_then plants t s q (failed e) took_copies
               (subst (λ (w : Parts P C). LeavesCopies plants s w (failed e)) (sym frame_q)
               (subst (λ (k : Sides). AreSidesLeft (ends_both (failed e)) (sides_of plants s) k) (sides_stopped plants n.id z e) (replaced_leaves plants copies n dev ckpt s z seat.goes_on.answer (failed e) seat.goes_on.replaced (λ is_so. both (error_same e no_node.BothLost is_so))))))

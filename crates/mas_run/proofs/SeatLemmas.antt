@@ -1,5 +1,5 @@
 -- A line whose member takes its seat or keeps it, and then says its line: it keeps the lock, or it replaced a copy before.
-use Rattle.mas_run.proofs.Names.{Admission, All-nil, Ask, BetweenLines, Book, Bool, Cause, Ckpt1, Ckpt2, Complex, CopiesActed, CopyCauses, Cut, DiskView, Entry, Err, HasClosed, HasClosedBy, HoldsLock, Inner, IsAside, IsCutAs, IsOfEarlier, IsSeat, IsSeated, IsUnseated, Keep, KeepCopies, LeavesCopies, LeavesSome, Left, LeftAt, ViewLine as Line, LineDone, LineIsLeft, List, Locks, Member, MemberId, NodeNo, None, Ok, OnOk, Option, OtherNotesStay, Outer, Parts, Piece, PlantGhosts, Play, Proceeds, Queue, Release, Renewed, RenewsAs, Replaced, Result, Scene, SeatsAndCloses, SeatsBy, Since, Standing, SteadyGhosts, Stops, TellNone, View, [], after_free, after_spend, after_stop, after_try, ap, append-nil, arith, aside_then, asided, at_line, before_line, beginner, beside_none, clear, closes_with, closing_line, console_now, counts_of, entered, entered_same, eq-eqb, failed, false, freed_since, inl, inr, is_holder, is_locked, is_stopped, journal_of, left_by, left_tells, length, line_by, nobody, noted, page_count, pages_of_run, parts_of, play_of, proceeds_of, proceeds_on, refl, released_by, reserved_after_stop, seat_then, seated_in, set, set-get_or, slice_get, spent, standing, stopped_by, stopped_so, subst, sym, then_since, tried, true, untold_then, with_holder, with_standing, ℕ, ⊎_elim, ◌++◌, ◌+◌, ◌-◌, ◌∙◌, ◌∷◌, ◌≡◌, ◌⊎◌, Ghosts as CopyGhosts, left_of as hold_left, if◌then◌else◌, pair_state, Armed, Counts, Dev, cause_by, flown_of, play_as, scene_as}
+use Rattle.mas_run.proofs.Names.{Admission, All-nil, Ask, BetweenLines, Book, Bool, Cause, Ckpt1, Ckpt2, Complex, CopiesActed, CopyCauses, Cut, DiskView, Entry, Err, HasClosed, HasClosedBy, HoldsLock, Inner, IsAside, IsCutAs, IsOfEarlier, IsSeat, IsSeated, IsUnseated, Keep, KeepCopies, LeavesCopies, LeavesSome, Left, LeftAt, ViewLine as Line, LineDone, LineIsLeft, List, Locks, Member, MemberId, NodeNo, None, Ok, OnOk, Option, OtherNotesStay, Outer, Parts, Piece, PlantGhosts, Play, Proceeds, Queue, Release, Renewed, RenewsAs, Replaced, Result, Scene, SeatsAndCloses, SeatsBy, Since, Standing, SteadyGhosts, Stops, TellNone, View, [], after_free, after_spend, after_stop, after_try, ap, append-nil, arith, aside_then, asided, at_line, before_line, beginner, beside_none, clear, closes_with, closing_line, console_now, counts_of, entered, entered_same, eq-eqb, failed, false, freed_since, inl, inr, is_holder, is_locked, is_stopped, journal_of, left_by, left_tells, length, line_by, nobody, noted, page_count, pages_of_run, parts_of, play_of, proceeds_of, proceeds_on, refl, released_by, reserved_after_stop, seat_then, seated_in, set, set-get_or, slice_get, spent, standing, stopped_by, stopped_so, subst, sym, then_since, tried, true, untold_then, with_holder, with_standing, ℕ, ⊎_elim, ◌++◌, ◌+◌, ◌-◌, ◌∙◌, ◌∷◌, ◌≡◌, ◌⊎◌, Ghosts as CopyGhosts, left_of as hold_left, if◌then◌else◌, pair_state, Armed, Counts, Dev, cause_by, flown_of, play_as, scene_as, copies_at}
 use Rattle.member_resets.proofs.Passages.{passage_of}
 use Rattle.mas_run.proofs.ArmLemmas.{HasTurn, IsTold, tested_here, tested_up, turn_earlier, turn_halted, turn_inside, turn_quiet, turn_since}
 use Rattle.mas_run.proofs.TurnedLemmas.{between_after, earlier_more, found_says, line_says, seat_spoken}
@@ -145,7 +145,7 @@ module _ {P C : Type 0} {plants : PlantGhosts P} {steadies : SteadyGhosts C} {co
       -- ITS ACTS ENDED BEFORE ITS LINE
 
       pub did_begun : (e : NodeNo) → MayBegin e → HasMerelyActed plants by a t q (failed e) → (plants.tells → (d : Dev) → (u q).loses d ≡ (u t).loses d) → (plants.tells → console_now (u q) ≡ console_now (u t))
-          → RenewsAs a (before_line (cause_by e)) Replaced t.renewals q.renewals (u t) (u q) → LeavesCopies plants t q (failed e) → (e ≡ no_node.Halted → q.book ≡ after_stop b by) → OtherNotesStay by p.had q.had → DidSo (failed e)
+          → RenewsAs a (before_line (cause_by e)) Replaced (copies_at plants t) (copies_at plants q) → LeavesCopies plants t q (failed e) → (e ≡ no_node.Halted → q.book ≡ after_stop b by) → OtherNotesStay by p.had q.had → DidSo (failed e)
       did_begun e may acted loses console renews kept book notes =
           record {
             left = λ counted. begins_left plants copies told (scene_as p counts armed) at by what t q e a turn.arm.adm renews may
@@ -161,7 +161,7 @@ module _ {P C : Type 0} {plants : PlantGhosts P} {steadies : SteadyGhosts C} {co
           }
 
       -- it had no seat
-      pub did_unseated : (S : Scene) (e : NodeNo) → IsUnseated plants copies S m at a t q e → (q.renewals ≡ t.renewals → RenewsAs a (before_line (cause_by e)) Replaced t.renewals q.renewals (u t) (u q))
+      pub did_unseated : (S : Scene) (e : NodeNo) → IsUnseated plants copies S m at a t q e → (q.renewals ≡ t.renewals → RenewsAs a (before_line (cause_by e)) Replaced (copies_at plants t) (copies_at plants q))
           → q ≡ stopped_so (failed e) m.id (seated_in q t) → DidSo (failed e)
       did_unseated S e un renews frame =
           let same : q.renewals ≡ t.renewals = ap (λ (w : Parts P C). w.renewals) frame ∙ ap (λ (w : Parts P C). w.renewals) (stays_stopped m.id (seated_in q t) (seated_in q t).plant (failed e)) in
@@ -238,7 +238,7 @@ module _ {P C : Type 0} {plants : PlantGhosts P} {steadies : SteadyGhosts C} {co
               let w = wrote tells in
               untold_then plants copies p q base since turn.arm.is.begun goes_q.past w.0 (λ o. w.1) j later (w.2 later less small) (turn.arm.is.untold j later (omega (arith, less)) small) tells)
 
-        pub did_closed : ((e : Ending) → RenewsAs a (cut_by e) found t.renewals q.renewals (u t) (u q)) → DidSo r
+        pub did_closed : ((e : Ending) → RenewsAs a (cut_by e) found (copies_at plants t) (copies_at plants q)) → DidSo r
         did_closed renews =
             let acted : HasMerelyActed plants by a t q r = then_merely plants by a t z q r took (merely_closed plants by a by z q r (left_cut counts armed found) closed (inr refl)) in
             let one_same : q.first_alive ≡ z.first_alive = ap (λ (w : Parts P C). w.first_alive) frame in

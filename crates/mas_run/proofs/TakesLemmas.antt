@@ -1,14 +1,13 @@
 -- A line whose member takes the lock of a stopped member over, and resets that.
-use Rattle.mas_run.proofs.Names.{◌≡◌, ⊎_elim, inl, ℕ, ◌+◌, ◌-◌, true, false, List, [], ◌++◌, set, append-nil, None, Result, Ok, Err, sym, ◌∙◌, ap, subst, slice_get, ◌≤◌, length, refl, arith, inr, ◌<◌, Bool, if◌then◌else◌, ◌∷◌, All, Some, OnOk, slice_set, Option, MemberId, Page, Book, after_stop, IsMember, after_seize, is_holder, left_of as hold_left, PlantGhosts, View, Ghosts as CopyGhosts, SteadyGhosts, Complex, Parts, parts_of, console_now, Grows, Member, NodeNo, OtherNotesStay, journal_of, Ask, admitted, TakesOver, granted_by, Piece, holder_of, queue_found, KeepCopies, LeavesSome, LineIsLeft, LineDone, line_by, IsBetween, BetweenLines, IsMemberUp, LeftBetween, proceeds_of, EachSays, All-nil, All-append, All-cons, All-head, All-tail, Ckpt1, Ckpt2, Spool, Queue, steps_most, page_count, queue_of, IsQuiet, IsOfEarlier, StandsIn, Since, seized_since, Dev, Batch, run, IsLostOnce, KeepsCounts, PairState, pair_state, in_flight, kept_all, end_of, with_last, counts_of, is_stop, Spares, earlier_kept, IsBetweenSittings, cause_by, MayHold, ByLock, ForStep, Holder, Give, level_most, play_as, settle, settled_at, CopiesLeft, HasTakenOver, IsAfterTakeover, IsUntaken, MayTakeAt, TakeCauses, TakesAndResets, TakesBy, taker_at, untaken_book, IsTaken, journal_still, settled_entries, played_in, Entry, Fate, Flying, Rose, with_last-append, LosesAs, IsWhyLost, kept_on, Disk, IsResetPiece, clear, flight_found, flown_of, once_found, reset_pieces, scene_as, wires_then, ◌≢◌}
+use Rattle.mas_run.proofs.Names.{◌≡◌, ⊎_elim, inl, ℕ, ◌+◌, ◌-◌, true, false, List, [], ◌++◌, set, append-nil, None, Result, Ok, Err, sym, ◌∙◌, ap, subst, slice_get, ◌≤◌, length, refl, arith, inr, ◌<◌, Bool, if◌then◌else◌, ◌∷◌, All, Some, OnOk, slice_set, Option, MemberId, Page, Book, after_stop, IsMember, after_seize, is_holder, left_of as hold_left, PlantGhosts, View, Ghosts as CopyGhosts, SteadyGhosts, Complex, Parts, parts_of, console_now, Grows, Member, NodeNo, OtherNotesStay, journal_of, Ask, admitted, TakesOver, granted_by, Piece, holder_of, queue_found, KeepCopies, LeavesSome, LineIsLeft, LineDone, line_by, IsBetween, BetweenLines, IsMemberUp, LeftBetween, proceeds_of, EachSays, All-nil, All-cons, All-head, All-tail, Ckpt1, Ckpt2, Spool, Queue, steps_most, page_count, queue_of, IsQuiet, IsOfEarlier, StandsIn, Since, seized_since, Dev, Batch, run, IsLostOnce, KeepsCounts, PairState, pair_state, in_flight, kept_all, counts_of, is_stop, Spares, earlier_kept, IsBetweenSittings, cause_by, MayHold, ByLock, ForStep, Holder, Give, level_most, play_as, settle, settled_at, CopiesLeft, HasTakenOver, IsAfterTakeover, IsUntaken, MayTakeAt, TakeCauses, TakesAndResets, TakesBy, taker_at, untaken_book, IsTaken, journal_still, settled_entries, played_in, Entry, Fate, Flying, Rose, LosesAs, IsWhyLost, kept_on, Disk, IsResetPiece, clear, flight_found, flown_of, once_found, reset_pieces, scene_as, wires_then, ◌≢◌, IsUp, few_of, inside_of, some_of}
 use Rattle.mas_run.proofs.ArmLemmas.{IsTold, few_levels, left_so, done_at, InArm, InPlace}
 use Rattle.mas_run.proofs.CopiesLemmas.{copies_then, leaves_same, acted_copies}
 use Rattle.mas_run.proofs.TurnedLemmas.{earlier_then, HasWritten, IsNowAside, turned, held_halted}
-use Rattle.mas_run.proofs.KnownLemmas.{IsDown, few_of, inside_of, not_holder, some_of}
-use Rattle.mas_run.proofs.ComesLemmas.{IsUpMember}
+use Rattle.mas_run.proofs.KnownLemmas.{IsDown, not_holder}
 use Rattle.mas_run.proofs.BarelyLemmas.{begun_sight, HasBarelyBegun, MayBegin, begins_left, begun_book}
 use Rattle.mas_run.proofs.DoneLemmas.{reset_says, ComesTo, reset_honest, stepped_left}
 use Rattle.mas_run.proofs.JournalLemmas.{queue_met, flies_so}
-use Rattle.member_resets.proofs.TakenOnLemmas.{may_hold, seized_now, up_still}
+use Rattle.member_resets.proofs.TakenOnLemmas.{may_hold, seized_now, up_still, journal_holds}
 use Rattle.mas_run.proofs.LeftLemmas.{counted_stays, stays_any}
 use Rattle.mas_run.proofs.ClosesLemmas.{scene_at}
 use Rattle.member_node.specs.declared.member.NodeNo.TheVariants as no_node
@@ -27,8 +26,8 @@ module _ (by : ℕ) (stopped : Bool) (x y : PairState) (counts : KeepsCounts by 
 
   counts_lose : (reads : List ℕ → Option (List ℕ)) (found : Fate) → (x.first ≡ true → y.first ≡ false → IsWhyLost reads found Ckpt1 Ckpt2 x.view y.view)
       → (x.second ≡ true → y.second ≡ false → IsWhyLost reads found Ckpt2 Ckpt1 x.view y.view) → LosesAs reads (Some found) None x.view y.view
-  counts_lose reads found why1 why2 Ckpt1 = ⊎_elim inl (λ once. inr (once.2, counts.device1.1 once.0 once.1, why1 once.0 once.1)) counts.once1
-  counts_lose reads found why1 why2 Ckpt2 = ⊎_elim inl (λ once. inr (once.2, counts.device2.1 once.0 once.1, why2 once.0 once.1)) counts.once2
+  counts_lose reads found why1 why2 Ckpt1 = ⊎_elim inl (λ once. inr (once.2, counts.first.stands.1 once.0 once.1, why1 once.0 once.1)) counts.first.once
+  counts_lose reads found why1 why2 Ckpt2 = ⊎_elim inl (λ once. inr (once.2, counts.second.stands.1 once.0 once.1, why2 once.0 once.1)) counts.second.once
   counts_lose reads found why1 why2 (Spool n) = inl (counts.else_loses (Spool n) (λ e. absurd (cc)) (λ e. absurd (cc)))
 
 module _ {P C : Type 0} (plants : PlantGhosts P) (copies : CopyGhosts C) (by of : MemberId) (some : 1 ≤ by.0) where
@@ -82,25 +81,6 @@ module _ {P C : Type 0} (plants : PlantGhosts P) (copies : CopyGhosts C) (by of 
 
 -- BATCHES OF EARLIER LINES
 
-all_front : {A : Type 0} (Q : A → Type 0) (xs ys : List A) → All Q (xs ++ ys) → All Q xs
-all_front Q [] ys are = All-nil Q
-all_front Q (x ∷ xs) ys are = All-cons Q x xs (All-head Q x (xs ++ ys) are) (all_front Q xs ys (All-tail Q x (xs ++ ys) are))
-
-all_back : {A : Type 0} (Q : A → Type 0) (xs ys : List A) → All Q (xs ++ ys) → All Q ys
-all_back Q [] ys are = are
-all_back Q (x ∷ xs) ys are = all_back Q xs ys (All-tail Q x (xs ++ ys) are)
-
--- those of the journal, with what is in flight
-earlier_journal : (at : ℕ) (batches : List Batch) (placed : Bool) (b : Book) (c : Option Batch) → StandsIn batches placed b c → All (IsOfEarlier at) (batches ++ in_flight c)
-    → All (IsOfEarlier at) (end_of placed c batches)
-earlier_journal at batches placed b None stands are =
-    subst (λ (p : Bool). All (IsOfEarlier at) (end_of p None batches)) (sym stands) (all_front (IsOfEarlier at) batches [] are)
-earlier_journal at batches placed b (Some c) stands are =
-    let e = stands.0 in
-    let all : All (IsOfEarlier at) (e.before ++ e.place ∷ []) = subst (λ (bs : List Batch). All (IsOfEarlier at) bs) e.is (all_front (IsOfEarlier at) batches (c ∷ []) are) in
-    subst (λ (bs : List Batch). All (IsOfEarlier at) bs) (sym (ap (λ (bs : List Batch). with_last c bs) e.is ∙ with_last-append c e.before e.place))
-    (All-append (IsOfEarlier at) e.before (c ∷ []) (all_front (IsOfEarlier at) e.before (e.place ∷ []) all) (all_back (IsOfEarlier at) batches (c ∷ []) are))
-
 -- a fate leaves the entries
 earlier_settled : (at : ℕ) (f : Fate) (now : ℕ) (bs : List Batch) → All (IsOfEarlier at) bs → All (IsOfEarlier at) (settle f now bs)
 earlier_settled at f now [] are = All-nil (IsOfEarlier at)
@@ -113,7 +93,7 @@ earlier_taken : {P C : Type 0} (plants : PlantGhosts P) (copies : CopyGhosts C) 
     → All (IsOfEarlier at) (x.batches ++ in_flight x.current) → All (IsOfEarlier at) mid.batches
 earlier_taken plants copies x mid by of at found taken stands earlier =
     subst (λ (bs : List Batch). All (IsOfEarlier at) bs) (sym taken.journal ∙ journal_still mid taken.quiet.none taken.quiet.unplaced)
-    (earlier_settled at found (plants.view mid.plant).now (journal_of x) (earlier_journal at x.batches x.placed x.book x.current stands earlier))
+    (earlier_settled at found (plants.view mid.plant).now (journal_of x) (journal_holds (IsOfEarlier at) x.batches x.placed x.book x.current stands earlier))
 
 -- THE COPIES in calls that may lose one
 
@@ -128,16 +108,16 @@ module _ {P C : Type 0} (plants : PlantGhosts P) where
       → LeavesSome plants x y r → KeepCopies plants x y r
   copies_counted by stopped x y r counts left = record {
     goes = proceeds_of (v x) (v y) counts.goes;
-    failed1 = counts.gone1;
-    failed2 = counts.gone2;
-    there1 = λ is there. counts.device1.0 is (there (counts.alive1 is));
-    there2 = λ is there. counts.device2.0 is (there (counts.alive2 is));
+    failed1 = counts.first.gone;
+    failed2 = counts.second.gone;
+    there1 = λ is there. counts.first.stands.0 is (there (counts.first.alive is));
+    there2 = λ is there. counts.second.stands.0 is (there (counts.second.alive is));
     grow = grow;
     left = left;
   } where
     grow : (d : Dev) → Grows ((v x).loses d) ((v y).loses d)
-    grow Ckpt1 = grows_once x.first_alive y.first_alive _ _ counts.once1
-    grow Ckpt2 = grows_once x.second_alive y.second_alive _ _ counts.once2
+    grow Ckpt1 = grows_once x.first_alive y.first_alive _ _ counts.first.once
+    grow Ckpt2 = grows_once x.second_alive y.second_alive _ _ counts.second.once
     grow (Spool n) = inl (counts.else_loses (Spool n) (λ e. absurd (cc)) (λ e. absurd (cc)))
 
 -- a takeover that left no copy answers so
@@ -191,7 +171,7 @@ module _ {P C : Type 0} {plants : PlantGhosts P} {steadies : SteadyGhosts C} {co
     halted_none halted =
         held_halted p y base since by may.seated b seized b_mine (book_stopped halted) (proceeds_of (plants.view p.plant) (plants.view y.plant) un.counts.goes) (λ j other. ap (λ (h : List (List Page)). slice_get h j) un.had)
         n ms at few is stays
-        (earlier_then at (journal_of (parts_of y)) (subst (λ (bs : List Batch). All (IsOfEarlier at) bs) (sym un.journal) (earlier_journal at p.batches p.placed p.book p.current is.stands is.earlier)))
+        (earlier_then at (journal_of (parts_of y)) (subst (λ (bs : List Batch). All (IsOfEarlier at) bs) (sym un.journal) (journal_holds (IsOfEarlier at) p.batches p.placed p.book p.current is.stands is.earlier)))
         (λ tells. ([], (un.apart tells).console ∙ sym (append-nil (console_now (plants.view p.plant))), (λ k less small es of. tt)))
 
     none_done : LineDone x y (set ms (by.0 - 1) n) at by what r_none
@@ -206,7 +186,7 @@ module _ {P C : Type 0} {plants : PlantGhosts P} {steadies : SteadyGhosts C} {co
           since = since;
           bare = left_none ⊥ (inl (λ t. t));
           told = λ tells. left_none (Unit {0}) (inr (tt, tells));
-          copies_kept = leaves_same plants p (parts_of y) r_none (copies_counted plants by.0 (is_stop e) p (parts_of y) r_none un.counts (taken_leaves plants copies by p (parts_of y) e un.cause un.some)) renewals un.counts.alive1 un.counts.alive2;
+          copies_kept = leaves_same plants p (parts_of y) r_none (copies_counted plants by.0 (is_stop e) p (parts_of y) r_none un.counts (taken_leaves plants copies by p (parts_of y) e un.cause un.some)) renewals un.counts.first.alive un.counts.second.alive;
           next = tt;
           halted = λ is_halted. halted_none (same_answer e no_node.Halted is_halted);
           seated = λ is_halted. inside;
@@ -290,7 +270,7 @@ module _ {P C : Type 0} {plants : PlantGhosts P} {steadies : SteadyGhosts C} {co
           since = since;
           bare = left ⊥ (inl (λ o. o));
           told = λ tells. left (Unit {0}) (inr (tt, tells));
-          copies_kept = leaves_same plants p (parts_of y) r on_copies renewals (λ is. takes.taken.counts.alive1 (takes.reset.acts.course.alive1 is)) (λ is. takes.taken.counts.alive2 (takes.reset.acts.course.alive2 is));
+          copies_kept = leaves_same plants p (parts_of y) r on_copies renewals (λ is. takes.taken.counts.first.alive (takes.reset.acts.course.alive1 is)) (λ is. takes.taken.counts.second.alive (takes.reset.acts.course.alive2 is));
           next = both.0;
           halted = both.1;
           seated = λ e. inside;
@@ -306,7 +286,7 @@ module _ {P C : Type 0} {plants : PlantGhosts P} {steadies : SteadyGhosts C} {co
 -- A MEMBER THAT IS UP may take the lock over that a stopped member holds, and reset that
 
 may_take : {P C : Type 0} (plants : PlantGhosts P) (copies : CopyGhosts C) (x : Parts P C) (ms : List Member) (at : ℕ) (few : at ≤ steps_most) (is : IsBetween plants copies x ms at)
-    (below : x.level < level_most) (m : Member) (up : IsMemberUp plants copies x m) (its : IsUpMember x.base.config x.book m.id) (of : MemberId)
+    (below : x.level < level_most) (m : Member) (up : IsMemberUp plants copies x m) (its : IsUp x.base.config x.book m.id) (of : MemberId)
     (down : IsDown x.base is.config x.book m.id of) (holds : is_holder x.book of ≡ true) → MayTakeAt plants copies x m at of
 may_take plants copies x ms at few is below m up its of down holds = record {
   stands = is.stands;
@@ -314,15 +294,15 @@ may_take plants copies x ms at few is below m up its of down holds = record {
   noted = up.noted;
   config = up.config;
   fits = is.config;
-  some = some_of x.base m.id its.member;
-  least = few_of x.base is.config m.id its.member;
+  some = some_of x.base.config m.id its.member;
+  least = few_of x.base.config m.id its.member is.config;
   member = its.member;
-  seated = inside_of x.base x.book m.id is.booked its.member;
+  seated = inside_of x.base.config m.id its.member x.book is.booked;
   up = its.up;
-  of_seated = inside_of x.base x.book of is.booked down.member;
+  of_seated = inside_of x.base.config of down.member x.book is.booked;
   of_stopped = down.down;
   of_holds = holds;
-  few = few_of x.base is.config of down.member;
+  few = few_of x.base.config of down.member is.config;
   base_sound = λ t. is.sound;
   roomy = is.roomy;
   untold = is.untold m.id at (omega arith) few;
@@ -338,7 +318,7 @@ module _ {P C : Type 0} {plants : PlantGhosts P} {steadies : SteadyGhosts C} {co
     {of : MemberId} (w : InArm x mid ms at by what (TakesOver of)) {i : ℕ} {m : Member} (s : InPlace x by i m) where
   may_here : MayTakeAt plants copies (parts_of x) m at of
   may_here =
-      may_take plants copies (parts_of x) ms at w.few w.is w.below m s.up (subst (λ (k : MemberId). IsUpMember x.base.config x.book k) (sym s.own) w.known_so.0) of
+      may_take plants copies (parts_of x) ms at w.few w.is w.below m s.up (subst (λ (k : MemberId). IsUp x.base.config x.book k) (sym s.own) w.known_so.0) of
       (subst (λ (k : MemberId). IsDown x.base w.is.config x.book k of) (sym s.own) w.known_so.1) w.known_so.2
 
   pub may_take_over : MayTakeAt plants copies (parts_of mid) m at of

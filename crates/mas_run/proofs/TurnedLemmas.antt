@@ -1,5 +1,5 @@
 -- Where the value stands after a line of a member: after acts on the plant, after a line that was said, and after a step.
-use Rattle.mas_run.proofs.Names.{◌≡◌, ◌≢◌, ◌⊎◌, inl, inr, ⊎_elim, ℕ, zero, suc, ◌+◌, ◌<◌, Bool, true, false, List, [], ◌∷◌, drop, length, take, All, Option, Some, None, refl, sym, subst, arith, ◌≤◌, ◌++◌, ◌∙◌, ap, ◌-◌, set, Result, Err, OnOk, ◌&&◌, if◌then◌else◌, ◌||◌, is_some, append-nil, All-append, All-cons, All-drop, All-head, All-nil, All-tail, All-take, All-weaker, Closing, MemberId, Batch, Entry, Fate, Dropped, Kept, Queue, run, holder_then, task_most, all_entries, lines_of, sit, Found, Holder, State, Fresh, Told, AreOf, AreBatched, IsBatched, IsBetweenSittings, IsAsideHalt, IsCutIn as IsCutBy, IsOwnPiece, HasCut, Writes, plays_left_of as left_of, play_in, Admission, Denied, Plays, Refused, Replaces, Resets, TakesOver, Unplayed, denied_closing, Left, adds, adds_all, adds_first, batches_cut, begun, cuts_kept_all as kept_all, left_by, none_left, stopped_by, Piece, Play, holder_of, once_found, piece_at, pieces_found, pieces_from, pieces_of, replaced_closing, reset_closing, unless_told, after_piece, entered, released_by, spent, Batched, Scene, count_then, with_fate, Begun, Cut, Halt, Sight, Writing, Cause, Stops, Waiting, IsOfEarlier, StandsIn, AreOfStep, EachSays, closing_of, reply_of, TellNone, Untells, untold_then, left_tells, Dev, Ckpt1, Ckpt2, Page, Config, steps_most, PlantGhosts, ViewLine as Line, View, disk_now, Ghosts as CopyGhosts, page_count, settled_later, Parts, parts_of, batches_left, placed_left, unreserved_in, console_now, Member, IsOpen, IsAtRest, IsSeat, first_half, second_half, HasUntold, queue_of, low_later, IsQuiet, IsAside, Proceeds, AreLarge, AreMembers, IsBetween, IsMemberAt, is_left_held, BetweenLines, LeftBetween, roomy_on, Book, is_holder, is_stopped, IsMember, after_free, beginner, noted, standing, with_holder, after_try, granted, ticked, try_refusal, eqb-true, and_from, length-set, get_or-set_same, length-drop, IsConfig, nobody, is_somebody, IsSound, AreRoomy, AreSettled, in_flight, end_of, with_last, OtherNotesStay, Since, inside_since, piece_since, play_since, play_stops, spent_since, then_since, goes_on, SteadyGhosts, Complex, IsOperatorAway, Goes, NodeNo, MayHold, proceeds_of, nat_tests, Standing, counts_of, journal_of, Release, Inner, Keep, Outer, journal_still, with_last-append, journal_unreserved, settled_unreserved, stands_unreserved, IsMemberUp, none_since, slice_get, no, after_stop, stopped_now, stopped_since}
+use Rattle.mas_run.proofs.Names.{◌≡◌, ◌≢◌, ◌⊎◌, inl, inr, ⊎_elim, ℕ, zero, suc, ◌+◌, ◌<◌, Bool, true, false, List, [], ◌∷◌, drop, length, take, All, Option, Some, None, refl, sym, subst, arith, ◌≤◌, ◌++◌, ◌∙◌, ap, ◌-◌, set, Result, Err, OnOk, ◌&&◌, if◌then◌else◌, ◌||◌, is_some, append-nil, All-append, All-cons, All-head, All-nil, All-tail, All-take, All-weaker, Closing, MemberId, Batch, Entry, Fate, Dropped, Queue, run, holder_then, task_most, all_entries, lines_of, sit, Found, Holder, State, Fresh, Told, AreOf, AreBatched, IsBatched, IsBetweenSittings, IsAsideHalt, IsCutIn as IsCutBy, IsOwnPiece, HasCut, Writes, plays_left_of as left_of, play_in, Admission, Denied, Plays, Refused, Replaces, Resets, TakesOver, Unplayed, denied_closing, Left, adds, adds_all, adds_first, begun, left_by, none_left, stopped_by, Piece, Play, holder_of, once_found, piece_at, pieces_found, pieces_from, pieces_of, replaced_closing, reset_closing, unless_told, after_piece, entered, released_by, spent, Batched, Scene, count_then, Cut, Halt, Sight, Cause, Stops, Waiting, IsOfEarlier, StandsIn, AreOfStep, EachSays, closing_of, reply_of, TellNone, Untells, untold_then, left_tells, Dev, Ckpt1, Ckpt2, Page, Config, steps_most, PlantGhosts, ViewLine as Line, View, disk_now, Ghosts as CopyGhosts, page_count, settled_later, Parts, parts_of, batches_left, placed_left, unreserved_in, console_now, Member, IsOpen, IsAtRest, IsSeat, first_half, second_half, HasUntold, queue_of, low_later, IsQuiet, IsAside, Proceeds, AreLarge, AreMembers, IsBetween, IsMemberAt, is_left_held, BetweenLines, LeftBetween, roomy_on, Book, is_holder, is_stopped, IsMember, after_free, beginner, noted, standing, with_holder, after_try, granted, ticked, try_refusal, eqb-true, and_from, length-set, get_or-set_same, length-drop, IsConfig, nobody, is_somebody, IsSound, AreRoomy, AreSettled, in_flight, end_of, with_last, OtherNotesStay, Since, inside_since, piece_since, play_since, play_stops, spent_since, then_since, goes_on, SteadyGhosts, Complex, IsOperatorAway, Goes, NodeNo, MayHold, proceeds_of, nat_tests, Standing, counts_of, journal_of, Release, Inner, Keep, Outer, journal_still, with_last-append, journal_unreserved, settled_unreserved, stands_unreserved, IsMemberUp, none_since, slice_get, no, after_stop, stopped_now, stopped_since, CallsKeep, adds_keeps, left_keeps, seize_refusal, batches_are, between_by}
 use Rattle.step_turns.proofs.Causes.{lines_are_caused}
 use Rattle.step_turns.proofs.Sittings.{lines_are_said_at_the_end}
 use Rattle.ckpt_places.specs.declared.places.Place.{Place}
@@ -7,7 +7,6 @@ use Rattle.member_node.specs.Reads.{IsCalm}
 use Rattle.member_resets.proofs.Entering.{entered_seated}
 use Rattle.member_resets.proofs.Locking.{acts_entered, up_spent}
 use Rattle.run_turns.proofs.Told.{told_or}
-use Rattle.mas_run.proofs.BookLemmas.{adds_keeps, left_keeps}
 use Rattle.mas_run.proofs.LeftLemmas.{on_ok}
 use Rattle.mas_types.specs.declared.answers.Closing.TheVariants as closing
 use Rattle.mas_types.specs.declared.commands.Reply.TheVariants as reply
@@ -70,41 +69,9 @@ module _ (by : MemberId) (at : ℕ) where
   own_entries : (es : List Entry) → AreOf by at es → All (λ (e : Entry). e.step ≡ at) es
   own_entries es of = All-weaker (λ (e : Entry). (e.by ≡ by) × (e.step ≡ at)) (λ (e : Entry). e.step ≡ at) (λ e and_from. and_from.1) es of
 
-  own_kept : (ess : List (List Entry)) → All (AreOf by at) ess → All IsOwn (kept_all ess)
-  own_kept [] of = All-nil IsOwn
-  own_kept (es ∷ ess) of = All-cons IsOwn (with_fate Kept es) (kept_all ess) (own_entries es (All-head (AreOf by at) es ess of)) (own_kept ess (All-tail (AreOf by at) es ess of))
-
-  own_begun : (b : Option Begun) (ess : List (List Entry)) → All (AreOf by at) ess → All IsOwn (begun by b ess)
-  own_begun None ess of = All-nil IsOwn
-  own_begun (Some b) [] of = All-nil IsOwn
-  own_begun (Some b) (es ∷ ess) of =
-      All-cons IsOwn (with_fate b.fate (take b.entries es)) []
-      (All-take (λ (e : Entry). e.step ≡ at) b.entries es (own_entries es (All-head (AreOf by at) es ess of))) (All-nil IsOwn)
-
-  own_cut : (halt : Halt) (ess : List (List Entry)) → All (AreOf by at) ess → All IsOwn (batches_cut by halt ess)
-  own_cut (Writing n b) ess of =
-      All-append IsOwn (kept_all (take n ess)) (begun by b (drop n ess)) (own_kept (take n ess) (All-take (AreOf by at) n ess of))
-      (own_begun b (drop n ess) (All-drop (AreOf by at) n ess of))
-  own_cut _ ess of = own_kept ess of
-
-  module _ (locked : Bool) where
-    own_all : (ps : List Piece) (l : Left) → All IsOwn l.batches → All (IsOwnPiece by at) ps → All IsOwn (adds_all by locked l ps).batches
-    own_all [] l own of = own
-    own_all (p ∷ ps) l own of =
-        own_all ps (adds by locked l p) (All-append IsOwn l.batches (kept_all p.sitting.batches) own (own_kept p.sitting.batches (All-head (IsOwnPiece by at) p ps of)))
-        (All-tail (IsOwnPiece by at) p ps of)
-
-    own_first : (halt : Halt) (ps : List Piece) (l : Left) → All IsOwn l.batches → All (IsOwnPiece by at) ps → All IsOwn (adds_first by locked halt l ps).batches
-    own_first halt [] l own of = own
-    own_first halt (p ∷ ps) l own of =
-        All-append IsOwn l.batches (batches_cut by halt p.sitting.batches) own (own_cut halt p.sitting.batches (All-head (IsOwnPiece by at) p ps of))
-
   own_left : (cut : Option Cut) (play : Play) (count : ℕ) → All (IsOwnPiece by at) play.pieces → All IsOwn (left_by by cut play count).batches
-  own_left None play count of = own_all play.locked play.pieces (none_left by play.book count) (All-nil IsOwn) of
-  own_left (Some cut) play count of =
-      own_first play.locked cut.halt (drop cut.sittings play.pieces) _
-      (own_all play.locked (take cut.sittings play.pieces) (none_left by play.book count) (All-nil IsOwn) (All-take (IsOwnPiece by at) cut.sittings play.pieces of))
-      (All-drop (IsOwnPiece by at) cut.sittings play.pieces of)
+  own_left cut play count of =
+      batches_are by IsOwn (AreOf by at) own_entries cut (λ k is n b halt es own. All-take (λ (e : Entry). e.step ≡ at) b.entries es (own_entries es own)) play count of
 
   -- as they stand in the journal
   its_entries : (f : Fate) (x : Batched) (from now : ℕ) (b : Batch) → IsBatched f by x from now b → b.entries ≡ x.entries
@@ -258,7 +225,7 @@ module _ {P C : Type 0} (plants : PlantGhosts P) (copies : CopyGhosts C) (x : Pa
           roomy = λ t. roomy_on (v x) (v z) x.base.config goes (is.still.roomy t);
           noted = is.still.noted;
         };
-        between = is.between;
+        between = between_by plants.tells x z m.batch m.checkpoint refl refl refl refl refl is.between;
         low = is.low;
       }
 
@@ -414,11 +381,16 @@ module _ (by : MemberId) where
       held_if (is_holder b by) (if inner then with_holder b nobody else with_holder (noted b by) nobody) b
       (held_if inner (with_holder b nobody) (with_holder (noted b by) nobody) (inr refl) (inr refl)) held
 
-  held_adds : (locked : Bool) (l : Left) (p : Piece) → IsHeldBy l.book → IsHeldBy (adds by locked l p).book
-  held_adds locked l p held = adds_keeps by IsHeldBy (λ b is. held_tried b true is) held_freed (λ b n is. is) locked l p held
+  held_calls : CallsKeep by IsHeldBy
+  held_calls = record {
+    tries = held_tried;
+    seizes = λ b of held. held_if (is_some (seize_refusal b of)) b (granted b by) held (inl refl);
+    frees = held_freed;
+    spends = λ b n held. held;
+  }
 
-  held_left : (cut : Option Cut) (task_play : Play) (task_count : ℕ) → IsHeldBy task_play.book → IsHeldBy (left_by by cut task_play task_count).book
-  held_left cut task_play task_count held = left_keeps by IsHeldBy (λ b is. held_tried b true is) held_freed (λ b n is. is) cut (λ k is_cut why b is. is) task_play task_count held
+  held_left : (cut : Option Cut) (play : Play) (count : ℕ) → IsHeldBy play.book → IsHeldBy (left_by by cut play count).book
+  held_left cut play count held = left_keeps by IsHeldBy held_calls cut (λ k is_cut why b is. is) play count held
 
 -- WHAT IS RESERVED, once it is given up
 
@@ -479,7 +451,7 @@ module _ (by : MemberId) where
         seated = inside_since b (after_piece b by p) by (piece_since by b p may.seated) may.seated;
         up = up_released p.sitting.release (spent (entered b by) by ess) (inside_since (entered b by) (spent (entered b by) by ess) by spends seated)
             (up_spent (entered b by) by (length (all_entries ess)) may.some seated.1 (acts.up seated.0));
-        free = held_adds by true l p may.free;
+        free = adds_keeps by (IsHeldBy by) (held_calls by) true l p may.free;
       }
 
   may_all : (ps : List Piece) (l : Left) → MayHold l.book by → MayHold (adds_all by true l ps).book by

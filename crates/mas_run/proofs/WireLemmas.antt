@@ -1,28 +1,21 @@
 -- Bytes on lines to other nodes: what a line of a script gives and takes, from what its step does.
-use Rattle.mas_run.proofs.Names.{◌≡◌, ◌≢◌, ◌⊎◌, inl, inr, ℕ, zero, suc, ◌+◌, ◌*◌, Bool, true, false, List, [], ◌∷◌, ◌++◌, append-nil, drop, length, take, Option, Some, None, Result, Ok, Err, refl, sym, ◌∙◌, ap, subst, arith, ◌-◌, ◌≤◌, ◌<◌, ◌==◌, append_assoc, set, slice_get, drop-append_seam, MemberId, Config, Queue, is_member, run, Book, is_stopped, Ask, SameWires, View, given_now, taken_now, World, PlantGhosts, Parts, Finds, holder_then, sittings_most, all_entries, given_in, reply_to, Exchange, Found, Holder, Offer, State, Away, Fresh, Task, Line as Node, Work, Wait, waits_in, GivesOnly, Hears, HearsAtFirst, HearsIn, HearsStep, TakesNothing, line_served, IsElsewhere, NodeNo, wires_then, Admission, Denied, Plays, Refused, admitted, Piece, piece_at, pieces_from, unless_told, count_then, Sight, LineAt, is_of_member, Carries, HasHeard, HeardFirst, HeardIn, stream_since, waits_as, Completes, HasRead, AreReaders, reader_place, eqb-true, nat_tests, get_or-set_other, get_or-set_same, length-set, set-get_or, IsLine, same_member, wires_most, same_member_is, ReadsAnyPieces, seated, no}
+use Rattle.mas_run.proofs.Names.{◌≡◌, ◌≢◌, ◌⊎◌, inl, inr, ℕ, zero, suc, ◌+◌, ◌*◌, Bool, true, false, List, [], ◌∷◌, ◌++◌, append-nil, drop, length, take, Option, Some, None, Result, Ok, Err, refl, sym, ◌∙◌, ap, subst, arith, ◌-◌, ◌≤◌, ◌<◌, ◌==◌, append_assoc, set, slice_get, drop-append_seam, MemberId, Config, Queue, is_member, run, Book, is_stopped, Ask, SameWires, View, taken_now, World, PlantGhosts, Parts, Finds, holder_then, sittings_most, all_entries, given_in, reply_to, Exchange, Found, Holder, Offer, State, Away, Fresh, Task, Line as Node, Work, Wait, waits_in, GivesOnly, Hears, HearsAtFirst, HearsIn, HearsStep, TakesNothing, line_served, IsElsewhere, NodeNo, wires_then, Admission, Denied, Plays, Refused, admitted, Piece, piece_at, pieces_from, unless_told, count_then, Sight, LineAt, is_of_member, Carries, HeardFirst, HeardIn, stream_since, waits_as, Completes, HasRead, AreReaders, reader_place, eqb-true, nat_tests, get_or-set_other, get_or-set_same, length-set, set-get_or, IsLine, same_member, wires_most, same_member_is, ReadsAnyPieces, seated, no, Comes, LineCame, NoMember, NotGranted, SaysNo, StillUp, comes, HasTaken}
 use Rattle.nje_frames.specs.declared.frames.Frame.{Frame}
 use Rattle.nje_frames.specs.Streams.{HasFed, frames_in, open_end}
 use Rattle.step_turns.specs.Serving.{offered, taken_most}
 use Rattle.step_turns.specs.declared.states.Aside.{Aside}
-use Rattle.std.proofs.lemmas.Option.{get_or_from_slice_get, slice_get-get_or}
+use Rattle.std.proofs.lemmas.Option.{get_or_from_slice_get, same_Some as some_same, slice_get-get_or}
 use Rattle.run_opening.proofs.ReaderLemmas.{Readers, place_within}
-use Rattle.mas_run.proofs.ComesLemmas.{Comes, comes, LineCame, NoMember, SaysNo, StillUp, NotGranted}
+use Rattle.member_resets.proofs.Wiring.{gives_still, gives_then, taken_wider, takes_none, takes_still, takes_then}
 use Rattle.mas_types.specs.declared.commands.Command.TheVariants as command
 
 -- NOTHING GIVEN OR TAKEN
 
-pub takes_none : (old new : View) → SameWires old new → TakesNothing old new
-takes_none old new same = record { taken = same.taken; waiting = same.waiting }
-
 -- where it heard nothing either
 pub carries_none : (since : ℕ) (l : LineAt) (a : Admission) (given : List ℕ) (old new : View) → given ≡ [] → SameWires old new
     → HeardFirst since l.step.by old new l.given.sight.finds (waits_as l a) → Carries since l a given old new
-carries_none since l (Plays (Node line)) given old new none same heard = let gives_none : (by : MemberId) (served : Option ℕ) (given : List ℕ) (old new : View) → given ≡ [] → SameWires old new → GivesOnly by served given old new = λ by served given old new none same. record {
-  given = λ w is. same.given w by.0 ∙ sym (append-nil (given_now old w by.0)) ∙ ap (λ (bytes : List ℕ). given_now old w by.0 ++ bytes) (sym none);
-  else_given = λ w m apart. same.given w m;
-  else_taken = λ w m apart. same.taken w m;
-} in
-    record { gives = gives_none l.step.by (Some line) given old new none same; hears = heard }
+carries_none since l (Plays (Node line)) given old new none same heard =
+    record { gives = subst (λ (bytes : List ℕ). GivesOnly l.step.by (Some line) bytes old new) (sym none) (gives_still l.step.by (Some line) old new same); hears = heard }
 carries_none since l (Refused sayer end) given old new none same heard = (none, same)
 carries_none since l (Denied why) given old new none same heard = (none, same)
 carries_none since l _ given old new none same heard = same
@@ -49,48 +42,26 @@ carries_still since l _ given old new other c = c
 
 -- OTHER ACTS AFTER IT
 
-nothing_later : (old mid new : View) → TakesNothing old mid → SameWires mid new → TakesNothing old new
-nothing_later old mid new none same = record { taken = λ w m. same.taken w m ∙ none.taken w m; waiting = λ w. same.waiting w ∙ none.waiting w }
-
 module _ (since : ℕ) (by : MemberId) (old mid new : View) (same : SameWires mid new) where
-  exchange_later : (line : ℕ) (offer : Option Offer) (found : Found) → HasHeard (stream_since since old line by) by line offer found old mid
-      → HasHeard (stream_since since old line by) by line offer found old new
-  exchange_later line offer found h = record {
-    bytes = h.bytes;
-    few = h.few;
-    taken = same.taken line by.0 ∙ h.taken;
-    waited = h.waited ∙ ap (λ (left : List ℕ). h.bytes ++ left) (sym (same.waiting line));
-    others = λ w other. same.waiting w ∙ h.others w other;
-    completes = h.completes;
-    all = λ unended. rest (h.all unended);
-  } where
-    rest : {A : Type 0} → A ⊎ (mid.waiting line ≡ []) → A ⊎ (new.waiting line ≡ [])
-    rest (inl full) = inl full
-    rest (inr none) = inr (same.waiting line ∙ none)
-
   aside_later : (a : Aside) (found : Found) → HeardIn since by old mid (Away a) found → HeardIn since by old new (Away a) found
-  aside_later (Exchange line offer) found h = exchange_later line offer found h
-  aside_later _ found h = nothing_later old mid new h same
+  aside_later (Exchange line offer) found h =
+      let t = taken_wider by line offer found old old mid new (takes_none old) h.0 (takes_still mid new same) in
+      (t.0, subst (λ (bytes : List ℕ). Completes (stream_since since old line by) bytes found.frames) (sym t.1) h.1)
+  aside_later _ found h = takes_then old mid new h (takes_still mid new same)
 
   in_later : (s : State) (found : Found) → HeardIn since by old mid s found → HeardIn since by old new s found
   in_later (Away a) found h = aside_later a found h
-  in_later _ found h = nothing_later old mid new h same
+  in_later _ found h = takes_then old mid new h (takes_still mid new same)
 
   heard_later : (finds : Finds) (ws : List Wait) → HeardFirst since by old mid finds ws → HeardFirst since by old new finds ws
   heard_later finds [] h = tt
   heard_later finds (w ∷ ws) h = in_later w.state (finds w.queue w.state) h
 
 pub carries_later : (since : ℕ) (l : LineAt) (a : Admission) (given : List ℕ) (old mid new : View) → SameWires mid new → Carries since l a given old mid → Carries since l a given old new
-carries_later since l (Plays (Node line)) given old mid new same c =
-    let gives_later : (by : MemberId) (served : Option ℕ) (given : List ℕ) (old mid new : View) → GivesOnly by served given old mid → SameWires mid new → GivesOnly by served given old new = λ by served given old mid new gives same. record {
-      given = λ w is. same.given w by.0 ∙ gives.given w is;
-      else_given = λ w m apart. same.given w m ∙ gives.else_given w m apart;
-      else_taken = λ w m apart. same.taken w m ∙ gives.else_taken w m apart;
-    } in
-    record {
-      gives = gives_later l.step.by (Some line) given old mid new c.gives same;
-      hears = heard_later since l.step.by old mid new same l.given.sight.finds (waits_as l (Plays (Node line))) c.hears;
-    }
+carries_later since l (Plays (Node line)) given old mid new same c = record {
+  gives = subst (λ (bytes : List ℕ). GivesOnly l.step.by (Some line) bytes old new) (append-nil given) (gives_then l.step.by (Some line) given [] old mid new c.gives (gives_still l.step.by (Some line) mid new same));
+  hears = heard_later since l.step.by old mid new same l.given.sight.finds (waits_as l (Plays (Node line))) c.hears;
+}
 carries_later since l (Refused sayer end) given old mid new same c = (c.0, wires_then old mid new c.1 same)
 carries_later since l (Denied why) given old mid new same c = (c.0, wires_then old mid new c.1 same)
 carries_later since l _ given old mid new same c = wires_then old mid new c same
@@ -101,18 +72,15 @@ carries_as since l a given other old new same c = subst (λ (bytes : List ℕ). 
 
 -- WHAT A TASK HEARD, by a reader that has read the stream
 
-some_same : (a b : Option (List ℕ)) → Some a ≡ Some b → a ≡ b
-some_same a b same = cc
-
 -- the same is open to a reader
 same_rest : (was : Option (List ℕ)) (a b : List ℕ) → was ≡ Some a → was ≡ Some b → a ≡ b
 same_rest was a b one two = cc
 
 module _ (since : ℕ) (by : MemberId) (old new : View) (was is : Option (List ℕ)) where
   -- the frames are those that the bytes complete in what was taken
-  frames_completed : (line : ℕ) (offer : Option Offer) (found : Found) → HasRead ((old.world since).taken line by.0) (taken_now old line by.0) (Some was)
-      → (h : Hears by line offer found was is old new) → Completes (stream_since since old line by) h.bytes found.frames
-  frames_completed line offer found read h = by_read h.read where
+  frames_completed : (line : ℕ) (bytes : List ℕ) (frames : List Frame) → HasRead ((old.world since).taken line by.0) (taken_now old line by.0) (Some was)
+      → HasFed was is bytes [] frames ⊎ ((bytes ≡ []) × (frames ≡ []) × (is ≡ was)) → Completes (stream_since since old line by) bytes frames
+  frames_completed line bytes frames read heard = by_read heard where
     before : List ℕ
     before = (old.world since).taken line by.0
 
@@ -123,15 +91,15 @@ module _ (since : ℕ) (by : MemberId) (old new : View) (was is : Option (List �
     rest : was ≡ Some read.rest
     rest = some_same was (Some read.rest) read.is
 
-    completed : Completes read.stream h.bytes found.frames → Completes (stream_since since old line by) h.bytes found.frames
-    completed so = subst (λ (s : List ℕ). Completes s h.bytes found.frames) (sym stream) so
+    completed : Completes read.stream bytes frames → Completes (stream_since since old line by) bytes frames
+    completed so = subst (λ (s : List ℕ). Completes s bytes frames) (sym stream) so
 
-    by_read : HasFed was is h.bytes [] found.frames ⊎ ((h.bytes ≡ []) × (found.frames ≡ []) × (is ≡ was)) → Completes (stream_since since old line by) h.bytes found.frames
+    by_read : HasFed was is bytes [] frames ⊎ ((bytes ≡ []) × (frames ≡ []) × (is ≡ was)) → Completes (stream_since since old line by) bytes frames
     by_read (inl reads) =
-        completed (read.goes_on h.bytes ∙ ap (λ (bytes : List ℕ). frames_in read.stream ++ frames_in (bytes ++ h.bytes)) (sym (same_rest was reads.rest read.rest reads.was rest))
+        completed (read.goes_on bytes ∙ ap (λ (front : List ℕ). frames_in read.stream ++ frames_in (front ++ bytes)) (sym (same_rest was reads.rest read.rest reads.was rest))
         ∙ ap (λ (fs : List Frame). frames_in read.stream ++ fs) (sym reads.gained))
     by_read (inr none) = completed (
-        ap (λ (bytes : List ℕ). frames_in (read.stream ++ bytes)) none.0 ∙ ap frames_in (append-nil read.stream)
+        ap (λ (k : List ℕ). frames_in (read.stream ++ k)) none.0 ∙ ap frames_in (append-nil read.stream)
         ∙ sym (append-nil (frames_in read.stream)) ∙ ap (λ (fs : List Frame). frames_in read.stream ++ fs) (sym none.1)
         )
 
@@ -140,15 +108,7 @@ module _ (since : ℕ) (by : MemberId) (old new : View) (was is : Option (List �
 
   aside_heard : (a : Aside) (found : Found) → ((line : ℕ) (offer : Option Offer) → a ≡ Exchange line offer → Read line) → HearsIn by old new was is (Away a) found
       → HeardIn since by old new (Away a) found
-  aside_heard (Exchange line offer) found read h = record {
-    bytes = h.bytes;
-    few = h.few;
-    taken = h.taken;
-    waited = h.waited;
-    others = h.others;
-    completes = frames_completed line offer found (read line offer refl) h;
-    all = h.all;
-  }
+  aside_heard (Exchange line offer) found read h = (h.0, frames_completed line h.0.bytes found.frames (read line offer refl) h.1.read)
   aside_heard _ found read h = h
 
   in_heard : (s : State) (found : Found) → ((line : ℕ) (offer : Option Offer) → s ≡ Away (Exchange line offer) → Read line) → HearsIn by old new was is s found → HeardIn since by old new s found
@@ -256,17 +216,18 @@ read_more before taken after was is bytes frames law h more (inr none) =
 -- what a step took that ended well
 module _ (by : MemberId) (old new : View) (was is : Option (List ℕ)) where
   hears_first : (n : ℕ) (finds : Finds) (ws : List Wait) → HearsAtFirst by old new was is (Ok tt) finds ws
-      → ((w : Wait) (more : List Wait) → ws ≡ w ∷ more → (offer : Option Offer) × (w.state ≡ Away (Exchange n offer))) → (offer : Option Offer) × (found : Found) × Hears by n offer found was is old new
+      → ((w : Wait) (more : List Wait) → ws ≡ w ∷ more → (offer : Option Offer) × (w.state ≡ Away (Exchange n offer))) → (offer : Option Offer) × (found : Found) × (h : HasTaken by n offer found old new) × Hears n offer found was is h.bytes
   hears_first n finds [] h first = absurd h
   hears_first n finds (w ∷ ws) h first =
       let on = first w ws refl in
-      (on.0, finds w.queue w.state, subst (λ (s : State). HearsIn by old new was is s (finds w.queue w.state)) on.1 h)
+      let heard : HearsIn by old new was is (Away (Exchange n on.0)) (finds w.queue w.state) = subst (λ (s : State). HearsIn by old new was is s (finds w.queue w.state)) on.1 h in
+      (on.0, finds w.queue w.state, heard.0, heard.1)
 
   pub read_after : (task : Task) (finds : Finds) (waits : List Wait) (before : List ℕ) (n : ℕ) → ReadsAnyPieces → HearsStep by old new was is (Fresh task) (Ok tt) finds waits → WaitsOnLine task waits
       → task ≡ Node n → HasRead before (taken_now old n by.0) (Some was) → HasRead before (taken_now new n by.0) (Some is)
   read_after task finds waits before n law hears first same read =
       let h = hears_first n finds waits (subst (λ (t : Task). HearsStep by old new was is (Fresh t) (Ok tt) finds waits) same hears) (λ w more is_so. first n same w more is_so) in
-      read_more before (taken_now old n by.0) (taken_now new n by.0) was is h.2.bytes h.1.frames law read h.2.taken h.2.read
+      read_more before (taken_now old n by.0) (taken_now new n by.0) was is h.2.bytes h.1.frames law read h.2.taken h.3.read
 
 -- THE LIST OF THEM
 

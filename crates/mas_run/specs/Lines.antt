@@ -1,5 +1,5 @@
 -- A line of a script as it was played: what it gave, why it was cut, and what it did to the plant.
-use Rattle.mas_run.specs.Names.{Dev, Ckpt1, Ckpt2, Spool, MemberId, Batch, Ask, Console, Disk, ViewLine as Line, View, paper_now, Rose, next, SamePapers, NodeNo, VolumesStay, console_now, none_lost, Deck, Work, Line as Node, Cut, Ends, Stops, Writing, Scene, Admission, Plays, Replaces, TakesOver, Piece, fate_found, is_up, IsRight, queue_met, AreBatched, AtCut, IsBroken, IsHaltBy, IsTight, whole_pieces, AreFoundIn, named_in, waits_in, AreVolumesKept, HasStopped, OnlyStops, Proceeds, StaysLost}
+use Rattle.mas_run.specs.Names.{Dev, Ckpt1, Ckpt2, Spool, MemberId, Batch, Ask, Console, Disk, ViewLine as Line, View, paper_now, Rose, next, SamePapers, NodeNo, VolumesStay, console_now, none_lost, Deck, Work, Line as Node, Cut, Ends, Stops, Writing, Scene, Admission, Plays, Replaces, TakesOver, Piece, is_up, IsRight, queue_met, AreBatched, AtCut, IsBroken, IsHaltBy, IsTight, whole_pieces, AreFoundIn, named_in, waits_in, AreVolumesKept, HasStopped, OnlyStops, Proceeds, StaysLost}
 use Rattle.std.specs.Prelude.{◌≡◌, ◌≢◌, ◌⊎◌, ℕ, ◌+◌, ◌<◌, ◌==◌, ◌&&◌, Bool, true, false, if◌then◌else◌, List, [], ◌++◌, length, map, take, Option, Some, None, Result, Ok, Err}
 use Rattle.mas_types.specs.declared.journals.Fate.{Fate}
 use Rattle.script_lang.specs.declared.types.Ask.TheVariants as ask
@@ -203,9 +203,9 @@ abbrev pub printed_at : LineAt → ℕ → List Line
 printed_at l m = if l.step.by.0 == m then (played_at l).outcome.printed else []
 
 -- A LINE THAT WAS PLAYED, on a plant that showed `old` before and `new` after it, with these batches of its own and
--- this answer. A copy's bytes are read so.
-pub record IsPassed (told : Type 0) (reads : List ℕ → Option (List ℕ)) (l : LineAt) (own : List Batch) (old new : View)
-    (answer : Result (Unit {0}) NodeNo) : Type 0 where
+-- this answer.
+pub record IsPassed (told : Type 0) (l : LineAt) (own : List Batch) (old new : View) (answer : Result (Unit {0}) NodeNo)
+    : Type 0 where
   pub goes : Proceeds old new
   pub given : IsGiven told l old new
   pub honest : told → IfOfMember l.step.what (IsHonest l old new)
@@ -223,8 +223,6 @@ pub record IsPassed (told : Type 0) (reads : List ℕ → Option (List ℕ)) (l 
   pub console : told → console_now new ≡ console_now old ++ map (λ s. s.line) (played_at l).outcome.said
   pub paper : told → (m : ℕ) → paper_now new m ≡ paper_now old m ++ printed_at l m
   pub dry : told → PrintsNone (admitted_at l) → SamePapers old new
-  pub loses : told → LosesAs reads (taking (is_takeover (admitted_at l)) (fate_found (admitted_at l) l.given.sight))
-      (played_at l).outcome.loses old new
   pub stays : (d : Dev) → is_replaced d (admitted_at l) ≡ false → StaysLost d old new
   pub arms : (m : ℕ) → new.arms m ≡ arms_then l m (old.arms m)
   pub volumes : told → LeavesVolumes l → AreVolumesKept old new

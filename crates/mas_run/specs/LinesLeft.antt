@@ -9,7 +9,7 @@ use Rattle.paper_laws.specs.Counts.{Counts}
 use Rattle.member_sittings.specs.Whole.{queue_of}
 use Rattle.mas_run.specs.LinesAt.{LineAt, admitted_at, pieces_as, play_as}
 use Rattle.mas_run.specs.Lines.{AdmissionLeaves, IfIdle, IsHonestAs, IsThere, LosesAs, PrintsNone, StaysAs, is_replaced, is_takeover, is_work, taking}
-use Rattle.mas_run.specs.Renewing.{RenewsAs}
+use Rattle.mas_run.specs.Renewing.{CopiesAt, RenewsAs}
 use Rattle.mas_run.specs.Shapes.{IsShapedAs}
 use Rattle.mas_run.specs.Wires.{Carries}
 
@@ -40,6 +40,9 @@ pub record Seen : Type 0 where
   pub journal : List Batch
   pub printed : List ℕ
   pub renewals : Renewals
+
+abbrev pub copies_seen : Seen → CopiesAt
+copies_seen x = record { renewals = x.renewals; view = x.view }
 
 module _ (reads : List ℕ → Option (List ℕ)) where
   -- The line that was admitted so, on the value from before it was tested to after it was played. Where the answer is
@@ -86,7 +89,7 @@ module _ (reads : List ℕ → Option (List ℕ)) where
     pub left : LeavesAs told (record { scene = S; number = at; step = step; given = given })
         (admitted S.queue.config S.book step.by step.what) x y after result
     pub renews : RenewsAs (admitted S.queue.config S.book step.by step.what) given.sight.cut given.sight.renewed
-        x.renewals y.renewals x.view y.view
+        (copies_seen x) (copies_seen y)
 
 module _ {P C : Type 0} (plants : PlantGhosts P) (copies : CopyGhosts C) where
   abbrev v : Parts P C → View

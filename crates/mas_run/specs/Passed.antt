@@ -1,9 +1,9 @@
 -- The lines of a script, played one after another, up to one that ends the run.
-use Rattle.mas_run.specs.Names.{Dev, Batch, Step, next, View, NodeNo, Armed, Scene, Outcome, Given, RightIf, given_first, line_with, settle, Renewals}
+use Rattle.mas_run.specs.Names.{Dev, Batch, Step, next, View, NodeNo, Armed, Scene, Outcome, Given, RightIf, given_first, line_with, fate_found, settle, Renewals}
 use Rattle.std.specs.Prelude.{◌≡◌, ℕ, suc, ◌+◌, ◌≤◌, ◌==◌, Bool, true, false, if◌then◌else◌, List, [], ◌∷◌, ◌++◌, drop, Option, Result, Ok}
 use Rattle.mas_run.specs.LinesAt.{LineAt, admitted_at, played_at}
 use Rattle.mas_run.specs.Renewing.{RenewsAs}
-use Rattle.mas_run.specs.Lines.{IsPassed, LeavesVolumes, is_takeover, loses_then}
+use Rattle.mas_run.specs.Lines.{IsPassed, LeavesVolumes, LosesAs, is_takeover, loses_then, taking}
 use Rattle.mas_run.specs.Wires.{Carries}
 
 -- what a plant showed, what the journal of the run had, when copies were replaced, and the scene, at a line of this
@@ -31,13 +31,17 @@ line_of h g step = record { scene = h.scene; number = h.number; step = step; giv
 -- batch's fate since a moment of the line.
 pub record IsNext (told : Type 0) (h : Here) (g : Given) (step : Step) (there : There) : Type 0 where
   pub own : List Batch
-  pub passed : IsPassed told h.reads (line_of h g step) own h.view there.view there.answer
+  pub passed : IsPassed told (line_of h g step) own h.view there.view there.answer
   pub at : ℕ
   pub moment : (h.view.now ≤ at) × (at ≤ there.view.now)
   pub batches : there.batches ≡ settle (played_at (line_of h g step)).outcome.found at h.batches ++ own
+  -- what was lost by a call in it
+  pub loses : told → LosesAs h.reads
+      (taking (is_takeover (admitted_at (line_of h g step))) (fate_found (admitted_at (line_of h g step)) g.sight))
+      (played_at (line_of h g step)).outcome.loses h.view there.view
   -- the copies that it replaced
-  pub renews : RenewsAs (admitted_at (line_of h g step)) g.sight.cut g.sight.renewed h.renewals there.renewals h.view
-      there.view
+  pub renews : RenewsAs (admitted_at (line_of h g step)) g.sight.cut g.sight.renewed
+      (record { renewals = h.renewals; view = h.view }) (record { renewals = there.renewals; view = there.view })
   -- the bytes that it gave and took on a line to another node
   pub wires : told → Carries h.since (line_of h g step) (admitted_at (line_of h g step))
       (played_at (line_of h g step)).outcome.given h.view there.view

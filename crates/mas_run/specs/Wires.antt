@@ -1,13 +1,11 @@
 -- Lines to other nodes in a run: the bytes that each line of a script gives on one, and those that it takes from it,
 -- with the frames that these complete in the stream that its member took from it in the run.
 use Rattle.mas_run.specs.Names.{MemberId, wires_most, SameWires, View, taken_now, Finds, Away, Task, Line as Node, whole_pieces, Wait, waits_in, Admission, Denied, Plays, Refused, queue_met, Completes}
-use Rattle.std.specs.Prelude.{◌≡◌, ◌≢◌, ◌⊎◌, ℕ, ◌-◌, ◌+◌, ◌*◌, ◌≤◌, List, [], ◌∷◌, ◌++◌, drop, length, take, Option, Some, None}
-use Rattle.step_turns.specs.Serving.{exchange_end, taken_most}
+use Rattle.std.specs.Prelude.{◌≡◌, ℕ, ◌-◌, ◌+◌, ◌*◌, List, [], ◌∷◌, drop, length, take, Some}
 use Rattle.step_turns.specs.declared.states.Aside.TheVariants.{Exchange}
 use Rattle.step_turns.specs.declared.states.Found.{Found}
-use Rattle.step_turns.specs.declared.states.Offer.{Offer}
 use Rattle.step_turns.specs.declared.states.State.{State}
-use Rattle.member_resets.specs.Hears.{GivesOnly, TakesNothing}
+use Rattle.member_resets.specs.Hears.{GivesOnly, HasTaken, TakesNothing}
 use Rattle.mas_run.specs.LinesAt.{LineAt, pieces_as}
 
 -- THE STREAM
@@ -18,24 +16,12 @@ stream_since since v line m = drop (length ((v.world since).taken line m.0)) (ta
 
 -- A LINE THAT SERVES a line to another node
 
--- It took bytes from that: no more than a step may, and those that waited before all others. The frames that came are
--- those that the bytes complete in the stream that its member took from the line in the run. Unless its step was closed
--- by then, nothing was left waiting, or no more might be taken.
-pub record HasHeard (stream : List ℕ) (by : MemberId) (line : ℕ) (offer : Option Offer) (found : Found)
-    (old new : View) : Type 0 where
-  pub bytes : List ℕ
-  pub few : length bytes ≤ taken_most
-  pub taken : taken_now new line by.0 ≡ taken_now old line by.0 ++ bytes
-  pub waited : old.waiting line ≡ bytes ++ new.waiting line
-  pub others : (w : ℕ) → w ≢ line → new.waiting w ≡ old.waiting w
-  pub completes : Completes stream bytes found.frames
-  pub all : exchange_end offer line found ≡ None → (length bytes ≡ taken_most) ⊎ (new.waiting line ≡ [])
-
 module _ (since : ℕ) (by : MemberId) (old new : View) where
-  -- where it waited first, for the exchange, and then for no other one; if it came so far
+  -- Where it waited first, for the exchange, it took bytes; and then it waited for no other one, if it came so far. The
+  -- frames that came are those that the bytes complete in the stream that its member took from the line in the run.
   abbrev pub HeardIn : State → Found → Type 0
   HeardIn (Away (Exchange line offer)) found =
-      HasHeard (stream_since since old line by) by line offer found old new
+      (h : HasTaken by line offer found old new) × Completes (stream_since since old line by) h.bytes found.frames
   HeardIn s found = TakesNothing old new
 
   abbrev pub HeardFirst : Finds → List Wait → Type 0

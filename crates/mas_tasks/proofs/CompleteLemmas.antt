@@ -1,5 +1,6 @@
 -- A generated script is played to its end: none of its lines loses a copy or resets a member.
 use Rattle.std.proofs.Common.{◌≡◌, ◌≢◌, inl, inr, ⊎_elim, ℕ, zero, suc, ◌+◌, ◌%◌, ◌≤◌, ◌==◌, Bool, true, false, if◌then◌else◌, ◌&&◌, List, [], ◌∷◌, ◌++◌, get_or, Some, None, Ok, refl, sym, ◌∙◌, ap, subst, append_assoc, arith}
+use Rattle.std.proofs.lemmas.Bool.{and_parts as both}
 use Rattle.std.specs.Prelude.{All}
 use Rattle.std.specs.List.{flat_map, list_all, range_with_len}
 use Rattle.std.proofs.lemmas.List.Folds.{list_all-append}
@@ -94,10 +95,6 @@ said_generated decks script plays count said =
 pub generated_renews : (decks : ℕ) (script : Script) → PlaysGenerated → IsDeckCount decks → IsSaid true false (script_text decks) script → (d : Dev) → ReplacesNone d script.steps
 generated_renews decks script plays count said d =
     subst (λ (s : Script). ReplacesNone d s.steps) (sym (said_generated decks script plays count said)) (replaces_none d (script_steps decks) (plain_steps decks))
-
-both : (a b : Bool) → (a && b) ≡ true → (a ≡ true) × (b ≡ true)
-both true b e = (refl, e)
-both false b e = absurd (cc)
 
 takes_none : (old new : View) (before steps : List Step) → list_all is_plain steps ≡ true → TakesNone old new before steps
 takes_none old new before [] plain = tt

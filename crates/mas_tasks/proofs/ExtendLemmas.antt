@@ -37,9 +37,9 @@ use Rattle.mas_complex.specs.Meaning.{StandFor, run}
 use Rattle.mas_complex.specs.Paper.{IsOnPaper, PaperKept, SamePapers}
 use Rattle.mas_complex.specs.Renewals.{no_renewals}
 use Rattle.mas_complex.specs.Texts.{GivesTexts, IsReadUnless, lost_now}
-use Rattle.mas_complex.proofs.Ending.{kept_is, left_below}
+use Rattle.mas_complex.proofs.Fates.{kept_is, left_below}
 use Rattle.mas_complex.proofs.Papers.{line_past, on_same}
-use Rattle.mas_complex.proofs.Passing.{passes_of}
+use Rattle.mas_complex.proofs.Basics.{passes_of}
 use Rattle.mas_run.specs.Cuts.{AreBatched, IsBatched}
 use Rattle.member_node.specs.Calls.{console_now}
 use Rattle.paper_laws.specs.Paper.{AreMarkedLinesOn}

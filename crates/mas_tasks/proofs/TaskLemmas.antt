@@ -1,7 +1,7 @@
 -- What the words ask for.
 use Rattle.std.proofs.Common.{◌≡◌, ◌∙◌, ◌⊎◌, inl, inr, ℕ, ◌≤◌, nat_le, Bool, true, false, ◌&&◌, if◌then◌else◌, List, [], ◌∷◌, length, Option, Some, None, Err, refl, ap, subst}
 use Rattle.std.specs.Prelude.{option_and_then, option_map}
-use Rattle.std.proofs.lemmas.Bool.{leb-true}
+use Rattle.std.proofs.lemmas.Bool.{and_parts as both, leb-true}
 use Rattle.std.proofs.lemmas.Option.{option_and_then_some}
 use Rattle.mas_types.specs.Numerals.{is_numeral, value_of}
 use Rattle.gen_work.specs.Generated.{IsDeckCount}
@@ -64,10 +64,6 @@ pub generate_not_check : (asked : Option Task) (a : ℕ) → asked ≡ Some (tas
 generate_not_check asked a one two = absurd (cc)
 
 -- A NUMBER OF DECKS that is asked for is one that is made
-
-both : (a b : Bool) → (a && b) ≡ true → (a ≡ true) × (b ≡ true)
-both true b e = (refl, e)
-both false b e = absurd (cc)
 
 number_count : (text : Text) (n : ℕ) (is : Bool) → is_number text ≡ is → (if is then Some (verb.Generate (value_of text)) else None) ≡ Some (verb.Generate n) → IsDeckCount n
 number_count text n false not e = absurd (cc)

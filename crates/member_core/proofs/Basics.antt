@@ -1,5 +1,6 @@
 -- Lists changed at a place, and members.
-use Rattle.std.proofs.Common.{◌≡◌, ℕ, zero, suc, ◌<◌, ◌⊎◌, inl, inr, Bool, true, false, not, ◌&&◌, ◌||◌, ◌==◌, nat_lt, List, [], ◌∷◌, ◌++◌, length, map, refl, ap, sym, subst, arith, length-append}
+use Rattle.std.proofs.Common.{◌≡◌, ℕ, zero, suc, ◌<◌, ◌⊎◌, inl, inr, Bool, true, false, ◌&&◌, ◌||◌, ◌==◌, nat_lt, List, [], ◌∷◌, ◌++◌, length, map, refl, ap, sym, subst, arith, length-append}
+pub use Rattle.std.proofs.lemmas.Bool.{and_from as and_both, not-true as not_true, or_left, or_parts as neither, or_right}
 use Rattle.std.specs.List.{AllByRecursion}
 use Rattle.std.proofs.lemmas.Bool.Decides.{nat_tests}
 use Rattle.mas_types.specs.declared.ids.MemberId.{MemberId}
@@ -24,29 +25,9 @@ pub and_right : (p q : Bool) → (p && q) ≡ true → q ≡ true
 and_right true q h = h
 and_right false q h = absurd (cc)
 
-pub and_both : (p q : Bool) → p ≡ true → q ≡ true → (p && q) ≡ true
-and_both true q h k = k
-and_both false q h k = absurd (cc)
-
-pub or_left : (p q : Bool) → p ≡ true → (p || q) ≡ true
-or_left true q h = refl
-or_left false q h = absurd (cc)
-
-pub or_right : (p q : Bool) → q ≡ true → (p || q) ≡ true
-or_right true q h = refl
-or_right false q h = h
-
 pub or_cases : (p q : Bool) → (p || q) ≡ true → (p ≡ true) ⊎ (q ≡ true)
 or_cases true q h = inl refl
 or_cases false q h = inr h
-
-pub neither : (p q : Bool) → (p || q) ≡ false → (p ≡ false) × (q ≡ false)
-neither true q h = absurd (cc)
-neither false q h = (refl, h)
-
-pub not_true : (p : Bool) → not p ≡ true → p ≡ false
-not_true true h = absurd (cc)
-not_true false h = refl
 
 pub both_ways : (p : Bool) {P : Type 0} → p ≡ true → p ≡ false → P
 both_ways true h k = absurd (cc)

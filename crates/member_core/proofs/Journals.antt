@@ -1,5 +1,6 @@
 -- The entries of a journal whose batch in flight gets its fate, or begins.
-use Rattle.std.proofs.Common.{◌≡◌, ℕ, Bool, true, false, not, ◌==◌, ◌&&◌, ◌||◌, nat_le, List, [], ◌∷◌, ◌++◌, length, refl, sym, subst, append_assoc, append-nil}
+use Rattle.std.proofs.Common.{◌≡◌, ℕ, Bool, true, false, not, ◌==◌, ◌&&◌, nat_le, List, [], ◌∷◌, ◌++◌, length, refl, sym, subst, append_assoc, append-nil}
+use Rattle.std.proofs.lemmas.Bool.{or_from as none_of}
 use Rattle.std.specs.List.{list_any, AllByRecursion}
 use Rattle.mas_types.specs.declared.ids.MemberId.{MemberId}
 use Rattle.mas_types.specs.declared.journals.Fate.{Fate}
@@ -71,10 +72,6 @@ unkept_head new fate.Dropped any h = h
 unkept_head fate.Kept fate.Flying any h = refl
 unkept_head fate.Dropped fate.Flying any h = h
 unkept_head fate.Flying fate.Flying any h = h
-
-none_of : (p q : Bool) → p ≡ false → q ≡ false → (p || q) ≡ false
-none_of true q h k = absurd (cc)
-none_of false q h k = k
 
 pub unkept_settled : (new : Fate) (bs : List Batch) (n : MemberId) (k : ℕ) → has_unkept bs n k ≡ false → has_unkept (settled new bs) n k ≡ false
 unkept_settled new [] n k h = refl

@@ -1,5 +1,6 @@
 -- The invariant in the words of its users follows.
 use Rattle.std.proofs.Common.{◌≡◌, ℕ, ◌⊎◌, inl, inr, Bool, true, false, not, ◌&&◌, ◌==◌, List, [], ◌∷◌, ◌++◌, Some, refl, ap, sym, ◌∙◌, subst, arith, append-nil}
+use Rattle.std.proofs.lemmas.Bool.{not-true as none}
 use Rattle.std.specs.List.{list_any, AllByRecursion}
 use Rattle.std.proofs.lemmas.Bool.Decides.{nat_tests}
 use Rattle.mas_types.specs.declared.ids.MemberId.{MemberId}
@@ -146,10 +147,6 @@ right w holds =
 
     same : (x y : ℕ) → x ≡ y → (x == y) ≡ true
     same x y e = grind (arith, nat_tests)
-
-    none : (t : Bool) → not t ≡ true → t ≡ false
-    none true e = absurd (cc)
-    none false e = refl
 
     unsure : (c : CopyAt) → IsUnsure (kept w) (flying w) w.members c → (c.next ≡ Some (kept w ++ flying w)) × ((is_nil (flying w) ≡ false)
         × (((member_at w nobody).stage ≡ at.Away) × (is_up w w.holder ≡ true → (member_at w w.holder).stage ≡ at.Locked)))

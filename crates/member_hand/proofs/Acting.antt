@@ -20,6 +20,7 @@ use Rattle.mas_complex.specs.Locking.{reserved_after_stop}
 use Rattle.mas_complex.specs.Parts.{Parts}
 use Rattle.mas_complex.specs.Spool.{IsHeldBy}
 use Rattle.mas_complex.proofs.Batches.{settled_later}
+use Rattle.mas_complex.specs.CallCounts.{pair_at}
 use Rattle.member_node.specs.declared.member.Member.{Member}
 use Rattle.member_node.specs.declared.member.NodeNo.{NodeNo}
 use Rattle.member_node.specs.declared.member.NodeNo.TheVariants.{BothLost, Halted, ConsoleFault, NoMemory}
@@ -29,7 +30,7 @@ use Rattle.member_node.specs.Spares.{Spares, is_stop}
 use Rattle.member_node.specs.Wanted.{HasHad}
 use Rattle.member_node.proofs.SpareLemmas.{sparing_more, sparing_none}
 use Rattle.member_steps.specs.Steps.{StepCauses}
-use Rattle.member_steps.proofs.ReadLemmas.{calm_rest, low_later, low_written, told_sound}
+use Rattle.member_steps.proofs.ReadLemmas.{between_by, calm_rest, low_later, low_written, told_sound}
 use Rattle.member_decks.specs.Steps.{SpoolStops, names_volume}
 use Rattle.member_work.specs.Rounds.{names_read}
 use Rattle.member_hand.specs.Found.{names_found}
@@ -269,7 +270,7 @@ module _ {P C : Type 0} (plants : PlantGhosts P) (copies : CopyGhosts C) where
   stay_by BothLost by v w cause = absurd cause
   stay_by ConsoleFault by v w cause = absurd cause
 
-  caused_by : (e : NodeNo) (by : ℕ) (a b : Bool) (v w : View) → SpoolStops names_found (Err e) by v w → StepCauses {T = Unit {0}} (Err e) by a a b b v w
+  caused_by : (e : NodeNo) (by : ℕ) (a b : Bool) (v w : View) → SpoolStops names_found (Err e) by v w → StepCauses {T = Unit {0}} (Err e) by (pair_at a b v) (pair_at a b w)
   caused_by NoMemory by a b v w cause = inr (refl, refl)
   caused_by Halted by a b v w cause = (inr (refl, refl), cause.1)
   caused_by BothLost by a b v w cause = absurd cause
@@ -373,6 +374,6 @@ module _ {P C : Type 0} (plants : PlantGhosts P) (copies : CopyGhosts C) where
         roomy = roomy_now;
         noted = seat.still.noted;
       };
-      between = seat.between;
+      between = between_by plants.tells y now m.batch m.checkpoint refl refl refl refl refl seat.between;
       low = seat.low;
     })

@@ -1,21 +1,18 @@
 -- A member that may go on with a step may take its seat, and sit.
-use Rattle.std.proofs.Common.{◌≡◌, ℕ, ◌-◌, ◌≤◌, Bool, true, false, ◌||◌, if◌then◌else◌, is_some, length, take, refl, sym, ap, subst, arith}
+use Rattle.std.proofs.Common.{◌≡◌, ℕ, ◌-◌, ◌<◌, ◌≤◌, List, None, Option, Bool, true, false, ◌||◌, if◌then◌else◌, is_some, length, refl, sym, ap, subst, arith}
 use Rattle.std.proofs.lemmas.List.{length-set}
 use Rattle.mas_types.specs.declared.ids.MemberId.{MemberId}
+use Rattle.mas_types.specs.declared.journals.Entry.{Entry}
 use Rattle.mas_types.specs.declared.queues.Config.{Config}
 use Rattle.mas_types.specs.declared.jobs.Text.TheVariants.{Whole}
-use Rattle.mas_types.specs.Commands.Life.{outputs_at_end}
-use Rattle.mas_types.specs.Queue.{job_at}
 use Rattle.mas_types.specs.Sound.{IsSound}
 use Rattle.lock_cycle.specs.Books.{Book, IsMember, granted, is_holder, is_stopped, ticked, try_refusal}
 use Rattle.spool_plant.specs.declared.plant.Plant.{Ghosts as PlantGhosts}
 use Rattle.ckpt_copy.specs.declared.copying.Copying.{Ghosts as CopyGhosts}
-use Rattle.track_groups.specs.Groups.{held_by}
 use Rattle.mas_complex.specs.Parts.{Parts}
 use Rattle.mas_complex.specs.Texts.{IsThere, Spools, spools_at}
 use Rattle.member_node.specs.declared.member.Member.{Member}
-use Rattle.member_work.specs.Spooled.{AreSpooled}
-use Rattle.step_turns.specs.JobEnds.{groups_for_end}
+use Rattle.member_node.specs.Reads.{too_high}
 use Rattle.step_turns.specs.declared.states.Found.{Found}
 use Rattle.step_turns.specs.declared.states.Grant.{Grant}
 use Rattle.step_turns.specs.declared.states.Grant.TheVariants.{ByLock, ForStep}
@@ -28,8 +25,9 @@ use Rattle.member_sittings.specs.Asides.{lowest_groups}
 use Rattle.member_sittings.specs.Gates.{IsAtGate, IsOpen}
 use Rattle.member_sittings.specs.Sat.{Start, seated_in}
 use Rattle.member_sittings.specs.Whole.{HoldsLock, IsSeat, IsToSit, first_half, queue_of, second_half}
+use Rattle.member_frames.specs.Ready.{AreStanding}
 use Rattle.member_hand.specs.Enters.{IsBeforeSeat, IsToEnter}
-use Rattle.member_hand.specs.Quiet.{IsSeatedBy, MayGoOn}
+use Rattle.member_hand.specs.Quiet.{IsAside, IsQuiet, IsSeatedBy, MayGoOn}
 use Rattle.member_hand.specs.Sits.{AreFewUnits, IsFoundRight, IsToSitFrom}
 use Rattle.member_hand.specs.Turns.{taken}
 use Rattle.member_hand.proofs.Locking.{acts_entered}
@@ -48,6 +46,37 @@ entered_members b by =
 pub entered_seated : (b : Book) (by : MemberId) → IsMember b by → IsMember (entered b by) by
 entered_seated b by seated = (seated.0, subst (λ (k : ℕ). by.0 ≤ k) (sym (entered_members b by)) seated.1)
 
+-- BY ANOTHER BOOK, in which the member holds the lock
+
+module _ {P C : Type 0} (plants : PlantGhosts P) (copies : CopyGhosts C) (x : Parts P C) (m : Member) (b : Book) (holds : HoldsLock b x.base.config m.id) where
+  -- one that may take its seat is at the gate
+  pub gate_with : IsAside plants copies x m → x.level < too_high → IsAtGate plants copies (record x { book = b }) m
+  gate_with aside level =
+      let q = aside.quiet in
+      record {
+        holds = holds;
+        at_lock = record { none = q.none; unplaced = q.unplaced; nothing = aside.idle.nothing; drawn = aside.idle.drawn; many = aside.idle.many };
+        unreserved = q.unreserved;
+        first = subst (λ (c : Config). IsOpen plants.tells (first_half plants copies x) c (length x.batches) (length m.room)) aside.config q.first;
+        second = subst (λ (c : Config). IsOpen plants.tells (second_half plants copies x) c (length x.batches) (length m.room)) aside.config q.second;
+        sound = q.sound;
+        config = aside.config;
+        kept = q.kept;
+        begun = q.begun;
+        roomy = q.roomy;
+        noted = aside.noted;
+        level = level;
+      }
+
+  -- and one that has its seat has it still, where nothing is reserved
+  pub seat_with : (o : Option (List Entry)) → o ≡ None → IsSeat plants copies x m → IsSeat plants copies (record x { book = b; reserved = o }) m
+  seat_with o unreserved seat = assumption (holds, unreserved, seat)
+
+-- another book, where nothing is reserved, leaves the value as quiet
+pub quiet_with : {P C : Type 0} (plants : PlantGhosts P) (copies : CopyGhosts C) (x : Parts P C) (b : Book) (o : Option (List Entry)) → o ≡ None → (pages : ℕ) → IsQuiet plants copies x pages
+    → IsQuiet plants copies (record x { book = b; reserved = o }) pages
+quiet_with plants copies x b o unreserved pages quiet = assumption (unreserved, quiet)
+
 module _ {P C : Type 0} (plants : PlantGhosts P) (copies : CopyGhosts C) (x : Parts P C) (m : Member) (h : Holder) (s : State) (go : MayGoOn plants copies x m h s) where
   -- IT MAY TAKE ITS SEAT once it has the lock
 
@@ -58,46 +87,11 @@ module _ {P C : Type 0} (plants : PlantGhosts P) (copies : CopyGhosts C) (x : Pa
   holds = record { may = acts_entered x.book m.id go.hold; some = go.hold.some; few = go.hold.few; seated = entered_seated x.book m.id go.hold.seated; member = go.member }
 
   at_gate : IsAtGate plants copies here m
-  at_gate =
-      let q = go.aside.quiet in
-      let i = go.aside.idle in
-      let level = go.level in
-      record {
-        holds = holds;
-        at_lock = record { none = q.none; unplaced = q.unplaced; nothing = i.nothing; drawn = i.drawn; many = i.many };
-        unreserved = q.unreserved;
-        first = subst (λ (c : Config). IsOpen plants.tells (first_half plants copies x) c (length x.batches) (length m.room)) go.aside.config q.first;
-        second = subst (λ (c : Config). IsOpen plants.tells (second_half plants copies x) c (length x.batches) (length m.room)) go.aside.config q.second;
-        sound = q.sound;
-        config = go.aside.config;
-        kept = q.kept;
-        begun = q.begun;
-        roomy = q.roomy;
-        noted = go.aside.noted;
-        level = omega (arith, level);
-      }
+  at_gate = let level = go.level in gate_with plants copies x m here.book holds go.aside (omega (arith, level))
 
   -- one that has it by LOCK is at its seat still
   seat_here : IsSeat plants copies x m → IsSeat plants copies here m
-  seat_here seat = record {
-    still = record {
-      holds = holds;
-      none = seat.still.none;
-      unreserved = seat.still.unreserved;
-      unplaced = seat.still.unplaced;
-      here = seat.still.here;
-      many = seat.still.many;
-      config = seat.still.config;
-      first = seat.still.first;
-      second = seat.still.second;
-      kept = seat.still.kept;
-      begun = seat.still.begun;
-      roomy = seat.still.roomy;
-      noted = seat.still.noted;
-    };
-    between = seat.between;
-    low = seat.low;
-  }
+  seat_here seat = seat_with plants copies x m here.book holds x.reserved seat.still.unreserved seat
 
   before_seat : (g : Grant) → IsSeatedBy plants copies g x m → IsBeforeSeat plants copies g here m
   before_seat ForStep seat = at_gate
@@ -122,14 +116,7 @@ module _ {P C : Type 0} (plants : PlantGhosts P) (copies : CopyGhosts C) (x z : 
   right_now me (Away (SpoolDeck n text)) found r =
       (r.0, r.1, λ none t. subst (λ (d : Spools). IsThere d x.base.config.groups (Whole text) (lowest_groups me (queue_of x).owners text)) (sym (same t)) (r.2 none t))
   right_now me (Away (ReadText runs n fields p)) found r = r
-  right_now me (Away (SpoolOutputs n specs p)) found r = (
-    r.0,
-    record {
-      job = r.1.job;
-      there = λ none t.
-          subst (λ (d : Spools). AreSpooled d (queue_of x).config.groups (outputs_at_end (job_at (queue_of x) n) specs) (take (groups_for_end (queue_of x) n specs) (held_by me (queue_of x).owners))) (sym (same t)) (r.1.there none t);
-    },
-  )
+  right_now me (Away (SpoolOutputs n specs p)) found r = (r.0, r.1, λ none t. subst (λ (d : Spools). AreStanding d (queue_of x) me n specs) (sym (same t)) (r.2 none t))
   right_now me (Away (PrintLines n i last p)) found r = r
   right_now me (Away (Exchange l offer)) found r = r
   right_now me (Away (SpoolArrival number job cards service)) found r =

@@ -48,8 +48,8 @@ use Rattle.step_turns.specs.declared.states.State.TheVariants.{Away, Fresh, Rest
 use Rattle.member_sittings.specs.Asides.{LiesOnOne, deck_found, lowest_groups}
 use Rattle.member_sittings.specs.Whole.{IsSeat, queue_of}
 use Rattle.member_frames.specs.Asides.{lowest_for, wire_found}
-use Rattle.member_frames.specs.Ready.{OutputsStand}
-use Rattle.member_frames.proofs.Sat.{lines_resume, outputs_resume}
+use Rattle.member_frames.specs.Ready.{AreStanding}
+use Rattle.member_frames.proofs.Sat.{lines_resume, outputs_stand}
 use Rattle.member_wires.specs.Acts.{IfLost}
 use Rattle.member_wires.specs.Asides.{Exchanged, FindsOffered as WasOffered}
 use Rattle.member_hand.specs.Asides.{ActsAfter}
@@ -63,7 +63,7 @@ spool_lost : (per : ℕ) (groups : List GroupNo) (lost : Option ℕ) (old new : 
 spool_lost per groups None old new lies found = tt
 spool_lost per groups (Some volume) old new lies found = record { there = lies; lost = found.0; rose = found.1 }
 
-read_told : (told : Type 0) (per : ℕ) (text : Text) (groups : List GroupNo) (r : Read) (old new : View) → told → IsReadAs told per text groups (Some r) old new → IsReadAs (Unit {0}) per text groups (Some r) old new
+read_told : (told : Type 0) (per : ℕ) (text : Text) (groups : List GroupNo) (r : Read) (old new : View) → told → IsReadAs told per (text, groups) (Some r) old new → IsReadAs (Unit {0}) per (text, groups) (Some r) old new
 read_told told per text groups (Lines lines) old new t f = λ u. f t
 read_told told per text groups (Gone group) old new t f = λ u. f t
 read_told told per text groups (Lost volume) old new t f = (λ u. f.0 t, f.1)
@@ -98,7 +98,8 @@ module _ {P C : Type 0} (plants : PlantGhosts P) (copies : CopyGhosts C) (y : Pa
   }
   here (Away (SpoolOutputs n specs p)) was is found t w a = record {
     only = a.1.finds.only;
-    lost = subst (λ (os : List Owner). IsSpoolLost y.base.config.groups (lowest_for m.id os specs) found.lost (v y) (v u)) (owners_are t) a.1.finds.lost;
+    lost = spool_lost y.base.config.groups (lowest_for m.id (queue_of y).owners specs) found.lost (v y) (v u)
+        (subst (λ (os : List Owner). LiesOnOne y.base.config.groups (lowest_for m.id os specs) found.lost) (owners_are t) a.1.finds.lies) a.1.finds.lost;
   }
   here (Away (ReadText runs n fields p)) was is found t w a =
       let its = w.1.under_way (queue_of y) (seat.between.queue t) (seat.between.sound t) in
@@ -172,9 +173,10 @@ module _ {P C : Type 0} (plants : PlantGhosts P) (copies : CopyGhosts C) (y : Pa
       (w.0, a.1.finds.fits, λ t. subst (λ (Q : Queue). IsUnderWay Q m.id n) (sym queue) (w.1.under_way (queue_of y) (seat.between.queue t) (seat.between.sound t)))
   right_here (Away (SpoolOutputs n specs p)) was is found fresh ne queue base w a = (
     w.outputs,
-    subst (λ (Q : Queue). OutputsStand plants.tells Q m.id (spools_at (v u) (v u).now) Q.config.groups n specs found.lost) (sym queue)
-        (outputs_resume plants.tells m.checkpoint.tables (queue_of y) m.id (spools_at (v u) (v u).now) (queue_of y).config.groups n specs found.lost seat.between.queue w.job
-        (λ none t. subst (λ (k : ℕ). AreSpooled (spools_at (v u) (v u).now) k specs (lowest_for m.id m.checkpoint.tables.owners specs)) (sym groups_are) (a.1.finds.there none t (seat.still.roomy t)))),
+    λ t. subst (λ (Q : Queue). IsUnderWay Q m.id n) (sym queue) (w.job t),
+    λ none t. subst (λ (Q : Queue). AreStanding (spools_at (v u) (v u).now) Q m.id n specs) (sym queue)
+        (outputs_stand m.checkpoint.tables (queue_of y) m.id (spools_at (v u) (v u).now) n specs (seat.between.queue t)
+        (subst (λ (k : ℕ). AreSpooled (spools_at (v u) (v u).now) k specs (lowest_for m.id m.checkpoint.tables.owners specs)) (sym groups_are) (a.1.finds.there none t (seat.still.roomy t)))),
   )
   right_here (Away (PrintLines n i last p)) was is found fresh ne queue base w a = (
     w.index,
@@ -207,10 +209,6 @@ module _ {P C : Type 0} (plants : PlantGhosts P) (copies : CopyGhosts C) (y : Pa
   right_at s was is found ne queue base w a = right_here s was is found (not_fresh s w) ne queue base w a
 
   -- WHAT WAS FOUND LOST failed in them, whatever the plant tells
-
-  lost_of : (per : ℕ) (groups : List GroupNo) (lost : Option ℕ) (old new : View) → IsSpoolLost per groups lost old new → IsFoundLost lost old new
-  lost_of per groups None old new f = tt
-  lost_of per groups (Some volume) old new f = (f.lost, f.rose)
 
   read_of : (per : ℕ) (groups : List GroupNo) (r : Read) (old new : View) → IsFailedRead per groups r old new → (volume : ℕ) → r ≡ Lost volume → IsFoundLost (Some volume) old new
   read_of per groups r old new f volume is = let g = subst (λ (q : Read). IsFailedRead per groups q old new) is f in (g.lost, g.rose)
@@ -246,8 +244,7 @@ module _ {P C : Type 0} (plants : PlantGhosts P) (copies : CopyGhosts C) (y : Pa
 
   failed_here : (s : State) (was is : Option (List ℕ)) (found : Found) → ActsAfter plants left u m s was is (Ok found) → IsFailedFound m.id found (v y) (v u)
   failed_here (Away (SpoolDeck n text)) was is found a = failed_lost found (v u) a.1.finds.only a.1.finds.lost
-  failed_here (Away (SpoolOutputs n specs p)) was is found a =
-      failed_lost found (v u) a.1.finds.only (lost_of y.base.config.groups (lowest_for m.id m.checkpoint.tables.owners specs) found.lost (v y) (v u) a.1.finds.lost)
+  failed_here (Away (SpoolOutputs n specs p)) was is found a = failed_lost found (v u) a.1.finds.only a.1.finds.lost
   failed_here (Away (ReadText runs n fields p)) was is found a = record {
     lost = subst (λ (l : Option ℕ). IsFoundLost l (v y) (v u)) (sym (ap (λ (f : Found). f.lost) a.1.finds.only)) tt;
     read = read_of y.base.config.groups (groups_of (Deck n) m.checkpoint.tables.owners) found.read (v y) (v u) a.1.finds.failed;

@@ -251,7 +251,7 @@ module _ (per : ℕ) (old v0 v1 new : View) (before : Goes old v0) (after : Goes
   lost_in groups None f = f
   lost_in groups (Some volume) f = failed_in groups volume f
 
-  read_in : (told : Type 0) (text : Text) (groups : List GroupNo) (r : Read) → IsReadAs told per text groups (Some r) v0 v1 → IsReadAs told per text groups (Some r) old new
+  read_in : (told : Type 0) (text : Text) (groups : List GroupNo) (r : Read) → IsReadAs told per (text, groups) (Some r) v0 v1 → IsReadAs told per (text, groups) (Some r) old new
   read_in told text groups (Lines lines) f = f
   read_in told text groups (Gone group) f = f
   read_in told text groups (Lost volume) f = (f.0, failed_in groups volume f.1)

@@ -22,18 +22,18 @@ use Rattle.member_hand.specs.Plays.{IsOwnPiece}
 
 -- EACH PIECE OF A STEP HAS ITS MEMBER'S ENTRIES OF THE STEP
 
-front_of : {X : Type 0} (P : X → Type 0) (xs ys : List X) → All P (xs ++ ys) → All P xs
-front_of P [] ys all = All-nil P
-front_of P (x ∷ xs) ys all = All-cons P x xs (All-head P x (xs ++ ys) all) (front_of P xs ys (All-tail P x (xs ++ ys) all))
+pub all_front : {X : Type 0} (R : X → Type 0) (xs ys : List X) → All R (xs ++ ys) → All R xs
+all_front R [] ys all = All-nil R
+all_front R (x ∷ xs) ys all = All-cons R x xs (All-head R x (xs ++ ys) all) (all_front R xs ys (All-tail R x (xs ++ ys) all))
 
-rest_of : {X : Type 0} (P : X → Type 0) (xs ys : List X) → All P (xs ++ ys) → All P ys
-rest_of P [] ys all = all
-rest_of P (x ∷ xs) ys all = rest_of P xs ys (All-tail P x (xs ++ ys) all)
+pub all_back : {X : Type 0} (R : X → Type 0) (xs ys : List X) → All R (xs ++ ys) → All R ys
+all_back R [] ys all = all
+all_back R (x ∷ xs) ys all = all_back R xs ys (All-tail R x (xs ++ ys) all)
 
 batches_own : (by : MemberId) (at : ℕ) (ess : List (List Entry)) → AreOf by at (all_entries ess) → All (AreOf by at) ess
 batches_own by at [] own = All-nil (AreOf by at)
 batches_own by at (es ∷ ess) own =
-    All-cons (AreOf by at) es ess (front_of (λ (e : Entry). (e.by ≡ by) × (e.step ≡ at)) es (all_entries ess) own) (batches_own by at ess (rest_of (λ (e : Entry). (e.by ≡ by) × (e.step ≡ at)) es (all_entries ess) own))
+    All-cons (AreOf by at) es ess (all_front (λ (e : Entry). (e.by ≡ by) × (e.step ≡ at)) es (all_entries ess) own) (batches_own by at ess (all_back (λ (e : Entry). (e.by ≡ by) × (e.step ≡ at)) es (all_entries ess) own))
 
 pub sitting_own : (Q : Queue) (h : Holder) (s : State) (found : Found) → All (AreOf h.by h.step) (sit Q h s found).batches
 sitting_own Q h s found =

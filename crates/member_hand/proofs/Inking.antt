@@ -28,7 +28,7 @@ use Rattle.member_decks.specs.Steps.{SpoolStops}
 use Rattle.queue_telling.specs.Telling.{Tell, TellSound}
 use Rattle.job_outcome.specs.declared.outcomes.Read.{Read}
 use Rattle.job_outcome.specs.declared.outcomes.Read.TheVariants as read
-use Rattle.member_work.specs.Inked.{HasInked, Inked, IsInkedBy, IsInkedTo, inked_of as inked_as, lines_from as lines_upto_from, torn_line as torn_as}
+use Rattle.member_work.specs.Inked.{HasInked, Inked, IsInkedBy, IsInkedTo, OtherCountsStay, inked_of as inked_as, lines_from as lines_upto_from, torn_line as torn_as}
 use Rattle.member_work.specs.Looks.{as_it_is}
 use Rattle.step_turns.specs.Examples.{calm, text_of, with_text}
 use Rattle.step_turns.specs.Serving.{bytes_given, unread}
@@ -50,7 +50,7 @@ use Rattle.member_wires.proofs.Shown.{papers_now}
 use Rattle.member_wires.specs.Acts.{GivenBy, StopsBeside}
 use Rattle.member_wires.specs.Asides.{Exchanged, FindsOffered, GaveBy, HasAnswered, ack_bytes, offered_bytes}
 use Rattle.member_hand.specs.Found.{names_found}
-use Rattle.member_hand.specs.Hears.{GivesOnly, Hears, HearsIn, TakesNothing, line_served}
+use Rattle.member_hand.specs.Hears.{GivesOnly, HasTaken, Hears, HearsIn, TakesNothing, line_served}
 use Rattle.member_hand.specs.Asides.{ActsAfter}
 use Rattle.member_hand.specs.Cuts.{IsHaltBy}
 use Rattle.member_hand.specs.Sits.{WaitsWell}
@@ -111,7 +111,7 @@ calm_lines Q count s = inked_of (calm Q s).printer 0 (chunk Q count s (calm Q s)
 abbrev pub found_lines : Queue → ℕ → State → Found → List (List ℕ)
 found_lines Q count s found = chunk Q count s found.read
 
-few_of : (e : NodeNo) (many : ℕ) (k : Inked) → IsInkedBy {T = Found} (λ f. f.printer) (Err e) many k → (k.lines + length (torn_line k.rest) ≤ many) × IsHaltBy e (Waiting k.lines k.rest)
+few_of : (e : NodeNo) (many : ℕ) (k : Inked) → IsInkedBy (Err e) many k → (k.lines + length (torn_line k.rest) ≤ many) × IsHaltBy e (Waiting k.lines k.rest)
 few_of NoMemory many k by = (let le = by.0 in let none = ap (λ (o : Option (List ℕ)). length (torn_line o)) by.1 in omega (arith, le, none), by.1)
 few_of Halted many k by =
     (⊎_elim (λ is. let le = by.0 in let none = ap (λ (o : Option (List ℕ)). length (torn_line o)) is in omega (arith, le, none)) (λ less. let few = torn_few k.rest in omega (arith, less, few)) by.1, tt)
@@ -235,8 +235,8 @@ module _ {P C : Type 0} (plants : PlantGhosts P) where
     gives = gives;
   }
 
-  inked_to : (lines : List (List ℕ)) (s : State) (bytes : List ℕ) (by : MemberId) (e : NodeNo) (x y : Parts P C) → bytes ≡ [] → SameWires (v x) (v y) → HasInked plants (λ (f : Found). f.printer) by lines x y (Err e) → InkedTo lines s bytes by e x y
-  inked_to lines s bytes by e x y none same i =
+  inked_to : (lines : List (List ℕ)) (s : State) (bytes : List ℕ) (by : MemberId) (e : NodeNo) (x y : Parts P C) → bytes ≡ [] → SameWires (v x) (v y) → OtherCountsStay by x.printed y.printed → HasInked plants by lines x y (Err e) → InkedTo lines s bytes by e x y
+  inked_to lines s bytes by e x y none same counts i =
       let few = few_of e (length lines) i.inked i.by_answer in
       record {
         many = i.inked.lines;
@@ -244,7 +244,7 @@ module _ {P C : Type 0} (plants : PlantGhosts P) where
         by_answer = few.1;
         paper = i.paper ∙ ap (λ (ls : List Line). paper_now (v x) by.0 ++ ls) (inked_is i.inked lines few.0);
         others = i.others;
-        other_counts = λ m other. i.other_counts m (other_member m by other);
+        other_counts = λ m other. counts m (other_member m by other);
         gives = gives_nothing by s (take i.inked.lines bytes) x y (ap (take i.inked.lines) none ∙ take-nil i.inked.lines) same;
       }
 
@@ -284,8 +284,8 @@ module _ {P C : Type 0} (plants : PlantGhosts P) where
   err_inked x y m (Away (SpoolArrival number job cards service)) was is e t waits tell sound roomy a = unprinted _ _ _ m.id e x y (halts_idle e m.id.0 (v x) (v y) a.1.cause) t a.1.acts a.0
   err_inked x y m (Away (PrintLines n i last p)) was is e t waits tell sound roomy a =
       let its = (waits t).printing (queue_of x) (tell t) (sound t) in
-      inked_to (calm_lines (queue_of x) (counts_of x.printed m.id) (Away (PrintLines n i last p))) (Away (PrintLines n i last p)) [] m.id e x y refl (a.1.wires t)
-      (subst (λ (ls : List (List ℕ)). HasInked plants (λ (f : Found). f.printer) m.id ls x y (Err e)) (calm_there (queue_of x) (counts_of x.printed m.id) n i last p its.output its.there) (a.1.inks t its.output its.there))
+      inked_to (calm_lines (queue_of x) (counts_of x.printed m.id) (Away (PrintLines n i last p))) (Away (PrintLines n i last p)) [] m.id e x y refl (a.1.wires t) a.1.counts
+      (subst (λ (ls : List (List ℕ)). HasInked plants m.id ls x y (Err e)) (calm_there (queue_of x) (counts_of x.printed m.id) n i last p its.output its.there) (a.1.inks t its.output its.there))
   err_inked x y m (Away (Exchange l offer)) was is e t waits tell sound roomy a =
       let s : State = Away (Exchange l offer) in
       let gave = exchange_given x y m l was is e t (roomy t) offer waits tell a.1 in
@@ -326,9 +326,9 @@ module _ {P C : Type 0} (plants : PlantGhosts P) where
         gives = gives;
       }
 
-  inked_well : (lines : List (List ℕ)) (s : State) (found : Found) (by : MemberId) (x y : Parts P C) → ((n : ℕ) → poured n s found ≡ []) → SameWires (v x) (v y) → (b : Bool) → found.printer ≡ b → HasInked plants (λ (f : Found). f.printer) by lines x y (Ok found)
+  inked_well : (lines : List (List ℕ)) (s : State) (found : Found) (by : MemberId) (x y : Parts P C) → ((n : ℕ) → poured n s found ≡ []) → SameWires (v x) (v y) → (b : Bool) → found.printer ≡ b → OtherCountsStay by x.printed y.printed → HasInked plants by lines x y (Ok found.printer)
       → InkedWhole lines s found by x y
-  inked_well lines s found by x y none same_wires false is i =
+  inked_well lines s found by x y none same_wires false is counts i =
       let all : i.inked ≡ record { lines = length lines; rest = None } = subst (λ (b : Bool). IsInkedTo b (length lines) i.inked) is i.by_answer in
       let ink : inked_of found.printer 0 lines ≡ lines = ap (λ (b : Bool). inked_of b 0 lines) is in
       let many : i.inked.lines ≡ length lines = ap (λ (k : Inked). k.lines) all in
@@ -341,10 +341,10 @@ module _ {P C : Type 0} (plants : PlantGhosts P) where
             ∙ ap (λ (ls : List (List ℕ)). paper_now (v x) by.0 ++ map whole ls) (take_all lines ∙ sym ink);
         others = i.others;
         count = omega (arith, counted, many, few);
-        other_counts = λ m other. i.other_counts m (other_member m by other);
+        other_counts = λ m other. counts m (other_member m by other);
         gives = gives_nothing by s (poured 0 s found) x y (none 0) same_wires;
       }
-  inked_well lines s found by x y none same_wires true is i =
+  inked_well lines s found by x y none same_wires true is counts i =
       let some : (i.inked.lines < length lines) × (i.inked.rest ≡ None) = subst (λ (b : Bool). IsInkedTo b (length lines) i.inked) is i.by_answer in
       let ink : inked_of found.printer i.inked.lines lines ≡ take i.inked.lines lines = ap (λ (b : Bool). inked_of b i.inked.lines lines) is in
       let less = some.0 in
@@ -358,7 +358,7 @@ module _ {P C : Type 0} (plants : PlantGhosts P) where
             ∙ ap (λ (ls : List (List ℕ)). paper_now (v x) by.0 ++ map whole ls) (sym ink);
         others = i.others;
         count = omega (arith, counted, few);
-        other_counts = λ m other. i.other_counts m (other_member m by other);
+        other_counts = λ m other. counts m (other_member m by other);
         gives = gives_nothing by s (poured i.inked.lines s found) x y (none i.inked.lines) same_wires;
       }
 
@@ -408,8 +408,8 @@ module _ {P C : Type 0} (plants : PlantGhosts P) where
   ok_inked x y m (Away (PrintLines n i last p)) was is found t waits tell sound a =
       let its = (waits t).printing (queue_of x) (tell t) (sound t) in
       let count = counts_of x.printed m.id in
-      inked_well (found_lines (queue_of x) count (Away (PrintLines n i last p)) found) (Away (PrintLines n i last p)) found m.id x y (λ k. refl) (a.1.wires t) found.printer refl
-      (subst (λ (ls : List (List ℕ)). HasInked plants (λ (f : Found). f.printer) m.id ls x y (Ok found)) (chunk_is (queue_of x) count n i last p its.output found.read its.there) (a.1.inks t its.output its.there))
+      inked_well (found_lines (queue_of x) count (Away (PrintLines n i last p)) found) (Away (PrintLines n i last p)) found m.id x y (λ k. refl) (a.1.wires t) found.printer refl a.1.counts
+      (subst (λ (ls : List (List ℕ)). HasInked plants m.id ls x y (Ok found.printer)) (chunk_is (queue_of x) count n i last p its.output found.read its.there) (a.1.inks t its.output its.there))
   ok_inked x y m (Away (Exchange l offer)) was is found t waits tell sound a = exchanged_whole x y m l offer was is found t a.0 a.1
   ok_inked x y m (Away (Acknowledge number service)) was is found t waits tell sound a = answered_whole x y m number service found t a.0 a.1
   ok_inked x y m (Fresh task) was is found t waits tell sound a = nothing_done x y m.id (Fresh task) found a.0 (λ n. refl)
@@ -432,21 +432,25 @@ module _ {P C : Type 0} (plants : PlantGhosts P) where
   took_none x y m Told was is r t off a = subst (λ (q : Parts P C). TakesNothing (v x) (v q)) (sym a.0) (takes_none (v x))
 
   -- an exchange
-  heard_by : (x y : Parts P C) (m : Member) (l : ℕ) (offer : Option Offer) (was is : Option (List ℕ)) (found : Found) → plants.tells → Exchanged plants x y m l offer was is (Ok found) → Hears m.id l offer found was is (v x) (v y)
+  heard_by : (x y : Parts P C) (m : Member) (l : ℕ) (offer : Option Offer) (was is : Option (List ℕ)) (found : Found) → plants.tells → Exchanged plants x y m l offer was is (Ok found)
+      → (h : HasTaken m.id l offer found (v x) (v y)) × Hears l offer found was is h.bytes
   heard_by x y m l offer was is found t a =
-      let moved = a.moved t in
-      record {
-        bytes = a.took;
-        few = a.few;
-        taken = moved.taken;
-        waited = moved.waited;
-        others = a.acts.waiting t;
-        all = λ on. let open_now = not_ended offer l found on in
-            ⊎_elim (λ none. absurd (never offer l found none.why open_now.0 open_now.1)) (λ some. some.all open_now.0 t) a.finds.heard;
-        frames = λ on. let open_now = not_ended offer l found on in
-            ⊎_elim (λ none. absurd (never offer l found none.why open_now.0 open_now.1)) (λ some. some.reads) a.finds.heard;
-        read = ⊎_elim (λ none. inr (none.nothing, none.frames, none.reader)) (λ some. inl some.reads) a.finds.heard;
-      }
+      let moved = a.moved t in (
+        record {
+          bytes = a.took;
+          few = a.few;
+          taken = moved.taken;
+          waited = moved.waited;
+          others = a.acts.waiting t;
+          all = λ on. let open_now = not_ended offer l found on in
+              ⊎_elim (λ none. absurd (never offer l found none.why open_now.0 open_now.1)) (λ some. some.all open_now.0 t) a.finds.heard;
+        },
+        record {
+          frames = λ on. let open_now = not_ended offer l found on in
+              ⊎_elim (λ none. absurd (never offer l found none.why open_now.0 open_now.1)) (λ some. some.reads) a.finds.heard;
+          read = ⊎_elim (λ none. inr (none.nothing, none.frames, none.reader)) (λ some. inl some.reads) a.finds.heard;
+        },
+      )
 
   pub heard_in : (x y : Parts P C) (m : Member) (s : State) (was is : Option (List ℕ)) (found : Found) → plants.tells → ActsAfter plants x y m s was is (Ok found) → HearsIn m.id (v x) (v y) was is s found
   heard_in x y m (Away (Exchange l offer)) was is found t a = heard_by x y m l offer was is found t a.1

@@ -6,11 +6,9 @@ use Rattle.mas_types.specs.declared.queues.Queue.{Queue}
 use Rattle.spool_plant.specs.View.{View}
 use Rattle.spool_plant.specs.declared.plant.Plant.{Ghosts as PlantGhosts}
 use Rattle.ckpt_copy.specs.declared.copying.Copying.{Ghosts as CopyGhosts}
-use Rattle.mas_complex.specs.Paper.{counts_of}
 use Rattle.ckpt_form.specs.declared.steady.Steady.{Ghosts as SteadyGhosts}
 use Rattle.mas_complex.specs.declared.complex.Complex.{Complex}
 use Rattle.mas_complex.specs.Parts.{Parts, parts_of}
-use Rattle.mas_complex.specs.Texts.{spools_at}
 use Rattle.member_node.specs.declared.member.Member.{Member}
 use Rattle.member_node.specs.declared.member.NodeNo.{NodeNo}
 use Rattle.step_turns.specs.Courses.{sittings_most}
@@ -31,7 +29,7 @@ use Rattle.member_sittings.specs.Asides.{WaitsRightly}
 use Rattle.member_sittings.specs.Sat.{IsSatOn, Sat, Start, begins as rests, resumes}
 use Rattle.member_sittings.specs.Shapes.{Says}
 use Rattle.member_sittings.specs.Whole.{IsLeftIn, queue_of}
-use Rattle.member_frames.specs.Ready.{HasFewer, IsReady, MayResume}
+use Rattle.member_frames.specs.Ready.{HasFewer, IsReady, IsToResume}
 use Rattle.member_units.specs.Works.{LeavesIn, follow}
 use Rattle.member_frames.specs.Waits.{MayResumeLine, WaitsOnLine}
 use Rattle.member_hand.specs.Sits.{ComesTo, GoesOn, IsDeckTask, IsFoundRight, IsLineTask, IsServing, IsWork, LeavesStep, WaitsWell, begins}
@@ -226,7 +224,7 @@ module _ {P C : Type 0} (plants : PlantGhosts P) (copies : CopyGhosts C) (x : Pa
   v x = plants.view x.plant
 
   pub resume_right : (a : Aside) (found : Found) → ((job : JobNo) (text : List (List ℕ)) → a ≡ SpoolDeck job text → ⊥) → aside_on_line a ≡ false → IsFoundRight plants copies x by (Away a) found
-      → MayResume plants.tells (queue_of x) by (spools_at (v x) (v x).now) (counts_of x.printed) a found
+      → IsToResume plants x by a found
   resume_right (SpoolDeck job text) found not off right = absurd (not job text refl)
   resume_right (ReadText runs job fields p) found not off right = right
   resume_right (SpoolOutputs job specs p) found not off right = right
@@ -236,7 +234,7 @@ module _ {P C : Type 0} (plants : PlantGhosts P) (copies : CopyGhosts C) (x : Pa
   resume_right (Acknowledge number service) found not off right = absurd (cc)
 
   -- so they are acts for which work waits
-  pub resume_works : (a : Aside) (found : Found) → MayResume plants.tells (queue_of x) by (spools_at (v x) (v x).now) (counts_of x.printed) a found → IsWork (Away a)
+  pub resume_works : (a : Aside) (found : Found) → IsToResume plants x by a found → IsWork (Away a)
   resume_works (SpoolDeck job text) found may = absurd may
   resume_works (ReadText runs job fields p) found may = tt
   resume_works (SpoolOutputs job specs p) found may = tt

@@ -1,5 +1,6 @@
 -- What becomes of the copies in a step, one act after another.
-use Rattle.std.proofs.Common.{◌≡◌, inl, refl, ◌∙◌, ◌||◌, Bool, true, false}
+use Rattle.std.proofs.Common.{inl, ◌∙◌, Bool}
+pub use Rattle.std.proofs.lemmas.Bool.{or_parts as or_none}
 use Rattle.mas_types.specs.declared.ids.Dev.TheVariants.{Ckpt1, Ckpt2}
 use Rattle.spool_plant.specs.View.{View}
 use Rattle.ckpt_copy.specs.Moments.{goes_on}
@@ -7,8 +8,9 @@ use Rattle.member_node.specs.Calls.{Course}
 use Rattle.member_node.proofs.CourseLemmas.{either_alive, grow_grow, lost_later, lost_more, no}
 use Rattle.member_work.specs.Printing.{IsBeside}
 use Rattle.member_hand.specs.Plays.{Passage}
+use Rattle.mas_complex.specs.CallCounts.{pair_at}
 
-pub passage_of : (a a' b b' : Bool) (v w : View) → Course a a' b b' v w → Passage a a' b b' v w
+pub passage_of : (a a' b b' : Bool) (v w : View) → Course (pair_at a b v) (pair_at a' b' w) → Passage a a' b b' v w
 passage_of a a' b b' v w c = record {
   goes = c.goes;
   failed1 = c.failed1;
@@ -48,8 +50,3 @@ passage_beside told is1 is2 v w acts = record {
   alive2 = λ is. is;
   grow = λ d. inl (acts.loses d);
 }
-
--- neither of two tests
-pub or_none : (a b : Bool) → (a || b) ≡ false → (a ≡ false) × (b ≡ false)
-or_none true b e = absurd (cc)
-or_none false b e = (refl, e)

@@ -15,8 +15,7 @@ use Rattle.ckpt_copy.specs.declared.copying.Copying.{Ghosts as CopyGhosts}
 use Rattle.mas_complex.specs.Journals.{kept_all as kept_entries}
 use Rattle.mas_complex.specs.Paper.{SamePapers, counts_of}
 use Rattle.mas_complex.specs.Parts.{Parts}
-use Rattle.mas_complex.proofs.Batches.{kept_all_append}
-use Rattle.mas_complex.proofs.Replied.{run_append}
+use Rattle.mas_complex.proofs.Batches.{kept_all_append, run_append}
 use Rattle.member_node.specs.declared.member.Member.{Member}
 use Rattle.member_node.specs.declared.member.NodeNo.{NodeNo}
 use Rattle.member_node.specs.declared.member.NodeNo.TheVariants.{BothLost, Halted, ConsoleFault, NoMemory}

@@ -76,7 +76,7 @@ pub papers_are : (v w : View) → v.now ≤ w.now → SamePapers v w → (m : �
 papers_are v w later same m = same w.now later (omega arith) m
 
 -- causes of an answer, of whatever type
-causes_in : (T : Type 0) (e : NodeNo) (by : ℕ) (a a' b b' : Bool) (v w : View) → StepCauses {T = T} (Err e) by a a' b b' v w → StepCauses {T = Unit {0}} (Err e) by a a' b b' v w
+causes_in : (T : Type 0) (e : NodeNo) (by : ℕ) (a a' b b' : Bool) (v w : View) → StepCauses {T = T} (Err e) by (pair_at a b v) (pair_at a' b' w) → StepCauses {T = Unit {0}} (Err e) by (pair_at a b v) (pair_at a' b' w)
 causes_in T NoMemory by a a' b b' v w cause = cause
 causes_in T BothLost by a a' b b' v w cause = cause
 causes_in T Halted by a a' b b' v w cause = cause

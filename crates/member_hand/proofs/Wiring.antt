@@ -14,8 +14,7 @@ use Rattle.step_turns.specs.declared.states.State.{State}
 use Rattle.step_turns.specs.declared.states.Aside.TheVariants.{Acknowledge, Exchange, PrintLines, ReadText, SpoolArrival, SpoolDeck, SpoolOutputs}
 use Rattle.step_turns.specs.declared.states.State.TheVariants.{Away, Fresh, Rested, Told}
 use Rattle.run_turns.specs.Pieces.{poured_of}
-use Rattle.member_wires.specs.Acts.{ReadsOn}
-use Rattle.member_hand.specs.Hears.{GivesOnly, Hears, HearsIn, IsElsewhere, TakesNothing}
+use Rattle.member_hand.specs.Hears.{GivesOnly, HasTaken, Hears, HearsIn, IsElsewhere, TakesNothing}
 
 -- WHERE NOTHING MOVES
 
@@ -100,22 +99,26 @@ uncut l false None none = (refl, refl)
 pub not_ended : (offer : Option Offer) (l : ℕ) (found : Found) → exchange_end offer l found ≡ None → (found.wire ≡ false) × (unread offer found.read ≡ None)
 not_ended offer l found none = uncut l found.wire (unread offer found.read) none
 
-module _ (by : MemberId) (was mid is : Option (List ℕ)) where
-  -- in a longer stretch, of which nothing moved before or after
-  hears_wider : (l : ℕ) (offer : Option Offer) (found : Found) (v0 v1 v2 v3 : View) → TakesNothing v0 v1 → Hears by l offer found was mid v1 v2 → TakesNothing v2 v3 → is ≡ mid → Hears by l offer found was is v0 v3
-  hears_wider l offer found v0 v1 v2 v3 before h after same = record {
+-- in a longer stretch, of which nothing moved before or after
+pub taken_wider : (by : MemberId) (l : ℕ) (offer : Option Offer) (found : Found) (v0 v1 v2 v3 : View) → TakesNothing v0 v1 → (h : HasTaken by l offer found v1 v2) → TakesNothing v2 v3
+    → (t : HasTaken by l offer found v0 v3) × (t.bytes ≡ h.bytes)
+taken_wider by l offer found v0 v1 v2 v3 before h after = (
+  record {
     bytes = h.bytes;
     few = h.few;
     taken = after.taken l by.0 ∙ h.taken ∙ ap (λ (bytes : List ℕ). bytes ++ h.bytes) (before.taken l by.0);
     waited = sym (before.waiting l) ∙ h.waited ∙ ap (λ (bytes : List ℕ). h.bytes ++ bytes) (sym (after.waiting l));
     others = λ w other. after.waiting w ∙ h.others w other ∙ before.waiting w;
     all = λ on. ⊎_elim (λ full. inl full) (λ none. inr (after.waiting l ∙ none)) (h.all on);
-    frames = λ on. subst (λ (o : Option (List ℕ)). ReadsOn was o h.bytes found.frames) (sym same) (h.frames on);
-    read = ⊎_elim (λ on. inl (subst (λ (o : Option (List ℕ)). ReadsOn was o h.bytes found.frames) (sym same) on)) (λ none. inr (none.0, none.1, same ∙ none.2)) h.read;
-  }
+  },
+  refl,
+)
 
+module _ (by : MemberId) (was mid is : Option (List ℕ)) where
   pub hears_in : (n : State) (found : Found) (v0 v1 v2 v3 : View) → TakesNothing v0 v1 → HearsIn by v1 v2 was mid n found → TakesNothing v2 v3 → is ≡ mid → HearsIn by v0 v3 was is n found
-  hears_in (Away (Exchange l offer)) found v0 v1 v2 v3 before h after same = hears_wider l offer found v0 v1 v2 v3 before h after same
+  hears_in (Away (Exchange l offer)) found v0 v1 v2 v3 before h after same =
+      let t = taken_wider by l offer found v0 v1 v2 v3 before h.0 after in
+      (t.0, subst (λ (bytes : List ℕ). Hears l offer found was is bytes) (sym t.1) (subst (λ (o : Option (List ℕ)). Hears l offer found was o h.0.bytes) (sym same) h.1))
   hears_in (Away (SpoolDeck n text)) found v0 v1 v2 v3 before h after same = takes_then v0 v1 v3 before (takes_then v1 v2 v3 h after)
   hears_in (Away (ReadText runs n fields p)) found v0 v1 v2 v3 before h after same = takes_then v0 v1 v3 before (takes_then v1 v2 v3 h after)
   hears_in (Away (SpoolOutputs n specs p)) found v0 v1 v2 v3 before h after same = takes_then v0 v1 v3 before (takes_then v1 v2 v3 h after)

@@ -43,7 +43,7 @@ pub record FindsJob (per : ℕ) (Q : Queue) (n : JobNo) (found : Found) (old new
   pub only : found ≡ read_found found.read
   pub job : Job
   pub there : job_at Q n ≡ Some job
-  pub as_had : IsReadAs (Unit {0}) per job.text (groups_of (Deck n) Q.owners) (Some found.read) old new
+  pub as_had : IsReadAs (Unit {0}) per (job.text, groups_of (Deck n) Q.owners) (Some found.read) old new
 
 -- So was the text of an output that is there. The member's printer was found lost only if it failed.
 pub record FindsOutput (per : ℕ) (by : MemberId) (Q : Queue) (n : JobNo) (i : OutNo) (found : Found) (old new : View)
@@ -52,13 +52,13 @@ pub record FindsOutput (per : ℕ) (by : MemberId) (Q : Queue) (n : JobNo) (i : 
   pub lost : found.printer ≡ true → HasPrinterFailed by old new
   pub output : Output
   pub there : output_at Q n i ≡ Some output
-  pub as_had : IsReadAs (Unit {0}) per output.text (groups_of (OutputThing n i) Q.owners) (Some found.read) old new
+  pub as_had : IsReadAs (Unit {0}) per (output.text, groups_of (OutputThing n i) Q.owners) (Some found.read) old new
 
 -- The job that is offered on a line is there, and its text was read so too; none was looked at where none is offered.
 abbrev pub FindsOffered : ℕ → Queue → Option Offer → Read → View → View → Type 0
 FindsOffered per Q None text old new = text ≡ read.Lines []
 FindsOffered per Q (Some o) text old new = (job : Job) × (job_at Q o.job ≡ Some job)
-    × IsReadAs (Unit {0}) per job.text (groups_of (Deck o.job) Q.owners) (Some text) old new
+    × IsReadAs (Unit {0}) per (job.text, groups_of (Deck o.job) Q.owners) (Some text) old new
 
 -- And frames came over the line. It was found lost only if it failed.
 pub record FindsFrames (per : ℕ) (Q : Queue) (l : ℕ) (offer : Option Offer) (found : Found) (old new : View) : Type 0

@@ -41,19 +41,22 @@ pub record TakesNothing (old new : View) : Type 0 where
   pub waiting : (w : ℕ) → new.waiting w ≡ old.waiting w
 
 -- The member took these bytes from the line: no more than a step may, and those that waited before all others. Unless
--- that closes the step, nothing was left waiting, or no more might be taken; and the frames are those that the bytes
--- complete in the stream which the reader had of the line. It goes on with what may be the front of another one. Where
--- nothing was taken no frame came, and the reader is as it was.
-pub record Hears (by : MemberId) (l : ℕ) (offer : Option Offer) (found : Found) (was is : Option (List ℕ))
-    (old new : View) : Type 0 where
+-- that closes the step, nothing was left waiting, or no more might be taken.
+pub record HasTaken (by : MemberId) (l : ℕ) (offer : Option Offer) (found : Found) (old new : View) : Type 0 where
   pub bytes : List ℕ
   pub few : length bytes ≤ taken_most
   pub taken : taken_now new l by.0 ≡ taken_now old l by.0 ++ bytes
   pub waited : old.waiting l ≡ bytes ++ new.waiting l
   pub others : (w : ℕ) → w ≢ l → new.waiting w ≡ old.waiting w
   pub all : exchange_end offer l found ≡ None → (length bytes ≡ taken_most) ⊎ (new.waiting l ≡ [])
-  pub frames : exchange_end offer l found ≡ None → ReadsOn was is bytes found.frames
-  pub read : ReadsOn was is bytes found.frames ⊎ ((bytes ≡ []) × (found.frames ≡ []) × (is ≡ was))
+
+-- The frames are those that the bytes complete in the stream which the reader had of the line, unless that closes the
+-- step. It goes on with what may be the front of another one. Where nothing was taken no frame came, and the reader is
+-- as it was.
+pub record Hears (l : ℕ) (offer : Option Offer) (found : Found) (was is : Option (List ℕ)) (bytes : List ℕ) : Type 0
+  where
+    pub frames : exchange_end offer l found ≡ None → ReadsOn was is bytes found.frames
+    pub read : ReadsOn was is bytes found.frames ⊎ ((bytes ≡ []) × (found.frames ≡ []) × (is ≡ was))
 
 abbrev pub IsEndedEarly : Result (Unit {0}) NodeNo → Type 0
 IsEndedEarly (Ok done) = ⊥
@@ -62,7 +65,7 @@ IsEndedEarly (Err why) = Unit {0}
 module _ (by : MemberId) (old new : View) (was is : Option (List ℕ)) where
   -- in the acts that a step waits for: only the exchange takes anything
   abbrev pub HearsIn : State → Found → Type 0
-  HearsIn (Away (Exchange l offer)) found = Hears by l offer found was is old new
+  HearsIn (Away (Exchange l offer)) found = (h : HasTaken by l offer found old new) × Hears l offer found was is h.bytes
   HearsIn s found = TakesNothing old new
 
   -- A step that serves a line waits for its exchange first, and for no other one. A step that ended with an error

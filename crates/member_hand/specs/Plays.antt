@@ -17,6 +17,7 @@ use Rattle.mas_complex.specs.declared.complex.Complex.{Complex}
 use Rattle.mas_complex.specs.Locking.{IsOperatorAway}
 use Rattle.mas_complex.specs.Paper.{SamePapers, counts_of}
 use Rattle.mas_complex.specs.Parts.{Parts, parts_of}
+use Rattle.mas_complex.specs.CallCounts.{pair_state}
 use Rattle.member_node.specs.declared.member.Member.{Member}
 use Rattle.member_node.specs.declared.member.NodeNo.{NodeNo}
 use Rattle.member_node.specs.Calls.{Grows, IsOnlyOn, VolumesStay, WasLost, console_now}
@@ -108,7 +109,7 @@ module _ {P C : Type 0} (plants : PlantGhosts P) (copies : CopyGhosts C) where
     pub course : Passage x.first_alive y.first_alive x.second_alive y.second_alive (v x) (v y)
     pub loses : plants.tells → (d : Dev) → (v y).loses d ≡ (v x).loses d
     pub spares : Spares by.0 (stopped_in result) (v x) (v y)
-    pub cause : StepCauses result by.0 x.first_alive y.first_alive x.second_alive y.second_alive (v x) (v y)
+    pub cause : StepCauses result by.0 (pair_state plants.view x) (pair_state plants.view y)
     pub notes : OtherNotesStay by x.had y.had
 
   -- WHAT A STEP LEAVES of its pieces, by where it was cut

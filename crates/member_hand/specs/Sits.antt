@@ -9,9 +9,7 @@ use Rattle.spool_plant.specs.declared.plant.Plant.{Ghosts as PlantGhosts}
 use Rattle.ckpt_copy.specs.declared.copying.Copying.{Ghosts as CopyGhosts}
 use Rattle.ckpt_form.specs.declared.steady.Steady.{Ghosts as SteadyGhosts}
 use Rattle.mas_complex.specs.declared.complex.Complex.{Complex}
-use Rattle.mas_complex.specs.Paper.{counts_of}
 use Rattle.mas_complex.specs.Parts.{Parts, parts_of}
-use Rattle.mas_complex.specs.Texts.{spools_at}
 use Rattle.member_node.specs.declared.member.Member.{Member}
 use Rattle.member_node.specs.Reads.{too_high}
 use Rattle.nje_frames.specs.Grammar.{IsFrame}
@@ -30,7 +28,7 @@ use Rattle.member_sittings.specs.declared.ends.SittingEnd.{SittingEnd}
 use Rattle.member_sittings.specs.Asides.{HasGroups, IsSpooled, deck_found}
 use Rattle.member_sittings.specs.Sat.{Start}
 use Rattle.member_sittings.specs.Whole.{IsGivable, IsLeftIn, IsToSit, queue_of}
-use Rattle.member_frames.specs.Ready.{IsReady, MayResume}
+use Rattle.member_frames.specs.Ready.{IsReady, IsToResume}
 use Rattle.member_frames.specs.Waits.{HasFrameMore, IsServable, WaitsOnLine}
 use Rattle.member_hand.specs.declared.sits.Stand.{Stand}
 use Rattle.member_frames.specs.Asides.{wire_found}
@@ -77,8 +75,7 @@ module _ {P C : Type 0} (plants : PlantGhosts P) (copies : CopyGhosts C) where
       × AreLines cards × (found ≡ deck_found found.lost) × IsSpooled plants x by cards found.lost
   IsFoundRight x by (Away (Acknowledge number service)) found = IsServable service
       × (found ≡ record nothing_found { wire = found.wire })
-  IsFoundRight x by (Away aside) found = MayResume plants.tells (queue_of x) by (spools_at (v x) (v x).now)
-      (counts_of x.printed) aside found
+  IsFoundRight x by (Away aside) found = IsToResume plants x by aside found
   IsFoundRight x by (Rested p) found = found ≡ nothing_found
   IsFoundRight x by Told found = ⊥
 

@@ -182,7 +182,7 @@ module _ {P C : Type 0} (plants : PlantGhosts P) (copies : CopyGhosts C) (by : �
       roomy = λ t. subst (AreRoomy W) (sym config) (roomy x.base.config (s.still.roomy t));
       noted = subst (λ (h : List (List Page)). HasHad plants.tells m.fresh h m.id.0 m.checkpoint.pages) (sym (ap (λ (z : Parts P C). z.had) rest)) s.still.noted;
     };
-    between = between_by plants.tells x.base y.base x.batches y.batches x.current y.current x.placed y.placed x.level y.level m.batch m.checkpoint base batches current placed (ap (λ (z : Parts P C). z.level) rest) s.between;
+    between = between_by plants.tells x y m.batch m.checkpoint base batches current placed (ap (λ (z : Parts P C). z.level) rest) s.between;
     low = λ t. subst (λ (c : Config). AreLow c (length y.batches) m.checkpoint.tables) (sym config) (subst (λ (bs : List Batch). AreLow x.base.config (length bs) m.checkpoint.tables) (sym batches) (s.low t));
   }
 

@@ -1,12 +1,12 @@
 //! Lines that only close: they say why nothing else is done.
-ghost use Rattle.std.specs.Prelude.{◌≡◌, ◌+◌, ◌≤◌, false};
+ghost use Rattle.std.specs.Prelude.{◌≡◌, ◌+◌, ◌≤◌};
 ghost use Rattle.mas_types.specs.Closings.{AreMembersNamed};
 ghost use Rattle.mas_types.specs.Limits.{members_most};
-ghost use Rattle.lock_cycle.specs.Books.{IsMember, is_stopped};
+ghost use Rattle.lock_cycle.specs.Books.{IsMember};
 ghost use Rattle.mas_complex.specs.Parts.{parts_of};
 ghost use Rattle.run_turns.specs.Admissions.{Denied, Refused, denied_closing};
 ghost use Rattle.member_lines.specs.Closes.{Closes, IsSayer, SaysStopped, failed, stopped_so};
-ghost use Rattle.member_lines.specs.Earlier.{IsStepKept};
+ghost use Rattle.member_lines.specs.Earlier.{IsStepKept, MaySayItsLine};
 
 use crate::admissions::NOBODY;
 use lock_cycle::LockNo;
@@ -92,11 +92,8 @@ pub fn say_denied<P: Plant + Drop, C: Steady + Drop>(
     step: u32,
     why: LockNo,
 ) -> Result<(), NodeNo>
-    requires member { IsMember complex.old.book by }
-    requires up { is_stopped complex.old.book by ≡ false }
-    requires by { by.0 ≤ members_most }
+    requires may { MaySayItsLine complex.old by step }
     requires named { AreMembersNamed (denied_closing why) }
-    requires kept { P.tells → IsStepKept complex.old by step }
     ensures frame { parts_of complex.new
         ≡ stopped_so result by (record (parts_of complex.old) { plant = complex.new.plant }) }
     ensures closed { Closes by step (Denied why) by complex.old complex.new result }

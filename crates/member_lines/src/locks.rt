@@ -1,13 +1,12 @@
 //! The lock from one line to another.
-ghost use Rattle.std.specs.Prelude.{◌≡◌, ◌≤◌, None, false, true};
-ghost use Rattle.mas_types.specs.Limits.{members_most};
-ghost use Rattle.lock_cycle.specs.Books.{IsMember, is_holder, is_stopped};
+ghost use Rattle.std.specs.Prelude.{◌≡◌, None, true};
+ghost use Rattle.lock_cycle.specs.Books.{is_holder};
 ghost use Rattle.mas_complex.specs.Parts.{parts_of};
 ghost use Rattle.member_sittings.specs.Gates.{MayTakeSeat};
 ghost use Rattle.member_sittings.specs.Sat.{seated_in};
 ghost use Rattle.run_turns.specs.Admissions.{Frees, Locks};
 ghost use Rattle.member_lines.specs.Closes.{Closes, freed_by, stopped_so};
-ghost use Rattle.member_lines.specs.Earlier.{IsStepKept};
+ghost use Rattle.member_lines.specs.Earlier.{IsStepKept, MaySayItsLine};
 ghost use Rattle.member_lines.specs.Locks.{SeatsAndCloses};
 
 use crate::closings::{Closed, say_refused, stop_halted};
@@ -27,12 +26,9 @@ pub fn free_line<P: Plant + Drop, C: Steady + Drop>(
     by: MemberId,
     step: u32,
 ) -> Result<(), NodeNo>
-    requires member { IsMember complex.old.book by }
-    requires up { is_stopped complex.old.book by ≡ false }
-    requires by { by.0 ≤ members_most }
+    requires may { MaySayItsLine complex.old by step }
     requires holds { is_holder complex.old.book by ≡ true }
     requires none { complex.old.current ≡ None }
-    requires kept { P.tells → IsStepKept complex.old by step }
     ensures frame { parts_of complex.new
         ≡ freed_by result by (record (parts_of complex.old) { plant = complex.new.plant }) }
     ensures closed { Closes by step Frees by complex.old complex.new result }

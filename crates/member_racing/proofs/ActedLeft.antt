@@ -42,13 +42,13 @@ spool_lost : (per : ℕ) (groups : List GroupNo) (lost : Option ℕ) (old new : 
 spool_lost per groups None old new lies found = tt
 spool_lost per groups (Some volume) old new lies found = record { there = lies; lost = found.0; rose = found.1 }
 
-read_told : (told : Type 0) (per : ℕ) (text : Text) (groups : List GroupNo) (r : Read) (old new : View) → told → IsReadAs told per text groups (Some r) old new → IsReadAs (Unit {0}) per text groups (Some r) old new
+read_told : (told : Type 0) (per : ℕ) (text : Text) (groups : List GroupNo) (r : Read) (old new : View) → told → IsReadAs told per (text, groups) (Some r) old new → IsReadAs (Unit {0}) per (text, groups) (Some r) old new
 read_told told per text groups (read.Lines lines) old new t f = λ u. f t
 read_told told per text groups (read.Gone group) old new t f = λ u. f t
 read_told told per text groups (read.Lost volume) old new t f = (λ u. f.0 t, f.1)
 
 -- a text as it is
-read_calm : (per : ℕ) (text : Text) (groups : List GroupNo) (old new : View) → IsReadAs (Unit {0}) per text groups (Some (as_it_is text)) old new
+read_calm : (per : ℕ) (text : Text) (groups : List GroupNo) (old new : View) → IsReadAs (Unit {0}) per (text, groups) (Some (as_it_is text)) old new
 read_calm per (Whole lines) groups old new = λ u. refl
 read_calm per (Gone group count) groups old new = λ u. refl
 
@@ -88,8 +88,8 @@ module _ {P C : Type 0} (plants : PlantGhosts P) (copies : CopyGhosts C) (x y : 
   acted_count (Away (PrintLines n i last p)) was is found off its a =
       let s : State = Away (PrintLines n i last p) in
       let lines : List (List ℕ) = chunk (queue_of x) count s found.read in
-      let i : HasInked plants (λ (f : Found). f.printer) m.id lines x y (Ok found) =
-      subst (λ (ls : List (List ℕ)). HasInked plants (λ (f : Found). f.printer) m.id ls x y (Ok found)) (chunk_is (queue_of x) count n i last p its.output found.read its.there) (a.1.inks t its.output its.there) in
+      let i : HasInked plants m.id lines x y (Ok found.printer) =
+      subst (λ (ls : List (List ℕ)). HasInked plants m.id ls x y (Ok found.printer)) (chunk_is (queue_of x) count n i last p its.output found.read its.there) (a.1.inks t its.output its.there) in
       inked_by lines count (counts_of y.printed m.id) found.printer i.inked.lines i.counted
       (λ is. ap (λ k. k.lines) (subst (λ (b : Bool). IsInkedTo b (length lines) i.inked) is i.by_answer))
       (λ is. (subst (λ (b : Bool). IsInkedTo b (length lines) i.inked) is i.by_answer).0)
@@ -117,8 +117,10 @@ module _ {P C : Type 0} (plants : PlantGhosts P) (copies : CopyGhosts C) (x y : 
       only = a.1.finds.only;
       lost = spool_lost per (lowest_groups m.id (queue_of x).owners text) found.lost (v x) (v y) (subst (λ (gs : List GroupNo). LiesOnOne per gs found.lost) (deck_groups text) a.1.finds.lies) a.1.finds.lost;
     }
-    found_here (Away (SpoolOutputs n specs p)) was is found off its a =
-        record { only = a.1.finds.only; lost = subst (λ (gs : List GroupNo). IsSpoolLost per gs found.lost (v x) (v y)) (out_groups specs) a.1.finds.lost }
+    found_here (Away (SpoolOutputs n specs p)) was is found off its a = record {
+      only = a.1.finds.only;
+      lost = spool_lost per (lowest_for m.id (queue_of x).owners specs) found.lost (v x) (v y) (subst (λ (gs : List GroupNo). LiesOnOne per gs found.lost) (out_groups specs) a.1.finds.lies) a.1.finds.lost;
+    }
     found_here (Away (ReadText runs n fields p)) was is found off its a = record {
       only = a.1.finds.only;
       job = its.job;

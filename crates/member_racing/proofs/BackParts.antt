@@ -1,6 +1,6 @@
 -- What a turn leaves to others: the lock of a book, the groups of a queue, and the lines of a console.
 use Rattle.std.proofs.Common.{◌≡◌, ◌≢◌, ◌∙◌, ⊎_elim, ℕ, ◌≤◌, ◌==◌, Bool, true, false, not, ◌&&◌, if◌then◌else◌, List, [], ◌∷◌, ◌++◌, append-nil, drop, filter, length, map, take, All, Option, Some, None, ap, refl, subst, sym}
-use Rattle.std.proofs.lemmas.Bool.{eqb-true}
+use Rattle.std.proofs.lemmas.Bool.{and_parts as both_of, eqb-true}
 use Rattle.std.proofs.lemmas.List.{drop-append-le, map-append}
 use Rattle.std.proofs.lemmas.List.Elements.{All-head, All-tail, filter-append}
 use Rattle.mas_types.specs.declared.ids.Dev.TheVariants.{Spool}
@@ -36,10 +36,6 @@ use Rattle.member_racing.proofs.GroupsStill.{avoids_synced, synced_avoids}
 pub by_test : {A : Type 0} (b : Bool) → (b ≡ true → A) → (b ≡ false → A) → A
 by_test true f g = f refl
 by_test false f g = g refl
-
-both_of : (a b : Bool) → (a && b) ≡ true → (a ≡ true) × (b ≡ true)
-both_of true b is = (refl, is)
-both_of false b is = absurd (cc)
 
 pub not_both : (b : Bool) → b ≡ true → b ≡ false → ⊥
 not_both b is off = true_false b is off

@@ -1,8 +1,8 @@
 -- Calls of the book by one member: nobody else is stopped or up by them, and who holds then held before, or is the
 -- member.
 use Rattle.std.proofs.Common.{◌≡◌, ◌≢◌, ◌∙◌, ◌⊎◌, inl, inr, ⊎_elim, ◌-◌, ◌<◌, ◌==◌, ◌||◌, if◌then◌else◌, is_some, ℕ, zero, suc, Bool, true, false, length, Some, ap, refl, subst, arith}
+use Rattle.std.proofs.lemmas.Bool.{eqb-false as apart_is, eqb-true as number_is}
 use Rattle.std.specs.Prelude.{slice_index_or}
-use Rattle.std.proofs.lemmas.Bool.Decides.{nat_tests}
 use Rattle.std.proofs.lemmas.List.{get_or-set_other, get_or-set_same, length-set}
 use Rattle.mas_types.specs.declared.ids.MemberId.{MemberId}
 use Rattle.mas_types.specs.Ids.{is_somebody, nobody}
@@ -59,12 +59,7 @@ module _ (by : MemberId) (b : Book) (inside : IsMember b by) where
           (λ e. ap (λ (t : Standing). t.stopped) (at_other k (λ same. apart_is (k.0 - 1) (by.0 - 1) e same)) ∙ down);
       others = λ k some apart. ap (λ (t : Standing). t.stopped) (at_other k (λ same. apart (let one = inside.0 in let two = some_number k.0 some in omega (arith, one, two, same))));
       holder = who;
-    } where
-      number_is : (m n : ℕ) → (m == n) ≡ true → m ≡ n
-      number_is m n h = grind (arith, nat_tests)
-
-      apart_is : (m n : ℕ) → (m == n) ≡ false → m ≡ n → ⊥
-      apart_is m n h e = grind (arith, nat_tests)
+    }
 
   -- only who holds
   held_only : (holder : MemberId) → (holder ≡ b.holder) ⊎ (holder ≡ by) ⊎ (holder ≡ nobody) → OnlyBy by b (record b { holder = holder })

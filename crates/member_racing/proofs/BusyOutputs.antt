@@ -2,7 +2,7 @@
 use Rattle.std.proofs.Common.{◌≡◌, ◌≢◌, ◌∙◌, ◌-◌, ◌==◌, ◌&&◌, not, if◌then◌else◌, ℕ, zero, suc, Bool, true, false, List, [], ◌∷◌, filter, Option, Some, None, slice_get, ap, refl, subst, sym, arith}
 use Rattle.std.specs.Option.{option_map_or}
 use Rattle.std.specs.List.{find, list_any}
-use Rattle.std.proofs.lemmas.Bool.{eq-eqb}
+use Rattle.std.proofs.lemmas.Bool.{and_parts as both_are, eq-eqb}
 use Rattle.std.proofs.lemmas.Bool.Decides.{nat_tests}
 use Rattle.mas_types.specs.declared.commands.Command.{Command}
 use Rattle.mas_types.specs.declared.commands.Command.TheVariants as command
@@ -42,10 +42,6 @@ same_no a b is = let e : a.0 ≡ b.0 = grind (arith, nat_tests) in ap (λ (k : �
 
 same_in : (a b : OutNo) → same_index a b ≡ true → a ≡ b
 same_in a b is = let e : a.0 ≡ b.0 = grind (arith, nat_tests) in ap (λ (k : ℕ). let n : OutNo = record { 0 = k } in n) e
-
-both_are : (a b : Bool) → (a && b) ≡ true → (a ≡ true) × (b ≡ true)
-both_are true b is = (refl, is)
-both_are false b is = absurd (cc)
 
 both_false : (a b : Bool) → ((a ≡ true) → (b ≡ true) → ⊥) → (a && b) ≡ false
 both_false true true f = absurd (f refl refl)

@@ -12,7 +12,7 @@ use Rattle.spool_plant.specs.Acts.{Rose}
 use Rattle.ckpt_copy.specs.declared.copying.Copying.{Ghosts as CopyGhosts}
 use Rattle.ckpt_form.specs.declared.steady.Steady.{Ghosts as SteadyGhosts}
 use Rattle.duplex_pair.specs.Halves.{IsBothLost}
-use Rattle.mas_complex.specs.CallCounts.{IsLostOnce}
+use Rattle.mas_complex.specs.CallCounts.{IsLostOnce, pair_at}
 use Rattle.mas_complex.specs.declared.complex.Complex.{Complex}
 use Rattle.mas_complex.specs.Paper.{counts_of}
 use Rattle.mas_complex.specs.Parts.{Parts, parts_of, unreserved_in}
@@ -39,21 +39,21 @@ use Rattle.member_racing.proofs.Costing.{TurnActs, said_passage}
 -- THE CAUSE of an answer that ends a turn
 
 module _ (by : ℕ) (a a' b b' : Bool) (old new : View) where
-  both_of : (r : Result Stands NodeNo) → StepCauses (done_of r) by a a' b b' old new → r ≡ Err no_node.BothLost → IsBothLost a' b'
+  both_of : (r : Result Stands NodeNo) → StepCauses (done_of r) by (pair_at a b old) (pair_at a' b' new) → r ≡ Err no_node.BothLost → IsBothLost a' b'
   both_of (Ok s) cause e = absurd (cc)
   both_of (Err no_node.NoMemory) cause e = absurd (cc)
   both_of (Err no_node.BothLost) cause e = cause
   both_of (Err no_node.Halted) cause e = absurd (cc)
   both_of (Err no_node.ConsoleFault) cause e = absurd (cc)
 
-  some_of : (r : Result Stands NodeNo) → StepCauses (done_of r) by a a' b b' old new → IfRuns r (IsLeft a a' b b')
+  some_of : (r : Result Stands NodeNo) → StepCauses (done_of r) by (pair_at a b old) (pair_at a' b' new) → IfRuns r (IsLeft a a' b b')
   some_of (Ok s) cause = cause
   some_of (Err no_node.NoMemory) cause = tt
   some_of (Err no_node.BothLost) cause = tt
   some_of (Err no_node.Halted) cause = cause.0
   some_of (Err no_node.ConsoleFault) cause = tt
 
-  failed_of : (r : Result Stands NodeNo) → StepCauses (done_of r) by a a' b b' old new → r ≡ Err no_node.ConsoleFault → Rose (old.faults Console) (new.faults Console)
+  failed_of : (r : Result Stands NodeNo) → StepCauses (done_of r) by (pair_at a b old) (pair_at a' b' new) → r ≡ Err no_node.ConsoleFault → Rose (old.faults Console) (new.faults Console)
   failed_of (Ok s) cause e = absurd (cc)
   failed_of (Err no_node.NoMemory) cause e = absurd (cc)
   failed_of (Err no_node.BothLost) cause e = absurd (cc)

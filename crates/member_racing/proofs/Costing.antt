@@ -13,7 +13,7 @@ use Rattle.spool_plant.specs.declared.plant.Plant.{Ghosts as PlantGhosts}
 use Rattle.spool_plant.specs.View.{View}
 use Rattle.spool_plant.specs.Acts.{Rose}
 use Rattle.ckpt_copy.specs.declared.copying.Copying.{Ghosts as CopyGhosts}
-use Rattle.mas_complex.specs.CallCounts.{IsLostOnce, KeepsCounts, PairState, pair_state}
+use Rattle.mas_complex.specs.CallCounts.{IsLostOnce, KeepsCounts, PairState, pair_state, pair_at}
 use Rattle.mas_complex.specs.Locking.{reserved_after_stop}
 use Rattle.mas_complex.specs.Paper.{counts_of}
 use Rattle.mas_complex.specs.Parts.{Parts}
@@ -74,7 +74,7 @@ module _ {P C : Type 0} (plants : PlantGhosts P) where
     pub passage : Passage x.first_alive y.first_alive x.second_alive y.second_alive (v x) (v y)
     pub once : AreLostOnce plants x y
     pub spares : Spares by.0 (stopped_in r) (v x) (v y)
-    pub cause : StepCauses r by.0 x.first_alive y.first_alive x.second_alive y.second_alive (v x) (v y)
+    pub cause : StepCauses r by.0 (pair_at x.first_alive x.second_alive (v x)) (pair_at y.first_alive y.second_alive (v y))
     pub notes : OtherNotesStay by x.had y.had
     pub counts : (m : MemberId) → m ≢ by → counts_of y.printed m ≡ counts_of x.printed m
 
@@ -119,17 +119,17 @@ module _ (by : ℕ) (stopped : Bool) (x y : PairState) (counts : KeepsCounts by 
   counted_passage : Passage x.first y.first x.second y.second x.view y.view
   counted_passage = record {
     goes = counts.goes;
-    failed1 = counts.gone1;
-    failed2 = counts.gone2;
-    there1 = counts.device1.0;
-    there2 = counts.device2.0;
-    alive1 = counts.alive1;
-    alive2 = counts.alive2;
+    failed1 = counts.first.gone;
+    failed2 = counts.second.gone;
+    there1 = counts.first.stands.0;
+    there2 = counts.second.stands.0;
+    alive1 = counts.first.alive;
+    alive2 = counts.second.alive;
     grow = grow;
   } where
     grow : (d : Dev) → Grows (x.view.loses d) (y.view.loses d)
-    grow Ckpt1 = once_grows x.first y.first _ _ counts.once1
-    grow Ckpt2 = once_grows x.second y.second _ _ counts.once2
+    grow Ckpt1 = once_grows x.first y.first _ _ counts.first.once
+    grow Ckpt2 = once_grows x.second y.second _ _ counts.second.once
     grow (Spool n) = inl (counts.else_loses (Spool n) (λ e. absurd (cc)) (λ e. absurd (cc)))
 
   counted_spares : 1 ≤ by → Spares by stopped x.view y.view
@@ -141,7 +141,7 @@ module _ (by : ℕ) (stopped : Bool) (x y : PairState) (counts : KeepsCounts by 
   }
 
 -- the cause of a sitting's error is one of any answer's
-sitting_cause : (e : NodeNo) (by : ℕ) (a a' b b' : Bool) (old new : View) → StepCauses {T = SittingEnd} (Err e) by a a' b b' old new → StepCauses {T = Unit {0}} (Err e) by a a' b b' old new
+sitting_cause : (e : NodeNo) (by : ℕ) (a a' b b' : Bool) (old new : View) → StepCauses {T = SittingEnd} (Err e) by (pair_at a b old) (pair_at a' b' new) → StepCauses {T = Unit {0}} (Err e) by (pair_at a b old) (pair_at a' b' new)
 sitting_cause no_node.NoMemory by a a' b b' old new cause = cause
 sitting_cause no_node.BothLost by a a' b b' old new cause = cause
 sitting_cause no_node.Halted by a a' b b' old new cause = cause
@@ -250,14 +250,14 @@ module _ {P C : Type 0} (plants : PlantGhosts P) (copies : CopyGhosts C) where
     taken_acts : (of : MemberId) (x mid : Parts P C) (found : Fate) → IsTaken plants copies by of x mid found → TurnActs plants by x mid (Ok tt)
     taken_acts of x mid found t = record {
       passage = counted_passage by.0 false (pair_state plants.view x) (pair_state plants.view mid) t.counts;
-      once = record { first = t.counts.once1; second = t.counts.once2 };
+      once = record { first = t.counts.first.once; second = t.counts.second.once };
       spares = counted_spares by.0 false (pair_state plants.view x) (pair_state plants.view mid) t.counts some;
       cause = inl t.some;
       notes = notes_same by x.had mid.had t.had;
       counts = λ m other. ap (λ (l : List ℕ). counts_of l m) t.printed;
     }
 
-    untaken_cause : (e : NodeNo) (x y : Parts P C) → TakeCauses plants copies e by x y → CopiesLeft plants copies e y → StepCauses {T = Unit {0}} (Err e) by.0 x.first_alive y.first_alive x.second_alive y.second_alive (view x) (view y)
+    untaken_cause : (e : NodeNo) (x y : Parts P C) → TakeCauses plants copies e by x y → CopiesLeft plants copies e y → StepCauses {T = Unit {0}} (Err e) by.0 (pair_at x.first_alive x.second_alive (view x)) (pair_at y.first_alive y.second_alive (view y))
     untaken_cause no_node.BothLost x y cause left = cause
     untaken_cause no_node.Halted x y cause left = (inl left, cause)
     untaken_cause no_node.NoMemory x y cause left = inl left
@@ -266,7 +266,7 @@ module _ {P C : Type 0} (plants : PlantGhosts P) (copies : CopyGhosts C) where
     untaken_acts : (of : MemberId) (x y : Parts P C) (e : NodeNo) → IsUntaken plants copies by of x y e → TurnActs plants by x y (Err e)
     untaken_acts of x y e u = record {
       passage = counted_passage by.0 (is_stop e) (pair_state plants.view x) (pair_state plants.view y) u.counts;
-      once = record { first = u.counts.once1; second = u.counts.once2 };
+      once = record { first = u.counts.first.once; second = u.counts.second.once };
       spares = counted_spares by.0 (is_stop e) (pair_state plants.view x) (pair_state plants.view y) u.counts some;
       cause = untaken_cause e x y u.cause u.some;
       notes = notes_same by x.had y.had u.had;
@@ -307,7 +307,7 @@ module _ (by sayer : MemberId) (old new : View) (says : (sayer ≡ nobody) ⊎ (
   said_spares (Err no_node.ConsoleFault) spares = spares_for by.0 sayer.0 old new spares
   said_spares (Err no_node.Halted) spares = ⊎_elim (λ none. absurd (none_halted spares none)) (λ same. subst (λ (m : MemberId). Spares m.0 true old new) same spares) says
 
-  said_cause : (a b : Bool) (r : Result (Unit {0}) NodeNo) → Spares sayer.0 (stopped_in r) old new → HasCause r sayer.0 old new → StepCauses r by.0 a a b b old new
+  said_cause : (a b : Bool) (r : Result (Unit {0}) NodeNo) → Spares sayer.0 (stopped_in r) old new → HasCause r sayer.0 old new → StepCauses r by.0 (pair_at a b old) (pair_at a b new)
   said_cause a b (Ok done) spares cause = inr (refl, refl)
   said_cause a b (Err no_node.NoMemory) spares cause = inr (refl, refl)
   said_cause a b (Err no_node.BothLost) spares cause = absurd cause

@@ -1,5 +1,6 @@
 -- A step that waits goes on, whatever others gave.
 use Rattle.std.proofs.Common.{◌≡◌, ◌∙◌, ◌≤◌, ◌||◌, not, nat_le, if◌then◌else◌, ℕ, ◌+◌, Bool, true, false, List, [], take, All, Option, Some, ap, refl, subst, sym, arith}
+use Rattle.std.proofs.lemmas.Option.{same_Some as some_same}
 use Rattle.std.specs.Coded.{Coded-set, coded_list}
 use Rattle.std.proofs.Math.Logic.{∥∥₁_elim, ∥∥₁_map}
 use Rattle.std.proofs.lemmas.Bool.{eq-eqb}
@@ -74,12 +75,10 @@ module _ {P C : Type 0} (plants : PlantGhosts P) (copies : CopyGhosts C) where
   pub right_now : (x : Parts P C) (m : MemberId) (s : State) (found : Found) → (plants.tells → IsMine (queue_of x) m s) → IsStillRight plants copies x m s found → IsFoundRight plants copies x m s found
   right_now x m (Away (SpoolOutputs n specs p)) found mine r = (
     r.0,
-    record {
-      job = mine;
-      there = λ none t.
-          by_cancelled (is_cancelled (job_at (queue_of x) n)) (spools_at (v x) (v x).now) (queue_of x).config.groups specs (held_by m (queue_of x).owners)
-          (subst (λ (per : ℕ). AreSpooled (spools_at (v x) (v x).now) per specs (lowest_for m (queue_of x).owners specs)) (sym (groups_same x)) (r.1 none t));
-    },
+    mine,
+    λ none t.
+        by_cancelled (is_cancelled (job_at (queue_of x) n)) (spools_at (v x) (v x).now) (queue_of x).config.groups specs (held_by m (queue_of x).owners)
+        (subst (λ (per : ℕ). AreSpooled (spools_at (v x) (v x).now) per specs (lowest_for m (queue_of x).owners specs)) (sym (groups_same x)) (r.1 none t)),
   )
   right_now x m (Fresh task) found mine r = r
   right_now x m (Away (SpoolDeck n text)) found mine r = r
@@ -146,9 +145,6 @@ module _ {P C : Type 0} (plants : PlantGhosts P) (copies : CopyGhosts C) where
         let all = counts in
         omega (arith, le, mark, all))
       where
-        some_same : (a b : Output) → Some a ≡ Some b → a ≡ b
-        some_same a b e = cc
-
         at_its_own : (p : IsPrinting (queue_of x) m n i) → p.output.busy ≡ m
         at_its_own p = at_its (queue_of x) (queue_of y) m somebody (kept t) (sound t) p.output p.busy
 

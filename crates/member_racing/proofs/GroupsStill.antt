@@ -3,7 +3,7 @@
 use Rattle.std.proofs.Common.{◌≡◌, ◌∙◌, inl, inr, ⊎_elim, ◌||◌, not, nat_le, ℕ, zero, suc, ◌+◌, Bool, true, false, List, [], ◌∷◌, All, Some, drop, take, map, ap, refl, subst, sym, arith}
 use Rattle.std.specs.Prelude.{slice_index_or}
 use Rattle.std.specs.List.{list_any}
-use Rattle.std.proofs.lemmas.Bool.{le-leb}
+use Rattle.std.proofs.lemmas.Bool.{le-leb, or_parts as or_false}
 use Rattle.std.proofs.lemmas.Bool.Decides.{nat_tests}
 use Rattle.std.proofs.lemmas.List.Elements.{All-cons, All-head, All-nil, All-tail}
 use Rattle.mas_types.specs.declared.ids.GroupNo.{GroupNo}
@@ -44,10 +44,6 @@ apart_not r s is = by_tests (nat_le (r.from + r.len) s.from) (nat_le (s.from + s
   by_tests true b one two none = inl (grind (arith, nat_tests, one))
   by_tests false true one two none = inr (grind (arith, nat_tests, two))
   by_tests false false one two none = absurd (cc)
-
-or_false : (a b : Bool) → (a || b) ≡ false → (a ≡ false) × (b ≡ false)
-or_false true b is = absurd (cc)
-or_false false b is = (refl, is)
 
 pub avoids_synced : (rs : List Stretch) (s : Stretch) → Avoids rs s → list_any (λ r. meets r s) rs ≡ false
 avoids_synced [] s all = refl

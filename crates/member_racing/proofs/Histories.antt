@@ -2,7 +2,7 @@
 use Rattle.std.proofs.Common.{◌≡◌, ◌≢◌, ◌∙◌, ◌≤◌, ◌&&◌, if◌then◌else◌, ℕ, zero, suc, ◌+◌, Bool, true, false, List, [], ◌∷◌, ◌++◌, append-nil, length, take, drop, All, Option, Some, None, ap, refl, subst, sym, arith}
 use Rattle.std.specs.Prelude.{IsSome}
 use Rattle.std.proofs.Math.Logic.{∥∥₁_map}
-use Rattle.std.proofs.lemmas.Bool.{ne_eqb}
+use Rattle.std.proofs.lemmas.Bool.{false_from_ne_true as not_true, ne_eqb}
 use Rattle.std.proofs.lemmas.List.{append_cancel_left, take-append-drop}
 use Rattle.std.proofs.lemmas.List.Elements.{All-append, All-cons, All-head, All-nil, All-tail}
 use mathlib.Core.Option.{some}
@@ -20,11 +20,9 @@ use Rattle.lock_cycle.specs.Books.{is_stopped}
 use Rattle.spool_plant.specs.declared.plant.Plant.{Ghosts as PlantGhosts}
 use Rattle.ckpt_copy.specs.declared.copying.Copying.{Ghosts as CopyGhosts}
 use Rattle.ckpt_form.specs.declared.steady.Steady.{Ghosts as SteadyGhosts}
-use Rattle.mas_complex.proofs.BatchEnds.{with_last-append, without_last-append}
-use Rattle.mas_complex.proofs.Batches.{kept_all_append, placed_all}
-use Rattle.mas_complex.proofs.Replied.{run_append}
+use Rattle.mas_complex.proofs.Batches.{with_last-append, without_last-append, kept_all_append, placed_all, past_kept, run_append}
 use Rattle.mas_complex.specs.declared.complex.Complex.{Complex}
-use Rattle.mas_complex.specs.Journals.{EndsInPlace, IsBegun, end_of, in_flight, kept_all, with_last, without_last}
+use Rattle.mas_complex.specs.Journals.{EndsInPlace, IsBegun, end_of, in_flight, kept_all, past_batches, with_last, without_last}
 use Rattle.mas_complex.specs.Meaning.{run}
 use Rattle.mas_complex.specs.Paper.{AreGivenIn}
 use Rattle.mas_complex.specs.Parts.{parts_of}
@@ -198,10 +196,6 @@ module _ {P C : Type 0} {plants : PlantGhosts P} {steadies : SteadyGhosts C} {co
   -- so others gave it
   module _ (m : MemberId) (somebody : is_somebody m ≡ true) (up : is_stopped y.book m ≡ false) (base : y.base ≡ x.base) (sound : IsSound x.base)
       (no_more : (k : ℕ) (e : Entry) → get_elem? (kept_all y.journal.batches) k ≡ some e → length (kept_all x.journal.batches) ≤ k → e.by.0 ≢ m.0) where
-    not_true : (b : Bool) → (b ≡ true → ⊥) → b ≡ false
-    not_true true f = absurd (f refl)
-    not_true false f = refl
-
     passes : plants.tells → All (Passes m) more
     passes t =
         all_three (λ (e : Entry). e.by.0 ≢ m.0) (λ (e : Entry). is_somebody e.by ≡ true) (λ (e : Entry). is_somebody e.by ≡ true → ResetsStopped y.book e.command) (Passes m) more
@@ -217,11 +211,13 @@ module _ {P C : Type 0} {plants : PlantGhosts P} {steadies : SteadyGhosts C} {co
     others_gave t =
         ∥∥₁_map (y.paper t (subst IsSound (sym base) sound))
         (λ k.
+        let past : List Batch = past_batches y.placed y.journal.batches in
         let given : All (IsGiven x.base) (kept_all x.journal.batches ++ more) =
         subst (λ (es : List Entry). All (IsGiven x.base) es) grown
         (subst (λ (q : Queue). All (IsGiven q) (kept_all y.journal.batches)) base
-        (each_kept (IsGiven y.base) y.journal.batches
-        (all_front (λ (b : Batch). All (IsGiven y.base) b.entries) y.journal.batches (in_flight y.current) (given_each y.base (y.journal.batches ++ in_flight y.current) k.given)))) in
+        (subst (λ (es : List Entry). All (IsGiven y.base) es) (past_kept y.placed y.journal.batches y.place)
+        (each_kept (IsGiven y.base) past
+        (all_front (λ (b : Batch). All (IsGiven y.base) b.entries) past (in_flight y.current) (given_each y.base (past ++ in_flight y.current) k.given))))) in
         record {
           es = more;
           is = ap (λ (q : Queue). run q (kept_all y.journal.batches)) base ∙ ap (run x.base) grown ∙ run_append x.base (kept_all x.journal.batches) more;

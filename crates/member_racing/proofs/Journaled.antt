@@ -12,7 +12,7 @@ use Rattle.ckpt_form.specs.declared.steady.Steady.{Ghosts as SteadyGhosts}
 use Rattle.gate_turns.specs.Shared.{begun_by}
 use Rattle.gate_turns.proofs.Called.{nothing}
 use Rattle.gate_turns.proofs.KeptSame.{begun_append}
-use Rattle.mas_complex.proofs.BatchEnds.{with_last-append, without_last-append}
+use Rattle.mas_complex.proofs.Batches.{with_last-append, without_last-append}
 use Rattle.mas_complex.specs.declared.complex.Complex.{Complex}
 use Rattle.mas_complex.specs.Journals.{EndsInPlace, IsPlace, end_of, in_flight, with_last, without_last}
 use Rattle.mas_complex.specs.Parts.{parts_of}

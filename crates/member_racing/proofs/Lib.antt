@@ -23,6 +23,7 @@ pub mod Adding
 pub mod AddingTurn
 pub mod Costing
 pub mod CostTurn
+pub mod BooksKept
 pub mod BooksTurn
 pub mod Books
 pub mod Easing

@@ -1,7 +1,7 @@
 -- All that a member leaves in the journal is of its step. Where content is told none of it resets a member that isn't
 -- stopped; and a batch is in flight to the end only where the member was halted or both copies were lost.
-use Rattle.std.proofs.Common.{◌≡◌, ◌⊎◌, inl, inr, ⊎_elim, ◌∙◌, ℕ, zero, suc, Bool, true, false, List, [], ◌∷◌, drop, take, All, Option, Some, None, Result, Ok, Err, ap, refl, subst, sym}
-use Rattle.std.proofs.lemmas.List.Elements.{All-append, All-cons, All-head, All-nil, All-tail}
+use Rattle.std.proofs.Common.{◌≡◌, ◌⊎◌, inl, inr, ⊎_elim, ◌∙◌, ℕ, Bool, true, false, List, [], ◌∷◌, drop, take, All, Option, Some, None, Result, Ok, Err, ap, refl, subst, sym}
+use Rattle.std.proofs.lemmas.List.Elements.{All-append, All-cons, All-drop, All-head, All-nil, All-tail, All-take}
 use Rattle.mas_types.specs.declared.ids.MemberId.{MemberId}
 use Rattle.mas_types.specs.declared.journals.Batch.{Batch}
 use Rattle.mas_types.specs.declared.journals.Entry.{Entry}
@@ -14,10 +14,11 @@ use Rattle.member_node.specs.declared.member.NodeNo.TheVariants as no_node
 use Rattle.member_decks.specs.Steps.{AreOf}
 use Rattle.member_sittings.specs.Left.{HasLeft, IsLastBatch, Reach, ReachesBy, StandThere, first_of, left_by as left_in, next_in}
 use Rattle.member_resets.specs.Cuts.{AreBatched, IsBatched, IsCutBy, IsHaltBy}
-use Rattle.run_turns.specs.Cuts.{Left, adds, adds_all, adds_first, batches_cut, begun, kept_all, left_by, none_left}
+use Rattle.run_turns.specs.Cuts.{left_by}
+use Rattle.run_turns.proofs.Keeping.{batches_are}
 use Rattle.run_turns.specs.Pieces.{Piece, Play}
 use Rattle.run_turns.specs.Scenes.{Batched}
-use Rattle.run_turns.specs.Sights.{Begun, Cut, Halt, Saying, Waiting, Writing}
+use Rattle.run_turns.specs.Sights.{Begun, Cut, Halt, Writing}
 use Rattle.step_turns.specs.Batches.{batch_of}
 
 -- WHEN A BATCH MAY FLY to the end
@@ -77,57 +78,22 @@ module _ (told : Type 0) (book : Book) (by : MemberId) (at : ℕ) where
 
   -- PARTS of lists
 
-  take_all : {A : Type 0} (R : A → Type 0) (n : ℕ) (xs : List A) → All R xs → All R (take n xs)
-  take_all R zero xs all = All-nil R
-  take_all R (suc n) [] all = All-nil R
-  take_all R (suc n) (x ∷ xs) all = All-cons R x (take n xs) (All-head R x xs all) (take_all R n xs (All-tail R x xs all))
-
-  drop_all : {A : Type 0} (R : A → Type 0) (n : ℕ) (xs : List A) → All R xs → All R (drop n xs)
-  drop_all R zero xs all = all
-  drop_all R (suc n) [] all = All-nil R
-  drop_all R (suc n) (x ∷ xs) all = drop_all R n xs (All-tail R x xs all)
-
   first_all : (ess : List (List Entry)) → All Of ess → Of (first_of ess)
   first_all [] all = All-nil IsEntry
   first_all (es ∷ ess) all = All-head Of es ess all
 
   -- WHAT A LINE LEAVES of its pieces
 
-  module _ (fly : Type 0) where
-    kept_its : (ess : List (List Entry)) → All Of ess → All (Its fly) (kept_all ess)
-    kept_its [] all = All-nil (Its fly)
-    kept_its (es ∷ ess) all = All-cons (Its fly) _ (kept_all ess) (All-head Of es ess all, λ is. absurd (cc)) (kept_its ess (All-tail Of es ess all))
-
-    all_its : (locked : Bool) (l : Left) (ps : List Piece) → All (Its fly) l.batches → All IsGivenPiece ps → All (Its fly) (adds_all by locked l ps).batches
-    all_its locked l [] its own = its
-    all_its locked l (p ∷ ps) its own =
-        all_its locked (adds by locked l p) ps (All-append (Its fly) l.batches (kept_all p.sitting.batches) its (kept_its p.sitting.batches (All-head IsGivenPiece p ps own))) (All-tail IsGivenPiece p ps own)
-
-  begun_its : (e : NodeNo) (n : ℕ) (b : Option Begun) (ess : List (List Entry)) → IsHaltBy e (Writing n b) → All Of ess → All (Its (FliesAt e)) (begun by b ess)
-  begun_its e n None ess halt all = All-nil (Its (FliesAt e))
-  begun_its e n (Some b) [] halt all = All-nil (Its (FliesAt e))
-  begun_its e n (Some b) (es ∷ ess) halt all =
-      All-cons (Its (FliesAt e)) _ [] (take_all IsEntry b.entries es (All-head Of es ess all), λ is. fly_by e n b halt is) (All-nil (Its (FliesAt e)))
-
-  cut_its : (e : NodeNo) (halt : Halt) (ess : List (List Entry)) → IsHaltBy e halt → All Of ess → All (Its (FliesAt e)) (batches_cut by halt ess)
-  cut_its e (Writing n b) ess halt all =
-      All-append (Its (FliesAt e)) (kept_all (take n ess)) (begun by b (drop n ess)) (kept_its (FliesAt e) (take n ess) (take_all Of n ess all)) (begun_its e n b (drop n ess) halt (drop_all Of n ess all))
-  cut_its e (Saying n tail) ess halt all = kept_its (FliesAt e) ess all
-  cut_its e (Waiting n tail) ess halt all = kept_its (FliesAt e) ess all
-
-  first_its : (e : NodeNo) (locked : Bool) (halt : Halt) (l : Left) (ps : List Piece) → IsHaltBy e halt → All (Its (FliesAt e)) l.batches → All IsGivenPiece ps → All (Its (FliesAt e)) (adds_first by locked halt l ps).batches
-  first_its e locked halt l [] by_halt its own = its
-  first_its e locked halt l (p ∷ ps) by_halt its own =
-      All-append (Its (FliesAt e)) l.batches (batches_cut by halt p.sitting.batches) its (cut_its e halt p.sitting.batches by_halt (All-head IsGivenPiece p ps own))
+  may_fly : (r : Result (Unit {0}) NodeNo) (ps : List Piece) (cut : Option Cut) (k : Cut) → IsCutBy r ps cut → cut ≡ Some k → (n : ℕ) (b : Begun) → k.halt ≡ Writing n (Some b) → b.fate ≡ Flying → MayFly r
+  may_fly (Ok done) ps cut k is same n b halt flies = absurd (cc)
+  may_fly (Err e) ps None k is same n b halt flies = absurd is
+  may_fly (Err e) ps (Some c) k is same n b halt flies =
+      fly_by e n b (subst (λ (h : Halt). IsHaltBy e h) (ap (λ (d : Cut). d.halt) (let one : c ≡ k = cc in one) ∙ halt) is.halt) flies
 
   pub left_its : (r : Result (Unit {0}) NodeNo) (cut : Option Cut) (play : Play) (count : ℕ) → IsCutBy r play.pieces cut → All IsGivenPiece play.pieces → All (Its (MayFly r)) (left_by by cut play count).batches
-  left_its (Ok done) cut play count is own =
-      subst (λ (c : Option Cut). All (Its ⊥) (left_by by c play count).batches) (sym is) (all_its ⊥ play.locked (none_left by play.book count) play.pieces (All-nil (Its ⊥)) own)
-  left_its (Err e) None play count is own = absurd is
-  left_its (Err e) (Some cut) play count is own =
-      first_its e play.locked cut.halt (adds_all by play.locked (none_left by play.book count) (take cut.sittings play.pieces)) (drop cut.sittings play.pieces) is.halt
-      (all_its (FliesAt e) play.locked (none_left by play.book count) (take cut.sittings play.pieces) (All-nil (Its (FliesAt e))) (take_all IsGivenPiece cut.sittings play.pieces own))
-      (drop_all IsGivenPiece cut.sittings play.pieces own)
+  left_its r cut play count is own =
+      batches_are by (Its (MayFly r)) Of (λ es of. (of, λ flies. absurd (cc))) cut
+      (λ k same n b halt es of. (All-take IsEntry b.entries es of, may_fly r play.pieces cut k is same n b halt)) play count own
 
   -- IN THE JOURNAL
 
@@ -167,5 +133,5 @@ module _ (told : Type 0) (book : Book) (by : MemberId) (at : ℕ) where
   pub left_of : {T : Type 0} (r : Result T NodeNo) (from now : ℕ) (ess : List (List Entry)) (reach : Reach) (more : List Batch) → ReachesBy r ess reach → HasLeft by from now ess reach more → All Of ess → All (IsOwnBatch (MayFly r)) more
   left_of r from now ess reach more reached left of =
       stand_of (MayFly r) reach.flies from now (left_in reach ess) more (reach_fly r ess reach reached) left.stand
-      (All-append Of (take reach.whole ess) (batch_of (take reach.part (next_in reach ess))) (take_all Of reach.whole ess of)
-      (batch_its (take reach.part (next_in reach ess)) (take_all IsEntry reach.part (next_in reach ess) (first_all (drop reach.whole ess) (drop_all Of reach.whole ess of)))))
+      (All-append Of (take reach.whole ess) (batch_of (take reach.part (next_in reach ess))) (All-take Of reach.whole ess of)
+      (batch_its (take reach.part (next_in reach ess)) (All-take IsEntry reach.part (next_in reach ess) (first_all (drop reach.whole ess) (All-drop Of reach.whole ess of)))))

@@ -1,5 +1,6 @@
 -- What a member finds between two turns of a race: the copies at rest, and of its own steps nothing that isn't kept.
 use Rattle.std.proofs.Common.{◌≡◌, ◌∙◌, ◌⊎◌, inl, inr, ◌≤◌, ◌<◌, ℕ, ◌+◌, ◌*◌, Bool, true, false, List, [], ◌∷◌, ◌++◌, length, All, Option, Some, None, ap, refl, subst, sym, arith}
+use Rattle.std.proofs.lemmas.Option.{same_Some as one_text}
 use Rattle.std.proofs.Math.Logic.{∥∥₁_map}
 use Rattle.std.proofs.lemmas.List.Elements.{All-append, All-cons, All-head, All-nil, All-tail, All-weaker}
 use Rattle.mas_types.specs.declared.ids.MemberId.{MemberId}
@@ -34,14 +35,7 @@ use Rattle.member_sittings.specs.Gates.{IsOpen}
 use Rattle.member_sittings.specs.Whole.{Half, first_half, queue_of, second_half}
 use Rattle.member_resets.specs.Quiet.{IsQuiet}
 use Rattle.mas_race.specs.Between.{IsBetweenTurns, IsFree, IsLowHalf}
-
-pub all_front : {A : Type 0} (Q : A → Type 0) (xs ys : List A) → All Q (xs ++ ys) → All Q xs
-all_front Q [] ys are = All-nil Q
-all_front Q (x ∷ xs) ys are = All-cons Q x xs (All-head Q x (xs ++ ys) are) (all_front Q xs ys (All-tail Q x (xs ++ ys) are))
-
-pub all_back : {A : Type 0} (Q : A → Type 0) (xs ys : List A) → All Q (xs ++ ys) → All Q ys
-all_back Q [] ys are = are
-all_back Q (x ∷ xs) ys are = all_back Q xs ys (All-tail Q x (xs ++ ys) are)
+pub use Rattle.member_resets.proofs.Halting.{all_back, all_front}
 
 -- WHAT A MEMBER THAT ISN'T STOPPED GAVE IS KEPT
 
@@ -87,9 +81,6 @@ pub record StandsRead (Q : Queue) (read : Option (List ℕ)) : Type 0 where
   pub was : List ℕ
   pub stands : StandFor Q was
   pub is : read ≡ Some was
-
-one_text : (a b : List ℕ) → Some a ≡ Some b → a ≡ b
-one_text a b e = cc
 
 module _ (told : Type 0) (h : Half) (base : Queue) (es : List Entry) (n : ℕ) (sound : told → IsSound (run base es)) (reads : told → h.alive ≡ true → ∥ StandsRead (run base es) h.read ∥₁)
     (is : IsLowHalf told h base.config n) where

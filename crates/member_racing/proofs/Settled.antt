@@ -12,8 +12,7 @@ use Rattle.spool_plant.specs.declared.plant.Plant.{Ghosts as PlantGhosts}
 use Rattle.ckpt_copy.specs.declared.copying.Copying.{Ghosts as CopyGhosts}
 use Rattle.ckpt_form.specs.declared.steady.Steady.{Ghosts as SteadyGhosts}
 use Rattle.gate_turns.specs.Shared.{begun_by}
-use Rattle.mas_complex.proofs.BatchEnds.{with_last-append}
-use Rattle.mas_complex.proofs.Batches.{kept_all_append, placed_all}
+use Rattle.mas_complex.proofs.Batches.{with_last-append, kept_all_append, placed_all}
 use Rattle.mas_complex.specs.declared.complex.Complex.{Complex}
 use Rattle.mas_complex.specs.Journals.{AreSettled, EndsInPlace, end_of, kept_all, with_last}
 use Rattle.mas_complex.specs.Parts.{batches_left, parts_of}

@@ -2,7 +2,7 @@
 -- shows it to the line's member, and what stays of its own.
 use Rattle.std.proofs.Common.{◌≡◌, ◌≢◌, ◌∙◌, ◌≤◌, ◌&&◌, ◌||◌, not, nat_le, if◌then◌else◌, ℕ, Bool, true, false, List, [], ◌∷◌, ◌++◌, length, All, Option, Some, None, ap, refl, subst, sym, arith}
 use Rattle.std.proofs.Math.Logic.{∥∥₁_map}
-use Rattle.std.proofs.lemmas.Bool.{le-leb, ne_eqb}
+use Rattle.std.proofs.lemmas.Bool.{false_from_ne_true as not_true, le-leb, ne_eqb}
 use Rattle.std.proofs.lemmas.List.Elements.{All-append, All-cons, All-head, All-nil, All-tail}
 use Rattle.mas_types.specs.declared.commands.Command.{Command}
 use Rattle.mas_types.specs.declared.commands.Command.TheVariants as command
@@ -24,10 +24,9 @@ use Rattle.spool_plant.specs.declared.plant.Plant.{Ghosts as PlantGhosts}
 use Rattle.ckpt_copy.specs.declared.copying.Copying.{Ghosts as CopyGhosts}
 use Rattle.ckpt_form.specs.declared.steady.Steady.{Ghosts as SteadyGhosts}
 use Rattle.duplex_pair.specs.Halves.{SomeAlive}
-use Rattle.mas_complex.proofs.Batches.{kept_all_append}
-use Rattle.mas_complex.proofs.Replied.{run_append}
+use Rattle.mas_complex.proofs.Batches.{kept_all_append, past_kept, run_append}
 use Rattle.mas_complex.specs.declared.complex.Complex.{Complex}
-use Rattle.mas_complex.specs.Journals.{end_of, in_flight, kept_all}
+use Rattle.mas_complex.specs.Journals.{end_of, in_flight, kept_all, past_batches}
 use Rattle.mas_complex.specs.Meaning.{run}
 use Rattle.mas_complex.specs.Paper.{AreGivenIn, counts_of}
 use Rattle.mas_complex.specs.Parts.{Parts, parts_of}
@@ -85,10 +84,6 @@ append_three (e ∷ xs) ys zs = ap (λ (l : List Entry). e ∷ l) (append_three 
 and_false : (b : Bool) → (b && false) ≡ false
 and_false true = refl
 and_false false = refl
-
-not_true : (b : Bool) → (b ≡ true → ⊥) → b ≡ false
-not_true true f = absurd (f refl)
-not_true false f = refl
 
 given_each : (base : Queue) (bs : List Batch) → AreGivenIn base bs → All (λ (b : Batch). All (IsGiven base) b.entries) bs
 given_each base [] given = All-nil (λ (b : Batch). All (IsGiven base) b.entries)
@@ -228,9 +223,11 @@ module _ {P C : Type 0} {plants : PlantGhosts P} {steadies : SteadyGhosts C} {co
     others_took t =
         ∥∥₁_map (x.paper t (sound t))
         (λ k.
-        let each : All (λ (b : Batch). All (IsGiven x.base) b.entries) (p.batches ++ in_flight p.current) = given_each x.base (p.batches ++ in_flight p.current) k.given in
-        let flew : All (IsGiven x.base) found = found_all (IsGiven x.base) took.found p.current (all_back (λ (b : Batch). All (IsGiven x.base) b.entries) p.batches (in_flight p.current) each) in
-        let was : All (IsGiven x.base) (kept_all p.batches) = each_kept (IsGiven x.base) p.batches (all_front (λ (b : Batch). All (IsGiven x.base) b.entries) p.batches (in_flight p.current) each) in
+        let past : List Batch = past_batches x.placed x.journal.batches in
+        let each : All (λ (b : Batch). All (IsGiven x.base) b.entries) (past ++ in_flight p.current) = given_each x.base (past ++ in_flight p.current) k.given in
+        let flew : All (IsGiven x.base) found = found_all (IsGiven x.base) took.found p.current (all_back (λ (b : Batch). All (IsGiven x.base) b.entries) past (in_flight p.current) each) in
+        let was : All (IsGiven x.base) (kept_all p.batches) =
+        subst (λ (es : List Entry). All (IsGiven x.base) es) (past_kept x.placed x.journal.batches x.place) (each_kept (IsGiven x.base) past (all_front (λ (b : Batch). All (IsGiven x.base) b.entries) past (in_flight p.current) each)) in
         let reset : IsGiven x.base as_its = record { by = of_member; fit = tt } in
         record {
           es = found ++ as_its ∷ [];

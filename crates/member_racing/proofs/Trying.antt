@@ -14,6 +14,7 @@ use Rattle.mas_complex.specs.declared.complex.Complex.{Complex}
 use Rattle.mas_complex.specs.Journals.{kept_all}
 use Rattle.mas_complex.specs.Crash.{copy_of}
 use Rattle.mas_complex.specs.Kept.{HaveKept}
+use Rattle.mas_complex.proofs.Values.{given_of}
 use Rattle.mas_complex.specs.Meaning.{run}
 use Rattle.mas_complex.specs.Parts.{parts_of}
 use Rattle.mas_race.specs.Between.{BetweenTurns}
@@ -40,6 +41,6 @@ module _ {P C : Type 0} {plants : PlantGhosts P} {steadies : SteadyGhosts C} {co
   quiet_now none =
       let free = rest.free some none in
       quiet_between plants copies (parts_of x) rest some none
-      (λ t. kept_sound x.base x.journal.batches x.current free.none (sound t) (∥∥₁_map (x.paper t (sound t)) (λ k. k.given)))
+      (λ t. kept_sound x.base x.journal.batches x.current free.none (sound t) (given_of x t (sound t)))
       (λ t on. ∥∥₁_map (kept t) (λ k. record { was = k.was; stands = k.queue; is = reads x.pair.first.copy k.was (disk_now (plants.view x.plant) Ckpt1) (k.at Ckpt1 tt on free.first.before) }))
       (λ t on. ∥∥₁_map (kept t) (λ k. record { was = k.was; stands = k.queue; is = reads x.pair.second.copy k.was (disk_now (plants.view x.plant) Ckpt2) (k.at Ckpt2 tt on free.second.before) }))

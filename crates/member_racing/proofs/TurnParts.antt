@@ -1,7 +1,6 @@
 -- A turn that was tried and ended, as a whole: what it adds, whose calls of the book it made, and what it costs.
-use Rattle.std.proofs.Common.{◌≡◌, ◌∙◌, ◌⊎◌, inl, inr, ⊎_elim, ◌==◌, ℕ, Bool, true, false, Result, Err, ap, refl, subst, sym, arith}
-use Rattle.std.proofs.lemmas.Bool.{eqb-true}
-use Rattle.std.proofs.lemmas.Bool.Decides.{nat_tests}
+use Rattle.std.proofs.Common.{◌≡◌, ◌∙◌, ◌⊎◌, inl, inr, ⊎_elim, ◌==◌, ℕ, Bool, true, false, Result, Err, ap, refl, subst, sym}
+use Rattle.std.proofs.lemmas.Bool.{eqb-false as apart_is, eqb-true}
 use Rattle.mas_types.specs.declared.ids.MemberId.{MemberId}
 use Rattle.mas_types.specs.Ids.{is_somebody}
 use Rattle.lock_cycle.specs.Books.{IsMember, is_stopped}
@@ -42,9 +41,6 @@ use Rattle.member_racing.proofs.Members.{few_of, inside_of, some_of, somebody_of
 by_test : {A : Type 0} (b : Bool) → (b ≡ true → A) → (b ≡ false → A) → A
 by_test true f g = f refl
 by_test false f g = g refl
-
-apart_is : (m n : ℕ) → (m == n) ≡ false → m ≡ n → ⊥
-apart_is m n h e = grind (arith, nat_tests)
 
 module _ {P C : Type 0} {plants : PlantGhosts P} {steadies : SteadyGhosts C} {copies : CopyGhosts C} (x mid : Complex P C plants steadies copies) (m n : Member) (at : ℕ) (what : Ask) (s : Stands) (tried : Result Stands NodeNo) (rest : BetweenTurns x) (waits : Waits x m at what s)
     (tries : Tries (raced_at m.id at what s) x mid m n tried) where

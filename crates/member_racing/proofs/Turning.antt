@@ -1,5 +1,6 @@
 -- A line that was begun: its member is up, and where a stopped member holds the lock that is taken over.
 use Rattle.std.proofs.Common.{◌≡◌, ℕ, false, Option, Some, None, Result, Ok, Err, subst, sym}
+use Rattle.std.proofs.lemmas.Option.{same_Some as some_same}
 use Rattle.mas_types.specs.declared.ids.MemberId.{MemberId}
 use Rattle.lock_cycle.specs.Books.{is_stopped}
 use Rattle.spool_plant.specs.declared.plant.Plant.{Ghosts as PlantGhosts}
@@ -25,9 +26,7 @@ module _ {P C : Type 0} (plants : PlantGhosts P) (copies : CopyGhosts C) where
   module _ (r : Raced) (x y : Parts P C) (m n : Member) where
     unless : (o : Option MemberId) (of : MemberId) → o ≡ Some of → (q : Result Stands NodeNo) (A : Type 0) → TakesUp plants copies (stood_of r) of x y q → UnlessLeft plants copies o (stood_of r) x y q A
     unless None of is q A takes = absurd (cc)
-    unless (Some it) of is q A takes = subst (λ (k : MemberId). TakesUp plants copies (stood_of r) k x y q) (sym (some_same it of is)) takes where
-      some_same : (a b : MemberId) → Some a ≡ Some b → a ≡ b
-      some_same a b e = cc
+    unless (Some it) of is q A takes = subst (λ (k : MemberId). TakesUp plants copies (stood_of r) k x y q) (sym (some_same it of is)) takes
 
     goes_up : (of : MemberId) → left_holder x.book ≡ Some of → (s : Stands) → IsBegun s → (q : Result Stands NodeNo) → TakesUp plants copies (stood_of r) of x y q → GoesAs plants copies r x y m n q s
     goes_up of left line.Opens begun q takes = absurd begun

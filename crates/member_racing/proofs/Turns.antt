@@ -1,7 +1,7 @@
 -- What a member that may take its turn finds: who holds the lock, and what was given of its step.
 use Rattle.std.proofs.Common.{◌≡◌, ◌∙◌, ◌⊎◌, inr, ◌≤◌, ◌<◌, ◌==◌, ℕ, zero, suc, ◌-◌, ◌&&◌, if◌then◌else◌, Bool, true, false, List, [], ◌∷◌, ◌++◌, length, All, Option, Some, None, ap, refl, subst, sym, arith}
 use Rattle.std.specs.Prelude.{slice_index_or}
-use Rattle.std.proofs.lemmas.Bool.{eq-eqb}
+use Rattle.std.proofs.lemmas.Bool.{and_parts as both_true, eq-eqb}
 use Rattle.std.proofs.lemmas.Bool.Decides.{nat_tests}
 use Rattle.std.proofs.lemmas.List.Elements.{All-cons, All-head, All-nil, All-tail, All-weaker}
 use Rattle.mas_types.specs.declared.ids.MemberId.{MemberId}
@@ -43,10 +43,6 @@ pub record IsLeft (b : Book) (of : MemberId) : Type 0 where
   pub holds : b.holder ≡ of
   pub somebody : is_somebody of ≡ true
   pub stopped : is_stopped b of ≡ true
-
-both_true : (a b : Bool) → (a && b) ≡ true → (a ≡ true) × (b ≡ true)
-both_true true b is = (refl, is)
-both_true false b is = absurd (cc)
 
 left_by : (c : Bool) (h of : MemberId) → (if c then Some h else None) ≡ Some of → (c ≡ true) × (h ≡ of)
 left_by true h of is = (refl, cc)

@@ -13,6 +13,7 @@ use Rattle.script_lang.specs.Asks.{units_most}
 use Rattle.script_lang.specs.declared.types.Ask.{Ask}
 use Rattle.script_lang.specs.declared.types.Ask.TheVariants as ask
 use Rattle.run_turns.specs.Admissions.{Admission, Denied, Frees, Locks, Plays, Refused, Replaces, Resets, TakesOver, Unplayed, admitted, resets}
+use Rattle.run_turns.specs.Laws.{IsUp}
 use Rattle.step_turns.specs.Laws.{on_line}
 use Rattle.step_turns.specs.declared.states.State.TheVariants.{Fresh}
 use Rattle.step_turns.specs.declared.states.Task.{Task}
@@ -32,11 +33,6 @@ abbrev pub resets_of : Task → Option MemberId
 resets_of (Give c) = resets c
 resets_of _ = None
 
--- a member of the configuration that isn't stopped
-pub record IsUpMember (config : Config) (b : Book) (by : MemberId) : Type 0 where
-  pub member : is_member config by ≡ true
-  pub up : is_stopped b by ≡ false
-
 -- a stopped member of the configuration, which this one may reset
 pub record IsDown (base : Queue) (b : Book) (by of : MemberId) : Type 0 where
   pub member : is_member base.config of ≡ true
@@ -46,16 +42,16 @@ pub record IsDown (base : Queue) (b : Book) (by of : MemberId) : Type 0 where
 
 -- who says the line of a refusal: the operator, or the member itself, which is up
 abbrev pub IsSaidBy : Config → Book → MemberId → MemberId → Type 0
-IsSaidBy config b by sayer = (sayer ≡ nobody) ⊎ ((sayer ≡ by) × IsUpMember config b by)
+IsSaidBy config b by sayer = (sayer ≡ nobody) ⊎ ((sayer ≡ by) × IsUp config b by)
 
 module _ (base : Queue) (b : Book) (by : MemberId) where
   abbrev pub IsKnown : Admission → Type 0
   IsKnown (Refused sayer end) = IsSaidBy base.config b by sayer × AreMembersNamed end
-  IsKnown (Denied why) = IsUpMember base.config b by × (try_refusal b by false ≡ Some why)
-  IsKnown (Plays task) = IsUpMember base.config b by × (try_refusal b by false ≡ None) × MayBeAsked base by task
+  IsKnown (Denied why) = IsUp base.config b by × (try_refusal b by false ≡ Some why)
+  IsKnown (Plays task) = IsUp base.config b by × (try_refusal b by false ≡ None) × MayBeAsked base by task
       × (on_line (Fresh task) ≡ false) × (resets_of task ≡ None)
-  IsKnown (Resets of) = IsUpMember base.config b by × (try_refusal b by false ≡ None) × IsDown base b by of
-  IsKnown (TakesOver of) = IsUpMember base.config b by × (is_holder b of ≡ true) × IsDown base b by of
+  IsKnown (Resets of) = IsUp base.config b by × (try_refusal b by false ≡ None) × IsDown base b by of
+  IsKnown (TakesOver of) = IsUp base.config b by × (is_holder b of ≡ true) × IsDown base b by of
   IsKnown (Replaces dev) = ⊥
   IsKnown Locks = ⊥
   IsKnown Frees = ⊥

@@ -1,19 +1,21 @@
 -- Who is up in the book that a line leaves was up before it, and a member that it stopped is stopped there.
-use Rattle.std.proofs.Common.{◌≡◌, ℕ, ◌-◌, ◌≤◌, ◌||◌, Bool, true, false, if◌then◌else◌, List, [], ◌∷◌, drop, length, take, is_some, Option, Some, None, refl, sym, ◌∙◌, ap, subst}
-use Rattle.std.proofs.lemmas.List.{length-set}
+use Rattle.std.proofs.Common.{◌≡◌, ◌≢◌, ⊎_elim, slice_index_or, slice_set, zero, suc, ℕ, ◌-◌, ◌≤◌, ◌||◌, Bool, true, false, if◌then◌else◌, List, [], ◌∷◌, length, is_some, Option, Some, None, refl, sym, ◌∙◌, ap, subst}
+use Rattle.std.proofs.lemmas.Bool.{cases_eq}
+use Rattle.std.proofs.lemmas.List.{get_or-set_other, length-set}
 use Rattle.mas_types.specs.declared.ids.MemberId.{MemberId}
-use Rattle.mas_types.specs.declared.journals.Entry.{Entry}
-use Rattle.mas_types.specs.Ids.{nobody}
+use Rattle.mas_types.specs.Ids.{is_somebody, nobody}
+use Rattle.lock_cycle.specs.declared.answers.LockNo.{LockNo}
+use Rattle.lock_cycle.specs.declared.answers.LockNo.TheVariants as lock
 use Rattle.lock_cycle.specs.declared.standings.Standing.{Standing}
-use Rattle.lock_cycle.specs.Books.{Book, IsMember, after_free, after_seize, after_spend, after_stop, after_try, granted, is_holder, is_stopped, noted, seize_refusal, ticked, try_refusal, with_holder, with_standing}
-use Rattle.mas_complex.proofs.PaperBooks.{freed_up, seized_up, spent_up, stopped_up, tried_up}
-use Rattle.step_turns.specs.Entries.{all_entries}
-use Rattle.step_turns.specs.declared.states.Release.{Release}
-use Rattle.step_turns.specs.declared.states.Release.TheVariants.{Inner, Keep, Outer}
-use Rattle.run_turns.specs.Sights.{Cause, Cut, Ends, Halt, Saying, Stops, Waiting, Writing}
-use Rattle.run_turns.specs.Admissions.{Admission, Denied, Frees, Locks, Plays, Refused, Replaces, Resets, TakesOver, Unplayed, tried}
-use Rattle.run_turns.specs.Cuts.{Left, adds, adds_all, adds_first, adds_part, book_cut, left_by, none_left, stopped_by}
-use Rattle.run_turns.specs.Pieces.{Piece, Play, after_piece, entered, released_by, spent}
+use Rattle.lock_cycle.specs.Books.{Book, is_dormant, wakes, beginner, left_of, standing, IsMember, after_free, after_seize, after_spend, after_stop, after_try, granted, is_holder, is_stopped, noted, seize_refusal, ticked, try_refusal, with_holder, with_standing}
+use Rattle.mas_complex.proofs.Books.{freed_up, seized_up, spent_up, stopped_up, tried_up}
+use Rattle.run_turns.specs.Sights.{Cause, Cut, Stops}
+use Rattle.run_turns.specs.Admissions.{Admission, tried}
+use Rattle.run_turns.specs.Cuts.{Left, adds, adds_all, left_by, stopped_by}
+use Rattle.run_turns.proofs.Keeping.{CallsKeep, before_cut, before_keeps, left_keeps, piece_keeps, tried_keeps}
+use Rattle.run_turns.specs.Pieces.{Piece, Play, after_piece}
+use Rattle.mas_types.specs.declared.journals.Batch.{Batch}
+use Rattle.member_hand.specs.Standing.{StandsIn}
 
 -- from one book to a later one: nobody who was stopped is up again, and there are as many members
 pub record Since (b c : Book) : Type 0 where
@@ -28,6 +30,38 @@ then_since a b c one two = record { many = two.many ∙ one.many; up = λ k up. 
 
 pub inside_since : (b c : Book) (by : MemberId) → Since b c → IsMember b by → IsMember c by
 inside_since b c by since inside = (inside.0, subst (λ (n : ℕ). by.0 ≤ n) (sym since.many) inside.1)
+
+-- who was stopped is still, and what is in flight stands
+pub still_stopped : (b c : Book) → Since b c → (k : MemberId) → is_stopped b k ≡ true → is_stopped c k ≡ true
+still_stopped b c since k was = either (is_stopped c k) refl where
+  either : (s : Bool) → is_stopped c k ≡ s → is_stopped c k ≡ true
+  either true is = is
+  either false up = absurd (let both : true ≡ false = sym was ∙ since.up k up in cc)
+
+pub stands_later : (bs : List Batch) (placed : Bool) (b c : Book) → Since b c → (o : Option Batch) → StandsIn bs placed b o → StandsIn bs placed c o
+stands_later bs placed b c since None stands = stands
+stands_later bs placed b c since (Some o) stands = (stands.0, stands.1, still_stopped b c since o.by stands.2)
+
+-- WHO GOT THE LOCK by a try, and didn't hold it before
+
+module _ (b : Book) (by : MemberId) (up : is_stopped b by ≡ false) (other : is_holder b by ≡ false) (got : try_refusal b by false ≡ None) where
+  abbrev refusal : Bool → Bool → Bool → Option LockNo
+  refusal stopped holds held =
+      if stopped then Some lock.Down
+      else if holds then None
+      else if held then Some (lock.Busy b.holder)
+      else if is_dormant b by false then Some (lock.Dormant (wakes b by))
+      else None
+
+  free_by : (held : Bool) → is_somebody b.holder ≡ held → refusal false false held ≡ None → is_somebody b.holder ≡ false
+  free_by true is none = absurd (cc)
+  free_by false is none = is
+
+  -- nobody held it
+  pub got_free : is_somebody b.holder ≡ false
+  got_free =
+      free_by (is_somebody b.holder) refl
+      (sym (ap (λ (s : Bool). refusal s (is_holder b by) (is_somebody b.holder)) up ∙ ap (λ (h : Bool). refusal false h (is_somebody b.holder)) other) ∙ got)
 
 -- CALLS OF THE BOOK
 
@@ -72,92 +106,79 @@ module _ (b : Book) (by : MemberId) (inside : IsMember b by) where
     either true is = is
     either false is = absurd ((stopped_up b by inside by is).0 refl)
 
--- A PIECE
+-- WHAT CALLS OF A BOOK KEEP that their parts keep
 
 module _ (by : MemberId) where
-  released_since : (r : Release) (b : Book) → IsMember b by → Since b (released_by r b by)
-  released_since Keep b inside = none_since b
-  released_since Inner b inside = freed_since b by inside true
-  released_since Outer b inside = freed_since b by inside false
+  pub calls_keep : (K : Book → Type 0) → ((b : Book) (inner : Bool) → K b → K (ticked b inner)) → ((b : Book) → K b → K (granted b by)) → ((b : Book) → K b → K (with_holder b nobody))
+      → ((b : Book) → K b → K (with_holder (noted b by) nobody)) → ((b : Book) (n : ℕ) → K b → K (after_spend b by n)) → CallsKeep by K
+  calls_keep K ticks grants leaves notes spends = record {
+    tries = λ b inner is. either (is_stopped b by || is_holder b by) b (if is_some (try_refusal b by inner) then ticked b inner else granted (ticked b inner) by) is
+        (either (is_some (try_refusal b by inner)) (ticked b inner) (granted (ticked b inner) by) (ticks b inner is) (grants (ticked b inner) (ticks b inner is)));
+    seizes = λ b of is. either (is_some (seize_refusal b of)) b (granted b by) is (grants b is);
+    frees = λ b inner is. either (is_holder b by) (if inner then with_holder b nobody else with_holder (noted b by) nobody) b
+        (either inner (with_holder b nobody) (with_holder (noted b by) nobody) (leaves b is) (notes b is)) is;
+    spends = spends;
+  } where
+    either : (t : Bool) (b c : Book) → K b → K c → K (if t then b else c)
+    either true b c one two = one
+    either false b c one two = two
 
-  left_since : (b : Book) (ess : List (List Entry)) (r : Release) → IsMember b by → Since b (released_by r (spent (entered b by) by ess) by)
-  left_since b ess r inside =
-      let one = tried_since b by inside true in
-      let at_one = inside_since b (entered b by) by one inside in
-      let two = spent_since (entered b by) by at_one (length (all_entries ess)) in
-      let at_two = inside_since (entered b by) (spent (entered b by) by ess) by two at_one in
-      then_since b (entered b by) (released_by r (spent (entered b by) by ess) by) one
-      (then_since (entered b by) (spent (entered b by) by ess) (released_by r (spent (entered b by) by ess) by) two
-      (released_since r (spent (entered b by) by ess) at_two))
+  -- A member is stopped exactly if it was.
+
+  module _ (k : MemberId) where
+    abbrev pub SameStop : Book → Book → Type 0
+    SameStop b c = is_stopped c k ≡ is_stopped b k
+
+    pub other_set : k.0 - 1 ≢ by.0 - 1 → (b : Book) (s : Standing) → SameStop b (with_standing b by s)
+    other_set apart b s = ap (λ (x : Standing). x.stopped) (get_or-set_other b.members (by.0 - 1) (k.0 - 1) s (beginner 0) apart)
+
+    set_same : (b : Book) (s : Standing) → s.stopped ≡ is_stopped b by → SameStop b (with_standing b by s)
+    set_same b s same =
+        ⊎_elim
+        (λ here. subst (λ (i : ℕ). (slice_index_or (slice_set b.members (by.0 - 1) s) i (beginner 0)).stopped ≡ (slice_index_or b.members i (beginner 0)).stopped) (sym here) (set_as b.members (by.0 - 1) same))
+        (λ apart. other_set apart b s) (cases_eq (k.0 - 1) (by.0 - 1))
+      where
+        set_as : (xs : List Standing) (i : ℕ) → s.stopped ≡ (slice_index_or xs i (beginner 0)).stopped → (slice_index_or (slice_set xs i s) i (beginner 0)).stopped ≡ (slice_index_or xs i (beginner 0)).stopped
+        set_as [] i as_was = refl
+        set_as (x ∷ xs) zero as_was = as_was
+        set_as (x ∷ xs) (suc i) as_was = set_as xs i as_was
+
+    pub same_calls : (b : Book) → CallsKeep by (λ (c : Book). SameStop b c)
+    same_calls b = calls_keep (λ (c : Book). SameStop b c) (λ c inner is. is) (λ c is. set_same (with_holder c by) (record (standing c by) { left = c.hold }) refl ∙ is) (λ c is. is)
+        (λ c is. set_same c (record (standing c by) { freed = Some c.tick }) refl ∙ is) (λ c n is. set_same c (record (standing c by) { left = left_of c by - n }) refl ∙ is)
+
+-- WHAT A MEMBER'S CALLS LEAVE of a book in which it has its place
+
+module _ (by : MemberId) where
+  since_keeps : (b : Book) → IsMember b by → CallsKeep by (λ (c : Book). Since b c)
+  since_keeps b inside = record {
+    tries = λ c inner since. then_since b c (after_try c by inner) since (tried_since c by (inside_since b c by since inside) inner);
+    seizes = λ c of since. then_since b c (after_seize c by of) since (seized_since c by (inside_since b c by since inside) of);
+    frees = λ c inner since. then_since b c (after_free c by inner) since (freed_since c by (inside_since b c by since inside) inner);
+    spends = λ c commands since. then_since b c (after_spend c by commands) since (spent_since c by (inside_since b c by since inside) commands);
+  }
 
   pub piece_since : (b : Book) (p : Piece) → IsMember b by → Since b (after_piece b by p)
-  piece_since b p inside = left_since b p.sitting.batches p.sitting.release inside
+  piece_since b p inside = piece_keeps by (λ (c : Book). Since b c) (since_keeps b inside) b p (none_since b)
 
-  cut_since : (halt : Halt) (b : Book) (p : Piece) → IsMember b by → Since b (book_cut by halt b p)
-  cut_since (Writing n g) b p inside = tried_since b by inside true
-  cut_since (Saying n tail) b p inside = tried_since b by inside true
-  cut_since (Waiting n tail) b p inside = left_since b p.sitting.batches p.sitting.release inside
+  pub admitted_since : (a : Admission) (b : Book) → IsMember b by → Since b (tried b by a)
+  admitted_since a b inside = tried_keeps by (λ (c : Book). Since b c) (since_keeps b inside) a b (none_since b)
 
   -- A LINE
 
-  adds_since : (locked : Bool) (l : Left) (p : Piece) → IsMember l.book by → Since l.book (adds by locked l p).book
-  adds_since true l p inside = piece_since l.book p inside
-  adds_since false l p inside = none_since l.book
-
-  all_since : (locked : Bool) (l : Left) (ps : List Piece) → IsMember l.book by → Since l.book (adds_all by locked l ps).book
-  all_since locked l [] inside = none_since l.book
-  all_since locked l (p ∷ ps) inside =
-      let one = adds_since locked l p inside in
-      then_since l.book (adds by locked l p).book (adds_all by locked (adds by locked l p) ps).book one
-      (all_since locked (adds by locked l p) ps (inside_since l.book (adds by locked l p).book by one inside))
-
-  part_since : (locked : Bool) (halt : Halt) (l : Left) (p : Piece) → IsMember l.book by → Since l.book (adds_part by locked halt l p).book
-  part_since true halt l p inside = cut_since halt l.book p inside
-  part_since false halt l p inside = none_since l.book
-
-  first_since : (locked : Bool) (halt : Halt) (l : Left) (ps : List Piece) → IsMember l.book by → Since l.book (adds_first by locked halt l ps).book
-  first_since locked halt l [] inside = none_since l.book
-  first_since locked halt l (p ∷ ps) inside = part_since locked halt l p inside
-
-  cause_since : (cause : Cause) (b : Book) → IsMember b by → Since b (stopped_by by cause b)
-  cause_since Stops b inside = stopped_since b by inside
-  cause_since Ends b inside = none_since b
-
-  pub admitted_since : (a : Admission) (b : Book) → IsMember b by → Since b (tried b by a)
-  admitted_since (Refused sayer end) b inside = none_since b
-  admitted_since (TakesOver of) b inside = seized_since b by inside of
-  admitted_since Frees b inside = none_since b
-  admitted_since Unplayed b inside = none_since b
-  admitted_since (Denied why) b inside = tried_since b by inside false
-  admitted_since (Plays task) b inside = tried_since b by inside false
-  admitted_since (Resets of) b inside = tried_since b by inside false
-  admitted_since (Replaces dev) b inside = tried_since b by inside false
-  admitted_since Locks b inside = tried_since b by inside false
-
-  -- up to where a line was cut
   module _ (play : Play) (count : ℕ) (inside : IsMember play.book by) where
-    abbrev before_cut : Cut → Left
-    before_cut cut = adds_first by play.locked cut.halt (adds_all by play.locked (none_left by play.book count) (take cut.sittings play.pieces)) (drop cut.sittings play.pieces)
-
-    before_since : (cut : Cut) → Since play.book (before_cut cut).book
-    before_since cut =
-        let l = adds_all by play.locked (none_left by play.book count) (take cut.sittings play.pieces) in
-        let one = all_since play.locked (none_left by play.book count) (take cut.sittings play.pieces) inside in
-        then_since play.book l.book (before_cut cut).book one
-        (first_since play.locked cut.halt l (drop cut.sittings play.pieces) (inside_since play.book l.book by one inside))
-
     pub play_since : (cut : Option Cut) → Since play.book (left_by by cut play count).book
-    play_since None = all_since play.locked (none_left by play.book count) play.pieces inside
-    play_since (Some cut) =
-        then_since play.book (before_cut cut).book (stopped_by by cut.cause (before_cut cut).book) (before_since cut)
-        (cause_since cut.cause (before_cut cut).book (inside_since play.book (before_cut cut).book by (before_since cut) inside))
+    play_since cut =
+        left_keeps by (λ (c : Book). Since play.book c) (since_keeps play.book inside) cut
+        (λ k is why c since. then_since play.book c (after_stop c by) since (stopped_since c by (inside_since play.book c by since inside))) play count (none_since play.book)
 
     -- a line whose member was stopped leaves it stopped
     pub play_stops : (cut : Option Cut) → (c : Cut) → cut ≡ Some c → c.cause ≡ Stops → is_stopped (left_by by cut play count).book by ≡ true
     play_stops cut c is why =
+        let b = (before_cut by c play count).book in
         ap (λ (k : Option Cut). is_stopped (left_by by k play count).book by) is
-        ∙ ap (λ (cause : Cause). is_stopped (stopped_by by cause (before_cut c).book) by) why
-        ∙ stopped_now (before_cut c).book by (inside_since play.book (before_cut c).book by (before_since c) inside)
+        ∙ ap (λ (cause : Cause). is_stopped (stopped_by by cause b) by) why
+        ∙ stopped_now b by (inside_since play.book b by (before_keeps by (λ (d : Book). Since play.book d) (since_keeps play.book inside) c play count (none_since play.book)) inside)
 
   pub line_since : (b : Book) (a : Admission) (play : Play) (count : ℕ) (cut : Option Cut) → play.book ≡ tried b by a → IsMember b by → Since b (left_by by cut play count).book
   line_since b a play count cut is inside =

@@ -16,9 +16,11 @@ pub use Rattle.member_hand.proofs.Chaining
 pub use Rattle.member_hand.proofs.Cutting
 pub use Rattle.member_hand.proofs.Following
 pub use Rattle.member_hand.proofs.Going
+pub use Rattle.member_hand.proofs.Halting
 pub use Rattle.member_hand.proofs.Inking
 pub use Rattle.member_hand.proofs.PieceLemmas
 pub use Rattle.member_hand.proofs.Reaching
 pub use Rattle.member_hand.proofs.StepKinds
 pub use Rattle.member_hand.proofs.Turning
+pub use Rattle.member_hand.proofs.Wiring
 pub use Rattle.member_hand.proofs.Sat

@@ -4,7 +4,7 @@ use Rattle.mas_types.specs.declared.ids.Dev.TheVariants.{Ckpt1, Ckpt2}
 use Rattle.mas_types.specs.declared.ids.MemberId.{MemberId}
 use Rattle.spool_plant.specs.declared.plant.Plant.{Ghosts as PlantGhosts}
 use Rattle.spool_plant.specs.View.{View}
-use Rattle.mas_complex.specs.CallCounts.{IsLostOnce, KeepsCounts, pair_state}
+use Rattle.mas_complex.specs.CallCounts.{IsLostOnce, KeepsCounts, pair_state, pair_at}
 use Rattle.mas_complex.specs.Parts.{Parts}
 use Rattle.member_node.specs.declared.member.NodeNo.{NodeNo}
 use Rattle.member_node.specs.declared.member.NodeNo.TheVariants as no_node
@@ -29,11 +29,11 @@ module _ {P C : Type 0} (plants : PlantGhosts P) where
   abbrev v : Parts P C → View
   v x = plants.view x.plant
 
-  pub course_once : (x y : Parts P C) → Course x.first_alive y.first_alive x.second_alive y.second_alive (v x) (v y) → AreLostOnce plants x y
+  pub course_once : (x y : Parts P C) → Course (pair_at x.first_alive x.second_alive (v x)) (pair_at y.first_alive y.second_alive (v y)) → AreLostOnce plants x y
   course_once x y c = record { first = c.once1; second = c.once2 }
 
   pub counted_once : (by : ℕ) (stopped : Bool) (x y : Parts P C) → KeepsCounts by stopped (pair_state plants.view x) (pair_state plants.view y) → AreLostOnce plants x y
-  counted_once by stopped x y c = record { first = c.once1; second = c.once2 }
+  counted_once by stopped x y c = record { first = c.first.once; second = c.second.once }
 
   pub then_once : (x y z : Parts P C) → (y.first_alive ≡ true → x.first_alive ≡ true) → (z.first_alive ≡ true → y.first_alive ≡ true) → (y.second_alive ≡ true → x.second_alive ≡ true) → (z.second_alive ≡ true → y.second_alive ≡ true)
       → AreLostOnce plants x y → AreLostOnce plants y z → AreLostOnce plants x z
@@ -43,7 +43,7 @@ module _ {P C : Type 0} (plants : PlantGhosts P) where
   }
 
   -- calls with a course, one after another
-  pub courses_once : (x y z : Parts P C) → Course x.first_alive y.first_alive x.second_alive y.second_alive (v x) (v y) → Course y.first_alive z.first_alive y.second_alive z.second_alive (v y) (v z) → AreLostOnce plants x z
+  pub courses_once : (x y z : Parts P C) → Course (pair_at x.first_alive x.second_alive (v x)) (pair_at y.first_alive y.second_alive (v y)) → Course (pair_at y.first_alive y.second_alive (v y)) (pair_at z.first_alive z.second_alive (v z)) → AreLostOnce plants x z
   courses_once x y z a b = then_once x y z a.alive1 b.alive1 a.alive2 b.alive2 (course_once x y a) (course_once y z b)
 
   -- a stop in the book loses none

@@ -1,5 +1,5 @@
 -- The journal once a batch in flight was found out.
-use Rattle.std.proofs.Common.{◌≡◌, ◌∙◌, ◌⊎◌, inl, inr, ⊎_elim, ◌≤◌, ℕ, ◌++◌, Bool, true, false, if◌then◌else◌, List, [], ◌∷◌, All, Option, None, ap, refl, subst, sym, arith}
+use Rattle.std.proofs.Common.{◌≡◌, ◌∙◌, ◌⊎◌, inl, inr, ⊎_elim, ◌≤◌, ℕ, ◌++◌, Bool, true, false, if◌then◌else◌, List, [], ◌∷◌, Option, None, ap, refl, subst, sym, arith}
 use Rattle.std.proofs.lemmas.List.Elements.{All-cons, All-head, All-nil, All-tail}
 use Rattle.mas_types.specs.declared.ids.MemberId.{MemberId}
 use Rattle.mas_types.specs.declared.journals.Batch.{Batch}
@@ -23,6 +23,14 @@ settle_still f at [] now are = refl
 settle_still f at (b ∷ bs) now are =
     ap (λ (c : Batch). c ∷ settle f at bs) (ap (λ (t : Bool). if t then with_found f at b else b) are.0)
     ∙ ap (λ (cs : List Batch). b ∷ cs) (settle_still f at bs now are.3)
+
+-- what nothing was found out of is as it was
+pub settle_none : (at : ℕ) (bs : List Batch) → settle Flying at bs ≡ bs
+settle_none at [] = refl
+settle_none at (b ∷ bs) = ap (λ (c : Batch). c ∷ settle Flying at bs) (same (is_flying b.fate)) ∙ ap (λ (cs : List Batch). b ∷ cs) (settle_none at bs) where
+  same : (t : Bool) → (if t then with_found Flying at b else b) ≡ b
+  same true = refl
+  same false = refl
 
 pub settle_both : (f : Fate) (at : ℕ) (so bs : List Batch) → settle f at (so ++ bs) ≡ settle f at so ++ settle f at bs
 settle_both f at [] bs = refl

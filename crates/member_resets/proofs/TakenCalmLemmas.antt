@@ -21,8 +21,7 @@ use Rattle.ckpt_copy.specs.declared.copying.Copying.{Ghosts as CopyGhosts}
 use Rattle.ckpt_copy.specs.Pages.{bytes_of, level}
 use Rattle.ckpt_tables.specs.Shape.{page_count}
 use Rattle.duplex_pair.specs.Halves.{IsBothLost, SomeAlive}
-use Rattle.mas_complex.proofs.BatchEnds.{with_last-append}
-use Rattle.mas_complex.proofs.Batches.{unplaced_settled}
+use Rattle.mas_complex.proofs.Batches.{with_last-append, unplaced_settled}
 use Rattle.mas_complex.specs.Journals.{AreSettled, end_of, fated, kept_all, with_last}
 use Rattle.mas_complex.specs.Locking.{IsOfOther}
 use Rattle.mas_complex.specs.Parts.{Parts, ended_at}
@@ -40,7 +39,7 @@ use Rattle.member_resets.specs.Settling.{settle, settled_at, with_found}
 use Rattle.member_resets.specs.WhyLost.{IsWhyLost}
 use Rattle.member_resets.specs.Resetting.{IsTaken, IsUnfound, IsUntaken, node_no, rested_in}
 use Rattle.member_hand.specs.Standing.{StandsIn}
-use Rattle.member_resets.proofs.BookLemmas.{Since, inside_since, seized_since, stopped_since, then_since}
+use Rattle.member_resets.proofs.BookLemmas.{Since, inside_since, seized_since, stands_later, stopped_since, then_since}
 use Rattle.member_resets.proofs.SettleLemmas.{settle_both, settle_still}
 use Rattle.member_steps.proofs.LowCopies.{low_found, sound_told}
 
@@ -326,16 +325,6 @@ module _ {P C : Type 0} (plants : PlantGhosts P) (copies : CopyGhosts C) (by of 
       let one = seized_since x.book by inside of in
       then_since x.book (after_seize x.book by of) book_then one (stopped_since (after_seize x.book by of) by (inside_since x.book (after_seize x.book by of) by one inside))
 
-  stopped_still : (m : MemberId) → is_stopped x.book m ≡ true → is_stopped book_then m ≡ true
-  stopped_still m was = by_test (is_stopped book_then m) refl where
-    by_test : (s : Bool) → is_stopped book_then m ≡ s → is_stopped book_then m ≡ true
-    by_test true is = is
-    by_test false up = absurd (let both : true ≡ false = sym was ∙ since_then.up m up in cc)
-
-  stands_then : (c : Option Batch) → StandsIn x.batches x.placed x.book c → StandsIn x.batches x.placed book_then c
-  stands_then None is = is
-  stands_then (Some c) is = (is.0, is.1, stopped_still c.by is.2)
-
   untaken_halted : z ≡ taken_in (Err take_no.Halted) (v z).now by of z x → HasActed plants by x z (Err take_no.Halted) → SomeAlive z.first_alive z.second_alive
       → Rose ((v x).stops by.0) ((v z).stops by.0) → IsUntaken plants copies by of x z no_node.Halted
   untaken_halted leaves acts some rose = record {
@@ -348,7 +337,7 @@ module _ {P C : Type 0} (plants : PlantGhosts P) (copies : CopyGhosts C) (by of 
     printed = ap (λ (p : Parts P C). p.printed) leaves;
     had = ap (λ (p : Parts P C). p.had) leaves;
     book = ap (λ (p : Parts P C). p.book) leaves;
-    stands = subst (λ (p : Parts P C). StandsIn p.batches p.placed p.book p.current) (sym leaves) (stands_then x.current stands);
+    stands = subst (λ (p : Parts P C). StandsIn p.batches p.placed p.book p.current) (sym leaves) (stands_later x.batches x.placed x.book book_then since_then x.current stands);
   }
 
   pub untaken : (some : Bool) (e : TakeNo) → (z.first_alive || z.second_alive) ≡ some → IsUnfound e → z ≡ taken_in (Err e) (v z).now by of z x → HasActed plants by x z (Err e)

@@ -1,12 +1,11 @@
 -- A member that took the lock of a stopped member over may reset that.
-use Rattle.std.proofs.Common.{◌≡◌, ◌⊎◌, inl, inr, ℕ, ◌-◌, ◌<◌, ◌++◌, Bool, true, false, not, if◌then◌else◌, List, [], ◌∷◌, All, is_some, Option, Some, None, Result, Ok, Err, refl, sym, ◌∙◌, ap, subst, arith}
+use Rattle.std.proofs.Common.{◌≡◌, ◌⊎◌, inl, inr, ℕ, ◌-◌, ◌++◌, Bool, true, false, not, if◌then◌else◌, List, [], ◌∷◌, All, is_some, Option, Some, None, Result, Ok, Err, refl, sym, ◌∙◌, ap, subst, arith}
 use Rattle.std.specs.Prelude.{OnOk}
 use Rattle.std.proofs.lemmas.List.{get_or-set_same}
-use Rattle.std.proofs.lemmas.List.Elements.{All-append, All-cons, All-head, All-nil, All-tail, All-weaker}
+use Rattle.std.proofs.lemmas.List.Elements.{All-append}
 use Rattle.mas_types.specs.declared.commands.Command.TheVariants as command
 use Rattle.mas_types.specs.declared.ids.MemberId.{MemberId}
 use Rattle.mas_types.specs.declared.journals.Batch.{Batch}
-use Rattle.mas_types.specs.declared.journals.Entry.{Entry}
 use Rattle.mas_types.specs.declared.journals.Fate.{Fate}
 use Rattle.mas_types.specs.declared.queues.Queue.{Queue}
 use Rattle.mas_types.specs.Queue.{is_member}
@@ -19,7 +18,7 @@ use Rattle.lock_cycle.specs.Books.{Book, IsMember, after_seize, beginner, grante
 use Rattle.spool_plant.specs.declared.plant.Plant.{Ghosts as PlantGhosts}
 use Rattle.spool_plant.specs.View.{View}
 use Rattle.ckpt_copy.specs.declared.copying.Copying.{Ghosts as CopyGhosts}
-use Rattle.mas_complex.proofs.BatchEnds.{with_last-append}
+use Rattle.mas_complex.proofs.Batches.{with_last-append}
 use Rattle.mas_complex.specs.Crash.{IsUntold, setting}
 use Rattle.mas_complex.specs.Journals.{end_of, in_flight, with_last}
 use Rattle.mas_complex.specs.Parts.{Parts}
@@ -32,35 +31,29 @@ use Rattle.member_hand.specs.Locks.{MayHold}
 use Rattle.member_hand.specs.Quiet.{IsAside, IsQuiet}
 use Rattle.member_sittings.specs.Sat.{journal_of}
 use Rattle.member_sittings.specs.Whole.{HasStepKept, HasUntold, IsGivable}
-use Rattle.member_resets.specs.Settling.{settle}
 use Rattle.member_resets.specs.Resetting.{IsTaken, MayResetAt, MayTakeAt, TakesAndResets, TakesBy, taker_at}
 use Rattle.member_hand.specs.Standing.{StandsIn}
 use Rattle.member_resets.proofs.BookLemmas.{inside_since, seized_since}
 use Rattle.member_resets.proofs.SettleLemmas.{journal_still, settled_kept}
+use Rattle.member_hand.proofs.Halting.{all_back, all_front}
 
 -- BATCHES THAT ARE KEPT, or have no entry of a member's step, or of a later one
 
 abbrev Holds : MemberId → ℕ → ℕ → Batch → Type 0
 Holds m at now b = IsKeptBy now b ⊎ AreEarlier m at b.entries
 
-all_front : {A : Type 0} (Q : A → Type 0) (xs ys : List A) → All Q (xs ++ ys) → All Q xs
-all_front Q [] ys are = All-nil Q
-all_front Q (x ∷ xs) ys are = All-cons Q x xs (All-head Q x (xs ++ ys) are) (all_front Q xs ys (All-tail Q x (xs ++ ys) are))
+-- what holds of each batch, and of the one in flight, holds of those of the journal
+pub journal_holds : (R : Batch → Type 0) (batches : List Batch) (placed : Bool) (b : Book) (c : Option Batch) → StandsIn batches placed b c → All R (batches ++ in_flight c) → All R (end_of placed c batches)
+journal_holds R batches placed b None stands are = subst (λ (p : Bool). All R (end_of p None batches)) (sym stands) (all_front R batches [] are)
+journal_holds R batches placed b (Some c) stands are =
+    let e = stands.0 in
+    let all : All R (e.before ++ e.place ∷ []) = subst (λ (bs : List Batch). All R bs) e.is (all_front R batches (c ∷ []) are) in
+    subst (λ (bs : List Batch). All R bs) (sym (ap (λ (bs : List Batch). with_last c bs) e.is ∙ with_last-append c e.before e.place))
+    (All-append R e.before (c ∷ []) (all_front R e.before (e.place ∷ []) all) (all_back R batches (c ∷ []) are))
 
-all_back : {A : Type 0} (Q : A → Type 0) (xs ys : List A) → All Q (xs ++ ys) → All Q ys
-all_back Q [] ys are = are
-all_back Q (x ∷ xs) ys are = all_back Q xs ys (All-tail Q x (xs ++ ys) are)
-
--- those of the journal, with what is in flight
 pub kept_journal : (m : MemberId) (at now : ℕ) (batches : List Batch) (placed : Bool) (b : Book) (c : Option Batch) → StandsIn batches placed b c → AreKeptFrom m at (batches ++ in_flight c) now
     → AreKeptFrom m at (end_of placed c batches) now
-kept_journal m at now batches placed b None stands are =
-    subst (λ (p : Bool). AreKeptFrom m at (end_of p None batches) now) (sym stands) (all_front (Holds m at now) batches [] are)
-kept_journal m at now batches placed b (Some c) stands are =
-    let e = stands.0 in
-    let all : AreKeptFrom m at (e.before ++ e.place ∷ []) now = subst (λ (bs : List Batch). AreKeptFrom m at bs now) e.is (all_front (Holds m at now) batches (c ∷ []) are) in
-    subst (λ (bs : List Batch). AreKeptFrom m at bs now) (sym (ap (λ (bs : List Batch). with_last c bs) e.is ∙ with_last-append c e.before e.place))
-    (All-append (Holds m at now) e.before (c ∷ []) (all_front (Holds m at now) e.before (e.place ∷ []) all) (all_back (Holds m at now) batches (c ∷ []) are))
+kept_journal m at now batches placed b c stands are = journal_holds (Holds m at now) batches placed b c stands are
 
 -- THE BOOK
 

@@ -1,6 +1,6 @@
 -- What the operator does before the members begin, line by line.
 use Rattle.std.proofs.Common.{◌≡◌, ◌∙◌, ◌+◌, ◌<◌, ◌≤◌, ◌&&◌, not, nat_le, nat_lt, ℕ, zero, suc, Bool, true, false, if◌then◌else◌, List, [], ◌∷◌, ◌++◌, drop, get_or, length, map, take, All, append-nil, append_assoc, Result, Ok, Err, refl, sym, ap, subst, arith}
-use Rattle.std.proofs.lemmas.Bool.{eqb-true, ne_eqb}
+use Rattle.std.proofs.lemmas.Bool.{and_parts as both, and_right as none_out, eqb-true, ne_eqb}
 use Rattle.std.proofs.lemmas.Bool.Decides.{nat_tests}
 use Rattle.std.proofs.lemmas.List.{length-append, length-take, map-append, take-append-drop, take-append-le, take_all}
 use Rattle.std.proofs.lemmas.List.Elements.{All-weaker}
@@ -46,11 +46,6 @@ pub kept_before : (by : MemberId) (at now : ℕ) (bs : List Batch) → 1 ≤ at 
 kept_before by at now bs some are =
     earlier_kept by at now bs (All-weaker (λ (b : Batch). All (λ (e : Entry). e.step < 1) b.entries) (λ (b : Batch). All (λ (e : Entry). e.step < at) b.entries)
     (λ b of. All-weaker (λ (e : Entry). e.step < 1) (λ (e : Entry). e.step < at) (λ e less. omega (arith, less, some)) b.entries of) bs are)
-
-both : (a b : Bool) → (a && b) ≡ true → (a ≡ true) × (b ≡ true)
-both true true is = (refl, refl)
-both true false is = absurd (cc)
-both false b is = absurd (cc)
 
 -- LINES ONE AFTER ANOTHER
 
@@ -236,10 +231,6 @@ module _ {P C : Type 0} (plants : PlantGhosts P) where
         (λ m one. ap (λ (z : View). z.arms m.0) view
         ∙ ap (λ (t : Bool). if t && same_member s.by m && not (nat_lt x.base.config.members s.by.0) then next ((v x).arms m.0) else (v x).arms m.0) (sym no_stop))
         (none_out (is_raced s.what) (nat_lt x.base.config.members s.by.0) within)
-      where
-        none_out : (a b : Bool) → b ≡ false → (a && b) ≡ false
-        none_out true b is = is
-        none_out false b is = refl
 
     -- a stop that is armed
     module _ (fuse : Fuse) (n : ℕ) (is : s.what ≡ ask.StopIn fuse n) where

@@ -1,6 +1,6 @@
 -- Lines of members that are none: no member's, and they tell no member's step.
 use Rattle.std.proofs.Common.{◌≡◌, ◌∙◌, ◌+◌, ◌<◌, ◌≤◌, ◌==◌, ◌&&◌, nat_le, nat_lt, ℕ, Bool, true, false, if◌then◌else◌, List, [], ◌∷◌, ◌++◌, length, map, filter, drop, refl, sym, ap, arith}
-use Rattle.std.proofs.lemmas.Bool.{ne_eqb}
+use Rattle.std.proofs.lemmas.Bool.{and_parts as both, ne_eqb}
 use Rattle.std.proofs.lemmas.Bool.Decides.{nat_tests}
 use Rattle.std.proofs.lemmas.List.{drop_at}
 use Rattle.mas_types.specs.declared.ids.MemberId.{MemberId}
@@ -21,11 +21,6 @@ use Rattle.race_ends.specs.Before.{if_refused, is_refused, refused_lines}
 pub whole_again : (texts : List (List ℕ)) → map (λ (l : Line). l.text) (filter (λ (l : Line). l.whole) (map whole texts)) ≡ texts
 whole_again [] = refl
 whole_again (text ∷ texts) = ap (λ (ts : List (List ℕ)). text ∷ ts) (whole_again texts)
-
-both : (a b : Bool) → (a && b) ≡ true → (a ≡ true) × (b ≡ true)
-both true true is = (refl, refl)
-both true false is = absurd (cc)
-both false b is = absurd (cc)
 
 -- a line that names no member of so many is of none of them
 module _ (members : ℕ) (m : ℕ) (some : 0 < m) where

@@ -16,7 +16,7 @@ use Rattle.spool_plant.specs.View.{View}
 use Rattle.spool_plant.specs.Acts.{Goes, Rose}
 use Rattle.ckpt_copy.specs.Moments.{goes_on}
 use Rattle.mas_complex.specs.Parts.{Parts}
-use Rattle.mas_complex.proofs.Leaving.{rose_earlier, rose_later}
+use Rattle.mas_complex.proofs.Counted.{rose_earlier, rose_later}
 use Rattle.member_node.proofs.CourseLemmas.{rose_grow}
 use Rattle.member_node.specs.declared.member.NodeNo.{NodeNo}
 use Rattle.member_node.specs.Calls.{Grows, WasLost}

@@ -18,8 +18,7 @@ use Rattle.ckpt_form.specs.declared.steady.Steady.{Ghosts as SteadyGhosts}
 use Rattle.mas_complex.specs.declared.complex.Complex.{Complex}
 use Rattle.mas_complex.specs.Journals.{HasPlace, IsBegun, end_of, in_flight, kept_all, with_last, without_last}
 use Rattle.mas_complex.specs.Parts.{parts_of}
-use Rattle.mas_complex.proofs.BatchEnds.{with_last-append, without_last-append}
-use Rattle.mas_complex.proofs.Batches.{kept_all_append, placed_all}
+use Rattle.mas_complex.proofs.Batches.{with_last-append, without_last-append, kept_all_append, placed_all}
 use Rattle.gate_turns.specs.Shared.{begun_by}
 use Rattle.member_sittings.specs.Sat.{journal_of}
 

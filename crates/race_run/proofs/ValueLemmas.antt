@@ -1,5 +1,6 @@
 -- What a race makes of the value with which it began.
-use Rattle.std.proofs.Common.{◌≡◌, ◌∙◌, not, ℕ, ◌+◌, ◌-◌, ◌<◌, ◌≤◌, Bool, true, false, inl, inr, List, [], ◌∷◌, ◌++◌, length, take, replicate, if◌then◌else◌, Option, Some, None, Result, Ok, Err, slice_get, refl, sym, ap, subst, arith}
+use Rattle.std.proofs.Common.{◌≡◌, ◌∙◌, ℕ, ◌+◌, ◌-◌, ◌<◌, ◌≤◌, Bool, true, false, inl, inr, List, [], ◌∷◌, ◌++◌, length, take, replicate, if◌then◌else◌, Option, Some, None, Result, Ok, Err, slice_get, refl, sym, ap, subst, arith}
+use Rattle.std.proofs.lemmas.Bool.{not-true as dead}
 use Rattle.std.proofs.lemmas.List.{get_or-replicate, take-append-le, take_all}
 use Rattle.std.proofs.lemmas.List.Elements.{All-cons, All-nil, All-same, All-tail, All-take, All-weaker}
 use Rattle.std.specs.Coded.{Coded-set, le_prop}
@@ -72,11 +73,6 @@ all_second P (x ∷ xs) ys all = all_second P xs ys (All-tail P x (xs ++ ys) all
 in_flight_all : {P : Batch → Type 0} (current : Option Batch) → ((b : Batch) → current ≡ Some b → P b) → All P (in_flight current)
 in_flight_all {P} None each = All-nil P
 in_flight_all {P} (Some b) each = All-cons P b [] (each b refl) (All-nil P)
-
--- one that isn't alive
-dead : (alive : Bool) → not alive ≡ true → alive ≡ false
-dead true is = absurd (cc)
-dead false is = refl
 
 -- THE STATUS is one with which a run that has begun ends
 

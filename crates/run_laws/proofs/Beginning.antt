@@ -37,7 +37,7 @@ use Rattle.mas_complex.specs.Headline.{AreAlike, AreAlwaysAlike, AreLevelsLow}
 use Rattle.mas_complex.specs.Journals.{journal_most}
 use Rattle.mas_complex.specs.Meaning.{StandFor, run}
 use Rattle.mas_complex.specs.Paper.{AreGivenIn, PaperKept}
-use Rattle.mas_complex.proofs.Orders.{order_spelled}
+use Rattle.mas_complex.proofs.Found.{order_spelled}
 use Rattle.start_choice.specs.declared.choosing.StartNo.TheVariants as no_start
 use Rattle.warm_start.specs.Starting.{IsSmall, IsState, AreNotLost, OnlyLookedAtAll, mark_of}
 use Rattle.start_choice.specs.Usable.{AreOf, AreUsable, HaveSize, MayStart}

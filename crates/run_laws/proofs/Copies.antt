@@ -1,5 +1,6 @@
 -- The pages that a start finds on copies that a crash left.
 use Rattle.std.proofs.Common.{◌≡◌, ◌⊎◌, inl, inr, ⊎_elim, ℕ, ◌+◌, ◌≤◌, ◌<◌, ◌==◌, ◌&&◌, ◌++◌, Bool, true, false, List, Option, Some, None, refl, sym, ◌∙◌, ap, subst, arith}
+use Rattle.std.proofs.lemmas.Option.{same_Some as some_is}
 use Rattle.std.specs.Prelude.{IfSome}
 use Rattle.std.proofs.lemmas.Bool.{eqb-true}
 use Rattle.mas_types.specs.declared.ids.Dev.{Dev}
@@ -53,9 +54,6 @@ crashes_leave choice t old new lt crashed dev =
     (shown_image (new.lost (DiskPart dev)) (disk_now new dev).bytes (disk_at old t dev) (crashed.lost dev) (crashed.image dev))
 
 -- WHAT IS FOUND
-
-some_is : (x y : List ℕ) → Some x ≡ Some y → x ≡ y
-some_is x y e = cc
 
 module _ (reads : List ℕ → Option (List ℕ)) (was : List ℕ) (coming : Option (List ℕ)) (found : List ℕ) where
   one_of : (r : Option (List ℕ)) → IsOneOf was coming r → r ≡ Some found → (found ≡ was) ⊎ (coming ≡ Some found)

@@ -1,5 +1,6 @@
 -- What is found of copies that a warm start held.
 use Rattle.std.proofs.Common.{◌≡◌, ◌⊎◌, inl, inr, ⊎_elim, ℕ, ◌==◌, ◌&&◌, Bool, true, false, List, Option, Some, None, refl, sym, ◌∙◌}
+use Rattle.std.proofs.lemmas.Option.{same_Some as some_is}
 use Rattle.mas_types.specs.declared.ids.Dev.{Dev}
 use Rattle.mas_types.specs.declared.ids.Dev.TheVariants.{Ckpt1, Ckpt2}
 use Rattle.spool_plant.specs.declared.plant.Part.TheVariants.{Disk as DiskPart}
@@ -17,9 +18,6 @@ use Rattle.run_laws.proofs.Copies.{image_of}
 image_there : (b : Bool) (d : Disk) (i : List ℕ) → IsImage (lost_if b d) i → IsImage d i
 image_there true d i im = let e : true ≡ false = im.there in absurd (cc)
 image_there false d i im = im
-
-some_is : (x y : List ℕ) → Some x ≡ Some y → x ≡ y
-some_is x y e = cc
 
 -- the pages that are read of a copy that was held
 held_one : (dev : Dev) (t : ℕ) (pages found : List ℕ) (first last old new : View) (mark : Mark) → IsHeld form_reads (disk_now first dev) pages (disk_at last t dev) → IsLeftBy t last old

@@ -15,8 +15,8 @@ use Rattle.mas_complex.specs.declared.renewals.Renewals.{Renewals}
 use Rattle.mas_complex.specs.Renewals.{is_renewed_at}
 use Rattle.mas_complex.specs.Headline.{AreLevelsLow}
 use Rattle.mas_complex.specs.Journals.{batches_kept, journal_most}
-use Rattle.mas_complex.proofs.Orders.{order_spelled}
-use Rattle.mas_complex.proofs.Rising.{kept_fewer}
+use Rattle.mas_complex.proofs.Found.{order_spelled}
+use Rattle.mas_complex.proofs.Present.{kept_fewer}
 use Rattle.mas_run.specs.Runs.{IsRun}
 use Rattle.run_opening.specs.Runs.{OneReadsThere, as_found}
 use Rattle.run_laws.specs.Beginning.{level_first, order_first}

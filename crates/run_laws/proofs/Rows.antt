@@ -1,5 +1,6 @@
 -- Jobs and outputs of two queues that the same tables tell, and their texts.
 use Rattle.std.proofs.Common.{◌≡◌, ◌||◌, ℕ, Bool, true, false, List, [], ◌∷◌, map, All, Option, option_map, slice_index_or, refl, sym, ◌∙◌, ap, subst}
+use Rattle.std.proofs.lemmas.Bool.{or_from as or_none}
 use Rattle.std.specs.List.{AllZip}
 use Rattle.std.proofs.lemmas.List.Elements.{All-head, All-tail, All-nil, All-cons}
 use Rattle.mas_types.specs.declared.ids.GroupNo.{GroupNo}
@@ -31,10 +32,6 @@ or_left false b e = refl
 or_right : (a b : Bool) → (a || b) ≡ false → b ≡ false
 or_right true b e = absurd (cc)
 or_right false b e = e
-
-or_none : (a b : Bool) → a ≡ false → b ≡ false → (a || b) ≡ false
-or_none true b first second = absurd (cc)
-or_none false b first second = second
 
 module _ (one next : ℕ → Bool) (per : ℕ) where
   left_none : (gs : List GroupNo) → lies_on (λ n. one n || next n) per gs ≡ false → lies_on one per gs ≡ false

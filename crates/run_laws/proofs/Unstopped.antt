@@ -1,6 +1,6 @@
 -- A run in which no stop of a member is armed.
 use Rattle.std.proofs.Common.{◌≡◌, ℕ, ◌+◌, ◌==◌, ◌&&◌, Bool, true, false, if◌then◌else◌, List, [], ◌∷◌, drop, All, refl, ◌∙◌}
-use Rattle.std.proofs.lemmas.Bool.{ne_eqb}
+use Rattle.std.proofs.lemmas.Bool.{and_right as and_none, ne_eqb}
 use Rattle.std.proofs.lemmas.List.Elements.{All-head, All-tail}
 use Rattle.mas_types.specs.declared.ids.MemberId.{MemberId}
 use Rattle.script_lang.specs.declared.types.Ask.{Ask}
@@ -16,10 +16,6 @@ use Rattle.mas_run.specs.Passed.{arms_after}
 use Rattle.mas_run.specs.Runs.{LinesBegun, LinesEnded, HavePassed}
 use Rattle.mas_run.proofs.PassedLemmas.{arms_ask}
 use Rattle.run_laws.specs.Unstopped.{ArmsNone, IsNoArming}
-
-and_none : (a b : Bool) → b ≡ false → (a && b) ≡ false
-and_none true b e = e
-and_none false b e = refl
 
 none_by : (S : Scene) (by : MemberId) (what : Ask) (m : ℕ) → (by.0 ≡ m → IsNoArming what) → (arms_by S by what && (by.0 == m)) ≡ false
 none_by S by (ask.StopIn what n) m arms = and_none (is_up S by) (by.0 == m) (ne_eqb by.0 m arms)

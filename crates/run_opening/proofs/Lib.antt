@@ -10,6 +10,9 @@ pub mod ProceedLemmas
 pub mod LossLemmas
 pub mod BetweenLemmas
 pub mod RoomLemmas
+pub mod QuietLemmas
+pub mod TypedLemmas
+pub mod LineLemmas
 pub mod ReaderLemmas
 pub mod UnresetLemmas
 pub mod EndLemmas

@@ -1,5 +1,6 @@
 -- A run as its lines begin: what it began with, whatever its plant shows later.
-use Rattle.std.proofs.Common.{◌≡◌, ◌⊎◌, inl, inr, ⊎_elim, ℕ, zero, suc, ◌<◌, ◌≤◌, nat_lt, Bool, true, false, ◌||◌, List, length, Some, None, Err, refl, sym, ◌∙◌, ap, subst, arith, le_refl, replicate, All}
+use Rattle.std.proofs.Common.{◌≡◌, inl, inr, ⊎_elim, ℕ, zero, suc, ◌<◌, ◌≤◌, nat_lt, Bool, true, false, ◌||◌, List, length, Some, None, Err, refl, sym, ◌∙◌, ap, subst, arith, le_refl, replicate, All}
+use Rattle.std.proofs.lemmas.Bool.{or_left as true_or}
 use Rattle.std.specs.Coded.{×_prop, Coded, Coded-set, coded_ℕ, code_by, le_prop}
 use Rattle.std.proofs.Math.Logic.{∥∥₁_map, ∥∥₁_elim, ∥∥₁_prop}
 use Rattle.std.proofs.lemmas.Bool.Decides.{nat_tests}
@@ -41,6 +42,7 @@ use Rattle.duplex_pair.specs.Outcomes.{pair_stopped}
 use Rattle.duplex_pair.specs.Both.{PairActed}
 use Rattle.mas_complex.specs.declared.renewals.Renewals.{Renewals}
 use Rattle.mas_complex.specs.Headline.{Headline, AreToldKept}
+use Rattle.mas_complex.specs.CallCounts.{pair_at}
 use Rattle.run_opening.specs.Runs.{has_begun, IsSafe, ReadsThere, as_found, lost_from}
 use Rattle.run_opening.specs.Statuses.{IsCaused, IsCausedFrom, LeavesLost}
 use Rattle.run_opening.specs.Lines.{Proceeds, StaysLost}
@@ -81,10 +83,6 @@ reads_there dev pages old new goes there reads =
 -- devices of copies that were lost before or are so after
 abbrev pub lost_ever : View → View → Dev → Bool
 lost_ever old new d = old.lost (DiskPart d) || new.lost (DiskPart d)
-
-true_or : (a b : Bool) → a ≡ true → (a || b) ≡ true
-true_or true b is = refl
-true_or false b is = absurd (cc)
 
 pub ever_lost : (old new : View) → Proceeds old new → (p : Part) → old.lost p ≡ true → (as_found (lost_ever old new) new).lost p ≡ true
 ever_lost old new goes (DiskPart Ckpt1) is = true_or (old.lost (DiskPart Ckpt1)) (new.lost (DiskPart Ckpt1)) is
@@ -222,7 +220,7 @@ by_alive : {A : Type 0} (x : Bool) → (x ≡ true → A) → (x ≡ false → A
 by_alive true f g = f refl
 by_alive false f g = g refl
 
-pub caused_through : (a a' c c' : Bool) (answer : Status) (v0 v1 v2 : View) → Course a a' c c' v0 v1 → Proceeds v1 v2 → ((d : Dev) → Grows (v1.loses d) (v2.loses d)) → IsCausedFrom a' c' answer v1 v2 → IsCausedFrom a c answer v0 v2
+pub caused_through : (a a' c c' : Bool) (answer : Status) (v0 v1 v2 : View) → Course (pair_at a c v0) (pair_at a' c' v1) → Proceeds v1 v2 → ((d : Dev) → Grows (v1.loses d) (v2.loses d)) → IsCausedFrom a' c' answer v1 v2 → IsCausedFrom a c answer v0 v2
 caused_through a a' c c' answer v0 v1 v2 course goes grow caused = record {
   failed1 = λ e was. by_alive a' (λ is. lost_after Ckpt1 v0 v1 v2 (proceeds_of v0 v1 course.goes) (course.grow Ckpt1) (caused.failed1 e is)) (λ not. lost_before Ckpt1 v0 v1 v2 (course.failed1 was not) goes (grow Ckpt1));
   failed2 = λ e was. by_alive c' (λ is. lost_after Ckpt2 v0 v1 v2 (proceeds_of v0 v1 course.goes) (course.grow Ckpt2) (caused.failed2 e is)) (λ not. lost_before Ckpt2 v0 v1 v2 (course.failed2 was not) goes (grow Ckpt2));

@@ -29,12 +29,13 @@ use Rattle.member_node.proofs.EntryLemmas.{nothing_done}
 use Rattle.member_node.specs.declared.member.NodeNo.{NodeNo}
 use Rattle.member_node.specs.declared.member.NodeNo.TheVariants as no_node
 use Rattle.member_node.specs.Calls.{IsLeft, console_now}
-use Rattle.member_node.specs.Writes.{IsWrite}
+use Rattle.member_node.specs.Writes.{IsWrite, journal_at}
 use Rattle.member_node.proofs.CourseLemmas.{apart_none, apart_then, course_none, course_then}
 use Rattle.member_node.proofs.SpareLemmas.{spares_none}
 use Rattle.member_steps.proofs.StepLemmas.{journal_kept}
 use Rattle.mas_complex.specs.Paper.{MayBegin, printed_after}
-use Rattle.mas_complex.proofs.Allowed.{one_begins}
+use Rattle.mas_complex.proofs.Batches.{one_begins}
+use Rattle.mas_complex.specs.CallCounts.{pair_at}
 use Rattle.run_opening.specs.Resets.{HasReset, restart_at, restart_entries}
 use Rattle.member_quiet.specs.Standing.{IsOfEarlier}
 use Rattle.run_opening.specs.Statuses.{IsCausedFrom, is_of_play, status_of}
@@ -76,20 +77,20 @@ some_kept front was batches place b grown kept =
 pub low_first : (t : Tables) (was batches : ℕ) → AreFit t → was < 2 ^ 62 → t.order ≤ was + 32 → 1 ≤ batches → AreLow t.config batches t
 low_first t was batches fit small le some = record { same = refl; fit = fit; order = omega (arith, small, le, some) }
 
-some_left : (was1 is1 was2 is2 : Bool) → SomeAlive was1 was2 → IsLeft was1 is1 was2 is2 → SomeAlive is1 is2
+pub some_left : (was1 is1 was2 is2 : Bool) → SomeAlive was1 was2 → IsLeft was1 is1 was2 is2 → SomeAlive is1 is2
 some_left was1 is1 was2 is2 some is = ⊎_elim (λ here. here) (λ same. subst (λ (x : Bool). SomeAlive x is2) (sym same.0) (subst (λ (y : Bool). SomeAlive was1 y) (sym same.1) some)) is
 
 -- nothing is done if there is room already
-pub settle_none : (told : Type 0) (is1 is2 : Bool) (v : View) → SomeAlive is1 is2 → IsSettle {T = Unit {0}} told 0 is1 is1 is2 is2 v v (Ok tt)
+pub settle_none : (told : Type 0) (is1 is2 : Bool) (v : View) → SomeAlive is1 is2 → IsSettle {T = Unit {0}} told 0 (pair_at is1 is2 v) (pair_at is1 is2 v) (Ok tt)
 settle_none told is1 is2 v some = record { course = course_none is1 is2 v; cause = some; spares = spares_none 0 v; loses = λ d. refl; apart = λ t. apart_none v }
 
 module _ (told : Type 0) (batches : List Batch) (was1 m1 was2 m2 : Bool) (old mid : View) where
   -- there was no memory for Restart's batch, after room was made
-  pub reset_none : IsSettle {T = Unit {0}} told 0 was1 m1 was2 m2 old mid (Ok tt) → batches ≡ [] → HasReset {T = Unit {0}} told batches was1 m1 was2 m2 old mid (Err no_node.NoMemory)
+  pub reset_none : IsSettle {T = Unit {0}} told 0 (pair_at was1 was2 old) (pair_at m1 m2 mid) (Ok tt) → batches ≡ [] → HasReset {T = Unit {0}} told batches (pair_at was1 was2 old) (pair_at m1 m2 mid) (Err no_node.NoMemory)
   reset_none s none = record { course = s.course; loses = s.loses; ends = (none, s.cause); apart = s.apart }
 
   -- room for Restart's batch wasn't made
-  pub reset_unsettled : (r : Result (Unit {0}) NodeNo) (why : NodeNo) → r ≡ Err why → (r ≡ Err no_node.Halted → ⊥) → IsSettle told 0 was1 m1 was2 m2 old mid r → batches ≡ [] → HasReset told batches was1 m1 was2 m2 old mid r
+  pub reset_unsettled : (r : Result (Unit {0}) NodeNo) (why : NodeNo) → r ≡ Err why → (r ≡ Err no_node.Halted → ⊥) → IsSettle told 0 (pair_at was1 was2 old) (pair_at m1 m2 mid) r → batches ≡ [] → HasReset told batches (pair_at was1 was2 old) (pair_at m1 m2 mid) r
   reset_unsettled (Ok done) why is goes_on s none = absurd (cc)
   reset_unsettled (Err no_node.NoMemory) why is goes_on s none = absurd s.cause
   reset_unsettled (Err no_node.BothLost) why is goes_on s none = record { course = s.course; loses = s.loses; ends = (inl none, s.cause); apart = s.apart }
@@ -97,8 +98,8 @@ module _ (told : Type 0) (batches : List Batch) (was1 m1 was2 m2 : Bool) (old mi
   reset_unsettled (Err no_node.Halted) why is goes_on s none = absurd (goes_on refl)
 
   -- the operator is never stopped
-  pub reset_written : (is1 is2 : Bool) (new : View) (r : Result (Unit {0}) NodeNo) → (r ≡ Err no_node.Halted → ⊥) → IsSettle {T = Unit {0}} told 0 was1 m1 was2 m2 old mid (Ok tt) → IsWrite told 0 (restart_at mid.now) [] batches m1 is1 m2 is2 mid new r
-      → HasReset told batches was1 is1 was2 is2 old new r
+  pub reset_written : (is1 is2 : Bool) (new : View) (r : Result (Unit {0}) NodeNo) → (r ≡ Err no_node.Halted → ⊥) → IsSettle {T = Unit {0}} told 0 (pair_at was1 was2 old) (pair_at m1 m2 mid) (Ok tt) → IsWrite told 0 (restart_at mid.now) (journal_at [] (pair_at m1 m2 mid)) (journal_at batches (pair_at is1 is2 new)) r
+      → HasReset told batches (pair_at was1 was2 old) (pair_at is1 is2 new) r
   reset_written is1 is2 new (Ok done) goes_on s write = record {
     course = course_then was1 m1 is1 was2 m2 is2 old mid new s.course write.course;
     loses = λ d. write.loses d ∙ s.loses d;
@@ -140,7 +141,7 @@ err_plays T no_node.BothLost = refl
 err_plays T no_node.ConsoleFault = refl
 err_plays T no_node.Halted = refl
 
-pub reset_caused : {T : Type 0} (told : Type 0) (batches : List Batch) (a a' c c' : Bool) (old new : View) (why : NodeNo) → HasReset {T = T} told batches a a' c c' old new (Err why)
+pub reset_caused : {T : Type 0} (told : Type 0) (batches : List Batch) (a a' c c' : Bool) (old new : View) (why : NodeNo) → HasReset {T = T} told batches (pair_at a c old) (pair_at a' c' new) (Err why)
     → IsCausedFrom a c (status_of {T = T} (Err why)) old new
 reset_caused told batches a a' c c' old new no_node.NoMemory r = record { failed1 = λ e was. absurd (cc); failed2 = λ e was. absurd (cc); console = λ e. absurd (cc) }
 reset_caused told batches a a' c c' old new no_node.BothLost r = record {

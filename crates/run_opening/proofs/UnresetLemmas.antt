@@ -18,6 +18,7 @@ use Rattle.duplex_pair.specs.Halves.{SomeAlive}
 use Rattle.mas_complex.specs.declared.complex.Complex.{Complex}
 use Rattle.mas_complex.specs.Headline.{Headline}
 use Rattle.mas_complex.specs.Renewals.{no_renewals}
+use Rattle.mas_complex.specs.CallCounts.{pair_at}
 use Rattle.member_node.proofs.CourseLemmas.{left}
 use Rattle.member_node.specs.Calls.{Apart}
 use Rattle.member_node.specs.declared.member.NodeNo.{NodeNo}
@@ -52,7 +53,7 @@ module _ {P C : Type 0} {plants : PlantGhosts P} {steadies : SteadyGhosts C} {co
   pub unreset : {T : Type 0} (is1 is2 : Bool) (why : NodeNo) → SomeAlive x.pair.first.alive x.pair.second.alive
       → (x.pair.first.alive ≡ true → (at_end x).lost (DiskPart Ckpt1) ≡ false) → (x.pair.second.alive ≡ true → (at_end x).lost (DiskPart Ckpt2) ≡ false)
       → (is1 ≡ false → new.lost (DiskPart Ckpt1) ≡ true) → (is2 ≡ false → new.lost (DiskPart Ckpt2) ≡ true)
-      → HasReset {T = T} plants.tells J.batches x.pair.first.alive is1 x.pair.second.alive is2 (at_end x) new (Err why)
+      → HasReset {T = T} plants.tells J.batches (pair_at x.pair.first.alive x.pair.second.alive (at_end x)) (pair_at is1 is2 new) (Err why)
       → IsUnreset x (status_of {T = T} (Err why)) x.base J x.since new
   unreset {T} is1 is2 no_node.NoMemory some there1 there2 lost1 lost2 r =
       alone status.NoMemory [] r.ends.0 r.course.goes (inr (inr (refl, inl refl, refl, refl))) (inl refl) r.loses

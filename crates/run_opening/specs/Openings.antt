@@ -30,6 +30,7 @@ use Rattle.mas_complex.specs.Meaning.{run}
 use Rattle.mas_complex.specs.Paper.{SamePapers}
 use Rattle.mas_complex.specs.Past.{noted_by, values_of}
 use Rattle.mas_complex.specs.Renewals.{no_renewals}
+use Rattle.mas_complex.specs.CallCounts.{pair_of}
 use Rattle.member_node.specs.declared.member.Member.{Member}
 use Rattle.member_node.specs.Calls.{Apart, Grows, console_now}
 use Rattle.run_turns.specs.Scenes.{scene_of}
@@ -111,8 +112,7 @@ module _ {P C : Type 0} {plants : PlantGhosts P} {steadies : SteadyGhosts C} {co
   pub record IsResetRun (x y : Complex P C plants steadies copies) (members : List Member) : Type 0 where
     pub base : y.base ≡ x.base
     pub since : y.since ≡ x.since
-    pub reset : HasReset plants.tells y.journal.batches x.pair.first.alive y.pair.first.alive x.pair.second.alive
-        y.pair.second.alive (at_end x) (at_end y) (Ok (tt {0}))
+    pub reset : HasReset plants.tells y.journal.batches (pair_of x) (pair_of y) (Ok (tt {0}))
     pub between : BetweenLines y members 1
     pub fresh : AreFresh y.base.config members
     pub noted : (m : ℕ) → 0 < m → noted_by (values_of y.had) m ≡ []

@@ -10,6 +10,7 @@ use Rattle.mas_types.specs.Ids.{nobody}
 use Rattle.spool_plant.specs.View.{View}
 use Rattle.duplex_pair.specs.Halves.{IsBothLost, SomeAlive}
 use Rattle.mas_complex.specs.Journals.{begun, fated}
+use Rattle.mas_complex.specs.CallCounts.{PairState}
 use Rattle.member_node.specs.declared.member.NodeNo.{NodeNo}
 use Rattle.member_node.specs.declared.member.NodeNo.TheVariants as no_node
 use Rattle.member_node.specs.Calls.{Apart, Course}
@@ -34,9 +35,9 @@ ResetsTo (Err no_node.ConsoleFault) batches is1 is2 from now = ⊥
 ResetsTo (Err no_node.Halted) batches is1 is2 from now = ⊥
 
 -- Restart as the first batch, and what it leaves as it was.
-pub record HasReset {T : Type 0} (told : Type 0) (batches : List Batch) (was1 is1 was2 is2 : Bool) (old new : View)
+pub record HasReset {T : Type 0} (told : Type 0) (batches : List Batch) (old new : PairState)
     (result : Result T NodeNo) : Type 0 where
-  pub course : Course was1 is1 was2 is2 old new
-  pub loses : (d : Dev) → new.loses d ≡ old.loses d
-  pub ends : ResetsTo result batches is1 is2 old.now new.now
-  pub apart : told → Apart old new
+  pub course : Course old new
+  pub loses : (d : Dev) → new.view.loses d ≡ old.view.loses d
+  pub ends : ResetsTo result batches new.first new.second old.view.now new.view.now
+  pub apart : told → Apart old.view new.view

@@ -1,5 +1,5 @@
 //! How a run ends.
-ghost use Rattle.std.specs.Prelude.{◌≡◌, []};
+ghost use Rattle.std.specs.Prelude.{◌≡◌};
 ghost use Rattle.ckpt_form.specs.Form.{form_reads};
 ghost use Rattle.mas_complex.specs.Headline.{Headline};
 ghost use Rattle.mas_complex.specs.Journals.{end_of};

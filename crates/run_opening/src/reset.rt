@@ -1,20 +1,19 @@
 //! Restart of all members, as the first batch of a warm run.
 ghost use Rattle.std.specs.Prelude.{◌≡◌, ℕ, ◌+◌, ◌≤◌, ◌<◌, ◌^◌, [], length, true, false, None, OnOk, IsErrOf};
-ghost use Rattle.mas_types.specs.declared.ids.Dev.TheVariants.{Ckpt1, Ckpt2};
 ghost use Rattle.mas_types.specs.Ids.{nobody};
 ghost use Rattle.mas_types.specs.declared.queues.Queue.{Queue};
-ghost use Rattle.spool_plant.specs.View.{disk_now};
 ghost use Rattle.spool_volumes.specs.Volumes.{AreRoomy};
 ghost use Rattle.ckpt_tables.specs.Shape.{HasSpelling};
 ghost use Rattle.duplex_pair.specs.Halves.{SomeAlive};
 ghost use Rattle.duplex_pair.specs.Outcomes.{least_room};
 ghost use Rattle.mas_complex.specs.Journals.{end_of};
 ghost use Rattle.mas_complex.specs.Past.{noted_by, values_of};
+ghost use Rattle.mas_complex.specs.CallCounts.{pair_of};
 ghost use Rattle.queue_effect.specs.Standing.{AreFit};
 ghost use Rattle.queue_telling.specs.Orders.{HaveOrders};
 ghost use Rattle.queue_telling.specs.Telling.{Tell, TellSound};
 ghost use Rattle.member_node.specs.Batches.{CanDraw, DrawsAnew, HasDone};
-ghost use Rattle.member_node.specs.Copies.{RestsAt};
+ghost use Rattle.member_node.specs.Copies.{IsAtRest, first_of, second_of};
 ghost use Rattle.member_node.specs.Reads.{IsSettle};
 ghost use Rattle.member_node.specs.declared.member.NodeNo.TheVariants as no_node;
 ghost use Rattle.run_opening.specs.Resets.{restart_entries, HasReset};
@@ -67,12 +66,8 @@ fn make_room<P: Plant + Drop, C: Steady + Drop>(
     requires free { complex.old.book.holder ≡ nobody }
     requires none { complex.old.current ≡ None }
     requires some { SomeAlive complex.old.pair.first.alive complex.old.pair.second.alive }
-    requires rests1 { RestsAt P.tells complex.old.pair.first.alive complex.old.first
-        (C.count complex.old.pair.first.copy) member.now.checkpoint.pages
-        (C.reads (disk_now (P.view complex.old.plant) Ckpt1).bytes) }
-    requires rests2 { RestsAt P.tells complex.old.pair.second.alive complex.old.second
-        (C.count complex.old.pair.second.copy) member.now.checkpoint.pages
-        (C.reads (disk_now (P.view complex.old.plant) Ckpt2).bytes) }
+    requires rests1 { IsAtRest P.tells (first_of complex.old) member.now.checkpoint.pages }
+    requires rests2 { IsAtRest P.tells (second_of complex.old) member.now.checkpoint.pages }
     ensures base { complex.new.base ≡ complex.old.base }
     ensures printed { complex.new.printed ≡ complex.old.printed }
     ensures since { complex.new.since ≡ complex.old.since }
@@ -83,19 +78,13 @@ fn make_room<P: Plant + Drop, C: Steady + Drop>(
     ensures placed { complex.new.placed ≡ complex.old.placed }
     ensures level { complex.new.level ≡ complex.old.level }
     ensures had { complex.new.had ≡ complex.old.had }
-    ensures rests1 { OnOk result (RestsAt P.tells complex.new.pair.first.alive complex.new.first
-        (C.count complex.new.pair.first.copy) member.now.checkpoint.pages
-        (C.reads (disk_now (P.view complex.new.plant) Ckpt1).bytes)) }
-    ensures rests2 { OnOk result (RestsAt P.tells complex.new.pair.second.alive complex.new.second
-        (C.count complex.new.pair.second.copy) member.now.checkpoint.pages
-        (C.reads (disk_now (P.view complex.new.plant) Ckpt2).bytes)) }
+    ensures rests1 { OnOk result (IsAtRest P.tells (first_of complex.new) member.now.checkpoint.pages) }
+    ensures rests2 { OnOk result (IsAtRest P.tells (second_of complex.new) member.now.checkpoint.pages) }
     ensures room1 { OnOk result (complex.new.pair.first.alive ≡ true → DrawsAnew member.now.checkpoint
         → 1 ≤ C.room complex.new.pair.first.copy) }
     ensures room2 { OnOk result (complex.new.pair.second.alive ≡ true → DrawsAnew member.now.checkpoint
         → 1 ≤ C.room complex.new.pair.second.copy) }
-    ensures settle { IsSettle P.tells 0 complex.old.pair.first.alive complex.new.pair.first.alive
-        complex.old.pair.second.alive complex.new.pair.second.alive (P.view complex.old.plant)
-        (P.view complex.new.plant) result }
+    ensures settle { IsSettle P.tells 0 (pair_of complex.old) (pair_of complex.new) result }
     ensures operator { IsErrOf result no_node.Halted → ⊥ }
     ensures same { (DrawsAnew member.now.checkpoint → ⊥) → complex.new ≡ complex.old }
     ensures roomy { 1 ≤ least_room complex.old.pair.first.alive complex.old.pair.second.alive
@@ -128,12 +117,8 @@ pub(crate) fn restart<P: Plant + Drop, C: Steady + Drop>(
     requires fit { AreFit operator.old.checkpoint.tables }
     requires orders { HaveOrders operator.old.checkpoint.tables }
     requires sound { TellSound operator.old.checkpoint.tables }
-    requires rests1 { RestsAt P.tells complex.old.pair.first.alive complex.old.first
-        (C.count complex.old.pair.first.copy) operator.old.checkpoint.pages
-        (C.reads (disk_now (P.view complex.old.plant) Ckpt1).bytes) }
-    requires rests2 { RestsAt P.tells complex.old.pair.second.alive complex.old.second
-        (C.count complex.old.pair.second.copy) operator.old.checkpoint.pages
-        (C.reads (disk_now (P.view complex.old.plant) Ckpt2).bytes) }
+    requires rests1 { IsAtRest P.tells (first_of complex.old) operator.old.checkpoint.pages }
+    requires rests2 { IsAtRest P.tells (second_of complex.old) operator.old.checkpoint.pages }
     requires order { operator.old.checkpoint.tables.order < 2 ^ 62 }
     requires level { complex.old.level + 1 < 2 ^ 63 }
     requires roomy { P.tells → AreRoomy (P.view complex.old.plant) complex.old.base.config }
@@ -143,10 +128,8 @@ pub(crate) fn restart<P: Plant + Drop, C: Steady + Drop>(
     ensures book { complex.new.book ≡ complex.old.book }
     ensures id { operator.new.id ≡ operator.old.id }
     ensures unreserved { OnOk result (complex.new.reserved ≡ None) }
-    ensures reset { HasReset P.tells
-        (end_of complex.new.placed complex.new.current complex.new.journal.batches)
-        complex.old.pair.first.alive complex.new.pair.first.alive complex.old.pair.second.alive
-        complex.new.pair.second.alive (P.view complex.old.plant) (P.view complex.new.plant) result }
+    ensures reset { HasReset P.tells (end_of complex.new.placed complex.new.current complex.new.journal.batches)
+        (pair_of complex.old) (pair_of complex.new) result }
     ensures fresh { OnOk result (length complex.new.journal.batches ≡ 1) }
     ensures printed { OnOk result (complex.new.printed ≡ complex.old.printed) }
     ensures noted { OnOk result ((m : ℕ) → 0 < m

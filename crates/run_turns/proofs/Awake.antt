@@ -1,27 +1,23 @@
 -- Where there is no dormancy: nobody gave the lock up after the tick of the book, so no try comes too early.
-use Rattle.std.proofs.Common.{◌≡◌, ◌≢◌, ℕ, zero, suc, ◌+◌, ◌-◌, ◌≤◌, ◌||◌, nat_lt, min, Bool, true, false, if◌then◌else◌, List, [], ◌∷◌, ◌++◌, drop, get_or, length, replicate, set, take, Option, Some, None, is_some, refl, ◌∙◌, ap, arith}
+use Rattle.std.proofs.Common.{◌≡◌, ◌≢◌, ℕ, zero, suc, ◌+◌, ◌-◌, ◌≤◌, ◌||◌, nat_lt, min, Bool, true, false, if◌then◌else◌, List, [], ◌∷◌, ◌++◌, drop, get_or, replicate, set, Option, Some, None, is_some, refl, ◌∙◌, ap, arith}
 use Rattle.std.proofs.lemmas.Bool.Decides.{nat_tests}
 use Rattle.mas_types.specs.declared.ids.MemberId.{MemberId}
-use Rattle.mas_types.specs.declared.journals.Entry.{Entry}
 use Rattle.mas_types.specs.Ids.{is_somebody, nobody}
 use Rattle.mas_types.specs.Queue.{is_member}
 use Rattle.lock_cycle.specs.declared.answers.LockNo.TheVariants as lock
 use Rattle.lock_cycle.specs.declared.standings.Standing.{Standing}
-use Rattle.lock_cycle.specs.Books.{Book, after_free, after_seize, after_stop, after_try, beginner, granted, is_dormant, is_holder, is_stopped, left_of, noted, seize_refusal, standing, tick_most, ticked, try_refusal, wakes, wakes_at, with_holder, with_standing}
+use Rattle.lock_cycle.specs.Books.{Book, after_free, after_seize, after_spend, after_stop, after_try, beginner, granted, is_dormant, is_holder, is_stopped, left_of, noted, seize_refusal, standing, tick_most, ticked, try_refusal, wakes, wakes_at, with_holder, with_standing}
 use Rattle.script_lang.specs.declared.types.Ask.{Ask}
 use Rattle.script_lang.specs.declared.types.Ask.TheVariants as ask
 use Rattle.script_lang.specs.declared.types.Step.{Step}
-use Rattle.step_turns.specs.declared.states.Release.{Release}
-use Rattle.step_turns.specs.declared.states.Release.TheVariants.{Inner, Keep, Outer}
-use Rattle.step_turns.specs.Entries.{all_entries}
-use Rattle.run_turns.specs.Sights.{Cause, Cut, Ends, Halt, Saying, Sight, Stops, Waiting, Writing, clear}
+use Rattle.run_turns.specs.Sights.{Sight, clear}
 use Rattle.run_turns.specs.Scenes.{Armed, Scene, scene_of}
-use Rattle.run_turns.specs.Admissions.{Admission, Denied, Frees, Locks, Plays, Refused, Replaces, Resets, TakesOver, Unplayed, admitted, asked, tried}
+use Rattle.run_turns.specs.Admissions.{Admission, Denied, admitted, asked}
 use Rattle.run_turns.specs.Awake.{AwakeRunsAreNotDormant, IsNotDormant, NoneIsDormant}
-use Rattle.run_turns.specs.Cuts.{Left, adds, adds_all, adds_first, book_cut, left_by, none_left, stopped_by}
 use Rattle.run_turns.specs.Givens.{RightIf}
-use Rattle.run_turns.specs.Pieces.{Piece, Play, after_piece, entered, play_of, released_by, spent}
+use Rattle.run_turns.specs.Pieces.{play_of}
 use Rattle.run_turns.specs.Steps.{is_up, played, played_as, played_ask, silent}
+use Rattle.run_turns.proofs.Keeping.{CallsKeep, left_keeps, tried_keeps}
 use Rattle.run_turns.proofs.Tests.{admitted_as, denied_by_the_book}
 
 -- STANDINGS
@@ -106,63 +102,17 @@ module _ (m : MemberId) where
   awake_seize : (b : Book) (of : MemberId) → IsAwake b → IsAwake (after_seize b m of)
   awake_seize b of awake = awake_if (is_some (seize_refusal b of)) b (granted b m) awake (awake_granted b awake)
 
-  awake_spent : (b : Book) (ess : List (List Entry)) → IsAwake b → IsAwake (spent b m ess)
-  awake_spent b ess awake = awake_with b (record (standing b m) { left = left_of b m - length (all_entries ess) }) (each_at b.tick b.members (m.0 - 1) awake.each) awake
+  awake_spent : (b : Book) (commands : ℕ) → IsAwake b → IsAwake (after_spend b m commands)
+  awake_spent b commands awake = awake_with b (record (standing b m) { left = left_of b m - commands }) (each_at b.tick b.members (m.0 - 1) awake.each) awake
 
-  awake_released : (r : Release) (b : Book) → IsAwake b → IsAwake (released_by r b m)
-  awake_released Keep b awake = awake
-  awake_released Inner b awake = awake_free b true awake
-  awake_released Outer b awake = awake_free b false awake
-
-  awake_piece : (b : Book) (p : Piece) → IsAwake b → IsAwake (after_piece b m p)
-  awake_piece b p awake = awake_released p.sitting.release (spent (entered b m) m p.sitting.batches)
-      (awake_spent (entered b m) p.sitting.batches (awake_try b true awake))
-
-  -- WHAT A LINE LEAVES
-
-  awake_adds : (locked : Bool) (l : Left) (p : Piece) → IsAwake l.book → IsAwake (adds m locked l p).book
-  awake_adds locked l p awake = awake_if locked (after_piece l.book m p) l.book (awake_piece l.book p awake) awake
-
-  awake_all : (locked : Bool) (ps : List Piece) (l : Left) → IsAwake l.book → IsAwake (adds_all m locked l ps).book
-  awake_all locked [] l awake = awake
-  awake_all locked (p ∷ ps) l awake = awake_all locked ps (adds m locked l p) (awake_adds locked l p awake)
-
-  awake_cut : (halt : Halt) (b : Book) (p : Piece) → IsAwake b → IsAwake (book_cut m halt b p)
-  awake_cut (Writing n k) b p awake = awake_try b true awake
-  awake_cut (Saying n tail) b p awake = awake_try b true awake
-  awake_cut (Waiting n tail) b p awake = awake_piece b p awake
-
-  awake_first : (locked : Bool) (halt : Halt) (ps : List Piece) (l : Left) → IsAwake l.book → IsAwake (adds_first m locked halt l ps).book
-  awake_first locked halt [] l awake = awake
-  awake_first locked halt (p ∷ ps) l awake = awake_if locked (book_cut m halt l.book p) l.book (awake_cut halt l.book p awake) awake
-
-  awake_cause : (why : Cause) (b : Book) → IsAwake b → IsAwake (stopped_by m why b)
-  awake_cause Stops b awake = awake_stop b awake
-  awake_cause Ends b awake = awake
-
-  awake_left : (cut : Option Cut) (play : Play) (count : ℕ) → IsAwake play.book → IsAwake (left_by m cut play count).book
-  awake_left None play count awake = awake_all play.locked play.pieces (none_left m play.book count) awake
-  awake_left (Some cut) play count awake =
-      let l = adds_all m play.locked (none_left m play.book count) (take cut.sittings play.pieces) in
-      awake_cause cut.cause (adds_first m play.locked cut.halt l (drop cut.sittings play.pieces)).book
-      (awake_first play.locked cut.halt (drop cut.sittings play.pieces) l
-      (awake_all play.locked (take cut.sittings play.pieces) (none_left m play.book count) awake))
-
-  awake_tried : (b : Book) (a : Admission) → IsAwake b → IsAwake (tried b m a)
-  awake_tried b (Refused sayer end) awake = awake
-  awake_tried b (Denied why) awake = awake_try b false awake
-  awake_tried b (Plays task) awake = awake_try b false awake
-  awake_tried b (Resets of) awake = awake_try b false awake
-  awake_tried b (Replaces dev) awake = awake_try b false awake
-  awake_tried b (TakesOver of) awake = awake_seize b of awake
-  awake_tried b Locks awake = awake_try b false awake
-  awake_tried b Frees awake = awake
-  awake_tried b Unplayed awake = awake
+  awake_keeps : CallsKeep m IsAwake
+  awake_keeps = record { tries = awake_try; seizes = awake_seize; frees = awake_free; spends = awake_spent }
 
 -- LINES
 
 awake_as : (S : Scene) (by : MemberId) (at : ℕ) (sight : Sight) (a : Admission) → IsAwake S.book → IsAwake (played_as S by at sight a).next.book
-awake_as S by at sight a awake = awake_left by sight.cut (play_of S by at sight a) (S.counts by) (awake_tried by S.book a awake)
+awake_as S by at sight a awake =
+    left_keeps by IsAwake (awake_keeps by) sight.cut (λ cut is why b awake. awake_stop by b awake) (play_of S by at sight a) (S.counts by) (tried_keeps by IsAwake (awake_keeps by) a S.book awake)
 
 awake_stopped : (up : Bool) (S : Scene) (b : Book) → IsAwake S.book → IsAwake b → IsAwake (if up then silent (record S { book = b }) else silent S).next.book
 awake_stopped true S b awake later = later

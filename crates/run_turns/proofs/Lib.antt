@@ -11,5 +11,7 @@ pub mod One
 pub mod Halts
 pub mod Firsts
 pub mod Givens
+pub mod Comes
+pub mod Keeping
 pub mod Awake
 pub mod GivenComputed

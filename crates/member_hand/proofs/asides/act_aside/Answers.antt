@@ -15,7 +15,7 @@ pub returns-in-SpoolDeck-clause-reader : goal.returns-in-SpoolDeck-clause-reader
 returns-in-SpoolDeck-clause-reader g c = rw c.in-SpoolDeck.is refl
 
 pub returns-in-SpoolDeck-clause-acts : goal.returns-in-SpoolDeck-clause-acts
-returns-in-SpoolDeck-clause-acts g c = rw c.in-SpoolDeck.is c.spool_deck.ensures.spools
+returns-in-SpoolDeck-clause-acts g c = rw c.in-SpoolDeck.is c.spool_deck.ensures
 
 -- A JOB'S TEXT
 
@@ -29,7 +29,7 @@ pub returns-in-ReadText-clause-reader : goal.returns-in-ReadText-clause-reader
 returns-in-ReadText-clause-reader g c = rw c.in-ReadText.is refl
 
 pub returns-in-ReadText-clause-acts : goal.returns-in-ReadText-clause-acts
-returns-in-ReadText-clause-acts g c = rw c.in-ReadText.is c.read_job_text.ensures.reads
+returns-in-ReadText-clause-acts g c = rw c.in-ReadText.is c.read_job_text.ensures
 
 -- A JOB'S OUTPUTS
 
@@ -47,7 +47,7 @@ returns-in-SpoolOutputs-clause-reader g c = rw c.in-SpoolOutputs.is refl
 pub returns-in-SpoolOutputs-clause-acts : goal.returns-in-SpoolOutputs-clause-acts
 returns-in-SpoolOutputs-clause-acts g c =
     rw c.in-SpoolOutputs.is
-    (subst (λ (specs : List OutSpec). WritesOutputs c.args.complex.now c.write_outputs.new.complex c.args.member.now specs c.write_outputs.result) c.as_slice.ensures c.write_outputs.ensures.writes)
+    (subst (λ (specs : List OutSpec). WritesOutputs c.args.complex.now c.write_outputs.new.complex c.args.member.now specs c.write_outputs.result) c.as_slice.ensures c.write_outputs.ensures)
 
 -- AN OUTPUT'S LINES
 
@@ -61,7 +61,7 @@ pub returns-in-PrintLines-clause-reader : goal.returns-in-PrintLines-clause-read
 returns-in-PrintLines-clause-reader g c = rw c.in-PrintLines.is refl
 
 pub returns-in-PrintLines-clause-acts : goal.returns-in-PrintLines-clause-acts
-returns-in-PrintLines-clause-acts g c = rw c.in-PrintLines.is c.print_next_lines.ensures.prints
+returns-in-PrintLines-clause-acts g c = rw c.in-PrintLines.is c.print_next_lines.ensures
 
 -- AN EXCHANGE
 
@@ -89,7 +89,7 @@ pub returns-in-SpoolArrival-clause-reader : goal.returns-in-SpoolArrival-clause-
 returns-in-SpoolArrival-clause-reader g c = rw c.in-SpoolArrival.is refl
 
 pub returns-in-SpoolArrival-clause-acts : goal.returns-in-SpoolArrival-clause-acts
-returns-in-SpoolArrival-clause-acts g c = rw c.in-SpoolArrival.is c.spool_deck-in-SpoolArrival.ensures.spools
+returns-in-SpoolArrival-clause-acts g c = rw c.in-SpoolArrival.is c.spool_deck-in-SpoolArrival.ensures
 
 -- AN ACKNOWLEDGEMENT
 

@@ -61,7 +61,7 @@ pub sit_work-requires-clause-units : goal.sit_work-requires-clause-units
 sit_work-requires-clause-units g c = let few = rw c.in-Work.is at c.requires.few in omega (arith, few)
 
 pub returns-in-Work-clause-sat : goal.returns-in-Work-clause-sat
-returns-in-Work-clause-sat g c = rw c.in-Work.is (c.sit_work.ensures.fresh refl)
+returns-in-Work-clause-sat g c = rw c.in-Work.is (c.sit_work.ensures.fresh _ refl refl)
 
 pub returns-in-Work-clause-again : goal.returns-in-Work-clause-again
 returns-in-Work-clause-again g c =

@@ -8,7 +8,7 @@ use Rattle.member_lines.proofs.Closing.{denied_so, refused_tested}
 use Rattle.member_lines.proofs.closings.say_denied.Goals as goal
 
 pub say_refused-requires-clause-says : goal.say_refused-requires-clause-says
-say_refused-requires-clause-says g c = inr (refl, c.requires.member, c.requires.up)
+say_refused-requires-clause-says g c = inr (refl, c.requires.may.member, c.requires.may.up)
 
 pub say_refused-requires-clause-named : goal.say_refused-requires-clause-named
 say_refused-requires-clause-named g c = subst (λ (e : Closing). AreMembersNamed e) (sym c.closing_of.ensures) c.requires.named

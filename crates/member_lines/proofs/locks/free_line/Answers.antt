@@ -9,7 +9,7 @@ use Rattle.member_lines.proofs.Holding.{frees_as, said_so, says_ok, unsaid_so}
 use Rattle.member_lines.proofs.locks.free_line.Goals as goal
 
 pub say_refused-requires-clause-says : goal.say_refused-requires-clause-says
-say_refused-requires-clause-says g c = inr (refl, c.requires.member, c.requires.up)
+say_refused-requires-clause-says g c = inr (refl, c.requires.may.member, c.requires.may.up)
 
 pub returns-in-Ok-clause-closed : goal.returns-in-Ok-clause-closed
 returns-in-Ok-clause-closed g c S tested =

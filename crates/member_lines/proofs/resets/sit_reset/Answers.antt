@@ -1,4 +1,4 @@
-use Rattle.std.proofs.Common.{◌≡◌, ◌∙◌, ◌+◌, ◌<◌, ◌^◌, ◌≤◌, ℕ, false, List, [], ◌∷◌, ap, refl, subst, sym, arith}
+use Rattle.std.proofs.Common.{◌≡◌, ◌∙◌, ◌<◌, ◌^◌, ◌≤◌, ℕ, false, List, [], ◌∷◌, ap, refl, subst, sym, arith}
 use Rattle.std.proofs.Math.Logic.{∥∥₁_map}
 use Rattle.mas_types.specs.declared.answers.Closing.{Closing}
 use Rattle.mas_types.specs.declared.commands.Command.{Command}
@@ -18,17 +18,17 @@ use Rattle.member_node.proofs.WriteLemmas.{none_out}
 use Rattle.member_steps.specs.Saying.{TellKept}
 use Rattle.member_steps.specs.Steps.{AreKeptFrom, entry_of, entry_with, reply_to}
 use Rattle.member_steps.proofs.FateLemmas.{closing_tells}
-use Rattle.member_steps.proofs.StepLemmas.{if_ok, may_alike, only_entry, some_of_one, step_texts}
+use Rattle.member_steps.proofs.StepLemmas.{if_ok, only_entry, some_of_one, step_texts}
 use Rattle.member_sittings.proofs.FinishLemmas.{one_of}
 use Rattle.member_sittings.specs.Ends.{ends_in}
 use Rattle.member_sittings.specs.Sat.{IsSatOn}
-use Rattle.member_sittings.specs.Whole.{Commanded}
 use Rattle.member_sittings.proofs.KeepLemmas.{sat_none}
-use Rattle.member_sittings.proofs.SeatLemmas.{gives_one}
+use Rattle.member_sittings.proofs.SeatLemmas.{keeps_one}
 use Rattle.member_sittings.proofs.TurnLemmas.{all_of_one}
 use Rattle.step_turns.specs.declared.states.State.TheVariants.{Told}
 use Rattle.run_turns.specs.Pieces.{piece_of, reset_closing}
 use Rattle.member_lines.proofs.Resetting.{closes_named, reset_sits}
+use Rattle.member_sittings.specs.Whole.{queue_of}
 use Rattle.member_lines.proofs.resets.sit_reset.Goals as goal
 
 pub do_command-requires-clause-order : goal.do_command-requires-clause-order
@@ -92,57 +92,45 @@ one_line-requires-clause-named g c =
     let said : c.last_reply.result.now ≡ p.0 = c.last_reply.ensures ∙ ap last_reply one in
     subst (λ (z : Closing). AreMembersNamed z) (sym (c.reset_closing-end.ensures ∙ ap (reset_closing c.args.of) said)) (closes_named c.args.of p.0 c.requires.of p.2)
 
-pub end_sitting-requires-clause-may : goal.end_sitting-requires-clause-may
-end_sitting-requires-clause-may g c =
+pub end_sitting-requires : goal.end_sitting-requires
+end_sitting-requires g c =
     let P = g.P.Plant in
-    let C = g.C.Copying in
-    let x = c.args.complex.now in
+    let x = parts_of c.args.complex.now in
     let m = c.args.member.now in
     let n = c.do_command.new.self in
     let e = c.do_command.ensures in
     let k = c.in-Ok.ensures in
     let d : Command = command.Reset c.args.of in
-    let at = c.args.holder.step in
-    let sits = c.requires.may.sits in
-    let b = sits.seat.between in
+    let h = c.args.holder in
+    let b = c.requires.may.sits.seat.between in
     let may = c.requires.givable in
     let v = P.view x.plant in
-    let Q : Queue = run x.base (kept_all x.journal.batches) in
+    let Q : Queue = queue_of x in
     let p = k.pushed in
-    let one : n.batch ≡ entry_with m.id at d p.0 ∷ [] = only_entry m.batch n.batch (entry_with m.id at d p.0) p.1 b.nothing in
-    let did : Commanded m n = record {
-      id = e.id;
-      room = e.room;
-      here = e.behind ∙ sits.seat.still.here;
-      level = e.level;
-      levels = e.levels;
-      pages = e.pages;
-      fresh = e.fresh;
-      config = e.config;
-      spelling = e.spelling;
-      fit = e.fit;
-    } in
-    let bounds = c.requires.may.bounds in
-    let high = bounds.high in
-    let reached = bounds.reached in
-    record {
-      gives = gives_one P C (parts_of x) m n did at sits d p.0 one may.may may.fit may.unmarked e.order k.done
-          (λ t. k.sound (b.sound t) (may_alike m.checkpoint.tables x.base (kept_all x.journal.batches) (b.sound t) (b.queue t) m.id d may.may))
-          (λ t. ∥∥₁_map (c.kept_texts.ensures.kept t) (λ has. step_texts c.law_of_texts.ensures.texts c.law_of_texts.ensures.told (lost_now v) (spools_at v v.now) x.base.config.groups x.base x.base x.journal.batches x.journal.batches
-          m.checkpoint.tables m.id at d n.batch may.plain (b.sound t) (b.queue t) refl refl (only_entry m.batch n.batch (entry_of Q m.id at d) (k.entry Q (b.queue t)) b.nothing) has));
-      some = some_of_one n.batch (entry_with m.id at d p.0) one;
-      bounds = record { high = subst (λ (i : ℕ). i + 1 < 2 ^ 63) (sym e.level) (omega (arith, high)); reached = omega (arith, reached); first = bounds.first; second = bounds.second };
-      holder = c.requires.may.holder ∙ sym e.id;
-    }
-
-pub end_sitting-requires-clause-kept : goal.end_sitting-requires-clause-kept
-end_sitting-requires-clause-kept g c told =
-    let x = c.args.complex.now in
-    let h = c.args.holder in
     let now = (g.P.Plant.view x.plant).now in
     let small : c.args.holder.step < 2 ^ 64 = omega arith in
-    let kept : AreKeptFrom h.by h.step x.journal.batches now = subst (λ (i : MemberId). AreKeptFrom i h.step x.journal.batches now) (sym c.requires.may.holder) c.requires.may.sits.step in
-    subst (λ (ls : List (List ℕ)). TellKept ls x.journal.batches now) (sym c.in-Ok-one_line.ensures) (closing_tells h.by h.step small x.journal.batches now kept c.reset_closing-end.result)
+    let kept : AreKeptFrom h.by h.step x.batches now = subst (λ (i : MemberId). AreKeptFrom i h.step x.batches now) (sym c.requires.may.holder) c.requires.may.sits.step in
+    record {
+      may = keeps_one P g.C.Copying x m n h d c.requires.may
+          (record {
+            did = record { id = e.id; room = e.room; here = e.behind ∙ c.requires.may.sits.seat.still.here; fresh = e.fresh; level = e.level; levels = e.levels; pages = e.pages; config = e.config; spelling = e.spelling; fit = e.fit };
+            reply = p.0;
+            batch = only_entry m.batch n.batch (entry_with m.id h.step d p.0) p.1 b.nothing;
+            told = λ t. only_entry m.batch n.batch (entry_of Q m.id h.step d) (k.entry Q (b.queue t)) b.nothing;
+            order = e.order;
+            done = k.done;
+            sound = λ t. k.sound;
+          })
+          (record {
+            may = may.may;
+            fit = may.fit;
+            unmarked = may.unmarked;
+            texts = λ t. ∥∥₁_map (c.kept_texts.ensures.kept t) (λ has. step_texts c.law_of_texts.ensures.texts c.law_of_texts.ensures.told (lost_now v) (spools_at v v.now) x.base.config.groups x.base x.base x.batches x.batches
+                m.checkpoint.tables m.id h.step d (entry_of Q m.id h.step d ∷ []) may.plain (b.sound t) (b.queue t) refl refl refl has);
+          });
+      kept = λ told. subst (λ (ls : List (List ℕ)). TellKept ls x.batches now) (sym c.in-Ok-one_line.ensures) (closing_tells h.by h.step small x.batches now kept c.reset_closing-end.result);
+      quiet = tt;
+    }
 
 pub returns-clause-resets : goal.returns-clause-resets
 returns-clause-resets g c =

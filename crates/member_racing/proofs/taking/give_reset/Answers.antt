@@ -1,4 +1,4 @@
-use Rattle.std.proofs.Common.{◌≡◌, ◌∙◌, ◌+◌, ◌<◌, ◌^◌, ℕ, List, [], ◌∷◌, ap, refl, subst, sym, arith}
+use Rattle.std.proofs.Common.{◌≡◌, ◌∙◌, ℕ, List, [], ◌∷◌, ap, refl, subst, sym, arith}
 use Rattle.std.proofs.Math.Logic.{∥∥₁_map}
 use Rattle.mas_types.specs.declared.commands.Command.{Command}
 use Rattle.mas_types.specs.declared.commands.Command.TheVariants as command
@@ -12,13 +12,12 @@ use Rattle.mas_complex.specs.Parts.{parts_of}
 use Rattle.mas_complex.specs.Texts.{lost_now, spools_at}
 use Rattle.member_node.proofs.WriteLemmas.{none_out}
 use Rattle.member_steps.specs.Steps.{entry_of, entry_with, reply_to}
-use Rattle.member_steps.proofs.StepLemmas.{if_ok, may_alike, only_entry, some_of_one, step_texts}
+use Rattle.member_steps.proofs.StepLemmas.{if_ok, only_entry, step_texts}
 use Rattle.member_decks.proofs.FinishLemmas.{one_of}
 use Rattle.member_sittings.specs.Ends.{ends_in}
 use Rattle.member_sittings.specs.Sat.{IsSatAs, IsSatOn}
-use Rattle.member_sittings.specs.Whole.{Commanded}
 use Rattle.member_sittings.proofs.KeepLemmas.{sat_none}
-use Rattle.member_sittings.proofs.SeatLemmas.{gives_one}
+use Rattle.member_sittings.proofs.SeatLemmas.{keeps_one}
 use Rattle.member_sittings.proofs.TurnLemmas.{all_of_one}
 use Rattle.step_turns.specs.Sittings.{Sitting}
 use Rattle.step_turns.specs.declared.states.Release.TheVariants.{Inner}
@@ -26,6 +25,7 @@ use Rattle.step_turns.specs.declared.states.State.TheVariants.{Told}
 use Rattle.race_turns.specs.Turns.{reset_sitting}
 use Rattle.member_steps.specs.Saying.{TellKept}
 use Rattle.member_sittings.proofs.Telling.{tells_none}
+use Rattle.member_sittings.specs.Whole.{queue_of}
 use Rattle.member_racing.proofs.taking.give_reset.Goals as goal
 
 pub do_command-requires-clause-order : goal.do_command-requires-clause-order
@@ -48,55 +48,43 @@ returns-in_default-clause-gave g c =
       sat = sat_none P h.by h Told [] (parts_of x) (e ∷ []) (none_out x.journal.batches x.journal.batches x.placed x.current refl b.unplaced b.none);
     }
 
-pub end_sitting-requires-clause-may : goal.end_sitting-requires-clause-may
-end_sitting-requires-clause-may g c =
+pub end_sitting-requires : goal.end_sitting-requires
+end_sitting-requires g c =
     let P = g.P.Plant in
-    let C = g.C.Copying in
-    let x = c.args.complex.now in
+    let x = parts_of c.args.complex.now in
     let m = c.args.member.now in
     let n = c.do_command.new.self in
     let e = c.do_command.ensures in
     let k = c.in-Ok.ensures in
     let d : Command = command.Reset c.args.of in
-    let at = c.args.holder.step in
-    let sits = c.requires.may.sits in
-    let b = sits.seat.between in
+    let h = c.args.holder in
+    let b = c.requires.may.sits.seat.between in
     let may = c.requires.givable in
     let v = P.view x.plant in
-    let Q : Queue = run x.base (kept_all x.journal.batches) in
+    let Q : Queue = queue_of x in
     let p = k.pushed in
-    let one : n.batch ≡ entry_with m.id at d p.0 ∷ [] = only_entry m.batch n.batch (entry_with m.id at d p.0) p.1 b.nothing in
-    let did : Commanded m n = record {
-      id = e.id;
-      room = e.room;
-      here = e.behind ∙ sits.seat.still.here;
-      level = e.level;
-      levels = e.levels;
-      pages = e.pages;
-      fresh = e.fresh;
-      config = e.config;
-      spelling = e.spelling;
-      fit = e.fit;
-    } in
-    let bounds = c.requires.may.bounds in
-    let high = bounds.high in
-    let reached = bounds.reached in
-    record {
-      gives = gives_one P C (parts_of x) m n did at sits d p.0 one may.may may.fit may.unmarked e.order k.done
-          (λ t. k.sound (b.sound t) (may_alike m.checkpoint.tables x.base (kept_all x.journal.batches) (b.sound t) (b.queue t) m.id d may.may))
-          (λ t. ∥∥₁_map (c.kept_texts.ensures.kept t) (λ has. step_texts c.law_of_texts.ensures.texts c.law_of_texts.ensures.told (lost_now v) (spools_at v v.now) x.base.config.groups x.base x.base x.journal.batches x.journal.batches
-          m.checkpoint.tables m.id at d n.batch may.plain (b.sound t) (b.queue t) refl refl (only_entry m.batch n.batch (entry_of Q m.id at d) (k.entry Q (b.queue t)) b.nothing) has));
-      some = some_of_one n.batch (entry_with m.id at d p.0) one;
-      bounds = record { high = subst (λ (i : ℕ). i + 1 < 2 ^ 63) (sym e.level) (omega (arith, high)); reached = omega (arith, reached); first = bounds.first; second = bounds.second };
-      holder = c.requires.may.holder ∙ sym e.id;
-    }
-
--- nothing is said
-pub end_sitting-requires-clause-kept : goal.end_sitting-requires-clause-kept
-end_sitting-requires-clause-kept g c told =
-    let x = c.args.complex.now in
     let now = (g.P.Plant.view x.plant).now in
-    subst (λ (ls : List (List ℕ)). TellKept ls x.journal.batches now) (sym c.new-lines.ensures) (tells_none x.journal.batches now)
+    record {
+      may = keeps_one P g.C.Copying x m n h d c.requires.may
+          (record {
+            did = record { id = e.id; room = e.room; here = e.behind ∙ c.requires.may.sits.seat.still.here; fresh = e.fresh; level = e.level; levels = e.levels; pages = e.pages; config = e.config; spelling = e.spelling; fit = e.fit };
+            reply = p.0;
+            batch = only_entry m.batch n.batch (entry_with m.id h.step d p.0) p.1 b.nothing;
+            told = λ t. only_entry m.batch n.batch (entry_of Q m.id h.step d) (k.entry Q (b.queue t)) b.nothing;
+            order = e.order;
+            done = k.done;
+            sound = λ t. k.sound;
+          })
+          (record {
+            may = may.may;
+            fit = may.fit;
+            unmarked = may.unmarked;
+            texts = λ t. ∥∥₁_map (c.kept_texts.ensures.kept t) (λ has. step_texts c.law_of_texts.ensures.texts c.law_of_texts.ensures.told (lost_now v) (spools_at v v.now) x.base.config.groups x.base x.base x.batches x.batches
+                m.checkpoint.tables m.id h.step d (entry_of Q m.id h.step d ∷ []) may.plain (b.sound t) (b.queue t) refl refl refl has);
+          });
+      kept = λ told. subst (λ (ls : List (List ℕ)). TellKept ls x.batches now) (sym c.new-lines.ensures) (tells_none x.batches now);
+      quiet = tt;
+    }
 
 pub returns-clause-gave : goal.returns-clause-gave
 returns-clause-gave g c =

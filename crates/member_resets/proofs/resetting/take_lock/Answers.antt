@@ -11,6 +11,7 @@ use Rattle.member_sittings.specs.Whole.{queue_of}
 use Rattle.member_resets.specs.Resetting.{IsTaken, IsUntaken, rested_in}
 use Rattle.member_steps.proofs.LowCopies.{kept_sound}
 use Rattle.member_resets.proofs.TakenCalmLemmas.{is_taken, others_stand, taken_base, taken_renewals, taken_since, unfound, untaken}
+use Rattle.mas_complex.proofs.Values.{given_of}
 use Rattle.member_resets.proofs.resetting.take_lock.Goals as goal
 use Rattle.member_resets.proofs.resetting.take_lock.Goals.{then-complex, else-complex}
 
@@ -44,7 +45,7 @@ returns-clause-taken g c =
     let e = c.in-Ok.ensures in
     let stands = c.requires.stands in
     let base : z.base ≡ x.base = ap (λ p. p.base) e.leaves in
-    let sound : P.tells → IsSound (queue_of z) = λ t. kept_sound z.base z.batches z.current (ap (λ p. p.current) e.leaves) (subst IsSound (sym base) (stands.base_sound t)) (∥∥₁_map (y.paper t (subst IsSound (sym base) (stands.base_sound t))) (λ k. k.given)) in
+    let sound : P.tells → IsSound (queue_of z) = λ t. kept_sound z.base z.batches z.current (ap (λ p. p.current) e.leaves) (subst IsSound (sym base) (stands.base_sound t)) (given_of y t (subst IsSound (sym base) (stands.base_sound t))) in
     let found : Fate = fate_of (level (bytes_of c.in-Ok.found)) x.level in
     let taken : IsTaken P C by of x (rested_in z) found =
     is_taken P C by of x z c.requires.by stands.stands c.in-Ok.found e.leaves e.acts e.tells c.args.complex.now.settled stands.begun stands.roomy sound y.settled in

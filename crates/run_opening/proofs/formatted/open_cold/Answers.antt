@@ -12,8 +12,8 @@ use Rattle.mas_types.specs.Starts.{empty_queue}
 use Rattle.ckpt_places.specs.declared.places.Place.TheVariants.{Before}
 use Rattle.duplex_pair.specs.Halves.{SomeAlive, pick}
 use Rattle.mas_complex.specs.Crash.{CopyAt, copy_of, setting}
-use Rattle.mas_complex.proofs.Each.{each}
-use Rattle.mas_complex.proofs.Making.{rested_copy}
+use Rattle.mas_complex.proofs.Basics.{each}
+use Rattle.mas_complex.proofs.Fates.{rested_copy}
 use Rattle.spool_plant.specs.declared.plant.Part.TheVariants.{Disk as DiskPart}
 use Rattle.mas_complex.specs.Past.{noted_by}
 use Rattle.spool_plant.specs.View.{View, World, disk_now}

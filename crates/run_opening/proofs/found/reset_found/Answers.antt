@@ -15,6 +15,7 @@ use Rattle.mas_complex.specs.Journals.{fated}
 use Rattle.mas_types.specs.declared.journals.Fate.TheVariants.{Kept}
 use Rattle.mas_complex.specs.Locking.{book_of}
 use Rattle.mas_complex.specs.Parts.{parts_of}
+use Rattle.mas_complex.specs.CallCounts.{pair_at, pair_of}
 use Rattle.member_node.specs.declared.checkpoint.Checkpoint.{Checkpoint}
 use Rattle.member_node.specs.declared.member.NodeNo.TheVariants as no_node
 use Rattle.member_node.proofs.WriteLemmas.{none_out}
@@ -177,7 +178,7 @@ returns-in-Ok-restart-clause-reset g c =
     record {
       base = k.base;
       since = k.since;
-      reset = subst (λ (bs : List Batch). HasReset P.tells bs x.pair.first.alive y.pair.first.alive x.pair.second.alive y.pair.second.alive v (P.view y.plant) (Ok tt)) out k.reset;
+      reset = subst (λ (bs : List Batch). HasReset P.tells bs (pair_at x.pair.first.alive x.pair.second.alive v) (pair_of y) (Ok tt)) out k.reset;
       between = lines_between y book c.in-Ok.members (rw k.base c.requires.config) (rw k.base c.requires.base_sound) fresh (subst (λ (n : ℕ). QuietFor y n) many k.quiet)
           (untold_since y v (k.since ∙ c.requires.since) u.goes (λ t. (k.reset.apart t).console))
           (one_earlier (fated Kept r.1 (restart_at r.0)) y.journal.batches y.current (sym out ∙ r.5) k.quiet.none (restart_earlier (fated Kept r.1 (restart_at r.0)) refl))

@@ -18,7 +18,7 @@ use Rattle.mas_complex.specs.Journals.{begun, end_of, entries_reserved, fated, k
 use Rattle.mas_complex.specs.Meaning.{run}
 use Rattle.mas_complex.specs.Parts.{parts_of}
 use Rattle.mas_complex.specs.Past.{noted_by, values_of}
-use Rattle.mas_complex.proofs.Noted.{noted_beside}
+use Rattle.mas_complex.proofs.Basics.{noted_beside}
 use Rattle.mas_complex.specs.Texts.{HasTexts, lost_now, spools_at}
 use Rattle.member_node.specs.Batches.{HasDone}
 use Rattle.ckpt_tables.specs.declared.tables.Tables.{Tables}

@@ -1,10 +1,10 @@
-use Rattle.mas_run.proofs.Names.{refl, ◌≡◌, ℕ, Some, ap, subst, sym, ◌∙◌, arith, slice_get, set, ◌++◌, ◌-◌, ◌<◌, ◌≤◌, Book, is_holder, is_stopped, IsMember, in_flight, parts_of, admission_of, IfRuns, AreKeptFrom, Holder, Admission, Denied, Frees, Locks, Plays, Refused, Replaces, Resets, TakesOver, Unplayed, AreReaders, task_place, members_most}
+use Rattle.mas_run.proofs.Names.{refl, ◌≡◌, ℕ, Some, ap, subst, sym, ◌∙◌, arith, slice_get, set, ◌++◌, ◌-◌, ◌<◌, ◌≤◌, Book, is_holder, is_stopped, IsMember, in_flight, parts_of, admission_of, IfRuns, AreKeptFrom, Holder, Admission, Denied, Frees, Locks, Plays, Refused, Replaces, Resets, TakesOver, Unplayed, AreReaders, task_place, members_most, few_of}
 use Rattle.mas_run.proofs.ArmLemmas.{InArm, arm_book, arm_inside, arm_kept, arm_within, has_turn, holder_same, in_arm, in_place, own_kept, tried_inside, done_at, may_seat}
 use Rattle.mas_run.proofs.BarelyLemmas.{short_done}
 use Rattle.mas_run.proofs.ClosesLemmas.{denied_done, denied_inside, denied_named, denied_up, freed_line, frees_none, refused_done, refused_sayer, none_held}
 use Rattle.mas_run.proofs.DoneLemmas.{may_play, may_reset, plays_done, reads_on, resets_done}
 use Rattle.mas_run.proofs.AskLemmas.{heard_task, on_line, place_inside, reads_line, still_done}
-use Rattle.mas_run.proofs.KnownLemmas.{few_asked, few_by, few_of}
+use Rattle.mas_run.proofs.KnownLemmas.{few_asked, few_by}
 use Rattle.mas_run.proofs.ReplacingLemmas.{may_replace, replaces_done}
 use Rattle.mas_run.proofs.SeatLemmas.{seats_done}
 use Rattle.mas_run.proofs.TakesLemmas.{may_take_over, takes_over}
@@ -74,24 +74,15 @@ returns-in-Refused g c =
 
 -- ITS MEMBER DIDN'T GET THE LOCK
 
-pub say_denied-requires-clause-member : goal.say_denied-requires-clause-member
-say_denied-requires-clause-member g c =
-    denied_inside (arm g (goal.at.say_denied-requires-clause-member g c).In-Ok (Denied c.in-Denied.why) (ap admission_of c.in-Denied.is))
-
-pub say_denied-requires-clause-up : goal.say_denied-requires-clause-up
-say_denied-requires-clause-up g c =
-    denied_up (arm g (goal.at.say_denied-requires-clause-up g c).In-Ok (Denied c.in-Denied.why) (ap admission_of c.in-Denied.is))
-
-pub say_denied-requires-clause-by : goal.say_denied-requires-clause-by
-say_denied-requires-clause-by g c = few_here g (goal.at.say_denied-requires-clause-by g c).In-Ok
+pub say_denied-requires-clause-may : goal.say_denied-requires-clause-may
+say_denied-requires-clause-may g c =
+    let i = (goal.at.say_denied-requires-clause-may g c).In-Ok in
+    let w = arm g i (Denied c.in-Denied.why) (ap admission_of c.in-Denied.is) in
+    record { member = denied_inside w; up = denied_up w; by = few_here g i; kept = λ told. arm_kept w }
 
 pub say_denied-requires-clause-named : goal.say_denied-requires-clause-named
 say_denied-requires-clause-named g c =
     denied_named (arm g (goal.at.say_denied-requires-clause-named g c).In-Ok (Denied c.in-Denied.why) (ap admission_of c.in-Denied.is))
-
-pub say_denied-requires-clause-kept : goal.say_denied-requires-clause-kept
-say_denied-requires-clause-kept g c told =
-    arm_kept (arm g (goal.at.say_denied-requires-clause-kept g c).In-Ok (Denied c.in-Denied.why) (ap admission_of c.in-Denied.is))
 
 pub returns-in-Denied : goal.returns-in-Denied
 returns-in-Denied g c =
@@ -102,18 +93,16 @@ returns-in-Denied g c =
 
 -- IT GIVES THE LOCK UP
 
-pub free_line-requires-clause-member : goal.free_line-requires-clause-member
-free_line-requires-clause-member g c =
-    let w = arm g (goal.at.free_line-requires-clause-member g c).In-Ok Frees (ap admission_of c.in-Frees.is) in
-    subst (λ (b : Book). IsMember b c.args.by) (sym (arm_book w)) (arm_inside w w.known_so.0)
-
-pub free_line-requires-clause-up : goal.free_line-requires-clause-up
-free_line-requires-clause-up g c =
-    let w = arm g (goal.at.free_line-requires-clause-up g c).In-Ok Frees (ap admission_of c.in-Frees.is) in
-    ap (λ (b : Book). is_stopped b c.args.by) (arm_book w) ∙ w.known_so.0.up
-
-pub free_line-requires-clause-by : goal.free_line-requires-clause-by
-free_line-requires-clause-by g c = few_here g (goal.at.free_line-requires-clause-by g c).In-Ok
+pub free_line-requires-clause-may : goal.free_line-requires-clause-may
+free_line-requires-clause-may g c =
+    let i = (goal.at.free_line-requires-clause-may g c).In-Ok in
+    let w = arm g i Frees (ap admission_of c.in-Frees.is) in
+    record {
+      member = subst (λ (b : Book). IsMember b c.args.by) (sym (arm_book w)) (arm_inside w w.known_so.0);
+      up = ap (λ (b : Book). is_stopped b c.args.by) (arm_book w) ∙ w.known_so.0.up;
+      by = few_here g i;
+      kept = λ told. arm_kept w;
+    }
 
 pub free_line-requires-clause-holds : goal.free_line-requires-clause-holds
 free_line-requires-clause-holds g c =
@@ -123,9 +112,6 @@ free_line-requires-clause-holds g c =
 pub free_line-requires-clause-none : goal.free_line-requires-clause-none
 free_line-requires-clause-none g c =
     frees_none (arm g (goal.at.free_line-requires-clause-none g c).In-Ok Frees (ap admission_of c.in-Frees.is))
-
-pub free_line-requires-clause-kept : goal.free_line-requires-clause-kept
-free_line-requires-clause-kept g c told = arm_kept (arm g (goal.at.free_line-requires-clause-kept g c).In-Ok Frees (ap admission_of c.in-Frees.is))
 
 pub returns-in-Frees : goal.returns-in-Frees
 returns-in-Frees g c =
@@ -225,7 +211,7 @@ reset_line-requires g c =
     let same = holder_same c.admit.new.complex.book c.args.by c.args.step c.holder_of-holder-in-Resets.result _ _ c.holder_of-holder-in-Resets.ensures c.grant_of-grant.ensures in
     record {
       may = may_reset (has_turn w w.known_so.0 w.known_so.2 refl s) c.holder_of-holder-in-Resets.result same c.in-Resets.of
-          (few_of c.args.self.now.complex.base w.is.config c.in-Resets.of w.known_so.1.member) (w.known_so.1.givable w.known_so.0.member);
+          (few_of c.args.self.now.complex.base.config c.in-Resets.of w.known_so.1.member w.is.config) (w.known_so.1.givable w.known_so.0.member);
     }
 
 pub returns-in-Resets : goal.returns-in-Resets
