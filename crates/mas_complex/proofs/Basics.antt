@@ -1,29 +1,17 @@
 -- Small facts: tests of numbers, what can't be, and equal values of equal options.
 pub use Rattle.std.proofs.lemmas.Option.{same_Some as some_is}
-pub use Rattle.std.proofs.lemmas.Bool.{eqb-false as apart_is, eqb-true as number_is, leb-true as is_le}
-use Rattle.mas_complex.proofs.Names.{◌≡◌, ◌≤◌, ◌<◌, nat_le, ℕ, Bool, true, false, arith, nat_tests, Place, Before, Opened, refl, ◌+◌, ◌*◌, ◌/◌, div-lt_iff_lt-mul, ◌≢◌, zero, suc, List, [], ◌∷◌, get_or, slice_set, Some, sym, ◌∙◌, ap, get_or-set_other, get_or_from_slice_get, Page, HasNoted, noted_by, Dev, Spool, Disk as DiskPart, View, Goes, IsCkpt, Replaces, subst, Ckpt1, Ckpt2, PlantGhosts, Ghosts as CopyGhosts, SteadyGhosts, other, Pair, Complex, Parts, parts_of, with_copy, with_half, ◌||◌, or_cases, ⊎_elim, pick, Half, IsBothLost, World, Throughout, next, either_way}
+pub use Rattle.std.proofs.lemmas.Bool.{eqb-false as apart_is, eqb-true as number_is}
+use Rattle.mas_complex.proofs.Names.{◌≡◌, ◌≤◌, ◌<◌, nat_le, ℕ, Bool, true, false, arith, nat_tests, Place, Before, Opened, refl, ◌+◌, ◌*◌, ◌/◌, div-lt_iff_lt-mul, ◌≢◌, zero, suc, List, [], ◌∷◌, get_or, slice_set, Some, sym, ◌∙◌, ap, get_or-set_other, get_or_from_slice_get, Page, HasNoted, noted_by, Dev, Spool, Disk as DiskPart, View, Goes, IsCkpt, Replaces, subst, Ckpt1, Ckpt2, PlantGhosts, Ghosts as CopyGhosts, SteadyGhosts, other, Pair, Complex, Parts, parts_of, with_copy, with_half, ◌||◌, or_cases, ⊎_elim, pick, Half, IsBothLost, World, Throughout, next, either_way, le_refl}
 use native.Mathlib.Nat.{ℕ_set}
 use mathlib.Core.Sum.{⊎_set}
 use mathlib.Core.List.{is_set}
 use Rattle.mas_types.specs.declared.journals.Entry.{Entry}
-use Rattle.mas_types.specs.declared.commands.Command.{Command}
-use Rattle.mas_types.specs.declared.commands.Refusal.{Refusal}
-use Rattle.mas_types.specs.declared.commands.Reply.{Reply}
-use Rattle.mas_types.specs.declared.commands.What.{What}
-use Rattle.mas_types.specs.declared.jobs.OutSpec.{OutSpec}
-use Rattle.mas_types.specs.declared.jobs.JobFields.{JobFields}
 
 pub no : (b : Bool) → b ≡ true → b ≡ false → ⊥
 no b p q = cc
 
 pub before_opened : (p : Place) → p ≡ Before → p ≡ Opened → ⊥
 before_opened p a b = cc
-
-pub is_lt : (t now : ℕ) → nat_le now t ≡ false → t < now
-is_lt t now e = grind (arith, nat_tests)
-
-pub is_now : (t now : ℕ) → t ≤ now → nat_le now t ≡ true → t ≡ now
-is_now t now a b = grind (arith, nat_tests)
 
 -- what is true stays so, if it was false wherever it is
 pub stays_true : (was is : Bool) → (was ≡ false → is ≡ false) → is ≡ true → was ≡ true
@@ -48,26 +36,8 @@ noted_beside had by m pages ne = noted_get (slice_set had by pages) m ∙ (get_o
 
 -- Entries are a set.
 
-what_set : IsSet What
-what_set = hlevel (ℕ_set, ⊎_set, is_set)
-
-fields_set : IsSet JobFields
-fields_set = hlevel (ℕ_set, ⊎_set, is_set)
-
-outspec_set : IsSet OutSpec
-outspec_set = hlevel (ℕ_set, ⊎_set, is_set)
-
-refusal_set : IsSet Refusal
-refusal_set = hlevel (ℕ_set, ⊎_set, is_set)
-
-reply_set : IsSet Reply
-reply_set = hlevel (ℕ_set, ⊎_set, is_set, refusal_set)
-
-command_set : IsSet Command
-command_set = hlevel (ℕ_set, ⊎_set, is_set, what_set, fields_set, outspec_set)
-
 pub entry_set : IsSet Entry
-entry_set = hlevel (ℕ_set, command_set, reply_set)
+entry_set = hlevel (ℕ_set, ⊎_set, is_set)
 
 pub entries_set : IsSet (List Entry)
 entries_set = is_set entry_set
@@ -83,6 +53,9 @@ pub record Passes (old new : View) : Type 0 where
 
 pub passes_of : (old new : View) → Goes old new → Passes old new
 passes_of old new goes = record { later = goes.later; past = goes.past; stops = goes.stops; volumes = λ n lost. goes.lost (DiskPart (Spool n)) lost }
+
+pub passes_none : (v : View) → Passes v v
+passes_none v = record { later = le_refl v.now; past = λ t le. refl; stops = λ m. le_refl (v.stops m); volumes = λ n lost. lost }
 
 -- WHAT IS SEEN OF THE WORLD that stays as it was at each moment: over no call, over two, and over one act
 module _ {A : Type 0} (see : World → A) where

@@ -1,52 +1,15 @@
 -- A journal at a moment, as it grows.
 pub use Rattle.paper_laws.proofs.Runs.{run_append}
-use Rattle.mas_complex.proofs.Names.{◌≡◌, ℕ, ◌≤◌, ◌<◌, ◌&&◌, ◌||◌, nat_le, nat_lt, Bool, true, false, if◌then◌else◌, List, [], ◌∷◌, ◌++◌, Option, Some, None, refl, subst, sym, ◌∙◌, ap, arith, append_assoc, nat_tests, append-nil, MemberId, Batch, Entry, Fate, Kept, Flying, kept, flying, kept_of, flying_of, kept_all, in_flight, entries_in, AreSettled, IsBegun, StepIsKept, has_step, IsPlace, is_kept, is_flying, suc, ◌-◌, length, slice_set, le_trans, remove, journal_most, with_last, without_last, end_of, Dropped, Queue, EndsInPlace, HasPlace, StandFor, AreToldAlike, le_prop, length-append, IsSome, All, All-nil, ∥∥₁_elim, IsGiven, AreGivenIn, past_batches, min, Result, Ok, Err, OnOk, OnErr, ◌⊎◌, Act, ActHalted as Halted, top, entries_reserved, entries_most, AreFew, is_of_member, reserved_after_stop, reserved_by, inl, inr, run, HaveReplies, AreReplied, after_batch, All-cons, is_mark, MayBegin, counts_of, map, slice_get, list_any, same_member, begins_anew, counts_anew, BriefEntry, brief_command, brief_of, command_of, entry_of}
+use Rattle.mas_complex.proofs.Names.{◌≡◌, ℕ, ◌≤◌, ◌<◌, ◌&&◌, ◌||◌, nat_le, nat_lt, Bool, true, false, if◌then◌else◌, List, [], ◌∷◌, ◌++◌, Option, Some, None, refl, subst, sym, ◌∙◌, ap, arith, append_assoc, nat_tests, append-nil, MemberId, Batch, Entry, Fate, Kept, Flying, kept, flying, kept_of, flying_of, kept_all, Account, account, turned, turned_last, max, in_flight, entries_in, AreSettled, IsBegun, StepIsKept, has_step, IsPlace, is_kept, is_flying, suc, ◌-◌, length, slice_set, le_trans, remove, journal_most, with_last, without_last, end_of, Dropped, Queue, EndsInPlace, HasPlace, StandFor, AreToldAlike, le_prop, length-append, IsSome, All, All-nil, ∥∥₁_elim, IsGiven, AreGivenIn, past_batches, min, Result, Ok, Err, OnOk, OnErr, ◌⊎◌, Act, ActHalted as Halted, top, entries_reserved, entries_most, AreFew, is_of_member, reserved_after_stop, reserved_by, inl, inr, run, HaveReplies, AreReplied, after_batch, All-cons, is_mark, MayBegin, counts_of, map, slice_get, list_any, same_member, begins_anew, counts_anew, BriefEntry, brief_command, brief_of, command_of, entry_of}
+use mathlib.Core.Bool.{and-false, and-true, or-true}
 use Rattle.mas_complex.proofs.Basics.{entries_set}
 use Rattle.paper_laws.proofs.Plain.{plain_allowed}
 use Rattle.mas_types.specs.declared.commands.Command.{Command}
 use Rattle.mas_types.specs.declared.commands.Command.TheVariants as command
 
-pub kept_append : (js ks : List Batch) (t : ℕ) → kept (js ++ ks) t ≡ kept js t ++ kept ks t
-kept_append [] ks t = refl
-kept_append (b ∷ js) ks t = ap (λ (l : List Entry). kept_of b t ++ l) (kept_append js ks t) ∙ sym (append_assoc (kept_of b t) (kept js t) (kept ks t))
-
-pub flying_append : (js ks : List Batch) (t : ℕ) → flying (js ++ ks) t ≡ flying js t ++ flying ks t
-flying_append [] ks t = refl
-flying_append (b ∷ js) ks t = ap (λ (l : List Entry). flying_of b t ++ l) (flying_append js ks t) ∙ sym (append_assoc (flying_of b t) (flying js t) (flying ks t))
-
 pub kept_all_append : (js ks : List Batch) → kept_all (js ++ ks) ≡ kept_all js ++ kept_all ks
 kept_all_append [] ks = refl
 kept_all_append (b ∷ js) ks = ap (λ (l : List Entry). (if is_kept b.fate then b.entries else []) ++ l) (kept_all_append js ks) ∙ sym (append_assoc (if is_kept b.fate then b.entries else []) (kept_all js) (kept_all ks))
-
-and_true : (c : Bool) → (c && true) ≡ c
-and_true true = refl
-and_true false = refl
-
-and_false : (c : Bool) → (c && false) ≡ false
-and_false true = refl
-and_false false = refl
-
-or_true : (c : Bool) → (c || true) ≡ true
-or_true true = refl
-or_true false = refl
-
--- settled batches at any later moment
-pub settled_kept : (js : List Batch) (now t : ℕ) → AreSettled js now → now ≤ t → kept js t ≡ kept_all js
-settled_kept [] now t are le = refl
-settled_kept (b ∷ js) now t are le =
-    let p : nat_le b.last t ≡ true = grind (arith, nat_tests, are.2) in
-    ap (λ (c : Bool). (if is_kept b.fate && c then b.entries else []) ++ kept js t) p
-    ∙ ap (λ (c : Bool). (if c then b.entries else []) ++ kept js t) (and_true (is_kept b.fate))
-    ∙ ap (λ (l : List Entry). (if is_kept b.fate then b.entries else []) ++ l) (settled_kept js now t are.3 le)
-
-pub settled_flying : (js : List Batch) (now t : ℕ) → AreSettled js now → now ≤ t → flying js t ≡ []
-settled_flying [] now t are le = refl
-settled_flying (b ∷ js) now t are le =
-    let p : nat_lt t b.last ≡ false = grind (arith, nat_tests, are.2) in
-    ap (λ (c : Bool). (if nat_le b.first t && (c || is_flying b.fate) then b.entries else []) ++ flying js t) p
-    ∙ ap (λ (c : Bool). (if nat_le b.first t && c then b.entries else []) ++ flying js t) are.0
-    ∙ ap (λ (c : Bool). (if c then b.entries else []) ++ flying js t) (and_false (nat_le b.first t))
-    ∙ settled_flying js now t are.3 le
 
 pub settled_later : (js : List Batch) (now later : ℕ) → AreSettled js now → now ≤ later → AreSettled js later
 settled_later [] now later are le = tt
@@ -60,72 +23,70 @@ pub begun_later : (c : Option Batch) (now later : ℕ) → IsBegun c now → now
 begun_later None now later begun le = tt
 begun_later (Some b) now later begun le = (begun.0, omega (arith, begun.1, le))
 
--- a batch in flight
-pub kept_flying : (b : Batch) (t : ℕ) → b.fate ≡ Flying → kept_of b t ≡ []
-kept_flying b t fate = ap (λ f. if is_kept f && nat_le b.last t then b.entries else []) fate
+-- WHAT JOURNALS SAY OF A MOMENT
 
-pub flying_flying : (b : Batch) (t : ℕ) → b.fate ≡ Flying → flying_of b t ≡ (if nat_le b.first t then b.entries else [])
-flying_flying b t fate =
-    ap (λ f. if nat_le b.first t && (nat_lt t b.last || is_flying f) then b.entries else []) fate
-    ∙ ap (λ (c : Bool). if nat_le b.first t && c then b.entries else []) (or_true (nat_lt t b.last))
-    ∙ ap (λ (c : Bool). if c then b.entries else []) (and_true (nat_le b.first t))
+-- journals that say the same do so after the same batches
+abbrev account_more : Batch → ℕ → Account → Account
+account_more b t s = (kept_of b t ++ s.0, flying_of b t ++ s.1, λ m since. s.2 m (if list_any (begins_anew m) b.entries && nat_le b.first t then max since b.first else since))
 
-pub flying_from : (b : Batch) (t : ℕ) → b.fate ≡ Flying → b.first ≤ t → flying_of b t ≡ b.entries
-flying_from b t fate le =
-    let p : nat_le b.first t ≡ true = grind (arith, nat_tests) in
-    flying_flying b t fate ∙ ap (λ (c : Bool). if c then b.entries else []) p
+pub account_after : (js xs ys : List Batch) (t : ℕ) → account xs t ≡ account ys t → account (js ++ xs) t ≡ account (js ++ ys) t
+account_after [] xs ys t e = e
+account_after (b ∷ js) xs ys t e = ap (account_more b t) (account_after js xs ys t e)
 
-pub flying_before : (b : Batch) (t : ℕ) → t < b.first → flying_of b t ≡ []
-flying_before b t lt =
+-- a batch that begins later says nothing
+pub account_before : (b : Batch) (t : ℕ) → b.fate ≡ Flying → t < b.first → account (b ∷ []) t ≡ account [] t
+account_before b t flies lt =
     let p : nat_le b.first t ≡ false = grind (arith, nat_tests) in
-    ap (λ (c : Bool). if c && (nat_lt t b.last || is_flying b.fate) then b.entries else []) p
+    let k : kept (b ∷ []) t ≡ [] = rw flies refl in
+    let f : flying (b ∷ []) t ≡ [] = rw p refl in
+    let n : (m : MemberId) (since : ℕ) → turned m (b ∷ []) t since ≡ since = λ m since. rw (p, and-false (list_any (begins_anew m) b.entries)) refl in
+    λ i. (k i, f i, λ m since. n m since i)
 
--- of settled batches and one in flight just the settled ones are kept, from now on
-pub now_kept : (js : List Batch) (c : Option Batch) (now t : ℕ) → AreSettled js now → IsBegun c now → now ≤ t → kept (js ++ in_flight c) t ≡ kept_all js
-now_kept js None now t are begun le = kept_append js [] t ∙ append-nil (kept js t) ∙ settled_kept js now t are le
-now_kept js (Some b) now t are begun le =
-    kept_append js (b ∷ []) t ∙ ap (λ (l : List Entry). kept js t ++ (l ++ [])) (kept_flying b t begun.0) ∙ append-nil (kept js t) ∙ settled_kept js now t are le
-
-pub now_flying : (js : List Batch) (c : Option Batch) (now t : ℕ) → AreSettled js now → IsBegun c now → now ≤ t → flying (js ++ in_flight c) t ≡ entries_in c
-now_flying js None now t are begun le = flying_append js [] t ∙ append-nil (flying js t) ∙ settled_flying js now t are le
-now_flying js (Some b) now t are begun le =
-    flying_append js (b ∷ []) t ∙ ap (λ (l : List Entry). l ++ (flying_of b t ++ [])) (settled_flying js now t are le)
-    ∙ append-nil (flying_of b t) ∙ flying_from b t begun.0 (omega (arith, begun.1, le))
-
--- A batch that begins now changes nothing of the past.
-pub begins_kept : (js : List Batch) (b : Batch) (t : ℕ) → b.fate ≡ Flying → kept (js ++ b ∷ []) t ≡ kept (js ++ []) t
-begins_kept js b t fate =
-    kept_append js (b ∷ []) t ∙ ap (λ (l : List Entry). kept js t ++ (l ++ [])) (kept_flying b t fate) ∙ sym (kept_append js [] t)
-
-pub begins_flying : (js : List Batch) (b : Batch) (t : ℕ) → t < b.first → flying (js ++ b ∷ []) t ≡ flying (js ++ []) t
-begins_flying js b t lt =
-    flying_append js (b ∷ []) t ∙ ap (λ (l : List Entry). flying js t ++ (l ++ [])) (flying_before b t lt) ∙ sym (flying_append js [] t)
-
--- The batch in flight gets its fate, which changes nothing of the past.
-pub fate_kept : (b c : Batch) (t : ℕ) → b.fate ≡ Flying → t < c.last → kept_of c t ≡ kept_of b t
-fate_kept b c t fate lt =
+-- nor does one with another fate since a later moment say anything else
+pub account_fated : (b c : Batch) (t : ℕ) → b.fate ≡ Flying → c.first ≡ b.first → c.entries ≡ b.entries → t < c.last → account (c ∷ []) t ≡ account (b ∷ []) t
+account_fated b c t flies first entries lt =
     let p : nat_le c.last t ≡ false = grind (arith, nat_tests) in
-    ap (λ (d : Bool). if is_kept c.fate && d then c.entries else []) p
-    ∙ ap (λ (d : Bool). if d then c.entries else []) (and_false (is_kept c.fate)) ∙ sym (kept_flying b t fate)
+    let q : nat_lt t c.last ≡ true = grind (arith, nat_tests) in
+    let k : kept (c ∷ []) t ≡ kept (b ∷ []) t = rw (p, and-false (is_kept c.fate), flies) refl in
+    let f : flying (c ∷ []) t ≡ flying (b ∷ []) t = rw (q, flies, or-true (nat_lt t b.last), first, entries) refl in
+    let n : (m : MemberId) (since : ℕ) → turned m (c ∷ []) t since ≡ turned m (b ∷ []) t since = λ m since. rw (first, entries) refl in
+    λ i. (k i, f i, λ m since. n m since i)
 
-pub fate_flying : (b c : Batch) (t : ℕ) → b.fate ≡ Flying → c.first ≡ b.first → c.entries ≡ b.entries → t < c.last → flying_of c t ≡ flying_of b t
-fate_flying b c t fate first entries lt =
-    let p : nat_lt t c.last ≡ true = grind (arith, nat_tests) in
-    ap (λ (d : Bool). if nat_le c.first t && (d || is_flying c.fate) then c.entries else []) p
-    ∙ ap (λ (d : Bool). if d then c.entries else []) (and_true (nat_le c.first t))
-    ∙ ap (λ (f : ℕ). if nat_le f t then c.entries else []) first
-    ∙ ap (λ (l : List Entry). if nat_le b.first t then l else []) entries
-    ∙ sym (flying_flying b t fate)
+-- what is said of each moment from now on
+pub account_now : (js : List Batch) (c : Option Batch) (now t : ℕ) → AreSettled js now → IsBegun c now → now ≤ t → account (js ++ in_flight c) t ≡ (kept_all js, entries_in c, λ m since. turned_last m (js ++ in_flight c) since)
+account_now [] None now t are begun le = refl
+account_now [] (Some b) now t are begun le =
+    let p : nat_le b.first t ≡ true = grind (arith, nat_tests, begun.1) in
+    let k : kept (b ∷ []) t ≡ [] = rw begun.0 refl in
+    let f : flying (b ∷ []) t ≡ b.entries = rw (p, begun.0, or-true (nat_lt t b.last)) (append-nil b.entries) in
+    let n : (m : MemberId) (since : ℕ) → turned m (b ∷ []) t since ≡ turned_last m (b ∷ []) since = λ m since. rw (p, and-true (list_any (begins_anew m) b.entries)) refl in
+    λ i. (k i, f i, λ m since. n m since i)
+account_now (b ∷ js) c now t are begun le =
+    let p : nat_le b.first t ≡ true = grind (arith, nat_tests, are.1, are.2) in
+    let q : nat_le b.last t ≡ true = grind (arith, nat_tests, are.2) in
+    let r : nat_lt t b.last ≡ false = grind (arith, nat_tests, are.2) in
+    let K : List Entry = kept_all js in
+    let k : kept_of b t ++ K ≡ kept_all (b ∷ js) = rw (q, and-true (is_kept b.fate)) refl in
+    let f : flying_of b t ++ entries_in c ≡ entries_in c = rw (r, are.0, and-false (nat_le b.first t)) refl in
+    let n : (m : MemberId) (since : ℕ) → turned_last m (js ++ in_flight c) (if list_any (begins_anew m) b.entries && nat_le b.first t then max since b.first else since) ≡ turned_last m (b ∷ js ++ in_flight c) since
+    = λ m since. rw (p, and-true (list_any (begins_anew m) b.entries)) refl in
+    ap (account_more b t) (account_now js c now t are.3 begun le) ∙ (λ i. (k i, f i, λ m since. n m since i))
 
-pub fated_kept : (js : List Batch) (b c : Batch) (t : ℕ) → b.fate ≡ Flying → t < c.last → kept ((js ++ c ∷ []) ++ []) t ≡ kept (js ++ b ∷ []) t
-fated_kept js b c t fate lt =
-    ap (λ (l : List Batch). kept l t) (append-nil (js ++ c ∷ [])) ∙ kept_append js (c ∷ []) t
-    ∙ ap (λ (l : List Entry). kept js t ++ (l ++ [])) (fate_kept b c t fate lt) ∙ sym (kept_append js (b ∷ []) t)
+pub turned_append : (m : MemberId) (xs ys : List Batch) (since : ℕ) → turned_last m (xs ++ ys) since ≡ turned_last m ys (turned_last m xs since)
+turned_append m [] ys since = refl
+turned_append m (b ∷ xs) ys since = turned_append m xs ys (if list_any (begins_anew m) b.entries then max since b.first else since)
 
-pub fated_flying : (js : List Batch) (b c : Batch) (t : ℕ) → b.fate ≡ Flying → c.first ≡ b.first → c.entries ≡ b.entries → t < c.last → flying ((js ++ c ∷ []) ++ []) t ≡ flying (js ++ b ∷ []) t
-fated_flying js b c t fate first entries lt =
-    ap (λ (l : List Batch). flying l t) (append-nil (js ++ c ∷ [])) ∙ flying_append js (c ∷ []) t
-    ∙ ap (λ (l : List Entry). flying js t ++ (l ++ [])) (fate_flying b c t fate first entries lt) ∙ sym (flying_append js (b ∷ []) t)
+-- members count since moments that are past
+pub turned_by : (m : MemberId) (J : List Batch) (t since : ℕ) → since ≤ t → turned m J t since ≤ t
+turned_by m [] t since le = le
+turned_by m (b ∷ bs) t since le = turned_by m bs t _ (by (list_any (begins_anew m) b.entries) (nat_le b.first t) refl) where
+  by : (a c : Bool) → nat_le b.first t ≡ c → (if a && c then max since b.first else since) ≤ t
+  by true true e = let first : b.first ≤ t = grind (arith, nat_tests) in omega arith
+  by true false e = le
+  by false _ e = le
+
+pub turned_past : (m : MemberId) (js : List Batch) (c : Option Batch) (now since : ℕ) → AreSettled js now → IsBegun c now → since ≤ now → turned_last m (js ++ in_flight c) since ≤ now
+turned_past m js c now since are begun le = subst (λ (n : ℕ). n ≤ now) (ap (λ (s : Account). s.2 m since) (account_now js c now now are begun (omega arith))) (turned_by m (js ++ in_flight c) now since le)
 
 -- what is told, as the journal goes on
 pub step_later : (J : List Batch) (t u : ℕ) (m : MemberId) (s : ℕ) → t ≤ u → StepIsKept J t m s → StepIsKept J u m s

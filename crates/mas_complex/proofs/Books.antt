@@ -1,5 +1,5 @@
 -- Nobody who is stopped in the book is up after a call of it.
-use Rattle.mas_complex.proofs.Names.{◌≡◌, ◌≢◌, ℕ, ◌-◌, ◌≤◌, ◌<◌, ◌==◌, ◌||◌, Bool, true, false, if◌then◌else◌, length, subst, sym, ◌∙◌, ap, arith, is_some, Some, slice_index_or, get_or-set_same, get_or-set_other, MemberId, nobody, Book, IsMember, beginner, standing, is_stopped, is_holder, left_of, with_standing, with_holder, granted, ticked, try_refusal, after_try, noted, after_free, after_stop, seize_refusal, after_seize, after_spend, test_cases, List, [], ◌∷◌, Option, None, refl, not, true≢false, eq-eqb, Batch, Entry, Kept, Dropped, is_somebody, same_member, is_flying, is_dormant, wakes, same_member_is, Act, ActHalted as Halted, AreSettled, fated, with_last, without_last, IsOperatorAway, book_by, IsFatedBy, past_batches}
+use Rattle.mas_complex.proofs.Names.{◌≡◌, ◌≢◌, ℕ, ◌-◌, ◌≤◌, ◌<◌, ◌==◌, ◌||◌, Bool, true, false, if◌then◌else◌, length, subst, sym, ◌∙◌, ap, arith, is_some, Some, slice_index_or, get_or-set_same, get_or-set_other, MemberId, nobody, Book, IsMember, beginner, standing, is_stopped, is_holder, left_of, with_standing, with_holder, granted, ticked, try_refusal, after_try, noted, after_free, after_stop, seize_refusal, after_seize, after_spend, test_cases, List, [], ◌∷◌, Option, None, refl, not, true≢false, eq-eqb, Batch, Entry, Kept, Dropped, is_somebody, same_member, is_flying, is_dormant, wakes, same_member_is, Act, ActHalted as Halted, AreSettled, fated, with_last, without_last, book_by, ◌⊎◌, inl, inr, ⊎_elim, IsFatedBy, past_batches}
 use Rattle.mas_complex.proofs.Basics.{number_is, apart_is, stays_true}
 use Rattle.mas_complex.proofs.Batches.{as_many}
 use Rattle.lock_cycle.specs.declared.standings.Standing.{Standing}
@@ -27,24 +27,6 @@ module _ (b : Book) (m : MemberId) (s : Standing) (inside : IsMember b m) where
 pub granted_up : (b : Book) (m : MemberId) → IsMember b m → (k : MemberId) → is_stopped (granted b m) k ≡ false → is_stopped b k ≡ false
 granted_up b m inside k up = standing_up (with_holder b m) m (record (standing b m) { left = b.hold }) inside (λ u. u) k up
 
-pub tried_up : (b : Book) (m : MemberId) (inner : Bool) → IsMember b m → (k : MemberId) → is_stopped (after_try b m inner) k ≡ false → is_stopped b k ≡ false
-tried_up b m inner inside k up =
-    test_cases (is_stopped b m || is_holder b m) (is_stopped b k ≡ false)
-    (λ e. let w = rw e at up in w)
-    (λ e. test_cases (is_some (try_refusal b m inner)) (is_stopped b k ≡ false)
-    (λ r. let w = rw (e, r) at up in w)
-    (λ r. granted_up (ticked b inner) m inside k (let w = rw (e, r) at up in w)))
-
-pub freed_up : (b : Book) (m : MemberId) (inner : Bool) → IsMember b m → (k : MemberId) → is_stopped (after_free b m inner) k ≡ false → is_stopped b k ≡ false
-freed_up b m inner inside k up =
-    test_cases (is_holder b m) (is_stopped b k ≡ false)
-    (λ e. by inner (let w = rw e at up in w))
-    (λ e. let w = rw e at up in w)
-  where
-    by : (i : Bool) → is_stopped (if i then with_holder b nobody else with_holder (noted b m) nobody) k ≡ false → is_stopped b k ≡ false
-    by true u = u
-    by false u = standing_up b m (record (standing b m) { freed = Some b.tick }) inside (λ w. w) k u
-
 pub stopped_up : (b : Book) (m : MemberId) → IsMember b m → (k : MemberId) → is_stopped (after_stop b m) k ≡ false → (k.0 ≢ m.0) × (is_stopped b k ≡ false)
 stopped_up b m inside k up = (apart, standing_up b m (record (standing b m) { stopped = true }) inside (λ e. absurd (cc)) k up)
   where
@@ -52,15 +34,6 @@ stopped_up b m inside k up = (apart, standing_up b m (record (standing b m) { st
     apart same =
         let at : standing (after_stop b m) k ≡ record (standing b m) { stopped = true } = at_own b m (record (standing b m) { stopped = true }) inside k (ap (λ (n : ℕ). n - 1) same) in
         true≢false (sym (ap (λ (x : Standing). x.stopped) at) ∙ up)
-
-pub seized_up : (b : Book) (m of : MemberId) → IsMember b m → (k : MemberId) → is_stopped (after_seize b m of) k ≡ false → is_stopped b k ≡ false
-seized_up b m of inside k up =
-    test_cases (is_some (seize_refusal b of)) (is_stopped b k ≡ false)
-    (λ e. let w = rw e at up in w)
-    (λ e. granted_up b m inside k (let w = rw e at up in w))
-
-pub spent_up : (b : Book) (m : MemberId) (commands : ℕ) → IsMember b m → (k : MemberId) → is_stopped (after_spend b m commands) k ≡ false → is_stopped b k ≡ false
-spent_up b m commands inside k up = standing_up b m (record (standing b m) { left = left_of b m - commands }) inside (λ u. u) k up
 
 -- What a shared value keeps of its batches on any plant.
 
@@ -101,36 +74,43 @@ member_of m (Some b) = b.by
 pub owned_own : (b : Batch) (book : Book) → book.holder ≡ b.by → IsOwned (Some b) book
 owned_own b book holds batch is other = absurd (other (subst (λ (x : Option Batch). member_of book.holder x ≡ book.holder) is (sym holds)))
 
--- the same member holds, and nobody who was stopped is up
-owned_stays : (old new : Book) (c : Option Batch) → new.holder ≡ old.holder → ((k : MemberId) → is_stopped new k ≡ false → is_stopped old k ≡ false) → IsOwned c old → IsOwned c new
-owned_stays old new c same up own batch is other =
-    stays_true (is_stopped new batch.by) (is_stopped old batch.by) (up batch.by) (own batch is (λ e. other (e ∙ sym same)))
+-- WHAT A CALL LEAVES OF THE BOOK: who was stopped still is, and what is in flight is still somebody's
+
+pub record Booked (c : Option Batch) (book is : Book) : Type 0 where
+  pub up : (k : MemberId) → is_stopped is k ≡ false → is_stopped book k ≡ false
+  pub owned : IsOwned c is
 
 module _ (b : Book) (m : MemberId) (c : Option Batch) (inside : IsMember b m) (own : IsOwned c b) where
-  owned_stopped : IsOwned c (after_stop b m)
-  owned_stopped = owned_stays b (after_stop b m) c refl (λ k up. (stopped_up b m inside k up).1) own
+  -- the same member holds, or the member of a batch in flight was stopped
+  books : (is : Book) → ((k : MemberId) → is_stopped is k ≡ false → is_stopped b k ≡ false) → (is.holder ≡ b.holder) ⊎ ((batch : Batch) → c ≡ Some batch → is_stopped b batch.by ≡ true) → Booked c b is
+  books is up how = record {
+    up = up;
+    owned = λ batch e other. stays_true (is_stopped is batch.by) (is_stopped b batch.by) (up batch.by) (⊎_elim (λ same. own batch e (λ x. other (x ∙ sym same))) (λ all. all batch e) how);
+  }
 
-  owned_spent : (commands : ℕ) → IsOwned c (after_spend b m commands)
-  owned_spent commands = owned_stays b (after_spend b m commands) c refl (spent_up b m commands inside) own
+  pub stops : Booked c b (after_stop b m)
+  stops = books (after_stop b m) (λ k up. (stopped_up b m inside k up).1) (inl refl)
 
-  pub owned_printed : (done : Act) → IsOwned c (book_by m done b)
-  owned_printed Halted = owned_stopped
-  owned_printed _ = own
+  pub prints : (done : Act) → Booked c b (book_by m done b)
+  prints Halted = stops
+  prints _ = books b (λ k up. up) (inl refl)
+
+  pub spends : (commands : ℕ) → Booked c b (after_spend b m commands)
+  spends commands = books (after_spend b m commands) (standing_up b m (record (standing b m) { left = left_of b m - commands }) inside (λ u. u)) (inl refl)
 
   -- a try is granted where nobody holds, and nothing is in flight then
-  owned_tried : (inner : Bool) (reserved : Option (List Entry)) → IsOperatorAway b reserved c → IsOwned c (after_try b m inner)
-  owned_tried inner reserved away =
-      test_cases (is_stopped b m || is_holder b m) (IsOwned c (after_try b m inner))
-      (λ e. rw e own)
-      (λ e. test_cases (is_some (try_refusal b m inner)) (IsOwned c (after_try b m inner))
-      (λ r. rw (e, r) (owned_stays b (ticked b inner) c refl (λ k up. up) own))
-      (λ r. subst (λ (x : Option Batch). IsOwned x (after_try b m inner)) (sym (away (nobody_holds e r)).1) (owned_none (after_try b m inner))))
+  pub tries : (inner : Bool) → (b.holder ≡ nobody → c ≡ None) → Booked c b (after_try b m inner)
+  tries inner away =
+      test_cases (is_stopped b m || is_holder b m) (Booked c b (after_try b m inner))
+      (λ e. rw e (books b (λ k up. up) (inl refl)))
+      (λ e. test_cases (is_some (try_refusal b m inner)) (Booked c b (after_try b m inner))
+      (λ r. rw (e, r) (books (ticked b inner) (λ k up. up) (inl refl)))
+      (λ r. rw (e, r) (books (granted (ticked b inner) m) (granted_up (ticked b inner) m inside) (inr (λ batch is. let none : c ≡ None = away (nobody_holds e r) in absurd (cc))))))
     where
       not_busy : (stopped holds busy : Bool) (down held rest : Option LockNo) → (stopped || holds) ≡ false → is_some held ≡ true → is_some (if stopped then down else if holds then None else if busy then held else rest) ≡ false → busy ≡ false
-      not_busy true holds busy down held rest e some none = absurd (true≢false e)
-      not_busy false true busy down held rest e some none = absurd (true≢false e)
       not_busy false false true down held rest e some none = absurd (true≢false (sym some ∙ none))
       not_busy false false false down held rest e some none = refl
+      not_busy _ _ busy down held rest e some none = absurd (true≢false e)
 
       nobody_holds : (is_stopped b m || is_holder b m) ≡ false → is_some (try_refusal b m inner) ≡ false → b.holder ≡ nobody
       nobody_holds e r =
@@ -138,18 +118,22 @@ module _ (b : Book) (m : MemberId) (c : Option Batch) (inside : IsMember b m) (o
           same_member_is b.holder nobody (is_not (b.holder.0 == 0) free)
 
   -- the member that holds has nothing in flight when it gives the lock up
-  owned_freed : (inner : Bool) → (is_holder b m ≡ true → c ≡ None) → IsOwned c (after_free b m inner)
-  owned_freed inner none =
-      test_cases (is_holder b m) (IsOwned c (after_free b m inner))
-      (λ e. subst (λ (x : Option Batch). IsOwned x (after_free b m inner)) (sym (none e)) (owned_none (after_free b m inner)))
-      (λ e. rw e own)
+  pub frees : (inner : Bool) → (is_holder b m ≡ true → c ≡ None) → Booked c b (after_free b m inner)
+  frees inner none =
+      test_cases (is_holder b m) (Booked c b (after_free b m inner))
+      (λ e. rw e (books (if inner then with_holder b nobody else with_holder (noted b m) nobody) (by inner) (inr (λ batch is. let free : c ≡ None = none e in absurd (cc)))))
+      (λ e. rw e (books b (λ k up. up) (inl refl)))
+    where
+      by : (i : Bool) (k : MemberId) → is_stopped (if i then with_holder b nobody else with_holder (noted b m) nobody) k ≡ false → is_stopped b k ≡ false
+      by true k u = u
+      by false k u = standing_up b m (record (standing b m) { freed = Some b.tick }) inside (λ w. w) k u
 
   -- the lock is taken over from a member that is stopped
-  owned_seized : (of : MemberId) → IsOwned c (after_seize b m of)
-  owned_seized of =
-      test_cases (is_some (seize_refusal b of)) (IsOwned c (after_seize b m of))
-      (λ r. rw r own)
-      (λ r. rw r (λ batch is other. stays_true (is_stopped (granted b m) batch.by) (is_stopped b batch.by) (granted_up b m inside batch.by) (stopped r batch is)))
+  pub seizes : (of : MemberId) → Booked c b (after_seize b m of)
+  seizes of =
+      test_cases (is_some (seize_refusal b of)) (Booked c b (after_seize b m of))
+      (λ r. rw r (books b (λ k up. up) (inl refl)))
+      (λ r. rw r (books (granted b m) (granted_up b m inside) (inr (stopped r))))
     where
       of_whom : (is_down holds : Bool) (up other : Option SeizeNo) → is_some up ≡ true → is_some other ≡ true → is_some (if not is_down then up else if holds then None else other) ≡ false → (is_down ≡ true) × (holds ≡ true)
       of_whom true true up other one two r = (refl, refl)
@@ -163,27 +147,15 @@ module _ (b : Book) (m : MemberId) (c : Option Batch) (inside : IsMember b m) (o
           (λ e. subst (λ (k : MemberId). is_stopped b k ≡ true) (sym (same_member_is batch.by b.holder e ∙ same_member_is b.holder of from.1)) from.0)
           (λ e. own batch is (λ same. true≢false (sym (eq-eqb batch.by.0 b.holder.0 (ap (λ (k : MemberId). k.0) same)) ∙ e)))
 
--- WHAT A CALL LEAVES OF THE BOOK: who was stopped still is, and what is in flight is still somebody's
+module _ (b : Book) (m : MemberId) where
+  pub tried_up : (inner : Bool) → IsMember b m → (k : MemberId) → is_stopped (after_try b m inner) k ≡ false → is_stopped b k ≡ false
+  tried_up inner inside = (tries b m None inside (owned_none b) inner (λ _. refl)).up
 
-pub record Booked (c : Option Batch) (book is : Book) : Type 0 where
-  pub up : (k : MemberId) → is_stopped is k ≡ false → is_stopped book k ≡ false
-  pub owned : IsOwned c is
+  pub freed_up : (inner : Bool) → IsMember b m → (k : MemberId) → is_stopped (after_free b m inner) k ≡ false → is_stopped b k ≡ false
+  freed_up inner inside = (frees b m None inside (owned_none b) inner (λ _. refl)).up
 
-module _ (b : Book) (m : MemberId) (c : Option Batch) (inside : IsMember b m) (own : IsOwned c b) (is : Book) where
-  booked : (after : Book) → is ≡ after → ((k : MemberId) → is_stopped after k ≡ false → is_stopped b k ≡ false) → IsOwned c after → Booked c b is
-  booked after same up owned = record { up = λ k w. up k (subst (λ (x : Book). is_stopped x k ≡ false) same w); owned = subst (IsOwned c) (sym same) owned }
+  pub seized_up : (of : MemberId) → IsMember b m → (k : MemberId) → is_stopped (after_seize b m of) k ≡ false → is_stopped b k ≡ false
+  seized_up of inside = (seizes b m None inside (owned_none b) of).up
 
-  pub stops : is ≡ after_stop b m → Booked c b is
-  stops same = booked (after_stop b m) same (λ k w. (stopped_up b m inside k w).1) (owned_stopped b m c inside own)
-
-  pub spends : (commands : ℕ) → is ≡ after_spend b m commands → Booked c b is
-  spends commands same = booked (after_spend b m commands) same (spent_up b m commands inside) (owned_spent b m c inside own commands)
-
-  pub tries : (inner : Bool) (reserved : Option (List Entry)) → IsOperatorAway b reserved c → is ≡ after_try b m inner → Booked c b is
-  tries inner reserved away same = booked (after_try b m inner) same (tried_up b m inner inside) (owned_tried b m c inside own inner reserved away)
-
-  pub frees : (inner : Bool) → (is_holder b m ≡ true → c ≡ None) → is ≡ after_free b m inner → Booked c b is
-  frees inner none same = booked (after_free b m inner) same (freed_up b m inner inside) (owned_freed b m c inside own inner none)
-
-  pub seizes : (of : MemberId) → is ≡ after_seize b m of → Booked c b is
-  seizes of same = booked (after_seize b m of) same (seized_up b m of inside) (owned_seized b m c inside own of)
+  pub spent_up : (commands : ℕ) → IsMember b m → (k : MemberId) → is_stopped (after_spend b m commands) k ≡ false → is_stopped b k ≡ false
+  spent_up commands inside = (spends b m None inside (owned_none b) commands).up

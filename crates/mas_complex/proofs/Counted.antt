@@ -1,15 +1,15 @@
 -- Why a copy doesn't count as alive after a recovery, and devices that stay lost.
-use Rattle.mas_complex.proofs.Names.{if◌then◌else◌, ◌≡◌, ◌≢◌, ◌⊎◌, inl, inr, ⊎_elim, ℕ, ◌≤◌, arith, ◌&&◌, ◌==◌, Bool, true, false, List, Option, Some, None, Result, Ok, Err, IfSome, OnErr, refl, subst, eqb-false, and_cases, Page, Dev, IsBothLost, SomeAlive, Acted, bytes_of, level, Disk as DiskPart, View, Goes, Rose, Place, Before, fits, can_stay, is_before, IsAtLevel, IsOneSeen, IsUnfit, Looked, Sought, WasUnfit, ReadsSeen, ◌<◌, sym, ap, ◌∙◌, eqb-true, ∥∥₁_elim, ∥∥₁_map, Coded, Coded-set, coded_list, coded_ℕ, coded_bool, coded×, code_by, Ckpt1, Ckpt2, Spool, World, ViewDisk as Disk, Line, Stretch, Throughout, disk_at, disk_now, Loses, LosesThere, SameWires, either_way, Meanwhile, SameSides, IsCkpt, BothMeanwhile, Elsewhere, OnCopies, SamePapers, ◌+◌, next, top, goes_on, goes_none, LookNo, PairNo, BothLost as PairBothLost, Halted as PairHalted, Ghosts as CopyGhosts, Pair, pick, other, PairActed, IsErrOf, IsLostOnce, IsLostSo, KeepsCounts, PairState, StandsOrLost, CountsCopy, OnPair}
+use Rattle.mas_complex.proofs.Names.{if◌then◌else◌, ◌≡◌, ◌≢◌, ◌⊎◌, inl, inr, ℕ, ◌≤◌, arith, ◌&&◌, ◌==◌, Bool, true, false, List, Option, Some, None, Result, Ok, Err, IfSome, OnErr, refl, subst, eqb-false, and_cases, Page, Dev, IsBothLost, SomeAlive, Acted, bytes_of, level, Disk as DiskPart, View, Goes, Rose, Place, fits, can_stay, is_before, IsAtLevel, IsOneSeen, IsUnfit, Looked, Sought, WasUnfit, ReadsSeen, sym, ap, ◌∙◌, eqb-true, Coded, Coded-set, coded_list, coded_ℕ, coded_bool, code_by, Ckpt1, Ckpt2, Spool, World, ViewDisk as Disk, Line, Stretch, Throughout, disk_now, Loses, LosesThere, SameWires, either_way, Meanwhile, SameSides, IsCkpt, BothMeanwhile, Elsewhere, OnCopies, SamePapers, ◌+◌, next, top, goes_on, goes_none, LookNo, PairNo, BothLost as PairBothLost, Halted as PairHalted, Ghosts as CopyGhosts, Pair, pick, other, PairActed, IsErrOf, IsLostOnce, IsLostSo, KeepsCounts, PairState, StandsOrLost, CountsCopy, OnPair, ⊎_elim, ∥∥₁_elim, ∥∥₁_map, coded×}
 use Rattle.mas_complex.proofs.Basics.{no, each, volume_beside, still_none, still_then, still_one}
 use Rattle.mas_complex.proofs.Papers.{same_papers}
-use Rattle.mas_complex.specs.Kept.{OnlyOnCopies}
+use Rattle.mas_complex.proofs.Sides.{Calm}
 use Rattle.mas_complex.specs.CallCounts.{pair_at}
 use Rattle.duplex_pair.specs.declared.errors.LookNo.TheVariants.{Halted as LookHalted, NoMemory as LookNoMemory}
 use Rattle.duplex_pair.proofs.Chosen.{part12, part21}
 use Rattle.duplex_pair.proofs.Composing.{acted_first, acted_second, ne12, ne21}
 use Rattle.duplex_pair.specs.Outcomes.{look_stopped, pair_stopped}
 use Rattle.mas_complex.specs.declared.recover.RecoverNo.{RecoverNo}
-use Rattle.mas_complex.specs.declared.recover.RecoverNo.TheVariants.{BothLost as RecoverBothLost, Halted as RecoverHalted, NoMemory as RecoverNoMemory}
+use Rattle.mas_complex.specs.declared.recover.RecoverNo.TheVariants.{BothLost as RecoverBothLost, Halted as RecoverHalted}
 use Rattle.mas_complex.specs.Recovers.{recover_no, recover_no_seen, recover_stopped}
 
 -- pages that don't stay don't fit, or have neither the level found nor the one reached
@@ -39,20 +39,12 @@ fault_earlier dev u v w goes rose = rose_earlier (u.faults (DiskPart dev)) (v.fa
 
 -- Why a copy that counted as alive doesn't any more: an act on it failed while it was looked at or brought up, or its
 -- pages don't fit, with the room that its bytes have.
-pub left_why : (reads : List ℕ → Option (List ℕ)) (bytes : List ℕ) (reached room last : ℕ) (place : Place) (found : List Page) (R : Type 0) (seen : Option (List Page)) (alive : Bool)
-    → (seen ≡ None → R) → (alive ≡ true → R) → ReadsSeen reads bytes seen
-    → ((pages : List Page) → seen ≡ Some pages → IsAtLevel (level (bytes_of pages)) reached place) → ((pages : List Page) → seen ≡ Some pages → alive ≡ false → IsUnfit seen place room found)
-    → ((pages : List Page) → seen ≡ Some pages → room ≡ last) → R ⊎ WasUnfit reads bytes reached last found
-left_why reads bytes reached room last place found R None alive unseen failed read at unfit same = inl (unseen refl)
-left_why reads bytes reached room last place found R (Some other) true unseen failed read at unfit same = inl (failed refl)
-left_why reads bytes reached room last place found R (Some other) false unseen failed read at unfit same =
-    inr (subst (λ (n : ℕ). WasUnfit reads bytes reached n found) (same other refl)
-    (record { other = other; read = read; unfit = unfit_of reached room place found other (at other refl) (unfit other refl refl) }))
-
--- what was seen of a copy tells its room
-pub room_seen : (room : ℕ) (bytes : ℕ) (seen : Option (List Page)) → IfSome seen (λ some. room ≡ bytes) → (pages : List Page) → seen ≡ Some pages → room ≡ bytes
-room_seen room bytes None h pages is = absurd (cc)
-room_seen room bytes (Some some) h pages is = h
+pub left_why : (tells : Type 0) (it : Sought) (copy : Looked) (bytes : List ℕ) (last : ℕ) (found : List Page) (R : Type 0) (seen : Option (List Page)) (alive : Bool)
+    → (seen ≡ None → R) → (alive ≡ true → R) → ReadsSeen it.reads bytes seen → IsOneSeen tells it copy seen → (copy.alive ≡ true → alive ≡ false → IsUnfit seen copy.place copy.room found) → IfSome seen (λ _. copy.room ≡ last) → R ⊎ WasUnfit it.reads bytes it.reached last found
+left_why tells it copy bytes last found R None alive unseen failed read is unfit same = inl (unseen refl)
+left_why tells it copy bytes last found R (Some other) true unseen failed read is unfit same = inl (failed refl)
+left_why tells it copy bytes last found R (Some other) false unseen failed read is unfit same =
+    inr (subst (λ (n : ℕ). WasUnfit it.reads bytes it.reached n found) same (record { other = other; read = read; unfit = unfit_of it.reached copy.room copy.place found other is.at (unfit is.is_alive refl) }))
 
 -- what holds anyhow holds after an error
 pub if_err : {A E X : Type 0} (r : Result A E) → X → OnErr r X
@@ -160,10 +152,12 @@ on_then old mid new first last x y = record {
   wires = wires_then old mid new x.wires y.wires;
 }
 
+-- a call on the copy of one device
+pub elsewhere_calm : (dev : Dev) → IsCkpt dev → (old new : View) → Elsewhere dev old new → Calm old new
+elsewhere_calm dev ckpt old new e = record { volumes = λ t from le d one two. e.others t from le d (each (λ c. d ≢ c) one two dev ckpt); console = e.console }
+
 pub on_one : (dev : Dev) → IsCkpt dev → (old new : View) → Goes old new → Elsewhere dev old new → OnCopies old new
-on_one Ckpt1 ckpt old new goes e = record { volumes = λ t from le d one two. e.others t from le d one; console = e.console new.now goes.later (omega arith); papers = e.papers; wires = e.wires }
-on_one Ckpt2 ckpt old new goes e = record { volumes = λ t from le d one two. e.others t from le d two; console = e.console new.now goes.later (omega arith); papers = e.papers; wires = e.wires }
-on_one (Spool n) ckpt old new goes e = absurd ckpt
+on_one dev ckpt old new goes e = record { volumes = (elsewhere_calm dev ckpt old new e).volumes; console = e.console new.now goes.later (omega arith); papers = e.papers; wires = e.wires }
 
 pub on_both : (P Q : Disk → Type 0) (old new : View) → BothMeanwhile P Q old new → OnCopies old new
 on_both P Q old new m = record {
@@ -351,11 +345,18 @@ module _ {C : Type 0} {copies : CopyGhosts C} (by : ℕ) (x y : Pair C copies) (
   counts_one stopped Ckpt2 ckpt same acted = counts_second by stopped was is (ap (λ h. h.alive) same) acted
   counts_one stopped (Spool n) ckpt same acted = absurd ckpt
 
-  pub counts_lost : (dev : Dev) → IsCkpt dev → (pick dev x.first x.second).alive ≡ true → (pick dev y.first y.second).alive ≡ false → other dev y.first y.second ≡ other dev x.first x.second
-      → Loses (DiskPart dev) old new → KeepsCounts by false was is
-  counts_lost Ckpt1 ckpt up dead same loses = first_lost by was is up dead (ap (λ h. h.alive) same) loses
-  counts_lost Ckpt2 ckpt up dead same loses = second_lost by was is up dead (ap (λ h. h.alive) same) loses
-  counts_lost (Spool n) ckpt up dead same loses = absurd ckpt
+  -- with all else
+  pub pair_one : {tells : Type 0} (stopped : Bool) (dev : Dev) → IsCkpt dev → other dev y.first y.second ≡ other dev x.first x.second
+      → Acted by dev (pick dev x.first x.second).alive (pick dev y.first y.second).alive stopped old new → (tells → Elsewhere dev old new) → OnPair tells by stopped was is
+  pair_one stopped dev ckpt same acted elsewhere = record { counts = counts_one stopped dev ckpt same acted; apart = λ told. on_one dev ckpt old new acted.goes (elsewhere told) }
+
+  pub pair_less : {tells : Type 0} (dev : Dev) → IsCkpt dev → (pick dev x.first x.second).alive ≡ true → (pick dev y.first y.second).alive ≡ false → other dev y.first y.second ≡ other dev x.first x.second
+      → Loses (DiskPart dev) old new → (tells → Elsewhere dev old new) → OnPair tells by false was is
+  pair_less dev ckpt up dead same loses elsewhere = record { counts = by_dev dev ckpt up dead same loses; apart = λ told. on_one dev ckpt old new loses.goes (elsewhere told) } where
+    by_dev : (d : Dev) → IsCkpt d → (pick d x.first x.second).alive ≡ true → (pick d y.first y.second).alive ≡ false → other d y.first y.second ≡ other d x.first x.second → Loses (DiskPart d) old new → KeepsCounts by false was is
+    by_dev Ckpt1 c up dead same loses = first_lost by was is up dead (ap (λ h. h.alive) same) loses
+    by_dev Ckpt2 c up dead same loses = second_lost by was is up dead (ap (λ h. h.alive) same) loses
+    by_dev (Spool n) c up dead same loses = absurd c
 
 -- who was stopped in a call of a recovery was stopped in it
 seen_stopped : (A B : Type 0) (why : LookNo) → recover_stopped {T = A} (Err (recover_no_seen why)) ≡ look_stopped {T = B} (Err why)

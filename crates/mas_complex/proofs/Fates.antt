@@ -1,20 +1,18 @@
 -- Copies once the batch in flight has its fate, and lines that are said.
-use Rattle.mas_complex.proofs.Names.{◌≡◌, inl, inr, ⊎_elim, ℕ, ◌+◌, ◌≤◌, ◌<◌, ◌||◌, Bool, true, false, List, [], ◌∷◌, ◌++◌, if◌then◌else◌, Option, Some, None, IfSome, refl, subst, sym, ◌∙◌, ap, arith, le_refl, append-nil, Ckpt1, Ckpt2, Act, Done, Failed, ActHalted as Halted, View, ViewDisk as Disk, disk_now, Says, Said, next, MemberId, Batch, Entry, Kept, Dropped, Before, Opened, kept_all, batches_kept, in_flight, StepIsKept, is_kept, is_flying, level, Setting, Stands, IsNext, IsNear, IsAway, IsStale, OnComing, Copy, Keeps, IsCkpt, Dev, CopyAt, is_away, pick, IsAt, Versions, ◌==◌, ◌&&◌, cond, length, filter, All, Contains, All-nil, All-cons, Queue, kept_at, flying_at, entries_of, is_kept_by, is_flying_at, IsSound, Disk as DiskPart, Line, disk_at, top, either_way, ne_eqb, true≢false, IsLeftOf, spools_at, lost_now, GivesTexts, kept, flying, has_step, journal_most, Closes, run, StandFor, Renewals, is_renewed_at, setting_with, Alike, IsFound, IsAfter, EachTells, said, found, lost_if, left_at, IsLeft, ReadsBy, ReadsUpTo, PaperKept, AreAlike, AreLevelsLow, FoundFor, Headline, IsAfterKept, whole, of_device, drop, ◌⊎◌, not, Spool, Flying, World, Goes, Renewal, is_open, AreRenewedBy, IsUntold, ReadsOne, BeginsWith, setting, SomeLeft, SomeGood, HasTexts, LeavesQueue, Place, next_order}
-use Rattle.mas_complex.proofs.Batches.{kept_all_append}
-use Rattle.mas_complex.proofs.Basics.{pick_same, some_of, each}
-use Rattle.mas_complex.proofs.Present.{Reads, copy_reads, kept_one, alike_as, alike_found, top_reads, kept_append, less_up, one_up, renewed_open, not_renewed, make_rise, only_pages}
-use Rattle.mas_complex.proofs.Moves.{Adds, fate_keeps, alike_now, begins_keep}
+use Rattle.mas_complex.proofs.Names.{AreLater, AreNotedBefore, Page, page_count, ◌≡◌, inl, inr, ⊎_elim, ℕ, ◌+◌, ◌≤◌, ◌<◌, ◌||◌, Bool, true, false, List, [], ◌∷◌, ◌++◌, if◌then◌else◌, Option, Some, None, IfSome, refl, subst, sym, ◌∙◌, ap, arith, le_refl, append-nil, Ckpt1, Ckpt2, Act, Done, Failed, ActHalted as Halted, View, ViewDisk as Disk, disk_now, Says, Said, next, MemberId, Batch, Entry, Kept, Dropped, Before, Opened, kept_all, batches_kept, in_flight, StepIsKept, is_kept, is_flying, level, Setting, Stands, IsNext, IsNear, IsAway, IsStale, OnComing, Copy, Keeps, IsCkpt, Dev, CopyAt, is_away, pick, IsAt, Versions, ◌==◌, ◌&&◌, cond, length, filter, All, Contains, All-nil, All-cons, Queue, kept_at, flying_at, entries_of, is_kept_by, is_flying_at, IsSound, Disk as DiskPart, Line, disk_at, top, either_way, ne_eqb, true≢false, IsLeftOf, spools_at, lost_now, GivesTexts, kept, flying, has_step, journal_most, Closes, run, StandFor, Renewals, is_renewed_at, setting_with, Alike, AreSunk, TextsAt, ReadsAtLevel, Account, TellOnly, entries_in, IsFound, EachTells, said, found, lost_if, left_at, IsLeft, ReadsBy, ReadsUpTo, PaperKept, AreAlike, AreLevelsLow, FoundFor, Headline, whole, of_device, drop, ◌⊎◌, not, Spool, Flying, World, Goes, Renewal, is_open, AreRenewedBy, ReadsOne, BeginsWith, setting, SomeLeft, SomeGood, HasTexts, LeavesQueue, Place, next_order}
+use Rattle.mas_complex.proofs.Batches.{kept_all_append, account_now}
+use Rattle.mas_complex.proofs.Basics.{some_of, each}
+use Rattle.mas_complex.proofs.Present.{Reads, alike_found, at_kept, copy_reads, kept_append, kept_one, less_up, one_up, only_pages, renewed_open, top_reads}
+use Rattle.mas_complex.proofs.Moves.{Adds, adds_none, adds_one, fate_keeps, one_of}
 use Rattle.mas_complex.proofs.Sides.{at_place, is_higher, rests_before, moved}
-use Rattle.mas_complex.proofs.Spooled.{gives_texts, make_texts}
+use Rattle.mas_complex.proofs.Spooled.{gives_texts}
 use Rattle.std.proofs.lemmas.Bool.{or_left, or_right}
 use Rattle.mas_types.specs.Closings.{closing_line}
+use Rattle.mas_types.specs.declared.journals.Journal.{Journal}
 use Rattle.mas_complex.specs.Renewals.{no_renewals}
 
 pub one_kept : (c : Batch) → c.fate ≡ Kept → kept_all (c ∷ []) ≡ c.entries
 one_kept c fate = ap (λ f. (if is_kept f then c.entries else []) ++ []) fate ∙ append-nil c.entries
-
-one_dropped : (c : Batch) → c.fate ≡ Dropped → kept_all (c ∷ []) ≡ []
-one_dropped c fate = ap (λ f. (if is_kept f then c.entries else []) ++ []) fate
 
 -- a copy that isn't good stays behind the kept pages
 away_up : (S : Setting) (was pages : List ℕ) → level was < level pages → (renewed : Bool) (now : ℕ) (d : Disk) → IsAway S was renewed now d → IsAway S pages renewed now d
@@ -24,10 +22,6 @@ away_up S was pages higher true now d away = λ image is. up (S.reads image) (aw
   up None stale = tt
   up (Some p) stale = inr (⊎_elim (λ same. subst (λ (l : List ℕ). level l < level pages) (sym same) higher) (λ lower. omega (arith, lower, higher)) stale)
 
--- a copy before any batch
-abbrev pub rested : Dev → Copy → Copy
-rested d c = record c { place = pick d Before Before }
-
 module _ (S : Setting) (was : List ℕ) (coming : Option (List ℕ)) (dev : Dev) (c : Copy) (v : View) (copy : CopyAt S was coming dev c v) where
   -- an alive copy that has opened its gate has pages in flight
   opened_at : c.alive ≡ true → c.place ≡ Opened → OnComing coming (λ p. c.rests p (disk_now v dev))
@@ -36,31 +30,30 @@ module _ (S : Setting) (was : List ℕ) (coming : Option (List ℕ)) (dev : Dev)
   pub none_opened : c.alive ≡ true → c.place ≡ Opened → coming ≡ None → ⊥
   none_opened is opened none = subst (λ (n : Option (List ℕ)). OnComing n (λ p. c.rests p (disk_now v dev))) none (opened_at is opened)
 
-  before_at : (pages : List ℕ) (n : Option (List ℕ)) → c.rests pages (disk_now v dev) → IsAt S (rested dev c) pages n (pick dev Before Before) (disk_now v dev)
-  before_at pages n rest = at_place S pages n (rested dev c) Before (pick dev Before Before) (disk_now v dev) (sym (pick_same dev Before)) rest
+  -- the copy at another place, which is that before any batch where it counts as alive
+  module _ (q : Place) (at_rest : c.alive ≡ true → q ≡ Before) where
+    pub after_kept : (pages : List ℕ) → level was < level pages → coming ≡ Some pages → (c.alive ≡ true → c.place ≡ Opened) → CopyAt S pages None dev (record c { place = q }) v
+    after_kept pages higher same opened = record {
+      at = λ is. at_place S pages None (record c { place = q }) Before q (disk_now v dev) (sym (at_rest is)) (subst (λ (n : Option (List ℕ)). OnComing n (λ p. c.rests p (disk_now v dev))) same (opened_at is (opened is)));
+      formed = copy.formed;
+      gone = λ dead. away_up S was pages higher (is_away S dev) v.now (disk_now v dev) (copy.gone dead);
+    }
 
-  pub after_kept : (pages : List ℕ) → level was < level pages → coming ≡ Some pages → (c.alive ≡ true → c.place ≡ Opened) → CopyAt S pages None dev (rested dev c) v
-  after_kept pages higher same opened = record {
-    at = λ is. before_at pages None (subst (λ (n : Option (List ℕ)). OnComing n (λ p. c.rests p (disk_now v dev))) same (opened_at is (opened is)));
-    formed = copy.formed;
-    gone = λ dead. away_up S was pages higher (is_away S dev) v.now (disk_now v dev) (copy.gone dead);
-  }
-
-  pub after_dropped : (c.alive ≡ true → c.place ≡ Before) → CopyAt S was None dev (rested dev c) v
-  after_dropped before = record { at = λ is. before_at was None (rests_before S was coming c dev v copy before is); formed = copy.formed; gone = copy.gone }
+    pub after_dropped : (c.alive ≡ true → c.place ≡ Before) → CopyAt S was None dev (record c { place = q }) v
+    after_dropped before = record { at = λ is. at_place S was None (record c { place = q }) Before q (disk_now v dev) (sym (at_rest is)) (rests_before S was coming c dev v copy before is); formed = copy.formed; gone = copy.gone }
 
 module _ (S : Setting) (js : List Batch) (b c : Batch) (reached : ℕ) (copies : Dev → Copy) (v : View) (keeps : Keeps S js (Some b) reached copies v)
-    (same_first : c.first ≡ b.first) (same_entries : c.entries ≡ b.entries) (last : c.last ≡ v.now) (laws : (d : Dev) → Reads S.reads (copies d)) where
-  -- the kept pages once the batch in flight has its fate, which each alive copy reads
-  at_rest : (reached' : ℕ) → reached ≤ reached' → reached' ≤ reached + batches_kept (c ∷ []) → is_flying c.fate ≡ false → (p : Versions S reached' (kept_all (js ++ c ∷ [])) [] keeps.first_level keeps.first_order)
-      → ((d : Dev) → IsCkpt d → CopyAt S p.was p.coming d (rested d (copies d)) v) → Keeps S (js ++ c ∷ []) None reached' (λ d. rested d (copies d)) v
-  at_rest reached' least most fated p at =
-      fate_keeps S js b c reached reached' copies (λ d. rested d (copies d)) v least most keeps fated same_first same_entries last p
-      (λ lt d ckpt. copy_reads S p.was (rested d (copies d)) (record { rest = (laws d).rest; hold = (laws d).hold }) p.coming d v (at d ckpt) lt) at
+    (fated : is_flying c.fate ≡ false) (same_first : c.first ≡ b.first) (same_entries : c.entries ≡ b.entries) (last : c.last ≡ v.now) (places : Dev → Place) (at_rest : (d : Dev) → IsCkpt d → (copies d).alive ≡ true → places d ≡ Before) where
+  -- the copies, at these places
+  abbrev rested : Dev → Copy
+  rested d = record (copies d) { place = places d }
 
-  pub kept_keeps : c.fate ≡ Kept → ((copies Ckpt1).alive || (copies Ckpt2).alive) ≡ true → ((d : Dev) → IsCkpt d → (copies d).alive ≡ true → (copies d).place ≡ Opened)
-      → Keeps S (js ++ c ∷ []) None (reached + 1) (λ d. rested d (copies d)) v
-  kept_keeps fate some opened = by_coming keeps.pages.coming refl keeps.pages.comes keeps.pages.comes_near where
+  -- the kept pages once the batch in flight has its fate, with which each alive copy is at rest
+  resting : (reached' : ℕ) → reached ≤ reached' → reached' ≤ reached + batches_kept (c ∷ []) → (p : Versions S reached' (kept_all (js ++ c ∷ [])) [] keeps.first_level keeps.first_order) → ((d : Dev) → IsCkpt d → CopyAt S p.was p.coming d (rested d) v) → ((d : Dev) → IsCkpt d → (copies d).alive ≡ true → AreNotedBefore S p.was p.coming) → Keeps S (js ++ c ∷ []) None reached' rested v
+  resting reached' least most p at later = fate_keeps S js b c reached reached' copies rested v least most keeps fated same_first same_entries last p at later
+
+  pub kept_keeps : c.fate ≡ Kept → ((copies Ckpt1).alive || (copies Ckpt2).alive) ≡ true → ((d : Dev) → IsCkpt d → (copies d).alive ≡ true → (copies d).place ≡ Opened) → Keeps S (js ++ c ∷ []) None (reached + 1) rested v
+  kept_keeps fate some opened = by_coming keeps.pages.coming refl keeps.pages.comes keeps.pages.comes_near keeps.later where
     all : kept_all (js ++ c ∷ []) ≡ kept_all js ++ b.entries
     all = kept_all_append js (c ∷ []) ∙ ap (λ (l : List Entry). kept_all js ++ l) (one_kept c fate ∙ same_entries)
 
@@ -68,39 +61,39 @@ module _ (S : Setting) (js : List Batch) (b c : Batch) (reached : ℕ) (copies :
     higher {pages} comes = is_higher (level keeps.pages.was) (level pages) reached keeps.pages.stands.at_level comes.at_level
 
     -- a copy counts as alive, and each that does has opened its gate: so there are pages in flight
-    by_coming : (n : Option (List ℕ)) → keeps.pages.coming ≡ n → IsNext S reached (kept_all js) b.entries n → IfSome n (IsNear keeps.first_level keeps.first_order) → Keeps S (js ++ c ∷ []) None (reached + 1) (λ d. rested d (copies d)) v
-    by_coming None same comes near = absurd (some_of (λ d. (copies d).alive) some (λ d ckpt is. none_opened S keeps.pages.was keeps.pages.coming d (copies d) v (keeps.at d ckpt) is (opened d ckpt is) same))
-    by_coming (Some pages) same comes near =
-        at_rest (reached + 1) (omega arith) (omega (arith, kept_one c fate)) (ap is_flying fate)
+    by_coming : (n : Option (List ℕ)) → keeps.pages.coming ≡ n → IsNext S reached (kept_all js) b.entries n → IfSome n (IsNear keeps.first_level keeps.first_order) → ((d : Dev) → IsCkpt d → (copies d).alive ≡ true → AreNotedBefore S keeps.pages.was n) → Keeps S (js ++ c ∷ []) None (reached + 1) rested v
+    by_coming None same comes near later = absurd (some_of (λ d. (copies d).alive) some (λ d ckpt is. none_opened S keeps.pages.was keeps.pages.coming d (copies d) v (keeps.at d ckpt) is (opened d ckpt is) same))
+    by_coming (Some pages) same comes near later =
+        resting (reached + 1) (omega arith) (omega (arith, kept_one c fate))
         (record { was = pages; coming = None; stands = subst (λ (l : List Entry). Stands S (reached + 1) l pages) (sym all) comes; comes = tt; none = λ _. refl; near = near; comes_near = tt })
-        (λ d ckpt. after_kept S keeps.pages.was keeps.pages.coming d (copies d) v (keeps.at d ckpt) pages (higher comes) same (opened d ckpt))
+        (λ d ckpt. after_kept S keeps.pages.was keeps.pages.coming d (copies d) v (keeps.at d ckpt) (places d) (at_rest d ckpt) pages (higher comes) same (opened d ckpt)) (λ d ckpt is. ((later d ckpt is).1, tt))
 
-  pub dropped_keeps : c.fate ≡ Dropped → ((d : Dev) → IsCkpt d → (copies d).alive ≡ true → (copies d).place ≡ Before) → Keeps S (js ++ c ∷ []) None reached (λ d. rested d (copies d)) v
-  dropped_keeps fate before =
-      let all : kept_all (js ++ c ∷ []) ≡ kept_all js = kept_all_append js (c ∷ []) ∙ ap (λ (l : List Entry). kept_all js ++ l) (one_dropped c fate) ∙ append-nil (kept_all js) in
-      at_rest reached (le_refl reached) (omega arith) (ap is_flying fate)
-      (record { was = keeps.pages.was; coming = None; stands = subst (λ (l : List Entry). Stands S reached l keeps.pages.was) (sym all) keeps.pages.stands; comes = tt; none = λ _. refl; near = keeps.pages.near; comes_near = tt })
-      (λ d ckpt. after_dropped S keeps.pages.was keeps.pages.coming d (copies d) v (keeps.at d ckpt) (before d ckpt))
+  -- no page changes: the batch is dropped, or the pages stand for the queue with it too
+  pub same_keeps : (kept_all (c ∷ []) ≡ []) ⊎ ((kept_all (c ∷ []) ≡ b.entries) × ((pages : List ℕ) → S.stand (S.run S.base (kept_all js)) pages → S.stand (S.run S.base (kept_all js ++ b.entries)) pages)) → ((d : Dev) → IsCkpt d → (copies d).alive ≡ true → (copies d).place ≡ Before)
+      → Keeps S (js ++ c ∷ []) None reached rested v
+  same_keeps alike before = resting reached (le_refl reached) (omega arith)
+      (record { was = keeps.pages.was; coming = None; stands = record { at_level = keeps.pages.stands.at_level; queue = queue alike }; comes = tt; none = λ _. refl; near = keeps.pages.near; comes_near = tt })
+      (λ d ckpt. after_dropped S keeps.pages.was keeps.pages.coming d (copies d) v (keeps.at d ckpt) (places d) (at_rest d ckpt) (before d ckpt)) (λ d ckpt is. ((keeps.later d ckpt is).0, tt)) where
+        with_kept : (es : List Entry) → kept_all (c ∷ []) ≡ es → S.stand (S.run S.base (kept_all js ++ es)) keeps.pages.was → S.stand (S.run S.base (kept_all (js ++ c ∷ []))) keeps.pages.was
+        with_kept es e = subst (λ (l : List Entry). S.stand (S.run S.base l) keeps.pages.was) (sym (kept_all_append js (c ∷ []) ∙ ap (λ (l : List Entry). kept_all js ++ l) e))
+
+        queue : (kept_all (c ∷ []) ≡ []) ⊎ ((kept_all (c ∷ []) ≡ b.entries) × ((pages : List ℕ) → S.stand (S.run S.base (kept_all js)) pages → S.stand (S.run S.base (kept_all js ++ b.entries)) pages)) → S.stand (S.run S.base (kept_all (js ++ c ∷ []))) keeps.pages.was
+        queue (inl none) = with_kept [] none (subst (λ (l : List Entry). S.stand (S.run S.base l) keeps.pages.was) (sym (append-nil (kept_all js))) keeps.pages.stands.queue)
+        queue (inr kept) = with_kept b.entries kept.0 (kept.1 keeps.pages.was keeps.pages.stands.queue)
 
 -- a line is said
-module _ (S : Setting) (js : List Batch) (c : Option Batch) (old new : View) (line : List ℕ) (act : Act) where
-  pub adds_line : new.now ≡ next old.now → Says line old new act → ((m : MemberId) (s : ℕ) → S.closes line m s → StepIsKept (js ++ in_flight c) old.now m s) → Adds S (js ++ in_flight c) old new
+module _ (S : Setting) (J : List Batch) (old new : View) (line : List ℕ) (act : Act) where
+  pub adds_line : new.now ≡ next old.now → Says line old new act → ((m : MemberId) (s : ℕ) → S.closes line m s → StepIsKept J old.now m s) → Adds S J old new
   adds_line time says told = by_act act says.console where
-    same : (t : ℕ) → old.now < t → t ≤ new.now → (new.world t).console ≡ (new.world new.now).console
-    same t lt le = let e : t ≡ new.now = omega (arith, time) in ap (λ (m : ℕ). (new.world m).console) e
+    whole_line : (new.world new.now).console ≡ (old.world old.now).console ++ whole line ∷ [] → Adds S J old new
+    whole_line e = adds_one S J old new time (whole line ∷ []) e (λ text there m s is. told m s (subst (λ (l : Line). S.closes l.text m s) (sym (one_of (whole line) (whole text) there)) is))
 
-    none : (new.world new.now).console ≡ (old.world old.now).console → Adds S (js ++ in_flight c) old new
-    none e = record { same = same; more = []; is = e ∙ sym (append-nil (old.world old.now).console); tells = tt }
-
-    whole : (new.world new.now).console ≡ (old.world old.now).console ++ record { text = line; whole = true } ∷ [] → Adds S (js ++ in_flight c) old new
-    whole e = record { same = same; more = record { text = line; whole = true } ∷ []; is = e; tells = ((λ is m s tells. told m s tells), tt) }
-
-    by_act : (a : Act) → Said line (old.world old.now).console (new.world new.now).console a → Adds S (js ++ in_flight c) old new
-    by_act Done e = whole e
-    by_act Failed e = none e
-    by_act Halted (inl e) = none e
-    by_act Halted (inr (inl torn)) = record { same = same; more = record { text = torn.0; whole = false } ∷ []; is = torn.1; tells = ((λ is. absurd (cc)), tt) }
-    by_act Halted (inr (inr e)) = whole e
+    by_act : (a : Act) → Said line (old.world old.now).console (new.world new.now).console a → Adds S J old new
+    by_act Done e = whole_line e
+    by_act Failed e = adds_none S J old new time e
+    by_act Halted (inl e) = adds_none S J old new time e
+    by_act Halted (inr (inl torn)) = adds_one S J old new time (record { text = torn.0; whole = false } ∷ []) torn.1 (λ text there. absurd (true≢false (sym (ap (λ (l : Line). l.whole) (one_of (record { text = torn.0; whole = false }) (whole text) there)))))
+    by_act Halted (inr (inr e)) = whole_line e
 
 -- From the invariant of the shared value to its headline.
 
@@ -121,17 +114,6 @@ step_is : (bs : List Batch) (t : ℕ) (by : MemberId) (at : ℕ) → StepIsKept 
 step_is [] t by at kept = All-nil (λ (b : Batch). has_step by at b.entries ≡ true → (b.fate ≡ Kept) × (b.last ≤ t))
 step_is (b ∷ bs) t by at kept = All-cons (λ (b : Batch). has_step by at b.entries ≡ true → (b.fate ≡ Kept) × (b.last ≤ t)) b bs kept.0 (step_is bs t by at kept.1)
 
-module _ (closes : List ℕ → MemberId → ℕ → Type 0) (P : MemberId → ℕ → Type 0) where
-  abbrev Tells : Line → Type 0
-  Tells line = line.whole ≡ true → (m : MemberId) (s : ℕ) → closes line.text m s → P m s
-
-  all_tell : (lines : List Line) → EachTells closes lines P → All Tells lines
-  all_tell [] tells = All-nil Tells
-  all_tell (line ∷ lines) tells = All-cons Tells line lines tells.0 (all_tell lines tells.1)
-
-  one_tells : (lines : List Line) (line : Line) → EachTells closes lines P → Contains lines line → Tells line
-  one_tells lines line tells there = subst Tells there.2 (all_tell lines tells there.0 line there.1)
-
 -- a moment below the greatest is as the world shows it
 pub left_below : (v : View) (t : ℕ) (dev : Dev) → t < top → left_at v t dev ≡ disk_at v t dev
 left_below v t dev lt = ap (λ (b : Bool). lost_if (b && v.lost (DiskPart dev)) (disk_at v t dev)) (ne_eqb t top (λ e. absurd (omega (arith, e, lt))))
@@ -144,175 +126,133 @@ image_left true false disk (Some image) there sunk left = left
 image_left false false disk None there sunk left = absurd (true≢false (sym (sunk left)))
 image_left false false disk (Some image) there sunk left = left
 
-module _ (reads : List ℕ → Option (List ℕ)) (base : Queue) (since : ℕ) (rs : Renewals) (js : List Batch) (c : Option Batch) (reached : ℕ) (copies : Dev → Copy) (v : View) where
+-- what each image reads as that a crash leaves of a copy now
+left_reads : (S : Setting) (was : List ℕ) (coming : Option (List ℕ)) (dev : Dev) (c : Copy) (v : View) → Reads S.reads c → v.now ≤ top → CopyAt S was coming dev c v → (c.alive ≡ false → is_away S dev ≡ false → v.lost (DiskPart dev) ≡ true) → ReadsBy S (is_away S dev) was coming (left_at v v.now dev)
+left_reads S was coming dev c v laws most copy lost = ⊎_elim
+    (λ (h : top ≤ v.now). top_reads S was c laws coming dev v copy (omega (arith, most, h)) lost)
+    (λ (lt : v.now < top). subst (λ (x : Disk). ReadsBy S (is_away S dev) was coming x) (sym (left_below v v.now dev lt)) (copy_reads S was c laws coming dev v copy lt))
+    (either_way top v.now)
+
+module _ (reads : List ℕ → Option (List ℕ)) (base : Queue) (since : ℕ) (rs : Renewals) (had : List (List Page)) (js : List Batch) (c : Option Batch) (reached : ℕ) (copies : Dev → Copy) (v : View) where
   abbrev S : Setting
-  S = setting_with reads base since rs
+  S = setting_with reads base since rs had
 
-  found_for : (E G : List Entry) → E ≡ G → (q : Option (List ℕ)) → IsFound S E q → FoundFor (run base G) q
-  found_for E G e None is = is
-  found_for E G e (Some pages) is = subst (λ (l : List Entry). StandFor (run base l) pages) e is
+  abbrev J : Journal
+  J = record { batches = js ++ in_flight c }
 
-  journal_after : (t : ℕ) (q : Option (List ℕ)) → IsAfter S (js ++ in_flight c) t q → IsAfterKept base (record { batches = js ++ in_flight c }) t q
-  journal_after t q after = ⊎_elim
-      (λ x. inl (found_for (kept (js ++ in_flight c) t) (kept_at (record { batches = js ++ in_flight c }) t) (kept_is (js ++ in_flight c) t) q x))
-      (λ x. inr (found_for (kept (js ++ in_flight c) t ++ flying (js ++ in_flight c) t) (kept_at (record { batches = js ++ in_flight c }) t ++ flying_at (record { batches = js ++ in_flight c }) t)
-      (ap (λ (l : List Entry). l ++ flying (js ++ in_flight c) t) (kept_is (js ++ in_flight c) t) ∙ ap (λ (l : List Entry). kept_at (record { batches = js ++ in_flight c }) t ++ l) (flying_is (js ++ in_flight c) t)) q x))
-      after
+  found_for : (K : List Entry) (q : Option (List ℕ)) → IsFound S K q → FoundFor (run base K) q
+  found_for K None is = is
+  found_for K (Some pages) is = is
 
-  are_alike : (t : ℕ) → Alike S (kept (js ++ in_flight c) t) (flying (js ++ in_flight c) t) t (left_at v t) → AreAlike reads base (record { batches = js ++ in_flight c }) rs t v
-  are_alike t alike = of_same (alike_as S (kept (js ++ in_flight c) t) (flying (js ++ in_flight c) t) (kept_at (record { batches = js ++ in_flight c }) t) (flying_at (record { batches = js ++ in_flight c }) t) (left_at v t)
-      (sym (kept_is (js ++ in_flight c) t)) (sym (flying_is (js ++ in_flight c) t)) alike) where
-        next_of : (l : ℕ) (was : List ℕ) (K F : List Entry) (n : Option (List ℕ)) → Stands S l K was → IsNext S l K F n → IfSome n (λ pages. (level pages ≡ level was + 1) × StandFor (run base (K ++ F)) pages)
-        next_of l was K F None stands comes = tt
-        next_of l was K F (Some pages) stands comes = (omega (arith, stands.at_level, comes.at_level), comes.queue)
-
-        of_same : Alike S (kept_at (record { batches = js ++ in_flight c }) t) (flying_at (record { batches = js ++ in_flight c }) t) t (left_at v t) → AreAlike reads base (record { batches = js ++ in_flight c }) rs t v
-        of_same a = record {
-          was = a.was;
-          coming = a.coming;
-          stands = a.stands.queue;
-          comes = next_of a.reached a.was (kept_at (record { batches = js ++ in_flight c }) t) (flying_at (record { batches = js ++ in_flight c }) t) a.coming a.stands a.comes;
-          none = a.none;
-          first = a.reads Ckpt1 tt;
-          second = a.reads Ckpt2 tt;
-        }
+  next_of : (l : ℕ) (was : List ℕ) (K F : List Entry) (n : Option (List ℕ)) → Stands S l K was → IsNext S l K F n → IfSome n (λ pages. (level pages ≡ level was + 1) × StandFor (run base (K ++ F)) pages)
+  next_of l was K F None stands comes = tt
+  next_of l was K F (Some pages) stands comes = (omega (arith, stands.at_level, comes.at_level), comes.queue)
 
   module _ (keeps : Keeps S js c reached copies v) (most : v.now ≤ top) (lost : (d : Dev) → IsCkpt d → (copies d).alive ≡ false → is_away S d ≡ false → v.lost (DiskPart d) ≡ true) (laws : (d : Dev) → Reads reads (copies d)) where
-    at_top : v.now ≡ top → (d : Dev) → IsCkpt d → ReadsBy S (is_renewed_at (of_device d rs) v.now) keeps.pages.was keeps.pages.coming (left_at v v.now d)
-    at_top last d ckpt = subst (λ (b : Bool). ReadsBy S b keeps.pages.was keeps.pages.coming (left_at v v.now d)) (sym (renewed_open (of_device d rs) v.now v.now (keeps.renewed d ckpt) (omega arith)))
-        (top_reads S keeps.pages.was (copies d) (laws d) keeps.pages.coming d v (keeps.at d ckpt) last (lost d ckpt))
+    -- what holds at a moment at which these entries were kept and those in flight, with the devices as a crash finds them
+    abbrev AtAny : List Entry → List Entry → ℕ → Type 0
+    AtAny K F t = Alike S keeps.first_level keeps.first_order reached K F t (left_at v t) × TextsAt S K F v t × AreSunk v t
 
-    alike_top : v.now ≡ top → Alike S (kept (js ++ in_flight c) v.now) (flying (js ++ in_flight c) v.now) v.now (left_at v v.now)
-    alike_top last = alike_now S js c v.now v.now (left_at v v.now) keeps.pages keeps.settled keeps.begun (omega arith) (at_top last)
+    at_now : AtAny (kept_all js) (entries_in c) v.now
+    at_now = (
+      record {
+        reached = reached;
+        low = le_refl reached;
+        pages = keeps.pages;
+        reads = λ d ckpt. subst (λ (b : Bool). ReadsBy S b keeps.pages.was keeps.pages.coming (left_at v v.now d)) (sym (renewed_open (of_device d rs) v.now v.now (keeps.renewed d ckpt) (le_refl v.now)))
+            (left_reads S keeps.pages.was keeps.pages.coming d (copies d) v (laws d) most (keeps.at d ckpt) (lost d ckpt));
+      },
+      keeps.texts,
+      keeps.sunk,
+    )
 
-    at_any : (t : ℕ) → since ≤ t → t ≤ v.now → Alike S (kept (js ++ in_flight c) t) (flying (js ++ in_flight c) t) t (left_at v t)
-    at_any t from le = ⊎_elim
-        (λ h. let last : v.now ≡ top = omega (arith, most, le, h) in let e : v.now ≡ t = omega (arith, most, le, h) in
-        subst (λ (m : ℕ). Alike S (kept (js ++ in_flight c) m) (flying (js ++ in_flight c) m) m (left_at v m)) e (alike_top last))
-        (λ lt. let a = keeps.crash t from le lt in record {
-          reached = a.reached;
-          was = a.was;
-          coming = a.coming;
-          stands = a.stands;
-          comes = a.comes;
-          none = a.none;
-          reads = λ d ckpt. subst (λ (x : Disk). ReadsBy S (is_renewed_at (of_device d rs) t) a.was a.coming x) (sym (left_below v t d lt)) (a.reads d ckpt);
-        })
-        (either_way top t)
+    at_past : (t : ℕ) → since ≤ t → t < v.now → AtAny (kept J.batches t) (flying J.batches t) t
+    at_past t from lt = let m = keeps.past t from lt in let a = m.alike (omega (arith, most, lt)) in (
+      record {
+        reached = a.reached;
+        low = a.low;
+        pages = a.pages;
+        reads = λ d ckpt. subst (λ (x : Disk). ReadsBy S (is_renewed_at (of_device d rs) t) a.pages.was a.pages.coming x) (sym (left_below v t d (omega (arith, most, lt)))) (a.reads d ckpt);
+      },
+      m.texts,
+      m.sunk,
+    )
+
+    at_any : (t : ℕ) → since ≤ t → t ≤ v.now → AtAny (kept_at J t) (flying_at J t) t
+    at_any t from le = subst (λ (es : List Entry × List Entry). AtAny es.0 es.1 t) (λ i. (kept_is J.batches t i, flying_is J.batches t i)) (⊎_elim
+        (λ (h : v.now ≤ t). let e : v.now ≡ t = omega (arith, h, le) in subst (λ (m : ℕ). AtAny (kept J.batches m) (flying J.batches m) m) e
+        (subst (λ (s : Account). AtAny s.0 s.1 v.now) (sym (account_now js c v.now v.now keeps.settled keeps.begun (le_refl v.now))) at_now))
+        (λ (lt : t < v.now). at_past t from lt)
+        (either_way v.now t))
 
     -- the levels that images of a copy that isn't being replaced have at a moment
-    abbrev UpTo : Disk → Type 0
-    UpTo d = ReadsUpTo reads keeps.first_level keeps.first_order (reached + 1) d
+    up_to : (d : Dev) → IsCkpt d → (t : ℕ) → since ≤ t → t ≤ v.now → is_renewed_at (of_device d rs) t ≡ false → ReadsUpTo reads keeps.first_level keeps.first_order (keeps.first_level + batches_kept J.batches + 1) (left_at v t d)
+    up_to d ckpt t from le is = let a = (at_any t from le).0 in
+        less_up reads keeps.first_level keeps.first_order (a.reached + 1) (keeps.first_level + batches_kept J.batches + 1) (omega (arith, a.low, keeps.risen, kept_append js (in_flight c))) (left_at v t d)
+        (one_up a.pages (left_at v t d) (subst (λ (b : Bool). ReadsBy S b a.pages.was a.pages.coming (left_at v t d)) is (a.reads d ckpt)))
 
-    up_to : (d : Dev) → IsCkpt d → (t : ℕ) → since ≤ t → t ≤ v.now → is_renewed_at (of_device d rs) t ≡ false → UpTo (left_at v t d)
-    up_to d ckpt t from le is = ⊎_elim
-        (λ h. let last : v.now ≡ top = omega (arith, most, le, h) in let e : v.now ≡ t = omega (arith, most, le, h) in
-        subst (λ (m : ℕ). UpTo (left_at v m d)) e (one_up keeps.pages (left_at v v.now d)
-        (subst (λ (b : Bool). ReadsBy S b keeps.pages.was keeps.pages.coming (left_at v v.now d)) (subst (λ (m : ℕ). is_renewed_at (of_device d rs) m ≡ false) (sym e) is) (at_top last d ckpt))))
-        (λ lt. subst UpTo (sym (left_below v t d lt)) (keeps.rises.most d ckpt t from le lt is))
-        (either_way top t)
-
-    levels_of : AreLevelsLow reads since (record { batches = js ++ in_flight c }) rs v
-    levels_of = record {
-      first_level = keeps.first_level;
-      first_order = keeps.first_order;
-      first1 = λ lt. keeps.rises.first lt Ckpt1 tt;
-      first2 = λ lt. keeps.rises.first lt Ckpt2 tt;
-      most1 = λ t from le is. less_up reads keeps.first_level keeps.first_order (reached + 1) most_level low (left_at v t Ckpt1) (up_to Ckpt1 tt t from le is);
-      most2 = λ t from le is. less_up reads keeps.first_level keeps.first_order (reached + 1) most_level low (left_at v t Ckpt2) (up_to Ckpt2 tt t from le is);
-    } where
-      most_level : ℕ
-      most_level = keeps.first_level + batches_kept (js ++ in_flight c) + 1
-
-      low : reached + 1 ≤ keeps.first_level + batches_kept (js ++ in_flight c) + 1
-      low = omega (arith, keeps.rises.risen, kept_append js (in_flight c))
-
-    pub headline_of : length (js ++ in_flight c) ≤ journal_most → (IsSound base → ∥ PaperKept base since (js ++ in_flight c) v ∥₁) → Headline reads base since (record { batches = js ++ in_flight c }) rs v
+    pub headline_of : length J.batches ≤ journal_most → (IsSound base → ∥ PaperKept base since J.batches v ∥₁) → Headline reads base since J rs v
     headline_of few paper = record {
       few = few;
       paper = paper;
-      crash = λ t from le good one two left right. journal_after t (found S one two)
-          (alike_found S (kept (js ++ in_flight c) t) (flying (js ++ in_flight c) t) t (left_at v t) (at_any t from le) one two left right good);
-      alike = λ t from le. are_alike t (at_any t from le);
-      levels = levels_of;
+      crash = λ t from le good one two left right. ⊎_elim (λ x. inl (found_for (kept_at J t) (found S one two) x)) (λ x. inr (found_for (kept_at J t ++ flying_at J t) (found S one two) x))
+          (alike_found S (kept_at J t) (flying_at J t) t (left_at v t) (at_any t from le).0 one two left right good);
+      alike = λ t from le. let a = (at_any t from le).0 in record {
+        was = a.pages.was;
+        coming = a.pages.coming;
+        stands = a.pages.stands.queue;
+        comes = next_of a.reached a.pages.was (kept_at J t) (flying_at J t) a.pages.coming a.pages.stands a.pages.comes;
+        none = a.pages.none;
+        first = a.reads Ckpt1 tt;
+        second = a.reads Ckpt2 tt;
+      };
+      levels = record {
+        first_level = keeps.first_level;
+        first_order = keeps.first_order;
+        first1 = λ lt. keeps.first lt Ckpt1 tt;
+        first2 = λ lt. keeps.first lt Ckpt2 tt;
+        most1 = λ t from le is. up_to Ckpt1 tt t from le is;
+        most2 = λ t from le is. up_to Ckpt2 tt t from le is;
+      };
       texts = λ t from le volumes left.
-          let at = keeps.texts t from le in
-          let images = λ (n : ℕ) (there : lost_now v n ≡ false). image_left (t == top) (lost_now v n) (spools_at v t n) (volumes n) there (keeps.sunk t from le n) (left n) in (
-            subst (λ (l : List Entry). GivesTexts (lost_now v) volumes base.config.groups (run base l)) (kept_is (js ++ in_flight c) t)
-                (gives_texts (lost_now v) volumes (spools_at v t) base.config.groups images (run base (kept (js ++ in_flight c) t)) at.after_kept),
-            subst (λ (l : List Entry). GivesTexts (lost_now v) volumes base.config.groups (run base l))
-                (ap (λ (l : List Entry). l ++ flying (js ++ in_flight c) t) (kept_is (js ++ in_flight c) t) ∙ ap (λ (l : List Entry). kept_at (record { batches = js ++ in_flight c }) t ++ l) (flying_is (js ++ in_flight c) t))
-                (gives_texts (lost_now v) volumes (spools_at v t) base.config.groups images (run base (kept (js ++ in_flight c) t ++ flying (js ++ in_flight c) t)) at.after_coming),
-          );
+          let at = at_any t from le in
+          let images = λ (n : ℕ) (there : lost_now v n ≡ false). image_left (t == top) (lost_now v n) (spools_at v t n) (volumes n) there (at.2 n) (left n) in
+          (gives_texts (lost_now v) volumes (spools_at v t) base.config.groups images (run base (kept_at J t)) (at.1 false), gives_texts (lost_now v) volumes (spools_at v t) base.config.groups images (run base (kept_at J t ++ flying_at J t)) (at.1 true));
       told = λ t from le by at end telling there.
-          step_is (js ++ in_flight c) t by at
-          (one_tells Closes (StepIsKept (js ++ in_flight c) t) (said S v t) (whole (closing_line by at end)) (keeps.told t from le) there refl by at (record { end = end; telling = telling; is = refl }));
+          step_is J.batches t by at (keeps.told t from le (closing_line by at end) there by at (record { end = end; telling = telling; is = refl }));
     }
 
 -- How the shared value begins and ends, and a batch that changes no page.
-
-none_said : (closes : List ℕ → MemberId → ℕ → Type 0) (lines : List Line) (P : MemberId → ℕ → Type 0) → EachTells closes (drop (length lines) lines) P
-none_said closes [] P = tt
-none_said closes (line ∷ lines) P = none_said closes lines P
 
 pub none_yet : (d : Dev) → of_device d no_renewals ≡ []
 none_yet Ckpt1 = refl
 none_yet _ = refl
 
 module _ (S : Setting) (reached : ℕ) (copies : Dev → Copy) (v : View) (laws : (d : Dev) → Reads S.reads (copies d)) where
-  pub make_keeps : ((d : Dev) → of_device d S.renewals ≡ []) → S.since ≡ v.now → ((n : ℕ) → (disk_now v (Spool n)).lost ≡ true → lost_now v n ≡ true) → (begins : BeginsWith S reached copies v) → (copies' : Dev → Copy) → ((d : Dev) → IsCkpt d → CopyAt S begins.pages None d (copies' d) v) → Keeps S [] None reached copies' v
-  make_keeps none since sunk begins copies' at = record {
+  pub make_keeps : ((d : Dev) → of_device d S.renewals ≡ []) → S.since ≡ v.now → ((n : ℕ) → (disk_now v (Spool n)).lost ≡ true → lost_now v n ≡ true) → ((is : List ℕ) → AreLater (page_count S.base.config) S.had is) → (begins : BeginsWith S reached copies v) → (copies' : Dev → Copy) → ((d : Dev) → IsCkpt d → CopyAt S begins.pages None d (copies' d) v) → Keeps S [] None reached copies' v
+  make_keeps none since sunk later begins copies' at = record {
     started = omega (arith, since);
     settled = tt;
     begun = tt;
     renewed = λ d ckpt. subst (λ (l : List Renewal). AreRenewedBy l v.now) (sym (none d)) tt;
-    crash = λ t from le lt. let e : v.now ≡ t = omega (arith, since) in
-        alike_now S [] None v.now t (disk_at v t) only tt tt (omega (arith, e))
-        (λ d ckpt. not_renewed S begins.pages (is_renewed_at (of_device d S.renewals) t) None (disk_at v t d) (ap (λ (l : List Renewal). is_renewed_at l t) (none d))
-        (subst (λ (m : ℕ). ReadsOne S begins.pages None (disk_at v m d)) e (one (omega (arith, e, lt)) d ckpt)));
-    told = λ t from le. let e : S.since ≡ t = omega (arith, since) in
-        subst (λ (m : ℕ). EachTells S.closes (drop (length (v.world S.since).console) (v.world m).console) (StepIsKept [] t)) e (none_said S.closes (v.world S.since).console (StepIsKept [] t));
-    grows = λ t from le. let e : v.now ≡ t = omega (arith, since) in
-        record { more = []; is = ap (λ (m : ℕ). (v.world m).console) e ∙ sym (append-nil (v.world t).console) };
-    texts = make_texts S v since begins.texts;
     first_level = reached;
     first_order = next_order begins.pages;
-    rises = make_rise S reached begins.pages v since begins.stands one;
-    sunk = λ t from le n lost. let e : t ≡ v.now = omega (arith, since) in sunk n (subst (λ (m : ℕ). (disk_at v m (Spool n)).lost ≡ true) e lost);
-    pages = only;
+    past = λ t from lt. absurd (omega (arith, since, from, lt));
+    told = λ t from le text there m s is. tt;
+    grows = λ t from le. let e : v.now ≡ t = omega (arith, since) in
+        record { more = []; is = ap (λ (m : ℕ). (v.world m).console) e ∙ sym (append-nil (v.world t).console) };
+    texts = texts;
+    sunk = sunk;
+    first = λ lt d ckpt. subst (λ (m : ℕ). ReadsAtLevel S.reads reached (next_order begins.pages) (disk_at v m d)) (sym since) (at_kept S reached [] begins.pages begins.stands (disk_now v d)
+        (subst (λ (b : Bool). ReadsBy S b begins.pages None (disk_now v d)) (ap is_open (none d)) (copy_reads S begins.pages (copies d) (laws d) None d v (begins.at d ckpt) (omega (arith, since, lt)))));
+    risen = omega arith;
+    pages = only_pages S reached [] begins.pages begins.stands;
     at = at;
+    later = λ d ckpt is. (later begins.pages, tt);
   } where
-    only : Versions S reached [] [] reached (next_order begins.pages)
-    only = only_pages S reached [] begins.pages begins.stands
-
-    one : v.now < top → (d : Dev) → IsCkpt d → ReadsOne S begins.pages None (disk_now v d)
-    one lt d ckpt = subst (λ (b : Bool). ReadsBy S b begins.pages None (disk_now v d)) (ap is_open (none d)) (copy_reads S begins.pages (copies d) (laws d) None d v (begins.at d ckpt) lt)
-
-  module _ (js : List Batch) (b c : Batch) (keeps : Keeps S js None reached copies v) (flies : b.fate ≡ Flying) (b_first : b.first ≡ v.now)
-      (untold : IsUntold S v b.entries)
-      (fate : c.fate ≡ Kept) (same_first : c.first ≡ b.first) (same_entries : c.entries ≡ b.entries) (last : c.last ≡ v.now)
-      (alike : (pages : List ℕ) → S.stand (S.run S.base (kept_all js)) pages → S.stand (S.run S.base (kept_all js ++ b.entries)) pages)
-      (has : HasTexts (lost_now v) (spools_at v v.now) S.base.config.groups (S.run S.base (kept_all js ++ b.entries))) where
-    all : kept_all (js ++ c ∷ []) ≡ kept_all js ++ b.entries
-    all = kept_all_append js (c ∷ []) ∙ ap (λ (l : List Entry). kept_all js ++ l) (one_kept c fate ∙ same_entries)
-
-    pub same_keeps : Keeps S (js ++ c ∷ []) None reached copies v
-    unfolding begins_keep
-    same_keeps =
-        fate_keeps S js b c reached reached copies copies v (le_refl reached) (omega arith) (begins_keep S js b reached copies v keeps flies b_first untold has) (ap is_flying fate) same_first same_entries last
-        (record {
-          was = keeps.pages.was;
-          coming = None;
-          stands = record { at_level = keeps.pages.stands.at_level; queue = subst (λ (l : List Entry). S.stand (S.run S.base l) keeps.pages.was) (sym all) (alike keeps.pages.was keeps.pages.stands.queue) };
-          comes = tt;
-          none = λ _. refl;
-          near = keeps.pages.near;
-          comes_near = tt;
-        })
-        (λ lt d ckpt. copy_reads S keeps.pages.was (copies d) (laws d) None d v (at d ckpt) lt) at
-      where
-        at : (d : Dev) → IsCkpt d → CopyAt S keeps.pages.was None d (copies d) v
-        at d ckpt = subst (λ (n : Option (List ℕ)). CopyAt S keeps.pages.was n d (copies d) v) (keeps.pages.none refl) (keeps.at d ckpt)
+    texts : TextsAt S [] [] v v.now
+    texts false = begins.texts
+    texts true = begins.texts
 
 -- a copy at a moment, as a crash finds it after later acts, where none was replaced
 module _ (S : Setting) (was : List ℕ) (coming : Option (List ℕ)) (dev : Dev) (c : Copy) (v later : View) (laws : Reads S.reads c) (known : is_away S dev ≡ false) (most : v.now ≤ top) (goes : Goes v later) (copy : CopyAt S was coming dev c v) (lost : c.alive ≡ false → v.lost (DiskPart dev) ≡ true) where
@@ -324,10 +264,7 @@ module _ (S : Setting) (was : List ℕ) (coming : Option (List ℕ)) (dev : Dev)
   copy_again = moved S was coming dev c v again (le_refl v.now) (ap (λ (w : World). w.disk dev) (goes.past v.now (le_refl v.now))) copy
 
   pub first_reads : ReadsOne S was coming (left_at later v.now dev)
-  first_reads = subst (λ (b : Bool). ReadsBy S b was coming (left_at later v.now dev)) known (⊎_elim
-      (λ le. top_reads S was c laws coming dev again copy_again (omega (arith, most, le)) (λ dead known. goes.lost (DiskPart dev) (lost dead)))
-      (λ lt. subst (λ (d : Disk). ReadsBy S (is_away S dev) was coming d) (sym (left_below later v.now dev lt)) (copy_reads S was c laws coming dev again copy_again lt))
-      (either_way top v.now))
+  first_reads = subst (λ (b : Bool). ReadsBy S b was coming (left_at later v.now dev)) known (left_reads S was coming dev c again laws most copy_again (λ dead known. goes.lost (DiskPart dev) (lost dead)))
 
 -- a copy of which an image is left is good where none was replaced
 left_good : (d e : Disk) (one two : Option (List ℕ)) → IsLeft d one → IsLeft e two → SomeLeft one two → SomeGood false false d e
@@ -342,7 +279,7 @@ module _ (reads : List ℕ → Option (List ℕ)) (base : Queue) (since : ℕ) w
   pub leaves_base : (reached : ℕ) (was : List ℕ) (v later : View) → Stands (setting reads base since) reached [] was → ((d : Dev) → IsCkpt d → ReadsOne (setting reads base since) was None (left_at later v.now d)) → LeavesQueue reads base v.now later
   leaves_base reached was v later stands both x y left right some =
       for_base (found (setting reads base since) x y)
-      (alike_found (setting reads base since) [] [] v.now (left_at later v.now) (record { reached = reached; was = was; coming = None; stands = stands; comes = tt; none = λ _. refl; reads = each (λ d. ReadsBy (setting reads base since) (is_renewed_at (of_device d no_renewals) v.now) was None (left_at later v.now d)) (both Ckpt1 tt) (both Ckpt2 tt) }) x y left right
+      (alike_found (setting reads base since) [] [] v.now (left_at later v.now) (record { reached = reached; low = le_refl reached; pages = only_pages (setting reads base since) reached [] was stands; reads = each (λ d. ReadsBy (setting reads base since) (is_renewed_at (of_device d no_renewals) v.now) was None (left_at later v.now d)) (both Ckpt1 tt) (both Ckpt2 tt) }) x y left right
       (left_good (left_at later v.now Ckpt1) (left_at later v.now Ckpt2) x y left right some))
 
 -- a copy that rests with pages before any batch, or is lost, where none was replaced
@@ -353,6 +290,6 @@ rested_copy S dev c v pages known before rests gone = record {
   gone = λ dead. subst (λ (b : Bool). IsAway S pages b v.now (disk_now v dev)) (sym known) (gone dead);
 }
 
--- one at another place, which says the same of it
+-- one at another place, which say the same of it
 pub placed_copy : (S : Setting) (was : List ℕ) (coming : Option (List ℕ)) (dev : Dev) (c : Copy) (q : Place) (v : View) → (c.alive ≡ true → c.place ≡ q) → CopyAt S was coming dev c v → CopyAt S was coming dev (record c { place = q }) v
 placed_copy S was coming dev c q v same copy = record { at = λ is. at_place S was coming c c.place q (disk_now v dev) (same is) (copy.at is); formed = copy.formed; gone = copy.gone }

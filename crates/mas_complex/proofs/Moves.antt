@@ -1,216 +1,216 @@
 -- How the shared value goes on: over acts, and over a batch that begins or gets its fate.
-use Rattle.mas_complex.proofs.Names.{◌≡◌, ⊎_elim, ℕ, ◌+◌, ◌≤◌, ◌<◌, Bool, false, refl, List, [], ◌∷◌, ◌++◌, length, drop, Option, Some, None, subst, sym, ◌∙◌, ap, arith, append_assoc, zero, suc, append-nil, MemberId, Batch, Flying, is_flying, View, World, Line, disk_at, disk_now, top, kept, flying, kept_all, in_flight, entries_in, batches_kept, AreSettled, StepIsKept, has_step, is_renewed_at, Setting, Alike, CrashAt, EachTells, said, ToldAt, ReadsBy, Copy, CopyAt, Keeps, spools_at, lost_now, HasTexts, either_way, IsCkpt, Dev, is_away, of_device, Entry, Versions, IsBegun, ViewDisk as Disk}
+use Rattle.mas_complex.proofs.Names.{AreNotedBefore, ◌≡◌, ◌⊎◌, inr, ⊎_elim, ℕ, ◌+◌, ◌≤◌, ◌<◌, if◌then◌else◌, Bool, true, false, refl, List, [], ◌∷◌, ◌++◌, length, drop, Option, Some, None, subst, sym, ◌∙◌, ap, arith, append_assoc, zero, suc, append-nil, MemberId, Batch, Flying, is_flying, is_kept, View, World, Line, disk_at, top, kept, flying, kept_all, in_flight, entries_in, batches_kept, StepIsKept, has_step, is_renewed_at, Setting, Alike, EachTells, next, Contains, Contains-append_left, Contains-append_right, TellOnly, said, whole, ReadsBy, Copy, CopyAt, Keeps, Moment, Account, account, ReadsAtLevel, TextsAt, spools_at, lost_now, HasTexts, either_way, IsCkpt, Dev, is_away, of_device, Entry, Versions}
+use Rattle.std.proofs.lemmas.List.Elements.{Contains-append_cases, Contains-push_cases}
 use Rattle.mas_complex.proofs.Basics.{Passes}
-use Rattle.mas_complex.proofs.Batches.{now_kept, now_flying, settled_later, settled_push, begun_later, begins_kept, begins_flying, fated_kept, fated_flying, step_later, step_push, step_fate}
-use Rattle.mas_complex.proofs.Present.{renewed_open, renewed_later, alike_as, alike_none, one_up, acts_rise, fated_rise}
-use Rattle.mas_complex.proofs.Spooled.{Stays, acts_texts, acts_sunk, begins_texts, fated_texts}
+use Rattle.mas_complex.proofs.Batches.{account_before, begun_later, account_fated, kept_all_append, account_now, account_after, settled_later, settled_push, step_fate, step_later, step_push}
+use Rattle.mas_complex.proofs.Present.{kept_append, renewed_later, renewed_open}
+use Rattle.mas_complex.proofs.Spooled.{Stays, sunk_acts, sunk_past, texts_acts, texts_past}
 
-module _ (closes : List ℕ → MemberId → ℕ → Type 0) where
-  pub each_map : (lines : List Line) (P Q : MemberId → ℕ → Type 0) → ((m : MemberId) (s : ℕ) → P m s → Q m s) → EachTells closes lines P → EachTells closes lines Q
-  each_map [] P Q so tells = tt
-  each_map (line ∷ lines) P Q so tells = ((λ whole m s is. so m s (tells.0 whole m s is)), each_map lines P Q so tells.1)
+-- lines behind so many of the first are so of all, and those of all are of the first or more
+pub behind_more : (n : ℕ) (xs ys : List Line) (x : Line) → Contains (drop n xs) x → Contains (drop n (xs ++ ys)) x
+behind_more zero xs ys x there = Contains-append_left xs ys x there
+behind_more (suc n) [] ys x there = absurd (omega (arith, there.1))
+behind_more (suc n) (y ∷ xs) ys x there = behind_more n xs ys x there
 
-  pub each_both : (lines : List Line) (P Q R : MemberId → ℕ → Type 0) → ((m : MemberId) (s : ℕ) → P m s → Q m s → R m s) → EachTells closes lines P → EachTells closes lines Q → EachTells closes lines R
-  each_both [] P Q R so tells also = tt
-  each_both (line ∷ lines) P Q R so tells also = ((λ whole m s is. so m s (tells.0 whole m s is) (also.0 whole m s is)), each_both lines P Q R so tells.1 also.1)
+pub behind_drop : (n : ℕ) (xs : List Line) (x : Line) → Contains (drop n xs) x → Contains xs x
+behind_drop zero xs x there = there
+behind_drop (suc n) [] x there = there
+behind_drop (suc n) (y ∷ xs) x there = Contains-append_right (y ∷ []) xs x (behind_drop n xs x there)
 
-  each_append : (xs ys : List Line) (P : MemberId → ℕ → Type 0) → EachTells closes xs P → EachTells closes ys P → EachTells closes (xs ++ ys) P
-  each_append [] ys P one two = two
-  each_append (x ∷ xs) ys P one two = (one.0, each_append xs ys P one.1 two)
-
-  each_drop : (n : ℕ) (xs : List Line) (P : MemberId → ℕ → Type 0) → EachTells closes xs P → EachTells closes (drop n xs) P
-  each_drop zero xs P tells = tells
-  each_drop (suc n) [] P tells = tt
-  each_drop (suc n) (x ∷ xs) P tells = each_drop n xs P tells.1
-
-  pub each_more : (n : ℕ) (xs ys : List Line) (P : MemberId → ℕ → Type 0) → EachTells closes (drop n xs) P → EachTells closes ys P → EachTells closes (drop n (xs ++ ys)) P
-  each_more zero xs ys P one two = each_append xs ys P one two
-  each_more (suc n) [] ys P one two = each_drop (suc n) ys P two
-  each_more (suc n) (x ∷ xs) ys P one two = each_more n xs ys P one two
-
-  each_front : (xs ys : List Line) (P : MemberId → ℕ → Type 0) → EachTells closes (xs ++ ys) P → EachTells closes xs P
-  each_front [] ys P tells = tt
-  each_front (x ∷ xs) ys P tells = (tells.0, each_front xs ys P tells.1)
-
-  pub each_less : (n : ℕ) (xs ys : List Line) (P : MemberId → ℕ → Type 0) → EachTells closes (drop n (xs ++ ys)) P → EachTells closes (drop n xs) P
-  each_less zero xs ys P tells = each_front xs ys P tells
-  each_less (suc n) [] ys P tells = tt
-  each_less (suc n) (x ∷ xs) ys P tells = each_less n xs ys P tells
-
-abbrev console_at : View → ℕ → List Line
-console_at v t = (v.world t).console
-
--- acts: what held at a past moment holds
-module _ (S : Setting) (J : List Batch) (old new : View) (goes : Passes old new) where
-  crash_past : (t : ℕ) → t ≤ old.now → CrashAt S J old t → CrashAt S J new t
-  crash_past t le crash =
-      subst (λ (w : World). Alike S (kept J t) (flying J t) t w.disk) (sym (goes.past t le)) crash
-
-  said_past : (t : ℕ) → S.since ≤ old.now → t ≤ old.now → said S new t ≡ said S old t
-  said_past t from le =
-      ap (λ (w : World). drop (length w.console) (new.world t).console) (goes.past S.since from)
-      ∙ ap (λ (w : World). drop (length (old.world S.since).console) w.console) (goes.past t le)
-
-  told_past : (t : ℕ) → S.since ≤ old.now → t ≤ old.now → ToldAt S J old t → ToldAt S J new t
-  told_past t from le told = subst (λ (l : List Line). EachTells S.closes l (StepIsKept J t)) (sym (said_past t from le)) told
+pub behind_cases : (n : ℕ) (xs ys : List Line) (x : Line) → Contains (drop n (xs ++ ys)) x → Contains (drop n xs) x ⊎ Contains ys x
+behind_cases zero xs ys x there = Contains-append_cases xs ys x there
+behind_cases (suc n) [] ys x there = inr (behind_drop (suc n) ys x there)
+behind_cases (suc n) (y ∷ xs) ys x there = behind_cases n xs ys x there
 
 -- what a call says on the console: nothing, or one line at its end
 pub record Adds (S : Setting) (J : List Batch) (old new : View) : Type 0 where
   pub same : (t : ℕ) → old.now < t → t ≤ new.now → (new.world t).console ≡ (new.world new.now).console
   pub more : List Line
   pub is : (new.world new.now).console ≡ (old.world old.now).console ++ more
-  pub tells : EachTells S.closes more (StepIsKept J old.now)
+  pub tells : TellOnly S.closes more (StepIsKept J old.now)
+
+pub one_of : (a b : Line) → Contains (a ∷ []) b → a ≡ b
+one_of a b there = ⊎_elim (λ none. absurd (omega (arith, none.1))) (λ e. e) (Contains-push_cases [] a b there)
+
+-- what each of the lines tells
+pub each_tells : (closes : List ℕ → MemberId → ℕ → Type 0) (P : MemberId → ℕ → Type 0) (lines : List Line) → EachTells closes lines P → TellOnly closes lines P
+each_tells closes P [] tells text there m s is = absurd (omega (arith, there.1))
+each_tells closes P (line ∷ lines) tells text there m s is = ⊎_elim
+    (λ here. let e = one_of line (whole text) here in tells.0 (ap (λ (l : Line). l.whole) e) m s (subst (λ (l : Line). closes l.text m s) (sym e) is))
+    (λ later. each_tells closes P lines tells.1 text later m s is)
+    (Contains-append_cases (line ∷ []) lines (whole text) there)
+
+module _ (S : Setting) (J : List Batch) (old new : View) (time : new.now ≡ next old.now) where
+  -- of one act
+  pub adds_one : (more : List Line) → (new.world new.now).console ≡ (old.world old.now).console ++ more → TellOnly S.closes more (StepIsKept J old.now) → Adds S J old new
+  adds_one more is tells = record { same = λ t lt le. let e : t ≡ new.now = omega (arith, time) in ap (λ (m : ℕ). (new.world m).console) e; more = more; is = is; tells = tells }
+
+  pub adds_none : (new.world new.now).console ≡ (old.world old.now).console → Adds S J old new
+  adds_none same = adds_one [] (same ∙ sym (append-nil (old.world old.now).console)) (λ text there. absurd (omega (arith, there.1)))
 
 -- pages with none in flight, once a batch is
 abbrev pub none_flying : {S : Setting} {reached l order : ℕ} {K : List Entry} → Versions S reached K [] l order → (F : List Entry) → Versions S reached K F l order
 none_flying p F = record { was = p.was; coming = None; stands = p.stands; comes = tt; none = λ _. refl; near = p.near; comes_near = tt }
 
--- devices that read so from now on agree on the journal
-pub alike_now : {l order reached : ℕ} (S : Setting) (js : List Batch) (c : Option Batch) (now t : ℕ) (disks : Dev → Disk) (p : Versions S reached (kept_all js) (entries_in c) l order) → AreSettled js now → IsBegun c now → now ≤ t
-    → ((d : Dev) → IsCkpt d → ReadsBy S (is_renewed_at (of_device d S.renewals) t) p.was p.coming (disks d)) → Alike S (kept (js ++ in_flight c) t) (flying (js ++ in_flight c) t) t disks
-alike_now {reached = reached} S js c now t disks p settled begun le reads =
-    alike_as S (kept_all js) (entries_in c) (kept (js ++ in_flight c) t) (flying (js ++ in_flight c) t) disks (now_kept js c now t settled begun le) (now_flying js c now t settled begun le)
-    (record { reached = reached; was = p.was; coming = p.coming; stands = p.stands; comes = p.comes; none = p.none; reads = reads })
-
 module _ (S : Setting) (js : List Batch) (c : Option Batch) (reached : ℕ) (copies copies' : Dev → Copy) (old new : View) where
   pub acts_keep : (keeps : Keeps S js c reached copies old) → Passes old new
       → (p : Versions S reached (kept_all js) (entries_in c) keeps.first_level keeps.first_order)
-      → ((d : Dev) → IsCkpt d → (t : ℕ) → old.now < t → t ≤ new.now → t < top → ReadsBy S (is_away S d) p.was p.coming (disk_at new t d))
+      → ((d : Dev) → IsCkpt d → (t : ℕ) → old.now ≤ t → t < new.now → t < top → ReadsBy S (is_away S d) p.was p.coming (disk_at new t d))
       → Adds S (js ++ in_flight c) old new
       → Stays S (kept_all js) (entries_in c) old new
       → ((d : Dev) → IsCkpt d → CopyAt S p.was p.coming d (copies' d) new)
+      → ((d : Dev) → IsCkpt d → (copies' d).alive ≡ true → AreNotedBefore S p.was p.coming)
       → Keeps S js c reached copies' new
-  acts_keep keeps goes p reads adds stays at = record {
+  acts_keep keeps goes p reads adds stays at later = record {
     started = omega (arith, keeps.started, goes.later);
     settled = settled_later js old.now new.now keeps.settled goes.later;
     begun = begun_later c old.now new.now keeps.begun goes.later;
     renewed = λ d ckpt. renewed_later (of_device d S.renewals) old.now new.now goes.later (keeps.renewed d ckpt);
-    crash = λ t from le lt. ⊎_elim
-        (λ h. crash_past S (js ++ in_flight c) old new goes t h (keeps.crash t from h lt))
-        (λ h. alike_now S js c old.now t (disk_at new t) p keeps.settled keeps.begun (omega arith) (λ d ckpt. reads_at d ckpt t h le lt))
-        (either_way t old.now);
+    first_level = keeps.first_level;
+    first_order = keeps.first_order;
+    past = λ t from lt. ⊎_elim
+        (λ (h : old.now ≤ t). subst (λ (s : Account). At s.0 s.1 new t) (sym (account_now js c old.now t keeps.settled keeps.begun h)) (record {
+          alike = λ below. record {
+            reached = reached;
+            low = omega arith;
+            pages = p;
+            reads = λ d ckpt. subst (λ (b : Bool). ReadsBy S b p.was p.coming (disk_at new t d)) (sym (renewed_open (of_device d S.renewals) old.now t (keeps.renewed d ckpt) h)) (reads d ckpt t h lt below);
+          };
+          texts = texts_acts S old new goes (kept_all js) (entries_in c) stays keeps.texts t h (omega (arith, lt));
+          sunk = sunk_acts S old new goes (kept_all js) (entries_in c) stays keeps.sunk t h (omega (arith, lt));
+        }))
+        (λ (h : t < old.now). let m = keeps.past t from h in record {
+          alike = λ below. subst (λ (w : World). Alike S keeps.first_level keeps.first_order reached (kept J t) (flying J t) t w.disk) (sym (goes.past t (omega (arith, h)))) (m.alike below);
+          texts = texts_past S old new goes (kept J t) (flying J t) t (omega (arith, h)) m.texts;
+          sunk = sunk_past S old new goes t (omega (arith, h)) m.sunk;
+        })
+        (either_way old.now t);
     told = λ t from le. ⊎_elim
-        (λ h. told_past S (js ++ in_flight c) old new goes t keeps.started h (keeps.told t from h))
-        (λ h. told_here t h le)
+        (λ (h : t ≤ old.now). subst (λ (l : List Line). TellOnly S.closes l (StepIsKept J t)) (sym (said_past t h)) (keeps.told t from h))
+        (λ (h : old.now < t). λ text there m s closes. step_later J old.now t m s (omega arith) (⊎_elim
+        (λ was. keeps.told old.now keeps.started (omega arith) text was m s closes)
+        (λ more. adds.tells text more m s closes)
+        (behind_cases (length (old.world S.since).console) (old.world old.now).console adds.more (whole text) (subst (λ (l : List Line). Contains l (whole text)) (said_here t h le) there))))
         (either_way t old.now);
     grows = λ t from le. ⊎_elim
-        (λ h. let b = keeps.grows t from h in record {
+        (λ (h : t ≤ old.now). let b = keeps.grows t from h in record {
           more = b.more ++ adds.more;
           is = adds.is ∙ ap (λ (l : List Line). l ++ adds.more) b.is ∙ (simp append_assoc) ∙ ap (λ (w : World). w.console ++ (b.more ++ adds.more)) (sym (goes.past t h));
         })
-        (λ h. record { more = []; is = sym (adds.same t h le) ∙ sym (append-nil (console_at new t)) })
+        (λ (h : old.now < t). record { more = []; is = sym (adds.same t h le) ∙ sym (append-nil (new.world t).console) })
         (either_way t old.now);
-    texts = acts_texts S js c old new keeps.settled keeps.begun keeps.started goes stays keeps.texts;
-    sunk = acts_sunk S js c old new keeps.settled keeps.begun keeps.started goes stays keeps.sunk;
-    first_level = keeps.first_level;
-    first_order = keeps.first_order;
-    rises = acts_rise S keeps.first_level keeps.first_order js reached old new goes keeps.started
-        (λ d ckpt t h le lt is. one_up p (disk_at new t d) (subst (λ (b : Bool). ReadsBy S b p.was p.coming (disk_at new t d)) is (reads_at d ckpt t h le lt)))
-        keeps.rises;
+    texts = texts_acts S old new goes (kept_all js) (entries_in c) stays keeps.texts new.now goes.later (omega arith);
+    sunk = sunk_acts S old new goes (kept_all js) (entries_in c) stays keeps.sunk new.now goes.later (omega arith);
+    first = λ lt d ckpt. subst (λ (w : World). ReadsAtLevel S.reads keeps.first_level keeps.first_order (w.disk d)) (sym (goes.past S.since keeps.started)) (keeps.first lt d ckpt);
+    risen = keeps.risen;
     pages = p;
     at = at;
+    later = later;
   } where
-    reads_at : (d : Dev) → IsCkpt d → (t : ℕ) → old.now < t → t ≤ new.now → t < top → ReadsBy S (is_renewed_at (of_device d S.renewals) t) p.was p.coming (disk_at new t d)
-    reads_at d ckpt t h le lt = subst (λ (b : Bool). ReadsBy S b p.was p.coming (disk_at new t d)) (sym (renewed_open (of_device d S.renewals) old.now t (keeps.renewed d ckpt) (omega (arith, h)))) (reads d ckpt t h le lt)
+    J : List Batch
+    J = js ++ in_flight c
 
-    old_tells : EachTells S.closes (drop (length (old.world S.since).console) ((old.world old.now).console ++ adds.more)) (StepIsKept (js ++ in_flight c) old.now)
-    old_tells = each_more S.closes (length (old.world S.since).console) (old.world old.now).console adds.more (StepIsKept (js ++ in_flight c) old.now) (keeps.told old.now keeps.started (omega arith)) adds.tells
+    At : List Entry → List Entry → View → ℕ → Type 0
+    At = Moment S keeps.first_level keeps.first_order reached
 
-    told_here : (t : ℕ) → old.now < t → t ≤ new.now → ToldAt S (js ++ in_flight c) new t
-    told_here t h le =
-        subst (λ (l : List Line). EachTells S.closes (drop (length (new.world S.since).console) l) (StepIsKept (js ++ in_flight c) t)) (sym (adds.same t h le ∙ adds.is))
-        (subst (λ (w : World). EachTells S.closes (drop (length w.console) ((old.world old.now).console ++ adds.more)) (StepIsKept (js ++ in_flight c) t)) (sym (goes.past S.since keeps.started))
-        (each_map S.closes (drop (length (old.world S.since).console) ((old.world old.now).console ++ adds.more)) (StepIsKept (js ++ in_flight c) old.now) (StepIsKept (js ++ in_flight c) t) (λ m s. step_later (js ++ in_flight c) old.now t m s (omega arith)) old_tells))
+    said_past : (t : ℕ) → t ≤ old.now → said S new t ≡ said S old t
+    said_past t le =
+        ap (λ (w : World). drop (length w.console) (new.world t).console) (goes.past S.since keeps.started)
+        ∙ ap (λ (w : World). drop (length (old.world S.since).console) w.console) (goes.past t le)
+
+    said_here : (t : ℕ) → old.now < t → t ≤ new.now → said S new t ≡ drop (length (old.world S.since).console) ((old.world old.now).console ++ adds.more)
+    said_here t h le =
+        ap (λ (w : World). drop (length w.console) (new.world t).console) (goes.past S.since keeps.started)
+        ∙ ap (λ (l : List Line). drop (length (old.world S.since).console) l) (adds.same t h le ∙ adds.is)
 
 -- the journal: a batch begins now, and no line tells an entry of it
 module _ (S : Setting) (js : List Batch) (b : Batch) (reached : ℕ) (copies : Dev → Copy) (v : View) where
-  pub begins_after : (t : ℕ) → AreSettled js v.now → b.fate ≡ Flying → b.first ≡ v.now → t ≤ v.now → CrashAt S (js ++ []) v t → CrashAt S (js ++ b ∷ []) v t
-  begins_after t are fate begun le crash =
-      let k : kept (js ++ b ∷ []) t ≡ kept (js ++ []) t = begins_kept js b t fate in
-      ⊎_elim
-      (λ here. alike_as S (kept (js ++ []) t) (flying (js ++ b ∷ []) t) (kept (js ++ b ∷ []) t) (flying (js ++ b ∷ []) t) (disk_at v t) k refl
-      (alike_none S (kept (js ++ []) t) (flying (js ++ []) t) (flying (js ++ b ∷ []) t) (disk_at v t) (now_flying js None v.now t are tt here) crash))
-      (λ before. alike_as S (kept (js ++ []) t) (flying (js ++ []) t) (kept (js ++ b ∷ []) t) (flying (js ++ b ∷ []) t) (disk_at v t) k (begins_flying js b t (omega arith)) crash)
-      (either_way v.now t)
-
-  pub begins_told : (t : ℕ) → Keeps S js None reached copies v → EachTells S.closes (said S v v.now) (λ m s. has_step m s b.entries ≡ false) → S.since ≤ t → t ≤ v.now → ToldAt S (js ++ b ∷ []) v t
-  begins_told t keeps untold from le =
-      let g = keeps.grows t from le in
-      each_both S.closes (said S v t) (StepIsKept (js ++ []) t) (λ m s. has_step m s b.entries ≡ false) (StepIsKept (js ++ b ∷ []) t) (λ m s kept none. step_push js b t m s none kept)
-      (keeps.told t from le)
-      (each_less S.closes (length (v.world S.since).console) (v.world t).console g.more (λ m s. has_step m s b.entries ≡ false)
-      (subst (λ (l : List Line). EachTells S.closes (drop (length (v.world S.since).console) l) (λ m s. has_step m s b.entries ≡ false)) g.is untold))
-
-  unfoldable pub begins_keep : Keeps S js None reached copies v → b.fate ≡ Flying → b.first ≡ v.now → EachTells S.closes (said S v v.now) (λ m s. has_step m s b.entries ≡ false)
+  unfoldable pub begins_keep : Keeps S js None reached copies v → b.fate ≡ Flying → b.first ≡ v.now → TellOnly S.closes (said S v v.now) (λ m s. has_step m s b.entries ≡ false)
       → HasTexts (lost_now v) (spools_at v v.now) S.base.config.groups (S.run S.base (kept_all js ++ b.entries)) → Keeps S js (Some b) reached copies v
-  begins_keep keeps fate begun untold has = record {
+  begins_keep keeps flies first untold has = record {
     started = keeps.started;
     settled = keeps.settled;
-    begun = (fate, omega (arith, begun));
+    begun = (flies, omega (arith, first));
     renewed = keeps.renewed;
-    crash = λ t from le lt. begins_after t keeps.settled fate begun le (keeps.crash t from le lt);
-    told = λ t from le. begins_told t keeps untold from le;
-    grows = keeps.grows;
-    texts = begins_texts S js b v keeps.settled fate begun has keeps.texts;
-    sunk = keeps.sunk;
     first_level = keeps.first_level;
     first_order = keeps.first_order;
-    rises = keeps.rises;
+    past = λ t from lt. subst (λ (s : Account). Moment S keeps.first_level keeps.first_order reached s.0 s.1 v t) (sym (account_after js (b ∷ []) [] t (account_before b t flies (omega (arith, first, lt))))) (keeps.past t from lt);
+    told = λ t from le text there m s closes. let g = keeps.grows t from le in
+        step_push js b t m s (untold text (subst (λ (l : List Line). Contains (drop (length (v.world S.since).console) l) (whole text)) (sym g.is) (behind_more (length (v.world S.since).console) (v.world t).console g.more (whole text) there)) m s closes)
+        (keeps.told t from le text there m s closes);
+    grows = keeps.grows;
+    texts = texts;
+    sunk = keeps.sunk;
+    first = keeps.first;
+    risen = keeps.risen;
     pages = none_flying keeps.pages b.entries;
     at = λ d ckpt. subst (λ (n : Option (List ℕ)). CopyAt S keeps.pages.was n d (copies d) v) (keeps.pages.none refl) (keeps.at d ckpt);
-  }
+    later = λ d ckpt is. ((keeps.later d ckpt is).0, tt);
+  } where
+    texts : TextsAt S (kept_all js) b.entries v v.now
+    texts false = keeps.texts false
+    texts true = has
 
--- the journal: the batch in flight gets its fate
+-- the journal: the batch in flight gets its fate, and these are the kept pages then
 module _ (S : Setting) (js : List Batch) (b c : Batch) (reached reached' : ℕ) (copies copies' : Dev → Copy) (v : View) where
-  fated_after : (t : ℕ) → b.fate ≡ Flying → c.first ≡ b.first → c.entries ≡ b.entries → t < c.last → CrashAt S (js ++ b ∷ []) v t → CrashAt S ((js ++ c ∷ []) ++ []) v t
-  fated_after t fate same_first same_entries lt crash =
-      alike_as S (kept (js ++ b ∷ []) t) (flying (js ++ b ∷ []) t) (kept ((js ++ c ∷ []) ++ []) t) (flying ((js ++ c ∷ []) ++ []) t) (disk_at v t)
-      (fated_kept js b c t fate lt) (fated_flying js b c t fate same_first same_entries lt) crash
-
-  -- the kept pages once the batch in flight has its fate
   pub fate_keeps : reached ≤ reached' → reached' ≤ reached + batches_kept (c ∷ []) → (keeps : Keeps S js (Some b) reached copies v) → is_flying c.fate ≡ false → c.first ≡ b.first → c.entries ≡ b.entries → c.last ≡ v.now
-      → (p : Versions S reached' (kept_all (js ++ c ∷ [])) [] keeps.first_level keeps.first_order) → (v.now < top → (d : Dev) → IsCkpt d → ReadsBy S (is_away S d) p.was p.coming (disk_now v d))
-      → ((d : Dev) → IsCkpt d → CopyAt S p.was p.coming d (copies' d) v)
-      → Keeps S (js ++ c ∷ []) None reached' copies' v
-  fate_keeps least most keeps fated same_first same_entries last p reads at = record {
+      → (p : Versions S reached' (kept_all (js ++ c ∷ [])) [] keeps.first_level keeps.first_order) → ((d : Dev) → IsCkpt d → CopyAt S p.was p.coming d (copies' d) v) → ((d : Dev) → IsCkpt d → (copies' d).alive ≡ true → AreNotedBefore S p.was p.coming) → Keeps S (js ++ c ∷ []) None reached' copies' v
+  fate_keeps least most keeps fated same_first same_entries last p at later = record {
     started = keeps.started;
-    settled = settled;
+    settled = settled_push js c v.now keeps.settled fated (omega (arith, same_first, last, keeps.begun.1)) (omega (arith, last));
     begun = tt;
     renewed = keeps.renewed;
-    crash = λ t from le lt. ⊎_elim
-        (λ here. let e : t ≡ v.now = omega (arith, last) in alike_now S (js ++ c ∷ []) None v.now t (disk_at v t) p settled tt (omega (arith, last))
-        (λ d ckpt. subst (λ (b : Bool). ReadsBy S b p.was p.coming (disk_at v t d)) (sym (renewed_open (of_device d S.renewals) v.now t (keeps.renewed d ckpt) (omega (arith, e))))
-        (subst (λ (m : ℕ). ReadsBy S (is_away S d) p.was p.coming (disk_at v m d)) (sym e) (reads (omega (arith, e, lt)) d ckpt))))
-        (λ before. fated_after t keeps.begun.0 same_first same_entries before (keeps.crash t from le lt))
-        (either_way c.last t);
-    told = λ t from le. each_map S.closes (said S v t) (StepIsKept (js ++ b ∷ []) t) (StepIsKept ((js ++ c ∷ []) ++ []) t) (λ m s. step_fate js b c t m s keeps.begun.0 same_entries) (keeps.told t from le);
-    grows = keeps.grows;
-    texts = fated_texts S js b c v keeps.settled keeps.begun fated same_first same_entries last keeps.texts;
-    sunk = keeps.sunk;
     first_level = keeps.first_level;
     first_order = keeps.first_order;
-    rises = fated_rise S keeps.first_level keeps.first_order js c reached reached' v least most keeps.rises;
+    past = λ t from lt. subst (λ (s : Account). Moment S keeps.first_level keeps.first_order reached' s.0 s.1 v t)
+        (sym (ap (λ (l : List Batch). account l t) (append-nil (js ++ c ∷ [])) ∙ account_after js (c ∷ []) (b ∷ []) t (account_fated b c t keeps.begun.0 same_first same_entries (omega (arith, last, lt)))))
+        (let m = keeps.past t from lt in record {
+          alike = λ below. let a = m.alike below in record { reached = a.reached; low = omega (arith, a.low, least); pages = a.pages; reads = a.reads };
+          texts = m.texts;
+          sunk = m.sunk;
+        });
+    told = λ t from le text there m s closes. step_fate js b c t m s keeps.begun.0 same_entries (keeps.told t from le text there m s closes);
+    grows = keeps.grows;
+    texts = texts;
+    sunk = keeps.sunk;
+    first = keeps.first;
+    risen = omega (arith, keeps.risen, most, kept_append js (c ∷ []));
     pages = p;
     at = at;
+    later = later;
   } where
-    settled : AreSettled (js ++ c ∷ []) v.now
-    settled = settled_push js c v.now keeps.settled fated (omega (arith, same_first, last, keeps.begun.1)) (omega (arith, last))
+    Has : List Entry → Type 0
+    Has es = HasTexts (lost_now v) (spools_at v v.now) S.base.config.groups (S.run S.base es)
+
+    by_fate : (k : Bool) → Has (kept_all js ++ ((if k then c.entries else []) ++ []))
+    by_fate true = subst (λ (l : List Entry). Has (kept_all js ++ l)) (sym (append-nil c.entries ∙ same_entries)) (keeps.texts true)
+    by_fate false = subst Has (sym (append-nil (kept_all js))) (keeps.texts false)
+
+    here : Has (kept_all (js ++ c ∷ []))
+    here = subst Has (sym (kept_all_append js (c ∷ []))) (by_fate (is_kept c.fate))
+
+    texts : TextsAt S (kept_all (js ++ c ∷ [])) [] v v.now
+    texts false = here
+    texts true = subst Has (sym (append-nil (kept_all (js ++ c ∷ [])))) here
 
 -- other copies, or other places of them, where they stand
-pub copies_keep : (S : Setting) (js : List Batch) (c : Option Batch) (reached : ℕ) (copies copies' : Dev → Copy) (v : View) → (keeps : Keeps S js c reached copies v) → ((d : Dev) → IsCkpt d → CopyAt S keeps.pages.was keeps.pages.coming d (copies' d) v) → Keeps S js c reached copies' v
-copies_keep S js c reached copies copies' v keeps at = record {
+pub copies_keep : (S : Setting) (js : List Batch) (c : Option Batch) (reached : ℕ) (copies copies' : Dev → Copy) (v : View) → (keeps : Keeps S js c reached copies v) → ((d : Dev) → IsCkpt d → CopyAt S keeps.pages.was keeps.pages.coming d (copies' d) v)
+    → ((d : Dev) → IsCkpt d → (copies' d).alive ≡ true → (copies d).alive ≡ true) → Keeps S js c reached copies' v
+copies_keep S js c reached copies copies' v keeps at stays = record {
   started = keeps.started;
   settled = keeps.settled;
   begun = keeps.begun;
   renewed = keeps.renewed;
-  crash = keeps.crash;
+  first_level = keeps.first_level;
+  first_order = keeps.first_order;
+  past = keeps.past;
   told = keeps.told;
   grows = keeps.grows;
   texts = keeps.texts;
   sunk = keeps.sunk;
-  first_level = keeps.first_level;
-  first_order = keeps.first_order;
-  rises = keeps.rises;
+  first = keeps.first;
+  risen = keeps.risen;
   pages = keeps.pages;
   at = at;
+  later = λ d ckpt is. keeps.later d ckpt (stays d ckpt is);
 }

@@ -32,14 +32,14 @@ pub use Rattle.duplex_pair.specs.declared.half.Half.{Half}
 pub use Rattle.duplex_pair.specs.declared.pair.Pair.{Pair}
 pub use Rattle.lock_cycle.specs.Books.{beginner, granted, is_dormant, noted, standing, ticked, wakes, with_holder, with_standing}
 pub use Rattle.mas_complex.specs.CallCounts.{CountsCopy, IsLostOnce, IsLostSo, KeepsCounts, PairState, StandsOrLost, pair_state}
-pub use Rattle.mas_complex.specs.Crash.{Alike, AreSunk, BeginsWith, Copy, CopyAt, CrashAt, EachTells, IsAfter, IsAt, IsAway, IsFound, IsLeft, IsNear, IsNext, IsOneOf, IsStale, IsUntold, Keeps, KeepsTexts, OnComing, RaisesOrders, ReadsAtLevel, ReadsBy, ReadsOne, ReadsStale, ReadsUpTo, Rises, Setting, SomeGood, SomeLeft, Stands, TextsAt, ToldAt, Versions, copy_of, found, is_away, left_at, lost_if, next_order, order_first, orders_most, said, setting, setting_with}
+pub use Rattle.mas_complex.specs.Crash.{Alike, AreSunk, BeginsWith, Copy, CopyAt, EachTells, IsAfter, IsAt, IsAway, IsFound, IsLeft, IsNear, IsNext, IsOneOf, IsStale, IsUntold, Keeps, Moment, OnComing, RaisesOrders, ReadsAtLevel, ReadsBy, ReadsOne, ReadsStale, ReadsUpTo, Setting, SomeGood, SomeLeft, Stands, TextsAt, ToldAt, Versions, copy_of, found, is_away, left_at, lost_if, next_order, order_first, orders_most, said, setting, setting_with, TellOnly, whole, with_flying, AreNotedBefore, IsReadBy, is_good, read_left}
 pub use Rattle.mas_complex.specs.Elsewhere.{Elsewhere, OnCopies, OnPair}
 pub use Rattle.mas_complex.specs.Fits.{are_same, can_stay, differ_at, first_page, fits, found_numbers, is_before, is_found_at, numbers_from}
-pub use Rattle.mas_complex.specs.Headline.{AreAlike, AreAlwaysAlike, AreLevelsLow, AreTextsLeft, AreToldKept, FoundFor, Headline, IsAfterKept, IsCrashSafe, LeavesQueue, whole}
+pub use Rattle.mas_complex.specs.Headline.{AreAlike, AreAlwaysAlike, AreLevelsLow, AreTextsLeft, AreToldKept, FoundFor, Headline, IsAfterKept, IsCrashSafe, LeavesQueue}
 pub use Rattle.mas_complex.specs.Journals.{AreFew, AreSettled, EndsInPlace, HasPlace, IsBegun, IsPlace, StepIsKept, batches_kept, end_of, entries_in, entries_most, entries_reserved, fated, flying, flying_of, has_step, in_flight, journal_most, kept, kept_all, kept_of, past_batches, with_last, without_last}
 pub use Rattle.mas_complex.specs.Locking.{IsOfOther, IsOperatorAway, is_of_member, reserved_after_stop}
 pub use Rattle.mas_complex.specs.Meaning.{Closes, StandFor, run, step}
-pub use Rattle.mas_complex.specs.Paper.{AreGivenIn, IsOfItsMember, IsOnPaper, KeepsPaper, LineAt, MarksAt, MayBegin, PaperKept, Papers, SamePapers, book_by, count_at, counts_of, no_counts, printed_after, printed_by, reserved_by, turned}
+pub use Rattle.mas_complex.specs.Paper.{AreGivenIn, IsOfItsMember, IsOnPaper, KeepsPaper, LineAt, LineFrom, MayBegin, PaperAt, PaperKept, Papers, SamePapers, Account, account, book_by, count_from, counts_of, no_counts, printed_after, printed_by, reserved_by, turned, turned_last}
 pub use Rattle.mas_complex.specs.Parts.{Parts, parts_of, replaced_in, with_copy, with_half}
 pub use Rattle.mas_complex.specs.Past.{AreLater, HasNoted, HasPast, HavePasts, IsLater, IsLeftOrNew, IsNextOf, Sight, age, nobody_noted, noted_by, sight_of, values_of}
 pub use Rattle.mas_complex.specs.Places.{HasNoOther, IsAtLevel, IsPlaceAfter}

@@ -1,11 +1,10 @@
 -- A copy is replaced: the moments at which it isn't good for that, and what the shared value keeps through it.
-use Rattle.mas_complex.proofs.Names.{◌≡◌, ◌⊎◌, inl, ⊎_elim, ℕ, ◌+◌, ◌≤◌, ◌<◌, ◌&&◌, ◌||◌, ◌≢◌, nat_le, nat_lt, if◌then◌else◌, Bool, true, false, List, [], ◌∷◌, ◌++◌, map, Option, Some, None, Result, Ok, Err, OnOk, OnErr, IsErrOf, refl, sym, ◌∙◌, ap, subst, arith, le_refl, is_none, not, true≢false, nat_tests, Dev, Ckpt1, Ckpt2, Spool, Batch, Entry, View, ViewDisk as Disk, disk_at, disk_now, top, either_way, IsCkpt, IsBothLost, pick, other, Replaces, WhileReplaced, IsOrForms, replace_stopped, Elsewhere, Parts, replaced_in, with_half, Renewal, Renewals, has_ended, is_renewed_at, is_open, of_device, HasEndedBy, AreRenewedBy, or_at, ended_at, ended_on, begun_on, with_device, kept, flying, in_flight, Before, Setting, Stands, IsNext, IsStale, ReadsStale, ReadsBy, Alike, CrashAt, IsAt, IsAway, Copy, CopyAt, Keeps, PlantGhosts, Ghosts as CopyGhosts, SteadyGhosts, Complex, copy_of, is_away, Half, Versions, World, and_cases, inr}
+use Rattle.mas_complex.proofs.Names.{AreNotedBefore, AreLater, Page, Place, bytes_of, slice_set, values_of, page_count, no_more_image, ◌≡◌, ◌⊎◌, inl, ℕ, ◌+◌, ◌≤◌, ◌<◌, ◌&&◌, ◌||◌, ◌≢◌, nat_le, nat_lt, if◌then◌else◌, Bool, true, false, List, ◌∷◌, ◌++◌, map, Option, Some, None, Result, Ok, Err, OnOk, OnErr, IsErrOf, refl, sym, ◌∙◌, ap, subst, arith, le_refl, is_none, not, nat_tests, Dev, Ckpt1, Ckpt2, Spool, Batch, Entry, View, ViewDisk as Disk, disk_at, disk_now, top, either_way, IsCkpt, IsBothLost, pick, other, Replaces, WhileReplaced, IsOrForms, Elsewhere, Parts, replaced_in, with_half, Renewal, Renewals, has_ended, is_renewed_at, is_open, of_device, HasEndedBy, AreRenewedBy, or_at, ended_at, ended_on, begun_on, with_device, kept, flying, in_flight, Before, Setting, IsStale, ReadsStale, ReadsBy, Alike, IsAt, IsAway, Copy, CopyAt, Keeps, PlantGhosts, Ghosts as CopyGhosts, SteadyGhosts, Complex, copy_of, is_away, Half, Versions, World, and_cases, inr, entries_in, kept_all, ⊎_elim, [], true≢false}
 use Rattle.mas_complex.proofs.Basics.{no, some_is, Passes, beside_ckpt, each_on, still_none}
 use Rattle.mas_complex.proofs.Counted.{wires_none, wires_of}
-use Rattle.mas_complex.proofs.Present.{renewed_open, all_read, away_reads, copy_reads, not_renewed, one_up}
-use Rattle.mas_complex.proofs.Moves.{alike_now}
-use Rattle.mas_complex.proofs.Sides.{at_place, less_image, rests_before, acts_on, near_stays}
-use Rattle.mas_complex.proofs.Values.{Call, at_near, copy_near, copy_there, here, near_dev, near_it, near_place, new, of_both, of_near, old, place_is, there, KeepsAt, KeepsOn, copies_of, half_of, past_of, place_of, setting_of}
+use Rattle.mas_complex.proofs.Pasts.{noted_later}
+use Rattle.mas_complex.proofs.Sides.{at_place, kept_read, lost_more, rests_before}
+use Rattle.mas_complex.proofs.Values.{Call, Laws, copy_near, copy_there, here, keeps_same, near_dev, near_it, near_place, new, of_both, of_near, old, place_is, there, KeepsAt, KeepsOn, copies_of, half_of, past_of, place_of, setting_of, view_of}
 use Rattle.pair_replacing.specs.declared.replacing.ReplaceNo.{ReplaceNo}
 use Rattle.pair_replacing.specs.declared.replacing.ReplaceNo.TheVariants.{NotLost, BothLost, Failed, Halted, NoMemory}
 use Rattle.std.proofs.lemmas.Bool.{or_right as or_true, not-false as is_not}
@@ -60,87 +59,81 @@ begun_by (r ∷ rs) now by = (by.0, by.1, begun_by rs now by.2)
 
 -- THE MOMENTS CHANGE, NOW
 
-module _ (S : Setting) (rs : Renewals) where
-  abbrev pub with_renewals : Setting
-  with_renewals = record S { renewals = rs }
+-- with other renewals, and other notes
+module _ (S : Setting) (rs : Renewals) (had : List (List Page)) where
+  abbrev pub with_other : Setting
+  with_other = record S { renewals = rs; had = had }
 
-  stands_with : (l : ℕ) (es : List Entry) (pages : List ℕ) → Stands S l es pages → Stands with_renewals l es pages
-  stands_with l es pages s = record { at_level = s.at_level; queue = s.queue }
-
-  next_with : (l : ℕ) (K F : List Entry) (n : Option (List ℕ)) → IsNext S l K F n → IsNext with_renewals l K F n
-  next_with l K F None s = tt
-  next_with l K F (Some pages) s = stands_with (l + 1) (K ++ F) pages s
-
-  abbrev pages_with : {reached l order : ℕ} {K F : List Entry} → Versions S reached K F l order → Versions with_renewals reached K F l order
-  pages_with {reached} {l} {order} {K} {F} p = record { was = p.was; coming = p.coming; stands = stands_with reached K p.was p.stands; comes = next_with reached K F p.coming p.comes; none = p.none; near = p.near; comes_near = p.comes_near }
-
-  -- at a moment at which the same copies are being replaced
-  alike_with : (K F : List Entry) (t : ℕ) (disks : Dev → Disk) → ((d : Dev) → IsCkpt d → is_renewed_at (of_device d rs) t ≡ is_renewed_at (of_device d S.renewals) t) → Alike S K F t disks → Alike with_renewals K F t disks
-  alike_with K F t disks same a = record {
-    reached = a.reached;
-    was = a.was;
-    coming = a.coming;
-    stands = stands_with a.reached K a.was a.stands;
-    comes = next_with a.reached K F a.coming a.comes;
-    none = a.none;
-    reads = λ d ckpt. subst (λ (b : Bool). ReadsBy S b a.was a.coming (disks d)) (sym (same d ckpt)) (a.reads d ckpt);
-  }
+  abbrev pages_with : {reached l order : ℕ} {K F : List Entry} → Versions S reached K F l order → Versions with_other reached K F l order
+  pages_with p = record { was = p.was; coming = p.coming; stands = p.stands; comes = p.comes; none = p.none; near = p.near; comes_near = p.comes_near }
 
   -- a copy of which a replacement is open just where one was
-  pub copy_with : (was : List ℕ) (coming : Option (List ℕ)) (dev : Dev) (c : Copy) (v : View) → is_open (of_device dev rs) ≡ is_away S dev → CopyAt S was coming dev c v → CopyAt with_renewals was coming dev c v
+  pub copy_with : (was : List ℕ) (coming : Option (List ℕ)) (dev : Dev) (c : Copy) (v : View) → is_open (of_device dev rs) ≡ is_away S dev → CopyAt S was coming dev c v → CopyAt with_other was coming dev c v
   copy_with was coming dev c v same x =
-      record { at = x.at; formed = λ is. same ∙ x.formed is; gone = λ dead. subst (λ (b : Bool). IsAway with_renewals was b v.now (disk_now v dev)) (sym same) (by_case (is_away S dev) (x.gone dead)) } where
-        by_case : (r : Bool) → IsAway S was r v.now (disk_now v dev) → IsAway with_renewals was r v.now (disk_now v dev)
+      record { at = x.at; formed = λ is. same ∙ x.formed is; gone = λ dead. subst (λ (b : Bool). IsAway with_other was b v.now (disk_now v dev)) (sym same) (by_case (is_away S dev) (x.gone dead)) } where
+        by_case : (r : Bool) → IsAway S was r v.now (disk_now v dev) → IsAway with_other was r v.now (disk_now v dev)
         by_case false a = a
         by_case true a = a
 
-module _ (S : Setting) (rs : Renewals) (js : List Batch) (c : Option Batch) (reached : ℕ) (copies copies' : Dev → Copy) (v : View) where
-  pub renewals_keep : (keeps : Keeps S js c reached copies v) → ((d : Dev) → IsCkpt d → AreRenewedBy (of_device d rs) v.now)
+module _ (S : Setting) (rs : Renewals) (had : List (List Page)) (js : List Batch) (c : Option Batch) (reached : ℕ) (copies copies' : Dev → Copy) (v : View) where
+  pub other_keep : (keeps : Keeps S js c reached copies v) (p : Versions S reached (kept_all js) (entries_in c) keeps.first_level keeps.first_order) → ((d : Dev) → IsCkpt d → AreRenewedBy (of_device d rs) v.now)
       → ((d : Dev) → IsCkpt d → (t : ℕ) → t < v.now → is_renewed_at (of_device d rs) t ≡ is_renewed_at (of_device d S.renewals) t)
-      → ((d : Dev) → IsCkpt d → v.now < top → ReadsBy S (is_open (of_device d rs)) keeps.pages.was keeps.pages.coming (disk_now v d))
-      → ((d : Dev) → IsCkpt d → CopyAt (with_renewals S rs) keeps.pages.was keeps.pages.coming d (copies' d) v)
-      → Keeps (with_renewals S rs) js c reached copies' v
-  renewals_keep keeps by same reads at = record {
+      → ((d : Dev) → IsCkpt d → CopyAt (with_other S rs had) p.was p.coming d (copies' d) v)
+      → ((d : Dev) → IsCkpt d → (copies' d).alive ≡ true → AreNotedBefore (with_other S rs had) p.was p.coming)
+      → Keeps (with_other S rs had) js c reached copies' v
+  other_keep keeps p by same at later = record {
     started = keeps.started;
     settled = keeps.settled;
     begun = keeps.begun;
     renewed = by;
-    crash = λ t from le lt. ⊎_elim
-        (λ here. at_now t here le lt)
-        (λ before. alike_with S rs (kept (js ++ in_flight c) t) (flying (js ++ in_flight c) t) t (disk_at v t) (λ d ckpt. same d ckpt t before) (keeps.crash t from le lt))
-        (either_way v.now t);
-    told = keeps.told;
-    grows = keeps.grows;
-    texts = λ t from le. let x = keeps.texts t from le in record { after_kept = x.after_kept; after_coming = x.after_coming };
-    sunk = keeps.sunk;
     first_level = keeps.first_level;
     first_order = keeps.first_order;
-    rises = record {
-      first = keeps.rises.first;
-      risen = keeps.rises.risen;
-      most = λ d ckpt t from le lt is. ⊎_elim
-          (λ here. one_up keeps.pages (disk_at v t d) (subst (λ (b : Bool). ReadsBy S b keeps.pages.was keeps.pages.coming (disk_at v t d)) is (reads_at d ckpt t here le lt)))
-          (λ before. keeps.rises.most d ckpt t from le lt (sym (same d ckpt t before) ∙ is))
-          (either_way v.now t);
+    past = λ t from lt. let m = keeps.past t from lt in record {
+      alike = λ below. let a = m.alike below in record {
+        reached = a.reached;
+        low = a.low;
+        pages = pages_with S rs had a.pages;
+        reads = λ d ckpt. subst (λ (b : Bool). ReadsBy S b a.pages.was a.pages.coming (disk_at v t d)) (sym (same d ckpt t lt)) (a.reads d ckpt);
+      };
+      texts = m.texts;
+      sunk = m.sunk;
     };
-    pages = pages_with S rs keeps.pages;
+    told = keeps.told;
+    grows = keeps.grows;
+    texts = keeps.texts;
+    sunk = keeps.sunk;
+    first = keeps.first;
+    risen = keeps.risen;
+    pages = pages_with S rs had p;
     at = at;
-  } where
-    reads_at : (d : Dev) → IsCkpt d → (t : ℕ) → v.now ≤ t → t ≤ v.now → t < top → ReadsBy S (is_renewed_at (of_device d rs) t) keeps.pages.was keeps.pages.coming (disk_at v t d)
-    reads_at d ckpt t here le lt =
-        let e : v.now ≡ t = omega (arith, here, le) in
-        subst (λ (b : Bool). ReadsBy S b keeps.pages.was keeps.pages.coming (disk_at v t d)) (sym (renewed_open (of_device d rs) v.now t (by d ckpt) here))
-        (subst (λ (m : ℕ). ReadsBy S (is_open (of_device d rs)) keeps.pages.was keeps.pages.coming (disk_at v m d)) e (reads d ckpt (omega (arith, here, le, lt))))
+    later = later;
+  }
 
-    at_now : (t : ℕ) → v.now ≤ t → t ≤ v.now → t < top → CrashAt (with_renewals S rs) (js ++ in_flight c) v t
-    at_now t here le lt = alike_now (with_renewals S rs) js c v.now t (disk_at v t) (pages_with S rs keeps.pages) keeps.settled keeps.begun here (λ d ckpt. reads_at d ckpt t here le lt)
+-- pages are noted that each copy reads which counts as alive, as before any batch: with none in flight
+module _ {P C : Type 0} {plants : PlantGhosts P} {steadies : SteadyGhosts C} {copies : CopyGhosts C} (s : Complex P C plants steadies copies) (laws : Laws plants steadies copies) (k : KeepsAt s (view_of s)) where
+  pub noted_keep : (by : ℕ) (pages : List Page) → ((d : Dev) → IsCkpt d → (half_of s d).alive ≡ true → place_of s d ≡ Before) → ((d : Dev) → IsCkpt d → (half_of s d).alive ≡ true → copies.reads (disk_now (view_of s) d).bytes ≡ Some (bytes_of pages))
+      → Keeps (with_other (setting_of s) s.renewals (slice_set (values_of s.had) by pages)) (past_of s) s.current s.level (copies_of s) (view_of s)
+  noted_keep by pages before reads = other_keep (setting_of s) s.renewals (slice_set (values_of s.had) by pages) (past_of s) s.current s.level (copies_of s) (copies_of s) (view_of s) k
+      (record { was = k.pages.was; coming = None; stands = k.pages.stands; comes = tt; none = λ _. refl; near = k.pages.near; comes_near = tt }) k.renewed (λ d ckpt t lt. refl)
+      (λ d ckpt. let x = rested d ckpt in record { at = x.at; formed = x.formed; gone = x.gone })
+      (λ d ckpt is. let same = kept_read (setting_of s) k.pages.was k.pages.coming d (copies_of s d) (view_of s) (bytes_of pages) (k.at d ckpt) (before d ckpt) (λ was x r. laws.rests_now (half_of s d).copy was x r) (reads d ckpt) is in (
+        subst (λ (l : List ℕ). AreLater (page_count s.base.config) (slice_set (values_of s.had) by pages) l) (sym same)
+            (noted_later (page_count s.base.config) (values_of s.had) by pages (subst (λ (l : List ℕ). AreLater (page_count s.base.config) (values_of s.had) l) same (k.later d ckpt is).0)),
+        tt,
+      )) where
+        rested : (d : Dev) → IsCkpt d → CopyAt (setting_of s) k.pages.was None d (copies_of s d) (view_of s)
+        rested d ckpt = let x = k.at d ckpt in record {
+          at = λ is. subst (λ (p : Place). IsAt (setting_of s) (copies_of s d) k.pages.was None p (disk_now (view_of s) d)) (sym (before d ckpt is)) (rests_before (setting_of s) k.pages.was k.pages.coming (copies_of s d) d (view_of s) x (before d ckpt) is);
+          formed = x.formed;
+          gone = x.gone;
+        }
 
 -- THE CALL
 
 -- while a copy is replaced by one of the kept pages, an image of it reads as none, or as pages that were kept by then
 pub stale_forms : (S : Setting) (was pages : List ℕ) → pages ≡ was → (old d : Disk) → ReadsStale S was old → IsOrForms S.reads old pages d → ReadsStale S was d
 stale_forms S was pages same old d stale is = ⊎_elim
-    (λ so image im. stale image (less_image old d so image im))
+    (λ so image im. stale image (no_more_image old d image (lost_more old d so) im))
     (λ forms image im. ⊎_elim (λ none. subst (IsStale was) (sym none) tt) (λ some. subst (IsStale was) (sym some) (inl same)) (forms image im))
     is
 
@@ -178,24 +171,27 @@ module _ {P C : Type 0} {plants : PlantGhosts P} {steadies : SteadyGhosts C} {co
     abbrev rs : Renewals
     rs = with_device x.dev list S.renewals
 
+    abbrev S' : Setting
+    S' = with_other S rs S.had
+
     of_lists : (P : Dev → List Renewal → Type 0) → P x.dev list → ((d : Dev) → IsCkpt d → P d (of_device d S.renewals)) → (d : Dev) → IsCkpt d → P d (of_device d rs)
     of_lists P here all = each_on (λ d. P d (of_device d rs)) x.dev x.ckpt (subst (P x.dev) (sym (here_with x.dev x.ckpt list S.renewals)) here)
         (subst (P (near_dev x)) (sym (beside_with x.dev x.ckpt list S.renewals)) (all (near_dev x) (beside_ckpt x.dev x.ckpt)))
 
-    renewals_on : (copies' : Dev → Copy) → ((t : ℕ) → t < v.now → is_renewed_at list t ≡ is_renewed_at (of_device x.dev S.renewals) t) → (v.now < top → ReadsBy S (is_open list) keeps.pages.was keeps.pages.coming (disk_now v x.dev))
-        → ((d : Dev) → IsCkpt d → CopyAt (with_renewals S rs) keeps.pages.was keeps.pages.coming d (copies' d) v) → Keeps (with_renewals S rs) (past_of s) s.current s.level copies' v
-    renewals_on copies' before reads at = renewals_keep S rs (past_of s) s.current s.level (copies_of s) copies' v keeps (of_lists (λ d l. AreRenewedBy l v.now) by keeps.renewed)
+    renewals_on : (copies' : Dev → Copy) → ((t : ℕ) → t < v.now → is_renewed_at list t ≡ is_renewed_at (of_device x.dev S.renewals) t)
+        → ((d : Dev) → IsCkpt d → CopyAt S' keeps.pages.was keeps.pages.coming d (copies' d) v) → ((d : Dev) → IsCkpt d → (copies' d).alive ≡ true → AreNotedBefore S keeps.pages.was keeps.pages.coming) → Keeps S' (past_of s) s.current s.level copies' v
+    renewals_on copies' before at later = other_keep S rs S.had (past_of s) s.current s.level (copies_of s) copies' v keeps keeps.pages (of_lists (λ d l. AreRenewedBy l v.now) by keeps.renewed)
         (of_lists (λ d l. (t : ℕ) → t < v.now → is_renewed_at l t ≡ is_renewed_at (of_device d S.renewals) t) before (λ d ckpt t lt. refl))
-        (of_lists (λ d l. v.now < top → ReadsBy S (is_open l) keeps.pages.was keeps.pages.coming (disk_now v d)) reads (λ d ckpt. copy_reads S keeps.pages.was (copies_of s d) (x.laws.reads (half_of s d) (place_of s d)) keeps.pages.coming d v (keeps.at d ckpt))) at
+        at later
 
     -- the copy on the device, with these moments
-    of_here : (c : Copy) → (c.alive ≡ true → IsAt S c keeps.pages.was keeps.pages.coming c.place (disk_now v x.dev)) → (c.alive ≡ true → is_open list ≡ false) → (c.alive ≡ false → IsAway S keeps.pages.was (is_open list) v.now (disk_now v x.dev)) → CopyAt (with_renewals S rs) keeps.pages.was keeps.pages.coming x.dev c v
+    of_here : (c : Copy) → (c.alive ≡ true → IsAt S c keeps.pages.was keeps.pages.coming c.place (disk_now v x.dev)) → (c.alive ≡ true → is_open list ≡ false) → (c.alive ≡ false → IsAway S keeps.pages.was (is_open list) v.now (disk_now v x.dev)) → CopyAt S' keeps.pages.was keeps.pages.coming x.dev c v
     of_here c at formed gone = let e = ap is_open (here_with x.dev x.ckpt list S.renewals) in record {
       at = at;
       formed = λ is. e ∙ formed is;
-      gone = λ dead. subst (λ (b : Bool). IsAway (with_renewals S rs) keeps.pages.was b v.now (disk_now v x.dev)) (sym e) (by_case (is_open list) (gone dead));
+      gone = λ dead. subst (λ (b : Bool). IsAway S' keeps.pages.was b v.now (disk_now v x.dev)) (sym e) (by_case (is_open list) (gone dead));
     } where
-      by_case : (r : Bool) → IsAway S keeps.pages.was r v.now (disk_now v x.dev) → IsAway (with_renewals S rs) keeps.pages.was r v.now (disk_now v x.dev)
+      by_case : (r : Bool) → IsAway S keeps.pages.was r v.now (disk_now v x.dev) → IsAway S' keeps.pages.was r v.now (disk_now v x.dev)
       by_case false a = a
       by_case true a = a
 
@@ -203,7 +199,7 @@ module _ {P C : Type 0} {plants : PlantGhosts P} {steadies : SteadyGhosts C} {co
     still_beside = ap is_open (beside_with x.dev x.ckpt list S.renewals)
 
   -- a replacement begins
-  pub begun_keep : (v : View) (keeps : KeepsAt s v) → (half_of s x.dev).alive ≡ false → Keeps (with_renewals S (begun_on x.dev v.now S.renewals)) (past_of s) s.current s.level (copies_of s) v
+  pub begun_keep : (v : View) (keeps : KeepsAt s v) → (half_of s x.dev).alive ≡ false → Keeps (with_other S (begun_on x.dev v.now S.renewals) S.had) (past_of s) s.current s.level (copies_of s) v
   begun_keep v keeps dead = by_test (nat_lt v.now top) refl where
     list : List Renewal
     list = of_device x.dev S.renewals ++ beginning v.now ∷ []
@@ -215,22 +211,17 @@ module _ {P C : Type 0} {plants : PlantGhosts P} {steadies : SteadyGhosts C} {co
     stale lt = subst (λ (b : Bool). IsAway S keeps.pages.was b v.now (disk_now v x.dev)) (sym (is_begun (of_device x.dev S.renewals) v.now)) (away_stale S keeps.pages.was (is_away S x.dev) v.now (disk_now v x.dev) lt ((keeps.at x.dev x.ckpt).gone dead))
 
     by_test : (b : Bool) → nat_lt v.now top ≡ b
-        → Keeps (with_renewals S (if b then with_device x.dev (of_device x.dev S.renewals ++ beginning v.now ∷ []) S.renewals else S.renewals)) (past_of s) s.current s.level (copies_of s) v
+        → Keeps (with_other S (if b then with_device x.dev (of_device x.dev S.renewals ++ beginning v.now ∷ []) S.renewals else S.renewals) S.had) (past_of s) s.current s.level (copies_of s) v
     by_test true e =
         let by = begun_by (of_device x.dev S.renewals) v.now (keeps.renewed x.dev x.ckpt) in
-        renewals_on v keeps list by (copies_of s) (λ t before. before_beginning (of_device x.dev S.renewals) v.now t before) (λ lt. away_reads S keeps.pages.was (is_open list) keeps.pages.coming v.now (disk_now v x.dev) lt (stale lt))
-        (each_on (λ d. CopyAt (with_renewals S (with_device x.dev list S.renewals)) keeps.pages.was keeps.pages.coming d (copies_of s d) v) x.dev x.ckpt
+        renewals_on v keeps list by (copies_of s) (λ t before. before_beginning (of_device x.dev S.renewals) v.now t before)
+        (each_on (λ d. CopyAt (with_other S (with_device x.dev list S.renewals) S.had) keeps.pages.was keeps.pages.coming d (copies_of s d) v) x.dev x.ckpt
         (of_here v keeps list by (copies_of s x.dev) (λ is. absurd (no (half_of s x.dev).alive is dead)) (λ is. absurd (no (half_of s x.dev).alive is dead)) (λ _. stale (below e)))
-        (copy_with S (with_device x.dev list S.renewals) keeps.pages.was keeps.pages.coming (near_dev x) (copies_of s (near_dev x)) v (still_beside v keeps list by) (keeps.at (near_dev x) (beside_ckpt x.dev x.ckpt))))
+        (copy_with S (with_device x.dev list S.renewals) S.had keeps.pages.was keeps.pages.coming (near_dev x) (copies_of s (near_dev x)) v (still_beside v keeps list by) (keeps.at (near_dev x) (beside_ckpt x.dev x.ckpt)))) keeps.later
     by_test false e = keeps
 
   -- the device is replaced, and its copy still counts as lost
   module _ (R : Disk → Type 0) (keeps : KeepsAt s (old x)) (passes : Passes (old x) (new x)) (dead : (there x).alive ≡ false) (began : (old x).now < top → is_away S x.dev ≡ true) (stale : is_away S x.dev ≡ true → (d : Disk) → R d → ReadsStale S keeps.pages.was d) (m : WhileReplaced x.dev R (old x) (new x)) where
-    stale_at : (t : ℕ) → (old x).now < t → t ≤ (new x).now → t < top → ReadsBy S (is_away S x.dev) keeps.pages.was keeps.pages.coming (disk_at (new x) t x.dev)
-    stale_at t lt le below =
-        let e = began (omega (arith, lt, below)) in
-        subst (λ (b : Bool). ReadsBy S b keeps.pages.was keeps.pages.coming (disk_at (new x) t x.dev)) (sym e) (stale e (disk_at (new x) t x.dev) (m.here t (omega (arith, lt)) le))
-
     away : (b : Bool) → is_away S x.dev ≡ b → IsAway S keeps.pages.was b (new x).now (disk_now (new x) x.dev)
     away true e = stale e (disk_now (new x) x.dev) (m.here (new x).now passes.later (le_refl (new x).now))
     away false e = λ lt. ⊎_elim
@@ -238,13 +229,11 @@ module _ {P C : Type 0} {plants : PlantGhosts P} {steadies : SteadyGhosts C} {co
         (λ below. absurd (true≢false (sym (began below) ∙ e)))
         (either_way top (old x).now)
 
-    pub replaced_keep : KeepsOn s x.pair x.first x.second (new x)
-    replaced_keep =
-        acts_on S keeps.pages.was keeps.pages.coming x.dev x.ckpt (copy_near x) (old x) (new x) passes m.others (at_near x keeps) (x.laws.reads (near_it x) (near_place x)) (past_of s) s.current s.level (copies_of s) (λ d. copy_of copies.rests copies.holds (pick d x.pair.first x.pair.second) (pick d x.first x.second))
-        keeps keeps.pages refl refl m.console stale_at
-        (of_both x (λ d h p. CopyAt S keeps.pages.was keeps.pages.coming d (copy_of copies.rests copies.holds h p) (new x))
-        (record { at = λ is. absurd (no (there x).alive is dead); formed = λ is. absurd (no (there x).alive is dead); gone = λ _. away (is_away S x.dev) refl })
-        (near_stays S keeps.pages.was keeps.pages.coming x.dev x.ckpt (copy_near x) (old x) (new x) passes m.others (at_near x keeps)))
+    pub replaced_keep : Elsewhere x.dev (old x) (new x) → KeepsOn s x.pair x.first x.second (new x)
+    replaced_keep e = keeps_same x passes e (λ is. absurd (no (there x).alive is dead)) keeps (record {
+      during = λ t from le lt. let is = began lt in subst (λ (b : Bool). ReadsBy S b keeps.pages.was keeps.pages.coming (disk_at (new x) t x.dev)) (sym is) (stale is (disk_at (new x) t x.dev) (m.here t from le));
+      after = record { at = λ is. absurd (no (there x).alive is dead); formed = λ is. absurd (no (there x).alive is dead); gone = λ _. away (is_away S x.dev) refl };
+    })
 
   -- an image of a copy that is being replaced, before and during the call
   pub stale_while : (keeps : KeepsAt s (old x)) → (here x).alive ≡ false → (pages : List ℕ) → pages ≡ keeps.pages.was → is_away S x.dev ≡ true → (d : Disk) → IsOrForms S.reads (disk_now (old x) x.dev) pages d → ReadsStale S keeps.pages.was d
@@ -253,16 +242,16 @@ module _ {P C : Type 0} {plants : PlantGhosts P} {steadies : SteadyGhosts C} {co
 
   -- the new copy is good from now on
   pub ended_keep : (v : View) (keeps : KeepsAt s v) → (there x).alive ≡ true → place_is x ≡ Before → copies.rests (there x).copy keeps.pages.was (disk_now v x.dev)
-      → Keeps (with_renewals S (ended_on x.dev v.now S.renewals)) (past_of s) s.current s.level (λ d. copy_of copies.rests copies.holds (pick d x.pair.first x.pair.second) (pick d x.first x.second)) v
-  ended_keep v keeps is before rest =
+      → (near_it x).alive ≡ true → Keeps (with_other S (ended_on x.dev v.now S.renewals) S.had) (past_of s) s.current s.level (λ d. copy_of copies.rests copies.holds (pick d x.pair.first x.pair.second) (pick d x.first x.second)) v
+  ended_keep v keeps is before rest beside =
       let list : List Renewal = map (ended_at v.now) (of_device x.dev S.renewals) in
       let by = all_ended_by (of_device x.dev S.renewals) v.now (keeps.renewed x.dev x.ckpt) in
       let closed : is_open list ≡ false = none_open (of_device x.dev S.renewals) v.now in
       renewals_on v keeps list by _ (λ t lt. renewed_before (of_device x.dev S.renewals) v.now t lt)
-      (λ below. not_renewed S keeps.pages.was (is_open list) keeps.pages.coming (disk_now v x.dev) closed (all_read S keeps.pages.was keeps.pages.coming (disk_now v x.dev) ((x.laws.reads (there x) (place_is x)).rest keeps.pages.was (disk_now v x.dev) rest)))
-      (of_both x (λ d h p. CopyAt (with_renewals S (with_device x.dev list S.renewals)) keeps.pages.was keeps.pages.coming d (copy_of copies.rests copies.holds h p) v)
+      (of_both x (λ d h p. CopyAt (with_other S (with_device x.dev list S.renewals) S.had) keeps.pages.was keeps.pages.coming d (copy_of copies.rests copies.holds h p) v)
       (of_here v keeps list by (copy_there x) (λ _. at_place S keeps.pages.was keeps.pages.coming (copy_there x) Before (place_is x) (disk_now v x.dev) (sym before) rest) (λ _. closed) (λ dead. absurd (no (there x).alive is dead)))
-      (copy_with S (with_device x.dev list S.renewals) keeps.pages.was keeps.pages.coming (near_dev x) (copy_near x) v (still_beside v keeps list by) (of_near x (λ d h p. CopyAt S keeps.pages.was keeps.pages.coming d (copy_of copies.rests copies.holds h p) v) keeps.at)))
+      (copy_with S (with_device x.dev list S.renewals) S.had keeps.pages.was keeps.pages.coming (near_dev x) (copy_near x) v (still_beside v keeps list by) (of_near x (λ d h p. CopyAt S keeps.pages.was keeps.pages.coming d (copy_of copies.rests copies.holds h p) v) keeps.at)))
+      (λ _ _ _. of_near x (λ d h p. h.alive ≡ true → AreNotedBefore S keeps.pages.was keeps.pages.coming) keeps.later beside)
 
 -- WHICH DEVICES ARE LOST
 

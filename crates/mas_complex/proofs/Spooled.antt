@@ -1,7 +1,6 @@
 -- Texts stay where nothing of their groups is written, and are read from what a crash leaves of the volumes.
-use Rattle.mas_complex.proofs.Names.{◌≡◌, ◌≢◌, inl, inr, ⊎_elim, ◌⊎◌, ◌||◌, ◌==◌, ℕ, zero, suc, ◌+◌, ◌*◌, ◌/◌, ◌%◌, ◌≤◌, ◌<◌, if◌then◌else◌, Bool, true, false, List, [], ◌∷◌, ◌++◌, length, All, Option, Some, None, option_map, unwrap_or, slice_get, slice_index_or, refl, subst, sym, ◌∙◌, ap, arith, list_any, All-nil, All-cons, All-head, All-tail, MemberId, GroupNo, Text, Queue, page_bytes, line_count, Page, Spool, div-add-mod, true≢false, eqb-true, eqb-false, Act, Done, Failed, ActHalted as Halted, View, ViewDisk as Disk, Stretch, Apart, Avoids, disk_now, slice, Dirtied, DirtiedIn, Untouched, Written, ReadBy, Synced, OnDevice, either_way, AreItsOwn, Volumes, volume_of, start_of, IsLeftOf, IsHeldBy, device_of, is_within, page_start, page_part, WritesGroup, Spools, spools_at, bytes_on, IsSynced, IsThere, IsThereUnless, HasTexts, IsReadUnless, GivesTexts, append-nil, Batch, Entry, Flying, is_kept, is_flying, World, disk_at, lost_now, kept, flying, kept_all, in_flight, entries_in, AreSettled, IsBegun, Setting, TextsAt, KeepsTexts, AreSunk}
+use Rattle.mas_complex.proofs.Names.{◌≡◌, ◌≢◌, inl, inr, ⊎_elim, ◌⊎◌, ◌||◌, ◌==◌, ℕ, zero, suc, ◌+◌, ◌*◌, ◌/◌, ◌%◌, ◌≤◌, ◌<◌, if◌then◌else◌, Bool, true, false, List, [], ◌∷◌, ◌++◌, length, All, Option, Some, None, option_map, unwrap_or, slice_get, slice_index_or, refl, subst, sym, ◌∙◌, ap, arith, list_any, All-nil, All-cons, All-head, All-tail, MemberId, GroupNo, Text, Queue, page_bytes, line_count, Page, Spool, div-add-mod, true≢false, eqb-true, eqb-false, Act, Done, Failed, ActHalted as Halted, View, ViewDisk as Disk, Stretch, Apart, Avoids, disk_now, slice, Dirtied, DirtiedIn, Untouched, Written, ReadBy, Synced, OnDevice, either_way, AreItsOwn, Volumes, volume_of, start_of, IsLeftOf, IsHeldBy, device_of, is_within, page_start, page_part, WritesGroup, Spools, spools_at, bytes_on, IsSynced, IsThere, IsThereUnless, HasTexts, IsReadUnless, GivesTexts, append-nil, Batch, Entry, Flying, is_kept, is_flying, World, disk_at, lost_now, kept, flying, kept_all, in_flight, entries_in, AreSettled, IsBegun, Setting, TextsAt, AreSunk, with_flying}
 use Rattle.mas_complex.proofs.Basics.{Passes}
-use Rattle.mas_complex.proofs.Batches.{kept_all_append, now_kept, now_flying, begins_kept, begins_flying, fated_kept, fated_flying, settled_push}
 use Rattle.std.proofs.lemmas.Bool.{or_parts}
 use Rattle.std.proofs.lemmas.List.Sorted.{All-permutation}
 use Rattle.mas_types.specs.declared.queues.Owner.{Owner}
@@ -262,116 +261,40 @@ module _ (gone : ℕ → Bool) (volumes : Volumes) (disks : Spools) (per : ℕ) 
     outputs = λ k d lt. text_left_there (slice_index_or Q.outputs k d).text (groups_of (Output (slice_index_or Q.outputs k d).job (slice_index_or Q.outputs k d).index) Q.owners) (has.outputs k d lt);
   }
 
--- The texts of the queue over acts, and over a batch that begins or gets its fate.
-
-module _ (S : Setting) (gone : ℕ → Bool) where
-  -- the texts of the queue after these entries, in a world
-  abbrev pub Has : World → List Entry → Type 0
-  Has w es = HasTexts gone (λ n. w.disk (Spool n)) S.base.config.groups (S.run S.base es)
-
-module _ (S : Setting) (v : View) where
-  -- the texts of the queues after entries are those after equal ones
-  pub texts_as : (K F G H : List Entry) (t : ℕ) → G ≡ K → H ≡ F → TextsAt S K F v t → TextsAt S G H v t
-  texts_as K F G H t k f at = subst (λ (l : List Entry). TextsAt S l H v t) (sym k) (subst (λ (l : List Entry). TextsAt S K l v t) (sym f) at)
-
-  -- the texts of the kept entries stand now, and with those in flight
-  pub stand_now : (js : List Batch) (c : Option Batch) → AreSettled js v.now → IsBegun c v.now → TextsAt S (kept (js ++ in_flight c) v.now) (flying (js ++ in_flight c) v.now) v v.now → TextsAt S (kept_all js) (entries_in c) v v.now
-  stand_now js c settled begun at = texts_as (kept (js ++ in_flight c) v.now) (flying (js ++ in_flight c) v.now) (kept_all js) (entries_in c) v.now (sym (now_kept js c v.now v.now settled begun (omega arith))) (sym (now_flying js c v.now v.now settled begun (omega arith))) at
-
--- ACTS
+-- The texts of the queue over acts.
 
 -- what acts leave of the texts of the queue after these entries, and of the one with those; and a volume that the world
 -- shows as lost was lost before, or counts as lost now
 pub record Stays (S : Setting) (K F : List Entry) (old new : View) : Type 0 where
-  pub kept : (gone : ℕ → Bool) (t : ℕ) → old.now < t → t ≤ new.now → HasTexts gone (spools_at old old.now) S.base.config.groups (S.run S.base K) → HasTexts gone (spools_at new t) S.base.config.groups (S.run S.base K)
-  pub coming : (gone : ℕ → Bool) (t : ℕ) → old.now < t → t ≤ new.now → HasTexts gone (spools_at old old.now) S.base.config.groups (S.run S.base (K ++ F)) → HasTexts gone (spools_at new t) S.base.config.groups (S.run S.base (K ++ F))
+  pub texts : (gone : ℕ → Bool) (t : ℕ) → old.now < t → t ≤ new.now → (coming : Bool) → HasTexts gone (spools_at old old.now) S.base.config.groups (S.run S.base (with_flying coming K F)) → HasTexts gone (spools_at new t) S.base.config.groups (S.run S.base (with_flying coming K F))
   pub sunk : (t : ℕ) → old.now < t → t ≤ new.now → (n : ℕ) → (spools_at new t n).lost ≡ true → ((spools_at old old.now n).lost ≡ true) ⊎ (lost_now new n ≡ true)
 
 -- no volume changes
 pub stays_same : (S : Setting) (K F : List Entry) (old new : View) → ((t : ℕ) → old.now < t → t ≤ new.now → (n : ℕ) → disk_at new t (Spool n) ≡ disk_now old (Spool n)) → Stays S K F old new
 stays_same S K F old new same = record {
-  kept = λ gone t lt le has. texts_same S.base.config.groups (spools_at old old.now) (spools_at new t) gone (S.run S.base K) (same t lt le) has;
-  coming = λ gone t lt le has. texts_same S.base.config.groups (spools_at old old.now) (spools_at new t) gone (S.run S.base (K ++ F)) (same t lt le) has;
+  texts = λ gone t lt le coming has. texts_same S.base.config.groups (spools_at old old.now) (spools_at new t) gone (S.run S.base (with_flying coming K F)) (same t lt le) has;
   sunk = λ t lt le n lost. inl (sym (ap (λ (d : Disk). d.lost) (same t lt le n)) ∙ lost);
 }
 
-module _ (S : Setting) (js : List Batch) (c : Option Batch) (old new : View) (settled : AreSettled js old.now) (begun : IsBegun c old.now) (started : S.since ≤ old.now) (goes : Passes old new) (stays : Stays S (kept_all js) (entries_in c) old new) where
-  -- volumes that were lost still are
-  later : (t : ℕ) (es : List Entry) → Has S (lost_now old) (old.world t) es → Has S (lost_now new) (old.world t) es
-  later t es has = texts_fewer (lost_now old) (lost_now new) (spools_at old t) S.base.config.groups (S.run S.base es) (λ n lost. goes.volumes n lost) has
+module _ (S : Setting) (old new : View) (goes : Passes old new) where
+  -- volumes that were lost still are, at each past moment
+  pub texts_past : (K F : List Entry) (t : ℕ) → t ≤ old.now → TextsAt S K F old t → TextsAt S K F new t
+  texts_past K F t le at coming = subst (λ (w : World). HasTexts (lost_now new) (λ n. w.disk (Spool n)) S.base.config.groups (S.run S.base (with_flying coming K F))) (sym (goes.past t le))
+      (texts_fewer (lost_now old) (lost_now new) (spools_at old t) S.base.config.groups (S.run S.base (with_flying coming K F)) (λ n lost. goes.volumes n lost) (at coming))
 
-  acts_past : (t : ℕ) → t ≤ old.now → TextsAt S (kept (js ++ in_flight c) t) (flying (js ++ in_flight c) t) old t → TextsAt S (kept (js ++ in_flight c) t) (flying (js ++ in_flight c) t) new t
-  acts_past t le at = record {
-    after_kept = subst (λ (w : World). Has S (lost_now new) w (kept (js ++ in_flight c) t)) (sym (goes.past t le)) (later t (kept (js ++ in_flight c) t) at.after_kept);
-    after_coming = subst (λ (w : World). Has S (lost_now new) w (kept (js ++ in_flight c) t ++ flying (js ++ in_flight c) t)) (sym (goes.past t le)) (later t (kept (js ++ in_flight c) t ++ flying (js ++ in_flight c) t) at.after_coming);
-  }
+  pub sunk_past : (t : ℕ) → t ≤ old.now → AreSunk old t → AreSunk new t
+  sunk_past t le sunk n lost = goes.volumes n (sunk n (ap (λ (w : World). (w.disk (Spool n)).lost) (sym (goes.past t le)) ∙ lost))
 
-  acts_now : (t : ℕ) → old.now < t → t ≤ new.now → TextsAt S (kept (js ++ in_flight c) old.now) (flying (js ++ in_flight c) old.now) old old.now → TextsAt S (kept (js ++ in_flight c) t) (flying (js ++ in_flight c) t) new t
-  acts_now t lt le at =
-      let was = stand_now S old js c settled begun at in
-      texts_as S new (kept_all js) (entries_in c) (kept (js ++ in_flight c) t) (flying (js ++ in_flight c) t) t (now_kept js c old.now t settled begun (omega arith)) (now_flying js c old.now t settled begun (omega arith)) (record {
-        after_kept = stays.kept (lost_now new) t lt le (later old.now (kept_all js) was.after_kept);
-        after_coming = stays.coming (lost_now new) t lt le (later old.now (kept_all js ++ entries_in c) was.after_coming);
-      })
+  -- and at each moment of the acts
+  module _ (K F : List Entry) (stays : Stays S K F old new) where
+    pub texts_acts : TextsAt S K F old old.now → (t : ℕ) → old.now ≤ t → t ≤ new.now → TextsAt S K F new t
+    texts_acts at t from le = ⊎_elim
+        (λ (h : t ≤ old.now). let e : old.now ≡ t = omega (arith, h, from) in subst (λ (m : ℕ). TextsAt S K F new m) e (texts_past K F old.now (omega arith) at))
+        (λ (h : old.now < t). λ coming. stays.texts (lost_now new) t h le coming (texts_fewer (lost_now old) (lost_now new) (spools_at old old.now) S.base.config.groups (S.run S.base (with_flying coming K F)) (λ n lost. goes.volumes n lost) (at coming)))
+        (either_way t old.now)
 
-  pub acts_texts : KeepsTexts S (js ++ in_flight c) old → KeepsTexts S (js ++ in_flight c) new
-  acts_texts keeps t from le = ⊎_elim
-      (λ (h : t ≤ old.now). acts_past t h (keeps t from h))
-      (λ (h : old.now < t). acts_now t h le (keeps old.now started (omega arith)))
-      (either_way t old.now)
-
-  pub acts_sunk : AreSunk S old → AreSunk S new
-  acts_sunk sunk t from le n lost = ⊎_elim
-      (λ (h : t ≤ old.now). goes.volumes n (sunk t from h n (ap (λ (w : World). (w.disk (Spool n)).lost) (sym (goes.past t h)) ∙ lost)))
-      (λ (h : old.now < t). ⊎_elim (λ was. goes.volumes n (sunk old.now started (omega arith) n was)) (λ now. now) (stays.sunk t h le n lost))
-      (either_way t old.now)
-
--- THE JOURNAL
-
--- a batch begins now, and the texts of the queue with it stand
-module _ (S : Setting) (js : List Batch) (b : Batch) (v : View) (settled : AreSettled js v.now) (fate : b.fate ≡ Flying) (first : b.first ≡ v.now)
-    (has : HasTexts (lost_now v) (spools_at v v.now) S.base.config.groups (S.run S.base (kept_all js ++ b.entries))) where
-  begins_now : TextsAt S (kept (js ++ []) v.now) (flying (js ++ []) v.now) v v.now → TextsAt S (kept (js ++ b ∷ []) v.now) (flying (js ++ b ∷ []) v.now) v v.now
-  begins_now at =
-      texts_as S v (kept_all js) b.entries (kept (js ++ b ∷ []) v.now) (flying (js ++ b ∷ []) v.now) v.now (now_kept js (Some b) v.now v.now settled (fate, omega (arith, first)) (omega arith)) (now_flying js (Some b) v.now v.now settled (fate, omega (arith, first)) (omega arith))
-      (record { after_kept = (stand_now S v js None settled tt at).after_kept; after_coming = has })
-
-  pub begins_texts : KeepsTexts S (js ++ []) v → KeepsTexts S (js ++ b ∷ []) v
-  begins_texts keeps t from le = ⊎_elim
-      (λ (h : v.now ≤ t). let e : v.now ≡ t = omega arith in subst (λ (m : ℕ). TextsAt S (kept (js ++ b ∷ []) m) (flying (js ++ b ∷ []) m) v m) e (begins_now (keeps v.now (omega arith) (omega arith))))
-      (λ (h : t < v.now). texts_as S v (kept (js ++ []) t) (flying (js ++ []) t) (kept (js ++ b ∷ []) t) (flying (js ++ b ∷ []) t) t (begins_kept js b t fate) (begins_flying js b t (omega (arith, first))) (keeps t from le))
-      (either_way v.now t)
-
--- the batch in flight gets its fate
-module _ (S : Setting) (js : List Batch) (b c : Batch) (v : View) (settled : AreSettled js v.now) (begun : IsBegun (Some b) v.now) (fated : is_flying c.fate ≡ false)
-    (same_first : c.first ≡ b.first) (same_entries : c.entries ≡ b.entries) (last : c.last ≡ v.now) where
-  fated_settled : AreSettled (js ++ c ∷ []) v.now
-  fated_settled = settled_push js c v.now settled fated (omega (arith, same_first, last, begun.1)) (omega (arith, last))
-
-  fated_now : TextsAt S (kept (js ++ b ∷ []) v.now) (flying (js ++ b ∷ []) v.now) v v.now → TextsAt S (kept ((js ++ c ∷ []) ++ []) v.now) (flying ((js ++ c ∷ []) ++ []) v.now) v v.now
-  fated_now at =
-      texts_as S v (kept_all (js ++ c ∷ [])) [] (kept ((js ++ c ∷ []) ++ []) v.now) (flying ((js ++ c ∷ []) ++ []) v.now) v.now
-      (now_kept (js ++ c ∷ []) None v.now v.now fated_settled tt (omega arith)) (now_flying (js ++ c ∷ []) None v.now v.now fated_settled tt (omega arith))
-      (record { after_kept = here; after_coming = subst (λ (l : List Entry). Has S (lost_now v) (v.world v.now) l) (sym (append-nil (kept_all (js ++ c ∷ [])))) here })
-    where
-      was : TextsAt S (kept_all js) b.entries v v.now
-      was = stand_now S v js (Some b) settled begun at
-
-      by_fate : (k : Bool) → Has S (lost_now v) (v.world v.now) (kept_all js ++ ((if k then c.entries else []) ++ []))
-      by_fate true = subst (λ (l : List Entry). Has S (lost_now v) (v.world v.now) (kept_all js ++ l)) (sym (append-nil c.entries ∙ same_entries)) was.after_coming
-      by_fate false = subst (λ (l : List Entry). Has S (lost_now v) (v.world v.now) l) (sym (append-nil (kept_all js))) was.after_kept
-
-      here : Has S (lost_now v) (v.world v.now) (kept_all (js ++ c ∷ []))
-      here = subst (λ (l : List Entry). Has S (lost_now v) (v.world v.now) l) (sym (kept_all_append js (c ∷ []))) (by_fate (is_kept c.fate))
-
-  pub fated_texts : KeepsTexts S (js ++ b ∷ []) v → KeepsTexts S ((js ++ c ∷ []) ++ []) v
-  fated_texts keeps t from le = ⊎_elim
-      (λ (h : v.now ≤ t). let e : v.now ≡ t = omega arith in subst (λ (m : ℕ). TextsAt S (kept ((js ++ c ∷ []) ++ []) m) (flying ((js ++ c ∷ []) ++ []) m) v m) e (fated_now (keeps v.now (omega arith) (omega arith))))
-      (λ (h : t < v.now). texts_as S v (kept (js ++ b ∷ []) t) (flying (js ++ b ∷ []) t) (kept ((js ++ c ∷ []) ++ []) t) (flying ((js ++ c ∷ []) ++ []) t) t (fated_kept js b c t begun.0 (omega (arith, last))) (fated_flying js b c t begun.0 same_first same_entries (omega (arith, last))) (keeps t from le))
-      (either_way v.now t)
-
--- the journal is empty
-pub make_texts : (S : Setting) (v : View) → S.since ≡ v.now → HasTexts (lost_now v) (spools_at v v.now) S.base.config.groups (S.run S.base []) → KeepsTexts S [] v
-make_texts S v since has t from le =
-    let e : v.now ≡ t = omega (arith, since) in
-    subst (λ (m : ℕ). TextsAt S [] [] v m) e (record { after_kept = has; after_coming = has })
+    pub sunk_acts : AreSunk old old.now → (t : ℕ) → old.now ≤ t → t ≤ new.now → AreSunk new t
+    sunk_acts sunk t from le = ⊎_elim
+        (λ (h : t ≤ old.now). let e : old.now ≡ t = omega (arith, h, from) in subst (λ (m : ℕ). AreSunk new m) e (sunk_past old.now (omega arith) sunk))
+        (λ (h : old.now < t). λ n lost. ⊎_elim (λ was. goes.volumes n (sunk n was)) (λ now. now) (stays.sunk t h le n lost))
+        (either_way t old.now)

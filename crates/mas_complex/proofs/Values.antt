@@ -1,15 +1,16 @@
 -- A shared value as lemmas take it, and what an act leaves of it that changes neither copy.
-use Rattle.mas_complex.proofs.Names.{◌≡◌, ◌≢◌, ◌≤◌, ◌<◌, ◌++◌, ◌∙◌, ℕ, List, [], Some, IsSome, true, false, length, ap, arith, subst, sym, ◌⊎◌, append-nil, ∥∥₁_map, ∥∥₁_map₂, IsSound, Dev, Spool, Batch, is_stopped, Disk as DiskPart, PlantGhosts, ViewDisk as Disk, View, disk_at, disk_now, Goes, OnDevice, SamePaper, next, Ghosts as CopyGhosts, NoMore, SteadyGhosts, page_count, Pair, Place, Complex, Copy, Keeps, ReadsBy, Setting, copy_of, setting_with, AreFew, AreSettled, HasPlace, IsBegun, entries_in, entries_most, entries_reserved, in_flight, journal_most, kept_all, Parts, KeepsPaper, SamePapers, HavePasts, sight_of, values_of, is_open, AreReplied, le_refl, Book, Entry, None, Option, inl, inr, parts_of, refl, IsCkpt, pick, Half, is_away, Sight, of_device, Ckpt1, Ckpt2, AreAllowed, past_batches, AreGivenIn, counts_of, HaveReplies, HasTexts, lost_now, spools_at, run, Bool, Before, Acted, other, CopyAt, Elsewhere, with_copy, HasPast, Versions, ⊎_elim, is_flying, Fate, Dropped, Kept, Unsure, with_last, ◌∷◌, MemberId, Queue, Arms, LineAt, GroupNo, Page, page_bytes, Act, LosesThere, Syncs, AreItsOwn, volume_of, start_of, IsHeldBy, device_of, is_within, page_start, page_part, ReadsGroup, WritesGroup, Renewals}
-use Rattle.mas_complex.proofs.Books.{Booked, IsOwned, owned_none, settled_past, settled_with_last}
-use Rattle.mas_complex.proofs.Basics.{parts_with, passes_of, volume_beside, frame_on, beside, of_beside, of_each, no, pick_same, stays_true, Passes, still_none}
-use Rattle.mas_complex.proofs.Batches.{begun_later, settled_later, past_given, past_kept, short_left, few_with_last, fated_replied, few_last, fated_past}
-use Rattle.mas_complex.proofs.Moves.{Adds, acts_keep}
-use Rattle.mas_complex.proofs.Papers.{book_on_paper, given_append, given_front, given_rest, same_papers, stays_on_paper, fated_on_paper, passes_on_paper}
-use Rattle.mas_complex.proofs.Pasts.{not_lost, past_still, past_ended}
-use Rattle.mas_complex.proofs.Present.{Reads, copy_reads}
-use Rattle.mas_complex.proofs.Sides.{moved, acts_on, near_stays, Went, rests_before, calm}
+use Rattle.mas_complex.proofs.Names.{◌≡◌, ◌≢◌, ◌≤◌, ◌<◌, ◌++◌, ◌∙◌, ℕ, List, [], Some, IsSome, true, false, length, ap, arith, subst, sym, ◌⊎◌, append-nil, ∥∥₁_elim, ∥∥₁_map, ∥∥₁_map₂, ∥∥₁_prop, All, Flying, IsUntold, Closes, has_step, said, printed_after, setting, IsSound, Dev, Spool, Batch, is_stopped, Disk as DiskPart, PlantGhosts, ViewDisk as Disk, View, disk_at, disk_now, Goes, OnDevice, SamePaper, next, Ghosts as CopyGhosts, NoMore, SteadyGhosts, page_count, Pair, Place, Complex, Copy, Keeps, ReadsBy, Setting, copy_of, setting_with, AreFew, AreSettled, HasPlace, IsBegun, entries_in, entries_most, entries_reserved, in_flight, journal_most, kept_all, Parts, KeepsPaper, SamePapers, HavePasts, sight_of, values_of, is_open, AreReplied, le_refl, Book, Entry, None, Option, inl, inr, parts_of, refl, IsCkpt, pick, Half, is_away, Sight, of_device, Ckpt1, Ckpt2, AreAllowed, past_batches, AreGivenIn, counts_of, HaveReplies, HasTexts, lost_now, spools_at, run, Bool, Before, Acted, other, CopyAt, Elsewhere, with_copy, HasPast, Versions, ⊎_elim, is_flying, Fate, Dropped, Kept, Unsure, with_last, ◌∷◌, MemberId, Queue, Arms, LineAt, GroupNo, Page, page_bytes, Act, LosesThere, Syncs, AreItsOwn, volume_of, start_of, IsHeldBy, device_of, is_within, page_start, page_part, with_flying, World as PlantWorld, ReadsGroup, WritesGroup, Renewals, AreLater, AreNotedBefore, IsAt, IsOneOf, Put, Opened}
+use Rattle.mas_complex.proofs.Books.{Booked, IsOwned, owned_none, owned_own, settled_with_last, settled_past}
+use Rattle.mas_complex.proofs.Pasts.{image_now}
+use Rattle.mas_complex.proofs.Basics.{parts_with, passes_of, volume_beside, frame_on, beside, of_beside, of_each, no, pick_same, stays_true, Passes, passes_none, still_none}
+use Rattle.mas_complex.proofs.Batches.{begun_later, settled_later, past_given, past_kept, short_left, few_with_last, begun_replied, fated_replied, few_last, fated_past}
+use Rattle.mas_complex.proofs.Moves.{Adds, acts_keep, adds_none, begins_keep, each_tells}
+use Rattle.mas_complex.proofs.Papers.{given_append, given_flight, same_papers, begins_on_paper, fated_on_paper, passes_on_paper}
+use Rattle.mas_complex.proofs.Pasts.{image_now}
+use Rattle.mas_complex.proofs.Present.{Reads, copy_reads, coming_of, of_one, sent}
+use Rattle.mas_complex.proofs.Sides.{moved, Went, rests_before, calm, copies_went, held_at, untouched}
 use Rattle.mas_complex.proofs.Spooled.{Stays, stays_same, Quiet, texts_quiet, texts_written, each_quiet, quiet_untouched, read_quiet, sync_quiet}
-use Rattle.mas_complex.proofs.Counted.{still_lost}
+use Rattle.mas_complex.proofs.Counted.{elsewhere_calm, still_lost}
 use Rattle.duplex_pair.specs.Halves.{AreReady}
 use borrow.Fn.World
 use denote.RattleType
@@ -32,17 +33,9 @@ pub record Laws {P C : Type 0} (plants : PlantGhosts P) (steadies : SteadyGhosts
 
 pub laws_of : (w : World.World) {T U : RattleType.RattleType} {plants : PlantGhosts T.Denot} {one : Syntax.Dict} {steadies : SteadyGhosts U.Denot} {two : Syntax.Dict} {copies : CopyGhosts U.Denot} {three : Syntax.Dict}
     → PlantBound.Met w.𝓛 w.𝓜 w.𝓡 w.𝓡.env T plants one → SteadyBound.Met w.𝓛 w.𝓜 w.𝓡 w.𝓡.env U steadies two copies three → CopyBound.Met w.𝓛 w.𝓜 w.𝓡 w.𝓡.env U copies three → Laws plants steadies copies
-laws_of w plant steady copy = record {
-  there = λ p told d up. plant.there p told d up;
-  fit_ready = λ x v fit. steady.fit_ready x v fit;
-  ready_fit = λ x v ready. steady.ready_fit x v ready;
-  reads = λ h p. record { rest = λ pages d r. copy.rests_reads h.copy pages d r; hold = λ was next d r. copy.holds_reads h.copy was next d r };
-  rests_now = λ x pages d r. copy.rests_now x pages d r;
-  rests_stays = λ x pages d e more r. copy.rests_stays x pages d e more r;
-  holds_rests = λ x was next d r. copy.holds_rests x was next d r;
-  holds_behind = λ x was next d r. copy.holds_behind x was next d r;
-  holds_stays = λ x was next d e more r. copy.holds_stays x was next d e more r;
-}
+laws_of w {U = U} {copies = copies} plant steady copy = assumption (plant, steady, copy, reads) where
+  reads : (h : Half U.Denot) (p : Place) → Reads copies.reads (copy_of copies.rests copies.holds h p)
+  reads h p = record { rest = λ pages d r. copy.rests_reads h.copy pages d r; hold = λ was next d r. copy.holds_reads h.copy was next d r }
 
 -- ALL THAT THE TYPE SAYS of these parts, where the plant shows this
 
@@ -51,10 +44,7 @@ module _ {P C : Type 0} (plants : PlantGhosts P) (steadies : SteadyGhosts C) (co
   half d = pick d (record { copy = x.first_copy; alive = x.first_alive; found = x.first_found }) (record { copy = x.second_copy; alive = x.second_alive; found = x.second_found })
 
   abbrev pub KeepsOf : Type 0
-  KeepsOf = Keeps (setting_with copies.reads x.base x.since x.renewals) (past_batches x.placed x.batches) x.current x.level (λ d. copy_of copies.rests copies.holds (half d) (pick d x.first x.second)) v
-
-  abbrev pub PastsOf : Type 0
-  PastsOf = HavePasts (page_count x.base.config) x.had (λ d. sight_of copies.reads copies.behind (half d) (pick d x.first x.second) d v)
+  KeepsOf = Keeps (setting_with copies.reads x.base x.since x.renewals x.had) (past_batches x.placed x.batches) x.current x.level (λ d. copy_of copies.rests copies.holds (half d) (pick d x.first x.second)) v
 
   abbrev pub PaperOf : Type 0
   PaperOf = KeepsPaper x.base x.since (past_batches x.placed x.batches) x.current (x.printed, x.book) v
@@ -69,7 +59,6 @@ module _ {P C : Type 0} (plants : PlantGhosts P) (steadies : SteadyGhosts C) (co
   FactsOf =
       record {
         kept : plants.tells → ∥ KeepsOf ∥₁;
-        lasting : plants.tells → ∥ PastsOf ∥₁;
         replied : plants.tells → ∥ AreReplied x.base (past_batches x.placed x.batches ++ in_flight x.current) ∥₁;
         paper : plants.tells → IsSound x.base → ∥ PaperOf ∥₁;
         ready : ReadyOf;
@@ -92,7 +81,7 @@ module _ {P C : Type 0} {plants : PlantGhosts P} {steadies : SteadyGhosts C} {co
   view_of = plants.view s.plant
 
   abbrev pub setting_of : Setting
-  setting_of = setting_with copies.reads s.base s.since s.renewals
+  setting_of = setting_with copies.reads s.base s.since s.renewals (values_of s.had)
 
   -- the batches that have their fates, and the entries that they keep
   abbrev pub past_of : List Batch
@@ -100,16 +89,6 @@ module _ {P C : Type 0} {plants : PlantGhosts P} {steadies : SteadyGhosts C} {co
 
   pub kept_past : kept_all past_of ≡ kept_all s.journal.batches
   kept_past = past_kept s.placed s.journal.batches s.place
-
-  -- what is asked of the queue after the kept entries is asked of the one after those
-  pub texts_past : (es : List Entry) → HasTexts (lost_now view_of) (spools_at view_of view_of.now) s.base.config.groups (run s.base (kept_all s.journal.batches ++ es)) → HasTexts (lost_now view_of) (spools_at view_of view_of.now) s.base.config.groups (run s.base (kept_all past_of ++ es))
-  texts_past es = subst (λ (K : List Entry). HasTexts (lost_now view_of) (spools_at view_of view_of.now) s.base.config.groups (run s.base (K ++ es))) (sym kept_past)
-
-  pub replies_past : (es : List Entry) → HaveReplies (run s.base (kept_all s.journal.batches)) es → HaveReplies (run s.base (kept_all past_of)) es
-  replies_past es = subst (λ (K : List Entry). HaveReplies (run s.base K) es) (sym kept_past)
-
-  pub allowed_past : (es : List Entry) → AreAllowed s.base (run s.base (kept_all s.journal.batches)) (counts_of s.printed) es → AreAllowed s.base (run s.base (kept_all past_of)) (counts_of s.printed) es
-  allowed_past es = subst (λ (K : List Entry). AreAllowed s.base (run s.base K) (counts_of s.printed) es) (sym kept_past)
 
   -- the half of the pair on a device, how far the batch in flight has come on it, and the copy at this place
   abbrev pub half_of : Dev → Half C
@@ -126,12 +105,9 @@ module _ {P C : Type 0} {plants : PlantGhosts P} {steadies : SteadyGhosts C} {co
 
   -- WITH OTHER COPIES, and where its plant shows another world
   module _ (pair : Pair C copies) (first second : Place) (v : View) where
-    -- what a crash leaves, what members noted, what stands on paper, and which copies are ready and which lost
+    -- what a crash leaves, what stands on paper, and which copies are ready and which lost
     abbrev pub KeepsOn : Type 0
     KeepsOn = KeepsOf plants steadies copies (parts_with s s.plant pair first second) v
-
-    abbrev pub PastsOn : Type 0
-    PastsOn = PastsOf plants steadies copies (parts_with s s.plant pair first second) v
 
     abbrev pub PaperOn : Type 0
     PaperOn = PaperOf plants steadies copies (parts_with s s.plant pair first second) v
@@ -151,11 +127,10 @@ module _ {P C : Type 0} {plants : PlantGhosts P} {steadies : SteadyGhosts C} {co
       abbrev changed : Parts P C
       changed = record (parts_with s s.plant pair first second) { printed = printed; book = is; reserved = left; renewals = rs }
 
-      pub facts_with : view_of.now ≤ v.now → (plants.tells → ∥ KeepsOf plants steadies copies changed v ∥₁) → (plants.tells → ∥ PastsOn ∥₁) → (plants.tells → IsSound s.base → ∥ KeepsPaper s.base s.since past_of s.current (printed, is) v ∥₁)
+      pub facts_with : view_of.now ≤ v.now → (plants.tells → ∥ KeepsOf plants steadies copies changed v ∥₁) → (plants.tells → IsSound s.base → ∥ KeepsPaper s.base s.since past_of s.current (printed, is) v ∥₁)
           → ReadyOn → LostOf plants steadies copies changed v → IsOwned s.current is → (left ≡ None) ⊎ (left ≡ s.reserved) → FactsOf plants steadies copies changed v
-      facts_with later kept lasting paper ready lost owned fewer = record {
+      facts_with later kept paper ready lost owned fewer = record {
         kept = kept;
-        lasting = lasting;
         replied = s.replied;
         paper = paper;
         ready = ready;
@@ -176,8 +151,8 @@ module _ {P C : Type 0} {plants : PlantGhosts P} {steadies : SteadyGhosts C} {co
         still (inl e) has = let none : false ≡ true = subst (λ (r : Option (List Entry)). IsSome r) e has in absurd (cc)
         still (inr e) has = subst (λ (r : Option (List Entry)). IsSome r) e has
 
-    pub facts : view_of.now ≤ v.now → (plants.tells → ∥ KeepsOn ∥₁) → (plants.tells → ∥ PastsOn ∥₁) → (plants.tells → IsSound s.base → ∥ PaperOn ∥₁) → ReadyOn → LostOn → Facts
-    facts later kept lasting paper ready lost = facts_with s.printed s.book s.reserved s.renewals later kept lasting paper ready lost s.owned (inr refl)
+    pub facts : view_of.now ≤ v.now → (plants.tells → ∥ KeepsOn ∥₁) → (plants.tells → IsSound s.base → ∥ PaperOn ∥₁) → ReadyOn → LostOn → Facts
+    facts later kept paper ready lost = facts_with s.printed s.book s.reserved s.renewals later kept paper ready lost s.owned (inr refl)
 
   -- what a crash leaves of it where its plant shows this
   abbrev pub KeepsAt : View → Type 0
@@ -188,12 +163,15 @@ module _ {P C : Type 0} {plants : PlantGhosts P} {steadies : SteadyGhosts C} {co
 
   -- each entry is within the limits, and of a member that may give it
   pub given_of : plants.tells → IsSound s.base → ∥ AreGivenIn s.base (s.journal.batches ++ in_flight s.current) ∥₁
-  given_of told sound = ∥∥₁_map₂ (s.paper told sound) s.place (λ on has. given_append s.base s.journal.batches (in_flight s.current) (past_given s.base s.placed s.journal.batches has (given_front s.base past_of (in_flight s.current) on.given))
-      (given_rest s.base past_of (in_flight s.current) on.given))
+  given_of told sound = ∥∥₁_map₂ (s.paper told sound) s.place (λ on has. given_append s.base s.journal.batches (in_flight s.current) (past_given s.base s.placed s.journal.batches has on.given) (given_flight s.base s.current on.coming_given))
 
-  -- the printers after acts that print nothing
+  -- the printers after acts that print nothing, with another book
+  paper_with : (v : View) (is : Book) → Passes view_of v → (plants.tells → SamePapers view_of v) → ((m : MemberId) → is_stopped is m ≡ false → is_stopped s.book m ≡ false) → plants.tells → IsSound s.base
+      → ∥ KeepsPaper s.base s.since past_of s.current (s.printed, is) v ∥₁
+  paper_with v is goes same up told sound = ∥∥₁_map₂ (s.kept told) (s.paper told sound) (λ k on. passes_on_paper s.base s.since past_of s.current s.printed s.book view_of v k.started k.settled k.begun goes on is up (same told))
+
   pub paper_after : (v : View) → Goes view_of v → (plants.tells → SamePapers view_of v) → plants.tells → IsSound s.base → ∥ KeepsPaper s.base s.since past_of s.current (s.printed, s.book) v ∥₁
-  paper_after v goes same told sound = ∥∥₁_map₂ (s.kept told) (s.paper told sound) (λ k on. stays_on_paper s.base s.since past_of s.current s.printed s.book s.book view_of v k.started k.settled k.begun goes (same told) (λ m up. up) on)
+  paper_after v goes same = paper_with v s.book (passes_of view_of v goes) same (λ m up. up)
 
   -- copies that stay fit after any acts
   pub ready_after : (v : View) → Goes view_of v → ReadyOn s.pair s.first s.second v
@@ -203,14 +181,30 @@ module _ {P C : Type 0} {plants : PlantGhosts P} {steadies : SteadyGhosts C} {co
   pub ready_of : Laws plants steadies copies → AreReady copies.ready s.pair.first.copy s.pair.second.copy s.pair.first.alive s.pair.second.alive view_of
   ready_of laws = record { first = λ is. laws.fit_ready s.pair.first.copy view_of (s.ready Ckpt1 tt is); second = λ is. laws.fit_ready s.pair.second.copy view_of (s.ready Ckpt2 tt is) }
 
+  -- what each copy reads that counts as alive is later than what members noted, and so is what waits behind its gate
+  pub pasts_of : Laws plants steadies copies → plants.tells → KeepsAt view_of → HavePasts (page_count s.base.config) (values_of s.had) (λ d. sight_at (half_of d) (place_of d) d view_of)
+  pasts_of laws told k d ckpt = record {
+    reads = λ is sure pages read. later_of (k.later d ckpt is) pages (subst (λ (q : Option (List ℕ)). IsOneOf k.pages.was k.pages.coming q) read (bytes_at (place_of d) sure ((k.at d ckpt).at is)));
+    waits = λ is put. let w = held_at setting_of k.pages.was k.pages.coming (copies_of d) d view_of (k.at d ckpt) is put in
+        subst (λ (l : List ℕ). AreLater (page_count s.base.config) (values_of s.had) l) (sym (laws.holds_behind (half_of d).copy k.pages.was (sent k.pages.coming) (disk_now view_of d) w.1)) (later_of (k.later d ckpt is) (sent k.pages.coming) (inr w.0));
+  } where
+    later_of : AreNotedBefore setting_of k.pages.was k.pages.coming → (pages : List ℕ) → IsOneOf k.pages.was k.pages.coming (Some pages) → AreLater (page_count s.base.config) (values_of s.had) pages
+    later_of later pages = of_one (AreLater (page_count s.base.config) (values_of s.had)) (AreLater (page_count s.base.config) (values_of s.had)) k.pages.was k.pages.coming pages later.0 later.1 (λ p is. is)
+
+    bytes_at : (p : Place) → (p ≡ Unsure → view_of.lost (DiskPart d) ≡ false) → IsAt setting_of (copies_of d) k.pages.was k.pages.coming p (disk_now view_of d) → IsOneOf k.pages.was k.pages.coming (copies.reads (disk_now view_of d).bytes)
+    bytes_at Before sure side = rw (laws.rests_now (half_of d).copy k.pages.was (disk_now view_of d) side) (inl refl)
+    bytes_at Put sure side = let w = coming_of k.pages.coming _ side in rw (laws.rests_now (half_of d).copy k.pages.was (disk_now view_of d) (laws.holds_rests (half_of d).copy k.pages.was (sent k.pages.coming) (disk_now view_of d) w.1)) (inl refl)
+    bytes_at Opened sure side = let w = coming_of k.pages.coming _ side in rw (laws.rests_now (half_of d).copy (sent k.pages.coming) (disk_now view_of d) w.1) (inr w.0)
+    bytes_at Unsure sure side = side (disk_now view_of d).bytes (image_now (disk_now view_of d) (laws.there s.plant told d (sure refl)))
+
   -- a device that is lost stays so
   pub lost_after : (v : View) → Goes view_of v → LostOn s.pair s.first s.second v
   lost_after v goes d ckpt dead shut = goes.lost (DiskPart d) (s.lost d ckpt dead shut)
 
   -- ANOTHER BOOK, and what is reserved or nothing
-  pub booked : (is : Book) (left : Option (List Entry)) → Booked s.current s.book is → (left ≡ None) ⊎ (left ≡ s.reserved) → FactsOf plants steadies copies (record (parts_of s) { book = is; reserved = left }) view_of
-  booked is left book fewer = facts_with s.pair s.first s.second view_of s.printed is left s.renewals (le_refl view_of.now) s.kept s.lasting
-      (λ told sound. ∥∥₁_map (s.paper told sound) (λ on. book_on_paper s.base s.since past_of s.current s.printed s.book is view_of book.up on)) s.ready s.lost book.owned fewer
+  pub booked : (is : Book) {after : Book} (left : Option (List Entry)) → is ≡ after → Booked s.current s.book after → (left ≡ None) ⊎ (left ≡ s.reserved) → FactsOf plants steadies copies (record (parts_of s) { book = is; reserved = left }) view_of
+  booked is {after} left same book fewer = subst (λ (x : Book). FactsOf plants steadies copies (record (parts_of s) { book = x; reserved = left }) view_of) (sym same)
+      (facts_with s.pair s.first s.second view_of s.printed after left s.renewals (le_refl view_of.now) s.kept (paper_with view_of after (passes_none view_of) (λ told t from le m. still_none (λ w. w.paper m) view_of t from le) book.up) s.ready s.lost book.owned fewer)
 
   module _ (v : View) where
     -- what an act leaves that goes elsewhere than to the copies
@@ -226,9 +220,6 @@ module _ {P C : Type 0} {plants : PlantGhosts P} {steadies : SteadyGhosts C} {co
   pub at_end : (t : ℕ) → view_was.now < t → t ≤ new.now → t ≡ new.now
   at_end t lt le = omega (arith, time)
 
-  none_said : (new.world new.now).console ≡ (view_was.world view_was.now).console → Adds (setting_of s) (past_of s ++ in_flight s.current) view_was new
-  none_said same = record { same = λ t lt le. ap (λ (m : ℕ). (new.world m).console) (at_end t lt le); more = []; is = same ∙ sym (append-nil (view_was.world view_was.now).console); tells = tt }
-
   -- an act that leaves each device as it is
   pub beside_devices : ((d : Dev) → disk_now new d ≡ disk_now view_was d) → Adds (setting_of s) (past_of s ++ in_flight s.current) view_was new → Beside s new
   beside_devices disks adds = record {
@@ -239,13 +230,13 @@ module _ {P C : Type 0} {plants : PlantGhosts P} {steadies : SteadyGhosts C} {co
 
   -- one that says nothing either
   pub beside_all : ((d : Dev) → disk_now new d ≡ disk_now view_was d) → (new.world new.now).console ≡ (view_was.world view_was.now).console → Beside s new
-  beside_all disks console = beside_devices disks (none_said console)
+  beside_all disks console = beside_devices disks (adds_none (setting_of s) (past_of s ++ in_flight s.current) view_was new time console)
 
   -- one on a spool volume
   pub beside_copies : (volume : ℕ) → OnDevice (Spool volume) view_was new → Stays (setting_of s) (kept_all (past_of s)) (entries_in s.current) view_was new → Beside s new
   beside_copies volume only stays = record {
     disks = λ d ckpt. only.others d (λ e. volume_beside volume d ckpt (sym e));
-    adds = none_said only.console;
+    adds = adds_none (setting_of s) (past_of s ++ in_flight s.current) view_was new time only.console;
     stays = stays;
   }
 
@@ -254,18 +245,15 @@ module _ {P C : Type 0} {plants : PlantGhosts P} {steadies : SteadyGhosts C} {co
     beside_keeps b k =
         let S = setting_of s in
         acts_keep S (past_of s) s.current s.level (copies_of s) (copies_of s) view_was new k (passes_of view_was new goes) k.pages
-        (λ d ckpt t lt le below. let e = at_end t lt le in
-        subst (λ (m : ℕ). ReadsBy S (is_away S d) k.pages.was k.pages.coming (disk_at new m d)) (sym e) (subst (λ (x : Disk). ReadsBy S (is_away S d) k.pages.was k.pages.coming x) (sym (b.disks d ckpt))
-        (copy_reads S k.pages.was (copies_of s d) (laws.reads (half_of s d) (place_of s d)) k.pages.coming d view_was (k.at d ckpt) (omega (arith, lt, below)))))
-        b.adds b.stays (λ d ckpt. moved S k.pages.was k.pages.coming d (copies_of s d) view_was new goes.later (b.disks d ckpt) (k.at d ckpt))
-
-    pub beside_pasts : Beside s new → PastsOn s s.pair s.first s.second view_was → PastsOn s s.pair s.first s.second new
-    beside_pasts b l d ckpt = past_still copies.reads copies.behind (page_count s.base.config) (values_of s.had) d (place_of s d) view_was new (half_of s d) (not_lost view_was new goes (DiskPart d)) (ap (λ (x : Disk). x.bytes) (b.disks d ckpt)) (l d ckpt)
+        (λ d ckpt t from lt below. let e : view_was.now ≡ t = omega (arith, from, lt, time) in
+        subst (λ (m : ℕ). ReadsBy S (is_away S d) k.pages.was k.pages.coming (disk_at new m d)) e (subst (λ (w : PlantWorld). ReadsBy S (is_away S d) k.pages.was k.pages.coming (w.disk d)) (sym (goes.past view_was.now (omega arith)))
+        (copy_reads S k.pages.was (copies_of s d) (laws.reads (half_of s d) (place_of s d)) k.pages.coming d view_was (k.at d ckpt) (omega (arith, from, below)))))
+        b.adds b.stays (λ d ckpt. moved S k.pages.was k.pages.coming d (copies_of s d) view_was new goes.later (b.disks d ckpt) (k.at d ckpt)) k.later
 
     pub left_with : (printed : List ℕ) (is : Book) (left : Option (List Entry)) → (plants.tells → Beside s new) → (plants.tells → IsSound s.base → ∥ KeepsPaper s.base s.since (past_of s) s.current (printed, is) new ∥₁) → IsOwned s.current is → (left ≡ None) ⊎ (left ≡ s.reserved)
         → FactsOf plants steadies copies (record (parts_of s) { printed = printed; book = is; reserved = left }) new
     left_with printed is left beside paper owned fewer = facts_with s s.pair s.first s.second new printed is left s.renewals goes.later
-        (λ told. ∥∥₁_map (s.kept told) (λ k. beside_keeps (beside told) k)) (λ told. ∥∥₁_map (s.lasting told) (λ l. beside_pasts (beside told) l)) paper (ready_after s new goes) (lost_after s new goes) owned fewer
+        (λ told. ∥∥₁_map (s.kept told) (λ k. beside_keeps (beside told) k)) paper (ready_after s new goes) (lost_after s new goes) owned fewer
 
     pub left_by : (plants.tells → Beside s new) → (plants.tells → SamePaper view_was new) → Left s new
     left_by beside paper = left_with s.printed s.book s.reserved beside (paper_after s new goes (λ told. same_papers view_was new goes time (paper told))) s.owned (inr refl)
@@ -341,30 +329,19 @@ module _ {P C : Type 0} {plants : PlantGhosts P} {steadies : SteadyGhosts C} {co
   rests_here k before = rests_before S k.pages.was k.pages.coming copy_here x.dev old (k.at x.dev x.ckpt) before
 
   -- what a crash leaves, where the other copy stays as it was
-  pub keeps_on : (k : KeepsAt x.was old) (p : Versions S x.was.level (kept_all (past_of x.was)) (entries_in x.was.current) k.first_level k.first_order) → CopyAt S p.was p.coming near_dev copy_near old → Went S p.was p.coming x.dev copy_there old new
-      → KeepsOn x.was x.pair x.first x.second new
-  keeps_on k p near went =
-      let m = went.during in
-      let passes = passes_of old new m.goes in
-      acts_on S p.was p.coming x.dev x.ckpt copy_near old new passes m.others near (x.laws.reads near_it near_place) (past_of x.was) x.was.current x.was.level (copies_of x.was) (λ d. copy_of copies.rests copies.holds (pick d x.pair.first x.pair.second) (pick d x.first x.second))
-      k p refl refl m.console (λ t lt le below. m.here t (omega (arith, lt)) le (omega (arith, lt, below)))
-      (of_both (λ d h q. CopyAt S p.was p.coming d (copy_of copies.rests copies.holds h q) new) went.after (near_stays S p.was p.coming x.dev x.ckpt copy_near old new passes m.others near))
+  pub keeps_on : Passes old new → Elsewhere x.dev old new → (k : KeepsAt x.was old) (p : Versions S x.was.level (kept_all (past_of x.was)) (entries_in x.was.current) k.first_level k.first_order) → CopyAt S p.was p.coming near_dev copy_near old → Went S p.was p.coming x.dev copy_there old new
+      → ((d : Dev) → IsCkpt d → (pick d x.pair.first x.pair.second).alive ≡ true → AreNotedBefore S p.was p.coming) → KeepsOn x.was x.pair x.first x.second new
+  keeps_on passes e k p near went later = copies_went S (past_of x.was) x.was.current x.was.level (copies_of x.was) (λ d. copy_of copies.rests copies.holds (pick d x.pair.first x.pair.second) (pick d x.first x.second)) old new k p passes
+      (elsewhere_calm x.dev x.ckpt old new e)
+      (of_both (λ d h q. Went S p.was p.coming d (copy_of copies.rests copies.holds h q) old new) went
+      (untouched S p.was p.coming near_dev copy_near old new (x.laws.reads near_it near_place) near passes.later (λ t from le. e.others t from le near_dev (beside x.dev x.ckpt)))) later
 
-  pub keeps_same : (k : KeepsAt x.was old) → Went S k.pages.was k.pages.coming x.dev copy_there old new → KeepsOn x.was x.pair x.first x.second new
-  keeps_same k went = keeps_on k k.pages (at_near k) went
+  -- a copy that counts as alive did before
+  pub stays_by : (there.alive ≡ true → here.alive ≡ true) → (d : Dev) → IsCkpt d → (pick d x.pair.first x.pair.second).alive ≡ true → (half_of x.was d).alive ≡ true
+  stays_by stays = of_both (λ d h q. h.alive ≡ true → (half_of x.was d).alive ≡ true) stays (of_near (λ d h q. h.alive ≡ true → (half_of x.was d).alive ≡ true) (λ d ckpt is. is))
 
-  abbrev pub Past : Half C → Place → View → Dev → Type 0
-  Past h p v d = HasPast (page_count x.was.base.config) (values_of x.was.had) (sight_at x.was h p d v)
-
-  pub past_here : plants.tells → ∥ Past here place_was old x.dev ∥₁
-  past_here told = ∥∥₁_map (x.was.lasting told) (λ l. l x.dev x.ckpt)
-
-  pub past_near : plants.tells → ∥ Past near_it near_place old near_dev ∥₁
-  past_near told = ∥∥₁_map (x.was.lasting told) (λ l. of_near (λ d h p. Past h p old d) l)
-
-  pub pasts_on : (new.lost (DiskPart near_dev) ≡ false → old.lost (DiskPart near_dev) ≡ false) → (plants.tells → Elsewhere x.dev old new) → old.now ≤ new.now → (plants.tells → ∥ Past there place_is new x.dev ∥₁) → plants.tells → ∥ PastsOn x.was x.pair x.first x.second new ∥₁
-  pasts_on lost elsewhere later past told = ∥∥₁_map₂ (past told) (past_near told) (λ p n. of_both (λ d h q. Past h q new d) p
-      (past_still copies.reads copies.behind (page_count x.was.base.config) (values_of x.was.had) near_dev near_place old new near_it lost (ap (λ (d : Disk). d.bytes) ((elsewhere told).others new.now later (le_refl new.now) near_dev (beside x.dev x.ckpt))) n))
+  pub keeps_same : Passes old new → Elsewhere x.dev old new → (there.alive ≡ true → here.alive ≡ true) → (k : KeepsAt x.was old) → Went S k.pages.was k.pages.coming x.dev copy_there old new → KeepsOn x.was x.pair x.first x.second new
+  keeps_same passes e stays k went = keeps_on passes e k k.pages (at_near k) went (λ d ckpt is. k.later d ckpt (stays_by stays d ckpt is))
 
   pub ready_on : ((d : Dev) → new.size d ≡ old.size d) → (there.alive ≡ true → steadies.fits there.copy new ≡ true) → ReadyOn x.was x.pair x.first x.second new
   ready_on sizes ready = of_both (λ d h p. h.alive ≡ true → steadies.fits h.copy new ≡ true) ready
@@ -378,11 +355,10 @@ module _ {P C : Type 0} {plants : PlantGhosts P} {steadies : SteadyGhosts C} {co
   lost_on later lost = of_both (IsSunk new) lost (λ dead shut. later (of_near (IsSunk old) x.was.lost dead shut))
 
   -- all that the type of the value says, after the call
-  pub facts_on : Goes old new → (plants.tells → Elsewhere x.dev old new) → (plants.tells → ∥ KeepsOn x.was x.pair x.first x.second new ∥₁) → (plants.tells → ∥ Past there place_is new x.dev ∥₁)
+  pub facts_on : Goes old new → (plants.tells → Elsewhere x.dev old new) → (plants.tells → ∥ KeepsOn x.was x.pair x.first x.second new ∥₁)
       → (there.alive ≡ true → steadies.fits there.copy new ≡ true) → IsSunk new x.dev there place_is → Facts x.was x.pair x.first x.second new
-  facts_on goes elsewhere kept past ready lost =
-      facts x.was x.pair x.first x.second new goes.later kept (pasts_on (not_lost old new goes (DiskPart near_dev)) elsewhere goes.later past)
-      (paper_after x.was new goes (λ told. (elsewhere told).papers)) (ready_on goes.size ready) (lost_on (goes.lost (DiskPart near_dev)) lost)
+  facts_on goes elsewhere kept ready lost =
+      facts x.was x.pair x.first x.second new goes.later kept (paper_after x.was new goes (λ told. (elsewhere told).papers)) (ready_on goes.size ready) (lost_on (goes.lost (DiskPart near_dev)) lost)
 
   -- a copy that counts as lost after acts
   pub lost_acted : (by : ℕ) (stopped : Bool) → Acted by x.dev here.alive there.alive stopped old new → IsSunk new x.dev there place_is
@@ -395,59 +371,79 @@ module _ {P C : Type 0} {plants : PlantGhosts P} {steadies : SteadyGhosts C} {co
   pub frame_of : parts ≡ with_copy x.dev parts (parts_of x.was)
   frame_of = frame_on x.was x.plant x.pair x.first x.second x.dev x.ckpt x.same x.at
 
--- The batch in flight gets its fate: what the type says after that.
+-- A batch begins, or the one in flight gets its fate: what the type says after that.
 
 not_flying : (f : Fate) → (f ≡ Kept) ⊎ (f ≡ Dropped) → is_flying f ≡ false
 not_flying f either = ⊎_elim (λ e. ap is_flying e) (λ e. ap is_flying e) either
 
-module _ {P C : Type 0} {plants : PlantGhosts P} {steadies : SteadyGhosts C} {copies : CopyGhosts C} (s : Complex P C plants steadies copies) (b : Batch) (was : s.current ≡ Some b) (fate : Fate) (either : (fate ≡ Kept) ⊎ (fate ≡ Dropped)) (last : ℕ) (now : last ≡ (plants.view s.plant).now) where
-  -- the batch with its fate
-  abbrev pub ended_batch : Batch
-  ended_batch = record { first = b.first; last = last; by = b.by; fate = fate; entries = b.entries }
+-- all that the type says of a value, with the batch in flight, if there is one
+pub facts_at : {P C : Type 0} {plants : PlantGhosts P} {steadies : SteadyGhosts C} {copies : CopyGhosts C} (s : Complex P C plants steadies copies) (c : Option Batch) → s.current ≡ c → FactsOf plants steadies copies (record (parts_of s) { current = c }) (view_of s)
+facts_at {plants = plants} {steadies = steadies} {copies = copies} s c is = subst (λ (x : Option Batch). FactsOf plants steadies copies (record (parts_of s) { current = x }) (view_of s)) is
+    (facts s s.pair s.first s.second (view_of s) (le_refl (view_of s).now) s.kept s.paper s.ready s.lost)
 
-  some : IsSome s.current
-  some = subst (λ (x : Option Batch). IsSome x) (sym was) refl
+module _ {P C : Type 0} (plants : PlantGhosts P) (steadies : SteadyGhosts C) (copies : CopyGhosts C) (x : Parts P C) (v : View) where
+  -- what is asked of the entries of a member's batch that begins after these
+  pub record MayStart (K : List Entry) (by : MemberId) (es : List Entry) : Type 0 where
+    pub own : All (λ e. e.by ≡ by) es
+    pub short : length es ≤ entries_most
+    pub replied : plants.tells → ∥ HaveReplies (run x.base K) es ∥₁
+    pub allowed : plants.tells → IsSound x.base → ∥ AreAllowed x.base (run x.base K) (counts_of x.printed) es ∥₁
+    pub untold : plants.tells → IsUntold (setting copies.reads x.base x.since) v es
+    pub texts : plants.tells → ∥ HasTexts (lost_now v) (spools_at v v.now) x.base.config.groups (run x.base (K ++ es)) ∥₁
 
-  begun : IsBegun (Some b) (view_of s).now
-  begun = subst (λ (x : Option Batch). IsBegun x (view_of s).now) was s.begun
+  abbrev pub past : List Batch
+  past = past_batches x.placed x.batches
 
-  pub flies : Keeps (setting_of s) (past_of s) s.current s.level (copies_of s) (view_of s) → Keeps (setting_of s) (past_of s) (Some b) s.level (copies_of s) (view_of s)
-  flies k = subst (λ (x : Option Batch). Keeps (setting_of s) (past_of s) x s.level (copies_of s) (view_of s)) was k
-
-  abbrev pub after_end : List Batch → Option Batch → ℕ → Parts P C
-  after_end js current level = record (parts_of s) {
-    batches = js;
-    current = current;
-    placed = false;
-    first = Before;
-    second = Before;
-    level = level;
-  }
-
-  pub ended : (js : List Batch) (current : Option Batch) (level : ℕ) → js ≡ with_last ended_batch s.journal.batches → current ≡ None → (plants.tells → ∥ KeepsOf plants steadies copies (after_end (past_of s ++ ended_batch ∷ []) None level) (view_of s) ∥₁)
-      → ((d : Dev) → IsCkpt d → (half_of s d).alive ≡ true → place_of s d ≡ Unsure → ⊥) → FactsOf plants steadies copies (after_end js current level) (view_of s)
-  ended js current level same none keeps known = subst (λ (l : List Batch). FactsOf plants steadies copies (after_end l current level) (view_of s)) (is ∙ sym same) (subst (λ (x : Option Batch). FactsOf plants steadies copies (after_end (past_of s ++ ended_batch ∷ []) x level) (view_of s)) (sym none) (record {
-    kept = keeps;
-    lasting = λ told. ∥∥₁_map (s.lasting told) (λ l d ckpt. past_ended (page_count s.base.config) (values_of s.had) (sight_at s (half_of s d) (place_of s d) d (view_of s)) (pick d Before Before) (pick_same d Before) (known d ckpt) (l d ckpt));
-    replied = λ told. ∥∥₁_map (s.replied told) (λ are. fated_replied s.base (past_of s) b ended_batch (subst (λ (x : Option Batch). AreReplied s.base (past_of s ++ in_flight x)) was are) refl);
-    paper = λ told sound. ∥∥₁_map (s.paper told sound) (λ on. fated_on_paper s.base s.since (past_of s) b ended_batch s.printed s.book (view_of s) (subst (λ (x : Option Batch). KeepsPaper s.base s.since (past_of s) x (s.printed, s.book) (view_of s)) was on)
-        (settled_past s.placed s.journal.batches (view_of s).now s.settled) begun refl refl now either);
-    ready = s.ready;
-    lost = s.lost;
-    one = λ at. absurd (no false at refl);
-    place_reserved = λ reserved. absurd (s.one some reserved);
-    place_current = λ at. absurd (no false at refl);
-    place = ∣ tt ∣₁;
-    settled = subst (λ (l : List Batch). AreSettled l (view_of s).now) (sym is) (settled_with_last ended_batch s.journal.batches (view_of s).now s.settled (not_flying fate either) (omega (arith, begun.1, now)) (omega (arith, now)));
-    begun = tt;
-    owned = owned_none s.book;
-    few = subst (λ (l : List Batch). length l ≤ journal_most) (sym is) (few_with_last ended_batch s.journal.batches s.few);
-    short = omega arith;
-    short_reserved = s.short_reserved;
-    counted = subst (λ (l : List Batch). AreFew false l) (sym is) (few_last ended_batch s.placed s.journal.batches (s.place_current some) s.place (subst (λ (x : Option Batch). length (entries_in x) ≤ entries_most) was s.short) s.counted);
+  pub begins : FactsOf plants steadies copies (record x { current = None }) v → (b : Batch) → x.placed ≡ true → b.fate ≡ Flying → b.first ≡ v.now → x.book.holder ≡ b.by → (es : List Entry) → es ≡ b.entries → MayStart (kept_all x.batches) b.by es
+      → (reserved : Option (List Entry)) (printed : List ℕ) → reserved ≡ None → printed ≡ printed_after b.by b.entries x.printed → FactsOf plants steadies copies (record x { current = Some b; reserved = reserved; printed = printed }) v
+  begins f b placed flies first holds es same may reserved printed none counts = subst (λ (l : List ℕ). FactsOf plants steadies copies (record x { current = Some b; reserved = reserved; printed = l }) v) (sym counts) (subst (λ (o : Option (List Entry)). FactsOf plants steadies copies (record x { current = Some b; reserved = o; printed = printed_after b.by b.entries x.printed }) v) (sym none) (record {
+    kept = λ told. ∥∥₁_map₂ (f.kept told) (at.texts told) (λ k has. begins_keep _ past b x.level _ v k flies first (each_tells Closes (λ m s. has_step m s b.entries ≡ false) (said (setting copies.reads x.base x.since) v v.now) (at.untold told)) has);
+    replied = λ told. ∥∥₁_map₂ (f.replied told) (at.replied told) (λ are have. begun_replied x.base past b are have);
+    paper = λ told sound. ∥∥₁_elim (f.kept told) ∥∥₁_prop (λ k. ∥∥₁_map₂ (f.paper told sound) (at.allowed told sound) (λ on allowed. begins_on_paper x.base x.since past b x.printed x.book v k.started k.settled flies first sound on at.own allowed));
+    ready = f.ready;
+    lost = f.lost;
+    one = λ some has. absurd (no false has refl);
+    place_reserved = λ has. absurd (no false has refl);
+    place_current = λ some. placed;
+    place = f.place;
+    settled = f.settled;
+    begun = (flies, omega (arith, first));
+    owned = owned_own b x.book holds;
+    few = f.few;
+    short = at.short;
+    short_reserved = omega arith;
+    counted = f.counted;
   })) where
-    is : past_of s ++ ended_batch ∷ [] ≡ with_last ended_batch s.journal.batches
-    is = fated_past ended_batch s.placed s.journal.batches (s.place_current some) s.place
+    at : MayStart (kept_all past) b.by b.entries
+    at = subst (λ (K : List Entry). MayStart K b.by b.entries) (sym (past_kept x.placed x.batches f.place)) (subst (λ (l : List Entry). MayStart (kept_all x.batches) b.by l) same may)
+
+  abbrev pub after_end : List Batch → Option Batch → Place → Place → ℕ → Parts P C
+  after_end js current first second level = record x { batches = js; current = current; placed = false; first = first; second = second; level = level }
+
+  pub ends : (b : Batch) → FactsOf plants steadies copies (record x { current = Some b }) v → (c : Batch) → (c.fate ≡ Kept) ⊎ (c.fate ≡ Dropped) → c.first ≡ b.first → c.entries ≡ b.entries → c.last ≡ v.now
+      → (js : List Batch) (current : Option Batch) (first second : Place) (level : ℕ) → js ≡ with_last c x.batches → current ≡ None → (plants.tells → ∥ KeepsOf plants steadies copies (after_end (past ++ c ∷ []) None first second level) v ∥₁)
+      → FactsOf plants steadies copies (after_end js current first second level) v
+  ends b f c either same_first same_entries now js current first second level same none keeps =
+      subst (λ (l : List Batch). FactsOf plants steadies copies (after_end l current first second level) v) (is ∙ sym same) (subst (λ (o : Option Batch). FactsOf plants steadies copies (after_end (past ++ c ∷ []) o first second level) v) (sym none) (record {
+        kept = keeps;
+        replied = λ told. ∥∥₁_map (f.replied told) (λ are. fated_replied x.base past b c are same_entries);
+        paper = λ told sound. ∥∥₁_map (f.paper told sound) (λ on. fated_on_paper x.base x.since past b c x.printed x.book v on f.begun.0 same_first same_entries now either);
+        ready = f.ready;
+        lost = f.lost;
+        one = λ some. absurd (no false some refl);
+        place_reserved = λ reserved. absurd (f.one refl reserved);
+        place_current = λ some. absurd (no false some refl);
+        place = ∣ tt ∣₁;
+        settled = subst (λ (l : List Batch). AreSettled l v.now) (sym is) (settled_with_last c x.batches v.now f.settled (not_flying c.fate either) (omega (arith, same_first, f.begun.1, now)) (omega (arith, now)));
+        begun = tt;
+        owned = owned_none x.book;
+        few = subst (λ (l : List Batch). length l ≤ journal_most) (sym is) (few_with_last c x.batches f.few);
+        short = omega arith;
+        short_reserved = f.short_reserved;
+        counted = subst (λ (l : List Batch). AreFew false l) (sym is) (few_last c x.placed x.batches (f.place_current refl) f.place (subst (λ (es : List Entry). length es ≤ entries_most) (sym same_entries) f.short) f.counted);
+      })) where
+        is : past ++ c ∷ [] ≡ with_last c x.batches
+        is = fated_past c x.placed x.batches (f.place_current refl) f.place
 
 -- A stop that is armed changes nothing of which a shared value keeps a fact.
 
@@ -459,8 +455,8 @@ pub left_armed : {P C : Type 0} {plants : PlantGhosts P} {steadies : SteadyGhost
 left_armed {steadies = steadies} s m new armed = subst (λ (v : View). Left s v) (sym armed.same) (facts s s.pair s.first s.second later (le_refl was.now)
     (λ told. ∥∥₁_map (s.kept told) (λ k. acts_keep S (past_of s) s.current s.level (copies_of s) (copies_of s) was later k passes k.pages
     (λ d ckpt t lt le below. absurd (omega (arith, lt, le))) (calm S (past_of s ++ in_flight s.current) was later (still_none (λ w. w.console) was) (le_refl was.now))
-    (stays_same S (kept_all (past_of s)) (entries_in s.current) was later (λ t lt le n. absurd (omega (arith, lt, le)))) (λ d ckpt. moved S k.pages.was k.pages.coming d (copies_of s d) was later (le_refl was.now) refl (k.at d ckpt)))) s.lasting
-    (λ told sound. ∥∥₁_map₂ (s.kept told) (s.paper told sound) (λ k on. passes_on_paper s.base s.since (past_of s) s.current s.printed s.book s.book was later k.started k.settled k.begun passes (λ t from le j. still_none (λ w. w.paper j) was t from le) (λ j up. up) on))
+    (stays_same S (kept_all (past_of s)) (entries_in s.current) was later (λ t lt le n. absurd (omega (arith, lt, le)))) (λ d ckpt. moved S k.pages.was k.pages.coming d (copies_of s d) was later (le_refl was.now) refl (k.at d ckpt)) k.later))
+    (paper_with s later s.book passes (λ told t from le j. still_none (λ w. w.paper j) was t from le) (λ j up. up))
     (λ d ckpt is. steadies.sizes_fit (half_of s d).copy was later (λ d. refl) (s.ready d ckpt is)) s.lost) where
       S : Setting
       S = setting_of s
@@ -486,13 +482,16 @@ module _ {P C : Type 0} {plants : PlantGhosts P} {steadies : SteadyGhosts C} {co
   abbrev K : List Entry
   K = kept_all (past_of s)
 
+  -- the entries after which the texts of the queue stand, with those in flight or without them
+  abbrev es_of : Bool → List Entry
+  es_of coming = with_flying coming K (entries_in s.current)
+
   abbrev Has : View → (ℕ → Bool) → List Entry → Type 0
   Has v gone es = HasTexts gone (spools_at v v.now) s.base.config.groups (run s.base es)
 
-  stays_after : ((gone : ℕ → Bool) → Has before_act gone K → Has after_act gone K) → ((gone : ℕ → Bool) → Has before_act gone (K ++ entries_in s.current) → Has after_act gone (K ++ entries_in s.current)) → Stays (setting_of s) K (entries_in s.current) before_act after_act
-  stays_after one two = record {
-    kept = λ gone t lt le has. subst (λ (m : ℕ). HasTexts gone (spools_at after_act m) s.base.config.groups (run s.base K)) (sym (at_end s after_act time t lt le)) (one gone has);
-    coming = λ gone t lt le has. subst (λ (m : ℕ). HasTexts gone (spools_at after_act m) s.base.config.groups (run s.base (K ++ entries_in s.current))) (sym (at_end s after_act time t lt le)) (two gone has);
+  stays_after : ((gone : ℕ → Bool) (coming : Bool) → Has before_act gone (es_of coming) → Has after_act gone (es_of coming)) → Stays (setting_of s) K (entries_in s.current) before_act after_act
+  stays_after has_after = record {
+    texts = λ gone t lt le coming has. subst (λ (m : ℕ). HasTexts gone (spools_at after_act m) s.base.config.groups (run s.base (es_of coming))) (sym (at_end s after_act time t lt le)) (has_after gone coming has);
     sunk = λ t lt le n lost.
         inr (stays_true (after_act.lost (DiskPart (Spool n))) (disk_now after_act (Spool n)).lost (laws.there p told (Spool n)) (subst (λ (m : ℕ). (spools_at after_act m n).lost ≡ true) (at_end s after_act time t lt le) lost));
   }
@@ -501,8 +500,7 @@ module _ {P C : Type 0} {plants : PlantGhosts P} {steadies : SteadyGhosts C} {co
   beside_quiet : (volume : ℕ) → OnDevice (Spool volume) before_act after_act → Quiet (disk_now before_act (Spool volume)) (disk_now after_act (Spool volume)) → Beside s after_act
   beside_quiet volume only here =
       let each = each_quiet volume before_act after_act here only in
-      beside_copies s after_act time volume only (stays_after (λ gone has. texts_quiet s.base.config.groups (spools_at before_act before_act.now) (spools_at after_act after_act.now) gone (run s.base K) each has)
-      (λ gone has. texts_quiet s.base.config.groups (spools_at before_act before_act.now) (spools_at after_act after_act.now) gone (run s.base (K ++ entries_in s.current)) each has))
+      beside_copies s after_act time volume only (stays_after (λ gone coming has. texts_quiet s.base.config.groups (spools_at before_act before_act.now) (spools_at after_act after_act.now) gone (run s.base (es_of coming)) each has))
 
   pub beside_read : (group : GroupNo) (into : Page) (act : Act) → ReadsGroup s.base.config.groups group before_act after_act into act → Beside s after_act
   beside_read group into act reads =
@@ -521,5 +519,7 @@ module _ {P C : Type 0} {plants : PlantGhosts P} {steadies : SteadyGhosts C} {co
       → WritesGroup s.base.config.groups group before_act after_act bytes act → Beside s after_act
   beside_write own by group bytes act long one two writes =
       let per = s.base.config.groups in
-      beside_copies s after_act time (volume_of per group) writes.only (stays_after (λ gone has. texts_written per group before_act after_act bytes act long writes own by gone (run s.base K) (subst (λ (es : List Entry). IsHeldBy by group (run s.base es)) (sym (kept_past s)) one) has)
-      (λ gone has. texts_written per group before_act after_act bytes act long writes own by gone (run s.base (K ++ entries_in s.current)) (subst (λ (es : List Entry). IsHeldBy by group (run s.base (es ++ entries_in s.current))) (sym (kept_past s)) two) has))
+      beside_copies s after_act time (volume_of per group) writes.only (stays_after (λ gone coming has. texts_written per group before_act after_act bytes act long writes own by gone (run s.base (es_of coming)) (held coming) has)) where
+        held : (coming : Bool) → IsHeldBy by group (run s.base (es_of coming))
+        held false = subst (λ (es : List Entry). IsHeldBy by group (run s.base es)) (sym (kept_past s)) one
+        held true = subst (λ (es : List Entry). IsHeldBy by group (run s.base (es ++ entries_in s.current))) (sym (kept_past s)) two

@@ -1,15 +1,16 @@
 -- What a crash leaves of the two copies, and what the console tells.
-use Rattle.mas_complex.specs.Names.{Dev, Disk as DiskPart, View, ViewDisk as Disk, Line, IsImage, LeavesOnly, IsCkpt, disk_at, disk_now, slice, top, level, Batch, Entry, Place, Before, Put, Opened, Unsure, MemberId, Queue, best}
-use Rattle.std.specs.Prelude.{◌≡◌, ◌⊎◌, ℕ, ◌+◌, ◌*◌, ◌^◌, ◌≤◌, ◌<◌, ◌==◌, ◌&&◌, ◌||◌, not, Bool, true, false, List, [], ◌∷◌, ◌++◌, length, drop, Option, Some, None, IfSome}
+use Rattle.mas_complex.specs.Names.{Dev, Disk as DiskPart, View, ViewDisk as Disk, Line, IsImage, LeavesOnly, IsCkpt, disk_at, disk_now, slice, top, level, Batch, Entry, Place, Before, Put, Opened, Unsure, MemberId, Queue, best, Page, page_count}
+use Rattle.std.specs.Prelude.{◌≡◌, ◌⊎◌, ℕ, ◌+◌, ◌*◌, ◌^◌, ◌≤◌, ◌<◌, ◌==◌, ◌&&◌, ◌||◌, not, Bool, true, false, List, [], ◌∷◌, ◌++◌, length, drop, Option, Some, None, IfSome, Contains}
 use Rattle.std.specs.Int.{from_be_bytes, w64}
 use Rattle.duplex_pair.specs.declared.half.Half.{Half}
 use Rattle.mas_complex.specs.declared.renewals.Renewals.{Renewals}
 use Rattle.mas_complex.specs.Renewals.{is_renewed_at, is_open, of_device, no_renewals, AreRenewedBy}
 use Rattle.mas_complex.specs.Meaning.{StandFor, run, Closes}
 use Rattle.mas_complex.specs.Texts.{spools_at, lost_now, HasTexts}
+use Rattle.mas_complex.specs.Past.{AreLater, nobody_noted}
 use Rattle.mas_complex.specs.Journals.{kept, flying, kept_all, in_flight, entries_in, batches_kept, StepIsKept, has_step, AreSettled, IsBegun}
 
--- what pages, entries and lines mean, where the value began, and when a copy was replaced
+-- what pages, entries and lines mean, where the value began, when a copy was replaced, and what members noted
 pub record Setting : Type 1 where
   pub reads : List ℕ → Option (List ℕ)
   pub stand : Queue → List ℕ → Type 0
@@ -18,6 +19,7 @@ pub record Setting : Type 1 where
   pub base : Queue
   pub since : ℕ
   pub renewals : Renewals
+  pub had : List (List Page)
 
 -- a device, lost where this is true
 abbrev pub lost_if : Bool → Disk → Disk
@@ -93,30 +95,61 @@ abbrev pub ReadsBy : Setting → Bool → List ℕ → Option (List ℕ) → Dis
 ReadsBy S renewed was coming disk = LeavesOnly disk (λ image. IsReadBy renewed was coming (S.reads image))
 
 -- pages of this level that stand for the queue after these entries
-pub record Stands (S : Setting) (l : ℕ) (entries : List Entry) (pages : List ℕ) : Type 0 where
-  pub at_level : level pages ≡ l
-  pub queue : S.stand (S.run S.base entries) pages
+abbrev pub Stands : Setting → ℕ → List Entry → List ℕ → Type 0
+Stands S l entries pages = record { at_level : level pages ≡ l; queue : S.stand (S.run S.base entries) pages }
 
 -- the pages in flight, if there are any, have the next level and stand for the queue with the batch
 abbrev pub IsNext : Setting → ℕ → List Entry → List Entry → Option (List ℕ) → Type 0
-IsNext S reached K F None = Unit {0}
-IsNext S reached K F (Some pages) = Stands S (reached + 1) (K ++ F) pages
+IsNext S reached K F coming = IfSome coming (Stands S (reached + 1) (K ++ F))
 
--- The devices of the copies agree at a moment: there are pages of the kept entries, and maybe ones in flight, and each
--- image of each device reads as one of these. With no entry in flight each reads as the kept pages. A copy that is
--- being replaced reads as none, or as pages that were kept by then.
-pub record Alike (S : Setting) (K F : List Entry) (t : ℕ) (disks : Dev → Disk) : Type 0 where
-  pub reached : ℕ
+-- the next order, which stands in the first page
+unfoldable pub next_order : List ℕ → ℕ
+next_order pages = from_be_bytes w64 (slice 40 8 pages)
+
+-- the next order of a run that begins is at most this
+abbrev pub order_first : ℕ
+order_first = 2 ^ 62
+
+-- a batch raises the next order by at most so much
+abbrev pub orders_most : ℕ
+orders_most = 2 ^ 19
+
+abbrev pub RaisesOrders : List ℕ → List ℕ → Type 0
+RaisesOrders was pages = next_order pages ≤ next_order was + orders_most
+
+-- pages at or above a level, at which the next order was this one: each level more has raised it by so much at most
+abbrev pub IsNear : ℕ → ℕ → List ℕ → Type 0
+IsNear l order pages = next_order pages + orders_most * l ≤ order + orders_most * level pages
+
+-- an image of a device that reads as pages reads as ones of this level, with this next order
+abbrev pub ReadsAtLevel : (List ℕ → Option (List ℕ)) → ℕ → ℕ → Disk → Type 0
+ReadsAtLevel reads l order disk = LeavesOnly disk
+    (λ image. (pages : List ℕ) → reads image ≡ Some pages → (level pages ≡ l) × (next_order pages ≡ order))
+
+-- or as ones of at most a greatest level, near to these
+abbrev pub ReadsUpTo : (List ℕ → Option (List ℕ)) → ℕ → ℕ → ℕ → Disk → Type 0
+ReadsUpTo reads l order most disk = LeavesOnly disk
+    (λ image. (pages : List ℕ) → reads image ≡ Some pages → (level pages ≤ most) × IsNear l order pages)
+
+-- The pages of the kept entries, of the level reached, and those of the entries in flight, if there are any. Both are
+-- near to the first level and order.
+pub record Versions (S : Setting) (reached : ℕ) (K F : List Entry) (l order : ℕ) : Type 0 where
   pub was : List ℕ
   pub coming : Option (List ℕ)
   pub stands : Stands S reached K was
   pub comes : IsNext S reached K F coming
   pub none : F ≡ [] → coming ≡ None
-  pub reads : (d : Dev) → IsCkpt d → ReadsBy S (is_renewed_at (of_device d S.renewals) t) was coming (disks d)
+  pub near : IsNear l order was
+  pub comes_near : IfSome coming (IsNear l order)
 
--- the two copies agree at a moment
-abbrev pub CrashAt : Setting → List Batch → View → ℕ → Type 0
-CrashAt S J v t = Alike S (kept J t) (flying J t) t (disk_at v t)
+-- The devices of the copies agree at a moment: there are pages of the kept entries, and maybe ones in flight, and each
+-- image of each device reads as one of these. With no entry in flight each reads as the kept pages. A copy that is
+-- being replaced reads as none, or as pages that were kept by then. Their level is at most so high.
+pub record Alike (S : Setting) (l order most : ℕ) (K F : List Entry) (t : ℕ) (disks : Dev → Disk) : Type 0 where
+  pub reached : ℕ
+  pub low : reached ≤ most
+  pub pages : Versions S reached K F l order
+  pub reads : (d : Dev) → IsCkpt d → ReadsBy S (is_renewed_at (of_device d S.renewals) t) pages.was pages.coming (disks d)
 
 -- the whole lines tell only steps of which P holds
 abbrev pub EachTells : (List ℕ → MemberId → ℕ → Type 0) → List Line → (MemberId → ℕ → Type 0) → Type 0
@@ -128,9 +161,17 @@ EachTells closes (line ∷ lines) P = (line.whole ≡ true → (m : MemberId) (s
 abbrev pub said : Setting → View → ℕ → List Line
 said S v t = drop (length (v.world S.since).console) (v.world t).console
 
+-- a whole line with this text
+abbrev pub whole : List ℕ → Line
+whole text = record { text = text; whole = true }
+
+-- P holds of each step that one of the whole lines tells
+abbrev pub TellOnly : (List ℕ → MemberId → ℕ → Type 0) → List Line → (MemberId → ℕ → Type 0) → Type 0
+TellOnly closes lines P = (text : List ℕ) → Contains lines (whole text) → (m : MemberId) (s : ℕ) → closes text m s → P m s
+
 -- each step told at a moment was kept by then
 abbrev pub ToldAt : Setting → List Batch → View → ℕ → Type 0
-ToldAt S J v t = EachTells S.closes (said S v t) (StepIsKept J t)
+ToldAt S J v t = TellOnly S.closes (said S v t) (StepIsKept J t)
 
 -- what is said stays
 pub record Begins (old new : List Line) : Type 0 where
@@ -182,8 +223,8 @@ pub record CopyAt (S : Setting) (was : List ℕ) (coming : Option (List ℕ)) (d
     pub formed : c.alive ≡ true → is_away S dev ≡ false
     pub gone : c.alive ≡ false → IsAway S was (is_away S dev) v.now (disk_now v dev)
 
-abbrev pub setting_with : (List ℕ → Option (List ℕ)) → Queue → ℕ → Renewals → Setting
-setting_with reads base since renewals = record {
+abbrev pub setting_with : (List ℕ → Option (List ℕ)) → Queue → ℕ → Renewals → List (List Page) → Setting
+setting_with reads base since renewals had = record {
   reads = reads;
   stand = StandFor;
   run = run;
@@ -191,93 +232,62 @@ setting_with reads base since renewals = record {
   base = base;
   since = since;
   renewals = renewals;
+  had = had;
 }
 
--- before any copy was replaced
+-- before any copy was replaced, and any pages were noted
 abbrev pub setting : (List ℕ → Option (List ℕ)) → Queue → ℕ → Setting
-setting reads base since = setting_with reads base since no_renewals
+setting reads base since = setting_with reads base since no_renewals nobody_noted
+
+-- the entries, with those in flight or without them
+abbrev pub with_flying : Bool → List Entry → List Entry → List Entry
+with_flying false K F = K
+with_flying true K F = K ++ F
 
 -- The texts that stand on the spool volumes at a moment: those of the queue after the kept entries, and those of the
 -- queue with the entries in flight, except texts with a group on a volume that is lost now.
-pub record TextsAt (S : Setting) (K F : List Entry) (v : View) (t : ℕ) : Type 0 where
-  pub after_kept : HasTexts (lost_now v) (spools_at v t) S.base.config.groups (S.run S.base K)
-  pub after_coming : HasTexts (lost_now v) (spools_at v t) S.base.config.groups (S.run S.base (K ++ F))
-
--- the texts stand on the spool volumes at each moment
-abbrev pub KeepsTexts : Setting → List Batch → View → Type 0
-KeepsTexts S J v = (t : ℕ) → S.since ≤ t → t ≤ v.now → TextsAt S (kept J t) (flying J t) v t
+abbrev pub TextsAt : Setting → List Entry → List Entry → View → ℕ → Type 0
+TextsAt S K F v t = (coming : Bool) → HasTexts (lost_now v) (spools_at v t) S.base.config.groups
+    (S.run S.base (with_flying coming K F))
 
 -- a volume that the world shows as lost is lost now
-abbrev pub AreSunk : Setting → View → Type 0
-AreSunk S v = (t : ℕ) → S.since ≤ t → t ≤ v.now → (n : ℕ) → (spools_at v t n).lost ≡ true → lost_now v n ≡ true
+abbrev pub AreSunk : View → ℕ → Type 0
+AreSunk v t = (n : ℕ) → (spools_at v t n).lost ≡ true → lost_now v n ≡ true
 
--- the next order, which stands in the first page
-unfoldable pub next_order : List ℕ → ℕ
-next_order pages = from_be_bytes w64 (slice 40 8 pages)
+-- a past moment, at which these entries were kept and those in flight
+pub record Moment (S : Setting) (l order most : ℕ) (K F : List Entry) (v : View) (t : ℕ) : Type 0 where
+  pub alike : t < top → Alike S l order most K F t (disk_at v t)
+  pub texts : TextsAt S K F v t
+  pub sunk : AreSunk v t
 
--- the next order of a run that begins is at most this
-abbrev pub order_first : ℕ
-order_first = 2 ^ 62
+-- the pages of the kept entries, and those in flight, if there are any, are later than those that members noted
+abbrev pub AreNotedBefore : Setting → List ℕ → Option (List ℕ) → Type 0
+AreNotedBefore S was coming = AreLater (page_count S.base.config) S.had was
+    × IfSome coming (AreLater (page_count S.base.config) S.had)
 
--- a batch raises the next order by at most so much
-abbrev pub orders_most : ℕ
-orders_most = 2 ^ 19
-
-abbrev pub RaisesOrders : List ℕ → List ℕ → Type 0
-RaisesOrders was pages = next_order pages ≤ next_order was + orders_most
-
--- pages at or above a level, at which the next order was this one: each level more has raised it by so much at most
-abbrev pub IsNear : ℕ → ℕ → List ℕ → Type 0
-IsNear l order pages = next_order pages + orders_most * l ≤ order + orders_most * level pages
-
--- an image of a device that reads as pages reads as ones of this level, with this next order
-abbrev pub ReadsAtLevel : (List ℕ → Option (List ℕ)) → ℕ → ℕ → Disk → Type 0
-ReadsAtLevel reads l order disk = LeavesOnly disk
-    (λ image. (pages : List ℕ) → reads image ≡ Some pages → (level pages ≡ l) × (next_order pages ≡ order))
-
--- or as ones of at most a greatest level, near to these
-abbrev pub ReadsUpTo : (List ℕ → Option (List ℕ)) → ℕ → ℕ → ℕ → Disk → Type 0
-ReadsUpTo reads l order most disk = LeavesOnly disk
-    (λ image. (pages : List ℕ) → reads image ≡ Some pages → (level pages ≤ most) × IsNear l order pages)
-
--- How levels and orders rise: at first both copies read at this level and next order, the level reached is at most as
--- many more as batches are kept, and at no moment does a copy read at a level above the one reached and one more, or
--- with a next order that isn't near. Of a copy that is being replaced it says nothing.
-pub record Rises (S : Setting) (js : List Batch) (reached l order : ℕ) (v : View) : Type 0 where
-  pub first : S.since < top → (d : Dev) → IsCkpt d → ReadsAtLevel S.reads l order (disk_at v S.since d)
-  pub risen : reached ≤ l + batches_kept js
-  pub most : (d : Dev) → IsCkpt d → (t : ℕ) → S.since ≤ t → t ≤ v.now → t < top
-      → is_renewed_at (of_device d S.renewals) t ≡ false → ReadsUpTo S.reads l order (reached + 1) (disk_at v t d)
-
--- The pages of the kept entries, of the level reached, and those of the entries in flight, if there are any. Both are
--- near to the first level and order.
-pub record Versions (S : Setting) (reached : ℕ) (K F : List Entry) (l order : ℕ) : Type 0 where
-  pub was : List ℕ
-  pub coming : Option (List ℕ)
-  pub stands : Stands S reached K was
-  pub comes : IsNext S reached K F coming
-  pub none : F ≡ [] → coming ≡ None
-  pub near : IsNear l order was
-  pub comes_near : IfSome coming (IsNear l order)
-
--- What the shared value keeps of its past, and of its present below the greatest moment: the pages of the kept entries,
--- and those in flight, are the same for both copies.
+-- What the shared value keeps of its past, and of its present: the pages of the kept entries, and those in flight, are
+-- the same for both copies. At first these read at this level and next order, and the level reached is at most as many
+-- more as batches are kept.
 pub record Keeps (S : Setting) (js : List Batch) (current : Option Batch) (reached : ℕ) (copies : Dev → Copy)
     (v : View) : Type 0 where
   pub started : S.since ≤ v.now
   pub settled : AreSettled js v.now
   pub begun : IsBegun current v.now
   pub renewed : (d : Dev) → IsCkpt d → AreRenewedBy (of_device d S.renewals) v.now
-  pub crash : (t : ℕ) → S.since ≤ t → t ≤ v.now → t < top → CrashAt S (js ++ in_flight current) v t
-  pub told : (t : ℕ) → S.since ≤ t → t ≤ v.now → ToldAt S (js ++ in_flight current) v t
-  pub grows : (t : ℕ) → S.since ≤ t → t ≤ v.now → Begins (v.world t).console (v.world v.now).console
-  pub texts : KeepsTexts S (js ++ in_flight current) v
-  pub sunk : AreSunk S v
   pub first_level : ℕ
   pub first_order : ℕ
-  pub rises : Rises S js reached first_level first_order v
+  pub past : (t : ℕ) → S.since ≤ t → t < v.now → Moment S first_level first_order reached
+      (kept (js ++ in_flight current) t) (flying (js ++ in_flight current) t) v t
+  pub told : (t : ℕ) → S.since ≤ t → t ≤ v.now → ToldAt S (js ++ in_flight current) v t
+  pub grows : (t : ℕ) → S.since ≤ t → t ≤ v.now → Begins (v.world t).console (v.world v.now).console
+  pub texts : TextsAt S (kept_all js) (entries_in current) v v.now
+  pub sunk : AreSunk v v.now
+  pub first : S.since < top → (d : Dev) → IsCkpt d → ReadsAtLevel S.reads first_level first_order
+      (disk_at v S.since d)
+  pub risen : reached ≤ first_level + batches_kept js
   pub pages : Versions S reached (kept_all js) (entries_in current) first_level first_order
   pub at : (d : Dev) → IsCkpt d → CopyAt S pages.was pages.coming d (copies d) v
+  pub later : (d : Dev) → IsCkpt d → (copies d).alive ≡ true → AreNotedBefore S pages.was pages.coming
 
 -- Both copies, before any batch, as a shared value begins with them: there are pages of this level that stand for its
 -- base, and each copy that counts as alive is at rest with these. The texts of the base stand on the spool volumes.

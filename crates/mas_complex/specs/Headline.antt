@@ -8,6 +8,7 @@ use Rattle.mas_complex.specs.Texts.{lost_now, GivesTexts}
 use Rattle.mas_complex.specs.Paper.{PaperKept}
 use Rattle.mas_complex.specs.declared.renewals.Renewals.{Renewals}
 use Rattle.mas_complex.specs.Renewals.{is_renewed_at}
+pub use Rattle.mas_complex.specs.Crash.{whole}
 use Rattle.mas_complex.specs.Crash.{IsLeft, SomeLeft, read_left, left_at, good_at, IsReadBy, ReadsAtLevel, ReadsUpTo}
 
 -- pages are found, which stand for the queue
@@ -58,9 +59,6 @@ abbrev pub LeavesQueue : (List ℕ → Option (List ℕ)) → Queue → ℕ → 
 LeavesQueue reads Q t v = (one two : Option (List ℕ)) → IsLeft (left_at v t Ckpt1) one → IsLeft (left_at v t Ckpt2) two
     → SomeLeft one two
     → FoundFor Q (best (read_left reads one) (read_left reads two))
-
-abbrev pub whole : List ℕ → Line
-whole text = record { text = text; whole = true }
 
 -- each batch with an entry of the step was kept by the moment
 abbrev pub IsStepKept : Journal → ℕ → MemberId → ℕ → Type 0

@@ -29,13 +29,6 @@ pub record IsOnPaper (papers : Papers) (n : JobNo) (i : OutNo) (line : ℕ) (tex
 abbrev pub SamePapers : View → View → Type 0
 SamePapers old new = Throughout old.now new.now (λ t. (m : ℕ) → (new.world t).paper m ≡ (old.world old.now).paper m)
 
--- WHAT A MARK ANSWERED
-
--- At a moment, at each place of the kept entries and those in flight: of each output that no Forward has touched by
--- then each line after its mark in the base (0 if it is new) up to its mark stands on paper.
-abbrev pub MarksAt : Queue → List Batch → View → ℕ → Type 0
-MarksAt base J v t = AreMarksOn (IsOnPaper (v.world t).paper) base (kept J t ++ flying J t)
-
 -- WHICH LINES ARE PRINTED
 
 -- the moment since which a member counts its printed lines: the first one of its last batch with a Pick, Mark, Back or
@@ -45,22 +38,46 @@ turned m [] t since = since
 turned m (b ∷ bs) t since = turned m bs t
     (if list_any (begins_anew m) b.entries && nat_le b.first t then max since b.first else since)
 
--- how many lines a member has printed since the moment from which it counts
-abbrev pub count_at : List Batch → ℕ → View → ℕ → Counts
-count_at J since v t m = length ((v.world t).paper m.0) - length ((v.world (turned m J t since)).paper m.0)
+-- how many lines a member has printed since a moment
+abbrev pub count_from : ℕ → View → ℕ → MemberId → ℕ
+count_from from v t m = length ((v.world t).paper m.0) - length ((v.world from).paper m.0)
 
 -- A line more stands on the member's printer at the next moment. A whole one is the line after those that the member
--- has printed of the output that is busy at it after the kept entries. A torn one stands only there where an act of the
--- member was halted: its count of stops isn't 0.
-pub record IsPrintedAt (base : Queue) (J : List Batch) (since : ℕ) (v : View) (t : ℕ) (m : MemberId) : Type 0 where
+-- has printed, since the moment from which it counts, of the output that is busy at it after the kept entries. A torn
+-- one stands only there where an act of the member was halted: its count of stops isn't 0.
+pub record IsPrintedAt (base : Queue) (K : List Entry) (from : ℕ) (v : View) (t : ℕ) (m : MemberId) : Type 0 where
   pub line : Line
   pub more : (v.world (t + 1)).paper m.0 ≡ (v.world t).paper m.0 ++ line ∷ []
-  pub next : line.whole ≡ true → IsNextLine (run base (kept J t)) m (count_at J since v t m) line.text
+  pub next : line.whole ≡ true → IsNextLine (run base K) m (count_from from v t m) line.text
   pub torn : line.whole ≡ false → 0 < v.stops m.0
 
 -- between two moments a member's printer keeps its lines, or has one more: the next one, or a torn one
+abbrev pub LineFrom : Queue → List Entry → ℕ → View → ℕ → MemberId → Type 0
+LineFrom base K from v t m = ((v.world (t + 1)).paper m.0 ≡ (v.world t).paper m.0) ⊎ IsPrintedAt base K from v t m
+
 abbrev pub LineAt : Queue → List Batch → ℕ → View → ℕ → MemberId → Type 0
-LineAt base J since v t m = ((v.world (t + 1)).paper m.0 ≡ (v.world t).paper m.0) ⊎ IsPrintedAt base J since v t m
+LineAt base J since v t m = LineFrom base (kept J t) (turned m J t since) v t m
+
+-- WHAT A JOURNAL SAYS OF A MOMENT: the entries kept by then, those in flight, and the moment since which each member
+-- counts its printed lines, where all count since a first one
+abbrev pub Account : Type 0
+Account = List Entry × List Entry × (MemberId → ℕ → ℕ)
+
+abbrev pub account : List Batch → ℕ → Account
+account J t = (kept J t, flying J t, λ m since. turned m J t since)
+
+-- the moment since which a member counts once each of the batches has begun
+abbrev pub turned_last : MemberId → List Batch → ℕ → ℕ
+turned_last m [] since = since
+turned_last m (b ∷ bs) since = turned_last m bs
+    (if list_any (begins_anew m) b.entries then max since b.first else since)
+
+-- What stands on paper at a moment: at each place of the kept entries and those in flight, of each output that no
+-- Forward has touched by then each line after its mark in the base (0 if it is new) up to its mark. And the line that
+-- is printed then.
+pub record PaperAt (base : Queue) (since : ℕ) (told : Account) (v : View) (t : ℕ) : Type 0 where
+  pub marks : AreMarksOn (IsOnPaper (v.world t).paper) base (told.0 ++ told.1)
+  pub lines : (m : MemberId) → LineFrom base told.0 (told.2 m since) v t m
 
 -- WHAT THE SHARED VALUE KEEPS
 
@@ -109,17 +126,20 @@ IsOfItsMember (Some b) = All (λ e. e.by ≡ b.by) b.entries
 abbrev pub Counting : Type 0
 Counting = List ℕ × Book
 
+-- at each past moment, and now: a member that isn't stopped has printed as many lines as are counted since it counts
 pub record KeepsPaper (base : Queue) (since : ℕ) (js : List Batch) (current : Option Batch) (counting : Counting)
     (v : View) : Type 0 where
-  pub given : AreGivenIn base (js ++ in_flight current)
+  pub given : AreGivenIn base js
+  pub coming_given : All (IsGiven base) (entries_in current)
   pub own : IsOfItsMember current
-  pub marks : (t : ℕ) → since ≤ t → t ≤ v.now → MarksAt base (js ++ in_flight current) v t
-  pub lines : (t : ℕ) → since ≤ t → t < v.now → (m : MemberId) → LineAt base (js ++ in_flight current) since v t m
+  pub past : (t : ℕ) → since ≤ t → t < v.now → PaperAt base since (account (js ++ in_flight current) t) v t
+  pub marks : AreMarksOn (IsOnPaper (v.world v.now).paper) base (kept_all js ++ entries_in current)
   pub kept_lines : AreLinesOn (IsOnPaper (v.world v.now).paper) base (counts_of counting.0) (kept_all js)
   pub coming_lines : AreLinesOn (IsOnPaper (v.world v.now).paper) base (counts_of counting.0)
       (kept_all js ++ entries_in current)
   pub counted : (m : MemberId) → m.0 < length counting.0 → is_stopped counting.1 m ≡ false
-      → counts_of counting.0 m ≡ count_at (js ++ in_flight current) since v v.now m
+      → length ((v.world v.now).paper m.0)
+      ≡ length ((v.world (turned_last m (js ++ in_flight current) since)).paper m.0) + counts_of counting.0 m
 
 -- WHAT IT HANDS OUT
 

@@ -1,5 +1,5 @@
 //! The shared value.
-ghost use Rattle.mas_complex.specs.Names.{Dev, IsCkpt, pick, page_count, Disk, level, Batch, is_stopped, IsSound};
+ghost use Rattle.mas_complex.specs.Names.{Dev, IsCkpt, pick, Disk, level, Batch, is_stopped, IsSound};
 ghost use Rattle.std.specs.Prelude.{◌≡◌, ◌≢◌, ◌≤◌, ◌++◌, length, true, false, Some, IsSome};
 ghost use Rattle.mas_complex.specs.Journals.{entries_in, entries_reserved, in_flight, entries_most, journal_most, AreFew, AreSettled, HasPlace, IsBegun, past_batches};
 ghost use Rattle.mas_complex.specs.Settled.{settled_prop, begun_prop};
@@ -7,7 +7,7 @@ ghost use Rattle.mas_complex.specs.Crash.{Keeps, setting_with, copy_of};
 ghost use Rattle.mas_complex.specs.Renewals.{is_open, of_device};
 ghost use Rattle.mas_complex.specs.Replies.{AreReplied};
 ghost use Rattle.mas_complex.specs.Paper.{KeepsPaper};
-ghost use Rattle.mas_complex.specs.Past.{HavePasts, sight_of, values_of};
+ghost use Rattle.mas_complex.specs.Past.{values_of};
 
 use crate::counts::COUNTS;
 use crate::noting::Note;
@@ -71,14 +71,11 @@ pub struct Complex<P: Plant + Drop, C: Steady + Drop> {
     /// The pages that each member noted last, the operator's first; none of one that has noted none.
     pub had: [Note; COUNTS],
 
-    /// What a crash leaves and the console tells at each moment since then, and where each copy stands now.
-    ghost kept: { P.tells → ∥ Keeps (setting_with C.reads base since renewals)
+    /// What a crash leaves and the console tells at each moment since then, where each copy stands now, and that pages
+    /// whose level isn't above that of pages that a member noted are as they were then.
+    ghost kept: { P.tells → ∥ Keeps (setting_with C.reads base since renewals (values_of had))
         (past_batches placed journal.batches) current level (λ d. copy_of C.rests C.holds
         (pick d pair.first pair.second) (pick d first second)) (P.view plant) ∥₁ },
-
-    /// Pages whose level isn't above that of pages that a member noted are as they were then.
-    ghost lasting: { P.tells → ∥ HavePasts (page_count base.config) (values_of had)
-        (λ d. sight_of C.reads C.behind (pick d pair.first pair.second) (pick d first second) d (P.view plant)) ∥₁ },
 
     /// Each entry has the reply that the commands give at its place.
     ghost replied: { P.tells → ∥ AreReplied base (past_batches placed journal.batches ++ in_flight current) ∥₁ },

@@ -2,7 +2,7 @@
 ghost use Rattle.mas_complex.specs.Names.{Dev, Ckpt1, Ckpt2, Spool, disk_now, Loses, LosesThere, Disk, bytes_of, level, page_in, BothLost as PairNoBothLost, IsCkpt, other, IsBothLost, SomeAlive, pair_stopped, Before as AtBefore, page_count};
 ghost use Rattle.std.specs.Prelude.{◌≡◌, ◌<◌, ℕ, List, Some, None, length, true, false, OnOk, OnErr, IsErrOf};
 ghost use Rattle.mas_complex.specs.Places.{IsPlaceAfter};
-ghost use Rattle.mas_complex.specs.Elsewhere.{Elsewhere, OnCopies};
+ghost use Rattle.mas_complex.specs.Elsewhere.{Elsewhere, OnCopies, OnPair};
 ghost use Rattle.mas_complex.specs.Crash.{copy_of};
 ghost use Rattle.mas_complex.specs.Kept.{HaveKept, OnlyOnCopies};
 ghost use Rattle.mas_complex.specs.Locking.{MayAct};
@@ -31,6 +31,8 @@ impl<P: Plant + Drop, C: Steady + Drop> Complex<P, C> {
         ensures copy { (half_on dev self.new).copy ≡ (half_on dev self.old).copy }
         ensures loses { Loses (Disk dev) (P.view self.old.plant) (P.view self.new.plant) }
         ensures elsewhere { P.tells → Elsewhere dev (P.view self.old.plant) (P.view self.new.plant) }
+        ensures leaves { (half_on dev self.old).alive ≡ true → (by : ℕ)
+            → OnPair P.tells by false (pair_of self.old) (pair_of self.new) }
         ensures bytes { P.tells → (d : Dev)
             → (disk_now (P.view self.new.plant) d).bytes ≡ (disk_now (P.view self.old.plant) d).bytes }
     {

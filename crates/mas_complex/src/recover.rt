@@ -4,7 +4,7 @@ ghost use Rattle.std.specs.Prelude.{◌≡◌, ◌≢◌, ◌⊎◌, ◌+◌, �
 ghost use Rattle.std.specs.Int.{from_be_bytes, w64};
 ghost use Rattle.mas_complex.specs.declared.recover.RecoverNo.TheVariants.{BothLost as RecoverNoBothLost, Halted as RecoverNoHalted};
 ghost use Rattle.mas_complex.specs.CallCounts.{pair_of};
-ghost use Rattle.mas_complex.specs.Elsewhere.{OnCopies, OnPair};
+ghost use Rattle.mas_complex.specs.Elsewhere.{OnPair};
 ghost use Rattle.mas_complex.specs.Crash.{next_order, order_first, orders_most};
 ghost use Rattle.mas_complex.specs.Meaning.{StandFor, run};
 ghost use Rattle.mas_complex.specs.Parts.{half_beside, half_on, parts_of, place_beside, place_on, with_copies, with_copy, with_half, with_pair};
@@ -115,7 +115,7 @@ impl<P: Plant + Drop, C: Steady + Drop> Complex<P, C> {
             → (disk_now (P.view self.new.plant) d).bytes ≡ (disk_now (P.view self.old.plant) d).bytes }
     {
         if !stays {
-            self.lose(dev);
+            self.lose_copy(dev);
         }
     }
 
@@ -230,7 +230,7 @@ impl<P: Plant + Drop, C: Steady + Drop> Complex<P, C> {
             → C.reads (disk_now (P.view self.new.plant) dev).bytes ≡ Some (bytes_of found.now)) }
         ensures others { P.tells → (d : Dev) → d ≢ dev
             → (disk_now (P.view self.new.plant) d).bytes ≡ (disk_now (P.view self.old.plant) d).bytes }
-        ensures apart { P.tells → OnCopies (P.view self.old.plant) (P.view self.new.plant) }
+        ensures leaves { OnPair P.tells by.0 (pair_stopped result) (pair_of self.old) (pair_of self.new) }
         ensures both { IsErrOf result PairNoBothLost → IsBothLost self.new.pair.first.alive self.new.pair.second.alive }
         ensures some { SomeAlive self.new.pair.first.alive self.new.pair.second.alive }
     {
@@ -382,16 +382,11 @@ impl<P: Plant + Drop, C: Steady + Drop> Complex<P, C> {
             ≤ order_first + orders_most * length self.new.journal.batches) }
         ensures picked { IfOk result (λ found. P.tells
             → IsPicked C.reads (pair_of self.old) (pair_of self.new) found) }
-        ensures left1 { IfOk result (λ found. P.tells → self.old.pair.first.alive ≡ true
-            → self.new.pair.first.alive ≡ false
-            → Rose ((P.view self.old.plant).faults (Disk Ckpt1)) ((P.view self.new.plant).faults (Disk Ckpt1))
-            ⊎ WasUnfit C.reads (disk_now (P.view self.old.plant) Ckpt1).bytes self.old.level
-            (C.room_in (disk_now (P.view self.old.plant) Ckpt1).bytes) found) }
-        ensures left2 { IfOk result (λ found. P.tells → self.old.pair.second.alive ≡ true
-            → self.new.pair.second.alive ≡ false
-            → Rose ((P.view self.old.plant).faults (Disk Ckpt2)) ((P.view self.new.plant).faults (Disk Ckpt2))
-            ⊎ WasUnfit C.reads (disk_now (P.view self.old.plant) Ckpt2).bytes self.old.level
-            (C.room_in (disk_now (P.view self.old.plant) Ckpt2).bytes) found) }
+        ensures left { IfOk result (λ found. P.tells → (d : Dev) → IsCkpt d → (half_on d self.old).alive ≡ true
+            → (half_on d self.new).alive ≡ false
+            → Rose ((P.view self.old.plant).faults (Disk d)) ((P.view self.new.plant).faults (Disk d))
+            ⊎ WasUnfit C.reads (disk_now (P.view self.old.plant) d).bytes self.old.level
+            (C.room_in (disk_now (P.view self.old.plant) d).bytes) found) }
         ensures both_failed { OnErr result (IsBothLost self.new.pair.first.alive self.new.pair.second.alive
             → P.tells → (d : Dev) → IsCkpt d → (half_on d self.old).alive ≡ true
             → Rose ((P.view self.old.plant).faults (Disk d)) ((P.view self.new.plant).faults (Disk d))) }

@@ -2,7 +2,7 @@
 ghost use Rattle.mas_complex.specs.Names.{Dev, IsConfig, page_bytes, page_count as page_count_lem, disk_now, Acted, IsCkpt, other, HasRoom, WasSeen, look_stopped, Rose, Disk, LookHalted as LookNoHalted};
 ghost use Rattle.std.specs.Prelude.{◌≡◌, All, None, length, true, IfOk, IfSome, IsErrOf, OnErr};
 ghost use Rattle.mas_complex.specs.CallCounts.{pair_of};
-ghost use Rattle.mas_complex.specs.Elsewhere.{OnCopies, OnPair};
+ghost use Rattle.mas_complex.specs.Elsewhere.{OnPair};
 ghost use Rattle.mas_complex.specs.Journals.{entries_in};
 ghost use Rattle.mas_complex.specs.Parts.{half_beside, half_on, parts_of, place_beside, place_on, with_copy};
 ghost use Rattle.mas_complex.specs.Seen.{IfPages, IsPlaceSeen, HasNext, IsOneSeen, ReadsSeen, looked, sought, usable as usable_lem};
@@ -67,7 +67,7 @@ impl<P: Plant + Drop, C: Steady + Drop> Complex<P, C> {
         ensures same { OnErr result (half_on dev self.new ≡ half_on dev self.old) }
         ensures bytes { P.tells → (d : Dev)
             → (disk_now (P.view self.new.plant) d).bytes ≡ (disk_now (P.view self.old.plant) d).bytes }
-        ensures apart { P.tells → OnCopies (P.view self.old.plant) (P.view self.new.plant) }
+        ensures leaves { OnPair P.tells by.0 (look_stopped result) (pair_of self.old) (pair_of self.new) }
     {
         let done = self.pair.look(alloc, &mut self.plant, by, dev);
         let place = place_seen(&done, self.level);

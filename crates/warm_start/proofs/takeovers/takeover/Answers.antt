@@ -44,8 +44,8 @@ returns-in-Ok-clause-tells g c =
       };
       stands = found.stands;
       picked = found.picked;
-      left1 = found.left1;
-      left2 = found.left2;
+      left1 = λ t. found.left t Ckpt1 tt;
+      left2 = λ t. found.left t Ckpt2 tt;
     })
 
 pub recover-requires-clause-config : goal.recover-requires-clause-config

@@ -1,14 +1,14 @@
-use Rattle.mas_complex.proofs.Answering.{∥∥₁_map, List, subst, Entry, HasTexts, lost_now, spools_at, run, ◌++◌, entries_in, stand_now, kept_past, past_of, setting_of, view_of, le_refl}
+use Rattle.mas_complex.proofs.Answering.{∥∥₁_map, List, subst, Entry, HasTexts, lost_now, spools_at, run, ◌++◌, entries_in, kept_past, view_of, false, true}
 use Rattle.mas_complex.proofs.complex.Complex.kept_texts.Goals as goal
 
 pub returns-clause-kept : goal.returns-clause-kept
 returns-clause-kept g c told =
     let s = c.args.self.now in
     ∥∥₁_map (s.kept told) (λ k. subst (λ (K : List Entry). HasTexts (lost_now (view_of s)) (spools_at (view_of s) (view_of s).now) s.base.config.groups (run s.base K)) (kept_past s)
-    (stand_now (setting_of s) (view_of s) (past_of s) s.current k.settled k.begun (k.texts (view_of s).now k.started (le_refl (view_of s).now))).after_kept)
+    (k.texts false))
 
 pub returns-clause-coming : goal.returns-clause-coming
 returns-clause-coming g c told =
     let s = c.args.self.now in
     ∥∥₁_map (s.kept told) (λ k. subst (λ (K : List Entry). HasTexts (lost_now (view_of s)) (spools_at (view_of s) (view_of s).now) s.base.config.groups (run s.base (K ++ entries_in s.current))) (kept_past s)
-    (stand_now (setting_of s) (view_of s) (past_of s) s.current k.settled k.begun (k.texts (view_of s).now k.started (le_refl (view_of s).now))).after_coming)
+    (k.texts true))

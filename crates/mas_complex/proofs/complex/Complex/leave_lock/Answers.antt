@@ -4,5 +4,4 @@ use Rattle.mas_complex.proofs.complex.Complex.leave_lock.Goals as goal
 pub invariant_of-self : goal.invariant_of-self
 invariant_of-self g c =
     let s = c.args.self.now in
-    let is = c.free-freed.new.self in
-    booked s is None (frees s.book c.args.by s.current c.requires.member s.owned is true (λ holds. c.requires.none) c.free-freed.ensures.book) (inl refl)
+    booked s _ None c.free-freed.ensures.book (frees s.book c.args.by s.current c.requires.member s.owned true (λ holds. c.requires.none)) (inl refl)

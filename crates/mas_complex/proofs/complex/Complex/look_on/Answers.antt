@@ -1,4 +1,4 @@
-use Rattle.mas_complex.proofs.Answering.{◌≡◌, ◌++◌, Result, Ok, Err, IfOk, ap, refl, subst, sym, ∥∥₁_map, ∥∥₁_elim, Coded-set, coded_ℕ, NoMore, bytes_of, Place, page_count, pick, WasSeen, Look, Lost, Unread, Pages, LookNo, disk_now, Disk as DiskPart, kept_all, entries_in, run, Elsewhere, values_of, HasNext, IsPlaceSeen, List, false, true, Page, Entry, StandFor, elsewhere_of, on_one, Call, copy_here, copy_there, facts_on, frame_of, here, keeps_same, lost_acted, new, old, past_here, place_is, place_was, there, look_side, look_next, look_stands, some_entries, seen_fits, not_lost, past_looked, look_bytes, KeepsAt, copies_of, kept_past, laws_of, past_of, setting_of, sight_at}
+use Rattle.mas_complex.proofs.Answering.{◌≡◌, ◌++◌, Result, Ok, Err, IfOk, refl, subst, sym, Coded-set, coded_ℕ, NoMore, bytes_of, Place, pick, WasSeen, Look, Lost, Unread, Pages, LookNo, disk_now, kept_all, entries_in, run, Elsewhere, HasNext, IsPlaceSeen, List, false, Page, Entry, StandFor, elsewhere_of, on_one, Call, copy_here, copy_there, facts_on, frame_of, here, keeps_same, lost_acted, new, old, place_is, place_was, there, look_next, look_stands, seen_fits, KeepsAt, copies_of, kept_past, laws_of, past_of, setting_of, ReadsOne, le_prop, look_at, meanwhile_end, passes_of, quiet, same_bytes, ∥∥₁_map, ∥∥₁_elim, pair_one, less_reads}
 use Rattle.mas_complex.proofs.complex.Complex.look_on.Given.{Over}
 use Rattle.mas_complex.proofs.complex.Complex.look_on.Goals.{After-set_place}
 use Rattle.mas_complex.proofs.complex.Complex.look_on.Goals as goal
@@ -27,27 +27,29 @@ elsewhere g c told =
 
 -- what was found on the copy, if pages were
 found : (g : Over) (c : After-set_place g) → g.P.Plant.tells → (pages : List Page) → c.look-done.result ≡ Ok (Pages pages)
-    → ((there (call g c)).alive ≡ true) × ((new (call g c)).lost (DiskPart c.args.dev) ≡ false) × g.C.Copying.rests (there (call g c)).copy (bytes_of pages) (disk_now (new (call g c)) c.args.dev)
+    → ((disk_now (new (call g c)) c.args.dev).lost ≡ false) × g.C.Copying.rests (there (call g c)).copy (bytes_of pages) (disk_now (new (call g c)) c.args.dev)
 found g c told pages is =
     let x = call g c in
     let C = g.C.Copying in
     let seen = subst (λ (r : Result Look LookNo). IfOk r (λ look. WasSeen C.count C.room C.room_most C.ready C.reads C.rests g.P.Plant.tells x.dev (new x) (here x).copy (there x).copy (there x).alive look)) is c.look-done.ensures.seen in
-    (seen.is_alive, seen.there, seen.found told)
+    (x.laws.there x.plant told x.dev seen.there, seen.found told)
+
+-- what each image of the copy reads as after the look
+reads : (g : Over) (c : After-set_place g) → g.P.Plant.tells → (k : KeepsAt c.args.self.now (old (call g c))) → ReadsOne (setting_of c.args.self.now) k.pages.was k.pages.coming (disk_now (new (call g c)) c.args.dev)
+reads g c told k =
+    let x = call g c in
+    less_reads (setting_of x.was) k.pages.was k.pages.coming (copy_here x) (disk_now (old x) x.dev) (disk_now (new x) x.dev) (x.laws.reads (here x) (place_was x)) (meanwhile_end x.dev (NoMore (disk_now (old x) x.dev)) (old x) (new x) (c.look-done.ensures.during told)) ((k.at x.dev x.ckpt).at c.requires.alive)
 
 pub invariant_of-self : goal.invariant_of-self
 invariant_of-self g c =
     let x = call g c in
     let C = g.C.Copying in
     let e = c.look-done.ensures in
-    let same = λ (told : g.P.Plant.tells). look_bytes (old x) (new x) x.dev x.ckpt (e.during told) in
+    let passes = passes_of (old x) (new x) e.acted.goes in
     facts_on x e.acted.goes (elsewhere g c)
-    (λ told. ∥∥₁_map (x.was.kept told) (λ k. keeps_same x k
-    (look_side (setting_of x.was) k.pages.was k.pages.coming x.dev (copy_here x) (copy_there x) (old x) (new x) (k.at x.dev x.ckpt) e.acted.alive (x.laws.reads (here x) (place_was x)) (x.laws.reads (there x) (place_is x)) (λ l. x.laws.there x.plant told x.dev l) c.look-done.result (e.during told) (found g c told) x.was.level (kept_all (past_of x.was)) (entries_in x.was.current) k.pages.stands k.pages.comes (after g c)
-    (λ dead. ap g.P.Plant.view (e.idle dead)) (e.gone told))))
-    (λ told. ∥∥₁_map (past_here x told) (λ l.
-    past_looked (page_count x.was.base.config) (values_of x.was.had) (sight_at x.was (here x) (place_was x) x.dev (old x)) (sight_at x.was (there x) (place_is x) x.dev (new x)) x.was.level c.look-done.result
-    l e.acted.alive (not_lost (old x) (new x) e.acted.goes (DiskPart x.dev)) (ap C.reads (same told x.dev))
-    (λ pages is. (found g c told pages is).1) (after g c)))
+    (λ told. ∥∥₁_map (x.was.kept told) (λ k. keeps_same x passes (elsewhere g c told) e.acted.alive k
+    (quiet (setting_of x.was) k.pages.was k.pages.coming x.dev (copy_there x) (old x) (new x) (copy_here x) (k.at x.dev x.ckpt) passes.later e.acted.alive (x.laws.reads (here x) (place_was x)) (e.during told).here (e.gone told)
+    (λ _ reads _. look_at (setting_of x.was) k.pages.was k.pages.coming (copy_there x) (disk_now (new x) x.dev) (x.laws.reads (there x) (place_is x)) reads c.look-done.result (found g c told) x.was.level (kept_all (past_of x.was)) (entries_in x.was.current) k.pages.stands k.pages.comes (after g c)))))
     (λ now. seen_fits C.count C.room C.room_most C.ready C.reads C.rests g.P.Plant.tells x.dev (new x) (here x) (there x) c.look-done.result e.seen e.err now (λ y. g.C.Steady.fits y (new x)) (λ y ready. x.laws.ready_fit y (new x) ready)
     (g.C.Steady.stays_fit (here x).copy (old x) (new x) e.acted.goes (x.was.ready x.dev x.ckpt (e.acted.alive now))))
     (lost_acted x c.args.by.0 _ e.acted)
@@ -66,17 +68,17 @@ returns-clause-next g c =
           let w = (goal.at.returns-clause-next g c).After-set_place in
           let x = call g w in
           let s = x.was in
-          let e = c.look-done.ensures in
           let next = λ (k : KeepsAt s (old x)). look_stands (setting_of s) (past_of s) s.current s.level (copies_of s) (old x) k (bytes_of pages)
-          (look_next (setting_of s) k.pages.was k.pages.coming x.dev (copy_here x) (copy_there x) (old x) (new x) (k.at x.dev x.ckpt) e.acted.alive (x.laws.reads (here x) (place_was x)) (x.laws.reads (there x) (place_is x)) (λ l. x.laws.there x.plant told x.dev l) c.look-done.result (e.during told) (found g w told) s.level (kept_all (past_of s)) (entries_in s.current) k.pages.stands k.pages.comes (after g w) pages is opened) in
-          (∥∥₁_elim (s.kept told) (Coded-set coded_ℕ _ _) (λ k. (next k).0.at_level), ∥∥₁_map (s.kept told) (λ k. subst (λ (K : List Entry). StandFor (run s.base (K ++ entries_in s.current)) (bytes_of pages)) (kept_past s) (next k).0.queue), some_entries (entries_in s.current) (∥∥₁_map (s.kept told) (λ k. (next k).1)))
+          (look_next (setting_of s) k.pages.was k.pages.coming (copy_there x) (disk_now (new x) x.dev) (x.laws.reads (there x) (place_is x)) (reads g w told k) c.look-done.result (found g w told) s.level (kept_all (past_of s)) (entries_in s.current) k.pages.stands k.pages.comes (after g w) pages is opened) in
+          (∥∥₁_elim (s.kept told) (Coded-set coded_ℕ _ _) (λ k. (next k).0.at_level), ∥∥₁_map (s.kept told) (λ k. subst (λ (K : List Entry). StandFor (run s.base (K ++ entries_in s.current)) (bytes_of pages)) (kept_past s) (next k).0.queue), ∥∥₁_elim (s.kept told) le_prop (λ k. (next k).1))
 
 pub returns-clause-bytes : goal.returns-clause-bytes
-returns-clause-bytes g c told = look_bytes (g.P.Plant.view c.args.self.now.plant) (g.P.Plant.view c.look-done.new.plant) c.args.dev c.requires.ckpt (c.look-done.ensures.during told)
+returns-clause-bytes g c told = same_bytes (g.P.Plant.view c.args.self.now.plant) (g.P.Plant.view c.look-done.new.plant) c.args.dev c.requires.ckpt (c.look-done.ensures.during told)
 
-pub returns-clause-apart : goal.returns-clause-apart
-returns-clause-apart g c told =
-    on_one c.args.dev c.requires.ckpt (g.P.Plant.view c.args.self.now.plant) (g.P.Plant.view c.look-done.new.plant) c.look-done.ensures.acted.goes (elsewhere g (goal.at.returns-clause-apart g c).After-set_place told)
+pub returns-clause-leaves : goal.returns-clause-leaves
+returns-clause-leaves g c =
+    let x = call g (goal.at.returns-clause-leaves g c).After-set_place in
+    pair_one c.args.by.0 x.was.pair x.pair (old x) (new x) _ x.dev x.ckpt x.same c.look-done.ensures.acted (elsewhere g (goal.at.returns-clause-leaves g c).After-set_place)
 
 pub returns-clause-same : goal.returns-clause-same
 returns-clause-same g c = c.look-done.ensures.err

@@ -1,4 +1,4 @@
-use Rattle.mas_complex.proofs.Answering.{None, List, subst, sym, ∥∥₁_map, Before, setting, copy_of, Disk as DiskPart, disk_now, Spool, AreSettled, Batch, ap, false, true, ◌≡◌, pick, is_open, BeginsWith, nobody_past, stays_true, first_reads, leaves_base, make_keeps, none_yet, placed_copy, makes_paper, owned_none, each, pick_same, laws_of}
+use Rattle.mas_complex.proofs.Answering.{None, List, subst, sym, Before, setting, copy_of, Disk as DiskPart, disk_now, Spool, AreSettled, Batch, ap, false, true, ◌≡◌, pick, is_open, BeginsWith, nobody_later, stays_true, first_reads, leaves_base, make_keeps, none_yet, placed_copy, makes_paper, owned_none, each, pick_same, laws_of, ∥∥₁_map}
 use Rattle.mas_complex.proofs.complex.Complex.make.Goals as goal
 
 pub invariant_of-result-clause-kept : goal.invariant_of-result-clause-kept
@@ -8,9 +8,9 @@ invariant_of-result-clause-kept g c told =
     let v = g.P.Plant.view s.plant in
     ∥∥₁_map (c.requires.begins told) (λ begins.
     let b : BeginsWith (setting C.reads s.base c.moment_of-since.result) s.level (λ d. copy_of C.rests C.holds (pick d s.pair.first s.pair.second) Before) v = rw (c.moment_of-since.ensures.now) begins in
-    rw (c.new-2.ensures, c.no_renewals.ensures) (make_keeps (setting C.reads s.base c.moment_of-since.result) s.level (λ d. copy_of C.rests C.holds (pick d s.pair.first s.pair.second) Before) v
+    rw (c.new-2.ensures, c.no_renewals.ensures, c.none_noted-had.ensures) (make_keeps (setting C.reads s.base c.moment_of-since.result) s.level (λ d. copy_of C.rests C.holds (pick d s.pair.first s.pair.second) Before) v
     (λ d. (laws_of g.world g.met.P.Plant g.met.C.Steady g.met.C.Copying).reads (pick d s.pair.first s.pair.second) Before) none_yet c.moment_of-since.ensures.now
-    (λ n lost. stays_true (v.lost (DiskPart (Spool n))) (disk_now v (Spool n)).lost (g.met.P.Plant.there s.plant told (Spool n)) lost) b (λ d. copy_of C.rests C.holds (pick d s.pair.first s.pair.second) (pick d Before Before))
+    (λ n lost. stays_true (v.lost (DiskPart (Spool n))) (disk_now v (Spool n)).lost (g.met.P.Plant.there s.plant told (Spool n)) lost) (nobody_later _) b (λ d. copy_of C.rests C.holds (pick d s.pair.first s.pair.second) (pick d Before Before))
     (λ d ckpt. placed_copy (setting C.reads s.base c.moment_of-since.result) b.pages None d (copy_of C.rests C.holds (pick d s.pair.first s.pair.second) Before) (pick d Before Before) v (λ _. sym (pick_same d Before)) (b.at d ckpt))))
 
 pub returns-clause-fresh : goal.returns-clause-fresh
@@ -42,6 +42,3 @@ pub invariant_of-result-clause-ready : goal.invariant_of-result-clause-ready
 invariant_of-result-clause-ready g c d ckpt is =
     g.met.C.Steady.ready_fit (pick d c.args.pair.first c.args.pair.second).copy (g.P.Plant.view c.args.plant)
     (each (λ d. (pick d c.args.pair.first c.args.pair.second).alive ≡ true → g.C.Copying.ready (pick d c.args.pair.first c.args.pair.second).copy (g.P.Plant.view c.args.plant)) c.requires.ready1 c.requires.ready2 d ckpt is)
-
-pub invariant_of-result-clause-lasting : goal.invariant_of-result-clause-lasting
-invariant_of-result-clause-lasting g c told = ∣ nobody_past _ _ _ c.none_noted-had.ensures ∣₁

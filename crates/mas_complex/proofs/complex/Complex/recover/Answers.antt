@@ -1,7 +1,7 @@
-use Rattle.mas_complex.proofs.Answering.{◌≡◌, ◌≤◌, ◌+◌, ◌*◌, ◌||◌, ◌∙◌, ⊎_elim, ℕ, List, length, Option, true, false, Some, IfSome, refl, sym, subst, ap, rules, ∥∥₁_map, Ckpt1, Ckpt2, disk_now, Goes, Rose, Disk, Page, Queue, page_count, Place, IsAtLevel, OneSeen, IsOneSeen, ReadsSeen, bytes_of, level, goes_on, next_order, order_first, orders_most, err_from_is_err_and, pair_state, parts_of, looked, sought, if◌then◌else◌, Before, Dev, Entry, StandFor, run, no, fault_earlier, fault_later, left_why, room_seen, rose_earlier, if_err, left_some, none_seen, as_many_fated, some_first, some_second, stands_of, found_many, seen_alive, look_halted, not_brought, was_halted, each, copies_of, half_of, kept_past, past_of, place_of, setting_of, view_of, pair_then, pair_seen, pair_brought, OnPair, Complex, View}
+use Rattle.mas_complex.proofs.Answering.{◌≡◌, ◌≤◌, ◌+◌, ◌*◌, ◌||◌, ◌∙◌, ⊎_elim, ℕ, List, length, Option, true, false, Some, IfSome, refl, sym, subst, ap, rules, ∥∥₁_map, Ckpt1, Ckpt2, disk_now, Goes, Rose, Disk, Page, Queue, page_count, Place, IsAtLevel, OneSeen, IsOneSeen, ReadsSeen, bytes_of, level, goes_on, next_order, order_first, orders_most, err_from_is_err_and, pair_state, parts_of, looked, sought, if◌then◌else◌, Before, Dev, Entry, StandFor, run, no, fault_earlier, fault_later, left_why, rose_earlier, if_err, left_some, none_seen, as_many_fated, some_first, some_second, stands_of, found_many, seen_alive, look_halted, not_brought, was_halted, each, copies_of, half_of, kept_past, past_of, place_of, setting_of, view_of, pair_then, pair_seen, pair_brought, OnPair, Complex, View, WasUnfit, ◌⊎◌, pick, Half, IsUnfit, Looked, None, Sought}
 use Rattle.mas_types.specs.Fit.{IsConfig}
 use Rattle.mas_complex.proofs.complex.Complex.recover.Given.{Over}
-use Rattle.mas_complex.proofs.complex.Complex.recover.Goals.{After-bring, After-choose_any}
+use Rattle.mas_complex.proofs.complex.Complex.recover.Goals.{After-choose_any}
 use Rattle.mas_complex.proofs.complex.Complex.recover.Goals as goal
 
 -- WHAT THE CALLS LEAVE, one after another
@@ -10,12 +10,63 @@ use Rattle.mas_complex.proofs.complex.Complex.recover.Goals as goal
 chose : (g : Over) (c : After-choose_any g) → OnPair g.P.Plant.tells c.args.by.0 false (pair_state g.P.Plant.view (parts_of c.args.self.now)) (pair_state g.P.Plant.view (parts_of c.choose_any.new.self))
 chose g c = pair_then (pair_then c.in_ok-first.ensures.leaves c.in_ok-second.ensures.leaves) (c.choose_any.ensures.leaves c.args.by.0)
 
--- what came after the second look, and after the first
-rest2 : (g : Over) (c : After-bring g) → Goes (g.P.Plant.view c.see_on-2.new.self.plant) (g.P.Plant.view c.bring.new.self.plant)
-rest2 g c = goes_on _ _ _ (c.choose_any.ensures.leaves c.args.by.0).counts.goes c.bring.ensures.leaves.counts.goes
+-- WHAT BOTH LOOKS GAVE, up to the choice
+module _ (g : Over) (c : After-choose_any g) where
+  abbrev was : Complex _ _ g.P.Plant g.C.Steady g.C.Copying
+  was = c.args.self.now
 
-rest1 : (g : Over) (c : After-bring g) → Goes (g.P.Plant.view c.see_on.new.self.plant) (g.P.Plant.view c.bring.new.self.plant)
-rest1 g c = goes_on _ _ _ c.see_on-2.ensures.leaves.counts.goes (rest2 g c)
+  abbrev mid : Complex _ _ g.P.Plant g.C.Steady g.C.Copying
+  mid = c.see_on-2.new.self
+
+  abbrev end : View
+  end = view_of c.choose_any.new.self
+
+  abbrev it : Sought
+  it = sought g.C.Copying.reads (parts_of was)
+
+  abbrev copy : Dev → Looked
+  copy d = looked g.C.Copying.count g.C.Copying.room (half_of mid d) (place_of mid d)
+
+  -- of the copy on one device
+  record Saw (d : Dev) (seen : Option (List Page)) : Type 0 where
+    is : IsOneSeen g.P.Plant.tells it (copy d) seen
+    reads : g.P.Plant.tells → ReadsSeen g.C.Copying.reads (disk_now (view_of was) d).bytes seen
+    unseen : g.P.Plant.tells → seen ≡ None → (half_of was d).alive ≡ true → Rose ((view_of was).faults (Disk d)) (end.faults (Disk d))
+    room : g.P.Plant.tells → IfSome seen (λ _. (copy d).room ≡ g.C.Copying.room_in (disk_now (view_of was) d).bytes)
+    before : (copy d).alive ≡ true → (half_of was d).alive ≡ true
+
+  last : Goes (view_of mid) end
+  last = (c.choose_any.ensures.leaves c.args.by.0).counts.goes
+
+  saw1 : Saw Ckpt1 c.in_ok-first.first
+  saw1 = record {
+    is = search rules;
+    reads = λ told. subst (λ (l : List ℕ). ReadsSeen g.C.Copying.reads l c.in_ok-first.first) (c.see_on.ensures.bytes told Ckpt1) (c.in_ok-first.ensures.reads told);
+    unseen = λ told none alive. fault_later Ckpt1 (view_of was) (view_of c.see_on.new.self) end (c.in_ok-first.ensures.unseen told none alive) (goes_on _ _ _ c.see_on-2.ensures.leaves.counts.goes last);
+    room = λ told. subst (λ (h : Half _). IfSome c.in_ok-first.first (λ _. g.C.Copying.room h.copy ≡ g.C.Copying.room_in (disk_now (view_of was) Ckpt1).bytes)) (sym c.see_on-2.ensures.other)
+        (subst (λ (l : List ℕ). IfSome c.in_ok-first.first (λ _. g.C.Copying.room c.see_on.new.self.pair.first.copy ≡ g.C.Copying.room_in l)) (c.see_on.ensures.bytes told Ckpt1) (c.in_ok-first.ensures.room told));
+    before = λ is. c.see_on.ensures.was_alive (sym (ap (λ h. h.alive) c.see_on-2.ensures.other) ∙ is);
+  }
+
+  saw2 : Saw Ckpt2 c.in_ok-second.second
+  saw2 = record {
+    is = search rules;
+    reads = λ told. subst (λ (l : List ℕ). ReadsSeen g.C.Copying.reads l c.in_ok-second.second) (c.see_on-2.ensures.bytes told Ckpt2 ∙ c.see_on.ensures.bytes told Ckpt2) (c.in_ok-second.ensures.reads told);
+    unseen = λ told none alive. fault_earlier Ckpt2 (view_of was) (view_of c.see_on.new.self) end c.see_on.ensures.leaves.counts.goes (fault_later Ckpt2 (view_of c.see_on.new.self) (view_of mid) end (c.in_ok-second.ensures.unseen told none (ap (λ h. h.alive) c.see_on.ensures.other ∙ alive)) last);
+    room = λ told. subst (λ (l : List ℕ). IfSome c.in_ok-second.second (λ _. g.C.Copying.room mid.pair.second.copy ≡ g.C.Copying.room_in l)) (c.see_on-2.ensures.bytes told Ckpt2 ∙ c.see_on.ensures.bytes told Ckpt2) (c.in_ok-second.ensures.room told);
+    before = λ is. sym (ap (λ h. h.alive) c.see_on.ensures.other) ∙ c.see_on-2.ensures.was_alive is;
+  }
+
+  -- why one that counted as alive doesn't any more, once the pages found were brought
+  gone : (found : List Page) (new : Complex _ _ g.P.Plant g.C.Steady g.C.Copying) → Goes end (view_of new) → g.P.Plant.tells → (d : Dev) (seen : Option (List Page)) → Saw d seen
+      → ((half_of mid d).alive ≡ true → (half_of c.choose_any.new.self d).alive ≡ false → IsUnfit seen (place_of mid d) (g.C.Copying.room (half_of mid d).copy) found)
+      → ((half_of c.choose_any.new.self d).alive ≡ true → (half_of new d).alive ≡ false → Rose (end.faults (Disk d)) ((view_of new).faults (Disk d)))
+      → (half_of was d).alive ≡ true → (half_of new d).alive ≡ false
+      → Rose ((view_of was).faults (Disk d)) ((view_of new).faults (Disk d)) ⊎ WasUnfit g.C.Copying.reads (disk_now (view_of was) d).bytes was.level (g.C.Copying.room_in (disk_now (view_of was) d).bytes) found
+  gone found new goes told d seen saw unfit failed alive dead = left_why g.P.Plant.tells it (copy d) (disk_now (view_of was) d).bytes (g.C.Copying.room_in (disk_now (view_of was) d).bytes) found (Rose ((view_of was).faults (Disk d)) ((view_of new).faults (Disk d))) seen (half_of c.choose_any.new.self d).alive
+      (λ none. fault_later d (view_of was) end (view_of new) (saw.unseen told none alive) goes)
+      (λ is. fault_earlier d (view_of was) end (view_of new) (chose g c).counts.goes (failed is dead))
+      (saw.reads told) saw.is unfit (saw.room told)
 
 pub returns-in_default-clause-leaves : goal.returns-in_default-clause-leaves
 returns-in_default-clause-leaves g c = chose g (goal.at.returns-in_default-clause-leaves g c).After-choose_any
@@ -68,73 +119,37 @@ Failed g old new s d = (half_of s d).alive ≡ true → Rose (old.faults (Disk d
 
 pub returns-in_default-clause-both_failed : goal.returns-in_default-clause-both_failed
 returns-in_default-clause-both_failed g c both told =
-    let P = g.P.Plant in
-    let s = c.args.self.now in
-    let v1 = P.view c.see_on.new.self.plant in
-    let v2 = P.view c.see_on-2.new.self.plant in
-    let v3 = P.view c.choose_any.new.self.plant in
-    let last = (c.choose_any.ensures.leaves c.args.by.0).counts.goes in
+    let w = (goal.at.returns-in_default-clause-both_failed g c).After-choose_any in
     let neither = c.in_default.ensures.neither (search rules) in
-    each (Failed g (P.view s.plant) v3 s)
-    (λ alive. fault_later Ckpt1 (P.view s.plant) v1 v3 (c.in_ok-first.ensures.unseen told neither.0 alive) (goes_on v1 v2 v3 c.see_on-2.ensures.leaves.counts.goes last))
-    (λ alive. fault_earlier Ckpt2 (P.view s.plant) v1 v3 c.see_on.ensures.leaves.counts.goes (fault_later Ckpt2 v1 v2 v3 (c.in_ok-second.ensures.unseen told neither.1 (ap (λ h. h.alive) c.see_on.ensures.other ∙ alive)) last))
+    each (Failed g (view_of c.args.self.now) (view_of c.choose_any.new.self) c.args.self.now) ((saw1 g w).unseen told neither.0) ((saw2 g w).unseen told neither.1)
 
-pub returns-clause-left1 : goal.returns-clause-left1
-returns-clause-left1 g c told alive dead =
-    let path = goal.at.returns-clause-left1 g c in
-    let C = g.C.Copying in
+pub returns-clause-left : goal.returns-clause-left
+returns-clause-left g c told =
+    let w = (goal.at.returns-clause-left g c).After-choose_any in
     let s = c.args.self.now in
-    let a = c.see_on.new.self in
-    let b = c.see_on-2.new.self in
-    let v0 = g.P.Plant.view s.plant in
-    let v4 = g.P.Plant.view c.bring.new.self.plant in
-    let one : (pages : List Page) → c.in_ok-first.first ≡ Some pages → OneSeen g.P.Plant.tells (sought C.reads (parts_of s)) (looked C.count C.room a.pair.first a.first) pages
-    = λ pages is. subst (λ (o : Option (List Page)). IsOneSeen g.P.Plant.tells (sought C.reads (parts_of s)) (looked C.count C.room a.pair.first a.first) o) is c.in_ok-first.ensures.seen in
-    rw (ap (λ p. p.plant) c.give_fate.ensures.frame)
-    (left_why C.reads (disk_now v0 Ckpt1).bytes s.level (C.room b.pair.first.copy) (C.room_in (disk_now v0 Ckpt1).bytes) b.first c.in-Some.found (Rose (v0.faults (Disk Ckpt1)) (v4.faults (Disk Ckpt1))) c.in_ok-first.first c.choose_any.new.self.pair.first.alive
-    (λ none. fault_later Ckpt1 v0 (g.P.Plant.view a.plant) v4 (c.in_ok-first.ensures.unseen told none alive) (rest1 g path.After-bring))
-    (λ is. fault_earlier Ckpt1 v0 (g.P.Plant.view c.choose_any.new.self.plant) v4 (chose g path.After-choose_any).counts.goes (c.bring.ensures.failed1 is (sym (ap (λ p. p.first_alive) c.give_fate.ensures.frame) ∙ dead)))
-    (subst (λ (l : List ℕ). ReadsSeen C.reads l c.in_ok-first.first) (c.see_on.ensures.bytes told Ckpt1) (c.in_ok-first.ensures.reads told))
-    (λ pages is. subst (λ (q : Place). IsAtLevel (level (bytes_of pages)) s.level q) (sym (ap (λ p. p.first) c.see_on-2.ensures.frame)) (one pages is).at)
-    (λ pages is not. c.in-Some.ensures.unfit1 (ap (λ h. h.alive) c.see_on-2.ensures.other ∙ (one pages is).is_alive) not)
-    (λ pages is. ap (λ h. C.room h.copy) c.see_on-2.ensures.other ∙ (room_seen (C.room a.pair.first.copy) (C.room_in (disk_now (g.P.Plant.view a.plant) Ckpt1).bytes) c.in_ok-first.first (c.in_ok-first.ensures.room told) pages is ∙ ap C.room_in (c.see_on.ensures.bytes told Ckpt1))))
-
-pub returns-clause-left2 : goal.returns-clause-left2
-returns-clause-left2 g c told alive dead =
-    let path = goal.at.returns-clause-left2 g c in
-    let C = g.C.Copying in
-    let s = c.args.self.now in
-    let a = c.see_on.new.self in
-    let b = c.see_on-2.new.self in
-    let v0 = g.P.Plant.view s.plant in
-    let v4 = g.P.Plant.view c.bring.new.self.plant in
-    let one : (pages : List Page) → c.in_ok-second.second ≡ Some pages → OneSeen g.P.Plant.tells (sought C.reads (parts_of a)) (looked C.count C.room b.pair.second b.second) pages
-    = λ pages is. subst (λ (o : Option (List Page)). IsOneSeen g.P.Plant.tells (sought C.reads (parts_of a)) (looked C.count C.room b.pair.second b.second) o) is c.in_ok-second.ensures.seen in
-    rw (ap (λ p. p.plant) c.give_fate.ensures.frame)
-    (left_why C.reads (disk_now v0 Ckpt2).bytes s.level (C.room b.pair.second.copy) (C.room_in (disk_now v0 Ckpt2).bytes) b.second c.in-Some.found (Rose (v0.faults (Disk Ckpt2)) (v4.faults (Disk Ckpt2))) c.in_ok-second.second c.choose_any.new.self.pair.second.alive
-    (λ none. fault_earlier Ckpt2 v0 (g.P.Plant.view a.plant) v4 c.see_on.ensures.leaves.counts.goes (fault_later Ckpt2 (g.P.Plant.view a.plant) (g.P.Plant.view b.plant) v4 (c.in_ok-second.ensures.unseen told none (ap (λ h. h.alive) c.see_on.ensures.other ∙ alive)) (rest2 g path.After-bring)))
-    (λ is. fault_earlier Ckpt2 v0 (g.P.Plant.view c.choose_any.new.self.plant) v4 (chose g path.After-choose_any).counts.goes (c.bring.ensures.failed2 is (sym (ap (λ p. p.second_alive) c.give_fate.ensures.frame) ∙ dead)))
-    (subst (λ (l : List ℕ). ReadsSeen C.reads l c.in_ok-second.second) (c.see_on-2.ensures.bytes told Ckpt2 ∙ c.see_on.ensures.bytes told Ckpt2) (c.in_ok-second.ensures.reads told))
-    (λ pages is. subst (λ (n : ℕ). IsAtLevel (level (bytes_of pages)) n b.second) (ap (λ p. p.level) c.see_on.ensures.frame) (one pages is).at)
-    (λ pages is not. c.in-Some.ensures.unfit2 ((one pages is).is_alive) not)
-    (λ pages is. room_seen (C.room b.pair.second.copy) (C.room_in (disk_now (g.P.Plant.view b.plant) Ckpt2).bytes) c.in_ok-second.second (c.in_ok-second.ensures.room told) pages is ∙ ap C.room_in (c.see_on-2.ensures.bytes told Ckpt2 ∙ c.see_on.ensures.bytes told Ckpt2)))
+    let f = c.give_fate.new.self in
+    let why = gone g w c.in-Some.found c.bring.new.self c.bring.ensures.leaves.counts.goes told in
+    each (λ d. (half_of s d).alive ≡ true → (half_of f d).alive ≡ false
+    → Rose ((view_of s).faults (Disk d)) ((g.P.Plant.view f.plant).faults (Disk d)) ⊎ WasUnfit g.C.Copying.reads (disk_now (view_of s) d).bytes s.level (g.C.Copying.room_in (disk_now (view_of s) d).bytes) c.in-Some.found)
+    (λ alive dead. rw (ap (λ p. p.plant) c.give_fate.ensures.frame) (why Ckpt1 c.in_ok-first.first (saw1 g w) c.in-Some.ensures.unfit1 c.bring.ensures.failed1 alive (sym (ap (λ p. p.first_alive) c.give_fate.ensures.frame) ∙ dead)))
+    (λ alive dead. rw (ap (λ p. p.plant) c.give_fate.ensures.frame) (why Ckpt2 c.in_ok-second.second (saw2 g w) c.in-Some.ensures.unfit2 c.bring.ensures.failed2 alive (sym (ap (λ p. p.second_alive) c.give_fate.ensures.frame) ∙ dead)))
 
 pub returns-clause-picked : goal.returns-clause-picked
 returns-clause-picked g c told =
-    let after = (goal.at.returns-clause-picked g c).After-bring in
-    let C = g.C.Copying in
-    let v0 = g.P.Plant.view c.args.self.now.plant in
-    let v1 = g.P.Plant.view c.see_on.new.self.plant in
-    let v4 = g.P.Plant.view c.bring.new.self.plant in
+    let w = (goal.at.returns-clause-picked g c).After-choose_any in
+    let s = c.args.self.now in
+    let one = saw1 g w in
+    let two = saw2 g w in
+    let rest = c.bring.ensures.leaves.counts.goes in
     rw (ap (λ p. p.plant) c.give_fate.ensures.frame) (record {
       one = c.in_ok-first.first;
       two = c.in_ok-second.second;
-      some1 = λ some. c.see_on.ensures.was_alive (seen_alive g.P.Plant.tells _ _ c.in_ok-first.first c.in_ok-first.ensures.seen some);
-      some2 = λ some. sym (ap (λ h. h.alive) c.see_on.ensures.other) ∙ c.see_on-2.ensures.was_alive (seen_alive g.P.Plant.tells _ _ c.in_ok-second.second c.in_ok-second.ensures.seen some);
-      read1 = subst (λ (l : List ℕ). ReadsSeen C.reads l c.in_ok-first.first) (c.see_on.ensures.bytes told Ckpt1) (c.in_ok-first.ensures.reads told);
-      read2 = subst (λ (l : List ℕ). ReadsSeen C.reads l c.in_ok-second.second) (c.see_on-2.ensures.bytes told Ckpt2 ∙ c.see_on.ensures.bytes told Ckpt2) (c.in_ok-second.ensures.reads told);
-      none1 = λ none alive. fault_later Ckpt1 v0 v1 v4 (c.in_ok-first.ensures.unseen told none alive) (rest1 g after);
-      none2 = λ none alive. fault_earlier Ckpt2 v0 v1 v4 c.see_on.ensures.leaves.counts.goes (fault_later Ckpt2 v1 (g.P.Plant.view c.see_on-2.new.self.plant) v4 (c.in_ok-second.ensures.unseen told none (ap (λ h. h.alive) c.see_on.ensures.other ∙ alive)) (rest2 g after));
+      some1 = λ some. one.before (seen_alive g.P.Plant.tells (it g w) (copy g w Ckpt1) c.in_ok-first.first one.is some);
+      some2 = λ some. two.before (seen_alive g.P.Plant.tells (it g w) (copy g w Ckpt2) c.in_ok-second.second two.is some);
+      read1 = one.reads told;
+      read2 = two.reads told;
+      none1 = λ none alive. fault_later Ckpt1 (view_of s) (view_of c.choose_any.new.self) (view_of c.bring.new.self) (one.unseen told none alive) rest;
+      none2 = λ none alive. fault_later Ckpt2 (view_of s) (view_of c.choose_any.new.self) (view_of c.bring.new.self) (two.unseen told none alive) rest;
       greater = c.in-Some.ensures.greater;
     })
 

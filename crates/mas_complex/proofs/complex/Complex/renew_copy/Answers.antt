@@ -1,4 +1,4 @@
-use Rattle.mas_complex.proofs.Answering.{◌≡◌, ◌∙◌, List, ℕ, Some, ap, le_refl, refl, subst, sym, ∥∥₁_map, ∥∥₁_map₂, bytes_of, Place, page_count, other, Ckpt1, Ckpt2, IsSound, IsOrForms, ViewDisk as Disk, disk_now, Disk as DiskPart, Elsewhere, values_of, is_open, of_device, false, true, Pair, ReadsStale, is_away, settled_later, begun_later, Call, lost_on, near_dev, near_it, near_place, new, of_both, old, past_near, pasts_on, place_is, ready_on, there, beside, part_beside, passes_on_paper, Passes, replaces_passes, before_later, past_dead, past_formed, ended_keep, gone_closed, replaced_elsewhere, replaced_keep, same_was, stale_while, no, KeepsAt, PaperOn, facts, laws_of, past_of, setting_of, sight_at, facts_with, inr}
+use Rattle.mas_complex.proofs.Answering.{◌≡◌, ◌∙◌, List, ℕ, Some, ap, le_refl, refl, subst, bytes_of, Place, other, IsSound, IsOrForms, ViewDisk as Disk, disk_now, Disk as DiskPart, Elsewhere, is_open, of_device, false, true, Pair, ReadsStale, is_away, Call, lost_on, near_dev, new, of_both, old, ready_on, there, beside, part_beside, passes_on_paper, Passes, replaces_passes, ended_keep, gone_closed, replaced_elsewhere, replaced_keep, same_was, stale_while, no, KeepsAt, PaperOn, facts, laws_of, past_of, setting_of, facts_with, inr, ∥∥₁_map, ∥∥₁_map₂}
 use Rattle.mas_complex.proofs.complex.Complex.renew_copy.Given.{Over}
 use Rattle.mas_complex.proofs.complex.Complex.renew_copy.Goals.{After-replace}
 use Rattle.mas_complex.proofs.complex.Complex.renew_copy.Goals as goal
@@ -45,10 +45,7 @@ paper : (g : Over) (c : After-replace g) → g.P.Plant.tells → IsSound c.args.
 paper g c told sound =
     let x = still g c in
     let s = x.was in
-    ∥∥₁_map₂ (s.kept told) (s.paper told sound) (λ k on. passes_on_paper s.base s.since (past_of s) s.current s.printed s.book s.book (old x) (new x) k.started k.settled k.begun (passes g c) (elsewhere g c told).papers (λ m up. up) on)
-
-other_lost : (g : Over) (c : After-replace g) → (new (still g c)).lost (DiskPart (other c.args.dev Ckpt1 Ckpt2)) ≡ false → (old (still g c)).lost (DiskPart (other c.args.dev Ckpt1 Ckpt2)) ≡ false
-other_lost g c up = sym (c.replace.ensures.replaces.else_lost (DiskPart (other c.args.dev Ckpt1 Ckpt2)) (part_beside c.args.dev c.requires.ckpt)) ∙ up
+    ∥∥₁_map₂ (s.kept told) (s.paper told sound) (λ k on. passes_on_paper s.base s.since (past_of s) s.current s.printed s.book (old x) (new x) k.started k.settled k.begun (passes g c) on s.book (λ m up. up) (elsewhere g c told).papers)
 
 -- AFTER AN ACT FAILED, OR THE MEMBER WAS STOPPED: the pair is as it was
 
@@ -61,8 +58,8 @@ invariant_of-self g c =
     let f = c.in_err-replace.ensures in
     let dead : (there x).alive ≡ false = ap (λ h. h.alive) f.err ∙ c.requires.dead in
     facts s x.pair s.first s.second (new x) e.replaces.later
-    (λ told. ∥∥₁_map (s.kept told) (λ k. replaced_keep x (IsOrForms g.C.Copying.reads (disk_now (old x) x.dev) (bytes_of c.args.pages.now)) k (passes g d) dead c.requires.began (stale g d told k) (e.during told)))
-    (pasts_on x (other_lost g d) (elsewhere g d) e.replaces.later (λ told. ∣ past_dead (page_count s.base.config) (values_of s.had) (sight_at s (there x) (place_is x) x.dev (new x)) dead ∣₁)) (paper g d)
+    (λ told. ∥∥₁_map (s.kept told) (λ k. replaced_keep x (IsOrForms g.C.Copying.reads (disk_now (old x) x.dev) (bytes_of c.args.pages.now)) k (passes g d) dead c.requires.began (stale g d told k) (e.during told) (elsewhere g d told)))
+    (paper g d)
     (ready_on x e.replaces.size (λ now. absurd (no _ now dead)))
     (lost_on x (λ was. e.replaces.else_lost (DiskPart (near_dev x)) (part_beside x.dev x.ckpt) ∙ was)
     (λ _ shut. gone_closed (old x).now (is_open (of_device x.dev s.renewals)) _ _ c.requires.most c.requires.began (f.acted c.requires.dead c.requires.beside) f.last f.lost shut))
@@ -81,15 +78,11 @@ invariant_of-self-2 g c =
     let pages = bytes_of c.args.pages.now in
     facts_with s x.pair x.first x.second (new x) s.printed s.book s.reserved c.end_on.new.renewals e.replaces.later
     (λ told. ∥∥₁_map (s.kept told) (λ k.
-    let mid = replaced_keep y (IsOrForms C.reads (disk_now (old y) y.dev) (bytes_of c.args.pages.now)) k (passes g d) c.requires.dead c.requires.began (stale g d told k) (e.during told) in
+    let mid = replaced_keep y (IsOrForms C.reads (disk_now (old y) y.dev) (bytes_of c.args.pages.now)) k (passes g d) c.requires.dead c.requires.began (stale g d told k) (e.during told) (elsewhere g d told) in
     let reads : C.reads (disk_now (new x) (near_dev x)).bytes ≡ Some pages = ap (λ (y : Disk). C.reads y.bytes) ((elsewhere g d told).others (new x).now e.replaces.later (le_refl (new x).now) (near_dev x) (beside x.dev x.ckpt)) ∙ c.requires.reads told in
     let now = same_was x (new x) mid c.requires.beside c.requires.place pages reads in
     rw (c.end_on.ensures, c.now-until.ensures)
-    (ended_keep x (new x) mid ok.ok.0 c.set_place.ensures.place (subst (λ (l : List ℕ). C.rests (there x).copy l (disk_now (new x) x.dev)) now (ok.formed told)))))
-    (pasts_on x (other_lost g d) (elsewhere g d) e.replaces.later (λ told. ∥∥₁_map (past_near x told) (λ l.
-    past_formed (page_count s.base.config) (values_of s.had) (sight_at s (there x) (place_is x) x.dev (new x)) pages
-    (before_later (page_count s.base.config) (values_of s.had) (sight_at s (near_it x) (near_place x) (near_dev x) (old x)) pages l c.requires.beside c.requires.place (c.requires.reads told))
-    c.set_place.ensures.place (x.laws.rests_now (there x).copy pages (disk_now (new x) x.dev) (ok.formed told)))))
+    (ended_keep x (new x) mid ok.ok.0 c.set_place.ensures.place (subst (λ (l : List ℕ). C.rests (there x).copy l (disk_now (new x) x.dev)) now (ok.formed told)) c.requires.beside)))
     (paper g d) (ready_on x e.replaces.size (λ now. x.laws.ready_fit (there x).copy (new x) ok.ok.1.is_ready))
     (of_both x (λ d h p. h.alive ≡ false → is_open (of_device d c.end_on.new.renewals) ≡ false → (new x).lost (DiskPart d) ≡ true) (λ dead. absurd (no _ ok.ok.0 dead)) (λ dead. absurd (no _ c.requires.beside dead)))
     s.owned (inr refl)

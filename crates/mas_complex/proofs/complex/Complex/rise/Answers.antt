@@ -1,4 +1,4 @@
-use Rattle.mas_complex.proofs.Answering.{values_of, page_count, Option, None, subst, refl, ∥∥₁_map, Batch, Keeps, Opened, ◌≡◌, true, Before, pick, each, pick_same, some_of, opened_unsure, past_ended, none_opened, copies_of, half_of, past_of, place_of, setting_of, sight_at, view_of}
+use Rattle.mas_complex.proofs.Answering.{Option, None, subst, refl, Batch, Keeps, Opened, ◌≡◌, true, each, some_of, none_opened, copies_of, half_of, past_of, place_of, setting_of, view_of, ∥∥₁_map}
 use Rattle.mas_complex.proofs.complex.Complex.rise.Goals as goal
 
 -- over a plant that tells there are no pages in flight without a batch
@@ -9,9 +9,3 @@ invariant_of-self-clause-kept g c told =
     let none : Keeps (setting_of s) (past_of s) None s.level (copies_of s) (view_of s) = subst (λ (x : Option Batch). Keeps (setting_of s) (past_of s) x s.level (copies_of s) (view_of s)) c.requires.none k in
     absurd (some_of (λ d. (half_of s d).alive) c.requires.some (λ d ckpt is. none_opened (setting_of s) none.pages.was none.pages.coming d (copies_of s d) (view_of s) (none.at d ckpt) is
     (each (λ d. (half_of s d).alive ≡ true → place_of s d ≡ Opened) c.requires.first c.requires.second d ckpt is) (none.pages.none refl))))
-
-pub invariant_of-self-clause-lasting : goal.invariant_of-self-clause-lasting
-invariant_of-self-clause-lasting g c told =
-    let s = c.args.self.now in
-    ∥∥₁_map (s.lasting told) (λ x d ckpt. past_ended (page_count s.base.config) (values_of s.had) (sight_at s (half_of s d) (place_of s d) d (view_of s)) (pick d Before Before) (pick_same d Before)
-    (λ is unsure. opened_unsure (place_of s d) (each (λ d. (half_of s d).alive ≡ true → place_of s d ≡ Opened) c.requires.first c.requires.second d ckpt is) unsure) (x d ckpt))

@@ -4,5 +4,4 @@ use Rattle.mas_complex.proofs.complex.Complex.seize.Goals as goal
 pub invariant_of-self : goal.invariant_of-self
 invariant_of-self g c =
     let s = c.args.self.now in
-    let is = c.seize.new.self in
-    booked s is s.reserved (seizes s.book c.args.by s.current c.requires.by s.owned is c.args.of c.seize.ensures.book) (inr refl)
+    booked s _ s.reserved c.seize.ensures.book (seizes s.book c.args.by s.current c.requires.by s.owned c.args.of) (inr refl)

@@ -1,4 +1,4 @@
-use Rattle.mas_complex.proofs.Answering.{ℕ, Bool, ViewDisk as Disk, Disk as DiskPart, ◌≡◌, true, arith, ∥∥₁_map, ∥∥₁_elim, ∥∥₁_map₂, Coded-set, coded_list, coded_option, coded_ℕ, bytes_of, AllRead, page_count, BothMeanwhile, Touched, Ckpt1, Ckpt2, disk_now, held_then, touched_is, copy_of, SamePapers, values_of, List, OnOk, Some, false, ◌<◌, Place, Before, IsCkpt, pick, Dev, top, View, IsGone, ReadsBy, is_away, IsPlaceAfter, ◌≤◌, disk_at, coded_disk, on_both, on_is, papers_both, papers_is, both_keep, settle_copy, settle_reads, settle_rests, pair_lost, before_later, image_now, past_alive, past_settled, KeepsAt, copies_of, facts, half_of, laws_of, paper_after, past_of, place_of, ready_of, setting_of, sight_at, view_of, dead_of, each}
+use Rattle.mas_complex.proofs.Answering.{ℕ, Bool, ViewDisk as Disk, Disk as DiskPart, ◌≡◌, true, Coded-set, coded_list, coded_option, coded_ℕ, bytes_of, AllRead, BothMeanwhile, Touched, Ckpt1, Ckpt2, disk_now, held_then, copy_of, SamePapers, List, OnOk, Some, false, Place, Before, IsCkpt, pick, Dev, View, IsGone, IsPlaceAfter, disk_at, coded_disk, on_both, on_is, papers_both, papers_is, pair_lost, KeepsAt, copies_of, facts, half_of, laws_of, paper_after, past_of, place_of, ready_of, setting_of, view_of, dead_of, each, Throughout, all_read, kept_read, rests_before, subst, sym, told_then, touches, ∥∥₁_map, ∥∥₁_elim, passes_of, copies_went}
 use Rattle.mas_complex.proofs.complex.Complex.settle.Given.{Over}
 use Rattle.mas_complex.proofs.complex.Complex.settle.Goals.{After-place_after-self-2}
 use Rattle.mas_complex.proofs.complex.Complex.settle.Goals as goal
@@ -31,21 +31,18 @@ module _ (g : Over) (c : After-place_after-self-2 g) where
   rests_now d was x r = g.met.C.Copying.rests_now (half_of c.args.self.now d).copy was x r
 
   module _ (told : g.P.Plant.tells) (k : KeepsAt c.args.self.now (view_of c.args.self.now)) where
-    reads_at : (d : Dev) → IsCkpt d → (view_of c.args.self.now).now < top → (x : Disk) → Touched (half_of c.args.self.now d).alive (AllRead g.C.Copying.reads pages) (disk_now (view_of c.args.self.now) d) x → ReadsBy (setting_of c.args.self.now) (is_away (setting_of c.args.self.now) d) k.pages.was k.pages.coming x
-    reads_at d ckpt = settle_reads (setting_of c.args.self.now) k.pages.was k.pages.coming d (copies_of c.args.self.now d) (view_of c.args.self.now) pages (k.at d ckpt) (before d ckpt) (rests_now d) (reads told d ckpt)
+    same : (d : Dev) → IsCkpt d → (half_of c.args.self.now d).alive ≡ true → k.pages.was ≡ pages
+    same d ckpt = kept_read (setting_of c.args.self.now) k.pages.was k.pages.coming d (copies_of c.args.self.now d) (view_of c.args.self.now) pages (k.at d ckpt) (before d ckpt) (rests_now d) (reads told d ckpt)
 
     -- what each copy that counts as alive is at rest with
     rests : (d : Dev) → IsCkpt d → (half_of c.args.self.now d).alive ≡ true → g.C.Copying.rests (half_of c.args.self.now d).copy pages (disk_now (view_of c.args.self.now) d)
-    rests d ckpt = settle_rests (setting_of c.args.self.now) k.pages.was k.pages.coming d (copies_of c.args.self.now d) (view_of c.args.self.now) pages (k.at d ckpt) (before d ckpt) (rests_now d) (reads told d ckpt)
+    rests d ckpt is = subst (λ (l : List ℕ). g.C.Copying.rests (half_of c.args.self.now d).copy l (disk_now (view_of c.args.self.now) d)) (same d ckpt is) (rests_before (setting_of c.args.self.now) k.pages.was k.pages.coming (copies_of c.args.self.now d) d (view_of c.args.self.now) (k.at d ckpt) (before d ckpt) is)
 
     abbrev Touches : Dev → Disk → Type 0
     Touches d = Touched (half_of c.args.self.now d).alive (AllRead g.C.Copying.reads pages) (disk_now (view_of c.args.self.now) d)
 
     all : BothMeanwhile (Touches Ckpt1) (Touches Ckpt2) (view_of c.args.self.now) new
     all = c.settle-done.ensures.during told (rests Ckpt1 tt) (rests Ckpt2 tt)
-
-    touched : (d : Dev) → IsCkpt d → Touches d (disk_now new d)
-    touched = each (λ d. Touches d (disk_now new d)) (all.first new.now all.goes.later (omega arith)) (all.second new.now all.goes.later (omega arith))
 
     settled : (d : Dev) → IsCkpt d → OnOk c.settle-done.result (alive_is d ≡ true → rests_is d pages (disk_now new d))
     settled = each (λ d. OnOk c.settle-done.result (alive_is d ≡ true → rests_is d pages (disk_now new d)))
@@ -70,17 +67,13 @@ invariant_of-self g c =
     facts s p c.place_after-self.result c.place_after-self-2.result v e.acted.goes.later
     (λ told. ∥∥₁_map (s.kept told) (λ k.
     let m = all g c told k in
-    both_keep (setting_of s) (past_of s) s.current s.level (copies_of s) (λ d. copy_of C.rests C.holds (pick d c.settle-done.new.self.first c.settle-done.new.self.second) (place_is g c d)) old v (Touches g c told k Ckpt1) (Touches g c told k Ckpt2) k m
-    (each (λ d. (t : ℕ) → old.now ≤ t → t ≤ v.now → old.now < top → ReadsBy (setting_of s) (is_away (setting_of s) d) k.pages.was k.pages.coming (disk_at v t d)) (λ t from le lt. reads_at g c told k Ckpt1 tt lt (disk_at v t Ckpt1) (m.first t from le)) (λ t from le lt. reads_at g c told k Ckpt2 tt lt (disk_at v t Ckpt2) (m.second t from le)))
-    (λ d ckpt. settle_copy (setting_of s) k.pages.was k.pages.coming d (copies_of s d) old (pages g c) (k.at d ckpt) (before g c d ckpt) (rests_now g c d) (reads g c told d ckpt) v (copy_of C.rests C.holds (pick d c.settle-done.new.self.first c.settle-done.new.self.second) (place_is g c d)) c.settle-done.result (alive d ckpt) m.goes.later (touched g c told k d ckpt)
-    (each (λ d. IsGone d (half_of s d).alive (pick d c.settle-done.new.self.first c.settle-done.new.self.second).alive v) (e.gone1 told (rests g c told k Ckpt1 tt) (rests g c told k Ckpt2 tt)) (e.gone2 told) d ckpt) (settled g c told k d ckpt) (λ a now. a now) (λ both. dead_of d ckpt p.first p.second (e.both both)) (after d ckpt))))
-    (λ told. ∥∥₁_map₂ (s.kept told) (s.lasting told) (λ k l d ckpt.
-    let count = page_count s.base.config in
-    let had = values_of s.had in
-    let x = sight_at s (half_of s d) (place_of s d) d old in
-    let y = sight_at s (pick d c.settle-done.new.self.first c.settle-done.new.self.second) (place_is g c d) d v in
-    past_alive count had x y (alive d ckpt) (λ is. past_settled count had y (pages g c) c.settle-done.result (before_later count had x (pages g c) (l d ckpt) is (before g c d ckpt is) (reads g c told d ckpt is)) (after d ckpt) (λ both. dead_of d ckpt p.first p.second (e.both both))
-    (λ up. touched_is (half_of s d).alive (AllRead C.reads (pages g c)) (disk_now old d) (disk_now v d) is (touched g c told k d ckpt) (disk_now v d).bytes (image_now (disk_now v d) (g.met.P.Plant.there c.settle-done.new.plant told d up))) (still g c told k d ckpt))))
+    copies_went (setting_of s) (past_of s) s.current s.level (copies_of s) (λ d. copy_of C.rests C.holds (pick d p.first p.second) (place_is g c d)) old v k k.pages (passes_of old v m.goes) (record { volumes = m.others; console = m.console })
+    (λ d ckpt. touches (setting_of s) k.pages.was k.pages.coming d (copy_of C.rests C.holds (pick d p.first p.second) (place_is g c d)) old v k.pages.coming (copies_of s d) (k.at d ckpt) m.goes.later (alive d ckpt) c.settle-done.result Before (AllRead C.reads (pages g c))
+    (λ is x all. all_read (setting_of s) k.pages.was k.pages.coming x (subst (λ (l : List ℕ). AllRead C.reads l x) (sym (same g c told k d ckpt is)) all))
+    (each (λ d. Throughout old.now v.now (λ t. Touches g c told k d (disk_at v t d))) m.first m.second d ckpt)
+    (each (λ d. IsGone d (half_of s d).alive (pick d p.first p.second).alive v) (e.gone1 told (rests g c told k Ckpt1 tt) (rests g c told k Ckpt2 tt)) (e.gone2 told) d ckpt) (λ both. dead_of d ckpt p.first p.second (e.both both)) (after d ckpt)
+    (held_then c.settle-done.result (settled g c told k d ckpt) (λ a now. subst (λ (l : List ℕ). rests_is g c d l (disk_now v d)) (sym (same g c told k d ckpt (alive d ckpt now))) (a now))))
+    (λ d ckpt is. k.later d ckpt (alive d ckpt is))))
     (paper_after s v e.acted.goes (papers g c))
     (λ d ckpt is. g.met.C.Steady.ready_fit (pick d c.settle-done.new.self.first c.settle-done.new.self.second).copy v (each (λ d. (pick d c.settle-done.new.self.first c.settle-done.new.self.second).alive ≡ true → C.ready (pick d c.settle-done.new.self.first c.settle-done.new.self.second).copy v) e.ready.first e.ready.second d ckpt is))
     (λ d ckpt. pair_lost d (half_of s d).alive (pick d c.settle-done.new.self.first c.settle-done.new.self.second).alive old v e.acted.goes (each (λ d. (half_of s d).alive ≡ true → (pick d c.settle-done.new.self.first c.settle-done.new.self.second).alive ≡ false → v.lost (DiskPart d) ≡ true) e.acted.is_lost1 e.acted.is_lost2 d ckpt) (s.lost d ckpt))
@@ -99,14 +92,12 @@ returns-clause-throughout g c told t from le d one two =
 pub returns-clause-still1 : goal.returns-clause-still1
 returns-clause-still1 g c =
     let w = (goal.at.returns-clause-still1 g c).After-place_after-self-2 in
-    held_then c.settle-done.result c.settle-done.ensures.settled1 (λ held told now. ∥∥₁_elim (c.args.self.now.kept told) (Coded-set (coded_option (coded_list coded_ℕ)) _ _) (λ k.
-    g.met.C.Copying.rests_now c.settle-done.new.self.first.copy (pages g w) (disk_now (new g w) Ckpt1) (held told (rests g w told k Ckpt1 tt) (rests g w told k Ckpt2 tt) now)))
+    told_then _ _ c.settle-done.result c.args.self.now.kept (Coded-set (coded_option (coded_list coded_ℕ)) _ _) (λ told k. still g w told k Ckpt1 tt)
 
 pub returns-clause-still2 : goal.returns-clause-still2
 returns-clause-still2 g c =
     let w = (goal.at.returns-clause-still2 g c).After-place_after-self-2 in
-    held_then c.settle-done.result c.settle-done.ensures.settled2 (λ held told now. ∥∥₁_elim (c.args.self.now.kept told) (Coded-set (coded_option (coded_list coded_ℕ)) _ _) (λ k.
-    g.met.C.Copying.rests_now c.settle-done.new.self.second.copy (pages g w) (disk_now (new g w) Ckpt2) (held told (rests g w told k Ckpt1 tt) (rests g w told k Ckpt2 tt) now)))
+    told_then _ _ c.settle-done.result c.args.self.now.kept (Coded-set (coded_option (coded_list coded_ℕ)) _ _) (λ told k. still g w told k Ckpt2 tt)
 
 pub settle-done-requires-clause-ready : goal.settle-done-requires-clause-ready
 settle-done-requires-clause-ready g c = ready_of c.args.self.now (laws_of g.world g.met.P.Plant g.met.C.Steady g.met.C.Copying)
