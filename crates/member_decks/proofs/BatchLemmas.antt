@@ -1,5 +1,5 @@
 -- Batches of a step, by how it ended.
-use Rattle.member_decks.proofs.Names.{ℕ, ◌≤◌, List, [], ◌∷◌, arith, MemberId, Batch, Entry, AreAll, IsKeptBatch}
+use Rattle.member_decks.proofs.Names.{ℕ, ◌≤◌, List, [], ◌∷◌, refl, arith, MemberId, Batch, Entry, Kept, begun, fated, AreAll, IsFlyingBatch, IsKeptBatch}
 
 module _ (by : MemberId) where
   -- BEGUN SOONER
@@ -12,3 +12,12 @@ module _ (by : MemberId) where
   all_sooner sooner from now [] (b ∷ bs) le all = absurd all
   all_sooner sooner from now (es ∷ ess) [] le all = absurd all
   all_sooner sooner from now (es ∷ ess) (b ∷ bs) le all = (kept_sooner es sooner from now b le all.0, all.1)
+
+-- A BATCH THAT BEGAN
+
+module _ (by : MemberId) (from first last now : ℕ) (es : List Entry) (le1 : from ≤ first) where
+  pub kept_batch : first ≤ last → last ≤ now → IsKeptBatch by es from now (fated Kept last (begun first by es))
+  kept_batch le2 le3 = record { by_it = refl; entries = refl; kept = refl; moments = (le1, le2, le3) }
+
+  pub flying_batch : first ≤ now → IsFlyingBatch by es from now (begun first by es)
+  flying_batch le2 = record { by_it = refl; entries = refl; flies = refl; moments = (le1, le2, refl) }

@@ -5,7 +5,7 @@ use Rattle.mas_types.specs.declared.commands.Reply.TheVariants as reply
 use Rattle.mas_types.specs.declared.queues.Owner.TheVariants as owner
 use Rattle.member_decks.specs.declared.opening.Opened.TheVariants as opened
 use Rattle.member_decks.proofs.HeldLemmas.{counted}
-use Rattle.member_decks.proofs.TakeLemmas.{refused_last, refused_more, take_counts, takes_more}
+use Rattle.member_decks.proofs.TakeLemmas.{take_counts, take_last, take_next}
 
 -- COMMANDS GIVEN ONE AFTER ANOTHER
 
@@ -37,25 +37,19 @@ module _ (by : MemberId) (at : ℕ) (fields : JobFields) (groups : ℕ) (Q : Que
   ends_closed (reply.Job n) other = absurd (other n refl)
   ends_closed _ other = refl
 
-  pub opening_alone : ((n : JobNo) → (step Q by begin).1 ≡ reply.Job n → ⊥) → given_in Q by at (opening Q by fields groups) ≡ entry_of Q by at begin ∷ []
-  opening_alone other = ap (λ (cs : List Command). entry_of Q by at begin ∷ given_in begun by at cs) (none_behind (step Q by begin).1 other)
+  pub opening_alone : ((n : JobNo) → (step Q by begin).1 ≡ reply.Job n → ⊥) → opening Q by fields groups ≡ begin ∷ []
+  opening_alone other = ap (λ (cs : List Command). begin ∷ cs) (none_behind (step Q by begin).1 other)
 
   pub ends_alone : ((n : JobNo) → (step Q by begin).1 ≡ reply.Job n → ⊥) → ends_as Q by fields groups ≡ opened.Closed
   ends_alone other = ends_closed (step Q by begin).1 other
 
-  module _ (n : JobNo) (got : (step Q by begin).1 ≡ reply.Job n) where
-    -- the groups were taken
-    pub opening_taken : are_refused groups begun by groups ≡ false → given_in Q by at (opening Q by fields groups) ≡ entry_of Q by at begin ∷ given_in begun by at (takes groups begun by groups)
-    opening_taken all =
-        ap (λ (r : Reply). entry_of Q by at begin ∷ given_in begun by at (behind_begin begun by groups r)) got
-        ∙ ap (λ (b : Bool). entry_of Q by at begin ∷ given_in begun by at (takes groups begun by groups ++ (if b then command.Drop n ∷ [] else []))) all
-        ∙ ap (λ (cs : List Command). entry_of Q by at begin ∷ given_in begun by at cs) (append-nil (takes groups begun by groups))
+  -- the job is there: whether a Take was refused, after which the job is dropped
+  module _ (n : JobNo) (got : (step Q by begin).1 ≡ reply.Job n) (b : Bool) (refused : are_refused groups begun by groups ≡ b) where
+    pub opening_job : opening Q by fields groups ≡ begin ∷ (takes groups begun by groups ++ (if b then command.Drop n ∷ [] else []))
+    opening_job = ap (λ (r : Reply). begin ∷ behind_begin begun by groups r) got ∙ ap (λ (a : Bool). begin ∷ (takes groups begun by groups ++ (if a then command.Drop n ∷ [] else []))) refused
 
-    pub ends_taken : are_refused groups begun by groups ≡ false → ends_as Q by fields groups ≡ opened.Ready n
-    ends_taken all = ap (ends_begun begun by groups) got ∙ ap (λ (b : Bool). if b then opened.Closed else opened.Ready n) all
-
-    pub ends_dropped : are_refused groups begun by groups ≡ true → ends_as Q by fields groups ≡ opened.Closed
-    ends_dropped refused = ap (ends_begun begun by groups) got ∙ ap (λ (b : Bool). if b then opened.Closed else opened.Ready n) refused
+    pub ends_job : ends_as Q by fields groups ≡ (if b then opened.Closed else opened.Ready n)
+    ends_job = ap (ends_begun begun by groups) got ∙ ap (λ (a : Bool). if a then opened.Closed else opened.Ready n) refused
 
 -- THE MEMBER HAS THE GROUPS
 
@@ -94,13 +88,14 @@ module _ (m : MemberId) where
     takes_enough (suc times) zero Q le all = omega arith
     takes_enough (suc times) (suc missing) Q le all =
         test_cases (free_count Q.owners == 0) (suc missing + member_count m Q.owners ≤ member_count m (run Q (given_in Q m at (takes (suc times) Q m (suc missing)))).owners)
-        (λ e. absurd (let last = refused_last Q m times (suc missing) (omega arith) (rw e refl) in cc))
+        (λ e. absurd (let last : are_refused (suc times) Q m (suc missing) ≡ true = (take_last Q m (suc times) (suc missing) (omega arith) (omega arith) (λ n is. absurd (let w = rw e at is in cc))).1 in cc))
         (λ e. let n = min (suc missing) (free_count Q.owners) in
         let got : (step Q m (command.Take (suc missing))).1 ≡ reply.Count n = rw e refl in
         let counts = take_counts Q m (suc missing) n (omega arith) got in
+        let next = take_next Q m times (suc missing) n (omega arith) got in
         let owners : member_count m (step Q m (command.Take (suc missing))).0.owners ≡ member_count m Q.owners + n = rw e (count_taken (suc missing) Q.owners) in
-        let rest = takes_enough times (suc missing - n) (step Q m (command.Take (suc missing))).0 (omega (arith, le, counts.0)) (sym (refused_more Q m times (suc missing) n (omega arith) got) ∙ all) in
-        subst (λ (es : List Entry). suc missing + member_count m Q.owners ≤ member_count m (run Q es).owners) (sym (takes_more Q m at times (suc missing) n (omega arith) le got)) (omega (arith, rest, owners, counts.1)))
+        let rest = takes_enough times (suc missing - n) (step Q m (command.Take (suc missing))).0 (omega (arith, le, counts.0)) (sym next.1 ∙ all) in
+        subst (λ (es : List Entry). suc missing + member_count m Q.owners ≤ member_count m (run Q es).owners) (sym (ap (given_in Q m at) next.0)) (omega (arith, rest, owners, counts.1)))
 
     module _ (fields : JobFields) (groups : ℕ) (Q : Queue) (n : JobNo) (is : ends_as Q m fields groups ≡ opened.Ready n) where
       abbrev first : Queue
@@ -113,10 +108,10 @@ module _ (m : MemberId) where
       not_closed not = absurd (let both : opened.Closed ≡ opened.Ready n = sym not ∙ is in cc)
 
       all_taken : are_refused groups first m groups ≡ false → (k : JobNo) → (step Q m (command.Begin fields)).1 ≡ reply.Job k → Has
-      all_taken all k got = subst (λ (es : List Entry). groups ≤ member_count m (run Q es).owners) (sym (opening_taken m at fields groups Q k got all)) (let enough = takes_enough groups groups first (omega arith) all in omega (arith, enough))
+      all_taken all k got = subst (λ (es : List Entry). groups ≤ member_count m (run Q es).owners) (sym (ap (given_in Q m at) (opening_job m at fields groups Q k got false all ∙ ap (λ (cs : List Command). command.Begin fields ∷ cs) (append-nil (takes groups first m groups))))) (let enough = takes_enough groups groups first (omega arith) all in omega (arith, enough))
 
       by_reply : (r : Reply) → (step Q m (command.Begin fields)).1 ≡ r → Has
-      by_reply (reply.Job k) got = test_cases (are_refused groups first m groups) Has (λ refused. not_closed (ends_dropped m at fields groups Q k got refused)) (λ all. all_taken all k got)
+      by_reply (reply.Job k) got = test_cases (are_refused groups first m groups) Has (λ refused. not_closed (ends_job m at fields groups Q k got true refused)) (λ all. all_taken all k got)
       by_reply _ got = not_closed (ends_alone m at fields groups Q (λ k other. absurd (cc (sym got ∙ other))))
 
       pub opened_enough : groups ≤ member_count m (run Q (given_in Q m at (opening Q m fields groups))).owners

@@ -1,31 +1,31 @@
 -- Which batches of a deck's step may begin: none of their commands is a Mark.
-use Rattle.member_decks.proofs.Names.{◌≡◌, ℕ, zero, suc, Bool, true, false, if◌then◌else◌, List, [], ◌∷◌, All, Option, Some, None, refl, sym, subst, option_map_or, All-nil, All-cons, All-head, All-tail, All-append, JobNo, MemberId, Command, Reply, JobFields, Batch, Entry, Queue, IsFit, IsJobFields, is_mark, step, MayBegin, entry_of, are_refused, behind_begin, given_in, left_after, opening, takes, LeaveOut}
+use Rattle.member_decks.proofs.Names.{◌≡◌, ℕ, zero, suc, Bool, true, false, if◌then◌else◌, List, [], ◌∷◌, All, Option, Some, None, refl, option_map_or, All-nil, All-cons, All-head, All-tail, All-append, JobNo, MemberId, Command, Reply, JobFields, Batch, Entry, Queue, IsFit, IsJobFields, is_mark, step, MayBegin, entry_of, are_refused, behind_begin, given_in, left_after, opening, takes, IsPart, Result}
+use Rattle.member_steps.specs.Steps.{entry_with}
 use Rattle.mas_types.specs.declared.commands.Command.TheVariants as command
 use Rattle.mas_types.specs.declared.commands.Reply.TheVariants as reply
 use Rattle.mas_types.specs.Queue.{is_member}
 use Rattle.mas_types.specs.Step.{may_give}
 use Rattle.queue_laws.specs.Runs.{IsGiven}
 use Rattle.mas_complex.proofs.Batches.{unmarked_begin}
-use Rattle.member_decks.proofs.PlayLemmas.{all_front}
+use Rattle.member_decks.proofs.PlayLemmas.{part_all}
 
 -- the command is within the limits, the member may give it, and it is no Mark
 abbrev pub IsUnmarked : Queue → MemberId → Command → Type 0
 IsUnmarked base by c = (may_give base by c ≡ true) × IsFit c × (is_mark c ≡ false)
 
-abbrev pub Unmarked : Entry → Type 0
+abbrev Unmarked : Entry → Type 0
 Unmarked e = is_mark e.command ≡ false
 
 module _ (base : Queue) (by : MemberId) where
-  pub given_fit : (at : ℕ) (cs : List Command) (Q : Queue) → All (IsUnmarked base by) cs → All (IsGiven base) (given_in Q by at cs)
-  given_fit at [] Q all = All-nil (IsGiven base)
-  given_fit at (c ∷ cs) Q all =
-      let here = All-head (IsUnmarked base by) c cs all in
-      All-cons (IsGiven base) (entry_of Q by at c) (given_in (step Q by c).0 by at cs) (record { by = here.0; fit = here.1 }) (given_fit at cs (step Q by c).0 (All-tail (IsUnmarked base by) c cs all))
+  given_each : (P : Entry → Type 0) → ((at : ℕ) (c : Command) (r : Reply) → IsUnmarked base by c → P (entry_with by at c r)) → (at : ℕ) (cs : List Command) (Q : Queue) → All (IsUnmarked base by) cs → All P (given_in Q by at cs)
+  given_each P to at [] Q all = All-nil P
+  given_each P to at (c ∷ cs) Q all = All-cons P (entry_of Q by at c) (given_in (step Q by c).0 by at cs) (to at c _ (All-head (IsUnmarked base by) c cs all)) (given_each P to at cs (step Q by c).0 (All-tail (IsUnmarked base by) c cs all))
 
-  pub given_unmarked : (at : ℕ) (cs : List Command) (Q : Queue) → All (IsUnmarked base by) cs → All Unmarked (given_in Q by at cs)
-  given_unmarked at [] Q all = All-nil Unmarked
-  given_unmarked at (c ∷ cs) Q all =
-      All-cons Unmarked (entry_of Q by at c) (given_in (step Q by c).0 by at cs) (All-head (IsUnmarked base by) c cs all).2 (given_unmarked at cs (step Q by c).0 (All-tail (IsUnmarked base by) c cs all))
+  -- such commands, or the first ones of them
+  pub part_begins : {T E : Type 0} (js : List Batch) (printed : List ℕ) (r : Result T E) (Q : Queue) (at : ℕ) (cs : List Command) (gave : List Entry) → All (IsUnmarked base by) cs → IsPart r gave (given_in Q by at cs) → MayBegin base js printed gave
+  part_begins js printed r Q at cs gave all part = unmarked_begin base js printed gave
+      (part_all (IsGiven base) r gave (given_in Q by at cs) part (given_each (IsGiven base) (λ n c a its. record { by = its.0; fit = its.1 }) at cs Q all))
+      (part_all Unmarked r gave (given_in Q by at cs) part (given_each Unmarked (λ n c a its. its.2) at cs Q all))
 
   module _ (member : is_member base.config by ≡ true) where
     pub takes_unmarked : (times : ℕ) (Q : Queue) (missing : ℕ) → All (IsUnmarked base by) (takes times Q by missing)
@@ -40,7 +40,7 @@ module _ (base : Queue) (by : MemberId) where
         rest later None = All-nil (IsUnmarked base by)
         rest later (Some left) = later left
 
-    opening_unmarked : (Q : Queue) (fields : JobFields) (groups : ℕ) → IsJobFields fields → All (IsUnmarked base by) (opening Q by fields groups)
+    pub opening_unmarked : (Q : Queue) (fields : JobFields) (groups : ℕ) → IsJobFields fields → All (IsUnmarked base by) (opening Q by fields groups)
     opening_unmarked Q fields groups fit = All-cons (IsUnmarked base by) (command.Begin fields) _ (member, fit, refl) (behind (step Q by (command.Begin fields)).0 (step Q by (command.Begin fields)).1)
       where
         dropped : (b : Bool) (n : JobNo) → All (IsUnmarked base by) (if b then command.Drop n ∷ [] else [])
@@ -50,18 +50,3 @@ module _ (base : Queue) (by : MemberId) where
         behind : (R : Queue) (r : Reply) → All (IsUnmarked base by) (behind_begin R by groups r)
         behind R (reply.Job n) = All-append (IsUnmarked base by) (takes groups R by groups) (if are_refused groups R by groups then command.Drop n ∷ [] else []) (takes_unmarked groups R groups) (dropped (are_refused groups R by groups) n)
         behind R _ = All-nil (IsUnmarked base by)
-
-    module _ (js : List Batch) (printed : List ℕ) (at : ℕ) (Q : Queue) (fields : JobFields) (groups : ℕ) (fit : IsJobFields fields) (es : List Entry) where
-      -- the first batch of a deck's step, and the first entries of it
-      pub opening_begins : es ≡ given_in Q by at (opening Q by fields groups) → MayBegin base js printed es
-      opening_begins are =
-          let all = opening_unmarked Q fields groups fit in
-          subst (λ (l : List Entry). MayBegin base js printed l) (sym are)
-          (unmarked_begin base js printed (given_in Q by at (opening Q by fields groups)) (given_fit at (opening Q by fields groups) Q all) (given_unmarked at (opening Q by fields groups) Q all))
-
-      pub front_begins : LeaveOut es (given_in Q by at (opening Q by fields groups)) → MayBegin base js printed es
-      front_begins part =
-          let all = opening_unmarked Q fields groups fit in
-          unmarked_begin base js printed es
-          (all_front (IsGiven base) es part.0 (subst (All (IsGiven base)) part.1 (given_fit at (opening Q by fields groups) Q all)))
-          (all_front Unmarked es part.0 (subst (All Unmarked) part.1 (given_unmarked at (opening Q by fields groups) Q all)))

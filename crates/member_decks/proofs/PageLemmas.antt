@@ -62,12 +62,12 @@ act_on told by v old new r acts only = record {
 
 -- ONE PAGE
 
-some_groups : (volumes groups n : ℕ) → n < volumes * groups → 1 ≤ groups
+pub some_groups : (volumes groups n : ℕ) → n < volumes * groups → 1 ≤ groups
 some_groups volumes zero n lt = absurd (omega (arith, lt))
 some_groups volumes (suc groups) n lt = omega arith
 
 -- a group of the configuration lies within its volume, if that isn't lost
-within : (v : View) (config : Config) (g : GroupNo) → IsGroupOf config g → AreRoomy v config → v.lost (DiskPart (device_of config.groups g)) ≡ false → is_within v config.groups g ≡ true
+pub within : (v : View) (config : Config) (g : GroupNo) → IsGroupOf config g → AreRoomy v config → v.lost (DiskPart (device_of config.groups g)) ≡ false → is_within v config.groups g ≡ true
 within v config g is roomy there =
     let some : 1 ≤ config.groups = some_groups config.volumes config.groups g.0 is in
     let size = roomy (volume_of config.groups g) (omega arith) (few_quotient g.0 config.volumes config.groups some is) there in

@@ -1,5 +1,5 @@
 -- A deck's step, from part to part.
-use Rattle.member_decks.proofs.Names.{◌≡◌, ℕ, ◌+◌, ◌≤◌, nat_le, List, [], ◌∷◌, ◌++◌, length, All, refl, sym, subst, arith, All-nil, All-cons, All-head, All-tail, JobNo, MemberId, Command, JobFields, Entry, Queue, AreLines, page_bytes, groups_after, groups_needed, test_cases, given_in, opening, LeaveOut}
+use Rattle.member_decks.proofs.Names.{◌≡◌, ℕ, ◌+◌, ◌≤◌, nat_le, List, [], ◌∷◌, ◌++◌, length, All, refl, sym, subst, arith, All-nil, All-cons, All-head, All-tail, JobNo, MemberId, Command, JobFields, Entry, Queue, AreLines, page_bytes, groups_after, groups_needed, test_cases, given_in, opening, IsPart, Result, Ok, Err}
 use Rattle.member_decks.specs.declared.opening.Opened.{Opened}
 use Rattle.member_decks.specs.declared.opening.Opened.TheVariants as opened
 use Rattle.member_decks.specs.Steps.{AreOf}
@@ -21,19 +21,18 @@ pub closed_of : (o : Opened) → ((n : JobNo) → o ≡ opened.Ready n → ⊥) 
 closed_of opened.Closed other = refl
 closed_of (opened.Ready n) other = absurd (other n refl)
 
--- entries that are given
-module _ (Q : Queue) (by : MemberId) (at : ℕ) where
-  pub some_given : (fields : JobFields) (groups : ℕ) (es : List Entry) → es ≡ given_in Q by at (opening Q by fields groups) → 1 ≤ length es
-  some_given fields groups es are = subst (λ (l : List Entry). 1 ≤ length l) (sym are) (omega arith)
+pub some_given : (Q : Queue) (by : MemberId) (at : ℕ) (fields : JobFields) (groups : ℕ) (es : List Entry) → es ≡ given_in Q by at (opening Q by fields groups) → 1 ≤ length es
+some_given Q by at fields groups es are = subst (λ (l : List Entry). 1 ≤ length l) (sym are) (omega arith)
 
-  pub of_given : (cs : List Command) (es : List Entry) (i : MemberId) → es ≡ given_in Q by at cs → i ≡ by → All (λ (e : Entry). (e.by ≡ i) × (e.step ≡ at)) es
-  of_given cs es i are same = subst (λ (k : MemberId). All (λ (e : Entry). (e.by ≡ k) × (e.step ≡ at)) es) (sym same) (subst (All (λ (e : Entry). (e.by ≡ by) × (e.step ≡ at))) (sym are) (given_of by at cs Q))
+-- ENTRIES THAT WERE GIVEN, or the first ones of them
 
--- the first ones of entries that are of a step
-pub all_front : (P : Entry → Type 0) (es rest : List Entry) → All P (es ++ rest) → All P es
+all_front : (P : Entry → Type 0) (es rest : List Entry) → All P (es ++ rest) → All P es
 all_front P [] rest all = All-nil P
 all_front P (e ∷ es) rest all = All-cons P e es (All-head P e (es ++ rest) all) (all_front P es rest (All-tail P e (es ++ rest) all))
 
-pub of_front : (Q : Queue) (by : MemberId) (at : ℕ) (cs : List Command) (es : List Entry) → LeaveOut es (given_in Q by at cs) → AreOf by at es
-of_front Q by at cs es part =
-    all_front (λ (e : Entry). (e.by ≡ by) × (e.step ≡ at)) es part.0 (subst (All (λ (e : Entry). (e.by ≡ by) × (e.step ≡ at))) part.1 (given_of by at cs Q))
+pub part_all : {T E : Type 0} (P : Entry → Type 0) (r : Result T E) (es all : List Entry) → IsPart r es all → All P all → All P es
+part_all P (Ok done) es all part each = subst (All P) (sym part) each
+part_all P (Err why) es all part each = all_front P es part.0 (subst (All P) part.1 each)
+
+pub part_of : {T E : Type 0} (Q : Queue) (by : MemberId) (at : ℕ) (cs : List Command) (es : List Entry) (r : Result T E) → IsPart r es (given_in Q by at cs) → AreOf by at es
+part_of Q by at cs es r part = part_all (λ (e : Entry). (e.by ≡ by) × (e.step ≡ at)) r es (given_in Q by at cs) part (given_of by at cs Q)

@@ -1,5 +1,5 @@
--- What Takes reply, one after another, and their entries.
-use Rattle.member_decks.proofs.Names.{◌≡◌, ℕ, zero, suc, ◌-◌, ◌≤◌, ◌==◌, min, true, false, [], ◌∷◌, None, refl, arith, nat_tests, MemberId, Queue, free_count, test_cases, step, entry_of, are_refused, given_in, left_after, takes}
+-- What Takes reply, one after another, and which are given.
+use Rattle.member_decks.proofs.Names.{◌≡◌, ℕ, zero, suc, ◌-◌, ◌≤◌, ◌==◌, min, true, false, [], ◌∷◌, None, refl, arith, nat_tests, MemberId, Queue, Reply, free_count, test_cases, step, are_refused, left_after, takes}
 use Rattle.mas_types.specs.declared.commands.Command.TheVariants as command
 use Rattle.mas_types.specs.declared.commands.Reply.TheVariants as reply
 
@@ -17,29 +17,28 @@ module _ (Q : Queue) (by : MemberId) where
       least free e same = let there : 1 ≤ free = grind (arith, nat_tests) in (omega (arith, some, there, same), omega (arith, same))
 
   -- the first Take, and the Takes after it
-  pub takes_more : (at times missing n : ℕ) → 1 ≤ missing → missing ≤ suc times → (step Q by (command.Take missing)).1 ≡ reply.Count n
-      → given_in Q by at (takes (suc times) Q by missing) ≡ entry_of Q by at (command.Take missing) ∷ given_in (step Q by (command.Take missing)).0 by at (takes times (step Q by (command.Take missing)).0 by (missing - n))
-  takes_more at times zero n some le is = absurd (omega (arith, some))
-  takes_more at times (suc missing) n some le is = rw is refl
+  pub take_next : (times missing n : ℕ) → 1 ≤ missing → (step Q by (command.Take missing)).1 ≡ reply.Count n
+      → (takes (suc times) Q by missing ≡ command.Take missing ∷ takes times (step Q by (command.Take missing)).0 by (missing - n)) × (are_refused (suc times) Q by missing ≡ are_refused times (step Q by (command.Take missing)).0 by (missing - n))
+  take_next times zero n some is = absurd (omega (arith, some))
+  take_next times (suc missing) n some is = (rw is refl, rw is refl)
 
-  pub refused_more : (times missing n : ℕ) → 1 ≤ missing → (step Q by (command.Take missing)).1 ≡ reply.Count n → are_refused (suc times) Q by missing ≡ are_refused times (step Q by (command.Take missing)).0 by (missing - n)
-  refused_more times zero n some is = absurd (omega (arith, some))
-  refused_more times (suc missing) n some is = rw is refl
+  pub take_first : (times missing n : ℕ) → 1 ≤ missing → missing ≤ times → (step Q by (command.Take missing)).1 ≡ reply.Count n
+      → (left : ℕ) × (missing - n ≤ left) × (takes times Q by missing ≡ command.Take missing ∷ takes left (step Q by (command.Take missing)).0 by (missing - n)) × (are_refused times Q by missing ≡ are_refused left (step Q by (command.Take missing)).0 by (missing - n))
+  take_first zero missing n some le is = absurd (omega (arith, some, le))
+  take_first (suc times) missing n some le is = let counts = take_counts missing n some is in let next = take_next times missing n some is in (times, omega (arith, le, counts.0), next.0, next.1)
+
+  none_left : (missing : ℕ) (r : Reply) → ((n : ℕ) → r ≡ reply.Count n → ⊥) → left_after missing r ≡ None
+  none_left missing (reply.Count n) other = absurd (other n refl)
+  none_left missing _ other = refl
 
   -- a Take that is refused is the last one
-  pub takes_last : (at times missing : ℕ) → 1 ≤ missing → left_after missing (step Q by (command.Take missing)).1 ≡ None → given_in Q by at (takes (suc times) Q by missing) ≡ entry_of Q by at (command.Take missing) ∷ []
-  takes_last at times zero some is = absurd (omega (arith, some))
-  takes_last at times (suc missing) some is = rw is refl
-
-  pub refused_last : (times missing : ℕ) → 1 ≤ missing → left_after missing (step Q by (command.Take missing)).1 ≡ None → are_refused (suc times) Q by missing ≡ true
-  refused_last times zero some is = absurd (omega (arith, some))
-  refused_last times (suc missing) some is = rw is refl
+  pub take_last : (times missing : ℕ) → 1 ≤ times → 1 ≤ missing → ((n : ℕ) → (step Q by (command.Take missing)).1 ≡ reply.Count n → ⊥) → (takes times Q by missing ≡ command.Take missing ∷ []) × (are_refused times Q by missing ≡ true)
+  take_last zero missing some some' other = absurd (omega (arith, some))
+  take_last (suc times) zero some some' other = absurd (omega (arith, some'))
+  take_last (suc times) (suc missing) some some' other = let is = none_left (suc missing) (step Q by (command.Take (suc missing))).1 other in (rw is refl, rw is refl)
 
   -- nothing is missing
-  pub takes_none : (at times : ℕ) → given_in Q by at (takes times Q by 0) ≡ []
-  takes_none at zero = refl
-  takes_none at (suc times) = refl
-
-  pub refused_none : (times : ℕ) → are_refused times Q by 0 ≡ false
-  refused_none zero = refl
-  refused_none (suc times) = refl
+  pub take_none : (times missing : ℕ) → missing ≡ 0 → (takes times Q by missing ≡ []) × (are_refused times Q by missing ≡ false)
+  take_none zero missing none = (refl, refl)
+  take_none (suc times) zero none = (refl, refl)
+  take_none (suc times) (suc missing) none = absurd (omega (arith, none))

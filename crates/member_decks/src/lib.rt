@@ -7,6 +7,6 @@ mod opening;
 mod spooling;
 
 pub use examples::examples_of_deck_steps;
-pub use keeping::{finishing, give_up, keep_batch, last_lines};
+pub use keeping::{finishing, give_up, last_lines};
 pub use opening::Opened;
 pub use spooling::SpoolError;

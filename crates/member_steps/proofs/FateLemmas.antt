@@ -75,13 +75,15 @@ step_append : (one two : List Batch) (t : ℕ) (m : MemberId) (s : ℕ) → Step
 step_append [] two t m s a b = b
 step_append (c ∷ one) two t m s a b = (a.0, step_append one two t m s a.1 b)
 
--- also later, and once one more batch is kept
+-- also later
 pub tell_later : (lines : List (List ℕ)) (batches : List Batch) (now t : ℕ) → now ≤ t → TellKept lines batches now → TellKept lines batches t
 tell_later lines batches now t le all = All-weaker (IsTold batches now) (IsTold batches t) (λ line told m s closes. step_later batches now t m s le (told m s closes)) lines all
 
-pub tell_push : (lines : List (List ℕ)) (batches : List Batch) (now t : ℕ) (b : Batch) → now ≤ t → TellKept lines batches now → TellKept lines (batches ++ fated Kept t b ∷ []) t
-tell_push lines batches now t b le all = All-weaker (IsTold batches now) (IsTold (batches ++ fated Kept t b ∷ []) t)
-    (λ line told m s closes. step_append batches (fated Kept t b ∷ []) t m s (step_later batches now t m s le (told m s closes)) ((λ has. (refl, omega arith)), tt)) lines all
+-- also after a call that kept one more
+pub tell_out : (lines : List (List ℕ)) (front batches : List Batch) (placed : Bool) (current : Option Batch) (b : Batch) (old now : ℕ) → old ≤ now → placed ≡ false → current ≡ None → HasKept front (end_of placed current batches) b now → TellKept lines front old → TellKept lines batches now
+tell_out lines front batches placed current b old now le unplaced none kept all =
+    subst (λ (bs : List Batch). TellKept lines bs now) (sym (sym (none_out batches batches placed current refl unplaced none) ∙ kept.3))
+    (All-weaker (IsTold front old) (IsTold (front ++ fated Kept kept.0 b ∷ []) now) (λ line told m s closes. step_append front (fated Kept kept.0 b ∷ []) now m s (step_later front old now m s le (told m s closes)) ((λ has. (refl, kept.2)), tt)) lines all)
 
 -- THE LINES OF A STEP tell no earlier step, and no other member's
 

@@ -1,6 +1,7 @@
 pub mod Codes
 pub mod CountLemmas
 pub mod FateLemmas
+pub mod KeepLemmas
 pub mod LineLemmas
 pub mod LowCopies
 pub mod NoteLemmas

@@ -1,5 +1,5 @@
 -- A step that gives a command, by how it ended.
-use Rattle.std.proofs.Common.{OnOk, IfOk, ◌≡◌, inl, inr, ℕ, ◌+◌, ◌≤◌, ◌++◌, Bool, true, false, List, [], ◌∷◌, length, map, take, Option, None, Result, Ok, Err, All, append-nil, refl, sym, ◌∙◌, ap, subst, arith}
+use Rattle.std.proofs.Common.{OnOk, IfOk, ◌≡◌, inl, inr, ℕ, ◌+◌, ◌≤◌, ◌++◌, Bool, true, false, List, [], ◌∷◌, length, Option, None, Result, Ok, Err, All, append-nil, refl, sym, ◌∙◌, ap, subst, arith}
 use Rattle.std.proofs.lemmas.List.Elements.{All-nil, All-cons, All-append, All-weaker}
 use Rattle.mas_types.specs.declared.commands.Command.{Command}
 use Rattle.mas_types.specs.declared.journals.Batch.{Batch}
@@ -19,15 +19,13 @@ use Rattle.member_node.specs.Leaving.{OthersLeaveTexts, ToldAreTheirOwn}
 use Rattle.mas_complex.specs.Texts.{Spools, HasTexts}
 use Rattle.member_node.specs.Given.{is_plain}
 use Rattle.mas_types.specs.declared.queues.Queue.{Queue}
-use Rattle.spool_plant.specs.declared.plant.Part.TheVariants.{Console}
-use Rattle.spool_plant.specs.View.{View, Line}
+use Rattle.spool_plant.specs.View.{View}
 use Rattle.mas_complex.specs.Crash.{IsUntold, setting}
-use Rattle.mas_complex.specs.Headline.{whole}
 use Rattle.mas_complex.specs.Journals.{StepIsKept, fated, in_flight, kept_all, with_last}
 use Rattle.mas_complex.specs.Meaning.{run}
 use Rattle.mas_complex.specs.Paper.{MayBegin}
 use Rattle.mas_complex.proofs.Batches.{one_begins, with_last-append}
-use Rattle.mas_complex.specs.CallCounts.{pair_at}
+use Rattle.mas_complex.specs.CallCounts.{PairState, pair_at}
 use Rattle.mas_complex.specs.Parts.{Parts}
 use Rattle.member_node.specs.declared.checkpoint.Checkpoint.{Checkpoint}
 use Rattle.member_node.specs.declared.checkpoint.Draft.{Draft}
@@ -37,110 +35,66 @@ use Rattle.member_node.specs.declared.member.NodeNo.TheVariants.{BothLost, Halte
 use Rattle.member_node.specs.Batches.{CanDraw, HasDone, level_with}
 use Rattle.member_node.specs.Calls.{console_now}
 use Rattle.member_node.specs.Drawn.{AreDrawn}
-use Rattle.member_node.specs.Writes.{HasKept, IsWrite, journal_at}
+use Rattle.member_node.specs.Writes.{HasKept, journal_at}
 use Rattle.member_node.proofs.DrawnLemmas.{drawn_level}
 use Rattle.member_node.proofs.AgeLemmas.{aged_as, drawn_aged, level_as}
-use Rattle.member_node.proofs.CourseLemmas.{course_none, course_then, only_none, only_on, papers_none, papers_on, rose_later, wires_none, wires_then}
+use Rattle.member_node.proofs.CourseLemmas.{course_then, only_on, papers_on, wires_then}
 use Rattle.member_node.proofs.EntryLemmas.{nothing_done}
-use Rattle.member_node.proofs.SpareLemmas.{spares_none, spares_then}
+use Rattle.member_node.proofs.SpareLemmas.{spares_then}
 use Rattle.member_node.proofs.TextLemmas.{plain_brings, texts_after}
 use Rattle.member_node.proofs.WriteLemmas.{run_append}
-use Rattle.member_steps.specs.Saying.{Breaks, HaveSaid}
-use Rattle.member_steps.specs.Steps.{AreAllKept, IsKeptBy, IsBetween, IsStep, entry_of, entry_with}
-use Rattle.member_steps.proofs.SayLemmas.{console_course}
+use Rattle.member_node.specs.Spares.{stopped_in}
+use Rattle.member_steps.specs.Keeping.{IsOnCopies, KeepLeaves}
+use Rattle.member_steps.specs.Saying.{HaveSaid, SayCauses}
+use Rattle.member_steps.specs.Steps.{AreAllKept, IsKeptBy, IsBetween, IsStep, StepLeaves, entry_of, entry_with}
+use Rattle.member_steps.proofs.KeepLemmas.{causes_then, copy_causes}
+use Rattle.member_steps.proofs.SayLemmas.{console_course, said_none, said_on, say_causes}
 
 -- THE STEP
 
-module _ (told : Type 0) (lines : List (List ℕ)) (b : Batch) (front batches : List Batch) where
+module _ (told : Type 0) (lines : List (List ℕ)) (b : Batch) (front batches : List Batch) (x y : PairState) where
   abbrev by : ℕ
   by = b.by.0
 
-  -- nothing was done
-  pub step_unplayed : (is1 is2 : Bool) (v : View) → batches ≡ front → IsStep {T = Unit {0}} told lines b (journal_at front (pair_at is1 is2 v)) (journal_at batches (pair_at is1 is2 v)) (Err NoMemory)
-  step_unplayed is1 is2 v none = record {
-    course = course_none is1 is2 v;
-    loses = λ t d. refl;
-    cause = inr (refl, refl);
-    spares = spares_none by v;
-    journal = none;
-    others = λ t. only_none v;
-    papers = λ t. papers_none v;
-    wires = λ t. wires_none v;
-    console = λ t. refl;
-  }
+  -- the batch wasn't kept
+  pub step_unkept : (e : NodeNo) → IsOnCopies {T = Unit {0}} told by x y (Err e) → KeepLeaves {T = Unit {0}} (Err e) front batches b y.view.now → IsStep {T = Unit {0}} told lines b (journal_at front x) (journal_at batches y) (Err e)
+  step_unkept e acts leaves = record {
+    course = acts.course;
+    loses = acts.loses;
+    cause = copy_causes (Err e) by x y acts.cause;
+    spares = acts.spares;
+    journal = (left e leaves).0;
+    others = λ t. (acts.apart t).others;
+    papers = λ t. (acts.apart t).papers;
+    wires = λ t. (acts.apart t).wires;
+    console = λ t. said_none _ lines (console_now x.view) (console_now y.view) e (left e leaves).1 (acts.apart t).console;
+  } where
+    left : (e : NodeNo) → KeepLeaves {T = Unit {0}} (Err e) front batches b y.view.now → StepLeaves {T = Unit {0}} (Err e) front batches b y.view.now × (e ≡ ConsoleFault → ⊥)
+    left Halted flies = (inl flies, λ is. absurd (cc))
+    left ConsoleFault never = absurd never
+    left _ leaves = (leaves, λ is. absurd (cc))
 
-  module _ (was1 is1 was2 is2 : Bool) (v0 v1 : View) where
-    -- the batch wasn't kept
-    pub step_unwritten : (e : NodeNo) → IsWrite {T = Unit {0}} told by b (journal_at front (pair_at was1 was2 v0)) (journal_at batches (pair_at is1 is2 v1)) (Err e) → IsStep {T = Unit {0}} told lines b (journal_at front (pair_at was1 was2 v0)) (journal_at batches (pair_at is1 is2 v1)) (Err e)
-    step_unwritten ConsoleFault write = absurd write.cause
-    step_unwritten NoMemory write = absurd write.cause
-    step_unwritten BothLost write = record {
-      course = write.course;
-      loses = λ t d. write.loses d;
-      cause = write.cause;
-      spares = write.spares;
-      journal = inr write.journal;
-      others = λ t. (write.apart t).others;
-      papers = λ t. (write.apart t).papers;
-      wires = λ t. (write.apart t).wires;
-      console = λ t. (write.apart t).console;
-    }
-    step_unwritten Halted write = record {
-      course = write.course;
-      loses = λ t d. write.loses d;
-      cause = write.cause;
-      spares = write.spares;
-      journal = inr (inl write.journal);
-      others = λ t. (write.apart t).others;
-      papers = λ t. (write.apart t).papers;
-      wires = λ t. (write.apart t).wires;
-      console = λ t. inl (write.apart t).console;
-    }
+  -- the batch was kept, and its lines were said
+  pub step_told : IsOnCopies {T = Unit {0}} told by x y (Ok tt) → HasKept front batches b y.view.now → (w : View) (r : Result (Unit {0}) NodeNo) → HaveSaid told by lines y.view w r → IsStep told lines b (journal_at front x) (journal_at batches (pair_at y.first y.second w)) r
+  step_told acts kept w r said = record {
+    course = course_then x.first y.first y.first x.second y.second y.second x.view y.view w acts.course (console_course told y.first y.second y.view w said.acts);
+    loses = λ t d. said.acts.loses d ∙ acts.loses t d;
+    cause = causes_then r by x.first y.first y.first x.second y.second y.second x.view y.view w acts.cause acts.course.goes (say_causes r by y w said.cause);
+    spares = spares_then by (stopped_in r) x.view y.view w acts.spares said.spares;
+    journal = left r said.cause;
+    others = λ t. only_on x.view y.view w acts.course.goes.later said.acts.goes (acts.apart t).others (said.acts.others t);
+    papers = λ t. papers_on x.view y.view w acts.course.goes.later said.acts.goes (acts.apart t).papers (said.acts.papers t);
+    wires = λ t. wires_then x.view y.view w (acts.apart t).wires (said.acts.wires t);
+    console = λ t. said_on (Unit {0}) (HasKept front batches b w.now) lines (console_now x.view) (console_now y.view) (console_now w) r (acts.apart t).console (λ u. still) (said.console t);
+  } where
+    still : HasKept front batches b w.now
+    still = let later = said.acts.goes.later in (kept.0, kept.1, omega (arith, kept.2, later), kept.3)
 
-    -- the batch was kept, and its lines were said
-    module _ (write : IsWrite {T = Unit {0}} told by b (journal_at front (pair_at was1 was2 v0)) (journal_at batches (pair_at is1 is2 v1)) (Ok tt)) (v2 : View) where
-      kept_then : v1.now ≤ v2.now → HasKept front batches b v2.now
-      kept_then later = let k : HasKept front batches b v1.now = write.journal in (k.0, k.1, omega (arith, k.2, later), k.3)
-
-      console_then : told → (n : ℕ) → console_now v2 ≡ console_now v1 ++ map whole (take n lines) → console_now v2 ≡ console_now v0 ++ map whole (take n lines)
-      console_then t n is = is ∙ ap (λ (l : List Line). l ++ map whole (take n lines)) (write.apart t).console
-
-      pub step_told : (r : Result (Unit {0}) NodeNo) → HaveSaid told by lines v1 v2 r → IsStep told lines b (journal_at front (pair_at was1 was2 v0)) (journal_at batches (pair_at is1 is2 v2)) r
-      step_told (Err BothLost) said = absurd said.cause
-      step_told (Err NoMemory) said = absurd said.cause
-      step_told (Ok done) said = record {
-        course = course_then was1 is1 is1 was2 is2 is2 v0 v1 v2 write.course (console_course told is1 is2 v1 v2 said.acts);
-        loses = λ t d. said.acts.loses d ∙ write.loses d;
-        cause = write.cause;
-        spares = spares_then by false v0 v1 v2 write.spares said.spares;
-        journal = kept_then said.acts.goes.later;
-        others = λ t. only_on v0 v1 v2 write.course.goes.later said.acts.goes (write.apart t).others (said.acts.others t);
-        papers = λ t. papers_on v0 v1 v2 write.course.goes.later said.acts.goes (write.apart t).papers (said.acts.papers t);
-        wires = λ t. wires_then v0 v1 v2 (write.apart t).wires (said.acts.wires t);
-        console = λ t. said.console t ∙ ap (λ (l : List Line). l ++ map whole lines) (write.apart t).console;
-      }
-      step_told (Err ConsoleFault) said = record {
-        course = course_then was1 is1 is1 was2 is2 is2 v0 v1 v2 write.course (console_course told is1 is2 v1 v2 said.acts);
-        loses = λ t d. said.acts.loses d ∙ write.loses d;
-        cause = (write.cause, rose_later (v0.faults Console) (v1.faults Console) (v2.faults Console) (write.course.goes.faults Console) said.cause);
-        spares = spares_then by false v0 v1 v2 write.spares said.spares;
-        journal = kept_then said.acts.goes.later;
-        others = λ t. only_on v0 v1 v2 write.course.goes.later said.acts.goes (write.apart t).others (said.acts.others t);
-        papers = λ t. papers_on v0 v1 v2 write.course.goes.later said.acts.goes (write.apart t).papers (said.acts.papers t);
-        wires = λ t. wires_then v0 v1 v2 (write.apart t).wires (said.acts.wires t);
-        console = λ t. let some = said.console t in (some.0, some.1, console_then t some.0 some.2);
-      }
-      step_told (Err Halted) said = record {
-        course = course_then was1 is1 is1 was2 is2 is2 v0 v1 v2 write.course (console_course told is1 is2 v1 v2 said.acts);
-        loses = λ t d. said.acts.loses d ∙ write.loses d;
-        cause = (write.cause, rose_later (v0.stops by) (v1.stops by) (v2.stops by) (write.course.goes.stops by) said.cause);
-        spares = spares_then by true v0 v1 v2 write.spares said.spares;
-        journal = inr (inr (kept_then said.acts.goes.later));
-        others = λ t. only_on v0 v1 v2 write.course.goes.later said.acts.goes (write.apart t).others (said.acts.others t);
-        papers = λ t. papers_on v0 v1 v2 write.course.goes.later said.acts.goes (write.apart t).papers (said.acts.papers t);
-        wires = λ t. wires_then v0 v1 v2 (write.apart t).wires (said.acts.wires t);
-        console = λ t. let some = said.console t in inr (kept_then said.acts.goes.later, some.0, some.1, subst (λ (l : List Line). Breaks some.0 lines l (console_now v2)) (write.apart t).console some.2);
-      }
+    left : (r : Result (Unit {0}) NodeNo) → SayCauses r by y.view w → StepLeaves r front batches b w.now
+    left (Err Halted) cause = inr still
+    left (Err BothLost) cause = absurd cause
+    left (Err NoMemory) cause = absurd cause
+    left _ cause = still
 
 -- BEFORE AND AFTER A STEP
 

@@ -1,4 +1,5 @@
 pub mod Counting
+pub mod Keeping
 pub mod Noting
 pub mod Saying
 pub mod Steps

@@ -1,5 +1,5 @@
 -- Lines that a member says one after another.
-use Rattle.std.specs.Prelude.{◌≡◌, ◌⊎◌, ℕ, suc, ◌<◌, false, List, [], ◌∷◌, ◌++◌, length, map, take, All, Result, Ok, Err}
+use Rattle.std.specs.Prelude.{◌≡◌, ◌⊎◌, ℕ, ◌+◌, ◌≤◌, ◌<◌, false, List, [], ◌∷◌, ◌++◌, length, map, take, All, Option, Some, None, Result, Ok, Err}
 use Rattle.mas_types.specs.declared.ids.Dev.{Dev}
 use Rattle.mas_types.specs.declared.ids.MemberId.{MemberId}
 use Rattle.mas_types.specs.declared.journals.Batch.{Batch}
@@ -22,21 +22,37 @@ TellKept lines batches now = All (λ line. (m : MemberId) (s : ℕ) → Closes l
 abbrev pub torn : List ℕ → Line
 torn text = record { text = text; whole = false }
 
--- after a front of the lines stands nothing, the next one torn, or the next one
-abbrev pub Breaks : ℕ → List (List ℕ) → List Line → List Line → Type 0
-Breaks n lines was now =
-    (now ≡ was ++ map whole (take n lines))
-    ⊎ ((text : List ℕ) × (now ≡ (was ++ map whole (take n lines)) ++ torn text ∷ []))
-    ⊎ (now ≡ was ++ map whole (take (suc n) lines))
+-- what was said of lines: so many whole, and this text torn after them
+pub record Said : Type 0 where
+  pub lines : ℕ
+  pub torn : Option (List ℕ)
 
--- What is added to the console, by the answer: all the lines, or those before the one at which the console failed or
--- the member was stopped.
-abbrev pub Adds : {T : Type 0} → Result T NodeNo → List (List ℕ) → List Line → List Line → Type 0
-Adds (Ok done) lines was now = now ≡ was ++ map whole lines
-Adds (Err ConsoleFault) lines was now = (n : ℕ) × (n < length lines) × (now ≡ was ++ map whole (take n lines))
-Adds (Err Halted) lines was now = (n : ℕ) × (n < length lines) × Breaks n lines was now
-Adds (Err BothLost) lines was now = ⊥
-Adds (Err NoMemory) lines was now = ⊥
+abbrev pub said_nothing : Said
+said_nothing = record { lines = 0; torn = None }
+
+abbrev pub torn_line : Option (List ℕ) → List Line
+torn_line None = []
+torn_line (Some text) = torn text ∷ []
+
+abbrev pub said_of : Said → List (List ℕ) → List Line
+said_of s lines = map whole (take s.lines lines) ++ torn_line s.torn
+
+-- What was said of the lines, by the answer: all of them, or those before the one at which the console failed or the
+-- member was stopped.
+abbrev pub SaidBy : {T : Type 0} → Result T NodeNo → List (List ℕ) → Said → Type 0
+SaidBy (Ok done) lines s = s ≡ record { lines = length lines; torn = None }
+SaidBy (Err NoMemory) lines s = s ≡ said_nothing
+SaidBy (Err BothLost) lines s = s ≡ said_nothing
+SaidBy (Err ConsoleFault) lines s = (s.lines < length lines) × (s.torn ≡ None)
+SaidBy (Err Halted) lines s = s.lines + length (torn_line s.torn) ≤ length lines
+
+-- Of these lines some were said by the answer, and none before this held.
+pub record HasSaid {T : Type 0} (kept : Type 0) (lines : List (List ℕ)) (was now : List Line)
+    (result : Result T NodeNo) : Type 0 where
+  pub said : Said
+  pub is : now ≡ was ++ said_of said lines
+  pub by_answer : SaidBy result lines said
+  pub once_kept : (said ≡ said_nothing) ⊎ kept
 
 -- the cause of an answer
 abbrev pub SayCauses : {T : Type 0} → Result T NodeNo → ℕ → View → View → Type 0
@@ -64,4 +80,6 @@ pub record HaveSaid {T : Type 0} (told : Type 0) (by : ℕ) (lines : List (List 
   pub acts : OnConsole told old new
   pub cause : SayCauses result by old new
   pub spares : Spares by (stopped_in result) old new
-  pub console : told → Adds result lines (console_now old) (console_now new)
+  pub console : told → HasSaid (Unit {0}) lines (console_now old) (console_now new) result
+  -- a member is stopped only at a line
+  pub some : result ≡ Err Halted → 1 ≤ length lines

@@ -1,5 +1,5 @@
 -- A member's step that gives a command, by its answer.
-use Rattle.std.specs.Prelude.{◌≡◌, ◌⊎◌, ℕ, ◌≤◌, ◌<◌, Bool, false, List, [], ◌∷◌, ◌++◌, length, map, take, All, Option, None, Result, Ok, Err}
+use Rattle.std.specs.Prelude.{◌≡◌, ◌⊎◌, ℕ, ◌≤◌, ◌<◌, Bool, false, List, [], ◌∷◌, length, All, Option, None, Result, Ok, Err}
 use Rattle.mas_types.specs.declared.ids.Dev.{Dev}
 use Rattle.mas_types.specs.declared.ids.MemberId.{MemberId}
 use Rattle.mas_types.specs.declared.ids.Page.{Page}
@@ -10,14 +10,12 @@ use Rattle.mas_types.specs.declared.journals.Entry.{Entry}
 use Rattle.mas_types.specs.declared.journals.Fate.TheVariants.{Kept}
 use Rattle.mas_types.specs.declared.queues.Queue.{Queue}
 use Rattle.spool_plant.specs.declared.plant.Part.TheVariants.{Console}
-use Rattle.spool_plant.specs.View.{View, Line}
 use Rattle.spool_plant.specs.Acts.{Rose, SameWires}
 use Rattle.duplex_pair.specs.Halves.{IsBothLost}
 use Rattle.ckpt_tables.specs.declared.tables.Tables.{Tables}
 use Rattle.queue_telling.specs.Orders.{HaveOrders}
 use Rattle.queue_telling.specs.Telling.{Tell, TellSound}
 use Rattle.member_node.specs.Standing.{AreFit}
-use Rattle.mas_complex.specs.Headline.{whole}
 use Rattle.mas_complex.specs.Journals.{kept_all}
 use Rattle.mas_complex.specs.Meaning.{step, run}
 use Rattle.mas_complex.specs.Paper.{SamePapers}
@@ -31,7 +29,7 @@ use Rattle.member_node.specs.Drawn.{AreDrawn}
 use Rattle.member_node.specs.Spares.{Spares, stopped_in}
 use Rattle.mas_types.specs.Closings.{reply_lines}
 use Rattle.member_node.specs.Writes.{HasKept, HasFlying, JournalState}
-use Rattle.member_steps.specs.Saying.{Breaks}
+use Rattle.member_steps.specs.Saying.{HasSaid}
 
 -- WHAT A STEP GIVES
 
@@ -115,23 +113,14 @@ StepCauses (Err ConsoleFault) by old new = IsLeft old.first new.first old.second
 StepCauses (Err Halted) by old new = IsLeft old.first new.first old.second new.second
     × Rose (old.view.stops by) (new.view.stops by)
 
--- The batch is kept where all lines are said, or where the console failed at one. Where both copies were lost it is in
--- flight, or isn't begun; where the member was stopped it is either of these.
+-- The batch is kept where all lines are said, or where the console failed at one. Out of memory it isn't begun, and
+-- where both copies were lost it is in flight. Where the member was stopped it is in flight, or kept.
 abbrev pub StepLeaves : {T : Type 0} → Result T NodeNo → List Batch → List Batch → Batch → ℕ → Type 0
 StepLeaves (Ok done) front batches b now = HasKept front batches b now
 StepLeaves (Err NoMemory) front batches b now = batches ≡ front
-StepLeaves (Err BothLost) front batches b now = (batches ≡ front) ⊎ HasFlying front batches b
+StepLeaves (Err BothLost) front batches b now = HasFlying front batches b
 StepLeaves (Err ConsoleFault) front batches b now = HasKept front batches b now
-StepLeaves (Err Halted) front batches b now = (batches ≡ front) ⊎ HasFlying front batches b
-    ⊎ HasKept front batches b now
-
--- What is added to the console: nothing before the batch is kept.
-abbrev pub StepTells : {T : Type 0} → Result T NodeNo → List (List ℕ) → Type 0 → List Line → List Line → Type 0
-StepTells (Ok done) lines kept was now = now ≡ was ++ map whole lines
-StepTells (Err NoMemory) lines kept was now = now ≡ was
-StepTells (Err BothLost) lines kept was now = now ≡ was
-StepTells (Err ConsoleFault) lines kept was now = (n : ℕ) × (n < length lines) × (now ≡ was ++ map whole (take n lines))
-StepTells (Err Halted) lines kept was now = (now ≡ was) ⊎ (kept × (n : ℕ) × (n < length lines) × Breaks n lines was now)
+StepLeaves (Err Halted) front batches b now = HasFlying front batches b ⊎ HasKept front batches b now
 
 -- A step whose commands are this batch, and which closes with these lines, after the batches of a journal. Nothing is
 -- printed in it, and nothing moves on the wires.
@@ -145,5 +134,5 @@ pub record IsStep {T : Type 0} (told : Type 0) (lines : List (List ℕ)) (b : Ba
   pub others : told → IsOnlyOn old.pair.view new.pair.view
   pub papers : told → SamePapers old.pair.view new.pair.view
   pub wires : told → SameWires old.pair.view new.pair.view
-  pub console : told → StepTells result lines (HasKept old.batches new.batches b new.pair.view.now)
-      (console_now old.pair.view) (console_now new.pair.view)
+  pub console : told → HasSaid (HasKept old.batches new.batches b new.pair.view.now) lines (console_now old.pair.view)
+      (console_now new.pair.view) result

@@ -17,6 +17,7 @@ ghost use Rattle.mas_complex.specs.Parts.{parts_of};
 ghost use Rattle.mas_complex.specs.Begins.{HasTextsWith, IsUntoldOf, MayBeginOf, kept_queue};
 ghost use Rattle.member_node.specs.Writes.{journal_at};
 
+use crate::keeping::keep_batch;
 use crate::telling::tell_lines;
 use mas_complex::{Complex, Steady};
 use mas_types::Lines;
@@ -85,9 +86,6 @@ pub fn play_batch<P: Plant + Drop, C: Steady + Drop>(
     ensures notes { KeepsNotes complex.old complex.new member.old member.new result }
     ensures counts { HasCounted member.old.id member.old.batch complex.old.printed complex.new.printed result }
 {
-    let Ok(draft) = member.ready(alloc, complex) else {
-        return Err(NodeNo::NoMemory);
-    };
-    member.write(complex, &draft)?;
+    keep_batch(member, alloc, complex)?;
     tell_lines(member, complex, lines)
 }

@@ -3,11 +3,13 @@
 #![tactic(auto)]
 
 mod batches;
+mod keeping;
 mod laws;
 mod playing;
 mod telling;
 
 pub use batches::play_batch;
+pub use keeping::keep_batch;
 pub use laws::law_of_told_steps;
 pub use member_node::{Member, NodeNo};
 pub use playing::give;

@@ -1,10 +1,9 @@
-use Rattle.member_decks.proofs.Names.{inl, [], refl, arith, begun, end_of, none_out, values_of, counted_error, counted_up, notes_none, pair_state, parts_of}
+use Rattle.member_decks.proofs.Names.{inl, [], refl, arith, begun, none_out, values_of, counted_error, counted_up, notes_none}
 use Rattle.member_decks.proofs.KeepLemmas.{copies_none, up_copies, up_kept, up_unkept}
 use Rattle.member_decks.proofs.keeping.give_up.Goals as goal
 
 pub returns-then-len-eq0-clause-acts : goal.returns-then-len-eq0-clause-acts
-returns-then-len-eq0-clause-acts g c =
-    copies_none g.P.Plant.tells c.args.member.now.id.0 (pair_state g.P.Plant.view (parts_of c.args.complex.now))
+returns-then-len-eq0-clause-acts g c = copies_none _ _ _
 
 pub returns-then-len-eq0-clause-leaves : goal.returns-then-len-eq0-clause-leaves
 returns-then-len-eq0-clause-leaves g c =
@@ -12,21 +11,13 @@ returns-then-len-eq0-clause-leaves g c =
     inl (none_out x.journal.batches x.journal.batches x.placed x.current refl c.requires.unplaced c.requires.none)
 
 pub returns-in-Ok-clause-acts : goal.returns-in-Ok-clause-acts
-returns-in-Ok-clause-acts g c =
-    let P = g.P.Plant in
-    up_copies P.tells c.args.member.now.id.0 (pair_state P.view (parts_of c.args.complex.now)) (pair_state P.view (parts_of c.keep_batch.new.complex)) c.in-Ok.ensures.acts
+returns-in-Ok-clause-acts g c = up_copies _ _ _ _ c.in-Ok.ensures.acts
 
 pub returns-in-Ok-clause-leaves : goal.returns-in-Ok-clause-leaves
-returns-in-Ok-clause-leaves g c =
-    let x = c.args.complex.now in
-    let z = c.keep_batch.new.complex in
-    up_kept x.journal.batches (end_of z.placed z.current z.journal.batches) (begun (g.P.Plant.view x.plant).now c.args.member.now.id c.args.member.now.batch) (g.P.Plant.view z.plant).now (omega arith) c.in-Ok.ensures.leaves
+returns-in-Ok-clause-leaves g c = up_kept _ _ (begun (g.P.Plant.view c.args.complex.now.plant).now c.args.member.now.id c.args.member.now.batch) _ (omega arith) c.in-Ok.ensures.leaves
 
 pub returns-in-Err-clause-leaves : goal.returns-in-Err-clause-leaves
-returns-in-Err-clause-leaves g c =
-    let x = c.args.complex.now in
-    let z = c.keep_batch.new.complex in
-    up_unkept x.journal.batches (end_of z.placed z.current z.journal.batches) (begun (g.P.Plant.view x.plant).now c.args.member.now.id c.args.member.now.batch) (g.P.Plant.view z.plant).now (omega arith) c.in-Err.no c.in-Err.ensures.leaves
+returns-in-Err-clause-leaves g c = up_unkept _ _ (begun (g.P.Plant.view c.args.complex.now.plant).now c.args.member.now.id c.args.member.now.batch) _ (omega arith) _ c.in-Err.ensures.leaves
 
 -- THE COUNTS OF PRINTED LINES
 

@@ -1,4 +1,4 @@
-use Rattle.std.proofs.Common.{◌≡◌, ◌∙◌, ℕ, ◌≤◌, not, ap, sym, arith}
+use Rattle.std.proofs.Common.{◌≡◌, ◌∙◌, ℕ, ◌-◌, ◌≤◌, [], ◌∷◌, not, true, ap, refl, subst, sym, arith}
 use Rattle.std.proofs.lemmas.Result.{err_from_is_err_and}
 use Rattle.mas_types.specs.declared.commands.Command.TheVariants as command
 use Rattle.mas_types.specs.declared.commands.Reply.TheVariants as reply
@@ -9,25 +9,26 @@ use Rattle.queue_telling.specs.Telling.{Tell}
 use Rattle.mas_complex.specs.Meaning.{step}
 use Rattle.member_steps.specs.Steps.{entry_of}
 use Rattle.member_steps.proofs.StepLemmas.{if_ok}
-use Rattle.member_decks.specs.Decks.{are_refused}
-use Rattle.member_decks.proofs.OpenLemmas.{all_last, all_more, all_none, named_push, reply_done, taking_last, taking_more, taking_none, taking_wanted, tells_some}
-use Rattle.member_decks.proofs.TakeLemmas.{take_counts}
+use Rattle.mas_types.specs.declared.ids.MemberId.{MemberId}
+use Rattle.member_decks.specs.Decks.{are_refused, given_in, takes}
+use Rattle.member_decks.specs.Taking.{GivesOn}
+use Rattle.member_decks.proofs.OpenLemmas.{gives_none, gives_one, gives_same, gives_then, named_push, reply_done, taking_wanted, tells_some}
+use Rattle.member_decks.proofs.TakeLemmas.{take_counts, take_first, take_last, take_none}
 use Rattle.member_opening.proofs.opening.+take_groups.Goals as goal
 
 pub returns-then-missing-eq0-clause-taking : goal.returns-then-missing-eq0-clause-taking
 returns-then-missing-eq0-clause-taking t c Q times le told =
     let m = c.args.member.now in
-    taking_none Q m.id c.args.step times c.args.missing (omega arith) m _ told
+    gives_same Q m.id c.args.step [] _ m m _ (take_none Q m.id times c.args.missing (omega arith)).0 (gives_none Q m _ told)
 
 pub returns-then-missing-eq0-clause-all : goal.returns-then-missing-eq0-clause-all
-returns-then-missing-eq0-clause-all t c Q times le told = all_none Q c.args.member.now.id c.args.step times c.args.missing (omega arith)
+returns-then-missing-eq0-clause-all t c Q times le told = ap not (sym (take_none Q c.args.member.now.id times c.args.missing (omega arith)).1)
 
 pub returns-in_err-do_command-clause-taking : goal.returns-in_err-do_command-clause-taking
 returns-in_err-do_command-clause-taking t c Q times le told =
     let m = c.args.member.now in
-    let n = c.do_command.new.self in
     let p = err_from_is_err_and c.from_residual.result c.from_residual.ensures.1 in
-    rw (p.1, p.2) (taking_wanted Q m.id c.args.step times c.args.missing m n _ (omega arith) le told c.in_err-do_command.ensures.err)
+    rw (p.1, p.2, c.in_err-do_command.ensures.err) (taking_wanted Q m.id c.args.step times c.args.missing m _ (omega arith) le told)
 
 pub overflow_sub-missing : goal.overflow_sub-missing
 overflow_sub-missing t c =
@@ -70,8 +71,11 @@ returns-in-Count-clause-taking t c Q times le told =
     let d = c.in_ok-do_command.ensures in
     let e = entry_of Q m.id c.args.step (command.Take c.args.missing) in
     let got : e.reply ≡ reply.Count c.in-Count.taken = reply_done m.batch n.batch e c.last_reply.result.now (d.entry Q told) c.last_reply.ensures ∙ c.in-Count.is in
-    taking_more Q m.id c.args.step c.args.missing (omega arith) c.in-Count.taken got c.law_of_texts.ensures.texts c.law_of_texts.ensures.told times m n l c.take_groups.result d.id le (d.entry Q told) told
-    (λ s. d.sound s (ap (λ (k : Config). is_member k m.id) s.told.config ∙ c.requires.member)) (λ ts fewer. c.take_groups.ensures.taking _ ts fewer (d.effect Q told))
+    let c1 = command.Take c.args.missing in
+    let next = take_first Q m.id times c.args.missing c.in-Count.taken (omega arith) le got in
+    gives_same Q m.id c.args.step _ _ m l c.take_groups.result next.2
+    (gives_then Q m.id c.args.step (c1 ∷ []) _ m n l true c.take_groups.result (λ s. d.sound s (ap (λ (k : Config). is_member k m.id) s.told.config ∙ c.requires.member)) (gives_one c.law_of_texts.ensures.texts c.law_of_texts.ensures.told Q m.id c.args.step c1 m n true refl (d.entry Q told) told (d.effect Q told))
+    (subst (λ (i : MemberId). GivesOn (step Q m.id c1).0 (given_in (step Q m.id c1).0 i c.args.step (takes next.0 (step Q m.id c1).0 i (c.args.missing - c.in-Count.taken))) n l c.take_groups.result) d.id (c.take_groups.ensures.taking _ next.0 next.1 (d.effect Q told))))
 
 pub returns-in-Count-clause-all : goal.returns-in-Count-clause-all
 returns-in-Count-clause-all t c =
@@ -82,7 +86,8 @@ returns-in-Count-clause-all t c =
     (λ all rest Q times le told.
     let e = entry_of Q m.id c.args.step (command.Take c.args.missing) in
     let got : e.reply ≡ reply.Count c.in-Count.taken = reply_done m.batch n.batch e c.last_reply.result.now (d.entry Q told) c.last_reply.ensures ∙ c.in-Count.is in
-    all_more Q m.id c.args.step c.args.missing (omega arith) c.in-Count.taken got all n.id times d.id le (λ ts fewer. rest _ ts fewer (d.effect Q told)))
+    let next = take_first Q m.id times c.args.missing c.in-Count.taken (omega arith) le got in
+    rest _ next.0 next.1 (d.effect Q told) ∙ ap (λ (i : MemberId). not (are_refused next.0 (step Q m.id (command.Take c.args.missing)).0 i (c.args.missing - c.in-Count.taken))) d.id ∙ ap not (sym next.3))
     c.take_groups.ensures.all
 
 pub returns-in-Count-clause-named : goal.returns-in-Count-clause-named
@@ -129,8 +134,8 @@ returns-in_default t c =
       level = d.level;
       levels = d.levels;
       pages = d.pages;
-      taking = λ Q times le told. taking_last Q m.id c.args.step c.args.missing (omega arith) (not_count Q told) c.law_of_texts.ensures.texts c.law_of_texts.ensures.told times m n _ le (d.entry Q told) told (d.effect Q told);
-      all = λ Q times le told. all_last Q m.id c.args.step c.args.missing (omega arith) (not_count Q told) times le;
+      taking = λ Q times le told. gives_same Q m.id c.args.step (command.Take c.args.missing ∷ []) _ m n _ (take_last Q m.id times c.args.missing (omega (arith, le)) (omega arith) (not_count Q told)).0 (gives_one c.law_of_texts.ensures.texts c.law_of_texts.ensures.told Q m.id c.args.step (command.Take c.args.missing) m n _ refl (d.entry Q told) told (d.effect Q told));
+      all = λ Q times le told. ap not (sym (take_last Q m.id times c.args.missing (omega (arith, le)) (omega arith) (not_count Q told)).1);
       named = λ all. named_push m.batch n.batch (entry_of s.0 m.id c.args.step (command.Take c.args.missing)) (d.entry s.0 s.1) (d.named s.0 s.1) all;
       done = d.done;
       sound = λ u. d.sound u (ap (λ (k : Config). is_member k m.id) u.told.config ∙ c.requires.member);

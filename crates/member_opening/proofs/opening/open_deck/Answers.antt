@@ -1,4 +1,4 @@
-use Rattle.std.proofs.Common.{◌≡◌, ◌∙◌, true, false, List, ◌++◌, [], ◌∷◌, All, ap, subst, sym, arith}
+use Rattle.std.proofs.Common.{◌≡◌, ◌∙◌, true, false, List, ◌++◌, [], ◌∷◌, All, ap, refl, subst, sym, arith}
 use Rattle.std.proofs.lemmas.List.Elements.{All-nil}
 use Rattle.std.proofs.lemmas.Result.{err_from_is_err_and}
 use Rattle.mas_types.specs.declared.commands.Command.TheVariants as command
@@ -16,8 +16,8 @@ use Rattle.member_node.specs.Batches.{HasDone}
 use Rattle.member_steps.specs.Steps.{entry_of}
 use Rattle.member_steps.proofs.StepLemmas.{only_entry}
 use Rattle.member_decks.specs.Decks.{are_refused, given_in, takes}
-use Rattle.member_decks.proofs.DeckLemmas.{ends_alone, ends_dropped, ends_taken}
-use Rattle.member_decks.proofs.OpenLemmas.{is_not, named_push, not_is, only_named, opening_cut, opening_dropped, opening_got, opening_refused, opening_undropped, opening_wanted, reply_done, tells_some, tells_taken}
+use Rattle.member_decks.proofs.DeckLemmas.{ends_alone, ends_job}
+use Rattle.member_decks.proofs.OpenLemmas.{gives_none, gives_one, gives_wanted, is_not, named_push, not_is, only_named, opening_cut, opening_refused, opening_then, opening_wanted, reply_done, tells_some, tells_taken}
 use Rattle.member_opening.proofs.opening.open_deck.Goals as goal
 
 -- OUT OF MEMORY FOR BEGIN
@@ -55,8 +55,8 @@ returns-in_default c =
       level = d.level;
       levels = d.levels;
       pages = d.pages;
-      opening = λ Q told. opening_refused c.law_of_texts.ensures.texts c.law_of_texts.ensures.told m.id c.args.step c.args.fields c.args.groups Q m.checkpoint.tables told n.checkpoint.tables n.batch _ (not_job Q told)
-          (only_entry m.batch n.batch (entry_of Q m.id c.args.step (command.Begin c.args.fields)) (d.entry Q told) c.requires.nothing) (d.effect Q told);
+      opening = λ Q told. opening_refused c.law_of_texts.ensures.texts c.law_of_texts.ensures.told m.id c.args.step c.args.fields c.args.groups Q m.checkpoint.tables told n
+          (only_entry m.batch n.batch (entry_of Q m.id c.args.step (command.Begin c.args.fields)) (d.entry Q told) c.requires.nothing) (λ s. d.sound s (ap (λ (k : Config). is_member k m.id) s.told.config ∙ c.requires.member)) _ (not_job Q told) (d.effect Q told);
       opened = λ Q told. sym (ends_alone m.id c.args.step c.args.fields c.args.groups Q (not_job Q told));
       named = only_named m.batch n.batch (entry_of s.0 m.id c.args.step (command.Begin c.args.fields)) (d.entry s.0 s.1) c.requires.nothing (d.named s.0 s.1);
       done = λ Q done. d.done Q (subst (λ (es : List Entry). HasDone Q es m.checkpoint) (sym c.requires.nothing) done);
@@ -83,7 +83,7 @@ returns-in_err-take_groups-clause-opening c Q told =
     let one = only_entry m.batch n.batch e (d.entry Q told) c.requires.nothing in
     let sound : TellSound m.checkpoint.tables → TellSound n.checkpoint.tables = λ s. d.sound s (ap (λ (k : Config). is_member k m.id) s.told.config ∙ c.requires.member) in
     let p = err_from_is_err_and c.from_residual-in_err-take_groups.result c.from_residual-in_err-take_groups.ensures.1 in
-    rw (p.1, p.2) (opening_cut others own m.id c.args.step c.args.fields c.args.groups Q m.checkpoint.tables told c.in-Job.job got n l d.id one sound _ (c.in_err-take_groups.ensures.taking Q1 c.args.groups (omega arith) (d.effect Q told)))
+    rw (p.1, p.2) (opening_cut others own m.id c.args.step c.args.fields c.args.groups Q m.checkpoint.tables told n one sound c.in-Job.job got d.id l _ (c.in_err-take_groups.ensures.taking Q1 c.args.groups (omega arith) (d.effect Q told)))
 
 pub returns-in_err-take_groups-clause-named : goal.returns-in_err-take_groups-clause-named
 returns-in_err-take_groups-clause-named c =
@@ -120,7 +120,10 @@ returns-then-branch-clause-opening c Q told =
     let sound : TellSound m.checkpoint.tables → TellSound n.checkpoint.tables = λ s. d.sound s (ap (λ (k : Config). is_member k m.id) s.told.config ∙ c.requires.member) in
     let k = c.in_ok-take_groups.ensures in
     let all = not_is (are_refused c.args.groups Q1 n.id c.args.groups) (sym (k.all Q1 c.args.groups (omega arith) (d.effect Q told)) ∙ c.if-branch.true) in
-    opening_got others own m.id c.args.step c.args.fields c.args.groups Q m.checkpoint.tables told c.in-Job.job got n l d.id one sound _ _ all (k.taking Q1 c.args.groups (omega arith) (d.effect Q told))
+    let takes_so = k.taking Q1 c.args.groups (omega arith) (d.effect Q told) in
+    let Q2 : Queue = run Q1 (given_in Q1 m.id c.args.step (takes c.args.groups Q1 m.id c.args.groups)) in
+    let told2 : Tell l.checkpoint.tables Q2 = tells_taken others own m.id c.args.step c.args.fields c.args.groups Q m.checkpoint.tables told n one sound c.in-Job.job got d.id l _ false all takes_so in
+    opening_then others own m.id c.args.step c.args.fields c.args.groups Q m.checkpoint.tables told n one sound c.in-Job.job got d.id l _ false all takes_so l _ k.sound (gives_none Q2 l _ told2)
 
 pub returns-then-branch-clause-opened : goal.returns-then-branch-clause-opened
 returns-then-branch-clause-opened c Q told =
@@ -132,7 +135,7 @@ returns-then-branch-clause-opened c Q told =
     let Q1 : Queue = (step Q m.id (command.Begin c.args.fields)).0 in
     let got : e.reply ≡ reply.Job c.in-Job.job = reply_done m.batch n.batch e c.last_reply.result.now (d.entry Q told) c.last_reply.ensures ∙ c.in-Job.is in
     let all = not_is (are_refused c.args.groups Q1 n.id c.args.groups) (sym (k.all Q1 c.args.groups (omega arith) (d.effect Q told)) ∙ c.if-branch.true) in
-    sym (ends_taken m.id c.args.step c.args.fields c.args.groups Q c.in-Job.job got (subst (λ (i : MemberId). are_refused c.args.groups Q1 i c.args.groups ≡ false) d.id all))
+    sym (ends_job m.id c.args.step c.args.fields c.args.groups Q c.in-Job.job got false (subst (λ (i : MemberId). are_refused c.args.groups Q1 i c.args.groups ≡ false) d.id all))
 
 pub returns-then-branch-clause-named : goal.returns-then-branch-clause-named
 returns-then-branch-clause-named c =
@@ -168,11 +171,12 @@ returns-in_err-do_command-2-clause-opening c Q told =
     let one = only_entry m.batch n.batch e (d.entry Q told) c.requires.nothing in
     let sound : TellSound m.checkpoint.tables → TellSound n.checkpoint.tables = λ s. d.sound s (ap (λ (k : Config). is_member k m.id) s.told.config ∙ c.requires.member) in
     let k = c.in_ok-take_groups.ensures in
-    let w = c.do_command-2.new.self in
     let refused = is_not (are_refused c.args.groups Q1 n.id c.args.groups) (sym (k.all Q1 c.args.groups (omega arith) (d.effect Q told)) ∙ c.if-branch.false) in
-    let same = c.in_err-do_command-2.ensures.err in
+    let takes_so = k.taking Q1 c.args.groups (omega arith) (d.effect Q told) in
+    let Q2 : Queue = run Q1 (given_in Q1 m.id c.args.step (takes c.args.groups Q1 m.id c.args.groups)) in
+    let told2 : Tell l.checkpoint.tables Q2 = tells_taken others own m.id c.args.step c.args.fields c.args.groups Q m.checkpoint.tables told n one sound c.in-Job.job got d.id l _ true refused takes_so in
     let p = err_from_is_err_and c.from_residual-in_err-do_command-2.result c.from_residual-in_err-do_command-2.ensures.1 in
-    rw (p.1, p.2) (opening_undropped others own m.id c.args.step c.args.fields c.args.groups Q m.checkpoint.tables told c.in-Job.job got n l d.id one sound _ refused (k.taking Q1 c.args.groups (omega arith) (d.effect Q told)) w.checkpoint.tables w.batch _ (ap (λ k. k.checkpoint.tables) same) (ap (λ k. k.batch) same))
+    rw (p.1, p.2, c.in_err-do_command-2.ensures.err) (opening_then others own m.id c.args.step c.args.fields c.args.groups Q m.checkpoint.tables told n one sound c.in-Job.job got d.id l _ true refused takes_so l _ k.sound (gives_wanted Q2 (given_in Q2 m.id c.args.step (command.Drop c.in-Job.job ∷ [])) l _ (omega arith) told2))
 
 pub returns-in_err-do_command-2-clause-named : goal.returns-in_err-do_command-2-clause-named
 returns-in_err-do_command-2-clause-named c =
@@ -212,10 +216,11 @@ returns-clause-opening c Q told =
     let refused = is_not (are_refused c.args.groups Q1 n.id c.args.groups) (sym (k.all Q1 c.args.groups (omega arith) (d.effect Q told)) ∙ c.if-branch.false) in
     let takes_so = k.taking Q1 c.args.groups (omega arith) (d.effect Q told) in
     let Q2 : Queue = run Q1 (given_in Q1 m.id c.args.step (takes c.args.groups Q1 m.id c.args.groups)) in
-    let told2 : Tell l.checkpoint.tables Q2 = tells_taken others own m.id c.args.step c.args.fields c.args.groups Q m.checkpoint.tables told c.in-Job.job got n l d.id one sound _ refused takes_so in
-    opening_dropped others own m.id c.args.step c.args.fields c.args.groups Q m.checkpoint.tables told c.in-Job.job got n l d.id one sound _ refused takes_so w.checkpoint.tables w.batch _ k.sound
-    (subst (λ (i : MemberId). w.batch ≡ l.batch ++ entry_of Q2 i c.args.step (command.Drop c.in-Job.job) ∷ []) (k.id ∙ d.id) (c.in_ok-do_command-2.ensures.entry Q2 told2))
-    (subst (λ (i : MemberId). Tell w.checkpoint.tables (step Q2 i (command.Drop c.in-Job.job)).0) (k.id ∙ d.id) (c.in_ok-do_command-2.ensures.effect Q2 told2))
+    let told2 : Tell l.checkpoint.tables Q2 = tells_taken others own m.id c.args.step c.args.fields c.args.groups Q m.checkpoint.tables told n one sound c.in-Job.job got d.id l _ true refused takes_so in
+    opening_then others own m.id c.args.step c.args.fields c.args.groups Q m.checkpoint.tables told n one sound c.in-Job.job got d.id l _ true refused takes_so w _ k.sound
+    (gives_one others own Q2 m.id c.args.step (command.Drop c.in-Job.job) l w _ refl
+    (subst (λ (i : MemberId). w.batch ≡ l.batch ++ entry_of Q2 i c.args.step (command.Drop c.in-Job.job) ∷ []) (k.id ∙ d.id) (c.in_ok-do_command-2.ensures.entry Q2 told2)) told2
+    (subst (λ (i : MemberId). Tell w.checkpoint.tables (step Q2 i (command.Drop c.in-Job.job)).0) (k.id ∙ d.id) (c.in_ok-do_command-2.ensures.effect Q2 told2)))
 
 pub returns-clause-opened : goal.returns-clause-opened
 returns-clause-opened c Q told =
@@ -227,7 +232,7 @@ returns-clause-opened c Q told =
     let Q1 : Queue = (step Q m.id (command.Begin c.args.fields)).0 in
     let got : e.reply ≡ reply.Job c.in-Job.job = reply_done m.batch n.batch e c.last_reply.result.now (d.entry Q told) c.last_reply.ensures ∙ c.in-Job.is in
     let refused = is_not (are_refused c.args.groups Q1 n.id c.args.groups) (sym (k.all Q1 c.args.groups (omega arith) (d.effect Q told)) ∙ c.if-branch.false) in
-    sym (ends_dropped m.id c.args.step c.args.fields c.args.groups Q c.in-Job.job got (subst (λ (i : MemberId). are_refused c.args.groups Q1 i c.args.groups ≡ true) d.id refused))
+    sym (ends_job m.id c.args.step c.args.fields c.args.groups Q c.in-Job.job got true (subst (λ (i : MemberId). are_refused c.args.groups Q1 i c.args.groups ≡ true) d.id refused))
 
 pub returns-clause-named : goal.returns-clause-named
 returns-clause-named c =

@@ -1,10 +1,25 @@
-use Rattle.member_decks.proofs.Names.{◌≡◌, ◌∙◌, ◌+◌, ◌≤◌, ◌++◌, ℕ, List, [], ◌∷◌, ap, refl, subst, sym, arith, Batch, Kept, Queue, Tables, Tell, TellSound, begun, end_of, entries_reserved, fated, kept_all, run, level_with, none_out, queue_kept, printed_after, values_of, AreAllKept, counted_batch, counted_error, keeps_error, keeps_noted, notes_by, notes_same, notes_set, notes_then, pair_state, parts_of}
+use Rattle.std.proofs.Common.{◌≡◌, ◌∙◌, ◌+◌, ◌≤◌, ◌++◌, ℕ, List, [], ◌∷◌, ap, refl, subst, sym, arith}
 use Rattle.std.proofs.lemmas.Result.{err_from_is_err_and}
+use Rattle.mas_types.specs.declared.journals.Batch.{Batch}
+use Rattle.mas_types.specs.declared.journals.Fate.TheVariants.{Kept}
+use Rattle.mas_types.specs.declared.queues.Queue.{Queue}
+use Rattle.ckpt_tables.specs.declared.tables.Tables.{Tables}
 use Rattle.ckpt_tables.specs.Shape.{page_count}
 use Rattle.queue_telling.specs.Orders.{HaveOrders}
+use Rattle.queue_telling.specs.Telling.{Tell, TellSound}
+use Rattle.mas_complex.specs.CallCounts.{pair_state}
+use Rattle.mas_complex.specs.Journals.{begun, entries_reserved, fated, kept_all}
+use Rattle.mas_complex.specs.Meaning.{run}
+use Rattle.mas_complex.specs.Parts.{parts_of}
+use Rattle.mas_complex.specs.Past.{values_of}
+use Rattle.member_node.specs.Batches.{level_with}
+use Rattle.member_node.proofs.WriteLemmas.{none_out, queue_kept}
+use Rattle.member_steps.specs.Steps.{AreAllKept}
+use Rattle.member_steps.proofs.CountLemmas.{counted_batch, counted_error}
+use Rattle.member_steps.proofs.KeepLemmas.{copies_none, copies_written}
+use Rattle.member_steps.proofs.NoteLemmas.{keeps_error, keeps_noted, notes_by, notes_same, notes_set, notes_then}
 use Rattle.member_steps.proofs.StepLemmas.{journal_kept, kept_push, level_most, pages_as_many}
-use Rattle.member_decks.proofs.KeepLemmas.{copies_kept, copies_none, copies_unwritten, keep_unwritten}
-use Rattle.member_decks.proofs.keeping.keep_batch.Goals as goal
+use Rattle.member_steps.proofs.keeping.keep_batch.Goals as goal
 
 pub returns-in_default-clause-acts : goal.returns-in_default-clause-acts
 returns-in_default-clause-acts g c =
@@ -18,27 +33,19 @@ returns-in_default-clause-leaves g c =
 
 pub returns-in_err-write-clause-acts : goal.returns-in_err-write-clause-acts
 returns-in_err-write-clause-acts g c =
-    let P = g.P.Plant in
-    let x = c.args.complex.now in
-    let z = c.write.new.complex in
     let e = c.ready.ensures in
-    let by = c.args.member.now.id in
     let grown = c.in-Ok.ensures.grown c.requires.unplaced in
-    let write = rw (e.id, e.plant, e.pair, c.in-Ok.ensures.reserved) at (c.in_err-write.ensures.write x.journal.batches grown.0 grown.1) in
+    let write = rw (e.id, e.plant, e.pair, c.in-Ok.ensures.reserved) at (c.in_err-write.ensures.write c.args.complex.now.journal.batches grown.0 grown.1) in
     let p = err_from_is_err_and c.from_residual.result c.from_residual.ensures.1 in
-    rw (p.1, p.2) (copies_unwritten P.tells by.0 (begun (P.view x.plant).now by c.args.member.now.batch) x.journal.batches (end_of z.placed z.current z.journal.batches) (pair_state P.view (parts_of x)) (pair_state P.view (parts_of z)) _ write)
+    rw (p.1, p.2) (copies_written _ _ _ _ _ _ _ _ write).0
 
 pub returns-in_err-write-clause-leaves : goal.returns-in_err-write-clause-leaves
 returns-in_err-write-clause-leaves g c =
-    let P = g.P.Plant in
-    let x = c.args.complex.now in
-    let z = c.write.new.complex in
     let e = c.ready.ensures in
-    let by = c.args.member.now.id in
     let grown = c.in-Ok.ensures.grown c.requires.unplaced in
-    let write = rw (e.id, e.plant, e.pair, c.in-Ok.ensures.reserved) at (c.in_err-write.ensures.write x.journal.batches grown.0 grown.1) in
+    let write = rw (e.id, e.plant, e.pair, c.in-Ok.ensures.reserved) at (c.in_err-write.ensures.write c.args.complex.now.journal.batches grown.0 grown.1) in
     let p = err_from_is_err_and c.from_residual.result c.from_residual.ensures.1 in
-    rw (p.1, p.2) (keep_unwritten P.tells by.0 (begun (P.view x.plant).now by c.args.member.now.batch) x.journal.batches (end_of z.placed z.current z.journal.batches) (pair_state P.view (parts_of x)) (pair_state P.view (parts_of z)) _ write)
+    rw (p.1, p.2) (copies_written _ _ _ _ _ _ _ _ write).1
 
 pub ready-requires-clause-done : goal.ready-requires-clause-done
 ready-requires-clause-done g c told = ∣ c.requires.done told ∣₁
@@ -72,14 +79,9 @@ write-requires-clause-config g c told =
 
 pub returns-clause-acts : goal.returns-clause-acts
 returns-clause-acts g c =
-    let P = g.P.Plant in
-    let x = c.args.complex.now in
-    let z = c.write.new.complex in
     let e = c.ready.ensures in
-    let by = c.args.member.now.id in
     let grown = c.in-Ok.ensures.grown c.requires.unplaced in
-    let write = rw (e.id, e.plant, e.pair, c.in-Ok.ensures.reserved) at (c.in_ok-write.ensures.write x.journal.batches grown.0 grown.1) in
-    copies_kept P.tells by.0 (begun (P.view x.plant).now by c.args.member.now.batch) x.journal.batches (end_of z.placed z.current z.journal.batches) (pair_state P.view (parts_of x)) (pair_state P.view (parts_of z)) write
+    (copies_written _ _ _ _ _ _ _ _ (rw (e.id, e.plant, e.pair, c.in-Ok.ensures.reserved) at (c.in_ok-write.ensures.write c.args.complex.now.journal.batches grown.0 grown.1))).0
 
 pub returns-clause-leaves : goal.returns-clause-leaves
 returns-clause-leaves g c =
@@ -152,38 +154,28 @@ returns-in_default-clause-counts g c =
 
 pub returns-in_err-write-clause-counts : goal.returns-in_err-write-clause-counts
 returns-in_err-write-clause-counts g c =
-    let x = c.args.complex.now in
     let m = c.args.member.now in
-    let z = c.write.new.complex in
     let e = c.ready.ensures in
-    let k : z.printed ≡ printed_after m.id m.batch x.printed = rw (e.id, e.printed, c.in-Ok.ensures.reserved) at c.write.ensures.printed in
-    counted_batch m.id m.batch x.printed z.printed _ c.requires.own k
+    counted_batch m.id m.batch _ _ _ c.requires.own (rw (e.id, e.printed, c.in-Ok.ensures.reserved) at c.write.ensures.printed)
 
 pub returns-clause-counts : goal.returns-clause-counts
 returns-clause-counts g c =
-    let x = c.args.complex.now in
     let m = c.args.member.now in
-    let z = c.write.new.complex in
     let e = c.ready.ensures in
-    let k : z.printed ≡ printed_after m.id m.batch x.printed = rw (e.id, e.printed, c.in-Ok.ensures.reserved) at c.write.ensures.printed in
-    counted_batch m.id m.batch x.printed z.printed _ c.requires.own k
+    counted_batch m.id m.batch _ _ _ c.requires.own (rw (e.id, e.printed, c.in-Ok.ensures.reserved) at c.write.ensures.printed)
 
 -- WHAT WAS NOTED
 
 pub returns-in_default-clause-notes : goal.returns-in_default-clause-notes
 returns-in_default-clause-notes g c =
-    let x = c.args.complex.now in
-    let y = c.ready.new.complex in
     let m = c.args.member.now in
-    keeps_error g.P.Plant.tells (values_of x.had) (values_of y.had) m c.ready.new.self _ (notes_same m.id (values_of x.had) (values_of y.had) c.ready.ensures.had)
+    keeps_error g.P.Plant.tells _ _ m c.ready.new.self _ (notes_same m.id _ _ c.ready.ensures.had)
 
 pub returns-in_err-write-clause-notes : goal.returns-in_err-write-clause-notes
 returns-in_err-write-clause-notes g c =
-    let x = c.args.complex.now in
-    let z = c.write.new.complex in
     let m = c.args.member.now in
     let p = err_from_is_err_and c.from_residual.result c.from_residual.ensures.1 in
-    rw (p.1, p.2) (keeps_error g.P.Plant.tells (values_of x.had) (values_of z.had) m c.ready.new.self _ (notes_same m.id (values_of x.had) (values_of z.had) (c.in_err-write.ensures.noted_err ∙ c.ready.ensures.had)))
+    rw (p.1, p.2) (keeps_error g.P.Plant.tells _ _ m c.ready.new.self _ (notes_same m.id _ _ (c.in_err-write.ensures.noted_err ∙ c.ready.ensures.had)))
 
 pub returns-clause-notes : goal.returns-clause-notes
 returns-clause-notes g c =
