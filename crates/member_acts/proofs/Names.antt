@@ -1,10 +1,9 @@
 -- The names that many proofs take, each from where it is declared.
-pub use Rattle.std.proofs.Common.{All, Bool, Err, IfOk, List, None, Ok, Option, Result, Some, [], ap, append-nil, append_assoc, arith, drop, false, get_or, if◌then◌else◌, inl, inr, is_some, length, map, nat_le, not, refl, slice_get, subst, suc, sym, take, true, unwrap_or, zero, ℕ, ◌%◌, ◌&&◌, ◌*◌, ◌++◌, ◌+◌, ◌-◌, ◌<◌, ◌==◌, ◌||◌, ◌∙◌, ◌∷◌, ◌≡◌, ◌≢◌, ◌≤◌, ◌⊎◌}
+pub use Rattle.std.proofs.Common.{All, Bool, Err, IfOk, List, None, Ok, Option, Result, Some, [], ap, append-nil, append_assoc, arith, drop, false, get_or, if◌then◌else◌, inl, inr, is_some, length, map, nat_le, not, refl, slice_get, subst, suc, sym, take, true, unwrap_or, zero, ℕ, ◌&&◌, ◌*◌, ◌++◌, ◌+◌, ◌-◌, ◌<◌, ◌==◌, ◌||◌, ◌∙◌, ◌∷◌, ◌≡◌, ◌≢◌, ◌≤◌, ◌⊎◌}
 pub use Rattle.std.proofs.Math.Logic.{∥∥₁_elim}
 pub use Rattle.std.proofs.lemmas.Bool.Decides.{nat_tests}
-pub use Rattle.std.proofs.lemmas.Nat.{mod_below}
 pub use Rattle.std.proofs.lemmas.List.Folds.{list_any-append}
-pub use Rattle.std.proofs.lemmas.List.{get_or-set_other, take_all, take_more}
+pub use Rattle.std.proofs.lemmas.List.{get_or-set_other, length-take-le, take_all, take_more}
 pub use Rattle.std.proofs.lemmas.List.Elements.{All-append, All-cons, All-drop, All-get_or, All-head, All-nil, All-tail, All-take, All-weaker}
 pub use Rattle.std.proofs.lemmas.Result.{err_from_is_err_and}
 pub use Rattle.std.specs.Coded.{Coded, Coded-set, code_by, coded_option, coded_ℕ}
@@ -51,7 +50,7 @@ pub use Rattle.member_node.specs.declared.member.NodeNo.{NodeNo}
 pub use Rattle.member_node.specs.declared.member.NodeNo.TheVariants.{Halted, NoMemory}
 pub use Rattle.member_work.proofs.LookingLemmas.{coded_read, groups_within, number_of, told_job}
 pub use Rattle.member_work.proofs.PrintedLemmas.{beside_none, beside_on, beside_print, beside_volumes, failed_wider, key_of, limit_most, lines_whole, output_key, print_failed, still_busy, told_output, whole_text}
-pub use Rattle.member_work.proofs.SpoolLemmas.{all_spooled, behind_long, cause_wider, first_fits, front_long, lies_behind, lies_front, rise_behind, rise_front, still_stand, written_none}
+pub use Rattle.member_work.proofs.SpoolLemmas.{all_spooled, behind_long, cause_wider, first_fits, lies_behind, lies_front, rise_behind, rise_front, still_stand}
 pub use Rattle.member_work.proofs.UnderWayLemmas.{both_second}
 pub use Rattle.member_work.specs.Inked.{HasInked, Inked, IsCountOf, inked_of, lines_from}
 pub use Rattle.member_work.specs.Printing.{IsChunkOf, IsPrinting, IsToldOutput}

@@ -1,32 +1,18 @@
 -- Reading the groups of a text.
-use Rattle.member_acts.proofs.Names.{Ghosts as PlantGhosts, ◌≡◌, ℕ, ◌+◌, ◌≤◌, Bool, true, false, List, [], ◌∷◌, length, Option, Some, None, All, Ok, Result, zero, suc, ◌*◌, ◌%◌, ◌<◌, nat_le, ◌++◌, unwrap_or, refl, sym, ap, subst, ◌∙◌, append_assoc, arith, Err, append-nil, Spool, Text, page_bytes, line_bytes, line_count, Disk as DiskPart, page_of, volume_of, AreRoomy, start_of, IsGroupOf, ReadsGroup, device_of, is_within, page_part, page_start, bytes_on, lost_now, spools_at, IsThereUnless, Spools, AreQuiet, SpoolStops, as_it_is, IsReadOf, HasFailed, option_or, nat_tests, All-nil, All-cons, All-append, All-weaker, GroupNo, Whole, Gone, Config, Act, Done, Failed, View, disk_now, slice, Acts, Goes, ReadBy, NodeNo, none_lost, SparesBut, sparing_done, sparing_then, acts_on, lies_alone, quiet_on, still_roomy, there_by, Read, both_second, is_text_line, IsFailedRead, All-head, MemberId, Parts, act_on, mod_below}
+use Rattle.member_acts.proofs.Names.{Ghosts as PlantGhosts, ◌≡◌, ℕ, ◌+◌, ◌≤◌, Bool, true, false, List, [], ◌∷◌, length, Option, Some, None, All, Ok, Result, nat_le, ◌++◌, unwrap_or, refl, sym, ap, subst, ◌∙◌, append_assoc, arith, Err, append-nil, Spool, Text, page_bytes, line_bytes, line_count, Disk as DiskPart, page_of, volume_of, AreRoomy, start_of, IsGroupOf, ReadsGroup, device_of, is_within, page_part, page_start, bytes_on, lost_now, spools_at, IsThereUnless, Spools, AreQuiet, SpoolStops, as_it_is, IsReadOf, HasFailed, option_or, nat_tests, All-nil, All-cons, All-append, All-weaker, GroupNo, Whole, Gone, Act, Done, Failed, View, disk_now, slice, Acts, Goes, ReadBy, NodeNo, none_lost, SparesBut, sparing_done, sparing_then, acts_on, lies_alone, quiet_on, still_roomy, there_by, Read, both_second, is_text_line, IsFailedRead, All-head, MemberId, Parts, act_on}
 use Rattle.member_acts.specs.Reads.{HasReadOn, so_far, AreRecords, AddsGroup}
 use Rattle.mas_types.specs.declared.ids.Page.{Page}
 use Rattle.mas_types.specs.Records.{HoldsNoRecords, is_record, records_in}
 use Rattle.spool_text.specs.Laws.{ReadsWhatIsHeld}
 use Rattle.spool_text.specs.Reading.{AddsRecords}
 use Rattle.spool_volumes.specs.Texts.{Held, all_records, first_gone, gone_or, held, records_on, text_of, text_unless}
-use Rattle.mas_complex.proofs.Basics.{few_quotient}
+use Rattle.member_decks.proofs.PageLemmas.{within}
 use Rattle.mas_complex.proofs.Spooled.{each_quiet, read_quiet}
 use Rattle.queue_laws.proofs.SoundEnter.{All-none}
 use Rattle.member_node.specs.declared.member.NodeNo.TheVariants as no
 use Rattle.job_outcome.specs.declared.outcomes.Read.TheVariants as read
 
 -- ONE PAGE
-
-some_groups : (volumes groups n : ℕ) → n < volumes * groups → 1 ≤ groups
-some_groups volumes zero n lt = absurd (omega (arith, lt))
-some_groups volumes (suc groups) n lt = omega arith
-
--- a group of the configuration lies within its volume, if that isn't lost
-within : (v : View) (config : Config) (g : GroupNo) → IsGroupOf config g → AreRoomy v config → v.lost (DiskPart (device_of config.groups g)) ≡ false → is_within v config.groups g ≡ true
-within v config g is roomy there =
-    let some : 1 ≤ config.groups = some_groups config.volumes config.groups g.0 is in
-    let size = roomy (volume_of config.groups g) (omega arith) (few_quotient g.0 config.volumes config.groups some is) there in
-    fits (g.0 % config.groups) config.groups (v.size (device_of config.groups g)) (mod_below g.0 config.groups (omega (arith, some))) size
-  where
-    fits : (r per size : ℕ) → r < per → page_bytes * per ≤ size → nat_le (page_bytes * r + page_bytes) size ≡ true
-    fits r per size below le = grind (arith, nat_tests, below, le)
 
 -- the page of a group was read, so its volume wasn't lost; where content is told it is the one that stands there
 pub record IsPageOf {P C : Type 0} (plants : PlantGhosts P) (x : Parts P C) (g : GroupNo) (bytes : List ℕ) : Type 0 where

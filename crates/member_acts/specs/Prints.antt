@@ -65,9 +65,9 @@ module _ {P C : Type 0} (plants : PlantGhosts P) where
     pub other_counts : OtherCountsStay by x.printed y.printed
     pub wires : plants.tells → SameWires (v x) (v y)
 
-  -- Prints, by their answer, which says whether the printer was found lost: then it failed. Where the unit isn't refused
-  -- for it, or for how the text was read, the lines stand on paper. Halted comes only where the member was stopped,
-  -- NoMemory only when out of memory: both only where lines were read.
+  -- Prints, by their answer, which says whether the printer was found lost: then it failed. Where the unit isn't
+  -- refused for it, or for how the text was read, the lines stand on paper. Halted comes only where the member was
+  -- stopped, NoMemory only when out of memory: both only where lines were read.
   pub record HasPrinted (x y : Parts P C) (by : MemberId) (u : Upto) (read : Read) (result : Result Bool NodeNo) :
       Type 0 where
     pub frame : y ≡ after_lines result by y x

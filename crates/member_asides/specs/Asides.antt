@@ -216,11 +216,12 @@ module _ {P C : Type 0} (plants : PlantGhosts P) where
   pub record FindsLines (x y : Parts P C) (m : Member) (l : LinesTo) (found : Found) : Type 0 where
     pub only : found ≡ printed_found found.read found.printer
     pub fits : IsReadable found.read
-    pub failed : IsFailedRead x.base.config.groups (groups_of (OutputThing l.job l.output) m.checkpoint.tables.owners) found.read
-        (v x) (v y)
-    pub read : plants.tells → AreRoomy (v x) x.base.config → (o : Output) → output_at (queue_of x) l.job l.output ≡ Some o
-        → IsReadAs plants.tells x.base.config.groups (o.text, groups_of (OutputThing l.job l.output) (queue_of x).owners)
-        (Some found.read) (v x) (v y)
+    pub failed : IsFailedRead x.base.config.groups
+        (groups_of (OutputThing l.job l.output) m.checkpoint.tables.owners) found.read (v x) (v y)
+    pub read : plants.tells → AreRoomy (v x) x.base.config → (o : Output)
+        → output_at (queue_of x) l.job l.output ≡ Some o
+        → IsReadAs plants.tells x.base.config.groups
+        (o.text, groups_of (OutputThing l.job l.output) (queue_of x).owners) (Some found.read) (v x) (v y)
     pub printer : found.printer ≡ true → HasPrinterFailed m.id (v x) (v y)
     pub counted : printed_end found.printer found.read ≡ None → plants.tells → (o : Output)
         → output_at (queue_of x) l.job l.output ≡ Some o

@@ -12,7 +12,8 @@ use Rattle.member_steps.proofs.NoteLemmas.{notes_none}
 use Rattle.step_turns.specs.Entries.{all_entries}
 use Rattle.step_turns.specs.Sittings.{Sitting}
 use Rattle.member_sittings.specs.Sat.{IsSat, journal_of}
-use Rattle.member_sittings.proofs.ReachLemmas.{none_left, said_none}
+use Rattle.member_sittings.proofs.ReachLemmas.{none_left}
+use Rattle.member_steps.proofs.SayLemmas.{said_none}
 
 -- whatever the sitting was to do
 pub sat_nothing : {P C : Type 0} (plants : PlantGhosts P) (by : MemberId) (t : Sitting) (x : Parts P C) → journal_of x ≡ x.batches → IsSat plants by t x x (Err NoMemory)
@@ -34,7 +35,7 @@ sat_nothing plants by t x same =
       journal = same ∙ sym (append-nil x.batches);
       left = none_left by v.now v.now t.batches;
       reached = refl;
-      console = λ s. said_none t.lines (console_now v) (console_now v) _ NoMemory (λ e. absurd (cc)) refl;
+      console = λ s. said_none _ t.lines (console_now v) (console_now v) NoMemory (λ e. absurd (cc)) refl;
       counts = counted_error by (all_entries t.batches) x.printed x.printed NoMemory refl;
       ends = tt;
     }

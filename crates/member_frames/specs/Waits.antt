@@ -58,5 +58,6 @@ module _ {P C : Type 0} {plants : PlantGhosts P} {steadies : SteadyGhosts C} {co
       × All IsFrame found.frames
   MayResumeLine told x m (SpoolArrival number n text s) found = IsServable s × HasFrameMore s × AreLines text
       × (found ≡ deck_found found.lost) × DeckIsSpooled x m.id text found.lost
-  MayResumeLine told x m (Acknowledge number s) found = IsServable s × (found ≡ record nothing_found { wire = found.wire })
+  MayResumeLine told x m (Acknowledge number s) found = IsServable s
+      × (found ≡ record nothing_found { wire = found.wire })
   MayResumeLine told x m _ found = ⊥

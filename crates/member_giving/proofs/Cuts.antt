@@ -53,13 +53,10 @@ cut_begins (e ∷ es) (p ∷ parts) some =
     let later = cut_begins ((e ∷ es) ++ p) parts (omega (arith, long, some)) in
     rw few (record { more = p ++ later.more; rest = later.rest; is = later.is ∙ ap (λ (l : List Entry). l ∷ later.rest) (append_assoc (e ∷ es) p later.more) }))
 
-starts_with_it : (es : List Entry) (bs : List (List Entry)) → 1 ≤ length es → BeginsWith es bs → StartsAs (es ∷ []) bs
-starts_with_it es bs some b = subst (λ (l : List (List Entry)). StartsAs (es ∷ []) l) (sym b.is) (some, (b.more, refl))
-
 -- what isn't written yet begins what is
 pub starts_cut : (es : List Entry) (parts : List (List Entry)) → StartsAs (batch_of es) (cut es parts)
 starts_cut [] parts = tt
-starts_cut (e ∷ es) parts = starts_with_it (e ∷ es) (cut (e ∷ es) parts) (omega arith) (cut_begins (e ∷ es) parts (omega arith))
+starts_cut (e ∷ es) parts = let b = cut_begins (e ∷ es) parts (omega arith) in subst (λ (l : List (List Entry)). StartsAs ((e ∷ es) ∷ []) l) (sym b.is) (omega arith, (b.more, refl))
 
 pub starts_after : (es : List Entry) (parts : List (List Entry)) → StartsAs (batch_of es) (cut_after es (λ unwritten. cut unwritten parts))
 starts_after [] parts = tt

@@ -286,6 +286,3 @@ ends_may found by at Q (part.Groups needed) may = by_refused (are_refused needed
   by_refused false = tt
 ends_may found by at Q (part.Ended n specs) may = reply_ends found (closing_reply (given_in Q by at (ending Q by n specs)))
 ends_may found by at Q (part.Lost volume) may = inl may
-
-pub ends_by : (found : Found) (by : MemberId) (at : ℕ) (Q : Queue) (p : Part) (end : UnitEnd) → end ≡ ends_of by at Q p → MayLose found p → MayEndBy found end
-ends_by found by at Q p end is may = subst (MayEndBy found) (sym is) (ends_may found by at Q p may)

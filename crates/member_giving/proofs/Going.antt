@@ -1,9 +1,9 @@
 -- The rest of a sitting, part by part.
-use Rattle.member_giving.proofs.Names.{◌≡◌, ℕ, ◌+◌, ◌*◌, ◌≤◌, List, [], ◌∷◌, ◌++◌, length, All, Result, Ok, Err, IfOk, ◌∙◌, append-nil, ap, refl, sym, subst, arith, length-append, All-append, All-cons, Command, MemberId, Entry, UnitEnd, NodeNo, AreOf, HasCounted, counted_ok, counted_on, counted_then, counted_up, notes_none, notes_then, batch_of, cut, cut_after, all_entries, given_in, released, Holder, State, Told, Turn, after_part, goes_on_by, leaves, says, units_from, entries_append, SittingEnd, MayEndBy, Bounds, Closes, EndsAs, HasGiven, IsWithin, Keeps, Plays, PlaysAs, PlaysOut, SparesOthers, Wrote, after_full, bounds, full_of, unwritten, wrote_after, wrote_of, Outside, Place, ended, to_play, unit_part, closed, IsClosing, only_none, only_on, papers_none, papers_on, wires_none, wires_then}
+use Rattle.member_giving.proofs.Names.{◌≡◌, ℕ, ◌+◌, ◌*◌, ◌≤◌, List, [], ◌∷◌, ◌++◌, length, All, Result, Ok, Err, IfOk, ◌∙◌, append-nil, ap, refl, sym, subst, arith, length-append, All-append, All-cons, Command, MemberId, Entry, UnitEnd, NodeNo, AreOf, HasCounted, counted_on, counted_then, counted_up, notes_none, notes_then, batch_of, cut, cut_after, all_entries, given_in, released, Holder, State, Told, Turn, after_part, goes_on_by, says, units_from, entries_append, SittingEnd, MayEndBy, Bounds, Closes, EndsAs, HasGiven, IsWithin, Keeps, Plays, PlaysAs, PlaysOut, SparesOthers, Wrote, after_full, bounds, full_of, unwritten, wrote_after, wrote_of, Outside, Place, bare, to_play, unit_part, closed, IsClosing, only_none, only_on, papers_none, papers_on, wires_none, wires_then, if_ok as if_answered}
 use Rattle.spool_plant.specs.Acts.{Goes}
 use Rattle.job_outcome.specs.declared.units.UnitEnd.TheVariants as ends
 use Rattle.member_giving.proofs.Cuts.{batch_entries, full_entries, full_first, of_after, of_batch, of_cut, of_full_batches, starts_after, starts_full}
-use Rattle.member_giving.proofs.Within.{after_within, goes_within, more_wrote, unwritten_one}
+use Rattle.member_giving.proofs.Within.{after_few, goes_within, more_wrote, unwritten_one, wrote_within}
 use Rattle.member_giving.proofs.Keeping.{closes_error, closes_then}
 use Rattle.member_giving.proofs.Leaving.{StartsAs}
 
@@ -48,39 +48,33 @@ module _ (told : Type 0) (h : Holder) (Fits : Wrote → Type 0) (given : ℕ) wh
     spares = spares;
   }
 
-  -- the sitting ends in a state of the step
-  pub played_leave : {S : Type 0} (s : S) (e : SittingEnd) (next : State) (old : Place) (new : Outside) → e.next ≡ next → e.given ≡ given → e.release ≡ released h.grant h.hold e.given e.next → AreOf h.by h.step old.batch → Fits (wrote_of old.batch (leaves next)) → SparesOthers told h.by old.outside new
-      → Keeps {T = S} told h.by (batch_of old.batch) old.outside new (Ok s) → HasCounted {T = S} h.by (all_entries (batch_of old.batch)) old.outside.printed new.printed (Ok s) → PlaysAs told Fits (to_play h given (wrote_of old.batch (leaves next))) old new (Ok e)
-  played_leave {S} s e next old new is_next is_given is_released of within spares keeps counts = record {
-    wrote = wrote_of old.batch (leaves next);
+  abbrev EndsIn : State → SittingEnd → Type 0
+  EndsIn next e = (e.next ≡ next) × (e.given ≡ given) × (e.release ≡ released h.grant h.hold e.given e.next)
+
+  -- the sitting ends with what isn't written: in a state of its step, or with lines
+  abbrev last : Place → State → List (List ℕ) → Wrote
+  last old next lines = record { batches = batch_of old.batch; next = next; lines = lines }
+
+  pub played_end : (next : State) (lines : List (List ℕ)) (old : Place) (new : Outside) (r : Result SittingEnd NodeNo) → IfOk r (EndsIn next) → AreOf h.by h.step old.batch → Fits (last old next lines) → SparesOthers told h.by old.outside new → Closes told h.by (last old next lines) old.outside new r → HasCounted h.by (all_entries (batch_of old.batch)) old.outside.printed new.printed r
+      → PlaysAs told Fits (to_play h given (last old next lines)) old new r
+  played_end next lines old new r ends of within spares closes counts = record {
+    wrote = last old next lines;
     is = λ t. refl;
     of = of_batch h.by h.step old.batch of;
     within = within;
-    ends = (is_next, ap (λ (n : ℕ). n + length old.batch) is_given ∙ ap (λ (es : List Entry). given + length es) (sym (batch_entries old.batch)), is_released);
-    closes = keeps.closes;
-    counts = counted_ok h.by (all_entries (batch_of old.batch)) old.outside.printed new.printed s e counts;
+    ends = if_answered (EndsIn next) (EndsAs h given old.batch (last old next lines)) r (λ e it. (it.0, ap (λ (n : ℕ). n + length old.batch) it.1 ∙ ap (λ (es : List Entry). given + length es) (sym (batch_entries old.batch)), it.2)) ends;
+    closes = closes;
+    counts = counts;
     spares = spares;
   }
 
-  abbrev ToldThen : SittingEnd → Type 0
-  ToldThen e = (e.next ≡ Told) × (e.given ≡ given) × (e.release ≡ released h.grant h.hold e.given e.next)
-
   -- the step closes
-  pub played_close : {S : Type 0} (s : S) (r : Result SittingEnd NodeNo) (lines : List (List ℕ)) (old : Place) (mid new : Outside) → IfOk r ToldThen → AreOf h.by h.step old.batch → Fits (wrote_of old.batch (says lines)) → SparesOthers told h.by old.outside new
-      → Keeps {T = S} told h.by (batch_of old.batch) old.outside mid (Ok s) → HasCounted {T = S} h.by (all_entries (batch_of old.batch)) old.outside.printed mid.printed (Ok s) → Closes told h.by (wrote_of [] (says lines)) mid new r → new.printed ≡ mid.printed → PlaysAs told Fits (to_play h given (wrote_of old.batch (says lines))) old new r
-  played_close {S} s r lines old mid new ends of within spares keeps counts closes still = record {
-    wrote = wrote_of old.batch (says lines);
-    is = λ t. refl;
-    of = of_batch h.by h.step old.batch of;
-    within = within;
-    ends = if_ok r ends;
-    closes = subst (λ (ess : List (List Entry)). IsClosing told h.by (closed ess lines) old.outside new (ended r)) (append-nil (batch_of old.batch)) (closes_then told h.by (ended r) (batch_of old.batch) [] lines old.outside mid new keeps closes);
-    counts = counted_on h.by (all_entries (batch_of old.batch)) old.outside.printed mid.printed new.printed s r still counts;
-    spares = spares;
-  } where
-    if_ok : (r : Result SittingEnd NodeNo) → IfOk r ToldThen → IfOk r (EndsAs h given old.batch (wrote_of old.batch (says lines)))
-    if_ok (Ok e) ends = (ends.0, ap (λ (n : ℕ). n + length old.batch) ends.1 ∙ ap (λ (es : List Entry). given + length es) (sym (batch_entries old.batch)), ends.2)
-    if_ok (Err why) ends = tt
+  pub played_close : {S : Type 0} (s : S) (r : Result SittingEnd NodeNo) (lines : List (List ℕ)) (old : Place) (mid new : Outside) → IfOk r (EndsIn Told) → AreOf h.by h.step old.batch → Fits (last old Told lines) → SparesOthers told h.by old.outside new
+      → Keeps {T = S} told h.by (batch_of old.batch) old.outside mid (Ok s) → HasCounted {T = S} h.by (all_entries (batch_of old.batch)) old.outside.printed mid.printed (Ok s) → Closes told h.by (wrote_of [] (says lines)) mid new r → new.printed ≡ mid.printed → PlaysAs told Fits (to_play h given (last old Told lines)) old new r
+  played_close {S} s r lines old mid new ends of within spares keeps counts closes still =
+      played_end Told lines old new r ends of within spares
+      (subst (λ (ess : List (List Entry)). IsClosing told h.by (closed ess lines) old.outside new (bare r)) (append-nil (batch_of old.batch)) (closes_then told h.by (bare r) (batch_of old.batch) [] lines old.outside mid new keeps closes))
+      (counted_on h.by (all_entries (batch_of old.batch)) old.outside.printed mid.printed new.printed s r still counts)
 
   -- what fits otherwise fits so
   pub played_fits : (Rest : Wrote → Type 0) (w : Wrote) (old : Place) (new : Outside) (r : Result SittingEnd NodeNo) → ((x : Wrote) → Rest x → Fits x) → PlaysAs told Rest (to_play h given w) old new r → PlaysAs told Fits (to_play h given w) old new r
@@ -103,8 +97,8 @@ module _ (told : Type 0) (h : Holder) (Fits : Wrote → Type 0) (given : ℕ) wh
     is = λ told. joined (p.wrote) (p.is told);
     of = All-append (AreOf h.by h.step) (full_of old.batch) p.wrote.batches (of_full_batches h.by h.step old.batch of) p.of;
     within = fits p.wrote p.within;
-    ends = if_ok r p.ends;
-    closes = closes_then told h.by (ended r) (full_of old.batch) p.wrote.batches p.wrote.lines old.outside mid.outside new keeps p.closes;
+    ends = if_answered (EndsAs h given mid.batch p.wrote) (EndsAs h given old.batch (after_batches (full_of old.batch) p.wrote)) r (λ e it. (it.0, long e it.1, it.2)) p.ends;
+    closes = closes_then told h.by (bare r) (full_of old.batch) p.wrote.batches p.wrote.lines old.outside mid.outside new keeps p.closes;
     counts = counted_as (all_entries (full_of old.batch ++ p.wrote.batches)) (all_entries (full_of old.batch) ++ all_entries p.wrote.batches) old.outside.printed new.printed (entries_append (full_of old.batch) p.wrote.batches) r
         (counted_then h.by (all_entries (full_of old.batch)) (all_entries p.wrote.batches) old.outside.printed mid.outside.printed new.printed s r counts p.counts);
     spares = apart_then told h.by old.outside mid.outside new keeps.closes.course.goes.later p.closes.course.goes spares p.spares;
@@ -123,10 +117,6 @@ module _ (told : Type 0) (h : Holder) (Fits : Wrote → Type 0) (given : ℕ) wh
         let both = ap length (entries_append (full_of old.batch) p.wrote.batches) in
         let more = length-append (all_entries (full_of old.batch)) (all_entries p.wrote.batches) in
         omega (arith, same, all, parts, less, both, more)
-
-    if_ok : (r : Result SittingEnd NodeNo) → IfOk r (EndsAs h given mid.batch p.wrote) → IfOk r (EndsAs h given old.batch (after_batches (full_of old.batch) p.wrote))
-    if_ok (Ok e) ends = (ends.0, long e ends.1, ends.2)
-    if_ok (Err why) ends = tt
 
 module _ (told : Type 0) (h : Holder) (Fits : Wrote → Type 0) (given : ℕ) (cs : List Command) (e : UnitEnd) (old mid : Place) where
   -- the entries of a part, as the queue gives them
@@ -153,8 +143,8 @@ module _ (told : Type 0) (h : Holder) (Fits : Wrote → Type 0) (given : ℕ) (c
     is = λ seen. p.is seen ∙ same seen;
     of = p.of;
     within = p.within;
-    ends = if_ok r p.ends;
-    closes = closes_then told h.by (ended r) [] p.wrote.batches p.wrote.lines old.outside mid.outside new g.keeps p.closes;
+    ends = if_answered (EndsAs h given' mid.batch p.wrote) (EndsAs h given old.batch p.wrote) r (λ e it. let is = it.1 in let longer = ap length g.left in let both = length-append old.batch g.es in (it.0, omega (arith, is, longer, both, more), it.2)) p.ends;
+    closes = closes_then told h.by (bare r) [] p.wrote.batches p.wrote.lines old.outside mid.outside new g.keeps p.closes;
     counts = counted_then h.by [] (all_entries p.wrote.batches) old.outside.printed mid.outside.printed new.printed end r g.counts p.counts;
     spares = apart_then told h.by old.outside mid.outside new g.keeps.closes.course.goes.later p.closes.course.goes g.spares p.spares;
   } where
@@ -163,10 +153,6 @@ module _ (told : Type 0) (h : Holder) (Fits : Wrote → Type 0) (given : ℕ) (c
         ap (λ (es : List Entry). wrote_after es t) g.left
         ∙ ap (λ (x : Turn). wrote_after (old.batch ++ g.es) x) (follows seen)
         ∙ ap (λ (es : List Entry). wrote_after (old.batch ++ es) rest) (g.is seen)
-
-    if_ok : (r : Result SittingEnd NodeNo) → IfOk r (EndsAs h given' mid.batch p.wrote) → IfOk r (EndsAs h given old.batch p.wrote)
-    if_ok (Ok x) ends = let is = ends.1 in let longer = ap length g.left in let both = length-append old.batch g.es in (ends.0, omega (arith, is, longer, both, more), ends.2)
-    if_ok (Err why) ends = tt
 
 -- THE REST OF A SITTING OF WORK
 
@@ -190,4 +176,4 @@ module _ (told : Type 0) (h : Holder) (b : Bounds) (given : ℕ) where
       let t = goes_on_by h e left (units_from h left) old.queue given done in
       let one = unwritten_one old.batch in
       let w = goes_within h b.found e may (3 * left + 1) b.units left old.queue given done few (omega arith) in
-      played_full_error told h (IsWithin h b) given {S = S} why t old new of w.its (after_within h b.found b.units b.most old.batch t (3 * left + 1) (omega (arith, one, le)) w) spares keeps {gave = gave} counts
+      played_full_error told h (IsWithin h b) given {S = S} why t old new of w.its (wrote_within h b.found b.units b.most (unwritten old.batch) (cut_after old.batch (λ es. cut es t.parts)) t (3 * left + 1) (after_few old.batch t.parts) (omega (arith, one, le)) w) spares keeps {gave = gave} counts

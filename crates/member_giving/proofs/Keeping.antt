@@ -1,10 +1,11 @@
 -- Calls within a sitting that keep batches, one after another, and then others or lines.
-use Rattle.member_giving.proofs.Names.{◌≡◌, ℕ, ◌≤◌, List, [], ◌∷◌, ◌++◌, length, map, take, Result, Ok, Err, inl, inr, ⊎_elim, append_assoc, append-nil, refl, sym, ◌∙◌, ap, subst, arith, MemberId, Batch, Entry, Line, NodeNo, BothLost, Halted, ConsoleFault, NoMemory, begun, HasAll, CopyCauses, IsOnCopies, KeepLeaves, IsSettle, HaveSaid, Breaks, StepCauses, StepTells, console_now, Outside, IsClosing, IsKeeping, LeavesFirst, MayFly, WorkLeaves, closed, AreAll, pair_at, Course, pair_seen, course_none, course_then, fated, stopped_in, Adds, SayCauses}
+use Rattle.member_giving.proofs.Names.{◌≡◌, ℕ, ◌+◌, ◌≤◌, List, [], ◌∷◌, ◌++◌, length, Result, Ok, Err, inl, inr, append_assoc, append-nil, refl, sym, ◌∙◌, ap, arith, MemberId, Batch, Entry, Line, NodeNo, BothLost, Halted, ConsoleFault, NoMemory, begun, HasAll, CopyCauses, IsOnCopies, KeepLeaves, IsSettle, HaveSaid, StepCauses, console_now, Outside, IsClosing, IsKeeping, LeavesFirst, MayFly, WorkLeaves, closed, AreAll, pair_at, Course, pair_seen, course_none, course_then, fated, stopped_in}
 use Rattle.mas_types.specs.declared.journals.Fate.TheVariants.{Kept}
-use Rattle.mas_complex.specs.Headline.{whole}
 use Rattle.member_node.proofs.SpareLemmas.{spares_none, spares_then}
-use Rattle.member_steps.proofs.SayLemmas.{console_course}
-use Rattle.member_decks.proofs.OutcomeLemmas.{causes_then, copy_causes, flying_batch, kept_batch}
+use Rattle.member_steps.proofs.KeepLemmas.{causes_then, copy_causes}
+use Rattle.member_steps.proofs.SayLemmas.{console_course, none_said, said_none, said_on, say_causes}
+use Rattle.member_steps.specs.Saying.{HasSaid, said_nothing}
+use Rattle.member_decks.proofs.BatchLemmas.{flying_batch, kept_batch}
 use Rattle.member_asides.proofs.Staying.{settle_copies}
 use Rattle.member_giving.proofs.Leaving.{StartsAs, first_all, work_none, work_starts, work_then}
 
@@ -17,30 +18,14 @@ never_console : (by : ℕ) (e : NodeNo) (o n : Outside) → CopyCauses {T = Unit
 never_console by ConsoleFault o n cause is = absurd cause
 never_console by _ o n cause is = absurd (cc)
 
--- what an error said, where no line is to be said
-tells_none : (e : NodeNo) (A : Type 0) (was now : List Line) → Silent e → StepTells {T = Unit {0}} (Err e) [] A was now → now ≡ was
-tells_none ConsoleFault A was now silent tells = absurd (silent refl)
-tells_none Halted A was now silent tells = ⊎_elim (λ none. none) (λ some. let few = some.2 in absurd (omega (arith, few))) tells
-tells_none _ A was now silent tells = tells
-
-tells_still : (e : NodeNo) (lines : List (List ℕ)) (A : Type 0) (was now : List Line) → Silent e → now ≡ was → StepTells {T = Unit {0}} (Err e) lines A was now
-tells_still ConsoleFault lines A was now silent same = absurd (silent refl)
-tells_still Halted lines A was now silent same = inl same
-tells_still _ lines A was now silent same = same
+-- all of no lines
+all_said : {A : Type 0} (was now : List Line) → now ≡ was → HasSaid {T = Unit {0}} A [] was now (Ok tt)
+all_said was now same = record { said = said_nothing; is = same ∙ sym (append-nil was); by_answer = refl; once_kept = inl refl }
 
 module _ (told : Type 0) (by : MemberId) where
-  tells_on : (r : Result (Unit {0}) NodeNo) (lines : List (List ℕ)) (A B : Type 0) (was mid now : List Line) → mid ≡ was → (A → B) → StepTells r lines A mid now → StepTells r lines B was now
-  tells_on (Ok t) lines A B was mid now same to tells = tells ∙ ap (λ (l : List Line). l ++ map whole lines) same
-  tells_on (Err ConsoleFault) lines A B was mid now same to tells = (tells.0, tells.1, tells.2 ∙ ap (λ (l : List Line). l ++ map whole (take tells.0 lines)) same)
-  tells_on (Err Halted) lines A B was mid now same to tells = ⊎_elim
-      (λ none. inl (none ∙ same))
-      (λ more. inr (to more.0, more.1, more.2, subst (λ (l : List Line). Breaks more.1 lines l now) same more.3))
-      tells
-  tells_on _ lines A B was mid now same to tells = tells ∙ same
-
   -- nothing was said
   pub quiet : (o n : Outside) (ess : List (List Entry)) → IsKeeping told by ess o n (Ok tt) → told → console_now n.view ≡ console_now o.view
-  quiet o n ess k t = k.closes.console t ∙ append-nil (console_now o.view)
+  quiet o n ess k t = none_said _ (console_now o.view) (console_now n.view) (Ok tt) (k.closes.console t)
 
   -- ONE CALL AFTER ANOTHER
 
@@ -59,7 +44,7 @@ module _ (told : Type 0) (by : MemberId) where
         rest = one.rest ++ two.rest;
         batches_are = joined two.rest two.batches_are;
         journal = work_then by r o.view.now m.view.now n.view.now ess one.rest more two.rest first then one.journal two.journal;
-        console = λ t. tells_on r lines (HasAll by m.view.now n.view.now more m.batches n.batches) (HasAll by o.view.now n.view.now (ess ++ more) o.batches n.batches) (console_now o.view) (console_now m.view) (console_now n.view) (quiet o m ess kept t)
+        console = λ t. said_on (HasAll by m.view.now n.view.now more m.batches n.batches) (HasAll by o.view.now n.view.now (ess ++ more) o.batches n.batches) lines (console_now o.view) (console_now m.view) (console_now n.view) r (quiet o m ess kept t)
             (λ has. (one.rest ++ has.0, joined has.0 has.1, work_then by (Ok tt) o.view.now m.view.now n.view.now ess one.rest more has.0 first then one.journal has.2)) (two.console t);
       }
 
@@ -78,7 +63,7 @@ module _ (told : Type 0) (by : MemberId) where
         rest = k.rest;
         batches_are = k.batches_are;
         journal = work_starts by n.view.now e o.view.now xs ess k.rest (λ is. kept.silent (ap Err is)) starts k.journal;
-        console = λ t. tells_still e lines _ (console_now o.view) (console_now n.view) kept.silent (tells_none e _ (console_now o.view) (console_now n.view) kept.silent (k.console t));
+        console = λ t. said_none _ lines (console_now o.view) (console_now n.view) e (λ is. kept.silent (ap Err is)) (none_said _ (console_now o.view) (console_now n.view) (Err e) (k.console t));
       }
 
   pub keeping_starts : (e : NodeNo) (xs ess : List (List Entry)) (o n : Outside) → StartsAs xs ess → IsKeeping told by xs o n (Err e) → IsKeeping told by ess o n (Err e)
@@ -89,7 +74,7 @@ module _ (told : Type 0) (by : MemberId) where
   keeping_wanted ess o n kept =
       let k = kept.closes in
       record {
-        closes = record { course = k.course; loses = k.loses; cause = k.cause; spares = k.spares; rest = k.rest; batches_are = k.batches_are; journal = first_all by NoMemory o.view.now n.view.now ess k.rest k.journal; console = λ t. quiet o n ess kept t };
+        closes = record { course = k.course; loses = k.loses; cause = k.cause; spares = k.spares; rest = k.rest; batches_are = k.batches_are; journal = first_all by NoMemory o.view.now n.view.now ess k.rest k.journal; console = λ t. said_none _ [] (console_now o.view) (console_now n.view) NoMemory (λ is. absurd (cc)) (quiet o n ess kept t) };
         silent = λ is. absurd (cc);
       }
 
@@ -98,7 +83,7 @@ module _ (told : Type 0) (by : MemberId) where
   -- nothing is done
   pub keeping_none : (o : Outside) → IsKeeping told by [] o o (Ok tt)
   keeping_none o = record {
-    closes = record { course = course_none o.first o.second o.view; loses = λ t d. refl; cause = inr (refl, refl); spares = spares_none by.0 o.view; rest = []; batches_are = sym (append-nil o.batches); journal = tt; console = λ t. sym (append-nil (console_now o.view)) };
+    closes = record { course = course_none o.first o.second o.view; loses = λ t d. refl; cause = inr (refl, refl); spares = spares_none by.0 o.view; rest = []; batches_are = sym (append-nil o.batches); journal = tt; console = λ t. all_said (console_now o.view) (console_now o.view) refl };
     silent = λ is. absurd (cc);
   }
 
@@ -109,7 +94,7 @@ module _ (told : Type 0) (by : MemberId) where
     -- acts on the copies
     held_ok : (ess : List (List Entry)) (rest : List Batch) → n.batches ≡ o.batches ++ rest → AreAll by o.view.now n.view.now ess rest → OnCopies (Ok tt) → IsKeeping told by ess o n (Ok tt)
     held_ok ess rest are all acts = record {
-      closes = record { course = acts.course; loses = acts.loses; cause = acts.cause; spares = acts.spares; rest = rest; batches_are = are; journal = all; console = λ t. (acts.apart t).console ∙ sym (append-nil (console_now o.view)) };
+      closes = record { course = acts.course; loses = acts.loses; cause = acts.cause; spares = acts.spares; rest = rest; batches_are = are; journal = all; console = λ t. all_said (console_now o.view) (console_now n.view) (acts.apart t).console };
       silent = λ is. absurd (cc);
     }
 
@@ -125,7 +110,7 @@ module _ (told : Type 0) (by : MemberId) where
             rest = rest;
             batches_are = are;
             journal = leaves;
-            console = λ t. tells_still e [] _ (console_now o.view) (console_now n.view) silent (acts.apart t).console;
+            console = λ t. said_none _ [] (console_now o.view) (console_now n.view) e (λ is. silent (ap Err is)) (acts.apart t).console;
           };
           silent = silent;
         }
@@ -168,27 +153,15 @@ module _ (told : Type 0) (by : MemberId) where
     rest = [];
     batches_are = same ∙ sym (append-nil o.batches);
     journal = leaves r;
-    console = λ t. tells r (said.console t);
+    console = λ t. said_on (Unit {0}) _ lines (console_now o.view) (console_now o.view) (console_now n.view) r refl (λ u. ([], same ∙ sym (append-nil o.batches), tt)) (said.console t);
   } where
     on_course : Course (pair_at o.first o.second o.view) (pair_at n.first n.second n.view)
     on_course = rw (first, second) (console_course told o.first o.second o.view n.view said.acts)
 
-    causes : (r : Result (Unit {0}) NodeNo) → SayCauses r by.0 o.view n.view → StepCauses r by.0 (pair_seen o) (pair_at o.first o.second n.view)
-    causes (Ok done) cause = inr (refl, refl)
-    causes (Err ConsoleFault) cause = (inr (refl, refl), cause)
-    causes (Err Halted) cause = (inr (refl, refl), cause)
-    causes _ cause = absurd cause
-
     caused : StepCauses r by.0 (pair_at o.first o.second o.view) (pair_at n.first n.second n.view)
-    caused = rw (first, second) (causes r said.cause)
+    caused = rw (first, second) (say_causes r by.0 (pair_seen o) n.view said.cause)
 
     leaves : (r : Result (Unit {0}) NodeNo) → WorkLeaves r by o.view.now n.view.now [] []
     leaves (Ok done) = tt
     leaves (Err ConsoleFault) = tt
     leaves (Err _) = tt
-
-    tells : (r : Result (Unit {0}) NodeNo) → Adds r lines (console_now o.view) (console_now n.view) → StepTells r lines (HasAll by o.view.now n.view.now [] o.batches n.batches) (console_now o.view) (console_now n.view)
-    tells (Err NoMemory) adds = absurd adds
-    tells (Err BothLost) adds = absurd adds
-    tells (Err Halted) adds = inr (([], same ∙ sym (append-nil o.batches), tt), adds.0, adds.1, adds.2)
-    tells _ adds = adds

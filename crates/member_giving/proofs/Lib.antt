@@ -6,7 +6,6 @@ pub mod Seated
 pub mod Sat
 pub mod Resting
 pub mod Given
-pub mod Taking
 pub mod Leaving
 pub mod Keeping
 pub mod Names

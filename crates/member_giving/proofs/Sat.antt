@@ -1,5 +1,5 @@
 -- A whole sitting.
-use Rattle.member_giving.proofs.Names.{◌≡◌, ℕ, ◌+◌, List, [], ◌++◌, length, Result, Ok, Err, ◌≤◌, Bool, true, false, if◌then◌else◌, take, Option, Some, None, IfOk, ◌∙◌, ⊎_elim, ap, refl, subst, arith, nat_le, sym, nat_tests, MemberId, Batch, Entry, Queue, JobNo, OutNo, Output, OutSpec, groups_of_outputs, is_cancelled, job_at, output_at, PlantGhosts, Ghosts as CopyGhosts, Complex, Spools, SteadyGhosts, Member, NodeNo, ConsoleFault, NoMemory, console_now, HasAll, WorkLeaves, AreSpooled, cut, sittings_most, all_entries, units_done, units_left, Sitting, released, sitting_of, Aside, PrintLines, ReadText, SpoolOutputs, Found, Holder, State, Away, Turn, turn, SittingEnd, Says, SaysWork, EndsAs, IsWithin, Plays, PlaysAs, Wrote, bounds, wrote_of, Run, outside, place_of, queue_kept, run_of, IsToResume, AreStanding, Tables, Tell, IsMarkRight, may_mark, held_by, LeavesFirst, MayFly, ended, to_play, ◌∷◌, IsStill, Spares, stopped_in, parts_of, Parts, pair_of, StepCauses, StepTells, IsWhere, LeftBy, Lefts, bare, by_all, cause_by, next_left, none_left, part_left, said_by}
+use Rattle.member_giving.proofs.Names.{◌≡◌, ℕ, ◌+◌, List, [], ◌++◌, length, Result, Ok, Err, ◌≤◌, Bool, true, false, if◌then◌else◌, take, Option, Some, None, IfOk, ◌∙◌, ⊎_elim, ap, refl, subst, arith, nat_le, sym, nat_tests, MemberId, Batch, Entry, Queue, JobNo, OutNo, Output, OutSpec, groups_of_outputs, is_cancelled, job_at, output_at, PlantGhosts, Ghosts as CopyGhosts, Complex, Spools, SteadyGhosts, Member, NodeNo, ConsoleFault, NoMemory, console_now, HasAll, WorkLeaves, AreSpooled, cut, sittings_most, all_entries, units_done, units_left, Sitting, released, sitting_of, Aside, PrintLines, ReadText, SpoolOutputs, Found, Holder, State, Away, Turn, turn, SittingEnd, Says, SaysWork, EndsAs, IsWithin, Plays, PlaysAs, Wrote, bounds, wrote_of, Run, outside, place_of, queue_kept, run_of, IsToResume, AreStanding, Tables, Tell, IsMarkRight, may_mark, held_by, LeavesFirst, MayFly, bare, to_play, ◌∷◌, IsStill, parts_of, Parts, pair_of, LeftBy, Lefts, bare, by_all, cause_by, next_left, none_left, part_left, said_by}
 use Rattle.mas_types.specs.declared.ids.GroupNo.{GroupNo}
 use Rattle.mas_types.specs.declared.queues.Owner.{Owner}
 use Rattle.mas_types.specs.Ids.{is_somebody}
@@ -34,21 +34,11 @@ first_left why by from now (es ∷ ess) (b ∷ bs) leaves = ⊎_elim
     }
 
 -- by the answer: what is left in the journal
-left_by : (r : Result SittingEnd NodeNo) (by : MemberId) (from now : ℕ) (ess : List (List Entry)) (more : List Batch) → WorkLeaves (ended r) by from now ess more → LeftBy by from now ess more r
+left_by : (r : Result SittingEnd NodeNo) (by : MemberId) (from now : ℕ) (ess : List (List Entry)) (more : List Batch) → WorkLeaves (bare r) by from now ess more → LeftBy by from now ess more r
 left_by (Ok e) by from now ess more all = by_all by from now ess more (Ok e) all
 left_by (Err ConsoleFault) by from now ess more all = by_all by from now ess more (Err ConsoleFault) all
 left_by (Err NoMemory) by from now ess more leaves = let l = first_left NoMemory by from now ess more leaves in record { reach = l.2.reach; left = l.2.left; reached = l.2.flag ∙ l.1 refl }
 left_by (Err why) by from now ess more leaves = let l = first_left why by from now ess more leaves in record { reach = l.2.reach; left = l.2.left; reached = tt }
-
-all_where : (r : Result SittingEnd NodeNo) (by : MemberId) (from now : ℕ) (ess : List (List Entry)) (front batches rest : List Batch) → batches ≡ front ++ rest → WorkLeaves (ended r) by from now ess rest → IsWhere r (HasAll by from now ess front batches)
-all_where (Ok e) by from now ess front batches rest are all = (rest, are, all)
-all_where (Err ConsoleFault) by from now ess front batches rest are all = (rest, are, all)
-all_where (Err _) by from now ess front batches rest are all = tt
-
--- the same answer, named by those who end a sitting
-as_bare : (A : Result (Unit {0}) NodeNo → Type 0) (r : Result SittingEnd NodeNo) → A (ended r) → A (bare r)
-as_bare A (Ok e) a = a
-as_bare A (Err e) a = a
 
 -- a whole sitting, by what it writes
 abbrev pub sitting_as : Holder → Wrote → Sitting
@@ -97,9 +87,8 @@ module _ {P C : Type 0} {plants : PlantGhosts P} {steadies : SteadyGhosts C} {co
       let are = c.batches_are ∙ ap (λ (bs : List Batch). bs ++ c.rest) front in
       let v = plants.view x.plant in
       let u = plants.view y.plant in
-      let cause = cause_by r h.by.0 (pair_of x) (pair_of y) (as_bare (λ q. StepCauses q h.by.0 (pair_of x) (pair_of y)) r c.cause) (as_bare (λ q. Spares h.by.0 (stopped_in q) v u) r c.spares) in
+      let cause = cause_by r h.by.0 (pair_of x) (pair_of y) c.cause c.spares in
       let left = left_by r h.by v.now u.now p.wrote.batches c.rest c.journal in
-      let all = all_where r h.by v.now u.now p.wrote.batches x.journal.batches (outside y).batches c.rest are c.journal in
       record {
         acts = record { course = c.course; loses = c.loses; others = p.spares.others; papers = p.spares.papers; wires = p.spares.wires; spares = cause.1; cause = cause.0; notes = p.spares.notes };
         reach = left.reach;
@@ -107,9 +96,8 @@ module _ {P C : Type 0} {plants : PlantGhosts P} {steadies : SteadyGhosts C} {co
         journal = are;
         left = left.left;
         reached = left.reached;
-        console = λ t. said_by p.wrote.lines (console_now v) (console_now u) (HasAll h.by v.now u.now p.wrote.batches (outside x).batches (outside y).batches) (HasAll h.by v.now u.now p.wrote.batches x.journal.batches (outside y).batches) r
-            (λ has. subst (λ (bs : List Batch). HasAll h.by v.now u.now p.wrote.batches bs (outside y).batches) front has) all
-            (as_bare (λ q. StepTells q p.wrote.lines (HasAll h.by v.now u.now p.wrote.batches (outside x).batches (outside y).batches) (console_now v) (console_now u)) r (c.console t));
+        console = λ t. said_by r (HasAll h.by v.now u.now p.wrote.batches (outside x).batches (outside y).batches) (HasAll h.by v.now u.now p.wrote.batches x.journal.batches (outside y).batches) p.wrote.lines (console_now v) (console_now u)
+            (λ has. subst (λ (bs : List Batch). HasAll h.by v.now u.now p.wrote.batches bs (outside y).batches) front has) (c.console t);
         counts = p.counts;
         ends = ends_as h p.wrote r (subst (λ (es : List Entry). IfOk r (EndsAs h 0 es p.wrote)) nothing p.ends);
       }

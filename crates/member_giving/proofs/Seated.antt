@@ -1,14 +1,10 @@
 -- A member at the lock, at the beginning of a sitting and at its end.
-use Rattle.member_giving.proofs.Names.{◌≡◌, ℕ, List, [], Result, ◌∙◌, ap, refl, sym, subst, arith, All-nil, Ckpt1, Ckpt2, MemberId, Journal, Queue, disk_now, PlantGhosts, Ghosts as CopyGhosts, Complex, SteadyGhosts, values_of, Member, NodeNo, HaveSaid, OnConsole, settled_later, had_as, notes_same, still_roomy, Holder, SparesOthers, HasBounds, HasSeat, IsLow, Sits, Works, outside, Entry, MayBegin, Option, Tell, length, parts_of, queue_kept, meaning_run as run, IsClosing, ◌≤◌, closed, Half, IsAtRest, IsGiving, IsRoomy, first_half, second_half, between_done, can_draw, between_by}
+use Rattle.member_giving.proofs.Names.{◌≡◌, ℕ, List, [], Result, ◌∙◌, ap, refl, sym, subst, arith, All-nil, Ckpt1, Ckpt2, MemberId, Journal, Queue, disk_now, PlantGhosts, Ghosts as CopyGhosts, Complex, SteadyGhosts, values_of, Member, NodeNo, HaveSaid, OnConsole, settled_later, had_as, notes_same, still_roomy, Holder, SparesOthers, HasBounds, HasSeat, IsLow, Sits, Works, outside, Entry, MayBegin, Tell, length, parts_of, queue_kept, meaning_run as run, IsClosing, ◌≤◌, closed, IsGiving, IsRoomy, first_half, second_half, between_done, can_draw, between_by}
 use Rattle.mas_types.specs.Sound.{IsSound}
-use Rattle.mas_types.specs.declared.ids.Page.{Page}
 use Rattle.mas_complex.proofs.Batches.{none_begins}
+use Rattle.member_steps.proofs.SayLemmas.{rests_as}
 use Rattle.member_giving.proofs.Keeping.{closing_said}
 use Rattle.member_giving.proofs.Working.{same_out}
-
--- a copy that reads as it did
-rests_as : (told : Type 0) (h : Half) (pages : List Page) (read : Option (List ℕ)) → (told → read ≡ h.read) → IsAtRest told h pages → IsAtRest told (record h { read = read }) pages
-rests_as told h pages read same rests = record { before = rests.before; as_many = rests.as_many; reads = λ t on. same t ∙ rests.reads t on }
 
 module _ {P C : Type 0} {plants : PlantGhosts P} {steadies : SteadyGhosts C} {copies : CopyGhosts C} where
   -- AT THE BEGINNING

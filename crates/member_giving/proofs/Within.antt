@@ -1,5 +1,5 @@
 -- What a sitting of work may come to on every plant: how many batches, and which lines.
-use Rattle.member_giving.proofs.Names.{◌≡◌, ℕ, zero, suc, ◌+◌, ◌*◌, ◌≤◌, Bool, true, false, List, [], ◌∷◌, ◌++◌, length, Option, Some, None, All, inl, inr, ap, refl, arith, IfSome, option_map_or, All-cons, All-nil, Command, JobNo, Job, OutSpec, Output, Entry, Queue, job_at, output_at, run, unit_of, test_cases, UnitEnd, end_by, cut, cut_after, is_full, sittings_most, are_refused, takes, closing_reply, ending, groups_for_end, printed_end, taking, SpoolOutputs, Found, Holder, Progress, State, Away, Fresh, Rested, Told, Turn, Units, after_part, closes_as, ends_with, gives, goes_on, goes_on_by, groups_taken, is_spent, job_ends, leaves, next_unit, no_more, one_command, prints_output, reads_job, text_read, units_from, MayCloseBy, MayEndBy, MayRefuseBy, SaysAtEnd, WorkLines, IsWithin, MayStopBy, Wrote, after_full, bounds, full_of, unwritten, wrote_after, wrote_of, AreOf, given_of, Reply, last_part}
+use Rattle.member_giving.proofs.Names.{◌≡◌, ℕ, zero, suc, ◌+◌, ◌*◌, ◌≤◌, Bool, true, false, List, [], ◌∷◌, ◌++◌, length, Option, Some, None, All, inl, inr, ap, refl, arith, IfSome, option_map_or, All-cons, All-nil, Command, JobNo, Job, OutSpec, Output, Entry, Queue, job_at, output_at, run, unit_of, test_cases, UnitEnd, end_by, cut, cut_after, is_full, sittings_most, are_refused, takes, closing_reply, ending, groups_for_end, printed_end, taking, SpoolOutputs, Found, Holder, Progress, State, Away, Rested, Told, Turn, Units, after_part, closes_as, ends_with, gives, goes_on, goes_on_by, groups_taken, is_spent, job_ends, leaves, next_unit, no_more, one_command, prints_output, reads_job, text_read, units_from, MayCloseBy, MayEndBy, MayRefuseBy, SaysAtEnd, WorkLines, IsWithin, MayStopBy, Wrote, after_full, bounds, full_of, unwritten, wrote_of, AreOf, given_of, Reply, last_part}
 use Rattle.mas_types.specs.declared.answers.Closing.{Closing}
 use Rattle.mas_types.specs.declared.jobs.JobFields.{JobFields}
 use Rattle.mas_types.specs.declared.answers.Closing.TheVariants as closing
@@ -197,31 +197,19 @@ module _ (h : Holder) (found : Found) (units : ℕ) where
   abbrev Within : ℕ → Wrote → Type 0
   Within most w = IsWithin h (bounds most units found) w
 
-  pub wrote_within : (most : ℕ) (es : List Entry) (t : Turn) (least : ℕ) → least + unwritten es ≤ most → TurnWithin h found least units t → Within most (wrote_of es t)
-  wrote_within most es t least le w = record { few = let few = w.few in let all = cut_few es t.parts in omega (arith, few, all, le); says = w.says }
-
-  pub part_wrote : (most : ℕ) (so_far es : List Entry) (t : Turn) (least : ℕ) → least + 1 + unwritten so_far ≤ most → TurnWithin h found least units t → Within most (wrote_of so_far (after_part es t))
-  part_wrote most so_far es t least le w = record { few = let few = w.few in let all = cut_few so_far (es ∷ t.parts) in omega (arith, few, all, le); says = w.says }
-
-  pub after_within : (most : ℕ) (es : List Entry) (t : Turn) (least : ℕ) → least + unwritten es ≤ most → TurnWithin h found least units t → Within most (wrote_after es t)
-  after_within most es t least le w = record { few = let few = w.few in let all = after_few es t.parts in omega (arith, few, all, le); says = w.says }
-
-  pub close_within : (es : List Entry) (end : Closing) → MayCloseBy units found end → (most : ℕ) → unwritten es ≤ most → Within most (wrote_of es (closes_as h end))
-  close_within es end may most le = record { few = omega (arith, le); says = (end, refl, may) }
+  -- these batches, so many more than the turn has parts
+  pub wrote_within : (most more : ℕ) (ess : List (List Entry)) (t : Turn) (least : ℕ) → length ess ≤ more + length t.parts → least + more ≤ most → TurnWithin h found least units t → Within most (record { batches = ess; next = t.next; lines = t.lines })
+  wrote_within most more ess t least all le w = record { few = let few = w.few in omega (arith, few, all, le); says = w.says }
 
   pub leave_within : (es : List Entry) (s : State) → (s ≡ Told → ⊥) → (most : ℕ) → sittings_most s + unwritten es ≤ most → Within most (wrote_of es (leaves s))
   leave_within es s goes most le = record { few = omega (arith, le); says = silent s goes } where
     silent : (s : State) → (s ≡ Told → ⊥) → SaysAtEnd s (WorkLines h units found) []
-    silent (Fresh task) goes = refl
-    silent (Away aside) goes = refl
-    silent (Rested p) goes = refl
     silent Told goes = absurd (goes refl)
+    silent _ goes = refl
 
 -- bounds that leave more
 pub more_wrote : (h : Holder) (found : Found) (most least units fewer : ℕ) (w : Wrote) → least ≤ most → fewer ≤ units → IsWithin h (bounds least fewer found) w → IsWithin h (bounds most units found) w
 more_wrote h found most least units fewer w le less b = record { few = let few = b.few in omega (arith, few, le); says = more w.next b.says } where
   more : (s : State) → SaysAtEnd s (WorkLines h fewer found) w.lines → SaysAtEnd s (WorkLines h units found) w.lines
-  more (Fresh task) said = said
-  more (Away aside) said = said
-  more (Rested p) said = said
   more Told said = (said.0, said.1, more_closings fewer units found said.0 less said.2)
+  more _ said = said

@@ -1,5 +1,5 @@
 -- A member at work, after a call.
-use Rattle.member_giving.proofs.Names.{◌≡◌, ℕ, ◌+◌, ◌≤◌, ◌<◌, List, [], ◌++◌, Ok, ◌∙◌, ap, append-nil, refl, sym, subst, arith, MemberId, Batch, Entry, Queue, PlantGhosts, Ghosts as CopyGhosts, Complex, SteadyGhosts, end_of, kept_all, meaning_run as run, Member, too_high, none_out, parts_of, AreOf, batch_of, Holder, Keeps, HasRoom, IsLow, UsesOne, Works, outside, queue_here, queue_kept, run_of, IsStill}
+use Rattle.member_giving.proofs.Names.{◌≡◌, ℕ, ◌+◌, ◌≤◌, List, [], ◌++◌, Ok, ◌∙◌, ap, append-nil, refl, sym, subst, arith, MemberId, Batch, Entry, Queue, PlantGhosts, Ghosts as CopyGhosts, Complex, SteadyGhosts, end_of, kept_all, meaning_run as run, Member, none_out, parts_of, AreOf, batch_of, Holder, Keeps, HasRoom, UsesOne, Works, outside, queue_here, queue_kept, run_of, IsStill}
 use Rattle.mas_complex.proofs.Batches.{kept_all_append}
 use Rattle.member_giving.proofs.Cuts.{batch_entries}
 use Rattle.member_giving.proofs.Leaving.{kept_entries}
@@ -43,9 +43,6 @@ module _ {P C : Type 0} {plants : PlantGhosts P} {steadies : SteadyGhosts C} {co
       let b = room.high in
       let c = room.level in
       record { order = omega (arith, order, a); high = omega (arith, high, b); level = omega (arith, level, c) }
-
-  pub room_low : (x : Complex P C plants steadies copies) (m : Member) → IsLow x m → (k : ℕ) → k ≤ 20000 → x.level + k < too_high → HasRoom x m k
-  room_low x m low k few level = let order = low.order in let high = low.high in record { order = omega (arith, order, few); high = omega (arith, high, few); level = level }
 
   pub less_room : (x : Complex P C plants steadies copies) (m : Member) (j k : ℕ) → j ≤ k → HasRoom x m k → HasRoom x m j
   less_room x m j k le room = let a = room.order in let b = room.high in let c = room.level in record { order = omega (arith, le, a); high = omega (arith, le, b); level = omega (arith, le, c) }

@@ -9,7 +9,8 @@ use Rattle.member_node.specs.declared.member.NodeNo.{NodeNo}
 use Rattle.member_node.specs.declared.member.NodeNo.TheVariants.{BothLost, ConsoleFault, Halted}
 use Rattle.member_node.specs.Calls.{Course, IsOnlyOn, console_now}
 use Rattle.member_node.specs.Spares.{Spares, stopped_in}
-use Rattle.member_steps.specs.Steps.{StepCauses, StepTells}
+use Rattle.member_steps.specs.Saying.{HasSaid}
+use Rattle.member_steps.specs.Steps.{StepCauses}
 use Rattle.member_decks.specs.Batches.{AreAll, HasAll, IsCut, IsFlyingBatch, IsFront, IsKeptBatch}
 use Rattle.job_outcome.specs.declared.outcomes.Outcome.{Outcome}
 use Rattle.job_outcome.specs.declared.outcomes.Outcome.TheVariants as outcome
@@ -17,6 +18,7 @@ use Rattle.job_outcome.specs.declared.units.UnitEnd.{UnitEnd}
 use Rattle.step_turns.specs.Courses.{sittings_most}
 use Rattle.step_turns.specs.Sittings.{released}
 use Rattle.step_turns.specs.declared.states.Found.{Found}
+use Rattle.member_asides.specs.Left.{bare}
 use Rattle.member_asides.specs.Shapes.{MayRefuseBy, SaysAtEnd, WorkLines}
 use Rattle.member_giving.specs.Works.{Outside, Place, pair_seen}
 
@@ -51,11 +53,6 @@ rests h zero given = false
 rests h (suc left) given = is_spent h.grant h.hold given
 
 -- HOW FAR A CALL CAME
-
--- an answer, whatever it gives
-abbrev pub ended : {T : Type 0} → Result T NodeNo → Result (Unit {0}) NodeNo
-ended (Ok done) = Ok tt
-ended (Err why) = Err why
 
 -- a batch may be in flight after this error
 abbrev pub MayFly : NodeNo → Type 0
@@ -102,9 +99,8 @@ pub record IsClosing (told : Type 0) (by : MemberId) (w : Closed) (old new : Out
   pub rest : List Batch
   pub batches_are : new.batches ≡ old.batches ++ rest
   pub journal : WorkLeaves result by old.view.now new.view.now w.batches rest
-  pub console : told → StepTells result w.lines
-      (HasAll by old.view.now new.view.now w.batches old.batches new.batches) (console_now old.view)
-      (console_now new.view)
+  pub console : told → HasSaid (HasAll by old.view.now new.view.now w.batches old.batches new.batches) w.lines
+      (console_now old.view) (console_now new.view) result
 
 -- batches with these entries are kept, one after another, and nothing is said; so the console doesn't fail
 pub record IsKeeping (told : Type 0) (by : MemberId) (ess : List (List Entry)) (old new : Outside)
@@ -113,10 +109,10 @@ pub record IsKeeping (told : Type 0) (by : MemberId) (ess : List (List Entry)) (
   pub silent : result ≡ Err ConsoleFault → ⊥
 
 abbrev pub Keeps : {T : Type 0} → Type 0 → MemberId → List (List Entry) → Outside → Outside → Result T NodeNo → Type 0
-Keeps told by ess old new r = IsKeeping told by ess old new (ended r)
+Keeps told by ess old new r = IsKeeping told by ess old new (bare r)
 
 abbrev pub Closes : {T : Type 0} → Type 0 → MemberId → Wrote → Outside → Outside → Result T NodeNo → Type 0
-Closes told by w old new r = IsClosing told by (closed w.batches w.lines) old new (ended r)
+Closes told by w old new r = IsClosing told by (closed w.batches w.lines) old new (bare r)
 
 -- Where content is told no volume is written, nothing is printed, and nothing moves on a line to another node. What
 -- every other member noted is as it was.

@@ -17,7 +17,8 @@ use std::alloc::Global;
 use step_turns::{Holder, State};
 
 /// Ends a sitting in which so many commands were given, and its step, which closes so: what isn't written is kept, and
-/// then the line is said. All memory for the line is taken before.
+/// then the line is said. All memory for the line is taken before. BothLost, Halted and NoMemory come as [`keep`] says;
+/// Halted also where the member was stopped at the line, and ConsoleFault where the console failed at it.
 pub fn close_step<P: Plant + Drop, C: Steady + Drop>(
     member: &mut Member,
     alloc: Global,
@@ -47,7 +48,8 @@ pub fn close_step<P: Plant + Drop, C: Steady + Drop>(
     })
 }
 
-/// Ends a sitting in which so many commands were given, in this state of its step: nothing is said.
+/// Ends a sitting in which so many commands were given, in this state of its step: nothing is said. The errors are those
+/// of [`keep`].
 pub fn leave_step<P: Plant + Drop, C: Steady + Drop>(
     member: &mut Member,
     alloc: Global,

@@ -6,8 +6,8 @@ ghost use Rattle.member_giving.specs.Plays.{GivesUp, after_full, full_of};
 ghost use Rattle.member_giving.specs.Works.{HasRoom, Works, outside, run_of};
 
 use mas_complex::{Complex, Steady};
-use member_decks::keep_batch;
 use member_node::{Member, NodeNo};
+use member_steps::keep_batch;
 use spool_plant::Plant;
 use std::alloc::Global;
 use step_turns::Holder;

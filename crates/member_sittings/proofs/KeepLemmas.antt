@@ -1,11 +1,12 @@
 -- What a sitting of one batch did, from the calls that keep the batch and say the lines.
-use Rattle.member_sittings.proofs.Names.{◌≡◌, ℕ, ◌≤◌, List, [], ◌∷◌, ◌++◌, length, false, Result, Ok, Err, inr, append-nil, refl, sym, ◌∙◌, ap, subst, arith, MemberId, Entry, View, PlantGhosts, begun, Parts, NodeNo, ConsoleFault, NoMemory, console_now, HasKept, spares_none, IsStep, StepCauses, notes_none, HasAll, CopyCauses, GivesUpLeaves, all_entries, Sitting, released, Holder, State, SittingEnd, ends_in, HasSaid, CopiesActed, IsEndOf, IsSatAs, journal_of, IfOk, HasActed, PairState, pair_state}
-use Rattle.member_node.proofs.CourseLemmas.{course_none, only_none, papers_none, wires_none}
+use Rattle.member_sittings.proofs.Names.{◌≡◌, ℕ, ◌≤◌, List, [], ◌∷◌, ◌++◌, length, Result, Ok, Err, inl, append-nil, refl, sym, ◌∙◌, ap, subst, MemberId, Entry, View, PlantGhosts, begun, Parts, NodeNo, ConsoleFault, NoMemory, console_now, HasKept, IsStep, StepCauses, notes_none, HasAll, CopyCauses, GivesUpLeaves, all_entries, Sitting, released, Holder, State, SittingEnd, ends_in, HasSaid, bare, CopiesActed, IsEndOf, IsSatAs, journal_of, IfOk, HasActed, PairState, pair_state}
+use Rattle.member_steps.proofs.KeepLemmas.{copies_none}
 use Rattle.member_steps.specs.Counting.{HasCounted}
 use Rattle.member_steps.specs.Noting.{OtherNotesStay}
 use Rattle.member_steps.proofs.CountLemmas.{counted_error, counted_ok, counted_one, counted_up}
 use Rattle.step_turns.specs.declared.states.Release.{Release}
-use Rattle.member_sittings.proofs.ReachLemmas.{OneLeft, none_left, one_all, one_given_up, one_step, said_by, said_none, bare, kept_by, cause_by}
+use Rattle.member_sittings.proofs.ReachLemmas.{OneLeft, one_all, one_given_up, one_step, said_by, cause_by}
+use Rattle.member_steps.proofs.SayLemmas.{said_none}
 use Rattle.member_sittings.specs.Sat.{sat_in}
 use Rattle.member_node.specs.Writes.{journal_at}
 
@@ -49,7 +50,7 @@ module _ {P C : Type 0} (plants : PlantGhosts P) (by : MemberId) (h : Holder) (s
       sat_by (es ++ rest) (Err e)
       (record { course = acts.on.course; loses = acts.on.loses; others = λ t. (apart t).others; papers = λ t. (apart t).papers; wires = λ t. (apart t).wires; spares = acts.on.spares; cause = cause.0; notes = acts.notes })
       (one_given_up by V.now W.now acts.on.course.goes.later es rest x.batches (journal_of y) e more leaves)
-      (λ t. said_none lines (console_now V) (console_now W) _ e cause.1 (apart t).console)
+      (λ t. said_none _ lines (console_now V) (console_now W) e cause.1 (apart t).console)
       (counted_up by [] (all_entries ((es ++ rest) ∷ [])) x.printed y.printed (Err e) e counts) tt
 
   -- a step's batch and its lines
@@ -60,37 +61,13 @@ module _ {P C : Type 0} (plants : PlantGhosts P) (by : MemberId) (h : Holder) (s
       let cause = cause_by r by.0 (pair_state plants.view x) (pair_state plants.view y) step.cause step.spares in
       sat_by es r (record { course = step.course; loses = step.loses; others = step.others; papers = step.papers; wires = step.wires; spares = cause.1; cause = cause.0; notes = notes })
       (one_step by V.now W.now later es some x.batches (journal_of y) r step.journal)
-      (λ t. said_by lines (console_now V) (console_now W) (HasKept x.batches (journal_of y) (begun V.now by es) W.now) (HasAll by V.now W.now (es ∷ []) x.batches (journal_of y)) r (one_all by V.now W.now later es some x.batches (journal_of y))
-      (kept_by by V.now W.now later es some x.batches (journal_of y) r step.journal) (step.console t))
+      (λ t. said_by r (HasKept x.batches (journal_of y) (begun V.now by es) W.now) (HasAll by V.now W.now (es ∷ []) x.batches (journal_of y)) lines (console_now V) (console_now W) (one_all by V.now W.now later es some x.batches (journal_of y)) (step.console t))
       (counted_in r by es x.printed y.printed counts) ends
 
 -- nothing was done, out of memory
-pub sat_none : {P C : Type 0} (plants : PlantGhosts P) (by : MemberId) (h : Holder) (next : State) (lines : List (List ℕ)) (x : Parts P C) (es : List Entry) → journal_of x ≡ x.batches → IsSatAs plants by (ends_in h (es ∷ []) next lines) x x (Err NoMemory)
-sat_none plants by h next lines x es same =
-    let v = plants.view x.plant in
-    record {
-      sat = record {
-        acts = record {
-          course = course_none x.first_alive x.second_alive v;
-          loses = λ t d. refl;
-          others = λ t. only_none v;
-          papers = λ t. papers_none v;
-          wires = λ t. wires_none v;
-          spares = spares_none by.0 v;
-          cause = inr (refl, refl);
-          notes = notes_none by x.had;
-        };
-        reach = record { whole = 0; part = 0; flies = false };
-        more = [];
-        journal = same ∙ sym (append-nil x.batches);
-        left = none_left by v.now v.now (es ∷ []);
-        reached = refl;
-        console = λ t. said_none lines (console_now v) (console_now v) _ NoMemory (λ e. absurd (cc)) refl;
-        counts = counted_error by (all_entries (es ∷ [])) x.printed x.printed NoMemory refl;
-        ends = tt;
-      };
-      tight = omega arith;
-    }
+pub sat_none : {P C : Type 0} (plants : PlantGhosts P) (h : Holder) (next : State) (lines : List (List ℕ)) (x : Parts P C) (es : List Entry) → 1 ≤ length es → journal_of x ≡ x.batches → IsSatAs plants h.by (ends_in h (es ∷ []) next lines) x x (Err NoMemory)
+sat_none plants h next lines x es some same =
+    sat_given_up plants h.by h refl next lines x x [] es NoMemory some (record { on = copies_none plants.tells h.by.0 (pair_state plants.view x); notes = notes_none h.by x.had }) (inl same) (counted_error h.by [] x.printed x.printed NoMemory refl)
 
 -- how a sitting of one batch ends
 pub ends_of : (h : Holder) (es : List Entry) (next : State) (lines : List (List ℕ)) (given : ℕ) (release : Release) → given ≡ length es → release ≡ released h.grant h.hold given next

@@ -1,5 +1,5 @@
 -- How far a sitting came, from what its parts left in the journal and on the console.
-use Rattle.member_sittings.proofs.Names.{◌≡◌, ℕ, ◌≤◌, ◌<◌, Bool, true, false, List, [], ◌∷◌, ◌++◌, length, map, take, Some, None, Result, Ok, Err, inl, inr, ⊎_elim, suc, append_assoc, append-nil, refl, sym, ◌∙◌, ap, subst, arith, MemberId, Batch, Entry, ViewLine as Line, begun, fated, NodeNo, BothLost, Halted, ConsoleFault, NoMemory, HasFlying, HasKept, Breaks, torn, StepLeaves, StepTells, AreAll, HasAll, IsKeptBatch, GivesUpLeaves, batch_of, HasLeft, HasSaid, IsLastBatch, Reach, ReachesBy, StandThere, left_by, reach_all, said_nothing, said_of, SittingEnd, StepCauses, PairState}
+use Rattle.member_sittings.proofs.Names.{◌≡◌, ℕ, ◌≤◌, Bool, true, false, List, [], ◌∷◌, ◌++◌, length, take, Result, Ok, Err, inl, inr, ⊎_elim, suc, append-nil, refl, sym, ◌∙◌, ap, subst, arith, MemberId, Batch, Entry, ViewLine as Line, begun, fated, NodeNo, BothLost, Halted, ConsoleFault, NoMemory, HasFlying, HasKept, StepLeaves, AreAll, HasAll, IsKeptBatch, GivesUpLeaves, batch_of, HasLeft, HasSaid, IsLastBatch, Reach, ReachesBy, Said, SaidBy, bare, StandThere, left_by, reach_all, SittingEnd, StepCauses, PairState}
 use Rattle.std.proofs.lemmas.List.{length-append, take_at}
 use Rattle.std.proofs.Math.Seq.{take-length}
 use Rattle.mas_types.specs.declared.journals.Fate.TheVariants.{Kept}
@@ -83,22 +83,11 @@ next_left flies by from now es ess b bs kept l = record {
   };
 }
 
--- the answer of the calls that keep a batch, by the sitting's
-abbrev pub bare : Result SittingEnd NodeNo → Result (Unit {0}) NodeNo
-bare (Ok e) = Ok tt
-bare (Err e) = Err e
-
 -- by the answer: its cause, and who was stopped
 pub cause_by : (r : Result SittingEnd NodeNo) (by : ℕ) (x y : PairState) → StepCauses (bare r) by x y → Spares by (stopped_in (bare r)) x.view y.view → StepCauses r by x y × Spares by (stopped_in r) x.view y.view
 cause_by (Ok e) by x y cause spares = (cause, spares)
 cause_by (Err NoMemory) by x y cause spares = (cause, spares)
 cause_by (Err _) by x y cause spares = (cause, spares)
-
--- what holds where the batch is kept for sure
-abbrev pub IsWhere : Result SittingEnd NodeNo → Type 0 → Type 0
-IsWhere (Ok end) A = A
-IsWhere (Err ConsoleFault) A = A
-IsWhere _ A = Unit {0}
 
 -- BY THE ANSWER
 
@@ -182,56 +171,15 @@ module _ (by : MemberId) (from now : ℕ) (later : from ≤ now) (es : List Entr
   one_step (Ok end) k = one_kept (Ok end) tt k
   one_step (Err NoMemory) none = nothing by from now es front batches (Err NoMemory) refl (omega arith) none
   one_step (Err ConsoleFault) k = one_kept (Err ConsoleFault) tt k
-  one_step (Err BothLost) leaves = ⊎_elim (λ none. nothing by from now es front batches (Err BothLost) tt (omega arith, λ part. absurd (omega (arith, part))) none) (λ flies. flown (Err BothLost) tt (omega arith, λ part. refl) flies) leaves
-  one_step (Err Halted) leaves = ⊎_elim
-      (λ none. nothing by from now es front batches (Err Halted) tt (λ part. absurd (omega (arith, part))) none)
-      (λ two. ⊎_elim (λ flies. flown (Err Halted) tt (λ part. refl) flies) (λ k. one_kept (Err Halted) (λ part. absurd (omega (arith, part))) k) two)
-      leaves
-
-  -- it is kept where all lines are said, or the console failed
-  pub kept_by : (r : Result SittingEnd NodeNo) → StepLeaves (bare r) front batches Whole now → IsWhere r (HasAll by from now (es ∷ []) front batches)
-  kept_by (Ok end) k = one_all k
-  kept_by (Err ConsoleFault) k = one_all k
-  kept_by (Err _) leaves = tt
+  one_step (Err BothLost) flies = flown (Err BothLost) tt (omega arith, λ part. refl) flies
+  one_step (Err Halted) leaves = ⊎_elim (λ flies. flown (Err Halted) tt (λ part. refl) flies) (λ k. one_kept (Err Halted) (λ part. absurd (omega (arith, part))) k) leaves
 
 -- ON THE CONSOLE
 
-module _ (lines : List (List ℕ)) (was now : List Line) where
-  -- nothing was said
-  pub said_none : {T : Type 0} (A : Type 0) (e : NodeNo) → (e ≡ ConsoleFault → ⊥) → now ≡ was → HasSaid {T = T} A lines was now (Err e)
-  said_none A NoMemory never same = record { said = said_nothing; is = same ∙ sym (append-nil was); by_answer = refl; once_kept = inl refl }
-  said_none A BothLost never same = record { said = said_nothing; is = same ∙ sym (append-nil was); by_answer = refl; once_kept = inl refl }
-  said_none A Halted never same = record { said = said_nothing; is = same ∙ sym (append-nil was); by_answer = omega arith; once_kept = inl refl }
-  said_none A ConsoleFault never same = absurd (never refl)
-
-  -- so many of the lines were said whole
-  whole_said : (n : ℕ) → now ≡ was ++ map whole (take n lines) → now ≡ was ++ said_of (record { lines = n; torn = None }) lines
-  whole_said n is = is ∙ ap (λ (l : List Line). was ++ l) (sym (append-nil (map whole (take n lines))))
-
-  pub said_all : {T : Type 0} (A : Type 0) (done : T) → A → now ≡ was ++ map whole lines → HasSaid A lines was now (Ok done)
-  said_all A done kept is = record {
-    said = record { lines = length lines; torn = None };
-    is = whole_said (length lines) (is ∙ ap (λ (l : List (List ℕ)). was ++ map whole l) (sym (take-length lines)));
-    by_answer = refl;
-    once_kept = inr kept;
-  }
-
-  pub said_some : {T : Type 0} (A : Type 0) (n : ℕ) → A → n < length lines → now ≡ was ++ map whole (take n lines) → HasSaid {T = T} A lines was now (Err ConsoleFault)
-  said_some A n kept less is = record { said = record { lines = n; torn = None }; is = whole_said n is; by_answer = (less, refl); once_kept = inr kept }
-
-  pub said_broken : {T : Type 0} (A : Type 0) (n : ℕ) → A → n < length lines → Breaks n lines was now → HasSaid {T = T} A lines was now (Err Halted)
-  said_broken A n kept less breaks = ⊎_elim
-      (λ none. record { said = record { lines = n; torn = None }; is = whole_said n none; by_answer = omega (arith, less); once_kept = inr kept })
-      (λ more. ⊎_elim
-      (λ part. record { said = record { lines = n; torn = Some part.0 }; is = part.1 ∙ append_assoc was (map whole (take n lines)) (torn part.0 ∷ []); by_answer = omega (arith, less); once_kept = inr kept })
-      (λ next. record { said = record { lines = suc n; torn = None }; is = whole_said (suc n) next; by_answer = omega (arith, less); once_kept = inr kept })
-      more)
-      breaks
-
-  -- what was said of a step's lines
-  pub said_by : (A B : Type 0) (r : Result SittingEnd NodeNo) → (A → B) → IsWhere r B → StepTells (bare r) lines A was now → HasSaid B lines was now r
-  said_by A B (Ok end) f kept tells = said_all B end kept tells
-  said_by A B (Err ConsoleFault) f kept tells = said_some B tells.0 kept tells.1 tells.2
-  said_by A B (Err NoMemory) f kept tells = said_none B NoMemory (λ e. absurd (cc)) tells
-  said_by A B (Err BothLost) f kept tells = said_none B BothLost (λ e. absurd (cc)) tells
-  said_by A B (Err Halted) f kept tells = ⊎_elim (λ none. said_none B Halted (λ e. absurd (cc)) none) (λ some. said_broken B some.1 (f some.0) some.2 some.3) tells
+-- what was said of a step's lines, by the answer of the sitting
+pub said_by : (r : Result SittingEnd NodeNo) (A B : Type 0) (lines : List (List ℕ)) (was now : List Line) → (A → B) → HasSaid A lines was now (bare r) → HasSaid B lines was now r
+said_by r A B lines was now to s = record { said = s.said; is = s.is; by_answer = by_answer r s.said s.by_answer; once_kept = ⊎_elim (λ none. inl none) (λ a. inr (to a)) s.once_kept } where
+  by_answer : (r : Result SittingEnd NodeNo) (s : Said) → SaidBy (bare r) lines s → SaidBy r lines s
+  by_answer (Ok e) s is = is
+  by_answer (Err NoMemory) s is = is
+  by_answer (Err _) s is = is

@@ -1,10 +1,10 @@
 -- A member at the shared value, within a sitting and after it.
-use Rattle.member_sittings.proofs.Names.{State, Told, Holder, IsToKeep, may_alike, some_of_one, reply_to, map, append-nil, ◌≡◌, ℕ, ◌+◌, ◌*◌, ◌^◌, ◌≤◌, ◌<◌, Result, IfOk, true, false, List, [], ◌∷◌, length, All, None, ◌++◌, Ok, Err, refl, sym, ◌∙◌, ap, subst, arith, All-weaker, All-append, All-cons, ∥∥₁_map, MemberId, Command, Reply, Batch, Entry, Config, Queue, IsFit, IsJobFields, may_give, JobFields, is_member, View, PlantGhosts, Tables, TellSound, Tell, AreRoomy, AreSettled, begun, kept_all, Parts, HasTexts, lost_now, spools_at, Member, NodeNo, console_now, AreLow, orders_after, too_high, HasKept, run_append, IsBetween, entry_with, had_as, at_lock, calm_rest, low_written, one_batch, told_sound, untold_later, begins_alone, between_done, can_draw, if_ok, kept_from_out, settled_later, settled_out, AreOf, one_of, still_roomy, given_in, opening, Gives, IsPart, LeaveOut, tells_some, of_front, of_given, SittingEnd, IsSatOn, journal_of, Commanded, Half, HasStepKept, HasTextsAfter, HasUntold, IsAtRest, IsBounded, IsGiving, IsRoomy, IsSeat, IsSitting, IsStepUntold, IsStill, MayKeep, first_half, queue_of, second_half, HasTextsOf, IsToCut, some_given}
+use Rattle.member_sittings.proofs.Names.{HasSaid, State, Told, Holder, IsToKeep, may_alike, some_of_one, reply_to, ◌≡◌, ℕ, ◌+◌, ◌*◌, ◌^◌, ◌≤◌, ◌<◌, Result, IfOk, true, false, List, [], ◌∷◌, length, All, None, ◌++◌, Ok, refl, sym, ◌∙◌, ap, subst, arith, All-weaker, All-append, All-cons, ∥∥₁_map, MemberId, Command, Reply, Batch, Entry, Config, Queue, IsFit, IsJobFields, may_give, JobFields, View, PlantGhosts, Tables, TellSound, Tell, AreRoomy, AreSettled, begun, kept_all, Parts, HasTexts, lost_now, spools_at, Member, NodeNo, console_now, AreLow, orders_after, too_high, HasKept, run_append, IsBetween, entry_with, had_as, at_lock, calm_rest, low_written, one_batch, told_sound, untold_later, begins_alone, between_done, can_draw, if_ok, kept_from_out, settled_later, settled_out, AreOf, one_of, still_roomy, given_in, opening, Gives, LeaveOut, tells_some, part_of, SittingEnd, IsSatOn, journal_of, Commanded, Half, HasStepKept, HasTextsAfter, HasUntold, IsAtRest, IsBounded, IsGiving, IsRoomy, IsSeat, IsSitting, IsStepUntold, IsStill, MayKeep, first_half, queue_of, second_half, HasTextsOf, IsToCut, some_given}
 use Rattle.std.specs.Prelude.{drop}
 use Rattle.std.proofs.lemmas.List.{drop_at}
 use Rattle.std.proofs.lemmas.List.Elements.{All-drop}
 use Rattle.mas_types.specs.declared.ids.Page.{Page}
-use Rattle.mas_complex.specs.Headline.{whole}
+use Rattle.member_steps.proofs.SayLemmas.{none_said}
 use Rattle.member_sittings.specs.Ends.{IsQuiet}
 use Rattle.member_sittings.specs.Whole.{IsLeftIn, IsToSit}
 use Rattle.paper_laws.specs.Counts.{is_mark}
@@ -17,7 +17,7 @@ use Rattle.member_node.specs.Batches.{HasDone}
 use Rattle.member_node.specs.Drawn.{AreDrawn}
 use Rattle.member_node.proofs.EntryLemmas.{nothing_done}
 use Rattle.member_node.specs.Wanted.{HasHad}
-use Rattle.member_decks.proofs.MayLemmas.{front_begins, opening_begins}
+use Rattle.member_decks.proofs.MayLemmas.{opening_unmarked, part_begins}
 use Rattle.member_sittings.specs.Gates.{HasTakenSeat, IsAtGate, IsOpen}
 use Rattle.member_sittings.specs.Sat.{seated_in}
 
@@ -136,9 +136,9 @@ module _ {P C : Type 0} (plants : PlantGhosts P) (copies : CopyGhosts C) where
     sits_kept at g quiet = record { seat = seat_kept at g; untold = untold_kept at g quiet; step = step_kept at g }
 
     -- as the sitting left its step, after these lines
-    pub left_kept : (at : ℕ) → IsGiving plants copies x m at → (next : State) (lines : List (List ℕ)) → IsQuiet next lines → (plants.tells → console_now (view_of y) ≡ console_now (view_of x) ++ map whole lines) → IsLeftIn plants copies next y n at
-    left_kept at g Told lines quiet said = seat_kept at g
-    left_kept at g _ lines quiet said = sits_kept at g (λ t. said t ∙ ap (λ (ls : List (List ℕ)). console_now (view_of x) ++ map whole ls) quiet ∙ append-nil (console_now (view_of x)))
+    pub left_kept : (A : Type 0) (r : Result (Unit {0}) NodeNo) (at : ℕ) → IsGiving plants copies x m at → (next : State) (lines : List (List ℕ)) → IsQuiet next lines → (plants.tells → HasSaid A lines (console_now (view_of x)) (console_now (view_of y)) r) → IsLeftIn plants copies next y n at
+    left_kept A r at g Told lines quiet said = seat_kept at g
+    left_kept A r at g _ lines quiet said = sits_kept at g (λ t. none_said A (console_now (view_of x)) (console_now (view_of y)) r (subst (λ (ls : List (List ℕ)). HasSaid A ls (console_now (view_of x)) (console_now (view_of y)) r) quiet (said t)))
 
 -- the batch is the member's
 pub own_batch : (m : MemberId) (at : ℕ) (es : List Entry) → AreOf m at es → All (λ (e : Entry). e.by ≡ m) es
@@ -321,20 +321,11 @@ of_strip by at es all e its here there =
 
 -- WHAT WAS GIVEN
 
-of_part : {T E : Type 0} (Q : Queue) (by : MemberId) (at : ℕ) (fields : JobFields) (groups : ℕ) (es : List Entry) (r : Result T E) → IsPart r es (given_in Q by at (opening Q by fields groups)) → AreOf by at es
-of_part Q by at fields groups es (Ok done) part = of_given Q by at (opening Q by fields groups) es by part refl
-of_part Q by at fields groups es (Err e) part = of_front Q by at (opening Q by fields groups) es part
-
-begins_part : {T E : Type 0} (base : Queue) (by : MemberId) → is_member base.config by ≡ true → (js : List Batch) (printed : List ℕ) (at : ℕ) (Q : Queue) (fields : JobFields) (groups : ℕ) → IsJobFields fields → (es : List Entry) (r : Result T E)
-    → IsPart r es (given_in Q by at (opening Q by fields groups)) → MayBegin base js printed es
-begins_part base by member js printed at Q fields groups fit es (Ok done) part = opening_begins base by member js printed at Q fields groups fit es part
-begins_part base by member js printed at Q fields groups fit es (Err e) part = front_begins base by member js printed at Q fields groups fit es part
-
 abbrev pub Opens : {T E : Type 0} → ℕ → JobFields → ℕ → Member → Member → Result T E → Type 0
 Opens at fields groups m n r = (Q : Queue) → Tell m.checkpoint.tables Q → Gives Q (given_in Q m.id at (opening Q m.id fields groups)) m.checkpoint.tables n.checkpoint.tables n.batch r
 
 pub opened_of : {T E : Type 0} (at : ℕ) (fields : JobFields) (groups : ℕ) (m n : Member) (r : Result T E) → Opens at fields groups m n r → AreOf m.id at n.batch
-opened_of at fields groups m n r opens = let sh = tells_some m.checkpoint.tables in of_part sh.0 m.id at fields groups n.batch r (opens sh.0 sh.1).part
+opened_of at fields groups m n r opens = let sh = tells_some m.checkpoint.tables in part_of sh.0 m.id at (opening sh.0 m.id fields groups) n.batch r (opens sh.0 sh.1).part
 
 module _ {P C : Type 0} (plants : PlantGhosts P) (copies : CopyGhosts C) where
   opened_texts : {T E : Type 0} (x : Parts P C) (at : ℕ) (fields : JobFields) (groups : ℕ) (m n : Member) (r : Result T E) → IsSitting plants copies x m at → Opens at fields groups m n r
@@ -354,7 +345,7 @@ module _ {P C : Type 0} (plants : PlantGhosts P) (copies : CopyGhosts C) where
       let seat = s.sits.seat in
       record {
         gives = gives_commanded plants copies x m n did h.step s.sits (opened_of h.step fields groups m n r opens) (omega (arith, order, few)) (λ t. done (queue_of x) (seat_done plants copies x m seat t)) (λ t. sound (seat.between.sound t)) (opened_texts x h.step fields groups m n r s.sits opens here)
-            (λ t. begins_part x.base m.id seat.still.holds.member x.batches x.printed h.step sh.0 fields groups fit n.batch r (opens sh.0 sh.1).part);
+            (λ t. part_begins x.base m.id x.batches x.printed r sh.0 h.step (opening sh.0 m.id fields groups) n.batch (opening_unmarked x.base m.id seat.still.holds.member sh.0 fields groups fit) (opens sh.0 sh.1).part);
         bounds = may_keep plants copies x m n did.level s.bounds;
         holder = s.holder ∙ sym did.id;
       }

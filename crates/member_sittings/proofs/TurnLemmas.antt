@@ -128,8 +128,8 @@ module _ {P C : Type 0} (plants : PlantGhosts P) (copies : CopyGhosts C) (s : St
       }
 
   -- nothing was done, out of memory
-  pub sits_none : (x : Parts P C) (m n : Member) (es : List Entry) → n.id ≡ m.id → IsSeat plants copies x m → (plants.tells → Ends es ≡ sit (queue_of x) s.holder s.state s.found) → AreOf s.holder.by s.holder.step es → IsShaped s.holder s.state s.found (Ends es) → ((A : Type 0) → A → IfNoWork s.state A)
+  pub sits_none : (x : Parts P C) (m n : Member) (es : List Entry) → n.id ≡ m.id → 1 ≤ length es → IsSeat plants copies x m → (plants.tells → Ends es ≡ sit (queue_of x) s.holder s.state s.found) → AreOf s.holder.by s.holder.step es → IsShaped s.holder s.state s.found (Ends es) → ((A : Type 0) → A → IfNoWork s.state A)
       → SitsFrom plants copies s x x m n (Err NoMemory)
-  sits_none x m n es id seat is of shaped tight =
-      let none = sat_none plants s.holder.by s.holder next lines x es (none_out x.batches x.batches x.placed x.current refl seat.between.unplaced seat.between.none) in
+  sits_none x m n es id some seat is of shaped tight =
+      let none = sat_none plants s.holder next lines x es some (none_out x.batches x.batches x.placed x.current refl seat.between.unplaced seat.between.none) in
       record { frame = refl; id = id; sat = record { sitting = Ends es; is = is; of = all_of_one s.holder.by s.holder.step es of; shaped = shaped; sat = none.sat; tight = tight _ none.tight }; again = tt; goes = tt }

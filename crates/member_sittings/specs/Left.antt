@@ -1,10 +1,13 @@
--- What a sitting leaves in the journal, as far as it came, and on the console.
-use Rattle.member_sittings.specs.Names.{MemberId, Batch, Entry, ViewLine as Line, NodeNo, BothLost, Halted, ConsoleFault, NoMemory, torn, IsFlyingBatch, IsKeptBatch}
-use Rattle.std.specs.Prelude.{◌≡◌, ◌⊎◌, ℕ, ◌+◌, ◌≤◌, ◌<◌, Bool, true, false, List, [], ◌∷◌, ◌++◌, length, map, take, drop, Option, Some, None, Result, Ok, Err}
-use Rattle.mas_complex.specs.Headline.{whole}
+-- What a sitting leaves in the journal, as far as it came.
+use Rattle.member_sittings.specs.Names.{MemberId, Batch, Entry, NodeNo, BothLost, Halted, ConsoleFault, NoMemory, IsFlyingBatch, IsKeptBatch}
+use Rattle.std.specs.Prelude.{◌≡◌, ℕ, ◌≤◌, ◌<◌, Bool, true, false, List, [], ◌∷◌, ◌++◌, length, take, drop, Result, Ok, Err}
 use Rattle.step_turns.specs.Batches.{batch_of}
+pub use Rattle.member_steps.specs.Saying.{HasSaid, Said, SaidBy, said_nothing, said_of, torn_line}
 
--- THE JOURNAL
+-- an answer, whatever it gives
+abbrev pub bare : {T : Type 0} → Result T NodeNo → Result (Unit {0}) NodeNo
+bare (Ok done) = Ok tt
+bare (Err why) = Err why
 
 -- How far a sitting came: so many of its batches are kept, and of the next one so many entries stand in the journal
 -- too, in flight to the end or kept. None do where that isn't begun.
@@ -61,36 +64,3 @@ pub record HasLeft (by : MemberId) (from now : ℕ) (ess : List (List Entry)) (r
     pub fits : reach.part ≤ length (next_in reach ess)
     pub cut : reach.flies ≡ false → 1 ≤ reach.part → reach.part < length (next_in reach ess)
     pub stand : StandThere reach.flies by from now (left_by reach ess) more
-
--- THE CONSOLE
-
--- what was said on the console: so many lines whole, and this text torn after them
-pub record Said : Type 0 where
-  pub lines : ℕ
-  pub torn : Option (List ℕ)
-
-abbrev pub said_nothing : Said
-said_nothing = record { lines = 0; torn = None }
-
-abbrev pub torn_line : Option (List ℕ) → List Line
-torn_line None = []
-torn_line (Some text) = torn text ∷ []
-
-abbrev pub said_of : Said → List (List ℕ) → List Line
-said_of s lines = map whole (take s.lines lines) ++ torn_line s.torn
-
--- what was said on the console, by the answer
-abbrev pub SaidBy : {T : Type 0} → Result T NodeNo → List (List ℕ) → Said → Type 0
-SaidBy (Ok done) lines s = s ≡ record { lines = length lines; torn = None }
-SaidBy (Err NoMemory) lines s = s ≡ said_nothing
-SaidBy (Err BothLost) lines s = s ≡ said_nothing
-SaidBy (Err ConsoleFault) lines s = (s.lines < length lines) × (s.torn ≡ None)
-SaidBy (Err Halted) lines s = s.lines + length (torn_line s.torn) ≤ length lines
-
--- Of these lines some were said by the answer, and none before this held.
-pub record HasSaid {T : Type 0} (kept : Type 0) (lines : List (List ℕ)) (was now : List Line)
-    (result : Result T NodeNo) : Type 0 where
-  pub said : Said
-  pub is : now ≡ was ++ said_of said lines
-  pub by_answer : SaidBy result lines said
-  pub once_kept : (said ≡ said_nothing) ⊎ kept

@@ -22,7 +22,7 @@ pub use Rattle.member_node.specs.Wanted.{HasHad}
 pub use Rattle.member_node.specs.declared.member.Member.{Member}
 pub use Rattle.member_node.specs.declared.member.NodeNo.{NodeNo}
 pub use Rattle.member_node.specs.declared.member.NodeNo.TheVariants.{BothLost, ConsoleFault, Halted, NoMemory}
-pub use Rattle.member_steps.specs.Saying.{TellKept, torn}
+pub use Rattle.member_steps.specs.Saying.{TellKept}
 pub use Rattle.member_steps.specs.Steps.{AreKeptFrom, IsAtLock, IsBetween, IsToldSound, StepCauses, entry_with}
 pub use Rattle.spool_plant.specs.View.{Line as ViewLine, View, disk_now}
 pub use Rattle.spool_plant.specs.declared.plant.Plant.{Ghosts as PlantGhosts}

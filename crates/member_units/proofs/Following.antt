@@ -1,17 +1,17 @@
 -- What follows in a sitting by the next unit.
-use Rattle.member_units.proofs.Names.{◌≡◌, ℕ, zero, suc, ◌-◌, ◌≤◌, true, false, Option, Some, None, ◌∙◌, ap, refl, sym, arith, Command, JobNo, MemberId, OutNo, Queue, IsMarkRight, Works, queue_here, tells_here, units_from, Member, Complex, PlantGhosts, SteadyGhosts, CopyGhosts, command_of, PrintLines, ReadText, Aside, Holder, Progress, option_map, option_map_or, is_member, job_at, output_at, Tell, IsOfUnit, aside_of, each_command}
+use Rattle.member_units.proofs.Names.{◌≡◌, ℕ, zero, suc, ◌-◌, ◌≤◌, true, false, Option, Some, None, ◌∙◌, ap, refl, sym, arith, Command, JobNo, MemberId, OutNo, Queue, Works, queue_here, tells_here, units_from, Member, Complex, PlantGhosts, SteadyGhosts, CopyGhosts, command_of, PrintLines, ReadText, Aside, Holder, Progress, option_map, option_map_or, is_member, job_at, output_at, Tell, IsOfUnit, aside_of, subst, is_drop}
 use Rattle.mas_types.specs.declared.commands.Command.TheVariants as command
 use Rattle.mas_types.specs.declared.units.Unit as units
 use Rattle.mas_types.specs.declared.units.Unit.TheVariants as unit
-use Rattle.mas_types.specs.Fit.{IsFit}
+use Rattle.mas_types.specs.Fit.{IsFit, IsIndex}
 use Rattle.mas_types.specs.Limits.{members_most}
 use Rattle.mas_types.specs.Step.{may_give}
 use Rattle.mas_types.specs.Units.{unit_of}
 use Rattle.ckpt_tables.specs.declared.tables.Tables.{Tables}
 use Rattle.queue_commands.specs.Given.{IsGiver, is_plain}
 use Rattle.member_giving.specs.Ready.{IsReadyFor, IsReadyUnit, MayBeGiven}
-use Rattle.step_turns.specs.Entries.{is_drop}
 use Rattle.step_turns.specs.Turns.{Turn, next_unit, no_more, one_command, waits_for}
+use Rattle.std.proofs.lemmas.Option.{same_Some}
 
 -- a unit that waits for no acts
 pub by_none : (by : MemberId) (p : Progress) (Q : Queue) (u : units.Unit) → ((n : JobNo) (i : OutNo) → u ≡ unit.Print n i → ⊥) → ((n : JobNo) → u ≡ unit.Run n → ⊥) → ((n : JobNo) → u ≡ unit.Convert n → ⊥) → None ≡ aside_of by p Q u
@@ -56,6 +56,20 @@ module _ {P C : Type 0} {plants : PlantGhosts P} {steadies : SteadyGhosts C} {co
 
 -- THE COMMAND OF A UNIT
 
+pub each_command : (P : units.Unit → Command → Type 0) → ((n : JobNo) (i : OutNo) → P (unit.Finish n i) (command.Done n i)) → P unit.Pick command.Pick → P unit.Purge command.Purge → P unit.Gather command.Gather → P unit.TakeExec command.TakeExec → P unit.TakeConvert command.TakeConvert
+    → (u : units.Unit) (c : Command) → command_of u ≡ Some c → P u c
+each_command P done pick purge gather exec convert (unit.Finish n i) c is = subst (P (unit.Finish n i)) (same_Some (command.Done n i) c is) (done n i)
+each_command P done pick purge gather exec convert unit.Pick c is = subst (P unit.Pick) (same_Some command.Pick c is) pick
+each_command P done pick purge gather exec convert unit.Purge c is = subst (P unit.Purge) (same_Some command.Purge c is) purge
+each_command P done pick purge gather exec convert unit.Gather c is = subst (P unit.Gather) (same_Some command.Gather c is) gather
+each_command P done pick purge gather exec convert unit.TakeExec c is = subst (P unit.TakeExec) (same_Some command.TakeExec c is) exec
+each_command P done pick purge gather exec convert unit.TakeConvert c is = subst (P unit.TakeConvert) (same_Some command.TakeConvert c is) convert
+each_command P done pick purge gather exec convert _ c is = absurd (cc)
+
+-- a unit's command is within the limits, where that which finishes an output is
+pub command_fits : (u : units.Unit) (c : Command) → command_of u ≡ Some c → ((n : JobNo) (i : OutNo) → u ≡ unit.Finish n i → IsIndex i.0) → IsFit c
+command_fits = each_command (λ u c. ((n : JobNo) (i : OutNo) → u ≡ unit.Finish n i → IsIndex i.0) → IsFit c) (λ n i index. index n i refl) (λ _. tt) (λ _. tt) (λ _. tt) (λ _. tt) (λ _. tt)
+
 pub unit_given : (base : Queue) (by : MemberId) (c : Command) → 1 ≤ by.0 → by.0 ≤ members_most → is_member base.config by ≡ true → IsOfUnit c → MayBeGiven base by c
 unit_given base by c some few member u =
     let may : IsFit c → MayBeGiven base by c = each_command (λ _ d. IsFit d → MayBeGiven base by d) (λ n i. given (command.Done n i) refl (some, few) member refl) (given command.Pick refl (some, few) member refl) (given command.Purge refl (some, few) member refl) (given command.Gather refl (some, few) member refl) (given command.TakeExec refl (some, few) member refl) (given command.TakeConvert refl (some, few) member refl) u.of c u.is in
@@ -63,10 +77,6 @@ unit_given base by c some few member u =
   where
     given : (d : Command) → is_plain d ≡ true → IsGiver by d → may_give base by d ≡ true → is_drop d ≡ false → IsFit d → MayBeGiven base by d
     given d plain giver may closes fit = record { plain = plain; fit = fit; giver = giver; may = may; closes = closes }
-
--- a unit's command marks no lines
-pub unit_unmarked : (Q : Queue) (by : MemberId) (count : ℕ) (c : Command) → IsOfUnit c → IsMarkRight Q by count c
-unit_unmarked Q by count c u = each_command (λ _ d. IsMarkRight Q by count d) (λ n i. tt) tt tt tt tt tt u.of c u.is
 
 -- a step that waits for a unit's acts is ready
 pub unit_ready : (told : Type 0) (Q : Queue) (t : Tables) (by : MemberId) (a : Aside) → IsReadyUnit t by a → IsReadyFor told Q t by a

@@ -153,7 +153,8 @@ module _ {P C : Type 0} {plants : PlantGhosts P} {steadies : SteadyGhosts C} {co
     pub units : units_of a ≤ f.units
     pub left : x.level + left_of a + 1 ≤ f.level
 
-  -- The action where the step goes on in this progress. Where content is told its turn is that of the units that follow.
+  -- The action where the step goes on in this progress. Where content is told its turn is that of the units that
+  -- follow.
   pub record GoesOn (x : Complex P C plants steadies copies) (m : Member) (h : Holder) (p : Progress) (a : Action)
       : Type 0 where
     pub is : plants.tells → (given : ℕ) → action_turn h (queue_here x m) given a

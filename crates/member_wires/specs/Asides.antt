@@ -134,8 +134,8 @@ module _ {P C : Type 0} (plants : PlantGhosts P) where
   FindsOffered x y m (Some o) text =
       IsFailedRead x.base.config.groups (groups_of (Deck o.job) m.checkpoint.tables.owners) text (v x) (v y)
       × (plants.tells → AreRoomy (v x) x.base.config → (j : Job) → job_at (queue_of x) o.job ≡ Some j
-      → IsReadAs plants.tells x.base.config.groups (j.text, groups_of (Deck o.job) (queue_of x).owners) (Some text) (v x)
-      (v y))
+      → IsReadAs plants.tells x.base.config.groups (j.text, groups_of (Deck o.job) (queue_of x).owners) (Some text)
+      (v x) (v y))
 
   -- what was found where so much of the text was read, and these bytes were taken
   pub record HasExchanged (x y : Parts P C) (m : Member) (l : ℕ) (offer : Option Offer) (text : Option Read)

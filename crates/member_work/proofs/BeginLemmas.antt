@@ -1,25 +1,13 @@
 -- Which batches of a work step may begin.
-use Rattle.member_work.proofs.Names.{◌≡◌, ℕ, Bool, true, false, if◌then◌else◌, List, [], ◌∷◌, ◌++◌, All, Result, Ok, Err, refl, sym, subst, Command, Reply, JobNo, MemberId, OutSpec, Batch, Entry, Queue, IsFit, is_member, kept_all, run, MayBegin, counts_of, reply_to, entry_with, are_refused, given_in, takes, All-nil, All-cons, All-append, IsSound, unmarked_begin, IsPart, drop_groups, ending, taking, is_refusal, ∥∥₁_map}
+use Rattle.member_work.proofs.Names.{◌≡◌, ℕ, Bool, true, false, if◌then◌else◌, List, [], ◌∷◌, ◌++◌, All, refl, subst, Command, Reply, JobNo, MemberId, OutSpec, Batch, Entry, Queue, IsFit, is_member, kept_all, run, MayBegin, counts_of, reply_to, entry_with, are_refused, takes, All-nil, All-cons, All-append, IsSound, drop_groups, ending, taking, is_refusal, ∥∥₁_map, run_append}
 use Rattle.mas_types.specs.declared.commands.Command.TheVariants as command
 use Rattle.mas_types.specs.Step.{may_give}
-use Rattle.queue_laws.specs.Runs.{IsGiven}
 use Rattle.job_exec.specs.Running.{AreOutputs}
 use Rattle.paper_laws.specs.Counts.{IsMarkRight, counts_after}
 use Rattle.paper_laws.proofs.Plain.{allowed_push}
-use Rattle.mas_complex.proofs.Batches.{run_append}
-use Rattle.member_decks.proofs.MayLemmas.{IsUnmarked, Unmarked, given_fit, given_unmarked, takes_unmarked}
-use Rattle.member_decks.proofs.PlayLemmas.{all_front}
+use Rattle.member_decks.proofs.MayLemmas.{IsUnmarked, takes_unmarked}
 
 module _ (base : Queue) (by : MemberId) (js : List Batch) (printed : List ℕ) where
-  -- commands without a Mark, or the first ones of them
-  pub part_begins : {T E : Type 0} (r : Result T E) (Q : Queue) (at : ℕ) (cs : List Command) (gave : List Entry) → All (IsUnmarked base by) cs → IsPart r gave (given_in Q by at cs) → MayBegin base js printed gave
-  part_begins (Ok done) Q at cs gave all part =
-      subst (λ (es : List Entry). MayBegin base js printed es) (sym part) (unmarked_begin base js printed (given_in Q by at cs) (given_fit base by at cs Q all) (given_unmarked base by at cs Q all))
-  part_begins (Err why) Q at cs gave all part =
-      unmarked_begin base js printed gave
-      (all_front (IsGiven base) gave part.0 (subst (All (IsGiven base)) part.1 (given_fit base by at cs Q all)))
-      (all_front Unmarked gave part.0 (subst (All Unmarked) part.1 (given_unmarked base by at cs Q all)))
-
   -- one command more
   pub more_begins : (es : List Entry) (at : ℕ) (c : Command) (r : Reply) → may_give base by c ≡ true → IsFit c
       → (IsSound base → IsMarkRight (run base (kept_all js ++ es)) by (counts_after es (counts_of printed) by) c) → MayBegin base js printed es → MayBegin base js printed (es ++ entry_with by at c r ∷ [])

@@ -1,5 +1,5 @@
 -- Commands of a unit on a member's tables, one after another.
-use Rattle.member_work.proofs.Names.{◌≡◌, ℕ, zero, suc, ◌+◌, ◌-◌, ◌<◌, ◌≤◌, ◌==◌, min, ◌⊎◌, take, drop, if◌then◌else◌, Bool, true, false, List, [], ◌∷◌, ◌++◌, length, None, Some, Result, Ok, Err, ◌∙◌, ⊎_elim, length-append, refl, ap, subst, sym, arith, append-nil, append_assoc, slice_get, Command, Reply, Closing, GroupNo, JobNo, MemberId, OutSpec, Text, Whole, Entry, Queue, groups_of_outputs, outputs_at_end, job_at, groups_needed, member_count, free_count, Tables, Tell, TellSound, run, step, IsThere, Spools, IsThereUnless, entry_of, reply_to, entry_with, are_refused, closing_reply, given_in, takes, left_after, AreOf, IsNamedEnd, end_by, All-contains, All-push, All-weaker, Thing, held_by, groups_of, sum-groups, test_cases, HoldsOfTexts, OthersLeaveTexts, ToldAreTheirOwn, WasThere, last_reply, IsPart, take_counts, AreSpooled, drop_groups, ending, taken_end, taking, is_refusal, if_ok, tells_some, eq-eqb, drop-take, take-take, counted, last_push, ended_as, CanGive, GivesAs, GivesAt, HasGiven, IsSoundPlain, LeaveWhere, MayEnd, asked, Asked}
+use Rattle.member_work.proofs.Names.{◌≡◌, ℕ, zero, suc, ◌+◌, ◌-◌, ◌<◌, ◌≤◌, ◌==◌, min, ◌⊎◌, take, drop, if◌then◌else◌, Bool, true, false, List, [], ◌∷◌, ◌++◌, length, Some, Result, Ok, Err, ◌∙◌, ⊎_elim, length-append, refl, ap, subst, sym, arith, append-nil, append_assoc, slice_get, Command, Reply, Closing, GroupNo, JobNo, MemberId, OutSpec, Text, Whole, Entry, Queue, groups_of_outputs, outputs_at_end, job_at, groups_needed, member_count, free_count, Tables, Tell, TellSound, run, step, IsThere, Spools, IsThereUnless, entry_of, reply_to, are_refused, closing_reply, given_in, takes, AreOf, IsNamedEnd, end_by, All-contains, All-weaker, Thing, held_by, groups_of, sum-groups, test_cases, HoldsOfTexts, OthersLeaveTexts, ToldAreTheirOwn, WasThere, last_reply, IsPart, AreSpooled, drop_groups, ending, taken_end, taking, is_refusal, if_ok, tells_some, eq-eqb, drop-take, take-take, counted, last_push, ended_as, CanGive, GivesAs, GivesAt, HasGiven, IsSoundPlain, LeaveWhere, MayEnd, asked, Asked}
 use Rattle.mas_types.specs.declared.commands.Command.TheVariants as command
 use Rattle.mas_types.specs.declared.commands.Refusal.TheVariants as refusal
 use Rattle.mas_types.specs.declared.commands.Reply.TheVariants as reply
@@ -11,6 +11,7 @@ use Rattle.mas_types.specs.declared.ids.NoMemory.{NoMemory}
 use Rattle.member_node.specs.declared.member.Member.{Member}
 use Rattle.member_node.proofs.TextLemmas.{texts_after}
 use Rattle.member_decks.proofs.DeckLemmas.{count_taken}
+use Rattle.member_decks.proofs.TakeLemmas.{take_first, take_last, take_none}
 use Rattle.job_outcome.specs.declared.units.UnitEnd.{UnitEnd}
 use Rattle.job_outcome.specs.declared.units.UnitEnd.TheVariants as ends
 use Rattle.job_outcome.specs.Ending.{EndedBringsTexts, IsOfOutput, shares}
@@ -40,9 +41,6 @@ module _ (at : ℕ) (m n o : Member) where
 
   pub can_then : HasGiven at m n → CanGive m → CanGive n
   can_then one can = record { some = rw one.id can.some; by = rw one.id can.by; here = one.behind ∙ can.here; member = rw (one.config, one.id) can.member; spelling = one.spelling; fit = one.fit }
-
-pub own_more : (by : MemberId) (at : ℕ) (es mid : List Entry) (c : Command) (r : Reply) → mid ≡ es ++ entry_with by at c r ∷ [] → AreOf by at es → AreOf by at mid
-own_more by at es mid c r is of = subst (AreOf by at) (sym is) (All-push (λ (e : Entry). (e.by ≡ by) × (e.step ≡ at)) es (entry_with by at c r) of (refl, refl))
 
 pub named_end : (r : Reply) → IsReplyNamed r → IsNamedEnd (end_by r)
 named_end (reply.No why) named = named
@@ -156,25 +154,6 @@ module _ (Q : Queue) (by : MemberId) where
       (λ e. let same : (step Q by (command.Take want)).1 ≡ reply.No refusal.SpoolFull = rw e refl in let both : end_by (reply.No refusal.SpoolFull) ≡ ends.Done = ap end_by (sym same) ∙ is in cc)
       (λ e. other (min want (free_count Q.owners)) (rw e refl))
 
-  none_left : (missing : ℕ) (r : Reply) → ((n : ℕ) → r ≡ reply.Count n → ⊥) → left_after missing r ≡ None
-  none_left missing (reply.Count n) other = absurd (other n refl)
-  none_left missing _ other = refl
-
-  -- a Take that is refused is the last one
-  take_last : (times missing : ℕ) → 1 ≤ times → 1 ≤ missing → left_after missing (step Q by (command.Take missing)).1 ≡ None → (takes times Q by missing ≡ command.Take missing ∷ []) × (are_refused times Q by missing ≡ true)
-  take_last zero missing some some' is = absurd (omega (arith, some))
-  take_last (suc times) zero some some' is = absurd (omega (arith, some'))
-  take_last (suc times) (suc missing) some some' is = (rw is refl, rw is refl)
-
-  take_first : (times missing n : ℕ) → 1 ≤ missing → (step Q by (command.Take missing)).1 ≡ reply.Count n
-      → (takes (suc times) Q by missing ≡ command.Take missing ∷ takes times (step Q by (command.Take missing)).0 by (missing - n)) × (are_refused (suc times) Q by missing ≡ are_refused times (step Q by (command.Take missing)).0 by (missing - n))
-  take_first times zero n some is = absurd (omega (arith, some))
-  take_first times (suc missing) n some is = (rw is refl, rw is refl)
-
-  take_none : (times : ℕ) → (takes times Q by 0 ≡ []) × (are_refused times Q by 0 ≡ false)
-  take_none zero = (refl, refl)
-  take_none (suc times) = (refl, refl)
-
   -- Drop after them, and how the unit ends
   taking_by : (at needed : ℕ) (cs : List Command) (b : Bool) → (takes needed Q by needed ≡ cs) × (are_refused needed Q by needed ≡ b)
       → (taking Q by needed ≡ cs ++ (if b then drop_groups ∷ [] else [])) × (taken_end Q by at needed ≡ (if b then end_by (closing_reply (given_in Q by at (cs ++ (if b then drop_groups ∷ [] else [])))) else ends.Done))
@@ -189,24 +168,19 @@ module _ (Q : Queue) (by : MemberId) (at needed : ℕ) (some : 1 ≤ needed) whe
   Takes cs e = (taking Q by needed ≡ cs) × (taken_end Q by at needed ≡ e)
 
   pub taken_none : ((n : ℕ) → (step Q by (command.Take needed)).1 ≡ reply.Count n → ⊥) → Takes (command.Take needed ∷ drop_groups ∷ []) (end_by (reply_to Q by (command.Take needed)))
-  taken_none other = taking_by Q by at needed (command.Take needed ∷ []) true (take_last Q by needed needed some some (none_left Q by needed (step Q by (command.Take needed)).1 other))
+  taken_none other = taking_by Q by at needed (command.Take needed ∷ []) true (take_last Q by needed needed some some other)
 
-  all_of : (step Q by (command.Take needed)).1 ≡ reply.Count needed → (n : ℕ) → needed ≡ n → (takes needed Q by needed ≡ command.Take needed ∷ []) × (are_refused needed Q by needed ≡ false)
-  all_of got zero is = absurd (omega (arith, is, some))
-  all_of got (suc n) is =
-      let Q1 : Queue = (step Q by (command.Take needed)).0 in
-      let zero_left : needed - needed ≡ 0 = omega arith in
-      let first = take_first Q by n needed needed some got in
-      let none = take_none Q1 by n in (
-        ap (λ (k : ℕ). takes k Q by needed) is ∙ first.0 ∙ ap (λ (k : ℕ). command.Take needed ∷ takes n Q1 by k) zero_left ∙ ap (λ (cs : List Command). command.Take needed ∷ cs) none.0,
-        ap (λ (k : ℕ). are_refused k Q by needed) is ∙ first.1 ∙ ap (λ (k : ℕ). are_refused n Q1 by k) zero_left ∙ none.1,
-      )
+  all_of : (step Q by (command.Take needed)).1 ≡ reply.Count needed → (takes needed Q by needed ≡ command.Take needed ∷ []) × (are_refused needed Q by needed ≡ false)
+  all_of got =
+      let first = take_first Q by needed needed needed some (omega arith) got in
+      let none = take_none (step Q by (command.Take needed)).0 by first.0 (needed - needed) (omega arith) in
+      (first.2 ∙ ap (λ (cs : List Command). command.Take needed ∷ cs) none.0, first.3 ∙ none.1)
 
   pub all_refused : (step Q by (command.Take needed)).1 ≡ reply.Count needed → are_refused needed Q by needed ≡ false
-  all_refused got = (all_of got needed refl).1
+  all_refused got = (all_of got).1
 
   pub taken_all : (step Q by (command.Take needed)).1 ≡ reply.Count needed → Takes (command.Take needed ∷ []) ends.Done
-  taken_all got = taking_by Q by at needed (command.Take needed ∷ []) false (all_of got needed refl)
+  taken_all got = taking_by Q by at needed (command.Take needed ∷ []) false (all_of got)
 
   module _ (n : ℕ) (got : (step Q by (command.Take needed)).1 ≡ reply.Count n) (less : n < needed) where
     abbrev Q1 : Queue
@@ -215,17 +189,15 @@ module _ (Q : Queue) (by : MemberId) (at needed : ℕ) (some : 1 ≤ needed) whe
     abbrev second : Command
     second = command.Take (needed - n)
 
-    both_of : (k : ℕ) → needed ≡ k → (takes needed Q by needed ≡ command.Take needed ∷ second ∷ []) × (are_refused needed Q by needed ≡ true)
-    both_of zero is = absurd (omega (arith, is, some))
-    both_of (suc k) is =
-        let counts = take_counts Q by needed n some got in
-        let first = take_first Q by k needed n some got in
-        let last = take_last Q1 by k (needed - n) (omega (arith, is, counts.0, less)) (omega (arith, less)) (none_left Q1 by (needed - n) (step Q1 by second).1 (next_refused Q1 by (needed - n) (none_free Q by needed n got less))) in
-        (ap (λ (i : ℕ). takes i Q by needed) is ∙ first.0 ∙ ap (λ (cs : List Command). command.Take needed ∷ cs) last.0, ap (λ (i : ℕ). are_refused i Q by needed) is ∙ first.1 ∙ last.1)
+    both_of : (takes needed Q by needed ≡ command.Take needed ∷ second ∷ []) × (are_refused needed Q by needed ≡ true)
+    both_of =
+        let first = take_first Q by needed needed n some (omega arith) got in
+        let last = take_last Q1 by first.0 (needed - n) (omega (arith, first.1, less)) (omega (arith, less)) (next_refused Q1 by (needed - n) (none_free Q by needed n got less)) in
+        (first.2 ∙ ap (λ (cs : List Command). command.Take needed ∷ cs) last.0, first.3 ∙ last.1)
 
     pub taken_some : Takes (command.Take needed ∷ ended_as (reply_to Q1 by second) second) (end_by (reply_to Q1 by second))
     taken_some =
-        let both = taking_by Q by at needed (command.Take needed ∷ second ∷ []) true (both_of needed refl) in
+        let both = taking_by Q by at needed (command.Take needed ∷ second ∷ []) true both_of in
         (both.0 ∙ ap (λ (r : Reply). command.Take needed ∷ ended_as r second) (sym (next_full Q1 by (needed - n) (none_free Q by needed n got less))), both.1)
 
 pub taking_long : (Q : Queue) (by : MemberId) (needed : ℕ) → 1 ≤ needed → 1 ≤ length (taking Q by needed)

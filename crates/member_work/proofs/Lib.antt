@@ -1,4 +1,3 @@
-pub mod RoundLemmas
 pub mod CauseLemmas
 pub mod SpoolLemmas
 pub mod GivingLemmas
@@ -7,5 +6,4 @@ pub mod LookingLemmas
 pub mod PartLemmas
 pub mod UnderWayLemmas
 pub mod PrintedLemmas
-pub mod UnitStepLemmas
 pub mod Names

@@ -10,7 +10,7 @@ pub use Rattle.job_queue.specs.Jobs.{AreJobs, HasJob}
 pub use Rattle.lay_bytes.specs.Slots.{IfUsed, IsJobRec, IsOutRec}
 pub use Rattle.lay_bytes.specs.declared.records.JobRec.{JobRec}
 pub use Rattle.lay_bytes.specs.declared.records.OutRec.{OutRec}
-pub use Rattle.mas_complex.proofs.Batches.{unmarked_begin}
+pub use Rattle.mas_complex.proofs.Batches.{run_append, past_kept, replied_both, replied_front, replied_rest, without_last-append}
 pub use Rattle.mas_complex.specs.Meaning.{step}
 pub use Rattle.mas_complex.specs.Texts.{IsSynced, IsThereUnless}
 pub use Rattle.mas_types.specs.Fit.{IsOutSpec, IsSetting}
@@ -24,7 +24,6 @@ pub use Rattle.mas_types.specs.declared.queues.Thing.{Thing}
 pub use Rattle.member_decks.proofs.OpenLemmas.{tells_some, last_push}
 pub use Rattle.member_decks.proofs.PageLemmas.{all_at, text_there}
 pub use Rattle.member_decks.proofs.TakeLemmas.{take_counts}
-pub use Rattle.member_decks.specs.Decks.{left_after}
 pub use Rattle.member_decks.specs.Spooling.{OnVolumes, Rise, SpoolCauses, page_in}
 pub use Rattle.member_decks.specs.Taking.{IsPart}
 pub use Rattle.member_node.proofs.SpareLemmas.{sparing_then}
@@ -37,7 +36,7 @@ pub use Rattle.member_work.specs.Printing.{IsBeside, IsChunkOf, IsPrinting, IsTo
 pub use Rattle.member_work.specs.Rounds.{HasFailed, HasPrinterFailed, IsReadAs, IsWhole}
 pub use Rattle.member_work.specs.Spooled.{AreSpooled, AreWritten}
 pub use Rattle.member_work.specs.Steps.{IsTold, IsUnderWay}
-pub use Rattle.member_work.specs.Units.{command_of, drop_groups, ended_as, ending, taken_end, taking}
+pub use Rattle.member_work.specs.Units.{drop_groups, ended_as, ending, taken_end, taking}
 pub use Rattle.queue_effect.proofs.GroupLemmas.{groups_small, sum-groups, sum_more}
 pub use Rattle.queue_laws.proofs.Finds.{find-All, test_cases}
 pub use Rattle.queue_laws.specs.Laws.{is_refusal}
@@ -52,6 +51,6 @@ pub use Rattle.std.proofs.lemmas.List.{drop-take, take-take, length-drop, length
 pub use Rattle.member_decks.proofs.HeldLemmas.{counted, of_front, where_picked}
 pub use Rattle.member_work.specs.Giving.{CanGive, GivesAs, GivesAt, HasGiven, IsSoundPlain, LeaveWhere, MayEnd, asked, Asked, LeavesTexts}
 pub use Rattle.queue_laws.proofs.SoundEnter.{one_group}
-pub use Rattle.std.proofs.Math.Logic.{∥∥₁_map}
+pub use Rattle.std.proofs.Math.Logic.{∥∥₁_map, ∥∥₁_map₂}
 pub use Rattle.std.proofs.lemmas.Option.{slice_get-get_or, slice_get_within, same_Some, same_Some as one_output}
 pub use Rattle.paper_laws.proofs.Bools.{find_passes, own_key, same_key_is, same_member_is}

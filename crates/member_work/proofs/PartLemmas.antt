@@ -1,5 +1,5 @@
 -- The parts of a job's end, one after another.
-use Rattle.member_work.proofs.Names.{◌≡◌, ℕ, ◌-◌, ◌≤◌, ◌==◌, Bool, false, if◌then◌else◌, List, [], ◌∷◌, ◌∙◌, inl, inr, refl, ap, subst, sym, arith, find, GroupNo, JobNo, MemberId, Command, OutSpec, Entry, Queue, free_count, has_number, is_of, Spools, run, step, are_refused, closing_reply, given_in, end_by, leb_tells, list_any, test_cases, take_counts, AreSpooled, IsUnderWay, taken_end, taking, min, Owner, Tables, Tell, member_count, groups_of_outputs, sum-groups, one_group}
+use Rattle.member_work.proofs.Names.{◌≡◌, ℕ, ◌-◌, ◌≤◌, ◌==◌, false, List, [], ◌∷◌, ◌∙◌, inl, inr, refl, ap, subst, sym, arith, find, GroupNo, JobNo, MemberId, Command, OutSpec, Entry, Queue, free_count, has_number, is_of, Spools, run, step, are_refused, given_in, leb_tells, list_any, test_cases, take_counts, AreSpooled, IsUnderWay, taken_end, taking, min, Owner, Tables, Tell, member_count, groups_of_outputs, sum-groups, one_group}
 use Rattle.mas_types.specs.declared.commands.Command.TheVariants as command
 use Rattle.mas_types.specs.declared.commands.Reply.TheVariants as reply
 use Rattle.job_outcome.specs.declared.units.UnitEnd.TheVariants as ends
@@ -53,6 +53,3 @@ under_way_taken Q R by at want n same u = record {
 pub spooled_nowhere : (disks : Spools) (per : ℕ) (specs : List OutSpec) (groups : List GroupNo) → groups_of_outputs specs ≡ 0 → AreSpooled disks per specs groups
 spooled_nowhere disks per [] groups none = tt
 spooled_nowhere disks per (s ∷ specs) groups none = absurd (let sum = sum-groups s specs in let one = one_group 0 s.text in omega (arith, none, sum, one))
-
-pub taken_done : (Q : Queue) (by : MemberId) (at needed : ℕ) → are_refused needed Q by needed ≡ false → taken_end Q by at needed ≡ ends.Done
-taken_done Q by at needed all = ap (λ (b : Bool). if b then end_by (closing_reply (given_in Q by at (taking Q by needed))) else ends.Done) all

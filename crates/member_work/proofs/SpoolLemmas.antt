@@ -29,9 +29,6 @@ apart n groups k h rise here j d lt same =
     absurd (omega (arith, less, same))
 
 -- lengths
-pub front_long : (n : ℕ) (groups : List GroupNo) → n ≤ length groups → length (take n groups) ≡ n
-front_long n groups le = length-take-le n groups le
-
 pub behind_long : (s : OutSpec) (specs : List OutSpec) (groups : List GroupNo) → length groups ≡ groups_of_outputs (s ∷ specs) → length (drop (groups_needed s.text) groups) ≡ groups_of_outputs specs
 behind_long s specs groups long =
     let sum = sum-groups s specs in
@@ -64,15 +61,12 @@ pub still_stand : (n per : ℕ) (pages : List (List ℕ)) (groups : List GroupNo
     → StandBelow n old per pages (take n groups) → StandBelow n new per pages (take n groups)
 still_stand n per pages groups old new rise spares stand k g lt here = stand k g lt here ∙ ap Some (sym (spares g (apart n groups k g rise here)))
 
-pub written_none : (disks : Spools) (per : ℕ) (specs : List OutSpec) (groups : List GroupNo) → specs ≡ [] → AreWritten disks per specs groups
-written_none disks per specs groups none = subst (λ (ss : List OutSpec). AreWritten disks per ss groups) (sym none) tt
-
 -- once all are synced the texts stand there
 pub all_spooled : ReadsTexts → HasNeededGroups → (old new : Spools) (per : ℕ) (specs : List OutSpec) (groups : List GroupNo) → All IsOutSpec specs → length groups ≡ groups_of_outputs specs → AreWritten old per specs groups → AreQuiet old new → All (IsSynced new per) groups → AreSpooled new per specs groups
 all_spooled reads needed old new per [] groups fit long written quiet synced = tt
 all_spooled reads needed old new per (s ∷ specs) groups fit long written quiet synced =
     let n = groups_needed s.text in
-    let as_many = front_long n groups (first_fits s specs groups long) in
+    let as_many = length-take-le n groups (first_fits s specs groups long) in
     let stand : StandBelow (length (take n groups)) old per (packed s.text) (take n groups) = subst (λ (k : ℕ). StandBelow k old per (packed s.text) (take n groups)) (sym as_many) written.0 in (
       text_there reads needed old new per s.text (take n groups) (All-head IsOutSpec s specs fit).text as_many stand quiet (All-take (IsSynced new per) n groups synced),
       all_spooled reads needed old new per specs (drop n groups) (All-tail IsOutSpec s specs fit) (behind_long s specs groups long) written.1 quiet (All-drop (IsSynced new per) n groups synced),

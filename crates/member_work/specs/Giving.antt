@@ -87,7 +87,11 @@ abbrev pub gives_one : ℕ → MemberId → Command → Giving
 gives_one at by c = record { at = at; commands = λ Q. c ∷ []; ends = λ Q. end_by (reply_to Q by c) }
 
 abbrev pub gives_or_drops : ℕ → MemberId → Command → Giving
-gives_or_drops at by c = record { at = at; commands = λ Q. ended_as (reply_to Q by c) c; ends = λ Q. end_by (reply_to Q by c) }
+gives_or_drops at by c = record {
+  at = at;
+  commands = λ Q. ended_as (reply_to Q by c) c;
+  ends = λ Q. end_by (reply_to Q by c);
+}
 
 abbrev pub gives_back : ℕ → UnitEnd → Giving
 gives_back at end = record { at = at; commands = λ Q. drop_groups ∷ []; ends = λ Q. end }

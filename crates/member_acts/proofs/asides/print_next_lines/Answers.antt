@@ -8,7 +8,7 @@ use Rattle.job_outcome.specs.declared.outcomes.Read.TheVariants as read
 use Rattle.member_acts.specs.Prints.{HasPrinted, upto}
 use Rattle.member_acts.proofs.InkedLemmas.{inked_after}
 use Rattle.member_acts.proofs.ReadLemmas.{stops_later}
-use Rattle.member_work.proofs.RoundLemmas.{wider_read}
+use Rattle.member_work.proofs.CauseLemmas.{wider_read}
 use Rattle.member_acts.proofs.Shown.{IsRecordOf, chunk_from, failed_later, inked_unread, lines_behind, may_print_still, only_error, only_lines, only_read, output_was, papers_now, quiet_disks, record_of, same_lines, read_as_it_is}
 use Rattle.member_acts.proofs.asides.print_next_lines.Given as given
 use Rattle.member_acts.proofs.asides.print_next_lines.Goals as goal

@@ -1,4 +1,4 @@
-use Rattle.member_acts.proofs.Names.{refl, ◌≢◌, ◌∙◌, Err, ap, subst, sym, arith, drop, take, ◌≡◌, ℕ, ◌≤◌, List, ◌∷◌, All, length, groups_of_outputs, IsOutSpec, kept_all, run, IsGroupOf, IsHeldBy, spools_at, Rise, StandBelow, AreWritten, All-drop, All-head, All-tail, All-take, err_from_is_err_and, GroupNo, OutSpec, Queue, groups_needed, Parts, parts_of, on_ok, acts_none, acts_on, kept_none, kept_then, still_roomy, sparing_none, behind_long, cause_wider, first_fits, front_long, lies_behind, lies_front, rise_behind, rise_front, still_stand, written_none}
+use Rattle.member_acts.proofs.Names.{refl, ◌≢◌, ◌∙◌, Err, ap, subst, sym, arith, drop, take, ◌≡◌, ℕ, ◌≤◌, List, ◌∷◌, All, length, groups_of_outputs, IsOutSpec, kept_all, run, IsGroupOf, IsHeldBy, spools_at, Rise, StandBelow, AreWritten, All-drop, All-head, All-tail, All-take, err_from_is_err_and, GroupNo, OutSpec, Queue, groups_needed, Parts, parts_of, on_ok, acts_none, acts_on, kept_none, kept_then, still_roomy, sparing_none, behind_long, cause_wider, first_fits, lies_behind, lies_front, rise_behind, rise_front, still_stand, length-take-le}
 use Rattle.queue_effect.proofs.EndLemmas.{no_items}
 use Rattle.queue_effect.proofs.GroupLemmas.{groups_small}
 use Rattle.spool_text.specs.Texts.{packed}
@@ -16,7 +16,7 @@ returns-in_default g t c =
     let v = P.view x.plant in
     record {
       on = record { frame = refl; acts = acts_none P.tells c.args.by.0 v; cause = sparing_none c.args.by.0 v; spares = λ told. kept_none x.base.config.groups c.args.groups.now (spools_at v v.now) };
-      stand = λ told roomy. written_none (spools_at v v.now) x.base.config.groups c.args.specs.now c.args.groups.now (no_items c.args.specs.now c.in_default.ensures.cases);
+      stand = λ told roomy. subst (λ (ss : List OutSpec). AreWritten (spools_at v v.now) x.base.config.groups ss c.args.groups.now) (sym (no_items c.args.specs.now c.in_default.ensures.cases)) tt;
     }
 
 -- THE FIRST ONE, and the groups that it needs
@@ -47,7 +47,7 @@ write_pages-requires g t c =
     let k : ℕ = c.groups_needed.result in
     let n : k ≡ groups_needed s.text = c.groups_needed.ensures in
     let text = (All-head IsOutSpec s c.in-Some.rest.now (fit g t w)).text in
-    let many = front_long k gs (enough g t w) in
+    let many = length-take-le k gs (enough g t w) in
     let front : c.split_at.result.0.now ≡ take k gs = c.split_at.ensures.front in
     let x = c.args.complex.now in
     let Held = λ (h : GroupNo). IsHeldBy c.args.by h (run x.base (kept_all x.journal.batches)) in
@@ -147,7 +147,7 @@ returns g t c =
           let new = spools_at (P.view z.plant) (P.view z.plant).now in
           on_ok c.write_outputs.result (λ others told roomy.
           let here : StandBelow (length (take k gs)) mid per (packed s.text) (take k gs) = subst (λ (l : List GroupNo). StandBelow (length l) mid per (packed s.text) l) front (c.in_ok-write_pages.ensures.stand told roomy) in
-          let at_k : StandBelow k mid per (packed s.text) (take k gs) = subst (λ (i : ℕ). StandBelow i mid per (packed s.text) (take k gs)) (front_long k gs le) here in
+          let at_k : StandBelow k mid per (packed s.text) (take k gs) = subst (λ (i : ℕ). StandBelow i mid per (packed s.text) (take k gs)) (length-take-le k gs le) here in
           let spares = λ (h : GroupNo) (none : All (λ (j : GroupNo). h.0 ≢ j.0) (drop k gs)). (rw base at (w.on.spares told h (subst (All (λ (j : GroupNo). h.0 ≢ j.0)) (sym behind) none))).page in
           let first : StandBelow k new per (packed s.text) (take k gs) = still_stand k per (packed s.text) gs mid new c.requires.rise spares at_k in
           let behind_written : AreWritten new per rest (drop k gs) = rw (base, behind) at (others told (rw base (still_roomy x.base.config (P.view x.plant) (P.view y.plant) e.acts.goes roomy))) in

@@ -52,7 +52,7 @@ returns-in_default-clause-sat g c =
     let Q : Queue = run x.base (kept_all x.journal.batches) in
     let e : Entry = entry_of Q h.by h.step (command.Load l) in
     let a = Exchange l (offered (run Q (e ∷ [])) l (reply_to Q h.by (command.Load l))) in
-    let none = sat_none P h.by h (Away a) [] (parts_of x) (e ∷ []) (none_out x.journal.batches x.journal.batches x.placed x.current refl b.unplaced b.none) in
+    let none = sat_none P h (Away a) [] (parts_of x) (e ∷ []) (omega arith) (none_out x.journal.batches x.journal.batches x.placed x.current refl b.unplaced b.none) in
     record {
       sitting = ends_in h ((e ∷ []) ∷ []) (Away a) [];
       is = λ t. sym (load_sits Q h l);

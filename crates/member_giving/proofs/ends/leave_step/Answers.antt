@@ -1,8 +1,8 @@
 use Rattle.member_giving.proofs.Cuts.{of_batch, starts_cut}
-use Rattle.member_giving.proofs.Going.{played_error, played_leave}
+use Rattle.member_giving.proofs.Going.{played_end, played_error}
 use Rattle.member_giving.proofs.Working.{own_batch}
 use Rattle.member_giving.proofs.ends.leave_step.Goals as goal
-use Rattle.member_giving.proofs.Names.{◌≡◌, refl, err_from_is_err_and, wrote_of, outside, place_of, batch_of, leaves, []}
+use Rattle.member_giving.proofs.Names.{◌≡◌, refl, err_from_is_err_and, wrote_of, outside, place_of, batch_of, leaves, [], Ok, counted_ok, all_entries}
 
 pub returns-in_err-keep : goal.returns-in_err-keep
 returns-in_err-keep g c =
@@ -30,7 +30,7 @@ returns g c =
     let o = c.in_ok-keep.ensures in
     record {
       run = c.keep.ensures.run;
-      played = played_leave g.P.Plant.tells h (λ x. x ≡ wrote_of m.batch (leaves c.args.next)) c.args.given {S = Unit {0}} _ _ c.args.next (place_of x m) (outside c.keep.new.complex) refl refl c.release_of-release.ensures (own_batch x m h c.requires.works) refl c.keep.ensures.spares o.keeps o.counts;
+      played = played_end g.P.Plant.tells h (λ x. x ≡ wrote_of m.batch (leaves c.args.next)) c.args.given c.args.next [] (place_of x m) (outside c.keep.new.complex) (Ok _) (refl, refl, c.release_of-release.ensures) (own_batch x m h c.requires.works) refl c.keep.ensures.spares o.keeps.closes (counted_ok h.by (all_entries (batch_of m.batch)) x.printed c.keep.new.complex.printed _ _ o.counts);
       tables = c.keep.ensures.tables;
       next = refl;
       nothing = o.left;

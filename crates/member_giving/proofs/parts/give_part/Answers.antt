@@ -1,5 +1,5 @@
-use Rattle.member_giving.proofs.Names.{◌≡◌, true, Ok, subst, ◌∙◌, refl, arith, Config, is_member, Done, tells_some, Err}
-use Rattle.member_giving.proofs.Given.{ends_by, gave_few, given_done, given_not, part_longer, part_low, part_own, part_taken, part_works}
+use Rattle.member_giving.proofs.Names.{◌≡◌, true, Ok, subst, ◌∙◌, refl, arith, Config, is_member, Done, tells_some, Err, sym, MayEndBy}
+use Rattle.member_giving.proofs.Given.{ends_may, gave_few, given_done, given_not, part_longer, part_low, part_own, part_taken, part_works}
 use Rattle.member_giving.proofs.Working.{same_run}
 use Rattle.member_giving.proofs.parts.give_part.Goals as goal
 
@@ -61,6 +61,6 @@ returns g c =
       high = does.has.level;
       reached = refl;
       longer = part_longer m n h p end does;
-      ends = λ found may. ends_by found m.id h.step s.0 p end (does.end s.0 s.1) may;
+      ends = λ found may. subst (MayEndBy found) (sym (does.end s.0 s.1)) (ends_may found m.id h.step s.0 p may);
       taken = λ done. let same : end ≡ Done = cc in part_taken m n h p end does (part_own x m h w p c.requires.may) same;
     }

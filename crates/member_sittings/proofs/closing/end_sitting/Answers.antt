@@ -64,5 +64,5 @@ returns g c =
       tables = e.tables;
       sat = sat_step P m.id h c.requires.may.holder c.args.next lines x z m.batch c.requires.may.some k.notes.others (Ok _)
           (ends_of h m.batch c.args.next lines c.len-given.result c.release_of-release.result c.len-given.ensures c.release_of-release.ensures) k.step k.counts;
-      again = record { sits = left_kept P C x z m n kept h.step c.requires.may.gives c.args.next lines c.requires.quiet k.step.console; grown = record { order = omega (arith, tables); high = k.level; reached = k.reached } };
+      again = record { sits = left_kept P C x z m n kept _ (Ok tt) h.step c.requires.may.gives c.args.next lines c.requires.quiet k.step.console; grown = record { order = omega (arith, tables); high = k.level; reached = k.reached } };
     }

@@ -15,7 +15,7 @@ returns-in_default g c =
       frame = refl;
       id = refl;
       tables = refl;
-      sat = sat_none g.P.Plant h.by h Told (lines_by h.by h.step c.args.lost (closing_reply m.batch)) (parts_of x) m.batch (none_out x.journal.batches x.journal.batches x.placed x.current refl still.unplaced still.none);
+      sat = sat_none g.P.Plant h Told (lines_by h.by h.step c.args.lost (closing_reply m.batch)) (parts_of x) m.batch c.requires.may.some (none_out x.journal.batches x.journal.batches x.placed x.current refl still.unplaced still.none);
       again = tt;
     }
 

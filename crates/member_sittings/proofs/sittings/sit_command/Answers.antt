@@ -13,7 +13,7 @@ returns-in_default g c =
     let d = c.args.command in
     let Q : Queue = queue_of x in
     let e : Entry = entry_of Q h.by h.step d in
-    sits_none g.P.Plant g.C.Copying (begins h (Fresh (Give d))) Told (reply_lines h.by h.step (reply_to Q h.by d)) x m c.give.new.member (e ∷ []) c.give.ensures.id c.requires.may.sits.seat (λ t. sym (command_sits Q h d nothing_found))
+    sits_none g.P.Plant g.C.Copying (begins h (Fresh (Give d))) Told (reply_lines h.by h.step (reply_to Q h.by d)) x m c.give.new.member (e ∷ []) c.give.ensures.id (omega arith) c.requires.may.sits.seat (λ t. sym (command_sits Q h d nothing_found))
     (one_of (e ∷ []) e h.by h.step refl refl refl) (record { few = omega arith; release = refl; says = (reply_to Q h.by d, refl) }) (λ A a. a)
 
 pub end_sitting-requires : goal.end_sitting-requires

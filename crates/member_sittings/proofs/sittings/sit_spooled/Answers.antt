@@ -26,7 +26,7 @@ returns-in_default g c =
     let d = c.args.deck in
     let Q : Queue = queue_of x in
     let e : Entry = entry_of Q h.by h.step (finishing d.lost d.job d.text) in
-    sits_none g.P.Plant g.C.Copying (resumes h (SpoolDeck d.job d.text) (deck_found d.lost)) Told (lines_by h.by h.step d.lost (closing_reply (e ∷ []))) x m c.do_command.new.self (e ∷ []) c.do_command.ensures.id c.requires.may.sits.seat
+    sits_none g.P.Plant g.C.Copying (resumes h (SpoolDeck d.job d.text) (deck_found d.lost)) Told (lines_by h.by h.step d.lost (closing_reply (e ∷ []))) x m c.do_command.new.self (e ∷ []) c.do_command.ensures.id (omega arith) c.requires.may.sits.seat
     (λ t. sym (spooled_sits Q h d.job d.text d.lost)) (one_of (e ∷ []) e h.by h.step refl refl refl) (record { few = omega arith; release = refl; says = (refl, (closing_reply (e ∷ []), refl)) }) (λ A a. a)
 
 pub close_deck-requires-clause-may : goal.close_deck-requires-clause-may

@@ -1,7 +1,7 @@
-use Rattle.member_units.proofs.Names.{◌≡◌, ◌≤◌, ◌∙◌, ap, inr, refl, sym, subst, arith, length, take, List, Entry, Queue, MayStopBy, held_by, groups_for_end, job_at, job_ends as job_ends_lem, outputs_at_end, text_read as text_read_lem, queue_here, queue_kept, tells_here, ends_none, stops_by, kept_here, spooled_nowhere, Tell}
+use Rattle.member_units.proofs.Names.{◌≡◌, ◌≤◌, ◌∙◌, ap, inr, refl, sym, subst, arith, length, take, List, Entry, Queue, MayStopBy, held_by, groups_for_end, job_at, job_ends as job_ends_lem, outputs_at_end, text_read as text_read_lem, queue_here, queue_kept, tells_here, stops_by, kept_here, spooled_nowhere, Tell}
 use Rattle.job_outcome.specs.declared.outcomes.Outcome.{Outcome}
 use Rattle.member_work.specs.Steps.{IsUnderWay}
-use Rattle.member_units.proofs.Parts.{ended_may, takes_turn}
+use Rattle.member_units.proofs.Parts.{ended_may, takes_turn, ends_none}
 use Rattle.member_units.proofs.actions.action_by.Goals as goal
 
 pub returns-in-Convert : goal.returns-in-Convert

@@ -1,5 +1,5 @@
-use Rattle.member_units.proofs.Names.{None, Some, ◌≤◌, inl, refl, sym, ◌∙◌, arith, counts_after, counts_of, queue_here, command_fits, tells_some, finish_indexed, IsOfUnit, each_command, aside_of, ◌≡◌, ◌-◌}
-use Rattle.member_units.proofs.Following.{turn_next, unit_given, unit_ready, unit_unmarked}
+use Rattle.member_units.proofs.Names.{None, Some, ◌≤◌, inl, refl, sym, ◌∙◌, arith, counts_after, counts_of, queue_here, tells_some, finish_indexed, IsOfUnit, aside_of, ◌≡◌, ◌-◌, IsMarkRight}
+use Rattle.member_units.proofs.Following.{turn_next, unit_given, unit_ready, command_fits, each_command}
 use Rattle.member_units.proofs.actions.action_of.Goals as goal
 
 -- NO UNIT IS LEFT
@@ -31,7 +31,7 @@ returns-in-Some g c =
     record {
       is = turn_next x m c.args.holder w p c.if-progress-eq0.false u (Some d) None c.find_unit-next.ensures is (λ Q told. each_command (λ v e. None ≡ aside_of m.id (record { done = p.done; left = p.left - 1 }) Q v) (λ n i. refl) refl refl refl refl refl u d is);
       next = record {
-        may = ((c.requires.few, unit_given x.base m.id d w.still.holds.some w.still.holds.few w.still.holds.member its, λ told. unit_unmarked (queue_here x m) m.id (counts_after m.batch (counts_of x.printed) m.id) d its), tt);
+        may = ((c.requires.few, unit_given x.base m.id d w.still.holds.some w.still.holds.few w.still.holds.member its, λ told. each_command (λ _ e. IsMarkRight (queue_here x m) m.id (counts_after m.batch (counts_of x.printed) m.id) e) (λ n i. tt) tt tt tt tt tt u d is), tt);
         most = omega (arith, some);
         units = omega (arith, some);
         left = omega (arith, some);

@@ -1,5 +1,5 @@
 use Rattle.std.specs.Prelude.{true}
-use Rattle.member_units.proofs.Names.{Err, [], ◌≡◌, ◌+◌, ◌*◌, suc, ap, refl, arith, Queue, Run, Away, Found, aside_done, aside_most, aside_turn, aside_units, bounds, wrote_of, outside, place_of, queue_here, of_cut, apart_none, frame_of, played_as, plays_units, sat_of, says_units, low_bounds, works_sits, stops_by, text_within, wrote_within, kept_here, All-nil, ReadText, IsWithin, TurnWithin, Aside, Holder, played_error, follow_in, is_text, SittingEnd}
+use Rattle.member_units.proofs.Names.{Err, [], ◌≡◌, ◌+◌, ◌*◌, suc, ap, refl, arith, Queue, Run, Away, Found, aside_done, aside_most, aside_turn, aside_units, bounds, wrote_of, outside, place_of, queue_here, of_cut, apart_none, frame_of, played_as, plays_units, sat_of, says_units, low_bounds, works_sits, stops_by, text_within, wrote_within, kept_here, All-nil, ReadText, IsWithin, TurnWithin, Aside, Holder, played_error, follow_in, is_text, SittingEnd, cut, cut_few}
 use Rattle.job_outcome.specs.Outcomes.{outcome_of}
 use Rattle.member_node.specs.declared.member.NodeNo.TheVariants.{NoMemory}
 use Rattle.member_steps.proofs.CountLemmas.{counted_error}
@@ -42,7 +42,7 @@ returns-in_default g c =
       id = refl;
       sat = sat_of x x m h (Away a) f (wrote_of [] t) (Err NoMemory) (plays_units P (parts_of x) m.id a f c.requires.may) (says_units P (parts_of x) m.id h a f c.requires.may) nothing w.still
           (λ told. ap (λ (Q : Queue). wrote_of [] (aside_turn h Q a f)) (kept_here x m nothing))
-          (played_error P.tells h (IsWithin h (bounds (aside_most a) units f)) 0 {S = SittingEnd} NoMemory (wrote_of [] t) (wrote_of [] t) [] (place_of x m) o (λ told. refl) (of_cut h.by h.step [] t.parts (All-nil _) within.its) (wrote_within h f units (aside_most a) [] t (aside_most a) (omega arith) within) tt
+          (played_error P.tells h (IsWithin h (bounds (aside_most a) units f)) 0 {S = SittingEnd} NoMemory (wrote_of [] t) (wrote_of [] t) [] (place_of x m) o (λ told. refl) (of_cut h.by h.step [] t.parts (All-nil _) within.its) (wrote_within h f units (aside_most a) 0 (cut [] t.parts) t (aside_most a) (cut_few [] t.parts) (omega arith) within) tt
           (apart_none P.tells h.by o) (keeping_wanted P.tells h.by [] o o (keeping_none P.tells h.by o)) (counted_error {T = SittingEnd} h.by [] o.printed o.printed NoMemory refl));
       fresh = λ p same none. absurd (cc);
       leaves = tt;

@@ -1,7 +1,7 @@
-use Rattle.member_units.proofs.Names.{ℕ, ◌≡◌, ◌+◌, ◌-◌, suc, List, length, None, Some, Option, Ok, Err, ◌∙◌, ap, refl, subst, sym, arith, err_from_is_err_and, Entry, Queue, Away, HasRoom, sittings_most, bounds, unwritten, outside, place_of, queue_here, full_error, played_as, plays_full, first_ends, full_le, unwritten_one, less_room, own_batch, wrote_of, goes_on_by, units_from, close_within, leave_within, leaves, IsWithin, Aside, after_few, played_out, IsUpTo, MayFollow, action_turn, ahead, left_of, most_of, most_then, wait_after, open_left, told_left}
+use Rattle.member_units.proofs.Names.{ℕ, ◌≡◌, ◌+◌, ◌-◌, suc, List, length, None, Some, Option, Ok, Err, ◌∙◌, ap, refl, subst, sym, arith, err_from_is_err_and, Entry, Queue, Away, HasRoom, sittings_most, bounds, unwritten, outside, place_of, queue_here, full_error, played_as, plays_full, full_le, unwritten_one, less_room, own_batch, wrote_of, goes_on_by, units_from, leave_within, leaves, IsWithin, Aside, after_few, played_out, IsUpTo, MayFollow, action_turn, ahead, left_of, most_of, most_then, wait_after, open_left, told_left}
 use Rattle.std.proofs.lemmas.List.{length-append}
 use Rattle.member_units.specs.declared.actions.Action.TheVariants as action
-use Rattle.member_units.proofs.Parts.{above_most, least_then, most_above, not_some, part_error, part_goes, part_uses, part_waits, ready_then, up_to, waited}
+use Rattle.member_units.proofs.Parts.{above_most, least_then, most_above, not_some, part_error, part_goes, part_uses, part_waits, ready_then, up_to, waited, first_ends}
 use Rattle.member_units.proofs.units.play.Given.{Over}
 use Rattle.member_units.proofs.units.play.Goals.{After-len, In_default, In_ok-end-in-Give}
 use Rattle.member_units.proofs.units.play.Goals as goal
@@ -41,7 +41,7 @@ returns-in-Close g c =
           let n = c.loop-action.member in
           let h = c.args.holder in
           let e = c.in-Close.end in
-          then (played_out g.P.Plant.tells h (IsWithin h (bounds (0 + unwritten n.batch) f.units found)) c.loop-action.given (wrote_of n.batch (closes_as h e)) (place_of c.loop-action.complex n) (outside c.close_step.new.complex) c.close_step.result (close_within h found f.units n.batch e may (0 + unwritten n.batch) (omega arith)) c.close_step.ensures.played);
+          then (played_out g.P.Plant.tells h (IsWithin h (bounds (0 + unwritten n.batch) f.units found)) c.loop-action.given (wrote_of n.batch (closes_as h e)) (place_of c.loop-action.complex n) (outside c.close_step.new.complex) c.close_step.result (record { few = omega arith; says = (e, refl, may) }) c.close_step.ensures.played);
       leaves = λ f upto.
           let here = rw c.in-Close.is at i.upto in
           let e = c.close_step.ensures in

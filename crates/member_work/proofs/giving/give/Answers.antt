@@ -1,5 +1,5 @@
-use Rattle.member_work.proofs.Names.{◌∙◌, ap, refl, subst, sym, arith, [], ◌∷◌, IsNamedEnd, end_by, entry_of, err_from_is_err_and, last_reply, last_push}
-use Rattle.member_work.proofs.GivingLemmas.{gives_none, leaves_texts, named_end, one_longer, own_more}
+use Rattle.member_work.proofs.Names.{◌∙◌, ap, refl, subst, sym, arith, [], ◌∷◌, IsNamedEnd, end_by, entry_of, err_from_is_err_and, last_reply, last_push, AreOf, All-push, Entry, ◌≡◌}
+use Rattle.member_work.proofs.GivingLemmas.{gives_none, leaves_texts, named_end, one_longer}
 use Rattle.member_work.proofs.giving.give.Goals as goal
 
 pub returns-in_err-do_command-clause-does : goal.returns-in_err-do_command-clause-does
@@ -40,7 +40,7 @@ returns c =
           config = d.config;
           spelling = d.spelling;
           fit = d.fit;
-          own = λ of. own_more m.id c.args.step m.batch n.batch c.args.command p.0 p.1 of;
+          own = λ of. subst (AreOf m.id c.args.step) (sym p.1) (All-push (λ (e : Entry). (e.by ≡ m.id) × (e.step ≡ c.args.step)) m.batch _ of (refl, refl));
           grows = omega (arith, longer);
           still = λ same. absurd (omega (arith, longer, same));
           done = k.done;

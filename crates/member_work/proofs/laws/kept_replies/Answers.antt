@@ -1,6 +1,4 @@
-use Rattle.member_work.proofs.Names.{[], ap, false, subst, sym, true, Bool, List, ◌∙◌, ◌∷◌, Batch, Entry, Queue, kept_all, run}
-use Rattle.std.proofs.Math.Logic.{∥∥₁_map₂}
-use Rattle.mas_complex.proofs.Batches.{past_kept, replied_both, replied_front, replied_rest, without_last-append}
+use Rattle.member_work.proofs.Names.{[], ap, false, subst, sym, true, Bool, List, ◌∙◌, ◌∷◌, Batch, Entry, Queue, kept_all, run, past_kept, replied_both, replied_front, replied_rest, without_last-append, ∥∥₁_map₂}
 use Rattle.mas_complex.specs.Journals.{HasPlace, in_flight, past_batches, without_last}
 use Rattle.mas_complex.specs.Replies.{AreReplied, HaveReplies}
 use Rattle.member_work.proofs.laws.kept_replies.Goals as goal
